@@ -1,0 +1,5 @@
+pub mod Filtered
+pub mod Inclusion
+pub mod Joined
+pub mod Members
+pub mod Same

@@ -1,0 +1,41 @@
+//! Contexts of communicators (MPI 4.0, 3.2 and 7.1).
+ghost use Rattle.std.specs.Prelude.{◌≡◌, ◌<◌, ◌≤◌, MatchOption};
+
+/// The context of a communicator, 0 to 62. The world's is 0.
+#[derive(Clone, Copy, Debug, PartialEq, Eq)]
+pub struct Context {
+    pub number: u8,
+    pub ghost in_range: { number < 63 },
+}
+
+impl Context {
+    ghost use Rattle.ulfm_base.specs.Context.{dup_of, shrink_of};
+
+    /// The context of the communicator of the world.
+    pub const WORLD: Context = Context { number: 0 };
+
+    /// The context of this number, where it is one of 0 to 62.
+    pub fn new(number: u8) -> Option<Context>
+        ensures { MatchOption result (63 ≤ number) (λ context. context.number ≡ number) }
+    {
+        if number < 63 {
+            Some(Context { number })
+        } else {
+            None
+        }
+    }
+
+    /// The context of the duplicate of this communicator, `2c+1`, where it is a context.
+    pub fn dup_of(self) -> Option<Context>
+        ensures { MatchOption result (63 ≤ dup_of self.number) (λ context. context.number ≡ dup_of self.number) }
+    {
+        Context::new(2 * self.number + 1)
+    }
+
+    /// The context of the communicator that a shrink of this one makes, `2c+2`, where it is a context.
+    pub fn shrink_of(self) -> Option<Context>
+        ensures { MatchOption result (63 ≤ shrink_of self.number) (λ context. context.number ≡ shrink_of self.number) }
+    {
+        Context::new(2 * self.number + 2)
+    }
+}

@@ -1,0 +1,21 @@
+//! Letters and their envelopes (MPI 4.0, 3.2.3).
+
+use crate::body::Body;
+use crate::context::Context;
+use crate::rank::WorldRank;
+use crate::tag::Tag;
+
+/// What a letter is matched by. The destination is the rank that holds it.
+#[derive(Clone, Copy, Debug, PartialEq, Eq)]
+pub struct Envelope {
+    pub context: Context,
+    pub source: WorldRank,
+    pub tag: Tag,
+}
+
+/// A message with its envelope. It is copied without memory.
+#[derive(Clone, Copy)]
+pub struct Letter {
+    pub envelope: Envelope,
+    pub body: Body,
+}

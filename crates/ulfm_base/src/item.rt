@@ -1,0 +1,18 @@
+//! What ranks hand to one another.
+
+use crate::context::Context;
+use crate::envelope::Letter;
+use crate::rank_set::RankSet;
+
+/// What stands in an outbox and in an inbox. It is copied without memory.
+#[derive(Clone, Copy)]
+pub enum Item {
+    /// A message.
+    Letter(Letter),
+    /// The notice that its sender stopped.
+    Gone,
+    /// The notice that a context is revoked.
+    Revoke(Context),
+    /// That its sender entered the shrink of a communicator, knowing these ranks to have failed.
+    Enter { context: Context, known: RankSet },
+}

@@ -1,0 +1,29 @@
+//! Ranks, groups, contexts, tags, bodies, envelopes and the patterns that admit them: the words of MPI's chapters 3
+//! and 7 that all crates above speak in.
+#![tactic(auto)]
+
+mod body;
+mod context;
+mod decision;
+mod envelope;
+mod error;
+mod group;
+mod item;
+mod pattern;
+mod rank;
+mod rank_set;
+mod tag;
+#[cfg(test)]
+mod tests;
+
+pub use body::Body;
+pub use context::Context;
+pub use decision::Decision;
+pub use envelope::{Envelope, Letter};
+pub use error::{CallError, OutOfMemory};
+pub use group::Group;
+pub use item::Item;
+pub use pattern::{Pattern, Source};
+pub use rank::WorldRank;
+pub use rank_set::RankSet;
+pub use tag::Tag;

@@ -1,0 +1,68 @@
+//! Sets of ranks.
+ghost use Rattle.std.specs.Prelude.{◌≡◌, ◌≢◌, ℕ, ◌↔◌, ◌||◌, IsTrue, true, false};
+
+use crate::rank::WorldRank;
+
+/// A set of ranks of the world.
+#[derive(Clone, Copy, Debug, PartialEq, Eq)]
+pub struct RankSet {
+    members: [bool; 8],
+}
+
+impl RankSet {
+    ghost use Rattle.ulfm_base.specs.RankSet.{has, IsMember, IsEmpty, IsSubset};
+
+    /// The empty set.
+    pub fn new() -> RankSet
+        ensures { IsEmpty result }
+    {
+        RankSet {
+            members: [false; 8],
+        }
+    }
+
+    /// Whether a rank is in the set.
+    pub fn contains(self, rank: WorldRank) -> bool
+        ensures { result ≡ has self rank.number }
+    {
+        self.members[rank.number as usize]
+    }
+
+    /// Whether the other set has the same ranks.
+    pub fn is_same(self, other: RankSet) -> bool
+        ensures { IsTrue result ↔ (self ≡ other) }
+    {
+        self == other
+    }
+
+    /// Puts a rank into the set.
+    pub fn insert(&mut self, rank: WorldRank)
+        ensures new { IsMember self.new rank }
+        ensures others { (r : ℕ) → r ≢ rank.number → has self.new r ≡ has self.old r }
+    {
+        self.members[rank.number as usize] = true;
+    }
+
+    /// The ranks that are in this set or in the other.
+    pub fn union(self, other: RankSet) -> RankSet
+        ensures { (r : ℕ) → has result r ≡ (has self r || has other r) }
+    {
+        let mut members = self.members;
+        for rank in 0..8 {
+            members[rank] |= other.members[rank];
+        }
+        RankSet { members }
+    }
+
+    /// Whether each rank of this set is in the other.
+    pub fn is_subset(self, other: RankSet) -> bool
+        ensures { IsTrue result ↔ IsSubset self other }
+    {
+        for rank in 0..8 {
+            if self.members[rank] && !other.members[rank] {
+                return false;
+            }
+        }
+        true
+    }
+}

@@ -1,0 +1,9 @@
+//! What one rank knows of failures and revocations (ULFM): which ranks have failed, how many of them were acknowledged
+//! for each communicator, and which communicators are revoked. No call takes memory.
+#![tactic(auto)]
+
+mod faults;
+#[cfg(test)]
+mod tests;
+
+pub use faults::Faults;

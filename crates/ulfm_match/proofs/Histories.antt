@@ -1,0 +1,115 @@
+use Rattle.std.proofs.Common.{◌≡◌, ◌≢◌, ℕ, zero, suc, ◌+◌, ◌<◌, ◌≤◌, ◌⊎◌, inl, inr, List, [], ◌∷◌, ◌++◌, length, refl, ap, ◌∙◌, Some, arith, length-append}
+use Rattle.std.specs.Prelude.{slice_get}
+use Rattle.std.proofs.lemmas.Option.{slice_get_within}
+use Rattle.ulfm_base.specs.declared.pattern.Pattern.{Pattern}
+use Rattle.ulfm_base.specs.declared.envelope.Letter.{Letter}
+use Rattle.ulfm_match.specs.History.{Event, Post, Come, End, Clear, StandsBetween, IsLiveReceive, IsLiveLetter, weight, number}
+use Rattle.ulfm_match.proofs.Decide.{compared}
+
+module _ {X : Type 0} where
+  pub get_old : (xs : List X) (e : X) (k : ℕ) (x : X) → slice_get xs k ≡ Some x → slice_get (xs ++ e ∷ []) k ≡ Some x
+  get_old [] e k x h = cc
+  get_old (y ∷ ys) e zero x h = h
+  get_old (y ∷ ys) e (suc k) x h = get_old ys e k x h
+
+  pub get_new : (xs : List X) (e : X) → slice_get (xs ++ e ∷ []) (length xs) ≡ Some e
+  get_new [] e = refl
+  get_new (y ∷ ys) e = get_new ys e
+
+  pub get_cases : (xs : List X) (e : X) (k : ℕ) (x : X) → slice_get (xs ++ e ∷ []) k ≡ Some x → (slice_get xs k ≡ Some x) ⊎ ((k ≡ length xs) × (e ≡ x))
+  get_cases [] e zero x h = inr (refl, cc)
+  get_cases [] e (suc k) x h = cc
+  get_cases (y ∷ ys) e zero x h = inl h
+  get_cases (y ∷ ys) e (suc k) x h = elim (get_cases ys e k x h) [ inl p ↦ inl p | inr p ↦ inr (ap suc p.0, p.1) ]
+
+  pub get_below : (xs : List X) (e : X) (k : ℕ) (x : X) → k < length xs → slice_get (xs ++ e ∷ []) k ≡ Some x → slice_get xs k ≡ Some x
+  get_below xs e k x l h = elim (get_cases xs e k x h) [ inl p ↦ p | inr p ↦ absurd (let q : k ≡ length xs = p.0 in omega arith) ]
+
+  pub get_last : (xs : List X) (e x : X) → slice_get (xs ++ e ∷ []) (length xs) ≡ Some x → e ≡ x
+  get_last xs e x h = let g = get_new xs e in cc
+
+  pub length_more : (xs : List X) (e : X) → length (xs ++ e ∷ []) ≡ length xs + 1
+  length_more xs e = length-append xs (e ∷ [])
+
+pub stands_wider : {h : List Event} {e : Event} {i n : ℕ} (m : ℕ) → n ≤ m → StandsBetween h e i n → StandsBetween h e i m
+stands_wider m l s = record { place = s.place; after = s.after; before = let a : s.place < _ = s.before in omega (arith, l, a); is = s.is }
+
+module _ (h : List Event) (x : Event) where
+  pub stands_old : {e : Event} {i n : ℕ} → StandsBetween h e i n → StandsBetween (h ++ x ∷ []) e i n
+  stands_old {e} {i} {n} s = record { place = s.place; after = s.after; before = s.before; is = get_old h x s.place e s.is }
+
+  pub stands_back : {e : Event} {i n : ℕ} → n ≤ length h → StandsBetween (h ++ x ∷ []) e i n → StandsBetween h e i n
+  stands_back {e} {i} {n} l s =
+      let b : s.place < n = s.before in
+      record { place = s.place; after = s.after; before = s.before; is = get_below h x s.place e (omega arith) s.is }
+
+  -- what stands before the moment after x is x, or stands before x
+  pub stands_last : {e : Event} {i : ℕ} → StandsBetween (h ++ x ∷ []) e i (length h + 1) → StandsBetween h e i (length h) ⊎ (x ≡ e)
+  stands_last {e} {i} s =
+      elim (get_cases h x s.place e s.is) [
+        | inl p ↦ inl (record { place = s.place; after = s.after; before = slice_get_within h s.place e p; is = p })
+        | inr p ↦ inr p.1
+      ]
+
+  module _ {i : ℕ} {p : Pattern} where
+    pub receive_old : {n : ℕ} → n ≤ length h → IsLiveReceive h i p n → IsLiveReceive (h ++ x ∷ []) i p n
+    receive_old le v = record { posted = get_old h x i (Post p) v.posted; before = v.before; not_ended = λ s. v.not_ended (stands_back le s); not_cleared = λ s. v.not_cleared (stands_back le s) }
+
+    pub receive_back : {n : ℕ} → n ≤ length h → IsLiveReceive (h ++ x ∷ []) i p n → IsLiveReceive h i p n
+    receive_back {n} le v = record { posted = get_below h x i (Post p) (let b : i < n = v.before in omega arith) v.posted; before = v.before; not_ended = λ s. v.not_ended (stands_old s); not_cleared = λ s. v.not_cleared (stands_old s) }
+
+    pub receive_more : x ≢ End i → x ≢ Clear p.context.number → IsLiveReceive h i p (length h) → IsLiveReceive (h ++ x ∷ []) i p (length h + 1)
+    receive_more ne nc v = record {
+      posted = get_old h x i (Post p) v.posted;
+      before = let b : i < length h = v.before in omega arith;
+      not_ended = λ s. elim (stands_last s) [ inl o ↦ v.not_ended o | inr e ↦ ne e ];
+      not_cleared = λ s. elim (stands_last s) [ inl o ↦ v.not_cleared o | inr e ↦ nc e ];
+    }
+
+    pub receive_less : i < length h → IsLiveReceive (h ++ x ∷ []) i p (length h + 1) → IsLiveReceive h i p (length h)
+    receive_less l v = record { posted = get_below h x i (Post p) l v.posted; before = l; not_ended = λ s. v.not_ended (stands_wider (length h + 1) (omega arith) (stands_old s)); not_cleared = λ s. v.not_cleared (stands_wider (length h + 1) (omega arith) (stands_old s)) }
+
+  module _ {b : ℕ} {l : Letter} where
+    pub letter_old : {n : ℕ} → n ≤ length h → IsLiveLetter h b l n → IsLiveLetter (h ++ x ∷ []) b l n
+    letter_old le v = record { came = get_old h x b (Come l) v.came; before = v.before; not_cleared = λ s. v.not_cleared (stands_back le s) }
+
+    pub letter_back : {n : ℕ} → n ≤ length h → IsLiveLetter (h ++ x ∷ []) b l n → IsLiveLetter h b l n
+    letter_back {n} le v = record { came = get_below h x b (Come l) (let c : b < n = v.before in omega arith) v.came; before = v.before; not_cleared = λ s. v.not_cleared (stands_old s) }
+
+    pub letter_more : x ≢ Clear l.envelope.context.number → IsLiveLetter h b l (length h) → IsLiveLetter (h ++ x ∷ []) b l (length h + 1)
+    letter_more nc v = record {
+      came = get_old h x b (Come l) v.came;
+      before = let c : b < length h = v.before in omega arith;
+      not_cleared = λ s. elim (stands_last s) [ inl o ↦ v.not_cleared o | inr e ↦ nc e ];
+    }
+
+    pub letter_less : b < length h → IsLiveLetter (h ++ x ∷ []) b l (length h + 1) → IsLiveLetter h b l (length h)
+    letter_less c v = record { came = get_below h x b (Come l) c v.came; before = c; not_cleared = λ s. v.not_cleared (stands_wider (length h + 1) (omega arith) (stands_old s)) }
+
+-- numbers
+pub number_old : (h : List Event) (x : Event) (i : ℕ) → i ≤ length h → number (h ++ x ∷ []) i ≡ number h i
+number_old [] x zero l = refl
+number_old [] x (suc i) l = absurd (omega arith)
+number_old (e ∷ h) x zero l = refl
+number_old (e ∷ h) x (suc i) l = ap (λ n. weight e + n) (number_old h x i (omega arith))
+
+pub number_new : (h : List Event) (x : Event) → number (h ++ x ∷ []) (suc (length h)) ≡ number h (length h) + weight x
+number_new [] x = omega arith
+number_new (e ∷ h) x = let k = number_new h x in omega (arith, k)
+
+pub number_below : (h : List Event) (i n : ℕ) (e : Event) → slice_get h i ≡ Some e → weight e ≡ 1 → i < n → number h i < number h n
+number_below [] i n e g w l = cc
+number_below (y ∷ h) zero zero e g w l = absurd (omega arith)
+number_below (y ∷ h) zero (suc n) e g w l =
+    let q : y ≡ e = cc in
+    let one : weight y ≡ 1 = ap weight q ∙ w in
+    omega arith
+number_below (y ∷ h) (suc i) zero e g w l = absurd (omega arith)
+number_below (y ∷ h) (suc i) (suc n) e g w l = let k = number_below h i n e g w (omega arith) in omega (arith, k)
+
+pub same_number : (h : List Event) (i j : ℕ) (d e : Event) → slice_get h i ≡ Some d → weight d ≡ 1 → slice_get h j ≡ Some e → weight e ≡ 1 → number h i ≡ number h j → i ≡ j
+same_number h i j d e gi wi gj wj q =
+    elim (compared i j) [
+      | inl l ↦ absurd (omega (arith, number_below h i j d gi wi l))
+      | inr o ↦ elim o [ inl s ↦ s | inr l ↦ absurd (omega (arith, number_below h j i e gj wj l)) ]
+    ]

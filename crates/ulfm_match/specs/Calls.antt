@@ -1,0 +1,46 @@
+-- What each call does to the state: whatever history and lawful pairing it tracked, afterwards it tracks the longer
+-- history, with the pair that the call answers and no other added.
+use Rattle.std.specs.Prelude.{◌≡◌, ℕ, true, List, [], ◌∷◌, ◌++◌, Option, length, MatchOption, Contains}
+use Rattle.ulfm_base.specs.declared.pattern.Pattern.{Pattern}
+use Rattle.ulfm_base.specs.declared.envelope.Letter.{Letter}
+use Rattle.ulfm_base.specs.Pattern.{names}
+use Rattle.ulfm_match.specs.History.{Event, History, Post, Come, End, Clear, PostAt, ComeAt, number}
+use Rattle.ulfm_match.specs.Pairing.{Pairing}
+use Rattle.ulfm_match.specs.State.{State, Tracks, IsOpen}
+
+-- a receive was posted, and the answer is the letter that it gets
+abbrev pub TracksPost : Pattern → State → Option Letter → State → Type 0
+TracksPost pattern old answer new =
+    (history : History) (pairing : Pairing) → IsOpen history pattern.context.number → Tracks history pairing old →
+    MatchOption answer (Tracks (history ++ Post pattern ∷ []) pairing new) (λ letter.
+    (b : ℕ) × ComeAt history b letter × Tracks (history ++ Post pattern ∷ []) (pairing ++ (length history, b) ∷ []) new)
+
+-- a letter came, and the answer is the number of the receive that gets it
+abbrev pub TracksArrival : Letter → State → Option ℕ → State → Type 0
+TracksArrival letter old answer new =
+    (history : History) (pairing : Pairing) → IsOpen history letter.envelope.context.number → Tracks history pairing old →
+    MatchOption answer (Tracks (history ++ Come letter ∷ []) pairing new) (λ id.
+    (i : ℕ) × (pattern : Pattern) × PostAt history i pattern × (number history i ≡ id) ×
+    Tracks (history ++ Come letter ∷ []) (pairing ++ (i, length history) ∷ []) new)
+
+-- the receive of this number ended
+abbrev pub TracksEnd : ℕ → State → State → Type 0
+TracksEnd id old new =
+    (history : History) (pairing : Pairing) (i : ℕ) (pattern : Pattern) → PostAt history i pattern → number history i ≡ id →
+    Tracks history pairing old → Tracks (history ++ End i ∷ []) pairing new
+
+-- the context was cleared
+abbrev pub TracksClear : ℕ → State → State → Type 0
+TracksClear context old new =
+    (history : History) (pairing : Pairing) → Tracks history pairing old → Tracks (history ++ Clear context ∷ []) pairing new
+
+-- these events end the receives posted so far that name rank s, and no others
+pub record EndsNamed (history : History) (s : ℕ) (ends : List Event) : Type 0 where
+  pub sound : (x : Event) → Contains ends x → (i : ℕ) × (pattern : Pattern) × (x ≡ End i) × PostAt history i pattern × (names pattern.source s ≡ true)
+  pub complete : (i : ℕ) (pattern : Pattern) → PostAt history i pattern → names pattern.source s ≡ true → Contains ends (End i)
+
+-- the receives that name rank s ended
+abbrev pub TracksNamed : ℕ → State → State → Type 0
+TracksNamed s old new =
+    (history : History) (pairing : Pairing) (ends : List Event) → EndsNamed history s ends →
+    Tracks history pairing old → Tracks (history ++ ends) pairing new

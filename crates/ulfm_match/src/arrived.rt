@@ -1,0 +1,13 @@
+//! What becomes of an arriving letter.
+
+use crate::request::RequestId;
+use ulfm_base::Letter;
+
+/// What became of a letter that arrived.
+#[derive(Clone, Copy)]
+pub enum Arrived {
+    /// A waiting receive got it.
+    Paired(RequestId, Letter),
+    /// No waiting receive admits it, so it is kept for one that is posted later.
+    Kept,
+}

@@ -1,0 +1,20 @@
+//! Pairs the receives that a rank posts with the letters that come to it, by MPI's rules of matching (MPI 4.0, 3.5):
+//! an earlier letter and an earlier receive go first.
+#![tactic(auto)]
+
+mod arrived;
+mod law;
+mod matcher;
+mod removal;
+mod request;
+mod search;
+#[cfg(test)]
+mod tests;
+
+pub use arrived::Arrived;
+pub use law::{
+    beginnings_are_lawful, nothing_remains_at_first, one_answer_to_a_post,
+    one_answer_to_an_arrival, one_lawful_pairing,
+};
+pub use matcher::Matcher;
+pub use request::RequestId;

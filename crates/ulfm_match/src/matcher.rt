@@ -1,0 +1,189 @@
+//! The receives that wait and the letters that are kept.
+ghost use Rattle.std.specs.Prelude.{◌≡◌, ◌≢◌, ◌+◌, ◌<◌, ◌^◌, ◌↔◌, ℕ, [], IsTrue, Contains, OnOk, OnErr, false};
+ghost use Rattle.ulfm_base.specs.Pattern.{Admits, names};
+ghost use Rattle.ulfm_match.specs.Arrived.{answered, HandsOn};
+ghost use Rattle.ulfm_match.specs.Calls.{TracksPost, TracksArrival, TracksEnd, TracksClear, TracksNamed};
+ghost use Rattle.ulfm_match.specs.State.{Tracks, Keeps};
+
+use crate::arrived::Arrived;
+use crate::removal::{clear_kept, clear_waiting, end_waiting};
+use crate::request::RequestId;
+use crate::search::{first_kept, first_waiting, numbered};
+use std::alloc::Global;
+use std::marker::Model;
+use ulfm_base::{Context, Letter, OutOfMemory, Pattern, WorldRank};
+
+/// The receives of one rank that wait, and the letters that it keeps, each in order of their numbers. Contracts see
+/// both lists, how many posts and arrivals there were, and whether there is room for one more of each.
+#[derive(Drop)]
+pub struct Matcher {
+    waiting: Vec<(u64, Pattern)>,
+    kept: Vec<(u64, Letter)>,
+    count: u64,
+}
+
+impl Model for Matcher {
+    ghost use Rattle.std.specs.Prelude.{vec_len, vec_capacity, nat_lt, ◌&&◌};
+    ghost use Rattle.ulfm_match.specs.State.{State};
+
+    ghost Value = { State };
+
+    ghost view = { λ m. record {
+      waiting = m.waiting.items;
+      kept = m.kept.items;
+      count = m.count;
+      prepared = nat_lt (vec_len m.waiting) (vec_capacity m.waiting) && nat_lt (vec_len m.kept) (vec_capacity m.kept);
+    } };
+}
+
+impl Matcher {
+    /// A matcher before anything happened: nothing waits, nothing is kept. It takes no memory.
+    pub fn new(alloc: Global) -> Self
+        ensures { Tracks [] [] result }
+    {
+        Matcher {
+            waiting: Vec::new(alloc),
+            kept: Vec::new(alloc),
+            count: 0,
+        }
+    }
+
+    /// Makes room for one post and one arrival.
+    ///
+    /// # Errors
+    ///
+    /// `OutOfMemory` where there was no such room and a growth was refused. Then nothing changed.
+    pub fn prepare(&mut self) -> Result<(), OutOfMemory>
+        ensures prepared { OnOk result (IsTrue self.new.prepared) }
+        ensures room_lacked { OnErr result (self.old.prepared ≡ false) }
+        ensures unchanged_at_error { OnErr result (self.new ≡ self.old) }
+        ensures waiting { self.new.waiting ≡ self.old.waiting }
+        ensures kept { self.new.kept ≡ self.old.kept }
+        ensures count { self.new.count ≡ self.old.count }
+        ensures stays_prepared { IsTrue self.old.prepared → IsTrue self.new.prepared }
+    {
+        self.waiting.reserve(1)?;
+        self.kept.reserve(1)?;
+        Ok(())
+    }
+
+    /// Whether there is room for one post and one arrival.
+    pub fn is_prepared(&self) -> bool
+        ensures { result ≡ self.now.prepared }
+    {
+        self.waiting.len() < self.waiting.capacity() && self.kept.len() < self.kept.capacity()
+    }
+
+    /// How many posts and arrivals there were.
+    pub fn count(&self) -> u64
+        ensures { result ≡ self.now.count }
+    {
+        self.count
+    }
+
+    /// Posts a receive (MPI 4.0, 3.7.2). It gets the earliest kept letter that it admits; where there is none it waits.
+    /// Answers its number, and the letter. The room that `prepare` made is used up.
+    ///
+    /// The context wasn't cleared before.
+    pub fn post(&mut self, pattern: Pattern) -> (RequestId, Option<Letter>)
+        requires prepared { IsTrue self.old.prepared }
+        requires countable { self.old.count + 1 < 2 ^ 64 }
+        ensures number { result.0.number ≡ self.old.count }
+        ensures count { self.new.count ≡ self.old.count + 1 }
+        ensures tracks { TracksPost pattern self.old result.1 self.new }
+    {
+        let number = self.count;
+        self.count += 1;
+        match first_kept(self.kept.as_slice(), &pattern) {
+            Some(k) => {
+                let (_, letter) = self.kept.remove(k);
+                (RequestId { number }, Some(letter))
+            }
+            None => {
+                self.waiting.push_reserved((number, pattern));
+                (RequestId { number }, None)
+            }
+        }
+    }
+
+    /// Takes a letter that came. The earliest waiting receive that admits it gets it; where there is none it is kept.
+    /// The room that `prepare` made is used up.
+    ///
+    /// The context wasn't cleared before.
+    pub fn arrive(&mut self, letter: Letter) -> Arrived
+        requires prepared { IsTrue self.old.prepared }
+        requires countable { self.old.count + 1 < 2 ^ 64 }
+        ensures letter { HandsOn result letter }
+        ensures count { self.new.count ≡ self.old.count + 1 }
+        ensures tracks { TracksArrival letter self.old (answered result) self.new }
+    {
+        let number = self.count;
+        self.count += 1;
+        match first_waiting(self.waiting.as_slice(), &letter) {
+            Some(k) => {
+                let (request, _) = self.waiting.remove(k);
+                Arrived::Paired(RequestId { number: request }, letter)
+            }
+            None => {
+                self.kept.push_reserved((number, letter));
+                Arrived::Kept
+            }
+        }
+    }
+
+    /// Ends a receive. Answers whether it was waiting; where it wasn't, nothing changes.
+    pub fn withdraw(&mut self, id: RequestId) -> bool
+        ensures waited { IsTrue result ↔ ((pattern : Pattern) × Contains self.old.waiting (id.number, pattern)) }
+        ensures idle { result ≡ false → self.new ≡ self.old }
+        ensures kept { self.new.kept ≡ self.old.kept }
+        ensures count { self.new.count ≡ self.old.count }
+        ensures prepared { IsTrue self.old.prepared → IsTrue self.new.prepared }
+        ensures tracks { TracksEnd id.number self.old self.new }
+    {
+        match numbered(self.waiting.as_slice(), id.number) {
+            Some(k) => {
+                let _ = self.waiting.remove(k);
+                true
+            }
+            None => false,
+        }
+    }
+
+    /// Ends all waiting receives and drops all kept letters of a context, as a revocation does.
+    pub fn clear(&mut self, context: Context)
+        ensures others_wait { Keeps (λ (y : ℕ × Pattern). y.1.context.number ≢ context.number) self.old.waiting self.new.waiting }
+        ensures others_are_kept { Keeps (λ (y : ℕ × Letter). y.1.envelope.context.number ≢ context.number) self.old.kept self.new.kept }
+        ensures count { self.new.count ≡ self.old.count }
+        ensures prepared { IsTrue self.old.prepared → IsTrue self.new.prepared }
+        ensures tracks { TracksClear context.number self.old self.new }
+    {
+        clear_waiting(&mut self.waiting, context);
+        clear_kept(&mut self.kept, context);
+    }
+
+    /// Ends all waiting receives that name a rank as their source, as its failure does. Those that leave the source
+    /// open go on waiting, and no letter is dropped.
+    pub fn end_named(&mut self, rank: WorldRank)
+        ensures others_wait { Keeps (λ (y : ℕ × Pattern). names y.1.source rank.number ≡ false) self.old.waiting self.new.waiting }
+        ensures kept { self.new.kept ≡ self.old.kept }
+        ensures count { self.new.count ≡ self.old.count }
+        ensures prepared { IsTrue self.old.prepared → IsTrue self.new.prepared }
+        ensures tracks { TracksNamed rank.number self.old self.new }
+    {
+        end_waiting(&mut self.waiting, rank);
+    }
+
+    /// Whether the receive of this number waits: it was posted, has no letter, and didn't end.
+    pub fn is_waiting(&self, id: RequestId) -> bool
+        ensures { IsTrue result ↔ ((pattern : Pattern) × Contains self.now.waiting (id.number, pattern)) }
+    {
+        numbered(self.waiting.as_slice(), id.number).is_some()
+    }
+
+    /// Whether a letter is kept that a receive with this pattern admits.
+    pub fn keeps_match(&self, pattern: &Pattern) -> bool
+        ensures { IsTrue result ↔ ((entry : ℕ × Letter) × Contains self.now.kept entry × Admits pattern.now entry.1.envelope) }
+    {
+        first_kept(self.kept.as_slice(), pattern).is_some()
+    }
+}
