@@ -78,3 +78,14 @@ impl<T: Drop> From<AllocFailed<T>> for CallError {
         CallError::OutOfMemory
     }
 }
+
+impl From<AllocError> for CallError {
+    ghost use Rattle.std.specs.Prelude.{◌≡◌};
+    ghost use Rattle.ulfm_base.specs.declared.error.CallError.TheVariants as error;
+
+    ghost from_gives = { λ _ e. e ≡ error.OutOfMemory };
+
+    fn from(_error: AllocError) -> CallError {
+        CallError::OutOfMemory
+    }
+}

@@ -1,3 +1,4 @@
+-- A lawful pairing, cut to a beginning of its history, is lawful there.
 use Rattle.std.proofs.Common.{◌≡◌, ℕ, zero, suc, ◌+◌, ◌<◌, ◌≤◌, List, [], ◌∷◌, ◌++◌, length, Some, arith, true, length-append}
 use Rattle.std.specs.Prelude.{slice_get, max, nat_lt, ◌&&◌}
 use Rattle.std.proofs.lemmas.Bool.Decides.{nat_tests}

@@ -1,3 +1,4 @@
+-- A receive ends, or a context is cleared: an event that makes no pair.
 use Rattle.std.proofs.Common.{◌≡◌, ◌≢◌, ℕ, ◌+◌, ◌<◌, inl, inr, List, [], ◌∷◌, ◌++◌, length, refl, ap, sym, ◌∙◌, subst, Some, arith}
 use Rattle.std.specs.Prelude.{Contains, filter, not, ◌==◌, Bool, true}
 use Rattle.std.proofs.lemmas.Bool.Decides.{nat_tests}

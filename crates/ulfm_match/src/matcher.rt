@@ -84,7 +84,7 @@ impl Matcher {
     /// Posts a receive (MPI 4.0, 3.7.2). It gets the earliest kept letter that it admits; where there is none it waits.
     /// Answers its number, and the letter. The room that `prepare` made is used up.
     ///
-    /// The context wasn't cleared before.
+    /// Of a context that was cleared before nothing is posted or comes: the answer then is open.
     pub fn post(&mut self, pattern: Pattern) -> (RequestId, Option<Letter>)
         requires prepared { IsTrue self.old.prepared }
         requires countable { self.old.count + 1 < 2 ^ 64 }
@@ -109,7 +109,7 @@ impl Matcher {
     /// Takes a letter that came. The earliest waiting receive that admits it gets it; where there is none it is kept.
     /// The room that `prepare` made is used up.
     ///
-    /// The context wasn't cleared before.
+    /// Of a context that was cleared before nothing is posted or comes: the answer then is open.
     pub fn arrive(&mut self, letter: Letter) -> Arrived
         requires prepared { IsTrue self.old.prepared }
         requires countable { self.old.count + 1 < 2 ^ 64 }

@@ -1,0 +1,55 @@
+-- The replies to a job that is refused, and to want of memory.
+use Rattle.std.proofs.Common.{◌≡◌, ◌≢◌, ℕ, ◌≤◌, List, Option, Some, None, Err, IfSome, take, sym, subst}
+use Rattle.std.specs.Io.KnownBytes.{Appends}
+use Rattle.ulfm_script.specs.declared.fault.JobFault.{JobFault}
+use Rattle.ulfm_script.specs.declared.fault.JobFault.TheVariants.{NotToml, InJob, InStep, TooLarge, OutOfMemory}
+use Rattle.ulfm_script.specs.JobText.{job_of_bytes}
+use Rattle.ulfm.specs.declared.command.Wanted.{Wanted}
+use Rattle.ulfm.specs.declared.command.Wanted.TheVariants.{Check, Replay}
+use Rattle.ulfm.specs.Replies.{IsCheckReply, IsReplayReply, IsReplyTo, GetsReply, GetsBeginning, GetsFrontOf, good, refused, no_memory, starved, traced, not_a_job, no_room, failed, refused_text, starved_text}
+
+pub check_refused : (f : JobFault) (bytes : List ℕ) → (f ≢ OutOfMemory → job_of_bytes bytes ≡ Err f) → IsCheckReply bytes 1 (refused_text f)
+check_refused NotToml bytes h = refused _ (h (λ e. cc))
+check_refused (InJob f) bytes h = refused _ (h (λ e. cc))
+check_refused (InStep f k) bytes h = refused _ (h (λ e. cc))
+check_refused TooLarge bytes h = refused _ (h (λ e. cc))
+check_refused OutOfMemory bytes h = no_memory
+
+pub replay_refused : (f : JobFault) (bytes : List ℕ) → (f ≢ OutOfMemory → job_of_bytes bytes ≡ Err f) → IsReplayReply bytes 1 (refused_text f)
+replay_refused NotToml bytes h = not_a_job _ (h (λ e. cc))
+replay_refused (InJob f) bytes h = not_a_job _ (h (λ e. cc))
+replay_refused (InStep f k) bytes h = not_a_job _ (h (λ e. cc))
+replay_refused TooLarge bytes h = not_a_job _ (h (λ e. cc))
+replay_refused OutOfMemory bytes h = no_room
+
+-- want of memory is a reply to any words
+starved_reply : (wanted : Wanted) (bytes : List ℕ) → IsReplyTo wanted bytes 3 starved_text
+starved_reply Check bytes = starved
+starved_reply Replay bytes = failed
+
+pub starved_gets : (wanted : Wanted) (most : ℕ) (rest old new : Option (List ℕ)) (status : ℕ) → (status ≤ 3 → (status ≡ 3) × Appends old new starved_text) → status ≤ 3 → IfSome rest (λ bytes. GetsReply (IsReplyTo wanted (take most bytes)) old new status)
+starved_gets wanted most None old new status h l = tt
+starved_gets wanted most (Some bytes) old new status h l =
+    let w = h l in
+    (starved_text, subst (λ (k : ℕ). IsReplyTo wanted (take most bytes) k starved_text) (sym w.0) (starved_reply wanted (take most bytes)), w.1)
+
+pub starved_begins : (wanted : Wanted) (most : ℕ) (rest old new : Option (List ℕ)) (status : ℕ) → (status ≡ 4 → GetsFrontOf old new starved_text) → status ≡ 4 → IfSome rest (λ bytes. GetsBeginning (IsReplyTo wanted (take most bytes)) old new)
+starved_begins wanted most None old new status h e = tt
+starved_begins wanted most (Some bytes) old new status h e = let f = h e in (3, starved_text, starved_reply wanted (take most bytes), f.0, f.1)
+
+checks_no_usage : (bytes : List ℕ) (status : ℕ) (text : List ℕ) → IsCheckReply bytes status text → status ≢ 2
+checks_no_usage bytes status text (good job e) = λ e. cc
+checks_no_usage bytes status text (refused f e) = λ e. cc
+checks_no_usage bytes status text no_memory = λ e. cc
+checks_no_usage bytes status text starved = λ e. cc
+
+replays_no_usage : (bytes : List ℕ) (status : ℕ) (text : List ℕ) → IsReplayReply bytes status text → status ≢ 2
+replays_no_usage bytes status text (traced job reports e h) = λ e. cc
+replays_no_usage bytes status text (not_a_job f e) = λ e. cc
+replays_no_usage bytes status text no_room = λ e. cc
+replays_no_usage bytes status text failed = λ e. cc
+
+-- no job is answered by usage
+pub no_usage : (wanted : Wanted) (bytes : List ℕ) (status : ℕ) (text : List ℕ) → IsReplyTo wanted bytes status text → status ≢ 2
+no_usage Check bytes status text h = checks_no_usage bytes status text h
+no_usage Replay bytes status text h = replays_no_usage bytes status text h

@@ -1,0 +1,95 @@
+//! From words and bytes to a status and bytes.
+ghost use Rattle.std.specs.Prelude.{◌≢◌, ◌≡◌, ◌≤◌, ◌⊎◌, map, take, IfOk, IfSome, string_bytes};
+ghost use Rattle.std.specs.Io.KnownBytes.{Keeps, Appends};
+ghost use Rattle.ulfm.specs.declared.command.Wanted.{Wanted};
+ghost use Rattle.ulfm.specs.Replies.{IsReplyTo, GetsReply, GetsBeginning, GetsFront, GetsFrontOf};
+ghost use Rattle.ulfm.specs.Words.{AsksFor};
+
+use crate::command::{Wanted, wanted_of};
+use crate::reply::{DONE, INPUT_FAILED, OUTPUT_FAILED, RUN_FAILED, Reply, USAGE, reply_to};
+use crate::stream::{InputFault, read_front, write_whole};
+use clap::Error;
+use clap::error::ErrorKind;
+use std::alloc::{AllocError, Global};
+use std::convert::AsStr;
+use std::io::{Read, Write};
+
+/// What is written where memory runs out outside the reading of a job.
+const STARVED: &[u8] = b"run failed: F3\n";
+
+/// Follows the words: looks at them first, then reads the input whole, then its job, then runs it, and writes the whole
+/// reply last. Answers the status (docs/JOBS.md).
+pub fn run_on<S: AsStr, R: Read, W: Write>(
+    alloc: Global,
+    words: &[S],
+    input: &mut R,
+    output: &mut W,
+) -> u8
+    ensures replies { (wanted : Wanted) → AsksFor wanted (map S.text words.now) → result ≤ 3 → IfSome (R.remaining input.old) (λ bytes.
+        GetsReply (IsReplyTo wanted (take 1048577 bytes)) (W.contents output.old) (W.contents output.new) result) }
+    ensures cut_off { (wanted : Wanted) → AsksFor wanted (map S.text words.now) → result ≡ 4 → IfSome (R.remaining input.old) (λ bytes.
+        GetsBeginning (IsReplyTo wanted (take 1048577 bytes)) (W.contents output.old) (W.contents output.new)) }
+    ensures output_failed { result ≡ 4 → GetsFront (W.contents output.old) (W.contents output.new) }
+    ensures input_failed { result ≡ 5 → Keeps (W.contents output.old) (W.contents output.new) }
+    ensures words_first { result ≡ 2 → R.remaining input.new ≡ R.remaining input.old }
+    ensures known { result ≤ 5 }
+{
+    match wanted_of(alloc, words) {
+        Ok(Some(wanted)) => follow(alloc, wanted, input, output),
+        Ok(None) => write_reply(output, USAGE, b"unknown command\n"),
+        Err(error) => {
+            if error.kind() == ErrorKind::OutOfMemory {
+                return write_reply(output, RUN_FAILED, STARVED);
+            }
+            match usage_of(alloc, &error) {
+                Ok(reply) => write_reply(output, reply.status, reply.text.as_bytes()),
+                Err(_) => write_reply(output, RUN_FAILED, STARVED),
+            }
+        }
+    }
+}
+
+/// Reads the input, and writes the reply to it.
+fn follow<R: Read, W: Write>(alloc: Global, wanted: Wanted, input: &mut R, output: &mut W) -> u8
+    ensures replies { result ≤ 3 → IfSome (R.remaining input.old) (λ bytes.
+        GetsReply (IsReplyTo wanted (take 1048577 bytes)) (W.contents output.old) (W.contents output.new) result) }
+    ensures cut_off { result ≡ 4 → IfSome (R.remaining input.old) (λ bytes.
+        GetsBeginning (IsReplyTo wanted (take 1048577 bytes)) (W.contents output.old) (W.contents output.new)) }
+    ensures output_failed { result ≡ 4 → GetsFront (W.contents output.old) (W.contents output.new) }
+    ensures input_failed { result ≡ 5 → Keeps (W.contents output.old) (W.contents output.new) }
+    ensures no_usage { result ≢ 2 }
+    ensures known { result ≤ 5 }
+{
+    let bytes = match read_front(alloc, input) {
+        Ok(bytes) => bytes,
+        Err(InputFault::Failed) => return INPUT_FAILED,
+        Err(InputFault::OutOfMemory) => return write_reply(output, RUN_FAILED, STARVED),
+    };
+    match reply_to(alloc, wanted, bytes.as_slice()) {
+        Ok(reply) => write_reply(output, reply.status, reply.text.as_bytes()),
+        Err(_) => write_reply(output, RUN_FAILED, STARVED),
+    }
+}
+
+/// The reply to a command line that can't be followed, and to one that asks for help.
+fn usage_of(alloc: Global, error: &Error) -> Result<Reply, AllocError>
+    ensures { IfOk result (λ r. (r.status ≡ 0) ⊎ (r.status ≡ 2)) }
+{
+    let text = format!(in alloc; "{error}")?;
+    let status = if error.use_stderr() { USAGE } else { DONE };
+    Ok(Reply { status, text })
+}
+
+/// Writes a text, and answers the status of what it says, or of output that failed.
+fn write_reply<W: Write>(output: &mut W, status: u8, text: &[u8]) -> u8
+    requires { status ≤ 3 }
+    ensures written { result ≤ 3 → (result ≡ status) × Appends (W.contents output.old) (W.contents output.new) text.now }
+    ensures failed { result ≡ 4 → GetsFrontOf (W.contents output.old) (W.contents output.new) text.now }
+    ensures known { result ≤ 4 }
+{
+    if write_whole(output, text) {
+        status
+    } else {
+        OUTPUT_FAILED
+    }
+}

@@ -1,0 +1,57 @@
+//! Command lines and jobs from end to end, in memory.
+ghost use Rattle.std.specs.Prelude.{◌≤◌};
+
+mod bodies;
+mod failures;
+mod messages;
+mod refused;
+mod revocations;
+mod rows;
+mod streams;
+
+use crate::front::run_on;
+use std::io;
+use std::io::Write;
+
+/// How many bytes of a text are kept.
+const ROOM: usize = 4096;
+
+/// A text kept in place, so that a test's own writer takes no memory.
+struct Kept {
+    bytes: [u8; 4096],
+    len: usize,
+    ghost within: { len ≤ 4096 },
+}
+
+impl Write for Kept {
+    fn write(&mut self, buf: &[u8]) -> io::Result<usize> {
+        let n = buf.len().min(ROOM - self.len);
+        for byte in &buf[..n] {
+            if self.len < ROOM {
+                self.bytes[self.len] = *byte;
+                self.len += 1;
+            }
+        }
+        Ok(n)
+    }
+
+    fn flush(&mut self) -> io::Result<()> {
+        Ok(())
+    }
+}
+
+/// The reply to a command line and an input.
+fn reply(rt: &HostRuntime, words: &[&str], input: &str) -> (u8, Kept) {
+    let mut input = input.as_bytes();
+    let mut output = Kept {
+        bytes: [0; 4096],
+        len: 0,
+    };
+    let status = run_on(rt.alloc(), words, &mut input, &mut output);
+    (status, output)
+}
+
+/// Whether a reply is this one.
+fn is_reply(reply: &(u8, Kept), status: u8, text: &str) -> bool {
+    reply.0 == status && &reply.1.bytes[..reply.1.len] == text.as_bytes()
+}

@@ -1,0 +1,75 @@
+//! Revocations and refusals: jobs whose traces the rules of MPI 4.0 and ULFM determine, from text to text.
+
+use super::rows::{Row, follows};
+
+#[test]
+fn revocations_reach_all(rt: HostRuntime) {
+    follows(
+        &rt,
+        &[
+            Row {
+                shows: "revoked_while_waiting",
+                job: "ranks = 3\n\
+capacity = 1\n\
+turns = 20\n\
+step = [\n\
+  {rank = 0, op = \"send\", to = 2, tag = 5, body = \"a\"},\n\
+  {rank = 0, op = \"recv\"},\n\
+  {rank = 0, op = \"wait\", req = 1},\n\
+  {rank = 1, op = \"revoke\"},\n\
+  {rank = 1, op = \"stop\"},\n\
+  {rank = 2, op = \"recv\", from = 0, tag = 5},\n\
+  {rank = 2, op = \"recv\", from = 0, tag = 9},\n\
+  {rank = 2, op = \"wait\", req = 1},\n\
+  {rank = 2, op = \"wait\", req = 0},\n\
+  {rank = 2, op = \"recv\"},\n\
+]\n",
+                trace: "0 0 send 2 tag 5 comm 0: sent\n\
+0 1 recv any tag any comm 0: posted\n\
+0 2 wait 1: over 6 Revoked\n\
+0 end: done\n\
+1 0 revoke comm 0: revoked\n\
+1 1 stop: stopped\n\
+1 end: stopped\n\
+2 0 recv 0 tag 5 comm 0: posted\n\
+2 1 recv 0 tag 9 comm 0: posted\n\
+2 2 wait 1: over 6 Revoked\n\
+2 3 wait 0: done from 0 tag 5 61\n\
+2 4 recv any tag any comm 0: refused 6 Revoked\n\
+2 end: done\n",
+            },
+            Row {
+                shows: "refusals",
+                job: "ranks = 2\n\
+capacity = 4\n\
+turns = 10\n\
+step = [\n\
+  {rank = 0, op = \"send\", to = 5, tag = 0, body = \"q\"},\n\
+  {rank = 0, op = \"recv\", comm = 4},\n\
+  {rank = 0, op = \"dup\"},\n\
+  {rank = 0, op = \"dup\"},\n\
+  {rank = 0, op = \"wait\", req = 9},\n\
+  {rank = 0, op = \"revoke\"},\n\
+  {rank = 0, op = \"revoke\"},\n\
+  {rank = 0, op = \"dup\"},\n\
+  {rank = 0, op = \"send\", to = 5, tag = 0, body = \"q\"},\n\
+  {rank = 0, op = \"send\", to = 1, tag = 0, comm = 1, body = \"q\"},\n\
+  {rank = 0, op = \"failed\"},\n\
+]\n",
+                trace: "0 0 send 5 tag 0 comm 0: refused 2 BadRank\n\
+0 1 recv any tag any comm 4: refused 1 NoComm\n\
+0 2 dup comm 0: comm 1\n\
+0 3 dup comm 0: refused 8 AlreadyMade\n\
+0 4 wait 9: refused 7 NoRequest\n\
+0 5 revoke comm 0: revoked\n\
+0 6 revoke comm 0: revoked\n\
+0 7 dup comm 0: refused 6 Revoked\n\
+0 8 send 5 tag 0 comm 0: refused 6 Revoked\n\
+0 9 send 1 tag 0 comm 1: sent\n\
+0 10 failed comm 0: ranks []\n\
+0 end: done\n\
+1 end: done\n",
+            },
+        ],
+    );
+}

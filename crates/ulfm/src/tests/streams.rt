@@ -1,0 +1,95 @@
+//! Streams that fail, and command lines that can't be followed.
+
+use super::{Kept, is_reply, reply};
+use crate::front::run_on;
+use std::io;
+use std::io::{ErrorKind, Read, Write};
+use std::test::Fail;
+
+/// A job of one letter, by its steps.
+const ONE_LETTER: &str =
+    "ranks = 2\ncapacity = 4\nturns = 10\nstep = [\n{rank = 0, op = \"send\", to = 1, tag = 5, body = \"abc\"},\n{rank = 1, op = \"recv\", from = 0, tag = 5},\n{rank = 1, op = \"wait\", req = 0},\n]\n";
+
+/// A reader that fails at its second read.
+struct FailsSecond {
+    reads: u32,
+}
+
+impl Read for FailsSecond {
+    fn read(&mut self, buf: &mut [u8]) -> io::Result<usize> {
+        if self.reads == 1 || buf.is_empty() {
+            return Err(io::Error::from(ErrorKind::Interrupted));
+        }
+        self.reads = 1;
+        buf[0] = b'r';
+        Ok(1)
+    }
+}
+
+/// A writer that takes a few bytes.
+struct TakesFew {
+    taken: Vec<u8>,
+    room: usize,
+}
+
+impl Write for TakesFew {
+    fn write(&mut self, buf: &[u8]) -> io::Result<usize> {
+        let n = buf.len().min(self.room);
+        self.taken.extend_from_slice(&buf[..n])?;
+        self.room -= n;
+        Ok(n)
+    }
+
+    fn flush(&mut self) -> io::Result<()> {
+        Ok(())
+    }
+}
+
+#[test]
+fn an_input_that_fails_writes_nothing(rt: HostRuntime) {
+    for command in ["check", "replay"] {
+        let mut output = Vec::new(rt.alloc());
+        let mut input = FailsSecond { reads: 0 };
+        assert_eq!(rt;
+            run_on(rt.alloc(), &["ulfm", command], &mut input, &mut output),
+            5
+        );
+        assert!(rt; output.is_empty());
+        let FailsSecond { reads: _ } = input;
+    }
+}
+
+#[test]
+fn an_output_that_fails_gets_a_beginning(rt: HostRuntime) {
+    let mut input = ONE_LETTER.as_bytes();
+    let mut output = TakesFew {
+        taken: Vec::new(rt.alloc()),
+        room: 10,
+    };
+    assert_eq!(rt;
+        run_on(rt.alloc(), &["ulfm", "replay"], &mut input, &mut output),
+        4
+    );
+    let TakesFew { taken, room: _ } = output;
+    assert_eq!(rt; taken.as_slice(), b"0 0 send 1".as_slice());
+}
+
+#[test]
+fn words_are_looked_at_first(rt: HostRuntime) -> Result<(), Fail> {
+    for words in [
+        &["ulfm", "run"].as_slice(),
+        &["ulfm"].as_slice(),
+        &["ulfm", "check", "x"].as_slice(),
+    ] {
+        let answer = reply(&rt, words, "");
+        assert_eq!(rt; answer.0, 2);
+        let (_, Kept { bytes: _, len: _ }) = answer;
+    }
+    let answer = reply(&rt, &["ulfm", "--help"], "");
+    assert_eq!(rt; answer.0, 0);
+    let (_, Kept { bytes: _, len: _ }) = answer;
+    let answer = reply(&rt, &["ulfm", "check"], ONE_LETTER);
+    assert!(rt; is_reply(&answer, 0, "job ok: 2 ranks 3 steps\n"));
+    let (_, Kept { bytes: _, len: _ }) = answer;
+    Ok(())
+}

@@ -1,0 +1,55 @@
+-- The table after a revocation.
+use Rattle.std.proofs.Common.{◌≡◌, ◌≢◌, ℕ, ◌≤◌, Bool, true, false, cond, List, [], ◌∷◌, ◌++◌, length, refl, ap, sym, ◌∙◌, Option, Some, arith}
+use Rattle.std.specs.Prelude.{◌&&◌, ◌==◌}
+use Rattle.std.proofs.lemmas.Bool.Decides.{nat_tests}
+use Rattle.ulfm_base.specs.declared.pattern.Pattern.{Pattern}
+use Rattle.ulfm_match.specs.History.{Event, Clear}
+use Rattle.ulfm_match.specs.Pairing.{Pairing, LawfulPairing}
+use Rattle.ulfm_match.proofs.Histories.{get_new, stands_back}
+use Rattle.ulfm_match.proofs.Extend.{letter_within}
+use Rattle.ulfm_rank.specs.declared.entry.Entry.{Entry}
+use Rattle.ulfm_rank.specs.declared.outcome.Outcome.{Outcome}
+use Rattle.ulfm_rank.specs.declared.outcome.Outcome.TheVariants.{Waiting, Paired, Failed, Cleared}
+use Rattle.ulfm_rank.specs.declared.outcome.Request.{Request}
+use Rattle.ulfm_rank.specs.Table.{Became, IsTable}
+use Rattle.ulfm_rank.specs.Requests.{is_waiting, over_context, Changes}
+use Rattle.ulfm_rank.proofs.Tables.{became_keeps, table_change}
+
+module _ (n c : ℕ) (log : List Entry) (h : List Event) (r : Pairing) (law : LawfulPairing h r) where
+  same_context : (q : Request) → (over_context c q).pattern ≡ q.pattern
+  same_context q = pick (is_waiting q.outcome && (q.pattern.context.number == c))
+    where
+      pick : (b : Bool) → (cond {A = Request} b (record { pattern = q.pattern; outcome = Cleared }) q).pattern ≡ q.pattern
+      pick true = refl
+      pick false = refl
+
+  still : (i : ℕ) (p : Pattern) (o : Outcome) → (o ≡ Waiting → p.context.number ≢ c) → Became h r i p o → Became (h ++ Clear c ∷ []) r i p o
+  still i p o ne b = became_keeps h (Clear c) r r law (λ i b q. q) i p o (λ b q. q) (λ e. (λ g. cc, λ g. ne e (let f : p.context.number ≡ c = cc in f))) b
+
+  became_cleared : (i : ℕ) (p : Pattern) (o : Outcome) → Became h r i p o → Became (h ++ Clear c ∷ []) r i p (over_context c (record { pattern = p; outcome = o })).outcome
+  became_cleared i p Waiting w = pick (p.context.number == c) refl
+    where
+      alike : (a b : ℕ) → (a == b) ≡ true → a ≡ b
+      alike a b e = grind (arith, nat_tests)
+
+      differ : (a b : ℕ) → (a == b) ≡ false → a ≢ b
+      differ a b e f = grind (arith, nat_tests)
+
+      pick : (b : Bool) → (p.context.number == c) ≡ b → Became (h ++ Clear c ∷ []) r i p (cond {A = Request} (true && b) (record { pattern = p; outcome = Cleared }) (record { pattern = p; outcome = Waiting })).outcome
+      pick true e = (
+        λ b q. w.unpaired b (letter_within h r law i b q) q,
+        record {
+          place = length h;
+          after = w.live.before;
+          is = get_new h (Clear c) ∙ ap (λ (k : ℕ). Some (Clear k)) (sym (alike p.context.number c e));
+          first = λ st. w.live.not_ended (stands_back h (Clear c) (let m : length h ≤ length h = omega arith in m) st);
+        },
+      )
+      pick false e = still i p Waiting (λ f. differ p.context.number c e) w
+  became_cleared i p (Paired l) b = still i p (Paired l) (λ e. cc) b
+  became_cleared i p Failed b = still i p Failed (λ e. cc) b
+  became_cleared i p Cleared b = still i p Cleared (λ e. cc) b
+
+  pub table_cleared : (find find' : ℕ → Option Request) → IsTable n log h r find → Changes (λ k. over_context c) find find' → IsTable n log (h ++ Clear c ∷ []) r find'
+  table_cleared find find' t change =
+      table_change n log h (Clear c) r r find find' t (λ q e. cc) (λ k. over_context c) change (λ k q. same_context q) (λ k q f s. became_cleared s.place q.pattern q.outcome s.outcome)

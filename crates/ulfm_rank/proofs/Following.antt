@@ -1,0 +1,100 @@
+-- The parts of a rank follow its log through one more entry.
+use Rattle.std.proofs.Common.{◌≡◌, ℕ, Bool, true, false, cond, eqb, List, [], ◌∷◌, ◌++◌, length, refl, ap, sym, ◌∙◌, Option, Some, append-nil}
+use Rattle.std.specs.Prelude.{◌||◌}
+use Rattle.ulfm_base.specs.declared.context.Context.{Context}
+use Rattle.ulfm_base.specs.declared.envelope.Letter.{Letter}
+use Rattle.ulfm_base.specs.declared.item.Item.TheVariants.{Letter as Mail}
+use Rattle.ulfm_base.specs.declared.rank.WorldRank.{WorldRank}
+use Rattle.ulfm_base.specs.Context.{dup_of}
+use Rattle.ulfm_fault.specs.Facts.{Facts, acknowledged_in, is_marked}
+use Rattle.ulfm_match.specs.State.{State as Matching}
+use Rattle.ulfm_rank.specs.declared.entry.Entry.{Entry}
+use Rattle.ulfm_rank.specs.declared.entry.Entry.TheVariants.{Sent, Acknowledged, Revoked, Duplicated, Stopped}
+use Rattle.ulfm_rank.specs.declared.outcome.Request.{Request}
+use Rattle.ulfm_rank.specs.Communicators.{find_group}
+use Rattle.ulfm_rank.specs.Facts.{is_stop, is_stopped, is_revoked}
+use Rattle.ulfm_rank.specs.Fields.{HasFaults}
+use Rattle.ulfm_rank.specs.Inside.{Follows}
+use Rattle.ulfm_rank.specs.Outboxes.{Box, for_each, AllGrow}
+use Rattle.ulfm_rank.specs.Owed.{passed_on}
+use Rattle.ulfm_rank.specs.Requests.{TracksRevocation}
+use Rattle.ulfm_rank.proofs.Gather.{any-push}
+use Rattle.ulfm_rank.proofs.Held.{outboxes-grown, outboxes-quiet}
+use Rattle.ulfm_rank.proofs.InStep.{in_step_quiet, in_step_revoked}
+use Rattle.ulfm_rank.proofs.Known.{acknowledged-push, known-push, faults_quiet, faults_revoked}
+use Rattle.ulfm_rank.proofs.Made.{communicators-quiet, communicators-duplicated}
+
+or_false : (b : Bool) → b || false ≡ b
+or_false true = refl
+or_false false = refl
+
+or_true : (b : Bool) → b || true ≡ true
+or_true true = refl
+or_true false = refl
+
+module _ (n me : ℕ) (log : List Entry) (stopped : Bool) (m : Matching) (find : ℕ → Option Request) (facts : Facts) (comms : List (ℕ × List ℕ)) (boxes : List Box) (f : Follows n me log stopped m find facts comms boxes) where
+  runs_on : (x : Entry) → is_stop x ≡ false → stopped ≡ is_stopped (log ++ x ∷ [])
+  runs_on x h = f.halted ∙ sym (any-push is_stop log x ∙ (ap (λ b. is_stopped log || b) h ∙ or_false (is_stopped log)))
+
+  -- a letter was accepted
+  pub follows_sent : (to : WorldRank) (letter : Letter) (boxes' : List Box) → AllGrow boxes boxes' (length log) (for_each (λ d. eqb to.number d) (Mail letter)) → Follows n me (log ++ Sent to letter ∷ []) stopped m find facts comms boxes'
+  follows_sent to letter boxes' grows = record {
+    small = f.small;
+    halted = runs_on (Sent to letter) refl;
+    in_step = in_step_quiet n log m find f.in_step (Sent to letter) refl (λ k. refl);
+    faults = faults_quiet log facts (Sent to letter) f.faults (λ b k. refl) (λ c k. refl) (λ c. refl);
+    communicators = communicators-quiet n log (Sent to letter) comms f.communicators (λ b k. refl);
+    outboxes = outboxes-grown n me log (Sent to letter) boxes boxes' f.outboxes grows;
+  }
+
+  -- a communicator was duplicated
+  pub follows_duplicated : (context : Context) (group : List ℕ) → find_group context.number comms ≡ Some group → Follows n me (log ++ Duplicated context ∷ []) stopped m find facts (comms ++ (dup_of context.number, group) ∷ []) boxes
+  follows_duplicated context group found = record {
+    small = f.small;
+    halted = runs_on (Duplicated context) refl;
+    in_step = in_step_quiet n log m find f.in_step (Duplicated context) refl (λ k. refl);
+    faults = faults_quiet log facts (Duplicated context) f.faults (λ b k. refl) (λ c k. refl) (λ c. refl);
+    communicators = communicators-duplicated n log context comms group f.communicators found;
+    outboxes = outboxes-quiet n me log (Duplicated context) boxes f.outboxes (λ d. refl);
+  }
+
+  -- failures were acknowledged
+  pub follows_acknowledged : (context : Context) (total : ℕ) (facts' : Facts) → ((c : ℕ) → acknowledged_in facts' c ≡ cond (eqb context.number c) total (acknowledged_in facts c)) → facts'.known ≡ facts.known → facts'.revoked ≡ facts.revoked → Follows n me (log ++ Acknowledged context total ∷ []) stopped m find facts' comms boxes
+  follows_acknowledged context total facts' a k r = record {
+    small = f.small;
+    halted = runs_on (Acknowledged context total) refl;
+    in_step = in_step_quiet n log m find f.in_step (Acknowledged context total) refl (λ k. refl);
+    faults =
+        let quiet : HasFaults log facts = f.faults in
+        record {
+          knows = k ∙ (quiet.knows ∙ sym (known-push log (Acknowledged context total) ∙ append-nil _));
+          acknowledges = λ c. a c ∙ (ap (λ t. cond (eqb context.number c) total t) (quiet.acknowledges c) ∙ sym (acknowledged-push c log (Acknowledged context total)));
+          marks = λ c. ap (λ (xs : List Bool). is_marked (record facts { revoked = xs }) c) r ∙ (quiet.marks c ∙ sym (any-push _ log (Acknowledged context total) ∙ or_false (is_revoked log c)));
+        };
+    communicators = communicators-quiet n log (Acknowledged context total) comms f.communicators (λ b k. refl);
+    outboxes = outboxes-quiet n me log (Acknowledged context total) boxes f.outboxes (λ d. refl);
+  }
+
+  -- a context was revoked for the first time by the rank itself
+  pub follows_revoked : (context : Context) (m' : Matching) (find' : ℕ → Option Request) (facts' : Facts) (boxes' : List Box) → is_revoked log context.number ≡ false → TracksRevocation context.number m find m' find'
+      → ((c : ℕ) → is_marked facts' c ≡ cond (eqb context.number c) true (is_marked facts c)) → facts'.known ≡ facts.known → facts'.acknowledged ≡ facts.acknowledged
+      → AllGrow boxes boxes' (length log) (passed_on me log context) → Follows n me (log ++ Revoked context ∷ []) stopped m' find' facts' comms boxes'
+  follows_revoked context m' find' facts' boxes' first tracks marks k a grows = record {
+    small = f.small;
+    halted = runs_on (Revoked context) refl;
+    in_step = in_step_revoked n log m find f.in_step context first m' find' tracks;
+    faults = faults_revoked log facts facts' (Revoked context) context.number f.faults (λ b k. refl) (λ c k. refl) (λ c. refl) marks k a;
+    communicators = communicators-quiet n log (Revoked context) comms f.communicators (λ b k. refl);
+    outboxes = outboxes-grown n me log (Revoked context) boxes boxes' f.outboxes grows;
+  }
+
+  -- the rank stopped
+  pub follows_stopped : Follows n me (log ++ Stopped ∷ []) true m find facts comms boxes
+  follows_stopped = record {
+    small = f.small;
+    halted = sym (any-push is_stop log Stopped ∙ or_true (is_stopped log));
+    in_step = in_step_quiet n log m find f.in_step Stopped refl (λ k. refl);
+    faults = faults_quiet log facts Stopped f.faults (λ b k. refl) (λ c k. refl) (λ c. refl);
+    communicators = communicators-quiet n log Stopped comms f.communicators (λ b k. refl);
+    outboxes = outboxes-quiet n me log Stopped boxes f.outboxes (λ d. refl);
+  }

@@ -1,0 +1,16 @@
+use Rattle.std.proofs.Common.{◌≡◌, eqb, refl, ap, arith, ◌∙◌}
+use Rattle.std.specs.Prelude.{◌&&◌, not}
+use Rattle.ulfm_base.specs.declared.item.Item.TheVariants.{Revoke}
+use Rattle.ulfm_base.specs.RankSet.{has}
+use Rattle.ulfm_rank.specs.Facts.{is_gone}
+use Rattle.ulfm_rank.specs.Outboxes.{for_each}
+use Rattle.ulfm_rank.specs.Owed.{passed_on}
+use Rattle.ulfm_rank.proofs.Held.{grows_alike}
+use Rattle.ulfm_rank.proofs.forwarding.forward.Goals as goal
+
+pub returns : goal.returns
+returns c = λ log knows first.
+    grows_alike c.args.outboxes.now.boxes c.leave_each.new.self.boxes c.args.place (for_each (has c.told.result) (Revoke c.args.context)) (passed_on c.args.me log c.args.context) (c.leave_each.ensures (Revoke c.args.context))
+    (λ d h.
+    let to : has c.told.result d ≡ (not (eqb c.args.me d) && not (is_gone log d)) = c.told.ensures d (omega (arith, h, (c.leave_each.ensures (Revoke c.args.context)).size, c.requires.small)) ∙ ap (λ b. not (eqb c.args.me d) && not b) (knows d) in
+    rw (to, first) refl)

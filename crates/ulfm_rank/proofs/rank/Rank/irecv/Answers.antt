@@ -1,0 +1,125 @@
+use Rattle.std.proofs.Common.{◌≡◌, ℕ, false, List, [], ◌∷◌, ◌++◌, length, ap, sym, subst, arith, refl, ◌∙◌, Some}
+use Rattle.std.specs.Prelude.{nat_eq}
+use Rattle.std.specs.Map.{lookup}
+use Rattle.std.specs.Option.{is_some}
+use Rattle.indexmap.specs.IndexMap.{get, index_map_len}
+use Rattle.ulfm_base.specs.declared.context.Context.{Context}
+use Rattle.ulfm_base.specs.declared.error.CallError.TheVariants.{Stopped, NoComm, Revoked, BadRank}
+use Rattle.ulfm_base.specs.declared.pattern.Pattern.{Pattern}
+use Rattle.ulfm_match.specs.History.{number}
+use Rattle.ulfm_rank.specs.declared.entry.Entry.{Entry}
+use Rattle.ulfm_rank.specs.declared.entry.Entry.TheVariants.{Posted}
+use Rattle.ulfm_rank.specs.declared.outcome.Request.{Request}
+use Rattle.ulfm_rank.specs.Answer.{IsRequest}
+use Rattle.ulfm_rank.specs.Calls.{IsReceive}
+use Rattle.ulfm_rank.specs.Checks.{lacks, is_outside_if_named, receive_checks, Passes}
+use Rattle.ulfm_rank.specs.Facts.{is_revoked, is_stopped}
+use Rattle.ulfm_rank.specs.History.{history_of}
+use Rattle.ulfm_rank.specs.Inside.{Follows, state_of}
+use Rattle.ulfm_rank.specs.Requests.{Adds}
+use Rattle.ulfm_rank.specs.State.{View, State}
+use Rattle.ulfm_rank.specs.Table.{IsOfGroup}
+use Rattle.ulfm_rank.proofs.InStep.{count_small, posted_request, adds_itself}
+use Rattle.ulfm_rank.proofs.Refusals.{third_passes}
+use Rattle.ulfm_rank.proofs.Whole.{at_most_one, follows_same, follows_posted, one_place, state_grown}
+use Rattle.ulfm_rank.proofs.rank.Rank.irecv.Goals as goal
+use Rattle.ulfm_rank.proofs.rank.Rank.irecv.Goals.{After-push_reserved}
+
+pub invariant_of-self-in_err-reserve-2 : goal.invariant_of-self-in_err-reserve-2
+invariant_of-self-in_err-reserve-2 c =
+    let a = c.self.inside in
+    record {
+      follows =
+          subst (λ (log : List Entry). Follows a.ranks a.me.number log a.stopped a.matcher (get nat_eq c.reserve-2.new.self) a.faults a.communicators a.outboxes.boxes) (sym c.reserve.ensures.items)
+          (follows_same a.ranks a.me.number a.log.items a.stopped a.matcher (get nat_eq a.requests) a.faults a.communicators a.outboxes.boxes c.self.invariant.follows
+          a.matcher (get nat_eq c.reserve-2.new.self) a.outboxes.boxes refl refl refl (λ k. ap (λ (es : List (ℕ × Request)). lookup (nat_eq k) es) c.reserve-2.ensures.entries) refl);
+      places =
+          let same : index_map_len c.reserve-2.new.self ≡ index_map_len a.requests = ap (λ (es : List (ℕ × Request)). length es) c.reserve-2.ensures.entries in
+          omega (arith, c.self.invariant.places, same, c.reserve.ensures.len, c.reserve.ensures.capacity);
+    }
+
+pub invariant_of-self-in_err-prepare : goal.invariant_of-self-in_err-prepare
+invariant_of-self-in_err-prepare c =
+    let a = c.self.inside in
+    record {
+      follows =
+          subst (λ (log : List Entry). Follows a.ranks a.me.number log a.stopped c.prepare.new.self (get nat_eq c.reserve-2.new.self) a.faults a.communicators a.outboxes.boxes) (sym c.reserve.ensures.items)
+          (follows_same a.ranks a.me.number a.log.items a.stopped a.matcher (get nat_eq a.requests) a.faults a.communicators a.outboxes.boxes c.self.invariant.follows
+          c.prepare.new.self (get nat_eq c.reserve-2.new.self) a.outboxes.boxes c.prepare.ensures.waiting c.prepare.ensures.kept c.prepare.ensures.count (λ k. ap (λ (es : List (ℕ × Request)). lookup (nat_eq k) es) c.reserve-2.ensures.entries) refl);
+      places =
+          let same : index_map_len c.reserve-2.new.self ≡ index_map_len a.requests = ap (λ (es : List (ℕ × Request)). length es) c.reserve-2.ensures.entries in
+          omega (arith, c.self.invariant.places, same, c.reserve.ensures.len, c.reserve.ensures.capacity);
+    }
+
+pub admit-outcome-requires-clause-countable : goal.admit-outcome-requires-clause-countable
+admit-outcome-requires-clause-countable c =
+    let a = c.self.inside in
+    let small = count_small a.ranks a.log.items a.matcher (get nat_eq a.requests) c.self.invariant.follows.in_step in
+    omega (arith, small, c.prepare.ensures.count, a.log.small, a.log.ok.0, a.log.ok.1)
+
+module _ (c : After-push_reserved) where
+  abbrev pattern : Pattern
+  pattern = c.in_ok-pattern.pattern
+
+  abbrev request : Request
+  request = record { pattern = pattern; outcome = c.admit-outcome.result.1 }
+
+  ready : Follows c.self.inside.ranks c.self.inside.me.number c.self.inside.log.items c.self.inside.stopped c.prepare.new.self (get nat_eq c.reserve-2.new.self) c.self.inside.faults c.self.inside.communicators c.self.inside.outboxes.boxes
+  ready =
+      let a = c.self.inside in
+      follows_same a.ranks a.me.number a.log.items a.stopped a.matcher (get nat_eq a.requests) a.faults a.communicators a.outboxes.boxes c.self.invariant.follows
+      c.prepare.new.self (get nat_eq c.reserve-2.new.self) a.outboxes.boxes c.prepare.ensures.waiting c.prepare.ensures.kept c.prepare.ensures.count (λ k. ap (λ (es : List (ℕ × Request)). lookup (nat_eq k) es) c.reserve-2.ensures.entries) refl
+
+  receive : IsReceive c.args.self.now.state c.args.comm c.args.source c.args.tag c.args.room pattern
+  receive = c.in_ok-pattern.ensures.asks_for
+
+  unrevoked : is_revoked c.self.inside.log.items pattern.context.number ≡ false
+  unrevoked =
+      let s : State = state_of c.self.inside in
+      let passes : Passes (receive_checks s c.args.comm.context.number c.args.source) = subst (λ (v : View). Passes (receive_checks v.state c.args.comm.context.number c.args.source)) (sym c.self.view_is) c.in_ok-pattern.ensures.accepted in
+      let x = c.args.comm.context.number in
+      ap (λ (d : Context). is_revoked c.self.inside.log.items d.number) receive.context
+      ∙ third_passes (is_stopped s.log) (lacks s x) (is_revoked s.log x) Stopped NoComm Revoked ((is_outside_if_named s x c.args.source, BadRank) ∷ []) passes
+
+  adds : Adds c.prepare.new.self.count request (get nat_eq c.reserve-2.new.self) (get nat_eq c.insert.new.self)
+  adds = subst (λ (k : ℕ). Adds k request (get nat_eq c.reserve-2.new.self) (get nat_eq c.insert.new.self)) c.admit-outcome.ensures.number c.in-Ok.ensures.updates.0
+
+  longer : c.push_reserved.new.self.items ≡ c.self.inside.log.items ++ Posted pattern ∷ []
+  longer = c.push_reserved.ensures.items ∙ ap (λ (log : List Entry). log ++ Posted pattern ∷ []) c.reserve.ensures.items
+
+  done : Follows c.self.inside.ranks c.self.inside.me.number (c.self.inside.log.items ++ Posted pattern ∷ []) c.self.inside.stopped c.admit-outcome.new.matcher (get nat_eq c.insert.new.self) c.self.inside.faults c.self.inside.communicators c.self.inside.outboxes.boxes
+  done =
+      let a = c.self.inside in
+      let of_group : IsOfGroup a.ranks a.log.items pattern = subst (λ (v : View). IsOfGroup v.state.ranks v.state.log pattern) (sym c.self.view_is) c.in_ok-pattern.ensures.of_group in
+      follows_posted a.ranks a.me.number a.log.items a.stopped c.prepare.new.self (get nat_eq c.reserve-2.new.self) a.faults a.communicators a.outboxes.boxes ready pattern of_group c.admit-outcome.result.1 c.admit-outcome.new.matcher (get nat_eq c.insert.new.self) unrevoked
+      (rw (sym c.names_known-gone.ensures) c.admit-outcome.ensures.tracks) adds
+
+pub invariant_of-self-2 : goal.invariant_of-self-2
+invariant_of-self-2 c =
+    let a = c.self.inside in
+    record {
+      follows = subst (λ (log : List Entry). Follows a.ranks a.me.number log a.stopped c.admit-outcome.new.matcher (get nat_eq c.insert.new.self) a.faults a.communicators a.outboxes.boxes) (sym (longer c)) (done c);
+      places =
+          let same : index_map_len c.reserve-2.new.self ≡ index_map_len a.requests = ap (λ (es : List (ℕ × Request)). length es) c.reserve-2.ensures.entries in
+          let one = at_most_one (is_some c.in-Ok.field-0) in
+          let stop = one_place a.stopped in
+          omega (arith, c.in_ok-reserve.ensures.ok, c.push_reserved.ensures.len, c.push_reserved.ensures.capacity, c.in-Ok.ensures.len, one, stop, c.len-places.ensures.len, same, c.reserve.ensures.len);
+    }
+
+pub returns-clause-posts : goal.returns-clause-posts
+returns-clause-posts c =
+    let a = c.self.inside in
+    record {
+      pattern = pattern c;
+      receive = receive c;
+      only = state_grown a.me.number a.ranks a.log.items c.push_reserved.new.self.items a.outboxes.boxes a.outboxes.boxes (Posted (pattern c)) c.args.self.now.state (ap (λ (v : View). v.state) c.self.view_is) (longer c) refl;
+    }
+
+pub returns-clause-request : goal.returns-clause-request
+returns-clause-request c =
+    let a = c.self.inside in
+    let num : number (history_of a.log.items) (length (history_of a.log.items)) ≡ c.admit-outcome.result.0.number = sym (ready c).in_step.tracks.remains.count ∙ sym c.admit-outcome.ensures.number in
+    let there : get nat_eq c.insert.new.self c.admit-outcome.result.0.number ≡ Some (request c) =
+    adds_itself c.admit-outcome.result.0.number (request c) (get nat_eq c.reserve-2.new.self) (get nat_eq c.insert.new.self) (subst (λ (k : ℕ). Adds k (request c) (get nat_eq c.reserve-2.new.self) (get nat_eq c.insert.new.self)) (sym c.admit-outcome.ensures.number) (adds c)) in
+    let posted = posted_request a.log.items (pattern c) c.admit-outcome.result.0.number num ((done c).in_step.table.unreleased c.admit-outcome.result.0.number (request c) there) in
+    (posted.0, pattern c, subst (λ (log : List Entry). IsRequest log c.admit-outcome.result.0.number posted.0 (pattern c)) (sym (longer c)) posted.1)

@@ -1,0 +1,42 @@
+use Rattle.std.proofs.Common.{rules, ◌≡◌, ◌++◌, ◌∷◌, [], eqb, List, length, refl, ap, ◌∙◌, arith, nat_eq}
+use Rattle.indexmap.specs.IndexMap.{get}
+use Rattle.ulfm_base.specs.declared.item.Item.TheVariants.{Letter as Mail}
+use Rattle.ulfm_base.specs.declared.envelope.Letter.{Letter}
+use Rattle.ulfm_rank.specs.declared.entry.Entry.{Entry}
+use Rattle.ulfm_rank.specs.declared.entry.Entry.TheVariants.{Sent}
+use Rattle.ulfm_rank.specs.Outboxes.{for_each}
+use Rattle.ulfm_rank.specs.State.{State, View}
+use Rattle.ulfm_rank.specs.Inside.{state_of}
+use Rattle.ulfm_rank.proofs.Held.{marks-grown}
+use Rattle.ulfm_rank.proofs.Following.{follows_sent}
+use Rattle.ulfm_rank.proofs.Seen.{stop_places_few, state_logged}
+use Rattle.ulfm_rank.proofs.rank.Rank.isend.Goals as goal
+
+pub invariant_of-self-2 : goal.invariant_of-self-2
+invariant_of-self-2 c =
+    let letter : Letter = record { envelope = record { context = c.args.comm.context; source = c.self.inside.me; tag = c.args.tag }; body = c.in_ok-body.body } in
+    let now_log : c.push_reserved.new.self.items ≡ c.self.inside.log.items ++ (Sent c.in_ok-to.to letter) ∷ [] = c.push_reserved.ensures.items ∙ ap (λ (l : List Entry). l ++ (Sent c.in_ok-to.to letter) ∷ []) c.reserve.ensures.items in
+    let place : c.len-2.result ≡ length c.self.inside.log.items = search rules in
+    let grows = rw (place, c.in_ok-reserve-2.ensures.boxes) at (c.leave.ensures (Mail letter)) in
+    record {
+      follows = rw now_log (follows_sent c.self.inside.ranks c.self.inside.me.number c.self.inside.log.items c.self.inside.stopped c.self.inside.matcher (get nat_eq c.self.inside.requests) c.self.inside.faults c.self.inside.communicators c.self.inside.outboxes.boxes c.self.invariant.follows c.in_ok-to.to letter c.leave.new.self.boxes grows);
+      places = omega (arith, c.in_ok-reserve.ensures.ok, c.push_reserved.ensures.len, c.push_reserved.ensures.capacity, c.len.ensures.len, stop_places_few c.self.inside.stopped);
+    }
+
+pub returns-clause-sends : goal.returns-clause-sends
+returns-clause-sends c =
+    let seen : state_of c.self.inside ≡ c.args.self.now.state = ap (λ (v : View). v.state) c.self.view_is in
+    let letter : Letter = record { envelope = record { context = c.args.comm.context; source = c.self.inside.me; tag = c.args.tag }; body = c.in_ok-body.body } in
+    let now_log : c.push_reserved.new.self.items ≡ c.self.inside.log.items ++ (Sent c.in_ok-to.to letter) ∷ [] = c.push_reserved.ensures.items ∙ ap (λ (l : List Entry). l ++ (Sent c.in_ok-to.to letter) ∷ []) c.reserve.ensures.items in
+    let place : c.len-2.result ≡ length c.self.inside.log.items = search rules in
+    let grows = rw (place, c.in_ok-reserve-2.ensures.boxes) at (c.leave.ensures (Mail letter)) in
+    record {
+      to = c.in_ok-to.to;
+      letter = letter;
+      named = c.in_ok-to.ensures.named;
+      context = refl;
+      source = ap (λ (s : State). s.me) seen;
+      has_tag = refl;
+      carries = c.in_ok-body.ensures;
+      only = state_logged c.self.inside.me.number c.self.inside.ranks c.self.inside.log.items c.push_reserved.new.self.items c.self.inside.outboxes.boxes c.leave.new.self.boxes c.args.self.now.state (Sent c.in_ok-to.to letter) seen now_log (marks-grown c.self.inside.outboxes.boxes c.leave.new.self.boxes (length c.self.inside.log.items) (for_each (λ d. eqb c.in_ok-to.to.number d) (Mail letter)) grows);
+    }

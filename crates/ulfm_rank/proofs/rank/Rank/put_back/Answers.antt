@@ -1,0 +1,41 @@
+use Rattle.std.proofs.Common.{◌≡◌, ◌<◌, ◌≤◌, ◌-◌, true, false, List, length, set, refl, ap, sym, ◌∙◌, arith}
+use Rattle.ulfm_rank.specs.Facts.{is_stopped}
+use Rattle.ulfm_rank.specs.Outboxes.{Box, box_at, with_taken, HasOutboxes}
+use Rattle.ulfm_rank.specs.State.{State, View}
+use Rattle.ulfm_rank.specs.Inside.{state_of}
+use Rattle.ulfm_rank.proofs.Seen.{returns_item, returns_notice, outboxes-marked}
+use Rattle.ulfm_rank.proofs.rank.Rank.put_back.Goals as goal
+
+pub returns-then-self-clause-state : goal.returns-then-self-clause-state
+returns-then-self-clause-state c =
+    let seen : state_of c.self.inside ≡ c.args.self.now.state = ap (λ (v : View). v.state) c.self.view_is in
+    let stopped : is_stopped c.self.inside.log.items ≡ true = sym c.self.invariant.follows.halted ∙ c.if-self.true in
+    rw c.set_told.ensures.boxes (returns_notice c.self.inside.me.number c.self.inside.ranks c.self.inside.log.items c.self.inside.outboxes.boxes c.args.self.now.state c.args.dest seen stopped)
+
+pub invariant_of-self-2 : goal.invariant_of-self-2
+invariant_of-self-2 c =
+    let seen : state_of c.self.inside ≡ c.args.self.now.state = ap (λ (v : View). v.state) c.self.view_is in
+    let boxes : List Box = c.self.inside.outboxes.boxes in
+    let held = c.self.invariant.follows.outboxes in
+    let inside : c.args.dest < length boxes = omega (arith, c.requires.inside, held.size, ap (λ (s : State). s.ranks) seen) in
+    let b : Box = box_at boxes c.args.dest in
+    let w : b.taken ≤ length b.places = held.within c.args.dest inside in
+    let marked : HasOutboxes c.self.inside.ranks c.self.inside.me.number c.self.inside.log.items (set boxes c.args.dest (with_taken b (b.taken - 1))) =
+    outboxes-marked c.self.inside.ranks c.self.inside.me.number c.self.inside.log.items boxes c.args.dest (with_taken b (b.taken - 1)) held inside refl (omega (arith, w)) (λ s. held.untold s c.args.dest inside) (λ e. ap (λ k. (box_at boxes k).told) (sym e) ∙ held.self_untold) in
+    record {
+      follows = record {
+        small = c.self.invariant.follows.small;
+        halted = c.self.invariant.follows.halted;
+        in_step = c.self.invariant.follows.in_step;
+        faults = c.self.invariant.follows.faults;
+        communicators = c.self.invariant.follows.communicators;
+        outboxes = rw c.put_back.ensures.boxes marked;
+      };
+      places = c.self.invariant.places;
+    }
+
+pub returns-clause-state : goal.returns-clause-state
+returns-clause-state c =
+    let seen : state_of c.self.inside ≡ c.args.self.now.state = ap (λ (v : View). v.state) c.self.view_is in
+    let running : is_stopped c.self.inside.log.items ≡ false = sym c.self.invariant.follows.halted ∙ c.if-self.false in
+    rw c.put_back.ensures.boxes (returns_item c.self.inside.me.number c.self.inside.ranks c.self.inside.log.items c.self.inside.outboxes.boxes c.args.self.now.state c.args.dest seen running)

@@ -1,0 +1,23 @@
+use Rattle.std.proofs.Common.{subst}
+use Rattle.std.specs.Prelude.{nat_eq}
+use Rattle.indexmap.specs.IndexMap.{get}
+use Rattle.ulfm_base.specs.declared.envelope.Letter.{Letter}
+use Rattle.ulfm_rank.specs.declared.outcome.Outcome.TheVariants.{Paired}
+use Rattle.ulfm_rank.specs.Requests.{changed, Changes}
+use Rattle.ulfm_rank.proofs.Steps.{come_kept, come_paired}
+use Rattle.ulfm_rank.proofs.requests.deliver.Goals as goal
+
+pub returns-in-Kept-clause-tracks : goal.returns-in-Kept-clause-tracks
+returns-in-Kept-clause-tracks c n entries h r o t table =
+    (r, c.in-Kept.ensures.tracks h r o t, come_kept n entries h r t.lawful c.args.letter _ table)
+
+pub returns-in-Paired-clause-tracks : goal.returns-in-Paired-clause-tracks
+returns-in-Paired-clause-tracks c n entries h r o t table =
+    let a = c.in-Paired.ensures.tracks h r o t in
+    let find = get nat_eq c.args.requests.now in
+    let find' = get nat_eq c.set_outcome.new.requests in (
+      _,
+      a.4,
+      come_paired n entries h r t.lawful c.args.letter find table a.0 a.1 c.in-Paired.id.number a.2 a.3 find'
+          (subst (λ (l : Letter). Changes (changed c.in-Paired.id.number (Paired l)) find find') c.in-Paired.ensures.letter c.set_outcome.ensures.change),
+    )

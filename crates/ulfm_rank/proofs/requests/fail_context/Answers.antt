@@ -1,0 +1,39 @@
+use Rattle.std.proofs.Common.{◌≡◌, ℕ, suc, ◌+◌, List, length, ap, sym, ◌∙◌, subst, arith}
+use Rattle.std.specs.Prelude.{slice_get, map, nat_eq}
+use Rattle.std.specs.Map.{lookup}
+use Rattle.indexmap.specs.IndexMap.{IndexMap, set_value_at}
+use Rattle.std.specs.declared.hash.FoldHasher.{FoldHasher}
+use Rattle.std.specs.declared.hash.BuildHasherDefault.{BuildHasherDefault}
+use Rattle.ulfm_rank.specs.declared.outcome.Request.{Request}
+use Rattle.ulfm_rank.specs.Requests.{over_context}
+use Rattle.ulfm_rank.proofs.Mapped.{changed_below, changed_more, changed_all, changed_length}
+use Rattle.ulfm_rank.proofs.requests.fail_context.Goals as goal
+use Rattle.ulfm_rank.proofs.requests.fail_context.Goals.{in-Some, in_default}
+
+pub loop-i-preserved : goal.loop-i-preserved
+loop-i-preserved c =
+    let es = c.args.requests.now.entries in
+    let i = c.loop-i.i in
+    let f = over_context c.args.context.number in
+    let P : IndexMap ℕ Request (BuildHasherDefault FoldHasher) → Type 0 = λ m. m.entries ≡ changed_below f (i + 1) es in
+    let inv = c.loop-i.invariant in
+    let more : suc i ≡ i + 1 = omega arith in
+    elim c.match-get_index_mut.branch [
+      | in-Some w ↦
+          subst P (sym w.requests-is)
+          (ap (λ (xs : List (ℕ × Request)). set_value_at xs i w.over_context.result) inv
+          ∙ (ap (λ (v : Request). set_value_at (changed_below f i es) i v) w.over_context.ensures
+          ∙ (changed_more f i es w.in-Some.request.now (ap (λ (xs : List (ℕ × Request)). slice_get (map (λ (e : ℕ × Request). e.1) xs) i) (sym inv) ∙ sym w.in-Some.ensures.value)
+          ∙ ap (λ (n : ℕ). changed_below f n es) more)))
+      | in_default w ↦
+          let long : length c.loop-i.requests.entries ≡ length es = ap (λ (xs : List (ℕ × Request)). length xs) inv ∙ changed_length f i es in
+          absurd (let some = w.in_default.ensures.found.1 (omega (arith, long, c.len-i-end.ensures.len, c.loop-i-test.true)) in cc)
+    ]
+
+pub returns-clause-change : goal.returns-clause-change
+returns-clause-change c k =
+    ap (λ (xs : List (ℕ × Request)). lookup (nat_eq k) xs) c.loop-i.invariant
+    ∙ changed_all (over_context c.args.context.number) c.loop-i.i c.args.requests.now.entries (omega (arith, c.len-i-end.ensures.len, c.loop-i-test.false)) k
+
+pub returns-clause-len : goal.returns-clause-len
+returns-clause-len c = ap (λ (xs : List (ℕ × Request)). length xs) c.loop-i.invariant ∙ changed_length (over_context c.args.context.number) c.loop-i.i c.args.requests.now.entries

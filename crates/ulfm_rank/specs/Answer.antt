@@ -1,0 +1,80 @@
+-- What a test of a request answers.
+use Rattle.std.specs.Prelude.{◌≡◌, ℕ, Bool, true, false, ◌<◌, ◌≤◌, List, length, not, ◌&&◌, nat_lt, Some, slice_get}
+use Rattle.ulfm_base.specs.declared.envelope.Letter.{Letter}
+use Rattle.ulfm_base.specs.declared.pattern.Pattern.{Pattern}
+use Rattle.ulfm_base.specs.Pattern.{is_any}
+use Rattle.ulfm_base.specs.declared.error.CallError.{CallError}
+use Rattle.ulfm_base.specs.declared.error.CallError.TheVariants.{ProcFailed, Revoked, Truncated}
+use Rattle.ulfm_base.specs.Group.{rank_in}
+use Rattle.ulfm_match.specs.History.{Event, End, Clear, PostAt, ComeAt, StandsBetween, number}
+use Rattle.ulfm_match.specs.Pairing.{Pairing, Pairs, LawfulPairing}
+use Rattle.ulfm_rank.specs.declared.entry.Entry.{Entry}
+use Rattle.ulfm_rank.specs.declared.entry.TestAnswer.{TestAnswer}
+use Rattle.ulfm_rank.specs.declared.entry.TestAnswer.TheVariants.{Done, Over, Pending, NotYet}
+use Rattle.ulfm_rank.specs.Facts.{is_revoked, is_released, acknowledged_of, known_in}
+use Rattle.ulfm_rank.specs.History.{history_of}
+use Rattle.ulfm_rank.specs.Communicators.{members_of}
+
+-- an unpaired receive of this source pends: of any source, on a context that isn't revoked, of which more failures
+-- are known than acknowledged
+abbrev pub pends : ℕ → List Entry → Pattern → Bool
+pends n log pattern =
+    is_any pattern.source && (not (is_revoked log pattern.context.number) && nat_lt (acknowledged_of log pattern.context.number) (length (known_in (members_of n log pattern.context.number) log)))
+
+-- the receive at place i got this letter
+pub record Got (history : List Event) (pairing : Pairing) (i : ℕ) (letter : Letter) : Type 0 where
+  pub place : ℕ
+  pub pairs : Pairs pairing i place
+  pub came : ComeAt history place letter
+
+-- the receive at place i got none
+abbrev pub IsUnpaired : Pairing → ℕ → Type 0
+IsUnpaired pairing i = (b : ℕ) → Pairs pairing i b → ⊥
+
+-- after place i the first of the two events stands, and the second doesn't stand before it
+pub record StandsFirst (history : List Event) (i : ℕ) (event other : Event) : Type 0 where
+  pub place : ℕ
+  pub after : i < place
+  pub is : slice_get history place ≡ Some event
+  pub first : StandsBetween history other i place → ⊥
+
+-- a receive of this pattern at place i didn't end
+pub record IsOpenReceive (history : List Event) (i : ℕ) (pattern : Pattern) : Type 0 where
+  pub not_ended : StandsBetween history (End i) i (length history) → ⊥
+  pub not_cleared : StandsBetween history (Clear pattern.context.number) i (length history) → ⊥
+
+-- why the receive at place i is over
+abbrev pub IsOver : List Event → Pairing → ℕ → Pattern → CallError → Type 0
+IsOver history pairing i pattern ProcFailed = IsUnpaired pairing i × StandsFirst history i (End i) (Clear pattern.context.number)
+IsOver history pairing i pattern Revoked = IsUnpaired pairing i × StandsFirst history i (Clear pattern.context.number) (End i)
+IsOver history pairing i pattern Truncated = (letter : Letter) × Got history pairing i letter × (pattern.room < length letter.body)
+IsOver history pairing i pattern _ = ⊥
+
+-- the answer for the receive of this pattern at place i, by this pairing of the log's history
+abbrev pub AnswersBy : ℕ → List Entry → Pairing → ℕ → Pattern → TestAnswer → Type 0
+AnswersBy n log pairing i pattern (Done status body) =
+    (letter : Letter) × Got (history_of log) pairing i letter × (length letter.body ≤ pattern.room)
+    × (rank_in (members_of n log pattern.context.number) letter.envelope.source.number ≡ Some status.source) × (status.tag ≡ letter.envelope.tag) × (status.length ≡ length letter.body) × (body ≡ letter.body)
+AnswersBy n log pairing i pattern (Over reason) = IsOver (history_of log) pairing i pattern reason
+AnswersBy n log pairing i pattern Pending = IsUnpaired pairing i × IsOpenReceive (history_of log) i pattern × (pends n log pattern ≡ true)
+AnswersBy n log pairing i pattern NotYet = IsUnpaired pairing i × IsOpenReceive (history_of log) i pattern × (pends n log pattern ≡ false)
+
+-- the receive at place i has this pattern and number, and isn't released
+pub record IsRequest (log : List Entry) (id i : ℕ) (pattern : Pattern) : Type 0 where
+  pub posted : PostAt (history_of log) i pattern
+  pub numbered : number (history_of log) i ≡ id
+  pub unreleased : is_released log id ≡ false
+
+-- Each lawful pairing of the log's history gives this answer to the request.
+abbrev pub IsTestAnswer : ℕ → List Entry → ℕ → TestAnswer → Type 0
+IsTestAnswer n log id answer = (i : ℕ) (pattern : Pattern) → IsRequest log id i pattern → (pairing : Pairing) → LawfulPairing (history_of log) pairing → AnswersBy n log pairing i pattern answer
+
+-- the answer releases the request
+abbrev pub is_release : TestAnswer → Bool
+is_release (Done status body) = true
+is_release (Over reason) = true
+is_release _ = false
+
+-- no receive has this number, or it is released
+abbrev pub IsNoRequest : List Entry → ℕ → Type 0
+IsNoRequest log id = (i : ℕ) (pattern : Pattern) → IsRequest log id i pattern → ⊥

@@ -1,0 +1,84 @@
+-- Why a call is refused: what is checked, in the order of the checks. Want of memory comes last.
+use Rattle.std.specs.Prelude.{◌≡◌, ℕ, Bool, true, false, List, [], ◌∷◌, length, not, ◌||◌, ◌⊎◌, nat_le, nat_lt, Option, Some, None, slice_get, if◌then◌else◌}
+use Rattle.ulfm_base.specs.declared.error.CallError.{CallError}
+use Rattle.ulfm_base.specs.declared.error.CallError.TheVariants.{NoComm, BadRank, TooLong, ProcFailed, Revoked, NoRequest, AlreadyMade, NoContext, Stopped, NotEntered, OutOfMemory, BadSize}
+use Rattle.ulfm_base.specs.Context.{dup_of, shrink_of}
+use Rattle.ulfm_rank.specs.declared.entry.Entry.{Entry}
+use Rattle.ulfm_rank.specs.Answer.{IsNoRequest}
+use Rattle.ulfm_rank.specs.Facts.{is_gone, is_revoked, is_stopped}
+use Rattle.ulfm_rank.specs.Communicators.{is_made, members_of}
+use Rattle.ulfm_rank.specs.Shrink.{has_entered}
+use Rattle.ulfm_rank.specs.State.{State}
+
+-- whether a check refuses, and with which error
+abbrev pub Check : Type 0
+Check = Bool × CallError
+
+-- the error of the first check that refuses
+abbrev pub first_refusal : List Check → Option CallError
+first_refusal [] = None
+first_refusal (check ∷ checks) = if check.0 then Some check.1 else first_refusal checks
+
+-- no check refuses
+abbrev pub Passes : List Check → Type 0
+Passes checks = first_refusal checks ≡ None
+
+-- this is the error of the first check that refuses
+abbrev pub Fails : List Check → CallError → Type 0
+Fails checks e = first_refusal checks ≡ Some e
+
+-- the same for a call that takes memory: where no check refuses, memory ran out
+abbrev pub FailsOrStarves : List Check → CallError → Type 0
+FailsOrStarves checks e = Fails checks e ⊎ (Passes checks × (e ≡ OutOfMemory))
+
+-- the members of the communicator c at this rank
+abbrev pub group_at : State → ℕ → List ℕ
+group_at r c = members_of r.ranks r.log c
+
+abbrev pub lacks : State → ℕ → Bool
+lacks r c = not (is_made r.ranks r.log c)
+
+-- the communicator has no member at this position
+abbrev pub is_outside : State → ℕ → ℕ → Bool
+is_outside r c position = nat_le (length (group_at r c)) position
+
+abbrev pub is_outside_if_named : State → ℕ → Option ℕ → Bool
+is_outside_if_named r c None = false
+is_outside_if_named r c (Some position) = is_outside r c position
+
+abbrev pub is_gone_if_member : State → Option ℕ → Bool
+is_gone_if_member r None = false
+is_gone_if_member r (Some member) = is_gone r.log member
+
+-- the member at this position is known to have failed
+abbrev pub is_gone_at : State → ℕ → ℕ → Bool
+is_gone_at r c position = is_gone_if_member r (slice_get (group_at r c) position)
+
+-- of the start of the rank `me` of n
+abbrev pub start_checks : ℕ → ℕ → List Check
+start_checks me n = (nat_lt n 1 || nat_lt 8 n, BadSize) ∷ (nat_le n me, BadRank) ∷ []
+
+-- of every call that names a communicator
+abbrev pub comm_checks : State → ℕ → List Check → List Check
+comm_checks r c more = (is_stopped r.log, Stopped) ∷ (lacks r c, NoComm) ∷ more
+
+abbrev pub send_checks : State → ℕ → ℕ → ℕ → List Check
+send_checks r c dest size = comm_checks r c ((is_revoked r.log c, Revoked) ∷ (is_outside r c dest, BadRank) ∷ (nat_lt 1024 size, TooLong) ∷ (is_gone_at r c dest, ProcFailed) ∷ [])
+
+abbrev pub receive_checks : State → ℕ → Option ℕ → List Check
+receive_checks r c source = comm_checks r c ((is_revoked r.log c, Revoked) ∷ (is_outside_if_named r c source, BadRank) ∷ [])
+
+abbrev pub dup_checks : State → ℕ → List Check
+dup_checks r c = comm_checks r c ((is_revoked r.log c, Revoked) ∷ (is_made r.ranks r.log (dup_of c), AlreadyMade) ∷ (nat_le 63 (dup_of c), NoContext) ∷ [])
+
+abbrev pub shrink_checks : State → ℕ → List Check
+shrink_checks r c = comm_checks r c ((has_entered r.log c, AlreadyMade) ∷ (nat_le 63 (shrink_of c), NoContext) ∷ [])
+
+abbrev pub proposal_checks : State → ℕ → List Check
+proposal_checks r c = comm_checks r c ((not (has_entered r.log c), NotEntered) ∷ [])
+
+-- why a test of the request of this number is refused
+abbrev pub IsTestRefusal : List Entry → ℕ → CallError → Type 0
+IsTestRefusal log id Stopped = is_stopped log ≡ true
+IsTestRefusal log id NoRequest = (is_stopped log ≡ false) × IsNoRequest log id
+IsTestRefusal log id _ = ⊥

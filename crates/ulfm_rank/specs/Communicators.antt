@@ -1,0 +1,57 @@
+-- The communicators that a log made, with their groups.
+use Rattle.std.specs.Prelude.{◌≡◌, ℕ, Bool, List, [], ◌∷◌, ◌==◌, ◌<◌, Option, Some, None, is_some, All, if◌then◌else◌}
+use Rattle.ulfm_base.specs.declared.context.Context.{Context}
+use Rattle.ulfm_base.specs.Context.{dup_of, shrink_of}
+use Rattle.ulfm_base.specs.Group.{numbers_from}
+use Rattle.ulfm_rank.specs.declared.entry.Entry.{Entry}
+use Rattle.ulfm_rank.specs.declared.entry.Entry.TheVariants.{Duplicated, Adopted}
+use Rattle.ulfm_rank.specs.Log.{gathered}
+
+-- the group that stands under a context
+abbrev pub find_group : ℕ → List (ℕ × List ℕ) → Option (List ℕ)
+find_group c [] = None
+find_group c (comm ∷ comms) = if comm.0 == c then Some comm.1 else find_group c comms
+
+-- the communicator with the group of c, under another context
+abbrev pub copy_of : ℕ → ℕ → List (ℕ × List ℕ) → List (ℕ × List ℕ)
+copy_of c d [] = []
+copy_of c d (comm ∷ comms) = if comm.0 == c then (d, comm.1) ∷ [] else copy_of c d comms
+
+-- the communicator that an entry makes: a duplicate with its parent's group, or the new group of a shrink
+abbrev pub made_by : List Entry → List (ℕ × List ℕ) → Entry → List (ℕ × List ℕ)
+made_by before comms (Duplicated context) = copy_of context.number (dup_of context.number) comms
+made_by before comms (Adopted decision) = (shrink_of decision.context.number, decision.fresh) ∷ []
+made_by before comms _ = []
+
+-- the communicators at a rank of n with their groups, in the order in which they were made: the world's is the first
+abbrev pub comms_of : ℕ → List Entry → List (ℕ × List ℕ)
+comms_of n log = gathered ((0, numbers_from 0 n) ∷ []) made_by log
+
+-- the group of a context, if its communicator was made
+abbrev pub group_of : ℕ → List Entry → ℕ → Option (List ℕ)
+group_of n log c = find_group c (comms_of n log)
+
+-- the communicator of a context was made
+abbrev pub is_made : ℕ → List Entry → ℕ → Bool
+is_made n log c = is_some (group_of n log c)
+
+abbrev pub or_empty : Option (List ℕ) → List ℕ
+or_empty None = []
+or_empty (Some group) = group
+
+-- the members of a context whose communicator was made
+abbrev pub members_of : ℕ → List Entry → ℕ → List ℕ
+members_of n log c = or_empty (group_of n log c)
+
+-- a context by its number, with its group
+abbrev pub numbered : Context × List ℕ → ℕ × List ℕ
+numbered comm = (comm.0.number, comm.1)
+
+-- each member of these communicators is a rank of the world
+abbrev pub AreOfWorld : ℕ → List (ℕ × List ℕ) → Type 0
+AreOfWorld n comms = All (λ (comm : ℕ × List ℕ). All (λ r. r < n) comm.1) comms
+
+-- the communicators of a rank of n are those that its log made
+pub record HasCommunicators (n : ℕ) (log : List Entry) (comms : List (ℕ × List ℕ)) : Type 0 where
+  pub made : comms ≡ comms_of n log
+  pub of_world : AreOfWorld n comms

@@ -1,0 +1,58 @@
+-- The history of posts, arrivals, ends and clears that a log tells.
+use Rattle.std.specs.Prelude.{ℕ, suc, Bool, false, List, [], ◌∷◌, ◌++◌, length, if◌then◌else◌}
+use Rattle.ulfm_base.specs.declared.item.Item.{Item}
+use Rattle.ulfm_base.specs.declared.item.Item.TheVariants.{Letter as Mail, Gone, Revoke, Enter}
+use Rattle.ulfm_base.specs.declared.pattern.Source.{Source}
+use Rattle.ulfm_base.specs.declared.pattern.Source.TheVariants.{One, Any}
+use Rattle.ulfm_base.specs.declared.pattern.Pattern.{Pattern}
+use Rattle.ulfm_base.specs.Pattern.{names}
+use Rattle.ulfm_match.specs.History.{Event, Post, Come, End, Clear}
+use Rattle.ulfm_rank.specs.declared.entry.Entry.{Entry}
+use Rattle.ulfm_rank.specs.declared.entry.Entry.TheVariants.{Posted, Revoked, Took}
+use Rattle.ulfm_rank.specs.Log.{gathered}
+use Rattle.ulfm_rank.specs.Facts.{is_gone, is_revoked}
+
+-- the source names a rank that is known to have failed
+abbrev pub names_gone : List Entry → Source → Bool
+names_gone log (One rank) = is_gone log rank.number
+names_gone log (Any members) = false
+
+-- an end of the receive at place k, where it names s
+abbrev pub end_at : ℕ → ℕ → Event → List Event
+end_at s k (Post pattern) = if names pattern.source s then End k ∷ [] else []
+end_at s k _ = []
+
+-- an end of each receive that names s; the first event here stands at place k
+abbrev pub ends_from : ℕ → ℕ → List Event → List Event
+ends_from s k [] = []
+ends_from s k (event ∷ history) = end_at s k event ++ ends_from s (suc k) history
+
+-- an end of each receive posted so far that names s
+abbrev pub ends_of : ℕ → List Event → List Event
+ends_of s history = ends_from s 0 history
+
+-- the first revocation of a context clears it
+abbrev pub cleared : List Entry → ℕ → List Event
+cleared before c = if is_revoked before c then [] else Clear c ∷ []
+
+-- what an item that is taken from s gives
+abbrev pub item_events : List Entry → List Event → ℕ → Item → List Event
+item_events before history s (Mail letter) = if is_revoked before letter.envelope.context.number then [] else Come letter ∷ []
+item_events before history s Gone = ends_of s history
+item_events before history s (Revoke context) = cleared before context.number
+item_events before history s (Enter context known) = []
+
+-- what a post gives: the receive ends at once where it names a rank that is known to have failed
+abbrev pub post_events : List Entry → List Event → Pattern → List Event
+post_events before history pattern = Post pattern ∷ (if names_gone before pattern.source then End (length history) ∷ [] else [])
+
+-- what an entry gives, after the entries before it and their history
+abbrev pub events_by : List Entry → List Event → Entry → List Event
+events_by before history (Posted pattern) = post_events before history pattern
+events_by before history (Revoked context) = cleared before context.number
+events_by before history (Took from item) = item_events before history from.number item
+events_by before history _ = []
+
+-- the history of a log, read off entry by entry
+abbrev pub history_of : List Entry → List Event
+history_of log = gathered [] events_by log

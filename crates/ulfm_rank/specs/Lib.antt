@@ -1,0 +1,15 @@
+pub mod Log
+pub mod Facts
+pub mod History
+pub mod Communicators
+pub mod Owed
+pub mod Shrink
+pub mod Answer
+pub mod State
+pub mod Checks
+pub mod Calls
+pub mod Outboxes
+pub mod Table
+pub mod Requests
+pub mod Fields
+pub mod Inside

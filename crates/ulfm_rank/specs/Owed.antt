@@ -1,0 +1,40 @@
+-- What a log owes to each rank.
+use Rattle.std.specs.Prelude.{ℕ, Bool, List, [], ◌∷◌, ◌==◌, not, ◌&&◌, if◌then◌else◌}
+use Rattle.ulfm_base.specs.declared.rank_set.RankSet.{RankSet}
+use Rattle.ulfm_base.specs.declared.context.Context.{Context}
+use Rattle.ulfm_base.specs.declared.item.Item.{Item}
+use Rattle.ulfm_base.specs.declared.item.Item.TheVariants.{Letter as Mail, Revoke, Enter}
+use Rattle.ulfm_base.specs.Group.{is_member}
+use Rattle.ulfm_rank.specs.declared.entry.Entry.{Entry}
+use Rattle.ulfm_rank.specs.declared.entry.Entry.TheVariants.{Sent, Revoked, Entered, Took}
+use Rattle.ulfm_rank.specs.Log.{gathered}
+use Rattle.ulfm_rank.specs.Facts.{is_gone, is_revoked}
+use Rattle.ulfm_rank.specs.Communicators.{members_of}
+
+-- d is another rank, and isn't known to have failed
+abbrev pub is_told : ℕ → List Entry → ℕ → Bool
+is_told me before d = not (me == d) && not (is_gone before d)
+
+-- the first revocation of a context is passed on
+abbrev pub passed_on : ℕ → List Entry → Context → ℕ → List Item
+passed_on me before context d = if is_revoked before context.number then [] else (if is_told me before d then Revoke context ∷ [] else [])
+
+abbrev pub owed_by_item : ℕ → List Entry → ℕ → Item → List Item
+owed_by_item me before d (Revoke context) = passed_on me before context d
+owed_by_item me before d _ = []
+
+-- an entry into a shrink is told to the other members
+abbrev pub entry_told : ℕ → ℕ → List Entry → Context → RankSet → ℕ → List Item
+entry_told n me before context known d = if is_member (members_of n before context.number) d && is_told me before d then Enter context known ∷ [] else []
+
+-- what an entry owes to d, after the entries before it
+abbrev pub owed_by : ℕ → ℕ → ℕ → List Entry → List Item → Entry → List Item
+owed_by n me d before owed (Sent to letter) = if to.number == d then Mail letter ∷ [] else []
+owed_by n me d before owed (Revoked context) = passed_on me before context d
+owed_by n me d before owed (Entered context known) = entry_told n me before context known d
+owed_by n me d before owed (Took from item) = owed_by_item me before d item
+owed_by n me d before owed _ = []
+
+-- what the log of the rank `me` of n owes to d, in order
+abbrev pub owed : ℕ → ℕ → List Entry → ℕ → List Item
+owed n me log d = gathered [] (owed_by n me d) log

@@ -1,0 +1,98 @@
+-- What contracts see of a rank: its log, and what left each of its outboxes.
+use Rattle.std.specs.Prelude.{◌≡◌, ℕ, Bool, true, false, List, [], ◌∷◌, ◌++◌, ◌+◌, ◌-◌, ◌==◌, ◌<◌, ◌≤◌, if◌then◌else◌, take, drop, length, slice_index_or, slice_set, replicate}
+use Rattle.ulfm_base.specs.declared.item.Item.{Item}
+use Rattle.ulfm_base.specs.declared.item.Item.TheVariants.{Gone}
+use Rattle.ulfm_rank.specs.declared.entry.Entry.{Entry}
+use Rattle.ulfm_rank.specs.Facts.{is_stopped}
+use Rattle.ulfm_rank.specs.Owed.{owed}
+
+-- how many owed items left one outbox, and whether the notice of the stop did
+pub record Mark : Type 0 where
+  pub taken : ℕ
+  pub told : Bool
+
+abbrev pub no_mark : Mark
+no_mark = record { taken = 0; told = false }
+
+-- a rank by its number, the number of ranks, its log, and a mark for each outbox
+pub record State : Type 0 where
+  pub me : ℕ
+  pub ranks : ℕ
+  pub log : List Entry
+  pub marks : List Mark
+
+-- a rank, and whether there is room for one `take`, of which 'unchanged' doesn't speak
+pub record View : Type 0 where
+  pub state : State
+  pub prepared : Bool
+
+-- the rank that starts
+abbrev pub start_state : ℕ → ℕ → State
+start_state me n = record { me = me; ranks = n; log = []; marks = replicate n no_mark }
+
+-- the log with one more entry
+abbrev pub logged : State → Entry → State
+logged r e = record { me = r.me; ranks = r.ranks; log = r.log ++ e ∷ []; marks = r.marks }
+
+abbrev pub with_marks : State → List Mark → State
+with_marks r marks = record { me = r.me; ranks = r.ranks; log = r.log; marks = marks }
+
+abbrev pub mark_at : State → ℕ → Mark
+mark_at r d = slice_index_or r.marks d no_mark
+
+-- what the rank owes to d
+abbrev pub owes : State → ℕ → List Item
+owes r d = owed r.ranks r.me r.log d
+
+abbrev pub notice : Bool → List Item
+notice told = if told then Gone ∷ [] else []
+
+-- what left the outbox towards d
+abbrev pub gone_out : State → ℕ → List Item
+gone_out r d = take (mark_at r d).taken (owes r d) ++ notice (mark_at r d).told
+
+-- what the outbox towards d holds: what is owed and didn't leave it, or after a stop the notice, which isn't for itself
+abbrev pub outbox : State → ℕ → List Item
+outbox r d =
+    if is_stopped r.log
+    then (if r.me == d then [] else (if (mark_at r d).told then [] else Gone ∷ []))
+    else drop (mark_at r d).taken (owes r d)
+
+-- the mark after the first item left the outbox
+abbrev pub marked : State → Mark → Mark
+marked r m = if is_stopped r.log then record { taken = m.taken; told = true } else record { taken = m.taken + 1; told = m.told }
+
+-- the mark before the item that left last
+abbrev pub unmarked : State → Mark → Mark
+unmarked r m = if is_stopped r.log then record { taken = m.taken; told = false } else record { taken = m.taken - 1; told = m.told }
+
+-- the rank after the first item left the outbox towards d
+abbrev pub taken_out : State → ℕ → State
+taken_out r d = with_marks r (slice_set r.marks d (marked r (mark_at r d)))
+
+-- the rank with the last item back in the outbox towards d
+abbrev pub returned : State → ℕ → State
+returned r d = with_marks r (slice_set r.marks d (unmarked r (mark_at r d)))
+
+-- what holds of every rank
+pub record IsState (r : State) : Type 0 where
+  pub small : r.ranks ≤ 8
+  pub me : r.me < r.ranks
+  pub sized : length r.marks ≡ r.ranks
+  pub within : (d : ℕ) → d < r.ranks → (mark_at r d).taken ≤ length (owes r d)
+  pub untold : is_stopped r.log ≡ false → (d : ℕ) → d < r.ranks → (mark_at r d).told ≡ false
+  pub self_untold : (mark_at r r.me).told ≡ false
+
+-- the last item that left the outbox towards d is this one, and it may come back
+pub record MayReturn (r : State) (d : ℕ) (item : Item) : Type 0 where
+  pub front : outbox (returned r d) d ≡ item ∷ outbox r d
+  pub again : taken_out (returned r d) d ≡ r
+
+-- from old to new this item left the outbox towards d, and may come back
+pub record Leaves (old new : State) (d : ℕ) (item : Item) : Type 0 where
+  pub marked : new ≡ taken_out old d
+  pub front : outbox old d ≡ item ∷ outbox new d
+  pub may_return : MayReturn new d item
+  pub comes_back : returned new d ≡ old
+  pub out : gone_out new d ≡ gone_out old d ++ item ∷ []
+  pub keeps : IsState old → IsState new

@@ -1,0 +1,69 @@
+//! What a test of a request answers.
+ghost use Rattle.std.specs.Prelude.{◌≡◌, IsSome};
+ghost use Rattle.ulfm_base.specs.Group.{rank_in};
+ghost use Rattle.ulfm_rank.specs.Answer.{is_release};
+ghost use Rattle.ulfm_rank.specs.Communicators.{find_group, or_empty};
+ghost use Rattle.ulfm_rank.specs.Fields.{pends_by};
+ghost use Rattle.ulfm_rank.specs.Table.{IsDelivered, GivesAnswer, HasSender};
+
+use crate::communicators::Communicators;
+use crate::entry::{Status, TestAnswer};
+use crate::knowing::pends;
+use crate::outcome::{Outcome, Request};
+use ulfm_base::{CallError, Group, Letter, Pattern};
+use ulfm_fault::Faults;
+
+/// The answer for a receive of this pattern that got a letter, whose sender is a member of the group.
+fn delivered(pattern: &Pattern, letter: Letter, group: &Group) -> TestAnswer
+    requires { IsSome (rank_in group.now letter.envelope.source.number) }
+    ensures { IsDelivered group.now pattern.now letter result }
+{
+    if letter.body.len() > pattern.room as usize {
+        return TestAnswer::Over(CallError::Truncated);
+    }
+    let status = Status {
+        source: group.rank_of(letter.envelope.source).unwrap(),
+        tag: letter.envelope.tag,
+        length: letter.body.len(),
+    };
+    TestAnswer::Done(status, letter.body)
+}
+
+/// The answer for a request of a communicator of this group. `pending` says whether it pends while it waits.
+pub(crate) fn answer_of(request: &Request, group: &Group, pending: bool) -> TestAnswer
+    requires { HasSender group.now request.now.outcome }
+    ensures { GivesAnswer group.now pending request.now.pattern request.now.outcome result }
+{
+    match request.outcome {
+        Outcome::Waiting => {
+            if pending {
+                return TestAnswer::Pending;
+            }
+            TestAnswer::NotYet
+        }
+        Outcome::Paired(letter) => delivered(&request.pattern, letter, group),
+        Outcome::Failed => TestAnswer::Over(CallError::ProcFailed),
+        Outcome::Cleared => TestAnswer::Over(CallError::Revoked),
+    }
+}
+
+/// The answer for a request, whose communicator was made.
+pub(crate) fn answer_in(
+    communicators: &Communicators,
+    faults: &Faults,
+    request: &Request,
+) -> TestAnswer
+    requires made { IsSome (find_group request.now.pattern.context.number communicators.now) }
+    requires sender { HasSender (or_empty (find_group request.now.pattern.context.number communicators.now)) request.now.outcome }
+    ensures { let group = or_empty (find_group request.now.pattern.context.number communicators.now) in GivesAnswer group (pends_by faults.now group request.now.pattern) request.now.pattern request.now.outcome result }
+{
+    let group = communicators.group_of(request.pattern.context).unwrap();
+    answer_of(request, group, pends(faults, group, &request.pattern))
+}
+
+/// Whether an answer releases its request.
+pub(crate) fn is_release(answer: &TestAnswer) -> bool
+    ensures { result ≡ is_release answer.now }
+{
+    matches!(answer, TestAnswer::Done(_, _) | TestAnswer::Over(_))
+}

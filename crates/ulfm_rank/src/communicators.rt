@@ -1,0 +1,77 @@
+//! The communicators of one rank (MPI 4.0, 7.4).
+ghost use Rattle.std.specs.Prelude.{◌≡◌, ◌++◌, ◌∷◌, [], Some, None, is_some, IfOk, OnOk, OnErr, MatchOption};
+ghost use Rattle.ulfm_rank.specs.Communicators.{find_group};
+
+use std::alloc::Global;
+use std::marker::Model;
+use ulfm_base::{Context, Group, OutOfMemory};
+
+/// Each communicator's context with its group, in the order in which they were made.
+#[derive(Drop)]
+pub struct Communicators {
+    made: Vec<(Context, Group)>,
+}
+
+impl Model for Communicators {
+    ghost use Rattle.std.specs.Prelude.{ℕ, List, map};
+    ghost use Rattle.ulfm_rank.specs.Communicators.{numbered};
+
+    ghost Value = { List (ℕ × List ℕ) };
+
+    ghost view = { λ c. map numbered c.made.items };
+}
+
+impl Communicators {
+    /// The communicator of the world alone, with this group.
+    ///
+    /// # Errors
+    ///
+    /// `OutOfMemory` where the list finds no room.
+    pub fn new(alloc: Global, world: Group) -> Result<Communicators, OutOfMemory>
+        ensures { IfOk result (λ communicators. communicators ≡ (0, world) ∷ []) }
+    {
+        let mut communicators = Communicators {
+            made: Vec::new(alloc),
+        };
+        communicators.add(Context::WORLD, world)?;
+        Ok(communicators)
+    }
+
+    /// Adds the communicator of a context.
+    ///
+    /// # Errors
+    ///
+    /// `OutOfMemory` where the list finds no room. Then nothing changed.
+    pub fn add(&mut self, context: Context, group: Group) -> Result<(), OutOfMemory>
+        ensures added { OnOk result (self.new ≡ self.old ++ (context.number, group) ∷ []) }
+        ensures unchanged { OnErr result (self.new ≡ self.old) }
+    {
+        self.made.push((context, group))?;
+        Ok(())
+    }
+
+    /// The group of a context's communicator, where it was made.
+    pub fn group_of(&self, context: Context) -> Option<&Group>
+        ensures { MatchOption result (find_group context.number self.now ≡ None) (λ group. find_group context.number self.now ≡ Some group.now) }
+    {
+        self.find(context.number)
+    }
+
+    /// Whether the communicator of the context of this number was made.
+    pub fn is_made(&self, number: u8) -> bool
+        ensures { result ≡ is_some (find_group number self.now) }
+    {
+        self.find(number).is_some()
+    }
+
+    fn find(&self, number: u8) -> Option<&Group>
+        ensures { MatchOption result (find_group number self.now ≡ None) (λ group. find_group number self.now ≡ Some group.now) }
+    {
+        for (context, group) in &self.made {
+            if context.number == number {
+                return Some(group);
+            }
+        }
+        None
+    }
+}

@@ -1,0 +1,60 @@
+//! What a rank writes into its log, and what its calls answer.
+
+use ulfm_base::{
+    Body, CallError, Context, Decision, Item, Letter, Pattern, RankSet, Tag, WorldRank,
+};
+use ulfm_match::RequestId;
+
+/// Names a communicator by its context.
+#[derive(Clone, Copy, Debug, PartialEq, Eq)]
+pub struct Comm {
+    pub context: Context,
+}
+
+/// What is told of a letter that was received (MPI 4.0, 3.2.5).
+#[derive(Clone, Copy)]
+pub struct Status {
+    /// The sender's rank in the communicator of the request.
+    pub source: u8,
+    pub tag: Tag,
+    /// How many bytes the body has.
+    pub length: usize,
+}
+
+/// What a test of a request tells (MPI 4.0, 3.7.3). The first two release it.
+#[derive(Clone, Copy)]
+pub enum TestAnswer {
+    /// The receive got this letter.
+    Done(Status, Body),
+    /// The receive ended without a letter, or with one that was longer than its room.
+    Over(CallError),
+    /// It takes letters from any source, and failures in its group aren't acknowledged.
+    Pending,
+    /// It waits.
+    NotYet,
+}
+
+/// An accepted call that changed something, or an item that was taken.
+#[derive(Drop)]
+pub enum Entry {
+    /// A letter for a rank was accepted.
+    Sent(WorldRank, Letter),
+    /// A receive was posted.
+    Posted(Pattern),
+    /// A request was released with this answer.
+    Released(RequestId, TestAnswer),
+    /// The failures acknowledged of a communicator rose to this total.
+    Acknowledged(Context, u8),
+    /// A context was revoked by the rank's own call.
+    Revoked(Context),
+    /// A communicator was duplicated.
+    Duplicated(Context),
+    /// The shrink of a communicator was entered, with these ranks known to have failed.
+    Entered(Context, RankSet),
+    /// The decision of a shrink was adopted.
+    Adopted(Decision),
+    /// The rank stopped.
+    Stopped,
+    /// An item was taken that came from a rank.
+    Took(WorldRank, Item),
+}

@@ -1,0 +1,68 @@
+//! What a rank passes on to the other ranks.
+ghost use Rattle.std.specs.Prelude.{◌≡◌, ◌==◌, ◌<◌, ◌&&◌, ℕ, List, length, not, IsTrue, false};
+ghost use Rattle.ulfm_base.specs.RankSet.{has};
+ghost use Rattle.ulfm_rank.specs.declared.entry.Entry.{Entry};
+ghost use Rattle.ulfm_rank.specs.Facts.{is_revoked};
+ghost use Rattle.ulfm_rank.specs.Outboxes.{AllGrow, Knows};
+ghost use Rattle.ulfm_rank.specs.Owed.{passed_on, owed_by_item};
+ghost use Rattle.ulfm_rank.specs.Requests.{revoked_before};
+
+use crate::outboxes::Outboxes;
+use ulfm_base::{Context, Item, RankSet, WorldRank};
+
+/// The ranks that something is told to: not the rank itself, nor those that are known to have failed.
+pub(crate) fn told(me: u8, known: RankSet) -> RankSet
+    ensures { (d : ℕ) → d < 8 → has result d ≡ (not (me == d) && not (has known d)) }
+{
+    let mut told = RankSet::new();
+    for number in 0..8 {
+        let rank = WorldRank { number };
+        if number == me || known.contains(rank) {
+            continue;
+        }
+        told.insert(rank);
+    }
+    told
+}
+
+/// Leaves the first revocation of a context, whose entry stands at this place of the log, for each rank that it is told
+/// to.
+pub(crate) fn forward(
+    outboxes: &mut Outboxes,
+    me: u8,
+    known: RankSet,
+    context: Context,
+    place: usize,
+)
+    requires small { length outboxes.old.boxes < 9 }
+    requires room { IsTrue outboxes.old.room }
+    ensures { (log : List Entry) → Knows log known → is_revoked log context.number ≡ false → AllGrow outboxes.old.boxes outboxes.new.boxes place (passed_on me log context) }
+{
+    let _ = context;
+    outboxes.leave_each(told(me, known), place);
+}
+
+/// Leaves what a taken item, whose entry stands at this place of the log, owes to each rank. `revoked` says whether its
+/// context was revoked before.
+pub(crate) fn pass_on(
+    outboxes: &mut Outboxes,
+    me: u8,
+    known: RankSet,
+    revoked: bool,
+    item: &Item,
+    place: usize,
+)
+    requires small { length outboxes.old.boxes < 9 }
+    requires room { IsTrue outboxes.old.room }
+    ensures { (log : List Entry) → Knows log known → revoked ≡ revoked_before log item.now → AllGrow outboxes.old.boxes outboxes.new.boxes place (λ d. owed_by_item me log d item.now) }
+{
+    match item {
+        Item::Revoke(context) => {
+            if revoked {
+                return;
+            }
+            forward(outboxes, me, known, *context, place);
+        }
+        _ => {}
+    }
+}

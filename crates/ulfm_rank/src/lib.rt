@@ -1,0 +1,18 @@
+//! The state of one rank, which its log determines.
+#![tactic(auto)]
+
+mod answer;
+mod communicators;
+mod entry;
+mod forwarding;
+mod knowing;
+mod leaving;
+mod outbox;
+mod outboxes;
+mod outcome;
+mod rank;
+mod requests;
+mod sources;
+
+pub use entry::{Comm, Entry, Status, TestAnswer};
+pub use rank::Rank;

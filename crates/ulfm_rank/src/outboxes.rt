@@ -1,0 +1,153 @@
+//! What waits to go out to each rank.
+ghost use Rattle.std.specs.Prelude.{◌≡◌, ◌==◌, ◌<◌, ◌+◌, ◌-◌, ℕ, [], length, replicate, slice_get, slice_set, IsTrue, ◌↔◌, IfNone, IfOk, IfSome, OnOk, OnErr, false};
+ghost use Rattle.ulfm_base.specs.RankSet.{has};
+ghost use Rattle.ulfm_base.specs.declared.item.Item.{Item};
+ghost use Rattle.ulfm_rank.specs.Outboxes.{empty_box, box_at, with_place, with_taken, with_told, for_each, AllGrow};
+
+use crate::outbox::Outbox;
+use std::alloc::Global;
+use std::marker::Model;
+use ulfm_base::{OutOfMemory, RankSet, WorldRank};
+
+/// An outbox for each rank of the world.
+#[derive(Drop)]
+pub struct Outboxes {
+    slots: Vec<Outbox>,
+}
+
+impl Model for Outboxes {
+    ghost use Rattle.std.specs.Prelude.{map};
+    ghost use Rattle.std.specs.List.{list_all};
+    ghost use Rattle.ulfm_rank.specs.Outboxes.{Boxes, contents_of, has_room};
+
+    ghost Value = { Boxes };
+
+    ghost view = { λ o. record {
+      boxes = map contents_of o.slots.items;
+      room = list_all has_room o.slots.items;
+    } };
+}
+
+impl Outboxes {
+    /// An empty outbox for each of `n` ranks.
+    ///
+    /// # Errors
+    ///
+    /// `OutOfMemory` where the list of outboxes finds no room.
+    pub fn new(alloc: Global, n: u8) -> Result<Outboxes, OutOfMemory>
+        ensures { IfOk result (λ outboxes. outboxes.boxes ≡ replicate n empty_box) }
+    {
+        let mut slots = Vec::with_capacity(alloc, n as usize)?;
+        for dest in 0..n {
+            let _ = dest;
+            slots.push(Outbox::new(alloc))?;
+        }
+        Ok(Outboxes { slots })
+    }
+
+    /// Makes room for one place in each outbox.
+    ///
+    /// # Errors
+    ///
+    /// `OutOfMemory` where an outbox had no such room and a growth was refused.
+    pub fn reserve(&mut self) -> Result<(), OutOfMemory>
+        ensures boxes { self.new.boxes ≡ self.old.boxes }
+        ensures room { OnOk result (IsTrue self.new.room) }
+        ensures room_lacked { OnErr result (self.old.room ≡ false) }
+    {
+        for d in 0..self.slots.len() {
+            let outbox = &mut self.slots[d];
+            outbox.reserve()?;
+        }
+        Ok(())
+    }
+
+    /// Whether there is room for one place in each outbox.
+    pub fn has_room(&self) -> bool
+        ensures { result ≡ self.now.room }
+    {
+        for outbox in &self.slots {
+            if !outbox.has_room() {
+                return false;
+            }
+        }
+        true
+    }
+
+    /// Notes a place of the log in the outbox towards a rank.
+    pub fn leave(&mut self, dest: WorldRank, place: usize)
+        requires inside { dest.number < length self.old.boxes }
+        requires room { IsTrue self.old.room }
+        ensures { (item : Item) → AllGrow self.old.boxes self.new.boxes place (for_each (λ d. dest.number == d) item) }
+    {
+        let outbox = &mut self.slots[dest.number as usize];
+        outbox.leave(place);
+    }
+
+    /// Notes a place of the log in the outbox towards each rank of a set.
+    pub fn leave_each(&mut self, to: RankSet, place: usize)
+        requires small { length self.old.boxes < 9 }
+        requires room { IsTrue self.old.room }
+        ensures { (item : Item) → AllGrow self.old.boxes self.new.boxes place (for_each (has to) item) }
+    {
+        for d in 0..self.slots.len() {
+            if !to.contains(WorldRank { number: d as u8 }) {
+                continue;
+            }
+            let outbox = &mut self.slots[d];
+            outbox.leave(place);
+        }
+    }
+
+    /// Whether each item left the outbox towards a rank.
+    pub fn is_drained(&self, dest: u8) -> bool
+        requires { dest < length self.now.boxes }
+        ensures { IsTrue result ↔ ((box_at self.now.boxes dest).taken ≡ length (box_at self.now.boxes dest).places) }
+    {
+        let outbox = &self.slots[dest as usize];
+        outbox.is_drained()
+    }
+
+    /// The next item towards a rank goes out, if there is one: answers the place of its entry.
+    pub fn take_next(&mut self, dest: u8) -> Option<usize>
+        requires { dest < length self.old.boxes }
+        ensures place { IfSome result (λ place. slice_get (box_at self.old.boxes dest).places (box_at self.old.boxes dest).taken ≡ Some place) }
+        ensures taken { IfSome result (λ place. self.new.boxes ≡ slice_set self.old.boxes dest (with_taken (box_at self.old.boxes dest) ((box_at self.old.boxes dest).taken + 1))) }
+        ensures none { IfNone result ((box_at self.old.boxes dest).taken ≡ length (box_at self.old.boxes dest).places) }
+        ensures unchanged { IfNone result (self.new ≡ self.old) }
+        ensures room { self.new.room ≡ self.old.room }
+    {
+        let outbox = &mut self.slots[dest as usize];
+        outbox.take_next()
+    }
+
+    /// The item towards a rank that went out last comes back.
+    pub fn put_back(&mut self, dest: u8)
+        requires inside { dest < length self.old.boxes }
+        requires taken { 0 < (box_at self.old.boxes dest).taken }
+        ensures boxes { self.new.boxes ≡ slice_set self.old.boxes dest (with_taken (box_at self.old.boxes dest) ((box_at self.old.boxes dest).taken - 1)) }
+        ensures room { self.new.room ≡ self.old.room }
+    {
+        let outbox = &mut self.slots[dest as usize];
+        outbox.put_back();
+    }
+
+    /// Whether the notice towards a rank went out.
+    pub fn is_told(&self, dest: u8) -> bool
+        requires { dest < length self.now.boxes }
+        ensures { result ≡ (box_at self.now.boxes dest).told }
+    {
+        let outbox = &self.slots[dest as usize];
+        outbox.is_told()
+    }
+
+    /// Notes whether the notice towards a rank went out.
+    pub fn set_told(&mut self, dest: u8, told: bool)
+        requires { dest < length self.old.boxes }
+        ensures boxes { self.new.boxes ≡ slice_set self.old.boxes dest (with_told (box_at self.old.boxes dest) told) }
+        ensures room { self.new.room ≡ self.old.room }
+    {
+        let outbox = &mut self.slots[dest as usize];
+        outbox.set_told(told);
+    }
+}

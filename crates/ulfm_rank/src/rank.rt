@@ -1,0 +1,144 @@
+//! One rank (MPI 4.0, 3 and 7; ULFM).
+
+mod outgoing;
+mod receiving;
+mod recovery;
+mod sending;
+mod taking;
+
+ghost use Rattle.std.specs.Prelude.{◌≡◌, [], IfOk, IfErr, OnOk, OnErr, Some};
+ghost use Rattle.ulfm_rank.specs.Checks.{Passes, Fails, FailsOrStarves, start_checks, comm_checks};
+ghost use Rattle.ulfm_rank.specs.Communicators.{group_of};
+ghost use Rattle.ulfm_rank.specs.Facts.{is_stopped};
+ghost use Rattle.ulfm_rank.specs.Inside.{stop_places};
+ghost use Rattle.ulfm_rank.specs.State.{start_state, IsState};
+
+use crate::communicators::Communicators;
+use crate::entry::{Comm, Entry};
+use crate::outboxes::Outboxes;
+use crate::outcome::Request;
+use indexmap::IndexMap;
+use std::alloc::Global;
+use std::marker::Model;
+use ulfm_base::{CallError, Context, Group, WorldRank};
+use ulfm_fault::Faults;
+use ulfm_match::Matcher;
+
+/// One rank of a world of 1 to 8. Contracts see its number, the number of ranks, its log, a mark for each outbox, and
+/// whether there is room for one `take`; all its other parts follow from the log.
+#[derive(Drop)]
+pub struct Rank {
+    me: WorldRank,
+    ranks: u8,
+    stopped: bool,
+    matcher: Matcher,
+    faults: Faults,
+    requests: IndexMap<u64, Request>,
+    communicators: Communicators,
+    outboxes: Outboxes,
+    log: Vec<Entry>,
+}
+
+impl Model for Rank {
+    ghost use Rattle.ulfm_rank.specs.State.{View};
+    ghost use Rattle.ulfm_rank.specs.Inside.{view_of, Holds};
+
+    ghost Value = { View };
+
+    ghost view = { view_of };
+
+    ghost invariant = { Holds };
+}
+
+impl Rank {
+    /// The rank `me` of `ranks`, with an empty log.
+    ///
+    /// # Errors
+    ///
+    /// `BadSize` where `ranks` isn't 1 to 8, else `BadRank` where `me` isn't below it, else `OutOfMemory` where a
+    /// growth was refused.
+    pub fn start(alloc: Global, me: u8, ranks: u8) -> Result<Rank, CallError>
+        ensures started { IfOk result (λ rank. rank.state ≡ start_state me ranks) }
+        ensures accepted { OnOk result (Passes (start_checks me ranks)) }
+        ensures refused { IfErr result (FailsOrStarves (start_checks me ranks)) }
+    {
+        let world = Group::world(alloc, ranks)?;
+        if me >= ranks {
+            return Err(CallError::BadRank);
+        }
+        let communicators = Communicators::new(alloc, world)?;
+        let outboxes = Outboxes::new(alloc, ranks)?;
+        let mut log = Vec::new(alloc);
+        log.reserve(1)?;
+        Ok(Rank {
+            me: WorldRank { number: me },
+            ranks,
+            stopped: false,
+            matcher: Matcher::new(alloc),
+            faults: Faults::new(alloc),
+            requests: IndexMap::new(alloc),
+            communicators,
+            outboxes,
+            log,
+        })
+    }
+
+    /// Its number in the world, 0 to `ranks - 1`.
+    pub fn me(&self) -> WorldRank
+        ensures number { result.number ≡ self.now.state.me }
+        ensures sound { IsState self.now.state }
+    {
+        self.me
+    }
+
+    /// How many ranks the world has, 1 to 8.
+    pub fn ranks(&self) -> u8
+        ensures { result ≡ self.now.state.ranks }
+    {
+        self.ranks
+    }
+
+    /// Whether it stopped.
+    pub fn is_stopped(&self) -> bool
+        ensures { result ≡ is_stopped self.now.state.log }
+    {
+        self.stopped
+    }
+
+    /// All that it did and took, in order.
+    pub fn log(&self) -> &[Entry]
+        ensures { result.now ≡ self.now.state.log }
+    {
+        &self.log
+    }
+
+    /// The communicator of the world.
+    pub fn world(&self) -> Comm
+        ensures { result.context.number ≡ 0 }
+    {
+        Comm {
+            context: Context::WORLD,
+        }
+    }
+
+    /// The group of a communicator, by a rank that goes on running.
+    fn running_group(&self, comm: Comm) -> Result<&Group, CallError>
+        ensures accepted { OnOk result (Passes (comm_checks self.now.state comm.context.number [])) }
+        ensures group { IfOk result (λ group. group_of self.now.state.ranks self.now.state.log comm.context.number ≡ Some group.now) }
+        ensures refused { IfErr result (Fails (comm_checks self.now.state comm.context.number [])) }
+    {
+        if self.stopped {
+            return Err(CallError::Stopped);
+        }
+        self.communicators
+            .group_of(comm.context)
+            .ok_or(CallError::NoComm)
+    }
+}
+
+/// How many places of the log are kept for the stop.
+fn stop_places(stopped: bool) -> usize
+    ensures { result ≡ stop_places stopped }
+{
+    if stopped { 0 } else { 1 }
+}

@@ -1,0 +1,55 @@
+//! What goes out to the other ranks.
+ghost use Rattle.std.specs.Prelude.{◌≡◌, ◌<◌, ◌↔◌, [], IsTrue, IfNone, IfSome};
+ghost use Rattle.ulfm_rank.specs.State.{outbox, returned, Leaves, MayReturn};
+
+use super::Rank;
+use crate::leaving::take_next;
+use ulfm_base::Item;
+
+impl Rank {
+    /// Whether the outbox towards a rank holds nothing.
+    pub fn is_outbox_empty(&self, dest: u8) -> bool
+        requires { dest < self.now.state.ranks }
+        ensures { IsTrue result ↔ (outbox self.now.state dest ≡ []) }
+    {
+        if !self.stopped {
+            return self.outboxes.is_drained(dest);
+        }
+        dest == self.me.number || self.outboxes.is_told(dest)
+    }
+
+    /// The first item of the outbox towards a rank goes out, if there is one. It takes no memory.
+    pub fn take_out(&mut self, dest: u8) -> Option<Item>
+        requires { dest < self.old.state.ranks }
+        ensures leaves { IfSome result (λ item. Leaves self.old.state self.new.state dest item) }
+        ensures none { IfNone result (outbox self.old.state dest ≡ []) }
+        ensures unchanged { IfNone result (self.new ≡ self.old) }
+        ensures prepared { self.new.prepared ≡ self.old.prepared }
+    {
+        if !self.stopped {
+            return take_next(&mut self.outboxes, &self.log, dest);
+        }
+        if dest == self.me.number || self.outboxes.is_told(dest) {
+            return None;
+        }
+        self.outboxes.set_told(dest, true);
+        Some(Item::Gone)
+    }
+
+    /// The item that went out last comes back to the front of its outbox. It takes no memory.
+    ///
+    /// The rank's last call was `take_out` of this outbox, and gave this item.
+    pub fn put_back(&mut self, dest: u8, item: Item)
+        requires inside { dest < self.old.state.ranks }
+        requires taken { MayReturn self.old.state dest item }
+        ensures state { self.new.state ≡ returned self.old.state dest }
+        ensures prepared { self.new.prepared ≡ self.old.prepared }
+    {
+        let _ = item;
+        if self.stopped {
+            self.outboxes.set_told(dest, false);
+            return;
+        }
+        self.outboxes.put_back(dest);
+    }
+}

@@ -1,0 +1,121 @@
+//! Receives and their tests (MPI 4.0, 3.7).
+ghost use Rattle.std.specs.Prelude.{◌≡◌, ℕ, length, true, false, IfOk, IfErr, OnOk, OnErr};
+ghost use Rattle.ulfm_base.specs.declared.pattern.Pattern.{Pattern};
+ghost use Rattle.ulfm_match.specs.History.{number};
+ghost use Rattle.ulfm_match.specs.Pairing.{Pairing, LawfulPairing};
+ghost use Rattle.ulfm_rank.specs.Answer.{IsRequest, IsTestAnswer, is_release};
+ghost use Rattle.ulfm_rank.specs.Calls.{IsReceive, Posts};
+ghost use Rattle.ulfm_rank.specs.Checks.{Passes, Fails, FailsOrStarves, IsTestRefusal, receive_checks};
+ghost use Rattle.ulfm_rank.specs.Facts.{is_stopped};
+ghost use Rattle.ulfm_rank.specs.History.{history_of};
+ghost use Rattle.ulfm_rank.specs.State.{logged};
+ghost use Rattle.ulfm_rank.specs.Table.{IsOfGroup};
+
+use super::Rank;
+use crate::answer::{answer_in, is_release};
+use crate::entry::{Comm, Entry, TestAnswer};
+use crate::knowing::names_known;
+use crate::outcome::Request;
+use crate::requests::admit;
+use crate::sources::source_of;
+use ulfm_base::{CallError, Pattern, Tag};
+use ulfm_match::RequestId;
+
+impl Rank {
+    /// What a receive with these arguments asks for, where it may be posted.
+    fn pattern_of(
+        &self,
+        comm: Comm,
+        source: Option<u8>,
+        tag: Option<Tag>,
+        room: u16,
+    ) -> Result<Pattern, CallError>
+        ensures accepted { OnOk result (Passes (receive_checks self.now.state comm.context.number source)) }
+        ensures asks_for { IfOk result (IsReceive self.now.state comm source tag room) }
+        ensures of_group { IfOk result (IsOfGroup self.now.state.ranks self.now.state.log) }
+        ensures refused { IfErr result (Fails (receive_checks self.now.state comm.context.number source)) }
+    {
+        let group = self.running_group(comm)?;
+        if self.faults.is_revoked(comm.context) {
+            return Err(CallError::Revoked);
+        }
+        let source = source_of(group, source)?;
+        Ok(Pattern {
+            context: comm.context,
+            source,
+            tag,
+            room,
+        })
+    }
+
+    /// Posts a receive of a letter on a communicator, from one position or any, with one tag or any, of at most `room`
+    /// bytes (MPI 4.0, 3.7.2). Answers the number of its request. Where the position is that of a rank that is known to
+    /// have failed and no kept letter is for it, the request is over at once.
+    ///
+    /// # Errors
+    ///
+    /// `Stopped` after the stop, else `NoComm` where the communicator wasn't made, else `Revoked` where it is revoked,
+    /// else `BadRank` where it has no such position, else `OutOfMemory` where a growth was refused. Then nothing changed.
+    pub fn irecv(
+        &mut self,
+        comm: Comm,
+        source: Option<u8>,
+        tag: Option<Tag>,
+        room: u16,
+    ) -> Result<RequestId, CallError>
+        ensures accepted { OnOk result (Passes (receive_checks self.old.state comm.context.number source)) }
+        ensures posts { OnOk result (Posts self.old.state comm source tag room self.new.state) }
+        ensures number { IfOk result (λ id. id.number ≡ number (history_of self.old.state.log) (length (history_of self.old.state.log))) }
+        ensures request { IfOk result (λ id. (i : ℕ) × (pattern : Pattern) × IsRequest self.new.state.log id.number i pattern) }
+        ensures refused { IfErr result (FailsOrStarves (receive_checks self.old.state comm.context.number source)) }
+        ensures unchanged { OnErr result (self.new.state ≡ self.old.state) }
+    {
+        let pattern = self.pattern_of(comm, source, tag, room)?;
+        let places = self.requests.len() + 3;
+        self.log.reserve(places)?;
+        self.requests.reserve(1)?;
+        self.matcher.prepare()?;
+        let gone = names_known(&self.faults, pattern.source);
+        let (id, outcome) = admit(&mut self.matcher, gone, pattern);
+        match self
+            .requests
+            .insert(id.number, Request { pattern, outcome })
+        {
+            Ok(_) => {}
+            Err(_) => unreachable!(),
+        }
+        self.log.push_reserved(Entry::Posted(pattern));
+        Ok(id)
+    }
+
+    /// Tests a request (MPI 4.0, 3.7.3). An answer `Done` or `Over` releases it. It takes no memory.
+    ///
+    /// # Errors
+    ///
+    /// `Stopped` after the stop, else `NoRequest` where there is no such request or it was released. Then nothing
+    /// changed.
+    pub fn test(&mut self, id: RequestId) -> Result<TestAnswer, CallError>
+        ensures answer { IfOk result (IsTestAnswer self.old.state.ranks self.old.state.log id.number) }
+        ensures request { OnOk result ((i : ℕ) × (pattern : Pattern) × IsRequest self.old.state.log id.number i pattern) }
+        ensures pairing { OnOk result ((pairing : Pairing) × LawfulPairing (history_of self.old.state.log) pairing) }
+        ensures running { OnOk result (is_stopped self.old.state.log ≡ false) }
+        ensures released { IfOk result (λ answer. is_release answer ≡ true → self.new.state ≡ logged self.old.state (Entry.Released id answer)) }
+        ensures stays { IfOk result (λ answer. is_release answer ≡ false → self.new.state ≡ self.old.state) }
+        ensures refused { IfErr result (IsTestRefusal self.old.state.log id.number) }
+        ensures unchanged { OnErr result (self.new ≡ self.old) }
+    {
+        if self.stopped {
+            return Err(CallError::Stopped);
+        }
+        let request = match self.requests.get(&id.number) {
+            Some(request) => *request,
+            None => return Err(CallError::NoRequest),
+        };
+        let answer = answer_in(&self.communicators, &self.faults, &request);
+        if is_release(&answer) {
+            let _ = self.requests.shift_remove(&id.number);
+            self.log.push_reserved(Entry::Released(id, answer));
+        }
+        Ok(answer)
+    }
+}

@@ -1,0 +1,97 @@
+//! Failures, revocations and the rank's own stop (ULFM).
+ghost use Rattle.std.specs.Prelude.{◌≡◌, [], IfOk, IfErr, OnOk, OnErr};
+ghost use Rattle.ulfm_rank.specs.Calls.{acknowledging, revoking, stopping};
+ghost use Rattle.ulfm_rank.specs.Checks.{Passes, Fails, FailsOrStarves, group_at, comm_checks};
+ghost use Rattle.ulfm_rank.specs.Facts.{known_in, ack_answer};
+
+use super::Rank;
+use crate::entry::{Comm, Entry};
+use crate::forwarding::forward;
+use crate::requests::clear;
+use ulfm_base::{CallError, Group};
+
+impl Rank {
+    /// The rank stops (ULFM: it fails). Again it changes nothing. It takes no memory.
+    pub fn stop(&mut self)
+        ensures { self.new.state ≡ stopping self.old.state }
+    {
+        if self.stopped {
+            return;
+        }
+        self.log.push_reserved(Entry::Stopped);
+        self.stopped = true;
+    }
+
+    /// The members of a communicator that are known to have failed, in the order in which their notices were taken
+    /// (ULFM, `MPI_Comm_get_failed`). It takes no memory.
+    ///
+    /// # Errors
+    ///
+    /// `Stopped` where the rank has stopped, else `NoComm` where the communicator wasn't made.
+    pub fn get_failed(&self, comm: Comm) -> Result<Group, CallError>
+        ensures accepted { OnOk result (Passes (comm_checks self.now.state comm.context.number [])) }
+        ensures failed { IfOk result (λ group. group ≡ known_in (group_at self.now.state comm.context.number) self.now.state.log) }
+        ensures refused { IfErr result (Fails (comm_checks self.now.state comm.context.number [])) }
+    {
+        let group = self.running_group(comm)?;
+        Ok(self.faults.known_in(group))
+    }
+
+    /// Acknowledges the first `n` failures that are known in a communicator's group, or all of them where fewer are
+    /// known, and never fewer than before (ULFM, `MPI_Comm_ack_failed`). Answers how many are acknowledged now.
+    ///
+    /// # Errors
+    ///
+    /// `Stopped` where the rank has stopped, else `NoComm` where the communicator wasn't made, else `OutOfMemory` where
+    /// a growth was refused. Then nothing changed.
+    pub fn ack_failed(&mut self, comm: Comm, n: u8) -> Result<u8, CallError>
+        ensures accepted { OnOk result (Passes (comm_checks self.old.state comm.context.number [])) }
+        ensures total { IfOk result (λ total. total ≡ ack_answer (group_at self.old.state comm.context.number) self.old.state.log comm.context.number n) }
+        ensures state { IfOk result (λ total. self.new.state ≡ acknowledging self.old.state comm.context total) }
+        ensures refused { IfErr result (FailsOrStarves (comm_checks self.old.state comm.context.number [])) }
+        ensures unchanged { OnErr result (self.new.state ≡ self.old.state) }
+    {
+        let group = self.running_group(comm)?.copied();
+        self.log.reserve(self.requests.len() + 2)?;
+        let before = self.faults.acknowledged(comm.context);
+        let total = self.faults.ack(comm.context, &group, n);
+        if before < total {
+            self.log
+                .push_reserved(Entry::Acknowledged(comm.context, total));
+        }
+        Ok(total)
+    }
+
+    /// Revokes a communicator and leaves the notice for each other rank that isn't known to have failed (ULFM,
+    /// `MPI_Comm_revoke`). Where it is revoked already nothing changes.
+    ///
+    /// # Errors
+    ///
+    /// `Stopped` where the rank has stopped, else `NoComm` where the communicator wasn't made, else `OutOfMemory` where
+    /// a growth was refused. Then nothing changed.
+    pub fn revoke(&mut self, comm: Comm) -> Result<(), CallError>
+        ensures accepted { OnOk result (Passes (comm_checks self.old.state comm.context.number [])) }
+        ensures state { OnOk result (self.new.state ≡ revoking self.old.state comm.context) }
+        ensures refused { IfErr result (FailsOrStarves (comm_checks self.old.state comm.context.number [])) }
+        ensures unchanged { OnErr result (self.new.state ≡ self.old.state) }
+    {
+        let _ = self.running_group(comm)?;
+        if self.faults.is_revoked(comm.context) {
+            return Ok(());
+        }
+        self.log.reserve(self.requests.len() + 2)?;
+        self.outboxes.reserve()?;
+        let known = self.faults.known();
+        forward(
+            &mut self.outboxes,
+            self.me.number,
+            known,
+            comm.context,
+            self.log.len(),
+        );
+        let _ = self.faults.revoke(comm.context);
+        clear(&mut self.matcher, &mut self.requests, comm.context);
+        self.log.push_reserved(Entry::Revoked(comm.context));
+        Ok(())
+    }
+}

@@ -1,0 +1,108 @@
+//! Sends and communicators (MPI 4.0, 3 and 7).
+ghost use Rattle.std.specs.Prelude.{◌≡◌, ◌<◌, [], ◌∷◌, length, slice_get, IfOk, IfErr, OnOk, OnErr, Some, None};
+ghost use Rattle.ulfm_base.specs.Context.{dup_of};
+ghost use Rattle.ulfm_rank.specs.Calls.{Sends};
+ghost use Rattle.ulfm_rank.specs.Checks.{Passes, Fails, FailsOrStarves, group_at, send_checks, dup_checks};
+ghost use Rattle.ulfm_rank.specs.Communicators.{group_of};
+ghost use Rattle.ulfm_rank.specs.State.{logged};
+
+use super::Rank;
+use crate::entry::{Comm, Entry};
+use ulfm_base::{Body, CallError, Context, Envelope, Group, Letter, Tag, WorldRank};
+
+impl Rank {
+    /// The group of a communicator (MPI 4.0, 7.4.1, `MPI_Comm_group`). It takes no memory.
+    ///
+    /// # Errors
+    ///
+    /// `NoComm` where the communicator wasn't made.
+    pub fn group(&self, comm: Comm) -> Result<Group, CallError>
+        ensures group { IfOk result (λ group. group_of self.now.state.ranks self.now.state.log comm.context.number ≡ Some group) }
+        ensures refused { IfErr result (λ e. (e ≡ CallError.NoComm) × (group_of self.now.state.ranks self.now.state.log comm.context.number ≡ None)) }
+    {
+        match self.communicators.group_of(comm.context) {
+            Some(group) => Ok(group.copied()),
+            None => Err(CallError::NoComm),
+        }
+    }
+
+    /// Starts the send of a letter to the member at a position of a communicator (MPI 4.0, 3.7.2, `MPI_Isend`). It is
+    /// buffered: the call is done when it returns.
+    ///
+    /// # Errors
+    ///
+    /// `Stopped` where the rank has stopped, else `NoComm` where the communicator wasn't made, else `Revoked` where it
+    /// is revoked, else `BadRank` where it has no such position, else `TooLong` where the body has more than 1,024
+    /// bytes, else `ProcFailed` where the destination is known to have failed, else `OutOfMemory` where a growth was
+    /// refused. Then nothing changed.
+    pub fn isend(&mut self, comm: Comm, dest: u8, tag: Tag, body: &[u8]) -> Result<(), CallError>
+        ensures accepted { OnOk result (Passes (send_checks self.old.state comm.context.number dest (length body.now))) }
+        ensures sends { OnOk result (Sends self.old.state comm dest tag body.now self.new.state) }
+        ensures refused { IfErr result (FailsOrStarves (send_checks self.old.state comm.context.number dest (length body.now))) }
+        ensures unchanged { OnErr result (self.new.state ≡ self.old.state) }
+    {
+        let to = self.destination(comm, dest, body.len())?;
+        let envelope = Envelope {
+            context: comm.context,
+            source: self.me,
+            tag,
+        };
+        let body = Body::from_bytes(body)?;
+        self.log.reserve(self.requests.len() + 2)?;
+        self.outboxes.reserve()?;
+        self.outboxes.leave(to, self.log.len());
+        self.log
+            .push_reserved(Entry::Sent(to, Letter { envelope, body }));
+        Ok(())
+    }
+
+    /// The destination of a send with a body of this many bytes.
+    fn destination(&self, comm: Comm, dest: u8, size: usize) -> Result<WorldRank, CallError>
+        ensures accepted { OnOk result (Passes (send_checks self.now.state comm.context.number dest size)) }
+        ensures named { IfOk result (λ to. slice_get (group_at self.now.state comm.context.number) dest ≡ Some to.number) }
+        ensures inside { IfOk result (λ to. to.number < self.now.state.ranks) }
+        ensures refused { IfErr result (Fails (send_checks self.now.state comm.context.number dest size)) }
+    {
+        let group = self.running_group(comm)?;
+        if self.faults.is_revoked(comm.context) {
+            return Err(CallError::Revoked);
+        }
+        let to = group.world_of(dest).ok_or(CallError::BadRank)?;
+        if size > 1024 {
+            return Err(CallError::TooLong);
+        }
+        if self.faults.is_known(to) {
+            return Err(CallError::ProcFailed);
+        }
+        Ok(to)
+    }
+
+    /// Duplicates a communicator: the new one has the same group (MPI 4.0, 7.4.2, `MPI_Comm_dup`).
+    ///
+    /// # Errors
+    ///
+    /// `Stopped` where the rank has stopped, else `NoComm` where the communicator wasn't made, else `Revoked` where it
+    /// is revoked, else `AlreadyMade` where it was duplicated before, else `NoContext` where there is no context left
+    /// for the duplicate, else `OutOfMemory` where a growth was refused. Then nothing changed.
+    pub fn dup(&mut self, comm: Comm) -> Result<Comm, CallError>
+        ensures accepted { OnOk result (Passes (dup_checks self.old.state comm.context.number)) }
+        ensures made { IfOk result (λ made. made.context.number ≡ dup_of comm.context.number) }
+        ensures state { OnOk result (self.new.state ≡ logged self.old.state (Entry.Duplicated comm.context)) }
+        ensures refused { IfErr result (FailsOrStarves (dup_checks self.old.state comm.context.number)) }
+        ensures unchanged { OnErr result (self.new.state ≡ self.old.state) }
+    {
+        let group = self.running_group(comm)?.copied();
+        if self.faults.is_revoked(comm.context) {
+            return Err(CallError::Revoked);
+        }
+        let number = 2 * comm.context.number + 1;
+        if self.communicators.is_made(number) {
+            return Err(CallError::AlreadyMade);
+        }
+        let context = Context::new(number).ok_or(CallError::NoContext)?;
+        self.log.reserve(self.requests.len() + 2)?;
+        self.communicators.add(context, group)?;
+        self.log.push_reserved(Entry::Duplicated(comm.context));
+        Ok(Comm { context })
+    }
+}

@@ -1,0 +1,64 @@
+//! Items that come from other ranks.
+ghost use Rattle.std.specs.Prelude.{◌≡◌, ◌<◌, IsTrue, OnOk, OnErr, false};
+ghost use Rattle.ulfm_rank.specs.Calls.{IsFrom};
+ghost use Rattle.ulfm_rank.specs.Facts.{is_stopped};
+ghost use Rattle.ulfm_rank.specs.State.{logged};
+
+use super::{Rank, stop_places};
+use crate::entry::Entry;
+use crate::forwarding::pass_on;
+use crate::knowing::{is_late, learn};
+use crate::requests::settle;
+use ulfm_base::{Item, OutOfMemory, WorldRank};
+
+impl Rank {
+    /// Makes room for one `take`.
+    ///
+    /// # Errors
+    ///
+    /// `OutOfMemory` where there was no such room and a growth was refused.
+    pub fn prepare(&mut self) -> Result<(), OutOfMemory>
+        ensures state { self.new.state ≡ self.old.state }
+        ensures prepared { OnOk result (IsTrue self.new.prepared) }
+        ensures room_lacked { OnErr result (self.old.prepared ≡ false) }
+        ensures stays_prepared { IsTrue self.old.prepared → IsTrue self.new.prepared }
+    {
+        let places = self.requests.len() + stop_places(self.stopped) + 1;
+        self.log.reserve(places)?;
+        self.matcher.prepare()?;
+        self.outboxes.reserve()
+    }
+
+    /// Whether there is room for one `take`.
+    pub fn is_prepared(&self) -> bool
+        ensures { result ≡ self.now.prepared }
+    {
+        let places = self.log.len() + self.requests.len() + stop_places(self.stopped);
+        self.matcher.is_prepared() && places < self.log.capacity() && self.outboxes.has_room()
+    }
+
+    /// Takes an item that came from a rank. A letter is handed to the earliest receive that takes it, or kept, or
+    /// dropped where its communicator is revoked. The notice of a stop ends the receives that name its sender. The
+    /// first notice that a communicator is revoked ends its receives, and is passed on to the other ranks. It takes no
+    /// memory: the room that `prepare` made is used up.
+    pub fn take(&mut self, source: WorldRank, item: Item)
+        requires prepared { IsTrue self.old.prepared }
+        requires running { is_stopped self.old.state.log ≡ false }
+        requires below { source.number < self.old.state.ranks }
+        requires from { IsFrom source item }
+        ensures { self.new.state ≡ logged self.old.state (Entry.Took source item) }
+    {
+        let late = is_late(&self.faults, &item);
+        settle(&mut self.matcher, &mut self.requests, late, source, &item);
+        pass_on(
+            &mut self.outboxes,
+            self.me.number,
+            self.faults.known(),
+            late,
+            &item,
+            self.log.len(),
+        );
+        learn(&mut self.faults, source, &item);
+        self.log.push_reserved(Entry::Took(source, item));
+    }
+}

@@ -1,0 +1,115 @@
+//! The table of requests beside the matcher: what posts, letters and notices do to both.
+ghost use Rattle.std.specs.Prelude.{◌≡◌, ◌+◌, ◌<◌, ◌^◌, IsTrue, nat_eq};
+ghost use Rattle.indexmap.specs.IndexMap.{get, index_map_len};
+ghost use Rattle.ulfm_rank.specs.Requests.{changed, Changes, TracksAdmit, TracksDelivery, TracksRevocation, TracksItem, over_named, over_context};
+
+use crate::outcome::{Outcome, Request, outcome_of, over_context, over_named};
+use indexmap::IndexMap;
+use ulfm_base::{Context, Item, Letter, Pattern, WorldRank};
+use ulfm_match::{Arrived, Matcher, RequestId};
+
+/// Posts a receive. Where its source is known to have failed and no kept letter is for it, it is over at once.
+pub(crate) fn admit(matcher: &mut Matcher, gone: bool, pattern: Pattern) -> (RequestId, Outcome)
+    requires prepared { IsTrue matcher.old.prepared }
+    requires countable { matcher.old.count + 1 < 2 ^ 64 }
+    ensures number { result.0.number ≡ matcher.old.count }
+    ensures tracks { TracksAdmit gone pattern matcher.old result.1 matcher.new }
+{
+    let (id, letter) = matcher.post(pattern);
+    if gone {
+        let _ = matcher.withdraw(id);
+    }
+    (id, outcome_of(letter, gone))
+}
+
+/// Notes what became of a receive.
+fn set_outcome(requests: &mut IndexMap<u64, Request>, id: u64, outcome: Outcome)
+    ensures change { Changes (changed id outcome) (get nat_eq requests.old) (get nat_eq requests.new) }
+    ensures len { index_map_len requests.new ≡ index_map_len requests.old }
+{
+    if let Some(request) = requests.get_mut(&id) {
+        request.outcome = outcome;
+    }
+}
+
+/// Gives a letter that came to the earliest receive that takes it, or keeps it.
+fn deliver(matcher: &mut Matcher, requests: &mut IndexMap<u64, Request>, letter: Letter)
+    requires prepared { IsTrue matcher.old.prepared }
+    requires countable { matcher.old.count + 1 < 2 ^ 64 }
+    ensures len { index_map_len requests.new ≡ index_map_len requests.old }
+    ensures tracks { TracksDelivery letter matcher.old (get nat_eq requests.old) matcher.new (get nat_eq requests.new) }
+{
+    match matcher.arrive(letter) {
+        Arrived::Kept => {}
+        Arrived::Paired(id, paired) => set_outcome(requests, id.number, Outcome::Paired(paired)),
+    }
+}
+
+/// The receives that wait for a rank that failed are over.
+fn fail_named(requests: &mut IndexMap<u64, Request>, rank: WorldRank)
+    ensures change { Changes (λ k. over_named rank.number) (get nat_eq requests.old) (get nat_eq requests.new) }
+    ensures len { index_map_len requests.new ≡ index_map_len requests.old }
+{
+    for i in 0..requests.len() {
+        if let Some(request) = requests.get_index_mut(i) {
+            *request = over_named(*request, rank);
+        }
+    }
+}
+
+/// The receives that wait on a revoked context are over.
+fn fail_context(requests: &mut IndexMap<u64, Request>, context: Context)
+    ensures change { Changes (λ k. over_context context.number) (get nat_eq requests.old) (get nat_eq requests.new) }
+    ensures len { index_map_len requests.new ≡ index_map_len requests.old }
+{
+    for i in 0..requests.len() {
+        if let Some(request) = requests.get_index_mut(i) {
+            *request = over_context(*request, context);
+        }
+    }
+}
+
+/// Ends what waits on a context and drops what is kept of it, at its first revocation.
+pub(crate) fn clear(matcher: &mut Matcher, requests: &mut IndexMap<u64, Request>, context: Context)
+    ensures len { index_map_len requests.new ≡ index_map_len requests.old }
+    ensures count { matcher.new.count ≡ matcher.old.count }
+    ensures prepared { IsTrue matcher.old.prepared → IsTrue matcher.new.prepared }
+    ensures tracks { TracksRevocation context.number matcher.old (get nat_eq requests.old) matcher.new (get nat_eq requests.new) }
+{
+    matcher.clear(context);
+    fail_context(requests, context);
+}
+
+/// Does to receives and letters what a taken item asks for. `revoked` says whether its context was revoked before.
+pub(crate) fn settle(
+    matcher: &mut Matcher,
+    requests: &mut IndexMap<u64, Request>,
+    revoked: bool,
+    source: WorldRank,
+    item: &Item,
+)
+    requires prepared { IsTrue matcher.old.prepared }
+    requires countable { matcher.old.count + 1 < 2 ^ 64 }
+    ensures len { index_map_len requests.new ≡ index_map_len requests.old }
+    ensures tracks { TracksItem revoked source.number item.now matcher.old (get nat_eq requests.old) matcher.new (get nat_eq requests.new) }
+{
+    match item {
+        Item::Letter(letter) => {
+            if revoked {
+                return;
+            }
+            deliver(matcher, requests, *letter);
+        }
+        Item::Gone => {
+            matcher.end_named(source);
+            fail_named(requests, source);
+        }
+        Item::Revoke(context) => {
+            if revoked {
+                return;
+            }
+            clear(matcher, requests, *context);
+        }
+        Item::Enter { .. } => {}
+    }
+}

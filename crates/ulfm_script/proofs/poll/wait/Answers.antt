@@ -1,0 +1,32 @@
+use Rattle.std.proofs.Common.{sym, ◌∙◌}
+use Rattle.ulfm_script.specs.Player.{Tests}
+use Rattle.ulfm_script.proofs.Waits.{only_tested, answers_wait, stays_open}
+use Rattle.ulfm_script.proofs.poll.wait.Goals as goal
+
+pub returns-in-Ok-clause-answers : goal.returns-in-Ok-clause-answers
+returns-in-Ok-clause-answers c =
+    let asked = c.in-Ok.ensures.request in
+    let h : Tests c.args.done.now c.args.rank.now.state c.args.req c.in-Ok.answer c.test.new.self.state = record {
+      id = c.in-Some.id;
+      posted = sym c.request_at.ensures ∙ c.in-Some.is;
+      place = asked.0;
+      pattern = asked.1;
+      request = asked.2;
+      answers = c.in-Ok.ensures.answer;
+      only = only_tested _ _ _ _ c.in-Ok.ensures.released c.in-Ok.ensures.stays;
+    } in
+    rw c.answer_of.ensures (answers_wait _ _ _ _ _ h)
+
+pub returns-in-Ok-clause-stays_open : goal.returns-in-Ok-clause-stays_open
+returns-in-Ok-clause-stays_open c =
+    let asked = c.in-Ok.ensures.request in
+    let h : Tests c.args.done.now c.args.rank.now.state c.args.req c.in-Ok.answer c.test.new.self.state = record {
+      id = c.in-Some.id;
+      posted = sym c.request_at.ensures ∙ c.in-Some.is;
+      place = asked.0;
+      pattern = asked.1;
+      request = asked.2;
+      answers = c.in-Ok.ensures.answer;
+      only = only_tested _ _ _ _ c.in-Ok.ensures.released c.in-Ok.ensures.stays;
+    } in
+    rw c.answer_of.ensures (stays_open _ _ _ _ _ h)

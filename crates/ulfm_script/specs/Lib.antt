@@ -1,0 +1,11 @@
+pub mod Fields
+pub mod HeadView
+pub mod Job
+pub mod JobText
+pub mod Placed
+pub mod Plan
+pub mod Player
+pub mod Report
+pub mod StepText
+pub mod Text
+pub mod Trace

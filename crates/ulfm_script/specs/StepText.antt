@@ -1,0 +1,107 @@
+-- The step of a table, for each op, by cases in the order of the checks: keys and their kinds, unknown keys, ranges.
+use Rattle.std.specs.Prelude.{ℕ, pos, ◌-◌, List, [], ◌∷◌, take, Result, Ok, Err, unwrap_or, if◌then◌else◌, codes}
+use Rattle.std.specs.Str.{bytes_eq}
+use Rattle.toml.specs.Data.{Members}
+use Rattle.ulfm_script.specs.declared.fault.Fault.{Fault}
+use Rattle.ulfm_script.specs.declared.fault.Fault.TheVariants.{UnknownOp}
+use Rattle.ulfm_script.specs.Fields.{◌>>=◌, required_number, optional_number, required_text, only_keys, in_range, in_range_if_some}
+use Rattle.ulfm_script.specs.Plan.{PlannedStep, send, recv, wait, failed, ack, revoke, dup, stop}
+
+unfoldable pub send_of : ℕ → Members → Result PlannedStep Fault
+send_of ranks ms = do
+  rank_key ← required_number (codes "rank") ms
+  to_key ← required_number (codes "to") ms
+  tag_key ← required_number (codes "tag") ms
+  body ← required_text (codes "body") ms
+  comm_key ← optional_number (codes "comm") ms
+  keys ← only_keys (codes "op" ∷ codes "rank" ∷ codes "to" ∷ codes "tag" ∷ codes "body" ∷ codes "comm" ∷ []) ms
+  rank ← in_range 0 (ranks - 1) rank_key
+  to ← in_range 0 7 to_key
+  tag ← in_range 0 32767 tag_key
+  comm ← in_range 0 62 (unwrap_or comm_key (pos 0))
+  Ok (record { rank = rank; order = send to tag (take 1025 body) comm })
+
+unfoldable pub recv_of : ℕ → Members → Result PlannedStep Fault
+recv_of ranks ms = do
+  rank_key ← required_number (codes "rank") ms
+  from_key ← optional_number (codes "from") ms
+  tag_key ← optional_number (codes "tag") ms
+  room_key ← optional_number (codes "room") ms
+  comm_key ← optional_number (codes "comm") ms
+  keys ← only_keys (codes "op" ∷ codes "rank" ∷ codes "from" ∷ codes "tag" ∷ codes "room" ∷ codes "comm" ∷ []) ms
+  rank ← in_range 0 (ranks - 1) rank_key
+  from ← in_range_if_some 7 from_key
+  tag ← in_range_if_some 32767 tag_key
+  room ← in_range 0 1024 (unwrap_or room_key (pos 1024))
+  comm ← in_range 0 62 (unwrap_or comm_key (pos 0))
+  Ok (record { rank = rank; order = recv from tag room comm })
+
+unfoldable pub wait_of : ℕ → Members → Result PlannedStep Fault
+wait_of ranks ms = do
+  rank_key ← required_number (codes "rank") ms
+  req_key ← required_number (codes "req") ms
+  keys ← only_keys (codes "op" ∷ codes "rank" ∷ codes "req" ∷ []) ms
+  rank ← in_range 0 (ranks - 1) rank_key
+  req ← in_range 0 255 req_key
+  Ok (record { rank = rank; order = wait req })
+
+unfoldable pub failed_of : ℕ → Members → Result PlannedStep Fault
+failed_of ranks ms = do
+  rank_key ← required_number (codes "rank") ms
+  comm_key ← optional_number (codes "comm") ms
+  keys ← only_keys (codes "op" ∷ codes "rank" ∷ codes "comm" ∷ []) ms
+  rank ← in_range 0 (ranks - 1) rank_key
+  comm ← in_range 0 62 (unwrap_or comm_key (pos 0))
+  Ok (record { rank = rank; order = failed comm })
+
+unfoldable pub ack_of : ℕ → Members → Result PlannedStep Fault
+ack_of ranks ms = do
+  rank_key ← required_number (codes "rank") ms
+  count_key ← required_number (codes "count") ms
+  comm_key ← optional_number (codes "comm") ms
+  keys ← only_keys (codes "op" ∷ codes "rank" ∷ codes "count" ∷ codes "comm" ∷ []) ms
+  rank ← in_range 0 (ranks - 1) rank_key
+  count ← in_range 0 8 count_key
+  comm ← in_range 0 62 (unwrap_or comm_key (pos 0))
+  Ok (record { rank = rank; order = ack count comm })
+
+unfoldable pub revoke_of : ℕ → Members → Result PlannedStep Fault
+revoke_of ranks ms = do
+  rank_key ← required_number (codes "rank") ms
+  comm_key ← optional_number (codes "comm") ms
+  keys ← only_keys (codes "op" ∷ codes "rank" ∷ codes "comm" ∷ []) ms
+  rank ← in_range 0 (ranks - 1) rank_key
+  comm ← in_range 0 62 (unwrap_or comm_key (pos 0))
+  Ok (record { rank = rank; order = revoke comm })
+
+unfoldable pub dup_of : ℕ → Members → Result PlannedStep Fault
+dup_of ranks ms = do
+  rank_key ← required_number (codes "rank") ms
+  comm_key ← optional_number (codes "comm") ms
+  keys ← only_keys (codes "op" ∷ codes "rank" ∷ codes "comm" ∷ []) ms
+  rank ← in_range 0 (ranks - 1) rank_key
+  comm ← in_range 0 62 (unwrap_or comm_key (pos 0))
+  Ok (record { rank = rank; order = dup comm })
+
+unfoldable pub stop_of : ℕ → Members → Result PlannedStep Fault
+stop_of ranks ms = do
+  rank_key ← required_number (codes "rank") ms
+  keys ← only_keys (codes "op" ∷ codes "rank" ∷ []) ms
+  rank ← in_range 0 (ranks - 1) rank_key
+  Ok (record { rank = rank; order = stop })
+
+unfoldable pub step_of_op : ℕ → List ℕ → Members → Result PlannedStep Fault
+step_of_op ranks op ms =
+    if bytes_eq op (codes "send") then send_of ranks ms
+    else if bytes_eq op (codes "recv") then recv_of ranks ms
+    else if bytes_eq op (codes "wait") then wait_of ranks ms
+    else if bytes_eq op (codes "failed") then failed_of ranks ms
+    else if bytes_eq op (codes "ack") then ack_of ranks ms
+    else if bytes_eq op (codes "revoke") then revoke_of ranks ms
+    else if bytes_eq op (codes "dup") then dup_of ranks ms
+    else if bytes_eq op (codes "stop") then stop_of ranks ms
+    else Err UnknownOp
+
+-- the step of a table; its op comes before its other keys
+unfoldable pub step_of : ℕ → Members → Result PlannedStep Fault
+step_of ranks ms = required_text (codes "op") ms >>= (λ op. step_of_op ranks op ms)

@@ -1,0 +1,45 @@
+-- The bytes of a text that a step keeps.
+use Rattle.std.specs.Prelude.{ℕ, List, take, drop, replicate, length, min, ◌≡◌, ◌≤◌, ◌-◌, ◌++◌}
+use Rattle.std.proofs.Common.{ap, subst, length-append, sym, ◌∙◌, arith, length-take}
+use Rattle.std.proofs.lemmas.List.{take-append-drop, drop-replicate, length-replicate, take-append-le, length-take-le, take_all, take_min}
+use Rattle.std.proofs.Math.Seq.{drop-append_seam}
+use Rattle.ulfm_script.specs.declared.text.Text.TheInside.{Inside}
+
+-- the bytes past the length are 0
+pub record IsPadded (n : ℕ) (bytes : List ℕ) : Type 0 where
+  pub all : length bytes ≡ 1025
+  pub fits : n ≤ 1025
+  pub zeros : drop n bytes ≡ replicate (1025 - n) 0
+
+pub back_again : (t : Inside) → IsPadded t.used t.bytes → record { bytes = take t.used t.bytes ++ replicate (1025 - length (take t.used t.bytes)) 0; used = length (take t.used t.bytes) } ≡ t
+back_again t h =
+    let n : length (take t.used t.bytes) ≡ t.used = same t.used t.bytes h in
+    let tail : replicate (1025 - length (take t.used t.bytes)) 0 ≡ drop t.used t.bytes = ap (λ (k : ℕ). replicate (1025 - k) 0) n ∙ sym h.zeros in
+    let whole : take t.used t.bytes ++ replicate (1025 - length (take t.used t.bytes)) 0 ≡ t.bytes = ap (λ (xs : List ℕ). take t.used t.bytes ++ xs) tail ∙ take-append-drop t.used t.bytes in
+    ap (λ (p : List ℕ × ℕ). record { bytes = p.0; used = p.1 }) (pair _ _ _ _ whole n)
+  where
+    same : (k : ℕ) (xs : List ℕ) → IsPadded k xs → length (take k xs) ≡ k
+    same k xs h = let f = h.fits in let a = h.all in simp length-take (omega arith)
+
+    pair : (xs ys : List ℕ) (m n : ℕ) → xs ≡ ys → m ≡ n → ◌≡◌ {A = List ℕ × ℕ} (xs, m) (ys, n)
+    pair xs ys m n p q = cc
+
+-- bytes with zeros after them
+pub padded : (n : ℕ) (xs ys : List ℕ) → length xs ≡ n → n ≤ 1025 → ys ≡ replicate 1025 0 → IsPadded n (xs ++ drop n ys)
+padded n xs ys e l q =
+    let whole : xs ++ drop n ys ≡ xs ++ replicate (1025 - n) 0 = ap (λ (zs : List ℕ). xs ++ zs) (ap (λ (zs : List ℕ). drop n zs) q ∙ drop-replicate n 1025 0) in
+    let rest : length (replicate {A = ℕ} (1025 - n) 0) ≡ 1025 - n = length-replicate (1025 - n) 0 in
+    record {
+      all = ap length whole ∙ (length-append xs (replicate (1025 - n) 0) ∙ omega (arith, e, rest, l));
+      fits = l;
+      zeros = subst (λ (k : ℕ). drop k (xs ++ drop n ys) ≡ replicate (1025 - n) 0) e (ap (λ (zs : List ℕ). drop (length xs) zs) whole ∙ drop-append_seam xs (replicate (1025 - n) 0));
+    }
+
+-- the front of a text, with other bytes after it
+pub front_kept : (text front rest : List ℕ) (n : ℕ) → n ≡ min 1025 (length text) → front ≡ take n text → take n (front ++ rest) ≡ take 1025 text
+front_kept text front rest n len same =
+    let long : length front ≡ n = ap length same ∙ length-take-le n text (omega (arith, len)) in
+    take-append-le n front rest (omega (arith, long)) ∙ take_all n front (omega (arith, long)) ∙ same ∙ ap (λ k. take k text) len ∙ take_min 1025 text
+
+pub front_length : (text front : List ℕ) (n : ℕ) → n ≡ min 1025 (length text) → front ≡ take n text → length front ≡ n
+front_length text front n len same = ap length same ∙ length-take-le n text (omega (arith, len))

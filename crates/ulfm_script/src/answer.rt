@@ -1,0 +1,56 @@
+//! What comes of a step.
+
+use crate::step::Step;
+use smallvec::SmallVec;
+use ulfm_base::{Body, CallError};
+use ulfm_match::RequestId;
+use ulfm_rank::{Comm, Status};
+
+/// The answer of a step.
+#[derive(Drop)]
+pub enum StepAnswer {
+    /// A send was accepted.
+    Sent,
+    /// A receive was posted.
+    Posted(RequestId),
+    /// A wait got this letter.
+    Done(Status, Body),
+    /// A wait's receive is over: 5, 6 or 15.
+    Over(CallError),
+    /// A wait for any source met failures that aren't acknowledged.
+    Pending,
+    /// The members known to have failed, as ranks of the communicator, in the order of the notices.
+    Ranks(SmallVec<u8, 8>),
+    /// How many failures are acknowledged.
+    Acked(u8),
+    /// The communicator is revoked.
+    Revoked,
+    /// A duplicate was made.
+    Made(Comm),
+    /// The rank stopped.
+    Stopped,
+    /// The last poll that the job grants left the step open.
+    Unfinished,
+    /// The call was refused.
+    Refused(CallError),
+}
+
+/// Whether a poll answered its step.
+#[derive(Clone, Copy, Debug, PartialEq, Eq)]
+pub enum Called {
+    /// The step has its answer.
+    Answered,
+    /// The step stays open.
+    NotYet,
+}
+
+/// A step with its answer.
+#[derive(Drop)]
+pub struct StepReport {
+    pub step: Step,
+    pub answer: StepAnswer,
+    /// The log's length when the step's last poll began.
+    pub at: usize,
+    /// How many uses of `call` left the step open, staying at its greatest value.
+    pub polls: u32,
+}

@@ -1,0 +1,61 @@
+//! Why a job is refused, and why a run fails.
+ghost use Rattle.std.specs.Prelude.{◌≡◌};
+
+use std::alloc::AllocFailed;
+
+/// What is wrong with a table of keys.
+#[derive(Clone, Copy, Debug, PartialEq, Eq)]
+pub enum Fault {
+    /// A required key is missing, or a key has the wrong kind.
+    BadKey,
+    /// A key that isn't of this table.
+    UnknownKey,
+    /// A number out of its range.
+    OutOfRange,
+    /// An `op` that isn't known.
+    UnknownOp,
+}
+
+/// Why a job is refused.
+#[derive(Clone, Copy, Debug, PartialEq, Eq)]
+pub enum JobFault {
+    /// No TOML document, or no UTF-8.
+    NotToml,
+    /// A fault of the job's own keys.
+    InJob(Fault),
+    /// A fault of the step at this place in the file.
+    InStep(Fault, u16),
+    /// More than 256 steps, or more than 1,048,576 bytes.
+    TooLarge,
+    /// A growth was refused.
+    OutOfMemory,
+}
+
+impl<T: Drop> From<AllocFailed<T>> for JobFault {
+    ghost use Rattle.std.specs.Prelude.{◌≡◌};
+    ghost use Rattle.ulfm_script.specs.declared.fault.JobFault.TheVariants as refused;
+
+    ghost from_gives = { λ _ e. e ≡ refused.OutOfMemory };
+
+    fn from(_failed: AllocFailed<T>) -> JobFault {
+        JobFault::OutOfMemory
+    }
+}
+
+/// Why a run fails.
+#[derive(Clone, Copy, Debug, PartialEq, Eq)]
+pub enum RunFault {
+    /// A growth was refused outside the polls of steps.
+    OutOfMemory,
+}
+
+impl<T: Drop> From<AllocFailed<T>> for RunFault {
+    ghost use Rattle.std.specs.Prelude.{◌≡◌};
+    ghost use Rattle.ulfm_script.specs.declared.fault.RunFault.TheVariants as failed;
+
+    ghost from_gives = { λ _ e. e ≡ failed.OutOfMemory };
+
+    fn from(_failed: AllocFailed<T>) -> RunFault {
+        RunFault::OutOfMemory
+    }
+}

@@ -1,0 +1,263 @@
+//! A rank that goes through its steps.
+ghost use Rattle.std.specs.Prelude.{◌≡◌, ◌≢◌, ◌<◌, ◌≤◌, ◌+◌, ◌↔◌, length, false, IsTrue, IsSome, IfOk, IfErr, IfSome, IfNone, OnOk, OnErr, None, [], nat_lt};
+ghost use Rattle.ulfm_rank.specs.Facts.{is_stopped};
+ghost use Rattle.ulfm_rank.specs.State.{IsState, logged, outbox, returned, Leaves, MayReturn};
+ghost use Rattle.ulfm_rank.specs.Checks.{Passes, FailsOrStarves, start_checks};
+ghost use Rattle.ulfm_rank.specs.Calls.{IsFrom};
+ghost use Rattle.ulfm_script.specs.Player.{start_player, with_rank, answered, IsFree, Polls, IsCalled, Left};
+
+use crate::answer::{Called, StepAnswer, StepReport};
+use crate::poll::poll;
+use crate::report::RankReport;
+use crate::step::Step;
+use std::alloc::Global;
+use std::marker::Model;
+use ulfm_base::{CallError, Item, OutOfMemory, WorldRank};
+use ulfm_rank::{Entry, Rank};
+
+/// A rank, the answers of its steps, and the step that stands open.
+#[derive(Drop)]
+pub struct Player {
+    rank: Rank,
+    done: Vec<StepReport>,
+    current: Option<Step>,
+    at: usize,
+    polls: u32,
+}
+
+impl Model for Player {
+    ghost use Rattle.std.specs.Prelude.{◌-◌, ◌<◌, ◌≢◌, vec_len, vec_capacity, None};
+    ghost use Rattle.ulfm_script.specs.Player.{View};
+
+    ghost Value = { View };
+
+    ghost view = { λ p. record {
+      player = record { rank = p.rank.state; done = p.done.items; current = p.current; at = p.at; polls = p.polls };
+      room = vec_capacity p.done - vec_len p.done;
+      prepared = p.rank.prepared;
+    } };
+
+    ghost invariant = { λ p. p.current ≢ None → vec_len p.done < vec_capacity p.done };
+}
+
+impl Player {
+    /// The player of the rank `me` of `n`, with room for the answers of so many steps.
+    ///
+    /// # Errors
+    ///
+    /// `BadSize` where `n` isn't 1 to 8, then `BadRank` where `me` isn't below `n`, else `OutOfMemory` where a growth
+    /// was refused.
+    pub fn new(alloc: Global, me: u8, n: u8, steps: u16) -> Result<Player, CallError>
+        ensures player { IfOk result (λ p. p.player ≡ start_player me n) }
+        ensures room { IfOk result (λ p. steps ≤ p.room) }
+        ensures accepted { OnOk result (Passes (start_checks me n)) }
+        ensures refused { IfErr result (FailsOrStarves (start_checks me n)) }
+    {
+        let rank = Rank::start(alloc, me, n)?;
+        match Vec::with_capacity(alloc, steps as usize) {
+            Ok(done) => Ok(Player {
+                rank,
+                done,
+                current: None,
+                at: 0,
+                polls: 0,
+            }),
+            Err(_) => Err(CallError::OutOfMemory),
+        }
+    }
+
+    /// The rank.
+    pub fn me(&self) -> WorldRank
+        ensures me { result.number ≡ self.now.player.rank.me }
+        ensures sound { IsState self.now.player.rank }
+    {
+        self.rank.me()
+    }
+
+    /// Whether the rank stopped.
+    pub fn is_stopped(&self) -> bool
+        ensures { result ≡ is_stopped self.now.player.rank.log }
+    {
+        self.rank.is_stopped()
+    }
+
+    /// How many steps are answered.
+    pub fn answered(&self) -> usize
+        ensures { result ≡ length self.now.player.done }
+    {
+        self.done.len()
+    }
+
+    /// The step that stands open.
+    pub fn unfinished(&self) -> Option<Step>
+        ensures { result ≡ self.now.player.current }
+    {
+        self.current
+    }
+
+    /// How many polls left the open step open, staying at its greatest value. It is 0 where none stands open.
+    pub fn polls(&self) -> u32
+        ensures { result ≡ self.now.player.polls }
+    {
+        self.polls
+    }
+
+    /// Whether no other step stands open.
+    pub fn is_free(&self, step: &Step) -> bool
+        ensures { IsTrue result ↔ IsFree self.now.player step.now }
+    {
+        match self.current {
+            Some(open) => open.is_same(step),
+            None => true,
+        }
+    }
+
+    /// Whether there is room for one more answer.
+    pub fn has_room(&self) -> bool
+        ensures { result ≡ nat_lt 0 self.now.room }
+    {
+        self.done.len() < self.done.capacity()
+    }
+
+    /// Makes room for one more answer.
+    ///
+    /// # Errors
+    ///
+    /// `OutOfMemory` where there was no such room and a growth was refused.
+    pub fn room(&mut self) -> Result<(), OutOfMemory>
+        ensures player { self.new.player ≡ self.old.player }
+        ensures prepared { self.new.prepared ≡ self.old.prepared }
+        ensures room { OnOk result (0 < self.new.room) }
+        ensures room_lacked { OnErr result (self.old.room ≡ 0) }
+        ensures stays { self.old.room ≤ self.new.room }
+    {
+        self.done.reserve(1)
+    }
+
+    /// One poll of a step, and whether it answered it. Where the step is open already, this is a further poll of it.
+    pub fn call(&mut self, step: &Step) -> Called
+        requires running { is_stopped self.old.player.rank.log ≡ false }
+        requires free { IsFree self.old.player step.now }
+        requires room { self.old.player.current ≡ None → 0 < self.old.room }
+        ensures polls { Polls result self.old.player step.now self.new.player }
+        ensures called { IsCalled self.old.player step.now self.new.player }
+        ensures room { self.new.room + length self.new.player.done ≡ self.old.room + length self.old.player.done }
+    {
+        let at = self.rank.log().len();
+        match poll(&mut self.rank, &self.done, step) {
+            Some(answer) => {
+                self.answer(*step, answer, at);
+                Called::Answered
+            }
+            None => {
+                self.current = Some(*step);
+                self.at = at;
+                self.polls = self.polls.saturating_add(1);
+                Called::NotYet
+            }
+        }
+    }
+
+    /// Gives the open step the answer `unfinished`. It takes no memory.
+    pub fn leave(&mut self)
+        requires { IsSome self.old.player.current }
+        ensures left { Left self.old.player self.new.player }
+        ensures room { self.new.room + length self.new.player.done ≡ self.old.room + length self.old.player.done }
+    {
+        if let Some(step) = self.current {
+            self.answer(step, StepAnswer::Unfinished, self.at);
+        }
+    }
+
+    /// The step has its answer, and none stands open.
+    fn answer(&mut self, step: Step, answer: StepAnswer, at: usize)
+        requires { 0 < self.old.room }
+        ensures player { self.new.player ≡ answered self.old.player step answer at }
+        ensures room { self.new.room + length self.new.player.done ≡ self.old.room + length self.old.player.done }
+        ensures prepared { self.new.prepared ≡ self.old.prepared }
+    {
+        self.done.push_reserved(StepReport {
+            step,
+            answer,
+            at,
+            polls: self.polls,
+        });
+        self.current = None;
+        self.at = 0;
+        self.polls = 0;
+    }
+
+    /// Makes room for one `take` of its rank.
+    ///
+    /// # Errors
+    ///
+    /// `OutOfMemory` where there was no such room and a growth was refused.
+    pub fn prepare(&mut self) -> Result<(), OutOfMemory>
+        ensures player { self.new.player ≡ self.old.player }
+        ensures room { self.new.room ≡ self.old.room }
+        ensures prepared { OnOk result (IsTrue self.new.prepared) }
+        ensures unprepared { OnErr result (self.old.prepared ≡ false) }
+    {
+        self.rank.prepare()
+    }
+
+    /// Whether there is room for one `take`.
+    pub fn is_prepared(&self) -> bool
+        ensures { result ≡ self.now.prepared }
+    {
+        self.rank.is_prepared()
+    }
+
+    /// Takes an item that came from a rank. It takes no memory, and uses the room up.
+    pub fn take(&mut self, source: WorldRank, item: Item)
+        requires prepared { IsTrue self.old.prepared }
+        requires running { is_stopped self.old.player.rank.log ≡ false }
+        requires below { source.number < self.old.player.rank.ranks }
+        requires from { IsFrom source item }
+        ensures player { self.new.player ≡ with_rank self.old.player (logged self.old.player.rank (Entry.Took source item)) }
+        ensures room { self.new.room ≡ self.old.room }
+    {
+        self.rank.take(source, item);
+    }
+
+    /// Whether an outbox holds nothing.
+    pub fn is_outbox_empty(&self, dest: u8) -> bool
+        requires { dest < self.now.player.rank.ranks }
+        ensures { IsTrue result ↔ (outbox self.now.player.rank dest ≡ []) }
+    {
+        self.rank.is_outbox_empty(dest)
+    }
+
+    /// The first item of an outbox goes out, if there is one. It takes no memory.
+    pub fn take_out(&mut self, dest: u8) -> Option<Item>
+        requires inside { dest < self.old.player.rank.ranks }
+        ensures leaves { IfSome result (λ item. Leaves self.old.player.rank self.new.player.rank dest item) }
+        ensures none { IfNone result (outbox self.old.player.rank dest ≡ []) }
+        ensures unchanged { IfNone result (self.new.player ≡ self.old.player) }
+        ensures only { self.new.player ≡ with_rank self.old.player self.new.player.rank }
+        ensures room { self.new.room ≡ self.old.room }
+        ensures prepared { self.new.prepared ≡ self.old.prepared }
+    {
+        self.rank.take_out(dest)
+    }
+
+    /// The item that went out last comes back to the front of its outbox. It takes no memory.
+    pub fn put_back(&mut self, dest: u8, item: Item)
+        requires inside { dest < self.old.player.rank.ranks }
+        requires taken { MayReturn self.old.player.rank dest item }
+        ensures player { self.new.player ≡ with_rank self.old.player (returned self.old.player.rank dest) }
+        ensures room { self.new.room ≡ self.old.room }
+        ensures prepared { self.new.prepared ≡ self.old.prepared }
+    {
+        self.rank.put_back(dest, item);
+    }
+
+    /// The rank's report, with the number of its turns that took nothing for want of memory. It takes no memory.
+    pub fn report(self, starved: u32) -> RankReport
+        ensures rank { result.rank ≡ self.player.rank }
+        ensures steps { result.steps ≡ self.player.done }
+        ensures starved { result.starved ≡ starved }
+    {
+        RankReport::new(self.rank, self.done, starved)
+    }
+}

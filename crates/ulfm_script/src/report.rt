@@ -1,0 +1,74 @@
+//! What a rank did.
+ghost use Rattle.std.specs.Prelude.{◌≡◌};
+ghost use Rattle.ulfm_rank.specs.Facts.{is_stopped};
+
+use crate::answer::StepReport;
+use std::marker::Model;
+use ulfm_base::WorldRank;
+use ulfm_rank::{Entry, Rank};
+
+/// What a rank did: its answered steps, its log, and what is left in its outboxes. A player alone makes it.
+#[derive(Drop)]
+pub struct RankReport {
+    rank: Rank,
+    steps: Vec<StepReport>,
+    starved: u32,
+}
+
+impl Model for RankReport {
+    ghost use Rattle.ulfm_script.specs.Report.{Report};
+
+    ghost Value = { Report };
+
+    ghost view = { λ r. record { rank = r.rank.state; steps = r.steps.items; starved = r.starved } };
+}
+
+impl RankReport {
+    /// The report of a rank, its answered steps, and the number of its turns that took nothing for want of memory.
+    pub(crate) fn new(rank: Rank, steps: Vec<StepReport>, starved: u32) -> RankReport
+        ensures rank { result.rank ≡ rank.state }
+        ensures steps { result.steps ≡ steps.items }
+        ensures starved { result.starved ≡ starved }
+    {
+        RankReport {
+            rank,
+            steps,
+            starved,
+        }
+    }
+
+    /// The rank.
+    pub fn me(&self) -> WorldRank
+        ensures { result.number ≡ self.now.rank.me }
+    {
+        self.rank.me()
+    }
+
+    /// Its answered steps, in order.
+    pub fn steps(&self) -> &[StepReport]
+        ensures { result.now ≡ self.now.steps }
+    {
+        &self.steps
+    }
+
+    /// Its log.
+    pub fn log(&self) -> &[Entry]
+        ensures { result.now ≡ self.now.rank.log }
+    {
+        self.rank.log()
+    }
+
+    /// Whether it stopped.
+    pub fn stopped(&self) -> bool
+        ensures { result ≡ is_stopped self.now.rank.log }
+    {
+        self.rank.is_stopped()
+    }
+
+    /// How many of its turns took nothing for want of memory, staying at its greatest value.
+    pub fn starved(&self) -> u32
+        ensures { result ≡ self.now.starved }
+    {
+        self.starved
+    }
+}

@@ -1,0 +1,89 @@
+-- What a poll moves at a player, and what falls with it.
+use Rattle.std.proofs.Common.{◌≡◌, ℕ, ◌+◌, ◌^◌, ◌<◌, ◌≤◌, Bool, true, false, List, length, refl, ap, sym, subst, ◌∙◌, arith, inl, inr, ◌⊎◌, Option, Some, None, slice_get}
+use Rattle.std.proofs.lemmas.Option.{same_Some}
+use Rattle.ulfm_rank.specs.Facts.{is_stopped}
+use Rattle.ulfm_rank.specs.State.{State, IsState}
+use Rattle.ulfm_script.specs.declared.step.Step.{Step}
+use Rattle.ulfm_script.specs.declared.step.Step.TheVariants.{Wait}
+use Rattle.ulfm_script.specs.declared.answer.StepAnswer.TheVariants.{Unfinished}
+use Rattle.ulfm_script.specs.declared.answer.StepReport.{StepReport}
+use Rattle.ulfm_script.specs.Player.{Player, IsOpen, IsCalled, Left, PollAnswers, PollOpens, answered, polled, report_of}
+use Rattle.ulfm_script.specs.Job.{is_stop_step}
+use Rattle.ulfm_world.specs.Replay.{FollowsAt, weight_of, out_at, fresh_of}
+use Rattle.ulfm_world.proofs.Polls.{Adds, answers_add, stopped-adds}
+use Rattle.ulfm_world.proofs.Weights.{out-logged, fresh-logged}
+use Rattle.ulfm_world.proofs.Scripts.{closed, follows-closed, follows-polled, left-closed, left_polled, polls_small}
+
+-- what a player has before a poll of its next step
+pub record Ready (script : List Step) (turns n : ℕ) (p : Player) (asked : Step) : Type 0 where
+  pub follows : FollowsAt script turns p
+  pub sound : IsState p.rank
+  pub size : n ≡ p.rank.ranks
+  pub running : is_stopped p.rank.log ≡ false
+  pub patient : 0 < turns
+  pub counted : turns < 2 ^ 32
+  pub next : slice_get script (length p.done) ≡ Some asked
+  pub inside : length p.done < length script
+
+-- it goes on through its script, and less is left
+pub record Advances (script : List Step) (turns n : ℕ) (old new : Player) : Type 0 where
+  pub follows : FollowsAt script turns new
+  pub falls : weight_of script turns n new < weight_of script turns n old
+
+-- an entry of the rank's own adds little
+adds_weight : (n : ℕ) (r : State) (stops : Bool) (new : State) → IsState r → n ≡ r.ranks → is_stopped r.log ≡ false → Adds r stops new → out_at n new + fresh_of new ≤ (out_at n r + fresh_of r) + 16
+adds_weight n r stops new h size running (inl same) = let W : State → Type 0 = λ (s : State). out_at n s + fresh_of s ≤ (out_at n r + fresh_of r) + 16 in subst W (sym same.0) (omega arith)
+adds_weight n r stops new h size running (inr one) =
+    let W : State → Type 0 = λ (s : State). out_at n s + fresh_of s ≤ (out_at n r + fresh_of r) + 16 in
+    subst W (sym one.only) (omega (arith, out-logged n r one.entry h size running, fresh-logged r one.entry))
+
+advance-closed : (script : List Step) (turns n : ℕ) (old : Player) (r : State) (x : StepReport) → Ready script turns n old x.step → Adds old.rank (is_stop_step x.step) r → Advances script turns n old (closed old r x)
+advance-closed script turns n old r x h adds = record {
+  follows = follows-closed script turns old r x h.follows h.running h.next (stopped-adds old.rank (is_stop_step x.step) r h.running adds);
+  falls = omega (arith, left-closed script turns old r x h.follows h.patient h.inside, adds_weight n old.rank (is_stop_step x.step) r h.sound h.size h.running adds);
+}
+
+advance-answers : (script : List Step) (turns n : ℕ) (old : Player) (asked : Step) (new : Player) → Ready script turns n old asked → PollAnswers old asked new → Advances script turns n old new
+advance-answers script turns n old asked new h a =
+    let A : Player → Type 0 = λ (p : Player). Advances script turns n old p in
+    subst A (sym a.only) (advance-closed script turns n old a.rank (report_of asked a.answer (length old.rank.log) old.polls) h (answers_add old.done old.rank asked a.answer a.rank h.running a.answers))
+
+advance-polled : (script : List Step) (turns n : ℕ) (old : Player) (asked : Step) → Ready script turns n old asked → (polled old asked).polls < turns → Advances script turns n old (polled old asked)
+advance-polled script turns n old asked h few = record {
+  follows = follows-polled script turns old asked h.follows h.next few;
+  falls = omega (arith, left_polled turns (length script) (length old.done) old.polls h.inside (polls_small script turns old h.follows h.patient) h.counted);
+}
+
+-- one poll that is answered, or leaves the step open with polls to spare
+pub advance-called : (script : List Step) (turns n : ℕ) (old : Player) (asked : Step) (new : Player) → Ready script turns n old asked → IsCalled old asked new → (new.current ≡ None) ⊎ (new.polls < turns) → Advances script turns n old new
+advance-called script turns n old asked new h (inl a) few = advance-answers script turns n old asked new h a
+advance-called script turns n old asked new h (inr o) few =
+    let A : Player → Type 0 = λ (p : Player). Advances script turns n old p in
+    let F : Player → Type 0 = λ (p : Player). (p.current ≡ None) ⊎ (p.polls < turns) in
+    let low : (polled old asked).polls < turns = elim (subst F o.only few) [ inl none ↦ (let bad : ⊥ = cc in absurd bad) | inr below ↦ below ] in
+    subst A (sym o.only) (advance-polled script turns n old asked h low)
+
+-- a step that may stay open is no stop
+open_goes_on : (done : List StepReport) (r : State) (asked : Step) → IsOpen done r asked → is_stop_step asked ≡ false
+open_goes_on done r (Wait req) h = refl
+open_goes_on done r _ h = absurd h
+
+advance-opens : (script : List Step) (turns n : ℕ) (old : Player) (asked : Step) (mid new : Player) → Ready script turns n old asked → PollOpens old asked mid → Left mid new → Advances script turns n old new
+advance-opens script turns n old asked mid new h o left =
+    let A : Player → Type 0 = λ (p : Player). Advances script turns n old p in
+    let C : Player → Type 0 = λ (p : Player). p.current ≡ Some left.step in
+    let same : asked ≡ left.step = same_Some asked left.step (subst C o.only left.was_open) in
+    let N : Player → Step → Type 0 = λ (p : Player) (s : Step). new ≡ answered p s Unfinished p.at in
+    let P : Step → Type 0 = N mid in
+    let Q : Player → Type 0 = λ (p : Player). N p asked in
+    let now : new ≡ answered (polled old asked) asked Unfinished (length old.rank.log) = subst Q o.only (subst P (sym same) left.only) in
+    subst A (sym now) (advance-closed script turns n old old.rank (report_of asked Unfinished (length old.rank.log) (polled old asked).polls) h (inl (refl, open_goes_on old.done old.rank asked o.stays)))
+
+-- a poll that leaves the step open, which is then given up
+pub advance-left : (script : List Step) (turns n : ℕ) (old : Player) (asked : Step) (mid new : Player) (s : Step) → Ready script turns n old asked → IsCalled old asked mid → mid.current ≡ Some s → Left mid new → Advances script turns n old new
+advance-left script turns n old asked mid new s h (inr o) e left = advance-opens script turns n old asked mid new h o left
+advance-left script turns n old asked mid new s h (inl a) e left =
+    let C : Player → Type 0 = λ (p : Player). p.current ≡ Some s in
+    let none : None ≡ Some s = subst C a.only e in
+    let bad : ⊥ = cc in
+    absurd bad

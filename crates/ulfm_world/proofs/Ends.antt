@@ -1,0 +1,78 @@
+-- A replay from its start to rest.
+use Rattle.std.proofs.Common.{◌≡◌, ◌≢◌, ℕ, ◌+◌, ◌<◌, ◌≤◌, Bool, true, false, List, [], ◌∷◌, ◌++◌, length, map, refl, ap, sym, subst, ◌∙◌, arith, inl, inr, ◌⊎◌, append-nil, length-append}
+use Rattle.std.proofs.lemmas.Bool.{false≢true, cases_Bool}
+use Rattle.std.proofs.lemmas.List.{length-map, nil_from_length}
+use Rattle.ulfm_base.specs.declared.rank.WorldRank.{WorldRank}
+use Rattle.ulfm_base.specs.declared.item.Item.{Item}
+use Rattle.ulfm_rank.specs.Facts.{is_stopped}
+use Rattle.ulfm_script.specs.declared.step.Step.{Step}
+use Rattle.ulfm_script.specs.Player.{Player, start_player}
+use Rattle.ulfm_script.specs.Report.{Report}
+use Rattle.ulfm_script.specs.Job.{Seen, script_at, through_stop, has_stop}
+use Rattle.ulfm_world.specs.World.{World, player_at, rank_at, inbox_at, start_world, Reaches, IsRunning}
+use Rattle.ulfm_world.specs.Rest.{IsAtRest}
+use Rattle.ulfm_world.specs.Replay.{FollowsAt, Follows, Moves, IsStuck, IsPushStuck, IsAnswered, IsReplayed, report_of, Came, steps_done, step_of}
+use Rattle.ulfm_world.proofs.Starts.{player-start, length-start}
+use Rattle.ulfm_world.proofs.Scripts.{through-none}
+use Rattle.ulfm_world.proofs.Runs.{reaches-then}
+
+follows-start : (script : List Step) (turns r n : ℕ) → FollowsAt script turns (start_player r n)
+follows-start script turns r n = record { rest = script; split = refl; current = refl; running = λ e. refl; stopped = λ e. absurd (false≢true e) }
+
+pub came-start : (j : Seen) (w : World) → w ≡ start_world j.ranks j.capacity → Came j w
+came-start j w is =
+    let n : ℕ = j.ranks in
+    let C : World → Type 0 = λ (x : World). Came j x in
+    subst C (sym is) (record {
+      reaches = ([], refl);
+      size = length-start n n;
+      capacity = refl;
+      follows = λ r k.
+          let F : Player → Type 0 = λ (p : Player). FollowsAt (script_at j r) j.turns p in
+          subst F (sym (player-start n n r (omega (arith, k, length-start n n)))) (follows-start (script_at j r) j.turns r n);
+    })
+
+pub came-moves : (j : Seen) (v w : World) (a : Bool) → Came j v → Moves j v w a → Came j w
+came-moves j v w a h k = record {
+  reaches = reaches-then _ v w h.reaches k.reaches;
+  size = k.size ∙ h.size;
+  capacity = k.capacity ∙ h.capacity;
+  follows = k.follows h.follows;
+}
+
+stuck-rest : (j : Seen) (w : World) → 0 < w.capacity → ((r : ℕ) → r < length w.players → IsStuck j w r) → IsAtRest w
+stuck-rest j w roomy h = record {
+  served = λ d k running. record {
+    inbox = (h d k).takes running;
+    outboxes = λ s i. elim ((h s i).pushes d k) [
+      | inl empty ↦ empty
+      | inr full ↦
+          let none : length (inbox_at w d) ≡ 0 = ap (λ (xs : List (WorldRank × Item)). length xs) ((h d k).takes running) in
+          absurd (omega (arith, full, none, roomy))
+    ];
+  };
+}
+
+answered_running : (script : List Step) (turns : ℕ) (p : Player) → FollowsAt script turns p → is_stopped p.rank.log ≡ false → length script ≤ length p.done → steps_done p ≡ through_stop script
+answered_running script turns p h running all =
+    let none : h.rest ≡ [] = nil_from_length h.rest (omega (arith, all, ap (λ (xs : List Step). length xs) h.split, length-append (steps_done p) h.rest, length-map p.done step_of)) in
+    let whole : steps_done p ≡ script = sym (append-nil (steps_done p)) ∙ ap (λ (xs : List Step). steps_done p ++ xs) (sym none) ∙ h.split in
+    sym (through-none (steps_done p) (h.running running)) ∙ ap through_stop whole
+
+stuck-answered : (j : Seen) (w : World) → Follows j w → ((r : ℕ) → r < length w.players → IsStuck j w r) → IsAnswered j w
+stuck-answered j w f h r k = elim (cases_Bool (is_stopped (rank_at w r).log)) [
+  | inl stopped ↦ (f r k).stopped stopped
+  | inr running ↦ answered_running (script_at j r) j.turns (player_at w r) (f r k) running ((h r k).polls running)
+]
+
+-- the reports of a world that came to rest
+pub replayed : (j : Seen) (w : World) (reports : List Report) → 0 < j.capacity → Came j w → ((r : ℕ) → r < length w.players → IsStuck j w r) → reports ≡ map report_of w.players → IsReplayed j reports
+replayed j w reports roomy came stuck is = record {
+  world = w;
+  reaches = came.reaches;
+  rests = stuck-rest j w (omega (arith, came.capacity, roomy)) stuck;
+  answered = stuck-answered j w came.follows stuck;
+  reported = is;
+}
+
+pub ruleset rests = (came-start, came-moves)

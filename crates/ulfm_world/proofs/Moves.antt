@@ -1,0 +1,59 @@
+-- How the parts of a replay join: something moves, or nothing does.
+use Rattle.std.proofs.Common.{◌≡◌, ℕ, ◌+◌, ◌<◌, ◌≤◌, Bool, true, false, cond, List, [], length, refl, sym, subst, ◌∙◌, arith, below_more}
+use Rattle.std.proofs.lemmas.Bool.{false≢true}
+use Rattle.ulfm_script.specs.Job.{Seen}
+use Rattle.ulfm_world.specs.World.{World}
+use Rattle.ulfm_world.specs.Replay.{Follows, measure, Moves}
+use Rattle.ulfm_world.proofs.Runs.{reaches-then}
+
+pub moves-none : (j : Seen) (w : World) → Moves j w w false
+moves-none j w = record { reaches = ([], refl); size = refl; capacity = refl; follows = λ f. f; falls = λ e. absurd (false≢true e); stays = λ e. refl }
+
+never_more : (j : Seen) (a : Bool) (u v : World) → Moves j u v a → Follows j u → measure j v ≤ measure j u
+never_more j true u v h f = omega (arith, h.falls refl f)
+never_more j false u v h f = let M : World → Type 0 = λ (x : World). measure j x ≤ measure j u in subst M (sym (h.stays refl)) (omega arith)
+
+-- something moved in the second part
+pub moves-on : (j : Seen) (a : Bool) (u v w : World) → Moves j u v a → Moves j v w true → Moves j u w true
+moves-on j a u v w h k = record {
+  reaches = reaches-then u v w h.reaches k.reaches;
+  size = k.size ∙ h.size;
+  capacity = k.capacity ∙ h.capacity;
+  follows = λ f. k.follows (h.follows f);
+  falls = λ _ f. omega (arith, k.falls refl (h.follows f), never_more j a u v h f);
+  stays = λ e. absurd (false≢true (sym e));
+}
+
+-- nothing moved in the second part
+pub moves-not : (j : Seen) (a : Bool) (u v w : World) → Moves j u v a → Moves j v w false → Moves j u w a
+moves-not j a u v w h k = let M : World → Type 0 = λ (x : World). Moves j u x a in subst M (sym (k.stays refl)) h
+
+pub moves-then : (j : Seen) (a b : Bool) (u v w : World) → Moves j u v a → Moves j v w b → Moves j u w (cond a true b)
+moves-then j a true u v w h k = let M : Bool → Type 0 = λ (x : Bool). Moves j u w x in subst M (whole a) (moves-on j a u v w h k)
+  where
+    whole : (a : Bool) → true ≡ cond a true true
+    whole true = refl
+    whole false = refl
+moves-then j a false u v w h k = let M : Bool → Type 0 = λ (x : Bool). Moves j u w x in subst M (whole a) (moves-not j a u v w h k)
+  where
+    whole : (a : Bool) → a ≡ cond a true false
+    whole true = refl
+    whole false = refl
+
+pub ruleset going = (moves-none, moves-on, moves-not)
+
+-- one more turn of a loop, in which something moved
+pub loop_then : (j : Seen) (a b c : Bool) (u v w : World) (P : World → ℕ → Type 0) (i : ℕ) → Moves j u v a → Moves j v w b → b ≡ true → c ≡ true → Moves j u w c × (c ≡ false → (k : ℕ) → k < i + 1 → P w k)
+loop_then j a b c u v w P i h k e f =
+    let B : Bool → Type 0 = λ (x : Bool). Moves j v w x in
+    let C : Bool → Type 0 = λ (x : Bool). Moves j u w x in
+    (subst C (sym f) (moves-on j a u v w h (subst B e k)), λ still. absurd (false≢true (sym still ∙ f)))
+
+-- one in which nothing moved
+pub loop_else : (j : Seen) (a b c : Bool) (u v w : World) (P : World → ℕ → Type 0) (i : ℕ) → Moves j u v a → (a ≡ false → (k : ℕ) → k < i → P v k) → Moves j v w b → b ≡ false → c ≡ a → P w i → Moves j u w c × (c ≡ false → (k : ℕ) → k < i + 1 → P w k)
+loop_else j a b c u v w P i h below k e f here =
+    let B : Bool → Type 0 = λ (x : Bool). Moves j v w x in
+    let C : Bool → Type 0 = λ (x : Bool). Moves j u w x in
+    let still : Moves j v w false = subst B e k in
+    let W : World → Type 0 = λ (x : World). (y : ℕ) → y < i → P x y in
+    (subst C (sym f) (moves-not j a u v w h still), λ quiet. below_more (P w) i (subst W (sym (still.stays refl)) (below (sym f ∙ quiet))) here)

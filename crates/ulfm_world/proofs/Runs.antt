@@ -1,0 +1,69 @@
+-- Every schedule keeps what every world keeps.
+use Rattle.std.proofs.Common.{◌≡◌, ℕ, ◌+◌, ◌<◌, ◌≤◌, List, [], ◌∷◌, ◌++◌, length, take, get_or, refl, sym, subst, inl, inr, ◌⊎◌, Result, Ok, Err, OnOk, OnErr}
+use Rattle.std.proofs.lemmas.List.{take_more}
+use Rattle.ulfm_world.specs.declared.event.Event.{Event}
+use Rattle.ulfm_world.specs.declared.event.Event.TheVariants.{Call, Push, Take, Leave}
+use Rattle.ulfm_world.specs.World.{World, rank_at, with_players, Calls, GivesUp, Happens, Applied, Run, Reaches}
+use Rattle.ulfm_world.specs.Flow.{IsWorld}
+use Rattle.ulfm_world.proofs.Polls.{quiet-called, quiet-left}
+use Rattle.ulfm_world.proofs.KeepsCalls.{keeps-quiet, keeps-takes}
+use Rattle.ulfm_world.proofs.KeepsPush.{keeps-pushes}
+use Rattle.ulfm_script.specs.Player.{Player}
+use Rattle.ulfm_script.specs.declared.step.Step.{Step}
+
+keeps-calls : (w : World) (r : ℕ) (asked : Step) (players : List Player) → IsWorld w → Calls w.players r asked players → IsWorld (with_players w players)
+keeps-calls w r asked players h c =
+    let W : List Player → Type 0 = λ (ps : List Player). IsWorld (with_players w ps) in
+    subst W (sym c.only) (keeps-quiet w r c.after h c.inside (quiet-called _ asked c.after (h.sound r c.inside) c.running c.called))
+
+keeps-gives_up : (w : World) (r : ℕ) (players : List Player) → IsWorld w → GivesUp w.players r players → IsWorld (with_players w players)
+keeps-gives_up w r players h c =
+    let W : List Player → Type 0 = λ (ps : List Player). IsWorld (with_players w ps) in
+    subst W (sym c.only) (keeps-quiet w r c.after h c.inside (quiet-left _ c.after (h.sound r c.inside) c.left))
+
+pub keeps-happens : (w : World) (event : Event) (w' : World) → IsWorld w → Happens w event w' → IsWorld w'
+keeps-happens w (Call r asked) w' h k = let W : World → Type 0 = λ (x : World). IsWorld x in subst W (sym k.2) (keeps-calls w r asked k.0 h k.1)
+keeps-happens w (Push s d) w' h k = keeps-pushes w s d w' h k
+keeps-happens w (Take r) w' h k = keeps-takes w r w' h k
+keeps-happens w (Leave r) w' h k = let W : World → Type 0 = λ (x : World). IsWorld x in subst W (sym k.2) (keeps-gives_up w r k.0 h k.1)
+
+pub keeps-applied : (w : World) (event : Event) (w' : World) → IsWorld w → Applied w event w' → IsWorld w'
+keeps-applied w event w' h (inl k) = keeps-happens w event w' h k
+keeps-applied w event w' h (inr e) = let W : World → Type 0 = λ (x : World). IsWorld x in subst W (sym e) h
+
+pub keeps-run : (events : List Event) (w w' : World) → IsWorld w → Run w events w' → IsWorld w'
+keeps-run [] w w' h k = let W : World → Type 0 = λ (x : World). IsWorld x in subst W (sym k) h
+keeps-run (event ∷ events) w w' h k = keeps-run events k.0 w' (keeps-applied w event k.0 h k.1) k.2
+
+pub keeps-reaches : (w w' : World) → IsWorld w → Reaches w w' → IsWorld w'
+keeps-reaches w w' h k = keeps-run k.0 w w' h k.1
+
+either : {A E : Type 0} (r : Result A E) (w w' : World) (event : Event) → OnOk r (Happens w event w') → OnErr r (w' ≡ w) → Applied w event w'
+either (Ok x) w w' event k e = inl k
+either (Err x) w w' event k e = inr e
+
+-- an event that happened or was refused keeps the world
+pub keeps-either : {A E : Type 0} (r : Result A E) (w w' : World) (event : Event) → IsWorld w → OnOk r (Happens w event w') → OnErr r (w' ≡ w) → IsWorld w'
+keeps-either r w w' event h k e = keeps-applied w event w' h (either r w w' event k e)
+
+-- one more event
+pub run-push : (events : List Event) (event : Event) (w m w' : World) → Run w events m → Applied m event w' → Run w (events ++ event ∷ []) w'
+run-push [] event w m w' h k = let A : World → Type 0 = λ (x : World). Applied x event w' in (w', subst A h k, refl)
+run-push (x ∷ events) event w m w' h k = (h.0, h.1, run-push events event h.0 m w' h.2 k)
+
+pub run_more : {A E : Type 0} (r : Result A E) (events : List Event) (i : ℕ) (d : Event) (w m w' : World) → i < length events → Run w (take i events) m → OnOk r (Happens m (get_or events i d) w') → OnErr r (w' ≡ m) → Run w (take (i + 1) events) w'
+run_more r events i d w m w' inside h k e =
+    let R : List Event → Type 0 = λ (es : List Event). Run w es w' in
+    subst R (sym (take_more events i d inside)) (run-push (take i events) (get_or events i d) w m w' h (either r m w' (get_or events i d) k e))
+
+pub ruleset runs = (run_more)
+
+run-append : (xs ys : List Event) (u v w : World) → Run u xs v → Run v ys w → Run u (xs ++ ys) w
+run-append [] ys u v w h k = let R : World → Type 0 = λ (x : World). Run x ys w in subst R h k
+run-append (x ∷ xs) ys u v w h k = (h.0, h.1, run-append xs ys h.0 v w h.2 k)
+
+pub reaches-one : (w : World) (event : Event) (w' : World) → Happens w event w' → Reaches w w'
+reaches-one w event w' h = (event ∷ [], (w', inl h, refl))
+
+pub reaches-then : (u v w : World) → Reaches u v → Reaches v w → Reaches u w
+reaches-then u v w h k = (h.0 ++ k.0, run-append h.0 k.0 u v w h.1 k.1)

@@ -1,0 +1,87 @@
+-- What one more entry changes of what a rank may still send.
+use Rattle.std.proofs.Common.{◌≡◌, ◌≢◌, ℕ, ◌+◌, ◌*◌, ◌<◌, ◌≤◌, Bool, true, false, cond, eqb, List, [], ◌∷◌, ◌++◌, length, drop, refl, ap, sym, subst, ◌∙◌, arith, inl, inr, append-nil, length-append}
+use Rattle.std.specs.Prelude.{◌||◌}
+use Rattle.std.proofs.lemmas.Bool.{cases_Bool, eq-eqb, or_left, or_right}
+use Rattle.std.proofs.lemmas.List.{drop-append-le}
+use Rattle.ulfm_base.specs.declared.rank.WorldRank.{WorldRank}
+use Rattle.ulfm_base.specs.declared.context.Context.{Context}
+use Rattle.ulfm_base.specs.declared.item.Item.{Item}
+use Rattle.ulfm_base.specs.declared.item.Item.TheVariants.{Letter as Mail, Gone, Revoke, Enter}
+use Rattle.ulfm_rank.specs.declared.entry.Entry.{Entry}
+use Rattle.ulfm_rank.specs.declared.entry.Entry.TheVariants.{Took}
+use Rattle.ulfm_rank.specs.Facts.{is_stop, is_stopped, is_revoked, revokes}
+use Rattle.ulfm_rank.specs.Owed.{owed_by}
+use Rattle.ulfm_rank.specs.State.{State, IsState, logged, owes, outbox, mark_at}
+use Rattle.ulfm_world.specs.Replay.{sum_below, out_at, fresh_at, fresh_of}
+use Rattle.ulfm_world.proofs.Gather.{any-push}
+use Rattle.ulfm_world.proofs.Logs.{owes-logged, stopped-push, owed_by_few}
+use Rattle.ulfm_world.proofs.Sums.{sum-within, sum-le, sum-falls}
+
+after_stop : (a b : Bool) → length (cond a [] (cond b [] (Gone ∷ []))) ≤ 1
+after_stop true b = omega arith
+after_stop false true = omega arith
+after_stop false false = omega arith
+
+-- an entry leaves at most one item more in an outbox
+outbox_more : (r : State) (e : Entry) (d : ℕ) → IsState r → d < r.ranks → is_stopped r.log ≡ false → 2 * length (outbox (logged r e) d) ≤ 2 * length (outbox r d) + 2
+outbox_more r e d h inside running = elim (cases_Bool (is_stop e)) [
+  | inl stop ↦
+      let stops : is_stopped (r.log ++ e ∷ []) ≡ true = stopped-push r.log e ∙ or_right (is_stopped r.log) (is_stop e) stop in
+      rw stops (omega (arith, after_stop (eqb r.me d) (mark_at r d).told))
+  | inr go ↦
+      let runs : is_stopped (r.log ++ e ∷ []) ≡ false = stopped-push r.log e ∙ ap (λ b. b || is_stop e) running ∙ go in
+      let more : drop (mark_at r d).taken (owes (logged r e) d) ≡ drop (mark_at r d).taken (owes r d) ++ owed_by r.ranks r.me d r.log (owes r d) e =
+      ap (drop (mark_at r d).taken) (owes-logged r e d) ∙ drop-append-le (mark_at r d).taken (owes r d) (owed_by r.ranks r.me d r.log (owes r d) e) (h.within d inside) in
+      rw (runs, running) (omega (arith, ap (λ (xs : List Item). length xs) more, length-append (drop (mark_at r d).taken (owes r d)) (owed_by r.ranks r.me d r.log (owes r d) e), owed_by_few r.ranks r.me d r.log (owes r d) e))
+]
+
+pub out-logged : (n : ℕ) (r : State) (e : Entry) → IsState r → n ≡ r.ranks → is_stopped r.log ≡ false → out_at n (logged r e) ≤ out_at n r + 16
+out-logged n r e h size running =
+    omega (arith, h.small, size, sum-within n 2 (λ d. 2 * length (outbox (logged r e) d)) (λ d. 2 * length (outbox r d)) (λ d k. outbox_more r e d h (omega (arith, k, size)) running))
+
+fresh_more : (r : State) (e : Entry) (c : ℕ) → fresh_at (logged r e) c ≤ fresh_at r c
+fresh_more r e c = rw (any-push (revokes c) r.log e) (one (is_revoked r.log c) (revokes c e))
+  where
+    one : (a b : Bool) → cond (a || b) 0 17 ≤ cond a 0 17
+    one true b = omega arith
+    one false true = omega arith
+    one false false = omega arith
+
+pub fresh-logged : (r : State) (e : Entry) → fresh_of (logged r e) ≤ fresh_of r
+unfolding fresh_of
+fresh-logged r e = sum-le 63 (fresh_at (logged r e)) (fresh_at r) (λ c k. fresh_more r e c)
+
+-- a first revocation
+fresh_falls : (r : State) (e : Entry) (c : ℕ) → c < 63 → is_revoked r.log c ≡ false → revokes c e ≡ true → fresh_of (logged r e) + 17 ≤ fresh_of r
+unfolding fresh_of
+fresh_falls r e c inside fresh now =
+    let revoked : is_revoked (r.log ++ e ∷ []) c ≡ true = any-push (revokes c) r.log e ∙ or_right (is_revoked r.log c) (revokes c e) now in
+    sum-falls 63 c 17 (fresh_at (logged r e)) (fresh_at r) inside (λ x k. fresh_more r e x) (rw (revoked, fresh) (omega arith))
+
+-- an entry that owes nothing
+out_same : (n : ℕ) (r : State) (e : Entry) → is_stop e ≡ false → ((d : ℕ) → owed_by r.ranks r.me d r.log (owes r d) e ≡ []) → out_at n (logged r e) ≤ out_at n r
+out_same n r e go none =
+    sum-le n (λ d. 2 * length (outbox (logged r e) d)) (λ d. 2 * length (outbox r d))
+    (λ d k.
+    let stop : is_stopped (r.log ++ e ∷ []) ≡ is_stopped r.log = stopped-push r.log e ∙ ap (λ b. is_stopped r.log || b) go ∙ or_false (is_stopped r.log) in
+    let same : owes (logged r e) d ≡ owes r d = owes-logged r e d ∙ ap (λ (xs : List Item). owes r d ++ xs) (none d) ∙ append-nil (owes r d) in
+    rw (stop, same) (omega arith))
+  where
+    or_false : (b : Bool) → b || false ≡ b
+    or_false true = refl
+    or_false false = refl
+
+took_light : (n : ℕ) (r : State) (source : WorldRank) (item : Item) → ((d : ℕ) → owed_by r.ranks r.me d r.log (owes r d) (Took source item) ≡ []) → out_at n (logged r (Took source item)) + fresh_of (logged r (Took source item)) ≤ out_at n r + fresh_of r
+took_light n r source item none = omega (arith, out_same n r (Took source item) refl none, fresh-logged r (Took source item))
+
+took_revoke : (b : Bool) (n : ℕ) (r : State) (source : WorldRank) (context : Context) → IsState r → n ≡ r.ranks → is_stopped r.log ≡ false → is_revoked r.log context.number ≡ b → out_at n (logged r (Took source (Revoke context))) + fresh_of (logged r (Took source (Revoke context))) ≤ out_at n r + fresh_of r
+took_revoke true n r source context h size running was = took_light n r source (Revoke context) (λ d. rw was refl)
+took_revoke false n r source context h size running fresh =
+    omega (arith, out-logged n r (Took source (Revoke context)) h size running, fresh_falls r (Took source (Revoke context)) context.number context.in_range fresh (eq-eqb context.number context.number refl))
+
+-- an item that is taken adds nothing to what the rank may still send
+pub out-took : (n : ℕ) (r : State) (source : WorldRank) (item : Item) → IsState r → n ≡ r.ranks → is_stopped r.log ≡ false → out_at n (logged r (Took source item)) + fresh_of (logged r (Took source item)) ≤ out_at n r + fresh_of r
+out-took n r source (Revoke context) h size running = took_revoke (is_revoked r.log context.number) n r source context h size running refl
+out-took n r source (Mail letter) h size running = took_light n r source (Mail letter) (λ d. refl)
+out-took n r source Gone h size running = took_light n r source Gone (λ d. refl)
+out-took n r source (Enter context known) h size running = took_light n r source (Enter context known) (λ d. refl)

@@ -1,0 +1,5 @@
+use Rattle.ulfm_world.proofs.FlowFrom.{flows-world, world-reached}
+use Rattle.ulfm_world.proofs.laws.flows.Goals as goal
+
+pub returns : goal.returns
+returns c = λ n capacity w small h. flows-world w (world-reached n capacity w small h)

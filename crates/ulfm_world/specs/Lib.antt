@@ -1,0 +1,5 @@
+pub mod World
+pub mod Flow
+pub mod Rest
+pub mod Replay
+pub mod Fields

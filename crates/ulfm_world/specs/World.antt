@@ -1,0 +1,152 @@
+-- Ranks with their inboxes, and what may happen to them next.
+use Rattle.std.specs.Prelude.{◌≡◌, ◌≢◌, ℕ, zero, suc, Bool, true, false, List, [], ◌∷◌, ◌++◌, ◌+◌, ◌<◌, ◌≤◌, ◌⊎◌, length, if◌then◌else◌, Option, Some, None, is_none, slice_index_or, slice_set, replicate}
+use Rattle.ulfm_base.specs.declared.rank.WorldRank.{WorldRank}
+use Rattle.ulfm_base.specs.declared.item.Item.{Item}
+use Rattle.ulfm_rank.specs.declared.entry.Entry.{Entry}
+use Rattle.ulfm_rank.specs.declared.entry.Entry.TheVariants.{Took}
+use Rattle.ulfm_rank.specs.Facts.{is_stopped}
+use Rattle.ulfm_rank.specs.State.{State, logged, outbox, Leaves}
+use Rattle.ulfm_script.specs.declared.step.Step.{Step}
+use Rattle.ulfm_script.specs.Player.{Player, start_player, with_rank, IsFree, IsCalled, Left}
+use Rattle.ulfm_world.specs.declared.event.Event.{Event}
+use Rattle.ulfm_world.specs.declared.event.Event.TheVariants.{Call, Push, Take, Leave}
+use Rattle.ulfm_world.specs.declared.event.Outcome.{Outcome}
+use Rattle.ulfm_world.specs.declared.event.Outcome.TheVariants.{Answered, NotYet, Moved}
+use Rattle.ulfm_world.specs.declared.event.Refused.{Refused}
+use Rattle.ulfm_world.specs.declared.event.Refused.TheVariants.{NothingToPush, InboxFull, InboxEmpty, NotReady, Stopped, OutOfMemory, NoSuchRank}
+
+-- the players, an inbox for each with the senders of its items, and the room of an inbox
+pub record World : Type 0 where
+  pub players : List Player
+  pub inboxes : List (List (WorldRank × Item))
+  pub capacity : ℕ
+
+abbrev pub no_player : Player
+no_player = start_player 0 0
+
+abbrev pub player_in : List Player → ℕ → Player
+player_in players r = slice_index_or players r no_player
+
+abbrev pub player_at : World → ℕ → Player
+player_at w r = player_in w.players r
+
+abbrev pub rank_at : World → ℕ → State
+rank_at w r = (player_in w.players r).rank
+
+abbrev pub inbox_at : World → ℕ → List (WorldRank × Item)
+inbox_at w d = slice_index_or w.inboxes d []
+
+-- the rank r runs
+abbrev pub IsRunning : World → ℕ → Type 0
+IsRunning w r = is_stopped (rank_at w r).log ≡ false
+
+abbrev pub HasStopped : World → ℕ → Type 0
+HasStopped w r = is_stopped (rank_at w r).log ≡ true
+
+abbrev pub with_players : World → List Player → World
+with_players w players = record { players = players; inboxes = w.inboxes; capacity = w.capacity }
+
+abbrev pub with_player : World → ℕ → Player → World
+with_player w r player = with_players w (slice_set w.players r player)
+
+abbrev pub with_inbox : World → ℕ → List (WorldRank × Item) → World
+with_inbox w d items = record { players = w.players; inboxes = slice_set w.inboxes d items; capacity = w.capacity }
+
+-- the first k of n players that start
+abbrev pub start_players : ℕ → ℕ → List Player
+start_players n zero = []
+start_players n (suc k) = start_players n k ++ start_player k n ∷ []
+
+-- n ranks that start, with empty inboxes
+abbrev pub start_world : ℕ → ℕ → World
+start_world n capacity = record { players = start_players n n; inboxes = replicate n []; capacity = capacity }
+
+-- one poll of a step by the player r, where no other step stands open
+pub record Calls (old : List Player) (r : ℕ) (step : Step) (new : List Player) : Type 0 where
+  pub inside : r < length old
+  pub running : is_stopped (player_in old r).rank.log ≡ false
+  pub free : IsFree (player_in old r) step
+  pub after : Player
+  pub called : IsCalled (player_in old r) step after
+  pub only : new ≡ slice_set old r after
+
+-- the player r gives its open step up
+pub record GivesUp (old : List Player) (r : ℕ) (new : List Player) : Type 0 where
+  pub inside : r < length old
+  pub running : is_stopped (player_in old r).rank.log ≡ false
+  pub after : Player
+  pub left : Left (player_in old r) after
+  pub only : new ≡ slice_set old r after
+
+-- the first item of the outbox of s towards d goes to the end of the inbox of d
+pub record Pushes (old : World) (s d : ℕ) (new : World) : Type 0 where
+  pub inside_s : s < length old.players
+  pub inside_d : d < length old.players
+  pub room : length (inbox_at old d) < old.capacity
+  pub sender : WorldRank
+  pub is_sender : sender.number ≡ s
+  pub item : Item
+  pub after : State
+  pub leaves : Leaves (rank_at old s) after d item
+  pub only : new ≡ with_inbox (with_player old s (with_rank (player_at old s) after)) d (inbox_at old d ++ (sender, item) ∷ [])
+
+-- the first item of the inbox of r goes to its log
+pub record Takes (old : World) (r : ℕ) (new : World) : Type 0 where
+  pub inside : r < length old.players
+  pub running : IsRunning old r
+  pub source : WorldRank
+  pub item : Item
+  pub rest : List (WorldRank × Item)
+  pub front : inbox_at old r ≡ (source, item) ∷ rest
+  pub only : new ≡ with_inbox (with_player old r (with_rank (player_at old r) (logged (rank_at old r) (Took source item)))) r rest
+
+-- one step of the world
+abbrev pub Happens : World → Event → World → Type 0
+Happens old (Call r step) new = (players : List Player) × Calls old.players r step players × (new ≡ with_players old players)
+Happens old (Push s d) new = Pushes old s d new
+Happens old (Take r) new = Takes old r new
+Happens old (Leave r) new = (players : List Player) × GivesUp old.players r players × (new ≡ with_players old players)
+
+-- what is told of an event that happened, by the world after it
+abbrev pub outcome_of : World → Event → Outcome
+outcome_of new (Call r _) = if is_none (player_at new r).current then Answered else NotYet
+outcome_of new _ = Moved
+
+-- an event happens, or is refused and changes nothing
+abbrev pub Applied : World → Event → World → Type 0
+Applied old event new = Happens old event new ⊎ (new ≡ old)
+
+-- a whole schedule
+abbrev pub Run : World → List Event → World → Type 0
+Run old [] new = new ≡ old
+Run old (event ∷ events) new = (mid : World) × Applied old event mid × Run mid events new
+
+-- some schedule leads from one world to the other
+abbrev pub Reaches : World → World → Type 0
+Reaches old new = (events : List Event) × Run old events new
+
+abbrev pub IsInside : World → ℕ → Type 0
+IsInside w r = r < length w.players
+
+-- the rank r is one of the world, and runs
+abbrev pub IsLive : World → ℕ → Type 0
+IsLive w r = IsInside w r × IsRunning w r
+
+-- Why an event is refused, in the order of the checks. Want of memory has no cause that a world shows.
+abbrev pub IsRefused : World → Event → Refused → Type 0
+IsRefused w (Call r asked) NoSuchRank = length w.players ≤ r
+IsRefused w (Call r asked) Stopped = IsInside w r × HasStopped w r
+IsRefused w (Call r asked) NotReady = IsLive w r × (IsFree (player_at w r) asked → ⊥)
+IsRefused w (Call r asked) OutOfMemory = IsLive w r × IsFree (player_at w r) asked
+IsRefused w (Push s d) NoSuchRank = (length w.players ≤ s) ⊎ (length w.players ≤ d)
+IsRefused w (Push s d) NothingToPush = IsInside w s × IsInside w d × (outbox (rank_at w s) d ≡ [])
+IsRefused w (Push s d) InboxFull = IsInside w s × IsInside w d × (outbox (rank_at w s) d ≢ []) × (w.capacity ≤ length (inbox_at w d))
+IsRefused w (Push s d) OutOfMemory = IsInside w s × IsInside w d × (outbox (rank_at w s) d ≢ []) × (length (inbox_at w d) < w.capacity)
+IsRefused w (Take r) NoSuchRank = length w.players ≤ r
+IsRefused w (Take r) Stopped = IsInside w r × HasStopped w r
+IsRefused w (Take r) InboxEmpty = IsLive w r × (inbox_at w r ≡ [])
+IsRefused w (Take r) OutOfMemory = IsLive w r × (inbox_at w r ≢ [])
+IsRefused w (Leave r) NoSuchRank = length w.players ≤ r
+IsRefused w (Leave r) Stopped = IsInside w r × HasStopped w r
+IsRefused w (Leave r) NotReady = IsLive w r × ((player_at w r).current ≡ None)
+IsRefused w _ _ = ⊥
