@@ -1,10 +1,10 @@
 //! Failures: jobs whose traces the rules of MPI 4.0 and ULFM determine, from text to text.
 
-use super::rows::{Row, follows};
+use super::rows::{Row, first_wrong};
 
 #[test]
 fn failures_are_told_in_order(rt: HostRuntime) {
-    follows(
+    let wrong = first_wrong(
         &rt,
         &[
             Row {
@@ -123,4 +123,5 @@ step = [\n\
             },
         ],
     );
+    assert_eq!(rt; wrong, None);
 }

@@ -1,10 +1,10 @@
 //! Messages: jobs whose traces the rules of MPI 4.0 and ULFM determine, from text to text.
 
-use super::rows::{Row, follows};
+use super::rows::{Row, first_wrong};
 
 #[test]
 fn messages_are_matched_in_order(rt: HostRuntime) {
-    follows(
+    let wrong = first_wrong(
         &rt,
         &[
             Row {
@@ -185,4 +185,5 @@ turns = 1\n",
             },
         ],
     );
+    assert_eq!(rt; wrong, None);
 }

@@ -1,10 +1,10 @@
 //! Revocations and refusals: jobs whose traces the rules of MPI 4.0 and ULFM determine, from text to text.
 
-use super::rows::{Row, follows};
+use super::rows::{Row, first_wrong};
 
 #[test]
 fn revocations_reach_all(rt: HostRuntime) {
-    follows(
+    let wrong = first_wrong(
         &rt,
         &[
             Row {
@@ -72,4 +72,5 @@ step = [\n\
             },
         ],
     );
+    assert_eq!(rt; wrong, None);
 }
