@@ -4,12 +4,13 @@ use Rattle.std.proofs.lemmas.Option.{same_Some}
 use Rattle.ulfm_rank.specs.Facts.{is_stopped}
 use Rattle.ulfm_rank.specs.State.{State, IsState}
 use Rattle.ulfm_script.specs.declared.step.Step.{Step}
-use Rattle.ulfm_script.specs.declared.step.Step.TheVariants.{Wait}
+use Rattle.ulfm_script.specs.declared.step.Step.TheVariants.{Send, Recv, Wait, Failed, Ack, Revoke, Dup, Stop}
+use Rattle.ulfm_script.specs.declared.answer.StepAnswer.{StepAnswer}
 use Rattle.ulfm_script.specs.declared.answer.StepAnswer.TheVariants.{Unfinished}
 use Rattle.ulfm_script.specs.declared.answer.StepReport.{StepReport}
-use Rattle.ulfm_script.specs.Player.{Player, IsOpen, IsCalled, Left, PollAnswers, PollOpens, answered, polled, report_of}
+use Rattle.ulfm_script.specs.Player.{Player, Answers, IsOpen, IsCalled, Left, PollAnswers, PollOpens, answered, polled, report_of}
 use Rattle.ulfm_script.specs.Job.{is_stop_step}
-use Rattle.ulfm_world.specs.Replay.{FollowsAt, weight_of, out_at, fresh_of}
+use Rattle.ulfm_world.specs.Replay.{IsPolled, IsPatient, FollowsAt, weight_of, out_at, fresh_of}
 use Rattle.ulfm_world.proofs.Polls.{Adds, answers_add, stopped-adds}
 use Rattle.ulfm_world.proofs.Weights.{out-logged, fresh-logged}
 use Rattle.ulfm_world.proofs.Scripts.{closed, follows-closed, follows-polled, left-closed, left_polled, polls_small}
@@ -37,20 +38,38 @@ adds_weight n r stops new h size running (inr one) =
     let W : State → Type 0 = λ (s : State). out_at n s + fresh_of s ≤ (out_at n r + fresh_of r) + 16 in
     subst W (sym one.only) (omega (arith, out-logged n r one.entry h size running, fresh-logged r one.entry))
 
-advance-closed : (script : List Step) (turns n : ℕ) (old : Player) (r : State) (x : StepReport) → Ready script turns n old x.step → Adds old.rank (is_stop_step x.step) r → Advances script turns n old (closed old r x)
-advance-closed script turns n old r x h adds = record {
-  follows = follows-closed script turns old r x h.follows h.running h.next (stopped-adds old.rank (is_stop_step x.step) r h.running adds);
+advance-closed : (script : List Step) (turns n : ℕ) (old : Player) (r : State) (x : StepReport) → Ready script turns n old x.step → Adds old.rank (is_stop_step x.step) r → IsPatient turns x → Advances script turns n old (closed old r x)
+advance-closed script turns n old r x h adds patient = record {
+  follows = follows-closed script turns old r x h.follows h.running h.next (stopped-adds old.rank (is_stop_step x.step) r h.running adds) patient;
   falls = omega (arith, left-closed script turns old r x h.follows h.patient h.inside, adds_weight n old.rank (is_stop_step x.step) r h.sound h.size h.running adds);
 }
+
+-- a poll doesn't give its step up
+not_given_up : (done : List StepReport) (r : State) (asked : Step) (answer : StepAnswer) (new : State) → Answers done r asked answer new → answer ≡ Unfinished → ⊥
+not_given_up done r asked answer new h e = none asked (let A : StepAnswer → Type 0 = λ (x : StepAnswer). Answers done r asked x new in subst A e h)
+  where
+    none : (s : Step) → Answers done r s Unfinished new → ⊥
+    none (Send to tag body comm) h = h
+    none (Recv source tag room comm) h = h
+    none (Wait req) h = h
+    none (Failed comm) h = h
+    none (Ack count comm) h = h
+    none (Revoke comm) h = h
+    none (Dup comm) h = h
+    none Stop h = h
+
+polled_in_time : (turns polls : ℕ) (answer : StepAnswer) → (answer ≡ Unfinished → ⊥) → polls < turns → IsPolled turns answer polls
+polled_in_time turns polls Unfinished h few = absurd (h refl)
+polled_in_time turns polls _ h few = few
 
 advance-answers : (script : List Step) (turns n : ℕ) (old : Player) (asked : Step) (new : Player) → Ready script turns n old asked → PollAnswers old asked new → Advances script turns n old new
 advance-answers script turns n old asked new h a =
     let A : Player → Type 0 = λ (p : Player). Advances script turns n old p in
-    subst A (sym a.only) (advance-closed script turns n old a.rank (report_of asked a.answer (length old.rank.log) old.polls) h (answers_add old.done old.rank asked a.answer a.rank h.running a.answers))
+    subst A (sym a.only) (advance-closed script turns n old a.rank (report_of asked a.answer (length old.rank.log) old.polls) h (answers_add old.done old.rank asked a.answer a.rank h.running a.answers) (polled_in_time turns old.polls a.answer (not_given_up old.done old.rank asked a.answer a.rank a.answers) (polls_small script turns old h.follows h.patient)))
 
 advance-polled : (script : List Step) (turns n : ℕ) (old : Player) (asked : Step) → Ready script turns n old asked → (polled old asked).polls < turns → Advances script turns n old (polled old asked)
 advance-polled script turns n old asked h few = record {
-  follows = follows-polled script turns old asked h.follows h.next few;
+  follows = follows-polled script turns old asked h.follows h.running h.next few;
   falls = omega (arith, left_polled turns (length script) (length old.done) old.polls h.inside (polls_small script turns old h.follows h.patient) h.counted);
 }
 
@@ -68,8 +87,8 @@ open_goes_on : (done : List StepReport) (r : State) (asked : Step) → IsOpen do
 open_goes_on done r (Wait req) h = refl
 open_goes_on done r _ h = absurd h
 
-advance-opens : (script : List Step) (turns n : ℕ) (old : Player) (asked : Step) (mid new : Player) → Ready script turns n old asked → PollOpens old asked mid → Left mid new → Advances script turns n old new
-advance-opens script turns n old asked mid new h o left =
+advance-opens : (script : List Step) (turns n : ℕ) (old : Player) (asked : Step) (mid new : Player) → Ready script turns n old asked → PollOpens old asked mid → Left mid new → turns ≤ mid.polls → Advances script turns n old new
+advance-opens script turns n old asked mid new h o left last =
     let A : Player → Type 0 = λ (p : Player). Advances script turns n old p in
     let C : Player → Type 0 = λ (p : Player). p.current ≡ Some left.step in
     let same : asked ≡ left.step = same_Some asked left.step (subst C o.only left.was_open) in
@@ -77,12 +96,13 @@ advance-opens script turns n old asked mid new h o left =
     let P : Step → Type 0 = N mid in
     let Q : Player → Type 0 = λ (p : Player). N p asked in
     let now : new ≡ answered (polled old asked) asked Unfinished (length old.rank.log) = subst Q o.only (subst P (sym same) left.only) in
-    subst A (sym now) (advance-closed script turns n old old.rank (report_of asked Unfinished (length old.rank.log) (polled old asked).polls) h (inl (refl, open_goes_on old.done old.rank asked o.stays)))
+    let all : (polled old asked).polls ≡ turns = omega (arith, last, ap (λ (p : Player). p.polls) o.only, polls_small script turns old h.follows h.patient) in
+    subst A (sym now) (advance-closed script turns n old old.rank (report_of asked Unfinished (length old.rank.log) (polled old asked).polls) h (inl (refl, open_goes_on old.done old.rank asked o.stays)) all)
 
 -- a poll that leaves the step open, which is then given up
-pub advance-left : (script : List Step) (turns n : ℕ) (old : Player) (asked : Step) (mid new : Player) (s : Step) → Ready script turns n old asked → IsCalled old asked mid → mid.current ≡ Some s → Left mid new → Advances script turns n old new
-advance-left script turns n old asked mid new s h (inr o) e left = advance-opens script turns n old asked mid new h o left
-advance-left script turns n old asked mid new s h (inl a) e left =
+pub advance-left : (script : List Step) (turns n : ℕ) (old : Player) (asked : Step) (mid new : Player) (s : Step) → Ready script turns n old asked → IsCalled old asked mid → mid.current ≡ Some s → Left mid new → turns ≤ mid.polls → Advances script turns n old new
+advance-left script turns n old asked mid new s h (inr o) e left last = advance-opens script turns n old asked mid new h o left last
+advance-left script turns n old asked mid new s h (inl a) e left last =
     let C : Player → Type 0 = λ (p : Player). p.current ≡ Some s in
     let none : None ≡ Some s = subst C a.only e in
     let bad : ⊥ = cc in

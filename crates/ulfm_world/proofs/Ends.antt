@@ -1,7 +1,9 @@
 -- A replay from its start to rest.
-use Rattle.std.proofs.Common.{◌≡◌, ◌≢◌, ℕ, ◌+◌, ◌<◌, ◌≤◌, Bool, true, false, List, [], ◌∷◌, ◌++◌, length, map, refl, ap, sym, subst, ◌∙◌, arith, inl, inr, ◌⊎◌, append-nil, length-append}
+use Rattle.std.proofs.Common.{◌≡◌, ◌≢◌, ℕ, ◌+◌, ◌<◌, ◌≤◌, Bool, true, false, List, [], ◌∷◌, ◌++◌, length, map, refl, ap, sym, subst, ◌∙◌, arith, inl, inr, ◌⊎◌, append-nil, length-append, Option, Some, None, MatchOption, slice_get}
 use Rattle.std.proofs.lemmas.Bool.{false≢true, cases_Bool}
 use Rattle.std.proofs.lemmas.List.{length-map, nil_from_length}
+use Rattle.std.proofs.lemmas.List.Elements.{All-nil}
+use Rattle.std.proofs.lemmas.Option.{slice_get_within}
 use Rattle.ulfm_base.specs.declared.rank.WorldRank.{WorldRank}
 use Rattle.ulfm_base.specs.declared.item.Item.{Item}
 use Rattle.ulfm_rank.specs.Facts.{is_stopped}
@@ -11,13 +13,13 @@ use Rattle.ulfm_script.specs.Report.{Report}
 use Rattle.ulfm_script.specs.Job.{Seen, script_at, through_stop, has_stop}
 use Rattle.ulfm_world.specs.World.{World, player_at, rank_at, inbox_at, start_world, Reaches, IsRunning}
 use Rattle.ulfm_world.specs.Rest.{IsAtRest}
-use Rattle.ulfm_world.specs.Replay.{FollowsAt, Follows, Moves, IsStuck, IsPushStuck, IsAnswered, IsReplayed, report_of, Came, steps_done, step_of}
+use Rattle.ulfm_world.specs.Replay.{IsPatient, FollowsAt, Follows, Moves, IsStuck, IsPushStuck, IsAnswered, IsReplayed, report_of, Came, steps_done, step_of}
 use Rattle.ulfm_world.proofs.Starts.{player-start, length-start}
 use Rattle.ulfm_world.proofs.Scripts.{through-none}
 use Rattle.ulfm_world.proofs.Runs.{reaches-then}
 
 follows-start : (script : List Step) (turns r n : ℕ) → FollowsAt script turns (start_player r n)
-follows-start script turns r n = record { rest = script; split = refl; current = refl; running = λ e. refl; stopped = λ e. absurd (false≢true e) }
+follows-start script turns r n = record { rest = script; split = refl; patient = All-nil (IsPatient turns); current = refl; running = λ e. refl; stopped = λ e. absurd (false≢true e) }
 
 pub came-start : (j : Seen) (w : World) → w ≡ start_world j.ranks j.capacity → Came j w
 came-start j w is =
@@ -59,10 +61,23 @@ answered_running script turns p h running all =
     let whole : steps_done p ≡ script = sym (append-nil (steps_done p)) ∙ ap (λ (xs : List Step). steps_done p ++ xs) (sym none) ∙ h.split in
     sym (through-none (steps_done p) (h.running running)) ∙ ap through_stop whole
 
+-- past the end of a script no step stands open
+none_open : (o : Option Step) (script : List Step) (k polls turns : ℕ) → length script ≤ k → MatchOption o (polls ≡ 0) (λ asked. (slice_get script k ≡ Some asked) × (polls < turns)) → o ≡ None
+none_open None script k polls turns all h = refl
+none_open (Some asked) script k polls turns all h = absurd (omega (arith, all, slice_get_within script k asked h.0))
+
 stuck-answered : (j : Seen) (w : World) → Follows j w → ((r : ℕ) → r < length w.players → IsStuck j w r) → IsAnswered j w
 stuck-answered j w f h r k = elim (cases_Bool (is_stopped (rank_at w r).log)) [
-  | inl stopped ↦ (f r k).stopped stopped
-  | inr running ↦ answered_running (script_at j r) j.turns (player_at w r) (f r k) running ((h r k).polls running)
+  | inl stopped ↦
+      let all = (f r k).stopped stopped in
+      record { steps = all.0; closed = all.1; patient = (f r k).patient }
+  | inr running ↦
+      let all : length (script_at j r) ≤ length (player_at w r).done = (h r k).polls running in
+      record {
+        steps = answered_running (script_at j r) j.turns (player_at w r) (f r k) running all;
+        closed = none_open (player_at w r).current (script_at j r) (length (player_at w r).done) (player_at w r).polls j.turns all (f r k).current;
+        patient = (f r k).patient;
+      }
 ]
 
 -- the reports of a world that came to rest

@@ -74,8 +74,8 @@ none_open None outcome e f = refl
 none_open (Some asked) outcome e f = let bad : ⊥ = cc in absurd bad
 
 -- one call that leaves its step open, which is then given up
-pub moves-leave : (j : Seen) (w : World) (r : ℕ) (asked : Step) (mid w' : World) → r < length w.players → Follows j w → Ready (script_at j r) j.turns (length w.players) (player_at w r) asked → Happens w (Call r asked) mid → Happens mid (Leave r) w' → Moves j w w' true
-moves-leave j w r asked mid w' i f ready t u =
+pub moves-leave : (j : Seen) (w : World) (r : ℕ) (asked : Step) (mid w' : World) → r < length w.players → Follows j w → Ready (script_at j r) j.turns (length w.players) (player_at w r) asked → Happens w (Call r asked) mid → Happens mid (Leave r) w' → j.turns ≤ (player_at mid r).polls → Moves j w w' true
+moves-leave j w r asked mid w' i f ready t u last =
     let c = t.1 in
     let g = u.1 in
     let mid_is : mid ≡ with_player w r c.after = t.2 ∙ ap (with_players w) c.only in
@@ -88,4 +88,4 @@ moves-leave j w r asked mid w' i f ready t u =
     ∙ ap (with_players w) (set-set w.players r c.after g.after) in
     let M : World → Type 0 = λ (x : World). Moves j w x true in
     let R : World → Type 0 = λ (x : World). Reaches w x in
-    subst M (sym is) (moves-player j w r g.after i f (advance-left (script_at j r) j.turns (length w.players) (player_at w r) asked c.after g.after g.left.step ready c.called current (subst L mid_at g.left)) (subst R is (Call r asked ∷ Leave r ∷ [], (mid, inl t, (w', inl u, refl)))))
+    subst M (sym is) (moves-player j w r g.after i f (advance-left (script_at j r) j.turns (length w.players) (player_at w r) asked c.after g.after g.left.step ready c.called current (subst L mid_at g.left) (omega (arith, last, ap (λ (p : Player). p.polls) mid_at))) (subst R is (Call r asked ∷ Leave r ∷ [], (mid, inl t, (w', inl u, refl)))))

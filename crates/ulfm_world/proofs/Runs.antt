@@ -1,9 +1,10 @@
 -- Every schedule keeps what every world keeps.
-use Rattle.std.proofs.Common.{◌≡◌, ℕ, ◌+◌, ◌<◌, ◌≤◌, List, [], ◌∷◌, ◌++◌, length, take, get_or, refl, sym, subst, inl, inr, ◌⊎◌, Result, Ok, Err, OnOk, OnErr}
+use Rattle.std.proofs.Common.{◌≡◌, ℕ, ◌+◌, ◌<◌, ◌≤◌, List, [], ◌∷◌, ◌++◌, length, take, get_or, refl, sym, subst, inl, inr, ◌⊎◌, Result, Ok, Err, OnOk, OnErr, IfErr}
 use Rattle.std.proofs.lemmas.List.{take_more}
 use Rattle.ulfm_world.specs.declared.event.Event.{Event}
 use Rattle.ulfm_world.specs.declared.event.Event.TheVariants.{Call, Push, Take, Leave}
-use Rattle.ulfm_world.specs.World.{World, rank_at, with_players, Calls, GivesUp, Happens, Applied, Run, Reaches}
+use Rattle.ulfm_world.specs.declared.event.Refused.{Refused}
+use Rattle.ulfm_world.specs.World.{World, rank_at, with_players, Calls, GivesUp, Happens, IsRefused, Applied, Run, Reaches}
 use Rattle.ulfm_world.specs.Flow.{IsWorld}
 use Rattle.ulfm_world.proofs.Polls.{quiet-called, quiet-left}
 use Rattle.ulfm_world.proofs.KeepsCalls.{keeps-quiet, keeps-takes}
@@ -29,7 +30,7 @@ keeps-happens w (Leave r) w' h k = let W : World → Type 0 = λ (x : World). Is
 
 pub keeps-applied : (w : World) (event : Event) (w' : World) → IsWorld w → Applied w event w' → IsWorld w'
 keeps-applied w event w' h (inl k) = keeps-happens w event w' h k
-keeps-applied w event w' h (inr e) = let W : World → Type 0 = λ (x : World). IsWorld x in subst W (sym e) h
+keeps-applied w event w' h (inr e) = let W : World → Type 0 = λ (x : World). IsWorld x in subst W (sym e.2) h
 
 pub keeps-run : (events : List Event) (w w' : World) → IsWorld w → Run w events w' → IsWorld w'
 keeps-run [] w w' h k = let W : World → Type 0 = λ (x : World). IsWorld x in subst W (sym k) h
@@ -38,23 +39,24 @@ keeps-run (event ∷ events) w w' h k = keeps-run events k.0 w' (keeps-applied w
 pub keeps-reaches : (w w' : World) → IsWorld w → Reaches w w' → IsWorld w'
 keeps-reaches w w' h k = keeps-run k.0 w w' h k.1
 
-either : {A E : Type 0} (r : Result A E) (w w' : World) (event : Event) → OnOk r (Happens w event w') → OnErr r (w' ≡ w) → Applied w event w'
-either (Ok x) w w' event k e = inl k
-either (Err x) w w' event k e = inr e
-
 -- an event that happened or was refused keeps the world
 pub keeps-either : {A E : Type 0} (r : Result A E) (w w' : World) (event : Event) → IsWorld w → OnOk r (Happens w event w') → OnErr r (w' ≡ w) → IsWorld w'
-keeps-either r w w' event h k e = keeps-applied w event w' h (either r w w' event k e)
+keeps-either (Ok x) w w' event h k e = keeps-happens w event w' h k
+keeps-either (Err x) w w' event h k e = let W : World → Type 0 = λ (x : World). IsWorld x in subst W (sym e) h
+
+either : {A : Type 0} (r : Result A Refused) (w w' : World) (event : Event) → OnOk r (Happens w event w') → IfErr r (λ why. IsRefused w event why) → OnErr r (w' ≡ w) → Applied w event w'
+either (Ok x) w w' event k why e = inl k
+either (Err x) w w' event k why e = inr (x, why, e)
 
 -- one more event
 pub run-push : (events : List Event) (event : Event) (w m w' : World) → Run w events m → Applied m event w' → Run w (events ++ event ∷ []) w'
 run-push [] event w m w' h k = let A : World → Type 0 = λ (x : World). Applied x event w' in (w', subst A h k, refl)
 run-push (x ∷ events) event w m w' h k = (h.0, h.1, run-push events event h.0 m w' h.2 k)
 
-pub run_more : {A E : Type 0} (r : Result A E) (events : List Event) (i : ℕ) (d : Event) (w m w' : World) → i < length events → Run w (take i events) m → OnOk r (Happens m (get_or events i d) w') → OnErr r (w' ≡ m) → Run w (take (i + 1) events) w'
-run_more r events i d w m w' inside h k e =
+pub run_more : {A : Type 0} (r : Result A Refused) (events : List Event) (i : ℕ) (d : Event) (w m w' : World) → i < length events → Run w (take i events) m → OnOk r (Happens m (get_or events i d) w') → IfErr r (λ why. IsRefused m (get_or events i d) why) → OnErr r (w' ≡ m) → Run w (take (i + 1) events) w'
+run_more r events i d w m w' inside h k why e =
     let R : List Event → Type 0 = λ (es : List Event). Run w es w' in
-    subst R (sym (take_more events i d inside)) (run-push (take i events) (get_or events i d) w m w' h (either r m w' (get_or events i d) k e))
+    subst R (sym (take_more events i d inside)) (run-push (take i events) (get_or events i d) w m w' h (either r m w' (get_or events i d) k why e))
 
 pub ruleset runs = (run_more)
 

@@ -2,6 +2,7 @@
 use Rattle.std.proofs.Common.{◌≡◌, ◌≢◌, ℕ, ◌+◌, ◌-◌, ◌*◌, ◌^◌, ◌<◌, ◌≤◌, min, Bool, true, false, cond, List, [], ◌∷◌, ◌++◌, length, map, refl, ap, sym, subst, ◌∙◌, arith, append_assoc, length-append, Option, Some, None, MatchOption, slice_get}
 use Rattle.std.proofs.lemmas.Bool.{false≢true}
 use Rattle.std.proofs.lemmas.List.{map_push, length-map}
+use Rattle.std.proofs.lemmas.List.Elements.{All-push}
 use Rattle.std.proofs.lemmas.Option.{same_Some}
 use Rattle.ulfm_rank.specs.Facts.{is_stopped}
 use Rattle.ulfm_rank.specs.State.{State}
@@ -9,7 +10,7 @@ use Rattle.ulfm_script.specs.declared.step.Step.{Step}
 use Rattle.ulfm_script.specs.declared.answer.StepReport.{StepReport}
 use Rattle.ulfm_script.specs.Player.{Player, with_rank, polled}
 use Rattle.ulfm_script.specs.Job.{is_stop_step, has_stop, through_stop}
-use Rattle.ulfm_world.specs.Replay.{step_of, steps_done, FollowsAt, left_at}
+use Rattle.ulfm_world.specs.Replay.{step_of, steps_done, IsPatient, FollowsAt, left_at}
 
 split_next : (xs rest script : List Step) (s : Step) → xs ++ rest ≡ script → slice_get script (length xs) ≡ Some s → (more : List Step) × (rest ≡ s ∷ more)
 split_next xs rest script s e h = next xs rest s (let F : List Step → Type 0 = λ (l : List Step). slice_get l (length xs) ≡ Some s in subst F (sym e) h)
@@ -52,8 +53,8 @@ abbrev pub closed : Player → State → StepReport → Player
 closed p r x = record { rank = r; done = p.done ++ x ∷ []; current = None; at = 0; polls = 0 }
 
 -- an answered step
-pub follows-closed : (script : List Step) (turns : ℕ) (old : Player) (r : State) (x : StepReport) → FollowsAt script turns old → is_stopped old.rank.log ≡ false → slice_get script (length old.done) ≡ Some x.step → is_stopped r.log ≡ is_stop_step x.step → FollowsAt script turns (closed old r x)
-follows-closed script turns old r x h running next stop =
+pub follows-closed : (script : List Step) (turns : ℕ) (old : Player) (r : State) (x : StepReport) → FollowsAt script turns old → is_stopped old.rank.log ≡ false → slice_get script (length old.done) ≡ Some x.step → is_stopped r.log ≡ is_stop_step x.step → IsPatient turns x → FollowsAt script turns (closed old r x)
+follows-closed script turns old r x h running next stop patient =
     let xs : List Step = steps_done old in
     let l : length xs ≡ length old.done = length-map old.done step_of in
     let following : (more : List Step) × (h.rest ≡ x.step ∷ more) = split_next xs h.rest script x.step h.split (ap (slice_get script) l ∙ next) in
@@ -62,19 +63,21 @@ follows-closed script turns old r x h running next stop =
     record {
       rest = following.0;
       split = ap (λ (ys : List Step). ys ++ following.0) grown ∙ append_assoc xs (x.step ∷ []) following.0 ∙ whole;
+      patient = All-push (IsPatient turns) old.done x h.patient patient;
       current = refl;
       running = λ k. ap has_stop grown ∙ has_stop-push xs x.step (h.running running) (sym stop ∙ k);
-      stopped = λ k. grown ∙ sym (through-stop xs x.step following.0 (h.running running) (sym stop ∙ k)) ∙ ap through_stop whole;
+      stopped = λ k. (grown ∙ sym (through-stop xs x.step following.0 (h.running running) (sym stop ∙ k)) ∙ ap through_stop whole, refl);
     }
 
 -- a step that stays open
-pub follows-polled : (script : List Step) (turns : ℕ) (old : Player) (asked : Step) → FollowsAt script turns old → slice_get script (length old.done) ≡ Some asked → (polled old asked).polls < turns → FollowsAt script turns (polled old asked)
-follows-polled script turns old asked h next few = record {
+pub follows-polled : (script : List Step) (turns : ℕ) (old : Player) (asked : Step) → FollowsAt script turns old → is_stopped old.rank.log ≡ false → slice_get script (length old.done) ≡ Some asked → (polled old asked).polls < turns → FollowsAt script turns (polled old asked)
+follows-polled script turns old asked h running next few = record {
   rest = h.rest;
   split = h.split;
+  patient = h.patient;
   current = (next, few);
   running = h.running;
-  stopped = h.stopped;
+  stopped = λ k. absurd (false≢true (sym running ∙ k));
 }
 
 left_numbers : (turns L k p : ℕ) → k < L → p ≤ turns → (turns + 17) * (L - (k + 1)) + 17 ≤ (turns + 17) * (L - k) - p
@@ -99,6 +102,7 @@ pub follows-rank : (script : List Step) (turns : ℕ) (p : Player) (r : State) �
 follows-rank script turns p r stop h = record {
   rest = h.rest;
   split = h.split;
+  patient = h.patient;
   current = h.current;
   running = λ k. h.running (sym stop ∙ k);
   stopped = λ k. h.stopped (sym stop ∙ k);

@@ -1,8 +1,10 @@
 -- What a replay reaches: each rank goes through its script, until nothing is left to do.
-use Rattle.std.specs.Prelude.{◌≡◌, ℕ, zero, suc, Bool, true, false, List, [], ◌++◌, ◌+◌, ◌-◌, ◌*◌, ◌<◌, ◌≤◌, ◌⊎◌, length, map, Option, MatchOption, Some, slice_get, if◌then◌else◌}
+use Rattle.std.specs.Prelude.{◌≡◌, ℕ, zero, suc, Bool, true, false, List, [], ◌++◌, ◌+◌, ◌-◌, ◌*◌, ◌<◌, ◌≤◌, ◌⊎◌, length, map, All, Option, MatchOption, Some, None, slice_get, if◌then◌else◌}
 use Rattle.ulfm_rank.specs.Facts.{is_stopped, is_revoked}
 use Rattle.ulfm_rank.specs.State.{State, outbox}
 use Rattle.ulfm_script.specs.declared.step.Step.{Step}
+use Rattle.ulfm_script.specs.declared.answer.StepAnswer.{StepAnswer}
+use Rattle.ulfm_script.specs.declared.answer.StepAnswer.TheVariants.{Unfinished}
 use Rattle.ulfm_script.specs.declared.answer.StepReport.{StepReport}
 use Rattle.ulfm_script.specs.Player.{Player}
 use Rattle.ulfm_script.specs.Report.{Report}
@@ -17,21 +19,37 @@ step_of report = report.step
 abbrev pub steps_done : Player → List Step
 steps_done p = map step_of p.done
 
+-- so many polls left a step with this answer open: all that a job grants where it was given up, else fewer
+abbrev pub IsPolled : ℕ → StepAnswer → ℕ → Type 0
+IsPolled turns Unfinished polls = polls ≡ turns
+IsPolled turns _ polls = polls < turns
+
+-- a step was given up after its last poll, or answered by one
+abbrev pub IsPatient : ℕ → StepReport → Type 0
+IsPatient turns report = IsPolled turns report.answer report.polls
+
 -- a player that goes through this script, with at most so many polls of a step
 pub record FollowsAt (script : List Step) (turns : ℕ) (p : Player) : Type 0 where
   pub rest : List Step
   pub split : steps_done p ++ rest ≡ script
+  pub patient : All (IsPatient turns) p.done
   pub current : MatchOption p.current (p.polls ≡ 0) (λ asked. (slice_get script (length p.done) ≡ Some asked) × (p.polls < turns))
   pub running : is_stopped p.rank.log ≡ false → has_stop (steps_done p) ≡ false
-  pub stopped : is_stopped p.rank.log ≡ true → steps_done p ≡ through_stop script
+  pub stopped : is_stopped p.rank.log ≡ true → (steps_done p ≡ through_stop script) × (p.current ≡ None)
 
 -- each player goes through its script
 abbrev pub Follows : Seen → World → Type 0
 Follows j w = (r : ℕ) → r < length w.players → FollowsAt (script_at j r) j.turns (player_at w r)
 
--- each rank answered its script up to and with its first stop, or the whole of it
+-- a player answered its script up to and with its first stop, or the whole of it, and no step stands open
+pub record HasAnswered (script : List Step) (turns : ℕ) (p : Player) : Type 0 where
+  pub steps : steps_done p ≡ through_stop script
+  pub closed : p.current ≡ None
+  pub patient : All (IsPatient turns) p.done
+
+-- each player answered its script
 abbrev pub IsAnswered : Seen → World → Type 0
-IsAnswered j w = (r : ℕ) → r < length w.players → steps_done (player_at w r) ≡ through_stop (script_at j r)
+IsAnswered j w = (r : ℕ) → r < length w.players → HasAnswered (script_at j r) j.turns (player_at w r)
 
 -- what a player reports where each of its turns had room for an item
 abbrev pub report_of : Player → Report

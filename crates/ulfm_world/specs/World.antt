@@ -112,19 +112,6 @@ abbrev pub outcome_of : World → Event → Outcome
 outcome_of new (Call r _) = if is_none (player_at new r).current then Answered else NotYet
 outcome_of new _ = Moved
 
--- an event happens, or is refused and changes nothing
-abbrev pub Applied : World → Event → World → Type 0
-Applied old event new = Happens old event new ⊎ (new ≡ old)
-
--- a whole schedule
-abbrev pub Run : World → List Event → World → Type 0
-Run old [] new = new ≡ old
-Run old (event ∷ events) new = (mid : World) × Applied old event mid × Run mid events new
-
--- some schedule leads from one world to the other
-abbrev pub Reaches : World → World → Type 0
-Reaches old new = (events : List Event) × Run old events new
-
 abbrev pub IsInside : World → ℕ → Type 0
 IsInside w r = r < length w.players
 
@@ -150,3 +137,16 @@ IsRefused w (Leave r) NoSuchRank = length w.players ≤ r
 IsRefused w (Leave r) Stopped = IsInside w r × HasStopped w r
 IsRefused w (Leave r) NotReady = IsLive w r × ((player_at w r).current ≡ None)
 IsRefused w _ _ = ⊥
+
+-- an event happens, or is refused for a cause and changes nothing
+abbrev pub Applied : World → Event → World → Type 0
+Applied old event new = Happens old event new ⊎ ((why : Refused) × IsRefused old event why × (new ≡ old))
+
+-- a whole schedule
+abbrev pub Run : World → List Event → World → Type 0
+Run old [] new = new ≡ old
+Run old (event ∷ events) new = (mid : World) × Applied old event mid × Run mid events new
+
+-- some schedule leads from one world to the other
+abbrev pub Reaches : World → World → Type 0
+Reaches old new = (events : List Event) × Run old events new

@@ -24,6 +24,6 @@ returns c =
     let next = ap (slice_get (script_at c.args.job.now c.args.r)) (sym c.answered.ensures) ∙ sym c.in-Some.ensures in
     let ready = ready-at c.args.job.now c.args.world.now c.args.r c.in-Some.step c.turns-turns.ensures.ranges c.in-Ok.ensures.world c.requires.inside c.requires.follows (sym c.is_stopped.ensures ∙ c.if-is_stopped.false) next in
     record {
-      moves = moves-leave c.args.job.now c.args.world.now c.args.r c.in-Some.step c.apply.new.self c.apply-2.new.self c.requires.inside c.requires.follows ready c.in-Ok.ensures.happens c.in-Ok-apply.ensures.happens;
+      moves = moves-leave c.args.job.now c.args.world.now c.args.r c.in-Some.step c.apply.new.self c.apply-2.new.self c.requires.inside c.requires.follows ready c.in-Ok.ensures.happens c.in-Ok-apply.ensures.happens (omega (arith, c.polls.ensures, c.turns-turns.ensures.exact, c.if-polls-turns.false));
       stuck = search rules;
     }
