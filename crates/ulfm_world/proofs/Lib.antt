@@ -21,3 +21,14 @@ pub mod MovesItem
 pub mod MovesCall
 pub mod Ends
 pub mod Lists
+pub mod Mail
+pub mod Comes
+pub mod Stays
+pub mod Tells
+pub mod Formed
+pub mod Honest
+pub mod Closing
+pub mod Posting
+pub mod Answering
+pub mod Honesty
+pub mod Reported

@@ -32,10 +32,10 @@ abbrev pub IsItemOf : ℕ → Item → Type 0
 IsItemOf me (Mail letter) = letter.envelope.source.number ≡ me
 IsItemOf me _ = ⊤
 
-all_front : {X : Type 0} (P : X → Type 0) (xs : List X) (x : X) → All P (xs ++ x ∷ []) → All P xs
+pub all_front : {X : Type 0} (P : X → Type 0) (xs : List X) (x : X) → All P (xs ++ x ∷ []) → All P xs
 all_front P xs x all k d h = let Q : _ → Type 0 = P in subst Q (get_or_append_left xs (x ∷ []) d k h) (all k d (omega (arith, length-append xs (x ∷ []), h)))
 
-all_last : {X : Type 0} (P : X → Type 0) (xs : List X) (x : X) → All P (xs ++ x ∷ []) → P x
+pub all_last : {X : Type 0} (P : X → Type 0) (xs : List X) (x : X) → All P (xs ++ x ∷ []) → P x
 all_last P xs x all = subst P (get_or_at xs x [] x (length xs) refl) (all (length xs) x (omega (arith, length-append xs (x ∷ []))))
 
 signed_step : (n me d : ℕ) (before : List Entry) (found : List Item) (e : Entry) → (All (IsSigned me) before → All (IsItemOf me) found) → All (IsSigned me) (before ++ e ∷ []) → All (IsItemOf me) (found ++ owed_by n me d before found e)

@@ -3,3 +3,4 @@ pub mod Flow
 pub mod Rest
 pub mod Replay
 pub mod Fields
+pub mod Reader

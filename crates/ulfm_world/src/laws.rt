@@ -1,7 +1,9 @@
 //! Laws over every schedule, without threads: what holds of each world that a list of events leads to.
-ghost use Rattle.std.specs.Prelude.{ℕ, ◌≤◌};
+ghost use Rattle.std.specs.Prelude.{ℕ, ◌≤◌, map};
 ghost use Rattle.ulfm_world.specs.World.{World, start_world, Reaches};
 ghost use Rattle.ulfm_world.specs.Flow.{Flows};
+ghost use Rattle.ulfm_world.specs.Reader.{ComeAsSent};
+ghost use Rattle.ulfm_world.specs.Replay.{report_of};
 ghost use Rattle.ulfm_world.specs.Rest.{IsAtRest, KnowsStopped, AgreesOnRevoked};
 
 /// Whatever events come, between each pair of ranks nothing is lost, made or overtaken (MPI 4.0, 3.5).
@@ -18,4 +20,10 @@ pub fn known_at_rest()
 /// half way (ULFM, revocation).
 pub fn agreed_at_rest()
     ensures { (n capacity : ℕ) (w : World) → n ≤ 8 → Reaches (start_world n capacity) w → IsAtRest w → AgreesOnRevoked w }
+{}
+
+/// Whatever events come, on each communicator the letters that came to a rank from another one are a beginning of those
+/// that the answered steps of that one sent to it (MPI 4.0, 3.5).
+pub fn letters_come_as_sent()
+    ensures { (n capacity : ℕ) (w : World) → n ≤ 8 → Reaches (start_world n capacity) w → ComeAsSent (map report_of w.players) }
 {}

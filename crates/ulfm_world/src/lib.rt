@@ -10,6 +10,6 @@ mod world;
 
 pub use event::{Event, Outcome, Refused};
 pub use inbox::Inbox;
-pub use laws::{agreed_at_rest, flows, known_at_rest};
+pub use laws::{agreed_at_rest, flows, known_at_rest, letters_come_as_sent};
 pub use rounds::replay;
 pub use world::{World, run};

@@ -1,0 +1,120 @@
+-- The history of a log that posts no receive on a revoked context can happen, and has a post for each that the log posted.
+use Rattle.std.proofs.Common.{◌≡◌, ℕ, zero, suc, ◌+◌, ◌<◌, ◌≤◌, ◌⊎◌, inl, inr, Bool, true, false, cond, List, [], ◌∷◌, ◌++◌, length, refl, ap, sym, ◌∙◌, subst, arith, append-nil, append_assoc, Some}
+use Rattle.std.specs.Prelude.{⊤, slice_get, Contains}
+use Rattle.std.proofs.lemmas.Option.{slice_get_within}
+use Rattle.ulfm_base.specs.declared.envelope.Letter.{Letter}
+use Rattle.ulfm_base.specs.declared.item.Item.{Item}
+use Rattle.ulfm_base.specs.declared.item.Item.TheVariants.{Letter as Mail, Gone, Revoke, Enter}
+use Rattle.ulfm_base.specs.declared.pattern.Pattern.{Pattern}
+use Rattle.ulfm_base.specs.Pattern.{names}
+use Rattle.ulfm_match.specs.History.{Event, Post, Come, End, Clear, PostAt, IsWellFormed}
+use Rattle.ulfm_match.specs.State.{IsOpen}
+use Rattle.ulfm_match.proofs.Decide.{Contains-head, Contains-tail}
+use Rattle.ulfm_match.proofs.Ends.{AreEnds}
+use Rattle.ulfm_match.proofs.Histories.{get_old, get_new, length_more}
+use Rattle.ulfm_match.proofs.Steps.{history_more}
+use Rattle.ulfm_rank.specs.declared.entry.Entry.{Entry}
+use Rattle.ulfm_rank.specs.declared.entry.Entry.TheVariants.{Posted, Revoked, Took}
+use Rattle.ulfm_rank.specs.Facts.{is_revoked}
+use Rattle.ulfm_rank.specs.History.{history_of, events_by, ends_from, ends_of, end_at, names_gone}
+use Rattle.ulfm_rank.proofs.Gather.{history-push}
+use Rattle.ulfm_rank.proofs.Gone.{ends_named}
+use Rattle.ulfm_rank.proofs.Opens.{unrevoked_open}
+
+abbrev pub PostsNone : Entry → Type 0
+PostsNone (Posted p) = ⊥
+PostsNone _ = ⊤
+
+-- no receive is posted by these events
+abbrev pub HasNoPost : List Event → Type 0
+HasNoPost es = (k : ℕ) (p : Pattern) → slice_get es k ≡ Some (Post p) → ⊥
+
+pub none-nil : HasNoPost []
+none-nil k p h = let bad : ⊥ = cc in bad
+
+pub none-one : (e : Event) → ((p : Pattern) → e ≡ Post p → ⊥) → HasNoPost (e ∷ [])
+none-one e other zero p h = other p (let f : e ≡ Post p = cc in f)
+none-one e other (suc k) p h = let bad : ⊥ = cc in bad
+
+none-append : (xs ys : List Event) → HasNoPost xs → HasNoPost ys → HasNoPost (xs ++ ys)
+none-append [] ys a b k p h = b k p h
+none-append (x ∷ xs) ys a b zero p h = a zero p h
+none-append (x ∷ xs) ys a b (suc k) p h = none-append xs ys (λ j q g. a (suc j) q g) b k p h
+
+none-cond : (b : Bool) (e : Event) → ((p : Pattern) → e ≡ Post p → ⊥) → HasNoPost (cond b [] (e ∷ []))
+none-cond true e other = none-nil
+none-cond false e other = none-one e other
+
+none-ends : (s k : ℕ) (h : List Event) → HasNoPost (ends_from s k h)
+none-ends s k [] = none-nil
+none-ends s k (e ∷ h) = none-append (end_at s k e) (ends_from s (suc k) h) (one e) (none-ends s (suc k) h)
+  where
+    pick : (b : Bool) → HasNoPost (cond b (End k ∷ []) [])
+    pick true = none-one (End k) (λ p e. cc)
+    pick false = none-nil
+
+    one : (e : Event) → HasNoPost (end_at s k e)
+    one (Post p) = pick (names p.source s)
+    one _ = none-nil
+
+pub none-events : (log : List Entry) (h : List Event) (e : Entry) → PostsNone e → HasNoPost (events_by log h e)
+none-events log h (Posted p) none = absurd none
+none-events log h (Revoked context) none = none-cond (is_revoked log context.number) (Clear context.number) (λ p e. cc)
+none-events log h (Took source (Mail letter)) none = none-cond (is_revoked log letter.envelope.context.number) (Come letter) (λ p e. cc)
+none-events log h (Took source Gone) none = none-ends source.number 0 h
+none-events log h (Took source (Revoke context)) none = none-cond (is_revoked log context.number) (Clear context.number) (λ p e. cc)
+none-events log h (Took source (Enter context known)) none = none-nil
+none-events log h _ none = none-nil
+
+formed-none : (h : List Event) → IsWellFormed h → IsWellFormed (h ++ [])
+formed-none h wf = subst (λ (g : List Event). IsWellFormed g) (sym (append-nil h)) wf
+
+formed-clear : (h : List Event) (b : Bool) (c : ℕ) → IsWellFormed h → IsWellFormed (h ++ cond b [] (Clear c ∷ []))
+formed-clear h true c wf = formed-none h wf
+formed-clear h false c wf = history_more h (Clear c) wf (λ i e. cc) (λ p e. cc) (λ l e. cc)
+
+formed-come : (log : List Entry) (letter : Letter) (b : Bool) → is_revoked log letter.envelope.context.number ≡ b → IsWellFormed (history_of log) → IsWellFormed (history_of log ++ cond b [] (Come letter ∷ []))
+formed-come log letter true e wf = formed-none (history_of log) wf
+formed-come log letter false e wf =
+    history_more (history_of log) (Come letter) wf (λ i e. cc) (λ p e. cc)
+    (λ l f. subst (λ (w : Letter). IsOpen (history_of log) w.envelope.context.number) (let g : letter ≡ l = cc in g) (unrevoked_open log letter.envelope.context.number e))
+
+formed-ends : (es h : List Event) → IsWellFormed h → AreEnds h es → IsWellFormed (h ++ es)
+formed-ends [] h wf ends = formed-none h wf
+formed-ends (x ∷ es) h wf ends =
+    let first = ends x (Contains-head x es) in
+    let i : ℕ = first.0 in
+    let longer : IsWellFormed (h ++ End i ∷ []) =
+    history_more h (End i) wf (λ j e. subst (λ (k : ℕ). (p : Pattern) × (k < length h) × PostAt h k p) (let same : i ≡ j = cc in same) (first.1, slice_get_within h i (Post first.1) first.3, first.3)) (λ p e. cc) (λ l e. cc) in
+    subst (λ (g : List Event). IsWellFormed g) (append_assoc h (End i ∷ []) es ∙ ap (λ (e : Event). h ++ e ∷ es) (sym first.2))
+    (formed-ends es (h ++ End i ∷ []) longer (λ y c. let e = ends y (Contains-tail x es y c) in (e.0, e.1, e.2, get_old h (End i) e.0 (Post e.1) e.3)))
+
+formed-events : (log : List Entry) (e : Entry) → IsWellFormed (history_of log) → PostsNone e → IsWellFormed (history_of log ++ events_by log (history_of log) e)
+formed-events log (Posted p) wf none = absurd none
+formed-events log (Revoked context) wf none = formed-clear (history_of log) (is_revoked log context.number) context.number wf
+formed-events log (Took source (Mail letter)) wf none = formed-come log letter (is_revoked log letter.envelope.context.number) refl wf
+formed-events log (Took source Gone) wf none = formed-ends (ends_of source.number (history_of log)) (history_of log) wf (λ x c. let e = (ends_named source.number (history_of log)).sound x c in (e.0, e.1, e.2, e.3))
+formed-events log (Took source (Revoke context)) wf none = formed-clear (history_of log) (is_revoked log context.number) context.number wf
+formed-events log (Took source (Enter context known)) wf none = formed-none (history_of log) wf
+formed-events log _ wf none = formed-none (history_of log) wf
+
+-- one more entry, which posts none
+pub formed-logged : (log : List Entry) (e : Entry) → IsWellFormed (history_of log) → PostsNone e → IsWellFormed (history_of (log ++ e ∷ []))
+formed-logged log e wf none = subst (λ (g : List Event). IsWellFormed g) (sym (history-push log e)) (formed-events log e wf none)
+
+-- a receive is posted on a context that isn't revoked
+pub formed-posted : (log : List Entry) (p : Pattern) → IsWellFormed (history_of log) → is_revoked log p.context.number ≡ false → IsWellFormed (history_of (log ++ Posted p ∷ []))
+formed-posted log p wf fresh = subst (λ (g : List Event). IsWellFormed g) (sym (history-push log (Posted p))) (ended (names_gone log p.source))
+  where
+    h : List Event
+    h = history_of log
+
+    one : IsWellFormed (h ++ Post p ∷ [])
+    one = history_more h (Post p) wf (λ i e. cc) (λ q e. subst (λ (w : Pattern). IsOpen h w.context.number) (let g : p ≡ q = cc in g) (unrevoked_open log p.context.number fresh)) (λ l e. cc)
+
+    two : IsWellFormed ((h ++ Post p ∷ []) ++ End (length h) ∷ [])
+    two = history_more (h ++ Post p ∷ []) (End (length h)) one (λ j e. subst (λ (k : ℕ). (q : Pattern) × (k < length (h ++ Post p ∷ [])) × PostAt (h ++ Post p ∷ []) k q) (let same : length h ≡ j = cc in same) (p, let l = length_more h (Post p) in omega (arith, l), get_new h (Post p))) (λ q e. cc) (λ l e. cc)
+
+    ended : (b : Bool) → IsWellFormed (h ++ Post p ∷ cond b (End (length h) ∷ []) [])
+    ended true = subst (λ (g : List Event). IsWellFormed g) (append_assoc h (Post p ∷ []) (End (length h) ∷ [])) two
+    ended false = one

@@ -1,0 +1,156 @@
+-- The answered steps of a rank are true of its log.
+use Rattle.std.proofs.Common.{◌≡◌, ℕ, zero, suc, ◌+◌, ◌<◌, ◌≤◌, ◌⊎◌, inl, inr, List, [], ◌∷◌, ◌++◌, length, refl, ap, sym, ◌∙◌, subst, arith, append-nil, Option, Some, None}
+use Rattle.std.specs.Prelude.{All, slice_get}
+use Rattle.std.specs.List.{flat_map}
+use Rattle.std.proofs.lemmas.List.Elements.{All-push}
+use Rattle.std.proofs.lemmas.Option.{slice_get_within}
+use Rattle.ulfm_base.specs.declared.pattern.Pattern.{Pattern}
+use Rattle.ulfm_match.specs.declared.request.RequestId.{RequestId}
+use Rattle.ulfm_match.specs.History.{Event, Post, PostAt, IsWellFormed, number}
+use Rattle.ulfm_match.proofs.Cut.{get_in_front}
+use Rattle.ulfm_match.proofs.Decide.{lt_or_ge}
+use Rattle.ulfm_match.proofs.Histories.{get_cases}
+use Rattle.ulfm_rank.specs.declared.entry.Entry.{Entry}
+use Rattle.ulfm_rank.specs.Communicators.{members_of}
+use Rattle.ulfm_rank.specs.History.{history_of, events_by}
+use Rattle.ulfm_rank.proofs.Gather.{history-push}
+use Rattle.ulfm_script.specs.declared.answer.StepReport.{StepReport}
+use Rattle.ulfm_script.specs.Player.{request_of, request_at}
+use Rattle.ulfm_world.specs.Reader.{Content, sent_in, closes}
+use Rattle.ulfm_world.proofs.Formed.{PostsNone, HasNoPost, none-events, formed-logged}
+use Rattle.ulfm_world.proofs.Mail.{mail_sent, sent_entry, IsTakenFrom, flat-push}
+use Rattle.ulfm_world.proofs.Stays.{number_front, number_rises}
+use Rattle.ulfm_world.proofs.Tells.{Tells, asked_front, tells-logged, tells-answered, sent-logged}
+
+-- each answer is true, the requests have rising numbers, and each is closed once
+pub record IsOrderly (n : ℕ) (log : List Entry) (done : List StepReport) : Type 0 where
+  pub tells : (k : ℕ) (x : StepReport) → slice_get done k ≡ Some x → Tells n log done x.step x.answer
+  pub below : (k : ℕ) (id : RequestId) → request_at done k ≡ Some id → id.number < number (history_of log) (length (history_of log))
+  pub rises : (j k : ℕ) (id jd : RequestId) → j < k → request_at done j ≡ Some id → request_at done k ≡ Some jd → id.number < jd.number
+  pub once : (j k req : ℕ) (x y : StepReport) → j < k → slice_get done j ≡ Some x → slice_get done k ≡ Some y → closes x.step x.answer ≡ Some req → closes y.step y.answer ≡ Some req → ⊥
+
+-- each receive of the log's history is one that a step posted
+abbrev pub IsCovered : List Entry → List StepReport → Type 0
+IsCovered log done = (place : ℕ) (p : Pattern) → PostAt (history_of log) place p → (k : ℕ) × (id : RequestId) × (request_at done k ≡ Some id) × (number (history_of log) place ≡ id.number)
+
+-- besides, what the steps sent is what the log sent, and each receive of the log is one of theirs
+pub record IsHonest (n : ℕ) (log : List Entry) (done : List StepReport) : Type 0 where
+  pub orderly : IsOrderly n log done
+  pub sends : (c d : ℕ) → flat_map (sent_in (members_of n log c) c d) done ≡ mail_sent c d log
+  pub covered : IsCovered log done
+  pub formed : IsWellFormed (history_of log)
+  pub taken : All IsTakenFrom log
+
+request_cases : (done : List StepReport) (x : StepReport) (k : ℕ) (id : RequestId) → request_at (done ++ x ∷ []) k ≡ Some id → (request_at done k ≡ Some id) ⊎ ((k ≡ length done) × (request_of x.answer ≡ Some id))
+request_cases [] x zero id h = inr (refl, h)
+request_cases [] x (suc k) id h = let bad : ⊥ = cc in absurd bad
+request_cases (y ∷ done) x zero id h = inl h
+request_cases (y ∷ done) x (suc k) id h = elim (request_cases done x k id h) [ inl o ↦ inl o | inr e ↦ inr (ap suc e.0, e.1) ]
+
+request_within : (done : List StepReport) (k : ℕ) (id : RequestId) → request_at done k ≡ Some id → k < length done
+request_within [] k id h = let bad : ⊥ = cc in absurd bad
+request_within (x ∷ done) zero id h = omega arith
+request_within (x ∷ done) (suc k) id h = let l = request_within done k id h in omega (arith, l)
+
+-- the log grows
+pub orderly-logged : (n : ℕ) (log : List Entry) (e : Entry) (done : List StepReport) → IsOrderly n log done → IsOrderly n (log ++ e ∷ []) done
+orderly-logged n log e done h = record {
+  tells = λ k x g. tells-logged n log e done x.step x.answer (h.tells k x g);
+  below = λ k id g.
+      let up : number (history_of log) (length (history_of log)) ≤ number (history_of log ++ events_by log (history_of log) e) (length (history_of log ++ events_by log (history_of log) e)) = number_rises (history_of log) (events_by log (history_of log) e) in
+      subst (λ (es : List Event). id.number < number es (length es)) (sym (history-push log e)) (omega (arith, up, h.below k id g));
+  rises = h.rises;
+  once = h.once;
+}
+
+-- one more answer
+pub orderly-answered : (n : ℕ) (log : List Entry) (done : List StepReport) (x : StepReport) → IsOrderly n log done → Tells n log (done ++ x ∷ []) x.step x.answer
+    → ((id : RequestId) → request_of x.answer ≡ Some id → (id.number < number (history_of log) (length (history_of log))) × ((k : ℕ) (jd : RequestId) → request_at done k ≡ Some jd → jd.number < id.number))
+    → ((req k : ℕ) (y : StepReport) → closes x.step x.answer ≡ Some req → slice_get done k ≡ Some y → closes y.step y.answer ≡ Some req → ⊥)
+    → IsOrderly n log (done ++ x ∷ [])
+orderly-answered n log done x h new fresh first = record {
+  tells = λ k y g.
+      elim (get_cases done x k y g) [
+        | inl o ↦ tells-answered n log done x y.step y.answer (h.tells k y o)
+        | inr e ↦ subst (λ (z : StepReport). Tells n log (done ++ x ∷ []) z.step z.answer) e.1 new
+      ];
+  below = λ k id g. elim (request_cases done x k id g) [ inl o ↦ h.below k id o | inr e ↦ (fresh id e.1).0 ];
+  rises = λ j k id jd l g f.
+      elim (request_cases done x k jd f) [
+        | inl o ↦
+            let lk : k < length done = request_within done k jd o in
+            elim (request_cases done x j id g) [ inl p ↦ h.rises j k id jd l p o | inr q ↦ absurd (let same : j ≡ length done = q.0 in omega (arith, l, lk, same)) ]
+        | inr e ↦
+            let top : k ≡ length done = e.0 in
+            elim (request_cases done x j id g) [ inl p ↦ (fresh jd e.1).1 j id p | inr q ↦ absurd (let same : j ≡ length done = q.0 in omega (arith, l, top, same)) ]
+      ];
+  once = λ j k req y z l gy gz cy cz.
+      elim (get_cases done x k z gz) [
+        | inl o ↦
+            let lk : k < length done = slice_get_within done k z o in
+            elim (get_cases done x j y gy) [ inl p ↦ h.once j k req y z l p o cy cz | inr q ↦ absurd (let same : j ≡ length done = q.0 in omega (arith, l, lk, same)) ]
+        | inr e ↦
+            let top : k ≡ length done = e.0 in
+            elim (get_cases done x j y gy) [
+              | inl p ↦ first req j y (ap (λ (w : StepReport). closes w.step w.answer) e.1 ∙ cz) p cy
+              | inr q ↦ absurd (let same : j ≡ length done = q.0 in omega (arith, l, top, same))
+            ]
+      ];
+}
+
+flat_same : {X Y : Type 0} (f g : X → List Y) (xs : List X) → ((k : ℕ) (x : X) → slice_get xs k ≡ Some x → f x ≡ g x) → flat_map f xs ≡ flat_map g xs
+flat_same f g [] same = refl
+flat_same {X} {Y} f g (x ∷ xs) same =
+    ap (λ (ys : List Y). ys ++ flat_map f xs) (same 0 x refl) ∙ ap (λ (ys : List Y). g x ++ ys) (flat_same f g xs (λ k y h. same (suc k) y h))
+
+-- what the steps sent, and one more entry
+pub sends-logged : (n : ℕ) (log : List Entry) (e : Entry) (done : List StepReport) (c d : ℕ) → IsHonest n log done → flat_map (sent_in (members_of n (log ++ e ∷ []) c) c d) done ++ sent_entry c d e ≡ mail_sent c d (log ++ e ∷ [])
+sends-logged n log e done c d h =
+    ap (λ (xs : List Content). xs ++ sent_entry c d e)
+    (flat_same (sent_in (members_of n (log ++ e ∷ []) c) c d) (sent_in (members_of n log c) c d) done (λ k x g. sent-logged n log e done c d x.step x.answer (h.orderly.tells k x g)) ∙ h.sends c d)
+    ∙ sym (flat-push (sent_entry c d) log e)
+
+-- past a beginning stands what comes after it
+pub late : (xs ys : List Event) (k : ℕ) (p : Pattern) → HasNoPost ys → length xs ≤ k → slice_get (xs ++ ys) k ≡ Some (Post p) → ⊥
+late [] ys k p free l g = free k p g
+late (x ∷ xs) ys zero p free l g = absurd (omega (arith, l))
+late (x ∷ xs) ys (suc k) p free l g = late xs ys k p free (omega (arith, l)) g
+
+pub covered-logged : (log : List Entry) (e : Entry) (done : List StepReport) → IsCovered log done → PostsNone e → IsCovered (log ++ e ∷ []) done
+covered-logged log e done covered none place p g =
+    let h : List Event = history_of log in
+    let es : List Event = events_by log h e in
+    let at : PostAt (h ++ es) place p = subst (λ (xs : List Event). PostAt xs place p) (history-push log e) g in
+    elim (lt_or_ge place (length h)) [
+      | inl l ↦
+          let c = covered place p (get_in_front h es place (Post p) l at) in
+          (c.0, c.1, c.2, ap (λ (ys : List Event). number ys place) (history-push log e) ∙ number_front h es place (omega (arith, l)) ∙ c.3)
+      | inr far ↦ absurd (late h es place p (none-events log h e none) far at)
+    ]
+
+pub covered-answered : (log : List Entry) (done : List StepReport) (x : StepReport) → IsCovered log done → IsCovered log (done ++ x ∷ [])
+covered-answered log done x covered place p g = let c = covered place p g in (c.0, c.1, asked_front done (x ∷ []) c.0 c.1 c.2, c.3)
+
+-- an entry that neither posts nor sends
+pub honest-logged : (n : ℕ) (log : List Entry) (e : Entry) (done : List StepReport) → IsHonest n log done → PostsNone e → ((c d : ℕ) → sent_entry c d e ≡ []) → IsTakenFrom e → IsHonest n (log ++ e ∷ []) done
+honest-logged n log e done h none silent own = record {
+  orderly = orderly-logged n log e done h.orderly;
+  sends = λ c d.
+      let now : List Content = flat_map (sent_in (members_of n (log ++ e ∷ []) c) c d) done in
+      sym (append-nil now) ∙ ap (λ (xs : List Content). now ++ xs) (sym (silent c d)) ∙ sends-logged n log e done c d h;
+  covered = covered-logged log e done h.covered none;
+  formed = formed-logged log e h.formed none;
+  taken = All-push IsTakenFrom log e h.taken own;
+}
+
+-- one more answer, which posted and sent nothing
+pub honest-answered : (n : ℕ) (log : List Entry) (done : List StepReport) (x : StepReport) → IsHonest n log done → ((group : List ℕ) (c d : ℕ) → sent_in group c d x ≡ []) → request_of x.answer ≡ None → Tells n log (done ++ x ∷ []) x.step x.answer
+    → ((req k : ℕ) (y : StepReport) → closes x.step x.answer ≡ Some req → slice_get done k ≡ Some y → closes y.step y.answer ≡ Some req → ⊥)
+    → IsHonest n log (done ++ x ∷ [])
+honest-answered n log done x h silent unposted new first = record {
+  orderly = orderly-answered n log done x h.orderly new (λ id e. let bad : ⊥ = cc in absurd bad) first;
+  sends = λ c d. flat-push (sent_in (members_of n log c) c d) done x ∙ ap (λ (xs : List Content). flat_map (sent_in (members_of n log c) c d) done ++ xs) (silent (members_of n log c) c d) ∙ append-nil (flat_map (sent_in (members_of n log c) c d) done) ∙ h.sends c d;
+  covered = covered-answered log done x h.covered;
+  formed = h.formed;
+  taken = h.taken;
+}
