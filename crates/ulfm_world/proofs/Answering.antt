@@ -34,7 +34,7 @@ pub record IsPlain (asked : Step) (answer : StepAnswer) : Type 0 where
 pub record IsIdle (e : Entry) : Type 0 where
   pub posts : PostsNone e
   pub sends : (c d : ℕ) → sent_entry c d e ≡ []
-  pub own : IsTakenFrom e
+  pub own : (n : ℕ) → IsTakenFrom n e
 
 -- nothing is added to the log
 pub true-same : (r : State) (done : List StepReport) (asked : Step) (answer : StepAnswer) (at polls : ℕ) (new : State) → IsTrueOf r done → IsPlain asked answer → new ≡ r → IsTrueOf new (done ++ report_of asked answer at polls ∷ [])
@@ -45,7 +45,7 @@ true-same r done asked answer at polls new h plain same =
 -- one idle entry is added
 true-one : (r : State) (done : List StepReport) (asked : Step) (answer : StepAnswer) (at polls : ℕ) (new : State) (e : Entry) → IsTrueOf r done → IsPlain asked answer → IsIdle e → new ≡ logged r e → IsTrueOf new (done ++ report_of asked answer at polls ∷ [])
 true-one r done asked answer at polls new e h plain idle only =
-    true-same (logged r e) done asked answer at polls new (honest-logged r.ranks r.log e done h idle.posts idle.sends idle.own) plain only
+    true-same (logged r e) done asked answer at polls new (honest-logged r.ranks r.log e done h idle.posts idle.sends (idle.own r.ranks)) plain only
 
 true-where : (b : Bool) (r : State) (done : List StepReport) (asked : Step) (answer : StepAnswer) (at polls : ℕ) (new : State) (e : Entry) → IsTrueOf r done → IsPlain asked answer → IsIdle e → new ≡ cond b (logged r e) r → IsTrueOf new (done ++ report_of asked answer at polls ∷ [])
 true-where true r done asked answer at polls new e h plain idle only = true-one r done asked answer at polls new e h plain idle only
@@ -56,7 +56,7 @@ true-unless true r done asked answer at polls new e h plain idle only = true-sam
 true-unless false r done asked answer at polls new e h plain idle only = true-one r done asked answer at polls new e h plain idle only
 
 idle-stop : IsIdle StopEntry
-idle-stop = record { posts = tt; sends = λ c d. refl; own = tt }
+idle-stop = record { posts = tt; sends = λ c d. refl; own = λ n. tt }
 
 -- a step that is refused
 refused : (asked : Step) (reason : CallError) → IsPlain asked (Refused reason)
@@ -114,17 +114,17 @@ module _ (r : State) (done : List StepReport) (h : IsTrueOf r done) (at polls : 
   true-failed comm _ a = absurd a
 
   true-ack : (count : ℕ) (comm : Context) (answer : StepAnswer) → AnswersAck r count comm answer new → IsTrueOf new (done ++ report_of (Ack count comm) answer at polls ∷ [])
-  true-ack count comm (Acked total) a = true-where (nat_lt (acknowledged_of r.log comm.number) total) r done (Ack count comm) (Acked total) at polls new (Acknowledged comm total) h (record { sends = λ group c d. refl; asks = refl; tells = λ n log done. tt; waits = λ q e. let bad : ⊥ = cc in bad }) (record { posts = tt; sends = λ c d. refl; own = tt }) a.2
+  true-ack count comm (Acked total) a = true-where (nat_lt (acknowledged_of r.log comm.number) total) r done (Ack count comm) (Acked total) at polls new (Acknowledged comm total) h (record { sends = λ group c d. refl; asks = refl; tells = λ n log done. tt; waits = λ q e. let bad : ⊥ = cc in bad }) (record { posts = tt; sends = λ c d. refl; own = λ n. tt }) a.2
   true-ack count comm (Refused e) a = true-same r done (Ack count comm) (Refused e) at polls new h (refused (Ack count comm) e) a.1
   true-ack count comm _ a = absurd a
 
   true-revoke : (comm : Context) (answer : StepAnswer) → AnswersRevoke r comm answer new → IsTrueOf new (done ++ report_of (Revoke comm) answer at polls ∷ [])
-  true-revoke comm Revoked a = true-unless (is_revoked r.log comm.number) r done (Revoke comm) Revoked at polls new (RevokedEntry comm) h (record { sends = λ group c d. refl; asks = refl; tells = λ n log done. tt; waits = λ q e. let bad : ⊥ = cc in bad }) (record { posts = tt; sends = λ c d. refl; own = tt }) a.1
+  true-revoke comm Revoked a = true-unless (is_revoked r.log comm.number) r done (Revoke comm) Revoked at polls new (RevokedEntry comm) h (record { sends = λ group c d. refl; asks = refl; tells = λ n log done. tt; waits = λ q e. let bad : ⊥ = cc in bad }) (record { posts = tt; sends = λ c d. refl; own = λ n. tt }) a.1
   true-revoke comm (Refused e) a = true-same r done (Revoke comm) (Refused e) at polls new h (refused (Revoke comm) e) a.1
   true-revoke comm _ a = absurd a
 
   true-dup : (comm : Context) (answer : StepAnswer) → AnswersDup r comm answer new → IsTrueOf new (done ++ report_of (Dup comm) answer at polls ∷ [])
-  true-dup comm (Made child) a = true-one r done (Dup comm) (Made child) at polls new (Duplicated comm) h (record { sends = λ group c d. refl; asks = refl; tells = λ n log done. tt; waits = λ q e. let bad : ⊥ = cc in bad }) (record { posts = tt; sends = λ c d. refl; own = tt }) a.2
+  true-dup comm (Made child) a = true-one r done (Dup comm) (Made child) at polls new (Duplicated comm) h (record { sends = λ group c d. refl; asks = refl; tells = λ n log done. tt; waits = λ q e. let bad : ⊥ = cc in bad }) (record { posts = tt; sends = λ c d. refl; own = λ n. tt }) a.2
   true-dup comm (Refused e) a = true-same r done (Dup comm) (Refused e) at polls new h (refused (Dup comm) e) a.1
   true-dup comm _ a = absurd a
 

@@ -74,7 +74,7 @@ true-sent r done to tag body comm at polls new h s =
           ∙ sends-logged n log e done c d h;
       covered = covered-answered (log ++ e ∷ []) done x (covered-logged log e done h.covered tt);
       formed = formed-logged log e h.formed tt;
-      taken = All-push IsTakenFrom log e h.taken tt;
+      taken = All-push (IsTakenFrom n) log e h.taken tt;
     })
 
 -- a request that was closed is released

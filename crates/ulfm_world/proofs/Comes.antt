@@ -73,18 +73,18 @@ no_mail : (c : ℕ) (b : Bool) (item : Item) → mail_on c item ≡ [] → mail 
 no_mail c true item e = append-nil (mail_on c item) ∙ e
 no_mail c false item e = refl
 
-come_entry : (s c : ℕ) (before : List Entry) (found : List Event) (e : Entry) → IsTakenFrom e → IsCome s c before (events_by before found e) (took_by s e)
-come_entry s c before found (Posted pattern) h = come_none s c before _ [] (one (names_gone before pattern.source)) refl
+come_entry : (n s c : ℕ) (before : List Entry) (found : List Event) (e : Entry) → IsTakenFrom n e → IsCome s c before (events_by before found e) (took_by s e)
+come_entry n s c before found (Posted pattern) h = come_none s c before _ [] (one (names_gone before pattern.source)) refl
   where
     one : (b : Bool) → letters_come s c (cond b (End (length found) ∷ []) []) ≡ []
     one true = refl
     one false = refl
-come_entry s c before found (Revoked context) h = come_none s c before _ [] (come_clear s c context.number (is_revoked before context.number)) refl
-come_entry s c before found (Took source (Mail letter)) h = come_letter s c before source letter h
-come_entry s c before found (Took source Gone) h = come_none s c before _ _ (come_ends s c source.number 0 found) (no_mail c (eqb source.number s) Gone refl)
-come_entry s c before found (Took source (Revoke context)) h = come_none s c before _ _ (come_clear s c context.number (is_revoked before context.number)) (no_mail c (eqb source.number s) (Revoke context) refl)
-come_entry s c before found (Took source (Enter context known)) h = come_none s c before [] _ refl (no_mail c (eqb source.number s) (Enter context known) refl)
-come_entry s c before found _ h = come_none s c before [] [] refl refl
+come_entry n s c before found (Revoked context) h = come_none s c before _ [] (come_clear s c context.number (is_revoked before context.number)) refl
+come_entry n s c before found (Took source (Mail letter)) h = come_letter s c before source letter h.1
+come_entry n s c before found (Took source Gone) h = come_none s c before _ _ (come_ends s c source.number 0 found) (no_mail c (eqb source.number s) Gone refl)
+come_entry n s c before found (Took source (Revoke context)) h = come_none s c before _ _ (come_clear s c context.number (is_revoked before context.number)) (no_mail c (eqb source.number s) (Revoke context) refl)
+come_entry n s c before found (Took source (Enter context known)) h = come_none s c before [] _ refl (no_mail c (eqb source.number s) (Enter context known) refl)
+come_entry n s c before found _ h = come_none s c before [] [] refl refl
 
 -- what came is a beginning of what was taken, and all of it where the context isn't revoked
 record IsTakenMail (s c : ℕ) (before : List Entry) (found : List Event) : Type 0 where
@@ -92,9 +92,9 @@ record IsTakenMail (s c : ℕ) (before : List Entry) (found : List Event) : Type
   pub all : letters_come s c found ++ rest ≡ mail c (took before s)
   pub none : is_revoked before c ≡ false → rest ≡ []
 
-taken_more : (s c : ℕ) (before : List Entry) (found : List Event) (e : Entry) → IsTakenMail s c before found → IsTakenFrom e → IsTakenMail s c (before ++ e ∷ []) (found ++ events_by before found e)
-taken_more s c before found e h own =
-    let k : IsCome s c before (events_by before found e) (took_by s e) = come_entry s c before found e own in
+taken_more : (n s c : ℕ) (before : List Entry) (found : List Event) (e : Entry) → IsTakenMail s c before found → IsTakenFrom n e → IsTakenMail s c (before ++ e ∷ []) (found ++ events_by before found e)
+taken_more n s c before found e h own =
+    let k : IsCome s c before (events_by before found e) (took_by s e) = come_entry n s c before found e own in
     let came : letters_come s c (found ++ events_by before found e) ≡ letters_come s c found ++ letters_come s c (events_by before found e) = flat_map-append (come_in s c) found (events_by before found e) in
     let taken : mail c (took (before ++ e ∷ []) s) ≡ mail c (took before s) ++ mail c (took_by s e) = ap (mail c) (took-push before e s) ∙ flat_map-append (mail_on c) (took before s) (took_by s e) in
     let now : is_revoked (before ++ e ∷ []) c ≡ is_revoked before c || revokes c e = any-push (revokes c) before e in
@@ -118,10 +118,10 @@ taken_more s c before found e h own =
       }
     ]
 
-all_taken : (s c : ℕ) (log : List Entry) → All IsTakenFrom log → IsTakenMail s c log (history_of log)
-all_taken s c log =
-    gathered_all {X = Event} events_by (λ (before : List Entry) (found : List Event). All IsTakenFrom before → IsTakenMail s c before found)
-    (λ before found e h all. taken_more s c before found e (h (all_front IsTakenFrom before e all)) (all_last IsTakenFrom before e all))
+all_taken : (n s c : ℕ) (log : List Entry) → All (IsTakenFrom n) log → IsTakenMail s c log (history_of log)
+all_taken n s c log =
+    gathered_all {X = Event} events_by (λ (before : List Entry) (found : List Event). All (IsTakenFrom n) before → IsTakenMail s c before found)
+    (λ before found e h all. taken_more n s c before found e (h (all_front (IsTakenFrom n) before e all)) (all_last (IsTakenFrom n) before e all))
     [] (λ all. record { rest = []; all = refl; none = λ f. refl }) log
 
 no_notice : (c : ℕ) (told : Bool) → mail c (notice told) ≡ []
@@ -129,11 +129,11 @@ no_notice c true = refl
 no_notice c false = refl
 
 -- what came to d from s is a beginning of what the log of s sent to it
-pub come_world : (w : World) (s d c : ℕ) → IsWorld w → All IsTakenFrom (rank_at w d).log → s < length w.players → d < length w.players → (rest : List Content) × (letters_come s c (history_of (rank_at w d).log) ++ rest ≡ mail_sent c d (rank_at w s).log)
-come_world w s d c h own i j =
+pub come_world : (w : World) (n s d c : ℕ) → IsWorld w → All (IsTakenFrom n) (rank_at w d).log → s < length w.players → d < length w.players → (rest : List Content) × (letters_come s c (history_of (rank_at w d).log) ++ rest ≡ mail_sent c d (rank_at w s).log)
+come_world w n s d c h own i j =
     let r : State = rank_at w s in
     let k : ℕ = (mark_at r d).taken in
-    let t = all_taken s c (rank_at w d).log own in
+    let t = all_taken n s c (rank_at w d).log own in
     let came : List Content = letters_come s c (history_of (rank_at w d).log) in
     let waits : List Content = mail c (from s (inbox_at w d)) in
     let later : List Content = mail c (drop k (owes r d)) in

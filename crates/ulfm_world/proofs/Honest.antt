@@ -39,7 +39,7 @@ pub record IsHonest (n : ℕ) (log : List Entry) (done : List StepReport) : Type
   pub sends : (c d : ℕ) → flat_map (sent_in (members_of n log c) c d) done ≡ mail_sent c d log
   pub covered : IsCovered log done
   pub formed : IsWellFormed (history_of log)
-  pub taken : All IsTakenFrom log
+  pub taken : All (IsTakenFrom n) log
 
 request_cases : (done : List StepReport) (x : StepReport) (k : ℕ) (id : RequestId) → request_at (done ++ x ∷ []) k ≡ Some id → (request_at done k ≡ Some id) ⊎ ((k ≡ length done) × (request_of x.answer ≡ Some id))
 request_cases [] x zero id h = inr (refl, h)
@@ -132,7 +132,7 @@ pub covered-answered : (log : List Entry) (done : List StepReport) (x : StepRepo
 covered-answered log done x covered place p g = let c = covered place p g in (c.0, c.1, asked_front done (x ∷ []) c.0 c.1 c.2, c.3)
 
 -- an entry that neither posts nor sends
-pub honest-logged : (n : ℕ) (log : List Entry) (e : Entry) (done : List StepReport) → IsHonest n log done → PostsNone e → ((c d : ℕ) → sent_entry c d e ≡ []) → IsTakenFrom e → IsHonest n (log ++ e ∷ []) done
+pub honest-logged : (n : ℕ) (log : List Entry) (e : Entry) (done : List StepReport) → IsHonest n log done → PostsNone e → ((c d : ℕ) → sent_entry c d e ≡ []) → IsTakenFrom n e → IsHonest n (log ++ e ∷ []) done
 honest-logged n log e done h none silent own = record {
   orderly = orderly-logged n log e done h.orderly;
   sends = λ c d.
@@ -140,7 +140,7 @@ honest-logged n log e done h none silent own = record {
       sym (append-nil now) ∙ ap (λ (xs : List Content). now ++ xs) (sym (silent c d)) ∙ sends-logged n log e done c d h;
   covered = covered-logged log e done h.covered none;
   formed = formed-logged log e h.formed none;
-  taken = All-push IsTakenFrom log e h.taken own;
+  taken = All-push (IsTakenFrom n) log e h.taken own;
 }
 
 -- one more answer, which posted and sent nothing

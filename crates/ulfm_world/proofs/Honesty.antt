@@ -47,8 +47,8 @@ true-left old new h left =
 true-leaves : (p : Player) (after : State) (d : ℕ) (item : Item) → IsTrueOf p.rank p.done → Leaves p.rank after d item → IsTrueOf after p.done
 true-leaves p after d item h leaves = let T : State → Type 0 = λ (s : State). IsTrueOf s p.done in subst T (sym leaves.marked) h
 
-true-took : (r : State) (p : Player) (source : WorldRank) (item : Item) → IsTrueOf p.rank p.done → IsTakenFrom (Took source item) → IsTrueOf (logged p.rank (Took source item)) p.done
-true-took r p source item h own = honest-logged p.rank.ranks p.rank.log (Took source item) p.done h tt (λ c d. refl) own
+true-took : (p : Player) (source : WorldRank) (item : Item) → IsTrueOf p.rank p.done → IsTakenFrom p.rank.ranks (Took source item) → IsTrueOf (logged p.rank (Took source item)) p.done
+true-took p source item h own = honest-logged p.rank.ranks p.rank.log (Took source item) p.done h tt (λ c d. refl) own
 
 true-happens : (w : World) (event : Event) (w' : World) → IsWorld w → AreTrue w.players → Happens w event w' → AreTrue w'.players
 true-happens w (Call r asked) w' h t k =
@@ -61,7 +61,7 @@ true-happens w (Push s d) w' h t k =
 true-happens w (Take r) w' h t k =
     let A : World → Type 0 = λ (x : World). AreTrue x.players in
     let posted : IsPosted (length w.players) (k.source, k.item) = All-head (IsPosted (length w.players)) (k.source, k.item) k.rest (let X : List (WorldRank × Item) → Type 0 = λ (xs : List (WorldRank × Item)). All (IsPosted (length w.players)) xs in subst X k.front (h.posted r k.inside)) in
-    subst A (sym k.only) (true-set w.players r (with_rank (player_at w r) (logged (rank_at w r) (Took k.source k.item))) k.inside (true-took (rank_at w r) (player_at w r) k.source k.item (t r k.inside) posted.1) t)
+    subst A (sym k.only) (true-set w.players r (with_rank (player_at w r) (logged (rank_at w r) (Took k.source k.item))) k.inside (true-took (player_at w r) k.source k.item (t r k.inside) (omega (arith, posted.0, h.counted r k.inside), posted.1)) t)
 true-happens w (Leave r) w' h t k =
     let A : World → Type 0 = λ (x : World). AreTrue x.players in
     let B : List Player → Type 0 = λ (ps : List Player). AreTrue ps in
@@ -86,7 +86,7 @@ true-start n r = record {
   sends = λ c d. refl;
   covered = λ place p g. let bad : ⊥ = cc in absurd bad;
   formed = record { ends = λ i k g. let bad : ⊥ = cc in absurd bad; no_posts = λ k i p l g f. let bad : ⊥ = cc in bad; no_letters = λ k b l m g f. let bad : ⊥ = cc in bad };
-  taken = All-nil IsTakenFrom;
+  taken = All-nil (IsTakenFrom n);
 }
 
 -- the answered steps of each player in a world that a schedule leads to are true of its log

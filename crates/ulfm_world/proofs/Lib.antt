@@ -31,4 +31,12 @@ pub mod Closing
 pub mod Posting
 pub mod Answering
 pub mod Honesty
+pub mod Decides
+pub mod Exists
+pub mod Places
+pub mod Contents
+pub mod Sources
+pub mod Finding
+pub mod Given
+pub mod Order
 pub mod Reported

@@ -1,5 +1,5 @@
 -- The letters of one communicator among items, and those that a log sent.
-use Rattle.std.proofs.Common.{◌≡◌, ℕ, Bool, true, false, cond, eqb, List, [], ◌∷◌, ◌++◌, refl, ap, sym, ◌∙◌, append-nil}
+use Rattle.std.proofs.Common.{◌≡◌, ℕ, ◌<◌, Bool, true, false, cond, eqb, List, [], ◌∷◌, ◌++◌, refl, ap, sym, ◌∙◌, append-nil}
 use Rattle.std.specs.Prelude.{⊤, ◌&&◌, ◌==◌, if◌then◌else◌}
 use Rattle.std.specs.List.{flat_map}
 use Rattle.std.proofs.lemmas.Grind.{flat_map-append}
@@ -33,10 +33,10 @@ sent_entry c d _ = []
 abbrev pub mail_sent : ℕ → ℕ → List Entry → List Content
 mail_sent c d log = flat_map (sent_entry c d) log
 
--- a letter that was taken bears the rank that it was taken from
-abbrev pub IsTakenFrom : Entry → Type 0
-IsTakenFrom (Took source item) = IsFrom source item
-IsTakenFrom _ = ⊤
+-- an item was taken from one of n ranks, and a letter bears the rank that it was taken from
+abbrev pub IsTakenFrom : ℕ → Entry → Type 0
+IsTakenFrom n (Took source item) = (source.number < n) × IsFrom source item
+IsTakenFrom n _ = ⊤
 
 pub flat-push : {X Y : Type 0} (f : X → List Y) (xs : List X) (x : X) → flat_map f (xs ++ x ∷ []) ≡ flat_map f xs ++ f x
 flat-push {X} {Y} f xs x = flat_map-append f xs (x ∷ []) ∙ ap (λ (ys : List Y). flat_map f xs ++ ys) (append-nil (f x))

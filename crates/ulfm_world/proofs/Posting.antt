@@ -54,7 +54,7 @@ may_receive r c source h =
     found None e k = absurd (false≢true (sym k))
     found (Some group) e k = (group, e)
 
-get_here : (xs : List Event) (e : Event) (ys : List Event) → slice_get (xs ++ e ∷ ys) (length xs) ≡ Some e
+pub get_here : (xs : List Event) (e : Event) (ys : List Event) → slice_get (xs ++ e ∷ ys) (length xs) ≡ Some e
 get_here [] e ys = refl
 get_here (x ∷ xs) e ys = get_here xs e ys
 
@@ -147,5 +147,5 @@ module _ (r : State) (done : List StepReport) (source : Option ℕ) (tag : Optio
             flat-push (sent_in group c d) done x ∙ sends-logged r.ranks log e done c d h;
         covered = covered;
         formed = formed-posted log s.pattern h.formed revoked;
-        taken = All-push IsTakenFrom log e h.taken tt;
+        taken = All-push (IsTakenFrom r.ranks) log e h.taken tt;
       })

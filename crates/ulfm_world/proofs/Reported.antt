@@ -6,7 +6,10 @@ use Rattle.ulfm_script.specs.Player.{Player}
 use Rattle.ulfm_script.specs.Report.{Report}
 use Rattle.ulfm_world.specs.World.{World, player_at, rank_at, no_player, start_world, Reaches}
 use Rattle.ulfm_world.specs.Flow.{IsWorld}
-use Rattle.ulfm_world.specs.Replay.{report_of}
+use Rattle.ulfm_script.specs.Job.{Seen, IsJob}
+use Rattle.ulfm_world.specs.Replay.{report_of, IsReplayed}
+use Rattle.ulfm_world.proofs.Finding.{AreHonest}
+use Rattle.ulfm_world.proofs.Honest.{IsHonest}
 use Rattle.ulfm_world.specs.Reader.{Content, report_at, no_report, letters_come, letters_sent, ComeAsSent}
 use Rattle.ulfm_world.proofs.Closing.{IsTrueOf}
 use Rattle.ulfm_world.proofs.Comes.{come_world}
@@ -24,10 +27,24 @@ come_as_sent : (w : World) → IsWorld w → AreTrue w.players → ComeAsSent (m
 come_as_sent w h t s d c i j =
     let is : s < length w.players = omega (arith, i, length-map w.players report_of) in
     let js : d < length w.players = omega (arith, j, length-map w.players report_of) in
-    let f = come_world w s d c h (t d js).taken is js in
+    let f = come_world w (rank_at w d).ranks s d c h (t d js).taken is js in
     by_player (λ (b : Report). (rest : List Content) × (letters_come s c (history_of b.rank.log) ++ rest ≡ letters_sent (report_at (map report_of w.players) s).rank c d (report_at (map report_of w.players) s).steps)) w d js
     (by_player (λ (a : Report). (rest : List Content) × (letters_come s c (history_of (rank_at w d).log) ++ rest ≡ letters_sent a.rank c d a.steps)) w s is
     (f.0, f.1 ∙ sym ((t s is).sends c d)))
 
-pub reached_as_sent : (n capacity : ℕ) (w : World) → n ≤ 8 → Reaches (start_world n capacity) w → ComeAsSent (map report_of w.players)
-reached_as_sent n capacity w small h = come_as_sent w (world-reached n capacity w small h) (true-reached n capacity w small h)
+are_honest : (w : World) → IsWorld w → AreTrue w.players → AreHonest (map report_of w.players)
+are_honest w h t =
+    let l : length (map report_of w.players) ≡ length w.players = length-map w.players report_of in
+    record {
+      honest = λ d i. by_player (λ (a : Report). IsHonest a.rank.ranks a.rank.log a.steps) w d (omega (arith, i, l)) (t d (omega (arith, i, l)));
+      counted = λ d i. by_player (λ (a : Report). a.rank.ranks ≡ length (map report_of w.players)) w d (omega (arith, i, l)) (h.counted d (omega (arith, i, l)) ∙ sym l);
+      sent = come_as_sent w h t;
+    }
+
+-- what holds of all reports that are true of their logs holds of those of each world that a schedule leads to
+pub in_world : (P : List Report → Type 0) → ((reports : List Report) → AreHonest reports → P reports) → (n capacity : ℕ) (w : World) → n ≤ 8 → Reaches (start_world n capacity) w → P (map report_of w.players)
+in_world P law n capacity w small h = law (map report_of w.players) (are_honest w (world-reached n capacity w small h) (true-reached n capacity w small h))
+
+-- and of those of each replay
+pub in_replay : (P : List Report → Type 0) → ((reports : List Report) → AreHonest reports → P reports) → (j : Seen) (reports : List Report) → IsJob j → IsReplayed j reports → P reports
+in_replay P law j reports job h = subst P (sym h.reported) (in_world P law j.ranks j.capacity h.world job.few_ranks h.reaches)

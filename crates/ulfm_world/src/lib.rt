@@ -10,6 +10,8 @@ mod world;
 
 pub use event::{Event, Outcome, Refused};
 pub use inbox::Inbox;
-pub use laws::{agreed_at_rest, flows, known_at_rest, letters_come_as_sent};
+pub use laws::{agreed_at_rest, flows, known_at_rest};
+pub use laws::{each_done_was_sent, each_over_is_true, letters_are_given_once};
+pub use laws::{letters_come_as_sent, letters_keep_order, receives_keep_order};
 pub use rounds::replay;
 pub use world::{World, run};

@@ -1,5 +1,11 @@
-use Rattle.ulfm_world.proofs.Reported.{reached_as_sent}
+use Rattle.std.proofs.Common.{List}
+use Rattle.ulfm_script.specs.Report.{Report}
+use Rattle.ulfm_world.specs.Reader.{ComeAsSent}
+use Rattle.ulfm_world.proofs.Reported.{in_world, in_replay}
 use Rattle.ulfm_world.proofs.laws.letters_come_as_sent.Goals as goal
 
-pub returns : goal.returns
-returns c = reached_as_sent
+pub returns-clause-worlds : goal.returns-clause-worlds
+returns-clause-worlds c = in_world (λ (reports : List Report). ComeAsSent reports) (λ reports all. all.sent)
+
+pub returns-clause-replays : goal.returns-clause-replays
+returns-clause-replays c = in_replay (λ (reports : List Report). ComeAsSent reports) (λ reports all. all.sent)
