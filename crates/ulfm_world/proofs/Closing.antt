@@ -34,7 +34,8 @@ use Rattle.ulfm_script.specs.declared.answer.StepReport.{StepReport}
 use Rattle.ulfm_script.specs.Player.{Tests, comm_of, report_of, request_of, request_at, tested}
 use Rattle.ulfm_world.specs.Reader.{Content, content, is_rank, sent_by, sent_in, closes}
 use Rattle.ulfm_world.proofs.Formed.{formed-logged, formed-posted}
-use Rattle.ulfm_world.proofs.Honest.{IsHonest, IsOrderly, IsCovered, orderly-logged, orderly-answered, sends-logged, covered-logged, covered-answered, honest-logged, honest-answered}
+use Rattle.ulfm_world.proofs.Honest.{IsHonest, IsCovered, sends-logged, covered-logged, covered-answered, honest-logged, honest-answered}
+use Rattle.ulfm_world.proofs.Orderly.{IsOrderly, orderly-logged, orderly-answered}
 use Rattle.ulfm_world.proofs.Mail.{sent_entry, IsTakenFrom, flat-push}
 use Rattle.ulfm_world.proofs.Stays.{number_front, number_rises, members_stay, answer_stays}
 use Rattle.ulfm_world.proofs.Tells.{Tells, IsReceipt, IsVerdict, asked_front}

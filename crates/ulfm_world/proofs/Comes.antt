@@ -1,4 +1,4 @@
--- The letters that came by the history of a log are a beginning of those that its senders' logs sent.
+-- The letters that came by the history of a log are a beginning of those that it took.
 use Rattle.std.proofs.Common.{◌≡◌, ℕ, ◌<◌, Bool, true, false, cond, eqb, List, [], ◌∷◌, ◌++◌, length, take, drop, refl, ap, sym, ◌∙◌, append-nil, append_assoc, inl, inr, suc}
 use Rattle.std.specs.Prelude.{◌||◌, All}
 use Rattle.std.proofs.lemmas.Bool.{false≢true, or_left, cases_Bool, eqb-true}
@@ -87,7 +87,7 @@ come_entry n s c before found (Took source (Enter context known)) h = come_none 
 come_entry n s c before found _ h = come_none s c before [] [] refl refl
 
 -- what came is a beginning of what was taken, and all of it where the context isn't revoked
-record IsTakenMail (s c : ℕ) (before : List Entry) (found : List Event) : Type 0 where
+pub record IsTakenMail (s c : ℕ) (before : List Entry) (found : List Event) : Type 0 where
   pub rest : List Content
   pub all : letters_come s c found ++ rest ≡ mail c (took before s)
   pub none : is_revoked before c ≡ false → rest ≡ []
@@ -118,38 +118,9 @@ taken_more n s c before found e h own =
       }
     ]
 
-all_taken : (n s c : ℕ) (log : List Entry) → All (IsTakenFrom n) log → IsTakenMail s c log (history_of log)
+-- what came by the history of a log
+pub all_taken : (n s c : ℕ) (log : List Entry) → All (IsTakenFrom n) log → IsTakenMail s c log (history_of log)
 all_taken n s c log =
     gathered_all {X = Event} events_by (λ (before : List Entry) (found : List Event). All (IsTakenFrom n) before → IsTakenMail s c before found)
     (λ before found e h all. taken_more n s c before found e (h (all_front (IsTakenFrom n) before e all)) (all_last (IsTakenFrom n) before e all))
     [] (λ all. record { rest = []; all = refl; none = λ f. refl }) log
-
-no_notice : (c : ℕ) (told : Bool) → mail c (notice told) ≡ []
-no_notice c true = refl
-no_notice c false = refl
-
--- what came to d from s is a beginning of what the log of s sent to it
-pub come_world : (w : World) (n s d c : ℕ) → IsWorld w → All (IsTakenFrom n) (rank_at w d).log → s < length w.players → d < length w.players → (rest : List Content) × (letters_come s c (history_of (rank_at w d).log) ++ rest ≡ mail_sent c d (rank_at w s).log)
-come_world w n s d c h own i j =
-    let r : State = rank_at w s in
-    let k : ℕ = (mark_at r d).taken in
-    let t = all_taken n s c (rank_at w d).log own in
-    let came : List Content = letters_come s c (history_of (rank_at w d).log) in
-    let waits : List Content = mail c (from s (inbox_at w d)) in
-    let later : List Content = mail c (drop k (owes r d)) in
-    let out : mail c (gone_out r d) ≡ mail c (take k (owes r d)) =
-    flat_map-append (mail_on c) (take k (owes r d)) (notice (mark_at r d).told)
-    ∙ ap (λ (xs : List Content). mail c (take k (owes r d)) ++ xs) (no_notice c (mark_at r d).told)
-    ∙ append-nil (mail c (take k (owes r d))) in
-    let passed : mail c (took (rank_at w d).log s) ++ waits ≡ mail c (take k (owes r d)) =
-    sym (flat_map-append (mail_on c) (took (rank_at w d).log s) (from s (inbox_at w d))) ∙ ap (mail c) (sym (h.passed_on s d i j)) ∙ out in
-    (
-      t.rest ++ (waits ++ later),
-      sym (append_assoc came t.rest (waits ++ later))
-          ∙ ap (λ (xs : List Content). xs ++ (waits ++ later)) t.all
-          ∙ sym (append_assoc (mail c (took (rank_at w d).log s)) waits later)
-          ∙ ap (λ (xs : List Content). xs ++ later) passed
-          ∙ sym (flat_map-append (mail_on c) (take k (owes r d)) (drop k (owes r d)))
-          ∙ ap (mail c) (take-append-drop k (owes r d))
-          ∙ mail_owed r.ranks r.me c d r.log,
-    )

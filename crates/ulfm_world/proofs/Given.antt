@@ -24,7 +24,8 @@ use Rattle.ulfm_script.specs.Player.{report_of, request_at}
 use Rattle.ulfm_script.specs.Report.{Report}
 use Rattle.ulfm_world.specs.Reader.{report_at, history_at, IsStep, IsPostedBy, IsSentBy, IsGiven, DoneIsGiven, OverIsTrue, GivesOnce}
 use Rattle.ulfm_world.proofs.Exists.{some_pairing}
-use Rattle.ulfm_world.proofs.Finding.{AreHonest, same_asked, its_request, same_step, verdict_posted, sender, same_come, same_send}
+use Rattle.ulfm_world.proofs.Finding.{AreHonest, same_asked, its_request, same_step, verdict_posted}
+use Rattle.ulfm_world.proofs.Senders.{sender, same_come, same_send}
 use Rattle.ulfm_world.proofs.Tells.{IsVerdict}
 
 -- a receive admits the letter that it is paired with

@@ -23,9 +23,11 @@ pub mod Ends
 pub mod Lists
 pub mod Mail
 pub mod Comes
+pub mod Arrivals
 pub mod Stays
 pub mod Tells
 pub mod Formed
+pub mod Orderly
 pub mod Honest
 pub mod Closing
 pub mod Posting
@@ -37,6 +39,8 @@ pub mod Places
 pub mod Contents
 pub mod Sources
 pub mod Finding
+pub mod Senders
 pub mod Given
 pub mod Order
+pub mod Missed
 pub mod Reported

@@ -21,7 +21,8 @@ use Rattle.std.proofs.lemmas.Option.{same_Some}
 use Rattle.ulfm_script.specs.Report.{Report}
 use Rattle.ulfm_world.specs.Reader.{Content, content, report_at, history_at, IsStep, sent_in, come_in, letters_come, letters_sent, IsPostedBy, IsSentBy, IsGiven, LettersKeepOrder, ReceivesKeepOrder}
 use Rattle.ulfm_world.proofs.Contents.{same_context, sent_one, come_few, come_is}
-use Rattle.ulfm_world.proofs.Finding.{AreHonest, its_request, poster, sender}
+use Rattle.ulfm_world.proofs.Finding.{AreHonest, its_request, poster}
+use Rattle.ulfm_world.proofs.Senders.{sender, sent_letter}
 use Rattle.ulfm_world.proofs.Given.{pair_admits}
 use Rattle.ulfm_world.proofs.Places.{gives_at, flat_within, flat_front, same_fronts, get_take}
 use Rattle.ulfm_world.proofs.Signed.{same_rank}
@@ -78,6 +79,9 @@ module _ (reports : List Report) (all : AreHonest reports) where
     pub tagged : letter.envelope.tag ≡ tag
     pub context : letter.envelope.context.number ≡ comm.number
 
+  as_many : (s c : ℕ) (es fs : History) (ys : List Content) → es ≡ fs → letters_come s c fs ≡ ys → length (letters_come s c es) ≡ length ys
+  as_many s c es fs ys e f = ap (λ (gs : History). length (letters_come s c gs)) e ∙ ap (λ (xs : List Content). length xs) f
+
   has_come : (d s b j k to : ℕ) (l : Letter) (tag : Tag) (body : List ℕ) (comm : Context) → d < length reports → IsSentBy reports d b l s j → l.envelope.context.number ≡ comm.number → k < j → IsStep (report_at reports s) k (Send to tag body comm) Sent → slice_get (group_at (report_at reports s).rank comm.number) to ≡ Some d → HasCome d s b k tag body comm
   has_come d s b j k to l tag body comm inside x same less step directed =
       let own : Report = report_at reports s in
@@ -101,7 +105,6 @@ module _ (reports : List Report) (all : AreHonest reports) where
       let its_tag : tag ≡ m.letter.envelope.tag = ap (λ (v : Content). v.tag) (sym m.carries) in
       let its_body : body ≡ m.letter.body = ap (λ (v : Content). v.body) (sym m.carries) in
       let its_comm : comm ≡ m.letter.envelope.context = same_context comm m.letter.envelope.context (sym m.context) in
-      let A : Tag → List ℕ → Context → Type 0 = λ (u : Tag) (v : List ℕ) (r : Context). IsStep own k (Send to u v r) Sent in
       let D : Context → Type 0 = λ (r : Context). slice_get (group_at own.rank r.number) to ≡ Some d in
       let O : Context → Type 0 = λ (r : Context). length (letters_come s r.number (take g.index h)) ≡ length (letters_sent own.rank r.number d (take k own.steps)) in
       record {
@@ -111,11 +114,11 @@ module _ (reports : List Report) (all : AreHonest reports) where
         sent = record {
           to = to;
           inside = x.inside;
-          step = subst (λ (r : Context). A m.letter.envelope.tag m.letter.body r) its_comm (subst (λ (v : List ℕ). A m.letter.envelope.tag v comm) its_body (subst (λ (u : Tag). A u body comm) its_tag step));
+          step = sent_letter own k to m.letter tag body comm its_tag its_body its_comm step;
           directed = subst D its_comm directed;
           came = t.1 ∙ ap (λ (e : Event). Some e) m.came;
           source = m.source;
-          in_order = subst O its_comm (ap (λ (es : History). length (letters_come s c es)) (sym t.2) ∙ ap (λ (xs : List Content). length xs) g.before);
+          in_order = subst O its_comm (as_many s c (take g.index h) (take g.index (take b h)) (letters_sent own.rank c d (take k own.steps)) (sym t.2) g.before);
         };
         source = m.source;
         tagged = sym its_tag;

@@ -32,7 +32,8 @@ use Rattle.ulfm_script.specs.declared.answer.StepReport.{StepReport}
 use Rattle.ulfm_script.specs.Player.{comm_of, report_of, request_of, request_at}
 use Rattle.ulfm_world.specs.Reader.{Content, sent_in}
 use Rattle.ulfm_world.proofs.Formed.{HasNoPost, none-nil, none-one, formed-posted}
-use Rattle.ulfm_world.proofs.Honest.{IsCovered, orderly-logged, orderly-answered, sends-logged, late}
+use Rattle.ulfm_world.proofs.Honest.{IsCovered, sends-logged, late}
+use Rattle.ulfm_world.proofs.Orderly.{orderly-logged, orderly-answered}
 use Rattle.ulfm_world.proofs.Mail.{IsTakenFrom, flat-push}
 use Rattle.ulfm_world.proofs.Stays.{number_front}
 use Rattle.ulfm_world.proofs.Tells.{IsReceipt, asked_front}

@@ -1,5 +1,5 @@
 -- What a reader of reports may rely on: which letter each receive was given, and who sent it (MPI 4.0, 3.5).
-use Rattle.std.specs.Prelude.{◌≡◌, ◌++◌, ◌<◌, ◌≤◌, ◌==◌, ◌&&◌, ℕ, Bool, false, List, [], ◌∷◌, length, max, take, Option, Some, None, slice_get, slice_index_or, if◌then◌else◌}
+use Rattle.std.specs.Prelude.{◌≡◌, ◌↔◌, ◌++◌, ◌<◌, ◌≤◌, ◌==◌, ◌&&◌, ℕ, Bool, false, List, [], ◌∷◌, length, max, take, Option, Some, None, slice_get, slice_index_or, if◌then◌else◌}
 use Rattle.std.specs.List.{flat_map}
 use Rattle.ulfm_base.specs.declared.tag.Tag.{Tag}
 use Rattle.ulfm_base.specs.declared.context.Context.{Context}
@@ -10,11 +10,12 @@ use Rattle.ulfm_base.specs.declared.error.CallError.TheVariants.{ProcFailed, Rev
 use Rattle.ulfm_base.specs.Group.{rank_in}
 use Rattle.ulfm_base.specs.Pattern.{Admits}
 use Rattle.ulfm_match.specs.declared.request.RequestId.{RequestId}
-use Rattle.ulfm_match.specs.History.{Event, History, Come, End, PostAt, ComeAt, StandsBetween, number}
+use Rattle.ulfm_match.specs.History.{Event, History, Come, End, PostAt, ComeAt, StandsBetween, IsLiveReceive, IsLiveLetter, number}
 use Rattle.ulfm_match.specs.Pairing.{Pairing, Pairs, LawfulPairing}
 use Rattle.ulfm_rank.specs.declared.entry.Status.{Status}
 use Rattle.ulfm_rank.specs.Calls.{IsSourceOf}
 use Rattle.ulfm_rank.specs.Checks.{group_at}
+use Rattle.ulfm_rank.specs.Facts.{is_stopped, is_revoked}
 use Rattle.ulfm_rank.specs.History.{history_of}
 use Rattle.ulfm_rank.specs.State.{State, start_state}
 use Rattle.ulfm_script.specs.declared.step.Step.{Step}
@@ -77,11 +78,23 @@ abbrev pub letters_come : ℕ → ℕ → History → List Content
 letters_come s c history = flat_map (come_in s c) history
 
 -- On each communicator, what came to a rank from another one is a beginning of what the answered steps of that one sent
--- to it: nothing is made, lost on the way, doubled or overtaken.
+-- to it: nothing is made, left out, doubled or overtaken. After its revocation no letter of a communicator comes.
 abbrev pub ComeAsSent : List Report → Type 0
 ComeAsSent reports =
     (s d c : ℕ) → s < length reports → d < length reports → (rest : List Content) ×
     (letters_come s c (history_at reports d) ++ rest ≡ letters_sent (report_at reports s).rank c d (report_at reports s).steps)
+
+-- On each communicator that isn't revoked at a running rank, all has come that running ranks sent to it.
+abbrev pub AllHasCome : List Report → Type 0
+AllHasCome reports =
+    (s d c : ℕ) → s < length reports → d < length reports → is_stopped (report_at reports s).rank.log ≡ false → is_stopped (report_at reports d).rank.log ≡ false →
+    is_revoked (report_at reports d).rank.log c ≡ false → letters_come s c (history_at reports d) ≡ letters_sent (report_at reports s).rank c d (report_at reports s).steps
+
+-- the history of each rank has a lawful pairing, and no other
+abbrev pub HasOnePairing : List Report → Type 0
+HasOnePairing reports =
+    (d : ℕ) → d < length reports → (r : Pairing) × LawfulPairing (history_at reports d) r ×
+    ((s : Pairing) → LawfulPairing (history_at reports d) s → (i b : ℕ) → Pairs r i b ↔ Pairs s i b)
 
 -- The receive at this place of the history is the one that step i posted.
 pub record IsPostedBy (report : Report) (i place : ℕ) (pattern : Pattern) : Type 0 where
@@ -179,3 +192,23 @@ ReceivesKeepOrder reports =
     (d i s j k place : ℕ) (pattern : Pattern) (given : IsGiven reports d i s j) → k < i → IsPostedBy (report_at reports d) k place pattern →
     Admits pattern given.letter.envelope → (StandsBetween (history_at reports d) (End place) place (max given.post_place given.come_place) → ⊥) →
     (sender step : ℕ) × (earlier : IsGiven reports d k sender step) × (earlier.come_place < given.come_place)
+
+-- a receive of the rank d is left: it is neither over nor given a letter
+pub record IsLeftWaiting (reports : List Report) (d i : ℕ) (pattern : Pattern) : Type 0 where
+  pub place : ℕ
+  pub receive : IsPostedBy (report_at reports d) i place pattern
+  pub live : IsLiveReceive (history_at reports d) place pattern (length (history_at reports d))
+  pub given_none : (s j : ℕ) → IsGiven reports d i s j → ⊥
+
+-- a letter that came to the rank d is left: its communicator isn't revoked, and no receive is given it
+pub record IsLeftKept (reports : List Report) (d s j : ℕ) (letter : Letter) : Type 0 where
+  pub place : ℕ
+  pub sent : IsSentBy reports d place letter s j
+  pub live : IsLiveLetter (history_at reports d) place letter (length (history_at reports d))
+  pub given_to_none : (i : ℕ) → IsGiven reports d i s j → ⊥
+
+-- No match is missed: no receive that is left admits a letter that is left.
+abbrev pub NoneIsMissed : List Report → Type 0
+NoneIsMissed reports =
+    (d i s j : ℕ) (pattern : Pattern) (letter : Letter) → d < length reports → IsLeftWaiting reports d i pattern → IsLeftKept reports d s j letter →
+    Admits pattern letter.envelope → ⊥

@@ -4,7 +4,7 @@ ghost use Rattle.ulfm_script.specs.Job.{Seen as Job, IsJob};
 ghost use Rattle.ulfm_script.specs.Report.{Report};
 ghost use Rattle.ulfm_world.specs.World.{World, start_world, Reaches};
 ghost use Rattle.ulfm_world.specs.Flow.{Flows};
-ghost use Rattle.ulfm_world.specs.Reader.{ComeAsSent, DoneIsGiven, GivesOnce, LettersKeepOrder, OverIsTrue, ReceivesKeepOrder};
+ghost use Rattle.ulfm_world.specs.Reader.{AllHasCome, ComeAsSent, DoneIsGiven, GivesOnce, HasOnePairing, LettersKeepOrder, NoneIsMissed, OverIsTrue, ReceivesKeepOrder};
 ghost use Rattle.ulfm_world.specs.Replay.{report_of, IsReplayed};
 ghost use Rattle.ulfm_world.specs.Rest.{IsAtRest, KnowsStopped, AgreesOnRevoked};
 
@@ -62,4 +62,23 @@ pub fn letters_keep_order()
 pub fn receives_keep_order()
     ensures worlds { (n capacity : ℕ) (w : World) → n ≤ 8 → Reaches (start_world n capacity) w → ReceivesKeepOrder (map report_of w.players) }
     ensures replays { (j : Job) (reports : List Report) → IsJob j → IsReplayed j reports → ReceivesKeepOrder reports }
+{}
+
+/// Whatever events come, the history of each rank has one lawful pairing, and no other (MPI 4.0, 3.5).
+pub fn one_pairing_each()
+    ensures worlds { (n capacity : ℕ) (w : World) → n ≤ 8 → Reaches (start_world n capacity) w → HasOnePairing (map report_of w.players) }
+    ensures replays { (j : Job) (reports : List Report) → IsJob j → IsReplayed j reports → HasOnePairing reports }
+{}
+
+/// Whatever events come, no receive that is left waiting admits a letter that came and is left (MPI 4.0, 3.5).
+pub fn no_match_is_missed()
+    ensures worlds { (n capacity : ℕ) (w : World) → n ≤ 8 → Reaches (start_world n capacity) w → NoneIsMissed (map report_of w.players) }
+    ensures replays { (j : Job) (reports : List Report) → IsJob j → IsReplayed j reports → NoneIsMissed reports }
+{}
+
+/// Whatever events come, at rest all has come that one running rank sent to another on a communicator that isn't revoked
+/// there (MPI 4.0, 3.5).
+pub fn all_come_at_rest()
+    ensures worlds { (n capacity : ℕ) (w : World) → n ≤ 8 → Reaches (start_world n capacity) w → IsAtRest w → AllHasCome (map report_of w.players) }
+    ensures replays { (j : Job) (reports : List Report) → IsJob j → IsReplayed j reports → AllHasCome reports }
 {}

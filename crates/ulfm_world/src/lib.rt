@@ -10,8 +10,8 @@ mod world;
 
 pub use event::{Event, Outcome, Refused};
 pub use inbox::Inbox;
-pub use laws::{agreed_at_rest, flows, known_at_rest};
-pub use laws::{each_done_was_sent, each_over_is_true, letters_are_given_once};
-pub use laws::{letters_come_as_sent, letters_keep_order, receives_keep_order};
+pub use laws::{agreed_at_rest, all_come_at_rest, flows, known_at_rest};
+pub use laws::{each_done_was_sent, each_over_is_true, letters_are_given_once, one_pairing_each};
+pub use laws::{letters_come_as_sent, letters_keep_order, no_match_is_missed, receives_keep_order};
 pub use rounds::replay;
 pub use world::{World, run};
