@@ -1,6 +1,6 @@
 -- Each answer of a poll keeps the steps of a rank true of its log.
-use Rattle.std.proofs.Common.{◌≡◌, ℕ, ◌+◌, ◌<◌, ◌≤◌, Bool, true, false, cond, eqb, List, [], ◌∷◌, ◌++◌, length, refl, ap, sym, ◌∙◌, subst, arith, Option, Some, None}
-use Rattle.std.specs.Prelude.{slice_get, nat_lt}
+use Rattle.std.proofs.Common.{◌≡◌, ℕ, Bool, true, false, cond, List, [], ◌∷◌, ◌++◌, refl, sym, subst, Option, Some, None}
+use Rattle.std.specs.Prelude.{nat_lt}
 use Rattle.ulfm_base.specs.declared.context.Context.{Context}
 use Rattle.ulfm_base.specs.declared.error.CallError.{CallError}
 use Rattle.ulfm_base.specs.declared.tag.Tag.{Tag}
@@ -17,7 +17,7 @@ use Rattle.ulfm_script.specs.declared.answer.StepReport.{StepReport}
 use Rattle.ulfm_script.specs.Player.{Answers, AnswersSend, AnswersRecv, AnswersWait, AnswersFailed, AnswersAck, AnswersRevoke, AnswersDup, AnswersStop, report_of, request_of}
 use Rattle.ulfm_world.specs.Reader.{sent_by, closes}
 use Rattle.ulfm_world.proofs.Formed.{PostsNone}
-use Rattle.ulfm_world.proofs.Honest.{IsHonest, honest-logged, honest-answered}
+use Rattle.ulfm_world.proofs.Honest.{honest-logged, honest-answered}
 use Rattle.ulfm_world.proofs.Mail.{sent_entry, IsTakenFrom}
 use Rattle.ulfm_world.proofs.Closing.{IsTrueOf, true-sent, true-closed}
 use Rattle.ulfm_world.proofs.Posting.{true-posted}

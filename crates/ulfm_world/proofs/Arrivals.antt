@@ -1,5 +1,5 @@
 -- The letters that came to a rank are a beginning of those that the logs of their senders sent to it.
-use Rattle.std.proofs.Common.{◌≡◌, ℕ, ◌<◌, Bool, true, false, List, [], ◌∷◌, ◌++◌, length, take, drop, refl, ap, sym, ◌∙◌, append-nil, append_assoc}
+use Rattle.std.proofs.Common.{◌≡◌, ℕ, ◌<◌, Bool, true, false, List, [], ◌++◌, length, take, drop, refl, ap, sym, ◌∙◌, append-nil, append_assoc}
 use Rattle.std.specs.Prelude.{All}
 use Rattle.std.proofs.lemmas.Grind.{flat_map-append}
 use Rattle.std.proofs.lemmas.List.{take-append-drop}
@@ -11,7 +11,7 @@ use Rattle.ulfm_rank.specs.State.{State, owes, outbox, gone_out, mark_at, notice
 use Rattle.ulfm_world.specs.World.{World, rank_at, inbox_at, IsRunning}
 use Rattle.ulfm_world.specs.Flow.{from, arrived, IsWorld}
 use Rattle.ulfm_world.specs.Reader.{Content, letters_come}
-use Rattle.ulfm_world.proofs.Comes.{IsTakenMail, all_taken}
+use Rattle.ulfm_world.proofs.Comes.{all_taken}
 use Rattle.ulfm_world.proofs.FlowFrom.{flows-world}
 use Rattle.ulfm_world.proofs.Mail.{mail_on, mail, mail_sent, mail_owed, IsTakenFrom}
 
@@ -33,8 +33,7 @@ come_world w n s d c h own i j =
     ∙ ap (λ (xs : List Content). mail c (take k (owes r d)) ++ xs) (no_notice c (mark_at r d).told)
     ∙ append-nil (mail c (take k (owes r d))) in
     let passed : mail c (took (rank_at w d).log s) ++ waits ≡ mail c (take k (owes r d)) =
-    sym (flat_map-append (mail_on c) (took (rank_at w d).log s) (from s (inbox_at w d))) ∙ ap (mail c) (sym (h.passed_on s d i j)) ∙ out in
-    (
+    sym (flat_map-append (mail_on c) (took (rank_at w d).log s) (from s (inbox_at w d))) ∙ ap (mail c) (sym (h.passed_on s d i j)) ∙ out in (
       t.rest ++ (waits ++ later),
       sym (append_assoc came t.rest (waits ++ later))
           ∙ ap (λ (xs : List Content). xs ++ (waits ++ later)) t.all

@@ -1,44 +1,37 @@
 -- A send and a wait that is over keep the steps of a rank true of its log.
-use Rattle.std.proofs.Common.{◌≡◌, ℕ, ◌+◌, ◌<◌, ◌≤◌, inl, inr, Bool, true, false, cond, eqb, List, [], ◌∷◌, ◌++◌, length, refl, ap, sym, ◌∙◌, subst, arith, append-nil, append_assoc, Option, Some, None}
-use Rattle.std.specs.Prelude.{slice_get, ◌||◌, ◌&&◌, not}
-use Rattle.std.specs.Option.{is_some}
+use Rattle.std.proofs.Common.{◌≡◌, ℕ, Bool, true, false, cond, eqb, List, [], ◌∷◌, ◌++◌, refl, ap, sym, ◌∙◌, subst, append-nil, Option, Some, None}
+use Rattle.std.specs.Prelude.{slice_get, ◌&&◌}
 use Rattle.std.specs.List.{flat_map}
 use Rattle.std.proofs.lemmas.Bool.{false≢true, or_right, eq-eqb, eqb-true}
 use Rattle.std.proofs.lemmas.List.Elements.{All-push}
 use Rattle.std.proofs.lemmas.Option.{same_Some}
 use Rattle.ulfm_base.specs.declared.context.Context.{Context}
 use Rattle.ulfm_base.specs.declared.tag.Tag.{Tag}
-use Rattle.ulfm_base.specs.declared.pattern.Pattern.{Pattern}
 use Rattle.ulfm_match.specs.declared.request.RequestId.{RequestId}
-use Rattle.ulfm_match.specs.History.{Event, Post, End, PostAt, number}
-use Rattle.ulfm_match.proofs.Cut.{get_in_front}
-use Rattle.ulfm_match.proofs.Decide.{lt_or_ge}
-use Rattle.ulfm_match.proofs.Histories.{number_new}
+use Rattle.ulfm_match.specs.History.{Event, PostAt, number}
 use Rattle.ulfm_rank.specs.declared.entry.Entry.{Entry}
-use Rattle.ulfm_rank.specs.declared.entry.Entry.TheVariants.{Sent as SentEntry, Posted as PostedEntry, Released}
+use Rattle.ulfm_rank.specs.declared.entry.Entry.TheVariants.{Sent as SentEntry, Released}
 use Rattle.ulfm_rank.specs.declared.entry.TestAnswer.{TestAnswer}
 use Rattle.ulfm_rank.specs.Answer.{is_release}
-use Rattle.ulfm_rank.specs.Calls.{Sends, Posts, IsSourceOf}
-use Rattle.ulfm_rank.specs.Checks.{Check, Passes, first_refusal, receive_checks, lacks}
-use Rattle.ulfm_rank.specs.Communicators.{group_of, members_of, is_made}
-use Rattle.ulfm_rank.specs.Facts.{is_released, releases, is_revoked, is_stopped}
-use Rattle.ulfm_rank.specs.History.{history_of, events_by, names_gone}
+use Rattle.ulfm_rank.specs.Calls.{Sends}
+use Rattle.ulfm_rank.specs.Communicators.{members_of}
+use Rattle.ulfm_rank.specs.Facts.{is_released, releases}
+use Rattle.ulfm_rank.specs.History.{history_of}
 use Rattle.ulfm_rank.specs.State.{State, logged}
 use Rattle.ulfm_rank.proofs.Gather.{history-push, any-push}
-use Rattle.ulfm_rank.proofs.Groups.{group_stays, members_found}
 use Rattle.ulfm_script.specs.declared.step.Step.{Step}
-use Rattle.ulfm_script.specs.declared.step.Step.TheVariants.{Send, Recv, Wait}
+use Rattle.ulfm_script.specs.declared.step.Step.TheVariants.{Send, Wait}
 use Rattle.ulfm_script.specs.declared.answer.StepAnswer.{StepAnswer}
-use Rattle.ulfm_script.specs.declared.answer.StepAnswer.TheVariants.{Sent, Posted, Done, Over}
+use Rattle.ulfm_script.specs.declared.answer.StepAnswer.TheVariants.{Sent, Done, Over}
 use Rattle.ulfm_script.specs.declared.answer.StepReport.{StepReport}
-use Rattle.ulfm_script.specs.Player.{Tests, comm_of, report_of, request_of, request_at, tested}
-use Rattle.ulfm_world.specs.Reader.{Content, content, is_rank, sent_by, sent_in, closes}
-use Rattle.ulfm_world.proofs.Formed.{formed-logged, formed-posted}
-use Rattle.ulfm_world.proofs.Honest.{IsHonest, IsCovered, sends-logged, covered-logged, covered-answered, honest-logged, honest-answered}
-use Rattle.ulfm_world.proofs.Orderly.{IsOrderly, orderly-logged, orderly-answered}
-use Rattle.ulfm_world.proofs.Mail.{sent_entry, IsTakenFrom, flat-push}
-use Rattle.ulfm_world.proofs.Stays.{number_front, number_rises, members_stay, answer_stays}
-use Rattle.ulfm_world.proofs.Tells.{Tells, IsReceipt, IsVerdict, asked_front}
+use Rattle.ulfm_script.specs.Player.{Tests, comm_of, report_of, request_of, request_at}
+use Rattle.ulfm_world.specs.Reader.{Content, content, is_rank, sent_in, closes}
+use Rattle.ulfm_world.proofs.Formed.{formed-logged}
+use Rattle.ulfm_world.proofs.Honest.{IsHonest, sends-logged, covered-logged, covered-answered, honest-logged, honest-answered}
+use Rattle.ulfm_world.proofs.Orderly.{orderly-logged, orderly-answered}
+use Rattle.ulfm_world.proofs.Mail.{IsTakenFrom, flat-push}
+use Rattle.ulfm_world.proofs.Stays.{members_stay, answer_stays}
+use Rattle.ulfm_world.proofs.Tells.{Tells, IsVerdict, asked_front}
 
 -- the answered steps are true of the rank's log
 abbrev pub IsTrueOf : State → List StepReport → Type 0

@@ -1,9 +1,8 @@
 -- The letters that came by the history of a log are a beginning of those that it took.
-use Rattle.std.proofs.Common.{◌≡◌, ℕ, ◌<◌, Bool, true, false, cond, eqb, List, [], ◌∷◌, ◌++◌, length, take, drop, refl, ap, sym, ◌∙◌, append-nil, append_assoc, inl, inr, suc}
+use Rattle.std.proofs.Common.{◌≡◌, ℕ, Bool, true, false, cond, eqb, List, [], ◌∷◌, ◌++◌, length, refl, ap, sym, ◌∙◌, append-nil, append_assoc, inl, inr, suc}
 use Rattle.std.specs.Prelude.{◌||◌, All}
 use Rattle.std.proofs.lemmas.Bool.{false≢true, or_left, cases_Bool, eqb-true}
 use Rattle.std.proofs.lemmas.Grind.{flat_map-append}
-use Rattle.std.proofs.lemmas.List.{take-append-drop}
 use Rattle.ulfm_base.specs.declared.rank.WorldRank.{WorldRank}
 use Rattle.ulfm_base.specs.declared.envelope.Letter.{Letter}
 use Rattle.ulfm_base.specs.declared.item.Item.{Item}
@@ -14,14 +13,11 @@ use Rattle.ulfm_rank.specs.declared.entry.Entry.{Entry}
 use Rattle.ulfm_rank.specs.declared.entry.Entry.TheVariants.{Posted, Revoked, Took}
 use Rattle.ulfm_rank.specs.Facts.{took, took_by, is_revoked, revokes}
 use Rattle.ulfm_rank.specs.History.{history_of, events_by, ends_from, end_at, names_gone}
-use Rattle.ulfm_rank.specs.State.{State, owes, gone_out, mark_at, notice}
-use Rattle.ulfm_world.specs.World.{World, rank_at, inbox_at}
-use Rattle.ulfm_world.specs.Flow.{from, arrived, IsWorld}
 use Rattle.ulfm_world.specs.Reader.{Content, come_in, letters_come}
 use Rattle.ulfm_world.proofs.Gather.{gathered_all, any-push}
 use Rattle.ulfm_world.proofs.Logs.{took-push}
 use Rattle.ulfm_world.proofs.Signed.{all_front, all_last}
-use Rattle.ulfm_world.proofs.Mail.{mail_on, mail, mail_sent, mail_owed, IsTakenFrom}
+use Rattle.ulfm_world.proofs.Mail.{mail_on, mail, IsTakenFrom}
 
 come_end : (s c t k : ℕ) (e : Event) → letters_come s c (end_at t k e) ≡ []
 come_end s c t k (Post pattern) = one (names pattern.source t)

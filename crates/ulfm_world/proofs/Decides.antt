@@ -1,5 +1,5 @@
 -- Whether a pattern admits an envelope is decided, and so is the first of a list that passes.
-use Rattle.std.proofs.Common.{◌≡◌, ℕ, ◌<◌, ◌⊎◌, inl, inr, Bool, true, false, List, [], ◌∷◌, ◌++◌, refl, ap, sym, subst, Option, Some, None}
+use Rattle.std.proofs.Common.{◌≡◌, ℕ, ◌<◌, ◌⊎◌, inl, inr, Bool, true, false, List, [], ◌∷◌, refl, ap, sym, subst, Option, Some, None}
 use Rattle.std.specs.Prelude.{Contains}
 use Rattle.std.proofs.Props.{props}
 use Rattle.std.proofs.lemmas.Bool.{false≢true}
@@ -11,7 +11,7 @@ use Rattle.ulfm_base.specs.declared.pattern.Source.{Source}
 use Rattle.ulfm_base.specs.declared.pattern.Source.TheVariants.{One, Any}
 use Rattle.ulfm_base.specs.Pattern.{Admits, AdmitsSource, AdmitsTag}
 use Rattle.ulfm_base.specs.RankSet.{has}
-use Rattle.ulfm_match.proofs.Decide.{Either, eq_either, Contains-none, Contains-head, Contains-cons_cases}
+use Rattle.ulfm_match.proofs.Decide.{Either, eq_either, Contains-none, Contains-cons_cases}
 use Rattle.ulfm_match.proofs.Taking.{TakesFirst}
 use Rattle.ulfm_world.proofs.Signed.{same_rank}
 
@@ -53,14 +53,18 @@ take_first {X} P d (x ∷ xs) =
     elim (d x) [
       | inl p ↦ inl (xs, x, record { front = []; back = xs; old_is = refl; new_is = refl; passes = p; first = λ y c q. Contains-none y c })
       | inr n ↦ elim (take_first P d xs) [
-        | inl t ↦ inl (x ∷ t.0, t.1, record {
-          front = x ∷ t.2.front;
-          back = t.2.back;
-          old_is = ap (λ (ys : List X). x ∷ ys) t.2.old_is;
-          new_is = ap (λ (ys : List X). x ∷ ys) t.2.new_is;
-          passes = t.2.passes;
-          first = λ y c q. elim (Contains-cons_cases x t.2.front y c) [ inl e ↦ n (subst P (sym e) q) | inr f ↦ t.2.first y f q ];
-        })
+        | inl t ↦ inl (
+          x ∷ t.0,
+          t.1,
+          record {
+            front = x ∷ t.2.front;
+            back = t.2.back;
+            old_is = ap (λ (ys : List X). x ∷ ys) t.2.old_is;
+            new_is = ap (λ (ys : List X). x ∷ ys) t.2.new_is;
+            passes = t.2.passes;
+            first = λ y c q. elim (Contains-cons_cases x t.2.front y c) [ inl e ↦ n (subst P (sym e) q) | inr f ↦ t.2.first y f q ];
+          },
+        )
         | inr none ↦ inr (λ y c q. elim (Contains-cons_cases x xs y c) [ inl e ↦ n (subst P (sym e) q) | inr f ↦ none y f q ])
       ]
     ]

@@ -1,32 +1,27 @@
 -- Which step posted the receive at a place of the history.
-use Rattle.std.proofs.Common.{◌≡◌, ℕ, ◌+◌, ◌<◌, ◌≤◌, inl, inr, List, [], ◌∷◌, ◌++◌, length, take, refl, ap, sym, ◌∙◌, subst, arith, append_assoc, Option, Some, None}
+use Rattle.std.proofs.Common.{◌≡◌, ℕ, ◌<◌, inl, inr, List, length, refl, ap, sym, ◌∙◌, subst, arith, Option, Some, None}
 use Rattle.std.specs.Prelude.{slice_get}
 use Rattle.std.proofs.lemmas.Option.{same_Some}
 use Rattle.ulfm_base.specs.declared.context.Context.{Context}
-use Rattle.ulfm_base.specs.declared.envelope.Letter.{Letter}
 use Rattle.ulfm_base.specs.declared.pattern.Pattern.{Pattern}
 use Rattle.ulfm_base.specs.declared.tag.Tag.{Tag}
 use Rattle.ulfm_match.specs.declared.request.RequestId.{RequestId}
-use Rattle.ulfm_match.specs.History.{History, Post, Come, PostAt, ComeAt, number}
+use Rattle.ulfm_match.specs.History.{History, Post, PostAt}
 use Rattle.ulfm_match.proofs.Decide.{compared}
 use Rattle.ulfm_match.proofs.Histories.{same_number}
-use Rattle.ulfm_match.proofs.Unique.{same_pattern, same_letter}
+use Rattle.ulfm_match.proofs.Unique.{same_pattern}
 use Rattle.ulfm_rank.specs.declared.entry.Entry.{Entry}
 use Rattle.ulfm_rank.specs.Calls.{IsSourceOf}
-use Rattle.ulfm_rank.specs.Checks.{group_at}
 use Rattle.ulfm_rank.specs.Communicators.{members_of}
 use Rattle.ulfm_script.specs.declared.step.Step.{Step}
-use Rattle.ulfm_script.specs.declared.step.Step.TheVariants.{Send, Recv}
+use Rattle.ulfm_script.specs.declared.step.Step.TheVariants.{Recv}
 use Rattle.ulfm_script.specs.declared.answer.StepAnswer.{StepAnswer}
-use Rattle.ulfm_script.specs.declared.answer.StepAnswer.TheVariants.{Sent, Posted}
+use Rattle.ulfm_script.specs.declared.answer.StepAnswer.TheVariants.{Posted}
 use Rattle.ulfm_script.specs.declared.answer.StepReport.{StepReport}
 use Rattle.ulfm_script.specs.Player.{request_of, request_in, request_at, report_of}
 use Rattle.ulfm_script.specs.Report.{Report}
-use Rattle.ulfm_world.specs.Reader.{Content, content, report_at, history_at, IsStep, sent_in, come_in, letters_come, letters_sent, ComeAsSent, IsPostedBy, IsSentBy}
-use Rattle.ulfm_world.proofs.Contents.{same_context, sent_few, sent_is, sent_one, come_one}
+use Rattle.ulfm_world.specs.Reader.{report_at, history_at, IsStep, ComeAsSent, IsPostedBy}
 use Rattle.ulfm_world.proofs.Honest.{IsHonest}
-use Rattle.ulfm_world.proofs.Places.{gives_at, flat_at, index_same}
-use Rattle.ulfm_world.proofs.Sources.{come_bound}
 use Rattle.ulfm_world.proofs.Tells.{Tells, IsReceipt, IsVerdict}
 use Rattle.ulfm_rank.specs.declared.entry.TestAnswer.{TestAnswer}
 

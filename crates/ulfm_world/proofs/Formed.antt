@@ -1,9 +1,8 @@
 -- The history of a log that posts no receive on a revoked context can happen, and has a post for each that the log posted.
-use Rattle.std.proofs.Common.{◌≡◌, ℕ, zero, suc, ◌+◌, ◌<◌, ◌≤◌, ◌⊎◌, inl, inr, Bool, true, false, cond, List, [], ◌∷◌, ◌++◌, length, refl, ap, sym, ◌∙◌, subst, arith, append-nil, append_assoc, Some}
-use Rattle.std.specs.Prelude.{⊤, slice_get, Contains}
+use Rattle.std.proofs.Common.{◌≡◌, ℕ, zero, suc, ◌<◌, Bool, true, false, cond, List, [], ◌∷◌, ◌++◌, length, refl, ap, sym, ◌∙◌, subst, arith, append-nil, append_assoc, Some}
+use Rattle.std.specs.Prelude.{⊤, slice_get}
 use Rattle.std.proofs.lemmas.Option.{slice_get_within}
 use Rattle.ulfm_base.specs.declared.envelope.Letter.{Letter}
-use Rattle.ulfm_base.specs.declared.item.Item.{Item}
 use Rattle.ulfm_base.specs.declared.item.Item.TheVariants.{Letter as Mail, Gone, Revoke, Enter}
 use Rattle.ulfm_base.specs.declared.pattern.Pattern.{Pattern}
 use Rattle.ulfm_base.specs.Pattern.{names}

@@ -1,5 +1,5 @@
 -- Each wait that is over tells of the letter that its receive is given, and nothing is given twice.
-use Rattle.std.proofs.Common.{◌≡◌, ℕ, ◌+◌, ◌<◌, ◌≤◌, inl, inr, List, length, refl, ap, sym, ◌∙◌, subst, arith, Option, Some, None}
+use Rattle.std.proofs.Common.{◌≡◌, ℕ, ◌<◌, inl, inr, List, length, refl, ap, sym, ◌∙◌, subst}
 use Rattle.std.specs.Prelude.{slice_get}
 use Rattle.std.proofs.lemmas.Option.{same_Some}
 use Rattle.ulfm_base.specs.declared.context.Context.{Context}
@@ -16,13 +16,11 @@ use Rattle.ulfm_match.specs.declared.request.RequestId.{RequestId}
 use Rattle.ulfm_rank.specs.declared.entry.TestAnswer.{TestAnswer}
 use Rattle.ulfm_rank.specs.declared.entry.TestAnswer.TheVariants.{Done as TestDone, Over as TestOver}
 use Rattle.ulfm_rank.specs.Checks.{group_at}
-use Rattle.ulfm_script.specs.declared.step.Step.{Step}
 use Rattle.ulfm_script.specs.declared.step.Step.TheVariants.{Send, Wait}
 use Rattle.ulfm_script.specs.declared.answer.StepAnswer.TheVariants.{Sent, Done, Over}
-use Rattle.ulfm_script.specs.declared.answer.StepReport.{StepReport}
-use Rattle.ulfm_script.specs.Player.{report_of, request_at}
+use Rattle.ulfm_script.specs.Player.{report_of}
 use Rattle.ulfm_script.specs.Report.{Report}
-use Rattle.ulfm_world.specs.Reader.{report_at, history_at, IsStep, IsPostedBy, IsSentBy, IsGiven, DoneIsGiven, OverIsTrue, GivesOnce}
+use Rattle.ulfm_world.specs.Reader.{report_at, history_at, IsPostedBy, IsSentBy, IsGiven, DoneIsGiven, OverIsTrue, GivesOnce}
 use Rattle.ulfm_world.proofs.Exists.{some_pairing}
 use Rattle.ulfm_world.proofs.Finding.{AreHonest, same_asked, its_request, same_step, verdict_posted}
 use Rattle.ulfm_world.proofs.Senders.{sender, same_come, same_send}

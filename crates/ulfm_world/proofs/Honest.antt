@@ -1,15 +1,13 @@
 -- What the answered steps of a rank sent and posted is what its log has.
-use Rattle.std.proofs.Common.{◌≡◌, ℕ, zero, suc, ◌+◌, ◌<◌, ◌≤◌, ◌⊎◌, inl, inr, List, [], ◌∷◌, ◌++◌, length, refl, ap, sym, ◌∙◌, subst, arith, append-nil, Option, Some, None}
+use Rattle.std.proofs.Common.{◌≡◌, ℕ, zero, suc, ◌≤◌, inl, inr, List, [], ◌∷◌, ◌++◌, length, refl, ap, sym, ◌∙◌, subst, arith, append-nil, Some, None}
 use Rattle.std.specs.Prelude.{All, slice_get}
 use Rattle.std.specs.List.{flat_map}
 use Rattle.std.proofs.lemmas.List.Elements.{All-push}
-use Rattle.std.proofs.lemmas.Option.{slice_get_within}
 use Rattle.ulfm_base.specs.declared.pattern.Pattern.{Pattern}
 use Rattle.ulfm_match.specs.declared.request.RequestId.{RequestId}
 use Rattle.ulfm_match.specs.History.{Event, Post, PostAt, IsWellFormed, number}
 use Rattle.ulfm_match.proofs.Cut.{get_in_front}
 use Rattle.ulfm_match.proofs.Decide.{lt_or_ge}
-use Rattle.ulfm_match.proofs.Histories.{get_cases}
 use Rattle.ulfm_rank.specs.declared.entry.Entry.{Entry}
 use Rattle.ulfm_rank.specs.Communicators.{members_of}
 use Rattle.ulfm_rank.specs.History.{history_of, events_by}
@@ -20,8 +18,8 @@ use Rattle.ulfm_world.specs.Reader.{Content, sent_in, closes}
 use Rattle.ulfm_world.proofs.Formed.{PostsNone, HasNoPost, none-events, formed-logged}
 use Rattle.ulfm_world.proofs.Orderly.{IsOrderly, orderly-logged, orderly-answered}
 use Rattle.ulfm_world.proofs.Mail.{mail_sent, sent_entry, IsTakenFrom, flat-push}
-use Rattle.ulfm_world.proofs.Stays.{number_front, number_rises}
-use Rattle.ulfm_world.proofs.Tells.{Tells, asked_front, tells-logged, tells-answered, sent-logged}
+use Rattle.ulfm_world.proofs.Stays.{number_front}
+use Rattle.ulfm_world.proofs.Tells.{Tells, asked_front, sent-logged}
 
 -- each receive of the log's history is one that a step posted
 abbrev pub IsCovered : List Entry → List StepReport → Type 0

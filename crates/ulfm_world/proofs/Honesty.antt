@@ -1,11 +1,9 @@
 -- In every schedule the answered steps of each rank are true of its log.
-use Rattle.std.proofs.Common.{◌≡◌, ℕ, ◌<◌, ◌≤◌, List, [], ◌∷◌, ◌++◌, length, set, refl, ap, sym, ◌∙◌, subst, arith, inl, inr, length-set, Option, Some, None}
-use Rattle.std.specs.Prelude.{All, slice_get}
+use Rattle.std.proofs.Common.{ℕ, ◌<◌, ◌≤◌, List, [], ◌∷◌, length, set, refl, sym, subst, arith, inl, inr, length-set}
+use Rattle.std.specs.Prelude.{All}
 use Rattle.std.proofs.lemmas.List.Elements.{All-head, All-nil}
 use Rattle.ulfm_base.specs.declared.rank.WorldRank.{WorldRank}
 use Rattle.ulfm_base.specs.declared.item.Item.{Item}
-use Rattle.ulfm_match.specs.History.{IsWellFormed}
-use Rattle.ulfm_rank.specs.declared.entry.Entry.{Entry}
 use Rattle.ulfm_rank.specs.declared.entry.Entry.TheVariants.{Took}
 use Rattle.ulfm_rank.specs.State.{State, Leaves, logged}
 use Rattle.ulfm_script.specs.declared.step.Step.{Step}
@@ -13,12 +11,12 @@ use Rattle.ulfm_script.specs.declared.answer.StepAnswer.TheVariants.{Unfinished}
 use Rattle.ulfm_script.specs.Player.{Player, IsCalled, Left, with_rank, start_player}
 use Rattle.ulfm_world.specs.declared.event.Event.{Event}
 use Rattle.ulfm_world.specs.declared.event.Event.TheVariants.{Call, Push, Take, Leave}
-use Rattle.ulfm_world.specs.World.{World, player_in, player_at, rank_at, inbox_at, start_world, Calls, GivesUp, Pushes, Takes, Happens, Applied, Run, Reaches}
+use Rattle.ulfm_world.specs.World.{World, player_in, player_at, rank_at, start_world, Happens, Applied, Run, Reaches}
 use Rattle.ulfm_world.specs.Flow.{IsPosted, IsWorld}
 use Rattle.ulfm_world.proofs.Answering.{true-same, true-answers, unfinished}
 use Rattle.ulfm_world.proofs.Changed.{each_player}
 use Rattle.ulfm_world.proofs.Closing.{IsTrueOf}
-use Rattle.ulfm_world.proofs.Honest.{IsHonest, honest-logged}
+use Rattle.ulfm_world.proofs.Honest.{honest-logged}
 use Rattle.ulfm_world.proofs.Mail.{IsTakenFrom}
 use Rattle.ulfm_world.proofs.Runs.{keeps-applied}
 use Rattle.ulfm_world.proofs.Starts.{player-start, length-start, world-start}

@@ -1,5 +1,5 @@
 -- Each rank's history has one lawful pairing, by which no match is missed.
-use Rattle.std.proofs.Common.{◌≡◌, ℕ, ◌<◌, ◌≤◌, List, length, arith}
+use Rattle.std.proofs.Common.{List, length, arith}
 use Rattle.ulfm_match.specs.History.{History}
 use Rattle.ulfm_match.proofs.Unique.{one_pairing}
 use Rattle.ulfm_script.specs.Report.{Report}

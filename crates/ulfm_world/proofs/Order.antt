@@ -1,14 +1,13 @@
 -- What is given keeps the order of the sends and of the posts.
-use Rattle.std.proofs.Common.{◌≡◌, ℕ, ◌+◌, ◌<◌, ◌≤◌, inl, inr, List, [], ◌∷◌, ◌++◌, length, take, refl, ap, sym, ◌∙◌, subst, arith, append_assoc, Option, Some, None}
+use Rattle.std.proofs.Common.{◌≡◌, ℕ, ◌<◌, inl, inr, List, ◌∷◌, ◌++◌, length, take, refl, ap, sym, ◌∙◌, subst, arith, append_assoc, Some}
 use Rattle.std.specs.Prelude.{slice_get}
 use Rattle.ulfm_base.specs.declared.context.Context.{Context}
 use Rattle.ulfm_base.specs.declared.tag.Tag.{Tag}
 use Rattle.ulfm_base.specs.declared.rank.WorldRank.{WorldRank}
 use Rattle.ulfm_base.specs.declared.envelope.Letter.{Letter}
-use Rattle.ulfm_base.specs.declared.envelope.Envelope.{Envelope}
 use Rattle.ulfm_base.specs.declared.pattern.Pattern.{Pattern}
 use Rattle.ulfm_base.specs.Pattern.{Admits, AdmitsSource, AdmitsTag}
-use Rattle.ulfm_match.specs.History.{Event, History, Post, Come, ComeAt, number}
+use Rattle.ulfm_match.specs.History.{Event, History, Post, number}
 use Rattle.ulfm_match.proofs.Decide.{compared}
 use Rattle.ulfm_match.proofs.Histories.{number_below}
 use Rattle.ulfm_rank.specs.Checks.{group_at}
@@ -19,7 +18,7 @@ use Rattle.ulfm_script.specs.Player.{report_of, request_at}
 use Rattle.ulfm_match.specs.declared.request.RequestId.{RequestId}
 use Rattle.std.proofs.lemmas.Option.{same_Some}
 use Rattle.ulfm_script.specs.Report.{Report}
-use Rattle.ulfm_world.specs.Reader.{Content, content, report_at, history_at, IsStep, sent_in, come_in, letters_come, letters_sent, IsPostedBy, IsSentBy, IsGiven, LettersKeepOrder, ReceivesKeepOrder}
+use Rattle.ulfm_world.specs.Reader.{Content, content, report_at, history_at, IsStep, sent_in, come_in, letters_come, letters_sent, IsPostedBy, IsSentBy, LettersKeepOrder, ReceivesKeepOrder}
 use Rattle.ulfm_world.proofs.Contents.{same_context, sent_one, come_few, come_is}
 use Rattle.ulfm_world.proofs.Finding.{AreHonest, its_request, poster}
 use Rattle.ulfm_world.proofs.Senders.{sender, sent_letter}
@@ -61,8 +60,7 @@ module _ (reports : List Report) (all : AreHonest reports) where
       let before : place < given.post_place = earlier_place d given.inside k i place given.post_place pattern given.pattern by given.receive l in
       let e = given.lawful.earlier_receives given.post_place given.come_place place pattern given.letter given.pairs given.sent.came before by.posted lives adm in
       let m = given.lawful.matched place e.0 e.2 in
-      let sent = sender reports all d given.inside e.0 m.letter m.letter_live.came in
-      (
+      let sent = sender reports all d given.inside e.0 m.letter m.letter_live.came in (
         m.letter.envelope.source.number,
         sent.0,
         record { inside = given.inside; post_place = place; pattern = pattern; receive = by; come_place = e.0; letter = m.letter; sent = sent.1; pairing = given.pairing; lawful = given.lawful; pairs = e.2 },
@@ -139,8 +137,7 @@ module _ (reports : List Report) (all : AreHonest reports) where
       } in
       let e = given.lawful.earlier_letters given.post_place given.come_place x.place given.pattern x.letter given.pairs given.receive.posted x.earlier x.sent.came admits in
       let m = given.lawful.matched e.0 x.place e.2 in
-      let q = poster reports all d given.inside e.0 m.pattern m.receive_live.posted in
-      (
+      let q = poster reports all d given.inside e.0 m.pattern m.receive_live.posted in (
         q.0,
         earlier_step d given.inside q.0 i e.0 given.post_place m.pattern given.pattern q.1 given.receive e.1,
         record { inside = given.inside; post_place = e.0; pattern = m.pattern; receive = q.1; come_place = x.place; letter = x.letter; sent = x.sent; pairing = given.pairing; lawful = given.lawful; pairs = e.2 },

@@ -2,7 +2,6 @@
 use Rattle.std.proofs.Common.{◌≡◌, ℕ, ◌<◌, ◌≤◌, false, List, ◌++◌, length, map, sym, ap, ◌∙◌, subst, arith}
 use Rattle.std.proofs.lemmas.List.{get_or-map, length-map}
 use Rattle.ulfm_rank.specs.History.{history_of}
-use Rattle.ulfm_script.specs.Player.{Player}
 use Rattle.ulfm_script.specs.Report.{Report}
 use Rattle.ulfm_world.specs.World.{World, player_at, rank_at, no_player, start_world, Reaches}
 use Rattle.ulfm_world.specs.Flow.{IsWorld}
@@ -11,7 +10,6 @@ use Rattle.ulfm_world.specs.Replay.{report_of, IsReplayed}
 use Rattle.ulfm_world.proofs.Finding.{AreHonest}
 use Rattle.ulfm_world.proofs.Honest.{IsHonest}
 use Rattle.ulfm_world.specs.Reader.{Content, report_at, no_report, letters_come, letters_sent, ComeAsSent, AllHasCome}
-use Rattle.ulfm_world.proofs.Closing.{IsTrueOf}
 use Rattle.ulfm_world.proofs.Arrivals.{come_world, come_all}
 use Rattle.ulfm_world.specs.Rest.{IsAtRest}
 use Rattle.ulfm_rank.specs.Facts.{is_stopped, is_revoked}

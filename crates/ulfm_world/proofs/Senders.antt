@@ -1,5 +1,5 @@
 -- Which step sent the letter that came at a place of the history.
-use Rattle.std.proofs.Common.{◌≡◌, ℕ, ◌+◌, ◌<◌, ◌≤◌, List, [], ◌∷◌, ◌++◌, length, take, refl, ap, sym, ◌∙◌, subst, arith, append_assoc, Some}
+use Rattle.std.proofs.Common.{◌≡◌, ℕ, ◌<◌, List, ◌∷◌, ◌++◌, length, take, refl, ap, sym, ◌∙◌, subst, arith, append_assoc}
 use Rattle.ulfm_base.specs.declared.context.Context.{Context}
 use Rattle.ulfm_base.specs.declared.envelope.Letter.{Letter}
 use Rattle.ulfm_base.specs.declared.tag.Tag.{Tag}
@@ -45,8 +45,7 @@ module _ (reports : List Report) (all : AreHonest reports) (d : ℕ) (inside : d
       ∙ ap (λ (xs : List Content). xs ++ whole.0) (parts.1 ∙ ap (λ (xs : List Content). front ++ (xs ++ parts.0)) (come_one s c letter refl refl))
       ∙ append_assoc front (y ∷ parts.0) whole.0 in
       let g = gives_at (sent_in group c d) (sent_few group c d) own.steps front y (parts.0 ++ whole.0) list in
-      let k = sent_is group c d g.giver.step g.giver.answer y g.gives in
-      (
+      let k = sent_is group c d g.giver.step g.giver.answer y g.gives in (
         g.index,
         record {
           to = k.to;
@@ -81,6 +80,8 @@ module _ (reports : List Report) (all : AreHonest reports) (d : ℕ) (inside : d
       let own : Report = report_at reports s in
       let c : ℕ = l.envelope.context.number in
       let group : List ℕ = group_at own.rank c in
-      let w : Content = content l.envelope.tag l.body in
-      (who, index_same (sent_in group c d) own.steps j k (report_of (Send x.to l.envelope.tag l.body l.envelope.context) Sent x.step.at x.step.polls) (report_of (Send y'.to l.envelope.tag l.body l.envelope.context) Sent y'.step.at y'.step.polls) w w x.step.stands y'.step.stands
-      (sent_one group d x.to l.envelope.tag l.body l.envelope.context x.directed) (sent_one group d y'.to l.envelope.tag l.body l.envelope.context y'.directed) (sym x.in_order ∙ y'.in_order))
+      let w : Content = content l.envelope.tag l.body in (
+        who,
+        index_same (sent_in group c d) own.steps j k (report_of (Send x.to l.envelope.tag l.body l.envelope.context) Sent x.step.at x.step.polls) (report_of (Send y'.to l.envelope.tag l.body l.envelope.context) Sent y'.step.at y'.step.polls) w w x.step.stands y'.step.stands
+            (sent_one group d x.to l.envelope.tag l.body l.envelope.context x.directed) (sent_one group d y'.to l.envelope.tag l.body l.envelope.context y'.directed) (sym x.in_order ∙ y'.in_order),
+      )

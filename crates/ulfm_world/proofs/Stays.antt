@@ -1,5 +1,5 @@
 -- What is told of a receive stays as the log grows.
-use Rattle.std.proofs.Common.{◌≡◌, ℕ, zero, suc, ◌+◌, ◌<◌, ◌≤◌, ◌⊎◌, inl, inr, Bool, true, List, [], ◌∷◌, ◌++◌, length, refl, ap, sym, ◌∙◌, subst, arith, length-append, Option, Some, None}
+use Rattle.std.proofs.Common.{◌≡◌, ℕ, zero, suc, ◌+◌, ◌<◌, ◌≤◌, ◌⊎◌, inl, inr, true, List, [], ◌∷◌, ◌++◌, length, refl, ap, sym, ◌∙◌, subst, arith, Option, Some, None}
 use Rattle.std.specs.Prelude.{slice_get, max}
 use Rattle.std.proofs.lemmas.Option.{slice_get_within}
 use Rattle.ulfm_base.specs.declared.envelope.Letter.{Letter}
@@ -7,8 +7,8 @@ use Rattle.ulfm_base.specs.declared.pattern.Pattern.{Pattern}
 use Rattle.ulfm_base.specs.declared.error.CallError.{CallError}
 use Rattle.ulfm_base.specs.declared.error.CallError.TheVariants.{ProcFailed, Revoked, Truncated}
 use Rattle.ulfm_base.specs.Group.{rank_in}
-use Rattle.ulfm_match.specs.History.{Event, Post, Come, End, Clear, PostAt, StandsBetween, weight, number}
-use Rattle.ulfm_match.specs.Pairing.{Pairing, Pairs, LawfulPairing, inside}
+use Rattle.ulfm_match.specs.History.{Event, Post, Come, End, Clear, PostAt, weight, number}
+use Rattle.ulfm_match.specs.Pairing.{Pairing, LawfulPairing, inside}
 use Rattle.ulfm_match.proofs.Cut.{cut, get_front, get_in_front, inside_to, inside_back}
 use Rattle.ulfm_match.proofs.Decide.{lt_or_ge}
 use Rattle.ulfm_match.proofs.Unique.{same_pattern}
@@ -103,8 +103,7 @@ answer_stays n log e i p answer posted released old r law = stays answer release
 
     stays : (answer : TestAnswer) → is_release answer ≡ true → ((r : Pairing) → LawfulPairing h r → AnswersBy n log r i p answer) → AnswersBy n (log ++ e ∷ []) r i p answer
     stays (Done status body) k old =
-        let a = old (inside (length h) r) short in
-        (
+        let a = old (inside (length h) r) short in (
           a.0,
           subst (λ (g : List Event). Got g r i a.0) (sym long) (got_on h xs r law' i a.0 a.1),
           a.2,

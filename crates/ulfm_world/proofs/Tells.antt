@@ -1,7 +1,6 @@
 -- What the answered steps of a rank tell of its log, and that it stays true.
-use Rattle.std.proofs.Common.{◌≡◌, ℕ, zero, suc, ◌+◌, ◌<◌, ◌≤◌, inl, inr, Bool, true, false, cond, eqb, List, [], ◌∷◌, ◌++◌, length, refl, ap, sym, ◌∙◌, subst, arith, Option, Some, None}
-use Rattle.std.specs.Prelude.{⊤, ◌&&◌, ◌||◌, slice_get}
-use Rattle.std.specs.List.{flat_map}
+use Rattle.std.proofs.Common.{◌≡◌, ℕ, zero, suc, ◌<◌, Bool, true, false, cond, eqb, List, [], ◌∷◌, ◌++◌, length, refl, ap, sym, ◌∙◌, subst, arith, Option, Some}
+use Rattle.std.specs.Prelude.{⊤, ◌&&◌, slice_get}
 use Rattle.std.proofs.lemmas.Bool.{or_left, eqb-true}
 use Rattle.std.proofs.lemmas.Option.{slice_get_within}
 use Rattle.ulfm_base.specs.declared.context.Context.{Context}
@@ -27,8 +26,8 @@ use Rattle.ulfm_script.specs.declared.answer.StepAnswer.{StepAnswer}
 use Rattle.ulfm_script.specs.declared.answer.StepAnswer.TheVariants.{Sent, Posted, Done, Over}
 use Rattle.ulfm_script.specs.declared.answer.StepReport.{StepReport}
 use Rattle.ulfm_script.specs.Player.{request_at}
-use Rattle.ulfm_world.specs.Reader.{Content, content, is_rank, sent_by, sent_in, closes}
-use Rattle.ulfm_world.proofs.Stays.{number_front, number_rises, members_stay, answer_stays}
+use Rattle.ulfm_world.specs.Reader.{content, is_rank, sent_by}
+use Rattle.ulfm_world.proofs.Stays.{number_front, members_stay, answer_stays}
 
 -- a receive of the history has the number of this request, and asks for this
 pub record IsReceipt (n : ℕ) (log : List Entry) (source : Option ℕ) (tag : Option Tag) (room : ℕ) (comm : Context) (id : RequestId) : Type 0 where

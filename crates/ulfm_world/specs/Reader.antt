@@ -4,7 +4,6 @@ use Rattle.std.specs.List.{flat_map}
 use Rattle.ulfm_base.specs.declared.tag.Tag.{Tag}
 use Rattle.ulfm_base.specs.declared.context.Context.{Context}
 use Rattle.ulfm_base.specs.declared.envelope.Letter.{Letter}
-use Rattle.ulfm_base.specs.declared.envelope.Envelope.{Envelope}
 use Rattle.ulfm_base.specs.declared.pattern.Pattern.{Pattern}
 use Rattle.ulfm_base.specs.declared.error.CallError.TheVariants.{ProcFailed, Revoked, Truncated}
 use Rattle.ulfm_base.specs.Group.{rank_in}
