@@ -1,6 +1,8 @@
-use Rattle.std.proofs.Common.{rules, ap, ap₂, refl, sym, subst, ◌≡◌, ◌∙◌, map, true, option_map}
+use Rattle.std.proofs.Common.{rules, ap, ap₂, refl, sym, subst, ◌≡◌, ◌⊎◌, ◌∙◌, map, true, List, option_map}
 use Rattle.std.proofs.lemmas.Result.{err_from_is_err_and}
-use Rattle.clap.specs.Words.{App, HasKind, app_of, fault_of, is_simple, is_simple_and_free, subcommand_of, with_subcommand}
+use Rattle.clap.specs.declared.error.kind.ErrorKind.{ErrorKind}
+use Rattle.clap.specs.declared.error.kind.ErrorKind.TheVariants.{OutOfMemory}
+use Rattle.clap.specs.Words.{App, Text, IsAmong, app_of, fault_of, is_simple, is_simple_and_free, subcommand_of, with_subcommand}
 use Rattle.clap.proofs.OnLiterals.{clap_on_literals}
 use Rattle.ulfm.specs.Words.{check_app, replay_app, demanding_app, tool_app, asked, faults, meant}
 use Rattle.ulfm.proofs.Parsed.{name_of_rows}
@@ -13,6 +15,10 @@ simple = refl
 free : is_simple_and_free tool_app ≡ true
 unfolding clap_on_literals
 free = refl
+
+-- the same command has the same faults
+of_app : (a b : App) (words : List Text) (k : ErrorKind) → a ≡ b → (k ≡ OutOfMemory) ⊎ IsAmong k (fault_of a words) → (k ≡ OutOfMemory) ⊎ IsAmong k (fault_of b words)
+of_app a b words k is = let H : App → Type 0 = λ (x : App). (k ≡ OutOfMemory) ⊎ IsAmong k (fault_of x words) in subst H is
 
 pub returns-clause-ok : goal.returns-clause-ok
 unfolding asked
@@ -44,5 +50,4 @@ returns-in_err-matches-clause-kinds g c =
     let first_is : app_of c.in_ok-command.command ≡ with_subcommand demanding_app check_app.top = c.in_ok-command.ensures.shape (search rules) ∙ ap₂ with_subcommand plain_is (ap (λ (a : App). a.top) check_is) in
     let tool_is : app_of c.in_ok-command-2.command ≡ tool_app = c.in_ok-command-2.ensures.shape (search rules) ∙ ap₂ with_subcommand first_is (ap (λ (a : App). a.top) replay_is) in
     let p = err_from_is_err_and c.from_residual-in_err-matches.result c.from_residual-in_err-matches.ensures.1 in
-    let H : App → Type 0 = λ (a : App). HasKind (fault_of a (map g.S.AsStr.text c.args.words.now)) c.in_err-matches.e in
-    rw (p.1, p.2) (subst H tool_is (c.in_err-matches.ensures.kinds (ap is_simple_and_free tool_is ∙ free)))
+    rw (p.1, p.2) (of_app _ _ _ _ tool_is (c.in_err-matches.ensures.kinds (ap is_simple_and_free tool_is ∙ free)))
