@@ -1,9 +1,11 @@
 -- What the words of a command line ask for.
-use Rattle.std.specs.Prelude.{◌≡◌, List, Bool, Option, Some, None, option_map, codes, true, if◌then◌else◌}
+use Rattle.std.specs.Prelude.{◌≡◌, ◌⊎◌, ℕ, List, [], Bool, Option, Some, None, option_map, codes, true, if◌then◌else◌}
 use Rattle.std.specs.Str.{bytes_eq}
 use Rattle.ulfm.specs.declared.command.Wanted.{Wanted}
 use Rattle.ulfm.specs.declared.command.Wanted.TheVariants.{Check, Replay}
-use Rattle.clap.specs.Words.{App, Text, new_app, subcommand_of, takes, with_subcommand}
+use Rattle.clap.specs.declared.error.kind.ErrorKind.{ErrorKind}
+use Rattle.clap.specs.declared.error.kind.ErrorKind.TheVariants.{DisplayHelp, DisplayVersion}
+use Rattle.clap.specs.Words.{App, Text, Kinds, IsAmong, new_app, subcommand_of, fault_of, with_subcommand}
 
 abbrev pub check_app : App
 check_app = new_app (codes "check")
@@ -21,9 +23,9 @@ demanding_app = record plain_app { top = record (plain_app.top) { subcommand_req
 abbrev pub tool_app : App
 tool_app = with_subcommand (with_subcommand demanding_app check_app.top) replay_app.top
 
--- whether the words are a command line that can be followed, and no wish for help
-unfoldable pub can_follow : List Text → Bool
-can_follow words = takes tool_app words
+-- what is at fault with the words, by clap's rules: nothing where they can be followed, and a wish for help is one
+unfoldable pub faults : List Text → Kinds
+faults words = fault_of tool_app words
 
 -- the subcommand that the words name
 unfoldable pub asked : List Text → Option Text
@@ -36,4 +38,14 @@ meant (Some name) = if bytes_eq name (codes "check") then Some Check else (if by
 
 -- the words are a command line that is to be followed, and no wish for help
 abbrev pub AsksFor : Wanted → List Text → Type 0
-AsksFor wanted words = (can_follow words ≡ true) × (meant (asked words) ≡ Some wanted)
+AsksFor wanted words = (faults words ≡ []) × (meant (asked words) ≡ Some wanted)
+
+-- the status of a kind of fault: help is no failure
+abbrev pub status_of : ErrorKind → ℕ
+status_of DisplayHelp = 0
+status_of DisplayVersion = 0
+status_of _ = 2
+
+-- a status of words with these faults: that of one of them, 3 where memory ran out, 4 where the output failed
+abbrev pub IsWordsStatus : Kinds → ℕ → Type 0
+IsWordsStatus kinds status = ((kind : ErrorKind) × IsAmong kind kinds × (status ≡ status_of kind)) ⊎ (status ≡ 3) ⊎ (status ≡ 4)

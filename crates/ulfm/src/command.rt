@@ -1,9 +1,8 @@
 //! The command line.
-ghost use Rattle.std.specs.Prelude.{◌≡◌, map, option_map, true, IfOk, IfErr};
-ghost use Rattle.clap.specs.Words.{kind_of};
-ghost use Rattle.ulfm.specs.Words.{asked, can_follow, meant};
+ghost use Rattle.std.specs.Prelude.{◌≡◌, map, option_map, IfOk};
+ghost use Rattle.clap.specs.Words.{FailsBy};
+ghost use Rattle.ulfm.specs.Words.{asked, faults, meant};
 
-use clap::error::ErrorKind;
 use clap::{Command, Error};
 use std::alloc::Global;
 use std::convert::AsStr;
@@ -47,7 +46,7 @@ docs/JOBS.md has the format of jobs and traces, docs/RULES.md the rules that ran
 /// What the words ask for. An error is a wrong command line, or help that is asked for.
 pub fn wanted_of<S: AsStr>(alloc: Global, words: &[S]) -> Result<Option<Wanted>, Error>
     ensures ok { IfOk result (λ wanted. wanted ≡ meant (asked (map S.text words.now))) }
-    ensures err { IfErr result (λ e. can_follow (map S.text words.now) ≡ true → kind_of e ≡ ErrorKind.OutOfMemory) }
+    ensures kinds { FailsBy (faults (map S.text words.now)) result }
 {
     let check = Command::new(alloc, "check").about(
         "Says whether the job on standard input can be run",

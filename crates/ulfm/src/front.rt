@@ -1,9 +1,10 @@
 //! From words and bytes to a status and bytes.
-ghost use Rattle.std.specs.Prelude.{◌≢◌, ◌≡◌, ◌≤◌, ◌⊎◌, map, take, IfOk, IfSome, string_bytes};
+ghost use Rattle.std.specs.Prelude.{◌≢◌, ◌≡◌, ◌≤◌, [], false, map, take, IfOk, IfSome, IsTrue, string_bytes};
 ghost use Rattle.std.specs.Io.KnownBytes.{Keeps, Appends};
+ghost use Rattle.clap.specs.Words.{kind_of};
 ghost use Rattle.ulfm.specs.declared.command.Wanted.{Wanted};
-ghost use Rattle.ulfm.specs.Replies.{IsReplyTo, GetsReply, GetsBeginning, GetsFront, GetsFrontOf};
-ghost use Rattle.ulfm.specs.Words.{AsksFor};
+ghost use Rattle.ulfm.specs.Replies.{IsReplyTo, GetsReply, GetsBeginning, GetsFront, GetsFrontOf, starved_text};
+ghost use Rattle.ulfm.specs.Words.{AsksFor, faults, status_of, IsWordsStatus};
 
 use crate::command::{Wanted, wanted_of};
 use crate::reply::{DONE, INPUT_FAILED, OUTPUT_FAILED, RUN_FAILED, Reply, USAGE, reply_to};
@@ -32,6 +33,7 @@ pub fn run_on<S: AsStr, R: Read, W: Write>(
     ensures output_failed { result ≡ 4 → GetsFront (W.contents output.old) (W.contents output.new) }
     ensures input_failed { result ≡ 5 → Keeps (W.contents output.old) (W.contents output.new) }
     ensures words_first { result ≡ 2 → R.remaining input.new ≡ R.remaining input.old }
+    ensures not_followed { faults (map S.text words.now) ≢ [] → (R.remaining input.new ≡ R.remaining input.old) × IsWordsStatus (faults (map S.text words.now)) result }
     ensures known { result ≤ 5 }
 {
     match wanted_of(alloc, words) {
@@ -47,6 +49,18 @@ pub fn run_on<S: AsStr, R: Read, W: Write>(
             }
         }
     }
+}
+
+/// The reply where the words can't be had: they find no memory, or aren't UTF-8. Answers the status.
+pub fn without_words<W: Write>(is_starved: bool, output: &mut W) -> u8
+    ensures starved { IsTrue is_starved → result ≤ 3 → (result ≡ 3) × Appends (W.contents output.old) (W.contents output.new) starved_text }
+    ensures not_text { is_starved ≡ false → result ≤ 3 → result ≡ 2 }
+    ensures known { result ≤ 4 }
+{
+    if is_starved {
+        return write_reply(output, RUN_FAILED, STARVED);
+    }
+    write_reply(output, USAGE, b"a word of the command line isn't UTF-8\n")
 }
 
 /// Reads the input, and writes the reply to it.
@@ -73,7 +87,7 @@ fn follow<R: Read, W: Write>(alloc: Global, wanted: Wanted, input: &mut R, outpu
 
 /// The reply to a command line that can't be followed, and to one that asks for help.
 fn usage_of(alloc: Global, error: &Error) -> Result<Reply, AllocError>
-    ensures { IfOk result (λ r. (r.status ≡ 0) ⊎ (r.status ≡ 2)) }
+    ensures { IfOk result (λ r. r.status ≡ status_of (kind_of error.now)) }
 {
     let text = format!(in alloc; "{error}")?;
     let status = if error.use_stderr() { USAGE } else { DONE };

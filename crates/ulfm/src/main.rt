@@ -7,19 +7,22 @@ mod reply;
 mod stream;
 
 use std::env;
+use std::io::ErrorKind;
 use std::process::ExitCode;
 
 fn main(rt: HostRuntime) -> ExitCode {
-    let alloc = rt.alloc();
-    let words: Vec<String> = match env::args(&rt) {
-        Ok(words) => match words.collect(alloc) {
-            Ok(words) => words,
-            Err(_) => return ExitCode::from(reply::RUN_FAILED),
-        },
-        Err(_) => return ExitCode::from(reply::USAGE),
+    let mut output = rt.stdout();
+    let status = match words_of(&rt) {
+        Ok(words) => front::run_on(rt.alloc(), words.as_slice(), &mut rt.stdin(), &mut output),
+        Err(kind) => front::without_words(kind == ErrorKind::OutOfMemory, &mut output),
     };
-    let status = front::run_on(alloc, words.as_slice(), &mut rt.stdin(), &mut rt.stdout());
     ExitCode::from(status)
+}
+
+/// The words of the command line, the program's name first.
+fn words_of(rt: &HostRuntime) -> Result<Vec<String>, ErrorKind> {
+    let words = env::args(rt).map_err(|error| error.kind())?;
+    words.collect(rt.alloc()).map_err(|_| ErrorKind::OutOfMemory)
 }
 
 #[cfg(test)]

@@ -7,6 +7,7 @@ mod messages;
 mod refused;
 mod revocations;
 mod rows;
+mod schedule;
 mod streams;
 
 use crate::front::run_on;

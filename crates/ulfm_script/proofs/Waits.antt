@@ -29,4 +29,4 @@ pub stays_open : (before : List StepReport) (r : State) (req : ℕ) (answer : Te
 stays_open before r req (Done status body) new h = tt
 stays_open before r req (Over reason) new h = tt
 stays_open before r req Pending new h = tt
-stays_open before r req NotYet new h = record { id = h.id; posted = h.posted; place = h.place; pattern = h.pattern; request = h.request; answers = h.answers; only = refl }
+stays_open before r req NotYet new h = record { id = h.id; posted = h.posted; place = h.place; pattern = h.pattern; request = h.request; pairing = h.pairing; lawful = h.lawful; answers = h.answers; only = refl }

@@ -1,21 +1,22 @@
 -- What contracts see of a rank that goes through its steps, and what a poll of a step says and does.
-use Rattle.std.specs.Prelude.{◌≡◌, ℕ, ⊤, Bool, List, [], ◌∷◌, ◌++◌, ◌+◌, ◌-◌, ◌^◌, ◌⊎◌, min, length, filter_map, Option, Some, None, slice_get, if◌then◌else◌}
+use Rattle.std.specs.Prelude.{◌≡◌, ℕ, ⊤, Bool, false, List, [], ◌∷◌, ◌++◌, ◌+◌, ◌-◌, ◌^◌, ◌⊎◌, min, length, filter_map, Option, Some, None, slice_get, if◌then◌else◌}
 use Rattle.ulfm_base.specs.declared.context.Context.{Context}
 use Rattle.ulfm_base.specs.declared.tag.Tag.{Tag}
 use Rattle.ulfm_base.specs.declared.pattern.Pattern.{Pattern}
 use Rattle.ulfm_base.specs.declared.error.CallError.{CallError}
-use Rattle.ulfm_base.specs.declared.error.CallError.TheVariants.{NoRequest}
+use Rattle.ulfm_base.specs.declared.error.CallError.TheVariants.{NoRequest, OutOfMemory}
 use Rattle.ulfm_base.specs.Context.{dup_of}
 use Rattle.ulfm_base.specs.Group.{rank_in}
 use Rattle.ulfm_match.specs.declared.request.RequestId.{RequestId}
 use Rattle.ulfm_match.specs.History.{number}
+use Rattle.ulfm_match.specs.Pairing.{Pairing, LawfulPairing}
 use Rattle.ulfm_rank.specs.declared.entry.Comm.{Comm}
 use Rattle.ulfm_rank.specs.declared.entry.Entry.{Entry}
 use Rattle.ulfm_rank.specs.declared.entry.Entry.TheVariants.{Released, Duplicated}
 use Rattle.ulfm_rank.specs.declared.entry.TestAnswer.{TestAnswer}
 use Rattle.ulfm_rank.specs.declared.entry.TestAnswer.TheVariants.{Done as TestDone, Over as TestOver, Pending as TestPending, NotYet as TestNotYet}
 use Rattle.ulfm_rank.specs.State.{State, start_state, logged}
-use Rattle.ulfm_rank.specs.Facts.{known_in, ack_answer}
+use Rattle.ulfm_rank.specs.Facts.{is_revoked, known_in, ack_answer}
 use Rattle.ulfm_rank.specs.History.{history_of}
 use Rattle.ulfm_rank.specs.Answer.{IsRequest, IsNoRequest, IsTestAnswer, is_release}
 use Rattle.ulfm_rank.specs.Checks.{Check, Passes, Fails, FailsOrStarves, group_at, comm_checks, send_checks, receive_checks, dup_checks}
@@ -107,6 +108,8 @@ pub record Tests (before : List StepReport) (r : State) (req : ℕ) (answer : Te
   pub place : ℕ
   pub pattern : Pattern
   pub request : IsRequest r.log id.number place pattern
+  pub pairing : Pairing
+  pub lawful : LawfulPairing (history_of r.log) pairing
   pub answers : IsTestAnswer r.ranks r.log id.number answer
   pub only : new ≡ tested r id answer
 
@@ -146,7 +149,7 @@ AnswersAck r count comm _ new = ⊥
 
 abbrev pub AnswersRevoke : State → Context → StepAnswer → State → Type 0
 AnswersRevoke r comm Revoked new = Passes (comm_checks r comm.number []) × (new ≡ revoking r comm)
-AnswersRevoke r comm (Refused e) new = Refuses (comm_checks r comm.number []) e r new
+AnswersRevoke r comm (Refused e) new = Refuses (comm_checks r comm.number []) e r new × (e ≡ OutOfMemory → is_revoked r.log comm.number ≡ false)
 AnswersRevoke r comm _ new = ⊥
 
 abbrev pub AnswersDup : State → Context → StepAnswer → State → Type 0

@@ -1,10 +1,11 @@
 //! What a rank did.
-ghost use Rattle.std.specs.Prelude.{◌≡◌};
+ghost use Rattle.std.specs.Prelude.{◌≡◌, ◌<◌, [], IfSome, IfNone};
 ghost use Rattle.ulfm_rank.specs.Facts.{is_stopped};
+ghost use Rattle.ulfm_rank.specs.State.{outbox, Leaves};
 
 use crate::answer::StepReport;
 use std::marker::Model;
-use ulfm_base::WorldRank;
+use ulfm_base::{Item, WorldRank};
 use ulfm_rank::{Entry, Rank};
 
 /// What a rank did: its answered steps, its log, and what is left in its outboxes. A player alone makes it.
@@ -56,6 +57,18 @@ impl RankReport {
         ensures { result.now ≡ self.now.rank.log }
     {
         self.rank.log()
+    }
+
+    /// The first item that was left for a rank, if there is one. It goes out of the report. It takes no memory.
+    pub fn take_out(&mut self, dest: u8) -> Option<Item>
+        requires { dest < self.old.rank.ranks }
+        ensures leaves { IfSome result (λ item. Leaves self.old.rank self.new.rank dest item) }
+        ensures none { IfNone result (outbox self.old.rank dest ≡ []) }
+        ensures unchanged { IfNone result (self.new ≡ self.old) }
+        ensures steps { self.new.steps ≡ self.old.steps }
+        ensures starved { self.new.starved ≡ self.old.starved }
+    {
+        self.rank.take_out(dest)
     }
 
     /// Whether it stopped.

@@ -75,7 +75,7 @@ adds_ack r count comm _ new h = absurd h
 
 adds_revoke : (r : State) (comm : Context) (answer : StepAnswer) (new : State) → AnswersRevoke r comm answer new → Adds r false new
 adds_revoke r comm Revoked new h = adds_unless (is_revoked r.log comm.number) r new (RevokedEntry comm) (record { signed = tt; takes_none = λ s. refl }) refl h.1
-adds_revoke r comm (Refused e) new h = adds_same r new h.1
+adds_revoke r comm (Refused e) new h = adds_same r new h.0.1
 adds_revoke r comm _ new h = absurd h
 
 adds_dup : (r : State) (comm : Context) (answer : StepAnswer) (new : State) → AnswersDup r comm answer new → Adds r false new

@@ -6,6 +6,8 @@ mod inbox;
 mod laws;
 mod rounds;
 mod steps;
+#[cfg(test)]
+mod tests;
 mod world;
 
 pub use event::{Event, Outcome, Refused};

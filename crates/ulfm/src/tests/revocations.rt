@@ -70,6 +70,84 @@ step = [\n\
 0 end: done\n\
 1 end: done\n",
             },
+            Row {
+                shows: "revoked_before_it_was_made",
+                job: "ranks = 2\n\
+capacity = 4\n\
+turns = 10\n\
+step = [\n\
+  {rank = 0, op = \"dup\"},\n\
+  {rank = 0, op = \"revoke\", comm = 1},\n\
+  {rank = 1, op = \"failed\"},\n\
+  {rank = 1, op = \"failed\"},\n\
+  {rank = 1, op = \"failed\"},\n\
+  {rank = 1, op = \"dup\"},\n\
+  {rank = 1, op = \"recv\", comm = 1},\n\
+  {rank = 1, op = \"send\", to = 0, tag = 1, comm = 1, body = \"x\"},\n\
+  {rank = 1, op = \"revoke\", comm = 1},\n\
+]\n",
+                trace: "0 0 dup comm 0: comm 1\n\
+0 1 revoke comm 1: revoked\n\
+0 end: done\n\
+1 0 failed comm 0: ranks []\n\
+1 1 failed comm 0: ranks []\n\
+1 2 failed comm 0: ranks []\n\
+1 3 dup comm 0: comm 1\n\
+1 4 recv any tag any comm 1: refused 6 Revoked\n\
+1 5 send 0 tag 1 comm 1: refused 6 Revoked\n\
+1 6 revoke comm 1: revoked\n\
+1 end: done\n",
+            },
+            Row {
+                shows: "paired_before_a_revocation",
+                job: "ranks = 2\n\
+capacity = 4\n\
+turns = 10\n\
+step = [\n\
+  {rank = 0, op = \"send\", to = 1, tag = 5, body = \"a\"},\n\
+  {rank = 0, op = \"revoke\"},\n\
+  {rank = 1, op = \"recv\", tag = 5},\n\
+  {rank = 1, op = \"recv\", tag = 6},\n\
+  {rank = 1, op = \"wait\", req = 1},\n\
+  {rank = 1, op = \"wait\", req = 0},\n\
+]\n",
+                trace: "0 0 send 1 tag 5 comm 0: sent\n\
+0 1 revoke comm 0: revoked\n\
+0 end: done\n\
+1 0 recv any tag 5 comm 0: posted\n\
+1 1 recv any tag 6 comm 0: posted\n\
+1 2 wait 1: over 6 Revoked\n\
+1 3 wait 0: done from 0 tag 5 61\n\
+1 end: done\n",
+            },
+            Row {
+                shows: "other_communicators_go_on",
+                job: "ranks = 2\n\
+capacity = 4\n\
+turns = 10\n\
+step = [\n\
+  {rank = 0, op = \"dup\"},\n\
+  {rank = 0, op = \"revoke\"},\n\
+  {rank = 0, op = \"send\", to = 1, tag = 5, comm = 1, body = \"a\"},\n\
+  {rank = 0, op = \"failed\"},\n\
+  {rank = 0, op = \"ack\", count = 1},\n\
+  {rank = 1, op = \"dup\"},\n\
+  {rank = 1, op = \"recv\", comm = 1},\n\
+  {rank = 1, op = \"wait\", req = 1},\n\
+  {rank = 1, op = \"recv\"},\n\
+]\n",
+                trace: "0 0 dup comm 0: comm 1\n\
+0 1 revoke comm 0: revoked\n\
+0 2 send 1 tag 5 comm 1: sent\n\
+0 3 failed comm 0: ranks []\n\
+0 4 ack 1 comm 0: acked 0\n\
+0 end: done\n\
+1 0 dup comm 0: comm 1\n\
+1 1 recv any tag any comm 1: posted\n\
+1 2 wait 1: done from 0 tag 5 61\n\
+1 3 recv any tag any comm 0: refused 6 Revoked\n\
+1 end: done\n",
+            },
         ],
     );
     assert_eq!(rt; wrong, None);

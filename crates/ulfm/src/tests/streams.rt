@@ -88,6 +88,50 @@ fn words_are_looked_at_first(rt: HostRuntime) {
     assert_eq!(rt; status_of(&rt, &["ulfm", "--help"]), 0);
 }
 
+/// Whether the reply to these words has this status and begins with this text.
+fn begins(rt: &HostRuntime, words: &[&str], status: u8, text: &str) -> bool {
+    let (answered, kept) = reply(rt, words, "");
+    let same = answered == status && kept.bytes[..kept.len].starts_with(text.as_bytes());
+    let Kept { bytes: _, len: _ } = kept;
+    same
+}
+
+#[test]
+fn usage_and_help_say_what_is_wanted(rt: HostRuntime) {
+    assert!(rt;
+        begins(
+            &rt,
+            &["ulfm"],
+            2,
+            "error: 'ulfm' requires a subcommand but one was not provided\n  [subcommands: check, replay, help]\n\nUsage: ulfm <COMMAND>\n"
+        )
+    );
+    assert!(rt;
+        begins(
+            &rt,
+            &["ulfm", "bogus"],
+            2,
+            "error: unrecognized subcommand 'bogus'\n\nUsage: ulfm <COMMAND>\n"
+        )
+    );
+    assert!(rt;
+        begins(
+            &rt,
+            &["ulfm", "help"],
+            0,
+            "MPI messages with ULFM recovery among the ranks of one program\n\nUsage: ulfm <COMMAND>\n"
+        )
+    );
+    assert!(rt;
+        begins(
+            &rt,
+            &["ulfm", "check", "--help"],
+            0,
+            "Says whether the job on standard input can be run\n\nUsage: ulfm check\n"
+        )
+    );
+}
+
 #[test]
 fn a_good_job_is_counted(rt: HostRuntime) {
     let answer = reply(&rt, &["ulfm", "check"], ONE_LETTER);

@@ -1,8 +1,8 @@
 //! Failures, revocations and the rank's own stop (ULFM).
-ghost use Rattle.std.specs.Prelude.{◌≡◌, [], IfOk, IfErr, OnOk, OnErr};
+ghost use Rattle.std.specs.Prelude.{◌≡◌, [], false, IfOk, IfErr, OnOk, OnErr};
 ghost use Rattle.ulfm_rank.specs.Calls.{acknowledging, revoking, stopping};
 ghost use Rattle.ulfm_rank.specs.Checks.{Passes, Fails, FailsOrStarves, group_at, comm_checks};
-ghost use Rattle.ulfm_rank.specs.Facts.{known_in, ack_answer};
+ghost use Rattle.ulfm_rank.specs.Facts.{is_revoked, known_in, ack_answer};
 
 use super::Rank;
 use crate::entry::{Comm, Entry};
@@ -68,11 +68,12 @@ impl Rank {
     /// # Errors
     ///
     /// `Stopped` where the rank has stopped, else `NoComm` where the communicator wasn't made, else `OutOfMemory` where
-    /// a growth was refused. Then nothing changed.
+    /// it wasn't revoked before and a growth was refused. Then nothing changed.
     pub fn revoke(&mut self, comm: Comm) -> Result<(), CallError>
         ensures accepted { OnOk result (Passes (comm_checks self.old.state comm.context.number [])) }
         ensures state { OnOk result (self.new.state ≡ revoking self.old.state comm.context) }
         ensures refused { IfErr result (FailsOrStarves (comm_checks self.old.state comm.context.number [])) }
+        ensures grows { IfErr result (λ e. e ≡ CallError.OutOfMemory → is_revoked self.old.state.log comm.context.number ≡ false) }
         ensures unchanged { OnErr result (self.new.state ≡ self.old.state) }
     {
         let _ = self.running_group(comm)?;

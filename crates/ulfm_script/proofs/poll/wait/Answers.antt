@@ -12,6 +12,8 @@ returns-in-Ok-clause-answers c =
       place = asked.0;
       pattern = asked.1;
       request = asked.2;
+      pairing = c.in-Ok.ensures.pairing.0;
+      lawful = c.in-Ok.ensures.pairing.1;
       answers = c.in-Ok.ensures.answer;
       only = only_tested _ _ _ _ c.in-Ok.ensures.released c.in-Ok.ensures.stays;
     } in
@@ -26,6 +28,8 @@ returns-in-Ok-clause-stays_open c =
       place = asked.0;
       pattern = asked.1;
       request = asked.2;
+      pairing = c.in-Ok.ensures.pairing.0;
+      lawful = c.in-Ok.ensures.pairing.1;
       answers = c.in-Ok.ensures.answer;
       only = only_tested _ _ _ _ c.in-Ok.ensures.released c.in-Ok.ensures.stays;
     } in
