@@ -1,0 +1,38 @@
+//! Who answers for the decisions of shrinks.
+ghost use Rattle.std.specs.Prelude.{◌≡◌, ℕ, List, Option, IfOk, OnErr, IsSome};
+ghost use Rattle.ulfm_base.specs.declared.decision.Decision.{Decision as Decided};
+ghost use Rattle.ulfm_board.specs.Known.{Answers, Starves, BothAgree, known_at};
+
+use ulfm_base::{Decision, OutOfMemory};
+
+/// How many communicators have a shrink: those of the contexts 0 to 30.
+pub(crate) const CELLS: usize = 31;
+
+/// Answers one decision for the shrink of each context, 0 to 30: always the first that it answered.
+pub trait Decider: Drop {
+    /// The names of the cells that it shares with others. `None`: it shares none.
+    ghost board: { Self → Option (List ℕ) };
+
+    /// By the number of a context, the decision that it knows of its shrink, if it knows one.
+    ghost known: { Self → List (Option Decided) };
+
+    /// Hands a decision in, and answers the one that its cell holds from now on: this one, if it is the first.
+    ///
+    /// # Errors
+    ///
+    /// `OutOfMemory` where its cells are shared, the cell was found empty, and a growth was refused.
+    fn decide(&mut self, decision: Decision) -> Result<Decision, OutOfMemory>
+        ensures board { board self.new ≡ board self.old }
+        ensures answers { IfOk result (λ held. Answers (board self.old) (known self.old) decision held (known self.new)) }
+        ensures starves { OnErr result (Starves (board self.old) (known self.old) decision.context.number) }
+        ensures unchanged { OnErr result (known self.new ≡ known self.old) };
+
+    /// Two that share their cells know no two decisions of one shrink. It changes nothing, and takes no memory.
+    fn same(&mut self, other: &mut Self)
+        requires { board other.old ≡ board self.old }
+        ensures board { board self.new ≡ board self.old }
+        ensures board_of_the_other { board other.new ≡ board other.old }
+        ensures known { known self.new ≡ known self.old }
+        ensures known_to_the_other { known other.new ≡ known other.old }
+        ensures agree { IsSome (board self.old) → (c : ℕ) → BothAgree (known_at (known self.old) c) (known_at (known other.old) c) };
+}

@@ -1,0 +1,76 @@
+//! Worked examples.
+ghost use Rattle.std.specs.Prelude.{◌≡◌, ◌<◌};
+ghost use Rattle.ulfm_base.specs.Context.{shrink_of};
+
+use crate::{Decider, MemoryBoard, Seat, seats};
+use std::alloc::Global;
+use std::test::Fail;
+use ulfm_base::{CallError, Context, Decision, Group};
+
+const SHRUNK: Context = Context { number: 2 };
+
+// The decision to exclude each of n ranks, none of which is listed.
+fn none_left(alloc: Global, context: Context, n: u8) -> Result<Decision, CallError>
+    requires { shrink_of context.number < 63 }
+{
+    let old = Group::world(alloc, n)?;
+    let excluded = old.members();
+    let fresh = old.excluding(excluded);
+    Ok(Decision {
+        context,
+        old,
+        entries: [None; 8],
+        excluded,
+        fresh,
+    })
+}
+
+// Whether two deciders of one board both answer the first decision of a context.
+fn answers_the_first<D: Decider>(one: &mut D, other: &mut D, alloc: Global) -> Result<bool, Fail>
+    requires { D.board other.old ≡ D.board one.old }
+{
+    let first = none_left(alloc, Context::WORLD, 2)?;
+    let second = none_left(alloc, Context::WORLD, 3)?;
+    let mine = one.decide(first.copied())?;
+    let theirs = other.decide(second.copied())?;
+    let again = one.decide(second)?;
+    one.same(other);
+    Ok(mine.is_same(&first) && theirs.is_same(&first) && again.is_same(&first))
+}
+
+fn crosses<T: Send + Drop + 'static>(_it: T) {}
+
+#[test]
+fn seats_of_one_board(rt: HostRuntime) -> Result<(), Fail> {
+    let mut all = seats(rt.alloc(), 3)?;
+    assert_eq!(rt; all.len(), 3);
+    let (Some(mut one), Some(mut other)) = (all.pop(), all.pop()) else {
+        return Ok(());
+    };
+    assert!(rt; answers_the_first(&mut one, &mut other, rt.alloc())?);
+    let third = none_left(rt.alloc(), SHRUNK, 3)?;
+    assert!(rt; other.decide(third.copied())?.is_same(&third));
+    crosses(one);
+    Ok(())
+}
+
+#[test]
+fn a_board_of_one_owner(rt: HostRuntime) -> Result<(), Fail> {
+    let mut board = MemoryBoard::new(rt.alloc())?;
+    let first = none_left(rt.alloc(), Context::WORLD, 2)?;
+    let second = none_left(rt.alloc(), Context::WORLD, 3)?;
+    let third = none_left(rt.alloc(), SHRUNK, 3)?;
+    assert!(rt; board.decide(first.copied())?.is_same(&first));
+    assert!(rt; board.decide(second)?.is_same(&first));
+    assert!(rt; board.decide(third.copied())?.is_same(&third));
+    Ok(())
+}
+
+#[test]
+fn numbers_of_seats(rt: HostRuntime) -> Result<(), Fail> {
+    for n in [0, 9] {
+        assert!(rt; matches!(seats(rt.alloc(), n), Err(CallError::BadSize)));
+    }
+    assert_eq!(rt; seats(rt.alloc(), 8)?.len(), 8);
+    Ok(())
+}
