@@ -20,3 +20,4 @@ pub mod Made
 pub mod Following
 pub mod Seen
 pub mod Sendable
+pub mod Entries

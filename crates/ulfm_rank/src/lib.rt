@@ -12,6 +12,7 @@ mod outboxes;
 mod outcome;
 mod rank;
 mod requests;
+mod shrinks;
 mod sources;
 
 pub use entry::{Comm, Entry, Status, TestAnswer};
