@@ -1,47 +1,23 @@
 -- The table of shrinks stays in step with the log.
-use Rattle.std.proofs.Common.{◌≡◌, ◌≢◌, ℕ, ◌<◌, Bool, true, false, cond, List, [], ◌∷◌, ◌++◌, refl, ap, sym, ◌∙◌, arith, eq-eqb, Option, Some, None}
-use Rattle.std.specs.Prelude.{◌==◌, not, is_some}
-use Rattle.std.proofs.lemmas.Bool.{false≢true, eqb-true, ne_eqb}
+use Rattle.std.proofs.Common.{◌≡◌, ◌≢◌, ℕ, ◌<◌, ◌≤◌, Bool, true, false, cond, List, [], ◌∷◌, ◌++◌, refl, ap, sym, ◌∙◌, arith, eq-eqb, inl, inr, Option, Some, None}
+use Rattle.std.specs.Prelude.{◌==◌, not, is_some, MatchOption}
+use Rattle.std.proofs.lemmas.Bool.{cases_lt, false≢true, eqb-true, ne_eqb}
 use Rattle.std.proofs.lemmas.Bool.Decides.{nat_tests}
 use Rattle.ulfm_base.specs.declared.context.Context.{Context}
 use Rattle.ulfm_base.specs.declared.item.Item.{Item}
 use Rattle.ulfm_base.specs.declared.item.Item.TheVariants.{Letter as Mail, Gone, Revoke, Enter}
 use Rattle.ulfm_base.specs.declared.rank.WorldRank.{WorldRank}
 use Rattle.ulfm_base.specs.declared.rank_set.RankSet.{RankSet}
+use Rattle.ulfm_base.specs.Context.{shrink_of}
 use Rattle.ulfm_rank.specs.declared.entry.Entry.{Entry}
 use Rattle.ulfm_rank.specs.declared.entry.Entry.TheVariants.{Entered, Took}
 use Rattle.ulfm_rank.specs.Fields.{set_of, Notes, HasShrinks}
 use Rattle.ulfm_rank.specs.Log.{or_else, first_of}
-use Rattle.ulfm_rank.specs.Shrink.{entry_of, item_entry, heard_of, has_entered, listed_of}
+use Rattle.ulfm_rank.specs.Shrink.{entry_of, item_entry, heard_of, has_entered}
+use Rattle.ulfm_rank.proofs.Listed.{or_none, first-push, told_of, listed-push, entered-push, listed-own}
 
 eqb-flip : (a b : ℕ) → (a == b) ≡ (b == a)
 eqb-flip a b = grind (arith, nat_tests)
-
-pub or_none : {X : Type 0} (o : Option X) → or_else o None ≡ o
-or_none None = refl
-or_none (Some x) = refl
-
-or_assoc : {X : Type 0} (a b c : Option X) → or_else a (or_else b c) ≡ or_else (or_else a b) c
-or_assoc None b c = refl
-or_assoc (Some x) b c = refl
-
-pub first-push : {X : Type 0} (give : Entry → Option X) (log : List Entry) (e : Entry) → first_of give (log ++ e ∷ []) ≡ or_else (first_of give log) (give e)
-first-push give [] e = or_none (give e)
-first-push give (x ∷ log) e = ap (or_else (give x)) (first-push give log e) ∙ or_assoc (give x) (first_of give log) (give e)
-
--- what an entry tells of the rank r
-abbrev pub told_of : ℕ → ℕ → ℕ → Entry → Option RankSet
-told_of me c r e = cond (r == me) (entry_of c e) (heard_of c r e)
-
-pub listed-push : (me : ℕ) (log : List Entry) (c r : ℕ) (e : Entry) → listed_of me (log ++ e ∷ []) c r ≡ or_else (listed_of me log c r) (told_of me c r e)
-listed-push me log c r e = pick (r == me)
-  where
-    pick : (b : Bool) → cond b (first_of (entry_of c) (log ++ e ∷ [])) (first_of (heard_of c r) (log ++ e ∷ [])) ≡ or_else (cond b (first_of (entry_of c) log) (first_of (heard_of c r) log)) (cond b (entry_of c e) (heard_of c r e))
-    pick true = first-push (entry_of c) log e
-    pick false = first-push (heard_of c r) log e
-
-entered-push : (log : List Entry) (c : ℕ) (e : Entry) → entry_of c e ≡ None → has_entered (log ++ e ∷ []) c ≡ has_entered log c
-entered-push log c e none = ap is_some (first-push (entry_of c) log e ∙ ap (or_else (first_of (entry_of c) log)) none ∙ or_none (first_of (entry_of c) log))
 
 -- a table in which each place has what the longer log tells
 shrinks-pushed : (me : ℕ) (log : List Entry) (e : Entry) (old new : List (List (Option RankSet))) → HasShrinks me log old → ((c r : ℕ) → c < 31 → r < 8 → set_of new c r ≡ or_else (set_of old c r) (told_of me c r e)) → ((c : ℕ) → has_entered (log ++ e ∷ []) c ≡ true → c < 31) → HasShrinks me (log ++ e ∷ []) new
@@ -160,3 +136,19 @@ shrinks-start me rows none = record {
     nobody : (b : Bool) → cond {A = Option RankSet} b None None ≡ None
     nobody true = refl
     nobody false = refl
+
+-- the rank's own place tells whether it entered
+pub entered_here : (me : ℕ) (log : List Entry) (rows : List (List (Option RankSet))) (c : ℕ) (o : Option RankSet) → HasShrinks me log rows → me < 8 → o ≡ set_of rows c me → (31 ≤ c → o ≡ None) → is_some o ≡ has_entered log c
+entered_here me log rows c o held rank here past = elim (cases_lt c 31) [
+  | inl small ↦ ap is_some (here ∙ held.lists c me small rank ∙ listed-own me log c)
+  | inr large ↦ ap is_some (past large) ∙ sym (never (has_entered log c) refl large)
+]
+  where
+    never : (b : Bool) → has_entered log c ≡ b → 31 ≤ c → b ≡ false
+    never true entered large = let small = held.has_shrink c entered in absurd (omega (arith, small, large))
+    never false entered large = refl
+
+-- a context of which the shrink has one is one of 0 to 30
+pub shrinkable : (c : ℕ) (o : Option Context) → MatchOption o (63 ≤ shrink_of c) (λ context. context.number ≡ shrink_of c) → is_some o ≡ true → c < 31
+shrinkable c None h none = cc
+shrinkable c (Some context) h some = omega (arith, h, context.in_range)

@@ -20,4 +20,5 @@ pub mod Made
 pub mod Following
 pub mod Seen
 pub mod Sendable
+pub mod Listed
 pub mod Entries

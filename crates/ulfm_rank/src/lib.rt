@@ -7,6 +7,7 @@ mod entry;
 mod forwarding;
 mod knowing;
 mod leaving;
+mod members;
 mod outbox;
 mod outboxes;
 mod outcome;

@@ -4,6 +4,7 @@ mod outgoing;
 mod receiving;
 mod recovery;
 mod sending;
+mod shrinking;
 mod taking;
 
 ghost use Rattle.std.specs.Prelude.{◌≡◌, [], IfOk, IfErr, OnOk, OnErr, Some};

@@ -1,0 +1,13 @@
+use Rattle.std.proofs.Common.{ap, ◌∙◌}
+use Rattle.ulfm_base.specs.Decision.{entry_at}
+use Rattle.ulfm_rank.specs.Shrink.{has_entered}
+use Rattle.ulfm_rank.specs.State.{View}
+use Rattle.ulfm_rank.proofs.Entries.{entered_here}
+use Rattle.ulfm_rank.proofs.rank.Rank.has_entered.Goals as goal
+
+pub returns : goal.returns
+returns c =
+    let a = c.self.inside in
+    c.is_some.ensures
+    ∙ entered_here a.me.number a.log.items a.shrinks c.args.context.number (entry_at c.entries.result a.me.number) c.self.invariant.shrinks a.me.in_range (c.entries.ensures.sets a.me.number) (λ past. c.entries.ensures.past past a.me.number)
+    ∙ ap (λ (v : View). has_entered v.state.log c.args.context.number) c.self.view_is
