@@ -22,3 +22,5 @@ pub mod Seen
 pub mod Sendable
 pub mod Listed
 pub mod Entries
+pub mod Among
+pub mod Proposing

@@ -11,6 +11,7 @@ mod members;
 mod outbox;
 mod outboxes;
 mod outcome;
+mod proposal;
 mod rank;
 mod requests;
 mod shrinks;
