@@ -9,9 +9,10 @@ use Rattle.ulfm_base.specs.declared.item.Item.TheVariants.{Letter as Mail, Gone,
 use Rattle.ulfm_base.specs.declared.rank.WorldRank.{WorldRank}
 use Rattle.ulfm_base.specs.declared.rank_set.RankSet.{RankSet}
 use Rattle.ulfm_base.specs.Context.{shrink_of}
+use Rattle.ulfm_base.specs.Decision.{entry_at}
 use Rattle.ulfm_rank.specs.declared.entry.Entry.{Entry}
 use Rattle.ulfm_rank.specs.declared.entry.Entry.TheVariants.{Entered, Took}
-use Rattle.ulfm_rank.specs.Fields.{set_of, Notes, HasShrinks}
+use Rattle.ulfm_rank.specs.Fields.{set_of, Notes, HasEntries, HasShrinks}
 use Rattle.ulfm_rank.specs.Log.{or_else, first_of}
 use Rattle.ulfm_rank.specs.Shrink.{entry_of, item_entry, heard_of, has_entered}
 use Rattle.ulfm_rank.proofs.Listed.{or_none, first-push, told_of, listed-push, entered-push, listed-own}
@@ -147,6 +148,10 @@ entered_here me log rows c o held rank here past = elim (cases_lt c 31) [
     never : (b : Bool) → has_entered log c ≡ b → 31 ≤ c → b ≡ false
     never true entered large = let small = held.has_shrink c entered in absurd (omega (arith, small, large))
     never false entered large = refl
+
+-- the entries in the row of a context of which the shrink was entered
+pub has_entries : (me : ℕ) (log : List Entry) (rows : List (List (Option RankSet))) (c : ℕ) (entries : List (Option RankSet)) → HasShrinks me log rows → has_entered log c ≡ true → ((r : ℕ) → entry_at entries r ≡ set_of rows c r) → HasEntries me log c entries
+has_entries me log rows c entries held entered sets = λ r below. sets r ∙ held.lists c r (held.has_shrink c entered) below
 
 -- a context of which the shrink has one is one of 0 to 30
 pub shrinkable : (c : ℕ) (o : Option Context) → MatchOption o (63 ≤ shrink_of c) (λ context. context.number ≡ shrink_of c) → is_some o ≡ true → c < 31

@@ -24,3 +24,5 @@ pub mod Listed
 pub mod Entries
 pub mod Among
 pub mod Proposing
+pub mod Foreign
+pub mod Adoptable

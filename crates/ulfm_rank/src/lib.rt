@@ -1,6 +1,7 @@
 //! The state of one rank, which its log determines.
 #![tactic(auto)]
 
+mod adopting;
 mod answer;
 mod communicators;
 mod entry;
