@@ -5,19 +5,22 @@ use Rattle.ulfm_base.specs.declared.context.Context.{Context}
 use Rattle.ulfm_base.specs.declared.envelope.Letter.{Letter}
 use Rattle.ulfm_base.specs.declared.item.Item.TheVariants.{Letter as Mail}
 use Rattle.ulfm_base.specs.declared.rank.WorldRank.{WorldRank}
-use Rattle.ulfm_base.specs.Context.{dup_of}
+use Rattle.ulfm_base.specs.declared.rank_set.RankSet.{RankSet}
+use Rattle.ulfm_base.specs.declared.decision.Decision.{Decision}
+use Rattle.ulfm_base.specs.Context.{dup_of, shrink_of}
 use Rattle.ulfm_fault.specs.Facts.{Facts, acknowledged_in, is_marked}
 use Rattle.ulfm_match.specs.State.{State as Matching}
 use Rattle.ulfm_rank.specs.declared.entry.Entry.{Entry}
-use Rattle.ulfm_rank.specs.declared.entry.Entry.TheVariants.{Sent, Acknowledged, Revoked, Duplicated, Stopped}
+use Rattle.ulfm_rank.specs.declared.entry.Entry.TheVariants.{Sent, Acknowledged, Revoked, Duplicated, Entered, Adopted, Stopped}
 use Rattle.ulfm_rank.specs.declared.outcome.Request.{Request}
 use Rattle.ulfm_rank.specs.Communicators.{find_group}
 use Rattle.ulfm_rank.specs.Facts.{is_stop, is_stopped, is_revoked}
 use Rattle.ulfm_rank.specs.Fields.{HasFaults}
 use Rattle.ulfm_rank.specs.Inside.{Follows}
 use Rattle.ulfm_rank.specs.Outboxes.{Box, for_each, AllGrow}
-use Rattle.ulfm_rank.specs.Owed.{passed_on}
+use Rattle.ulfm_rank.specs.Owed.{passed_on, entry_told}
 use Rattle.ulfm_rank.specs.Requests.{TracksRevocation}
+use Rattle.ulfm_rank.proofs.Adoptable.{communicators-adopted}
 use Rattle.ulfm_rank.proofs.Gather.{any-push}
 use Rattle.ulfm_rank.proofs.Held.{outboxes-grown, outboxes-quiet}
 use Rattle.ulfm_rank.proofs.InStep.{in_step_quiet, in_step_revoked}
@@ -47,6 +50,17 @@ module _ (n me : ℕ) (log : List Entry) (stopped : Bool) (m : Matching) (find :
     outboxes = outboxes-grown n me log (Sent to letter) boxes boxes' f.outboxes grows;
   }
 
+  -- the shrink of a communicator was entered
+  pub follows_entered : (context : Context) (known : RankSet) (boxes' : List Box) → AllGrow boxes boxes' (length log) (entry_told n me log context known) → Follows n me (log ++ Entered context known ∷ []) stopped m find facts comms boxes'
+  follows_entered context known boxes' grows = record {
+    small = f.small;
+    halted = runs_on (Entered context known) refl;
+    in_step = in_step_quiet n log m find f.in_step (Entered context known) refl (λ k. refl);
+    faults = faults_quiet log facts (Entered context known) f.faults (λ b k. refl) (λ c k. refl) (λ c. refl);
+    communicators = communicators-quiet n log (Entered context known) comms f.communicators (λ b k. refl);
+    outboxes = outboxes-grown n me log (Entered context known) boxes boxes' f.outboxes grows;
+  }
+
   -- a communicator was duplicated
   pub follows_duplicated : (context : Context) (group : List ℕ) → find_group context.number comms ≡ Some group → Follows n me (log ++ Duplicated context ∷ []) stopped m find facts (comms ++ (dup_of context.number, group) ∷ []) boxes
   follows_duplicated context group found = record {
@@ -56,6 +70,17 @@ module _ (n me : ℕ) (log : List Entry) (stopped : Bool) (m : Matching) (find :
     faults = faults_quiet log facts (Duplicated context) f.faults (λ b k. refl) (λ c k. refl) (λ c. refl);
     communicators = communicators-duplicated n log context comms group f.communicators found;
     outboxes = outboxes-quiet n me log (Duplicated context) boxes f.outboxes (λ d. refl);
+  }
+
+  -- a decision was adopted
+  pub follows_adopted : (d : Decision) → find_group d.context.number comms ≡ Some d.old → Follows n me (log ++ Adopted d ∷ []) stopped m find facts (comms ++ (shrink_of d.context.number, d.fresh) ∷ []) boxes
+  follows_adopted d found = record {
+    small = f.small;
+    halted = runs_on (Adopted d) refl;
+    in_step = in_step_quiet n log m find f.in_step (Adopted d) refl (λ k. refl);
+    faults = faults_quiet log facts (Adopted d) f.faults (λ b k. refl) (λ c k. refl) (λ c. refl);
+    communicators = communicators-adopted n log d comms f.communicators found;
+    outboxes = outboxes-quiet n me log (Adopted d) boxes f.outboxes (λ d. refl);
   }
 
   -- failures were acknowledged

@@ -20,3 +20,9 @@ pub mod Made
 pub mod Following
 pub mod Seen
 pub mod Sendable
+pub mod Listed
+pub mod Entries
+pub mod Among
+pub mod Proposing
+pub mod Foreign
+pub mod Adoptable

@@ -29,7 +29,7 @@ copied c d (comm ∷ comms) group h = pick (eqb comm.0 c) h (copied c d comms gr
     pick true e next = let same : comm.1 ≡ group = cc in ap (λ (g : List ℕ). (d, g) ∷ []) same
     pick false e next = next e
 
-All-one : {X : Type 0} (P : X → Type 0) (x : X) → P x → All P (x ∷ [])
+pub All-one : {X : Type 0} (P : X → Type 0) (x : X) → P x → All P (x ∷ [])
 All-one P x p zero d h = p
 All-one P x p (suc k) d h = absurd (omega (arith, h))
 

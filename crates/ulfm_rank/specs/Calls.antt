@@ -7,13 +7,15 @@ use Rattle.ulfm_base.specs.declared.pattern.Pattern.{Pattern}
 use Rattle.ulfm_base.specs.declared.pattern.Source.{Source}
 use Rattle.ulfm_base.specs.declared.pattern.Source.TheVariants.{One, Any}
 use Rattle.ulfm_base.specs.declared.rank.WorldRank.{WorldRank}
+use Rattle.ulfm_base.specs.declared.rank_set.RankSet.{RankSet}
 use Rattle.ulfm_base.specs.declared.tag.Tag.{Tag}
 use Rattle.ulfm_base.specs.declared.context.Context.{Context}
 use Rattle.ulfm_base.specs.Group.{is_member}
 use Rattle.ulfm_base.specs.RankSet.{has}
 use Rattle.ulfm_rank.specs.declared.entry.Comm.{Comm}
-use Rattle.ulfm_rank.specs.declared.entry.Entry.TheVariants.{Sent, Posted, Acknowledged, Revoked, Stopped}
+use Rattle.ulfm_rank.specs.declared.entry.Entry.TheVariants.{Sent, Posted, Acknowledged, Revoked, Entered, Stopped}
 use Rattle.ulfm_rank.specs.Facts.{is_revoked, is_stopped, acknowledged_of}
+use Rattle.ulfm_rank.specs.Outboxes.{Knows}
 use Rattle.ulfm_rank.specs.State.{State, logged}
 use Rattle.ulfm_rank.specs.Checks.{group_at}
 
@@ -54,6 +56,12 @@ acknowledging old context total = if nat_lt (acknowledged_of old.log context.num
 -- the rank after its own revocation of a context, which counts the first time
 abbrev pub revoking : State → Context → State
 revoking old context = if is_revoked old.log context.number then old else logged old (Revoked context)
+
+-- the shrink of a communicator is entered with the failures that are known
+pub record Enters (old : State) (comm : Comm) (new : State) : Type 0 where
+  pub known : RankSet
+  pub knows : Knows old.log known
+  pub only : new ≡ logged old (Entered comm.context known)
 
 -- the rank after its stop
 abbrev pub stopping : State → State

@@ -1,13 +1,14 @@
 -- Why a call is refused: what is checked, in the order of the checks. Want of memory comes last.
 use Rattle.std.specs.Prelude.{◌≡◌, ℕ, Bool, true, false, List, [], ◌∷◌, length, not, ◌||◌, ◌⊎◌, nat_le, nat_lt, Option, Some, None, slice_get, if◌then◌else◌}
+use Rattle.ulfm_base.specs.declared.decision.Decision.{Decision}
 use Rattle.ulfm_base.specs.declared.error.CallError.{CallError}
-use Rattle.ulfm_base.specs.declared.error.CallError.TheVariants.{NoComm, BadRank, TooLong, ProcFailed, Revoked, NoRequest, AlreadyMade, NoContext, Stopped, NotEntered, OutOfMemory, BadSize}
+use Rattle.ulfm_base.specs.declared.error.CallError.TheVariants.{NoComm, BadRank, TooLong, ProcFailed, Revoked, NoRequest, AlreadyMade, NoContext, Stopped, NotMember, OutOfMemory, BadSize, NotEntered}
 use Rattle.ulfm_base.specs.Context.{dup_of, shrink_of}
 use Rattle.ulfm_rank.specs.declared.entry.Entry.{Entry}
 use Rattle.ulfm_rank.specs.Answer.{IsNoRequest}
 use Rattle.ulfm_rank.specs.Facts.{is_gone, is_revoked, is_stopped}
 use Rattle.ulfm_rank.specs.Communicators.{is_made, members_of}
-use Rattle.ulfm_rank.specs.Shrink.{has_entered}
+use Rattle.ulfm_rank.specs.Shrink.{has_entered, has_adopted, is_foreign}
 use Rattle.ulfm_rank.specs.State.{State}
 
 -- whether a check refuses, and with which error
@@ -76,6 +77,9 @@ shrink_checks r c = comm_checks r c ((has_entered r.log c, AlreadyMade) ∷ (nat
 
 abbrev pub proposal_checks : State → ℕ → List Check
 proposal_checks r c = comm_checks r c ((not (has_entered r.log c), NotEntered) ∷ [])
+
+abbrev pub adopt_checks : State → ℕ → Decision → List Check
+adopt_checks r c d = comm_checks r c ((has_adopted r.log c, AlreadyMade) ∷ (not (has_entered r.log c), NotEntered) ∷ (is_foreign r.me (group_at r c) r.log c d, NotMember) ∷ [])
 
 -- why a test of the request of this number is refused
 abbrev pub IsTestRefusal : List Entry → ℕ → CallError → Type 0

@@ -8,7 +8,7 @@ use Rattle.ulfm_rank.specs.declared.outcome.Request.{Request}
 use Rattle.ulfm_rank.specs.declared.rank.Rank.TheInside.{Inside}
 use Rattle.ulfm_rank.specs.Communicators.{HasCommunicators}
 use Rattle.ulfm_rank.specs.Facts.{is_stopped}
-use Rattle.ulfm_rank.specs.Fields.{HasFaults}
+use Rattle.ulfm_rank.specs.Fields.{HasFaults, HasShrinks}
 use Rattle.ulfm_rank.specs.Outboxes.{Box, mark_of, HasOutboxes}
 use Rattle.ulfm_rank.specs.State.{State, View}
 use Rattle.ulfm_rank.specs.Table.{IsInStep}
@@ -26,9 +26,11 @@ pub record Follows (n me : ℕ) (log : List Entry) (stopped : Bool) (matcher : M
   pub communicators : HasCommunicators n log comms
   pub outboxes : HasOutboxes n me log boxes
 
--- besides, the log has a place for the release of each request, and one for the stop
+-- besides, the table of shrinks has what the log tells, and the log has a place for the release of each request, and one
+-- for the stop
 pub record Holds (a : Inside) : Type 0 where
   pub follows : Follows a.ranks a.me.number a.log.items a.stopped a.matcher (get nat_eq a.requests) a.faults a.communicators a.outboxes.boxes
+  pub shrinks : HasShrinks a.me.number a.log.items a.shrinks
   pub places : vec_len a.log + (index_map_len a.requests + stop_places a.stopped) ≤ vec_capacity a.log
 
 abbrev pub state_of : Inside → State

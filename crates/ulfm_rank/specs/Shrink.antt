@@ -1,12 +1,14 @@
 -- Who is listed in a shrink, and what a rank that entered proposes (ULFM, shrink).
-use Rattle.std.specs.Prelude.{◌≡◌, ℕ, Bool, true, false, List, ◌==◌, ◌||◌, ◌&&◌, ◌<◌, Option, Some, None, is_some, slice_get, if◌then◌else◌}
+use Rattle.std.specs.Prelude.{◌≡◌, ℕ, Bool, true, false, List, ◌==◌, ◌||◌, ◌&&◌, ◌<◌, not, nat_eq, Option, Some, None, is_some, slice_get, if◌then◌else◌}
 use Rattle.std.specs.List.{list_any, list_all}
+use lib.Pointwise.{pointwise}
 use Rattle.ulfm_base.specs.declared.rank_set.RankSet.{RankSet}
 use Rattle.ulfm_base.specs.RankSet.{has}
 use Rattle.ulfm_base.specs.declared.decision.Decision.{Decision}
+use Rattle.ulfm_base.specs.Decision.{entry_at}
 use Rattle.ulfm_base.specs.declared.item.Item.{Item}
 use Rattle.ulfm_base.specs.declared.item.Item.TheVariants.{Enter}
-use Rattle.ulfm_base.specs.Group.{is_member, excluding}
+use Rattle.ulfm_base.specs.Group.{is_member, excluding, numbers_from}
 use Rattle.ulfm_rank.specs.declared.entry.Entry.{Entry}
 use Rattle.ulfm_rank.specs.declared.entry.Entry.TheVariants.{Entered, Adopted, Took}
 use Rattle.ulfm_rank.specs.Log.{first_of}
@@ -65,3 +67,21 @@ pub record IsProposal (n me : ℕ) (log : List Entry) (c : ℕ) (d : Decision) :
   pub entries : (r : ℕ) → r < 8 → slice_get d.entries r ≡ Some (if is_member (members_of n log c) r then listed_of me log c r else None)
   pub excluded : (r : ℕ) → r < 8 → has d.excluded r ≡ (is_member (members_of n log c) r && is_out me (members_of n log c) log c r)
   pub fresh : d.fresh ≡ excluding (members_of n log c) (is_out me (members_of n log c) log c)
+
+-- the rank r is in one of the two sets, and not in the other
+abbrev pub is_apart : RankSet → RankSet → ℕ → Bool
+is_apart set other r = (has set r && not (has other r)) || (has other r && not (has set r))
+
+-- two sets are there, and aren't the same
+abbrev pub differ : Option RankSet → Option RankSet → Bool
+differ (Some set) (Some other) = list_any (is_apart set other) (numbers_from 0 8)
+differ _ _ = false
+
+-- a decision lists a rank with another set than that with which this rank lists it
+abbrev pub contradicts : ℕ → List Entry → ℕ → Decision → Bool
+contradicts me log c d = list_any (λ r. differ (entry_at d.entries r) (listed_of me log c r)) (numbers_from 0 8)
+
+-- A decision isn't one to adopt for the shrink of c: it is about another context or group, its new group lacks this
+-- rank, or it lists a rank that this rank lists too, itself or one whose `Enter` it took, with another set.
+abbrev pub is_foreign : ℕ → List ℕ → List Entry → ℕ → Decision → Bool
+is_foreign me group log c d = not (d.context.number == c) || (not (pointwise nat_eq d.old group) || (not (is_member d.fresh me) || contradicts me log c d))

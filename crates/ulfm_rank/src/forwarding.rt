@@ -1,12 +1,16 @@
 //! What a rank passes on to the other ranks.
 ghost use Rattle.std.specs.Prelude.{◌≡◌, ◌==◌, ◌<◌, ◌&&◌, ℕ, List, length, not, IsTrue, false};
+ghost use Rattle.ulfm_base.specs.declared.context.Context.{Context};
+ghost use Rattle.ulfm_base.specs.Group.{is_member};
 ghost use Rattle.ulfm_base.specs.RankSet.{has};
 ghost use Rattle.ulfm_rank.specs.declared.entry.Entry.{Entry};
+ghost use Rattle.ulfm_rank.specs.Communicators.{members_of};
 ghost use Rattle.ulfm_rank.specs.Facts.{is_revoked};
 ghost use Rattle.ulfm_rank.specs.Outboxes.{AllGrow, Knows};
-ghost use Rattle.ulfm_rank.specs.Owed.{passed_on, owed_by_item};
+ghost use Rattle.ulfm_rank.specs.Owed.{passed_on, owed_by_item, entry_told};
 ghost use Rattle.ulfm_rank.specs.Requests.{revoked_before};
 
+use crate::members::members_of_both;
 use crate::outboxes::Outboxes;
 use ulfm_base::{Context, Item, RankSet, WorldRank};
 
@@ -40,6 +44,21 @@ pub(crate) fn forward(
 {
     let _ = context;
     outboxes.leave_each(told(me, known), place);
+}
+
+/// Leaves an entry into a shrink, which stands at this place of the log, for each member that it is told to.
+pub(crate) fn announce(
+    outboxes: &mut Outboxes,
+    me: u8,
+    known: RankSet,
+    members: RankSet,
+    place: usize,
+)
+    requires small { length outboxes.old.boxes < 9 }
+    requires room { IsTrue outboxes.old.room }
+    ensures { (n : ℕ) (log : List Entry) (context : Context) → Knows log known → ((r : ℕ) → has members r ≡ is_member (members_of n log context.number) r) → AllGrow outboxes.old.boxes outboxes.new.boxes place (entry_told n me log context known) }
+{
+    outboxes.leave_each(members_of_both(members, told(me, known)), place);
 }
 
 /// Leaves what a taken item, whose entry stands at this place of the log, owes to each rank. `revoked` says whether its

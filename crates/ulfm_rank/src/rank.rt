@@ -4,6 +4,7 @@ mod outgoing;
 mod receiving;
 mod recovery;
 mod sending;
+mod shrinking;
 mod taking;
 
 ghost use Rattle.std.specs.Prelude.{◌≡◌, [], IfOk, IfErr, OnOk, OnErr, Some};
@@ -17,6 +18,7 @@ use crate::communicators::Communicators;
 use crate::entry::{Comm, Entry};
 use crate::outboxes::Outboxes;
 use crate::outcome::Request;
+use crate::shrinks::Shrinks;
 use indexmap::IndexMap;
 use std::alloc::Global;
 use std::marker::Model;
@@ -35,6 +37,7 @@ pub struct Rank {
     faults: Faults,
     requests: IndexMap<u64, Request>,
     communicators: Communicators,
+    shrinks: Shrinks,
     outboxes: Outboxes,
     log: Vec<Entry>,
 }
@@ -67,6 +70,7 @@ impl Rank {
             return Err(CallError::BadRank);
         }
         let communicators = Communicators::new(alloc, world)?;
+        let shrinks = Shrinks::new(alloc)?;
         let outboxes = Outboxes::new(alloc, ranks)?;
         let mut log = Vec::new(alloc);
         log.reserve(1)?;
@@ -78,6 +82,7 @@ impl Rank {
             faults: Faults::new(alloc),
             requests: IndexMap::new(alloc),
             communicators,
+            shrinks,
             outboxes,
             log,
         })

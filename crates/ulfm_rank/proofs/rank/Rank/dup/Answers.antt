@@ -1,9 +1,10 @@
-use Rattle.std.proofs.Common.{rules, ◌≡◌, ◌++◌, ◌∷◌, [], ℕ, List, ap, ◌∙◌, arith, Some, nat_eq}
+use Rattle.std.proofs.Common.{rules, ◌≡◌, ◌++◌, ◌∷◌, [], ℕ, List, refl, ap, ◌∙◌, arith, Some, nat_eq}
 use Rattle.indexmap.specs.IndexMap.{get}
 use Rattle.ulfm_rank.specs.declared.entry.Entry.{Entry}
 use Rattle.ulfm_rank.specs.declared.entry.Entry.TheVariants.{Duplicated}
 use Rattle.ulfm_rank.specs.State.{State, View}
 use Rattle.ulfm_rank.specs.Inside.{state_of}
+use Rattle.ulfm_rank.proofs.Entries.{shrinks-logged}
 use Rattle.ulfm_rank.proofs.Following.{follows_duplicated}
 use Rattle.ulfm_rank.proofs.Seen.{stop_places_few}
 use Rattle.ulfm_base.specs.Context.{dup_of}
@@ -23,5 +24,6 @@ invariant_of-self-2 c =
     let added : c.add.new.self ≡ c.self.inside.communicators ++ (dup_of c.args.comm.context.number, group) ∷ [] = c.in_ok-add.ensures.added ∙ ap (λ (k : ℕ). c.self.inside.communicators ++ (k, c.copied-group.result) ∷ []) number ∙ ap (λ (g : List ℕ). c.self.inside.communicators ++ (dup_of c.args.comm.context.number, g) ∷ []) c.copied-group.ensures in
     record {
       follows = rw (now_log, added) (follows_duplicated c.self.inside.ranks c.self.inside.me.number c.self.inside.log.items c.self.inside.stopped c.self.inside.matcher (get nat_eq c.self.inside.requests) c.self.inside.faults c.self.inside.communicators c.self.inside.outboxes.boxes c.self.invariant.follows c.args.comm.context group found);
+      shrinks = shrinks-logged c.self.inside.me.number c.self.inside.log.items c.push_reserved.new.self.items (Duplicated c.args.comm.context) c.self.inside.shrinks c.self.invariant.shrinks (λ k. refl) (λ k r. refl) now_log;
       places = omega (arith, c.in_ok-reserve.ensures.ok, c.push_reserved.ensures.len, c.push_reserved.ensures.capacity, c.len.ensures.len, stop_places_few c.self.inside.stopped);
     }

@@ -19,6 +19,7 @@ use Rattle.ulfm_rank.specs.Inside.{Follows, state_of}
 use Rattle.ulfm_rank.specs.Requests.{Adds}
 use Rattle.ulfm_rank.specs.State.{View, State}
 use Rattle.ulfm_rank.specs.Table.{IsOfGroup}
+use Rattle.ulfm_rank.proofs.Entries.{shrinks-same, shrinks-logged}
 use Rattle.ulfm_rank.proofs.InStep.{count_small, posted_request, adds_itself}
 use Rattle.ulfm_rank.proofs.Refusals.{third_passes}
 use Rattle.ulfm_rank.proofs.Whole.{at_most_one, follows_same, follows_posted, one_place, state_grown}
@@ -33,6 +34,7 @@ invariant_of-self-in_err-reserve-2 c =
           subst (λ (log : List Entry). Follows a.ranks a.me.number log a.stopped a.matcher (get nat_eq c.reserve-2.new.self) a.faults a.communicators a.outboxes.boxes) (sym c.reserve.ensures.items)
           (follows_same a.ranks a.me.number a.log.items a.stopped a.matcher (get nat_eq a.requests) a.faults a.communicators a.outboxes.boxes c.self.invariant.follows
           a.matcher (get nat_eq c.reserve-2.new.self) a.outboxes.boxes refl refl refl (λ k. ap (λ (es : List (ℕ × Request)). lookup (nat_eq k) es) c.reserve-2.ensures.entries) refl);
+      shrinks = shrinks-same a.me.number a.log.items c.reserve.new.self.items a.shrinks c.self.invariant.shrinks c.reserve.ensures.items;
       places =
           let same : index_map_len c.reserve-2.new.self ≡ index_map_len a.requests = ap (λ (es : List (ℕ × Request)). length es) c.reserve-2.ensures.entries in
           omega (arith, c.self.invariant.places, same, c.reserve.ensures.len, c.reserve.ensures.capacity);
@@ -46,6 +48,7 @@ invariant_of-self-in_err-prepare c =
           subst (λ (log : List Entry). Follows a.ranks a.me.number log a.stopped c.prepare.new.self (get nat_eq c.reserve-2.new.self) a.faults a.communicators a.outboxes.boxes) (sym c.reserve.ensures.items)
           (follows_same a.ranks a.me.number a.log.items a.stopped a.matcher (get nat_eq a.requests) a.faults a.communicators a.outboxes.boxes c.self.invariant.follows
           c.prepare.new.self (get nat_eq c.reserve-2.new.self) a.outboxes.boxes c.prepare.ensures.waiting c.prepare.ensures.kept c.prepare.ensures.count (λ k. ap (λ (es : List (ℕ × Request)). lookup (nat_eq k) es) c.reserve-2.ensures.entries) refl);
+      shrinks = shrinks-same a.me.number a.log.items c.reserve.new.self.items a.shrinks c.self.invariant.shrinks c.reserve.ensures.items;
       places =
           let same : index_map_len c.reserve-2.new.self ≡ index_map_len a.requests = ap (λ (es : List (ℕ × Request)). length es) c.reserve-2.ensures.entries in
           omega (arith, c.self.invariant.places, same, c.reserve.ensures.len, c.reserve.ensures.capacity);
@@ -99,6 +102,7 @@ invariant_of-self-2 c =
     let a = c.self.inside in
     record {
       follows = subst (λ (log : List Entry). Follows a.ranks a.me.number log a.stopped c.admit-outcome.new.matcher (get nat_eq c.insert.new.self) a.faults a.communicators a.outboxes.boxes) (sym (longer c)) (done c);
+      shrinks = shrinks-logged a.me.number a.log.items c.push_reserved.new.self.items (Posted (pattern c)) a.shrinks c.self.invariant.shrinks (λ k. refl) (λ k r. refl) (longer c);
       places =
           let same : index_map_len c.reserve-2.new.self ≡ index_map_len a.requests = ap (λ (es : List (ℕ × Request)). length es) c.reserve-2.ensures.entries in
           let one = at_most_one (is_some c.in-Ok.field-0) in

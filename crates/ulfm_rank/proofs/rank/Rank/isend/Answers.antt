@@ -7,6 +7,7 @@ use Rattle.ulfm_rank.specs.declared.entry.Entry.TheVariants.{Sent}
 use Rattle.ulfm_rank.specs.Outboxes.{for_each}
 use Rattle.ulfm_rank.specs.State.{State, View}
 use Rattle.ulfm_rank.specs.Inside.{state_of}
+use Rattle.ulfm_rank.proofs.Entries.{shrinks-logged}
 use Rattle.ulfm_rank.proofs.Held.{marks-grown}
 use Rattle.ulfm_rank.proofs.Following.{follows_sent}
 use Rattle.ulfm_rank.proofs.Seen.{stop_places_few, state_logged}
@@ -20,6 +21,7 @@ invariant_of-self-2 c =
     let grows = rw (place, c.in_ok-reserve-2.ensures.boxes) at (c.leave.ensures (Mail letter)) in
     record {
       follows = rw now_log (follows_sent c.self.inside.ranks c.self.inside.me.number c.self.inside.log.items c.self.inside.stopped c.self.inside.matcher (get nat_eq c.self.inside.requests) c.self.inside.faults c.self.inside.communicators c.self.inside.outboxes.boxes c.self.invariant.follows c.in_ok-to.to letter c.leave.new.self.boxes grows);
+      shrinks = shrinks-logged c.self.inside.me.number c.self.inside.log.items c.push_reserved.new.self.items (Sent c.in_ok-to.to letter) c.self.inside.shrinks c.self.invariant.shrinks (λ k. refl) (λ k r. refl) now_log;
       places = omega (arith, c.in_ok-reserve.ensures.ok, c.push_reserved.ensures.len, c.push_reserved.ensures.capacity, c.len.ensures.len, stop_places_few c.self.inside.stopped);
     }
 

@@ -1,4 +1,4 @@
-use Rattle.std.proofs.Common.{rules, ◌≡◌, ◌++◌, ◌∷◌, [], ℕ, false, List, length, ap, sym, ◌∙◌, arith, nat_eq}
+use Rattle.std.proofs.Common.{rules, ◌≡◌, ◌++◌, ◌∷◌, [], ℕ, false, List, length, refl, ap, sym, ◌∙◌, arith, nat_eq}
 use Rattle.indexmap.specs.IndexMap.{get}
 use Rattle.ulfm_rank.specs.declared.entry.Entry.{Entry}
 use Rattle.ulfm_rank.specs.declared.entry.Entry.TheVariants.{Revoked}
@@ -6,6 +6,7 @@ use Rattle.ulfm_rank.specs.Facts.{is_revoked, is_gone}
 use Rattle.ulfm_rank.specs.Owed.{passed_on}
 use Rattle.ulfm_rank.specs.State.{State, View}
 use Rattle.ulfm_rank.specs.Inside.{state_of}
+use Rattle.ulfm_rank.proofs.Entries.{shrinks-logged}
 use Rattle.ulfm_rank.proofs.Held.{marks-grown}
 use Rattle.ulfm_rank.proofs.Following.{follows_revoked}
 use Rattle.ulfm_rank.proofs.Seen.{stop_places_few, state_logged}
@@ -24,6 +25,7 @@ invariant_of-self-2 c =
     let grows = rw (place, c.in_ok-reserve-2.ensures.boxes) at (c.forward.ensures c.self.inside.log.items knows first) in
     record {
       follows = rw now_log (follows_revoked c.self.inside.ranks c.self.inside.me.number c.self.inside.log.items c.self.inside.stopped c.self.inside.matcher (get nat_eq c.self.inside.requests) c.self.inside.faults c.self.inside.communicators c.self.inside.outboxes.boxes c.self.invariant.follows c.args.comm.context c.clear.new.matcher (get nat_eq c.clear.new.requests) c.revoke.new.self c.forward.new.outboxes.boxes first c.clear.ensures.tracks c.revoke.ensures.marks_this_context_alone c.revoke.ensures.known_stay c.revoke.ensures.totals_stay grows);
+      shrinks = shrinks-logged c.self.inside.me.number c.self.inside.log.items c.push_reserved.new.self.items (Revoked c.args.comm.context) c.self.inside.shrinks c.self.invariant.shrinks (λ k. refl) (λ k r. refl) now_log;
       places = omega (arith, c.in_ok-reserve.ensures.ok, c.push_reserved.ensures.len, c.push_reserved.ensures.capacity, c.len.ensures.len, c.clear.ensures.len, stop_places_few c.self.inside.stopped);
     }
 

@@ -1,4 +1,4 @@
-use Rattle.std.proofs.Common.{ℕ, ◌+◌, Bool, List, length, ap, sym, subst, arith, ◌∙◌}
+use Rattle.std.proofs.Common.{ℕ, ◌+◌, Bool, List, [], ◌∷◌, ◌++◌, length, ap, sym, subst, arith, ◌∙◌}
 use Rattle.std.specs.Prelude.{nat_eq, IsTrue, vec_len, vec_capacity}
 use Rattle.indexmap.specs.IndexMap.{get, index_map_len}
 use Rattle.ulfm_rank.specs.declared.entry.Entry.{Entry}
@@ -8,6 +8,7 @@ use Rattle.ulfm_rank.specs.Outboxes.{AllGrow}
 use Rattle.ulfm_rank.specs.Owed.{owed_by_item}
 use Rattle.ulfm_rank.specs.Requests.{TracksItem}
 use Rattle.ulfm_rank.specs.State.{View}
+use Rattle.ulfm_rank.proofs.Entries.{shrinks-same}
 use Rattle.ulfm_rank.proofs.Held.{marks-grown}
 use Rattle.ulfm_rank.proofs.InStep.{count_small}
 use Rattle.ulfm_rank.proofs.Known.{marked_before, knows_gone}
@@ -38,6 +39,7 @@ invariant_of-self c =
           subst (λ (log : List Entry). Follows a.ranks a.me.number log a.stopped c.settle.new.matcher (get nat_eq c.settle.new.requests) c.learn.new.faults a.communicators c.pass_on.new.outboxes.boxes) (sym c.push_reserved.ensures.items)
           (follows_took a.ranks a.me.number a.log.items a.stopped a.matcher (get nat_eq a.requests) a.faults a.communicators a.outboxes.boxes c.self.invariant.follows
           c.args.source c.args.item c.settle.new.matcher (get nat_eq c.settle.new.requests) c.learn.new.faults c.pass_on.new.outboxes.boxes tracks (c.learn.ensures a.log.items c.self.invariant.follows.faults) (grows c));
+      shrinks = shrinks-same a.me.number (a.log.items ++ Took c.args.source c.args.item ∷ []) c.push_reserved.new.self.items c.hear.new.self (c.hear.ensures a.log.items c.self.invariant.shrinks) c.push_reserved.ensures.items;
       places = omega (arith, room, c.settle.ensures.len, c.push_reserved.ensures.len, c.push_reserved.ensures.capacity);
     }
 

@@ -24,6 +24,7 @@ invariant_of-self c =
         communicators = c.self.invariant.follows.communicators;
         outboxes = outboxes-taken c.self.inside.ranks c.self.inside.me.number c.self.inside.log.items c.self.inside.outboxes c.take_next.new.outboxes c.args.dest c.take_next.result held inside (next held) c.take_next.ensures.taken (same held);
       };
+      shrinks = c.self.invariant.shrinks;
       places = c.self.invariant.places;
     }
 

@@ -1,4 +1,4 @@
-use Rattle.std.proofs.Common.{◌≡◌, ℕ, List, ap, sym, subst, arith, ◌∙◌, Some}
+use Rattle.std.proofs.Common.{◌≡◌, ℕ, List, refl, ap, sym, subst, arith, ◌∙◌, Some}
 use Rattle.std.specs.Prelude.{nat_eq}
 use Rattle.std.specs.Option.{is_some}
 use Rattle.indexmap.specs.IndexMap.{get, index_map_len}
@@ -7,6 +7,8 @@ use Rattle.ulfm_rank.specs.declared.entry.Entry.{Entry}
 use Rattle.ulfm_rank.specs.Answer.{IsTestAnswer, IsRequest}
 use Rattle.ulfm_rank.specs.Inside.{Follows}
 use Rattle.ulfm_rank.specs.State.{View}
+use Rattle.ulfm_rank.specs.declared.entry.Entry.TheVariants.{Released}
+use Rattle.ulfm_rank.proofs.Entries.{shrinks-logged}
 use Rattle.ulfm_rank.proofs.Answered.{is_request}
 use Rattle.ulfm_rank.proofs.Requested.{has_group, sender_found, answered}
 use Rattle.ulfm_rank.proofs.Whole.{follows_released, one_less}
@@ -32,6 +34,7 @@ invariant_of-self c =
           subst (λ (log : List Entry). Follows a.ranks a.me.number log a.stopped a.matcher (get nat_eq c.shift_remove.new.self) a.faults a.communicators a.outboxes.boxes) (sym c.push_reserved.ensures.items)
           (follows_released a.ranks a.me.number a.log.items a.stopped a.matcher (get nat_eq a.requests) a.faults a.communicators a.outboxes.boxes c.self.invariant.follows
           c.args.id c.answer_in-answer.result c.in-Some.request.now found (get nat_eq c.shift_remove.new.self) c.shift_remove.ensures.updates.0);
+      shrinks = shrinks-logged a.me.number a.log.items c.push_reserved.new.self.items (Released c.args.id c.answer_in-answer.result) a.shrinks c.self.invariant.shrinks (λ k. refl) (λ k r. refl) c.push_reserved.ensures.items;
       places = omega (arith, c.self.invariant.places, less, c.push_reserved.ensures.len, c.push_reserved.ensures.capacity);
     }
 

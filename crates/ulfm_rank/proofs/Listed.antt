@@ -1,0 +1,36 @@
+-- Who a rank lists in a shrink as its log grows.
+use Rattle.std.proofs.Common.{◌≡◌, ℕ, Bool, true, false, cond, List, [], ◌∷◌, ◌++◌, refl, ap, ◌∙◌, eq-eqb, Option, Some, None}
+use Rattle.std.specs.Prelude.{◌==◌, is_some}
+use Rattle.ulfm_base.specs.declared.rank_set.RankSet.{RankSet}
+use Rattle.ulfm_rank.specs.declared.entry.Entry.{Entry}
+use Rattle.ulfm_rank.specs.Log.{or_else, first_of}
+use Rattle.ulfm_rank.specs.Shrink.{entry_of, heard_of, has_entered, listed_of}
+
+pub or_none : {X : Type 0} (o : Option X) → or_else o None ≡ o
+or_none None = refl
+or_none (Some x) = refl
+
+or_assoc : {X : Type 0} (a b c : Option X) → or_else a (or_else b c) ≡ or_else (or_else a b) c
+or_assoc None b c = refl
+or_assoc (Some x) b c = refl
+
+pub first-push : {X : Type 0} (give : Entry → Option X) (log : List Entry) (e : Entry) → first_of give (log ++ e ∷ []) ≡ or_else (first_of give log) (give e)
+first-push give [] e = or_none (give e)
+first-push give (x ∷ log) e = ap (or_else (give x)) (first-push give log e) ∙ or_assoc (give x) (first_of give log) (give e)
+
+-- what an entry tells of the rank r
+abbrev pub told_of : ℕ → ℕ → ℕ → Entry → Option RankSet
+told_of me c r e = cond (r == me) (entry_of c e) (heard_of c r e)
+
+pub listed-push : (me : ℕ) (log : List Entry) (c r : ℕ) (e : Entry) → listed_of me (log ++ e ∷ []) c r ≡ or_else (listed_of me log c r) (told_of me c r e)
+listed-push me log c r e = pick (r == me)
+  where
+    pick : (b : Bool) → cond b (first_of (entry_of c) (log ++ e ∷ [])) (first_of (heard_of c r) (log ++ e ∷ [])) ≡ or_else (cond b (first_of (entry_of c) log) (first_of (heard_of c r) log)) (cond b (entry_of c e) (heard_of c r e))
+    pick true = first-push (entry_of c) log e
+    pick false = first-push (heard_of c r) log e
+
+pub entered-push : (log : List Entry) (c : ℕ) (e : Entry) → entry_of c e ≡ None → has_entered (log ++ e ∷ []) c ≡ has_entered log c
+entered-push log c e none = ap is_some (first-push (entry_of c) log e ∙ ap (or_else (first_of (entry_of c) log)) none ∙ or_none (first_of (entry_of c) log))
+
+pub listed-own : (me : ℕ) (log : List Entry) (c : ℕ) → listed_of me log c me ≡ first_of (entry_of c) log
+listed-own me log c = ap (λ (b : Bool). cond b (first_of (entry_of c) log) (first_of (heard_of c me) log)) (eq-eqb me me refl)

@@ -1,0 +1,22 @@
+use Rattle.std.proofs.Common.{◌≡◌, ◌<◌, eqb, refl, ap, arith, ◌∙◌}
+use Rattle.std.specs.Prelude.{◌&&◌, not}
+use Rattle.ulfm_base.specs.declared.item.Item.TheVariants.{Enter}
+use Rattle.ulfm_base.specs.Group.{is_member}
+use Rattle.ulfm_base.specs.RankSet.{has}
+use Rattle.ulfm_rank.specs.Communicators.{members_of}
+use Rattle.ulfm_rank.specs.Facts.{is_gone}
+use Rattle.ulfm_rank.specs.Outboxes.{for_each}
+use Rattle.ulfm_rank.specs.Owed.{entry_told}
+use Rattle.ulfm_rank.proofs.Held.{grows_alike}
+use Rattle.ulfm_rank.proofs.forwarding.announce.Goals as goal
+
+pub returns : goal.returns
+returns c = λ n log context knows members.
+    let told = c.leave_each.ensures (Enter context c.args.known) in
+    let to = has c.members_of_both.result in
+    grows_alike c.args.outboxes.now.boxes c.leave_each.new.self.boxes c.args.place (for_each to (Enter context c.args.known)) (entry_told n c.args.me log context c.args.known) told
+    (λ d h.
+    let small : d < 8 = omega (arith, h, told.size, c.requires.small) in
+    let same : to d ≡ (is_member (members_of n log context.number) d && (not (eqb c.args.me d) && not (is_gone log d))) =
+    c.members_of_both.ensures.inside d small ∙ ap (λ b. b && has c.told.result d) (members d) ∙ ap (λ b. is_member (members_of n log context.number) d && b) (c.told.ensures d small ∙ ap (λ b. not (eqb c.args.me d) && not b) (knows d)) in
+    rw same refl)

@@ -1,0 +1,15 @@
+use Rattle.std.proofs.Common.{◌≡◌, ◌∙◌, sym, ap, arith, cond, true, length-set, Bool, None}
+use Rattle.ulfm_base.specs.Decision.{entry_at}
+use Rattle.ulfm_base.specs.Group.{is_member}
+use Rattle.ulfm_rank.proofs.Proposing.{filled_more}
+use Rattle.ulfm_rank.proofs.proposal.entries_of.Goals as goal
+
+pub loop-number-preserved : goal.loop-number-preserved
+loop-number-preserved c =
+    let listed = c.loop-number.listed in
+    let number = c.loop-number.number in
+    let entry = entry_at c.args.entries.now number in
+    let member : is_member c.args.group.now number ≡ true = sym c.contains.ensures ∙ c.if-not-contains.false in (
+      length-set listed number entry ∙ c.loop-number.invariant.0,
+      filled_more (λ k. cond (is_member c.args.group.now k) (entry_at c.args.entries.now k) None) None listed number entry (omega (arith, c.loop-number-test.true, c.loop-number.invariant.0)) (ap (λ (b : Bool). cond b entry None) (sym member)) c.loop-number.invariant.1,
+    )

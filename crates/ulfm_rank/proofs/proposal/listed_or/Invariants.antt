@@ -1,0 +1,9 @@
+use Rattle.std.proofs.Common.{◌≡◌, ◌<◌, ◌≤◌, ℕ}
+use Rattle.std.specs.Prelude.{◌||◌}
+use Rattle.ulfm_base.specs.Decision.{is_listed}
+use Rattle.ulfm_base.specs.RankSet.{has}
+use Rattle.ulfm_rank.proofs.proposal.listed_or.Given as goal
+
+abbrev pub invariant-loop-number : goal.invariant-loop-number
+invariant-loop-number l =
+    ((k : ℕ) → k < l.number → has l.found k ≡ (is_listed l.listed k || has l.fn.set k)) × ((k : ℕ) → l.number ≤ k → has l.found k ≡ has l.fn.set k)

@@ -1,0 +1,12 @@
+use Rattle.std.proofs.Common.{sym, ◌∙◌}
+use Rattle.ulfm_rank.proofs.Entries.{shrinks-heard, shrinks-own, shrinks-other, apart_by, same_by, no_entry}
+use Rattle.ulfm_rank.proofs.shrinks.Shrinks.hear.Goals as goal
+
+pub returns-then-ne : goal.returns-then-ne
+returns-then-ne c = λ log held. rw c.in-Enter.is (shrinks-heard c.args.me.number log c.args.source c.in-Enter.context c.in-Enter.known c.args.self.now c.note.new.self held (apart_by c.args.source.number c.args.me.number (sym c.ne.ensures ∙ c.if-ne.true)) c.note.ensures)
+
+pub returns-else-ne : goal.returns-else-ne
+returns-else-ne c = λ log held. shrinks-own c.args.me.number log c.args.source c.args.item.now c.args.self.now held (same_by c.args.source.number c.args.me.number (sym c.ne.ensures ∙ c.if-ne.false))
+
+pub returns-in_default : goal.returns-in_default
+returns-in_default c = λ log held. shrinks-other c.args.me.number log c.args.source c.args.item.now c.args.self.now held (no_entry c.args.item.now c.in_default.not-Enter)
