@@ -1,0 +1,4 @@
+pub mod Drained
+pub mod Places
+pub mod Ranks
+pub mod Rings

@@ -1,0 +1,31 @@
+-- Lists looked up by place, after a write at one place.
+use Rattle.std.proofs.Common.{◌≡◌, ◌≢◌, ◌<◌, ℕ, zero, suc, List, [], ◌∷◌, length, map, set, get_or, Some, refl, ap, sym, ◌∙◌, arith, subst}
+use Rattle.std.specs.Prelude.{slice_get}
+use Rattle.std.specs.Option.{option_map}
+use Rattle.std.proofs.lemmas.List.{get_or-map, map-set, length-map, length-set, get_or-set_other, get_or-set_same}
+use Rattle.std.proofs.lemmas.Option.{slice_get-map, slice_get-get_or, slice_get_within, get_or_from_slice_get}
+use Rattle.ulfm_carrier.specs.Family.{at}
+
+-- a view of the element at k, where a list shows it
+pub at_view : {X Y : Type 0} (f : X → Y) (xs : List X) (k : ℕ) (x : X) → at xs k x → at (map f xs) k (f x)
+at_view f xs k x h = slice_get-map f xs k ∙ ap (option_map f) h
+
+pub at_read : {X : Type 0} (xs : List X) (k : ℕ) (x : X) → k < length xs → x ≡ get_or xs k x → at xs k x
+at_read xs k x low here = slice_get-get_or xs k x low ∙ ap Some (sym here)
+
+pub view_or : {X Y : Type 0} (f : X → Y) (xs : List X) (k : ℕ) (x : X) (d : Y) → at xs k x → get_or (map f xs) k d ≡ f x
+view_or f xs k x d h = get_or_from_slice_get (map f xs) k (f x) d (at_view f xs k x h)
+
+pub view_other : {X Y : Type 0} (f : X → Y) (xs : List X) (k p : ℕ) (x : X) (d : Y) → p ≢ k → get_or (map f (set xs k x)) p d ≡ get_or (map f xs) p d
+view_other f xs k p x d apart = ap (λ l. get_or l p d) (map-set f xs k x) ∙ get_or-set_other (map f xs) k p (f x) d apart
+
+pub view_here : {X Y : Type 0} (f : X → Y) (xs : List X) (k : ℕ) (x : X) (d : Y) → k < length xs → get_or (map f (set xs k x)) k d ≡ f x
+view_here f xs k x d low = ap (λ l. get_or l k d) (map-set f xs k x) ∙ get_or-set_same (map f xs) k (f x) d (subst (λ n. k < n) (sym (length-map xs f)) low)
+
+-- what holds of each element with its place still does after a write
+pub each_set : {X : Type 0} (P : ℕ → X → Type 0) (xs : List X) (k : ℕ) (x : X) → ((j : ℕ) (y : X) → at xs j y → P j y) → P k x → (j : ℕ) (y : X) → at (set xs k x) j y → P j y
+each_set P [] k x each here j y h = absurd (cc)
+each_set {X} P (z ∷ xs) zero x each here zero y h = let Q : X → Type 0 = P 0 in subst Q (cc) here
+each_set P (z ∷ xs) zero x each here (suc j) y h = each (suc j) y h
+each_set P (z ∷ xs) (suc k) x each here zero y h = each 0 y h
+each_set P (z ∷ xs) (suc k) x each here (suc j) y h = each_set (λ j. P (suc j)) xs k x (λ j y. each (suc j) y) here j y h

@@ -1,0 +1,4 @@
+pub mod Carried
+pub mod Family
+pub mod Lanes
+pub mod Tagged
