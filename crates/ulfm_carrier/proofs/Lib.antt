@@ -1,4 +1,9 @@
 pub mod Drained
+pub mod Faces
+pub mod Joined
 pub mod Places
 pub mod Ranks
 pub mod Rings
+pub mod Senders
+pub mod Steps
+pub mod Views

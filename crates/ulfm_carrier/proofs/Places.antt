@@ -1,5 +1,5 @@
 -- Lists looked up by place, after a write at one place.
-use Rattle.std.proofs.Common.{◌≡◌, ◌≢◌, ◌<◌, ℕ, zero, suc, List, [], ◌∷◌, length, map, set, get_or, Some, refl, ap, sym, ◌∙◌, arith, subst}
+use Rattle.std.proofs.Common.{◌≡◌, ◌≢◌, ◌<◌, ◌≤◌, ◌+◌, ℕ, zero, suc, List, [], ◌∷◌, length, map, set, get_or, Some, refl, ap, sym, ◌∙◌, arith, subst}
 use Rattle.std.specs.Prelude.{slice_get}
 use Rattle.std.specs.Option.{option_map}
 use Rattle.std.proofs.lemmas.List.{get_or-map, map-set, length-map, length-set, get_or-set_other, get_or-set_same}
@@ -29,3 +29,20 @@ each_set {X} P (z ∷ xs) zero x each here zero y h = let Q : X → Type 0 = P 0
 each_set P (z ∷ xs) zero x each here (suc j) y h = each (suc j) y h
 each_set P (z ∷ xs) (suc k) x each here zero y h = each 0 y h
 each_set P (z ∷ xs) (suc k) x each here (suc j) y h = each_set (λ j. P (suc j)) xs k x (λ j y. each (suc j) y) here j y h
+
+-- a write at k leaves the other places
+pub at_other : {X : Type 0} (xs : List X) (k j : ℕ) (x : X) → j ≢ k → slice_get (set xs k x) j ≡ slice_get xs j
+at_other [] k j x apart = refl
+at_other (y ∷ xs) zero zero x apart = absurd (apart refl)
+at_other (y ∷ xs) zero (suc j) x apart = refl
+at_other (y ∷ xs) (suc k) zero x apart = refl
+at_other (y ∷ xs) (suc k) (suc j) x apart = at_other xs k j x (λ e. apart (ap suc e))
+
+pub at_here : {X : Type 0} (xs : List X) (k : ℕ) (x : X) → k < length xs → at (set xs k x) k x
+at_here [] k x low = absurd (omega (arith, low))
+at_here (y ∷ xs) zero x low = refl
+at_here (y ∷ xs) (suc k) x low = at_here xs k x (omega (arith, low))
+
+-- what holds of each element past k still does after a write at k
+pub each_past : {X : Type 0} (P : ℕ → X → Type 0) (xs : List X) (k : ℕ) (x : X) → ((j : ℕ) (y : X) → k ≤ j → at xs j y → P j y) → (j : ℕ) (y : X) → k + 1 ≤ j → at (set xs k x) j y → P j y
+each_past P xs k x each j y past here = each j y (omega arith) (sym (at_other xs k j x (λ e. absurd (omega arith))) ∙ here)
