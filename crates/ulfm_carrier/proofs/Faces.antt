@@ -55,7 +55,7 @@ keeps_faces ends now same = record {
   taken_from = λ k e f there here p. ap (λ (x : Face). get_or x.taken p []) (same_at face now ends k f e same here there);
 }
 
-rings_view : (e f : LaneEnds) → view f ≡ view e → HasRings e → HasRings f
+pub rings_view : (e f : LaneEnds) → view f ≡ view e → HasRings e → HasRings f
 rings_view e f v r =
     let me = ap (λ (w : View). w.me.number) v in
     let outs : length f.outs.items ≡ length e.outs.items = sym (length-map f.outs.items outlet_name) ∙ ap (λ (w : View). length w.outs) v ∙ length-map e.outs.items outlet_name in

@@ -1,5 +1,6 @@
 pub mod Drained
 pub mod Faces
+pub mod Gathered
 pub mod Joined
 pub mod Places
 pub mod Ranks

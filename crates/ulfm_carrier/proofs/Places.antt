@@ -1,5 +1,5 @@
 -- Lists looked up by place, after a write at one place.
-use Rattle.std.proofs.Common.{◌≡◌, ◌≢◌, ◌<◌, ◌≤◌, ◌+◌, ℕ, zero, suc, List, [], ◌∷◌, length, map, set, get_or, Some, refl, ap, sym, ◌∙◌, arith, subst}
+use Rattle.std.proofs.Common.{◌≡◌, ◌≢◌, ◌<◌, ◌≤◌, ◌+◌, ◌⊎◌, inl, inr, ◌++◌, ℕ, zero, suc, List, [], ◌∷◌, length, map, set, get_or, Some, refl, ap, sym, ◌∙◌, arith, subst}
 use Rattle.std.specs.Prelude.{slice_get}
 use Rattle.std.specs.Option.{option_map}
 use Rattle.std.proofs.lemmas.List.{get_or-map, map-set, length-map, length-set, get_or-set_other, get_or-set_same}
@@ -46,3 +46,9 @@ at_here (y ∷ xs) (suc k) x low = at_here xs k x (omega (arith, low))
 -- what holds of each element past k still does after a write at k
 pub each_past : {X : Type 0} (P : ℕ → X → Type 0) (xs : List X) (k : ℕ) (x : X) → ((j : ℕ) (y : X) → k ≤ j → at xs j y → P j y) → (j : ℕ) (y : X) → k + 1 ≤ j → at (set xs k x) j y → P j y
 each_past P xs k x each j y past here = each j y (omega arith) (sym (at_other xs k j x (λ e. absurd (omega arith))) ∙ here)
+
+pub at_push : {X : Type 0} (xs : List X) (x : X) (j : ℕ) (y : X) → at (xs ++ x ∷ []) j y → ((j < length xs) × at xs j y) ⊎ ((j ≡ length xs) × (y ≡ x))
+at_push [] x zero y here = inr (refl, cc)
+at_push [] x (suc j) y here = absurd (cc)
+at_push (z ∷ xs) x zero y here = inl (omega arith, here)
+at_push (z ∷ xs) x (suc j) y here = elim (at_push xs x j y here) [ inl h ↦ inl (let a = h.0 in omega arith, h.1) | inr h ↦ inr (ap suc h.0, h.1) ]
