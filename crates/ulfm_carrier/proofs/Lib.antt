@@ -8,3 +8,5 @@ pub mod Rings
 pub mod Senders
 pub mod Steps
 pub mod Views
+pub mod Wired
+pub mod Wires

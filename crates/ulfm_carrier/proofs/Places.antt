@@ -52,3 +52,23 @@ at_push [] x zero y here = inr (refl, cc)
 at_push [] x (suc j) y here = absurd (cc)
 at_push (z ∷ xs) x zero y here = inl (omega arith, here)
 at_push (z ∷ xs) x (suc j) y here = elim (at_push xs x j y here) [ inl h ↦ inl (let a = h.0 in omega arith, h.1) | inr h ↦ inr (ap suc h.0, h.1) ]
+
+-- after a write at k there stands what was written at k, and else what stood there
+pub at_set : {X : Type 0} (xs : List X) (k : ℕ) (x : X) (j : ℕ) (y : X) → at (set xs k x) j y → ((j ≡ k) × (y ≡ x)) ⊎ ((j ≢ k) × at xs j y)
+at_set [] k x j y here = absurd (cc)
+at_set (z ∷ xs) zero x zero y here = inl (refl, cc)
+at_set (z ∷ xs) zero x (suc j) y here = inr (λ e. absurd (omega (arith, e)), here)
+at_set (z ∷ xs) (suc k) x zero y here = inr (λ e. absurd (omega (arith, e)), here)
+at_set (z ∷ xs) (suc k) x (suc j) y here = elim (at_set xs k x j y here) [ inl h ↦ inl (ap suc h.0, h.1) | inr h ↦ inr (λ e. h.0 (omega (arith, e)), h.1) ]
+
+pub view_pushed : {X Y : Type 0} (f : X → Y) (xs : List X) (x : X) (k : ℕ) → length xs ≡ k → slice_get (map f (xs ++ x ∷ [])) k ≡ Some (f x)
+view_pushed f [] x zero many = refl
+view_pushed f [] x (suc k) many = absurd (omega (arith, many))
+view_pushed f (y ∷ xs) x zero many = absurd (omega (arith, many))
+view_pushed f (y ∷ xs) x (suc k) many = view_pushed f xs x k (omega (arith, many))
+
+pub view_unpushed : {X Y : Type 0} (f : X → Y) (xs : List X) (x : X) (k : ℕ) → k ≢ length xs → slice_get (map f (xs ++ x ∷ [])) k ≡ slice_get (map f xs) k
+view_unpushed f [] x zero apart = absurd (apart refl)
+view_unpushed f [] x (suc k) apart = refl
+view_unpushed f (y ∷ xs) x zero apart = refl
+view_unpushed f (y ∷ xs) x (suc k) apart = view_unpushed f xs x k (λ e. apart (ap suc e))

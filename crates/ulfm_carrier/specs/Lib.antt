@@ -2,3 +2,4 @@ pub mod Carried
 pub mod Family
 pub mod Lanes
 pub mod Tagged
+pub mod Wiring

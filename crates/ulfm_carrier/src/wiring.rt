@@ -1,8 +1,9 @@
 //! A ring for each ordered pair of ranks.
-ghost use Rattle.std.specs.Prelude.{◌≡◌, ◌<◌, ◌≤◌, ◌⊎◌, ℕ, map, vec_len, IfOk, IfErr, OnOk};
+ghost use Rattle.std.specs.Prelude.{◌≡◌, ◌<◌, ◌≤◌, ◌+◌, ◌⊎◌, ℕ, map, vec_len, IfOk, IfErr, OnOk};
 ghost use Rattle.ulfm_carrier.specs.declared.lane_ends.LaneEnds.{LaneEnds as Lanes};
 ghost use Rattle.ulfm_carrier.specs.Family.{at, InPlace, AllFresh};
 ghost use Rattle.ulfm_carrier.specs.Lanes.{lane_name, lane_pushed, lane_taken, known_room, IsReady, OneCall};
+ghost use Rattle.ulfm_carrier.specs.Wiring.{AreWired};
 
 use crate::inlet::Inlet;
 use crate::lane_ends::LaneEnds;
@@ -35,18 +36,22 @@ pub fn lanes(alloc: Global, n: u8, capacity: u8) -> Result<Vec<LaneEnds>, CallEr
     Ok(ends)
 }
 
-/// Ends with no ring yet, with room for what will be left.
+/// Ends with no ring yet, and with room for what will be left.
 fn unconnected(alloc: Global, n: u8, capacity: u8) -> Result<Vec<LaneEnds>, CallError>
+    requires { n ≤ 8 }
+    ensures wired { IfOk result (λ ends. AreWired n capacity 0 0 ends.items) }
+    ensures refused { IfErr result (λ error. error ≡ CallError.OutOfMemory) }
 {
-    let mut ends = Vec::with_capacity(alloc, n as usize)?;
+    let count = n as usize;
+    let mut ends = Vec::with_capacity(alloc, count)?;
     for number in 0..n {
         ends.push(LaneEnds {
             me: WorldRank { number },
-            outs: Vec::new(alloc),
-            ins: Vec::new(alloc),
+            outs: Vec::with_capacity(alloc, count)?,
+            ins: Vec::with_capacity(alloc, count)?,
             next: 0,
-            left: Vec::with_capacity(alloc, n as usize * capacity as usize)?,
-            inboxes: Vec::with_capacity(alloc, n as usize)?,
+            left: Vec::with_capacity(alloc, count * capacity as usize)?,
+            inboxes: Vec::with_capacity(alloc, count)?,
         })?;
     }
     Ok(ends)
@@ -54,14 +59,32 @@ fn unconnected(alloc: Global, n: u8, capacity: u8) -> Result<Vec<LaneEnds>, Call
 
 /// Makes the rings from one rank to each.
 fn connect(ends: &mut Vec<LaneEnds>, source: WorldRank, capacity: u8) -> Result<(), CallError>
+    requires source { source.number < vec_len ends.old }
+    requires wired { AreWired (vec_len ends.old) capacity source.number 0 ends.old.items }
+    ensures wired { OnOk result (AreWired (vec_len ends.old) capacity (source.number + 1) 0 ends.new.items) }
+    ensures len { vec_len ends.new ≡ vec_len ends.old }
+    ensures refused { IfErr result (λ error. error ≡ CallError.OutOfMemory) }
+{
+    for dest in 0..ends.len() {
+        join(ends, source, dest, capacity)?;
+    }
+    Ok(())
+}
+
+/// Makes the ring from one rank to another.
+fn join(ends: &mut Vec<LaneEnds>, source: WorldRank, dest: usize, capacity: u8) -> Result<(), CallError>
+    requires source { source.number < vec_len ends.old }
+    requires dest { dest < vec_len ends.old }
+    requires wired { AreWired (vec_len ends.old) capacity source.number dest ends.old.items }
+    ensures wired { OnOk result (AreWired (vec_len ends.old) capacity source.number (dest + 1) ends.new.items) }
+    ensures len { vec_len ends.new ≡ vec_len ends.old }
+    ensures refused { IfErr result (λ error. error ≡ CallError.OutOfMemory) }
 {
     let alloc = *ends.allocator();
-    for dest in 0..ends.len() {
-        let (out, ring) = RingBuffer::new(alloc, capacity as usize)?;
-        let sender = &mut ends[source.number as usize];
-        sender.outs.push(out)?;
-        let receiver = &mut ends[dest];
-        receiver.ins.push(Inlet::new(source, ring))?;
-    }
+    let (out, ring) = RingBuffer::new(alloc, capacity as usize)?;
+    let sender = &mut ends[source.number as usize];
+    sender.outs.push(out)?;
+    let receiver = &mut ends[dest];
+    receiver.ins.push(Inlet::new(source, ring))?;
     Ok(())
 }
