@@ -8,5 +8,6 @@ pub mod Rings
 pub mod Senders
 pub mod Steps
 pub mod Views
+pub mod Whole
 pub mod Wired
 pub mod Wires
