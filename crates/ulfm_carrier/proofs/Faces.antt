@@ -36,7 +36,6 @@ faces_back ends now k e out f here same back =
     map-set face now k f ∙ ap (λ l. set l k (face f)) (of_views face_of now (set ends k out) same) ∙ ap (λ x. set (map face (set ends k out)) k x) back ∙ sym (map-set face (set ends k out) k e)
     ∙ ap (map face) (set-set ends k out e ∙ ap (set ends k) here ∙ set-get_or ends k e)
 
-
 -- an end gets back what was taken out of it: contracts see it as before
 pub face_back : (e out emptied last : LaneEnds) (ends now : List LaneEnds) (k : ℕ) → k < length ends → map view now ≡ map view (set ends k out) → emptied ≡ get_or now k emptied → out.me ≡ e.me → out.outs ≡ e.outs → last.me ≡ emptied.me → last.outs ≡ emptied.outs
     → map inlet_name last.ins.items ≡ map inlet_name e.ins.items → map taken_by last.ins.items ≡ map taken_by e.ins.items → face last ≡ face e

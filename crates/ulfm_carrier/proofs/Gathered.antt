@@ -46,7 +46,7 @@ flows_before ends now d inbox h flows s sender receiver at_s at_d =
 -- what holds of each element with its place still does with one more
 pub each_push : {X : Type 0} (P : ℕ → X → Type 0) (xs : List X) (x : X) (k : ℕ) → length xs ≡ k → ((j : ℕ) (y : X) → at xs j y → P j y) → P k x → (j : ℕ) (y : X) → at (xs ++ x ∷ []) j y → P j y
 each_push {X} P xs x k many each here j y is = elim (at_push xs x j y is) [
-  inl h ↦ each j y h.1
+  | inl h ↦ each j y h.1
   | inr h ↦ let Q : ℕ → Type 0 = λ n. P n y in let R : X → Type 0 = P k in subst Q (sym many ∙ sym h.0) (subst R (sym h.1) here)
 ]
 

@@ -64,8 +64,8 @@ ready_ins e f k i j me outs left inboxes ins here capacity is_open r =
         live = λ p x at_p. each_set IsOpen e.ins.items k j rings.live is_open p x (subst (λ l. at l p x) ins at_p);
         empty = ap (λ v. v.items) left ∙ rings.empty;
         room =
-          let a : sum (map inlet_capacity f.ins.items) ≡ sum (map inlet_capacity e.ins.items) = ap (λ l. sum (map inlet_capacity l)) ins ∙ ap sum (map-set_same inlet_capacity e.ins.items k j i (capacity ∙ ap inlet_capacity here)) in
-          let b = ap (λ v. vec_capacity v) left in let h = rings.room in omega arith;
+            let a : sum (map inlet_capacity f.ins.items) ≡ sum (map inlet_capacity e.ins.items) = ap (λ l. sum (map inlet_capacity l)) ins ∙ ap sum (map-set_same inlet_capacity e.ins.items k j i (capacity ∙ ap inlet_capacity here)) in
+            let b = ap (λ v. vec_capacity v) left in let h = rings.room in omega arith;
       };
       no_inbox = ap (λ v. v.items) inboxes ∙ r.no_inbox;
       inbox_for_each = let b = ap (λ v. vec_capacity v) inboxes in let h = r.inbox_for_each in omega arith;

@@ -30,9 +30,9 @@ module _ (source : WorldRank) (from : ℕ) (is : source.number ≡ from) (old ne
 
   pub left_below : (sent taken : ℕ → List Item) → sent from ≡ taken from ++ rest → ((s : ℕ) → s < from → sent s ≡ taken s ++ items_from s old) → (s : ℕ) → s < from + 1 → sent s ≡ taken s ++ items_from s new
   left_below sent taken own below s low = elim (cases_eq s from) [
-    inl e ↦
-    let here : items_from from new ≡ rest =
-    ap (items_from from) more ∙ items-append from old (map (with_sender source) rest) ∙ ap (λ l. l ++ items_from from (map (with_sender source) rest)) (none from (omega arith)) ∙ items_own source from rest is in
-    let P : ℕ → Type 0 = λ s. sent s ≡ taken s ++ items_from s new in subst P (sym e) (own ∙ ap (λ l. taken from ++ l) (sym here))
+    | inl e ↦
+        let here : items_from from new ≡ rest =
+        ap (items_from from) more ∙ items-append from old (map (with_sender source) rest) ∙ ap (λ l. l ++ items_from from (map (with_sender source) rest)) (none from (omega arith)) ∙ items_own source from rest is in
+        let P : ℕ → Type 0 = λ s. sent s ≡ taken s ++ items_from s new in subst P (sym e) (own ∙ ap (λ l. taken from ++ l) (sym here))
     | inr apart ↦ below s (let m : s ≢ from = apart in omega arith) ∙ ap (λ l. taken s ++ l) (sym (other s apart))
   ]

@@ -52,12 +52,12 @@ module _ (n capacity : ℕ) (ends : List LaneEnds) (w : AreWired n capacity n 0 
     some = omega (arith, many);
     placed = λ i x here. let e = at_map lane_name ends i x here in ap (λ (y : LaneName). y.place) e.2 ∙ (w.each i e.0 e.1).number;
     outs = λ i x here.
-      let e = at_map lane_name ends i x here in ap (λ (y : LaneName). length y.outs) e.2 ∙ length-map e.0.outs.items outlet_name ∙ outs_all i e.0 e.1 ∙ sym many;
+        let e = at_map lane_name ends i x here in ap (λ (y : LaneName). length y.outs) e.2 ∙ length-map e.0.outs.items outlet_name ∙ outs_all i e.0 e.1 ∙ sym many;
     ins = λ i x here. let e = at_map lane_name ends i x here in ap (λ (y : LaneName). length y.ins) e.2 ∙ length-map e.0.ins.items inlet_name ∙ ins_all i e.0 e.1 ∙ sym many;
     joined = λ i j x y at_i at_j.
-      let a = at_map lane_name ends i x at_i in
-      let b = at_map lane_name ends j y at_j in
-      ap (λ (v : LaneName). slice_get v.outs j) a.2 ∙ w.joined i j a.0 b.0 a.1 b.1 ∙ sym (ap (λ (v : LaneName). slice_get v.ins i) b.2);
+        let a = at_map lane_name ends i x at_i in
+        let b = at_map lane_name ends j y at_j in
+        ap (λ (v : LaneName). slice_get v.outs j) a.2 ∙ w.joined i j a.0 b.0 a.1 b.1 ∙ sym (ap (λ (v : LaneName). slice_get v.ins i) b.2);
   }
 
   ready : n ≤ 8 → (k : ℕ) (e : LaneEnds) → at ends k e → IsReady e

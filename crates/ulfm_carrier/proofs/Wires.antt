@@ -39,46 +39,46 @@ module _ (ends : List LaneEnds) (s d : ℕ) (out : Outlet) (inlet : Inlet) (low_
 
   sends : (k : ℕ) (f : LaneEnds) → at (set ends s sent) k f → (e : LaneEnds) × at ends k e × Sends k e f
   sends k f here = elim (at_set ends s sent k f here) [
-    inl h ↦
-    let is = h.1 in (
-      sender,
-      (let A : ℕ → Type 0 = λ n. at ends n sender in subst A (sym h.0) (at_read ends s sender low_s here_s)),
-      record {
-        me = ap (λ (e : LaneEnds). e.me) is ∙ me_s;
-        left = ap (λ (e : LaneEnds). e.left) is ∙ left_s;
-        inboxes = ap (λ (e : LaneEnds). e.inboxes) is ∙ inboxes_s;
-        ins = ap (λ (e : LaneEnds). e.ins) is ∙ ins_s;
-        outs_here = λ _. ap (λ (e : LaneEnds). e.outs.items) is ∙ outs_s;
-        outs_other = λ apart. absurd (apart h.0);
-      },
-    )
+    | inl h ↦
+        let is = h.1 in (
+          sender,
+          (let A : ℕ → Type 0 = λ n. at ends n sender in subst A (sym h.0) (at_read ends s sender low_s here_s)),
+          record {
+            me = ap (λ (e : LaneEnds). e.me) is ∙ me_s;
+            left = ap (λ (e : LaneEnds). e.left) is ∙ left_s;
+            inboxes = ap (λ (e : LaneEnds). e.inboxes) is ∙ inboxes_s;
+            ins = ap (λ (e : LaneEnds). e.ins) is ∙ ins_s;
+            outs_here = λ _. ap (λ (e : LaneEnds). e.outs.items) is ∙ outs_s;
+            outs_other = λ apart. absurd (apart h.0);
+          },
+        )
     | inr h ↦ (f, h.1, record { me = refl; left = refl; inboxes = refl; ins = refl; outs_here = λ same. absurd (h.0 same); outs_other = λ _. refl })
   ]
 
   pub adds : (k : ℕ) (f : LaneEnds) → at (set (set ends s sent) d received) k f → (e : LaneEnds) × at ends k e × Adds s d k out inlet e f
   adds k f here = elim (at_set (set ends s sent) d received k f here) [
-    inl h ↦
-    let is = h.1 in
-    let low : d < length (set ends s sent) = omega (arith, low_d, length-set ends s sent) in
-    let first = sends k receiver (let A : ℕ → Type 0 = λ n. at (set ends s sent) n receiver in subst A (sym h.0) (at_read (set ends s sent) d receiver low here_d)) in
-    let w = first.2 in (
-      first.0,
-      first.1,
-      record {
-        me = ap (λ (e : LaneEnds). e.me) is ∙ me_d ∙ w.me;
-        left = ap (λ (e : LaneEnds). e.left) is ∙ left_d ∙ w.left;
-        inboxes = ap (λ (e : LaneEnds). e.inboxes) is ∙ inboxes_d ∙ w.inboxes;
-        outs_here = λ same. ap (λ (e : LaneEnds). e.outs.items) is ∙ ap (λ v. v.items) outs_d ∙ w.outs_here same;
-        outs_other = λ apart. ap (λ (e : LaneEnds). e.outs.items) is ∙ ap (λ v. v.items) outs_d ∙ w.outs_other apart;
-        ins_here = λ _. ap (λ (e : LaneEnds). e.ins.items) is ∙ ins_d ∙ ap (λ v. v.items ++ inlet ∷ []) w.ins;
-        ins_other = λ apart. absurd (apart h.0);
-      },
-    )
+    | inl h ↦
+        let is = h.1 in
+        let low : d < length (set ends s sent) = omega (arith, low_d, length-set ends s sent) in
+        let first = sends k receiver (let A : ℕ → Type 0 = λ n. at (set ends s sent) n receiver in subst A (sym h.0) (at_read (set ends s sent) d receiver low here_d)) in
+        let w = first.2 in (
+          first.0,
+          first.1,
+          record {
+            me = ap (λ (e : LaneEnds). e.me) is ∙ me_d ∙ w.me;
+            left = ap (λ (e : LaneEnds). e.left) is ∙ left_d ∙ w.left;
+            inboxes = ap (λ (e : LaneEnds). e.inboxes) is ∙ inboxes_d ∙ w.inboxes;
+            outs_here = λ same. ap (λ (e : LaneEnds). e.outs.items) is ∙ ap (λ v. v.items) outs_d ∙ w.outs_here same;
+            outs_other = λ apart. ap (λ (e : LaneEnds). e.outs.items) is ∙ ap (λ v. v.items) outs_d ∙ w.outs_other apart;
+            ins_here = λ _. ap (λ (e : LaneEnds). e.ins.items) is ∙ ins_d ∙ ap (λ v. v.items ++ inlet ∷ []) w.ins;
+            ins_other = λ apart. absurd (apart h.0);
+          },
+        )
     | inr h ↦
-    let first = sends k f h.1 in
-    let w = first.2 in (
-      first.0,
-      first.1,
-      record { me = w.me; left = w.left; inboxes = w.inboxes; outs_here = w.outs_here; outs_other = w.outs_other; ins_here = λ same. absurd (h.0 same); ins_other = λ _. ap (λ v. v.items) w.ins },
-    )
+        let first = sends k f h.1 in
+        let w = first.2 in (
+          first.0,
+          first.1,
+          record { me = w.me; left = w.left; inboxes = w.inboxes; outs_here = w.outs_here; outs_other = w.outs_other; ins_here = λ same. absurd (h.0 same); ins_other = λ _. ap (λ v. v.items) w.ins },
+        )
   ]

@@ -72,7 +72,12 @@ fn connect(ends: &mut Vec<LaneEnds>, source: WorldRank, capacity: u8) -> Result<
 }
 
 /// Makes the ring from one rank to another.
-fn join(ends: &mut Vec<LaneEnds>, source: WorldRank, dest: usize, capacity: u8) -> Result<(), CallError>
+fn join(
+    ends: &mut Vec<LaneEnds>,
+    source: WorldRank,
+    dest: usize,
+    capacity: u8,
+) -> Result<(), CallError>
     requires source { source.number < vec_len ends.old }
     requires dest { dest < vec_len ends.old }
     requires wired { AreWired (vec_len ends.old) capacity source.number dest ends.old.items }

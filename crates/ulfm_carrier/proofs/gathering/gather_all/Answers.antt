@@ -41,15 +41,15 @@ loop-place-preserved c =
     let more = c.push_reserved.ensures.items in record {
       same = keeps_twice all now later kept.same made.same;
       rings = λ k f past here.
-        let low : k < length now = omega (arith, as_many lane_name later now made.same.names, slice_get_within later k f here) in
-        let e = get_or now k f in
-        let there = slice_get-get_or now k f low in
-        made.others k e f (λ same. absurd (omega arith)) there here (kept.rings k e (omega arith) there);
+          let low : k < length now = omega (arith, as_many lane_name later now made.same.names, slice_get_within later k f here) in
+          let e = get_or now k f in
+          let there = slice_get-get_or now k f low in
+          made.others k e f (λ same. absurd (omega arith)) there here (kept.rings k e (omega arith) there);
       many = ap length more ∙ length_push c.loop-place.inboxes.items left ∙ ap (λ n. n + 1) kept.many;
       room = omega (arith, kept.room, c.push_reserved.ensures.capacity);
       flows = λ d inbox here.
-        each_push (FlowsTo all) c.loop-place.inboxes.items left place kept.many kept.flows (flows_before all now place left kept.same made.left) d inbox (subst (λ l. at l d inbox) more here);
+          each_push (FlowsTo all) c.loop-place.inboxes.items left place kept.many kept.flows (flows_before all now place left kept.same made.left) d inbox (subst (λ l. at l d inbox) more here);
       no_others = λ d inbox here.
-        each_push (NoOthers all) c.loop-place.inboxes.items left place kept.many kept.no_others
-            (λ s past. made.no_others s (omega (arith, as_many lane_name now all kept.same.names, c.loop-place.ends.ok))) d inbox (subst (λ l. at l d inbox) more here);
+          each_push (NoOthers all) c.loop-place.inboxes.items left place kept.many kept.no_others
+          (λ s past. made.no_others s (omega (arith, as_many lane_name now all kept.same.names, c.loop-place.ends.ok))) d inbox (subst (λ l. at l d inbox) more here);
     }

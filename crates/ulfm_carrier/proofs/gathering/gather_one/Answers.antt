@@ -123,16 +123,16 @@ returns-clause-same c =
 
 pub returns-clause-others : goal.returns-clause-others
 returns-clause-others c = λ k e f apart there here rings.
-  rings_back c.args.ends.now.items c.loop-from.ends.items c.args.place k _ _ e f c.loop-from.invariant.ends apart there here rings
+    rings_back c.args.ends.now.items c.loop-from.ends.items c.args.place k _ _ e f c.loop-from.invariant.ends apart there here rings
 
 pub returns-clause-left : goal.returns-clause-left
 returns-clause-left c = λ s sender receiver at_s at_place.
-  let all = c.args.ends.now.items in
-  let first = c.index_mut-receiver.result.now in
-  let place : c.args.place < length all = omega (arith, c.requires.place, c.args.ends.now.ok) in
-  let there = at_read all c.args.place first place c.index_mut-receiver.ensures.value in
-  let low : s < c.loop-from.from = omega (arith, slice_get_within all s sender at_s, c.loop-from-test.false, c.len-from-end.ensures, c.args.ends.now.ok) in
-  let both : Some first ≡ Some receiver = sym there ∙ at_place in
-  let same : first ≡ receiver = cc in
-  sym (view_or (λ e. lane_pushed e c.args.place) all s sender [] at_s) ∙ c.loop-from.invariant.left s low
-      ∙ ap (λ l. l ++ items_from s c.loop-from.left.items) (ap (λ v. get_or (map taken_by v.items) s []) c.replace-ins.ensures.value ∙ ap (λ (e : LaneEnds). lane_taken e s) same)
+    let all = c.args.ends.now.items in
+    let first = c.index_mut-receiver.result.now in
+    let place : c.args.place < length all = omega (arith, c.requires.place, c.args.ends.now.ok) in
+    let there = at_read all c.args.place first place c.index_mut-receiver.ensures.value in
+    let low : s < c.loop-from.from = omega (arith, slice_get_within all s sender at_s, c.loop-from-test.false, c.len-from-end.ensures, c.args.ends.now.ok) in
+    let both : Some first ≡ Some receiver = sym there ∙ at_place in
+    let same : first ≡ receiver = cc in
+    sym (view_or (λ e. lane_pushed e c.args.place) all s sender [] at_s) ∙ c.loop-from.invariant.left s low
+    ∙ ap (λ l. l ++ items_from s c.loop-from.left.items) (ap (λ v. get_or (map taken_by v.items) s []) c.replace-ins.ensures.value ∙ ap (λ (e : LaneEnds). lane_taken e s) same)

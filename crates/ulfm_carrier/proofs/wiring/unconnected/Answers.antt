@@ -18,21 +18,21 @@ loop-number-preserved c =
     let kept = c.loop-number.invariant in record {
       many = ap length more ∙ length_push c.loop-number.ends.items _ ∙ ap (λ m. m + 1) kept.many;
       each = λ k e here.
-        each_push (IsWired c.args.n c.args.capacity 0 0) c.loop-number.ends.items _ c.loop-number.number kept.many kept.each
-            (record {
-              number = refl;
-              outs_below = λ below. absurd (omega (arith, below));
-              outs_here = λ _. ap length outs.items;
-              outs_above = λ _. outs.items;
-              ins_below = λ below. absurd (omega (arith, below));
-              ins_above = λ _. ap length ins.items;
-              new_outs = λ j p there. absurd (none_at _ j p (ap length outs.items) there);
-              new_ins = λ j i there. absurd (none_at _ j i (ap length ins.items) there);
-              nothing_left = left.items;
-              room = room;
-              no_inbox = inboxes.items;
-              inbox_for_each = places;
-            }) k e (subst (λ l. at l k e) more here);
+          each_push (IsWired c.args.n c.args.capacity 0 0) c.loop-number.ends.items _ c.loop-number.number kept.many kept.each
+          (record {
+            number = refl;
+            outs_below = λ below. absurd (omega (arith, below));
+            outs_here = λ _. ap length outs.items;
+            outs_above = λ _. outs.items;
+            ins_below = λ below. absurd (omega (arith, below));
+            ins_above = λ _. ap length ins.items;
+            new_outs = λ j p there. absurd (none_at _ j p (ap length outs.items) there);
+            new_ins = λ j i there. absurd (none_at _ j i (ap length ins.items) there);
+            nothing_left = left.items;
+            room = room;
+            no_inbox = inboxes.items;
+            inbox_for_each = places;
+          }) k e (subst (λ l. at l k e) more here);
       alone = λ k e here.
-        each_push (λ _ (x : LaneEnds). (x.outs.items ≡ []) × (x.ins.items ≡ [])) c.loop-number.ends.items _ c.loop-number.number kept.many kept.alone (outs.items, ins.items) k e (subst (λ l. at l k e) more here);
+          each_push (λ _ (x : LaneEnds). (x.outs.items ≡ []) × (x.ins.items ≡ [])) c.loop-number.ends.items _ c.loop-number.number kept.many kept.alone (outs.items, ins.items) k e (subst (λ l. at l k e) more here);
     }

@@ -12,7 +12,7 @@ returns-clause-left c =
     let ahead = known_items looked in (
       map (item_of inlet.source) ahead,
       sent_rest inlet.source inlet.gathered (sent c.args.out.now) (sent c.slots_beside-count.new.producer) (received inlet.ring) (received looked) ahead c.requires.live c.slots_beside-count.ensures.producer.1
-      c.slots_beside-count.ensures.looked.1 c.slots_beside-count.ensures.fifo,
+          c.slots_beside-count.ensures.looked.1 c.slots_beside-count.ensures.fifo,
       all_moved (signed inlet.source) c.loop.left.items _ (known_items c.loop.self.ring) (omega (arith, c.loop.invariant.count, c.loop-test.false)) c.loop.invariant.left
           ∙ ap (λ l. c.args.left.now.items ++ l) (tagged_twice inlet.source ahead),
     )
