@@ -7,6 +7,8 @@ pub mod Ranks
 pub mod Rings
 pub mod Senders
 pub mod Steps
+pub mod Together
+pub mod Turns
 pub mod Views
 pub mod Whole
 pub mod Wired

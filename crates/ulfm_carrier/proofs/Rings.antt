@@ -1,17 +1,16 @@
 -- One ring of an end is written.
-use Rattle.std.proofs.Common.{◌≡◌, ◌≢◌, ◌<◌, ◌≤◌, ℕ, Option, None, Some, MatchOption, List, [], ◌∷◌, ◌++◌, length, map, set, get_or, sum, vec_capacity, refl, ap, sym, ◌∙◌, arith, subst}
+use Rattle.std.proofs.Common.{◌≡◌, ◌<◌, ℕ, Option, None, Some, MatchOption, List, [], ◌∷◌, ◌++◌, length, map, set, get_or, sum, vec_capacity, ap, sym, ◌∙◌, arith, subst}
 use Rattle.std.proofs.lemmas.List.{map-append, length-set}
 use Rattle.std.proofs.Math.Seq.{map-set_same}
-use Rattle.rtrb.specs.Ring.{sent, known_free, SameProducer}
+use Rattle.rtrb.specs.Ring.{sent, SameProducer}
 use Rattle.ulfm_base.specs.declared.rank.WorldRank.{WorldRank}
 use Rattle.ulfm_base.specs.declared.item.Item.{Item}
 use Rattle.ulfm_carrier.specs.declared.inlet.Inlet.{Inlet}
-use Rattle.ulfm_carrier.specs.declared.lane_ends.RingName.{RingName}
 use Rattle.ulfm_carrier.specs.declared.lane_ends.LaneEnds.{LaneEnds}
 use Rattle.ulfm_carrier.specs.Carried.{carried_of, item_of}
 use Rattle.ulfm_carrier.specs.Family.{ComesFrom, at}
-use Rattle.ulfm_carrier.specs.Lanes.{Outlet, outlet_name, inlet_name, inlet_capacity, sent_by, taken_by, HasRings, IsReady, IsOpen}
-use Rattle.ulfm_carrier.proofs.Places.{at_read, each_set, view_or, view_here, view_other}
+use Rattle.ulfm_carrier.specs.Lanes.{Outlet, outlet_name, inlet_name, inlet_capacity, sent_by, taken_by, IsReady, IsOpen}
+use Rattle.ulfm_carrier.proofs.Places.{at_read, each_set, view_or, view_here}
 use Rattle.ulfm_carrier.proofs.Ranks.{source_back}
 
 pub same_outlet : (p q : Outlet) → SameProducer p q → outlet_name q ≡ outlet_name p

@@ -1,20 +1,18 @@
 -- An end, with its outgoing rings by their names and by what was sent.
-use Rattle.std.proofs.Common.{◌≡◌, ◌≢◌, ◌<◌, ℕ, List, [], ◌∷◌, length, map, set, get_or, refl, ap, sym, ◌∙◌, arith, Some}
-use Rattle.std.proofs.lemmas.List.{length-map, map-set, set-set, set-get_or}
+use Rattle.std.proofs.Common.{◌≡◌, ℕ, List, [], length, map, set, get_or, ap, sym, ◌∙◌, Some}
+use Rattle.std.proofs.lemmas.List.{length-map}
 use Rattle.std.proofs.lemmas.Simd.{map-map}
 use Rattle.std.specs.declared.alloc.Global.{Global}
 use Rattle.std.specs.declared.vec.Vec.{Vec}
 use Rattle.std.proofs.Math.Seq.{map-set_same}
-use Rattle.rtrb.specs.Ring.{sent, SameProducer}
+use Rattle.rtrb.specs.Ring.{sent}
 use Rattle.ulfm_base.specs.declared.rank.WorldRank.{WorldRank}
 use Rattle.ulfm_base.specs.declared.item.Item.{Item}
 use Rattle.ulfm_carrier.specs.declared.carried.Carried.{Carried}
 use Rattle.ulfm_carrier.specs.declared.inlet.Inlet.{Inlet}
 use Rattle.ulfm_carrier.specs.declared.lane_ends.RingName.{RingName}
-use Rattle.ulfm_carrier.specs.declared.lane_ends.LaneName.{LaneName}
 use Rattle.ulfm_carrier.specs.declared.lane_ends.LaneEnds.{LaneEnds}
-use Rattle.ulfm_carrier.specs.Carried.{item_of}
-use Rattle.ulfm_carrier.specs.Lanes.{Outlet, outlet_name, inlet_name, sent_by, taken_by, lane_name, lane_pushed, lane_taken, HasRings}
+use Rattle.ulfm_carrier.specs.Lanes.{Outlet, outlet_name, lane_pushed}
 use Rattle.std.specs.Prelude.{slice_get}
 use Rattle.ulfm_carrier.specs.Family.{at}
 use Rattle.ulfm_carrier.proofs.Places.{at_view}

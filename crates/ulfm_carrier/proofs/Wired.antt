@@ -1,10 +1,9 @@
 -- Ends stay wired when the ring of the next pair is added.
-use Rattle.std.proofs.Common.{◌≡◌, ◌≢◌, ◌<◌, ◌≤◌, ◌+◌, ◌*◌, ◌⊎◌, inl, inr, ℕ, List, [], ◌∷◌, ◌++◌, length, map, Some, vec_capacity, refl, ap, sym, ◌∙◌, arith, subst}
+use Rattle.std.proofs.Common.{◌≡◌, ◌≢◌, ◌<◌, ◌+◌, inl, inr, ℕ, List, [], ◌∷◌, ◌++◌, length, map, Some, vec_capacity, refl, ap, sym, ◌∙◌, arith, subst}
 use Rattle.std.specs.Prelude.{slice_get}
 use Rattle.std.proofs.lemmas.Bool.{cases_eq}
 use Rattle.std.proofs.lemmas.List.{length_push}
 use Rattle.std.proofs.lemmas.Option.{slice_get_within}
-use Rattle.rtrb.specs.Ring.{IsPair}
 use Rattle.ulfm_base.specs.declared.rank.WorldRank.{WorldRank}
 use Rattle.ulfm_carrier.specs.declared.inlet.Inlet.{Inlet}
 use Rattle.ulfm_carrier.specs.declared.lane_ends.LaneEnds.{LaneEnds}
@@ -22,6 +21,7 @@ module _ (n capacity s d : ℕ) (out : Outlet) (inlet : Inlet) (new_out : IsNewO
   wired_end : (k : ℕ) (e f : LaneEnds) → IsWired n capacity s d k e → Adds s d k out inlet e f → IsWired n capacity s (d + 1) k f
   wired_end k e f w a = record {
     number = ap (λ (r : WorldRank). r.number) a.me ∙ w.number;
+    first = a.next ∙ w.first;
     outs_below = λ below. ap length (a.outs_other (λ same. absurd (omega arith))) ∙ w.outs_below below;
     outs_here = λ same. ap length (a.outs_here same) ∙ length_push e.outs.items out ∙ ap (λ m. m + 1) (w.outs_here same);
     outs_above = λ above. a.outs_other (λ same. absurd (omega arith)) ∙ w.outs_above above;
@@ -80,6 +80,7 @@ wired_next n capacity s d ends all w = record {
       let v = w.each k e here in
       let inside : k < n = omega (arith, slice_get_within ends k e here, w.as_many) in record {
         number = v.number;
+        first = v.first;
         outs_below = λ below. elim (cases_eq k s) [ inl same ↦ v.outs_here same ∙ all | inr apart ↦ v.outs_below (let m : k ≢ s = apart in omega arith) ];
         outs_here = λ same. ap length (v.outs_above (omega arith));
         outs_above = λ above. v.outs_above (omega arith);

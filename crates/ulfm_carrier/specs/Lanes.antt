@@ -1,10 +1,10 @@
 -- What contracts see of the ends of rings.
-use Rattle.std.specs.Prelude.{◌≡◌, ◌<◌, ◌≤◌, ℕ, List, [], length, map, sum, vec_len, vec_capacity, Option, None, Some, slice_index_or, slice_get, take, ◌-◌}
+use Rattle.std.specs.Prelude.{◌≡◌, ◌<◌, ◌≤◌, ℕ, List, [], length, map, sum, vec_capacity, Option, None, Some, slice_index_or, slice_get, take, ◌-◌, ◌+◌, ◌%◌}
 use Rattle.std.specs.declared.alloc.Global.{Global}
 use Rattle.rtrb.specs.declared.AnyItems.{AnyItems}
 use Rattle.rtrb.specs.declared.producer.Producer.{Producer}
 use Rattle.rtrb.specs.declared.consumer.Consumer.{Consumer}
-use Rattle.rtrb.specs.Ring.{sent, received, known_free, consumer_capacity}
+use Rattle.rtrb.specs.Ring.{sent, received, known_free, known_items, consumer_capacity}
 use Rattle.ulfm_base.specs.declared.rank.WorldRank.{WorldRank}
 use Rattle.ulfm_base.specs.declared.item.Item.{Item}
 use Rattle.ulfm_carrier.specs.declared.carried.Carried.{Carried}
@@ -49,6 +49,10 @@ taken_by i = map (item_of i.source) (shown i.gathered (received i.ring))
 abbrev pub inlet_capacity : Inlet → ℕ
 inlet_capacity i = consumer_capacity i.ring
 
+-- what the end has seen in a ring and not taken
+abbrev pub seen_in : Inlet → List Carried
+seen_in i = known_items i.ring
+
 -- the end's number, and its rings
 abbrev pub lane_name : LaneEnds → LaneName
 lane_name e = record { place = e.me.number; outs = map outlet_name e.outs.items; ins = map inlet_name e.ins.items }
@@ -60,6 +64,10 @@ lane_pushed e d = slice_index_or (map (sent_by e.me) e.outs.items) d []
 -- what was taken from the rank s
 abbrev pub lane_taken : LaneEnds → ℕ → List Item
 lane_taken e s = slice_index_or (map taken_by e.ins.items) s []
+
+-- what the end has seen in the ring from the rank s and not taken
+abbrev pub seen_from : LaneEnds → ℕ → List Carried
+seen_from e s = slice_index_or (map seen_in e.ins.items) s []
 
 -- how many places the end knows to be free in the ring to the rank d
 abbrev pub known_room : LaneEnds → ℕ → ℕ
@@ -84,6 +92,18 @@ pub record IsReady (e : LaneEnds) : Type 0 where
   pub no_inbox : e.inboxes.items ≡ []
   pub inbox_for_each : length e.outs.items ≤ vec_capacity e.inboxes
 
+-- the rank that is looked at after j others by the next pop: they come upwards and round
+abbrev pub in_turn : LaneEnds → ℕ → ℕ
+in_turn e j = (e.next + j) % length e.ins.items
+
+-- A pop found an item from this rank. It saw nothing in the rings of the ranks before it in turn, and the next pop
+-- begins at the one after it.
+pub record IsFoundInTurn (before after : LaneEnds) (found : ℕ) : Type 0 where
+  pub passed : ℕ
+  pub turn : found ≡ in_turn before passed
+  pub nothing_seen : (j : ℕ) → j < passed → seen_from after (in_turn before j) ≡ []
+  pub next : after.next ≡ found + 1
+
 -- These are all ends of one call, by their places: the ring from i to j is one ring at both.
 pub record OneCall (names : List LaneName) : Type 0 where
   pub some : 0 < length names
@@ -91,3 +111,7 @@ pub record OneCall (names : List LaneName) : Type 0 where
   pub outs : (i : ℕ) (x : LaneName) → at names i x → length x.outs ≡ length names
   pub ins : (i : ℕ) (x : LaneName) → at names i x → length x.ins ≡ length names
   pub joined : (i j : ℕ) (x y : LaneName) → at names i x → at names j y → slice_get x.outs j ≡ slice_get y.ins i
+
+-- none of these ends was gathered yet
+abbrev pub AllReady : List LaneEnds → Type 0
+AllReady ends = (k : ℕ) (e : LaneEnds) → at ends k e → IsReady e

@@ -17,6 +17,7 @@ IsNewInlet capacity k i = IsOpen k i × (taken_by i ≡ []) × (inlet_capacity i
 -- The rank k of n, once the rings of the senders below s are made, and those of s to the receivers below d.
 pub record IsWired (n capacity s d k : ℕ) (e : LaneEnds) : Type 0 where
   pub number : e.me.number ≡ k
+  pub first : e.next ≡ 0
   pub outs_below : k < s → length e.outs.items ≡ n
   pub outs_here : k ≡ s → length e.outs.items ≡ d
   pub outs_above : s < k → e.outs.items ≡ []

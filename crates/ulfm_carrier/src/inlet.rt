@@ -1,5 +1,5 @@
 //! The receiver's end of the ring from one rank.
-ghost use Rattle.std.specs.Prelude.{◌≡◌, ◌+◌, ◌≤◌, ◌++◌, ◌∷◌, [], List, None, map, vec_len, vec_capacity, MatchOption};
+ghost use Rattle.std.specs.Prelude.{◌≡◌, ◌+◌, ◌≤◌, ◌++◌, ◌∷◌, [], List, None, map, vec_len, vec_capacity, MatchOption, IfNone};
 ghost use Rattle.rtrb.specs.Ring.{sent, received, IsPair, consumer_capacity};
 ghost use Rattle.ulfm_base.specs.declared.item.Item.{Item as Sent};
 
@@ -18,7 +18,7 @@ pub(crate) struct Inlet {
 
 impl Inlet {
     ghost use Rattle.ulfm_carrier.specs.Family.{ComesFrom};
-    ghost use Rattle.ulfm_carrier.specs.Lanes.{inlet_name, reader_name, outlet_name, inlet_capacity, taken_by, sent_by};
+    ghost use Rattle.ulfm_carrier.specs.Lanes.{inlet_name, reader_name, outlet_name, inlet_capacity, taken_by, sent_by, seen_in};
     ghost use Rattle.ulfm_carrier.specs.Tagged.{with_sender};
 
     /// The end of this ring from a rank.
@@ -39,6 +39,7 @@ impl Inlet {
         requires { self.old.gathered ≡ None }
         ensures name { (inlet_name self.new ≡ inlet_name self.old) × (inlet_capacity self.new ≡ inlet_capacity self.old) }
         ensures same { (self.new.source ≡ self.old.source) × (self.new.gathered ≡ None) }
+        ensures nothing_seen { IfNone result (seen_in self.new ≡ []) }
         ensures taken { MatchOption result (taken_by self.new ≡ taken_by self.old) (λ item. ComesFrom self.old.source.number item × (taken_by self.new ≡ taken_by self.old ++ item ∷ [])) }
     {
         let carried = self.ring.pop().ok()?;

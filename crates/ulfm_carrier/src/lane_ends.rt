@@ -1,5 +1,5 @@
 //! A rank's ends of the rings to and from each rank.
-ghost use Rattle.std.specs.Prelude.{◌≡◌, ◌≢◌, ◌<◌, ◌++◌, [], ◌∷◌, ℕ, None, vec_len, MatchResult, MatchOption, OnErr, IsOk};
+ghost use Rattle.std.specs.Prelude.{◌≡◌, ◌≢◌, ◌<◌, ◌++◌, [], ◌∷◌, ℕ, None, vec_len, MatchResult, MatchOption, OnErr, IsOk, IfNone, IfSome};
 
 use crate::carried::Carried;
 use crate::ends::Ends;
@@ -43,7 +43,7 @@ pub struct LaneEnds {
 
 impl LaneEnds {
     ghost use Rattle.ulfm_carrier.specs.Family.{ComesFrom};
-    ghost use Rattle.ulfm_carrier.specs.Lanes.{lane_name, lane_pushed, lane_taken, known_room, IsReady};
+    ghost use Rattle.ulfm_carrier.specs.Lanes.{lane_name, lane_pushed, lane_taken, known_room, seen_from, IsReady, IsFoundInTurn};
 
     /// `push`, which waits for nobody and takes no memory.
     ///
@@ -77,6 +77,8 @@ impl LaneEnds {
         ensures sender { MatchOption result (Unit {0}) (λ found. (found.0.number < vec_len self.old.outs) × ComesFrom found.0.number found.1) }
         ensures taken { MatchOption result ((p : ℕ) → lane_taken self.new p ≡ lane_taken self.old p)
             (λ found. (lane_taken self.new found.0.number ≡ lane_taken self.old found.0.number ++ found.1 ∷ []) × ((p : ℕ) → p ≢ found.0.number → lane_taken self.new p ≡ lane_taken self.old p)) }
+        ensures nothing_seen { IfNone result ((p : ℕ) → seen_from self.new p ≡ []) }
+        ensures in_turn { IfSome result (λ found. IsFoundInTurn self.old self.new found.0.number) }
     {
         let count = self.ins.len() as u8;
         let start = self.next;
@@ -97,6 +99,8 @@ impl LaneEnds {
         requires peer { peer < vec_len self.old.outs }
         ensures name { (lane_name self.new ≡ lane_name self.old) × (self.new.me ≡ self.old.me) × (self.new.outs ≡ self.old.outs) × IsReady self.new }
         ensures next { self.new.next ≡ self.old.next }
+        ensures nothing_seen { IfNone result (seen_from self.new peer ≡ []) }
+        ensures others_seen { (p : ℕ) → p ≢ peer → seen_from self.new p ≡ seen_from self.old p }
         ensures others { (p : ℕ) → p ≢ peer → lane_taken self.new p ≡ lane_taken self.old p }
         ensures taken { MatchOption result (lane_taken self.new peer ≡ lane_taken self.old peer) (λ item. ComesFrom peer item × (lane_taken self.new peer ≡ lane_taken self.old peer ++ item ∷ [])) }
     {

@@ -23,6 +23,7 @@ pub fn lanes(alloc: Global, n: u8, capacity: u8) -> Result<Vec<LaneEnds>, CallEr
     ensures family { IfOk result (λ ends. OneCall (map lane_name ends.items)) }
     ensures places { IfOk result (λ ends. InPlace (λ (e : Lanes). e.me.number) ends.items) }
     ensures fresh { IfOk result (λ ends. AllFresh (λ (e : Lanes). vec_len e.outs) lane_pushed lane_taken IsReady ends.items) }
+    ensures first { IfOk result (λ ends. (k : ℕ) (e : Lanes) → at ends.items k e → e.next ≡ 0) }
     ensures room { IfOk result (λ ends. (k d : ℕ) (e : Lanes) → at ends.items k e → d < n → known_room e d ≡ capacity) }
     ensures refused { IfErr result (λ error. (error ≡ CallError.BadSize) × ((n ≡ 0) ⊎ (8 < n) ⊎ (capacity ≡ 0) ⊎ (64 < capacity)) ⊎ (error ≡ CallError.OutOfMemory) × (1 ≤ n) × (n ≤ 8) × (1 ≤ capacity) × (capacity ≤ 64)) }
 {

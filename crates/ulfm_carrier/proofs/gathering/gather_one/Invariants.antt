@@ -1,4 +1,4 @@
-use Rattle.std.proofs.Common.{◌≡◌, ◌<◌, ◌≤◌, ◌+◌, ◌++◌, ℕ, [], None, map, sum, drop, get_or, vec_len, vec_capacity}
+use Rattle.std.proofs.Common.{◌≡◌, ◌<◌, ◌≤◌, ◌+◌, ◌++◌, ℕ, [], map, sum, drop, get_or, vec_len, vec_capacity}
 use Rattle.ulfm_carrier.specs.declared.inlet.Inlet.{Inlet}
 use Rattle.ulfm_carrier.specs.Family.{at, items_from}
 use Rattle.ulfm_carrier.specs.Lanes.{inlet_name, inlet_capacity, taken_by, IsOpen}

@@ -33,5 +33,5 @@ returns-clause-wired c =
     ) in
     let pair : outlet_name out ≡ inlet_name inlet = (λ i. record { words = sym made.pair.0 i; slots = sym made.pair.1 i; names = sym made.pair.2 i; heap = sym made.pair.3 i }) ∙ ap (λ r. reader_name r) (sym new.ring) in
     wired_more _ c.args.capacity s d out inlet (made.producer.0, made.producer.1) is_new all _ pair (length-set _ d received' ∙ length-set all s sent)
-    (adds all s d out inlet low_s low_d sender sent receiver received' c.index_mut-sender.ensures.value refl refl refl refl c.in_ok-push.ensures.items c.index_mut-receiver.ensures.value refl refl refl refl c.in_ok-push-2.ensures.items)
+    (adds all s d out inlet low_s low_d sender sent receiver received' c.index_mut-sender.ensures.value refl refl refl refl refl c.in_ok-push.ensures.items c.index_mut-receiver.ensures.value refl refl refl refl refl c.in_ok-push-2.ensures.items)
     c.requires.wired

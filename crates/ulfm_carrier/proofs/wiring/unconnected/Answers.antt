@@ -1,4 +1,4 @@
-use Rattle.std.proofs.Common.{◌≡◌, ◌≤◌, ◌+◌, ◌*◌, vec_capacity, ◌++◌, ◌∷◌, [], length, refl, ap, sym, ◌∙◌, arith, subst}
+use Rattle.std.proofs.Common.{◌≡◌, ◌≤◌, ◌+◌, ◌*◌, vec_capacity, [], length, refl, ap, ◌∙◌, arith, subst}
 use Rattle.std.proofs.lemmas.List.{length_push}
 use Rattle.ulfm_carrier.specs.declared.lane_ends.LaneEnds.{LaneEnds}
 use Rattle.ulfm_carrier.specs.Family.{at}
@@ -21,6 +21,7 @@ loop-number-preserved c =
           each_push (IsWired c.args.n c.args.capacity 0 0) c.loop-number.ends.items _ c.loop-number.number kept.many kept.each
           (record {
             number = refl;
+            first = refl;
             outs_below = λ below. absurd (omega (arith, below));
             outs_here = λ _. ap length outs.items;
             outs_above = λ _. outs.items;

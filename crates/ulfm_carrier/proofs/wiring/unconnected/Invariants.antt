@@ -1,4 +1,4 @@
-use Rattle.std.proofs.Common.{◌≡◌, ◌≤◌, ℕ, [], length, vec_capacity, ◌*◌}
+use Rattle.std.proofs.Common.{◌≡◌, ℕ, [], length}
 use Rattle.ulfm_carrier.specs.declared.lane_ends.LaneEnds.{LaneEnds}
 use Rattle.ulfm_carrier.specs.Family.{at}
 use Rattle.ulfm_carrier.specs.Wiring.{IsWired}

@@ -1,4 +1,4 @@
-use Rattle.std.proofs.Common.{◌≡◌, ◌++◌, map, length, ap, sym, ◌∙◌, arith}
+use Rattle.std.proofs.Common.{◌++◌, map, ap, ◌∙◌, arith}
 use Rattle.rtrb.specs.Ring.{sent, received, known_items}
 use Rattle.ulfm_carrier.specs.Carried.{item_of}
 use Rattle.ulfm_carrier.specs.Tagged.{signed}

@@ -1,4 +1,4 @@
-use Rattle.std.proofs.Common.{◌≡◌, ◌+◌, ◌++◌, None, map, length, vec_len, vec_capacity}
+use Rattle.std.proofs.Common.{◌≡◌, ◌+◌, ◌++◌, map, length, vec_len, vec_capacity}
 use Rattle.rtrb.specs.Ring.{received, known_items, SameConsumer}
 use Rattle.ulfm_carrier.specs.Tagged.{signed}
 use Rattle.ulfm_carrier.proofs.inlet.Inlet.drain.Given as goal

@@ -1,8 +1,9 @@
 use Rattle.std.proofs.Common.{◌<◌, [], length, map, ap, ◌∙◌, refl, arith}
 use Rattle.ulfm_base.specs.declared.rank.WorldRank.{WorldRank}
-use Rattle.ulfm_carrier.specs.Lanes.{outlet_name, taken_by}
-use Rattle.ulfm_carrier.proofs.Places.{at_read, view_other}
+use Rattle.ulfm_carrier.specs.Lanes.{outlet_name, taken_by, seen_in}
+use Rattle.ulfm_carrier.proofs.Places.{at_read, view_here, view_other}
 use Rattle.ulfm_carrier.proofs.Rings.{inlet_names, ready_ins, popped}
+use Rattle.ulfm_carrier.proofs.Turns.{if_none}
 use Rattle.ulfm_carrier.proofs.lane_ends.LaneEnds.pop_from.Goals as goal
 
 pub returns-clause-name : goal.returns-clause-name
@@ -32,3 +33,12 @@ returns-clause-taken c =
     let low : c.args.peer < length e.ins.items = omega (arith, c.requires.peer, e.outs.ok, rings.square) in
     let is = rings.live c.args.peer inlet (at_read e.ins.items c.args.peer inlet low here) in
     popped c.args.peer e.ins.items inlet c.pop.new.self c.pop.result low here is.0 c.pop.ensures.taken
+
+pub returns-clause-nothing_seen : goal.returns-clause-nothing_seen
+returns-clause-nothing_seen c =
+    let e = c.args.self.now in
+    let low : c.args.peer < length e.ins.items = omega (arith, c.requires.peer, e.outs.ok, c.requires.ready.rings.square) in
+    if_none c.pop.result _ _ (λ seen. view_here seen_in e.ins.items c.args.peer c.pop.new.self [] low ∙ seen) c.pop.ensures.nothing_seen
+
+pub returns-clause-others_seen : goal.returns-clause-others_seen
+returns-clause-others_seen c = λ p apart. view_other seen_in c.args.self.now.ins.items c.args.peer p c.pop.new.self [] apart

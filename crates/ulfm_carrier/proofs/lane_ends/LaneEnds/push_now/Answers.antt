@@ -1,7 +1,6 @@
 use Rattle.std.proofs.Common.{map, ◌<◌, ◌++◌, ◌∷◌, [], get_or, ap, ◌∙◌, refl, arith, length}
 use Rattle.std.proofs.lemmas.List.{length-set}
 use Rattle.rtrb.specs.Ring.{sent, known_free}
-use Rattle.ulfm_carrier.specs.Carried.{carried_of}
 use Rattle.ulfm_carrier.specs.Lanes.{inlet_name, sent_by}
 use Rattle.ulfm_carrier.proofs.Places.{view_here, view_other}
 use Rattle.ulfm_carrier.proofs.Rings.{outlet_names, sent_more, sent_same, ready_outs}
