@@ -1,0 +1,15 @@
+pub mod Drained
+pub mod Faces
+pub mod Gathered
+pub mod Joined
+pub mod Places
+pub mod Ranks
+pub mod Rings
+pub mod Senders
+pub mod Steps
+pub mod Together
+pub mod Turns
+pub mod Views
+pub mod Whole
+pub mod Wired
+pub mod Wires

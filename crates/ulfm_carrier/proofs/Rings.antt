@@ -1,0 +1,81 @@
+-- One ring of an end is written.
+use Rattle.std.proofs.Common.{◌≡◌, ◌<◌, ℕ, Option, None, Some, MatchOption, List, [], ◌∷◌, ◌++◌, length, map, set, get_or, sum, vec_capacity, ap, sym, ◌∙◌, arith, subst}
+use Rattle.std.proofs.lemmas.List.{map-append, length-set}
+use Rattle.std.proofs.Math.Seq.{map-set_same}
+use Rattle.rtrb.specs.Ring.{sent, SameProducer}
+use Rattle.ulfm_base.specs.declared.rank.WorldRank.{WorldRank}
+use Rattle.ulfm_base.specs.declared.item.Item.{Item}
+use Rattle.ulfm_carrier.specs.declared.inlet.Inlet.{Inlet}
+use Rattle.ulfm_carrier.specs.declared.lane_ends.LaneEnds.{LaneEnds}
+use Rattle.ulfm_carrier.specs.Carried.{carried_of, item_of}
+use Rattle.ulfm_carrier.specs.Family.{ComesFrom, at}
+use Rattle.ulfm_carrier.specs.Lanes.{Outlet, outlet_name, inlet_name, inlet_capacity, sent_by, taken_by, IsReady, IsOpen}
+use Rattle.ulfm_carrier.proofs.Places.{at_read, each_set, view_or, view_here}
+use Rattle.ulfm_carrier.proofs.Ranks.{source_back}
+
+pub same_outlet : (p q : Outlet) → SameProducer p q → outlet_name q ≡ outlet_name p
+same_outlet p q h = λ i. record { words = h.0.0 i; slots = h.0.1 i; names = h.0.2 i; heap = h.0.3 i }
+
+pub outlet_names : (outs : List Outlet) (k : ℕ) (p q : Outlet) → p ≡ get_or outs k p → SameProducer p q → map outlet_name (set outs k q) ≡ map outlet_name outs
+outlet_names outs k p q here same = map-set_same outlet_name outs k q p (same_outlet p q same ∙ ap outlet_name here)
+
+pub inlet_names : (ins : List Inlet) (k : ℕ) (i j : Inlet) → i ≡ get_or ins k i → inlet_name j ≡ inlet_name i → map inlet_name (set ins k j) ≡ map inlet_name ins
+inlet_names ins k i j here same = map-set_same inlet_name ins k j i (same ∙ ap inlet_name here)
+
+-- An outlet is written.
+
+pub sent_more : (me : WorldRank) (k : ℕ) (outs : List Outlet) (p q : Outlet) (x : Item) → k < length outs → p ≡ get_or outs k p → ComesFrom me.number x → sent q ≡ sent p ++ carried_of x ∷ []
+    → get_or (map (sent_by me) (set outs k q)) k [] ≡ get_or (map (sent_by me) outs) k [] ++ x ∷ []
+sent_more me k outs p q x low here from more =
+    view_here (sent_by me) outs k q [] low ∙ ap (map (item_of me)) more ∙ map-append (item_of me) (sent p) (carried_of x ∷ []) ∙ ap (λ y. sent_by me p ++ y ∷ []) (source_back me x from)
+    ∙ ap (λ l. l ++ x ∷ []) (sym (view_or (sent_by me) outs k p [] (at_read outs k p low here)))
+
+pub sent_same : (me : WorldRank) (k : ℕ) (outs : List Outlet) (p q : Outlet) → p ≡ get_or outs k p → sent q ≡ sent p → map (sent_by me) (set outs k q) ≡ map (sent_by me) outs
+sent_same me k outs p q here same = map-set_same (sent_by me) outs k q p (ap (map (item_of me)) same ∙ ap (sent_by me) here)
+
+pub ready_outs : (e f : LaneEnds) → f.me ≡ e.me → f.ins ≡ e.ins → f.left ≡ e.left → f.inboxes ≡ e.inboxes → length f.outs.items ≡ length e.outs.items → IsReady e → IsReady f
+ready_outs e f me ins left inboxes many r =
+    let rings = r.rings in record {
+      rings = record {
+        square = ap (λ v. length v.items) ins ∙ rings.square ∙ sym many;
+        inside = let m = ap (λ (r : WorldRank). r.number) me in let h = rings.inside in omega arith;
+        few = let h = rings.few in omega arith;
+        live = λ k i here. rings.live k i (subst (λ v. at v.items k i) ins here);
+        empty = ap (λ v. v.items) left ∙ rings.empty;
+        room = let a = ap (λ v. sum (map inlet_capacity v.items)) ins in let b = ap (λ v. vec_capacity v) left in let h = rings.room in omega arith;
+      };
+      no_inbox = ap (λ v. v.items) inboxes ∙ r.no_inbox;
+      inbox_for_each = let b = ap (λ v. vec_capacity v) inboxes in let h = r.inbox_for_each in omega arith;
+    }
+
+-- An inlet is written.
+
+pub ready_ins : (e f : LaneEnds) (k : ℕ) (i j : Inlet) → f.me ≡ e.me → f.outs ≡ e.outs → f.left ≡ e.left → f.inboxes ≡ e.inboxes → f.ins.items ≡ set e.ins.items k j → i ≡ get_or e.ins.items k i
+    → inlet_capacity j ≡ inlet_capacity i → IsOpen k j → IsReady e → IsReady f
+ready_ins e f k i j me outs left inboxes ins here capacity is_open r =
+    let rings = r.rings in
+    let many : length f.ins.items ≡ length e.ins.items = ap length ins ∙ length-set e.ins.items k j in
+    let outs_many : length f.outs.items ≡ length e.outs.items = ap (λ v. length v.items) outs in record {
+      rings = record {
+        square = many ∙ rings.square ∙ sym outs_many;
+        inside = let m = ap (λ (r : WorldRank). r.number) me in let h = rings.inside in omega arith;
+        few = let h = rings.few in omega arith;
+        live = λ p x at_p. each_set IsOpen e.ins.items k j rings.live is_open p x (subst (λ l. at l p x) ins at_p);
+        empty = ap (λ v. v.items) left ∙ rings.empty;
+        room =
+            let a : sum (map inlet_capacity f.ins.items) ≡ sum (map inlet_capacity e.ins.items) = ap (λ l. sum (map inlet_capacity l)) ins ∙ ap sum (map-set_same inlet_capacity e.ins.items k j i (capacity ∙ ap inlet_capacity here)) in
+            let b = ap (λ v. vec_capacity v) left in let h = rings.room in omega arith;
+      };
+      no_inbox = ap (λ v. v.items) inboxes ∙ r.no_inbox;
+      inbox_for_each = let b = ap (λ v. vec_capacity v) inboxes in let h = r.inbox_for_each in omega arith;
+    }
+
+pub taken_more : (k : ℕ) (ins : List Inlet) (i j : Inlet) (x : Item) → k < length ins → i ≡ get_or ins k i → taken_by j ≡ taken_by i ++ x ∷ []
+    → get_or (map taken_by (set ins k j)) k [] ≡ get_or (map taken_by ins) k [] ++ x ∷ []
+taken_more k ins i j x low here more = view_here taken_by ins k j [] low ∙ more ∙ ap (λ l. l ++ x ∷ []) (sym (view_or taken_by ins k i [] (at_read ins k i low here)))
+
+pub popped : (k : ℕ) (ins : List Inlet) (i j : Inlet) (r : Option Item) → k < length ins → i ≡ get_or ins k i → i.source.number ≡ k
+    → MatchOption r (taken_by j ≡ taken_by i) (λ item. ComesFrom i.source.number item × (taken_by j ≡ taken_by i ++ item ∷ []))
+    → MatchOption r (get_or (map taken_by (set ins k j)) k [] ≡ get_or (map taken_by ins) k []) (λ item. ComesFrom k item × (get_or (map taken_by (set ins k j)) k [] ≡ get_or (map taken_by ins) k [] ++ item ∷ []))
+popped k ins i j None low here is h = ap (λ l. get_or l k []) (map-set_same taken_by ins k j i (h ∙ ap taken_by here))
+popped k ins i j (Some x) low here is h = (subst (λ n. ComesFrom n x) is h.0, taken_more k ins i j x low here h.1)

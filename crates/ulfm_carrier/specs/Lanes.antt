@@ -1,0 +1,117 @@
+-- What contracts see of the ends of rings.
+use Rattle.std.specs.Prelude.{◌≡◌, ◌<◌, ◌≤◌, ℕ, List, [], length, map, sum, vec_capacity, Option, None, Some, slice_index_or, slice_get, take, ◌-◌, ◌+◌, ◌%◌}
+use Rattle.std.specs.declared.alloc.Global.{Global}
+use Rattle.rtrb.specs.declared.AnyItems.{AnyItems}
+use Rattle.rtrb.specs.declared.producer.Producer.{Producer}
+use Rattle.rtrb.specs.declared.consumer.Consumer.{Consumer}
+use Rattle.rtrb.specs.Ring.{sent, received, known_free, known_items, consumer_capacity}
+use Rattle.ulfm_base.specs.declared.rank.WorldRank.{WorldRank}
+use Rattle.ulfm_base.specs.declared.item.Item.{Item}
+use Rattle.ulfm_carrier.specs.declared.carried.Carried.{Carried}
+use Rattle.ulfm_carrier.specs.declared.inlet.Inlet.{Inlet}
+use Rattle.ulfm_carrier.specs.declared.lane_ends.RingName.{RingName}
+use Rattle.ulfm_carrier.specs.declared.lane_ends.LaneName.{LaneName}
+use Rattle.ulfm_carrier.specs.declared.lane_ends.LaneEnds.{LaneEnds}
+use Rattle.ulfm_carrier.specs.Carried.{item_of}
+use Rattle.ulfm_carrier.specs.Family.{at}
+
+-- the sender's end of a ring
+abbrev pub Outlet : Type 0
+Outlet = Producer Carried Global AnyItems
+
+-- the receiver's end of a ring
+abbrev pub Reader : Type 0
+Reader = Consumer Carried Global AnyItems
+
+abbrev pub outlet_name : Outlet → RingName
+outlet_name p = record { words = p.end.words; slots = p.end.slots; names = p.end.names; heap = p.end.heap }
+
+abbrev pub reader_name : Reader → RingName
+reader_name c = record { words = c.end.words; slots = c.end.slots; names = c.end.names; heap = c.end.heap }
+
+abbrev pub inlet_name : Inlet → RingName
+inlet_name i = reader_name i.ring
+
+-- what a rank pushed into a ring
+abbrev pub sent_by : WorldRank → Outlet → List Item
+sent_by me outlet = map (item_of me) (sent outlet)
+
+-- what was received, without what a gathering took last
+abbrev pub shown : Option ℕ → List Carried → List Carried
+shown None now = now
+shown (Some count) now = take (length now - count) now
+
+-- what was popped from a ring
+abbrev pub taken_by : Inlet → List Item
+taken_by i = map (item_of i.source) (shown i.gathered (received i.ring))
+
+-- how many items the ring has room for
+abbrev pub inlet_capacity : Inlet → ℕ
+inlet_capacity i = consumer_capacity i.ring
+
+-- what the end has seen in a ring and not taken
+abbrev pub seen_in : Inlet → List Carried
+seen_in i = known_items i.ring
+
+-- the end's number, and its rings
+abbrev pub lane_name : LaneEnds → LaneName
+lane_name e = record { place = e.me.number; outs = map outlet_name e.outs.items; ins = map inlet_name e.ins.items }
+
+-- what was pushed to the rank d
+abbrev pub lane_pushed : LaneEnds → ℕ → List Item
+lane_pushed e d = slice_index_or (map (sent_by e.me) e.outs.items) d []
+
+-- what was taken from the rank s
+abbrev pub lane_taken : LaneEnds → ℕ → List Item
+lane_taken e s = slice_index_or (map taken_by e.ins.items) s []
+
+-- what the end has seen in the ring from the rank s and not taken
+abbrev pub seen_from : LaneEnds → ℕ → List Carried
+seen_from e s = slice_index_or (map seen_in e.ins.items) s []
+
+-- how many places the end knows to be free in the ring to the rank d
+abbrev pub known_room : LaneEnds → ℕ → ℕ
+known_room e d = slice_index_or (map known_free e.outs.items) d 0
+
+-- the ring from the rank k, not gathered yet
+abbrev pub IsOpen : ℕ → Inlet → Type 0
+IsOpen k i = (i.source.number ≡ k) × (i.gathered ≡ None)
+
+-- an end with its rings to and from each rank, and with room for all that its inbox can hold
+pub record HasRings (e : LaneEnds) : Type 0 where
+  pub square : length e.ins.items ≡ length e.outs.items
+  pub inside : e.me.number < length e.outs.items
+  pub few : length e.outs.items ≤ 8
+  pub live : (k : ℕ) (i : Inlet) → at e.ins.items k i → IsOpen k i
+  pub empty : e.left.items ≡ []
+  pub room : sum (map inlet_capacity e.ins.items) ≤ vec_capacity e.left
+
+-- the same, with room for a list of inboxes
+pub record IsReady (e : LaneEnds) : Type 0 where
+  pub rings : HasRings e
+  pub no_inbox : e.inboxes.items ≡ []
+  pub inbox_for_each : length e.outs.items ≤ vec_capacity e.inboxes
+
+-- the rank that is looked at after j others by the next pop: they come upwards and round
+abbrev pub in_turn : LaneEnds → ℕ → ℕ
+in_turn e j = (e.next + j) % length e.ins.items
+
+-- A pop found an item from this rank. It saw nothing in the rings of the ranks before it in turn, and the next pop
+-- begins at the one after it.
+pub record IsFoundInTurn (before after : LaneEnds) (found : ℕ) : Type 0 where
+  pub passed : ℕ
+  pub turn : found ≡ in_turn before passed
+  pub nothing_seen : (j : ℕ) → j < passed → seen_from after (in_turn before j) ≡ []
+  pub next : after.next ≡ found + 1
+
+-- These are all ends of one call, by their places: the ring from i to j is one ring at both.
+pub record OneCall (names : List LaneName) : Type 0 where
+  pub some : 0 < length names
+  pub placed : (i : ℕ) (x : LaneName) → at names i x → x.place ≡ i
+  pub outs : (i : ℕ) (x : LaneName) → at names i x → length x.outs ≡ length names
+  pub ins : (i : ℕ) (x : LaneName) → at names i x → length x.ins ≡ length names
+  pub joined : (i j : ℕ) (x y : LaneName) → at names i x → at names j y → slice_get x.outs j ≡ slice_get y.ins i
+
+-- none of these ends was gathered yet
+abbrev pub AllReady : List LaneEnds → Type 0
+AllReady ends = (k : ℕ) (e : LaneEnds) → at ends k e → IsReady e

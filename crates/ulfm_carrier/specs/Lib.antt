@@ -1,0 +1,5 @@
+pub mod Carried
+pub mod Family
+pub mod Lanes
+pub mod Tagged
+pub mod Wiring

@@ -1,0 +1,67 @@
+//! The receiver's end of the ring from one rank.
+ghost use Rattle.std.specs.Prelude.{◌≡◌, ◌+◌, ◌≤◌, ◌++◌, ◌∷◌, [], List, None, map, vec_len, vec_capacity, MatchOption, IfNone};
+ghost use Rattle.rtrb.specs.Ring.{sent, received, IsPair, consumer_capacity};
+ghost use Rattle.ulfm_base.specs.declared.item.Item.{Item as Sent};
+
+use crate::carried::Carried;
+use rtrb::{Consumer, Producer};
+use ulfm_base::{Item, WorldRank};
+
+/// The receiver's end of the ring from one rank.
+#[derive(Drop)]
+pub(crate) struct Inlet {
+    source: WorldRank,
+    ring: Consumer<Carried>,
+    /// After a gathering: how many items it took.
+    gathered: Option<usize>,
+}
+
+impl Inlet {
+    ghost use Rattle.ulfm_carrier.specs.Family.{ComesFrom};
+    ghost use Rattle.ulfm_carrier.specs.Lanes.{inlet_name, reader_name, outlet_name, inlet_capacity, taken_by, sent_by, seen_in};
+    ghost use Rattle.ulfm_carrier.specs.Tagged.{with_sender};
+
+    /// The end of this ring from a rank.
+    pub(crate) fn new(source: WorldRank, ring: Consumer<Carried>) -> Inlet
+        ensures source { result.source ≡ source }
+        ensures ring { result.ring ≡ ring }
+        ensures live { result.gathered ≡ None }
+    {
+        Inlet {
+            source,
+            ring,
+            gathered: None,
+        }
+    }
+
+    /// Takes the next item, if one is found.
+    pub(crate) fn pop(&mut self) -> Option<Item>
+        requires { self.old.gathered ≡ None }
+        ensures name { (inlet_name self.new ≡ inlet_name self.old) × (inlet_capacity self.new ≡ inlet_capacity self.old) }
+        ensures same { (self.new.source ≡ self.old.source) × (self.new.gathered ≡ None) }
+        ensures nothing_seen { IfNone result (seen_in self.new ≡ []) }
+        ensures taken { MatchOption result (taken_by self.new ≡ taken_by self.old) (λ item. ComesFrom self.old.source.number item × (taken_by self.new ≡ taken_by self.old ++ item ∷ [])) }
+    {
+        let carried = self.ring.pop().ok()?;
+        Some(carried.from(self.source))
+    }
+
+    /// Takes all that is in the ring, whose other end is this one, and puts it behind what is left.
+    pub(crate) fn drain(&mut self, out: &mut Producer<Carried>, left: &mut Vec<(WorldRank, Item)>)
+        requires pair { IsPair out.old self.old.ring }
+        requires live { self.old.gathered ≡ None }
+        requires room { vec_len left.old + inlet_capacity self.old ≤ vec_capacity left.old }
+        ensures name { (inlet_name self.new ≡ inlet_name self.old) × (inlet_capacity self.new ≡ inlet_capacity self.old) }
+        ensures same { (self.new.source ≡ self.old.source) × (taken_by self.new ≡ taken_by self.old) }
+        ensures out { (outlet_name out.new ≡ outlet_name out.old) × (sent out.new ≡ sent out.old) }
+        ensures left { (rest : List Sent) × (sent_by self.old.source out.old ≡ taken_by self.old ++ rest) × (left.new.items ≡ left.old.items ++ map (with_sender self.old.source) rest) }
+        ensures room { (vec_capacity left.new ≡ vec_capacity left.old) × (vec_len left.new ≤ vec_len left.old + inlet_capacity self.old) }
+    {
+        let count = self.ring.slots_beside(out);
+        for _ in 0..count {
+            let carried = self.ring.pop_known();
+            left.push_reserved((self.source, carried.from(self.source)));
+        }
+        self.gathered = Some(count);
+    }
+}

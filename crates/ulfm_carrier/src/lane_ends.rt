@@ -1,0 +1,153 @@
+//! A rank's ends of the rings to and from each rank.
+ghost use Rattle.std.specs.Prelude.{◌≡◌, ◌≢◌, ◌<◌, ◌++◌, [], ◌∷◌, ℕ, None, vec_len, MatchResult, MatchOption, OnErr, IsOk, IfNone, IfSome};
+
+use crate::carried::Carried;
+use crate::ends::Ends;
+use crate::gathering::gather_all;
+use crate::inlet::Inlet;
+use crate::residue::Residue;
+use rtrb::Producer;
+use std::alloc::Global;
+use std::collections::LinkedList;
+use std::sync::Wait;
+use ulfm_base::{Item, WorldRank};
+
+/// What tells a ring from all others. No value of it is made.
+pub struct RingName {
+    pub words: *mut u64,
+    pub slots: *mut Carried,
+    pub names: (u64, (u64, u64)),
+    pub heap: Global,
+}
+
+/// What tells the ends of a rank from all others. No value of it is made.
+pub struct LaneName {
+    pub place: u8,
+    pub outs: LinkedList<RingName>,
+    pub ins: LinkedList<RingName>,
+}
+
+/// A rank's ends of the rings to and from each rank, itself too. It may move to a thread of its own.
+#[derive(Drop)]
+pub struct LaneEnds {
+    pub(crate) me: WorldRank,
+    pub(crate) outs: Vec<Producer<Carried>>,
+    pub(crate) ins: Vec<Inlet>,
+    /// Where the next pop begins to look.
+    pub(crate) next: u8,
+    /// Room for what is left in the rank's inbox at the end.
+    pub(crate) left: Vec<(WorldRank, Item)>,
+    /// Room for a list of what is left in each inbox.
+    pub(crate) inboxes: Vec<Vec<(WorldRank, Item)>>,
+}
+
+impl LaneEnds {
+    ghost use Rattle.ulfm_carrier.specs.Family.{ComesFrom};
+    ghost use Rattle.ulfm_carrier.specs.Lanes.{lane_name, lane_pushed, lane_taken, known_room, seen_from, IsReady, IsFoundInTurn};
+
+    /// `push`, which waits for nobody and takes no memory.
+    ///
+    /// # Errors
+    ///
+    /// The item itself, where the ring to that rank is full.
+    pub fn push_now(&mut self, dest: u8, item: Item) -> Result<(), Item>
+        requires ready { IsReady self.old }
+        requires dest { dest < vec_len self.old.outs }
+        requires item { ComesFrom self.old.me.number item }
+        ensures name { (lane_name self.new ≡ lane_name self.old) × (self.new.me ≡ self.old.me) × (vec_len self.new.outs ≡ vec_len self.old.outs) × IsReady self.new }
+        ensures taken { (p : ℕ) → lane_taken self.new p ≡ lane_taken self.old p }
+        ensures others { (p : ℕ) → p ≢ dest → lane_pushed self.new p ≡ lane_pushed self.old p }
+        ensures pushed { MatchResult result (λ _. lane_pushed self.new dest ≡ lane_pushed self.old dest ++ item ∷ []) (λ back. (back ≡ item) × (lane_pushed self.new dest ≡ lane_pushed self.old dest)) }
+        ensures full { OnErr result (known_room self.new dest ≡ 0) }
+        ensures succeeds { 0 < known_room self.old dest → IsOk result }
+    {
+        let out = &mut self.outs[dest as usize];
+        match out.push(Carried::of(&item)) {
+            Ok(()) => Ok(()),
+            Err(_) => Err(item),
+        }
+    }
+
+    /// `pop`, which waits for nobody and takes no memory. It looks at the ranks upwards and round, from the one after the
+    /// last from which it took, first of all from rank 0.
+    pub fn pop_now(&mut self) -> Option<(WorldRank, Item)>
+        requires ready { IsReady self.old }
+        ensures name { (lane_name self.new ≡ lane_name self.old) × (self.new.me ≡ self.old.me) × (vec_len self.new.outs ≡ vec_len self.old.outs) × IsReady self.new }
+        ensures pushed { (p : ℕ) → lane_pushed self.new p ≡ lane_pushed self.old p }
+        ensures sender { MatchOption result (Unit {0}) (λ found. (found.0.number < vec_len self.old.outs) × ComesFrom found.0.number found.1) }
+        ensures taken { MatchOption result ((p : ℕ) → lane_taken self.new p ≡ lane_taken self.old p)
+            (λ found. (lane_taken self.new found.0.number ≡ lane_taken self.old found.0.number ++ found.1 ∷ []) × ((p : ℕ) → p ≢ found.0.number → lane_taken self.new p ≡ lane_taken self.old p)) }
+        ensures nothing_seen { IfNone result ((p : ℕ) → seen_from self.new p ≡ []) }
+        ensures in_turn { IfSome result (λ found. IsFoundInTurn self.old self.new found.0.number) }
+    {
+        let count = self.ins.len() as u8;
+        let start = self.next;
+        for step in 0..count {
+            let peer = ((start as u16 + step as u16) % count as u16) as u8;
+            let Some(item) = self.pop_from(peer) else {
+                continue;
+            };
+            self.next = peer + 1;
+            return Some((WorldRank { number: peer }, item));
+        }
+        None
+    }
+
+    /// Pops from the ring of one rank.
+    fn pop_from(&mut self, peer: u8) -> Option<Item>
+        requires ready { IsReady self.old }
+        requires peer { peer < vec_len self.old.outs }
+        ensures name { (lane_name self.new ≡ lane_name self.old) × (self.new.me ≡ self.old.me) × (self.new.outs ≡ self.old.outs) × IsReady self.new }
+        ensures next { self.new.next ≡ self.old.next }
+        ensures nothing_seen { IfNone result (seen_from self.new peer ≡ []) }
+        ensures others_seen { (p : ℕ) → p ≢ peer → seen_from self.new p ≡ seen_from self.old p }
+        ensures others { (p : ℕ) → p ≢ peer → lane_taken self.new p ≡ lane_taken self.old p }
+        ensures taken { MatchOption result (lane_taken self.new peer ≡ lane_taken self.old peer) (λ item. ComesFrom peer item × (lane_taken self.new peer ≡ lane_taken self.old peer ++ item ∷ [])) }
+    {
+        let inlet = &mut self.ins[peer as usize];
+        inlet.pop()
+    }
+}
+
+impl Ends for LaneEnds {
+    ghost use Rattle.std.specs.Prelude.{◌≡◌, ℕ, map, vec_len};
+    ghost use Rattle.ulfm_carrier.specs.Family.{at, Keeps, Settled};
+    ghost use Rattle.ulfm_carrier.specs.Lanes.{lane_name, lane_pushed, lane_taken, IsReady, OneCall};
+
+    type Name = LaneName;
+
+    ghost name = { lane_name };
+
+    ghost one_call = { OneCall };
+
+    ghost place = { λ e. e.me.number };
+
+    ghost count = { λ e. vec_len e.outs };
+
+    ghost pushed = { lane_pushed };
+
+    ghost taken = { lane_taken };
+
+    ghost ready = { IsReady };
+
+    fn me(&self) -> WorldRank {
+        self.me
+    }
+
+    fn push<R: Wait>(&mut self, _rt: &R, dest: u8, item: Item) -> Result<(), Item> {
+        self.push_now(dest, item)
+    }
+
+    fn pop<R: Wait>(&mut self, _rt: &R) -> Option<(WorldRank, Item)> {
+        self.pop_now()
+    }
+
+    fn gather<R: Wait>(_rt: &R, ends: Vec<LaneEnds>) -> (Residue, Vec<LaneEnds>)
+        requires family { OneCall (map lane_name ends.items) }
+        requires ready { (k : ℕ) (e : _) → at ends.items k e → IsReady e }
+        ensures same { Keeps lane_name lane_pushed lane_taken ends.items result.1.items }
+        ensures residue { Settled lane_pushed lane_taken ends.items result.0.inboxes.items }
+    {
+        gather_all(ends)
+    }
+}

@@ -1,0 +1,19 @@
+//! How items go from rank to rank: each rank has an end, by which it pushes to the inbox of each rank and pops from
+//! its own.
+#![tactic(auto)]
+
+mod carried;
+mod ends;
+mod gathering;
+mod inlet;
+mod lane_ends;
+mod residue;
+#[cfg(test)]
+mod tests;
+mod wiring;
+
+pub use carried::Carried;
+pub use ends::Ends;
+pub use lane_ends::{LaneEnds, LaneName, RingName};
+pub use residue::Residue;
+pub use wiring::lanes;

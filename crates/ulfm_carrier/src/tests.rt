@@ -1,0 +1,194 @@
+//! Items go through rings, as the ranks see it, and a gathering gives what is left.
+ghost use Rattle.std.specs.Prelude.{◌≡◌, ◌<◌, ℕ, map, vec_len, IfOk};
+ghost use Rattle.ulfm_carrier.specs.Family.{ComesFrom, at};
+ghost use Rattle.ulfm_carrier.specs.Lanes.{lane_name, AllReady, OneCall};
+
+use crate::ends::Ends;
+use crate::lane_ends::LaneEnds;
+use crate::residue::Residue;
+use crate::wiring::lanes;
+use std::sync::Wait;
+use std::test::Fail;
+use ulfm_base::{Body, CallError, Context, Envelope, Item, Letter, Tag, WorldRank};
+
+// A letter of one byte.
+fn letter(source: u8, byte: u8) -> Result<Item, CallError>
+    ensures { IfOk result (λ item. ComesFrom source item) }
+{
+    if source >= 8 {
+        return Err(CallError::BadRank);
+    }
+    let envelope = Envelope {
+        context: Context::WORLD,
+        source: WorldRank { number: source },
+        tag: Tag::new(5)?,
+    };
+    let body = Body::from_bytes(&[byte])?;
+    Ok(Item::Letter(Letter { envelope, body }))
+}
+
+// The byte of a letter of one byte.
+fn byte_of(item: &Item) -> Option<u8> {
+    match item {
+        Item::Letter(letter) => letter.body.as_bytes().first().copied(),
+        _ => None,
+    }
+}
+
+// A rank pushes a letter to rank 1: the byte of the letter that is handed back.
+fn push(ends: &mut Vec<LaneEnds>, from: u8, byte: u8) -> Result<Option<u8>, CallError>
+    requires dest { 1 < vec_len ends.old }
+    requires family { OneCall (map lane_name ends.old.items) }
+    requires ready { AllReady ends.old.items }
+    ensures len { vec_len ends.new ≡ vec_len ends.old }
+    ensures family { OneCall (map lane_name ends.new.items) }
+    ensures ready { AllReady ends.new.items }
+{
+    if from as usize >= ends.len() {
+        return Err(CallError::BadRank);
+    }
+    let item = letter(from, byte)?;
+    let end = &mut ends[from as usize];
+    match end.push_now(1, item) {
+        Ok(()) => Ok(None),
+        Err(back) => Ok(byte_of(&back)),
+    }
+}
+
+// A rank pops: the sender's number, and the byte of its letter.
+fn pop(ends: &mut Vec<LaneEnds>, place: usize) -> Option<(u8, Option<u8>)>
+    requires place { place < vec_len ends.old }
+    requires family { OneCall (map lane_name ends.old.items) }
+    requires ready { AllReady ends.old.items }
+    ensures len { vec_len ends.new ≡ vec_len ends.old }
+    ensures family { OneCall (map lane_name ends.new.items) }
+    ensures ready { AllReady ends.new.items }
+{
+    let end = &mut ends[place];
+    let found = end.pop_now();
+    found.map(|(source, item)| (source.number, byte_of(&item)))
+}
+
+// These ranks push these letters to rank 1: whether each was accepted.
+fn accepts_all(ends: &mut Vec<LaneEnds>, letters: &[(u8, u8)]) -> Result<bool, CallError>
+    requires dest { 1 < vec_len ends.old }
+    requires family { OneCall (map lane_name ends.old.items) }
+    requires ready { AllReady ends.old.items }
+    ensures len { vec_len ends.new ≡ vec_len ends.old }
+    ensures family { OneCall (map lane_name ends.new.items) }
+    ensures ready { AllReady ends.new.items }
+{
+    for (source, byte) in letters {
+        if push(ends, *source, *byte)?.is_some() {
+            return Ok(false);
+        }
+    }
+    Ok(true)
+}
+
+// Rank 1 pops: whether it finds these letters, in this order, and no more.
+fn finds(ends: &mut Vec<LaneEnds>, letters: &[(u8, u8)]) -> bool
+    requires place { 1 < vec_len ends.old }
+    requires family { OneCall (map lane_name ends.old.items) }
+    requires ready { AllReady ends.old.items }
+    ensures len { vec_len ends.new ≡ vec_len ends.old }
+    ensures family { OneCall (map lane_name ends.new.items) }
+    ensures ready { AllReady ends.new.items }
+{
+    for (source, byte) in letters {
+        if pop(ends, 1) != Some((*source, Some(*byte))) {
+            return false;
+        }
+    }
+    pop(ends, 1).is_none()
+}
+
+// A rank sends to itself, and takes what it finds.
+fn to_itself<E: Ends, R: Wait>(rt: &R, end: &mut E, item: Item) -> Option<(WorldRank, Item)>
+    requires ready { E.ready end.old }
+    requires inside { E.place end.old < E.count end.old }
+    requires item { ComesFrom (E.place end.old) item }
+{
+    let me = end.me();
+    if end.push(rt, me.number, item).is_err() {
+        return None;
+    }
+    end.pop(rt)
+}
+
+// All ends are gathered.
+fn left_of<E: Ends, R: Wait>(rt: &R, ends: Vec<E>) -> Residue
+    requires family { E.one_call (map E.name ends.items) }
+    requires ready { (k : ℕ) (e : E) → at ends.items k e → E.ready e }
+{
+    let (residue, _ends) = E::gather(rt, ends);
+    residue
+}
+
+#[test]
+fn one_place_in_each_ring(rt: HostRuntime) -> Result<(), Fail> {
+    let mut ends = lanes(rt.alloc(), 2, 1)?;
+    assert_eq!(rt; push(&mut ends, 0, b'A')?, None);
+    assert_eq!(rt; push(&mut ends, 0, b'B')?, Some(b'B'));
+    assert!(rt; finds(&mut ends, &[(0, b'A')]));
+    assert_eq!(rt; push(&mut ends, 0, b'B')?, None);
+    let residue = left_of(&rt, ends);
+    let wants: [&[(u8, u8)]; 2] = [&[], &[(0, b'B')]];
+    assert_eq!(rt; residue.inboxes.len(), wants.len());
+    for (inbox, want) in residue.inboxes.iter().zip(wants) {
+        assert_eq!(rt; inbox.len(), want.len());
+        for ((source, item), (number, byte)) in inbox.iter().zip(want) {
+            assert_eq!(rt; source.number, *number);
+            assert_eq!(rt; byte_of(item), Some(*byte));
+        }
+    }
+    Ok(())
+}
+
+#[test]
+fn senders_in_turn(rt: HostRuntime) -> Result<(), Fail> {
+    let mut ends = lanes(rt.alloc(), 3, 4)?;
+    assert!(rt;
+        accepts_all(
+            &mut ends,
+            &[(2, b'a'), (2, b'b'), (0, b'c'), (1, b'd'), (0, b'e')]
+        )?
+    );
+    assert!(rt;
+        finds(
+            &mut ends,
+            &[(0, b'c'), (1, b'd'), (2, b'a'), (0, b'e'), (2, b'b')]
+        )
+    );
+    assert!(rt; accepts_all(&mut ends, &[(1, b'f')])?);
+    assert!(rt; finds(&mut ends, &[(1, b'f')]));
+    assert!(rt; accepts_all(&mut ends, &[(0, b'g'), (2, b'h')])?);
+    assert!(rt; finds(&mut ends, &[(2, b'h'), (0, b'g')]));
+    assert_eq!(rt; pop(&mut ends, 0), None);
+    Ok(())
+}
+
+#[test]
+fn sizes_in_range(rt: HostRuntime) {
+    for (n, capacity) in [(0, 1), (9, 1), (1, 0), (1, 65), (0, 65)] {
+        assert!(rt; matches!(lanes(rt.alloc(), n, capacity), Err(CallError::BadSize)));
+    }
+    for (n, capacity) in [(1, 1), (8, 64)] {
+        assert!(rt; lanes(rt.alloc(), n, capacity).is_ok());
+    }
+}
+
+// A thread may own it.
+fn crosses<T: Send + Drop + 'static>(_end: T) {}
+
+#[test]
+fn ends_for_threads(rt: HostRuntime) -> Result<(), Fail> {
+    let mut ends = lanes(rt.alloc(), 1, 1)?;
+    let Some(mut end) = ends.pop() else {
+        return Err(Fail::new("no end"));
+    };
+    let found = to_itself(&rt, &mut end, letter(0, b'A')?);
+    assert!(rt; matches!(found, Some((WorldRank { number: 0 }, _))));
+    crosses(end);
+    Ok(())
+}
