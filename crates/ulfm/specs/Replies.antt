@@ -22,6 +22,7 @@ fault_text UnknownKey = codes "J3"
 fault_text OutOfRange = codes "J4"
 fault_text UnknownOp = codes "J5"
 
+-- how a refusal of a job is printed
 abbrev pub job_fault_text : JobFault → List ℕ
 job_fault_text NotToml = codes "J1"
 job_fault_text (InJob f) = fault_text f

@@ -7,12 +7,15 @@ use Rattle.clap.specs.declared.error.kind.ErrorKind.{ErrorKind}
 use Rattle.clap.specs.declared.error.kind.ErrorKind.TheVariants.{DisplayHelp, DisplayVersion}
 use Rattle.clap.specs.Words.{App, Text, Kinds, IsAmong, new_app, subcommand_of, fault_of, with_subcommand}
 
+-- the command `check`
 abbrev pub check_app : App
 check_app = new_app (codes "check")
 
+-- the command `replay`
 abbrev pub replay_app : App
 replay_app = new_app (codes "replay")
 
+-- the command `ulfm`, to which its subcommands come
 abbrev pub plain_app : App
 plain_app = new_app (codes "ulfm")
 
@@ -20,6 +23,7 @@ plain_app = new_app (codes "ulfm")
 abbrev pub demanding_app : App
 demanding_app = record plain_app { top = record (plain_app.top) { subcommand_required = true } }
 
+-- the whole command line
 abbrev pub tool_app : App
 tool_app = with_subcommand (with_subcommand demanding_app check_app.top) replay_app.top
 

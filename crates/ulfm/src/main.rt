@@ -22,7 +22,9 @@ fn main(rt: HostRuntime) -> ExitCode {
 /// The words of the command line, the program's name first.
 fn words_of(rt: &HostRuntime) -> Result<Vec<String>, ErrorKind> {
     let words = env::args(rt).map_err(|error| error.kind())?;
-    words.collect(rt.alloc()).map_err(|_| ErrorKind::OutOfMemory)
+    words
+        .collect(rt.alloc())
+        .map_err(|_| ErrorKind::OutOfMemory)
 }
 
 #[cfg(test)]

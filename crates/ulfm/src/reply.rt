@@ -11,14 +11,19 @@ use ulfm_world::replay;
 /// The statuses (docs/JOBS.md).
 pub const DONE: u8 = 0;
 
+/// The job is refused.
 pub const JOB_REFUSED: u8 = 1;
 
+/// The words are no command line that can be followed.
 pub const USAGE: u8 = 2;
 
+/// The run found no memory.
 pub const RUN_FAILED: u8 = 3;
 
+/// The output took a beginning alone.
 pub const OUTPUT_FAILED: u8 = 4;
 
+/// The input could not be read, and nothing was written.
 pub const INPUT_FAILED: u8 = 5;
 
 /// A status, and the text that is written with it.

@@ -1,3 +1,4 @@
+-- Groups: lists of distinct ranks, and where a member stands (MPI 4.0, 7.3).
 use Rattle.std.specs.Prelude.{◌≡◌, ℕ, zero, suc, Bool, false, List, [], ◌∷◌, ◌++◌, ⊤, ◌<◌, ◌==◌, not, filter, Option, Some, None, slice_get, if◌then◌else◌}
 use Rattle.std.specs.List.{list_any}
 
@@ -10,6 +11,7 @@ abbrev pub IsGroup : List ℕ → Type 0
 IsGroup [] = ⊤
 IsGroup (m ∷ group) = (m < 8) × (is_member group m ≡ false) × IsGroup group
 
+-- a position, one further on
 abbrev pub later : Option ℕ → Option ℕ
 later None = None
 later (Some k) = Some (suc k)
@@ -36,6 +38,7 @@ abbrev pub numbers_from : ℕ → ℕ → List ℕ
 numbers_from k zero = []
 numbers_from k (suc n) = k ∷ numbers_from (suc k) n
 
+-- the position of a rank, where there is one
 abbrev pub position_in : List ℕ → Option ℕ → Option ℕ
 position_in other None = None
 position_in other (Some member) = rank_in other member

@@ -1,3 +1,4 @@
+-- Which envelopes a receive admits (MPI 4.0, 3.2.4 and 3.5).
 use Rattle.std.specs.Prelude.{◌≡◌, ℕ, Bool, true, false, ◌==◌, ⊤, Option, Some, None}
 use Rattle.ulfm_base.specs.declared.rank.WorldRank.{WorldRank}
 use Rattle.ulfm_base.specs.declared.pattern.Source.{Source}

@@ -4,6 +4,7 @@ ghost use Rattle.std.specs.Prelude.{◌≡◌, ◌<◌, ◌≤◌, MatchOption};
 /// The context of a communicator, 0 to 62. The world's is 0.
 #[derive(Clone, Copy, Debug, PartialEq, Eq)]
 pub struct Context {
+    /// 0 to 62: the world's is 0.
     pub number: u8,
     pub ghost in_range: { number < 63 },
 }

@@ -10,10 +10,15 @@ use crate::rank_set::RankSet;
 /// failures that it knew at its entry, the excluded members, and the new group.
 #[derive(Drop)]
 pub struct Decision {
+    /// Whose communicator is shrunk.
     pub context: Context,
+    /// The group of that communicator.
     pub old: Group,
+    /// By its number, the set of each rank that is listed.
     pub entries: [Option<RankSet>; 8],
+    /// The members that the new group lacks.
     pub excluded: RankSet,
+    /// The new group.
     pub fresh: Group,
     pub ghost lawful: { IsLawfulDecision context.number old entries excluded fresh } by { IsLawfulDecision-prop context.number old entries excluded fresh },
 }

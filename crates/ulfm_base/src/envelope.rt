@@ -8,14 +8,19 @@ use crate::tag::Tag;
 /// What a letter is matched by. The destination is the rank that holds it.
 #[derive(Clone, Copy, Debug, PartialEq, Eq)]
 pub struct Envelope {
+    /// The communicator.
     pub context: Context,
+    /// The sender.
     pub source: WorldRank,
+    /// The tag that the sender chose.
     pub tag: Tag,
 }
 
 /// A message with its envelope. It is copied without memory.
 #[derive(Clone, Copy)]
 pub struct Letter {
+    /// What matching looks at.
     pub envelope: Envelope,
+    /// What is carried, 0 to 1,024 bytes.
     pub body: Body,
 }

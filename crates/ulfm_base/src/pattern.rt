@@ -10,16 +10,22 @@ use crate::tag::Tag;
 /// The sources whose letters a receive takes: one, or any member of a communicator's group.
 #[derive(Clone, Copy, Debug, PartialEq, Eq)]
 pub enum Source {
+    /// This rank alone.
     One(WorldRank),
+    /// Any of these ranks, which are the members of a group.
     Any(RankSet),
 }
 
 /// What a receive asks for: a context, one source or any, one tag or any, and its room in bytes.
 #[derive(Clone, Copy, Debug, PartialEq, Eq)]
 pub struct Pattern {
+    /// The communicator, which is never left open.
     pub context: Context,
+    /// Whose letters are taken.
     pub source: Source,
+    /// The tag, or any.
     pub tag: Option<Tag>,
+    /// How many bytes there is room for. It plays no part in matching.
     pub room: u16,
 }
 

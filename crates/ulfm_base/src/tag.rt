@@ -6,6 +6,7 @@ use crate::error::CallError;
 /// A tag, 0 to 32767.
 #[derive(Clone, Copy, Debug, PartialEq, Eq)]
 pub struct Tag {
+    /// 0 to 32767.
     pub number: u16,
     pub ghost in_range: { number < 32768 },
 }

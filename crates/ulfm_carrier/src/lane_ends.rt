@@ -22,8 +22,11 @@ pub struct RingName {
 
 /// What tells the ends of a rank from all others. No value of it is made.
 pub struct LaneName {
+    /// The number of the rank.
     pub place: u8,
+    /// The rings that it pushes to, by their receivers.
     pub outs: LinkedList<RingName>,
+    /// The rings that it pops from, by their senders.
     pub ins: LinkedList<RingName>,
 }
 

@@ -6,5 +6,6 @@ use ulfm_base::{Item, WorldRank};
 /// in which it pushed them.
 #[derive(Drop)]
 pub struct Residue {
+    /// By the number of the receiver, its items with their senders.
     pub inboxes: Vec<Vec<(WorldRank, Item)>>,
 }

@@ -36,6 +36,7 @@ FailsOrStarves checks e = Fails checks e ⊎ (Passes checks × (e ≡ OutOfMemor
 abbrev pub group_at : State → ℕ → List ℕ
 group_at r c = members_of r.ranks r.log c
 
+-- the communicator c was not made at this rank
 abbrev pub lacks : State → ℕ → Bool
 lacks r c = not (is_made r.ranks r.log c)
 
@@ -43,10 +44,12 @@ lacks r c = not (is_made r.ranks r.log c)
 abbrev pub is_outside : State → ℕ → ℕ → Bool
 is_outside r c position = nat_le (length (group_at r c)) position
 
+-- a position is named that no member has
 abbrev pub is_outside_if_named : State → ℕ → Option ℕ → Bool
 is_outside_if_named r c None = false
 is_outside_if_named r c (Some position) = is_outside r c position
 
+-- there is a member, and it is known to have failed
 abbrev pub is_gone_if_member : State → Option ℕ → Bool
 is_gone_if_member r None = false
 is_gone_if_member r (Some member) = is_gone r.log member
@@ -63,18 +66,23 @@ start_checks me n = (nat_lt n 1 || nat_lt 8 n, BadSize) ∷ (nat_le n me, BadRan
 abbrev pub comm_checks : State → ℕ → List Check → List Check
 comm_checks r c more = (is_stopped r.log, Stopped) ∷ (lacks r c, NoComm) ∷ more
 
+-- of a send to a position, of a body of so many bytes
 abbrev pub send_checks : State → ℕ → ℕ → ℕ → List Check
 send_checks r c dest size = comm_checks r c ((is_revoked r.log c, Revoked) ∷ (is_outside r c dest, BadRank) ∷ (nat_lt 1024 size, TooLong) ∷ (is_gone_at r c dest, ProcFailed) ∷ [])
 
+-- of a receive from a position or any
 abbrev pub receive_checks : State → ℕ → Option ℕ → List Check
 receive_checks r c source = comm_checks r c ((is_revoked r.log c, Revoked) ∷ (is_outside_if_named r c source, BadRank) ∷ [])
 
+-- of a duplication
 abbrev pub dup_checks : State → ℕ → List Check
 dup_checks r c = comm_checks r c ((is_revoked r.log c, Revoked) ∷ (is_made r.ranks r.log (dup_of c), AlreadyMade) ∷ (nat_le 63 (dup_of c), NoContext) ∷ [])
 
+-- of an entry into a shrink
 abbrev pub shrink_checks : State → ℕ → List Check
 shrink_checks r c = comm_checks r c ((has_entered r.log c, AlreadyMade) ∷ (nat_le 63 (shrink_of c), NoContext) ∷ [])
 
+-- of the question for a proposal
 abbrev pub proposal_checks : State → ℕ → List Check
 proposal_checks r c = comm_checks r c ((not (has_entered r.log c), NotEntered) ∷ [])
 

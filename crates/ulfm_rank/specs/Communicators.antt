@@ -35,6 +35,7 @@ group_of n log c = find_group c (comms_of n log)
 abbrev pub is_made : ℕ → List Entry → ℕ → Bool
 is_made n log c = is_some (group_of n log c)
 
+-- a group, or no members where there is none
 abbrev pub or_empty : Option (List ℕ) → List ℕ
 or_empty None = []
 or_empty (Some group) = group

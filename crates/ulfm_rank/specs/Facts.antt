@@ -56,6 +56,7 @@ abbrev pub acknowledged_by : ℕ → ℕ → Entry → ℕ
 acknowledged_by c total (Acknowledged context raised) = if context.number == c then raised else total
 acknowledged_by c total _ = total
 
+-- the last total that is acknowledged of c, or this one
 abbrev pub acknowledged_from : ℕ → ℕ → List Entry → ℕ
 acknowledged_from c total [] = total
 acknowledged_from c total (e ∷ rest) = acknowledged_from c (acknowledged_by c total e) rest
@@ -73,9 +74,11 @@ abbrev pub releases : ℕ → Entry → Bool
 releases k (Released id answer) = id.number == k
 releases k _ = false
 
+-- the request of this number was released
 abbrev pub is_released : List Entry → ℕ → Bool
 is_released log k = list_any (releases k) log
 
+-- an entry is the stop
 abbrev pub is_stop : Entry → Bool
 is_stop Stopped = true
 is_stop _ = false
@@ -84,6 +87,7 @@ is_stop _ = false
 abbrev pub is_stopped : List Entry → Bool
 is_stopped log = list_any is_stop log
 
+-- the items of s that an entry took
 abbrev pub took_by : ℕ → Entry → List Item
 took_by s (Took from item) = if from.number == s then item ∷ [] else []
 took_by s _ = []

@@ -33,6 +33,7 @@ pub record Holds (a : Inside) : Type 0 where
   pub shrinks : HasShrinks a.me.number a.log.items a.shrinks
   pub places : vec_len a.log + (index_map_len a.requests + stop_places a.stopped) ≤ vec_capacity a.log
 
+-- the state that the fields of a rank are seen as
 abbrev pub state_of : Inside → State
 state_of a = record { me = a.me.number; ranks = a.ranks; log = a.log.items; marks = map mark_of a.outboxes.boxes }
 
@@ -40,5 +41,6 @@ state_of a = record { me = a.me.number; ranks = a.ranks; log = a.log.items; mark
 abbrev pub is_prepared : Inside → Bool
 is_prepared a = a.matcher.prepared && (nat_lt (vec_len a.log + (index_map_len a.requests + stop_places a.stopped)) (vec_capacity a.log) && a.outboxes.room)
 
+-- what contracts see of the fields of a rank
 abbrev pub view_of : Inside → View
 view_of a = record { state = state_of a; prepared = is_prepared a }

@@ -27,18 +27,23 @@ pub record Boxes : Type 0 where
   pub boxes : List Box
   pub room : Bool
 
+-- an outbox without its room
 abbrev pub contents_of : Slot → Box
 contents_of slot = slot.contents
 
+-- an outbox has room for one more place
 abbrev pub has_room : Slot → Bool
 has_room slot = slot.room
 
+-- the outbox of a rank that starts
 abbrev pub empty_box : Box
 empty_box = record { places = []; taken = 0; told = false }
 
+-- the outbox towards d
 abbrev pub box_at : List Box → ℕ → Box
 box_at boxes d = slice_index_or boxes d empty_box
 
+-- how far an outbox went out
 abbrev pub mark_of : Box → Mark
 mark_of b = record { taken = b.taken; told = b.told }
 
@@ -46,12 +51,15 @@ mark_of b = record { taken = b.taken; told = b.told }
 abbrev pub with_place : Box → ℕ → Box
 with_place b place = record { places = b.places ++ place ∷ []; taken = b.taken; told = b.told }
 
+-- an outbox of which so many items went out
 abbrev pub with_taken : Box → ℕ → Box
 with_taken b taken = record { places = b.places; taken = taken; told = b.told }
 
+-- an outbox whose notice went out or did not
 abbrev pub with_told : Box → Bool → Box
 with_told b told = record { places = b.places; taken = b.taken; told = told }
 
+-- the item that a taken item leaves for others
 abbrev pub left_by_item : Item → Option Item
 left_by_item (Revoke context) = Some (Revoke context)
 left_by_item _ = None
@@ -64,6 +72,7 @@ left_by (Entered context known) = Some (Enter context known)
 left_by (Took from item) = left_by_item item
 left_by _ = None
 
+-- the item that an entry leaves, where there is one
 abbrev pub left_by_entry : Option Entry → Option Item
 left_by_entry None = None
 left_by_entry (Some e) = left_by e

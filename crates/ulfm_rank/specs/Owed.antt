@@ -19,6 +19,7 @@ is_told me before d = not (me == d) && not (is_gone before d)
 abbrev pub passed_on : ℕ → List Entry → Context → ℕ → List Item
 passed_on me before context d = if is_revoked before context.number then [] else (if is_told me before d then Revoke context ∷ [] else [])
 
+-- what a taken item makes its taker owe to d
 abbrev pub owed_by_item : ℕ → List Entry → ℕ → Item → List Item
 owed_by_item me before d (Revoke context) = passed_on me before context d
 owed_by_item me before d _ = []

@@ -22,6 +22,7 @@ abbrev pub outcome_of : Option Letter → Bool → Outcome
 outcome_of (Some letter) gone = Paired letter
 outcome_of None gone = if gone then Failed else Waiting
 
+-- the receive still waits
 abbrev pub is_waiting : Outcome → Bool
 is_waiting Waiting = true
 is_waiting _ = false

@@ -20,6 +20,7 @@ abbrev pub entry_of : ℕ → Entry → Option RankSet
 entry_of c (Entered context known) = if context.number == c then Some known else None
 entry_of c _ = None
 
+-- the set of an item that tells of an entry into the shrink of c
 abbrev pub item_entry : ℕ → Item → Option RankSet
 item_entry c (Enter context known) = if context.number == c then Some known else None
 item_entry c _ = None
@@ -46,6 +47,7 @@ has_adopted log c = list_any (adopts c) log
 abbrev pub listed_of : ℕ → List Entry → ℕ → ℕ → Option RankSet
 listed_of me log c r = if r == me then first_of (entry_of c) log else first_of (heard_of c r) log
 
+-- a set, where there is one, has r
 abbrev pub in_set : Option RankSet → ℕ → Bool
 in_set None r = false
 in_set (Some set) r = has set r

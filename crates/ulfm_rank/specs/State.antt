@@ -11,6 +11,7 @@ pub record Mark : Type 0 where
   pub taken : ℕ
   pub told : Bool
 
+-- the mark of an outbox of which nothing went out
 abbrev pub no_mark : Mark
 no_mark = record { taken = 0; told = false }
 
@@ -34,9 +35,11 @@ start_state me n = record { me = me; ranks = n; log = []; marks = replicate n no
 abbrev pub logged : State → Entry → State
 logged r e = record { me = r.me; ranks = r.ranks; log = r.log ++ e ∷ []; marks = r.marks }
 
+-- the rank with other marks
 abbrev pub with_marks : State → List Mark → State
 with_marks r marks = record { me = r.me; ranks = r.ranks; log = r.log; marks = marks }
 
+-- the mark of the outbox towards d
 abbrev pub mark_at : State → ℕ → Mark
 mark_at r d = slice_index_or r.marks d no_mark
 
@@ -44,6 +47,7 @@ mark_at r d = slice_index_or r.marks d no_mark
 abbrev pub owes : State → ℕ → List Item
 owes r d = owed r.ranks r.me r.log d
 
+-- the notice of the stop, where it went out
 abbrev pub notice : Bool → List Item
 notice told = if told then Gone ∷ [] else []
 

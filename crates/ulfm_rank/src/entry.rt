@@ -8,6 +8,7 @@ use ulfm_match::RequestId;
 /// Names a communicator by its context.
 #[derive(Clone, Copy, Debug, PartialEq, Eq)]
 pub struct Comm {
+    /// 0 to 62.
     pub context: Context,
 }
 
@@ -16,6 +17,7 @@ pub struct Comm {
 pub struct Status {
     /// The sender's rank in the communicator of the request.
     pub source: u8,
+    /// The letter's tag.
     pub tag: Tag,
     /// How many bytes the body has.
     pub length: usize,

@@ -9,6 +9,7 @@ use Rattle.ulfm_script.specs.declared.fault.Fault.TheVariants.{BadKey, UnknownKe
 
 -- one check after another: the first fault is the answer
 infixl 10 ◌>>=◌
+-- the second from what the first gives, or the error of the first
 abbrev pub ◌>>=◌ : {A B E : Type 0} → Result A E → (A → Result B E) → Result B E
 (Ok x) >>= f = f x
 (Err e) >>= f = Err e
@@ -18,6 +19,7 @@ abbrev pub required : {A : Type 0} → (Data → Option A) → Option Data → R
 required as_kind None = Err BadKey
 required as_kind (Some d) = ok_or (as_kind d) BadKey
 
+-- what was found, or nothing where it was not
 abbrev pub or_none : {A : Type 0} → Result A Fault → Result (Option A) Fault
 or_none (Ok x) = Ok (Some x)
 or_none (Err e) = Err e
@@ -27,12 +29,15 @@ abbrev pub optional : {A : Type 0} → (Data → Option A) → Option Data → R
 optional as_kind None = Ok None
 optional as_kind (Some d) = or_none (ok_or (as_kind d) BadKey)
 
+-- the number of a key that must be there
 abbrev pub required_number : List ℕ → Members → Result ℤ Fault
 required_number key ms = required as_integer (get_member key ms)
 
+-- the number of a key, where it is there
 abbrev pub optional_number : List ℕ → Members → Result (Option ℤ) Fault
 optional_number key ms = optional as_integer (get_member key ms)
 
+-- the text of a key that must be there
 abbrev pub required_text : List ℕ → Members → Result (List ℕ) Fault
 required_text key ms = required as_str (get_member key ms)
 

@@ -4,6 +4,7 @@ use Rattle.toml.specs.View.{items_view}
 use Rattle.ulfm_script.specs.declared.head.Head.{Head as Coded}
 use Rattle.ulfm_script.specs.JobText.{Head}
 
+-- the numbers of the top keys, as they are kept
 abbrev pub head_view : Coded → Head
 head_view h = record { ranks = h.ranks; capacity = h.capacity; turns = h.turns; steps = items_view h.steps.now }
 

@@ -38,6 +38,7 @@ pub record IsJob (j : Seen) : Type 0 where
 abbrev pub script_at : Seen → ℕ → List Step
 script_at j r = slice_index_or j.scripts r []
 
+-- the step is a stop
 abbrev pub is_stop_step : Step → Bool
 is_stop_step Stop = true
 is_stop_step _ = false

@@ -26,6 +26,7 @@ abbrev pub step_in : ℕ → ℕ → Option Members → Result PlannedStep JobFa
 step_in ranks k None = Err (refused.InStep BadKey k)
 step_in ranks k (Some ms) = in_step k (step_of ranks ms)
 
+-- the step at a place of the file, or its fault with the place
 abbrev pub step_at : ℕ → ℕ → Data → Result PlannedStep JobFault
 step_at ranks k d = step_in ranks k (as_table d)
 
@@ -39,6 +40,7 @@ abbrev pub are_tables : Items → Bool
 are_tables no_items = true
 are_tables (item d ds) = is_some (as_table d) && are_tables ds
 
+-- how many items an array has
 abbrev pub items_len : Items → ℕ
 items_len no_items = 0
 items_len (item d ds) = items_len ds + 1
@@ -48,10 +50,12 @@ abbrev pub tables_in : Option Items → Result Items Fault
 tables_in None = Err BadKey
 tables_in (Some ds) = if are_tables ds then Ok ds else Err BadKey
 
+-- the items of the key `step`, where it is there
 abbrev pub step_items_in : Option Data → Result Items Fault
 step_items_in None = Ok no_items
 step_items_in (Some d) = tables_in (as_array d)
 
+-- the items of the steps of a table
 abbrev pub step_items : Members → Result Items Fault
 step_items ms = step_items_in (get_member (codes "step") ms)
 
@@ -62,6 +66,7 @@ pub record Head : Type 0 where
   pub turns : ℕ
   pub steps : Items
 
+-- the numbers of the top keys, in range
 unfoldable pub head_of : Members → Result Head Fault
 head_of ms = do
   ranks_key ← required_number (codes "ranks") ms

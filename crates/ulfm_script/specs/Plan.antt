@@ -36,6 +36,7 @@ script_of steps r = map (λ s. s.order) (filter (λ s. s.rank == r) steps)
 abbrev pub scripts_of : ℕ → List PlannedStep → List (List Order)
 scripts_of ranks steps = map (script_of steps) (range_with_len 0 ranks)
 
+-- a step as the order that it keeps
 abbrev pub order_of : Step → Order
 order_of (Send to tag body comm) = send to tag.number body comm.number
 order_of (Recv from tag room comm) = recv from (option_map (λ t. t.number) tag) room comm.number

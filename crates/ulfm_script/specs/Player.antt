@@ -44,9 +44,11 @@ pub record View : Type 0 where
   pub room : ℕ
   pub prepared : Bool
 
+-- the player of a rank that starts
 abbrev pub start_player : ℕ → ℕ → Player
 start_player me n = record { rank = start_state me n; done = []; current = None; at = 0; polls = 0 }
 
+-- the player with another state of its rank
 abbrev pub with_rank : Player → State → Player
 with_rank p r = record { rank = r; done = p.done; current = p.current; at = p.at; polls = p.polls }
 
@@ -66,6 +68,7 @@ polled p step = record { rank = p.rank; done = p.done; current = Some step; at =
 abbrev pub IsFree : Player → Step → Type 0
 IsFree p step = (p.current ≡ None) ⊎ (p.current ≡ Some step)
 
+-- the communicator of a context
 abbrev pub comm_of : Context → Comm
 comm_of context = record { context = context }
 
@@ -73,6 +76,7 @@ comm_of context = record { context = context }
 abbrev pub Refuses : List Check → CallError → State → State → Type 0
 Refuses checks e r new = FailsOrStarves checks e × (new ≡ r)
 
+-- a send is accepted with its letter, or refused
 abbrev pub AnswersSend : State → ℕ → Tag → List ℕ → Context → StepAnswer → State → Type 0
 AnswersSend r to tag body comm Sent new = Passes (send_checks r comm.number to (length body)) × Sends r (comm_of comm) to tag body new
 AnswersSend r to tag body comm (Refused e) new = Refuses (send_checks r comm.number to (length body)) e r new
@@ -85,10 +89,12 @@ AnswersRecv r source tag room comm (Posted id) new =
 AnswersRecv r source tag room comm (Refused e) new = Refuses (receive_checks r comm.number source) e r new
 AnswersRecv r source tag room comm _ new = ⊥
 
+-- the request that an answer tells of
 abbrev pub request_of : StepAnswer → Option RequestId
 request_of (Posted id) = Some id
 request_of _ = None
 
+-- the request that an answered step tells of, where there is one
 abbrev pub request_in : Option StepReport → Option RequestId
 request_in None = None
 request_in (Some report) = request_of report.answer
@@ -120,6 +126,7 @@ answer_of (TestOver reason) = Some (Over reason)
 answer_of TestPending = Some Pending
 answer_of TestNotYet = None
 
+-- there is no request, or it was released
 abbrev pub IsNoRequestOf : List Entry → Option RequestId → Type 0
 IsNoRequestOf log None = ⊤
 IsNoRequestOf log (Some id) = IsNoRequest log id.number
@@ -136,27 +143,32 @@ AnswersWait before r req _ new = ⊥
 abbrev pub IsFailedList : List ℕ → List Entry → List ℕ → Type 0
 IsFailedList group log positions = positions ≡ filter_map (λ member. rank_in group member) (known_in group log)
 
+-- the failed members are told, or the question is refused
 abbrev pub AnswersFailed : State → Context → StepAnswer → State → Type 0
 AnswersFailed r comm (Ranks members) new = Passes (comm_checks r comm.number []) × IsFailedList (group_at r comm.number) r.log members.items × (new ≡ r)
 AnswersFailed r comm (Refused e) new = Fails (comm_checks r comm.number []) e × (new ≡ r)
 AnswersFailed r comm _ new = ⊥
 
+-- the total is told, or the acknowledgement is refused
 abbrev pub AnswersAck : State → ℕ → Context → StepAnswer → State → Type 0
 AnswersAck r count comm (Acked total) new =
     Passes (comm_checks r comm.number []) × (total ≡ ack_answer (group_at r comm.number) r.log comm.number count) × (new ≡ acknowledging r comm total)
 AnswersAck r count comm (Refused e) new = Refuses (comm_checks r comm.number []) e r new
 AnswersAck r count comm _ new = ⊥
 
+-- the communicator is revoked, or the revocation is refused; where it was revoked before, not for want of memory
 abbrev pub AnswersRevoke : State → Context → StepAnswer → State → Type 0
 AnswersRevoke r comm Revoked new = Passes (comm_checks r comm.number []) × (new ≡ revoking r comm)
 AnswersRevoke r comm (Refused e) new = Refuses (comm_checks r comm.number []) e r new × (e ≡ OutOfMemory → is_revoked r.log comm.number ≡ false)
 AnswersRevoke r comm _ new = ⊥
 
+-- the duplicate is made, or refused
 abbrev pub AnswersDup : State → Context → StepAnswer → State → Type 0
 AnswersDup r comm (Made child) new = Passes (dup_checks r comm.number) × (child.context.number ≡ dup_of comm.number) × (new ≡ logged r (Duplicated comm))
 AnswersDup r comm (Refused e) new = Refuses (dup_checks r comm.number) e r new
 AnswersDup r comm _ new = ⊥
 
+-- the rank stops
 abbrev pub AnswersStop : State → StepAnswer → State → Type 0
 AnswersStop r Stopped new = new ≡ stopping r
 AnswersStop r _ new = ⊥

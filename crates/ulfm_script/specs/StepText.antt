@@ -7,6 +7,7 @@ use Rattle.ulfm_script.specs.declared.fault.Fault.TheVariants.{UnknownOp}
 use Rattle.ulfm_script.specs.Fields.{◌>>=◌, required_number, optional_number, required_text, only_keys, in_range, in_range_if_some}
 use Rattle.ulfm_script.specs.Plan.{PlannedStep, send, recv, wait, failed, ack, revoke, dup, stop}
 
+-- the step of a `send`
 unfoldable pub send_of : ℕ → Members → Result PlannedStep Fault
 send_of ranks ms = do
   rank_key ← required_number (codes "rank") ms
@@ -21,6 +22,7 @@ send_of ranks ms = do
   comm ← in_range 0 62 (unwrap_or comm_key (pos 0))
   Ok (record { rank = rank; order = send to tag (take 1025 body) comm })
 
+-- the step of a `recv`
 unfoldable pub recv_of : ℕ → Members → Result PlannedStep Fault
 recv_of ranks ms = do
   rank_key ← required_number (codes "rank") ms
@@ -36,6 +38,7 @@ recv_of ranks ms = do
   comm ← in_range 0 62 (unwrap_or comm_key (pos 0))
   Ok (record { rank = rank; order = recv from tag room comm })
 
+-- the step of a `wait`
 unfoldable pub wait_of : ℕ → Members → Result PlannedStep Fault
 wait_of ranks ms = do
   rank_key ← required_number (codes "rank") ms
@@ -45,6 +48,7 @@ wait_of ranks ms = do
   req ← in_range 0 255 req_key
   Ok (record { rank = rank; order = wait req })
 
+-- the step of a `failed`
 unfoldable pub failed_of : ℕ → Members → Result PlannedStep Fault
 failed_of ranks ms = do
   rank_key ← required_number (codes "rank") ms
@@ -54,6 +58,7 @@ failed_of ranks ms = do
   comm ← in_range 0 62 (unwrap_or comm_key (pos 0))
   Ok (record { rank = rank; order = failed comm })
 
+-- the step of an `ack`
 unfoldable pub ack_of : ℕ → Members → Result PlannedStep Fault
 ack_of ranks ms = do
   rank_key ← required_number (codes "rank") ms
@@ -65,6 +70,7 @@ ack_of ranks ms = do
   comm ← in_range 0 62 (unwrap_or comm_key (pos 0))
   Ok (record { rank = rank; order = ack count comm })
 
+-- the step of a `revoke`
 unfoldable pub revoke_of : ℕ → Members → Result PlannedStep Fault
 revoke_of ranks ms = do
   rank_key ← required_number (codes "rank") ms
@@ -74,6 +80,7 @@ revoke_of ranks ms = do
   comm ← in_range 0 62 (unwrap_or comm_key (pos 0))
   Ok (record { rank = rank; order = revoke comm })
 
+-- the step of a `dup`
 unfoldable pub dup_of : ℕ → Members → Result PlannedStep Fault
 dup_of ranks ms = do
   rank_key ← required_number (codes "rank") ms
@@ -83,6 +90,7 @@ dup_of ranks ms = do
   comm ← in_range 0 62 (unwrap_or comm_key (pos 0))
   Ok (record { rank = rank; order = dup comm })
 
+-- the step of a `stop`
 unfoldable pub stop_of : ℕ → Members → Result PlannedStep Fault
 stop_of ranks ms = do
   rank_key ← required_number (codes "rank") ms
@@ -90,6 +98,7 @@ stop_of ranks ms = do
   rank ← in_range 0 (ranks - 1) rank_key
   Ok (record { rank = rank; order = stop })
 
+-- the step of an op by its name
 unfoldable pub step_of_op : ℕ → List ℕ → Members → Result PlannedStep Fault
 step_of_op ranks op ms =
     if bytes_eq op (codes "send") then send_of ranks ms

@@ -72,9 +72,11 @@ abbrev pub step_lines : ℕ → ℕ → List StepReport → List ℕ
 step_lines me k [] = []
 step_lines me k (report ∷ reports) = step_line me k report ++ step_lines me (k + 1) reports
 
+-- what a closing line says of turns without room, where there were any
 abbrev pub starved_text : ℕ → List ℕ
 starved_text k = if k == 0 then [] else codes " starved " ++ decimal k
 
+-- the closing line of a rank
 abbrev pub closing_line : ℕ → Bool → ℕ → List ℕ
 closing_line me has_stopped starved = decimal me ++ codes " end: " ++ (if has_stopped then codes "stopped" else codes "done") ++ starved_text starved ++ codes "\n"
 

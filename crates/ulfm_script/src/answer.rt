@@ -47,7 +47,9 @@ pub enum Called {
 /// A step with its answer.
 #[derive(Drop)]
 pub struct StepReport {
+    /// What was to be done.
     pub step: Step,
+    /// What came of it.
     pub answer: StepAnswer,
     /// The log's length when the step's last poll began.
     pub at: usize,

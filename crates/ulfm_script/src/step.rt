@@ -8,34 +8,42 @@ use ulfm_base::{Context, Tag};
 /// named by its context; `req` is the number of the step, of the same rank, that posted the receive.
 #[derive(Clone, Copy)]
 pub enum Step {
+    /// Sends a letter to a position of a communicator.
     Send {
         to: u8,
         tag: Tag,
         body: Text,
         comm: Context,
     },
+    /// Posts a receive, from a position or any, with a tag or any.
     Recv {
         from: Option<u8>,
         tag: Option<Tag>,
         room: u16,
         comm: Context,
     },
+    /// Tests the request of an earlier step.
     Wait {
         req: u16,
     },
+    /// Asks for the failures known in a communicator.
     Failed {
         comm: Context,
     },
+    /// Acknowledges the first failures known in a communicator.
     Ack {
         count: u8,
         comm: Context,
     },
+    /// Revokes a communicator.
     Revoke {
         comm: Context,
     },
+    /// Duplicates a communicator.
     Dup {
         comm: Context,
     },
+    /// The rank stops.
     Stop,
 }
 

@@ -11,6 +11,7 @@ use Rattle.ulfm_rank.specs.State.{State, IsState, owes, gone_out, outbox}
 use Rattle.ulfm_rank.specs.Calls.{IsFrom}
 use Rattle.ulfm_world.specs.World.{World, rank_at, inbox_at, IsRunning, HasStopped}
 
+-- an item, where it came from s
 abbrev pub item_of : ℕ → WorldRank × Item → List Item
 item_of s x = if x.0.number == s then x.1 ∷ [] else []
 
@@ -18,6 +19,7 @@ item_of s x = if x.0.number == s then x.1 ∷ [] else []
 abbrev pub from : ℕ → List (WorldRank × Item) → List Item
 from s items = flat_map (item_of s) items
 
+-- the first list is a front part of the second
 abbrev pub IsBeginning : List Item → List Item → Type 0
 IsBeginning xs ys = (rest : List Item) × (xs ++ rest ≡ ys)
 

@@ -12,6 +12,7 @@ use Rattle.ulfm_script.specs.Job.{Seen, script_at, through_stop, has_stop}
 use Rattle.ulfm_world.specs.World.{World, player_at, rank_at, inbox_at, IsRunning, Reaches, start_world}
 use Rattle.ulfm_world.specs.Rest.{IsAtRest}
 
+-- the step of a report
 abbrev pub step_of : StepReport → Step
 step_of report = report.step
 
@@ -80,6 +81,7 @@ out_at n r = sum_below n (λ d. 2 * length (outbox r d))
 abbrev pub fresh_at : State → ℕ → ℕ
 fresh_at r c = if is_revoked r.log c then 0 else 17
 
+-- what the first revocations of all contexts may still send
 unfoldable pub fresh_of : State → ℕ
 fresh_of r = sum_below 63 (fresh_at r)
 
@@ -87,9 +89,11 @@ fresh_of r = sum_below 63 (fresh_at r)
 abbrev pub weight_of : List Step → ℕ → ℕ → Player → ℕ
 weight_of script turns n p = left_at script turns p + (out_at n p.rank + fresh_of p.rank)
 
+-- what falls with each event, of the player r
 abbrev pub weight_at : Seen → World → ℕ → ℕ
 weight_at j w r = weight_of (script_at j r) j.turns (length w.players) (player_at w r)
 
+-- what an inbox holds
 abbrev pub inbox_weight : World → ℕ → ℕ
 inbox_weight w d = length (inbox_at w d)
 

@@ -21,18 +21,23 @@ pub record World : Type 0 where
   pub inboxes : List (List (WorldRank × Item))
   pub capacity : ℕ
 
+-- a player where there is none
 abbrev pub no_player : Player
 no_player = start_player 0 0
 
+-- the player at a place
 abbrev pub player_in : List Player → ℕ → Player
 player_in players r = slice_index_or players r no_player
 
+-- the player r
 abbrev pub player_at : World → ℕ → Player
 player_at w r = player_in w.players r
 
+-- the rank r
 abbrev pub rank_at : World → ℕ → State
 rank_at w r = (player_in w.players r).rank
 
+-- the inbox of d
 abbrev pub inbox_at : World → ℕ → List (WorldRank × Item)
 inbox_at w d = slice_index_or w.inboxes d []
 
@@ -40,15 +45,19 @@ inbox_at w d = slice_index_or w.inboxes d []
 abbrev pub IsRunning : World → ℕ → Type 0
 IsRunning w r = is_stopped (rank_at w r).log ≡ false
 
+-- the rank r has stopped
 abbrev pub HasStopped : World → ℕ → Type 0
 HasStopped w r = is_stopped (rank_at w r).log ≡ true
 
+-- the world with other players
 abbrev pub with_players : World → List Player → World
 with_players w players = record { players = players; inboxes = w.inboxes; capacity = w.capacity }
 
+-- the world with another player r
 abbrev pub with_player : World → ℕ → Player → World
 with_player w r player = with_players w (slice_set w.players r player)
 
+-- the world with another inbox of d
 abbrev pub with_inbox : World → ℕ → List (WorldRank × Item) → World
 with_inbox w d items = record { players = w.players; inboxes = slice_set w.inboxes d items; capacity = w.capacity }
 
@@ -112,6 +121,7 @@ abbrev pub outcome_of : World → Event → Outcome
 outcome_of new (Call r _) = if is_none (player_at new r).current then Answered else NotYet
 outcome_of new _ = Moved
 
+-- the rank r is one of the world
 abbrev pub IsInside : World → ℕ → Type 0
 IsInside w r = r < length w.players
 
