@@ -120,7 +120,7 @@ module _ (r : State) (done : List StepReport) (h : IsTrueOf r done) (at polls : 
 
   true-revoke : (comm : Context) (answer : StepAnswer) → AnswersRevoke r comm answer new → IsTrueOf new (done ++ report_of (Revoke comm) answer at polls ∷ [])
   true-revoke comm Revoked a = true-unless (is_revoked r.log comm.number) r done (Revoke comm) Revoked at polls new (RevokedEntry comm) h (record { sends = λ group c d. refl; asks = refl; tells = λ n log done. tt; waits = λ q e. let bad : ⊥ = cc in bad }) (record { posts = tt; sends = λ c d. refl; own = λ n. tt }) a.1
-  true-revoke comm (Refused e) a = true-same r done (Revoke comm) (Refused e) at polls new h (refused (Revoke comm) e) a.1
+  true-revoke comm (Refused e) a = true-same r done (Revoke comm) (Refused e) at polls new h (refused (Revoke comm) e) a.0.1
   true-revoke comm _ a = absurd a
 
   true-dup : (comm : Context) (answer : StepAnswer) → AnswersDup r comm answer new → IsTrueOf new (done ++ report_of (Dup comm) answer at polls ∷ [])
