@@ -20,7 +20,7 @@ use Rattle.ulfm_script.specs.declared.step.Step.TheVariants.{Send, Wait}
 use Rattle.ulfm_script.specs.declared.answer.StepAnswer.TheVariants.{Sent, Done, Over}
 use Rattle.ulfm_script.specs.Player.{report_of}
 use Rattle.ulfm_script.specs.Report.{Report}
-use Rattle.ulfm_world.specs.Reader.{report_at, history_at, IsPostedBy, IsSentBy, IsGiven, DoneIsGiven, OverIsTrue, GivesOnce}
+use Rattle.ulfm_world.specs.Reader.{report_at, history_at, IsStep, IsPostedBy, IsSentBy, IsGiven, IsTold, DoneIsGiven, OverIsTrue, GivesOnce, DonesDiffer}
 use Rattle.ulfm_world.proofs.Exists.{some_pairing}
 use Rattle.ulfm_world.proofs.Finding.{AreHonest, same_asked, its_request, same_step, verdict_posted}
 use Rattle.ulfm_world.proofs.Senders.{sender, same_come, same_send}
@@ -123,3 +123,12 @@ module _ (reports : List Report) (all : AreHonest reports) where
       | inr o ↦ elim o [ inl same ↦ same | inr l ↦ absurd ((all.honest d inside).orderly.once m k req y x l gy gx cy cx) ]
     ];
   }
+
+  -- two waits that tell of one send are one
+  pub dones_differ : DonesDiffer reports
+  dones_differ d k req e m other status another body text x y at there sender step =
+      let g : IsGiven reports e other x.sender x.step = subst (λ (s : ℕ). IsGiven reports e other s x.step) (sym sender) (subst (λ (j : ℕ). IsGiven reports e other y.sender j) (sym step) y.given) in
+      let same = gives_once.one_receive d req e other x.sender x.step x.given g in
+      let S : ℕ → ℕ → Type 0 = λ (r q : ℕ). IsStep (report_at reports r) m (Wait q) (Done another text) in
+      let here : IsStep (report_at reports d) m (Wait req) (Done another text) = subst (λ (r : ℕ). S r req) (sym same.0) (subst (λ (q : ℕ). S e q) (sym same.1) there) in
+      (same.0, gives_once.one_wait d k m req (report_of (Wait req) (Done status body) at.at at.polls) (report_of (Wait req) (Done another text) here.at here.polls) x.given.inside at.stands here.stands refl refl)

@@ -44,3 +44,4 @@ pub mod Given
 pub mod Order
 pub mod Missed
 pub mod Reported
+pub mod Faithful

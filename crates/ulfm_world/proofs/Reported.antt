@@ -9,7 +9,7 @@ use Rattle.ulfm_script.specs.Job.{Seen, IsJob}
 use Rattle.ulfm_world.specs.Replay.{report_of, IsReplayed}
 use Rattle.ulfm_world.proofs.Finding.{AreHonest}
 use Rattle.ulfm_world.proofs.Honest.{IsHonest}
-use Rattle.ulfm_world.specs.Reader.{Content, report_at, no_report, letters_come, letters_sent, ComeAsSent, AllHasCome}
+use Rattle.ulfm_world.specs.Reader.{Content, report_at, no_report, letters_come, letters_sent, ComeAsSent, AllHasCome, InEachWorld, InEachReplay}
 use Rattle.ulfm_world.proofs.Arrivals.{come_world, come_all}
 use Rattle.ulfm_world.specs.Rest.{IsAtRest}
 use Rattle.ulfm_rank.specs.Facts.{is_stopped, is_revoked}
@@ -42,11 +42,11 @@ are_honest w h t =
     }
 
 -- what holds of all reports that are true of their logs holds of those of each world that a schedule leads to
-pub in_world : (P : List Report → Type 0) → ((reports : List Report) → AreHonest reports → P reports) → (n capacity : ℕ) (w : World) → n ≤ 8 → Reaches (start_world n capacity) w → P (map report_of w.players)
+pub in_world : (P : List Report → Type 0) → ((reports : List Report) → AreHonest reports → P reports) → InEachWorld P
 in_world P law n capacity w small h = law (map report_of w.players) (are_honest w (world-reached n capacity w small h) (true-reached n capacity w small h))
 
 -- and of those of each replay
-pub in_replay : (P : List Report → Type 0) → ((reports : List Report) → AreHonest reports → P reports) → (j : Seen) (reports : List Report) → IsJob j → IsReplayed j reports → P reports
+pub in_replay : (P : List Report → Type 0) → ((reports : List Report) → AreHonest reports → P reports) → InEachReplay P
 in_replay P law j reports job h = subst P (sym h.reported) (in_world P law j.ranks j.capacity h.world job.few_ranks h.reaches)
 
 all_come : (w : World) → IsWorld w → AreTrue w.players → IsAtRest w → AllHasCome (map report_of w.players)
@@ -65,7 +65,7 @@ all_come w h t rest s d c i j runs_s runs_d fresh =
 pub rest_world : (n capacity : ℕ) (w : World) → n ≤ 8 → Reaches (start_world n capacity) w → IsAtRest w → AllHasCome (map report_of w.players)
 rest_world n capacity w small h rest = all_come w (world-reached n capacity w small h) (true-reached n capacity w small h) rest
 
-pub rest_replay : (j : Seen) (reports : List Report) → IsJob j → IsReplayed j reports → AllHasCome reports
+pub rest_replay : InEachReplay AllHasCome
 rest_replay j reports job h =
     let P : List Report → Type 0 = λ (rs : List Report). AllHasCome rs in
     subst P (sym h.reported) (rest_world j.ranks j.capacity h.world job.few_ranks h.reaches h.rests)

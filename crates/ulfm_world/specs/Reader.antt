@@ -1,5 +1,5 @@
 -- What a reader of reports may rely on: which letter each receive was given, and who sent it (MPI 4.0, 3.5).
-use Rattle.std.specs.Prelude.{◌≡◌, ◌↔◌, ◌++◌, ◌<◌, ◌≤◌, ◌==◌, ◌&&◌, ℕ, Bool, false, List, [], ◌∷◌, length, max, take, Option, Some, None, slice_get, slice_index_or, if◌then◌else◌}
+use Rattle.std.specs.Prelude.{◌≡◌, ◌↔◌, ◌++◌, ◌<◌, ◌≤◌, ◌==◌, ◌&&◌, ℕ, Bool, false, List, [], ◌∷◌, length, map, max, take, Option, Some, None, slice_get, slice_index_or, if◌then◌else◌}
 use Rattle.std.specs.List.{flat_map}
 use Rattle.ulfm_base.specs.declared.tag.Tag.{Tag}
 use Rattle.ulfm_base.specs.declared.context.Context.{Context}
@@ -22,8 +22,11 @@ use Rattle.ulfm_script.specs.declared.step.Step.TheVariants.{Send, Recv, Wait}
 use Rattle.ulfm_script.specs.declared.answer.StepAnswer.{StepAnswer}
 use Rattle.ulfm_script.specs.declared.answer.StepAnswer.TheVariants.{Sent, Posted, Done, Over}
 use Rattle.ulfm_script.specs.declared.answer.StepReport.{StepReport}
-use Rattle.ulfm_script.specs.Player.{report_of}
+use Rattle.ulfm_script.specs.Player.{report_of as told}
 use Rattle.ulfm_script.specs.Report.{Report}
+use Rattle.ulfm_script.specs.Job.{Seen, IsJob}
+use Rattle.ulfm_world.specs.World.{World, start_world, Reaches}
+use Rattle.ulfm_world.specs.Replay.{report_of, IsReplayed}
 
 abbrev pub no_report : Report
 no_report = record { rank = start_state 0 0; steps = []; starved = 0 }
@@ -40,7 +43,7 @@ history_at reports r = history_of (report_at reports r).rank.log
 pub record IsStep (report : Report) (k : ℕ) (asked : Step) (said : StepAnswer) : Type 0 where
   pub at : ℕ
   pub polls : ℕ
-  pub stands : slice_get report.steps k ≡ Some (report_of asked said at polls)
+  pub stands : slice_get report.steps k ≡ Some (told asked said at polls)
 
 -- what a letter carries
 pub record Content : Type 0 where
@@ -175,6 +178,13 @@ pub record GivesOnce (reports : List Report) : Type 0 where
   pub one_wait : (d k m req : ℕ) (x y : StepReport) → d < length reports → slice_get (report_at reports d).steps k ≡ Some x → slice_get (report_at reports d).steps m ≡ Some y →
       closes x.step x.answer ≡ Some req → closes y.step y.answer ≡ Some req → k ≡ m
 
+-- Two waits that are done and tell of one send are one wait.
+abbrev pub DonesDiffer : List Report → Type 0
+DonesDiffer reports =
+    (d k req e m other : ℕ) (status another : Status) (body text : List ℕ) (x : IsTold reports d req status body) (y : IsTold reports e other another text) →
+    IsStep (report_at reports d) k (Wait req) (Done status body) → IsStep (report_at reports e) m (Wait other) (Done another text) →
+    x.sender ≡ y.sender → x.step ≡ y.step → (d ≡ e) × (k ≡ m)
+
 -- No letter overtakes another: of two that one rank sent to another and that a receive admits, the later isn't given to it
 -- unless the earlier was given to a receive that was posted before.
 abbrev pub LettersKeepOrder : List Report → Type 0
@@ -211,3 +221,23 @@ abbrev pub NoneIsMissed : List Report → Type 0
 NoneIsMissed reports =
     (d i s j : ℕ) (pattern : Pattern) (letter : Letter) → d < length reports → IsLeftWaiting reports d i pattern → IsLeftKept reports d s j letter →
     Admits pattern letter.envelope → ⊥
+
+-- All of this: what a trace tells of letters is true of what was sent, once each and in order.
+pub record IsFaithful (reports : List Report) : Type 0 where
+  pub as_sent : ComeAsSent reports
+  pub done : DoneIsGiven reports
+  pub over : OverIsTrue reports
+  pub once : GivesOnce reports
+  pub dones_differ : DonesDiffer reports
+  pub letters_in_order : LettersKeepOrder reports
+  pub receives_in_order : ReceivesKeepOrder reports
+  pub one_pairing : HasOnePairing reports
+  pub none_missed : NoneIsMissed reports
+
+-- P holds of the reports of each world that some schedule leads to
+abbrev pub InEachWorld : (List Report → Type 0) → Type 0
+InEachWorld P = (n capacity : ℕ) (w : World) → n ≤ 8 → Reaches (start_world n capacity) w → P (map report_of w.players)
+
+-- P holds of all reports that a replay of a job may give
+abbrev pub InEachReplay : (List Report → Type 0) → Type 0
+InEachReplay P = (j : Seen) (reports : List Report) → IsJob j → IsReplayed j reports → P reports

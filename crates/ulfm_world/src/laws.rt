@@ -1,11 +1,9 @@
 //! Laws over every schedule, without threads: what holds of each world that a list of events leads to.
-ghost use Rattle.std.specs.Prelude.{ℕ, ◌≤◌, List, map};
-ghost use Rattle.ulfm_script.specs.Job.{Seen as Job, IsJob};
-ghost use Rattle.ulfm_script.specs.Report.{Report};
+ghost use Rattle.std.specs.Prelude.{ℕ, ◌≤◌, map};
 ghost use Rattle.ulfm_world.specs.World.{World, start_world, Reaches};
 ghost use Rattle.ulfm_world.specs.Flow.{Flows};
-ghost use Rattle.ulfm_world.specs.Reader.{AllHasCome, ComeAsSent, DoneIsGiven, GivesOnce, HasOnePairing, LettersKeepOrder, NoneIsMissed, OverIsTrue, ReceivesKeepOrder};
-ghost use Rattle.ulfm_world.specs.Replay.{report_of, IsReplayed};
+ghost use Rattle.ulfm_world.specs.Reader.{AllHasCome, ComeAsSent, DoneIsGiven, DonesDiffer, GivesOnce, HasOnePairing, InEachReplay, InEachWorld, IsFaithful, LettersKeepOrder, NoneIsMissed, OverIsTrue, ReceivesKeepOrder};
+ghost use Rattle.ulfm_world.specs.Replay.{report_of};
 ghost use Rattle.ulfm_world.specs.Rest.{IsAtRest, KnowsStopped, AgreesOnRevoked};
 
 /// Whatever events come, between each pair of ranks nothing is lost, made or overtaken (MPI 4.0, 3.5).
@@ -27,58 +25,66 @@ pub fn agreed_at_rest()
 /// Whatever events come, on each communicator the letters that came to a rank from another one are a beginning of those
 /// that the answered steps of that one sent to it (MPI 4.0, 3.5).
 pub fn letters_come_as_sent()
-    ensures worlds { (n capacity : ℕ) (w : World) → n ≤ 8 → Reaches (start_world n capacity) w → ComeAsSent (map report_of w.players) }
-    ensures replays { (j : Job) (reports : List Report) → IsJob j → IsReplayed j reports → ComeAsSent reports }
+    ensures worlds { InEachWorld ComeAsSent }
+    ensures replays { InEachReplay ComeAsSent }
 {}
 
 /// Whatever events come, each wait that is done tells of a letter that an answered step sent to this rank, and that the
 /// receive of the wait was given and admits (MPI 4.0, 3.2.4 and 3.2.5).
 pub fn each_done_was_sent()
-    ensures worlds { (n capacity : ℕ) (w : World) → n ≤ 8 → Reaches (start_world n capacity) w → DoneIsGiven (map report_of w.players) }
-    ensures replays { (j : Job) (reports : List Report) → IsJob j → IsReplayed j reports → DoneIsGiven reports }
+    ensures worlds { InEachWorld DoneIsGiven }
+    ensures replays { InEachReplay DoneIsGiven }
 {}
 
 /// Whatever events come, a receive that is over as truncated was given a letter longer than its room, and one that is over
 /// by a failure or a revocation was given none (MPI 4.0, 3.2.4; ULFM).
 pub fn each_over_is_true()
-    ensures worlds { (n capacity : ℕ) (w : World) → n ≤ 8 → Reaches (start_world n capacity) w → OverIsTrue (map report_of w.players) }
-    ensures replays { (j : Job) (reports : List Report) → IsJob j → IsReplayed j reports → OverIsTrue reports }
+    ensures worlds { InEachWorld OverIsTrue }
+    ensures replays { InEachReplay OverIsTrue }
 {}
 
-/// Whatever events come, no letter that was sent is given to two receives, no receive gets two letters, and no request is
-/// answered twice as done or over (MPI 4.0, 3.5 and 3.7.3).
+/// Whatever events come, no letter that was sent is given to two receives, no receive gets two letters, no request is
+/// answered twice as done or over, and no two waits tell of one send (MPI 4.0, 3.5 and 3.7.3).
 pub fn letters_are_given_once()
-    ensures worlds { (n capacity : ℕ) (w : World) → n ≤ 8 → Reaches (start_world n capacity) w → GivesOnce (map report_of w.players) }
-    ensures replays { (j : Job) (reports : List Report) → IsJob j → IsReplayed j reports → GivesOnce reports }
+    ensures worlds { InEachWorld GivesOnce }
+    ensures replays { InEachReplay GivesOnce }
+    ensures dones_of_worlds { InEachWorld DonesDiffer }
+    ensures dones_of_replays { InEachReplay DonesDiffer }
 {}
 
 /// Whatever events come, no letter overtakes another of the same sender that the receive also admits (MPI 4.0, 3.5).
 pub fn letters_keep_order()
-    ensures worlds { (n capacity : ℕ) (w : World) → n ≤ 8 → Reaches (start_world n capacity) w → LettersKeepOrder (map report_of w.players) }
-    ensures replays { (j : Job) (reports : List Report) → IsJob j → IsReplayed j reports → LettersKeepOrder reports }
+    ensures worlds { InEachWorld LettersKeepOrder }
+    ensures replays { InEachReplay LettersKeepOrder }
 {}
 
 /// Whatever events come, no receive overtakes another that was posted earlier and also admits the letter (MPI 4.0, 3.5).
 pub fn receives_keep_order()
-    ensures worlds { (n capacity : ℕ) (w : World) → n ≤ 8 → Reaches (start_world n capacity) w → ReceivesKeepOrder (map report_of w.players) }
-    ensures replays { (j : Job) (reports : List Report) → IsJob j → IsReplayed j reports → ReceivesKeepOrder reports }
+    ensures worlds { InEachWorld ReceivesKeepOrder }
+    ensures replays { InEachReplay ReceivesKeepOrder }
 {}
 
 /// Whatever events come, the history of each rank has one lawful pairing, and no other (MPI 4.0, 3.5).
 pub fn one_pairing_each()
-    ensures worlds { (n capacity : ℕ) (w : World) → n ≤ 8 → Reaches (start_world n capacity) w → HasOnePairing (map report_of w.players) }
-    ensures replays { (j : Job) (reports : List Report) → IsJob j → IsReplayed j reports → HasOnePairing reports }
+    ensures worlds { InEachWorld HasOnePairing }
+    ensures replays { InEachReplay HasOnePairing }
 {}
 
 /// Whatever events come, no receive that is left waiting admits a letter that came and is left (MPI 4.0, 3.5).
 pub fn no_match_is_missed()
-    ensures worlds { (n capacity : ℕ) (w : World) → n ≤ 8 → Reaches (start_world n capacity) w → NoneIsMissed (map report_of w.players) }
-    ensures replays { (j : Job) (reports : List Report) → IsJob j → IsReplayed j reports → NoneIsMissed reports }
+    ensures worlds { InEachWorld NoneIsMissed }
+    ensures replays { InEachReplay NoneIsMissed }
 {}
 
 /// Whatever events come, at rest all has come that one running rank sent to another on a communicator that isn't revoked
 /// there (MPI 4.0, 3.5).
 pub fn all_come_at_rest()
     ensures worlds { (n capacity : ℕ) (w : World) → n ≤ 8 → Reaches (start_world n capacity) w → IsAtRest w → AllHasCome (map report_of w.players) }
-    ensures replays { (j : Job) (reports : List Report) → IsJob j → IsReplayed j reports → AllHasCome reports }
+    ensures replays { InEachReplay AllHasCome }
+{}
+
+/// Whatever events come, all of this holds of what the reports tell of letters (MPI 4.0, 3.5).
+pub fn reports_are_faithful()
+    ensures worlds { InEachWorld IsFaithful }
+    ensures replays { InEachReplay IsFaithful }
 {}

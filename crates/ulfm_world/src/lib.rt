@@ -15,7 +15,7 @@ pub use inbox::Inbox;
 pub use laws::{
     agreed_at_rest, all_come_at_rest, each_done_was_sent, each_over_is_true, flows, known_at_rest,
     letters_are_given_once, letters_come_as_sent, letters_keep_order, no_match_is_missed,
-    one_pairing_each, receives_keep_order,
+    one_pairing_each, receives_keep_order, reports_are_faithful,
 };
 pub use rounds::replay;
 pub use world::{World, run};
