@@ -45,3 +45,4 @@ pub mod Order
 pub mod Missed
 pub mod Reported
 pub mod Faithful
+pub mod Settled

@@ -10,7 +10,7 @@ use Rattle.ulfm_script.specs.Player.{Player}
 use Rattle.ulfm_script.specs.Report.{Report}
 use Rattle.ulfm_script.specs.Job.{Seen, script_at, through_stop, has_stop}
 use Rattle.ulfm_world.specs.World.{World, player_at, rank_at, inbox_at, IsRunning, Reaches, start_world}
-use Rattle.ulfm_world.specs.Rest.{IsAtRest}
+use Rattle.ulfm_world.specs.Rest.{IsAtRest, KnowsStopped, AgreesOnRevoked}
 
 -- the step of a report
 abbrev pub step_of : StepReport → Step
@@ -63,6 +63,13 @@ pub record IsReplayed (j : Seen) (reports : List Report) : Type 0 where
   pub rests : IsAtRest world
   pub answered : IsAnswered j world
   pub reported : reports ≡ map report_of world.players
+
+-- At the rest at which these reports were made each running rank knew each stopped one, and all agreed on revocations.
+pub record AreSettled (reports : List Report) : Type 0 where
+  pub world : World
+  pub reported : reports ≡ map report_of world.players
+  pub known : KnowsStopped world
+  pub agreed : AgreesOnRevoked world
 
 -- f 0 + f 1 + .., below n
 abbrev pub sum_below : ℕ → (ℕ → ℕ) → ℕ

@@ -2,7 +2,8 @@
 ghost use Rattle.std.specs.Prelude.{◌≡◌, ◌<◌, ◌≤◌, ℕ, List, length, false, true, [], IfOk, OnOk};
 ghost use Rattle.ulfm_script.specs.Job.{script_at};
 ghost use Rattle.ulfm_world.specs.World.{IsRunning, player_at, inbox_at};
-ghost use Rattle.ulfm_world.specs.Replay.{Moves, Follows, IsPushStuck, IsStuck, IsReplayed};
+ghost use Rattle.ulfm_world.specs.Reader.{IsFaithful};
+ghost use Rattle.ulfm_world.specs.Replay.{Moves, Follows, IsPushStuck, IsStuck, IsReplayed, AreSettled};
 
 use crate::event::{Event, Outcome, Refused};
 use crate::world::World;
@@ -12,14 +13,17 @@ use ulfm_script::{Job, RankReport, RunFault};
 /// The job, round by round. One inbox holds `capacity` items for each rank. In a round the ranks come upwards, and each
 /// pushes to each destination upwards, itself too, while its outbox isn't empty and the inbox has room; then, where it
 /// runs, it takes one item and polls its next step once. A step that its last poll left open is given up. The rounds end
-/// after the first one in which nothing was pushed, taken or polled.
+/// after the first one in which nothing was pushed, taken or polled. What the reports tell of letters is true of what was
+/// sent, and at the end all running ranks know each stopped one and agree on revocations.
 ///
 /// # Errors
 ///
 /// `OutOfMemory` where a growth outside the poll of a step is refused.
 #[tactic(auto, using(crate::proofs::Ends::rests))]
 pub fn replay(alloc: Global, job: &Job) -> Result<Vec<RankReport>, RunFault>
-    ensures { IfOk result (λ reports. IsReplayed job.now reports.items) }
+    ensures replayed { IfOk result (λ reports. IsReplayed job.now reports.items) }
+    ensures faithful { IfOk result (λ reports. IsFaithful reports.items) }
+    ensures settled { IfOk result (λ reports. AreSettled reports.items) }
 {
     let mut world = match World::new(alloc, job.ranks(), job.capacity()) {
         Ok(world) => world,
