@@ -1,5 +1,6 @@
 -- What accepted calls add to the log.
-use Rattle.std.specs.Prelude.{◌≡◌, ℕ, ⊤, List, Option, Some, None, slice_get, nat_lt, if◌then◌else◌}
+use Rattle.std.specs.Prelude.{◌≡◌, ℕ, ⊤, false, MatchOption, List, Option, Some, None, slice_get, nat_lt, if◌then◌else◌}
+use Rattle.ulfm_base.specs.declared.decision.Decision.{Decision}
 use Rattle.ulfm_base.specs.declared.envelope.Letter.{Letter}
 use Rattle.ulfm_base.specs.declared.item.Item.{Item}
 use Rattle.ulfm_base.specs.declared.item.Item.TheVariants.{Letter as Mail}
@@ -16,6 +17,7 @@ use Rattle.ulfm_rank.specs.declared.entry.Comm.{Comm}
 use Rattle.ulfm_rank.specs.declared.entry.Entry.TheVariants.{Sent, Posted, Acknowledged, Revoked, Entered, Stopped}
 use Rattle.ulfm_rank.specs.Facts.{is_revoked, is_stopped, acknowledged_of}
 use Rattle.ulfm_rank.specs.Outboxes.{Knows}
+use Rattle.ulfm_rank.specs.Shrink.{has_proposal, IsProposal}
 use Rattle.ulfm_rank.specs.State.{State, logged}
 use Rattle.ulfm_rank.specs.Checks.{group_at}
 
@@ -62,6 +64,10 @@ pub record Enters (old : State) (comm : Comm) (new : State) : Type 0 where
   pub known : RankSet
   pub knows : Knows old.log known
   pub only : new ≡ logged old (Entered comm.context known)
+
+-- what a rank that entered the shrink of c proposes: a decision exactly where each member is listed or excluded
+abbrev pub Proposes : State → ℕ → Option Decision → Type 0
+Proposes rank c found = MatchOption found (has_proposal rank.me (group_at rank c) rank.log c ≡ false) (IsProposal rank.ranks rank.me rank.log c)
 
 -- the rank after its stop
 abbrev pub stopping : State → State

@@ -1,15 +1,16 @@
 //! What a rank that entered a shrink proposes (ULFM, shrink).
-ghost use Rattle.std.specs.Prelude.{◌≡◌, ◌||◌, ◌<◌, ◌↔◌, ℕ, List, IsTrue, false, true, is_some, MatchOption, if◌then◌else◌, None};
+ghost use Rattle.std.specs.Prelude.{◌≡◌, ◌||◌, ◌<◌, ℕ, true, if◌then◌else◌, None};
 ghost use Rattle.std.specs.List.{list_any};
 ghost use Rattle.ulfm_base.specs.Context.{shrink_of};
 ghost use Rattle.ulfm_base.specs.Decision.{entry_at, is_listed};
 ghost use Rattle.ulfm_base.specs.Group.{is_member};
 ghost use Rattle.ulfm_base.specs.RankSet.{has};
-ghost use Rattle.ulfm_rank.specs.declared.entry.Entry.{Entry};
-ghost use Rattle.ulfm_rank.specs.Communicators.{members_of};
+ghost use Rattle.ulfm_rank.specs.Calls.{Proposes};
+ghost use Rattle.ulfm_rank.specs.Checks.{group_at};
 ghost use Rattle.ulfm_rank.specs.Fields.{HasEntries};
 ghost use Rattle.ulfm_rank.specs.Outboxes.{Knows};
-ghost use Rattle.ulfm_rank.specs.Shrink.{in_set, has_entered, has_proposal, IsProposal};
+ghost use Rattle.ulfm_rank.specs.Shrink.{in_set, has_entered};
+ghost use Rattle.ulfm_rank.specs.State.{State};
 
 use crate::members::members_of_both;
 use ulfm_base::{Context, Decision, Group, RankSet, WorldRank};
@@ -64,7 +65,7 @@ pub(crate) fn proposed(
     known: RankSet,
 ) -> Option<Decision>
     requires { shrink_of context.number < 63 }
-    ensures { (n me : ℕ) (log : List Entry) → Knows log known → HasEntries me log context.number entries.now → members_of n log context.number ≡ group.now → has_entered log context.number ≡ true → MatchOption result (has_proposal me group.now log context.number ≡ false) (IsProposal n me log context.number) }
+    ensures { (rank : State) → Knows rank.log known → HasEntries rank.me rank.log context.number entries.now → group_at rank context.number ≡ group.now → has_entered rank.log context.number ≡ true → Proposes rank context.number result }
 {
     let listed = entries_of(group, entries);
     let failures = failures_in(&listed, known);

@@ -1,10 +1,10 @@
 //! Shrinks (ULFM, shrink).
-ghost use Rattle.std.specs.Prelude.{◌≡◌, ◌<◌, true, false, IsTrue, Some, IfOk, IfErr, OnOk, OnErr, MatchOption};
+ghost use Rattle.std.specs.Prelude.{◌≡◌, ◌<◌, true, IsTrue, Some, IfOk, IfErr, OnOk, OnErr};
 ghost use Rattle.ulfm_base.specs.Context.{shrink_of};
-ghost use Rattle.ulfm_rank.specs.Calls.{Enters};
-ghost use Rattle.ulfm_rank.specs.Checks.{Passes, Fails, FailsOrStarves, group_at, shrink_checks, proposal_checks, adopt_checks};
+ghost use Rattle.ulfm_rank.specs.Calls.{Enters, Proposes};
+ghost use Rattle.ulfm_rank.specs.Checks.{Passes, Fails, FailsOrStarves, shrink_checks, proposal_checks, adopt_checks};
 ghost use Rattle.ulfm_rank.specs.Communicators.{group_of};
-ghost use Rattle.ulfm_rank.specs.Shrink.{has_entered, has_adopted, has_proposal, is_foreign, IsProposal};
+ghost use Rattle.ulfm_rank.specs.Shrink.{has_entered, has_adopted, is_foreign};
 ghost use Rattle.ulfm_rank.specs.State.{logged};
 
 use super::Rank;
@@ -61,7 +61,7 @@ impl Rank {
     /// its shrink wasn't entered.
     pub fn proposal(&self, comm: Comm) -> Result<Option<Decision>, CallError>
         ensures accepted { OnOk result (Passes (proposal_checks self.now.state comm.context.number)) }
-        ensures proposal { IfOk result (λ found. MatchOption found (has_proposal self.now.state.me (group_at self.now.state comm.context.number) self.now.state.log comm.context.number ≡ false) (IsProposal self.now.state.ranks self.now.state.me self.now.state.log comm.context.number)) }
+        ensures proposal { IfOk result (Proposes self.now.state comm.context.number) }
         ensures refused { IfErr result (Fails (proposal_checks self.now.state comm.context.number)) }
     {
         let group = self.running_group(comm)?;
