@@ -1,3 +1,4 @@
+pub mod Adopting
 pub mod Filled
 pub mod Jobs
 pub mod Keys

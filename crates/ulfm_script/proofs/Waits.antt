@@ -1,5 +1,5 @@
 -- What a test of its request says for a wait.
-use Rattle.std.proofs.Common.{◌≡◌, ℕ, Bool, true, false, List, refl}
+use Rattle.std.proofs.Common.{◌≡◌, ℕ, true, false, List, refl}
 use Rattle.std.specs.Prelude.{IfSome, IfNone}
 use Rattle.ulfm_match.specs.declared.request.RequestId.{RequestId}
 use Rattle.ulfm_rank.specs.declared.entry.Entry.TheVariants.{Released}
@@ -25,8 +25,8 @@ answers_wait before r req Pending new h = h
 answers_wait before r req NotYet new h = tt
 
 -- a test that leaves the wait open
-pub stays_open : (before : List StepReport) (r : State) (req : ℕ) (answer : TestAnswer) (new : State) → Tests before r req answer new → IfNone (answer_of answer) (Tests before r req NotYet r)
+pub stays_open : (before : List StepReport) (r : State) (req : ℕ) (answer : TestAnswer) (new : State) → Tests before r req answer new → IfNone (answer_of answer) (Tests before r req NotYet new)
 stays_open before r req (Done status body) new h = tt
 stays_open before r req (Over reason) new h = tt
 stays_open before r req Pending new h = tt
-stays_open before r req NotYet new h = record { id = h.id; posted = h.posted; place = h.place; pattern = h.pattern; request = h.request; pairing = h.pairing; lawful = h.lawful; answers = h.answers; only = refl }
+stays_open before r req NotYet new h = h

@@ -1,3 +1,4 @@
+pub mod Deciding
 pub mod Fields
 pub mod HeadView
 pub mod Job

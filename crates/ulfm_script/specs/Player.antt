@@ -1,5 +1,5 @@
 -- What contracts see of a rank that goes through its steps, and what a poll of a step says and does.
-use Rattle.std.specs.Prelude.{◌≡◌, ℕ, ⊤, Bool, false, List, [], ◌∷◌, ◌++◌, ◌+◌, ◌-◌, ◌^◌, ◌⊎◌, min, length, filter_map, Option, Some, None, slice_get, if◌then◌else◌}
+use Rattle.std.specs.Prelude.{◌≡◌, ℕ, ⊤, Bool, true, false, List, [], ◌∷◌, ◌++◌, ◌+◌, ◌-◌, ◌^◌, ◌⊎◌, min, length, filter_map, Option, Some, None, slice_get, if◌then◌else◌}
 use Rattle.ulfm_base.specs.declared.context.Context.{Context}
 use Rattle.ulfm_base.specs.declared.tag.Tag.{Tag}
 use Rattle.ulfm_base.specs.declared.pattern.Pattern.{Pattern}
@@ -19,10 +19,10 @@ use Rattle.ulfm_rank.specs.State.{State, start_state, logged}
 use Rattle.ulfm_rank.specs.Facts.{is_revoked, known_in, ack_answer}
 use Rattle.ulfm_rank.specs.History.{history_of}
 use Rattle.ulfm_rank.specs.Answer.{IsRequest, IsNoRequest, IsTestAnswer, is_release}
-use Rattle.ulfm_rank.specs.Checks.{Check, Passes, Fails, FailsOrStarves, group_at, comm_checks, send_checks, receive_checks, dup_checks}
-use Rattle.ulfm_rank.specs.Calls.{Sends, Posts, acknowledging, revoking, stopping}
+use Rattle.ulfm_rank.specs.Checks.{Check, Passes, Fails, FailsOrStarves, group_at, comm_checks, send_checks, receive_checks, dup_checks, shrink_checks}
+use Rattle.ulfm_rank.specs.Calls.{Sends, Posts, Enters, acknowledging, revoking, stopping}
 use Rattle.ulfm_script.specs.declared.step.Step.{Step}
-use Rattle.ulfm_script.specs.declared.step.Step.TheVariants.{Send, Recv, Wait, Failed, Ack, Revoke, Dup, Stop}
+use Rattle.ulfm_script.specs.declared.step.Step.TheVariants.{Send, Recv, Wait, Failed, Ack, Revoke, Dup, Shrink, Stop}
 use Rattle.ulfm_script.specs.declared.answer.StepAnswer.{StepAnswer}
 use Rattle.ulfm_script.specs.declared.answer.StepAnswer.TheVariants.{Sent, Posted, Done, Over, Pending, Ranks, Acked, Revoked, Made, Stopped, Unfinished, Refused}
 use Rattle.ulfm_script.specs.declared.answer.StepReport.{StepReport}
@@ -60,9 +60,9 @@ report_of step answer at polls = record { step = step; answer = answer; at = at;
 abbrev pub answered : Player → Step → StepAnswer → ℕ → Player
 answered p step answer at = record { rank = p.rank; done = p.done ++ report_of step answer at p.polls ∷ []; current = None; at = 0; polls = 0 }
 
--- one more poll left the step open
-abbrev pub polled : Player → Step → Player
-polled p step = record { rank = p.rank; done = p.done; current = Some step; at = length p.rank.log; polls = min (p.polls + 1) (2 ^ 32 - 1) }
+-- one more poll, begun at this length of the log, left the step open
+abbrev pub polled : Player → Step → ℕ → Player
+polled p step at = record { rank = p.rank; done = p.done; current = Some step; at = at; polls = min (p.polls + 1) (2 ^ 32 - 1) }
 
 -- no other step stands open
 abbrev pub IsFree : Player → Step → Type 0
@@ -168,6 +168,11 @@ AnswersDup r comm (Made child) new = Passes (dup_checks r comm.number) × (child
 AnswersDup r comm (Refused e) new = Refuses (dup_checks r comm.number) e r new
 AnswersDup r comm _ new = ⊥
 
+-- the first poll of a shrink enters it, or is refused
+abbrev pub AnswersEntry : State → Context → StepAnswer → State → Type 0
+AnswersEntry r comm (Refused e) new = Refuses (shrink_checks r comm.number) e r new
+AnswersEntry r comm _ new = ⊥
+
 -- the rank stops
 abbrev pub AnswersStop : State → StepAnswer → State → Type 0
 AnswersStop r Stopped new = new ≡ stopping r
@@ -182,15 +187,28 @@ Answers before r (Failed comm) answer new = AnswersFailed r comm answer new
 Answers before r (Ack count comm) answer new = AnswersAck r count comm answer new
 Answers before r (Revoke comm) answer new = AnswersRevoke r comm answer new
 Answers before r (Dup comm) answer new = AnswersDup r comm answer new
+Answers before r (Shrink comm) answer new = AnswersEntry r comm answer new
 Answers before r Stop answer new = AnswersStop r answer new
 
--- A poll leaves the step open: a wait alone, whose test says so.
-abbrev pub IsOpen : List StepReport → State → Step → Type 0
-IsOpen before r (Wait req) = Tests before r req TestNotYet r
-IsOpen before r _ = ⊥
+-- A poll leaves the step open: a wait, whose test says so, or a shrink, which is entered.
+abbrev pub IsOpen : List StepReport → State → Step → State → Type 0
+IsOpen before r (Wait req) new = Tests before r req TestNotYet new
+IsOpen before r (Shrink comm) new = Passes (shrink_checks r comm.number) × Enters r (comm_of comm) new
+IsOpen before r _ new = ⊥
+
+-- a shrink that was entered stands open
+abbrev pub awaits_decision : Option Step → Bool
+awaits_decision (Some (Shrink comm)) = true
+awaits_decision _ = false
+
+-- a further poll of a shrink changes nothing
+abbrev pub StaysOpen : Bool → List StepReport → State → Step → State → Type 0
+StaysOpen true before r asked new = new ≡ r
+StaysOpen false before r asked new = IsOpen before r asked new
 
 -- a poll of the step answered it
 pub record PollAnswers (old : Player) (step : Step) (new : Player) : Type 0 where
+  pub first : awaits_decision old.current ≡ false
   pub answer : StepAnswer
   pub rank : State
   pub answers : Answers old.done old.rank step answer rank
@@ -198,8 +216,9 @@ pub record PollAnswers (old : Player) (step : Step) (new : Player) : Type 0 wher
 
 -- a poll of the step left it open
 pub record PollOpens (old : Player) (step : Step) (new : Player) : Type 0 where
-  pub stays : IsOpen old.done old.rank step
-  pub only : new ≡ polled old step
+  pub rank : State
+  pub stays : StaysOpen (awaits_decision old.current) old.done old.rank step rank
+  pub only : new ≡ polled (with_rank old rank) step (length old.rank.log)
 
 -- one poll of the step, by what `call` said of it
 abbrev pub Polls : Called → Player → Step → Player → Type 0

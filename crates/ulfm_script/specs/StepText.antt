@@ -5,7 +5,7 @@ use Rattle.toml.specs.Data.{Members}
 use Rattle.ulfm_script.specs.declared.fault.Fault.{Fault}
 use Rattle.ulfm_script.specs.declared.fault.Fault.TheVariants.{UnknownOp}
 use Rattle.ulfm_script.specs.Fields.{◌>>=◌, required_number, optional_number, required_text, only_keys, in_range, in_range_if_some}
-use Rattle.ulfm_script.specs.Plan.{PlannedStep, send, recv, wait, failed, ack, revoke, dup, stop}
+use Rattle.ulfm_script.specs.Plan.{PlannedStep, send, recv, wait, failed, ack, revoke, dup, shrink, stop}
 
 -- the step of a `send`
 unfoldable pub send_of : ℕ → Members → Result PlannedStep Fault
@@ -90,6 +90,16 @@ dup_of ranks ms = do
   comm ← in_range 0 62 (unwrap_or comm_key (pos 0))
   Ok (record { rank = rank; order = dup comm })
 
+-- the step of a `shrink`
+unfoldable pub shrink_of : ℕ → Members → Result PlannedStep Fault
+shrink_of ranks ms = do
+  rank_key ← required_number (codes "rank") ms
+  comm_key ← optional_number (codes "comm") ms
+  keys ← only_keys (codes "op" ∷ codes "rank" ∷ codes "comm" ∷ []) ms
+  rank ← in_range 0 (ranks - 1) rank_key
+  comm ← in_range 0 62 (unwrap_or comm_key (pos 0))
+  Ok (record { rank = rank; order = shrink comm })
+
 -- the step of a `stop`
 unfoldable pub stop_of : ℕ → Members → Result PlannedStep Fault
 stop_of ranks ms = do
@@ -108,6 +118,7 @@ step_of_op ranks op ms =
     else if bytes_eq op (codes "ack") then ack_of ranks ms
     else if bytes_eq op (codes "revoke") then revoke_of ranks ms
     else if bytes_eq op (codes "dup") then dup_of ranks ms
+    else if bytes_eq op (codes "shrink") then shrink_of ranks ms
     else if bytes_eq op (codes "stop") then stop_of ranks ms
     else Err UnknownOp
 

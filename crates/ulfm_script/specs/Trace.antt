@@ -7,9 +7,9 @@ use Rattle.ulfm_base.specs.declared.tag.Tag.{Tag}
 use Rattle.ulfm_base.specs.Error.{error_text}
 use Rattle.ulfm_rank.specs.Facts.{is_stopped}
 use Rattle.ulfm_script.specs.declared.step.Step.{Step}
-use Rattle.ulfm_script.specs.declared.step.Step.TheVariants.{Send, Recv, Wait, Failed, Ack, Revoke, Dup, Stop}
+use Rattle.ulfm_script.specs.declared.step.Step.TheVariants.{Send, Recv, Wait, Failed, Ack, Revoke, Dup, Shrink, Stop}
 use Rattle.ulfm_script.specs.declared.answer.StepAnswer.{StepAnswer}
-use Rattle.ulfm_script.specs.declared.answer.StepAnswer.TheVariants.{Sent, Posted, Done, Over, Pending, Ranks, Acked, Revoked, Made, Stopped, Unfinished, Refused}
+use Rattle.ulfm_script.specs.declared.answer.StepAnswer.TheVariants.{Sent, Posted, Done, Over, Pending, Ranks, Acked, Revoked, Made, Shrunk, Stopped, Unfinished, Refused}
 use Rattle.ulfm_script.specs.declared.answer.StepReport.{StepReport}
 use Rattle.ulfm_script.specs.Report.{Report}
 
@@ -32,6 +32,7 @@ step_text (Failed comm) = codes "failed comm " ++ decimal comm.number
 step_text (Ack count comm) = codes "ack " ++ decimal count ++ codes " comm " ++ decimal comm.number
 step_text (Revoke comm) = codes "revoke comm " ++ decimal comm.number
 step_text (Dup comm) = codes "dup comm " ++ decimal comm.number
+step_text (Shrink comm) = codes "shrink comm " ++ decimal comm.number
 step_text Stop = codes "stop"
 
 -- each byte in two lower case hexadecimal digits; the empty body is a dash
@@ -59,6 +60,7 @@ answer_text (Ranks members) = codes "ranks [" ++ parted members.items ++ codes "
 answer_text (Acked total) = codes "acked " ++ decimal total
 answer_text Revoked = codes "revoked"
 answer_text (Made child) = codes "comm " ++ decimal child.context.number
+answer_text (Shrunk child group me) = codes "comm " ++ decimal child.context.number ++ codes " ranks [" ++ parted group ++ codes "] me " ++ decimal me
 answer_text Stopped = codes "stopped"
 answer_text Unfinished = codes "unfinished"
 answer_text (Refused e) = codes "refused " ++ error_text e

@@ -2,7 +2,7 @@
 
 use crate::step::Step;
 use smallvec::SmallVec;
-use ulfm_base::{Body, CallError};
+use ulfm_base::{Body, CallError, Group};
 use ulfm_match::RequestId;
 use ulfm_rank::{Comm, Status};
 
@@ -27,6 +27,8 @@ pub enum StepAnswer {
     Revoked,
     /// A duplicate was made.
     Made(Comm),
+    /// A shrink made a communicator, with this group, in which the rank has this position.
+    Shrunk(Comm, Group, u8),
     /// The rank stopped.
     Stopped,
     /// The last poll that the job grants left the step open.
@@ -42,6 +44,15 @@ pub enum Called {
     Answered,
     /// The step stays open.
     NotYet,
+}
+
+/// What came of asking for the decision of a shrink.
+#[derive(Clone, Copy, Debug, PartialEq, Eq)]
+pub enum Decided {
+    /// The step has its answer.
+    Answered,
+    /// No shrink of this communicator stands open, or it has no proposal yet.
+    NotReady,
 }
 
 /// A step with its answer.

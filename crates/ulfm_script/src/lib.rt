@@ -11,12 +11,13 @@ mod player;
 mod poll;
 mod reading;
 mod report;
+mod shrinking;
 mod step;
 mod text;
 mod trace;
 mod words;
 
-pub use answer::{Called, StepAnswer, StepReport};
+pub use answer::{Called, Decided, StepAnswer, StepReport};
 pub use fault::{Fault, JobFault, RunFault};
 pub use job::Job;
 pub use player::Player;

@@ -3,7 +3,7 @@ ghost use Rattle.std.specs.Prelude.{◌≡◌, ◌<◌, ◌-◌, pos, option_map
 ghost use Rattle.toml.specs.View.{table_view};
 ghost use Rattle.ulfm_script.specs.Fields.{map_ok, in_range, in_range_if_some};
 ghost use Rattle.ulfm_script.specs.Placed.{planned};
-ghost use Rattle.ulfm_script.specs.StepText.{send_of, recv_of, wait_of, failed_of, ack_of, revoke_of, dup_of, stop_of, step_of_op, step_of};
+ghost use Rattle.ulfm_script.specs.StepText.{send_of, recv_of, wait_of, failed_of, ack_of, revoke_of, dup_of, shrink_of, stop_of, step_of_op, step_of};
 
 use crate::fault::Fault;
 use crate::fields::{
@@ -210,6 +210,23 @@ fn dup_of(ranks: u8, table: &Table) -> Result<Placed, Fault>
     })
 }
 
+#[tactic(auto, unfolding(crate::specs::StepText::shrink_of))]
+fn shrink_of(ranks: u8, table: &Table) -> Result<Placed, Fault>
+    requires { 0 < ranks }
+    ensures exact { map_ok planned result ≡ shrink_of ranks (table_view table.now) }
+    ensures below { IfOk result (λ placed. placed.rank < ranks) }
+{
+    let rank = required_number(table, "rank")?;
+    let comm = optional_number(table, "comm")?;
+    only_keys(table, &["op", "rank", "comm"])?;
+    let rank = rank_in(ranks, rank)?;
+    let comm = comm_in(comm)?;
+    Ok(Placed {
+        rank,
+        step: Step::Shrink { comm },
+    })
+}
+
 #[tactic(auto, unfolding(crate::specs::StepText::stop_of))]
 fn stop_of(ranks: u8, table: &Table) -> Result<Placed, Fault>
     requires { 0 < ranks }
@@ -245,6 +262,7 @@ pub fn step_of(ranks: u8, table: &Table) -> Result<Placed, Fault>
         "ack" => ack_of(ranks, table),
         "revoke" => revoke_of(ranks, table),
         "dup" => dup_of(ranks, table),
+        "shrink" => shrink_of(ranks, table),
         "stop" => stop_of(ranks, table),
         _ => Err(Fault::UnknownOp),
     }

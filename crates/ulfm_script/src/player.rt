@@ -1,10 +1,13 @@
 //! A rank that goes through its steps.
+
+mod deciding;
+
 ghost use Rattle.std.specs.Prelude.{◌≡◌, ◌≢◌, ◌<◌, ◌≤◌, ◌+◌, ◌↔◌, length, false, IsTrue, IsSome, IfOk, IfErr, IfSome, IfNone, OnOk, OnErr, None, [], nat_lt};
 ghost use Rattle.ulfm_rank.specs.Facts.{is_stopped};
 ghost use Rattle.ulfm_rank.specs.State.{IsState, logged, outbox, returned, Leaves, MayReturn};
 ghost use Rattle.ulfm_rank.specs.Checks.{Passes, FailsOrStarves, start_checks};
 ghost use Rattle.ulfm_rank.specs.Calls.{IsFrom};
-ghost use Rattle.ulfm_script.specs.Player.{start_player, with_rank, answered, IsFree, Polls, IsCalled, Left};
+ghost use Rattle.ulfm_script.specs.Player.{start_player, with_rank, answered, polled, IsFree, Polls, IsCalled, Left, awaits_decision};
 
 use crate::answer::{Called, StepAnswer, StepReport};
 use crate::poll::poll;
@@ -144,18 +147,27 @@ impl Player {
         ensures room { self.new.room + length self.new.player.done ≡ self.old.room + length self.old.player.done }
     {
         let at = self.rank.log().len();
+        if self.awaits_decision() {
+            self.stay_open(*step, at);
+            return Called::NotYet;
+        }
         match poll(&mut self.rank, &self.done, step) {
             Some(answer) => {
                 self.answer(*step, answer, at);
                 Called::Answered
             }
             None => {
-                self.current = Some(*step);
-                self.at = at;
-                self.polls = self.polls.saturating_add(1);
+                self.stay_open(*step, at);
                 Called::NotYet
             }
         }
+    }
+
+    /// Whether a shrink that was entered stands open.
+    fn awaits_decision(&self) -> bool
+        ensures { result ≡ awaits_decision self.now.player.current }
+    {
+        matches!(self.current, Some(Step::Shrink { .. }))
     }
 
     /// Gives the open step the answer `unfinished`. It takes no memory.
@@ -185,6 +197,18 @@ impl Player {
         self.current = None;
         self.at = 0;
         self.polls = 0;
+    }
+
+    /// One more poll, begun at this length of the log, left the step open.
+    fn stay_open(&mut self, step: Step, at: usize)
+        requires { 0 < self.old.room }
+        ensures player { self.new.player ≡ polled self.old.player step at }
+        ensures room { self.new.room ≡ self.old.room }
+        ensures prepared { self.new.prepared ≡ self.old.prepared }
+    {
+        self.current = Some(step);
+        self.at = at;
+        self.polls = self.polls.saturating_add(1);
     }
 
     /// Makes room for one `take` of its rank.

@@ -43,6 +43,10 @@ pub enum Step {
     Dup {
         comm: Context,
     },
+    /// Shrinks a communicator.
+    Shrink {
+        comm: Context,
+    },
     /// The rank stops.
     Stop,
 }
@@ -123,6 +127,9 @@ impl Step {
                 same_comm(*comm, *other_comm)
             }
             (Step::Dup { comm }, Step::Dup { comm: other_comm }) => same_comm(*comm, *other_comm),
+            (Step::Shrink { comm }, Step::Shrink { comm: other_comm }) => {
+                same_comm(*comm, *other_comm)
+            }
             (Step::Stop, Step::Stop) => true,
             _ => false,
         }

@@ -4,9 +4,10 @@ ghost use Rattle.ulfm_script.specs.Trace.{trace_of, rank_text, body_text, spaced
 
 use crate::answer::{StepAnswer, StepReport};
 use crate::report::RankReport;
+use smallvec::SmallVec;
 use std::alloc::{AllocError, Global};
 use std::fmt;
-use ulfm_base::OutOfMemory;
+use ulfm_base::{Group, OutOfMemory};
 
 /// Two digits a byte; the empty body is a dash.
 fn push_body(text: &mut String, body: &[u8]) -> Result<(), AllocError>
@@ -43,6 +44,20 @@ fn push_parted(text: &mut String, numbers: &[u8]) -> Result<(), AllocError>
     }
 }
 
+/// The ranks of the world in a group, in order. It takes no memory.
+fn numbers_of(alloc: Global, group: &Group) -> SmallVec<u8, 8>
+    ensures { result.items ≡ group.now }
+{
+    let mut numbers = SmallVec::new(alloc);
+    for position in 0..group.size() {
+        match group.world_of(position) {
+            Some(rank) => numbers.push_reserved(rank.number),
+            None => unreachable!(),
+        }
+    }
+    numbers
+}
+
 fn push_answer(text: &mut String, answer: &StepAnswer) -> Result<(), AllocError>
     ensures { OnOk result (string_bytes text.new ≡ string_bytes text.old ++ answer_text answer.now) }
 {
@@ -67,6 +82,12 @@ fn push_answer(text: &mut String, answer: &StepAnswer) -> Result<(), AllocError>
         StepAnswer::Acked(total) => write!(text, "acked {total}"),
         StepAnswer::Revoked => text.push_str("revoked"),
         StepAnswer::Made(comm) => write!(text, "comm {}", comm.context.number),
+        StepAnswer::Shrunk(comm, group, me) => {
+            write!(text, "comm {} ranks [", comm.context.number)?;
+            let members = numbers_of(*text.allocator(), group);
+            push_parted(text, members.as_slice())?;
+            write!(text, "] me {me}")
+        }
         StepAnswer::Stopped => text.push_str("stopped"),
         StepAnswer::Unfinished => text.push_str("unfinished"),
         StepAnswer::Refused(error) => write!(text, "refused {error}"),

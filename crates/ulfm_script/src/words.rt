@@ -60,6 +60,7 @@ impl fmt::Display for Step {
             Step::Ack { count, comm } => write!(f, "ack {count} comm {}", comm.number),
             Step::Revoke { comm } => write!(f, "revoke comm {}", comm.number),
             Step::Dup { comm } => write!(f, "dup comm {}", comm.number),
+            Step::Shrink { comm } => write!(f, "shrink comm {}", comm.number),
             Step::Stop => f.write_str("stop"),
         }
     }

@@ -1,19 +1,19 @@
 -- What a poll moves at a player, and what falls with it.
-use Rattle.std.proofs.Common.{◌≡◌, ℕ, ◌+◌, ◌^◌, ◌<◌, ◌≤◌, Bool, true, false, List, length, refl, ap, sym, subst, ◌∙◌, arith, inl, inr, ◌⊎◌, Option, Some, None, slice_get}
+use Rattle.std.proofs.Common.{◌≡◌, ℕ, ◌+◌, ◌^◌, ◌<◌, ◌≤◌, Bool, true, false, List, length, refl, ap, sym, subst, ◌∙◌, arith, inl, inr, ◌⊎◌, Option, Some, None, MatchOption, slice_get}
 use Rattle.std.proofs.lemmas.Option.{same_Some}
 use Rattle.ulfm_rank.specs.Facts.{is_stopped}
 use Rattle.ulfm_rank.specs.State.{State, IsState}
 use Rattle.ulfm_script.specs.declared.step.Step.{Step}
-use Rattle.ulfm_script.specs.declared.step.Step.TheVariants.{Send, Recv, Wait, Failed, Ack, Revoke, Dup, Stop}
+use Rattle.ulfm_script.specs.declared.step.Step.TheVariants.{Send, Recv, Wait, Failed, Ack, Revoke, Dup, Shrink, Stop}
 use Rattle.ulfm_script.specs.declared.answer.StepAnswer.{StepAnswer}
 use Rattle.ulfm_script.specs.declared.answer.StepAnswer.TheVariants.{Unfinished}
 use Rattle.ulfm_script.specs.declared.answer.StepReport.{StepReport}
-use Rattle.ulfm_script.specs.Player.{Player, Answers, IsOpen, IsCalled, Left, PollAnswers, PollOpens, answered, polled, report_of}
+use Rattle.ulfm_script.specs.Player.{Player, Answers, StaysOpen, awaits_decision, IsCalled, Left, PollAnswers, PollOpens, with_rank, answered, polled, report_of}
 use Rattle.ulfm_script.specs.Job.{is_stop_step}
 use Rattle.ulfm_world.specs.Replay.{IsPolled, IsPatient, FollowsAt, weight_of, out_at, fresh_of}
-use Rattle.ulfm_world.proofs.Polls.{Adds, answers_add, stopped-adds}
+use Rattle.ulfm_world.proofs.Polls.{Adds, answers_add, opens_add, opens_go_on, stopped-adds}
 use Rattle.ulfm_world.proofs.Weights.{out-logged, fresh-logged}
-use Rattle.ulfm_world.proofs.Scripts.{closed, follows-closed, follows-polled, left-closed, left_polled, polls_small}
+use Rattle.ulfm_world.proofs.Scripts.{closed, follows-closed, follows-polled, left-closed, left_polled}
 
 -- what a player has before a poll of its next step
 pub record Ready (script : List Step) (turns n : ℕ) (p : Player) (asked : Step) : Type 0 where
@@ -21,8 +21,7 @@ pub record Ready (script : List Step) (turns n : ℕ) (p : Player) (asked : Step
   pub sound : IsState p.rank
   pub size : n ≡ p.rank.ranks
   pub running : is_stopped p.rank.log ≡ false
-  pub patient : 0 < turns
-  pub counted : turns < 2 ^ 32
+  pub few : p.polls < turns
   pub next : slice_get script (length p.done) ≡ Some asked
   pub inside : length p.done < length script
 
@@ -38,10 +37,10 @@ adds_weight n r stops new h size running (inr one) =
     let W : State → Type 0 = λ (s : State). out_at n s + fresh_of s ≤ (out_at n r + fresh_of r) + 16 in
     subst W (sym one.only) (omega (arith, out-logged n r one.entry h size running, fresh-logged r one.entry))
 
-advance-closed : (script : List Step) (turns n : ℕ) (old : Player) (r : State) (x : StepReport) → Ready script turns n old x.step → Adds old.rank (is_stop_step x.step) r → IsPatient turns x → Advances script turns n old (closed old r x)
+pub advance-closed : (script : List Step) (turns n : ℕ) (old : Player) (r : State) (x : StepReport) → Ready script turns n old x.step → Adds old.rank (is_stop_step x.step) r → IsPatient turns x → Advances script turns n old (closed old r x)
 advance-closed script turns n old r x h adds patient = record {
   follows = follows-closed script turns old r x h.follows h.running h.next (stopped-adds old.rank (is_stop_step x.step) r h.running adds) patient;
-  falls = omega (arith, left-closed script turns old r x h.follows h.patient h.inside, adds_weight n old.rank (is_stop_step x.step) r h.sound h.size h.running adds);
+  falls = omega (arith, left-closed script turns old r x h.few h.inside, adds_weight n old.rank (is_stop_step x.step) r h.sound h.size h.running adds);
 }
 
 -- a poll doesn't give its step up
@@ -56,53 +55,58 @@ not_given_up done r asked answer new h e = none asked (let A : StepAnswer → Ty
     none (Ack count comm) h = h
     none (Revoke comm) h = h
     none (Dup comm) h = h
+    none (Shrink comm) h = h
     none Stop h = h
 
-polled_in_time : (turns polls : ℕ) (answer : StepAnswer) → (answer ≡ Unfinished → ⊥) → polls < turns → IsPolled turns answer polls
+pub polled_in_time : (turns polls : ℕ) (answer : StepAnswer) → (answer ≡ Unfinished → ⊥) → polls < turns → IsPolled turns answer polls
 polled_in_time turns polls Unfinished h few = absurd (h refl)
 polled_in_time turns polls _ h few = few
 
 advance-answers : (script : List Step) (turns n : ℕ) (old : Player) (asked : Step) (new : Player) → Ready script turns n old asked → PollAnswers old asked new → Advances script turns n old new
 advance-answers script turns n old asked new h a =
     let A : Player → Type 0 = λ (p : Player). Advances script turns n old p in
-    subst A (sym a.only) (advance-closed script turns n old a.rank (report_of asked a.answer (length old.rank.log) old.polls) h (answers_add old.done old.rank asked a.answer a.rank h.running a.answers) (polled_in_time turns old.polls a.answer (not_given_up old.done old.rank asked a.answer a.rank a.answers) (polls_small script turns old h.follows h.patient)))
+    subst A (sym a.only) (advance-closed script turns n old a.rank (report_of asked a.answer (length old.rank.log) old.polls) h (answers_add old.done old.rank asked a.answer a.rank h.running a.answers) (polled_in_time turns old.polls a.answer (not_given_up old.done old.rank asked a.answer a.rank a.answers) h.few))
 
-advance-polled : (script : List Step) (turns n : ℕ) (old : Player) (asked : Step) → Ready script turns n old asked → (polled old asked).polls < turns → Advances script turns n old (polled old asked)
-advance-polled script turns n old asked h few = record {
-  follows = follows-polled script turns old asked h.follows h.running h.next few;
-  falls = omega (arith, left_polled turns (length script) (length old.done) old.polls h.inside (polls_small script turns old h.follows h.patient) h.counted);
+advance-polled : (script : List Step) (turns n : ℕ) (old : Player) (r : State) (asked : Step) (at : ℕ) → turns < 2 ^ 32 → Ready script turns n old asked → Adds old.rank false r → (polled (with_rank old r) asked at).polls < turns → Advances script turns n old (polled (with_rank old r) asked at)
+advance-polled script turns n old r asked at counted h adds few = record {
+  follows = follows-polled script turns old r asked at h.follows h.running (stopped-adds old.rank false r h.running adds) h.next few;
+  falls = omega (arith, left_polled turns (length script) (length old.done) old.polls h.inside h.few counted, adds_weight n old.rank false r h.sound h.size h.running adds);
 }
 
 -- one poll that is answered, or leaves the step open with polls to spare
-pub advance-called : (script : List Step) (turns n : ℕ) (old : Player) (asked : Step) (new : Player) → Ready script turns n old asked → IsCalled old asked new → (new.current ≡ None) ⊎ (new.polls < turns) → Advances script turns n old new
-advance-called script turns n old asked new h (inl a) few = advance-answers script turns n old asked new h a
-advance-called script turns n old asked new h (inr o) few =
+pub advance-called : (script : List Step) (turns n : ℕ) (old : Player) (asked : Step) (new : Player) → turns < 2 ^ 32 → Ready script turns n old asked → IsCalled old asked new → (new.current ≡ None) ⊎ (new.polls < turns) → Advances script turns n old new
+advance-called script turns n old asked new counted h (inl a) few = advance-answers script turns n old asked new h a
+advance-called script turns n old asked new counted h (inr o) few =
     let A : Player → Type 0 = λ (p : Player). Advances script turns n old p in
     let F : Player → Type 0 = λ (p : Player). (p.current ≡ None) ⊎ (p.polls < turns) in
-    let low : (polled old asked).polls < turns = elim (subst F o.only few) [ inl none ↦ (let bad : ⊥ = cc in absurd bad) | inr below ↦ below ] in
-    subst A (sym o.only) (advance-polled script turns n old asked h low)
+    let low : (polled (with_rank old o.rank) asked (length old.rank.log)).polls < turns = elim (subst F o.only few) [ inl none ↦ (let bad : ⊥ = cc in absurd bad) | inr below ↦ below ] in
+    subst A (sym o.only) (advance-polled script turns n old o.rank asked (length old.rank.log) counted h (opens_add (awaits_decision old.current) old.done old.rank asked o.rank o.stays) low)
 
 -- a step that may stay open is no stop
-open_goes_on : (done : List StepReport) (r : State) (asked : Step) → IsOpen done r asked → is_stop_step asked ≡ false
-open_goes_on done r (Wait req) h = refl
-open_goes_on done r _ h = absurd h
+goes_on : (script : List Step) (turns k polls : ℕ) (current : Option Step) (done : List StepReport) (r : State) (asked : Step) (new : State) → MatchOption current (polls ≡ 0) (λ s. (slice_get script k ≡ Some s) × (polls < turns)) → slice_get script k ≡ Some asked → StaysOpen (awaits_decision current) done r asked new → is_stop_step asked ≡ false
+goes_on script turns k polls None done r asked new h next o = opens_go_on done r asked new o
+goes_on script turns k polls (Some (Shrink comm)) done r asked new h next o = ap is_stop_step (same_Some asked (Shrink comm) (sym next ∙ h.0))
+goes_on script turns k polls (Some s) done r asked new h next o = opens_go_on done r asked new o
 
-advance-opens : (script : List Step) (turns n : ℕ) (old : Player) (asked : Step) (mid new : Player) → Ready script turns n old asked → PollOpens old asked mid → Left mid new → turns ≤ mid.polls → Advances script turns n old new
-advance-opens script turns n old asked mid new h o left last =
+advance-opens : (script : List Step) (turns n : ℕ) (old : Player) (asked : Step) (mid new : Player) → turns < 2 ^ 32 → Ready script turns n old asked → PollOpens old asked mid → Left mid new → turns ≤ mid.polls → Advances script turns n old new
+advance-opens script turns n old asked mid new counted h o left last =
     let A : Player → Type 0 = λ (p : Player). Advances script turns n old p in
     let C : Player → Type 0 = λ (p : Player). p.current ≡ Some left.step in
     let same : asked ≡ left.step = same_Some asked left.step (subst C o.only left.was_open) in
     let N : Player → Step → Type 0 = λ (p : Player) (s : Step). new ≡ answered p s Unfinished p.at in
     let P : Step → Type 0 = N mid in
     let Q : Player → Type 0 = λ (p : Player). N p asked in
-    let now : new ≡ answered (polled old asked) asked Unfinished (length old.rank.log) = subst Q o.only (subst P (sym same) left.only) in
-    let all : (polled old asked).polls ≡ turns = omega (arith, last, ap (λ (p : Player). p.polls) o.only, polls_small script turns old h.follows h.patient) in
-    subst A (sym now) (advance-closed script turns n old old.rank (report_of asked Unfinished (length old.rank.log) (polled old asked).polls) h (inl (refl, open_goes_on old.done old.rank asked o.stays)) all)
+    let now : new ≡ answered (polled (with_rank old o.rank) asked (length old.rank.log)) asked Unfinished (length old.rank.log) = subst Q o.only (subst P (sym same) left.only) in
+    let all : (polled (with_rank old o.rank) asked (length old.rank.log)).polls ≡ turns = omega (arith, last, ap (λ (p : Player). p.polls) o.only, h.few, counted) in
+    let adds : Adds old.rank false o.rank = opens_add (awaits_decision old.current) old.done old.rank asked o.rank o.stays in
+    let goes : is_stop_step asked ≡ false = goes_on script turns (length old.done) old.polls old.current old.done old.rank asked o.rank h.follows.current h.next o.stays in
+    let B : Bool → Type 0 = λ (b : Bool). Adds old.rank b o.rank in
+    subst A (sym now) (advance-closed script turns n old o.rank (report_of asked Unfinished (length old.rank.log) (polled (with_rank old o.rank) asked (length old.rank.log)).polls) h (subst B (sym goes) adds) all)
 
 -- a poll that leaves the step open, which is then given up
-pub advance-left : (script : List Step) (turns n : ℕ) (old : Player) (asked : Step) (mid new : Player) (s : Step) → Ready script turns n old asked → IsCalled old asked mid → mid.current ≡ Some s → Left mid new → turns ≤ mid.polls → Advances script turns n old new
-advance-left script turns n old asked mid new s h (inr o) e left last = advance-opens script turns n old asked mid new h o left last
-advance-left script turns n old asked mid new s h (inl a) e left last =
+pub advance-left : (script : List Step) (turns n : ℕ) (old : Player) (asked : Step) (mid new : Player) (s : Step) → turns < 2 ^ 32 → Ready script turns n old asked → IsCalled old asked mid → mid.current ≡ Some s → Left mid new → turns ≤ mid.polls → Advances script turns n old new
+advance-left script turns n old asked mid new s counted h (inr o) e left last = advance-opens script turns n old asked mid new counted h o left last
+advance-left script turns n old asked mid new s counted h (inl a) e left last =
     let C : Player → Type 0 = λ (p : Player). p.current ≡ Some s in
     let none : None ≡ Some s = subst C a.only e in
     let bad : ⊥ = cc in

@@ -10,11 +10,11 @@ use Rattle.ulfm_rank.specs.declared.entry.TestAnswer.TheVariants.{Done as TestDo
 use Rattle.ulfm_rank.specs.Facts.{is_stopped, is_revoked, acknowledged_of}
 use Rattle.ulfm_rank.specs.State.{State, logged}
 use Rattle.ulfm_script.specs.declared.step.Step.{Step}
-use Rattle.ulfm_script.specs.declared.step.Step.TheVariants.{Send, Recv, Wait, Failed, Ack, Revoke, Dup, Stop}
+use Rattle.ulfm_script.specs.declared.step.Step.TheVariants.{Send, Recv, Wait, Failed, Ack, Revoke, Dup, Shrink, Stop}
 use Rattle.ulfm_script.specs.declared.answer.StepAnswer.{StepAnswer}
 use Rattle.ulfm_script.specs.declared.answer.StepAnswer.TheVariants.{Sent, Posted, Done, Over, Pending, Ranks, Acked, Revoked, Made, Stopped, Unfinished, Refused}
 use Rattle.ulfm_script.specs.declared.answer.StepReport.{StepReport}
-use Rattle.ulfm_script.specs.Player.{Answers, AnswersSend, AnswersRecv, AnswersWait, AnswersFailed, AnswersAck, AnswersRevoke, AnswersDup, AnswersStop, report_of, request_of}
+use Rattle.ulfm_script.specs.Player.{Answers, AnswersSend, AnswersRecv, AnswersWait, AnswersFailed, AnswersAck, AnswersRevoke, AnswersDup, AnswersEntry, AnswersStop, report_of, request_of}
 use Rattle.ulfm_world.specs.Reader.{sent_by, closes}
 use Rattle.ulfm_world.proofs.Formed.{PostsNone}
 use Rattle.ulfm_world.proofs.Honest.{honest-logged, honest-answered}
@@ -43,7 +43,7 @@ true-same r done asked answer at polls new h plain same =
     subst T (sym same) (honest-answered r.ranks r.log done (report_of asked answer at polls) h (λ group c d. plain.sends group c d) plain.asks (plain.tells r.ranks r.log (done ++ report_of asked answer at polls ∷ [])) (λ req k y c g f. plain.waits req c))
 
 -- one idle entry is added
-true-one : (r : State) (done : List StepReport) (asked : Step) (answer : StepAnswer) (at polls : ℕ) (new : State) (e : Entry) → IsTrueOf r done → IsPlain asked answer → IsIdle e → new ≡ logged r e → IsTrueOf new (done ++ report_of asked answer at polls ∷ [])
+pub true-one : (r : State) (done : List StepReport) (asked : Step) (answer : StepAnswer) (at polls : ℕ) (new : State) (e : Entry) → IsTrueOf r done → IsPlain asked answer → IsIdle e → new ≡ logged r e → IsTrueOf new (done ++ report_of asked answer at polls ∷ [])
 true-one r done asked answer at polls new e h plain idle only =
     true-same (logged r e) done asked answer at polls new (honest-logged r.ranks r.log e done h idle.posts idle.sends (idle.own r.ranks)) plain only
 
@@ -59,7 +59,7 @@ idle-stop : IsIdle StopEntry
 idle-stop = record { posts = tt; sends = λ c d. refl; own = λ n. tt }
 
 -- a step that is refused
-refused : (asked : Step) (reason : CallError) → IsPlain asked (Refused reason)
+pub refused : (asked : Step) (reason : CallError) → IsPlain asked (Refused reason)
 refused asked reason = record { sends = λ group c d. sends group c d asked; asks = refl; tells = λ n log done. tells n log done asked; waits = λ req. waits req asked }
   where
     sends : (group : List ℕ) (c d : ℕ) (asked : Step) → sent_by group c d asked (Refused reason) ≡ []
@@ -128,6 +128,10 @@ module _ (r : State) (done : List StepReport) (h : IsTrueOf r done) (at polls : 
   true-dup comm (Refused e) a = true-same r done (Dup comm) (Refused e) at polls new h (refused (Dup comm) e) a.1
   true-dup comm _ a = absurd a
 
+  true-entry : (comm : Context) (answer : StepAnswer) → AnswersEntry r comm answer new → IsTrueOf new (done ++ report_of (Shrink comm) answer at polls ∷ [])
+  true-entry comm (Refused e) a = true-same r done (Shrink comm) (Refused e) at polls new h (refused (Shrink comm) e) a.1
+  true-entry comm _ a = absurd a
+
   true-stop : (answer : StepAnswer) → AnswersStop r answer new → IsTrueOf new (done ++ report_of Stop answer at polls ∷ [])
   true-stop Stopped a = true-unless (is_stopped r.log) r done Stop Stopped at polls new StopEntry h (record { sends = λ group c d. refl; asks = refl; tells = λ n log done. tt; waits = λ q e. let bad : ⊥ = cc in bad }) idle-stop a
   true-stop _ a = absurd a
@@ -141,4 +145,5 @@ module _ (r : State) (done : List StepReport) (h : IsTrueOf r done) (at polls : 
   true-answers (Ack count comm) answer a = true-ack count comm answer a
   true-answers (Revoke comm) answer a = true-revoke comm answer a
   true-answers (Dup comm) answer a = true-dup comm answer a
+  true-answers (Shrink comm) answer a = true-entry comm answer a
   true-answers Stop answer a = true-stop answer a

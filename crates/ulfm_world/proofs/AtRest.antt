@@ -16,7 +16,7 @@ use Rattle.ulfm_world.proofs.Told.{owed_not_gone, gone-took, revoked-took, revok
 use Rattle.ulfm_world.proofs.FlowFrom.{flows-world}
 
 -- at rest, whatever came towards a running rank was taken
-took_all : (w : World) (s d : ℕ) → IsAtRest w → s < length w.players → d < length w.players → IsRunning w d → arrived w s d ++ outbox (rank_at w s) d ≡ took (rank_at w d).log s
+pub took_all : (w : World) (s d : ℕ) → IsAtRest w → s < length w.players → d < length w.players → IsRunning w d → arrived w s d ++ outbox (rank_at w s) d ≡ took (rank_at w d).log s
 took_all w s d rest i j running =
     ap (λ (xs : List Item). arrived w s d ++ xs) ((rest.served d j running).outboxes s i)
     ∙ append-nil (arrived w s d)

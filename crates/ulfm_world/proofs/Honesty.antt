@@ -1,5 +1,5 @@
 -- In every schedule the answered steps of each rank are true of its log.
-use Rattle.std.proofs.Common.{ℕ, ◌<◌, ◌≤◌, List, [], ◌∷◌, length, set, refl, sym, subst, arith, inl, inr, length-set}
+use Rattle.std.proofs.Common.{ℕ, ◌<◌, ◌≤◌, List, [], ◌∷◌, length, set, refl, sym, subst, arith, inl, inr, length-set, None}
 use Rattle.std.specs.Prelude.{All}
 use Rattle.std.proofs.lemmas.List.Elements.{All-head, All-nil}
 use Rattle.ulfm_base.specs.declared.rank.WorldRank.{WorldRank}
@@ -8,9 +8,9 @@ use Rattle.ulfm_rank.specs.declared.entry.Entry.TheVariants.{Took}
 use Rattle.ulfm_rank.specs.State.{State, Leaves, logged}
 use Rattle.ulfm_script.specs.declared.step.Step.{Step}
 use Rattle.ulfm_script.specs.declared.answer.StepAnswer.TheVariants.{Unfinished}
-use Rattle.ulfm_script.specs.Player.{Player, IsCalled, Left, with_rank, start_player}
+use Rattle.ulfm_script.specs.Player.{Player, IsCalled, Left, awaits_decision, with_rank, start_player}
 use Rattle.ulfm_world.specs.declared.event.Event.{Event}
-use Rattle.ulfm_world.specs.declared.event.Event.TheVariants.{Call, Push, Take, Leave}
+use Rattle.ulfm_world.specs.declared.event.Event.TheVariants.{Call, Push, Take, Decide, Leave}
 use Rattle.ulfm_world.specs.World.{World, player_in, player_at, rank_at, start_world, Happens, Applied, Run, Reaches}
 use Rattle.ulfm_world.specs.Flow.{IsPosted, IsWorld}
 use Rattle.ulfm_world.proofs.Answering.{true-same, true-answers, unfinished}
@@ -19,6 +19,7 @@ use Rattle.ulfm_world.proofs.Closing.{IsTrueOf}
 use Rattle.ulfm_world.proofs.Honest.{honest-logged}
 use Rattle.ulfm_world.proofs.Mail.{IsTakenFrom}
 use Rattle.ulfm_world.proofs.Runs.{keeps-applied}
+use Rattle.ulfm_world.proofs.Shrinking.{true-opens, true-decided}
 use Rattle.ulfm_world.proofs.Starts.{player-start, length-start, world-start}
 
 -- the answered steps of each player are true of its log
@@ -34,7 +35,9 @@ true-called : (old : Player) (asked : Step) (new : Player) → IsTrueOf old.rank
 true-called old asked new h (inl a) =
     let T : Player → Type 0 = λ (p : Player). IsTrueOf p.rank p.done in
     subst T (sym a.only) (true-answers old.rank old.done h (length old.rank.log) old.polls a.rank asked a.answer a.answers)
-true-called old asked new h (inr o) = let T : Player → Type 0 = λ (p : Player). IsTrueOf p.rank p.done in subst T (sym o.only) h
+true-called old asked new h (inr o) =
+    let T : Player → Type 0 = λ (p : Player). IsTrueOf p.rank p.done in
+    subst T (sym o.only) (true-opens (awaits_decision old.current) old.done old.rank asked o.rank h o.stays)
 
 true-left : (old new : Player) → IsTrueOf old.rank old.done → Left old new → IsTrueOf new.rank new.done
 true-left old new h left =
@@ -60,6 +63,10 @@ true-happens w (Take r) w' h t k =
     let A : World → Type 0 = λ (x : World). AreTrue x.players in
     let posted : IsPosted (length w.players) (k.source, k.item) = All-head (IsPosted (length w.players)) (k.source, k.item) k.rest (let X : List (WorldRank × Item) → Type 0 = λ (xs : List (WorldRank × Item)). All (IsPosted (length w.players)) xs in subst X k.front (h.posted r k.inside)) in
     subst A (sym k.only) (true-set w.players r (with_rank (player_at w r) (logged (rank_at w r) (Took k.source k.item))) k.inside (true-took (player_at w r) k.source k.item (t r k.inside) (omega (arith, posted.0, h.counted r k.inside), posted.1)) t)
+true-happens w (Decide r comm) w' h t k =
+    let A : World → Type 0 = λ (x : World). AreTrue x.players in
+    let B : List Player → Type 0 = λ (ps : List Player). AreTrue ps in
+    subst A (sym k.3) (subst B (sym k.2.only) (true-set w.players r k.2.after k.2.inside (true-decided (player_at w r) comm None w.decided k.1 k.2.after (t r k.2.inside) k.2.decided) t))
 true-happens w (Leave r) w' h t k =
     let A : World → Type 0 = λ (x : World). AreTrue x.players in
     let B : List Player → Type 0 = λ (ps : List Player). AreTrue ps in

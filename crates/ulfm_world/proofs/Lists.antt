@@ -1,21 +1,18 @@
 -- Players with their places, and a change of one of them.
 use Rattle.std.proofs.Common.{◌≡◌, ℕ, ◌+◌, ◌<◌, true, false, cond, List, [], ◌∷◌, ◌++◌, length, take, drop, map, get_or, set, refl, ap, sym, subst, ◌∙◌, arith, take_all, append-nil, Option, Some, None}
-use Rattle.std.specs.Prelude.{is_none, All}
+use Rattle.std.specs.Prelude.{All}
 use Rattle.std.proofs.lemmas.List.{map-set, get_or-map, set-get_or, length-map, drop_all, get_or_default}
 use Rattle.std.proofs.lemmas.List.Elements.{All-head}
 use Rattle.ulfm_base.specs.declared.rank.WorldRank.{WorldRank}
+use Rattle.ulfm_base.specs.declared.decision.Decision.{Decision}
 use Rattle.ulfm_base.specs.declared.item.Item.{Item}
 use Rattle.ulfm_rank.specs.declared.entry.Entry.TheVariants.{Took}
 use Rattle.ulfm_rank.specs.Facts.{is_stopped}
 use Rattle.ulfm_rank.specs.State.{State, logged, returned, Leaves}
-use Rattle.ulfm_script.specs.declared.step.Step.{Step}
-use Rattle.ulfm_script.specs.Player.{Player, View, with_rank, IsFree, IsCalled, Left, PollAnswers, PollOpens}
-use Rattle.ulfm_world.specs.declared.event.Event.TheVariants.{Call}
-use Rattle.ulfm_world.specs.declared.event.Outcome.TheVariants.{Answered, NotYet}
-use Rattle.ulfm_world.specs.World.{World, player_in, no_player, with_inbox, with_players, Calls, GivesUp, Pushes, Takes, outcome_of}
+use Rattle.ulfm_script.specs.Player.{Player, View, with_rank}
+use Rattle.ulfm_world.specs.World.{World, player_in, no_player, with_inbox, with_players, Pushes, Takes}
 use Rattle.ulfm_world.specs.Flow.{IsPosted, IsWorld}
 use Rattle.ulfm_world.specs.Fields.{the_player, players_of, parts, AreParts, HandsOver}
-use Rattle.ulfm_world.proofs.Changed.{player-same}
 
 pub read_player : (views : List View) (r : ℕ) (d : View) → r < length views → player_in (players_of views) r ≡ (get_or views r d).player
 read_player views r d h = get_or-map the_player views r d no_player h
@@ -37,62 +34,22 @@ players-same views r v d h same =
 pub lent_whole : {X : Type 0} → (xs ys : List X) (n : ℕ) → length ys ≡ length xs → n ≡ length xs → take n (ys ++ drop (length ys) xs) ≡ ys
 lent_whole xs ys n l m = rw (drop_all (length ys) xs (omega arith)) (ap (take n) (append-nil ys) ∙ take_all n ys (omega arith))
 
-pub same_parts : (views views' : List View) (inboxes inboxes' : List (List (WorldRank × Item))) (capacity : ℕ) → players_of views' ≡ players_of views → inboxes' ≡ inboxes → parts views' inboxes' capacity ≡ parts views inboxes capacity
-same_parts views views' inboxes inboxes' capacity p q =
-    ap (λ (ps : List Player). let w : World = record { players = ps; inboxes = inboxes'; capacity = capacity } in w) p
-    ∙ ap (λ (is : List (List (WorldRank × Item))). let w : World = record { players = players_of views; inboxes = is; capacity = capacity } in w) q
+pub same_parts : (views views' : List View) (inboxes inboxes' : List (List (WorldRank × Item))) (capacity : ℕ) (decided decided' : List (Option Decision)) → players_of views' ≡ players_of views → inboxes' ≡ inboxes → decided' ≡ decided → parts views' inboxes' capacity decided' ≡ parts views inboxes capacity decided
+same_parts views views' inboxes inboxes' capacity decided decided' p q e =
+    ap (λ (ps : List Player). let w : World = record { players = ps; inboxes = inboxes'; capacity = capacity; decided = decided' } in w) p
+    ∙ ap (λ (is : List (List (WorldRank × Item))). let w : World = record { players = players_of views; inboxes = is; capacity = capacity; decided = decided' } in w) q
+    ∙ ap (λ (ds : List (Option Decision)). let w : World = record { players = players_of views; inboxes = inboxes; capacity = capacity; decided = ds } in w) e
 
 -- the parts after a change of one player and one inbox
-pub parts-set : (views : List View) (inboxes : List (List (WorldRank × Item))) (capacity s d : ℕ) (v : View) (p : Player) (xs ys : List (WorldRank × Item)) →
-    v.player ≡ p → xs ≡ ys → parts (set views s v) (set inboxes d xs) capacity ≡ with_inbox (with_players (parts views inboxes capacity) (set (players_of views) s p)) d ys
-parts-set views inboxes capacity s d v p xs ys e f =
-    ap (λ (ps : List Player). let w : World = record { players = ps; inboxes = set inboxes d xs; capacity = capacity } in w) (players-set views s v ∙ ap (set (players_of views) s) e)
-    ∙ ap (λ (zs : List (WorldRank × Item)). let w : World = record { players = set (players_of views) s p; inboxes = set inboxes d zs; capacity = capacity } in w) f
+pub parts-set : (views : List View) (inboxes : List (List (WorldRank × Item))) (capacity : ℕ) (decided : List (Option Decision)) (s d : ℕ) (v : View) (p : Player) (xs ys : List (WorldRank × Item)) →
+    v.player ≡ p → xs ≡ ys → parts (set views s v) (set inboxes d xs) capacity decided ≡ with_inbox (with_players (parts views inboxes capacity decided) (set (players_of views) s p)) d ys
+parts-set views inboxes capacity decided s d v p xs ys e f =
+    ap (λ (ps : List Player). let w : World = record { players = ps; inboxes = set inboxes d xs; capacity = capacity; decided = decided } in w) (players-set views s v ∙ ap (set (players_of views) s) e)
+    ∙ ap (λ (zs : List (WorldRank × Item)). let w : World = record { players = set (players_of views) s p; inboxes = set inboxes d zs; capacity = capacity; decided = decided } in w) f
 
 -- what came back leaves the player as it was
 pub put_same : (old mid new : Player) (d : ℕ) → mid ≡ with_rank old mid.rank → returned mid.rank d ≡ old.rank → new ≡ with_rank mid (returned mid.rank d) → new ≡ old
 put_same old mid new d m r e = e ∙ ap (λ (p : Player). with_rank p (returned mid.rank d)) m ∙ ap (with_rank old) r
-
--- a poll of a player in its place
-pub calls_done : (views : List View) (r : ℕ) (v d : View) (asked : Step) → r < length views → is_stopped (get_or views r d).player.rank.log ≡ false → IsFree (get_or views r d).player asked → IsCalled (get_or views r d).player asked v.player → Calls (players_of views) r asked (players_of (set views r v))
-calls_done views r v d asked inside running free called =
-    let read : player_in (players_of views) r ≡ (get_or views r d).player = read_player views r d inside in
-    let F : Player → Type 0 = λ (p : Player). IsFree p asked in
-    let C : Player → Type 0 = λ (p : Player). IsCalled p asked v.player in
-    record {
-      inside = omega (arith, inside, length-map views the_player);
-      running = ap (λ (p : Player). is_stopped p.rank.log) read ∙ running;
-      free = subst F (sym read) free;
-      after = v.player;
-      called = subst C (sym read) called;
-      only = players-set views r v;
-    }
-
-pub gives_up_done : (views : List View) (r : ℕ) (v d : View) → r < length views → is_stopped (get_or views r d).player.rank.log ≡ false → Left (get_or views r d).player v.player → GivesUp (players_of views) r (players_of (set views r v))
-gives_up_done views r v d inside running left =
-    let read : player_in (players_of views) r ≡ (get_or views r d).player = read_player views r d inside in
-    let L : Player → Type 0 = λ (p : Player). Left p v.player in
-    record {
-      inside = omega (arith, inside, length-map views the_player);
-      running = ap (λ (p : Player). is_stopped p.rank.log) read ∙ running;
-      after = v.player;
-      left = subst L (sym read) left;
-      only = players-set views r v;
-    }
-
--- the player that was polled
-polled_at : (views : List View) (r : ℕ) (v : View) → r < length views → player_in (players_of (set views r v)) r ≡ v.player
-polled_at views r v inside =
-    ap (λ (ps : List Player). player_in ps r) (players-set views r v)
-    ∙ player-same (players_of views) r r v.player refl (omega (arith, inside, length-map views the_player))
-
-pub outcome_answered : (views : List View) (r : ℕ) (v : View) (old : Player) (asked : Step) (inboxes : List (List (WorldRank × Item))) (capacity : ℕ) → r < length views → PollAnswers old asked v.player → Answered ≡ outcome_of (parts (set views r v) inboxes capacity) (Call r asked)
-outcome_answered views r v old asked inboxes capacity inside a =
-    sym (ap (λ (p : Player). cond (is_none p.current) Answered NotYet) (polled_at views r v inside ∙ a.only))
-
-pub outcome_opened : (views : List View) (r : ℕ) (v : View) (old : Player) (asked : Step) (inboxes : List (List (WorldRank × Item))) (capacity : ℕ) → r < length views → PollOpens old asked v.player → NotYet ≡ outcome_of (parts (set views r v) inboxes capacity) (Call r asked)
-outcome_opened views r v old asked inboxes capacity inside o =
-    sym (ap (λ (p : Player). cond (is_none p.current) Answered NotYet) (polled_at views r v inside ∙ o.only))
 
 -- the parts of a world fit together
 pub parts-world : (w : World) → IsWorld w → AreParts w.players w.inboxes
@@ -106,10 +63,10 @@ taken_front views inboxes r d source item h inside front =
     All-head (IsPosted (length (players_of views))) (source, item) (drop 1 (get_or inboxes r d))
     (let A : List (WorldRank × Item) → Type 0 = λ (xs : List (WorldRank × Item)). All (IsPosted (length (players_of views))) xs in subst A (sym same ∙ front) (h.posted r (omega (arith, inside, l))))
 
-pub takes_done : (views : List View) (inboxes : List (List (WorldRank × Item))) (r capacity : ℕ) (v d : View) (e rest : List (WorldRank × Item)) (source : WorldRank) (item : Item) → AreParts (players_of views) inboxes → r < length views → is_stopped (get_or views r d).player.rank.log ≡ false →
+pub takes_done : (views : List View) (inboxes : List (List (WorldRank × Item))) (r capacity : ℕ) (decided : List (Option Decision)) (v d : View) (e rest : List (WorldRank × Item)) (source : WorldRank) (item : Item) → AreParts (players_of views) inboxes → r < length views → is_stopped (get_or views r d).player.rank.log ≡ false →
     get_or inboxes r e ≡ (source, item) ∷ drop 1 (get_or inboxes r e) → v.player ≡ with_rank (get_or views r d).player (logged (get_or views r d).player.rank (Took source item)) → rest ≡ drop 1 (get_or inboxes r e) →
-    Takes (parts views inboxes capacity) r (parts (set views r v) (set inboxes r rest) capacity)
-takes_done views inboxes r capacity v d e rest source item h inside running front took left =
+    Takes (parts views inboxes capacity decided) r (parts (set views r v) (set inboxes r rest) capacity decided)
+takes_done views inboxes r capacity decided v d e rest source item h inside running front took left =
     let l : length (players_of views) ≡ length views = length-map views the_player in
     let read : player_in (players_of views) r ≡ (get_or views r d).player = read_player views r d inside in
     let same : get_or inboxes r e ≡ get_or inboxes r [] = get_or_default inboxes r e [] (omega (arith, inside, l, h.as_many)) in
@@ -120,13 +77,13 @@ takes_done views inboxes r capacity v d e rest source item h inside running fron
       item = item;
       rest = rest;
       front = sym same ∙ front ∙ ap (λ (xs : List (WorldRank × Item)). (source, item) ∷ xs) (sym left);
-      only = parts-set views inboxes capacity r r v _ rest rest (took ∙ ap (λ (p : Player). with_rank p (logged p.rank (Took source item))) (sym read)) refl;
+      only = parts-set views inboxes capacity decided r r v _ rest rest (took ∙ ap (λ (p : Player). with_rank p (logged p.rank (Took source item))) (sym read)) refl;
     }
 
 -- an item that was handed over is pushed
-pub pushes_done : (views : List View) (inboxes : List (List (WorldRank × Item))) (s d capacity : ℕ) (v e : View) (later f : List (WorldRank × Item)) (sender : WorldRank) → length inboxes ≡ length (players_of views) → s < length views → d < length views → sender.number ≡ s →
-    HandsOver (get_or views s e).player (get_or inboxes d f) capacity sender d v.player later → Pushes (parts views inboxes capacity) s d (parts (set views s v) (set inboxes d later) capacity)
-pushes_done views inboxes s d capacity v e later f sender many inside_s inside_d named h =
+pub pushes_done : (views : List View) (inboxes : List (List (WorldRank × Item))) (s d capacity : ℕ) (decided : List (Option Decision)) (v e : View) (later f : List (WorldRank × Item)) (sender : WorldRank) → length inboxes ≡ length (players_of views) → s < length views → d < length views → sender.number ≡ s →
+    HandsOver (get_or views s e).player (get_or inboxes d f) capacity sender d v.player later → Pushes (parts views inboxes capacity decided) s d (parts (set views s v) (set inboxes d later) capacity decided)
+pushes_done views inboxes s d capacity decided v e later f sender many inside_s inside_d named h =
     let l : length (players_of views) ≡ length views = length-map views the_player in
     let read : player_in (players_of views) s ≡ (get_or views s e).player = read_player views s e inside_s in
     let same : get_or inboxes d f ≡ get_or inboxes d [] = get_or_default inboxes d f [] (omega (arith, inside_d, l, many)) in
@@ -140,5 +97,5 @@ pushes_done views inboxes s d capacity v e later f sender many inside_s inside_d
       item = h.item;
       after = v.player.rank;
       leaves = subst L (sym read) h.leaves;
-      only = parts-set views inboxes capacity s d v _ later _ (h.only ∙ ap (λ (p : Player). with_rank p v.player.rank) (sym read)) (h.added ∙ ap (λ (xs : List (WorldRank × Item)). xs ++ (sender, h.item) ∷ []) same);
+      only = parts-set views inboxes capacity decided s d v _ later _ (h.only ∙ ap (λ (p : Player). with_rank p v.player.rank) (sym read)) (h.added ∙ ap (λ (xs : List (WorldRank × Item)). xs ++ (sender, h.item) ∷ []) same);
     }

@@ -5,17 +5,17 @@ use Rattle.std.proofs.lemmas.Bool.{false≢true}
 use Rattle.ulfm_base.specs.declared.context.Context.{Context}
 use Rattle.ulfm_base.specs.declared.tag.Tag.{Tag}
 use Rattle.ulfm_rank.specs.declared.entry.Entry.{Entry}
-use Rattle.ulfm_rank.specs.declared.entry.Entry.TheVariants.{Sent as SentEntry, Posted as PostedEntry, Released, Acknowledged, Revoked as RevokedEntry, Duplicated, Stopped as StopEntry}
+use Rattle.ulfm_rank.specs.declared.entry.Entry.TheVariants.{Sent as SentEntry, Posted as PostedEntry, Released, Acknowledged, Revoked as RevokedEntry, Duplicated, Entered, Stopped as StopEntry}
 use Rattle.ulfm_rank.specs.declared.entry.TestAnswer.TheVariants.{Done as TestDone, Over as TestOver}
 use Rattle.ulfm_rank.specs.Facts.{is_stop, is_stopped, is_revoked, acknowledged_of}
 use Rattle.ulfm_rank.specs.State.{State, IsState, logged}
 use Rattle.ulfm_script.specs.declared.step.Step.{Step}
-use Rattle.ulfm_script.specs.declared.step.Step.TheVariants.{Send, Recv, Wait, Failed, Ack, Revoke, Dup, Stop}
+use Rattle.ulfm_script.specs.declared.step.Step.TheVariants.{Send, Recv, Wait, Failed, Ack, Revoke, Dup, Shrink, Stop}
 use Rattle.ulfm_script.specs.declared.answer.StepAnswer.{StepAnswer}
 use Rattle.ulfm_script.specs.declared.answer.StepAnswer.TheVariants.{Sent, Posted, Done, Over, Pending, Ranks, Acked, Revoked, Made, Stopped, Unfinished, Refused}
 use Rattle.ulfm_script.specs.declared.answer.StepReport.{StepReport}
 use Rattle.ulfm_script.specs.Job.{is_stop_step}
-use Rattle.ulfm_script.specs.Player.{Player, Answers, AnswersSend, AnswersRecv, AnswersWait, AnswersFailed, AnswersAck, AnswersRevoke, AnswersDup, AnswersStop, IsCalled, Left}
+use Rattle.ulfm_script.specs.Player.{Player, Answers, AnswersSend, AnswersRecv, AnswersWait, AnswersFailed, AnswersAck, AnswersRevoke, AnswersDup, AnswersEntry, AnswersStop, IsOpen, StaysOpen, awaits_decision, IsCalled, Left}
 use Rattle.ulfm_world.proofs.Logs.{stopped-push}
 use Rattle.ulfm_world.proofs.Quiet.{Own, Quiet, quiet-same, quiet-logged}
 
@@ -30,10 +30,10 @@ pub record AddsOne (old : State) (stops : Bool) (new : State) : Type 0 where
 abbrev pub Adds : State → Bool → State → Type 0
 Adds old stops new = ((new ≡ old) × (stops ≡ false)) ⊎ AddsOne old stops new
 
-adds_same : (r new : State) → new ≡ r → Adds r false new
+pub adds_same : (r new : State) → new ≡ r → Adds r false new
 adds_same r new e = inl (e, refl)
 
-adds_one : (r new : State) (e : Entry) (stops : Bool) → Own r.me e → is_stop e ≡ stops → new ≡ logged r e → Adds r stops new
+pub adds_one : (r new : State) (e : Entry) (stops : Bool) → Own r.me e → is_stop e ≡ stops → new ≡ logged r e → Adds r stops new
 adds_one r new e stops own stop only = inr (record { entry = e; own = own; stop = stop; only = only })
 
 -- an entry is added where a test says so
@@ -83,6 +83,10 @@ adds_dup r comm (Made made) new h = adds_one r new (Duplicated comm) false (reco
 adds_dup r comm (Refused e) new h = adds_same r new h.1
 adds_dup r comm _ new h = absurd h
 
+adds_entry : (r : State) (comm : Context) (answer : StepAnswer) (new : State) → AnswersEntry r comm answer new → Adds r false new
+adds_entry r comm (Refused e) new h = adds_same r new h.1
+adds_entry r comm _ new h = absurd h
+
 adds_stop : (r : State) (answer : StepAnswer) (new : State) → is_stopped r.log ≡ false → AnswersStop r answer new → Adds r true new
 adds_stop r Stopped new running h =
     adds_one r new StopEntry true (record { signed = tt; takes_none = λ s. refl }) refl (h ∙ ap (λ b. cond b r (logged r StopEntry)) running)
@@ -97,7 +101,24 @@ answers_add done r (Failed comm) answer new running h = adds_failed r comm answe
 answers_add done r (Ack count comm) answer new running h = adds_ack r count comm answer new h
 answers_add done r (Revoke comm) answer new running h = adds_revoke r comm answer new h
 answers_add done r (Dup comm) answer new running h = adds_dup r comm answer new h
+answers_add done r (Shrink comm) answer new running h = adds_entry r comm answer new h
 answers_add done r Stop answer new running h = adds_stop r answer new running h
+
+-- a step that its first poll may leave open is no stop
+pub opens_go_on : (done : List StepReport) (r : State) (asked : Step) (new : State) → IsOpen done r asked new → is_stop_step asked ≡ false
+opens_go_on done r (Wait req) new h = refl
+opens_go_on done r (Shrink comm) new h = refl
+opens_go_on done r _ new h = absurd h
+
+adds_open : (done : List StepReport) (r : State) (asked : Step) (new : State) → IsOpen done r asked new → Adds r false new
+adds_open done r (Wait req) new h = adds_same r new h.only
+adds_open done r (Shrink comm) new h = adds_one r new (Entered comm h.1.known) false (record { signed = tt; takes_none = λ s. refl }) refl h.1.only
+adds_open done r _ new h = absurd h
+
+-- a poll that leaves a step open adds its entry into a shrink at most
+pub opens_add : (waits : Bool) (done : List StepReport) (r : State) (asked : Step) (new : State) → StaysOpen waits done r asked new → Adds r false new
+opens_add true done r asked new h = adds_same r new h
+opens_add false done r asked new h = adds_open done r asked new h
 
 -- the rank stopped exactly where a stop was added
 pub stopped-adds : (r : State) (stops : Bool) (new : State) → is_stopped r.log ≡ false → Adds r stops new → is_stopped new.log ≡ stops
@@ -108,7 +129,7 @@ stopped-adds r stops new running (inr one) =
     ∙ ap (λ b. b || is_stop one.entry) running
     ∙ one.stop
 
-quiet-adds : (r : State) (stops : Bool) (new : State) → IsState r → Adds r stops new → Quiet r new
+pub quiet-adds : (r : State) (stops : Bool) (new : State) → IsState r → Adds r stops new → Quiet r new
 quiet-adds r stops new h (inl same) = let Q : State → Type 0 = λ (s : State). Quiet r s in subst Q (sym same.0) (quiet-same r h)
 quiet-adds r stops new h (inr one) = let Q : State → Type 0 = λ (s : State). Quiet r s in subst Q (sym one.only) (quiet-logged r one.entry h one.own)
 
@@ -119,7 +140,7 @@ quiet-called old asked new h running (inl a) =
     subst Q (sym a.only) (quiet-adds old.rank (is_stop_step asked) a.rank h (answers_add old.done old.rank asked a.answer a.rank running a.answers))
 quiet-called old asked new h running (inr o) =
     let Q : Player → Type 0 = λ (p : Player). Quiet old.rank p.rank in
-    subst Q (sym o.only) (quiet-same old.rank h)
+    subst Q (sym o.only) (quiet-adds old.rank false o.rank h (opens_add (awaits_decision old.current) old.done old.rank asked o.rank o.stays))
 
 pub quiet-left : (old new : Player) → IsState old.rank → Left old new → Quiet old.rank new.rank
 quiet-left old new h k =

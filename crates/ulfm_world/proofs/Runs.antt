@@ -1,12 +1,15 @@
 -- Every schedule keeps what every world keeps.
-use Rattle.std.proofs.Common.{◌≡◌, ℕ, ◌+◌, ◌<◌, ◌≤◌, List, [], ◌∷◌, ◌++◌, length, take, get_or, refl, sym, subst, inl, inr, ◌⊎◌, Result, Ok, Err, OnOk, OnErr, IfErr}
+use Rattle.std.proofs.Common.{◌≡◌, ℕ, ◌+◌, ◌<◌, ◌≤◌, List, [], ◌∷◌, ◌++◌, length, take, get_or, refl, sym, subst, inl, inr, ◌⊎◌, Result, Ok, Err, OnOk, OnErr, IfErr, Option, None}
 use Rattle.std.proofs.lemmas.List.{take_more}
+use Rattle.ulfm_base.specs.declared.context.Context.{Context}
+use Rattle.ulfm_base.specs.declared.decision.Decision.{Decision}
 use Rattle.ulfm_world.specs.declared.event.Event.{Event}
-use Rattle.ulfm_world.specs.declared.event.Event.TheVariants.{Call, Push, Take, Leave}
+use Rattle.ulfm_world.specs.declared.event.Event.TheVariants.{Call, Push, Take, Decide, Leave}
 use Rattle.ulfm_world.specs.declared.event.Refused.{Refused}
-use Rattle.ulfm_world.specs.World.{World, rank_at, with_players, Calls, GivesUp, Happens, IsRefused, Applied, Run, Reaches}
+use Rattle.ulfm_world.specs.World.{World, rank_at, with_players, with_decided, Calls, Settles, GivesUp, Happens, IsRefused, Applied, Run, Reaches}
 use Rattle.ulfm_world.specs.Flow.{IsWorld}
 use Rattle.ulfm_world.proofs.Polls.{quiet-called, quiet-left}
+use Rattle.ulfm_world.proofs.Decisions.{quiet-decided}
 use Rattle.ulfm_world.proofs.KeepsCalls.{keeps-quiet, keeps-takes}
 use Rattle.ulfm_world.proofs.KeepsPush.{keeps-pushes}
 use Rattle.ulfm_script.specs.Player.{Player}
@@ -22,10 +25,29 @@ keeps-gives_up w r players h c =
     let W : List Player → Type 0 = λ (ps : List Player). IsWorld (with_players w ps) in
     subst W (sym c.only) (keeps-quiet w r c.after h c.inside (quiet-left _ c.after (h.sound r c.inside) c.left))
 
+keeps-settles : (w : World) (r : ℕ) (comm : Context) (players : List Player) (later : List (Option Decision)) → IsWorld w → Settles w.players w.decided r comm players later → IsWorld (with_decided (with_players w players) later)
+keeps-settles w r comm players later h c =
+    let W : List Player → Type 0 = λ (ps : List Player). IsWorld (with_decided (with_players w ps) later) in
+    subst W (sym c.only) (decided_else _ later (keeps-quiet w r c.after h c.inside (quiet-decided _ comm None w.decided later c.after (h.sound r c.inside) c.decided)))
+  where
+    -- what every world keeps says nothing of the decisions
+    decided_else : (w : World) (later : List (Option Decision)) → IsWorld w → IsWorld (with_decided w later)
+    decided_else w later h = record {
+      small = h.small;
+      as_many = h.as_many;
+      named = h.named;
+      counted = h.counted;
+      sound = h.sound;
+      signed = h.signed;
+      posted = h.posted;
+      passed_on = h.passed_on;
+    }
+
 pub keeps-happens : (w : World) (event : Event) (w' : World) → IsWorld w → Happens w event w' → IsWorld w'
 keeps-happens w (Call r asked) w' h k = let W : World → Type 0 = λ (x : World). IsWorld x in subst W (sym k.2) (keeps-calls w r asked k.0 h k.1)
 keeps-happens w (Push s d) w' h k = keeps-pushes w s d w' h k
 keeps-happens w (Take r) w' h k = keeps-takes w r w' h k
+keeps-happens w (Decide r comm) w' h k = let W : World → Type 0 = λ (x : World). IsWorld x in subst W (sym k.3) (keeps-settles w r comm k.0 k.1 h k.2)
 keeps-happens w (Leave r) w' h k = let W : World → Type 0 = λ (x : World). IsWorld x in subst W (sym k.2) (keeps-gives_up w r k.0 h k.1)
 
 pub keeps-applied : (w : World) (event : Event) (w' : World) → IsWorld w → Applied w event w' → IsWorld w'

@@ -70,28 +70,29 @@ follows-closed script turns old r x h running next stop patient =
     }
 
 -- a step that stays open
-pub follows-polled : (script : List Step) (turns : ℕ) (old : Player) (asked : Step) → FollowsAt script turns old → is_stopped old.rank.log ≡ false → slice_get script (length old.done) ≡ Some asked → (polled old asked).polls < turns → FollowsAt script turns (polled old asked)
-follows-polled script turns old asked h running next few = record {
+pub follows-polled : (script : List Step) (turns : ℕ) (old : Player) (r : State) (asked : Step) (at : ℕ) → FollowsAt script turns old → is_stopped old.rank.log ≡ false → is_stopped r.log ≡ false → slice_get script (length old.done) ≡ Some asked → (polled (with_rank old r) asked at).polls < turns → FollowsAt script turns (polled (with_rank old r) asked at)
+follows-polled script turns old r asked at h ran running next few = record {
   rest = h.rest;
   split = h.split;
   patient = h.patient;
   current = (next, few);
-  running = h.running;
+  running = λ k. h.running ran;
   stopped = λ k. absurd (false≢true (sym running ∙ k));
 }
 
-left_numbers : (turns L k p : ℕ) → k < L → p ≤ turns → (turns + 17) * (L - (k + 1)) + 17 ≤ (turns + 17) * (L - k) - p
+left_numbers : (turns L k p : ℕ) → k < L → p ≤ turns → 17 * ((turns + 1) * (L - (k + 1))) + 17 ≤ 17 * ((turns + 1) * (L - k) - p)
 left_numbers turns L k p h q =
     let e : L - k ≡ (L - (k + 1)) + 1 = omega (arith, h) in
     rw e (omega (arith, q))
 
--- an answered step leaves fewer polls, by all that it may send
-pub left-closed : (script : List Step) (turns : ℕ) (old : Player) (r : State) (x : StepReport) → FollowsAt script turns old → 0 < turns → length old.done < length script → left_at script turns (closed old r x) + 17 ≤ left_at script turns old
-left-closed script turns old r x h patient inside =
+-- an answered step leaves fewer polls, by all that one of them may send
+pub left-closed : (script : List Step) (turns : ℕ) (old : Player) (r : State) (x : StepReport) → old.polls < turns → length old.done < length script → left_at script turns (closed old r x) + 17 ≤ left_at script turns old
+left-closed script turns old r x few inside =
     let l : length (old.done ++ x ∷ []) ≡ length old.done + 1 = omega (arith, length-append old.done (x ∷ [])) in
-    rw l (omega (arith, left_numbers turns (length script) (length old.done) old.polls inside (omega (arith, polls_small script turns old h patient))))
+    rw l (omega (arith, left_numbers turns (length script) (length old.done) old.polls inside (omega (arith, few))))
 
-pub left_polled : (turns L k p : ℕ) → k < L → p < turns → turns < 2 ^ 32 → (turns + 17) * (L - k) - (min (p + 1) (2 ^ 32 - 1)) < (turns + 17) * (L - k) - p
+-- so does a poll that leaves its step open
+pub left_polled : (turns L k p : ℕ) → k < L → p < turns → turns < 2 ^ 32 → 17 * ((turns + 1) * (L - k) - (min (p + 1) (2 ^ 32 - 1))) + 17 ≤ 17 * ((turns + 1) * (L - k) - p)
 left_polled turns L k p h q t =
     let e : L - k ≡ (L - (k + 1)) + 1 = omega (arith, h) in
     let m : min (p + 1) (2 ^ 32 - 1) ≡ p + 1 = omega (arith, q, t) in

@@ -5,6 +5,8 @@ use Rattle.std.proofs.lemmas.Bool.{cases_lt, le-ltb, lt-leb}
 use Rattle.std.proofs.lemmas.List.{length-replicate, get_or_append_left, get_or_at, map_push}
 use Rattle.std.proofs.lemmas.List.Elements.{All-nil}
 use Rattle.ulfm_base.specs.declared.rank.WorldRank.{WorldRank}
+use Rattle.ulfm_base.specs.declared.decision.Decision.{Decision}
+use Rattle.ulfm_board.specs.Known.{nothing_known}
 use Rattle.ulfm_base.specs.declared.item.Item.{Item}
 use Rattle.ulfm_rank.specs.Facts.{took}
 use Rattle.ulfm_rank.specs.State.{State, IsState, gone_out, mark_at, no_mark, start_state}
@@ -71,10 +73,11 @@ world-start n capacity small = record {
 }
 
 -- what a loop over the ranks made
-pub new_world : (views : List View) (inboxes : List (List (WorldRank × Item))) (n r capacity : ℕ) → players_of views ≡ start_players n r → inboxes ≡ replicate r [] → r ≡ n → parts views inboxes capacity ≡ start_world n capacity
-new_world views inboxes n r capacity p q e =
-    ap (λ (ps : List Player). let w : World = record { players = ps; inboxes = inboxes; capacity = capacity } in w) (p ∙ ap (start_players n) e)
-    ∙ ap (λ (is : List (List (WorldRank × Item))). let w : World = record { players = start_players n n; inboxes = is; capacity = capacity } in w) (q ∙ ap (λ k. replicate k (let xs : List (WorldRank × Item) = [] in xs)) e)
+pub new_world : (views : List View) (inboxes : List (List (WorldRank × Item))) (n r capacity : ℕ) (decided : List (Option Decision)) → players_of views ≡ start_players n r → inboxes ≡ replicate r [] → r ≡ n → decided ≡ nothing_known → parts views inboxes capacity decided ≡ start_world n capacity
+new_world views inboxes n r capacity decided p q e none =
+    ap (λ (ps : List Player). let w : World = record { players = ps; inboxes = inboxes; capacity = capacity; decided = decided } in w) (p ∙ ap (start_players n) e)
+    ∙ ap (λ (is : List (List (WorldRank × Item))). let w : World = record { players = start_players n n; inboxes = is; capacity = capacity; decided = decided } in w) (q ∙ ap (λ k. replicate k (let xs : List (WorldRank × Item) = [] in xs)) e)
+    ∙ ap (λ (ds : List (Option Decision)). let w : World = record { players = start_players n n; inboxes = replicate n []; capacity = capacity; decided = ds } in w) none
 
 -- a player of one of 1 to 8 ranks is refused for want of memory alone
 pub starts_or_starves : (me n : ℕ) (e : CallError) → me < n → n ≤ 8 → FailsOrStarves (start_checks me n) e → e ≡ OutOfMemory

@@ -4,3 +4,4 @@ pub mod Rest
 pub mod Replay
 pub mod Fields
 pub mod Reader
+pub mod Safe

@@ -28,6 +28,7 @@ use Rattle.ulfm_script.specs.Job.{Seen, IsJob}
 use Rattle.ulfm_world.specs.World.{World, start_world, Reaches}
 use Rattle.ulfm_world.specs.Replay.{report_of, IsReplayed}
 
+-- a report where there is none
 abbrev pub no_report : Report
 no_report = record { rank = start_state 0 0; steps = []; starved = 0 }
 
@@ -50,6 +51,7 @@ pub record Content : Type 0 where
   pub tag : Tag
   pub body : List ℕ
 
+-- the content with this tag and body
 abbrev pub content : Tag → List ℕ → Content
 content tag body = record { tag = tag; body = body }
 
@@ -63,6 +65,7 @@ abbrev pub sent_by : List ℕ → ℕ → ℕ → Step → StepAnswer → List C
 sent_by group c d (Send to tag body comm) Sent = if comm.number == c && is_rank d (slice_get group to) then content tag body ∷ [] else []
 sent_by group c d _ _ = []
 
+-- what a step of a report sent
 abbrev pub sent_in : List ℕ → ℕ → ℕ → StepReport → List Content
 sent_in group c d report = sent_by group c d report.step report.answer
 

@@ -76,9 +76,9 @@ abbrev pub sum_below : ℕ → (ℕ → ℕ) → ℕ
 sum_below zero f = 0
 sum_below (suc n) f = sum_below n f + f n
 
--- the polls that are left to a player, and what its steps may still send
+-- the polls that are left to a player, each with what it may still send
 abbrev pub left_at : List Step → ℕ → Player → ℕ
-left_at script turns p = (turns + 17) * (length script - length p.done) - p.polls
+left_at script turns p = 17 * ((turns + 1) * (length script - length p.done) - p.polls)
 
 -- what n outboxes of a rank hold
 abbrev pub out_at : ℕ → State → ℕ

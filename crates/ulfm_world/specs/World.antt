@@ -1,25 +1,31 @@
 -- Ranks with their inboxes, and what may happen to them next.
 use Rattle.std.specs.Prelude.{◌≡◌, ◌≢◌, ℕ, zero, suc, Bool, true, false, List, [], ◌∷◌, ◌++◌, ◌+◌, ◌<◌, ◌≤◌, ◌⊎◌, length, if◌then◌else◌, Option, Some, None, is_none, slice_index_or, slice_set, replicate}
 use Rattle.ulfm_base.specs.declared.rank.WorldRank.{WorldRank}
+use Rattle.ulfm_base.specs.declared.context.Context.{Context}
+use Rattle.ulfm_base.specs.declared.decision.Decision.{Decision}
 use Rattle.ulfm_base.specs.declared.item.Item.{Item}
+use Rattle.ulfm_board.specs.Known.{nothing_known}
 use Rattle.ulfm_rank.specs.declared.entry.Entry.{Entry}
 use Rattle.ulfm_rank.specs.declared.entry.Entry.TheVariants.{Took}
 use Rattle.ulfm_rank.specs.Facts.{is_stopped}
 use Rattle.ulfm_rank.specs.State.{State, logged, outbox, Leaves}
 use Rattle.ulfm_script.specs.declared.step.Step.{Step}
 use Rattle.ulfm_script.specs.Player.{Player, start_player, with_rank, IsFree, IsCalled, Left}
+use Rattle.ulfm_script.specs.Deciding.{IsReady, IsDecided}
 use Rattle.ulfm_world.specs.declared.event.Event.{Event}
-use Rattle.ulfm_world.specs.declared.event.Event.TheVariants.{Call, Push, Take, Leave}
+use Rattle.ulfm_world.specs.declared.event.Event.TheVariants.{Call, Push, Take, Decide, Leave}
 use Rattle.ulfm_world.specs.declared.event.Outcome.{Outcome}
 use Rattle.ulfm_world.specs.declared.event.Outcome.TheVariants.{Answered, NotYet, Moved}
 use Rattle.ulfm_world.specs.declared.event.Refused.{Refused}
 use Rattle.ulfm_world.specs.declared.event.Refused.TheVariants.{NothingToPush, InboxFull, InboxEmpty, NotReady, Stopped, OutOfMemory, NoSuchRank}
 
--- the players, an inbox for each with the senders of its items, and the room of an inbox
+-- The players, an inbox for each with the senders of its items, the room of an inbox, and by the number of a context the
+-- decision of its shrink, if it is decided.
 pub record World : Type 0 where
   pub players : List Player
   pub inboxes : List (List (WorldRank × Item))
   pub capacity : ℕ
+  pub decided : List (Option Decision)
 
 -- a player where there is none
 abbrev pub no_player : Player
@@ -51,7 +57,7 @@ HasStopped w r = is_stopped (rank_at w r).log ≡ true
 
 -- the world with other players
 abbrev pub with_players : World → List Player → World
-with_players w players = record { players = players; inboxes = w.inboxes; capacity = w.capacity }
+with_players w players = record { players = players; inboxes = w.inboxes; capacity = w.capacity; decided = w.decided }
 
 -- the world with another player r
 abbrev pub with_player : World → ℕ → Player → World
@@ -59,16 +65,20 @@ with_player w r player = with_players w (slice_set w.players r player)
 
 -- the world with another inbox of d
 abbrev pub with_inbox : World → ℕ → List (WorldRank × Item) → World
-with_inbox w d items = record { players = w.players; inboxes = slice_set w.inboxes d items; capacity = w.capacity }
+with_inbox w d items = record { players = w.players; inboxes = slice_set w.inboxes d items; capacity = w.capacity; decided = w.decided }
+
+-- the world with other decisions
+abbrev pub with_decided : World → List (Option Decision) → World
+with_decided w decided = record { players = w.players; inboxes = w.inboxes; capacity = w.capacity; decided = decided }
 
 -- the first k of n players that start
 abbrev pub start_players : ℕ → ℕ → List Player
 start_players n zero = []
 start_players n (suc k) = start_players n k ++ start_player k n ∷ []
 
--- n ranks that start, with empty inboxes
+-- n ranks that start, with empty inboxes, and nothing decided
 abbrev pub start_world : ℕ → ℕ → World
-start_world n capacity = record { players = start_players n n; inboxes = replicate n []; capacity = capacity }
+start_world n capacity = record { players = start_players n n; inboxes = replicate n []; capacity = capacity; decided = nothing_known }
 
 -- one poll of a step by the player r, where no other step stands open
 pub record Calls (old : List Player) (r : ℕ) (step : Step) (new : List Player) : Type 0 where
@@ -77,6 +87,15 @@ pub record Calls (old : List Player) (r : ℕ) (step : Step) (new : List Player)
   pub free : IsFree (player_in old r) step
   pub after : Player
   pub called : IsCalled (player_in old r) step after
+  pub only : new ≡ slice_set old r after
+
+-- The open shrink of a communicator by the player r, which has a proposal, is decided, and answered: the proposal is the
+-- decision where there was none.
+pub record Settles (old : List Player) (known : List (Option Decision)) (r : ℕ) (comm : Context) (new : List Player) (later : List (Option Decision)) : Type 0 where
+  pub inside : r < length old
+  pub running : is_stopped (player_in old r).rank.log ≡ false
+  pub after : Player
+  pub decided : IsDecided (player_in old r) comm None known after later
   pub only : new ≡ slice_set old r after
 
 -- the player r gives its open step up
@@ -114,11 +133,13 @@ abbrev pub Happens : World → Event → World → Type 0
 Happens old (Call r step) new = (players : List Player) × Calls old.players r step players × (new ≡ with_players old players)
 Happens old (Push s d) new = Pushes old s d new
 Happens old (Take r) new = Takes old r new
+Happens old (Decide r comm) new = (players : List Player) × (later : List (Option Decision)) × Settles old.players old.decided r comm players later × (new ≡ with_decided (with_players old players) later)
 Happens old (Leave r) new = (players : List Player) × GivesUp old.players r players × (new ≡ with_players old players)
 
 -- what is told of an event that happened, by the world after it
 abbrev pub outcome_of : World → Event → Outcome
 outcome_of new (Call r _) = if is_none (player_at new r).current then Answered else NotYet
+outcome_of new (Decide r _) = Answered
 outcome_of new _ = Moved
 
 -- the rank r is one of the world
@@ -129,7 +150,8 @@ IsInside w r = r < length w.players
 abbrev pub IsLive : World → ℕ → Type 0
 IsLive w r = IsInside w r × IsRunning w r
 
--- Why an event is refused, in the order of the checks. Want of memory has no cause that a world shows.
+-- Why an event is refused, in the order of the checks. Want of memory has no cause that a world shows; to decide takes
+-- none, and a decision that finds no memory to be adopted is answered so.
 abbrev pub IsRefused : World → Event → Refused → Type 0
 IsRefused w (Call r asked) NoSuchRank = length w.players ≤ r
 IsRefused w (Call r asked) Stopped = IsInside w r × HasStopped w r
@@ -143,6 +165,9 @@ IsRefused w (Take r) NoSuchRank = length w.players ≤ r
 IsRefused w (Take r) Stopped = IsInside w r × HasStopped w r
 IsRefused w (Take r) InboxEmpty = IsLive w r × (inbox_at w r ≡ [])
 IsRefused w (Take r) OutOfMemory = IsLive w r × (inbox_at w r ≢ [])
+IsRefused w (Decide r comm) NoSuchRank = length w.players ≤ r
+IsRefused w (Decide r comm) Stopped = IsInside w r × HasStopped w r
+IsRefused w (Decide r comm) NotReady = IsLive w r × (IsReady (player_at w r) comm → ⊥)
 IsRefused w (Leave r) NoSuchRank = length w.players ≤ r
 IsRefused w (Leave r) Stopped = IsInside w r × HasStopped w r
 IsRefused w (Leave r) NotReady = IsLive w r × ((player_at w r).current ≡ None)

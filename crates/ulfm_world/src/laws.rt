@@ -5,6 +5,7 @@ ghost use Rattle.ulfm_world.specs.Flow.{Flows};
 ghost use Rattle.ulfm_world.specs.Reader.{AllHasCome, ComeAsSent, DoneIsGiven, DonesDiffer, GivesOnce, HasOnePairing, InEachReplay, InEachWorld, IsFaithful, LettersKeepOrder, NoneIsMissed, OverIsTrue, ReceivesKeepOrder};
 ghost use Rattle.ulfm_world.specs.Replay.{report_of};
 ghost use Rattle.ulfm_world.specs.Rest.{IsAtRest, KnowsStopped, AgreesOnRevoked};
+ghost use Rattle.ulfm_world.specs.Safe.{EntersOnce, DecidesSafely, SettlesSafely, AdoptsHeld, StarvesAlone, AdoptsOne, HasOneGroup, ProposesEach};
 
 /// Whatever events come, between each pair of ranks nothing is lost, made or overtaken (MPI 4.0, 3.5).
 pub fn flows()
@@ -87,4 +88,48 @@ pub fn all_come_at_rest()
 pub fn reports_are_faithful()
     ensures worlds { InEachWorld IsFaithful }
     ensures replays { InEachReplay IsFaithful }
+{}
+
+/// Whatever events come, a rank enters the shrink of a communicator once, with the failures that it knows then (ULFM,
+/// shrink).
+pub fn entered_once()
+    ensures { (n capacity : ℕ) (w : World) → n ≤ 8 → Reaches (start_world n capacity) w → EntersOnce w }
+{}
+
+/// Whatever events come, each decision of a shrink lists its ranks with the failures of their own entries, excludes ranks
+/// alone that have stopped, and excludes each member whose failure a member of the new group knew at its entry (ULFM, shrink).
+pub fn decided_safely()
+    ensures { (n capacity : ℕ) (w : World) → n ≤ 8 → Reaches (start_world n capacity) w → DecidesSafely w }
+{}
+
+/// Whatever events come, a decision of a shrink was as safe before it was made: each excluded rank had stopped (ULFM, shrink).
+pub fn settled_safely()
+    ensures { (n capacity : ℕ) (w : World) → n ≤ 8 → Reaches (start_world n capacity) w → SettlesSafely w }
+{}
+
+/// Whatever events come, a rank that adopted a decision is in its new group, and it is the one that the board holds (ULFM,
+/// shrink).
+pub fn adopted_as_held()
+    ensures { (n capacity : ℕ) (w : World) → n ≤ 8 → Reaches (start_world n capacity) w → AdoptsHeld w }
+{}
+
+/// Whatever events come, a shrink that is decided is refused for want of memory alone (ULFM, shrink).
+pub fn adoption_starves_alone()
+    ensures { (n capacity : ℕ) (w : World) → n ≤ 8 → Reaches (start_world n capacity) w → StarvesAlone w }
+{}
+
+/// Whatever events come, decisions that ranks adopted for one context are equal (ULFM, shrink).
+pub fn one_decision()
+    ensures { (n capacity : ℕ) (w : World) → n ≤ 8 → Reaches (start_world n capacity) w → AdoptsOne w }
+{}
+
+/// Whatever events come, two ranks that made the communicator of a context have the same group for it (MPI 4.0, 7.4).
+pub fn one_group()
+    ensures { (n capacity : ℕ) (w : World) → n ≤ 8 → Reaches (start_world n capacity) w → HasOneGroup w }
+{}
+
+/// Whatever events come, at rest, where all running members of a communicator entered its shrink, each of them has a
+/// proposal (ULFM, shrink).
+pub fn proposed_at_rest()
+    ensures { (n capacity : ℕ) (w : World) → n ≤ 8 → Reaches (start_world n capacity) w → IsAtRest w → ProposesEach w }
 {}

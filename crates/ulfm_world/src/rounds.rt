@@ -1,5 +1,5 @@
 //! A job from its first round to rest.
-ghost use Rattle.std.specs.Prelude.{◌≡◌, ◌<◌, ◌≤◌, ℕ, List, length, false, true, [], IfOk, OnOk};
+ghost use Rattle.std.specs.Prelude.{◌≡◌, ◌<◌, ◌≤◌, ℕ, List, length, false, true, [], IfOk, OnOk, Some, slice_get};
 ghost use Rattle.ulfm_script.specs.Job.{script_at};
 ghost use Rattle.ulfm_world.specs.World.{IsRunning, player_at, inbox_at};
 ghost use Rattle.ulfm_world.specs.Reader.{IsFaithful};
@@ -8,13 +8,14 @@ ghost use Rattle.ulfm_world.specs.Replay.{Moves, Follows, IsPushStuck, IsStuck, 
 use crate::event::{Event, Outcome, Refused};
 use crate::world::World;
 use std::alloc::Global;
-use ulfm_script::{Job, RankReport, RunFault};
+use ulfm_script::{Job, RankReport, RunFault, Step};
 
 /// The job, round by round. One inbox holds `capacity` items for each rank. In a round the ranks come upwards, and each
 /// pushes to each destination upwards, itself too, while its outbox isn't empty and the inbox has room; then, where it
-/// runs, it takes one item and polls its next step once. A step that its last poll left open is given up. The rounds end
-/// after the first one in which nothing was pushed, taken or polled. What the reports tell of letters is true of what was
-/// sent, and at the end all running ranks know each stopped one and agree on revocations.
+/// runs, it takes one item and polls its next step once, which decides an open shrink that has a proposal. A step that
+/// its last poll left open is given up. The rounds end after the first one in which nothing was pushed, taken or polled. What
+/// the reports tell of letters is true of what was sent, and at the end all running ranks know each stopped one and agree
+/// on revocations.
 ///
 /// # Errors
 ///
@@ -133,7 +134,7 @@ fn take_one(job: &Job, world: &mut World, r: u8) -> Result<bool, RunFault>
     }
 }
 
-/// One poll of the step that comes next, if there is one; it is given up where this was the last poll and left it open.
+/// One poll of the step that comes next, if there is one: an open shrink that has a proposal is decided.
 fn poll(job: &Job, world: &mut World, r: u8) -> Result<bool, RunFault>
     requires inside { r < length world.old.players }
     requires scripts { job.now.ranks ≡ length world.old.players }
@@ -141,24 +142,58 @@ fn poll(job: &Job, world: &mut World, r: u8) -> Result<bool, RunFault>
     ensures moves { IfOk result (λ moved. Moves job.now world.old world.new moved) }
     ensures stuck { IfOk result (λ moved. moved ≡ false → IsRunning world.new r → length (script_at job.now r) ≤ length (player_at world.new r).done) }
 {
-    let turns = job.turns();
     if world.is_stopped(r) {
         return Ok(false);
     }
     let Some(step) = job.step(r, world.answered(r)) else {
         return Ok(false);
     };
-    match world.apply(Event::Call(r, step)) {
-        Ok(Outcome::Answered) => return Ok(true),
+    if decide(job, world, r, &step) {
+        return Ok(true);
+    }
+    call(job, world, r, &step)?;
+    Ok(true)
+}
+
+/// The decision of a step that is an open shrink and has a proposal.
+fn decide(job: &Job, world: &mut World, r: u8, step: &Step) -> bool
+    requires inside { r < length world.old.players }
+    requires running { IsRunning world.old r }
+    requires follows { Follows job.now world.old }
+    ensures { Moves job.now world.old world.new result }
+{
+    let _ = job;
+    let Step::Shrink { comm } = step else {
+        return false;
+    };
+    match world.apply(Event::Decide(r, *comm)) {
+        Ok(_) => true,
+        Err(Refused::NotReady) => false,
+        Err(_) => unreachable!(),
+    }
+}
+
+/// One poll of a step by `call`; it is given up where this was the last poll and left it open.
+#[tactic(auto, using(crate::proofs::Refusals::refusals))]
+fn call(job: &Job, world: &mut World, r: u8, step: &Step) -> Result<(), RunFault>
+    requires inside { r < length world.old.players }
+    requires running { IsRunning world.old r }
+    requires follows { Follows job.now world.old }
+    requires next { slice_get (script_at job.now r) (length (player_at world.old r).done) ≡ Some step.now }
+    ensures { OnOk result (Moves job.now world.old world.new true) }
+{
+    let turns = job.turns();
+    match world.apply(Event::Call(r, *step)) {
+        Ok(Outcome::Answered) => return Ok(()),
         Ok(_) => {}
         Err(Refused::OutOfMemory) => return Err(RunFault::OutOfMemory),
         Err(_) => unreachable!(),
     }
     if world.polls(r) < turns {
-        return Ok(true);
+        return Ok(());
     }
     match world.apply(Event::Leave(r)) {
-        Ok(_) => Ok(true),
+        Ok(_) => Ok(()),
         Err(_) => unreachable!(),
     }
 }

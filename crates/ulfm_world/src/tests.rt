@@ -94,6 +94,49 @@ fn an_open_step_is_given_up_and_a_stop_is_told(rt: HostRuntime) -> Result<(), Fa
     Ok(())
 }
 
+/// A shrink of the world.
+fn shrink() -> Step {
+    Step::Shrink {
+        comm: Context::WORLD,
+    }
+}
+
+/// The decision of a rank's shrink of the world.
+fn decide(r: u8) -> Event {
+    Event::Decide(r, Context::WORLD)
+}
+
+/// Whether a shrink is decided once each of two ranks entered it, and not by a poll.
+fn decides(world: &mut World) -> bool {
+    tells(world, decide(0), Err(Refused::NotReady))
+        && tells(world, Event::Call(0, shrink()), Ok(Outcome::NotYet))
+        && tells(world, decide(0), Err(Refused::NotReady))
+        && tells(world, Event::Call(1, shrink()), Ok(Outcome::NotYet))
+        && tells(world, Event::Push(1, 0), Ok(Outcome::Moved))
+        && tells(world, Event::Take(0), Ok(Outcome::Moved))
+        && tells(world, Event::Call(0, shrink()), Ok(Outcome::NotYet))
+        && tells(world, decide(0), Ok(Outcome::Answered))
+        && tells(world, decide(0), Err(Refused::NotReady))
+}
+
+/// Whether the other rank adopts what was decided, and none decides after its stop or outside the world.
+fn adopts(world: &mut World) -> bool {
+    tells(world, Event::Push(0, 1), Ok(Outcome::Moved))
+        && tells(world, Event::Take(1), Ok(Outcome::Moved))
+        && tells(world, decide(1), Ok(Outcome::Answered))
+        && tells(world, Event::Call(1, Step::Stop), Ok(Outcome::Answered))
+        && tells(world, decide(1), Err(Refused::Stopped))
+        && tells(world, decide(2), Err(Refused::NoSuchRank))
+}
+
+#[test]
+fn a_shrink_is_decided_and_adopted(rt: HostRuntime) -> Result<(), Fail> {
+    let mut world = World::new(rt.alloc(), 2, 1)?;
+    assert!(rt; decides(&mut world));
+    assert!(rt; adopts(&mut world));
+    Ok(())
+}
+
 /// Why there is no world of so many ranks with inboxes of this room, if there is none.
 fn refusal(rt: &HostRuntime, n: u8, capacity: u8) -> Option<CallError> {
     match World::new(rt.alloc(), n, capacity) {

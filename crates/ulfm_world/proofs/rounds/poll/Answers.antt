@@ -1,29 +1,33 @@
-use Rattle.std.proofs.Common.{rules, ◌≡◌, ◌<◌, ◌≤◌, ◌+◌, [], length, false, true, ℕ, List, get_or, set, refl, ap, sym, subst, ◌∙◌, arith, inl, inr}
+use Rattle.std.proofs.Common.{rules, ◌≡◌, ◌<◌, ◌≤◌, ◌+◌, [], length, false, true, Bool, ℕ, List, Some, get_or, set, refl, ap, sym, subst, ◌∙◌, arith, inl, inr}
 use Rattle.std.specs.Prelude.{slice_get}
 use Rattle.ulfm_script.specs.Job.{script_at}
-use Rattle.ulfm_world.proofs.MovesCall.{ready-at, moves-call, moves-leave, none_open}
+use Rattle.ulfm_world.specs.World.{World, player_at, rank_at, IsRunning}
+use Rattle.ulfm_world.specs.Replay.{Moves}
+use Rattle.ulfm_world.proofs.Moves.{moves-on}
 use Rattle.ulfm_world.proofs.rounds.poll.Goals as goal
 
-pub returns-in-Ok-Answered-clause-moves : goal.returns-in-Ok-Answered-clause-moves
-returns-in-Ok-Answered-clause-moves c =
-    let next = ap (slice_get (script_at c.args.job.now c.args.r)) (sym c.answered.ensures) ∙ sym c.in-Some.ensures in
-    let ready = ready-at c.args.job.now c.args.world.now c.args.r c.in-Some.step c.turns-turns.ensures.ranges c.in-Ok-Answered.ensures.world c.requires.inside c.requires.follows (sym c.is_stopped.ensures ∙ c.if-is_stopped.false) next in
-    moves-call c.args.job.now c.args.world.now c.args.r c.in-Some.step c.apply.new.self c.requires.inside c.requires.follows ready c.in-Ok-Answered.ensures.happens (inl (none_open _ c.in-Ok-Answered.field-0 c.in-Ok-Answered.ensures.outcome c.in-Ok-Answered.field-0-is))
+pub returns-then-decide-clause-moves : goal.returns-then-decide-clause-moves
+returns-then-decide-clause-moves c = let M : Bool → Type 0 = λ (x : Bool). Moves c.args.job.now c.args.world.now c.decide.new.world x in subst M c.if-decide.true c.decide.ensures
 
-pub returns-then-polls-turns : goal.returns-then-polls-turns
-returns-then-polls-turns c =
-    let next = ap (slice_get (script_at c.args.job.now c.args.r)) (sym c.answered.ensures) ∙ sym c.in-Some.ensures in
-    let ready = ready-at c.args.job.now c.args.world.now c.args.r c.in-Some.step c.turns-turns.ensures.ranges c.in-Ok.ensures.world c.requires.inside c.requires.follows (sym c.is_stopped.ensures ∙ c.if-is_stopped.false) next in
-    record {
-      moves = moves-call c.args.job.now c.args.world.now c.args.r c.in-Some.step c.apply.new.self c.requires.inside c.requires.follows ready c.in-Ok.ensures.happens (inr (omega (arith, c.polls.ensures, c.turns-turns.ensures.exact, c.if-polls-turns.true)));
-      stuck = search rules;
-    }
+pub call-requires-clause-inside : goal.call-requires-clause-inside
+call-requires-clause-inside c = omega (arith, c.requires.inside, c.decide.ensures.size)
 
-pub returns : goal.returns
-returns c =
-    let next = ap (slice_get (script_at c.args.job.now c.args.r)) (sym c.answered.ensures) ∙ sym c.in-Some.ensures in
-    let ready = ready-at c.args.job.now c.args.world.now c.args.r c.in-Some.step c.turns-turns.ensures.ranges c.in-Ok.ensures.world c.requires.inside c.requires.follows (sym c.is_stopped.ensures ∙ c.if-is_stopped.false) next in
-    record {
-      moves = moves-leave c.args.job.now c.args.world.now c.args.r c.in-Some.step c.apply.new.self c.apply-2.new.self c.requires.inside c.requires.follows ready c.in-Ok.ensures.happens c.in-Ok-apply.ensures.happens (omega (arith, c.polls.ensures, c.turns-turns.ensures.exact, c.if-polls-turns.false));
-      stuck = search rules;
-    }
+pub call-requires-clause-running : goal.call-requires-clause-running
+call-requires-clause-running c =
+    let M : Bool → Type 0 = λ (x : Bool). Moves c.args.job.now c.args.world.now c.decide.new.world x in
+    let same = (subst M c.if-decide.false c.decide.ensures).stays refl in
+    let R : World → Type 0 = λ (w : World). IsRunning w c.args.r in
+    subst R (sym same) (sym c.is_stopped.ensures ∙ c.if-is_stopped.false)
+
+pub call-requires-clause-follows : goal.call-requires-clause-follows
+call-requires-clause-follows c = c.decide.ensures.follows c.requires.follows
+
+pub call-requires-clause-next : goal.call-requires-clause-next
+call-requires-clause-next c =
+    let M : Bool → Type 0 = λ (x : Bool). Moves c.args.job.now c.args.world.now c.decide.new.world x in
+    let same = (subst M c.if-decide.false c.decide.ensures).stays refl in
+    let N : World → Type 0 = λ (w : World). slice_get (script_at c.args.job.now c.args.r) (length (player_at w c.args.r).done) ≡ Some c.in-Some.step in
+    subst N (sym same) (ap (slice_get (script_at c.args.job.now c.args.r)) (sym c.answered.ensures) ∙ sym c.in-Some.ensures)
+
+pub returns-clause-moves : goal.returns-clause-moves
+returns-clause-moves c = moves-on _ _ _ _ _ c.decide.ensures c.in_ok-call.ensures

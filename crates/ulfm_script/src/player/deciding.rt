@@ -1,0 +1,42 @@
+//! Shrinks that stand open.
+ghost use Rattle.std.specs.Prelude.{◌≡◌, ◌+◌, ◌↔◌, length, IsTrue, Some};
+ghost use Rattle.ulfm_script.specs.Deciding.{Decides};
+
+use super::Player;
+use crate::answer::Decided;
+use crate::shrinking::decide;
+use crate::step::Step;
+use ulfm_base::Context;
+use ulfm_board::Decider;
+
+impl Player {
+    /// Asks for the decision of the open shrink of a communicator: hands the rank's proposal in at the board, and adopts
+    /// what the board holds.
+    pub fn decide<D: Decider>(&mut self, context: Context, board: &mut D) -> Decided
+        ensures decides { Decides result self.old.player context (D.board board.old) (D.known board.old) self.new.player (D.known board.new) }
+        ensures board { D.board board.new ≡ D.board board.old }
+        ensures room { self.new.room + length self.new.player.done ≡ self.old.room + length self.old.player.done }
+    {
+        if !self.awaits(context) {
+            return Decided::NotReady;
+        }
+        let at = self.rank.log().len();
+        match decide(&mut self.rank, context, board) {
+            Some(answer) => {
+                self.answer(Step::Shrink { comm: context }, answer, at);
+                Decided::Answered
+            }
+            None => Decided::NotReady,
+        }
+    }
+
+    /// Whether the shrink of this communicator stands open.
+    fn awaits(&self, context: Context) -> bool
+        ensures { IsTrue result ↔ (self.now.player.current ≡ Some (Step.Shrink context)) }
+    {
+        match self.current {
+            Some(open) => open.is_same(&Step::Shrink { comm: context }),
+            None => false,
+        }
+    }
+}

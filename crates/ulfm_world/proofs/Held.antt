@@ -1,0 +1,99 @@
+-- What a rank proposes may be held, and what is held may be adopted.
+use Rattle.std.proofs.Common.{◌≡◌, ℕ, ◌<◌, ◌≤◌, Bool, true, false, cond, List, refl, ap, sym, subst, ◌∙◌, arith, inl, inr, Option, Some, None}
+use Rattle.std.specs.Prelude.{is_some, ◌||◌, ◌&&◌, not}
+use Rattle.std.specs.List.{list_any}
+use Rattle.std.proofs.lemmas.Bool.{false≢true, or_cases, and_parts, cases_Bool, cond-true}
+use Rattle.std.proofs.lemmas.Option.{same_Some, get_or_from_slice_get}
+use Rattle.ulfm_base.specs.declared.decision.Decision.{Decision}
+use Rattle.ulfm_base.specs.declared.rank_set.RankSet.{RankSet}
+use Rattle.ulfm_base.specs.Decision.{entry_at}
+use Rattle.ulfm_base.specs.Group.{is_member, numbers_from}
+use Rattle.ulfm_base.specs.RankSet.{has}
+use Rattle.ulfm_rank.specs.declared.entry.Entry.{Entry}
+use Rattle.ulfm_rank.specs.Communicators.{group_of, is_made, members_of}
+use Rattle.ulfm_rank.specs.Facts.{is_gone}
+use Rattle.ulfm_rank.specs.Shrink.{listed_of, in_set, is_out, IsProposal, is_apart, differ}
+use Rattle.ulfm_world.specs.World.{World, rank_at, IsRunning, HasStopped}
+use Rattle.ulfm_world.specs.Flow.{IsWorld}
+use Rattle.ulfm_world.proofs.Firsts.{some_from}
+use Rattle.ulfm_world.proofs.Grouped.{members_found}
+use Rattle.ulfm_world.proofs.Members.{excluding_keeps, any_member, none_of}
+use Rattle.ulfm_world.proofs.Belonging.{IsOwn}
+use Rattle.ulfm_world.proofs.Agreed.{IsHeld, Settled, one_group, listed_entry, known_stopped}
+
+in_some : (o : Option RankSet) (x : ℕ) → in_set o x ≡ true → (set : RankSet) × (o ≡ Some set) × (has set x ≡ true)
+in_some None x h = absurd (false≢true h)
+in_some (Some set) x h = (set, refl, h)
+
+module _ (n : ℕ) (w : World) (r c : ℕ) (h : IsWorld w) (settled : Settled n w) (i : r < n) where
+  -- who is out has stopped
+  out_stopped : (group : List ℕ) (x : ℕ) → x < n → ((m : ℕ) → is_member group m ≡ true → m < n) → is_out r group (rank_at w r).log c x ≡ true → HasStopped w x
+  out_stopped group x inside below out = elim (or_cases (is_gone (rank_at w r).log x) (list_any (λ m. in_set (listed_of r (rank_at w r).log c m) x) group) out) [
+    | inl gone ↦ known_stopped n w x r h settled inside i gone
+    | inr told ↦
+        let found = any_member group (λ m. in_set (listed_of r (rank_at w r).log c m) x) told in
+        let set = in_some (listed_of r (rank_at w r).log c found.0) x found.2 in
+        let lister : found.0 < n = below found.0 found.1 in
+        let own = listed_entry n w r found.0 c set.0 h settled i lister set.1 in
+        known_stopped n w x found.0 h settled inside lister ((settled.keeps found.0 lister).knows_sets c x set.0 own set.2)
+  ]
+
+  -- what a rank proposes may be held
+  pub proposal_held : (d : Decision) → IsProposal n r (rank_at w r).log c d → IsHeld n w c d
+  proposal_held d p =
+      let log : List Entry = (rank_at w r).log in
+      let made = some_from (group_of n log c) ((settled.keeps r i).enters_made c p.entered) in
+      let group : members_of n log c ≡ made.0 = members_found n log c made.0 made.1 in
+      let below : (m : ℕ) → is_member (members_of n log c) m ≡ true → m < n = λ m member. ((settled.keeps r i).belongs c made.0 made.1).below m (ap (λ (g : List ℕ). is_member g m) (sym group) ∙ member) in
+      let small : n ≤ 8 = omega (arith, h.small, settled.size) in
+      let of_old : (m : ℕ) → is_member d.old m ≡ true → is_member (members_of n log c) m ≡ true = λ m member. ap (λ (g : List ℕ). is_member g m) (sym p.old_group) ∙ member in
+      record {
+        context = p.context;
+        proposer = r;
+        inside = i;
+        group = made.1 ∙ ap Some (sym group ∙ sym p.old_group);
+        listed = λ x known listed.
+            let member = of_old x (d.lawful.listed_members x (ap is_some listed)) in
+            let inside : x < n = below x member in
+            let stands = p.entries x (omega (arith, inside, small)) in
+            let same : entry_at d.entries x ≡ cond (is_member (members_of n log c) x) (listed_of r log c x) None = get_or_from_slice_get d.entries x _ None stands in
+            listed_entry n w r x c known h settled i inside (sym (same ∙ cond-true (is_member (members_of n log c) x) (listed_of r log c x) None member) ∙ listed);
+        stopped = λ x out.
+            let member = of_old x (d.lawful.excluded_members x out) in
+            let inside : x < n = below x member in
+            let both = and_parts (is_member (members_of n log c) x) (is_out r (members_of n log c) log c x) (sym (p.excluded x (omega (arith, inside, small))) ∙ out) in
+            out_stopped (members_of n log c) x inside below both.1;
+      }
+
+not_apart : (a b : RankSet) (x : ℕ) → a ≡ b → is_apart a b x ≡ false
+not_apart a b x same = let P : RankSet → Type 0 = λ (y : RankSet). is_apart a y x ≡ false in subst P same (pick (has a x))
+  where
+    pick : (v : Bool) → (v && not v) || (v && not v) ≡ false
+    pick true = refl
+    pick false = refl
+
+same_sets : (a b : Option RankSet) → ((s t : RankSet) → a ≡ Some s → b ≡ Some t → s ≡ t) → differ a b ≡ false
+same_sets None b same = refl
+same_sets (Some s) None same = refl
+same_sets (Some s) (Some t) same = none_of (numbers_from 0 8) (is_apart s t) (λ x. not_apart s t x (same s t refl refl))
+
+-- a running rank that made the communicator may adopt what is held
+pub held_own : (n : ℕ) (w : World) (r c : ℕ) (d : Decision) → IsWorld w → Settled n w → r < n → IsRunning w r → is_made n (rank_at w r).log c ≡ true → IsHeld n w c d → IsOwn r (members_of n (rank_at w r).log c) (rank_at w r).log c d
+held_own n w r c d h settled i running made held =
+    let log : List Entry = (rank_at w r).log in
+    let mine = some_from (group_of n log c) made in
+    let same : d.old ≡ mine.0 = one_group n w held.proposer r c d.old mine.0 settled held.inside i held.group mine.1 in
+    let belongs = (settled.keeps r i).belongs c mine.0 mine.1 in
+    let stays : has d.excluded r ≡ false = elim (cases_Bool (has d.excluded r)) [
+      | inl out ↦ absurd (false≢true (sym running ∙ held.stopped r out))
+      | inr stays ↦ stays
+    ] in
+    let below : (x : ℕ) → is_member d.old x ≡ true → x < n = λ x member. belongs.below x (ap (λ (g : List ℕ). is_member g x) (sym same) ∙ member) in
+    record {
+      context = held.context;
+      old_group = same ∙ sym (members_found n log c mine.0 mine.1);
+      member = ap (λ (g : List ℕ). is_member g r) d.lawful.survivors ∙ excluding_keeps d.old (has d.excluded) r (ap (λ (g : List ℕ). is_member g r) same ∙ belongs.member) stays;
+      agrees = none_of (numbers_from 0 8) (λ x. differ (entry_at d.entries x) (listed_of r log c x)) (λ x. same_sets (entry_at d.entries x) (listed_of r log c x) (λ s t listed heard.
+          let inside : x < n = below x (d.lawful.listed_members x (ap is_some listed)) in
+          same_Some s t (sym (held.listed x s listed) ∙ listed_entry n w r x c t h settled i inside heard)));
+    }

@@ -1,0 +1,62 @@
+-- An entry that adopts nothing leaves what was adopted.
+use Rattle.std.proofs.Common.{◌≡◌, ℕ, false, List, refl, ap, sym, subst, ◌∙◌, inl, inr, Option}
+use Rattle.std.specs.Prelude.{All}
+use Rattle.std.proofs.lemmas.Bool.{false≢true, or_from, false_from_ne_true}
+use Rattle.std.proofs.lemmas.List.Elements.{All-push}
+use Rattle.ulfm_base.specs.declared.context.Context.{Context}
+use Rattle.ulfm_base.specs.declared.decision.Decision.{Decision}
+use Rattle.ulfm_rank.specs.declared.entry.Entry.{Entry}
+use Rattle.ulfm_rank.specs.declared.entry.Entry.TheVariants.{Sent as SentEntry, Posted as PostedEntry, Released, Acknowledged, Revoked as RevokedEntry, Duplicated, Entered, Adopted, Stopped as StopEntry, Took}
+use Rattle.ulfm_rank.specs.Shrink.{adopts, has_adopted}
+use Rattle.ulfm_rank.specs.State.{State}
+use Rattle.ulfm_rank.proofs.Gather.{any-push}
+use Rattle.ulfm_script.specs.declared.step.Step.TheVariants.{Shrink}
+use Rattle.ulfm_script.specs.declared.answer.StepReport.{StepReport}
+use Rattle.ulfm_script.specs.Player.{IsOpen}
+use Rattle.ulfm_world.proofs.Entering.{AdoptsEntered}
+use Rattle.ulfm_world.proofs.Agreed.{IsAdopted}
+use Rattle.ulfm_world.proofs.Adding.{IsPlain, AddsPlain, shrink_passed, opens_add}
+
+plain_adopts : (c : ℕ) (e : Entry) → IsPlain e → adopts c e ≡ false
+plain_adopts c (Adopted d) h = absurd h
+plain_adopts c (SentEntry to letter) h = refl
+plain_adopts c (PostedEntry pattern) h = refl
+plain_adopts c (Released id answer) h = refl
+plain_adopts c (Acknowledged context total) h = refl
+plain_adopts c (RevokedEntry context) h = refl
+plain_adopts c (Duplicated context) h = refl
+plain_adopts c (Entered context known) h = refl
+plain_adopts c StopEntry h = refl
+plain_adopts c (Took source item) h = refl
+
+plain_adopted : (decided : List (Option Decision)) (me : ℕ) (e : Entry) → IsPlain e → IsAdopted decided me e
+plain_adopted decided me (Adopted d) h = absurd h
+plain_adopted decided me (SentEntry to letter) h = tt
+plain_adopted decided me (PostedEntry pattern) h = tt
+plain_adopted decided me (Released id answer) h = tt
+plain_adopted decided me (Acknowledged context total) h = tt
+plain_adopted decided me (RevokedEntry context) h = tt
+plain_adopted decided me (Duplicated context) h = tt
+plain_adopted decided me (Entered context known) h = tt
+plain_adopted decided me StopEntry h = tt
+plain_adopted decided me (Took source item) h = tt
+
+-- such an entry adopts no decision
+pub adopted-plain : (n me c : ℕ) (old new : List Entry) → AddsPlain n me old new → has_adopted old c ≡ false → has_adopted new c ≡ false
+adopted-plain n me c old new (inl same) h = ap (λ (x : List Entry). has_adopted x c) same ∙ h
+adopted-plain n me c old new (inr more) h =
+    ap (λ (x : List Entry). has_adopted x c) more.3 ∙ any-push (adopts c) old more.0 ∙ or_from (has_adopted old c) (adopts c more.0) h (plain_adopts c more.0 more.2)
+
+-- and what was adopted is held
+pub held-plain : (decided : List (Option Decision)) (n me : ℕ) (old new : List Entry) → AddsPlain n me old new → All (IsAdopted decided me) old → All (IsAdopted decided me) new
+held-plain decided n me old new (inl same) h = let A : List Entry → Type 0 = λ (x : List Entry). All (IsAdopted decided me) x in subst A (sym same) h
+held-plain decided n me old new (inr more) h =
+    let A : List Entry → Type 0 = λ (x : List Entry). All (IsAdopted decided me) x in
+    subst A (sym more.3) (All-push (IsAdopted decided me) old more.0 h (plain_adopted decided me more.0 more.2))
+
+-- a shrink that is entered was not adopted
+pub opened_unadopted : (done : List StepReport) (r new : State) (comm : Context) → AdoptsEntered r.log → IsOpen done r (Shrink comm) new → has_adopted new.log comm.number ≡ false
+opened_unadopted done r new comm entered h =
+    let fresh : has_adopted r.log comm.number ≡ false =
+    false_from_ne_true (has_adopted r.log comm.number) (λ adopted. false≢true (sym (shrink_passed r comm.number h.0).1 ∙ entered comm.number adopted)) in
+    adopted-plain r.ranks r.me comm.number r.log new.log (opens_add done r (Shrink comm) new h) fresh

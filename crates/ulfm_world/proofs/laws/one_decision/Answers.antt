@@ -1,0 +1,5 @@
+use Rattle.ulfm_world.proofs.Safe.{settled-reached, adopts-one}
+use Rattle.ulfm_world.proofs.laws.one_decision.Goals as goal
+
+pub returns : goal.returns
+returns c = λ n capacity w small h. adopts-one n w (settled-reached n capacity w small h)

@@ -1,0 +1,7 @@
+use Rattle.ulfm_world.proofs.FlowFrom.{world-reached}
+use Rattle.ulfm_world.proofs.Safe.{settled-reached}
+use Rattle.ulfm_world.proofs.Proposing.{proposes-each}
+use Rattle.ulfm_world.proofs.laws.proposed_at_rest.Goals as goal
+
+pub returns : goal.returns
+returns c = λ n capacity w small h rest. proposes-each n w (world-reached n capacity w small h) (settled-reached n capacity w small h) rest
