@@ -1,16 +1,15 @@
 -- What running ranks know in a world at rest.
-use Rattle.std.proofs.Common.{◌≡◌, ◌≢◌, ℕ, ◌<◌, Bool, true, false, List, [], ◌∷◌, ◌++◌, length, refl, ap, sym, subst, ◌∙◌, arith, inl, inr, append-nil}
-use Rattle.std.specs.Prelude.{◌||◌}
+use Rattle.std.proofs.Common.{◌≡◌, ◌≢◌, ℕ, ◌<◌, true, false, List, [], ◌∷◌, ◌++◌, length, refl, ap, sym, ◌∙◌, inl, inr, append-nil}
 use Rattle.std.specs.List.{list_any}
-use Rattle.std.proofs.lemmas.Bool.{false≢true, cases_eq, or_parts, or_right, cases_Bool}
+use Rattle.std.proofs.lemmas.Bool.{false≢true, cases_eq, or_parts, or_right}
 use Rattle.std.proofs.lemmas.List.Folds.{list_any-append}
 use Rattle.ulfm_base.specs.declared.rank.WorldRank.{WorldRank}
 use Rattle.ulfm_base.specs.declared.item.Item.{Item}
 use Rattle.ulfm_base.specs.declared.item.Item.TheVariants.{Gone}
 use Rattle.ulfm_rank.specs.Facts.{took, is_gone, is_gone_item, is_revoked, item_revokes, is_stopped}
-use Rattle.ulfm_rank.specs.State.{State, owes, outbox}
-use Rattle.ulfm_world.specs.World.{World, rank_at, inbox_at, IsRunning, HasStopped}
-use Rattle.ulfm_world.specs.Flow.{from, arrived, IsWorld, Flow}
+use Rattle.ulfm_rank.specs.State.{owes, outbox}
+use Rattle.ulfm_world.specs.World.{World, rank_at, inbox_at, IsRunning}
+use Rattle.ulfm_world.specs.Flow.{from, arrived, IsWorld}
 use Rattle.ulfm_world.specs.Rest.{IsAtRest, KnowsStopped, AgreesOnRevoked}
 use Rattle.ulfm_world.proofs.Told.{owed_not_gone, gone-took, revoked-took, revoked_told}
 use Rattle.ulfm_world.proofs.FlowFrom.{flows-world}

@@ -1,5 +1,5 @@
 -- A replay from its start to rest.
-use Rattle.std.proofs.Common.{◌≡◌, ◌≢◌, ℕ, ◌+◌, ◌<◌, ◌≤◌, Bool, true, false, List, [], ◌∷◌, ◌++◌, length, map, refl, ap, sym, subst, ◌∙◌, arith, inl, inr, ◌⊎◌, append-nil, length-append, Option, Some, None, MatchOption, slice_get}
+use Rattle.std.proofs.Common.{◌≡◌, ℕ, ◌<◌, ◌≤◌, Bool, false, List, [], ◌++◌, length, map, refl, ap, sym, subst, ◌∙◌, arith, inl, inr, append-nil, length-append, Option, Some, None, MatchOption, slice_get}
 use Rattle.std.proofs.lemmas.Bool.{false≢true, cases_Bool}
 use Rattle.std.proofs.lemmas.List.{length-map, nil_from_length}
 use Rattle.std.proofs.lemmas.List.Elements.{All-nil}
@@ -10,10 +10,10 @@ use Rattle.ulfm_rank.specs.Facts.{is_stopped}
 use Rattle.ulfm_script.specs.declared.step.Step.{Step}
 use Rattle.ulfm_script.specs.Player.{Player, start_player}
 use Rattle.ulfm_script.specs.Report.{Report}
-use Rattle.ulfm_script.specs.Job.{Seen, script_at, through_stop, has_stop}
-use Rattle.ulfm_world.specs.World.{World, player_at, rank_at, inbox_at, start_world, Reaches, IsRunning}
+use Rattle.ulfm_script.specs.Job.{Seen, script_at, through_stop}
+use Rattle.ulfm_world.specs.World.{World, player_at, rank_at, inbox_at, start_world}
 use Rattle.ulfm_world.specs.Rest.{IsAtRest}
-use Rattle.ulfm_world.specs.Replay.{IsPatient, FollowsAt, Follows, Moves, IsStuck, IsPushStuck, IsAnswered, IsReplayed, report_of, Came, steps_done, step_of}
+use Rattle.ulfm_world.specs.Replay.{IsPatient, FollowsAt, Follows, Moves, IsStuck, IsAnswered, IsReplayed, report_of, Came, steps_done, step_of}
 use Rattle.ulfm_world.proofs.Starts.{player-start, length-start}
 use Rattle.ulfm_world.proofs.Scripts.{through-none}
 use Rattle.ulfm_world.proofs.Runs.{reaches-then}

@@ -1,5 +1,5 @@
 -- The flow, from what every world keeps.
-use Rattle.std.proofs.Common.{◌≡◌, ◌≢◌, ℕ, ◌<◌, ◌≤◌, Bool, true, false, cond, eqb, List, [], ◌∷◌, ◌++◌, take, drop, refl, ap, sym, subst, ◌∙◌, arith, append-nil}
+use Rattle.std.proofs.Common.{◌≡◌, ◌≢◌, ℕ, ◌<◌, ◌≤◌, Bool, true, false, cond, List, [], ◌∷◌, ◌++◌, take, drop, refl, ap, sym, subst, ◌∙◌, arith, append-nil}
 use Rattle.std.proofs.lemmas.Bool.{eq-eqb, ne_eqb}
 use Rattle.std.proofs.lemmas.List.{take-append-drop}
 use Rattle.ulfm_base.specs.declared.item.Item.{Item}
@@ -7,7 +7,7 @@ use Rattle.ulfm_base.specs.declared.item.Item.TheVariants.{Gone}
 use Rattle.ulfm_rank.specs.Facts.{is_stopped}
 use Rattle.ulfm_rank.specs.State.{State, IsState, owes, gone_out, outbox, mark_at, notice}
 use Rattle.ulfm_world.specs.World.{World, rank_at, Reaches, start_world}
-use Rattle.ulfm_world.specs.Flow.{arrived, IsBeginning, EndsWithNotice, IsWorld, Flow, Flows}
+use Rattle.ulfm_world.specs.Flow.{IsBeginning, IsWorld, Flows}
 use Rattle.ulfm_world.proofs.Starts.{world-start}
 use Rattle.ulfm_world.proofs.Runs.{keeps-reaches}
 

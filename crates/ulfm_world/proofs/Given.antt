@@ -20,7 +20,7 @@ use Rattle.ulfm_script.specs.declared.step.Step.TheVariants.{Send, Wait}
 use Rattle.ulfm_script.specs.declared.answer.StepAnswer.TheVariants.{Sent, Done, Over}
 use Rattle.ulfm_script.specs.Player.{report_of}
 use Rattle.ulfm_script.specs.Report.{Report}
-use Rattle.ulfm_world.specs.Reader.{report_at, history_at, IsStep, IsPostedBy, IsSentBy, IsGiven, IsTold, DoneIsGiven, OverIsTrue, GivesOnce, DonesDiffer}
+use Rattle.ulfm_world.specs.Reader.{report_at, history_at, IsStep, IsPostedBy, IsSentBy, IsGiven, DoneIsGiven, OverIsTrue, GivesOnce, DonesDiffer}
 use Rattle.ulfm_world.proofs.Exists.{some_pairing}
 use Rattle.ulfm_world.proofs.Finding.{AreHonest, same_asked, its_request, same_step, verdict_posted}
 use Rattle.ulfm_world.proofs.Senders.{sender, same_come, same_send}

@@ -1,16 +1,16 @@
 -- A poll, a step that is given up, and a take keep what every world keeps.
-use Rattle.std.proofs.Common.{◌≡◌, ◌≢◌, ℕ, ◌+◌, ◌<◌, ◌≤◌, List, [], ◌∷◌, ◌++◌, length, get_or, set, refl, ap, sym, subst, ◌∙◌, arith, inl, inr, append_assoc, length-set}
+use Rattle.std.proofs.Common.{◌≡◌, ℕ, ◌<◌, List, [], ◌∷◌, ◌++◌, length, get_or, set, ap, sym, subst, ◌∙◌, arith, inl, inr, append_assoc, length-set}
 use Rattle.std.specs.Prelude.{All}
 use Rattle.std.proofs.lemmas.Bool.{cases_eq}
 use Rattle.std.proofs.lemmas.List.Elements.{All-rest}
 use Rattle.ulfm_base.specs.declared.rank.WorldRank.{WorldRank}
 use Rattle.ulfm_base.specs.declared.item.Item.{Item}
 use Rattle.ulfm_rank.specs.declared.entry.Entry.TheVariants.{Took}
-use Rattle.ulfm_rank.specs.Facts.{took, took_by, is_stopped}
+use Rattle.ulfm_rank.specs.Facts.{took, took_by}
 use Rattle.ulfm_rank.specs.State.{State, logged}
 use Rattle.ulfm_script.specs.Player.{Player, with_rank}
-use Rattle.ulfm_world.specs.World.{World, player_in, player_at, rank_at, inbox_at, with_players, with_player, with_inbox, Takes}
-use Rattle.ulfm_world.specs.Flow.{from, item_of, arrived, IsSigned, IsPosted, IsWorld}
+use Rattle.ulfm_world.specs.World.{World, player_in, player_at, rank_at, inbox_at, with_player, with_inbox, Takes}
+use Rattle.ulfm_world.specs.Flow.{from, arrived, IsSigned, IsPosted, IsWorld}
 use Rattle.ulfm_world.proofs.Logs.{took-push}
 use Rattle.ulfm_world.proofs.Quiet.{Calm, Quiet, calm-same, quiet-same, calm-took}
 use Rattle.ulfm_world.proofs.Changed.{player-same, player-other, each_player, inbox-same, inbox-other, each_inbox}

@@ -1,5 +1,5 @@
 -- Players with their places, and a change of one of them.
-use Rattle.std.proofs.Common.{◌≡◌, ℕ, ◌+◌, ◌<◌, true, false, cond, List, [], ◌∷◌, ◌++◌, length, take, drop, map, get_or, set, refl, ap, sym, subst, ◌∙◌, arith, take_all, append-nil, Option, Some, None}
+use Rattle.std.proofs.Common.{◌≡◌, ℕ, ◌<◌, false, List, [], ◌∷◌, ◌++◌, length, take, drop, get_or, set, refl, ap, sym, subst, ◌∙◌, arith, take_all, append-nil, Option}
 use Rattle.std.specs.Prelude.{All}
 use Rattle.std.proofs.lemmas.List.{map-set, get_or-map, set-get_or, length-map, drop_all, get_or_default}
 use Rattle.std.proofs.lemmas.List.Elements.{All-head}
@@ -8,7 +8,7 @@ use Rattle.ulfm_base.specs.declared.decision.Decision.{Decision}
 use Rattle.ulfm_base.specs.declared.item.Item.{Item}
 use Rattle.ulfm_rank.specs.declared.entry.Entry.TheVariants.{Took}
 use Rattle.ulfm_rank.specs.Facts.{is_stopped}
-use Rattle.ulfm_rank.specs.State.{State, logged, returned, Leaves}
+use Rattle.ulfm_rank.specs.State.{logged, returned, Leaves}
 use Rattle.ulfm_script.specs.Player.{Player, View, with_rank}
 use Rattle.ulfm_world.specs.World.{World, player_in, no_player, with_inbox, with_players, Pushes, Takes}
 use Rattle.ulfm_world.specs.Flow.{IsPosted, IsWorld}

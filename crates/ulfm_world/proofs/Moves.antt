@@ -1,5 +1,5 @@
 -- How the parts of a replay join: something moves, or nothing does.
-use Rattle.std.proofs.Common.{◌≡◌, ℕ, ◌+◌, ◌<◌, ◌≤◌, Bool, true, false, cond, List, [], length, refl, sym, subst, ◌∙◌, arith, below_more}
+use Rattle.std.proofs.Common.{◌≡◌, ℕ, ◌+◌, ◌<◌, ◌≤◌, Bool, true, false, cond, [], refl, sym, subst, ◌∙◌, arith, below_more}
 use Rattle.std.proofs.lemmas.Bool.{false≢true}
 use Rattle.ulfm_script.specs.Job.{Seen}
 use Rattle.ulfm_world.specs.World.{World}

@@ -1,12 +1,11 @@
 -- What a poll moves, and a step that is given up.
-use Rattle.std.proofs.Common.{◌≡◌, ℕ, ◌+◌, ◌^◌, ◌<◌, ◌≤◌, Bool, true, false, cond, List, [], ◌∷◌, length, set, refl, ap, sym, subst, ◌∙◌, arith, inl, inr, ◌⊎◌, length-set, Option, Some, None, slice_get}
+use Rattle.std.proofs.Common.{◌≡◌, ℕ, ◌<◌, ◌≤◌, true, cond, List, [], ◌∷◌, length, set, refl, ap, sym, subst, ◌∙◌, arith, inl, inr, ◌⊎◌, length-set, Option, Some, None, slice_get}
 use Rattle.std.specs.Prelude.{is_none}
 use Rattle.std.proofs.lemmas.Bool.{false≢true, cases_eq}
 use Rattle.std.proofs.lemmas.List.{set-set}
 use Rattle.std.proofs.lemmas.Option.{slice_get_within}
 use Rattle.ulfm_base.specs.declared.context.Context.{Context}
 use Rattle.ulfm_base.specs.declared.decision.Decision.{Decision}
-use Rattle.ulfm_rank.specs.Facts.{is_stopped}
 use Rattle.ulfm_script.specs.declared.step.Step.{Step}
 use Rattle.ulfm_script.specs.declared.step.Step.TheVariants.{Shrink}
 use Rattle.ulfm_script.specs.Player.{Player, Left}
@@ -14,9 +13,9 @@ use Rattle.ulfm_script.specs.Job.{Seen, IsJob, script_at}
 use Rattle.ulfm_world.specs.declared.event.Event.TheVariants.{Call, Decide, Leave}
 use Rattle.ulfm_world.specs.declared.event.Outcome.{Outcome}
 use Rattle.ulfm_world.specs.declared.event.Outcome.TheVariants.{Answered, NotYet}
-use Rattle.ulfm_world.specs.World.{World, player_in, player_at, rank_at, with_players, with_player, with_decided, Calls, Settles, GivesUp, Happens, Reaches, IsRunning}
+use Rattle.ulfm_world.specs.World.{World, player_in, player_at, with_players, with_player, with_decided, Happens, Reaches, IsRunning}
 use Rattle.ulfm_world.specs.Flow.{IsWorld}
-use Rattle.ulfm_world.specs.Replay.{FollowsAt, Follows, Moves, measure}
+use Rattle.ulfm_world.specs.Replay.{FollowsAt, Follows, Moves}
 use Rattle.ulfm_world.proofs.Changed.{player-same, player-other}
 use Rattle.ulfm_world.proofs.Advance.{Ready, Advances, advance-called, advance-left}
 use Rattle.ulfm_world.proofs.Decisions.{ready-decided, advance-decided}

@@ -1,5 +1,5 @@
 -- What a push and a take move.
-use Rattle.std.proofs.Common.{◌≡◌, ◌≢◌, ℕ, ◌+◌, ◌-◌, ◌*◌, ◌<◌, ◌≤◌, Bool, true, false, List, [], ◌∷◌, ◌++◌, length, set, refl, ap, sym, subst, ◌∙◌, arith, length-append, length-set, inl, inr}
+use Rattle.std.proofs.Common.{◌≡◌, ℕ, ◌+◌, ◌<◌, ◌≤◌, Bool, true, false, List, [], ◌∷◌, ◌++◌, length, set, refl, ap, sym, subst, ◌∙◌, arith, length-append, length-set, inl, inr}
 use Rattle.std.specs.Prelude.{◌||◌}
 use Rattle.std.proofs.lemmas.Bool.{false≢true, cases_eq}
 use Rattle.ulfm_base.specs.declared.rank.WorldRank.{WorldRank}
@@ -12,7 +12,7 @@ use Rattle.ulfm_script.specs.Job.{Seen, script_at}
 use Rattle.ulfm_world.specs.declared.event.Event.TheVariants.{Push, Take}
 use Rattle.ulfm_world.specs.World.{World, player_in, player_at, rank_at, inbox_at, with_player, with_inbox, Pushes, Takes}
 use Rattle.ulfm_world.specs.Flow.{IsWorld}
-use Rattle.ulfm_world.specs.Replay.{sum_below, out_at, fresh_of, weight_of, left_at, inbox_weight, measure, FollowsAt, Follows, Moves}
+use Rattle.ulfm_world.specs.Replay.{sum_below, out_at, fresh_of, weight_of, inbox_weight, FollowsAt, Follows, Moves}
 use Rattle.ulfm_world.proofs.Logs.{stopped-push}
 use Rattle.ulfm_world.proofs.Weights.{out-took}
 use Rattle.ulfm_world.proofs.Changed.{player-same, player-other}

@@ -5,8 +5,7 @@ use Rattle.ulfm_rank.specs.History.{history_of}
 use Rattle.ulfm_script.specs.Report.{Report}
 use Rattle.ulfm_world.specs.World.{World, player_at, rank_at, no_player, start_world, Reaches}
 use Rattle.ulfm_world.specs.Flow.{IsWorld}
-use Rattle.ulfm_script.specs.Job.{Seen, IsJob}
-use Rattle.ulfm_world.specs.Replay.{report_of, IsReplayed}
+use Rattle.ulfm_world.specs.Replay.{report_of}
 use Rattle.ulfm_world.proofs.Finding.{AreHonest}
 use Rattle.ulfm_world.proofs.Honest.{IsHonest}
 use Rattle.ulfm_world.specs.Reader.{Content, report_at, no_report, letters_come, letters_sent, ComeAsSent, AllHasCome, InEachWorld, InEachReplay}

@@ -1,12 +1,12 @@
 -- Every schedule keeps what every world keeps.
-use Rattle.std.proofs.Common.{◌≡◌, ℕ, ◌+◌, ◌<◌, ◌≤◌, List, [], ◌∷◌, ◌++◌, length, take, get_or, refl, sym, subst, inl, inr, ◌⊎◌, Result, Ok, Err, OnOk, OnErr, IfErr, Option, None}
+use Rattle.std.proofs.Common.{◌≡◌, ℕ, ◌+◌, ◌<◌, List, [], ◌∷◌, ◌++◌, length, take, get_or, refl, sym, subst, inl, inr, Result, Ok, Err, OnOk, OnErr, IfErr, Option, None}
 use Rattle.std.proofs.lemmas.List.{take_more}
 use Rattle.ulfm_base.specs.declared.context.Context.{Context}
 use Rattle.ulfm_base.specs.declared.decision.Decision.{Decision}
 use Rattle.ulfm_world.specs.declared.event.Event.{Event}
 use Rattle.ulfm_world.specs.declared.event.Event.TheVariants.{Call, Push, Take, Decide, Leave}
 use Rattle.ulfm_world.specs.declared.event.Refused.{Refused}
-use Rattle.ulfm_world.specs.World.{World, rank_at, with_players, with_decided, Calls, Settles, GivesUp, Happens, IsRefused, Applied, Run, Reaches}
+use Rattle.ulfm_world.specs.World.{World, with_players, with_decided, Calls, Settles, GivesUp, Happens, IsRefused, Applied, Run, Reaches}
 use Rattle.ulfm_world.specs.Flow.{IsWorld}
 use Rattle.ulfm_world.proofs.Polls.{quiet-called, quiet-left}
 use Rattle.ulfm_world.proofs.Decisions.{quiet-decided}

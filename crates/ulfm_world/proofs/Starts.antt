@@ -9,13 +9,13 @@ use Rattle.ulfm_base.specs.declared.decision.Decision.{Decision}
 use Rattle.ulfm_board.specs.Known.{nothing_known}
 use Rattle.ulfm_base.specs.declared.item.Item.{Item}
 use Rattle.ulfm_rank.specs.Facts.{took}
-use Rattle.ulfm_rank.specs.State.{State, IsState, gone_out, mark_at, no_mark, start_state}
+use Rattle.ulfm_rank.specs.State.{IsState, gone_out, no_mark, start_state}
 use Rattle.ulfm_base.specs.declared.error.CallError.{CallError}
 use Rattle.ulfm_base.specs.declared.error.CallError.TheVariants.{OutOfMemory}
 use Rattle.ulfm_rank.specs.Checks.{Passes, FailsOrStarves, start_checks}
 use Rattle.ulfm_script.specs.Player.{Player, View, start_player}
 use Rattle.ulfm_world.specs.Fields.{the_player, players_of, parts}
-use Rattle.ulfm_world.specs.World.{World, player_in, no_player, rank_at, inbox_at, start_players, start_world}
+use Rattle.ulfm_world.specs.World.{World, player_in, no_player, inbox_at, start_players, start_world}
 use Rattle.ulfm_world.specs.Flow.{from, IsSigned, IsPosted, IsWorld}
 
 pub length-start : (n k : ℕ) → length (start_players n k) ≡ k

@@ -1,7 +1,7 @@
 -- What one more entry changes of what a rank may still send.
-use Rattle.std.proofs.Common.{◌≡◌, ◌≢◌, ℕ, ◌+◌, ◌*◌, ◌<◌, ◌≤◌, Bool, true, false, cond, eqb, List, [], ◌∷◌, ◌++◌, length, drop, refl, ap, sym, subst, ◌∙◌, arith, inl, inr, append-nil, length-append}
+use Rattle.std.proofs.Common.{◌≡◌, ℕ, ◌+◌, ◌*◌, ◌<◌, ◌≤◌, Bool, true, false, cond, eqb, List, [], ◌∷◌, ◌++◌, length, drop, refl, ap, ◌∙◌, arith, inl, inr, append-nil, length-append}
 use Rattle.std.specs.Prelude.{◌||◌}
-use Rattle.std.proofs.lemmas.Bool.{cases_Bool, eq-eqb, or_left, or_right}
+use Rattle.std.proofs.lemmas.Bool.{cases_Bool, eq-eqb, or_right}
 use Rattle.std.proofs.lemmas.List.{drop-append-le}
 use Rattle.ulfm_base.specs.declared.rank.WorldRank.{WorldRank}
 use Rattle.ulfm_base.specs.declared.context.Context.{Context}
@@ -12,7 +12,7 @@ use Rattle.ulfm_rank.specs.declared.entry.Entry.TheVariants.{Took}
 use Rattle.ulfm_rank.specs.Facts.{is_stop, is_stopped, is_revoked, revokes}
 use Rattle.ulfm_rank.specs.Owed.{owed_by}
 use Rattle.ulfm_rank.specs.State.{State, IsState, logged, owes, outbox, mark_at}
-use Rattle.ulfm_world.specs.Replay.{sum_below, out_at, fresh_at, fresh_of}
+use Rattle.ulfm_world.specs.Replay.{out_at, fresh_at, fresh_of}
 use Rattle.ulfm_world.proofs.Gather.{any-push}
 use Rattle.ulfm_world.proofs.Logs.{owes-logged, stopped-push, owed_by_few}
 use Rattle.ulfm_world.proofs.Sums.{sum-within, sum-le, sum-falls}

@@ -1,13 +1,13 @@
 -- What goes from rank to rank: the flow between each pair, and what every world keeps.
-use Rattle.std.specs.Prelude.{◌≡◌, ◌≢◌, ⊤, ℕ, true, false, List, [], ◌∷◌, ◌++◌, ◌<◌, ◌≤◌, ◌==◌, length, All, if◌then◌else◌}
+use Rattle.std.specs.Prelude.{◌≡◌, ◌≢◌, ⊤, ℕ, List, [], ◌∷◌, ◌++◌, ◌<◌, ◌≤◌, ◌==◌, length, All, if◌then◌else◌}
 use Rattle.std.specs.List.{flat_map}
 use Rattle.ulfm_base.specs.declared.rank.WorldRank.{WorldRank}
 use Rattle.ulfm_base.specs.declared.item.Item.{Item}
 use Rattle.ulfm_base.specs.declared.item.Item.TheVariants.{Gone}
 use Rattle.ulfm_rank.specs.declared.entry.Entry.{Entry}
 use Rattle.ulfm_rank.specs.declared.entry.Entry.TheVariants.{Sent}
-use Rattle.ulfm_rank.specs.Facts.{took, is_stopped}
-use Rattle.ulfm_rank.specs.State.{State, IsState, owes, gone_out, outbox}
+use Rattle.ulfm_rank.specs.Facts.{took}
+use Rattle.ulfm_rank.specs.State.{IsState, owes, gone_out, outbox}
 use Rattle.ulfm_rank.specs.Calls.{IsFrom}
 use Rattle.ulfm_world.specs.World.{World, rank_at, inbox_at, IsRunning, HasStopped}
 

@@ -1,5 +1,5 @@
 -- A world at rest, and what its running ranks then know.
-use Rattle.std.specs.Prelude.{◌≡◌, ℕ, true, List, [], ◌<◌, length}
+use Rattle.std.specs.Prelude.{◌≡◌, ℕ, true, [], ◌<◌, length}
 use Rattle.ulfm_rank.specs.Facts.{is_gone, is_revoked}
 use Rattle.ulfm_rank.specs.State.{outbox}
 use Rattle.ulfm_world.specs.World.{World, rank_at, inbox_at, IsRunning, HasStopped}

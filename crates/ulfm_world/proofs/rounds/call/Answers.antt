@@ -1,6 +1,4 @@
-use Rattle.std.proofs.Common.{rules, ◌≡◌, ◌<◌, ◌≤◌, ◌+◌, [], length, false, true, ℕ, List, get_or, set, refl, ap, sym, subst, ◌∙◌, arith, inl, inr}
-use Rattle.std.specs.Prelude.{slice_get}
-use Rattle.ulfm_script.specs.Job.{script_at}
+use Rattle.std.proofs.Common.{arith, inl, inr}
 use Rattle.ulfm_world.proofs.MovesCall.{ready-at, moves-call, moves-leave, none_open}
 use Rattle.ulfm_world.proofs.Refusals.{leave-goes}
 use Rattle.ulfm_world.proofs.rounds.call.Goals as goal

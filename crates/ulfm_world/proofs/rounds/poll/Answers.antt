@@ -1,7 +1,7 @@
-use Rattle.std.proofs.Common.{rules, ◌≡◌, ◌<◌, ◌≤◌, ◌+◌, [], length, false, true, Bool, ℕ, List, Some, get_or, set, refl, ap, sym, subst, ◌∙◌, arith, inl, inr}
+use Rattle.std.proofs.Common.{◌≡◌, length, Bool, Some, refl, ap, sym, subst, ◌∙◌, arith}
 use Rattle.std.specs.Prelude.{slice_get}
 use Rattle.ulfm_script.specs.Job.{script_at}
-use Rattle.ulfm_world.specs.World.{World, player_at, rank_at, IsRunning}
+use Rattle.ulfm_world.specs.World.{World, player_at, IsRunning}
 use Rattle.ulfm_world.specs.Replay.{Moves}
 use Rattle.ulfm_world.proofs.Moves.{moves-on}
 use Rattle.ulfm_world.proofs.rounds.poll.Goals as goal

@@ -1,7 +1,7 @@
-use Rattle.std.proofs.Common.{rules, ◌≡◌, ◌<◌, ◌≤◌, ◌+◌, ℕ, length, true, false, Bool, sym, ap, ◌∙◌, subst, arith}
+use Rattle.std.proofs.Common.{ℕ}
 use Rattle.ulfm_world.specs.World.{World}
-use Rattle.ulfm_world.specs.Replay.{Moves, IsPushStuck, IsStuck}
-use Rattle.ulfm_world.proofs.Moves.{moves-on, moves-not, moves-then, loop_then, loop_else}
+use Rattle.ulfm_world.specs.Replay.{IsStuck}
+use Rattle.ulfm_world.proofs.Moves.{loop_then, loop_else}
 use Rattle.ulfm_world.proofs.rounds.round.Goals as goal
 use Rattle.ulfm_world.proofs.rounds.round.Goals.{then-branch, else-branch}
 

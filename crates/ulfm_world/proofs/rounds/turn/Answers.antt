@@ -1,7 +1,6 @@
-use Rattle.std.proofs.Common.{rules, ◌≡◌, ◌<◌, ◌≤◌, ◌+◌, ℕ, length, true, false, Bool, sym, ap, ◌∙◌, subst, arith}
-use Rattle.ulfm_world.specs.World.{World}
-use Rattle.ulfm_world.specs.Replay.{Moves, IsPushStuck, IsStuck}
-use Rattle.ulfm_world.proofs.Moves.{moves-on, moves-not, moves-then, loop_then, loop_else}
+use Rattle.std.proofs.Common.{Bool, subst}
+use Rattle.ulfm_world.specs.Replay.{Moves}
+use Rattle.ulfm_world.proofs.Moves.{moves-on, moves-not, moves-then}
 use Rattle.ulfm_world.proofs.rounds.turn.Goals as goal
 
 pub returns-then-polled-clause-moves : goal.returns-then-polled-clause-moves
