@@ -44,7 +44,7 @@ checks_no_usage bytes status text no_memory = λ e. cc
 checks_no_usage bytes status text starved = λ e. cc
 
 replays_no_usage : (bytes : List ℕ) (status : ℕ) (text : List ℕ) → IsReplayReply bytes status text → status ≢ 2
-replays_no_usage bytes status text (traced job reports e h) = λ e. cc
+replays_no_usage bytes status text (traced job reports e h f a) = λ e. cc
 replays_no_usage bytes status text (not_a_job f e) = λ e. cc
 replays_no_usage bytes status text no_room = λ e. cc
 replays_no_usage bytes status text failed = λ e. cc

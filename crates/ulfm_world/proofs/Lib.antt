@@ -68,3 +68,5 @@ pub mod Moving
 pub mod Safe
 pub mod Decided
 pub mod Proposing
+pub mod Kept
+pub mod Shrunk

@@ -6,7 +6,7 @@ use Rattle.ulfm_base.specs.declared.decision.Decision.{Decision}
 use Rattle.ulfm_world.specs.declared.event.Event.{Event}
 use Rattle.ulfm_world.specs.declared.event.Event.TheVariants.{Call, Push, Take, Decide, Leave}
 use Rattle.ulfm_world.specs.declared.event.Refused.{Refused}
-use Rattle.ulfm_world.specs.World.{World, with_players, with_decided, Calls, Settles, GivesUp, Happens, IsRefused, Applied, Run, Reaches}
+use Rattle.ulfm_world.specs.World.{World, with_players, with_decided, Calls, Settles, GivesUp, Happens, IsRefused, Applied, Run, Reaches, IsReached}
 use Rattle.ulfm_world.specs.Flow.{IsWorld}
 use Rattle.ulfm_world.proofs.Polls.{quiet-called, quiet-left}
 use Rattle.ulfm_world.proofs.Decisions.{quiet-decided}
@@ -61,11 +61,6 @@ keeps-run (event ∷ events) w w' h k = keeps-run events k.0 w' (keeps-applied w
 pub keeps-reaches : (w w' : World) → IsWorld w → Reaches w w' → IsWorld w'
 keeps-reaches w w' h k = keeps-run k.0 w w' h k.1
 
--- an event that happened or was refused keeps the world
-pub keeps-either : {A E : Type 0} (r : Result A E) (w w' : World) (event : Event) → IsWorld w → OnOk r (Happens w event w') → OnErr r (w' ≡ w) → IsWorld w'
-keeps-either (Ok x) w w' event h k e = keeps-happens w event w' h k
-keeps-either (Err x) w w' event h k e = let W : World → Type 0 = λ (x : World). IsWorld x in subst W (sym e) h
-
 either : {A : Type 0} (r : Result A Refused) (w w' : World) (event : Event) → OnOk r (Happens w event w') → IfErr r (λ why. IsRefused w event why) → OnErr r (w' ≡ w) → Applied w event w'
 either (Ok x) w w' event k why e = inl k
 either (Err x) w w' event k why e = inr (x, why, e)
@@ -91,3 +86,8 @@ reaches-one w event w' h = (event ∷ [], (w', inl h, refl))
 
 pub reaches-then : (u v w : World) → Reaches u v → Reaches v w → Reaches u w
 reaches-then u v w h k = (h.0 ++ k.0, run-append h.0 k.0 u v w h.1 k.1)
+
+-- a world after an event that happened or was refused
+pub reaches-either : {A E : Type 0} (r : Result A E) (w w' : World) (event : Event) → IsReached w → OnOk r (Happens w event w') → OnErr r (w' ≡ w) → IsReached w'
+reaches-either (Ok x) w w' event h k e = record { ranks = h.ranks; capacity = h.capacity; few = h.few; schedule = reaches-then _ _ _ h.schedule (reaches-one w event w' k) }
+reaches-either (Err x) w w' event h k e = let W : World → Type 0 = λ (x : World). IsReached x in subst W (sym e) h

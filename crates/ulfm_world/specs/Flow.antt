@@ -9,7 +9,7 @@ use Rattle.ulfm_rank.specs.declared.entry.Entry.TheVariants.{Sent}
 use Rattle.ulfm_rank.specs.Facts.{took}
 use Rattle.ulfm_rank.specs.State.{IsState, owes, gone_out, outbox}
 use Rattle.ulfm_rank.specs.Calls.{IsFrom}
-use Rattle.ulfm_world.specs.World.{World, rank_at, inbox_at, IsRunning, HasStopped}
+use Rattle.ulfm_world.specs.World.{World, rank_at, inbox_at, IsRunning, HasStopped, IsReached}
 
 -- an item, where it came from s
 abbrev pub item_of : ℕ → WorldRank × Item → List Item
@@ -63,3 +63,8 @@ pub record IsWorld (w : World) : Type 0 where
   pub signed : (r : ℕ) → r < length w.players → All (IsSigned r) (rank_at w r).log
   pub posted : (r : ℕ) → r < length w.players → All (IsPosted (length w.players)) (inbox_at w r)
   pub passed_on : (s d : ℕ) → s < length w.players → d < length w.players → gone_out (rank_at w s) d ≡ arrived w s d
+
+-- a world that some schedule leads to, and what it keeps
+pub record IsKept (w : World) : Type 0 where
+  pub world : IsWorld w
+  pub reached : IsReached w

@@ -1,7 +1,7 @@
 pub mod World
 pub mod Flow
 pub mod Rest
+pub mod Safe
 pub mod Replay
 pub mod Fields
 pub mod Reader
-pub mod Safe

@@ -11,6 +11,7 @@ use Rattle.ulfm_script.specs.Report.{Report}
 use Rattle.ulfm_script.specs.Job.{Seen, script_at, through_stop, has_stop}
 use Rattle.ulfm_world.specs.World.{World, player_at, rank_at, inbox_at, IsRunning, Reaches, start_world}
 use Rattle.ulfm_world.specs.Rest.{IsAtRest, KnowsStopped, AgreesOnRevoked}
+use Rattle.ulfm_world.specs.Safe.{ProposesEach, ShrinksSafely}
 
 -- the step of a report
 abbrev pub step_of : StepReport → Step
@@ -64,12 +65,15 @@ pub record IsReplayed (j : Seen) (reports : List Report) : Type 0 where
   pub answered : IsAnswered j world
   pub reported : reports ≡ map report_of world.players
 
--- At the rest at which these reports were made each running rank knew each stopped one, and all agreed on revocations.
+-- At the rest at which these reports were made each running rank knew each stopped one, all agreed on revocations, and
+-- each member of a communicator that all running ones shrink had a proposal; shrinks were safe.
 pub record AreSettled (reports : List Report) : Type 0 where
   pub world : World
   pub reported : reports ≡ map report_of world.players
   pub known : KnowsStopped world
   pub agreed : AgreesOnRevoked world
+  pub proposed : ProposesEach world
+  pub safe : ShrinksSafely world
 
 -- f 0 + f 1 + .., below n
 abbrev pub sum_below : ℕ → (ℕ → ℕ) → ℕ

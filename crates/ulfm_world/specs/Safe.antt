@@ -75,3 +75,14 @@ ProposesEach w =
     (r c : ℕ) → r < length w.players → IsRunning w r → is_made (rank_at w r).ranks (rank_at w r).log c ≡ true
     → ((m : ℕ) → is_member (group_at (rank_at w r) c) m ≡ true → IsRunning w m → has_entered (rank_at w m).log c ≡ true)
     → has_proposal (rank_at w r).me (group_at (rank_at w r) c) (rank_at w r).log c ≡ true
+
+-- What shrinks keep: each rank enters once, decisions are safe and are adopted as they are held, the next one too, and for
+-- each context there is one decision and one group. Want of memory alone keeps a rank from adopting.
+pub record ShrinksSafely (w : World) : Type 0 where
+  pub entered : EntersOnce w
+  pub decided : DecidesSafely w
+  pub settled : SettlesSafely w
+  pub adopted : AdoptsHeld w
+  pub starved : StarvesAlone w
+  pub one_decision : AdoptsOne w
+  pub one_group : HasOneGroup w

@@ -184,3 +184,10 @@ Run old (event ∷ events) new = (mid : World) × Applied old event mid × Run m
 -- some schedule leads from one world to the other
 abbrev pub Reaches : World → World → Type 0
 Reaches old new = (events : List Event) × Run old events new
+
+-- a world that some schedule of at most 8 ranks leads to
+pub record IsReached (w : World) : Type 0 where
+  pub ranks : ℕ
+  pub capacity : ℕ
+  pub few : ranks ≤ 8
+  pub schedule : Reaches (start_world ranks capacity) w
