@@ -4,6 +4,7 @@
 use super::{decide, shrink, tells};
 use crate::event::{Event, Outcome, Refused};
 use crate::world::World;
+use std::alloc::Global;
 use std::test::Fail;
 use ulfm_base::{Context, Tag};
 use ulfm_script::{Step, Text, trace_text};
@@ -29,8 +30,8 @@ fn receive(from: Option<u8>, tag: Option<Tag>) -> Step {
 }
 
 /// A receive from rank 0 of a tag.
-fn tagged(number: u16) -> Step {
-    receive(Some(0), Some(Tag { number }))
+fn tagged(tag: Tag) -> Step {
+    receive(Some(0), Some(tag))
 }
 
 /// A wait for the step of this number.
@@ -84,7 +85,7 @@ fn proposes_nothing(world: &mut World, r: u8) -> bool {
 fn revokes(world: &mut World) -> bool {
     answers(world, 0, send())
         && answers(world, 1, revoke())
-        && answers(world, 2, tagged(5))
+        && answers(world, 2, tagged(Tag { number: 5 }))
         && pushes(world, 0, 2)
         && has_no_item(world, 0)
         && answers(world, 0, receive(None, None))
@@ -92,7 +93,7 @@ fn revokes(world: &mut World) -> bool {
         && tells(world, Event::Push(1, 2), Err(Refused::InboxFull))
         && answers(world, 1, Step::Stop)
         && takes(world, 2)
-        && answers(world, 2, tagged(9))
+        && answers(world, 2, tagged(Tag { number: 9 }))
 }
 
 /// Rank 0 takes the revocation and passes it on. Of the stopped rank 1 only its notices are left.
@@ -143,19 +144,8 @@ fn shrinks(world: &mut World) -> bool {
         && tells(world, decide(0), Ok(Outcome::Answered))
 }
 
-#[test]
-fn survivors_of_a_revoked_world_shrink_it(rt: HostRuntime) -> Result<(), Fail> {
-    let mut world = World::new(rt.alloc(), 3, 1)?;
-    assert!(rt; revokes(&mut world));
-    assert!(rt; passes_on(&mut world));
-    assert!(rt; waits_for_the_other(&mut world));
-    assert!(rt; shrinks(&mut world));
-    assert!(rt; world.is_at_rest());
-    let reports = world.into_reports(rt.alloc())?;
-    let trace = trace_text(rt.alloc(), reports.as_slice())?;
-    assert_eq!(rt;
-        trace.as_str(),
-        "0 0 send 2 tag 5 comm 0: sent\n\
+/// What the ranks answered.
+const TRACE: &str = "0 0 send 2 tag 5 comm 0: sent\n\
 0 1 recv any tag any comm 0: posted\n\
 0 2 wait 1: over 6 Revoked\n\
 0 3 shrink comm 0: comm 2 ranks [0 2] me 0\n\
@@ -169,7 +159,27 @@ fn survivors_of_a_revoked_world_shrink_it(rt: HostRuntime) -> Result<(), Fail> {
 2 3 wait 0: done from 0 tag 5 61\n\
 2 4 recv any tag any comm 0: refused 6 Revoked\n\
 2 5 shrink comm 0: comm 2 ranks [0 2] me 1\n\
-2 end: done\n"
-    );
+2 end: done\n";
+
+/// Whether the ranks of a world answered so.
+fn has_trace(world: World, alloc: Global, text: &str) -> bool {
+    let Ok(reports) = world.into_reports(alloc) else {
+        return false;
+    };
+    match trace_text(alloc, reports.as_slice()) {
+        Ok(trace) => trace.as_str() == text,
+        Err(_) => false,
+    }
+}
+
+#[test]
+fn survivors_of_a_revoked_world_shrink_it(rt: HostRuntime) -> Result<(), Fail> {
+    let mut world = World::new(rt.alloc(), 3, 1)?;
+    assert!(rt; revokes(&mut world));
+    assert!(rt; passes_on(&mut world));
+    assert!(rt; waits_for_the_other(&mut world));
+    assert!(rt; shrinks(&mut world));
+    assert!(rt; world.is_at_rest());
+    assert!(rt; has_trace(world, rt.alloc(), TRACE));
     Ok(())
 }
