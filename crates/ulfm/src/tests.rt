@@ -4,10 +4,12 @@ ghost use Rattle.std.specs.Prelude.{◌≤◌};
 mod bodies;
 mod failures;
 mod messages;
+mod recoveries;
 mod refused;
 mod revocations;
 mod rows;
 mod schedule;
+mod shrinks;
 mod streams;
 
 use crate::front::run_on;

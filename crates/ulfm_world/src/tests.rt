@@ -1,5 +1,8 @@
 //! Events one by one.
 
+mod adopting;
+mod recovery;
+
 use crate::event::{Event, Outcome, Refused};
 use crate::world::World;
 use std::test::Fail;

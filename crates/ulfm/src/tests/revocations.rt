@@ -8,7 +8,7 @@ fn revocations_reach_all(rt: HostRuntime) {
         &rt,
         &[
             Row {
-                shows: "revoked_while_waiting",
+                shows: "revoked_then_shrunk",
                 job: "ranks = 3\n\
 capacity = 1\n\
 turns = 20\n\
@@ -16,6 +16,7 @@ step = [\n\
   {rank = 0, op = \"send\", to = 2, tag = 5, body = \"a\"},\n\
   {rank = 0, op = \"recv\"},\n\
   {rank = 0, op = \"wait\", req = 1},\n\
+  {rank = 0, op = \"shrink\"},\n\
   {rank = 1, op = \"revoke\"},\n\
   {rank = 1, op = \"stop\"},\n\
   {rank = 2, op = \"recv\", from = 0, tag = 5},\n\
@@ -23,10 +24,12 @@ step = [\n\
   {rank = 2, op = \"wait\", req = 1},\n\
   {rank = 2, op = \"wait\", req = 0},\n\
   {rank = 2, op = \"recv\"},\n\
+  {rank = 2, op = \"shrink\"},\n\
 ]\n",
                 trace: "0 0 send 2 tag 5 comm 0: sent\n\
 0 1 recv any tag any comm 0: posted\n\
 0 2 wait 1: over 6 Revoked\n\
+0 3 shrink comm 0: comm 2 ranks [0 2] me 0\n\
 0 end: done\n\
 1 0 revoke comm 0: revoked\n\
 1 1 stop: stopped\n\
@@ -36,6 +39,7 @@ step = [\n\
 2 2 wait 1: over 6 Revoked\n\
 2 3 wait 0: done from 0 tag 5 61\n\
 2 4 recv any tag any comm 0: refused 6 Revoked\n\
+2 5 shrink comm 0: comm 2 ranks [0 2] me 1\n\
 2 end: done\n",
             },
             Row {

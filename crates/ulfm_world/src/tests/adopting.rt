@@ -1,0 +1,112 @@
+//! Which decisions one rank adopts.
+
+use std::test::Fail;
+use ulfm_base::{CallError, Context, Decision, Item, RankSet, WorldRank};
+use ulfm_rank::Rank;
+
+const FIRST: WorldRank = WorldRank { number: 0 };
+
+const SECOND: WorldRank = WorldRank { number: 1 };
+
+const THIRD: WorldRank = WorldRank { number: 2 };
+
+/// Takes a notice from another rank. It answers whether it could be taken.
+fn take(rank: &mut Rank, source: WorldRank, item: Item) -> bool {
+    let letter = matches!(item, Item::Letter(_));
+    if letter || rank.is_stopped() || source.number >= rank.ranks() || rank.prepare().is_err() {
+        return false;
+    }
+    rank.take(source, item);
+    true
+}
+
+/// Word of an entry into the shrink of the world by a rank that knows no failure.
+fn entry() -> Item {
+    Item::Enter {
+        context: Context::WORLD,
+        known: RankSet::new(),
+    }
+}
+
+/// Whether a rank enters the shrink of the world.
+fn enters(rank: &mut Rank) -> bool {
+    rank.enter_shrink(rank.world()).is_ok()
+}
+
+/// The proposal of a rank for the shrink of the world.
+fn proposed(rank: &Rank) -> Option<Decision> {
+    match rank.proposal(rank.world()) {
+        Ok(proposal) => proposal,
+        Err(_) => None,
+    }
+}
+
+/// Whether a rank has no proposal.
+fn proposes_nothing(rank: &Rank) -> bool {
+    proposed(rank).is_none()
+}
+
+/// Whether the proposal of a rank lists the second rank with this set.
+fn lists_second(rank: &Rank, set: RankSet) -> bool {
+    match proposed(rank) {
+        Some(decision) => match decision.entries[1] {
+            Some(listed) => listed.is_same(set),
+            None => false,
+        },
+        None => false,
+    }
+}
+
+/// Whether a rank refuses the proposal of another.
+fn refuses(rank: &mut Rank, other: &Rank) -> bool {
+    match proposed(other) {
+        Some(decision) => matches!(
+            rank.adopt(rank.world(), decision),
+            Err(CallError::NotMember)
+        ),
+        None => false,
+    }
+}
+
+/// Whether a rank adopts its own proposal.
+fn adopts_its_own(rank: &mut Rank) -> bool {
+    match proposed(rank) {
+        Some(decision) => match rank.adopt(rank.world(), decision) {
+            Ok(made) => made.context.number == 2,
+            Err(_) => false,
+        },
+        None => false,
+    }
+}
+
+/// Whether the first rank proposes once it heard of the entry of the second and of the stop of the third.
+fn hears_of_both(rank: &mut Rank) -> bool {
+    enters(rank)
+        && proposes_nothing(rank)
+        && take(rank, SECOND, entry())
+        && proposes_nothing(rank)
+        && take(rank, THIRD, Item::Gone)
+        && lists_second(rank, RankSet::new())
+}
+
+/// Whether the second rank, which knew of the stop of the third when it entered, proposes with the set of its entry.
+fn knew_before(rank: &mut Rank) -> bool {
+    let mut third = RankSet::new();
+    third.insert(THIRD);
+    take(rank, THIRD, Item::Gone)
+        && enters(rank)
+        && take(rank, FIRST, entry())
+        && lists_second(rank, third)
+}
+
+#[test]
+fn a_decision_with_another_set_of_an_entry_is_refused(rt: HostRuntime) -> Result<(), Fail> {
+    let mut first = Rank::start(rt.alloc(), 0, 3)?;
+    let mut second = Rank::start(rt.alloc(), 1, 3)?;
+    let mut third = Rank::start(rt.alloc(), 2, 3)?;
+    let ready = hears_of_both(&mut first) && knew_before(&mut second) && enters(&mut third);
+    let refused = refuses(&mut first, &second) && refuses(&mut third, &first);
+    let adopted = adopts_its_own(&mut first);
+    assert!(rt; ready && refused && adopted);
+    Ok(())
+}
