@@ -25,9 +25,3 @@ source_back me (item.Letter letter) h =
 source_back me item.Gone h = refl
 source_back me (item.Revoke context) h = refl
 source_back me (item.Enter context known) h = refl
-
-pub from_itself : (source : WorldRank) (x : Carried) → ComesFrom source.number (item_of source x)
-from_itself source (carried.Letter context tag body) = refl
-from_itself source carried.Gone = tt
-from_itself source (carried.Revoke context) = tt
-from_itself source (carried.Enter context known) = tt
