@@ -1,11 +1,10 @@
 -- A ring is emptied into a list.
-use Rattle.std.proofs.Common.{◌≡◌, ◌-◌, ℕ, Option, None, Some, List, [], ◌∷◌, ◌++◌, length, map, take, refl, ap, sym, ◌∙◌, arith, append_assoc, append-nil, length-append}
-use Rattle.std.proofs.lemmas.List.{map-append, take_at, nil_from_length}
-use Rattle.rtrb.specs.Ring.{SameConsumer}
+use Rattle.std.proofs.Common.{◌≡◌, ℕ, Option, None, Some, List, [], ◌∷◌, ◌++◌, length, map, refl, ap, sym, ◌∙◌, append-nil}
+use Rattle.std.proofs.lemmas.List.{map-append, nil_from_length}
 use Rattle.ulfm_base.specs.declared.rank.WorldRank.{WorldRank}
 use Rattle.ulfm_carrier.specs.declared.carried.Carried.{Carried}
 use Rattle.ulfm_carrier.specs.Carried.{item_of}
-use Rattle.ulfm_carrier.specs.Lanes.{Reader, reader_name, shown}
+use Rattle.ulfm_carrier.specs.Lanes.{shown}
 use Rattle.ulfm_carrier.specs.Tagged.{with_sender, signed}
 
 pub all_moved : {X Y : Type 0} (f : X → Y) (done all : List Y) (ahead : List X) → length ahead ≡ 0 → done ++ map f ahead ≡ all → done ≡ all

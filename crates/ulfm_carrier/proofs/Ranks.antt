@@ -4,8 +4,6 @@ use Rattle.std.proofs.Props.{props}
 use Rattle.ulfm_base.specs.declared.rank.WorldRank.{WorldRank}
 use Rattle.ulfm_base.specs.declared.item.Item.{Item}
 use Rattle.ulfm_base.specs.declared.item.Item.TheVariants as item
-use Rattle.ulfm_carrier.specs.declared.carried.Carried.{Carried}
-use Rattle.ulfm_carrier.specs.declared.carried.Carried.TheVariants as carried
 use Rattle.ulfm_carrier.specs.Carried.{carried_of, item_of}
 use Rattle.ulfm_carrier.specs.Family.{ComesFrom}
 
