@@ -75,7 +75,7 @@ impl LaneEnds {
     }
 
     /// `pop`, which waits for nobody and takes no memory. It looks at the ranks upwards and round, from the one after the
-    /// last from which it took, first of all from rank 0.
+    /// last from which it took, first of all from rank 0. Where it finds nothing, that turn stays.
     pub fn pop_now(&mut self) -> Option<(WorldRank, Item)>
         requires ready { IsReady self.old }
         ensures name { (lane_name self.new ≡ lane_name self.old) × (self.new.me ≡ self.old.me) × (vec_len self.new.outs ≡ vec_len self.old.outs) × IsReady self.new }
@@ -142,6 +142,7 @@ impl Ends for LaneEnds {
         self.me
     }
 
+    // The clauses of the trait and, beside them, those of `push_now` on room and turn.
     fn push<R: Wait>(&mut self, _rt: &R, dest: u8, item: Item) -> Result<(), Item>
         requires ready { IsReady self.old }
         requires dest { dest < vec_len self.old.outs }
@@ -157,6 +158,7 @@ impl Ends for LaneEnds {
         self.push_now(dest, item)
     }
 
+    // The clauses of the trait and, beside them, those of `pop_now` on what was seen and on the turn.
     fn pop<R: Wait>(&mut self, _rt: &R) -> Option<(WorldRank, Item)>
         requires ready { IsReady self.old }
         ensures name { (lane_name self.new ≡ lane_name self.old) × (self.new.me.number ≡ self.old.me.number) × (vec_len self.new.outs ≡ vec_len self.old.outs) × IsReady self.new }
