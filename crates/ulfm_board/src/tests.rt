@@ -5,6 +5,7 @@ ghost use Rattle.ulfm_base.specs.Context.{shrink_of};
 use crate::{Decider, MemoryBoard, Seat, seats};
 use std::alloc::Global;
 use std::test::Fail;
+use std::thread;
 use ulfm_base::{CallError, Context, Decision, Group};
 
 const SHRUNK: Context = Context { number: 2 };
@@ -51,6 +52,28 @@ fn seats_of_one_board(rt: HostRuntime) -> Result<(), Fail> {
     let third = none_left(rt.alloc(), SHRUNK, 3)?;
     assert!(rt; other.decide(third.copied())?.is_same(&third));
     crosses(one);
+    Ok(())
+}
+
+#[test]
+fn one_answer_across_threads(rt: HostRuntime) -> Result<(), Fail> {
+    let mut all = seats(rt.alloc(), 3)?;
+    let (Some(mut last), Some(other), Some(mut one)) = (all.pop(), all.pop(), all.pop()) else {
+        return Err(Fail::new("no seats"));
+    };
+    let mine = none_left(rt.alloc(), Context::WORLD, 2)?;
+    let theirs = none_left(rt.alloc(), Context::WORLD, 3)?;
+    let handed_in = theirs.copied();
+    let child = thread::spawn(&rt, move || {
+        let mut other = other;
+        other.decide(handed_in)
+    });
+    let child = child.ok().ok_or("no thread")?;
+    let held = one.decide(mine.copied())?;
+    let found = child.join(&rt)?;
+    assert!(rt; held.is_same(&mine) || held.is_same(&theirs));
+    assert!(rt; found.is_same(&held));
+    assert!(rt; last.decide(mine)?.is_same(&held));
     Ok(())
 }
 

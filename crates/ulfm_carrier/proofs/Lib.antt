@@ -2,6 +2,7 @@ pub mod Drained
 pub mod Faces
 pub mod Gathered
 pub mod Joined
+pub mod Last
 pub mod Places
 pub mod Ranks
 pub mod Rings

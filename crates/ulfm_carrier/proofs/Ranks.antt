@@ -4,8 +4,6 @@ use Rattle.std.proofs.Props.{props}
 use Rattle.ulfm_base.specs.declared.rank.WorldRank.{WorldRank}
 use Rattle.ulfm_base.specs.declared.item.Item.{Item}
 use Rattle.ulfm_base.specs.declared.item.Item.TheVariants as item
-use Rattle.ulfm_carrier.specs.declared.carried.Carried.{Carried}
-use Rattle.ulfm_carrier.specs.declared.carried.Carried.TheVariants as carried
 use Rattle.ulfm_carrier.specs.Carried.{carried_of, item_of}
 use Rattle.ulfm_carrier.specs.Family.{ComesFrom}
 
@@ -25,9 +23,3 @@ source_back me (item.Letter letter) h =
 source_back me item.Gone h = refl
 source_back me (item.Revoke context) h = refl
 source_back me (item.Enter context known) h = refl
-
-pub from_itself : (source : WorldRank) (x : Carried) → ComesFrom source.number (item_of source x)
-from_itself source (carried.Letter context tag body) = refl
-from_itself source carried.Gone = tt
-from_itself source (carried.Revoke context) = tt
-from_itself source (carried.Enter context known) = tt

@@ -23,12 +23,15 @@ Outlet = Producer Carried Global AnyItems
 abbrev pub Reader : Type 0
 Reader = Consumer Carried Global AnyItems
 
+-- the name of the ring that a sender's end is of
 abbrev pub outlet_name : Outlet → RingName
 outlet_name p = record { words = p.end.words; slots = p.end.slots; names = p.end.names; heap = p.end.heap }
 
+-- the name of the ring that a receiver's end is of
 abbrev pub reader_name : Reader → RingName
 reader_name c = record { words = c.end.words; slots = c.end.slots; names = c.end.names; heap = c.end.heap }
 
+-- the same, of the ring from a rank
 abbrev pub inlet_name : Inlet → RingName
 inlet_name i = reader_name i.ring
 

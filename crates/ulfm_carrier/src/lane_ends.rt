@@ -1,5 +1,5 @@
 //! A rank's ends of the rings to and from each rank.
-ghost use Rattle.std.specs.Prelude.{◌≡◌, ◌≢◌, ◌<◌, ◌++◌, [], ◌∷◌, ℕ, None, vec_len, MatchResult, MatchOption, OnErr, IsOk, IfNone, IfSome};
+ghost use Rattle.std.specs.Prelude.{◌≡◌, ◌≢◌, ◌<◌, ◌≤◌, ◌+◌, ◌++◌, [], ◌∷◌, ℕ, None, vec_len, MatchResult, MatchOption, OnOk, OnErr, IsOk, IfNone, IfSome};
 
 use crate::carried::Carried;
 use crate::ends::Ends;
@@ -63,6 +63,9 @@ impl LaneEnds {
         ensures pushed { MatchResult result (λ _. lane_pushed self.new dest ≡ lane_pushed self.old dest ++ item ∷ []) (λ back. (back ≡ item) × (lane_pushed self.new dest ≡ lane_pushed self.old dest)) }
         ensures full { OnErr result (known_room self.new dest ≡ 0) }
         ensures succeeds { 0 < known_room self.old dest → IsOk result }
+        ensures one_place { OnOk result (known_room self.old dest ≤ known_room self.new dest + 1) }
+        ensures other_rooms { (p : ℕ) → p ≢ dest → known_room self.new p ≡ known_room self.old p }
+        ensures inbox { (self.new.ins ≡ self.old.ins) × (self.new.next ≡ self.old.next) }
     {
         let out = &mut self.outs[dest as usize];
         match out.push(Carried::of(&item)) {
@@ -72,7 +75,7 @@ impl LaneEnds {
     }
 
     /// `pop`, which waits for nobody and takes no memory. It looks at the ranks upwards and round, from the one after the
-    /// last from which it took, first of all from rank 0.
+    /// last from which it took, first of all from rank 0. Where it finds nothing, that turn stays.
     pub fn pop_now(&mut self) -> Option<(WorldRank, Item)>
         requires ready { IsReady self.old }
         ensures name { (lane_name self.new ≡ lane_name self.old) × (self.new.me ≡ self.old.me) × (vec_len self.new.outs ≡ vec_len self.old.outs) × IsReady self.new }
@@ -82,6 +85,8 @@ impl LaneEnds {
             (λ found. (lane_taken self.new found.0.number ≡ lane_taken self.old found.0.number ++ found.1 ∷ []) × ((p : ℕ) → p ≢ found.0.number → lane_taken self.new p ≡ lane_taken self.old p)) }
         ensures nothing_seen { IfNone result ((p : ℕ) → seen_from self.new p ≡ []) }
         ensures in_turn { IfSome result (λ found. IsFoundInTurn self.old self.new found.0.number) }
+        ensures same_turn { IfNone result (self.new.next ≡ self.old.next) }
+        ensures outs { self.new.outs ≡ self.old.outs }
     {
         let count = self.ins.len() as u8;
         let start = self.next;
@@ -114,8 +119,8 @@ impl LaneEnds {
 
 impl Ends for LaneEnds {
     ghost use Rattle.std.specs.Prelude.{◌≡◌, ℕ, map, vec_len};
-    ghost use Rattle.ulfm_carrier.specs.Family.{at, Keeps, Settled};
-    ghost use Rattle.ulfm_carrier.specs.Lanes.{lane_name, lane_pushed, lane_taken, IsReady, OneCall};
+    ghost use Rattle.ulfm_carrier.specs.Family.{at, ComesFrom, Keeps, Settled};
+    ghost use Rattle.ulfm_carrier.specs.Lanes.{lane_name, lane_pushed, lane_taken, known_room, seen_from, IsReady, IsFoundInTurn, OneCall};
 
     type Name = LaneName;
 
@@ -137,11 +142,34 @@ impl Ends for LaneEnds {
         self.me
     }
 
-    fn push<R: Wait>(&mut self, _rt: &R, dest: u8, item: Item) -> Result<(), Item> {
+    // The clauses of the trait and, beside them, those of `push_now` on room and turn.
+    fn push<R: Wait>(&mut self, _rt: &R, dest: u8, item: Item) -> Result<(), Item>
+        requires ready { IsReady self.old }
+        requires dest { dest < vec_len self.old.outs }
+        requires item { ComesFrom self.old.me.number item }
+        ensures name { (lane_name self.new ≡ lane_name self.old) × (self.new.me.number ≡ self.old.me.number) × (vec_len self.new.outs ≡ vec_len self.old.outs) × IsReady self.new }
+        ensures taken { (p : ℕ) → lane_taken self.new p ≡ lane_taken self.old p }
+        ensures others { (p : ℕ) → p ≢ dest → lane_pushed self.new p ≡ lane_pushed self.old p }
+        ensures pushed { MatchResult result (λ _. lane_pushed self.new dest ≡ lane_pushed self.old dest ++ item ∷ []) (λ back. (back ≡ item) × (lane_pushed self.new dest ≡ lane_pushed self.old dest)) }
+        ensures full { OnErr result (known_room self.new dest ≡ 0) }
+        ensures succeeds { 0 < known_room self.old dest → IsOk result }
+        ensures inbox { (self.new.ins ≡ self.old.ins) × (self.new.next ≡ self.old.next) }
+    {
         self.push_now(dest, item)
     }
 
-    fn pop<R: Wait>(&mut self, _rt: &R) -> Option<(WorldRank, Item)> {
+    // The clauses of the trait and, beside them, those of `pop_now` on what was seen and on the turn.
+    fn pop<R: Wait>(&mut self, _rt: &R) -> Option<(WorldRank, Item)>
+        requires ready { IsReady self.old }
+        ensures name { (lane_name self.new ≡ lane_name self.old) × (self.new.me.number ≡ self.old.me.number) × (vec_len self.new.outs ≡ vec_len self.old.outs) × IsReady self.new }
+        ensures pushed { (p : ℕ) → lane_pushed self.new p ≡ lane_pushed self.old p }
+        ensures sender { MatchOption result (Unit {0}) (λ found. (found.0.number < vec_len self.old.outs) × ComesFrom found.0.number found.1) }
+        ensures taken { MatchOption result ((p : ℕ) → lane_taken self.new p ≡ lane_taken self.old p)
+            (λ found. (lane_taken self.new found.0.number ≡ lane_taken self.old found.0.number ++ found.1 ∷ []) × ((p : ℕ) → p ≢ found.0.number → lane_taken self.new p ≡ lane_taken self.old p)) }
+        ensures nothing_seen { IfNone result ((p : ℕ) → seen_from self.new p ≡ []) }
+        ensures in_turn { IfSome result (λ found. IsFoundInTurn self.old self.new found.0.number) }
+        ensures same_turn { IfNone result (self.new.next ≡ self.old.next) }
+    {
         self.pop_now()
     }
 

@@ -10,6 +10,8 @@ mod lane_ends;
 mod residue;
 #[cfg(test)]
 mod tests;
+#[cfg(test)]
+mod thread_tests;
 mod wiring;
 
 pub use carried::Carried;

@@ -12,7 +12,7 @@ use std::test::Fail;
 use ulfm_base::{Body, CallError, Context, Envelope, Item, Letter, Tag, WorldRank};
 
 // A letter of one byte.
-fn letter(source: u8, byte: u8) -> Result<Item, CallError>
+pub(crate) fn letter(source: u8, byte: u8) -> Result<Item, CallError>
     ensures { IfOk result (λ item. ComesFrom source item) }
 {
     if source >= 8 {
@@ -28,7 +28,7 @@ fn letter(source: u8, byte: u8) -> Result<Item, CallError>
 }
 
 // The byte of a letter of one byte.
-fn byte_of(item: &Item) -> Option<u8> {
+pub(crate) fn byte_of(item: &Item) -> Option<u8> {
     match item {
         Item::Letter(letter) => letter.body.as_bytes().first().copied(),
         _ => None,
@@ -103,6 +103,46 @@ fn finds(ends: &mut Vec<LaneEnds>, letters: &[(u8, u8)]) -> bool
     pop(ends, 1).is_none()
 }
 
+// How many letters of rank 0 its ring to rank 1 takes, up to 66.
+fn room_of(ends: &mut Vec<LaneEnds>) -> Result<u8, CallError>
+    requires dest { 1 < vec_len ends.old }
+    requires family { OneCall (map lane_name ends.old.items) }
+    requires ready { AllReady ends.old.items }
+{
+    for byte in 0..66 {
+        if push(ends, 0, byte)?.is_some() {
+            return Ok(byte);
+        }
+    }
+    Ok(66)
+}
+
+// Whether these letters are left, by their receivers, and no more.
+fn is_left(residue: &Residue, wants: &[&[(u8, u8)]]) -> bool {
+    if residue.inboxes.len() != wants.len() {
+        return false;
+    }
+    for (inbox, want) in residue.inboxes.iter().zip(wants) {
+        if !are_letters(inbox, want) {
+            return false;
+        }
+    }
+    true
+}
+
+// Whether these are the letters of an inbox, in this order.
+fn are_letters(inbox: &[(WorldRank, Item)], wants: &[(u8, u8)]) -> bool {
+    if inbox.len() != wants.len() {
+        return false;
+    }
+    for ((source, item), (number, byte)) in inbox.iter().zip(wants) {
+        if source.number != *number || byte_of(item) != Some(*byte) {
+            return false;
+        }
+    }
+    true
+}
+
 // A rank sends to itself, and takes what it finds.
 fn to_itself<E: Ends, R: Wait>(rt: &R, end: &mut E, item: Item) -> Option<(WorldRank, Item)>
     requires ready { E.ready end.old }
@@ -133,14 +173,35 @@ fn one_place_in_each_ring(rt: HostRuntime) -> Result<(), Fail> {
     assert!(rt; finds(&mut ends, &[(0, b'A')]));
     assert_eq!(rt; push(&mut ends, 0, b'B')?, None);
     let residue = left_of(&rt, ends);
-    let wants: [&[(u8, u8)]; 2] = [&[], &[(0, b'B')]];
-    assert_eq!(rt; residue.inboxes.len(), wants.len());
-    for (inbox, want) in residue.inboxes.iter().zip(wants) {
-        assert_eq!(rt; inbox.len(), want.len());
-        for ((source, item), (number, byte)) in inbox.iter().zip(want) {
-            assert_eq!(rt; source.number, *number);
-            assert_eq!(rt; byte_of(item), Some(*byte));
-        }
+    assert!(rt; is_left(&residue, &[&[], &[(0, b'B')]]));
+    Ok(())
+}
+
+#[test]
+fn left_by_three(rt: HostRuntime) -> Result<(), Fail> {
+    let mut ends = lanes(rt.alloc(), 3, 3)?;
+    let letters = [
+        (2, b'a'),
+        (0, b'b'),
+        (1, b'c'),
+        (0, b'd'),
+        (2, b'e'),
+        (0, b'f'),
+    ];
+    assert!(rt; accepts_all(&mut ends, &letters)?);
+    assert_eq!(rt; pop(&mut ends, 1), Some((0, Some(b'b'))));
+    assert_eq!(rt; pop(&mut ends, 1), Some((1, Some(b'c'))));
+    let residue = left_of(&rt, ends);
+    let left = [(0, b'd'), (0, b'f'), (2, b'a'), (2, b'e')];
+    assert!(rt; is_left(&residue, &[&[], &left, &[]]));
+    Ok(())
+}
+
+#[test]
+fn rings_of_their_capacity(rt: HostRuntime) -> Result<(), Fail> {
+    for capacity in [1, 2, 64] {
+        let mut ends = lanes(rt.alloc(), 2, capacity)?;
+        assert_eq!(rt; room_of(&mut ends)?, capacity);
     }
     Ok(())
 }

@@ -2,7 +2,7 @@ use Rattle.std.proofs.Common.{map, ◌<◌, ◌++◌, ◌∷◌, [], get_or, ap,
 use Rattle.std.proofs.lemmas.List.{length-set}
 use Rattle.rtrb.specs.Ring.{sent, known_free}
 use Rattle.ulfm_carrier.specs.Lanes.{inlet_name, sent_by}
-use Rattle.ulfm_carrier.proofs.Places.{view_here, view_other}
+use Rattle.ulfm_carrier.proofs.Places.{at_read, view_here, view_or, view_other}
 use Rattle.ulfm_carrier.proofs.Rings.{outlet_names, sent_more, sent_same, ready_outs}
 use Rattle.ulfm_carrier.proofs.lane_ends.LaneEnds.push_now.Goals as goal
 
@@ -34,6 +34,20 @@ pub returns-in-Err-clause-pushed : goal.returns-in-Err-clause-pushed
 returns-in-Err-clause-pushed c =
     let e = c.args.self.now in
     (refl, ap (λ l. get_or l c.args.dest []) (sent_same e.me c.args.dest e.outs.items _ c.push.new.self c.index_mut-out.ensures.value c.in-Err.ensures.full.1))
+
+pub returns-in-Ok-clause-one_place : goal.returns-in-Ok-clause-one_place
+returns-in-Ok-clause-one_place c =
+    let e = c.args.self.now in
+    let low : c.args.dest < length e.outs.items = omega (arith, c.requires.dest, e.outs.ok) in
+    let now = view_here known_free e.outs.items c.args.dest c.push.new.self 0 low in
+    let was = view_or known_free e.outs.items c.args.dest c.index_mut-out.result.now 0 (at_read e.outs.items c.args.dest c.index_mut-out.result.now low c.index_mut-out.ensures.value) in
+    omega (arith, now, was, c.in-Ok.ensures.ok.1)
+
+pub returns-in-Ok-clause-other_rooms : goal.returns-in-Ok-clause-other_rooms
+returns-in-Ok-clause-other_rooms c = λ p apart. view_other known_free c.args.self.now.outs.items c.args.dest p c.push.new.self 0 apart
+
+pub returns-in-Err-clause-other_rooms : goal.returns-in-Err-clause-other_rooms
+returns-in-Err-clause-other_rooms c = λ p apart. view_other known_free c.args.self.now.outs.items c.args.dest p c.push.new.self 0 apart
 
 pub returns-in-Err-clause-full : goal.returns-in-Err-clause-full
 returns-in-Err-clause-full c =

@@ -1,0 +1,5 @@
+use Rattle.ulfm_carrier.specs.Lanes.{IsReady}
+use Rattle.ulfm_carrier.proofs.thread_tests.awaits_all.Given as goal
+
+abbrev pub invariant-loop-byte : goal.invariant-loop-byte
+invariant-loop-byte l = IsReady l.end
