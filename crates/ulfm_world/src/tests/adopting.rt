@@ -1,6 +1,6 @@
 //! Which decisions one rank adopts.
 
-use std::test::Fail;
+use std::alloc::Global;
 use ulfm_base::{CallError, Context, Decision, Item, RankSet, WorldRank};
 use ulfm_rank::Rank;
 
@@ -57,9 +57,9 @@ fn lists_second(rank: &Rank, set: RankSet) -> bool {
     }
 }
 
-/// Whether a rank refuses the proposal of another.
-fn refuses(rank: &mut Rank, other: &Rank) -> bool {
-    match proposed(other) {
+/// Whether a rank refuses a decision.
+fn refuses(rank: &mut Rank, decision: Option<Decision>) -> bool {
+    match decision {
         Some(decision) => matches!(
             rank.adopt(rank.world(), decision),
             Err(CallError::NotMember)
@@ -99,14 +99,49 @@ fn knew_before(rank: &mut Rank) -> bool {
         && lists_second(rank, third)
 }
 
+/// The proposal of the first rank.
+fn first_proposal(alloc: Global) -> Option<Decision> {
+    let Ok(mut rank) = Rank::start(alloc, 0, 3) else {
+        return None;
+    };
+    if !hears_of_both(&mut rank) {
+        return None;
+    }
+    proposed(&rank)
+}
+
+/// The proposal of the second rank.
+fn second_proposal(alloc: Global) -> Option<Decision> {
+    let Ok(mut rank) = Rank::start(alloc, 1, 3) else {
+        return None;
+    };
+    if !knew_before(&mut rank) {
+        return None;
+    }
+    proposed(&rank)
+}
+
+/// Whether the first rank refuses the proposal of the second, and adopts its own.
+fn adopts_its_own_alone(alloc: Global) -> bool {
+    let Ok(mut rank) = Rank::start(alloc, 0, 3) else {
+        return false;
+    };
+    if !hears_of_both(&mut rank) {
+        return false;
+    }
+    refuses(&mut rank, second_proposal(alloc)) && adopts_its_own(&mut rank)
+}
+
+/// Whether the third rank refuses the proposal of the first, which leaves it out.
+fn is_left_out(alloc: Global) -> bool {
+    let Ok(mut rank) = Rank::start(alloc, 2, 3) else {
+        return false;
+    };
+    enters(&mut rank) && refuses(&mut rank, first_proposal(alloc))
+}
+
 #[test]
-fn a_decision_with_another_set_of_an_entry_is_refused(rt: HostRuntime) -> Result<(), Fail> {
-    let mut first = Rank::start(rt.alloc(), 0, 3)?;
-    let mut second = Rank::start(rt.alloc(), 1, 3)?;
-    let mut third = Rank::start(rt.alloc(), 2, 3)?;
-    let ready = hears_of_both(&mut first) && knew_before(&mut second) && enters(&mut third);
-    let refused = refuses(&mut first, &second) && refuses(&mut third, &first);
-    let adopted = adopts_its_own(&mut first);
-    assert!(rt; ready && refused && adopted);
-    Ok(())
+fn a_decision_with_another_set_of_an_entry_is_refused(rt: HostRuntime) {
+    assert!(rt; adopts_its_own_alone(rt.alloc()));
+    assert!(rt; is_left_out(rt.alloc()));
 }
