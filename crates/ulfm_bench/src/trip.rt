@@ -1,0 +1,123 @@
+//! Trips of letters between two threads, and the time that they took.
+use crate::way::Way;
+use std::sync::Wait;
+use std::thread::Threads;
+use std::time::{Clock, Duration, Instant};
+use std::{io, thread};
+use ulfm_base::Item;
+
+/// How often an end tries again where there is no room, or nothing to pop.
+const TRIES: u64 = 1_000_000_000;
+
+/// Pushes an item, as often as it takes: whether it went out.
+fn push_one<W: Way>(way: &mut W, item: Item) -> bool {
+    let mut item = item;
+    for _ in 0..TRIES {
+        match way.push(item) {
+            Ok(()) => return true,
+            Err(back) => item = back,
+        }
+        thread::yield_now();
+    }
+    false
+}
+
+/// Pops an item, as often as it takes: whether one came.
+fn pop_one<W: Way>(way: &mut W) -> bool {
+    for _ in 0..TRIES {
+        if way.pop().is_some() {
+            return true;
+        }
+        thread::yield_now();
+    }
+    false
+}
+
+/// Pushes so many copies of an item: whether each went out.
+fn push_all<W: Way>(way: &mut W, item: &Item, count: u32) -> bool {
+    for _ in 0..count {
+        if !push_one(way, *item) {
+            return false;
+        }
+    }
+    true
+}
+
+/// Pops so many items: whether each came.
+fn pop_all<W: Way>(way: &mut W, count: u32) -> bool {
+    for _ in 0..count {
+        if !pop_one(way) {
+            return false;
+        }
+    }
+    true
+}
+
+/// Sends so many items, each after the answer to the one before: whether each came back.
+fn ask_all<W: Way>(way: &mut W, item: &Item, count: u32) -> bool {
+    for _ in 0..count {
+        if !push_one(way, *item) || !pop_one(way) {
+            return false;
+        }
+    }
+    true
+}
+
+/// Answers so many items: whether each went back.
+fn answer_all<W: Way>(way: &mut W, item: &Item, count: u32) -> bool {
+    for _ in 0..count {
+        if !pop_one(way) || !push_one(way, *item) {
+            return false;
+        }
+    }
+    true
+}
+
+/// How long so many items took from one thread to another, if all came.
+///
+/// # Errors
+///
+/// Those of the clock, and of a thread that can't be started.
+pub fn one_way<R: Threads + Wait + Clock, W: Way + Send + 'static>(
+    rt: &R,
+    sender: W,
+    receiver: W,
+    item: Item,
+    count: u32,
+) -> io::Result<Option<Duration>> {
+    let mut receiver = receiver;
+    let start = Instant::now(rt)?;
+    let child = thread::spawn(rt, move || {
+        let mut sender = sender;
+        push_all(&mut sender, &item, count)
+    })?;
+    let came = pop_all(&mut receiver, count);
+    let went = child.join(rt);
+    let time = start.elapsed(rt)?;
+    Ok(if came && went { Some(time) } else { None })
+}
+
+/// How long so many items took there and back, each after the one before, if all came back.
+///
+/// # Errors
+///
+/// Those of the clock, and of a thread that can't be started.
+pub fn there_and_back<R: Threads + Wait + Clock, W: Way + Send + 'static>(
+    rt: &R,
+    asker: W,
+    answerer: W,
+    question: Item,
+    answer: Item,
+    count: u32,
+) -> io::Result<Option<Duration>> {
+    let mut asker = asker;
+    let start = Instant::now(rt)?;
+    let child = thread::spawn(rt, move || {
+        let mut answerer = answerer;
+        answer_all(&mut answerer, &answer, count)
+    })?;
+    let came = ask_all(&mut asker, &question, count);
+    let went = child.join(rt);
+    let time = start.elapsed(rt)?;
+    Ok(if came && went { Some(time) } else { None })
+}

@@ -1,0 +1,92 @@
+//! Ways for items from one thread to another and back.
+ghost use Rattle.std.specs.Prelude.{◌<◌, vec_len, IsTrue};
+ghost use Rattle.ulfm_carrier.specs.Family.{ComesFrom};
+ghost use Rattle.ulfm_carrier.specs.Lanes.{IsReady};
+
+use rtrb::{Consumer, Producer, PushError};
+use ulfm_base::{Item, WorldRank};
+use ulfm_carrier::{Ends, LaneEnds};
+
+/// What a thread holds of a way there and a way back.
+pub trait Way: Drop {
+    /// The rank whose letters this end pushes.
+    fn me(&self) -> WorldRank;
+
+    /// Pushes an item of this rank, and hands it back where there is no room.
+    fn push(&mut self, item: Item) -> Result<(), Item>;
+
+    /// Pops an item, if one is there.
+    fn pop(&mut self) -> Option<Item>;
+}
+
+/// A rank's end of lanes of two ranks.
+#[derive(Drop)]
+pub struct Lane {
+    end: LaneEnds,
+    other: u8,
+    ghost ready: { IsReady end },
+    ghost inside: { other < vec_len end.outs },
+}
+
+impl Lane {
+    /// The end, by which items go to the other rank.
+    pub fn new(end: LaneEnds, other: u8) -> Lane
+        requires ready { IsReady end }
+        requires inside { other < vec_len end.outs }
+    {
+        Lane { end, other }
+    }
+}
+
+impl Way for Lane {
+    fn me(&self) -> WorldRank {
+        self.end.me()
+    }
+
+    fn push(&mut self, item: Item) -> Result<(), Item> {
+        if is_of(&item, self.end.me()) {
+            return self.end.push_now(self.other, item);
+        }
+        Err(item)
+    }
+
+    fn pop(&mut self) -> Option<Item> {
+        let (_, item) = self.end.pop_now()?;
+        Some(item)
+    }
+}
+
+/// Two rings of the kit, with nothing round them.
+#[derive(Drop)]
+pub struct Rings {
+    pub me: WorldRank,
+    pub out: Producer<Item>,
+    pub inlet: Consumer<Item>,
+}
+
+impl Way for Rings {
+    fn me(&self) -> WorldRank {
+        self.me
+    }
+
+    fn push(&mut self, item: Item) -> Result<(), Item> {
+        match self.out.push(item) {
+            Ok(()) => Ok(()),
+            Err(PushError::Full(back)) => Err(back),
+        }
+    }
+
+    fn pop(&mut self) -> Option<Item> {
+        self.inlet.pop().ok()
+    }
+}
+
+/// Whether an item is one that this rank may push.
+fn is_of(item: &Item, rank: WorldRank) -> bool
+    ensures { IsTrue result → ComesFrom rank.number item.now }
+{
+    match item {
+        Item::Letter(letter) => letter.envelope.source.number == rank.number,
+        _ => true,
+    }
+}
