@@ -55,6 +55,12 @@ impl<T: Drop> From<AllocFailed<T>> for JobFault {
 /// Why a run fails.
 #[derive(Clone, Copy, Debug, PartialEq, Eq, Error)]
 pub enum RunFault {
+    /// The number of ends or of deciders isn't that of the ranks, or an end stands at another place than its number.
+    #[error("the ends or deciders don't fit the job")]
+    BadEnds,
+    /// A thread could not be started.
+    #[error("a thread could not be started")]
+    NoThread,
     /// A growth was refused outside the polls of steps.
     #[error("out of memory")]
     OutOfMemory,

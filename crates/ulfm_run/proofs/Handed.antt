@@ -1,0 +1,41 @@
+-- Lists that are handed over, one element after another, and what came of each.
+use Rattle.std.proofs.Common.{◌≡◌, ◌<◌, ◌≤◌, ◌+◌, ℕ, zero, suc, List, [], ◌∷◌, ◌++◌, map, length, refl, ap, sym, ◌∙◌, subst, append_assoc, append-nil, arith}
+use Rattle.std.specs.Prelude.{slice_get, Some, None, Option, All}
+use Rattle.std.proofs.lemmas.List.{map-append, length-map}
+use Rattle.std.proofs.lemmas.Option.{same_Some}
+use Rattle.ulfm_base.specs.declared.item.Item.{Item}
+use Rattle.ulfm_board.specs.Names.{OneBoard}
+use Rattle.ulfm_carrier.specs.Family.{at, IsFresh}
+use Rattle.ulfm_run.specs.Fields.{EachFresh}
+use Rattle.ulfm_run.proofs.Flowing.{there}
+
+pub fresh_first : {E : Type 0} (count : E → ℕ) (pushed taken : E → ℕ → List Item) (ready : E → Type 0) (n : ℕ) (all rest : List E) (x : E) → EachFresh count pushed taken ready n all → all ≡ x ∷ rest → IsFresh count pushed taken ready n x
+fresh_first count pushed taken ready n all rest x fresh is = fresh 0 x (ap (λ l. slice_get l 0) is)
+
+pub fresh_rest : {E : Type 0} (count : E → ℕ) (pushed taken : E → ℕ → List Item) (ready : E → Type 0) (n : ℕ) (all rest : List E) (x : E) → EachFresh count pushed taken ready n all → all ≡ x ∷ rest → EachFresh count pushed taken ready n rest
+fresh_rest count pushed taken ready n all rest x fresh is = λ k e here. fresh (suc k) e (ap (λ l. slice_get l (suc k)) is ∙ here)
+
+-- the next of what is left goes to the end of what is done
+pub handed : {H X : Type 0} (f : H → X) (done done' : List H) (h : H) (x : X) (left left' all : List X) → map f done ++ left ≡ all → left ≡ x ∷ left' → done' ≡ done ++ h ∷ [] → f h ≡ x → map f done' ++ left' ≡ all
+handed f done done' h x left left' all was next more is =
+    ap (λ l. map f l ++ left') more ∙ ap (λ l. l ++ left') (map-append f done (h ∷ [])) ∙ append_assoc (map f done) (f h ∷ []) left' ∙ ap (λ y. map f done ++ y ∷ left') is
+    ∙ ap (λ l. map f done ++ l) (sym next) ∙ was
+
+pub at_map : {X Y : Type 0} (f : X → Y) (xs : List X) (k : ℕ) (x : X) → at xs k x → at (map f xs) k (f x)
+at_map f [] k x h = let bad : ⊥ = cc in absurd bad
+at_map f (y ∷ xs) zero x h = ap (λ z. Some (f z)) (same_Some y x h)
+at_map f (y ∷ xs) (suc k) x h = at_map f xs k x h
+
+-- what stands at a place of a mapped list comes from there
+pub from_map : {X Y : Type 0} (f : X → Y) (xs : List X) (k : ℕ) (y : Y) → at (map f xs) k y → (x : X) × at xs k x × (f x ≡ y)
+from_map f [] k y h = let bad : ⊥ = cc in absurd bad
+from_map f (x ∷ xs) zero y h = (x, refl, same_Some (f x) y h)
+from_map f (x ∷ xs) (suc k) y h = from_map f xs k y h
+
+-- lists with equal elements at each place are equal under their functions
+pub same_maps : {X Y Z : Type 0} (f : X → Z) (g : Y → Z) (xs : List X) (ys : List Y) → length ys ≡ length xs → ((k : ℕ) (x : X) (y : Y) → at xs k x → at ys k y → g y ≡ f x) → map g ys ≡ map f xs
+same_maps f g [] [] n h = refl
+same_maps f g [] (y ∷ ys) n h = absurd (omega (arith, n))
+same_maps f g (x ∷ xs) [] n h = absurd (omega (arith, n))
+same_maps {X} {Y} {Z} f g (x ∷ xs) (y ∷ ys) n h =
+    ap (λ (z : Z). z ∷ map g ys) (h zero x y refl refl) ∙ ap (λ (zs : List Z). f x ∷ zs) (same_maps f g xs ys (omega (arith, n)) (λ k a b p q. h (suc k) a b p q))

@@ -1,0 +1,160 @@
+-- A rank and its end stay together while items go from one to the other.
+use Rattle.std.proofs.Common.{◌≡◌, ◌≢◌, ℕ, ◌<◌, ◌≤◌, Bool, true, false, cond, eqb, List, [], ◌∷◌, ◌++◌, length, refl, ap, sym, subst, ◌∙◌, arith, inl, inr, append-nil, get_or, set, get_or-set_other}
+use Rattle.std.specs.Prelude.{All, ◌||◌}
+use Rattle.std.proofs.lemmas.Bool.{cases_eq, eq-eqb, ne_eqb}
+use Rattle.ulfm_base.specs.declared.rank.WorldRank.{WorldRank}
+use Rattle.ulfm_base.specs.declared.item.Item.{Item}
+use Rattle.ulfm_base.specs.declared.item.Item.TheVariants.{Letter as Mail}
+use Rattle.ulfm_carrier.specs.Family.{ComesFrom}
+use Rattle.ulfm_rank.specs.declared.entry.Entry.{Entry}
+use Rattle.ulfm_rank.specs.declared.entry.Entry.TheVariants.{Took}
+use Rattle.ulfm_rank.specs.Calls.{IsFrom}
+use Rattle.ulfm_rank.specs.Facts.{took, took_by, is_stop, is_stopped}
+use Rattle.ulfm_rank.specs.State.{State, IsState, logged, owes, outbox, gone_out, mark_at, marked, no_mark, Leaves}
+use Rattle.ulfm_script.specs.Player.{Player, View, with_rank}
+use Rattle.ulfm_run.specs.Joined.{IsSigned, IsJoined, Moves}
+use Rattle.ulfm_run.proofs.Logs.{took-push, stopped-push}
+use Rattle.ulfm_run.proofs.Quiet.{calm-took}
+use Rattle.ulfm_run.proofs.Signed.{IsItemOf, front_signed, from_signed}
+
+-- what went out to another rank
+out_other : (old new : State) (d x : ℕ) (item : Item) → Leaves old new d item → x ≢ d → gone_out new x ≡ gone_out old x
+out_other old new d x item k other =
+    let G : State → Type 0 = λ (s : State). gone_out s x ≡ gone_out old x in
+    subst G (sym k.marked) (rw (get_or-set_other old.marks d x (marked old (mark_at old d)) no_mark other) refl)
+
+-- the first item of an outbox may be pushed by the end
+pub front_comes : (r : State) (d : ℕ) (item : Item) (rest : List Item) → All (IsSigned r.me) r.log → outbox r d ≡ item ∷ rest → ComesFrom r.me item
+front_comes r d item rest all front = comes item (front_signed r d item rest all front)
+  where
+    comes : (i : Item) → IsItemOf r.me i → ComesFrom r.me i
+    comes (Mail letter) h = h
+    comes _ h = tt
+
+-- an item that the end popped may be taken
+pub popped_from : (source : WorldRank) (item : Item) → ComesFrom source.number item → IsFrom source item
+popped_from source item h = from_signed source item (comes item h)
+  where
+    comes : (i : Item) → ComesFrom source.number i → IsItemOf source.number i
+    comes (Mail letter) h = h
+    comes _ h = tt
+
+module _ {E N : Type 0} (name : E → N) (place count : E → ℕ) (pushed taken : E → ℕ → List Item) (ready : E → Type 0) where
+  abbrev pub Joined : State → E → Type 0
+  Joined r e = IsJoined place count pushed taken ready r e
+
+  abbrev pub Went : View → E → View → E → Type 0
+  Went v e w f = Moves name place count pushed taken ready v e w f
+
+  -- nothing moved
+  pub moves-none : (v w : View) (e : E) → Joined v.player.rank e → w.player ≡ v.player → w.room ≡ v.room → Went v e w e
+  moves-none v w e h same room = record {
+    same_end = refl;
+    joined = let J : Player → Type 0 = λ (p : Player). Joined p.rank e in subst J (sym same) h;
+    me = ap (λ (p : Player). p.rank.me) same;
+    ranks = ap (λ (p : Player). p.rank.ranks) same;
+    stops = ap (λ (p : Player). is_stopped p.rank.log) same;
+    only = let W : Player → Type 0 = λ (p : Player). p ≡ with_rank v.player p.rank in subst W (sym same) refl;
+    room = room;
+  }
+
+  pub moves-then : (u v w : View) (e f g : E) → Went u e v f → Went v f w g → Went u e w g
+  moves-then u v w e f g h k = record {
+    same_end = k.same_end ∙ h.same_end;
+    joined = k.joined;
+    me = k.me ∙ h.me;
+    ranks = k.ranks ∙ h.ranks;
+    stops = k.stops ∙ h.stops;
+    only = k.only ∙ ap (λ (p : Player). with_rank p w.player.rank) h.only;
+    room = k.room ∙ h.room;
+  }
+
+  -- the end pushed what left the outbox
+  pub moves-pushed : (v w : View) (e f : E) (d : ℕ) (item : Item) → Joined v.player.rank e → d < v.player.rank.ranks → Leaves v.player.rank w.player.rank d item → w.player ≡ with_rank v.player w.player.rank → w.room ≡ v.room →
+      name f ≡ name e → place f ≡ place e → count f ≡ count e → ready f → ((p : ℕ) → taken f p ≡ taken e p) → ((p : ℕ) → p ≢ d → pushed f p ≡ pushed e p) → pushed f d ≡ pushed e d ++ item ∷ [] → Went v e w f
+  moves-pushed v w e f d item h inside leaves only room name_same place_same count_same is_ready taken_same others here =
+      let me : w.player.rank.me ≡ v.player.rank.me = ap (λ (s : State). s.me) leaves.marked in
+      let ranks : w.player.rank.ranks ≡ v.player.rank.ranks = ap (λ (s : State). s.ranks) leaves.marked in
+      let log : w.player.rank.log ≡ v.player.rank.log = ap (λ (s : State). s.log) leaves.marked in
+      let S : ℕ → List Entry → Type 0 = λ m l. All (IsSigned m) l in
+      record {
+        same_end = name_same;
+        joined = record {
+          is_ready = is_ready;
+          placed = place_same ∙ h.placed ∙ sym me;
+          counted = count_same ∙ h.counted ∙ sym ranks;
+          sound = leaves.keeps h.sound;
+          signed = subst (λ m. S m w.player.rank.log) (sym me) (subst (λ (l : List Entry). S v.player.rank.me l) (sym log) h.signed);
+          sent = λ x k. elim (cases_eq x d) [
+            | inl same ↦ ap (pushed f) same ∙ here ∙ ap (λ (xs : List Item). xs ++ item ∷ []) (h.sent d inside) ∙ sym leaves.out ∙ ap (gone_out w.player.rank) (sym same)
+            | inr other ↦ others x other ∙ h.sent x (omega (arith, k, ranks)) ∙ sym (out_other v.player.rank w.player.rank d x item leaves other)
+          ];
+          took = λ s. taken_same s ∙ h.took s ∙ ap (λ (l : List Entry). took l s) (sym log);
+        };
+        me = me;
+        ranks = ranks;
+        stops = ap is_stopped log;
+        only = only;
+        room = room;
+      }
+
+  -- the end refused what left the outbox, and it is back there
+  pub moves-returned : (v w : View) (e f : E) (d : ℕ) → Joined v.player.rank e → w.player ≡ v.player → w.room ≡ v.room → name f ≡ name e → place f ≡ place e → count f ≡ count e → ready f →
+      ((p : ℕ) → taken f p ≡ taken e p) → ((p : ℕ) → p ≢ d → pushed f p ≡ pushed e p) → pushed f d ≡ pushed e d → Went v e w f
+  moves-returned v w e f d h same room name_same place_same count_same is_ready taken_same others here =
+      let still : Joined v.player.rank f = record {
+        is_ready = is_ready;
+        placed = place_same ∙ h.placed;
+        counted = count_same ∙ h.counted;
+        sound = h.sound;
+        signed = h.signed;
+        sent = λ x k. elim (cases_eq x d) [
+          | inl at ↦ ap (pushed f) at ∙ here ∙ ap (pushed e) (sym at) ∙ h.sent x k
+          | inr other ↦ others x other ∙ h.sent x k
+        ];
+        took = λ s. taken_same s ∙ h.took s;
+      } in
+      let n = moves-none v w f still same room in
+      record { same_end = name_same; joined = n.joined; me = n.me; ranks = n.ranks; stops = n.stops; only = n.only; room = n.room }
+
+  -- the log took what the end popped
+  pub moves-taken : (v w : View) (e f : E) (source : WorldRank) (item : Item) → Joined v.player.rank e → w.player ≡ with_rank v.player (logged v.player.rank (Took source item)) → w.room ≡ v.room →
+      name f ≡ name e → place f ≡ place e → count f ≡ count e → ready f → ((p : ℕ) → pushed f p ≡ pushed e p) → taken f source.number ≡ taken e source.number ++ item ∷ [] → ((p : ℕ) → p ≢ source.number → taken f p ≡ taken e p) → Went v e w f
+  moves-taken v w e f source item h same room name_same place_same count_same is_ready pushed_same here others =
+      let calm = calm-took v.player.rank source item h.sound in
+      let new : State = logged v.player.rank (Took source item) in
+      let J : Player → Type 0 = λ (p : Player). Joined p.rank f in
+      record {
+        same_end = name_same;
+        joined = subst J (sym same) (record {
+          is_ready = is_ready;
+          placed = place_same ∙ h.placed;
+          counted = count_same ∙ h.counted;
+          sound = calm.sound;
+          signed = calm.signed h.signed;
+          sent = λ x k. pushed_same x ∙ h.sent x k ∙ sym (calm.out x k);
+          took = λ s. elim (cases_eq s source.number) [
+            | inl at ↦
+                ap (taken f) at ∙ here ∙ ap (λ (xs : List Item). xs ++ item ∷ []) (h.took source.number)
+                ∙ ap (λ i. took v.player.rank.log i ++ item ∷ []) (sym at)
+                ∙ ap (λ b. took v.player.rank.log s ++ cond b (item ∷ []) []) (sym (eq-eqb source.number s (sym at)))
+                ∙ sym (took-push v.player.rank.log (Took source item) s)
+            | inr other ↦
+                others s other ∙ h.took s
+                ∙ sym (append-nil (took v.player.rank.log s))
+                ∙ ap (λ b. took v.player.rank.log s ++ cond b (item ∷ []) []) (sym (ne_eqb source.number s (λ x. other (sym x))))
+                ∙ sym (took-push v.player.rank.log (Took source item) s)
+          ];
+        });
+        me = ap (λ (p : Player). p.rank.me) same;
+        ranks = ap (λ (p : Player). p.rank.ranks) same;
+        stops = ap (λ (p : Player). is_stopped p.rank.log) same ∙ stopped-push v.player.rank.log (Took source item) ∙ or_none (is_stopped v.player.rank.log);
+        only = let W : Player → Type 0 = λ (p : Player). p ≡ with_rank v.player p.rank in subst W (sym same) refl;
+        room = room;
+      }
+    where
+      or_none : (b : Bool) → (b || false) ≡ b
+      or_none true = refl
+      or_none false = refl
+
+pub ruleset going = (moves-none, moves-then)

@@ -1,0 +1,14 @@
+pub mod Logs
+pub mod Quiet
+pub mod Polls
+pub mod Signed
+pub mod Scripts
+pub mod Advance
+pub mod Decisions
+pub mod Joining
+pub mod Polled
+pub mod Working
+pub mod Starting
+pub mod Flowing
+pub mod Handed
+pub mod Reporting

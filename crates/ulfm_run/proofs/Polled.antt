@@ -1,0 +1,76 @@
+-- One poll of a rank's next step.
+use Rattle.std.proofs.Common.{◌≡◌, ℕ, ◌+◌, ◌<◌, ◌≤◌, Bool, true, false, List, length, refl, ap, sym, subst, ◌∙◌, arith, inl, inr, ◌⊎◌, Option, Some, None, MatchOption, slice_get}
+use Rattle.std.proofs.lemmas.Option.{slice_get_within}
+use Rattle.ulfm_base.specs.declared.context.Context.{Context}
+use Rattle.ulfm_rank.specs.Facts.{is_stopped}
+use Rattle.ulfm_rank.specs.State.{State, IsState}
+use Rattle.ulfm_script.specs.declared.step.Step.{Step}
+use Rattle.ulfm_script.specs.declared.step.Step.TheVariants.{Shrink}
+use Rattle.ulfm_script.specs.declared.answer.Called.{Called}
+use Rattle.ulfm_script.specs.declared.answer.Called.TheVariants.{Answered, NotYet}
+use Rattle.ulfm_script.specs.Deciding.{Known, IsDecided}
+use Rattle.ulfm_script.specs.Job.{Seen, IsJob, script_at}
+use Rattle.ulfm_script.specs.Player.{Polls as PollsBy, Player, View, IsFree, IsCalled, PollAnswers, PollOpens, Left, awaits_decision}
+use Rattle.ulfm_run.specs.Script.{FollowsAt, left_at}
+use Rattle.ulfm_run.specs.Joined.{Quiet, Polls}
+use Rattle.ulfm_run.proofs.Polls.{quiet-called, opens_add, stopped-adds}
+use Rattle.ulfm_run.proofs.Scripts.{polls_small}
+use Rattle.ulfm_run.proofs.Advance.{Ready, advance-called, advance-left}
+use Rattle.ulfm_run.proofs.Decisions.{ready-decided, advance-decided, quiet-decided}
+
+-- no other step than the next one stands open
+pub next-free : (script : List Step) (turns : ℕ) (p : Player) (asked : Step) → FollowsAt script turns p → slice_get script (length p.done) ≡ Some asked → IsFree p asked
+next-free script turns p asked h next = free p.current h.current
+  where
+    free : (o : Option Step) → MatchOption o (p.polls ≡ 0) (λ s. (slice_get script (length p.done) ≡ Some s) × (p.polls < turns)) → (o ≡ None) ⊎ (o ≡ Some asked)
+    free None k = inl refl
+    free (Some s) k = inr (sym k.0 ∙ next)
+
+ready-at : (job : Seen) (me : ℕ) (p : Player) (asked : Step) → IsJob job → FollowsAt (script_at job me) job.turns p → is_stopped p.rank.log ≡ false → slice_get (script_at job me) (length p.done) ≡ Some asked → Ready (script_at job me) job.turns p asked
+ready-at job me p asked is_job h running next = record {
+  follows = h;
+  running = running;
+  few = polls_small (script_at job me) job.turns p h is_job.some_turn;
+  next = next;
+  inside = slice_get_within (script_at job me) (length p.done) asked next;
+}
+
+-- one call that is answered, or leaves the step open with polls to spare
+pub polls-call : (job : Seen) (me : ℕ) (v w : View) (asked : Step) → IsJob job → IsState v.player.rank → FollowsAt (script_at job me) job.turns v.player → is_stopped v.player.rank.log ≡ false → slice_get (script_at job me) (length v.player.done) ≡ Some asked →
+    IsCalled v.player asked w.player → (w.player.current ≡ None) ⊎ (w.player.polls < job.turns) → w.room + length w.player.done ≡ v.room + length v.player.done → Polls job me v w
+polls-call job me v w asked is_job sound follows running next called few room =
+    let a = advance-called (script_at job me) job.turns v.player asked w.player (omega (arith, is_job.most_turns)) (ready-at job me v.player asked is_job follows running next) called few in
+    record { quiet = quiet-called v.player asked w.player sound running called; follows = a.follows; room = room; falls = a.falls }
+
+-- a poll that answered its step left none open
+pub answered_none : (told : Called) (old : Player) (asked : Step) (new : Player) → told ≡ Answered → PollsBy told old asked new → new.current ≡ None
+answered_none Answered old asked new e h = ap (λ (p : Player). p.current) h.only
+answered_none NotYet old asked new e h = let bad : ⊥ = cc in absurd bad
+
+-- a poll that was spent left its step open
+pub spent_open : (old : Player) (asked : Step) (new : Player) → IsCalled old asked new → 0 < new.polls → new.current ≡ Some asked
+spent_open old asked new (inl a) spent = absurd (omega (arith, spent, ap (λ (p : Player). p.polls) a.only))
+spent_open old asked new (inr o) spent = ap (λ (p : Player). p.current) o.only
+
+-- one call that leaves its step open, which is then given up
+pub polls-leave : (job : Seen) (me : ℕ) (v u w : View) (asked : Step) → IsJob job → IsState v.player.rank → FollowsAt (script_at job me) job.turns v.player → is_stopped v.player.rank.log ≡ false → slice_get (script_at job me) (length v.player.done) ≡ Some asked →
+    IsCalled v.player asked u.player → Left u.player w.player → job.turns ≤ u.player.polls → w.room + length w.player.done ≡ v.room + length v.player.done → Polls job me v w
+polls-leave job me v u w asked is_job sound follows running next called left last room =
+    let a = advance-left (script_at job me) job.turns v.player asked u.player w.player left.step (omega (arith, is_job.most_turns)) (ready-at job me v.player asked is_job follows running next) called left.was_open left last in
+    let Q : State → Type 0 = λ (r : State). Quiet v.player.rank r in
+    let same : w.player.rank ≡ u.player.rank = ap (λ (p : Player). p.rank) left.only in
+    record { quiet = subst Q (sym same) (quiet-called v.player asked u.player sound running called); follows = a.follows; room = room; falls = a.falls }
+
+-- an open shrink that is decided
+pub polls-decide : (job : Seen) (me : ℕ) (v w : View) (comm : Context) (board : Option (List ℕ)) (known later : Known) → IsState v.player.rank → FollowsAt (script_at job me) job.turns v.player → is_stopped v.player.rank.log ≡ false →
+    IsDecided v.player comm board known w.player later → w.room + length w.player.done ≡ v.room + length v.player.done → Polls job me v w
+polls-decide job me v w comm board known later sound follows running d room =
+    let a = advance-decided (script_at job me) job.turns v.player comm board known later w.player (ready-decided (script_at job me) job.turns v.player (Shrink comm) follows running d.waits) d in
+    record { quiet = quiet-decided v.player comm board known later w.player sound d; follows = a.follows; room = room; falls = a.falls }
+
+-- a poll after one that found nothing to decide
+pub polls-after : (job : Seen) (me : ℕ) (v u w : View) → u.player ≡ v.player → u.room + length u.player.done ≡ v.room + length v.player.done → Polls job me u w → Polls job me v w
+polls-after job me v u w same room h =
+    let Q : Player → Type 0 = λ (p : Player). Quiet p.rank w.player.rank in
+    let L : Player → Type 0 = λ (p : Player). left_at (script_at job me) job.turns w.player < left_at (script_at job me) job.turns p in
+    record { quiet = subst Q same h.quiet; follows = h.follows; room = h.room ∙ room; falls = subst L same h.falls }

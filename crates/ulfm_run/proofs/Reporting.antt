@@ -1,0 +1,100 @@
+-- From what the threads gave back to the report of a run.
+use Rattle.std.proofs.Common.{◌≡◌, ℕ, ◌<◌, List, length, map, refl, ap, sym, ◌∙◌, subst, arith, get_or}
+use Rattle.std.specs.Prelude.{slice_get, Some, Option, All}
+use Rattle.std.proofs.lemmas.List.{length-map}
+use Rattle.std.proofs.lemmas.Option.{slice_get_within}
+use Rattle.ulfm_base.specs.declared.item.Item.{Item}
+use Rattle.ulfm_base.specs.declared.rank.WorldRank.{WorldRank}
+use Rattle.std.specs.declared.alloc.Global.{Global}
+use Rattle.std.specs.declared.vec.Vec.{Vec}
+use Rattle.ulfm_carrier.specs.Family.{at, InPlace, Keeps, Settled}
+use Rattle.ulfm_script.specs.Job.{Seen, script_at, through_stop}
+use Rattle.ulfm_script.specs.Report.{Report}
+use Rattle.ulfm_run.specs.declared.worker.Ran.{Ran}
+use Rattle.ulfm_run.specs.Fields.{report_in, end_in, decider_in, Fits, WerePlayed}
+use Rattle.ulfm_run.specs.Flow.{AllCarry}
+use Rattle.ulfm_run.specs.Played.{IsPlayed, HasPlayed}
+use Rattle.ulfm_run.specs.Script.{step_of}
+use Rattle.ulfm_run.proofs.Flowing.{there, AllPlayed, carried, ordered}
+use Rattle.ulfm_run.proofs.Handed.{at_map, from_map, same_maps}
+
+-- ends and deciders fit a job
+pub fits_of : {E D : Type 0} (place : E → ℕ) (job : Seen) (ends : List E) (deciders : List D) → length ends ≡ job.ranks → length deciders ≡ job.ranks → InPlace place ends → Fits place job ends deciders
+fits_of place job ends deciders e d placed = record { end_each = e; decider_each = d; placed = placed }
+
+module _ {E D N : Type 0} (name : E → N) (place count : E → ℕ) (pushed taken : E → ℕ → List Item) (ready : E → Type 0) (board : D → Option (List ℕ)) (job : Seen) (ends : List E) (deciders : List D) (ran : List (Ran E D)) (h : WerePlayed name place count pushed taken ready board job ends deciders ran) where
+  -- the ends that came back have the names of those that were given
+  pub same_names : map name (map end_in ran) ≡ map name ends
+  same_names =
+      same_maps name name ends (map end_in ran) (length-map ran end_in ∙ h.as_many)
+      (λ k e f p q. let r = from_map end_in ran k f q in ap name (sym r.2) ∙ (h.played k e r.0 p r.1).same_end)
+
+  -- none was gathered yet
+  pub all_ready : (k : ℕ) (f : E) → at (map end_in ran) k f → ready f
+  all_ready k f q =
+      let r = from_map end_in ran k f q in
+      let inside : k < length ran = slice_get_within ran k r.0 r.1 in
+      let e = there ends k (omega (arith, inside, h.as_many)) in
+      let R : E → Type 0 = ready in
+      subst R r.2 (h.played k e.0 r.0 e.1 r.1).joined.is_ready
+
+  pub all_played : AllPlayed name place count pushed taken ready job ends (map report_in ran) (map end_in ran)
+  all_played k e r f p q s =
+      let a = from_map report_in ran k r q in
+      let b = from_map end_in ran k f s in
+      let same : Some b.0 ≡ Some a.0 = sym b.1 ∙ a.1 in
+      let one : b.0 ≡ a.0 = cc in
+      let P : Report → E → Type 0 = λ (x : Report) (y : E). IsPlayed name place count pushed taken ready job e x y in
+      subst (λ (x : Report). P x f) a.2 (subst (λ (y : E). P a.0.report y) (ap end_in (sym one) ∙ b.2) (h.played k e a.0 p a.1))
+
+  -- each rank went through its script
+  pub all_went : InPlace place ends → (k : ℕ) (r : Report) → at (map report_in ran) k r → HasPlayed job k r
+  all_went placed k r q =
+      let a = from_map report_in ran k r q in
+      let inside : k < length ran = slice_get_within ran k a.0 a.1 in
+      let e = there ends k (omega (arith, inside, h.as_many)) in
+      let p = h.played k e.0 a.0 e.1 a.1 in
+      let H : Report → Type 0 = λ (x : Report). HasPlayed job k x in
+      subst H a.2 (record {
+        counted = p.counted;
+        steps = p.steps ∙ ap (λ i. through_stop (script_at job i)) (placed k e.0 e.1);
+        patient = p.patient;
+      })
+
+  -- the deciders that came back are seats of the boards of those that were given
+  pub same_boards : length deciders ≡ length ends → map board (map decider_in ran) ≡ map board deciders
+  same_boards many =
+      same_maps board board deciders (map decider_in ran) (length-map ran decider_in ∙ h.as_many ∙ sym many)
+      (λ k d f p q. let r = from_map decider_in ran k f q in ap board (sym r.2) ∙ h.seated k d r.0 p r.1)
+
+  -- the flow of each pair, the order of the reports, and the lists, once the ends are gathered
+  module _ (fit : Fits place job ends deciders) where
+    pub flow_all : (ranks : List Report) (after : List E) (inboxes : List (Vec (WorldRank × Item) Global)) → ranks ≡ map report_in ran → Keeps name pushed taken (map end_in ran) after → Settled pushed taken (map end_in ran) inboxes → AllCarry pushed taken ranks after inboxes
+    flow_all ranks after inboxes is keeps settled =
+        subst (λ (rs : List Report). AllCarry pushed taken rs after inboxes) (sym is)
+        (carried name place count pushed taken ready job ends (map report_in ran) (map end_in ran) after inboxes fit.end_each (length-map ran report_in ∙ h.as_many) (length-map ran end_in ∙ h.as_many) fit.placed all_played keeps settled)
+
+    pub order_all : (ranks : List Report) → ranks ≡ map report_in ran → InPlace (λ (r : Report). r.rank.me) ranks
+    order_all ranks is =
+        subst (λ (rs : List Report). InPlace (λ (r : Report). r.rank.me) rs) (sym is)
+        (ordered name place count pushed taken ready job ends (map report_in ran) (map end_in ran) (length-map ran report_in ∙ h.as_many) (length-map ran end_in ∙ h.as_many) fit.placed all_played)
+
+    pub went_all : (ranks : List Report) → ranks ≡ map report_in ran → (k : ℕ) (r : Report) → at ranks k r → HasPlayed job k r
+    went_all ranks is = subst (λ (rs : List Report). (k : ℕ) (r : Report) → at rs k r → HasPlayed job k r) (sym is) (all_went fit.placed)
+
+    pub sizes_all : (ranks : List Report) (after : List E) (kept : List D) (inboxes : List (Vec (WorldRank × Item) Global)) → ranks ≡ map report_in ran → Keeps name pushed taken (map end_in ran) after → Settled pushed taken (map end_in ran) inboxes → kept ≡ map decider_in ran →
+        (length ranks ≡ job.ranks) × (length inboxes ≡ job.ranks) × (length after ≡ job.ranks) × (length kept ≡ job.ranks)
+    sizes_all ranks after kept inboxes is keeps settled held =
+        let many : length ran ≡ job.ranks = h.as_many ∙ fit.end_each in
+        let mid : length (map end_in ran) ≡ length ran = length-map ran end_in in (
+          ap length is ∙ length-map ran report_in ∙ many,
+          settled.inbox_for_each ∙ mid ∙ many,
+          sym (length-map after name) ∙ ap length keeps.names ∙ length-map (map end_in ran) name ∙ mid ∙ many,
+          ap length held ∙ length-map ran decider_in ∙ many,
+        )
+
+    pub names_all : (after : List E) → Keeps name pushed taken (map end_in ran) after → map name after ≡ map name ends
+    names_all after keeps = keeps.names ∙ same_names
+
+    pub boards_all : (kept : List D) → kept ≡ map decider_in ran → map board kept ≡ map board deciders
+    boards_all kept held = ap (map board) held ∙ same_boards (fit.decider_each ∙ sym fit.end_each)

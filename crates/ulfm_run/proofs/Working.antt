@@ -1,0 +1,92 @@
+-- A rank at work.
+use Rattle.std.proofs.Common.{◌≡◌, ℕ, ◌+◌, ◌<◌, ◌≤◌, true, false, List, [], ◌++◌, length, map, refl, ap, sym, subst, ◌∙◌, arith, Bool, ◌∷◌, inl, inr, ◌⊎◌, append-nil, length-append}
+use Rattle.std.specs.Prelude.{All}
+use Rattle.std.proofs.lemmas.Bool.{cases_eq, false≢true}
+use Rattle.std.proofs.lemmas.List.{length-map}
+use Rattle.ulfm_base.specs.declared.item.Item.{Item}
+use Rattle.ulfm_rank.specs.declared.entry.Entry.{Entry}
+use Rattle.ulfm_rank.specs.Facts.{is_stopped}
+use Rattle.ulfm_rank.specs.State.{State}
+use Rattle.ulfm_script.specs.declared.answer.StepReport.{StepReport}
+use Rattle.ulfm_script.specs.declared.step.Step.{Step}
+use Rattle.ulfm_script.specs.Job.{Seen, script_at, through_stop, has_stop}
+use Rattle.ulfm_script.specs.Player.{Player, View, with_rank}
+use Rattle.ulfm_script.specs.Report.{Report}
+use Rattle.ulfm_run.specs.Joined.{IsSigned, IsJoined, Moves, Quiet, Polls, IsAtWork}
+use Rattle.ulfm_run.specs.Played.{IsPlayed}
+use Rattle.ulfm_run.specs.Script.{step_of, steps_done, IsPatient, FollowsAt, HasAnswered, left_at}
+use Rattle.ulfm_run.proofs.Scripts.{follows-rank, through-none}
+
+-- a player that stopped, or has no step left, answered its script
+pub has-answered : (script : List Step) (turns : ℕ) (p : Player) → FollowsAt script turns p → (is_stopped p.rank.log ≡ true) ⊎ (length script ≤ length p.done) → HasAnswered script turns p
+has-answered script turns p h over = elim (stops (is_stopped p.rank.log) refl) [
+  | inl stopped ↦ record { steps = (h.stopped stopped).0; patient = h.patient }
+  | inr running ↦
+      let all : length script ≤ length p.done = elim over [ inl stopped ↦ absurd (false≢true (sym running ∙ stopped)) | inr k ↦ k ] in
+      let none : h.rest ≡ [] = empty h.rest (omega (arith, all, ap length h.split, length-append (steps_done p) h.rest, length-map p.done step_of)) in
+      let whole : steps_done p ≡ script = sym (append-nil (steps_done p)) ∙ ap (λ (ys : List Step). steps_done p ++ ys) (sym none) ∙ h.split in
+      record { steps = whole ∙ sym (ap through_stop (sym whole) ∙ through-none (steps_done p) (h.running running) ∙ whole); patient = h.patient }
+]
+  where
+    stops : (b : Bool) → is_stopped p.rank.log ≡ b → (is_stopped p.rank.log ≡ true) ⊎ (is_stopped p.rank.log ≡ false)
+    stops true e = inl e
+    stops false e = inr e
+
+    empty : (xs : List Step) → length xs ≤ 0 → xs ≡ []
+    empty [] k = refl
+    empty (x ∷ xs) k = absurd (omega (arith, k))
+
+module _ {E N : Type 0} (name : E → N) (place count : E → ℕ) (pushed taken : E → ℕ → List Item) (ready : E → Type 0) (job : Seen) (me : ℕ) where
+  abbrev pub AtWork : View → E → Type 0
+  AtWork v e = IsAtWork place count pushed taken ready job me v e
+
+  -- what moves between a player and its end keeps the rank at work
+  pub at-work-moved : (v w : View) (e f : E) → AtWork v e → Moves name place count pushed taken ready v e w f → AtWork w f
+  at-work-moved v w e f h m =
+      let F : Player → Type 0 = λ (p : Player). FollowsAt (script_at job me) job.turns p in
+      record {
+        joined = m.joined;
+        named = m.me ∙ h.named;
+        counted = m.ranks ∙ h.counted;
+        follows = subst F (sym m.only) (follows-rank (script_at job me) job.turns v.player w.player.rank m.stops h.follows);
+        room = omega (arith, h.room, m.room, ap (λ (p : Player). length p.done) m.only);
+      }
+
+  -- so does a poll
+  pub at-work-polled : (v w : View) (e : E) → AtWork v e → Polls job me v w → AtWork w e
+  at-work-polled v w e h p =
+      let q = p.quiet in
+      let S : ℕ → Type 0 = λ m. All (IsSigned m) w.player.rank.log in
+      record {
+        joined = record {
+          is_ready = h.joined.is_ready;
+          placed = h.joined.placed ∙ sym q.calm.me;
+          counted = h.joined.counted ∙ sym q.calm.ranks;
+          sound = q.calm.sound;
+          signed = subst S (sym q.calm.me) (q.calm.signed h.joined.signed);
+          sent = λ d k. h.joined.sent d (omega (arith, k, q.calm.ranks)) ∙ sym (q.calm.out d (omega (arith, k, q.calm.ranks)));
+          took = λ s. h.joined.took s ∙ sym (q.took s);
+        };
+        named = q.calm.me ∙ h.named;
+        counted = q.calm.ranks ∙ h.counted;
+        follows = p.follows;
+        room = omega (arith, h.room, p.room);
+      }
+
+  -- nothing moved counts as a poll
+  pub same_left : (v w : View) (e f : E) → Moves name place count pushed taken ready v e w f → left_at (script_at job me) job.turns w.player ≡ left_at (script_at job me) job.turns v.player
+  same_left v w e f m = ap (λ (p : Player). left_at (script_at job me) job.turns p) m.only
+
+  -- what was played is reported
+  pub played : (v w : View) (first e f : E) (report : Report) → place first ≡ me → name e ≡ name first → AtWork v e → HasAnswered (script_at job me) job.turns v.player → Moves name place count pushed taken ready v e w f → report.rank ≡ w.player.rank → report.steps ≡ w.player.done → IsPlayed name place count pushed taken ready job first report f
+  played v w first e f report at same h answered m rank steps =
+      let done : w.player.done ≡ v.player.done = ap (λ (p : Player). p.done) m.only in
+      let J : State → Type 0 = λ (r : State). IsJoined place count pushed taken ready r f in
+      record {
+        same_end = m.same_end ∙ same;
+        joined = subst J (sym rank) m.joined;
+        named = ap (λ (r : State). r.me) rank ∙ m.me ∙ h.named ∙ sym at;
+        counted = ap (λ (r : State). r.ranks) rank ∙ m.ranks ∙ h.counted;
+        steps = ap (map step_of) (steps ∙ done) ∙ answered.steps ∙ ap (λ i. through_stop (script_at job i)) (sym at);
+        patient = subst (λ (xs : List StepReport). All (IsPatient job.turns) xs) (sym (steps ∙ done)) answered.patient;
+      }

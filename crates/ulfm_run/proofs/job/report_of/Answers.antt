@@ -1,0 +1,20 @@
+use Rattle.std.proofs.Common.{ap, sym, ◌∙◌, subst, map, List}
+use Rattle.std.specs.Prelude.{slice_get}
+use Rattle.ulfm_carrier.specs.Family.{Keeps, Settled}
+use Rattle.ulfm_run.proofs.job.report_of.Goals as goal
+
+pub gather-residue-requires-clause-family : goal.gather-residue-requires-clause-family
+gather-residue-requires-clause-family g c = subst g.E.Ends.one_call (ap (map g.E.Ends.name) (sym c.parted-ranks.ensures.ends)) c.requires.family
+
+pub gather-residue-requires-clause-ready : goal.gather-residue-requires-clause-ready
+gather-residue-requires-clause-ready g c = λ k e here. c.requires.ready k e (ap (λ l. slice_get l k) (sym c.parted-ranks.ensures.ends) ∙ here)
+
+pub returns-clause-same : goal.returns-clause-same
+returns-clause-same g c =
+    let K : List g.row.E.Denot → Type 0 = λ (es : List g.row.E.Denot). Keeps g.E.Ends.name g.E.Ends.pushed g.E.Ends.taken es c.gather-residue.result.1.items in
+    subst K c.parted-ranks.ensures.ends c.gather-residue.ensures.same
+
+pub returns-clause-residue : goal.returns-clause-residue
+returns-clause-residue g c =
+    let S : List g.row.E.Denot → Type 0 = λ (es : List g.row.E.Denot). Settled g.E.Ends.pushed g.E.Ends.taken es c.gather-residue.result.0.inboxes.items in
+    subst S c.parted-ranks.ensures.ends c.gather-residue.ensures.residue

@@ -1,0 +1,12 @@
+use Rattle.std.proofs.Common.{arith, refl, ap, ◌∙◌, length}
+use Rattle.ulfm_script.specs.Job.{script_at}
+use Rattle.ulfm_script.specs.Player.{start_player}
+use Rattle.ulfm_run.proofs.Starting.{at-work-start}
+use Rattle.ulfm_run.proofs.threads.new_worker.Goals as goal
+
+pub returns-clause-at_work : goal.returns-clause-at_work
+returns-clause-at_work g c =
+    at-work-start g.E.Ends.place g.E.Ends.count g.E.Ends.pushed g.E.Ends.taken g.E.Ends.ready c.args.job.now (g.E.Ends.place c.args.end) c.in-Ok.player c.args.end c.requires.fresh refl
+    (c.in-Ok.ensures.player ∙ ap (λ i. start_player i c.ranks.result) c.me-me.ensures ∙ ap (λ n. start_player (g.E.Ends.place c.args.end) n) c.ranks.ensures.exact)
+    c.me.ensures.sound
+    (omega (arith, c.in-Ok.ensures.room, c.script_len-steps.ensures.exact, ap (λ i. length (script_at c.args.job.now i)) c.me-me.ensures))

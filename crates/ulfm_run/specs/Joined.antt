@@ -1,0 +1,63 @@
+-- A rank and its end of a carrier, which go together.
+use Rattle.std.specs.Prelude.{◌≡◌, ⊤, ℕ, List, ◌<◌, ◌≤◌, ◌+◌, length, All}
+use Rattle.ulfm_base.specs.declared.item.Item.{Item}
+use Rattle.ulfm_rank.specs.declared.entry.Entry.{Entry}
+use Rattle.ulfm_rank.specs.declared.entry.Entry.TheVariants.{Sent}
+use Rattle.ulfm_rank.specs.Facts.{took, is_stopped}
+use Rattle.ulfm_rank.specs.State.{State, IsState, gone_out}
+use Rattle.ulfm_script.specs.Job.{Seen, script_at}
+use Rattle.ulfm_script.specs.Player.{View, with_rank}
+use Rattle.ulfm_run.specs.Script.{FollowsAt, left_at}
+
+-- a letter that an entry sent bears the number of its rank
+abbrev pub IsSigned : ℕ → Entry → Type 0
+IsSigned me (Sent to letter) = letter.envelope.source.number ≡ me
+IsSigned me _ = ⊤
+
+-- What left the outboxes of the rank is what its end pushed, and what its log took is what its end took.
+pub record IsJoined {E : Type 0} (place count : E → ℕ) (pushed taken : E → ℕ → List Item) (ready : E → Type 0) (r : State) (end : E) : Type 0 where
+  pub is_ready : ready end
+  pub placed : place end ≡ r.me
+  pub counted : count end ≡ r.ranks
+  pub sound : IsState r
+  pub signed : All (IsSigned r.me) r.log
+  pub sent : (d : ℕ) → d < r.ranks → pushed end d ≡ gone_out r d
+  pub took : (s : ℕ) → taken end s ≡ took r.log s
+
+-- Items went from a player to its end, or from the end to the player.
+pub record Moves {E N : Type 0} (name : E → N) (place count : E → ℕ) (pushed taken : E → ℕ → List Item) (ready : E → Type 0) (old : View) (before : E) (new : View) (after : E) : Type 0 where
+  pub same_end : name after ≡ name before
+  pub joined : IsJoined place count pushed taken ready new.player.rank after
+  pub me : new.player.rank.me ≡ old.player.rank.me
+  pub ranks : new.player.rank.ranks ≡ old.player.rank.ranks
+  pub stops : is_stopped new.player.rank.log ≡ is_stopped old.player.rank.log
+  pub only : new.player ≡ with_rank old.player new.player.rank
+  pub room : new.room ≡ old.room
+
+-- the rank is the same but for its log, what it sent is signed, and what went out is the same
+pub record Calm (old new : State) : Type 0 where
+  pub me : new.me ≡ old.me
+  pub ranks : new.ranks ≡ old.ranks
+  pub sound : IsState new
+  pub out : (d : ℕ) → d < old.ranks → gone_out new d ≡ gone_out old d
+  pub signed : All (IsSigned old.me) old.log → All (IsSigned old.me) new.log
+
+-- what was taken is the same too
+pub record Quiet (old new : State) : Type 0 where
+  pub calm : Calm old new
+  pub took : (s : ℕ) → took new.log s ≡ took old.log s
+
+-- One poll of the next step: nothing goes from or to the player, and fewer polls are left.
+pub record Polls (job : Seen) (me : ℕ) (old new : View) : Type 0 where
+  pub quiet : Quiet old.player.rank new.player.rank
+  pub follows : FollowsAt (script_at job me) job.turns new.player
+  pub room : new.room + length new.player.done ≡ old.room + length old.player.done
+  pub falls : left_at (script_at job me) job.turns new.player < left_at (script_at job me) job.turns old.player
+
+-- the rank `me` of a job on its way through its script, with its end
+pub record IsAtWork {E : Type 0} (place count : E → ℕ) (pushed taken : E → ℕ → List Item) (ready : E → Type 0) (job : Seen) (me : ℕ) (v : View) (end : E) : Type 0 where
+  pub joined : IsJoined place count pushed taken ready v.player.rank end
+  pub named : v.player.rank.me ≡ me
+  pub counted : v.player.rank.ranks ≡ job.ranks
+  pub follows : FollowsAt (script_at job me) job.turns v.player
+  pub room : length (script_at job me) ≤ v.room + length v.player.done

@@ -1,0 +1,5 @@
+pub mod Script
+pub mod Joined
+pub mod Played
+pub mod Flow
+pub mod Fields

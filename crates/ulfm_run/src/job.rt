@@ -1,0 +1,150 @@
+//! A job, from its ends and deciders to its report.
+ghost use Rattle.std.specs.Prelude.{◌≡◌, ◌≤◌, ◌↔◌, [], ℕ, List, All, Option, length, map, vec_len, vec_capacity, IsTrue, IfOk, IfErr, OnOk};
+ghost use Rattle.ulfm_board.specs.Known.{nothing_known};
+ghost use Rattle.ulfm_board.specs.Names.{OneBoard};
+ghost use Rattle.ulfm_carrier.specs.Family.{at, InPlace, AllFresh, Keeps, Settled};
+ghost use Rattle.ulfm_script.specs.Report.{Report as Told};
+ghost use Rattle.ulfm_run.specs.Fields.{report_in, end_in, decider_in, Fits};
+ghost use Rattle.ulfm_run.specs.Flow.{AllCarry, IsEach};
+ghost use Rattle.ulfm_run.specs.Played.{HasPlayed};
+
+use crate::report::Report;
+use crate::threads::{Unplayed, play_all};
+use crate::worker::Ran;
+use std::alloc::Global;
+use std::sync::Wait;
+use std::thread::Threads;
+use ulfm_board::Decider;
+use ulfm_carrier::Ends;
+use ulfm_script::{Job, RankReport, RunFault};
+
+/// Runs a job: each rank goes through its script in a thread of its own, by the end and the decider at the place of its
+/// number. In a turn a rank pushes all that its outboxes hold and the inboxes have room for, takes one item, and polls its
+/// step once; a step that the job's last poll for it left open is given up. After its last step it goes on for as many
+/// turns without polls; where it stopped, it pushes alone, until nothing is left to go out. What is left in the inboxes
+/// is gathered at the end.
+///
+/// # Errors
+///
+/// `BadEnds` where the number of ends or of deciders isn't that of the ranks, or an end stands at another place than its
+/// number; no thread is started then. `NoThread` where a thread couldn't be started, `OutOfMemory` where a growth outside
+/// the polls of steps was refused; the threads that were started have run to their end then.
+pub fn run_job<E, D, R>(
+    rt: &R,
+    alloc: Global,
+    job: &Job,
+    ends: Vec<E>,
+    deciders: Vec<D>,
+) -> Result<Report<E, D>, RunFault>
+where
+    E: Ends + Send,
+    D: Decider + Send,
+    R: Threads + Wait + Sync,
+    requires one_call { InPlace E.place ends.items → E.one_call (map E.name ends.items) }
+    requires fresh { AllFresh E.count E.pushed E.taken E.ready ends.items }
+    requires one_board { OneBoard D.board deciders.items }
+    requires undecided { All (λ d. D.known d ≡ nothing_known) deciders.items }
+    ensures fits { OnOk result (Fits E.place job.now ends.items deciders.items) }
+    ensures misfits { IfErr result (λ fault. fault ≡ RunFault.BadEnds → Fits E.place job.now ends.items deciders.items → ⊥) }
+    ensures sizes { IfOk result (λ report. IsEach job.now report.ranks.items × IsEach job.now report.residue.inboxes.items × IsEach job.now report.ends.items × IsEach job.now report.deciders.items) }
+    ensures order { IfOk result (λ report. InPlace (λ (told : Told). told.rank.me) report.ranks.items) }
+    ensures scripts { IfOk result (λ report. (k : ℕ) (told : Told) → at report.ranks.items k told → HasPlayed job.now k told) }
+    ensures flow { IfOk result (λ report. AllCarry E.pushed E.taken report.ranks.items report.ends.items report.residue.inboxes.items) }
+    ensures same_ends { IfOk result (λ report. map E.name report.ends.items ≡ map E.name ends.items) }
+    ensures same_boards { IfOk result (λ report. map D.board report.deciders.items ≡ map D.board deciders.items) }
+{
+    if !fits(job, &ends, deciders.len()) {
+        return Err(RunFault::BadEnds);
+    }
+    let ran = match play_all(rt, alloc, job, ends, deciders) {
+        Ok(ran) => ran,
+        Err(Unplayed::NoThread) => return Err(RunFault::NoThread),
+        Err(Unplayed::OutOfMemory) => return Err(RunFault::OutOfMemory),
+    };
+    let report = report_of(rt, alloc, ran)?;
+    Ok(report)
+}
+
+/// What the threads gave back, as a report: the ends are gathered.
+fn report_of<E: Ends, D: Decider, R: Wait>(
+    rt: &R,
+    alloc: Global,
+    ran: Vec<Ran<E, D>>,
+) -> Result<Report<E, D>, RunFault>
+    requires family { E.one_call (map E.name (map end_in ran.items)) }
+    requires ready { (k : ℕ) (e : E) → at (map end_in ran.items) k e → E.ready e }
+    ensures ranks { IfOk result (λ report. report.ranks.items ≡ map report_in ran.items) }
+    ensures same { IfOk result (λ report. Keeps E.name E.pushed E.taken (map end_in ran.items) report.ends.items) }
+    ensures residue { IfOk result (λ report. Settled E.pushed E.taken (map end_in ran.items) report.residue.inboxes.items) }
+    ensures deciders { IfOk result (λ report. report.deciders.items ≡ map decider_in ran.items) }
+    ensures starves { IfErr result (λ fault. fault ≡ RunFault.OutOfMemory) }
+{
+    let count = ran.len();
+    let reports = room_for(alloc, count)?;
+    let ends = room_for(alloc, count)?;
+    let deciders = room_for(alloc, count)?;
+    let (ranks, ends, deciders) = parted(ran, reports, ends, deciders);
+    let (residue, ends) = E::gather(rt, ends);
+    Ok(Report {
+        ranks,
+        residue,
+        ends,
+        deciders,
+    })
+}
+
+/// Whether there is an end and a decider for each rank, and each end stands at the place of its number.
+fn fits<E: Ends>(job: &Job, ends: &Vec<E>, deciders: usize) -> bool
+    ensures { IsTrue result ↔ ((length ends.now.items ≡ job.now.ranks) × (deciders ≡ job.now.ranks) × InPlace E.place ends.now.items) }
+{
+    let ranks = job.ranks() as usize;
+    if ends.len() != ranks || deciders != ranks {
+        return false;
+    }
+    for place in 0..ends.len() {
+        if ends[place].me().number as usize != place {
+            return false;
+        }
+    }
+    true
+}
+
+/// An empty list with room for so many.
+fn room_for<T: Drop>(alloc: Global, count: usize) -> Result<Vec<T>, RunFault>
+    ensures room { IfOk result (λ list. (list.items ≡ []) × (count ≤ vec_capacity list)) }
+    ensures starves { IfErr result (λ fault. fault ≡ RunFault.OutOfMemory) }
+{
+    match Vec::with_capacity(alloc, count) {
+        Ok(list) => Ok(list),
+        Err(_) => Err(RunFault::OutOfMemory),
+    }
+}
+
+/// The reports, the ends and the deciders of what the threads gave back.
+fn parted<E: Drop, D: Drop>(
+    ran: Vec<Ran<E, D>>,
+    reports: Vec<RankReport>,
+    ends: Vec<E>,
+    deciders: Vec<D>,
+) -> (Vec<RankReport>, Vec<E>, Vec<D>)
+    requires room { (vec_len ran ≤ vec_capacity reports) × (vec_len ran ≤ vec_capacity ends) × (vec_len ran ≤ vec_capacity deciders) }
+    requires empty { (reports.items ≡ []) × (ends.items ≡ []) × (deciders.items ≡ []) }
+    ensures reports { result.0.items ≡ map report_in ran.items }
+    ensures ends { result.1.items ≡ map end_in ran.items }
+    ensures deciders { result.2.items ≡ map decider_in ran.items }
+{
+    let mut reports = reports;
+    let mut ends = ends;
+    let mut deciders = deciders;
+    for one in ran {
+        let Ran {
+            report,
+            end,
+            decider,
+        } = one;
+        reports.push_reserved(report);
+        ends.push_reserved(end);
+        deciders.push_reserved(decider);
+    }
+    (reports, ends, deciders)
+}

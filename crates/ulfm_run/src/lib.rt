@@ -1,0 +1,15 @@
+//! Rank threads: each rank of a job goes through its steps in a thread of its own, by its end of a carrier and its seat
+//! of a board.
+#![tactic(auto)]
+
+mod job;
+mod moving;
+mod polling;
+mod report;
+#[cfg(test)]
+mod tests;
+mod threads;
+mod worker;
+
+pub use job::run_job;
+pub use report::Report;

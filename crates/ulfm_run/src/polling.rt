@@ -1,0 +1,77 @@
+//! The polls of a rank's steps.
+ghost use Rattle.std.specs.Prelude.{◌≡◌, ◌<◌, ◌≤◌, ◌+◌, length, slice_get, Some, false};
+ghost use Rattle.std.specs.Bool.{OnTrue};
+ghost use Rattle.ulfm_rank.specs.Facts.{is_stopped};
+ghost use Rattle.ulfm_rank.specs.State.{IsState};
+ghost use Rattle.ulfm_script.specs.Job.{script_at};
+ghost use Rattle.ulfm_run.specs.Joined.{Polls};
+ghost use Rattle.ulfm_run.specs.Script.{FollowsAt};
+
+use ulfm_board::Decider;
+use ulfm_script::{Called, Decided, Job, Player, Step};
+
+/// One poll of a rank's next step: an open shrink that has a proposal is decided, another step is called, and given up
+/// where its last poll left it open. Whether the step has its answer now.
+pub(crate) fn poll<D: Decider>(
+    job: &Job,
+    me: u8,
+    player: &mut Player,
+    decider: &mut D,
+    step: &Step,
+) -> bool
+    requires sound { IsState player.old.player.rank }
+    requires follows { FollowsAt (script_at job.now me) job.now.turns player.old.player }
+    requires room { length (script_at job.now me) ≤ player.old.room + length player.old.player.done }
+    requires running { is_stopped player.old.player.rank.log ≡ false }
+    requires next { slice_get (script_at job.now me) (length player.old.player.done) ≡ Some step.now }
+    ensures polls { Polls job.now me player.old player.new }
+    ensures board { D.board decider.new ≡ D.board decider.old }
+{
+    if decide(job, me, player, decider, step) {
+        return true;
+    }
+    call(job, me, player, step)
+}
+
+/// The decision of a step that is an open shrink and has a proposal. Whether it was decided.
+fn decide<D: Decider>(job: &Job, me: u8, player: &mut Player, decider: &mut D, step: &Step) -> bool
+    requires sound { IsState player.old.player.rank }
+    requires follows { FollowsAt (script_at job.now me) job.now.turns player.old.player }
+    requires running { is_stopped player.old.player.rank.log ≡ false }
+    ensures polls { OnTrue result (Polls job.now me player.old player.new) }
+    ensures unchanged { result ≡ false → player.new.player ≡ player.old.player }
+    ensures room { player.new.room + length player.new.player.done ≡ player.old.room + length player.old.player.done }
+    ensures board { D.board decider.new ≡ D.board decider.old }
+{
+    let _ = job;
+    let _ = me;
+    let Step::Shrink { comm } = step else {
+        return false;
+    };
+    match player.decide(*comm, decider) {
+        Decided::Answered => true,
+        Decided::NotReady => false,
+    }
+}
+
+/// One poll of a step by `call`; it is given up where this was its last poll and left it open. Whether it is answered.
+fn call(job: &Job, me: u8, player: &mut Player, step: &Step) -> bool
+    requires sound { IsState player.old.player.rank }
+    requires follows { FollowsAt (script_at job.now me) job.now.turns player.old.player }
+    requires room { length (script_at job.now me) ≤ player.old.room + length player.old.player.done }
+    requires running { is_stopped player.old.player.rank.log ≡ false }
+    requires next { slice_get (script_at job.now me) (length player.old.player.done) ≡ Some step.now }
+    ensures { Polls job.now me player.old player.new }
+{
+    let _ = me;
+    let turns = job.turns();
+    match player.call(step) {
+        Called::Answered => return true,
+        Called::NotYet => {}
+    }
+    if player.polls() < turns {
+        return false;
+    }
+    player.leave();
+    true
+}
