@@ -1,13 +1,11 @@
 -- Lists that are handed over, one element after another, and what came of each.
-use Rattle.std.proofs.Common.{◌≡◌, ◌<◌, ◌≤◌, ◌+◌, ℕ, zero, suc, List, [], ◌∷◌, ◌++◌, map, length, refl, ap, sym, ◌∙◌, subst, append_assoc, append-nil, arith}
-use Rattle.std.specs.Prelude.{slice_get, Some, None, Option, All}
-use Rattle.std.proofs.lemmas.List.{map-append, length-map}
+use Rattle.std.proofs.Common.{◌≡◌, ℕ, zero, suc, List, [], ◌∷◌, ◌++◌, map, length, refl, ap, sym, ◌∙◌, append_assoc, arith}
+use Rattle.std.specs.Prelude.{slice_get, Some}
+use Rattle.std.proofs.lemmas.List.{map-append}
 use Rattle.std.proofs.lemmas.Option.{same_Some}
 use Rattle.ulfm_base.specs.declared.item.Item.{Item}
-use Rattle.ulfm_board.specs.Names.{OneBoard}
 use Rattle.ulfm_carrier.specs.Family.{at, IsFresh}
 use Rattle.ulfm_run.specs.Fields.{EachFresh}
-use Rattle.ulfm_run.proofs.Flowing.{there}
 
 pub fresh_first : {E : Type 0} (count : E → ℕ) (pushed taken : E → ℕ → List Item) (ready : E → Type 0) (n : ℕ) (all rest : List E) (x : E) → EachFresh count pushed taken ready n all → all ≡ x ∷ rest → IsFresh count pushed taken ready n x
 fresh_first count pushed taken ready n all rest x fresh is = fresh 0 x (ap (λ l. slice_get l 0) is)

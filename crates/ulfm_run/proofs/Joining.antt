@@ -1,5 +1,5 @@
 -- A rank and its end stay together while items go from one to the other.
-use Rattle.std.proofs.Common.{◌≡◌, ◌≢◌, ℕ, ◌<◌, ◌≤◌, Bool, true, false, cond, eqb, List, [], ◌∷◌, ◌++◌, length, refl, ap, sym, subst, ◌∙◌, arith, inl, inr, append-nil, get_or, set, get_or-set_other}
+use Rattle.std.proofs.Common.{◌≡◌, ◌≢◌, ℕ, ◌<◌, Bool, true, false, cond, List, [], ◌∷◌, ◌++◌, refl, ap, sym, subst, ◌∙◌, arith, inl, inr, append-nil, get_or-set_other}
 use Rattle.std.specs.Prelude.{All, ◌||◌}
 use Rattle.std.proofs.lemmas.Bool.{cases_eq, eq-eqb, ne_eqb}
 use Rattle.ulfm_base.specs.declared.rank.WorldRank.{WorldRank}
@@ -9,8 +9,8 @@ use Rattle.ulfm_carrier.specs.Family.{ComesFrom}
 use Rattle.ulfm_rank.specs.declared.entry.Entry.{Entry}
 use Rattle.ulfm_rank.specs.declared.entry.Entry.TheVariants.{Took}
 use Rattle.ulfm_rank.specs.Calls.{IsFrom}
-use Rattle.ulfm_rank.specs.Facts.{took, took_by, is_stop, is_stopped}
-use Rattle.ulfm_rank.specs.State.{State, IsState, logged, owes, outbox, gone_out, mark_at, marked, no_mark, Leaves}
+use Rattle.ulfm_rank.specs.Facts.{took, is_stopped}
+use Rattle.ulfm_rank.specs.State.{State, logged, outbox, gone_out, mark_at, marked, no_mark, Leaves}
 use Rattle.ulfm_script.specs.Player.{Player, View, with_rank}
 use Rattle.ulfm_run.specs.Joined.{IsSigned, IsJoined, Moves}
 use Rattle.ulfm_run.proofs.Logs.{took-push, stopped-push}

@@ -1,5 +1,5 @@
 -- One poll of a rank's next step.
-use Rattle.std.proofs.Common.{◌≡◌, ℕ, ◌+◌, ◌<◌, ◌≤◌, Bool, true, false, List, length, refl, ap, sym, subst, ◌∙◌, arith, inl, inr, ◌⊎◌, Option, Some, None, MatchOption, slice_get}
+use Rattle.std.proofs.Common.{◌≡◌, ℕ, ◌+◌, ◌<◌, ◌≤◌, false, List, length, refl, ap, sym, subst, ◌∙◌, arith, inl, inr, ◌⊎◌, Option, Some, None, MatchOption, slice_get}
 use Rattle.std.proofs.lemmas.Option.{slice_get_within}
 use Rattle.ulfm_base.specs.declared.context.Context.{Context}
 use Rattle.ulfm_rank.specs.Facts.{is_stopped}
@@ -10,10 +10,10 @@ use Rattle.ulfm_script.specs.declared.answer.Called.{Called}
 use Rattle.ulfm_script.specs.declared.answer.Called.TheVariants.{Answered, NotYet}
 use Rattle.ulfm_script.specs.Deciding.{Known, IsDecided}
 use Rattle.ulfm_script.specs.Job.{Seen, IsJob, script_at}
-use Rattle.ulfm_script.specs.Player.{Polls as PollsBy, Player, View, IsFree, IsCalled, PollAnswers, PollOpens, Left, awaits_decision}
+use Rattle.ulfm_script.specs.Player.{Polls as PollsBy, Player, View, IsFree, IsCalled, Left}
 use Rattle.ulfm_run.specs.Script.{FollowsAt, left_at}
 use Rattle.ulfm_run.specs.Joined.{Quiet, Polls}
-use Rattle.ulfm_run.proofs.Polls.{quiet-called, opens_add, stopped-adds}
+use Rattle.ulfm_run.proofs.Polls.{quiet-called}
 use Rattle.ulfm_run.proofs.Scripts.{polls_small}
 use Rattle.ulfm_run.proofs.Advance.{Ready, advance-called, advance-left}
 use Rattle.ulfm_run.proofs.Decisions.{ready-decided, advance-decided, quiet-decided}

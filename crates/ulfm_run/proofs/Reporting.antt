@@ -1,6 +1,6 @@
 -- From what the threads gave back to the report of a run.
-use Rattle.std.proofs.Common.{◌≡◌, ℕ, ◌<◌, List, length, map, refl, ap, sym, ◌∙◌, subst, arith, get_or}
-use Rattle.std.specs.Prelude.{slice_get, Some, Option, All}
+use Rattle.std.proofs.Common.{◌≡◌, ℕ, ◌<◌, List, length, map, ap, sym, ◌∙◌, subst, arith}
+use Rattle.std.specs.Prelude.{Some, Option}
 use Rattle.std.proofs.lemmas.List.{length-map}
 use Rattle.std.proofs.lemmas.Option.{slice_get_within}
 use Rattle.ulfm_base.specs.declared.item.Item.{Item}
@@ -14,9 +14,8 @@ use Rattle.ulfm_run.specs.declared.worker.Ran.{Ran}
 use Rattle.ulfm_run.specs.Fields.{report_in, end_in, decider_in, Fits, WerePlayed}
 use Rattle.ulfm_run.specs.Flow.{AllCarry}
 use Rattle.ulfm_run.specs.Played.{IsPlayed, HasPlayed}
-use Rattle.ulfm_run.specs.Script.{step_of}
 use Rattle.ulfm_run.proofs.Flowing.{there, AllPlayed, carried, ordered}
-use Rattle.ulfm_run.proofs.Handed.{at_map, from_map, same_maps}
+use Rattle.ulfm_run.proofs.Handed.{from_map, same_maps}
 
 -- ends and deciders fit a job
 pub fits_of : {E D : Type 0} (place : E → ℕ) (job : Seen) (ends : List E) (deciders : List D) → length ends ≡ job.ranks → length deciders ≡ job.ranks → InPlace place ends → Fits place job ends deciders

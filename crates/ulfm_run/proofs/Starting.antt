@@ -1,6 +1,6 @@
 -- A rank that starts.
-use Rattle.std.proofs.Common.{◌≡◌, ℕ, zero, suc, ◌+◌, ◌<◌, ◌≤◌, true, false, List, [], ◌∷◌, length, get_or, replicate, refl, ap, sym, subst, ◌∙◌, arith}
-use Rattle.std.specs.Prelude.{All, sum_by, slice_index_or}
+use Rattle.std.proofs.Common.{◌≡◌, ℕ, zero, suc, ◌≤◌, List, [], ◌∷◌, length, get_or, replicate, refl, ap, sym, subst, ◌∙◌, arith}
+use Rattle.std.specs.Prelude.{sum_by, slice_index_or}
 use Rattle.std.proofs.lemmas.Bool.{false≢true}
 use Rattle.std.proofs.lemmas.List.Elements.{All-nil}
 use Rattle.std.proofs.lemmas.List.Sums.{sum_by-cons}
@@ -8,7 +8,7 @@ use Rattle.ulfm_base.specs.declared.item.Item.{Item}
 use Rattle.ulfm_carrier.specs.Family.{IsFresh}
 use Rattle.ulfm_rank.specs.State.{IsState, gone_out, no_mark, start_state}
 use Rattle.ulfm_script.specs.declared.step.Step.{Step}
-use Rattle.ulfm_script.specs.Job.{Seen, IsJob, step_count, script_at}
+use Rattle.ulfm_script.specs.Job.{Seen, IsJob, script_at}
 use Rattle.ulfm_script.specs.Player.{Player, View, start_player}
 use Rattle.ulfm_run.specs.Joined.{IsSigned, IsJoined, IsAtWork}
 use Rattle.ulfm_run.specs.Script.{IsPatient, FollowsAt}

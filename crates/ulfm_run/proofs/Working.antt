@@ -1,18 +1,17 @@
 -- A rank at work.
-use Rattle.std.proofs.Common.{◌≡◌, ℕ, ◌+◌, ◌<◌, ◌≤◌, true, false, List, [], ◌++◌, length, map, refl, ap, sym, subst, ◌∙◌, arith, Bool, ◌∷◌, inl, inr, ◌⊎◌, append-nil, length-append}
+use Rattle.std.proofs.Common.{◌≡◌, ℕ, ◌≤◌, true, false, List, [], ◌++◌, length, map, refl, ap, sym, subst, ◌∙◌, arith, Bool, ◌∷◌, inl, inr, ◌⊎◌, append-nil, length-append}
 use Rattle.std.specs.Prelude.{All}
-use Rattle.std.proofs.lemmas.Bool.{cases_eq, false≢true}
+use Rattle.std.proofs.lemmas.Bool.{false≢true}
 use Rattle.std.proofs.lemmas.List.{length-map}
 use Rattle.ulfm_base.specs.declared.item.Item.{Item}
-use Rattle.ulfm_rank.specs.declared.entry.Entry.{Entry}
 use Rattle.ulfm_rank.specs.Facts.{is_stopped}
 use Rattle.ulfm_rank.specs.State.{State}
 use Rattle.ulfm_script.specs.declared.answer.StepReport.{StepReport}
 use Rattle.ulfm_script.specs.declared.step.Step.{Step}
-use Rattle.ulfm_script.specs.Job.{Seen, script_at, through_stop, has_stop}
-use Rattle.ulfm_script.specs.Player.{Player, View, with_rank}
+use Rattle.ulfm_script.specs.Job.{Seen, script_at, through_stop}
+use Rattle.ulfm_script.specs.Player.{Player, View}
 use Rattle.ulfm_script.specs.Report.{Report}
-use Rattle.ulfm_run.specs.Joined.{IsSigned, IsJoined, Moves, Quiet, Polls, IsAtWork}
+use Rattle.ulfm_run.specs.Joined.{IsSigned, IsJoined, Moves, Polls, IsAtWork}
 use Rattle.ulfm_run.specs.Played.{IsPlayed}
 use Rattle.ulfm_run.specs.Script.{step_of, steps_done, IsPatient, FollowsAt, HasAnswered, left_at}
 use Rattle.ulfm_run.proofs.Scripts.{follows-rank, through-none}

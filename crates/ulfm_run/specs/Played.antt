@@ -1,7 +1,6 @@
 -- What a rank's thread gives back.
-use Rattle.std.specs.Prelude.{◌≡◌, ℕ, List, map, All, Option}
+use Rattle.std.specs.Prelude.{◌≡◌, ℕ, List, map, All}
 use Rattle.ulfm_base.specs.declared.item.Item.{Item}
-use Rattle.ulfm_script.specs.declared.answer.StepReport.{StepReport}
 use Rattle.ulfm_script.specs.Job.{Seen, script_at, through_stop}
 use Rattle.ulfm_script.specs.Report.{Report}
 use Rattle.ulfm_run.specs.Script.{step_of, IsPatient}

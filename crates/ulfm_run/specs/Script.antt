@@ -1,5 +1,5 @@
 -- How a player goes through its script, with at most so many polls of a step.
-use Rattle.std.specs.Prelude.{◌≡◌, ℕ, true, false, List, [], ◌++◌, ◌+◌, ◌-◌, ◌*◌, ◌<◌, length, map, All, MatchOption, Some, None, slice_get}
+use Rattle.std.specs.Prelude.{◌≡◌, ℕ, true, false, List, ◌++◌, ◌+◌, ◌-◌, ◌*◌, ◌<◌, length, map, All, MatchOption, Some, None, slice_get}
 use Rattle.ulfm_rank.specs.Facts.{is_stopped}
 use Rattle.ulfm_script.specs.declared.step.Step.{Step}
 use Rattle.ulfm_script.specs.declared.answer.StepAnswer.{StepAnswer}

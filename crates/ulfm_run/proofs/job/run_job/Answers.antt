@@ -1,4 +1,4 @@
-use Rattle.std.proofs.Common.{arith, sym, subst, ℕ}
+use Rattle.std.proofs.Common.{arith, sym, subst}
 use Rattle.ulfm_carrier.specs.Family.{IsFresh}
 use Rattle.ulfm_run.proofs.Reporting.{fits_of, same_names, all_ready, flow_all, order_all, went_all, sizes_all, names_all, boards_all}
 use Rattle.ulfm_run.proofs.job.run_job.Goals as goal

@@ -1,8 +1,7 @@
-use Rattle.std.proofs.Common.{refl, ap, sym, ◌∙◌, subst, ◌≡◌, ◌∷◌}
+use Rattle.std.proofs.Common.{sym, subst}
 use Rattle.std.proofs.Common.{ℕ}
 use Rattle.ulfm_carrier.specs.Family.{ComesFrom}
-use Rattle.ulfm_script.specs.Player.{with_rank}
-use Rattle.ulfm_run.proofs.Joining.{front_comes, moves-pushed, moves-returned}
+use Rattle.ulfm_run.proofs.Joining.{front_comes}
 use Rattle.ulfm_run.proofs.moving.push_one.Goals as goal
 
 pub push-requires-clause-item : goal.push-requires-clause-item

@@ -1,4 +1,4 @@
-use Rattle.std.proofs.Common.{ℕ, ◌≡◌, length}
+use Rattle.std.proofs.Common.{length}
 use Rattle.ulfm_rank.specs.State.{outbox}
 use Rattle.ulfm_run.specs.Joined.{Moves}
 use Rattle.ulfm_run.proofs.moving.push_to.Given as goal

@@ -1,4 +1,4 @@
-use Rattle.std.proofs.Common.{refl, ap, sym, ◌∙◌, subst, ◌≡◌}
+use Rattle.std.proofs.Common.{◌∙◌, subst, ◌≡◌}
 use Rattle.ulfm_rank.specs.State.{logged}
 use Rattle.ulfm_rank.specs.declared.entry.Entry.TheVariants.{Took}
 use Rattle.ulfm_script.specs.Player.{Player, with_rank}
