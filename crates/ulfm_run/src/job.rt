@@ -1,5 +1,5 @@
 //! A job, from its ends and deciders to its report.
-ghost use Rattle.std.specs.Prelude.{◌≡◌, ◌≤◌, ◌↔◌, [], ℕ, List, All, Option, length, map, vec_len, vec_capacity, IsTrue, IfOk, IfErr, OnOk};
+ghost use Rattle.std.specs.Prelude.{◌≡◌, ◌≤◌, ◌↔◌, [], ℕ, List, All, Option, length, map, vec_len, vec_capacity, IsTrue, Err, IfOk, IfErr, OnOk};
 ghost use Rattle.ulfm_board.specs.Known.{nothing_known};
 ghost use Rattle.ulfm_board.specs.Names.{OneBoard};
 ghost use Rattle.ulfm_carrier.specs.Family.{at, InPlace, AllFresh, Keeps, Settled};
@@ -45,6 +45,7 @@ where
     requires one_board { OneBoard D.board deciders.items }
     requires undecided { All (λ d. D.known d ≡ nothing_known) deciders.items }
     ensures fits { OnOk result (Fits E.place job.now ends.items deciders.items) }
+    ensures bad_ends { (Fits E.place job.now ends.items deciders.items → ⊥) → result ≡ Err RunFault.BadEnds }
     ensures misfits { IfErr result (λ fault. fault ≡ RunFault.BadEnds → Fits E.place job.now ends.items deciders.items → ⊥) }
     ensures sizes { IfOk result (λ report. IsEach job.now report.ranks.items × IsEach job.now report.residue.inboxes.items × IsEach job.now report.ends.items × IsEach job.now report.deciders.items) }
     ensures order { IfOk result (λ report. InPlace (λ (told : Told). told.rank.me) report.ranks.items) }
