@@ -12,3 +12,4 @@ pub mod Starting
 pub mod Flowing
 pub mod Handed
 pub mod Reporting
+pub mod Lawful

@@ -6,6 +6,7 @@ ghost use Rattle.ulfm_carrier.specs.Family.{at, InPlace, AllFresh, Keeps, Settle
 ghost use Rattle.ulfm_script.specs.Report.{Report as Told};
 ghost use Rattle.ulfm_run.specs.Fields.{report_in, end_in, decider_in, Fits};
 ghost use Rattle.ulfm_run.specs.Flow.{AllCarry, IsEach};
+ghost use Rattle.ulfm_run.specs.Lawful.{IsLawful};
 ghost use Rattle.ulfm_run.specs.Played.{HasPlayed};
 
 use crate::report::Report;
@@ -53,6 +54,7 @@ where
     ensures flow { IfOk result (λ report. AllCarry E.pushed E.taken report.ranks.items report.ends.items report.residue.inboxes.items) }
     ensures same_ends { IfOk result (λ report. map E.name report.ends.items ≡ map E.name ends.items) }
     ensures same_boards { IfOk result (λ report. map D.board report.deciders.items ≡ map D.board deciders.items) }
+    ensures lawful { IfOk result (λ report. IsLawful job.now report.ranks.items) }
 {
     if !fits(job, &ends, deciders.len()) {
         return Err(RunFault::BadEnds);

@@ -1,6 +1,7 @@
 use Rattle.std.proofs.Common.{arith, sym, subst}
 use Rattle.ulfm_carrier.specs.Family.{IsFresh}
 use Rattle.ulfm_run.proofs.Reporting.{fits_of, same_names, all_ready, flow_all, order_all, went_all, sizes_all, names_all, boards_all}
+use Rattle.ulfm_run.proofs.Lawful.{lawful_of}
 use Rattle.ulfm_run.proofs.job.run_job.Goals as goal
 
 pub play_all-requires-clause-fresh : goal.play_all-requires-clause-fresh
@@ -50,3 +51,15 @@ pub returns-clause-same_boards : goal.returns-clause-same_boards
 returns-clause-same_boards g c =
     let fit = fits_of g.E.Ends.place c.args.job.now c.args.ends.items c.args.deciders.items (c.fits.ensures.0 c.if-not-fits.false).0 (omega (arith, (c.fits.ensures.0 c.if-not-fits.false).1, c.len.ensures, c.args.deciders.ok)) (c.fits.ensures.0 c.if-not-fits.false).2 in
     boards_all g.E.Ends.name g.E.Ends.place g.E.Ends.count g.E.Ends.pushed g.E.Ends.taken g.E.Ends.ready g.D.Decider.board c.args.job.now c.args.ends.items c.args.deciders.items c.in-Ok.ran.items c.in-Ok.ensures fit c.in_ok-report.report.deciders.items c.in_ok-report.ensures.deciders
+
+pub returns-clause-lawful : goal.returns-clause-lawful
+returns-clause-lawful g c =
+    let fit = fits_of g.E.Ends.place c.args.job.now c.args.ends.items c.args.deciders.items (c.fits.ensures.0 c.if-not-fits.false).0 (omega (arith, (c.fits.ensures.0 c.if-not-fits.false).1, c.len.ensures, c.args.deciders.ok)) (c.fits.ensures.0 c.if-not-fits.false).2 in
+    let ranks = c.in_ok-report.report.ranks.items in
+    let after = c.in_ok-report.report.ends.items in
+    let inboxes = c.in_ok-report.report.residue.inboxes.items in
+    let sizes = sizes_all g.E.Ends.name g.E.Ends.place g.E.Ends.count g.E.Ends.pushed g.E.Ends.taken g.E.Ends.ready g.D.Decider.board c.args.job.now c.args.ends.items c.args.deciders.items c.in-Ok.ran.items c.in-Ok.ensures fit ranks after c.in_ok-report.report.deciders.items inboxes c.in_ok-report.ensures.ranks c.in_ok-report.ensures.same c.in_ok-report.ensures.residue c.in_ok-report.ensures.deciders in
+    lawful_of g.E.Ends.pushed g.E.Ends.taken c.args.job.now ranks after inboxes (sizes.0, sizes.1, sizes.2)
+    (order_all g.E.Ends.name g.E.Ends.place g.E.Ends.count g.E.Ends.pushed g.E.Ends.taken g.E.Ends.ready g.D.Decider.board c.args.job.now c.args.ends.items c.args.deciders.items c.in-Ok.ran.items c.in-Ok.ensures fit ranks c.in_ok-report.ensures.ranks)
+    (went_all g.E.Ends.name g.E.Ends.place g.E.Ends.count g.E.Ends.pushed g.E.Ends.taken g.E.Ends.ready g.D.Decider.board c.args.job.now c.args.ends.items c.args.deciders.items c.in-Ok.ran.items c.in-Ok.ensures fit ranks c.in_ok-report.ensures.ranks)
+    (flow_all g.E.Ends.name g.E.Ends.place g.E.Ends.count g.E.Ends.pushed g.E.Ends.taken g.E.Ends.ready g.D.Decider.board c.args.job.now c.args.ends.items c.args.deciders.items c.in-Ok.ran.items c.in-Ok.ensures fit ranks after inboxes c.in_ok-report.ensures.ranks c.in_ok-report.ensures.same c.in_ok-report.ensures.residue)
