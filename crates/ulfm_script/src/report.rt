@@ -4,6 +4,8 @@ ghost use Rattle.ulfm_rank.specs.Facts.{is_stopped};
 ghost use Rattle.ulfm_rank.specs.State.{outbox, Leaves};
 
 use crate::answer::StepReport;
+use std::fmt;
+use std::fmt::{Debug, Formatter};
 use std::marker::Model;
 use ulfm_base::{Item, WorldRank};
 use ulfm_rank::{Entry, Rank};
@@ -83,5 +85,15 @@ impl RankReport {
         ensures { result ≡ self.now.starved }
     {
         self.starved
+    }
+}
+
+/// The number of the rank, and whether it stopped: what it did is long.
+impl Debug for RankReport {
+    fn fmt<W: fmt::Write>(&self, f: &mut Formatter<W>) -> fmt::Result {
+        f.debug_struct("RankReport")
+            .field("me", &self.me().number)
+            .field("stopped", &self.stopped())
+            .finish()
     }
 }
