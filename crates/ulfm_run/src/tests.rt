@@ -130,7 +130,7 @@ where
     R: Threads + Wait + Sync,
 {
     match run_with(rt, alloc, text, ends, deciders)? {
-        Err(fault) => Ok(fault == RunFault::BadEnds),
+        Err(fault) => Ok(matches!(fault, RunFault::BadEnds)),
         Ok(_) => Ok(false),
     }
 }

@@ -1,6 +1,7 @@
 //! Why a job is refused, and why a run fails.
 ghost use Rattle.std.specs.Prelude.{◌≡◌};
 
+use crate::report::RankReport;
 use std::alloc::AllocFailed;
 use thiserror::Error;
 
@@ -53,7 +54,7 @@ impl<T: Drop> From<AllocFailed<T>> for JobFault {
 }
 
 /// Why a run fails.
-#[derive(Clone, Copy, Debug, PartialEq, Eq, Error)]
+#[derive(Debug, Drop, Error)]
 pub enum RunFault {
     /// The number of ends or of deciders isn't that of the ranks, or an end stands at another place than its number.
     #[error("the ends or deciders don't fit the job")]
@@ -64,6 +65,10 @@ pub enum RunFault {
     /// A growth was refused outside the polls of steps.
     #[error("out of memory")]
     OutOfMemory,
+    /// A rank adopted a decision that lists a rank with another set than the one with which that rank entered, or that
+    /// excludes a rank that didn't stop. What the ranks did shows it.
+    #[error("a decision lists a set that isn't its rank's own, or excludes a rank that didn't stop")]
+    Untrue(Vec<RankReport>),
 }
 
 impl<T: Drop> From<AllocFailed<T>> for RunFault {

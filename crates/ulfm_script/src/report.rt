@@ -1,9 +1,11 @@
 //! What a rank did.
-ghost use Rattle.std.specs.Prelude.{◌≡◌, ◌<◌, [], IfSome, IfNone};
+ghost use Rattle.std.specs.Prelude.{◌≡◌, ◌<◌, ◌↔◌, [], IsTrue, IfSome, IfNone};
 ghost use Rattle.ulfm_rank.specs.Facts.{is_stopped};
 ghost use Rattle.ulfm_rank.specs.State.{outbox, Leaves};
 
 use crate::answer::StepReport;
+use std::fmt;
+use std::fmt::{Debug, Formatter};
 use std::marker::Model;
 use ulfm_base::{Item, WorldRank};
 use ulfm_rank::{Entry, Rank};
@@ -45,6 +47,13 @@ impl RankReport {
         self.rank.me()
     }
 
+    /// How many ranks the world has, 1 to 8.
+    pub fn ranks(&self) -> u8
+        ensures { result ≡ self.now.rank.ranks }
+    {
+        self.rank.ranks()
+    }
+
     /// Its answered steps, in order.
     pub fn steps(&self) -> &[StepReport]
         ensures { result.now ≡ self.now.steps }
@@ -57,6 +66,14 @@ impl RankReport {
         ensures { result.now ≡ self.now.rank.log }
     {
         self.rank.log()
+    }
+
+    /// Whether nothing was left for a rank.
+    pub fn is_outbox_empty(&self, dest: u8) -> bool
+        requires { dest < self.now.rank.ranks }
+        ensures { IsTrue result ↔ (outbox self.now.rank dest ≡ []) }
+    {
+        self.rank.is_outbox_empty(dest)
     }
 
     /// The first item that was left for a rank, if there is one. It goes out of the report. It takes no memory.
@@ -83,5 +100,15 @@ impl RankReport {
         ensures { result ≡ self.now.starved }
     {
         self.starved
+    }
+}
+
+/// The number of the rank, and whether it stopped: what it did is long.
+impl Debug for RankReport {
+    fn fmt<W: fmt::Write>(&self, f: &mut Formatter<W>) -> fmt::Result {
+        f.debug_struct("RankReport")
+            .field("me", &self.me().number)
+            .field("stopped", &self.stopped())
+            .finish()
     }
 }
