@@ -5,8 +5,9 @@ use Rattle.ulfm_script.specs.declared.fault.JobFault.{JobFault}
 use Rattle.ulfm_script.specs.declared.fault.JobFault.TheVariants.{NotToml, InJob, InStep, TooLarge, OutOfMemory}
 use Rattle.ulfm_script.specs.JobText.{job_of_bytes}
 use Rattle.ulfm.specs.declared.command.Wanted.{Wanted}
-use Rattle.ulfm.specs.declared.command.Wanted.TheVariants.{Check, Replay}
-use Rattle.ulfm.specs.Replies.{IsCheckReply, IsReplayReply, IsReplyTo, GetsReply, GetsBeginning, GetsFrontOf, good, refused, no_memory, starved, traced, not_a_job, no_room, failed, refused_text, starved_text}
+use Rattle.ulfm.specs.declared.command.Wanted.TheVariants.{Check, Replay, Run}
+use Rattle.ulfm.specs.declared.run.Failure.TheVariants as run
+use Rattle.ulfm.specs.Replies.{IsCheckReply, IsReplayReply, IsRunReply, IsReplyTo, GetsReply, GetsBeginning, GetsFrontOf, good, refused, no_memory, starved, traced, not_a_job, no_room, failed, ran, no_such_job, no_place, fell, refused_text, starved_text}
 
 pub check_refused : (f : JobFault) (bytes : List ℕ) → (f ≢ OutOfMemory → job_of_bytes bytes ≡ Err f) → IsCheckReply bytes 1 (refused_text f)
 check_refused NotToml bytes h = refused _ (h (λ e. cc))
@@ -22,10 +23,18 @@ replay_refused (InStep f k) bytes h = not_a_job _ (h (λ e. cc))
 replay_refused TooLarge bytes h = not_a_job _ (h (λ e. cc))
 replay_refused OutOfMemory bytes h = no_room
 
+pub run_refused : (f : JobFault) (bytes : List ℕ) → (f ≢ OutOfMemory → job_of_bytes bytes ≡ Err f) → IsRunReply bytes 1 (refused_text f)
+run_refused NotToml bytes h = no_such_job _ (h (λ e. cc))
+run_refused (InJob f) bytes h = no_such_job _ (h (λ e. cc))
+run_refused (InStep f k) bytes h = no_such_job _ (h (λ e. cc))
+run_refused TooLarge bytes h = no_such_job _ (h (λ e. cc))
+run_refused OutOfMemory bytes h = no_place
+
 -- want of memory is a reply to any words
 starved_reply : (wanted : Wanted) (bytes : List ℕ) → IsReplyTo wanted bytes 3 starved_text
 starved_reply Check bytes = starved
 starved_reply Replay bytes = failed
+starved_reply (Run carrier) bytes = fell run.OutOfMemory
 
 pub starved_gets : (wanted : Wanted) (most : ℕ) (rest old new : Option (List ℕ)) (status : ℕ) → (status ≤ 3 → (status ≡ 3) × Appends old new starved_text) → status ≤ 3 → IfSome rest (λ bytes. GetsReply (IsReplyTo wanted (take most bytes)) old new status)
 starved_gets wanted most None old new status h l = tt
@@ -49,7 +58,14 @@ replays_no_usage bytes status text (not_a_job f e) = λ e. cc
 replays_no_usage bytes status text no_room = λ e. cc
 replays_no_usage bytes status text failed = λ e. cc
 
+runs_no_usage : (bytes : List ℕ) (status : ℕ) (text : List ℕ) → IsRunReply bytes status text → status ≢ 2
+runs_no_usage bytes status text (ran job reports e h) = λ e. cc
+runs_no_usage bytes status text (no_such_job f e) = λ e. cc
+runs_no_usage bytes status text no_place = λ e. cc
+runs_no_usage bytes status text (fell f) = λ e. cc
+
 -- no job is answered by usage
 pub no_usage : (wanted : Wanted) (bytes : List ℕ) (status : ℕ) (text : List ℕ) → IsReplyTo wanted bytes status text → status ≢ 2
 no_usage Check bytes status text h = checks_no_usage bytes status text h
 no_usage Replay bytes status text h = replays_no_usage bytes status text h
+no_usage (Run carrier) bytes status text h = runs_no_usage bytes status text h

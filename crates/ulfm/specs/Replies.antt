@@ -13,8 +13,11 @@ use Rattle.ulfm_script.specs.Report.{Report}
 use Rattle.ulfm_script.specs.Trace.{trace_of}
 use Rattle.ulfm_world.specs.Reader.{IsFaithful}
 use Rattle.ulfm_world.specs.Replay.{IsReplayed, AreSettled}
+use Rattle.ulfm_run.specs.Lawful.{IsLawful}
 use Rattle.ulfm.specs.declared.command.Wanted.{Wanted}
-use Rattle.ulfm.specs.declared.command.Wanted.TheVariants.{Check, Replay}
+use Rattle.ulfm.specs.declared.command.Wanted.TheVariants.{Check, Replay, Run}
+use Rattle.ulfm.specs.declared.run.Failure.{Failure}
+use Rattle.ulfm.specs.declared.run.Failure.TheVariants as run
 
 -- how a fault of a table of keys is printed
 abbrev pub fault_text : Fault → List ℕ
@@ -39,9 +42,14 @@ refused_text f = codes "job refused: " ++ job_fault_text f ++ codes "\n"
 unfoldable pub good_line : ℕ → ℕ → List ℕ
 good_line ranks steps = codes "job ok: " ++ decimal ranks ++ codes " ranks " ++ decimal steps ++ codes " steps\n"
 
+-- the line for a run that failed
+abbrev pub failed_text : Failure → List ℕ
+failed_text run.NoThread = codes "run failed: F2\n"
+failed_text run.OutOfMemory = codes "run failed: F3\n"
+
 -- the line for a run that found no memory
 abbrev pub starved_text : List ℕ
-starved_text = codes "run failed: F3\n"
+starved_text = failed_text run.OutOfMemory
 
 -- The status and the text that `check` gives for these bytes: the line of their job with 0, of its refusal with 1,
 -- which may be J7, or of want of memory with 3.
@@ -59,10 +67,19 @@ pub data IsReplayReply (bytes : List ℕ) : ℕ → List ℕ → Type 0 where
   no_room : IsReplayReply bytes 1 (refused_text OutOfMemory)
   failed : IsReplayReply bytes 3 starved_text
 
+-- The same for `run`: with 0 the trace of reports that are lawful for the job, whichever thread went when; with 3 the line of
+-- what failed.
+pub data IsRunReply (bytes : List ℕ) : ℕ → List ℕ → Type 0 where
+  ran : (job : Seen) (reports : List Report) → job_of_bytes bytes ≡ Ok (plan_of job) → IsLawful job reports → IsRunReply bytes 0 (trace_of reports)
+  no_such_job : (f : JobFault) → job_of_bytes bytes ≡ Err f → IsRunReply bytes 1 (refused_text f)
+  no_place : IsRunReply bytes 1 (refused_text OutOfMemory)
+  fell : (f : Failure) → IsRunReply bytes 3 (failed_text f)
+
 -- the reply to what the words ask for
 abbrev pub IsReplyTo : Wanted → List ℕ → ℕ → List ℕ → Type 0
 IsReplyTo Check bytes status text = IsCheckReply bytes status text
 IsReplyTo Replay bytes status text = IsReplayReply bytes status text
+IsReplyTo (Run carrier) bytes status text = IsRunReply bytes status text
 
 -- the writer got a text that is the reply to the bytes
 abbrev pub GetsReply : (ℕ → List ℕ → Type 0) → Option (List ℕ) → Option (List ℕ) → ℕ → Type 0

@@ -1,11 +1,19 @@
 //! The command line.
-ghost use Rattle.std.specs.Prelude.{◌≡◌, map, option_map, IfOk};
-ghost use Rattle.clap.specs.Words.{FailsBy};
-ghost use Rattle.ulfm.specs.Words.{asked, faults, meant};
+ghost use Rattle.std.specs.Prelude.{◌≡◌, Some, map, option_map, IfOk};
+ghost use Rattle.clap.specs.Words.{FailsBy, app_of, subcommand_rows_of, with_subcommand};
+ghost use Rattle.ulfm.specs.Words.{asked, choice, faults, meant, named, run_app, tool_app};
 
-use clap::{Command, Error};
-use std::alloc::Global;
+use clap::error::ErrorKind;
+use clap::{Arg, ArgMatches, Command, Error};
+use std::alloc::{AllocError, Global};
 use std::convert::AsStr;
+
+/// What takes the items of a run from rank to rank.
+#[derive(Clone, Copy, Debug, PartialEq, Eq)]
+pub enum Carrier {
+    /// A ring for each ordered pair of ranks.
+    Lanes,
+}
 
 /// What the words ask for.
 #[derive(Clone, Copy, Debug, PartialEq, Eq)]
@@ -14,6 +22,8 @@ pub enum Wanted {
     Check,
     /// The trace of a replay.
     Replay,
+    /// The trace of a run.
+    Run(Carrier),
 }
 
 /// What is shown below the commands.
@@ -43,10 +53,25 @@ const HELP: &str = "A job is a TOML text on standard input:
 Statuses: 0 done, 1 job refused, 2 usage, 3 run failed, 4 output failed, 5 input failed.
 docs/JOBS.md has the format of jobs and traces, docs/RULES.md the rules that ranks obey.";
 
+/// What is said of a carrier that there isn't.
+const UNKNOWN_CARRIER: &str = "invalid value for '--carrier <CARRIER>'\n  [possible values: lanes]";
+
 /// What the words ask for. An error is a wrong command line, or help that is asked for.
-pub fn wanted_of<S: AsStr>(alloc: Global, words: &[S]) -> Result<Option<Wanted>, Error>
-    ensures ok { IfOk result (λ wanted. wanted ≡ meant (asked (map S.text words.now))) }
+pub fn wanted_of<S: AsStr>(alloc: Global, words: &[S]) -> Result<Wanted, Error>
+    ensures ok { IfOk result (λ wanted. meant (asked (map S.text words.now)) ≡ Some wanted) }
     ensures kinds { FailsBy (faults (map S.text words.now)) result }
+{
+    let mut command = command_line(alloc)?;
+    let matches = command.try_get_matches_from_mut(words)?;
+    match wanted_in(&matches) {
+        Some(wanted) => Ok(wanted),
+        None => Err(command.error(ErrorKind::InvalidValue, UNKNOWN_CARRIER)?),
+    }
+}
+
+/// The command line that is followed.
+fn command_line<'a>(alloc: Global) -> Result<Command<'a>, AllocError>
+    ensures { IfOk result (λ command. app_of command ≡ tool_app) }
 {
     let check = Command::new(alloc, "check").about(
         "Says whether the job on standard input can be run",
@@ -60,17 +85,45 @@ pub fn wanted_of<S: AsStr>(alloc: Global, words: &[S]) -> Result<Option<Wanted>,
         .subcommand_required(true)
         .subcommand(check)?;
     let command = command.subcommand(replay)?;
-    let matches = command.try_get_matches_from(words)?;
-    Ok(named(matches.subcommand_name()))
+    with_run(alloc, command)
 }
 
-/// The command of a name.
-fn named(name: Option<&str>) -> Option<Wanted>
-    ensures { result ≡ meant (option_map (λ s. s.now) name.entry) }
+/// A command with the command `run` and its option.
+fn with_run<'a>(alloc: Global, command: Command<'a>) -> Result<Command<'a>, AllocError>
+    ensures { IfOk result (λ longer. app_of longer ≡ with_subcommand (app_of command.entry) run_app.top) }
+{
+    let carrier = Arg::new(alloc, "carrier")
+        .long("carrier")
+        .value_name("CARRIER")
+        .help("What takes items from rank to rank [possible values: lanes]")
+        .required(true);
+    let run = Command::new(alloc, "run")
+        .about(
+            "Runs the job on standard input, each rank in a thread of its own, and prints its trace",
+        )
+        .arg(carrier)?;
+    command.subcommand(run)
+}
+
+/// What the words ask for, by what was found in them.
+fn wanted_in(matches: &ArgMatches<'_>) -> Option<Wanted>
+    ensures { result ≡ meant (option_map choice (subcommand_rows_of matches.now)) }
+{
+    let (name, options) = matches.subcommand()?;
+    named(name, options.get_str("carrier"))
+}
+
+/// The command of a name, with the value of its option.
+fn named(name: &str, carrier: Option<&str>) -> Option<Wanted>
+    ensures { result ≡ named name.now (option_map (λ s. s.now) carrier.entry) }
 {
     match name {
-        Some("check") => Some(Wanted::Check),
-        Some("replay") => Some(Wanted::Replay),
+        "check" => Some(Wanted::Check),
+        "replay" => Some(Wanted::Replay),
+        "run" => match carrier {
+            Some("lanes") => Some(Wanted::Run(Carrier::Lanes)),
+            _ => None,
+        },
         _ => None,
     }
 }

@@ -14,18 +14,20 @@ use clap::error::ErrorKind;
 use std::alloc::{AllocError, Global};
 use std::convert::AsStr;
 use std::io::{Read, Write};
+use std::sync::Wait;
+use std::thread::Threads;
 
 /// What is written where memory runs out outside the reading of a job.
 const STARVED: &[u8] = b"run failed: F3\n";
 
 /// Follows the words: looks at them first, then reads the input whole, then its job, then runs it, and writes the whole
 /// reply last. Answers the status (docs/JOBS.md).
-pub fn run_on<S: AsStr, R: Read, W: Write>(
-    alloc: Global,
-    words: &[S],
-    input: &mut R,
-    output: &mut W,
-) -> u8
+pub fn run_on<T, S, R, W>(rt: &T, alloc: Global, words: &[S], input: &mut R, output: &mut W) -> u8
+where
+    T: Threads + Wait + Sync,
+    S: AsStr,
+    R: Read,
+    W: Write,
     ensures replies { (wanted : Wanted) → AsksFor wanted (map S.text words.now) → result ≤ 3 → IfSome (R.remaining input.old) (λ bytes.
         GetsReply (IsReplyTo wanted (take 1048577 bytes)) (W.contents output.old) (W.contents output.new) result) }
     ensures cut_off { (wanted : Wanted) → AsksFor wanted (map S.text words.now) → result ≡ 4 → IfSome (R.remaining input.old) (λ bytes.
@@ -37,8 +39,7 @@ pub fn run_on<S: AsStr, R: Read, W: Write>(
     ensures known { result ≤ 5 }
 {
     match wanted_of(alloc, words) {
-        Ok(Some(wanted)) => follow(alloc, wanted, input, output),
-        Ok(None) => write_reply(output, USAGE, b"unknown command\n"),
+        Ok(wanted) => follow(rt, alloc, wanted, input, output),
         Err(error) => {
             if error.kind() == ErrorKind::OutOfMemory {
                 return write_reply(output, RUN_FAILED, STARVED);
@@ -64,7 +65,11 @@ pub fn without_words<W: Write>(is_starved: bool, output: &mut W) -> u8
 }
 
 /// Reads the input, and writes the reply to it.
-fn follow<R: Read, W: Write>(alloc: Global, wanted: Wanted, input: &mut R, output: &mut W) -> u8
+fn follow<T, R, W>(rt: &T, alloc: Global, wanted: Wanted, input: &mut R, output: &mut W) -> u8
+where
+    T: Threads + Wait + Sync,
+    R: Read,
+    W: Write,
     ensures replies { result ≤ 3 → IfSome (R.remaining input.old) (λ bytes.
         GetsReply (IsReplyTo wanted (take 1048577 bytes)) (W.contents output.old) (W.contents output.new) result) }
     ensures cut_off { result ≡ 4 → IfSome (R.remaining input.old) (λ bytes.
@@ -79,7 +84,7 @@ fn follow<R: Read, W: Write>(alloc: Global, wanted: Wanted, input: &mut R, outpu
         Err(InputFault::Failed) => return INPUT_FAILED,
         Err(InputFault::OutOfMemory) => return write_reply(output, RUN_FAILED, STARVED),
     };
-    match reply_to(alloc, wanted, bytes.as_slice()) {
+    match reply_to(rt, alloc, wanted, bytes.as_slice()) {
         Ok(reply) => write_reply(output, reply.status, reply.text.as_bytes()),
         Err(_) => write_reply(output, RUN_FAILED, STARVED),
     }

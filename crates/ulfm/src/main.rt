@@ -4,6 +4,7 @@
 mod command;
 mod front;
 mod reply;
+mod run;
 mod stream;
 
 use std::env;
@@ -13,7 +14,13 @@ use std::process::ExitCode;
 fn main(rt: HostRuntime) -> ExitCode {
     let mut output = rt.stdout();
     let status = match words_of(&rt) {
-        Ok(words) => front::run_on(rt.alloc(), words.as_slice(), &mut rt.stdin(), &mut output),
+        Ok(words) => front::run_on(
+            &rt,
+            rt.alloc(),
+            words.as_slice(),
+            &mut rt.stdin(),
+            &mut output,
+        ),
         Err(kind) => front::without_words(kind == ErrorKind::OutOfMemory, &mut output),
     };
     ExitCode::from(status)

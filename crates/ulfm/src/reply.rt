@@ -3,8 +3,11 @@ ghost use Rattle.std.specs.Prelude.{◌≡◌, Some, IfOk, string_bytes};
 ghost use Rattle.ulfm.specs.Replies.{fault_text, job_fault_text, refused_text, good_line, IsCheckReply, IsReplayReply, IsReplyTo};
 
 use crate::command::Wanted;
+use crate::run::run_reply;
 use std::alloc::{AllocError, Global};
 use std::fmt;
+use std::sync::Wait;
+use std::thread::Threads;
 use ulfm_script::{Fault, Job, JobFault, trace_text};
 use ulfm_world::replay;
 
@@ -17,7 +20,7 @@ pub const JOB_REFUSED: u8 = 1;
 /// The words are no command line that can be followed.
 pub const USAGE: u8 = 2;
 
-/// The run found no memory.
+/// The run failed.
 pub const RUN_FAILED: u8 = 3;
 
 /// The output took a beginning alone.
@@ -77,7 +80,7 @@ fn good_line(alloc: Global, ranks: u8, steps: usize) -> Result<String, AllocErro
 }
 
 /// The reply to a job that is refused.
-fn refusal(alloc: Global, fault: JobFault) -> Result<Reply, AllocError>
+pub fn refusal(alloc: Global, fault: JobFault) -> Result<Reply, AllocError>
     ensures { IfOk result (λ r. (r.status ≡ 1) × (string_bytes r.text ≡ refused_text fault)) }
 {
     let fault = FaultText(fault);
@@ -119,11 +122,17 @@ fn replay_reply(alloc: Global, bytes: &[u8]) -> Result<Reply, AllocError>
 }
 
 /// The reply to what the words ask for.
-pub fn reply_to(alloc: Global, wanted: Wanted, bytes: &[u8]) -> Result<Reply, AllocError>
+pub fn reply_to<R: Threads + Wait + Sync>(
+    rt: &R,
+    alloc: Global,
+    wanted: Wanted,
+    bytes: &[u8],
+) -> Result<Reply, AllocError>
     ensures { IfOk result (λ r. IsReplyTo wanted bytes.now r.status (string_bytes r.text)) }
 {
     match wanted {
         Wanted::Check => check_reply(alloc, bytes),
         Wanted::Replay => replay_reply(alloc, bytes),
+        Wanted::Run(carrier) => run_reply(rt, alloc, carrier, bytes),
     }
 }

@@ -8,6 +8,7 @@ mod recoveries;
 mod refused;
 mod revocations;
 mod rows;
+mod runs;
 mod schedule;
 mod shrinks;
 mod streams;
@@ -15,6 +16,8 @@ mod streams;
 use crate::front::run_on;
 use std::io;
 use std::io::Write;
+use std::sync::Wait;
+use std::thread::Threads;
 
 /// How many bytes of a text are kept.
 const ROOM: usize = 4096;
@@ -44,13 +47,17 @@ impl Write for Kept {
 }
 
 /// The reply to a command line and an input.
-fn reply(rt: &HostRuntime, words: &[&str], input: &str) -> (u8, Kept) {
+fn reply<R: AllocGlobal + Threads + Wait + Sync>(
+    rt: &R,
+    words: &[&str],
+    input: &str,
+) -> (u8, Kept) {
     let mut input = input.as_bytes();
     let mut output = Kept {
         bytes: [0; 4096],
         len: 0,
     };
-    let status = run_on(rt.alloc(), words, &mut input, &mut output);
+    let status = run_on(rt, rt.alloc(), words, &mut input, &mut output);
     (status, output)
 }
 

@@ -2,13 +2,15 @@
 
 use super::{Kept, is_reply, reply};
 use crate::front::run_on;
+use std::sync::Wait;
 use std::test::Fail;
+use std::thread::Threads;
 
 /// The top keys of a job of one rank.
 const HEAD: &str = "ranks = 1\ncapacity = 1\nturns = 1\n";
 
 /// Whether both commands answer a text with this line and status 1.
-fn is_refused(rt: &HostRuntime, job: &str, line: &str) -> bool {
+fn is_refused<R: AllocGlobal + Threads + Wait + Sync>(rt: &R, job: &str, line: &str) -> bool {
     let checked = reply(rt, &["ulfm", "check"], job);
     let replayed = reply(rt, &["ulfm", "replay"], job);
     let same = is_reply(&checked, 1, line) && is_reply(&replayed, 1, line);
@@ -125,19 +127,19 @@ const ONE_LETTER: &str =
     "ranks = 2\ncapacity = 4\nturns = 10\n[[step]]\nrank = 0\nop = \"send\"\nto = 1\ntag = 5\nbody = \"abc\"\n[[step]]\nrank = 1\nop = \"recv\"\nfrom = 0\ntag = 5\n[[step]]\nrank = 1\nop = \"wait\"\nreq = 0\n";
 
 /// The status of `check` for these bytes.
-fn status_of(rt: &HostRuntime, job: &[u8]) -> u8 {
+fn status_of<R: AllocGlobal + Threads + Wait + Sync>(rt: &R, job: &[u8]) -> u8 {
     let mut input = job;
     let mut output = Kept {
         bytes: [0; 4096],
         len: 0,
     };
-    let status = run_on(rt.alloc(), &["ulfm", "check"], &mut input, &mut output);
+    let status = run_on(rt, rt.alloc(), &["ulfm", "check"], &mut input, &mut output);
     let Kept { bytes: _, len: _ } = output;
     status
 }
 
 /// The greatest status of `check` for the beginnings of a job's text.
-fn greatest_status(rt: &HostRuntime, job: &[u8]) -> u8 {
+fn greatest_status<R: AllocGlobal + Threads + Wait + Sync>(rt: &R, job: &[u8]) -> u8 {
     let mut greatest = 0;
     for at in 0..job.len() {
         let status = status_of(rt, &job[..at]);

@@ -1,6 +1,8 @@
 //! Jobs with their traces.
 
 use super::{Kept, is_reply, reply};
+use std::sync::Wait;
+use std::thread::Threads;
 
 /// A job by what it shows, and its trace.
 pub struct Row {
@@ -10,7 +12,10 @@ pub struct Row {
 }
 
 /// The first row whose job doesn't give its trace under `replay`.
-pub fn first_wrong(rt: &HostRuntime, rows: &[Row]) -> Option<&'static str> {
+pub fn first_wrong<R: AllocGlobal + Threads + Wait + Sync>(
+    rt: &R,
+    rows: &[Row],
+) -> Option<&'static str> {
     for row in rows {
         let answer = reply(rt, &["ulfm", "replay"], row.job);
         let follows = is_reply(&answer, 0, row.trace);

@@ -4,6 +4,8 @@ use super::{Kept, is_reply, reply};
 use crate::front::run_on;
 use std::io;
 use std::io::{ErrorKind, Read, Write};
+use std::sync::Wait;
+use std::thread::Threads;
 
 /// A job of one letter, by its steps.
 const ONE_LETTER: &str =
@@ -50,7 +52,7 @@ fn an_input_that_fails_writes_nothing(rt: HostRuntime) {
         let mut output = Vec::new(rt.alloc());
         let mut input = FailsSecond { reads: 0 };
         assert_eq!(rt;
-            run_on(rt.alloc(), &["ulfm", command], &mut input, &mut output),
+            run_on(&rt, rt.alloc(), &["ulfm", command], &mut input, &mut output),
             5
         );
         assert!(rt; output.is_empty());
@@ -66,7 +68,13 @@ fn an_output_that_fails_gets_a_beginning(rt: HostRuntime) {
         room: 10,
     };
     assert_eq!(rt;
-        run_on(rt.alloc(), &["ulfm", "replay"], &mut input, &mut output),
+        run_on(
+            &rt,
+            rt.alloc(),
+            &["ulfm", "replay"],
+            &mut input,
+            &mut output
+        ),
         4
     );
     let TakesFew { taken, room: _ } = output;
@@ -74,7 +82,7 @@ fn an_output_that_fails_gets_a_beginning(rt: HostRuntime) {
 }
 
 /// The status for these words, with an empty input.
-fn status_of(rt: &HostRuntime, words: &[&str]) -> u8 {
+fn status_of<R: AllocGlobal + Threads + Wait + Sync>(rt: &R, words: &[&str]) -> u8 {
     let (status, kept) = reply(rt, words, "");
     let Kept { bytes: _, len: _ } = kept;
     status
@@ -82,14 +90,18 @@ fn status_of(rt: &HostRuntime, words: &[&str]) -> u8 {
 
 #[test]
 fn words_are_looked_at_first(rt: HostRuntime) {
-    assert_eq!(rt; status_of(&rt, &["ulfm", "run"]), 2);
     assert_eq!(rt; status_of(&rt, &["ulfm"]), 2);
     assert_eq!(rt; status_of(&rt, &["ulfm", "check", "x"]), 2);
     assert_eq!(rt; status_of(&rt, &["ulfm", "--help"]), 0);
 }
 
 /// Whether the reply to these words has this status and begins with this text.
-fn begins(rt: &HostRuntime, words: &[&str], status: u8, text: &str) -> bool {
+fn begins<R: AllocGlobal + Threads + Wait + Sync>(
+    rt: &R,
+    words: &[&str],
+    status: u8,
+    text: &str,
+) -> bool {
     let (answered, kept) = reply(rt, words, "");
     let same = answered == status && kept.bytes[..kept.len].starts_with(text.as_bytes());
     let Kept { bytes: _, len: _ } = kept;
@@ -103,7 +115,7 @@ fn usage_and_help_say_what_is_wanted(rt: HostRuntime) {
             &rt,
             &["ulfm"],
             2,
-            "error: 'ulfm' requires a subcommand but one was not provided\n  [subcommands: check, replay, help]\n\nUsage: ulfm <COMMAND>\n"
+            "error: 'ulfm' requires a subcommand but one was not provided\n  [subcommands: check, replay, run, help]\n\nUsage: ulfm <COMMAND>\n"
         )
     );
     assert!(rt;

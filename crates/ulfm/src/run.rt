@@ -1,0 +1,87 @@
+//! The reply of `run`.
+ghost use Rattle.std.specs.Prelude.{◌≡◌, ◌≢◌, IfErr, IfOk, string_bytes};
+ghost use Rattle.ulfm.specs.Replies.{failed_text, IsRunReply};
+ghost use Rattle.ulfm_run.specs.Lawful.{IsLawful};
+
+use crate::command::Carrier;
+use crate::reply::{DONE, RUN_FAILED, Reply, refusal};
+use std::alloc::{AllocError, Global};
+use std::sync::Wait;
+use std::thread::Threads;
+use ulfm_board::seats;
+use ulfm_carrier::lanes;
+use ulfm_run::{Report, run_job};
+use ulfm_script::{Job, RankReport, RunFault, trace_text};
+
+/// Why a run has no trace.
+#[derive(Clone, Copy, Debug, PartialEq, Eq)]
+pub enum Failure {
+    /// A thread couldn't be started.
+    NoThread,
+    /// Memory ran out.
+    OutOfMemory,
+}
+
+/// The reply of `run` with this carrier.
+pub fn run_reply<R: Threads + Wait + Sync>(
+    rt: &R,
+    alloc: Global,
+    carrier: Carrier,
+    bytes: &[u8],
+) -> Result<Reply, AllocError>
+    ensures { IfOk result (λ r. IsRunReply bytes.now r.status (string_bytes r.text)) }
+{
+    let job = match Job::read(alloc, bytes) {
+        Ok(job) => job,
+        Err(fault) => return refusal(alloc, fault),
+    };
+    let ran = match carrier {
+        Carrier::Lanes => run_on_lanes(rt, alloc, &job),
+    };
+    match ran {
+        Ok(reports) => {
+            let text = trace_text(alloc, reports.as_slice())?;
+            Ok(Reply { status: DONE, text })
+        }
+        Err(failure) => failed(alloc, failure),
+    }
+}
+
+/// The reply where a run failed.
+fn failed(alloc: Global, failure: Failure) -> Result<Reply, AllocError>
+    ensures { IfOk result (λ r. (r.status ≡ 3) × (string_bytes r.text ≡ failed_text failure)) }
+{
+    let line = match failure {
+        Failure::NoThread => "run failed: F2\n",
+        Failure::OutOfMemory => "run failed: F3\n",
+    };
+    let text = String::from_str(alloc, line)?;
+    Ok(Reply {
+        status: RUN_FAILED,
+        text,
+    })
+}
+
+/// What the ranks of a job did, each in a thread of its own, with a ring for each ordered pair.
+fn run_on_lanes<R: Threads + Wait + Sync>(
+    rt: &R,
+    alloc: Global,
+    job: &Job,
+) -> Result<Vec<RankReport>, Failure>
+    ensures { IfOk result (λ reports. IsLawful job.now reports.items) }
+{
+    let ends = match lanes(alloc, job.ranks(), job.capacity()) {
+        Ok(ends) => ends,
+        Err(_) => return Err(Failure::OutOfMemory),
+    };
+    let deciders = match seats(alloc, job.ranks()) {
+        Ok(deciders) => deciders,
+        Err(_) => return Err(Failure::OutOfMemory),
+    };
+    match run_job(rt, alloc, job, ends, deciders) {
+        Ok(report) => Ok(report.ranks),
+        Err(RunFault::NoThread) => Err(Failure::NoThread),
+        Err(RunFault::OutOfMemory) => Err(Failure::OutOfMemory),
+        Err(RunFault::BadEnds) => unreachable!(),
+    }
+}
