@@ -11,4 +11,5 @@ pub mod Working
 pub mod Starting
 pub mod Flowing
 pub mod Handed
+pub mod Mapped
 pub mod Reporting
