@@ -11,5 +11,6 @@ pub mod Working
 pub mod Starting
 pub mod Flowing
 pub mod Handed
+pub mod Mapped
 pub mod Reporting
 pub mod Lawful
