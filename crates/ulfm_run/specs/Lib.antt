@@ -3,3 +3,4 @@ pub mod Joined
 pub mod Played
 pub mod Flow
 pub mod Fields
+pub mod Decided
