@@ -4,3 +4,4 @@ pub mod Played
 pub mod Flow
 pub mod Fields
 pub mod Lawful
+pub mod Decided

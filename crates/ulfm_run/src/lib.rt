@@ -2,6 +2,7 @@
 //! of a board.
 #![tactic(auto)]
 
+mod adopted;
 mod job;
 mod moving;
 mod polling;
