@@ -12,3 +12,5 @@ pub mod Starting
 pub mod Flowing
 pub mod Handed
 pub mod Reporting
+pub mod Beginnings
+pub mod Answers
