@@ -14,3 +14,5 @@ pub mod Handed
 pub mod Reporting
 pub mod Beginnings
 pub mod Answers
+pub mod Honestly
+pub mod Calling

@@ -1,5 +1,5 @@
 -- A player whose answers are right so far.
-use Rattle.std.specs.Prelude.{◌≡◌, ℕ, true, List, [], ◌++◌, length, All, Option, Some, None}
+use Rattle.std.specs.Prelude.{◌≡◌, ℕ, true, List, [], ◌++◌, ◌<◌, length, All, Option, Some, None}
 use Rattle.ulfm_base.specs.declared.context.Context.{Context}
 use Rattle.ulfm_base.specs.declared.decision.Decision.{Decision}
 use Rattle.ulfm_board.specs.Known.{known_at}
@@ -21,6 +21,7 @@ Since rank from _ = OnlyTook rank.log from (length rank.log)
 
 -- A step stands open: its last poll left it so, and the rank only took since then.
 pub record StandsOpen (known : Known) (rank : State) (before : List StepReport) (from : ℕ) (asked : Step) (at polls : ℕ) : Type 0 where
+  pub polled : 0 < polls
   pub since : Since rank from asked
   pub next : ℕ
   pub left : IsAnswered known rank before from (report_of asked Unfinished at polls) next
