@@ -16,3 +16,4 @@ pub mod Beginnings
 pub mod Answers
 pub mod Honestly
 pub mod Calling
+pub mod Adopting
