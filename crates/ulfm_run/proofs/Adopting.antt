@@ -56,17 +56,17 @@ honest-decided board known later p comm q h running d =
     let was : StandsOpen known p.rank p.done h.place (Shrink comm) p.at p.polls = subst S d.waits h.stands in
     let H : Player → Type 0 = λ (x : Player). IsHonest later x in
     subst H (sym d.only) (honest-closed known later p d.rank (report_of (Shrink comm) d.answer (length p.rank.log) p.polls) h (stays-decided board known later p.rank comm d.answer d.rank d.decision) g
-      (record {
-        old = p.rank;
-        new = d.rank;
-        stood = stood-before p.rank d.rank g;
-        stood_next = stood-now d.rank;
-        how = inr (inr (inl (record {
-          comm = comm;
-          shrink = refl;
-          entered = enters-grew p.rank d.rank comm h.place (length p.rank.log) g was.since;
-          proposes = record { accepted = d.decision.accepted; complete = d.decision.proposed.complete };
-          outcome = outcome-decided board known later p.rank comm d.answer d.rank d.decision;
-        })));
-      })
-      (ends-adds p.rank false d.rank running adds))
+    (record {
+      old = p.rank;
+      new = d.rank;
+      stood = stood-before p.rank d.rank g;
+      stood_next = stood-now d.rank;
+      how = inr (inr (inl (record {
+        comm = comm;
+        shrink = refl;
+        entered = enters-grew p.rank d.rank comm h.place (length p.rank.log) g was.since;
+        proposes = record { accepted = d.decision.accepted; complete = d.decision.proposed.complete };
+        outcome = outcome-decided board known later p.rank comm d.answer d.rank d.decision;
+      })));
+    })
+    (ends-adds p.rank false d.rank running adds))

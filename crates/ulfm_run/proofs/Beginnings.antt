@@ -29,9 +29,9 @@ took-grew log new more from to e h = record {
   between = h.between;
   rest = h.rest ++ more;
   whole =
-    ap (λ (l : List Entry). h.front ++ l) (sym (append_assoc h.between h.rest more))
-    ∙ sym (append_assoc h.front (h.between ++ h.rest) more)
-    ∙ ap (λ (l : List Entry). l ++ more) h.whole ∙ sym e;
+      ap (λ (l : List Entry). h.front ++ l) (sym (append_assoc h.between h.rest more))
+      ∙ sym (append_assoc h.front (h.between ++ h.rest) more)
+      ∙ ap (λ (l : List Entry). l ++ more) h.whole ∙ sym e;
   begins = h.begins;
   ends = h.ends;
   took = h.took;
@@ -59,18 +59,18 @@ none_after (x ∷ xs) h = absurd (omega (arith, h))
 pub took-on : (log new more : List Entry) (from : ℕ) → new ≡ log ++ more → All IsTook more → OnlyTook log from (length log) → OnlyTook new from (length new)
 took-on log new more from e all h =
     let n : length log ≡ length h.front + (length h.between + length h.rest) =
-      omega (arith, ap length h.whole, length-append h.front (h.between ++ h.rest), length-append h.between h.rest) in
+    omega (arith, ap length h.whole, length-append h.front (h.between ++ h.rest), length-append h.between h.rest) in
     let none : h.rest ≡ [] = none_after h.rest (omega (arith, n, h.begins, h.ends)) in
     let was : h.front ++ h.between ≡ log =
-      ap (λ (l : List Entry). h.front ++ l) (sym (append-nil h.between) ∙ ap (λ (l : List Entry). h.between ++ l) (sym none)) ∙ h.whole in
+    ap (λ (l : List Entry). h.front ++ l) (sym (append-nil h.between) ∙ ap (λ (l : List Entry). h.between ++ l) (sym none)) ∙ h.whole in
     record {
       front = h.front;
       between = h.between ++ more;
       rest = [];
       whole =
-        ap (λ (l : List Entry). h.front ++ l) (append-nil (h.between ++ more))
-        ∙ sym (append_assoc h.front h.between more)
-        ∙ ap (λ (l : List Entry). l ++ more) was ∙ sym e;
+          ap (λ (l : List Entry). h.front ++ l) (append-nil (h.between ++ more))
+          ∙ sym (append_assoc h.front h.between more)
+          ∙ ap (λ (l : List Entry). l ++ more) was ∙ sym e;
       begins = h.begins;
       ends = omega (arith, h.begins, h.ends, n, ap length e, length-append log more, length-append h.between more);
       took = All-append IsTook h.between more h.took all;

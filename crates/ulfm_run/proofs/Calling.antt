@@ -59,14 +59,14 @@ honest-answered known p asked q h running a =
     let took : OnlyTook p.rank.log h.place (length p.rank.log) = took-since known p.rank p.done h.place p.current p.at p.polls h.stands a.first in
     let H : Player → Type 0 = λ (x : Player). IsHonest known x in
     subst H (sym a.only) (honest-closed known known p a.rank (report_of asked a.answer (length p.rank.log) p.polls) h (stays-same known) g
-      (record {
-        old = p.rank;
-        new = a.rank;
-        stood = stood-before p.rank a.rank g;
-        stood_next = stood-now a.rank;
-        how = inl (record { took = took-grew p.rank.log a.rank.log g.more h.place (length p.rank.log) g.log took; answers = a.answers });
-      })
-      (ends-adds p.rank (is_stop_step asked) a.rank running adds))
+    (record {
+      old = p.rank;
+      new = a.rank;
+      stood = stood-before p.rank a.rank g;
+      stood_next = stood-now a.rank;
+      how = inl (record { took = took-grew p.rank.log a.rank.log g.more h.place (length p.rank.log) g.log took; answers = a.answers });
+    })
+    (ends-adds p.rank (is_stop_step asked) a.rank running adds))
 
 -- what a rank did since its last step, once a call left the step open
 since-opened : (r s : State) (before : List StepReport) (from : ℕ) (asked : Step) → OnlyTook r.log from (length r.log) → IsOpen before r asked s → Since s from asked
@@ -129,7 +129,7 @@ stands-polled known p asked s from None at h m u o =
     stands-opened known p.rank s p.done from asked (min (p.polls + 1) (2 ^ 32 - 1)) (grew-adds p.rank false s (opens_add false p.done p.rank asked s o)) h o (omega arith) (λ _. omega (arith, m))
 stands-polled known p asked s from (Some (Shrink comm)) at h m u o =
     let waiting : StandsOpen known p.rank p.done from (Shrink comm) (length p.rank.log) (min (p.polls + 1) (2 ^ 32 - 1)) =
-      stands-waiting known p.rank p.done from comm (min (p.polls + 1) (2 ^ 32 - 1)) h.since (u comm refl) (omega (arith, h.polled)) in
+    stands-waiting known p.rank p.done from comm (min (p.polls + 1) (2 ^ 32 - 1)) h.since (u comm refl) (omega (arith, h.polled)) in
     let S : Step → State → Type 0 = λ (a : Step) (t : State). StandsOpen known t p.done from a (length p.rank.log) (min (p.polls + 1) (2 ^ 32 - 1)) in
     subst (λ (a : Step). S a s) m (subst (S (Shrink comm)) (sym o) waiting)
 stands-polled known p asked s from (Some other) at h m u o =

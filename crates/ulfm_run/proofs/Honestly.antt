@@ -43,9 +43,9 @@ honest-rank known p r h me ranks stops takes =
       answers = all-grew known known p.rank r [] 0 p.done h.place (stays-same known) g h.answers;
       stands = stands-on known p.rank r p.done h.place p.current p.at p.polls g takes.took h.stands;
       stop = λ s.
-        let was : is_stopped p.rank.log ≡ true = sym stops ∙ s in
-        let same : r.log ≡ p.rank.log = takes.only ∙ ap (λ (l : List Entry). p.rank.log ++ l) (takes.stopped was) ∙ append-nil p.rank.log in
-        subst EndsAtStop (sym same) (h.stop was);
+          let was : is_stopped p.rank.log ≡ true = sym stops ∙ s in
+          let same : r.log ≡ p.rank.log = takes.only ∙ ap (λ (l : List Entry). p.rank.log ++ l) (takes.stopped was) ∙ append-nil p.rank.log in
+          subst EndsAtStop (sym same) (h.stop was);
     }
 
 -- what moves between a player and its end leaves its answers right

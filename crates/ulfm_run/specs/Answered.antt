@@ -104,10 +104,10 @@ pub record IsAnswered (known : Known) (rank : State) (before : List StepReport) 
   pub stood : Stood rank report.at old
   pub stood_next : Stood rank to new
   pub how :
-    AnsweredByCall rank before from report old new
-    ⊎ (LeftByCall rank before from report old new
-    ⊎ (AnsweredByDecision known rank from report old new
-    ⊎ LeftUndecided rank from report old new))
+      AnsweredByCall rank before from report old new
+      ⊎ (LeftByCall rank before from report old new
+      ⊎ (AnsweredByDecision known rank from report old new
+      ⊎ LeftUndecided rank from report old new))
 
 -- these steps are answered, one after another, from one place of the log to another
 abbrev pub AreAnswered : Known → State → List StepReport → ℕ → List StepReport → ℕ → Type 0
