@@ -1,11 +1,16 @@
 -- Lists that are handed over, one element after another, and what came of each.
-use Rattle.std.proofs.Common.{◌≡◌, ℕ, zero, suc, List, [], ◌∷◌, ◌++◌, map, length, refl, ap, sym, ◌∙◌, append_assoc, arith}
-use Rattle.std.specs.Prelude.{slice_get, Some}
+use Rattle.std.proofs.Common.{◌≡◌, ℕ, zero, suc, List, [], ◌∷◌, ◌++◌, map, length, refl, ap, sym, ◌∙◌, append_assoc, arith, subst}
+use Rattle.std.specs.Prelude.{slice_get, Some, All}
 use Rattle.std.proofs.lemmas.List.{map-append}
-use Rattle.std.proofs.lemmas.Option.{same_Some}
+use Rattle.std.proofs.lemmas.Option.{same_Some, slice_get_within, get_or_from_slice_get}
+use Rattle.std.proofs.lemmas.List.Elements.{All-get_or}
 use Rattle.ulfm_base.specs.declared.item.Item.{Item}
 use Rattle.ulfm_carrier.specs.Family.{at, IsFresh}
-use Rattle.ulfm_run.specs.Fields.{EachFresh}
+use Rattle.ulfm_script.specs.Report.{Report}
+use Rattle.ulfm_script.specs.Deciding.{Known}
+use Rattle.ulfm_run.specs.declared.worker.Ran.{Ran}
+use Rattle.ulfm_run.specs.Answered.{HasAnswers}
+use Rattle.ulfm_run.specs.Fields.{EachFresh, HaveAnswers, report_in, decider_in}
 
 pub fresh_first : {E : Type 0} (count : E → ℕ) (pushed taken : E → ℕ → List Item) (ready : E → Type 0) (n : ℕ) (all rest : List E) (x : E) → EachFresh count pushed taken ready n all → all ≡ x ∷ rest → IsFresh count pushed taken ready n x
 fresh_first count pushed taken ready n all rest x fresh is = fresh 0 x (ap (λ l. slice_get l 0) is)
@@ -37,3 +42,15 @@ same_maps f g [] (y ∷ ys) n h = absurd (omega (arith, n))
 same_maps f g (x ∷ xs) [] n h = absurd (omega (arith, n))
 same_maps {X} {Y} {Z} f g (x ∷ xs) (y ∷ ys) n h =
     ap (λ (z : Z). z ∷ map g ys) (h zero x y refl refl) ∙ ap (λ (zs : List Z). f x ∷ zs) (same_maps f g xs ys (omega (arith, n)) (λ k a b p q. h (suc k) a b p q))
+
+-- what each thread gave back has right answers, by its place in the lists of reports and deciders
+pub answers_all : {E D : Type 0} (known : D → Known) (ran : List (Ran E D)) → All (HaveAnswers known) ran → (reports : List Report) (deciders : List D) → reports ≡ map report_in ran → deciders ≡ map decider_in ran →
+    (k : ℕ) (told : Report) (d : D) → at reports k told → at deciders k d → HasAnswers (known d) told
+answers_all {E} {D} known ran all reports deciders rs ds k told d p q =
+    let a = from_map report_in ran k told (ap (λ l. slice_get l k) (sym rs) ∙ p) in
+    let b = from_map decider_in ran k d (ap (λ l. slice_get l k) (sym ds) ∙ q) in
+    let one : b.0 ≡ a.0 = same_Some b.0 a.0 (sym b.1 ∙ a.1) in
+    let H : Ran E D → Type 0 = HaveAnswers known in
+    let h : H a.0 = subst H (get_or_from_slice_get ran k a.0 a.0 a.1) (All-get_or H ran k a.0 (slice_get_within ran k a.0 a.1) all) in
+    let K : D → Report → Type 0 = λ (x : D) (r : Report). HasAnswers (known x) r in
+    subst (λ (x : D). K x told) (ap decider_in (sym one) ∙ b.2) (subst (λ (r : Report). K a.0.decider r) a.2 h)

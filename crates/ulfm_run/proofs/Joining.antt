@@ -1,7 +1,8 @@
 -- A rank and its end stay together while items go from one to the other.
-use Rattle.std.proofs.Common.{◌≡◌, ◌≢◌, ℕ, ◌<◌, Bool, true, false, cond, List, [], ◌∷◌, ◌++◌, refl, ap, sym, subst, ◌∙◌, arith, inl, inr, append-nil, get_or-set_other}
+use Rattle.std.proofs.Common.{◌≡◌, ◌≢◌, ℕ, ◌<◌, Bool, true, false, cond, List, [], ◌∷◌, ◌++◌, refl, ap, sym, subst, ◌∙◌, arith, inl, inr, append-nil, append_assoc, get_or-set_other}
 use Rattle.std.specs.Prelude.{All, ◌||◌}
-use Rattle.std.proofs.lemmas.Bool.{cases_eq, eq-eqb, ne_eqb}
+use Rattle.std.proofs.lemmas.List.Elements.{All-nil, All-push, All-append}
+use Rattle.std.proofs.lemmas.Bool.{false≢true, cases_eq, eq-eqb, ne_eqb}
 use Rattle.ulfm_base.specs.declared.rank.WorldRank.{WorldRank}
 use Rattle.ulfm_base.specs.declared.item.Item.{Item}
 use Rattle.ulfm_base.specs.declared.item.Item.TheVariants.{Letter as Mail}
@@ -12,6 +13,8 @@ use Rattle.ulfm_rank.specs.Calls.{IsFrom}
 use Rattle.ulfm_rank.specs.Facts.{took, is_stopped}
 use Rattle.ulfm_rank.specs.State.{State, logged, outbox, gone_out, mark_at, marked, no_mark, Leaves}
 use Rattle.ulfm_script.specs.Player.{Player, View, with_rank}
+use Rattle.ulfm_run.specs.Answered.{IsTook}
+use Rattle.ulfm_run.specs.Honest.{OnlyTakes}
 use Rattle.ulfm_run.specs.Joined.{IsSigned, IsJoined, Moves}
 use Rattle.ulfm_run.proofs.Logs.{took-push, stopped-push}
 use Rattle.ulfm_run.proofs.Quiet.{calm-took}
@@ -39,6 +42,27 @@ popped_from source item h = from_signed source item (comes item h)
     comes (Mail letter) h = h
     comes _ h = tt
 
+-- a log that stays
+pub takes-none : (old new : List Entry) → new ≡ old → OnlyTakes old new
+takes-none old new e = record { more = []; only = e ∙ sym (append-nil old); took = All-nil IsTook; stopped = λ _. refl }
+
+pub takes-then : (a b c : List Entry) → is_stopped b ≡ is_stopped a → OnlyTakes a b → OnlyTakes b c → OnlyTakes a c
+takes-then a b c stops h k = record {
+  more = h.more ++ k.more;
+  only = k.only ∙ ap (λ (l : List Entry). l ++ k.more) h.only ∙ append_assoc a h.more k.more;
+  took = All-append IsTook h.more k.more h.took k.took;
+  stopped = λ s. ap (λ (l : List Entry). l ++ k.more) (h.stopped s) ∙ k.stopped (stops ∙ s);
+}
+
+-- one item is taken by a rank that runs
+pub takes-one : (old new : List Entry) (source : WorldRank) (item : Item) → is_stopped old ≡ false → new ≡ old ++ Took source item ∷ [] → OnlyTakes old new
+takes-one old new source item running e = record {
+  more = Took source item ∷ [];
+  only = e;
+  took = All-push IsTook [] (Took source item) (All-nil IsTook) tt;
+  stopped = λ s. absurd (false≢true (sym running ∙ s));
+}
+
 module _ {E N : Type 0} (name : E → N) (place count : E → ℕ) (pushed taken : E → ℕ → List Item) (ready : E → Type 0) where
   abbrev pub Joined : State → E → Type 0
   Joined r e = IsJoined place count pushed taken ready r e
@@ -56,6 +80,7 @@ module _ {E N : Type 0} (name : E → N) (place count : E → ℕ) (pushed taken
     stops = ap (λ (p : Player). is_stopped p.rank.log) same;
     only = let W : Player → Type 0 = λ (p : Player). p ≡ with_rank v.player p.rank in subst W (sym same) refl;
     room = room;
+    takes = takes-none v.player.rank.log w.player.rank.log (ap (λ (p : Player). p.rank.log) same);
   }
 
   pub moves-then : (u v w : View) (e f g : E) → Went u e v f → Went v f w g → Went u e w g
@@ -67,6 +92,7 @@ module _ {E N : Type 0} (name : E → N) (place count : E → ℕ) (pushed taken
     stops = k.stops ∙ h.stops;
     only = k.only ∙ ap (λ (p : Player). with_rank p w.player.rank) h.only;
     room = k.room ∙ h.room;
+    takes = takes-then u.player.rank.log v.player.rank.log w.player.rank.log h.stops h.takes k.takes;
   }
 
   -- the end pushed what left the outbox
@@ -96,6 +122,7 @@ module _ {E N : Type 0} (name : E → N) (place count : E → ℕ) (pushed taken
         stops = ap is_stopped log;
         only = only;
         room = room;
+        takes = takes-none v.player.rank.log w.player.rank.log log;
       }
 
   -- the end refused what left the outbox, and it is back there
@@ -115,12 +142,12 @@ module _ {E N : Type 0} (name : E → N) (place count : E → ℕ) (pushed taken
         took = λ s. taken_same s ∙ h.took s;
       } in
       let n = moves-none v w f still same room in
-      record { same_end = name_same; joined = n.joined; me = n.me; ranks = n.ranks; stops = n.stops; only = n.only; room = n.room }
+      record { same_end = name_same; joined = n.joined; me = n.me; ranks = n.ranks; stops = n.stops; only = n.only; room = n.room; takes = n.takes }
 
   -- the log took what the end popped
-  pub moves-taken : (v w : View) (e f : E) (source : WorldRank) (item : Item) → Joined v.player.rank e → w.player ≡ with_rank v.player (logged v.player.rank (Took source item)) → w.room ≡ v.room →
+  pub moves-taken : (v w : View) (e f : E) (source : WorldRank) (item : Item) → is_stopped v.player.rank.log ≡ false → Joined v.player.rank e → w.player ≡ with_rank v.player (logged v.player.rank (Took source item)) → w.room ≡ v.room →
       name f ≡ name e → place f ≡ place e → count f ≡ count e → ready f → ((p : ℕ) → pushed f p ≡ pushed e p) → taken f source.number ≡ taken e source.number ++ item ∷ [] → ((p : ℕ) → p ≢ source.number → taken f p ≡ taken e p) → Went v e w f
-  moves-taken v w e f source item h same room name_same place_same count_same is_ready pushed_same here others =
+  moves-taken v w e f source item running h same room name_same place_same count_same is_ready pushed_same here others =
       let calm = calm-took v.player.rank source item h.sound in
       let new : State = logged v.player.rank (Took source item) in
       let J : Player → Type 0 = λ (p : Player). Joined p.rank f in
@@ -151,10 +178,11 @@ module _ {E N : Type 0} (name : E → N) (place count : E → ℕ) (pushed taken
         stops = ap (λ (p : Player). is_stopped p.rank.log) same ∙ stopped-push v.player.rank.log (Took source item) ∙ or_none (is_stopped v.player.rank.log);
         only = let W : Player → Type 0 = λ (p : Player). p ≡ with_rank v.player p.rank in subst W (sym same) refl;
         room = room;
+        takes = takes-one v.player.rank.log w.player.rank.log source item running (ap (λ (p : Player). p.rank.log) same);
       }
     where
       or_none : (b : Bool) → (b || false) ≡ b
       or_none true = refl
       or_none false = refl
 
-pub ruleset going = (moves-none, moves-then)
+pub ruleset going = (moves-none, moves-then, takes-none, takes-then)

@@ -14,3 +14,8 @@ pub mod Handed
 pub mod Mapped
 pub mod Reporting
 pub mod Lawful
+pub mod Beginnings
+pub mod Answers
+pub mod Honestly
+pub mod Calling
+pub mod Adopting

@@ -7,6 +7,8 @@ use Rattle.ulfm_script.specs.Job.{Seen}
 use Rattle.ulfm_script.specs.Report.{Report}
 use Rattle.ulfm_run.specs.declared.worker.Ran.{Ran}
 use Rattle.ulfm_run.specs.declared.threads.Begun.{Begun}
+use Rattle.ulfm_script.specs.Deciding.{Known}
+use Rattle.ulfm_run.specs.Answered.{HasAnswers}
 use Rattle.ulfm_run.specs.Played.{IsPlayed}
 
 -- the end with which a thread began
@@ -38,6 +40,10 @@ end_in r = r.end
 -- the decider that it gives back
 abbrev pub decider_in : {E D : Type 0} → Ran E D → D
 decider_in r = r.decider
+
+-- what a thread gave back: its rank's answers are right, where a decision is the one that its decider knows
+abbrev pub HaveAnswers : {E D : Type 0} → (D → Known) → Ran E D → Type 0
+HaveAnswers known r = HasAnswers (known r.decider) r.report
 
 -- these are ends of so many with which nothing was done yet
 abbrev pub EachFresh : {E : Type 0} → (E → ℕ) → (E → ℕ → List Item) → (E → ℕ → List Item) → (E → Type 0) → ℕ → List E → Type 0

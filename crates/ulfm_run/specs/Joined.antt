@@ -8,6 +8,7 @@ use Rattle.ulfm_rank.specs.State.{State, IsState, gone_out}
 use Rattle.ulfm_script.specs.Job.{Seen, script_at}
 use Rattle.ulfm_script.specs.Player.{View, with_rank}
 use Rattle.ulfm_run.specs.Script.{FollowsAt, left_at}
+use Rattle.ulfm_run.specs.Honest.{OnlyTakes}
 
 -- a letter that an entry sent bears the number of its rank
 abbrev pub IsSigned : ℕ → Entry → Type 0
@@ -33,6 +34,7 @@ pub record Moves {E N : Type 0} (name : E → N) (place count : E → ℕ) (push
   pub stops : is_stopped new.player.rank.log ≡ is_stopped old.player.rank.log
   pub only : new.player ≡ with_rank old.player new.player.rank
   pub room : new.room ≡ old.room
+  pub takes : OnlyTakes old.player.rank.log new.player.rank.log
 
 -- the rank is the same but for its log, what it sent is signed, and what went out is the same
 pub record Calm (old new : State) : Type 0 where

@@ -38,7 +38,8 @@ pub record FollowsAt (script : List Step) (turns : ℕ) (p : Player) : Type 0 wh
 abbrev pub left_at : List Step → ℕ → Player → ℕ
 left_at script turns p = (turns + 1) * (length script - length p.done) - p.polls
 
--- a player answered its script up to and with its first stop, or the whole of it
+-- a player answered its script up to and with its first stop, or the whole of it, and has no step open
 pub record HasAnswered (script : List Step) (turns : ℕ) (p : Player) : Type 0 where
   pub steps : steps_done p ≡ through_stop script
   pub patient : All (IsPatient turns) p.done
+  pub closed : p.current ≡ None

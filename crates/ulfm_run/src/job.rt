@@ -4,6 +4,7 @@ ghost use Rattle.ulfm_board.specs.Known.{nothing_known};
 ghost use Rattle.ulfm_board.specs.Names.{OneBoard};
 ghost use Rattle.ulfm_carrier.specs.Family.{at, InPlace, AllFresh, Keeps, Settled};
 ghost use Rattle.ulfm_script.specs.Report.{Report as Told};
+ghost use Rattle.ulfm_run.specs.Answered.{HasAnswers};
 ghost use Rattle.ulfm_run.specs.Fields.{report_in, end_in, decider_in, Fits};
 ghost use Rattle.ulfm_run.specs.Flow.{AllCarry, IsEach};
 ghost use Rattle.ulfm_run.specs.Lawful.{IsLawful};
@@ -51,6 +52,7 @@ where
     ensures sizes { IfOk result (λ report. IsEach job.now report.ranks.items × IsEach job.now report.residue.inboxes.items × IsEach job.now report.ends.items × IsEach job.now report.deciders.items) }
     ensures order { IfOk result (λ report. InPlace (λ (told : Told). told.rank.me) report.ranks.items) }
     ensures scripts { IfOk result (λ report. (k : ℕ) (told : Told) → at report.ranks.items k told → HasPlayed job.now k told) }
+    ensures answers { IfOk result (λ report. (k : ℕ) (told : Told) (d : D) → at report.ranks.items k told → at report.deciders.items k d → HasAnswers (D.known d) told) }
     ensures flow { IfOk result (λ report. AllCarry E.pushed E.taken report.ranks.items report.ends.items report.residue.inboxes.items) }
     ensures same_ends { IfOk result (λ report. map E.name report.ends.items ≡ map E.name ends.items) }
     ensures same_boards { IfOk result (λ report. map D.board report.deciders.items ≡ map D.board deciders.items) }

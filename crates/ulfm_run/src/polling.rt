@@ -3,7 +3,9 @@ ghost use Rattle.std.specs.Prelude.{◌≡◌, ◌<◌, ◌≤◌, ◌+◌, leng
 ghost use Rattle.std.specs.Bool.{OnTrue};
 ghost use Rattle.ulfm_rank.specs.Facts.{is_stopped};
 ghost use Rattle.ulfm_rank.specs.State.{IsState};
+ghost use Rattle.ulfm_script.specs.Deciding.{Known};
 ghost use Rattle.ulfm_script.specs.Job.{script_at};
+ghost use Rattle.ulfm_run.specs.Honest.{IsHonest, IsUndecided};
 ghost use Rattle.ulfm_run.specs.Joined.{Polls};
 ghost use Rattle.ulfm_run.specs.Script.{FollowsAt};
 
@@ -25,6 +27,7 @@ pub(crate) fn poll<D: Decider>(
     requires running { is_stopped player.old.player.rank.log ≡ false }
     requires next { slice_get (script_at job.now me) (length player.old.player.done) ≡ Some step.now }
     ensures polls { Polls job.now me player.old player.new }
+    ensures honest { IsHonest (D.known decider.old) player.old.player → IsHonest (D.known decider.new) player.new.player }
     ensures board { D.board decider.new ≡ D.board decider.old }
 {
     if decide(job, me, player, decider, step) {
@@ -38,7 +41,11 @@ fn decide<D: Decider>(job: &Job, me: u8, player: &mut Player, decider: &mut D, s
     requires sound { IsState player.old.player.rank }
     requires follows { FollowsAt (script_at job.now me) job.now.turns player.old.player }
     requires running { is_stopped player.old.player.rank.log ≡ false }
+    requires next { slice_get (script_at job.now me) (length player.old.player.done) ≡ Some step.now }
     ensures polls { OnTrue result (Polls job.now me player.old player.new) }
+    ensures honest { OnTrue result (IsHonest (D.known decider.old) player.old.player → IsHonest (D.known decider.new) player.new.player) }
+    ensures undecided { result ≡ false → IsUndecided player.old.player }
+    ensures known_stay { result ≡ false → D.known decider.new ≡ D.known decider.old }
     ensures unchanged { result ≡ false → player.new.player ≡ player.old.player }
     ensures room { player.new.room + length player.new.player.done ≡ player.old.room + length player.old.player.done }
     ensures board { D.board decider.new ≡ D.board decider.old }
@@ -61,7 +68,8 @@ fn call(job: &Job, me: u8, player: &mut Player, step: &Step) -> bool
     requires room { length (script_at job.now me) ≤ player.old.room + length player.old.player.done }
     requires running { is_stopped player.old.player.rank.log ≡ false }
     requires next { slice_get (script_at job.now me) (length player.old.player.done) ≡ Some step.now }
-    ensures { Polls job.now me player.old player.new }
+    ensures polls { Polls job.now me player.old player.new }
+    ensures honest { (known : Known) → IsHonest known player.old.player → IsUndecided player.old.player → IsHonest known player.new.player }
 {
     let _ = me;
     let turns = job.turns();

@@ -1,8 +1,9 @@
 //! A thread for each rank.
 ghost use Rattle.std.specs.Prelude.{◌≡◌, ◌≤◌, ◌++◌, [], ℕ, List, All, length, vec_len, vec_capacity, IfSome, IfOk, OnOk};
 ghost use Rattle.ulfm_carrier.specs.Family.{IsFresh};
+ghost use Rattle.ulfm_run.specs.Honest.{IsHonest};
 ghost use Rattle.ulfm_run.specs.Joined.{IsAtWork};
-ghost use Rattle.ulfm_run.specs.Fields.{begun_ends, begun_deciders, IsOfJob, EachFresh, WerePlayed};
+ghost use Rattle.ulfm_run.specs.Fields.{begun_ends, begun_deciders, IsOfJob, EachFresh, WerePlayed, HaveAnswers};
 
 use crate::worker::{Ran, Worker};
 use std::alloc::Global;
@@ -33,9 +34,10 @@ pub(crate) struct Begun<E, D> {
 
 impl<E: Ends, D: Decider> Promise<Ran<E, D>> for Begun<E, D> {
     ghost use Rattle.std.specs.Prelude.{◌≡◌};
+    ghost use Rattle.ulfm_run.specs.Answered.{HasAnswers};
     ghost use Rattle.ulfm_run.specs.Played.{IsPlayed};
 
-    ghost kept_by = { λ p r. IsPlayed E.name E.place E.count E.pushed E.taken E.ready p.job.value p.end.value r.report r.end × (D.board r.decider ≡ D.board p.decider.value) };
+    ghost kept_by = { λ p r. IsPlayed E.name E.place E.count E.pushed E.taken E.ready p.job.value p.end.value r.report r.end × (D.board r.decider ≡ D.board p.decider.value) × HasAnswers (D.known r.decider) r.report };
 }
 
 /// A rank that goes to work, with room for the answers of its steps.
@@ -47,6 +49,7 @@ fn new_worker<E: Ends, D: Decider>(
 ) -> Result<Worker<E, D>, Unplayed>
     requires fresh { IsFresh E.count E.pushed E.taken E.ready job.now.ranks end }
     ensures at_work { IfOk result (λ w. IsAtWork E.place E.count E.pushed E.taken E.ready job.now (E.place end) w.player w.end) }
+    ensures honest { IfOk result (λ w. IsHonest (D.known w.decider) w.player.player) }
     ensures parts { IfOk result (λ w. (w.end ≡ end) × (w.decider ≡ decider)) }
 {
     let me = end.me().number;
@@ -77,6 +80,7 @@ where
     R: Threads + Wait + Sync,
     requires place { E.place worker.end ≡ me }
     requires at_work { IsAtWork E.place E.count E.pushed E.taken E.ready job.now me worker.player worker.end }
+    requires honest { IsHonest (D.known worker.decider) worker.player.player }
     ensures { IfSome result (λ h. (h.promise.job.value ≡ job.now) × (h.promise.end.value ≡ worker.end) × (h.promise.decider.value ≡ worker.decider)) }
 {
     let begun = Begun {
@@ -165,7 +169,8 @@ where
     D: Decider + Send + 's,
     R: Threads + Wait + Sync,
     requires fresh { EachFresh E.count E.pushed E.taken E.ready job.now.ranks ends.items }
-    ensures { IfOk result (λ ran. WerePlayed E.name E.place E.count E.pushed E.taken E.ready D.board job.now ends.items deciders.items ran.items) }
+    ensures played { IfOk result (λ ran. WerePlayed E.name E.place E.count E.pushed E.taken E.ready D.board job.now ends.items deciders.items ran.items) }
+    ensures answers { IfOk result (λ ran. All (HaveAnswers D.known) ran.items) }
 {
     let Ok(handles) = Vec::with_capacity(alloc, ends.len()) else {
         return Err(Unplayed::OutOfMemory);
@@ -203,14 +208,16 @@ where
     D: Decider + Send,
     R: Threads + Wait + Sync,
     requires fresh { EachFresh E.count E.pushed E.taken E.ready job.now.ranks ends.items }
-    ensures { IfOk result (λ ran. WerePlayed E.name E.place E.count E.pushed E.taken E.ready D.board job.now ends.items deciders.items ran.items) }
+    ensures played { IfOk result (λ ran. WerePlayed E.name E.place E.count E.pushed E.taken E.ready D.board job.now ends.items deciders.items ran.items) }
+    ensures answers { IfOk result (λ ran. All (HaveAnswers D.known) ran.items) }
 {
     thread::scope(
         thread::scope_env(),
         rt,
         |scope| -> Result<Vec<Ran<E, D>>, Unplayed>
             requires { EachFresh E.count E.pushed E.taken E.ready job.now.ranks ends.items }
-            ensures { IfOk result (λ ran. WerePlayed E.name E.place E.count E.pushed E.taken E.ready D.board job.entry.now ends.items deciders.items ran.items) }
+            ensures played { IfOk result (λ ran. WerePlayed E.name E.place E.count E.pushed E.taken E.ready D.board job.entry.now ends.items deciders.items ran.items) }
+            ensures answers { IfOk result (λ ran. All (HaveAnswers D.known) ran.items) }
         { run_in(scope, rt, alloc, job, ends, deciders) },
     )
 }

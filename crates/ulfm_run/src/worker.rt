@@ -3,6 +3,8 @@ ghost use Rattle.std.specs.Prelude.{◌≡◌, ◌<◌, ◌≤◌, ◌⊎◌, le
 ghost use Rattle.std.specs.Bool.{OnTrue};
 ghost use Rattle.ulfm_rank.specs.Facts.{is_stopped};
 ghost use Rattle.ulfm_script.specs.Job.{script_at};
+ghost use Rattle.ulfm_run.specs.Answered.{HasAnswers};
+ghost use Rattle.ulfm_run.specs.Honest.{IsHonest};
 ghost use Rattle.ulfm_run.specs.Joined.{IsJoined, IsAtWork, Moves};
 ghost use Rattle.ulfm_run.specs.Played.{IsPlayed};
 ghost use Rattle.ulfm_run.specs.Script.{left_at, HasAnswered};
@@ -72,6 +74,7 @@ impl<E: Ends, D: Decider> Worker<E, D> {
         ensures at_work { IsAtWork E.place E.count E.pushed E.taken E.ready job.now me self.new.player self.new.end }
         ensures same_end { E.name self.new.end ≡ E.name self.old.end }
         ensures board { D.board self.new.decider ≡ D.board self.old.decider }
+        ensures honest { IsHonest (D.known self.old.decider) self.old.player.player → IsHonest (D.known self.new.decider) self.new.player.player }
         ensures falls { OnTrue result (left_at (script_at job.now me) job.now.turns self.new.player.player < left_at (script_at job.now me) job.now.turns self.old.player.player) }
         ensures done { result ≡ false → HasAnswered (script_at job.now me) job.now.turns self.new.player.player }
     {
@@ -92,6 +95,7 @@ impl<E: Ends, D: Decider> Worker<E, D> {
         ensures at_work { IsAtWork E.place E.count E.pushed E.taken E.ready job.now me self.new.player self.new.end }
         ensures same_end { E.name self.new.end ≡ E.name self.old.end }
         ensures board { D.board self.new.decider ≡ D.board self.old.decider }
+        ensures honest { IsHonest (D.known self.old.decider) self.old.player.player → IsHonest (D.known self.new.decider) self.new.player.player }
         ensures done { HasAnswered (script_at job.now me) job.now.turns self.new.player.player }
     {
         while self.turn(rt, job, me) {}
@@ -161,7 +165,9 @@ impl<E: Ends, D: Decider> Worker<E, D> {
     pub(crate) fn play<R: Wait>(self, rt: &R, job: &Job, me: u8) -> Ran<E, D>
         requires place { E.place self.end ≡ me }
         requires at_work { IsAtWork E.place E.count E.pushed E.taken E.ready job.now me self.player self.end }
+        requires honest { IsHonest (D.known self.decider) self.player.player }
         ensures played { IsPlayed E.name E.place E.count E.pushed E.taken E.ready job.now self.end result.report result.end }
+        ensures answers { HasAnswers (D.known result.decider) result.report }
         ensures board { D.board result.decider ≡ D.board self.decider }
     {
         let mut worker = self;

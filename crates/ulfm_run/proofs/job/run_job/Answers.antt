@@ -2,6 +2,7 @@ use Rattle.std.proofs.Common.{arith, sym, subst}
 use Rattle.ulfm_carrier.specs.Family.{IsFresh}
 use Rattle.ulfm_run.proofs.Reporting.{fits_of, same_names, all_ready, flow_all, order_all, went_all, sizes_all, names_all, boards_all}
 use Rattle.ulfm_run.proofs.Lawful.{lawful_of}
+use Rattle.ulfm_run.proofs.Handed.{answers_all}
 use Rattle.ulfm_run.proofs.job.run_job.Goals as goal
 
 pub play_all-requires-clause-fresh : goal.play_all-requires-clause-fresh
@@ -12,10 +13,10 @@ play_all-requires-clause-fresh g c =
 pub report_of-requires-clause-family : goal.report_of-requires-clause-family
 report_of-requires-clause-family g c =
     let fit = fits_of g.E.Ends.place c.args.job.now c.args.ends.items c.args.deciders.items (c.fits.ensures.0 c.if-not-fits.false).0 (omega (arith, (c.fits.ensures.0 c.if-not-fits.false).1, c.len.ensures, c.args.deciders.ok)) (c.fits.ensures.0 c.if-not-fits.false).2 in
-    subst g.E.Ends.one_call (sym (same_names g.E.Ends.name g.E.Ends.place g.E.Ends.count g.E.Ends.pushed g.E.Ends.taken g.E.Ends.ready g.D.Decider.board c.args.job.now c.args.ends.items c.args.deciders.items c.in-Ok.ran.items c.in-Ok.ensures)) (c.requires.one_call fit.placed)
+    subst g.E.Ends.one_call (sym (same_names g.E.Ends.name g.E.Ends.place g.E.Ends.count g.E.Ends.pushed g.E.Ends.taken g.E.Ends.ready g.D.Decider.board c.args.job.now c.args.ends.items c.args.deciders.items c.in-Ok.ran.items c.in-Ok.ensures.played)) (c.requires.one_call fit.placed)
 
 pub report_of-requires-clause-ready : goal.report_of-requires-clause-ready
-report_of-requires-clause-ready g c = all_ready g.E.Ends.name g.E.Ends.place g.E.Ends.count g.E.Ends.pushed g.E.Ends.taken g.E.Ends.ready g.D.Decider.board c.args.job.now c.args.ends.items c.args.deciders.items c.in-Ok.ran.items c.in-Ok.ensures
+report_of-requires-clause-ready g c = all_ready g.E.Ends.name g.E.Ends.place g.E.Ends.count g.E.Ends.pushed g.E.Ends.taken g.E.Ends.ready g.D.Decider.board c.args.job.now c.args.ends.items c.args.deciders.items c.in-Ok.ran.items c.in-Ok.ensures.played
 
 pub returns-clause-fits : goal.returns-clause-fits
 returns-clause-fits g c =
@@ -25,32 +26,35 @@ returns-clause-fits g c =
 pub returns-clause-sizes : goal.returns-clause-sizes
 returns-clause-sizes g c =
     let fit = fits_of g.E.Ends.place c.args.job.now c.args.ends.items c.args.deciders.items (c.fits.ensures.0 c.if-not-fits.false).0 (omega (arith, (c.fits.ensures.0 c.if-not-fits.false).1, c.len.ensures, c.args.deciders.ok)) (c.fits.ensures.0 c.if-not-fits.false).2 in
-    sizes_all g.E.Ends.name g.E.Ends.place g.E.Ends.count g.E.Ends.pushed g.E.Ends.taken g.E.Ends.ready g.D.Decider.board c.args.job.now c.args.ends.items c.args.deciders.items c.in-Ok.ran.items c.in-Ok.ensures fit c.in_ok-report.report.ranks.items c.in_ok-report.report.ends.items c.in_ok-report.report.deciders.items c.in_ok-report.report.residue.inboxes.items c.in_ok-report.ensures.ranks c.in_ok-report.ensures.same c.in_ok-report.ensures.residue c.in_ok-report.ensures.deciders
+    sizes_all g.E.Ends.name g.E.Ends.place g.E.Ends.count g.E.Ends.pushed g.E.Ends.taken g.E.Ends.ready g.D.Decider.board c.args.job.now c.args.ends.items c.args.deciders.items c.in-Ok.ran.items c.in-Ok.ensures.played fit c.in_ok-report.report.ranks.items c.in_ok-report.report.ends.items c.in_ok-report.report.deciders.items c.in_ok-report.report.residue.inboxes.items c.in_ok-report.ensures.ranks c.in_ok-report.ensures.same c.in_ok-report.ensures.residue c.in_ok-report.ensures.deciders
 
 pub returns-clause-order : goal.returns-clause-order
 returns-clause-order g c =
     let fit = fits_of g.E.Ends.place c.args.job.now c.args.ends.items c.args.deciders.items (c.fits.ensures.0 c.if-not-fits.false).0 (omega (arith, (c.fits.ensures.0 c.if-not-fits.false).1, c.len.ensures, c.args.deciders.ok)) (c.fits.ensures.0 c.if-not-fits.false).2 in
-    order_all g.E.Ends.name g.E.Ends.place g.E.Ends.count g.E.Ends.pushed g.E.Ends.taken g.E.Ends.ready g.D.Decider.board c.args.job.now c.args.ends.items c.args.deciders.items c.in-Ok.ran.items c.in-Ok.ensures fit c.in_ok-report.report.ranks.items c.in_ok-report.ensures.ranks
+    order_all g.E.Ends.name g.E.Ends.place g.E.Ends.count g.E.Ends.pushed g.E.Ends.taken g.E.Ends.ready g.D.Decider.board c.args.job.now c.args.ends.items c.args.deciders.items c.in-Ok.ran.items c.in-Ok.ensures.played fit c.in_ok-report.report.ranks.items c.in_ok-report.ensures.ranks
 
 pub returns-clause-scripts : goal.returns-clause-scripts
 returns-clause-scripts g c =
     let fit = fits_of g.E.Ends.place c.args.job.now c.args.ends.items c.args.deciders.items (c.fits.ensures.0 c.if-not-fits.false).0 (omega (arith, (c.fits.ensures.0 c.if-not-fits.false).1, c.len.ensures, c.args.deciders.ok)) (c.fits.ensures.0 c.if-not-fits.false).2 in
-    went_all g.E.Ends.name g.E.Ends.place g.E.Ends.count g.E.Ends.pushed g.E.Ends.taken g.E.Ends.ready g.D.Decider.board c.args.job.now c.args.ends.items c.args.deciders.items c.in-Ok.ran.items c.in-Ok.ensures fit c.in_ok-report.report.ranks.items c.in_ok-report.ensures.ranks
+    went_all g.E.Ends.name g.E.Ends.place g.E.Ends.count g.E.Ends.pushed g.E.Ends.taken g.E.Ends.ready g.D.Decider.board c.args.job.now c.args.ends.items c.args.deciders.items c.in-Ok.ran.items c.in-Ok.ensures.played fit c.in_ok-report.report.ranks.items c.in_ok-report.ensures.ranks
 
 pub returns-clause-flow : goal.returns-clause-flow
 returns-clause-flow g c =
     let fit = fits_of g.E.Ends.place c.args.job.now c.args.ends.items c.args.deciders.items (c.fits.ensures.0 c.if-not-fits.false).0 (omega (arith, (c.fits.ensures.0 c.if-not-fits.false).1, c.len.ensures, c.args.deciders.ok)) (c.fits.ensures.0 c.if-not-fits.false).2 in
-    flow_all g.E.Ends.name g.E.Ends.place g.E.Ends.count g.E.Ends.pushed g.E.Ends.taken g.E.Ends.ready g.D.Decider.board c.args.job.now c.args.ends.items c.args.deciders.items c.in-Ok.ran.items c.in-Ok.ensures fit c.in_ok-report.report.ranks.items c.in_ok-report.report.ends.items c.in_ok-report.report.residue.inboxes.items c.in_ok-report.ensures.ranks c.in_ok-report.ensures.same c.in_ok-report.ensures.residue
+    flow_all g.E.Ends.name g.E.Ends.place g.E.Ends.count g.E.Ends.pushed g.E.Ends.taken g.E.Ends.ready g.D.Decider.board c.args.job.now c.args.ends.items c.args.deciders.items c.in-Ok.ran.items c.in-Ok.ensures.played fit c.in_ok-report.report.ranks.items c.in_ok-report.report.ends.items c.in_ok-report.report.residue.inboxes.items c.in_ok-report.ensures.ranks c.in_ok-report.ensures.same c.in_ok-report.ensures.residue
 
 pub returns-clause-same_ends : goal.returns-clause-same_ends
 returns-clause-same_ends g c =
     let fit = fits_of g.E.Ends.place c.args.job.now c.args.ends.items c.args.deciders.items (c.fits.ensures.0 c.if-not-fits.false).0 (omega (arith, (c.fits.ensures.0 c.if-not-fits.false).1, c.len.ensures, c.args.deciders.ok)) (c.fits.ensures.0 c.if-not-fits.false).2 in
-    names_all g.E.Ends.name g.E.Ends.place g.E.Ends.count g.E.Ends.pushed g.E.Ends.taken g.E.Ends.ready g.D.Decider.board c.args.job.now c.args.ends.items c.args.deciders.items c.in-Ok.ran.items c.in-Ok.ensures fit c.in_ok-report.report.ends.items c.in_ok-report.ensures.same
+    names_all g.E.Ends.name g.E.Ends.place g.E.Ends.count g.E.Ends.pushed g.E.Ends.taken g.E.Ends.ready g.D.Decider.board c.args.job.now c.args.ends.items c.args.deciders.items c.in-Ok.ran.items c.in-Ok.ensures.played fit c.in_ok-report.report.ends.items c.in_ok-report.ensures.same
 
 pub returns-clause-same_boards : goal.returns-clause-same_boards
 returns-clause-same_boards g c =
     let fit = fits_of g.E.Ends.place c.args.job.now c.args.ends.items c.args.deciders.items (c.fits.ensures.0 c.if-not-fits.false).0 (omega (arith, (c.fits.ensures.0 c.if-not-fits.false).1, c.len.ensures, c.args.deciders.ok)) (c.fits.ensures.0 c.if-not-fits.false).2 in
-    boards_all g.E.Ends.name g.E.Ends.place g.E.Ends.count g.E.Ends.pushed g.E.Ends.taken g.E.Ends.ready g.D.Decider.board c.args.job.now c.args.ends.items c.args.deciders.items c.in-Ok.ran.items c.in-Ok.ensures fit c.in_ok-report.report.deciders.items c.in_ok-report.ensures.deciders
+    boards_all g.E.Ends.name g.E.Ends.place g.E.Ends.count g.E.Ends.pushed g.E.Ends.taken g.E.Ends.ready g.D.Decider.board c.args.job.now c.args.ends.items c.args.deciders.items c.in-Ok.ran.items c.in-Ok.ensures.played fit c.in_ok-report.report.deciders.items c.in_ok-report.ensures.deciders
+
+pub returns-clause-answers : goal.returns-clause-answers
+returns-clause-answers g c = answers_all g.D.Decider.known c.in-Ok.ran.items c.in-Ok.ensures.answers c.in_ok-report.report.ranks.items c.in_ok-report.report.deciders.items c.in_ok-report.ensures.ranks c.in_ok-report.ensures.deciders
 
 pub returns-clause-lawful : goal.returns-clause-lawful
 returns-clause-lawful g c =
@@ -58,8 +62,8 @@ returns-clause-lawful g c =
     let ranks = c.in_ok-report.report.ranks.items in
     let after = c.in_ok-report.report.ends.items in
     let inboxes = c.in_ok-report.report.residue.inboxes.items in
-    let sizes = sizes_all g.E.Ends.name g.E.Ends.place g.E.Ends.count g.E.Ends.pushed g.E.Ends.taken g.E.Ends.ready g.D.Decider.board c.args.job.now c.args.ends.items c.args.deciders.items c.in-Ok.ran.items c.in-Ok.ensures fit ranks after c.in_ok-report.report.deciders.items inboxes c.in_ok-report.ensures.ranks c.in_ok-report.ensures.same c.in_ok-report.ensures.residue c.in_ok-report.ensures.deciders in
+    let sizes = sizes_all g.E.Ends.name g.E.Ends.place g.E.Ends.count g.E.Ends.pushed g.E.Ends.taken g.E.Ends.ready g.D.Decider.board c.args.job.now c.args.ends.items c.args.deciders.items c.in-Ok.ran.items c.in-Ok.ensures.played fit ranks after c.in_ok-report.report.deciders.items inboxes c.in_ok-report.ensures.ranks c.in_ok-report.ensures.same c.in_ok-report.ensures.residue c.in_ok-report.ensures.deciders in
     lawful_of g.E.Ends.pushed g.E.Ends.taken c.args.job.now ranks after inboxes (sizes.0, sizes.1, sizes.2)
-    (order_all g.E.Ends.name g.E.Ends.place g.E.Ends.count g.E.Ends.pushed g.E.Ends.taken g.E.Ends.ready g.D.Decider.board c.args.job.now c.args.ends.items c.args.deciders.items c.in-Ok.ran.items c.in-Ok.ensures fit ranks c.in_ok-report.ensures.ranks)
-    (went_all g.E.Ends.name g.E.Ends.place g.E.Ends.count g.E.Ends.pushed g.E.Ends.taken g.E.Ends.ready g.D.Decider.board c.args.job.now c.args.ends.items c.args.deciders.items c.in-Ok.ran.items c.in-Ok.ensures fit ranks c.in_ok-report.ensures.ranks)
-    (flow_all g.E.Ends.name g.E.Ends.place g.E.Ends.count g.E.Ends.pushed g.E.Ends.taken g.E.Ends.ready g.D.Decider.board c.args.job.now c.args.ends.items c.args.deciders.items c.in-Ok.ran.items c.in-Ok.ensures fit ranks after inboxes c.in_ok-report.ensures.ranks c.in_ok-report.ensures.same c.in_ok-report.ensures.residue)
+    (order_all g.E.Ends.name g.E.Ends.place g.E.Ends.count g.E.Ends.pushed g.E.Ends.taken g.E.Ends.ready g.D.Decider.board c.args.job.now c.args.ends.items c.args.deciders.items c.in-Ok.ran.items c.in-Ok.ensures.played fit ranks c.in_ok-report.ensures.ranks)
+    (went_all g.E.Ends.name g.E.Ends.place g.E.Ends.count g.E.Ends.pushed g.E.Ends.taken g.E.Ends.ready g.D.Decider.board c.args.job.now c.args.ends.items c.args.deciders.items c.in-Ok.ran.items c.in-Ok.ensures.played fit ranks c.in_ok-report.ensures.ranks)
+    (flow_all g.E.Ends.name g.E.Ends.place g.E.Ends.count g.E.Ends.pushed g.E.Ends.taken g.E.Ends.ready g.D.Decider.board c.args.job.now c.args.ends.items c.args.deciders.items c.in-Ok.ran.items c.in-Ok.ensures.played fit ranks after inboxes c.in_ok-report.ensures.ranks c.in_ok-report.ensures.same c.in_ok-report.ensures.residue)

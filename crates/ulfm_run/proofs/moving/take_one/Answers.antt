@@ -13,6 +13,6 @@ returns-in-Some g c =
     let t = c.in-Some.ensures in
     let W : Player → Type 0 = λ (p : Player). c.take.new.self.player ≡ with_rank p (logged p.rank (Took c.in-Some.source c.in-Some.item)) in
     record {
-      moves = moves-taken g.E.Ends.name g.E.Ends.place g.E.Ends.count g.E.Ends.pushed g.E.Ends.taken g.E.Ends.ready c.args.player.now c.take.new.self c.args.end.now c.pop.new.self c.in-Some.source c.in-Some.item c.requires.joined
+      moves = moves-taken g.E.Ends.name g.E.Ends.place g.E.Ends.count g.E.Ends.pushed g.E.Ends.taken g.E.Ends.ready c.args.player.now c.take.new.self c.args.end.now c.pop.new.self c.in-Some.source c.in-Some.item c.requires.running c.requires.joined
           (subst W c.prepare.ensures.player c.take.ensures.player) (c.take.ensures.room ∙ c.prepare.ensures.room) t.name.0 t.name.1 t.name.2 t.name.3 t.pushed t.taken.0 t.taken.1;
     }

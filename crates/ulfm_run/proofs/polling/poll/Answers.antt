@@ -25,4 +25,4 @@ pub call-requires-clause-next : goal.call-requires-clause-next
 call-requires-clause-next g c = ap (λ (p : Player). slice_get (script_at c.args.job.now c.args.me) (length p.done)) (c.decide.ensures.unchanged c.if-decide.false) ∙ c.requires.next
 
 pub returns-clause-polls : goal.returns-clause-polls
-returns-clause-polls g c = polls-after c.args.job.now c.args.me c.args.player.now c.decide.new.player c.call.new.player (c.decide.ensures.unchanged c.if-decide.false) c.decide.ensures.room c.call.ensures
+returns-clause-polls g c = polls-after c.args.job.now c.args.me c.args.player.now c.decide.new.player c.call.new.player (c.decide.ensures.unchanged c.if-decide.false) c.decide.ensures.room c.call.ensures.polls

@@ -1,6 +1,8 @@
-use Rattle.std.proofs.Common.{arith, refl, ap, ◌∙◌, length}
+use Rattle.std.proofs.Common.{arith, refl, ap, sym, subst, ◌∙◌, length}
 use Rattle.ulfm_script.specs.Job.{script_at}
-use Rattle.ulfm_script.specs.Player.{start_player}
+use Rattle.ulfm_script.specs.Player.{Player, start_player}
+use Rattle.ulfm_run.proofs.Honestly.{honest-start}
+use Rattle.ulfm_run.specs.Honest.{IsHonest}
 use Rattle.ulfm_run.proofs.Starting.{at-work-start}
 use Rattle.ulfm_run.proofs.threads.new_worker.Goals as goal
 
@@ -10,3 +12,8 @@ returns-clause-at_work g c =
     (c.in-Ok.ensures.player ∙ ap (λ i. start_player i c.ranks.result) c.me-me.ensures ∙ ap (λ n. start_player (g.E.Ends.place c.args.end) n) c.ranks.ensures.exact)
     c.me.ensures.sound
     (omega (arith, c.in-Ok.ensures.room, c.script_len-steps.ensures.exact, ap (λ i. length (script_at c.args.job.now i)) c.me-me.ensures))
+
+pub returns-clause-honest : goal.returns-clause-honest
+returns-clause-honest g c =
+    let H : Player → Type 0 = λ (p : Player). IsHonest (g.D.Decider.known c.args.decider) p in
+    subst H (sym c.in-Ok.ensures.player) (honest-start (g.D.Decider.known c.args.decider) _ _)

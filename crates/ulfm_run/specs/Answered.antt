@@ -1,0 +1,130 @@
+-- What the answers of a rank's steps say of its log.
+use Rattle.std.specs.Prelude.{◌≡◌, ℕ, ⊤, true, false, List, [], ◌∷◌, ◌++◌, ◌+◌, ◌<◌, ◌⊎◌, length, All, Some}
+use Rattle.ulfm_base.specs.declared.context.Context.{Context}
+use Rattle.ulfm_base.specs.declared.decision.Decision.{Decision}
+use Rattle.ulfm_base.specs.declared.error.CallError.TheVariants.{OutOfMemory}
+use Rattle.ulfm_board.specs.Known.{known_at}
+use Rattle.ulfm_rank.specs.declared.entry.Entry.{Entry}
+use Rattle.ulfm_rank.specs.declared.entry.Entry.TheVariants.{Took, Stopped}
+use Rattle.ulfm_rank.specs.Calls.{Enters}
+use Rattle.ulfm_rank.specs.Checks.{Passes, shrink_checks}
+use Rattle.ulfm_rank.specs.Facts.{is_stopped}
+use Rattle.ulfm_rank.specs.State.{State}
+use Rattle.ulfm_script.specs.declared.answer.StepAnswer.{StepAnswer}
+use Rattle.ulfm_script.specs.declared.answer.StepAnswer.TheVariants.{Unfinished, Refused}
+use Rattle.ulfm_script.specs.declared.answer.StepReport.{StepReport}
+use Rattle.ulfm_script.specs.declared.step.Step.TheVariants.{Shrink}
+use Rattle.ulfm_script.specs.Deciding.{Known, AnswersAdoption, Proposes}
+use Rattle.ulfm_script.specs.Player.{Answers, IsOpen, awaits_decision, comm_of}
+use Rattle.ulfm_script.specs.Report.{Report}
+
+-- the rank as it stood when its log had so many entries; what left its outboxes plays no part in an answer
+pub record Stood (rank : State) (many : ℕ) (then : State) : Type 0 where
+  pub me : then.me ≡ rank.me
+  pub ranks : then.ranks ≡ rank.ranks
+  pub rest : List Entry
+  pub beginning : then.log ++ rest ≡ rank.log
+  pub entries : length then.log ≡ many
+
+-- an entry tells of an item that was taken
+abbrev pub IsTook : Entry → Type 0
+IsTook (Took source item) = ⊤
+IsTook _ = ⊥
+
+-- from one place of a log up to another the rank only took items
+pub record OnlyTook (log : List Entry) (from to : ℕ) : Type 0 where
+  pub front : List Entry
+  pub between : List Entry
+  pub rest : List Entry
+  pub whole : front ++ (between ++ rest) ≡ log
+  pub begins : length front ≡ from
+  pub ends : from + length between ≡ to
+  pub took : All IsTook between
+
+-- From one place of its log up to another the rank took items, and entered the shrink of this communicator once, with the
+-- failures known there.
+pub record EntersBetween (rank : State) (comm : Context) (from to : ℕ) : Type 0 where
+  pub place : ℕ
+  pub old : State
+  pub new : State
+  pub stood : Stood rank place old
+  pub stood_next : Stood rank (place + 1) new
+  pub accepted : Passes (shrink_checks old comm.number)
+  pub enters : Enters old (comm_of comm) new
+  pub took_before : OnlyTook rank.log from place
+  pub took_after : OnlyTook rank.log (place + 1) to
+
+-- The rank only took since the step before, and the call of this one answered it.
+pub record AnsweredByCall (rank : State) (before : List StepReport) (from : ℕ) (report : StepReport) (old new : State) : Type 0 where
+  pub took : OnlyTook rank.log from report.at
+  pub answers : Answers before old report.step report.answer new
+
+-- The rank only took since the step before, and the call left this one open: a wait whose receive waits, or a shrink, which
+-- this first call of it entered.
+pub record LeftByCall (rank : State) (before : List StepReport) (from : ℕ) (report : StepReport) (old new : State) : Type 0 where
+  pub took : OnlyTook rank.log from report.at
+  pub given_up : report.answer ≡ Unfinished
+  pub opens : IsOpen before old report.step new
+  pub first : awaits_decision (Some report.step) ≡ true → report.polls ≡ 1
+
+-- the decision that the rank's decider knows is adopted, or not, for a reason that stands
+pub record AdoptsKnown (known : Known) (r : State) (comm : Context) (answer : StepAnswer) (new : State) : Type 0 where
+  pub held : Decision
+  pub knows : known_at known comm.number ≡ Some held
+  pub adoption : AnswersAdoption r comm held answer new
+
+-- memory was wanted for the board, and nothing changes
+pub record WantsMemory (r : State) (answer : StepAnswer) (new : State) : Type 0 where
+  pub refused : answer ≡ Refused OutOfMemory
+  pub only : new ≡ r
+
+-- The rank entered the shrink since the step before, and had a proposal; the decision answers it.
+pub record AnsweredByDecision (known : Known) (rank : State) (from : ℕ) (report : StepReport) (old new : State) : Type 0 where
+  pub comm : Context
+  pub shrink : report.step ≡ Shrink comm
+  pub entered : EntersBetween rank comm from report.at
+  pub proposes : Proposes old comm
+  pub outcome : AdoptsKnown known old comm report.answer new ⊎ WantsMemory old report.answer new
+
+-- The rank entered the shrink since the step before, and at a later poll had no proposal.
+pub record LeftUndecided (rank : State) (from : ℕ) (report : StepReport) (old new : State) : Type 0 where
+  pub comm : Context
+  pub shrink : report.step ≡ Shrink comm
+  pub entered : EntersBetween rank comm from report.at
+  pub given_up : report.answer ≡ Unfinished
+  pub later : 1 < report.polls
+  pub undecided : Proposes old comm → ⊥
+  pub only : new ≡ old
+
+-- The step's answer is right for the rank as it stood at the report's place, after these answered steps, of which the last
+-- one's entries end at the place `from`; what the answer adds to the log comes next, and ends at the place `to`.
+pub record IsAnswered (known : Known) (rank : State) (before : List StepReport) (from : ℕ) (report : StepReport) (to : ℕ) : Type 0 where
+  pub old : State
+  pub new : State
+  pub stood : Stood rank report.at old
+  pub stood_next : Stood rank to new
+  pub how :
+      AnsweredByCall rank before from report old new
+      ⊎ (LeftByCall rank before from report old new
+      ⊎ (AnsweredByDecision known rank from report old new
+      ⊎ LeftUndecided rank from report old new))
+
+-- these steps are answered, one after another, from one place of the log to another
+abbrev pub AreAnswered : Known → State → List StepReport → ℕ → List StepReport → ℕ → Type 0
+AreAnswered known rank before from [] to = from ≡ to
+AreAnswered known rank before from (report ∷ reports) to =
+    (next : ℕ) × IsAnswered known rank before from report next × AreAnswered known rank (before ++ report ∷ []) next reports to
+
+-- the stop, where the log has one, is its last entry
+pub record EndsAtStop (log : List Entry) : Type 0 where
+  pub front : List Entry
+  pub running : is_stopped front ≡ false
+  pub last : log ≡ front ++ Stopped ∷ []
+
+-- Each answer of a rank is its step's answer on the log's beginning up to its place, where a decision is the one that its
+-- decider knows. After the last one the rank only took, and nothing after a stop.
+pub record HasAnswers (known : Known) (report : Report) : Type 0 where
+  pub last : ℕ
+  pub answers : AreAnswered known report.rank [] 0 report.steps last
+  pub took : OnlyTook report.rank.log last (length report.rank.log)
+  pub stop : is_stopped report.rank.log ≡ true → EndsAtStop report.rank.log
