@@ -11,6 +11,7 @@ use Rattle.ulfm_carrier.specs.Family.{at, InPlace, Keeps, Settled}
 use Rattle.ulfm_script.specs.Job.{Seen, script_at, through_stop}
 use Rattle.ulfm_script.specs.Report.{Report}
 use Rattle.ulfm_run.specs.declared.worker.Ran.{Ran}
+use Rattle.ulfm_run.specs.Decided.{AreTrue, ShowUntrue}
 use Rattle.ulfm_run.specs.Fields.{report_in, end_in, decider_in, Fits, WerePlayed}
 use Rattle.ulfm_run.specs.Flow.{AllCarry}
 use Rattle.ulfm_run.specs.Played.{IsPlayed, HasPlayed}
@@ -97,3 +98,12 @@ module _ {E D N : Type 0} (name : E → N) (place count : E → ℕ) (pushed tak
 
     pub boards_all : (kept : List D) → kept ≡ map decider_in ran → map board kept ≡ map board deciders
     boards_all kept held = ap (map board) held ∙ same_boards (fit.decider_each ∙ sym fit.end_each)
+
+    -- reports that show a decision that isn't true
+    pub untrue_all : (ranks : List Report) → ranks ≡ map report_in ran → (AreTrue ranks → ⊥) → ShowUntrue job ranks
+    untrue_all ranks is untrue = record {
+      each = ap length is ∙ length-map ran report_in ∙ h.as_many ∙ fit.end_each;
+      order = order_all ranks is;
+      scripts = went_all ranks is;
+      untrue = untrue;
+    }

@@ -4,13 +4,16 @@ use Rattle.ulfm_base.specs.declared.decision.Decision.{Decision}
 use Rattle.ulfm_base.specs.declared.rank_set.RankSet.{RankSet}
 use Rattle.ulfm_base.specs.Decision.{entry_at}
 use Rattle.ulfm_base.specs.RankSet.{has}
-use Rattle.ulfm_carrier.specs.Family.{at}
+use Rattle.ulfm_carrier.specs.Family.{at, InPlace}
 use Rattle.ulfm_rank.specs.declared.entry.Entry.{Entry}
 use Rattle.ulfm_rank.specs.declared.entry.Entry.TheVariants.{Adopted}
 use Rattle.ulfm_rank.specs.Facts.{is_stopped}
 use Rattle.ulfm_rank.specs.Log.{first_of}
 use Rattle.ulfm_rank.specs.Shrink.{entry_of}
+use Rattle.ulfm_script.specs.Job.{Seen}
 use Rattle.ulfm_script.specs.Report.{Report}
+use Rattle.ulfm_run.specs.Flow.{IsEach}
+use Rattle.ulfm_run.specs.Played.{HasPlayed}
 
 -- the rank entered the shrink of c with these failures known to it
 abbrev pub HasEntered : Report → ℕ → RankSet → Type 0
@@ -49,3 +52,10 @@ AdoptsTruly reports _ = ⊤
 -- each decision that a rank adopted is true of what the ranks report
 abbrev pub AreTrue : List Report → Type 0
 AreTrue reports = (s : ℕ) (told : Report) → at reports s told → (k : ℕ) (entry : Entry) → at told.rank.log k entry → AdoptsTruly reports entry
+
+-- What all the ranks of a job report, by their numbers, shows a decision that isn't true.
+pub record ShowUntrue (job : Seen) (reports : List Report) : Type 0 where
+  pub each : IsEach job reports
+  pub order : InPlace (λ told. told.rank.me) reports
+  pub scripts : (k : ℕ) (told : Report) → at reports k told → HasPlayed job k told
+  pub untrue : AreTrue reports → ⊥

@@ -1,15 +1,19 @@
 //! A job, from its ends and deciders to its report.
 ghost use Rattle.std.specs.Prelude.{◌≡◌, ◌≤◌, ◌↔◌, [], ℕ, List, All, Option, length, map, vec_len, vec_capacity, IsTrue, Err, IfOk, IfErr, OnOk};
+ghost use Rattle.std.specs.declared.alloc.Global.{Global as Heap};
+ghost use Rattle.std.specs.declared.vec.Vec.{Vec as Listed};
 ghost use Rattle.ulfm_board.specs.Known.{nothing_known};
 ghost use Rattle.ulfm_board.specs.Names.{OneBoard};
 ghost use Rattle.ulfm_carrier.specs.Family.{at, InPlace, AllFresh, Keeps, Settled};
 ghost use Rattle.ulfm_script.specs.Report.{Report as Told};
 ghost use Rattle.ulfm_run.specs.Answered.{HasAnswers};
+ghost use Rattle.ulfm_run.specs.Decided.{AreTrue, ShowUntrue};
 ghost use Rattle.ulfm_run.specs.Fields.{report_in, end_in, decider_in, Fits};
 ghost use Rattle.ulfm_run.specs.Flow.{AllCarry, IsEach};
 ghost use Rattle.ulfm_run.specs.Lawful.{IsLawful};
 ghost use Rattle.ulfm_run.specs.Played.{HasPlayed};
 
+use crate::adopted::are_true;
 use crate::report::Report;
 use crate::threads::{Unplayed, play_all};
 use crate::worker::Ran;
@@ -30,7 +34,8 @@ use ulfm_script::{Job, RankReport, RunFault};
 ///
 /// `BadEnds` where the number of ends or of deciders isn't that of the ranks, or an end stands at another place than its
 /// number; no thread is started then. `NoThread` where a thread couldn't be started, `OutOfMemory` where a growth outside
-/// the polls of steps was refused; the threads that were started have run to their end then.
+/// the polls of steps was refused, `Untrue` where a decision that a rank adopted lists a set that isn't that of its rank's
+/// own entry, or excludes a rank that didn't stop; the threads that were started have run to their end then.
 pub fn run_job<E, D, R>(
     rt: &R,
     alloc: Global,
@@ -49,6 +54,8 @@ where
     ensures fits { OnOk result (Fits E.place job.now ends.items deciders.items) }
     ensures bad_ends { (Fits E.place job.now ends.items deciders.items → ⊥) → result ≡ Err RunFault.BadEnds }
     ensures misfits { IfErr result (λ fault. fault ≡ RunFault.BadEnds → Fits E.place job.now ends.items deciders.items → ⊥) }
+    ensures untrue { IfErr result (λ fault. (reports : Listed Told Heap) → fault ≡ RunFault.Untrue reports → ShowUntrue job.now reports.items) }
+    ensures decisions { IfOk result (λ report. AreTrue report.ranks.items) }
     ensures sizes { IfOk result (λ report. IsEach job.now report.ranks.items × IsEach job.now report.residue.inboxes.items × IsEach job.now report.ends.items × IsEach job.now report.deciders.items) }
     ensures order { IfOk result (λ report. InPlace (λ (told : Told). told.rank.me) report.ranks.items) }
     ensures scripts { IfOk result (λ report. (k : ℕ) (told : Told) → at report.ranks.items k told → HasPlayed job.now k told) }
@@ -82,13 +89,18 @@ fn report_of<E: Ends, D: Decider, R: Wait>(
     ensures same { IfOk result (λ report. Keeps E.name E.pushed E.taken (map end_in ran.items) report.ends.items) }
     ensures residue { IfOk result (λ report. Settled E.pushed E.taken (map end_in ran.items) report.residue.inboxes.items) }
     ensures deciders { IfOk result (λ report. report.deciders.items ≡ map decider_in ran.items) }
-    ensures starves { IfErr result (λ fault. fault ≡ RunFault.OutOfMemory) }
+    ensures decisions { IfOk result (λ report. AreTrue report.ranks.items) }
+    ensures untrue { IfErr result (λ fault. (reports : Listed Told Heap) → fault ≡ RunFault.Untrue reports → (reports.items ≡ map report_in ran.items) × (AreTrue reports.items → ⊥)) }
+    ensures fits { IfErr result (λ fault. fault ≡ RunFault.BadEnds → ⊥) }
 {
     let count = ran.len();
     let reports = room_for(alloc, count)?;
     let ends = room_for(alloc, count)?;
     let deciders = room_for(alloc, count)?;
     let (ranks, ends, deciders) = parted(ran, reports, ends, deciders);
+    if !are_true(&ranks) {
+        return Err(RunFault::Untrue(ranks));
+    }
     let (residue, ends) = E::gather(rt, ends);
     Ok(Report {
         ranks,

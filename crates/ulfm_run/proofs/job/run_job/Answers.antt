@@ -1,6 +1,7 @@
 use Rattle.std.proofs.Common.{arith, sym, subst}
+use Rattle.std.proofs.lemmas.Result.{err_from_is_err_and}
 use Rattle.ulfm_carrier.specs.Family.{IsFresh}
-use Rattle.ulfm_run.proofs.Reporting.{fits_of, same_names, all_ready, flow_all, order_all, went_all, sizes_all, names_all, boards_all}
+use Rattle.ulfm_run.proofs.Reporting.{fits_of, same_names, all_ready, flow_all, order_all, went_all, sizes_all, names_all, boards_all, untrue_all}
 use Rattle.ulfm_run.proofs.Lawful.{lawful_of}
 use Rattle.ulfm_run.proofs.Handed.{answers_all}
 use Rattle.ulfm_run.proofs.job.run_job.Goals as goal
@@ -67,3 +68,11 @@ returns-clause-lawful g c =
     (order_all g.E.Ends.name g.E.Ends.place g.E.Ends.count g.E.Ends.pushed g.E.Ends.taken g.E.Ends.ready g.D.Decider.board c.args.job.now c.args.ends.items c.args.deciders.items c.in-Ok.ran.items c.in-Ok.ensures.played fit ranks c.in_ok-report.ensures.ranks)
     (went_all g.E.Ends.name g.E.Ends.place g.E.Ends.count g.E.Ends.pushed g.E.Ends.taken g.E.Ends.ready g.D.Decider.board c.args.job.now c.args.ends.items c.args.deciders.items c.in-Ok.ran.items c.in-Ok.ensures.played fit ranks c.in_ok-report.ensures.ranks)
     (flow_all g.E.Ends.name g.E.Ends.place g.E.Ends.count g.E.Ends.pushed g.E.Ends.taken g.E.Ends.ready g.D.Decider.board c.args.job.now c.args.ends.items c.args.deciders.items c.in-Ok.ran.items c.in-Ok.ensures.played fit ranks after inboxes c.in_ok-report.ensures.ranks c.in_ok-report.ensures.same c.in_ok-report.ensures.residue)
+
+pub returns-in_err-report-clause-untrue : goal.returns-in_err-report-clause-untrue
+returns-in_err-report-clause-untrue g c =
+    let fit = fits_of g.E.Ends.place c.args.job.now c.args.ends.items c.args.deciders.items (c.fits.ensures.0 c.if-not-fits.false).0 (omega (arith, (c.fits.ensures.0 c.if-not-fits.false).1, c.len.ensures, c.args.deciders.ok)) (c.fits.ensures.0 c.if-not-fits.false).2 in
+    let failed = err_from_is_err_and c.from_residual.result c.from_residual.ensures.1 in
+    rw failed.1 (λ reports is.
+    let shown = c.in_err-report.ensures.untrue reports (let same = failed.2 in cc) in
+    untrue_all g.E.Ends.name g.E.Ends.place g.E.Ends.count g.E.Ends.pushed g.E.Ends.taken g.E.Ends.ready g.D.Decider.board c.args.job.now c.args.ends.items c.args.deciders.items c.in-Ok.ran.items c.in-Ok.ensures.played fit reports.items shown.0 shown.1)
