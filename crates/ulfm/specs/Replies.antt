@@ -46,6 +46,7 @@ good_line ranks steps = codes "job ok: " ++ decimal ranks ++ codes " ranks " ++ 
 abbrev pub failed_text : Failure → List ℕ
 failed_text run.NoThread = codes "run failed: F2\n"
 failed_text run.OutOfMemory = codes "run failed: F3\n"
+failed_text run.Untrue = codes "run failed: F4\n"
 
 -- the line for a run that found no memory
 abbrev pub starved_text : List ℕ

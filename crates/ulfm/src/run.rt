@@ -20,6 +20,8 @@ pub enum Failure {
     NoThread,
     /// Memory ran out.
     OutOfMemory,
+    /// A decision that a rank adopted is untrue of what the ranks did.
+    Untrue,
 }
 
 /// The reply of `run` with this carrier.
@@ -54,6 +56,7 @@ fn failed(alloc: Global, failure: Failure) -> Result<Reply, AllocError>
     let line = match failure {
         Failure::NoThread => "run failed: F2\n",
         Failure::OutOfMemory => "run failed: F3\n",
+        Failure::Untrue => "run failed: F4\n",
     };
     let text = String::from_str(alloc, line)?;
     Ok(Reply {
@@ -82,6 +85,7 @@ fn run_on_lanes<R: Threads + Wait + Sync>(
         Ok(report) => Ok(report.ranks),
         Err(RunFault::NoThread) => Err(Failure::NoThread),
         Err(RunFault::OutOfMemory) => Err(Failure::OutOfMemory),
+        Err(RunFault::Untrue(_)) => Err(Failure::Untrue),
         Err(RunFault::BadEnds) => unreachable!(),
     }
 }
