@@ -26,3 +26,4 @@ pub mod Among
 pub mod Proposing
 pub mod Foreign
 pub mod Adoptable
+pub mod Pairings

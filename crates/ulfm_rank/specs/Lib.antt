@@ -5,6 +5,7 @@ pub mod Communicators
 pub mod Owed
 pub mod Shrink
 pub mod Answer
+pub mod Paired
 pub mod State
 pub mod Checks
 pub mod Calls

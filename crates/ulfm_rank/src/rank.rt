@@ -12,6 +12,7 @@ ghost use Rattle.ulfm_rank.specs.Checks.{Passes, Fails, FailsOrStarves, start_ch
 ghost use Rattle.ulfm_rank.specs.Communicators.{group_of};
 ghost use Rattle.ulfm_rank.specs.Facts.{is_stopped};
 ghost use Rattle.ulfm_rank.specs.Inside.{stop_places};
+ghost use Rattle.ulfm_rank.specs.Paired.{IsPaired};
 ghost use Rattle.ulfm_rank.specs.State.{start_state, IsState};
 
 use crate::communicators::Communicators;
@@ -92,6 +93,7 @@ impl Rank {
     pub fn me(&self) -> WorldRank
         ensures number { result.number ≡ self.now.state.me }
         ensures sound { IsState self.now.state }
+        ensures paired { IsPaired self.now.state.log }
     {
         self.me
     }

@@ -3,6 +3,7 @@ use Rattle.std.proofs.Common.{◌≡◌, ℕ, ◌+◌, ◌<◌, Bool, true, fals
 use Rattle.std.specs.Prelude.{All, Option, Some, None}
 use Rattle.ulfm_rank.specs.declared.entry.Entry.{Entry}
 use Rattle.ulfm_rank.specs.Facts.{is_stopped}
+use Rattle.ulfm_rank.specs.Paired.{IsPaired}
 use Rattle.ulfm_rank.specs.State.{State}
 use Rattle.ulfm_script.specs.declared.answer.StepReport.{StepReport}
 use Rattle.ulfm_script.specs.declared.step.Step.{Step}
@@ -81,16 +82,18 @@ pub honest-start : (known : Known) (me n : ℕ) → IsHonest known (start_player
 honest-start known me n = record { place = 0; answers = refl; stands = took-none []; stop = λ s. absurd (false≢true s) }
 
 -- a player with no step open has its answers
-pub honest-answers : (known : Known) (p : Player) (report : Report) → IsHonest known p → p.current ≡ None → report.rank ≡ p.rank → report.steps ≡ p.done → HasAnswers known report
-honest-answers known p report h none rank steps =
+pub honest-answers : (known : Known) (p : Player) (report : Report) → IsHonest known p → p.current ≡ None → report.rank ≡ p.rank → report.steps ≡ p.done → IsPaired p.rank.log → HasAnswers known report
+honest-answers known p report h none rank steps paired =
     let S : Option Step → Type 0 = λ (o : Option Step). Stands known p.rank p.done h.place o p.at p.polls in
     let took : OnlyTook p.rank.log h.place (length p.rank.log) = subst S none h.stands in
     let A : State → List StepReport → Type 0 = λ (r : State) (xs : List StepReport). AreAnswered known r [] 0 xs h.place in
     let T : State → Type 0 = λ (r : State). OnlyTook r.log h.place (length r.log) in
+    let P : State → Type 0 = λ (r : State). IsPaired r.log in
     let E : State → Type 0 = λ (r : State). is_stopped r.log ≡ true → EndsAtStop r.log in
     record {
       last = h.place;
       answers = subst (λ (r : State). A r report.steps) (sym rank) (subst (A p.rank) (sym steps) h.answers);
       took = subst T (sym rank) took;
       stop = subst E (sym rank) h.stop;
+      paired = subst P (sym rank) paired;
     }

@@ -6,6 +6,7 @@ use Rattle.std.proofs.lemmas.Option.{slice_get_within}
 use Rattle.std.proofs.lemmas.List.{length-map}
 use Rattle.ulfm_base.specs.declared.item.Item.{Item}
 use Rattle.ulfm_rank.specs.Facts.{is_stopped}
+use Rattle.ulfm_rank.specs.Paired.{IsPaired}
 use Rattle.ulfm_rank.specs.State.{State}
 use Rattle.ulfm_script.specs.declared.answer.StepReport.{StepReport}
 use Rattle.ulfm_script.specs.declared.step.Step.{Step}
@@ -104,7 +105,7 @@ module _ {E N : Type 0} (name : E → N) (place count : E → ℕ) (pushed taken
       }
 
   -- and its answers are right
-  pub told : (known : Known) (v w : View) (e f : E) (report : Report) → IsHonest known v.player → HasAnswered (script_at job me) job.turns v.player → Moves name place count pushed taken ready v e w f → report.rank ≡ w.player.rank → report.steps ≡ w.player.done → HasAnswers known report
-  told known v w e f report h answered m rank steps =
+  pub told : (known : Known) (v w : View) (e f : E) (report : Report) → IsHonest known v.player → HasAnswered (script_at job me) job.turns v.player → Moves name place count pushed taken ready v e w f → report.rank ≡ w.player.rank → report.steps ≡ w.player.done → IsPaired w.player.rank.log → HasAnswers known report
+  told known v w e f report h answered m rank steps paired =
       let none : w.player.current ≡ None = ap (λ (p : Player). p.current) m.only ∙ answered.closed in
-      honest-answers known w.player report (honest-went known v w e f m h) none rank steps
+      honest-answers known w.player report (honest-went known v w e f m h) none rank steps paired

@@ -9,6 +9,7 @@ use Rattle.ulfm_rank.specs.declared.entry.Entry.TheVariants.{Took, Stopped}
 use Rattle.ulfm_rank.specs.Calls.{Enters}
 use Rattle.ulfm_rank.specs.Checks.{Passes, shrink_checks}
 use Rattle.ulfm_rank.specs.Facts.{is_stopped}
+use Rattle.ulfm_rank.specs.Paired.{IsPaired}
 use Rattle.ulfm_rank.specs.State.{State}
 use Rattle.ulfm_script.specs.declared.answer.StepAnswer.{StepAnswer}
 use Rattle.ulfm_script.specs.declared.answer.StepAnswer.TheVariants.{Unfinished, Refused}
@@ -122,9 +123,11 @@ pub record EndsAtStop (log : List Entry) : Type 0 where
   pub last : log ≡ front ++ Stopped ∷ []
 
 -- Each answer of a rank is its step's answer on the log's beginning up to its place, where a decision is the one that its
--- decider knows. After the last one the rank only took, and nothing after a stop.
+-- decider knows. After the last one the rank only took, and nothing after a stop. The log's history has one lawful pairing,
+-- and its pairs inside a beginning are those by which a wait is answered there.
 pub record HasAnswers (known : Known) (report : Report) : Type 0 where
   pub last : ℕ
   pub answers : AreAnswered known report.rank [] 0 report.steps last
   pub took : OnlyTook report.rank.log last (length report.rank.log)
   pub stop : is_stopped report.rank.log ≡ true → EndsAtStop report.rank.log
+  pub paired : IsPaired report.rank.log

@@ -179,6 +179,7 @@ impl<E: Ends, D: Decider> Worker<E, D> {
             decider,
             starved,
         } = worker;
+        let _ = player.me();
         Ran {
             report: player.report(starved),
             end,

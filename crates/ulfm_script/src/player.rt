@@ -4,6 +4,7 @@ mod deciding;
 
 ghost use Rattle.std.specs.Prelude.{◌≡◌, ◌≢◌, ◌<◌, ◌≤◌, ◌+◌, ◌↔◌, length, false, IsTrue, IsSome, IfOk, IfErr, IfSome, IfNone, OnOk, OnErr, None, [], nat_lt};
 ghost use Rattle.ulfm_rank.specs.Facts.{is_stopped};
+ghost use Rattle.ulfm_rank.specs.Paired.{IsPaired};
 ghost use Rattle.ulfm_rank.specs.State.{IsState, logged, outbox, returned, Leaves, MayReturn};
 ghost use Rattle.ulfm_rank.specs.Checks.{Passes, FailsOrStarves, start_checks};
 ghost use Rattle.ulfm_rank.specs.Calls.{IsFrom};
@@ -73,6 +74,7 @@ impl Player {
     pub fn me(&self) -> WorldRank
         ensures me { result.number ≡ self.now.player.rank.me }
         ensures sound { IsState self.now.player.rank }
+        ensures paired { IsPaired self.now.player.rank.log }
     {
         self.rank.me()
     }

@@ -12,4 +12,4 @@ pub returns-clause-answers : goal.returns-clause-answers
 returns-clause-answers g c =
     subst (λ (d : g.row.D.Denot). HasAnswers (g.D.Decider.known d) c.report.result) (sym c.finish.ensures.decider)
     (told g.E.Ends.name g.E.Ends.place g.E.Ends.count g.E.Ends.pushed g.E.Ends.taken g.E.Ends.ready c.args.job.now c.args.me _ c.go_through.new.self.player c.finish.new.self.player c.go_through.new.self.end c.finish.new.self.end c.report.result
-    (c.go_through.ensures.honest c.requires.honest) c.go_through.ensures.done c.finish.ensures.moves c.report.ensures.rank c.report.ensures.steps)
+    (c.go_through.ensures.honest c.requires.honest) c.go_through.ensures.done c.finish.ensures.moves c.report.ensures.rank c.report.ensures.steps c.me.ensures.paired)

@@ -1,0 +1,33 @@
+-- A log's history has one lawful pairing, which holds in its beginnings too.
+use Rattle.std.proofs.Common.{◌≡◌, ℕ, List, [], ◌∷◌, ◌++◌, length, refl, ap, sym, subst, ◌∙◌, append-nil, append_assoc}
+use Rattle.ulfm_match.specs.History.{Event}
+use Rattle.ulfm_match.specs.Pairing.{Pairing, LawfulPairing, inside}
+use Rattle.ulfm_match.proofs.Cut.{cut}
+use Rattle.ulfm_match.proofs.Unique.{one_pairing}
+use Rattle.ulfm_rank.specs.declared.entry.Entry.{Entry}
+use Rattle.ulfm_rank.specs.History.{events_by, history_of}
+use Rattle.ulfm_rank.specs.Paired.{IsPaired}
+use Rattle.ulfm_rank.proofs.Gather.{history-push}
+
+-- the history of a longer log goes on where that of its beginning ends
+history-more : (front rest : List Entry) → (more : List Event) × (history_of (front ++ rest) ≡ history_of front ++ more)
+history-more front [] = ([], ap history_of (append-nil front) ∙ sym (append-nil (history_of front)))
+history-more front (e ∷ rest) =
+    let h = history-more (front ++ e ∷ []) rest in
+    let added : List Event = events_by front (history_of front) e in (
+      added ++ h.0,
+      ap history_of (sym (append_assoc front (e ∷ []) rest)) ∙ h.1
+          ∙ ap (λ (es : List Event). es ++ h.0) (history-push front e)
+          ∙ append_assoc (history_of front) added h.0,
+    )
+
+pub paired : (log : List Entry) (r : Pairing) → LawfulPairing (history_of log) r → IsPaired log
+paired log r law = record {
+  pairing = r;
+  lawful = law;
+  only = λ s other i b. (λ p. one_pairing (history_of log) r s law other i b p, λ p. one_pairing (history_of log) s r other law i b p);
+  cut = λ front rest e.
+      let h = history-more front rest in
+      let L : List Event → Type 0 = λ (es : List Event). LawfulPairing es r in
+      cut (history_of front) h.0 r (subst L (ap history_of (sym e) ∙ h.1) law);
+}
