@@ -50,6 +50,7 @@ const HELP: &str = "A job is a TOML text on standard input:
   op = \"wait\"
   req = 0
 
+Under run a step's polls come fast: give a job many turns, as 1000000.
 Statuses: 0 done, 1 job refused, 2 usage, 3 run failed, 4 output failed, 5 input failed.
 docs/JOBS.md has the format of jobs and traces, docs/RULES.md the rules that ranks obey.";
 

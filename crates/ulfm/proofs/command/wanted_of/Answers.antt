@@ -1,9 +1,8 @@
-use Rattle.std.proofs.Common.{ap, ap₂, refl, sym, subst, inl, inr, ◌≡◌, ◌⊎◌, ◌∙◌, map, true, List, [], option_map, None}
+use Rattle.std.proofs.Common.{ap, ap₂, refl, sym, subst, inl, inr, ◌≡◌, ◌⊎◌, ◌∙◌, map, true, option_map}
 use Rattle.std.proofs.lemmas.Result.{err_from_is_err_and}
-use Rattle.clap.specs.declared.error.kind.ErrorKind.{ErrorKind}
 use Rattle.clap.specs.declared.error.kind.ErrorKind.TheVariants.{OutOfMemory}
 use Rattle.clap.specs.Kinds.{HasKind, or_else}
-use Rattle.clap.specs.Words.{App, Kinds, Text, IsAmong, app_of, fault_of, is_simple, is_simple_and_free, subcommand_of}
+use Rattle.clap.specs.Words.{App, Kinds, IsAmong, fault_of, is_simple, is_simple_and_free, subcommand_of}
 use Rattle.clap.proofs.OnLiterals.{clap_on_literals}
 use Rattle.ulfm.specs.Words.{tool_app, asked, choice, faults, meant, unmeant}
 use Rattle.ulfm.proofs.Parsed.{among_first}
