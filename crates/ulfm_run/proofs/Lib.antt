@@ -19,3 +19,5 @@ pub mod Answers
 pub mod Honestly
 pub mod Calling
 pub mod Adopting
+pub mod Plain
+pub mod Held

@@ -7,3 +7,4 @@ pub mod Flow
 pub mod Fields
 pub mod Lawful
 pub mod Decided
+pub mod Agreed
