@@ -16,4 +16,5 @@ pub mod Beginnings
 pub mod Answers
 pub mod Honestly
 pub mod Calling
+pub mod Once
 pub mod Adopting
