@@ -1,5 +1,5 @@
 -- What a log's beginnings keep while the log grows.
-use Rattle.std.proofs.Common.{◌≡◌, ℕ, ◌+◌, ◌≤◌, List, [], ◌∷◌, ◌++◌, length, refl, ap, sym, subst, ◌∙◌, arith, append-nil, append_assoc, length-append}
+use Rattle.std.proofs.Common.{◌≡◌, ℕ, ◌+◌, ◌≤◌, List, [], ◌∷◌, ◌++◌, length, refl, ap, sym, ◌∙◌, arith, append-nil, append_assoc, length-append}
 use Rattle.std.specs.Prelude.{All}
 use Rattle.std.proofs.lemmas.List.Elements.{All-nil, All-append}
 use Rattle.ulfm_base.specs.declared.context.Context.{Context}
@@ -111,3 +111,6 @@ stood-before r s g = stood-grew r s (length r.log) r g (stood-now r)
 
 pub grew-same : (r s : State) → s ≡ r → Grew r s
 grew-same r s e = record { me = ap (λ (t : State). t.me) e; ranks = ap (λ (t : State). t.ranks) e; more = []; log = ap (λ (t : State). t.log) e ∙ sym (append-nil r.log) }
+
+pub grew-long : (r s : State) → Grew r s → length r.log ≤ length s.log
+grew-long r s g = omega (arith, ap length g.log, length-append r.log g.more)

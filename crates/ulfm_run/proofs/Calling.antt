@@ -1,5 +1,5 @@
 -- What a poll by a call makes of a player whose answers are right.
-use Rattle.std.proofs.Common.{◌≡◌, ℕ, ◌+◌, ◌-◌, ◌^◌, ◌<◌, ◌≤◌, min, Bool, true, false, List, [], ◌∷◌, ◌++◌, length, refl, ap, sym, subst, ◌∙◌, arith, inl, inr, ◌⊎◌, length-append, MatchOption}
+use Rattle.std.proofs.Common.{◌≡◌, ℕ, ◌+◌, ◌-◌, ◌^◌, ◌<◌, min, Bool, true, false, List, [], ◌∷◌, ◌++◌, length, refl, ap, sym, subst, ◌∙◌, arith, inl, inr, length-append, MatchOption}
 use Rattle.std.specs.Prelude.{Option, Some, None, slice_get, ◌||◌}
 use Rattle.std.proofs.lemmas.Bool.{false≢true}
 use Rattle.std.proofs.lemmas.Option.{same_Some}
@@ -11,14 +11,13 @@ use Rattle.ulfm_rank.specs.State.{State}
 use Rattle.ulfm_script.specs.declared.answer.StepReport.{StepReport}
 use Rattle.ulfm_script.specs.declared.step.Step.{Step}
 use Rattle.ulfm_script.specs.declared.step.Step.TheVariants.{Wait, Shrink}
-use Rattle.ulfm_script.specs.Deciding.{Known, IsReady, Proposes}
+use Rattle.ulfm_script.specs.Deciding.{Known, Proposes}
 use Rattle.ulfm_script.specs.Job.{is_stop_step}
-use Rattle.ulfm_script.specs.Player.{Player, IsCalled, PollAnswers, PollOpens, IsOpen, StaysOpen, awaits_decision, with_rank, answered, polled, report_of}
-use Rattle.ulfm_script.specs.declared.answer.StepAnswer.TheVariants.{Unfinished}
-use Rattle.ulfm_run.specs.Answered.{OnlyTook, EntersBetween, Stood, IsAnswered, EndsAtStop}
+use Rattle.ulfm_script.specs.Player.{Player, IsCalled, PollAnswers, IsOpen, StaysOpen, awaits_decision, report_of}
+use Rattle.ulfm_run.specs.Answered.{OnlyTook, EntersBetween, Stood, EndsAtStop}
 use Rattle.ulfm_run.specs.Honest.{Since, Stands, StandsOpen, IsHonest, IsUndecided}
-use Rattle.ulfm_run.proofs.Beginnings.{Grew, grew-same, stood-now, stood-before, took-grew, took-none, enters-grew}
-use Rattle.ulfm_run.proofs.Honestly.{stays-same, honest-closed}
+use Rattle.ulfm_run.proofs.Beginnings.{Grew, grew-long, grew-same, stood-now, stood-before, took-grew, took-none}
+use Rattle.ulfm_run.proofs.Honestly.{learns-none, honest-closed}
 use Rattle.ulfm_run.proofs.Logs.{stopped-push}
 use Rattle.ulfm_run.proofs.Polls.{Adds, answers_add, opens_add}
 use Rattle.ulfm_run.proofs.Answers.{all-grew}
@@ -58,12 +57,13 @@ honest-answered known p asked q h running a =
     let g : Grew p.rank a.rank = grew-adds p.rank (is_stop_step asked) a.rank adds in
     let took : OnlyTook p.rank.log h.place (length p.rank.log) = took-since known p.rank p.done h.place p.current p.at p.polls h.stands a.first in
     let H : Player → Type 0 = λ (x : Player). IsHonest known x in
-    subst H (sym a.only) (honest-closed known known p a.rank (report_of asked a.answer (length p.rank.log) p.polls) h (stays-same known) g
+    subst H (sym a.only) (honest-closed known known p a.rank (report_of asked a.answer (length p.rank.log) p.polls) h (learns-none p.rank h.place known) g
     (record {
       old = p.rank;
       new = a.rank;
       stood = stood-before p.rank a.rank g;
       stood_next = stood-now a.rank;
+      onward = grew-long p.rank a.rank g;
       how = inl (record { took = took-grew p.rank.log a.rank.log g.more h.place (length p.rank.log) g.log took; answers = a.answers });
     })
     (ends-adds p.rank (is_stop_step asked) a.rank running adds))
@@ -101,6 +101,7 @@ stands-opened known r s before from asked polls g took o some first = record {
     new = s;
     stood = stood-before r s g;
     stood_next = stood-now s;
+    onward = grew-long r s g;
     how = inr (inl (record { took = took-grew r.log s.log g.more from (length r.log) g.log took; given_up = refl; opens = o; first = first }));
   };
   took = took-none s.log;
@@ -117,6 +118,7 @@ stands-waiting known r before from comm polls entered none later = record {
     new = r;
     stood = stood-now r;
     stood_next = stood-now r;
+    onward = omega arith;
     how = inr (inr (inr (record { comm = comm; shrink = refl; entered = entered; given_up = refl; later = later; undecided = none; only = refl })));
   };
   took = took-none r.log;
@@ -149,7 +151,7 @@ honest-called known script turns p asked q h running current next u (inr o) =
     let H : Player → Type 0 = λ (x : Player). IsHonest known x in
     subst H (sym o.only) (record {
       place = h.place;
-      answers = all-grew known known p.rank o.rank [] 0 p.done h.place (stays-same known) (grew-adds p.rank false o.rank adds) h.answers;
+      answers = all-grew known known p.rank o.rank [] 0 p.done h.place (learns-none p.rank h.place known) (grew-adds p.rank false o.rank adds) h.answers;
       stands = stands-polled known p asked o.rank h.place p.current p.at h.stands (matches script (length p.done) turns p.polls p.current asked current next) (λ comm e pr. u comm (record { waits = e; proposes = pr })) o.stays;
       stop = ends-adds p.rank false o.rank running adds;
     })

@@ -1,5 +1,5 @@
 -- A player's answers stay right while its rank takes items, and with each answer more.
-use Rattle.std.proofs.Common.{◌≡◌, ℕ, ◌+◌, ◌<◌, Bool, true, false, List, [], ◌∷◌, ◌++◌, length, refl, ap, sym, subst, ◌∙◌, arith, append-nil}
+use Rattle.std.proofs.Common.{◌≡◌, ℕ, true, List, [], ◌++◌, length, refl, ap, sym, subst, ◌∙◌, arith, append-nil}
 use Rattle.std.specs.Prelude.{All, Option, Some, None}
 use Rattle.ulfm_rank.specs.declared.entry.Entry.{Entry}
 use Rattle.ulfm_rank.specs.Facts.{is_stopped}
@@ -9,18 +9,17 @@ use Rattle.ulfm_script.specs.declared.answer.StepReport.{StepReport}
 use Rattle.ulfm_script.specs.declared.step.Step.{Step}
 use Rattle.ulfm_script.specs.declared.step.Step.TheVariants.{Shrink}
 use Rattle.ulfm_script.specs.Deciding.{Known}
-use Rattle.ulfm_script.specs.Player.{Player, Left, with_rank, start_player, answered}
+use Rattle.ulfm_script.specs.Player.{Player, Left, with_rank, start_player}
 use Rattle.ulfm_script.specs.Report.{Report}
-use Rattle.ulfm_script.specs.declared.answer.StepAnswer.TheVariants.{Unfinished}
 use Rattle.ulfm_run.specs.Answered.{IsTook, OnlyTook, IsAnswered, AreAnswered, EndsAtStop, HasAnswers}
-use Rattle.ulfm_run.specs.Honest.{Since, Stands, StandsOpen, IsHonest, StaysKnown, OnlyTakes}
+use Rattle.ulfm_run.specs.Honest.{Since, Stands, StandsOpen, IsHonest, Learns, OnlyTakes}
 use Rattle.ulfm_run.proofs.Beginnings.{Grew, took-on, took-none, enters-on}
 use Rattle.ulfm_run.proofs.Answers.{answered-grew, all-grew, answers-push}
 use Rattle.ulfm_run.proofs.Scripts.{closed}
 use Rattle.std.proofs.lemmas.Bool.{false≢true}
 
-pub stays-same : (known : Known) → StaysKnown known known
-stays-same known = λ c d h. h
+pub learns-none : (r : State) (to : ℕ) (known : Known) → Learns r to known known
+learns-none r to known = record { keeps = λ c d h. h; same = λ comm from at h up. refl }
 
 since-on : (r s : State) (from : ℕ) (asked : Step) → (g : Grew r s) → All IsTook g.more → Since r from asked → Since s from asked
 since-on r s from (Shrink comm) g all h = enters-on r s comm from g all h
@@ -32,7 +31,7 @@ stands-on known r s before from (Some asked) at polls g all h = record {
   polled = h.polled;
   since = since-on r s from asked g all h.since;
   next = h.next;
-  left = answered-grew known known r s before from _ h.next (stays-same known) g h.left;
+  left = answered-grew known known r s at before from _ h.next (learns-none r at known) (omega arith) g h.left;
   took = took-on r.log s.log g.more h.next g.log all h.took;
 }
 
@@ -41,7 +40,7 @@ honest-rank known p r h me ranks stops takes =
     let g : Grew p.rank r = record { me = me; ranks = ranks; more = takes.more; log = takes.only } in
     record {
       place = h.place;
-      answers = all-grew known known p.rank r [] 0 p.done h.place (stays-same known) g h.answers;
+      answers = all-grew known known p.rank r [] 0 p.done h.place (learns-none p.rank h.place known) g h.answers;
       stands = stands-on known p.rank r p.done h.place p.current p.at p.polls g takes.took h.stands;
       stop = λ s.
           let was : is_stopped p.rank.log ≡ true = sym stops ∙ s in
@@ -56,7 +55,7 @@ honest-moved known p q h only me ranks stops takes =
     subst H (sym only) (honest-rank known p q.rank h me ranks stops takes)
 
 -- so does an answered step, whose entry, if it adds one, is the log's last
-pub honest-closed : (known later : Known) (p : Player) (r : State) (x : StepReport) → (h : IsHonest known p) → StaysKnown known later → Grew p.rank r → IsAnswered later r p.done h.place x (length r.log) → (is_stopped r.log ≡ true → EndsAtStop r.log) → IsHonest later (closed p r x)
+pub honest-closed : (known later : Known) (p : Player) (r : State) (x : StepReport) → (h : IsHonest known p) → Learns p.rank h.place known later → Grew p.rank r → IsAnswered later r p.done h.place x (length r.log) → (is_stopped r.log ≡ true → EndsAtStop r.log) → IsHonest later (closed p r x)
 honest-closed known later p r x h k g a stop = record {
   place = length r.log;
   answers = answers-push later r p.done h.place x (length r.log) (all-grew known later p.rank r [] 0 p.done h.place k g h.answers) a;

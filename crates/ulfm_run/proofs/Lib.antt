@@ -18,6 +18,7 @@ pub mod Beginnings
 pub mod Answers
 pub mod Honestly
 pub mod Calling
+pub mod Once
 pub mod Adopting
 pub mod Plain
 pub mod Held

@@ -1,5 +1,5 @@
 -- What the answers of a rank's steps say of its log.
-use Rattle.std.specs.Prelude.{◌≡◌, ℕ, ⊤, true, false, List, [], ◌∷◌, ◌++◌, ◌+◌, ◌<◌, ◌⊎◌, length, All, Some}
+use Rattle.std.specs.Prelude.{◌≡◌, ℕ, ⊤, true, false, List, [], ◌∷◌, ◌++◌, ◌+◌, ◌<◌, ◌⊎◌, ◌≤◌, length, All, Some, None}
 use Rattle.ulfm_base.specs.declared.context.Context.{Context}
 use Rattle.ulfm_base.specs.declared.decision.Decision.{Decision}
 use Rattle.ulfm_base.specs.declared.error.CallError.TheVariants.{OutOfMemory}
@@ -74,8 +74,9 @@ pub record AdoptsKnown (known : Known) (r : State) (comm : Context) (answer : St
   pub knows : known_at known comm.number ≡ Some held
   pub adoption : AnswersAdoption r comm held answer new
 
--- memory was wanted for the board, and nothing changes
-pub record WantsMemory (r : State) (answer : StepAnswer) (new : State) : Type 0 where
+-- memory was wanted for the board, where no decision is known, and nothing changes
+pub record WantsMemory (known : Known) (r : State) (comm : Context) (answer : StepAnswer) (new : State) : Type 0 where
+  pub unknown : known_at known comm.number ≡ None
   pub refused : answer ≡ Refused OutOfMemory
   pub only : new ≡ r
 
@@ -85,7 +86,7 @@ pub record AnsweredByDecision (known : Known) (rank : State) (from : ℕ) (repor
   pub shrink : report.step ≡ Shrink comm
   pub entered : EntersBetween rank comm from report.at
   pub proposes : Proposes old comm
-  pub outcome : AdoptsKnown known old comm report.answer new ⊎ WantsMemory old report.answer new
+  pub outcome : AdoptsKnown known old comm report.answer new ⊎ WantsMemory known old comm report.answer new
 
 -- The rank entered the shrink since the step before, and at a later poll had no proposal.
 pub record LeftUndecided (rank : State) (from : ℕ) (report : StepReport) (old new : State) : Type 0 where
@@ -104,6 +105,7 @@ pub record IsAnswered (known : Known) (rank : State) (before : List StepReport) 
   pub new : State
   pub stood : Stood rank report.at old
   pub stood_next : Stood rank to new
+  pub onward : report.at ≤ to
   pub how :
       AnsweredByCall rank before from report old new
       ⊎ (LeftByCall rank before from report old new

@@ -1,5 +1,5 @@
 -- A player whose answers are right so far.
-use Rattle.std.specs.Prelude.{◌≡◌, ℕ, true, List, [], ◌++◌, ◌<◌, length, All, Option, Some, None}
+use Rattle.std.specs.Prelude.{◌≡◌, ℕ, true, List, [], ◌++◌, ◌<◌, ◌≤◌, length, All, Option, Some, None}
 use Rattle.ulfm_base.specs.declared.context.Context.{Context}
 use Rattle.ulfm_base.specs.declared.decision.Decision.{Decision}
 use Rattle.ulfm_board.specs.Known.{known_at}
@@ -43,9 +43,10 @@ pub record IsHonest (known : Known) (p : Player) : Type 0 where
 abbrev pub IsUndecided : Player → Type 0
 IsUndecided p = (comm : Context) → IsReady p comm → ⊥
 
--- what is known stays known
-abbrev pub StaysKnown : Known → Known → Type 0
-StaysKnown old new = (c : ℕ) (d : Decision) → known_at old c ≡ Some d → known_at new c ≡ Some d
+-- what is known stays known, and of shrinks that the rank entered and left up to this place nothing more becomes known
+pub record Learns (rank : State) (to : ℕ) (old new : Known) : Type 0 where
+  pub keeps : (c : ℕ) (d : Decision) → known_at old c ≡ Some d → known_at new c ≡ Some d
+  pub same : (comm : Context) (from at : ℕ) → EntersBetween rank comm from at → at ≤ to → known_at new comm.number ≡ known_at old comm.number
 
 -- the log has more entries, all taken, and none after a stop
 pub record OnlyTakes (old new : List Entry) : Type 0 where
