@@ -1,3 +1,4 @@
+pub mod Changed
 pub mod Drained
 pub mod Faces
 pub mod Gathered
@@ -6,6 +7,7 @@ pub mod Last
 pub mod Places
 pub mod Ranks
 pub mod Rings
+pub mod Rule
 pub mod Senders
 pub mod Steps
 pub mod Together

@@ -1,5 +1,6 @@
 pub mod Carried
 pub mod Family
+pub mod Inbox
 pub mod Lanes
 pub mod Tagged
 pub mod Wiring

@@ -5,6 +5,7 @@
 mod carried;
 mod ends;
 mod gathering;
+mod inbox;
 mod inlet;
 mod lane_ends;
 mod residue;
@@ -16,6 +17,7 @@ mod wiring;
 
 pub use carried::Carried;
 pub use ends::Ends;
+pub use inbox::{InOrder, Inbox, InboxPass, Role, View};
 pub use lane_ends::{LaneEnds, LaneName, RingName};
 pub use residue::Residue;
 pub use wiring::lanes;
