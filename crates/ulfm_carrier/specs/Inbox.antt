@@ -1,5 +1,5 @@
 -- The rule of an inbox that all senders share: of what it holds, and of what its passes know.
-use Rattle.std.specs.Prelude.{◌≡◌, ℕ, ◌+◌, ◌<◌, ◌≤◌, Option, None, Some, List, [], ◌∷◌, ◌++◌}
+use Rattle.std.specs.Prelude.{◌≡◌, ℕ, ◌+◌, ◌<◌, ◌≤◌, Option, None, Some, List, [], ◌∷◌, ◌++◌, length}
 use mathlib.Core.Option.{some}
 use lib.ListN.{get_elem?}
 use Rattle.crossbeam_queue.specs.Passes.{Pass}
@@ -100,6 +100,10 @@ pub record Took (v : View) (x : Signed) (w : View) : Type 0 where
   pub held : List Signed
   pub flows : ToldIsTakenAndHeld w held
 
--- the receiver was told of all senders that were made
+-- the receiver was told of each sender that was made, in their order
 abbrev pub IsToldOfAll : View → Type 0
-IsToldOfAll v = (p : ℕ) → p < v.made → (l : List Item) × at v.told p (p, l)
+IsToldOfAll v = (length v.told ≡ v.made) × ((k : ℕ) (x : ℕ × List Item) → at v.told k x → x.0 ≡ k)
+
+-- the senders of these items have numbers below n
+abbrev pub AllBelow : ℕ → List Signed → Type 0
+AllBelow n xs = (k : ℕ) (x : Signed) → at xs k x → x.0.number < n

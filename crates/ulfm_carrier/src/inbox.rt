@@ -1,9 +1,9 @@
 //! An inbox that all senders share.
-ghost use Rattle.std.specs.Prelude.{◌≡◌, ◌+◌, ◌++◌, ◌<◌, ◌≤◌, [], IfOk, List, MatchOption, MatchResult, vec_capacity};
+ghost use Rattle.std.specs.Prelude.{◌≡◌, ◌<◌, ◌≤◌, [], IfOk, MatchOption, MatchResult, vec_capacity};
 ghost use Rattle.crossbeam_queue.specs.Fifo.{Held};
 ghost use Rattle.crossbeam_queue.specs.Passes.{view, IsPassOf, IsSamePass, ruled_capacity};
-ghost use Rattle.ulfm_carrier.specs.Family.{at, items_from, ComesFrom};
-ghost use Rattle.ulfm_carrier.specs.Inbox.{Signed, receiver, sender, after_push, after_all, one_more, in_role, after_told, PushedIsTakenAndHeld, ToldIsTakenAndHeld, ToldIsTaken, Took, IsToldOfAll};
+ghost use Rattle.ulfm_carrier.specs.Family.{ComesFrom};
+ghost use Rattle.ulfm_carrier.specs.Inbox.{Signed, receiver, sender, after_push, after_all, one_more, in_role, after_told, PushedIsTakenAndHeld, ToldIsTakenAndHeld, ToldIsTaken, Took, IsToldOfAll, AllBelow};
 ghost use Rattle.ulfm_carrier.specs.declared.inbox.Role.TheVariants as role;
 
 use crossbeam_queue::protocol::{Join, Lesson, Outcome, Protocol, Split};
@@ -181,4 +181,29 @@ pub(crate) fn hear(inbox: &Inbox, inlet: &mut InboxPass, receipt: InboxPass)
     ensures told { view inlet.new ≡ after_told (view inlet.old) (view receipt) }
 {
     inbox.absorb::<Tells>(inlet, receipt);
+}
+
+/// Takes all that the inbox holds, once all its senders have closed.
+pub(crate) fn take_all<R: Wait>(
+    rt: &R,
+    inbox: &Inbox,
+    inlet: &mut InboxPass,
+    left: &mut Vec<(WorldRank, Item)>,
+)
+    requires inlet { IsPassOf inbox.now inlet.old × ((view inlet.old).role ≡ role.Receiver) }
+    requires told { IsToldOfAll (view inlet.old) }
+    requires left { left.old.items ≡ [] }
+    requires room { ruled_capacity inbox.now ≤ vec_capacity left.old }
+    ensures inlet { IsSamePass inlet.old inlet.new }
+    ensures taken { view inlet.new ≡ after_all (view inlet.old) left.new.items }
+    ensures all { ToldIsTaken (view inlet.new) }
+    ensures senders { AllBelow (view inlet.old).made left.new.items }
+{
+    let count = inbox.len_as::<Takes, R>(rt, inlet);
+    for _ in 0..count {
+        let Some(item) = receive(rt, inbox, inlet) else {
+            return;
+        };
+        left.push_reserved(item);
+    }
 }
