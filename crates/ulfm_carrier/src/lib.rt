@@ -3,11 +3,14 @@
 #![tactic(auto)]
 
 mod carried;
+mod emptying;
 mod ends;
 mod gathering;
+mod inbox;
 mod inlet;
 mod lane_ends;
 mod residue;
+mod shared_ends;
 #[cfg(test)]
 mod tests;
 #[cfg(test)]
@@ -16,6 +19,8 @@ mod wiring;
 
 pub use carried::Carried;
 pub use ends::Ends;
+pub use inbox::{InOrder, Inbox, InboxPass, Role, View};
 pub use lane_ends::{LaneEnds, LaneName, RingName};
 pub use residue::Residue;
+pub use shared_ends::{SharedEnds, SharedName};
 pub use wiring::lanes;

@@ -1,0 +1,51 @@
+-- The passes of an end, after one of them was used.
+use Rattle.std.proofs.Common.{◌≡◌, ◌≢◌, ◌<◌, ℕ, inl, inr, List, [], ◌∷◌, ◌++◌, length, map, set, get_or, refl, ap, sym, ◌∙◌, subst, Some}
+use Rattle.std.specs.Prelude.{MatchResult, Result, Ok, Err, OnErr, slice_get}
+use Rattle.std.proofs.Math.Seq.{map-set_same}
+use Rattle.crossbeam_queue.specs.Passes.{view, IsSamePass}
+use Rattle.crossbeam_queue.specs.Ring.{idle}
+use Rattle.crossbeam_queue.specs.Fifo.{Held}
+use Rattle.ulfm_base.specs.declared.item.Item.{Item}
+use Rattle.ulfm_carrier.specs.declared.inbox.View.{View}
+use Rattle.ulfm_carrier.specs.Family.{at, items_from}
+use Rattle.ulfm_carrier.specs.Inbox.{Signed, InboxPass, spent, after_push, PushedIsTakenAndHeld}
+use Rattle.ulfm_carrier.specs.Shared.{pass_name, pushed_with}
+use Rattle.ulfm_carrier.proofs.Places.{at_read, at_set, view_other, view_here, view_or}
+
+pub name_same : (p q : InboxPass) → IsSamePass p q → pass_name q ≡ pass_name p
+name_same p q same = λ i. record p { table_id = same.0 i; id = same.1 i; me = (idle spent, []) }
+
+pub names_same : (outs : List InboxPass) (k : ℕ) (p q : InboxPass) → p ≡ get_or outs k p → IsSamePass p q → map pass_name (set outs k q) ≡ map pass_name outs
+names_same outs k p q here same = map-set_same pass_name outs k q p (name_same p q same ∙ ap pass_name here)
+
+-- what was pushed by one pass more, by a push that a contract of the inbox tells of
+pub pushed_more : (r : Result Unit Item) (outs : List InboxPass) (k : ℕ) (p q : InboxPass) (x : Item) (H : Type 0) → k < length outs → p ≡ get_or outs k p
+    → MatchResult r (λ _. view q ≡ after_push (view p) x) (λ back. (back ≡ x) × (view q ≡ view p) × H)
+    → MatchResult r (λ _. get_or (map pushed_with (set outs k q)) k [] ≡ get_or (map pushed_with outs) k [] ++ x ∷ []) (λ back. (back ≡ x) × (get_or (map pushed_with (set outs k q)) k [] ≡ get_or (map pushed_with outs) k []))
+pushed_more (Ok u) outs k p q x H low here h =
+    view_here pushed_with outs k q [] low ∙ ap (λ (v : View). v.pushed) h ∙ ap (λ l. l ++ x ∷ []) (sym (view_or pushed_with outs k p [] (at_read outs k p low here)))
+pushed_more (Err b) outs k p q x H low here h = (h.0, view_here pushed_with outs k q [] low ∙ ap (λ (v : View). v.pushed) h.1 ∙ sym (view_or pushed_with outs k p [] (at_read outs k p low here)))
+
+pub sender_same : (r : Result Unit Item) (p q : InboxPass) (x : Item) (H : Type 0) → MatchResult r (λ _. view q ≡ after_push (view p) x) (λ back. (back ≡ x) × (view q ≡ view p) × H)
+    → ((view q).role ≡ (view p).role) × ((view q).from ≡ (view p).from)
+sender_same (Ok u) p q x H h = (ap (λ (v : View). v.role) h, ap (λ (v : View). v.from) h)
+sender_same (Err b) p q x H h = (ap (λ (v : View). v.role) h.1, ap (λ (v : View). v.from) h.1)
+
+-- a refused push tells that the inbox was full
+pub refused_full : (r : Result Unit Item) (p q : InboxPass) (x : Item) (capacity room me : ℕ) (pushed : List Item) → room ≡ capacity → (view p).from ≡ me → pushed ≡ (view p).pushed
+    → MatchResult r (λ _. view q ≡ after_push (view p) x) (λ back. (back ≡ x) × (view q ≡ view p) × Held capacity (PushedIsTakenAndHeld (view p)))
+    → OnErr r (Held room (λ held. (taken : List Signed) × (pushed ≡ items_from me (taken ++ held))))
+refused_full (Ok u) p q x capacity room me pushed same from shows h = tt
+refused_full (Err b) p q x capacity room me pushed same from shows h = (h.2.0, h.2.1 ∙ sym same, (h.2.2.0, shows ∙ h.2.2.1 ∙ ap (λ n. items_from n (h.2.2.0 ++ h.2.0)) from))
+
+-- a fact of each pass at its inbox, after one pass was used
+pub each_pass : {Q : Type 0} (P : Q → InboxPass → Type 0) (inboxes : List Q) (outs : List InboxPass) (k : ℕ) (p q : InboxPass) → k < length outs → p ≡ get_or outs k p
+    → ((j : ℕ) (i : Q) (o : InboxPass) → at inboxes j i → at outs j o → P i o) → ((i : Q) → at inboxes k i → P i p → P i q)
+    → (j : ℕ) (i : Q) (o : InboxPass) → at inboxes j i → at (set outs k q) j o → P i o
+each_pass {Q} P inboxes outs k p q low here all used j i o there now = elim (at_set outs k q j o now) [
+  | inl h ↦
+      let A : ℕ → Type 0 = λ n. at inboxes n i in
+      let there' : at inboxes k i = subst A h.0 there in
+      subst (P i) (sym h.1) (used i there' (all k i p there' (at_read outs k p low here)))
+  | inr h ↦ all j i o there h.1
+]

@@ -1,0 +1,5 @@
+use Rattle.ulfm_carrier.proofs.Rule.{closes}
+use Rattle.ulfm_carrier.proofs.inbox.close.Goals as goal
+
+pub another-requires-clause-rule : goal.another-requires-clause-rule
+another-requires-clause-rule c = closes _ _ c.requires.1

@@ -1,0 +1,5 @@
+use Rattle.ulfm_carrier.proofs.Rule.{hears}
+use Rattle.ulfm_carrier.proofs.inbox.hear.Goals as goal
+
+pub absorb-requires-clause-rule : goal.absorb-requires-clause-rule
+absorb-requires-clause-rule c = hears _ _ _ _ c.requires.inlet.1 c.requires.receipt.1

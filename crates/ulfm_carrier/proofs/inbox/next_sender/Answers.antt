@@ -1,0 +1,5 @@
+use Rattle.ulfm_carrier.proofs.Rule.{makes}
+use Rattle.ulfm_carrier.proofs.inbox.next_sender.Goals as goal
+
+pub another-requires-clause-rule : goal.another-requires-clause-rule
+another-requires-clause-rule c = makes _ _ c.requires.1

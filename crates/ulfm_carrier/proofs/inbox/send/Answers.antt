@@ -1,0 +1,6 @@
+use Rattle.std.proofs.Common.{sym}
+use Rattle.ulfm_carrier.proofs.Rule.{sends, sees}
+use Rattle.ulfm_carrier.proofs.inbox.send.Goals as goal
+
+pub push_as-requires-clause-rule : goal.push_as-requires-clause-rule
+push_as-requires-clause-rule g c = (sends _ _ _ (c.args.source, c.args.item) c.requires.out.1 (sym c.requires.out.2) c.requires.item, sees _ _ c.requires.out.1)

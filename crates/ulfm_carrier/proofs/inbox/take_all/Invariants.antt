@@ -1,0 +1,14 @@
+use Rattle.std.proofs.Common.{◌≡◌, List, vec_len, vec_capacity}
+use Rattle.crossbeam_queue.specs.Passes.{view, IsSamePass}
+use Rattle.ulfm_carrier.specs.Inbox.{Signed, after_all, ToldIsTakenAndHeld, AllBelow}
+use Rattle.ulfm_carrier.proofs.inbox.take_all.Given as goal
+
+abbrev pub invariant-loop : goal.invariant-loop
+invariant-loop g l = record {
+  inlet : IsSamePass l.initial.inlet l.inlet;
+  taken : view l.inlet ≡ after_all (view l.initial.inlet) l.left.items;
+  many : vec_len l.left ≡ l.counter;
+  room : vec_capacity l.left ≡ vec_capacity l.initial.left;
+  senders : AllBelow (view l.initial.inlet).made l.left.items;
+  held : (held : List Signed) × ToldIsTakenAndHeld (view l.inlet) held;
+}
