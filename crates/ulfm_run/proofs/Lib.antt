@@ -22,3 +22,4 @@ pub mod Once
 pub mod Adopting
 pub mod Plain
 pub mod Held
+pub mod One
