@@ -26,7 +26,7 @@ use Rattle.ulfm_script.specs.Deciding.{Known, AnswersAdoption}
 use Rattle.ulfm_script.specs.Report.{Report}
 use Rattle.ulfm_run.specs.Agreed.{IsOwn, AdoptsOwn}
 use Rattle.ulfm_run.specs.Answered.{Stood, IsTook, OnlyTook, EntersBetween, AnsweredByDecision, IsAnswered, AreAnswered, HasAnswers}
-use Rattle.ulfm_run.proofs.Plain.{IsPlain, AddsPlain, answers_plain, opens_plain}
+use Rattle.ulfm_run.proofs.Plain.{IsPlain, AddsPlain, Opens, answers_plain, opens_adds}
 
 -- the fifth of five checks lets pass what passes all
 last_passes : (a b c d e : Bool) (i j k l m : CallError) → Passes ((a, i) ∷ (b, j) ∷ (c, k) ∷ (d, l) ∷ (e, m) ∷ []) → e ≡ false
@@ -53,7 +53,7 @@ module _ (known : Known) (r : State) where
   plain_own (Acknowledged context total) h = tt
   plain_own (Revoked context) h = tt
   plain_own (Duplicated comm) h = tt
-  plain_own (Entered context set) h = tt
+  plain_own (Entered context set) h = absurd h
   plain_own (Adopted d) h = absurd h
   plain_own (Took source item) h = tt
   plain_own Stopped h = tt
@@ -97,6 +97,10 @@ module _ (known : Known) (r : State) where
   good_plain n m old new stood next (inl same) good = good_same n m old new stood next same good
   good_plain n m old new stood next (inr h) good = good_push n m old new h.0 stood next (plain_own h.0 h.1) h.2 good
 
+  good_opened : (n m : ℕ) (old new : State) → Stood r n old → Stood r m new → Opens old new → Good n → Good m
+  good_opened n m old new stood next (inl same) good = good_same n m old new stood next same good
+  good_opened n m old new stood next (inr h) good = good_push n m old new (Entered h.0 h.2.known) stood next tt h.2.only good
+
   good_enters : (comm : Context) (from to : ℕ) → EntersBetween r comm from to → Good from → Good to
   good_enters comm from to h good =
       let before = good_took from h.place h.took_before good in
@@ -139,7 +143,7 @@ module _ (known : Known) (r : State) where
   good_answered : (before : List StepReport) (from : ℕ) (report : StepReport) (to : ℕ) → IsAnswered known r before from report to → Good from → Good to
   good_answered before from report to h good = elim h.how [
     | inl a ↦ good_plain report.at to h.old h.new h.stood h.stood_next (answers_plain before h.old report.step report.answer h.new a.answers) (good_took from report.at a.took good)
-    | inr (inl l) ↦ good_plain report.at to h.old h.new h.stood h.stood_next (opens_plain before h.old report.step h.new l.opens) (good_took from report.at l.took good)
+    | inr (inl l) ↦ good_opened report.at to h.old h.new h.stood h.stood_next (opens_adds before h.old report.step h.new l.opens) (good_took from report.at l.took good)
     | inr (inr (inl d)) ↦ good_decided from report.at to report h.old h.new refl h.stood h.stood_next d good
     | inr (inr (inr u)) ↦ good_same report.at to h.old h.new h.stood h.stood_next u.only (good_enters u.comm from report.at u.entered good)
   ]

@@ -23,3 +23,8 @@ pub mod Adopting
 pub mod Plain
 pub mod Held
 pub mod One
+pub mod Firsts
+pub mod Grouped
+pub mod Members
+pub mod Parents
+pub mod OneGroup

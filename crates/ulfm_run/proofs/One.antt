@@ -17,7 +17,7 @@ use Rattle.ulfm_run.proofs.Handed.{at_map}
 use Rattle.ulfm_run.proofs.Held.{own_at}
 
 -- two decisions that are known, where both agree, are equal
-same_both : (one other : Option Decision) (d e : Decision) → BothAgree one other → one ≡ Some d → other ≡ Some e → d ≡ e
+pub same_both : (one other : Option Decision) (d e : Decision) → BothAgree one other → one ≡ Some d → other ≡ Some e → d ≡ e
 same_both one other d e agree here there =
     let B : Option Decision → Type 0 = λ (x : Option Decision). BothAgree x other in
     let C : Option Decision → Type 0 = λ (x : Option Decision). BothAgree (Some d) x in

@@ -1,4 +1,4 @@
--- An answer by a call adopts no decision.
+-- An answer by a call adopts no decision and enters no shrink.
 use Rattle.std.proofs.Common.{◌≡◌, ℕ, Bool, true, false, cond, List, inl, inr, ◌⊎◌}
 use Rattle.std.specs.Prelude.{⊤, Option, nat_lt}
 use Rattle.ulfm_base.specs.declared.context.Context.{Context}
@@ -6,6 +6,8 @@ use Rattle.ulfm_base.specs.declared.tag.Tag.{Tag}
 use Rattle.ulfm_rank.specs.declared.entry.Entry.{Entry}
 use Rattle.ulfm_rank.specs.declared.entry.Entry.TheVariants.{Sent as SentEntry, Posted as PostedEntry, Released, Acknowledged, Revoked as RevokedEntry, Duplicated, Entered, Adopted, Stopped as StopEntry}
 use Rattle.ulfm_rank.specs.declared.entry.TestAnswer.TheVariants.{Done as TestDone, Over as TestOver}
+use Rattle.ulfm_rank.specs.Calls.{Enters}
+use Rattle.ulfm_rank.specs.Checks.{Passes, shrink_checks}
 use Rattle.ulfm_rank.specs.Facts.{is_stopped, is_revoked, acknowledged_of}
 use Rattle.ulfm_rank.specs.State.{State, logged}
 use Rattle.ulfm_script.specs.declared.step.Step.{Step}
@@ -13,16 +15,21 @@ use Rattle.ulfm_script.specs.declared.step.Step.TheVariants.{Send, Recv, Wait, F
 use Rattle.ulfm_script.specs.declared.answer.StepAnswer.{StepAnswer}
 use Rattle.ulfm_script.specs.declared.answer.StepAnswer.TheVariants.{Sent, Posted, Done, Over, Pending, Ranks, Acked, Revoked, Made, Stopped, Refused}
 use Rattle.ulfm_script.specs.declared.answer.StepReport.{StepReport}
-use Rattle.ulfm_script.specs.Player.{Answers, AnswersSend, AnswersRecv, AnswersWait, AnswersFailed, AnswersAck, AnswersRevoke, AnswersDup, AnswersEntry, AnswersStop, IsOpen}
+use Rattle.ulfm_script.specs.Player.{comm_of, Answers, AnswersSend, AnswersRecv, AnswersWait, AnswersFailed, AnswersAck, AnswersRevoke, AnswersDup, AnswersEntry, AnswersStop, IsOpen}
 
--- the entry adopts no decision
+-- the entry adopts no decision and enters no shrink
 abbrev pub IsPlain : Entry → Type 0
 IsPlain (Adopted d) = ⊥
+IsPlain (Entered context set) = ⊥
 IsPlain _ = ⊤
 
--- nothing is added, or an entry that adopts no decision
+-- nothing is added, or an entry that adopts no decision and enters no shrink
 abbrev pub AddsPlain : State → State → Type 0
 AddsPlain old new = (new ≡ old) ⊎ ((e : Entry) × IsPlain e × (new ≡ logged old e))
+
+-- nothing is added, or a shrink is entered that no check refuses
+abbrev pub Opens : State → State → Type 0
+Opens old new = (new ≡ old) ⊎ ((comm : Context) × Passes (shrink_checks old comm.number) × Enters old (comm_of comm) new)
 
 plain_where : (b : Bool) (r new : State) (e : Entry) → IsPlain e → new ≡ cond b (logged r e) r → AddsPlain r new
 plain_where true r new e plain only = inr (e, plain, only)
@@ -88,7 +95,7 @@ answers_plain done r (Dup comm) answer new h = plain_dup r comm answer new h
 answers_plain done r (Shrink comm) answer new h = plain_entry r comm answer new h
 answers_plain done r Stop answer new h = plain_stop r answer new h
 
-pub opens_plain : (done : List StepReport) (r : State) (asked : Step) (new : State) → IsOpen done r asked new → AddsPlain r new
-opens_plain done r (Wait req) new h = inl h.only
-opens_plain done r (Shrink comm) new h = inr (Entered comm h.1.known, tt, h.1.only)
-opens_plain done r _ new h = absurd h
+pub opens_adds : (done : List StepReport) (r : State) (asked : Step) (new : State) → IsOpen done r asked new → Opens r new
+opens_adds done r (Wait req) new h = inl h.only
+opens_adds done r (Shrink comm) new h = inr (comm, h.0, h.1)
+opens_adds done r _ new h = absurd h

@@ -10,3 +10,4 @@ pub mod Decided
 pub mod Agreed
 pub mod Compared
 pub mod Rest
+pub mod Proposed
