@@ -27,4 +27,11 @@ pub mod Firsts
 pub mod Grouped
 pub mod Members
 pub mod Parents
+pub mod Entering
+pub mod Owing
+pub mod Belonging
+pub mod Walked
 pub mod OneGroup
+pub mod Told
+pub mod AtRest
+pub mod Proposing
