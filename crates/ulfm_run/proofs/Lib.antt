@@ -12,3 +12,7 @@ pub mod Starting
 pub mod Flowing
 pub mod Handed
 pub mod Reporting
+pub mod Told
+pub mod AtRest
+pub mod Paired
+pub mod Served

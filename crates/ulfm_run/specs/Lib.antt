@@ -4,3 +4,5 @@ pub mod Played
 pub mod Flow
 pub mod Fields
 pub mod Decided
+pub mod Compared
+pub mod Rest
