@@ -22,3 +22,7 @@ pub mod Once
 pub mod Adopting
 pub mod Plain
 pub mod Held
+pub mod Told
+pub mod AtRest
+pub mod Paired
+pub mod Served

@@ -8,3 +8,5 @@ pub mod Fields
 pub mod Lawful
 pub mod Decided
 pub mod Agreed
+pub mod Compared
+pub mod Rest
