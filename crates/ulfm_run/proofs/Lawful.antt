@@ -1,5 +1,5 @@
 -- What reports, ends and inboxes tell of a run, told by the reports alone.
-use Rattle.std.proofs.Common.{◌≡◌, ℕ, ◌<◌, List, length, arith}
+use Rattle.std.proofs.Common.{ℕ, ◌<◌, List, length, arith}
 use Rattle.std.proofs.lemmas.Option.{slice_get_within}
 use Rattle.std.specs.declared.alloc.Global.{Global}
 use Rattle.std.specs.declared.vec.Vec.{Vec}
