@@ -43,14 +43,15 @@ same_maps f g (x ∷ xs) [] n h = absurd (omega (arith, n))
 same_maps {X} {Y} {Z} f g (x ∷ xs) (y ∷ ys) n h =
     ap (λ (z : Z). z ∷ map g ys) (h zero x y refl refl) ∙ ap (λ (zs : List Z). f x ∷ zs) (same_maps f g xs ys (omega (arith, n)) (λ k a b p q. h (suc k) a b p q))
 
--- what each thread gave back has right answers, by its place in the lists of reports and deciders
-pub answers_all : {E D : Type 0} (known : D → Known) (ran : List (Ran E D)) → All (HaveAnswers known) ran → (reports : List Report) (deciders : List D) → reports ≡ map report_in ran → deciders ≡ map decider_in ran →
-    (k : ℕ) (told : Report) (d : D) → at reports k told → at deciders k d → HasAnswers (known d) told
-answers_all {E} {D} known ran all reports deciders rs ds k told d p q =
+-- what each thread gave back has right answers, by its place in the lists of reports and of what deciders know
+pub answers_all : {E D : Type 0} (known : D → Known) (ran : List (Ran E D)) → All (HaveAnswers known) ran → (reports : List Report) (knows : List Known) → reports ≡ map report_in ran → knows ≡ map known (map decider_in ran) →
+    (k : ℕ) (told : Report) (it : Known) → at reports k told → at knows k it → HasAnswers it told
+answers_all {E} {D} known ran all reports knows rs ds k told it p q =
     let a = from_map report_in ran k told (ap (λ l. slice_get l k) (sym rs) ∙ p) in
-    let b = from_map decider_in ran k d (ap (λ l. slice_get l k) (sym ds) ∙ q) in
+    let c = from_map known (map decider_in ran) k it (ap (λ l. slice_get l k) (sym ds) ∙ q) in
+    let b = from_map decider_in ran k c.0 c.1 in
     let one : b.0 ≡ a.0 = same_Some b.0 a.0 (sym b.1 ∙ a.1) in
     let H : Ran E D → Type 0 = HaveAnswers known in
     let h : H a.0 = subst H (get_or_from_slice_get ran k a.0 a.0 a.1) (All-get_or H ran k a.0 (slice_get_within ran k a.0 a.1) all) in
-    let K : D → Report → Type 0 = λ (x : D) (r : Report). HasAnswers (known x) r in
-    subst (λ (x : D). K x told) (ap decider_in (sym one) ∙ b.2) (subst (λ (r : Report). K a.0.decider r) a.2 h)
+    let K : Known → Report → Type 0 = λ (x : Known) (r : Report). HasAnswers x r in
+    subst (λ (x : Known). K x told) (ap known (ap decider_in (sym one) ∙ b.2) ∙ c.2) (subst (λ (r : Report). K (known a.0.decider) r) a.2 h)

@@ -22,7 +22,6 @@ pub mod Once
 pub mod Adopting
 pub mod Plain
 pub mod Held
-pub mod One
 pub mod Firsts
 pub mod Grouped
 pub mod Members
@@ -35,3 +34,5 @@ pub mod OneGroup
 pub mod Told
 pub mod AtRest
 pub mod Proposing
+pub mod Paired
+pub mod Served

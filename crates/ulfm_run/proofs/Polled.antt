@@ -47,11 +47,6 @@ pub answered_none : (told : Called) (old : Player) (asked : Step) (new : Player)
 answered_none Answered old asked new e h = ap (λ (p : Player). p.current) h.only
 answered_none NotYet old asked new e h = let bad : ⊥ = cc in absurd bad
 
--- a poll that was spent left its step open
-pub spent_open : (old : Player) (asked : Step) (new : Player) → IsCalled old asked new → 0 < new.polls → new.current ≡ Some asked
-spent_open old asked new (inl a) spent = absurd (omega (arith, spent, ap (λ (p : Player). p.polls) a.only))
-spent_open old asked new (inr o) spent = ap (λ (p : Player). p.current) o.only
-
 -- one call that leaves its step open, which is then given up
 pub polls-leave : (job : Seen) (me : ℕ) (v u w : View) (asked : Step) → IsJob job → IsState v.player.rank → FollowsAt (script_at job me) job.turns v.player → is_stopped v.player.rank.log ≡ false → slice_get (script_at job me) (length v.player.done) ≡ Some asked →
     IsCalled v.player asked u.player → Left u.player w.player → job.turns ≤ u.player.polls → w.room + length w.player.done ≡ v.room + length v.player.done → Polls job me v w

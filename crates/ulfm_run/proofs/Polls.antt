@@ -14,7 +14,7 @@ use Rattle.ulfm_script.specs.declared.answer.StepAnswer.{StepAnswer}
 use Rattle.ulfm_script.specs.declared.answer.StepAnswer.TheVariants.{Sent, Posted, Done, Over, Pending, Ranks, Acked, Revoked, Made, Stopped, Refused}
 use Rattle.ulfm_script.specs.declared.answer.StepReport.{StepReport}
 use Rattle.ulfm_script.specs.Job.{is_stop_step}
-use Rattle.ulfm_script.specs.Player.{Player, Answers, AnswersSend, AnswersRecv, AnswersWait, AnswersFailed, AnswersAck, AnswersRevoke, AnswersDup, AnswersEntry, AnswersStop, IsOpen, StaysOpen, awaits_decision, IsCalled, Left}
+use Rattle.ulfm_script.specs.Player.{Player, Answers, AnswersSend, AnswersRecv, AnswersWait, AnswersFailed, AnswersAck, AnswersRevoke, AnswersDup, AnswersEntry, AnswersStop, IsOpen, StaysOpen, awaits_decision, IsCalled}
 use Rattle.ulfm_run.proofs.Logs.{stopped-push}
 use Rattle.ulfm_run.specs.Joined.{Quiet}
 use Rattle.ulfm_run.proofs.Quiet.{Own, quiet-same, quiet-logged}
@@ -141,8 +141,3 @@ quiet-called old asked new h running (inl a) =
 quiet-called old asked new h running (inr o) =
     let Q : Player → Type 0 = λ (p : Player). Quiet old.rank p.rank in
     subst Q (sym o.only) (quiet-adds old.rank false o.rank h (opens_add (awaits_decision old.current) old.done old.rank asked o.rank o.stays))
-
-pub quiet-left : (old new : Player) → IsState old.rank → Left old new → Quiet old.rank new.rank
-quiet-left old new h k =
-    let Q : Player → Type 0 = λ (p : Player). Quiet old.rank p.rank in
-    subst Q (sym k.only) (quiet-same old.rank h)

@@ -1,5 +1,5 @@
 -- Who has a proposal where a run is at rest.
-use Rattle.std.proofs.Common.{◌≡◌, ◌≢◌, ℕ, ◌<◌, true, false, eqb, List, map, length, ap, sym, subst, ◌∙◌, arith, inl, inr, Some}
+use Rattle.std.proofs.Common.{◌≡◌, ◌≢◌, ℕ, ◌<◌, true, false, eqb, List, length, ap, sym, subst, ◌∙◌, arith, inl, inr, Some}
 use Rattle.std.specs.Prelude.{is_some, ◌||◌}
 use Rattle.std.specs.declared.alloc.Global.{Global}
 use Rattle.std.specs.declared.vec.Vec.{Vec}
@@ -18,10 +18,12 @@ use Rattle.ulfm_rank.specs.Owed.{owed}
 use Rattle.ulfm_rank.specs.Shrink.{entry_of, heard_of, has_entered, listed_of, is_out, has_proposal}
 use Rattle.ulfm_rank.specs.State.{owes}
 use Rattle.ulfm_script.specs.Deciding.{Known}
+use Rattle.ulfm_script.specs.Job.{Seen}
 use Rattle.ulfm_script.specs.Report.{Report}
 use Rattle.ulfm_run.specs.Answered.{HasAnswers}
 use Rattle.ulfm_run.specs.Compared.{AllAgree}
-use Rattle.ulfm_run.specs.Flow.{AllCarry}
+use Rattle.ulfm_run.specs.Flow.{AllCarry, IsEach}
+use Rattle.ulfm_run.specs.Lawful.{IsLawful}
 use Rattle.ulfm_run.specs.Proposed.{HasMade, AllEntered, ProposesEach}
 use Rattle.ulfm_run.specs.Rest.{IsRunning, IsAtRest}
 use Rattle.ulfm_run.proofs.AtRest.{same_report, took_owed, running-not_gone, knows-stopped}
@@ -47,15 +49,15 @@ keeps_of n r known told h counted named inside =
     let low : told.rank.me < told.rank.ranks = omega (arith, inside, counted, named) in
     subst M named (subst K counted (walked known told (Keeps told.rank.ranks told.rank.me) (λ log e. keeps-push told.rank.ranks told.rank.me log e) (keeps-start told.rank.ranks told.rank.me low) h))
 
-module _ {E D : Type 0} (pushed taken : E → ℕ → List Item) (known : D → Known) (reports : List Report) (ends : List E) (inboxes : List (Vec (WorldRank × Item) Global)) (deciders : List D)
-    (each_end : length ends ≡ length reports) (each_inbox : length inboxes ≡ length reports) (each_decider : length deciders ≡ length reports) (order : InPlace (λ (r : Report). r.rank.me) reports)
-    (counted : (k : ℕ) (r : Report) → at reports k r → r.rank.ranks ≡ length reports) (answers : (k : ℕ) (told : Report) (d : D) → at reports k told → at deciders k d → HasAnswers (known d) told)
-    (agree : AllAgree (map known deciders)) (flow : AllCarry pushed taken reports ends inboxes) (rest : IsAtRest reports inboxes) where
+module _ {E : Type 0} (pushed taken : E → ℕ → List Item) (reports : List Report) (ends : List E) (inboxes : List (Vec (WorldRank × Item) Global)) (knowns : List Known)
+    (each_end : length ends ≡ length reports) (each_inbox : length inboxes ≡ length reports) (each_known : length knowns ≡ length reports) (order : InPlace (λ (r : Report). r.rank.me) reports)
+    (counted : (k : ℕ) (r : Report) → at reports k r → r.rank.ranks ≡ length reports) (answers : (k : ℕ) (told : Report) (known : Known) → at reports k told → at knowns k known → HasAnswers known told)
+    (agree : AllAgree knowns) (flow : AllCarry pushed taken reports ends inboxes) (rest : IsAtRest reports inboxes) where
   keeps : (r : ℕ) (told : Report) → at reports r told → Keeps (length reports) r told.rank.log
   keeps r told here =
       let inside : r < length reports = slice_get_within reports r told here in
-      let x = there deciders r (omega (arith, inside, each_decider)) in
-      keeps_of (length reports) r (known x.0) told (answers r told x.0 here x.1) (counted r told here) (order r told here) inside
+      let x = there knowns r (omega (arith, inside, each_known)) in
+      keeps_of (length reports) r x.0 told (answers r told x.0 here x.1) (counted r told here) (order r told here) inside
 
   -- what a running rank took from another one is all that this one owes to it
   took_whole : (s d : ℕ) (sender receiver : Report) → at reports s sender → at reports d receiver → IsRunning sender → IsRunning receiver → took receiver.rank.log s ≡ owed (length reports) s sender.rank.log d
@@ -73,7 +75,7 @@ module _ {E D : Type 0} (pushed taken : E → ℕ → List Item) (known : D → 
           ap is_some (listed_self r told.rank.log c m same) ∙ ap (λ (x : Report). has_entered x.rank.log c) (sym one) ∙ entered
       | inr other ↦
           let theirs = some_from (group_of (length reports) member.rank.log c) ((keeps m member at_m).enters_made c entered) in
-          let one : theirs.0 ≡ group = same_group known reports deciders each_decider answers agree (length reports) counted m r c member told theirs.0 group at_m here theirs.1 made in
+          let one : theirs.0 ≡ group = same_group reports knowns each_known answers agree (length reports) counted m r c member told theirs.0 group at_m here theirs.1 made in
           let mine : is_member (members_of (length reports) member.rank.log c) r ≡ true =
           ap (λ (g : List ℕ). is_member g r) (members_found (length reports) member.rank.log c theirs.0 theirs.1 ∙ one) ∙ ((keeps r told here).belongs c group made).member in
           let stays : is_gone member.rank.log r ≡ false = running-not_gone pushed taken reports ends inboxes each_end each_inbox order counted flow rest r m told member here at_m running runs in
@@ -95,7 +97,7 @@ module _ {E D : Type 0} (pushed taken : E → ℕ → List Item) (known : D → 
     has_one : AllEntered reports group c → has_proposal r group told.rank.log c ≡ true
     has_one entered = all_members group (λ m. is_some (listed_of r told.rank.log c m) || is_out r group told.rank.log c m) (accounted entered)
 
-  pub proposes_each : ProposesEach reports
+  proposes_each : ProposesEach reports
   proposes_each r c told here running made entered =
       let log : List Entry = told.rank.log in
       let n : ℕ = length reports in
@@ -106,3 +108,9 @@ module _ {E D : Type 0} (pushed taken : E → ℕ → List Item) (known : D → 
       ap (λ (me : ℕ). has_proposal me (group_at told.rank c) log c) (order r told here)
       ∙ ap (λ (g : List ℕ). has_proposal r g log c) same
       ∙ has_one r c told here running mine.0 mine.1 (subst A same entered)
+
+-- at rest, each running member of a communicator whose shrink all entered has a proposal, where reports are lawful
+pub proposed_of : {E : Type 0} (pushed taken : E → ℕ → List Item) (job : Seen) (reports : List Report) (ends : List E) (inboxes : List (Vec (WorldRank × Item) Global)) → IsEach job inboxes → IsEach job ends → AllCarry pushed taken reports ends inboxes → IsLawful job reports → IsAtRest reports inboxes → ProposesEach reports
+proposed_of pushed taken job reports ends inboxes each_inbox each_end flow law rest =
+    proposes_each pushed taken reports ends inboxes law.knows (each_end ∙ sym law.each) (each_inbox ∙ sym law.each) (law.known_each ∙ sym law.each) law.order
+    (λ k told here. (law.played k told here).counted ∙ sym law.each) law.answered law.agreed flow rest

@@ -11,10 +11,15 @@ use Rattle.ulfm_carrier.specs.Family.{at, InPlace, Keeps, Settled}
 use Rattle.ulfm_script.specs.Job.{Seen, script_at, through_stop}
 use Rattle.ulfm_script.specs.Report.{Report}
 use Rattle.ulfm_run.specs.declared.worker.Ran.{Ran}
+use Rattle.ulfm_board.specs.Names.{OneBoard}
+use Rattle.ulfm_run.specs.Compared.{NameOneBoard}
 use Rattle.ulfm_run.specs.Decided.{AreTrue, ShowUntrue}
 use Rattle.ulfm_run.specs.Fields.{report_in, end_in, decider_in, Fits, WerePlayed}
 use Rattle.ulfm_run.specs.Flow.{AllCarry}
 use Rattle.ulfm_run.specs.Played.{IsPlayed, HasPlayed}
+use Rattle.ulfm_run.specs.Rest.{IsAtRest, KnowsStopped, AgreesOnRevoked}
+use Rattle.ulfm_run.proofs.AtRest.{knows-stopped, agrees-revoked}
+use Rattle.ulfm_run.proofs.Paired.{one_board_names}
 use Rattle.ulfm_run.proofs.Flowing.{there, AllPlayed, carried, ordered}
 use Rattle.ulfm_run.proofs.Handed.{from_map, same_maps}
 
@@ -82,7 +87,7 @@ module _ {E D N : Type 0} (name : E → N) (place count : E → ℕ) (pushed tak
     pub went_all : (ranks : List Report) → ranks ≡ map report_in ran → (k : ℕ) (r : Report) → at ranks k r → HasPlayed job k r
     went_all ranks is = subst (λ (rs : List Report). (k : ℕ) (r : Report) → at rs k r → HasPlayed job k r) (sym is) (all_went fit.placed)
 
-    pub sizes_all : (ranks : List Report) (after : List E) (kept : List D) (inboxes : List (Vec (WorldRank × Item) Global)) → ranks ≡ map report_in ran → Keeps name pushed taken (map end_in ran) after → Settled pushed taken (map end_in ran) inboxes → kept ≡ map decider_in ran →
+    pub sizes_all : (ranks : List Report) (after : List E) (kept : List D) (inboxes : List (Vec (WorldRank × Item) Global)) → ranks ≡ map report_in ran → Keeps name pushed taken (map end_in ran) after → Settled pushed taken (map end_in ran) inboxes → map board kept ≡ map board (map decider_in ran) →
         (length ranks ≡ job.ranks) × (length inboxes ≡ job.ranks) × (length after ≡ job.ranks) × (length kept ≡ job.ranks)
     sizes_all ranks after kept inboxes is keeps settled held =
         let many : length ran ≡ job.ranks = h.as_many ∙ fit.end_each in
@@ -90,14 +95,38 @@ module _ {E D N : Type 0} (name : E → N) (place count : E → ℕ) (pushed tak
           ap length is ∙ length-map ran report_in ∙ many,
           settled.inbox_for_each ∙ mid ∙ many,
           sym (length-map after name) ∙ ap length keeps.names ∙ length-map (map end_in ran) name ∙ mid ∙ many,
-          ap length held ∙ length-map ran decider_in ∙ many,
+          sym (length-map kept board) ∙ ap length held ∙ length-map (map decider_in ran) board ∙ length-map ran decider_in ∙ many,
         )
 
     pub names_all : (after : List E) → Keeps name pushed taken (map end_in ran) after → map name after ≡ map name ends
     names_all after keeps = keeps.names ∙ same_names
 
-    pub boards_all : (kept : List D) → kept ≡ map decider_in ran → map board kept ≡ map board deciders
-    boards_all kept held = ap (map board) held ∙ same_boards (fit.decider_each ∙ sym fit.end_each)
+    pub boards_all : (kept : List D) → map board kept ≡ map board (map decider_in ran) → map board kept ≡ map board deciders
+    boards_all kept held = held ∙ same_boards (fit.decider_each ∙ sym fit.end_each)
+
+    -- the deciders that came back are seats of one board
+    pub board_all : OneBoard board deciders → NameOneBoard (map board (map decider_in ran))
+    board_all one = subst NameOneBoard (sym (same_boards (fit.decider_each ∙ sym fit.end_each))) (one_board_names board deciders one)
+
+    -- at rest, running ranks know the stopped ones and agree on revocations
+    module _ (ranks : List Report) (after : List E) (inboxes : List (Vec (WorldRank × Item) Global)) (is : ranks ≡ map report_in ran) (keeps : Keeps name pushed taken (map end_in ran) after) (settled : Settled pushed taken (map end_in ran) inboxes) (rest : IsAtRest ranks inboxes) where
+      each_rank : length ranks ≡ length ran
+      each_rank = ap length is ∙ length-map ran report_in
+
+      each_end : length after ≡ length ranks
+      each_end = sym (length-map after name) ∙ ap length keeps.names ∙ length-map (map end_in ran) name ∙ length-map ran end_in ∙ sym each_rank
+
+      each_inbox : length inboxes ≡ length ranks
+      each_inbox = settled.inbox_for_each ∙ length-map ran end_in ∙ sym each_rank
+
+      counted_all : (k : ℕ) (r : Report) → at ranks k r → r.rank.ranks ≡ length ranks
+      counted_all k r here = (went_all ranks is k r here).counted ∙ sym (each_rank ∙ h.as_many ∙ fit.end_each)
+
+      pub known_rest : KnowsStopped ranks
+      known_rest = knows-stopped pushed taken ranks after inboxes each_end each_inbox (order_all ranks is) counted_all (flow_all ranks after inboxes is keeps settled) rest
+
+      pub agreed_rest : AgreesOnRevoked ranks
+      agreed_rest = agrees-revoked pushed taken ranks after inboxes each_end each_inbox (order_all ranks is) counted_all (flow_all ranks after inboxes is keeps settled) rest
 
     -- reports that show a decision that isn't true
     pub untrue_all : (ranks : List Report) → ranks ≡ map report_in ran → (AreTrue ranks → ⊥) → ShowUntrue job ranks

@@ -1,14 +1,12 @@
 -- A rank that starts.
-use Rattle.std.proofs.Common.{◌≡◌, ℕ, zero, suc, ◌≤◌, List, [], ◌∷◌, length, get_or, replicate, refl, ap, sym, subst, ◌∙◌, arith}
-use Rattle.std.specs.Prelude.{sum_by, slice_index_or}
+use Rattle.std.proofs.Common.{◌≡◌, ℕ, zero, suc, ◌≤◌, List, [], length, get_or, replicate, refl, ap, sym, subst, ◌∙◌, arith}
 use Rattle.std.proofs.lemmas.Bool.{false≢true}
 use Rattle.std.proofs.lemmas.List.Elements.{All-nil}
-use Rattle.std.proofs.lemmas.List.Sums.{sum_by-cons}
 use Rattle.ulfm_base.specs.declared.item.Item.{Item}
 use Rattle.ulfm_carrier.specs.Family.{IsFresh}
 use Rattle.ulfm_rank.specs.State.{IsState, gone_out, no_mark, start_state}
 use Rattle.ulfm_script.specs.declared.step.Step.{Step}
-use Rattle.ulfm_script.specs.Job.{Seen, IsJob, script_at}
+use Rattle.ulfm_script.specs.Job.{Seen, script_at}
 use Rattle.ulfm_script.specs.Player.{Player, View, start_player}
 use Rattle.ulfm_run.specs.Joined.{IsSigned, IsJoined, IsAtWork}
 use Rattle.ulfm_run.specs.Script.{IsPatient, FollowsAt}
@@ -30,15 +28,6 @@ follows-start script turns me n = record {
   running = λ k. refl;
   stopped = λ k. absurd (false≢true k);
 }
-
--- the steps of one rank are no more than all steps
-pub one_script : (scripts : List (List Step)) (r : ℕ) → length (slice_index_or scripts r []) ≤ sum_by length scripts
-one_script [] r = omega arith
-one_script (x ∷ xs) zero = omega (arith, sum_by-cons length x xs)
-one_script (x ∷ xs) (suc r) = omega (arith, sum_by-cons length x xs, one_script xs r)
-
-pub few_steps : (job : Seen) (me : ℕ) → IsJob job → length (script_at job me) ≤ 256
-few_steps job me h = omega (arith, one_script job.scripts me, h.most_steps)
 
 -- the rank of a fresh end goes to work
 pub at-work-start : {E : Type 0} (place count : E → ℕ) (pushed taken : E → ℕ → List Item) (ready : E → Type 0) (job : Seen) (me : ℕ) (v : View) (end : E) → IsFresh count pushed taken ready job.ranks end → place end ≡ me → v.player ≡ start_player me job.ranks → IsState v.player.rank → length (script_at job me) ≤ v.room → IsAtWork place count pushed taken ready job me v end

@@ -5,15 +5,20 @@ ghost use Rattle.std.specs.declared.vec.Vec.{Vec as Listed};
 ghost use Rattle.ulfm_board.specs.Known.{nothing_known};
 ghost use Rattle.ulfm_board.specs.Names.{OneBoard};
 ghost use Rattle.ulfm_carrier.specs.Family.{at, InPlace, AllFresh, Keeps, Settled};
+ghost use Rattle.ulfm_script.specs.Deciding.{Known};
 ghost use Rattle.ulfm_script.specs.Report.{Report as Told};
 ghost use Rattle.ulfm_run.specs.Answered.{HasAnswers};
+ghost use Rattle.ulfm_run.specs.Compared.{NameOneBoard, AllAgree};
 ghost use Rattle.ulfm_run.specs.Decided.{AreTrue, ShowUntrue};
 ghost use Rattle.ulfm_run.specs.Fields.{report_in, end_in, decider_in, Fits};
 ghost use Rattle.ulfm_run.specs.Flow.{AllCarry, IsEach};
 ghost use Rattle.ulfm_run.specs.Lawful.{IsLawful};
 ghost use Rattle.ulfm_run.specs.Played.{HasPlayed};
+ghost use Rattle.ulfm_run.specs.Proposed.{HasOneGroup, ProposesEach};
+ghost use Rattle.ulfm_run.specs.Rest.{IsAtRest, KnowsStopped, AgreesOnRevoked};
 
 use crate::adopted::are_true;
+use crate::comparing::compared;
 use crate::report::Report;
 use crate::threads::{Unplayed, play_all};
 use crate::worker::Ran;
@@ -27,8 +32,9 @@ use ulfm_script::{Job, RankReport, RunFault};
 /// Runs a job: each rank goes through its script in a thread of its own, by the end and the decider at the place of its
 /// number. In a turn a rank pushes all that its outboxes hold and the inboxes have room for, takes one item, and polls its
 /// step once; a step that the job's last poll for it left open is given up. After its last step it goes on for as many
-/// turns without polls; where it stopped, it pushes alone, until nothing is left to go out. What is left in the inboxes
-/// is gathered at the end.
+/// turns without polls; where it stopped, it pushes alone, until nothing is left to go out. Then the decisions that ranks
+/// adopted are held against what the ranks report, what is left in the inboxes is gathered, and the deciders are compared:
+/// no two know two decisions of one shrink.
 ///
 /// # Errors
 ///
@@ -59,9 +65,14 @@ where
     ensures sizes { IfOk result (λ report. IsEach job.now report.ranks.items × IsEach job.now report.residue.inboxes.items × IsEach job.now report.ends.items × IsEach job.now report.deciders.items) }
     ensures order { IfOk result (λ report. InPlace (λ (told : Told). told.rank.me) report.ranks.items) }
     ensures scripts { IfOk result (λ report. (k : ℕ) (told : Told) → at report.ranks.items k told → HasPlayed job.now k told) }
-    ensures answers { IfOk result (λ report. (k : ℕ) (told : Told) (d : D) → at report.ranks.items k told → at report.deciders.items k d → HasAnswers (D.known d) told) }
+    ensures answers { IfOk result (λ report. (k : ℕ) (told : Told) (known : Known) → at report.ranks.items k told → at (map D.known report.deciders.items) k known → HasAnswers known told) }
     ensures flow { IfOk result (λ report. AllCarry E.pushed E.taken report.ranks.items report.ends.items report.residue.inboxes.items) }
     ensures same_ends { IfOk result (λ report. map E.name report.ends.items ≡ map E.name ends.items) }
+    ensures known_at_rest { IfOk result (λ report. IsAtRest report.ranks.items report.residue.inboxes.items → KnowsStopped report.ranks.items) }
+    ensures agreed_at_rest { IfOk result (λ report. IsAtRest report.ranks.items report.residue.inboxes.items → AgreesOnRevoked report.ranks.items) }
+    ensures one_group { IfOk result (λ report. HasOneGroup report.ranks.items) }
+    ensures proposed_at_rest { IfOk result (λ report. IsAtRest report.ranks.items report.residue.inboxes.items → ProposesEach report.ranks.items) }
+    ensures agree { IfOk result (λ report. AllAgree (map D.known report.deciders.items)) }
     ensures same_boards { IfOk result (λ report. map D.board report.deciders.items ≡ map D.board deciders.items) }
     ensures lawful { IfOk result (λ report. IsLawful job.now report.ranks.items) }
 {
@@ -85,10 +96,13 @@ fn report_of<E: Ends, D: Decider, R: Wait>(
 ) -> Result<Report<E, D>, RunFault>
     requires family { E.one_call (map E.name (map end_in ran.items)) }
     requires ready { (k : ℕ) (e : E) → at (map end_in ran.items) k e → E.ready e }
+    requires one_board { NameOneBoard (map D.board (map decider_in ran.items)) }
     ensures ranks { IfOk result (λ report. report.ranks.items ≡ map report_in ran.items) }
     ensures same { IfOk result (λ report. Keeps E.name E.pushed E.taken (map end_in ran.items) report.ends.items) }
     ensures residue { IfOk result (λ report. Settled E.pushed E.taken (map end_in ran.items) report.residue.inboxes.items) }
-    ensures deciders { IfOk result (λ report. report.deciders.items ≡ map decider_in ran.items) }
+    ensures boards { IfOk result (λ report. map D.board report.deciders.items ≡ map D.board (map decider_in ran.items)) }
+    ensures known { IfOk result (λ report. map D.known report.deciders.items ≡ map D.known (map decider_in ran.items)) }
+    ensures agree { IfOk result (λ report. AllAgree (map D.known report.deciders.items)) }
     ensures decisions { IfOk result (λ report. AreTrue report.ranks.items) }
     ensures untrue { IfErr result (λ fault. (reports : Listed Told Heap) → fault ≡ RunFault.Untrue reports → (reports.items ≡ map report_in ran.items) × (AreTrue reports.items → ⊥)) }
     ensures fits { IfErr result (λ fault. fault ≡ RunFault.BadEnds → ⊥) }
@@ -102,6 +116,7 @@ fn report_of<E: Ends, D: Decider, R: Wait>(
         return Err(RunFault::Untrue(ranks));
     }
     let (residue, ends) = E::gather(rt, ends);
+    let deciders = compared(deciders);
     Ok(Report {
         ranks,
         residue,

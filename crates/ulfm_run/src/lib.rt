@@ -3,10 +3,12 @@
 #![tactic(auto)]
 
 mod adopted;
+mod comparing;
 mod job;
 mod moving;
 mod polling;
 mod report;
+mod rest;
 #[cfg(test)]
 mod tests;
 mod threads;
@@ -14,3 +16,4 @@ mod worker;
 
 pub use job::run_job;
 pub use report::Report;
+pub use rest::at_rest;

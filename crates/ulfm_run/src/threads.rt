@@ -1,5 +1,5 @@
 //! A thread for each rank.
-ghost use Rattle.std.specs.Prelude.{◌≡◌, ◌≤◌, ◌++◌, [], ℕ, List, All, length, vec_len, vec_capacity, IfSome, IfOk, OnOk};
+ghost use Rattle.std.specs.Prelude.{◌≡◌, ◌≤◌, ◌++◌, [], ℕ, List, All, length, vec_len, vec_capacity, IfSome, IfOk, IfErr, OnOk};
 ghost use Rattle.ulfm_carrier.specs.Family.{IsFresh};
 ghost use Rattle.ulfm_run.specs.Honest.{IsHonest};
 ghost use Rattle.ulfm_run.specs.Joined.{IsAtWork};
@@ -51,6 +51,7 @@ fn new_worker<E: Ends, D: Decider>(
     ensures at_work { IfOk result (λ w. IsAtWork E.place E.count E.pushed E.taken E.ready job.now (E.place end) w.player w.end) }
     ensures honest { IfOk result (λ w. IsHonest (D.known w.decider) w.player.player) }
     ensures parts { IfOk result (λ w. (w.end ≡ end) × (w.decider ≡ decider)) }
+    ensures starves { IfErr result (λ fault. fault ≡ Unplayed.OutOfMemory) }
 {
     let me = end.me().number;
     let steps = job.script_len(me) as u16;

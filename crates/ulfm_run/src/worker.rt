@@ -1,7 +1,8 @@
 //! A rank at work, turn by turn.
-ghost use Rattle.std.specs.Prelude.{◌≡◌, ◌<◌, ◌≤◌, ◌⊎◌, length, slice_get, Some, true, false, IfSome, IfNone};
+ghost use Rattle.std.specs.Prelude.{◌≡◌, ◌<◌, ◌≤◌, ◌⊎◌, ◌↔◌, ℕ, [], length, slice_get, Some, true, false, IsTrue, IfSome, IfNone};
 ghost use Rattle.std.specs.Bool.{OnTrue};
 ghost use Rattle.ulfm_rank.specs.Facts.{is_stopped};
+ghost use Rattle.ulfm_rank.specs.State.{outbox};
 ghost use Rattle.ulfm_script.specs.Job.{script_at};
 ghost use Rattle.ulfm_run.specs.Answered.{HasAnswers};
 ghost use Rattle.ulfm_run.specs.Honest.{IsHonest};
@@ -137,7 +138,8 @@ impl<E: Ends, D: Decider> Worker<E, D> {
 
     /// Whether the outboxes towards so many ranks hold nothing.
     fn has_pushed_all(&self, ranks: u8) -> bool
-        requires { self.now.player.player.rank.ranks ≡ ranks }
+        requires ranks { self.now.player.player.rank.ranks ≡ ranks }
+        ensures all { IsTrue result ↔ ((dest : ℕ) → dest < ranks → outbox self.now.player.player.rank dest ≡ []) }
     {
         for dest in 0..ranks {
             if !self.player.is_outbox_empty(dest) {

@@ -1,6 +1,8 @@
 use Rattle.std.proofs.Common.{ap, sym, ◌∙◌, subst, map, List}
 use Rattle.std.specs.Prelude.{slice_get}
 use Rattle.ulfm_carrier.specs.Family.{Keeps, Settled}
+use Rattle.ulfm_run.specs.Compared.{NameOneBoard}
+use Rattle.ulfm_run.specs.Decided.{AreTrue}
 use Rattle.ulfm_run.proofs.job.report_of.Goals as goal
 
 pub gather-residue-requires-clause-family : goal.gather-residue-requires-clause-family
@@ -18,3 +20,9 @@ pub returns-clause-residue : goal.returns-clause-residue
 returns-clause-residue g c =
     let S : List g.row.E.Denot → Type 0 = λ (es : List g.row.E.Denot). Settled g.E.Ends.pushed g.E.Ends.taken es c.gather-residue.result.0.inboxes.items in
     subst S c.parted-ranks.ensures.ends c.gather-residue.ensures.residue
+
+pub compared-deciders-requires : goal.compared-deciders-requires
+compared-deciders-requires g c = record { one_board = subst NameOneBoard (ap (map g.D.Decider.board) (sym c.parted-ranks.ensures.deciders)) c.requires.one_board }
+
+pub returns-clause-decisions : goal.returns-clause-decisions
+returns-clause-decisions g c = subst AreTrue c.deref.ensures.value (c.are_true.ensures.0 c.if-not-are_true.false)

@@ -1,0 +1,8 @@
+use Rattle.std.proofs.Common.{◌≡◌, ◌<◌, ℕ, []}
+use Rattle.ulfm_carrier.specs.Family.{at}
+use Rattle.ulfm_rank.specs.State.{outbox}
+use Rattle.ulfm_script.specs.Report.{Report}
+use Rattle.ulfm_run.proofs.rest.are_outboxes_empty.Given as goal
+
+abbrev pub invariant-loop-sender : goal.invariant-loop-sender
+invariant-loop-sender l = (s : ℕ) (sender : Report) → s < l.sender-index → at l.ranks.items s sender → l.d < sender.rank.ranks → outbox sender.rank l.d ≡ []

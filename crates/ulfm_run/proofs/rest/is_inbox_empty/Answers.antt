@@ -1,0 +1,26 @@
+use Rattle.std.proofs.Common.{◌≡◌, ◌<◌, length, refl, subst, arith, Some, List}
+use Rattle.std.specs.Prelude.{slice_get}
+use Rattle.std.specs.declared.alloc.Global.{Global}
+use Rattle.std.specs.declared.vec.Vec.{Vec}
+use Rattle.std.proofs.lemmas.Bool.Decides.{nat_tests}
+use Rattle.std.proofs.lemmas.Option.{slice_get_read, slice_get_within}
+use Rattle.ulfm_base.specs.declared.rank.WorldRank.{WorldRank}
+use Rattle.ulfm_base.specs.declared.item.Item.{Item}
+use Rattle.ulfm_carrier.specs.Family.{at}
+use Rattle.ulfm_run.proofs.Served.{inbox_at}
+use Rattle.ulfm_run.proofs.rest.is_inbox_empty.Goals as goal
+
+pub returns-in-Some : goal.returns-in-Some
+returns-in-Some c =
+    let inside : c.args.d < length c.deref.result.now = grind (arith, nat_tests, c.in-Some.ensures.lookup.0) in
+    let A : List (Vec (WorldRank × Item) Global) → Type 0 = λ xs. at xs c.args.d c.in-Some.inbox.now in
+    let here = subst A c.deref.ensures.value (slice_get_read c.deref.result.now (length c.deref.result.now) c.args.d c.in-Some.inbox.now refl inside c.in-Some.ensures.lookup.1) in
+    inbox_at c.args.residue.now.inboxes.items c.args.d c.in-Some.inbox.now c.is_empty.result here c.is_empty.ensures
+
+pub returns-in-None : goal.returns-in-None
+returns-in-None c = (
+  λ yes inbox here.
+      let inside = slice_get_within c.args.residue.now.inboxes.items c.args.d inbox here in
+      absurd (grind (arith, nat_tests, c.in-None.ensures.lookup.0, c.deref.ensures.len, inside)),
+  λ all. refl,
+)

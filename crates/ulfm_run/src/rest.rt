@@ -1,0 +1,64 @@
+//! Whether a run came to rest.
+ghost use Rattle.std.specs.Prelude.{◌≡◌, ◌↔◌, ◌<◌, [], ℕ, IsTrue};
+ghost use Rattle.std.specs.declared.alloc.Global.{Global as Heap};
+ghost use Rattle.std.specs.declared.vec.Vec.{Vec as Listed};
+ghost use Rattle.ulfm_base.specs.declared.rank.WorldRank.{WorldRank};
+ghost use Rattle.ulfm_base.specs.declared.item.Item.{Item};
+ghost use Rattle.ulfm_carrier.specs.Family.{at};
+ghost use Rattle.ulfm_rank.specs.State.{outbox};
+ghost use Rattle.ulfm_script.specs.Report.{Report as Told};
+ghost use Rattle.ulfm_run.specs.Rest.{IsRunning, IsServed, IsAtRest};
+
+use crate::report::Report;
+use ulfm_carrier::Residue;
+use ulfm_script::RankReport;
+
+/// Whether nothing waits for any rank that goes on running: its inbox is empty, and so is each outbox towards it, also that
+/// of a rank that stopped. Of a report of `run_job` each such rank then knows each rank that stopped, and all agree which
+/// contexts are revoked.
+pub fn at_rest<E, D>(report: &Report<E, D>) -> bool
+    ensures { IsTrue result ↔ IsAtRest report.now.ranks.items report.now.residue.inboxes.items }
+{
+    for d in 0..report.ranks.len() {
+        if !is_resting(report, &report.ranks[d], d) {
+            return false;
+        }
+    }
+    true
+}
+
+/// Whether a rank stopped, or nothing waits for it.
+fn is_resting<E, D>(report: &Report<E, D>, told: &RankReport, d: usize) -> bool
+    ensures { IsTrue result ↔ (IsRunning told.now → IsServed report.now.ranks.items report.now.residue.inboxes.items d) }
+{
+    told.stopped() || is_served(report, d)
+}
+
+/// Whether nothing waits for a rank.
+fn is_served<E, D>(report: &Report<E, D>, d: usize) -> bool
+    ensures { IsTrue result ↔ IsServed report.now.ranks.items report.now.residue.inboxes.items d }
+{
+    is_inbox_empty(&report.residue, d) && are_outboxes_empty(&report.ranks, d)
+}
+
+/// Whether the inbox of a rank is empty.
+fn is_inbox_empty(residue: &Residue, d: usize) -> bool
+    ensures { IsTrue result ↔ ((inbox : Listed (WorldRank × Item) Heap) → at residue.now.inboxes.items d inbox → inbox.items ≡ []) }
+{
+    match residue.inboxes.get(d) {
+        Some(inbox) => inbox.is_empty(),
+        None => true,
+    }
+}
+
+/// Whether each outbox towards a rank is empty.
+fn are_outboxes_empty(ranks: &Vec<RankReport>, d: usize) -> bool
+    ensures { IsTrue result ↔ ((s : ℕ) (sender : Told) → at ranks.now.items s sender → d < sender.rank.ranks → outbox sender.rank d ≡ []) }
+{
+    for sender in ranks {
+        if d < sender.ranks() as usize && !sender.is_outbox_empty(d as u8) {
+            return false;
+        }
+    }
+    true
+}
