@@ -16,3 +16,4 @@ pub mod Told
 pub mod AtRest
 pub mod Paired
 pub mod Served
+pub mod Invented
