@@ -26,3 +26,4 @@ pub mod Told
 pub mod AtRest
 pub mod Paired
 pub mod Served
+pub mod Invented
