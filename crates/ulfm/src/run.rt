@@ -1,5 +1,6 @@
 //! The reply of `run`.
-ghost use Rattle.std.specs.Prelude.{◌≡◌, ◌≢◌, IfErr, IfOk, string_bytes};
+ghost use Rattle.ulfm_carrier.specs.Family.{InPlace, AllFresh};
+ghost use Rattle.std.specs.Prelude.{length, map, ◌≡◌, ◌≢◌, IfErr, IfOk, string_bytes};
 ghost use Rattle.ulfm.specs.Replies.{failed_text, IsRunReply};
 ghost use Rattle.ulfm_run.specs.Lawful.{IsLawful};
 
@@ -9,7 +10,7 @@ use std::alloc::{AllocError, Global};
 use std::sync::Wait;
 use std::thread::Threads;
 use ulfm_board::seats;
-use ulfm_carrier::lanes;
+use ulfm_carrier::{Ends, lanes};
 use ulfm_run::{Report, run_job};
 use ulfm_script::{Job, RankReport, RunFault, trace_text};
 
@@ -65,7 +66,7 @@ fn failed(alloc: Global, failure: Failure) -> Result<Reply, AllocError>
     })
 }
 
-/// What the ranks of a job did, each in a thread of its own, with a ring for each ordered pair.
+/// What the ranks of a job did, with a ring for each ordered pair.
 fn run_on_lanes<R: Threads + Wait + Sync>(
     rt: &R,
     alloc: Global,
@@ -73,10 +74,25 @@ fn run_on_lanes<R: Threads + Wait + Sync>(
 ) -> Result<Vec<RankReport>, Failure>
     ensures { IfOk result (λ reports. IsLawful job.now reports.items) }
 {
-    let ends = match lanes(alloc, job.ranks(), job.capacity()) {
-        Ok(ends) => ends,
-        Err(_) => return Err(Failure::OutOfMemory),
-    };
+    match lanes(alloc, job.ranks(), job.capacity()) {
+        Ok(ends) => run_by(rt, alloc, job, ends),
+        Err(_) => Err(Failure::OutOfMemory),
+    }
+}
+
+/// What the ranks of a job did, each in a thread of its own with its end of a carrier.
+fn run_by<E: Ends + Send, R: Threads + Wait + Sync>(
+    rt: &R,
+    alloc: Global,
+    job: &Job,
+    ends: Vec<E>,
+) -> Result<Vec<RankReport>, Failure>
+    requires each { length ends.items ≡ job.now.ranks }
+    requires family { E.one_call (map E.name ends.items) }
+    requires places { InPlace E.place ends.items }
+    requires fresh { AllFresh E.count E.pushed E.taken E.ready ends.items }
+    ensures { IfOk result (λ reports. IsLawful job.now reports.items) }
+{
     let deciders = match seats(alloc, job.ranks()) {
         Ok(deciders) => deciders,
         Err(_) => return Err(Failure::OutOfMemory),

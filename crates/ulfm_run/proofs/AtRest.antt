@@ -15,7 +15,7 @@ use Rattle.ulfm_rank.specs.Facts.{took, is_gone, is_gone_item, is_revoked, item_
 use Rattle.ulfm_rank.specs.State.{owes, outbox}
 use Rattle.ulfm_script.specs.Report.{Report}
 use Rattle.ulfm_run.specs.Flow.{Flow, AllCarry}
-use Rattle.ulfm_run.specs.Rest.{IsRunning, HasStopped, IsAtRest, KnowsStopped, AgreesOnRevoked}
+use Rattle.ulfm_run.specs.Rest.{IsRunning, IsAtRest, KnowsStopped, AgreesOnRevoked}
 use Rattle.ulfm_run.proofs.Flowing.{there}
 use Rattle.ulfm_run.proofs.Told.{owed_not_gone, gone-took, revoked-took, revoked_told}
 

@@ -36,3 +36,4 @@ pub mod AtRest
 pub mod Proposing
 pub mod Paired
 pub mod Served
+pub mod Invented

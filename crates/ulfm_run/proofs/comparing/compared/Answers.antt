@@ -1,5 +1,4 @@
-use Rattle.std.proofs.Common.{◌≡◌, ◌++◌, List, length, map, take, drop, ap, sym, subst, ◌∙◌, arith}
-use Rattle.std.proofs.lemmas.List.{length-map}
+use Rattle.std.proofs.Common.{map, ap, sym, subst, ◌∙◌, arith}
 use Rattle.ulfm_run.specs.Compared.{NameOneBoard, AllAgree}
 use Rattle.ulfm_run.proofs.Paired.{lent_whole}
 use Rattle.ulfm_run.proofs.comparing.compared.Goals as goal

@@ -1,0 +1,10 @@
+use Rattle.std.proofs.Common.{◌≡◌, ◌++◌, map}
+use Rattle.std.specs.Vec.Iter.{into_iter_items}
+use Rattle.ulfm_board.specs.declared.seat.Seat.{Seat}
+use Rattle.ulfm_run.specs.declared.verdicts.Inventor.{Inventor}
+use Rattle.ulfm_run.proofs.verdicts.inventors.Given as goal
+
+abbrev pub invariant-loop-seat : goal.invariant-loop-seat
+invariant-loop-seat l =
+    let inventor : Seat → Inventor = λ s. record { seat = s } in
+    l.all.items ++ map inventor (into_iter_items l.seat-iterator) ≡ map inventor (into_iter_items l.initial.seat-iterator)
