@@ -1,7 +1,7 @@
 -- A log's history has one lawful pairing, which holds in its beginnings too.
-use Rattle.std.proofs.Common.{◌≡◌, ℕ, List, [], ◌∷◌, ◌++◌, length, refl, ap, sym, subst, ◌∙◌, append-nil, append_assoc}
+use Rattle.std.proofs.Common.{◌≡◌, List, [], ◌∷◌, ◌++◌, ap, sym, subst, ◌∙◌, append-nil, append_assoc}
 use Rattle.ulfm_match.specs.History.{Event}
-use Rattle.ulfm_match.specs.Pairing.{Pairing, LawfulPairing, inside}
+use Rattle.ulfm_match.specs.Pairing.{Pairing, LawfulPairing}
 use Rattle.ulfm_match.proofs.Cut.{cut}
 use Rattle.ulfm_match.proofs.Unique.{one_pairing}
 use Rattle.ulfm_rank.specs.declared.entry.Entry.{Entry}

@@ -15,7 +15,7 @@ use Rattle.ulfm_script.specs.Player.{Player, report_of}
 use Rattle.ulfm_run.specs.Answered.{EntersBetween, AdoptsKnown, WantsMemory}
 use Rattle.ulfm_run.specs.Honest.{Stands, StandsOpen, IsHonest, Learns}
 use Rattle.ulfm_run.proofs.Beginnings.{Grew, grew-long, stood-now, stood-before, enters-grew}
-use Rattle.ulfm_run.proofs.Calling.{grew-adds, ends-adds}
+use Rattle.ulfm_run.proofs.Added.{grew-adds, ends-adds}
 use Rattle.ulfm_run.proofs.Decisions.{decision_adds}
 use Rattle.ulfm_run.proofs.Honestly.{honest-closed}
 use Rattle.ulfm_run.proofs.Once.{entered-once}

@@ -1,12 +1,10 @@
 -- What a poll by a call makes of a player whose answers are right.
-use Rattle.std.proofs.Common.{◌≡◌, ℕ, ◌+◌, ◌-◌, ◌^◌, ◌<◌, min, Bool, true, false, List, [], ◌∷◌, ◌++◌, length, refl, ap, sym, subst, ◌∙◌, arith, inl, inr, length-append, MatchOption}
-use Rattle.std.specs.Prelude.{Option, Some, None, slice_get, ◌||◌}
+use Rattle.std.proofs.Common.{◌≡◌, ℕ, ◌+◌, ◌-◌, ◌^◌, ◌<◌, min, true, false, List, [], ◌∷◌, ◌++◌, length, refl, ap, sym, subst, ◌∙◌, arith, inl, inr, length-append, MatchOption}
+use Rattle.std.specs.Prelude.{Option, Some, None, slice_get}
 use Rattle.std.proofs.lemmas.Bool.{false≢true}
 use Rattle.std.proofs.lemmas.Option.{same_Some}
 use Rattle.ulfm_base.specs.declared.context.Context.{Context}
-use Rattle.ulfm_rank.specs.declared.entry.Entry.{Entry}
-use Rattle.ulfm_rank.specs.declared.entry.Entry.TheVariants.{Stopped}
-use Rattle.ulfm_rank.specs.Facts.{is_stopped, is_stop}
+use Rattle.ulfm_rank.specs.Facts.{is_stopped}
 use Rattle.ulfm_rank.specs.State.{State}
 use Rattle.ulfm_script.specs.declared.answer.StepReport.{StepReport}
 use Rattle.ulfm_script.specs.declared.step.Step.{Step}
@@ -14,35 +12,13 @@ use Rattle.ulfm_script.specs.declared.step.Step.TheVariants.{Wait, Shrink}
 use Rattle.ulfm_script.specs.Deciding.{Known, Proposes}
 use Rattle.ulfm_script.specs.Job.{is_stop_step}
 use Rattle.ulfm_script.specs.Player.{Player, IsCalled, PollAnswers, IsOpen, StaysOpen, awaits_decision, report_of}
-use Rattle.ulfm_run.specs.Answered.{OnlyTook, EntersBetween, Stood, EndsAtStop}
+use Rattle.ulfm_run.specs.Answered.{OnlyTook, EntersBetween, Stood}
 use Rattle.ulfm_run.specs.Honest.{Since, Stands, StandsOpen, IsHonest, IsUndecided}
-use Rattle.ulfm_run.proofs.Beginnings.{Grew, grew-long, grew-same, stood-now, stood-before, took-grew, took-none}
+use Rattle.ulfm_run.proofs.Beginnings.{Grew, grew-long, stood-now, stood-before, took-grew, took-none}
 use Rattle.ulfm_run.proofs.Honestly.{learns-none, honest-closed}
-use Rattle.ulfm_run.proofs.Logs.{stopped-push}
+use Rattle.ulfm_run.proofs.Added.{grew-adds, ends-adds}
 use Rattle.ulfm_run.proofs.Polls.{Adds, answers_add, opens_add}
 use Rattle.ulfm_run.proofs.Answers.{all-grew}
-
--- what is added makes the log longer
-pub grew-adds : (r : State) (stops : Bool) (s : State) → Adds r stops s → Grew r s
-grew-adds r stops s (inl same) = grew-same r s same.0
-grew-adds r stops s (inr one) = record {
-  me = ap (λ (t : State). t.me) one.only;
-  ranks = ap (λ (t : State). t.ranks) one.only;
-  more = one.entry ∷ [];
-  log = ap (λ (t : State). t.log) one.only;
-}
-
-stop_entry : (e : Entry) → is_stop e ≡ true → e ≡ Stopped
-stop_entry Stopped h = refl
-stop_entry _ h = absurd (false≢true h)
-
--- a stop that is added is the last entry
-pub ends-adds : (r : State) (stops : Bool) (s : State) → is_stopped r.log ≡ false → Adds r stops s → is_stopped s.log ≡ true → EndsAtStop s.log
-ends-adds r stops s running (inl same) stopped = absurd (false≢true (sym running ∙ sym (ap (λ (t : State). is_stopped t.log) same.0) ∙ stopped))
-ends-adds r stops s running (inr one) stopped =
-    let log : s.log ≡ r.log ++ one.entry ∷ [] = ap (λ (t : State). t.log) one.only in
-    let is : is_stop one.entry ≡ true = ap (λ b. b || is_stop one.entry) (sym running) ∙ sym (stopped-push r.log one.entry) ∙ sym (ap is_stopped log) ∙ stopped in
-    record { front = r.log; running = running; last = log ∙ ap (λ (e : Entry). r.log ++ e ∷ []) (stop_entry one.entry is) }
 
 -- what a rank took since its last step, where no shrink stands open
 took-since : (known : Known) (r : State) (before : List StepReport) (from : ℕ) (current : Option Step) (at polls : ℕ) → Stands known r before from current at polls → awaits_decision current ≡ false → OnlyTook r.log from (length r.log)

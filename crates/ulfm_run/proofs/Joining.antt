@@ -1,8 +1,7 @@
 -- A rank and its end stay together while items go from one to the other.
-use Rattle.std.proofs.Common.{◌≡◌, ◌≢◌, ℕ, ◌<◌, Bool, true, false, cond, List, [], ◌∷◌, ◌++◌, refl, ap, sym, subst, ◌∙◌, arith, inl, inr, append-nil, append_assoc, get_or-set_other}
+use Rattle.std.proofs.Common.{◌≡◌, ◌≢◌, ℕ, ◌<◌, Bool, true, false, cond, List, [], ◌∷◌, ◌++◌, refl, ap, sym, subst, ◌∙◌, arith, inl, inr, append-nil, get_or-set_other}
 use Rattle.std.specs.Prelude.{All, ◌||◌}
-use Rattle.std.proofs.lemmas.List.Elements.{All-nil, All-push, All-append}
-use Rattle.std.proofs.lemmas.Bool.{false≢true, cases_eq, eq-eqb, ne_eqb}
+use Rattle.std.proofs.lemmas.Bool.{cases_eq, eq-eqb, ne_eqb}
 use Rattle.ulfm_base.specs.declared.rank.WorldRank.{WorldRank}
 use Rattle.ulfm_base.specs.declared.item.Item.{Item}
 use Rattle.ulfm_base.specs.declared.item.Item.TheVariants.{Letter as Mail}
@@ -13,11 +12,10 @@ use Rattle.ulfm_rank.specs.Calls.{IsFrom}
 use Rattle.ulfm_rank.specs.Facts.{took, is_stopped}
 use Rattle.ulfm_rank.specs.State.{State, logged, outbox, gone_out, mark_at, marked, no_mark, Leaves}
 use Rattle.ulfm_script.specs.Player.{Player, View, with_rank}
-use Rattle.ulfm_run.specs.Answered.{IsTook}
-use Rattle.ulfm_run.specs.Honest.{OnlyTakes}
 use Rattle.ulfm_run.specs.Joined.{IsSigned, IsJoined, Moves}
 use Rattle.ulfm_run.proofs.Logs.{took-push, stopped-push}
 use Rattle.ulfm_run.proofs.Quiet.{calm-took}
+use Rattle.ulfm_run.proofs.Takes.{takes-none, takes-then, takes-one}
 use Rattle.ulfm_run.proofs.Signed.{IsItemOf, front_signed, from_signed}
 
 -- what went out to another rank
@@ -41,27 +39,6 @@ popped_from source item h = from_signed source item (comes item h)
     comes : (i : Item) → ComesFrom source.number i → IsItemOf source.number i
     comes (Mail letter) h = h
     comes _ h = tt
-
--- a log that stays
-pub takes-none : (old new : List Entry) → new ≡ old → OnlyTakes old new
-takes-none old new e = record { more = []; only = e ∙ sym (append-nil old); took = All-nil IsTook; stopped = λ _. refl }
-
-pub takes-then : (a b c : List Entry) → is_stopped b ≡ is_stopped a → OnlyTakes a b → OnlyTakes b c → OnlyTakes a c
-takes-then a b c stops h k = record {
-  more = h.more ++ k.more;
-  only = k.only ∙ ap (λ (l : List Entry). l ++ k.more) h.only ∙ append_assoc a h.more k.more;
-  took = All-append IsTook h.more k.more h.took k.took;
-  stopped = λ s. ap (λ (l : List Entry). l ++ k.more) (h.stopped s) ∙ k.stopped (stops ∙ s);
-}
-
--- one item is taken by a rank that runs
-pub takes-one : (old new : List Entry) (source : WorldRank) (item : Item) → is_stopped old ≡ false → new ≡ old ++ Took source item ∷ [] → OnlyTakes old new
-takes-one old new source item running e = record {
-  more = Took source item ∷ [];
-  only = e;
-  took = All-push IsTook [] (Took source item) (All-nil IsTook) tt;
-  stopped = λ s. absurd (false≢true (sym running ∙ s));
-}
 
 module _ {E N : Type 0} (name : E → N) (place count : E → ℕ) (pushed taken : E → ℕ → List Item) (ready : E → Type 0) where
   abbrev pub Joined : State → E → Type 0

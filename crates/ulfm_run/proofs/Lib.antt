@@ -5,6 +5,7 @@ pub mod Signed
 pub mod Scripts
 pub mod Advance
 pub mod Decisions
+pub mod Takes
 pub mod Joining
 pub mod Polled
 pub mod Working
@@ -17,6 +18,7 @@ pub mod Lawful
 pub mod Beginnings
 pub mod Answers
 pub mod Honestly
+pub mod Added
 pub mod Calling
 pub mod Once
 pub mod Adopting
