@@ -13,6 +13,8 @@ mod residue;
 mod seating;
 mod shared_ends;
 #[cfg(test)]
+mod shared_tests;
+#[cfg(test)]
 mod tests;
 #[cfg(test)]
 mod thread_tests;
