@@ -10,7 +10,10 @@ mod inbox;
 mod inlet;
 mod lane_ends;
 mod residue;
+mod seating;
 mod shared_ends;
+#[cfg(test)]
+mod shared_tests;
 #[cfg(test)]
 mod tests;
 #[cfg(test)]
@@ -22,5 +25,6 @@ pub use ends::Ends;
 pub use inbox::{InOrder, Inbox, InboxPass, Role, View};
 pub use lane_ends::{LaneEnds, LaneName, RingName};
 pub use residue::Residue;
+pub use seating::shared;
 pub use shared_ends::{SharedEnds, SharedName};
 pub use wiring::lanes;

@@ -118,7 +118,7 @@ fn room_of(ends: &mut Vec<LaneEnds>) -> Result<u8, CallError>
 }
 
 // Whether these letters are left, by their receivers, and no more.
-fn is_left(residue: &Residue, wants: &[&[(u8, u8)]]) -> bool {
+pub(crate) fn is_left(residue: &Residue, wants: &[&[(u8, u8)]]) -> bool {
     if residue.inboxes.len() != wants.len() {
         return false;
     }
@@ -157,7 +157,7 @@ fn to_itself<E: Ends, R: Wait>(rt: &R, end: &mut E, item: Item) -> Option<(World
 }
 
 // All ends are gathered.
-fn left_of<E: Ends, R: Wait>(rt: &R, ends: Vec<E>) -> Residue
+pub(crate) fn left_of<E: Ends, R: Wait>(rt: &R, ends: Vec<E>) -> Residue
     requires family { E.one_call (map E.name ends.items) }
     requires ready { (k : ℕ) (e : E) → at ends.items k e → E.ready e }
 {
