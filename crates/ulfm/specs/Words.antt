@@ -2,7 +2,7 @@
 use Rattle.std.specs.Prelude.{◌≡◌, ◌⊎◌, ℕ, List, [], ◌∷◌, Option, Some, None, option_map, codes, true, if◌then◌else◌}
 use Rattle.std.specs.Str.{bytes_eq}
 use Rattle.ulfm.specs.declared.command.Carrier.{Carrier}
-use Rattle.ulfm.specs.declared.command.Carrier.TheVariants.{Lanes}
+use Rattle.ulfm.specs.declared.command.Carrier.TheVariants.{Lanes, Shared}
 use Rattle.ulfm.specs.declared.command.Wanted.{Wanted}
 use Rattle.ulfm.specs.declared.command.Wanted.TheVariants.{Check, Replay, Run}
 use Rattle.clap.specs.declared.error.kind.ErrorKind.{ErrorKind}
@@ -49,7 +49,7 @@ asked words = option_map choice (subcommand_of tool_app words)
 -- the carrier of a name
 abbrev pub carrier_named : Option Text → Option Carrier
 carrier_named None = None
-carrier_named (Some name) = if bytes_eq name (codes "lanes") then Some Lanes else None
+carrier_named (Some name) = if bytes_eq name (codes "lanes") then Some Lanes else (if bytes_eq name (codes "shared") then Some Shared else None)
 
 -- the command of a name, and `run` with the value of its option
 abbrev pub named : Text → Option Text → Option Wanted

@@ -13,6 +13,8 @@ use std::convert::AsStr;
 pub enum Carrier {
     /// A ring for each ordered pair of ranks.
     Lanes,
+    /// One inbox for each rank, which all senders share.
+    Shared,
 }
 
 /// What the words ask for.
@@ -55,7 +57,7 @@ Statuses: 0 done, 1 job refused, 2 usage, 3 run failed, 4 output failed, 5 input
 docs/JOBS.md has the format of jobs and traces, docs/RULES.md the rules that ranks obey.";
 
 /// What is said of a carrier that there isn't.
-const UNKNOWN_CARRIER: &str = "invalid value for '--carrier <CARRIER>'\n  [possible values: lanes]";
+const UNKNOWN_CARRIER: &str = "invalid value for '--carrier <CARRIER>'\n  [possible values: lanes, shared]";
 
 /// What the words ask for. An error is a wrong command line, or help that is asked for.
 pub fn wanted_of<S: AsStr>(alloc: Global, words: &[S]) -> Result<Wanted, Error>
@@ -96,7 +98,7 @@ fn with_run<'a>(alloc: Global, command: Command<'a>) -> Result<Command<'a>, Allo
     let carrier = Arg::new(alloc, "carrier")
         .long("carrier")
         .value_name("CARRIER")
-        .help("What takes items from rank to rank [possible values: lanes]")
+        .help("What takes items from rank to rank [possible values: lanes, shared]")
         .required(true);
     let run = Command::new(alloc, "run")
         .about(
@@ -123,6 +125,7 @@ fn named(name: &str, carrier: Option<&str>) -> Option<Wanted>
         "replay" => Some(Wanted::Replay),
         "run" => match carrier {
             Some("lanes") => Some(Wanted::Run(Carrier::Lanes)),
+            Some("shared") => Some(Wanted::Run(Carrier::Shared)),
             _ => None,
         },
         _ => None,

@@ -10,7 +10,7 @@ use std::alloc::{AllocError, Global};
 use std::sync::Wait;
 use std::thread::Threads;
 use ulfm_board::seats;
-use ulfm_carrier::{Ends, lanes};
+use ulfm_carrier::{Ends, lanes, shared};
 use ulfm_run::{Report, run_job};
 use ulfm_script::{Job, RankReport, RunFault, trace_text};
 
@@ -38,9 +38,7 @@ pub fn run_reply<R: Threads + Wait + Sync>(
         Ok(job) => job,
         Err(fault) => return refusal(alloc, fault),
     };
-    let ran = match carrier {
-        Carrier::Lanes => run_on_lanes(rt, alloc, &job),
-    };
+    let ran = run_on(rt, alloc, carrier, &job);
     match ran {
         Ok(reports) => {
             let text = trace_text(alloc, reports.as_slice())?;
@@ -66,6 +64,21 @@ fn failed(alloc: Global, failure: Failure) -> Result<Reply, AllocError>
     })
 }
 
+/// What the ranks of a job did, by this carrier.
+fn run_on<R: Threads + Wait + Sync>(
+    rt: &R,
+    alloc: Global,
+    carrier: Carrier,
+    job: &Job,
+) -> Result<Vec<RankReport>, Failure>
+    ensures { IfOk result (λ reports. IsLawful job.now reports.items) }
+{
+    match carrier {
+        Carrier::Lanes => run_on_lanes(rt, alloc, job),
+        Carrier::Shared => run_on_shared(rt, alloc, job),
+    }
+}
+
 /// What the ranks of a job did, with a ring for each ordered pair.
 fn run_on_lanes<R: Threads + Wait + Sync>(
     rt: &R,
@@ -75,6 +88,20 @@ fn run_on_lanes<R: Threads + Wait + Sync>(
     ensures { IfOk result (λ reports. IsLawful job.now reports.items) }
 {
     match lanes(alloc, job.ranks(), job.capacity()) {
+        Ok(ends) => run_by(rt, alloc, job, ends),
+        Err(_) => Err(Failure::OutOfMemory),
+    }
+}
+
+/// What the ranks of a job did, with one inbox for each rank.
+fn run_on_shared<R: Threads + Wait + Sync>(
+    rt: &R,
+    alloc: Global,
+    job: &Job,
+) -> Result<Vec<RankReport>, Failure>
+    ensures { IfOk result (λ reports. IsLawful job.now reports.items) }
+{
+    match shared(alloc, job.ranks(), job.capacity()) {
         Ok(ends) => run_by(rt, alloc, job, ends),
         Err(_) => Err(Failure::OutOfMemory),
     }

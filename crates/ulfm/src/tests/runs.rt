@@ -36,6 +36,19 @@ fn one_letter_goes_from_thread_to_thread(rt: HostRuntime) {
 }
 
 #[test]
+fn one_letter_goes_by_a_shared_inbox(rt: HostRuntime) {
+    let answer = reply(&rt, &["ulfm", "run", "--carrier", "shared"], ONE_LETTER);
+    assert!(rt;
+        is_reply(
+            &answer,
+            0,
+            "0 0 send 1 tag 5 comm 0: sent\n0 end: done\n1 0 recv 0 tag 5 comm 0: posted\n1 1 wait 0: done from 0 tag 5 616263\n1 end: done\n"
+        )
+    );
+    let (_, Kept { bytes: _, len: _ }) = answer;
+}
+
+#[test]
 fn a_refused_job_is_not_run(rt: HostRuntime) {
     assert!(rt;
         begins(
@@ -65,7 +78,7 @@ fn a_carrier_has_to_be_named(rt: HostRuntime) {
             &["ulfm", "run", "--carrier", "ring"],
             ONE_LETTER,
             2,
-            "error: invalid value for '--carrier <CARRIER>'\n  [possible values: lanes]\n"
+            "error: invalid value for '--carrier <CARRIER>'\n  [possible values: lanes, shared]\n"
         )
     );
     assert!(rt;
