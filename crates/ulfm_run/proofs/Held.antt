@@ -1,8 +1,8 @@
 -- Each decision that a rank adopted is its own, where its answers are right.
-use Rattle.std.proofs.Common.{◌≡◌, ℕ, ◌+◌, ◌<◌, Bool, true, false, List, [], ◌∷◌, ◌++◌, length, take, get_or, refl, ap, sym, subst, ◌∙◌, arith, inl, inr, ◌⊎◌, append_assoc, length-append, None, Some}
+use Rattle.std.proofs.Common.{◌≡◌, ℕ, ◌+◌, Bool, true, false, List, [], ◌∷◌, ◌++◌, length, take, get_or, refl, ap, sym, subst, ◌∙◌, arith, inl, inr, append_assoc, length-append, Some}
 use Rattle.std.specs.Prelude.{All, not, ◌==◌, nat_eq}
 use lib.Pointwise.{pointwise, pointwise_decides}
-use Rattle.std.proofs.lemmas.Bool.{false≢true, or_parts, not-false, eqb-true, eq-eqb}
+use Rattle.std.proofs.lemmas.Bool.{or_parts, not-false, eqb-true, eq-eqb}
 use Rattle.std.proofs.lemmas.Option.{none-some, slice_get_within, get_or_from_slice_get}
 use Rattle.std.proofs.lemmas.List.Elements.{All-nil, All-push, All-append, All-get_or}
 use Rattle.std.proofs.Math.Seq.{take-append_seam, take-length}

@@ -1,23 +1,21 @@
 -- What a log owes of its entries into shrinks.
-use Rattle.std.proofs.Common.{◌≡◌, ◌≢◌, ℕ, Bool, true, false, cond, eqb, List, [], ◌∷◌, ◌++◌, refl, ap, sym, subst, ◌∙◌, inl, inr, Option, Some, None}
-use Rattle.std.specs.Prelude.{is_some, ◌&&◌}
+use Rattle.std.proofs.Common.{◌≡◌, ◌≢◌, ℕ, true, false, List, [], ◌∷◌, ◌++◌, refl, ap, sym, subst, ◌∙◌, inl, inr, Option, Some, None}
+use Rattle.std.specs.Prelude.{is_some}
 use Rattle.std.proofs.lemmas.Bool.{ne_eqb}
-use Rattle.std.proofs.lemmas.Option.{none-some}
 use Rattle.ulfm_base.specs.declared.context.Context.{Context}
 use Rattle.ulfm_base.specs.declared.item.Item.{Item}
-use Rattle.ulfm_base.specs.declared.item.Item.TheVariants.{Letter as Mail, Gone, Revoke, Enter}
 use Rattle.ulfm_base.specs.declared.rank_set.RankSet.{RankSet}
 use Rattle.ulfm_base.specs.Group.{is_member}
 use Rattle.ulfm_rank.specs.declared.entry.Entry.{Entry}
-use Rattle.ulfm_rank.specs.declared.entry.Entry.TheVariants.{Sent, Revoked, Entered, Took}
+use Rattle.ulfm_rank.specs.declared.entry.Entry.TheVariants.{Entered}
 use Rattle.ulfm_rank.specs.Communicators.{is_made, members_of}
-use Rattle.ulfm_rank.specs.Facts.{is_gone, is_revoked}
+use Rattle.ulfm_rank.specs.Facts.{is_gone}
 use Rattle.ulfm_rank.specs.Log.{or_else}
-use Rattle.ulfm_rank.specs.Owed.{owed, owed_by, is_told}
+use Rattle.ulfm_rank.specs.Owed.{owed, owed_by}
 use Rattle.ulfm_rank.specs.Shrink.{entry_of, has_entered}
 use Rattle.ulfm_rank.proofs.Gather.{gathered-push}
-use Rattle.ulfm_run.proofs.Firsts.{or_none, or_else_cases, or_else_first, or_else_second, some_from, none_from, first-push, first_set, set-append}
-use Rattle.ulfm_run.proofs.Entering.{Fits, EntersMade, own_set, own_stays, own_cases, entry_parts, entry_here, gone_before, members_stay}
+use Rattle.ulfm_run.proofs.Firsts.{or_none, or_else_first, some_from, first_set, set-append}
+use Rattle.ulfm_run.proofs.Entering.{Fits, EntersMade, own_set, own_cases, entry_parts, entry_here, gone_before, members_stay}
 
 pub owed-push : (n me : ℕ) (log : List Entry) (e : Entry) (d : ℕ) → owed n me (log ++ e ∷ []) d ≡ owed n me log d ++ owed_by n me d log (owed n me log d) e
 owed-push n me log e d = gathered-push {X = Item} (owed_by n me d) [] log e

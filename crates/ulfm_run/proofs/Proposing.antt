@@ -4,7 +4,7 @@ use Rattle.std.specs.Prelude.{is_some, ◌||◌}
 use Rattle.std.specs.declared.alloc.Global.{Global}
 use Rattle.std.specs.declared.vec.Vec.{Vec}
 use Rattle.std.proofs.lemmas.Bool.{cases_Bool, cases_eq, or_left, or_right, ne_eqb, eq-eqb, cond-true, cond-false}
-use Rattle.std.proofs.lemmas.Option.{same_Some, slice_get_within}
+use Rattle.std.proofs.lemmas.Option.{slice_get_within}
 use Rattle.ulfm_base.specs.declared.rank.WorldRank.{WorldRank}
 use Rattle.ulfm_base.specs.declared.item.Item.{Item}
 use Rattle.ulfm_base.specs.Group.{is_member}
@@ -16,7 +16,6 @@ use Rattle.ulfm_rank.specs.Facts.{took, is_stopped, is_gone}
 use Rattle.ulfm_rank.specs.Log.{first_of}
 use Rattle.ulfm_rank.specs.Owed.{owed}
 use Rattle.ulfm_rank.specs.Shrink.{entry_of, heard_of, has_entered, listed_of, is_out, has_proposal}
-use Rattle.ulfm_rank.specs.State.{owes}
 use Rattle.ulfm_script.specs.Deciding.{Known}
 use Rattle.ulfm_script.specs.Job.{Seen}
 use Rattle.ulfm_script.specs.Report.{Report}
@@ -24,7 +23,7 @@ use Rattle.ulfm_run.specs.Answered.{HasAnswers}
 use Rattle.ulfm_run.specs.Compared.{AllAgree}
 use Rattle.ulfm_run.specs.Flow.{AllCarry, IsEach}
 use Rattle.ulfm_run.specs.Lawful.{IsLawful}
-use Rattle.ulfm_run.specs.Proposed.{HasMade, AllEntered, ProposesEach}
+use Rattle.ulfm_run.specs.Proposed.{AllEntered, ProposesEach}
 use Rattle.ulfm_run.specs.Rest.{IsRunning, IsAtRest}
 use Rattle.ulfm_run.proofs.AtRest.{same_report, took_owed, running-not_gone, knows-stopped}
 use Rattle.ulfm_run.proofs.Belonging.{Keeps, keeps-start, keeps-push}
