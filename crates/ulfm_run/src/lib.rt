@@ -12,8 +12,6 @@ mod rest;
 #[cfg(test)]
 mod tests;
 mod threads;
-#[cfg(test)]
-mod verdicts;
 mod worker;
 
 pub use job::run_job;

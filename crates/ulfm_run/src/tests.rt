@@ -5,3 +5,4 @@ mod meeting;
 mod misfits;
 mod polls;
 mod traces;
+mod verdicts;

@@ -1,8 +1,8 @@
 use Rattle.std.proofs.Common.{◌≡◌, ◌++◌, map}
 use Rattle.std.specs.Vec.Iter.{into_iter_items}
 use Rattle.ulfm_board.specs.declared.seat.Seat.{Seat}
-use Rattle.ulfm_run.specs.declared.verdicts.Inventor.{Inventor}
-use Rattle.ulfm_run.proofs.verdicts.inventors.Given as goal
+use Rattle.ulfm_run.specs.declared.tests.verdicts.Inventor.{Inventor}
+use Rattle.ulfm_run.proofs.tests.verdicts.inventors.Given as goal
 
 abbrev pub invariant-loop-seat : goal.invariant-loop-seat
 invariant-loop-seat l =

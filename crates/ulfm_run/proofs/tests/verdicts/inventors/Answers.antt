@@ -5,9 +5,9 @@ use Rattle.std.proofs.lemmas.List.{nil_from_length}
 use Rattle.ulfm_board.specs.declared.seat.Seat.{Seat}
 use Rattle.ulfm_board.specs.Known.{nothing_known}
 use Rattle.ulfm_board.specs.Names.{cell_names, known_of}
-use Rattle.ulfm_run.specs.declared.verdicts.Inventor.{Inventor}
+use Rattle.ulfm_run.specs.declared.tests.verdicts.Inventor.{Inventor}
 use Rattle.ulfm_run.proofs.Invented.{all_map, all_made}
-use Rattle.ulfm_run.proofs.verdicts.inventors.Goals as goal
+use Rattle.ulfm_run.proofs.tests.verdicts.inventors.Goals as goal
 
 pub returns-clause-one_board : goal.returns-clause-one_board
 returns-clause-one_board c =
