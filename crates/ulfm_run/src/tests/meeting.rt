@@ -1,12 +1,15 @@
 //! Ranks that wait for one another in the middle of a push.
+ghost use Rattle.std.specs.Prelude.{map};
+ghost use Rattle.ulfm_carrier.specs.Family.{AllFresh};
 
 use super::laid::{Habit, run_over};
 use std::alloc::Global;
-use std::sync::Arc;
 use std::sync::atomic::{AtomicBool, Ordering};
+use std::sync::{Arc, Wait};
 use std::test::Fail;
 use std::thread;
-use ulfm_carrier::lanes;
+use std::thread::Threads;
+use ulfm_carrier::{Ends, lanes, shared};
 use ulfm_script::{Job, trace_text};
 
 /// The ranks 0 and 2 send rank 1 a letter each.
@@ -80,18 +83,33 @@ fn meetings(alloc: Global) -> Result<Vec<Meeting>, Fail> {
     Ok(meetings)
 }
 
+/// The trace of a run of `TWO_LETTERS` over these ends, and how many ranks met.
+fn met_over<E, R>(rt: &R, alloc: Global, job: &Job, ends: Vec<E>) -> Result<(String, usize), Fail>
+where
+    E: Ends + Send,
+    R: Threads + Wait + Sync,
+    requires one_call { E.one_call (map E.name ends.items) }
+    requires fresh { AllFresh E.count E.pushed E.taken E.ready ends.items }
+{
+    let report = run_over(rt, alloc, job, ends, meetings(alloc)?)?;
+    let met = report.ends.iter().filter(|end| end.habit.has_met()).count();
+    Ok((trace_text(alloc, &report.ranks)?, met))
+}
+
 /// One thread for all ranks, or one that holds up the others during its turn, would miss the other's push.
 #[test]
 fn two_pushes_meet(rt: HostRuntime) -> Result<(), Fail> {
     let alloc = rt.alloc();
+    let want =
+        "0 0 send 1 tag 1 comm 0: sent\n0 end: done\n1 0 recv 0 tag any comm 0: posted\n1 1 recv 2 tag any comm 0: posted\n1 2 wait 0: done from 0 tag 1 61\n1 3 wait 1: done from 2 tag 1 62\n1 end: done\n2 0 send 1 tag 1 comm 0: sent\n2 end: done\n";
     let job = Job::read(alloc, TWO_LETTERS.as_bytes())?;
     let ends = lanes(alloc, job.ranks(), job.capacity())?;
-    let report = run_over(&rt, alloc, &job, ends, meetings(alloc)?)?;
-    assert_eq!(rt;
-        trace_text(alloc, &report.ranks)?.as_str(),
-        "0 0 send 1 tag 1 comm 0: sent\n0 end: done\n1 0 recv 0 tag any comm 0: posted\n1 1 recv 2 tag any comm 0: posted\n1 2 wait 0: done from 0 tag 1 61\n1 3 wait 1: done from 2 tag 1 62\n1 end: done\n2 0 send 1 tag 1 comm 0: sent\n2 end: done\n"
-    );
-    let met = report.ends.iter().filter(|end| end.habit.has_met()).count();
+    let (trace, met) = met_over(&rt, alloc, &job, ends)?;
+    assert_eq!(rt; trace.as_str(), want);
+    assert_eq!(rt; met, 2);
+    let ends = shared(alloc, job.ranks(), job.capacity())?;
+    let (trace, met) = met_over(&rt, alloc, &job, ends)?;
+    assert_eq!(rt; trace.as_str(), want);
     assert_eq!(rt; met, 2);
     Ok(())
 }
