@@ -1,15 +1,13 @@
 -- Ends of one call while all of them close to one: what each may do.
-use Rattle.std.proofs.Common.{◌≡◌, ◌≢◌, ◌<◌, ◌≤◌, ◌+◌, ℕ, List, [], length, map, get_or, refl, ap, sym, ◌∙◌, arith, subst, Some}
+use Rattle.std.proofs.Common.{◌≡◌, ◌<◌, ◌≤◌, ℕ, List, [], length, map, get_or, refl, ap, sym, ◌∙◌, arith}
 use Rattle.std.specs.Prelude.{slice_get}
 use Rattle.std.proofs.lemmas.List.{length-map}
 use Rattle.std.proofs.lemmas.Option.{slice_get-get_or}
-use Rattle.crossbeam_queue.specs.Passes.{view}
 use Rattle.ulfm_carrier.specs.declared.inbox.View.{View}
-use Rattle.ulfm_carrier.specs.declared.shared_ends.SharedName.{SharedName}
 use Rattle.ulfm_carrier.specs.declared.shared_ends.SharedEnds.{SharedEnds}
 use Rattle.ulfm_carrier.specs.Family.{at}
 use Rattle.ulfm_carrier.specs.Inbox.{InboxPass}
-use Rattle.ulfm_carrier.specs.Shared.{pass_name, pushed_with, shared_name, shared_pushed, HasPasses, MaySend, IsReceiver, AreOpenFrom, OneCall}
+use Rattle.ulfm_carrier.specs.Shared.{pass_name, shared_name, shared_pushed, HasPasses, MaySend, IsReceiver, AreOpenFrom, OneCall}
 use Rattle.ulfm_carrier.proofs.Places.{at_view, view_or}
 use Rattle.ulfm_carrier.proofs.Frames.{as_many_outs, passes_same, sends_same, receiver_same}
 use Rattle.ulfm_carrier.proofs.Heard.{Hears}

@@ -1,14 +1,13 @@
 -- The ends, once the inbox of one of them is empty.
-use Rattle.std.proofs.Common.{◌≡◌, ◌≢◌, ◌<◌, ◌≤◌, ◌+◌, inl, inr, ℕ, zero, suc, List, [], ◌∷◌, ◌++◌, length, map, set, get_or, refl, ap, sym, ◌∙◌, arith, subst, Some}
+use Rattle.std.proofs.Common.{◌≡◌, ◌≢◌, ◌<◌, ◌+◌, inl, inr, ℕ, suc, List, [], ◌∷◌, length, map, set, get_or, refl, ap, sym, ◌∙◌, arith, subst, Some}
 use Rattle.std.specs.Prelude.{slice_get}
 use Rattle.std.specs.Arc.{arc_value}
-use Rattle.std.proofs.lemmas.List.{length-set}
 use Rattle.crossbeam_queue.specs.Passes.{view, IsSamePass}
 use Rattle.ulfm_carrier.specs.declared.inbox.View.{View}
 use Rattle.ulfm_carrier.specs.declared.shared_ends.SharedEnds.{SharedEnds}
 use Rattle.ulfm_carrier.specs.Family.{at, items_from, Keeps}
 use Rattle.ulfm_carrier.specs.Inbox.{InboxPass}
-use Rattle.ulfm_carrier.specs.Shared.{pass_name, pushed_with, shown, shared_name, shared_pushed, shared_taken, HasPasses, MaySend, MayReceive, IsOpenFrom, AreOpenFrom}
+use Rattle.ulfm_carrier.specs.Shared.{pass_name, pushed_with, shown, shared_name, shared_pushed, shared_taken, IsOpenFrom, AreOpenFrom}
 use Rattle.ulfm_carrier.proofs.Places.{at_read, at_set}
 use Rattle.ulfm_carrier.proofs.Passes.{name_same}
 use Rattle.ulfm_carrier.proofs.Frames.{as_many_outs, passes_same, sends_same, receiver_same}

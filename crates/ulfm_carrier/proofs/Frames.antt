@@ -1,17 +1,11 @@
 -- What an end may do, as far as its passes stay the same.
-use Rattle.std.proofs.Common.{◌≡◌, ◌≢◌, ◌<◌, ◌≤◌, ℕ, Option, None, List, [], ◌∷◌, length, map, vec_capacity, refl, ap, sym, ◌∙◌, arith, subst}
+use Rattle.std.proofs.Common.{◌≡◌, ℕ, length, map, vec_capacity, ap, sym, ◌∙◌, arith}
 use Rattle.std.specs.Prelude.{slice_get}
 use Rattle.std.specs.Arc.{arc_value}
-use Rattle.std.specs.declared.alloc.Global.{Global}
-use Rattle.std.specs.declared.vec.Vec.{Vec}
 use Rattle.std.proofs.lemmas.List.{length-map}
 use Rattle.crossbeam_queue.specs.Passes.{view, IsSamePass}
-use Rattle.ulfm_base.specs.declared.item.Item.{Item}
-use Rattle.ulfm_carrier.specs.declared.inbox.View.{View}
 use Rattle.ulfm_carrier.specs.declared.shared_ends.SharedEnds.{SharedEnds}
-use Rattle.ulfm_carrier.specs.Family.{at}
-use Rattle.ulfm_carrier.specs.Inbox.{InboxPass}
-use Rattle.ulfm_carrier.specs.Shared.{pass_name, HasPasses, MaySend, IsReceiver, MayReceive, IsOpenFrom}
+use Rattle.ulfm_carrier.specs.Shared.{pass_name, HasPasses, MaySend, IsReceiver}
 
 -- the two ends are one but for their passes and their room for lists
 pub record SameFrame (e f : SharedEnds) : Type 0 where

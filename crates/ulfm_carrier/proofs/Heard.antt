@@ -1,18 +1,15 @@
 -- End by end, all close to one of them.
-use Rattle.std.proofs.Common.{◌≡◌, ◌≢◌, ◌<◌, ◌≤◌, ◌+◌, inl, inr, ℕ, zero, suc, Option, Some, List, [], ◌∷◌, ◌++◌, length, map, set, get_or, refl, ap, sym, ◌∙◌, arith, subst}
+use Rattle.std.proofs.Common.{◌≡◌, ◌≢◌, ◌<◌, ◌≤◌, ◌+◌, inl, inr, ℕ, zero, suc, List, [], ◌∷◌, ◌++◌, length, map, set, get_or, refl, ap, sym, ◌∙◌, arith, subst}
 use Rattle.std.specs.Prelude.{slice_get}
 use Rattle.std.specs.Arc.{arc_value}
-use Rattle.std.proofs.lemmas.List.{length-set}
-use Rattle.std.specs.declared.alloc.Global.{Global}
-use Rattle.std.specs.declared.vec.Vec.{Vec}
 use Rattle.crossbeam_queue.specs.Passes.{view, IsSamePass}
 use Rattle.ulfm_base.specs.declared.item.Item.{Item}
 use Rattle.ulfm_carrier.specs.declared.inbox.View.{View}
 use Rattle.ulfm_carrier.specs.declared.shared_ends.SharedEnds.{SharedEnds}
 use Rattle.ulfm_carrier.specs.Family.{at}
-use Rattle.ulfm_carrier.specs.Inbox.{InboxPass, after_told}
+use Rattle.ulfm_carrier.specs.Inbox.{after_told}
 use Rattle.ulfm_carrier.specs.Shared.{pass_name, pushed_with, shared_pushed, with_outs, with_inlet}
-use Rattle.ulfm_carrier.proofs.Places.{at_read, at_set, view_or}
+use Rattle.ulfm_carrier.proofs.Places.{at_read, at_set}
 use Rattle.ulfm_carrier.proofs.Frames.{SameFrame, frame_twice, frame_is, same_inlet}
 
 -- what the first n ends pushed to the rank of this number, with their numbers

@@ -16,12 +16,15 @@ pub mod Places
 pub mod Ranks
 pub mod Rings
 pub mod Rule
+pub mod Seated
+pub mod Seats
 pub mod Senders
 pub mod Settling
 pub mod Steps
 pub mod Together
 pub mod Told
 pub mod Turns
+pub mod Used
 pub mod Views
 pub mod Whole
 pub mod Wired

@@ -1,6 +1,6 @@
 -- The passes of an end, after one of them was used.
-use Rattle.std.proofs.Common.{◌≡◌, ◌≢◌, ◌<◌, ℕ, inl, inr, List, [], ◌∷◌, ◌++◌, length, map, set, get_or, refl, ap, sym, ◌∙◌, subst, Some}
-use Rattle.std.specs.Prelude.{MatchResult, Result, Ok, Err, OnErr, slice_get}
+use Rattle.std.proofs.Common.{◌≡◌, ◌<◌, ℕ, inl, inr, List, [], ◌∷◌, ◌++◌, length, map, set, get_or, ap, sym, ◌∙◌, subst}
+use Rattle.std.specs.Prelude.{MatchResult, Result, Ok, Err, OnErr}
 use Rattle.std.proofs.Math.Seq.{map-set_same}
 use Rattle.crossbeam_queue.specs.Passes.{view, IsSamePass}
 use Rattle.crossbeam_queue.specs.Ring.{idle}
@@ -10,7 +10,7 @@ use Rattle.ulfm_carrier.specs.declared.inbox.View.{View}
 use Rattle.ulfm_carrier.specs.Family.{at, items_from}
 use Rattle.ulfm_carrier.specs.Inbox.{Signed, InboxPass, spent, after_push, PushedIsTakenAndHeld}
 use Rattle.ulfm_carrier.specs.Shared.{pass_name, pushed_with}
-use Rattle.ulfm_carrier.proofs.Places.{at_read, at_set, view_other, view_here, view_or}
+use Rattle.ulfm_carrier.proofs.Places.{at_read, at_set, view_here, view_or}
 
 pub name_same : (p q : InboxPass) → IsSamePass p q → pass_name q ≡ pass_name p
 name_same p q same = λ i. record p { table_id = same.0 i; id = same.1 i; me = (idle spent, []) }

@@ -1,5 +1,5 @@
 -- Each kind of step at an inbox keeps its rule.
-use Rattle.std.proofs.Common.{◌≡◌, ◌≢◌, ℕ, zero, suc, ◌+◌, ◌≤◌, ◌<◌, inl, inr, List, [], ◌∷◌, ◌++◌, length, set, refl, ap, sym, ◌∙◌, subst, arith, append_assoc, append-nil, ⊎_elim}
+use Rattle.std.proofs.Common.{◌≡◌, ◌≢◌, ℕ, zero, suc, ◌+◌, ◌≤◌, ◌<◌, inl, inr, List, [], ◌∷◌, ◌++◌, length, set, refl, ap, sym, ◌∙◌, subst, arith, append_assoc, ⊎_elim}
 use Rattle.std.specs.Prelude.{Option, None, Some}
 use Rattle.std.proofs.lemmas.Bool.{cases_lt}
 use mathlib.Core.Option.{some, some-injective, some-ne-none}
@@ -9,7 +9,7 @@ use Rattle.crossbeam_queue.proofs.Lists.{at_set}
 use Rattle.ulfm_base.specs.declared.item.Item.{Item}
 use Rattle.ulfm_carrier.specs.declared.inbox.View.{View}
 use Rattle.ulfm_carrier.specs.declared.inbox.Role.TheVariants as role
-use Rattle.ulfm_carrier.specs.Family.{at, items_from, ComesFrom}
+use Rattle.ulfm_carrier.specs.Family.{items_from, ComesFrom}
 use Rattle.ulfm_carrier.specs.Inbox.{Signed, receiver, sender, spent, after_push, after_take, one_more, in_role, after_told, Seats, AreClosed, Fits, InboxRule, PushedIsTakenAndHeld, ToldIsTakenAndHeld, Took}
 use Rattle.ulfm_carrier.proofs.Changed.{change, change_here, change_else, at_or_else, items_push, items_push_else, items_some}
 use Rattle.ulfm_carrier.proofs.Gathered.{each_push}

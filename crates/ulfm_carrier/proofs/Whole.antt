@@ -12,12 +12,12 @@ use Rattle.ulfm_carrier.specs.Family.{at, AllFresh}
 use Rattle.ulfm_carrier.specs.Lanes.{outlet_name, inlet_name, inlet_capacity, sent_by, taken_by, lane_name, lane_pushed, lane_taken, known_room, IsReady, OneCall}
 use Rattle.ulfm_carrier.specs.Wiring.{AreWired}
 
-at_map : {X Y : Type 0} (f : X → Y) (xs : List X) (k : ℕ) (y : Y) → at (map f xs) k y → (x : X) × at xs k x × (y ≡ f x)
+pub at_map : {X Y : Type 0} (f : X → Y) (xs : List X) (k : ℕ) (y : Y) → at (map f xs) k y → (x : X) × at xs k x × (y ≡ f x)
 at_map f [] k y here = absurd (cc)
 at_map f (x ∷ xs) zero y here = (x, refl, cc)
 at_map f (x ∷ xs) (suc k) y here = at_map f xs k y here
 
-all_empty : {X Y : Type 0} (f : X → List Y) (xs : List X) → ((k : ℕ) (x : X) → at xs k x → f x ≡ []) → (p : ℕ) → get_or (map f xs) p [] ≡ []
+pub all_empty : {X Y : Type 0} (f : X → List Y) (xs : List X) → ((k : ℕ) (x : X) → at xs k x → f x ≡ []) → (p : ℕ) → get_or (map f xs) p [] ≡ []
 all_empty f [] each p = refl
 all_empty f (x ∷ xs) each zero = each 0 x refl
 all_empty f (x ∷ xs) each (suc p) = all_empty f xs (λ k y here. each (suc k) y here) p

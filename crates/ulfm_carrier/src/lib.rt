@@ -10,6 +10,7 @@ mod inbox;
 mod inlet;
 mod lane_ends;
 mod residue;
+mod seating;
 mod shared_ends;
 #[cfg(test)]
 mod tests;
@@ -22,5 +23,6 @@ pub use ends::Ends;
 pub use inbox::{InOrder, Inbox, InboxPass, Role, View};
 pub use lane_ends::{LaneEnds, LaneName, RingName};
 pub use residue::Residue;
+pub use seating::shared;
 pub use shared_ends::{SharedEnds, SharedName};
 pub use wiring::lanes;

@@ -1,15 +1,14 @@
-use Rattle.std.proofs.Common.{◌≡◌, ◌<◌, ◌≤◌, ◌++◌, ℕ, List, length, set, refl, ap, sym, ◌∙◌, arith, subst}
+use Rattle.std.proofs.Common.{◌≡◌, ◌<◌, ◌++◌, ℕ, List, length, set, refl, ap, sym, ◌∙◌, arith, subst}
 use Rattle.std.proofs.lemmas.List.{length-set}
 use Rattle.std.proofs.lemmas.Option.{slice_get_within}
 use Rattle.crossbeam_queue.specs.Passes.{view}
 use Rattle.ulfm_base.specs.declared.item.Item.{Item}
 use Rattle.ulfm_carrier.specs.declared.inbox.View.{View}
-use Rattle.ulfm_carrier.specs.declared.shared_ends.SharedEnds.{SharedEnds}
 use Rattle.ulfm_carrier.specs.Family.{at, items_from}
 use Rattle.ulfm_carrier.specs.Shared.{shared_pushed, shared_taken}
 use Rattle.ulfm_carrier.proofs.Places.{at_read, view_or}
 use Rattle.ulfm_carrier.proofs.Frames.{as_many_outs}
-use Rattle.ulfm_carrier.proofs.Heard.{AllHear, none_heard, closes_more, hears_more, told_by}
+use Rattle.ulfm_carrier.proofs.Heard.{none_heard, closes_more, hears_more}
 use Rattle.ulfm_carrier.proofs.Told.{telling, told_at, told_of_all}
 use Rattle.ulfm_carrier.proofs.Closing.{all_outs, number, still_passes, outs_there, may_close, may_hear, receipt_queue, receipt_pushed}
 use Rattle.ulfm_carrier.proofs.Done.{AllDone, all_done, keeps_done, taken_told, one_at}

@@ -1,4 +1,4 @@
-use Rattle.std.proofs.Common.{◌≡◌, ◌<◌, ◌≤◌, ℕ, List, [], length, map, refl, ap, sym, ◌∙◌, arith, subst, vec_capacity, ◌+◌}
+use Rattle.std.proofs.Common.{◌≡◌, ◌<◌, ◌≤◌, ℕ, List, [], length, refl, ap, sym, ◌∙◌, arith, subst, vec_capacity, ◌+◌}
 use Rattle.std.proofs.lemmas.List.{length_push, length-map}
 use Rattle.std.specs.declared.alloc.Global.{Global}
 use Rattle.std.specs.declared.vec.Vec.{Vec}

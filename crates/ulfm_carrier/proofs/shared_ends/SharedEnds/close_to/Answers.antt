@@ -1,8 +1,7 @@
-use Rattle.std.proofs.Common.{◌≡◌, ◌<◌, ap, ◌∙◌, sym, arith, length, get_or, Some}
+use Rattle.std.proofs.Common.{◌<◌, ap, ◌∙◌, sym, arith, length, get_or}
 use Rattle.std.specs.Arc.{arc_value}
 use Rattle.std.proofs.Math.Seq.{map-set_same}
 use Rattle.ulfm_carrier.specs.declared.inbox.View.{View}
-use Rattle.ulfm_carrier.specs.Inbox.{InboxPass}
 use Rattle.ulfm_carrier.specs.Shared.{pushed_with}
 use Rattle.ulfm_carrier.proofs.Places.{at_read, at_other, view_or}
 use Rattle.ulfm_carrier.proofs.Passes.{names_same}

@@ -1,4 +1,4 @@
-use Rattle.std.proofs.Common.{◌≡◌, ◌≤◌, arith}
+use Rattle.std.proofs.Common.{arith}
 use Rattle.crossbeam_queue.specs.Passes.{view}
 use Rattle.ulfm_carrier.proofs.Emptied.{none_above, told_left}
 use Rattle.ulfm_carrier.proofs.shared_ends.SharedEnds.empty.Goals as goal

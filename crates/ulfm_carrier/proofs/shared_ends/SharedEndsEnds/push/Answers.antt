@@ -1,4 +1,4 @@
-use Rattle.std.proofs.Common.{◌≡◌, ◌<◌, ap, ◌∙◌, refl, sym, arith, length, get_or, subst}
+use Rattle.std.proofs.Common.{◌≡◌, ◌<◌, ap, ◌∙◌, refl, sym, arith, length, get_or}
 use Rattle.std.specs.Arc.{arc_value}
 use Rattle.std.proofs.lemmas.List.{length-set}
 use Rattle.crossbeam_queue.specs.Passes.{view, IsPassOf, ruled_capacity}

@@ -1,0 +1,109 @@
+-- Inboxes and passes, while they are made one by one.
+use Rattle.std.proofs.Common.{◌≡◌, ◌<◌, ◌≤◌, ◌+◌, inl, inr, ℕ, zero, suc, List, [], ◌∷◌, ◌++◌, length, map, set, refl, ap, sym, ◌∙◌, arith, subst, Some, append_assoc}
+use Rattle.std.specs.Prelude.{slice_get}
+use Rattle.std.proofs.lemmas.List.{length-map, map-append}
+use Rattle.std.proofs.lemmas.Option.{slice_get_within}
+use Rattle.crossbeam_queue.specs.Passes.{view, IsPassOf, IsSamePass}
+use Rattle.ulfm_carrier.specs.declared.inbox.View.{View}
+use Rattle.ulfm_carrier.specs.declared.shared_ends.SharedEnds.{SharedEnds}
+use Rattle.ulfm_carrier.specs.Family.{at}
+use Rattle.ulfm_carrier.specs.Inbox.{InboxPass, sender, one_more}
+use Rattle.ulfm_carrier.specs.Seating.{Queue, AreInlets, AreOpenInlets, HaveMadeOneMore, AreNextOuts, AreOuts}
+use Rattle.ulfm_carrier.proofs.Places.{at_push, at_set, at_other}
+
+pub has_at : {X : Type 0} (xs : List X) (k : ℕ) → k < length xs → (x : X) × at xs k x
+has_at [] k low = absurd (omega (arith, low))
+has_at (x ∷ xs) zero low = (x, refl)
+has_at (x ∷ xs) (suc k) low = has_at xs k (omega (arith, low))
+
+pub only_at : {X : Type 0} (xs : List X) (k : ℕ) (x y : X) → at xs k x → at xs k y → y ≡ x
+only_at xs k x y here there = let same : Some y ≡ Some x = sym there ∙ here in cc
+
+pub at_middle : {X : Type 0} (xs ys : List X) (x : X) → at (xs ++ x ∷ ys) (length xs) x
+at_middle [] ys x = refl
+at_middle (z ∷ xs) ys x = at_middle xs ys x
+
+-- what holds of two lists by places still does with one more in each
+pub each_pair : {A B : Type 0} (P : ℕ → A → B → Type 0) (xs : List A) (ys : List B) (x : A) (y : B) (n : ℕ) → length xs ≡ n → length ys ≡ n → ((j : ℕ) (a : A) (b : B) → at xs j a → at ys j b → P j a b) → P n x y
+    → (j : ℕ) (a : A) (b : B) → at (xs ++ x ∷ []) j a → at (ys ++ y ∷ []) j b → P j a b
+each_pair {A} {B} P xs ys x y n many as_many each here j a b at_a at_b = elim (at_push xs x j a at_a) [
+  | inl h ↦ let low = h.0 in elim (at_push ys y j b at_b) [ inl i ↦ each j a b h.1 i.1 | inr i ↦ let e = i.0 in absurd (omega (arith, low, e, many, as_many)) ]
+  | inr h ↦ let is = h.0 in elim (at_push ys y j b at_b) [
+    | inl i ↦ let low = i.0 in absurd (omega (arith, is, low, many, as_many))
+    | inr i ↦
+        let Q : ℕ → Type 0 = λ m. P m a b in
+        let R : A → Type 0 = λ z. P n z b in
+        let S : B → Type 0 = λ z. P n x z in
+        subst Q (sym (is ∙ many)) (subst R (sym h.1) (subst S (sym i.1) here))
+  ]
+]
+
+pub open_inlets : (m : ℕ) (inboxes : List Queue) (inlets : List InboxPass) → AreInlets m inboxes inlets → AreOpenInlets inboxes inlets
+open_inlets m inboxes inlets are j inbox inlet at_i at_j = let h = are j inbox inlet at_i at_j in (h.0, ap (λ (v : View). v.role) h.1)
+
+pub more_inlets : (m : ℕ) (inboxes : List Queue) (before after : List InboxPass) → length after ≡ length before → AreInlets m inboxes before → HaveMadeOneMore before after → AreInlets (m + 1) inboxes after
+more_inlets m inboxes before after many are more j inbox q at_i at_q =
+    let old = has_at before j (omega (arith, slice_get_within after j q at_q, many)) in
+    let h = are j inbox old.0 at_i old.1 in
+    let g = more j old.0 q old.1 at_q in
+    ((g.0.0 ∙ h.0.0, g.0.2 ∙ h.0.1), g.1 ∙ ap one_more h.1)
+
+pub new_outs : (m : ℕ) (inboxes : List Queue) (inlets outs : List InboxPass) → length inlets ≡ length inboxes → length outs ≡ length inboxes → AreInlets m inboxes inlets → AreNextOuts inboxes inlets outs → AreOuts m inboxes outs
+new_outs m inboxes inlets outs many as_many are next = (
+  as_many,
+  λ j inbox out at_i at_o.
+      let old = has_at inlets j (omega (arith, slice_get_within inboxes j inbox at_i, many)) in
+      let h = are j inbox old.0 at_i old.1 in
+      let g = next j inbox old.0 out at_i old.1 at_o in
+      (g.0, g.1 ∙ ap (λ (v : View). sender v.made) h.1),
+)
+
+module _ (inboxes : List Queue) (start now outs : List InboxPass) (dest : ℕ) (inbox : Queue) (p q out : InboxPass) (many : length now ≡ length start) (as_many : length outs ≡ dest)
+    (waiting : (j : ℕ) → dest ≤ j → slice_get now j ≡ slice_get start j) (at_inbox : at inboxes dest inbox) (at_now : at now dest p) (same : IsSamePass p q) (is : view q ≡ one_more (view p)) (pass : IsPassOf inbox out) (new : view out ≡ sender (view p).made) where
+  at_start : at start dest p
+  at_start = sym (waiting dest (omega arith)) ∙ at_now
+
+  pub made_next : ((j : ℕ) (a b : InboxPass) → j < dest → at start j a → at now j b → IsSamePass a b × (view b ≡ one_more (view a))) → (j : ℕ) (a b : InboxPass) → j < dest + 1 → at start j a → at (set now dest q) j b → IsSamePass a b × (view b ≡ one_more (view a))
+  made_next made j a b low at_a at_b = elim (at_set now dest q j b at_b) [
+    | inl h ↦
+        let A : ℕ → Type 0 = λ n. at start n a in
+        let old : a ≡ p = only_at start dest p a at_start (subst A h.0 at_a) in
+        let P : InboxPass → Type 0 = λ y. IsSamePass a y × (view y ≡ one_more (view a)) in
+        let R : InboxPass → Type 0 = λ x. IsSamePass x q × (view q ≡ one_more (view x)) in
+        subst P (sym h.1) (subst R (sym old) (same, is))
+    | inr h ↦ let apart : j ≡ dest → ⊥ = h.0 in made j a b (omega (arith, low, apart)) at_a h.1
+  ]
+
+  pub waiting_next : (j : ℕ) → dest + 1 ≤ j → slice_get (set now dest q) j ≡ slice_get start j
+  waiting_next j late = at_other now dest j q (λ e. absurd (omega (arith, e, late))) ∙ waiting j (omega (arith, late))
+
+  pub outs_next : AreNextOuts inboxes start outs → AreNextOuts inboxes start (outs ++ out ∷ [])
+  outs_next next j i a o at_i at_a at_o = elim (at_push outs out j o at_o) [
+    | inl h ↦ next j i a o at_i at_a h.1
+    | inr h ↦
+        let there : j ≡ dest = h.0 ∙ as_many in
+        let A : ℕ → Type 0 = λ n. at start n a in
+        let I : ℕ → Type 0 = λ n. at inboxes n i in
+        let old : a ≡ p = only_at start dest p a at_start (subst A there at_a) in
+        let box : i ≡ inbox = only_at inboxes dest inbox i at_inbox (subst I there at_i) in
+        let P : InboxPass → Type 0 = λ y. IsPassOf i y × (view y ≡ sender (view a).made) in
+        let R : InboxPass → Type 0 = λ x. IsPassOf i out × (view out ≡ sender (view x).made) in
+        let B : Queue → Type 0 = λ x. IsPassOf x out × (view out ≡ sender (view p).made) in
+        subst P (sym h.1) (subst R (sym old) (subst B (sym box) (pass, new)))
+  ]
+
+-- the pass that comes next is that at the next place
+pub inlet_next : (ends : List SharedEnds) (left left' all : List InboxPass) (p : InboxPass) → map (λ (e : SharedEnds). e.inlet) ends ++ left ≡ all → left ≡ p ∷ left' → (length ends < length all) × at all (length ends) p
+inlet_next ends left left' all p was next =
+    let is : map (λ (e : SharedEnds). e.inlet) ends ++ p ∷ left' ≡ all = ap (λ l. map (λ (e : SharedEnds). e.inlet) ends ++ l) (sym next) ∙ was in
+    let many = length-map ends (λ (e : SharedEnds). e.inlet) in
+    let A : ℕ → Type 0 = λ k. at all k p in
+    let B : List InboxPass → Type 0 = λ l. at l (length (map (λ (e : SharedEnds). e.inlet) ends)) p in
+    let there : at all (length ends) p = subst A many (subst B is (at_middle (map (λ (e : SharedEnds). e.inlet) ends) left' p)) in
+    (slice_get_within all (length ends) p there, there)
+
+pub inlets_next : (ends ends' : List SharedEnds) (e : SharedEnds) (left left' all : List InboxPass) (p : InboxPass) → map (λ (x : SharedEnds). x.inlet) ends ++ left ≡ all → left ≡ p ∷ left' → ends' ≡ ends ++ e ∷ [] → e.inlet ≡ p
+    → map (λ (x : SharedEnds). x.inlet) ends' ++ left' ≡ all
+inlets_next ends ends' e left left' all p was next more is =
+    ap (λ l. map (λ (x : SharedEnds). x.inlet) l ++ left') more ∙ ap (λ l. l ++ left') (map-append (λ (x : SharedEnds). x.inlet) ends (e ∷ [])) ∙ append_assoc (map (λ (x : SharedEnds). x.inlet) ends) (e.inlet ∷ []) left'
+    ∙ ap (λ y. map (λ (x : SharedEnds). x.inlet) ends ++ y ∷ left') is ∙ ap (λ l. map (λ (x : SharedEnds). x.inlet) ends ++ l) (sym next) ∙ was

@@ -1,0 +1,17 @@
+use Rattle.std.proofs.Common.{◌≡◌, ◌≤◌, ◌+◌, ◌++◌, ℕ, length, map}
+use Rattle.std.specs.Prelude.{slice_get}
+use Rattle.std.specs.Arc.{arc_value}
+use Rattle.std.specs.Vec.Iter.{into_iter_items, into_iter_len}
+use Rattle.ulfm_carrier.specs.declared.shared_ends.SharedEnds.{SharedEnds}
+use Rattle.ulfm_carrier.specs.Family.{at}
+use Rattle.ulfm_carrier.specs.Seating.{IsMade}
+use Rattle.ulfm_carrier.proofs.seating.seated.Given as goal
+
+abbrev pub invariant-loop-inlet : goal.invariant-loop-inlet
+invariant-loop-inlet l = record {
+  inlets : map (λ (e : SharedEnds). e.inlet) l.ends.items ++ into_iter_items l.inlet-iterator ≡ l.fn.inlets.items;
+  count : length l.ends.items + into_iter_len l.inlet-iterator ≡ length l.fn.inlets.items;
+  many : length l.rows.items ≡ length l.fn.inlets.items;
+  waiting : (j : ℕ) → length l.ends.items ≤ j → slice_get l.rows.items j ≡ slice_get l.fn.rows.items j;
+  each : (k : ℕ) (e : SharedEnds) → at l.ends.items k e → IsMade (length l.fn.inlets.items) l.capacity (arc_value l.inboxes).items k e;
+}
