@@ -1,4 +1,4 @@
-//! How fast letters go over a lane of the carrier, beside the kit's rings alone: on standard error, in letters a second.
+//! How fast letters go over the two carriers, beside the kit's rings and queues alone: on standard error, in letters a second.
 //! The first word, if there is one, is the number of letters of each trip.
 #![tactic(auto)]
 
@@ -6,7 +6,7 @@ mod pairs;
 mod trip;
 mod way;
 
-use crate::pairs::{letter, over_lanes, over_rings};
+use crate::pairs::{letter, over_lanes, over_queues, over_rings, over_shared};
 use crate::trip::{one_way, there_and_back};
 use crate::way::Way;
 use std::alloc::Global;
@@ -23,7 +23,10 @@ const LETTERS: u32 = 20_000;
 fn main(rt: HostRuntime) -> ExitCode {
     let count = letters(&rt);
     for bytes in [8, 1024] {
-        if measure(&rt, rt.alloc(), bytes, count).is_none() {
+        if there_each(&rt, rt.alloc(), bytes, count).is_none() {
+            return ExitCode::from(1);
+        }
+        if and_back_each(&rt, rt.alloc(), bytes, count).is_none() {
             return ExitCode::from(1);
         }
     }
@@ -42,74 +45,71 @@ fn letters(rt: &HostRuntime) -> u32 {
     }
 }
 
-/// Each trip over a lane, then over a ring alone, with letters of so many bytes. Nothing where one of them failed.
-fn measure<R: Runtime + Threads + Wait>(
+/// The trip one way over each carrier and each ring or queue alone, with letters of so many bytes. Nothing where one of them
+/// failed.
+fn there_each<R: Runtime + Threads + Wait + Copy + Send + 'static>(
     rt: &R,
     alloc: Global,
     bytes: usize,
     count: u32,
 ) -> Option<()> {
     let (zero, one) = over_lanes(alloc).ok()?;
-    tell(
-        rt,
-        "lane",
-        "one way",
-        bytes,
-        count,
-        there(rt, zero, one, bytes, count)?,
-    )?;
+    there(rt, "lane", zero, one, bytes, count)?;
     let (zero, one) = over_rings(alloc).ok()?;
-    tell(
-        rt,
-        "ring",
-        "one way",
-        bytes,
-        count,
-        there(rt, zero, one, bytes, count)?,
-    )?;
+    there(rt, "ring", zero, one, bytes, count)?;
+    let (zero, one) = over_shared(alloc).ok()?;
+    there(rt, "shared", zero, one, bytes, count)?;
+    let (zero, one) = over_queues(alloc).ok()?;
+    there(rt, "queue", zero, one, bytes, count)?;
+    Some(())
+}
+
+/// The trip there and back over each of them, with letters of so many bytes. Nothing where one of them
+/// failed.
+fn and_back_each<R: Runtime + Threads + Wait + Copy + Send + 'static>(
+    rt: &R,
+    alloc: Global,
+    bytes: usize,
+    count: u32,
+) -> Option<()> {
     let (zero, one) = over_lanes(alloc).ok()?;
-    tell(
-        rt,
-        "lane",
-        "there and back",
-        bytes,
-        count,
-        and_back(rt, zero, one, bytes, count)?,
-    )?;
+    and_back(rt, "lane", zero, one, bytes, count)?;
     let (zero, one) = over_rings(alloc).ok()?;
-    tell(
-        rt,
-        "ring",
-        "there and back",
-        bytes,
-        count,
-        and_back(rt, zero, one, bytes, count)?,
-    )
+    and_back(rt, "ring", zero, one, bytes, count)?;
+    let (zero, one) = over_shared(alloc).ok()?;
+    and_back(rt, "shared", zero, one, bytes, count)?;
+    let (zero, one) = over_queues(alloc).ok()?;
+    and_back(rt, "queue", zero, one, bytes, count)?;
+    Some(())
 }
 
-/// How long the letters took from one thread to the other.
-fn there<R: Clock + Threads + Wait, W: Way + Send + 'static>(
+/// Tells how long the letters took from one thread to the other.
+fn there<R: Runtime + Threads + Wait + Copy + Send + 'static, W: Way + Send + 'static>(
     rt: &R,
+    over: &str,
     zero: W,
     one: W,
     bytes: usize,
     count: u32,
-) -> Option<Duration> {
+) -> Option<()> {
     let item = letter(zero.me(), bytes).ok()?;
-    one_way(rt, zero, one, item, count).ok()?
+    let time = one_way(rt, zero, one, item, count).ok()??;
+    tell(rt, over, "one way", bytes, count, time)
 }
 
-/// How long the letters took to the other thread and back, one after the other.
-fn and_back<R: Clock + Threads + Wait, W: Way + Send + 'static>(
+/// Tells how long the letters took to the other thread and back, one after the other.
+fn and_back<R: Runtime + Threads + Wait + Copy + Send + 'static, W: Way + Send + 'static>(
     rt: &R,
+    over: &str,
     zero: W,
     one: W,
     bytes: usize,
     count: u32,
-) -> Option<Duration> {
+) -> Option<()> {
     let question = letter(zero.me(), bytes).ok()?;
     let answer = letter(one.me(), bytes).ok()?;
-    there_and_back(rt, zero, one, question, answer, count).ok()?
+    let time = there_and_back(rt, zero, one, question, answer, count).ok()??;
+    tell(rt, over, "there and back", bytes, count, time)
 }
 
 /// Prints what a trip's time says, in letters a second.

@@ -1,14 +1,15 @@
 //! The two ends of a way, and the letter that goes over it.
-ghost use Rattle.std.specs.Prelude.{◌≡◌, ℕ, vec_len, IfSome};
-ghost use Rattle.ulfm_carrier.specs.declared.lane_ends.LaneEnds.{LaneEnds as Lanes};
-ghost use Rattle.ulfm_carrier.specs.Family.{at};
-ghost use Rattle.ulfm_carrier.specs.Lanes.{AllReady, IsReady};
+ghost use Rattle.std.specs.Prelude.{IfSome, IfOk};
+ghost use Rattle.ulfm_carrier.specs.Family.{IsFresh};
+ghost use Rattle.ulfm_bench.specs.Pair.{AreOfTwo};
 
-use crate::way::{Lane, Rings};
+use crate::way::{Lane, Queues, Rings, Shared};
+use crossbeam_queue::ArrayQueue;
 use rtrb::RingBuffer;
 use std::alloc::Global;
+use std::sync::Arc;
 use ulfm_base::{Body, CallError, Context, Envelope, Item, Letter, Tag, WorldRank};
-use ulfm_carrier::{LaneEnds, lanes};
+use ulfm_carrier::{Ends, lanes, shared};
 
 /// The places of each ring.
 const CAPACITY: u8 = 64;
@@ -30,15 +31,29 @@ pub fn letter(source: WorldRank, bytes: usize) -> Result<Item, CallError> {
 }
 
 /// The last of these ends.
-fn last(ends: &mut Vec<LaneEnds>) -> Option<LaneEnds>
-    requires ready { AllReady ends.old.items }
-    requires outs { (k : ℕ) (e : Lanes) → at ends.old.items k e → vec_len e.outs ≡ 2 }
-    ensures ready { IfSome result (λ e. IsReady e) }
-    ensures outs { IfSome result (λ e. vec_len e.outs ≡ 2) }
-    ensures all_ready { AllReady ends.new.items }
-    ensures all_outs { (k : ℕ) (e : Lanes) → at ends.new.items k e → vec_len e.outs ≡ 2 }
+#[tactic(auto, using(crate::proofs::Last::of_last, crate::proofs::Last::of_others))]
+fn last<E: Ends>(ends: &mut Vec<E>) -> Option<E>
+    requires fresh { AreOfTwo E.count E.pushed E.taken E.ready ends.old.items }
+    ensures fresh { IfSome result (IsFresh E.count E.pushed E.taken E.ready 2) }
+    ensures others { AreOfTwo E.count E.pushed E.taken E.ready ends.new.items }
 {
     ends.pop()
+}
+
+/// The ends of two ranks, of these.
+///
+/// # Errors
+///
+/// `OutOfMemory` where there aren't two.
+fn both<E: Ends>(ends: Vec<E>) -> Result<(E, E), CallError>
+    requires fresh { AreOfTwo E.count E.pushed E.taken E.ready ends.items }
+    ensures { IfOk result (λ two. IsFresh E.count E.pushed E.taken E.ready 2 two.0 × IsFresh E.count E.pushed E.taken E.ready 2 two.1) }
+{
+    let mut ends = ends;
+    match (last(&mut ends), last(&mut ends)) {
+        (Some(one), Some(zero)) => Ok((zero, one)),
+        _ => Err(CallError::OutOfMemory),
+    }
 }
 
 /// The ends of two ranks over lanes.
@@ -47,11 +62,18 @@ fn last(ends: &mut Vec<LaneEnds>) -> Option<LaneEnds>
 ///
 /// `OutOfMemory` where a growth was refused.
 pub fn over_lanes(alloc: Global) -> Result<(Lane, Lane), CallError> {
-    let mut ends = lanes(alloc, 2, CAPACITY)?;
-    match (last(&mut ends), last(&mut ends)) {
-        (Some(one), Some(zero)) => Ok((Lane::new(zero, 1), Lane::new(one, 0))),
-        _ => Err(CallError::OutOfMemory),
-    }
+    let (zero, one) = both(lanes(alloc, 2, CAPACITY)?)?;
+    Ok((Lane::new(zero, 1), Lane::new(one, 0)))
+}
+
+/// The ends of two ranks over shared inboxes.
+///
+/// # Errors
+///
+/// `OutOfMemory` where a growth was refused.
+pub fn over_shared(alloc: Global) -> Result<(Shared, Shared), CallError> {
+    let (zero, one) = both(shared(alloc, 2, CAPACITY)?)?;
+    Ok((Shared::new(zero, 1), Shared::new(one, 0)))
 }
 
 /// The ends of two rings, one for each direction.
@@ -71,6 +93,27 @@ pub fn over_rings(alloc: Global) -> Result<(Rings, Rings), CallError> {
         me: WorldRank { number: 1 },
         out: back,
         inlet: arriving,
+    };
+    Ok((zero, one))
+}
+
+/// The ends of two queues, one for each direction.
+///
+/// # Errors
+///
+/// `OutOfMemory` where a growth was refused.
+pub fn over_queues(alloc: Global) -> Result<(Queues, Queues), CallError> {
+    let there = Arc::new(alloc, ArrayQueue::new(alloc, CAPACITY as usize)?)?;
+    let back = Arc::new(alloc, ArrayQueue::new(alloc, CAPACITY as usize)?)?;
+    let zero = Queues {
+        me: WorldRank { number: 0 },
+        out: Arc::try_clone(&there)?,
+        inlet: Arc::try_clone(&back)?,
+    };
+    let one = Queues {
+        me: WorldRank { number: 1 },
+        out: back,
+        inlet: there,
     };
     Ok((zero, one))
 }

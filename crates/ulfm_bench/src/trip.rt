@@ -10,10 +10,10 @@ use ulfm_base::Item;
 const TRIES: u64 = 1_000_000_000;
 
 /// Pushes an item, as often as it takes: whether it went out.
-fn push_one<W: Way>(way: &mut W, item: Item) -> bool {
+fn push_one<R: Wait, W: Way>(rt: &R, way: &mut W, item: Item) -> bool {
     let mut item = item;
     for _ in 0..TRIES {
-        match way.push(item) {
+        match way.push(rt, item) {
             Ok(()) => return true,
             Err(back) => item = back,
         }
@@ -23,9 +23,9 @@ fn push_one<W: Way>(way: &mut W, item: Item) -> bool {
 }
 
 /// Pops an item, as often as it takes: whether one came.
-fn pop_one<W: Way>(way: &mut W) -> bool {
+fn pop_one<R: Wait, W: Way>(rt: &R, way: &mut W) -> bool {
     for _ in 0..TRIES {
-        if way.pop().is_some() {
+        if way.pop(rt).is_some() {
             return true;
         }
         thread::yield_now();
@@ -34,9 +34,9 @@ fn pop_one<W: Way>(way: &mut W) -> bool {
 }
 
 /// Pushes so many copies of an item: whether each went out.
-fn push_all<W: Way>(way: &mut W, item: &Item, count: u32) -> bool {
+fn push_all<R: Wait, W: Way>(rt: &R, way: &mut W, item: &Item, count: u32) -> bool {
     for _ in 0..count {
-        if !push_one(way, *item) {
+        if !push_one(rt, way, *item) {
             return false;
         }
     }
@@ -44,9 +44,9 @@ fn push_all<W: Way>(way: &mut W, item: &Item, count: u32) -> bool {
 }
 
 /// Pops so many items: whether each came.
-fn pop_all<W: Way>(way: &mut W, count: u32) -> bool {
+fn pop_all<R: Wait, W: Way>(rt: &R, way: &mut W, count: u32) -> bool {
     for _ in 0..count {
-        if !pop_one(way) {
+        if !pop_one(rt, way) {
             return false;
         }
     }
@@ -54,9 +54,9 @@ fn pop_all<W: Way>(way: &mut W, count: u32) -> bool {
 }
 
 /// Sends so many items, each after the answer to the one before: whether each came back.
-fn ask_all<W: Way>(way: &mut W, item: &Item, count: u32) -> bool {
+fn ask_all<R: Wait, W: Way>(rt: &R, way: &mut W, item: &Item, count: u32) -> bool {
     for _ in 0..count {
-        if !push_one(way, *item) || !pop_one(way) {
+        if !push_one(rt, way, *item) || !pop_one(rt, way) {
             return false;
         }
     }
@@ -64,9 +64,9 @@ fn ask_all<W: Way>(way: &mut W, item: &Item, count: u32) -> bool {
 }
 
 /// Answers so many items: whether each went back.
-fn answer_all<W: Way>(way: &mut W, item: &Item, count: u32) -> bool {
+fn answer_all<R: Wait, W: Way>(rt: &R, way: &mut W, item: &Item, count: u32) -> bool {
     for _ in 0..count {
-        if !pop_one(way) || !push_one(way, *item) {
+        if !pop_one(rt, way) || !push_one(rt, way, *item) {
             return false;
         }
     }
@@ -78,7 +78,7 @@ fn answer_all<W: Way>(way: &mut W, item: &Item, count: u32) -> bool {
 /// # Errors
 ///
 /// Those of the clock, and of a thread that can't be started.
-pub fn one_way<R: Threads + Wait + Clock, W: Way + Send + 'static>(
+pub fn one_way<R: Threads + Wait + Clock + Copy + Send + 'static, W: Way + Send + 'static>(
     rt: &R,
     sender: W,
     receiver: W,
@@ -86,12 +86,13 @@ pub fn one_way<R: Threads + Wait + Clock, W: Way + Send + 'static>(
     count: u32,
 ) -> io::Result<Option<Duration>> {
     let mut receiver = receiver;
+    let theirs = *rt;
     let start = Instant::now(rt)?;
     let child = thread::spawn(rt, move || {
         let mut sender = sender;
-        push_all(&mut sender, &item, count)
+        push_all(&theirs, &mut sender, &item, count)
     })?;
-    let came = pop_all(&mut receiver, count);
+    let came = pop_all(rt, &mut receiver, count);
     let went = child.join(rt);
     let time = start.elapsed(rt)?;
     Ok(if came && went { Some(time) } else { None })
@@ -102,7 +103,7 @@ pub fn one_way<R: Threads + Wait + Clock, W: Way + Send + 'static>(
 /// # Errors
 ///
 /// Those of the clock, and of a thread that can't be started.
-pub fn there_and_back<R: Threads + Wait + Clock, W: Way + Send + 'static>(
+pub fn there_and_back<R: Threads + Wait + Clock + Copy + Send + 'static, W: Way + Send + 'static>(
     rt: &R,
     asker: W,
     answerer: W,
@@ -111,12 +112,13 @@ pub fn there_and_back<R: Threads + Wait + Clock, W: Way + Send + 'static>(
     count: u32,
 ) -> io::Result<Option<Duration>> {
     let mut asker = asker;
+    let theirs = *rt;
     let start = Instant::now(rt)?;
     let child = thread::spawn(rt, move || {
         let mut answerer = answerer;
-        answer_all(&mut answerer, &answer, count)
+        answer_all(&theirs, &mut answerer, &answer, count)
     })?;
-    let came = ask_all(&mut asker, &question, count);
+    let came = ask_all(rt, &mut asker, &question, count);
     let went = child.join(rt);
     let time = start.elapsed(rt)?;
     Ok(if came && went { Some(time) } else { None })

@@ -2,10 +2,13 @@
 ghost use Rattle.std.specs.Prelude.{◌<◌, vec_len, IsTrue};
 ghost use Rattle.ulfm_carrier.specs.Family.{ComesFrom};
 ghost use Rattle.ulfm_carrier.specs.Lanes.{IsReady};
+ghost use Rattle.ulfm_carrier.specs.Shared.{IsReady as IsReadyShared};
 
+use crossbeam_queue::ArrayQueue;
 use rtrb::{Consumer, Producer, PushError};
+use std::sync::{Arc, Wait};
 use ulfm_base::{Item, WorldRank};
-use ulfm_carrier::{Ends, LaneEnds};
+use ulfm_carrier::{Ends, LaneEnds, SharedEnds};
 
 /// What a thread holds of a way there and a way back.
 pub trait Way: Drop {
@@ -13,10 +16,10 @@ pub trait Way: Drop {
     fn me(&self) -> WorldRank;
 
     /// Pushes an item of this rank, and hands it back where there is no room.
-    fn push(&mut self, item: Item) -> Result<(), Item>;
+    fn push<R: Wait>(&mut self, rt: &R, item: Item) -> Result<(), Item>;
 
     /// Pops an item, if one is there.
-    fn pop(&mut self) -> Option<Item>;
+    fn pop<R: Wait>(&mut self, rt: &R) -> Option<Item>;
 }
 
 /// A rank's end of lanes of two ranks.
@@ -43,15 +46,52 @@ impl Way for Lane {
         self.end.me()
     }
 
-    fn push(&mut self, item: Item) -> Result<(), Item> {
+    fn push<R: Wait>(&mut self, rt: &R, item: Item) -> Result<(), Item> {
         if is_of(&item, self.end.me()) {
-            return self.end.push_now(self.other, item);
+            return self.end.push(rt, self.other, item);
         }
         Err(item)
     }
 
-    fn pop(&mut self) -> Option<Item> {
-        let (_, item) = self.end.pop_now()?;
+    fn pop<R: Wait>(&mut self, rt: &R) -> Option<Item> {
+        let (_, item) = self.end.pop(rt)?;
+        Some(item)
+    }
+}
+
+/// A rank's end of shared inboxes of two ranks.
+#[derive(Drop)]
+pub struct Shared {
+    end: SharedEnds,
+    other: u8,
+    ghost ready: { IsReadyShared end },
+    ghost inside: { other < vec_len end.outs },
+}
+
+impl Shared {
+    /// The end, by which items go to the other rank.
+    pub fn new(end: SharedEnds, other: u8) -> Shared
+        requires ready { IsReadyShared end }
+        requires inside { other < vec_len end.outs }
+    {
+        Shared { end, other }
+    }
+}
+
+impl Way for Shared {
+    fn me(&self) -> WorldRank {
+        self.end.me()
+    }
+
+    fn push<R: Wait>(&mut self, rt: &R, item: Item) -> Result<(), Item> {
+        if is_of(&item, self.end.me()) {
+            return self.end.push(rt, self.other, item);
+        }
+        Err(item)
+    }
+
+    fn pop<R: Wait>(&mut self, rt: &R) -> Option<Item> {
+        let (_, item) = self.end.pop(rt)?;
         Some(item)
     }
 }
@@ -69,15 +109,37 @@ impl Way for Rings {
         self.me
     }
 
-    fn push(&mut self, item: Item) -> Result<(), Item> {
+    fn push<R: Wait>(&mut self, _rt: &R, item: Item) -> Result<(), Item> {
         match self.out.push(item) {
             Ok(()) => Ok(()),
             Err(PushError::Full(back)) => Err(back),
         }
     }
 
-    fn pop(&mut self) -> Option<Item> {
+    fn pop<R: Wait>(&mut self, _rt: &R) -> Option<Item> {
         self.inlet.pop().ok()
+    }
+}
+
+/// Two queues of the kit, which their threads share, with nothing round them.
+#[derive(Drop)]
+pub struct Queues {
+    pub me: WorldRank,
+    pub out: Arc<ArrayQueue<Item>>,
+    pub inlet: Arc<ArrayQueue<Item>>,
+}
+
+impl Way for Queues {
+    fn me(&self) -> WorldRank {
+        self.me
+    }
+
+    fn push<R: Wait>(&mut self, rt: &R, item: Item) -> Result<(), Item> {
+        self.out.push(rt, item)
+    }
+
+    fn pop<R: Wait>(&mut self, rt: &R) -> Option<Item> {
+        self.inlet.pop(rt)
     }
 }
 
