@@ -57,7 +57,8 @@ Statuses: 0 done, 1 job refused, 2 usage, 3 run failed, 4 output failed, 5 input
 docs/JOBS.md has the format of jobs and traces, docs/RULES.md the rules that ranks obey.";
 
 /// What is said of a carrier that there isn't.
-const UNKNOWN_CARRIER: &str = "invalid value for '--carrier <CARRIER>'\n  [possible values: lanes, shared]";
+const UNKNOWN_CARRIER: &str =
+    "invalid value for '--carrier <CARRIER>'\n  [possible values: lanes, shared]";
 
 /// What the words ask for. An error is a wrong command line, or help that is asked for.
 pub fn wanted_of<S: AsStr>(alloc: Global, words: &[S]) -> Result<Wanted, Error>
