@@ -2,17 +2,18 @@
 use Rattle.std.proofs.Common.{◌≡◌, ◌<◌, ◌≤◌, ◌+◌, ℕ, suc, List, [], ◌∷◌, ◌++◌, Option, None, Some, length, get_or, refl, ap, sym, ◌∙◌, arith, subst, append_assoc, append-nil}
 use Rattle.std.proofs.lemmas.List.{nil_from_length, length-append}
 use Rattle.std.proofs.lemmas.Option.{slice_get-get_or, slice_get_within}
+use Rattle.std.specs.Prelude.{MatchOption, IfNone}
+use Rattle.crossbeam_queue.specs.Fifo.{Held}
+use Rattle.crossbeam_queue.specs.Passes.{view}
 use Rattle.ulfm_base.specs.declared.item.Item.{Item}
 use Rattle.ulfm_carrier.specs.declared.inbox.View.{View}
+use Rattle.ulfm_carrier.specs.declared.shared_ends.SharedEnds.{SharedEnds}
 use Rattle.ulfm_carrier.specs.Family.{at, items_from}
-use Rattle.ulfm_carrier.specs.Inbox.{Signed, after_take, after_all, ToldIsTakenAndHeld, ToldIsTaken, IsToldOfAll, AllBelow}
-use Rattle.ulfm_carrier.specs.Shared.{shown}
+use Rattle.ulfm_carrier.specs.Inbox.{Signed, after_take, after_all, ToldIsTakenAndHeld, ToldIsTaken, IsToldOfAll, AllBelow, EachIsTakenAndHeld}
+use Rattle.ulfm_carrier.specs.Shared.{shown, shared_taken, EachIsTakenAt}
 use Rattle.ulfm_carrier.proofs.Changed.{items_else}
 use Rattle.ulfm_carrier.proofs.Counts.{none_more}
 use Rattle.ulfm_carrier.proofs.Senders.{items-append}
-
-pub took_none : (v : View) (xs : List Signed) → xs ≡ [] → v ≡ after_all v xs
-took_none v xs none = (λ i. record v { taken = sym (append-nil v.taken) i }) ∙ ap (after_all v) (sym none)
 
 pub took_more : (v u w : View) (xs ys : List Signed) (x : Signed) → u ≡ after_all v xs → w ≡ after_take u x → ys ≡ xs ++ x ∷ [] → w ≡ after_all v ys
 took_more v u w xs ys x was is more = is ∙ ap (λ (y : View). after_take y x) was ∙ (λ i. record v { taken = append_assoc v.taken xs (x ∷ []) i }) ∙ ap (after_all v) (sym more)
@@ -52,3 +53,14 @@ pub told_left : (v w : View) (left : List Signed) (gathered : Option ℕ) → ga
 told_left v w left None live is all k x here =
     let now = subst ToldIsTaken is all in now k x.0 x.1 here ∙ items-append x.0 v.taken left
 told_left v w left (Some count) live is all k x here = absurd (cc)
+
+-- nothing is found where all that each sender pushed was taken
+pub nothing_found : (e : SharedEnds) (r : Option Signed) (A : Type 0) (B : Signed → Type 0) → e.gathered ≡ None → MatchOption r (A × Held 0 (EachIsTakenAndHeld (view e.inlet))) B → IfNone r (Held 0 (EachIsTakenAt e))
+nothing_found e (Some x) A B live h = tt
+nothing_found e None A B live h =
+    let held : List Signed = h.1.0 in
+    let step = h.1.2 in
+    let taken : List Signed = (view e.inlet).taken in
+    let none : taken ++ held ≡ taken = ap (λ l. taken ++ l) (nil_from_length held h.1.1) ∙ append-nil taken in
+    let shows : (p : ℕ) → items_from p taken ≡ shared_taken e p = λ p. ap (λ g. items_from p (shown g taken)) (sym live) in
+    (held, h.1.1, record { step = step; all_taken = λ p. step.flows p ∙ ap (items_from p) none ∙ shows p })

@@ -5,6 +5,7 @@ pub mod Done
 pub mod Drained
 pub mod Emptied
 pub mod Faces
+pub mod Fitting
 pub mod Frames
 pub mod Gathered
 pub mod Heard
@@ -15,6 +16,7 @@ pub mod Passes
 pub mod Places
 pub mod Ranks
 pub mod Rings
+pub mod Roles
 pub mod Rule
 pub mod Seated
 pub mod Seats

@@ -16,6 +16,9 @@ use Rattle.ulfm_carrier.proofs.Ranks.{source_back}
 pub same_outlet : (p q : Outlet) → SameProducer p q → outlet_name q ≡ outlet_name p
 same_outlet p q h = λ i. record { words = h.0.0 i; slots = h.0.1 i; names = h.0.2 i; heap = h.0.3 i }
 
+pub same_twice : (p q r : Outlet) → SameProducer p q → SameProducer q r → SameProducer p r
+same_twice p q r h k = ((k.0.0 ∙ h.0.0, k.0.1 ∙ h.0.1, k.0.2 ∙ h.0.2, k.0.3 ∙ h.0.3), k.1 ∙ h.1)
+
 pub outlet_names : (outs : List Outlet) (k : ℕ) (p q : Outlet) → p ≡ get_or outs k p → SameProducer p q → map outlet_name (set outs k q) ≡ map outlet_name outs
 outlet_names outs k p q here same = map-set_same outlet_name outs k q p (same_outlet p q same ∙ ap outlet_name here)
 

@@ -1,20 +1,25 @@
 -- Items with and without their source.
+use Rattle.std.proofs.Common.{arith}
 use Rattle.ulfm_base.specs.declared.rank.WorldRank.{WorldRank}
 use Rattle.ulfm_base.specs.declared.item.Item.{Item}
 use Rattle.ulfm_base.specs.declared.item.Item.TheVariants as item
 use Rattle.ulfm_carrier.specs.declared.carried.Carried.{Carried}
-use Rattle.ulfm_carrier.specs.declared.carried.Carried.TheVariants as carried
+
+-- the item with this source, where it has one
+abbrev pub signed_by : WorldRank → Item → Item
+signed_by source (item.Letter letter) = item.Letter (record letter { envelope = record letter.envelope { source = source } })
+signed_by source item.Gone = item.Gone
+signed_by source (item.Revoke context) = item.Revoke context
+signed_by source (item.Enter context known) = item.Enter context known
+
+-- the source that stands in an item without one
+abbrev pub blank : WorldRank
+blank = record { number = 0; in_range = omega arith }
 
 -- the item without its source
 abbrev pub carried_of : Item → Carried
-carried_of (item.Letter letter) = carried.Letter letter.envelope.context letter.envelope.tag letter.body
-carried_of item.Gone = carried.Gone
-carried_of (item.Revoke context) = carried.Revoke context
-carried_of (item.Enter context known) = carried.Enter context known
+carried_of item = record { item = signed_by blank item }
 
 -- the item that came from this rank
 abbrev pub item_of : WorldRank → Carried → Item
-item_of source (carried.Letter context tag body) = item.Letter (record { envelope = record { context = context; source = source; tag = tag }; body = body })
-item_of source carried.Gone = item.Gone
-item_of source (carried.Revoke context) = item.Revoke context
-item_of source (carried.Enter context known) = item.Enter context known
+item_of source carried = signed_by source carried.item

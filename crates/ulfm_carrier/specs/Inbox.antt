@@ -88,6 +88,18 @@ PushedIsTakenAndHeld v held = (taken : List Signed) × (v.pushed ≡ items_from 
 abbrev pub ToldIsTakenAndHeld : View → List Signed → Type 0
 ToldIsTakenAndHeld v held = (k p : ℕ) (l : List Item) → at v.told k (p, l) → l ≡ items_from p (v.taken ++ held)
 
+-- What the receiver, which knows v, learns of a step at which the inbox held these. The rule was met by what each pass
+-- knew then: what each sender had pushed is what the receiver took of it and then what is held of it.
+pub record EachIsTakenAndHeld (v : View) (held : List Signed) : Type 0 where
+  pub views : List View
+  pub rule : InboxRule held views
+  pub pass : ℕ
+  pub mine : get_elem? views pass ≡ some v
+  pub flows : (p : ℕ) → rule.pushed p ≡ items_from p (v.taken ++ held)
+  pub senders : (k : ℕ) (u : View) → get_elem? views k ≡ some u → u.role ≡ role.Sender → u.pushed ≡ rule.pushed u.from
+  pub no_others : (p : ℕ) → v.made ≤ p → rule.pushed p ≡ []
+  pub told : ToldIsTakenAndHeld v held
+
 -- all that closed senders pushed was taken
 abbrev pub ToldIsTaken : View → Type 0
 ToldIsTaken v = (k p : ℕ) (l : List Item) → at v.told k (p, l) → l ≡ items_from p v.taken

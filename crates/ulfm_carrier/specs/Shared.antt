@@ -10,7 +10,7 @@ use Rattle.ulfm_carrier.specs.declared.inbox.Role.TheVariants as role
 use Rattle.ulfm_carrier.specs.declared.shared_ends.SharedName.{SharedName}
 use Rattle.ulfm_carrier.specs.declared.shared_ends.SharedEnds.{SharedEnds}
 use Rattle.ulfm_carrier.specs.Family.{at, items_from}
-use Rattle.ulfm_carrier.specs.Inbox.{Signed, InboxPass, spent}
+use Rattle.ulfm_carrier.specs.Inbox.{Signed, InboxPass, spent, EachIsTakenAndHeld}
 
 -- a pass without what it knows
 abbrev pub pass_name : InboxPass → InboxPass
@@ -44,6 +44,11 @@ inbox_capacity e d = slice_index_or (map (λ inbox. ruled_capacity inbox) (arc_v
 -- What this end pushed to the rank d is what that rank took of it and then what its inbox holds of it.
 abbrev pub PushedIsTakenAndHeldAt : SharedEnds → ℕ → List Signed → Type 0
 PushedIsTakenAndHeldAt e d held = (taken : List Signed) × (shared_pushed e d ≡ items_from e.me.number (taken ++ held))
+
+-- At a step at which this end's inbox held these, what each sender had pushed to it is what was taken of it.
+pub record EachIsTakenAt (e : SharedEnds) (held : List Signed) : Type 0 where
+  pub step : EachIsTakenAndHeld (view e.inlet) held
+  pub all_taken : (p : ℕ) → step.rule.pushed p ≡ shared_taken e p
 
 -- an end with a pass for each inbox, of at most 8
 pub record HasPasses (e : SharedEnds) : Type 0 where

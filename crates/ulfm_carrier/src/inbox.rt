@@ -3,7 +3,7 @@ ghost use Rattle.std.specs.Prelude.{◌≡◌, ◌<◌, ◌≤◌, [], IfOk, Mat
 ghost use Rattle.crossbeam_queue.specs.Fifo.{Held};
 ghost use Rattle.crossbeam_queue.specs.Passes.{view, IsPassOf, IsSamePass, ruled_capacity};
 ghost use Rattle.ulfm_carrier.specs.Family.{ComesFrom};
-ghost use Rattle.ulfm_carrier.specs.Inbox.{Signed, receiver, sender, after_push, after_all, one_more, in_role, after_told, PushedIsTakenAndHeld, ToldIsTakenAndHeld, ToldIsTaken, Took, IsToldOfAll, AllBelow};
+ghost use Rattle.ulfm_carrier.specs.Inbox.{Signed, receiver, sender, after_push, after_all, one_more, in_role, after_told, PushedIsTakenAndHeld, EachIsTakenAndHeld, ToldIsTaken, Took, IsToldOfAll, AllBelow};
 ghost use Rattle.ulfm_carrier.specs.declared.inbox.Role.TheVariants as role;
 
 use crossbeam_queue::protocol::{Join, Lesson, Outcome, Protocol, Split};
@@ -77,9 +77,9 @@ impl Outcome<(WorldRank, Item), View> for Takes {
 }
 
 impl Lesson<(WorldRank, Item), View> for Takes {
-    ghost use Rattle.ulfm_carrier.specs.Inbox.{ToldIsTakenAndHeld};
+    ghost use Rattle.ulfm_carrier.specs.Inbox.{EachIsTakenAndHeld};
 
-    ghost fact = { ToldIsTakenAndHeld };
+    ghost fact = { EachIsTakenAndHeld };
 }
 
 struct Makes;
@@ -150,7 +150,8 @@ pub(crate) fn send<R: Wait>(
     }
 }
 
-/// Takes the oldest item. None is found only where at one step of the call the inbox was empty.
+/// Takes the oldest item. None is found only where at one step of the call the inbox was empty, so that all that each
+/// sender had pushed was taken.
 pub(crate) fn receive<R: Wait>(
     rt: &R,
     inbox: &Inbox,
@@ -158,7 +159,7 @@ pub(crate) fn receive<R: Wait>(
 ) -> Option<(WorldRank, Item)>
     requires { IsPassOf inbox.now inlet.old × ((view inlet.old).role ≡ role.Receiver) }
     ensures inlet { IsSamePass inlet.old inlet.new }
-    ensures taken { MatchOption result ((view inlet.new ≡ view inlet.old) × Held 0 (ToldIsTakenAndHeld (view inlet.old)))
+    ensures taken { MatchOption result ((view inlet.new ≡ view inlet.old) × Held 0 (EachIsTakenAndHeld (view inlet.old)))
         (λ found. Took (view inlet.old) found (view inlet.new)) }
 {
     inbox.pop_as::<Takes, R>(rt, inlet)

@@ -1,5 +1,5 @@
 //! The receiver's end of the ring from one rank.
-ghost use Rattle.std.specs.Prelude.{◌≡◌, ◌+◌, ◌≤◌, ◌++◌, ◌∷◌, [], List, None, map, vec_len, vec_capacity, MatchOption, IfNone};
+ghost use Rattle.std.specs.Prelude.{◌≡◌, ◌+◌, ◌<◌, ◌≤◌, ◌++◌, ◌∷◌, ◌↔◌, [], List, None, length, map, vec_len, vec_capacity, IsTrue};
 ghost use Rattle.rtrb.specs.Ring.{sent, received, IsPair, consumer_capacity};
 ghost use Rattle.ulfm_base.specs.declared.item.Item.{Item as Sent};
 
@@ -34,16 +34,25 @@ impl Inlet {
         }
     }
 
-    /// Takes the next item, if one is found.
-    pub(crate) fn pop(&mut self) -> Option<Item>
-        requires { self.old.gathered ≡ None }
+    /// Whether an item is found. It stays in the ring.
+    pub(crate) fn has_item(&mut self) -> bool
+        ensures name { (inlet_name self.new ≡ inlet_name self.old) × (inlet_capacity self.new ≡ inlet_capacity self.old) }
+        ensures same { (self.new.source ≡ self.old.source) × (self.new.gathered ≡ self.old.gathered) × (taken_by self.new ≡ taken_by self.old) }
+        ensures found { IsTrue result ↔ (0 < length (seen_in self.new)) }
+    {
+        !self.ring.is_empty()
+    }
+
+    /// Takes the item that was found.
+    pub(crate) fn take(&mut self) -> Item
+        requires live { self.old.gathered ≡ None }
+        requires found { 0 < length (seen_in self.old) }
         ensures name { (inlet_name self.new ≡ inlet_name self.old) × (inlet_capacity self.new ≡ inlet_capacity self.old) }
         ensures same { (self.new.source ≡ self.old.source) × (self.new.gathered ≡ None) }
-        ensures nothing_seen { IfNone result (seen_in self.new ≡ []) }
-        ensures taken { MatchOption result (taken_by self.new ≡ taken_by self.old) (λ item. ComesFrom self.old.source.number item × (taken_by self.new ≡ taken_by self.old ++ item ∷ [])) }
+        ensures taken { ComesFrom self.old.source.number result × (taken_by self.new ≡ taken_by self.old ++ result ∷ []) }
     {
-        let carried = self.ring.pop().ok()?;
-        Some(carried.from(self.source))
+        let carried = self.ring.pop_known();
+        carried.from(self.source)
     }
 
     /// Takes all that is in the ring, whose other end is this one, and puts it behind what is left.

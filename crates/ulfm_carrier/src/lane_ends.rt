@@ -1,5 +1,5 @@
 //! A rank's ends of the rings to and from each rank.
-ghost use Rattle.std.specs.Prelude.{◌≡◌, ◌≢◌, ◌<◌, ◌≤◌, ◌+◌, ◌++◌, [], ◌∷◌, ℕ, None, vec_len, MatchResult, MatchOption, OnOk, OnErr, IsOk, IfNone, IfSome};
+ghost use Rattle.std.specs.Prelude.{◌≡◌, ◌≢◌, ◌<◌, ◌≤◌, ◌+◌, ◌++◌, ◌↔◌, [], ◌∷◌, ℕ, None, length, vec_len, IsTrue, MatchResult, MatchOption, OnOk, OnErr, IsOk, IfNone, IfSome};
 
 use crate::carried::Carried;
 use crate::ends::Ends;
@@ -68,10 +68,11 @@ impl LaneEnds {
         ensures inbox { (self.new.ins ≡ self.old.ins) × (self.new.next ≡ self.old.next) }
     {
         let out = &mut self.outs[dest as usize];
-        match out.push(Carried::of(&item)) {
-            Ok(()) => Ok(()),
-            Err(_) => Err(item),
+        if out.is_full() {
+            return Err(item);
         }
+        out.push_reserved(Carried::of(item));
+        Ok(())
     }
 
     /// `pop`, which waits for nobody and takes no memory. It looks at the ranks upwards and round, from the one after the
@@ -92,28 +93,42 @@ impl LaneEnds {
         let start = self.next;
         for step in 0..count {
             let peer = ((start as u16 + step as u16) % count as u16) as u8;
-            let Some(item) = self.pop_from(peer) else {
+            if !self.has_item_from(peer) {
                 continue;
-            };
+            }
             self.next = peer + 1;
+            let item = self.take_from(peer);
             return Some((WorldRank { number: peer }, item));
         }
         None
     }
 
-    /// Pops from the ring of one rank.
-    fn pop_from(&mut self, peer: u8) -> Option<Item>
+    /// Whether an item is found in the ring from one rank. It stays there.
+    fn has_item_from(&mut self, peer: u8) -> bool
         requires ready { IsReady self.old }
         requires peer { peer < vec_len self.old.outs }
         ensures name { (lane_name self.new ≡ lane_name self.old) × (self.new.me ≡ self.old.me) × (self.new.outs ≡ self.old.outs) × IsReady self.new }
         ensures next { self.new.next ≡ self.old.next }
-        ensures nothing_seen { IfNone result (seen_from self.new peer ≡ []) }
+        ensures found { IsTrue result ↔ (0 < length (seen_from self.new peer)) }
         ensures others_seen { (p : ℕ) → p ≢ peer → seen_from self.new p ≡ seen_from self.old p }
-        ensures others { (p : ℕ) → p ≢ peer → lane_taken self.new p ≡ lane_taken self.old p }
-        ensures taken { MatchOption result (lane_taken self.new peer ≡ lane_taken self.old peer) (λ item. ComesFrom peer item × (lane_taken self.new peer ≡ lane_taken self.old peer ++ item ∷ [])) }
+        ensures taken { (p : ℕ) → lane_taken self.new p ≡ lane_taken self.old p }
     {
         let inlet = &mut self.ins[peer as usize];
-        inlet.pop()
+        inlet.has_item()
+    }
+    /// Takes the item that was found in the ring from one rank.
+    fn take_from(&mut self, peer: u8) -> Item
+        requires ready { IsReady self.old }
+        requires peer { peer < vec_len self.old.outs }
+        requires found { 0 < length (seen_from self.old peer) }
+        ensures name { (lane_name self.new ≡ lane_name self.old) × (self.new.me ≡ self.old.me) × (self.new.outs ≡ self.old.outs) × IsReady self.new }
+        ensures next { self.new.next ≡ self.old.next }
+        ensures others_seen { (p : ℕ) → p ≢ peer → seen_from self.new p ≡ seen_from self.old p }
+        ensures others { (p : ℕ) → p ≢ peer → lane_taken self.new p ≡ lane_taken self.old p }
+        ensures taken { ComesFrom peer result × (lane_taken self.new peer ≡ lane_taken self.old peer ++ result ∷ []) }
+    {
+        let inlet = &mut self.ins[peer as usize];
+        inlet.take()
     }
 }
 
@@ -153,6 +168,8 @@ impl Ends for LaneEnds {
         ensures pushed { MatchResult result (λ _. lane_pushed self.new dest ≡ lane_pushed self.old dest ++ item ∷ []) (λ back. (back ≡ item) × (lane_pushed self.new dest ≡ lane_pushed self.old dest)) }
         ensures full { OnErr result (known_room self.new dest ≡ 0) }
         ensures succeeds { 0 < known_room self.old dest → IsOk result }
+        ensures one_place { OnOk result (known_room self.old dest ≤ known_room self.new dest + 1) }
+        ensures other_rooms { (p : ℕ) → p ≢ dest → known_room self.new p ≡ known_room self.old p }
         ensures inbox { (self.new.ins ≡ self.old.ins) × (self.new.next ≡ self.old.next) }
     {
         self.push_now(dest, item)
@@ -169,6 +186,7 @@ impl Ends for LaneEnds {
         ensures nothing_seen { IfNone result ((p : ℕ) → seen_from self.new p ≡ []) }
         ensures in_turn { IfSome result (λ found. IsFoundInTurn self.old self.new found.0.number) }
         ensures same_turn { IfNone result (self.new.next ≡ self.old.next) }
+        ensures outs { self.new.outs ≡ self.old.outs }
     {
         self.pop_now()
     }

@@ -39,10 +39,8 @@ pub struct SharedEnds {
 impl Ends for SharedEnds {
     ghost use Rattle.std.specs.Prelude.{◌≡◌, ◌≢◌, ◌<◌, ◌++◌, ◌∷◌, [], ℕ, map, vec_len, MatchResult, MatchOption, OnErr, IfNone};
     ghost use Rattle.crossbeam_queue.specs.Fifo.{Held};
-    ghost use Rattle.crossbeam_queue.specs.Passes.{view};
     ghost use Rattle.ulfm_carrier.specs.Family.{at, ComesFrom, Keeps, Settled};
-    ghost use Rattle.ulfm_carrier.specs.Inbox.{ToldIsTakenAndHeld};
-    ghost use Rattle.ulfm_carrier.specs.Shared.{shared_name, shared_pushed, shared_taken, inbox_capacity, PushedIsTakenAndHeldAt, IsReady, OneCall};
+    ghost use Rattle.ulfm_carrier.specs.Shared.{shared_name, shared_pushed, shared_taken, inbox_capacity, PushedIsTakenAndHeldAt, EachIsTakenAt, IsReady, OneCall};
 
     type Name = SharedName;
 
@@ -82,7 +80,7 @@ impl Ends for SharedEnds {
     }
 
     // The clauses of the trait and, beside them, that nothing is found only where at one step of the call the inbox held
-    // nothing.
+    // nothing, so that all that each sender had pushed was taken.
     fn pop<R: Wait>(&mut self, rt: &R) -> Option<(WorldRank, Item)>
         requires ready { IsReady self.old }
         ensures name { (shared_name self.new ≡ shared_name self.old) × (self.new.me.number ≡ self.old.me.number) × (vec_len self.new.outs ≡ vec_len self.old.outs) × IsReady self.new }
@@ -90,7 +88,7 @@ impl Ends for SharedEnds {
         ensures sender { MatchOption result (Unit {0}) (λ found. (found.0.number < vec_len self.old.outs) × ComesFrom found.0.number found.1) }
         ensures taken { MatchOption result ((p : ℕ) → shared_taken self.new p ≡ shared_taken self.old p)
             (λ found. (shared_taken self.new found.0.number ≡ shared_taken self.old found.0.number ++ found.1 ∷ []) × ((p : ℕ) → p ≢ found.0.number → shared_taken self.new p ≡ shared_taken self.old p)) }
-        ensures nothing_held { IfNone result (Held 0 (ToldIsTakenAndHeld (view self.old.inlet))) }
+        ensures nothing_held { IfNone result (Held 0 (EachIsTakenAt self.old)) }
         ensures inboxes { self.new.inboxes ≡ self.old.inboxes }
     {
         let inbox: &Inbox = &self.inboxes[self.me.number as usize];

@@ -49,6 +49,40 @@ fn pop<R: Wait>(rt: &R, ends: &mut Vec<SharedEnds>) -> Option<(u8, Option<u8>)>
     found.map(|(source, item)| (source.number, byte_of(&item)))
 }
 
+// Ranks 0 and 1 push so many letters by turns: whether each was accepted.
+fn accepts_all<R: Wait>(rt: &R, ends: &mut Vec<SharedEnds>, count: u8) -> Result<bool, CallError>
+    requires dest { 1 < vec_len ends.old }
+    requires family { OneCall (map shared_name ends.old.items) }
+    requires ready { AllReady ends.old.items }
+    ensures len { vec_len ends.new ≡ vec_len ends.old }
+    ensures family { OneCall (map shared_name ends.new.items) }
+    ensures ready { AllReady ends.new.items }
+{
+    for byte in 0..count {
+        if push(rt, ends, byte % 2, byte)?.is_some() {
+            return Ok(false);
+        }
+    }
+    Ok(true)
+}
+
+// Rank 1 pops: whether it finds those letters, in their order, and no more.
+fn finds_all<R: Wait>(rt: &R, ends: &mut Vec<SharedEnds>, count: u8) -> bool
+    requires place { 1 < vec_len ends.old }
+    requires family { OneCall (map shared_name ends.old.items) }
+    requires ready { AllReady ends.old.items }
+    ensures len { vec_len ends.new ≡ vec_len ends.old }
+    ensures family { OneCall (map shared_name ends.new.items) }
+    ensures ready { AllReady ends.new.items }
+{
+    for byte in 0..count {
+        if pop(rt, ends) != Some((byte % 2, Some(byte))) {
+            return false;
+        }
+    }
+    pop(rt, ends).is_none()
+}
+
 // A thread may own it.
 fn crosses<T: Send + Drop + 'static>(_end: T) {}
 
@@ -71,4 +105,26 @@ fn shared_ends_for_threads(rt: HostRuntime) -> Result<(), Fail> {
     let end = ends.pop().ok_or("no end")?;
     crosses(end);
     Ok(())
+}
+
+#[test]
+fn inboxes_of_their_capacity(rt: HostRuntime) -> Result<(), Fail> {
+    for capacity in [1, 2, 64] {
+        let mut ends = shared(rt.alloc(), 2, capacity)?;
+        assert!(rt; accepts_all(&rt, &mut ends, capacity)?);
+        assert_eq!(rt; push(&rt, &mut ends, 0, b'A')?, Some(b'A'));
+        assert_eq!(rt; push(&rt, &mut ends, 1, b'B')?, Some(b'B'));
+        assert!(rt; finds_all(&rt, &mut ends, capacity));
+    }
+    Ok(())
+}
+
+#[test]
+fn shared_sizes_in_range(rt: HostRuntime) {
+    for (n, capacity) in [(0, 1), (9, 1), (1, 0), (1, 65), (0, 65)] {
+        assert!(rt; matches!(shared(rt.alloc(), n, capacity), Err(CallError::BadSize)));
+    }
+    for (n, capacity) in [(1, 1), (8, 64)] {
+        assert!(rt; shared(rt.alloc(), n, capacity).is_ok());
+    }
 }

@@ -1,4 +1,4 @@
-use Rattle.ulfm_carrier.proofs.Rule.{closes}
+use Rattle.ulfm_carrier.proofs.Roles.{closes}
 use Rattle.ulfm_carrier.proofs.inbox.close.Goals as goal
 
 pub another-requires-clause-rule : goal.another-requires-clause-rule

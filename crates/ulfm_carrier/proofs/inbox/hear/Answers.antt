@@ -1,4 +1,4 @@
-use Rattle.ulfm_carrier.proofs.Rule.{hears}
+use Rattle.ulfm_carrier.proofs.Roles.{hears}
 use Rattle.ulfm_carrier.proofs.inbox.hear.Goals as goal
 
 pub absorb-requires-clause-rule : goal.absorb-requires-clause-rule

@@ -1,4 +1,4 @@
-use Rattle.ulfm_carrier.proofs.Rule.{makes}
+use Rattle.ulfm_carrier.proofs.Roles.{makes}
 use Rattle.ulfm_carrier.proofs.inbox.next_sender.Goals as goal
 
 pub another-requires-clause-rule : goal.another-requires-clause-rule

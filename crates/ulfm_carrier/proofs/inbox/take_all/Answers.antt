@@ -37,6 +37,6 @@ returns-clause-all g c =
     let same : v ≡ old = c.len_as-count.ensures.queue.1 in
     let rule = c.len_as-count.ensures.rule.1 in
     let told : IsToldOfAll v = subst IsToldOfAll (sym same) c.requires.told in
-    let before : ToldIsTakenAndHeld v rule.0 = subst (λ (u : View). ToldIsTakenAndHeld u rule.0) (sym same) rule.2 in
+    let before : ToldIsTakenAndHeld v rule.0 = subst (λ (u : View). ToldIsTakenAndHeld u rule.0) (sym same) rule.2.told in
     let many : length rule.0 ≡ length c.loop.left.items = omega (arith, rule.1, kept.many, c.loop.left.ok, c.loop-test.false, c.loop.auto) in
     emptied v (view c.loop.inlet) c.loop.left.items rule.0 kept.held.0 kept.taken told kept.senders many before kept.held.1

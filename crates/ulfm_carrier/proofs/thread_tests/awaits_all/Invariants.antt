@@ -1,5 +1,4 @@
-use Rattle.ulfm_carrier.specs.Lanes.{IsReady}
 use Rattle.ulfm_carrier.proofs.thread_tests.awaits_all.Given as goal
 
 abbrev pub invariant-loop-byte : goal.invariant-loop-byte
-invariant-loop-byte l = IsReady l.end
+invariant-loop-byte g l = g.E.Ends.ready l.end

@@ -1,6 +1,5 @@
-use Rattle.std.proofs.Common.{◌<◌, vec_len}
-use Rattle.ulfm_carrier.specs.Lanes.{IsReady}
+use Rattle.std.proofs.Common.{◌<◌}
 use Rattle.ulfm_carrier.proofs.thread_tests.delivers_all.Given as goal
 
 abbrev pub invariant-loop-byte : goal.invariant-loop-byte
-invariant-loop-byte l = record { ready : IsReady l.end; dest : 1 < vec_len l.end.outs }
+invariant-loop-byte g l = record { ready : g.E.Ends.ready l.end; dest : 1 < g.E.Ends.count l.end }

@@ -1,4 +1,4 @@
-use Rattle.std.proofs.Common.{◌≡◌, ◌≢◌, ◌+◌, ◌%◌, length, refl, ap, sym, ◌∙◌, arith}
+use Rattle.std.proofs.Common.{◌≡◌, ◌≢◌, ◌+◌, ◌%◌, length, ap, sym, ◌∙◌, arith}
 use Rattle.ulfm_carrier.specs.Lanes.{seen_from}
 use Rattle.ulfm_carrier.proofs.Turns.{turns_apart, none_seen}
 use Rattle.ulfm_carrier.proofs.lane_ends.LaneEnds.pop_now.Goals as goal
@@ -11,9 +11,11 @@ returns-in-loop-step-clause-in_turn c =
       passed = c.loop-step.step;
       turn = ap (λ n. (e.next + c.loop-step.step) % n) many;
       nothing_seen = λ j low.
-          let apart : (e.next + j) % count ≢ (e.next + c.loop-step.step) % count = turns_apart e.next j c.loop-step.step count low c.loop-step-test.true in
-          ap (λ n. seen_from c.pop_from.new.self ((e.next + j) % n)) (sym many) ∙ c.pop_from.ensures.others_seen ((e.next + j) % count) apart ∙ c.loop-step.invariant.nothing_seen j low;
-      next = refl;
+          let place = (e.next + j) % count in
+          let apart : place ≢ (e.next + c.loop-step.step) % count = turns_apart e.next j c.loop-step.step count low c.loop-step-test.true in
+          ap (λ n. seen_from c.take_from-item.new.self ((e.next + j) % n)) (sym many) ∙ c.take_from-item.ensures.others_seen place apart ∙ c.has_item_from.ensures.others_seen place apart
+          ∙ c.loop-step.invariant.nothing_seen j low;
+      next = c.take_from-item.ensures.next;
     }
 
 pub returns-clause-nothing_seen : goal.returns-clause-nothing_seen
