@@ -9,23 +9,21 @@ use ulfm_base::Item;
 /// How often an end tries again where there is no room, or nothing to pop.
 const TRIES: u64 = 1_000_000_000;
 
-/// Pushes an item, as often as it takes: whether it went out.
-fn push_one<R: Wait, W: Way>(rt: &R, way: &mut W, item: Item) -> bool {
-    let mut item = item;
+/// Pushes a copy of an item, as often as it takes: whether it went out.
+fn push_one<R: Wait, W: Way>(rt: &R, way: &mut W, item: &Item) -> bool {
     for _ in 0..TRIES {
-        match way.push(rt, item) {
-            Ok(()) => return true,
-            Err(back) => item = back,
+        if way.push(rt, item) {
+            return true;
         }
         thread::yield_now();
     }
     false
 }
 
-/// Pops an item, as often as it takes: whether one came.
-fn pop_one<R: Wait, W: Way>(rt: &R, way: &mut W) -> bool {
+/// Pops an item to the place of another, as often as it takes: whether one came.
+fn pop_one<R: Wait, W: Way>(rt: &R, way: &mut W, place: &mut Item) -> bool {
     for _ in 0..TRIES {
-        if way.pop(rt).is_some() {
+        if way.pop(rt, place) {
             return true;
         }
         thread::yield_now();
@@ -36,17 +34,17 @@ fn pop_one<R: Wait, W: Way>(rt: &R, way: &mut W) -> bool {
 /// Pushes so many copies of an item: whether each went out.
 fn push_all<R: Wait, W: Way>(rt: &R, way: &mut W, item: &Item, count: u32) -> bool {
     for _ in 0..count {
-        if !push_one(rt, way, *item) {
+        if !push_one(rt, way, item) {
             return false;
         }
     }
     true
 }
 
-/// Pops so many items: whether each came.
-fn pop_all<R: Wait, W: Way>(rt: &R, way: &mut W, count: u32) -> bool {
+/// Pops so many items to one place, each in place of the one before: whether each came.
+fn pop_all<R: Wait, W: Way>(rt: &R, way: &mut W, place: &mut Item, count: u32) -> bool {
     for _ in 0..count {
-        if !pop_one(rt, way) {
+        if !pop_one(rt, way, place) {
             return false;
         }
     }
@@ -54,9 +52,15 @@ fn pop_all<R: Wait, W: Way>(rt: &R, way: &mut W, count: u32) -> bool {
 }
 
 /// Sends so many items, each after the answer to the one before: whether each came back.
-fn ask_all<R: Wait, W: Way>(rt: &R, way: &mut W, item: &Item, count: u32) -> bool {
+fn ask_all<R: Wait, W: Way>(
+    rt: &R,
+    way: &mut W,
+    item: &Item,
+    place: &mut Item,
+    count: u32,
+) -> bool {
     for _ in 0..count {
-        if !push_one(rt, way, *item) || !pop_one(rt, way) {
+        if !push_one(rt, way, item) || !pop_one(rt, way, place) {
             return false;
         }
     }
@@ -64,9 +68,15 @@ fn ask_all<R: Wait, W: Way>(rt: &R, way: &mut W, item: &Item, count: u32) -> boo
 }
 
 /// Answers so many items: whether each went back.
-fn answer_all<R: Wait, W: Way>(rt: &R, way: &mut W, item: &Item, count: u32) -> bool {
+fn answer_all<R: Wait, W: Way>(
+    rt: &R,
+    way: &mut W,
+    item: &Item,
+    place: &mut Item,
+    count: u32,
+) -> bool {
     for _ in 0..count {
-        if !pop_one(rt, way) || !push_one(rt, way, *item) {
+        if !pop_one(rt, way, place) || !push_one(rt, way, item) {
             return false;
         }
     }
@@ -86,13 +96,14 @@ pub fn one_way<R: Threads + Wait + Clock + Copy + Send + 'static, W: Way + Send 
     count: u32,
 ) -> io::Result<Option<Duration>> {
     let mut receiver = receiver;
+    let mut place = item;
     let theirs = *rt;
     let start = Instant::now(rt)?;
     let child = thread::spawn(rt, move || {
         let mut sender = sender;
         push_all(&theirs, &mut sender, &item, count)
     })?;
-    let came = pop_all(rt, &mut receiver, count);
+    let came = pop_all(rt, &mut receiver, &mut place, count);
     let went = child.join(rt);
     let time = start.elapsed(rt)?;
     Ok(if came && went { Some(time) } else { None })
@@ -112,13 +123,15 @@ pub fn there_and_back<R: Threads + Wait + Clock + Copy + Send + 'static, W: Way 
     count: u32,
 ) -> io::Result<Option<Duration>> {
     let mut asker = asker;
+    let mut place = question;
     let theirs = *rt;
     let start = Instant::now(rt)?;
     let child = thread::spawn(rt, move || {
         let mut answerer = answerer;
-        answer_all(&theirs, &mut answerer, &answer, count)
+        let mut place = answer;
+        answer_all(&theirs, &mut answerer, &answer, &mut place, count)
     })?;
-    let came = ask_all(rt, &mut asker, &question, count);
+    let came = ask_all(rt, &mut asker, &question, &mut place, count);
     let went = child.join(rt);
     let time = start.elapsed(rt)?;
     Ok(if came && went { Some(time) } else { None })
