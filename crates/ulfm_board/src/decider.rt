@@ -16,11 +16,13 @@ pub trait Decider: Drop {
     /// By the number of a context, the decision that it knows of its shrink, if it knows one.
     ghost known: { Self → List (Option Decided) };
 
-    /// Hands a decision in, and answers the one that its cell holds from now on: this one, if it is the first.
+    /// Hands a decision in, and answers the one that it knows of this shrink from now on: the one that it knew, else, if it
+    /// shares no cell, this one. That one which shares its cells answers the first that was handed in at them is held by
+    /// tests alone.
     ///
     /// # Errors
     ///
-    /// `OutOfMemory` where its cells are shared, the cell was found empty, and a growth was refused.
+    /// `OutOfMemory` where its cells are shared, it knew no decision of this shrink, and a growth was refused.
     fn decide(&mut self, decision: Decision) -> Result<Decision, OutOfMemory>
         ensures board { board self.new ≡ board self.old }
         ensures answers { IfOk result (λ held. Answers (board self.old) (known self.old) decision held (known self.new)) }

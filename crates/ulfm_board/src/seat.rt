@@ -26,7 +26,7 @@ pub struct Seat {
     ghost tied: { note_names notes.items ≡ cell_names (arc_value cells).items },
 }
 
-/// As many seats, 1 to 8, of one new board on which nothing is decided.
+/// As many seats, 1 to 8, of one new board. None knows a decision; that the board holds none is held by tests alone.
 ///
 /// # Errors
 ///

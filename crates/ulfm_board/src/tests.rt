@@ -1,9 +1,10 @@
 //! Worked examples.
-ghost use Rattle.std.specs.Prelude.{◌≡◌, ◌<◌};
+ghost use Rattle.std.specs.Prelude.{◌≡◌, ◌<◌, ◌≤◌};
 ghost use Rattle.ulfm_base.specs.Context.{shrink_of};
 
 use crate::{Decider, MemoryBoard, Seat, seats};
 use std::alloc::Global;
+use std::ops::Range;
 use std::test::Fail;
 use std::thread;
 use ulfm_base::{CallError, Context, Decision, Group};
@@ -39,6 +40,31 @@ fn answers_the_first<D: Decider>(one: &mut D, other: &mut D, alloc: Global) -> R
     Ok(mine.is_same(&first) && theirs.is_same(&first) && again.is_same(&first))
 }
 
+// Whether a decider answers, in each of these turns, the first decision of the turn's context, where this one is handed in, or
+// another of 8 ranks. The turns go from context 0 upwards, or from context 30 downwards.
+fn answers_each<D: Decider>(
+    decider: &mut D,
+    turns: Range<u8>,
+    upwards: bool,
+    is_first: bool,
+    alloc: Global,
+) -> Result<bool, Fail>
+    requires { turns.end ≤ 31 }
+    ensures { D.board decider.new ≡ D.board decider.old }
+{
+    for turn in turns.start..turns.end {
+        let number = if upwards { turn } else { 30 - turn };
+        let context = Context { number };
+        let first = none_left(alloc, context, 1 + number % 7)?;
+        let second = none_left(alloc, context, 8)?;
+        let handed_in = if is_first { first.copied() } else { second };
+        if !decider.decide(handed_in)?.is_same(&first) {
+            return Ok(false);
+        }
+    }
+    Ok(true)
+}
+
 fn crosses<T: Send + Drop + 'static>(_it: T) {}
 
 #[test]
@@ -52,6 +78,26 @@ fn seats_of_one_board(rt: HostRuntime) -> Result<(), Fail> {
     let third = none_left(rt.alloc(), SHRUNK, 3)?;
     assert!(rt; other.decide(third.copied())?.is_same(&third));
     crosses(one);
+    Ok(())
+}
+
+#[test]
+fn each_context_has_its_own_cell(rt: HostRuntime) -> Result<(), Fail> {
+    let alloc = rt.alloc();
+    for upwards in [true, false] {
+        let mut all = seats(alloc, 2)?;
+        let (Some(mut one), Some(mut other)) = (all.pop(), all.pop()) else {
+            return Err(Fail::new("no seats"));
+        };
+        assert!(rt; answers_each(&mut one, 0..16, upwards, true, alloc)?);
+        assert!(rt; answers_each(&mut other, 16..31, upwards, true, alloc)?);
+        assert!(rt; answers_each(&mut one, 0..31, upwards, false, alloc)?);
+        assert!(rt; answers_each(&mut other, 0..31, upwards, false, alloc)?);
+        one.same(&mut other);
+        let mut board = MemoryBoard::new(alloc)?;
+        assert!(rt; answers_each(&mut board, 0..31, upwards, true, alloc)?);
+        assert!(rt; answers_each(&mut board, 0..31, upwards, false, alloc)?);
+    }
     Ok(())
 }
 
