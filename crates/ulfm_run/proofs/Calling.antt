@@ -1,5 +1,5 @@
 -- What a poll by a call makes of a player whose answers are right.
-use Rattle.std.proofs.Common.{◌≡◌, ℕ, ◌+◌, ◌-◌, ◌^◌, ◌<◌, min, true, false, List, [], ◌∷◌, ◌++◌, length, refl, ap, sym, subst, ◌∙◌, arith, inl, inr, length-append, MatchOption}
+use Rattle.std.proofs.Common.{◌≡◌, ℕ, ◌+◌, ◌-◌, ◌^◌, ◌<◌, min, false, List, [], ◌∷◌, ◌++◌, length, refl, ap, sym, subst, ◌∙◌, arith, inl, inr, length-append, MatchOption}
 use Rattle.std.specs.Prelude.{Option, Some, None, slice_get}
 use Rattle.std.proofs.lemmas.Bool.{false≢true}
 use Rattle.std.proofs.lemmas.Option.{same_Some}
@@ -12,7 +12,7 @@ use Rattle.ulfm_script.specs.declared.step.Step.TheVariants.{Wait, Shrink}
 use Rattle.ulfm_script.specs.Deciding.{Known, Proposes}
 use Rattle.ulfm_script.specs.Job.{is_stop_step}
 use Rattle.ulfm_script.specs.Player.{Player, IsCalled, PollAnswers, IsOpen, StaysOpen, awaits_decision, report_of}
-use Rattle.ulfm_run.specs.Answered.{OnlyTook, EntersBetween, Stood}
+use Rattle.ulfm_run.specs.Answered.{OnlyTook, EntersBetween, IsShrink, Stood}
 use Rattle.ulfm_run.specs.Honest.{Since, Stands, StandsOpen, IsHonest, IsUndecided}
 use Rattle.ulfm_run.proofs.Beginnings.{Grew, grew-long, stood-now, stood-before, took-grew, took-none}
 use Rattle.ulfm_run.proofs.Honestly.{learns-none, honest-closed}
@@ -67,7 +67,7 @@ since-opened r s before from (Shrink comm) took o =
 since-opened r s before from _ took o = absurd o
 
 -- a first poll that leaves its step open, or a later one of a wait
-stands-opened : (known : Known) (r s : State) (before : List StepReport) (from : ℕ) (asked : Step) (polls : ℕ) → Grew r s → OnlyTook r.log from (length r.log) → IsOpen before r asked s → 0 < polls → (awaits_decision (Some asked) ≡ true → polls ≡ 1) → StandsOpen known s before from asked (length r.log) polls
+stands-opened : (known : Known) (r s : State) (before : List StepReport) (from : ℕ) (asked : Step) (polls : ℕ) → Grew r s → OnlyTook r.log from (length r.log) → IsOpen before r asked s → 0 < polls → (IsShrink asked → polls ≡ 1) → StandsOpen known s before from asked (length r.log) polls
 stands-opened known r s before from asked polls g took o some first = record {
   polled = some;
   since = since-opened r s before from asked took o;
@@ -112,7 +112,7 @@ stands-polled known p asked s from (Some (Shrink comm)) at h m u o =
     subst (λ (a : Step). S a s) m (subst (S (Shrink comm)) (sym o) waiting)
 stands-polled known p asked s from (Some other) at h m u o =
     stands-opened known p.rank s p.done from asked (min (p.polls + 1) (2 ^ 32 - 1)) (grew-adds p.rank false s (opens_add false p.done p.rank asked s o)) h.since o (omega arith)
-    (λ e. absurd (false≢true (ap (λ (a : Step). awaits_decision (Some a)) m ∙ e)))
+    (λ e. absurd (subst IsShrink (sym m) e))
 
 -- the step that stands open is the one that comes next
 matches : (script : List Step) (k turns polls : ℕ) (current : Option Step) (asked : Step) → MatchOption current (polls ≡ 0) (λ s. (slice_get script k ≡ Some s) × (polls < turns)) → slice_get script k ≡ Some asked → MatchOption current (polls ≡ 0) (λ o. o ≡ asked)

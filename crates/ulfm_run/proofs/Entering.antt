@@ -13,7 +13,7 @@ use Rattle.ulfm_rank.specs.Log.{first_of}
 use Rattle.ulfm_rank.specs.Outboxes.{Knows}
 use Rattle.ulfm_rank.specs.Shrink.{entry_of, has_entered, is_foreign}
 use Rattle.ulfm_rank.proofs.Gather.{any-push}
-use Rattle.ulfm_run.proofs.Firsts.{or_else_cases, or_else_first, some_from, first-push}
+use Rattle.ulfm_run.proofs.Firsts.{or_else_cases, some_from, first-push}
 use Rattle.ulfm_run.proofs.Grouped.{group_stays, members_found}
 
 -- An entry that a rank may add: it enters the shrink of a communicator that it made once, with the failures that it knows;
@@ -45,9 +45,6 @@ entry_here context known c same = ap (λ (b : Bool). cond b (Some known) None) (
 -- the set of the first entry into the shrink of c
 abbrev pub own_set : List Entry → ℕ → Option RankSet
 own_set log c = first_of (entry_of c) log
-
-pub own_stays : (log : List Entry) (e : Entry) (c : ℕ) (set : RankSet) → own_set log c ≡ Some set → own_set (log ++ e ∷ []) c ≡ Some set
-own_stays log e c set h = first-push (entry_of c) log e ∙ or_else_first (own_set log c) (entry_of c e) set h
 
 -- the first entry was there, or it is the new one
 pub own_cases : (log : List Entry) (e : Entry) (c : ℕ) (set : RankSet) → own_set (log ++ e ∷ []) c ≡ Some set → (own_set log c ≡ Some set) ⊎ ((own_set log c ≡ None) × (entry_of c e ≡ Some set))

@@ -26,16 +26,9 @@ or_else_cases (Some y) b x h = inl h
 pub or_else_first : {X : Type 0} (a b : Option X) (x : X) → a ≡ Some x → or_else a b ≡ Some x
 or_else_first a b x h = ap (λ (o : Option _). or_else o b) h
 
-pub or_else_second : {X : Type 0} (a b : Option X) → a ≡ None → or_else a b ≡ b
-or_else_second a b h = ap (λ (o : Option _). or_else o b) h
-
 pub some_from : {X : Type 0} (o : Option X) → is_some o ≡ true → (x : X) × (o ≡ Some x)
 some_from None h = absurd (false≢true h)
 some_from (Some x) h = (x, refl)
-
-pub none_from : {X : Type 0} (o : Option X) → is_some o ≡ false → o ≡ None
-none_from None h = refl
-none_from (Some x) h = absurd (false≢true (sym h))
 
 pub first-push : {X : Type 0} (give : Entry → Option X) (log : List Entry) (e : Entry) → first_of give (log ++ e ∷ []) ≡ or_else (first_of give log) (give e)
 first-push give [] e = or_none (give e)

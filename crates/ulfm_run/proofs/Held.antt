@@ -1,6 +1,6 @@
 -- Each decision that a rank adopted is its own, where its answers are right.
 use Rattle.std.proofs.Common.{◌≡◌, ℕ, ◌+◌, Bool, true, false, List, [], ◌∷◌, ◌++◌, length, take, get_or, refl, ap, sym, subst, ◌∙◌, arith, inl, inr, append_assoc, length-append, Some}
-use Rattle.std.specs.Prelude.{All, not, ◌==◌, nat_eq}
+use Rattle.std.specs.Prelude.{⊤, All, not, ◌==◌, nat_eq}
 use lib.Pointwise.{pointwise, pointwise_decides}
 use Rattle.std.proofs.lemmas.Bool.{or_parts, not-false, eqb-true, eq-eqb}
 use Rattle.std.proofs.lemmas.Option.{none-some, slice_get_within, get_or_from_slice_get}
@@ -24,7 +24,7 @@ use Rattle.ulfm_script.specs.declared.answer.StepAnswer.TheVariants.{Shrunk, Ref
 use Rattle.ulfm_script.specs.declared.answer.StepReport.{StepReport}
 use Rattle.ulfm_script.specs.Deciding.{Known, AnswersAdoption}
 use Rattle.ulfm_script.specs.Report.{Report}
-use Rattle.ulfm_run.specs.Agreed.{IsOwn, AdoptsOwn}
+use Rattle.ulfm_run.specs.Agreed.{IsOwn}
 use Rattle.ulfm_run.specs.Answered.{Stood, IsTook, OnlyTook, EntersBetween, AnsweredByDecision, IsAnswered, AreAnswered, HasAnswers}
 use Rattle.ulfm_run.proofs.Plain.{IsPlain, AddsPlain, Opens, answers_plain, opens_adds}
 
@@ -39,6 +39,11 @@ last_passes false false false false false i j k l m h = refl
 
 same_numbers : (xs ys : List ℕ) → (pointwise nat_eq xs ys ≡ true → xs ≡ ys) × (xs ≡ ys → pointwise nat_eq xs ys ≡ true)
 same_numbers = pointwise_decides (λ a b. (eqb-true a b, eq-eqb a b))
+
+-- the decision that an entry adopts, if it adopts one, is the rank's own
+abbrev pub AdoptsOwn : Known → State → Entry → Type 0
+AdoptsOwn known rank (Adopted d) = IsOwn known rank d
+AdoptsOwn known rank _ = ⊤
 
 -- the rank took part in this log
 module _ (known : Known) (r : State) where

@@ -1,12 +1,9 @@
--- A decision of which one more member is excluded, and what holds of each element of a mapped list.
-use Rattle.std.proofs.Common.{◌≡◌, ◌≢◌, ℕ, true, List, [], ◌++◌, append-nil, length, map, get_or, arith, ap, sym, subst, ◌∙◌, inl, inr}
-use Rattle.std.specs.Prelude.{All}
-use Rattle.std.proofs.Math.ListN.{get_or-map}
-use Rattle.std.proofs.lemmas.List.{length-map}
-use Rattle.std.proofs.lemmas.Bool.{cases_eq, or_cases, or_left, or_right}
+-- Decisions of which one more member is excluded, or listed, and a mapped list that is made.
+use Rattle.std.proofs.Common.{◌≡◌, ◌≢◌, ◌⊎◌, ◌||◌, ℕ, zero, suc, true, false, List, [], ◌∷◌, ◌++◌, append-nil, map, set, Option, Some, is_some, refl, ap, sym, ◌∙◌, inl, inr}
+use Rattle.std.proofs.lemmas.Bool.{cases_eq, false≢true, or_cases, or_left, or_right}
 use Rattle.ulfm_base.specs.declared.decision.Decision.{Decision}
 use Rattle.ulfm_base.specs.declared.rank_set.RankSet.{RankSet}
-use Rattle.ulfm_base.specs.Decision.{IsLawfulDecision, is_listed}
+use Rattle.ulfm_base.specs.Decision.{IsLawfulDecision, entry_at, in_entry, is_listed}
 use Rattle.ulfm_base.specs.Group.{is_member, excluding}
 use Rattle.ulfm_base.specs.RankSet.{has}
 
@@ -32,11 +29,39 @@ also_excluded d last excluded fresh member out others is = record {
       | inr other ↦ others r other ∙ h
     ]
 
--- what holds of what each element is mapped to holds of each element of the mapped list
-pub all_map : {S I : Type 0} (wrap : S → I) (inner : I → S) (same : (i : I) → wrap (inner i) ≡ i) (P : I → Type 0) (ys : List S) (xs : List I) → xs ≡ map wrap ys → All (λ s. P (wrap s)) ys → All P xs
-all_map wrap inner same P ys xs is all k d low =
-    let size : length xs ≡ length ys = ap length is ∙ length-map ys wrap in
-    subst P (sym (ap (λ l. get_or l k d) is ∙ ap (get_or (map wrap ys) k) (sym (same d)) ∙ get_or-map wrap ys k (inner d))) (all k (inner d) (omega (arith, low, size)))
+-- where a list has one more set, there is that set, or what was there
+pub entry_set : (entries : List (Option RankSet)) (one r : ℕ) (set_of : Option RankSet) → ((entry_at (set entries one set_of) r ≡ set_of) × (r ≡ one)) ⊎ (entry_at (set entries one set_of) r ≡ entry_at entries r)
+entry_set [] one r set_of = inr refl
+entry_set (e ∷ entries) zero zero set_of = inl (refl, refl)
+entry_set (e ∷ entries) zero (suc r) set_of = inr refl
+entry_set (e ∷ entries) (suc one) zero set_of = inr refl
+entry_set (e ∷ entries) (suc one) (suc r) set_of = elim (entry_set entries one r set_of) [
+  | inl here ↦ inl (here.0, ap suc here.1)
+  | inr other ↦ inr other
+]
+
+-- a member is listed with no failures, and all else is as before
+pub also_listed : (d : Decision) (one : ℕ) (none : RankSet) → is_member d.old one ≡ true → ((r : ℕ) → has none r ≡ false) → IsLawfulDecision d.context.number d.old (set d.entries one (Some none)) d.excluded d.fresh
+also_listed d one none member empty = record {
+  has_shrink = d.lawful.has_shrink;
+  complete = λ r h. elim (entry_set d.entries one r (Some none)) [
+    | inl here ↦ or_left (is_listed entries r) (has d.excluded r) (ap is_some here.0)
+    | inr is ↦ ap (λ e. is_some e || has d.excluded r) is ∙ d.lawful.complete r h
+  ];
+  union = λ r s h k. elim (entry_set d.entries one r (Some none)) [
+    | inl here ↦ absurd (false≢true (sym (empty s) ∙ sym (ap (λ e. in_entry e s) here.0) ∙ h))
+    | inr is ↦ d.lawful.union r s (sym (ap (λ e. in_entry e s) is) ∙ h) k
+  ];
+  listed_members = λ r h. elim (entry_set d.entries one r (Some none)) [
+    | inl here ↦ ap (is_member d.old) here.1 ∙ member
+    | inr is ↦ d.lawful.listed_members r (sym (ap is_some is) ∙ h)
+  ];
+  excluded_members = d.lawful.excluded_members;
+  survivors = d.lawful.survivors;
+}
+  where
+    entries : List (Option RankSet)
+    entries = set d.entries one (Some none)
 
 -- all that was left is made, where nothing is left now
 pub all_made : {S I : Type 0} (wrap : S → I) (done : List I) (rest start ys : List S) → rest ≡ [] → done ++ map wrap rest ≡ map wrap start → start ≡ ys → done ≡ map wrap ys

@@ -93,6 +93,7 @@ module _ {E N : Type 0} (name : E → N) (place count : E → ℕ) (pushed taken
             | inr other ↦ others x other ∙ h.sent x (omega (arith, k, ranks)) ∙ sym (out_other v.player.rank w.player.rank d x item leaves other)
           ];
           took = λ s. taken_same s ∙ h.took s ∙ ap (λ (l : List Entry). took l s) (sym log);
+          within = λ s k. ap (λ (l : List Entry). took l s) log ∙ h.within s (omega (arith, k, ranks));
         };
         me = me;
         ranks = ranks;
@@ -117,14 +118,15 @@ module _ {E N : Type 0} (name : E → N) (place count : E → ℕ) (pushed taken
           | inr other ↦ others x other ∙ h.sent x k
         ];
         took = λ s. taken_same s ∙ h.took s;
+        within = h.within;
       } in
       let n = moves-none v w f still same room in
       record { same_end = name_same; joined = n.joined; me = n.me; ranks = n.ranks; stops = n.stops; only = n.only; room = n.room; takes = n.takes }
 
   -- the log took what the end popped
-  pub moves-taken : (v w : View) (e f : E) (source : WorldRank) (item : Item) → is_stopped v.player.rank.log ≡ false → Joined v.player.rank e → w.player ≡ with_rank v.player (logged v.player.rank (Took source item)) → w.room ≡ v.room →
+  pub moves-taken : (v w : View) (e f : E) (source : WorldRank) (item : Item) → is_stopped v.player.rank.log ≡ false → source.number < v.player.rank.ranks → Joined v.player.rank e → w.player ≡ with_rank v.player (logged v.player.rank (Took source item)) → w.room ≡ v.room →
       name f ≡ name e → place f ≡ place e → count f ≡ count e → ready f → ((p : ℕ) → pushed f p ≡ pushed e p) → taken f source.number ≡ taken e source.number ++ item ∷ [] → ((p : ℕ) → p ≢ source.number → taken f p ≡ taken e p) → Went v e w f
-  moves-taken v w e f source item running h same room name_same place_same count_same is_ready pushed_same here others =
+  moves-taken v w e f source item running below h same room name_same place_same count_same is_ready pushed_same here others =
       let calm = calm-took v.player.rank source item h.sound in
       let new : State = logged v.player.rank (Took source item) in
       let J : Player → Type 0 = λ (p : Player). Joined p.rank f in
@@ -149,6 +151,11 @@ module _ {E N : Type 0} (name : E → N) (place count : E → ℕ) (pushed taken
                 ∙ ap (λ b. took v.player.rank.log s ++ cond b (item ∷ []) []) (sym (ne_eqb source.number s (λ x. other (sym x))))
                 ∙ sym (took-push v.player.rank.log (Took source item) s)
           ];
+          within = λ s k.
+              took-push v.player.rank.log (Took source item) s
+              ∙ ap (λ b. took v.player.rank.log s ++ cond b (item ∷ []) []) (ne_eqb source.number s (λ x. absurd (omega (arith, x, k, below))))
+              ∙ append-nil (took v.player.rank.log s)
+              ∙ h.within s k;
         });
         me = ap (λ (p : Player). p.rank.me) same;
         ranks = ap (λ (p : Player). p.rank.ranks) same;

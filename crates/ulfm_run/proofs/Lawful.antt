@@ -12,7 +12,7 @@ use Rattle.ulfm_script.specs.Job.{Seen}
 use Rattle.ulfm_board.specs.Known.{BothAgree, known_at}
 use Rattle.ulfm_script.specs.Deciding.{Known}
 use Rattle.ulfm_script.specs.Report.{Report}
-use Rattle.ulfm_run.specs.Agreed.{IsOwn, HasAdopted, AdoptOne}
+use Rattle.ulfm_run.specs.Agreed.{AdoptOwn, AdoptOne}
 use Rattle.ulfm_run.specs.Answered.{HasAnswers}
 use Rattle.ulfm_run.specs.Compared.{AllAgree}
 use Rattle.ulfm_run.specs.Decided.{AreTrue}
@@ -21,6 +21,9 @@ use Rattle.ulfm_run.specs.Lawful.{FlowsTo, IsLawful}
 use Rattle.ulfm_run.specs.Played.{HasPlayed}
 use Rattle.ulfm_run.proofs.Flowing.{there}
 use Rattle.ulfm_run.proofs.Held.{own_at}
+
+pub adopt_own : (knows : List Known) (reports : List Report) → ((k : ℕ) (told : Report) (known : Known) → at reports k told → at knows k known → HasAnswers known told) → AdoptOwn knows reports
+adopt_own knows reports answers k told known d at_k known_k adopted = own_at known told adopted.0 d (answers k told known at_k known_k) adopted.1
 
 module _ {E : Type 0} (pushed taken : E → ℕ → List Item) (job : Seen) (reports : List Report) (ends : List E) (inboxes : List (Vec (WorldRank × Item) Global)) (sizes : IsEach job reports × IsEach job inboxes × IsEach job ends) where
   -- the items of s that are left in the inbox of d are those that d left
@@ -34,14 +37,12 @@ module _ {E : Type 0} (pushed taken : E → ℕ → List Item) (job : Seen) (rep
       (items_from s inbox.0.items, (carry s d sender receiver out.0 inlet.0 inbox.0 at_s at_d out.1 inlet.1 inbox.1).flow)
 
   module _ (knows : List Known) (known_each : IsEach job knows) (answers : (k : ℕ) (told : Report) (known : Known) → at reports k told → at knows k known → HasAnswers known told) (agree : AllAgree knows) where
-    own : (k : ℕ) (told : Report) (known : Known) (d : Decision) → at reports k told → at knows k known → HasAdopted told d → IsOwn known told.rank d
-    own k told known d at_k known_k adopted = own_at known told adopted.0 d (answers k told known at_k known_k) adopted.1
-
     known_there : (k : ℕ) (told : Report) → at reports k told → (known : Known) × at knows k known
     known_there k told at_k = there knows k (omega (arith, slice_get_within reports k told at_k, sizes.0, known_each))
 
     one : AdoptOne reports
     one r s told other d e at_r at_s first second same =
+        let own = adopt_own knows reports answers in
         let x = known_there r told at_r in
         let y = known_there s other at_s in
         let d_known : known_at x.0 d.context.number ≡ Some d = (own r told x.0 d at_r x.1 first).held in
@@ -62,7 +63,7 @@ lawful_of pushed taken job reports ends inboxes sizes order went carry knows kno
   known_each = known_each;
   answered = answers;
   agreed = agree;
-  own = own pushed taken job reports ends inboxes sizes knows known_each answers agree;
+  own = adopt_own knows reports answers;
   one = one pushed taken job reports ends inboxes sizes knows known_each answers agree;
   decided = true;
 }

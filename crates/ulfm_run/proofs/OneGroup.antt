@@ -9,7 +9,7 @@ use Rattle.ulfm_rank.specs.Communicators.{group_of}
 use Rattle.ulfm_script.specs.Deciding.{Known}
 use Rattle.ulfm_script.specs.Job.{Seen}
 use Rattle.ulfm_script.specs.Report.{Report}
-use Rattle.ulfm_run.specs.Agreed.{IsOwn, AdoptsOwn}
+use Rattle.ulfm_run.specs.Agreed.{IsOwn}
 use Rattle.ulfm_run.specs.Answered.{HasAnswers}
 use Rattle.ulfm_run.specs.Compared.{AllAgree}
 use Rattle.ulfm_run.specs.Lawful.{IsLawful}
@@ -17,7 +17,7 @@ use Rattle.ulfm_run.specs.Proposed.{HasOneGroup}
 use Rattle.ulfm_run.proofs.Firsts.{some_from}
 use Rattle.ulfm_run.proofs.Flowing.{there}
 use Rattle.ulfm_run.proofs.Grouped.{members_found}
-use Rattle.ulfm_run.proofs.Held.{adopts_own}
+use Rattle.ulfm_run.proofs.Held.{AdoptsOwn, adopts_own}
 use Rattle.ulfm_run.proofs.Parents.{world_group, parent_group, adopted_group, context_cases}
 
 -- two decisions that are known, where both agree, are equal

@@ -1,27 +1,28 @@
 -- From what the threads gave back to the report of a run.
-use Rattle.std.proofs.Common.{◌≡◌, ℕ, ◌<◌, List, length, map, ap, sym, ◌∙◌, subst, arith}
-use Rattle.std.specs.Prelude.{Some, Option}
+use Rattle.std.proofs.Common.{◌≡◌, ℕ, ◌<◌, List, ◌++◌, length, map, refl, ap, sym, ◌∙◌, subst, arith}
+use Rattle.std.specs.Prelude.{All, Some, Option}
 use Rattle.std.proofs.lemmas.List.{length-map}
 use Rattle.std.proofs.lemmas.Option.{slice_get_within}
 use Rattle.ulfm_base.specs.declared.item.Item.{Item}
 use Rattle.ulfm_base.specs.declared.rank.WorldRank.{WorldRank}
 use Rattle.std.specs.declared.alloc.Global.{Global}
 use Rattle.std.specs.declared.vec.Vec.{Vec}
-use Rattle.ulfm_carrier.specs.Family.{at, InPlace, Keeps, Settled}
+use Rattle.ulfm_carrier.specs.Family.{at, items_from, InPlace, Keeps, Settled}
+use Rattle.ulfm_script.specs.Deciding.{Known}
 use Rattle.ulfm_script.specs.Job.{Seen, script_at, through_stop}
 use Rattle.ulfm_script.specs.Report.{Report}
 use Rattle.ulfm_run.specs.declared.worker.Ran.{Ran}
 use Rattle.ulfm_board.specs.Names.{OneBoard}
 use Rattle.ulfm_run.specs.Compared.{NameOneBoard}
 use Rattle.ulfm_run.specs.Decided.{AreTrue, ShowUntrue}
-use Rattle.ulfm_run.specs.Fields.{report_in, end_in, decider_in, Fits, WerePlayed}
+use Rattle.ulfm_run.specs.Fields.{report_in, end_in, decider_in, Fits, WerePlayed, HaveAnswers}
 use Rattle.ulfm_run.specs.Flow.{AllCarry}
 use Rattle.ulfm_run.specs.Played.{IsPlayed, HasPlayed}
 use Rattle.ulfm_run.specs.Rest.{IsAtRest, KnowsStopped, AgreesOnRevoked}
 use Rattle.ulfm_run.proofs.AtRest.{knows-stopped, agrees-revoked}
 use Rattle.ulfm_run.proofs.Paired.{one_board_names}
 use Rattle.ulfm_run.proofs.Flowing.{there, AllPlayed, carried, ordered}
-use Rattle.ulfm_run.proofs.Handed.{from_map, same_maps}
+use Rattle.ulfm_run.proofs.Handed.{from_map, same_maps, answers_all}
 
 -- ends and deciders fit a job
 pub fits_of : {E D : Type 0} (place : E → ℕ) (job : Seen) (ends : List E) (deciders : List D) → length ends ≡ job.ranks → length deciders ≡ job.ranks → InPlace place ends → Fits place job ends deciders
@@ -62,6 +63,7 @@ module _ {E D N : Type 0} (name : E → N) (place count : E → ℕ) (pushed tak
       let H : Report → Type 0 = λ (x : Report). HasPlayed job k x in
       subst H a.2 (record {
         counted = p.counted;
+        within = λ s l. p.joined.within s (omega (arith, l, p.counted));
         steps = p.steps ∙ ap (λ i. through_stop (script_at job i)) (placed k e.0 e.1);
         patient = p.patient;
       })
@@ -98,6 +100,20 @@ module _ {E D N : Type 0} (name : E → N) (place count : E → ℕ) (pushed tak
           sym (length-map kept board) ∙ ap length held ∙ length-map (map decider_in ran) board ∙ length-map ran decider_in ∙ many,
         )
 
+    -- what is left is what the ends that came back show
+    pub settled_all : (after : List E) (inboxes : List (Vec (WorldRank × Item) Global)) → Keeps name pushed taken (map end_in ran) after → Settled pushed taken (map end_in ran) inboxes → Settled pushed taken after inboxes
+    settled_all after inboxes keeps settled =
+        let many : length (map end_in ran) ≡ length after = sym (length-map (map end_in ran) name) ∙ ap length (sym keeps.names) ∙ length-map after name in
+        record {
+          inbox_for_each = settled.inbox_for_each ∙ many;
+          flows = λ s d sender receiver inbox p q r.
+              let e = there (map end_in ran) s (omega (arith, many, slice_get_within after s sender p)) in
+              let f = there (map end_in ran) d (omega (arith, many, slice_get_within after d receiver q)) in
+              keeps.pushed_to s e.0 sender e.1 p d ∙ settled.flows s d e.0 f.0 inbox e.1 f.1 r
+              ∙ ap (λ (xs : List Item). xs ++ items_from s inbox.items) (sym (keeps.taken_from d f.0 receiver f.1 q s));
+          no_others = λ s d inbox r l. settled.no_others s d inbox r (omega (arith, l, many));
+        }
+
     pub names_all : (after : List E) → Keeps name pushed taken (map end_in ran) after → map name after ≡ map name ends
     names_all after keeps = keeps.names ∙ same_names
 
@@ -129,10 +145,13 @@ module _ {E D N : Type 0} (name : E → N) (place count : E → ℕ) (pushed tak
       agreed_rest = agrees-revoked pushed taken ranks after inboxes each_end each_inbox (order_all ranks is) counted_all (flow_all ranks after inboxes is keeps settled) rest
 
     -- reports that show a decision that isn't true
-    pub untrue_all : (ranks : List Report) → ranks ≡ map report_in ran → (AreTrue ranks → ⊥) → ShowUntrue job ranks
-    untrue_all ranks is untrue = record {
+    pub untrue_all : (known : D → Known) → All (HaveAnswers known) ran → (ranks : List Report) → ranks ≡ map report_in ran → (AreTrue ranks → ⊥) → ShowUntrue job ranks
+    untrue_all known answers ranks is untrue = record {
       each = ap length is ∙ length-map ran report_in ∙ h.as_many ∙ fit.end_each;
       order = order_all ranks is;
       scripts = went_all ranks is;
+      knows = map known (map decider_in ran);
+      known_each = length-map (map decider_in ran) known ∙ length-map ran decider_in ∙ h.as_many ∙ fit.end_each;
+      answered = answers_all known ran answers ranks (map known (map decider_in ran)) is refl;
       untrue = untrue;
     }

@@ -44,6 +44,7 @@ at-work-start place count pushed taken ready job me v end fresh at starts sound 
         signed = All-nil (IsSigned me);
         sent = λ d k. fresh.nothing_pushed d ∙ sym (out-start me job.ranks d);
         took = λ s. fresh.nothing_taken s;
+        within = λ s k. refl;
       });
       named = ap (λ (p : Player). p.rank.me) starts;
       counted = ap (λ (p : Player). p.rank.ranks) starts;

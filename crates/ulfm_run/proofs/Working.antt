@@ -19,7 +19,7 @@ use Rattle.ulfm_run.specs.Honest.{IsHonest}
 use Rattle.ulfm_run.proofs.Honestly.{honest-moved, honest-answers}
 use Rattle.ulfm_run.specs.Joined.{IsSigned, IsJoined, Moves, Polls, IsAtWork}
 use Rattle.ulfm_run.specs.Played.{IsPlayed}
-use Rattle.ulfm_run.specs.Script.{step_of, steps_done, IsPatient, FollowsAt, HasAnswered, left_at}
+use Rattle.ulfm_run.specs.Script.{step_of, steps_done, IsPatient, FollowsAt, HasAnswered}
 use Rattle.ulfm_run.proofs.Scripts.{follows-rank, through-none}
 
 -- a player that stopped, or has no step left, answered its script
@@ -79,16 +79,13 @@ module _ {E N : Type 0} (name : E → N) (place count : E → ℕ) (pushed taken
           signed = subst S (sym q.calm.me) (q.calm.signed h.joined.signed);
           sent = λ d k. h.joined.sent d (omega (arith, k, q.calm.ranks)) ∙ sym (q.calm.out d (omega (arith, k, q.calm.ranks)));
           took = λ s. h.joined.took s ∙ sym (q.took s);
+          within = λ s k. q.took s ∙ h.joined.within s (omega (arith, k, q.calm.ranks));
         };
         named = q.calm.me ∙ h.named;
         counted = q.calm.ranks ∙ h.counted;
         follows = p.follows;
         room = omega (arith, h.room, p.room);
       }
-
-  -- nothing moved counts as a poll
-  pub same_left : (v w : View) (e f : E) → Moves name place count pushed taken ready v e w f → left_at (script_at job me) job.turns w.player ≡ left_at (script_at job me) job.turns v.player
-  same_left v w e f m = ap (λ (p : Player). left_at (script_at job me) job.turns p) m.only
 
   -- what was played is reported
   pub played : (v w : View) (first e f : E) (report : Report) → place first ≡ me → name e ≡ name first → AtWork v e → HasAnswered (script_at job me) job.turns v.player → Moves name place count pushed taken ready v e w f → report.rank ≡ w.player.rank → report.steps ≡ w.player.done → IsPlayed name place count pushed taken ready job first report f

@@ -14,9 +14,10 @@ use Rattle.ulfm_rank.specs.State.{State}
 use Rattle.ulfm_script.specs.declared.answer.StepAnswer.{StepAnswer}
 use Rattle.ulfm_script.specs.declared.answer.StepAnswer.TheVariants.{Unfinished, Refused}
 use Rattle.ulfm_script.specs.declared.answer.StepReport.{StepReport}
+use Rattle.ulfm_script.specs.declared.step.Step.{Step}
 use Rattle.ulfm_script.specs.declared.step.Step.TheVariants.{Shrink}
 use Rattle.ulfm_script.specs.Deciding.{Known, AnswersAdoption, Proposes}
-use Rattle.ulfm_script.specs.Player.{Answers, IsOpen, awaits_decision, comm_of}
+use Rattle.ulfm_script.specs.Player.{Answers, IsOpen, comm_of}
 use Rattle.ulfm_script.specs.Report.{Report}
 
 -- the rank as it stood when its log had so many entries; what left its outboxes plays no part in an answer
@@ -60,13 +61,18 @@ pub record AnsweredByCall (rank : State) (before : List StepReport) (from : ℕ)
   pub took : OnlyTook rank.log from report.at
   pub answers : Answers before old report.step report.answer new
 
+-- the step is a shrink
+abbrev pub IsShrink : Step → Type 0
+IsShrink (Shrink comm) = ⊤
+IsShrink _ = ⊥
+
 -- The rank only took since the step before, and the call left this one open: a wait whose receive waits, or a shrink, which
 -- this first call of it entered.
 pub record LeftByCall (rank : State) (before : List StepReport) (from : ℕ) (report : StepReport) (old new : State) : Type 0 where
   pub took : OnlyTook rank.log from report.at
   pub given_up : report.answer ≡ Unfinished
   pub opens : IsOpen before old report.step new
-  pub first : awaits_decision (Some report.step) ≡ true → report.polls ≡ 1
+  pub first : IsShrink report.step → report.polls ≡ 1
 
 -- the decision that the rank's decider knows is adopted, or not, for a reason that stands
 pub record AdoptsKnown (known : Known) (r : State) (comm : Context) (answer : StepAnswer) (new : State) : Type 0 where

@@ -10,8 +10,10 @@ use Rattle.ulfm_rank.specs.declared.entry.Entry.TheVariants.{Adopted}
 use Rattle.ulfm_rank.specs.Facts.{is_stopped}
 use Rattle.ulfm_rank.specs.Log.{first_of}
 use Rattle.ulfm_rank.specs.Shrink.{entry_of}
+use Rattle.ulfm_script.specs.Deciding.{Known}
 use Rattle.ulfm_script.specs.Job.{Seen}
 use Rattle.ulfm_script.specs.Report.{Report}
+use Rattle.ulfm_run.specs.Answered.{HasAnswers}
 use Rattle.ulfm_run.specs.Flow.{IsEach}
 use Rattle.ulfm_run.specs.Played.{HasPlayed}
 
@@ -53,9 +55,13 @@ AdoptsTruly reports _ = ⊤
 abbrev pub AreTrue : List Report → Type 0
 AreTrue reports = (s : ℕ) (told : Report) → at reports s told → (k : ℕ) (entry : Entry) → at told.rank.log k entry → AdoptsTruly reports entry
 
--- What all the ranks of a job report, by their numbers, shows a decision that isn't true.
+-- What all the ranks of a job report, by their numbers, shows a decision that isn't true. With some decisions known for each
+-- rank, each answer is right.
 pub record ShowUntrue (job : Seen) (reports : List Report) : Type 0 where
   pub each : IsEach job reports
   pub order : InPlace (λ told. told.rank.me) reports
   pub scripts : (k : ℕ) (told : Report) → at reports k told → HasPlayed job k told
+  pub knows : List Known
+  pub known_each : IsEach job knows
+  pub answered : (k : ℕ) (told : Report) (known : Known) → at reports k told → at knows k known → HasAnswers known told
   pub untrue : AreTrue reports → ⊥

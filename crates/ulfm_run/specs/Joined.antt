@@ -1,5 +1,5 @@
 -- A rank and its end of a carrier, which go together.
-use Rattle.std.specs.Prelude.{◌≡◌, ⊤, ℕ, List, ◌<◌, ◌≤◌, ◌+◌, length, All}
+use Rattle.std.specs.Prelude.{◌≡◌, ⊤, ℕ, List, [], ◌<◌, ◌≤◌, ◌+◌, length, All}
 use Rattle.ulfm_base.specs.declared.item.Item.{Item}
 use Rattle.ulfm_rank.specs.declared.entry.Entry.{Entry}
 use Rattle.ulfm_rank.specs.declared.entry.Entry.TheVariants.{Sent}
@@ -15,7 +15,8 @@ abbrev pub IsSigned : ℕ → Entry → Type 0
 IsSigned me (Sent to letter) = letter.envelope.source.number ≡ me
 IsSigned me _ = ⊤
 
--- What left the outboxes of the rank is what its end pushed, and what its log took is what its end took.
+-- What left the outboxes of the rank is what its end pushed, and what its log took of each rank is what its end took, and of
+-- no other number it took anything.
 pub record IsJoined {E : Type 0} (place count : E → ℕ) (pushed taken : E → ℕ → List Item) (ready : E → Type 0) (r : State) (end : E) : Type 0 where
   pub is_ready : ready end
   pub placed : place end ≡ r.me
@@ -23,6 +24,7 @@ pub record IsJoined {E : Type 0} (place count : E → ℕ) (pushed taken : E →
   pub sound : IsState r
   pub signed : All (IsSigned r.me) r.log
   pub sent : (d : ℕ) → d < r.ranks → pushed end d ≡ gone_out r d
+  pub within : (s : ℕ) → r.ranks ≤ s → took r.log s ≡ []
   pub took : (s : ℕ) → taken end s ≡ took r.log s
 
 -- Items went from a player to its end, or from the end to the player.

@@ -1,6 +1,5 @@
 -- What the reports of a job's ranks tell by themselves, whichever thread went when.
 use Rattle.std.specs.Prelude.{ℕ, List, ◌++◌}
-use Rattle.ulfm_base.specs.declared.decision.Decision.{Decision}
 use Rattle.ulfm_base.specs.declared.item.Item.{Item}
 use Rattle.ulfm_carrier.specs.Family.{at, InPlace}
 use Rattle.ulfm_rank.specs.Facts.{took}
@@ -8,7 +7,7 @@ use Rattle.ulfm_rank.specs.State.{State}
 use Rattle.ulfm_script.specs.Job.{Seen}
 use Rattle.ulfm_script.specs.Deciding.{Known}
 use Rattle.ulfm_script.specs.Report.{Report}
-use Rattle.ulfm_run.specs.Agreed.{IsOwn, HasAdopted, AdoptOne}
+use Rattle.ulfm_run.specs.Agreed.{AdoptOwn, AdoptOne}
 use Rattle.ulfm_run.specs.Answered.{HasAnswers}
 use Rattle.ulfm_run.specs.Compared.{AllAgree}
 use Rattle.ulfm_run.specs.Decided.{AreTrue}
@@ -20,7 +19,7 @@ abbrev pub FlowsTo : ℕ → ℕ → State → State → Type 0
 FlowsTo s d sender receiver = (left : List Item) × Flow sender s d (took receiver.log s ++ left)
 
 -- There is a report for each rank of the job, in the order of the ranks; each went through its script; between each ordered
--- pair of ranks the items flow. With what the ranks' deciders know in the end, each answer is right; no two of them know two
+-- pair of ranks the items flow. With some decisions known for each rank, each answer is right; no two of them know two
 -- decisions of one shrink. Each decision that a rank adopted is its own, and true of what the ranks did; those adopted for one
 -- context are equal.
 pub record IsLawful (job : Seen) (reports : List Report) : Type 0 where
@@ -32,6 +31,6 @@ pub record IsLawful (job : Seen) (reports : List Report) : Type 0 where
   pub known_each : IsEach job knows
   pub answered : (k : ℕ) (told : Report) (known : Known) → at reports k told → at knows k known → HasAnswers known told
   pub agreed : AllAgree knows
-  pub own : (k : ℕ) (told : Report) (known : Known) (d : Decision) → at reports k told → at knows k known → HasAdopted told d → IsOwn known told.rank d
+  pub own : AdoptOwn knows reports
   pub one : AdoptOne reports
   pub decided : AreTrue reports

@@ -7,6 +7,7 @@ ghost use Rattle.ulfm_board.specs.Names.{OneBoard};
 ghost use Rattle.ulfm_carrier.specs.Family.{at, InPlace, AllFresh, Keeps, Settled};
 ghost use Rattle.ulfm_script.specs.Deciding.{Known};
 ghost use Rattle.ulfm_script.specs.Report.{Report as Told};
+ghost use Rattle.ulfm_run.specs.Agreed.{AdoptOwn};
 ghost use Rattle.ulfm_run.specs.Answered.{HasAnswers};
 ghost use Rattle.ulfm_run.specs.Compared.{NameOneBoard, AllAgree};
 ghost use Rattle.ulfm_run.specs.Decided.{AreTrue, ShowUntrue};
@@ -39,9 +40,9 @@ use ulfm_script::{Job, RankReport, RunFault};
 /// # Errors
 ///
 /// `BadEnds` where the number of ends or of deciders isn't that of the ranks, or an end stands at another place than its
-/// number; no thread is started then. `NoThread` where a thread couldn't be started, `OutOfMemory` where a growth outside
-/// the polls of steps was refused, `Untrue` where a decision that a rank adopted lists a set that isn't that of its rank's
-/// own entry, or excludes a rank that didn't stop; the threads that were started have run to their end then.
+/// number; no thread is started then. `NoThread` where a thread couldn't be started, `OutOfMemory` where a growth before
+/// the first turn or after the last was refused, `Untrue` where a decision that a rank adopted lists a set that isn't that
+/// of its rank's own entry, or excludes a rank that didn't stop; the threads that were started have run to their end then.
 pub fn run_job<E, D, R>(
     rt: &R,
     alloc: Global,
@@ -66,7 +67,9 @@ where
     ensures order { IfOk result (λ report. InPlace (λ (told : Told). told.rank.me) report.ranks.items) }
     ensures scripts { IfOk result (λ report. (k : ℕ) (told : Told) → at report.ranks.items k told → HasPlayed job.now k told) }
     ensures answers { IfOk result (λ report. (k : ℕ) (told : Told) (known : Known) → at report.ranks.items k told → at (map D.known report.deciders.items) k known → HasAnswers known told) }
+    ensures own { IfOk result (λ report. AdoptOwn (map D.known report.deciders.items) report.ranks.items) }
     ensures flow { IfOk result (λ report. AllCarry E.pushed E.taken report.ranks.items report.ends.items report.residue.inboxes.items) }
+    ensures residue { IfOk result (λ report. Settled E.pushed E.taken report.ends.items report.residue.inboxes.items) }
     ensures same_ends { IfOk result (λ report. map E.name report.ends.items ≡ map E.name ends.items) }
     ensures known_at_rest { IfOk result (λ report. IsAtRest report.ranks.items report.residue.inboxes.items → KnowsStopped report.ranks.items) }
     ensures agreed_at_rest { IfOk result (λ report. IsAtRest report.ranks.items report.residue.inboxes.items → AgreesOnRevoked report.ranks.items) }

@@ -14,8 +14,8 @@ use ulfm_carrier::Residue;
 use ulfm_script::RankReport;
 
 /// Whether nothing waits for any rank that goes on running: its inbox is empty, and so is each outbox towards it, also that
-/// of a rank that stopped. Of a report of `run_job` each such rank then knows each rank that stopped, and all agree which
-/// contexts are revoked.
+/// of a rank that stopped. Of a report of `run_job` each such rank then knows each rank that stopped, all agree which
+/// contexts are revoked, and where all those of a communicator entered its shrink, each of them has a proposal.
 pub fn at_rest<E, D>(report: &Report<E, D>) -> bool
     ensures { IsTrue result ↔ IsAtRest report.now.ranks.items report.now.residue.inboxes.items }
 {

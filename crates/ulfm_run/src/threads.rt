@@ -136,6 +136,7 @@ where
     D: Decider + Send + 's,
     R: Threads + Wait + Sync,
     requires room { (handles.items ≡ []) × (vec_len ends ≤ vec_capacity handles) }
+    requires enough { vec_len ends ≤ vec_len deciders }
     requires fresh { EachFresh E.count E.pushed E.taken E.ready job.now.ranks ends.items }
     ensures ends { OnOk result.1 (begun_ends result.0.items ≡ ends.items) }
     ensures deciders { OnOk result.1 ((rest : _) × (begun_deciders result.0.items ++ rest ≡ deciders.items)) }
@@ -144,9 +145,8 @@ where
     let mut handles = handles;
     let mut deciders = deciders.into_iter();
     for end in ends {
-        // There is a decider for each end.
         let Some(decider) = deciders.next() else {
-            return (handles, Err(Unplayed::NoThread));
+            unreachable!();
         };
         match start_rank(scope, rt, alloc, job, end, decider) {
             Ok(handle) => handles.push_reserved(handle),
@@ -169,6 +169,7 @@ where
     E: Ends + Send + 's,
     D: Decider + Send + 's,
     R: Threads + Wait + Sync,
+    requires enough { vec_len ends ≤ vec_len deciders }
     requires fresh { EachFresh E.count E.pushed E.taken E.ready job.now.ranks ends.items }
     ensures played { IfOk result (λ ran. WerePlayed E.name E.place E.count E.pushed E.taken E.ready D.board job.now ends.items deciders.items ran.items) }
     ensures answers { IfOk result (λ ran. All (HaveAnswers D.known) ran.items) }
@@ -186,7 +187,10 @@ where
             for handle in refused.value {
                 drop(handle.join(rt));
             }
-            Err(Unplayed::OutOfMemory)
+            match started {
+                Ok(()) => Err(Unplayed::OutOfMemory),
+                Err(fault) => Err(fault),
+            }
         }
     }
 }
@@ -208,6 +212,7 @@ where
     E: Ends + Send,
     D: Decider + Send,
     R: Threads + Wait + Sync,
+    requires enough { vec_len ends ≤ vec_len deciders }
     requires fresh { EachFresh E.count E.pushed E.taken E.ready job.now.ranks ends.items }
     ensures played { IfOk result (λ ran. WerePlayed E.name E.place E.count E.pushed E.taken E.ready D.board job.now ends.items deciders.items ran.items) }
     ensures answers { IfOk result (λ ran. All (HaveAnswers D.known) ran.items) }
@@ -216,7 +221,8 @@ where
         thread::scope_env(),
         rt,
         |scope| -> Result<Vec<Ran<E, D>>, Unplayed>
-            requires { EachFresh E.count E.pushed E.taken E.ready job.now.ranks ends.items }
+            requires enough { vec_len ends ≤ vec_len deciders }
+            requires fresh { EachFresh E.count E.pushed E.taken E.ready job.now.ranks ends.items }
             ensures played { IfOk result (λ ran. WerePlayed E.name E.place E.count E.pushed E.taken E.ready D.board job.entry.now ends.items deciders.items ran.items) }
             ensures answers { IfOk result (λ ran. All (HaveAnswers D.known) ran.items) }
         { run_in(scope, rt, alloc, job, ends, deciders) },

@@ -2,12 +2,15 @@ use Rattle.std.proofs.Common.{arith, sym, subst, ◌∙◌, map}
 use Rattle.std.proofs.lemmas.List.{length-map}
 use Rattle.std.proofs.lemmas.Result.{err_from_is_err_and}
 use Rattle.ulfm_carrier.specs.Family.{IsFresh}
-use Rattle.ulfm_run.proofs.Reporting.{fits_of, same_names, all_ready, flow_all, order_all, went_all, sizes_all, names_all, boards_all, untrue_all, known_rest, agreed_rest, board_all}
-use Rattle.ulfm_run.proofs.Lawful.{lawful_of}
+use Rattle.ulfm_run.proofs.Reporting.{fits_of, same_names, all_ready, flow_all, order_all, went_all, sizes_all, names_all, settled_all, boards_all, untrue_all, known_rest, agreed_rest, board_all}
+use Rattle.ulfm_run.proofs.Lawful.{lawful_of, adopt_own}
 use Rattle.ulfm_run.proofs.Handed.{answers_all}
 use Rattle.ulfm_run.proofs.OneGroup.{grouped_of}
 use Rattle.ulfm_run.proofs.Proposing.{proposed_of}
 use Rattle.ulfm_run.proofs.job.run_job.Goals as goal
+
+pub play_all-requires-clause-enough : goal.play_all-requires-clause-enough
+play_all-requires-clause-enough g c = omega (arith, (c.fits.ensures.0 c.if-not-fits.false).0, (c.fits.ensures.0 c.if-not-fits.false).1, c.len.ensures, c.args.ends.ok)
 
 pub play_all-requires-clause-fresh : goal.play_all-requires-clause-fresh
 play_all-requires-clause-fresh g c =
@@ -77,13 +80,16 @@ returns-clause-lawful g c =
     c.in_ok-report.ensures.agree
     c.in_ok-report.ensures.decisions
 
+pub returns-clause-own : goal.returns-clause-own
+returns-clause-own g c = adopt_own (map g.D.Decider.known c.in_ok-report.report.deciders.items) c.in_ok-report.report.ranks.items (returns-clause-answers g c)
+
 pub returns-in_err-report-clause-untrue : goal.returns-in_err-report-clause-untrue
 returns-in_err-report-clause-untrue g c =
     let fit = fits_of g.E.Ends.place c.args.job.now c.args.ends.items c.args.deciders.items (c.fits.ensures.0 c.if-not-fits.false).0 (omega (arith, (c.fits.ensures.0 c.if-not-fits.false).1, c.len.ensures, c.args.deciders.ok)) (c.fits.ensures.0 c.if-not-fits.false).2 in
     let failed = err_from_is_err_and c.from_residual.result c.from_residual.ensures.1 in
     rw failed.1 (λ reports is.
     let shown = c.in_err-report.ensures.untrue reports (let same = failed.2 in cc) in
-    untrue_all g.E.Ends.name g.E.Ends.place g.E.Ends.count g.E.Ends.pushed g.E.Ends.taken g.E.Ends.ready g.D.Decider.board c.args.job.now c.args.ends.items c.args.deciders.items c.in-Ok.ran.items c.in-Ok.ensures.played fit reports.items shown.0 shown.1)
+    untrue_all g.E.Ends.name g.E.Ends.place g.E.Ends.count g.E.Ends.pushed g.E.Ends.taken g.E.Ends.ready g.D.Decider.board c.args.job.now c.args.ends.items c.args.deciders.items c.in-Ok.ran.items c.in-Ok.ensures.played fit g.D.Decider.known c.in-Ok.ensures.answers reports.items shown.0 shown.1)
 
 pub returns-clause-known_at_rest : goal.returns-clause-known_at_rest
 returns-clause-known_at_rest g c =
@@ -107,3 +113,8 @@ pub returns-clause-proposed_at_rest : goal.returns-clause-proposed_at_rest
 returns-clause-proposed_at_rest g c =
     let sizes = returns-clause-sizes g c in
     proposed_of g.E.Ends.pushed g.E.Ends.taken c.args.job.now c.in_ok-report.report.ranks.items c.in_ok-report.report.ends.items c.in_ok-report.report.residue.inboxes.items sizes.1 sizes.2 (returns-clause-flow g c) (returns-clause-lawful g c)
+
+pub returns-clause-residue : goal.returns-clause-residue
+returns-clause-residue g c =
+    let fit = fits_of g.E.Ends.place c.args.job.now c.args.ends.items c.args.deciders.items (c.fits.ensures.0 c.if-not-fits.false).0 (omega (arith, (c.fits.ensures.0 c.if-not-fits.false).1, c.len.ensures, c.args.deciders.ok)) (c.fits.ensures.0 c.if-not-fits.false).2 in
+    settled_all g.E.Ends.name g.E.Ends.place g.E.Ends.count g.E.Ends.pushed g.E.Ends.taken g.E.Ends.ready g.D.Decider.board c.args.job.now c.args.ends.items c.args.deciders.items c.in-Ok.ran.items c.in-Ok.ensures.played fit c.in_ok-report.report.ends.items c.in_ok-report.report.residue.inboxes.items c.in_ok-report.ensures.same c.in_ok-report.ensures.residue

@@ -10,6 +10,7 @@ pub loop-end-init : goal.loop-end-init
 loop-end-init g c =
     let items = c.into_iter-end-iterator.ensures.into_iter_gives in record {
       room = omega (arith, ap length c.requires.room.0, c.args.handles.ok, items.1, c.requires.room.1);
+      enough = omega (arith, items.1, c.into_iter-deciders.ensures.len, c.requires.enough);
       ends = ap (λ l. begun_ends l ++ into_iter_items c.into_iter-end-iterator.result) c.requires.room.0 ∙ items.0;
       deciders = ap (λ l. begun_deciders l ++ into_iter_items c.into_iter-deciders.result) c.requires.room.0 ∙ c.into_iter-deciders.ensures.rest;
       fresh = λ k e here. c.requires.fresh k e (ap (λ l. slice_get l k) (sym items.0) ∙ here);
@@ -26,6 +27,7 @@ loop-end-preserved g c =
     let was = c.loop-end.invariant in
     let more = c.push_reserved.ensures.items in record {
       room = omega (arith, c.push_reserved.ensures.len, c.push_reserved.ensures.capacity, ends.1, was.room);
+      enough = omega (arith, ends.1, was.enough, c.in-Some-next.ensures.len);
       ends = handed begun_end c.loop-end.handles.items c.push_reserved.new.self.items c.in-Ok.handle c.in-Some.end (into_iter_items c.loop-end.end-iterator) (into_iter_items c.next.new.self) c.args.ends.items was.ends ends.0 more c.in-Ok.ensures.1;
       deciders = handed begun_decider c.loop-end.handles.items c.push_reserved.new.self.items c.in-Ok.handle c.in-Some-next.decider (into_iter_items c.loop-end.deciders) (into_iter_items c.next-in-loop-end.new.self) c.args.deciders.items was.deciders c.in-Some-next.ensures.items more c.in-Ok.ensures.2;
       fresh = fresh_rest g.E.Ends.count g.E.Ends.pushed g.E.Ends.taken g.E.Ends.ready c.args.job.now.ranks (into_iter_items c.loop-end.end-iterator) (into_iter_items c.next.new.self) c.in-Some.end was.fresh ends.0;
