@@ -1,11 +1,13 @@
 -- What is written for a job, and for one that is refused.
-use Rattle.std.specs.Prelude.{◌≡◌, ℕ, List, ◌++◌, take, Option, Ok, Err, codes}
+use Rattle.std.specs.Prelude.{◌≡◌, ℕ, List, ◌++◌, take, Option, Some, None, Ok, Err, codes}
 use Rattle.std.specs.Fmt.{decimal}
 use Rattle.std.specs.Io.KnownBytes.{Appends}
 use Rattle.ulfm_script.specs.declared.fault.Fault.{Fault}
 use Rattle.ulfm_script.specs.declared.fault.Fault.TheVariants.{BadKey, UnknownKey, OutOfRange, UnknownOp}
 use Rattle.ulfm_script.specs.declared.fault.JobFault.{JobFault}
 use Rattle.ulfm_script.specs.declared.fault.JobFault.TheVariants.{NotToml, InJob, InStep, TooLarge, OutOfMemory}
+use Rattle.ulfm_script.specs.declared.fault.RunFault.{RunFault}
+use Rattle.ulfm_script.specs.declared.fault.RunFault.TheVariants as fault
 use Rattle.ulfm_script.specs.Job.{Seen, step_count}
 use Rattle.ulfm_script.specs.Plan.{plan_of}
 use Rattle.ulfm_script.specs.JobText.{job_of_bytes}
@@ -41,6 +43,13 @@ refused_text f = codes "job refused: " ++ job_fault_text f ++ codes "\n"
 -- the line for a good job
 unfoldable pub good_line : ℕ → ℕ → List ℕ
 good_line ranks steps = codes "job ok: " ++ decimal ranks ++ codes " ranks " ++ decimal steps ++ codes " steps\n"
+
+-- the failure that a fault of `run_job` is: ends that don't fit the job are none
+abbrev pub failure_of : RunFault → Option Failure
+failure_of fault.NoThread = Some run.NoThread
+failure_of fault.OutOfMemory = Some run.OutOfMemory
+failure_of (fault.Untrue reports) = Some run.Untrue
+failure_of fault.BadEnds = None
 
 -- the line for a run that failed
 abbrev pub failed_text : Failure → List ℕ

@@ -1,6 +1,6 @@
 //! The command line.
 ghost use Rattle.std.specs.Prelude.{◌≡◌, Some, map, option_map, IfOk};
-ghost use Rattle.clap.specs.Words.{FailsBy, app_of, subcommand_rows_of, with_subcommand};
+ghost use Rattle.clap.specs.Words.{FailsBy, app_of, kind_of, subcommand_rows_of, with_subcommand};
 ghost use Rattle.ulfm.specs.Words.{asked, choice, faults, meant, named, run_app, tool_app};
 
 use clap::error::ErrorKind;
@@ -56,10 +56,6 @@ Under run a step's polls come fast: give a job many turns, as 1000000.
 Statuses: 0 done, 1 job refused, 2 usage, 3 run failed, 4 output failed, 5 input failed.
 docs/JOBS.md has the format of jobs and traces, docs/RULES.md the rules that ranks obey.";
 
-/// What is said of a carrier that there isn't.
-const UNKNOWN_CARRIER: &str =
-    "invalid value for '--carrier <CARRIER>'\n  [possible values: lanes, shared]";
-
 /// What the words ask for. An error is a wrong command line, or help that is asked for.
 pub fn wanted_of<S: AsStr>(alloc: Global, words: &[S]) -> Result<Wanted, Error>
     ensures ok { IfOk result (λ wanted. meant (asked (map S.text words.now)) ≡ Some wanted) }
@@ -69,8 +65,26 @@ pub fn wanted_of<S: AsStr>(alloc: Global, words: &[S]) -> Result<Wanted, Error>
     let matches = command.try_get_matches_from_mut(words)?;
     match wanted_in(&matches) {
         Some(wanted) => Ok(wanted),
-        None => Err(command.error(ErrorKind::InvalidValue, UNKNOWN_CARRIER)?),
+        None => Err(unknown_carrier(alloc, &mut command, &matches)?),
     }
+}
+
+/// The error of a command line that names a carrier that there isn't.
+fn unknown_carrier(
+    alloc: Global,
+    command: &mut Command<'_>,
+    matches: &ArgMatches<'_>,
+) -> Result<Error, AllocError>
+    ensures { IfOk result (λ error. kind_of error ≡ ErrorKind.InvalidValue) }
+{
+    let value = match matches.subcommand() {
+        Some((_, options)) => options.get_str("carrier").unwrap_or(""),
+        None => "",
+    };
+    let message = format!(in alloc;
+        "invalid value '{value}' for '--carrier <CARRIER>'\n  [possible values: lanes, shared]"
+    )?;
+    command.error(ErrorKind::InvalidValue, message.as_str())
 }
 
 /// The command line that is followed.

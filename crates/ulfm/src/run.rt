@@ -1,7 +1,7 @@
 //! The reply of `run`.
 ghost use Rattle.ulfm_carrier.specs.Family.{InPlace, AllFresh};
 ghost use Rattle.std.specs.Prelude.{length, map, ◌≡◌, ◌≢◌, IfErr, IfOk, string_bytes};
-ghost use Rattle.ulfm.specs.Replies.{failed_text, IsRunReply};
+ghost use Rattle.ulfm.specs.Replies.{failed_text, failure_of, IsRunReply};
 ghost use Rattle.ulfm_run.specs.Lawful.{IsLawful};
 
 use crate::command::Carrier;
@@ -38,7 +38,7 @@ pub fn run_reply<R: Threads + Wait + Sync>(
         Ok(job) => job,
         Err(fault) => return refusal(alloc, fault),
     };
-    let ran = run_on(rt, alloc, carrier, &job);
+    let ran = run_by_carrier(rt, alloc, carrier, &job);
     match ran {
         Ok(reports) => {
             let text = trace_text(alloc, reports.as_slice())?;
@@ -65,7 +65,7 @@ fn failed(alloc: Global, failure: Failure) -> Result<Reply, AllocError>
 }
 
 /// What the ranks of a job did, by this carrier.
-fn run_on<R: Threads + Wait + Sync>(
+fn run_by_carrier<R: Threads + Wait + Sync>(
     rt: &R,
     alloc: Global,
     carrier: Carrier,
@@ -74,13 +74,13 @@ fn run_on<R: Threads + Wait + Sync>(
     ensures { IfOk result (λ reports. IsLawful job.now reports.items) }
 {
     match carrier {
-        Carrier::Lanes => run_on_lanes(rt, alloc, job),
-        Carrier::Shared => run_on_shared(rt, alloc, job),
+        Carrier::Lanes => run_by_lanes(rt, alloc, job),
+        Carrier::Shared => run_by_shared(rt, alloc, job),
     }
 }
 
 /// What the ranks of a job did, with a ring for each ordered pair.
-fn run_on_lanes<R: Threads + Wait + Sync>(
+fn run_by_lanes<R: Threads + Wait + Sync>(
     rt: &R,
     alloc: Global,
     job: &Job,
@@ -94,7 +94,7 @@ fn run_on_lanes<R: Threads + Wait + Sync>(
 }
 
 /// What the ranks of a job did, with one inbox for each rank.
-fn run_on_shared<R: Threads + Wait + Sync>(
+fn run_by_shared<R: Threads + Wait + Sync>(
     rt: &R,
     alloc: Global,
     job: &Job,
@@ -126,9 +126,21 @@ fn run_by<E: Ends + Send, R: Threads + Wait + Sync>(
     };
     match run_job(rt, alloc, job, ends, deciders) {
         Ok(report) => Ok(report.ranks),
-        Err(RunFault::NoThread) => Err(Failure::NoThread),
-        Err(RunFault::OutOfMemory) => Err(Failure::OutOfMemory),
-        Err(RunFault::Untrue(_)) => Err(Failure::Untrue),
-        Err(RunFault::BadEnds) => unreachable!(),
+        Err(fault) => match failure_of(fault) {
+            Some(failure) => Err(failure),
+            None => unreachable!(),
+        },
+    }
+}
+
+/// The failure that a run's fault is. Ends that don't fit the job are none.
+fn failure_of(fault: RunFault) -> Option<Failure>
+    ensures { result ≡ failure_of fault }
+{
+    match fault {
+        RunFault::NoThread => Some(Failure::NoThread),
+        RunFault::OutOfMemory => Some(Failure::OutOfMemory),
+        RunFault::Untrue(_) => Some(Failure::Untrue),
+        RunFault::BadEnds => None,
     }
 }

@@ -2,6 +2,7 @@
 
 use super::{Kept, is_reply, reply};
 use crate::front::run_on;
+use std::alloc::AllocError;
 use std::sync::Wait;
 use std::test::Fail;
 use std::thread::Threads;
@@ -53,17 +54,33 @@ fn whole_jobs_are_refused(rt: HostRuntime) {
     }
 }
 
+/// Whether both commands answer a line below the top keys with this refusal.
+fn is_refused_line<R: AllocGlobal + Threads + Wait + Sync>(
+    rt: &R,
+    line: &str,
+    refusal: &str,
+) -> Result<bool, AllocError> {
+    let job = format!(in rt.alloc(); "{HEAD}{line}")?;
+    Ok(is_refused(rt, job.as_str(), refusal))
+}
+
 #[test]
-fn added_lines_are_refused(rt: HostRuntime) -> Result<(), Fail> {
+fn top_lines_are_refused(rt: HostRuntime) -> Result<(), Fail> {
     let rows = [
         ("note = \"ab", "job refused: J1\n"),
         ("note = 1", "job refused: J3\n"),
         ("step = 1", "job refused: J2\n"),
         ("step = [1]", "job refused: J2\n"),
-        (
-            "step = [{rank = 1, op = \"stop\"}]",
-            "job refused: J4 step 0\n",
-        ),
+    ];
+    for (line, refusal) in rows {
+        assert!(rt; is_refused_line(&rt, line, refusal)?, "{line}");
+    }
+    Ok(())
+}
+
+#[test]
+fn ops_are_refused(rt: HostRuntime) -> Result<(), Fail> {
+    let rows = [
         ("step = [{op = \"bcast\"}]", "job refused: J5 step 0\n"),
         (
             "step = [{rank = 0, op = \"bcast\"}]",
@@ -72,6 +89,21 @@ fn added_lines_are_refused(rt: HostRuntime) -> Result<(), Fail> {
         (
             "step = [{rank = 0, op = \"probe\"}]",
             "job refused: J5 step 0\n",
+        ),
+        ("step = [{rank = 0}]", "job refused: J2 step 0\n"),
+    ];
+    for (line, refusal) in rows {
+        assert!(rt; is_refused_line(&rt, line, refusal)?, "{line}");
+    }
+    Ok(())
+}
+
+#[test]
+fn keys_of_steps_are_refused(rt: HostRuntime) -> Result<(), Fail> {
+    let rows = [
+        (
+            "step = [{rank = 1, op = \"stop\"}]",
+            "job refused: J4 step 0\n",
         ),
         (
             "step = [{rank = \"0\", op = \"stop\", x = 1}]",
@@ -93,11 +125,9 @@ fn added_lines_are_refused(rt: HostRuntime) -> Result<(), Fail> {
             "step = [{rank = 0, op = \"send\", to = true, tag = 5, body = \"\"}]",
             "job refused: J2 step 0\n",
         ),
-        ("step = [{rank = 0}]", "job refused: J2 step 0\n"),
     ];
     for (line, refusal) in rows {
-        let job = format!(in rt.alloc(); "{HEAD}{line}")?;
-        assert!(rt; is_refused(&rt, job.as_str(), refusal), "{line}");
+        assert!(rt; is_refused_line(&rt, line, refusal)?, "{line}");
     }
     Ok(())
 }

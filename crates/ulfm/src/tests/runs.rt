@@ -78,7 +78,7 @@ fn a_carrier_has_to_be_named(rt: HostRuntime) {
             &["ulfm", "run", "--carrier", "ring"],
             ONE_LETTER,
             2,
-            "error: invalid value for '--carrier <CARRIER>'\n  [possible values: lanes, shared]\n"
+            "error: invalid value 'ring' for '--carrier <CARRIER>'\n  [possible values: lanes, shared]\n"
         )
     );
     assert!(rt;
