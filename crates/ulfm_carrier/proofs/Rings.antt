@@ -9,7 +9,7 @@ use Rattle.ulfm_carrier.specs.declared.inlet.Inlet.{Inlet}
 use Rattle.ulfm_carrier.specs.declared.lane_ends.LaneEnds.{LaneEnds}
 use Rattle.ulfm_carrier.specs.Carried.{carried_of, item_of}
 use Rattle.ulfm_carrier.specs.Family.{ComesFrom, at}
-use Rattle.ulfm_carrier.specs.Lanes.{Outlet, outlet_name, inlet_name, inlet_capacity, sent_by, taken_by, IsReady, IsOpen}
+use Rattle.ulfm_carrier.specs.Lanes.{Outlet, outlet_name, inlet_name, inlet_capacity, sent_by, taken_by, lane_name, IsReady, IsOpen}
 use Rattle.ulfm_carrier.proofs.Places.{at_read, each_set, view_or, view_here}
 use Rattle.ulfm_carrier.proofs.Ranks.{source_back}
 
@@ -72,6 +72,15 @@ ready_ins e f k i j me outs left inboxes ins here capacity is_open r =
       no_inbox = ap (λ v. v.items) inboxes ∙ r.no_inbox;
       inbox_for_each = let b = ap (λ v. vec_capacity v) inboxes in let h = r.inbox_for_each in omega arith;
     }
+
+pub taken_from : (e f : LaneEnds) (k : ℕ) (i j : Inlet) → f.me ≡ e.me → f.outs ≡ e.outs → f.left ≡ e.left → f.inboxes ≡ e.inboxes → f.ins.items ≡ set e.ins.items k j → i ≡ get_or e.ins.items k i → k < length e.ins.items
+    → inlet_name j ≡ inlet_name i → inlet_capacity j ≡ inlet_capacity i → j.source ≡ i.source → j.gathered ≡ None → IsReady e → (lane_name f ≡ lane_name e) × IsReady f
+taken_from e f k i j me outs left inboxes ins here low name capacity source gathered r =
+    let is = r.rings.live k i (at_read e.ins.items k i low here) in
+    let same : map inlet_name f.ins.items ≡ map inlet_name e.ins.items = ap (map inlet_name) ins ∙ inlet_names e.ins.items k i j here name in (
+      (λ n. record { place = (me n).number; outs = map outlet_name ((outs n).items); ins = same n }),
+      ready_ins e f k i j me outs left inboxes ins here capacity (ap (λ (a : WorldRank). a.number) source ∙ is.0, gathered) r,
+    )
 
 pub taken_more : (k : ℕ) (ins : List Inlet) (i j : Inlet) (x : Item) → k < length ins → i ≡ get_or ins k i → taken_by j ≡ taken_by i ++ x ∷ []
     → get_or (map taken_by (set ins k j)) k [] ≡ get_or (map taken_by ins) k [] ++ x ∷ []

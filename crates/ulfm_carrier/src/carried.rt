@@ -10,7 +10,7 @@ const BLANK: WorldRank = WorldRank { number: 0 };
 /// What a ring carries: an item whose source is blank, since it is the rank at the ring's other end.
 #[derive(Clone, Copy)]
 pub struct Carried {
-    item: Item,
+    pub(crate) item: Item,
 }
 
 impl Carried {
@@ -34,7 +34,7 @@ impl Carried {
 }
 
 /// Gives an item this source, where it has one.
-fn sign(item: &mut Item, source: WorldRank)
+pub(crate) fn sign(item: &mut Item, source: WorldRank)
     ensures { item.new ≡ signed_by source item.old }
 {
     if let Item::Letter(letter) = item {

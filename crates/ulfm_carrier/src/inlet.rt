@@ -3,7 +3,7 @@ ghost use Rattle.std.specs.Prelude.{◌≡◌, ◌+◌, ◌<◌, ◌≤◌, ◌+
 ghost use Rattle.rtrb.specs.Ring.{sent, received, IsPair, consumer_capacity};
 ghost use Rattle.ulfm_base.specs.declared.item.Item.{Item as Sent};
 
-use crate::carried::Carried;
+use crate::carried::{Carried, sign};
 use rtrb::{Consumer, Producer};
 use ulfm_base::{Item, WorldRank};
 
@@ -51,8 +51,9 @@ impl Inlet {
         ensures same { (self.new.source ≡ self.old.source) × (self.new.gathered ≡ None) }
         ensures taken { ComesFrom self.old.source.number result × (taken_by self.new ≡ taken_by self.old ++ result ∷ []) }
     {
-        let carried = self.ring.pop_known();
-        carried.from(self.source)
+        let mut item = self.ring.pop_known().item;
+        sign(&mut item, self.source);
+        item
     }
 
     /// Takes all that is in the ring, whose other end is this one, and puts it behind what is left.

@@ -97,7 +97,8 @@ impl LaneEnds {
                 continue;
             }
             self.next = peer + 1;
-            let item = self.take_from(peer);
+            let inlet = &mut self.ins[peer as usize];
+            let item = inlet.take();
             return Some((WorldRank { number: peer }, item));
         }
         None
@@ -115,20 +116,6 @@ impl LaneEnds {
     {
         let inlet = &mut self.ins[peer as usize];
         inlet.has_item()
-    }
-    /// Takes the item that was found in the ring from one rank.
-    fn take_from(&mut self, peer: u8) -> Item
-        requires ready { IsReady self.old }
-        requires peer { peer < vec_len self.old.outs }
-        requires found { 0 < length (seen_from self.old peer) }
-        ensures name { (lane_name self.new ≡ lane_name self.old) × (self.new.me ≡ self.old.me) × (self.new.outs ≡ self.old.outs) × IsReady self.new }
-        ensures next { self.new.next ≡ self.old.next }
-        ensures others_seen { (p : ℕ) → p ≢ peer → seen_from self.new p ≡ seen_from self.old p }
-        ensures others { (p : ℕ) → p ≢ peer → lane_taken self.new p ≡ lane_taken self.old p }
-        ensures taken { ComesFrom peer result × (lane_taken self.new peer ≡ lane_taken self.old peer ++ result ∷ []) }
-    {
-        let inlet = &mut self.ins[peer as usize];
-        inlet.take()
     }
 }
 

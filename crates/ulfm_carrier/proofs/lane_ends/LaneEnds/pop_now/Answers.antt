@@ -1,21 +1,70 @@
-use Rattle.std.proofs.Common.{◌≡◌, ◌≢◌, ◌+◌, ◌%◌, length, ap, sym, ◌∙◌, arith}
-use Rattle.ulfm_carrier.specs.Lanes.{seen_from}
+use Rattle.std.proofs.Common.{◌≡◌, ◌≢◌, ◌<◌, ◌+◌, ◌%◌, ◌++◌, ◌∷◌, [], get_or, map, set, length, vec_len, refl, ap, sym, ◌∙◌, arith, subst}
+use Rattle.std.proofs.lemmas.Nat.{mod_below}
+use Rattle.ulfm_carrier.specs.Family.{ComesFrom}
+use Rattle.ulfm_carrier.specs.Lanes.{taken_by, seen_in}
+use Rattle.ulfm_carrier.proofs.Places.{at_read, view_other}
+use Rattle.ulfm_carrier.proofs.Rings.{taken_from, taken_more}
 use Rattle.ulfm_carrier.proofs.Turns.{turns_apart, none_seen}
 use Rattle.ulfm_carrier.proofs.lane_ends.LaneEnds.pop_now.Goals as goal
+
+pub returns-in-loop-step-clause-name : goal.returns-in-loop-step-clause-name
+returns-in-loop-step-clause-name c =
+    let now = c.has_item_from.new.self in
+    let was = c.loop-step.invariant in
+    let found = c.has_item_from.ensures in
+    let count = c.len-count.result in
+    let place = (c.args.self.now.next + c.loop-step.step) % count in
+    let many : length now.ins.items ≡ count = found.name.3.rings.square ∙ ap (λ v. length v.items) found.name.2 ∙ sym was.ready.rings.square ∙ was.many in
+    let inside : place < count = mod_below (c.args.self.now.next + c.loop-step.step) count (omega (arith, c.loop-step-test.true)) in
+    let low : place < length now.ins.items = omega (arith, many, inside) in
+    let took = c.take-item.ensures in
+    let t = taken_from now _ place c.index_mut-inlet.result.now c.take-item.new.self refl refl refl refl refl c.index_mut-inlet.ensures.value low took.name.0 took.name.1 took.same.0 took.same.1 found.name.3 in
+    (t.0 ∙ found.name.0 ∙ was.name, found.name.1 ∙ was.me, ap (λ v. vec_len v) (found.name.2 ∙ was.outs), t.1)
+
+pub returns-in-loop-step-clause-sender : goal.returns-in-loop-step-clause-sender
+returns-in-loop-step-clause-sender c =
+    let now = c.has_item_from.new.self in
+    let was = c.loop-step.invariant in
+    let found = c.has_item_from.ensures in
+    let count = c.len-count.result in
+    let place = (c.args.self.now.next + c.loop-step.step) % count in
+    let many : length now.ins.items ≡ count = found.name.3.rings.square ∙ ap (λ v. length v.items) found.name.2 ∙ sym was.ready.rings.square ∙ was.many in
+    let inside : place < count = mod_below (c.args.self.now.next + c.loop-step.step) count (omega (arith, c.loop-step-test.true)) in
+    let low : place < length now.ins.items = omega (arith, many, inside) in
+    let is = found.name.3.rings.live place c.index_mut-inlet.result.now (at_read now.ins.items place c.index_mut-inlet.result.now low c.index_mut-inlet.ensures.value) in
+    (omega (arith, inside, c.len-count.ensures, c.requires.ready.rings.square, c.args.self.now.ins.ok, c.args.self.now.outs.ok), subst (λ n. ComesFrom n c.take-item.result) is.0 c.take-item.ensures.taken.0)
+
+pub returns-in-loop-step-clause-taken : goal.returns-in-loop-step-clause-taken
+returns-in-loop-step-clause-taken c =
+    let now = c.has_item_from.new.self in
+    let was = c.loop-step.invariant in
+    let found = c.has_item_from.ensures in
+    let count = c.len-count.result in
+    let item = c.take-item.result in
+    let place = (c.args.self.now.next + c.loop-step.step) % count in
+    let many : length now.ins.items ≡ count = found.name.3.rings.square ∙ ap (λ v. length v.items) found.name.2 ∙ sym was.ready.rings.square ∙ was.many in
+    let inside : place < count = mod_below (c.args.self.now.next + c.loop-step.step) count (omega (arith, c.loop-step-test.true)) in
+    let low : place < length now.ins.items = omega (arith, many, inside) in (
+      taken_more place now.ins.items c.index_mut-inlet.result.now c.take-item.new.self item low c.index_mut-inlet.ensures.value c.take-item.ensures.taken.1 ∙ ap (λ l. l ++ item ∷ []) (found.taken place ∙ was.taken place),
+      λ p apart. view_other taken_by now.ins.items place p c.take-item.new.self [] apart ∙ found.taken p ∙ was.taken p,
+    )
 
 pub returns-in-loop-step-clause-in_turn : goal.returns-in-loop-step-clause-in_turn
 returns-in-loop-step-clause-in_turn c =
     let e = c.args.self.now in
+    let now = c.has_item_from.new.self in
     let count = c.len-count.result in
+    let found = (e.next + c.loop-step.step) % count in
     let many : count ≡ length e.ins.items = omega (arith, c.len-count.ensures, e.ins.ok) in record {
       passed = c.loop-step.step;
       turn = ap (λ n. (e.next + c.loop-step.step) % n) many;
       nothing_seen = λ j low.
           let place = (e.next + j) % count in
-          let apart : place ≢ (e.next + c.loop-step.step) % count = turns_apart e.next j c.loop-step.step count low c.loop-step-test.true in
-          ap (λ n. seen_from c.take_from-item.new.self ((e.next + j) % n)) (sym many) ∙ c.take_from-item.ensures.others_seen place apart ∙ c.has_item_from.ensures.others_seen place apart
+          let apart : place ≢ found = turns_apart e.next j c.loop-step.step count low c.loop-step-test.true in
+          let after = map seen_in (set now.ins.items found c.take-item.new.self) in
+          ap (λ n. get_or after ((e.next + j) % n) []) (sym many) ∙ view_other seen_in now.ins.items found place c.take-item.new.self [] apart ∙ c.has_item_from.ensures.others_seen place apart
           ∙ c.loop-step.invariant.nothing_seen j low;
-      next = c.take_from-item.ensures.next;
+      next = refl;
     }
 
 pub returns-clause-nothing_seen : goal.returns-clause-nothing_seen
