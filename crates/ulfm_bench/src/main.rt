@@ -1,5 +1,6 @@
 //! How fast letters go over the two carriers, beside the kit's rings and queues alone: on standard error, in letters a second.
-//! The first word, if there is one, is the number of letters of each trip.
+//! The first word, if there is one, is the number of letters of each trip; the second the bytes of the letters, 8 or 1024, where
+//! the trips of one size alone are made.
 #![tactic(auto)]
 
 mod pairs;
@@ -20,29 +21,30 @@ use std::time::{Clock, Duration};
 /// How many letters each trip has, where no word says it.
 const LETTERS: u32 = 20_000;
 
+/// The bytes of the letters.
+const SIZES: [u32; 2] = [8, 1024];
+
 fn main(rt: HostRuntime) -> ExitCode {
-    let count = letters(&rt);
-    for bytes in [8, 1024] {
-        if there_each(&rt, rt.alloc(), bytes, count).is_none() {
+    let count = number(&rt, 1).unwrap_or(LETTERS);
+    let only = number(&rt, 2);
+    for bytes in SIZES {
+        if only.unwrap_or(bytes) != bytes {
+            continue;
+        }
+        if there_each(&rt, rt.alloc(), bytes as usize, count).is_none() {
             return ExitCode::from(1);
         }
-        if and_back_each(&rt, rt.alloc(), bytes, count).is_none() {
+        if and_back_each(&rt, rt.alloc(), bytes as usize, count).is_none() {
             return ExitCode::from(1);
         }
     }
     ExitCode::from(0)
 }
 
-/// The number that the first word after the program's name has.
-fn letters(rt: &HostRuntime) -> u32 {
-    let Ok(words) = env::args(rt) else {
-        return LETTERS;
-    };
-    let mut words = words;
-    match words.nth(1) {
-        Some(word) => word.parse().unwrap_or(LETTERS),
-        None => LETTERS,
-    }
+/// The number that a word has, by its place after the program's name, if it has one.
+fn number(rt: &HostRuntime, place: usize) -> Option<u32> {
+    let mut words = env::args(rt).ok()?;
+    words.nth(place)?.parse().ok()
 }
 
 /// The trip one way over each carrier and each ring or queue alone, with letters of so many bytes. Nothing where one of them

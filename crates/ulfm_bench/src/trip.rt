@@ -20,7 +20,7 @@ fn push_one<R: Wait, W: Way>(rt: &R, way: &mut W, item: &Item) -> bool {
     false
 }
 
-/// Pops an item to the place of another, as often as it takes: whether one came.
+/// Pops an item into the place of another, as often as it takes: whether one came.
 fn pop_one<R: Wait, W: Way>(rt: &R, way: &mut W, place: &mut Item) -> bool {
     for _ in 0..TRIES {
         if way.pop(rt, place) {

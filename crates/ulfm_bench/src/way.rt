@@ -18,7 +18,7 @@ pub trait Way: Drop {
     /// Pushes a copy of an item of this rank: whether there was room.
     fn push<R: Wait>(&mut self, rt: &R, item: &Item) -> bool;
 
-    /// Pops an item to the place of another: whether one was there.
+    /// Pops an item into the place of another: whether one was there.
     fn pop<R: Wait>(&mut self, rt: &R, place: &mut Item) -> bool;
 }
 
