@@ -17,8 +17,8 @@ pub trait Decider: Drop {
     ghost known: { Self → List (Option Decided) };
 
     /// Hands a decision in, and answers the one that it knows of this shrink from now on: the one that it knew, else, if it
-    /// shares no cell, this one. That one which shares its cells answers the first that was handed in at them is held by
-    /// tests alone.
+    /// shares no cell, this one. That a decider which shares its cells answers the first decision that was handed in at them
+    /// is held by tests alone.
     ///
     /// # Errors
     ///

@@ -40,9 +40,9 @@ use ulfm_script::{Job, RankReport, RunFault};
 /// # Errors
 ///
 /// `BadEnds` where the number of ends or of deciders isn't that of the ranks, or an end stands at another place than its
-/// number; no thread is started then. `NoThread` where a thread couldn't be started, `OutOfMemory` where a growth before
-/// the first turn or after the last was refused, `Untrue` where a decision that a rank adopted lists a set that isn't that
-/// of its rank's own entry, or excludes a rank that didn't stop; the threads that were started have run to their end then.
+/// number; no thread is started then. `NoThread` where a thread couldn't be started, `OutOfMemory` where a growth outside the
+/// turns of the ranks was refused, `Untrue` where a decision that a rank adopted lists a set that isn't that of its rank's
+/// own entry, or excludes a rank that didn't stop; the threads that were started have run to their end then.
 pub fn run_job<E, D, R>(
     rt: &R,
     alloc: Global,

@@ -43,8 +43,8 @@ fn has_revoked(told: &RankReport, context: Context) -> bool {
     })
 }
 
-/// The failures with which a rank entered the shrink of the world, as another rank knows it: by its own entry, or by the first
-/// word that it took.
+/// The failures with which a member entered the shrink of the world, as this rank has it: its own entry, or the first word that
+/// it took of the member.
 fn listed(told: &RankReport, member: WorldRank) -> Option<RankSet> {
     told.log().iter().find_map(|entry| match entry {
         Entry::Entered(context, known) if *context == Context::WORLD && told.me() == member => {
@@ -74,7 +74,7 @@ fn proposes(told: &RankReport, reports: &[RankReport]) -> bool {
     })
 }
 
-/// Whether what one running rank revoked or saw stop is known to another.
+/// Whether a running rank knows that another stopped, or, where that one runs, has revoked all that it revoked.
 fn agrees(told: &RankReport, other: &RankReport) -> bool {
     if other.stopped() {
         return knows(told, other.me());
@@ -85,7 +85,7 @@ fn agrees(told: &RankReport, other: &RankReport) -> bool {
     })
 }
 
-/// Whether the facts of rest hold of these reports.
+/// Whether the facts of rest hold of these reports, of shrinks that of the world alone.
 fn is_settled(reports: &[RankReport]) -> bool {
     let all_entered = reports
         .iter()
