@@ -49,8 +49,14 @@ fn pop<R: Wait>(rt: &R, ends: &mut Vec<SharedEnds>) -> Option<(u8, Option<u8>)>
     found.map(|(source, item)| (source.number, byte_of(&item)))
 }
 
-// Ranks 0 and 1 push so many letters by turns: whether each was accepted.
-fn accepts_all<R: Wait>(rt: &R, ends: &mut Vec<SharedEnds>, count: u8) -> Result<bool, CallError>
+// The first ranks, so many, push letters by turns: whether each was accepted.
+fn accepts_all<R: Wait>(
+    rt: &R,
+    ends: &mut Vec<SharedEnds>,
+    ranks: u8,
+    count: u8,
+) -> Result<bool, CallError>
+    requires some { 0 < ranks }
     requires dest { 1 < vec_len ends.old }
     requires family { OneCall (map shared_name ends.old.items) }
     requires ready { AllReady ends.old.items }
@@ -59,7 +65,7 @@ fn accepts_all<R: Wait>(rt: &R, ends: &mut Vec<SharedEnds>, count: u8) -> Result
     ensures ready { AllReady ends.new.items }
 {
     for byte in 0..count {
-        if push(rt, ends, byte % 2, byte)?.is_some() {
+        if push(rt, ends, byte % ranks, byte)?.is_some() {
             return Ok(false);
         }
     }
@@ -67,7 +73,8 @@ fn accepts_all<R: Wait>(rt: &R, ends: &mut Vec<SharedEnds>, count: u8) -> Result
 }
 
 // Rank 1 pops: whether it finds those letters, in their order, and no more.
-fn finds_all<R: Wait>(rt: &R, ends: &mut Vec<SharedEnds>, count: u8) -> bool
+fn finds_all<R: Wait>(rt: &R, ends: &mut Vec<SharedEnds>, ranks: u8, count: u8) -> bool
+    requires some { 0 < ranks }
     requires place { 1 < vec_len ends.old }
     requires family { OneCall (map shared_name ends.old.items) }
     requires ready { AllReady ends.old.items }
@@ -76,7 +83,7 @@ fn finds_all<R: Wait>(rt: &R, ends: &mut Vec<SharedEnds>, count: u8) -> bool
     ensures ready { AllReady ends.new.items }
 {
     for byte in 0..count {
-        if pop(rt, ends) != Some((byte % 2, Some(byte))) {
+        if pop(rt, ends) != Some((byte % ranks, Some(byte))) {
             return false;
         }
     }
@@ -109,12 +116,12 @@ fn shared_ends_for_threads(rt: HostRuntime) -> Result<(), Fail> {
 
 #[test]
 fn inboxes_of_their_capacity(rt: HostRuntime) -> Result<(), Fail> {
-    for capacity in [1, 2, 64] {
-        let mut ends = shared(rt.alloc(), 2, capacity)?;
-        assert!(rt; accepts_all(&rt, &mut ends, capacity)?);
+    for (ranks, capacity) in [(2, 1), (2, 2), (2, 64), (8, 1), (8, 64)] {
+        let mut ends = shared(rt.alloc(), ranks, capacity)?;
+        assert!(rt; accepts_all(&rt, &mut ends, ranks, capacity)?);
         assert_eq!(rt; push(&rt, &mut ends, 0, b'A')?, Some(b'A'));
-        assert_eq!(rt; push(&rt, &mut ends, 1, b'B')?, Some(b'B'));
-        assert!(rt; finds_all(&rt, &mut ends, capacity));
+        assert_eq!(rt; push(&rt, &mut ends, ranks - 1, b'B')?, Some(b'B'));
+        assert!(rt; finds_all(&rt, &mut ends, ranks, capacity));
     }
     Ok(())
 }
