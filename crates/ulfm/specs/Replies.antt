@@ -61,6 +61,10 @@ failed_text run.Untrue = codes "run failed: F4\n"
 abbrev pub starved_text : List ℕ
 starved_text = failed_text run.OutOfMemory
 
+-- the line for words that can't be read
+abbrev pub not_text : List ℕ
+not_text = codes "a word of the command line isn't UTF-8\n"
+
 -- The status and the text that `check` gives for these bytes: the line of their job with 0, of its refusal with 1,
 -- which may be J7, or of want of memory with 3.
 pub data IsCheckReply (bytes : List ℕ) : ℕ → List ℕ → Type 0 where

@@ -3,7 +3,7 @@ ghost use Rattle.std.specs.Prelude.{◌≢◌, ◌≡◌, ◌≤◌, [], false, 
 ghost use Rattle.std.specs.Io.KnownBytes.{Keeps, Appends};
 ghost use Rattle.clap.specs.Words.{kind_of};
 ghost use Rattle.ulfm.specs.declared.command.Wanted.{Wanted};
-ghost use Rattle.ulfm.specs.Replies.{IsReplyTo, GetsReply, GetsBeginning, GetsFront, GetsFrontOf, starved_text};
+ghost use Rattle.ulfm.specs.Replies.{IsReplyTo, GetsReply, GetsBeginning, GetsFront, GetsFrontOf, not_text, starved_text};
 ghost use Rattle.ulfm.specs.Words.{AsksFor, faults, status_of, IsWordsStatus};
 
 use crate::command::{Wanted, wanted_of};
@@ -55,7 +55,7 @@ where
 /// The reply where the words can't be had: they find no memory, or aren't UTF-8. Answers the status.
 pub fn without_words<W: Write>(is_starved: bool, output: &mut W) -> u8
     ensures starved { IsTrue is_starved → result ≤ 3 → (result ≡ 3) × Appends (W.contents output.old) (W.contents output.new) starved_text }
-    ensures not_text { is_starved ≡ false → result ≤ 3 → result ≡ 2 }
+    ensures not_text { is_starved ≡ false → result ≤ 3 → (result ≡ 2) × Appends (W.contents output.old) (W.contents output.new) not_text }
     ensures known { result ≤ 4 }
 {
     if is_starved {

@@ -1,6 +1,10 @@
 //! The reply of `run`.
-ghost use Rattle.ulfm_carrier.specs.Family.{InPlace, AllFresh};
-ghost use Rattle.std.specs.Prelude.{length, map, ◌≡◌, ◌≢◌, IfErr, IfOk, string_bytes};
+ghost use Rattle.std.specs.Prelude.{length, map, ℕ, ◌≡◌, ◌<◌, ◌≢◌, IfErr, IfOk, string_bytes, vec_len};
+ghost use Rattle.ulfm_carrier.specs.declared.lane_ends.LaneEnds.{LaneEnds as Lanes};
+ghost use Rattle.ulfm_carrier.specs.declared.shared_ends.SharedEnds.{SharedEnds as Shared};
+ghost use Rattle.ulfm_carrier.specs.Family.{at, InPlace, AllFresh};
+ghost use Rattle.ulfm_carrier.specs.Lanes.{known_room, lane_name, lane_pushed, lane_taken, IsReady as IsReadyLane, OneCall as OneWiring};
+ghost use Rattle.ulfm_carrier.specs.Shared.{inbox_capacity, shared_name, shared_pushed, shared_taken, IsReady as IsReadyShared, OneCall as OneSeating};
 ghost use Rattle.ulfm.specs.Replies.{failed_text, failure_of, IsRunReply};
 ghost use Rattle.ulfm_run.specs.Lawful.{IsLawful};
 
@@ -9,8 +13,9 @@ use crate::reply::{DONE, RUN_FAILED, Reply, refusal};
 use std::alloc::{AllocError, Global};
 use std::sync::Wait;
 use std::thread::Threads;
+use ulfm_base::CallError;
 use ulfm_board::seats;
-use ulfm_carrier::{Ends, lanes, shared};
+use ulfm_carrier::{Ends, LaneEnds, SharedEnds, lanes, shared};
 use ulfm_run::{Report, run_job};
 use ulfm_script::{Job, RankReport, RunFault, trace_text};
 
@@ -87,10 +92,21 @@ fn run_by_lanes<R: Threads + Wait + Sync>(
 ) -> Result<Vec<RankReport>, Failure>
     ensures { IfOk result (λ reports. IsLawful job.now reports.items) }
 {
-    match lanes(alloc, job.ranks(), job.capacity()) {
+    match lanes_of(alloc, job) {
         Ok(ends) => run_by(rt, alloc, job, ends),
         Err(_) => Err(Failure::OutOfMemory),
     }
+}
+
+/// The ends of a job's ranks by rings, each of which has as many places as the job says.
+fn lanes_of(alloc: Global, job: &Job) -> Result<Vec<LaneEnds>, CallError>
+    ensures each { IfOk result (λ ends. vec_len ends ≡ job.now.ranks) }
+    ensures family { IfOk result (λ ends. OneWiring (map lane_name ends.items)) }
+    ensures places { IfOk result (λ ends. InPlace (λ (e : Lanes). e.me.number) ends.items) }
+    ensures fresh { IfOk result (λ ends. AllFresh (λ (e : Lanes). vec_len e.outs) lane_pushed lane_taken IsReadyLane ends.items) }
+    ensures room { IfOk result (λ ends. (k d : ℕ) (e : Lanes) → at ends.items k e → d < job.now.ranks → known_room e d ≡ job.now.capacity) }
+{
+    lanes(alloc, job.ranks(), job.capacity())
 }
 
 /// What the ranks of a job did, with one inbox for each rank.
@@ -101,10 +117,21 @@ fn run_by_shared<R: Threads + Wait + Sync>(
 ) -> Result<Vec<RankReport>, Failure>
     ensures { IfOk result (λ reports. IsLawful job.now reports.items) }
 {
-    match shared(alloc, job.ranks(), job.capacity()) {
+    match shared_of(alloc, job) {
         Ok(ends) => run_by(rt, alloc, job, ends),
         Err(_) => Err(Failure::OutOfMemory),
     }
+}
+
+/// The ends of a job's ranks by shared inboxes, each of which has as many places as the job says.
+fn shared_of(alloc: Global, job: &Job) -> Result<Vec<SharedEnds>, CallError>
+    ensures each { IfOk result (λ ends. vec_len ends ≡ job.now.ranks) }
+    ensures family { IfOk result (λ ends. OneSeating (map shared_name ends.items)) }
+    ensures places { IfOk result (λ ends. InPlace (λ (e : Shared). e.me.number) ends.items) }
+    ensures fresh { IfOk result (λ ends. AllFresh (λ (e : Shared). vec_len e.outs) shared_pushed shared_taken IsReadyShared ends.items) }
+    ensures capacities { IfOk result (λ ends. (k d : ℕ) (e : Shared) → at ends.items k e → d < job.now.ranks → inbox_capacity e d ≡ job.now.capacity) }
+{
+    shared(alloc, job.ranks(), job.capacity())
 }
 
 /// What the ranks of a job did, each in a thread of its own with its end of a carrier.
