@@ -1,5 +1,5 @@
 //! Receives and their tests (MPI 4.0, 3.7).
-ghost use Rattle.std.specs.Prelude.{◌≡◌, ℕ, length, true, false, IfOk, IfErr, OnOk, OnErr};
+ghost use Rattle.std.specs.Prelude.{◌≡◌, ℕ, length, true, false, IfOk, IfErr, IsTrue, OnOk, OnErr};
 ghost use Rattle.ulfm_base.specs.declared.pattern.Pattern.{Pattern};
 ghost use Rattle.ulfm_match.specs.History.{number};
 ghost use Rattle.ulfm_match.specs.Pairing.{Pairing, LawfulPairing};
@@ -69,6 +69,7 @@ impl Rank {
         ensures request { IfOk result (λ id. (i : ℕ) × (pattern : Pattern) × IsRequest self.new.state.log id.number i pattern) }
         ensures refused { IfErr result (FailsOrStarves (receive_checks self.old.state comm.context.number source)) }
         ensures unchanged { OnErr result (self.new.state ≡ self.old.state) }
+        ensures stays_prepared { OnErr result (IsTrue self.old.prepared → IsTrue self.new.prepared) }
     {
         let pattern = self.pattern_of(comm, source, tag, room)?;
         let places = self.requests.len() + 3;
@@ -103,6 +104,7 @@ impl Rank {
         ensures stays { IfOk result (λ answer. is_release answer ≡ false → self.new.state ≡ self.old.state) }
         ensures refused { IfErr result (IsTestRefusal self.old.state.log id.number) }
         ensures unchanged { OnErr result (self.new ≡ self.old) }
+        ensures prepared { self.new.prepared ≡ self.old.prepared }
     {
         if self.stopped {
             return Err(CallError::Stopped);

@@ -1,5 +1,5 @@
 //! Failures, revocations and the rank's own stop (ULFM).
-ghost use Rattle.std.specs.Prelude.{◌≡◌, [], false, IfOk, IfErr, OnOk, OnErr};
+ghost use Rattle.std.specs.Prelude.{◌≡◌, [], false, IfOk, IfErr, IsTrue, OnOk, OnErr};
 ghost use Rattle.ulfm_rank.specs.Calls.{acknowledging, revoking, stopping};
 ghost use Rattle.ulfm_rank.specs.Checks.{Passes, Fails, FailsOrStarves, group_at, comm_checks};
 ghost use Rattle.ulfm_rank.specs.Facts.{is_revoked, known_in, ack_answer};
@@ -50,6 +50,8 @@ impl Rank {
         ensures state { IfOk result (λ total. self.new.state ≡ acknowledging self.old.state comm.context total) }
         ensures refused { IfErr result (FailsOrStarves (comm_checks self.old.state comm.context.number [])) }
         ensures unchanged { OnErr result (self.new.state ≡ self.old.state) }
+        ensures room_lacked { IfErr result (λ e. e ≡ CallError.OutOfMemory → self.old.prepared ≡ false) }
+        ensures stays_prepared { OnErr result (IsTrue self.old.prepared → IsTrue self.new.prepared) }
     {
         let group = self.running_group(comm)?.copied();
         self.log.reserve(self.requests.len() + 2)?;
@@ -75,6 +77,8 @@ impl Rank {
         ensures refused { IfErr result (FailsOrStarves (comm_checks self.old.state comm.context.number [])) }
         ensures grows { IfErr result (λ e. e ≡ CallError.OutOfMemory → is_revoked self.old.state.log comm.context.number ≡ false) }
         ensures unchanged { OnErr result (self.new.state ≡ self.old.state) }
+        ensures room_lacked { IfErr result (λ e. e ≡ CallError.OutOfMemory → self.old.prepared ≡ false) }
+        ensures stays_prepared { OnErr result (IsTrue self.old.prepared → IsTrue self.new.prepared) }
     {
         let _ = self.running_group(comm)?;
         if self.faults.is_revoked(comm.context) {

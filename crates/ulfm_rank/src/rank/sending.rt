@@ -1,5 +1,5 @@
 //! Sends and communicators (MPI 4.0, 3 and 7).
-ghost use Rattle.std.specs.Prelude.{◌≡◌, ◌<◌, [], ◌∷◌, length, slice_get, IfOk, IfErr, OnOk, OnErr, Some, None};
+ghost use Rattle.std.specs.Prelude.{◌≡◌, ◌<◌, [], ◌∷◌, false, length, slice_get, IfOk, IfErr, IsTrue, OnOk, OnErr, Some, None};
 ghost use Rattle.ulfm_base.specs.Context.{dup_of};
 ghost use Rattle.ulfm_rank.specs.Calls.{Sends};
 ghost use Rattle.ulfm_rank.specs.Checks.{Passes, Fails, FailsOrStarves, group_at, send_checks, dup_checks};
@@ -40,6 +40,8 @@ impl Rank {
         ensures sends { OnOk result (Sends self.old.state comm dest tag body.now self.new.state) }
         ensures refused { IfErr result (FailsOrStarves (send_checks self.old.state comm.context.number dest (length body.now))) }
         ensures unchanged { OnErr result (self.new.state ≡ self.old.state) }
+        ensures room_lacked { IfErr result (λ e. e ≡ CallError.OutOfMemory → self.old.prepared ≡ false) }
+        ensures stays_prepared { OnErr result (IsTrue self.old.prepared → IsTrue self.new.prepared) }
     {
         let to = self.destination(comm, dest, body.len())?;
         let envelope = Envelope {
@@ -90,6 +92,7 @@ impl Rank {
         ensures state { OnOk result (self.new.state ≡ logged self.old.state (Entry.Duplicated comm.context)) }
         ensures refused { IfErr result (FailsOrStarves (dup_checks self.old.state comm.context.number)) }
         ensures unchanged { OnErr result (self.new.state ≡ self.old.state) }
+        ensures stays_prepared { OnErr result (IsTrue self.old.prepared → IsTrue self.new.prepared) }
     {
         let group = self.running_group(comm)?.copied();
         if self.faults.is_revoked(comm.context) {

@@ -1,5 +1,5 @@
 //! Shrinks (ULFM, shrink).
-ghost use Rattle.std.specs.Prelude.{◌≡◌, ◌<◌, true, IsTrue, Some, IfOk, IfErr, OnOk, OnErr};
+ghost use Rattle.std.specs.Prelude.{◌≡◌, ◌<◌, true, false, IsTrue, Some, IfOk, IfErr, OnOk, OnErr};
 ghost use Rattle.ulfm_base.specs.Context.{shrink_of};
 ghost use Rattle.ulfm_rank.specs.Calls.{Enters, Proposes};
 ghost use Rattle.ulfm_rank.specs.Checks.{Passes, Fails, FailsOrStarves, shrink_checks, proposal_checks, adopt_checks};
@@ -28,6 +28,8 @@ impl Rank {
         ensures enters { OnOk result (Enters self.old.state comm self.new.state) }
         ensures refused { IfErr result (FailsOrStarves (shrink_checks self.old.state comm.context.number)) }
         ensures unchanged { OnErr result (self.new.state ≡ self.old.state) }
+        ensures room_lacked { IfErr result (λ e. e ≡ CallError.OutOfMemory → self.old.prepared ≡ false) }
+        ensures stays_prepared { OnErr result (IsTrue self.old.prepared → IsTrue self.new.prepared) }
     {
         let members = self.running_group(comm)?.members();
         if self.has_entered(comm.context) {
@@ -88,6 +90,7 @@ impl Rank {
         ensures state { OnOk result (self.new.state ≡ logged self.old.state (Entry.Adopted decision)) }
         ensures refused { IfErr result (FailsOrStarves (adopt_checks self.old.state comm.context.number decision)) }
         ensures unchanged { OnErr result (self.new.state ≡ self.old.state) }
+        ensures stays_prepared { OnErr result (IsTrue self.old.prepared → IsTrue self.new.prepared) }
     {
         let context = self.shrunk_context(comm, &decision)?;
         self.log.reserve(self.requests.len() + 2)?;
