@@ -51,3 +51,28 @@ fn numbers_out_of_range(rt: HostRuntime) {
     assert!(rt; matches!(Tag::new(32768), Err(CallError::BadTag)));
     assert!(rt; Tag::new(32767).is_ok());
 }
+
+#[test]
+fn refusals_have_numbers_and_names(rt: HostRuntime) -> Result<(), Fail> {
+    for (error, number, text) in [
+        (CallError::NoComm, 1, "1 NoComm"),
+        (CallError::BadRank, 2, "2 BadRank"),
+        (CallError::BadTag, 3, "3 BadTag"),
+        (CallError::TooLong, 4, "4 TooLong"),
+        (CallError::ProcFailed, 5, "5 ProcFailed"),
+        (CallError::Revoked, 6, "6 Revoked"),
+        (CallError::NoRequest, 7, "7 NoRequest"),
+        (CallError::AlreadyMade, 8, "8 AlreadyMade"),
+        (CallError::NoContext, 9, "9 NoContext"),
+        (CallError::Stopped, 10, "10 Stopped"),
+        (CallError::NotMember, 11, "11 NotMember"),
+        (CallError::OutOfMemory, 12, "12 OutOfMemory"),
+        (CallError::BadSize, 13, "13 BadSize"),
+        (CallError::NotEntered, 14, "14 NotEntered"),
+        (CallError::Truncated, 15, "15 Truncated"),
+    ] {
+        assert_eq!(rt; error as u8, number);
+        assert_eq!(rt; format!(in rt.alloc(); "{error}")?.as_str(), text);
+    }
+    Ok(())
+}
