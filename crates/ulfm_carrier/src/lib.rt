@@ -9,6 +9,8 @@ mod gathering;
 mod inbox;
 mod inlet;
 mod lane_ends;
+#[cfg(test)]
+mod pair_tests;
 mod residue;
 mod seating;
 mod shared_ends;
