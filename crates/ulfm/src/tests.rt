@@ -10,6 +10,8 @@ mod revocations;
 mod rows;
 mod runs;
 mod schedule;
+mod schedule_steps;
+mod schedule_turns;
 mod shrinks;
 mod streams;
 
