@@ -10,7 +10,6 @@ pub mod Frames
 pub mod Gathered
 pub mod Heard
 pub mod Joined
-pub mod Kept
 pub mod Last
 pub mod Opened
 pub mod Passes
