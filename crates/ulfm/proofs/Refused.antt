@@ -7,7 +7,7 @@ use Rattle.ulfm_script.specs.JobText.{job_of_bytes}
 use Rattle.ulfm.specs.declared.command.Wanted.{Wanted}
 use Rattle.ulfm.specs.declared.command.Wanted.TheVariants.{Check, Replay, Run}
 use Rattle.ulfm.specs.declared.run.Failure.TheVariants as run
-use Rattle.ulfm.specs.Replies.{IsCheckReply, IsReplayReply, IsRunReply, IsReplyTo, GetsReply, GetsBeginning, GetsFrontOf, good, refused, no_memory, starved, traced, not_a_job, no_room, failed, ran, no_such_job, no_place, fell, refused_text, starved_text}
+use Rattle.ulfm.specs.Replies.{IsCheckReply, IsReplayReply, IsRunReply, IsReplyTo, GetsReply, GetsBeginning, GetsFrontOf, refused, no_memory, starved, not_a_job, no_room, failed, no_such_job, no_place, fell, refused_text, starved_text}
 
 pub check_refused : (f : JobFault) (bytes : List ℕ) → (f ≢ OutOfMemory → job_of_bytes bytes ≡ Err f) → IsCheckReply bytes 1 (refused_text f)
 check_refused NotToml bytes h = refused _ (h (λ e. cc))
@@ -45,27 +45,3 @@ starved_gets wanted most (Some bytes) old new status h l =
 pub starved_begins : (wanted : Wanted) (most : ℕ) (rest old new : Option (List ℕ)) (status : ℕ) → (status ≡ 4 → GetsFrontOf old new starved_text) → status ≡ 4 → IfSome rest (λ bytes. GetsBeginning (IsReplyTo wanted (take most bytes)) old new)
 starved_begins wanted most None old new status h e = tt
 starved_begins wanted most (Some bytes) old new status h e = let f = h e in (3, starved_text, starved_reply wanted (take most bytes), f.0, f.1)
-
-checks_no_usage : (bytes : List ℕ) (status : ℕ) (text : List ℕ) → IsCheckReply bytes status text → status ≢ 2
-checks_no_usage bytes status text (good job e) = λ e. cc
-checks_no_usage bytes status text (refused f e) = λ e. cc
-checks_no_usage bytes status text no_memory = λ e. cc
-checks_no_usage bytes status text starved = λ e. cc
-
-replays_no_usage : (bytes : List ℕ) (status : ℕ) (text : List ℕ) → IsReplayReply bytes status text → status ≢ 2
-replays_no_usage bytes status text (traced job reports e h f a) = λ e. cc
-replays_no_usage bytes status text (not_a_job f e) = λ e. cc
-replays_no_usage bytes status text no_room = λ e. cc
-replays_no_usage bytes status text failed = λ e. cc
-
-runs_no_usage : (bytes : List ℕ) (status : ℕ) (text : List ℕ) → IsRunReply bytes status text → status ≢ 2
-runs_no_usage bytes status text (ran job reports e h) = λ e. cc
-runs_no_usage bytes status text (no_such_job f e) = λ e. cc
-runs_no_usage bytes status text no_place = λ e. cc
-runs_no_usage bytes status text (fell f) = λ e. cc
-
--- no job is answered by usage
-pub no_usage : (wanted : Wanted) (bytes : List ℕ) (status : ℕ) (text : List ℕ) → IsReplyTo wanted bytes status text → status ≢ 2
-no_usage Check bytes status text h = checks_no_usage bytes status text h
-no_usage Replay bytes status text h = replays_no_usage bytes status text h
-no_usage (Run carrier) bytes status text h = runs_no_usage bytes status text h

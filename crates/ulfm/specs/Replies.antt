@@ -13,9 +13,8 @@ use Rattle.ulfm_script.specs.Plan.{plan_of}
 use Rattle.ulfm_script.specs.JobText.{job_of_bytes}
 use Rattle.ulfm_script.specs.Report.{Report}
 use Rattle.ulfm_script.specs.Trace.{trace_of}
-use Rattle.ulfm_world.specs.Reader.{IsFaithful}
+use Rattle.ulfm_laws.specs.Lawful.{IsLawful}
 use Rattle.ulfm_world.specs.Replay.{IsReplayed, AreSettled}
-use Rattle.ulfm_run.specs.Lawful.{IsLawful}
 use Rattle.ulfm.specs.declared.command.Wanted.{Wanted}
 use Rattle.ulfm.specs.declared.command.Wanted.TheVariants.{Check, Replay, Run}
 use Rattle.ulfm.specs.declared.run.Failure.{Failure}
@@ -73,10 +72,10 @@ pub data IsCheckReply (bytes : List ℕ) : ℕ → List ℕ → Type 0 where
   no_memory : IsCheckReply bytes 1 (refused_text OutOfMemory)
   starved : IsCheckReply bytes 3 starved_text
 
--- The same for `replay`: with 0 the trace of the reports of a replay of the job, whose letters are told as they were sent and
--- matched, and whose running ranks agree at its end on what failed and was revoked, and on each shrink.
+-- The same for `replay`: with 0 the trace of the reports of a replay of the job, which are lawful for it, and whose running
+-- ranks agree at its end on what failed and was revoked, and on each shrink.
 pub data IsReplayReply (bytes : List ℕ) : ℕ → List ℕ → Type 0 where
-  traced : (job : Seen) (reports : List Report) → job_of_bytes bytes ≡ Ok (plan_of job) → IsReplayed job reports → IsFaithful reports → AreSettled reports → IsReplayReply bytes 0 (trace_of reports)
+  traced : (job : Seen) (reports : List Report) → job_of_bytes bytes ≡ Ok (plan_of job) → IsReplayed job reports → IsLawful job reports → AreSettled reports → IsReplayReply bytes 0 (trace_of reports)
   not_a_job : (f : JobFault) → job_of_bytes bytes ≡ Err f → IsReplayReply bytes 1 (refused_text f)
   no_room : IsReplayReply bytes 1 (refused_text OutOfMemory)
   failed : IsReplayReply bytes 3 starved_text

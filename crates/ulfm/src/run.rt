@@ -2,11 +2,12 @@
 ghost use Rattle.std.specs.Prelude.{length, map, ℕ, ◌≡◌, ◌<◌, ◌≢◌, IfErr, IfOk, string_bytes, vec_len};
 ghost use Rattle.ulfm_carrier.specs.declared.lane_ends.LaneEnds.{LaneEnds as Lanes};
 ghost use Rattle.ulfm_carrier.specs.declared.shared_ends.SharedEnds.{SharedEnds as Shared};
-ghost use Rattle.ulfm_carrier.specs.Family.{at, InPlace, AllFresh};
+ghost use Rattle.ulfm_carrier.specs.Family.{AllFresh};
+ghost use Rattle.ulfm_base.specs.Lists.{InPlace, at};
 ghost use Rattle.ulfm_carrier.specs.Lanes.{known_room, lane_name, lane_pushed, lane_taken, IsReady as IsReadyLane, OneCall as OneWiring};
 ghost use Rattle.ulfm_carrier.specs.Shared.{inbox_capacity, shared_name, shared_pushed, shared_taken, IsReady as IsReadyShared, OneCall as OneSeating};
 ghost use Rattle.ulfm.specs.Replies.{failed_text, failure_of, IsRunReply};
-ghost use Rattle.ulfm_run.specs.Lawful.{IsLawful};
+ghost use Rattle.ulfm_laws.specs.Lawful.{IsLawful};
 
 use crate::command::Carrier;
 use crate::reply::{DONE, RUN_FAILED, Reply, refusal};

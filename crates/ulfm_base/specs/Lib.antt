@@ -5,3 +5,5 @@ pub mod Pattern
 pub mod Group
 pub mod Error
 pub mod Decision
+pub mod Lists
+pub mod Items

@@ -1,6 +1,6 @@
 //! Ways for items from one thread to another and back.
 ghost use Rattle.std.specs.Prelude.{◌<◌, vec_len, IsTrue};
-ghost use Rattle.ulfm_carrier.specs.Family.{ComesFrom};
+ghost use Rattle.ulfm_base.specs.Items.{ComesFrom};
 ghost use Rattle.ulfm_carrier.specs.Lanes.{IsReady};
 ghost use Rattle.ulfm_carrier.specs.Shared.{IsReady as IsReadyShared};
 

@@ -3,7 +3,7 @@ use Rattle.std.proofs.Common.{◌≡◌, ◌≢◌, ℕ, cond, eq-eqb, inl, inr,
 use Rattle.std.specs.Prelude.{◌==◌, if◌then◌else◌}
 use Rattle.std.proofs.lemmas.Bool.{ne_eqb, cases_eq}
 use Rattle.ulfm_base.specs.declared.item.Item.{Item}
-use Rattle.ulfm_carrier.specs.Family.{items_from}
+use Rattle.ulfm_base.specs.Items.{items_from}
 use Rattle.ulfm_carrier.specs.Inbox.{Signed}
 use Rattle.ulfm_carrier.proofs.Senders.{items-append}
 

@@ -5,10 +5,11 @@ use Rattle.std.proofs.lemmas.List.{length-map}
 use Rattle.std.proofs.lemmas.Option.{slice_get-get_or}
 use Rattle.ulfm_carrier.specs.declared.inbox.View.{View}
 use Rattle.ulfm_carrier.specs.declared.shared_ends.SharedEnds.{SharedEnds}
-use Rattle.ulfm_carrier.specs.Family.{at}
+use Rattle.ulfm_base.specs.Lists.{at}
 use Rattle.ulfm_carrier.specs.Inbox.{InboxPass}
 use Rattle.ulfm_carrier.specs.Shared.{pass_name, shared_name, shared_pushed, HasPasses, MaySend, IsReceiver, AreOpenFrom, OneCall}
-use Rattle.ulfm_carrier.proofs.Places.{at_view, view_or}
+use Rattle.ulfm_carrier.proofs.Places.{view_or}
+use Rattle.ulfm_base.proofs.Places.{at_view}
 use Rattle.ulfm_carrier.proofs.Frames.{as_many_outs, passes_same, sends_same, receiver_same}
 use Rattle.ulfm_carrier.proofs.Heard.{Hears}
 

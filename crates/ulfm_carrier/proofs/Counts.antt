@@ -1,7 +1,7 @@
 -- How many items the senders below a number have among those of all.
 use Rattle.std.proofs.Common.{◌≡◌, ◌<◌, ◌≤◌, ◌+◌, inl, inr, ℕ, zero, suc, List, [], ◌∷◌, length, refl, ap, ◌∙◌, arith}
 use Rattle.std.proofs.lemmas.Bool.{cases_eq, cases_lt}
-use Rattle.ulfm_carrier.specs.Family.{items_from}
+use Rattle.ulfm_base.specs.Items.{items_from}
 use Rattle.ulfm_carrier.specs.Inbox.{Signed, AllBelow}
 use Rattle.ulfm_carrier.proofs.Changed.{items_here, items_else}
 

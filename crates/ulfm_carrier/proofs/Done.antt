@@ -5,7 +5,9 @@ use Rattle.std.specs.Arc.{arc_value}
 use Rattle.crossbeam_queue.specs.Passes.{view, IsSamePass}
 use Rattle.ulfm_carrier.specs.declared.inbox.View.{View}
 use Rattle.ulfm_carrier.specs.declared.shared_ends.SharedEnds.{SharedEnds}
-use Rattle.ulfm_carrier.specs.Family.{at, items_from, Keeps}
+use Rattle.ulfm_carrier.specs.Family.{Keeps}
+use Rattle.ulfm_base.specs.Items.{items_from}
+use Rattle.ulfm_base.specs.Lists.{at}
 use Rattle.ulfm_carrier.specs.Inbox.{InboxPass}
 use Rattle.ulfm_carrier.specs.Shared.{pass_name, pushed_with, shown, shared_name, shared_pushed, shared_taken, IsOpenFrom, AreOpenFrom}
 use Rattle.ulfm_carrier.proofs.Places.{at_read, at_set}

@@ -8,7 +8,8 @@ use Rattle.crossbeam_queue.specs.Passes.{view}
 use Rattle.ulfm_base.specs.declared.item.Item.{Item}
 use Rattle.ulfm_carrier.specs.declared.inbox.View.{View}
 use Rattle.ulfm_carrier.specs.declared.shared_ends.SharedEnds.{SharedEnds}
-use Rattle.ulfm_carrier.specs.Family.{at, items_from}
+use Rattle.ulfm_base.specs.Items.{items_from}
+use Rattle.ulfm_base.specs.Lists.{at}
 use Rattle.ulfm_carrier.specs.Inbox.{Signed, after_take, after_all, ToldIsTakenAndHeld, ToldIsTaken, IsToldOfAll, AllBelow, EachIsTakenAndHeld}
 use Rattle.ulfm_carrier.specs.Shared.{shown, shared_taken, EachIsTakenAt}
 use Rattle.ulfm_carrier.proofs.Changed.{items_else}

@@ -7,7 +7,8 @@ use Rattle.ulfm_base.specs.declared.item.Item.{Item}
 use Rattle.ulfm_carrier.specs.declared.lane_ends.LaneName.{LaneName}
 use Rattle.ulfm_carrier.specs.declared.lane_ends.LaneEnds.{LaneEnds}
 use Rattle.ulfm_carrier.specs.Carried.{item_of}
-use Rattle.ulfm_carrier.specs.Family.{at, Keeps}
+use Rattle.ulfm_carrier.specs.Family.{Keeps}
+use Rattle.ulfm_base.specs.Lists.{at}
 use Rattle.ulfm_carrier.specs.Lanes.{outlet_name, inlet_name, inlet_capacity, taken_by, lane_name, lane_pushed, lane_taken, HasRings}
 use Rattle.ulfm_carrier.proofs.Places.{at_read, at_here, at_other}
 use Rattle.ulfm_carrier.proofs.Views.{View, view, of_views, same_at, as_many}

@@ -6,7 +6,9 @@ use Rattle.std.specs.declared.vec.Vec.{Vec}
 use Rattle.ulfm_base.specs.declared.rank.WorldRank.{WorldRank}
 use Rattle.ulfm_base.specs.declared.item.Item.{Item}
 use Rattle.ulfm_carrier.specs.declared.lane_ends.LaneEnds.{LaneEnds}
-use Rattle.ulfm_carrier.specs.Family.{at, items_from, Keeps}
+use Rattle.ulfm_carrier.specs.Family.{Keeps}
+use Rattle.ulfm_base.specs.Items.{items_from}
+use Rattle.ulfm_base.specs.Lists.{at}
 use Rattle.ulfm_carrier.specs.Lanes.{lane_name, lane_pushed, lane_taken}
 use Rattle.ulfm_carrier.proofs.Places.{at_push}
 use Rattle.ulfm_carrier.proofs.Views.{as_many}

@@ -6,7 +6,7 @@ use Rattle.crossbeam_queue.specs.Passes.{view, IsSamePass}
 use Rattle.ulfm_base.specs.declared.item.Item.{Item}
 use Rattle.ulfm_carrier.specs.declared.inbox.View.{View}
 use Rattle.ulfm_carrier.specs.declared.shared_ends.SharedEnds.{SharedEnds}
-use Rattle.ulfm_carrier.specs.Family.{at}
+use Rattle.ulfm_base.specs.Lists.{at}
 use Rattle.ulfm_carrier.specs.Inbox.{after_told}
 use Rattle.ulfm_carrier.specs.Shared.{pass_name, pushed_with, shared_pushed, with_outs, with_inlet}
 use Rattle.ulfm_carrier.proofs.Places.{at_read, at_set}

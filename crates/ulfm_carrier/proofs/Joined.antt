@@ -12,10 +12,11 @@ use Rattle.ulfm_carrier.specs.declared.inlet.Inlet.{Inlet}
 use Rattle.ulfm_carrier.specs.declared.lane_ends.RingName.{RingName}
 use Rattle.ulfm_carrier.specs.declared.lane_ends.LaneEnds.{LaneEnds}
 use Rattle.ulfm_carrier.specs.Carried.{item_of}
-use Rattle.ulfm_carrier.specs.Family.{at}
+use Rattle.ulfm_base.specs.Lists.{at}
 use Rattle.ulfm_carrier.specs.Lanes.{Outlet, outlet_name, inlet_name, lane_name, lane_pushed, sent_by, OneCall}
-use Rattle.ulfm_carrier.proofs.Places.{at_read, at_view, view_or}
-use Rattle.ulfm_carrier.proofs.Ranks.{same_rank}
+use Rattle.ulfm_carrier.proofs.Places.{at_read, view_or}
+use Rattle.ulfm_base.proofs.Places.{at_view}
+use Rattle.ulfm_base.proofs.Numbers.{same_rank}
 use Rattle.ulfm_carrier.proofs.Views.{View, view, of_views, same_at, as_many, pushed_at}
 use Rattle.ulfm_carrier.proofs.Faces.{face-pushed}
 

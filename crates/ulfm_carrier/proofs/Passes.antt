@@ -7,7 +7,8 @@ use Rattle.crossbeam_queue.specs.Ring.{idle}
 use Rattle.crossbeam_queue.specs.Fifo.{Held}
 use Rattle.ulfm_base.specs.declared.item.Item.{Item}
 use Rattle.ulfm_carrier.specs.declared.inbox.View.{View}
-use Rattle.ulfm_carrier.specs.Family.{at, items_from}
+use Rattle.ulfm_base.specs.Items.{items_from}
+use Rattle.ulfm_base.specs.Lists.{at}
 use Rattle.ulfm_carrier.specs.Inbox.{Signed, InboxPass, spent, after_push, PushedIsTakenAndHeld}
 use Rattle.ulfm_carrier.specs.Shared.{pass_name, pushed_with}
 use Rattle.ulfm_carrier.proofs.Places.{at_read, at_set, view_here, view_or}

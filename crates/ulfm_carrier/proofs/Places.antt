@@ -1,14 +1,10 @@
 -- Lists looked up by place, after a write at one place.
 use Rattle.std.proofs.Common.{◌≡◌, ◌≢◌, ◌<◌, ◌≤◌, ◌+◌, ◌⊎◌, inl, inr, ◌++◌, ℕ, zero, suc, List, [], ◌∷◌, length, map, set, get_or, Some, refl, ap, sym, ◌∙◌, arith, subst}
 use Rattle.std.specs.Prelude.{slice_get}
-use Rattle.std.specs.Option.{option_map}
 use Rattle.std.proofs.lemmas.List.{map-set, length-map, get_or-set_other, get_or-set_same}
-use Rattle.std.proofs.lemmas.Option.{slice_get-map, slice_get-get_or, get_or_from_slice_get}
-use Rattle.ulfm_carrier.specs.Family.{at}
-
--- a view of the element at k, where a list shows it
-pub at_view : {X Y : Type 0} (f : X → Y) (xs : List X) (k : ℕ) (x : X) → at xs k x → at (map f xs) k (f x)
-at_view f xs k x h = slice_get-map f xs k ∙ ap (option_map f) h
+use Rattle.std.proofs.lemmas.Option.{slice_get-get_or, get_or_from_slice_get}
+use Rattle.ulfm_base.specs.Lists.{at}
+use Rattle.ulfm_base.proofs.Places.{at_view}
 
 pub at_read : {X : Type 0} (xs : List X) (k : ℕ) (x : X) → k < length xs → x ≡ get_or xs k x → at xs k x
 at_read xs k x low here = slice_get-get_or xs k x low ∙ ap Some (sym here)

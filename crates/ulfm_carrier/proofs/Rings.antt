@@ -1,5 +1,5 @@
 -- One ring of an end is written.
-use Rattle.std.proofs.Common.{◌≡◌, ◌<◌, ℕ, Option, None, Some, MatchOption, List, [], ◌∷◌, ◌++◌, length, map, set, get_or, sum, vec_capacity, ap, sym, ◌∙◌, arith, subst}
+use Rattle.std.proofs.Common.{◌≡◌, ◌<◌, ℕ, None, List, [], ◌∷◌, ◌++◌, length, map, set, get_or, sum, vec_capacity, ap, sym, ◌∙◌, arith, subst}
 use Rattle.std.proofs.lemmas.List.{map-append, length-set}
 use Rattle.std.proofs.Math.Seq.{map-set_same}
 use Rattle.rtrb.specs.Ring.{sent, SameProducer}
@@ -8,7 +8,8 @@ use Rattle.ulfm_base.specs.declared.item.Item.{Item}
 use Rattle.ulfm_carrier.specs.declared.inlet.Inlet.{Inlet}
 use Rattle.ulfm_carrier.specs.declared.lane_ends.LaneEnds.{LaneEnds}
 use Rattle.ulfm_carrier.specs.Carried.{carried_of, item_of}
-use Rattle.ulfm_carrier.specs.Family.{ComesFrom, at}
+use Rattle.ulfm_base.specs.Items.{ComesFrom}
+use Rattle.ulfm_base.specs.Lists.{at}
 use Rattle.ulfm_carrier.specs.Lanes.{Outlet, outlet_name, inlet_name, inlet_capacity, sent_by, taken_by, lane_name, IsReady, IsOpen}
 use Rattle.ulfm_carrier.proofs.Places.{at_read, each_set, view_or, view_here}
 use Rattle.ulfm_carrier.proofs.Ranks.{source_back}
@@ -85,9 +86,3 @@ taken_from e f k i j me outs left inboxes ins here low name capacity source gath
 pub taken_more : (k : ℕ) (ins : List Inlet) (i j : Inlet) (x : Item) → k < length ins → i ≡ get_or ins k i → taken_by j ≡ taken_by i ++ x ∷ []
     → get_or (map taken_by (set ins k j)) k [] ≡ get_or (map taken_by ins) k [] ++ x ∷ []
 taken_more k ins i j x low here more = view_here taken_by ins k j [] low ∙ more ∙ ap (λ l. l ++ x ∷ []) (sym (view_or taken_by ins k i [] (at_read ins k i low here)))
-
-pub popped : (k : ℕ) (ins : List Inlet) (i j : Inlet) (r : Option Item) → k < length ins → i ≡ get_or ins k i → i.source.number ≡ k
-    → MatchOption r (taken_by j ≡ taken_by i) (λ item. ComesFrom i.source.number item × (taken_by j ≡ taken_by i ++ item ∷ []))
-    → MatchOption r (get_or (map taken_by (set ins k j)) k [] ≡ get_or (map taken_by ins) k []) (λ item. ComesFrom k item × (get_or (map taken_by (set ins k j)) k [] ≡ get_or (map taken_by ins) k [] ++ item ∷ []))
-popped k ins i j None low here is h = ap (λ l. get_or l k []) (map-set_same taken_by ins k j i (h ∙ ap taken_by here))
-popped k ins i j (Some x) low here is h = (subst (λ n. ComesFrom n x) is h.0, taken_more k ins i j x low here h.1)

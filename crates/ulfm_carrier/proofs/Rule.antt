@@ -8,7 +8,7 @@ use Rattle.crossbeam_queue.specs.Fifo.{Pushes, Pops, Learns}
 use Rattle.ulfm_base.specs.declared.item.Item.{Item}
 use Rattle.ulfm_carrier.specs.declared.inbox.View.{View}
 use Rattle.ulfm_carrier.specs.declared.inbox.Role.TheVariants as role
-use Rattle.ulfm_carrier.specs.Family.{items_from, ComesFrom}
+use Rattle.ulfm_base.specs.Items.{items_from, ComesFrom}
 use Rattle.ulfm_carrier.specs.Inbox.{Signed, receiver, after_push, after_take, Fits, InboxRule, PushedIsTakenAndHeld, EachIsTakenAndHeld, Took}
 use Rattle.ulfm_carrier.proofs.Changed.{change, change_here, change_else, at_or_else, items_push, items_push_else, items_some}
 use Rattle.ulfm_carrier.proofs.Gathered.{each_push}

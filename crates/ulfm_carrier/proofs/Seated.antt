@@ -8,13 +8,15 @@ use Rattle.crossbeam_queue.specs.Passes.{ruled_capacity}
 use Rattle.ulfm_carrier.specs.declared.inbox.View.{View}
 use Rattle.ulfm_carrier.specs.declared.shared_ends.SharedName.{SharedName}
 use Rattle.ulfm_carrier.specs.declared.shared_ends.SharedEnds.{SharedEnds}
-use Rattle.ulfm_carrier.specs.Family.{at, items_from, AllFresh}
+use Rattle.ulfm_carrier.specs.Family.{AllFresh}
+use Rattle.ulfm_base.specs.Items.{items_from}
+use Rattle.ulfm_base.specs.Lists.{at}
 use Rattle.ulfm_carrier.specs.Inbox.{InboxPass}
 use Rattle.ulfm_carrier.specs.Seating.{Queue, AreInboxes, AreMade}
 use Rattle.ulfm_carrier.specs.Shared.{pass_name, pushed_with, shown, shared_name, shared_pushed, shared_taken, inbox_capacity, IsReady, OneCall}
 use Rattle.ulfm_carrier.proofs.Places.{view_or}
 use Rattle.ulfm_carrier.proofs.Whole.{at_map, all_empty}
-use Rattle.ulfm_carrier.proofs.Seats.{has_at}
+use Rattle.ulfm_base.proofs.Places.{there}
 
 pub if_ok : {A E : Type 0} (P Q : A → Type 0) (r : Result A E) → ((x : A) → P x → Q x) → IfOk r P → IfOk r Q
 if_ok P Q (Ok x) f h = f x h
@@ -33,7 +35,7 @@ module _ (n capacity : ℕ) (inboxes : List Queue) (many : length inboxes ≡ n)
   -- the pass of i for the inbox j is of the queue of j
   joined : (i j : ℕ) (x y : SharedEnds) (out : InboxPass) → at ends i x → at ends j y → at x.outs.items j out → out.table_id ≡ y.inlet.table_id
   joined i j x y out at_i at_j at_out =
-      let box = has_at inboxes j (omega (arith, below j y at_j, many)) in
+      let box = there inboxes j (omega (arith, below j y at_j, many)) in
       let a = (made.each i x at_i).outs.1 j box.0 out box.1 at_out in
       let b = (made.each j y at_j).inlet box.0 box.1 in
       a.0.0 ∙ sym b.0.0
@@ -56,7 +58,7 @@ module _ (n capacity : ℕ) (inboxes : List Queue) (many : length inboxes ≡ n)
   ready few k e here =
       let v = made.each k e here in
       let outs = outs_all k e here in
-      let box = has_at inboxes k (omega (arith, below k e here, many)) in
+      let box = there inboxes k (omega (arith, below k e here, many)) in
       let is = (v.inlet box.0 box.1).1 in record {
         passes = record { inside = omega (arith, v.number, below k e here, outs); few = omega (arith, few, outs); inbox_for_each = ap length v.same_inboxes ∙ sym v.outs.0 };
         senders = λ d inbox out at_d at_out.
@@ -68,8 +70,8 @@ module _ (n capacity : ℕ) (inboxes : List Queue) (many : length inboxes ≡ n)
             own = λ inbox at_k.
                 let I : List Queue → Type 0 = λ l. at l e.me.number inbox in
                 let J : ℕ → Type 0 = λ m. at inboxes m inbox in
-                let there : at inboxes k inbox = subst J v.number (subst I v.same_inboxes at_k) in
-                ((v.inlet inbox there).0, omega (arith, capacities k inbox there, v.room));
+                let stands : at inboxes k inbox = subst J v.number (subst I v.same_inboxes at_k) in
+                ((v.inlet inbox stands).0, omega (arith, capacities k inbox stands, v.room));
             receives = ap (λ (u : View). u.role) is;
             made = ap (λ (u : View). u.made) is ∙ sym outs;
             live = v.live;
@@ -84,19 +86,19 @@ module _ (n capacity : ℕ) (inboxes : List Queue) (many : length inboxes ≡ n)
   pub made_fresh : n ≤ 8 → AllFresh (λ (e : SharedEnds). vec_len e.outs) shared_pushed shared_taken IsReady ends
   made_fresh few k e here =
       let v = made.each k e here in
-      let box = has_at inboxes k (omega (arith, below k e here, many)) in
+      let box = there inboxes k (omega (arith, below k e here, many)) in
       let none = ap (λ (u : View). u.taken) (v.inlet box.0 box.1).1 in record {
         is_ready = ready few k e here;
         counted = omega (arith, outs_all k e here, e.outs.ok, made.as_many);
-        nothing_pushed = all_empty pushed_with e.outs.items (λ j out there.
-            let i = has_at inboxes j (omega (arith, slice_get_within e.outs.items j out there, v.outs.0)) in
-            ap (λ (u : View). u.pushed) (v.outs.1 j i.0 out i.1 there).1);
+        nothing_pushed = all_empty pushed_with e.outs.items (λ j out stands.
+            let i = there inboxes j (omega (arith, slice_get_within e.outs.items j out stands, v.outs.0)) in
+            ap (λ (u : View). u.pushed) (v.outs.1 j i.0 out i.1 stands).1);
         nothing_taken = λ p. λ i. items_from p (shown (v.live i) (none i));
       }
 
   pub made_capacities : (k d : ℕ) (e : SharedEnds) → at ends k e → d < n → inbox_capacity e d ≡ capacity
   made_capacities k d e here low =
       let v = made.each k e here in
-      let box = has_at inboxes d (omega (arith, low, many)) in
+      let box = there inboxes d (omega (arith, low, many)) in
       let I : List Queue → Type 0 = λ l. at l d box.0 in
       view_or (λ inbox. ruled_capacity inbox) (arc_value e.inboxes).items d box.0 0 (subst I (sym v.same_inboxes) box.1) ∙ capacities d box.0 box.1

@@ -1,23 +1,16 @@
 -- Inboxes and passes, while they are made one by one.
-use Rattle.std.proofs.Common.{◌≡◌, ◌<◌, ◌≤◌, ◌+◌, inl, inr, ℕ, zero, suc, List, [], ◌∷◌, ◌++◌, length, map, set, refl, ap, sym, ◌∙◌, arith, subst, Some, append_assoc}
+use Rattle.std.proofs.Common.{◌≡◌, ◌<◌, ◌≤◌, ◌+◌, inl, inr, ℕ, List, [], ◌∷◌, ◌++◌, length, map, set, refl, ap, sym, ◌∙◌, arith, subst, append_assoc}
 use Rattle.std.specs.Prelude.{slice_get}
 use Rattle.std.proofs.lemmas.List.{length-map, map-append}
 use Rattle.std.proofs.lemmas.Option.{slice_get_within}
 use Rattle.crossbeam_queue.specs.Passes.{view, IsPassOf, IsSamePass}
 use Rattle.ulfm_carrier.specs.declared.inbox.View.{View}
 use Rattle.ulfm_carrier.specs.declared.shared_ends.SharedEnds.{SharedEnds}
-use Rattle.ulfm_carrier.specs.Family.{at}
+use Rattle.ulfm_base.specs.Lists.{at}
 use Rattle.ulfm_carrier.specs.Inbox.{InboxPass, sender, one_more}
 use Rattle.ulfm_carrier.specs.Seating.{Queue, AreInlets, AreOpenInlets, HaveMadeOneMore, AreNextOuts, AreOuts}
 use Rattle.ulfm_carrier.proofs.Places.{at_push, at_set, at_other}
-
-pub has_at : {X : Type 0} (xs : List X) (k : ℕ) → k < length xs → (x : X) × at xs k x
-has_at [] k low = absurd (omega (arith, low))
-has_at (x ∷ xs) zero low = (x, refl)
-has_at (x ∷ xs) (suc k) low = has_at xs k (omega (arith, low))
-
-pub only_at : {X : Type 0} (xs : List X) (k : ℕ) (x y : X) → at xs k x → at xs k y → y ≡ x
-only_at xs k x y here there = let same : Some y ≡ Some x = sym there ∙ here in cc
+use Rattle.ulfm_base.proofs.Places.{there, only_at}
 
 pub at_middle : {X : Type 0} (xs ys : List X) (x : X) → at (xs ++ x ∷ ys) (length xs) x
 at_middle [] ys x = refl
@@ -43,7 +36,7 @@ open_inlets m inboxes inlets are j inbox inlet at_i at_j = let h = are j inbox i
 
 pub more_inlets : (m : ℕ) (inboxes : List Queue) (before after : List InboxPass) → length after ≡ length before → AreInlets m inboxes before → HaveMadeOneMore before after → AreInlets (m + 1) inboxes after
 more_inlets m inboxes before after many are more j inbox q at_i at_q =
-    let old = has_at before j (omega (arith, slice_get_within after j q at_q, many)) in
+    let old = there before j (omega (arith, slice_get_within after j q at_q, many)) in
     let h = are j inbox old.0 at_i old.1 in
     let g = more j old.0 q old.1 at_q in
     ((g.0.0 ∙ h.0.0, g.0.2 ∙ h.0.1), g.1 ∙ ap one_more h.1)
@@ -52,7 +45,7 @@ pub new_outs : (m : ℕ) (inboxes : List Queue) (inlets outs : List InboxPass) �
 new_outs m inboxes inlets outs many as_many are next = (
   as_many,
   λ j inbox out at_i at_o.
-      let old = has_at inlets j (omega (arith, slice_get_within inboxes j inbox at_i, many)) in
+      let old = there inlets j (omega (arith, slice_get_within inboxes j inbox at_i, many)) in
       let h = are j inbox old.0 at_i old.1 in
       let g = next j inbox old.0 out at_i old.1 at_o in
       (g.0, g.1 ∙ ap (λ (v : View). sender v.made) h.1),

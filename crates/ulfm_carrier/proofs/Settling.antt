@@ -1,22 +1,22 @@
 -- Inbox by inbox, all ends are gathered, of whatever carrier.
-use Rattle.std.proofs.Common.{◌≡◌, ◌<◌, inl, inr, ℕ, List, ◌++◌, length, set, get_or, Some, ap, sym, ◌∙◌, arith, subst}
+use Rattle.std.proofs.Common.{◌≡◌, ◌<◌, inl, inr, ℕ, List, ◌++◌, length, set, get_or, ap, sym, ◌∙◌, arith, subst}
 use Rattle.std.proofs.Math.Seq.{map-set_same}
 use Rattle.std.proofs.lemmas.Option.{slice_get-get_or, slice_get_within}
 use Rattle.std.specs.declared.alloc.Global.{Global}
 use Rattle.std.specs.declared.vec.Vec.{Vec}
 use Rattle.ulfm_base.specs.declared.rank.WorldRank.{WorldRank}
 use Rattle.ulfm_base.specs.declared.item.Item.{Item}
-use Rattle.ulfm_carrier.specs.Family.{at, items_from, Keeps}
+use Rattle.ulfm_carrier.specs.Family.{Keeps}
+use Rattle.ulfm_base.specs.Items.{items_from}
+use Rattle.ulfm_base.specs.Lists.{at}
 use Rattle.ulfm_carrier.proofs.Places.{at_read, at_set}
 use Rattle.ulfm_carrier.proofs.Views.{as_many}
+use Rattle.ulfm_base.proofs.Places.{only_at}
 
 module _ {E N : Type 0} (name : E → N) (pushed taken : E → ℕ → List Item) where
   -- what flows to the rank d, of which the inbox holds what is left
   abbrev pub Flows : List E → ℕ → Vec (WorldRank × Item) Global → Type 0
   Flows ends d inbox = (s : ℕ) (sender receiver : E) → at ends s sender → at ends d receiver → pushed sender d ≡ taken receiver s ++ items_from s inbox.items
-
-  same_end : (ends : List E) (k : ℕ) (e d : E) → at ends k e → at ends k d → d ≡ e
-  same_end ends k e d here there = let same : Some d ≡ Some e = sym there ∙ here in cc
 
   -- the end of the same place in the other list
   still_at : (ends now : List E) → Keeps name pushed taken ends now → (k : ℕ) (e : E) → at ends k e → (f : E) × at now k f
@@ -38,14 +38,14 @@ module _ {E N : Type 0} (name : E → N) (pushed taken : E → ℕ → List Item
         pushed_to = λ j x y at_x at_y p. elim (at_set ends k f j y at_y) [
           | inl h ↦
               let A : ℕ → Type 0 = λ n. at ends n x in
-              ap (λ z. pushed z p) h.1 ∙ pushes p ∙ ap (λ z. pushed z p) (same_end ends k x e (subst A h.0 at_x) there)
-          | inr h ↦ ap (λ z. pushed z p) (same_end ends j x y at_x h.1)
+              ap (λ z. pushed z p) h.1 ∙ pushes p ∙ ap (λ z. pushed z p) (only_at ends k x e (subst A h.0 at_x) there)
+          | inr h ↦ ap (λ z. pushed z p) (only_at ends j x y at_x h.1)
         ];
         taken_from = λ j x y at_x at_y p. elim (at_set ends k f j y at_y) [
           | inl h ↦
               let A : ℕ → Type 0 = λ n. at ends n x in
-              ap (λ z. taken z p) h.1 ∙ takes p ∙ ap (λ z. taken z p) (same_end ends k x e (subst A h.0 at_x) there)
-          | inr h ↦ ap (λ z. taken z p) (same_end ends j x y at_x h.1)
+              ap (λ z. taken z p) h.1 ∙ takes p ∙ ap (λ z. taken z p) (only_at ends k x e (subst A h.0 at_x) there)
+          | inr h ↦ ap (λ z. taken z p) (only_at ends j x y at_x h.1)
         ];
       }
 

@@ -7,7 +7,8 @@ use Rattle.std.proofs.lemmas.Option.{slice_get_within}
 use Rattle.ulfm_base.specs.declared.rank.WorldRank.{WorldRank}
 use Rattle.ulfm_base.specs.declared.item.Item.{Item}
 use Rattle.ulfm_carrier.specs.declared.inlet.Inlet.{Inlet}
-use Rattle.ulfm_carrier.specs.Family.{at, items_from}
+use Rattle.ulfm_base.specs.Items.{items_from}
+use Rattle.ulfm_base.specs.Lists.{at}
 use Rattle.ulfm_carrier.specs.Lanes.{inlet_capacity}
 use Rattle.ulfm_carrier.specs.Tagged.{with_sender}
 use Rattle.ulfm_carrier.proofs.Places.{view_or}

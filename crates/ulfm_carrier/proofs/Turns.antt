@@ -1,10 +1,9 @@
 -- Upwards and round: each place comes once in turn.
-use Rattle.std.proofs.Common.{◌≡◌, ◌≢◌, ◌<◌, ◌≤◌, ◌+◌, ◌-◌, ◌*◌, ◌/◌, ◌%◌, inl, inr, ℕ, suc, [], map, length, Option, None, Some, ap, sym, ◌∙◌, arith}
+use Rattle.std.proofs.Common.{◌≡◌, ◌≢◌, ◌<◌, ◌≤◌, ◌+◌, ◌-◌, ◌*◌, ◌/◌, ◌%◌, inl, inr, ℕ, suc, [], map, length, ap, sym, ◌∙◌, arith}
 use Rattle.std.proofs.lemmas.Bool.{cases_lt}
 use Rattle.std.proofs.lemmas.Nat.{div-add-mod', mod_below, mod-mul-add}
 use Rattle.std.proofs.Math.Nat.{mul-le-mul_right, suc-mul}
 use Rattle.std.proofs.lemmas.List.{get_or_past, length-map}
-use Rattle.std.specs.Prelude.{IfNone}
 use Rattle.ulfm_carrier.specs.declared.lane_ends.LaneEnds.{LaneEnds}
 use Rattle.ulfm_carrier.specs.Lanes.{seen_in, seen_from}
 
@@ -31,10 +30,6 @@ turn_of s c p inside =
           let e : s + (p + c - r) ≡ suc q * c + p = omega arith in (p + c - r, omega arith, ap (λ m. m % c) e ∙ mod-mul-add (suc q) c p inside)
       | inr above ↦ let e : s + (p - r) ≡ q * c + p = omega arith in (p - r, omega arith, ap (λ m. m % c) e ∙ mod-mul-add q c p inside)
     ]
-
-pub if_none : {X : Type 0} (r : Option X) (P Q : Type 0) → (P → Q) → IfNone r P → IfNone r Q
-if_none None P Q f h = f h
-if_none (Some x) P Q f h = h
 
 -- nothing was seen in any ring, where nothing was seen in those of a round
 pub none_seen : (e : LaneEnds) (s c : ℕ) → length e.ins.items ≡ c → ((j : ℕ) → j < c → seen_from e ((s + j) % c) ≡ []) → (p : ℕ) → seen_from e p ≡ []

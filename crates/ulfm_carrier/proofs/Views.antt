@@ -14,8 +14,8 @@ use Rattle.ulfm_carrier.specs.declared.lane_ends.RingName.{RingName}
 use Rattle.ulfm_carrier.specs.declared.lane_ends.LaneEnds.{LaneEnds}
 use Rattle.ulfm_carrier.specs.Lanes.{Outlet, outlet_name, lane_pushed}
 use Rattle.std.specs.Prelude.{slice_get}
-use Rattle.ulfm_carrier.specs.Family.{at}
-use Rattle.ulfm_carrier.proofs.Places.{at_view}
+use Rattle.ulfm_base.specs.Lists.{at}
+use Rattle.ulfm_base.proofs.Places.{at_view}
 
 -- what an end is, but for what it knows of its outgoing rings
 pub record View : Type 0 where

@@ -8,7 +8,8 @@ use Rattle.rtrb.specs.Ring.{known_free}
 use Rattle.ulfm_carrier.specs.declared.lane_ends.LaneName.{LaneName}
 use Rattle.ulfm_carrier.specs.declared.lane_ends.LaneEnds.{LaneEnds}
 use Rattle.ulfm_carrier.specs.Carried.{item_of}
-use Rattle.ulfm_carrier.specs.Family.{at, AllFresh}
+use Rattle.ulfm_carrier.specs.Family.{AllFresh}
+use Rattle.ulfm_base.specs.Lists.{at}
 use Rattle.ulfm_carrier.specs.Lanes.{outlet_name, inlet_name, inlet_capacity, sent_by, taken_by, lane_name, lane_pushed, lane_taken, known_room, IsReady, OneCall}
 use Rattle.ulfm_carrier.specs.Wiring.{AreWired}
 

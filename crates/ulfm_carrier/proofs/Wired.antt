@@ -7,7 +7,7 @@ use Rattle.std.proofs.lemmas.Option.{slice_get_within}
 use Rattle.ulfm_base.specs.declared.rank.WorldRank.{WorldRank}
 use Rattle.ulfm_carrier.specs.declared.inlet.Inlet.{Inlet}
 use Rattle.ulfm_carrier.specs.declared.lane_ends.LaneEnds.{LaneEnds}
-use Rattle.ulfm_carrier.specs.Family.{at}
+use Rattle.ulfm_base.specs.Lists.{at}
 use Rattle.ulfm_carrier.specs.Lanes.{Outlet, outlet_name, inlet_name}
 use Rattle.ulfm_carrier.specs.Wiring.{IsNewOutlet, IsNewInlet, IsWired, AreWired}
 use Rattle.ulfm_carrier.proofs.Places.{view_pushed, view_unpushed}

@@ -3,7 +3,7 @@ use Rattle.std.proofs.Common.{◌≡◌, ◌≢◌, ◌<◌, inl, inr, ℕ, List
 use Rattle.std.proofs.lemmas.List.{length-set}
 use Rattle.ulfm_carrier.specs.declared.inlet.Inlet.{Inlet}
 use Rattle.ulfm_carrier.specs.declared.lane_ends.LaneEnds.{LaneEnds}
-use Rattle.ulfm_carrier.specs.Family.{at}
+use Rattle.ulfm_base.specs.Lists.{at}
 use Rattle.ulfm_carrier.specs.Lanes.{Outlet}
 use Rattle.ulfm_carrier.proofs.Places.{at_read, at_set}
 

@@ -8,7 +8,8 @@ use Rattle.ulfm_base.specs.declared.item.Item.{Item}
 use Rattle.ulfm_carrier.specs.declared.inbox.View.{View}
 use Rattle.ulfm_carrier.specs.declared.inbox.Role.{Role}
 use Rattle.ulfm_carrier.specs.declared.inbox.Role.TheVariants as role
-use Rattle.ulfm_carrier.specs.Family.{at, items_from, ComesFrom}
+use Rattle.ulfm_base.specs.Items.{items_from, ComesFrom}
+use Rattle.ulfm_base.specs.Lists.{at}
 
 -- an item with its sender
 abbrev pub Signed : Type 0

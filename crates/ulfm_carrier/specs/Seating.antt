@@ -1,5 +1,5 @@
 -- Inboxes and their passes while the ends of one call are made.
-use Rattle.std.specs.Prelude.{◌≡◌, ◌≤◌, ℕ, None, List, [], length, vec_capacity}
+use Rattle.std.specs.Prelude.{◌≡◌, ◌≤◌, ℕ, None, List, [], length, vec_capacity, Option}
 use Rattle.std.specs.Arc.{arc_value}
 use Rattle.std.specs.declared.alloc.Global.{Global}
 use Rattle.std.specs.declared.vec.Vec.{Vec}
@@ -11,8 +11,7 @@ use Rattle.ulfm_carrier.specs.declared.inbox.InOrder.{InOrder}
 use Rattle.ulfm_carrier.specs.declared.inbox.View.{View}
 use Rattle.ulfm_carrier.specs.declared.inbox.Role.TheVariants as role
 use Rattle.ulfm_carrier.specs.declared.shared_ends.SharedEnds.{SharedEnds}
-use Rattle.std.specs.Prelude.{Option}
-use Rattle.ulfm_carrier.specs.Family.{at}
+use Rattle.ulfm_base.specs.Lists.{at}
 use Rattle.ulfm_carrier.specs.Inbox.{Signed, InboxPass, receiver, sender, one_more}
 
 -- an inbox under its rule

@@ -5,7 +5,9 @@ ghost use Rattle.crossbeam_queue.specs.Passes.{view, IsSamePass};
 ghost use Rattle.ulfm_base.specs.declared.item.Item.{Item as Sent};
 ghost use Rattle.ulfm_carrier.specs.declared.inbox.Role.TheVariants as role;
 ghost use Rattle.ulfm_carrier.specs.declared.shared_ends.SharedEnds.{SharedEnds as Shared};
-ghost use Rattle.ulfm_carrier.specs.Family.{at, items_from, Keeps, Settled};
+ghost use Rattle.ulfm_carrier.specs.Family.{Keeps, Settled};
+ghost use Rattle.ulfm_base.specs.Items.{items_from};
+ghost use Rattle.ulfm_base.specs.Lists.{at};
 ghost use Rattle.ulfm_carrier.specs.Inbox.{InboxPass as Pass, in_role, after_told, IsToldOfAll};
 ghost use Rattle.ulfm_carrier.specs.Shared.{pass_name, pushed_with, shared_name, shared_pushed, shared_taken, with_outs, with_inlet, HasPasses, MaySend, IsReceiver, IsReady, AreOpenFrom, OneCall};
 

@@ -1,7 +1,9 @@
 //! What every carrier owes to the ranks.
 ghost use Rattle.std.specs.Prelude.{◌≡◌, ◌≢◌, ◌<◌, ℕ, List, [], ◌∷◌, ◌++◌, map, MatchResult, MatchOption};
 ghost use Rattle.ulfm_base.specs.declared.item.Item.{Item as Sent};
-ghost use Rattle.ulfm_carrier.specs.Family.{ComesFrom, at, Keeps, Settled};
+ghost use Rattle.ulfm_carrier.specs.Family.{Keeps, Settled};
+ghost use Rattle.ulfm_base.specs.Items.{ComesFrom};
+ghost use Rattle.ulfm_base.specs.Lists.{at};
 
 use crate::residue::Residue;
 use std::sync::Wait;

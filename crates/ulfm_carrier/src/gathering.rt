@@ -1,7 +1,9 @@
 //! What is left in the rings, once all ends are in one hand.
 ghost use Rattle.std.specs.Prelude.{◌≡◌, ◌≢◌, ◌<◌, ◌≤◌, ◌++◌, [], ℕ, length, map, vec_len};
 ghost use Rattle.ulfm_carrier.specs.declared.lane_ends.LaneEnds.{LaneEnds as Lanes};
-ghost use Rattle.ulfm_carrier.specs.Family.{at, items_from, Keeps, Settled};
+ghost use Rattle.ulfm_carrier.specs.Family.{Keeps, Settled};
+ghost use Rattle.ulfm_base.specs.Items.{items_from};
+ghost use Rattle.ulfm_base.specs.Lists.{at};
 ghost use Rattle.ulfm_carrier.specs.Lanes.{lane_name, lane_pushed, lane_taken, HasRings, IsReady, OneCall};
 
 use crate::lane_ends::LaneEnds;

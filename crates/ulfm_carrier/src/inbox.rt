@@ -2,7 +2,7 @@
 ghost use Rattle.std.specs.Prelude.{◌≡◌, ◌<◌, ◌≤◌, [], IfOk, MatchOption, MatchResult, vec_capacity};
 ghost use Rattle.crossbeam_queue.specs.Fifo.{Held};
 ghost use Rattle.crossbeam_queue.specs.Passes.{view, IsPassOf, IsSamePass, ruled_capacity};
-ghost use Rattle.ulfm_carrier.specs.Family.{ComesFrom};
+ghost use Rattle.ulfm_base.specs.Items.{ComesFrom};
 ghost use Rattle.ulfm_carrier.specs.Inbox.{Signed, receiver, sender, after_push, after_all, one_more, in_role, after_told, PushedIsTakenAndHeld, EachIsTakenAndHeld, ToldIsTaken, Took, IsToldOfAll, AllBelow};
 ghost use Rattle.ulfm_carrier.specs.declared.inbox.Role.TheVariants as role;
 

@@ -17,7 +17,7 @@ pub(crate) struct Inlet {
 }
 
 impl Inlet {
-    ghost use Rattle.ulfm_carrier.specs.Family.{ComesFrom};
+    ghost use Rattle.ulfm_base.specs.Items.{ComesFrom};
     ghost use Rattle.ulfm_carrier.specs.Lanes.{inlet_name, reader_name, outlet_name, inlet_capacity, taken_by, sent_by, seen_in};
     ghost use Rattle.ulfm_carrier.specs.Tagged.{with_sender};
 

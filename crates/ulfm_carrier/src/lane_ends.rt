@@ -45,7 +45,7 @@ pub struct LaneEnds {
 }
 
 impl LaneEnds {
-    ghost use Rattle.ulfm_carrier.specs.Family.{ComesFrom};
+    ghost use Rattle.ulfm_base.specs.Items.{ComesFrom};
     ghost use Rattle.ulfm_carrier.specs.Lanes.{lane_name, lane_pushed, lane_taken, known_room, seen_from, IsReady, IsFoundInTurn};
 
     /// `push`, which waits for nobody and takes no memory.
@@ -121,7 +121,9 @@ impl LaneEnds {
 
 impl Ends for LaneEnds {
     ghost use Rattle.std.specs.Prelude.{◌≡◌, ℕ, map, vec_len};
-    ghost use Rattle.ulfm_carrier.specs.Family.{at, ComesFrom, Keeps, Settled};
+    ghost use Rattle.ulfm_carrier.specs.Family.{Keeps, Settled};
+    ghost use Rattle.ulfm_base.specs.Items.{ComesFrom};
+    ghost use Rattle.ulfm_base.specs.Lists.{at};
     ghost use Rattle.ulfm_carrier.specs.Lanes.{lane_name, lane_pushed, lane_taken, known_room, seen_from, IsReady, IsFoundInTurn, OneCall};
 
     type Name = LaneName;

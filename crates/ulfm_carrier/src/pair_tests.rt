@@ -1,6 +1,6 @@
 //! Letters from each rank to each, itself too, where one place is between them.
 ghost use Rattle.std.specs.Prelude.{◌≡◌, ◌<◌, ℕ, vec_len};
-ghost use Rattle.ulfm_carrier.specs.Family.{at};
+ghost use Rattle.ulfm_base.specs.Lists.{at};
 
 use crate::ends::Ends;
 use crate::seating::shared;

@@ -2,7 +2,8 @@
 ghost use Rattle.std.specs.Prelude.{◌≡◌, ◌<◌, ◌≤◌, ◌⊎◌, ℕ, length, map, vec_len, IfOk, IfErr, OnOk};
 ghost use Rattle.std.specs.Arc.{arc_value};
 ghost use Rattle.ulfm_carrier.specs.declared.shared_ends.SharedEnds.{SharedEnds as Shared};
-ghost use Rattle.ulfm_carrier.specs.Family.{at, InPlace, AllFresh};
+ghost use Rattle.ulfm_carrier.specs.Family.{AllFresh};
+ghost use Rattle.ulfm_base.specs.Lists.{InPlace, at};
 ghost use Rattle.ulfm_carrier.specs.Seating.{AreInboxes, AreInlets, AreNextOuts, AreRows, AreOpenInlets, HaveMadeOneMore, AreMade};
 ghost use Rattle.ulfm_carrier.specs.Shared.{shared_name, shared_pushed, shared_taken, inbox_capacity, IsReady, OneCall};
 

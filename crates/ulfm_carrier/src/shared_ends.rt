@@ -39,7 +39,9 @@ pub struct SharedEnds {
 impl Ends for SharedEnds {
     ghost use Rattle.std.specs.Prelude.{◌≡◌, ◌≢◌, ◌<◌, ◌++◌, ◌∷◌, [], ℕ, map, vec_len, MatchResult, MatchOption, OnErr, IfNone};
     ghost use Rattle.crossbeam_queue.specs.Fifo.{Held};
-    ghost use Rattle.ulfm_carrier.specs.Family.{at, ComesFrom, Keeps, Settled};
+    ghost use Rattle.ulfm_carrier.specs.Family.{Keeps, Settled};
+    ghost use Rattle.ulfm_base.specs.Items.{ComesFrom};
+    ghost use Rattle.ulfm_base.specs.Lists.{at};
     ghost use Rattle.ulfm_carrier.specs.Shared.{shared_name, shared_pushed, shared_taken, inbox_capacity, PushedIsTakenAndHeldAt, EachIsTakenAt, IsReady, OneCall};
 
     type Name = SharedName;

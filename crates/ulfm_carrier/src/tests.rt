@@ -1,6 +1,7 @@
 //! Items go through rings, as the ranks see it, and a gathering gives what is left.
 ghost use Rattle.std.specs.Prelude.{◌≡◌, ◌<◌, ℕ, map, vec_len, IfOk};
-ghost use Rattle.ulfm_carrier.specs.Family.{ComesFrom, at};
+ghost use Rattle.ulfm_base.specs.Items.{ComesFrom};
+ghost use Rattle.ulfm_base.specs.Lists.{at};
 ghost use Rattle.ulfm_carrier.specs.Lanes.{lane_name, AllReady, OneCall};
 
 use crate::ends::Ends;

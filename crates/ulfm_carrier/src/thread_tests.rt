@@ -1,6 +1,6 @@
 //! Ends in threads of their own.
 ghost use Rattle.std.specs.Prelude.{◌<◌, ℕ, IfSome};
-ghost use Rattle.ulfm_carrier.specs.Family.{at};
+ghost use Rattle.ulfm_base.specs.Lists.{at};
 
 use crate::ends::Ends;
 use crate::seating::shared;

@@ -1,7 +1,8 @@
 //! A ring for each ordered pair of ranks.
 ghost use Rattle.std.specs.Prelude.{◌≡◌, ◌<◌, ◌≤◌, ◌+◌, ◌⊎◌, ℕ, map, vec_len, IfOk, IfErr, OnOk};
 ghost use Rattle.ulfm_carrier.specs.declared.lane_ends.LaneEnds.{LaneEnds as Lanes};
-ghost use Rattle.ulfm_carrier.specs.Family.{at, InPlace, AllFresh};
+ghost use Rattle.ulfm_carrier.specs.Family.{AllFresh};
+ghost use Rattle.ulfm_base.specs.Lists.{InPlace, at};
 ghost use Rattle.ulfm_carrier.specs.Lanes.{lane_name, lane_pushed, lane_taken, known_room, IsReady, OneCall};
 ghost use Rattle.ulfm_carrier.specs.Wiring.{AreWired};
 

@@ -11,7 +11,8 @@ use Rattle.ulfm_match.proofs.Extend.{receive_within, letter_within}
 use Rattle.ulfm_match.proofs.Steps.{pair_cases}
 use Rattle.ulfm_match.proofs.Unique.{one_pairing, same_letter}
 
-abbrev Posts : List Event → Pairing → Pattern → State → Option Letter → Type 0
+-- what a post says of its answer
+abbrev pub Posts : List Event → Pairing → Pattern → State → Option Letter → Type 0
 Posts h r p s o = MatchOption o (Tracks (h ++ Post p ∷ []) r s) (λ letter. (b : ℕ) × ComeAt h b letter × Tracks (h ++ Post p ∷ []) (r ++ (length h, b) ∷ []) s)
 
 module _ (h : List Event) (r : Pairing) (law : LawfulPairing h r) (p : Pattern) where

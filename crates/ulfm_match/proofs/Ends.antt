@@ -1,7 +1,6 @@
 -- Several receives end.
 use Rattle.std.proofs.Common.{◌≡◌, ◌≢◌, ℕ, ◌<◌, inl, inr, Bool, true, false, List, [], ◌∷◌, ◌++◌, length, refl, ap, sym, ◌∙◌, subst, arith, append-nil, append_assoc}
 use Rattle.std.specs.Prelude.{Contains, filter, not, ◌==◌}
-use Rattle.std.proofs.lemmas.Bool.Decides.{nat_tests}
 use Rattle.std.proofs.lemmas.Option.{slice_get_within}
 use Rattle.ulfm_base.specs.declared.pattern.Pattern.{Pattern}
 use Rattle.ulfm_base.specs.declared.envelope.Letter.{Letter}
@@ -13,16 +12,10 @@ use Rattle.ulfm_match.proofs.Histories.{get_old, number_old, same_number}
 use Rattle.ulfm_match.proofs.Members.{Contains-filter, filter-Contains}
 use Rattle.ulfm_match.proofs.Ascending.{ascending_filter}
 use Rattle.ulfm_match.proofs.Lists.{lists_sub}
-use Rattle.ulfm_match.proofs.EndSteps.{end_step}
+use Rattle.ulfm_match.proofs.EndSteps.{end_step, other_context, passes_context}
 use Rattle.ulfm_base.specs.Pattern.{names}
 use Rattle.ulfm_match.specs.Calls.{EndsNamed}
 use Rattle.ulfm_match.proofs.Unique.{same_pattern}
-
-other : (a b : ℕ) → not (a == b) ≡ true → a ≢ b
-other a b h e = grind (arith, nat_tests)
-
-passes : (a b : ℕ) → a ≢ b → not (a == b) ≡ true
-passes a b n = grind (arith, nat_tests)
 
 -- each of the events ends a receive of the history
 abbrev pub AreEnds : List Event → List Event → Type 0
@@ -56,8 +49,8 @@ ends_tracks (x ∷ es) h r s s' t ends ec ek asc to back =
     let s1 : State = record { waiting = filter (λ (y : ℕ × Pattern). not (y.0 == number h i)) s.waiting; kept = s.kept; count = s.count; prepared = s.prepared } in
     let t1 : Tracks h1 r s1 =
     end_step h r s t i p first.3 s1 refl (ascending_filter (λ (y : ℕ × Pattern). not (y.0 == number h i)) s.waiting t.remains.waiting.ascending)
-    (λ y c. let f = Contains-filter (λ (y : ℕ × Pattern). not (y.0 == number h i)) s.waiting y c in (f.0, other y.0 (number h i) f.1))
-    (λ y c n. filter-Contains (λ (y : ℕ × Pattern). not (y.0 == number h i)) s.waiting y c (passes y.0 (number h i) n))
+    (λ y c. let f = Contains-filter (λ (y : ℕ × Pattern). not (y.0 == number h i)) s.waiting y c in (f.0, other_context y.0 (number h i) f.1))
+    (λ y c n. filter-Contains (λ (y : ℕ × Pattern). not (y.0 == number h i)) s.waiting y c (passes_context y.0 (number h i) n))
     refl in
     let num : (j : ℕ) (q : Pattern) → PostAt h j q → number h1 j ≡ number h j = λ j q at. let l : j < length h = slice_get_within h j (Post q) at in number_old h (End i) j (omega arith) in
     let long : h1 ++ es ≡ h ++ x ∷ es = append_assoc h (End i ∷ []) es ∙ ap (λ (e : Event). h ++ e ∷ es) (sym first.2) in
@@ -68,14 +61,14 @@ ends_tracks (x ∷ es) h r s s' t ends ec ek asc to back =
     ec ek asc
     (λ y c.
     let f = to y c in (
-      filter-Contains (λ (y : ℕ × Pattern). not (y.0 == number h i)) s.waiting y f.0 (passes y.0 (number h i) (f.1 i (subst (λ (e : Event). Contains (x ∷ es) e) first.2 (Contains-head x es)))),
+      filter-Contains (λ (y : ℕ × Pattern). not (y.0 == number h i)) s.waiting y f.0 (passes_context y.0 (number h i) (f.1 i (subst (λ (e : Event). Contains (x ∷ es) e) first.2 (Contains-head x es)))),
       λ j e n. f.1 j (Contains-tail x es (End j) e) (n ∙ at j e),
     ))
     (λ y c sp.
     let f = Contains-filter (λ (y : ℕ × Pattern). not (y.0 == number h i)) s.waiting y c in
     back y f.0 (λ j e n.
     elim (Contains-cons_cases x es (End j) e) [
-      | inl same ↦ let k : i ≡ j = (let g = first.2 in cc) in other y.0 (number h i) f.1 (n ∙ ap (number h) (sym k))
+      | inl same ↦ let k : i ≡ j = (let g = first.2 in cc) in other_context y.0 (number h i) f.1 (n ∙ ap (number h) (sym k))
       | inr later ↦ sp j later (n ∙ sym (at j later))
     ])))
 

@@ -17,6 +17,10 @@ module _ {X : Type 0} where
   get_new [] e = refl
   get_new (y ∷ ys) e = get_new ys e
 
+  pub get_here : (xs : List X) (e : X) (ys : List X) → slice_get (xs ++ e ∷ ys) (length xs) ≡ Some e
+  get_here [] e ys = refl
+  get_here (x ∷ xs) e ys = get_here xs e ys
+
   pub get_cases : (xs : List X) (e : X) (k : ℕ) (x : X) → slice_get (xs ++ e ∷ []) k ≡ Some x → (slice_get xs k ≡ Some x) ⊎ ((k ≡ length xs) × (e ≡ x))
   get_cases [] e zero x h = inr (refl, cc)
   get_cases [] e (suc k) x h = cc
@@ -114,3 +118,14 @@ same_number h i j d e gi wi gj wj q =
       | inl l ↦ absurd (omega (arith, number_below h i j d gi wi l))
       | inr o ↦ elim o [ inl s ↦ s | inr l ↦ absurd (omega (arith, number_below h j i e gj wj l)) ]
     ]
+
+pub number_front : (h es : List Event) (i : ℕ) → i ≤ length h → number (h ++ es) i ≡ number h i
+number_front [] [] zero l = refl
+number_front [] (e ∷ es) zero l = refl
+number_front [] es (suc i) l = absurd (omega (arith, l))
+number_front (e ∷ h) es zero l = refl
+number_front (e ∷ h) es (suc i) l = ap (λ n. weight e + n) (number_front h es i (omega (arith, l)))
+
+pub number_rises : (h es : List Event) → number h (length h) ≤ number (h ++ es) (length (h ++ es))
+number_rises [] es = omega arith
+number_rises (e ∷ h) es = let r = number_rises h es in omega (arith, r)

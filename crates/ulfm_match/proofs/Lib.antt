@@ -18,3 +18,6 @@ pub mod PostWaits
 pub mod Steps
 pub mod Taking
 pub mod Unique
+pub mod Places
+pub mod Admitted
+pub mod Exists

@@ -3,7 +3,7 @@ use Rattle.std.proofs.Common.{◌≡◌, ℕ, suc, ◌+◌, ◌<◌, ◌≤◌, 
 use Rattle.std.specs.Prelude.{Contains, remove, ◌↔◌, IsSome}
 use Rattle.std.specs.List.{HoldsAt}
 use Rattle.std.proofs.lemmas.List.{take_more, take_all, take-append-drop}
-use Rattle.std.proofs.lemmas.List.Elements.{Contains-push_cases, at_read, Contains-get_or}
+use Rattle.std.proofs.lemmas.List.Elements.{Contains-push_cases, Contains-get_or}
 use Rattle.std.proofs.Math.Seq.{drop-cons}
 use Rattle.ulfm_match.specs.Search.{IsFirstAt, FindsFirst}
 
@@ -28,9 +28,6 @@ module _ {X : Type 0} (P : X → Type 0) (xs : List X) where
 
   pub none_all : (n : ℕ) → length xs ≤ n → ((y : X) → Contains (take n xs) y → P y → ⊥) → (y : X) → Contains xs y → P y → ⊥
   none_all n l before y c p = before y (subst (λ (zs : List X). Contains zs y) (sym (take_all n xs l)) c) p
-
-  pub first_at : (k : ℕ) (x : X) → k < length xs → x ≡ get_or xs k x → ((y : X) → Contains (take k xs) y → P y → ⊥) → P x → IsFirstAt P xs k
-  first_at k x l is before here = record { within = l; passes = at_read xs P k x l is here; none_before = before }
 
   pub taken_at : (k : ℕ) (x : X) (ys : List X) → IsFirstAt P xs k → x ≡ get_or xs k x → ys ≡ remove xs k → TakesFirst P xs ys x
   taken_at k x ys f is e =

@@ -1,5 +1,5 @@
 -- What a test answers.
-use Rattle.std.proofs.Common.{◌≡◌, ℕ, Bool, true, false, cond, List, refl, ap, sym, ◌∙◌, subst, Option, Some, None}
+use Rattle.std.proofs.Common.{◌≡◌, ℕ, Bool, true, false, cond, List, refl, ap, sym, ◌∙◌, subst, Option, Some}
 use Rattle.ulfm_base.specs.declared.pattern.Pattern.{Pattern}
 use Rattle.ulfm_base.specs.declared.pattern.Source.{Source}
 use Rattle.ulfm_base.specs.declared.pattern.Source.TheVariants.{One, Any}
@@ -19,12 +19,12 @@ use Rattle.ulfm_rank.specs.declared.entry.TestAnswer.TheVariants.{Done, Over, Pe
 use Rattle.ulfm_rank.specs.declared.outcome.Outcome.{Outcome}
 use Rattle.ulfm_rank.specs.declared.outcome.Outcome.TheVariants.{Waiting, Paired, Failed, Cleared}
 use Rattle.ulfm_rank.specs.declared.outcome.Request.{Request}
-use Rattle.ulfm_rank.specs.Answer.{pends, Got, IsUnpaired, AnswersBy, IsRequest, IsNoRequest, IsTestAnswer}
+use Rattle.ulfm_rank.specs.Answer.{pends, Got, IsUnpaired, AnswersBy, IsRequest, IsTestAnswer}
 use Rattle.ulfm_rank.specs.Communicators.{group_of}
-use Rattle.ulfm_rank.specs.Facts.{is_released}
 use Rattle.ulfm_rank.specs.History.{history_of}
 use Rattle.ulfm_rank.specs.Table.{IsSourceIn, IsInStep, Became, IsDelivered, GivesAnswer, HasSender}
-use Rattle.ulfm_rank.proofs.Groups.{members_found, rank_some}
+use Rattle.ulfm_rank.proofs.Groups.{rank_some}
+use Rattle.ulfm_rank.proofs.Grouped.{members_found}
 use Rattle.ulfm_rank.proofs.Steps.{same_place}
 
 member_of : (group : List ℕ) (source : Source) (r : WorldRank) → IsSourceIn group source → AdmitsSource source r → is_member group r.number ≡ true
@@ -97,9 +97,3 @@ module _ (n : ℕ) (log : List Entry) (m : State) (find : ℕ → Option Request
   is_request id q f =
       let s = t.table.standing id q f in
       (s.place, q.pattern, record { posted = s.posted; numbered = s.numbered; unreleased = t.table.unreleased id q f })
-
-  pub is_no_request : (id : ℕ) → find id ≡ None → IsNoRequest log id
-  is_no_request id f i p is =
-      let c = t.table.complete i p is.posted (ap (λ (k : ℕ). is_released log k) is.numbered ∙ is.unreleased) in
-      let g : find id ≡ Some c.0 = ap find (sym is.numbered) ∙ c.1 in
-      cc

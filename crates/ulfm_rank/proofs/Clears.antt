@@ -2,6 +2,7 @@
 use Rattle.std.proofs.Common.{◌≡◌, ◌≢◌, ℕ, ◌≤◌, Bool, true, false, cond, List, [], ◌∷◌, ◌++◌, length, refl, ap, sym, ◌∙◌, Option, Some, arith}
 use Rattle.std.specs.Prelude.{◌&&◌, ◌==◌}
 use Rattle.std.proofs.lemmas.Bool.Decides.{nat_tests}
+use Rattle.std.proofs.lemmas.Bool.{eqb-true}
 use Rattle.ulfm_base.specs.declared.pattern.Pattern.{Pattern}
 use Rattle.ulfm_match.specs.History.{Event, Clear}
 use Rattle.ulfm_match.specs.Pairing.{Pairing, LawfulPairing}
@@ -29,9 +30,6 @@ module _ (n c : ℕ) (log : List Entry) (h : List Event) (r : Pairing) (law : La
   became_cleared : (i : ℕ) (p : Pattern) (o : Outcome) → Became h r i p o → Became (h ++ Clear c ∷ []) r i p (over_context c (record { pattern = p; outcome = o })).outcome
   became_cleared i p Waiting w = pick (p.context.number == c) refl
     where
-      alike : (a b : ℕ) → (a == b) ≡ true → a ≡ b
-      alike a b e = grind (arith, nat_tests)
-
       differ : (a b : ℕ) → (a == b) ≡ false → a ≢ b
       differ a b e f = grind (arith, nat_tests)
 
@@ -41,7 +39,7 @@ module _ (n c : ℕ) (log : List Entry) (h : List Event) (r : Pairing) (law : La
         record {
           place = length h;
           after = w.live.before;
-          is = get_new h (Clear c) ∙ ap (λ (k : ℕ). Some (Clear k)) (sym (alike p.context.number c e));
+          is = get_new h (Clear c) ∙ ap (λ (k : ℕ). Some (Clear k)) (sym (eqb-true p.context.number c e));
           first = λ st. w.live.not_ended (stands_back h (Clear c) (let m : length h ≤ length h = omega arith in m) st);
         },
       )

@@ -15,7 +15,8 @@ use Rattle.ulfm_rank.specs.declared.entry.Entry.TheVariants.{Entered, Took}
 use Rattle.ulfm_rank.specs.Fields.{set_of, Notes, HasEntries, HasShrinks}
 use Rattle.ulfm_rank.specs.Log.{or_else, first_of}
 use Rattle.ulfm_rank.specs.Shrink.{entry_of, item_entry, heard_of, has_entered}
-use Rattle.ulfm_rank.proofs.Listed.{or_none, first-push, told_of, listed-push, entered-push, listed-own}
+use Rattle.ulfm_rank.proofs.Listed.{told_of, listed-push, entered-push, listed-own}
+use Rattle.ulfm_rank.proofs.Firsts.{or_none, first-push}
 
 eqb-flip : (a b : ℕ) → (a == b) ≡ (b == a)
 eqb-flip a b = grind (arith, nat_tests)
@@ -102,9 +103,6 @@ shrinks-own me log s item rows held same =
 
     untold : (c r : ℕ) → told_of me c r (Took s item) ≡ None
     untold c r = pick c r (r == me) refl
-
-pub apart_by : (a b : ℕ) → not (a == b) ≡ true → a ≢ b
-apart_by a b h = λ e. false≢true (sym (ap not (eq-eqb a b e)) ∙ h)
 
 pub same_by : (a b : ℕ) → not (a == b) ≡ false → a ≡ b
 same_by a b h = eqb-true a b (pick (a == b) h)

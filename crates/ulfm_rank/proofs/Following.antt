@@ -1,6 +1,7 @@
 -- The parts of a rank follow its log through one more entry.
 use Rattle.std.proofs.Common.{◌≡◌, ℕ, Bool, true, false, cond, eqb, List, [], ◌∷◌, ◌++◌, length, refl, ap, sym, ◌∙◌, Option, Some, append-nil}
 use Rattle.std.specs.Prelude.{◌||◌}
+use Rattle.std.proofs.Math.Bool.{or-false}
 use Rattle.ulfm_base.specs.declared.context.Context.{Context}
 use Rattle.ulfm_base.specs.declared.envelope.Letter.{Letter}
 use Rattle.ulfm_base.specs.declared.item.Item.TheVariants.{Letter as Mail}
@@ -27,17 +28,13 @@ use Rattle.ulfm_rank.proofs.InStep.{in_step_quiet, in_step_revoked}
 use Rattle.ulfm_rank.proofs.Known.{acknowledged-push, known-push, faults_quiet, faults_revoked}
 use Rattle.ulfm_rank.proofs.Made.{communicators-quiet, communicators-duplicated}
 
-or_false : (b : Bool) → b || false ≡ b
-or_false true = refl
-or_false false = refl
-
 or_true : (b : Bool) → b || true ≡ true
 or_true true = refl
 or_true false = refl
 
 module _ (n me : ℕ) (log : List Entry) (stopped : Bool) (m : Matching) (find : ℕ → Option Request) (facts : Facts) (comms : List (ℕ × List ℕ)) (boxes : List Box) (f : Follows n me log stopped m find facts comms boxes) where
   runs_on : (x : Entry) → is_stop x ≡ false → stopped ≡ is_stopped (log ++ x ∷ [])
-  runs_on x h = f.halted ∙ sym (any-push is_stop log x ∙ (ap (λ b. is_stopped log || b) h ∙ or_false (is_stopped log)))
+  runs_on x h = f.halted ∙ sym (any-push is_stop log x ∙ (ap (λ b. is_stopped log || b) h ∙ or-false (is_stopped log)))
 
   -- a letter was accepted
   pub follows_sent : (to : WorldRank) (letter : Letter) (boxes' : List Box) → AllGrow boxes boxes' (length log) (for_each (λ d. eqb to.number d) (Mail letter)) → Follows n me (log ++ Sent to letter ∷ []) stopped m find facts comms boxes'
@@ -94,7 +91,7 @@ module _ (n me : ℕ) (log : List Entry) (stopped : Bool) (m : Matching) (find :
         record {
           knows = k ∙ (quiet.knows ∙ sym (known-push log (Acknowledged context total) ∙ append-nil _));
           acknowledges = λ c. a c ∙ (ap (λ t. cond (eqb context.number c) total t) (quiet.acknowledges c) ∙ sym (acknowledged-push c log (Acknowledged context total)));
-          marks = λ c. ap (λ (xs : List Bool). is_marked (record facts { revoked = xs }) c) r ∙ (quiet.marks c ∙ sym (any-push _ log (Acknowledged context total) ∙ or_false (is_revoked log c)));
+          marks = λ c. ap (λ (xs : List Bool). is_marked (record facts { revoked = xs }) c) r ∙ (quiet.marks c ∙ sym (any-push _ log (Acknowledged context total) ∙ or-false (is_revoked log c)));
         };
     communicators = communicators-quiet n log (Acknowledged context total) comms f.communicators (λ b k. refl);
     outboxes = outboxes-quiet n me log (Acknowledged context total) boxes f.outboxes (λ d. refl);

@@ -3,7 +3,7 @@ use Rattle.std.proofs.Common.{◌≡◌, ℕ, zero, suc, ◌+◌, ◌<◌, ◌�
 use Rattle.std.specs.Prelude.{◌||◌, ◌&&◌, ◌==◌, not, nat_eq}
 use Rattle.std.specs.List.{list_any}
 use mathlib.Core.Bool.{beq}
-use Rattle.std.proofs.lemmas.Bool.{cases_eq, and_from, eqb-true, not-false, or_parts, false≢true, or_left, or_right, or_from}
+use Rattle.std.proofs.lemmas.Bool.{cases_eq, and_from, eqb-true, not-false, or_parts, false≢true, or_left, or_right}
 use Rattle.std.specs.Cmp.Lexicographic.{same_text}
 use lib.Pointwise.{pointwise}
 use Rattle.ulfm_base.specs.declared.decision.Decision.{Decision}
@@ -22,10 +22,6 @@ any_number test k (suc n) j low high h = elim (cases_eq k j) [
   | inr later ↦ or_right (test k) (list_any test (numbers_from (suc k) n)) (any_number test (suc k) n j (omega (arith, low, later)) (omega (arith, high)) h)
 ]
 
-pub no_number : (test : ℕ → Bool) (k n : ℕ) → ((j : ℕ) → k ≤ j → j < k + n → test j ≡ false) → list_any test (numbers_from k n) ≡ false
-no_number test k zero none = refl
-no_number test k (suc n) none = or_from (test k) (list_any test (numbers_from (suc k) n)) (none k (omega arith) (omega arith)) (no_number test (suc k) n (λ j low high. none j (omega (arith, low)) (omega (arith, high))))
-
 pub apart : (a b : Bool) → (a ≡ b → ⊥) → ((a && not b) || (b && not a)) ≡ true
 apart true true h = absurd (h refl)
 apart true false h = refl
@@ -42,10 +38,6 @@ unlike false false h = λ e. false≢true h
 pub contradicts_at : (me : ℕ) (log : List Entry) (c : ℕ) (d : Decision) (entries : List (Option RankSet)) (k : ℕ) → HasEntries me log c entries → k < 8 → differ (entry_at d.entries k) (entry_at entries k) ≡ true → contradicts me log c d ≡ true
 contradicts_at me log c d entries k heard small h =
     any_number (λ r. differ (entry_at d.entries r) (listed_of me log c r)) 0 8 k (omega arith) (omega (arith, small)) (ap (differ (entry_at d.entries k)) (sym (heard k small)) ∙ h)
-
-pub contradicts_none : (me : ℕ) (log : List Entry) (c : ℕ) (d : Decision) (entries : List (Option RankSet)) → HasEntries me log c entries → ((k : ℕ) → k < 8 → differ (entry_at d.entries k) (entry_at entries k) ≡ false) → contradicts me log c d ≡ false
-contradicts_none me log c d entries heard none =
-    no_number (λ r. differ (entry_at d.entries r) (listed_of me log c r)) 0 8 (λ j low high. ap (differ (entry_at d.entries j)) (sym (heard j (omega (arith, high)))) ∙ none j (omega (arith, high)))
 
 same_list : (xs : List ℕ) → pointwise nat_eq xs xs ≡ true
 same_list [] = refl

@@ -6,7 +6,7 @@ use Rattle.std.proofs.lemmas.Option.{slice_get_within}
 use Rattle.std.proofs.lemmas.List.Elements.{Contains-append_left, Contains-append_right, Contains-append_cases}
 use Rattle.ulfm_base.specs.declared.pattern.Pattern.{Pattern}
 use Rattle.ulfm_base.specs.Pattern.{names}
-use Rattle.ulfm_match.specs.History.{Event, Post, Come, End, Clear, PostAt, StandsBetween, weight, number}
+use Rattle.ulfm_match.specs.History.{Event, Post, Come, End, Clear, PostAt, StandsBetween, number}
 use Rattle.ulfm_match.specs.Pairing.{Pairing, IsWaiting, LawfulPairing}
 use Rattle.ulfm_match.proofs.Unique.{same_pattern}
 use Rattle.ulfm_match.proofs.Extend.{letter_within}
@@ -22,6 +22,7 @@ use Rattle.ulfm_rank.specs.Answer.{StandsFirst}
 use Rattle.ulfm_rank.specs.Table.{IsOfGroup, Became, IsStanding, IsTable}
 use Rattle.ulfm_rank.specs.Requests.{is_waiting, over_named, Changes}
 use Rattle.ulfm_rank.specs.History.{end_at, ends_from, ends_of}
+use Rattle.ulfm_match.proofs.Histories.{number_front, number_rises}
 
 -- an end of the receive at the place i of these events, the first of which stands at k
 abbrev IsNamedAt : ℕ → ℕ → List Event → Event → Type 0
@@ -84,16 +85,6 @@ split (y ∷ g) es (suc k) x at = elim (split g es k x at) [ inl a ↦ inl a | i
 get_after : (h es : List Event) (j : ℕ) (x : Event) → slice_get es j ≡ Some x → slice_get (h ++ es) (length h + j) ≡ Some x
 get_after [] es j x at = subst (λ (m : ℕ). slice_get es m ≡ Some x) (let g : j ≡ 0 + j = omega arith in g) at
 get_after (y ∷ h) es j x at = subst (λ (m : ℕ). slice_get (y ∷ h ++ es) m ≡ Some x) (let g : suc (length h + j) ≡ suc (length h) + j = omega arith in g) (get_after h es j x at)
-
-number_front : (h es : List Event) (i : ℕ) → i ≤ length h → number (h ++ es) i ≡ number h i
-number_front [] [] i l = refl
-number_front [] (e ∷ es) i l = let z : i ≡ 0 = omega (arith, l) in subst (λ (m : ℕ). number (e ∷ es) m ≡ 0) (sym z) refl
-number_front (e ∷ h) es zero l = refl
-number_front (e ∷ h) es (suc i) l = ap (λ n. weight e + n) (number_front h es i (omega (arith, l)))
-
-number_rises : (h es : List Event) → number h (length h) ≤ number (h ++ es) (length (h ++ es))
-number_rises [] es = omega arith
-number_rises (e ∷ h) es = let r = number_rises h es in omega (arith, r)
 
 module _ (n s : ℕ) (log : List Entry) (h es : List Event) (r : Pairing) (law : LawfulPairing h r) (ends : EndsNamed h s es) (find find' : ℕ → Option Request) (t : IsTable n log h r find) where
   only_ends : (x : Event) → ((i : ℕ) → x ≢ End i) → Contains es x → ⊥

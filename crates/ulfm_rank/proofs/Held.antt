@@ -12,10 +12,8 @@ use Rattle.ulfm_rank.specs.Facts.{is_stop, is_stopped, is_revoked}
 use Rattle.ulfm_rank.specs.Owed.{is_told, passed_on, owed_by_item, owed_by, owed}
 use Rattle.ulfm_rank.specs.State.{no_mark, State, IsState}
 use Rattle.ulfm_rank.specs.Outboxes.{Box, empty_box, box_at, mark_of, left_by_item, left_by, item_at, AllGrow, HasOutboxes}
-use Rattle.ulfm_rank.proofs.Gather.{gathered-push, any-push}
-
-pub owed-push : (n me : ℕ) (log : List Entry) (e : Entry) (d : ℕ) → owed n me (log ++ e ∷ []) d ≡ owed n me log d ++ owed_by n me d log (owed n me log d) e
-owed-push n me log e d = gathered-push (owed_by n me d) [] log e
+use Rattle.ulfm_rank.proofs.Gather.{any-push}
+use Rattle.ulfm_rank.proofs.Owing.{owed-push}
 
 -- an item's place stays
 pub item_at-kept : (log : List Entry) (e : Entry) (place : ℕ) (item : Item) → item_at log place ≡ Some item → item_at (log ++ e ∷ []) place ≡ Some item

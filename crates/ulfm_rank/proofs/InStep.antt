@@ -2,6 +2,7 @@
 use Rattle.std.proofs.Common.{◌≡◌, ℕ, ◌+◌, ◌≤◌, Bool, true, false, cond, eqb, List, [], ◌∷◌, ◌++◌, length, refl, ap, sym, ◌∙◌, subst, Option, Some, None, arith, append-nil}
 use Rattle.std.specs.Prelude.{slice_get, ◌||◌}
 use Rattle.std.proofs.lemmas.Bool.Decides.{nat_tests}
+use Rattle.std.proofs.Math.Bool.{or-false}
 use Rattle.ulfm_base.specs.declared.pattern.Pattern.{Pattern}
 use Rattle.ulfm_base.specs.declared.context.Context.{Context}
 use Rattle.ulfm_base.specs.declared.envelope.Letter.{Letter}
@@ -48,7 +49,7 @@ table_same n log h r find find' t e = record {
 -- an entry that releases nothing
 table_logged : (n : ℕ) (log : List Entry) (x : Entry) (h : List Event) (r : Pairing) (find : ℕ → Option Request) → ((k : ℕ) → releases k x ≡ false) → IsTable n log h r find → IsTable n (log ++ x ∷ []) h r find
 table_logged n log x h r find none t =
-    let same : (k : ℕ) → is_released (log ++ x ∷ []) k ≡ is_released log k = λ k. any-push (releases k) log x ∙ (ap (λ b. is_released log k || b) (none k) ∙ or_false (is_released log k)) in
+    let same : (k : ℕ) → is_released (log ++ x ∷ []) k ≡ is_released log k = λ k. any-push (releases k) log x ∙ (ap (λ b. is_released log k || b) (none k) ∙ or-false (is_released log k)) in
     record {
       standing = t.standing;
       of_group = λ id q f. of_group_stays n log x q.pattern (t.of_group id q f);
@@ -56,10 +57,6 @@ table_logged n log x h r find none t =
       complete = λ i p posted free. t.complete i p posted (sym (same (number h i)) ∙ free);
       released_below = λ id f. t.released_below id (sym (same id) ∙ f);
     }
-  where
-    or_false : (b : Bool) → b || false ≡ b
-    or_false true = refl
-    or_false false = refl
 
 -- the history of one more entry
 stepped : (n : ℕ) (log : List Entry) (x : Entry) (m : State) (find : ℕ → Option Request) (xs : List Event) → events_by log (history_of log) x ≡ xs → ((k : ℕ) → releases k x ≡ false)

@@ -1,8 +1,10 @@
 -- What is known of failures and revocations stays in step with the log.
-use Rattle.std.proofs.Common.{◌≡◌, ℕ, Bool, true, false, cond, List, [], ◌∷◌, ◌++◌, refl, ap, sym, ◌∙◌, append-nil, arith}
+use Rattle.std.proofs.Common.{◌≡◌, ℕ, Bool, true, false, cond, List, [], ◌∷◌, ◌++◌, refl, ap, sym, ◌∙◌, append-nil}
 use Rattle.std.specs.Prelude.{◌||◌, ◌&&◌, ◌==◌, not, nat_lt, length, slice_index_or}
 use Rattle.std.specs.List.{list_any}
-use Rattle.std.proofs.lemmas.Bool.Decides.{nat_tests}
+use Rattle.std.proofs.Math.Bool.{or-false}
+use Rattle.std.proofs.lemmas.Bool.{eqb-true}
+use Rattle.std.proofs.lemmas.List.Folds.{list_any-append}
 use Rattle.ulfm_base.specs.declared.context.Context.{Context}
 use Rattle.ulfm_base.specs.declared.pattern.Pattern.{Pattern}
 use Rattle.ulfm_base.specs.declared.pattern.Source.{Source}
@@ -33,10 +35,6 @@ acknowledged_from-push c k (y ∷ log) x = acknowledged_from-push c (acknowledge
 pub acknowledged-push : (c : ℕ) (log : List Entry) (x : Entry) → acknowledged_of (log ++ x ∷ []) c ≡ acknowledged_by c (acknowledged_of log c) x
 acknowledged-push c log x = acknowledged_from-push c 0 log x
 
-or_false : (b : Bool) → b || false ≡ b
-or_false true = refl
-or_false false = refl
-
 pub faults_start : (facts : Facts) → facts.known ≡ [] → ((c : ℕ) → acknowledged_in facts c ≡ 0) → ((c : ℕ) → is_marked facts c ≡ false) → HasFaults [] facts
 faults_start facts k a m = record { knows = k; acknowledges = a; marks = m }
 
@@ -45,7 +43,7 @@ pub faults_quiet : (log : List Entry) (facts : Facts) (x : Entry) → HasFaults 
 faults_quiet log facts x held k a m = record {
   knows = held.knows ∙ sym (known-push log x ∙ (ap (λ (ys : List ℕ). known_of log ++ ys) (k log (known_of log)) ∙ append-nil (known_of log)));
   acknowledges = λ c. held.acknowledges c ∙ sym (acknowledged-push c log x ∙ a c (acknowledged_of log c));
-  marks = λ c. held.marks c ∙ sym (any-push (revokes c) log x ∙ (ap (λ b. is_revoked log c || b) (m c) ∙ or_false (is_revoked log c)));
+  marks = λ c. held.marks c ∙ sym (any-push (revokes c) log x ∙ (ap (λ b. is_revoked log c || b) (m c) ∙ or-false (is_revoked log c)));
 }
 
 -- the notice of a failure
@@ -53,7 +51,7 @@ pub faults_learned : (log : List Entry) (old new : Facts) (s : WorldRank) → Ha
 faults_learned log old new s held k a m = record {
   knows = k ∙ (ap (λ (known : List ℕ). including known s.number) held.knows ∙ sym (known-push log (Took s Gone)));
   acknowledges = λ c. ap (λ (xs : List ℕ). slice_index_or xs c 0) a ∙ (held.acknowledges c ∙ sym (acknowledged-push c log (Took s Gone)));
-  marks = λ c. ap (λ (xs : List Bool). slice_index_or xs c false) m ∙ (held.marks c ∙ sym (any-push (revokes c) log (Took s Gone) ∙ or_false (is_revoked log c)));
+  marks = λ c. ap (λ (xs : List Bool). slice_index_or xs c false) m ∙ (held.marks c ∙ sym (any-push (revokes c) log (Took s Gone) ∙ or-false (is_revoked log c)));
 }
 
 -- a revocation, by an entry that gives nothing else
@@ -71,30 +69,19 @@ faults_revoked log old new x d held none same is m k a = record {
     pick false true = refl
     pick false false = refl
 
-any_append : (test : ℕ → Bool) (xs ys : List ℕ) → list_any test (xs ++ ys) ≡ list_any test xs || list_any test ys
-any_append test [] ys = refl
-any_append test (x ∷ xs) ys = ap (λ b. test x || b) (any_append test xs ys) ∙ or_assoc (test x) (list_any test xs) (list_any test ys)
-  where
-    or_assoc : (a b c : Bool) → a || (b || c) ≡ (a || b) || c
-    or_assoc true b c = refl
-    or_assoc false b c = refl
-
 -- a rank is known to have failed exactly where a notice came from it
 pub known_gone : (log : List Entry) (s : ℕ) → is_member (known_of log) s ≡ is_gone log s
 known_gone log s =
     gathered_all newly_known (λ l known. is_member known s ≡ is_gone l s)
-    (λ l known x p. any_append (λ m. m == s) known (newly_known l known x) ∙ (step l known x p ∙ sym (any-push (tells_gone s) l x)))
+    (λ l known x p. list_any-append (λ m. m == s) known (newly_known l known x) ∙ (step l known x p ∙ sym (any-push (tells_gone s) l x)))
     [] refl log
   where
     or_true : (b : Bool) → true ≡ b || true
     or_true true = refl
     or_true false = refl
 
-    alike : (a b : ℕ) → (a == b) ≡ true → a ≡ b
-    alike a b e = grind (arith, nat_tests)
-
     noticed : (known : List ℕ) (g : Bool) (f : ℕ) → is_member known s ≡ g → (r : Bool) → is_member known f ≡ r → (t : Bool) → (f == s) ≡ t → is_member known s || list_any (λ m. m == s) (cond r [] (f ∷ [])) ≡ g || cond t true false
-    noticed known g f p true e true q = or_false (is_member known s) ∙ (ap (λ (k : ℕ). is_member known k) (sym (alike f s q)) ∙ (e ∙ or_true g))
+    noticed known g f p true e true q = or-false (is_member known s) ∙ (ap (λ (k : ℕ). is_member known k) (sym (eqb-true f s q)) ∙ (e ∙ or_true g))
     noticed known g f p true e false q = ap (λ (b : Bool). b || false) p
     noticed known g f p false e true q = ap (λ (b : Bool). is_member known s || (b || false)) q ∙ ap (λ (b : Bool). b || true) p
     noticed known g f p false e false q = ap (λ (b : Bool). is_member known s || (b || false)) q ∙ ap (λ (b : Bool). b || false) p

@@ -1,22 +1,11 @@
 -- Who a rank lists in a shrink as its log grows.
-use Rattle.std.proofs.Common.{◌≡◌, ℕ, Bool, true, false, cond, List, [], ◌∷◌, ◌++◌, refl, ap, ◌∙◌, eq-eqb, Option, Some, None}
+use Rattle.std.proofs.Common.{◌≡◌, ℕ, Bool, true, false, cond, List, [], ◌∷◌, ◌++◌, refl, ap, ◌∙◌, eq-eqb, Option, None}
 use Rattle.std.specs.Prelude.{◌==◌, is_some}
 use Rattle.ulfm_base.specs.declared.rank_set.RankSet.{RankSet}
 use Rattle.ulfm_rank.specs.declared.entry.Entry.{Entry}
 use Rattle.ulfm_rank.specs.Log.{or_else, first_of}
 use Rattle.ulfm_rank.specs.Shrink.{entry_of, heard_of, has_entered, listed_of}
-
-pub or_none : {X : Type 0} (o : Option X) → or_else o None ≡ o
-or_none None = refl
-or_none (Some x) = refl
-
-or_assoc : {X : Type 0} (a b c : Option X) → or_else a (or_else b c) ≡ or_else (or_else a b) c
-or_assoc None b c = refl
-or_assoc (Some x) b c = refl
-
-pub first-push : {X : Type 0} (give : Entry → Option X) (log : List Entry) (e : Entry) → first_of give (log ++ e ∷ []) ≡ or_else (first_of give log) (give e)
-first-push give [] e = or_none (give e)
-first-push give (x ∷ log) e = ap (or_else (give x)) (first-push give log e) ∙ or_assoc (give x) (first_of give log) (give e)
+use Rattle.ulfm_rank.proofs.Firsts.{or_none, first-push}
 
 -- what an entry tells of the rank r
 abbrev pub told_of : ℕ → ℕ → ℕ → Entry → Option RankSet

@@ -1,7 +1,8 @@
 -- A context that isn't revoked was never cleared, and at most one numbered event comes of an entry.
 use Rattle.std.proofs.Common.{◌≡◌, ◌≢◌, ℕ, zero, suc, ◌+◌, ◌≤◌, Bool, true, false, cond, List, [], ◌∷◌, ◌++◌, length, refl, ap, sym, ◌∙◌, arith, length-append}
-use Rattle.std.specs.Prelude.{◌||◌, ◌==◌}
+use Rattle.std.specs.Prelude.{◌==◌}
 use Rattle.std.proofs.lemmas.Bool.Decides.{nat_tests}
+use Rattle.std.proofs.lemmas.Bool.{or_parts}
 use Rattle.ulfm_base.specs.declared.item.Item.{Item}
 use Rattle.ulfm_base.specs.declared.item.Item.TheVariants.{Letter as Mail, Gone, Revoke, Enter}
 use Rattle.ulfm_match.specs.History.{Event, Post, Come, End, Clear, weight, number}
@@ -75,15 +76,11 @@ open_events log h (Adopted d) c n = open_nil c
 open_events log h Stopped c n = open_nil c
 open_events log h (Took s item) c n = open_item log h s.number item c n
 
-both_false : (a b : Bool) → a || b ≡ false → (a ≡ false) × (b ≡ false)
-both_false true b h = cc
-both_false false b h = (refl, h)
-
 -- nothing of a context that isn't revoked was cleared
 pub unrevoked_open : (log : List Entry) (c : ℕ) → is_revoked log c ≡ false → IsOpen (history_of log) c
 unrevoked_open log c h =
     gathered_all events_by (λ l found. is_revoked l c ≡ false → IsOpen found c)
-    (λ l found e p n. let f = both_false (is_revoked l c) (revokes c e) (sym (any-push (revokes c) l e) ∙ n) in open_append found (events_by l found e) c (p f.0) (open_events l found e c f.1))
+    (λ l found e p n. let f = or_parts (is_revoked l c) (revokes c e) (sym (any-push (revokes c) l e) ∙ n) in open_append found (events_by l found e) c (p f.0) (open_events l found e c f.1))
     [] (λ n. open_nil c) log h
 
 -- how many numbered events

@@ -8,7 +8,7 @@ use Rattle.std.proofs.lemmas.List.Folds.{list_any_at}
 use Rattle.std.proofs.lemmas.Option.{slice_get-get_or}
 use Rattle.ulfm_base.specs.declared.decision.Decision.{Decision}
 use Rattle.ulfm_base.specs.declared.rank_set.RankSet.{RankSet}
-use Rattle.ulfm_base.specs.Decision.{entry_at, is_listed}
+use Rattle.ulfm_base.specs.Decision.{entry_at, is_listed, in_entry}
 use Rattle.ulfm_base.specs.Group.{is_member, excluding}
 use Rattle.ulfm_base.specs.RankSet.{has, IsSubset}
 use Rattle.ulfm_rank.specs.declared.entry.Entry.{Entry}
@@ -16,8 +16,8 @@ use Rattle.ulfm_rank.specs.Communicators.{members_of}
 use Rattle.ulfm_rank.specs.Facts.{is_gone}
 use Rattle.ulfm_rank.specs.Fields.{HasEntries}
 use Rattle.ulfm_rank.specs.Outboxes.{Knows}
-use Rattle.ulfm_rank.specs.Shrink.{in_set, has_entered, listed_of, is_out, has_proposal, IsProposal}
-use Rattle.ulfm_rank.proofs.Among.{all_members, at_member, member_test, any_member, place_test, excluding_alike}
+use Rattle.ulfm_rank.specs.Shrink.{has_entered, listed_of, is_out, has_proposal, IsProposal}
+use Rattle.ulfm_base.proofs.Among.{all_members, at_member, member_test, any_member, place_test, excluding_alike}
 
 -- the places below k are filled, and no other
 abbrev pub IsFilled : {X : Type 0} → (ℕ → X) → X → List X → ℕ → Type 0
@@ -39,7 +39,7 @@ pub record IsTally (group : List ℕ) (known : RankSet) (entries listed : List (
   pub small : (r : ℕ) → has members r ≡ true → r < 8
   pub are_members : (r : ℕ) → has members r ≡ is_member group r
   pub kept : (r : ℕ) → entry_at listed r ≡ cond (is_member group r) (entry_at entries r) None
-  pub failed : (r : ℕ) → has failures r ≡ (has known r || list_any (λ entry. in_set entry r) listed)
+  pub failed : (r : ℕ) → has failures r ≡ (has known r || list_any (λ entry. in_entry entry r) listed)
   pub accounts : (r : ℕ) → has accounted r ≡ (is_listed listed r || has failures r)
 
 pub has_small : (set : RankSet) → length set.members ≡ 8 → (r : ℕ) → has set r ≡ true → r < 8
@@ -62,25 +62,25 @@ module _ (me : ℕ) (log : List Entry) (c : ℕ) (group : List ℕ) (known : Ran
   listed_member r member = t.kept r ∙ cond-true (is_member group r) (entry_at entries r) None member ∙ heard r (below r member)
 
   -- a listed set stands at the place of a member
-  placed : (j r : ℕ) → in_set (entry_at listed j) r ≡ true → is_member group j ≡ true
+  placed : (j r : ℕ) → in_entry (entry_at listed j) r ≡ true → is_member group j ≡ true
   placed j r h = pick (is_member group j) refl
     where
       pick : (b : Bool) → is_member group j ≡ b → b ≡ true
       pick true e = refl
-      pick false e = absurd (false≢true (sym (ap (λ (o : Option RankSet). in_set o r) (t.kept j ∙ ap (λ (b : Bool). cond b (entry_at entries j) None) e)) ∙ h))
+      pick false e = absurd (false≢true (sym (ap (λ (o : Option RankSet). in_entry o r) (t.kept j ∙ ap (λ (b : Bool). cond b (entry_at entries j) None) e)) ∙ h))
 
-  in_listed : (r : ℕ) → list_any (λ entry. in_set entry r) listed ≡ list_any (λ m. in_set (listed_of me log c m) r) group
+  in_listed : (r : ℕ) → list_any (λ entry. in_entry entry r) listed ≡ list_any (λ m. in_entry (listed_of me log c m) r) group
   in_listed r = same_truth _ _
       (λ h.
-      let found = place_test (λ entry. in_set entry r) None listed h in
+      let found = place_test (λ entry. in_entry entry r) None listed h in
       let member = placed found.0 r found.2 in
-      any_member group (λ m. in_set (listed_of me log c m) r) found.0 member (ap (λ (o : Option RankSet). in_set o r) (sym (listed_member found.0 member)) ∙ found.2))
+      any_member group (λ m. in_entry (listed_of me log c m) r) found.0 member (ap (λ (o : Option RankSet). in_entry o r) (sym (listed_member found.0 member)) ∙ found.2))
       (λ h.
-      let found = member_test group (λ m. in_set (listed_of me log c m) r) h in
-      list_any_at (λ entry. in_set entry r) listed found.0 None (omega (arith, below found.0 found.1, t.size)) (ap (λ (o : Option RankSet). in_set o r) (listed_member found.0 found.1) ∙ found.2))
+      let found = member_test group (λ m. in_entry (listed_of me log c m) r) h in
+      list_any_at (λ entry. in_entry entry r) listed found.0 None (omega (arith, below found.0 found.1, t.size)) (ap (λ (o : Option RankSet). in_entry o r) (listed_member found.0 found.1) ∙ found.2))
 
   pub failures_out : (r : ℕ) → has failures r ≡ is_out me group log c r
-  failures_out r = t.failed r ∙ ap (λ (b : Bool). b || list_any (λ entry. in_set entry r) listed) (knows r) ∙ ap (λ (b : Bool). is_gone log r || b) (in_listed r)
+  failures_out r = t.failed r ∙ ap (λ (b : Bool). b || list_any (λ entry. in_entry entry r) listed) (knows r) ∙ ap (λ (b : Bool). is_gone log r || b) (in_listed r)
 
   accounted_member : (r : ℕ) → is_member group r ≡ true → has accounted r ≡ (is_some (listed_of me log c r) || is_out me group log c r)
   accounted_member r member = t.accounts r ∙ ap (λ (o : Option RankSet). is_some o || has failures r) (listed_member r member) ∙ ap (λ (b : Bool). is_some (listed_of me log c r) || b) (failures_out r)

@@ -2,7 +2,8 @@
 use Rattle.std.proofs.Common.{◌≡◌, ℕ, ◌<◌, Bool, true, false, cond, eqb, List, [], ◌∷◌, ◌++◌, length, refl, ap, sym, ◌∙◌, subst, Option, Some, None, arith, append-nil}
 use Rattle.std.specs.Prelude.{◌||◌}
 use Rattle.std.proofs.lemmas.Option.{slice_get_within}
-use Rattle.std.proofs.lemmas.Bool.Decides.{nat_tests}
+use Rattle.std.proofs.Math.Bool.{or-false}
+use Rattle.std.proofs.lemmas.Bool.{eqb-true, or_parts}
 use Rattle.ulfm_match.specs.declared.request.RequestId.{RequestId}
 use Rattle.ulfm_match.specs.History.{Event, Post, number}
 use Rattle.ulfm_match.specs.State.{State, Tracks}
@@ -18,10 +19,6 @@ use Rattle.ulfm_rank.specs.Table.{IsTable, IsInStep}
 use Rattle.ulfm_rank.proofs.Gather.{history-push, any-push}
 use Rattle.ulfm_rank.proofs.Groups.{of_group_stays}
 
-or_false : (b : Bool) → b || false ≡ b
-or_false true = refl
-or_false false = refl
-
 -- a request is released
 pub in_step_released : (n : ℕ) (log : List Entry) (m : State) (find : ℕ → Option Request) → IsInStep n log m find → (id : RequestId) (a : TestAnswer) (q : Request) → find id.number ≡ Some q → (find' : ℕ → Option Request) → Removes id.number find find' → IsInStep n (log ++ Released id a ∷ []) m find'
 in_step_released n log m find t id a q f find' gone =
@@ -31,7 +28,7 @@ in_step_released n log m find t id a q f find' gone =
     let table : IsTable n (log ++ x ∷ []) h t.pairing find' = record {
       standing = λ k w g. t.table.standing k w (left k w g).1;
       of_group = λ k w g. of_group_stays n log x w.pattern (t.table.of_group k w (left k w g).1);
-      unreleased = λ k w g. let o = left k w g in any-push (releases k) log x ∙ (ap (λ b. is_released log k || b) o.0 ∙ (or_false (is_released log k) ∙ t.table.unreleased k w o.1));
+      unreleased = λ k w g. let o = left k w g in any-push (releases k) log x ∙ (ap (λ b. is_released log k || b) o.0 ∙ (or-false (is_released log k) ∙ t.table.unreleased k w o.1));
       complete = λ i p posted free.
           let k = number h i in
           let both = split k free in
@@ -52,15 +49,8 @@ in_step_released n log m find t id a q f find' gone =
     left : (k : ℕ) (w : Request) → find' k ≡ Some w → (eqb id.number k ≡ false) × (find k ≡ Some w)
     left k w g = choose k w (eqb id.number k) refl (sym (gone k) ∙ g)
 
-    both_false : (a b : Bool) → a || b ≡ false → (a ≡ false) × (b ≡ false)
-    both_false true b h = cc
-    both_false false b h = (refl, h)
-
     split : (k : ℕ) → is_released (log ++ Released id a ∷ []) k ≡ false → (is_released log k ≡ false) × (eqb id.number k ≡ false)
-    split k e = both_false (is_released log k) (eqb id.number k) (sym (any-push (releases k) log (Released id a)) ∙ e)
-
-    alike : (a b : ℕ) → eqb a b ≡ true → a ≡ b
-    alike a b e = grind (arith, nat_tests)
+    split k e = or_parts (is_released log k) (eqb id.number k) (sym (any-push (releases k) log (Released id a)) ∙ e)
 
     here : (k : ℕ) → id.number ≡ k → k < number (history_of log) (length (history_of log))
     here k e =
@@ -70,4 +60,4 @@ in_step_released n log m find t id a q f find' gone =
 
     pick_below : (k : ℕ) (b : Bool) → is_released log k ≡ b → is_released (log ++ Released id a ∷ []) k ≡ true → k < number (history_of log) (length (history_of log))
     pick_below k true e r = t.table.released_below k e
-    pick_below k false e r = here k (alike id.number k (sym (ap (λ (b : Bool). b || eqb id.number k) e) ∙ (sym (any-push (releases k) log (Released id a)) ∙ r)))
+    pick_below k false e r = here k (eqb-true id.number k (sym (ap (λ (b : Bool). b || eqb id.number k) e) ∙ (sym (any-push (releases k) log (Released id a)) ∙ r)))

@@ -14,7 +14,7 @@ use Rattle.ulfm_rank.specs.Inside.{Follows}
 use Rattle.ulfm_rank.specs.Outboxes.{Box}
 use Rattle.ulfm_rank.specs.Table.{GivesAnswer, HasSender, IsOfGroup}
 use Rattle.ulfm_rank.proofs.Answered.{tested, has_sender}
-use Rattle.ulfm_rank.proofs.Groups.{members_found}
+use Rattle.ulfm_rank.proofs.Grouped.{members_found}
 use Rattle.ulfm_rank.proofs.Known.{pends_known}
 use Rattle.ulfm_rank.proofs.Made.{found_group}
 

@@ -1,12 +1,12 @@
 -- A post and an arrival, with the table beside them.
 use Rattle.std.proofs.Common.{◌≡◌, ◌≢◌, ℕ, ◌+◌, ◌<◌, inl, inr, Bool, true, false, cond, eqb, List, [], ◌∷◌, ◌++◌, length, refl, ap, sym, ◌∙◌, subst, Option, Some, None, arith, append_assoc, append-nil}
-use Rattle.std.specs.Prelude.{MatchOption}
 use Rattle.std.specs.Option.{option_map}
 use Rattle.std.proofs.lemmas.Bool.Decides.{nat_tests}
 use Rattle.std.proofs.lemmas.List.Elements.{Contains-push}
+use Rattle.std.proofs.lemmas.Bool.{eqb-true}
 use Rattle.ulfm_base.specs.declared.pattern.Pattern.{Pattern}
 use Rattle.ulfm_base.specs.declared.envelope.Letter.{Letter}
-use Rattle.ulfm_match.specs.History.{Event, Post, Come, End, Clear, PostAt, ComeAt, StandsBetween, number}
+use Rattle.ulfm_match.specs.History.{Event, Post, Come, End, Clear, PostAt, StandsBetween, number}
 use Rattle.ulfm_match.specs.Pairing.{Pairing, Pairs, LawfulPairing}
 use Rattle.ulfm_match.specs.State.{State, Tracks}
 use Rattle.ulfm_match.specs.Calls.{TracksEnd}
@@ -22,10 +22,7 @@ use Rattle.ulfm_rank.specs.Answer.{IsUnpaired}
 use Rattle.ulfm_rank.specs.Table.{IsOfGroup, Became, IsStanding, IsTable}
 use Rattle.ulfm_rank.specs.Requests.{outcome_of, changed, Adds, Changes, events_of_post, events_of_item, TracksItem}
 use Rattle.ulfm_rank.proofs.Tables.{became_keeps, table_change, table_post}
-
--- what a post says of its answer
-abbrev pub Posts : List Event → Pairing → Pattern → State → Option Letter → Type 0
-Posts h r p s o = MatchOption o (Tracks (h ++ Post p ∷ []) r s) (λ letter. (b : ℕ) × ComeAt h b letter × Tracks (h ++ Post p ∷ []) (r ++ (length h, b) ∷ []) s)
+use Rattle.ulfm_match.proofs.Determined.{Posts}
 
 -- the pairing after a post
 pub record IsPosted (h : List Event) (r : Pairing) (p : Pattern) (s : State) (o : Option Letter) : Type 0 where
@@ -66,9 +63,6 @@ posted h r law p s (Some l) t = record {
 
 differ : (a b : ℕ) → eqb a b ≡ false → a ≢ b
 differ a b e f = grind (arith, nat_tests)
-
-alike : (a b : ℕ) → eqb a b ≡ true → a ≡ b
-alike a b e = grind (arith, nat_tests)
 
 -- the number of a request is that of one place
 pub same_place : (h : List Event) (r : Pairing) (id : ℕ) (q : Request) (s : IsStanding h r id q) (i : ℕ) (p : Pattern) → PostAt h i p → number h i ≡ id → s.place ≡ i
@@ -113,7 +107,7 @@ changed_became : (h : List Event) (r : Pairing) (id : ℕ) (o : Outcome) (k : �
 changed_became h r id o k q i here there = pick (eqb id k) refl
   where
     pick : (c : Bool) → eqb id k ≡ c → Became h r i q.pattern (cond c (record { pattern = q.pattern; outcome = o }) q).outcome
-    pick true e = here (alike id k e)
+    pick true e = here (eqb-true id k e)
     pick false e = there (differ id k e)
 
 -- the receive at the last place ends: it keeps its letter, or is over

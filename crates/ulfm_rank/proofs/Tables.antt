@@ -3,6 +3,7 @@ use Rattle.std.proofs.Common.{◌≡◌, ◌≢◌, ℕ, suc, ◌<◌, ◌≤◌
 use Rattle.std.specs.Option.{option_map}
 use Rattle.std.proofs.lemmas.Option.{slice_get_within}
 use Rattle.std.proofs.lemmas.Bool.Decides.{nat_tests}
+use Rattle.std.proofs.lemmas.Bool.{eqb-true}
 use Rattle.ulfm_base.specs.declared.pattern.Pattern.{Pattern}
 use Rattle.ulfm_match.specs.History.{Event, Post, Come, End, Clear, PostAt, number}
 use Rattle.ulfm_match.specs.Pairing.{Pairing, Pairs, IsWaiting, LawfulPairing}
@@ -128,9 +129,6 @@ module _ (n : ℕ) (log : List Entry) (h : List Event) (x : Event) (r r' : Pairi
       itself : (a : ℕ) → eqb a a ≡ true
       itself a = grind (arith, nat_tests)
 
-      equal : (a b : ℕ) → eqb a b ≡ true → a ≡ b
-      equal a b e = grind (arith, nat_tests)
-
       posted_here : PostAt (h ++ x ∷ []) (length h) p
       posted_here = get_new h x ∙ ap (λ (e : Event). Some e) is
 
@@ -142,7 +140,7 @@ module _ (n : ℕ) (log : List Entry) (h : List Event) (x : Event) (r r' : Pairi
           pick false g = refl
 
       choose : (b : Bool) (id : ℕ) (q : Request) → eqb (number h (length h)) id ≡ b → cond b (Some (record { pattern = p; outcome = o })) (find id) ≡ Some q → ((number h (length h) ≡ id) × ◌≡◌ {A = Request} (record { pattern = p; outcome = o }) q) ⊎ (find id ≡ Some q)
-      choose true id q e f = inl (equal (number h (length h)) id e, cc)
+      choose true id q e f = inl (eqb-true (number h (length h)) id e, cc)
       choose false id q e f = inr f
 
       was : (id : ℕ) (q : Request) → find' id ≡ Some q → ((number h (length h) ≡ id) × ◌≡◌ {A = Request} (record { pattern = p; outcome = o }) q) ⊎ (find id ≡ Some q)

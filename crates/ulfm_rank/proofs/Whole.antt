@@ -2,6 +2,7 @@
 use Rattle.std.proofs.Common.{◌≡◌, ℕ, ◌+◌, ◌<◌, ◌≤◌, Bool, true, false, cond, List, [], ◌∷◌, ◌++◌, length, map, replicate, refl, ap, sym, subst, ◌∙◌, Option, Some, None, arith}
 use Rattle.std.specs.Prelude.{◌||◌, ◌&&◌, nat_lt, IsTrue}
 use Rattle.std.proofs.lemmas.Bool.Decides.{nat_tests}
+use Rattle.std.proofs.Math.Bool.{or-false}
 use Rattle.ulfm_base.specs.declared.item.Item.{Item}
 use Rattle.ulfm_base.specs.declared.pattern.Pattern.{Pattern}
 use Rattle.ulfm_base.specs.declared.rank.WorldRank.{WorldRank}
@@ -16,7 +17,7 @@ use Rattle.ulfm_rank.specs.declared.outcome.Outcome.{Outcome}
 use Rattle.ulfm_rank.specs.declared.outcome.Request.{Request}
 use Rattle.ulfm_rank.specs.Facts.{is_revoked, is_stop, is_stopped}
 use Rattle.ulfm_rank.specs.Fields.{HasFaults, names_known, was_marked}
-use Rattle.ulfm_rank.specs.Inside.{Follows, stop_places}
+use Rattle.ulfm_rank.specs.Inside.{Follows}
 use Rattle.ulfm_rank.specs.Outboxes.{Box, empty_box, mark_of, AllGrow}
 use Rattle.ulfm_rank.specs.Owed.{owed_by_item}
 use Rattle.ulfm_rank.specs.Requests.{Adds, Removes, TracksAdmit, TracksItem}
@@ -31,11 +32,7 @@ use Rattle.ulfm_rank.proofs.Release.{in_step_released}
 
 -- an entry that is no stop
 pub halted_quiet : (log : List Entry) (x : Entry) (stopped : Bool) → stopped ≡ is_stopped log → is_stop x ≡ false → stopped ≡ is_stopped (log ++ x ∷ [])
-halted_quiet log x stopped h none = h ∙ sym (any-push is_stop log x ∙ (ap (λ (b : Bool). is_stopped log || b) none ∙ or_false (is_stopped log)))
-  where
-    or_false : (b : Bool) → b || false ≡ b
-    or_false true = refl
-    or_false false = refl
+halted_quiet log x stopped h none = h ∙ sym (any-push is_stop log x ∙ (ap (λ (b : Bool). is_stopped log || b) none ∙ or-false (is_stopped log)))
 
 pub follows_start : (n me : ℕ) (matcher : Matching) (find : ℕ → Option Request) (facts : Facts) (comms : List (ℕ × List ℕ)) (boxes : List Box)
     → n ≤ 8 → me < n → Tracks [] [] matcher → ((k : ℕ) → find k ≡ None) → facts.known ≡ [] → ((c : ℕ) → acknowledged_in facts c ≡ 0) → ((c : ℕ) → is_marked facts c ≡ false)
@@ -116,10 +113,6 @@ pub state_grown : (me n : ℕ) (log log' : List Entry) (boxes boxes' : List Box)
     → ◌≡◌ {A = State} (record { me = me; ranks = n; log = log'; marks = map mark_of boxes' }) (logged old x)
 state_grown me n log log' boxes boxes' x old e l m =
     subst (λ (s : State). ◌≡◌ {A = State} (record { me = me; ranks = n; log = log'; marks = map mark_of boxes' }) (logged s x)) e (let f = l in let g = m in cc)
-
-pub one_place : (stopped : Bool) → stop_places stopped ≤ 1
-one_place true = omega arith
-one_place false = omega arith
 
 pub at_most_one : (b : Bool) → cond b 0 1 ≤ 1
 at_most_one true = omega arith

@@ -1,12 +1,12 @@
 -- What a log tells: which ranks are known to have failed, what was acknowledged, which contexts are revoked,
 -- which requests are released, whether the rank stopped, and what it took from each rank.
-use Rattle.std.specs.Prelude.{ℕ, Bool, true, false, List, [], ◌∷◌, ◌==◌, length, min, max, filter, if◌then◌else◌}
+use Rattle.std.specs.Prelude.{◌≡◌, ⊤, ℕ, Bool, true, false, List, [], ◌∷◌, ◌==◌, length, min, max, filter, if◌then◌else◌}
 use Rattle.std.specs.List.{list_any, flat_map}
 use Rattle.ulfm_base.specs.declared.item.Item.{Item}
 use Rattle.ulfm_base.specs.declared.item.Item.TheVariants.{Gone, Revoke}
 use Rattle.ulfm_base.specs.Group.{is_member}
 use Rattle.ulfm_rank.specs.declared.entry.Entry.{Entry}
-use Rattle.ulfm_rank.specs.declared.entry.Entry.TheVariants.{Released, Acknowledged, Revoked, Stopped, Took}
+use Rattle.ulfm_rank.specs.declared.entry.Entry.TheVariants.{Sent, Released, Acknowledged, Revoked, Stopped, Took}
 use Rattle.ulfm_rank.specs.Log.{gathered}
 
 -- an item says that its sender stopped
@@ -95,3 +95,8 @@ took_by s _ = []
 -- what the log took from s, in order
 abbrev pub took : List Entry → ℕ → List Item
 took log s = flat_map (took_by s) log
+
+-- a letter that an entry sent bears the number of its rank
+abbrev pub IsSigned : ℕ → Entry → Type 0
+IsSigned me (Sent to letter) = letter.envelope.source.number ≡ me
+IsSigned me _ = ⊤

@@ -14,3 +14,4 @@ pub mod Table
 pub mod Requests
 pub mod Fields
 pub mod Inside
+pub mod Quiet

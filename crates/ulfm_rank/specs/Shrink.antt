@@ -5,7 +5,7 @@ use lib.Pointwise.{pointwise}
 use Rattle.ulfm_base.specs.declared.rank_set.RankSet.{RankSet}
 use Rattle.ulfm_base.specs.RankSet.{has}
 use Rattle.ulfm_base.specs.declared.decision.Decision.{Decision}
-use Rattle.ulfm_base.specs.Decision.{entry_at}
+use Rattle.ulfm_base.specs.Decision.{entry_at, in_entry}
 use Rattle.ulfm_base.specs.declared.item.Item.{Item}
 use Rattle.ulfm_base.specs.declared.item.Item.TheVariants.{Enter}
 use Rattle.ulfm_base.specs.Group.{is_member, excluding, numbers_from}
@@ -47,14 +47,9 @@ has_adopted log c = list_any (adopts c) log
 abbrev pub listed_of : ℕ → List Entry → ℕ → ℕ → Option RankSet
 listed_of me log c r = if r == me then first_of (entry_of c) log else first_of (heard_of c r) log
 
--- a set, where there is one, has r
-abbrev pub in_set : Option RankSet → ℕ → Bool
-in_set None r = false
-in_set (Some set) r = has set r
-
 -- r is in the union of the listed sets and of what is known now
 abbrev pub is_out : ℕ → List ℕ → List Entry → ℕ → ℕ → Bool
-is_out me group log c r = is_gone log r || list_any (λ m. in_set (listed_of me log c m) r) group
+is_out me group log c r = is_gone log r || list_any (λ m. in_entry (listed_of me log c m) r) group
 
 -- there is a proposal: each member is listed or out
 abbrev pub has_proposal : ℕ → List ℕ → List Entry → ℕ → Bool

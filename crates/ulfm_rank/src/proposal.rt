@@ -2,14 +2,14 @@
 ghost use Rattle.std.specs.Prelude.{◌≡◌, ◌||◌, ◌<◌, ℕ, true, if◌then◌else◌, None};
 ghost use Rattle.std.specs.List.{list_any};
 ghost use Rattle.ulfm_base.specs.Context.{shrink_of};
-ghost use Rattle.ulfm_base.specs.Decision.{entry_at, is_listed};
+ghost use Rattle.ulfm_base.specs.Decision.{entry_at, is_listed, in_entry};
 ghost use Rattle.ulfm_base.specs.Group.{is_member};
 ghost use Rattle.ulfm_base.specs.RankSet.{has};
 ghost use Rattle.ulfm_rank.specs.Calls.{Proposes};
 ghost use Rattle.ulfm_rank.specs.Checks.{group_at};
 ghost use Rattle.ulfm_rank.specs.Fields.{HasEntries};
 ghost use Rattle.ulfm_rank.specs.Outboxes.{Knows};
-ghost use Rattle.ulfm_rank.specs.Shrink.{in_set, has_entered};
+ghost use Rattle.ulfm_rank.specs.Shrink.{has_entered};
 ghost use Rattle.ulfm_rank.specs.State.{State};
 
 use crate::members::members_of_both;
@@ -45,7 +45,7 @@ fn listed_or(listed: &[Option<RankSet>; 8], set: RankSet) -> RankSet
 
 /// The ranks that are known to have failed, here or in a listed set.
 fn failures_in(listed: &[Option<RankSet>; 8], known: RankSet) -> RankSet
-    ensures { (r : ℕ) → has result r ≡ (has known r || list_any (λ entry. in_set entry r) listed.now) }
+    ensures { (r : ℕ) → has result r ≡ (has known r || list_any (λ entry. in_entry entry r) listed.now) }
 {
     let mut failures = known;
     for entry in listed {

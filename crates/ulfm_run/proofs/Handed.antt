@@ -1,16 +1,24 @@
 -- Lists that are handed over, one element after another, and what came of each.
 use Rattle.std.proofs.Common.{◌≡◌, ℕ, zero, suc, List, [], ◌∷◌, ◌++◌, map, length, refl, ap, sym, ◌∙◌, append_assoc, arith, subst}
-use Rattle.std.specs.Prelude.{slice_get, Some, All}
+use Rattle.std.specs.Prelude.{slice_get, All}
 use Rattle.std.proofs.lemmas.List.{map-append}
 use Rattle.std.proofs.lemmas.Option.{same_Some, slice_get_within, get_or_from_slice_get}
 use Rattle.std.proofs.lemmas.List.Elements.{All-get_or}
+use Rattle.std.specs.declared.alloc.Global.{Global}
+use Rattle.std.specs.declared.vec.Vec.{Vec}
 use Rattle.ulfm_base.specs.declared.item.Item.{Item}
-use Rattle.ulfm_carrier.specs.Family.{at, IsFresh}
+use Rattle.ulfm_base.specs.declared.rank.WorldRank.{WorldRank}
+use Rattle.ulfm_carrier.specs.Family.{IsFresh}
+use Rattle.ulfm_base.specs.Lists.{at}
 use Rattle.ulfm_script.specs.Report.{Report}
 use Rattle.ulfm_script.specs.Deciding.{Known}
 use Rattle.ulfm_run.specs.declared.worker.Ran.{Ran}
-use Rattle.ulfm_run.specs.Answered.{HasAnswers}
-use Rattle.ulfm_run.specs.Fields.{EachFresh, HaveAnswers, report_in, decider_in}
+use Rattle.ulfm_script.specs.Answered.{HasAnswers}
+use Rattle.ulfm_laws.specs.Answers.{HaveAnswers}
+use Rattle.ulfm_laws.specs.Flow.{inbox_of}
+use Rattle.ulfm_run.specs.Flow.{contents}
+use Rattle.ulfm_run.specs.Fields.{EachFresh, GaveAnswers, report_in, decider_in}
+use Rattle.ulfm_base.proofs.Places.{at_view}
 
 pub fresh_first : {E : Type 0} (count : E → ℕ) (pushed taken : E → ℕ → List Item) (ready : E → Type 0) (n : ℕ) (all rest : List E) (x : E) → EachFresh count pushed taken ready n all → all ≡ x ∷ rest → IsFresh count pushed taken ready n x
 fresh_first count pushed taken ready n all rest x fresh is = fresh 0 x (ap (λ l. slice_get l 0) is)
@@ -24,16 +32,17 @@ handed f done done' h x left left' all was next more is =
     ap (λ l. map f l ++ left') more ∙ ap (λ l. l ++ left') (map-append f done (h ∷ [])) ∙ append_assoc (map f done) (f h ∷ []) left' ∙ ap (λ y. map f done ++ y ∷ left') is
     ∙ ap (λ l. map f done ++ l) (sym next) ∙ was
 
-pub at_map : {X Y : Type 0} (f : X → Y) (xs : List X) (k : ℕ) (x : X) → at xs k x → at (map f xs) k (f x)
-at_map f [] k x h = let bad : ⊥ = cc in absurd bad
-at_map f (y ∷ xs) zero x h = ap (λ z. Some (f z)) (same_Some y x h)
-at_map f (y ∷ xs) (suc k) x h = at_map f xs k x h
-
 -- what stands at a place of a mapped list comes from there
 pub from_map : {X Y : Type 0} (f : X → Y) (xs : List X) (k : ℕ) (y : Y) → at (map f xs) k y → (x : X) × at xs k x × (f x ≡ y)
 from_map f [] k y h = let bad : ⊥ = cc in absurd bad
 from_map f (x ∷ xs) zero y h = (x, refl, same_Some (f x) y h)
 from_map f (x ∷ xs) (suc k) y h = from_map f xs k y h
+
+-- what is left in the inbox at a place
+pub inbox_there : (inboxes : List (Vec (WorldRank × Item) Global)) (d : ℕ) (inbox : Vec (WorldRank × Item) Global) → at inboxes d inbox → inbox_of (contents inboxes) d ≡ inbox.items
+inbox_there inboxes d inbox here =
+    let items : Vec (WorldRank × Item) Global → List (WorldRank × Item) = λ v. v.items in
+    get_or_from_slice_get (contents inboxes) d inbox.items [] (at_view items inboxes d inbox here)
 
 -- lists with equal elements at each place are equal under their functions
 pub same_maps : {X Y Z : Type 0} (f : X → Z) (g : Y → Z) (xs : List X) (ys : List Y) → length ys ≡ length xs → ((k : ℕ) (x : X) (y : Y) → at xs k x → at ys k y → g y ≡ f x) → map g ys ≡ map f xs
@@ -44,14 +53,13 @@ same_maps {X} {Y} {Z} f g (x ∷ xs) (y ∷ ys) n h =
     ap (λ (z : Z). z ∷ map g ys) (h zero x y refl refl) ∙ ap (λ (zs : List Z). f x ∷ zs) (same_maps f g xs ys (omega (arith, n)) (λ k a b p q. h (suc k) a b p q))
 
 -- what each thread gave back has right answers, by its place in the lists of reports and of what deciders know
-pub answers_all : {E D : Type 0} (known : D → Known) (ran : List (Ran E D)) → All (HaveAnswers known) ran → (reports : List Report) (knows : List Known) → reports ≡ map report_in ran → knows ≡ map known (map decider_in ran) →
-    (k : ℕ) (told : Report) (it : Known) → at reports k told → at knows k it → HasAnswers it told
+pub answers_all : {E D : Type 0} (known : D → Known) (ran : List (Ran E D)) → All (GaveAnswers known) ran → (reports : List Report) (knows : List Known) → reports ≡ map report_in ran → knows ≡ map known (map decider_in ran) → HaveAnswers knows reports
 answers_all {E} {D} known ran all reports knows rs ds k told it p q =
     let a = from_map report_in ran k told (ap (λ l. slice_get l k) (sym rs) ∙ p) in
     let c = from_map known (map decider_in ran) k it (ap (λ l. slice_get l k) (sym ds) ∙ q) in
     let b = from_map decider_in ran k c.0 c.1 in
     let one : b.0 ≡ a.0 = same_Some b.0 a.0 (sym b.1 ∙ a.1) in
-    let H : Ran E D → Type 0 = HaveAnswers known in
+    let H : Ran E D → Type 0 = GaveAnswers known in
     let h : H a.0 = subst H (get_or_from_slice_get ran k a.0 a.0 a.1) (All-get_or H ran k a.0 (slice_get_within ran k a.0 a.1) all) in
     let K : Known → Report → Type 0 = λ (x : Known) (r : Report). HasAnswers x r in
     subst (λ (x : Known). K x told) (ap known (ap decider_in (sym one) ∙ b.2) ∙ c.2) (subst (λ (r : Report). K (known a.0.decider) r) a.2 h)

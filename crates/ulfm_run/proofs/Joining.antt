@@ -1,44 +1,18 @@
 -- A rank and its end stay together while items go from one to the other.
-use Rattle.std.proofs.Common.{◌≡◌, ◌≢◌, ℕ, ◌<◌, Bool, true, false, cond, List, [], ◌∷◌, ◌++◌, refl, ap, sym, subst, ◌∙◌, arith, inl, inr, append-nil, get_or-set_other}
+use Rattle.std.proofs.Common.{◌≡◌, ◌≢◌, ℕ, ◌<◌, Bool, true, false, cond, List, [], ◌∷◌, ◌++◌, refl, ap, sym, subst, ◌∙◌, arith, inl, inr, append-nil}
 use Rattle.std.specs.Prelude.{All, ◌||◌}
 use Rattle.std.proofs.lemmas.Bool.{cases_eq, eq-eqb, ne_eqb}
 use Rattle.ulfm_base.specs.declared.rank.WorldRank.{WorldRank}
 use Rattle.ulfm_base.specs.declared.item.Item.{Item}
-use Rattle.ulfm_base.specs.declared.item.Item.TheVariants.{Letter as Mail}
-use Rattle.ulfm_carrier.specs.Family.{ComesFrom}
 use Rattle.ulfm_rank.specs.declared.entry.Entry.{Entry}
 use Rattle.ulfm_rank.specs.declared.entry.Entry.TheVariants.{Took}
-use Rattle.ulfm_rank.specs.Calls.{IsFrom}
-use Rattle.ulfm_rank.specs.Facts.{took, is_stopped}
-use Rattle.ulfm_rank.specs.State.{State, logged, outbox, gone_out, mark_at, marked, no_mark, Leaves}
+use Rattle.ulfm_rank.specs.Facts.{took, is_stopped, IsSigned}
+use Rattle.ulfm_rank.specs.State.{State, logged, gone_out, Leaves}
 use Rattle.ulfm_script.specs.Player.{Player, View, with_rank}
-use Rattle.ulfm_run.specs.Joined.{IsSigned, IsJoined, Moves}
-use Rattle.ulfm_run.proofs.Logs.{took-push, stopped-push}
-use Rattle.ulfm_run.proofs.Quiet.{calm-took}
-use Rattle.ulfm_run.proofs.Takes.{takes-none, takes-then, takes-one}
-use Rattle.ulfm_run.proofs.Signed.{IsItemOf, front_signed, from_signed}
-
--- what went out to another rank
-out_other : (old new : State) (d x : ℕ) (item : Item) → Leaves old new d item → x ≢ d → gone_out new x ≡ gone_out old x
-out_other old new d x item k other =
-    let G : State → Type 0 = λ (s : State). gone_out s x ≡ gone_out old x in
-    subst G (sym k.marked) (rw (get_or-set_other old.marks d x (marked old (mark_at old d)) no_mark other) refl)
-
--- the first item of an outbox may be pushed by the end
-pub front_comes : (r : State) (d : ℕ) (item : Item) (rest : List Item) → All (IsSigned r.me) r.log → outbox r d ≡ item ∷ rest → ComesFrom r.me item
-front_comes r d item rest all front = comes item (front_signed r d item rest all front)
-  where
-    comes : (i : Item) → IsItemOf r.me i → ComesFrom r.me i
-    comes (Mail letter) h = h
-    comes _ h = tt
-
--- an item that the end popped may be taken
-pub popped_from : (source : WorldRank) (item : Item) → ComesFrom source.number item → IsFrom source item
-popped_from source item h = from_signed source item (comes item h)
-  where
-    comes : (i : Item) → ComesFrom source.number i → IsItemOf source.number i
-    comes (Mail letter) h = h
-    comes _ h = tt
+use Rattle.ulfm_run.specs.Joined.{IsJoined, Moves}
+use Rattle.ulfm_rank.proofs.Logs.{took-push, stopped-push}
+use Rattle.ulfm_rank.proofs.Quiet.{calm-took, out_other}
+use Rattle.ulfm_script.proofs.Takes.{takes-none, takes-then, takes-one}
 
 module _ {E N : Type 0} (name : E → N) (place count : E → ℕ) (pushed taken : E → ℕ → List Item) (ready : E → Type 0) where
   abbrev pub Joined : State → E → Type 0

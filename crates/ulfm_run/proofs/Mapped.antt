@@ -4,8 +4,10 @@ use Rattle.std.specs.Prelude.{slice_get}
 use Rattle.std.specs.List.{swap}
 use Rattle.std.proofs.lemmas.List.{length-map}
 use Rattle.ulfm_base.specs.declared.item.Item.{Item}
-use Rattle.ulfm_carrier.specs.Family.{at, InPlace, IsFresh, AllFresh}
-use Rattle.ulfm_run.proofs.Handed.{from_map, at_map}
+use Rattle.ulfm_carrier.specs.Family.{IsFresh, AllFresh}
+use Rattle.ulfm_base.specs.Lists.{InPlace, at}
+use Rattle.ulfm_run.proofs.Handed.{from_map}
+use Rattle.ulfm_base.proofs.Places.{at_view}
 
 pub map_of_map : {X Y Z : Type 0} (f : Y → Z) (h : X → Y) (xs : List X) → map f (map h xs) ≡ map (λ x. f (h x)) xs
 map_of_map f h [] = refl
@@ -18,7 +20,7 @@ each_of_map P f xs all k y here = let r = from_map f xs k y here in subst P r.2 
 -- ends over fresh ends are fresh
 pub fresh_over : {L E : Type 0} (below : L → E) (count : E → ℕ) (pushed taken : E → ℕ → List Item) (ready : E → Type 0) (ls : List L) (es : List E) → map below ls ≡ es → AllFresh count pushed taken ready es → AllFresh (λ l. count (below l)) (λ l p. pushed (below l) p) (λ l p. taken (below l) p) (λ l. ready (below l)) ls
 fresh_over below count pushed taken ready ls es is fresh =
-    λ k l here. let f = fresh k (below l) (ap (λ xs. slice_get xs k) (sym is) ∙ at_map below ls k l here) in
+    λ k l here. let f = fresh k (below l) (ap (λ xs. slice_get xs k) (sym is) ∙ at_view below ls k l here) in
     record { is_ready = f.is_ready; counted = f.counted ∙ ap length (sym is) ∙ length-map ls below; nothing_pushed = f.nothing_pushed; nothing_taken = f.nothing_taken }
 
 -- two ends in each other's place aren't at the places of their numbers

@@ -8,9 +8,11 @@ use Rattle.std.proofs.Math.Seq.{map-set_same}
 use Rattle.ulfm_base.specs.declared.decision.Decision.{Decision}
 use Rattle.ulfm_board.specs.Known.{BothAgree, known_at}
 use Rattle.ulfm_board.specs.Names.{OneBoard}
-use Rattle.ulfm_carrier.specs.Family.{at}
-use Rattle.ulfm_run.specs.Compared.{NameOneBoard, AgreeAt, AllAgree}
-use Rattle.ulfm_run.proofs.Handed.{at_map, from_map}
+use Rattle.ulfm_base.specs.Lists.{at}
+use Rattle.ulfm_run.specs.Compared.{NameOneBoard}
+use Rattle.ulfm_laws.specs.Answers.{AllAgree, AgreeAt}
+use Rattle.ulfm_run.proofs.Handed.{from_map}
+use Rattle.ulfm_base.proofs.Places.{at_view}
 
 -- seats of one board
 pub one_board_names : {D : Type 0} (board : D → Option (List ℕ)) (all : List D) → OneBoard board all → NameOneBoard (map board all)
@@ -43,12 +45,12 @@ module _ {D : Type 0} (all front back : List D) (i j : ℕ) (x y : D) (is : all 
 
   module _ (board : D → Option (List ℕ)) (one : NameOneBoard (map board all)) where
     pub same_board : board (get_or back 0 y) ≡ board (get_or front i x)
-    same_board = one.1 j (board (get_or back 0 y)) (at_map board all j (get_or back 0 y) second_at) ∙ sym (one.1 i (board (get_or front i x)) (at_map board all i (get_or front i x) first_at))
+    same_board = one.1 j (board (get_or back 0 y)) (at_view board all j (get_or back 0 y) second_at) ∙ sym (one.1 i (board (get_or front i x)) (at_view board all i (get_or front i x) first_at))
 
     pub on_board : IsSome (board (get_or front i x))
     on_board =
         let S : Option (List ℕ) → Type 0 = λ (b : Option (List ℕ)). IsSome b in
-        subst S (sym (one.1 i (board (get_or front i x)) (at_map board all i (get_or front i x) first_at))) refl
+        subst S (sym (one.1 i (board (get_or front i x)) (at_view board all i (get_or front i x) first_at))) refl
 
   -- two that are replaced by ones that f can't tell from them
   pub kept : {Z : Type 0} (f : D → Z) (x' y' : D) → f x' ≡ f (get_or front i x) → f y' ≡ f (get_or back 0 y) → map f (set front i x' ++ set back 0 y') ≡ map f all
@@ -59,8 +61,8 @@ module _ {D : Type 0} (all front back : List D) (i j : ℕ) (x y : D) (is : all 
 
   pub agree_two : (known : D → List (Option Decision)) → ((c : ℕ) → BothAgree (known_at (known (get_or front i x)) c) (known_at (known (get_or back 0 y)) c)) → AgreeAt (map known all) i j
   agree_two known agree one other p q c =
-      let same = same_Some (known (get_or front i x)) one (sym (at_map known all i (get_or front i x) first_at) ∙ p) in
-      let same' = same_Some (known (get_or back 0 y)) other (sym (at_map known all j (get_or back 0 y) second_at) ∙ q) in
+      let same = same_Some (known (get_or front i x)) one (sym (at_view known all i (get_or front i x) first_at) ∙ p) in
+      let same' = same_Some (known (get_or back 0 y)) other (sym (at_view known all j (get_or back 0 y) second_at) ∙ q) in
       let A : List (Option Decision) → Type 0 = λ ks. BothAgree (known_at ks c) (known_at (known (get_or back 0 y)) c) in
       let B : List (Option Decision) → Type 0 = λ ks. BothAgree (known_at one c) (known_at ks c) in
       subst B same' (subst A same (agree c))

@@ -1,6 +1,5 @@
 -- One poll of a rank's next step.
-use Rattle.std.proofs.Common.{◌≡◌, ℕ, ◌+◌, ◌<◌, ◌≤◌, false, List, length, refl, ap, sym, subst, ◌∙◌, arith, inl, inr, ◌⊎◌, Option, Some, None, MatchOption, slice_get}
-use Rattle.std.proofs.lemmas.Option.{slice_get_within}
+use Rattle.std.proofs.Common.{◌≡◌, ℕ, ◌+◌, ◌<◌, ◌≤◌, false, List, length, ap, sym, subst, ◌∙◌, arith, ◌⊎◌, Option, Some, None, slice_get}
 use Rattle.ulfm_base.specs.declared.context.Context.{Context}
 use Rattle.ulfm_rank.specs.Facts.{is_stopped}
 use Rattle.ulfm_rank.specs.State.{State, IsState}
@@ -10,30 +9,13 @@ use Rattle.ulfm_script.specs.declared.answer.Called.{Called}
 use Rattle.ulfm_script.specs.declared.answer.Called.TheVariants.{Answered, NotYet}
 use Rattle.ulfm_script.specs.Deciding.{Known, IsDecided}
 use Rattle.ulfm_script.specs.Job.{Seen, IsJob, script_at}
-use Rattle.ulfm_script.specs.Player.{Polls as PollsBy, Player, View, IsFree, IsCalled, Left}
-use Rattle.ulfm_run.specs.Script.{FollowsAt, left_at}
-use Rattle.ulfm_run.specs.Joined.{Quiet, Polls}
-use Rattle.ulfm_run.proofs.Polls.{quiet-called}
-use Rattle.ulfm_run.proofs.Scripts.{polls_small}
-use Rattle.ulfm_run.proofs.Advance.{Ready, advance-called, advance-left}
-use Rattle.ulfm_run.proofs.Decisions.{ready-decided, advance-decided, quiet-decided}
-
--- no other step than the next one stands open
-pub next-free : (script : List Step) (turns : ℕ) (p : Player) (asked : Step) → FollowsAt script turns p → slice_get script (length p.done) ≡ Some asked → IsFree p asked
-next-free script turns p asked h next = free p.current h.current
-  where
-    free : (o : Option Step) → MatchOption o (p.polls ≡ 0) (λ s. (slice_get script (length p.done) ≡ Some s) × (p.polls < turns)) → (o ≡ None) ⊎ (o ≡ Some asked)
-    free None k = inl refl
-    free (Some s) k = inr (sym k.0 ∙ next)
-
-ready-at : (job : Seen) (me : ℕ) (p : Player) (asked : Step) → IsJob job → FollowsAt (script_at job me) job.turns p → is_stopped p.rank.log ≡ false → slice_get (script_at job me) (length p.done) ≡ Some asked → Ready (script_at job me) job.turns p asked
-ready-at job me p asked is_job h running next = record {
-  follows = h;
-  running = running;
-  few = polls_small (script_at job me) job.turns p h is_job.some_turn;
-  next = next;
-  inside = slice_get_within (script_at job me) (length p.done) asked next;
-}
+use Rattle.ulfm_script.specs.Player.{Polls as PollsBy, Player, View, IsCalled, Left}
+use Rattle.ulfm_script.specs.Script.{FollowsAt, left_at}
+use Rattle.ulfm_run.specs.Joined.{Polls}
+use Rattle.ulfm_rank.specs.Quiet.{Quiet}
+use Rattle.ulfm_script.proofs.Polls.{quiet-called}
+use Rattle.ulfm_script.proofs.Advance.{ready-at, advance-called, advance-left}
+use Rattle.ulfm_script.proofs.Decisions.{ready-decided, advance-decided, quiet-decided}
 
 -- one call that is answered, or leaves the step open with polls to spare
 pub polls-call : (job : Seen) (me : ℕ) (v w : View) (asked : Step) → IsJob job → IsState v.player.rank → FollowsAt (script_at job me) job.turns v.player → is_stopped v.player.rank.log ≡ false → slice_get (script_at job me) (length v.player.done) ≡ Some asked →

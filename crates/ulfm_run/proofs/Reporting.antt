@@ -7,21 +7,27 @@ use Rattle.ulfm_base.specs.declared.item.Item.{Item}
 use Rattle.ulfm_base.specs.declared.rank.WorldRank.{WorldRank}
 use Rattle.std.specs.declared.alloc.Global.{Global}
 use Rattle.std.specs.declared.vec.Vec.{Vec}
-use Rattle.ulfm_carrier.specs.Family.{at, items_from, InPlace, Keeps, Settled}
+use Rattle.ulfm_carrier.specs.Family.{Keeps, Settled}
+use Rattle.ulfm_base.specs.Items.{items_from}
+use Rattle.ulfm_base.specs.Lists.{InPlace, at}
 use Rattle.ulfm_script.specs.Deciding.{Known}
 use Rattle.ulfm_script.specs.Job.{Seen, script_at, through_stop}
 use Rattle.ulfm_script.specs.Report.{Report}
 use Rattle.ulfm_run.specs.declared.worker.Ran.{Ran}
 use Rattle.ulfm_board.specs.Names.{OneBoard}
 use Rattle.ulfm_run.specs.Compared.{NameOneBoard}
-use Rattle.ulfm_run.specs.Decided.{AreTrue, ShowUntrue}
-use Rattle.ulfm_run.specs.Fields.{report_in, end_in, decider_in, Fits, WerePlayed, HaveAnswers}
-use Rattle.ulfm_run.specs.Flow.{AllCarry}
-use Rattle.ulfm_run.specs.Played.{IsPlayed, HasPlayed}
-use Rattle.ulfm_run.specs.Rest.{IsAtRest, KnowsStopped, AgreesOnRevoked}
-use Rattle.ulfm_run.proofs.AtRest.{knows-stopped, agrees-revoked}
+use Rattle.ulfm_run.specs.Decided.{ShowUntrue}
+use Rattle.ulfm_laws.specs.Shrinks.{AreTrue}
+use Rattle.ulfm_run.specs.Fields.{report_in, end_in, decider_in, Fits, WerePlayed, GaveAnswers}
+use Rattle.ulfm_run.specs.Flow.{AllCarry, contents}
+use Rattle.ulfm_run.specs.Played.{IsPlayed}
+use Rattle.ulfm_script.specs.Played.{HasPlayed}
+use Rattle.ulfm_laws.specs.Answers.{AllAgree, ArePlayed}
+use Rattle.ulfm_laws.specs.Flow.{Flows}
+use Rattle.ulfm_laws.specs.Lawful.{AreProduced}
 use Rattle.ulfm_run.proofs.Paired.{one_board_names}
-use Rattle.ulfm_run.proofs.Flowing.{there, AllPlayed, carried, ordered}
+use Rattle.ulfm_run.proofs.Flowing.{AllPlayed, carried, flowed, ordered}
+use Rattle.ulfm_base.proofs.Places.{there}
 use Rattle.ulfm_run.proofs.Handed.{from_map, same_maps, answers_all}
 
 -- ends and deciders fit a job
@@ -54,7 +60,7 @@ module _ {E D N : Type 0} (name : E → N) (place count : E → ℕ) (pushed tak
       subst (λ (x : Report). P x f) a.2 (subst (λ (y : E). P a.0.report y) (ap end_in (sym one) ∙ b.2) (h.played k e a.0 p a.1))
 
   -- each rank went through its script
-  pub all_went : InPlace place ends → (k : ℕ) (r : Report) → at (map report_in ran) k r → HasPlayed job k r
+  pub all_went : InPlace place ends → ArePlayed job (map report_in ran)
   all_went placed k r q =
       let a = from_map report_in ran k r q in
       let inside : k < length ran = slice_get_within ran k a.0 a.1 in
@@ -79,22 +85,21 @@ module _ {E D N : Type 0} (name : E → N) (place count : E → ℕ) (pushed tak
     pub flow_all : (ranks : List Report) (after : List E) (inboxes : List (Vec (WorldRank × Item) Global)) → ranks ≡ map report_in ran → Keeps name pushed taken (map end_in ran) after → Settled pushed taken (map end_in ran) inboxes → AllCarry pushed taken ranks after inboxes
     flow_all ranks after inboxes is keeps settled =
         subst (λ (rs : List Report). AllCarry pushed taken rs after inboxes) (sym is)
-        (carried name place count pushed taken ready job ends (map report_in ran) (map end_in ran) after inboxes fit.end_each (length-map ran report_in ∙ h.as_many) (length-map ran end_in ∙ h.as_many) fit.placed all_played keeps settled)
+        (carried name place count pushed taken ready job ends (map report_in ran) (map end_in ran) after inboxes (length-map ran report_in ∙ h.as_many) (length-map ran end_in ∙ h.as_many) all_played keeps settled)
 
     pub order_all : (ranks : List Report) → ranks ≡ map report_in ran → InPlace (λ (r : Report). r.rank.me) ranks
     order_all ranks is =
         subst (λ (rs : List Report). InPlace (λ (r : Report). r.rank.me) rs) (sym is)
         (ordered name place count pushed taken ready job ends (map report_in ran) (map end_in ran) (length-map ran report_in ∙ h.as_many) (length-map ran end_in ∙ h.as_many) fit.placed all_played)
 
-    pub went_all : (ranks : List Report) → ranks ≡ map report_in ran → (k : ℕ) (r : Report) → at ranks k r → HasPlayed job k r
-    went_all ranks is = subst (λ (rs : List Report). (k : ℕ) (r : Report) → at rs k r → HasPlayed job k r) (sym is) (all_went fit.placed)
+    pub went_all : (ranks : List Report) → ranks ≡ map report_in ran → ArePlayed job ranks
+    went_all ranks is = subst (ArePlayed job) (sym is) (all_went fit.placed)
 
-    pub sizes_all : (ranks : List Report) (after : List E) (kept : List D) (inboxes : List (Vec (WorldRank × Item) Global)) → ranks ≡ map report_in ran → Keeps name pushed taken (map end_in ran) after → Settled pushed taken (map end_in ran) inboxes → map board kept ≡ map board (map decider_in ran) →
-        (length ranks ≡ job.ranks) × (length inboxes ≡ job.ranks) × (length after ≡ job.ranks) × (length kept ≡ job.ranks)
-    sizes_all ranks after kept inboxes is keeps settled held =
+    pub sizes_all : (after : List E) (kept : List D) (inboxes : List (Vec (WorldRank × Item) Global)) → Keeps name pushed taken (map end_in ran) after → Settled pushed taken (map end_in ran) inboxes → map board kept ≡ map board (map decider_in ran) →
+        (length inboxes ≡ job.ranks) × (length after ≡ job.ranks) × (length kept ≡ job.ranks)
+    sizes_all after kept inboxes keeps settled held =
         let many : length ran ≡ job.ranks = h.as_many ∙ fit.end_each in
         let mid : length (map end_in ran) ≡ length ran = length-map ran end_in in (
-          ap length is ∙ length-map ran report_in ∙ many,
           settled.inbox_for_each ∙ mid ∙ many,
           sym (length-map after name) ∙ ap length keeps.names ∙ length-map (map end_in ran) name ∙ mid ∙ many,
           sym (length-map kept board) ∙ ap length held ∙ length-map (map decider_in ran) board ∙ length-map ran decider_in ∙ many,
@@ -124,28 +129,22 @@ module _ {E D N : Type 0} (name : E → N) (place count : E → ℕ) (pushed tak
     pub board_all : OneBoard board deciders → NameOneBoard (map board (map decider_in ran))
     board_all one = subst NameOneBoard (sym (same_boards (fit.decider_each ∙ sym fit.end_each))) (one_board_names board deciders one)
 
-    -- at rest, running ranks know the stopped ones and agree on revocations
-    module _ (ranks : List Report) (after : List E) (inboxes : List (Vec (WorldRank × Item) Global)) (is : ranks ≡ map report_in ran) (keeps : Keeps name pushed taken (map end_in ran) after) (settled : Settled pushed taken (map end_in ran) inboxes) (rest : IsAtRest ranks inboxes) where
-      each_rank : length ranks ≡ length ran
-      each_rank = ap length is ∙ length-map ran report_in
-
-      each_end : length after ≡ length ranks
-      each_end = sym (length-map after name) ∙ ap length keeps.names ∙ length-map (map end_in ran) name ∙ length-map ran end_in ∙ sym each_rank
-
-      each_inbox : length inboxes ≡ length ranks
-      each_inbox = settled.inbox_for_each ∙ length-map ran end_in ∙ sym each_rank
-
-      counted_all : (k : ℕ) (r : Report) → at ranks k r → r.rank.ranks ≡ length ranks
-      counted_all k r here = (went_all ranks is k r here).counted ∙ sym (each_rank ∙ h.as_many ∙ fit.end_each)
-
-      pub known_rest : KnowsStopped ranks
-      known_rest = knows-stopped pushed taken ranks after inboxes each_end each_inbox (order_all ranks is) counted_all (flow_all ranks after inboxes is keeps settled) rest
-
-      pub agreed_rest : AgreesOnRevoked ranks
-      agreed_rest = agrees-revoked pushed taken ranks after inboxes each_end each_inbox (order_all ranks is) counted_all (flow_all ranks after inboxes is keeps settled) rest
+    -- what the threads gave back is what an engine has to produce
+    pub produced_all : (known : D → Known) → All (GaveAnswers known) ran → (ranks : List Report) (knows : List Known) (inboxes : List (Vec (WorldRank × Item) Global)) → ranks ≡ map report_in ran → knows ≡ map known (map decider_in ran) → Settled pushed taken (map end_in ran) inboxes → AllAgree knows → AreTrue ranks → AreProduced job (contents inboxes) knows ranks
+    produced_all known answers ranks knows inboxes is held settled agreed true = record {
+      each = ap length is ∙ length-map ran report_in ∙ h.as_many ∙ fit.end_each;
+      known_each = ap length held ∙ length-map (map decider_in ran) known ∙ length-map ran decider_in ∙ h.as_many ∙ fit.end_each;
+      order = order_all ranks is;
+      scripts = went_all ranks is;
+      flow = subst (λ (rs : List Report). Flows (contents inboxes) rs) (sym is)
+          (flowed name place count pushed taken ready job ends (map report_in ran) (map end_in ran) inboxes fit.end_each (length-map ran report_in ∙ h.as_many) (length-map ran end_in ∙ h.as_many) fit.placed all_played settled);
+      answers = answers_all known ran answers ranks knows is held;
+      agreed = agreed;
+      decisions = true;
+    }
 
     -- reports that show a decision that isn't true
-    pub untrue_all : (known : D → Known) → All (HaveAnswers known) ran → (ranks : List Report) → ranks ≡ map report_in ran → (AreTrue ranks → ⊥) → ShowUntrue job ranks
+    pub untrue_all : (known : D → Known) → All (GaveAnswers known) ran → (ranks : List Report) → ranks ≡ map report_in ran → (AreTrue ranks → ⊥) → ShowUntrue job ranks
     untrue_all known answers ranks is untrue = record {
       each = ap length is ∙ length-map ran report_in ∙ h.as_many ∙ fit.end_each;
       order = order_all ranks is;

@@ -1,14 +1,17 @@
 -- Whom nothing waits for, as a loop over the ranks finds it.
-use Rattle.std.proofs.Common.{◌≡◌, ℕ, ◌<◌, ◌+◌, ◌↔◌, Bool, List, [], length, refl, ap, sym, subst, ◌∙◌, arith, inl, inr, get_or, eq-eqb}
+use Rattle.std.proofs.Common.{◌≡◌, ℕ, ◌<◌, ◌≤◌, ◌+◌, ◌↔◌, Bool, List, [], length, refl, ap, sym, subst, ◌∙◌, arith, inl, inr, get_or, eq-eqb}
 use Rattle.std.specs.Prelude.{◌==◌, IsTrue, slice_get, vec_len}
 use Rattle.std.specs.declared.alloc.Global.{Global}
 use Rattle.std.specs.declared.vec.Vec.{Vec}
 use Rattle.std.proofs.lemmas.Bool.{cases_lt, eqb-true}
-use Rattle.std.proofs.lemmas.List.{nil_from_length}
+use Rattle.std.proofs.lemmas.List.{nil_from_length, get_or_past, length-map}
 use Rattle.std.proofs.lemmas.Option.{same_Some, slice_get_read}
 use Rattle.ulfm_base.specs.declared.rank.WorldRank.{WorldRank}
 use Rattle.ulfm_base.specs.declared.item.Item.{Item}
-use Rattle.ulfm_carrier.specs.Family.{at}
+use Rattle.ulfm_base.specs.Lists.{at}
+use Rattle.ulfm_laws.specs.Flow.{inbox_of}
+use Rattle.ulfm_run.specs.Flow.{contents}
+use Rattle.ulfm_run.proofs.Handed.{inbox_there}
 
 -- what holds at each place before k, and at k, holds at each before k + 1
 pub each_more : {X : Type 0} (P : ℕ → X → Type 0) (xs : List X) (k : ℕ) (x : X) → ((j : ℕ) (y : X) → j < k → at xs j y → P j y) → k < length xs → x ≡ get_or xs k x → P k x → (j : ℕ) (y : X) → j < k + 1 → at xs j y → P j y
@@ -23,13 +26,18 @@ each_more P xs k x before inside is holds j y low there = elim (cases_lt j k) [
 ]
 
 -- the inbox at a place is empty
-pub inbox_at : (inboxes : List (Vec (WorldRank × Item) Global)) (d : ℕ) (inbox : Vec (WorldRank × Item) Global) (b : Bool) → at inboxes d inbox → b ≡ (vec_len inbox == 0) → IsTrue b ↔ ((x : Vec (WorldRank × Item) Global) → at inboxes d x → x.items ≡ [])
+pub inbox_at : (inboxes : List (Vec (WorldRank × Item) Global)) (d : ℕ) (inbox : Vec (WorldRank × Item) Global) (b : Bool) → at inboxes d inbox → b ≡ (vec_len inbox == 0) → IsTrue b ↔ (inbox_of (contents inboxes) d ≡ [])
 inbox_at inboxes d inbox b here is = (
-  λ yes x there.
-      let E : Vec (WorldRank × Item) Global → Type 0 = λ v. v.items ≡ [] in
+  λ yes.
       let zero : vec_len inbox ≡ 0 = eqb-true (vec_len inbox) 0 (sym is ∙ yes) in
-      subst E (same_Some inbox x (sym here ∙ there)) (nil_from_length inbox.items (omega (arith, inbox.ok, zero))),
-  λ all.
-      let none : length inbox.items ≡ 0 = ap length (all inbox here) in
-      is ∙ eq-eqb (vec_len inbox) 0 (omega (arith, inbox.ok, none)),
+      inbox_there inboxes d inbox here ∙ nil_from_length inbox.items (omega (arith, inbox.ok, zero)),
+  λ none.
+      let zero : length inbox.items ≡ 0 = ap length (sym (inbox_there inboxes d inbox here) ∙ none) in
+      is ∙ eq-eqb (vec_len inbox) 0 (omega (arith, inbox.ok, zero)),
 )
+
+-- where there is no inbox, nothing is left
+pub no_inbox : (inboxes : List (Vec (WorldRank × Item) Global)) (d : ℕ) → length inboxes ≤ d → inbox_of (contents inboxes) d ≡ []
+no_inbox inboxes d far =
+    let items : Vec (WorldRank × Item) Global → List (WorldRank × Item) = λ v. v.items in
+    get_or_past (contents inboxes) d [] (omega (arith, far, length-map inboxes items))

@@ -5,7 +5,7 @@ use Rattle.std.proofs.lemmas.Bool.{false≢true}
 use Rattle.std.proofs.lemmas.Option.{slice_get_within}
 use Rattle.std.proofs.lemmas.List.{length-map}
 use Rattle.ulfm_base.specs.declared.item.Item.{Item}
-use Rattle.ulfm_rank.specs.Facts.{is_stopped}
+use Rattle.ulfm_rank.specs.Facts.{is_stopped, IsSigned}
 use Rattle.ulfm_rank.specs.Paired.{IsPaired}
 use Rattle.ulfm_rank.specs.State.{State}
 use Rattle.ulfm_script.specs.declared.answer.StepReport.{StepReport}
@@ -14,13 +14,13 @@ use Rattle.ulfm_script.specs.Job.{Seen, script_at, through_stop}
 use Rattle.ulfm_script.specs.Player.{Player, View}
 use Rattle.ulfm_script.specs.Report.{Report}
 use Rattle.ulfm_script.specs.Deciding.{Known}
-use Rattle.ulfm_run.specs.Answered.{HasAnswers}
-use Rattle.ulfm_run.specs.Honest.{IsHonest}
-use Rattle.ulfm_run.proofs.Honestly.{honest-moved, honest-answers}
-use Rattle.ulfm_run.specs.Joined.{IsSigned, IsJoined, Moves, Polls, IsAtWork}
+use Rattle.ulfm_script.specs.Answered.{HasAnswers}
+use Rattle.ulfm_script.specs.Honest.{IsHonest}
+use Rattle.ulfm_script.proofs.Honestly.{honest-moved, honest-answers}
+use Rattle.ulfm_run.specs.Joined.{IsJoined, Moves, Polls, IsAtWork}
 use Rattle.ulfm_run.specs.Played.{IsPlayed}
-use Rattle.ulfm_run.specs.Script.{step_of, steps_done, IsPatient, FollowsAt, HasAnswered}
-use Rattle.ulfm_run.proofs.Scripts.{follows-rank, through-none}
+use Rattle.ulfm_script.specs.Script.{step_of, steps_done, IsPatient, FollowsAt, HasAnswered}
+use Rattle.ulfm_script.proofs.Progress.{follows-rank, through-none}
 
 -- a player that stopped, or has no step left, answered its script
 pub has-answered : (script : List Step) (turns : ℕ) (p : Player) → FollowsAt script turns p → (is_stopped p.rank.log ≡ true) ⊎ (length script ≤ length p.done) → HasAnswered script turns p

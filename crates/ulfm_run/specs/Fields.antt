@@ -2,13 +2,14 @@
 use Rattle.std.specs.Prelude.{◌≡◌, ℕ, List, map, length, Option}
 use Rattle.std.specs.declared.thread.PromisedHandle.{PromisedHandle}
 use Rattle.ulfm_base.specs.declared.item.Item.{Item}
-use Rattle.ulfm_carrier.specs.Family.{at, IsFresh, InPlace}
+use Rattle.ulfm_carrier.specs.Family.{IsFresh}
+use Rattle.ulfm_base.specs.Lists.{InPlace, at}
 use Rattle.ulfm_script.specs.Job.{Seen}
 use Rattle.ulfm_script.specs.Report.{Report}
 use Rattle.ulfm_run.specs.declared.worker.Ran.{Ran}
 use Rattle.ulfm_run.specs.declared.threads.Begun.{Begun}
 use Rattle.ulfm_script.specs.Deciding.{Known}
-use Rattle.ulfm_run.specs.Answered.{HasAnswers}
+use Rattle.ulfm_script.specs.Answered.{HasAnswers}
 use Rattle.ulfm_run.specs.Played.{IsPlayed}
 
 -- the end with which a thread began
@@ -42,8 +43,8 @@ abbrev pub decider_in : {E D : Type 0} → Ran E D → D
 decider_in r = r.decider
 
 -- what a thread gave back: its rank's answers are right, where a decision is the one that its decider knows
-abbrev pub HaveAnswers : {E D : Type 0} → (D → Known) → Ran E D → Type 0
-HaveAnswers known r = HasAnswers (known r.decider) r.report
+abbrev pub GaveAnswers : {E D : Type 0} → (D → Known) → Ran E D → Type 0
+GaveAnswers known r = HasAnswers (known r.decider) r.report
 
 -- these are ends of so many with which nothing was done yet
 abbrev pub EachFresh : {E : Type 0} → (E → ℕ) → (E → ℕ → List Item) → (E → ℕ → List Item) → (E → Type 0) → ℕ → List E → Type 0

@@ -1,19 +1,13 @@
 -- A rank and its end of a carrier, which go together.
-use Rattle.std.specs.Prelude.{◌≡◌, ⊤, ℕ, List, [], ◌<◌, ◌≤◌, ◌+◌, length, All}
+use Rattle.std.specs.Prelude.{◌≡◌, ℕ, List, [], ◌<◌, ◌≤◌, ◌+◌, length, All}
 use Rattle.ulfm_base.specs.declared.item.Item.{Item}
-use Rattle.ulfm_rank.specs.declared.entry.Entry.{Entry}
-use Rattle.ulfm_rank.specs.declared.entry.Entry.TheVariants.{Sent}
-use Rattle.ulfm_rank.specs.Facts.{took, is_stopped}
+use Rattle.ulfm_rank.specs.Facts.{took, is_stopped, IsSigned}
 use Rattle.ulfm_rank.specs.State.{State, IsState, gone_out}
 use Rattle.ulfm_script.specs.Job.{Seen, script_at}
 use Rattle.ulfm_script.specs.Player.{View, with_rank}
-use Rattle.ulfm_run.specs.Script.{FollowsAt, left_at}
-use Rattle.ulfm_run.specs.Honest.{OnlyTakes}
-
--- a letter that an entry sent bears the number of its rank
-abbrev pub IsSigned : ℕ → Entry → Type 0
-IsSigned me (Sent to letter) = letter.envelope.source.number ≡ me
-IsSigned me _ = ⊤
+use Rattle.ulfm_script.specs.Script.{FollowsAt, left_at}
+use Rattle.ulfm_script.specs.Honest.{OnlyTakes}
+use Rattle.ulfm_rank.specs.Quiet.{Quiet}
 
 -- What left the outboxes of the rank is what its end pushed, and what its log took of each rank is what its end took, and of
 -- no other number it took anything.
@@ -37,19 +31,6 @@ pub record Moves {E N : Type 0} (name : E → N) (place count : E → ℕ) (push
   pub only : new.player ≡ with_rank old.player new.player.rank
   pub room : new.room ≡ old.room
   pub takes : OnlyTakes old.player.rank.log new.player.rank.log
-
--- the rank is the same but for its log, what it sent is signed, and what went out is the same
-pub record Calm (old new : State) : Type 0 where
-  pub me : new.me ≡ old.me
-  pub ranks : new.ranks ≡ old.ranks
-  pub sound : IsState new
-  pub out : (d : ℕ) → d < old.ranks → gone_out new d ≡ gone_out old d
-  pub signed : All (IsSigned old.me) old.log → All (IsSigned old.me) new.log
-
--- what was taken is the same too
-pub record Quiet (old new : State) : Type 0 where
-  pub calm : Calm old new
-  pub took : (s : ℕ) → took new.log s ≡ took old.log s
 
 -- One poll of the next step: nothing goes from or to the player, and fewer polls are left.
 pub record Polls (job : Seen) (me : ℕ) (old new : View) : Type 0 where

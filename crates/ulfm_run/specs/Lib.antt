@@ -1,13 +1,6 @@
-pub mod Script
 pub mod Joined
 pub mod Played
-pub mod Answered
-pub mod Honest
 pub mod Flow
 pub mod Fields
-pub mod Lawful
 pub mod Decided
-pub mod Agreed
 pub mod Compared
-pub mod Rest
-pub mod Proposed

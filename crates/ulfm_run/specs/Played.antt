@@ -1,10 +1,9 @@
 -- What a rank's thread gives back.
-use Rattle.std.specs.Prelude.{◌≡◌, ◌≤◌, ℕ, List, [], map, All}
+use Rattle.std.specs.Prelude.{◌≡◌, ℕ, List, map, All}
 use Rattle.ulfm_base.specs.declared.item.Item.{Item}
-use Rattle.ulfm_rank.specs.Facts.{took}
 use Rattle.ulfm_script.specs.Job.{Seen, script_at, through_stop}
 use Rattle.ulfm_script.specs.Report.{Report}
-use Rattle.ulfm_run.specs.Script.{step_of, IsPatient}
+use Rattle.ulfm_script.specs.Script.{step_of, IsPatient}
 use Rattle.ulfm_run.specs.Joined.{IsJoined}
 
 -- A rank's script was played, up to and with its first stop, or the whole of it. It is the same end that comes back: what
@@ -15,12 +14,4 @@ pub record IsPlayed {E N : Type 0} (name : E → N) (place count : E → ℕ) (p
   pub named : report.rank.me ≡ place before
   pub counted : report.rank.ranks ≡ job.ranks
   pub steps : map step_of report.steps ≡ through_stop (script_at job (place before))
-  pub patient : All (IsPatient job.turns) report.steps
-
--- The rank k of a job went through its script, up to and with its first stop, or through the whole of it; a step was given
--- up only where as many polls as the job grants left it open. It took items of the job's ranks alone.
-pub record HasPlayed (job : Seen) (k : ℕ) (report : Report) : Type 0 where
-  pub counted : report.rank.ranks ≡ job.ranks
-  pub within : (s : ℕ) → job.ranks ≤ s → took report.rank.log s ≡ []
-  pub steps : map step_of report.steps ≡ through_stop (script_at job k)
   pub patient : All (IsPatient job.turns) report.steps

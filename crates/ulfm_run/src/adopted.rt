@@ -3,7 +3,7 @@ ghost use Rattle.std.specs.Prelude.{◌≡◌, ◌↔◌, ℕ, IsTrue, Some, sli
 ghost use Rattle.ulfm_rank.specs.declared.entry.Entry.{Entry as Logged};
 ghost use Rattle.ulfm_rank.specs.Log.{first_of};
 ghost use Rattle.ulfm_rank.specs.Shrink.{entry_of};
-ghost use Rattle.ulfm_run.specs.Decided.{EnteredWith, StoppedAt, ListsTruly, ExcludesStopped, IsTrueOf, AdoptsTruly, AreTrue};
+ghost use Rattle.ulfm_laws.specs.Shrinks.{AreTrue, AdoptsTruly, IsTrueOf, ExcludesStopped, ListsTruly, StoppedAt, EnteredWith};
 
 use ulfm_base::{Context, Decision, RankSet, WorldRank};
 use ulfm_rank::Entry;

@@ -1,22 +1,20 @@
 //! A job, from its ends and deciders to its report.
-ghost use Rattle.std.specs.Prelude.{◌≡◌, ◌≤◌, ◌↔◌, [], ℕ, List, All, Option, length, map, vec_len, vec_capacity, IsTrue, Err, IfOk, IfErr, OnOk};
+ghost use Rattle.std.specs.Prelude.{◌≡◌, ◌≤◌, ◌↔◌, [], ℕ, All, length, map, vec_len, vec_capacity, IsTrue, Err, IfOk, IfErr, OnOk};
 ghost use Rattle.std.specs.declared.alloc.Global.{Global as Heap};
 ghost use Rattle.std.specs.declared.vec.Vec.{Vec as Listed};
+ghost use Rattle.ulfm_base.specs.Lists.{InPlace, at};
 ghost use Rattle.ulfm_board.specs.Known.{nothing_known};
 ghost use Rattle.ulfm_board.specs.Names.{OneBoard};
-ghost use Rattle.ulfm_carrier.specs.Family.{at, InPlace, AllFresh, Keeps, Settled};
-ghost use Rattle.ulfm_script.specs.Deciding.{Known};
-ghost use Rattle.ulfm_script.specs.Report.{Report as Told};
-ghost use Rattle.ulfm_run.specs.Agreed.{AdoptOwn};
-ghost use Rattle.ulfm_run.specs.Answered.{HasAnswers};
-ghost use Rattle.ulfm_run.specs.Compared.{NameOneBoard, AllAgree};
-ghost use Rattle.ulfm_run.specs.Decided.{AreTrue, ShowUntrue};
+ghost use Rattle.ulfm_carrier.specs.Family.{AllFresh, Keeps, Settled};
+ghost use Rattle.ulfm_laws.specs.Answers.{AllAgree};
+ghost use Rattle.ulfm_laws.specs.Lawful.{LawfulReport};
+ghost use Rattle.ulfm_laws.specs.Reports.{IsEach};
+ghost use Rattle.ulfm_laws.specs.Shrinks.{AreTrue};
+ghost use Rattle.ulfm_run.specs.Compared.{NameOneBoard};
+ghost use Rattle.ulfm_run.specs.Decided.{ShowUntrue};
 ghost use Rattle.ulfm_run.specs.Fields.{report_in, end_in, decider_in, Fits};
-ghost use Rattle.ulfm_run.specs.Flow.{AllCarry, IsEach};
-ghost use Rattle.ulfm_run.specs.Lawful.{IsLawful};
-ghost use Rattle.ulfm_run.specs.Played.{HasPlayed};
-ghost use Rattle.ulfm_run.specs.Proposed.{HasOneGroup, ProposesEach};
-ghost use Rattle.ulfm_run.specs.Rest.{IsAtRest, KnowsStopped, AgreesOnRevoked};
+ghost use Rattle.ulfm_run.specs.Flow.{AllCarry, contents};
+ghost use Rattle.ulfm_script.specs.Report.{Report as Told};
 
 use crate::adopted::are_true;
 use crate::comparing::compared;
@@ -62,22 +60,12 @@ where
     ensures bad_ends { (Fits E.place job.now ends.items deciders.items → ⊥) → result ≡ Err RunFault.BadEnds }
     ensures misfits { IfErr result (λ fault. fault ≡ RunFault.BadEnds → Fits E.place job.now ends.items deciders.items → ⊥) }
     ensures untrue { IfErr result (λ fault. (reports : Listed Told Heap) → fault ≡ RunFault.Untrue reports → ShowUntrue job.now reports.items) }
-    ensures decisions { IfOk result (λ report. AreTrue report.ranks.items) }
-    ensures sizes { IfOk result (λ report. IsEach job.now report.ranks.items × IsEach job.now report.residue.inboxes.items × IsEach job.now report.ends.items × IsEach job.now report.deciders.items) }
-    ensures order { IfOk result (λ report. InPlace (λ (told : Told). told.rank.me) report.ranks.items) }
-    ensures scripts { IfOk result (λ report. (k : ℕ) (told : Told) → at report.ranks.items k told → HasPlayed job.now k told) }
-    ensures answers { IfOk result (λ report. (k : ℕ) (told : Told) (known : Known) → at report.ranks.items k told → at (map D.known report.deciders.items) k known → HasAnswers known told) }
-    ensures own { IfOk result (λ report. AdoptOwn (map D.known report.deciders.items) report.ranks.items) }
+    ensures sizes { IfOk result (λ report. IsEach job.now report.residue.inboxes.items × IsEach job.now report.ends.items × IsEach job.now report.deciders.items) }
     ensures flow { IfOk result (λ report. AllCarry E.pushed E.taken report.ranks.items report.ends.items report.residue.inboxes.items) }
     ensures residue { IfOk result (λ report. Settled E.pushed E.taken report.ends.items report.residue.inboxes.items) }
     ensures same_ends { IfOk result (λ report. map E.name report.ends.items ≡ map E.name ends.items) }
-    ensures known_at_rest { IfOk result (λ report. IsAtRest report.ranks.items report.residue.inboxes.items → KnowsStopped report.ranks.items) }
-    ensures agreed_at_rest { IfOk result (λ report. IsAtRest report.ranks.items report.residue.inboxes.items → AgreesOnRevoked report.ranks.items) }
-    ensures one_group { IfOk result (λ report. HasOneGroup report.ranks.items) }
-    ensures proposed_at_rest { IfOk result (λ report. IsAtRest report.ranks.items report.residue.inboxes.items → ProposesEach report.ranks.items) }
-    ensures agree { IfOk result (λ report. AllAgree (map D.known report.deciders.items)) }
     ensures same_boards { IfOk result (λ report. map D.board report.deciders.items ≡ map D.board deciders.items) }
-    ensures lawful { IfOk result (λ report. IsLawful job.now report.ranks.items) }
+    ensures lawful { IfOk result (λ report. LawfulReport job.now (contents report.residue.inboxes.items) (map D.known report.deciders.items) report.ranks.items) }
 {
     if !fits(job, &ends, deciders.len()) {
         return Err(RunFault::BadEnds);

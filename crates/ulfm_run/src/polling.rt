@@ -5,9 +5,9 @@ ghost use Rattle.ulfm_rank.specs.Facts.{is_stopped};
 ghost use Rattle.ulfm_rank.specs.State.{IsState};
 ghost use Rattle.ulfm_script.specs.Deciding.{Known};
 ghost use Rattle.ulfm_script.specs.Job.{script_at};
-ghost use Rattle.ulfm_run.specs.Honest.{IsHonest, IsUndecided};
+ghost use Rattle.ulfm_script.specs.Honest.{IsHonest, IsUndecided};
 ghost use Rattle.ulfm_run.specs.Joined.{Polls};
-ghost use Rattle.ulfm_run.specs.Script.{FollowsAt};
+ghost use Rattle.ulfm_script.specs.Script.{FollowsAt};
 
 use ulfm_board::Decider;
 use ulfm_script::{Called, Decided, Job, Player, Step};

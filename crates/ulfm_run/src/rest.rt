@@ -1,13 +1,12 @@
 //! Whether a run came to rest.
 ghost use Rattle.std.specs.Prelude.{◌≡◌, ◌↔◌, ◌<◌, [], ℕ, IsTrue};
-ghost use Rattle.std.specs.declared.alloc.Global.{Global as Heap};
-ghost use Rattle.std.specs.declared.vec.Vec.{Vec as Listed};
-ghost use Rattle.ulfm_base.specs.declared.rank.WorldRank.{WorldRank};
-ghost use Rattle.ulfm_base.specs.declared.item.Item.{Item};
-ghost use Rattle.ulfm_carrier.specs.Family.{at};
+ghost use Rattle.ulfm_base.specs.Lists.{at};
+ghost use Rattle.ulfm_laws.specs.Flow.{inbox_of};
+ghost use Rattle.ulfm_laws.specs.Reports.{IsRunning};
+ghost use Rattle.ulfm_laws.specs.Rest.{IsAtRest, IsServed};
 ghost use Rattle.ulfm_rank.specs.State.{outbox};
+ghost use Rattle.ulfm_run.specs.Flow.{contents};
 ghost use Rattle.ulfm_script.specs.Report.{Report as Told};
-ghost use Rattle.ulfm_run.specs.Rest.{IsRunning, IsServed, IsAtRest};
 
 use crate::report::Report;
 use ulfm_carrier::Residue;
@@ -17,7 +16,7 @@ use ulfm_script::RankReport;
 /// of a rank that stopped. Of a report of `run_job` each such rank then knows each rank that stopped, all agree which
 /// contexts are revoked, and where all those of a communicator entered its shrink, each of them has a proposal.
 pub fn at_rest<E, D>(report: &Report<E, D>) -> bool
-    ensures { IsTrue result ↔ IsAtRest report.now.ranks.items report.now.residue.inboxes.items }
+    ensures { IsTrue result ↔ IsAtRest (contents report.now.residue.inboxes.items) report.now.ranks.items }
 {
     for d in 0..report.ranks.len() {
         if !is_resting(report, &report.ranks[d], d) {
@@ -29,21 +28,21 @@ pub fn at_rest<E, D>(report: &Report<E, D>) -> bool
 
 /// Whether a rank stopped, or nothing waits for it.
 fn is_resting<E, D>(report: &Report<E, D>, told: &RankReport, d: usize) -> bool
-    ensures { IsTrue result ↔ (IsRunning told.now → IsServed report.now.ranks.items report.now.residue.inboxes.items d) }
+    ensures { IsTrue result ↔ (IsRunning told.now → IsServed (contents report.now.residue.inboxes.items) report.now.ranks.items d) }
 {
     told.stopped() || is_served(report, d)
 }
 
 /// Whether nothing waits for a rank.
 fn is_served<E, D>(report: &Report<E, D>, d: usize) -> bool
-    ensures { IsTrue result ↔ IsServed report.now.ranks.items report.now.residue.inboxes.items d }
+    ensures { IsTrue result ↔ IsServed (contents report.now.residue.inboxes.items) report.now.ranks.items d }
 {
     is_inbox_empty(&report.residue, d) && are_outboxes_empty(&report.ranks, d)
 }
 
 /// Whether the inbox of a rank is empty.
 fn is_inbox_empty(residue: &Residue, d: usize) -> bool
-    ensures { IsTrue result ↔ ((inbox : Listed (WorldRank × Item) Heap) → at residue.now.inboxes.items d inbox → inbox.items ≡ []) }
+    ensures { IsTrue result ↔ (inbox_of (contents residue.now.inboxes.items) d ≡ []) }
 {
     match residue.inboxes.get(d) {
         Some(inbox) => inbox.is_empty(),

@@ -1,9 +1,9 @@
 //! A thread for each rank.
 ghost use Rattle.std.specs.Prelude.{◌≡◌, ◌≤◌, ◌++◌, [], ℕ, List, All, length, vec_len, vec_capacity, IfSome, IfOk, IfErr, OnOk};
 ghost use Rattle.ulfm_carrier.specs.Family.{IsFresh};
-ghost use Rattle.ulfm_run.specs.Honest.{IsHonest};
+ghost use Rattle.ulfm_script.specs.Honest.{IsHonest};
 ghost use Rattle.ulfm_run.specs.Joined.{IsAtWork};
-ghost use Rattle.ulfm_run.specs.Fields.{begun_ends, begun_deciders, IsOfJob, EachFresh, WerePlayed, HaveAnswers};
+ghost use Rattle.ulfm_run.specs.Fields.{begun_ends, begun_deciders, IsOfJob, EachFresh, WerePlayed, GaveAnswers};
 
 use crate::worker::{Ran, Worker};
 use std::alloc::Global;
@@ -34,7 +34,7 @@ pub(crate) struct Begun<E, D> {
 
 impl<E: Ends, D: Decider> Promise<Ran<E, D>> for Begun<E, D> {
     ghost use Rattle.std.specs.Prelude.{◌≡◌};
-    ghost use Rattle.ulfm_run.specs.Answered.{HasAnswers};
+    ghost use Rattle.ulfm_script.specs.Answered.{HasAnswers};
     ghost use Rattle.ulfm_run.specs.Played.{IsPlayed};
 
     ghost kept_by = { λ p r. IsPlayed E.name E.place E.count E.pushed E.taken E.ready p.job.value p.end.value r.report r.end × (D.board r.decider ≡ D.board p.decider.value) × HasAnswers (D.known r.decider) r.report };
@@ -172,7 +172,7 @@ where
     requires enough { vec_len ends ≤ vec_len deciders }
     requires fresh { EachFresh E.count E.pushed E.taken E.ready job.now.ranks ends.items }
     ensures played { IfOk result (λ ran. WerePlayed E.name E.place E.count E.pushed E.taken E.ready D.board job.now ends.items deciders.items ran.items) }
-    ensures answers { IfOk result (λ ran. All (HaveAnswers D.known) ran.items) }
+    ensures answers { IfOk result (λ ran. All (GaveAnswers D.known) ran.items) }
 {
     let Ok(handles) = Vec::with_capacity(alloc, ends.len()) else {
         return Err(Unplayed::OutOfMemory);
@@ -215,7 +215,7 @@ where
     requires enough { vec_len ends ≤ vec_len deciders }
     requires fresh { EachFresh E.count E.pushed E.taken E.ready job.now.ranks ends.items }
     ensures played { IfOk result (λ ran. WerePlayed E.name E.place E.count E.pushed E.taken E.ready D.board job.now ends.items deciders.items ran.items) }
-    ensures answers { IfOk result (λ ran. All (HaveAnswers D.known) ran.items) }
+    ensures answers { IfOk result (λ ran. All (GaveAnswers D.known) ran.items) }
 {
     thread::scope(
         thread::scope_env(),
@@ -224,7 +224,7 @@ where
             requires enough { vec_len ends ≤ vec_len deciders }
             requires fresh { EachFresh E.count E.pushed E.taken E.ready job.now.ranks ends.items }
             ensures played { IfOk result (λ ran. WerePlayed E.name E.place E.count E.pushed E.taken E.ready D.board job.entry.now ends.items deciders.items ran.items) }
-            ensures answers { IfOk result (λ ran. All (HaveAnswers D.known) ran.items) }
+            ensures answers { IfOk result (λ ran. All (GaveAnswers D.known) ran.items) }
         { run_in(scope, rt, alloc, job, ends, deciders) },
     )
 }

@@ -4,11 +4,11 @@ ghost use Rattle.std.specs.Bool.{OnTrue};
 ghost use Rattle.ulfm_rank.specs.Facts.{is_stopped};
 ghost use Rattle.ulfm_rank.specs.State.{outbox};
 ghost use Rattle.ulfm_script.specs.Job.{script_at};
-ghost use Rattle.ulfm_run.specs.Answered.{HasAnswers};
-ghost use Rattle.ulfm_run.specs.Honest.{IsHonest};
+ghost use Rattle.ulfm_script.specs.Answered.{HasAnswers};
+ghost use Rattle.ulfm_script.specs.Honest.{IsHonest};
 ghost use Rattle.ulfm_run.specs.Joined.{IsJoined, IsAtWork, Moves};
 ghost use Rattle.ulfm_run.specs.Played.{IsPlayed};
-ghost use Rattle.ulfm_run.specs.Script.{left_at, HasAnswered};
+ghost use Rattle.ulfm_script.specs.Script.{left_at, HasAnswered};
 
 use crate::moving::{push_all, take_one};
 use crate::polling::poll;

@@ -10,3 +10,7 @@ pub mod Report
 pub mod StepText
 pub mod Text
 pub mod Trace
+pub mod Script
+pub mod Answered
+pub mod Honest
+pub mod Played

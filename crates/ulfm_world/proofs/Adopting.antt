@@ -8,7 +8,7 @@ use Rattle.ulfm_base.specs.declared.context.Context.{Context}
 use Rattle.ulfm_base.specs.declared.decision.Decision.{Decision}
 use Rattle.ulfm_base.specs.declared.error.CallError.{CallError}
 use Rattle.ulfm_base.specs.declared.error.CallError.TheVariants.{NoComm, AlreadyMade, NotEntered, NotMember, OutOfMemory, Stopped as StoppedError}
-use Rattle.ulfm_board.specs.Known.{known_at, Agrees, Answers as BoardAnswers}
+use Rattle.ulfm_board.specs.Known.{known_at, Answers as BoardAnswers}
 use Rattle.ulfm_rank.specs.declared.entry.Entry.{Entry}
 use Rattle.ulfm_rank.specs.declared.entry.Entry.TheVariants.{Adopted}
 use Rattle.ulfm_rank.specs.Checks.{Passes, FailsOrStarves, lacks, group_at, adopt_checks}
@@ -23,15 +23,12 @@ use Rattle.ulfm_script.specs.Player.{Player}
 use Rattle.ulfm_script.specs.Deciding.{AnswersAdoption}
 use Rattle.ulfm_world.specs.World.{World, player_at, rank_at, IsRunning}
 use Rattle.ulfm_world.specs.Flow.{IsWorld}
-use Rattle.ulfm_world.proofs.Entering.{Fits}
-use Rattle.ulfm_world.proofs.Belonging.{IsOwn, not_foreign}
+use Rattle.ulfm_rank.proofs.Entering.{Fits}
+use Rattle.ulfm_rank.proofs.Belonging.{IsOwn, not_foreign}
 use Rattle.ulfm_world.proofs.Agreed.{IsAdopted, IsHeld, Settled}
 use Rattle.ulfm_world.proofs.Held.{proposal_held, held_own}
 use Rattle.ulfm_world.proofs.Grown.{Moved, StillHeld, all_later}
-
-agreed : (o : Option Decision) (held d : Decision) → Agrees o held → o ≡ Some d → d ≡ held
-agreed None held d a e = absurd (none-some d e)
-agreed (Some x) held d a e = sym (same_Some x d e) ∙ a
+use Rattle.ulfm_script.proofs.Adopted.{agreed}
 
 -- what the board knew, and knows once a proposal is handed in: the one that is held, or what was known
 module _ (known later : List (Option Decision)) (proposal held : Decision) (b : BoardAnswers None known proposal held later) where

@@ -1,7 +1,7 @@
 -- What every world keeps of its shrinks, and that ranks have one group for each context.
-use Rattle.std.proofs.Common.{◌≡◌, ℕ, zero, suc, ◌<◌, true, false, List, length, ap, sym, subst, ◌∙◌, arith, inl, inr, Option, Some}
+use Rattle.std.proofs.Common.{◌≡◌, ℕ, ◌<◌, true, false, List, length, ap, sym, subst, ◌∙◌, arith, Option, Some}
 use Rattle.std.specs.Prelude.{All, ⊤}
-use Rattle.std.proofs.lemmas.Option.{same_Some}
+use Rattle.std.proofs.lemmas.Option.{same_Some, get_or_from_slice_get, slice_get_within}
 use Rattle.ulfm_base.specs.declared.context.Context.{Context}
 use Rattle.ulfm_base.specs.declared.decision.Decision.{Decision}
 use Rattle.ulfm_base.specs.declared.rank_set.RankSet.{RankSet}
@@ -15,13 +15,18 @@ use Rattle.ulfm_rank.specs.Communicators.{group_of}
 use Rattle.ulfm_rank.specs.Facts.{is_gone}
 use Rattle.ulfm_rank.specs.Shrink.{listed_of, has_adopted}
 use Rattle.ulfm_script.specs.declared.step.Step.TheVariants.{Shrink}
-use Rattle.ulfm_world.specs.World.{World, rank_at, player_at, HasStopped}
+use Rattle.ulfm_script.specs.Report.{Report}
+use Rattle.ulfm_base.specs.Lists.{at}
+use Rattle.ulfm_laws.specs.Shrinks.{AdoptOne}
+use Rattle.ulfm_world.specs.World.{World, rank_at, player_at, HasStopped, report_of, reports_in}
 use Rattle.ulfm_world.specs.Flow.{IsWorld}
-use Rattle.ulfm_world.proofs.Parents.{world_group, parent_group, adopted_group, context_cases}
-use Rattle.ulfm_world.proofs.Entering.{own_set}
-use Rattle.ulfm_world.proofs.Owing.{OwesOwn}
-use Rattle.ulfm_world.proofs.Belonging.{Keeps}
-use Rattle.ulfm_world.proofs.Telling.{gone_stopped, listed_own}
+use Rattle.ulfm_rank.proofs.Entering.{own_set}
+use Rattle.ulfm_rank.proofs.Owing.{OwesOwn}
+use Rattle.ulfm_rank.proofs.Belonging.{Keeps}
+use Rattle.ulfm_laws.proofs.Flowing.{gone_stopped, listed_own}
+use Rattle.ulfm_laws.proofs.OneGroup.{same_group}
+use Rattle.ulfm_laws.proofs.Proposing.{AllKeep}
+use Rattle.ulfm_world.proofs.Read.{many_reports, report_there, report_inside, report_is, each_report, flowing-world}
 
 -- a decision that is adopted is the one that is held, and its new group has the rank
 abbrev pub IsAdopted : List (Option Decision) → ℕ → Entry → Type 0
@@ -46,32 +51,34 @@ pub record Settled (n : ℕ) (w : World) : Type 0 where
   pub adopted : (r : ℕ) → r < n → All (IsAdopted w.decided r) (rank_at w r).log
   pub unadopted : (r : ℕ) (comm : Context) → r < n → (player_at w r).current ≡ Some (Shrink comm) → has_adopted (rank_at w r).log comm.number ≡ false
 
-same_held : (decided : List (Option Decision)) (p : ℕ) (d e : Decision) → d.context.number ≡ p → e.context.number ≡ p → known_at decided d.context.number ≡ Some d → known_at decided e.context.number ≡ Some e → d ≡ e
-same_held decided p d e here there known other = same_Some d e (sym known ∙ ap (known_at decided) (here ∙ sym there) ∙ other)
+-- decisions that ranks adopted for one context are equal
+pub adopt-one : (n : ℕ) (w : World) → Settled n w → AdoptOne (reports_in w)
+adopt-one n w settled r s told other d e p q first second same =
+    let held : (x : ℕ) (report : Report) (k : ℕ) (decision : Decision) → at (reports_in w) x report → at report.rank.log k (Adopted decision) → known_at w.decided decision.context.number ≡ Some decision = λ x report k decision here stands.
+    let log : List Entry = (rank_at w x).log in
+    let there : at log k (Adopted decision) = subst (λ (a : Report). at a.rank.log k (Adopted decision)) (report_is w x report here) stands in
+    let A : Entry → Type 0 = λ (y : Entry). IsAdopted w.decided x y in
+    (subst A (get_or_from_slice_get log k (Adopted decision) (Adopted decision) there) (settled.adopted x (omega (arith, report_inside w x report here, settled.size)) k (Adopted decision) (slice_get_within log k (Adopted decision) there))).0 in
+    same_Some d e (sym (held r told first.0 d p first.1) ∙ ap (λ (c : Context). known_at w.decided c.number) same ∙ held s other second.0 e q second.1)
 
 -- ranks that made the communicator of a context have one group for it
-group_below : (k n : ℕ) (w : World) (r s c : ℕ) (g h : List ℕ) → Settled n w → r < n → s < n → c < k → group_of n (rank_at w r).log c ≡ Some g → group_of n (rank_at w s).log c ≡ Some h → g ≡ h
-group_below zero n w r s c g h settled i j low made other = absurd (omega (arith, low))
-group_below (suc k) n w r s c g h settled i j low made other = elim (context_cases c) [
-  | inl world ↦
-      same_Some g h (sym (ap (group_of n (rank_at w r).log) (sym world) ∙ made) ∙ world_group n (rank_at w r).log ∙ sym (world_group n (rank_at w s).log) ∙ ap (group_of n (rank_at w s).log) (sym world) ∙ other)
-  | inr (inl d) ↦
-      let less : d.0 < k = omega (arith, low, d.1) in
-      group_below k n w r s d.0 g h settled i j less (parent_group n (rank_at w r).log d.0 g (ap (group_of n (rank_at w r).log) (sym d.1) ∙ made)) (parent_group n (rank_at w s).log d.0 h (ap (group_of n (rank_at w s).log) (sym d.1) ∙ other))
-  | inr (inr d) ↦
-      let one = adopted_group (IsAdopted w.decided r) n (rank_at w r).log d.0 g (settled.adopted r i) (ap (group_of n (rank_at w r).log) (sym d.1) ∙ made) in
-      let two = adopted_group (IsAdopted w.decided s) n (rank_at w s).log d.0 h (settled.adopted s j) (ap (group_of n (rank_at w s).log) (sym d.1) ∙ other) in
-      sym one.group ∙ ap (λ (x : Decision). x.fresh) (same_held w.decided d.0 one.decision two.decision one.context two.context one.holds.0 two.holds.0) ∙ two.group
-]
-
 pub one_group : (n : ℕ) (w : World) (r s c : ℕ) (g h : List ℕ) → Settled n w → r < n → s < n → group_of n (rank_at w r).log c ≡ Some g → group_of n (rank_at w s).log c ≡ Some h → g ≡ h
-one_group n w r s c g h settled i j made other = group_below (suc c) n w r s c g h settled i j (omega arith) made other
+one_group n w r s c g h settled i j made other =
+    same_group (reports_in w) (adopt-one n w settled) n r s c (report_of (player_at w r)) (report_of (player_at w s)) g h (report_there w r (omega (arith, i, settled.size))) (report_there w s (omega (arith, j, settled.size))) made other
 
 -- the set under which a rank lists another is that of the other's own entry
 pub listed_entry : (n : ℕ) (w : World) (r s c : ℕ) (set : RankSet) → IsWorld w → Settled n w → r < n → s < n → listed_of r (rank_at w r).log c s ≡ Some set → own_set (rank_at w s).log c ≡ Some set
 listed_entry n w r s c set h settled i j listed =
     let O : ℕ → Type 0 = λ k. OwesOwn k s (rank_at w s).log in
-    listed_own w r s c set h (subst O (sym settled.size) (settled.keeps s j).owes_own) (omega (arith, i, settled.size)) (omega (arith, j, settled.size)) listed
+    listed_own w.inboxes (reports_in w) (flowing-world w h) r s c (report_of (player_at w r)) (report_of (player_at w s)) set (report_there w r (omega (arith, i, settled.size))) (report_there w s (omega (arith, j, settled.size)))
+    (subst O (sym (many_reports w ∙ settled.size)) (settled.keeps s j).owes_own) listed
 
 pub known_stopped : (n : ℕ) (w : World) (s d : ℕ) → IsWorld w → Settled n w → s < n → d < n → is_gone (rank_at w d).log s ≡ true → HasStopped w s
-known_stopped n w s d h settled i j gone = gone_stopped w s d h (omega (arith, i, settled.size)) (omega (arith, j, settled.size)) gone
+known_stopped n w s d h settled i j gone =
+    gone_stopped w.inboxes (reports_in w) (flowing-world w h) s d (report_of (player_at w s)) (report_of (player_at w d)) (report_there w s (omega (arith, i, settled.size))) (report_there w d (omega (arith, j, settled.size))) gone
+
+-- what the logs of a world keep of shrinks
+pub all_keep : (n : ℕ) (w : World) → Settled n w → AllKeep (reports_in w)
+all_keep n w settled = each_report (λ r told. Keeps (length (reports_in w)) r told.rank.log) w (λ r i.
+    let K : ℕ → Type 0 = λ k. Keeps k r (rank_at w r).log in
+    subst K (sym (many_reports w ∙ settled.size)) (settled.keeps r (omega (arith, i, settled.size))))

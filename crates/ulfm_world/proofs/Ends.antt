@@ -1,25 +1,23 @@
 -- A replay from its start to rest.
 use Rattle.std.proofs.Common.{◌≡◌, ℕ, ◌<◌, ◌≤◌, Bool, false, List, [], ◌++◌, length, map, refl, ap, sym, subst, ◌∙◌, arith, inl, inr, append-nil, length-append, Option, Some, None, MatchOption, slice_get}
-use Rattle.std.proofs.lemmas.Bool.{false≢true, cases_Bool}
+use Rattle.std.proofs.lemmas.Bool.{cases_Bool}
 use Rattle.std.proofs.lemmas.List.{length-map, nil_from_length}
-use Rattle.std.proofs.lemmas.List.Elements.{All-nil}
 use Rattle.std.proofs.lemmas.Option.{slice_get_within}
 use Rattle.ulfm_base.specs.declared.rank.WorldRank.{WorldRank}
 use Rattle.ulfm_base.specs.declared.item.Item.{Item}
 use Rattle.ulfm_rank.specs.Facts.{is_stopped}
 use Rattle.ulfm_script.specs.declared.step.Step.{Step}
-use Rattle.ulfm_script.specs.Player.{Player, start_player}
+use Rattle.ulfm_script.specs.Player.{Player}
 use Rattle.ulfm_script.specs.Report.{Report}
 use Rattle.ulfm_script.specs.Job.{Seen, script_at, through_stop}
-use Rattle.ulfm_world.specs.World.{World, player_at, rank_at, inbox_at, start_world}
+use Rattle.ulfm_world.specs.World.{World, player_at, rank_at, inbox_at, start_world, report_of}
 use Rattle.ulfm_world.specs.Rest.{IsAtRest}
-use Rattle.ulfm_world.specs.Replay.{IsPatient, FollowsAt, Follows, Moves, IsStuck, IsAnswered, IsReplayed, report_of, Came, steps_done, step_of}
+use Rattle.ulfm_world.specs.Replay.{Follows, Moves, IsStuck, IsAnswered, IsReplayed, Came}
+use Rattle.ulfm_script.specs.Script.{FollowsAt, steps_done, step_of}
 use Rattle.ulfm_world.proofs.Starts.{player-start, length-start}
-use Rattle.ulfm_world.proofs.Scripts.{through-none}
+use Rattle.ulfm_script.proofs.Progress.{through-none, follows-start}
 use Rattle.ulfm_world.proofs.Runs.{reaches-then}
-
-follows-start : (script : List Step) (turns r n : ℕ) → FollowsAt script turns (start_player r n)
-follows-start script turns r n = record { rest = script; split = refl; patient = All-nil (IsPatient turns); current = refl; running = λ e. refl; stopped = λ e. absurd (false≢true e) }
+use Rattle.ulfm_world.proofs.Rightly.{rightly-start}
 
 pub came-start : (j : Seen) (w : World) → w ≡ start_world j.ranks j.capacity → Came j w
 came-start j w is =
@@ -32,6 +30,7 @@ came-start j w is =
       follows = λ r k.
           let F : Player → Type 0 = λ (p : Player). FollowsAt (script_at j r) j.turns p in
           subst F (sym (player-start n n r (omega (arith, k, length-start n n)))) (follows-start (script_at j r) j.turns r n);
+      answers = rightly-start n j.capacity;
     })
 
 pub came-moves : (j : Seen) (v w : World) (a : Bool) → Came j v → Moves j v w a → Came j w
@@ -40,6 +39,7 @@ came-moves j v w a h k = record {
   size = k.size ∙ h.size;
   capacity = k.capacity ∙ h.capacity;
   follows = k.follows h.follows;
+  answers = k.answers h.follows h.answers;
 }
 
 stuck-rest : (j : Seen) (w : World) → 0 < w.capacity → ((r : ℕ) → r < length w.players → IsStuck j w r) → IsAtRest w
@@ -66,7 +66,7 @@ none_open : (o : Option Step) (script : List Step) (k polls turns : ℕ) → len
 none_open None script k polls turns all h = refl
 none_open (Some asked) script k polls turns all h = absurd (omega (arith, all, slice_get_within script k asked h.0))
 
-stuck-answered : (j : Seen) (w : World) → Follows j w → ((r : ℕ) → r < length w.players → IsStuck j w r) → IsAnswered j w
+pub stuck-answered : (j : Seen) (w : World) → Follows j w → ((r : ℕ) → r < length w.players → IsStuck j w r) → IsAnswered j w
 stuck-answered j w f h r k = elim (cases_Bool (is_stopped (rank_at w r).log)) [
   | inl stopped ↦
       let all = (f r k).stopped stopped in

@@ -17,9 +17,9 @@ use Rattle.ulfm_script.specs.declared.step.Step.TheVariants.{Shrink}
 use Rattle.ulfm_script.specs.Player.{Player}
 use Rattle.ulfm_world.specs.World.{World, player_in, player_at, rank_at}
 use Rattle.ulfm_world.proofs.Changed.{player-same, player-other}
-use Rattle.ulfm_world.proofs.Grouped.{group_stays}
-use Rattle.ulfm_world.proofs.Entering.{Fits, own_set, own_stays}
-use Rattle.ulfm_world.proofs.Belonging.{Keeps, keeps-push}
+use Rattle.ulfm_rank.proofs.Grouped.{group_stays}
+use Rattle.ulfm_rank.proofs.Entering.{Fits, own_set, own_stays}
+use Rattle.ulfm_rank.proofs.Belonging.{Keeps, keeps-push}
 use Rattle.ulfm_world.proofs.Agreed.{IsAdopted, IsHeld, Settled}
 
 -- a log stays, or gets one entry that the rank may add

@@ -6,32 +6,32 @@ use Rattle.std.proofs.lemmas.Bool.{false≢true, or_cases, and_parts, cases_Bool
 use Rattle.std.proofs.lemmas.Option.{same_Some, get_or_from_slice_get}
 use Rattle.ulfm_base.specs.declared.decision.Decision.{Decision}
 use Rattle.ulfm_base.specs.declared.rank_set.RankSet.{RankSet}
-use Rattle.ulfm_base.specs.Decision.{entry_at}
+use Rattle.ulfm_base.specs.Decision.{entry_at, in_entry}
 use Rattle.ulfm_base.specs.Group.{is_member, numbers_from}
 use Rattle.ulfm_base.specs.RankSet.{has}
 use Rattle.ulfm_rank.specs.declared.entry.Entry.{Entry}
 use Rattle.ulfm_rank.specs.Communicators.{group_of, is_made, members_of}
 use Rattle.ulfm_rank.specs.Facts.{is_gone}
-use Rattle.ulfm_rank.specs.Shrink.{listed_of, in_set, is_out, IsProposal, is_apart, differ}
+use Rattle.ulfm_rank.specs.Shrink.{listed_of, is_out, IsProposal, is_apart, differ}
 use Rattle.ulfm_world.specs.World.{World, rank_at, IsRunning, HasStopped}
 use Rattle.ulfm_world.specs.Flow.{IsWorld}
-use Rattle.ulfm_world.proofs.Firsts.{some_from}
-use Rattle.ulfm_world.proofs.Grouped.{members_found}
-use Rattle.ulfm_world.proofs.Members.{excluding_keeps, any_member, none_of}
-use Rattle.ulfm_world.proofs.Belonging.{IsOwn}
+use Rattle.ulfm_rank.proofs.Firsts.{some_from}
+use Rattle.ulfm_rank.proofs.Grouped.{members_found}
+use Rattle.ulfm_base.proofs.Among.{excluding_keeps, none_of, member_test}
+use Rattle.ulfm_rank.proofs.Belonging.{IsOwn}
 use Rattle.ulfm_world.proofs.Agreed.{IsHeld, Settled, one_group, listed_entry, known_stopped}
 
-in_some : (o : Option RankSet) (x : ℕ) → in_set o x ≡ true → (set : RankSet) × (o ≡ Some set) × (has set x ≡ true)
+in_some : (o : Option RankSet) (x : ℕ) → in_entry o x ≡ true → (set : RankSet) × (o ≡ Some set) × (has set x ≡ true)
 in_some None x h = absurd (false≢true h)
 in_some (Some set) x h = (set, refl, h)
 
 module _ (n : ℕ) (w : World) (r c : ℕ) (h : IsWorld w) (settled : Settled n w) (i : r < n) where
   -- who is out has stopped
   out_stopped : (group : List ℕ) (x : ℕ) → x < n → ((m : ℕ) → is_member group m ≡ true → m < n) → is_out r group (rank_at w r).log c x ≡ true → HasStopped w x
-  out_stopped group x inside below out = elim (or_cases (is_gone (rank_at w r).log x) (list_any (λ m. in_set (listed_of r (rank_at w r).log c m) x) group) out) [
+  out_stopped group x inside below out = elim (or_cases (is_gone (rank_at w r).log x) (list_any (λ m. in_entry (listed_of r (rank_at w r).log c m) x) group) out) [
     | inl gone ↦ known_stopped n w x r h settled inside i gone
     | inr told ↦
-        let found = any_member group (λ m. in_set (listed_of r (rank_at w r).log c m) x) told in
+        let found = member_test group (λ m. in_entry (listed_of r (rank_at w r).log c m) x) told in
         let set = in_some (listed_of r (rank_at w r).log c found.0) x found.2 in
         let lister : found.0 < n = below found.0 found.1 in
         let own = listed_entry n w r found.0 c set.0 h settled i lister set.1 in

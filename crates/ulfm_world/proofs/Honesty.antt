@@ -1,7 +1,7 @@
 -- In every schedule the answered steps of each rank are true of its log.
 use Rattle.std.proofs.Common.{ℕ, ◌<◌, ◌≤◌, List, [], ◌∷◌, length, set, refl, sym, subst, arith, inl, inr, length-set, None}
 use Rattle.std.specs.Prelude.{All}
-use Rattle.std.proofs.lemmas.List.Elements.{All-head, All-nil}
+use Rattle.std.proofs.lemmas.List.Elements.{All-head}
 use Rattle.ulfm_base.specs.declared.rank.WorldRank.{WorldRank}
 use Rattle.ulfm_base.specs.declared.item.Item.{Item}
 use Rattle.ulfm_rank.specs.declared.entry.Entry.TheVariants.{Took}
@@ -13,13 +13,13 @@ use Rattle.ulfm_world.specs.declared.event.Event.{Event}
 use Rattle.ulfm_world.specs.declared.event.Event.TheVariants.{Call, Push, Take, Decide, Leave}
 use Rattle.ulfm_world.specs.World.{World, player_in, player_at, rank_at, start_world, Happens, Applied, Run, Reaches}
 use Rattle.ulfm_world.specs.Flow.{IsPosted, IsWorld}
-use Rattle.ulfm_world.proofs.Answering.{true-same, true-answers, unfinished}
+use Rattle.ulfm_laws.proofs.Answering.{true-same, true-answers, unfinished}
 use Rattle.ulfm_world.proofs.Changed.{each_player}
-use Rattle.ulfm_world.proofs.Closing.{IsTrueOf}
-use Rattle.ulfm_world.proofs.Honest.{honest-logged}
-use Rattle.ulfm_world.proofs.Mail.{IsTakenFrom}
+use Rattle.ulfm_laws.proofs.Closing.{IsTrueOf}
+use Rattle.ulfm_laws.proofs.Honest.{honest-logged, honest-start}
+use Rattle.ulfm_laws.proofs.Mail.{IsTakenFrom}
 use Rattle.ulfm_world.proofs.Runs.{keeps-applied}
-use Rattle.ulfm_world.proofs.Shrinking.{true-opens, true-decided}
+use Rattle.ulfm_laws.proofs.Shrinking.{true-opens, true-decided}
 use Rattle.ulfm_world.proofs.Starts.{player-start, length-start, world-start}
 
 -- the answered steps of each player are true of its log
@@ -81,18 +81,7 @@ true-run [] w w' h t k = let A : World → Type 0 = λ (x : World). AreTrue x.pl
 true-run (event ∷ events) w w' h t k = true-run events k.0 w' (keeps-applied w event k.0 h k.1) (true-applied w event k.0 h t k.1) k.2
 
 true-start : (n r : ℕ) → IsTrueOf (start_player r n).rank (start_player r n).done
-true-start n r = record {
-  orderly = record {
-    tells = λ k x g. let bad : ⊥ = cc in absurd bad;
-    below = λ k id g. let bad : ⊥ = cc in absurd bad;
-    rises = λ j k id jd l g f. let bad : ⊥ = cc in absurd bad;
-    once = λ j k req x y l g f. let bad : ⊥ = cc in absurd bad;
-  };
-  sends = λ c d. refl;
-  covered = λ place p g. let bad : ⊥ = cc in absurd bad;
-  formed = record { ends = λ i k g. let bad : ⊥ = cc in absurd bad; no_posts = λ k i p l g f. let bad : ⊥ = cc in bad; no_letters = λ k b l m g f. let bad : ⊥ = cc in bad };
-  taken = All-nil (IsTakenFrom n);
-}
+true-start n r = honest-start n
 
 -- the answered steps of each player in a world that a schedule leads to are true of its log
 pub true-reached : (n capacity : ℕ) (w : World) → n ≤ 8 → Reaches (start_world n capacity) w → AreTrue w.players

@@ -6,14 +6,16 @@ use Rattle.std.proofs.lemmas.List.Elements.{All-rest}
 use Rattle.ulfm_base.specs.declared.rank.WorldRank.{WorldRank}
 use Rattle.ulfm_base.specs.declared.item.Item.{Item}
 use Rattle.ulfm_rank.specs.declared.entry.Entry.TheVariants.{Took}
-use Rattle.ulfm_rank.specs.Facts.{took, took_by}
+use Rattle.ulfm_rank.specs.Facts.{took, took_by, IsSigned}
 use Rattle.ulfm_rank.specs.State.{State, logged}
 use Rattle.ulfm_script.specs.Player.{Player, with_rank}
 use Rattle.ulfm_world.specs.World.{World, player_in, player_at, rank_at, inbox_at, with_player, with_inbox, Takes}
-use Rattle.ulfm_world.specs.Flow.{from, arrived, IsSigned, IsPosted, IsWorld}
-use Rattle.ulfm_world.proofs.Logs.{took-push}
-use Rattle.ulfm_world.proofs.Quiet.{Calm, Quiet, calm-same, quiet-same, calm-took}
+use Rattle.ulfm_world.specs.Flow.{arrived, IsPosted, IsWorld}
+use Rattle.ulfm_rank.proofs.Logs.{took-push}
+use Rattle.ulfm_rank.proofs.Quiet.{calm-same, quiet-same, calm-took}
+use Rattle.ulfm_rank.specs.Quiet.{Calm, Quiet}
 use Rattle.ulfm_world.proofs.Changed.{player-same, player-other, each_player, inbox-same, inbox-other, each_inbox}
+use Rattle.ulfm_base.specs.Items.{items_from}
 
 -- what a rank sent stays signed
 pub signed_still : (me : ℕ) (old new : State) → old.me ≡ me → Calm old new → All (IsSigned me) old.log → All (IsSigned me) new.log
@@ -38,7 +40,7 @@ keeps-quiet w r p h inside quiet =
       passed_on = λ s d i j.
           (all s (omega (arith, i, l))).calm.out d (omega (arith, h.counted s (omega (arith, i, l)), j, l))
           ∙ h.passed_on s d (omega (arith, i, l)) (omega (arith, j, l))
-          ∙ ap (λ (xs : List Item). xs ++ from s (inbox_at w d)) (sym ((all d (omega (arith, j, l))).took s));
+          ∙ ap (λ (xs : List Item). xs ++ items_from s (inbox_at w d)) (sym ((all d (omega (arith, j, l))).took s));
     }
 
 -- what is taken is what left the inbox
@@ -47,16 +49,16 @@ took_arrived : (w : World) (r : ℕ) (source : WorldRank) (item : Item) (rest : 
 took_arrived w r source item rest s d inside many front = elim (cases_eq d r) [
   | inl same ↦
       let new : Player = with_rank (player_at w r) (logged (rank_at w r) (Took source item)) in
-      ap (λ (p : Player). took p.rank.log s ++ from s (get_or (set w.inboxes r rest) d [])) (player-same w.players r d new same inside)
-      ∙ ap (λ (xs : List (WorldRank × Item)). took (logged (rank_at w r) (Took source item)).log s ++ from s xs) (inbox-same w.inboxes r d rest same (omega (arith, inside, many)))
-      ∙ ap (λ (xs : List Item). xs ++ from s rest) (took-push (rank_at w r).log (Took source item) s)
-      ∙ append_assoc (took (rank_at w r).log s) (took_by s (Took source item)) (from s rest)
-      ∙ ap (λ (xs : List (WorldRank × Item)). took (rank_at w r).log s ++ from s xs) (sym front)
+      ap (λ (p : Player). took p.rank.log s ++ items_from s (get_or (set w.inboxes r rest) d [])) (player-same w.players r d new same inside)
+      ∙ ap (λ (xs : List (WorldRank × Item)). took (logged (rank_at w r) (Took source item)).log s ++ items_from s xs) (inbox-same w.inboxes r d rest same (omega (arith, inside, many)))
+      ∙ ap (λ (xs : List Item). xs ++ items_from s rest) (took-push (rank_at w r).log (Took source item) s)
+      ∙ append_assoc (took (rank_at w r).log s) (took_by s (Took source item)) (items_from s rest)
+      ∙ ap (λ (xs : List (WorldRank × Item)). took (rank_at w r).log s ++ items_from s xs) (sym front)
       ∙ ap (λ i. arrived w s i) (sym same)
   | inr other ↦
       let new : Player = with_rank (player_at w r) (logged (rank_at w r) (Took source item)) in
-      ap (λ (p : Player). took p.rank.log s ++ from s (get_or (set w.inboxes r rest) d [])) (player-other w.players r d new other)
-      ∙ ap (λ (xs : List (WorldRank × Item)). took (rank_at w d).log s ++ from s xs) (inbox-other w.inboxes r d rest other)
+      ap (λ (p : Player). took p.rank.log s ++ items_from s (get_or (set w.inboxes r rest) d [])) (player-other w.players r d new other)
+      ∙ ap (λ (xs : List (WorldRank × Item)). took (rank_at w d).log s ++ items_from s xs) (inbox-other w.inboxes r d rest other)
 ]
 
 pub keeps-takes : (w : World) (r : ℕ) (w' : World) → IsWorld w → Takes w r w' → IsWorld w'

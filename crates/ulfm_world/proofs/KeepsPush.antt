@@ -1,5 +1,5 @@
 -- A push keeps what every world keeps.
-use Rattle.std.proofs.Common.{◌≡◌, ◌≢◌, ℕ, ◌<◌, cond, eqb, List, [], ◌∷◌, ◌++◌, length, get_or, set, refl, ap, sym, subst, ◌∙◌, arith, inl, inr, append-nil, append_assoc, length-set, get_or-set_other}
+use Rattle.std.proofs.Common.{◌≡◌, ◌≢◌, ℕ, ◌<◌, cond, eqb, List, [], ◌∷◌, ◌++◌, length, get_or, set, refl, ap, sym, subst, ◌∙◌, arith, inl, inr, append-nil, append_assoc, length-set}
 use Rattle.std.specs.Prelude.{All}
 use Rattle.std.proofs.lemmas.Bool.{cases_eq, eq-eqb, ne_eqb}
 use Rattle.std.proofs.lemmas.Grind.{flat_map-append}
@@ -7,13 +7,15 @@ use Rattle.std.proofs.lemmas.List.Elements.{All-push}
 use Rattle.ulfm_base.specs.declared.rank.WorldRank.{WorldRank}
 use Rattle.ulfm_base.specs.declared.item.Item.{Item}
 use Rattle.ulfm_rank.specs.declared.entry.Entry.{Entry}
-use Rattle.ulfm_rank.specs.Facts.{took}
-use Rattle.ulfm_rank.specs.State.{State, IsState, gone_out, mark_at, marked, no_mark, Leaves}
+use Rattle.ulfm_rank.specs.Facts.{took, IsSigned}
+use Rattle.ulfm_rank.specs.State.{State, IsState, gone_out, Leaves}
 use Rattle.ulfm_script.specs.Player.{Player, with_rank}
 use Rattle.ulfm_world.specs.World.{World, player_in, player_at, rank_at, inbox_at, with_player, with_inbox, Pushes}
-use Rattle.ulfm_world.specs.Flow.{from, item_of, arrived, IsSigned, IsPosted, IsWorld}
-use Rattle.ulfm_world.proofs.Signed.{IsItemOf, front_signed, from_signed}
+use Rattle.ulfm_world.specs.Flow.{arrived, IsPosted, IsWorld}
+use Rattle.ulfm_base.specs.Items.{ComesFrom, items_from, item_if_from}
+use Rattle.ulfm_rank.proofs.Signed.{front_signed, from_signed}
 use Rattle.ulfm_world.proofs.Changed.{player-same, player-other, each_player, inbox-same, inbox-other, each_inbox}
+use Rattle.ulfm_rank.proofs.Quiet.{out_other}
 
 -- a push keeps the logs
 record Pushed (old new : State) : Type 0 where
@@ -33,27 +35,21 @@ pushed-leaves old new d item k = record {
   sound = k.keeps;
 }
 
--- what went out to another rank
-pub out_other : (old new : State) (d x : ℕ) (item : Item) → Leaves old new d item → x ≢ d → gone_out new x ≡ gone_out old x
-out_other old new d x item k other =
-    let G : State → Type 0 = λ (s : State). gone_out s x ≡ gone_out old x in
-    subst G (sym k.marked) (rw (get_or-set_other old.marks d x (marked old (mark_at old d)) no_mark other) refl)
+from-push : (s : ℕ) (xs : List (WorldRank × Item)) (source : WorldRank) (item : Item) → items_from s (xs ++ (source, item) ∷ []) ≡ items_from s xs ++ cond (eqb source.number s) (item ∷ []) []
+from-push s xs source item = flat_map-append (item_if_from s) xs ((source, item) ∷ []) ∙ ap (λ (ys : List Item). items_from s xs ++ ys) (append-nil (cond (eqb source.number s) (item ∷ []) []))
 
-from-push : (s : ℕ) (xs : List (WorldRank × Item)) (source : WorldRank) (item : Item) → from s (xs ++ (source, item) ∷ []) ≡ from s xs ++ cond (eqb source.number s) (item ∷ []) []
-from-push s xs source item = flat_map-append (item_of s) xs ((source, item) ∷ []) ∙ ap (λ (ys : List Item). from s xs ++ ys) (append-nil (cond (eqb source.number s) (item ∷ []) []))
+from-push_same : (s : ℕ) (xs : List (WorldRank × Item)) (source : WorldRank) (item : Item) → source.number ≡ s → items_from s (xs ++ (source, item) ∷ []) ≡ items_from s xs ++ item ∷ []
+from-push_same s xs source item same = from-push s xs source item ∙ ap (λ b. items_from s xs ++ cond b (item ∷ []) []) (eq-eqb source.number s same)
 
-from-push_same : (s : ℕ) (xs : List (WorldRank × Item)) (source : WorldRank) (item : Item) → source.number ≡ s → from s (xs ++ (source, item) ∷ []) ≡ from s xs ++ item ∷ []
-from-push_same s xs source item same = from-push s xs source item ∙ ap (λ b. from s xs ++ cond b (item ∷ []) []) (eq-eqb source.number s same)
-
-from-push_other : (s : ℕ) (xs : List (WorldRank × Item)) (source : WorldRank) (item : Item) → source.number ≢ s → from s (xs ++ (source, item) ∷ []) ≡ from s xs
-from-push_other s xs source item other = from-push s xs source item ∙ ap (λ b. from s xs ++ cond b (item ∷ []) []) (ne_eqb source.number s other) ∙ append-nil (from s xs)
+from-push_other : (s : ℕ) (xs : List (WorldRank × Item)) (source : WorldRank) (item : Item) → source.number ≢ s → items_from s (xs ++ (source, item) ∷ []) ≡ items_from s xs
+from-push_other s xs source item other = from-push s xs source item ∙ ap (λ b. items_from s xs ++ cond b (item ∷ []) []) (ne_eqb source.number s other) ∙ append-nil (items_from s xs)
 
 -- the flow of one pair, where its parts are equal to others
-flow_at : (q q' : Player) (log log' : List Entry) (ys ys' : List (WorldRank × Item)) (a b : ℕ) → q' ≡ q → log' ≡ log → ys' ≡ ys → gone_out q.rank b ≡ took log a ++ from a ys → gone_out q'.rank b ≡ took log' a ++ from a ys'
+flow_at : (q q' : Player) (log log' : List Entry) (ys ys' : List (WorldRank × Item)) (a b : ℕ) → q' ≡ q → log' ≡ log → ys' ≡ ys → gone_out q.rank b ≡ took log a ++ items_from a ys → gone_out q'.rank b ≡ took log' a ++ items_from a ys'
 flow_at q q' log log' ys ys' a b e f g core =
-    ap (λ (p : Player). gone_out p.rank b) e ∙ core ∙ ap (λ (l : List Entry). took l a ++ from a ys) (sym f) ∙ ap (λ (zs : List (WorldRank × Item)). took log' a ++ from a zs) (sym g)
+    ap (λ (p : Player). gone_out p.rank b) e ∙ core ∙ ap (λ (l : List Entry). took l a ++ items_from a ys) (sym f) ∙ ap (λ (zs : List (WorldRank × Item)). took log' a ++ items_from a zs) (sym g)
 
--- the flow from a to b after a push from s to d
+-- the flow items_from a to b after a push items_from s to d
 pushed_on : (w : World) (s d a b : ℕ) (sender : WorldRank) (item : Item) (after : State) → IsWorld w → s < length w.players → d < length w.players → sender.number ≡ s → Leaves (rank_at w s) after d item → a < length w.players → b < length w.players →
     let w' : World = with_inbox (with_player w s (with_rank (player_at w s) after)) d (inbox_at w d ++ (sender, item) ∷ []) in gone_out (rank_at w' a) b ≡ arrived w' a b
 pushed_on w s d a b sender item after h inside_s inside_d is_sender leaves i j =
@@ -71,8 +67,8 @@ pushed_on w s d a b sender item after h inside_s inside_d is_sender leaves i j =
             ∙ ap (λ i. gone_out (rank_at w i) d ++ item ∷ []) (sym from_s)
             ∙ ap (λ i. gone_out (rank_at w a) i ++ item ∷ []) (sym to_d)
             ∙ ap (λ (ys : List Item). ys ++ item ∷ []) was
-            ∙ append_assoc (took (rank_at w b).log a) (from a (inbox_at w b)) (item ∷ [])
-            ∙ ap (λ i. took (rank_at w b).log a ++ (from a (inbox_at w i) ++ item ∷ [])) to_d
+            ∙ append_assoc (took (rank_at w b).log a) (items_from a (inbox_at w b)) (item ∷ [])
+            ∙ ap (λ i. took (rank_at w b).log a ++ (items_from a (inbox_at w i) ++ item ∷ [])) to_d
             ∙ ap (λ (ys : List Item). took (rank_at w b).log a ++ ys) (sym (from-push_same a (inbox_at w d) sender item (is_sender ∙ sym from_s))))
         | inr other ↦
             flow_at p _ (rank_at w b).log _ (inbox_at w b) _ a b (player-same w.players s a p from_s inside_s) logs (inbox-other w.inboxes d b xs other)
@@ -82,7 +78,7 @@ pushed_on w s d a b sender item after h inside_s inside_d is_sender leaves i j =
         | inl to_d ↦
             flow_at (player_at w a) _ (rank_at w b).log _ xs _ a b (player-other w.players s a p other_s) logs (inbox-same w.inboxes d b xs to_d many)
             (was
-            ∙ ap (λ i. took (rank_at w b).log a ++ from a (inbox_at w i)) to_d
+            ∙ ap (λ i. took (rank_at w b).log a ++ items_from a (inbox_at w i)) to_d
             ∙ ap (λ (ys : List Item). took (rank_at w b).log a ++ ys) (sym (from-push_other a (inbox_at w d) sender item (λ e. other_s (sym e ∙ is_sender)))))
         | inr other ↦
             flow_at (player_at w a) _ (rank_at w b).log _ (inbox_at w b) _ a b (player-other w.players s a p other_s) logs (inbox-other w.inboxes d b xs other) was
@@ -93,9 +89,9 @@ pushed_on w s d a b sender item after h inside_s inside_d is_sender leaves i j =
 pushed_posted : (w : World) (s d : ℕ) (sender : WorldRank) (item : Item) (after : State) → IsWorld w → s < length w.players → sender.number ≡ s → Leaves (rank_at w s) after d item → IsPosted (length w.players) (sender, item)
 pushed_posted w s d sender item after h inside is_sender leaves =
     let S : ℕ → Type 0 = λ m. All (IsSigned m) (rank_at w s).log in
-    let I : ℕ → Type 0 = λ m. IsItemOf m item in
+    let I : ℕ → Type 0 = λ m. ComesFrom m item in
     let named : (rank_at w s).me ≡ s = h.named s inside in
-    let own : IsItemOf (rank_at w s).me item = front_signed (rank_at w s) d item _ (subst S (sym named) (h.signed s inside)) leaves.front in
+    let own : ComesFrom (rank_at w s).me item = front_signed (rank_at w s) d item _ (subst S (sym named) (h.signed s inside)) leaves.front in
     (omega (arith, is_sender, inside), from_signed sender item (subst I (named ∙ sym is_sender) own))
 
 pub keeps-pushes : (w : World) (s d : ℕ) (w' : World) → IsWorld w → Pushes w s d w' → IsWorld w'

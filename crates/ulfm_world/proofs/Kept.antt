@@ -3,7 +3,7 @@ use Rattle.std.proofs.Common.{◌≡◌, Result, OnOk, OnErr}
 use Rattle.ulfm_world.specs.declared.event.Event.{Event}
 use Rattle.ulfm_world.specs.World.{World, Happens, IsReached}
 use Rattle.ulfm_world.specs.Flow.{IsWorld, IsKept}
-use Rattle.ulfm_world.proofs.FlowFrom.{world-reached}
+use Rattle.ulfm_world.proofs.Read.{world-reached}
 use Rattle.ulfm_world.proofs.Runs.{reaches-either}
 
 pub world_of : (w : World) → IsReached w → IsWorld w

@@ -8,10 +8,10 @@ use Rattle.ulfm_base.specs.declared.decision.Decision.{Decision}
 use Rattle.ulfm_base.specs.declared.item.Item.{Item}
 use Rattle.ulfm_rank.specs.declared.entry.Entry.TheVariants.{Took}
 use Rattle.ulfm_rank.specs.Facts.{is_stopped}
-use Rattle.ulfm_rank.specs.State.{logged, returned, Leaves}
+use Rattle.ulfm_rank.specs.State.{logged, Leaves}
 use Rattle.ulfm_script.specs.Player.{Player, View, with_rank}
 use Rattle.ulfm_world.specs.World.{World, player_in, no_player, with_inbox, with_players, Pushes, Takes}
-use Rattle.ulfm_world.specs.Flow.{IsPosted, IsWorld}
+use Rattle.ulfm_world.specs.Flow.{IsPosted}
 use Rattle.ulfm_world.specs.Fields.{the_player, players_of, parts, AreParts, HandsOver}
 
 pub read_player : (views : List View) (r : ℕ) (d : View) → r < length views → player_in (players_of views) r ≡ (get_or views r d).player
@@ -46,14 +46,6 @@ pub parts-set : (views : List View) (inboxes : List (List (WorldRank × Item))) 
 parts-set views inboxes capacity decided s d v p xs ys e f =
     ap (λ (ps : List Player). let w : World = record { players = ps; inboxes = set inboxes d xs; capacity = capacity; decided = decided } in w) (players-set views s v ∙ ap (set (players_of views) s) e)
     ∙ ap (λ (zs : List (WorldRank × Item)). let w : World = record { players = set (players_of views) s p; inboxes = set inboxes d zs; capacity = capacity; decided = decided } in w) f
-
--- what came back leaves the player as it was
-pub put_same : (old mid new : Player) (d : ℕ) → mid ≡ with_rank old mid.rank → returned mid.rank d ≡ old.rank → new ≡ with_rank mid (returned mid.rank d) → new ≡ old
-put_same old mid new d m r e = e ∙ ap (λ (p : Player). with_rank p (returned mid.rank d)) m ∙ ap (with_rank old) r
-
--- the parts of a world fit together
-pub parts-world : (w : World) → IsWorld w → AreParts w.players w.inboxes
-parts-world w h = record { small = h.small; as_many = h.as_many; counted = h.counted; posted = h.posted }
 
 -- the first item of an inbox was posted
 pub taken_front : (views : List View) (inboxes : List (List (WorldRank × Item))) (r : ℕ) (d : List (WorldRank × Item)) (source : WorldRank) (item : Item) → AreParts (players_of views) inboxes → r < length views → get_or inboxes r d ≡ (source, item) ∷ drop 1 (get_or inboxes r d) → IsPosted (length (players_of views)) (source, item)

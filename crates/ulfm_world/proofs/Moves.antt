@@ -7,7 +7,7 @@ use Rattle.ulfm_world.specs.Replay.{Follows, measure, Moves}
 use Rattle.ulfm_world.proofs.Runs.{reaches-then}
 
 pub moves-none : (j : Seen) (w : World) → Moves j w w false
-moves-none j w = record { reaches = ([], refl); size = refl; capacity = refl; follows = λ f. f; falls = λ e. absurd (false≢true e); stays = λ e. refl }
+moves-none j w = record { reaches = ([], refl); size = refl; capacity = refl; follows = λ f. f; answers = λ f h. h; falls = λ e. absurd (false≢true e); stays = λ e. refl }
 
 never_more : (j : Seen) (a : Bool) (u v : World) → Moves j u v a → Follows j u → measure j v ≤ measure j u
 never_more j true u v h f = omega (arith, h.falls refl f)
@@ -20,6 +20,7 @@ moves-on j a u v w h k = record {
   size = k.size ∙ h.size;
   capacity = k.capacity ∙ h.capacity;
   follows = λ f. k.follows (h.follows f);
+  answers = λ f right. k.answers (h.follows f) (h.answers f right);
   falls = λ _ f. omega (arith, k.falls refl (h.follows f), never_more j a u v h f);
   stays = λ e. absurd (false≢true (sym e));
 }

@@ -1,7 +1,7 @@
 -- What a push and a take move.
-use Rattle.std.proofs.Common.{◌≡◌, ℕ, ◌+◌, ◌<◌, ◌≤◌, Bool, true, false, List, [], ◌∷◌, ◌++◌, length, set, refl, ap, sym, subst, ◌∙◌, arith, length-append, length-set, inl, inr}
-use Rattle.std.specs.Prelude.{◌||◌}
+use Rattle.std.proofs.Common.{◌≡◌, ℕ, ◌+◌, ◌<◌, ◌≤◌, true, List, [], ◌∷◌, ◌++◌, length, set, refl, ap, sym, subst, ◌∙◌, arith, length-append, length-set, inl, inr}
 use Rattle.std.proofs.lemmas.Bool.{false≢true, cases_eq}
+use Rattle.std.proofs.Math.Bool.{or-false}
 use Rattle.ulfm_base.specs.declared.rank.WorldRank.{WorldRank}
 use Rattle.ulfm_base.specs.declared.item.Item.{Item}
 use Rattle.ulfm_rank.specs.declared.entry.Entry.TheVariants.{Took}
@@ -12,13 +12,15 @@ use Rattle.ulfm_script.specs.Job.{Seen, script_at}
 use Rattle.ulfm_world.specs.declared.event.Event.TheVariants.{Push, Take}
 use Rattle.ulfm_world.specs.World.{World, player_in, player_at, rank_at, inbox_at, with_player, with_inbox, Pushes, Takes}
 use Rattle.ulfm_world.specs.Flow.{IsWorld}
-use Rattle.ulfm_world.specs.Replay.{sum_below, out_at, fresh_of, weight_of, inbox_weight, FollowsAt, Follows, Moves}
-use Rattle.ulfm_world.proofs.Logs.{stopped-push}
+use Rattle.ulfm_world.specs.Replay.{sum_below, out_at, fresh_of, weight_of, inbox_weight, Follows, Moves}
+use Rattle.ulfm_script.specs.Script.{FollowsAt}
+use Rattle.ulfm_rank.proofs.Logs.{stopped-push}
 use Rattle.ulfm_world.proofs.Weights.{out-took}
 use Rattle.ulfm_world.proofs.Changed.{player-same, player-other}
-use Rattle.ulfm_world.proofs.Scripts.{follows-rank}
+use Rattle.ulfm_script.proofs.Progress.{follows-rank}
 use Rattle.ulfm_world.proofs.Measures.{measure-at, players_part, players_part-set, inboxes_part-set, leaves_weight, leaves_fresh}
 use Rattle.ulfm_world.proofs.Runs.{reaches-one}
+use Rattle.ulfm_world.proofs.Rightly.{rightly-pushes, rightly-takes}
 
 -- a change of one player's rank that keeps whether it stopped
 pub follows-set : (j : Seen) (w w' : World) (r : ℕ) (after : State) → r < length w.players → w'.players ≡ set w.players r (with_rank (player_at w r) after) → is_stopped after.log ≡ is_stopped (rank_at w r).log → Follows j w → Follows j w'
@@ -53,16 +55,13 @@ moves-push j w s d w' h t =
       size = same_size;
       capacity = refl;
       follows = follows-set j w made s t.after t.inside_s refl stop;
+      answers = λ _ right. rightly-pushes w s d made (let P : World → Type 0 = λ (x : World). Pushes w s d x in subst P t.only t) right;
       falls = λ _ f. omega (arith, measure-at j n made same_size, measure-at j n w refl, parts, boxes, lighter, fresh, one);
       stays = λ e. absurd (false≢true (sym e));
     })
 
 stopped_took : (r : State) (source : WorldRank) (item : Item) → is_stopped (logged r (Took source item)).log ≡ is_stopped r.log
-stopped_took r source item = stopped-push r.log (Took source item) ∙ or_false (is_stopped r.log)
-  where
-    or_false : (b : Bool) → b || false ≡ b
-    or_false true = refl
-    or_false false = refl
+stopped_took r source item = stopped-push r.log (Took source item) ∙ or-false (is_stopped r.log)
 
 pub moves-take : (j : Seen) (w : World) (r : ℕ) (w' : World) → IsWorld w → Takes w r w' → Moves j w w' true
 moves-take j w r w' h t =
@@ -81,6 +80,7 @@ moves-take j w r w' h t =
       size = same_size;
       capacity = refl;
       follows = follows-set j w made r after t.inside refl (stopped_took (rank_at w r) t.source t.item);
+      answers = λ _ right. rightly-takes w r made (let P : World → Type 0 = λ (x : World). Takes w r x in subst P t.only t) right;
       falls = λ _ f. omega (arith, measure-at j n made same_size, measure-at j n w refl, parts, boxes, lighter, one);
       stays = λ e. absurd (false≢true (sym e));
     })

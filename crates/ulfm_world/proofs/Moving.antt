@@ -17,10 +17,10 @@ use Rattle.ulfm_world.specs.declared.event.Event.{Event}
 use Rattle.ulfm_world.specs.declared.event.Event.TheVariants.{Call, Push, Take, Decide, Leave}
 use Rattle.ulfm_world.specs.World.{World, player_at, rank_at, inbox_at, with_players, with_player, with_inbox, with_decided, Calls, Settles, GivesUp, Pushes, Takes, Happens, Applied, Run}
 use Rattle.ulfm_world.specs.Flow.{IsWorld}
-use Rattle.ulfm_world.proofs.Entering.{AdoptsEntered}
+use Rattle.ulfm_rank.proofs.Entering.{AdoptsEntered}
 use Rattle.ulfm_world.proofs.Agreed.{IsAdopted, IsHeld, Settled}
 use Rattle.ulfm_world.proofs.Grown.{Grows, Moved, StillHeld, settled-moved}
-use Rattle.ulfm_world.proofs.Adding.{AddsPlain, Adds, answers_add, opens_add}
+use Rattle.ulfm_script.proofs.Fitting.{AddsPlain, Adds, answers_add, opens_add}
 use Rattle.ulfm_world.proofs.Plain.{adopted-plain, held-plain, opened_unadopted}
 use Rattle.ulfm_world.proofs.Adopting.{still_known, held_cases, later_cases, handed_held, moved-adopted}
 use Rattle.ulfm_world.proofs.Runs.{keeps-applied}

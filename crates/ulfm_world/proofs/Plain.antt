@@ -6,40 +6,24 @@ use Rattle.std.proofs.lemmas.List.Elements.{All-push}
 use Rattle.ulfm_base.specs.declared.context.Context.{Context}
 use Rattle.ulfm_base.specs.declared.decision.Decision.{Decision}
 use Rattle.ulfm_rank.specs.declared.entry.Entry.{Entry}
-use Rattle.ulfm_rank.specs.declared.entry.Entry.TheVariants.{Sent as SentEntry, Posted as PostedEntry, Released, Acknowledged, Revoked as RevokedEntry, Duplicated, Entered, Adopted, Stopped as StopEntry, Took}
+use Rattle.ulfm_rank.specs.declared.entry.Entry.TheVariants.{Adopted}
 use Rattle.ulfm_rank.specs.Shrink.{adopts, has_adopted}
 use Rattle.ulfm_rank.specs.State.{State}
 use Rattle.ulfm_rank.proofs.Gather.{any-push}
 use Rattle.ulfm_script.specs.declared.step.Step.TheVariants.{Shrink}
 use Rattle.ulfm_script.specs.declared.answer.StepReport.{StepReport}
 use Rattle.ulfm_script.specs.Player.{IsOpen}
-use Rattle.ulfm_world.proofs.Entering.{AdoptsEntered}
+use Rattle.ulfm_rank.proofs.Entering.{AdoptsEntered}
 use Rattle.ulfm_world.proofs.Agreed.{IsAdopted}
-use Rattle.ulfm_world.proofs.Adding.{IsPlain, AddsPlain, shrink_passed, opens_add}
+use Rattle.ulfm_script.proofs.Fitting.{IsPlain, AddsPlain, shrink_passed, opens_add}
 
 plain_adopts : (c : ℕ) (e : Entry) → IsPlain e → adopts c e ≡ false
 plain_adopts c (Adopted d) h = absurd h
-plain_adopts c (SentEntry to letter) h = refl
-plain_adopts c (PostedEntry pattern) h = refl
-plain_adopts c (Released id answer) h = refl
-plain_adopts c (Acknowledged context total) h = refl
-plain_adopts c (RevokedEntry context) h = refl
-plain_adopts c (Duplicated context) h = refl
-plain_adopts c (Entered context known) h = refl
-plain_adopts c StopEntry h = refl
-plain_adopts c (Took source item) h = refl
+plain_adopts c _ h = refl
 
 plain_adopted : (decided : List (Option Decision)) (me : ℕ) (e : Entry) → IsPlain e → IsAdopted decided me e
 plain_adopted decided me (Adopted d) h = absurd h
-plain_adopted decided me (SentEntry to letter) h = tt
-plain_adopted decided me (PostedEntry pattern) h = tt
-plain_adopted decided me (Released id answer) h = tt
-plain_adopted decided me (Acknowledged context total) h = tt
-plain_adopted decided me (RevokedEntry context) h = tt
-plain_adopted decided me (Duplicated context) h = tt
-plain_adopted decided me (Entered context known) h = tt
-plain_adopted decided me StopEntry h = tt
-plain_adopted decided me (Took source item) h = tt
+plain_adopted decided me _ h = tt
 
 -- such an entry adopts no decision
 pub adopted-plain : (n me c : ℕ) (old new : List Entry) → AddsPlain n me old new → has_adopted old c ≡ false → has_adopted new c ≡ false

@@ -1,25 +1,18 @@
 -- Why a poll of a replay can be refused.
-use Rattle.std.proofs.Common.{◌≡◌, ℕ, ◌<◌, false, List, length, refl, ap, sym, ◌∙◌, arith, inl, inr, ◌⊎◌, length-set, Option, Some, None, MatchOption, slice_get}
+use Rattle.std.proofs.Common.{◌≡◌, ℕ, ◌<◌, false, length, refl, ap, sym, ◌∙◌, arith, inl, inr, length-set, Some, None, slice_get}
 use Rattle.std.proofs.lemmas.Bool.{false≢true}
 use Rattle.ulfm_rank.specs.Facts.{is_stopped}
 use Rattle.ulfm_script.specs.declared.step.Step.{Step}
-use Rattle.ulfm_script.specs.Player.{Player, IsFree, IsCalled, awaits_decision}
+use Rattle.ulfm_script.specs.Player.{Player, IsCalled, awaits_decision}
 use Rattle.ulfm_script.specs.Job.{Seen, script_at}
 use Rattle.ulfm_world.specs.declared.event.Event.TheVariants.{Call, Leave}
 use Rattle.ulfm_world.specs.declared.event.Refused.{Refused}
 use Rattle.ulfm_world.specs.declared.event.Refused.TheVariants.{NotReady, Stopped, OutOfMemory, NoSuchRank}
 use Rattle.ulfm_world.specs.World.{World, player_at, with_players, with_player, Happens, IsRunning, IsRefused}
-use Rattle.ulfm_world.specs.Replay.{FollowsAt, Follows}
+use Rattle.ulfm_world.specs.Replay.{Follows}
+use Rattle.ulfm_script.proofs.Progress.{next-free}
 use Rattle.ulfm_world.proofs.Changed.{player-same}
-use Rattle.ulfm_world.proofs.Polls.{opens_add, stopped-adds}
-
--- no other step than the next one stands open
-pub next-free : (script : List Step) (turns : ℕ) (p : Player) (asked : Step) → FollowsAt script turns p → slice_get script (length p.done) ≡ Some asked → IsFree p asked
-next-free script turns p asked h next = free p.current h.current
-  where
-    free : (o : Option Step) → MatchOption o (p.polls ≡ 0) (λ s. (slice_get script (length p.done) ≡ Some s) × (p.polls < turns)) → (o ≡ None) ⊎ (o ≡ Some asked)
-    free None k = inl refl
-    free (Some s) k = inr (sym k.0 ∙ next)
+use Rattle.ulfm_script.proofs.Polls.{opens_add, stopped-adds}
 
 -- the next step of a running player is refused for want of memory alone
 pub refused-starves : (j : Seen) (w : World) (r : ℕ) (asked : Step) (why : Refused) → r < length w.players → Follows j w → IsRunning w r → slice_get (script_at j r) (length (player_at w r).done) ≡ Some asked → IsRefused w (Call r asked) why → why ≡ OutOfMemory

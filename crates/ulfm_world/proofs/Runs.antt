@@ -8,8 +8,8 @@ use Rattle.ulfm_world.specs.declared.event.Event.TheVariants.{Call, Push, Take, 
 use Rattle.ulfm_world.specs.declared.event.Refused.{Refused}
 use Rattle.ulfm_world.specs.World.{World, with_players, with_decided, Calls, Settles, GivesUp, Happens, IsRefused, Applied, Run, Reaches, IsReached}
 use Rattle.ulfm_world.specs.Flow.{IsWorld}
-use Rattle.ulfm_world.proofs.Polls.{quiet-called, quiet-left}
-use Rattle.ulfm_world.proofs.Decisions.{quiet-decided}
+use Rattle.ulfm_script.proofs.Polls.{quiet-called, quiet-left}
+use Rattle.ulfm_script.proofs.Decisions.{quiet-decided}
 use Rattle.ulfm_world.proofs.KeepsCalls.{keeps-quiet, keeps-takes}
 use Rattle.ulfm_world.proofs.KeepsPush.{keeps-pushes}
 use Rattle.ulfm_script.specs.Player.{Player}

@@ -1,21 +1,29 @@
 -- What the ranks know at the rest that a replay ends at.
-use Rattle.std.proofs.Common.{List}
+use Rattle.std.proofs.Common.{List, sym, subst}
 use Rattle.ulfm_script.specs.Report.{Report}
 use Rattle.ulfm_script.specs.Job.{Seen, IsJob}
-use Rattle.ulfm_world.specs.World.{IsReached}
+use Rattle.ulfm_laws.specs.Lawful.{KnowAtRest}
+use Rattle.ulfm_laws.proofs.AtRest.{knows-stopped, agrees-revoked}
+use Rattle.ulfm_world.specs.World.{IsReached, reports_in}
 use Rattle.ulfm_world.specs.Replay.{IsReplayed, AreSettled}
-use Rattle.ulfm_world.proofs.AtRest.{knows-stopped, agrees-revoked}
 use Rattle.ulfm_world.proofs.Kept.{world_of}
+use Rattle.ulfm_world.proofs.Read.{flowing-world, rest-world}
+use Rattle.ulfm_world.proofs.Reported.{rest_world}
 use Rattle.ulfm_world.proofs.Shrunk.{shrinks-safely, all-proposed}
 
 pub settled : (j : Seen) (reports : List Report) → IsJob j → IsReplayed j reports → AreSettled reports
 settled j reports job h =
     let reached : IsReached h.world = record { ranks = j.ranks; capacity = j.capacity; few = job.few_ranks; schedule = h.reaches } in
+    let flowing = flowing-world h.world (world_of h.world reached) in
+    let K : List Report → Type 0 = λ (rs : List Report). KnowAtRest rs in
     record {
       world = h.world;
       reported = h.reported;
-      known = knows-stopped h.world (world_of h.world reached) h.rests;
-      agreed = agrees-revoked h.world (world_of h.world reached) h.rests;
-      proposed = all-proposed h.world reached h.rests;
+      known = subst K (sym h.reported) (record {
+        known = knows-stopped h.world.inboxes (reports_in h.world) flowing (rest-world h.world h.rests);
+        agreed = agrees-revoked h.world.inboxes (reports_in h.world) flowing (rest-world h.world h.rests);
+        proposed = all-proposed h.world reached h.rests;
+        come = rest_world j.ranks j.capacity h.world job.few_ranks h.reaches h.rests;
+      });
       safe = shrinks-safely h.world reached;
     }

@@ -1,12 +1,23 @@
 -- What every world keeps of shrinks.
-use Rattle.ulfm_world.specs.World.{World, IsReached}
+use Rattle.std.proofs.Common.{◌≡◌, ℕ, ◌∙◌}
+use Rattle.ulfm_laws.specs.Shrinks.{HasOneGroup, ProposesEach}
+use Rattle.ulfm_laws.proofs.OneGroup.{one_group}
+use Rattle.ulfm_laws.proofs.Proposing.{proposes_each}
+use Rattle.ulfm_world.specs.World.{World, IsReached, reports_in}
+use Rattle.ulfm_world.specs.Flow.{IsWorld}
 use Rattle.ulfm_world.specs.Rest.{IsAtRest}
-use Rattle.ulfm_world.specs.Safe.{ProposesEach, ShrinksSafely}
-use Rattle.ulfm_world.proofs.Kept.{world_of}
-use Rattle.ulfm_world.proofs.Agreed.{Settled}
-use Rattle.ulfm_world.proofs.Safe.{settled-reached, enters-once, decides-safely, adopts-held, adopts-one, has-one_group}
+use Rattle.ulfm_world.specs.Safe.{ShrinksSafely}
+use Rattle.ulfm_world.proofs.Agreed.{Settled, adopt-one, all_keep}
 use Rattle.ulfm_world.proofs.Decided.{settles-safely, starves-alone}
-use Rattle.ulfm_world.proofs.Proposing.{proposes-each}
+use Rattle.ulfm_world.proofs.Kept.{world_of}
+use Rattle.ulfm_world.proofs.Read.{each_report, flowing-world, rest-world}
+use Rattle.ulfm_world.proofs.Safe.{settled-reached, enters-once, decides-safely, adopts-held}
+
+pub has-one_group : (n : ℕ) (w : World) → Settled n w → IsWorld w → HasOneGroup (reports_in w)
+has-one_group n w settled h = one_group (reports_in w) (adopt-one n w settled) n (each_report (λ r told. told.rank.ranks ≡ n) w (λ r i. h.counted r i ∙ settled.size))
+
+pub proposes-each : (n : ℕ) (w : World) → IsWorld w → Settled n w → IsAtRest w → ProposesEach (reports_in w)
+proposes-each n w h settled rest = proposes_each w.inboxes (reports_in w) (flowing-world w h) (adopt-one n w settled) (all_keep n w settled) (rest-world w rest)
 
 settled_of : (w : World) (h : IsReached w) → Settled h.ranks w
 settled_of w h = settled-reached h.ranks h.capacity w h.few h.schedule
@@ -18,9 +29,9 @@ shrinks-safely w h = record {
   settled = settles-safely h.ranks w (world_of w h) (settled_of w h);
   adopted = adopts-held h.ranks w (settled_of w h);
   starved = starves-alone h.ranks w (world_of w h) (settled_of w h);
-  one_decision = adopts-one h.ranks w (settled_of w h);
+  one_decision = adopt-one h.ranks w (settled_of w h);
   one_group = has-one_group h.ranks w (settled_of w h) (world_of w h);
 }
 
-pub all-proposed : (w : World) → IsReached w → IsAtRest w → ProposesEach w
+pub all-proposed : (w : World) → IsReached w → IsAtRest w → ProposesEach (reports_in w)
 all-proposed w h = proposes-each h.ranks w (world_of w h) (settled_of w h)

@@ -8,7 +8,7 @@ use Rattle.ulfm_base.specs.declared.rank.WorldRank.{WorldRank}
 use Rattle.ulfm_base.specs.declared.decision.Decision.{Decision}
 use Rattle.ulfm_board.specs.Known.{nothing_known}
 use Rattle.ulfm_base.specs.declared.item.Item.{Item}
-use Rattle.ulfm_rank.specs.Facts.{took}
+use Rattle.ulfm_rank.specs.Facts.{took, IsSigned}
 use Rattle.ulfm_rank.specs.State.{IsState, gone_out, no_mark, start_state}
 use Rattle.ulfm_base.specs.declared.error.CallError.{CallError}
 use Rattle.ulfm_base.specs.declared.error.CallError.TheVariants.{OutOfMemory}
@@ -16,7 +16,9 @@ use Rattle.ulfm_rank.specs.Checks.{Passes, FailsOrStarves, start_checks}
 use Rattle.ulfm_script.specs.Player.{Player, View, start_player}
 use Rattle.ulfm_world.specs.Fields.{the_player, players_of, parts}
 use Rattle.ulfm_world.specs.World.{World, player_in, no_player, inbox_at, start_players, start_world}
-use Rattle.ulfm_world.specs.Flow.{from, IsSigned, IsPosted, IsWorld}
+use Rattle.ulfm_world.specs.Flow.{IsPosted, IsWorld}
+use Rattle.ulfm_base.specs.Items.{items_from}
+use Rattle.ulfm_base.proofs.Places.{get_or-blank}
 
 pub length-start : (n k : ℕ) → length (start_players n k) ≡ k
 length-start n zero = refl
@@ -31,11 +33,6 @@ player-start n (suc k) r h = elim (cases_lt r k) [
       ap (λ i. player_in (start_players n k ++ start_player k n ∷ []) i) same ∙ get_or_at (start_players n k) (start_player k n) [] no_player k (length-start n k) ∙ ap (λ i. start_player i n) (sym same)
 ]
 
-mark-start : (n d : ℕ) → get_or (replicate n no_mark) d no_mark ≡ no_mark
-mark-start zero d = refl
-mark-start (suc n) zero = refl
-mark-start (suc n) (suc d) = mark-start n d
-
 inbox-start : (n d : ℕ) → get_or (replicate n (let xs : List (WorldRank × Item) = [] in xs)) d [] ≡ []
 inbox-start zero d = refl
 inbox-start (suc n) zero = refl
@@ -46,9 +43,9 @@ sound-start me n h small = record {
   small = small;
   me = h;
   sized = length-replicate n no_mark;
-  within = λ d k. rw (mark-start n d) (omega arith);
-  untold = λ s d k. rw (mark-start n d) refl;
-  self_untold = rw (mark-start n me) refl;
+  within = λ d k. rw (get_or-blank n d no_mark) (omega arith);
+  untold = λ s d k. rw (get_or-blank n d no_mark) refl;
+  self_untold = rw (get_or-blank n me no_mark) refl;
 }
 
 pub world-start : (n capacity : ℕ) → n ≤ 8 → IsWorld (start_world n capacity)
@@ -68,8 +65,8 @@ world-start n capacity small = record {
       subst P (sym (inbox-start n r)) (All-nil (IsPosted (length (start_players n n))));
   passed_on = λ s d i j.
       ap (λ (p : Player). gone_out p.rank d) (player-start n n s (omega (arith, i, length-start n n)))
-      ∙ rw (mark-start n d) (ap (λ (xs : List (WorldRank × Item)). from s xs) (sym (inbox-start n d)))
-      ∙ ap (λ (p : Player). took p.rank.log s ++ from s (inbox_at (start_world n capacity) d)) (sym (player-start n n d (omega (arith, j, length-start n n))));
+      ∙ rw (get_or-blank n d no_mark) (ap (λ (xs : List (WorldRank × Item)). items_from s xs) (sym (inbox-start n d)))
+      ∙ ap (λ (p : Player). took p.rank.log s ++ items_from s (inbox_at (start_world n capacity) d)) (sym (player-start n n d (omega (arith, j, length-start n n))));
 }
 
 -- what a loop over the ranks made

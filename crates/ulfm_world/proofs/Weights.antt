@@ -1,8 +1,9 @@
 -- What one more entry changes of what a rank may still send.
-use Rattle.std.proofs.Common.{◌≡◌, ℕ, ◌+◌, ◌*◌, ◌<◌, ◌≤◌, Bool, true, false, cond, eqb, List, [], ◌∷◌, ◌++◌, length, drop, refl, ap, ◌∙◌, arith, inl, inr, append-nil, length-append}
+use Rattle.std.proofs.Common.{◌≡◌, ℕ, ◌+◌, ◌*◌, ◌<◌, ◌≤◌, Bool, true, false, cond, eqb, List, [], ◌∷◌, ◌++◌, length, drop, refl, ap, sym, subst, ◌∙◌, arith, inl, inr, append-nil, length-append}
 use Rattle.std.specs.Prelude.{◌||◌}
 use Rattle.std.proofs.lemmas.Bool.{cases_Bool, eq-eqb, or_right}
 use Rattle.std.proofs.lemmas.List.{drop-append-le}
+use Rattle.std.proofs.Math.Bool.{or-false}
 use Rattle.ulfm_base.specs.declared.rank.WorldRank.{WorldRank}
 use Rattle.ulfm_base.specs.declared.context.Context.{Context}
 use Rattle.ulfm_base.specs.declared.item.Item.{Item}
@@ -13,8 +14,9 @@ use Rattle.ulfm_rank.specs.Facts.{is_stop, is_stopped, is_revoked, revokes}
 use Rattle.ulfm_rank.specs.Owed.{owed_by}
 use Rattle.ulfm_rank.specs.State.{State, IsState, logged, owes, outbox, mark_at}
 use Rattle.ulfm_world.specs.Replay.{out_at, fresh_at, fresh_of}
-use Rattle.ulfm_world.proofs.Gather.{any-push}
-use Rattle.ulfm_world.proofs.Logs.{owes-logged, stopped-push, owed_by_few}
+use Rattle.ulfm_rank.proofs.Gather.{any-push}
+use Rattle.ulfm_rank.proofs.Logs.{owes-logged, stopped-push, owed_by_few}
+use Rattle.ulfm_script.proofs.Polls.{Adds}
 use Rattle.ulfm_world.proofs.Sums.{sum-within, sum-le, sum-falls}
 
 after_stop : (a b : Bool) → length (cond a [] (cond b [] (Gone ∷ []))) ≤ 1
@@ -35,7 +37,7 @@ outbox_more r e d h inside running = elim (cases_Bool (is_stop e)) [
       rw (runs, running) (omega (arith, ap (λ (xs : List Item). length xs) more, length-append (drop (mark_at r d).taken (owes r d)) (owed_by r.ranks r.me d r.log (owes r d) e), owed_by_few r.ranks r.me d r.log (owes r d) e))
 ]
 
-pub out-logged : (n : ℕ) (r : State) (e : Entry) → IsState r → n ≡ r.ranks → is_stopped r.log ≡ false → out_at n (logged r e) ≤ out_at n r + 16
+out-logged : (n : ℕ) (r : State) (e : Entry) → IsState r → n ≡ r.ranks → is_stopped r.log ≡ false → out_at n (logged r e) ≤ out_at n r + 16
 out-logged n r e h size running =
     omega (arith, h.small, size, sum-within n 2 (λ d. 2 * length (outbox (logged r e) d)) (λ d. 2 * length (outbox r d)) (λ d k. outbox_more r e d h (omega (arith, k, size)) running))
 
@@ -47,7 +49,7 @@ fresh_more r e c = rw (any-push (revokes c) r.log e) (one (is_revoked r.log c) (
     one false true = omega arith
     one false false = omega arith
 
-pub fresh-logged : (r : State) (e : Entry) → fresh_of (logged r e) ≤ fresh_of r
+fresh-logged : (r : State) (e : Entry) → fresh_of (logged r e) ≤ fresh_of r
 unfolding fresh_of
 fresh-logged r e = sum-le 63 (fresh_at (logged r e)) (fresh_at r) (λ c k. fresh_more r e c)
 
@@ -63,13 +65,9 @@ out_same : (n : ℕ) (r : State) (e : Entry) → is_stop e ≡ false → ((d : �
 out_same n r e go none =
     sum-le n (λ d. 2 * length (outbox (logged r e) d)) (λ d. 2 * length (outbox r d))
     (λ d k.
-    let stop : is_stopped (r.log ++ e ∷ []) ≡ is_stopped r.log = stopped-push r.log e ∙ ap (λ b. is_stopped r.log || b) go ∙ or_false (is_stopped r.log) in
+    let stop : is_stopped (r.log ++ e ∷ []) ≡ is_stopped r.log = stopped-push r.log e ∙ ap (λ b. is_stopped r.log || b) go ∙ or-false (is_stopped r.log) in
     let same : owes (logged r e) d ≡ owes r d = owes-logged r e d ∙ ap (λ (xs : List Item). owes r d ++ xs) (none d) ∙ append-nil (owes r d) in
     rw (stop, same) (omega arith))
-  where
-    or_false : (b : Bool) → b || false ≡ b
-    or_false true = refl
-    or_false false = refl
 
 took_light : (n : ℕ) (r : State) (source : WorldRank) (item : Item) → ((d : ℕ) → owed_by r.ranks r.me d r.log (owes r d) (Took source item) ≡ []) → out_at n (logged r (Took source item)) + fresh_of (logged r (Took source item)) ≤ out_at n r + fresh_of r
 took_light n r source item none = omega (arith, out_same n r (Took source item) refl none, fresh-logged r (Took source item))
@@ -78,6 +76,13 @@ took_revoke : (b : Bool) (n : ℕ) (r : State) (source : WorldRank) (context : C
 took_revoke true n r source context h size running was = took_light n r source (Revoke context) (λ d. rw was refl)
 took_revoke false n r source context h size running fresh =
     omega (arith, out-logged n r (Took source (Revoke context)) h size running, fresh_falls r (Took source (Revoke context)) context.number context.in_range fresh (eq-eqb context.number context.number refl))
+
+-- an entry of the rank's own adds little
+pub adds_weight : (n : ℕ) (r : State) (stops : Bool) (new : State) → IsState r → n ≡ r.ranks → is_stopped r.log ≡ false → Adds r stops new → out_at n new + fresh_of new ≤ (out_at n r + fresh_of r) + 16
+adds_weight n r stops new h size running (inl same) = let W : State → Type 0 = λ (s : State). out_at n s + fresh_of s ≤ (out_at n r + fresh_of r) + 16 in subst W (sym same.0) (omega arith)
+adds_weight n r stops new h size running (inr one) =
+    let W : State → Type 0 = λ (s : State). out_at n s + fresh_of s ≤ (out_at n r + fresh_of r) + 16 in
+    subst W (sym one.only) (omega (arith, out-logged n r one.entry h size running, fresh-logged r one.entry))
 
 -- an item that is taken adds nothing to what the rank may still send
 pub out-took : (n : ℕ) (r : State) (source : WorldRank) (item : Item) → IsState r → n ≡ r.ranks → is_stopped r.log ≡ false → out_at n (logged r (Took source item)) + fresh_of (logged r (Took source item)) ≤ out_at n r + fresh_of r

@@ -4,4 +4,4 @@ pub mod Rest
 pub mod Safe
 pub mod Replay
 pub mod Fields
-pub mod Reader
+pub mod Each

@@ -1,61 +1,28 @@
 -- What a replay reaches: each rank goes through its script, until nothing is left to do.
-use Rattle.std.specs.Prelude.{◌≡◌, ℕ, zero, suc, Bool, true, false, List, [], ◌++◌, ◌+◌, ◌-◌, ◌*◌, ◌<◌, ◌≤◌, ◌⊎◌, length, map, All, MatchOption, Some, None, slice_get, if◌then◌else◌}
-use Rattle.ulfm_rank.specs.Facts.{is_stopped, is_revoked}
+use Rattle.std.specs.Prelude.{◌≡◌, ℕ, zero, suc, Bool, true, false, List, [], ◌+◌, ◌*◌, ◌<◌, ◌≤◌, ◌⊎◌, length, Some, slice_index_or, if◌then◌else◌}
+use Rattle.ulfm_rank.specs.Facts.{is_revoked}
 use Rattle.ulfm_rank.specs.State.{State, outbox}
 use Rattle.ulfm_script.specs.declared.step.Step.{Step}
-use Rattle.ulfm_script.specs.declared.answer.StepAnswer.{StepAnswer}
-use Rattle.ulfm_script.specs.declared.answer.StepAnswer.TheVariants.{Unfinished}
-use Rattle.ulfm_script.specs.declared.answer.StepReport.{StepReport}
 use Rattle.ulfm_script.specs.Player.{Player}
 use Rattle.ulfm_script.specs.Report.{Report}
-use Rattle.ulfm_script.specs.Job.{Seen, script_at, through_stop, has_stop}
-use Rattle.ulfm_world.specs.World.{World, player_at, rank_at, inbox_at, IsRunning, Reaches, start_world}
-use Rattle.ulfm_world.specs.Rest.{IsAtRest, KnowsStopped, AgreesOnRevoked}
-use Rattle.ulfm_world.specs.Safe.{ProposesEach, ShrinksSafely}
-
--- the step of a report
-abbrev pub step_of : StepReport → Step
-step_of report = report.step
-
--- the steps that have their answers
-abbrev pub steps_done : Player → List Step
-steps_done p = map step_of p.done
-
--- so many polls left a step with this answer open: all that a job grants where it was given up, else fewer
-abbrev pub IsPolled : ℕ → StepAnswer → ℕ → Type 0
-IsPolled turns Unfinished polls = polls ≡ turns
-IsPolled turns _ polls = polls < turns
-
--- a step was given up after its last poll, or answered by one
-abbrev pub IsPatient : ℕ → StepReport → Type 0
-IsPatient turns report = IsPolled turns report.answer report.polls
-
--- a player that goes through this script, with at most so many polls of a step
-pub record FollowsAt (script : List Step) (turns : ℕ) (p : Player) : Type 0 where
-  pub rest : List Step
-  pub split : steps_done p ++ rest ≡ script
-  pub patient : All (IsPatient turns) p.done
-  pub current : MatchOption p.current (p.polls ≡ 0) (λ asked. (slice_get script (length p.done) ≡ Some asked) × (p.polls < turns))
-  pub running : is_stopped p.rank.log ≡ false → has_stop (steps_done p) ≡ false
-  pub stopped : is_stopped p.rank.log ≡ true → (steps_done p ≡ through_stop script) × (p.current ≡ None)
+use Rattle.ulfm_script.specs.Script.{FollowsAt, HasAnswered, left_at}
+use Rattle.ulfm_script.specs.Job.{Seen, script_at}
+use Rattle.ulfm_world.specs.World.{World, player_at, rank_at, inbox_at, IsRunning, Reaches, start_world, reports_in}
+use Rattle.ulfm_laws.specs.Lawful.{KnowAtRest}
+use Rattle.ulfm_world.specs.Rest.{IsAtRest}
+use Rattle.ulfm_world.specs.Safe.{ShrinksSafely}
+use Rattle.ulfm_base.specs.declared.decision.Decision.{Decision}
+use Rattle.ulfm_board.specs.Known.{known_at}
+use Rattle.ulfm_script.specs.Deciding.{Known}
+use Rattle.ulfm_script.specs.Honest.{IsHonest}
 
 -- each player goes through its script
 abbrev pub Follows : Seen → World → Type 0
 Follows j w = (r : ℕ) → r < length w.players → FollowsAt (script_at j r) j.turns (player_at w r)
 
--- a player answered its script up to and with its first stop, or the whole of it, and no step stands open
-pub record HasAnswered (script : List Step) (turns : ℕ) (p : Player) : Type 0 where
-  pub steps : steps_done p ≡ through_stop script
-  pub closed : p.current ≡ None
-  pub patient : All (IsPatient turns) p.done
-
 -- each player answered its script
 abbrev pub IsAnswered : Seen → World → Type 0
 IsAnswered j w = (r : ℕ) → r < length w.players → HasAnswered (script_at j r) j.turns (player_at w r)
-
--- what a player reports where each of its turns had room for an item
-abbrev pub report_of : Player → Report
-report_of p = record { rank = p.rank; steps = p.done; starved = 0 }
 
 -- The reports of a world at rest, to which some schedule of the job's ranks leads, in which each answered its script.
 pub record IsReplayed (j : Seen) (reports : List Report) : Type 0 where
@@ -63,26 +30,21 @@ pub record IsReplayed (j : Seen) (reports : List Report) : Type 0 where
   pub reaches : Reaches (start_world j.ranks j.capacity) world
   pub rests : IsAtRest world
   pub answered : IsAnswered j world
-  pub reported : reports ≡ map report_of world.players
+  pub reported : reports ≡ reports_in world
 
--- At the rest at which these reports were made each running rank knew each stopped one, all agreed on revocations, and
--- each member of a communicator that all running ones shrink had a proposal; shrinks were safe.
+-- What a replay has beside lawful reports, since it ends at rest: at that rest each running rank knows each stopped one, all
+-- agree on revocations, and each member of a communicator that all running ones shrink has a proposal; and since a decision is
+-- seen when it is made: shrinks were safe. A run of threads may end before rest, and shows its decisions in reports alone.
 pub record AreSettled (reports : List Report) : Type 0 where
   pub world : World
-  pub reported : reports ≡ map report_of world.players
-  pub known : KnowsStopped world
-  pub agreed : AgreesOnRevoked world
-  pub proposed : ProposesEach world
+  pub reported : reports ≡ reports_in world
+  pub known : KnowAtRest reports
   pub safe : ShrinksSafely world
 
 -- f 0 + f 1 + .., below n
 abbrev pub sum_below : ℕ → (ℕ → ℕ) → ℕ
 sum_below zero f = 0
 sum_below (suc n) f = sum_below n f + f n
-
--- the polls that are left to a player, each with what it may still send
-abbrev pub left_at : List Step → ℕ → Player → ℕ
-left_at script turns p = 17 * ((turns + 1) * (length script - length p.done) - p.polls)
 
 -- what n outboxes of a rank hold
 abbrev pub out_at : ℕ → State → ℕ
@@ -98,7 +60,7 @@ fresh_of r = sum_below 63 (fresh_at r)
 
 -- what falls with each event: of a player
 abbrev pub weight_of : List Step → ℕ → ℕ → Player → ℕ
-weight_of script turns n p = left_at script turns p + (out_at n p.rank + fresh_of p.rank)
+weight_of script turns n p = 17 * left_at script turns p + (out_at n p.rank + fresh_of p.rank)
 
 -- what falls with each event, of the player r
 abbrev pub weight_at : Seen → World → ℕ → ℕ
@@ -112,12 +74,25 @@ inbox_weight w d = length (inbox_at w d)
 abbrev pub measure : Seen → World → ℕ
 measure j w = sum_below (length w.players) (weight_at j w) + sum_below (length w.players) (inbox_weight w)
 
+-- what is known for the rank r
+abbrev pub known_in : List Known → ℕ → Known
+known_in knows r = slice_index_or knows r []
+
+-- Each player's answers are right so far, where a decision is one that is known for its rank, and held.
+pub record AnswerRightly (w : World) : Type 0 where
+  pub knows : List Known
+  pub many : length knows ≡ length w.players
+  pub sized : (r : ℕ) → r < length w.players → length (known_in knows r) ≡ length w.decided
+  pub held : (r c : ℕ) (d : Decision) → r < length w.players → known_at (known_in knows r) c ≡ Some d → known_at w.decided c ≡ Some d
+  pub honest : (r : ℕ) → r < length w.players → IsHonest (known_in knows r) (player_at w r)
+
 -- from old to new, where something moved or nothing did
 pub record Moves (j : Seen) (old new : World) (moved : Bool) : Type 0 where
   pub reaches : Reaches old new
   pub size : length new.players ≡ length old.players
   pub capacity : new.capacity ≡ old.capacity
   pub follows : Follows j old → Follows j new
+  pub answers : Follows j old → AnswerRightly old → AnswerRightly new
   pub falls : moved ≡ true → Follows j old → measure j new < measure j old
   pub stays : moved ≡ false → new ≡ old
 
@@ -137,3 +112,4 @@ pub record Came (j : Seen) (w : World) : Type 0 where
   pub size : length w.players ≡ j.ranks
   pub capacity : w.capacity ≡ j.capacity
   pub follows : Follows j w
+  pub answers : AnswerRightly w

@@ -1,5 +1,5 @@
 -- Ranks with their inboxes, and what may happen to them next.
-use Rattle.std.specs.Prelude.{◌≡◌, ◌≢◌, ℕ, zero, suc, true, false, List, [], ◌∷◌, ◌++◌, ◌<◌, ◌≤◌, ◌⊎◌, length, if◌then◌else◌, Option, None, is_none, slice_index_or, slice_set, replicate}
+use Rattle.std.specs.Prelude.{◌≡◌, ◌≢◌, ℕ, zero, suc, true, false, List, [], ◌∷◌, ◌++◌, ◌<◌, ◌≤◌, ◌⊎◌, length, map, if◌then◌else◌, Option, None, is_none, slice_index_or, slice_set, replicate}
 use Rattle.ulfm_base.specs.declared.rank.WorldRank.{WorldRank}
 use Rattle.ulfm_base.specs.declared.context.Context.{Context}
 use Rattle.ulfm_base.specs.declared.decision.Decision.{Decision}
@@ -11,6 +11,7 @@ use Rattle.ulfm_rank.specs.State.{State, logged, outbox, Leaves}
 use Rattle.ulfm_script.specs.declared.step.Step.{Step}
 use Rattle.ulfm_script.specs.Player.{Player, start_player, with_rank, IsFree, IsCalled, Left}
 use Rattle.ulfm_script.specs.Deciding.{IsReady, IsDecided}
+use Rattle.ulfm_script.specs.Report.{Report}
 use Rattle.ulfm_world.specs.declared.event.Event.{Event}
 use Rattle.ulfm_world.specs.declared.event.Event.TheVariants.{Call, Push, Take, Decide, Leave}
 use Rattle.ulfm_world.specs.declared.event.Outcome.{Outcome}
@@ -191,3 +192,11 @@ pub record IsReached (w : World) : Type 0 where
   pub capacity : ℕ
   pub few : ranks ≤ 8
   pub schedule : Reaches (start_world ranks capacity) w
+
+-- what a player reports where each of its turns had room for an item
+abbrev pub report_of : Player → Report
+report_of p = record { rank = p.rank; steps = p.done; starved = 0 }
+
+-- what the ranks of a world report
+abbrev pub reports_in : World → List Report
+reports_in w = map report_of w.players

@@ -1,26 +1,28 @@
 //! Laws over every schedule, without threads: what holds of each world that a list of events leads to.
-ghost use Rattle.std.specs.Prelude.{ℕ, ◌≤◌, map};
-ghost use Rattle.ulfm_world.specs.World.{World, start_world, Reaches};
-ghost use Rattle.ulfm_world.specs.Flow.{Flows};
-ghost use Rattle.ulfm_world.specs.Reader.{AllHasCome, ComeAsSent, DoneIsGiven, DonesDiffer, GivesOnce, HasOnePairing, InEachReplay, InEachWorld, IsFaithful, LettersKeepOrder, NoneIsMissed, OverIsTrue, ReceivesKeepOrder};
-ghost use Rattle.ulfm_world.specs.Replay.{report_of};
-ghost use Rattle.ulfm_world.specs.Rest.{IsAtRest, KnowsStopped, AgreesOnRevoked};
-ghost use Rattle.ulfm_world.specs.Safe.{EntersOnce, DecidesSafely, SettlesSafely, AdoptsHeld, StarvesAlone, AdoptsOne, HasOneGroup, ProposesEach};
+ghost use Rattle.std.specs.Prelude.{ℕ, ◌≤◌};
+ghost use Rattle.ulfm_laws.specs.Flow.{Flows};
+ghost use Rattle.ulfm_laws.specs.Reader.{AllHasCome, ComeAsSent, DoneIsGiven, DonesDiffer, GivesOnce, HasOnePairing, IsFaithful, LettersKeepOrder, NoneIsMissed, OverIsTrue, ReceivesKeepOrder};
+ghost use Rattle.ulfm_laws.specs.Rest.{KnowsStopped, AgreesOnRevoked};
+ghost use Rattle.ulfm_laws.specs.Shrinks.{AdoptOne, HasOneGroup, ProposesEach};
+ghost use Rattle.ulfm_world.specs.Each.{InEachReplay, InEachWorld};
+ghost use Rattle.ulfm_world.specs.Rest.{IsAtRest};
+ghost use Rattle.ulfm_world.specs.Safe.{EntersOnce, DecidesSafely, SettlesSafely, AdoptsHeld, StarvesAlone};
+ghost use Rattle.ulfm_world.specs.World.{World, start_world, Reaches, reports_in};
 
 /// Whatever events come, between each pair of ranks nothing is lost, made or overtaken (MPI 4.0, 3.5).
 pub fn flows()
-    ensures { (n capacity : ℕ) (w : World) → n ≤ 8 → Reaches (start_world n capacity) w → Flows w }
+    ensures { (n capacity : ℕ) (w : World) → n ≤ 8 → Reaches (start_world n capacity) w → Flows w.inboxes (reports_in w) }
 {}
 
 /// Whatever events come, at rest each running rank knows each rank that stopped (ULFM, failure notification).
 pub fn known_at_rest()
-    ensures { (n capacity : ℕ) (w : World) → n ≤ 8 → Reaches (start_world n capacity) w → IsAtRest w → KnowsStopped w }
+    ensures { (n capacity : ℕ) (w : World) → n ≤ 8 → Reaches (start_world n capacity) w → IsAtRest w → KnowsStopped (reports_in w) }
 {}
 
 /// Whatever events come, at rest all running ranks agree whether a context is revoked, also where the revoker stopped
 /// half way (ULFM, revocation).
 pub fn agreed_at_rest()
-    ensures { (n capacity : ℕ) (w : World) → n ≤ 8 → Reaches (start_world n capacity) w → IsAtRest w → AgreesOnRevoked w }
+    ensures { (n capacity : ℕ) (w : World) → n ≤ 8 → Reaches (start_world n capacity) w → IsAtRest w → AgreesOnRevoked (reports_in w) }
 {}
 
 /// Whatever events come, on each communicator the letters that came to a rank from another one are a beginning of those
@@ -80,7 +82,7 @@ pub fn no_match_is_missed()
 /// Whatever events come, at rest all has come that one running rank sent to another on a communicator that isn't revoked
 /// there (MPI 4.0, 3.5).
 pub fn all_come_at_rest()
-    ensures worlds { (n capacity : ℕ) (w : World) → n ≤ 8 → Reaches (start_world n capacity) w → IsAtRest w → AllHasCome (map report_of w.players) }
+    ensures worlds { (n capacity : ℕ) (w : World) → n ≤ 8 → Reaches (start_world n capacity) w → IsAtRest w → AllHasCome (reports_in w) }
     ensures replays { InEachReplay AllHasCome }
 {}
 
@@ -120,16 +122,16 @@ pub fn adoption_starves_alone()
 
 /// Whatever events come, decisions that ranks adopted for one context are equal (ULFM, shrink).
 pub fn one_decision()
-    ensures { (n capacity : ℕ) (w : World) → n ≤ 8 → Reaches (start_world n capacity) w → AdoptsOne w }
+    ensures { (n capacity : ℕ) (w : World) → n ≤ 8 → Reaches (start_world n capacity) w → AdoptOne (reports_in w) }
 {}
 
 /// Whatever events come, two ranks that made the communicator of a context have the same group for it (MPI 4.0, 7.4).
 pub fn one_group()
-    ensures { (n capacity : ℕ) (w : World) → n ≤ 8 → Reaches (start_world n capacity) w → HasOneGroup w }
+    ensures { (n capacity : ℕ) (w : World) → n ≤ 8 → Reaches (start_world n capacity) w → HasOneGroup (reports_in w) }
 {}
 
 /// Whatever events come, at rest, where all running members of a communicator entered its shrink, each of them has a
 /// proposal (ULFM, shrink).
 pub fn proposed_at_rest()
-    ensures { (n capacity : ℕ) (w : World) → n ≤ 8 → Reaches (start_world n capacity) w → IsAtRest w → ProposesEach w }
+    ensures { (n capacity : ℕ) (w : World) → n ≤ 8 → Reaches (start_world n capacity) w → IsAtRest w → ProposesEach (reports_in w) }
 {}

@@ -1,8 +1,11 @@
 //! A job from its first round to rest.
 ghost use Rattle.std.specs.Prelude.{◌≡◌, ◌<◌, ◌≤◌, ℕ, List, length, false, true, [], IfOk, OnOk, Some, slice_get};
+ghost use Rattle.ulfm_base.specs.declared.context.Context.{Context};
+ghost use Rattle.ulfm_script.specs.Deciding.{IsReady};
+ghost use Rattle.ulfm_script.specs.Honest.{IsUndecided};
 ghost use Rattle.ulfm_script.specs.Job.{script_at};
 ghost use Rattle.ulfm_world.specs.World.{IsRunning, player_at, inbox_at};
-ghost use Rattle.ulfm_world.specs.Reader.{IsFaithful};
+ghost use Rattle.ulfm_laws.specs.Lawful.{IsLawful};
 ghost use Rattle.ulfm_world.specs.Replay.{Moves, Follows, IsPushStuck, IsStuck, IsReplayed, AreSettled};
 
 use crate::event::{Event, Outcome, Refused};
@@ -23,7 +26,7 @@ use ulfm_script::{Job, RankReport, RunFault, Step};
 #[tactic(auto, using(crate::proofs::Ends::rests))]
 pub fn replay(alloc: Global, job: &Job) -> Result<Vec<RankReport>, RunFault>
     ensures replayed { IfOk result (λ reports. IsReplayed job.now reports.items) }
-    ensures faithful { IfOk result (λ reports. IsFaithful reports.items) }
+    ensures lawful { IfOk result (λ reports. IsLawful job.now reports.items) }
     ensures settled { IfOk result (λ reports. AreSettled reports.items) }
 {
     let mut world = match World::new(alloc, job.ranks(), job.capacity()) {
@@ -160,7 +163,8 @@ fn decide(job: &Job, world: &mut World, r: u8, step: &Step) -> bool
     requires inside { r < length world.old.players }
     requires running { IsRunning world.old r }
     requires follows { Follows job.now world.old }
-    ensures { Moves job.now world.old world.new result }
+    ensures moves { Moves job.now world.old world.new result }
+    ensures undecided { result ≡ false → (comm : Context) → step.now ≡ Step.Shrink comm → ¬ IsReady (player_at world.old r) comm }
 {
     let _ = job;
     let Step::Shrink { comm } = step else {
@@ -180,6 +184,7 @@ fn call(job: &Job, world: &mut World, r: u8, step: &Step) -> Result<(), RunFault
     requires running { IsRunning world.old r }
     requires follows { Follows job.now world.old }
     requires next { slice_get (script_at job.now r) (length (player_at world.old r).done) ≡ Some step.now }
+    requires undecided { IsUndecided (player_at world.old r) }
     ensures { OnOk result (Moves job.now world.old world.new true) }
 {
     let turns = job.turns();

@@ -31,7 +31,8 @@ pub struct Laid<E, H> {
 
 impl<E: Ends, H: Habit> Ends for Laid<E, H> {
     ghost use Rattle.std.specs.Prelude.{◌≡◌, map, ℕ};
-    ghost use Rattle.ulfm_carrier.specs.Family.{at, Keeps, Settled};
+    ghost use Rattle.ulfm_carrier.specs.Family.{Keeps, Settled};
+    ghost use Rattle.ulfm_base.specs.Lists.{at};
 
     type Name = E::Name;
 

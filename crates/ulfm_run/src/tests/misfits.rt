@@ -1,7 +1,8 @@
 //! Ends and deciders that don't fit a job.
 ghost use Rattle.std.specs.Prelude.{◌≡◌, map, vec_len, IfOk};
 ghost use Rattle.ulfm_carrier.specs.declared.lane_ends.LaneEnds.{LaneEnds as Lanes};
-ghost use Rattle.ulfm_carrier.specs.Family.{InPlace, AllFresh};
+ghost use Rattle.ulfm_carrier.specs.Family.{AllFresh};
+ghost use Rattle.ulfm_base.specs.Lists.{InPlace};
 ghost use Rattle.ulfm_carrier.specs.Lanes.{lane_name, lane_pushed, lane_taken, IsReady, OneCall};
 
 use crate::job::run_job;

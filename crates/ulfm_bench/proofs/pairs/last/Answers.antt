@@ -1,4 +1,4 @@
-use Rattle.ulfm_bench.proofs.Last.{of_others}
+use Rattle.ulfm_carrier.proofs.Last.{of_others}
 use Rattle.ulfm_bench.proofs.pairs.last.Goals as goal
 
 pub returns-clause-others : goal.returns-clause-others

@@ -3,7 +3,9 @@ use Rattle.std.specs.declared.alloc.Global.{Global}
 use Rattle.std.specs.declared.vec.Vec.{Vec}
 use Rattle.ulfm_base.specs.declared.rank.WorldRank.{WorldRank}
 use Rattle.ulfm_base.specs.declared.item.Item.{Item}
-use Rattle.ulfm_carrier.specs.Family.{at, items_from, Keeps}
+use Rattle.ulfm_carrier.specs.Family.{Keeps}
+use Rattle.ulfm_base.specs.Items.{items_from}
+use Rattle.ulfm_base.specs.Lists.{at}
 use Rattle.ulfm_carrier.specs.Shared.{shared_name, shared_pushed, shared_taken, AreOpenFrom}
 use Rattle.ulfm_carrier.proofs.Settling.{Flows}
 use Rattle.ulfm_carrier.proofs.emptying.gather_shared.Given as goal

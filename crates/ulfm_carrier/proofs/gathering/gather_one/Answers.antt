@@ -3,7 +3,7 @@ use Rattle.std.proofs.Math.Seq.{map-set_same}
 use Rattle.std.specs.Vec.{with_item}
 use Rattle.ulfm_carrier.specs.declared.lane_ends.LaneEnds.{LaneEnds}
 use Rattle.ulfm_carrier.specs.Lanes.{inlet_name, inlet_capacity, taken_by, lane_pushed, lane_taken, IsOpen}
-use Rattle.ulfm_carrier.specs.Family.{items_from}
+use Rattle.ulfm_base.specs.Items.{items_from}
 use Rattle.std.proofs.lemmas.Option.{slice_get_within}
 use Rattle.ulfm_carrier.proofs.Places.{at_read, view_or, each_past}
 use Rattle.ulfm_carrier.proofs.Rings.{inlet_names}

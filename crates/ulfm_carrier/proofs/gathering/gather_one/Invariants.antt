@@ -1,6 +1,7 @@
 use Rattle.std.proofs.Common.{◌≡◌, ◌<◌, ◌≤◌, ◌+◌, ◌++◌, ℕ, [], map, sum, drop, get_or, vec_len, vec_capacity}
 use Rattle.ulfm_carrier.specs.declared.inlet.Inlet.{Inlet}
-use Rattle.ulfm_carrier.specs.Family.{at, items_from}
+use Rattle.ulfm_base.specs.Items.{items_from}
+use Rattle.ulfm_base.specs.Lists.{at}
 use Rattle.ulfm_carrier.specs.Lanes.{inlet_name, inlet_capacity, taken_by, IsOpen}
 use Rattle.ulfm_carrier.proofs.Views.{view, pushed_at}
 use Rattle.ulfm_carrier.proofs.gathering.gather_one.Given as goal

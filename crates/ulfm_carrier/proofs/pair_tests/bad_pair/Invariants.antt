@@ -1,5 +1,5 @@
 use Rattle.std.proofs.Common.{◌≡◌, ℕ, vec_len}
-use Rattle.ulfm_carrier.specs.Family.{at}
+use Rattle.ulfm_base.specs.Lists.{at}
 use Rattle.ulfm_carrier.proofs.pair_tests.bad_pair.Given as goal
 
 abbrev pub invariant-loop-pair : goal.invariant-loop-pair

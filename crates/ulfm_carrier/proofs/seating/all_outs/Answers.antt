@@ -2,7 +2,7 @@ use Rattle.std.proofs.Common.{◌≡◌, ◌+◌, ℕ, length, ap, sym, ◌∙�
 use Rattle.std.proofs.lemmas.List.{length_push}
 use Rattle.std.specs.declared.alloc.Global.{Global}
 use Rattle.std.specs.declared.vec.Vec.{Vec}
-use Rattle.ulfm_carrier.specs.Family.{at}
+use Rattle.ulfm_base.specs.Lists.{at}
 use Rattle.ulfm_carrier.specs.Inbox.{InboxPass}
 use Rattle.ulfm_carrier.specs.Seating.{AreInlets, AreOuts, AreRows}
 use Rattle.ulfm_carrier.proofs.Gathered.{each_push, none_at}

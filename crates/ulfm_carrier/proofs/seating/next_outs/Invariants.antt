@@ -1,7 +1,7 @@
 use Rattle.std.proofs.Common.{◌≡◌, ◌≤◌, ◌<◌, ℕ, length}
 use Rattle.std.specs.Prelude.{slice_get}
 use Rattle.crossbeam_queue.specs.Passes.{view, IsSamePass}
-use Rattle.ulfm_carrier.specs.Family.{at}
+use Rattle.ulfm_base.specs.Lists.{at}
 use Rattle.ulfm_carrier.specs.Inbox.{InboxPass, one_more}
 use Rattle.ulfm_carrier.specs.Seating.{AreNextOuts}
 use Rattle.ulfm_carrier.proofs.seating.next_outs.Given as goal

@@ -1,5 +1,5 @@
 use Rattle.std.proofs.Common.{◌<◌, ℕ, length, sym, subst, arith}
-use Rattle.ulfm_carrier.specs.Family.{ComesFrom}
+use Rattle.ulfm_base.specs.Items.{ComesFrom}
 use Rattle.ulfm_carrier.proofs.Used.{family_kept, ready_kept, number_at, outs_at}
 use Rattle.ulfm_carrier.proofs.shared_tests.push.Goals as goal
 

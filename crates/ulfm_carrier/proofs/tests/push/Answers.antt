@@ -1,5 +1,5 @@
 use Rattle.std.proofs.Common.{◌<◌, ℕ, length, sym, subst, arith}
-use Rattle.ulfm_carrier.specs.Family.{ComesFrom}
+use Rattle.ulfm_base.specs.Items.{ComesFrom}
 use Rattle.ulfm_carrier.proofs.Together.{family_used, ready_used, number_here, outs_here}
 use Rattle.ulfm_carrier.proofs.tests.push.Goals as goal
 

@@ -2,8 +2,8 @@ use Rattle.std.proofs.Common.{◌≡◌, ℕ, take}
 use Rattle.std.specs.Prelude.{◌||◌}
 use Rattle.std.specs.List.{list_any}
 use Rattle.ulfm_base.specs.RankSet.{has}
-use Rattle.ulfm_rank.specs.Shrink.{in_set}
+use Rattle.ulfm_base.specs.Decision.{in_entry}
 use Rattle.ulfm_rank.proofs.proposal.failures_in.Given as goal
 
 abbrev pub invariant-loop-entry : goal.invariant-loop-entry
-invariant-loop-entry l = (r : ℕ) → has l.failures r ≡ (has l.fn.known r || list_any (λ entry. in_set entry r) (take l.entry-index l.listed))
+invariant-loop-entry l = (r : ℕ) → has l.failures r ≡ (has l.fn.known r || list_any (λ entry. in_entry entry r) (take l.entry-index l.listed))

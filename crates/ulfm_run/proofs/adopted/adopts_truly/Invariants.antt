@@ -1,7 +1,7 @@
 use Rattle.std.proofs.Common.{◌<◌, ℕ}
-use Rattle.ulfm_carrier.specs.Family.{at}
+use Rattle.ulfm_base.specs.Lists.{at}
 use Rattle.ulfm_rank.specs.declared.entry.Entry.{Entry}
-use Rattle.ulfm_run.specs.Decided.{AdoptsTruly}
+use Rattle.ulfm_laws.specs.Shrinks.{AdoptsTruly}
 use Rattle.ulfm_run.proofs.adopted.adopts_truly.Given as goal
 
 abbrev pub invariant-loop-entry : goal.invariant-loop-entry

@@ -2,7 +2,7 @@ use Rattle.std.proofs.Common.{ap, sym, ◌∙◌, subst, map, List}
 use Rattle.std.specs.Prelude.{slice_get}
 use Rattle.ulfm_carrier.specs.Family.{Keeps, Settled}
 use Rattle.ulfm_run.specs.Compared.{NameOneBoard}
-use Rattle.ulfm_run.specs.Decided.{AreTrue}
+use Rattle.ulfm_laws.specs.Shrinks.{AreTrue}
 use Rattle.ulfm_run.proofs.job.report_of.Goals as goal
 
 pub gather-residue-requires-clause-family : goal.gather-residue-requires-clause-family

@@ -1,14 +1,15 @@
 use Rattle.std.proofs.Common.{◌≡◌, ℕ, ap, sym, subst, ◌∙◌}
-use Rattle.ulfm_carrier.specs.Family.{ComesFrom}
+use Rattle.ulfm_base.specs.Items.{ComesFrom}
 use Rattle.ulfm_rank.specs.State.{State, returned}
 use Rattle.ulfm_script.specs.Player.{Player, with_rank}
-use Rattle.ulfm_run.proofs.Joining.{front_comes, moves-pushed, moves-returned}
+use Rattle.ulfm_run.proofs.Joining.{moves-pushed, moves-returned}
+use Rattle.ulfm_rank.proofs.Signed.{front_signed}
 use Rattle.ulfm_run.proofs.moving.push_one.Goals as goal
 
 pub push-requires-clause-item : goal.push-requires-clause-item
 push-requires-clause-item g c =
     let P : ℕ → Type 0 = λ m. ComesFrom m c.in-Some.item in
-    subst P (sym c.requires.joined.placed) (front_comes c.args.player.now.player.rank c.args.dest c.in-Some.item _ c.requires.joined.signed c.in-Some.ensures.leaves.front)
+    subst P (sym c.requires.joined.placed) (front_signed c.args.player.now.player.rank c.args.dest c.in-Some.item _ c.requires.joined.signed c.in-Some.ensures.leaves.front)
 
 pub returns-in-Ok-clause-moves : goal.returns-in-Ok-clause-moves
 returns-in-Ok-clause-moves g c =

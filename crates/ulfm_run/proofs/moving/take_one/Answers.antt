@@ -2,11 +2,12 @@ use Rattle.std.proofs.Common.{◌∙◌, subst, ◌≡◌, arith}
 use Rattle.ulfm_rank.specs.State.{logged}
 use Rattle.ulfm_rank.specs.declared.entry.Entry.TheVariants.{Took}
 use Rattle.ulfm_script.specs.Player.{Player, with_rank}
-use Rattle.ulfm_run.proofs.Joining.{popped_from, moves-taken, moves-returned}
+use Rattle.ulfm_run.proofs.Joining.{moves-taken, moves-returned}
+use Rattle.ulfm_rank.proofs.Signed.{from_signed}
 use Rattle.ulfm_run.proofs.moving.take_one.Goals as goal
 
 pub take-requires-clause-from : goal.take-requires-clause-from
-take-requires-clause-from g c = popped_from c.in-Some.source c.in-Some.item c.in-Some.ensures.sender.1
+take-requires-clause-from g c = from_signed c.in-Some.source c.in-Some.item c.in-Some.ensures.sender.1
 
 pub returns-in-Some : goal.returns-in-Some
 returns-in-Some g c =

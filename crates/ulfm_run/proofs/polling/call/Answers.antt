@@ -1,9 +1,10 @@
 use Rattle.std.proofs.Common.{arith, inl, inr, ◌∙◌, length}
 use Rattle.std.proofs.lemmas.Option.{slice_get_within}
 use Rattle.ulfm_script.specs.Job.{script_at}
-use Rattle.ulfm_run.proofs.Calling.{honest-called}
-use Rattle.ulfm_run.proofs.Honestly.{honest-left}
-use Rattle.ulfm_run.proofs.Polled.{next-free, polls-call, polls-leave, answered_none}
+use Rattle.ulfm_script.proofs.Calling.{honest-called}
+use Rattle.ulfm_script.proofs.Honestly.{honest-left}
+use Rattle.ulfm_script.proofs.Progress.{next-free}
+use Rattle.ulfm_run.proofs.Polled.{polls-call, polls-leave, answered_none}
 use Rattle.ulfm_run.proofs.polling.call.Goals as goal
 
 pub call-requires-clause-free : goal.call-requires-clause-free

@@ -1,4 +1,4 @@
-use Rattle.ulfm_run.proofs.Adopting.{honest-decided}
+use Rattle.ulfm_script.proofs.Adopted.{honest-decided}
 use Rattle.ulfm_run.proofs.Polled.{polls-decide}
 use Rattle.ulfm_run.proofs.polling.decide.Goals as goal
 

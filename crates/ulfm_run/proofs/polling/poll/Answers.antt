@@ -3,7 +3,7 @@ use Rattle.ulfm_rank.specs.Facts.{is_stopped}
 use Rattle.ulfm_rank.specs.State.{IsState}
 use Rattle.ulfm_script.specs.Job.{script_at}
 use Rattle.ulfm_script.specs.Player.{Player}
-use Rattle.ulfm_run.specs.Script.{FollowsAt}
+use Rattle.ulfm_script.specs.Script.{FollowsAt}
 use Rattle.ulfm_run.proofs.Polled.{polls-after}
 use Rattle.ulfm_run.proofs.polling.poll.Goals as goal
 

@@ -1,8 +1,10 @@
 use Rattle.std.proofs.Common.{◌<◌, ℕ}
-use Rattle.ulfm_carrier.specs.Family.{at}
+use Rattle.ulfm_base.specs.Lists.{at}
 use Rattle.ulfm_script.specs.Report.{Report}
-use Rattle.ulfm_run.specs.Rest.{IsRunning, IsServed}
+use Rattle.ulfm_run.specs.Flow.{contents}
+use Rattle.ulfm_laws.specs.Rest.{IsServed}
+use Rattle.ulfm_laws.specs.Reports.{IsRunning}
 use Rattle.ulfm_run.proofs.rest.at_rest.Given as goal
 
 abbrev pub invariant-loop-d : goal.invariant-loop-d
-invariant-loop-d g l = (k : ℕ) (told : Report) → k < l.d → at l.report.ranks.items k told → IsRunning told → IsServed l.report.ranks.items l.report.residue.inboxes.items k
+invariant-loop-d g l = (k : ℕ) (told : Report) → k < l.d → at l.report.ranks.items k told → IsRunning told → IsServed (contents l.report.residue.inboxes.items) l.report.ranks.items k

@@ -1,12 +1,12 @@
-use Rattle.std.proofs.Common.{◌<◌, length, refl, subst, arith, List}
+use Rattle.std.proofs.Common.{◌<◌, ◌≤◌, length, refl, subst, arith, List}
 use Rattle.std.specs.declared.alloc.Global.{Global}
 use Rattle.std.specs.declared.vec.Vec.{Vec}
 use Rattle.std.proofs.lemmas.Bool.Decides.{nat_tests}
-use Rattle.std.proofs.lemmas.Option.{slice_get_read, slice_get_within}
+use Rattle.std.proofs.lemmas.Option.{slice_get_read}
 use Rattle.ulfm_base.specs.declared.rank.WorldRank.{WorldRank}
 use Rattle.ulfm_base.specs.declared.item.Item.{Item}
-use Rattle.ulfm_carrier.specs.Family.{at}
-use Rattle.ulfm_run.proofs.Served.{inbox_at}
+use Rattle.ulfm_base.specs.Lists.{at}
+use Rattle.ulfm_run.proofs.Served.{inbox_at, no_inbox}
 use Rattle.ulfm_run.proofs.rest.is_inbox_empty.Goals as goal
 
 pub returns-in-Some : goal.returns-in-Some
@@ -17,9 +17,6 @@ returns-in-Some c =
     inbox_at c.args.residue.now.inboxes.items c.args.d c.in-Some.inbox.now c.is_empty.result here c.is_empty.ensures
 
 pub returns-in-None : goal.returns-in-None
-returns-in-None c = (
-  λ yes inbox here.
-      let inside = slice_get_within c.args.residue.now.inboxes.items c.args.d inbox here in
-      absurd (grind (arith, nat_tests, c.in-None.ensures.lookup.0, c.deref.ensures.len, inside)),
-  λ all. refl,
-)
+returns-in-None c =
+    let far : length c.args.residue.now.inboxes.items ≤ c.args.d = grind (arith, nat_tests, c.in-None.ensures.lookup.0, c.deref.ensures.len) in
+    (λ yes. no_inbox c.args.residue.now.inboxes.items c.args.d far, λ none. refl)

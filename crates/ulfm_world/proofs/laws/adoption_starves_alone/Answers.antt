@@ -1,4 +1,4 @@
-use Rattle.ulfm_world.proofs.FlowFrom.{world-reached}
+use Rattle.ulfm_world.proofs.Read.{world-reached}
 use Rattle.ulfm_world.proofs.Safe.{settled-reached}
 use Rattle.ulfm_world.proofs.Decided.{starves-alone}
 use Rattle.ulfm_world.proofs.laws.adoption_starves_alone.Goals as goal

@@ -1,6 +1,7 @@
-use Rattle.ulfm_world.proofs.FlowFrom.{world-reached}
-use Rattle.ulfm_world.proofs.AtRest.{agrees-revoked}
+use Rattle.ulfm_laws.proofs.AtRest.{agrees-revoked}
+use Rattle.ulfm_world.specs.World.{reports_in}
+use Rattle.ulfm_world.proofs.Read.{world-reached, flowing-world, rest-world}
 use Rattle.ulfm_world.proofs.laws.agreed_at_rest.Goals as goal
 
 pub returns : goal.returns
-returns c = λ n capacity w small h rest. agrees-revoked w (world-reached n capacity w small h) rest
+returns c = λ n capacity w small h rest. agrees-revoked w.inboxes (reports_in w) (flowing-world w (world-reached n capacity w small h)) (rest-world w rest)

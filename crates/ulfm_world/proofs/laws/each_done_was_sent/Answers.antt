@@ -1,7 +1,7 @@
 use Rattle.std.proofs.Common.{List}
 use Rattle.ulfm_script.specs.Report.{Report}
-use Rattle.ulfm_world.specs.Reader.{DoneIsGiven}
-use Rattle.ulfm_world.proofs.Given.{done_given}
+use Rattle.ulfm_laws.specs.Reader.{DoneIsGiven}
+use Rattle.ulfm_laws.proofs.Given.{done_given}
 use Rattle.ulfm_world.proofs.Reported.{in_world, in_replay}
 use Rattle.ulfm_world.proofs.laws.each_done_was_sent.Goals as goal
 

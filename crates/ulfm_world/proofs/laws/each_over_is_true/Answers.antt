@@ -1,7 +1,7 @@
 use Rattle.std.proofs.Common.{List}
 use Rattle.ulfm_script.specs.Report.{Report}
-use Rattle.ulfm_world.specs.Reader.{OverIsTrue}
-use Rattle.ulfm_world.proofs.Given.{over_true}
+use Rattle.ulfm_laws.specs.Reader.{OverIsTrue}
+use Rattle.ulfm_laws.proofs.Given.{over_true}
 use Rattle.ulfm_world.proofs.Reported.{in_world, in_replay}
 use Rattle.ulfm_world.proofs.laws.each_over_is_true.Goals as goal
 

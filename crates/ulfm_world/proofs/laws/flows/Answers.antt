@@ -1,4 +1,4 @@
-use Rattle.ulfm_world.proofs.FlowFrom.{flows-world, world-reached}
+use Rattle.ulfm_world.proofs.Read.{world-reached, flows-world}
 use Rattle.ulfm_world.proofs.laws.flows.Goals as goal
 
 pub returns : goal.returns

@@ -1,7 +1,7 @@
 use Rattle.std.proofs.Common.{List}
 use Rattle.ulfm_script.specs.Report.{Report}
-use Rattle.ulfm_world.specs.Reader.{GivesOnce, DonesDiffer}
-use Rattle.ulfm_world.proofs.Given.{gives_once, dones_differ}
+use Rattle.ulfm_laws.specs.Reader.{GivesOnce, DonesDiffer}
+use Rattle.ulfm_laws.proofs.Given.{gives_once, dones_differ}
 use Rattle.ulfm_world.proofs.Reported.{in_world, in_replay}
 use Rattle.ulfm_world.proofs.laws.letters_are_given_once.Goals as goal
 

@@ -1,7 +1,7 @@
 use Rattle.std.proofs.Common.{List}
 use Rattle.ulfm_script.specs.Report.{Report}
-use Rattle.ulfm_world.specs.Reader.{LettersKeepOrder}
-use Rattle.ulfm_world.proofs.Order.{letters_keep_order}
+use Rattle.ulfm_laws.specs.Reader.{LettersKeepOrder}
+use Rattle.ulfm_laws.proofs.Order.{letters_keep_order}
 use Rattle.ulfm_world.proofs.Reported.{in_world, in_replay}
 use Rattle.ulfm_world.proofs.laws.letters_keep_order.Goals as goal
 

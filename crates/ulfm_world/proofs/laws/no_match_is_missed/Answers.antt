@@ -1,7 +1,7 @@
 use Rattle.std.proofs.Common.{List}
 use Rattle.ulfm_script.specs.Report.{Report}
-use Rattle.ulfm_world.specs.Reader.{NoneIsMissed}
-use Rattle.ulfm_world.proofs.Missed.{none_missed}
+use Rattle.ulfm_laws.specs.Reader.{NoneIsMissed}
+use Rattle.ulfm_laws.proofs.Missed.{none_missed}
 use Rattle.ulfm_world.proofs.Reported.{in_world, in_replay}
 use Rattle.ulfm_world.proofs.laws.no_match_is_missed.Goals as goal
 

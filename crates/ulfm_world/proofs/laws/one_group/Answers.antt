@@ -1,5 +1,6 @@
-use Rattle.ulfm_world.proofs.FlowFrom.{world-reached}
-use Rattle.ulfm_world.proofs.Safe.{settled-reached, has-one_group}
+use Rattle.ulfm_world.proofs.Read.{world-reached}
+use Rattle.ulfm_world.proofs.Safe.{settled-reached}
+use Rattle.ulfm_world.proofs.Shrunk.{has-one_group}
 use Rattle.ulfm_world.proofs.laws.one_group.Goals as goal
 
 pub returns : goal.returns

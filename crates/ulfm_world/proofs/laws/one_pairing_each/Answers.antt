@@ -1,7 +1,7 @@
 use Rattle.std.proofs.Common.{List}
 use Rattle.ulfm_script.specs.Report.{Report}
-use Rattle.ulfm_world.specs.Reader.{HasOnePairing}
-use Rattle.ulfm_world.proofs.Missed.{one_each}
+use Rattle.ulfm_laws.specs.Reader.{HasOnePairing}
+use Rattle.ulfm_laws.proofs.Missed.{one_each}
 use Rattle.ulfm_world.proofs.Reported.{in_world, in_replay}
 use Rattle.ulfm_world.proofs.laws.one_pairing_each.Goals as goal
 

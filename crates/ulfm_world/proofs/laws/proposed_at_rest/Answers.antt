@@ -1,6 +1,6 @@
-use Rattle.ulfm_world.proofs.FlowFrom.{world-reached}
+use Rattle.ulfm_world.proofs.Read.{world-reached}
 use Rattle.ulfm_world.proofs.Safe.{settled-reached}
-use Rattle.ulfm_world.proofs.Proposing.{proposes-each}
+use Rattle.ulfm_world.proofs.Shrunk.{proposes-each}
 use Rattle.ulfm_world.proofs.laws.proposed_at_rest.Goals as goal
 
 pub returns : goal.returns

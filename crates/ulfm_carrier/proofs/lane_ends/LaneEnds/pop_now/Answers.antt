@@ -1,6 +1,6 @@
 use Rattle.std.proofs.Common.{◌≡◌, ◌≢◌, ◌<◌, ◌+◌, ◌%◌, ◌++◌, ◌∷◌, [], get_or, map, set, length, vec_len, refl, ap, sym, ◌∙◌, arith, subst}
 use Rattle.std.proofs.lemmas.Nat.{mod_below}
-use Rattle.ulfm_carrier.specs.Family.{ComesFrom}
+use Rattle.ulfm_base.specs.Items.{ComesFrom}
 use Rattle.ulfm_carrier.specs.Lanes.{taken_by, seen_in}
 use Rattle.ulfm_carrier.proofs.Places.{at_read, view_other}
 use Rattle.ulfm_carrier.proofs.Rings.{taken_from, taken_more}

@@ -11,7 +11,7 @@ use Rattle.ulfm_rank.specs.Communicators.{members_of}
 use Rattle.ulfm_rank.specs.State.{State, View}
 use Rattle.ulfm_rank.proofs.Entries.{shrinks-entered, shrinkable}
 use Rattle.ulfm_rank.proofs.Following.{follows_entered}
-use Rattle.ulfm_rank.proofs.Groups.{members_found}
+use Rattle.ulfm_rank.proofs.Grouped.{members_found}
 use Rattle.ulfm_rank.proofs.Held.{marks-grown}
 use Rattle.ulfm_rank.proofs.Known.{knows_gone}
 use Rattle.ulfm_rank.proofs.Seen.{stop_places_few, state_logged}

@@ -4,7 +4,6 @@ use Rattle.std.specs.Map.{lookup}
 use Rattle.std.specs.Option.{is_some}
 use Rattle.indexmap.specs.IndexMap.{get, index_map_len}
 use Rattle.ulfm_base.specs.declared.context.Context.{Context}
-use Rattle.ulfm_base.specs.declared.error.CallError.TheVariants.{Stopped, NoComm, Revoked, BadRank}
 use Rattle.ulfm_base.specs.declared.pattern.Pattern.{Pattern}
 use Rattle.ulfm_match.specs.History.{number}
 use Rattle.ulfm_rank.specs.declared.entry.Entry.{Entry}
@@ -12,8 +11,8 @@ use Rattle.ulfm_rank.specs.declared.entry.Entry.TheVariants.{Posted}
 use Rattle.ulfm_rank.specs.declared.outcome.Request.{Request}
 use Rattle.ulfm_rank.specs.Answer.{IsRequest}
 use Rattle.ulfm_rank.specs.Calls.{IsReceive}
-use Rattle.ulfm_rank.specs.Checks.{lacks, is_outside_if_named, receive_checks, Passes}
-use Rattle.ulfm_rank.specs.Facts.{is_revoked, is_stopped}
+use Rattle.ulfm_rank.specs.Checks.{receive_checks, Passes}
+use Rattle.ulfm_rank.specs.Facts.{is_revoked}
 use Rattle.ulfm_rank.specs.History.{history_of}
 use Rattle.ulfm_rank.specs.Inside.{Follows, state_of}
 use Rattle.ulfm_rank.specs.Requests.{Adds}
@@ -21,8 +20,9 @@ use Rattle.ulfm_rank.specs.State.{View, State}
 use Rattle.ulfm_rank.specs.Table.{IsOfGroup}
 use Rattle.ulfm_rank.proofs.Entries.{shrinks-same, shrinks-logged}
 use Rattle.ulfm_rank.proofs.InStep.{count_small, posted_request, adds_itself}
-use Rattle.ulfm_rank.proofs.Refusals.{third_passes}
-use Rattle.ulfm_rank.proofs.Whole.{at_most_one, follows_same, follows_posted, one_place, state_grown}
+use Rattle.ulfm_rank.proofs.Refusals.{all_pass}
+use Rattle.ulfm_rank.proofs.Whole.{at_most_one, follows_same, follows_posted, state_grown}
+use Rattle.ulfm_rank.proofs.Seen.{stop_places_few}
 use Rattle.ulfm_rank.proofs.rank.Rank.irecv.Goals as goal
 use Rattle.ulfm_rank.proofs.rank.Rank.irecv.Goals.{After-push_reserved}
 
@@ -82,7 +82,7 @@ module _ (c : After-push_reserved) where
       let passes : Passes (receive_checks s c.args.comm.context.number c.args.source) = subst (λ (v : View). Passes (receive_checks v.state c.args.comm.context.number c.args.source)) (sym c.self.view_is) c.in_ok-pattern.ensures.accepted in
       let x = c.args.comm.context.number in
       ap (λ (d : Context). is_revoked c.self.inside.log.items d.number) receive.context
-      ∙ third_passes (is_stopped s.log) (lacks s x) (is_revoked s.log x) Stopped NoComm Revoked ((is_outside_if_named s x c.args.source, BadRank) ∷ []) passes
+      ∙ (all_pass (receive_checks s x c.args.source) passes).1.1.0
 
   adds : Adds c.prepare.new.self.count request (get nat_eq c.reserve-2.new.self) (get nat_eq c.insert.new.self)
   adds = subst (λ (k : ℕ). Adds k request (get nat_eq c.reserve-2.new.self) (get nat_eq c.insert.new.self)) c.admit-outcome.ensures.number c.in-Ok.ensures.updates.0
@@ -106,7 +106,7 @@ invariant_of-self-2 c =
       places =
           let same : index_map_len c.reserve-2.new.self ≡ index_map_len a.requests = ap (λ (es : List (ℕ × Request)). length es) c.reserve-2.ensures.entries in
           let one = at_most_one (is_some c.in-Ok.field-0) in
-          let stop = one_place a.stopped in
+          let stop = stop_places_few a.stopped in
           omega (arith, c.in_ok-reserve.ensures.ok, c.push_reserved.ensures.len, c.push_reserved.ensures.capacity, c.in-Ok.ensures.len, one, stop, c.len-places.ensures.len, same, c.reserve.ensures.len);
     }
 

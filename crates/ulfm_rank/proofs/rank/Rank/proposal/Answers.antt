@@ -6,7 +6,7 @@ use Rattle.ulfm_rank.specs.Outboxes.{Knows}
 use Rattle.ulfm_rank.specs.Shrink.{has_entered}
 use Rattle.ulfm_rank.specs.State.{State, View}
 use Rattle.ulfm_rank.proofs.Entries.{has_entries}
-use Rattle.ulfm_rank.proofs.Groups.{members_found}
+use Rattle.ulfm_rank.proofs.Grouped.{members_found}
 use Rattle.ulfm_rank.proofs.Known.{knows_gone}
 use Rattle.ulfm_rank.proofs.rank.Rank.proposal.Goals as goal
 

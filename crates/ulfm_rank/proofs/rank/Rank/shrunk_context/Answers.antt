@@ -4,7 +4,7 @@ use Rattle.ulfm_rank.specs.Shrink.{is_foreign}
 use Rattle.ulfm_rank.specs.State.{State}
 use Rattle.ulfm_rank.proofs.Adoptable.{adoptable}
 use Rattle.ulfm_rank.proofs.Foreign.{about_own}
-use Rattle.ulfm_rank.proofs.Groups.{members_found}
+use Rattle.ulfm_rank.proofs.Grouped.{members_found}
 use Rattle.ulfm_rank.proofs.rank.Rank.shrunk_context.Goals as goal
 
 pub returns-then-is_foreign-clause-refused : goal.returns-then-is_foreign-clause-refused

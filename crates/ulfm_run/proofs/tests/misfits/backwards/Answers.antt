@@ -1,6 +1,7 @@
 use Rattle.std.proofs.Common.{arith, sym, subst, List, vec_len}
 use Rattle.ulfm_carrier.specs.declared.lane_ends.LaneEnds.{LaneEnds}
-use Rattle.ulfm_carrier.specs.Family.{InPlace, AllFresh}
+use Rattle.ulfm_carrier.specs.Family.{AllFresh}
+use Rattle.ulfm_base.specs.Lists.{InPlace}
 use Rattle.ulfm_carrier.specs.Lanes.{lane_pushed, lane_taken, IsReady}
 use Rattle.ulfm_run.proofs.Mapped.{swapped_apart, swapped_fresh}
 use Rattle.ulfm_run.proofs.tests.misfits.backwards.Goals as goal

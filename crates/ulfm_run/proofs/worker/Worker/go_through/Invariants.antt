@@ -1,8 +1,8 @@
 use Rattle.std.proofs.Common.{◌≡◌}
 use Rattle.ulfm_script.specs.Job.{script_at}
-use Rattle.ulfm_run.specs.Honest.{IsHonest}
+use Rattle.ulfm_script.specs.Honest.{IsHonest}
 use Rattle.ulfm_run.specs.Joined.{IsAtWork}
-use Rattle.ulfm_run.specs.Script.{left_at}
+use Rattle.ulfm_script.specs.Script.{left_at}
 use Rattle.ulfm_run.proofs.worker.Worker.go_through.Given as goal
 
 abbrev pub invariant-loop : goal.invariant-loop

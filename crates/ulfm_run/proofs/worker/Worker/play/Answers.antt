@@ -1,5 +1,5 @@
 use Rattle.std.proofs.Common.{sym, subst}
-use Rattle.ulfm_run.specs.Answered.{HasAnswers}
+use Rattle.ulfm_script.specs.Answered.{HasAnswers}
 use Rattle.ulfm_run.proofs.Working.{played, told}
 use Rattle.ulfm_run.proofs.worker.Worker.play.Goals as goal
 

@@ -1,5 +1,5 @@
 use Rattle.std.proofs.Common.{sym, subst}
-use Rattle.ulfm_run.specs.Honest.{IsHonest}
+use Rattle.ulfm_script.specs.Honest.{IsHonest}
 use Rattle.ulfm_script.specs.Job.{script_at}
 use Rattle.ulfm_run.proofs.Working.{has-answered, at-work-moved, at-work-polled, honest-went}
 use Rattle.ulfm_run.proofs.worker.Worker.turn.Goals as goal

@@ -2,7 +2,7 @@ use Rattle.std.proofs.Common.{arith, ap, ◌∙◌, sym, ◌≡◌, length, map,
 use Rattle.std.specs.Prelude.{slice_get}
 use Rattle.std.proofs.lemmas.List.{length-map}
 use Rattle.ulfm_run.specs.declared.tests.laid.Laid.{Laid}
-use Rattle.ulfm_run.proofs.Handed.{at_map}
+use Rattle.ulfm_base.proofs.Places.{at_view}
 use Rattle.ulfm_run.proofs.Mapped.{map_of_map, each_of_map}
 use Rattle.ulfm_run.proofs.tests.laid.LaidEnds.gather.Goals as goal
 
@@ -28,8 +28,8 @@ returns-in-Some-clause-same g c =
     let back = c.in-Some.ensures in
     let same = c.gather-residue.ensures.same in record {
       names = sym (map_of_map g.E.Ends.name inner c.in-Some.ends.items) ∙ ap (map g.E.Ends.name) back ∙ same.names ∙ ap (map g.E.Ends.name) into ∙ map_of_map g.E.Ends.name inner c.args.ends.items;
-      pushed_to = λ k e f here there p. same.pushed_to k e.inner f.inner (ap (λ l. slice_get l k) into ∙ at_map inner c.args.ends.items k e here) (ap (λ l. slice_get l k) (sym back) ∙ at_map inner c.in-Some.ends.items k f there) p;
-      taken_from = λ k e f here there p. same.taken_from k e.inner f.inner (ap (λ l. slice_get l k) into ∙ at_map inner c.args.ends.items k e here) (ap (λ l. slice_get l k) (sym back) ∙ at_map inner c.in-Some.ends.items k f there) p;
+      pushed_to = λ k e f here there p. same.pushed_to k e.inner f.inner (ap (λ l. slice_get l k) into ∙ at_view inner c.args.ends.items k e here) (ap (λ l. slice_get l k) (sym back) ∙ at_view inner c.in-Some.ends.items k f there) p;
+      taken_from = λ k e f here there p. same.taken_from k e.inner f.inner (ap (λ l. slice_get l k) into ∙ at_view inner c.args.ends.items k e here) (ap (λ l. slice_get l k) (sym back) ∙ at_view inner c.in-Some.ends.items k f there) p;
     }
 
 pub returns-in-Some-clause-residue : goal.returns-in-Some-clause-residue
@@ -39,6 +39,6 @@ returns-in-Some-clause-residue g c =
     let rest = c.gather-residue.ensures.residue in
     let many : length c.parted-inners.result.0.items ≡ length c.args.ends.items = ap length into ∙ length-map c.args.ends.items inner in record {
       inbox_for_each = rest.inbox_for_each ∙ many;
-      flows = λ s d e f box here there held. rest.flows s d e.inner f.inner box (ap (λ l. slice_get l s) into ∙ at_map inner c.args.ends.items s e here) (ap (λ l. slice_get l d) into ∙ at_map inner c.args.ends.items d f there) held;
+      flows = λ s d e f box here there held. rest.flows s d e.inner f.inner box (ap (λ l. slice_get l s) into ∙ at_view inner c.args.ends.items s e here) (ap (λ l. slice_get l d) into ∙ at_view inner c.args.ends.items d f there) held;
       no_others = λ s d box held past. rest.no_others s d box held (omega (arith, many, past));
     }

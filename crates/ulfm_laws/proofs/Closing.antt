@@ -1,0 +1,115 @@
+-- A send and a wait that is over keep the steps of a rank true of its log.
+use Rattle.std.proofs.Common.{◌≡◌, ℕ, Bool, true, false, cond, eqb, List, [], ◌∷◌, ◌++◌, refl, ap, sym, ◌∙◌, subst, append-nil, Option, Some, None}
+use Rattle.std.specs.Prelude.{slice_get, ◌&&◌}
+use Rattle.std.specs.List.{flat_map}
+use Rattle.std.proofs.lemmas.Bool.{false≢true, or_right, eq-eqb, eqb-true}
+use Rattle.std.proofs.lemmas.List.Elements.{All-push}
+use Rattle.std.proofs.lemmas.Option.{same_Some}
+use Rattle.ulfm_base.specs.declared.context.Context.{Context}
+use Rattle.ulfm_base.specs.declared.tag.Tag.{Tag}
+use Rattle.ulfm_match.specs.declared.request.RequestId.{RequestId}
+use Rattle.ulfm_match.specs.History.{Event, PostAt, number}
+use Rattle.ulfm_rank.specs.declared.entry.Entry.{Entry}
+use Rattle.ulfm_rank.specs.declared.entry.Entry.TheVariants.{Sent as SentEntry, Released}
+use Rattle.ulfm_rank.specs.declared.entry.TestAnswer.{TestAnswer}
+use Rattle.ulfm_rank.specs.Answer.{is_release}
+use Rattle.ulfm_rank.specs.Calls.{Sends}
+use Rattle.ulfm_rank.specs.Communicators.{members_of}
+use Rattle.ulfm_rank.specs.Facts.{is_released, releases}
+use Rattle.ulfm_rank.specs.History.{history_of}
+use Rattle.ulfm_rank.specs.State.{State, logged}
+use Rattle.ulfm_rank.proofs.Gather.{history-push, any-push}
+use Rattle.ulfm_script.specs.declared.step.Step.{Step}
+use Rattle.ulfm_script.specs.declared.step.Step.TheVariants.{Send, Wait}
+use Rattle.ulfm_script.specs.declared.answer.StepAnswer.{StepAnswer}
+use Rattle.ulfm_script.specs.declared.answer.StepAnswer.TheVariants.{Sent, Done, Over}
+use Rattle.ulfm_script.specs.declared.answer.StepReport.{StepReport}
+use Rattle.ulfm_script.specs.Player.{Tests, comm_of, report_of, request_of, request_at}
+use Rattle.ulfm_laws.specs.Reader.{Content, content, is_rank, sent_in, closes}
+use Rattle.ulfm_rank.proofs.Formed.{formed-logged}
+use Rattle.ulfm_laws.proofs.Honest.{IsHonest, sends-logged, covered-logged, covered-answered, honest-logged, honest-answered}
+use Rattle.ulfm_laws.proofs.Orderly.{orderly-logged, orderly-answered}
+use Rattle.ulfm_laws.proofs.Mail.{IsTakenFrom, flat-push}
+use Rattle.ulfm_rank.proofs.Stays.{members_stay, answer_stays}
+use Rattle.ulfm_laws.proofs.Tells.{Tells, IsVerdict, asked_front}
+
+-- the answered steps are true of the rank's log
+abbrev pub IsTrueOf : State → List StepReport → Type 0
+IsTrueOf r done = IsHonest r.ranks r.log done
+
+-- the letter of a send is the one that its step tells
+same_content : (group : List ℕ) (c d to number : ℕ) (tag tag' : Tag) (body body' : List ℕ) (comm comm' : Context) → comm' ≡ comm → tag' ≡ tag → body' ≡ body → (comm.number ≡ c → slice_get group to ≡ Some number) →
+    cond (eqb comm.number c && is_rank d (slice_get group to)) (content tag body ∷ []) [] ≡ cond (eqb comm'.number c && eqb number d) (content tag' body' ∷ []) []
+same_content group c d to number tag tag' body body' comm comm' ec et eb at =
+    pick (eqb comm.number c) refl
+    ∙ ap (λ (k : Context). cond (eqb k.number c && eqb number d) (content tag body ∷ []) []) (sym ec)
+    ∙ ap (λ (t : Tag). cond (eqb comm'.number c && eqb number d) (content t body ∷ []) []) (sym et)
+    ∙ ap (λ (b : List ℕ). cond (eqb comm'.number c && eqb number d) (content tag' b ∷ []) []) (sym eb)
+  where
+    pick : (b : Bool) → eqb comm.number c ≡ b → cond (eqb comm.number c && is_rank d (slice_get group to)) (content tag body ∷ []) [] ≡ cond (eqb comm.number c && eqb number d) (content tag body ∷ []) []
+    pick true e = ap (λ (o : Option ℕ). cond (eqb comm.number c && is_rank d o) (content tag body ∷ []) []) (at (eqb-true comm.number c e))
+    pick false e = rw e refl
+
+pub true-sent : (r : State) (done : List StepReport) (to : ℕ) (tag : Tag) (body : List ℕ) (comm : Context) (at polls : ℕ) (new : State) → IsTrueOf r done → Sends r (comm_of comm) to tag body new → IsTrueOf new (done ++ report_of (Send to tag body comm) Sent at polls ∷ [])
+true-sent r done to tag body comm at polls new h s =
+    let n : ℕ = r.ranks in
+    let log : List Entry = r.log in
+    let e : Entry = SentEntry s.to s.letter in
+    let x : StepReport = report_of (Send to tag body comm) Sent at polls in
+    let member : slice_get (members_of n (log ++ e ∷ []) comm.number) to ≡ Some s.to.number = members_stay n log e comm.number (λ (group : List ℕ). slice_get group to ≡ Some s.to.number) (λ q. cc) s.named in
+    let T : State → Type 0 = λ (w : State). IsTrueOf w (done ++ x ∷ []) in
+    subst T (sym s.only) (record {
+      orderly = orderly-answered n (log ++ e ∷ []) done x (orderly-logged n log e done h.orderly) (s.to.number, member) (λ id q. let bad : ⊥ = cc in absurd bad) (λ req k y q g f. let bad : ⊥ = cc in bad);
+      sends = λ c d.
+          let group : List ℕ = members_of n (log ++ e ∷ []) c in
+          flat-push (sent_in group c d) done x
+          ∙ ap (λ (xs : List Content). flat_map (sent_in group c d) done ++ xs)
+          (same_content group c d to s.to.number tag s.letter.envelope.tag body s.letter.body comm s.letter.envelope.context s.context s.has_tag s.carries (λ q. ap (λ k. slice_get (members_of n (log ++ e ∷ []) k) to) (sym q) ∙ member))
+          ∙ sends-logged n log e done c d h;
+      covered = covered-answered (log ++ e ∷ []) done x (covered-logged log e done h.covered tt);
+      formed = formed-logged log e h.formed tt;
+      taken = All-push (IsTakenFrom n) log e h.taken tt;
+    })
+
+-- a request that was closed is released
+closed_released : (n : ℕ) (log : List Entry) (done : List StepReport) (asked : Step) (answer : StepAnswer) (req : ℕ) (id : RequestId) → Tells n log done asked answer → closes asked answer ≡ Some req → request_at done req ≡ Some id → is_released log id.number ≡ true
+closed_released n log done (Wait k) (Done status body) req id t e g = released_of k _ t e
+  where
+    released_of : (k : ℕ) (a : TestAnswer) (v : IsVerdict n log done k a) → Some k ≡ Some req → is_released log id.number ≡ true
+    released_of k a v e =
+        let same : request_at done k ≡ Some id = ap (request_at done) (same_Some k req e) ∙ g in
+        ap (λ (i : RequestId). is_released log i.number) (same_Some id v.id (sym same ∙ v.asked)) ∙ v.released
+closed_released n log done (Wait k) (Over reason) req id t e g = released_of k _ t e
+  where
+    released_of : (k : ℕ) (a : TestAnswer) (v : IsVerdict n log done k a) → Some k ≡ Some req → is_released log id.number ≡ true
+    released_of k a v e =
+        let same : request_at done k ≡ Some id = ap (request_at done) (same_Some k req e) ∙ g in
+        ap (λ (i : RequestId). is_released log i.number) (same_Some id v.id (sym same ∙ v.asked)) ∙ v.released
+closed_released n log done _ _ req id t e g = let bad : ⊥ = cc in absurd bad
+
+-- a wait that releases its request
+pub true-closed : (r : State) (done : List StepReport) (req : ℕ) (answer : TestAnswer) (x : StepReport) (new : State) → IsTrueOf r done → is_release answer ≡ true → request_of x.answer ≡ None → closes x.step x.answer ≡ Some req → ((group : List ℕ) (c d : ℕ) → sent_in group c d x ≡ [])
+    → ((n : ℕ) (log : List Entry) (dones : List StepReport) → IsVerdict n log dones req answer → Tells n log dones x.step x.answer) → Tests done r req answer new → IsTrueOf new (done ++ x ∷ [])
+true-closed r done req answer x new h release unposted closing silent tells t =
+    let n : ℕ = r.ranks in
+    let log : List Entry = r.log in
+    let e : Entry = Released t.id answer in
+    let T : State → Type 0 = λ (w : State). IsTrueOf w (done ++ x ∷ []) in
+    let only : new ≡ logged r e = t.only ∙ ap (λ (b : Bool). cond b (logged r e) r) release in
+    let longer : IsHonest n (log ++ e ∷ []) done = honest-logged n log e done h tt (λ c d. refl) tt in
+    let long : history_of (log ++ e ∷ []) ≡ history_of log ++ [] = history-push log e in
+    let verdict : IsVerdict n (log ++ e ∷ []) (done ++ x ∷ []) req answer = record {
+      id = t.id;
+      asked = asked_front done (x ∷ []) req t.id t.posted;
+      place = t.place;
+      pattern = t.pattern;
+      posted = subst (λ (g : List Event). PostAt g t.place t.pattern) (sym (long ∙ append-nil (history_of log))) t.request.posted;
+      numbered = ap (λ (g : List Event). number g t.place) (long ∙ append-nil (history_of log)) ∙ t.request.numbered;
+      released = any-push (releases t.id.number) log e ∙ or_right (is_released log t.id.number) (releases t.id.number e) (eq-eqb t.id.number t.id.number refl);
+      release = release;
+      answers = answer_stays n log e t.place t.pattern answer t.request.posted release (λ p law. t.answers t.place t.pattern t.request p law);
+    } in
+    subst T (sym only) (honest-answered n (log ++ e ∷ []) done x longer silent unposted (tells n (log ++ e ∷ []) (done ++ x ∷ []) verdict)
+    (λ q k y c g f.
+    let same : request_at done q ≡ Some t.id = ap (request_at done) (same_Some q req (sym c ∙ closing)) ∙ t.posted in
+    false≢true (sym t.request.unreleased ∙ closed_released n log done y.step y.answer q t.id (h.orderly.tells k y g) f same)))

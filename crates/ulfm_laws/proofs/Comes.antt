@@ -1,0 +1,122 @@
+-- The letters that came by the history of a log are a beginning of those that it took.
+use Rattle.std.proofs.Common.{◌≡◌, ℕ, Bool, true, false, cond, eqb, List, [], ◌∷◌, ◌++◌, length, refl, ap, sym, ◌∙◌, append-nil, append_assoc, inl, inr, suc}
+use Rattle.std.specs.Prelude.{◌||◌, All}
+use Rattle.std.proofs.lemmas.Bool.{false≢true, or_left, cases_Bool, eqb-true}
+use Rattle.std.proofs.lemmas.Grind.{flat_map-append}
+use Rattle.ulfm_base.specs.declared.rank.WorldRank.{WorldRank}
+use Rattle.ulfm_base.specs.declared.envelope.Letter.{Letter}
+use Rattle.ulfm_base.specs.declared.item.Item.{Item}
+use Rattle.ulfm_base.specs.declared.item.Item.TheVariants.{Letter as Mail, Gone, Revoke, Enter}
+use Rattle.ulfm_base.specs.Pattern.{names}
+use Rattle.ulfm_match.specs.History.{Event, Post, Come, End, Clear}
+use Rattle.ulfm_rank.specs.declared.entry.Entry.{Entry}
+use Rattle.ulfm_rank.specs.declared.entry.Entry.TheVariants.{Posted, Revoked, Took}
+use Rattle.ulfm_rank.specs.Facts.{took, took_by, is_revoked, revokes}
+use Rattle.ulfm_rank.specs.History.{history_of, events_by, ends_from, end_at, names_gone}
+use Rattle.ulfm_laws.specs.Reader.{Content, come_in, letters_come}
+use Rattle.ulfm_rank.proofs.Gather.{gathered_all, any-push}
+use Rattle.ulfm_rank.proofs.Logs.{took-push}
+use Rattle.ulfm_rank.proofs.Signed.{all_front, all_last}
+use Rattle.ulfm_laws.proofs.Mail.{mail_on, mail, IsTakenFrom}
+
+come_end : (s c t k : ℕ) (e : Event) → letters_come s c (end_at t k e) ≡ []
+come_end s c t k (Post pattern) = one (names pattern.source t)
+  where
+    one : (b : Bool) → letters_come s c (cond b (End k ∷ []) []) ≡ []
+    one true = refl
+    one false = refl
+come_end s c t k _ = refl
+
+come_ends : (s c t k : ℕ) (history : List Event) → letters_come s c (ends_from t k history) ≡ []
+come_ends s c t k [] = refl
+come_ends s c t k (e ∷ history) =
+    flat_map-append (come_in s c) (end_at t k e) (ends_from t (suc k) history)
+    ∙ ap (λ (xs : List Content). xs ++ letters_come s c (ends_from t (suc k) history)) (come_end s c t k e)
+    ∙ come_ends s c t (suc k) history
+
+come_clear : (s c d : ℕ) (b : Bool) → letters_come s c (cond b [] (Clear d ∷ [])) ≡ []
+come_clear s c d true = refl
+come_clear s c d false = refl
+
+-- the letter that an entry gives came where its context isn't revoked, and else none
+record IsCome (s c : ℕ) (before : List Entry) (events : List Event) (items : List Item) : Type 0 where
+  pub fresh : is_revoked before c ≡ false → letters_come s c events ≡ mail c items
+  pub late : is_revoked before c ≡ true → letters_come s c events ≡ []
+
+come_none : (s c : ℕ) (before : List Entry) (events : List Event) (items : List Item) → letters_come s c events ≡ [] → mail c items ≡ [] → IsCome s c before events items
+come_none s c before events items none no_mail = record { fresh = λ h. none ∙ sym no_mail; late = λ h. none }
+
+come_letter : (s c : ℕ) (before : List Entry) (source : WorldRank) (letter : Letter) → letter.envelope.source ≡ source → IsCome s c before (cond (is_revoked before letter.envelope.context.number) [] (Come letter ∷ [])) (cond (eqb source.number s) (Mail letter ∷ []) [])
+come_letter s c before source letter same = record {
+  fresh = λ h. fresh (is_revoked before letter.envelope.context.number) (eqb letter.envelope.context.number c) (eqb letter.envelope.source.number s) (λ e. ap (is_revoked before) (eqb-true letter.envelope.context.number c e) ∙ h) refl refl (ap (λ (r : WorldRank). eqb r.number s) (sym same));
+  late = λ h. late (is_revoked before letter.envelope.context.number) (eqb letter.envelope.context.number c) (λ e. ap (is_revoked before) (eqb-true letter.envelope.context.number c e) ∙ h) refl;
+} where
+  fresh : (v a b : Bool) → (a ≡ true → v ≡ false) → eqb letter.envelope.context.number c ≡ a → eqb letter.envelope.source.number s ≡ b → eqb source.number s ≡ b → letters_come s c (cond v [] (Come letter ∷ [])) ≡ mail c (cond (eqb source.number s) (Mail letter ∷ []) [])
+  fresh true true b g e f k = absurd (false≢true (sym (g refl)))
+  fresh false true true g e f k = rw (e, f, k) (rw e refl)
+  fresh false true false g e f k = rw (e, f, k) refl
+  fresh true false true g e f k = rw k (rw e refl)
+  fresh true false false g e f k = rw k refl
+  fresh false false true g e f k = rw (e, k) (rw e refl)
+  fresh false false false g e f k = rw (e, k) refl
+
+  late : (v a : Bool) → (a ≡ true → v ≡ true) → eqb letter.envelope.context.number c ≡ a → letters_come s c (cond v [] (Come letter ∷ [])) ≡ []
+  late true a g e = refl
+  late false true g e = absurd (false≢true (g refl))
+  late false false g e = rw e refl
+
+no_mail : (c : ℕ) (b : Bool) (item : Item) → mail_on c item ≡ [] → mail c (cond b (item ∷ []) []) ≡ []
+no_mail c true item e = append-nil (mail_on c item) ∙ e
+no_mail c false item e = refl
+
+come_entry : (n s c : ℕ) (before : List Entry) (found : List Event) (e : Entry) → IsTakenFrom n e → IsCome s c before (events_by before found e) (took_by s e)
+come_entry n s c before found (Posted pattern) h = come_none s c before _ [] (one (names_gone before pattern.source)) refl
+  where
+    one : (b : Bool) → letters_come s c (cond b (End (length found) ∷ []) []) ≡ []
+    one true = refl
+    one false = refl
+come_entry n s c before found (Revoked context) h = come_none s c before _ [] (come_clear s c context.number (is_revoked before context.number)) refl
+come_entry n s c before found (Took source (Mail letter)) h = come_letter s c before source letter h.1
+come_entry n s c before found (Took source Gone) h = come_none s c before _ _ (come_ends s c source.number 0 found) (no_mail c (eqb source.number s) Gone refl)
+come_entry n s c before found (Took source (Revoke context)) h = come_none s c before _ _ (come_clear s c context.number (is_revoked before context.number)) (no_mail c (eqb source.number s) (Revoke context) refl)
+come_entry n s c before found (Took source (Enter context known)) h = come_none s c before [] _ refl (no_mail c (eqb source.number s) (Enter context known) refl)
+come_entry n s c before found _ h = come_none s c before [] [] refl refl
+
+-- what came is a beginning of what was taken, and all of it where the context isn't revoked
+pub record IsTakenMail (s c : ℕ) (before : List Entry) (found : List Event) : Type 0 where
+  pub rest : List Content
+  pub all : letters_come s c found ++ rest ≡ mail c (took before s)
+  pub none : is_revoked before c ≡ false → rest ≡ []
+
+taken_more : (n s c : ℕ) (before : List Entry) (found : List Event) (e : Entry) → IsTakenMail s c before found → IsTakenFrom n e → IsTakenMail s c (before ++ e ∷ []) (found ++ events_by before found e)
+taken_more n s c before found e h own =
+    let k : IsCome s c before (events_by before found e) (took_by s e) = come_entry n s c before found e own in
+    let came : letters_come s c (found ++ events_by before found e) ≡ letters_come s c found ++ letters_come s c (events_by before found e) = flat_map-append (come_in s c) found (events_by before found e) in
+    let taken : mail c (took (before ++ e ∷ []) s) ≡ mail c (took before s) ++ mail c (took_by s e) = ap (mail c) (took-push before e s) ∙ flat_map-append (mail_on c) (took before s) (took_by s e) in
+    let now : is_revoked (before ++ e ∷ []) c ≡ is_revoked before c || revokes c e = any-push (revokes c) before e in
+    elim (cases_Bool (is_revoked before c)) [
+      | inl was ↦ record {
+        rest = h.rest ++ mail c (took_by s e);
+        all = ap (λ (xs : List Content). xs ++ (h.rest ++ mail c (took_by s e))) (came ∙ ap (λ (xs : List Content). letters_come s c found ++ xs) (k.late was) ∙ append-nil (letters_come s c found))
+            ∙ sym (append_assoc (letters_come s c found) h.rest (mail c (took_by s e)))
+            ∙ ap (λ (xs : List Content). xs ++ mail c (took_by s e)) h.all
+            ∙ sym taken;
+        none = λ f. absurd (false≢true (sym f ∙ now ∙ or_left (is_revoked before c) (revokes c e) was));
+      }
+      | inr fresh ↦ record {
+        rest = [];
+        all = append-nil (letters_come s c (found ++ events_by before found e))
+            ∙ came
+            ∙ ap (λ (xs : List Content). xs ++ letters_come s c (events_by before found e)) (sym (append-nil (letters_come s c found)) ∙ ap (λ (xs : List Content). letters_come s c found ++ xs) (sym (h.none fresh)) ∙ h.all)
+            ∙ ap (λ (xs : List Content). mail c (took before s) ++ xs) (k.fresh fresh)
+            ∙ sym taken;
+        none = λ f. refl;
+      }
+    ]
+
+-- what came by the history of a log
+pub all_taken : (n s c : ℕ) (log : List Entry) → All (IsTakenFrom n) log → IsTakenMail s c log (history_of log)
+all_taken n s c log =
+    gathered_all {X = Event} events_by (λ (before : List Entry) (found : List Event). All (IsTakenFrom n) before → IsTakenMail s c before found)
+    (λ before found e h all. taken_more n s c before found e (h (all_front (IsTakenFrom n) before e all)) (all_last (IsTakenFrom n) before e all))
+    [] (λ all. record { rest = []; all = refl; none = λ f. refl }) log

@@ -1,0 +1,135 @@
+-- Each wait that is over tells of the letter that its receive is given, and nothing is given twice.
+use Rattle.std.proofs.Common.{◌≡◌, ℕ, ◌<◌, inl, inr, List, length, refl, ap, sym, ◌∙◌, subst}
+use Rattle.std.specs.Prelude.{slice_get}
+use Rattle.std.proofs.lemmas.Option.{same_Some}
+use Rattle.ulfm_base.specs.declared.context.Context.{Context}
+use Rattle.ulfm_base.specs.declared.envelope.Letter.{Letter}
+use Rattle.ulfm_base.specs.declared.pattern.Pattern.{Pattern}
+use Rattle.ulfm_base.specs.declared.error.CallError.TheVariants.{ProcFailed, Revoked, Truncated}
+use Rattle.ulfm_base.specs.Pattern.{Admits}
+use Rattle.ulfm_match.specs.History.{History, Post, PostAt, ComeAt, number}
+use Rattle.ulfm_match.specs.Pairing.{Pairing, Pairs, LawfulPairing}
+use Rattle.ulfm_match.proofs.Decide.{compared}
+use Rattle.ulfm_match.proofs.Histories.{same_number}
+use Rattle.ulfm_match.proofs.Unique.{one_pairing, same_pattern, same_letter}
+use Rattle.ulfm_match.specs.declared.request.RequestId.{RequestId}
+use Rattle.ulfm_rank.specs.declared.entry.TestAnswer.{TestAnswer}
+use Rattle.ulfm_rank.specs.declared.entry.TestAnswer.TheVariants.{Done as TestDone, Over as TestOver}
+use Rattle.ulfm_rank.specs.Checks.{group_at}
+use Rattle.ulfm_script.specs.declared.step.Step.TheVariants.{Send, Wait}
+use Rattle.ulfm_script.specs.declared.answer.StepAnswer.TheVariants.{Sent, Done, Over}
+use Rattle.ulfm_script.specs.Player.{report_of}
+use Rattle.ulfm_script.specs.Report.{Report}
+use Rattle.ulfm_laws.specs.Reader.{history_at, IsStep, IsPostedBy, IsSentBy, IsGiven, DoneIsGiven, OverIsTrue, GivesOnce, DonesDiffer}
+use Rattle.ulfm_laws.specs.Reports.{report_at}
+use Rattle.ulfm_match.proofs.Exists.{some_pairing}
+use Rattle.ulfm_laws.proofs.Finding.{AreHonest, same_asked, its_request, same_step, verdict_posted}
+use Rattle.ulfm_laws.proofs.Senders.{sender, same_come, same_send}
+use Rattle.ulfm_laws.proofs.Tells.{IsVerdict}
+
+-- a receive admits the letter that it is paired with
+pub pair_admits : (h : History) (r : Pairing) → LawfulPairing h r → (i b : ℕ) (p : Pattern) (l : Letter) → PostAt h i p → ComeAt h b l → Pairs r i b → Admits p l.envelope
+pair_admits h r law i b p l posted came q =
+    let m = law.matched i b q in
+    let A : Pattern → Letter → Type 0 = λ (w : Pattern) (k : Letter). Admits w k.envelope in
+    subst (λ (w : Pattern). A w l) (same_pattern h i m.pattern p m.receive_live.posted posted) (subst (λ (k : Letter). A m.pattern k) (same_letter h b m.letter l m.letter_live.came came) m.admits)
+
+-- a step posted one receive
+same_place : (report : Report) (i place other : ℕ) (p q : Pattern) (a : IsPostedBy report i place p) (b : IsPostedBy report i other q) → place ≡ other
+same_place report i place other p q a b =
+    let id : a.id ≡ b.id = same_Some a.id b.id (sym (its_request report i place p a) ∙ its_request report i other q b) in
+    same_number _ place other (Post p) (Post q) a.posted refl b.posted refl (a.numbered ∙ ap (λ (k : RequestId). k.number) id ∙ sym b.numbered)
+
+module _ (reports : List Report) (all : AreHonest reports) where
+  pub done_given : DoneIsGiven reports
+  done_given d k req status body inside st =
+      let report : Report = report_at reports d in
+      let h : History = history_at reports d in
+      let v : IsVerdict report.rank.ranks report.rank.log report.steps req (TestDone status body) = (all.honest d inside).orderly.tells k (report_of (Wait req) (Done status body) st.at st.polls) st.stands in
+      let r = some_pairing h (all.honest d inside).formed in
+      let a = v.answers r.0 r.1 in
+      let by = verdict_posted reports all d inside req (TestDone status body) v in
+      let sent = sender reports all d inside a.1.place a.0 a.1.came in
+      record {
+        sender = a.0.envelope.source.number;
+        step = sent.0;
+        given = record { inside = inside; post_place = v.place; pattern = v.pattern; receive = by; come_place = a.1.place; letter = a.0; sent = sent.1; pairing = r.0; lawful = r.1; pairs = a.1.pairs };
+        admits = pair_admits h r.0 r.1 v.place a.1.place v.pattern a.0 v.posted a.1.came a.1.pairs;
+        fits = a.2;
+        source = a.3;
+        tag = a.4;
+        size = a.5;
+        carries = a.6;
+      }
+
+  unpaired_given : (d req s j : ℕ) (inside : d < length reports) (answer : TestAnswer) (v : IsVerdict (report_at reports d).rank.ranks (report_at reports d).rank.log (report_at reports d).steps req answer) (g : IsGiven reports d req s j) → ((b : ℕ) → Pairs g.pairing v.place b → ⊥) → ⊥
+  unpaired_given d req s j inside answer v g none =
+      let by = verdict_posted reports all d inside req answer v in
+      let same : g.post_place ≡ v.place = same_place (report_at reports d) req g.post_place v.place g.pattern v.pattern g.receive by in
+      none g.come_place (subst (λ (i : ℕ). Pairs g.pairing i g.come_place) same g.pairs)
+
+  pub over_true : OverIsTrue reports
+  over_true = record {
+    truncated = λ d k req inside st.
+        let report : Report = report_at reports d in
+        let h : History = history_at reports d in
+        let v : IsVerdict report.rank.ranks report.rank.log report.steps req (TestOver Truncated) = (all.honest d inside).orderly.tells k (report_of (Wait req) (Over Truncated) st.at st.polls) st.stands in
+        let r = some_pairing h (all.honest d inside).formed in
+        let a = v.answers r.0 r.1 in
+        let by = verdict_posted reports all d inside req (TestOver Truncated) v in
+        let sent = sender reports all d inside a.1.place a.0 a.1.came in
+        record {
+          sender = a.0.envelope.source.number;
+          step = sent.0;
+          given = record { inside = inside; post_place = v.place; pattern = v.pattern; receive = by; come_place = a.1.place; letter = a.0; sent = sent.1; pairing = r.0; lawful = r.1; pairs = a.1.pairs };
+          longer = a.2;
+        };
+    failed = λ d k req s j inside st g.
+        let report : Report = report_at reports d in
+        let v : IsVerdict report.rank.ranks report.rank.log report.steps req (TestOver ProcFailed) = (all.honest d inside).orderly.tells k (report_of (Wait req) (Over ProcFailed) st.at st.polls) st.stands in
+        unpaired_given d req s j inside (TestOver ProcFailed) v g (v.answers g.pairing g.lawful).0;
+    revoked = λ d k req s j inside st g.
+        let report : Report = report_at reports d in
+        let v : IsVerdict report.rank.ranks report.rank.log report.steps req (TestOver Revoked) = (all.honest d inside).orderly.tells k (report_of (Wait req) (Over Revoked) st.at st.polls) st.stands in
+        unpaired_given d req s j inside (TestOver Revoked) v g (v.answers g.pairing g.lawful).0;
+  }
+
+  -- a step sent its letter to one rank
+  same_destination : (d e b a : ℕ) (l m : Letter) (s j : ℕ) → IsSentBy reports d b l s j → IsSentBy reports e a m s j → d ≡ e
+  same_destination d e b a l m s j x y =
+      let own : Report = report_at reports s in
+      let steps = same_asked own j (Send x.to l.envelope.tag l.body l.envelope.context) (Send y.to m.envelope.tag m.body m.envelope.context) Sent Sent x.step y.step in
+      let to : x.to ≡ y.to = cc in
+      let comm : l.envelope.context ≡ m.envelope.context = cc in
+      same_Some d e (sym x.directed ∙ ap (λ (k : Context). slice_get (group_at own.rank k.number) x.to) comm ∙ ap (slice_get (group_at own.rank m.envelope.context.number)) to ∙ y.directed)
+
+  pub gives_once : GivesOnce reports
+  gives_once = record {
+    one_receive = λ d i e k s j x y.
+        let there : d ≡ e = same_destination d e x.come_place y.come_place x.letter y.letter s j x.sent y.sent in
+        let z : IsGiven reports d k s j = subst (λ (q : ℕ). IsGiven reports q k s j) (sym there) y in
+        let h : History = history_at reports d in
+        let come : z.come_place ≡ x.come_place = sym (same_come reports all d x.inside x.come_place z.come_place x.letter z.letter s j x.sent z.sent) in
+        let pairs : Pairs x.pairing z.post_place x.come_place = subst (λ (b : ℕ). Pairs x.pairing z.post_place b) come (one_pairing h z.pairing x.pairing z.lawful x.lawful z.post_place z.come_place z.pairs) in
+        let post : x.post_place ≡ z.post_place = x.lawful.one_receive x.post_place z.post_place x.come_place x.pairs pairs in
+        (there, same_step reports all d x.inside i k x.receive.id z.receive.id (its_request (report_at reports d) i x.post_place x.pattern x.receive) (its_request (report_at reports d) k z.post_place z.pattern z.receive) (sym x.receive.numbered ∙ ap (number h) post ∙ z.receive.numbered));
+    one_letter = λ d i s j t k x y.
+        let h : History = history_at reports d in
+        let post : y.post_place ≡ x.post_place = same_place (report_at reports d) i y.post_place x.post_place y.pattern x.pattern y.receive x.receive in
+        let pairs : Pairs x.pairing x.post_place y.come_place = subst (λ (q : ℕ). Pairs x.pairing q y.come_place) post (one_pairing h y.pairing x.pairing y.lawful x.lawful y.post_place y.come_place y.pairs) in
+        let come : y.come_place ≡ x.come_place = x.lawful.one_letter x.post_place y.come_place x.come_place pairs x.pairs in
+        same_send reports all d x.inside x.come_place x.letter y.letter s j t k x.sent (subst (λ (b : ℕ). IsSentBy reports d b y.letter t k) come y.sent);
+    one_wait = λ d k m req x y inside gx gy cx cy. elim (compared k m) [
+      | inl l ↦ absurd ((all.honest d inside).orderly.once k m req x y l gx gy cx cy)
+      | inr o ↦ elim o [ inl same ↦ same | inr l ↦ absurd ((all.honest d inside).orderly.once m k req y x l gy gx cy cx) ]
+    ];
+  }
+
+  -- two waits that tell of one send are one
+  pub dones_differ : DonesDiffer reports
+  dones_differ d k req e m other status another body text x y at there sender step =
+      let g : IsGiven reports e other x.sender x.step = subst (λ (s : ℕ). IsGiven reports e other s x.step) (sym sender) (subst (λ (j : ℕ). IsGiven reports e other y.sender j) (sym step) y.given) in
+      let same = gives_once.one_receive d req e other x.sender x.step x.given g in
+      let S : ℕ → ℕ → Type 0 = λ (r q : ℕ). IsStep (report_at reports r) m (Wait q) (Done another text) in
+      let here : IsStep (report_at reports d) m (Wait req) (Done another text) = subst (λ (r : ℕ). S r req) (sym same.0) (subst (λ (q : ℕ). S e q) (sym same.1) there) in
+      (same.0, gives_once.one_wait d k m req (report_of (Wait req) (Done status body) at.at at.polls) (report_of (Wait req) (Done another text) here.at here.polls) x.given.inside at.stands here.stands refl refl)

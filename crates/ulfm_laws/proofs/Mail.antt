@@ -1,0 +1,85 @@
+-- The letters of one communicator among items, and those that a log sent.
+use Rattle.std.proofs.Common.{◌≡◌, ℕ, ◌<◌, Bool, true, false, cond, eqb, List, [], ◌∷◌, ◌++◌, refl, ap, sym, ◌∙◌, append-nil}
+use Rattle.std.specs.Prelude.{⊤, ◌&&◌, ◌==◌, if◌then◌else◌}
+use Rattle.std.specs.List.{flat_map}
+use Rattle.std.proofs.lemmas.Grind.{flat_map-append}
+use Rattle.ulfm_base.specs.declared.context.Context.{Context}
+use Rattle.ulfm_base.specs.Group.{is_member}
+use Rattle.ulfm_base.specs.declared.item.Item.{Item}
+use Rattle.ulfm_base.specs.declared.item.Item.TheVariants.{Letter as Mail, Gone, Revoke, Enter}
+use Rattle.ulfm_rank.specs.declared.entry.Entry.{Entry}
+use Rattle.ulfm_rank.specs.declared.entry.Entry.TheVariants.{Sent, Revoked, Entered, Took}
+use Rattle.ulfm_rank.specs.Calls.{IsFrom}
+use Rattle.ulfm_rank.specs.Communicators.{members_of}
+use Rattle.ulfm_rank.specs.Facts.{is_revoked}
+use Rattle.ulfm_rank.specs.Owed.{owed, owed_by, is_told, passed_on}
+use Rattle.ulfm_laws.specs.Reader.{Content, content}
+use Rattle.ulfm_rank.proofs.Gather.{gathered_all}
+
+abbrev pub mail_on : ℕ → Item → List Content
+mail_on c (Mail letter) = if letter.envelope.context.number == c then content letter.envelope.tag letter.body ∷ [] else []
+mail_on c _ = []
+
+-- the letters of the communicator c among some items
+abbrev pub mail : ℕ → List Item → List Content
+mail c items = flat_map (mail_on c) items
+
+abbrev pub sent_entry : ℕ → ℕ → Entry → List Content
+sent_entry c d (Sent to letter) = if letter.envelope.context.number == c && to.number == d then content letter.envelope.tag letter.body ∷ [] else []
+sent_entry c d _ = []
+
+-- the letters of the communicator c that a log sent to the rank d
+abbrev pub mail_sent : ℕ → ℕ → List Entry → List Content
+mail_sent c d log = flat_map (sent_entry c d) log
+
+-- an item was taken from one of n ranks, and a letter bears the rank that it was taken from
+abbrev pub IsTakenFrom : ℕ → Entry → Type 0
+IsTakenFrom n (Took source item) = (source.number < n) × IsFrom source item
+IsTakenFrom n _ = ⊤
+
+pub flat-push : {X Y : Type 0} (f : X → List Y) (xs : List X) (x : X) → flat_map f (xs ++ x ∷ []) ≡ flat_map f xs ++ f x
+flat-push {X} {Y} f xs x = flat_map-append f xs (x ∷ []) ∙ ap (λ (ys : List Y). flat_map f xs ++ ys) (append-nil (f x))
+
+-- of what an entry owes the letters are those that it sent
+owed_entry : (n me c d : ℕ) (before : List Entry) (found : List Item) (e : Entry) → mail c (owed_by n me d before found e) ≡ sent_entry c d e
+owed_entry n me c d before found (Sent to letter) = one (eqb letter.envelope.context.number c) (eqb to.number d) refl
+  where
+    one : (a b : Bool) → eqb letter.envelope.context.number c ≡ a → mail c (cond b (Mail letter ∷ []) []) ≡ cond (a && b) (content letter.envelope.tag letter.body ∷ []) []
+    one true true e = rw e refl
+    one true false e = refl
+    one false true e = rw e refl
+    one false false e = refl
+owed_entry n me c d before found (Revoked context) = passed me c d before context
+  where
+    passed : (me c d : ℕ) (before : List Entry) (context : Context) → mail c (passed_on me before context d) ≡ []
+    passed me c d before context = two (is_revoked before context.number) (is_told me before d)
+      where
+        two : (a b : Bool) → mail c (cond a [] (cond b (Revoke context ∷ []) [])) ≡ []
+        two true b = refl
+        two false true = refl
+        two false false = refl
+owed_entry n me c d before found (Entered context known) = two (is_member (members_of n before context.number) d && is_told me before d)
+  where
+    two : (b : Bool) → mail c (cond b (Enter context known ∷ []) []) ≡ []
+    two true = refl
+    two false = refl
+owed_entry n me c d before found (Took source (Revoke context)) = two (is_revoked before context.number) (is_told me before d)
+  where
+    two : (a b : Bool) → mail c (cond a [] (cond b (Revoke context ∷ []) [])) ≡ []
+    two true b = refl
+    two false true = refl
+    two false false = refl
+owed_entry n me c d before found (Took source (Mail letter)) = refl
+owed_entry n me c d before found (Took source Gone) = refl
+owed_entry n me c d before found (Took source (Enter context known)) = refl
+owed_entry n me c d before found _ = refl
+
+pub mail_owed : (n me c d : ℕ) (log : List Entry) → mail c (owed n me log d) ≡ mail_sent c d log
+mail_owed n me c d log =
+    gathered_all {X = Item} (owed_by n me d) (λ (before : List Entry) (found : List Item). mail c found ≡ mail_sent c d before)
+    (λ before found e h.
+    flat_map-append (mail_on c) found (owed_by n me d before found e)
+    ∙ ap (λ (xs : List Content). xs ++ mail c (owed_by n me d before found e)) h
+    ∙ ap (λ (xs : List Content). mail_sent c d before ++ xs) (owed_entry n me c d before found e)
+    ∙ sym (flat-push (sent_entry c d) before e))
+    [] refl log

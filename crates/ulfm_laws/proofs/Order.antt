@@ -1,0 +1,145 @@
+-- What is given keeps the order of the sends and of the posts.
+use Rattle.std.proofs.Common.{◌≡◌, ℕ, ◌<◌, inl, inr, List, ◌∷◌, ◌++◌, length, take, refl, ap, sym, ◌∙◌, subst, arith, append_assoc, Some}
+use Rattle.std.specs.Prelude.{slice_get}
+use Rattle.ulfm_base.specs.declared.context.Context.{Context}
+use Rattle.ulfm_base.specs.declared.tag.Tag.{Tag}
+use Rattle.ulfm_base.specs.declared.rank.WorldRank.{WorldRank}
+use Rattle.ulfm_base.specs.declared.envelope.Letter.{Letter}
+use Rattle.ulfm_base.specs.declared.pattern.Pattern.{Pattern}
+use Rattle.ulfm_base.specs.Pattern.{Admits, AdmitsSource, AdmitsTag}
+use Rattle.ulfm_match.specs.History.{Event, History, Post, number}
+use Rattle.ulfm_match.proofs.Decide.{compared}
+use Rattle.ulfm_match.proofs.Histories.{number_below}
+use Rattle.ulfm_rank.specs.Checks.{group_at}
+use Rattle.ulfm_script.specs.declared.step.Step.TheVariants.{Send}
+use Rattle.ulfm_script.specs.declared.answer.StepAnswer.TheVariants.{Sent}
+use Rattle.ulfm_script.specs.declared.answer.StepReport.{StepReport}
+use Rattle.ulfm_script.specs.Player.{report_of, request_at}
+use Rattle.ulfm_match.specs.declared.request.RequestId.{RequestId}
+use Rattle.std.proofs.lemmas.Option.{same_Some}
+use Rattle.ulfm_script.specs.Report.{Report}
+use Rattle.ulfm_laws.specs.Reader.{Content, content, history_at, IsStep, sent_in, come_in, letters_come, letters_sent, IsPostedBy, IsSentBy, LettersKeepOrder, ReceivesKeepOrder}
+use Rattle.ulfm_laws.specs.Reports.{report_at}
+use Rattle.ulfm_laws.proofs.Contents.{sent_one, come_few, come_is}
+use Rattle.ulfm_base.proofs.Numbers.{same_context, same_rank}
+use Rattle.ulfm_laws.proofs.Finding.{AreHonest, its_request, poster}
+use Rattle.ulfm_laws.proofs.Senders.{sender, sent_letter}
+use Rattle.ulfm_laws.proofs.Given.{pair_admits}
+use Rattle.ulfm_match.proofs.Places.{gives_at, flat_within, flat_front, same_fronts, get_take}
+
+module _ (reports : List Report) (all : AreHonest reports) where
+  -- receives stand in the order of their steps
+  earlier_step : (d : ℕ) → d < length reports → (i k place other : ℕ) (p q : Pattern) → IsPostedBy (report_at reports d) i place p → IsPostedBy (report_at reports d) k other q → place < other → i < k
+  earlier_step d inside i k place other p q a b l =
+      let n : number (history_at reports d) place < number (history_at reports d) other = number_below (history_at reports d) place other (Post p) a.posted refl l in
+      let less : a.id.number < b.id.number = omega (arith, n, a.numbered, b.numbered) in
+      let ra = its_request (report_at reports d) i place p a in
+      let rb = its_request (report_at reports d) k other q b in
+      elim (compared i k) [
+        | inl h ↦ h
+        | inr o ↦ elim o [
+          | inl same ↦
+              let e : Some a.id ≡ Some b.id = sym ra ∙ ap (request_at (report_at reports d).steps) same ∙ rb in
+              absurd (let f : a.id.number ≡ b.id.number = ap (λ (x : RequestId). x.number) (same_Some a.id b.id e) in omega (arith, less, f))
+          | inr h ↦ absurd (let r : b.id.number < a.id.number = (all.honest d inside).orderly.rises k i b.id a.id h rb ra in omega (arith, less, r))
+        ]
+      ]
+
+  earlier_place : (d : ℕ) → d < length reports → (i k place other : ℕ) (p q : Pattern) → IsPostedBy (report_at reports d) i place p → IsPostedBy (report_at reports d) k other q → i < k → place < other
+  earlier_place d inside i k place other p q a b l =
+      let less : a.id.number < b.id.number = (all.honest d inside).orderly.rises i k a.id b.id l (its_request (report_at reports d) i place p a) (its_request (report_at reports d) k other q b) in
+      elim (compared place other) [
+        | inl h ↦ h
+        | inr o ↦ elim o [
+          | inl same ↦ absurd (let e : number (history_at reports d) place ≡ number (history_at reports d) other = ap (number (history_at reports d)) same in omega (arith, less, e, a.numbered, b.numbered))
+          | inr h ↦ absurd (let n : number (history_at reports d) other < number (history_at reports d) place = number_below (history_at reports d) other place (Post q) b.posted refl h in omega (arith, less, n, a.numbered, b.numbered))
+        ]
+      ]
+
+  pub receives_keep_order : ReceivesKeepOrder reports
+  receives_keep_order d i s j k place pattern given l by adm lives =
+      let before : place < given.post_place = earlier_place d given.inside k i place given.post_place pattern given.pattern by given.receive l in
+      let e = given.lawful.earlier_receives given.post_place given.come_place place pattern given.letter given.pairs given.sent.came before by.posted lives adm in
+      let m = given.lawful.matched place e.0 e.2 in
+      let sent = sender reports all d given.inside e.0 m.letter m.letter_live.came in (
+        m.letter.envelope.source.number,
+        sent.0,
+        record { inside = given.inside; post_place = place; pattern = pattern; receive = by; come_place = e.0; letter = m.letter; sent = sent.1; pairing = given.pairing; lawful = given.lawful; pairs = e.2 },
+        e.1,
+      )
+
+  -- a letter that was sent before one that came has come before it
+  record HasCome (d s b k : ℕ) (tag : Tag) (body : List ℕ) (comm : Context) : Type 0 where
+    pub place : ℕ
+    pub letter : Letter
+    pub earlier : place < b
+    pub sent : IsSentBy reports d place letter s k
+    pub source : letter.envelope.source.number ≡ s
+    pub tagged : letter.envelope.tag ≡ tag
+    pub context : letter.envelope.context.number ≡ comm.number
+
+  as_many : (s c : ℕ) (es fs : History) (ys : List Content) → es ≡ fs → letters_come s c fs ≡ ys → length (letters_come s c es) ≡ length ys
+  as_many s c es fs ys e f = ap (λ (gs : History). length (letters_come s c gs)) e ∙ ap (λ (xs : List Content). length xs) f
+
+  has_come : (d s b j k to : ℕ) (l : Letter) (tag : Tag) (body : List ℕ) (comm : Context) → d < length reports → IsSentBy reports d b l s j → l.envelope.context.number ≡ comm.number → k < j → IsStep (report_at reports s) k (Send to tag body comm) Sent → slice_get (group_at (report_at reports s).rank comm.number) to ≡ Some d → HasCome d s b k tag body comm
+  has_come d s b j k to l tag body comm inside x same less step directed =
+      let own : Report = report_at reports s in
+      let h : History = history_at reports d in
+      let c : ℕ = comm.number in
+      let group : List ℕ = group_at own.rank c in
+      let N : ℕ → Type 0 = λ i. length (letters_come s i (take b h)) ≡ length (letters_sent own.rank i d (take j own.steps)) in
+      let p = flat_front (come_in s c) h b in
+      let w = all.sent s d c x.inside inside in
+      let q = flat_front (sent_in group c d) own.steps j in
+      let joined : letters_come s c (take b h) ++ (p.0 ++ w.0) ≡ letters_sent own.rank c d (take j own.steps) ++ q.0 =
+      sym (append_assoc (letters_come s c (take b h)) p.0 w.0) ∙ ap (λ (xs : List Content). xs ++ w.0) p.1 ∙ w.1 ∙ sym q.1 in
+      let fronts : letters_come s c (take b h) ≡ letters_sent own.rank c d (take j own.steps) = same_fronts (letters_come s c (take b h)) (p.0 ++ w.0) (letters_sent own.rank c d (take j own.steps)) q.0 joined (subst N same x.in_order) in
+      let y : StepReport = report_of (Send to tag body comm) Sent step.at step.polls in
+      let z = flat_within (sent_in group c d) own.steps k j y less step.stands in
+      let list : letters_come s c (take b h) ≡ letters_sent own.rank c d (take k own.steps) ++ content tag body ∷ z.0 =
+      fronts ∙ z.1 ∙ ap (λ (xs : List Content). letters_sent own.rank c d (take k own.steps) ++ (xs ++ z.0)) (sent_one group d to tag body comm directed) in
+      let g = gives_at (come_in s c) (come_few s c) (take b h) (letters_sent own.rank c d (take k own.steps)) (content tag body) z.0 list in
+      let t = get_take h b g.index g.giver g.at in
+      let m = come_is s c g.giver (content tag body) g.gives in
+      let its_tag : tag ≡ m.letter.envelope.tag = ap (λ (v : Content). v.tag) (sym m.carries) in
+      let its_body : body ≡ m.letter.body = ap (λ (v : Content). v.body) (sym m.carries) in
+      let its_comm : comm ≡ m.letter.envelope.context = same_context comm m.letter.envelope.context (sym m.context) in
+      let D : Context → Type 0 = λ (r : Context). slice_get (group_at own.rank r.number) to ≡ Some d in
+      let O : Context → Type 0 = λ (r : Context). length (letters_come s r.number (take g.index h)) ≡ length (letters_sent own.rank r.number d (take k own.steps)) in
+      record {
+        place = g.index;
+        letter = m.letter;
+        earlier = t.0;
+        sent = record {
+          to = to;
+          inside = x.inside;
+          step = sent_letter own k to m.letter tag body comm its_tag its_body its_comm step;
+          directed = subst D its_comm directed;
+          came = t.1 ∙ ap (λ (e : Event). Some e) m.came;
+          source = m.source;
+          in_order = subst O its_comm (as_many s c (take g.index h) (take g.index (take b h)) (letters_sent own.rank c d (take k own.steps)) (sym t.2) g.before);
+        };
+        source = m.source;
+        tagged = sym its_tag;
+        context = m.context;
+      }
+
+  pub letters_keep_order : LettersKeepOrder reports
+  letters_keep_order d i s j k to tag body comm given l step directed adm =
+      let h : History = history_at reports d in
+      let own = pair_admits h given.pairing given.lawful given.post_place given.come_place given.pattern given.letter given.receive.posted given.sent.came given.pairs in
+      let x = has_come d s given.come_place j k to given.letter tag body comm given.inside given.sent (own.context ∙ sym adm.context) l step directed in
+      let S : WorldRank → Type 0 = λ (r : WorldRank). AdmitsSource given.pattern.source r in
+      let T : Tag → Type 0 = λ (t : Tag). AdmitsTag given.pattern.tag t in
+      let admits : Admits given.pattern x.letter.envelope = record {
+        context = x.context ∙ adm.context;
+        source = subst S (same_rank given.letter.envelope.source x.letter.envelope.source (given.sent.source ∙ sym x.source)) adm.source;
+        tag = subst T (sym x.tagged) adm.tag;
+      } in
+      let e = given.lawful.earlier_letters given.post_place given.come_place x.place given.pattern x.letter given.pairs given.receive.posted x.earlier x.sent.came admits in
+      let m = given.lawful.matched e.0 x.place e.2 in
+      let q = poster reports all d given.inside e.0 m.pattern m.receive_live.posted in (
+        q.0,
+        earlier_step d given.inside q.0 i e.0 given.post_place m.pattern given.pattern q.1 given.receive e.1,
+        record { inside = given.inside; post_place = e.0; pattern = m.pattern; receive = q.1; come_place = x.place; letter = x.letter; sent = x.sent; pairing = given.pairing; lawful = given.lawful; pairs = e.2 },
+      )

@@ -1,0 +1,145 @@
+-- A receive that is posted keeps the steps of a rank true of its log.
+use Rattle.std.proofs.Common.{◌≡◌, ℕ, ◌<◌, inl, inr, Bool, true, false, cond, List, [], ◌∷◌, ◌++◌, length, refl, ap, sym, ◌∙◌, subst, arith, append_assoc, length-append, Option, Some, None}
+use Rattle.std.specs.Prelude.{slice_get, not}
+use Rattle.std.specs.Option.{is_some}
+use Rattle.std.proofs.lemmas.Bool.{false≢true}
+use Rattle.std.proofs.lemmas.List.Elements.{All-push}
+use Rattle.std.proofs.lemmas.Option.{same_Some, slice_get_within}
+use Rattle.ulfm_base.specs.declared.context.Context.{Context}
+use Rattle.ulfm_base.specs.declared.tag.Tag.{Tag}
+use Rattle.ulfm_base.specs.declared.error.CallError.{CallError}
+use Rattle.ulfm_base.specs.declared.error.CallError.TheVariants.{NoComm, Revoked, Stopped}
+use Rattle.ulfm_match.specs.declared.request.RequestId.{RequestId}
+use Rattle.ulfm_match.specs.History.{Event, Post, End, PostAt, number}
+use Rattle.ulfm_match.proofs.Cut.{get_in_front}
+use Rattle.ulfm_match.proofs.Decide.{compared}
+use Rattle.ulfm_match.proofs.Histories.{number_below, number_front, get_here}
+use Rattle.ulfm_rank.specs.declared.entry.Entry.{Entry}
+use Rattle.ulfm_rank.specs.declared.entry.Entry.TheVariants.{Posted as PostedEntry}
+use Rattle.ulfm_rank.specs.Calls.{Posts, IsSourceOf}
+use Rattle.ulfm_rank.specs.Checks.{Passes, receive_checks}
+use Rattle.ulfm_rank.specs.Communicators.{group_of, members_of}
+use Rattle.ulfm_rank.specs.Facts.{is_revoked, is_stopped}
+use Rattle.ulfm_rank.specs.History.{history_of, names_gone}
+use Rattle.ulfm_rank.specs.State.{State}
+use Rattle.ulfm_rank.proofs.Gather.{history-push}
+use Rattle.ulfm_rank.proofs.Grouped.{group_stays, members_found}
+use Rattle.ulfm_script.specs.declared.step.Step.TheVariants.{Recv}
+use Rattle.ulfm_script.specs.declared.answer.StepAnswer.TheVariants.{Posted}
+use Rattle.ulfm_script.specs.declared.answer.StepReport.{StepReport}
+use Rattle.ulfm_script.specs.Player.{comm_of, report_of, request_of, request_at}
+use Rattle.ulfm_laws.specs.Reader.{sent_in}
+use Rattle.ulfm_rank.proofs.Formed.{HasNoPost, none-nil, none-one, formed-posted}
+use Rattle.ulfm_laws.proofs.Honest.{IsCovered, sends-logged, late}
+use Rattle.ulfm_laws.proofs.Orderly.{orderly-logged, orderly-answered}
+use Rattle.ulfm_laws.proofs.Mail.{IsTakenFrom, flat-push}
+use Rattle.ulfm_laws.proofs.Tells.{IsReceipt, asked_front}
+use Rattle.ulfm_laws.proofs.Closing.{IsTrueOf}
+
+passes_rest : (a : Bool) (e : CallError) (o : Option CallError) → cond a (Some e) o ≡ None → (a ≡ false) × (o ≡ None)
+passes_rest true e o h = let bad : ⊥ = cc in absurd bad
+passes_rest false e o h = (refl, h)
+
+-- the communicator of a receive that passes was made, and isn't revoked
+may_receive : (r : State) (c : ℕ) (source : Option ℕ) → Passes (receive_checks r c source) → ((group : List ℕ) × (group_of r.ranks r.log c ≡ Some group)) × (is_revoked r.log c ≡ false)
+may_receive r c source h =
+    let a = passes_rest (is_stopped r.log) Stopped _ h in
+    let b = passes_rest (not (is_some (group_of r.ranks r.log c))) NoComm _ a.1 in
+    let d = passes_rest (is_revoked r.log c) Revoked _ b.1 in
+    (found (group_of r.ranks r.log c) refl b.0, d.0)
+  where
+    found : (o : Option (List ℕ)) → group_of r.ranks r.log c ≡ o → not (is_some o) ≡ false → (group : List ℕ) × (group_of r.ranks r.log c ≡ Some group)
+    found None e k = absurd (false≢true (sym k))
+    found (Some group) e k = (group, e)
+
+asked_last : (done : List StepReport) (x : StepReport) → request_at (done ++ x ∷ []) (length done) ≡ request_of x.answer
+asked_last [] x = refl
+asked_last (y ∷ done) x = asked_last done x
+
+no_end : (b : Bool) (k : ℕ) → HasNoPost (cond b (End k ∷ []) [])
+no_end true k = none-one (End k) (λ p e. cc)
+no_end false k = none-nil
+
+module _ (r : State) (done : List StepReport) (source : Option ℕ) (tag : Option Tag) (room : ℕ) (comm : Context) (id : RequestId) (at polls : ℕ) (new : State) (h : IsTrueOf r done) (passes : Passes (receive_checks r comm.number source)) (s : Posts r (comm_of comm) source tag room new) (numbered : id.number ≡ number (history_of r.log) (length (history_of r.log))) where
+  abbrev log : List Entry
+  log = r.log
+
+  abbrev e : Entry
+  e = PostedEntry s.pattern
+
+  abbrev pub x : StepReport
+  x = report_of (Recv source tag room comm) (Posted id) at polls
+
+  abbrev old : List Event
+  old = history_of r.log
+
+  abbrev tail : List Event
+  tail = cond (names_gone r.log s.pattern.source) (End (length old) ∷ []) []
+
+  abbrev now : List Event
+  now = old ++ Post s.pattern ∷ tail
+
+  long : history_of (log ++ e ∷ []) ≡ now
+  long = history-push r.log e
+
+  here : slice_get now (length old) ≡ Some (Post s.pattern)
+  here = get_here old (Post s.pattern) tail
+
+  its_number : number now (length old) ≡ id.number
+  its_number = number_front old (Post s.pattern ∷ tail) (length old) (omega arith) ∙ sym numbered
+
+  receipt : IsReceipt r.ranks (log ++ e ∷ []) source tag room comm id
+  receipt =
+      let m = may_receive r comm.number source passes in
+      let made : group_of r.ranks (log ++ e ∷ []) comm.number ≡ Some m.0.0 = group_stays r.ranks log e comm.number m.0.0 m.0.1 in
+      let same : members_of r.ranks log comm.number ≡ members_of r.ranks (log ++ e ∷ []) comm.number = members_found r.ranks log comm.number m.0.0 m.0.1 ∙ sym (members_found r.ranks (log ++ e ∷ []) comm.number m.0.0 made) in
+      record {
+        place = length old;
+        pattern = s.pattern;
+        posted = subst (λ (g : List Event). PostAt g (length old) s.pattern) (sym long) here;
+        numbered = ap (λ (g : List Event). number g (length old)) long ∙ its_number;
+        context = s.receive.context;
+        has_tag = s.receive.has_tag;
+        has_room = s.receive.has_room;
+        group = m.0.0;
+        made = made;
+        asks_for = subst (λ (group : List ℕ). IsSourceOf group source s.pattern.source) same s.receive.asks_for;
+      }
+
+  below : (jd : RequestId) → id ≡ jd → jd.number < number (history_of (log ++ e ∷ [])) (length (history_of (log ++ e ∷ [])))
+  below jd same =
+      let up : number now (length old) < number now (length now) = number_below now (length old) (length now) (Post s.pattern) here refl (slice_get_within now (length old) (Post s.pattern) here) in
+      let n : id.number ≡ jd.number = ap (λ (i : RequestId). i.number) same in
+      subst (λ (g : List Event). jd.number < number g (length g)) (sym long) (omega (arith, up, its_number, n))
+
+  covered : IsCovered (log ++ e ∷ []) (done ++ x ∷ [])
+  covered place p g =
+      let at' : PostAt now place p = subst (λ (xs : List Event). PostAt xs place p) long g in
+      elim (compared place (length old)) [
+        | inl l ↦
+            let c = h.covered place p (get_in_front old (Post s.pattern ∷ tail) place (Post p) l at') in
+            (c.0, c.1, asked_front done (x ∷ []) c.0 c.1 c.2, ap (λ (ys : List Event). number ys place) long ∙ number_front old (Post s.pattern ∷ tail) place (omega (arith, l)) ∙ c.3)
+        | inr o ↦ elim o [
+          | inl same ↦ (length done, id, asked_last done x, ap (λ (ys : List Event). number ys place) long ∙ ap (number now) same ∙ its_number)
+          | inr far ↦
+              let at'' : PostAt ((old ++ Post s.pattern ∷ []) ++ tail) place p = subst (λ (xs : List Event). PostAt xs place p) (sym (append_assoc old (Post s.pattern ∷ []) tail)) at' in
+              absurd (late (old ++ Post s.pattern ∷ []) tail place p (no_end (names_gone r.log s.pattern.source) (length old)) (omega (arith, far, length-append old (Post s.pattern ∷ []))) at'')
+        ]
+      ]
+
+  -- a receive that is posted
+  pub true-posted : IsTrueOf new (done ++ x ∷ [])
+  true-posted =
+      let T : State → Type 0 = λ (w : State). IsTrueOf w (done ++ x ∷ []) in
+      let revoked : is_revoked log s.pattern.context.number ≡ false = ap (λ (k : Context). is_revoked log k.number) s.receive.context ∙ (may_receive r comm.number source passes).1 in
+      subst T (sym s.only) (record {
+        orderly = orderly-answered r.ranks (log ++ e ∷ []) done x (orderly-logged r.ranks log e done h.orderly) receipt
+            (λ jd q. (below jd (same_Some id jd q), λ k kd g. let l : kd.number < number old (length old) = h.orderly.below k kd g in let n : id.number ≡ jd.number = ap (λ (i : RequestId). i.number) (same_Some id jd q) in omega (arith, l, numbered, n)))
+            (λ req k y q g f. let bad : ⊥ = cc in bad);
+        sends = λ c d.
+            let group : List ℕ = members_of r.ranks (log ++ e ∷ []) c in
+            flat-push (sent_in group c d) done x ∙ sends-logged r.ranks log e done c d h;
+        covered = covered;
+        formed = formed-posted log s.pattern h.formed revoked;
+        taken = All-push (IsTakenFrom r.ranks) log e h.taken tt;
+      })

@@ -1,0 +1,87 @@
+-- Who has a proposal where reports are at rest.
+use Rattle.std.proofs.Common.{◌≡◌, ◌≢◌, ℕ, true, false, eqb, List, length, ap, sym, subst, ◌∙◌, inl, inr, Some}
+use Rattle.std.specs.Prelude.{is_some, ◌||◌}
+use Rattle.std.proofs.lemmas.Bool.{cases_Bool, cases_eq, or_left, or_right, ne_eqb, eq-eqb, cond-true, cond-false}
+use Rattle.ulfm_base.specs.Group.{is_member}
+use Rattle.ulfm_base.specs.Lists.{at}
+use Rattle.ulfm_base.proofs.Among.{all_members}
+use Rattle.ulfm_rank.specs.declared.entry.Entry.{Entry}
+use Rattle.ulfm_rank.specs.Checks.{group_at}
+use Rattle.ulfm_rank.specs.Communicators.{group_of, is_made, members_of}
+use Rattle.ulfm_rank.specs.Facts.{took, is_stopped, is_gone}
+use Rattle.ulfm_rank.specs.Log.{first_of}
+use Rattle.ulfm_rank.specs.Owed.{owed}
+use Rattle.ulfm_rank.specs.Shrink.{entry_of, heard_of, has_entered, listed_of, is_out, has_proposal}
+use Rattle.ulfm_rank.proofs.Belonging.{Keeps}
+use Rattle.ulfm_rank.proofs.Firsts.{some_from, first_set, heard-took}
+use Rattle.ulfm_rank.proofs.Grouped.{members_found}
+use Rattle.ulfm_script.specs.Report.{Report}
+use Rattle.ulfm_laws.specs.Flow.{Inboxes}
+use Rattle.ulfm_laws.specs.Reports.{IsRunning}
+use Rattle.ulfm_laws.specs.Rest.{IsAtRest}
+use Rattle.ulfm_laws.specs.Shrinks.{AdoptOne, AllEntered, ProposesEach}
+use Rattle.ulfm_laws.proofs.AtRest.{took_owed, knows-stopped}
+use Rattle.ulfm_laws.proofs.Flowing.{AreFlowing, same_report, running-not_gone}
+use Rattle.ulfm_base.proofs.Places.{there}
+use Rattle.ulfm_laws.proofs.OneGroup.{same_group}
+
+listed_other : (me : ℕ) (log : List Entry) (c m : ℕ) → m ≢ me → listed_of me log c m ≡ first_of (heard_of c m) log
+listed_other me log c m other = cond-false (eqb m me) (first_of (entry_of c) log) (first_of (heard_of c m) log) (ne_eqb m me other)
+
+listed_self : (me : ℕ) (log : List Entry) (c m : ℕ) → m ≡ me → listed_of me log c m ≡ first_of (entry_of c) log
+listed_self me log c m same = cond-true (eqb m me) (first_of (entry_of c) log) (first_of (heard_of c m) log) (eq-eqb m me same)
+
+-- what the logs of these ranks keep of shrinks
+abbrev pub AllKeep : List Report → Type 0
+AllKeep reports = (r : ℕ) (told : Report) → at reports r told → Keeps (length reports) r told.rank.log
+
+module _ (inboxes : Inboxes) (reports : List Report) (h : AreFlowing inboxes reports) (one : AdoptOne reports) (keeps : AllKeep reports) (rest : IsAtRest inboxes reports) where
+  -- what a running rank took from another one is all that this one owes to it
+  took_whole : (s d : ℕ) (sender receiver : Report) → at reports s sender → at reports d receiver → IsRunning sender → IsRunning receiver → took receiver.rank.log s ≡ owed (length reports) s sender.rank.log d
+  took_whole s d sender receiver p q runs running =
+      sym (took_owed inboxes reports h rest s d sender receiver p q runs running)
+      ∙ ap (λ (k : ℕ). owed k sender.rank.me sender.rank.log d) (h.counted s sender p)
+      ∙ ap (λ (k : ℕ). owed (length reports) k sender.rank.log d) (h.order s sender p)
+
+  module _ (r c : ℕ) (told : Report) (here : at reports r told) (running : IsRunning told) (group : List ℕ) (made : group_of (length reports) told.rank.log c ≡ Some group) where
+    -- a running member that entered was heard
+    heard : (m : ℕ) (member : Report) → at reports m member → is_member group m ≡ true → IsRunning member → has_entered member.rank.log c ≡ true → is_some (listed_of r told.rank.log c m) ≡ true
+    heard m member at_m inside runs entered = elim (cases_eq m r) [
+      | inl same ↦
+          let same_one : member ≡ told = same_report reports m r member told at_m here same in
+          ap is_some (listed_self r told.rank.log c m same) ∙ ap (λ (x : Report). has_entered x.rank.log c) (sym same_one) ∙ entered
+      | inr other ↦
+          let theirs = some_from (group_of (length reports) member.rank.log c) ((keeps m member at_m).enters_made c entered) in
+          let alike : theirs.0 ≡ group = same_group reports one (length reports) m r c member told theirs.0 group at_m here theirs.1 made in
+          let mine : is_member (members_of (length reports) member.rank.log c) r ≡ true =
+          ap (λ (g : List ℕ). is_member g r) (members_found (length reports) member.rank.log c theirs.0 theirs.1 ∙ alike) ∙ ((keeps r told here).belongs c group made).member in
+          let stays : is_gone member.rank.log r ≡ false = running-not_gone inboxes reports h r m told member here at_m running in
+          ap is_some (listed_other r told.rank.log c m other ∙ heard-took told.rank.log c m ∙ ap (first_set c) (took_whole m r member told at_m here runs running))
+          ∙ (keeps m member at_m).owes_each r c entered mine other stays
+    ]
+
+    -- each member is listed or out
+    accounted : AllEntered reports group c → (m : ℕ) → is_member group m ≡ true → (is_some (listed_of r told.rank.log c m) || is_out r group told.rank.log c m) ≡ true
+    accounted entered m inside =
+        let member = there reports m (((keeps r told here).belongs c group made).below m inside) in
+        elim (cases_Bool (is_stopped member.0.rank.log)) [
+          | inl stopped ↦
+              let gone : is_gone told.rank.log m ≡ true = knows-stopped inboxes reports h rest m r member.0 told member.1 here stopped running in
+              or_right (is_some (listed_of r told.rank.log c m)) (is_out r group told.rank.log c m) (or_left (is_gone told.rank.log m) _ gone)
+          | inr runs ↦ or_left (is_some (listed_of r told.rank.log c m)) (is_out r group told.rank.log c m) (heard m member.0 member.1 inside runs (entered m member.0 member.1 inside runs))
+        ]
+
+    has_one : AllEntered reports group c → has_proposal r group told.rank.log c ≡ true
+    has_one entered = all_members group (λ m. is_some (listed_of r told.rank.log c m) || is_out r group told.rank.log c m) (accounted entered)
+
+  pub proposes_each : ProposesEach reports
+  proposes_each r c told here running made entered =
+      let log : List Entry = told.rank.log in
+      let n : ℕ = length reports in
+      let many : told.rank.ranks ≡ n = h.counted r told here in
+      let mine = some_from (group_of n log c) (ap (λ (k : ℕ). is_made k log c) (sym many) ∙ made) in
+      let same : group_at told.rank c ≡ mine.0 = ap (λ (k : ℕ). members_of k log c) many ∙ members_found n log c mine.0 mine.1 in
+      let A : List ℕ → Type 0 = λ (g : List ℕ). AllEntered reports g c in
+      ap (λ (me : ℕ). has_proposal me (group_at told.rank c) log c) (h.order r told here)
+      ∙ ap (λ (g : List ℕ). has_proposal r g log c) same
+      ∙ has_one r c told here running mine.0 mine.1 (subst A same entered)

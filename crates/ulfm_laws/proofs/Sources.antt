@@ -1,0 +1,69 @@
+-- Each letter that came is from a rank of the world.
+use Rattle.std.proofs.Common.{◌≡◌, ℕ, zero, suc, ◌<◌, Bool, true, false, cond, List, [], ◌∷◌, ◌++◌, length, ap, sym, ◌∙◌, subst, Some}
+use Rattle.std.specs.Prelude.{slice_get, All}
+use Rattle.ulfm_base.specs.declared.envelope.Letter.{Letter}
+use Rattle.ulfm_base.specs.declared.item.Item.TheVariants.{Letter as Mail, Gone, Revoke, Enter}
+use Rattle.ulfm_base.specs.declared.rank.WorldRank.{WorldRank}
+use Rattle.ulfm_base.specs.Pattern.{names}
+use Rattle.ulfm_match.specs.History.{Event, Post, Come, End, Clear, ComeAt}
+use Rattle.ulfm_rank.specs.declared.entry.Entry.{Entry}
+use Rattle.ulfm_rank.specs.declared.entry.Entry.TheVariants.{Posted, Revoked, Took}
+use Rattle.ulfm_rank.specs.Facts.{is_revoked}
+use Rattle.ulfm_rank.specs.History.{history_of, events_by, ends_from, end_at, names_gone}
+use Rattle.ulfm_rank.proofs.Gather.{gathered_all}
+use Rattle.ulfm_laws.proofs.Mail.{IsTakenFrom}
+use Rattle.ulfm_rank.proofs.Signed.{all_front, all_last}
+
+-- a letter among these events is from one of n ranks
+abbrev AreFrom : ℕ → List Event → Type 0
+AreFrom n es = (k : ℕ) (l : Letter) → slice_get es k ≡ Some (Come l) → l.envelope.source.number < n
+
+from-nil : (n : ℕ) → AreFrom n []
+from-nil n k l h = let bad : ⊥ = cc in absurd bad
+
+from-one : (n : ℕ) (e : Event) → ((l : Letter) → e ≡ Come l → l.envelope.source.number < n) → AreFrom n (e ∷ [])
+from-one n e own zero l h = own l (let f : e ≡ Come l = cc in f)
+from-one n e own (suc k) l h = let bad : ⊥ = cc in absurd bad
+
+from-append : (n : ℕ) (xs ys : List Event) → AreFrom n xs → AreFrom n ys → AreFrom n (xs ++ ys)
+from-append n [] ys a b k l h = b k l h
+from-append n (x ∷ xs) ys a b zero l h = a zero l h
+from-append n (x ∷ xs) ys a b (suc k) l h = from-append n xs ys (λ j m g. a (suc j) m g) b k l h
+
+from-cond : (n : ℕ) (b : Bool) (e : Event) → ((l : Letter) → e ≡ Come l → l.envelope.source.number < n) → AreFrom n (cond b [] (e ∷ []))
+from-cond n true e own = from-nil n
+from-cond n false e own = from-one n e own
+
+from-ends : (n s k : ℕ) (h : List Event) → AreFrom n (ends_from s k h)
+from-ends n s k [] = from-nil n
+from-ends n s k (e ∷ h) = from-append n (end_at s k e) (ends_from s (suc k) h) (one e) (from-ends n s (suc k) h)
+  where
+    pick : (b : Bool) → AreFrom n (cond b (End k ∷ []) [])
+    pick true = from-one n (End k) (λ l e. let bad : ⊥ = cc in absurd bad)
+    pick false = from-nil n
+
+    one : (e : Event) → AreFrom n (end_at s k e)
+    one (Post p) = pick (names p.source s)
+    one _ = from-nil n
+
+from-events : (n : ℕ) (log : List Entry) (h : List Event) (e : Entry) → IsTakenFrom n e → AreFrom n (events_by log h e)
+from-events n log h (Posted p) own = from-append n (Post p ∷ []) (cond (names_gone log p.source) (End (length h) ∷ []) []) (from-one n (Post p) (λ l e. let bad : ⊥ = cc in absurd bad)) (pick (names_gone log p.source))
+  where
+    pick : (b : Bool) → AreFrom n (cond b (End (length h) ∷ []) [])
+    pick true = from-one n (End (length h)) (λ l e. let bad : ⊥ = cc in absurd bad)
+    pick false = from-nil n
+from-events n log h (Revoked context) own = from-cond n (is_revoked log context.number) (Clear context.number) (λ l e. let bad : ⊥ = cc in absurd bad)
+from-events n log h (Took source (Mail letter)) own =
+    from-cond n (is_revoked log letter.envelope.context.number) (Come letter)
+    (λ l e. let same : letter ≡ l = cc in let F : WorldRank → Type 0 = λ (r : WorldRank). r.number < n in subst F (sym own.1 ∙ ap (λ (m : Letter). m.envelope.source) same) own.0)
+from-events n log h (Took source Gone) own = from-ends n source.number 0 h
+from-events n log h (Took source (Revoke context)) own = from-cond n (is_revoked log context.number) (Clear context.number) (λ l e. let bad : ⊥ = cc in absurd bad)
+from-events n log h (Took source (Enter context known)) own = from-nil n
+from-events n log h _ own = from-nil n
+
+-- a letter that came is from one of the ranks that the log took from
+pub come_bound : (n : ℕ) (log : List Entry) → All (IsTakenFrom n) log → (b : ℕ) (l : Letter) → ComeAt (history_of log) b l → l.envelope.source.number < n
+come_bound n log all =
+    gathered_all {X = Event} events_by (λ (before : List Entry) (found : List Event). All (IsTakenFrom n) before → AreFrom n found)
+    (λ before found e h all. from-append n found (events_by before found e) (h (all_front (IsTakenFrom n) before e all)) (from-events n before found e (all_last (IsTakenFrom n) before e all)))
+    [] (λ all. from-nil n) log all

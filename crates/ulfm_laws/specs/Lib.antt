@@ -1,0 +1,7 @@
+pub mod Reports
+pub mod Flow
+pub mod Answers
+pub mod Shrinks
+pub mod Rest
+pub mod Reader
+pub mod Lawful

@@ -1,0 +1,228 @@
+-- What a reader of reports may rely on: which letter each receive was given, and who sent it (MPI 4.0, 3.5).
+use Rattle.std.specs.Prelude.{◌≡◌, ◌↔◌, ◌++◌, ◌<◌, ◌≤◌, ◌==◌, ◌&&◌, ℕ, Bool, false, List, [], ◌∷◌, length, max, take, Option, Some, None, slice_get, if◌then◌else◌}
+use Rattle.std.specs.List.{flat_map}
+use Rattle.ulfm_base.specs.declared.tag.Tag.{Tag}
+use Rattle.ulfm_base.specs.declared.context.Context.{Context}
+use Rattle.ulfm_base.specs.declared.envelope.Letter.{Letter}
+use Rattle.ulfm_base.specs.declared.pattern.Pattern.{Pattern}
+use Rattle.ulfm_base.specs.declared.error.CallError.TheVariants.{ProcFailed, Revoked, Truncated}
+use Rattle.ulfm_base.specs.Group.{rank_in}
+use Rattle.ulfm_base.specs.Pattern.{Admits}
+use Rattle.ulfm_match.specs.declared.request.RequestId.{RequestId}
+use Rattle.ulfm_match.specs.History.{Event, History, Come, End, PostAt, ComeAt, StandsBetween, IsLiveReceive, IsLiveLetter, number}
+use Rattle.ulfm_match.specs.Pairing.{Pairing, Pairs, LawfulPairing}
+use Rattle.ulfm_rank.specs.declared.entry.Status.{Status}
+use Rattle.ulfm_rank.specs.Calls.{IsSourceOf}
+use Rattle.ulfm_rank.specs.Checks.{group_at}
+use Rattle.ulfm_rank.specs.Facts.{is_stopped, is_revoked}
+use Rattle.ulfm_rank.specs.History.{history_of}
+use Rattle.ulfm_rank.specs.State.{State}
+use Rattle.ulfm_script.specs.declared.step.Step.{Step}
+use Rattle.ulfm_script.specs.declared.step.Step.TheVariants.{Send, Recv, Wait}
+use Rattle.ulfm_script.specs.declared.answer.StepAnswer.{StepAnswer}
+use Rattle.ulfm_script.specs.declared.answer.StepAnswer.TheVariants.{Sent, Posted, Done, Over}
+use Rattle.ulfm_script.specs.declared.answer.StepReport.{StepReport}
+use Rattle.ulfm_script.specs.Player.{report_of as told}
+use Rattle.ulfm_script.specs.Report.{Report}
+use Rattle.ulfm_laws.specs.Reports.{report_at}
+
+-- what happened at the rank r, in order
+abbrev pub history_at : List Report → ℕ → History
+history_at reports r = history_of (report_at reports r).rank.log
+
+-- step k of the report is this one, with this answer
+pub record IsStep (report : Report) (k : ℕ) (asked : Step) (said : StepAnswer) : Type 0 where
+  pub at : ℕ
+  pub polls : ℕ
+  pub stands : slice_get report.steps k ≡ Some (told asked said at polls)
+
+-- what a letter carries
+pub record Content : Type 0 where
+  pub tag : Tag
+  pub body : List ℕ
+
+-- the content with this tag and body
+abbrev pub content : Tag → List ℕ → Content
+content tag body = record { tag = tag; body = body }
+
+-- the member found at a position is d
+abbrev pub is_rank : ℕ → Option ℕ → Bool
+is_rank d None = false
+is_rank d (Some member) = member == d
+
+-- what a step with this answer sent on the communicator c of this group to the rank d
+abbrev pub sent_by : List ℕ → ℕ → ℕ → Step → StepAnswer → List Content
+sent_by group c d (Send to tag body comm) Sent = if comm.number == c && is_rank d (slice_get group to) then content tag body ∷ [] else []
+sent_by group c d _ _ = []
+
+-- what a step of a report sent
+abbrev pub sent_in : List ℕ → ℕ → ℕ → StepReport → List Content
+sent_in group c d report = sent_by group c d report.step report.answer
+
+-- what the answered steps of a rank sent on the communicator c to the rank d, in order
+abbrev pub letters_sent : State → ℕ → ℕ → List StepReport → List Content
+letters_sent rank c d steps = flat_map (sent_in (group_at rank c) c d) steps
+
+-- the letter of the communicator c that came from the rank s
+abbrev pub come_in : ℕ → ℕ → Event → List Content
+come_in s c (Come letter) = if letter.envelope.context.number == c && letter.envelope.source.number == s then content letter.envelope.tag letter.body ∷ [] else []
+come_in s c _ = []
+
+-- the letters of the communicator c that came from the rank s, in order
+abbrev pub letters_come : ℕ → ℕ → History → List Content
+letters_come s c history = flat_map (come_in s c) history
+
+-- On each communicator, what came to a rank from another one is a beginning of what the answered steps of that one sent
+-- to it: nothing is made, left out, doubled or overtaken. After its revocation no letter of a communicator comes.
+abbrev pub ComeAsSent : List Report → Type 0
+ComeAsSent reports =
+    (s d c : ℕ) → s < length reports → d < length reports → (rest : List Content) ×
+    (letters_come s c (history_at reports d) ++ rest ≡ letters_sent (report_at reports s).rank c d (report_at reports s).steps)
+
+-- On each communicator that isn't revoked at a running rank, all has come that running ranks sent to it.
+abbrev pub AllHasCome : List Report → Type 0
+AllHasCome reports =
+    (s d c : ℕ) → s < length reports → d < length reports → is_stopped (report_at reports s).rank.log ≡ false → is_stopped (report_at reports d).rank.log ≡ false →
+    is_revoked (report_at reports d).rank.log c ≡ false → letters_come s c (history_at reports d) ≡ letters_sent (report_at reports s).rank c d (report_at reports s).steps
+
+-- the history of each rank has a lawful pairing, and no other
+abbrev pub HasOnePairing : List Report → Type 0
+HasOnePairing reports =
+    (d : ℕ) → d < length reports → (r : Pairing) × LawfulPairing (history_at reports d) r ×
+    ((s : Pairing) → LawfulPairing (history_at reports d) s → (i b : ℕ) → Pairs r i b ↔ Pairs s i b)
+
+-- The receive at this place of the history is the one that step i posted.
+pub record IsPostedBy (report : Report) (i place : ℕ) (pattern : Pattern) : Type 0 where
+  pub source : Option ℕ
+  pub id : RequestId
+  pub step : IsStep report i (Recv source pattern.tag pattern.room pattern.context) (Posted id)
+  pub posted : PostAt (history_of report.rank.log) place pattern
+  pub numbered : number (history_of report.rank.log) place ≡ id.number
+  pub asks_for : IsSourceOf (group_at report.rank pattern.context.number) source pattern.source
+
+-- The letter that came to the rank d at this place of its history is the one that step j of the rank s sent to it: before
+-- each stand as many of s to d on this communicator.
+pub record IsSentBy (reports : List Report) (d place : ℕ) (letter : Letter) (s j : ℕ) : Type 0 where
+  pub to : ℕ
+  pub inside : s < length reports
+  pub step : IsStep (report_at reports s) j (Send to letter.envelope.tag letter.body letter.envelope.context) Sent
+  pub directed : slice_get (group_at (report_at reports s).rank letter.envelope.context.number) to ≡ Some d
+  pub came : ComeAt (history_at reports d) place letter
+  pub source : letter.envelope.source.number ≡ s
+  pub in_order : length (letters_come s letter.envelope.context.number (take place (history_at reports d)))
+      ≡ length (letters_sent (report_at reports s).rank letter.envelope.context.number d (take j (report_at reports s).steps))
+
+-- The receive that step i of the rank d posted is given the letter that step j of the rank s sent, by the rules of matching.
+pub record IsGiven (reports : List Report) (d i s j : ℕ) : Type 0 where
+  pub inside : d < length reports
+  pub post_place : ℕ
+  pub pattern : Pattern
+  pub receive : IsPostedBy (report_at reports d) i post_place pattern
+  pub come_place : ℕ
+  pub letter : Letter
+  pub sent : IsSentBy reports d come_place letter s j
+  pub pairing : Pairing
+  pub lawful : LawfulPairing (history_at reports d) pairing
+  pub pairs : Pairs pairing post_place come_place
+
+-- What a wait of the rank d for step req tells of a letter is true of one that was sent, was given to this receive, and
+-- that the receive admits with room enough. The source told is the sender's position in the communicator's group.
+pub record IsTold (reports : List Report) (d req : ℕ) (status : Status) (body : List ℕ) : Type 0 where
+  pub sender : ℕ
+  pub step : ℕ
+  pub given : IsGiven reports d req sender step
+  pub admits : Admits given.pattern given.letter.envelope
+  pub fits : length given.letter.body ≤ given.pattern.room
+  pub source : rank_in (group_at (report_at reports d).rank given.pattern.context.number) sender ≡ Some status.source
+  pub tag : status.tag ≡ given.letter.envelope.tag
+  pub size : status.length ≡ length given.letter.body
+  pub carries : body ≡ given.letter.body
+
+-- each wait that is done tells of the letter that its receive was given
+abbrev pub DoneIsGiven : List Report → Type 0
+DoneIsGiven reports =
+    (d k req : ℕ) (status : Status) (body : List ℕ) → d < length reports → IsStep (report_at reports d) k (Wait req) (Done status body) →
+    IsTold reports d req status body
+
+-- a receive was given a letter that is longer than its room
+pub record IsCut (reports : List Report) (d req : ℕ) : Type 0 where
+  pub sender : ℕ
+  pub step : ℕ
+  pub given : IsGiven reports d req sender step
+  pub longer : given.pattern.room < length given.letter.body
+
+-- each receive that is over as truncated was given a letter longer than its room, and one that is over by a failure or a
+-- revocation is given none
+pub record OverIsTrue (reports : List Report) : Type 0 where
+  pub truncated : (d k req : ℕ) → d < length reports → IsStep (report_at reports d) k (Wait req) (Over Truncated) → IsCut reports d req
+  pub failed : (d k req s j : ℕ) → d < length reports → IsStep (report_at reports d) k (Wait req) (Over ProcFailed) → IsGiven reports d req s j → ⊥
+  pub revoked : (d k req s j : ℕ) → d < length reports → IsStep (report_at reports d) k (Wait req) (Over Revoked) → IsGiven reports d req s j → ⊥
+
+-- the step whose request a wait with this answer closes
+abbrev pub closes : Step → StepAnswer → Option ℕ
+closes (Wait req) (Done status body) = Some req
+closes (Wait req) (Over reason) = Some req
+closes _ _ = None
+
+-- Each send is given to one receive at most, each receive one letter at most, and each is told done or over once at most.
+pub record GivesOnce (reports : List Report) : Type 0 where
+  pub one_receive : (d i e k s j : ℕ) → IsGiven reports d i s j → IsGiven reports e k s j → (d ≡ e) × (i ≡ k)
+  pub one_letter : (d i s j t k : ℕ) → IsGiven reports d i s j → IsGiven reports d i t k → (s ≡ t) × (j ≡ k)
+  pub one_wait : (d k m req : ℕ) (x y : StepReport) → d < length reports → slice_get (report_at reports d).steps k ≡ Some x → slice_get (report_at reports d).steps m ≡ Some y →
+      closes x.step x.answer ≡ Some req → closes y.step y.answer ≡ Some req → k ≡ m
+
+-- Two waits that are done and tell of one send are one wait.
+abbrev pub DonesDiffer : List Report → Type 0
+DonesDiffer reports =
+    (d k req e m other : ℕ) (status another : Status) (body text : List ℕ) (x : IsTold reports d req status body) (y : IsTold reports e other another text) →
+    IsStep (report_at reports d) k (Wait req) (Done status body) → IsStep (report_at reports e) m (Wait other) (Done another text) →
+    x.sender ≡ y.sender → x.step ≡ y.step → (d ≡ e) × (k ≡ m)
+
+-- No letter overtakes another: of two that one rank sent to another and that a receive admits, the later isn't given to it
+-- unless the earlier was given to a receive that was posted before.
+abbrev pub LettersKeepOrder : List Report → Type 0
+LettersKeepOrder reports =
+    (d i s j k to : ℕ) (tag : Tag) (body : List ℕ) (comm : Context) (given : IsGiven reports d i s j) → k < j →
+    IsStep (report_at reports s) k (Send to tag body comm) Sent → slice_get (group_at (report_at reports s).rank comm.number) to ≡ Some d →
+    Admits given.pattern (record { context = comm; source = given.letter.envelope.source; tag = tag }) →
+    (before : ℕ) × (before < i) × IsGiven reports d before s k
+
+-- No receive overtakes another: if one that was posted earlier also admits the letter, and hasn't ended by a failure before
+-- the pair is made, then it is given a letter that came earlier.
+abbrev pub ReceivesKeepOrder : List Report → Type 0
+ReceivesKeepOrder reports =
+    (d i s j k place : ℕ) (pattern : Pattern) (given : IsGiven reports d i s j) → k < i → IsPostedBy (report_at reports d) k place pattern →
+    Admits pattern given.letter.envelope → (StandsBetween (history_at reports d) (End place) place (max given.post_place given.come_place) → ⊥) →
+    (sender step : ℕ) × (earlier : IsGiven reports d k sender step) × (earlier.come_place < given.come_place)
+
+-- a receive of the rank d is left: it is neither over nor given a letter
+pub record IsLeftWaiting (reports : List Report) (d i : ℕ) (pattern : Pattern) : Type 0 where
+  pub place : ℕ
+  pub receive : IsPostedBy (report_at reports d) i place pattern
+  pub live : IsLiveReceive (history_at reports d) place pattern (length (history_at reports d))
+  pub given_none : (s j : ℕ) → IsGiven reports d i s j → ⊥
+
+-- a letter that came to the rank d is left: its communicator isn't revoked, and no receive is given it
+pub record IsLeftKept (reports : List Report) (d s j : ℕ) (letter : Letter) : Type 0 where
+  pub place : ℕ
+  pub sent : IsSentBy reports d place letter s j
+  pub live : IsLiveLetter (history_at reports d) place letter (length (history_at reports d))
+  pub given_to_none : (i : ℕ) → IsGiven reports d i s j → ⊥
+
+-- No match is missed: no receive that is left admits a letter that is left.
+abbrev pub NoneIsMissed : List Report → Type 0
+NoneIsMissed reports =
+    (d i s j : ℕ) (pattern : Pattern) (letter : Letter) → d < length reports → IsLeftWaiting reports d i pattern → IsLeftKept reports d s j letter →
+    Admits pattern letter.envelope → ⊥
+
+-- All of this: what a trace tells of letters is true of what was sent, once each and in order.
+pub record IsFaithful (reports : List Report) : Type 0 where
+  pub as_sent : ComeAsSent reports
+  pub done : DoneIsGiven reports
+  pub over : OverIsTrue reports
+  pub once : GivesOnce reports
+  pub dones_differ : DonesDiffer reports
+  pub letters_in_order : LettersKeepOrder reports
+  pub receives_in_order : ReceivesKeepOrder reports
+  pub one_pairing : HasOnePairing reports
+  pub none_missed : NoneIsMissed reports

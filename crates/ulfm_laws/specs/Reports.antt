@@ -1,0 +1,38 @@
+-- Reports of ranks, by the ranks' numbers.
+use Rattle.std.specs.Prelude.{◌≡◌, ℕ, true, false, List, [], length, slice_index_or}
+use Rattle.ulfm_base.specs.declared.decision.Decision.{Decision}
+use Rattle.ulfm_base.specs.Lists.{at}
+use Rattle.ulfm_rank.specs.declared.entry.Entry.TheVariants.{Adopted}
+use Rattle.ulfm_rank.specs.Communicators.{is_made}
+use Rattle.ulfm_rank.specs.Facts.{is_stopped}
+use Rattle.ulfm_rank.specs.State.{start_state}
+use Rattle.ulfm_script.specs.Job.{Seen}
+use Rattle.ulfm_script.specs.Report.{Report}
+
+-- a report where there is none
+abbrev pub no_report : Report
+no_report = record { rank = start_state 0 0; steps = []; starved = 0 }
+
+-- the report of the rank r
+abbrev pub report_at : List Report → ℕ → Report
+report_at reports r = slice_index_or reports r no_report
+
+-- for each rank of a job there is one of these
+abbrev pub IsEach : {X : Type 0} → Seen → List X → Type 0
+IsEach job xs = length xs ≡ job.ranks
+
+-- the rank runs
+abbrev pub IsRunning : Report → Type 0
+IsRunning told = is_stopped told.rank.log ≡ false
+
+-- the rank has stopped
+abbrev pub HasStopped : Report → Type 0
+HasStopped told = is_stopped told.rank.log ≡ true
+
+-- the communicator of a context was made at the rank
+abbrev pub HasMade : Report → ℕ → Type 0
+HasMade told c = is_made told.rank.ranks told.rank.log c ≡ true
+
+-- the rank's log adopts this decision
+abbrev pub HasAdopted : Report → Decision → Type 0
+HasAdopted told d = (k : ℕ) × at told.rank.log k (Adopted d)

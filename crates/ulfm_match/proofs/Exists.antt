@@ -1,0 +1,120 @@
+-- Each history that can happen has a lawful pairing.
+use Rattle.std.proofs.Common.{◌≡◌, ℕ, ◌+◌, inl, inr, Bool, false, List, [], ◌∷◌, ◌++◌, length, refl, sym, subst, append-nil, append_assoc}
+use Rattle.std.specs.Prelude.{filter, not, ◌==◌}
+use Rattle.std.proofs.lemmas.Option.{slice_get_within}
+use Rattle.ulfm_base.specs.declared.pattern.Pattern.{Pattern}
+use Rattle.ulfm_base.specs.declared.envelope.Letter.{Letter}
+use Rattle.ulfm_base.specs.Pattern.{Admits}
+use Rattle.ulfm_match.specs.History.{Event, Post, Come, End, Clear, PostAt, IsWellFormed, number}
+use Rattle.ulfm_match.specs.Pairing.{Pairing, LawfulPairing}
+use Rattle.ulfm_match.specs.State.{State, Tracks, IsOpen}
+use Rattle.ulfm_match.proofs.ArriveKeeps.{arrive_keeps}
+use Rattle.ulfm_match.proofs.ArriveTakes.{arrive_takes}
+use Rattle.ulfm_match.proofs.Ascending.{ascending_filter}
+use Rattle.ulfm_match.proofs.Cut.{get_front, get_in_front}
+use Rattle.ulfm_match.proofs.Decide.{Contains-none}
+use Rattle.ulfm_match.proofs.EndSteps.{end_step, clear_filtered, other_context, passes_context}
+use Rattle.ulfm_match.proofs.Least.{first_is_least}
+use Rattle.ulfm_match.proofs.Members.{Contains-filter, filter-Contains}
+use Rattle.ulfm_match.proofs.PostTakes.{post_takes}
+use Rattle.ulfm_match.proofs.PostWaits.{post_waits}
+use Rattle.ulfm_match.proofs.Admitted.{admits_either, take_first}
+use Rattle.ulfm_match.proofs.Histories.{get_here}
+
+-- a history with a lawful pairing and its remains
+record IsPaired (h : List Event) : Type 0 where
+  pub pairing : Pairing
+  pub state : State
+  pub tracks : Tracks h pairing state
+
+abbrev a_state : List (ℕ × Pattern) → List (ℕ × Letter) → ℕ → State
+a_state waiting kept count = record { waiting = waiting; kept = kept; count = count; prepared = false }
+
+module _ (h : List Event) (t : IsPaired h) where
+  paired-post : (p : Pattern) → IsOpen h p.context.number → IsPaired (h ++ Post p ∷ [])
+  paired-post p open' =
+      let s : State = t.state in
+      let P : ℕ × Letter → Type 0 = λ y. Admits p y.1.envelope in
+      elim (take_first P (λ y. admits_either p y.1.envelope) s.kept) [
+        | inl f ↦
+            let k = post_takes h t.pairing s p t.tracks open' f.0 f.1 (first_is_least P s.kept f.0 f.1 t.tracks.remains.kept.ascending f.2) (a_state s.waiting f.0 (s.count + 1)) refl refl refl in
+            record { pairing = t.pairing ++ (length h, k.0) ∷ []; state = a_state s.waiting f.0 (s.count + 1); tracks = k.2 }
+        | inr none ↦ record {
+          pairing = t.pairing;
+          state = a_state (s.waiting ++ (s.count, p) ∷ []) s.kept (s.count + 1);
+          tracks = post_waits h t.pairing s p t.tracks open' none (a_state (s.waiting ++ (s.count, p) ∷ []) s.kept (s.count + 1)) refl refl refl;
+        }
+      ]
+
+  paired-come : (l : Letter) → IsOpen h l.envelope.context.number → IsPaired (h ++ Come l ∷ [])
+  paired-come l open' =
+      let s : State = t.state in
+      let P : ℕ × Pattern → Type 0 = λ y. Admits y.1 l.envelope in
+      elim (take_first P (λ y. admits_either y.1 l.envelope) s.waiting) [
+        | inl f ↦
+            let k = arrive_takes h t.pairing s l t.tracks open' f.0 f.1 (first_is_least P s.waiting f.0 f.1 t.tracks.remains.waiting.ascending f.2) (a_state f.0 s.kept (s.count + 1)) refl refl refl in
+            record { pairing = t.pairing ++ (k.0, length h) ∷ []; state = a_state f.0 s.kept (s.count + 1); tracks = k.3 }
+        | inr none ↦ record {
+          pairing = t.pairing;
+          state = a_state s.waiting (s.kept ++ (s.count, l) ∷ []) (s.count + 1);
+          tracks = arrive_keeps h t.pairing s l t.tracks open' none (a_state s.waiting (s.kept ++ (s.count, l) ∷ []) (s.count + 1)) refl refl refl;
+        }
+      ]
+
+  paired-end : (i : ℕ) (p : Pattern) → PostAt h i p → IsPaired (h ++ End i ∷ [])
+  paired-end i p posted =
+      let s : State = t.state in
+      let W : ℕ × Pattern → Bool = λ y. not (y.0 == number h i) in
+      let new : State = a_state (filter W s.waiting) s.kept s.count in
+      record {
+        pairing = t.pairing;
+        state = new;
+        tracks = end_step h t.pairing s t.tracks i p posted new refl (ascending_filter W s.waiting t.tracks.remains.waiting.ascending)
+            (λ y c. let f = Contains-filter W s.waiting y c in (f.0, other_context y.0 (number h i) f.1))
+            (λ y c n. filter-Contains W s.waiting y c (passes_context y.0 (number h i) n)) refl;
+      }
+
+  paired-clear : (c : ℕ) → IsPaired (h ++ Clear c ∷ [])
+  paired-clear c =
+      let s : State = t.state in
+      let new : State = a_state (filter (λ (y : ℕ × Pattern). not (y.1.context.number == c)) s.waiting) (filter (λ (y : ℕ × Letter). not (y.1.envelope.context.number == c)) s.kept) s.count in
+      record { pairing = t.pairing; state = new; tracks = clear_filtered h t.pairing s t.tracks c new refl refl refl }
+
+-- one more event of a history that can happen
+paired-next : (h : List Event) (e : Event) (rest : List Event) → IsPaired h → IsWellFormed (h ++ e ∷ rest) → IsPaired (h ++ e ∷ [])
+paired-next h (Post p) rest t wf = paired-post h t p (λ k c. wf.no_posts k (length h) p (slice_get_within h k (Clear p.context.number) c) (get_here h (Post p) rest) (get_front h (Post p ∷ rest) k (Clear p.context.number) c))
+paired-next h (Come l) rest t wf = paired-come h t l (λ k c. wf.no_letters k (length h) l (slice_get_within h k (Clear l.envelope.context.number) c) (get_here h (Come l) rest) (get_front h (Come l ∷ rest) k (Clear l.envelope.context.number) c))
+paired-next h (End i) rest t wf = let e = wf.ends i (length h) (get_here h (End i) rest) in paired-end h t i e.0 (get_in_front h (End i ∷ rest) i (Post e.0) e.1 e.2)
+paired-next h (Clear c) rest t wf = paired-clear h t c
+
+paired-all : (rest h : List Event) → IsPaired h → IsWellFormed (h ++ rest) → IsPaired (h ++ rest)
+paired-all [] h t wf = subst (λ (g : List Event). IsPaired g) (sym (append-nil h)) t
+paired-all (e ∷ rest) h t wf =
+    let same : (h ++ e ∷ []) ++ rest ≡ h ++ e ∷ rest = append_assoc h (e ∷ []) rest in
+    subst (λ (g : List Event). IsPaired g) same (paired-all rest (h ++ e ∷ []) (paired-next h e rest t wf) (subst (λ (g : List Event). IsWellFormed g) (sym same) wf))
+
+paired-none : IsPaired []
+paired-none = record {
+  pairing = [];
+  state = a_state [] [] 0;
+  tracks = record {
+    well_formed = record { ends = λ i k g. let bad : ⊥ = cc in absurd bad; no_posts = λ k i p l g f. let bad : ⊥ = cc in bad; no_letters = λ k b l m g f. let bad : ⊥ = cc in bad };
+    lawful = record {
+      one_letter = λ i b d p q. absurd (Contains-none (i, b) p);
+      one_receive = λ i j b p q. absurd (Contains-none (i, b) p);
+      matched = λ i b p. absurd (Contains-none (i, b) p);
+      earlier_letters = λ i b a p l q. absurd (Contains-none (i, b) q);
+      earlier_receives = λ i b j p l q. absurd (Contains-none (i, b) q);
+      none_missed = λ n i b p l le w k adm. let g = w.live.posted in let bad : ⊥ = cc in bad;
+    };
+    remains = record {
+      count = refl;
+      waiting = record { ascending = tt; sound = λ k x c. absurd (Contains-none (k, x) c); complete = λ i x w. let g = w.live.posted in let bad : ⊥ = cc in absurd bad };
+      kept = record { ascending = tt; sound = λ k x c. absurd (Contains-none (k, x) c); complete = λ i x w. let g = w.live.came in let bad : ⊥ = cc in absurd bad };
+    };
+  };
+}
+
+-- a history that can happen has a lawful pairing
+pub some_pairing : (h : List Event) → IsWellFormed h → (r : Pairing) × LawfulPairing h r
+some_pairing h wf = let t = paired-all h [] paired-none wf in (t.pairing, t.tracks.lawful)

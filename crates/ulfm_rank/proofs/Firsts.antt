@@ -1,0 +1,67 @@
+-- The first entry into a shrink that a log tells of, and that a rank took from another.
+use Rattle.std.proofs.Common.{◌≡◌, ℕ, Bool, true, false, cond, eqb, List, [], ◌∷◌, ◌++◌, refl, ap, sym, ◌∙◌, inl, inr, ◌⊎◌, Option, Some, None}
+use Rattle.std.specs.Prelude.{is_some}
+use Rattle.std.proofs.lemmas.Bool.{false≢true}
+use Rattle.ulfm_base.specs.declared.rank_set.RankSet.{RankSet}
+use Rattle.ulfm_base.specs.declared.item.Item.{Item}
+use Rattle.ulfm_rank.specs.declared.entry.Entry.{Entry}
+use Rattle.ulfm_rank.specs.declared.entry.Entry.TheVariants.{Took}
+use Rattle.ulfm_rank.specs.Facts.{took, took_by}
+use Rattle.ulfm_rank.specs.Log.{or_else, first_of}
+use Rattle.ulfm_rank.specs.Shrink.{item_entry, heard_of}
+
+pub or_none : {X : Type 0} (o : Option X) → or_else o None ≡ o
+or_none None = refl
+or_none (Some x) = refl
+
+or_assoc : {X : Type 0} (a b c : Option X) → or_else (or_else a b) c ≡ or_else a (or_else b c)
+or_assoc None b c = refl
+or_assoc (Some x) b c = refl
+
+-- the first of two that is there is one of them
+pub or_else_cases : {X : Type 0} (a b : Option X) (x : X) → or_else a b ≡ Some x → (a ≡ Some x) ⊎ ((a ≡ None) × (b ≡ Some x))
+or_else_cases None b x h = inr (refl, h)
+or_else_cases (Some y) b x h = inl h
+
+pub or_else_first : {X : Type 0} (a b : Option X) (x : X) → a ≡ Some x → or_else a b ≡ Some x
+or_else_first a b x h = ap (λ (o : Option _). or_else o b) h
+
+pub or_else_second : {X : Type 0} (a b : Option X) → a ≡ None → or_else a b ≡ b
+or_else_second a b h = ap (λ (o : Option _). or_else o b) h
+
+pub some_from : {X : Type 0} (o : Option X) → is_some o ≡ true → (x : X) × (o ≡ Some x)
+some_from None h = absurd (false≢true h)
+some_from (Some x) h = (x, refl)
+
+pub none_from : {X : Type 0} (o : Option X) → is_some o ≡ false → o ≡ None
+none_from None h = refl
+none_from (Some x) h = absurd (false≢true (sym h))
+
+pub first-push : {X : Type 0} (give : Entry → Option X) (log : List Entry) (e : Entry) → first_of give (log ++ e ∷ []) ≡ or_else (first_of give log) (give e)
+first-push give [] e = or_none (give e)
+first-push give (x ∷ log) e = ap (or_else (give x)) (first-push give log e) ∙ sym (or_assoc (give x) (first_of give log) (give e))
+
+-- the set of the first entry into the shrink of c among these items
+abbrev pub first_set : ℕ → List Item → Option RankSet
+first_set c [] = None
+first_set c (item ∷ items) = or_else (item_entry c item) (first_set c items)
+
+pub set-append : (c : ℕ) (xs ys : List Item) → first_set c (xs ++ ys) ≡ or_else (first_set c xs) (first_set c ys)
+set-append c [] ys = refl
+set-append c (x ∷ xs) ys = ap (or_else (item_entry c x)) (set-append c xs ys) ∙ sym (or_assoc (item_entry c x) (first_set c xs) (first_set c ys))
+
+heard_took : (c s : ℕ) (e : Entry) → heard_of c s e ≡ first_set c (took_by s e)
+heard_took c s (Took source item) = pick (eqb source.number s)
+  where
+    pick : (b : Bool) → cond b (item_entry c item) None ≡ first_set c (cond b (item ∷ []) [])
+    pick true = sym (or_none (item_entry c item))
+    pick false = refl
+heard_took c s _ = refl
+
+-- what a rank heard of the entry of s is the first that it took from s
+pub heard-took : (log : List Entry) (c s : ℕ) → first_of (heard_of c s) log ≡ first_set c (took log s)
+heard-took [] c s = refl
+heard-took (e ∷ log) c s =
+    ap (λ (o : Option RankSet). or_else o (first_of (heard_of c s) log)) (heard_took c s e)
+    ∙ ap (or_else (first_set c (took_by s e))) (heard-took log c s)
+    ∙ sym (set-append c (took_by s e) (took log s))

@@ -1,0 +1,96 @@
+-- What an entry makes of the communicators of a log.
+use Rattle.std.proofs.Common.{◌≡◌, ℕ, Bool, true, false, cond, eqb, List, [], ◌∷◌, ◌++◌, refl, ap, sym, ◌∙◌, inl, inr, ◌⊎◌, Some, None}
+use Rattle.std.proofs.lemmas.Bool.{eqb-true}
+use Rattle.std.proofs.lemmas.Option.{none-some, same_Some}
+use Rattle.ulfm_base.specs.declared.context.Context.{Context}
+use Rattle.ulfm_base.specs.declared.decision.Decision.{Decision}
+use Rattle.ulfm_base.specs.Context.{dup_of, shrink_of}
+use Rattle.ulfm_base.specs.Group.{numbers_from}
+use Rattle.ulfm_rank.specs.declared.entry.Entry.{Entry}
+use Rattle.ulfm_rank.specs.declared.entry.Entry.TheVariants.{Sent, Posted, Released, Acknowledged, Revoked, Duplicated, Entered, Adopted, Stopped, Took}
+use Rattle.ulfm_rank.specs.Communicators.{find_group, copy_of, made_by, comms_of, group_of, members_of, or_empty}
+use Rattle.ulfm_rank.specs.Log.{or_else}
+use Rattle.ulfm_rank.proofs.Gather.{gathered-push}
+use Rattle.ulfm_rank.proofs.Firsts.{or_else_cases, or_else_first}
+
+pub find-append : (c : ℕ) (xs ys : List (ℕ × List ℕ)) → find_group c (xs ++ ys) ≡ or_else (find_group c xs) (find_group c ys)
+find-append c [] ys = refl
+find-append c (x ∷ xs) ys = pick (eqb x.0 c) (find-append c xs ys)
+  where
+    pick : (b : Bool) → find_group c (xs ++ ys) ≡ or_else (find_group c xs) (find_group c ys) → cond b (Some x.1) (find_group c (xs ++ ys)) ≡ or_else (cond b (Some x.1) (find_group c xs)) (find_group c ys)
+    pick true h = refl
+    pick false h = h
+
+pub group-push : (n : ℕ) (log : List Entry) (e : Entry) (c : ℕ) → group_of n (log ++ e ∷ []) c ≡ or_else (group_of n log c) (find_group c (made_by log (comms_of n log) e))
+group-push n log e c =
+    ap (find_group c) (gathered-push made_by ((0, numbers_from 0 n) ∷ []) log e)
+    ∙ find-append c (comms_of n log) (made_by log (comms_of n log) e)
+
+-- the group of a communicator that was made stays
+pub group_stays : (n : ℕ) (log : List Entry) (e : Entry) (c : ℕ) (g : List ℕ) → group_of n log c ≡ Some g → group_of n (log ++ e ∷ []) c ≡ Some g
+group_stays n log e c g h = group-push n log e c ∙ or_else_first (group_of n log c) _ g h
+
+pub members_found : (n : ℕ) (log : List Entry) (c : ℕ) (g : List ℕ) → group_of n log c ≡ Some g → members_of n log c ≡ g
+members_found n log c g h = ap or_empty h
+
+-- of one entry alone is a group found under its context
+pub found_one : (c d : ℕ) (g h : List ℕ) → find_group c ((d, g) ∷ []) ≡ Some h → (c ≡ d) × (g ≡ h)
+found_one c d g h e = pick (eqb d c) refl e
+  where
+    pick : (b : Bool) → eqb d c ≡ b → cond b (Some g) None ≡ Some h → (c ≡ d) × (g ≡ h)
+    pick true same k = (sym (eqb-true d c same), same_Some g h k)
+    pick false same k = absurd (none-some h k)
+
+found_copy : (c p d : ℕ) (comms : List (ℕ × List ℕ)) (h : List ℕ) → find_group c (copy_of p d comms) ≡ Some h → (c ≡ d) × (find_group p comms ≡ Some h)
+found_copy c p d [] h e = absurd (none-some h e)
+found_copy c p d (x ∷ comms) h e = pick (eqb x.0 p) (found_copy c p d comms h) e
+  where
+    pick : (b : Bool) → (find_group c (copy_of p d comms) ≡ Some h → (c ≡ d) × (find_group p comms ≡ Some h)) → find_group c (cond b ((d, x.1) ∷ []) (copy_of p d comms)) ≡ Some h → (c ≡ d) × (cond b (Some x.1) (find_group p comms) ≡ Some h)
+    pick true next k = let one = found_one c d x.1 h k in (one.0, ap Some one.1)
+    pick false next k = next k
+
+-- an entry duplicates a communicator of this group, and the duplicate has the context c
+pub record Duplicates (comms : List (ℕ × List ℕ)) (e : Entry) (c : ℕ) (g : List ℕ) : Type 0 where
+  pub parent : Context
+  pub entry : e ≡ Duplicated parent
+  pub child : c ≡ dup_of parent.number
+  pub group : find_group parent.number comms ≡ Some g
+
+-- an entry adopts a decision with this new group, whose communicator has the context c
+pub record Adopts (e : Entry) (c : ℕ) (g : List ℕ) : Type 0 where
+  pub decision : Decision
+  pub entry : e ≡ Adopted decision
+  pub child : c ≡ shrink_of decision.context.number
+  pub group : decision.fresh ≡ g
+
+pub made_cases : (before : List Entry) (comms : List (ℕ × List ℕ)) (e : Entry) (c : ℕ) (g : List ℕ) → find_group c (made_by before comms e) ≡ Some g → Duplicates comms e c g ⊎ Adopts e c g
+made_cases before comms (Duplicated parent) c g h =
+    let found = found_copy c parent.number (dup_of parent.number) comms g h in
+    inl (record { parent = parent; entry = refl; child = found.0; group = found.1 })
+made_cases before comms (Adopted decision) c g h =
+    let found = found_one c (shrink_of decision.context.number) decision.fresh g h in
+    inr (record { decision = decision; entry = refl; child = found.0; group = found.1 })
+made_cases before comms (Sent to letter) c g h = absurd (none-some g h)
+made_cases before comms (Posted pattern) c g h = absurd (none-some g h)
+made_cases before comms (Released id answer) c g h = absurd (none-some g h)
+made_cases before comms (Acknowledged context total) c g h = absurd (none-some g h)
+made_cases before comms (Revoked context) c g h = absurd (none-some g h)
+made_cases before comms (Entered context known) c g h = absurd (none-some g h)
+made_cases before comms Stopped c g h = absurd (none-some g h)
+made_cases before comms (Took source item) c g h = absurd (none-some g h)
+
+-- the group of a context: it was there, or the last entry made it
+pub group_cases : (n : ℕ) (log : List Entry) (e : Entry) (c : ℕ) (g : List ℕ) → group_of n (log ++ e ∷ []) c ≡ Some g → (group_of n log c ≡ Some g) ⊎ (Duplicates (comms_of n log) e c g ⊎ Adopts e c g)
+group_cases n log e c g h = elim (or_else_cases (group_of n log c) (find_group c (made_by log (comms_of n log) e)) g (sym (group-push n log e c) ∙ h)) [
+  | inl was ↦ inl was
+  | inr now ↦ inr (made_cases log (comms_of n log) e c g now.1)
+]
+
+pub found_cases : (before : List Entry) (found : List (ℕ × List ℕ)) (e : Entry) (c : ℕ) (g : List ℕ) → find_group c (found ++ made_by before found e) ≡ Some g → (find_group c found ≡ Some g) ⊎ (Duplicates found e c g ⊎ Adopts e c g)
+found_cases before found e c g h = elim (or_else_cases (find_group c found) (find_group c (made_by before found e)) g (sym (find-append c found (made_by before found e)) ∙ h)) [
+  | inl was ↦ inl was
+  | inr now ↦ inr (made_cases before found e c g now.1)
+]
+
+pub still_found : (c : ℕ) (found more : List (ℕ × List ℕ)) (g : List ℕ) → find_group c found ≡ Some g → find_group c (found ++ more) ≡ Some g
+still_found c found more g h = find-append c found more ∙ or_else_first (find_group c found) (find_group c more) g h

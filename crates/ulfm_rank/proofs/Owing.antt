@@ -1,0 +1,105 @@
+-- What a log owes of its entries into shrinks.
+use Rattle.std.proofs.Common.{◌≡◌, ◌≢◌, ℕ, Bool, true, false, cond, eqb, List, [], ◌∷◌, ◌++◌, refl, ap, sym, subst, ◌∙◌, inl, inr, Option, Some, None}
+use Rattle.std.specs.Prelude.{is_some, ◌&&◌}
+use Rattle.std.proofs.lemmas.Bool.{ne_eqb}
+use Rattle.std.proofs.lemmas.Option.{none-some}
+use Rattle.ulfm_base.specs.declared.context.Context.{Context}
+use Rattle.ulfm_base.specs.declared.item.Item.{Item}
+use Rattle.ulfm_base.specs.declared.item.Item.TheVariants.{Letter as Mail, Gone, Revoke, Enter}
+use Rattle.ulfm_base.specs.declared.rank_set.RankSet.{RankSet}
+use Rattle.ulfm_base.specs.Group.{is_member}
+use Rattle.ulfm_rank.specs.declared.entry.Entry.{Entry}
+use Rattle.ulfm_rank.specs.declared.entry.Entry.TheVariants.{Sent, Revoked, Entered, Took}
+use Rattle.ulfm_rank.specs.Communicators.{is_made, members_of}
+use Rattle.ulfm_rank.specs.Facts.{is_gone, is_revoked}
+use Rattle.ulfm_rank.specs.Log.{or_else}
+use Rattle.ulfm_rank.specs.Owed.{owed, owed_by, is_told}
+use Rattle.ulfm_rank.specs.Shrink.{entry_of, has_entered}
+use Rattle.ulfm_rank.proofs.Gather.{gathered-push}
+use Rattle.ulfm_rank.proofs.Firsts.{or_none, or_else_cases, or_else_first, or_else_second, some_from, none_from, first-push, first_set, set-append}
+use Rattle.ulfm_rank.proofs.Entering.{Fits, EntersMade, own_set, own_stays, own_cases, entry_parts, entry_here, gone_before, members_stay}
+
+pub owed-push : (n me : ℕ) (log : List Entry) (e : Entry) (d : ℕ) → owed n me (log ++ e ∷ []) d ≡ owed n me log d ++ owed_by n me d log (owed n me log d) e
+owed-push n me log e d = gathered-push {X = Item} (owed_by n me d) [] log e
+
+-- nothing that a test leaves out is told
+kept : (c : ℕ) (b : Bool) (item : Item) (set : RankSet) → first_set c (cond b (item ∷ []) []) ≡ Some set → first_set c (item ∷ []) ≡ Some set
+kept c true item set h = h
+kept c false item set h = absurd (none-some set h)
+
+untold : (c : ℕ) (a b : Bool) (context : Context) → first_set c (cond a [] (cond b (Revoke context ∷ []) [])) ≡ None
+untold c true b context = refl
+untold c false true context = refl
+untold c false false context = refl
+
+no_letter : (c : ℕ) (b : Bool) (item : Item) → first_set c (item ∷ []) ≡ None → first_set c (cond b (item ∷ []) []) ≡ None
+no_letter c true item h = h
+no_letter c false item h = refl
+
+bad : (o : Option RankSet) (set : RankSet) → o ≡ None → o ≡ Some set → ⊥
+bad o set none some = none-some set (sym none ∙ some)
+
+-- an entry that owes word of an entry into the shrink of c is that entry
+pub owed_entry : (n me d c : ℕ) (before : List Entry) (found : List Item) (e : Entry) (set : RankSet) → first_set c (owed_by n me d before found e) ≡ Some set → entry_of c e ≡ Some set
+owed_entry n me d c before found (Entered context known) set h =
+    sym (or_none (entry_of c (Entered context known))) ∙ kept c (is_member (members_of n before context.number) d && is_told me before d) (Enter context known) set h
+owed_entry n me d c before found (Sent to letter) set h = absurd (bad _ set (no_letter c (eqb to.number d) (Mail letter) refl) h)
+owed_entry n me d c before found (Revoked context) set h = absurd (bad _ set (untold c (is_revoked before context.number) (is_told me before d) context) h)
+owed_entry n me d c before found (Took source (Revoke context)) set h = absurd (bad _ set (untold c (is_revoked before context.number) (is_told me before d) context) h)
+owed_entry n me d c before found (Took source (Mail letter)) set h = absurd (none-some set h)
+owed_entry n me d c before found (Took source Gone) set h = absurd (none-some set h)
+owed_entry n me d c before found (Took source (Enter context known)) set h = absurd (none-some set h)
+owed_entry n me d c before found _ set h = absurd (none-some set h)
+
+-- what is owed of an entry is the set of the rank's own
+abbrev pub OwesOwn : ℕ → ℕ → List Entry → Type 0
+OwesOwn n me log = (d c : ℕ) (set : RankSet) → first_set c (owed n me log d) ≡ Some set → own_set log c ≡ Some set
+
+pub own_first : (log : List Entry) (e : Entry) (c : ℕ) (set : RankSet) → has_entered log c ≡ false → entry_of c e ≡ Some set → own_set (log ++ e ∷ []) c ≡ Some set
+own_first log e c set fresh here = first-push (entry_of c) log e ∙ or_else_second (own_set log c) (entry_of c e) (none_from (own_set log c) fresh) ∙ here
+
+pub owes_own : (n me : ℕ) (log : List Entry) (e : Entry) → OwesOwn n me log → Fits n me log e → OwesOwn n me (log ++ e ∷ [])
+owes_own n me log e h fits d c set told = elim (or_else_cases _ (first_set c (owed_by n me d log (owed n me log d) e)) set (sym (set-append c (owed n me log d) (owed_by n me d log (owed n me log d) e)) ∙ ap (first_set c) (sym (owed-push n me log e d)) ∙ told)) [
+  | inl was ↦ own_stays log e c set (h d c set was)
+  | inr now ↦
+      let here = owed_entry n me d c log (owed n me log d) e set now.1 in
+      let is = entry_parts c e set here in
+      let F : Entry → Type 0 = λ (x : Entry). Fits n me log x in
+      own_first log e c set (ap (has_entered log) (sym is.2) ∙ (subst F is.1 fits).1) here
+]
+
+-- each other member that isn't known as gone is told of an entry
+abbrev pub OwesEach : ℕ → ℕ → List Entry → Type 0
+OwesEach n me log = (d c : ℕ) → has_entered log c ≡ true → is_member (members_of n log c) d ≡ true → me ≢ d → is_gone log d ≡ false → is_some (first_set c (owed n me log d)) ≡ true
+
+told_now : (n me d c : ℕ) (before : List Entry) (found : List Item) (context : Context) (known : RankSet) → context.number ≡ c → is_member (members_of n before context.number) d ≡ true → me ≢ d → is_gone before d ≡ false → first_set c (owed_by n me d before found (Entered context known)) ≡ Some known
+told_now n me d c before found context known same member other stays =
+    rw (member, ne_eqb me d other, stays) (or_none (entry_of c (Entered context known)) ∙ entry_here context known c same)
+
+set-push : (n me : ℕ) (log : List Entry) (e : Entry) (d c : ℕ) → first_set c (owed n me (log ++ e ∷ []) d) ≡ or_else (first_set c (owed n me log d)) (first_set c (owed_by n me d log (owed n me log d) e))
+set-push n me log e d c = ap (first_set c) (owed-push n me log e d) ∙ set-append c (owed n me log d) (owed_by n me d log (owed n me log d) e)
+
+some_either : (a b : Option RankSet) → is_some a ≡ true → is_some (or_else a b) ≡ true
+some_either a b h = let found = some_from a h in ap is_some (or_else_first a b found.0 found.1)
+
+some_second : (a b : Option RankSet) (set : RankSet) → b ≡ Some set → is_some (or_else a b) ≡ true
+some_second None b set h = ap is_some h
+some_second (Some x) b set h = refl
+
+pub owes_each : (n me : ℕ) (log : List Entry) (e : Entry) → EntersMade n log → OwesEach n me log → Fits n me log e → OwesEach n me (log ++ e ∷ [])
+owes_each n me log e made h fits d c entered member other stays =
+    let set = some_from (own_set (log ++ e ∷ []) c) entered in
+    ap is_some (set-push n me log e d c)
+    ∙ elim (own_cases log e c set.0 set.1) [
+      | inl was ↦
+          let same = members_stay n log e c (made c (ap is_some was)) in
+          some_either (first_set c (owed n me log d)) (first_set c (owed_by n me d log (owed n me log d) e)) (h d c (ap is_some was) (ap (λ (g : List ℕ). is_member g d) (sym same) ∙ member) other (gone_before log e d stays))
+      | inr now ↦
+          let is = entry_parts c e set.0 now.1 in
+          let F : Entry → Type 0 = λ (x : Entry). Fits n me log x in
+          let ok = subst F is.1 fits in
+          let same = members_stay n log e c (ap (is_made n log) (sym is.2) ∙ ok.0) in
+          let inside : is_member (members_of n log is.0.number) d ≡ true = ap (λ i. is_member (members_of n log i) d) is.2 ∙ ap (λ (g : List ℕ). is_member g d) (sym same) ∙ member in
+          some_second (first_set c (owed n me log d)) (first_set c (owed_by n me d log (owed n me log d) e)) set.0
+          (ap (λ (x : Entry). first_set c (owed_by n me d log (owed n me log d) x)) is.1 ∙ told_now n me d c log (owed n me log d) is.0 set.0 is.2 inside other (gone_before log e d stays))
+    ]

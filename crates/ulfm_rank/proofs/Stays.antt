@@ -1,0 +1,106 @@
+-- What is told of a receive stays as the log grows.
+use Rattle.std.proofs.Common.{◌≡◌, ℕ, ◌+◌, ◌<◌, ◌⊎◌, inl, inr, true, List, [], ◌∷◌, ◌++◌, length, refl, ap, sym, ◌∙◌, subst, arith, Option, Some, None}
+use Rattle.std.specs.Prelude.{slice_get, max}
+use Rattle.std.proofs.lemmas.Option.{slice_get_within}
+use Rattle.ulfm_base.specs.declared.envelope.Letter.{Letter}
+use Rattle.ulfm_base.specs.declared.pattern.Pattern.{Pattern}
+use Rattle.ulfm_base.specs.declared.error.CallError.{CallError}
+use Rattle.ulfm_base.specs.declared.error.CallError.TheVariants.{ProcFailed, Revoked, Truncated}
+use Rattle.ulfm_base.specs.Group.{rank_in}
+use Rattle.ulfm_match.specs.History.{Event, Post, Come, End, Clear, PostAt}
+use Rattle.ulfm_match.specs.Pairing.{Pairing, LawfulPairing, inside}
+use Rattle.ulfm_match.proofs.Cut.{cut, get_front, get_in_front, inside_to, inside_back}
+use Rattle.ulfm_match.proofs.Decide.{lt_or_ge}
+use Rattle.ulfm_match.proofs.Unique.{same_pattern}
+use Rattle.ulfm_rank.specs.declared.entry.Entry.{Entry}
+use Rattle.ulfm_rank.specs.declared.entry.TestAnswer.{TestAnswer}
+use Rattle.ulfm_rank.specs.declared.entry.TestAnswer.TheVariants.{Done, Over, Pending, NotYet}
+use Rattle.ulfm_rank.specs.Answer.{Got, IsUnpaired, StandsFirst, IsOver, AnswersBy, is_release}
+use Rattle.ulfm_rank.specs.Communicators.{group_of, members_of, or_empty}
+use Rattle.ulfm_rank.specs.History.{history_of, events_by}
+use Rattle.ulfm_rank.proofs.Gather.{history-push}
+use Rattle.ulfm_rank.proofs.Grouped.{group_stays, members_found}
+
+-- what holds of the members of a communicator, and not of none, stays
+pub members_stay : (n : ℕ) (log : List Entry) (e : Entry) (c : ℕ) (P : List ℕ → Type 0) → (P [] → ⊥) → P (members_of n log c) → P (members_of n (log ++ e ∷ []) c)
+members_stay n log e c P none p = pick (group_of n log c) refl p
+  where
+    pick : (o : Option (List ℕ)) → group_of n log c ≡ o → P (or_empty o) → P (members_of n (log ++ e ∷ []) c)
+    pick None q p = absurd (none p)
+    pick (Some g) q p = subst P (sym (members_found n (log ++ e ∷ []) c g (group_stays n log e c g q))) p
+
+module _ (h xs : List Event) (r : Pairing) (law : LawfulPairing (h ++ xs) r) where
+  got_on : (i : ℕ) (letter : Letter) → Got h (inside (length h) r) i letter → Got (h ++ xs) r i letter
+  got_on i letter g = record { place = g.place; pairs = (inside_to (length h) r i g.place g.pairs).0; came = get_front h xs g.place (Come letter) g.came }
+
+  -- a receive that was over and unpaired isn't paired later
+  unpaired_on : (i place : ℕ) (p : Pattern) (e : Event) → PostAt h i p → IsUnpaired (inside (length h) r) i → i < place → slice_get h place ≡ Some e → (e ≡ End i) ⊎ (e ≡ Clear p.context.number) → IsUnpaired r i
+  unpaired_on i place p e posted free after is why b q =
+      let li : i < length h = slice_get_within h i (Post p) posted in
+      let lp : place < length h = slice_get_within h place e is in
+      elim (lt_or_ge b (length h)) [
+        | inl lb ↦ free b (inside_back (length h) r i b li lb q)
+        | inr far ↦
+            let live = (law.matched i b q).receive_live in
+            let before : place < max i b + 1 = omega (arith, far, lp) in
+            let same : (law.matched i b q).pattern ≡ p = same_pattern (h ++ xs) i (law.matched i b q).pattern p live.posted (get_front h xs i (Post p) posted) in
+            elim why [
+              | inl ended ↦ live.not_ended (record { place = place; after = after; before = before; is = get_front h xs place (End i) (is ∙ ap (λ (x : Event). Some x) ended) })
+              | inr cleared ↦
+                  live.not_cleared (record { place = place; after = after; before = before; is = get_front h xs place (Clear (law.matched i b q).pattern.context.number) (is ∙ ap (λ (x : Event). Some x) cleared ∙ ap (λ (w : Pattern). Some (Clear w.context.number)) (sym same)) })
+            ]
+      ]
+
+  first_on : (i : ℕ) (e o : Event) → StandsFirst h i e o → StandsFirst (h ++ xs) i e o
+  first_on i e o f =
+      let l : f.place < length h = slice_get_within h f.place e f.is in
+      record {
+        place = f.place;
+        after = f.after;
+        is = get_front h xs f.place e f.is;
+        first = λ st. f.first (record { place = st.place; after = st.after; before = st.before; is = back st.place (let b : st.place < f.place = st.before in omega (arith, b, l)) o st.is });
+      }
+    where
+      back : (k : ℕ) → k < length h → (x : Event) → slice_get (h ++ xs) k ≡ Some x → slice_get h k ≡ Some x
+      back k l x is = get_in_front h xs k x l is
+
+  over_on : (i : ℕ) (p : Pattern) (reason : CallError) → PostAt h i p → IsOver h (inside (length h) r) i p reason → IsOver (h ++ xs) r i p reason
+  over_on i p ProcFailed posted o = (unpaired_on i o.1.place p (End i) posted o.0 o.1.after o.1.is (inl refl), first_on i (End i) (Clear p.context.number) o.1)
+  over_on i p Revoked posted o = (unpaired_on i o.1.place p (Clear p.context.number) posted o.0 o.1.after o.1.is (inr refl), first_on i (Clear p.context.number) (End i) o.1)
+  over_on i p Truncated posted o = (o.0, got_on i o.0 o.1, o.2)
+  over_on i p _ posted o = absurd o
+
+-- an answer that released its request stays true
+pub answer_stays : (n : ℕ) (log : List Entry) (e : Entry) (i : ℕ) (p : Pattern) (answer : TestAnswer) → PostAt (history_of log) i p → is_release answer ≡ true
+    → ((r : Pairing) → LawfulPairing (history_of log) r → AnswersBy n log r i p answer) → (r : Pairing) → LawfulPairing (history_of (log ++ e ∷ [])) r → AnswersBy n (log ++ e ∷ []) r i p answer
+answer_stays n log e i p answer posted released old r law = stays answer released old
+  where
+    h : List Event
+    h = history_of log
+
+    xs : List Event
+    xs = events_by log h e
+
+    long : history_of (log ++ e ∷ []) ≡ h ++ xs
+    long = history-push log e
+
+    law' : LawfulPairing (h ++ xs) r
+    law' = subst (λ (g : List Event). LawfulPairing g r) long law
+
+    short : LawfulPairing h (inside (length h) r)
+    short = cut h xs r law'
+
+    stays : (answer : TestAnswer) → is_release answer ≡ true → ((r : Pairing) → LawfulPairing h r → AnswersBy n log r i p answer) → AnswersBy n (log ++ e ∷ []) r i p answer
+    stays (Done status body) k old =
+        let a = old (inside (length h) r) short in (
+          a.0,
+          subst (λ (g : List Event). Got g r i a.0) (sym long) (got_on h xs r law' i a.0 a.1),
+          a.2,
+          members_stay n log e p.context.number (λ (group : List ℕ). rank_in group a.0.envelope.source.number ≡ Some status.source) (λ q. cc) a.3,
+          a.4,
+          a.5,
+          a.6,
+        )
+    stays (Over reason) k old = subst (λ (g : List Event). IsOver g r i p reason) (sym long) (over_on h xs r law' i p reason posted (old (inside (length h) r) short))
+    stays Pending k old = let bad : ⊥ = cc in absurd bad
+    stays NotYet k old = let bad : ⊥ = cc in absurd bad

@@ -1,0 +1,62 @@
+-- What a poll of a step adds to a log fits it, and is no adoption.
+use Rattle.std.proofs.Common.{◌≡◌, ℕ, false, List, [], ◌∷◌, ◌++◌, ap, inl, inr, ◌⊎◌}
+use Rattle.std.specs.Prelude.{⊤}
+use Rattle.std.proofs.lemmas.Bool.{not-false}
+use Rattle.ulfm_rank.specs.declared.entry.Entry.{Entry}
+use Rattle.ulfm_rank.specs.declared.entry.Entry.TheVariants.{Entered, Adopted}
+use Rattle.ulfm_rank.specs.Checks.{Passes, lacks, shrink_checks}
+use Rattle.ulfm_rank.specs.Shrink.{has_entered}
+use Rattle.ulfm_rank.specs.State.{State, logged}
+use Rattle.ulfm_rank.proofs.Entering.{Fits}
+use Rattle.ulfm_rank.proofs.Refusals.{all_pass}
+use Rattle.ulfm_script.specs.declared.step.Step.{Step}
+use Rattle.ulfm_script.specs.declared.answer.StepAnswer.{StepAnswer}
+use Rattle.ulfm_script.specs.declared.answer.StepReport.{StepReport}
+use Rattle.ulfm_script.specs.Player.{Answers, IsOpen}
+use Rattle.ulfm_script.proofs.Polls.{IsApart, answers_plain, opens_adds}
+
+-- an entry adopts nothing
+abbrev pub IsPlain : Entry → Type 0
+IsPlain (Adopted d) = ⊥
+IsPlain _ = ⊤
+
+-- a log stays, or gets one entry that the rank may add, and that adopts nothing
+abbrev pub AddsPlain : ℕ → ℕ → List Entry → List Entry → Type 0
+AddsPlain n me old new = (new ≡ old) ⊎ ((e : Entry) × Fits n me old e × IsPlain e × (new ≡ old ++ e ∷ []))
+
+abbrev pub Adds : State → State → Type 0
+Adds old new = AddsPlain old.ranks old.me old.log new.log
+
+pub adds_same : (r new : State) → new ≡ r → Adds r new
+adds_same r new same = inl (ap (λ (s : State). s.log) same)
+
+pub adds_one : (r new : State) (e : Entry) → Fits r.ranks r.me r.log e → IsPlain e → new ≡ logged r e → Adds r new
+adds_one r new e fits plain only = inr (e, fits, plain, ap (λ (s : State). s.log) only)
+
+fits_apart : (n me : ℕ) (log : List Entry) (e : Entry) → IsApart e → Fits n me log e
+fits_apart n me log (Adopted d) h = absurd h
+fits_apart n me log (Entered context set) h = absurd h
+fits_apart n me log _ h = tt
+
+adopts_none : (e : Entry) → IsApart e → IsPlain e
+adopts_none (Adopted d) h = h
+adopts_none _ h = tt
+
+-- an answer of a poll adds one such entry at most
+pub answers_add : (done : List StepReport) (r : State) (asked : Step) (answer : StepAnswer) (new : State) → Answers done r asked answer new → Adds r new
+answers_add done r asked answer new h = elim (answers_plain done r asked answer new h) [
+  | inl same ↦ adds_same r new same.0
+  | inr one ↦ adds_one r new one.0 (fits_apart r.ranks r.me r.log one.0 one.1.apart) (adopts_none one.0 one.1.apart) one.2
+]
+
+pub shrink_passed : (r : State) (c : ℕ) → Passes (shrink_checks r c) → (lacks r c ≡ false) × (has_entered r.log c ≡ false)
+shrink_passed r c h = let all = all_pass (shrink_checks r c) h in (all.1.0, all.1.1.0)
+
+-- a poll that leaves a step open adds an entry into a shrink at most
+pub opens_add : (done : List StepReport) (r : State) (asked : Step) (new : State) → IsOpen done r asked new → Adds r new
+opens_add done r asked new h = elim (opens_adds done r asked new h) [
+  | inl same ↦ adds_same r new same
+  | inr entry ↦
+      let ok = shrink_passed r entry.0.number entry.1 in
+      adds_one r new (Entered entry.0 entry.2.known) (not-false _ ok.0, ok.1, entry.2.knows) tt entry.2.only
+]

@@ -1,0 +1,98 @@
+-- A player's answers stay right while its rank takes items, and with each answer more.
+use Rattle.std.proofs.Common.{◌≡◌, ℕ, true, List, [], ◌++◌, length, refl, ap, sym, subst, ◌∙◌, arith, append-nil}
+use Rattle.std.specs.Prelude.{All, Option, Some, None}
+use Rattle.ulfm_rank.specs.declared.entry.Entry.{Entry}
+use Rattle.ulfm_rank.specs.Facts.{is_stopped}
+use Rattle.ulfm_rank.specs.Paired.{IsPaired}
+use Rattle.ulfm_rank.specs.State.{State}
+use Rattle.ulfm_script.specs.declared.answer.StepReport.{StepReport}
+use Rattle.ulfm_script.specs.declared.step.Step.{Step}
+use Rattle.ulfm_script.specs.declared.step.Step.TheVariants.{Shrink}
+use Rattle.ulfm_script.specs.Deciding.{Known}
+use Rattle.ulfm_script.specs.Player.{Player, Left, with_rank, start_player}
+use Rattle.ulfm_script.specs.Report.{Report}
+use Rattle.ulfm_script.specs.Answered.{IsTook, OnlyTook, IsAnswered, AreAnswered, EndsAtStop, HasAnswers}
+use Rattle.ulfm_script.specs.Honest.{Since, Stands, StandsOpen, IsHonest, Learns, OnlyTakes}
+use Rattle.ulfm_script.proofs.Beginnings.{Grew, took-on, took-none, enters-on}
+use Rattle.ulfm_script.proofs.Answers.{answered-grew, all-grew, answers-push}
+use Rattle.ulfm_script.proofs.Progress.{closed}
+use Rattle.std.proofs.lemmas.Bool.{false≢true}
+
+pub learns-none : (r : State) (to : ℕ) (known : Known) → Learns r to known known
+learns-none r to known = record { keeps = λ c d h. h; same = λ comm from at h up. refl }
+
+since-on : (r s : State) (from : ℕ) (asked : Step) → (g : Grew r s) → All IsTook g.more → Since r from asked → Since s from asked
+since-on r s from (Shrink comm) g all h = enters-on r s comm from g all h
+since-on r s from _ g all h = took-on r.log s.log g.more from g.log all h
+
+stands-on : (known : Known) (r s : State) (before : List StepReport) (from : ℕ) (current : Option Step) (at polls : ℕ) → (g : Grew r s) → All IsTook g.more → Stands known r before from current at polls → Stands known s before from current at polls
+stands-on known r s before from None at polls g all h = took-on r.log s.log g.more from g.log all h
+stands-on known r s before from (Some asked) at polls g all h = record {
+  polled = h.polled;
+  since = since-on r s from asked g all h.since;
+  next = h.next;
+  left = answered-grew known known r s at before from _ h.next (learns-none r at known) (omega arith) g h.left;
+  took = took-on r.log s.log g.more h.next g.log all h.took;
+}
+
+honest-rank : (known : Known) (p : Player) (r : State) → IsHonest known p → r.me ≡ p.rank.me → r.ranks ≡ p.rank.ranks → is_stopped r.log ≡ is_stopped p.rank.log → OnlyTakes p.rank.log r.log → IsHonest known (with_rank p r)
+honest-rank known p r h me ranks stops takes =
+    let g : Grew p.rank r = record { me = me; ranks = ranks; more = takes.more; log = takes.only } in
+    record {
+      place = h.place;
+      answers = all-grew known known p.rank r [] 0 p.done h.place (learns-none p.rank h.place known) g h.answers;
+      stands = stands-on known p.rank r p.done h.place p.current p.at p.polls g takes.took h.stands;
+      stop = λ s.
+          let was : is_stopped p.rank.log ≡ true = sym stops ∙ s in
+          let same : r.log ≡ p.rank.log = takes.only ∙ ap (λ (l : List Entry). p.rank.log ++ l) (takes.stopped was) ∙ append-nil p.rank.log in
+          subst EndsAtStop (sym same) (h.stop was);
+    }
+
+-- what moves between a player and its end leaves its answers right
+pub honest-moved : (known : Known) (p q : Player) → IsHonest known p → q ≡ with_rank p q.rank → q.rank.me ≡ p.rank.me → q.rank.ranks ≡ p.rank.ranks → is_stopped q.rank.log ≡ is_stopped p.rank.log → OnlyTakes p.rank.log q.rank.log → IsHonest known q
+honest-moved known p q h only me ranks stops takes =
+    let H : Player → Type 0 = λ (x : Player). IsHonest known x in
+    subst H (sym only) (honest-rank known p q.rank h me ranks stops takes)
+
+-- so does an answered step, whose entry, if it adds one, is the log's last
+pub honest-closed : (known later : Known) (p : Player) (r : State) (x : StepReport) → (h : IsHonest known p) → Learns p.rank h.place known later → Grew p.rank r → IsAnswered later r p.done h.place x (length r.log) → (is_stopped r.log ≡ true → EndsAtStop r.log) → IsHonest later (closed p r x)
+honest-closed known later p r x h k g a stop = record {
+  place = length r.log;
+  answers = answers-push later r p.done h.place x (length r.log) (all-grew known later p.rank r [] 0 p.done h.place k g h.answers) a;
+  stands = took-none r.log;
+  stop = stop;
+}
+
+-- an open step is given up
+pub honest-left : (known : Known) (p q : Player) → IsHonest known p → Left p q → IsHonest known q
+honest-left known p q h l =
+    let S : Option Step → Type 0 = λ (o : Option Step). Stands known p.rank p.done h.place o p.at p.polls in
+    let was : StandsOpen known p.rank p.done h.place l.step p.at p.polls = subst S l.was_open h.stands in
+    let H : Player → Type 0 = λ (x : Player). IsHonest known x in
+    subst H (sym l.only) (record {
+      place = was.next;
+      answers = answers-push known p.rank p.done h.place _ was.next h.answers was.left;
+      stands = was.took;
+      stop = h.stop;
+    })
+
+-- a player that starts
+pub honest-start : (known : Known) (me n : ℕ) → IsHonest known (start_player me n)
+honest-start known me n = record { place = 0; answers = refl; stands = took-none []; stop = λ s. absurd (false≢true s) }
+
+-- a player with no step open has its answers
+pub honest-answers : (known : Known) (p : Player) (report : Report) → IsHonest known p → p.current ≡ None → report.rank ≡ p.rank → report.steps ≡ p.done → IsPaired p.rank.log → HasAnswers known report
+honest-answers known p report h none rank steps paired =
+    let S : Option Step → Type 0 = λ (o : Option Step). Stands known p.rank p.done h.place o p.at p.polls in
+    let took : OnlyTook p.rank.log h.place (length p.rank.log) = subst S none h.stands in
+    let A : State → List StepReport → Type 0 = λ (r : State) (xs : List StepReport). AreAnswered known r [] 0 xs h.place in
+    let T : State → Type 0 = λ (r : State). OnlyTook r.log h.place (length r.log) in
+    let P : State → Type 0 = λ (r : State). IsPaired r.log in
+    let E : State → Type 0 = λ (r : State). is_stopped r.log ≡ true → EndsAtStop r.log in
+    record {
+      last = h.place;
+      answers = subst (λ (r : State). A r report.steps) (sym rank) (subst (A p.rank) (sym steps) h.answers);
+      took = subst T (sym rank) took;
+      stop = subst E (sym rank) h.stop;
+      paired = subst P (sym rank) paired;
+    }

@@ -1,0 +1,59 @@
+-- A rank enters each shrink once.
+use Rattle.std.proofs.Common.{◌≡◌, ℕ, ◌+◌, ◌≤◌, true, false, cond, List, [], ◌∷◌, ◌++◌, length, take, drop, refl, ap, sym, ◌∙◌, arith, Option, Some, None}
+use Rattle.std.specs.Prelude.{is_some}
+use Rattle.std.proofs.lemmas.Bool.{false≢true, eq-eqb}
+use Rattle.std.proofs.lemmas.List.{take_all, take-append-drop, take-append-le}
+use Rattle.ulfm_base.specs.declared.context.Context.{Context}
+use Rattle.ulfm_base.specs.declared.rank_set.RankSet.{RankSet}
+use Rattle.ulfm_rank.specs.declared.entry.Entry.{Entry}
+use Rattle.ulfm_rank.specs.declared.entry.Entry.TheVariants.{Entered}
+use Rattle.ulfm_rank.specs.Checks.{shrink_checks}
+use Rattle.ulfm_rank.specs.Log.{or_else, first_of}
+use Rattle.ulfm_rank.specs.Shrink.{entry_of, has_entered}
+use Rattle.ulfm_rank.specs.State.{State}
+use Rattle.ulfm_rank.proofs.Refusals.{all_pass}
+use Rattle.ulfm_script.specs.Answered.{EntersBetween}
+use Rattle.ulfm_script.proofs.Answers.{took-forth}
+
+-- of two beginnings of a list the longer one begins with the shorter one
+longer : (xs ys r s : List Entry) → xs ++ r ≡ ys ++ s → length xs ≤ length ys → ys ≡ xs ++ drop (length xs) ys
+longer xs ys r s e h =
+    let front : take (length xs) ys ≡ xs =
+    sym (take-append-le (length xs) ys s h)
+    ∙ ap (take (length xs)) (sym e)
+    ∙ take-append-le (length xs) xs r (omega arith)
+    ∙ take_all (length xs) xs (omega arith) in
+    sym (take-append-drop (length xs) ys) ∙ ap (λ (l : List Entry). l ++ drop (length xs) ys) front
+
+is_first : (o x y : Option RankSet) → (is_some x ≡ true → is_some y ≡ true) → is_some (or_else o x) ≡ true → is_some (or_else o y) ≡ true
+is_first None x y f h = f h
+is_first (Some set) x y f h = refl
+
+entered-more : (log more : List Entry) (c : ℕ) → has_entered log c ≡ true → has_entered (log ++ more) c ≡ true
+entered-more [] more c h = absurd (false≢true h)
+entered-more (e ∷ log) more c h = is_first (entry_of c e) (first_of (entry_of c) log) (first_of (entry_of c) (log ++ more)) (entered-more log more c) h
+
+is_second : (o x : Option RankSet) → is_some x ≡ true → is_some (or_else o x) ≡ true
+is_second None x h = h
+is_second (Some set) x h = refl
+
+entered-here : (log : List Entry) (context : Context) (set : RankSet) → has_entered (log ++ Entered context set ∷ []) context.number ≡ true
+entered-here [] context set = ap (λ b. is_some (or_else (cond b (Some set) None) None)) (eq-eqb context.number context.number refl)
+entered-here (e ∷ log) context set = is_second (entry_of context.number e) (first_of (entry_of context.number) (log ++ Entered context set ∷ [])) (entered-here log context set)
+
+-- a shrink that was entered up to a place isn't entered from there
+pub entered-once : (r : State) (a b : Context) (from at place to : ℕ) → EntersBetween r a from at → at ≤ place → EntersBetween r b place to → a.number ≡ b.number → ⊥
+entered-once r a b from at place to h up k same =
+    let was : has_entered h.new.log a.number ≡ true =
+    ap (λ (s : State). has_entered s.log a.number) h.enters.only ∙ entered-here h.old.log a h.enters.known in
+    let short : length h.new.log ≤ length k.old.log =
+    omega (arith, h.stood_next.entries, k.stood.entries, up, took-forth r.log (h.place + 1) at h.took_after, took-forth r.log place k.place k.took_before) in
+    let grown : k.old.log ≡ h.new.log ++ drop (length h.new.log) k.old.log =
+    longer h.new.log k.old.log h.stood_next.rest k.stood.rest (h.stood_next.beginning ∙ sym k.stood.beginning) short in
+    let is : has_entered k.old.log b.number ≡ true =
+    ap (has_entered k.old.log) (sym same)
+    ∙ ap (λ (l : List Entry). has_entered l a.number) grown
+    ∙ entered-more h.new.log (drop (length h.new.log) k.old.log) a.number was in
+    let none : has_entered k.old.log b.number ≡ false =
+    (all_pass (shrink_checks k.old b.number) k.accepted).1.1.0 in
+    false≢true (sym none ∙ is)

@@ -1,0 +1,136 @@
+-- A player that goes on through its script.
+use Rattle.std.proofs.Common.{◌≡◌, ℕ, ◌+◌, ◌-◌, ◌*◌, ◌^◌, ◌<◌, ◌≤◌, min, Bool, true, false, cond, List, [], ◌∷◌, ◌++◌, length, map, refl, ap, sym, subst, ◌∙◌, arith, append_assoc, length-append, inl, inr, ◌⊎◌, Option, Some, None, MatchOption, slice_get}
+use Rattle.std.proofs.lemmas.Bool.{false≢true}
+use Rattle.std.proofs.lemmas.List.{map_push, length-map}
+use Rattle.std.proofs.lemmas.List.Elements.{All-nil, All-push}
+use Rattle.std.proofs.lemmas.Option.{same_Some}
+use Rattle.ulfm_rank.specs.Facts.{is_stopped}
+use Rattle.ulfm_rank.specs.State.{State}
+use Rattle.ulfm_script.specs.declared.step.Step.{Step}
+use Rattle.ulfm_script.specs.declared.answer.StepReport.{StepReport}
+use Rattle.ulfm_script.specs.Player.{Player, with_rank, polled, IsFree, start_player}
+use Rattle.ulfm_script.specs.Job.{is_stop_step, has_stop, through_stop}
+use Rattle.ulfm_script.specs.Script.{step_of, steps_done, IsPatient, FollowsAt, left_at}
+
+split_next : (xs rest script : List Step) (s : Step) → xs ++ rest ≡ script → slice_get script (length xs) ≡ Some s → (more : List Step) × (rest ≡ s ∷ more)
+split_next xs rest script s e h = next xs rest s (let F : List Step → Type 0 = λ (l : List Step). slice_get l (length xs) ≡ Some s in subst F (sym e) h)
+  where
+    next : (xs rest : List Step) (s : Step) → slice_get (xs ++ rest) (length xs) ≡ Some s → (more : List Step) × (rest ≡ s ∷ more)
+    next [] [] s h = let bad : ⊥ = cc in absurd bad
+    next [] (y ∷ ys) s h = (ys, ap (λ z. z ∷ ys) (same_Some y s h))
+    next (x ∷ xs) rest s h = next xs rest s h
+
+stop_one : (b c d : Bool) → (c ≡ false → d ≡ false) → cond b true c ≡ false → cond b true d ≡ false
+stop_one true c d f e = e
+stop_one false c d f e = f e
+
+has_stop-push : (xs : List Step) (s : Step) → has_stop xs ≡ false → is_stop_step s ≡ false → has_stop (xs ++ s ∷ []) ≡ false
+has_stop-push [] s h k = rw k refl
+has_stop-push (x ∷ xs) s h k = stop_one (is_stop_step x) (has_stop xs) (has_stop (xs ++ s ∷ [])) (λ e. has_stop-push xs s e k) h
+
+through_one : (b c : Bool) (ys zs ws : List Step) → (c ≡ false → zs ≡ ws) → cond b true c ≡ false → cond b ys zs ≡ ws
+through_one true c ys zs ws f e = absurd (false≢true (sym e))
+through_one false c ys zs ws f e = f e
+
+through-stop : (xs : List Step) (s : Step) (rest : List Step) → has_stop xs ≡ false → is_stop_step s ≡ true → through_stop (xs ++ s ∷ rest) ≡ xs ++ s ∷ []
+through-stop [] s rest h k = rw k refl
+through-stop (x ∷ xs) s rest h k = through_one (is_stop_step x) (has_stop xs) (x ∷ []) (x ∷ through_stop (xs ++ s ∷ rest)) (x ∷ (xs ++ s ∷ [])) (λ e. ap (λ (ys : List Step). x ∷ ys) (through-stop xs s rest e k)) h
+
+-- a script without a stop is its own beginning
+pub through-none : (xs : List Step) → has_stop xs ≡ false → through_stop xs ≡ xs
+through-none [] h = refl
+through-none (x ∷ xs) h = through_one (is_stop_step x) (has_stop xs) (x ∷ []) (x ∷ through_stop xs) (x ∷ xs) (λ e. ap (λ (ys : List Step). x ∷ ys) (through-none xs e)) h
+
+polls_below : (o : Option Step) (p t : ℕ) (P : Step → Type 0) → MatchOption o (p ≡ 0) (λ s. P s × (p < t)) → 0 < t → p < t
+polls_below None p t P h k = omega (arith, h, k)
+polls_below (Some s) p t P h k = h.1
+
+pub polls_small : (script : List Step) (turns : ℕ) (p : Player) → FollowsAt script turns p → 0 < turns → p.polls < turns
+polls_small script turns p h k = polls_below p.current p.polls turns (λ s. slice_get script (length p.done) ≡ Some s) h.current k
+
+-- the player with one more answer, whose rank is r now
+abbrev pub closed : Player → State → StepReport → Player
+closed p r x = record { rank = r; done = p.done ++ x ∷ []; current = None; at = 0; polls = 0 }
+
+-- an answered step
+pub follows-closed : (script : List Step) (turns : ℕ) (old : Player) (r : State) (x : StepReport) → FollowsAt script turns old → is_stopped old.rank.log ≡ false → slice_get script (length old.done) ≡ Some x.step → is_stopped r.log ≡ is_stop_step x.step → IsPatient turns x → FollowsAt script turns (closed old r x)
+follows-closed script turns old r x h running next stop patient =
+    let xs : List Step = steps_done old in
+    let l : length xs ≡ length old.done = length-map old.done step_of in
+    let following : (more : List Step) × (h.rest ≡ x.step ∷ more) = split_next xs h.rest script x.step h.split (ap (slice_get script) l ∙ next) in
+    let grown : map step_of (old.done ++ x ∷ []) ≡ xs ++ x.step ∷ [] = map_push step_of old.done x in
+    let whole : xs ++ x.step ∷ following.0 ≡ script = ap (λ (ys : List Step). xs ++ ys) (sym following.1) ∙ h.split in
+    record {
+      rest = following.0;
+      split = ap (λ (ys : List Step). ys ++ following.0) grown ∙ append_assoc xs (x.step ∷ []) following.0 ∙ whole;
+      patient = All-push (IsPatient turns) old.done x h.patient patient;
+      current = refl;
+      running = λ k. ap has_stop grown ∙ has_stop-push xs x.step (h.running running) (sym stop ∙ k);
+      stopped = λ k. (grown ∙ sym (through-stop xs x.step following.0 (h.running running) (sym stop ∙ k)) ∙ ap through_stop whole, refl);
+    }
+
+-- a step that stays open
+pub follows-polled : (script : List Step) (turns : ℕ) (old : Player) (r : State) (asked : Step) (at : ℕ) → FollowsAt script turns old → is_stopped old.rank.log ≡ false → is_stopped r.log ≡ false → slice_get script (length old.done) ≡ Some asked → (polled (with_rank old r) asked at).polls < turns → FollowsAt script turns (polled (with_rank old r) asked at)
+follows-polled script turns old r asked at h ran running next few = record {
+  rest = h.rest;
+  split = h.split;
+  patient = h.patient;
+  current = (next, few);
+  running = λ k. h.running ran;
+  stopped = λ k. absurd (false≢true (sym running ∙ k));
+}
+
+left_numbers : (turns L k p : ℕ) → k < L → p ≤ turns → (turns + 1) * (L - (k + 1)) < (turns + 1) * (L - k) - p
+left_numbers turns L k p h q =
+    let e : L - k ≡ (L - (k + 1)) + 1 = omega (arith, h) in
+    rw e (omega (arith, q))
+
+-- an answered step leaves fewer polls
+pub left-closed : (script : List Step) (turns : ℕ) (old : Player) (r : State) (x : StepReport) → old.polls < turns → length old.done < length script → left_at script turns (closed old r x) < left_at script turns old
+left-closed script turns old r x few inside =
+    let l : length (old.done ++ x ∷ []) ≡ length old.done + 1 = omega (arith, length-append old.done (x ∷ [])) in
+    rw l (omega (arith, left_numbers turns (length script) (length old.done) old.polls inside (omega (arith, few))))
+
+-- so does a poll that leaves its step open
+pub left_polled : (turns L k p : ℕ) → k < L → p < turns → turns < 2 ^ 32 → (turns + 1) * (L - k) - (min (p + 1) (2 ^ 32 - 1)) < (turns + 1) * (L - k) - p
+left_polled turns L k p h q t =
+    let e : L - k ≡ (L - (k + 1)) + 1 = omega (arith, h) in
+    let m : min (p + 1) (2 ^ 32 - 1) ≡ p + 1 = omega (arith, q, t) in
+    rw (e, m) (omega (arith, q))
+
+-- a player whose rank alone changed, and runs or has stopped as before
+pub follows-rank : (script : List Step) (turns : ℕ) (p : Player) (r : State) → is_stopped r.log ≡ is_stopped p.rank.log → FollowsAt script turns p → FollowsAt script turns (with_rank p r)
+follows-rank script turns p r stop h = record {
+  rest = h.rest;
+  split = h.split;
+  patient = h.patient;
+  current = h.current;
+  running = λ k. h.running (sym stop ∙ k);
+  stopped = λ k. h.stopped (sym stop ∙ k);
+}
+
+-- no other step than the next one stands open
+pub next-free : (script : List Step) (turns : ℕ) (p : Player) (asked : Step) → FollowsAt script turns p → slice_get script (length p.done) ≡ Some asked → IsFree p asked
+next-free script turns p asked h next = free p.current h.current
+  where
+    free : (o : Option Step) → MatchOption o (p.polls ≡ 0) (λ s. (slice_get script (length p.done) ≡ Some s) × (p.polls < turns)) → (o ≡ None) ⊎ (o ≡ Some asked)
+    free None k = inl refl
+    free (Some s) k = inr (sym k.0 ∙ next)
+
+-- the step that stands open comes next
+pub next_open : (script : List Step) (turns : ℕ) (p : Player) (asked open_step : Step) → FollowsAt script turns p → slice_get script (length p.done) ≡ Some asked → p.current ≡ Some open_step → asked ≡ open_step
+next_open script turns p asked open_step h next current =
+    let C : Option Step → Type 0 = λ (o : Option Step). MatchOption o (p.polls ≡ 0) (λ s. (slice_get script (length p.done) ≡ Some s) × (p.polls < turns)) in
+    let here : (slice_get script (length p.done) ≡ Some open_step) × (p.polls < turns) = subst C current h.current in
+    same_Some asked open_step (sym next ∙ here.0)
+
+-- a player that starts
+pub follows-start : (script : List Step) (turns me n : ℕ) → FollowsAt script turns (start_player me n)
+follows-start script turns me n = record {
+  rest = script;
+  split = refl;
+  patient = All-nil (IsPatient turns);
+  current = refl;
+  running = λ k. refl;
+  stopped = λ k. absurd (false≢true k);
+}

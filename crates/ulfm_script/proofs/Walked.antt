@@ -1,0 +1,107 @@
+-- What each thing that happens to a rank keeps, all that happened to it keeps, where its answers are right.
+use Rattle.std.proofs.Common.{◌≡◌, ℕ, ◌+◌, List, [], ◌∷◌, ◌++◌, length, take, refl, ap, sym, subst, ◌∙◌, arith, inl, inr, ◌⊎◌, append-nil, append_assoc, length-append, Option, Some, None}
+use Rattle.std.specs.Prelude.{All}
+use Rattle.std.proofs.lemmas.List.Elements.{All-head, All-tail}
+use Rattle.std.proofs.Math.Seq.{take-append_seam, take-length}
+use Rattle.ulfm_base.specs.declared.context.Context.{Context}
+use Rattle.ulfm_base.specs.declared.decision.Decision.{Decision}
+use Rattle.ulfm_base.specs.declared.error.CallError.TheVariants.{OutOfMemory}
+use Rattle.ulfm_board.specs.Known.{known_at}
+use Rattle.ulfm_rank.specs.declared.entry.Entry.{Entry}
+use Rattle.ulfm_rank.specs.State.{State}
+use Rattle.ulfm_script.specs.declared.answer.StepAnswer.TheVariants.{Unfinished, Refused}
+use Rattle.ulfm_script.specs.declared.answer.StepReport.{StepReport}
+use Rattle.ulfm_script.specs.declared.step.Step.{Step}
+use Rattle.ulfm_script.specs.declared.step.Step.TheVariants.{Shrink}
+use Rattle.ulfm_script.specs.Answered.{Stood, IsTook, OnlyTook, EntersBetween, AnsweredByDecision, IsAnswered, AreAnswered, HasAnswers}
+use Rattle.ulfm_script.specs.Deciding.{Known, AnswersAdoption}
+use Rattle.ulfm_script.specs.Honest.{Since, Stands, IsHonest}
+use Rattle.ulfm_script.specs.Player.{Player, Answers, IsOpen}
+use Rattle.ulfm_script.specs.Report.{Report}
+
+-- K holds of the answered steps and the log after each thing that may happen to the rank r, if it held before: an item is
+-- taken, a step is answered by a call, left open by one, answered by a decision, or ended without either
+pub record KeepsAll (known : Known) (r : State) (K : List StepReport → List Entry → Type 0) : Type 0 where
+  pub takes : (done : List StepReport) (log : List Entry) (e : Entry) → IsTook e → K done log → K done (log ++ e ∷ [])
+  pub answers : (n : ℕ) (old new : State) (done : List StepReport) (report : StepReport) → Stood r n old → Answers done old report.step report.answer new → K done old.log → K (done ++ report ∷ []) new.log
+  pub opens : (n : ℕ) (old new : State) (done : List StepReport) (asked : Step) → Stood r n old → IsOpen done old asked new → K done old.log → K done new.log
+  pub adopts : (n : ℕ) (old new : State) (done : List StepReport) (report : StepReport) (comm : Context) (held : Decision) → Stood r n old → report.step ≡ Shrink comm → known_at known comm.number ≡ Some held → AnswersAdoption old comm held report.answer new → K done old.log → K (done ++ report ∷ []) new.log
+  pub ends : (log : List Entry) (done : List StepReport) (report : StepReport) → (report.answer ≡ Unfinished) ⊎ (report.answer ≡ Refused OutOfMemory) → K done log → K (done ++ report ∷ []) log
+
+module _ (known : Known) (r : State) (K : List StepReport → List Entry → Type 0) (keeps : KeepsAll known r K) where
+  abbrev Good : List StepReport → ℕ → Type 0
+  Good done n = K done (take n r.log)
+
+  -- a beginning of the log
+  front_is : (front rest : List Entry) (n : ℕ) → front ++ rest ≡ r.log → length front ≡ n → take n r.log ≡ front
+  front_is front rest n whole size =
+      let T : ℕ → Type 0 = λ (k : ℕ). take k r.log ≡ front in
+      subst T size (ap (take (length front)) (sym whole) ∙ take-append_seam front rest)
+
+  stood_is : (n : ℕ) (s : State) → Stood r n s → take n r.log ≡ s.log
+  stood_is n s h = front_is s.log h.rest n h.beginning h.entries
+
+  -- from a place to the rank that stood there, and back
+  to_stood : (done : List StepReport) (n : ℕ) (s : State) → Stood r n s → Good done n → K done s.log
+  to_stood done n s h good = subst (K done) (stood_is n s h) good
+
+  from_stood : (done : List StepReport) (n : ℕ) (s : State) → Stood r n s → K done s.log → Good done n
+  from_stood done n s h k = subst (K done) (sym (stood_is n s h)) k
+
+  good_more : (done : List StepReport) (log es : List Entry) → All IsTook es → K done log → K done (log ++ es)
+  good_more done log [] h good = subst (K done) (sym (append-nil log)) good
+  good_more done log (e ∷ es) h good =
+      subst (K done) (append_assoc log (e ∷ []) es) (good_more done (log ++ e ∷ []) es (All-tail IsTook e es h) (keeps.takes done log e (All-head IsTook e es h) good))
+
+  good_took : (done : List StepReport) (from to : ℕ) → OnlyTook r.log from to → Good done from → Good done to
+  good_took done from to h good =
+      let front : K done h.front = subst (K done) (front_is h.front (h.between ++ h.rest) from h.whole h.begins) good in
+      let whole : (h.front ++ h.between) ++ h.rest ≡ r.log = append_assoc h.front h.between h.rest ∙ h.whole in
+      let size : length (h.front ++ h.between) ≡ to = omega (arith, length-append h.front h.between, h.begins, h.ends) in
+      subst (K done) (sym (front_is (h.front ++ h.between) h.rest to whole size)) (good_more done h.front h.between h.took front)
+
+  good_enters : (done : List StepReport) (comm : Context) (from to : ℕ) → EntersBetween r comm from to → Good done from → Good done to
+  good_enters done comm from to h good =
+      let before : K done h.old.log = to_stood done h.place h.old h.stood (good_took done from h.place h.took_before good) in
+      let entered : K done h.new.log = keeps.opens h.place h.old h.new done (Shrink comm) h.stood (h.accepted, h.enters) before in
+      good_took done (h.place + 1) to h.took_after (from_stood done (h.place + 1) h.new h.stood_next entered)
+
+  good_decided : (done : List StepReport) (from n : ℕ) (report : StepReport) (old new : State) → n ≡ report.at → Stood r n old → AnsweredByDecision known r from report old new → Good done from → K (done ++ report ∷ []) new.log
+  good_decided done from n report old new here stood h good =
+      let now : K done old.log = to_stood done n old stood (subst (Good done) (sym here) (good_enters done h.comm from report.at h.entered good)) in
+      elim h.outcome [
+        | inl a ↦ keeps.adopts n old new done report h.comm a.held stood h.shrink a.knows a.adoption now
+        | inr w ↦ keeps.ends new.log done report (inr w.refused) (subst (λ (s : State). K done s.log) (sym w.only) now)
+      ]
+
+  good_answered : (done : List StepReport) (from : ℕ) (report : StepReport) (to : ℕ) → IsAnswered known r done from report to → Good done from → Good (done ++ report ∷ []) to
+  good_answered done from report to h good = from_stood (done ++ report ∷ []) to h.new h.stood_next (elim h.how [
+    | inl a ↦ keeps.answers report.at h.old h.new done report h.stood a.answers (to_stood done report.at h.old h.stood (good_took done from report.at a.took good))
+    | inr (inl l) ↦ keeps.ends h.new.log done report (inl l.given_up) (keeps.opens report.at h.old h.new done report.step h.stood l.opens (to_stood done report.at h.old h.stood (good_took done from report.at l.took good)))
+    | inr (inr (inl d)) ↦ good_decided done from report.at report h.old h.new refl h.stood d good
+    | inr (inr (inr u)) ↦ keeps.ends h.new.log done report (inl u.given_up) (subst (λ (s : State). K done s.log) (sym u.only) (to_stood done report.at h.old h.stood (good_enters done u.comm from report.at u.entered good)))
+  ])
+
+  good_all : (done : List StepReport) (from : ℕ) (reports : List StepReport) (to : ℕ) → AreAnswered known r done from reports to → Good done from → Good (done ++ reports) to
+  good_all done from [] to h good = subst (λ (ds : List StepReport). Good ds to) (sym (append-nil done)) (subst (Good done) h good)
+  good_all done from (x ∷ xs) to h good = subst (λ (ds : List StepReport). Good ds to) (append_assoc done (x ∷ []) xs) (good_all (done ++ x ∷ []) h.0 xs to h.2 (good_answered done from x h.0 h.1 good))
+
+  good_since : (done : List StepReport) (from : ℕ) (asked : Step) → Since r from asked → Good done from → Good done (length r.log)
+  good_since done from (Shrink comm) h good = good_enters done comm from (length r.log) h good
+  good_since done from _ h good = good_took done from (length r.log) h good
+
+  good_stands : (done : List StepReport) (from : ℕ) (current : Option Step) (at polls : ℕ) → Stands known r done from current at polls → Good done from → Good done (length r.log)
+  good_stands done from None at polls h good = good_took done from (length r.log) h good
+  good_stands done from (Some asked) at polls h good = good_since done from asked h.since good
+
+-- what holds at the start, and is kept by all that may happen, holds of a player with right answers
+pub walked : (known : Known) (p : Player) (K : List StepReport → List Entry → Type 0) → KeepsAll known p.rank K → K [] [] → IsHonest known p → K p.done p.rank.log
+walked known p K keeps start h =
+    let last : K p.done (take h.place p.rank.log) = good_all known p.rank K keeps [] 0 p.done h.place h.answers start in
+    subst (K p.done) (take-length p.rank.log) (good_stands known p.rank K keeps p.done h.place p.current p.at p.polls h.stands last)
+
+-- and of a report of one
+pub reported : (known : Known) (told : Report) (K : List StepReport → List Entry → Type 0) → KeepsAll known told.rank K → K [] [] → HasAnswers known told → K told.steps told.rank.log
+reported known told K keeps start h =
+    let p : Player = record { rank = told.rank; done = told.steps; current = None; at = 0; polls = 0 } in
+    walked known p K keeps start (record { place = h.last; answers = h.answers; stands = h.took; stop = h.stop })

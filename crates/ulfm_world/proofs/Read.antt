@@ -1,0 +1,70 @@
+-- The reports of the ranks of a world, and the flow between them.
+use Rattle.std.proofs.Common.{◌≡◌, ℕ, ◌<◌, ◌≤◌, false, ◌++◌, length, sym, ap, ◌∙◌, subst, arith, Some}
+use Rattle.std.proofs.lemmas.List.{get_or-map, length-map}
+use Rattle.std.proofs.lemmas.Option.{get_or_from_slice_get, slice_get-get_or, slice_get_within}
+use Rattle.ulfm_base.specs.Items.{items_from}
+use Rattle.ulfm_base.specs.Lists.{at}
+use Rattle.ulfm_rank.specs.Facts.{took, is_stopped}
+use Rattle.ulfm_rank.specs.State.{outbox}
+use Rattle.ulfm_script.specs.Report.{Report}
+use Rattle.ulfm_laws.specs.Flow.{Flow, Flows}
+use Rattle.ulfm_laws.specs.Reports.{report_at, no_report}
+use Rattle.ulfm_laws.specs.Rest.{IsAtRest as IsRest}
+use Rattle.ulfm_laws.proofs.Flowing.{AreFlowing}
+use Rattle.ulfm_laws.proofs.Outgoing.{flow_of}
+use Rattle.ulfm_world.specs.World.{World, player_at, rank_at, inbox_at, no_player, report_of, reports_in, start_world, Reaches}
+use Rattle.ulfm_world.specs.Flow.{IsWorld}
+use Rattle.ulfm_world.specs.Rest.{IsAtRest}
+use Rattle.ulfm_world.proofs.Runs.{keeps-reaches}
+use Rattle.ulfm_world.proofs.Starts.{world-start}
+
+pub many_reports : (w : World) → length (reports_in w) ≡ length w.players
+many_reports w = length-map w.players report_of
+
+pub report-read : (w : World) (r : ℕ) → r < length w.players → report_at (reports_in w) r ≡ report_of (player_at w r)
+report-read w r inside = get_or-map report_of w.players r no_player no_report inside
+
+-- the report of each rank stands in its place
+pub report_there : (w : World) (r : ℕ) → r < length w.players → at (reports_in w) r (report_of (player_at w r))
+report_there w r inside = slice_get-get_or (reports_in w) r no_report (omega (arith, inside, many_reports w)) ∙ ap Some (report-read w r inside)
+
+pub report_inside : (w : World) (r : ℕ) (told : Report) → at (reports_in w) r told → r < length w.players
+report_inside w r told here = omega (arith, slice_get_within (reports_in w) r told here, many_reports w)
+
+-- and no other stands there
+pub report_is : (w : World) (r : ℕ) (told : Report) → at (reports_in w) r told → told ≡ report_of (player_at w r)
+report_is w r told here = sym (get_or_from_slice_get (reports_in w) r told no_report here) ∙ report-read w r (report_inside w r told here)
+
+-- what holds of each rank's report holds of each report
+pub each_report : (P : ℕ → Report → Type 0) (w : World) → ((r : ℕ) → r < length w.players → P r (report_of (player_at w r))) → (r : ℕ) (told : Report) → at (reports_in w) r told → P r told
+each_report P w h r told here = subst (P r) (sym (report_is w r told here)) (h r (report_inside w r told here))
+
+pub flowing-world : (w : World) → IsWorld w → AreFlowing w.inboxes (reports_in w)
+flowing-world w h = record {
+  order = each_report (λ r told. told.rank.me ≡ r) w h.named;
+  counted = each_report (λ r told. told.rank.ranks ≡ length (reports_in w)) w (λ r i. h.counted r i ∙ sym (many_reports w));
+  flow = λ s d sender receiver p q.
+      let F : Report → Report → Type 0 = λ (a b : Report). Flow a.rank s d (took b.rank.log s ++ items_from s (inbox_at w d)) in
+      let i : s < length w.players = report_inside w s sender p in
+      let j : d < length w.players = report_inside w d receiver q in
+      let out : Flow (rank_at w s) s d (took (rank_at w d).log s ++ items_from s (inbox_at w d)) =
+      flow_of (rank_at w s) s d (took (rank_at w d).log s ++ items_from s (inbox_at w d)) (h.sound s i) (h.named s i) (omega (arith, h.counted s i, j)) (h.passed_on s d i j) in
+      subst (λ (a : Report). F a receiver) (sym (report_is w s sender p)) (subst (F (report_of (player_at w s))) (sym (report_is w d receiver q)) out);
+}
+
+pub flows-world : (w : World) → IsWorld w → Flows w.inboxes (reports_in w)
+flows-world w h = (flowing-world w h).flow
+
+-- every world that a schedule leads to is one
+pub world-reached : (n capacity : ℕ) (w : World) → n ≤ 8 → Reaches (start_world n capacity) w → IsWorld w
+world-reached n capacity w small h = keeps-reaches (start_world n capacity) w (world-start n capacity small) h
+
+-- the reports of a world at rest are at rest
+pub rest-world : (w : World) → IsAtRest w → IsRest w.inboxes (reports_in w)
+rest-world w rest d told here running =
+    let j : d < length w.players = report_inside w d told here in
+    let served = rest.served d j (let R : Report → Type 0 = λ (r : Report). is_stopped r.rank.log ≡ false in subst R (report_is w d told here) running) in
+    record {
+      inbox = served.inbox;
+      outboxes = λ s sender p low. ap (λ (r : Report). outbox r.rank d) (report_is w s sender p) ∙ served.outboxes s (report_inside w s sender p);
+    }
