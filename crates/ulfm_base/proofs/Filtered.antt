@@ -1,7 +1,6 @@
 -- What stays of a group when a test picks some of its members.
-use Rattle.std.proofs.Common.{ℕ, ◌<◌, ◌≤◌, ◌+◌, ◌≡◌, Bool, false, List, [], ◌∷◌, length, not, filter, take, refl, arith}
+use Rattle.std.proofs.Common.{ℕ, ◌<◌, ◌≤◌, ◌+◌, ◌≡◌, Bool, false, List, [], ◌∷◌, length, not, filter, take, refl, arith, length-take-le}
 use Rattle.std.proofs.lemmas.Bool.{or_parts, or_from, cond_both}
-use Rattle.std.proofs.lemmas.List.{length-take-le}
 use Rattle.std.proofs.lemmas.List.Filters.{length-filter_both}
 use Rattle.ulfm_base.specs.Group.{is_member, IsGroup}
 

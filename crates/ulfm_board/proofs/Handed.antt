@@ -1,6 +1,5 @@
 -- A decision that is handed in at one place of a list of notes.
-use Rattle.std.proofs.Common.{◌≡◌, ◌<◌, ℕ, List, length, set, get_or, ap, sym, ◌∙◌, subst, refl, Some, None}
-use Rattle.std.specs.Prelude.{Option, IfOk, OnErr, Result, Ok, Err}
+use Rattle.std.proofs.Common.{◌≡◌, ◌<◌, ℕ, List, length, set, get_or, ap, sym, ◌∙◌, subst, refl, Some, None, Option, IfOk, OnErr, Result, Ok, Err}
 use Rattle.std.proofs.lemmas.List.{length-map, get_or-set_same}
 use Rattle.std.specs.declared.alloc.AllocError.{AllocError}
 use Rattle.once_cell.specs.declared.race.note.Note.{Note}

@@ -1,6 +1,5 @@
 -- Notes and the cells that they are of.
-use Rattle.std.proofs.Common.{◌+◌, ◌++◌, take, replicate, ◌≡◌, ◌<◌, ℕ, List, [], ◌∷◌, length, set, get_or, ap, sym, ◌∙◌, subst, arith, None}
-use Rattle.std.specs.Prelude.{Option}
+use Rattle.std.proofs.Common.{◌+◌, ◌++◌, take, replicate, ◌≡◌, ◌<◌, ℕ, List, [], ◌∷◌, length, set, get_or, ap, sym, ◌∙◌, subst, arith, None, Option}
 use Rattle.std.proofs.lemmas.List.{get_or-map, length-map, set-get_or, map-append, take_more, map-set, replicate-append-replicate}
 use Rattle.std.proofs.Math.Seq.{map-set_same}
 use Rattle.once_cell.specs.declared.race.note.Note.{Note}

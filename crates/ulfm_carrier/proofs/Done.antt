@@ -1,6 +1,5 @@
 -- The ends, once the inbox of one of them is empty.
-use Rattle.std.proofs.Common.{◌≡◌, ◌≢◌, ◌<◌, ◌+◌, inl, inr, ℕ, suc, List, [], ◌∷◌, length, map, set, get_or, refl, ap, sym, ◌∙◌, arith, subst, Some}
-use Rattle.std.specs.Prelude.{slice_get}
+use Rattle.std.proofs.Common.{◌≡◌, ◌≢◌, ◌<◌, ◌+◌, inl, inr, ℕ, suc, List, [], ◌∷◌, length, map, set, get_or, refl, ap, sym, ◌∙◌, arith, subst, Some, slice_get}
 use Rattle.std.specs.Arc.{arc_value}
 use Rattle.crossbeam_queue.specs.Passes.{view, IsSamePass}
 use Rattle.ulfm_carrier.specs.declared.inbox.View.{View}

@@ -1,6 +1,5 @@
 -- What an end may do, as far as its passes stay the same.
-use Rattle.std.proofs.Common.{◌≡◌, ℕ, length, map, vec_capacity, ap, sym, ◌∙◌, arith}
-use Rattle.std.specs.Prelude.{slice_get}
+use Rattle.std.proofs.Common.{◌≡◌, ℕ, length, map, vec_capacity, ap, sym, ◌∙◌, arith, slice_get}
 use Rattle.std.specs.Arc.{arc_value}
 use Rattle.std.proofs.lemmas.List.{length-map}
 use Rattle.crossbeam_queue.specs.Passes.{view, IsSamePass}

@@ -1,6 +1,5 @@
 -- The ends of one call, looked up while one of them is emptied.
-use Rattle.std.proofs.Common.{◌≡◌, ◌<◌, ℕ, List, [], length, map, set, get_or, ap, sym, ◌∙◌, arith, Some}
-use Rattle.std.specs.Prelude.{slice_get}
+use Rattle.std.proofs.Common.{◌≡◌, ◌<◌, ℕ, List, [], length, map, set, get_or, ap, sym, ◌∙◌, arith, Some, slice_get}
 use Rattle.std.proofs.lemmas.List.{length-map}
 use Rattle.std.proofs.lemmas.Option.{slice_get-get_or, slice_get_within}
 use Rattle.std.proofs.lemmas.Simd.{map-map}

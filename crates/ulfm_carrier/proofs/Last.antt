@@ -1,6 +1,5 @@
 -- The last of a list, and the others.
-use Rattle.std.proofs.Common.{◌≡◌, ℕ, zero, suc, Option, None, Some, List, [], ◌∷◌, ◌++◌, length, refl, sym, subst}
-use Rattle.std.specs.Prelude.{IfSome, option_to_list}
+use Rattle.std.proofs.Common.{◌≡◌, ℕ, zero, suc, Option, None, Some, List, [], ◌∷◌, ◌++◌, length, refl, sym, subst, IfSome, option_to_list}
 use Rattle.ulfm_base.specs.Lists.{at}
 
 pub at_last : {X : Type 0} (xs : List X) (x : X) → at (xs ++ x ∷ []) (length xs) x

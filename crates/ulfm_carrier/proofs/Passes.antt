@@ -1,6 +1,5 @@
 -- The passes of an end, after one of them was used.
-use Rattle.std.proofs.Common.{◌≡◌, ◌<◌, ℕ, inl, inr, List, [], ◌∷◌, ◌++◌, length, map, set, get_or, ap, sym, ◌∙◌, subst}
-use Rattle.std.specs.Prelude.{MatchResult, Result, Ok, Err, OnErr}
+use Rattle.std.proofs.Common.{◌≡◌, ◌<◌, ℕ, inl, inr, List, [], ◌∷◌, ◌++◌, length, map, set, get_or, ap, sym, ◌∙◌, subst, MatchResult, Result, Ok, Err, OnErr}
 use Rattle.std.proofs.Math.Seq.{map-set_same}
 use Rattle.crossbeam_queue.specs.Passes.{view, IsSamePass}
 use Rattle.crossbeam_queue.specs.Ring.{idle}

@@ -1,5 +1,5 @@
 -- An end, with its outgoing rings by their names and by what was sent.
-use Rattle.std.proofs.Common.{◌≡◌, ℕ, List, [], length, map, set, get_or, ap, sym, ◌∙◌, Some}
+use Rattle.std.proofs.Common.{◌≡◌, ℕ, List, [], length, map, set, get_or, ap, sym, ◌∙◌, Some, slice_get}
 use Rattle.std.proofs.lemmas.List.{length-map}
 use Rattle.std.proofs.lemmas.Simd.{map-map}
 use Rattle.std.specs.declared.alloc.Global.{Global}
@@ -13,7 +13,6 @@ use Rattle.ulfm_carrier.specs.declared.inlet.Inlet.{Inlet}
 use Rattle.ulfm_carrier.specs.declared.lane_ends.RingName.{RingName}
 use Rattle.ulfm_carrier.specs.declared.lane_ends.LaneEnds.{LaneEnds}
 use Rattle.ulfm_carrier.specs.Lanes.{Outlet, outlet_name, lane_pushed}
-use Rattle.std.specs.Prelude.{slice_get}
 use Rattle.ulfm_base.specs.Lists.{at}
 use Rattle.ulfm_base.proofs.Places.{at_view}
 

@@ -1,6 +1,5 @@
 -- The ring of one pair is added to the ends of both.
-use Rattle.std.proofs.Common.{◌≡◌, ◌≢◌, ◌<◌, inl, inr, ℕ, List, [], ◌∷◌, ◌++◌, length, set, get_or, refl, ap, sym, ◌∙◌, arith, subst}
-use Rattle.std.proofs.lemmas.List.{length-set}
+use Rattle.std.proofs.Common.{◌≡◌, ◌≢◌, ◌<◌, inl, inr, ℕ, List, [], ◌∷◌, ◌++◌, length, set, get_or, refl, ap, sym, ◌∙◌, arith, subst, length-set}
 use Rattle.ulfm_carrier.specs.declared.inlet.Inlet.{Inlet}
 use Rattle.ulfm_carrier.specs.declared.lane_ends.LaneEnds.{LaneEnds}
 use Rattle.ulfm_base.specs.Lists.{at}

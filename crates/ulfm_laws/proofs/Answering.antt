@@ -1,19 +1,12 @@
 -- Each answer of a poll keeps the steps of a rank true of its log.
-use Rattle.std.proofs.Common.{◌≡◌, ℕ, Bool, true, false, cond, List, [], ◌∷◌, ◌++◌, refl, sym, subst, Option, Some, None}
-use Rattle.std.specs.Prelude.{nat_lt}
-use Rattle.ulfm_base.specs.declared.context.Context.{Context}
+use Rattle.std.proofs.Common.{◌≡◌, ℕ, Bool, true, false, cond, List, [], ◌∷◌, ◌++◌, refl, sym, subst, Option, Some, None, nat_lt}
+use Rattle.ulfm_laws.proofs.Common.{Context, Tag, Entry, State, logged, Step, StepAnswer, StepReport}
 use Rattle.ulfm_base.specs.declared.error.CallError.{CallError}
-use Rattle.ulfm_base.specs.declared.tag.Tag.{Tag}
-use Rattle.ulfm_rank.specs.declared.entry.Entry.{Entry}
 use Rattle.ulfm_rank.specs.declared.entry.Entry.TheVariants.{Acknowledged, Revoked as RevokedEntry, Duplicated, Stopped as StopEntry}
 use Rattle.ulfm_rank.specs.declared.entry.TestAnswer.TheVariants.{Done as TestDone, Over as TestOver}
 use Rattle.ulfm_rank.specs.Facts.{is_stopped, is_revoked, acknowledged_of}
-use Rattle.ulfm_rank.specs.State.{State, logged}
-use Rattle.ulfm_script.specs.declared.step.Step.{Step}
 use Rattle.ulfm_script.specs.declared.step.Step.TheVariants.{Send, Recv, Wait, Failed, Ack, Revoke, Dup, Shrink, Stop}
-use Rattle.ulfm_script.specs.declared.answer.StepAnswer.{StepAnswer}
 use Rattle.ulfm_script.specs.declared.answer.StepAnswer.TheVariants.{Sent, Posted, Done, Over, Pending, Ranks, Acked, Revoked, Made, Stopped, Unfinished, Refused}
-use Rattle.ulfm_script.specs.declared.answer.StepReport.{StepReport}
 use Rattle.ulfm_script.specs.Player.{Answers, AnswersSend, AnswersRecv, AnswersWait, AnswersFailed, AnswersAck, AnswersRevoke, AnswersDup, AnswersEntry, AnswersStop, report_of, request_of}
 use Rattle.ulfm_laws.specs.Reader.{sent_by, closes}
 use Rattle.ulfm_rank.proofs.Formed.{PostsNone}

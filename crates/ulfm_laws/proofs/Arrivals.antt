@@ -3,18 +3,11 @@ use Rattle.std.proofs.Common.{◌≡◌, ℕ, List, [], ◌∷◌, ◌++◌, ap,
 use Rattle.std.proofs.lemmas.Bool.{cases_Bool, cases_eq}
 use Rattle.std.proofs.lemmas.Grind.{flat_map-append}
 use Rattle.std.proofs.lemmas.Option.{get_or_from_slice_get}
-use Rattle.ulfm_base.specs.declared.item.Item.{Item}
-use Rattle.ulfm_base.specs.declared.item.Item.TheVariants.{Gone}
-use Rattle.ulfm_base.specs.Items.{items_from}
-use Rattle.ulfm_base.specs.Lists.{at}
+use Rattle.ulfm_laws.proofs.Common.{Item, Gone, items_from, at, history_of, State, owes, outbox, Report, IsAtRest}
 use Rattle.ulfm_rank.specs.Facts.{took, is_stopped, is_revoked}
-use Rattle.ulfm_rank.specs.History.{history_of}
-use Rattle.ulfm_rank.specs.State.{State, owes, outbox}
-use Rattle.ulfm_script.specs.Report.{Report}
 use Rattle.ulfm_laws.specs.Flow.{Inboxes, inbox_of, IsBeginning, Flow}
 use Rattle.ulfm_laws.specs.Reader.{Content, letters_come, letters_sent, ComeAsSent, AllHasCome}
 use Rattle.ulfm_laws.specs.Reports.{report_at, no_report, IsRunning}
-use Rattle.ulfm_laws.specs.Rest.{IsAtRest}
 use Rattle.ulfm_laws.proofs.AtRest.{took_owed}
 use Rattle.ulfm_laws.proofs.Comes.{all_taken}
 use Rattle.ulfm_laws.proofs.Flowing.{AreFlowing}

@@ -4,15 +4,9 @@ use Rattle.std.specs.List.{list_any}
 use Rattle.std.proofs.lemmas.Bool.{false≢true, cases_eq, or_right}
 use Rattle.std.proofs.lemmas.List.Folds.{list_any-append}
 use Rattle.std.proofs.lemmas.Option.{slice_get_within}
-use Rattle.ulfm_base.specs.declared.item.Item.{Item}
-use Rattle.ulfm_base.specs.declared.item.Item.TheVariants.{Gone}
-use Rattle.ulfm_base.specs.declared.rank.WorldRank.{WorldRank}
-use Rattle.ulfm_base.specs.Items.{items_from}
-use Rattle.ulfm_base.specs.Lists.{at}
+use Rattle.ulfm_laws.proofs.Common.{Item, Gone, WorldRank, items_from, at, owes, outbox, Report}
 use Rattle.ulfm_rank.specs.Facts.{took, is_gone_item, is_revoked, item_revokes, is_stopped}
-use Rattle.ulfm_rank.specs.State.{owes, outbox}
 use Rattle.ulfm_rank.proofs.Told.{gone-took, revoked-took, revoked_told}
-use Rattle.ulfm_script.specs.Report.{Report}
 use Rattle.ulfm_laws.specs.Flow.{Inboxes, Flow}
 use Rattle.ulfm_laws.specs.Reports.{IsRunning}
 use Rattle.ulfm_laws.specs.Rest.{IsAtRest, KnowsStopped, AgreesOnRevoked}

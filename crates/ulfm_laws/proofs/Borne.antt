@@ -1,22 +1,14 @@
 -- Reports whose answers are right are true of their logs.
-use Rattle.std.proofs.Common.{◌≡◌, ℕ, List, [], ◌∷◌, ◌++◌, refl, ap, sym, subst, ◌∙◌, inl, inr, ◌⊎◌}
-use Rattle.std.specs.Prelude.{All}
-use Rattle.ulfm_base.specs.declared.context.Context.{Context}
-use Rattle.ulfm_base.specs.declared.decision.Decision.{Decision}
+use Rattle.std.proofs.Common.{◌≡◌, ℕ, List, [], ◌∷◌, ◌++◌, refl, ap, sym, subst, ◌∙◌, inl, inr, ◌⊎◌, All}
+use Rattle.ulfm_laws.proofs.Common.{Context, Decision, Entry, State, logged, StepAnswer, StepReport, Step, Report}
 use Rattle.ulfm_base.specs.declared.error.CallError.TheVariants.{OutOfMemory}
-use Rattle.ulfm_rank.specs.declared.entry.Entry.{Entry}
 use Rattle.ulfm_rank.specs.declared.entry.Entry.TheVariants.{Took, Entered, Adopted}
-use Rattle.ulfm_rank.specs.State.{State, logged}
 use Rattle.ulfm_rank.proofs.Signed.{all_front, all_last}
-use Rattle.ulfm_script.specs.declared.answer.StepAnswer.{StepAnswer}
 use Rattle.ulfm_script.specs.declared.answer.StepAnswer.TheVariants.{Unfinished, Refused, Shrunk}
-use Rattle.ulfm_script.specs.declared.answer.StepReport.{StepReport}
-use Rattle.ulfm_script.specs.declared.step.Step.{Step}
 use Rattle.ulfm_script.specs.declared.step.Step.TheVariants.{Shrink}
 use Rattle.ulfm_script.specs.Answered.{Stood, IsTook, HasAnswers}
 use Rattle.ulfm_script.specs.Deciding.{Known, AnswersAdoption}
 use Rattle.ulfm_script.specs.Player.{Answers, IsOpen, report_of}
-use Rattle.ulfm_script.specs.Report.{Report}
 use Rattle.ulfm_script.proofs.Polls.{answers_plain, opens_adds}
 use Rattle.ulfm_script.proofs.Walked.{KeepsAll, reported}
 use Rattle.ulfm_laws.proofs.Answering.{true-answers, honest-plain, unfinished, refused}

@@ -1,29 +1,15 @@
 -- A send and a wait that is over keep the steps of a rank true of its log.
-use Rattle.std.proofs.Common.{◌≡◌, ℕ, Bool, true, false, cond, eqb, List, [], ◌∷◌, ◌++◌, refl, ap, sym, ◌∙◌, subst, append-nil, Option, Some, None}
-use Rattle.std.specs.Prelude.{slice_get, ◌&&◌}
+use Rattle.std.proofs.Common.{◌≡◌, ℕ, Bool, true, false, cond, eqb, List, [], ◌∷◌, ◌++◌, refl, ap, sym, ◌∙◌, subst, append-nil, Option, Some, None, slice_get, ◌&&◌}
 use Rattle.std.specs.List.{flat_map}
 use Rattle.std.proofs.lemmas.Bool.{false≢true, or_right, eq-eqb, eqb-true}
 use Rattle.std.proofs.lemmas.List.Elements.{All-push}
 use Rattle.std.proofs.lemmas.Option.{same_Some}
-use Rattle.ulfm_base.specs.declared.context.Context.{Context}
-use Rattle.ulfm_base.specs.declared.tag.Tag.{Tag}
-use Rattle.ulfm_match.specs.declared.request.RequestId.{RequestId}
-use Rattle.ulfm_match.specs.History.{Event, PostAt, number}
-use Rattle.ulfm_rank.specs.declared.entry.Entry.{Entry}
+use Rattle.ulfm_laws.proofs.Common.{Context, Tag, RequestId, Event, PostAt, number, Entry, TestAnswer, members_of, history_of, State, logged, Step, Send, Wait, StepAnswer, Sent, Done, Over, StepReport}
 use Rattle.ulfm_rank.specs.declared.entry.Entry.TheVariants.{Sent as SentEntry, Released}
-use Rattle.ulfm_rank.specs.declared.entry.TestAnswer.{TestAnswer}
 use Rattle.ulfm_rank.specs.Answer.{is_release}
 use Rattle.ulfm_rank.specs.Calls.{Sends}
-use Rattle.ulfm_rank.specs.Communicators.{members_of}
 use Rattle.ulfm_rank.specs.Facts.{is_released, releases}
-use Rattle.ulfm_rank.specs.History.{history_of}
-use Rattle.ulfm_rank.specs.State.{State, logged}
 use Rattle.ulfm_rank.proofs.Gather.{history-push, any-push}
-use Rattle.ulfm_script.specs.declared.step.Step.{Step}
-use Rattle.ulfm_script.specs.declared.step.Step.TheVariants.{Send, Wait}
-use Rattle.ulfm_script.specs.declared.answer.StepAnswer.{StepAnswer}
-use Rattle.ulfm_script.specs.declared.answer.StepAnswer.TheVariants.{Sent, Done, Over}
-use Rattle.ulfm_script.specs.declared.answer.StepReport.{StepReport}
 use Rattle.ulfm_script.specs.Player.{Tests, comm_of, report_of, request_of, request_at}
 use Rattle.ulfm_laws.specs.Reader.{Content, content, is_rank, sent_in, closes}
 use Rattle.ulfm_rank.proofs.Formed.{formed-logged}

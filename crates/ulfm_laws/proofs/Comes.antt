@@ -1,15 +1,11 @@
 -- The letters that came by the history of a log are a beginning of those that it took.
-use Rattle.std.proofs.Common.{◌≡◌, ℕ, Bool, true, false, cond, eqb, List, [], ◌∷◌, ◌++◌, length, refl, ap, sym, ◌∙◌, append-nil, append_assoc, inl, inr, suc}
-use Rattle.std.specs.Prelude.{◌||◌, All}
+use Rattle.std.proofs.Common.{◌≡◌, ℕ, Bool, true, false, cond, eqb, List, [], ◌∷◌, ◌++◌, length, refl, ap, sym, ◌∙◌, append-nil, append_assoc, inl, inr, suc, ◌||◌, All}
 use Rattle.std.proofs.lemmas.Bool.{false≢true, or_left, cases_Bool, eqb-true}
 use Rattle.std.proofs.lemmas.Grind.{flat_map-append}
-use Rattle.ulfm_base.specs.declared.rank.WorldRank.{WorldRank}
-use Rattle.ulfm_base.specs.declared.envelope.Letter.{Letter}
-use Rattle.ulfm_base.specs.declared.item.Item.{Item}
+use Rattle.ulfm_laws.proofs.Common.{WorldRank, Letter, Item, Entry}
 use Rattle.ulfm_base.specs.declared.item.Item.TheVariants.{Letter as Mail, Gone, Revoke, Enter}
 use Rattle.ulfm_base.specs.Pattern.{names}
 use Rattle.ulfm_match.specs.History.{Event, Post, Come, End, Clear}
-use Rattle.ulfm_rank.specs.declared.entry.Entry.{Entry}
 use Rattle.ulfm_rank.specs.declared.entry.Entry.TheVariants.{Posted, Revoked, Took}
 use Rattle.ulfm_rank.specs.Facts.{took, took_by, is_revoked, revokes}
 use Rattle.ulfm_rank.specs.History.{history_of, events_by, ends_from, end_at, names_gone}

@@ -1,15 +1,8 @@
 -- What a step sent, and what an event brought, is one letter or none.
-use Rattle.std.proofs.Common.{◌≡◌, ℕ, ◌⊎◌, inl, inr, Bool, true, false, cond, eqb, List, [], ◌∷◌, refl, ap, Option, Some, None}
-use Rattle.std.specs.Prelude.{◌&&◌, slice_get}
+use Rattle.std.proofs.Common.{◌≡◌, ℕ, ◌⊎◌, inl, inr, Bool, true, false, cond, eqb, List, [], ◌∷◌, refl, ap, Option, Some, None, ◌&&◌, slice_get}
 use Rattle.std.proofs.lemmas.Bool.{false≢true, eq-eqb, eqb-true}
-use Rattle.ulfm_base.specs.declared.context.Context.{Context}
-use Rattle.ulfm_base.specs.declared.envelope.Letter.{Letter}
-use Rattle.ulfm_base.specs.declared.tag.Tag.{Tag}
+use Rattle.ulfm_laws.proofs.Common.{Context, Letter, Tag, Step, Send, StepAnswer, Sent}
 use Rattle.ulfm_match.specs.History.{Event, Come}
-use Rattle.ulfm_script.specs.declared.step.Step.{Step}
-use Rattle.ulfm_script.specs.declared.step.Step.TheVariants.{Send}
-use Rattle.ulfm_script.specs.declared.answer.StepAnswer.{StepAnswer}
-use Rattle.ulfm_script.specs.declared.answer.StepAnswer.TheVariants.{Sent}
 use Rattle.ulfm_laws.specs.Reader.{Content, content, is_rank, sent_by, sent_in, come_in}
 use Rattle.ulfm_match.proofs.Places.{GivesFew}
 

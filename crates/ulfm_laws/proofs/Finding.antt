@@ -1,30 +1,15 @@
 -- Which step posted the receive at a place of the history.
-use Rattle.std.proofs.Common.{◌≡◌, ℕ, ◌<◌, inl, inr, List, length, refl, ap, sym, ◌∙◌, subst, arith, Option, Some, None}
-use Rattle.std.specs.Prelude.{slice_get}
+use Rattle.std.proofs.Common.{◌≡◌, ℕ, ◌<◌, inl, inr, List, length, refl, ap, sym, ◌∙◌, subst, arith, Option, Some, None, slice_get}
 use Rattle.std.proofs.lemmas.Option.{same_Some}
-use Rattle.ulfm_base.specs.declared.context.Context.{Context}
-use Rattle.ulfm_base.specs.declared.pattern.Pattern.{Pattern}
-use Rattle.ulfm_base.specs.declared.tag.Tag.{Tag}
-use Rattle.ulfm_match.specs.declared.request.RequestId.{RequestId}
-use Rattle.ulfm_match.specs.History.{History, Post, PostAt}
+use Rattle.ulfm_laws.proofs.Common.{Context, Pattern, Tag, RequestId, History, Post, PostAt, Entry, members_of, Step, Recv, StepAnswer, Posted, StepReport, Report, report_at, TestAnswer}
 use Rattle.ulfm_match.proofs.Decide.{compared}
 use Rattle.ulfm_match.proofs.Histories.{same_number}
 use Rattle.ulfm_match.proofs.Unique.{same_pattern}
-use Rattle.ulfm_rank.specs.declared.entry.Entry.{Entry}
 use Rattle.ulfm_rank.specs.Calls.{IsSourceOf}
-use Rattle.ulfm_rank.specs.Communicators.{members_of}
-use Rattle.ulfm_script.specs.declared.step.Step.{Step}
-use Rattle.ulfm_script.specs.declared.step.Step.TheVariants.{Recv}
-use Rattle.ulfm_script.specs.declared.answer.StepAnswer.{StepAnswer}
-use Rattle.ulfm_script.specs.declared.answer.StepAnswer.TheVariants.{Posted}
-use Rattle.ulfm_script.specs.declared.answer.StepReport.{StepReport}
 use Rattle.ulfm_script.specs.Player.{request_of, request_in, request_at, report_of}
-use Rattle.ulfm_script.specs.Report.{Report}
 use Rattle.ulfm_laws.specs.Reader.{history_at, IsStep, ComeAsSent, IsPostedBy}
-use Rattle.ulfm_laws.specs.Reports.{report_at}
 use Rattle.ulfm_laws.proofs.Honest.{IsHonest}
 use Rattle.ulfm_laws.proofs.Tells.{Tells, IsReceipt, IsVerdict}
-use Rattle.ulfm_rank.specs.declared.entry.TestAnswer.{TestAnswer}
 
 -- the steps of each report are true of its log, and what came was sent
 pub record AreHonest (reports : List Report) : Type 0 where

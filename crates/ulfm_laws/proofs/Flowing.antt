@@ -1,25 +1,20 @@
 -- Reports in rank order between which items flow, and what one of them heard of another.
-use Rattle.std.proofs.Common.{◌≡◌, ℕ, Bool, true, false, cond, eqb, List, [], ◌∷◌, ◌++◌, length, refl, ap, sym, ◌∙◌, inl, inr, append_assoc, Some}
-use Rattle.std.specs.Prelude.{slice_get}
+use Rattle.std.proofs.Common.{◌≡◌, ℕ, Bool, true, false, cond, eqb, List, [], ◌∷◌, ◌++◌, length, refl, ap, sym, ◌∙◌, inl, inr, append_assoc, Some, slice_get}
 use Rattle.std.specs.List.{list_any}
 use Rattle.std.proofs.lemmas.Bool.{false≢true, cases_Bool, cases_eq, eqb-true, or_left}
 use Rattle.std.proofs.lemmas.List.Folds.{list_any-append}
 use Rattle.std.proofs.lemmas.Option.{same_Some}
-use Rattle.ulfm_base.specs.declared.item.Item.{Item}
-use Rattle.ulfm_base.specs.declared.item.Item.TheVariants.{Gone}
+use Rattle.ulfm_laws.proofs.Common.{Item, Gone, items_from, State, owes, outbox, Report}
 use Rattle.ulfm_base.specs.declared.rank_set.RankSet.{RankSet}
-use Rattle.ulfm_base.specs.Items.{items_from}
 use Rattle.ulfm_base.specs.Lists.{at, InPlace}
 use Rattle.ulfm_rank.specs.Facts.{took, is_gone, is_gone_item, is_stopped}
 use Rattle.ulfm_rank.specs.Log.{first_of}
 use Rattle.ulfm_rank.specs.Owed.{owed}
 use Rattle.ulfm_rank.specs.Shrink.{entry_of, heard_of, listed_of}
-use Rattle.ulfm_rank.specs.State.{State, owes, outbox}
 use Rattle.ulfm_rank.proofs.Entering.{own_set}
 use Rattle.ulfm_rank.proofs.Firsts.{or_none, or_else_first, first_set, set-append, heard-took}
 use Rattle.ulfm_rank.proofs.Owing.{OwesOwn}
 use Rattle.ulfm_rank.proofs.Told.{owed_not_gone, gone-took}
-use Rattle.ulfm_script.specs.Report.{Report}
 use Rattle.ulfm_laws.specs.Flow.{Inboxes, inbox_of, IsBeginning, EndsWithNotice, Flow, Flows}
 use Rattle.ulfm_laws.specs.Reports.{HasStopped}
 

@@ -1,10 +1,7 @@
 -- Each wait that is over tells of the letter that its receive is given, and nothing is given twice.
-use Rattle.std.proofs.Common.{◌≡◌, ℕ, ◌<◌, inl, inr, List, length, refl, ap, sym, ◌∙◌, subst}
-use Rattle.std.specs.Prelude.{slice_get}
+use Rattle.std.proofs.Common.{◌≡◌, ℕ, ◌<◌, inl, inr, List, length, refl, ap, sym, ◌∙◌, subst, slice_get}
 use Rattle.std.proofs.lemmas.Option.{same_Some}
-use Rattle.ulfm_base.specs.declared.context.Context.{Context}
-use Rattle.ulfm_base.specs.declared.envelope.Letter.{Letter}
-use Rattle.ulfm_base.specs.declared.pattern.Pattern.{Pattern}
+use Rattle.ulfm_laws.proofs.Common.{Context, Letter, Pattern, RequestId, TestAnswer, group_at, Send, Wait, Sent, Done, Over, report_of, Report, report_at}
 use Rattle.ulfm_base.specs.declared.error.CallError.TheVariants.{ProcFailed, Revoked, Truncated}
 use Rattle.ulfm_base.specs.Pattern.{Admits}
 use Rattle.ulfm_match.specs.History.{History, Post, PostAt, ComeAt, number}
@@ -12,16 +9,8 @@ use Rattle.ulfm_match.specs.Pairing.{Pairing, Pairs, LawfulPairing}
 use Rattle.ulfm_match.proofs.Decide.{compared}
 use Rattle.ulfm_match.proofs.Histories.{same_number}
 use Rattle.ulfm_match.proofs.Unique.{one_pairing, same_pattern, same_letter}
-use Rattle.ulfm_match.specs.declared.request.RequestId.{RequestId}
-use Rattle.ulfm_rank.specs.declared.entry.TestAnswer.{TestAnswer}
 use Rattle.ulfm_rank.specs.declared.entry.TestAnswer.TheVariants.{Done as TestDone, Over as TestOver}
-use Rattle.ulfm_rank.specs.Checks.{group_at}
-use Rattle.ulfm_script.specs.declared.step.Step.TheVariants.{Send, Wait}
-use Rattle.ulfm_script.specs.declared.answer.StepAnswer.TheVariants.{Sent, Done, Over}
-use Rattle.ulfm_script.specs.Player.{report_of}
-use Rattle.ulfm_script.specs.Report.{Report}
 use Rattle.ulfm_laws.specs.Reader.{history_at, IsStep, IsPostedBy, IsSentBy, IsGiven, DoneIsGiven, OverIsTrue, GivesOnce, DonesDiffer}
-use Rattle.ulfm_laws.specs.Reports.{report_at}
 use Rattle.ulfm_match.proofs.Exists.{some_pairing}
 use Rattle.ulfm_laws.proofs.Finding.{AreHonest, same_asked, its_request, same_step, verdict_posted}
 use Rattle.ulfm_laws.proofs.Senders.{sender, same_come, same_send}

@@ -1,19 +1,12 @@
 -- What the answered steps of a rank sent and posted is what its log has.
-use Rattle.std.proofs.Common.{◌≡◌, ℕ, zero, suc, ◌≤◌, inl, inr, List, [], ◌∷◌, ◌++◌, length, refl, ap, sym, ◌∙◌, subst, arith, append-nil, Some, None}
-use Rattle.std.specs.Prelude.{All, slice_get}
+use Rattle.std.proofs.Common.{◌≡◌, ℕ, zero, suc, ◌≤◌, inl, inr, List, [], ◌∷◌, ◌++◌, length, refl, ap, sym, ◌∙◌, subst, arith, append-nil, Some, None, All, slice_get}
 use Rattle.std.specs.List.{flat_map}
 use Rattle.std.proofs.lemmas.List.Elements.{All-nil, All-push}
-use Rattle.ulfm_base.specs.declared.pattern.Pattern.{Pattern}
-use Rattle.ulfm_match.specs.declared.request.RequestId.{RequestId}
+use Rattle.ulfm_laws.proofs.Common.{Pattern, RequestId, Entry, members_of, history_of, events_by, StepReport, request_of, request_at}
 use Rattle.ulfm_match.specs.History.{Event, Post, PostAt, IsWellFormed, number}
 use Rattle.ulfm_match.proofs.Cut.{get_in_front}
 use Rattle.ulfm_match.proofs.Decide.{lt_or_ge}
-use Rattle.ulfm_rank.specs.declared.entry.Entry.{Entry}
-use Rattle.ulfm_rank.specs.Communicators.{members_of}
-use Rattle.ulfm_rank.specs.History.{history_of, events_by}
 use Rattle.ulfm_rank.proofs.Gather.{history-push}
-use Rattle.ulfm_script.specs.declared.answer.StepReport.{StepReport}
-use Rattle.ulfm_script.specs.Player.{request_of, request_at}
 use Rattle.ulfm_laws.specs.Reader.{Content, sent_in, closes}
 use Rattle.ulfm_rank.proofs.Formed.{PostsNone, HasNoPost, none-events, formed-logged}
 use Rattle.ulfm_laws.proofs.Orderly.{IsOrderly, orderly-logged, orderly-answered}

@@ -1,19 +1,13 @@
 -- What an engine produces is lawful.
-use Rattle.std.proofs.Common.{◌≡◌, ℕ, ◌<◌, List, length, ap, sym, subst, ◌∙◌, arith, Option, Some}
-use Rattle.std.specs.Prelude.{All}
+use Rattle.std.proofs.Common.{◌≡◌, ℕ, ◌<◌, List, length, ap, sym, subst, ◌∙◌, arith, Option, Some, All}
 use Rattle.std.proofs.lemmas.Option.{slice_get_within}
-use Rattle.ulfm_base.specs.declared.context.Context.{Context}
-use Rattle.ulfm_base.specs.declared.decision.Decision.{Decision}
-use Rattle.ulfm_base.specs.Lists.{at}
+use Rattle.ulfm_laws.proofs.Common.{Context, Decision, at, Report, Inboxes, IsAtRest}
 use Rattle.ulfm_board.specs.Known.{BothAgree, known_at}
 use Rattle.ulfm_rank.specs.Facts.{IsSigned}
 use Rattle.ulfm_script.specs.Deciding.{Known}
 use Rattle.ulfm_script.specs.Job.{Seen}
-use Rattle.ulfm_script.specs.Report.{Report}
 use Rattle.ulfm_script.proofs.Kept.{keeps_of, signed_of}
-use Rattle.ulfm_laws.specs.Flow.{Inboxes}
 use Rattle.ulfm_laws.specs.Lawful.{AreProduced, KnowAtRest, LawfulReport}
-use Rattle.ulfm_laws.specs.Rest.{IsAtRest}
 use Rattle.ulfm_laws.specs.Shrinks.{AdoptOwn, AdoptOne}
 use Rattle.ulfm_laws.proofs.Arrivals.{read_at, come_as_sent, all_come}
 use Rattle.ulfm_laws.proofs.AtRest.{knows-stopped, agrees-revoked}

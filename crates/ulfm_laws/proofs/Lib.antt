@@ -1,3 +1,4 @@
+pub mod Common
 pub mod Contents
 pub mod Mail
 pub mod Comes

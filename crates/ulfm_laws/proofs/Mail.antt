@@ -3,15 +3,11 @@ use Rattle.std.proofs.Common.{◌≡◌, ℕ, ◌<◌, Bool, true, false, cond, 
 use Rattle.std.specs.Prelude.{⊤, ◌&&◌, ◌==◌, if◌then◌else◌}
 use Rattle.std.specs.List.{flat_map}
 use Rattle.std.proofs.lemmas.Grind.{flat_map-append}
-use Rattle.ulfm_base.specs.declared.context.Context.{Context}
+use Rattle.ulfm_laws.proofs.Common.{Context, Item, Entry, members_of, is_revoked}
 use Rattle.ulfm_base.specs.Group.{is_member}
-use Rattle.ulfm_base.specs.declared.item.Item.{Item}
 use Rattle.ulfm_base.specs.declared.item.Item.TheVariants.{Letter as Mail, Gone, Revoke, Enter}
-use Rattle.ulfm_rank.specs.declared.entry.Entry.{Entry}
 use Rattle.ulfm_rank.specs.declared.entry.Entry.TheVariants.{Sent, Revoked, Entered, Took}
 use Rattle.ulfm_rank.specs.Calls.{IsFrom}
-use Rattle.ulfm_rank.specs.Communicators.{members_of}
-use Rattle.ulfm_rank.specs.Facts.{is_revoked}
 use Rattle.ulfm_rank.specs.Owed.{owed, owed_by, is_told, passed_on}
 use Rattle.ulfm_laws.specs.Reader.{Content, content}
 use Rattle.ulfm_rank.proofs.Gather.{gathered_all}

@@ -1,17 +1,12 @@
 -- Ranks that adopted one decision for each context have one group for each communicator that they made.
-use Rattle.std.proofs.Common.{◌≡◌, ℕ, zero, suc, ◌<◌, List, ap, sym, ◌∙◌, arith, inl, inr, Some}
-use Rattle.std.specs.Prelude.{All}
+use Rattle.std.proofs.Common.{◌≡◌, ℕ, zero, suc, ◌<◌, List, ap, sym, ◌∙◌, arith, inl, inr, Some, All}
 use Rattle.std.proofs.lemmas.Option.{same_Some, slice_get-get_or}
-use Rattle.ulfm_base.specs.declared.decision.Decision.{Decision}
+use Rattle.ulfm_laws.proofs.Common.{Decision, at, Entry, group_of, Report}
 use Rattle.ulfm_base.specs.Context.{shrink_of}
-use Rattle.ulfm_base.specs.Lists.{at}
 use Rattle.ulfm_base.proofs.Numbers.{same_context}
-use Rattle.ulfm_rank.specs.declared.entry.Entry.{Entry}
-use Rattle.ulfm_rank.specs.Communicators.{group_of}
 use Rattle.ulfm_rank.proofs.Firsts.{some_from}
 use Rattle.ulfm_rank.proofs.Grouped.{members_found}
 use Rattle.ulfm_rank.proofs.Parents.{HasAdoption, world_group, parent_group, adopted_group, context_cases}
-use Rattle.ulfm_script.specs.Report.{Report}
 use Rattle.ulfm_laws.specs.Shrinks.{AdoptOne, HasOneGroup}
 
 -- an entry stands somewhere in a log

@@ -1,25 +1,11 @@
 -- What is given keeps the order of the sends and of the posts.
-use Rattle.std.proofs.Common.{◌≡◌, ℕ, ◌<◌, inl, inr, List, ◌∷◌, ◌++◌, length, take, refl, ap, sym, ◌∙◌, subst, arith, append_assoc, Some}
-use Rattle.std.specs.Prelude.{slice_get}
-use Rattle.ulfm_base.specs.declared.context.Context.{Context}
-use Rattle.ulfm_base.specs.declared.tag.Tag.{Tag}
-use Rattle.ulfm_base.specs.declared.rank.WorldRank.{WorldRank}
-use Rattle.ulfm_base.specs.declared.envelope.Letter.{Letter}
-use Rattle.ulfm_base.specs.declared.pattern.Pattern.{Pattern}
+use Rattle.std.proofs.Common.{◌≡◌, ℕ, ◌<◌, inl, inr, List, ◌∷◌, ◌++◌, length, take, refl, ap, sym, ◌∙◌, subst, arith, append_assoc, Some, slice_get}
+use Rattle.ulfm_laws.proofs.Common.{Context, Tag, WorldRank, Letter, Pattern, Event, History, Post, number, group_at, Send, Sent, StepReport, report_of, request_at, RequestId, Report, report_at}
 use Rattle.ulfm_base.specs.Pattern.{Admits, AdmitsSource, AdmitsTag}
-use Rattle.ulfm_match.specs.History.{Event, History, Post, number}
 use Rattle.ulfm_match.proofs.Decide.{compared}
 use Rattle.ulfm_match.proofs.Histories.{number_below}
-use Rattle.ulfm_rank.specs.Checks.{group_at}
-use Rattle.ulfm_script.specs.declared.step.Step.TheVariants.{Send}
-use Rattle.ulfm_script.specs.declared.answer.StepAnswer.TheVariants.{Sent}
-use Rattle.ulfm_script.specs.declared.answer.StepReport.{StepReport}
-use Rattle.ulfm_script.specs.Player.{report_of, request_at}
-use Rattle.ulfm_match.specs.declared.request.RequestId.{RequestId}
 use Rattle.std.proofs.lemmas.Option.{same_Some}
-use Rattle.ulfm_script.specs.Report.{Report}
 use Rattle.ulfm_laws.specs.Reader.{Content, content, history_at, IsStep, sent_in, come_in, letters_come, letters_sent, IsPostedBy, IsSentBy, LettersKeepOrder, ReceivesKeepOrder}
-use Rattle.ulfm_laws.specs.Reports.{report_at}
 use Rattle.ulfm_laws.proofs.Contents.{sent_one, come_few, come_is}
 use Rattle.ulfm_base.proofs.Numbers.{same_context, same_rank}
 use Rattle.ulfm_laws.proofs.Finding.{AreHonest, its_request, poster}

@@ -1,15 +1,9 @@
 -- The answered steps of a rank are true of its log, and each request is answered once.
-use Rattle.std.proofs.Common.{◌≡◌, ℕ, zero, suc, ◌<◌, ◌≤◌, ◌⊎◌, inl, inr, List, [], ◌∷◌, ◌++◌, length, refl, ap, sym, ◌∙◌, subst, arith, Some}
-use Rattle.std.specs.Prelude.{slice_get}
+use Rattle.std.proofs.Common.{◌≡◌, ℕ, zero, suc, ◌<◌, ◌≤◌, ◌⊎◌, inl, inr, List, [], ◌∷◌, ◌++◌, length, refl, ap, sym, ◌∙◌, subst, arith, Some, slice_get}
 use Rattle.std.proofs.lemmas.Option.{slice_get_within}
-use Rattle.ulfm_match.specs.declared.request.RequestId.{RequestId}
-use Rattle.ulfm_match.specs.History.{Event, number}
+use Rattle.ulfm_laws.proofs.Common.{RequestId, Event, number, Entry, history_of, events_by, StepReport, request_of, request_at}
 use Rattle.ulfm_match.proofs.Histories.{get_cases, number_rises}
-use Rattle.ulfm_rank.specs.declared.entry.Entry.{Entry}
-use Rattle.ulfm_rank.specs.History.{history_of, events_by}
 use Rattle.ulfm_rank.proofs.Gather.{history-push}
-use Rattle.ulfm_script.specs.declared.answer.StepReport.{StepReport}
-use Rattle.ulfm_script.specs.Player.{request_of, request_at}
 use Rattle.ulfm_laws.specs.Reader.{closes}
 use Rattle.ulfm_laws.proofs.Tells.{Tells, tells-logged, tells-answered}
 

@@ -5,23 +5,17 @@ use lib.Pointwise.{pointwise}
 use Rattle.std.proofs.lemmas.Bool.{or_parts, not-false, eqb-true}
 use Rattle.std.proofs.lemmas.Option.{slice_get_within, get_or_from_slice_get}
 use Rattle.std.proofs.lemmas.List.Elements.{All-nil, All-push, All-get_or}
-use Rattle.ulfm_base.specs.declared.context.Context.{Context}
-use Rattle.ulfm_base.specs.declared.decision.Decision.{Decision}
+use Rattle.ulfm_laws.proofs.Common.{Context, Decision, at, Entry, State, logged, StepAnswer, Report}
 use Rattle.ulfm_base.specs.Group.{is_member}
-use Rattle.ulfm_base.specs.Lists.{at}
 use Rattle.ulfm_board.specs.Known.{known_at}
-use Rattle.ulfm_rank.specs.declared.entry.Entry.{Entry}
 use Rattle.ulfm_rank.specs.declared.entry.Entry.TheVariants.{Adopted, Took, Entered, Stopped}
 use Rattle.ulfm_rank.specs.Checks.{Passes, adopt_checks, group_at}
 use Rattle.ulfm_rank.specs.Shrink.{is_foreign}
-use Rattle.ulfm_rank.specs.State.{State, logged}
 use Rattle.ulfm_rank.proofs.Belonging.{same_numbers}
 use Rattle.ulfm_rank.proofs.Refusals.{all_pass}
-use Rattle.ulfm_script.specs.declared.answer.StepAnswer.{StepAnswer}
 use Rattle.ulfm_script.specs.declared.answer.StepAnswer.TheVariants.{Shrunk, Refused}
 use Rattle.ulfm_script.specs.Answered.{Stood, IsTook, HasAnswers}
 use Rattle.ulfm_script.specs.Deciding.{Known, AnswersAdoption}
-use Rattle.ulfm_script.specs.Report.{Report}
 use Rattle.ulfm_script.proofs.Polls.{IsApart, answers_plain, opens_adds}
 use Rattle.ulfm_script.proofs.Walked.{KeepsAll, reported}
 use Rattle.ulfm_laws.specs.Shrinks.{IsOwn}

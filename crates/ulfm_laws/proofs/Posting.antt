@@ -1,32 +1,22 @@
 -- A receive that is posted keeps the steps of a rank true of its log.
-use Rattle.std.proofs.Common.{◌≡◌, ℕ, ◌<◌, inl, inr, Bool, true, false, cond, List, [], ◌∷◌, ◌++◌, length, refl, ap, sym, ◌∙◌, subst, arith, append_assoc, length-append, Option, Some, None}
-use Rattle.std.specs.Prelude.{slice_get, not}
+use Rattle.std.proofs.Common.{◌≡◌, ℕ, ◌<◌, inl, inr, Bool, true, false, cond, List, [], ◌∷◌, ◌++◌, length, refl, ap, sym, ◌∙◌, subst, arith, append_assoc, length-append, Option, Some, None, slice_get, not}
 use Rattle.std.specs.Option.{is_some}
 use Rattle.std.proofs.lemmas.Bool.{false≢true}
 use Rattle.std.proofs.lemmas.List.Elements.{All-push}
 use Rattle.std.proofs.lemmas.Option.{same_Some, slice_get_within}
-use Rattle.ulfm_base.specs.declared.context.Context.{Context}
-use Rattle.ulfm_base.specs.declared.tag.Tag.{Tag}
+use Rattle.ulfm_laws.proofs.Common.{Context, Tag, RequestId, Entry, group_of, members_of, is_revoked, is_stopped, State, Recv, Posted, StepReport}
 use Rattle.ulfm_base.specs.declared.error.CallError.{CallError}
 use Rattle.ulfm_base.specs.declared.error.CallError.TheVariants.{NoComm, Revoked, Stopped}
-use Rattle.ulfm_match.specs.declared.request.RequestId.{RequestId}
 use Rattle.ulfm_match.specs.History.{Event, Post, End, PostAt, number}
 use Rattle.ulfm_match.proofs.Cut.{get_in_front}
 use Rattle.ulfm_match.proofs.Decide.{compared}
 use Rattle.ulfm_match.proofs.Histories.{number_below, number_front, get_here}
-use Rattle.ulfm_rank.specs.declared.entry.Entry.{Entry}
 use Rattle.ulfm_rank.specs.declared.entry.Entry.TheVariants.{Posted as PostedEntry}
 use Rattle.ulfm_rank.specs.Calls.{Posts, IsSourceOf}
 use Rattle.ulfm_rank.specs.Checks.{Passes, receive_checks}
-use Rattle.ulfm_rank.specs.Communicators.{group_of, members_of}
-use Rattle.ulfm_rank.specs.Facts.{is_revoked, is_stopped}
 use Rattle.ulfm_rank.specs.History.{history_of, names_gone}
-use Rattle.ulfm_rank.specs.State.{State}
 use Rattle.ulfm_rank.proofs.Gather.{history-push}
 use Rattle.ulfm_rank.proofs.Grouped.{group_stays, members_found}
-use Rattle.ulfm_script.specs.declared.step.Step.TheVariants.{Recv}
-use Rattle.ulfm_script.specs.declared.answer.StepAnswer.TheVariants.{Posted}
-use Rattle.ulfm_script.specs.declared.answer.StepReport.{StepReport}
 use Rattle.ulfm_script.specs.Player.{comm_of, report_of, request_of, request_at}
 use Rattle.ulfm_laws.specs.Reader.{sent_in}
 use Rattle.ulfm_rank.proofs.Formed.{HasNoPost, none-nil, none-one, formed-posted}

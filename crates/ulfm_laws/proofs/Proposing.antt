@@ -1,12 +1,9 @@
 -- Who has a proposal where reports are at rest.
-use Rattle.std.proofs.Common.{◌≡◌, ◌≢◌, ℕ, true, false, eqb, List, length, ap, sym, subst, ◌∙◌, inl, inr, Some}
-use Rattle.std.specs.Prelude.{is_some, ◌||◌}
+use Rattle.std.proofs.Common.{◌≡◌, ◌≢◌, ℕ, true, false, eqb, List, length, ap, sym, subst, ◌∙◌, inl, inr, Some, is_some, ◌||◌}
 use Rattle.std.proofs.lemmas.Bool.{cases_Bool, cases_eq, or_left, or_right, ne_eqb, eq-eqb, cond-true, cond-false}
 use Rattle.ulfm_base.specs.Group.{is_member}
-use Rattle.ulfm_base.specs.Lists.{at}
+use Rattle.ulfm_laws.proofs.Common.{at, Entry, group_at, Report, Inboxes, IsAtRest}
 use Rattle.ulfm_base.proofs.Among.{all_members}
-use Rattle.ulfm_rank.specs.declared.entry.Entry.{Entry}
-use Rattle.ulfm_rank.specs.Checks.{group_at}
 use Rattle.ulfm_rank.specs.Communicators.{group_of, is_made, members_of}
 use Rattle.ulfm_rank.specs.Facts.{took, is_stopped, is_gone}
 use Rattle.ulfm_rank.specs.Log.{first_of}
@@ -15,10 +12,7 @@ use Rattle.ulfm_rank.specs.Shrink.{entry_of, heard_of, has_entered, listed_of, i
 use Rattle.ulfm_rank.proofs.Belonging.{Keeps}
 use Rattle.ulfm_rank.proofs.Firsts.{some_from, first_set, heard-took}
 use Rattle.ulfm_rank.proofs.Grouped.{members_found}
-use Rattle.ulfm_script.specs.Report.{Report}
-use Rattle.ulfm_laws.specs.Flow.{Inboxes}
 use Rattle.ulfm_laws.specs.Reports.{IsRunning}
-use Rattle.ulfm_laws.specs.Rest.{IsAtRest}
 use Rattle.ulfm_laws.specs.Shrinks.{AdoptOne, AllEntered, ProposesEach}
 use Rattle.ulfm_laws.proofs.AtRest.{took_owed, knows-stopped}
 use Rattle.ulfm_laws.proofs.Flowing.{AreFlowing, same_report, running-not_gone}

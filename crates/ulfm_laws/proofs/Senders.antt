@@ -1,17 +1,9 @@
 -- Which step sent the letter that came at a place of the history.
 use Rattle.std.proofs.Common.{◌≡◌, ℕ, ◌<◌, List, ◌∷◌, ◌++◌, length, take, refl, ap, sym, ◌∙◌, subst, arith, append_assoc}
-use Rattle.ulfm_base.specs.declared.context.Context.{Context}
-use Rattle.ulfm_base.specs.declared.envelope.Letter.{Letter}
-use Rattle.ulfm_base.specs.declared.tag.Tag.{Tag}
+use Rattle.ulfm_laws.proofs.Common.{Context, Letter, Tag, group_at, Send, Sent, report_of, Report, report_at}
 use Rattle.ulfm_match.specs.History.{History, Come, ComeAt}
 use Rattle.ulfm_match.proofs.Unique.{same_letter}
-use Rattle.ulfm_rank.specs.Checks.{group_at}
-use Rattle.ulfm_script.specs.declared.step.Step.TheVariants.{Send}
-use Rattle.ulfm_script.specs.declared.answer.StepAnswer.TheVariants.{Sent}
-use Rattle.ulfm_script.specs.Player.{report_of}
-use Rattle.ulfm_script.specs.Report.{Report}
 use Rattle.ulfm_laws.specs.Reader.{Content, content, history_at, IsStep, sent_in, come_in, letters_come, letters_sent, IsSentBy}
-use Rattle.ulfm_laws.specs.Reports.{report_at}
 use Rattle.ulfm_laws.proofs.Contents.{sent_few, sent_is, sent_one, come_one}
 use Rattle.ulfm_base.proofs.Numbers.{same_context}
 use Rattle.ulfm_laws.proofs.Finding.{AreHonest, step_at, same_asked}

@@ -1,16 +1,10 @@
 -- A shrink that is entered or decided keeps the steps of a rank true of its log.
 use Rattle.std.proofs.Common.{◌≡◌, ℕ, Bool, true, false, List, [], ◌∷◌, ◌++◌, length, refl, sym, subst, inl, inr, Option}
-use Rattle.ulfm_base.specs.declared.context.Context.{Context}
-use Rattle.ulfm_base.specs.declared.decision.Decision.{Decision}
+use Rattle.ulfm_laws.proofs.Common.{Context, Decision, Entry, State, logged, Step, StepAnswer, StepReport}
 use Rattle.ulfm_base.specs.declared.error.CallError.TheVariants.{OutOfMemory}
-use Rattle.ulfm_rank.specs.declared.entry.Entry.{Entry}
 use Rattle.ulfm_rank.specs.declared.entry.Entry.TheVariants.{Entered, Adopted}
-use Rattle.ulfm_rank.specs.State.{State, logged}
-use Rattle.ulfm_script.specs.declared.step.Step.{Step}
 use Rattle.ulfm_script.specs.declared.step.Step.TheVariants.{Wait, Shrink}
-use Rattle.ulfm_script.specs.declared.answer.StepAnswer.{StepAnswer}
 use Rattle.ulfm_script.specs.declared.answer.StepAnswer.TheVariants.{Shrunk, Refused}
-use Rattle.ulfm_script.specs.declared.answer.StepReport.{StepReport}
 use Rattle.ulfm_script.specs.Deciding.{Known, AnswersAdoption, AnswersDecision, IsDecided}
 use Rattle.ulfm_script.specs.Player.{Player, IsOpen, StaysOpen, report_of}
 use Rattle.ulfm_laws.proofs.Answering.{true-same, true-one, refused}

@@ -1,14 +1,10 @@
 -- Each letter that came is from a rank of the world.
-use Rattle.std.proofs.Common.{◌≡◌, ℕ, zero, suc, ◌<◌, Bool, true, false, cond, List, [], ◌∷◌, ◌++◌, length, ap, sym, ◌∙◌, subst, Some}
-use Rattle.std.specs.Prelude.{slice_get, All}
-use Rattle.ulfm_base.specs.declared.envelope.Letter.{Letter}
+use Rattle.std.proofs.Common.{◌≡◌, ℕ, zero, suc, ◌<◌, Bool, true, false, cond, List, [], ◌∷◌, ◌++◌, length, ap, sym, ◌∙◌, subst, Some, slice_get, All}
+use Rattle.ulfm_laws.proofs.Common.{Letter, WorldRank, Entry, is_revoked}
 use Rattle.ulfm_base.specs.declared.item.Item.TheVariants.{Letter as Mail, Gone, Revoke, Enter}
-use Rattle.ulfm_base.specs.declared.rank.WorldRank.{WorldRank}
 use Rattle.ulfm_base.specs.Pattern.{names}
 use Rattle.ulfm_match.specs.History.{Event, Post, Come, End, Clear, ComeAt}
-use Rattle.ulfm_rank.specs.declared.entry.Entry.{Entry}
 use Rattle.ulfm_rank.specs.declared.entry.Entry.TheVariants.{Posted, Revoked, Took}
-use Rattle.ulfm_rank.specs.Facts.{is_revoked}
 use Rattle.ulfm_rank.specs.History.{history_of, events_by, ends_from, end_at, names_gone}
 use Rattle.ulfm_rank.proofs.Gather.{gathered_all}
 use Rattle.ulfm_laws.proofs.Mail.{IsTakenFrom}

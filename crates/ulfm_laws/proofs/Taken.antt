@@ -1,20 +1,14 @@
 -- What a rank took came from the rank that is named with it, where items flow.
-use Rattle.std.proofs.Common.{◌≡◌, ℕ, ◌<◌, ◌≤◌, Bool, true, false, cond, eqb, List, [], ◌∷◌, ◌++◌, length, take, refl, ap, sym, subst, ◌∙◌, arith, inl, inr}
-use Rattle.std.specs.Prelude.{All}
+use Rattle.std.proofs.Common.{◌≡◌, ℕ, ◌<◌, ◌≤◌, Bool, true, false, cond, eqb, List, [], ◌∷◌, ◌++◌, length, take, refl, ap, sym, subst, ◌∙◌, arith, inl, inr, All}
 use Rattle.std.proofs.lemmas.Bool.{cases_Bool, cases_eq, eq-eqb, ne_eqb}
 use Rattle.std.proofs.lemmas.List.Elements.{All-nil, All-cons, All-head, All-tail, All-push, All-take, All-weaker}
 use Rattle.std.proofs.Math.Seq.{take-append_seam}
-use Rattle.ulfm_base.specs.declared.item.Item.{Item}
-use Rattle.ulfm_base.specs.declared.item.Item.TheVariants.{Gone}
+use Rattle.ulfm_laws.proofs.Common.{Item, Gone, at, Entry, State, owes, outbox, Report}
 use Rattle.ulfm_base.specs.Items.{ComesFrom, items_from}
-use Rattle.ulfm_base.specs.Lists.{at}
 use Rattle.ulfm_match.proofs.Decide.{lt_or_ge}
-use Rattle.ulfm_rank.specs.declared.entry.Entry.{Entry}
 use Rattle.ulfm_rank.specs.declared.entry.Entry.TheVariants.{Took}
 use Rattle.ulfm_rank.specs.Facts.{took, took_by, is_stopped, IsSigned}
-use Rattle.ulfm_rank.specs.State.{State, owes, outbox}
 use Rattle.ulfm_rank.proofs.Signed.{owed_signed, from_signed}
-use Rattle.ulfm_script.specs.Report.{Report}
 use Rattle.ulfm_laws.specs.Flow.{Inboxes, inbox_of, IsBeginning, Flow}
 use Rattle.ulfm_laws.proofs.Flowing.{AreFlowing}
 use Rattle.ulfm_base.proofs.Places.{there}

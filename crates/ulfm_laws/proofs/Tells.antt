@@ -3,29 +3,15 @@ use Rattle.std.proofs.Common.{◌≡◌, ℕ, zero, suc, ◌<◌, Bool, true, fa
 use Rattle.std.specs.Prelude.{⊤, ◌&&◌, slice_get}
 use Rattle.std.proofs.lemmas.Bool.{or_left, eqb-true}
 use Rattle.std.proofs.lemmas.Option.{slice_get_within}
-use Rattle.ulfm_base.specs.declared.context.Context.{Context}
-use Rattle.ulfm_base.specs.declared.tag.Tag.{Tag}
-use Rattle.ulfm_base.specs.declared.pattern.Pattern.{Pattern}
-use Rattle.ulfm_match.specs.declared.request.RequestId.{RequestId}
-use Rattle.ulfm_match.specs.History.{Event, Post, PostAt, number}
+use Rattle.ulfm_laws.proofs.Common.{Context, Tag, Pattern, RequestId, Event, Post, PostAt, number, Entry, TestAnswer, group_of, members_of, history_of, events_by, Step, Send, Recv, Wait, StepAnswer, Sent, Posted, Done, Over, StepReport, request_at}
 use Rattle.ulfm_match.specs.Pairing.{Pairing, LawfulPairing}
 use Rattle.ulfm_match.proofs.Cut.{get_front}
-use Rattle.ulfm_rank.specs.declared.entry.Entry.{Entry}
-use Rattle.ulfm_rank.specs.declared.entry.TestAnswer.{TestAnswer}
 use Rattle.ulfm_rank.specs.declared.entry.TestAnswer.TheVariants.{Done as TestDone, Over as TestOver}
 use Rattle.ulfm_rank.specs.Answer.{AnswersBy, is_release}
 use Rattle.ulfm_rank.specs.Calls.{IsSourceOf}
-use Rattle.ulfm_rank.specs.Communicators.{group_of, members_of}
 use Rattle.ulfm_rank.specs.Facts.{is_released, releases}
-use Rattle.ulfm_rank.specs.History.{history_of, events_by}
 use Rattle.ulfm_rank.proofs.Gather.{history-push, any-push}
 use Rattle.ulfm_rank.proofs.Grouped.{group_stays, members_found}
-use Rattle.ulfm_script.specs.declared.step.Step.{Step}
-use Rattle.ulfm_script.specs.declared.step.Step.TheVariants.{Send, Recv, Wait}
-use Rattle.ulfm_script.specs.declared.answer.StepAnswer.{StepAnswer}
-use Rattle.ulfm_script.specs.declared.answer.StepAnswer.TheVariants.{Sent, Posted, Done, Over}
-use Rattle.ulfm_script.specs.declared.answer.StepReport.{StepReport}
-use Rattle.ulfm_script.specs.Player.{request_at}
 use Rattle.ulfm_laws.specs.Reader.{content, is_rank, sent_by}
 use Rattle.ulfm_rank.proofs.Stays.{members_stay, answer_stays}
 use Rattle.ulfm_match.proofs.Histories.{number_front}

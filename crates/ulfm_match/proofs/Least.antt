@@ -1,6 +1,5 @@
 -- The entry of the least number that passes.
-use Rattle.std.proofs.Common.{◌≢◌, ℕ, ◌≤◌, inl, inr, List, ◌∷◌, ◌++◌, sym, subst}
-use Rattle.std.specs.Prelude.{Contains}
+use Rattle.std.proofs.Common.{◌≢◌, ℕ, ◌≤◌, inl, inr, List, ◌∷◌, ◌++◌, sym, subst, Contains}
 use Rattle.std.proofs.lemmas.List.Elements.{Contains-append_right}
 use Rattle.ulfm_match.specs.State.{IsAscending}
 use Rattle.ulfm_match.proofs.Decide.{lt_or_ge, Contains-head}

@@ -1,6 +1,5 @@
 -- Members of lists, filtered or not.
-use Rattle.std.proofs.Common.{◌≡◌, inl, inr, List, [], ◌∷◌, refl, sym, subst, Bool, true, false, cond}
-use Rattle.std.specs.Prelude.{Contains, filter}
+use Rattle.std.proofs.Common.{◌≡◌, inl, inr, List, [], ◌∷◌, refl, sym, subst, Bool, true, false, cond, Contains, filter}
 use Rattle.std.specs.List.{AllByRecursion}
 use Rattle.ulfm_match.proofs.Decide.{Contains-none, Contains-cons_cases, Contains-head, Contains-tail}
 use Rattle.ulfm_match.specs.State.{Keeps}

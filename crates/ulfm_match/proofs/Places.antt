@@ -1,6 +1,5 @@
 -- Which element of a list gives the next one of what its elements give, where each gives one at most.
-use Rattle.std.proofs.Common.{◌≡◌, ℕ, zero, suc, ◌+◌, ◌<◌, ◌⊎◌, inl, inr, List, [], ◌∷◌, ◌++◌, length, take, refl, ap, sym, ◌∙◌, Some, arith, length-append, append_assoc}
-use Rattle.std.specs.Prelude.{slice_get}
+use Rattle.std.proofs.Common.{◌≡◌, ℕ, zero, suc, ◌+◌, ◌<◌, ◌⊎◌, inl, inr, List, [], ◌∷◌, ◌++◌, length, take, refl, ap, sym, ◌∙◌, Some, arith, length-append, append_assoc, slice_get}
 use Rattle.std.specs.List.{flat_map}
 use Rattle.ulfm_match.proofs.Decide.{compared}
 

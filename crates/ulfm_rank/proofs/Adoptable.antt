@@ -1,18 +1,11 @@
 -- Which decision is adopted, and the communicator that it makes.
-use Rattle.std.proofs.Common.{◌≡◌, ℕ, ◌<◌, Bool, true, false, cond, List, [], ◌∷◌, ◌++◌, refl, ap, sym, subst, ◌∙◌, arith, Some, None}
-use Rattle.std.specs.Prelude.{◌||◌, ◌==◌, not, is_some, All}
+use Rattle.std.proofs.Common.{◌≡◌, ℕ, ◌<◌, Bool, true, false, cond, List, [], ◌∷◌, ◌++◌, refl, ap, sym, subst, ◌∙◌, arith, Some, None, ◌||◌, ◌==◌, not, is_some, All}
 use Rattle.std.proofs.lemmas.Bool.{eqb-true, eqb-false, eq-eqb, ne_eqb}
 use Rattle.std.proofs.lemmas.List.Elements.{All-append, All-filter}
-use Rattle.ulfm_base.specs.declared.decision.Decision.{Decision}
+use Rattle.ulfm_rank.proofs.Common.{Decision, dup_of, shrink_of, numbers_from, has, Entry, Duplicated, Adopted, is_stopped}
 use Rattle.ulfm_base.specs.declared.error.CallError.TheVariants.{NoComm, AlreadyMade, NotEntered, NotMember, Stopped}
-use Rattle.ulfm_base.specs.Context.{dup_of, shrink_of}
-use Rattle.ulfm_base.specs.Group.{numbers_from}
-use Rattle.ulfm_base.specs.RankSet.{has}
-use Rattle.ulfm_rank.specs.declared.entry.Entry.{Entry}
-use Rattle.ulfm_rank.specs.declared.entry.Entry.TheVariants.{Duplicated, Adopted}
 use Rattle.ulfm_rank.specs.Checks.{first_refusal, Passes, lacks, group_at, comm_checks, adopt_checks}
 use Rattle.ulfm_rank.specs.Communicators.{find_group, copy_of, made_by, group_of, HasCommunicators}
-use Rattle.ulfm_rank.specs.Facts.{is_stopped}
 use Rattle.ulfm_rank.specs.Shrink.{adopts, has_adopted, has_entered, is_foreign}
 use Rattle.ulfm_rank.specs.State.{State}
 use Rattle.ulfm_rank.proofs.Gather.{gathered_all, any-push}

@@ -1,27 +1,17 @@
 -- What a test answers.
 use Rattle.std.proofs.Common.{◌≡◌, ℕ, Bool, true, false, cond, List, refl, ap, sym, ◌∙◌, subst, Option, Some}
-use Rattle.ulfm_base.specs.declared.pattern.Pattern.{Pattern}
+use Rattle.ulfm_rank.proofs.Common.{Pattern, Letter, WorldRank, PostAt, Entry, TestAnswer, Outcome, Waiting, Paired, Failed, Cleared, Request, group_of, history_of}
 use Rattle.ulfm_base.specs.declared.pattern.Source.{Source}
 use Rattle.ulfm_base.specs.declared.pattern.Source.TheVariants.{One, Any}
-use Rattle.ulfm_base.specs.declared.envelope.Letter.{Letter}
 use Rattle.ulfm_base.specs.declared.error.CallError.{CallError}
-use Rattle.ulfm_base.specs.declared.rank.WorldRank.{WorldRank}
 use Rattle.ulfm_base.specs.Pattern.{AdmitsSource}
 use Rattle.ulfm_base.specs.Group.{is_member, rank_in}
-use Rattle.ulfm_match.specs.History.{PostAt}
 use Rattle.ulfm_match.specs.Pairing.{Pairing, Pairs, LawfulPairing}
 use Rattle.ulfm_match.specs.State.{State}
 use Rattle.ulfm_match.proofs.Unique.{same_pattern, same_letter, one_pairing}
 use Rattle.ulfm_match.proofs.Extend.{letter_within}
-use Rattle.ulfm_rank.specs.declared.entry.Entry.{Entry}
-use Rattle.ulfm_rank.specs.declared.entry.TestAnswer.{TestAnswer}
 use Rattle.ulfm_rank.specs.declared.entry.TestAnswer.TheVariants.{Done, Over, Pending, NotYet}
-use Rattle.ulfm_rank.specs.declared.outcome.Outcome.{Outcome}
-use Rattle.ulfm_rank.specs.declared.outcome.Outcome.TheVariants.{Waiting, Paired, Failed, Cleared}
-use Rattle.ulfm_rank.specs.declared.outcome.Request.{Request}
 use Rattle.ulfm_rank.specs.Answer.{pends, Got, IsUnpaired, AnswersBy, IsRequest, IsTestAnswer}
-use Rattle.ulfm_rank.specs.Communicators.{group_of}
-use Rattle.ulfm_rank.specs.History.{history_of}
 use Rattle.ulfm_rank.specs.Table.{IsSourceIn, IsInStep, Became, IsDelivered, GivesAnswer, HasSender}
 use Rattle.ulfm_rank.proofs.Groups.{rank_some}
 use Rattle.ulfm_rank.proofs.Grouped.{members_found}

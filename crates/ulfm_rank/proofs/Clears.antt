@@ -1,17 +1,9 @@
 -- The table after a revocation.
-use Rattle.std.proofs.Common.{◌≡◌, ◌≢◌, ℕ, ◌≤◌, Bool, true, false, cond, List, [], ◌∷◌, ◌++◌, length, refl, ap, sym, ◌∙◌, Option, Some, arith}
-use Rattle.std.specs.Prelude.{◌&&◌, ◌==◌}
+use Rattle.std.proofs.Common.{◌≡◌, ◌≢◌, ℕ, ◌≤◌, Bool, true, false, cond, List, [], ◌∷◌, ◌++◌, length, refl, ap, sym, ◌∙◌, Option, Some, arith, ◌&&◌, ◌==◌, eqb-true}
 use Rattle.std.proofs.lemmas.Bool.Decides.{nat_tests}
-use Rattle.std.proofs.lemmas.Bool.{eqb-true}
-use Rattle.ulfm_base.specs.declared.pattern.Pattern.{Pattern}
-use Rattle.ulfm_match.specs.History.{Event, Clear}
-use Rattle.ulfm_match.specs.Pairing.{Pairing, LawfulPairing}
+use Rattle.ulfm_rank.proofs.Common.{Pattern, Event, Clear, Pairing, LawfulPairing, Entry, Outcome, Waiting, Paired, Failed, Cleared, Request}
 use Rattle.ulfm_match.proofs.Histories.{get_new, stands_back}
 use Rattle.ulfm_match.proofs.Extend.{letter_within}
-use Rattle.ulfm_rank.specs.declared.entry.Entry.{Entry}
-use Rattle.ulfm_rank.specs.declared.outcome.Outcome.{Outcome}
-use Rattle.ulfm_rank.specs.declared.outcome.Outcome.TheVariants.{Waiting, Paired, Failed, Cleared}
-use Rattle.ulfm_rank.specs.declared.outcome.Request.{Request}
 use Rattle.ulfm_rank.specs.Table.{Became, IsTable}
 use Rattle.ulfm_rank.specs.Requests.{is_waiting, over_context, Changes}
 use Rattle.ulfm_rank.proofs.Tables.{became_keeps, table_change}

@@ -3,16 +3,9 @@ use Rattle.std.proofs.Common.{◌≡◌, ℕ, Bool, true, false, cond, eqb, List
 use Rattle.std.specs.Prelude.{⊤, is_some}
 use Rattle.std.proofs.lemmas.Bool.{false≢true, eq-eqb, eqb-true, or_cases, or_left, or_parts}
 use Rattle.std.proofs.lemmas.Option.{none-some, cond_some}
-use Rattle.ulfm_base.specs.declared.context.Context.{Context}
-use Rattle.ulfm_base.specs.declared.decision.Decision.{Decision}
-use Rattle.ulfm_base.specs.declared.rank_set.RankSet.{RankSet}
-use Rattle.ulfm_base.specs.RankSet.{has}
-use Rattle.ulfm_rank.specs.declared.entry.Entry.{Entry}
-use Rattle.ulfm_rank.specs.declared.entry.Entry.TheVariants.{Sent, Posted, Released, Acknowledged, Revoked, Duplicated, Entered, Adopted, Stopped, Took}
+use Rattle.ulfm_rank.proofs.Common.{Context, Decision, RankSet, has, Entry, Sent, Posted, Released, Acknowledged, Revoked, Duplicated, Entered, Adopted, Stopped, Took, first_of, Knows}
 use Rattle.ulfm_rank.specs.Communicators.{group_of, is_made, members_of}
 use Rattle.ulfm_rank.specs.Facts.{is_gone, tells_gone}
-use Rattle.ulfm_rank.specs.Log.{first_of}
-use Rattle.ulfm_rank.specs.Outboxes.{Knows}
 use Rattle.ulfm_rank.specs.Shrink.{entry_of, has_entered, adopts, has_adopted, is_foreign}
 use Rattle.ulfm_rank.proofs.Gather.{any-push}
 use Rattle.ulfm_rank.proofs.Firsts.{or_else_cases, or_else_first, some_from, first-push}

@@ -1,19 +1,10 @@
 -- The table of shrinks stays in step with the log.
-use Rattle.std.proofs.Common.{◌≡◌, ◌≢◌, ℕ, ◌<◌, ◌≤◌, Bool, true, false, cond, List, [], ◌∷◌, ◌++◌, refl, ap, sym, ◌∙◌, arith, eq-eqb, inl, inr, Option, Some, None}
-use Rattle.std.specs.Prelude.{◌==◌, not, is_some, MatchOption}
+use Rattle.std.proofs.Common.{◌≡◌, ◌≢◌, ℕ, ◌<◌, ◌≤◌, Bool, true, false, cond, List, [], ◌∷◌, ◌++◌, refl, ap, sym, ◌∙◌, arith, eq-eqb, inl, inr, Option, Some, None, ◌==◌, not, is_some, MatchOption}
 use Rattle.std.proofs.lemmas.Bool.{cases_lt, false≢true, eqb-true, ne_eqb}
 use Rattle.std.proofs.lemmas.Bool.Decides.{nat_tests}
-use Rattle.ulfm_base.specs.declared.context.Context.{Context}
-use Rattle.ulfm_base.specs.declared.item.Item.{Item}
+use Rattle.ulfm_rank.proofs.Common.{Context, Item, WorldRank, RankSet, shrink_of, entry_at, Entry, Entered, Took, or_else, first_of}
 use Rattle.ulfm_base.specs.declared.item.Item.TheVariants.{Letter as Mail, Gone, Revoke, Enter}
-use Rattle.ulfm_base.specs.declared.rank.WorldRank.{WorldRank}
-use Rattle.ulfm_base.specs.declared.rank_set.RankSet.{RankSet}
-use Rattle.ulfm_base.specs.Context.{shrink_of}
-use Rattle.ulfm_base.specs.Decision.{entry_at}
-use Rattle.ulfm_rank.specs.declared.entry.Entry.{Entry}
-use Rattle.ulfm_rank.specs.declared.entry.Entry.TheVariants.{Entered, Took}
 use Rattle.ulfm_rank.specs.Fields.{set_of, Notes, HasEntries, HasShrinks}
-use Rattle.ulfm_rank.specs.Log.{or_else, first_of}
 use Rattle.ulfm_rank.specs.Shrink.{entry_of, item_entry, heard_of, has_entered}
 use Rattle.ulfm_rank.proofs.Listed.{told_of, listed-push, entered-push, listed-own}
 use Rattle.ulfm_rank.proofs.Firsts.{or_none, first-push}

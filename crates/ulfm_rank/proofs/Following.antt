@@ -1,24 +1,10 @@
 -- The parts of a rank follow its log through one more entry.
-use Rattle.std.proofs.Common.{◌≡◌, ℕ, Bool, true, false, cond, eqb, List, [], ◌∷◌, ◌++◌, length, refl, ap, sym, ◌∙◌, Option, Some, append-nil}
-use Rattle.std.specs.Prelude.{◌||◌}
+use Rattle.std.proofs.Common.{◌≡◌, ℕ, Bool, true, false, cond, eqb, List, [], ◌∷◌, ◌++◌, length, refl, ap, sym, ◌∙◌, Option, Some, append-nil, ◌||◌}
 use Rattle.std.proofs.Math.Bool.{or-false}
-use Rattle.ulfm_base.specs.declared.context.Context.{Context}
-use Rattle.ulfm_base.specs.declared.envelope.Letter.{Letter}
+use Rattle.ulfm_rank.proofs.Common.{Context, Letter, WorldRank, RankSet, Decision, dup_of, shrink_of, Entry, Sent, Acknowledged, Revoked, Duplicated, Entered, Adopted, Stopped, Request, find_group, is_stop, is_stopped, is_revoked, HasFaults, Follows, Box, for_each, AllGrow}
 use Rattle.ulfm_base.specs.declared.item.Item.TheVariants.{Letter as Mail}
-use Rattle.ulfm_base.specs.declared.rank.WorldRank.{WorldRank}
-use Rattle.ulfm_base.specs.declared.rank_set.RankSet.{RankSet}
-use Rattle.ulfm_base.specs.declared.decision.Decision.{Decision}
-use Rattle.ulfm_base.specs.Context.{dup_of, shrink_of}
 use Rattle.ulfm_fault.specs.Facts.{Facts, acknowledged_in, is_marked}
 use Rattle.ulfm_match.specs.State.{State as Matching}
-use Rattle.ulfm_rank.specs.declared.entry.Entry.{Entry}
-use Rattle.ulfm_rank.specs.declared.entry.Entry.TheVariants.{Sent, Acknowledged, Revoked, Duplicated, Entered, Adopted, Stopped}
-use Rattle.ulfm_rank.specs.declared.outcome.Request.{Request}
-use Rattle.ulfm_rank.specs.Communicators.{find_group}
-use Rattle.ulfm_rank.specs.Facts.{is_stop, is_stopped, is_revoked}
-use Rattle.ulfm_rank.specs.Fields.{HasFaults}
-use Rattle.ulfm_rank.specs.Inside.{Follows}
-use Rattle.ulfm_rank.specs.Outboxes.{Box, for_each, AllGrow}
 use Rattle.ulfm_rank.specs.Owed.{passed_on, entry_told}
 use Rattle.ulfm_rank.specs.Requests.{TracksRevocation}
 use Rattle.ulfm_rank.proofs.Adoptable.{communicators-adopted}

@@ -1,16 +1,11 @@
 -- Which decisions contradict what a rank lists.
-use Rattle.std.proofs.Common.{◌≡◌, ℕ, zero, suc, ◌+◌, ◌<◌, ◌≤◌, Bool, true, false, List, [], ◌∷◌, refl, ap, sym, ◌∙◌, arith, eq-eqb, inl, inr, Option}
-use Rattle.std.specs.Prelude.{◌||◌, ◌&&◌, ◌==◌, not, nat_eq}
+use Rattle.std.proofs.Common.{◌≡◌, ℕ, zero, suc, ◌+◌, ◌<◌, ◌≤◌, Bool, true, false, List, [], ◌∷◌, refl, ap, sym, ◌∙◌, arith, eq-eqb, inl, inr, Option, ◌||◌, ◌&&◌, ◌==◌, not, nat_eq}
 use Rattle.std.specs.List.{list_any}
 use mathlib.Core.Bool.{beq}
 use Rattle.std.proofs.lemmas.Bool.{cases_eq, and_from, eqb-true, not-false, or_parts, false≢true, or_left, or_right}
 use Rattle.std.specs.Cmp.Lexicographic.{same_text}
 use lib.Pointwise.{pointwise}
-use Rattle.ulfm_base.specs.declared.decision.Decision.{Decision}
-use Rattle.ulfm_base.specs.declared.rank_set.RankSet.{RankSet}
-use Rattle.ulfm_base.specs.Decision.{entry_at}
-use Rattle.ulfm_base.specs.Group.{is_member, numbers_from}
-use Rattle.ulfm_rank.specs.declared.entry.Entry.{Entry}
+use Rattle.ulfm_rank.proofs.Common.{Decision, RankSet, entry_at, is_member, numbers_from, Entry}
 use Rattle.ulfm_rank.specs.Fields.{HasEntries}
 use Rattle.ulfm_rank.specs.Shrink.{differ, contradicts, is_foreign, listed_of}
 

@@ -2,9 +2,8 @@
 use Rattle.std.proofs.Common.{◌≡◌, ℕ, zero, suc, ◌<◌, Bool, true, false, cond, List, [], ◌∷◌, ◌++◌, length, refl, ap, sym, ◌∙◌, subst, arith, append-nil, append_assoc, Some}
 use Rattle.std.specs.Prelude.{⊤, slice_get}
 use Rattle.std.proofs.lemmas.Option.{slice_get_within}
-use Rattle.ulfm_base.specs.declared.envelope.Letter.{Letter}
+use Rattle.ulfm_rank.proofs.Common.{Letter, Pattern, Entry, Posted, Revoked, Took, is_revoked}
 use Rattle.ulfm_base.specs.declared.item.Item.TheVariants.{Letter as Mail, Gone, Revoke, Enter}
-use Rattle.ulfm_base.specs.declared.pattern.Pattern.{Pattern}
 use Rattle.ulfm_base.specs.Pattern.{names}
 use Rattle.ulfm_match.specs.History.{Event, Post, Come, End, Clear, PostAt, IsWellFormed}
 use Rattle.ulfm_match.specs.State.{IsOpen}
@@ -12,9 +11,6 @@ use Rattle.ulfm_match.proofs.Decide.{Contains-head, Contains-tail}
 use Rattle.ulfm_match.proofs.Ends.{AreEnds}
 use Rattle.ulfm_match.proofs.Histories.{get_old, get_new, length_more}
 use Rattle.ulfm_match.proofs.Steps.{history_more}
-use Rattle.ulfm_rank.specs.declared.entry.Entry.{Entry}
-use Rattle.ulfm_rank.specs.declared.entry.Entry.TheVariants.{Posted, Revoked, Took}
-use Rattle.ulfm_rank.specs.Facts.{is_revoked}
 use Rattle.ulfm_rank.specs.History.{history_of, events_by, ends_from, ends_of, end_at, names_gone}
 use Rattle.ulfm_rank.proofs.Gather.{history-push}
 use Rattle.ulfm_rank.proofs.Gone.{ends_named}

@@ -1,10 +1,9 @@
 -- The ends that a notice gives.
-use Rattle.std.proofs.Common.{◌≡◌, ◌≢◌, ℕ, zero, suc, ◌+◌, ◌<◌, ◌≤◌, ◌⊎◌, inl, inr, Bool, true, false, cond, List, [], ◌∷◌, ◌++◌, length, refl, ap, sym, ◌∙◌, subst, Option, Some, None, arith, length-append}
-use Rattle.std.specs.Prelude.{slice_get, Contains, ◌&&◌}
+use Rattle.std.proofs.Common.{◌≡◌, ◌≢◌, ℕ, zero, suc, ◌+◌, ◌<◌, ◌≤◌, ◌⊎◌, inl, inr, Bool, true, false, cond, List, [], ◌∷◌, ◌++◌, length, refl, ap, sym, ◌∙◌, subst, Option, Some, None, arith, length-append, slice_get, Contains, ◌&&◌}
 use Rattle.std.specs.Option.{option_map}
 use Rattle.std.proofs.lemmas.Option.{slice_get_within}
 use Rattle.std.proofs.lemmas.List.Elements.{Contains-append_left, Contains-append_right, Contains-append_cases}
-use Rattle.ulfm_base.specs.declared.pattern.Pattern.{Pattern}
+use Rattle.ulfm_rank.proofs.Common.{Pattern, Entry, Outcome, Waiting, Paired, Failed, Cleared, Request, is_released}
 use Rattle.ulfm_base.specs.Pattern.{names}
 use Rattle.ulfm_match.specs.History.{Event, Post, Come, End, Clear, PostAt, StandsBetween, number}
 use Rattle.ulfm_match.specs.Pairing.{Pairing, IsWaiting, LawfulPairing}
@@ -13,11 +12,6 @@ use Rattle.ulfm_match.proofs.Extend.{letter_within}
 use Rattle.ulfm_match.proofs.Cut.{get_front}
 use Rattle.ulfm_match.specs.Calls.{EndsNamed}
 use Rattle.ulfm_match.proofs.Decide.{Contains-none, Contains-head, Contains-tail, Contains-cons_cases}
-use Rattle.ulfm_rank.specs.declared.entry.Entry.{Entry}
-use Rattle.ulfm_rank.specs.declared.outcome.Outcome.{Outcome}
-use Rattle.ulfm_rank.specs.declared.outcome.Outcome.TheVariants.{Waiting, Paired, Failed, Cleared}
-use Rattle.ulfm_rank.specs.declared.outcome.Request.{Request}
-use Rattle.ulfm_rank.specs.Facts.{is_released}
 use Rattle.ulfm_rank.specs.Answer.{StandsFirst}
 use Rattle.ulfm_rank.specs.Table.{IsOfGroup, Became, IsStanding, IsTable}
 use Rattle.ulfm_rank.specs.Requests.{is_waiting, over_named, Changes}

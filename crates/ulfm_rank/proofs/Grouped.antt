@@ -1,15 +1,8 @@
 -- What an entry makes of the communicators of a log.
-use Rattle.std.proofs.Common.{◌≡◌, ℕ, Bool, true, false, cond, eqb, List, [], ◌∷◌, ◌++◌, refl, ap, sym, ◌∙◌, inl, inr, ◌⊎◌, Some, None}
-use Rattle.std.proofs.lemmas.Bool.{eqb-true}
+use Rattle.std.proofs.Common.{◌≡◌, ℕ, Bool, true, false, cond, eqb, List, [], ◌∷◌, ◌++◌, refl, ap, sym, ◌∙◌, inl, inr, ◌⊎◌, Some, None, eqb-true}
 use Rattle.std.proofs.lemmas.Option.{none-some, same_Some}
-use Rattle.ulfm_base.specs.declared.context.Context.{Context}
-use Rattle.ulfm_base.specs.declared.decision.Decision.{Decision}
-use Rattle.ulfm_base.specs.Context.{dup_of, shrink_of}
-use Rattle.ulfm_base.specs.Group.{numbers_from}
-use Rattle.ulfm_rank.specs.declared.entry.Entry.{Entry}
-use Rattle.ulfm_rank.specs.declared.entry.Entry.TheVariants.{Sent, Posted, Released, Acknowledged, Revoked, Duplicated, Entered, Adopted, Stopped, Took}
+use Rattle.ulfm_rank.proofs.Common.{Context, Decision, dup_of, shrink_of, numbers_from, Entry, Sent, Posted, Released, Acknowledged, Revoked, Duplicated, Entered, Adopted, Stopped, Took, or_else}
 use Rattle.ulfm_rank.specs.Communicators.{find_group, copy_of, made_by, comms_of, group_of, members_of, or_empty}
-use Rattle.ulfm_rank.specs.Log.{or_else}
 use Rattle.ulfm_rank.proofs.Gather.{gathered-push}
 use Rattle.ulfm_rank.proofs.Firsts.{or_else_cases, or_else_first}
 

@@ -1,14 +1,9 @@
 -- What outboxes hold as the log grows.
-use Rattle.std.proofs.Common.{◌≡◌, ℕ, zero, suc, ◌<◌, ◌≤◌, Bool, true, false, cond, eqb, List, [], ◌∷◌, ◌++◌, length, map, get_or, replicate, refl, ap, sym, ◌∙◌, arith, append-nil, length-append, Option, Some}
-use Rattle.std.specs.Prelude.{◌||◌}
+use Rattle.std.proofs.Common.{◌≡◌, ℕ, zero, suc, ◌<◌, ◌≤◌, Bool, true, false, cond, eqb, List, [], ◌∷◌, ◌++◌, length, map, get_or, replicate, refl, ap, sym, ◌∙◌, arith, append-nil, length-append, Option, Some, ◌||◌}
 use Rattle.std.proofs.lemmas.Simd.{map-map}
 use Rattle.std.proofs.lemmas.List.{map-append, length-map, length-replicate, same_lists, get_or-map}
-use Rattle.ulfm_base.specs.declared.item.Item.{Item}
+use Rattle.ulfm_rank.proofs.Common.{Item, Context, Entry, Sent, Posted, Released, Acknowledged, Revoked, Duplicated, Entered, Adopted, Stopped, Took, is_stop, is_stopped, is_revoked}
 use Rattle.ulfm_base.specs.declared.item.Item.TheVariants.{Letter as Mail, Gone, Revoke, Enter}
-use Rattle.ulfm_base.specs.declared.context.Context.{Context}
-use Rattle.ulfm_rank.specs.declared.entry.Entry.{Entry}
-use Rattle.ulfm_rank.specs.declared.entry.Entry.TheVariants.{Sent, Posted, Released, Acknowledged, Revoked, Duplicated, Entered, Adopted, Stopped, Took}
-use Rattle.ulfm_rank.specs.Facts.{is_stop, is_stopped, is_revoked}
 use Rattle.ulfm_rank.specs.Owed.{is_told, passed_on, owed_by_item, owed_by, owed}
 use Rattle.ulfm_rank.specs.State.{no_mark, State, IsState}
 use Rattle.ulfm_rank.specs.Outboxes.{Box, empty_box, box_at, mark_of, left_by_item, left_by, item_at, AllGrow, HasOutboxes}

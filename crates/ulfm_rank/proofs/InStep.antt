@@ -1,22 +1,12 @@
 -- The matcher and the table stay in step with the log.
-use Rattle.std.proofs.Common.{◌≡◌, ℕ, ◌+◌, ◌≤◌, Bool, true, false, cond, eqb, List, [], ◌∷◌, ◌++◌, length, refl, ap, sym, ◌∙◌, subst, Option, Some, None, arith, append-nil}
-use Rattle.std.specs.Prelude.{slice_get, ◌||◌}
+use Rattle.std.proofs.Common.{◌≡◌, ℕ, ◌+◌, ◌≤◌, Bool, true, false, cond, eqb, List, [], ◌∷◌, ◌++◌, length, refl, ap, sym, ◌∙◌, subst, Option, Some, None, arith, append-nil, slice_get, ◌||◌}
 use Rattle.std.proofs.lemmas.Bool.Decides.{nat_tests}
 use Rattle.std.proofs.Math.Bool.{or-false}
-use Rattle.ulfm_base.specs.declared.pattern.Pattern.{Pattern}
-use Rattle.ulfm_base.specs.declared.context.Context.{Context}
-use Rattle.ulfm_base.specs.declared.envelope.Letter.{Letter}
-use Rattle.ulfm_base.specs.declared.item.Item.{Item}
+use Rattle.ulfm_rank.proofs.Common.{Pattern, Context, Letter, Item, WorldRank, Entry, Posted, Revoked, Took, Outcome, Request, IsRequest}
 use Rattle.ulfm_base.specs.declared.item.Item.TheVariants.{Letter as Mail, Gone, Revoke, Enter}
-use Rattle.ulfm_base.specs.declared.rank.WorldRank.{WorldRank}
 use Rattle.ulfm_match.specs.History.{Event, Post, Clear, weight, number}
 use Rattle.ulfm_match.specs.Pairing.{Pairing, IsWaiting, IsKept}
 use Rattle.ulfm_match.specs.State.{State, Lists, Tracks}
-use Rattle.ulfm_rank.specs.declared.entry.Entry.{Entry}
-use Rattle.ulfm_rank.specs.declared.entry.Entry.TheVariants.{Posted, Revoked, Took}
-use Rattle.ulfm_rank.specs.declared.outcome.Outcome.{Outcome}
-use Rattle.ulfm_rank.specs.declared.outcome.Request.{Request}
-use Rattle.ulfm_rank.specs.Answer.{IsRequest}
 use Rattle.ulfm_rank.specs.Facts.{is_revoked, is_released, releases}
 use Rattle.ulfm_rank.specs.History.{history_of, events_by, item_events, names_gone, post_events}
 use Rattle.ulfm_rank.specs.Requests.{Adds, revoked_before, events_of_item, TracksAdmit, TracksRevocation, TracksItem}

@@ -1,25 +1,17 @@
 -- What is known of failures and revocations stays in step with the log.
-use Rattle.std.proofs.Common.{◌≡◌, ℕ, Bool, true, false, cond, List, [], ◌∷◌, ◌++◌, refl, ap, sym, ◌∙◌, append-nil}
-use Rattle.std.specs.Prelude.{◌||◌, ◌&&◌, ◌==◌, not, nat_lt, length, slice_index_or}
+use Rattle.std.proofs.Common.{◌≡◌, ℕ, Bool, true, false, cond, List, [], ◌∷◌, ◌++◌, refl, ap, sym, ◌∙◌, append-nil, ◌||◌, ◌&&◌, ◌==◌, not, nat_lt, length, slice_index_or, eqb-true}
 use Rattle.std.specs.List.{list_any}
 use Rattle.std.proofs.Math.Bool.{or-false}
-use Rattle.std.proofs.lemmas.Bool.{eqb-true}
 use Rattle.std.proofs.lemmas.List.Folds.{list_any-append}
-use Rattle.ulfm_base.specs.declared.context.Context.{Context}
-use Rattle.ulfm_base.specs.declared.pattern.Pattern.{Pattern}
+use Rattle.ulfm_rank.proofs.Common.{Context, Pattern, WorldRank, Item, Entry, Took, members_of}
 use Rattle.ulfm_base.specs.declared.pattern.Source.{Source}
 use Rattle.ulfm_base.specs.declared.pattern.Source.TheVariants.{One, Any}
 use Rattle.ulfm_base.specs.Pattern.{is_any}
-use Rattle.ulfm_base.specs.declared.rank.WorldRank.{WorldRank}
-use Rattle.ulfm_base.specs.declared.item.Item.{Item}
 use Rattle.ulfm_base.specs.declared.item.Item.TheVariants.{Letter as Mail, Gone, Revoke, Enter}
 use Rattle.ulfm_base.specs.Group.{is_member, including, intersection}
 use Rattle.ulfm_fault.specs.Facts.{Facts, acknowledged_in, is_marked, has_unacked}
-use Rattle.ulfm_rank.specs.declared.entry.Entry.{Entry}
-use Rattle.ulfm_rank.specs.declared.entry.Entry.TheVariants.{Took}
 use Rattle.ulfm_rank.specs.Facts.{is_gone, tells_gone, known_of, newly_known, acknowledged_of, acknowledged_from, acknowledged_by, is_revoked, revokes}
 use Rattle.ulfm_rank.specs.Answer.{pends}
-use Rattle.ulfm_rank.specs.Communicators.{members_of}
 use Rattle.ulfm_rank.specs.Fields.{HasFaults, names_known, pends_by, was_marked}
 use Rattle.ulfm_rank.specs.History.{names_gone}
 use Rattle.ulfm_rank.specs.Requests.{revoked_before}

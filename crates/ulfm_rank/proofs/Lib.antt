@@ -1,3 +1,4 @@
+pub mod Common
 pub mod Refusals
 pub mod Whole
 pub mod Requested

@@ -1,13 +1,8 @@
 -- The communicators that a longer log made.
-use Rattle.std.proofs.Common.{◌≡◌, ℕ, zero, suc, ◌+◌, ◌<◌, ◌≤◌, Bool, true, false, cond, eqb, List, [], ◌∷◌, ◌++◌, refl, ap, sym, subst, ◌∙◌, arith, append-nil, Some}
-use Rattle.std.specs.Prelude.{All, slice_get}
+use Rattle.std.proofs.Common.{◌≡◌, ℕ, zero, suc, ◌+◌, ◌<◌, ◌≤◌, Bool, true, false, cond, eqb, List, [], ◌∷◌, ◌++◌, refl, ap, sym, subst, ◌∙◌, arith, append-nil, Some, All, slice_get}
 use Rattle.std.proofs.lemmas.List.Elements.{All-append}
 use Rattle.std.proofs.lemmas.Option.{slice_get_within, get_or_from_slice_get}
-use Rattle.ulfm_base.specs.declared.context.Context.{Context}
-use Rattle.ulfm_base.specs.Context.{dup_of}
-use Rattle.ulfm_base.specs.Group.{numbers_from}
-use Rattle.ulfm_rank.specs.declared.entry.Entry.{Entry}
-use Rattle.ulfm_rank.specs.declared.entry.Entry.TheVariants.{Duplicated}
+use Rattle.ulfm_rank.proofs.Common.{Context, dup_of, numbers_from, Entry, Duplicated}
 use Rattle.ulfm_rank.specs.Communicators.{find_group, copy_of, made_by, comms_of, group_of, AreOfWorld, HasCommunicators}
 use Rattle.ulfm_rank.proofs.Gather.{gathered-push}
 

@@ -1,14 +1,11 @@
 -- A context that isn't revoked was never cleared, and at most one numbered event comes of an entry.
-use Rattle.std.proofs.Common.{◌≡◌, ◌≢◌, ℕ, zero, suc, ◌+◌, ◌≤◌, Bool, true, false, cond, List, [], ◌∷◌, ◌++◌, length, refl, ap, sym, ◌∙◌, arith, length-append}
-use Rattle.std.specs.Prelude.{◌==◌}
+use Rattle.std.proofs.Common.{◌≡◌, ◌≢◌, ℕ, zero, suc, ◌+◌, ◌≤◌, Bool, true, false, cond, List, [], ◌∷◌, ◌++◌, length, refl, ap, sym, ◌∙◌, arith, length-append, ◌==◌}
 use Rattle.std.proofs.lemmas.Bool.Decides.{nat_tests}
 use Rattle.std.proofs.lemmas.Bool.{or_parts}
-use Rattle.ulfm_base.specs.declared.item.Item.{Item}
+use Rattle.ulfm_rank.proofs.Common.{Item, Entry, Sent, Posted, Released, Acknowledged, Revoked, Duplicated, Entered, Adopted, Stopped, Took}
 use Rattle.ulfm_base.specs.declared.item.Item.TheVariants.{Letter as Mail, Gone, Revoke, Enter}
 use Rattle.ulfm_match.specs.History.{Event, Post, Come, End, Clear, weight, number}
 use Rattle.ulfm_match.specs.State.{IsOpen}
-use Rattle.ulfm_rank.specs.declared.entry.Entry.{Entry}
-use Rattle.ulfm_rank.specs.declared.entry.Entry.TheVariants.{Sent, Posted, Released, Acknowledged, Revoked, Duplicated, Entered, Adopted, Stopped, Took}
 use Rattle.ulfm_rank.specs.Facts.{is_revoked, revokes, item_revokes}
 use Rattle.ulfm_rank.specs.History.{names_gone, end_at, ends_from, cleared, item_events, events_by, history_of}
 use Rattle.ulfm_base.specs.Pattern.{names}

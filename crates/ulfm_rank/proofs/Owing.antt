@@ -1,18 +1,9 @@
 -- What a log owes of its entries into shrinks.
-use Rattle.std.proofs.Common.{◌≡◌, ◌≢◌, ℕ, Bool, true, false, cond, eqb, List, [], ◌∷◌, ◌++◌, refl, ap, sym, subst, ◌∙◌, inl, inr, Option, Some, None}
-use Rattle.std.specs.Prelude.{is_some, ◌&&◌}
-use Rattle.std.proofs.lemmas.Bool.{ne_eqb}
+use Rattle.std.proofs.Common.{◌≡◌, ◌≢◌, ℕ, Bool, true, false, cond, eqb, List, [], ◌∷◌, ◌++◌, refl, ap, sym, subst, ◌∙◌, inl, inr, Option, Some, None, is_some, ◌&&◌, ne_eqb}
 use Rattle.std.proofs.lemmas.Option.{none-some}
-use Rattle.ulfm_base.specs.declared.context.Context.{Context}
-use Rattle.ulfm_base.specs.declared.item.Item.{Item}
+use Rattle.ulfm_rank.proofs.Common.{Context, Item, RankSet, is_member, Entry, Sent, Revoked, Entered, Took, is_gone, is_revoked, or_else}
 use Rattle.ulfm_base.specs.declared.item.Item.TheVariants.{Letter as Mail, Gone, Revoke, Enter}
-use Rattle.ulfm_base.specs.declared.rank_set.RankSet.{RankSet}
-use Rattle.ulfm_base.specs.Group.{is_member}
-use Rattle.ulfm_rank.specs.declared.entry.Entry.{Entry}
-use Rattle.ulfm_rank.specs.declared.entry.Entry.TheVariants.{Sent, Revoked, Entered, Took}
 use Rattle.ulfm_rank.specs.Communicators.{is_made, members_of}
-use Rattle.ulfm_rank.specs.Facts.{is_gone, is_revoked}
-use Rattle.ulfm_rank.specs.Log.{or_else}
 use Rattle.ulfm_rank.specs.Owed.{owed, owed_by, is_told}
 use Rattle.ulfm_rank.specs.Shrink.{entry_of, has_entered}
 use Rattle.ulfm_rank.proofs.Gather.{gathered-push}

@@ -1,11 +1,8 @@
 -- A log's history has one lawful pairing, which holds in its beginnings too.
 use Rattle.std.proofs.Common.{◌≡◌, List, [], ◌∷◌, ◌++◌, ap, sym, subst, ◌∙◌, append-nil, append_assoc}
-use Rattle.ulfm_match.specs.History.{Event}
-use Rattle.ulfm_match.specs.Pairing.{Pairing, LawfulPairing}
+use Rattle.ulfm_rank.proofs.Common.{Event, Pairing, LawfulPairing, Entry, events_by, history_of}
 use Rattle.ulfm_match.proofs.Cut.{cut}
 use Rattle.ulfm_match.proofs.Unique.{one_pairing}
-use Rattle.ulfm_rank.specs.declared.entry.Entry.{Entry}
-use Rattle.ulfm_rank.specs.History.{events_by, history_of}
 use Rattle.ulfm_rank.specs.Paired.{IsPaired}
 use Rattle.ulfm_rank.proofs.Gather.{history-push}
 

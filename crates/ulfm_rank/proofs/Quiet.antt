@@ -3,12 +3,8 @@ use Rattle.std.proofs.Common.{◌≢◌, subst, get_or-set_other, ◌≡◌, ℕ
 use Rattle.std.proofs.lemmas.Bool.{or_parts}
 use Rattle.std.proofs.lemmas.List.{take-append-le}
 use Rattle.std.proofs.lemmas.List.Elements.{All-push}
-use Rattle.ulfm_base.specs.declared.rank.WorldRank.{WorldRank}
-use Rattle.ulfm_base.specs.declared.item.Item.{Item}
-use Rattle.ulfm_rank.specs.declared.entry.Entry.{Entry}
-use Rattle.ulfm_rank.specs.declared.entry.Entry.TheVariants.{Took}
+use Rattle.ulfm_rank.proofs.Common.{WorldRank, Item, Entry, Took, owed_by}
 use Rattle.ulfm_rank.specs.Facts.{took, took_by, is_stop, is_stopped, IsSigned}
-use Rattle.ulfm_rank.specs.Owed.{owed_by}
 use Rattle.ulfm_rank.specs.State.{State, IsState, logged, owes, gone_out, mark_at, notice, Leaves, marked, no_mark}
 use Rattle.ulfm_rank.proofs.Logs.{owes-logged, took-push, stopped-push}
 use Rattle.ulfm_rank.specs.Quiet.{Calm, Quiet}

@@ -1,19 +1,13 @@
 -- A request is released.
-use Rattle.std.proofs.Common.{◌≡◌, ℕ, ◌<◌, Bool, true, false, cond, eqb, List, [], ◌∷◌, ◌++◌, length, refl, ap, sym, ◌∙◌, subst, Option, Some, None, arith, append-nil}
-use Rattle.std.specs.Prelude.{◌||◌}
+use Rattle.std.proofs.Common.{◌≡◌, ℕ, ◌<◌, Bool, true, false, cond, eqb, List, [], ◌∷◌, ◌++◌, length, refl, ap, sym, ◌∙◌, subst, Option, Some, None, arith, append-nil, ◌||◌}
 use Rattle.std.proofs.lemmas.Option.{slice_get_within}
 use Rattle.std.proofs.Math.Bool.{or-false}
 use Rattle.std.proofs.lemmas.Bool.{eqb-true, or_parts}
 use Rattle.ulfm_match.specs.declared.request.RequestId.{RequestId}
-use Rattle.ulfm_match.specs.History.{Event, Post, number}
+use Rattle.ulfm_rank.proofs.Common.{Event, Post, number, Entry, Released, TestAnswer, Request, history_of}
 use Rattle.ulfm_match.specs.State.{State, Tracks}
 use Rattle.ulfm_match.proofs.Histories.{number_below}
-use Rattle.ulfm_rank.specs.declared.entry.Entry.{Entry}
-use Rattle.ulfm_rank.specs.declared.entry.Entry.TheVariants.{Released}
-use Rattle.ulfm_rank.specs.declared.entry.TestAnswer.{TestAnswer}
-use Rattle.ulfm_rank.specs.declared.outcome.Request.{Request}
 use Rattle.ulfm_rank.specs.Facts.{is_released, releases}
-use Rattle.ulfm_rank.specs.History.{history_of}
 use Rattle.ulfm_rank.specs.Requests.{Removes}
 use Rattle.ulfm_rank.specs.Table.{IsTable, IsInStep}
 use Rattle.ulfm_rank.proofs.Gather.{history-push, any-push}

@@ -1,17 +1,11 @@
 -- A request that a rank has is answered as its log tells.
-use Rattle.std.proofs.Common.{◌≡◌, ℕ, Bool, List, ap, sym, subst, ◌∙◌, Some, Option}
-use Rattle.std.specs.Prelude.{IsSome}
+use Rattle.std.proofs.Common.{◌≡◌, ℕ, Bool, List, ap, sym, subst, ◌∙◌, Some, Option, IsSome}
 use Rattle.std.specs.Option.{is_some}
 use Rattle.ulfm_fault.specs.Facts.{Facts}
 use Rattle.ulfm_match.specs.State.{State as Matching}
-use Rattle.ulfm_rank.specs.declared.entry.Entry.{Entry}
-use Rattle.ulfm_rank.specs.declared.entry.TestAnswer.{TestAnswer}
-use Rattle.ulfm_rank.specs.declared.outcome.Request.{Request}
+use Rattle.ulfm_rank.proofs.Common.{Entry, TestAnswer, Request, find_group, or_empty, Follows, Box}
 use Rattle.ulfm_rank.specs.Answer.{IsTestAnswer}
-use Rattle.ulfm_rank.specs.Communicators.{find_group, or_empty}
 use Rattle.ulfm_rank.specs.Fields.{pends_by}
-use Rattle.ulfm_rank.specs.Inside.{Follows}
-use Rattle.ulfm_rank.specs.Outboxes.{Box}
 use Rattle.ulfm_rank.specs.Table.{GivesAnswer, HasSender, IsOfGroup}
 use Rattle.ulfm_rank.proofs.Answered.{tested, has_sender}
 use Rattle.ulfm_rank.proofs.Grouped.{members_found}

@@ -1,15 +1,10 @@
 -- What contracts see of a rank whose log or outboxes changed.
-use Rattle.std.proofs.Common.{◌≡◌, ◌≢◌, ℕ, zero, suc, ◌+◌, ◌-◌, ◌<◌, ◌≤◌, Bool, true, false, List, [], ◌∷◌, ◌++◌, length, map, set, refl, ap, sym, subst, ◌∙◌, arith, inl, inr, length-set, get_or-set_same, get_or-set_other, Option, Some, None}
-use Rattle.std.specs.Prelude.{slice_get, drop, IfSome, IfNone}
+use Rattle.std.proofs.Common.{◌≡◌, ◌≢◌, ℕ, zero, suc, ◌+◌, ◌-◌, ◌<◌, ◌≤◌, Bool, true, false, List, [], ◌∷◌, ◌++◌, length, map, set, refl, ap, sym, subst, ◌∙◌, arith, inl, inr, length-set, get_or-set_same, get_or-set_other, Option, Some, None, slice_get, drop, IfSome, IfNone}
 use Rattle.std.proofs.Math.ListN.{get_or-map}
 use Rattle.std.proofs.lemmas.Bool.{cases_eq}
 use Rattle.std.proofs.lemmas.List.{map-set, length-map, length-drop, drop_all}
 use Rattle.std.proofs.lemmas.Option.{slice_get_within}
-use Rattle.ulfm_base.specs.declared.item.Item.{Item}
-use Rattle.ulfm_base.specs.declared.item.Item.TheVariants.{Gone}
-use Rattle.ulfm_rank.specs.declared.entry.Entry.{Entry}
-use Rattle.ulfm_rank.specs.Facts.{is_stopped}
-use Rattle.ulfm_rank.specs.Owed.{owed}
+use Rattle.ulfm_rank.proofs.Common.{Item, Gone, Entry, is_stopped, owed}
 use Rattle.ulfm_rank.specs.State.{Mark, State, logged, with_marks, mark_at, outbox, taken_out, returned, unmarked, marked, Leaves}
 use Rattle.ulfm_rank.specs.Outboxes.{Box, Boxes, empty_box, box_at, mark_of, with_taken, with_told, item_at, HasOutboxes}
 use Rattle.ulfm_rank.specs.Inside.{stop_places}

@@ -1,23 +1,16 @@
 -- What is told of a receive stays as the log grows.
-use Rattle.std.proofs.Common.{◌≡◌, ℕ, ◌+◌, ◌<◌, ◌⊎◌, inl, inr, true, List, [], ◌∷◌, ◌++◌, length, refl, ap, sym, ◌∙◌, subst, arith, Option, Some, None}
-use Rattle.std.specs.Prelude.{slice_get, max}
+use Rattle.std.proofs.Common.{◌≡◌, ℕ, ◌+◌, ◌<◌, ◌⊎◌, inl, inr, true, List, [], ◌∷◌, ◌++◌, length, refl, ap, sym, ◌∙◌, subst, arith, Option, Some, None, slice_get, max}
 use Rattle.std.proofs.lemmas.Option.{slice_get_within}
-use Rattle.ulfm_base.specs.declared.envelope.Letter.{Letter}
-use Rattle.ulfm_base.specs.declared.pattern.Pattern.{Pattern}
+use Rattle.ulfm_rank.proofs.Common.{Letter, Pattern, Event, Post, Come, End, Clear, PostAt, Entry, TestAnswer, group_of, members_of, or_empty, history_of, events_by}
 use Rattle.ulfm_base.specs.declared.error.CallError.{CallError}
 use Rattle.ulfm_base.specs.declared.error.CallError.TheVariants.{ProcFailed, Revoked, Truncated}
 use Rattle.ulfm_base.specs.Group.{rank_in}
-use Rattle.ulfm_match.specs.History.{Event, Post, Come, End, Clear, PostAt}
 use Rattle.ulfm_match.specs.Pairing.{Pairing, LawfulPairing, inside}
 use Rattle.ulfm_match.proofs.Cut.{cut, get_front, get_in_front, inside_to, inside_back}
 use Rattle.ulfm_match.proofs.Decide.{lt_or_ge}
 use Rattle.ulfm_match.proofs.Unique.{same_pattern}
-use Rattle.ulfm_rank.specs.declared.entry.Entry.{Entry}
-use Rattle.ulfm_rank.specs.declared.entry.TestAnswer.{TestAnswer}
 use Rattle.ulfm_rank.specs.declared.entry.TestAnswer.TheVariants.{Done, Over, Pending, NotYet}
 use Rattle.ulfm_rank.specs.Answer.{Got, IsUnpaired, StandsFirst, IsOver, AnswersBy, is_release}
-use Rattle.ulfm_rank.specs.Communicators.{group_of, members_of, or_empty}
-use Rattle.ulfm_rank.specs.History.{history_of, events_by}
 use Rattle.ulfm_rank.proofs.Gather.{history-push}
 use Rattle.ulfm_rank.proofs.Grouped.{group_stays, members_found}
 

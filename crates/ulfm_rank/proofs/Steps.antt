@@ -1,11 +1,9 @@
 -- A post and an arrival, with the table beside them.
-use Rattle.std.proofs.Common.{◌≡◌, ◌≢◌, ℕ, ◌+◌, ◌<◌, inl, inr, Bool, true, false, cond, eqb, List, [], ◌∷◌, ◌++◌, length, refl, ap, sym, ◌∙◌, subst, Option, Some, None, arith, append_assoc, append-nil}
+use Rattle.std.proofs.Common.{◌≡◌, ◌≢◌, ℕ, ◌+◌, ◌<◌, inl, inr, Bool, true, false, cond, eqb, List, [], ◌∷◌, ◌++◌, length, refl, ap, sym, ◌∙◌, subst, Option, Some, None, arith, append_assoc, append-nil, eqb-true}
 use Rattle.std.specs.Option.{option_map}
 use Rattle.std.proofs.lemmas.Bool.Decides.{nat_tests}
 use Rattle.std.proofs.lemmas.List.Elements.{Contains-push}
-use Rattle.std.proofs.lemmas.Bool.{eqb-true}
-use Rattle.ulfm_base.specs.declared.pattern.Pattern.{Pattern}
-use Rattle.ulfm_base.specs.declared.envelope.Letter.{Letter}
+use Rattle.ulfm_rank.proofs.Common.{Pattern, Letter, Entry, Outcome, Paired, Request, Item}
 use Rattle.ulfm_match.specs.History.{Event, Post, Come, End, Clear, PostAt, StandsBetween, number}
 use Rattle.ulfm_match.specs.Pairing.{Pairing, Pairs, LawfulPairing}
 use Rattle.ulfm_match.specs.State.{State, Tracks}
@@ -13,11 +11,6 @@ use Rattle.ulfm_match.specs.Calls.{TracksEnd}
 use Rattle.ulfm_match.proofs.Histories.{get_old, get_new, length_more, number_old, same_number}
 use Rattle.ulfm_match.proofs.Extend.{receive_within}
 use Rattle.ulfm_match.proofs.Steps.{pair_cases, pair_old, stands_nowhere}
-use Rattle.ulfm_rank.specs.declared.entry.Entry.{Entry}
-use Rattle.ulfm_rank.specs.declared.outcome.Outcome.{Outcome}
-use Rattle.ulfm_rank.specs.declared.outcome.Outcome.TheVariants.{Paired}
-use Rattle.ulfm_rank.specs.declared.outcome.Request.{Request}
-use Rattle.ulfm_base.specs.declared.item.Item.{Item}
 use Rattle.ulfm_rank.specs.Answer.{IsUnpaired}
 use Rattle.ulfm_rank.specs.Table.{IsOfGroup, Became, IsStanding, IsTable}
 use Rattle.ulfm_rank.specs.Requests.{outcome_of, changed, Adds, Changes, events_of_post, events_of_item, TracksItem}

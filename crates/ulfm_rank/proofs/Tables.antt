@@ -1,19 +1,12 @@
 -- The table of requests when the history grows by one event.
-use Rattle.std.proofs.Common.{◌≡◌, ◌≢◌, ℕ, suc, ◌<◌, ◌≤◌, ◌⊎◌, inl, inr, Bool, true, false, cond, eqb, List, [], ◌∷◌, ◌++◌, length, refl, ap, sym, ◌∙◌, subst, Option, Some, None, arith}
+use Rattle.std.proofs.Common.{◌≡◌, ◌≢◌, ℕ, suc, ◌<◌, ◌≤◌, ◌⊎◌, inl, inr, Bool, true, false, cond, eqb, List, [], ◌∷◌, ◌++◌, length, refl, ap, sym, ◌∙◌, subst, Option, Some, None, arith, eqb-true}
 use Rattle.std.specs.Option.{option_map}
 use Rattle.std.proofs.lemmas.Option.{slice_get_within}
 use Rattle.std.proofs.lemmas.Bool.Decides.{nat_tests}
-use Rattle.std.proofs.lemmas.Bool.{eqb-true}
-use Rattle.ulfm_base.specs.declared.pattern.Pattern.{Pattern}
-use Rattle.ulfm_match.specs.History.{Event, Post, Come, End, Clear, PostAt, number}
+use Rattle.ulfm_rank.proofs.Common.{Pattern, Event, Post, Come, End, Clear, PostAt, number, Entry, Outcome, Waiting, Paired, Failed, Cleared, Request, is_released}
 use Rattle.ulfm_match.specs.Pairing.{Pairing, Pairs, IsWaiting, LawfulPairing}
 use Rattle.ulfm_match.proofs.Histories.{get_old, get_new, get_cases, length_more, stands_back, number_old, number_new, number_below}
 use Rattle.ulfm_match.proofs.Steps.{waiting_to}
-use Rattle.ulfm_rank.specs.declared.entry.Entry.{Entry}
-use Rattle.ulfm_rank.specs.declared.outcome.Outcome.{Outcome}
-use Rattle.ulfm_rank.specs.declared.outcome.Outcome.TheVariants.{Waiting, Paired, Failed, Cleared}
-use Rattle.ulfm_rank.specs.declared.outcome.Request.{Request}
-use Rattle.ulfm_rank.specs.Facts.{is_released}
 use Rattle.ulfm_rank.specs.Answer.{StandsFirst}
 use Rattle.ulfm_rank.specs.Table.{IsOfGroup, Became, IsStanding, IsTable}
 

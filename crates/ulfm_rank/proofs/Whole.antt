@@ -1,28 +1,16 @@
 -- All parts of a rank follow the log, call by call.
-use Rattle.std.proofs.Common.{◌≡◌, ℕ, ◌+◌, ◌<◌, ◌≤◌, Bool, true, false, cond, List, [], ◌∷◌, ◌++◌, length, map, replicate, refl, ap, sym, subst, ◌∙◌, Option, Some, None, arith}
-use Rattle.std.specs.Prelude.{◌||◌, ◌&&◌, nat_lt, IsTrue}
+use Rattle.std.proofs.Common.{◌≡◌, ℕ, ◌+◌, ◌<◌, ◌≤◌, Bool, true, false, cond, List, [], ◌∷◌, ◌++◌, length, map, replicate, refl, ap, sym, subst, ◌∙◌, Option, Some, None, arith, ◌||◌, ◌&&◌, nat_lt, IsTrue}
 use Rattle.std.proofs.lemmas.Bool.Decides.{nat_tests}
 use Rattle.std.proofs.Math.Bool.{or-false}
-use Rattle.ulfm_base.specs.declared.item.Item.{Item}
-use Rattle.ulfm_base.specs.declared.pattern.Pattern.{Pattern}
-use Rattle.ulfm_base.specs.declared.rank.WorldRank.{WorldRank}
-use Rattle.ulfm_base.specs.Group.{numbers_from}
+use Rattle.ulfm_rank.proofs.Common.{Item, Pattern, WorldRank, numbers_from, Entry, Posted, Released, Took, TestAnswer, Outcome, Request, is_revoked, is_stop, is_stopped, Follows, IsOfGroup}
 use Rattle.ulfm_fault.specs.Facts.{Facts, acknowledged_in, is_marked}
 use Rattle.ulfm_match.specs.declared.request.RequestId.{RequestId}
 use Rattle.ulfm_match.specs.State.{State as Matching, Tracks}
-use Rattle.ulfm_rank.specs.declared.entry.Entry.{Entry}
-use Rattle.ulfm_rank.specs.declared.entry.Entry.TheVariants.{Posted, Released, Took}
-use Rattle.ulfm_rank.specs.declared.entry.TestAnswer.{TestAnswer}
-use Rattle.ulfm_rank.specs.declared.outcome.Outcome.{Outcome}
-use Rattle.ulfm_rank.specs.declared.outcome.Request.{Request}
-use Rattle.ulfm_rank.specs.Facts.{is_revoked, is_stop, is_stopped}
 use Rattle.ulfm_rank.specs.Fields.{HasFaults, names_known, was_marked}
-use Rattle.ulfm_rank.specs.Inside.{Follows}
 use Rattle.ulfm_rank.specs.Outboxes.{Box, empty_box, mark_of, AllGrow}
 use Rattle.ulfm_rank.specs.Owed.{owed_by_item}
 use Rattle.ulfm_rank.specs.Requests.{Adds, Removes, TracksAdmit, TracksItem}
 use Rattle.ulfm_rank.specs.State.{State, start_state, logged, no_mark}
-use Rattle.ulfm_rank.specs.Table.{IsOfGroup}
 use Rattle.ulfm_rank.proofs.Gather.{any-push}
 use Rattle.ulfm_rank.proofs.Held.{outboxes-grown, outboxes-quiet, outboxes-start, marks-start}
 use Rattle.ulfm_rank.proofs.InStep.{in_step_start, in_step_same, in_step_posted, in_step_took}

@@ -1,6 +1,5 @@
 -- Lists that another list is mapped to.
-use Rattle.std.proofs.Common.{◌≡◌, ℕ, zero, suc, List, [], ◌∷◌, map, length, refl, ap, sym, ◌∙◌, subst, arith}
-use Rattle.std.specs.Prelude.{slice_get}
+use Rattle.std.proofs.Common.{◌≡◌, ℕ, zero, suc, List, [], ◌∷◌, map, length, refl, ap, sym, ◌∙◌, subst, arith, slice_get}
 use Rattle.std.specs.List.{swap}
 use Rattle.std.proofs.lemmas.List.{length-map}
 use Rattle.ulfm_base.specs.declared.item.Item.{Item}

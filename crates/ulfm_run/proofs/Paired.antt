@@ -1,6 +1,5 @@
 -- Two deciders of a list that is parted between them, and lists of which each two agree.
-use Rattle.std.proofs.Common.{◌≡◌, ℕ, ◌<◌, ◌≤◌, ◌+◌, List, ◌++◌, length, map, refl, ap, ap₂, sym, subst, ◌∙◌, arith, inl, inr, get_or, set, take, drop, append-nil, Option, Some, None}
-use Rattle.std.specs.Prelude.{slice_get, IsSome}
+use Rattle.std.proofs.Common.{◌≡◌, ℕ, ◌<◌, ◌≤◌, ◌+◌, List, ◌++◌, length, map, refl, ap, ap₂, sym, subst, ◌∙◌, arith, inl, inr, get_or, set, take, drop, append-nil, Option, Some, None, slice_get, IsSome}
 use Rattle.std.proofs.lemmas.Bool.{cases_eq, cases_lt}
 use Rattle.std.proofs.lemmas.List.{length-map, map-append, get_or_append_left, get_or-append-add, drop_all, take_all}
 use Rattle.std.proofs.lemmas.Option.{same_Some, slice_get_within, slice_get-get_or, get_or_from_slice_get}

@@ -1,6 +1,5 @@
 -- Whom nothing waits for, as a loop over the ranks finds it.
-use Rattle.std.proofs.Common.{◌≡◌, ℕ, ◌<◌, ◌≤◌, ◌+◌, ◌↔◌, Bool, List, [], length, refl, ap, sym, subst, ◌∙◌, arith, inl, inr, get_or, eq-eqb}
-use Rattle.std.specs.Prelude.{◌==◌, IsTrue, slice_get, vec_len}
+use Rattle.std.proofs.Common.{◌≡◌, ℕ, ◌<◌, ◌≤◌, ◌+◌, ◌↔◌, Bool, List, [], length, refl, ap, sym, subst, ◌∙◌, arith, inl, inr, get_or, eq-eqb, ◌==◌, IsTrue, slice_get, vec_len}
 use Rattle.std.specs.declared.alloc.Global.{Global}
 use Rattle.std.specs.declared.vec.Vec.{Vec}
 use Rattle.std.proofs.lemmas.Bool.{cases_lt, eqb-true}

@@ -1,6 +1,5 @@
 -- A rank at work.
-use Rattle.std.proofs.Common.{◌≡◌, ℕ, ◌≤◌, true, false, List, [], ◌++◌, length, map, refl, ap, sym, subst, ◌∙◌, arith, Bool, ◌∷◌, inl, inr, ◌⊎◌, append-nil, length-append, ◌<◌, Option, Some, None, MatchOption, slice_get}
-use Rattle.std.specs.Prelude.{All}
+use Rattle.std.proofs.Common.{◌≡◌, ℕ, ◌≤◌, true, false, List, [], ◌++◌, length, map, refl, ap, sym, subst, ◌∙◌, arith, Bool, ◌∷◌, inl, inr, ◌⊎◌, append-nil, length-append, ◌<◌, Option, Some, None, MatchOption, slice_get, All}
 use Rattle.std.proofs.lemmas.Bool.{false≢true}
 use Rattle.std.proofs.lemmas.Option.{slice_get_within}
 use Rattle.std.proofs.lemmas.List.{length-map}

@@ -1,6 +1,5 @@
 -- What a decision makes of a player whose answers are right.
-use Rattle.std.proofs.Common.{◌≡◌, ◌≢◌, ℕ, List, length, refl, ap, sym, subst, ◌∙◌, inl, inr, ◌⊎◌, false, get_or-set_other}
-use Rattle.std.specs.Prelude.{Option, Some, None}
+use Rattle.std.proofs.Common.{◌≡◌, ◌≢◌, ℕ, List, length, refl, ap, sym, subst, ◌∙◌, inl, inr, ◌⊎◌, false, get_or-set_other, Option, Some, None}
 use Rattle.std.proofs.lemmas.Bool.{cases_eq}
 use Rattle.ulfm_base.specs.declared.context.Context.{Context}
 use Rattle.ulfm_base.specs.declared.decision.Decision.{Decision}

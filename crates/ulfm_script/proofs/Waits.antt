@@ -1,6 +1,5 @@
 -- What a test of its request says for a wait.
-use Rattle.std.proofs.Common.{◌≡◌, ℕ, true, false, List, refl}
-use Rattle.std.specs.Prelude.{IfSome, IfNone}
+use Rattle.std.proofs.Common.{◌≡◌, ℕ, true, false, List, refl, IfSome, IfNone}
 use Rattle.ulfm_match.specs.declared.request.RequestId.{RequestId}
 use Rattle.ulfm_rank.specs.declared.entry.Entry.TheVariants.{Released}
 use Rattle.ulfm_rank.specs.declared.entry.TestAnswer.{TestAnswer}

@@ -1,6 +1,5 @@
 -- What each thing that happens to a rank keeps, all that happened to it keeps, where its answers are right.
-use Rattle.std.proofs.Common.{◌≡◌, ℕ, ◌+◌, List, [], ◌∷◌, ◌++◌, length, take, refl, ap, sym, subst, ◌∙◌, arith, inl, inr, ◌⊎◌, append-nil, append_assoc, length-append, Option, Some, None}
-use Rattle.std.specs.Prelude.{All}
+use Rattle.std.proofs.Common.{◌≡◌, ℕ, ◌+◌, List, [], ◌∷◌, ◌++◌, length, take, refl, ap, sym, subst, ◌∙◌, arith, inl, inr, ◌⊎◌, append-nil, append_assoc, length-append, Option, Some, None, All}
 use Rattle.std.proofs.lemmas.List.Elements.{All-head, All-tail}
 use Rattle.std.proofs.Math.Seq.{take-append_seam, take-length}
 use Rattle.ulfm_base.specs.declared.context.Context.{Context}

@@ -1,28 +1,18 @@
 -- How a decision is held and adopted.
-use Rattle.std.proofs.Common.{◌≡◌, ◌≢◌, ℕ, ◌<◌, Bool, true, false, List, [], ◌∷◌, ◌++◌, refl, ap, sym, subst, ◌∙◌, arith, inl, inr, ◌⊎◌, Option, Some, None, get_or-set_other}
-use Rattle.std.specs.Prelude.{All, not}
+use Rattle.std.proofs.Common.{◌≡◌, ◌≢◌, ℕ, ◌<◌, Bool, true, false, List, [], ◌∷◌, ◌++◌, refl, ap, sym, subst, ◌∙◌, arith, inl, inr, ◌⊎◌, Option, Some, None, get_or-set_other, All, not}
 use Rattle.std.proofs.lemmas.Bool.{false≢true, cases_eq, not_from_true}
 use Rattle.std.proofs.lemmas.Option.{none-some, same_Some}
 use Rattle.std.proofs.lemmas.List.Elements.{All-push}
-use Rattle.ulfm_base.specs.declared.context.Context.{Context}
-use Rattle.ulfm_base.specs.declared.decision.Decision.{Decision}
+use Rattle.ulfm_world.proofs.Common.{Context, Decision, Entry, Adopted, is_stopped, State, logged, Shrink, Player, World, player_at, rank_at, IsRunning, IsWorld}
 use Rattle.ulfm_base.specs.declared.error.CallError.{CallError}
 use Rattle.ulfm_base.specs.declared.error.CallError.TheVariants.{NoComm, AlreadyMade, NotEntered, NotMember, OutOfMemory, Stopped as StoppedError}
 use Rattle.ulfm_board.specs.Known.{known_at, Answers as BoardAnswers}
-use Rattle.ulfm_rank.specs.declared.entry.Entry.{Entry}
-use Rattle.ulfm_rank.specs.declared.entry.Entry.TheVariants.{Adopted}
 use Rattle.ulfm_rank.specs.Checks.{Passes, FailsOrStarves, lacks, group_at, adopt_checks}
 use Rattle.ulfm_rank.specs.Communicators.{is_made, members_of}
-use Rattle.ulfm_rank.specs.Facts.{is_stopped}
 use Rattle.ulfm_rank.specs.Shrink.{has_entered, has_adopted, is_foreign, IsProposal}
-use Rattle.ulfm_rank.specs.State.{State, logged}
 use Rattle.ulfm_script.specs.declared.answer.StepAnswer.{StepAnswer}
 use Rattle.ulfm_script.specs.declared.answer.StepAnswer.TheVariants.{Shrunk, Refused}
-use Rattle.ulfm_script.specs.declared.step.Step.TheVariants.{Shrink}
-use Rattle.ulfm_script.specs.Player.{Player}
 use Rattle.ulfm_script.specs.Deciding.{AnswersAdoption}
-use Rattle.ulfm_world.specs.World.{World, player_at, rank_at, IsRunning}
-use Rattle.ulfm_world.specs.Flow.{IsWorld}
 use Rattle.ulfm_rank.proofs.Entering.{Fits}
 use Rattle.ulfm_rank.proofs.Belonging.{IsOwn, not_foreign}
 use Rattle.ulfm_world.proofs.Agreed.{IsAdopted, IsHeld, Settled}

@@ -2,24 +2,14 @@
 use Rattle.std.proofs.Common.{◌≡◌, ℕ, ◌<◌, true, false, List, length, ap, sym, subst, ◌∙◌, arith, Option, Some}
 use Rattle.std.specs.Prelude.{All, ⊤}
 use Rattle.std.proofs.lemmas.Option.{same_Some, get_or_from_slice_get, slice_get_within}
-use Rattle.ulfm_base.specs.declared.context.Context.{Context}
-use Rattle.ulfm_base.specs.declared.decision.Decision.{Decision}
-use Rattle.ulfm_base.specs.declared.rank_set.RankSet.{RankSet}
+use Rattle.ulfm_world.proofs.Common.{Context, Decision, RankSet, is_member, known_at, Entry, Adopted, Shrink, Report, at, IsWorld}
 use Rattle.ulfm_base.specs.Decision.{entry_at}
-use Rattle.ulfm_base.specs.Group.{is_member}
 use Rattle.ulfm_base.specs.RankSet.{has}
-use Rattle.ulfm_board.specs.Known.{known_at}
-use Rattle.ulfm_rank.specs.declared.entry.Entry.{Entry}
-use Rattle.ulfm_rank.specs.declared.entry.Entry.TheVariants.{Adopted}
 use Rattle.ulfm_rank.specs.Communicators.{group_of}
 use Rattle.ulfm_rank.specs.Facts.{is_gone}
 use Rattle.ulfm_rank.specs.Shrink.{listed_of, has_adopted}
-use Rattle.ulfm_script.specs.declared.step.Step.TheVariants.{Shrink}
-use Rattle.ulfm_script.specs.Report.{Report}
-use Rattle.ulfm_base.specs.Lists.{at}
 use Rattle.ulfm_laws.specs.Shrinks.{AdoptOne}
 use Rattle.ulfm_world.specs.World.{World, rank_at, player_at, HasStopped, report_of, reports_in}
-use Rattle.ulfm_world.specs.Flow.{IsWorld}
 use Rattle.ulfm_rank.proofs.Entering.{own_set}
 use Rattle.ulfm_rank.proofs.Owing.{OwesOwn}
 use Rattle.ulfm_rank.proofs.Belonging.{Keeps}

@@ -1,19 +1,15 @@
 -- The laws of the event that decides a shrink.
 use Rattle.std.proofs.Common.{◌≡◌, ℕ, ◌<◌, List, [], ◌∷◌, ◌++◌, length, get_or, refl, ap, sym, subst, ◌∙◌, arith, inl, inr, Option, Some}
 use Rattle.std.proofs.lemmas.List.{get_or_push}
-use Rattle.ulfm_base.specs.declared.context.Context.{Context}
-use Rattle.ulfm_base.specs.declared.decision.Decision.{Decision}
+use Rattle.ulfm_world.proofs.Common.{Context, Decision, known_at, Shrink, IsWorld}
 use Rattle.ulfm_base.specs.declared.error.CallError.{CallError}
 use Rattle.ulfm_base.specs.declared.error.CallError.TheVariants.{OutOfMemory}
-use Rattle.ulfm_board.specs.Known.{known_at}
 use Rattle.ulfm_script.specs.declared.answer.StepAnswer.{StepAnswer}
 use Rattle.ulfm_script.specs.declared.answer.StepAnswer.TheVariants.{Refused}
 use Rattle.ulfm_script.specs.declared.answer.StepReport.{StepReport}
-use Rattle.ulfm_script.specs.declared.step.Step.TheVariants.{Shrink}
 use Rattle.ulfm_script.specs.Player.{Player, report_of}
 use Rattle.ulfm_script.specs.Deciding.{AnswersAdoption}
 use Rattle.ulfm_world.specs.World.{World, player_in, player_at, rank_at, Settles}
-use Rattle.ulfm_world.specs.Flow.{IsWorld}
 use Rattle.ulfm_world.specs.Safe.{IsSafe, SettlesSafely, StarvesAlone}
 use Rattle.ulfm_world.proofs.Changed.{player-same}
 use Rattle.ulfm_world.proofs.Agreed.{IsHeld, Settled}

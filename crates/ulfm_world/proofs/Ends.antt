@@ -3,15 +3,8 @@ use Rattle.std.proofs.Common.{◌≡◌, ℕ, ◌<◌, ◌≤◌, Bool, false, L
 use Rattle.std.proofs.lemmas.Bool.{cases_Bool}
 use Rattle.std.proofs.lemmas.List.{length-map, nil_from_length}
 use Rattle.std.proofs.lemmas.Option.{slice_get_within}
-use Rattle.ulfm_base.specs.declared.rank.WorldRank.{WorldRank}
-use Rattle.ulfm_base.specs.declared.item.Item.{Item}
-use Rattle.ulfm_rank.specs.Facts.{is_stopped}
-use Rattle.ulfm_script.specs.declared.step.Step.{Step}
-use Rattle.ulfm_script.specs.Player.{Player}
-use Rattle.ulfm_script.specs.Report.{Report}
+use Rattle.ulfm_world.proofs.Common.{WorldRank, Item, is_stopped, Step, Player, Report, World, player_at, rank_at, inbox_at, start_world, report_of, IsAtRest}
 use Rattle.ulfm_script.specs.Job.{Seen, script_at, through_stop}
-use Rattle.ulfm_world.specs.World.{World, player_at, rank_at, inbox_at, start_world, report_of}
-use Rattle.ulfm_world.specs.Rest.{IsAtRest}
 use Rattle.ulfm_world.specs.Replay.{Follows, Moves, IsStuck, IsAnswered, IsReplayed, Came}
 use Rattle.ulfm_script.specs.Script.{FollowsAt, steps_done, step_of}
 use Rattle.ulfm_world.proofs.Starts.{player-start, length-start}

@@ -1,21 +1,12 @@
 -- What a world keeps of its shrinks when one rank does something.
-use Rattle.std.proofs.Common.{◌≡◌, ℕ, ◌<◌, true, false, List, [], ◌∷◌, ◌++◌, length, set, refl, ap, sym, subst, ◌∙◌, arith, inl, inr, ◌⊎◌, Option, Some, length-set}
-use Rattle.std.specs.Prelude.{All}
+use Rattle.std.proofs.Common.{◌≡◌, ℕ, ◌<◌, true, false, List, [], ◌∷◌, ◌++◌, length, set, refl, ap, sym, subst, ◌∙◌, arith, inl, inr, ◌⊎◌, Option, Some, length-set, All}
 use Rattle.std.proofs.lemmas.Bool.{cases_eq, or_left}
 use Rattle.std.proofs.lemmas.List.Elements.{All-weaker}
-use Rattle.ulfm_base.specs.declared.context.Context.{Context}
-use Rattle.ulfm_base.specs.declared.decision.Decision.{Decision}
-use Rattle.ulfm_base.specs.declared.rank_set.RankSet.{RankSet}
-use Rattle.ulfm_board.specs.Known.{known_at}
-use Rattle.ulfm_rank.specs.declared.entry.Entry.{Entry}
+use Rattle.ulfm_world.proofs.Common.{Context, Decision, RankSet, known_at, Entry, has_adopted, Shrink, Player, World, player_in, player_at, rank_at}
 use Rattle.ulfm_rank.specs.declared.entry.Entry.TheVariants.{Sent, Posted, Released, Acknowledged, Revoked, Duplicated, Entered, Adopted, Stopped, Took}
 use Rattle.ulfm_rank.specs.Communicators.{group_of}
 use Rattle.ulfm_rank.specs.Facts.{is_stop, is_stopped}
-use Rattle.ulfm_rank.specs.Shrink.{has_adopted}
 use Rattle.ulfm_rank.proofs.Gather.{any-push}
-use Rattle.ulfm_script.specs.declared.step.Step.TheVariants.{Shrink}
-use Rattle.ulfm_script.specs.Player.{Player}
-use Rattle.ulfm_world.specs.World.{World, player_in, player_at, rank_at}
 use Rattle.ulfm_world.proofs.Changed.{player-same, player-other}
 use Rattle.ulfm_rank.proofs.Grouped.{group_stays}
 use Rattle.ulfm_rank.proofs.Entering.{Fits, own_set, own_stays}

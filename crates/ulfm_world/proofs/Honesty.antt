@@ -1,18 +1,10 @@
 -- In every schedule the answered steps of each rank are true of its log.
-use Rattle.std.proofs.Common.{ℕ, ◌<◌, ◌≤◌, List, [], ◌∷◌, length, set, refl, sym, subst, arith, inl, inr, length-set, None}
-use Rattle.std.specs.Prelude.{All}
+use Rattle.std.proofs.Common.{ℕ, ◌<◌, ◌≤◌, List, [], ◌∷◌, length, set, refl, sym, subst, arith, inl, inr, length-set, None, All}
 use Rattle.std.proofs.lemmas.List.Elements.{All-head}
-use Rattle.ulfm_base.specs.declared.rank.WorldRank.{WorldRank}
-use Rattle.ulfm_base.specs.declared.item.Item.{Item}
-use Rattle.ulfm_rank.specs.declared.entry.Entry.TheVariants.{Took}
-use Rattle.ulfm_rank.specs.State.{State, Leaves, logged}
-use Rattle.ulfm_script.specs.declared.step.Step.{Step}
+use Rattle.ulfm_world.proofs.Common.{WorldRank, Item, Took, State, Leaves, logged, Step, Event, Call, Push, Take, Decide, Leave, IsPosted, IsWorld}
 use Rattle.ulfm_script.specs.declared.answer.StepAnswer.TheVariants.{Unfinished}
 use Rattle.ulfm_script.specs.Player.{Player, IsCalled, Left, awaits_decision, with_rank, start_player}
-use Rattle.ulfm_world.specs.declared.event.Event.{Event}
-use Rattle.ulfm_world.specs.declared.event.Event.TheVariants.{Call, Push, Take, Decide, Leave}
 use Rattle.ulfm_world.specs.World.{World, player_in, player_at, rank_at, start_world, Happens, Applied, Run, Reaches}
-use Rattle.ulfm_world.specs.Flow.{IsPosted, IsWorld}
 use Rattle.ulfm_laws.proofs.Answering.{true-same, true-answers, unfinished}
 use Rattle.ulfm_world.proofs.Changed.{each_player}
 use Rattle.ulfm_laws.proofs.Closing.{IsTrueOf}

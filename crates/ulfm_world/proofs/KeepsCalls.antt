@@ -1,21 +1,14 @@
 -- A poll, a step that is given up, and a take keep what every world keeps.
-use Rattle.std.proofs.Common.{◌≡◌, ℕ, ◌<◌, List, [], ◌∷◌, ◌++◌, length, get_or, set, ap, sym, subst, ◌∙◌, arith, inl, inr, append_assoc, length-set}
-use Rattle.std.specs.Prelude.{All}
+use Rattle.std.proofs.Common.{◌≡◌, ℕ, ◌<◌, List, [], ◌∷◌, ◌++◌, length, get_or, set, ap, sym, subst, ◌∙◌, arith, inl, inr, append_assoc, length-set, All}
 use Rattle.std.proofs.lemmas.Bool.{cases_eq}
 use Rattle.std.proofs.lemmas.List.Elements.{All-rest}
-use Rattle.ulfm_base.specs.declared.rank.WorldRank.{WorldRank}
-use Rattle.ulfm_base.specs.declared.item.Item.{Item}
-use Rattle.ulfm_rank.specs.declared.entry.Entry.TheVariants.{Took}
+use Rattle.ulfm_world.proofs.Common.{WorldRank, Item, Took, State, logged, Player, with_rank, World, player_in, player_at, rank_at, inbox_at, with_player, with_inbox, Takes, items_from}
 use Rattle.ulfm_rank.specs.Facts.{took, took_by, IsSigned}
-use Rattle.ulfm_rank.specs.State.{State, logged}
-use Rattle.ulfm_script.specs.Player.{Player, with_rank}
-use Rattle.ulfm_world.specs.World.{World, player_in, player_at, rank_at, inbox_at, with_player, with_inbox, Takes}
 use Rattle.ulfm_world.specs.Flow.{arrived, IsPosted, IsWorld}
 use Rattle.ulfm_rank.proofs.Logs.{took-push}
 use Rattle.ulfm_rank.proofs.Quiet.{calm-same, quiet-same, calm-took}
 use Rattle.ulfm_rank.specs.Quiet.{Calm, Quiet}
 use Rattle.ulfm_world.proofs.Changed.{player-same, player-other, each_player, inbox-same, inbox-other, each_inbox}
-use Rattle.ulfm_base.specs.Items.{items_from}
 
 -- what a rank sent stays signed
 pub signed_still : (me : ℕ) (old new : State) → old.me ≡ me → Calm old new → All (IsSigned me) old.log → All (IsSigned me) new.log

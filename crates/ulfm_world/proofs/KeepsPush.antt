@@ -1,16 +1,11 @@
 -- A push keeps what every world keeps.
-use Rattle.std.proofs.Common.{◌≡◌, ◌≢◌, ℕ, ◌<◌, cond, eqb, List, [], ◌∷◌, ◌++◌, length, get_or, set, refl, ap, sym, subst, ◌∙◌, arith, inl, inr, append-nil, append_assoc, length-set}
-use Rattle.std.specs.Prelude.{All}
+use Rattle.std.proofs.Common.{◌≡◌, ◌≢◌, ℕ, ◌<◌, cond, eqb, List, [], ◌∷◌, ◌++◌, length, get_or, set, refl, ap, sym, subst, ◌∙◌, arith, inl, inr, append-nil, append_assoc, length-set, All}
 use Rattle.std.proofs.lemmas.Bool.{cases_eq, eq-eqb, ne_eqb}
 use Rattle.std.proofs.lemmas.Grind.{flat_map-append}
 use Rattle.std.proofs.lemmas.List.Elements.{All-push}
-use Rattle.ulfm_base.specs.declared.rank.WorldRank.{WorldRank}
-use Rattle.ulfm_base.specs.declared.item.Item.{Item}
-use Rattle.ulfm_rank.specs.declared.entry.Entry.{Entry}
+use Rattle.ulfm_world.proofs.Common.{WorldRank, Item, Entry, Player, with_rank, World, player_in, player_at, rank_at, inbox_at, with_player, with_inbox, Pushes}
 use Rattle.ulfm_rank.specs.Facts.{took, IsSigned}
 use Rattle.ulfm_rank.specs.State.{State, IsState, gone_out, Leaves}
-use Rattle.ulfm_script.specs.Player.{Player, with_rank}
-use Rattle.ulfm_world.specs.World.{World, player_in, player_at, rank_at, inbox_at, with_player, with_inbox, Pushes}
 use Rattle.ulfm_world.specs.Flow.{arrived, IsPosted, IsWorld}
 use Rattle.ulfm_base.specs.Items.{ComesFrom, items_from, item_if_from}
 use Rattle.ulfm_rank.proofs.Signed.{front_signed, from_signed}

@@ -1,14 +1,9 @@
 -- The reports of a replay are lawful.
-use Rattle.std.proofs.Common.{◌≡◌, ℕ, ◌<◌, true, List, [], length, refl, ap, sym, subst, ◌∙◌, arith, Option, Some, None}
-use Rattle.std.specs.Prelude.{is_some}
+use Rattle.std.proofs.Common.{◌≡◌, ℕ, ◌<◌, true, List, [], length, refl, ap, sym, subst, ◌∙◌, arith, Option, Some, None, is_some}
 use Rattle.std.proofs.lemmas.Option.{same_Some, slice_get_within, get_or_from_slice_get}
-use Rattle.ulfm_base.specs.declared.decision.Decision.{Decision}
-use Rattle.ulfm_base.specs.Group.{is_member}
-use Rattle.ulfm_base.specs.Lists.{at}
+use Rattle.ulfm_world.proofs.Common.{Decision, is_member, at, Entry, Adopted, Report, World, player_at, rank_at, report_of, reports_in, IsWorld}
 use Rattle.ulfm_board.specs.Known.{BothAgree, known_at}
 use Rattle.ulfm_match.proofs.Exists.{some_pairing}
-use Rattle.ulfm_rank.specs.declared.entry.Entry.{Entry}
-use Rattle.ulfm_rank.specs.declared.entry.Entry.TheVariants.{Adopted}
 use Rattle.ulfm_rank.specs.History.{history_of}
 use Rattle.ulfm_rank.specs.Paired.{IsPaired}
 use Rattle.ulfm_rank.proofs.Pairings.{paired}
@@ -16,15 +11,12 @@ use Rattle.ulfm_script.specs.Answered.{HasAnswers}
 use Rattle.ulfm_script.specs.Deciding.{Known}
 use Rattle.ulfm_script.specs.Job.{Seen, IsJob}
 use Rattle.ulfm_script.specs.Played.{HasPlayed}
-use Rattle.ulfm_script.specs.Report.{Report}
 use Rattle.ulfm_script.proofs.Honestly.{honest-answers}
 use Rattle.ulfm_laws.specs.Lawful.{AreProduced, IsLawful}
 use Rattle.ulfm_laws.specs.Shrinks.{IsTrueOf, AdoptsTruly}
 use Rattle.ulfm_laws.proofs.Closing.{IsTrueOf as TrueOfLog}
 use Rattle.ulfm_laws.proofs.Lawful.{lawful}
 use Rattle.ulfm_laws.proofs.Taken.{took_none}
-use Rattle.ulfm_world.specs.World.{World, player_at, rank_at, report_of, reports_in}
-use Rattle.ulfm_world.specs.Flow.{IsWorld}
 use Rattle.ulfm_world.specs.Replay.{known_in, IsAnswered, IsStuck, Came}
 use Rattle.ulfm_world.specs.Safe.{IsSafe}
 use Rattle.ulfm_world.proofs.Agreed.{IsHeld, Settled}

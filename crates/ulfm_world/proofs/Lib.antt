@@ -1,3 +1,4 @@
+pub mod Common
 pub mod Changed
 pub mod KeepsCalls
 pub mod KeepsPush

@@ -1,17 +1,10 @@
 -- Players with their places, and a change of one of them.
-use Rattle.std.proofs.Common.{◌≡◌, ℕ, ◌<◌, false, List, [], ◌∷◌, ◌++◌, length, take, drop, get_or, set, refl, ap, sym, subst, ◌∙◌, arith, take_all, append-nil, Option}
-use Rattle.std.specs.Prelude.{All}
+use Rattle.std.proofs.Common.{◌≡◌, ℕ, ◌<◌, false, List, [], ◌∷◌, ◌++◌, length, take, drop, get_or, set, refl, ap, sym, subst, ◌∙◌, arith, take_all, append-nil, Option, All}
 use Rattle.std.proofs.lemmas.List.{map-set, get_or-map, set-get_or, length-map, drop_all, get_or_default}
 use Rattle.std.proofs.lemmas.List.Elements.{All-head}
-use Rattle.ulfm_base.specs.declared.rank.WorldRank.{WorldRank}
-use Rattle.ulfm_base.specs.declared.decision.Decision.{Decision}
-use Rattle.ulfm_base.specs.declared.item.Item.{Item}
-use Rattle.ulfm_rank.specs.declared.entry.Entry.TheVariants.{Took}
-use Rattle.ulfm_rank.specs.Facts.{is_stopped}
-use Rattle.ulfm_rank.specs.State.{logged, Leaves}
+use Rattle.ulfm_world.proofs.Common.{WorldRank, Decision, Item, Took, is_stopped, logged, Leaves, IsPosted}
 use Rattle.ulfm_script.specs.Player.{Player, View, with_rank}
 use Rattle.ulfm_world.specs.World.{World, player_in, no_player, with_inbox, with_players, Pushes, Takes}
-use Rattle.ulfm_world.specs.Flow.{IsPosted}
 use Rattle.ulfm_world.specs.Fields.{the_player, players_of, parts, AreParts, HandsOver}
 
 pub read_player : (views : List View) (r : ℕ) (d : View) → r < length views → player_in (players_of views) r ≡ (get_or views r d).player

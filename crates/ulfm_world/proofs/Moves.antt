@@ -1,8 +1,7 @@
 -- How the parts of a replay join: something moves, or nothing does.
 use Rattle.std.proofs.Common.{◌≡◌, ℕ, ◌+◌, ◌<◌, ◌≤◌, Bool, true, false, cond, [], refl, sym, subst, ◌∙◌, arith, below_more}
 use Rattle.std.proofs.lemmas.Bool.{false≢true}
-use Rattle.ulfm_script.specs.Job.{Seen}
-use Rattle.ulfm_world.specs.World.{World}
+use Rattle.ulfm_world.proofs.Common.{Seen, World}
 use Rattle.ulfm_world.specs.Replay.{Follows, measure, Moves}
 use Rattle.ulfm_world.proofs.Runs.{reaches-then}
 

@@ -1,22 +1,14 @@
 -- What a poll moves, and a step that is given up.
-use Rattle.std.proofs.Common.{◌≡◌, ℕ, ◌<◌, ◌≤◌, true, false, cond, List, [], ◌∷◌, length, set, refl, ap, sym, subst, ◌∙◌, arith, inl, inr, ◌⊎◌, length-set, Option, Some, None}
-use Rattle.std.specs.Prelude.{is_none}
+use Rattle.std.proofs.Common.{◌≡◌, ℕ, ◌<◌, ◌≤◌, true, false, cond, List, [], ◌∷◌, length, set, refl, ap, sym, subst, ◌∙◌, arith, inl, inr, ◌⊎◌, length-set, Option, Some, None, is_none, set-set}
 use Rattle.std.proofs.lemmas.Bool.{false≢true, cases_eq}
-use Rattle.std.proofs.lemmas.List.{set-set}
-use Rattle.ulfm_base.specs.declared.context.Context.{Context}
-use Rattle.ulfm_base.specs.declared.decision.Decision.{Decision}
-use Rattle.ulfm_script.specs.declared.step.Step.{Step}
-use Rattle.ulfm_script.specs.declared.step.Step.TheVariants.{Shrink}
+use Rattle.ulfm_world.proofs.Common.{Context, Decision, Step, Shrink, Call, Decide, Leave, IsWorld, is_stopped}
 use Rattle.ulfm_script.specs.Player.{Player, Left}
 use Rattle.ulfm_script.specs.Job.{Seen, IsJob, script_at}
-use Rattle.ulfm_world.specs.declared.event.Event.TheVariants.{Call, Decide, Leave}
 use Rattle.ulfm_world.specs.declared.event.Outcome.{Outcome}
 use Rattle.ulfm_world.specs.declared.event.Outcome.TheVariants.{Answered, NotYet}
 use Rattle.ulfm_world.specs.World.{World, player_in, player_at, with_players, with_player, with_decided, Happens, Reaches, IsRunning}
-use Rattle.ulfm_world.specs.Flow.{IsWorld}
 use Rattle.ulfm_world.specs.Replay.{AnswerRightly, Follows, Moves, weight_of}
 use Rattle.ulfm_script.specs.Script.{FollowsAt}
-use Rattle.ulfm_rank.specs.Facts.{is_stopped}
 use Rattle.ulfm_rank.specs.State.{IsState}
 use Rattle.ulfm_world.proofs.Changed.{player-same, player-other}
 use Rattle.ulfm_script.proofs.Advance.{Ready, Advances, advance-called, advance-left}

@@ -2,16 +2,7 @@
 use Rattle.std.proofs.Common.{◌≡◌, ℕ, ◌+◌, ◌<◌, ◌≤◌, true, List, [], ◌∷◌, ◌++◌, length, set, refl, ap, sym, subst, ◌∙◌, arith, length-append, length-set, inl, inr}
 use Rattle.std.proofs.lemmas.Bool.{false≢true, cases_eq}
 use Rattle.std.proofs.Math.Bool.{or-false}
-use Rattle.ulfm_base.specs.declared.rank.WorldRank.{WorldRank}
-use Rattle.ulfm_base.specs.declared.item.Item.{Item}
-use Rattle.ulfm_rank.specs.declared.entry.Entry.TheVariants.{Took}
-use Rattle.ulfm_rank.specs.Facts.{is_stopped}
-use Rattle.ulfm_rank.specs.State.{State, logged}
-use Rattle.ulfm_script.specs.Player.{Player, with_rank}
-use Rattle.ulfm_script.specs.Job.{Seen, script_at}
-use Rattle.ulfm_world.specs.declared.event.Event.TheVariants.{Push, Take}
-use Rattle.ulfm_world.specs.World.{World, player_in, player_at, rank_at, inbox_at, with_player, with_inbox, Pushes, Takes}
-use Rattle.ulfm_world.specs.Flow.{IsWorld}
+use Rattle.ulfm_world.proofs.Common.{WorldRank, Item, Took, is_stopped, State, logged, Player, with_rank, Seen, script_at, Push, Take, World, player_in, player_at, rank_at, inbox_at, with_player, with_inbox, Pushes, Takes, IsWorld}
 use Rattle.ulfm_world.specs.Replay.{sum_below, out_at, fresh_of, weight_of, inbox_weight, Follows, Moves}
 use Rattle.ulfm_script.specs.Script.{FollowsAt}
 use Rattle.ulfm_rank.proofs.Logs.{stopped-push}

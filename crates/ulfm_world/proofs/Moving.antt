@@ -1,22 +1,10 @@
 -- What each event leaves of a world's shrinks.
-use Rattle.std.proofs.Common.{◌≡◌, ℕ, ◌<◌, Bool, true, false, List, [], ◌∷◌, ◌++◌, length, set, refl, ap, sym, subst, ◌∙◌, arith, inl, inr, Option, Some, None}
-use Rattle.std.specs.Prelude.{All}
+use Rattle.std.proofs.Common.{◌≡◌, ℕ, ◌<◌, Bool, true, false, List, [], ◌∷◌, ◌++◌, length, set, refl, ap, sym, subst, ◌∙◌, arith, inl, inr, Option, Some, None, All}
 use Rattle.std.proofs.lemmas.Bool.{false≢true}
 use Rattle.std.proofs.lemmas.Option.{none-some, same_Some}
-use Rattle.ulfm_base.specs.declared.context.Context.{Context}
-use Rattle.ulfm_base.specs.declared.decision.Decision.{Decision}
-use Rattle.ulfm_board.specs.Known.{known_at}
-use Rattle.ulfm_rank.specs.declared.entry.Entry.{Entry}
-use Rattle.ulfm_rank.specs.declared.entry.Entry.TheVariants.{Took}
-use Rattle.ulfm_rank.specs.Shrink.{has_adopted}
-use Rattle.ulfm_rank.specs.State.{State, logged}
-use Rattle.ulfm_script.specs.declared.step.Step.{Step}
-use Rattle.ulfm_script.specs.declared.step.Step.TheVariants.{Shrink}
+use Rattle.ulfm_world.proofs.Common.{Context, Decision, known_at, Entry, Took, has_adopted, State, logged, Step, Shrink, Event, Call, Push, Take, Decide, Leave, IsWorld}
 use Rattle.ulfm_script.specs.Player.{Player, with_rank, answered, polled, IsFree, IsOpen, StaysOpen, awaits_decision, IsCalled}
-use Rattle.ulfm_world.specs.declared.event.Event.{Event}
-use Rattle.ulfm_world.specs.declared.event.Event.TheVariants.{Call, Push, Take, Decide, Leave}
 use Rattle.ulfm_world.specs.World.{World, player_at, rank_at, inbox_at, with_players, with_player, with_inbox, with_decided, Calls, Settles, GivesUp, Pushes, Takes, Happens, Applied, Run}
-use Rattle.ulfm_world.specs.Flow.{IsWorld}
 use Rattle.ulfm_rank.proofs.Entering.{AdoptsEntered}
 use Rattle.ulfm_world.proofs.Agreed.{IsAdopted, IsHeld, Settled}
 use Rattle.ulfm_world.proofs.Grown.{Grows, Moved, StillHeld, settled-moved}

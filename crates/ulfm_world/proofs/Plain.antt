@@ -1,16 +1,10 @@
 -- An entry that adopts nothing leaves what was adopted.
-use Rattle.std.proofs.Common.{◌≡◌, ℕ, false, List, refl, ap, sym, subst, ◌∙◌, inl, inr, Option}
-use Rattle.std.specs.Prelude.{All}
+use Rattle.std.proofs.Common.{◌≡◌, ℕ, false, List, refl, ap, sym, subst, ◌∙◌, inl, inr, Option, All}
 use Rattle.std.proofs.lemmas.Bool.{false≢true, or_from, false_from_ne_true}
 use Rattle.std.proofs.lemmas.List.Elements.{All-push}
-use Rattle.ulfm_base.specs.declared.context.Context.{Context}
-use Rattle.ulfm_base.specs.declared.decision.Decision.{Decision}
-use Rattle.ulfm_rank.specs.declared.entry.Entry.{Entry}
-use Rattle.ulfm_rank.specs.declared.entry.Entry.TheVariants.{Adopted}
+use Rattle.ulfm_world.proofs.Common.{Context, Decision, Entry, Adopted, State, Shrink}
 use Rattle.ulfm_rank.specs.Shrink.{adopts, has_adopted}
-use Rattle.ulfm_rank.specs.State.{State}
 use Rattle.ulfm_rank.proofs.Gather.{any-push}
-use Rattle.ulfm_script.specs.declared.step.Step.TheVariants.{Shrink}
 use Rattle.ulfm_script.specs.declared.answer.StepReport.{StepReport}
 use Rattle.ulfm_script.specs.Player.{IsOpen}
 use Rattle.ulfm_rank.proofs.Entering.{AdoptsEntered}

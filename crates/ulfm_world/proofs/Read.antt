@@ -2,19 +2,13 @@
 use Rattle.std.proofs.Common.{◌≡◌, ℕ, ◌<◌, ◌≤◌, false, ◌++◌, length, sym, ap, ◌∙◌, subst, arith, Some}
 use Rattle.std.proofs.lemmas.List.{get_or-map, length-map}
 use Rattle.std.proofs.lemmas.Option.{get_or_from_slice_get, slice_get-get_or, slice_get_within}
-use Rattle.ulfm_base.specs.Items.{items_from}
-use Rattle.ulfm_base.specs.Lists.{at}
+use Rattle.ulfm_world.proofs.Common.{items_from, at, outbox, Report, World, player_at, rank_at, inbox_at, no_player, report_of, reports_in, start_world, Reaches, IsWorld, IsAtRest}
 use Rattle.ulfm_rank.specs.Facts.{took, is_stopped}
-use Rattle.ulfm_rank.specs.State.{outbox}
-use Rattle.ulfm_script.specs.Report.{Report}
 use Rattle.ulfm_laws.specs.Flow.{Flow, Flows}
 use Rattle.ulfm_laws.specs.Reports.{report_at, no_report}
 use Rattle.ulfm_laws.specs.Rest.{IsAtRest as IsRest}
 use Rattle.ulfm_laws.proofs.Flowing.{AreFlowing}
 use Rattle.ulfm_laws.proofs.Outgoing.{flow_of}
-use Rattle.ulfm_world.specs.World.{World, player_at, rank_at, inbox_at, no_player, report_of, reports_in, start_world, Reaches}
-use Rattle.ulfm_world.specs.Flow.{IsWorld}
-use Rattle.ulfm_world.specs.Rest.{IsAtRest}
 use Rattle.ulfm_world.proofs.Runs.{keeps-reaches}
 use Rattle.ulfm_world.proofs.Starts.{world-start}
 

@@ -1,11 +1,8 @@
 -- Why a poll of a replay can be refused.
 use Rattle.std.proofs.Common.{◌≡◌, ℕ, ◌<◌, false, length, refl, ap, sym, ◌∙◌, arith, inl, inr, length-set, Some, None, slice_get}
 use Rattle.std.proofs.lemmas.Bool.{false≢true}
-use Rattle.ulfm_rank.specs.Facts.{is_stopped}
-use Rattle.ulfm_script.specs.declared.step.Step.{Step}
+use Rattle.ulfm_world.proofs.Common.{is_stopped, Step, Seen, script_at, Call, Leave}
 use Rattle.ulfm_script.specs.Player.{Player, IsCalled, awaits_decision}
-use Rattle.ulfm_script.specs.Job.{Seen, script_at}
-use Rattle.ulfm_world.specs.declared.event.Event.TheVariants.{Call, Leave}
 use Rattle.ulfm_world.specs.declared.event.Refused.{Refused}
 use Rattle.ulfm_world.specs.declared.event.Refused.TheVariants.{NotReady, Stopped, OutOfMemory, NoSuchRank}
 use Rattle.ulfm_world.specs.World.{World, player_at, with_players, with_player, Happens, IsRunning, IsRefused}

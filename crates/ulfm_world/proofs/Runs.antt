@@ -1,19 +1,13 @@
 -- Every schedule keeps what every world keeps.
 use Rattle.std.proofs.Common.{◌≡◌, ℕ, ◌+◌, ◌<◌, List, [], ◌∷◌, ◌++◌, length, take, get_or, refl, sym, subst, inl, inr, Result, Ok, Err, OnOk, OnErr, IfErr, Option, None}
 use Rattle.std.proofs.lemmas.List.{take_more}
-use Rattle.ulfm_base.specs.declared.context.Context.{Context}
-use Rattle.ulfm_base.specs.declared.decision.Decision.{Decision}
-use Rattle.ulfm_world.specs.declared.event.Event.{Event}
-use Rattle.ulfm_world.specs.declared.event.Event.TheVariants.{Call, Push, Take, Decide, Leave}
+use Rattle.ulfm_world.proofs.Common.{Context, Decision, Event, Call, Push, Take, Decide, Leave, IsWorld, Player, Step}
 use Rattle.ulfm_world.specs.declared.event.Refused.{Refused}
 use Rattle.ulfm_world.specs.World.{World, with_players, with_decided, Calls, Settles, GivesUp, Happens, IsRefused, Applied, Run, Reaches, IsReached}
-use Rattle.ulfm_world.specs.Flow.{IsWorld}
 use Rattle.ulfm_script.proofs.Polls.{quiet-called, quiet-left}
 use Rattle.ulfm_script.proofs.Decisions.{quiet-decided}
 use Rattle.ulfm_world.proofs.KeepsCalls.{keeps-quiet, keeps-takes}
 use Rattle.ulfm_world.proofs.KeepsPush.{keeps-pushes}
-use Rattle.ulfm_script.specs.Player.{Player}
-use Rattle.ulfm_script.specs.declared.step.Step.{Step}
 
 keeps-calls : (w : World) (r : ℕ) (asked : Step) (players : List Player) → IsWorld w → Calls w.players r asked players → IsWorld (with_players w players)
 keeps-calls w r asked players h c =

@@ -1,23 +1,17 @@
 -- The world that starts.
-use Rattle.std.proofs.Common.{◌≡◌, ℕ, zero, suc, ◌+◌, ◌<◌, ◌≤◌, List, [], ◌∷◌, ◌++◌, length, get_or, replicate, refl, ap, sym, subst, ◌∙◌, arith, inl, inr, length-append, Option, Some, None}
-use Rattle.std.specs.Prelude.{All}
+use Rattle.std.proofs.Common.{◌≡◌, ℕ, zero, suc, ◌+◌, ◌<◌, ◌≤◌, List, [], ◌∷◌, ◌++◌, length, get_or, replicate, refl, ap, sym, subst, ◌∙◌, arith, inl, inr, length-append, Option, Some, None, All}
 use Rattle.std.proofs.lemmas.Bool.{cases_lt, le-ltb, lt-leb}
 use Rattle.std.proofs.lemmas.List.{length-replicate, get_or_append_left, get_or_at, map_push}
 use Rattle.std.proofs.lemmas.List.Elements.{All-nil}
-use Rattle.ulfm_base.specs.declared.rank.WorldRank.{WorldRank}
-use Rattle.ulfm_base.specs.declared.decision.Decision.{Decision}
+use Rattle.ulfm_world.proofs.Common.{WorldRank, Decision, Item, the_player, players_of, parts, IsPosted, IsWorld, items_from}
 use Rattle.ulfm_board.specs.Known.{nothing_known}
-use Rattle.ulfm_base.specs.declared.item.Item.{Item}
 use Rattle.ulfm_rank.specs.Facts.{took, IsSigned}
 use Rattle.ulfm_rank.specs.State.{IsState, gone_out, no_mark, start_state}
 use Rattle.ulfm_base.specs.declared.error.CallError.{CallError}
 use Rattle.ulfm_base.specs.declared.error.CallError.TheVariants.{OutOfMemory}
 use Rattle.ulfm_rank.specs.Checks.{Passes, FailsOrStarves, start_checks}
 use Rattle.ulfm_script.specs.Player.{Player, View, start_player}
-use Rattle.ulfm_world.specs.Fields.{the_player, players_of, parts}
 use Rattle.ulfm_world.specs.World.{World, player_in, no_player, inbox_at, start_players, start_world}
-use Rattle.ulfm_world.specs.Flow.{IsPosted, IsWorld}
-use Rattle.ulfm_base.specs.Items.{items_from}
 use Rattle.ulfm_base.proofs.Places.{get_or-blank}
 
 pub length-start : (n k : ℕ) → length (start_players n k) ≡ k

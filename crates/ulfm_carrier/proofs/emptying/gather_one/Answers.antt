@@ -1,5 +1,4 @@
-use Rattle.std.proofs.Common.{◌≡◌, ◌<◌, ◌++◌, ℕ, List, length, set, refl, ap, sym, ◌∙◌, arith, subst}
-use Rattle.std.proofs.lemmas.List.{length-set}
+use Rattle.std.proofs.Common.{◌≡◌, ◌<◌, ◌++◌, ℕ, List, length, set, refl, ap, sym, ◌∙◌, arith, subst, length-set}
 use Rattle.std.proofs.lemmas.Option.{slice_get_within}
 use Rattle.crossbeam_queue.specs.Passes.{view}
 use Rattle.ulfm_base.specs.declared.item.Item.{Item}

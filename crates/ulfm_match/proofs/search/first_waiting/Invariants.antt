@@ -1,5 +1,4 @@
-use Rattle.std.proofs.Common.{ℕ, take}
-use Rattle.std.specs.Prelude.{Contains}
+use Rattle.std.proofs.Common.{ℕ, take, Contains}
 use Rattle.ulfm_base.specs.declared.pattern.Pattern.{Pattern}
 use Rattle.ulfm_base.specs.Pattern.{Admits}
 use Rattle.ulfm_match.proofs.search.first_waiting.Given as goal

@@ -1,11 +1,6 @@
-use Rattle.std.proofs.Common.{◌≡◌, ◌<◌, eqb, refl, ap, arith, ◌∙◌}
-use Rattle.std.specs.Prelude.{◌&&◌, not}
+use Rattle.std.proofs.Common.{◌≡◌, ◌<◌, eqb, refl, ap, arith, ◌∙◌, ◌&&◌, not}
 use Rattle.ulfm_base.specs.declared.item.Item.TheVariants.{Enter}
-use Rattle.ulfm_base.specs.Group.{is_member}
-use Rattle.ulfm_base.specs.RankSet.{has}
-use Rattle.ulfm_rank.specs.Communicators.{members_of}
-use Rattle.ulfm_rank.specs.Facts.{is_gone}
-use Rattle.ulfm_rank.specs.Outboxes.{for_each}
+use Rattle.ulfm_rank.proofs.Common.{is_member, has, members_of, is_gone, for_each}
 use Rattle.ulfm_rank.specs.Owed.{entry_told}
 use Rattle.ulfm_rank.proofs.Held.{grows_alike}
 use Rattle.ulfm_rank.proofs.forwarding.announce.Goals as goal

@@ -1,10 +1,6 @@
-use Rattle.std.proofs.Common.{◌≡◌, eqb, refl, ap, arith, ◌∙◌}
-use Rattle.std.specs.Prelude.{◌&&◌, not}
+use Rattle.std.proofs.Common.{◌≡◌, eqb, refl, ap, arith, ◌∙◌, ◌&&◌, not}
 use Rattle.ulfm_base.specs.declared.item.Item.TheVariants.{Revoke}
-use Rattle.ulfm_base.specs.RankSet.{has}
-use Rattle.ulfm_rank.specs.Facts.{is_gone}
-use Rattle.ulfm_rank.specs.Outboxes.{for_each}
-use Rattle.ulfm_rank.specs.Owed.{passed_on}
+use Rattle.ulfm_rank.proofs.Common.{has, is_gone, for_each, passed_on}
 use Rattle.ulfm_rank.proofs.Held.{grows_alike}
 use Rattle.ulfm_rank.proofs.forwarding.forward.Goals as goal
 

@@ -1,7 +1,5 @@
 use Rattle.std.proofs.Common.{[], ◌∷◌, ◌++◌, refl, sym, subst}
-use Rattle.ulfm_base.specs.declared.item.Item.{Item}
-use Rattle.ulfm_rank.specs.declared.entry.Entry.TheVariants.{Took}
-use Rattle.ulfm_rank.specs.Fields.{HasFaults}
+use Rattle.ulfm_rank.proofs.Common.{Item, Took, HasFaults}
 use Rattle.ulfm_rank.proofs.Known.{faults_learned, faults_revoked, faults_taken}
 use Rattle.ulfm_rank.proofs.knowing.learn.Goals as goal
 

@@ -1,5 +1,4 @@
-use Rattle.std.proofs.Common.{◌≡◌, ◌<◌, ◌≤◌, ℕ, false}
-use Rattle.std.specs.Prelude.{◌&&◌}
+use Rattle.std.proofs.Common.{◌≡◌, ◌<◌, ◌≤◌, ℕ, false, ◌&&◌}
 use Rattle.ulfm_base.specs.RankSet.{has}
 use Rattle.ulfm_rank.proofs.members.members_of_both.Given as goal
 

@@ -1,6 +1,5 @@
 use Rattle.std.proofs.Common.{◌≡◌, ◌∙◌, sym, ap, arith, cond, true, length-set, Bool, None}
-use Rattle.ulfm_base.specs.Decision.{entry_at}
-use Rattle.ulfm_base.specs.Group.{is_member}
+use Rattle.ulfm_rank.proofs.Common.{entry_at, is_member}
 use Rattle.ulfm_rank.proofs.Proposing.{filled_more}
 use Rattle.ulfm_rank.proofs.proposal.entries_of.Goals as goal
 

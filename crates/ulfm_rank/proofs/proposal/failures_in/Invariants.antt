@@ -1,5 +1,4 @@
-use Rattle.std.proofs.Common.{◌≡◌, ℕ, take}
-use Rattle.std.specs.Prelude.{◌||◌}
+use Rattle.std.proofs.Common.{◌≡◌, ℕ, take, ◌||◌}
 use Rattle.std.specs.List.{list_any}
 use Rattle.ulfm_base.specs.RankSet.{has}
 use Rattle.ulfm_base.specs.Decision.{in_entry}

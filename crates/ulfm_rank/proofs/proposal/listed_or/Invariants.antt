@@ -1,5 +1,4 @@
-use Rattle.std.proofs.Common.{◌≡◌, ◌<◌, ◌≤◌, ℕ}
-use Rattle.std.specs.Prelude.{◌||◌}
+use Rattle.std.proofs.Common.{◌≡◌, ◌<◌, ◌≤◌, ℕ, ◌||◌}
 use Rattle.ulfm_base.specs.Decision.{is_listed}
 use Rattle.ulfm_base.specs.RankSet.{has}
 use Rattle.ulfm_rank.proofs.proposal.listed_or.Given as goal

@@ -1,8 +1,7 @@
 use Rattle.std.proofs.Common.{rules, ◌≡◌, List, ℕ, sym, subst, ◌∙◌, refl, length}
 use Rattle.std.proofs.lemmas.Bool.{false≢true}
 use Rattle.ulfm_base.specs.Group.{excluding}
-use Rattle.ulfm_base.specs.RankSet.{has}
-use Rattle.ulfm_rank.specs.Checks.{group_at}
+use Rattle.ulfm_rank.proofs.Common.{has, group_at}
 use Rattle.ulfm_rank.proofs.Proposing.{IsTally, has_small, no_proposal, is_proposal}
 use Rattle.ulfm_rank.proofs.proposal.proposed.Goals as goal
 

@@ -1,8 +1,7 @@
 use Rattle.std.proofs.Common.{◌≡◌, ℕ, sym, subst, ◌∙◌, Bool, length}
-use Rattle.ulfm_match.specs.History.{number}
+use Rattle.ulfm_rank.proofs.Common.{number, Outcome}
 use Rattle.ulfm_match.specs.State.{State}
 use Rattle.ulfm_match.specs.Calls.{TracksEnd}
-use Rattle.ulfm_rank.specs.declared.outcome.Outcome.{Outcome}
 use Rattle.ulfm_rank.specs.Requests.{outcome_of}
 use Rattle.ulfm_rank.proofs.Steps.{AdmitsTo, admitted, admitted_over}
 use Rattle.ulfm_rank.proofs.requests.admit.Goals as goal

@@ -1,8 +1,6 @@
-use Rattle.std.proofs.Common.{subst}
-use Rattle.std.specs.Prelude.{nat_eq}
+use Rattle.std.proofs.Common.{subst, nat_eq}
 use Rattle.indexmap.specs.IndexMap.{get}
-use Rattle.ulfm_base.specs.declared.envelope.Letter.{Letter}
-use Rattle.ulfm_rank.specs.declared.outcome.Outcome.TheVariants.{Paired}
+use Rattle.ulfm_rank.proofs.Common.{Letter, Paired}
 use Rattle.ulfm_rank.specs.Requests.{changed, Changes}
 use Rattle.ulfm_rank.proofs.Steps.{come_kept, come_paired}
 use Rattle.ulfm_rank.proofs.requests.deliver.Goals as goal

@@ -1,9 +1,6 @@
-use Rattle.std.proofs.Common.{◌≡◌, Bool, cond, List, [], ◌∷◌, ◌++◌, ap, sym, subst, ◌∙◌}
-use Rattle.std.specs.Prelude.{nat_eq}
+use Rattle.std.proofs.Common.{◌≡◌, Bool, cond, List, [], ◌∷◌, ◌++◌, ap, sym, subst, ◌∙◌, nat_eq}
 use Rattle.indexmap.specs.IndexMap.{get}
-use Rattle.ulfm_base.specs.declared.item.Item.{Item}
-use Rattle.ulfm_match.specs.History.{Event, Come, Clear}
-use Rattle.ulfm_match.specs.Pairing.{Pairing}
+use Rattle.ulfm_rank.proofs.Common.{Item, Event, Come, Clear, Pairing}
 use Rattle.ulfm_match.specs.State.{Tracks}
 use Rattle.ulfm_rank.specs.History.{ends_of}
 use Rattle.ulfm_rank.specs.Requests.{events_of_item}

@@ -1,5 +1,4 @@
-use Rattle.std.proofs.Common.{ap, sym, ◌∙◌, subst, map, List}
-use Rattle.std.specs.Prelude.{slice_get}
+use Rattle.std.proofs.Common.{ap, sym, ◌∙◌, subst, map, List, slice_get}
 use Rattle.ulfm_carrier.specs.Family.{Keeps, Settled}
 use Rattle.ulfm_run.specs.Compared.{NameOneBoard}
 use Rattle.ulfm_laws.specs.Shrinks.{AreTrue}

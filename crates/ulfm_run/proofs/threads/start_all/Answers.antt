@@ -1,5 +1,4 @@
-use Rattle.std.proofs.Common.{arith, ap, ◌∙◌, sym, ◌++◌, length, subst}
-use Rattle.std.specs.Prelude.{slice_get, All}
+use Rattle.std.proofs.Common.{arith, ap, ◌∙◌, sym, ◌++◌, length, subst, slice_get, All}
 use Rattle.std.proofs.lemmas.List.Elements.{All-nil, All-push}
 use Rattle.std.specs.Vec.Iter.{into_iter_items}
 use Rattle.ulfm_run.specs.Fields.{begun_end, begun_decider, begun_ends, begun_deciders, IsOfJob}

@@ -1,9 +1,6 @@
-use Rattle.std.proofs.Common.{◌≡◌, length, Bool, Some, refl, ap, sym, subst, ◌∙◌, arith}
-use Rattle.std.specs.Prelude.{slice_get}
-use Rattle.ulfm_script.specs.Job.{script_at}
-use Rattle.ulfm_world.specs.World.{World, player_at, IsRunning}
+use Rattle.std.proofs.Common.{◌≡◌, length, Bool, Some, refl, ap, sym, subst, ◌∙◌, arith, slice_get}
+use Rattle.ulfm_world.proofs.Common.{script_at, World, player_at, IsRunning, Shrink}
 use Rattle.ulfm_world.specs.Replay.{Moves}
-use Rattle.ulfm_script.specs.declared.step.Step.TheVariants.{Shrink}
 use Rattle.ulfm_script.specs.Honest.{IsUndecided}
 use Rattle.ulfm_script.proofs.Progress.{next_open}
 use Rattle.ulfm_world.proofs.Moves.{moves-on}

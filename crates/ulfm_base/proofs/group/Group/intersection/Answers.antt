@@ -1,5 +1,4 @@
-use Rattle.std.proofs.Common.{◌≤◌, length, lit<}
-use Rattle.std.proofs.lemmas.List.{take_all}
+use Rattle.std.proofs.Common.{◌≤◌, length, lit<, take_all}
 use Rattle.ulfm_base.specs.Group.{is_member, IsGroup}
 use Rattle.ulfm_base.proofs.Members.{member_below}
 use Rattle.ulfm_base.proofs.Filtered.{IsGroup-filter, room_for_filtered}

@@ -1,6 +1,5 @@
-use Rattle.std.proofs.Common.{◌<◌, ◌↔◌, [], List, length, map, get_or, ap, sym, ◌∙◌, refl, arith, subst}
+use Rattle.std.proofs.Common.{◌<◌, ◌↔◌, [], List, length, map, get_or, ap, sym, ◌∙◌, refl, arith, subst, IsTrue}
 use Rattle.std.proofs.Math.Seq.{map-set_same}
-use Rattle.std.specs.Prelude.{IsTrue}
 use Rattle.ulfm_base.specs.declared.rank.WorldRank.{WorldRank}
 use Rattle.ulfm_carrier.specs.declared.carried.Carried.{Carried}
 use Rattle.ulfm_carrier.specs.Lanes.{outlet_name, taken_by, seen_in}

@@ -1,5 +1,4 @@
-use Rattle.std.proofs.Common.{map, ◌<◌, ◌++◌, ◌∷◌, [], get_or, ap, ◌∙◌, refl, arith, length}
-use Rattle.std.proofs.lemmas.List.{length-set}
+use Rattle.std.proofs.Common.{map, ◌<◌, ◌++◌, ◌∷◌, [], get_or, ap, ◌∙◌, refl, arith, length, length-set}
 use Rattle.rtrb.specs.Ring.{sent, known_free}
 use Rattle.ulfm_carrier.specs.Lanes.{inlet_name, sent_by}
 use Rattle.ulfm_carrier.proofs.Places.{at_read, view_here, view_or, view_other}

@@ -1,10 +1,6 @@
 use Rattle.std.proofs.Common.{◌≡◌, ◌++◌, ◌∷◌, [], ℕ, List, refl, ap, sym, ◌∙◌, arith, Some, nat_eq}
 use Rattle.indexmap.specs.IndexMap.{get}
-use Rattle.ulfm_base.specs.Context.{shrink_of}
-use Rattle.ulfm_rank.specs.declared.entry.Entry.{Entry}
-use Rattle.ulfm_rank.specs.declared.entry.Entry.TheVariants.{Adopted}
-use Rattle.ulfm_rank.specs.Communicators.{find_group, group_of}
-use Rattle.ulfm_rank.specs.Inside.{state_of}
+use Rattle.ulfm_rank.proofs.Common.{shrink_of, Entry, Adopted, find_group, group_of, state_of}
 use Rattle.ulfm_rank.specs.State.{State, View}
 use Rattle.ulfm_rank.proofs.Entries.{shrinks-logged}
 use Rattle.ulfm_rank.proofs.Following.{follows_adopted}

@@ -1,10 +1,6 @@
-use Rattle.std.proofs.Common.{rules, ◌≡◌, ◌<◌, ℕ, true, false, List, ap, sym, ◌∙◌, arith, Some}
-use Rattle.std.specs.Prelude.{slice_get}
-use Rattle.ulfm_rank.specs.Facts.{is_revoked, is_gone}
+use Rattle.std.proofs.Common.{rules, ◌≡◌, ◌<◌, ℕ, true, false, List, ap, sym, ◌∙◌, arith, Some, slice_get}
+use Rattle.ulfm_rank.proofs.Common.{is_revoked, is_gone, state_of, is_member, find_group, group_of}
 use Rattle.ulfm_rank.specs.State.{State, View}
-use Rattle.ulfm_rank.specs.Inside.{state_of}
-use Rattle.ulfm_base.specs.Group.{is_member}
-use Rattle.ulfm_rank.specs.Communicators.{find_group, group_of}
 use Rattle.ulfm_rank.proofs.Known.{known_gone}
 use Rattle.ulfm_rank.proofs.Made.{found_group, member_of_world}
 use Rattle.ulfm_rank.proofs.Sendable.{sendable}

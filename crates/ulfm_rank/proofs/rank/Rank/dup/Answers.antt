@@ -1,14 +1,10 @@
 use Rattle.std.proofs.Common.{rules, ◌≡◌, ◌++◌, ◌∷◌, [], ℕ, List, refl, ap, ◌∙◌, arith, Some, nat_eq}
 use Rattle.indexmap.specs.IndexMap.{get}
-use Rattle.ulfm_rank.specs.declared.entry.Entry.{Entry}
-use Rattle.ulfm_rank.specs.declared.entry.Entry.TheVariants.{Duplicated}
+use Rattle.ulfm_rank.proofs.Common.{Entry, Duplicated, state_of, dup_of, find_group, group_of}
 use Rattle.ulfm_rank.specs.State.{State, View}
-use Rattle.ulfm_rank.specs.Inside.{state_of}
 use Rattle.ulfm_rank.proofs.Entries.{shrinks-logged}
 use Rattle.ulfm_rank.proofs.Following.{follows_duplicated}
 use Rattle.ulfm_rank.proofs.Seen.{stop_places_few}
-use Rattle.ulfm_base.specs.Context.{dup_of}
-use Rattle.ulfm_rank.specs.Communicators.{find_group, group_of}
 use Rattle.ulfm_rank.proofs.Made.{found_group}
 use Rattle.ulfm_rank.proofs.rank.Rank.dup.Goals as goal
 

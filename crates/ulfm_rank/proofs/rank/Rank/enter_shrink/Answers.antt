@@ -1,13 +1,7 @@
-use Rattle.std.proofs.Common.{rules, ◌≡◌, ◌++◌, ◌∷◌, [], ℕ, List, length, ap, sym, subst, ◌∙◌, arith, nat_eq}
-use Rattle.std.specs.Prelude.{not}
+use Rattle.std.proofs.Common.{rules, ◌≡◌, ◌++◌, ◌∷◌, [], ℕ, List, length, ap, sym, subst, ◌∙◌, arith, nat_eq, not}
 use Rattle.indexmap.specs.IndexMap.{get}
-use Rattle.ulfm_base.specs.Group.{is_member}
-use Rattle.ulfm_rank.specs.declared.entry.Entry.{Entry}
-use Rattle.ulfm_rank.specs.declared.entry.Entry.TheVariants.{Entered}
-use Rattle.ulfm_rank.specs.Inside.{state_of}
-use Rattle.ulfm_rank.specs.Outboxes.{Knows, AllGrow}
+use Rattle.ulfm_rank.proofs.Common.{is_member, Entry, Entered, state_of, Knows, AllGrow, members_of}
 use Rattle.ulfm_rank.specs.Owed.{entry_told}
-use Rattle.ulfm_rank.specs.Communicators.{members_of}
 use Rattle.ulfm_rank.specs.State.{State, View}
 use Rattle.ulfm_rank.proofs.Entries.{shrinks-entered, shrinkable}
 use Rattle.ulfm_rank.proofs.Following.{follows_entered}

@@ -1,7 +1,5 @@
 use Rattle.std.proofs.Common.{◌≡◌, ap, sym, ◌∙◌, arith}
-use Rattle.ulfm_base.specs.Decision.{entry_at}
-use Rattle.ulfm_rank.specs.Shrink.{has_entered}
-use Rattle.ulfm_rank.specs.State.{View}
+use Rattle.ulfm_rank.proofs.Common.{entry_at, has_entered, View}
 use Rattle.ulfm_rank.proofs.Entries.{entered_here}
 use Rattle.ulfm_rank.proofs.rank.Rank.has_entered.Goals as goal
 use Rattle.ulfm_rank.proofs.rank.Rank.has_entered.Goals.{After-is_some}

@@ -1,23 +1,12 @@
-use Rattle.std.proofs.Common.{◌≡◌, ℕ, false, List, [], ◌∷◌, ◌++◌, length, ap, sym, subst, arith, refl, ◌∙◌, Some}
-use Rattle.std.specs.Prelude.{nat_eq}
+use Rattle.std.proofs.Common.{◌≡◌, ℕ, false, List, [], ◌∷◌, ◌++◌, length, ap, sym, subst, arith, refl, ◌∙◌, Some, nat_eq}
 use Rattle.std.specs.Map.{lookup}
 use Rattle.std.specs.Option.{is_some}
 use Rattle.indexmap.specs.IndexMap.{get, index_map_len}
-use Rattle.ulfm_base.specs.declared.context.Context.{Context}
-use Rattle.ulfm_base.specs.declared.pattern.Pattern.{Pattern}
-use Rattle.ulfm_match.specs.History.{number}
-use Rattle.ulfm_rank.specs.declared.entry.Entry.{Entry}
-use Rattle.ulfm_rank.specs.declared.entry.Entry.TheVariants.{Posted}
-use Rattle.ulfm_rank.specs.declared.outcome.Request.{Request}
-use Rattle.ulfm_rank.specs.Answer.{IsRequest}
+use Rattle.ulfm_rank.proofs.Common.{Context, Pattern, number, Entry, Posted, Request, IsRequest, is_revoked, history_of, Follows, state_of, IsOfGroup}
 use Rattle.ulfm_rank.specs.Calls.{IsReceive}
 use Rattle.ulfm_rank.specs.Checks.{receive_checks, Passes}
-use Rattle.ulfm_rank.specs.Facts.{is_revoked}
-use Rattle.ulfm_rank.specs.History.{history_of}
-use Rattle.ulfm_rank.specs.Inside.{Follows, state_of}
 use Rattle.ulfm_rank.specs.Requests.{Adds}
 use Rattle.ulfm_rank.specs.State.{View, State}
-use Rattle.ulfm_rank.specs.Table.{IsOfGroup}
 use Rattle.ulfm_rank.proofs.Entries.{shrinks-same, shrinks-logged}
 use Rattle.ulfm_rank.proofs.InStep.{count_small, posted_request, adds_itself}
 use Rattle.ulfm_rank.proofs.Refusals.{all_pass}

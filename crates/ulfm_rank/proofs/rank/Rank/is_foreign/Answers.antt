@@ -1,6 +1,5 @@
 use Rattle.std.proofs.Common.{ap, ◌∙◌}
-use Rattle.ulfm_rank.specs.Shrink.{has_entered, is_foreign}
-use Rattle.ulfm_rank.specs.State.{View}
+use Rattle.ulfm_rank.proofs.Common.{has_entered, is_foreign, View}
 use Rattle.ulfm_rank.proofs.Entries.{has_entries}
 use Rattle.ulfm_rank.proofs.rank.Rank.is_foreign.Goals as goal
 

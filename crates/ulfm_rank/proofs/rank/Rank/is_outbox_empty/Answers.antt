@@ -1,8 +1,6 @@
 use Rattle.std.proofs.Common.{◌≡◌, ◌<◌, false, List, length, ap, sym, ◌∙◌, arith}
-use Rattle.ulfm_rank.specs.Facts.{is_stopped}
-use Rattle.ulfm_rank.specs.Outboxes.{Box}
+use Rattle.ulfm_rank.proofs.Common.{is_stopped, Box, state_of}
 use Rattle.ulfm_rank.specs.State.{State, View}
-use Rattle.ulfm_rank.specs.Inside.{state_of}
 use Rattle.ulfm_rank.proofs.Seen.{all_out, none_left}
 use Rattle.ulfm_rank.proofs.rank.Rank.is_outbox_empty.Goals as goal
 

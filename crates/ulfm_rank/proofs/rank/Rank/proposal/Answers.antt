@@ -1,9 +1,6 @@
 use Rattle.std.proofs.Common.{◌≡◌, true, ap, sym, subst, ◌∙◌}
 use Rattle.ulfm_rank.specs.Calls.{Proposes}
-use Rattle.ulfm_rank.specs.Checks.{group_at}
-use Rattle.ulfm_rank.specs.Inside.{state_of}
-use Rattle.ulfm_rank.specs.Outboxes.{Knows}
-use Rattle.ulfm_rank.specs.Shrink.{has_entered}
+use Rattle.ulfm_rank.proofs.Common.{group_at, state_of, Knows, has_entered}
 use Rattle.ulfm_rank.specs.State.{State, View}
 use Rattle.ulfm_rank.proofs.Entries.{has_entries}
 use Rattle.ulfm_rank.proofs.Grouped.{members_found}

@@ -1,8 +1,7 @@
 use Rattle.std.proofs.Common.{◌≡◌, ◌<◌, ◌≤◌, ◌-◌, true, false, List, length, set, refl, ap, sym, ◌∙◌, arith}
-use Rattle.ulfm_rank.specs.Facts.{is_stopped}
+use Rattle.ulfm_rank.proofs.Common.{is_stopped, state_of}
 use Rattle.ulfm_rank.specs.Outboxes.{Box, box_at, with_taken, HasOutboxes}
 use Rattle.ulfm_rank.specs.State.{State, View}
-use Rattle.ulfm_rank.specs.Inside.{state_of}
 use Rattle.ulfm_rank.proofs.Seen.{returns_item, returns_notice, outboxes-marked}
 use Rattle.ulfm_rank.proofs.rank.Rank.put_back.Goals as goal
 

@@ -1,17 +1,11 @@
 use Rattle.std.proofs.Common.{rules, ◌≡◌, ◌++◌, ◌∷◌, [], ℕ, false, List, length, refl, ap, sym, ◌∙◌, arith, nat_eq}
 use Rattle.indexmap.specs.IndexMap.{get}
-use Rattle.ulfm_rank.specs.declared.entry.Entry.{Entry}
-use Rattle.ulfm_rank.specs.declared.entry.Entry.TheVariants.{Revoked}
-use Rattle.ulfm_rank.specs.Facts.{is_revoked, is_gone}
-use Rattle.ulfm_rank.specs.Owed.{passed_on}
+use Rattle.ulfm_rank.proofs.Common.{Entry, Revoked, is_revoked, is_gone, passed_on, state_of, is_member, has}
 use Rattle.ulfm_rank.specs.State.{State, View}
-use Rattle.ulfm_rank.specs.Inside.{state_of}
 use Rattle.ulfm_rank.proofs.Entries.{shrinks-logged}
 use Rattle.ulfm_rank.proofs.Held.{marks-grown}
 use Rattle.ulfm_rank.proofs.Following.{follows_revoked}
 use Rattle.ulfm_rank.proofs.Seen.{stop_places_few, state_logged}
-use Rattle.ulfm_base.specs.Group.{is_member}
-use Rattle.ulfm_base.specs.RankSet.{has}
 use Rattle.ulfm_rank.proofs.Known.{known_gone}
 use Rattle.ulfm_rank.proofs.rank.Rank.revoke.Goals as goal
 

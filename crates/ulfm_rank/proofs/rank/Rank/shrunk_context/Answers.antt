@@ -1,6 +1,5 @@
 use Rattle.std.proofs.Common.{◌≡◌, ℕ, List, true, false, Some, ap, sym, ◌∙◌}
-use Rattle.ulfm_rank.specs.Checks.{group_at}
-use Rattle.ulfm_rank.specs.Shrink.{is_foreign}
+use Rattle.ulfm_rank.proofs.Common.{group_at, is_foreign}
 use Rattle.ulfm_rank.specs.State.{State}
 use Rattle.ulfm_rank.proofs.Adoptable.{adoptable}
 use Rattle.ulfm_rank.proofs.Foreign.{about_own}

@@ -1,10 +1,7 @@
-use Rattle.std.proofs.Common.{◌≡◌, ℕ, List, [], ◌∷◌, ap, arith, sym, subst, ◌∙◌, None}
-use Rattle.std.specs.Prelude.{nat_eq}
+use Rattle.std.proofs.Common.{◌≡◌, ℕ, List, [], ◌∷◌, ap, arith, sym, subst, ◌∙◌, None, nat_eq}
 use Rattle.std.specs.Map.{lookup}
 use Rattle.indexmap.specs.IndexMap.{get}
-use Rattle.ulfm_rank.specs.declared.entry.Entry.{Entry}
-use Rattle.ulfm_rank.specs.declared.outcome.Request.{Request}
-use Rattle.ulfm_rank.specs.Inside.{Follows}
+use Rattle.ulfm_rank.proofs.Common.{Entry, Request, Follows}
 use Rattle.ulfm_rank.proofs.Entries.{shrinks-same, shrinks-start}
 use Rattle.ulfm_rank.proofs.Whole.{follows_start, state_start}
 use Rattle.ulfm_rank.proofs.rank.Rank.start.Goals as goal

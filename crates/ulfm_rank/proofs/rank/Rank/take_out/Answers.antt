@@ -1,8 +1,6 @@
 use Rattle.std.proofs.Common.{◌≡◌, ◌<◌, true, false, List, length, ap, sym, ◌∙◌, arith}
-use Rattle.ulfm_rank.specs.Facts.{is_stopped}
-use Rattle.ulfm_rank.specs.Outboxes.{Box}
+use Rattle.ulfm_rank.proofs.Common.{is_stopped, Box, state_of}
 use Rattle.ulfm_rank.specs.State.{State, View}
-use Rattle.ulfm_rank.specs.Inside.{state_of}
 use Rattle.ulfm_rank.proofs.Seen.{leaves_next, leaves_notice, outboxes-taken, all_out, IfSome_both, IfNone_weaker}
 use Rattle.ulfm_rank.proofs.rank.Rank.take_out.Goals as goal
 

@@ -1,13 +1,8 @@
-use Rattle.std.proofs.Common.{◌≡◌, ℕ, List, refl, ap, sym, subst, arith, ◌∙◌, Some}
-use Rattle.std.specs.Prelude.{nat_eq}
+use Rattle.std.proofs.Common.{◌≡◌, ℕ, List, refl, ap, sym, subst, arith, ◌∙◌, Some, nat_eq}
 use Rattle.std.specs.Option.{is_some}
 use Rattle.indexmap.specs.IndexMap.{get, index_map_len}
-use Rattle.ulfm_base.specs.declared.pattern.Pattern.{Pattern}
-use Rattle.ulfm_rank.specs.declared.entry.Entry.{Entry}
+use Rattle.ulfm_rank.proofs.Common.{Pattern, Entry, Follows, View, Released}
 use Rattle.ulfm_rank.specs.Answer.{IsTestAnswer, IsRequest}
-use Rattle.ulfm_rank.specs.Inside.{Follows}
-use Rattle.ulfm_rank.specs.State.{View}
-use Rattle.ulfm_rank.specs.declared.entry.Entry.TheVariants.{Released}
 use Rattle.ulfm_rank.proofs.Entries.{shrinks-logged}
 use Rattle.ulfm_rank.proofs.Answered.{is_request}
 use Rattle.ulfm_rank.proofs.Requested.{has_group, sender_found, answered}

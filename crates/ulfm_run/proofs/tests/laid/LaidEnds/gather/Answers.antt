@@ -1,5 +1,4 @@
-use Rattle.std.proofs.Common.{arith, ap, ◌∙◌, sym, ◌≡◌, length, map, subst}
-use Rattle.std.specs.Prelude.{slice_get}
+use Rattle.std.proofs.Common.{arith, ap, ◌∙◌, sym, ◌≡◌, length, map, subst, slice_get}
 use Rattle.std.proofs.lemmas.List.{length-map}
 use Rattle.ulfm_run.specs.declared.tests.laid.Laid.{Laid}
 use Rattle.ulfm_base.proofs.Places.{at_view}
