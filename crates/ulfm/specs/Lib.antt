@@ -1,2 +1,3 @@
-pub mod Replies
 pub mod Words
+pub mod Replies
+pub mod inside

@@ -3,10 +3,12 @@ ghost use Rattle.std.specs.Prelude.{◌≢◌, ◌≡◌, ◌≤◌, [], false, 
 ghost use Rattle.std.specs.Io.KnownBytes.{Keeps, Appends};
 ghost use Rattle.clap.specs.Words.{kind_of};
 ghost use Rattle.ulfm.specs.declared.command.Wanted.{Wanted};
-ghost use Rattle.ulfm.specs.Replies.{IsReplyTo, GetsReply, GetsBeginning, GetsFront, GetsFrontOf, not_text, starved_text};
+ghost use Rattle.ulfm.specs.Replies.{IsReplyTo, GetsReply, GetsBeginning, GetsFront, out_of_memory_text};
+ghost use Rattle.ulfm.specs.inside.Writing.{GetsFrontOf, not_text};
 ghost use Rattle.ulfm.specs.Words.{AsksFor, faults, status_of, IsWordsStatus};
 
 use crate::command::{Wanted, wanted_of};
+use crate::notes::write_notes;
 use crate::reply::{DONE, INPUT_FAILED, OUTPUT_FAILED, RUN_FAILED, Reply, USAGE, reply_to};
 use crate::stream::{InputFault, read_front, write_whole};
 use clap::Error;
@@ -21,13 +23,21 @@ use std::thread::Threads;
 const STARVED: &[u8] = b"run failed: F3\n";
 
 /// Follows the words: looks at them first, then reads the input whole, then its job, then runs it, and writes the whole
-/// reply last. Answers the status (docs/JOBS.md).
-pub fn run_on<T, S, R, W>(rt: &T, alloc: Global, words: &[S], input: &mut R, output: &mut W) -> u8
+/// reply. Then standard error gets what a person wants to know beside it. Answers the status (docs/JOBS.md).
+pub fn run_on<T, S, R, W, E>(
+    rt: &T,
+    alloc: Global,
+    words: &[S],
+    input: &mut R,
+    output: &mut W,
+    errors: &mut E,
+) -> u8
 where
     T: Threads + Wait + Sync,
     S: AsStr,
     R: Read,
     W: Write,
+    E: Write,
     ensures replies { (wanted : Wanted) → AsksFor wanted (map S.text words.now) → result ≤ 3 → IfSome (R.remaining input.old) (λ bytes.
         GetsReply (IsReplyTo wanted (take 1048577 bytes)) (W.contents output.old) (W.contents output.new) result) }
     ensures cut_off { (wanted : Wanted) → AsksFor wanted (map S.text words.now) → result ≡ 4 → IfSome (R.remaining input.old) (λ bytes.
@@ -39,7 +49,7 @@ where
     ensures known { result ≤ 5 }
 {
     match wanted_of(alloc, words) {
-        Ok(wanted) => follow(rt, alloc, wanted, input, output),
+        Ok(wanted) => follow(rt, alloc, wanted, input, output, errors),
         Err(error) => {
             if error.kind() == ErrorKind::OutOfMemory {
                 return write_reply(output, RUN_FAILED, STARVED);
@@ -54,7 +64,7 @@ where
 
 /// The reply where the words can't be had: they find no memory, or aren't UTF-8. Answers the status.
 pub fn without_words<W: Write>(is_starved: bool, output: &mut W) -> u8
-    ensures starved { IsTrue is_starved → result ≤ 3 → (result ≡ 3) × Appends (W.contents output.old) (W.contents output.new) starved_text }
+    ensures starved { IsTrue is_starved → result ≤ 3 → (result ≡ 3) × Appends (W.contents output.old) (W.contents output.new) out_of_memory_text }
     ensures not_text { is_starved ≡ false → result ≤ 3 → (result ≡ 2) × Appends (W.contents output.old) (W.contents output.new) not_text }
     ensures known { result ≤ 4 }
 {
@@ -64,12 +74,20 @@ pub fn without_words<W: Write>(is_starved: bool, output: &mut W) -> u8
     write_reply(output, USAGE, b"a word of the command line isn't UTF-8\n")
 }
 
-/// Reads the input, and writes the reply to it.
-fn follow<T, R, W>(rt: &T, alloc: Global, wanted: Wanted, input: &mut R, output: &mut W) -> u8
+/// Reads the input, and writes the reply to it, and then the notes on it.
+fn follow<T, R, W, E>(
+    rt: &T,
+    alloc: Global,
+    wanted: Wanted,
+    input: &mut R,
+    output: &mut W,
+    errors: &mut E,
+) -> u8
 where
     T: Threads + Wait + Sync,
     R: Read,
     W: Write,
+    E: Write,
     ensures replies { result ≤ 3 → IfSome (R.remaining input.old) (λ bytes.
         GetsReply (IsReplyTo wanted (take 1048577 bytes)) (W.contents output.old) (W.contents output.new) result) }
     ensures cut_off { result ≡ 4 → IfSome (R.remaining input.old) (λ bytes.
@@ -85,7 +103,11 @@ where
         Err(InputFault::OutOfMemory) => return write_reply(output, RUN_FAILED, STARVED),
     };
     match reply_to(rt, alloc, wanted, bytes.as_slice()) {
-        Ok(reply) => write_reply(output, reply.status, reply.text.as_bytes()),
+        Ok(reply) => {
+            let status = write_reply(output, reply.status, reply.text.as_bytes());
+            write_notes(alloc, wanted, bytes.as_slice(), &reply, errors);
+            status
+        }
         Err(_) => write_reply(output, RUN_FAILED, STARVED),
     }
 }

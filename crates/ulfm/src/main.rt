@@ -3,6 +3,7 @@
 
 mod command;
 mod front;
+mod notes;
 mod reply;
 mod run;
 mod stream;
@@ -20,6 +21,7 @@ fn main(rt: HostRuntime) -> ExitCode {
             words.as_slice(),
             &mut rt.stdin(),
             &mut output,
+            &mut rt.stderr(),
         ),
         Err(kind) => front::without_words(kind == ErrorKind::OutOfMemory, &mut output),
     };

@@ -6,7 +6,8 @@ ghost use Rattle.ulfm_carrier.specs.Family.{AllFresh};
 ghost use Rattle.ulfm_base.specs.Lists.{InPlace, at};
 ghost use Rattle.ulfm_carrier.specs.Lanes.{known_room, lane_name, lane_pushed, lane_taken, IsReady as IsReadyLane, OneCall as OneWiring};
 ghost use Rattle.ulfm_carrier.specs.Shared.{inbox_capacity, shared_name, shared_pushed, shared_taken, IsReady as IsReadyShared, OneCall as OneSeating};
-ghost use Rattle.ulfm.specs.Replies.{failed_text, failure_of, IsRunReply};
+ghost use Rattle.ulfm.specs.Replies.{failed_text, IsRunReply};
+ghost use Rattle.ulfm.specs.inside.Writing.{failure_of};
 ghost use Rattle.ulfm_laws.specs.Lawful.{IsLawful};
 
 use crate::command::Carrier;
@@ -27,7 +28,7 @@ pub enum Failure {
     NoThread,
     /// Memory ran out.
     OutOfMemory,
-    /// A decision that a rank adopted is untrue of what the ranks did.
+    /// A decision that a rank adopted is untrue of what the ranks did, or no rank's own call made a revocation.
     Untrue,
 }
 

@@ -4,6 +4,7 @@ ghost use Rattle.std.specs.Prelude.{◌≤◌};
 mod bodies;
 mod failures;
 mod messages;
+mod notes;
 mod recoveries;
 mod refused;
 mod revocations;
@@ -59,7 +60,14 @@ fn reply<R: AllocGlobal + Threads + Wait + Sync>(
         bytes: [0; 4096],
         len: 0,
     };
-    let status = run_on(rt, rt.alloc(), words, &mut input, &mut output);
+    let status = run_on(
+        rt,
+        rt.alloc(),
+        words,
+        &mut input,
+        &mut output,
+        &mut io::sink(),
+    );
     (status, output)
 }
 

@@ -1,7 +1,7 @@
 -- Lists of members, looked at from the front.
 use Rattle.std.proofs.Common.{◌≡◌, ℕ, zero, suc, ◌+◌, ◌<◌, ◌≤◌, Bool, true, false, cond, not, ◌||◌, eqb, List, [], ◌∷◌, ◌++◌, length, get_or, take, Some, None, refl, ap, ◌∙◌, arith, length-take, take_all}
 use Rattle.std.proofs.lemmas.Bool.Decides.{nat_tests}
-use Rattle.ulfm_base.specs.Group.{is_member, IsGroup, later, rank_in, excluding, numbers_from}
+use Rattle.ulfm_base.specs.Group.{is_member, IsGroup, one_further, rank_in, excluding, numbers_from}
 
 -- a member is a rank of the world
 pub member_below : (group : List ℕ) (k d : ℕ) → IsGroup group → k < length group → get_or group k d < 8
@@ -19,17 +19,17 @@ both_fail a b e f = cc
 -- no member before place k is r, and the one there is
 pub rank_in_found : (group : List ℕ) (k r : ℕ) → k < length group → is_member (take k group) r ≡ false → get_or group k 0 ≡ r → rank_in group r ≡ Some k
 rank_in_found [] k r l n e = absurd (omega arith)
-rank_in_found (m ∷ group) zero r l n e = ap (λ (b : Bool). cond b (Some 0) (later (rank_in group r))) (let t : eqb m r ≡ true = grind (arith, nat_tests) in t)
+rank_in_found (m ∷ group) zero r l n e = ap (λ (b : Bool). cond b (Some 0) (one_further (rank_in group r))) (let t : eqb m r ≡ true = grind (arith, nat_tests) in t)
 rank_in_found (m ∷ group) (suc k) r l n e =
     let p = neither (eqb m r) (is_member (take k group) r) n in
-    ap (λ (b : Bool). cond b (Some 0) (later (rank_in group r))) p.0 ∙ ap later (rank_in_found group k r (omega arith) p.1 e)
+    ap (λ (b : Bool). cond b (Some 0) (one_further (rank_in group r))) p.0 ∙ ap one_further (rank_in_found group k r (omega arith) p.1 e)
 
 pub rank_in_none : (group : List ℕ) (k r : ℕ) → length group ≤ k → is_member (take k group) r ≡ false → rank_in group r ≡ None
 rank_in_none [] k r l n = refl
 rank_in_none (m ∷ group) zero r l n = absurd (omega arith)
 rank_in_none (m ∷ group) (suc k) r l n =
     let p = neither (eqb m r) (is_member (take k group) r) n in
-    ap (λ (b : Bool). cond b (Some 0) (later (rank_in group r))) p.0 ∙ ap later (rank_in_none group k r (omega arith) p.1)
+    ap (λ (b : Bool). cond b (Some 0) (one_further (rank_in group r))) p.0 ∙ ap one_further (rank_in_none group k r (omega arith) p.1)
 
 pub is_member-excluding : (group : List ℕ) (p : ℕ → Bool) (r : ℕ) → is_member group r ≡ false → is_member (excluding group p) r ≡ false
 is_member-excluding [] p r n = refl

@@ -12,14 +12,14 @@ IsGroup [] = ⊤
 IsGroup (m ∷ group) = (m < 8) × (is_member group m ≡ false) × IsGroup group
 
 -- a position, one further on
-abbrev pub later : Option ℕ → Option ℕ
-later None = None
-later (Some k) = Some (suc k)
+abbrev pub one_further : Option ℕ → Option ℕ
+one_further None = None
+one_further (Some k) = Some (suc k)
 
 -- the position of the member r
 abbrev pub rank_in : List ℕ → ℕ → Option ℕ
 rank_in [] r = None
-rank_in (m ∷ group) r = if m == r then Some 0 else later (rank_in group r)
+rank_in (m ∷ group) r = if m == r then Some 0 else one_further (rank_in group r)
 
 -- the group without the members that pass, in the old order
 abbrev pub excluding : List ℕ → (ℕ → Bool) → List ℕ

@@ -1,9 +1,9 @@
 pub mod RankSet
-pub mod Context
-pub mod Body
-pub mod Pattern
 pub mod Group
-pub mod Error
-pub mod Decision
-pub mod Lists
+pub mod Context
+pub mod Pattern
 pub mod Items
+pub mod Decision
+pub mod Error
+pub mod Lists
+pub mod inside

@@ -13,7 +13,7 @@ pub struct Body {
 
 impl Model for Body {
     ghost use Rattle.std.specs.Prelude.{ℕ, List, take, replicate, length, ◌-◌, ◌++◌};
-    ghost use Rattle.ulfm_base.specs.Body.{IsPadded, back_again};
+    ghost use Rattle.ulfm_base.specs.inside.Body.{IsPadded, back_again};
 
     ghost Value = { List ℕ };
 

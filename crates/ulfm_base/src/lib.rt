@@ -13,8 +13,6 @@ mod pattern;
 mod rank;
 mod rank_set;
 mod tag;
-#[cfg(test)]
-mod tests;
 
 pub use body::Body;
 pub use context::Context;

@@ -9,7 +9,7 @@ use Rattle.crossbeam_utils.specs.declared.cache_padded.CachePadded.{CachePadded}
 use Rattle.crossbeam_utils.specs.Padded.{padded_value}
 use Rattle.ulfm_base.specs.declared.decision.Decision.{Decision}
 use Rattle.ulfm_board.specs.Known.{BothAgree, known_at}
-use Rattle.ulfm_board.specs.Names.{cell_names, note_names, known_of}
+use Rattle.ulfm_board.specs.inside.Names.{cell_names, note_names, notes_known}
 
 abbrev Notes : Type 0
 Notes = List (Note Decision)
@@ -32,15 +32,15 @@ pub tied_after : (notes : Notes) (names : List ℕ) (k : ℕ) (n m : Note Decisi
 tied_after notes names k n m tied here cell = map-set_same (λ (x : Note Decision). x.cell) notes k m n (cell ∙ ap (λ (x : Note Decision). x.cell) here) ∙ tied
 
 -- what the note at a place knows
-pub known_read : (notes : Notes) (k : ℕ) (n : Note Decision) → k < length notes → n ≡ get_or notes k n → known_at (known_of notes) k ≡ n.known
+pub known_read : (notes : Notes) (k : ℕ) (n : Note Decision) → k < length notes → n ≡ get_or notes k n → known_at (notes_known notes) k ≡ n.known
 known_read notes k n low here = get_or-map (λ (x : Note Decision). x.known) notes k n None low ∙ ap (λ (x : Note Decision). x.known) (sym here)
 
 -- a note is written over, and what it knows from now on
-pub known_set : (notes : Notes) (k : ℕ) (m : Note Decision) → known_of (set notes k m) ≡ set (known_of notes) k m.known
+pub known_set : (notes : Notes) (k : ℕ) (m : Note Decision) → notes_known (set notes k m) ≡ set (notes_known notes) k m.known
 known_set notes k m = map-set (λ (x : Note Decision). x.known) notes k m
 
 -- a note is written over with one that knows the same
-pub known_kept : (notes : Notes) (k : ℕ) (n m : Note Decision) → n ≡ get_or notes k n → m.known ≡ n.known → known_of (set notes k m) ≡ known_of notes
+pub known_kept : (notes : Notes) (k : ℕ) (n m : Note Decision) → n ≡ get_or notes k n → m.known ≡ n.known → notes_known (set notes k m) ≡ notes_known notes
 known_kept notes k n m here kept = map-set_same (λ (x : Note Decision). x.known) notes k m n (kept ∙ ap (λ (x : Note Decision). x.known) here)
 
 -- notes of boards with the same names, at one place
@@ -65,13 +65,13 @@ names_push xs cells n x k tied low there cell =
     ∙ ap (λ (l : List ℕ). l ++ n.cell ∷ []) tied ∙ ap (λ (m : ℕ). take k (cell_names cells) ++ m ∷ []) (cell ∙ ap g there ∙ sym (get_or-map g cells k x 0 low)) ∙ sym (take_more (cell_names cells) k 0 low')
 
 -- one more note that knows nothing
-pub unknown_push : (xs : Notes) (n : Note Decision) (k : ℕ) → known_of xs ≡ replicate k None → n.known ≡ None → known_of (xs ++ n ∷ []) ≡ replicate (k + 1) None
+pub unknown_push : (xs : Notes) (n : Note Decision) (k : ℕ) → notes_known xs ≡ replicate k None → n.known ≡ None → notes_known (xs ++ n ∷ []) ≡ replicate (k + 1) None
 unknown_push xs n k unknown new =
     map-append (λ (m : Note Decision). m.known) xs (n ∷ [])
     ∙ ap (λ (l : List (Option Decision)). l ++ n.known ∷ []) unknown ∙ ap (λ (o : Option Decision). replicate k None ++ o ∷ []) new ∙ replicate-append-replicate k 1 None
 
 -- what two notes at one place say of each other, their lists say there
 pub both_here : (xs ys : Notes) (k : ℕ) (n m : Note Decision) → k < length xs → k < length ys → n ≡ get_or xs k n → m ≡ get_or ys k m
-    → BothAgree n.known m.known → BothAgree (known_at (known_of xs) k) (known_at (known_of ys) k)
+    → BothAgree n.known m.known → BothAgree (known_at (notes_known xs) k) (known_at (notes_known ys) k)
 both_here xs ys k n m low low' here there h =
     subst (λ (t : Option Decision × Option Decision). BothAgree t.0 t.1) (λ i. (sym (known_read xs k n low here) i, sym (known_read ys k m low' there) i)) h

@@ -1,5 +1,5 @@
 -- What a decider knows of the decisions of shrinks, by the numbers of their contexts.
-use Rattle.std.specs.Prelude.{◌≡◌, ℕ, List, Option, Some, None, IfSome, IsSome, replicate, slice_index_or, slice_set}
+use Rattle.std.specs.Prelude.{◌≡◌, ℕ, List, Option, Some, None, IfSome, IsSome, replicate, slice_index_or, slice_set, All}
 use Rattle.ulfm_base.specs.declared.decision.Decision.{Decision}
 
 -- of no context a decision is known
@@ -34,3 +34,7 @@ pub record Answers (board : Option (List ℕ)) (old : List (Option Decision)) (d
 pub record Starves (board : Option (List ℕ)) (known : List (Option Decision)) (c : ℕ) : Type 0 where
   pub shares : IsSome board
   pub unknown : known_at known c ≡ None
+
+-- all are seats of one board
+abbrev pub OneBoard : {D : Type 0} → (D → Option (List ℕ)) → List D → Type 0
+OneBoard {D} board all = (names : List ℕ) × All (λ s. board s ≡ Some names) all

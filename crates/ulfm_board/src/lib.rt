@@ -4,8 +4,6 @@
 mod decider;
 mod memory;
 mod seat;
-#[cfg(test)]
-mod tests;
 
 pub use decider::Decider;
 pub use memory::MemoryBoard;

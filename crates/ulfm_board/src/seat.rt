@@ -3,8 +3,8 @@ ghost use Rattle.std.specs.Prelude.{◌≡◌, ◌<◌, ◌≤◌, ◌⊎◌, ve
 ghost use Rattle.std.specs.declared.option.Option.TheVariants.{None, Some};
 ghost use Rattle.std.specs.Arc.{arc_value};
 ghost use Rattle.once_cell.specs.Once.{cell_name};
-ghost use Rattle.ulfm_board.specs.Known.{Agrees, BothAgree, nothing_known};
-ghost use Rattle.ulfm_board.specs.Names.{cell_names, note_names, OneBoard};
+ghost use Rattle.ulfm_board.specs.Known.{Agrees, BothAgree, nothing_known, OneBoard};
+ghost use Rattle.ulfm_board.specs.inside.Names.{cell_names, note_names};
 
 use crate::decider::{CELLS, Decider};
 use crossbeam_utils::CachePadded;
@@ -111,11 +111,11 @@ fn agree(one: &mut Note<Decision>, other: &mut Note<Decision>)
 impl Decider for Seat {
     ghost use Rattle.std.specs.Prelude.{Some};
     ghost use Rattle.std.specs.Arc.{arc_value};
-    ghost use Rattle.ulfm_board.specs.Names.{cell_names, known_of};
+    ghost use Rattle.ulfm_board.specs.inside.Names.{cell_names, notes_known};
 
     ghost board = { λ s. Some (cell_names (arc_value s.cells).items) };
 
-    ghost known = { λ s. known_of s.notes.items };
+    ghost known = { λ s. notes_known s.notes.items };
 
     fn decide(&mut self, decision: Decision) -> Result<Decision, OutOfMemory> {
         let alloc = self.alloc;

@@ -6,7 +6,8 @@ use Rattle.ulfm_carrier.specs.declared.inbox.View.{View}
 use Rattle.ulfm_carrier.specs.declared.shared_ends.SharedEnds.{SharedEnds}
 use Rattle.ulfm_base.specs.Lists.{at}
 use Rattle.ulfm_carrier.specs.Inbox.{InboxPass}
-use Rattle.ulfm_carrier.specs.Shared.{pass_name, shared_name, shared_pushed, HasPasses, MaySend, IsReceiver, AreOpenFrom, OneCall}
+use Rattle.ulfm_carrier.specs.Shared.{pass_name, shared_name, shared_pushed, HasPasses, MaySend, IsReceiver, OneCall}
+use Rattle.ulfm_carrier.specs.inside.Emptying.{AreOpenFrom}
 use Rattle.ulfm_carrier.proofs.Places.{view_or}
 use Rattle.ulfm_base.proofs.Places.{at_view}
 use Rattle.ulfm_carrier.proofs.Frames.{as_many_outs, passes_same, sends_same, receiver_same}
@@ -35,7 +36,7 @@ module _ (all : List SharedEnds) (family : OneCall (map shared_name all)) where
 
     pub may_hear : (closed heard : ℕ) (e f : SharedEnds) → at all place e → Hears all place closed heard place e f → IsReceiver f
     may_hear closed heard e f here h =
-        let is = h.told refl in
+        let is = h.receipts refl in
         receiver_same e f h.frame (as_many_outs e f h.names) h.pass (ap (λ (v : View). v.role) is) (ap (λ (v : View). v.made) is) ((still place e here).receiver (omega arith)).receiver
 
     -- what is left of a sender that closed is of the receiver's queue

@@ -2,7 +2,8 @@
 use Rattle.std.proofs.Common.{◌≡◌, ◌<◌, ◌≤◌, ◌+◌, inl, inr, ℕ, zero, suc, List, [], ◌∷◌, length, refl, ap, ◌∙◌, arith}
 use Rattle.std.proofs.lemmas.Bool.{cases_eq, cases_lt}
 use Rattle.ulfm_base.specs.Items.{items_from}
-use Rattle.ulfm_carrier.specs.Inbox.{Signed, AllBelow}
+use Rattle.ulfm_carrier.specs.Inbox.{Signed}
+use Rattle.ulfm_carrier.specs.inside.Emptying.{AllBelow}
 use Rattle.ulfm_carrier.proofs.Changed.{items_here, items_else}
 
 abbrev pub items_below : ℕ → List Signed → ℕ

@@ -8,7 +8,8 @@ use Rattle.ulfm_carrier.specs.Family.{Keeps}
 use Rattle.ulfm_base.specs.Items.{items_from}
 use Rattle.ulfm_base.specs.Lists.{at}
 use Rattle.ulfm_carrier.specs.Inbox.{InboxPass}
-use Rattle.ulfm_carrier.specs.Shared.{pass_name, pushed_with, shown, shared_name, shared_pushed, shared_taken, IsOpenFrom, AreOpenFrom}
+use Rattle.ulfm_carrier.specs.Shared.{pass_name, pushed_with, shown, shared_name, shared_pushed, shared_taken}
+use Rattle.ulfm_carrier.specs.inside.Emptying.{IsOpenFrom, AreOpenFrom}
 use Rattle.ulfm_carrier.proofs.Places.{at_read, at_set}
 use Rattle.ulfm_carrier.proofs.Passes.{name_same}
 use Rattle.ulfm_carrier.proofs.Frames.{as_many_outs, passes_same, sends_same, receiver_same}
@@ -27,7 +28,7 @@ AllDone all place now = (k : ℕ) (g : SharedEnds) → at now k g → (e : Share
 -- what was taken is shown as before also where closed senders told of theirs
 pub taken_told : (all : List SharedEnds) (place closed heard : ℕ) (e f : SharedEnds) → Hears all place closed heard place e f → (s : ℕ) → shared_taken f s ≡ shared_taken e s
 taken_told all place closed heard e f h s =
-    let t = ap (λ (v : View). v.taken) (h.told refl) in
+    let t = ap (λ (v : View). v.taken) (h.receipts refl) in
     λ i. items_from s (shown (h.frame.gathered i) (t i))
 
 module _ (all : List SharedEnds) (place n : ℕ) (still : AreOpenFrom place all) where
@@ -45,7 +46,7 @@ module _ (all : List SharedEnds) (place n : ℕ) (still : AreOpenFrom place all)
           senders = λ j late. sends_same e f j h.frame.me h.frame.inboxes (h.others j (λ same. absurd (omega (arith, same, late)))) (was.senders j (omega (arith, late)));
           receiver = λ late.
               let r = was.receiver (omega (arith, late)) in
-              record { receiver = receiver_same e f h.frame many h.pass (ap (λ (p : InboxPass). (view p).role) inlet) (ap (λ (p : InboxPass). (view p).made) inlet) r.receiver; told = ap (λ (p : InboxPass). (view p).told) inlet ∙ r.told };
+              record { receiver = receiver_same e f h.frame many h.pass (ap (λ (p : InboxPass). (view p).role) inlet) (ap (λ (p : InboxPass). (view p).made) inlet) r.receiver; receipts = ap (λ (p : InboxPass). (view p).receipts) inlet ∙ r.receipts };
         };
       }
 

@@ -5,7 +5,7 @@ use Rattle.ulfm_base.specs.declared.rank.WorldRank.{WorldRank}
 use Rattle.ulfm_carrier.specs.declared.carried.Carried.{Carried}
 use Rattle.ulfm_carrier.specs.Carried.{item_of}
 use Rattle.ulfm_carrier.specs.Lanes.{shown}
-use Rattle.ulfm_carrier.specs.Tagged.{with_sender, signed}
+use Rattle.ulfm_carrier.specs.inside.Tagged.{with_sender, signed}
 
 pub all_moved : {X Y : Type 0} (f : X → Y) (done all : List Y) (ahead : List X) → length ahead ≡ 0 → done ++ map f ahead ≡ all → done ≡ all
 all_moved f done all ahead none was = sym (append-nil done) ∙ ap (λ l. done ++ map f l) (sym (nil_from_length ahead none)) ∙ was

@@ -1,16 +1,15 @@
 -- An inbox whose senders have all closed, after as many items were taken as it held.
-use Rattle.std.proofs.Common.{◌≡◌, ◌<◌, ◌≤◌, ◌+◌, ℕ, suc, List, [], ◌∷◌, ◌++◌, Option, None, Some, length, get_or, refl, ap, sym, ◌∙◌, arith, subst, append_assoc, append-nil, MatchOption, IfNone}
+use Rattle.std.proofs.Common.{◌≡◌, ◌<◌, ◌≤◌, ◌+◌, ℕ, suc, List, [], ◌∷◌, ◌++◌, Option, None, Some, length, get_or, refl, ap, sym, ◌∙◌, arith, subst, append_assoc, append-nil}
 use Rattle.std.proofs.lemmas.List.{nil_from_length, length-append}
 use Rattle.std.proofs.lemmas.Option.{slice_get-get_or, slice_get_within}
-use Rattle.crossbeam_queue.specs.Fifo.{Held}
-use Rattle.crossbeam_queue.specs.Passes.{view}
 use Rattle.ulfm_base.specs.declared.item.Item.{Item}
 use Rattle.ulfm_carrier.specs.declared.inbox.View.{View}
-use Rattle.ulfm_carrier.specs.declared.shared_ends.SharedEnds.{SharedEnds}
 use Rattle.ulfm_base.specs.Items.{items_from}
 use Rattle.ulfm_base.specs.Lists.{at}
-use Rattle.ulfm_carrier.specs.Inbox.{Signed, after_take, after_all, ToldIsTakenAndHeld, ToldIsTaken, IsToldOfAll, AllBelow, EachIsTakenAndHeld}
-use Rattle.ulfm_carrier.specs.Shared.{shown, shared_taken, EachIsTakenAt}
+use Rattle.ulfm_carrier.specs.Inbox.{Signed, ReceiptsAreTakenAndHeld}
+use Rattle.ulfm_carrier.specs.inside.Passes.{after_take, after_all}
+use Rattle.ulfm_carrier.specs.inside.Emptying.{ReceiptsAreTaken, HasAllReceipts, AllBelow}
+use Rattle.ulfm_carrier.specs.Shared.{shown}
 use Rattle.ulfm_carrier.proofs.Changed.{items_else}
 use Rattle.ulfm_carrier.proofs.Counts.{none_more}
 use Rattle.ulfm_carrier.proofs.Senders.{items-append}
@@ -33,34 +32,23 @@ parts p l taken left was now before after =
     let j = length-append (items_from p left) (items_from p now) in
     omega (arith, m, k, j)
 
-all_taken : (v : View) (left was now : List Signed) → IsToldOfAll v → AllBelow v.made left → length was ≡ length left → ToldIsTakenAndHeld v was → ToldIsTakenAndHeld (after_all v left) now → ToldIsTaken (after_all v left)
-all_taken v left was now told below many before after k p l here =
-    let is : p ≡ k = told.1 k (p, l) here in
-    let low : p < v.made = omega (arith, slice_get_within v.told k (p, l) here, told.0, is) in
+all_taken : (v : View) (left was now : List Signed) → HasAllReceipts v → AllBelow v.made left → length was ≡ length left → ReceiptsAreTakenAndHeld v was → ReceiptsAreTakenAndHeld (after_all v left) now → ReceiptsAreTaken (after_all v left)
+all_taken v left was now receipts below many before after k p l here =
+    let is : p ≡ k = receipts.1 k (p, l) here in
+    let low : p < v.made = omega (arith, slice_get_within v.receipts k (p, l) here, receipts.0, is) in
     let each : (q : ℕ) → q < v.made → length (items_from q was) ≡ length (items_from q left) + length (items_from q now) = λ q inside.
-    let x : ℕ × List Item = get_or v.told q (0, []) in
-    let there : at v.told q x = slice_get-get_or v.told q (0, []) (omega (arith, inside, told.0)) in
-    subst (λ n. length (items_from n was) ≡ length (items_from n left) + length (items_from n now)) (told.1 q x there) (parts x.0 x.1 v.taken left was now (before q x.0 x.1 there) (after q x.0 x.1 there)) in
+    let x : ℕ × List Item = get_or v.receipts q (0, []) in
+    let there : at v.receipts q x = slice_get-get_or v.receipts q (0, []) (omega (arith, inside, receipts.0)) in
+    subst (λ n. length (items_from n was) ≡ length (items_from n left) + length (items_from n now)) (receipts.1 q x there) (parts x.0 x.1 v.taken left was now (before q x.0 x.1 there) (after q x.0 x.1 there)) in
     let none : items_from p now ≡ [] = nil_from_length (items_from p now) (none_more v.made was left now below many each p low) in
     after k p l here ∙ items-append p (v.taken ++ left) now ∙ ap (λ t. items_from p (v.taken ++ left) ++ t) none ∙ append-nil (items_from p (v.taken ++ left))
 
-pub emptied : (v w : View) (left was now : List Signed) → w ≡ after_all v left → IsToldOfAll v → AllBelow v.made left → length was ≡ length left → ToldIsTakenAndHeld v was → ToldIsTakenAndHeld w now → ToldIsTaken w
-emptied v w left was now is told below many before after =
-    subst ToldIsTaken (sym is) (all_taken v left was now told below many before (subst (λ (y : View). ToldIsTakenAndHeld y now) is after))
+pub emptied : (v w : View) (left was now : List Signed) → w ≡ after_all v left → HasAllReceipts v → AllBelow v.made left → length was ≡ length left → ReceiptsAreTakenAndHeld v was → ReceiptsAreTakenAndHeld w now → ReceiptsAreTaken w
+emptied v w left was now is receipts below many before after =
+    subst ReceiptsAreTaken (sym is) (all_taken v left was now receipts below many before (subst (λ (y : View). ReceiptsAreTakenAndHeld y now) is after))
 
 -- what a closed sender pushed, as an end tells of it that is being gathered
-pub told_left : (v w : View) (left : List Signed) (gathered : Option ℕ) → gathered ≡ None → w ≡ after_all v left → ToldIsTaken w → (k : ℕ) (x : ℕ × List Item) → at v.told k x → x.1 ≡ items_from x.0 (shown gathered v.taken) ++ items_from x.0 left
+pub told_left : (v w : View) (left : List Signed) (gathered : Option ℕ) → gathered ≡ None → w ≡ after_all v left → ReceiptsAreTaken w → (k : ℕ) (x : ℕ × List Item) → at v.receipts k x → x.1 ≡ items_from x.0 (shown gathered v.taken) ++ items_from x.0 left
 told_left v w left None live is all k x here =
-    let now = subst ToldIsTaken is all in now k x.0 x.1 here ∙ items-append x.0 v.taken left
+    let now = subst ReceiptsAreTaken is all in now k x.0 x.1 here ∙ items-append x.0 v.taken left
 told_left v w left (Some count) live is all k x here = absurd (cc)
-
--- nothing is found where all that each sender pushed was taken
-pub nothing_found : (e : SharedEnds) (r : Option Signed) (A : Type 0) (B : Signed → Type 0) → e.gathered ≡ None → MatchOption r (A × Held 0 (EachIsTakenAndHeld (view e.inlet))) B → IfNone r (Held 0 (EachIsTakenAt e))
-nothing_found e (Some x) A B live h = tt
-nothing_found e None A B live h =
-    let held : List Signed = h.1.0 in
-    let step = h.1.2 in
-    let taken : List Signed = (view e.inlet).taken in
-    let none : taken ++ held ≡ taken = ap (λ l. taken ++ l) (nil_from_length held h.1.1) ∙ append-nil taken in
-    let shows : (p : ℕ) → items_from p taken ≡ shared_taken e p = λ p. ap (λ g. items_from p (shown g taken)) (sym live) in
-    (held, h.1.1, record { step = step; all_taken = λ p. step.flows p ∙ ap (items_from p) none ∙ shows p })

@@ -6,8 +6,9 @@ use Rattle.ulfm_base.specs.declared.item.Item.{Item}
 use Rattle.ulfm_carrier.specs.declared.inbox.View.{View}
 use Rattle.ulfm_carrier.specs.declared.shared_ends.SharedEnds.{SharedEnds}
 use Rattle.ulfm_base.specs.Lists.{at}
-use Rattle.ulfm_carrier.specs.Inbox.{after_told}
-use Rattle.ulfm_carrier.specs.Shared.{pass_name, pushed_with, shared_pushed, with_outs, with_inlet}
+use Rattle.ulfm_carrier.specs.inside.Passes.{after_receipt}
+use Rattle.ulfm_carrier.specs.Shared.{pass_name, pushed_with, shared_pushed}
+use Rattle.ulfm_carrier.specs.inside.Emptying.{with_outs, with_inlet}
 use Rattle.ulfm_carrier.proofs.Places.{at_read, at_set}
 use Rattle.ulfm_carrier.proofs.Frames.{SameFrame, frame_twice, frame_is, same_inlet}
 
@@ -18,7 +19,7 @@ told_by all place (suc n) = told_by all place n ++ (n, get_or (map (λ e. shared
 
 -- the receiver's view, with what closed senders told
 abbrev pub told_view : View → List (ℕ × List Item) → View
-told_view v told = record v { told = told }
+told_view v receipts = record v { receipts = receipts }
 
 -- The end k before, and after the ends below `closed` closed to the rank `place`, which heard those below `heard`.
 pub record Hears (all : List SharedEnds) (place closed heard k : ℕ) (e f : SharedEnds) : Type 0 where
@@ -29,13 +30,13 @@ pub record Hears (all : List SharedEnds) (place closed heard k : ℕ) (e f : Sha
   pub waiting : closed ≤ k → f.outs ≡ e.outs
   pub pass : IsSamePass e.inlet f.inlet
   pub apart : k ≢ place → f.inlet ≡ e.inlet
-  pub told : k ≡ place → view f.inlet ≡ told_view (view e.inlet) (told_by all place heard)
+  pub receipts : k ≡ place → view f.inlet ≡ told_view (view e.inlet) (told_by all place heard)
 
 -- each end of the one list, with that of the other
 abbrev pub AllHear : List SharedEnds → ℕ → ℕ → ℕ → List SharedEnds → Type 0
 AllHear all place closed heard now = (k : ℕ) (f : SharedEnds) → at now k f → (e : SharedEnds) × at all k e × Hears all place closed heard k e f
 
-pub none_heard : (all : List SharedEnds) (place : ℕ) → ((e : SharedEnds) → at all place e → (view e.inlet).told ≡ []) → AllHear all place 0 0 all
+pub none_heard : (all : List SharedEnds) (place : ℕ) → ((e : SharedEnds) → at all place e → (view e.inlet).receipts ≡ []) → AllHear all place 0 0 all
 none_heard all place none k f here = (
   f,
   here,
@@ -47,7 +48,7 @@ none_heard all place none k f here = (
     waiting = λ _. refl;
     pass = (refl, refl, refl);
     apart = λ _. refl;
-    told = λ is. λ i. record (view f.inlet) { told = none f (subst (λ n. at all n f) is here) i };
+    receipts = λ is. λ i. record (view f.inlet) { receipts = none f (subst (λ n. at all n f) is here) i };
   },
 )
 
@@ -75,7 +76,7 @@ module _ (all now : List SharedEnds) (place from : ℕ) where
           waiting = λ late. absurd (omega (arith, late));
           pass = (pass.0 ∙ w.pass.0, pass.1 ∙ w.pass.1, pass.2 ∙ w.pass.2);
           apart = λ other. inlet ∙ w.apart other;
-          told = λ is. ap view inlet ∙ w.told is;
+          receipts = λ is. ap view inlet ∙ w.receipts is;
         } in
         let P : ℕ → SharedEnds → Type 0 = λ n x. (e : SharedEnds) × at all n e × Hears all place (from + 1) from n e x in
         let Q : ℕ → Type 0 = λ n. P n g in
@@ -86,14 +87,14 @@ module _ (all now : List SharedEnds) (place from : ℕ) where
         let w = old.2 in (
           old.0,
           old.1,
-          record { frame = w.frame; names = w.names; pushed = w.pushed; others = w.others; waiting = λ late. w.waiting (omega (arith, late)); pass = w.pass; apart = w.apart; told = w.told },
+          record { frame = w.frame; names = w.names; pushed = w.pushed; others = w.others; waiting = λ late. w.waiting (omega (arith, late)); pass = w.pass; apart = w.apart; receipts = w.receipts },
         )
   ]
 
   -- and the receiver hears of it
-  pub hears_more : (r r' : SharedEnds) (u : View) → place < length now → r ≡ get_or now place r → r' ≡ with_inlet r r'.inlet → IsSamePass r.inlet r'.inlet → view r'.inlet ≡ after_told (view r.inlet) u
+  pub hears_more : (r r' : SharedEnds) (u : View) → place < length now → r ≡ get_or now place r → r' ≡ with_inlet r r'.inlet → IsSamePass r.inlet r'.inlet → view r'.inlet ≡ after_receipt (view r.inlet) u
       → u.from ≡ from → u.pushed ≡ get_or (map (λ e. shared_pushed e place) all) from [] → AllHear all place (from + 1) from now → AllHear all place (from + 1) (from + 1) (set now place r')
-  hears_more r r' u low here rest pass told number pushed was k g there = elim (at_set now place r' k g there) [
+  hears_more r r' u low here rest pass receipts number pushed was k g there = elim (at_set now place r' k g there) [
     | inl h ↦
         let old = was place r (at_read now place r low here) in
         let w = old.2 in
@@ -113,7 +114,7 @@ module _ (all now : List SharedEnds) (place from : ℕ) where
           waiting = λ late. outs ∙ w.waiting late;
           pass = (pass.0 ∙ w.pass.0, pass.1 ∙ w.pass.1, pass.2 ∙ w.pass.2);
           apart = λ other. absurd (other refl);
-          told = λ is. told ∙ ap (λ v. after_told v u) (w.told is) ∙ (λ i. record (view old.0.inlet) { told = told_by all place from ++ (number i, pushed i) ∷ [] }) ∙ ap (λ n. told_view (view old.0.inlet) (told_by all place n)) next;
+          receipts = λ is. receipts ∙ ap (λ v. after_receipt v u) (w.receipts is) ∙ (λ i. record (view old.0.inlet) { receipts = told_by all place from ++ (number i, pushed i) ∷ [] }) ∙ ap (λ n. told_view (view old.0.inlet) (told_by all place n)) next;
         } in
         let P : ℕ → SharedEnds → Type 0 = λ n x. (e : SharedEnds) × at all n e × Hears all place (from + 1) (from + 1) n e x in
         let Q : ℕ → Type 0 = λ n. P n g in
@@ -124,6 +125,6 @@ module _ (all now : List SharedEnds) (place from : ℕ) where
         let w = old.2 in (
           old.0,
           old.1,
-          record { frame = w.frame; names = w.names; pushed = w.pushed; others = w.others; waiting = w.waiting; pass = w.pass; apart = w.apart; told = λ is. absurd (h.0 is) },
+          record { frame = w.frame; names = w.names; pushed = w.pushed; others = w.others; waiting = w.waiting; pass = w.pass; apart = w.apart; receipts = λ is. absurd (h.0 is) },
         )
   ]

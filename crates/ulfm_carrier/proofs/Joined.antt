@@ -12,7 +12,7 @@ use Rattle.ulfm_carrier.specs.declared.lane_ends.RingName.{RingName}
 use Rattle.ulfm_carrier.specs.declared.lane_ends.LaneEnds.{LaneEnds}
 use Rattle.ulfm_carrier.specs.Carried.{item_of}
 use Rattle.ulfm_base.specs.Lists.{at}
-use Rattle.ulfm_carrier.specs.Lanes.{Outlet, outlet_name, inlet_name, lane_name, lane_pushed, sent_by, OneCall}
+use Rattle.ulfm_carrier.specs.Lanes.{Outlet, outlet_name, inlet_name, lane_name, lane_pushed, pushed_into, OneCall}
 use Rattle.ulfm_carrier.proofs.Places.{at_read, view_or}
 use Rattle.ulfm_base.proofs.Places.{at_view}
 use Rattle.ulfm_base.proofs.Numbers.{same_rank}
@@ -94,11 +94,11 @@ module _ (ends : List LaneEnds) (place : ℕ) (receiver : LaneEnds) (now : List 
       (ap (λ (n : RingName). n.words) (sym is), ap (λ (n : RingName). n.slots) (sym is), ap (λ (n : RingName). n.names) (sym is), ap (λ (n : RingName). n.heap) (sym is))
 
   -- what the end pushed to the receiver is what the ring between them carried
-  pub pushed : (k : ℕ) (e : LaneEnds) (p : Outlet) (source : WorldRank) → at now k e → at e.outs.items place p → source.number ≡ k → pushed_at ends k place ≡ sent_by source p
+  pub pushed : (k : ℕ) (e : LaneEnds) (p : Outlet) (source : WorldRank) → at now k e → at e.outs.items place p → source.number ≡ k → pushed_at ends k place ≡ pushed_into source p
   pushed k e p source here out is =
       let d = was k e here in
       let v = same_at outline now ends k e d.0 w.same here d.1 in
       let me : d.0.me ≡ source = same_rank d.0.me source (number ends w.one k d.0 d.1 ∙ sym is) in
       view_or (λ e. lane_pushed e place) ends k d.0 [] d.1 ∙ face-pushed d.0 place ∙ ap (λ (o : Outline). get_or (map (map (item_of d.0.me)) o.sents) place []) (sym v)
       ∙ ap (λ r. get_or (map (map (item_of r)) (map sent e.outs.items)) place []) me ∙ ap (λ l. get_or l place []) (map-map (map (item_of source)) sent e.outs.items)
-      ∙ view_or (sent_by source) e.outs.items place p [] out
+      ∙ view_or (pushed_into source) e.outs.items place p [] out

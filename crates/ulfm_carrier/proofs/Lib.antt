@@ -12,9 +12,12 @@ pub mod Heard
 pub mod Joined
 pub mod Last
 pub mod Opened
+pub mod Owned
+pub mod Owners
 pub mod Passes
 pub mod Places
 pub mod Ranks
+pub mod Ready
 pub mod Rings
 pub mod Roles
 pub mod Rule

@@ -1,14 +1,14 @@
 -- The passes of an end, after one of them was used.
-use Rattle.std.proofs.Common.{◌≡◌, ◌<◌, ℕ, inl, inr, List, [], ◌∷◌, ◌++◌, length, map, set, get_or, ap, sym, ◌∙◌, subst, MatchResult, Result, Ok, Err, OnErr}
+use Rattle.std.proofs.Common.{◌≡◌, ◌<◌, ℕ, inl, inr, List, [], ◌∷◌, ◌++◌, length, map, set, get_or, ap, sym, ◌∙◌, subst, MatchResult, Result, Ok, Err}
+use Rattle.std.specs.Prelude.{⊤}
 use Rattle.std.proofs.Math.Seq.{map-set_same}
 use Rattle.crossbeam_queue.specs.Passes.{view, IsSamePass}
 use Rattle.crossbeam_queue.specs.Ring.{idle}
-use Rattle.crossbeam_queue.specs.Fifo.{Held}
 use Rattle.ulfm_base.specs.declared.item.Item.{Item}
 use Rattle.ulfm_carrier.specs.declared.inbox.View.{View}
-use Rattle.ulfm_base.specs.Items.{items_from}
 use Rattle.ulfm_base.specs.Lists.{at}
-use Rattle.ulfm_carrier.specs.Inbox.{Signed, InboxPass, spent, after_push, PushedIsTakenAndHeld}
+use Rattle.ulfm_carrier.specs.Inbox.{InboxPass, spent}
+use Rattle.ulfm_carrier.specs.inside.Passes.{after_push}
 use Rattle.ulfm_carrier.specs.Shared.{pass_name, pushed_with}
 use Rattle.ulfm_carrier.proofs.Places.{at_read, at_set, view_here, view_or}
 
@@ -20,23 +20,16 @@ names_same outs k p q here same = map-set_same pass_name outs k q p (name_same p
 
 -- what was pushed by one pass more, by a push that a contract of the inbox tells of
 pub pushed_more : (r : Result Unit Item) (outs : List InboxPass) (k : ℕ) (p q : InboxPass) (x : Item) (H : Type 0) → k < length outs → p ≡ get_or outs k p
-    → MatchResult r (λ _. view q ≡ after_push (view p) x) (λ back. (back ≡ x) × (view q ≡ view p) × H)
+    → MatchResult r (λ _. pushed_with q ≡ pushed_with p ++ x ∷ []) (λ back. (back ≡ x) × (pushed_with q ≡ pushed_with p) × H)
     → MatchResult r (λ _. get_or (map pushed_with (set outs k q)) k [] ≡ get_or (map pushed_with outs) k [] ++ x ∷ []) (λ back. (back ≡ x) × (get_or (map pushed_with (set outs k q)) k [] ≡ get_or (map pushed_with outs) k []))
-pushed_more (Ok u) outs k p q x H low here h =
-    view_here pushed_with outs k q [] low ∙ ap (λ (v : View). v.pushed) h ∙ ap (λ l. l ++ x ∷ []) (sym (view_or pushed_with outs k p [] (at_read outs k p low here)))
-pushed_more (Err b) outs k p q x H low here h = (h.0, view_here pushed_with outs k q [] low ∙ ap (λ (v : View). v.pushed) h.1 ∙ sym (view_or pushed_with outs k p [] (at_read outs k p low here)))
+pushed_more (Ok u) outs k p q x H low here h = view_here pushed_with outs k q [] low ∙ h ∙ ap (λ l. l ++ x ∷ []) (sym (view_or pushed_with outs k p [] (at_read outs k p low here)))
+pushed_more (Err b) outs k p q x H low here h = (h.0, view_here pushed_with outs k q [] low ∙ h.1 ∙ sym (view_or pushed_with outs k p [] (at_read outs k p low here)))
 
-pub sender_same : (r : Result Unit Item) (p q : InboxPass) (x : Item) (H : Type 0) → MatchResult r (λ _. view q ≡ after_push (view p) x) (λ back. (back ≡ x) × (view q ≡ view p) × H)
-    → ((view q).role ≡ (view p).role) × ((view q).from ≡ (view p).from)
-sender_same (Ok u) p q x H h = (ap (λ (v : View). v.role) h, ap (λ (v : View). v.from) h)
-sender_same (Err b) p q x H h = (ap (λ (v : View). v.role) h.1, ap (λ (v : View). v.from) h.1)
-
--- a refused push tells that the inbox was full
-pub refused_full : (r : Result Unit Item) (p q : InboxPass) (x : Item) (capacity room me : ℕ) (pushed : List Item) → room ≡ capacity → (view p).from ≡ me → pushed ≡ (view p).pushed
-    → MatchResult r (λ _. view q ≡ after_push (view p) x) (λ back. (back ≡ x) × (view q ≡ view p) × Held capacity (PushedIsTakenAndHeld (view p)))
-    → OnErr r (Held room (λ held. (taken : List Signed) × (pushed ≡ items_from me (taken ++ held))))
-refused_full (Ok u) p q x capacity room me pushed same from shows h = tt
-refused_full (Err b) p q x capacity room me pushed same from shows h = (h.2.0, h.2.1 ∙ sym same, (h.2.2.0, shows ∙ h.2.2.1 ∙ ap (λ n. items_from n (h.2.2.0 ++ h.2.0)) from))
+-- what a push of a sender tells of its pass
+pub sender_same : (r : Result Unit Item) (p q : InboxPass) (x : Item) → MatchResult r (λ _. view q ≡ after_push (view p) x) (λ back. (back ≡ x) × (view q ≡ view p))
+    → ((view q).role ≡ (view p).role) × ((view q).from ≡ (view p).from) × MatchResult r (λ _. pushed_with q ≡ pushed_with p ++ x ∷ []) (λ back. (back ≡ x) × (pushed_with q ≡ pushed_with p) × ⊤)
+sender_same (Ok u) p q x h = (ap (λ (v : View). v.role) h, ap (λ (v : View). v.from) h, ap (λ (v : View). v.pushed) h)
+sender_same (Err b) p q x h = (ap (λ (v : View). v.role) h.1, ap (λ (v : View). v.from) h.1, (h.0, ap (λ (v : View). v.pushed) h.1, tt))
 
 -- a fact of each pass at its inbox, after one pass was used
 pub each_pass : {Q : Type 0} (P : Q → InboxPass → Type 0) (inboxes : List Q) (outs : List InboxPass) (k : ℕ) (p q : InboxPass) → k < length outs → p ≡ get_or outs k p

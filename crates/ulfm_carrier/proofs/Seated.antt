@@ -11,7 +11,7 @@ use Rattle.ulfm_carrier.specs.Family.{AllFresh}
 use Rattle.ulfm_base.specs.Items.{items_from}
 use Rattle.ulfm_base.specs.Lists.{at}
 use Rattle.ulfm_carrier.specs.Inbox.{InboxPass}
-use Rattle.ulfm_carrier.specs.Seating.{Queue, AreInboxes, AreMade}
+use Rattle.ulfm_carrier.specs.inside.Seating.{Queue, AreInboxes, AreMade}
 use Rattle.ulfm_carrier.specs.Shared.{pass_name, pushed_with, shown, shared_name, shared_pushed, shared_taken, inbox_capacity, IsReady, OneCall}
 use Rattle.ulfm_carrier.proofs.Places.{view_or}
 use Rattle.ulfm_carrier.proofs.Whole.{at_map, all_empty}
@@ -76,7 +76,7 @@ module _ (n capacity : ℕ) (inboxes : List Queue) (many : length inboxes ≡ n)
             live = v.live;
             empty = v.empty;
           };
-          told = ap (λ (u : View). u.told) is;
+          receipts = ap (λ (u : View). u.receipts) is;
         };
         no_list = v.no_list;
         list_for_each = omega (arith, outs, v.list_for_each);

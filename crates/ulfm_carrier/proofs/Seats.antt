@@ -6,8 +6,9 @@ use Rattle.crossbeam_queue.specs.Passes.{view, IsPassOf, IsSamePass}
 use Rattle.ulfm_carrier.specs.declared.inbox.View.{View}
 use Rattle.ulfm_carrier.specs.declared.shared_ends.SharedEnds.{SharedEnds}
 use Rattle.ulfm_base.specs.Lists.{at}
-use Rattle.ulfm_carrier.specs.Inbox.{InboxPass, sender, one_more}
-use Rattle.ulfm_carrier.specs.Seating.{Queue, AreInlets, AreOpenInlets, HaveMadeOneMore, AreNextOuts, AreOuts}
+use Rattle.ulfm_carrier.specs.Inbox.{InboxPass}
+use Rattle.ulfm_carrier.specs.inside.Passes.{sender, one_more}
+use Rattle.ulfm_carrier.specs.inside.Seating.{Queue, AreInlets, AreOpenInlets, HaveMadeOneMore, AreNextOuts, AreOuts}
 use Rattle.ulfm_carrier.proofs.Places.{at_push, at_set, at_other}
 use Rattle.ulfm_base.proofs.Places.{there, only_at}
 

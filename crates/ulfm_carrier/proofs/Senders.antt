@@ -4,7 +4,7 @@ use Rattle.std.proofs.lemmas.Grind.{flat_map-append}
 use Rattle.ulfm_base.specs.declared.rank.WorldRank.{WorldRank}
 use Rattle.ulfm_base.specs.declared.item.Item.{Item}
 use Rattle.ulfm_base.specs.Items.{items_from, item_if_from}
-use Rattle.ulfm_carrier.specs.Tagged.{with_sender}
+use Rattle.ulfm_carrier.specs.inside.Tagged.{with_sender}
 
 pub items-append : (s : ℕ) (xs ys : List (WorldRank × Item)) → items_from s (xs ++ ys) ≡ items_from s xs ++ items_from s ys
 items-append s xs ys = flat_map-append (item_if_from s) xs ys

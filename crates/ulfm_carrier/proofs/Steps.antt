@@ -10,7 +10,7 @@ use Rattle.ulfm_carrier.specs.declared.inlet.Inlet.{Inlet}
 use Rattle.ulfm_base.specs.Items.{items_from}
 use Rattle.ulfm_base.specs.Lists.{at}
 use Rattle.ulfm_carrier.specs.Lanes.{inlet_capacity}
-use Rattle.ulfm_carrier.specs.Tagged.{with_sender}
+use Rattle.ulfm_carrier.specs.inside.Tagged.{with_sender}
 use Rattle.ulfm_carrier.proofs.Places.{view_or}
 use Rattle.ulfm_carrier.proofs.Senders.{items-append, items_own, items_other}
 

@@ -3,7 +3,8 @@ use Rattle.std.proofs.Common.{◌≡◌, ◌<◌, ℕ, List, length, map, set, g
 use Rattle.std.proofs.Math.Seq.{map-set_same}
 use Rattle.ulfm_carrier.specs.declared.lane_ends.LaneName.{LaneName}
 use Rattle.ulfm_carrier.specs.declared.lane_ends.LaneEnds.{LaneEnds}
-use Rattle.ulfm_carrier.specs.Lanes.{lane_name, IsReady, AllReady, OneCall}
+use Rattle.ulfm_carrier.specs.Lanes.{lane_name, IsReady, OneCall}
+use Rattle.ulfm_carrier.specs.inside.Wiring.{AllReady}
 use Rattle.ulfm_carrier.proofs.Places.{at_read, each_set}
 use Rattle.ulfm_carrier.proofs.Joined.{number, all_outs}
 

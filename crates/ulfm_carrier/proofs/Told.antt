@@ -6,7 +6,7 @@ use Rattle.ulfm_base.specs.declared.item.Item.{Item}
 use Rattle.ulfm_carrier.specs.declared.inbox.View.{View}
 use Rattle.ulfm_carrier.specs.declared.shared_ends.SharedEnds.{SharedEnds}
 use Rattle.ulfm_base.specs.Lists.{at}
-use Rattle.ulfm_carrier.specs.Inbox.{IsToldOfAll}
+use Rattle.ulfm_carrier.specs.inside.Emptying.{HasAllReceipts}
 use Rattle.ulfm_carrier.specs.Shared.{shared_pushed}
 use Rattle.ulfm_carrier.proofs.Last.{at_last, at_front}
 use Rattle.ulfm_carrier.proofs.Places.{at_push}
@@ -38,5 +38,5 @@ module _ (all : List SharedEnds) (place : ℕ) where
     | inr h ↦ ap (λ (y : ℕ × List Item). y.0) h.1 ∙ sym (h.0 ∙ told-many n)
   ]
 
-  pub told_of_all : (n : ℕ) (v w : View) → w ≡ told_view v (told_by all place n) → v.made ≡ n → IsToldOfAll w
-  told_of_all n v w is made = subst IsToldOfAll (sym is) (told-many n ∙ sym made, told-number n)
+  pub told_of_all : (n : ℕ) (v w : View) → w ≡ told_view v (told_by all place n) → v.made ≡ n → HasAllReceipts w
+  told_of_all n v w is made = subst HasAllReceipts (sym is) (told-many n ∙ sym made, told-number n)

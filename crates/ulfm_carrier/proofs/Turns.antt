@@ -1,5 +1,5 @@
 -- Upwards and round: each place comes once in turn.
-use Rattle.std.proofs.Common.{◌≡◌, ◌≢◌, ◌<◌, ◌≤◌, ◌+◌, ◌-◌, ◌*◌, ◌/◌, ◌%◌, inl, inr, ℕ, suc, [], map, length, ap, sym, ◌∙◌, arith}
+use Rattle.std.proofs.Common.{◌≡◌, ◌≢◌, ◌<◌, ◌≤◌, ◌+◌, ◌-◌, ◌*◌, ◌/◌, ◌%◌, ◌↔◌, inl, inr, ℕ, zero, suc, Bool, true, false, IsTrue, [], map, length, refl, ap, sym, ◌∙◌, arith}
 use Rattle.std.proofs.lemmas.Bool.{cases_lt}
 use Rattle.std.proofs.lemmas.Nat.{div-add-mod', mod_below, mod-mul-add}
 use Rattle.std.proofs.Math.Nat.{mul-le-mul_right, suc-mul}
@@ -37,3 +37,8 @@ none_seen e s c many round p = elim (cases_lt p c) [
   | inl below ↦ let t = turn_of s c p below in ap (λ q. seen_from e q) (sym t.2) ∙ round t.0 t.1
   | inr above ↦ get_or_past (map seen_in e.ins.items) p [] (omega (arith, length-map e.ins.items seen_in))
 ]
+
+-- a look that tells nothing saw nothing
+pub not_found : (b : Bool) (n : ℕ) → (IsTrue b ↔ (0 < n)) → b ≡ false → n ≡ 0
+not_found b zero is nothing = refl
+not_found b (suc n) is nothing = let yes : b ≡ true = is.1 (omega arith) in absurd (cc)

@@ -3,7 +3,8 @@ use Rattle.std.proofs.Common.{◌≡◌, ◌<◌, ℕ, List, length, map, set, g
 use Rattle.std.proofs.Math.Seq.{map-set_same}
 use Rattle.ulfm_carrier.specs.declared.shared_ends.SharedName.{SharedName}
 use Rattle.ulfm_carrier.specs.declared.shared_ends.SharedEnds.{SharedEnds}
-use Rattle.ulfm_carrier.specs.Shared.{shared_name, IsReady, AllReady, OneCall}
+use Rattle.ulfm_carrier.specs.Shared.{shared_name, IsReady, OneCall}
+use Rattle.ulfm_carrier.specs.inside.Emptying.{AllReady}
 use Rattle.ulfm_carrier.proofs.Places.{at_read, each_set}
 use Rattle.ulfm_carrier.proofs.Closing.{number, all_outs}
 

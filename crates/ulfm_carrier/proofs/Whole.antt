@@ -1,5 +1,5 @@
 -- With all rings made, the ends are those of one call, and nothing was done with them.
-use Rattle.std.proofs.Common.{◌≡◌, ◌<◌, ◌≤◌, ◌*◌, ℕ, zero, suc, List, [], ◌∷◌, length, map, get_or, sum, vec_len, refl, ap, sym, ◌∙◌, arith, slice_get}
+use Rattle.std.proofs.Common.{◌≡◌, ◌<◌, ◌≤◌, ◌*◌, ℕ, zero, suc, List, [], ◌∷◌, length, map, get_or, sum, vec_len, refl, ap, sym, ◌∙◌, arith, subst, slice_get}
 use Rattle.std.proofs.lemmas.List.{length-map}
 use Rattle.std.proofs.lemmas.List.Sums.{sum_by-cons}
 use Rattle.std.proofs.lemmas.Option.{slice_get_within}
@@ -9,8 +9,8 @@ use Rattle.ulfm_carrier.specs.declared.lane_ends.LaneEnds.{LaneEnds}
 use Rattle.ulfm_carrier.specs.Carried.{item_of}
 use Rattle.ulfm_carrier.specs.Family.{AllFresh}
 use Rattle.ulfm_base.specs.Lists.{at}
-use Rattle.ulfm_carrier.specs.Lanes.{outlet_name, inlet_name, inlet_capacity, sent_by, taken_by, lane_name, lane_pushed, lane_taken, known_room, IsReady, OneCall}
-use Rattle.ulfm_carrier.specs.Wiring.{AreWired}
+use Rattle.ulfm_carrier.specs.Lanes.{outlet_name, inlet_name, inlet_capacity, pushed_into, taken_by, lane_name, lane_pushed, lane_taken, known_room, IsReady, OneCall}
+use Rattle.ulfm_carrier.specs.inside.Wiring.{AreWired}
 
 pub at_map : {X Y : Type 0} (f : X → Y) (xs : List X) (k : ℕ) (y : Y) → at (map f xs) k y → (x : X) × at xs k x × (y ≡ f x)
 at_map f [] k y here = absurd (cc)
@@ -73,6 +73,7 @@ module _ (n capacity : ℕ) (ends : List LaneEnds) (w : AreWired n capacity n 0 
           empty = v.nothing_left;
           room = let s = sum_equal inlet_capacity capacity e.ins.items (λ j i there. (v.new_ins j i there).2) in let r = v.room in let p = ap (λ m. m * capacity) ins in omega arith;
         };
+        own_ring = subst (λ m. slice_get (map outlet_name e.outs.items) m ≡ slice_get (map inlet_name e.ins.items) m) (sym v.number) (w.joined k k e e here here);
         no_inbox = v.no_inbox;
         inbox_for_each = let r = v.inbox_for_each in omega arith;
       }
@@ -82,7 +83,7 @@ module _ (n capacity : ℕ) (ends : List LaneEnds) (w : AreWired n capacity n 0 
       let v = w.each k e here in record {
         is_ready = ready few k e here;
         counted = omega (arith, outs_all k e here, e.outs.ok, w.as_many);
-        nothing_pushed = all_empty (sent_by e.me) e.outs.items (λ j p there. ap (map (item_of e.me)) (v.new_outs j p there).0);
+        nothing_pushed = all_empty (pushed_into e.me) e.outs.items (λ j p there. ap (map (item_of e.me)) (v.new_outs j p there).0);
         nothing_taken = all_empty taken_by e.ins.items (λ j i there. (v.new_ins j i there).1);
       }
 

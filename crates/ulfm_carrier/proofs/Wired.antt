@@ -8,7 +8,7 @@ use Rattle.ulfm_carrier.specs.declared.inlet.Inlet.{Inlet}
 use Rattle.ulfm_carrier.specs.declared.lane_ends.LaneEnds.{LaneEnds}
 use Rattle.ulfm_base.specs.Lists.{at}
 use Rattle.ulfm_carrier.specs.Lanes.{Outlet, outlet_name, inlet_name}
-use Rattle.ulfm_carrier.specs.Wiring.{IsNewOutlet, IsNewInlet, IsWired, AreWired}
+use Rattle.ulfm_carrier.specs.inside.Wiring.{IsNewOutlet, IsNewInlet, IsWired, AreWired}
 use Rattle.ulfm_carrier.proofs.Places.{view_pushed, view_unpushed}
 use Rattle.ulfm_carrier.proofs.Gathered.{each_push}
 use Rattle.ulfm_carrier.proofs.Wires.{Adds}

@@ -15,7 +15,7 @@ pub record Keeps {E N : Type 0} (name : E → N) (pushed taken : E → ℕ → L
 
 -- There is an inbox for each end, and for each ordered pair of ends what was pushed is what was taken and then what is
 -- left. Nothing is left of others.
-pub record Settled {E : Type 0} (pushed taken : E → ℕ → List Item) (ends : List E) (inboxes : List (Vec (WorldRank × Item) Global)) : Type 0 where
+pub record IsGathered {E : Type 0} (pushed taken : E → ℕ → List Item) (ends : List E) (inboxes : List (Vec (WorldRank × Item) Global)) : Type 0 where
   pub inbox_for_each : length inboxes ≡ length ends
   pub flows : (s d : ℕ) (sender receiver : E) (inbox : Vec (WorldRank × Item) Global) → at ends s sender → at ends d receiver → at inboxes d inbox → pushed sender d ≡ taken receiver s ++ items_from s inbox.items
   pub no_others : (s d : ℕ) (inbox : Vec (WorldRank × Item) Global) → at inboxes d inbox → length ends ≤ s → items_from s inbox.items ≡ []

@@ -36,8 +36,8 @@ abbrev pub inlet_name : Inlet → RingName
 inlet_name i = reader_name i.ring
 
 -- what a rank pushed into a ring
-abbrev pub sent_by : WorldRank → Outlet → List Item
-sent_by me outlet = map (item_of me) (sent outlet)
+abbrev pub pushed_into : WorldRank → Outlet → List Item
+pushed_into me outlet = map (item_of me) (sent outlet)
 
 -- what was received, without what a gathering took last
 abbrev pub shown : Option ℕ → List Carried → List Carried
@@ -62,7 +62,7 @@ lane_name e = record { place = e.me.number; outs = map outlet_name e.outs.items;
 
 -- what was pushed to the rank d
 abbrev pub lane_pushed : LaneEnds → ℕ → List Item
-lane_pushed e d = slice_index_or (map (sent_by e.me) e.outs.items) d []
+lane_pushed e d = slice_index_or (map (pushed_into e.me) e.outs.items) d []
 
 -- what was taken from the rank s
 abbrev pub lane_taken : LaneEnds → ℕ → List Item
@@ -77,21 +77,22 @@ abbrev pub known_room : LaneEnds → ℕ → ℕ
 known_room e d = slice_index_or (map known_free e.outs.items) d 0
 
 -- the ring from the rank k, not gathered yet
-abbrev pub IsOpen : ℕ → Inlet → Type 0
-IsOpen k i = (i.source.number ≡ k) × (i.gathered ≡ None)
+abbrev pub IsOpenRing : ℕ → Inlet → Type 0
+IsOpenRing k i = (i.source.number ≡ k) × (i.gathered ≡ None)
 
 -- an end with its rings to and from each rank, and with room for all that its inbox can hold
 pub record HasRings (e : LaneEnds) : Type 0 where
   pub square : length e.ins.items ≡ length e.outs.items
   pub inside : e.me.number < length e.outs.items
   pub few : length e.outs.items ≤ 8
-  pub live : (k : ℕ) (i : Inlet) → at e.ins.items k i → IsOpen k i
+  pub live : (k : ℕ) (i : Inlet) → at e.ins.items k i → IsOpenRing k i
   pub empty : e.left.items ≡ []
   pub room : sum (map inlet_capacity e.ins.items) ≤ vec_capacity e.left
 
--- the same, with room for a list of inboxes
+-- The same, with room for a list of inboxes. The ring from the rank to itself is one ring at both ends.
 pub record IsReady (e : LaneEnds) : Type 0 where
   pub rings : HasRings e
+  pub own_ring : slice_get (map outlet_name e.outs.items) e.me.number ≡ slice_get (map inlet_name e.ins.items) e.me.number
   pub no_inbox : e.inboxes.items ≡ []
   pub inbox_for_each : length e.outs.items ≤ vec_capacity e.inboxes
 
@@ -114,7 +115,3 @@ pub record OneCall (names : List LaneName) : Type 0 where
   pub outs : (i : ℕ) (x : LaneName) → at names i x → length x.outs ≡ length names
   pub ins : (i : ℕ) (x : LaneName) → at names i x → length x.ins ≡ length names
   pub joined : (i j : ℕ) (x y : LaneName) → at names i x → at names j y → slice_get x.outs j ≡ slice_get y.ins i
-
--- none of these ends was gathered yet
-abbrev pub AllReady : List LaneEnds → Type 0
-AllReady ends = (k : ℕ) (e : LaneEnds) → at ends k e → IsReady e

@@ -1,8 +1,6 @@
-pub mod Carried
 pub mod Family
-pub mod Inbox
+pub mod Carried
 pub mod Lanes
-pub mod Seating
+pub mod Inbox
 pub mod Shared
-pub mod Tagged
-pub mod Wiring
+pub mod inside

@@ -1,17 +1,15 @@
 -- What contracts see of the ends of shared inboxes.
 use Rattle.std.specs.Prelude.{◌≡◌, ◌<◌, ◌≤◌, ◌-◌, ℕ, List, [], ◌++◌, length, map, take, vec_capacity, Option, None, Some, slice_index_or}
 use Rattle.std.specs.Arc.{arc_value}
-use Rattle.std.specs.declared.alloc.Global.{Global}
-use Rattle.std.specs.declared.vec.Vec.{Vec}
 use Rattle.crossbeam_queue.specs.Passes.{view, IsPassOf, ruled_capacity}
 use Rattle.crossbeam_queue.specs.Ring.{idle}
 use Rattle.ulfm_base.specs.declared.item.Item.{Item}
-use Rattle.ulfm_carrier.specs.declared.inbox.Role.TheVariants as role
 use Rattle.ulfm_carrier.specs.declared.shared_ends.SharedName.{SharedName}
 use Rattle.ulfm_carrier.specs.declared.shared_ends.SharedEnds.{SharedEnds}
 use Rattle.ulfm_base.specs.Items.{items_from}
 use Rattle.ulfm_base.specs.Lists.{at}
-use Rattle.ulfm_carrier.specs.Inbox.{Signed, InboxPass, spent, EachIsTakenAndHeld}
+use Rattle.ulfm_carrier.specs.Inbox.{Signed, InboxPass, spent}
+use Rattle.ulfm_carrier.specs.declared.inbox.Role.TheVariants as role
 
 -- a pass without what it knows
 abbrev pub pass_name : InboxPass → InboxPass
@@ -42,14 +40,11 @@ shared_taken e s = items_from s (shown e.gathered (view e.inlet).taken)
 abbrev pub inbox_capacity : SharedEnds → ℕ → ℕ
 inbox_capacity e d = slice_index_or (map (λ inbox. ruled_capacity inbox) (arc_value e.inboxes).items) d 0
 
--- What this end pushed to the rank d is what that rank took of it and then what its inbox holds of it.
-abbrev pub PushedIsTakenAndHeldAt : SharedEnds → ℕ → List Signed → Type 0
-PushedIsTakenAndHeldAt e d held = (taken : List Signed) × (shared_pushed e d ≡ items_from e.me.number (taken ++ held))
-
--- At a step at which this end's inbox held these, what each sender had pushed to it is what was taken of it.
-pub record EachIsTakenAt (e : SharedEnds) (held : List Signed) : Type 0 where
-  pub step : EachIsTakenAndHeld (view e.inlet) held
-  pub all_taken : (p : ℕ) → step.rule.pushed p ≡ shared_taken e p
+-- What this end pushed to itself is what it took of itself and then what is held of it, where its inbox holds these.
+-- Nothing was taken or is held of others than the ranks of its call.
+pub record OwnIsTakenAndHeldAt (e : SharedEnds) (held : List Signed) : Type 0 where
+  pub own : shared_pushed e e.me.number ≡ shared_taken e e.me.number ++ items_from e.me.number held
+  pub no_others : (p : ℕ) → length e.outs.items ≤ p → shared_taken e p ++ items_from p held ≡ []
 
 -- an end with a pass for each inbox, of at most 8
 pub record HasPasses (e : SharedEnds) : Type 0 where
@@ -74,7 +69,7 @@ pub record IsReceiver (e : SharedEnds) : Type 0 where
 -- the same, and no sender has closed
 pub record MayReceive (e : SharedEnds) : Type 0 where
   pub receiver : IsReceiver e
-  pub told : (view e.inlet).told ≡ []
+  pub receipts : (view e.inlet).receipts ≡ []
 
 -- an end that wasn't gathered yet, with room for a list of lists
 pub record IsReady (e : SharedEnds) : Type 0 where
@@ -84,20 +79,6 @@ pub record IsReady (e : SharedEnds) : Type 0 where
   pub no_list : e.lists.items ≡ []
   pub list_for_each : length e.outs.items ≤ vec_capacity e.lists
 
--- none of these ends was gathered yet
-abbrev pub AllReady : List SharedEnds → Type 0
-AllReady ends = (k : ℕ) (e : SharedEnds) → at ends k e → IsReady e
-
--- the inboxes below d are gathered, and no others
-pub record IsOpenFrom (d k : ℕ) (e : SharedEnds) : Type 0 where
-  pub passes : HasPasses e
-  pub senders : (j : ℕ) → d ≤ j → MaySend e j
-  pub receiver : d ≤ k → MayReceive e
-
--- the same, of all ends by their places
-abbrev pub AreOpenFrom : ℕ → List SharedEnds → Type 0
-AreOpenFrom d ends = (k : ℕ) (e : SharedEnds) → at ends k e → IsOpenFrom d k e
-
 -- These are all ends of one call, by their places: each pass for the inbox j is of the queue from which the end j
 -- receives.
 pub record OneCall (names : List SharedName) : Type 0 where
@@ -105,11 +86,3 @@ pub record OneCall (names : List SharedName) : Type 0 where
   pub placed : (i : ℕ) (x : SharedName) → at names i x → x.place ≡ i
   pub outs : (i : ℕ) (x : SharedName) → at names i x → length x.outs ≡ length names
   pub joined : (i j : ℕ) (x y : SharedName) (out : InboxPass) → at names i x → at names j y → at x.outs j out → out.table_id ≡ y.inlet.table_id
-
--- the end with other passes for the inboxes
-abbrev pub with_outs : SharedEnds → Vec InboxPass Global → SharedEnds
-with_outs e outs = record e { outs = outs }
-
--- the end with another pass of its own inbox
-abbrev pub with_inlet : SharedEnds → InboxPass → SharedEnds
-with_inlet e inlet = record e { inlet = inlet }

@@ -5,11 +5,13 @@ ghost use Rattle.crossbeam_queue.specs.Passes.{view, IsSamePass};
 ghost use Rattle.ulfm_base.specs.declared.item.Item.{Item as Sent};
 ghost use Rattle.ulfm_carrier.specs.declared.inbox.Role.TheVariants as role;
 ghost use Rattle.ulfm_carrier.specs.declared.shared_ends.SharedEnds.{SharedEnds as Shared};
-ghost use Rattle.ulfm_carrier.specs.Family.{Keeps, Settled};
+ghost use Rattle.ulfm_carrier.specs.Family.{Keeps, IsGathered};
 ghost use Rattle.ulfm_base.specs.Items.{items_from};
 ghost use Rattle.ulfm_base.specs.Lists.{at};
-ghost use Rattle.ulfm_carrier.specs.Inbox.{InboxPass as Pass, in_role, after_told, IsToldOfAll};
-ghost use Rattle.ulfm_carrier.specs.Shared.{pass_name, pushed_with, shared_name, shared_pushed, shared_taken, with_outs, with_inlet, HasPasses, MaySend, IsReceiver, IsReady, AreOpenFrom, OneCall};
+ghost use Rattle.ulfm_carrier.specs.Inbox.{InboxPass as Pass};
+ghost use Rattle.ulfm_carrier.specs.inside.Passes.{in_role, after_receipt};
+ghost use Rattle.ulfm_carrier.specs.inside.Emptying.{HasAllReceipts, with_outs, with_inlet, AreOpenFrom};
+ghost use Rattle.ulfm_carrier.specs.Shared.{pass_name, pushed_with, shared_name, shared_pushed, shared_taken, HasPasses, MaySend, IsReceiver, IsReady, OneCall};
 
 use crate::inbox::{Inbox, InboxPass, close, hear, take_all};
 use crate::residue::Residue;
@@ -26,7 +28,7 @@ pub(crate) fn gather_shared<R: Wait>(
     requires family { OneCall (map shared_name ends.items) }
     requires ready { (k : ℕ) (e : Shared) → at ends.items k e → IsReady e }
     ensures same { Keeps shared_name shared_pushed shared_taken ends.items result.1.items }
-    ensures residue { Settled shared_pushed shared_taken ends.items result.0.inboxes.items }
+    ensures residue { IsGathered shared_pushed shared_taken ends.items result.0.inboxes.items }
 {
     let alloc = *ends.allocator();
     let first = &mut ends[0];
@@ -82,7 +84,7 @@ impl SharedEnds {
         requires receipt { (receipt.table_id ≡ self.old.inlet.table_id) × (receipt.me.1 ≡ []) × ((view receipt).role ≡ role.Receipt) }
         ensures rest { self.new ≡ with_inlet self.old self.new.inlet }
         ensures inlet { IsSamePass self.old.inlet self.new.inlet }
-        ensures told { view self.new.inlet ≡ after_told (view self.old.inlet) (view receipt) }
+        ensures receipts { view self.new.inlet ≡ after_receipt (view self.old.inlet) (view receipt) }
     {
         let inbox: &Inbox = &self.inboxes[self.me.number as usize];
         hear(inbox, &mut self.inlet, receipt);
@@ -92,11 +94,11 @@ impl SharedEnds {
     fn empty<R: Wait>(&mut self, rt: &R) -> Vec<(WorldRank, Item)>
         requires passes { HasPasses self.old }
         requires receiver { IsReceiver self.old }
-        requires told { IsToldOfAll (view self.old.inlet) }
+        requires receipts { HasAllReceipts (view self.old.inlet) }
         ensures rest { (self.new.me ≡ self.old.me) × (arc_value self.new.inboxes ≡ arc_value self.old.inboxes) × (self.new.outs ≡ self.old.outs) }
         ensures inlet { IsSamePass self.old.inlet self.new.inlet }
         ensures taken { (s : ℕ) → shared_taken self.new s ≡ shared_taken self.old s }
-        ensures left { (k : ℕ) (x : ℕ × List Sent) → at (view self.old.inlet).told k x → x.1 ≡ shared_taken self.old x.0 ++ items_from x.0 result.items }
+        ensures left { (k : ℕ) (x : ℕ × List Sent) → at (view self.old.inlet).receipts k x → x.1 ≡ shared_taken self.old x.0 ++ items_from x.0 result.items }
         ensures no_others { (s : ℕ) → vec_len self.old.outs ≤ s → items_from s result.items ≡ [] }
     {
         let alloc = *self.left.allocator();

@@ -1,7 +1,7 @@
 //! What every carrier owes to the ranks.
 ghost use Rattle.std.specs.Prelude.{◌≡◌, ◌≢◌, ◌<◌, ℕ, List, [], ◌∷◌, ◌++◌, map, MatchResult, MatchOption};
 ghost use Rattle.ulfm_base.specs.declared.item.Item.{Item as Sent};
-ghost use Rattle.ulfm_carrier.specs.Family.{Keeps, Settled};
+ghost use Rattle.ulfm_carrier.specs.Family.{Keeps, IsGathered};
 ghost use Rattle.ulfm_base.specs.Items.{ComesFrom};
 ghost use Rattle.ulfm_base.specs.Lists.{at};
 
@@ -68,5 +68,5 @@ pub trait Ends: Drop {
         requires family { one_call (map name ends.items) }
         requires ready { (k : ℕ) (e : Self) → at ends.items k e → ready e }
         ensures same { Keeps name pushed taken ends.items result.1.items }
-        ensures residue { Settled pushed taken ends.items result.0.inboxes.items };
+        ensures residue { IsGathered pushed taken ends.items result.0.inboxes.items };
 }

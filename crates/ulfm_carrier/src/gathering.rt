@@ -1,7 +1,7 @@
 //! What is left in the rings, once all ends are in one hand.
 ghost use Rattle.std.specs.Prelude.{◌≡◌, ◌≢◌, ◌<◌, ◌≤◌, ◌++◌, [], ℕ, length, map, vec_len};
 ghost use Rattle.ulfm_carrier.specs.declared.lane_ends.LaneEnds.{LaneEnds as Lanes};
-ghost use Rattle.ulfm_carrier.specs.Family.{Keeps, Settled};
+ghost use Rattle.ulfm_carrier.specs.Family.{Keeps, IsGathered};
 ghost use Rattle.ulfm_base.specs.Items.{items_from};
 ghost use Rattle.ulfm_base.specs.Lists.{at};
 ghost use Rattle.ulfm_carrier.specs.Lanes.{lane_name, lane_pushed, lane_taken, HasRings, IsReady, OneCall};
@@ -16,7 +16,7 @@ pub(crate) fn gather_all(mut ends: Vec<LaneEnds>) -> (Residue, Vec<LaneEnds>)
     requires family { OneCall (map lane_name ends.items) }
     requires ready { (k : ℕ) (e : Lanes) → at ends.items k e → IsReady e }
     ensures same { Keeps lane_name lane_pushed lane_taken ends.items result.1.items }
-    ensures residue { Settled lane_pushed lane_taken ends.items result.0.inboxes.items }
+    ensures residue { IsGathered lane_pushed lane_taken ends.items result.0.inboxes.items }
 {
     let alloc = *ends.allocator();
     let first = &mut ends[0];

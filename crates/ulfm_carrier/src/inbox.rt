@@ -3,7 +3,9 @@ ghost use Rattle.std.specs.Prelude.{◌≡◌, ◌<◌, ◌≤◌, [], IfOk, Mat
 ghost use Rattle.crossbeam_queue.specs.Fifo.{Held};
 ghost use Rattle.crossbeam_queue.specs.Passes.{view, IsPassOf, IsSamePass, ruled_capacity};
 ghost use Rattle.ulfm_base.specs.Items.{ComesFrom};
-ghost use Rattle.ulfm_carrier.specs.Inbox.{Signed, receiver, sender, after_push, after_all, one_more, in_role, after_told, PushedIsTakenAndHeld, EachIsTakenAndHeld, ToldIsTaken, Took, IsToldOfAll, AllBelow};
+ghost use Rattle.ulfm_carrier.specs.Inbox.{Signed, receiver, ReceiptsAreTakenAndHeld};
+ghost use Rattle.ulfm_carrier.specs.inside.Passes.{sender, after_push, after_all, one_more, in_role, after_receipt, TakesOne};
+ghost use Rattle.ulfm_carrier.specs.inside.Emptying.{ReceiptsAreTaken, HasAllReceipts, AllBelow};
 ghost use Rattle.ulfm_carrier.specs.declared.inbox.Role.TheVariants as role;
 
 use crossbeam_queue::protocol::{Join, Lesson, Outcome, Protocol, Split};
@@ -20,6 +22,8 @@ pub enum Role {
     /// What is left of a sender that has closed.
     Receipt,
     Receiver,
+    /// A sender that is the receiver too.
+    Owner,
 }
 
 /// What a pass of an inbox knows. No value of it is made.
@@ -34,7 +38,7 @@ pub struct View {
     /// What the receiver took.
     pub taken: LinkedList<(WorldRank, Item)>,
     /// What the receiver was told of closed senders: their numbers, and what they pushed.
-    pub told: LinkedList<(u8, LinkedList<Item>)>,
+    pub receipts: LinkedList<(u8, LinkedList<Item>)>,
 }
 
 /// The rule of an inbox: what a sender pushed is what was taken of it and then what is held of it.
@@ -57,35 +61,36 @@ pub type InboxPass = Pass<(WorldRank, Item), View>;
 struct Pushes;
 
 impl Outcome<(WorldRank, Item), View> for Pushes {
-    ghost use Rattle.ulfm_carrier.specs.Inbox.{after_push};
+    ghost use Rattle.ulfm_carrier.specs.inside.Passes.{after_push};
 
     ghost then = { λ v x w. w ≡ after_push v x.1 };
 }
 
+// A sender alone learns nothing of what the inbox holds.
 impl Lesson<(WorldRank, Item), View> for Pushes {
-    ghost use Rattle.ulfm_carrier.specs.Inbox.{PushedIsTakenAndHeld};
+    ghost use Rattle.std.specs.Prelude.{⊤};
 
-    ghost fact = { PushedIsTakenAndHeld };
+    ghost fact = { λ v held. ⊤ };
 }
 
 struct Takes;
 
 impl Outcome<(WorldRank, Item), View> for Takes {
-    ghost use Rattle.ulfm_carrier.specs.Inbox.{Took};
+    ghost use Rattle.ulfm_carrier.specs.inside.Passes.{TakesOne};
 
-    ghost then = { Took };
+    ghost then = { TakesOne };
 }
 
 impl Lesson<(WorldRank, Item), View> for Takes {
-    ghost use Rattle.ulfm_carrier.specs.Inbox.{EachIsTakenAndHeld};
+    ghost use Rattle.ulfm_carrier.specs.Inbox.{ReceiptsAreTakenAndHeld};
 
-    ghost fact = { EachIsTakenAndHeld };
+    ghost fact = { ReceiptsAreTakenAndHeld };
 }
 
 struct Makes;
 
 impl Split<View> for Makes {
-    ghost use Rattle.ulfm_carrier.specs.Inbox.{one_more, sender};
+    ghost use Rattle.ulfm_carrier.specs.inside.Passes.{one_more, sender};
 
     ghost left = { one_more };
 
@@ -95,7 +100,7 @@ impl Split<View> for Makes {
 struct Closes;
 
 impl Split<View> for Closes {
-    ghost use Rattle.ulfm_carrier.specs.Inbox.{in_role};
+    ghost use Rattle.ulfm_carrier.specs.inside.Passes.{in_role};
     ghost use Rattle.ulfm_carrier.specs.declared.inbox.Role.TheVariants as role;
 
     ghost left = { in_role role.Spent };
@@ -106,9 +111,10 @@ impl Split<View> for Closes {
 struct Tells;
 
 impl Join<View> for Tells {
-    ghost use Rattle.ulfm_carrier.specs.Inbox.{after_told, spent};
+    ghost use Rattle.ulfm_carrier.specs.inside.Passes.{after_receipt};
+    ghost use Rattle.ulfm_carrier.specs.Inbox.{spent};
 
-    ghost both = { after_told };
+    ghost both = { after_receipt };
 
     ghost spent = { spent };
 }
@@ -130,7 +136,7 @@ pub(crate) fn next_sender(inbox: &Inbox, inlet: &mut InboxPass) -> InboxPass
     inbox.another::<Makes>(inlet)
 }
 
-/// Pushes an item. It comes back only where at one step of the call the inbox was full.
+/// Pushes an item.
 pub(crate) fn send<R: Wait>(
     rt: &R,
     inbox: &Inbox,
@@ -142,7 +148,7 @@ pub(crate) fn send<R: Wait>(
     requires item { ComesFrom source.number item }
     ensures out { IsSamePass out.old out.new }
     ensures pushed { MatchResult result (λ _. view out.new ≡ after_push (view out.old) item)
-        (λ back. (back ≡ item) × (view out.new ≡ view out.old) × Held (ruled_capacity inbox.now) (PushedIsTakenAndHeld (view out.old))) }
+        (λ back. (back ≡ item) × (view out.new ≡ view out.old)) }
 {
     match inbox.push_as::<Pushes, R>(rt, out, (source, item)) {
         Ok(()) => Ok(()),
@@ -150,17 +156,13 @@ pub(crate) fn send<R: Wait>(
     }
 }
 
-/// Takes the oldest item. None is found only where at one step of the call the inbox was empty, so that all that each
-/// sender had pushed was taken.
-pub(crate) fn receive<R: Wait>(
-    rt: &R,
-    inbox: &Inbox,
-    inlet: &mut InboxPass,
-) -> Option<(WorldRank, Item)>
+/// Takes the oldest item. None is found only where at one step of the call the inbox was empty, so that all that closed
+/// senders pushed was taken.
+fn receive<R: Wait>(rt: &R, inbox: &Inbox, inlet: &mut InboxPass) -> Option<(WorldRank, Item)>
     requires { IsPassOf inbox.now inlet.old × ((view inlet.old).role ≡ role.Receiver) }
     ensures inlet { IsSamePass inlet.old inlet.new }
-    ensures taken { MatchOption result ((view inlet.new ≡ view inlet.old) × Held 0 (EachIsTakenAndHeld (view inlet.old)))
-        (λ found. Took (view inlet.old) found (view inlet.new)) }
+    ensures taken { MatchOption result ((view inlet.new ≡ view inlet.old) × Held 0 (ReceiptsAreTakenAndHeld (view inlet.old)))
+        (λ found. TakesOne (view inlet.old) found (view inlet.new)) }
 {
     inbox.pop_as::<Takes, R>(rt, inlet)
 }
@@ -179,7 +181,7 @@ pub(crate) fn hear(inbox: &Inbox, inlet: &mut InboxPass, receipt: InboxPass)
     requires inlet { IsPassOf inbox.now inlet.old × ((view inlet.old).role ≡ role.Receiver) }
     requires receipt { IsPassOf inbox.now receipt × ((view receipt).role ≡ role.Receipt) }
     ensures inlet { IsSamePass inlet.old inlet.new }
-    ensures told { view inlet.new ≡ after_told (view inlet.old) (view receipt) }
+    ensures receipts { view inlet.new ≡ after_receipt (view inlet.old) (view receipt) }
 {
     inbox.absorb::<Tells>(inlet, receipt);
 }
@@ -192,12 +194,12 @@ pub(crate) fn take_all<R: Wait>(
     left: &mut Vec<(WorldRank, Item)>,
 )
     requires inlet { IsPassOf inbox.now inlet.old × ((view inlet.old).role ≡ role.Receiver) }
-    requires told { IsToldOfAll (view inlet.old) }
+    requires receipts { HasAllReceipts (view inlet.old) }
     requires left { left.old.items ≡ [] }
     requires room { ruled_capacity inbox.now ≤ vec_capacity left.old }
     ensures inlet { IsSamePass inlet.old inlet.new }
     ensures taken { view inlet.new ≡ after_all (view inlet.old) left.new.items }
-    ensures all { ToldIsTaken (view inlet.new) }
+    ensures all { ReceiptsAreTaken (view inlet.new) }
     ensures senders { AllBelow (view inlet.old).made left.new.items }
 {
     let count = inbox.len_as::<Takes, R>(rt, inlet);

@@ -1,6 +1,6 @@
 //! The receiver's end of the ring from one rank.
 ghost use Rattle.std.specs.Prelude.{◌≡◌, ◌+◌, ◌<◌, ◌≤◌, ◌++◌, ◌∷◌, ◌↔◌, [], List, None, length, map, vec_len, vec_capacity, IsTrue};
-ghost use Rattle.rtrb.specs.Ring.{sent, received, IsPair, consumer_capacity};
+ghost use Rattle.rtrb.specs.Ring.{sent, received, known_free, IsPair, consumer_capacity};
 ghost use Rattle.ulfm_base.specs.declared.item.Item.{Item as Sent};
 
 use crate::carried::{Carried, sign};
@@ -18,8 +18,9 @@ pub(crate) struct Inlet {
 
 impl Inlet {
     ghost use Rattle.ulfm_base.specs.Items.{ComesFrom};
-    ghost use Rattle.ulfm_carrier.specs.Lanes.{inlet_name, reader_name, outlet_name, inlet_capacity, taken_by, sent_by, seen_in};
-    ghost use Rattle.ulfm_carrier.specs.Tagged.{with_sender};
+    ghost use Rattle.ulfm_carrier.specs.Carried.{item_of};
+    ghost use Rattle.ulfm_carrier.specs.Lanes.{inlet_name, reader_name, outlet_name, inlet_capacity, taken_by, pushed_into, seen_in};
+    ghost use Rattle.ulfm_carrier.specs.inside.Tagged.{with_sender};
 
     /// The end of this ring from a rank.
     pub(crate) fn new(source: WorldRank, ring: Consumer<Carried>) -> Inlet
@@ -43,6 +44,19 @@ impl Inlet {
         !self.ring.is_empty()
     }
 
+    /// The same of a ring whose other end is this one: all that was pushed was taken, or is found.
+    pub(crate) fn has_item_beside(&mut self, out: &mut Producer<Carried>) -> bool
+        requires pair { IsPair out.old self.old.ring }
+        requires live { self.old.gathered ≡ None }
+        ensures name { (inlet_name self.new ≡ inlet_name self.old) × (inlet_capacity self.new ≡ inlet_capacity self.old) }
+        ensures same { (self.new.source ≡ self.old.source) × (self.new.gathered ≡ None) × (taken_by self.new ≡ taken_by self.old) }
+        ensures out { (outlet_name out.new ≡ outlet_name out.old) × (sent out.new ≡ sent out.old) × (known_free out.old ≤ known_free out.new) }
+        ensures found { IsTrue result ↔ (0 < length (seen_in self.new)) }
+        ensures all { pushed_into self.old.source out.old ≡ taken_by self.old ++ map (item_of self.old.source) (seen_in self.new) }
+    {
+        self.ring.slots_beside(out) > 0
+    }
+
     /// Takes the item that was found.
     pub(crate) fn take(&mut self) -> Item
         requires live { self.old.gathered ≡ None }
@@ -64,7 +78,7 @@ impl Inlet {
         ensures name { (inlet_name self.new ≡ inlet_name self.old) × (inlet_capacity self.new ≡ inlet_capacity self.old) }
         ensures same { (self.new.source ≡ self.old.source) × (taken_by self.new ≡ taken_by self.old) }
         ensures out { (outlet_name out.new ≡ outlet_name out.old) × (sent out.new ≡ sent out.old) }
-        ensures left { (rest : List Sent) × (sent_by self.old.source out.old ≡ taken_by self.old ++ rest) × (left.new.items ≡ left.old.items ++ map (with_sender self.old.source) rest) }
+        ensures left { (rest : List Sent) × (pushed_into self.old.source out.old ≡ taken_by self.old ++ rest) × (left.new.items ≡ left.old.items ++ map (with_sender self.old.source) rest) }
         ensures room { (vec_capacity left.new ≡ vec_capacity left.old) × (vec_len left.new ≤ vec_len left.old + inlet_capacity self.old) }
     {
         let count = self.ring.slots_beside(out);

@@ -1,5 +1,5 @@
 //! A rank's ends of the rings to and from each rank.
-ghost use Rattle.std.specs.Prelude.{◌≡◌, ◌≢◌, ◌<◌, ◌≤◌, ◌+◌, ◌++◌, ◌↔◌, [], ◌∷◌, ℕ, None, length, vec_len, IsTrue, MatchResult, MatchOption, OnOk, OnErr, IsOk, IfNone, IfSome};
+ghost use Rattle.std.specs.Prelude.{◌≡◌, ◌≢◌, ◌<◌, ◌≤◌, ◌+◌, ◌++◌, ◌↔◌, [], ◌∷◌, ℕ, None, length, map, vec_len, IsTrue, MatchResult, MatchOption, OnOk, OnErr, IsOk, IfNone, IfSome};
 
 use crate::carried::Carried;
 use crate::ends::Ends;
@@ -46,6 +46,7 @@ pub struct LaneEnds {
 
 impl LaneEnds {
     ghost use Rattle.ulfm_base.specs.Items.{ComesFrom};
+    ghost use Rattle.ulfm_carrier.specs.Carried.{item_of};
     ghost use Rattle.ulfm_carrier.specs.Lanes.{lane_name, lane_pushed, lane_taken, known_room, seen_from, IsReady, IsFoundInTurn};
 
     /// `push`, which waits for nobody and takes no memory.
@@ -76,7 +77,8 @@ impl LaneEnds {
     }
 
     /// `pop`, which waits for nobody and takes no memory. It looks at the ranks upwards and round, from the one after the
-    /// last from which it took, first of all from rank 0. Where it finds nothing, that turn stays.
+    /// last from which it took, first of all from rank 0. Where it finds nothing, that turn stays, and all that the rank
+    /// pushed to itself was taken.
     pub fn pop_now(&mut self) -> Option<(WorldRank, Item)>
         requires ready { IsReady self.old }
         ensures name { (lane_name self.new ≡ lane_name self.old) × (self.new.me ≡ self.old.me) × (vec_len self.new.outs ≡ vec_len self.old.outs) × IsReady self.new }
@@ -85,9 +87,11 @@ impl LaneEnds {
         ensures taken { MatchOption result ((p : ℕ) → lane_taken self.new p ≡ lane_taken self.old p)
             (λ found. (lane_taken self.new found.0.number ≡ lane_taken self.old found.0.number ++ found.1 ∷ []) × ((p : ℕ) → p ≢ found.0.number → lane_taken self.new p ≡ lane_taken self.old p)) }
         ensures nothing_seen { IfNone result ((p : ℕ) → seen_from self.new p ≡ []) }
+        ensures own { IfNone result (lane_pushed self.new self.old.me.number ≡ lane_taken self.new self.old.me.number) }
         ensures in_turn { IfSome result (λ found. IsFoundInTurn self.old self.new found.0.number) }
         ensures same_turn { IfNone result (self.new.next ≡ self.old.next) }
-        ensures outs { self.new.outs ≡ self.old.outs }
+        ensures rooms { (p : ℕ) → known_room self.old p ≤ known_room self.new p }
+        ensures other_rooms { (p : ℕ) → p ≢ self.old.me.number → known_room self.new p ≡ known_room self.old p }
     {
         let count = self.ins.len() as u8;
         let start = self.next;
@@ -108,20 +112,45 @@ impl LaneEnds {
     fn has_item_from(&mut self, peer: u8) -> bool
         requires ready { IsReady self.old }
         requires peer { peer < vec_len self.old.outs }
-        ensures name { (lane_name self.new ≡ lane_name self.old) × (self.new.me ≡ self.old.me) × (self.new.outs ≡ self.old.outs) × IsReady self.new }
+        ensures name { (lane_name self.new ≡ lane_name self.old) × (self.new.me ≡ self.old.me) × (vec_len self.new.outs ≡ vec_len self.old.outs) × IsReady self.new }
         ensures next { self.new.next ≡ self.old.next }
         ensures found { IsTrue result ↔ (0 < length (seen_from self.new peer)) }
+        ensures own { peer ≡ self.old.me.number → lane_pushed self.new peer ≡ lane_taken self.new peer ++ map (item_of self.old.me) (seen_from self.new peer) }
         ensures others_seen { (p : ℕ) → p ≢ peer → seen_from self.new p ≡ seen_from self.old p }
         ensures taken { (p : ℕ) → lane_taken self.new p ≡ lane_taken self.old p }
+        ensures pushed { (p : ℕ) → lane_pushed self.new p ≡ lane_pushed self.old p }
+        ensures rooms { (p : ℕ) → known_room self.old p ≤ known_room self.new p }
+        ensures other_rooms { (p : ℕ) → p ≢ self.old.me.number → known_room self.new p ≡ known_room self.old p }
     {
+        if peer == self.me.number {
+            return self.has_item_of_its_own();
+        }
         let inlet = &mut self.ins[peer as usize];
         inlet.has_item()
+    }
+
+    /// Whether an item is found in the ring from the rank to itself, both ends of which are here.
+    fn has_item_of_its_own(&mut self) -> bool
+        requires ready { IsReady self.old }
+        ensures name { (lane_name self.new ≡ lane_name self.old) × (self.new.me ≡ self.old.me) × (vec_len self.new.outs ≡ vec_len self.old.outs) × IsReady self.new }
+        ensures next { self.new.next ≡ self.old.next }
+        ensures found { IsTrue result ↔ (0 < length (seen_from self.new self.old.me.number)) }
+        ensures own { lane_pushed self.new self.old.me.number ≡ lane_taken self.new self.old.me.number ++ map (item_of self.old.me) (seen_from self.new self.old.me.number) }
+        ensures others_seen { (p : ℕ) → p ≢ self.old.me.number → seen_from self.new p ≡ seen_from self.old p }
+        ensures taken { (p : ℕ) → lane_taken self.new p ≡ lane_taken self.old p }
+        ensures pushed { (p : ℕ) → lane_pushed self.new p ≡ lane_pushed self.old p }
+        ensures rooms { (p : ℕ) → known_room self.old p ≤ known_room self.new p }
+        ensures other_rooms { (p : ℕ) → p ≢ self.old.me.number → known_room self.new p ≡ known_room self.old p }
+    {
+        let place = self.me.number as usize;
+        let inlet = &mut self.ins[place];
+        inlet.has_item_beside(&mut self.outs[place])
     }
 }
 
 impl Ends for LaneEnds {
-    ghost use Rattle.std.specs.Prelude.{◌≡◌, ℕ, map, vec_len};
-    ghost use Rattle.ulfm_carrier.specs.Family.{Keeps, Settled};
+    ghost use Rattle.std.specs.Prelude.{◌≡◌, ℕ, vec_len};
+    ghost use Rattle.ulfm_carrier.specs.Family.{Keeps, IsGathered};
     ghost use Rattle.ulfm_base.specs.Items.{ComesFrom};
     ghost use Rattle.ulfm_base.specs.Lists.{at};
     ghost use Rattle.ulfm_carrier.specs.Lanes.{lane_name, lane_pushed, lane_taken, known_room, seen_from, IsReady, IsFoundInTurn, OneCall};
@@ -164,7 +193,7 @@ impl Ends for LaneEnds {
         self.push_now(dest, item)
     }
 
-    // The clauses of the trait and, beside them, those of `pop_now` on what was seen and on the turn.
+    // The clauses of the trait and, beside them, those of `pop_now` on what was seen, on the turn and on room.
     fn pop<R: Wait>(&mut self, _rt: &R) -> Option<(WorldRank, Item)>
         requires ready { IsReady self.old }
         ensures name { (lane_name self.new ≡ lane_name self.old) × (self.new.me.number ≡ self.old.me.number) × (vec_len self.new.outs ≡ vec_len self.old.outs) × IsReady self.new }
@@ -173,9 +202,11 @@ impl Ends for LaneEnds {
         ensures taken { MatchOption result ((p : ℕ) → lane_taken self.new p ≡ lane_taken self.old p)
             (λ found. (lane_taken self.new found.0.number ≡ lane_taken self.old found.0.number ++ found.1 ∷ []) × ((p : ℕ) → p ≢ found.0.number → lane_taken self.new p ≡ lane_taken self.old p)) }
         ensures nothing_seen { IfNone result ((p : ℕ) → seen_from self.new p ≡ []) }
+        ensures own { IfNone result (lane_pushed self.new self.old.me.number ≡ lane_taken self.new self.old.me.number) }
         ensures in_turn { IfSome result (λ found. IsFoundInTurn self.old self.new found.0.number) }
         ensures same_turn { IfNone result (self.new.next ≡ self.old.next) }
-        ensures outs { self.new.outs ≡ self.old.outs }
+        ensures rooms { (p : ℕ) → known_room self.old p ≤ known_room self.new p }
+        ensures other_rooms { (p : ℕ) → p ≢ self.old.me.number → known_room self.new p ≡ known_room self.old p }
     {
         self.pop_now()
     }
@@ -184,7 +215,7 @@ impl Ends for LaneEnds {
         requires family { OneCall (map lane_name ends.items) }
         requires ready { (k : ℕ) (e : _) → at ends.items k e → IsReady e }
         ensures same { Keeps lane_name lane_pushed lane_taken ends.items result.1.items }
-        ensures residue { Settled lane_pushed lane_taken ends.items result.0.inboxes.items }
+        ensures residue { IsGathered lane_pushed lane_taken ends.items result.0.inboxes.items }
     {
         gather_all(ends)
     }

@@ -9,17 +9,10 @@ mod gathering;
 mod inbox;
 mod inlet;
 mod lane_ends;
-#[cfg(test)]
-mod pair_tests;
+mod own_inbox;
 mod residue;
 mod seating;
 mod shared_ends;
-#[cfg(test)]
-mod shared_tests;
-#[cfg(test)]
-mod tests;
-#[cfg(test)]
-mod thread_tests;
 mod wiring;
 
 pub use carried::Carried;

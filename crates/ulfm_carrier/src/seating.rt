@@ -4,7 +4,7 @@ ghost use Rattle.std.specs.Arc.{arc_value};
 ghost use Rattle.ulfm_carrier.specs.declared.shared_ends.SharedEnds.{SharedEnds as Shared};
 ghost use Rattle.ulfm_carrier.specs.Family.{AllFresh};
 ghost use Rattle.ulfm_base.specs.Lists.{InPlace, at};
-ghost use Rattle.ulfm_carrier.specs.Seating.{AreInboxes, AreInlets, AreNextOuts, AreRows, AreOpenInlets, HaveMadeOneMore, AreMade};
+ghost use Rattle.ulfm_carrier.specs.inside.Seating.{AreInboxes, AreInlets, AreNextOuts, AreRows, AreOpenInlets, HaveMadeOneMore, AreMade};
 ghost use Rattle.ulfm_carrier.specs.Shared.{shared_name, shared_pushed, shared_taken, inbox_capacity, IsReady, OneCall};
 
 use crate::inbox::{Inbox, InboxPass, new_inbox, next_sender};

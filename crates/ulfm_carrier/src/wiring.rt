@@ -4,7 +4,7 @@ ghost use Rattle.ulfm_carrier.specs.declared.lane_ends.LaneEnds.{LaneEnds as Lan
 ghost use Rattle.ulfm_carrier.specs.Family.{AllFresh};
 ghost use Rattle.ulfm_base.specs.Lists.{InPlace, at};
 ghost use Rattle.ulfm_carrier.specs.Lanes.{lane_name, lane_pushed, lane_taken, known_room, IsReady, OneCall};
-ghost use Rattle.ulfm_carrier.specs.Wiring.{AreWired};
+ghost use Rattle.ulfm_carrier.specs.inside.Wiring.{AreWired};
 
 use crate::inlet::Inlet;
 use crate::lane_ends::LaneEnds;

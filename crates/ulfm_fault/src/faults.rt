@@ -14,9 +14,9 @@ pub struct Faults {
 }
 
 impl Model for Faults {
-    ghost use Rattle.ulfm_fault.specs.Facts.{Facts};
+    ghost use Rattle.ulfm_fault.specs.Facts.{FaultState};
 
-    ghost Value = { Facts };
+    ghost Value = { FaultState };
 
     ghost view = { λ f. record { known = f.known; acknowledged = f.acknowledged; revoked = f.revoked } };
 }
@@ -24,13 +24,13 @@ impl Model for Faults {
 impl Faults {
     ghost use Rattle.ulfm_base.specs.Group.{is_member, including};
     ghost use Rattle.ulfm_base.specs.RankSet.{has};
-    ghost use Rattle.ulfm_fault.specs.Facts.{known_in, acknowledged_in, is_marked, ack_answer, has_unacked};
+    ghost use Rattle.ulfm_fault.specs.Facts.{known_in, acknowledged_in, is_revoked_in, ack_answer, has_unacked};
 
     /// No failure is known, none acknowledged, and no context revoked.
     pub fn new(alloc: Global) -> Faults
         ensures none_known { result.known ≡ [] }
         ensures none_acknowledged { (c : ℕ) → acknowledged_in result c ≡ 0 }
-        ensures none_revoked { (c : ℕ) → is_marked result c ≡ false }
+        ensures none_revoked { (c : ℕ) → is_revoked_in result c ≡ false }
     {
         Faults {
             known: Group::empty(alloc),
@@ -100,8 +100,8 @@ impl Faults {
 
     /// Marks a context as revoked. It answers whether this is the first time.
     pub fn revoke(&mut self, context: Context) -> bool
-        ensures first_time { result ≡ not (is_marked self.old context.number) }
-        ensures marks_this_context_alone { (c : ℕ) → is_marked self.new c ≡ (if context.number == c then true else is_marked self.old c) }
+        ensures first_time { result ≡ not (is_revoked_in self.old context.number) }
+        ensures marks_this_context_alone { (c : ℕ) → is_revoked_in self.new c ≡ (if context.number == c then true else is_revoked_in self.old c) }
         ensures known_stay { self.new.known ≡ self.old.known }
         ensures totals_stay { self.new.acknowledged ≡ self.old.acknowledged }
     {
@@ -112,7 +112,7 @@ impl Faults {
 
     /// Whether a context is revoked.
     pub fn is_revoked(&self, context: Context) -> bool
-        ensures { result ≡ is_marked self.now context.number }
+        ensures { result ≡ is_revoked_in self.now context.number }
     {
         self.revoked[context.number as usize]
     }

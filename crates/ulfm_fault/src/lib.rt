@@ -3,7 +3,5 @@
 #![tactic(auto)]
 
 mod faults;
-#[cfg(test)]
-mod tests;
 
 pub use faults::Faults;

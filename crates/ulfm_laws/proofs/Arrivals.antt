@@ -1,5 +1,5 @@
 -- The letters that came to a rank are a beginning of those that the steps of their senders sent to it.
-use Rattle.std.proofs.Common.{◌≡◌, ℕ, List, [], ◌∷◌, ◌++◌, ap, sym, subst, ◌∙◌, inl, inr, append-nil, append_assoc}
+use Rattle.std.proofs.Common.{◌≡◌, ℕ, List, [], ◌∷◌, ◌++◌, ap, sym, ◌∙◌, inl, inr, append-nil, append_assoc}
 use Rattle.std.proofs.lemmas.Bool.{cases_Bool, cases_eq}
 use Rattle.std.proofs.lemmas.Grind.{flat_map-append}
 use Rattle.std.proofs.lemmas.Option.{get_or_from_slice_get}
@@ -7,7 +7,7 @@ use Rattle.ulfm_laws.proofs.Common.{Item, Gone, items_from, at, history_of, Stat
 use Rattle.ulfm_rank.specs.Facts.{took, is_stopped, is_revoked}
 use Rattle.ulfm_laws.specs.Flow.{Inboxes, inbox_of, IsBeginning, Flow}
 use Rattle.ulfm_laws.specs.Reader.{Content, letters_come, letters_sent, ComeAsSent, AllHasCome}
-use Rattle.ulfm_laws.specs.Reports.{report_at, no_report, IsRunning}
+use Rattle.ulfm_laws.specs.Reports.{report_at, no_report}
 use Rattle.ulfm_laws.proofs.AtRest.{took_owed}
 use Rattle.ulfm_laws.proofs.Comes.{all_taken}
 use Rattle.ulfm_laws.proofs.Flowing.{AreFlowing}
@@ -58,9 +58,7 @@ module _ (inboxes : Inboxes) (reports : List Report) (h : AreFlowing inboxes rep
       let sender = there reports s i in
       let receiver = there reports d j in
       let f = come_log s d c sender.0 receiver.0 sender.1 receiver.1 in
-      let T : Report → Type 0 = λ (b : Report). (rest : List Content) × (letters_come s c (history_of b.rank.log) ++ rest ≡ letters_sent (report_at reports s).rank c d (report_at reports s).steps) in
-      let S : Report → Type 0 = λ (a : Report). (rest : List Content) × (letters_come s c (history_of receiver.0.rank.log) ++ rest ≡ letters_sent a.rank c d a.steps) in
-      subst T (sym (read_at reports d receiver.0 receiver.1)) (subst S (sym (read_at reports s sender.0 sender.1)) (f.0, f.1 ∙ sym ((honest s sender.0 sender.1).sends c d)))
+      rw (read_at reports d receiver.0 receiver.1) (rw (read_at reports s sender.0 sender.1) (f.0, f.1 ∙ sym ((honest s sender.0 sender.1).sends c d)))
 
   -- at rest, where the communicator isn't revoked, all has come
   pub all_come : IsAtRest inboxes reports → AllHasCome reports
@@ -73,8 +71,7 @@ module _ (inboxes : Inboxes) (reports : List Report) (h : AreFlowing inboxes rep
       let log = receiver.0.rank.log in
       let t = all_taken receiver.0.rank.ranks s c log (honest d receiver.0 receiver.1).taken in
       let came : List Content = letters_come s c (history_of log) in
-      let R : Report → Type 0 = λ (a : Report). IsRunning a in
-      let all : owes r d ≡ took log s = took_owed inboxes reports h rest s d sender.0 receiver.0 sender.1 receiver.1 (subst R from runs_s) (subst R to runs_d) in
+      let all : owes r d ≡ took log s = took_owed inboxes reports h rest s d sender.0 receiver.0 sender.1 receiver.1 (rw from at runs_s) (rw to at runs_d) in
       let come : came ≡ letters_sent r c d sender.0.steps =
       sym (append-nil came)
       ∙ ap (λ (ys : List Content). came ++ ys) (sym (t.none (sym (ap (λ (b : Report). is_revoked b.rank.log c) to) ∙ fresh)))

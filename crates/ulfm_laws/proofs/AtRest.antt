@@ -1,5 +1,5 @@
 -- What running ranks know where reports are at rest.
-use Rattle.std.proofs.Common.{◌≡◌, ◌≢◌, ℕ, ◌<◌, true, List, [], ◌∷◌, ◌++◌, length, arith, ap, sym, subst, ◌∙◌, inl, inr, append-nil, refl}
+use Rattle.std.proofs.Common.{◌≡◌, ◌≢◌, ℕ, ◌<◌, true, List, [], ◌∷◌, ◌++◌, length, arith, ap, sym, ◌∙◌, inl, inr, append-nil, refl}
 use Rattle.std.specs.List.{list_any}
 use Rattle.std.proofs.lemmas.Bool.{false≢true, cases_eq, or_right}
 use Rattle.std.proofs.lemmas.List.Folds.{list_any-append}
@@ -19,9 +19,7 @@ module _ (inboxes : Inboxes) (reports : List Report) (h : AreFlowing inboxes rep
 
   -- whatever came towards a running rank was taken
   took_all : (s d : ℕ) (sender receiver : Report) → at reports s sender → at reports d receiver → IsRunning receiver → Flow sender.rank s d (took receiver.rank.log s)
-  took_all s d sender receiver p q running =
-      let F : List Item → Type 0 = λ (xs : List Item). Flow sender.rank s d xs in
-      subst F (ap (λ (xs : List (WorldRank × Item)). took receiver.rank.log s ++ items_from s xs) (rest d receiver q running).inbox ∙ append-nil (took receiver.rank.log s)) (h.flow s d sender receiver p q)
+  took_all s d sender receiver p q running = rw (ap (λ (xs : List (WorldRank × Item)). took receiver.rank.log s ++ items_from s xs) (rest d receiver q running).inbox ∙ append-nil (took receiver.rank.log s)) at (h.flow s d sender receiver p q)
 
   -- all that a running rank owes to another one was taken
   pub took_owed : (s d : ℕ) (sender receiver : Report) → at reports s sender → at reports d receiver → IsRunning sender → IsRunning receiver → owes sender.rank d ≡ took receiver.rank.log s

@@ -1,17 +1,17 @@
 -- Reports whose answers are right are true of their logs.
 use Rattle.std.proofs.Common.{◌≡◌, ℕ, List, [], ◌∷◌, ◌++◌, refl, ap, sym, subst, ◌∙◌, inl, inr, ◌⊎◌, All}
-use Rattle.ulfm_laws.proofs.Common.{Context, Decision, Entry, State, logged, StepAnswer, StepReport, Step, Report}
+use Rattle.ulfm_laws.proofs.Common.{Context, Decision, Entry, State, logged, StepReport, Step, Report}
 use Rattle.ulfm_base.specs.declared.error.CallError.TheVariants.{OutOfMemory}
 use Rattle.ulfm_rank.specs.declared.entry.Entry.TheVariants.{Took, Entered, Adopted}
 use Rattle.ulfm_rank.proofs.Signed.{all_front, all_last}
-use Rattle.ulfm_script.specs.declared.answer.StepAnswer.TheVariants.{Unfinished, Refused, Shrunk}
-use Rattle.ulfm_script.specs.declared.step.Step.TheVariants.{Shrink}
-use Rattle.ulfm_script.specs.Answered.{Stood, IsTook, HasAnswers}
+use Rattle.ulfm_script.specs.declared.answer.StepAnswer.TheVariants.{Unfinished, Refused}
+use Rattle.ulfm_job.specs.declared.step.Step.TheVariants.{Shrink}
+use Rattle.ulfm_script.specs.Answered.{StoodAt, IsTook, AnswersFollow}
 use Rattle.ulfm_script.specs.Deciding.{Known, AnswersAdoption}
-use Rattle.ulfm_script.specs.Player.{Answers, IsOpen, report_of}
-use Rattle.ulfm_script.proofs.Polls.{answers_plain, opens_adds}
+use Rattle.ulfm_script.specs.Player.{AnswersStep, LeavesOpen, step_report}
+use Rattle.ulfm_script.proofs.Polls.{answers_plain, opens_adds, adoption_adds}
 use Rattle.ulfm_script.proofs.Walked.{KeepsAll, reported}
-use Rattle.ulfm_laws.proofs.Answering.{true-answers, honest-plain, unfinished, refused}
+use Rattle.ulfm_laws.proofs.Answering.{true-answers, honest-plain}
 use Rattle.ulfm_laws.proofs.Closing.{IsTrueOf}
 use Rattle.ulfm_laws.proofs.Honest.{IsHonest, honest-logged, honest-start}
 use Rattle.ulfm_laws.proofs.Mail.{IsTakenFrom}
@@ -20,11 +20,6 @@ use Rattle.ulfm_laws.proofs.Shrinking.{true-open, true-adoption}
 -- nothing is added, or one entry
 abbrev AddsFew : State → State → Type 0
 AddsFew old new = (new ≡ old) ⊎ ((e : Entry) × (new ≡ logged old e))
-
-adoption_few : (old : State) (comm : Context) (held : Decision) (answer : StepAnswer) (new : State) → AnswersAdoption old comm held answer new → AddsFew old new
-adoption_few old comm held (Shrunk child group me) new h = inr (Adopted held, h.4)
-adoption_few old comm held (Refused e) new h = inl h.1
-adoption_few old comm held _ new h = absurd h
 
 same_ranks : (old new : State) → AddsFew old new → new.ranks ≡ old.ranks
 same_ranks old new (inl same) = ap (λ (s : State). s.ranks) same
@@ -44,31 +39,22 @@ module _ (known : Known) (r : State) where
   IsBorne done log = All (IsTakenFrom r.ranks) log → IsHonest r.ranks log done
 
   -- what is kept true of a state that stood at some place
-  changed : (n : ℕ) (old new : State) (done later : List StepReport) → Stood r n old → AddsFew old new → (IsTrueOf old done → IsTrueOf new later) → IsBorne done old.log → IsBorne later new.log
-  changed n old new done later stood few keeps borne all =
-      let H : ℕ → Type 0 = λ (k : ℕ). IsHonest k old.log done in
-      let G : ℕ → Type 0 = λ (k : ℕ). IsHonest k new.log later in
-      subst G (same_ranks old new few ∙ stood.ranks) (keeps (subst H (sym stood.ranks) (borne (before_few (IsTakenFrom r.ranks) old new few all))))
+  changed : (n : ℕ) (old new : State) (done later : List StepReport) → StoodAt r n old → AddsFew old new → (IsTrueOf old done → IsTrueOf new later) → IsBorne done old.log → IsBorne later new.log
+  changed n old new done later stood few keeps borne all = rw (same_ranks old new few ∙ stood.ranks) at (keeps (rw stood.ranks (borne (before_few (IsTakenFrom r.ranks) old new few all))))
 
   ended : (log : List Entry) (done : List StepReport) (report : StepReport) → (report.answer ≡ Unfinished) ⊎ (report.answer ≡ Refused OutOfMemory) → IsHonest r.ranks log done → IsHonest r.ranks log (done ++ report ∷ [])
-  ended log done report (inl is) h =
-      let T : StepAnswer → Type 0 = λ (a : StepAnswer). IsHonest r.ranks log (done ++ report_of report.step a report.at report.polls ∷ []) in
-      subst T (sym is) (honest-plain r.ranks log done report.step Unfinished report.at report.polls h (unfinished report.step))
-  ended log done report (inr is) h =
-      let T : StepAnswer → Type 0 = λ (a : StepAnswer). IsHonest r.ranks log (done ++ report_of report.step a report.at report.polls ∷ []) in
-      subst T (sym is) (honest-plain r.ranks log done report.step (Refused OutOfMemory) report.at report.polls h (refused report.step OutOfMemory))
+  ended log done report how h = honest-plain r.ranks log done report.step report.answer report.at report.polls h (elim how [ inl is ↦ rw is tt | inr is ↦ rw is tt ])
 
-  answered_few : (done : List StepReport) (old : State) (report : StepReport) (new : State) → Answers done old report.step report.answer new → AddsFew old new
+  answered_few : (done : List StepReport) (old : State) (report : StepReport) (new : State) → AnswersStep done old report.step report.answer new → AddsFew old new
   answered_few done old report new a = elim (answers_plain done old report.step report.answer new a) [ inl same ↦ inl same.0 | inr one ↦ inr (one.0, one.2) ]
 
-  opened_few : (done : List StepReport) (old : State) (asked : Step) (new : State) → IsOpen done old asked new → AddsFew old new
+  opened_few : (done : List StepReport) (old : State) (asked : Step) (new : State) → LeavesOpen done old asked new → AddsFew old new
   opened_few done old asked new o = elim (opens_adds done old asked new o) [ inl same ↦ inl same | inr entry ↦ inr (Entered entry.0 entry.2.known, entry.2.only) ]
 
-  adopted : (n : ℕ) (old new : State) (done : List StepReport) (report : StepReport) (comm : Context) (held : Decision) → Stood r n old → report.step ≡ Shrink comm → AnswersAdoption old comm held report.answer new → IsBorne done old.log → IsBorne (done ++ report ∷ []) new.log
+  adopted : (n : ℕ) (old new : State) (done : List StepReport) (report : StepReport) (comm : Context) (held : Decision) → StoodAt r n old → report.step ≡ Shrink comm → AnswersAdoption old comm held report.answer new → IsBorne done old.log → IsBorne (done ++ report ∷ []) new.log
   adopted n old new done report comm held stood is a borne =
-      let B : Step → Type 0 = λ (s : Step). IsBorne (done ++ report_of s report.answer report.at report.polls ∷ []) new.log in
-      subst B (sym is)
-      (changed n old new done (done ++ report_of (Shrink comm) report.answer report.at report.polls ∷ []) stood (adoption_few old comm held report.answer new a) (λ h. true-adoption old done h comm report.at report.polls new held report.answer a) borne)
+      subst (λ (s : Step). IsBorne (done ++ step_report s report.answer report.at report.polls ∷ []) new.log) (sym is)
+      (changed n old new done (done ++ step_report (Shrink comm) report.answer report.at report.polls ∷ []) stood (elim (adoption_adds old comm held report.answer new a) [ inl same ↦ inl same | inr one ↦ inr (Adopted held, one.1) ]) (λ h. true-adoption old done h comm report.at report.polls new held report.answer a) borne)
 
   borne : KeepsAll known r IsBorne
   borne = record {
@@ -81,5 +67,5 @@ module _ (known : Known) (r : State) where
   }
 
 -- the steps of a report with right answers are true of its log
-pub borne_out : (known : Known) (told : Report) → HasAnswers known told → All (IsTakenFrom told.rank.ranks) told.rank.log → IsHonest told.rank.ranks told.rank.log told.steps
+pub borne_out : (known : Known) (told : Report) → AnswersFollow known told → All (IsTakenFrom told.rank.ranks) told.rank.log → IsHonest told.rank.ranks told.rank.log told.steps
 borne_out known told h all = reported known told (IsBorne known told.rank) (borne known told.rank) (λ none. honest-start told.rank.ranks) h all

@@ -4,13 +4,13 @@ use Rattle.std.specs.List.{flat_map}
 use Rattle.std.proofs.lemmas.Bool.{false≢true, or_right, eq-eqb, eqb-true}
 use Rattle.std.proofs.lemmas.List.Elements.{All-push}
 use Rattle.std.proofs.lemmas.Option.{same_Some}
-use Rattle.ulfm_laws.proofs.Common.{Context, Tag, RequestId, Event, PostAt, number, Entry, TestAnswer, members_of, history_of, State, logged, Step, Send, Wait, StepAnswer, Sent, Done, Over, StepReport}
+use Rattle.ulfm_laws.proofs.Common.{Context, Tag, RequestId, Event, PostAt, count_before, Entry, TestAnswer, members_of, history_of, State, logged, Step, Send, Wait, StepAnswer, Sent, Done, Over, StepReport}
 use Rattle.ulfm_rank.specs.declared.entry.Entry.TheVariants.{Sent as SentEntry, Released}
 use Rattle.ulfm_rank.specs.Answer.{is_release}
 use Rattle.ulfm_rank.specs.Calls.{Sends}
 use Rattle.ulfm_rank.specs.Facts.{is_released, releases}
 use Rattle.ulfm_rank.proofs.Gather.{history-push, any-push}
-use Rattle.ulfm_script.specs.Player.{Tests, comm_of, report_of, request_of, request_at}
+use Rattle.ulfm_script.specs.Player.{Tests, comm_of, step_report, request_of, request_at}
 use Rattle.ulfm_laws.specs.Reader.{Content, content, is_rank, sent_in, closes}
 use Rattle.ulfm_rank.proofs.Formed.{formed-logged}
 use Rattle.ulfm_laws.proofs.Honest.{IsHonest, sends-logged, covered-logged, covered-answered, honest-logged, honest-answered}
@@ -24,27 +24,26 @@ abbrev pub IsTrueOf : State → List StepReport → Type 0
 IsTrueOf r done = IsHonest r.ranks r.log done
 
 -- the letter of a send is the one that its step tells
-same_content : (group : List ℕ) (c d to number : ℕ) (tag tag' : Tag) (body body' : List ℕ) (comm comm' : Context) → comm' ≡ comm → tag' ≡ tag → body' ≡ body → (comm.number ≡ c → slice_get group to ≡ Some number) →
-    cond (eqb comm.number c && is_rank d (slice_get group to)) (content tag body ∷ []) [] ≡ cond (eqb comm'.number c && eqb number d) (content tag' body' ∷ []) []
-same_content group c d to number tag tag' body body' comm comm' ec et eb at =
+same_content : (group : List ℕ) (c d to count_before : ℕ) (tag tag' : Tag) (body body' : List ℕ) (comm comm' : Context) → comm' ≡ comm → tag' ≡ tag → body' ≡ body → (comm.number ≡ c → slice_get group to ≡ Some count_before) →
+    cond (eqb comm.number c && is_rank d (slice_get group to)) (content tag body ∷ []) [] ≡ cond (eqb comm'.number c && eqb count_before d) (content tag' body' ∷ []) []
+same_content group c d to count_before tag tag' body body' comm comm' ec et eb at =
     pick (eqb comm.number c) refl
-    ∙ ap (λ (k : Context). cond (eqb k.number c && eqb number d) (content tag body ∷ []) []) (sym ec)
-    ∙ ap (λ (t : Tag). cond (eqb comm'.number c && eqb number d) (content t body ∷ []) []) (sym et)
-    ∙ ap (λ (b : List ℕ). cond (eqb comm'.number c && eqb number d) (content tag' b ∷ []) []) (sym eb)
+    ∙ ap (λ (k : Context). cond (eqb k.number c && eqb count_before d) (content tag body ∷ []) []) (sym ec)
+    ∙ ap (λ (t : Tag). cond (eqb comm'.number c && eqb count_before d) (content t body ∷ []) []) (sym et)
+    ∙ ap (λ (b : List ℕ). cond (eqb comm'.number c && eqb count_before d) (content tag' b ∷ []) []) (sym eb)
   where
-    pick : (b : Bool) → eqb comm.number c ≡ b → cond (eqb comm.number c && is_rank d (slice_get group to)) (content tag body ∷ []) [] ≡ cond (eqb comm.number c && eqb number d) (content tag body ∷ []) []
+    pick : (b : Bool) → eqb comm.number c ≡ b → cond (eqb comm.number c && is_rank d (slice_get group to)) (content tag body ∷ []) [] ≡ cond (eqb comm.number c && eqb count_before d) (content tag body ∷ []) []
     pick true e = ap (λ (o : Option ℕ). cond (eqb comm.number c && is_rank d o) (content tag body ∷ []) []) (at (eqb-true comm.number c e))
     pick false e = rw e refl
 
-pub true-sent : (r : State) (done : List StepReport) (to : ℕ) (tag : Tag) (body : List ℕ) (comm : Context) (at polls : ℕ) (new : State) → IsTrueOf r done → Sends r (comm_of comm) to tag body new → IsTrueOf new (done ++ report_of (Send to tag body comm) Sent at polls ∷ [])
+pub true-sent : (r : State) (done : List StepReport) (to : ℕ) (tag : Tag) (body : List ℕ) (comm : Context) (at polls : ℕ) (new : State) → IsTrueOf r done → Sends r (comm_of comm) to tag body new → IsTrueOf new (done ++ step_report (Send to tag body comm) Sent at polls ∷ [])
 true-sent r done to tag body comm at polls new h s =
     let n : ℕ = r.ranks in
     let log : List Entry = r.log in
     let e : Entry = SentEntry s.to s.letter in
-    let x : StepReport = report_of (Send to tag body comm) Sent at polls in
+    let x : StepReport = step_report (Send to tag body comm) Sent at polls in
     let member : slice_get (members_of n (log ++ e ∷ []) comm.number) to ≡ Some s.to.number = members_stay n log e comm.number (λ (group : List ℕ). slice_get group to ≡ Some s.to.number) (λ q. cc) s.named in
-    let T : State → Type 0 = λ (w : State). IsTrueOf w (done ++ x ∷ []) in
-    subst T (sym s.only) (record {
+    rw s.only (record {
       orderly = orderly-answered n (log ++ e ∷ []) done x (orderly-logged n log e done h.orderly) (s.to.number, member) (λ id q. let bad : ⊥ = cc in absurd bad) (λ req k y q g f. let bad : ⊥ = cc in bad);
       sends = λ c d.
           let group : List ℕ = members_of n (log ++ e ∷ []) c in
@@ -80,7 +79,6 @@ true-closed r done req answer x new h release unposted closing silent tells t =
     let n : ℕ = r.ranks in
     let log : List Entry = r.log in
     let e : Entry = Released t.id answer in
-    let T : State → Type 0 = λ (w : State). IsTrueOf w (done ++ x ∷ []) in
     let only : new ≡ logged r e = t.only ∙ ap (λ (b : Bool). cond b (logged r e) r) release in
     let longer : IsHonest n (log ++ e ∷ []) done = honest-logged n log e done h tt (λ c d. refl) tt in
     let long : history_of (log ++ e ∷ []) ≡ history_of log ++ [] = history-push log e in
@@ -90,12 +88,12 @@ true-closed r done req answer x new h release unposted closing silent tells t =
       place = t.place;
       pattern = t.pattern;
       posted = subst (λ (g : List Event). PostAt g t.place t.pattern) (sym (long ∙ append-nil (history_of log))) t.request.posted;
-      numbered = ap (λ (g : List Event). number g t.place) (long ∙ append-nil (history_of log)) ∙ t.request.numbered;
+      numbered = ap (λ (g : List Event). count_before g t.place) (long ∙ append-nil (history_of log)) ∙ t.request.numbered;
       released = any-push (releases t.id.number) log e ∙ or_right (is_released log t.id.number) (releases t.id.number e) (eq-eqb t.id.number t.id.number refl);
       release = release;
       answers = answer_stays n log e t.place t.pattern answer t.request.posted release (λ p law. t.answers t.place t.pattern t.request p law);
     } in
-    subst T (sym only) (honest-answered n (log ++ e ∷ []) done x longer silent unposted (tells n (log ++ e ∷ []) (done ++ x ∷ []) verdict)
+    rw only (honest-answered n (log ++ e ∷ []) done x longer silent unposted (tells n (log ++ e ∷ []) (done ++ x ∷ []) verdict)
     (λ q k y c g f.
     let same : request_at done q ≡ Some t.id = ap (request_at done) (same_Some q req (sym c ∙ closing)) ∙ t.posted in
     false≢true (sym t.request.unreleased ∙ closed_released n log done y.step y.answer q t.id (h.orderly.tells k y g) f same)))

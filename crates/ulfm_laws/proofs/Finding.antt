@@ -1,12 +1,11 @@
 -- Which step posted the receive at a place of the history.
 use Rattle.std.proofs.Common.{◌≡◌, ℕ, ◌<◌, inl, inr, List, length, refl, ap, sym, ◌∙◌, subst, arith, Option, Some, None, slice_get}
 use Rattle.std.proofs.lemmas.Option.{same_Some}
-use Rattle.ulfm_laws.proofs.Common.{Context, Pattern, Tag, RequestId, History, Post, PostAt, Entry, members_of, Step, Recv, StepAnswer, Posted, StepReport, Report, report_at, TestAnswer}
+use Rattle.ulfm_laws.proofs.Common.{Context, Pattern, Tag, RequestId, History, Post, PostAt, Entry, Step, Recv, StepAnswer, Posted, StepReport, Report, report_at, TestAnswer}
 use Rattle.ulfm_match.proofs.Decide.{compared}
 use Rattle.ulfm_match.proofs.Histories.{same_number}
 use Rattle.ulfm_match.proofs.Unique.{same_pattern}
-use Rattle.ulfm_rank.specs.Calls.{IsSourceOf}
-use Rattle.ulfm_script.specs.Player.{request_of, request_in, request_at, report_of}
+use Rattle.ulfm_script.specs.Player.{request_of, request_in, request_at, step_report}
 use Rattle.ulfm_laws.specs.Reader.{history_at, IsStep, ComeAsSent, IsPostedBy}
 use Rattle.ulfm_laws.proofs.Honest.{IsHonest}
 use Rattle.ulfm_laws.proofs.Tells.{Tells, IsReceipt, IsVerdict}
@@ -19,11 +18,11 @@ pub record AreHonest (reports : List Report) : Type 0 where
 
 pub step_at : (report : Report) (k : ℕ) (x : StepReport) (asked : Step) (said : StepAnswer) → slice_get report.steps k ≡ Some x → x.step ≡ asked → x.answer ≡ said → IsStep report k asked said
 step_at report k x asked said h step answer =
-    record { at = x.at; polls = x.polls; stands = h ∙ ap (λ (s : Step). Some (report_of s x.answer x.at x.polls)) step ∙ ap (λ (a : StepAnswer). Some (report_of asked a x.at x.polls)) answer }
+    record { at = x.at; polls = x.polls; stands = h ∙ ap (λ (s : Step). Some (step_report s x.answer x.at x.polls)) step ∙ ap (λ (a : StepAnswer). Some (step_report asked a x.at x.polls)) answer }
 
 -- two steps at one place are the same
 pub same_asked : (report : Report) (k : ℕ) (a b : Step) (s t : StepAnswer) → IsStep report k a s → IsStep report k b t → a ≡ b
-same_asked report k a b s t x y = ap (λ (z : StepReport). z.step) (same_Some (report_of a s x.at x.polls) (report_of b t y.at y.polls) (sym x.stands ∙ y.stands))
+same_asked report k a b s t x y = ap (λ (z : StepReport). z.step) (same_Some (step_report a s x.at x.polls) (step_report b t y.at y.polls) (sym x.stands ∙ y.stands))
 
 posted_answer : (answer : StepAnswer) (id : RequestId) → request_of answer ≡ Some id → answer ≡ Posted id
 posted_answer (Posted jd) id e = ap (λ (i : RequestId). Posted i) (same_Some jd id e)
@@ -52,17 +51,13 @@ posted_is n log done _ id h = absurd h
 -- the receive of a receipt is posted by its step
 receipt_posted : (report : Report) (k : ℕ) (source : Option ℕ) (tag : Option Tag) (room : ℕ) (comm : Context) (id : RequestId) → IsStep report k (Recv source tag room comm) (Posted id) → (v : IsReceipt report.rank.ranks report.rank.log source tag room comm id) → IsPostedBy report k v.place v.pattern
 receipt_posted report k source tag room comm id step v =
-    let A : Option Tag → Type 0 = λ (t : Option Tag). IsStep report k (Recv source t room comm) (Posted id) in
-    let B : ℕ → Type 0 = λ r. IsStep report k (Recv source v.pattern.tag r comm) (Posted id) in
-    let C : Context → Type 0 = λ (c : Context). IsStep report k (Recv source v.pattern.tag v.pattern.room c) (Posted id) in
-    let G : Context → Type 0 = λ (c : Context). IsSourceOf (members_of report.rank.ranks report.rank.log c.number) source v.pattern.source in
     record {
       source = source;
       id = id;
-      step = subst C (sym v.context) (subst B (sym v.has_room) (subst A (sym v.has_tag) step));
+      step = rw v.context (rw v.has_room (rw v.has_tag step));
       posted = v.posted;
       numbered = v.numbered;
-      asks_for = subst G (sym v.context) v.asks_for;
+      asks_for = rw v.context v.asks_for;
     }
 
 -- the request of a receive that a step posted
@@ -86,8 +81,7 @@ module _ (reports : List Report) (all : AreHonest reports) (d : ℕ) (inside : d
       let h : History = history_at reports d in
       let c = (all.honest d inside).covered place p posted in
       let q = request_step report.steps c.0 c.1 c.2 in
-      let T : StepAnswer → Type 0 = λ (a : StepAnswer). Tells report.rank.ranks report.rank.log report.steps q.0.step a in
-      let r = posted_is report.rank.ranks report.rank.log report.steps q.0.step c.1 (subst T q.2 ((all.honest d inside).orderly.tells c.0 q.0 q.1)) in
+      let r = posted_is report.rank.ranks report.rank.log report.steps q.0.step c.1 (rw q.2 at ((all.honest d inside).orderly.tells c.0 q.0 q.1)) in
       let v = r.receipt in
       let there : v.place ≡ place = same_number h v.place place (Post v.pattern) (Post p) v.posted refl posted refl (v.numbered ∙ sym c.3) in
       let same : v.pattern ≡ p = same_pattern h place v.pattern p (subst (λ (k : ℕ). PostAt h k v.pattern) there v.posted) posted in

@@ -8,7 +8,7 @@ use Rattle.ulfm_laws.proofs.Common.{Item, Gone, items_from, State, owes, outbox,
 use Rattle.ulfm_base.specs.declared.rank_set.RankSet.{RankSet}
 use Rattle.ulfm_base.specs.Lists.{at, InPlace}
 use Rattle.ulfm_rank.specs.Facts.{took, is_gone, is_gone_item, is_stopped}
-use Rattle.ulfm_rank.specs.Log.{first_of}
+use Rattle.ulfm_rank.specs.Log.{first_given}
 use Rattle.ulfm_rank.specs.Owed.{owed}
 use Rattle.ulfm_rank.specs.Shrink.{entry_of, heard_of, listed_of}
 use Rattle.ulfm_rank.proofs.Entering.{own_set}
@@ -38,13 +38,17 @@ arrived_owed sender s d xs h self = elim (cases_Bool (is_stopped sender.log)) [
   | inr running ↦ (outbox sender d, sym (h.running running))
 ]
 
+-- a test that an item of a beginning passes, an item of the whole passes
+pub any_begun : (test : Item → Bool) (xs ys : List Item) → IsBeginning xs ys → list_any test xs ≡ true → list_any test ys ≡ true
+any_begun test xs ys b some = ap (list_any test) (sym b.1) ∙ list_any-append test xs b.0 ∙ or_left (list_any test xs) (list_any test b.0) some
+
 -- a test that nothing owed passes says nothing of a rank that didn't stop
 none_begun : (test : Item → Bool) (xs ys : List Item) → IsBeginning xs ys → list_any test ys ≡ false → list_any test xs ≡ false
 none_begun test xs ys b none = pick (list_any test xs) refl
   where
     pick : (x : Bool) → list_any test xs ≡ x → list_any test xs ≡ false
     pick false e = e
-    pick true e = absurd (false≢true (sym none ∙ ap (list_any test) (sym b.1) ∙ list_any-append test xs b.0 ∙ or_left (list_any test xs) (list_any test b.0) e))
+    pick true e = absurd (false≢true (sym none ∙ any_begun test xs ys b e))
 
 -- a rank that didn't stop isn't known as gone
 pub running-not_gone : (inboxes : Inboxes) (reports : List Report) → AreFlowing inboxes reports → (s d : ℕ) (sender receiver : Report) → at reports s sender → at reports d receiver → is_stopped sender.rank.log ≡ false → is_gone receiver.rank.log s ≡ false
@@ -89,13 +93,13 @@ listed_own inboxes reports h r s c lister member set p q owns listed = pick (eqb
     owed_here : owes member.rank r ≡ owed (length reports) s member.rank.log r
     owed_here = ap (λ n. owed n member.rank.me member.rank.log r) (h.counted s member q) ∙ ap (λ me. owed (length reports) me member.rank.log r) (h.order s member q)
 
-    heard : first_of (heard_of c s) lister.rank.log ≡ Some set → own_set member.rank.log c ≡ Some set
+    heard : first_given (heard_of c s) lister.rank.log ≡ Some set → own_set member.rank.log c ≡ Some set
     heard l =
         let took_first : first_set c (took lister.rank.log s) ≡ Some set = sym (heard-took lister.rank.log c s) ∙ l in
         let arrived : first_set c (came inboxes s r lister) ≡ Some set =
         set-append c (took lister.rank.log s) (items_from s (inbox_of inboxes r)) ∙ or_else_first (first_set c (took lister.rank.log s)) (first_set c (items_from s (inbox_of inboxes r))) set took_first in
         owns r c set (ap (first_set c) (sym owed_here) ∙ set_arrived member.rank s r c (came inboxes s r lister) set (h.flow s r member lister q p) arrived)
 
-    pick : (b : Bool) → eqb s r ≡ b → cond b (first_of (entry_of c) lister.rank.log) (first_of (heard_of c s) lister.rank.log) ≡ Some set → own_set member.rank.log c ≡ Some set
+    pick : (b : Bool) → eqb s r ≡ b → cond b (first_given (entry_of c) lister.rank.log) (first_given (heard_of c s) lister.rank.log) ≡ Some set → own_set member.rank.log c ≡ Some set
     pick true same l = ap (λ (told : Report). own_set told.rank.log c) (same_report reports s r member lister q p (eqb-true s r same)) ∙ l
     pick false other l = heard l

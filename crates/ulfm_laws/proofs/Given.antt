@@ -1,10 +1,10 @@
 -- Each wait that is over tells of the letter that its receive is given, and nothing is given twice.
 use Rattle.std.proofs.Common.{◌≡◌, ℕ, ◌<◌, inl, inr, List, length, refl, ap, sym, ◌∙◌, subst, slice_get}
 use Rattle.std.proofs.lemmas.Option.{same_Some}
-use Rattle.ulfm_laws.proofs.Common.{Context, Letter, Pattern, RequestId, TestAnswer, group_at, Send, Wait, Sent, Done, Over, report_of, Report, report_at}
+use Rattle.ulfm_laws.proofs.Common.{Context, Letter, Pattern, RequestId, TestAnswer, group_at, Send, Wait, Sent, Done, Over, step_report, Report, report_at}
 use Rattle.ulfm_base.specs.declared.error.CallError.TheVariants.{ProcFailed, Revoked, Truncated}
 use Rattle.ulfm_base.specs.Pattern.{Admits}
-use Rattle.ulfm_match.specs.History.{History, Post, PostAt, ComeAt, number}
+use Rattle.ulfm_match.specs.History.{History, Post, PostAt, ComeAt, count_before}
 use Rattle.ulfm_match.specs.Pairing.{Pairing, Pairs, LawfulPairing}
 use Rattle.ulfm_match.proofs.Decide.{compared}
 use Rattle.ulfm_match.proofs.Histories.{same_number}
@@ -20,8 +20,7 @@ use Rattle.ulfm_laws.proofs.Tells.{IsVerdict}
 pub pair_admits : (h : History) (r : Pairing) → LawfulPairing h r → (i b : ℕ) (p : Pattern) (l : Letter) → PostAt h i p → ComeAt h b l → Pairs r i b → Admits p l.envelope
 pair_admits h r law i b p l posted came q =
     let m = law.matched i b q in
-    let A : Pattern → Letter → Type 0 = λ (w : Pattern) (k : Letter). Admits w k.envelope in
-    subst (λ (w : Pattern). A w l) (same_pattern h i m.pattern p m.receive_live.posted posted) (subst (λ (k : Letter). A m.pattern k) (same_letter h b m.letter l m.letter_live.came came) m.admits)
+    rw (same_pattern h i m.pattern p m.receive_live.posted posted, same_letter h b m.letter l m.letter_live.came came) at m.admits
 
 -- a step posted one receive
 same_place : (report : Report) (i place other : ℕ) (p q : Pattern) (a : IsPostedBy report i place p) (b : IsPostedBy report i other q) → place ≡ other
@@ -34,21 +33,21 @@ module _ (reports : List Report) (all : AreHonest reports) where
   done_given d k req status body inside st =
       let report : Report = report_at reports d in
       let h : History = history_at reports d in
-      let v : IsVerdict report.rank.ranks report.rank.log report.steps req (TestDone status body) = (all.honest d inside).orderly.tells k (report_of (Wait req) (Done status body) st.at st.polls) st.stands in
+      let v : IsVerdict report.rank.ranks report.rank.log report.steps req (TestDone status body) = (all.honest d inside).orderly.tells k (step_report (Wait req) (Done status body) st.at st.polls) st.stands in
       let r = some_pairing h (all.honest d inside).formed in
       let a = v.answers r.0 r.1 in
       let by = verdict_posted reports all d inside req (TestDone status body) v in
-      let sent = sender reports all d inside a.1.place a.0 a.1.came in
+      let sent = sender reports all d inside a.got.place a.letter a.got.came in
       record {
-        sender = a.0.envelope.source.number;
+        sender = a.letter.envelope.source.number;
         step = sent.0;
-        given = record { inside = inside; post_place = v.place; pattern = v.pattern; receive = by; come_place = a.1.place; letter = a.0; sent = sent.1; pairing = r.0; lawful = r.1; pairs = a.1.pairs };
-        admits = pair_admits h r.0 r.1 v.place a.1.place v.pattern a.0 v.posted a.1.came a.1.pairs;
-        fits = a.2;
-        source = a.3;
-        tag = a.4;
-        size = a.5;
-        carries = a.6;
+        given = record { inside = inside; post_place = v.place; pattern = v.pattern; receive = by; come_place = a.got.place; letter = a.letter; sent = sent.1; pairing = r.0; lawful = r.1; pairs = a.got.pairs };
+        admits = pair_admits h r.0 r.1 v.place a.got.place v.pattern a.letter v.posted a.got.came a.got.pairs;
+        fits = a.received.fits;
+        source = a.received.sender;
+        tag = a.received.has_tag;
+        size = a.received.has_length;
+        carries = a.received.carries;
       }
 
   unpaired_given : (d req s j : ℕ) (inside : d < length reports) (answer : TestAnswer) (v : IsVerdict (report_at reports d).rank.ranks (report_at reports d).rank.log (report_at reports d).steps req answer) (g : IsGiven reports d req s j) → ((b : ℕ) → Pairs g.pairing v.place b → ⊥) → ⊥
@@ -62,7 +61,7 @@ module _ (reports : List Report) (all : AreHonest reports) where
     truncated = λ d k req inside st.
         let report : Report = report_at reports d in
         let h : History = history_at reports d in
-        let v : IsVerdict report.rank.ranks report.rank.log report.steps req (TestOver Truncated) = (all.honest d inside).orderly.tells k (report_of (Wait req) (Over Truncated) st.at st.polls) st.stands in
+        let v : IsVerdict report.rank.ranks report.rank.log report.steps req (TestOver Truncated) = (all.honest d inside).orderly.tells k (step_report (Wait req) (Over Truncated) st.at st.polls) st.stands in
         let r = some_pairing h (all.honest d inside).formed in
         let a = v.answers r.0 r.1 in
         let by = verdict_posted reports all d inside req (TestOver Truncated) v in
@@ -75,11 +74,11 @@ module _ (reports : List Report) (all : AreHonest reports) where
         };
     failed = λ d k req s j inside st g.
         let report : Report = report_at reports d in
-        let v : IsVerdict report.rank.ranks report.rank.log report.steps req (TestOver ProcFailed) = (all.honest d inside).orderly.tells k (report_of (Wait req) (Over ProcFailed) st.at st.polls) st.stands in
+        let v : IsVerdict report.rank.ranks report.rank.log report.steps req (TestOver ProcFailed) = (all.honest d inside).orderly.tells k (step_report (Wait req) (Over ProcFailed) st.at st.polls) st.stands in
         unpaired_given d req s j inside (TestOver ProcFailed) v g (v.answers g.pairing g.lawful).0;
     revoked = λ d k req s j inside st g.
         let report : Report = report_at reports d in
-        let v : IsVerdict report.rank.ranks report.rank.log report.steps req (TestOver Revoked) = (all.honest d inside).orderly.tells k (report_of (Wait req) (Over Revoked) st.at st.polls) st.stands in
+        let v : IsVerdict report.rank.ranks report.rank.log report.steps req (TestOver Revoked) = (all.honest d inside).orderly.tells k (step_report (Wait req) (Over Revoked) st.at st.polls) st.stands in
         unpaired_given d req s j inside (TestOver Revoked) v g (v.answers g.pairing g.lawful).0;
   }
 
@@ -101,7 +100,7 @@ module _ (reports : List Report) (all : AreHonest reports) where
         let come : z.come_place ≡ x.come_place = sym (same_come reports all d x.inside x.come_place z.come_place x.letter z.letter s j x.sent z.sent) in
         let pairs : Pairs x.pairing z.post_place x.come_place = subst (λ (b : ℕ). Pairs x.pairing z.post_place b) come (one_pairing h z.pairing x.pairing z.lawful x.lawful z.post_place z.come_place z.pairs) in
         let post : x.post_place ≡ z.post_place = x.lawful.one_receive x.post_place z.post_place x.come_place x.pairs pairs in
-        (there, same_step reports all d x.inside i k x.receive.id z.receive.id (its_request (report_at reports d) i x.post_place x.pattern x.receive) (its_request (report_at reports d) k z.post_place z.pattern z.receive) (sym x.receive.numbered ∙ ap (number h) post ∙ z.receive.numbered));
+        (there, same_step reports all d x.inside i k x.receive.id z.receive.id (its_request (report_at reports d) i x.post_place x.pattern x.receive) (its_request (report_at reports d) k z.post_place z.pattern z.receive) (sym x.receive.numbered ∙ ap (count_before h) post ∙ z.receive.numbered));
     one_letter = λ d i s j t k x y.
         let h : History = history_at reports d in
         let post : y.post_place ≡ x.post_place = same_place (report_at reports d) i y.post_place x.post_place y.pattern x.pattern y.receive x.receive in
@@ -117,8 +116,7 @@ module _ (reports : List Report) (all : AreHonest reports) where
   -- two waits that tell of one send are one
   pub dones_differ : DonesDiffer reports
   dones_differ d k req e m other status another body text x y at there sender step =
-      let g : IsGiven reports e other x.sender x.step = subst (λ (s : ℕ). IsGiven reports e other s x.step) (sym sender) (subst (λ (j : ℕ). IsGiven reports e other y.sender j) (sym step) y.given) in
+      let g : IsGiven reports e other x.sender x.step = rw (sender, step) y.given in
       let same = gives_once.one_receive d req e other x.sender x.step x.given g in
-      let S : ℕ → ℕ → Type 0 = λ (r q : ℕ). IsStep (report_at reports r) m (Wait q) (Done another text) in
-      let here : IsStep (report_at reports d) m (Wait req) (Done another text) = subst (λ (r : ℕ). S r req) (sym same.0) (subst (λ (q : ℕ). S e q) (sym same.1) there) in
-      (same.0, gives_once.one_wait d k m req (report_of (Wait req) (Done status body) at.at at.polls) (report_of (Wait req) (Done another text) here.at here.polls) x.given.inside at.stands here.stands refl refl)
+      let here : IsStep (report_at reports d) m (Wait req) (Done another text) = rw (same.0, same.1) there in
+      (same.0, gives_once.one_wait d k m req (step_report (Wait req) (Done status body) at.at at.polls) (step_report (Wait req) (Done another text) here.at here.polls) x.given.inside at.stands here.stands refl refl)

@@ -3,7 +3,7 @@ use Rattle.std.proofs.Common.{◌≡◌, ℕ, zero, suc, ◌≤◌, inl, inr, Li
 use Rattle.std.specs.List.{flat_map}
 use Rattle.std.proofs.lemmas.List.Elements.{All-nil, All-push}
 use Rattle.ulfm_laws.proofs.Common.{Pattern, RequestId, Entry, members_of, history_of, events_by, StepReport, request_of, request_at}
-use Rattle.ulfm_match.specs.History.{Event, Post, PostAt, IsWellFormed, number}
+use Rattle.ulfm_match.specs.History.{Event, Post, PostAt, IsWellFormed, count_before}
 use Rattle.ulfm_match.proofs.Cut.{get_in_front}
 use Rattle.ulfm_match.proofs.Decide.{lt_or_ge}
 use Rattle.ulfm_rank.proofs.Gather.{history-push}
@@ -11,12 +11,12 @@ use Rattle.ulfm_laws.specs.Reader.{Content, sent_in, closes}
 use Rattle.ulfm_rank.proofs.Formed.{PostsNone, HasNoPost, none-events, formed-logged}
 use Rattle.ulfm_laws.proofs.Orderly.{IsOrderly, orderly-logged, orderly-answered}
 use Rattle.ulfm_laws.proofs.Mail.{mail_sent, sent_entry, IsTakenFrom, flat-push}
-use Rattle.ulfm_match.proofs.Histories.{number_front}
+use Rattle.ulfm_match.proofs.Histories.{count_front}
 use Rattle.ulfm_laws.proofs.Tells.{Tells, asked_front, sent-logged}
 
 -- each receive of the log's history is one that a step posted
 abbrev pub IsCovered : List Entry → List StepReport → Type 0
-IsCovered log done = (place : ℕ) (p : Pattern) → PostAt (history_of log) place p → (k : ℕ) × (id : RequestId) × (request_at done k ≡ Some id) × (number (history_of log) place ≡ id.number)
+IsCovered log done = (place : ℕ) (p : Pattern) → PostAt (history_of log) place p → (k : ℕ) × (id : RequestId) × (request_at done k ≡ Some id) × (count_before (history_of log) place ≡ id.number)
 
 -- besides, what the steps sent is what the log sent, and each receive of the log is one of theirs
 pub record IsHonest (n : ℕ) (log : List Entry) (done : List StepReport) : Type 0 where
@@ -52,7 +52,7 @@ covered-logged log e done covered none place p g =
     elim (lt_or_ge place (length h)) [
       | inl l ↦
           let c = covered place p (get_in_front h es place (Post p) l at) in
-          (c.0, c.1, c.2, ap (λ (ys : List Event). number ys place) (history-push log e) ∙ number_front h es place (omega (arith, l)) ∙ c.3)
+          (c.0, c.1, c.2, ap (λ (ys : List Event). count_before ys place) (history-push log e) ∙ count_front h es place (omega (arith, l)) ∙ c.3)
       | inr far ↦ absurd (late h es place p (none-events log h e none) far at)
     ]
 

@@ -5,19 +5,19 @@ use Rattle.ulfm_laws.proofs.Common.{Context, Decision, at, Report, Inboxes, IsAt
 use Rattle.ulfm_board.specs.Known.{BothAgree, known_at}
 use Rattle.ulfm_rank.specs.Facts.{IsSigned}
 use Rattle.ulfm_script.specs.Deciding.{Known}
-use Rattle.ulfm_script.specs.Job.{Seen}
+use Rattle.ulfm_job.specs.Job.{Seen}
 use Rattle.ulfm_script.proofs.Kept.{keeps_of, signed_of}
 use Rattle.ulfm_laws.specs.Lawful.{AreProduced, KnowAtRest, LawfulReport}
-use Rattle.ulfm_laws.specs.Shrinks.{AdoptOwn, AdoptOne}
+use Rattle.ulfm_laws.specs.Shrinks.{AdoptOwn, AdoptOne, EnterOnce}
 use Rattle.ulfm_laws.proofs.Arrivals.{read_at, come_as_sent, all_come}
 use Rattle.ulfm_laws.proofs.AtRest.{knows-stopped, agrees-revoked}
 use Rattle.ulfm_laws.proofs.Borne.{borne_out}
 use Rattle.ulfm_laws.proofs.Faithful.{faithful}
 use Rattle.ulfm_laws.proofs.Finding.{AreHonest}
-use Rattle.ulfm_laws.proofs.Flowing.{AreFlowing}
+use Rattle.ulfm_laws.proofs.Flowing.{AreFlowing, gone_stopped}
 use Rattle.ulfm_base.proofs.Places.{there}
 use Rattle.ulfm_laws.proofs.Honest.{IsHonest}
-use Rattle.ulfm_laws.proofs.Mail.{IsTakenFrom}
+use Rattle.ulfm_laws.proofs.Once.{once_of}
 use Rattle.ulfm_laws.proofs.OneGroup.{one_group}
 use Rattle.ulfm_laws.proofs.Own.{own_at}
 use Rattle.ulfm_laws.proofs.Proposing.{AllKeep, proposes_each}
@@ -26,7 +26,7 @@ use Rattle.ulfm_laws.proofs.Taken.{taken_of}
 -- steps that are true of their logs, and items that flow, are all that a reader needs
 pub honest_reports : (inboxes : Inboxes) (reports : List Report) → AreFlowing inboxes reports → ((k : ℕ) (told : Report) → at reports k told → IsHonest told.rank.ranks told.rank.log told.steps) → AreHonest reports
 honest_reports inboxes reports h honest = record {
-  honest = λ d i. let x = there reports d i in let T : Report → Type 0 = λ (r : Report). IsHonest r.rank.ranks r.rank.log r.steps in subst T (sym (read_at reports d x.0 x.1)) (honest d x.0 x.1);
+  honest = λ d i. let x = there reports d i in rw (read_at reports d x.0 x.1) (honest d x.0 x.1);
   counted = λ d i. let x = there reports d i in ap (λ (r : Report). r.rank.ranks) (read_at reports d x.0 x.1) ∙ h.counted d x.0 x.1;
   sent = come_as_sent inboxes reports h honest;
 }
@@ -60,15 +60,19 @@ module _ (job : Seen) (inboxes : Inboxes) (knows : List Known) (reports : List R
       let x = known_of r told here in
       keeps_of (length reports) r x.0 told (h.answers r told x.0 here x.1) (counted r told here) (h.order r told here) (slice_get_within reports r told here)
 
+  each_once : EnterOnce reports
+  each_once r told here =
+      let x = known_of r told here in
+      once_of x.0 told (h.answers r told x.0 here x.1) (omega (arith, slice_get_within reports r told here, counted r told here, h.order r told here))
+
   signed : (k : ℕ) (told : Report) → at reports k told → All (IsSigned told.rank.me) told.rank.log
   signed k told here = let x = known_of k told here in signed_of x.0 told (h.answers k told x.0 here x.1)
 
   honest : (k : ℕ) (told : Report) → at reports k told → IsHonest told.rank.ranks told.rank.log told.steps
   honest k told here =
       let x = known_of k told here in
-      let T : ℕ → Type 0 = λ (n : ℕ). All (IsTakenFrom n) told.rank.log in
       borne_out x.0 told (h.answers k told x.0 here x.1)
-      (subst T (sym (counted k told here)) (taken_of inboxes reports flowing signed (λ d r q s far. (h.scripts d r q).within s (omega (arith, far, h.each))) k told here))
+      (rw (counted k told here) (taken_of inboxes reports flowing signed (λ d r q s far. (h.scripts d r q).within s (omega (arith, far, h.each))) k told here))
 
   at_rest : IsAtRest inboxes reports → KnowAtRest reports
   at_rest rest = record {
@@ -85,6 +89,9 @@ module _ (job : Seen) (inboxes : Inboxes) (knows : List Known) (reports : List R
     known_each = h.known_each;
     answers = h.answers;
     agreed = h.agreed;
+    gone = gone_stopped inboxes reports flowing;
+    revoked = h.revoked;
+    entered = each_once;
     own = adopt_own;
     decisions = h.decisions;
     one_decision = adopt_one;

@@ -19,6 +19,8 @@ pub mod Faithful
 pub mod Own
 pub mod OneGroup
 pub mod Flowing
+pub mod Notices
+pub mod Once
 pub mod AtRest
 pub mod Proposing
 pub mod Taken

@@ -1,9 +1,9 @@
 -- What is given keeps the order of the sends and of the posts.
-use Rattle.std.proofs.Common.{◌≡◌, ℕ, ◌<◌, inl, inr, List, ◌∷◌, ◌++◌, length, take, refl, ap, sym, ◌∙◌, subst, arith, append_assoc, Some, slice_get}
-use Rattle.ulfm_laws.proofs.Common.{Context, Tag, WorldRank, Letter, Pattern, Event, History, Post, number, group_at, Send, Sent, StepReport, report_of, request_at, RequestId, Report, report_at}
-use Rattle.ulfm_base.specs.Pattern.{Admits, AdmitsSource, AdmitsTag}
+use Rattle.std.proofs.Common.{◌≡◌, ℕ, ◌<◌, inl, inr, List, ◌∷◌, ◌++◌, length, take, refl, ap, sym, subst, ◌∙◌, arith, append_assoc, Some, slice_get}
+use Rattle.ulfm_laws.proofs.Common.{Context, Tag, Letter, Pattern, Event, History, Post, count_before, group_at, Send, Sent, StepReport, step_report, request_at, RequestId, Report, report_at}
+use Rattle.ulfm_base.specs.Pattern.{Admits}
 use Rattle.ulfm_match.proofs.Decide.{compared}
-use Rattle.ulfm_match.proofs.Histories.{number_below}
+use Rattle.ulfm_match.proofs.Histories.{count_below}
 use Rattle.std.proofs.lemmas.Option.{same_Some}
 use Rattle.ulfm_laws.specs.Reader.{Content, content, history_at, IsStep, sent_in, come_in, letters_come, letters_sent, IsPostedBy, IsSentBy, LettersKeepOrder, ReceivesKeepOrder}
 use Rattle.ulfm_laws.proofs.Contents.{sent_one, come_few, come_is}
@@ -17,7 +17,7 @@ module _ (reports : List Report) (all : AreHonest reports) where
   -- receives stand in the order of their steps
   earlier_step : (d : ℕ) → d < length reports → (i k place other : ℕ) (p q : Pattern) → IsPostedBy (report_at reports d) i place p → IsPostedBy (report_at reports d) k other q → place < other → i < k
   earlier_step d inside i k place other p q a b l =
-      let n : number (history_at reports d) place < number (history_at reports d) other = number_below (history_at reports d) place other (Post p) a.posted refl l in
+      let n : count_before (history_at reports d) place < count_before (history_at reports d) other = count_below (history_at reports d) place other (Post p) a.posted refl l in
       let less : a.id.number < b.id.number = omega (arith, n, a.numbered, b.numbered) in
       let ra = its_request (report_at reports d) i place p a in
       let rb = its_request (report_at reports d) k other q b in
@@ -37,8 +37,8 @@ module _ (reports : List Report) (all : AreHonest reports) where
       elim (compared place other) [
         | inl h ↦ h
         | inr o ↦ elim o [
-          | inl same ↦ absurd (let e : number (history_at reports d) place ≡ number (history_at reports d) other = ap (number (history_at reports d)) same in omega (arith, less, e, a.numbered, b.numbered))
-          | inr h ↦ absurd (let n : number (history_at reports d) other < number (history_at reports d) place = number_below (history_at reports d) other place (Post q) b.posted refl h in omega (arith, less, n, a.numbered, b.numbered))
+          | inl same ↦ absurd (let e : count_before (history_at reports d) place ≡ count_before (history_at reports d) other = ap (count_before (history_at reports d)) same in omega (arith, less, e, a.numbered, b.numbered))
+          | inr h ↦ absurd (let n : count_before (history_at reports d) other < count_before (history_at reports d) place = count_below (history_at reports d) other place (Post q) b.posted refl h in omega (arith, less, n, a.numbered, b.numbered))
         ]
       ]
 
@@ -73,14 +73,13 @@ module _ (reports : List Report) (all : AreHonest reports) where
       let h : History = history_at reports d in
       let c : ℕ = comm.number in
       let group : List ℕ = group_at own.rank c in
-      let N : ℕ → Type 0 = λ i. length (letters_come s i (take b h)) ≡ length (letters_sent own.rank i d (take j own.steps)) in
       let p = flat_front (come_in s c) h b in
       let w = all.sent s d c x.inside inside in
       let q = flat_front (sent_in group c d) own.steps j in
       let joined : letters_come s c (take b h) ++ (p.0 ++ w.0) ≡ letters_sent own.rank c d (take j own.steps) ++ q.0 =
       sym (append_assoc (letters_come s c (take b h)) p.0 w.0) ∙ ap (λ (xs : List Content). xs ++ w.0) p.1 ∙ w.1 ∙ sym q.1 in
-      let fronts : letters_come s c (take b h) ≡ letters_sent own.rank c d (take j own.steps) = same_fronts (letters_come s c (take b h)) (p.0 ++ w.0) (letters_sent own.rank c d (take j own.steps)) q.0 joined (subst N same x.in_order) in
-      let y : StepReport = report_of (Send to tag body comm) Sent step.at step.polls in
+      let fronts : letters_come s c (take b h) ≡ letters_sent own.rank c d (take j own.steps) = same_fronts (letters_come s c (take b h)) (p.0 ++ w.0) (letters_sent own.rank c d (take j own.steps)) q.0 joined (rw same at x.in_order) in
+      let y : StepReport = step_report (Send to tag body comm) Sent step.at step.polls in
       let z = flat_within (sent_in group c d) own.steps k j y less step.stands in
       let list : letters_come s c (take b h) ≡ letters_sent own.rank c d (take k own.steps) ++ content tag body ∷ z.0 =
       fronts ∙ z.1 ∙ ap (λ (xs : List Content). letters_sent own.rank c d (take k own.steps) ++ (xs ++ z.0)) (sent_one group d to tag body comm directed) in
@@ -90,8 +89,6 @@ module _ (reports : List Report) (all : AreHonest reports) where
       let its_tag : tag ≡ m.letter.envelope.tag = ap (λ (v : Content). v.tag) (sym m.carries) in
       let its_body : body ≡ m.letter.body = ap (λ (v : Content). v.body) (sym m.carries) in
       let its_comm : comm ≡ m.letter.envelope.context = same_context comm m.letter.envelope.context (sym m.context) in
-      let D : Context → Type 0 = λ (r : Context). slice_get (group_at own.rank r.number) to ≡ Some d in
-      let O : Context → Type 0 = λ (r : Context). length (letters_come s r.number (take g.index h)) ≡ length (letters_sent own.rank r.number d (take k own.steps)) in
       record {
         place = g.index;
         letter = m.letter;
@@ -100,10 +97,10 @@ module _ (reports : List Report) (all : AreHonest reports) where
           to = to;
           inside = x.inside;
           step = sent_letter own k to m.letter tag body comm its_tag its_body its_comm step;
-          directed = subst D its_comm directed;
+          directed = rw its_comm at directed;
           came = t.1 ∙ ap (λ (e : Event). Some e) m.came;
           source = m.source;
-          in_order = subst O its_comm (as_many s c (take g.index h) (take g.index (take b h)) (letters_sent own.rank c d (take k own.steps)) (sym t.2) g.before);
+          in_order = subst (λ (r : Context). length (letters_come s r.number (take g.index h)) ≡ length (letters_sent own.rank r.number d (take k own.steps))) its_comm (as_many s c (take g.index h) (take g.index (take b h)) (letters_sent own.rank c d (take k own.steps)) (sym t.2) g.before);
         };
         source = m.source;
         tagged = sym its_tag;
@@ -115,12 +112,10 @@ module _ (reports : List Report) (all : AreHonest reports) where
       let h : History = history_at reports d in
       let own = pair_admits h given.pairing given.lawful given.post_place given.come_place given.pattern given.letter given.receive.posted given.sent.came given.pairs in
       let x = has_come d s given.come_place j k to given.letter tag body comm given.inside given.sent (own.context ∙ sym adm.context) l step directed in
-      let S : WorldRank → Type 0 = λ (r : WorldRank). AdmitsSource given.pattern.source r in
-      let T : Tag → Type 0 = λ (t : Tag). AdmitsTag given.pattern.tag t in
       let admits : Admits given.pattern x.letter.envelope = record {
         context = x.context ∙ adm.context;
-        source = subst S (same_rank given.letter.envelope.source x.letter.envelope.source (given.sent.source ∙ sym x.source)) adm.source;
-        tag = subst T (sym x.tagged) adm.tag;
+        source = rw (same_rank given.letter.envelope.source x.letter.envelope.source (given.sent.source ∙ sym x.source)) at adm.source;
+        tag = rw x.tagged adm.tag;
       } in
       let e = given.lawful.earlier_letters given.post_place given.come_place x.place given.pattern x.letter given.pairs given.receive.posted x.earlier x.sent.came admits in
       let m = given.lawful.matched e.0 x.place e.2 in

@@ -1,8 +1,8 @@
 -- The answered steps of a rank are true of its log, and each request is answered once.
 use Rattle.std.proofs.Common.{◌≡◌, ℕ, zero, suc, ◌<◌, ◌≤◌, ◌⊎◌, inl, inr, List, [], ◌∷◌, ◌++◌, length, refl, ap, sym, ◌∙◌, subst, arith, Some, slice_get}
 use Rattle.std.proofs.lemmas.Option.{slice_get_within}
-use Rattle.ulfm_laws.proofs.Common.{RequestId, Event, number, Entry, history_of, events_by, StepReport, request_of, request_at}
-use Rattle.ulfm_match.proofs.Histories.{get_cases, number_rises}
+use Rattle.ulfm_laws.proofs.Common.{RequestId, Event, count_before, Entry, history_of, events_by, StepReport, request_of, request_at}
+use Rattle.ulfm_match.proofs.Histories.{get_cases, count_rises}
 use Rattle.ulfm_rank.proofs.Gather.{history-push}
 use Rattle.ulfm_laws.specs.Reader.{closes}
 use Rattle.ulfm_laws.proofs.Tells.{Tells, tells-logged, tells-answered}
@@ -10,7 +10,7 @@ use Rattle.ulfm_laws.proofs.Tells.{Tells, tells-logged, tells-answered}
 -- each answer is true, the requests have rising numbers, and each is closed once
 pub record IsOrderly (n : ℕ) (log : List Entry) (done : List StepReport) : Type 0 where
   pub tells : (k : ℕ) (x : StepReport) → slice_get done k ≡ Some x → Tells n log done x.step x.answer
-  pub below : (k : ℕ) (id : RequestId) → request_at done k ≡ Some id → id.number < number (history_of log) (length (history_of log))
+  pub below : (k : ℕ) (id : RequestId) → request_at done k ≡ Some id → id.number < count_before (history_of log) (length (history_of log))
   pub rises : (j k : ℕ) (id jd : RequestId) → j < k → request_at done j ≡ Some id → request_at done k ≡ Some jd → id.number < jd.number
   pub once : (j k req : ℕ) (x y : StepReport) → j < k → slice_get done j ≡ Some x → slice_get done k ≡ Some y → closes x.step x.answer ≡ Some req → closes y.step y.answer ≡ Some req → ⊥
 
@@ -30,15 +30,15 @@ pub orderly-logged : (n : ℕ) (log : List Entry) (e : Entry) (done : List StepR
 orderly-logged n log e done h = record {
   tells = λ k x g. tells-logged n log e done x.step x.answer (h.tells k x g);
   below = λ k id g.
-      let up : number (history_of log) (length (history_of log)) ≤ number (history_of log ++ events_by log (history_of log) e) (length (history_of log ++ events_by log (history_of log) e)) = number_rises (history_of log) (events_by log (history_of log) e) in
-      subst (λ (es : List Event). id.number < number es (length es)) (sym (history-push log e)) (omega (arith, up, h.below k id g));
+      let up : count_before (history_of log) (length (history_of log)) ≤ count_before (history_of log ++ events_by log (history_of log) e) (length (history_of log ++ events_by log (history_of log) e)) = count_rises (history_of log) (events_by log (history_of log) e) in
+      subst (λ (es : List Event). id.number < count_before es (length es)) (sym (history-push log e)) (omega (arith, up, h.below k id g));
   rises = h.rises;
   once = h.once;
 }
 
 -- one more answer
 pub orderly-answered : (n : ℕ) (log : List Entry) (done : List StepReport) (x : StepReport) → IsOrderly n log done → Tells n log (done ++ x ∷ []) x.step x.answer
-    → ((id : RequestId) → request_of x.answer ≡ Some id → (id.number < number (history_of log) (length (history_of log))) × ((k : ℕ) (jd : RequestId) → request_at done k ≡ Some jd → jd.number < id.number))
+    → ((id : RequestId) → request_of x.answer ≡ Some id → (id.number < count_before (history_of log) (length (history_of log))) × ((k : ℕ) (jd : RequestId) → request_at done k ≡ Some jd → jd.number < id.number))
     → ((req k : ℕ) (y : StepReport) → closes x.step x.answer ≡ Some req → slice_get done k ≡ Some y → closes y.step y.answer ≡ Some req → ⊥)
     → IsOrderly n log (done ++ x ∷ [])
 orderly-answered n log done x h new fresh first = record {

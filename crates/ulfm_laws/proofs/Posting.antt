@@ -1,23 +1,23 @@
 -- A receive that is posted keeps the steps of a rank true of its log.
-use Rattle.std.proofs.Common.{◌≡◌, ℕ, ◌<◌, inl, inr, Bool, true, false, cond, List, [], ◌∷◌, ◌++◌, length, refl, ap, sym, ◌∙◌, subst, arith, append_assoc, length-append, Option, Some, None, slice_get, not}
+use Rattle.std.proofs.Common.{◌≡◌, ℕ, ◌<◌, inl, inr, Bool, true, false, cond, List, [], ◌∷◌, ◌++◌, length, refl, ap, sym, ◌∙◌, subst, arith, append_assoc, length-append, Option, Some, slice_get}
 use Rattle.std.specs.Option.{is_some}
-use Rattle.std.proofs.lemmas.Bool.{false≢true}
+use Rattle.std.proofs.lemmas.Bool.{not-false}
 use Rattle.std.proofs.lemmas.List.Elements.{All-push}
 use Rattle.std.proofs.lemmas.Option.{same_Some, slice_get_within}
-use Rattle.ulfm_laws.proofs.Common.{Context, Tag, RequestId, Entry, group_of, members_of, is_revoked, is_stopped, State, Recv, Posted, StepReport}
-use Rattle.ulfm_base.specs.declared.error.CallError.{CallError}
-use Rattle.ulfm_base.specs.declared.error.CallError.TheVariants.{NoComm, Revoked, Stopped}
-use Rattle.ulfm_match.specs.History.{Event, Post, End, PostAt, number}
+use Rattle.ulfm_laws.proofs.Common.{Context, Tag, RequestId, Entry, group_of, members_of, is_revoked, State, Recv, Posted, StepReport}
+use Rattle.ulfm_match.specs.History.{Event, Post, End, PostAt, count_before}
 use Rattle.ulfm_match.proofs.Cut.{get_in_front}
 use Rattle.ulfm_match.proofs.Decide.{compared}
-use Rattle.ulfm_match.proofs.Histories.{number_below, number_front, get_here}
+use Rattle.ulfm_match.proofs.Histories.{count_below, count_front, get_here}
 use Rattle.ulfm_rank.specs.declared.entry.Entry.TheVariants.{Posted as PostedEntry}
 use Rattle.ulfm_rank.specs.Calls.{Posts, IsSourceOf}
 use Rattle.ulfm_rank.specs.Checks.{Passes, receive_checks}
 use Rattle.ulfm_rank.specs.History.{history_of, names_gone}
 use Rattle.ulfm_rank.proofs.Gather.{history-push}
 use Rattle.ulfm_rank.proofs.Grouped.{group_stays, members_found}
-use Rattle.ulfm_script.specs.Player.{comm_of, report_of, request_of, request_at}
+use Rattle.ulfm_rank.proofs.Firsts.{some_from}
+use Rattle.ulfm_rank.proofs.Refusals.{all_pass}
+use Rattle.ulfm_script.specs.Player.{comm_of, step_report, request_of, request_at}
 use Rattle.ulfm_laws.specs.Reader.{sent_in}
 use Rattle.ulfm_rank.proofs.Formed.{HasNoPost, none-nil, none-one, formed-posted}
 use Rattle.ulfm_laws.proofs.Honest.{IsCovered, sends-logged, late}
@@ -26,21 +26,11 @@ use Rattle.ulfm_laws.proofs.Mail.{IsTakenFrom, flat-push}
 use Rattle.ulfm_laws.proofs.Tells.{IsReceipt, asked_front}
 use Rattle.ulfm_laws.proofs.Closing.{IsTrueOf}
 
-passes_rest : (a : Bool) (e : CallError) (o : Option CallError) → cond a (Some e) o ≡ None → (a ≡ false) × (o ≡ None)
-passes_rest true e o h = let bad : ⊥ = cc in absurd bad
-passes_rest false e o h = (refl, h)
-
 -- the communicator of a receive that passes was made, and isn't revoked
 may_receive : (r : State) (c : ℕ) (source : Option ℕ) → Passes (receive_checks r c source) → ((group : List ℕ) × (group_of r.ranks r.log c ≡ Some group)) × (is_revoked r.log c ≡ false)
 may_receive r c source h =
-    let a = passes_rest (is_stopped r.log) Stopped _ h in
-    let b = passes_rest (not (is_some (group_of r.ranks r.log c))) NoComm _ a.1 in
-    let d = passes_rest (is_revoked r.log c) Revoked _ b.1 in
-    (found (group_of r.ranks r.log c) refl b.0, d.0)
-  where
-    found : (o : Option (List ℕ)) → group_of r.ranks r.log c ≡ o → not (is_some o) ≡ false → (group : List ℕ) × (group_of r.ranks r.log c ≡ Some group)
-    found None e k = absurd (false≢true (sym k))
-    found (Some group) e k = (group, e)
+    let all = all_pass (receive_checks r c source) h in
+    (some_from (group_of r.ranks r.log c) (not-false (is_some (group_of r.ranks r.log c)) all.1.0), all.1.1.0)
 
 asked_last : (done : List StepReport) (x : StepReport) → request_at (done ++ x ∷ []) (length done) ≡ request_of x.answer
 asked_last [] x = refl
@@ -50,7 +40,7 @@ no_end : (b : Bool) (k : ℕ) → HasNoPost (cond b (End k ∷ []) [])
 no_end true k = none-one (End k) (λ p e. cc)
 no_end false k = none-nil
 
-module _ (r : State) (done : List StepReport) (source : Option ℕ) (tag : Option Tag) (room : ℕ) (comm : Context) (id : RequestId) (at polls : ℕ) (new : State) (h : IsTrueOf r done) (passes : Passes (receive_checks r comm.number source)) (s : Posts r (comm_of comm) source tag room new) (numbered : id.number ≡ number (history_of r.log) (length (history_of r.log))) where
+module _ (r : State) (done : List StepReport) (source : Option ℕ) (tag : Option Tag) (room : ℕ) (comm : Context) (id : RequestId) (at polls : ℕ) (new : State) (h : IsTrueOf r done) (passes : Passes (receive_checks r comm.number source)) (s : Posts r (comm_of comm) source tag room new) (numbered : id.number ≡ count_before (history_of r.log) (length (history_of r.log))) where
   abbrev log : List Entry
   log = r.log
 
@@ -58,7 +48,7 @@ module _ (r : State) (done : List StepReport) (source : Option ℕ) (tag : Optio
   e = PostedEntry s.pattern
 
   abbrev pub x : StepReport
-  x = report_of (Recv source tag room comm) (Posted id) at polls
+  x = step_report (Recv source tag room comm) (Posted id) at polls
 
   abbrev old : List Event
   old = history_of r.log
@@ -75,8 +65,8 @@ module _ (r : State) (done : List StepReport) (source : Option ℕ) (tag : Optio
   here : slice_get now (length old) ≡ Some (Post s.pattern)
   here = get_here old (Post s.pattern) tail
 
-  its_number : number now (length old) ≡ id.number
-  its_number = number_front old (Post s.pattern ∷ tail) (length old) (omega arith) ∙ sym numbered
+  its_number : count_before now (length old) ≡ id.number
+  its_number = count_front old (Post s.pattern ∷ tail) (length old) (omega arith) ∙ sym numbered
 
   receipt : IsReceipt r.ranks (log ++ e ∷ []) source tag room comm id
   receipt =
@@ -87,7 +77,7 @@ module _ (r : State) (done : List StepReport) (source : Option ℕ) (tag : Optio
         place = length old;
         pattern = s.pattern;
         posted = subst (λ (g : List Event). PostAt g (length old) s.pattern) (sym long) here;
-        numbered = ap (λ (g : List Event). number g (length old)) long ∙ its_number;
+        numbered = ap (λ (g : List Event). count_before g (length old)) long ∙ its_number;
         context = s.receive.context;
         has_tag = s.receive.has_tag;
         has_room = s.receive.has_room;
@@ -96,11 +86,11 @@ module _ (r : State) (done : List StepReport) (source : Option ℕ) (tag : Optio
         asks_for = subst (λ (group : List ℕ). IsSourceOf group source s.pattern.source) same s.receive.asks_for;
       }
 
-  below : (jd : RequestId) → id ≡ jd → jd.number < number (history_of (log ++ e ∷ [])) (length (history_of (log ++ e ∷ [])))
+  below : (jd : RequestId) → id ≡ jd → jd.number < count_before (history_of (log ++ e ∷ [])) (length (history_of (log ++ e ∷ [])))
   below jd same =
-      let up : number now (length old) < number now (length now) = number_below now (length old) (length now) (Post s.pattern) here refl (slice_get_within now (length old) (Post s.pattern) here) in
+      let up : count_before now (length old) < count_before now (length now) = count_below now (length old) (length now) (Post s.pattern) here refl (slice_get_within now (length old) (Post s.pattern) here) in
       let n : id.number ≡ jd.number = ap (λ (i : RequestId). i.number) same in
-      subst (λ (g : List Event). jd.number < number g (length g)) (sym long) (omega (arith, up, its_number, n))
+      subst (λ (g : List Event). jd.number < count_before g (length g)) (sym long) (omega (arith, up, its_number, n))
 
   covered : IsCovered (log ++ e ∷ []) (done ++ x ∷ [])
   covered place p g =
@@ -108,9 +98,9 @@ module _ (r : State) (done : List StepReport) (source : Option ℕ) (tag : Optio
       elim (compared place (length old)) [
         | inl l ↦
             let c = h.covered place p (get_in_front old (Post s.pattern ∷ tail) place (Post p) l at') in
-            (c.0, c.1, asked_front done (x ∷ []) c.0 c.1 c.2, ap (λ (ys : List Event). number ys place) long ∙ number_front old (Post s.pattern ∷ tail) place (omega (arith, l)) ∙ c.3)
+            (c.0, c.1, asked_front done (x ∷ []) c.0 c.1 c.2, ap (λ (ys : List Event). count_before ys place) long ∙ count_front old (Post s.pattern ∷ tail) place (omega (arith, l)) ∙ c.3)
         | inr o ↦ elim o [
-          | inl same ↦ (length done, id, asked_last done x, ap (λ (ys : List Event). number ys place) long ∙ ap (number now) same ∙ its_number)
+          | inl same ↦ (length done, id, asked_last done x, ap (λ (ys : List Event). count_before ys place) long ∙ ap (count_before now) same ∙ its_number)
           | inr far ↦
               let at'' : PostAt ((old ++ Post s.pattern ∷ []) ++ tail) place p = subst (λ (xs : List Event). PostAt xs place p) (sym (append_assoc old (Post s.pattern ∷ []) tail)) at' in
               absurd (late (old ++ Post s.pattern ∷ []) tail place p (no_end (names_gone r.log s.pattern.source) (length old)) (omega (arith, far, length-append old (Post s.pattern ∷ []))) at'')
@@ -120,11 +110,10 @@ module _ (r : State) (done : List StepReport) (source : Option ℕ) (tag : Optio
   -- a receive that is posted
   pub true-posted : IsTrueOf new (done ++ x ∷ [])
   true-posted =
-      let T : State → Type 0 = λ (w : State). IsTrueOf w (done ++ x ∷ []) in
       let revoked : is_revoked log s.pattern.context.number ≡ false = ap (λ (k : Context). is_revoked log k.number) s.receive.context ∙ (may_receive r comm.number source passes).1 in
-      subst T (sym s.only) (record {
+      rw s.only (record {
         orderly = orderly-answered r.ranks (log ++ e ∷ []) done x (orderly-logged r.ranks log e done h.orderly) receipt
-            (λ jd q. (below jd (same_Some id jd q), λ k kd g. let l : kd.number < number old (length old) = h.orderly.below k kd g in let n : id.number ≡ jd.number = ap (λ (i : RequestId). i.number) (same_Some id jd q) in omega (arith, l, numbered, n)))
+            (λ jd q. (below jd (same_Some id jd q), λ k kd g. let l : kd.number < count_before old (length old) = h.orderly.below k kd g in let n : id.number ≡ jd.number = ap (λ (i : RequestId). i.number) (same_Some id jd q) in omega (arith, l, numbered, n)))
             (λ req k y q g f. let bad : ⊥ = cc in bad);
         sends = λ c d.
             let group : List ℕ = members_of r.ranks (log ++ e ∷ []) c in

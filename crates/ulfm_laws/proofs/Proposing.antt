@@ -1,12 +1,12 @@
 -- Who has a proposal where reports are at rest.
-use Rattle.std.proofs.Common.{◌≡◌, ◌≢◌, ℕ, true, false, eqb, List, length, ap, sym, subst, ◌∙◌, inl, inr, Some, is_some, ◌||◌}
+use Rattle.std.proofs.Common.{◌≡◌, ◌≢◌, ℕ, true, false, eqb, List, length, ap, sym, ◌∙◌, inl, inr, Some, is_some, ◌||◌}
 use Rattle.std.proofs.lemmas.Bool.{cases_Bool, cases_eq, or_left, or_right, ne_eqb, eq-eqb, cond-true, cond-false}
 use Rattle.ulfm_base.specs.Group.{is_member}
 use Rattle.ulfm_laws.proofs.Common.{at, Entry, group_at, Report, Inboxes, IsAtRest}
 use Rattle.ulfm_base.proofs.Among.{all_members}
 use Rattle.ulfm_rank.specs.Communicators.{group_of, is_made, members_of}
 use Rattle.ulfm_rank.specs.Facts.{took, is_stopped, is_gone}
-use Rattle.ulfm_rank.specs.Log.{first_of}
+use Rattle.ulfm_rank.specs.Log.{first_given}
 use Rattle.ulfm_rank.specs.Owed.{owed}
 use Rattle.ulfm_rank.specs.Shrink.{entry_of, heard_of, has_entered, listed_of, is_out, has_proposal}
 use Rattle.ulfm_rank.proofs.Belonging.{Keeps}
@@ -19,11 +19,11 @@ use Rattle.ulfm_laws.proofs.Flowing.{AreFlowing, same_report, running-not_gone}
 use Rattle.ulfm_base.proofs.Places.{there}
 use Rattle.ulfm_laws.proofs.OneGroup.{same_group}
 
-listed_other : (me : ℕ) (log : List Entry) (c m : ℕ) → m ≢ me → listed_of me log c m ≡ first_of (heard_of c m) log
-listed_other me log c m other = cond-false (eqb m me) (first_of (entry_of c) log) (first_of (heard_of c m) log) (ne_eqb m me other)
+listed_other : (me : ℕ) (log : List Entry) (c m : ℕ) → m ≢ me → listed_of me log c m ≡ first_given (heard_of c m) log
+listed_other me log c m other = cond-false (eqb m me) (first_given (entry_of c) log) (first_given (heard_of c m) log) (ne_eqb m me other)
 
-listed_self : (me : ℕ) (log : List Entry) (c m : ℕ) → m ≡ me → listed_of me log c m ≡ first_of (entry_of c) log
-listed_self me log c m same = cond-true (eqb m me) (first_of (entry_of c) log) (first_of (heard_of c m) log) (eq-eqb m me same)
+listed_self : (me : ℕ) (log : List Entry) (c m : ℕ) → m ≡ me → listed_of me log c m ≡ first_given (entry_of c) log
+listed_self me log c m same = cond-true (eqb m me) (first_given (entry_of c) log) (first_given (heard_of c m) log) (eq-eqb m me same)
 
 -- what the logs of these ranks keep of shrinks
 abbrev pub AllKeep : List Report → Type 0
@@ -75,7 +75,6 @@ module _ (inboxes : Inboxes) (reports : List Report) (h : AreFlowing inboxes rep
       let many : told.rank.ranks ≡ n = h.counted r told here in
       let mine = some_from (group_of n log c) (ap (λ (k : ℕ). is_made k log c) (sym many) ∙ made) in
       let same : group_at told.rank c ≡ mine.0 = ap (λ (k : ℕ). members_of k log c) many ∙ members_found n log c mine.0 mine.1 in
-      let A : List ℕ → Type 0 = λ (g : List ℕ). AllEntered reports g c in
       ap (λ (me : ℕ). has_proposal me (group_at told.rank c) log c) (h.order r told here)
       ∙ ap (λ (g : List ℕ). has_proposal r g log c) same
-      ∙ has_one r c told here running mine.0 mine.1 (subst A same entered)
+      ∙ has_one r c told here running mine.0 mine.1 (rw same at entered)

@@ -1,6 +1,6 @@
 -- Which step sent the letter that came at a place of the history.
-use Rattle.std.proofs.Common.{◌≡◌, ℕ, ◌<◌, List, ◌∷◌, ◌++◌, length, take, refl, ap, sym, ◌∙◌, subst, arith, append_assoc}
-use Rattle.ulfm_laws.proofs.Common.{Context, Letter, Tag, group_at, Send, Sent, report_of, Report, report_at}
+use Rattle.std.proofs.Common.{◌≡◌, ℕ, ◌<◌, List, ◌∷◌, ◌++◌, length, take, refl, ap, sym, ◌∙◌, arith, append_assoc}
+use Rattle.ulfm_laws.proofs.Common.{Context, Letter, Tag, group_at, Send, Sent, step_report, Report, report_at}
 use Rattle.ulfm_match.specs.History.{History, Come, ComeAt}
 use Rattle.ulfm_match.proofs.Unique.{same_letter}
 use Rattle.ulfm_laws.specs.Reader.{Content, content, history_at, IsStep, sent_in, come_in, letters_come, letters_sent, IsSentBy}
@@ -12,9 +12,7 @@ use Rattle.ulfm_laws.proofs.Sources.{come_bound}
 
 -- a step that sent what the letter carries, on its communicator
 pub sent_letter : (own : Report) (k to : ℕ) (letter : Letter) (tag : Tag) (body : List ℕ) (comm : Context) → tag ≡ letter.envelope.tag → body ≡ letter.body → comm ≡ letter.envelope.context → IsStep own k (Send to tag body comm) Sent → IsStep own k (Send to letter.envelope.tag letter.body letter.envelope.context) Sent
-sent_letter own k to letter tag body comm et eb ec step =
-    let A : Tag → List ℕ → Context → Type 0 = λ (t : Tag) (b : List ℕ) (c : Context). IsStep own k (Send to t b c) Sent in
-    subst (A letter.envelope.tag letter.body) ec (subst (λ (b : List ℕ). A letter.envelope.tag b comm) eb (subst (λ (t : Tag). A t body comm) et step))
+sent_letter own k to letter tag body comm et eb ec step = rw (← et, ← eb, ← ec) step
 
 module _ (reports : List Report) (all : AreHonest reports) (d : ℕ) (inside : d < length reports) where
   abbrev report : Report
@@ -59,23 +57,21 @@ module _ (reports : List Report) (all : AreHonest reports) (d : ℕ) (inside : d
       let steps = same_asked own j (Send x.to l.envelope.tag l.body l.envelope.context) (Send y.to m.envelope.tag m.body m.envelope.context) Sent Sent x.step y.step in
       let comm : l.envelope.context ≡ m.envelope.context = cc in
       let c : ℕ = m.envelope.context.number in
-      let N : ℕ → Type 0 = λ k. length (letters_come s k (take b (history_at reports d))) ≡ length (letters_sent own.rank k d (take j own.steps)) in
       index_same (come_in s c) (history_at reports d) b e (Come l) (Come m) (content l.envelope.tag l.body) (content m.envelope.tag m.body) x.came y.came
       (come_one s c l (ap (λ (k : Context). k.number) comm) x.source) (come_one s c m refl y.source)
-      (subst N (ap (λ (k : Context). k.number) comm) x.in_order ∙ sym y.in_order)
+      ((rw (ap (λ (k : Context). k.number) comm) at x.in_order) ∙ sym y.in_order)
 
   -- a letter was sent by one step
   pub same_send : (b : ℕ) (l m : Letter) (s j t k : ℕ) → IsSentBy reports d b l s j → IsSentBy reports d b m t k → (s ≡ t) × (j ≡ k)
   same_send b l m s j t k x y =
       let same : l ≡ m = same_letter (history_at reports d) b l m x.came y.came in
       let who : s ≡ t = sym x.source ∙ ap (λ (w : Letter). w.envelope.source.number) same ∙ y.source in
-      let Y : ℕ → Letter → Type 0 = λ i w. IsSentBy reports d b w i k in
-      let y' : IsSentBy reports d b l s k = subst (λ (w : Letter). Y s w) (sym same) (subst (λ i. Y i m) (sym who) y) in
+      let y' : IsSentBy reports d b l s k = rw (same, who) y in
       let own : Report = report_at reports s in
       let c : ℕ = l.envelope.context.number in
       let group : List ℕ = group_at own.rank c in
       let w : Content = content l.envelope.tag l.body in (
         who,
-        index_same (sent_in group c d) own.steps j k (report_of (Send x.to l.envelope.tag l.body l.envelope.context) Sent x.step.at x.step.polls) (report_of (Send y'.to l.envelope.tag l.body l.envelope.context) Sent y'.step.at y'.step.polls) w w x.step.stands y'.step.stands
+        index_same (sent_in group c d) own.steps j k (step_report (Send x.to l.envelope.tag l.body l.envelope.context) Sent x.step.at x.step.polls) (step_report (Send y'.to l.envelope.tag l.body l.envelope.context) Sent y'.step.at y'.step.polls) w w x.step.stands y'.step.stands
             (sent_one group d x.to l.envelope.tag l.body l.envelope.context x.directed) (sent_one group d y'.to l.envelope.tag l.body l.envelope.context y'.directed) (sym x.in_order ∙ y'.in_order),
       )

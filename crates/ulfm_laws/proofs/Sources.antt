@@ -1,6 +1,6 @@
 -- Each letter that came is from a rank of the world.
-use Rattle.std.proofs.Common.{◌≡◌, ℕ, zero, suc, ◌<◌, Bool, true, false, cond, List, [], ◌∷◌, ◌++◌, length, ap, sym, ◌∙◌, subst, Some, slice_get, All}
-use Rattle.ulfm_laws.proofs.Common.{Letter, WorldRank, Entry, is_revoked}
+use Rattle.std.proofs.Common.{◌≡◌, ℕ, zero, suc, ◌<◌, Bool, true, false, cond, List, [], ◌∷◌, ◌++◌, length, ap, sym, ◌∙◌, Some, slice_get, All}
+use Rattle.ulfm_laws.proofs.Common.{Letter, Entry, is_revoked}
 use Rattle.ulfm_base.specs.declared.item.Item.TheVariants.{Letter as Mail, Gone, Revoke, Enter}
 use Rattle.ulfm_base.specs.Pattern.{names}
 use Rattle.ulfm_match.specs.History.{Event, Post, Come, End, Clear, ComeAt}
@@ -51,7 +51,7 @@ from-events n log h (Posted p) own = from-append n (Post p ∷ []) (cond (names_
 from-events n log h (Revoked context) own = from-cond n (is_revoked log context.number) (Clear context.number) (λ l e. let bad : ⊥ = cc in absurd bad)
 from-events n log h (Took source (Mail letter)) own =
     from-cond n (is_revoked log letter.envelope.context.number) (Come letter)
-    (λ l e. let same : letter ≡ l = cc in let F : WorldRank → Type 0 = λ (r : WorldRank). r.number < n in subst F (sym own.1 ∙ ap (λ (m : Letter). m.envelope.source) same) own.0)
+    (λ l e. let same : letter ≡ l = cc in rw (sym own.1 ∙ ap (λ (m : Letter). m.envelope.source) same) at own.0)
 from-events n log h (Took source Gone) own = from-ends n source.number 0 h
 from-events n log h (Took source (Revoke context)) own = from-cond n (is_revoked log context.number) (Clear context.number) (λ l e. let bad : ⊥ = cc in absurd bad)
 from-events n log h (Took source (Enter context known)) own = from-nil n

@@ -3,25 +3,25 @@ use Rattle.std.proofs.Common.{◌≡◌, ℕ, zero, suc, ◌<◌, Bool, true, fa
 use Rattle.std.specs.Prelude.{⊤, ◌&&◌, slice_get}
 use Rattle.std.proofs.lemmas.Bool.{or_left, eqb-true}
 use Rattle.std.proofs.lemmas.Option.{slice_get_within}
-use Rattle.ulfm_laws.proofs.Common.{Context, Tag, Pattern, RequestId, Event, Post, PostAt, number, Entry, TestAnswer, group_of, members_of, history_of, events_by, Step, Send, Recv, Wait, StepAnswer, Sent, Posted, Done, Over, StepReport, request_at}
+use Rattle.ulfm_laws.proofs.Common.{Context, Tag, Pattern, RequestId, Event, Post, PostAt, count_before, Entry, TestAnswer, group_of, members_of, history_of, events_by, Step, Send, Recv, Wait, StepAnswer, Sent, Posted, Done, Over, StepReport, request_at}
 use Rattle.ulfm_match.specs.Pairing.{Pairing, LawfulPairing}
 use Rattle.ulfm_match.proofs.Cut.{get_front}
 use Rattle.ulfm_rank.specs.declared.entry.TestAnswer.TheVariants.{Done as TestDone, Over as TestOver}
-use Rattle.ulfm_rank.specs.Answer.{AnswersBy, is_release}
+use Rattle.ulfm_rank.specs.Answer.{IsAnswerBy, is_release}
 use Rattle.ulfm_rank.specs.Calls.{IsSourceOf}
 use Rattle.ulfm_rank.specs.Facts.{is_released, releases}
 use Rattle.ulfm_rank.proofs.Gather.{history-push, any-push}
 use Rattle.ulfm_rank.proofs.Grouped.{group_stays, members_found}
 use Rattle.ulfm_laws.specs.Reader.{content, is_rank, sent_by}
 use Rattle.ulfm_rank.proofs.Stays.{members_stay, answer_stays}
-use Rattle.ulfm_match.proofs.Histories.{number_front}
+use Rattle.ulfm_match.proofs.Histories.{count_front}
 
 -- a receive of the history has the number of this request, and asks for this
 pub record IsReceipt (n : ℕ) (log : List Entry) (source : Option ℕ) (tag : Option Tag) (room : ℕ) (comm : Context) (id : RequestId) : Type 0 where
   pub place : ℕ
   pub pattern : Pattern
   pub posted : PostAt (history_of log) place pattern
-  pub numbered : number (history_of log) place ≡ id.number
+  pub numbered : count_before (history_of log) place ≡ id.number
   pub context : pattern.context ≡ comm
   pub has_tag : pattern.tag ≡ tag
   pub has_room : pattern.room ≡ room
@@ -36,10 +36,10 @@ pub record IsVerdict (n : ℕ) (log : List Entry) (done : List StepReport) (req 
   pub place : ℕ
   pub pattern : Pattern
   pub posted : PostAt (history_of log) place pattern
-  pub numbered : number (history_of log) place ≡ id.number
+  pub numbered : count_before (history_of log) place ≡ id.number
   pub released : is_released log id.number ≡ true
   pub release : is_release answer ≡ true
-  pub answers : (r : Pairing) → LawfulPairing (history_of log) r → AnswersBy n log r place pattern answer
+  pub answers : (r : Pairing) → LawfulPairing (history_of log) r → IsAnswerBy n log r place pattern answer
 
 -- what an answered step tells
 abbrev pub Tells : ℕ → List Entry → List StepReport → Step → StepAnswer → Type 0
@@ -65,7 +65,7 @@ receipt-logged n log e source tag room comm id h =
       place = h.place;
       pattern = h.pattern;
       posted = subst (λ (g : List Event). PostAt g h.place h.pattern) (sym long) (get_front (history_of log) (events_by log (history_of log) e) h.place (Post h.pattern) h.posted);
-      numbered = ap (λ (g : List Event). number g h.place) long ∙ number_front (history_of log) (events_by log (history_of log) e) h.place (let l : h.place < length (history_of log) = slice_get_within (history_of log) h.place (Post h.pattern) h.posted in omega (arith, l)) ∙ h.numbered;
+      numbered = ap (λ (g : List Event). count_before g h.place) long ∙ count_front (history_of log) (events_by log (history_of log) e) h.place (let l : h.place < length (history_of log) = slice_get_within (history_of log) h.place (Post h.pattern) h.posted in omega (arith, l)) ∙ h.numbered;
       context = h.context;
       has_tag = h.has_tag;
       has_room = h.has_room;
@@ -83,7 +83,7 @@ verdict-logged n log e done req answer h =
       place = h.place;
       pattern = h.pattern;
       posted = subst (λ (g : List Event). PostAt g h.place h.pattern) (sym long) (get_front (history_of log) (events_by log (history_of log) e) h.place (Post h.pattern) h.posted);
-      numbered = ap (λ (g : List Event). number g h.place) long ∙ number_front (history_of log) (events_by log (history_of log) e) h.place (let l : h.place < length (history_of log) = slice_get_within (history_of log) h.place (Post h.pattern) h.posted in omega (arith, l)) ∙ h.numbered;
+      numbered = ap (λ (g : List Event). count_before g h.place) long ∙ count_front (history_of log) (events_by log (history_of log) e) h.place (let l : h.place < length (history_of log) = slice_get_within (history_of log) h.place (Post h.pattern) h.posted in omega (arith, l)) ∙ h.numbered;
       released = any-push (releases h.id.number) log e ∙ or_left (is_released log h.id.number) (releases h.id.number e) h.released;
       release = h.release;
       answers = answer_stays n log e h.place h.pattern answer h.posted h.release h.answers;
@@ -126,7 +126,5 @@ sent-logged n log e done c d (Send to tag body comm) Sent h = pick (eqb comm.num
 
     pick : (b : Bool) → (b ≡ true → comm.number ≡ c) → cond (b && is_rank d (slice_get (members_of n (log ++ e ∷ []) c) to)) (content tag body ∷ []) [] ≡ cond (b && is_rank d (slice_get (members_of n log c) to)) (content tag body ∷ []) []
     pick false same = refl
-    pick true same =
-        let R : ℕ → Type 0 = λ k. slice_get (members_of n (log ++ e ∷ []) k) to ≡ slice_get (members_of n log k) to in
-        ap (λ (o : Option ℕ). cond (is_rank d o) (content tag body ∷ []) []) (subst R (same refl) (later ∙ sym h.1))
+    pick true same = ap (λ (o : Option ℕ). cond (is_rank d o) (content tag body ∷ []) []) (rw (same refl) at (later ∙ sym h.1))
 sent-logged n log e done c d _ _ h = refl

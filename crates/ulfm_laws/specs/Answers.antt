@@ -2,24 +2,26 @@
 use Rattle.std.specs.Prelude.{ℕ, List}
 use Rattle.ulfm_base.specs.Lists.{at}
 use Rattle.ulfm_board.specs.Known.{BothAgree, known_at}
-use Rattle.ulfm_script.specs.Answered.{HasAnswers}
+use Rattle.ulfm_script.specs.Answered.{AnswersFollow}
 use Rattle.ulfm_script.specs.Deciding.{Known}
-use Rattle.ulfm_script.specs.Job.{Seen}
-use Rattle.ulfm_script.specs.Played.{HasPlayed}
+use Rattle.ulfm_job.specs.Job.{Seen}
+use Rattle.ulfm_script.specs.Played.{FollowsScript}
 use Rattle.ulfm_script.specs.Report.{Report}
 
 -- each rank went through its script
-abbrev pub ArePlayed : Seen → List Report → Type 0
-ArePlayed job reports = (k : ℕ) (told : Report) → at reports k told → HasPlayed job k told
+abbrev pub AllFollowScripts : Seen → List Report → Type 0
+AllFollowScripts job reports = (k : ℕ) (report : Report) → at reports k report → FollowsScript job k report
 
 -- each answer of each rank is its step's answer on the log's beginning up to its place, by the one lawful pairing and by the
 -- decisions that are known for this rank
-abbrev pub HaveAnswers : List Known → List Report → Type 0
-HaveAnswers knows reports = (k : ℕ) (told : Report) (known : Known) → at reports k told → at knows k known → HasAnswers known told
+abbrev pub AllAnswersFollow : List Known → List Report → Type 0
+AllAnswersFollow knows reports =
+    (k : ℕ) (report : Report) (known : Known) → at reports k report → at knows k known → AnswersFollow known report
 
 -- at these two places no two decisions of one shrink are known
 abbrev pub AgreeAt : List Known → ℕ → ℕ → Type 0
-AgreeAt knows i j = (one other : Known) → at knows i one → at knows j other → (c : ℕ) → BothAgree (known_at one c) (known_at other c)
+AgreeAt knows i j =
+    (one other : Known) → at knows i one → at knows j other → (c : ℕ) → BothAgree (known_at one c) (known_at other c)
 
 -- nowhere two decisions of one shrink are known
 abbrev pub AllAgree : List Known → Type 0

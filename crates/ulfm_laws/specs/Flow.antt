@@ -38,4 +38,5 @@ pub record Flow (sender : State) (s d : ℕ) (arrived : List Item) : Type 0 wher
 -- is left of it in the inbox.
 abbrev pub Flows : Inboxes → List Report → Type 0
 Flows inboxes reports =
-    (s d : ℕ) (sender receiver : Report) → at reports s sender → at reports d receiver → Flow sender.rank s d (took receiver.rank.log s ++ items_from s (inbox_of inboxes d))
+    (s d : ℕ) (sender receiver : Report) → at reports s sender → at reports d receiver
+    → Flow sender.rank s d (took receiver.rank.log s ++ items_from s (inbox_of inboxes d))

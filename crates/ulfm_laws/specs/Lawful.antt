@@ -2,14 +2,15 @@
 use Rattle.std.specs.Prelude.{List}
 use Rattle.ulfm_base.specs.Lists.{InPlace}
 use Rattle.ulfm_script.specs.Deciding.{Known}
-use Rattle.ulfm_script.specs.Job.{Seen}
+use Rattle.ulfm_job.specs.Job.{Seen}
 use Rattle.ulfm_script.specs.Report.{Report}
-use Rattle.ulfm_laws.specs.Answers.{ArePlayed, HaveAnswers, AllAgree}
+use Rattle.ulfm_laws.specs.Answers.{AllFollowScripts, AllAnswersFollow, AllAgree}
+use Rattle.ulfm_laws.specs.Causes.{GoneHaveStopped, RevokedByARank}
 use Rattle.ulfm_laws.specs.Flow.{Inboxes, Flows}
 use Rattle.ulfm_laws.specs.Reader.{IsFaithful, AllHasCome}
 use Rattle.ulfm_laws.specs.Reports.{IsEach}
 use Rattle.ulfm_laws.specs.Rest.{IsAtRest, KnowsStopped, AgreesOnRevoked}
-use Rattle.ulfm_laws.specs.Shrinks.{AdoptOwn, AdoptOne, AreTrue, HasOneGroup, ProposesEach}
+use Rattle.ulfm_laws.specs.Shrinks.{AdoptOwn, AdoptOne, AreTrue, EnterOnce, HasOneGroup, ProposesEach}
 
 -- Where nothing waits for any running rank: each of them knows each stopped one, all agree on revocations, each member of a
 -- communicator that all running ones shrink has a proposal, and what running ranks sent to one another has come.
@@ -21,34 +22,40 @@ pub record KnowAtRest (reports : List Report) : Type 0 where
 
 -- What an engine has to produce: a report for each rank, in rank order, whose script was played; items flow between each
 -- ordered pair of ranks; each answer is its step's answer by the one lawful pairing of the rank's log, where a decision is the
--- one that is known for this rank; no two decisions of one shrink are known, and those adopted are true of what ranks did.
+-- one that is known for this rank; no two decisions of one shrink are known, and those adopted are true of what ranks did;
+-- and each revocation was made by some rank's own call.
 pub record AreProduced (job : Seen) (inboxes : Inboxes) (knows : List Known) (reports : List Report) : Type 0 where
   pub each : IsEach job reports
   pub known_each : IsEach job knows
-  pub order : InPlace (λ (told : Report). told.rank.me) reports
-  pub scripts : ArePlayed job reports
+  pub order : InPlace (λ (report : Report). report.rank.me) reports
+  pub scripts : AllFollowScripts job reports
   pub flow : Flows inboxes reports
-  pub answers : HaveAnswers knows reports
+  pub answers : AllAnswersFollow knows reports
   pub agreed : AllAgree knows
   pub decisions : AreTrue reports
+  pub revoked : RevokedByARank reports
 
 -- The headline. What a rank took from each sender is, once and in order, a beginning of what that sender sent. Its receives
 -- are paired with letters by the one lawful pairing; after a revocation no receive there is paired; wildcards pend exactly at
--- unacknowledged known failures. Ranks that shrank hold one decision, survivors in order, and have one group. Each rank went
+-- unacknowledged known failures. Who is known to have failed has stopped, and what is revoked some rank's own call revoked.
+-- Ranks enter each shrink once. Those that shrank hold one decision, survivors in order, and have one group. Each rank went
 -- through its script, and the reports stand in rank order. What they tell of letters is true of what was sent. At rest all
 -- running ranks know what happened.
 pub record LawfulReport (job : Seen) (inboxes : Inboxes) (knows : List Known) (reports : List Report) : Type 0 where
   pub each : IsEach job reports
   pub flow : Flows inboxes reports
   pub known_each : IsEach job knows
-  pub answers : HaveAnswers knows reports
+  pub answers : AllAnswersFollow knows reports
   pub agreed : AllAgree knows
+  pub gone : GoneHaveStopped reports
+  pub revoked : RevokedByARank reports
+  pub entered : EnterOnce reports
   pub own : AdoptOwn knows reports
   pub decisions : AreTrue reports
   pub one_decision : AdoptOne reports
   pub one_group : HasOneGroup reports
-  pub scripts : ArePlayed job reports
-  pub order : InPlace (λ (told : Report). told.rank.me) reports
+  pub scripts : AllFollowScripts job reports
+  pub order : InPlace (λ (report : Report). report.rank.me) reports
   pub reader : IsFaithful reports
   pub rest : IsAtRest inboxes reports → KnowAtRest reports
 

@@ -5,3 +5,4 @@ pub mod Shrinks
 pub mod Rest
 pub mod Reader
 pub mod Lawful
+pub mod Causes

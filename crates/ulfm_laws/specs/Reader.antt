@@ -9,7 +9,7 @@ use Rattle.ulfm_base.specs.declared.error.CallError.TheVariants.{ProcFailed, Rev
 use Rattle.ulfm_base.specs.Group.{rank_in}
 use Rattle.ulfm_base.specs.Pattern.{Admits}
 use Rattle.ulfm_match.specs.declared.request.RequestId.{RequestId}
-use Rattle.ulfm_match.specs.History.{Event, History, Come, End, PostAt, ComeAt, StandsBetween, IsLiveReceive, IsLiveLetter, number}
+use Rattle.ulfm_match.specs.History.{Event, History, Come, End, PostAt, ComeAt, StandsBetween, IsLiveReceive, IsLiveLetter, count_before}
 use Rattle.ulfm_match.specs.Pairing.{Pairing, Pairs, LawfulPairing}
 use Rattle.ulfm_rank.specs.declared.entry.Status.{Status}
 use Rattle.ulfm_rank.specs.Calls.{IsSourceOf}
@@ -17,12 +17,12 @@ use Rattle.ulfm_rank.specs.Checks.{group_at}
 use Rattle.ulfm_rank.specs.Facts.{is_stopped, is_revoked}
 use Rattle.ulfm_rank.specs.History.{history_of}
 use Rattle.ulfm_rank.specs.State.{State}
-use Rattle.ulfm_script.specs.declared.step.Step.{Step}
-use Rattle.ulfm_script.specs.declared.step.Step.TheVariants.{Send, Recv, Wait}
+use Rattle.ulfm_job.specs.declared.step.Step.{Step}
+use Rattle.ulfm_job.specs.declared.step.Step.TheVariants.{Send, Recv, Wait}
 use Rattle.ulfm_script.specs.declared.answer.StepAnswer.{StepAnswer}
 use Rattle.ulfm_script.specs.declared.answer.StepAnswer.TheVariants.{Sent, Posted, Done, Over}
 use Rattle.ulfm_script.specs.declared.answer.StepReport.{StepReport}
-use Rattle.ulfm_script.specs.Player.{report_of as told}
+use Rattle.ulfm_script.specs.Player.{step_report}
 use Rattle.ulfm_script.specs.Report.{Report}
 use Rattle.ulfm_laws.specs.Reports.{report_at}
 
@@ -34,7 +34,7 @@ history_at reports r = history_of (report_at reports r).rank.log
 pub record IsStep (report : Report) (k : ℕ) (asked : Step) (said : StepAnswer) : Type 0 where
   pub at : ℕ
   pub polls : ℕ
-  pub stands : slice_get report.steps k ≡ Some (told asked said at polls)
+  pub stands : slice_get report.steps k ≡ Some (step_report asked said at polls)
 
 -- what a letter carries
 pub record Content : Type 0 where
@@ -82,8 +82,9 @@ ComeAsSent reports =
 -- On each communicator that isn't revoked at a running rank, all has come that running ranks sent to it.
 abbrev pub AllHasCome : List Report → Type 0
 AllHasCome reports =
-    (s d c : ℕ) → s < length reports → d < length reports → is_stopped (report_at reports s).rank.log ≡ false → is_stopped (report_at reports d).rank.log ≡ false →
-    is_revoked (report_at reports d).rank.log c ≡ false → letters_come s c (history_at reports d) ≡ letters_sent (report_at reports s).rank c d (report_at reports s).steps
+    (s d c : ℕ) → s < length reports → d < length reports → is_stopped (report_at reports s).rank.log ≡ false
+    → is_stopped (report_at reports d).rank.log ≡ false → is_revoked (report_at reports d).rank.log c ≡ false
+    → letters_come s c (history_at reports d) ≡ letters_sent (report_at reports s).rank c d (report_at reports s).steps
 
 -- the history of each rank has a lawful pairing, and no other
 abbrev pub HasOnePairing : List Report → Type 0
@@ -97,7 +98,7 @@ pub record IsPostedBy (report : Report) (i place : ℕ) (pattern : Pattern) : Ty
   pub id : RequestId
   pub step : IsStep report i (Recv source pattern.tag pattern.room pattern.context) (Posted id)
   pub posted : PostAt (history_of report.rank.log) place pattern
-  pub numbered : number (history_of report.rank.log) place ≡ id.number
+  pub numbered : count_before (history_of report.rank.log) place ≡ id.number
   pub asks_for : IsSourceOf (group_at report.rank pattern.context.number) source pattern.source
 
 -- The letter that came to the rank d at this place of its history is the one that step j of the rank s sent to it: before
@@ -141,8 +142,8 @@ pub record IsTold (reports : List Report) (d req : ℕ) (status : Status) (body 
 -- each wait that is done tells of the letter that its receive was given
 abbrev pub DoneIsGiven : List Report → Type 0
 DoneIsGiven reports =
-    (d k req : ℕ) (status : Status) (body : List ℕ) → d < length reports → IsStep (report_at reports d) k (Wait req) (Done status body) →
-    IsTold reports d req status body
+    (d k req : ℕ) (status : Status) (body : List ℕ) → d < length reports
+    → IsStep (report_at reports d) k (Wait req) (Done status body) → IsTold reports d req status body
 
 -- a receive was given a letter that is longer than its room
 pub record IsCut (reports : List Report) (d req : ℕ) : Type 0 where
@@ -154,9 +155,12 @@ pub record IsCut (reports : List Report) (d req : ℕ) : Type 0 where
 -- each receive that is over as truncated was given a letter longer than its room, and one that is over by a failure or a
 -- revocation is given none
 pub record OverIsTrue (reports : List Report) : Type 0 where
-  pub truncated : (d k req : ℕ) → d < length reports → IsStep (report_at reports d) k (Wait req) (Over Truncated) → IsCut reports d req
-  pub failed : (d k req s j : ℕ) → d < length reports → IsStep (report_at reports d) k (Wait req) (Over ProcFailed) → IsGiven reports d req s j → ⊥
-  pub revoked : (d k req s j : ℕ) → d < length reports → IsStep (report_at reports d) k (Wait req) (Over Revoked) → IsGiven reports d req s j → ⊥
+  pub truncated : (d k req : ℕ) → d < length reports → IsStep (report_at reports d) k (Wait req) (Over Truncated)
+      → IsCut reports d req
+  pub failed : (d k req s j : ℕ) → d < length reports → IsStep (report_at reports d) k (Wait req) (Over ProcFailed)
+      → IsGiven reports d req s j → ⊥
+  pub revoked : (d k req s j : ℕ) → d < length reports → IsStep (report_at reports d) k (Wait req) (Over Revoked)
+      → IsGiven reports d req s j → ⊥
 
 -- the step whose request a wait with this answer closes
 abbrev pub closes : Step → StepAnswer → Option ℕ
@@ -168,32 +172,37 @@ closes _ _ = None
 pub record GivesOnce (reports : List Report) : Type 0 where
   pub one_receive : (d i e k s j : ℕ) → IsGiven reports d i s j → IsGiven reports e k s j → (d ≡ e) × (i ≡ k)
   pub one_letter : (d i s j t k : ℕ) → IsGiven reports d i s j → IsGiven reports d i t k → (s ≡ t) × (j ≡ k)
-  pub one_wait : (d k m req : ℕ) (x y : StepReport) → d < length reports → slice_get (report_at reports d).steps k ≡ Some x → slice_get (report_at reports d).steps m ≡ Some y →
-      closes x.step x.answer ≡ Some req → closes y.step y.answer ≡ Some req → k ≡ m
+  pub one_wait : (d k m req : ℕ) (x y : StepReport) → d < length reports → slice_get (report_at reports d).steps k ≡ Some x
+      → slice_get (report_at reports d).steps m ≡ Some y → closes x.step x.answer ≡ Some req → closes y.step y.answer ≡ Some req
+      → k ≡ m
 
 -- Two waits that are done and tell of one send are one wait.
 abbrev pub DonesDiffer : List Report → Type 0
 DonesDiffer reports =
-    (d k req e m other : ℕ) (status another : Status) (body text : List ℕ) (x : IsTold reports d req status body) (y : IsTold reports e other another text) →
-    IsStep (report_at reports d) k (Wait req) (Done status body) → IsStep (report_at reports e) m (Wait other) (Done another text) →
-    x.sender ≡ y.sender → x.step ≡ y.step → (d ≡ e) × (k ≡ m)
+    (d k req e m other : ℕ) (status another : Status) (body text : List ℕ)
+    (x : IsTold reports d req status body) (y : IsTold reports e other another text)
+    → IsStep (report_at reports d) k (Wait req) (Done status body)
+    → IsStep (report_at reports e) m (Wait other) (Done another text) → x.sender ≡ y.sender → x.step ≡ y.step
+    → (d ≡ e) × (k ≡ m)
 
 -- No letter overtakes another: of two that one rank sent to another and that a receive admits, the later isn't given to it
 -- unless the earlier was given to a receive that was posted before.
 abbrev pub LettersKeepOrder : List Report → Type 0
 LettersKeepOrder reports =
-    (d i s j k to : ℕ) (tag : Tag) (body : List ℕ) (comm : Context) (given : IsGiven reports d i s j) → k < j →
-    IsStep (report_at reports s) k (Send to tag body comm) Sent → slice_get (group_at (report_at reports s).rank comm.number) to ≡ Some d →
-    Admits given.pattern (record { context = comm; source = given.letter.envelope.source; tag = tag }) →
-    (before : ℕ) × (before < i) × IsGiven reports d before s k
+    (d i s j k to : ℕ) (tag : Tag) (body : List ℕ) (comm : Context) (given : IsGiven reports d i s j) → k < j
+    → IsStep (report_at reports s) k (Send to tag body comm) Sent
+    → slice_get (group_at (report_at reports s).rank comm.number) to ≡ Some d
+    → Admits given.pattern (record { context = comm; source = given.letter.envelope.source; tag = tag })
+    → (before : ℕ) × (before < i) × IsGiven reports d before s k
 
 -- No receive overtakes another: if one that was posted earlier also admits the letter, and hasn't ended by a failure before
 -- the pair is made, then it is given a letter that came earlier.
 abbrev pub ReceivesKeepOrder : List Report → Type 0
 ReceivesKeepOrder reports =
-    (d i s j k place : ℕ) (pattern : Pattern) (given : IsGiven reports d i s j) → k < i → IsPostedBy (report_at reports d) k place pattern →
-    Admits pattern given.letter.envelope → (StandsBetween (history_at reports d) (End place) place (max given.post_place given.come_place) → ⊥) →
-    (sender step : ℕ) × (earlier : IsGiven reports d k sender step) × (earlier.come_place < given.come_place)
+    (d i s j k place : ℕ) (pattern : Pattern) (given : IsGiven reports d i s j) → k < i
+    → IsPostedBy (report_at reports d) k place pattern → Admits pattern given.letter.envelope
+    → (StandsBetween (history_at reports d) (End place) place (max given.post_place given.come_place) → ⊥)
+    → (sender step : ℕ) × (earlier : IsGiven reports d k sender step) × (earlier.come_place < given.come_place)
 
 -- a receive of the rank d is left: it is neither over nor given a letter
 pub record IsLeftWaiting (reports : List Report) (d i : ℕ) (pattern : Pattern) : Type 0 where
@@ -212,8 +221,8 @@ pub record IsLeftKept (reports : List Report) (d s j : ℕ) (letter : Letter) : 
 -- No match is missed: no receive that is left admits a letter that is left.
 abbrev pub NoneIsMissed : List Report → Type 0
 NoneIsMissed reports =
-    (d i s j : ℕ) (pattern : Pattern) (letter : Letter) → d < length reports → IsLeftWaiting reports d i pattern → IsLeftKept reports d s j letter →
-    Admits pattern letter.envelope → ⊥
+    (d i s j : ℕ) (pattern : Pattern) (letter : Letter) → d < length reports → IsLeftWaiting reports d i pattern
+    → IsLeftKept reports d s j letter → Admits pattern letter.envelope → ⊥
 
 -- All of this: what a trace tells of letters is true of what was sent, once each and in order.
 pub record IsFaithful (reports : List Report) : Type 0 where

@@ -6,7 +6,7 @@ use Rattle.ulfm_rank.specs.declared.entry.Entry.TheVariants.{Adopted}
 use Rattle.ulfm_rank.specs.Communicators.{is_made}
 use Rattle.ulfm_rank.specs.Facts.{is_stopped}
 use Rattle.ulfm_rank.specs.State.{start_state}
-use Rattle.ulfm_script.specs.Job.{Seen}
+use Rattle.ulfm_job.specs.Job.{Seen}
 use Rattle.ulfm_script.specs.Report.{Report}
 
 -- a report where there is none
@@ -23,16 +23,16 @@ IsEach job xs = length xs ≡ job.ranks
 
 -- the rank runs
 abbrev pub IsRunning : Report → Type 0
-IsRunning told = is_stopped told.rank.log ≡ false
+IsRunning report = is_stopped report.rank.log ≡ false
 
 -- the rank has stopped
 abbrev pub HasStopped : Report → Type 0
-HasStopped told = is_stopped told.rank.log ≡ true
+HasStopped report = is_stopped report.rank.log ≡ true
 
 -- the communicator of a context was made at the rank
 abbrev pub HasMade : Report → ℕ → Type 0
-HasMade told c = is_made told.rank.ranks told.rank.log c ≡ true
+HasMade report c = is_made report.rank.ranks report.rank.log c ≡ true
 
 -- the rank's log adopts this decision
 abbrev pub HasAdopted : Report → Decision → Type 0
-HasAdopted told d = (k : ℕ) × at told.rank.log k (Adopted d)
+HasAdopted report d = (k : ℕ) × at report.rank.log k (Adopted d)

@@ -14,14 +14,16 @@ pub record IsServed (inboxes : Inboxes) (reports : List Report) (d : ℕ) : Type
 
 -- nothing waits for any running rank
 abbrev pub IsAtRest : Inboxes → List Report → Type 0
-IsAtRest inboxes reports = (d : ℕ) (told : Report) → at reports d told → IsRunning told → IsServed inboxes reports d
+IsAtRest inboxes reports = (d : ℕ) (report : Report) → at reports d report → IsRunning report → IsServed inboxes reports d
 
 -- each running rank knows each rank that stopped (ULFM, failure notification)
 abbrev pub KnowsStopped : List Report → Type 0
 KnowsStopped reports =
-    (s d : ℕ) (sender receiver : Report) → at reports s sender → at reports d receiver → HasStopped sender → IsRunning receiver → is_gone receiver.rank.log s ≡ true
+    (s d : ℕ) (sender receiver : Report) → at reports s sender → at reports d receiver → HasStopped sender → IsRunning receiver
+    → is_gone receiver.rank.log s ≡ true
 
 -- a context that one running rank has revoked is revoked at each running rank (ULFM, revocation)
 abbrev pub AgreesOnRevoked : List Report → Type 0
 AgreesOnRevoked reports =
-    (s d c : ℕ) (sender receiver : Report) → at reports s sender → at reports d receiver → IsRunning sender → IsRunning receiver → is_revoked sender.rank.log c ≡ true → is_revoked receiver.rank.log c ≡ true
+    (s d c : ℕ) (sender receiver : Report) → at reports s sender → at reports d receiver → IsRunning sender → IsRunning receiver
+    → is_revoked sender.rank.log c ≡ true → is_revoked receiver.rank.log c ≡ true

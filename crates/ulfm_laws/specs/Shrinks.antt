@@ -1,5 +1,6 @@
 -- What ranks that shrank agree on (ULFM, shrink).
 use Rattle.std.specs.Prelude.{◌≡◌, ⊤, ℕ, true, List, Option, Some}
+use Rattle.ulfm_base.specs.declared.context.Context.{Context}
 use Rattle.ulfm_base.specs.declared.decision.Decision.{Decision}
 use Rattle.ulfm_base.specs.declared.rank_set.RankSet.{RankSet}
 use Rattle.ulfm_base.specs.Decision.{entry_at}
@@ -8,12 +9,12 @@ use Rattle.ulfm_base.specs.Lists.{at}
 use Rattle.ulfm_base.specs.RankSet.{has}
 use Rattle.ulfm_board.specs.Known.{known_at}
 use Rattle.ulfm_rank.specs.declared.entry.Entry.{Entry}
-use Rattle.ulfm_rank.specs.declared.entry.Entry.TheVariants.{Adopted}
+use Rattle.ulfm_rank.specs.declared.entry.Entry.TheVariants.{Adopted, Entered}
 use Rattle.ulfm_rank.specs.Checks.{group_at}
-use Rattle.ulfm_rank.specs.Log.{first_of}
+use Rattle.ulfm_rank.specs.Log.{first_given}
 use Rattle.ulfm_rank.specs.Shrink.{entry_of, has_entered, has_proposal}
 use Rattle.ulfm_rank.specs.State.{State}
-use Rattle.ulfm_script.specs.Answered.{Stood}
+use Rattle.ulfm_script.specs.Answered.{StoodAt}
 use Rattle.ulfm_script.specs.Deciding.{Known}
 use Rattle.ulfm_script.specs.Report.{Report}
 use Rattle.ulfm_laws.specs.Reports.{IsRunning, HasStopped, HasMade, HasAdopted}
@@ -24,29 +25,39 @@ pub record IsOwn (known : Known) (rank : State) (d : Decision) : Type 0 where
   pub held : known_at known d.context.number ≡ Some d
   pub place : ℕ
   pub then : State
-  pub stood : Stood rank place then
+  pub stood : StoodAt rank place then
   pub group : d.old ≡ group_at then d.context.number
   pub member : is_member d.fresh rank.me ≡ true
 
 -- each decision that a rank adopted is its own, with what is known at the place of its number
 abbrev pub AdoptOwn : List Known → List Report → Type 0
-AdoptOwn knows reports = (k : ℕ) (told : Report) (known : Known) (d : Decision) → at reports k told → at knows k known → HasAdopted told d → IsOwn known told.rank d
+AdoptOwn knows reports =
+    (k : ℕ) (report : Report) (known : Known) (d : Decision) → at reports k report → at knows k known → HasAdopted report d
+    → IsOwn known report.rank d
 
 -- the rank entered the shrink of c with these failures known to it
 abbrev pub HasEntered : Report → ℕ → RankSet → Type 0
-HasEntered told c known = first_of (entry_of c) told.rank.log ≡ Some known
+HasEntered report c known = first_given (entry_of c) report.rank.log ≡ Some known
+
+-- two entries of a log into the shrink of one context are one
+abbrev pub EntersEachOnce : List Entry → Type 0
+EntersEachOnce log = (k m : ℕ) (context : Context) (known other : RankSet) → at log k (Entered context known) → at log m (Entered context other) → k ≡ m
+
+-- each rank entered the shrink of a communicator once
+abbrev pub EnterOnce : List Report → Type 0
+EnterOnce reports = (r : ℕ) (report : Report) → at reports r report → EntersEachOnce report.rank.log
 
 -- what the rank r reports: it entered the shrink of c with these failures known to it
 pub record EnteredWith (reports : List Report) (r c : ℕ) (known : RankSet) : Type 0 where
-  pub told : Report
-  pub reported : at reports r told
-  pub entered : HasEntered told c known
+  pub report : Report
+  pub reported : at reports r report
+  pub entered : HasEntered report c known
 
 -- what the rank r reports: it stopped
 pub record StoppedAt (reports : List Report) (r : ℕ) : Type 0 where
-  pub told : Report
-  pub reported : at reports r told
-  pub stopped : HasStopped told
+  pub report : Report
+  pub reported : at reports r report
+  pub stopped : HasStopped report
 
 -- each rank that is listed entered the shrink of c with the failures that are listed for it
 abbrev pub ListsTruly : List Report → ℕ → List (Option RankSet) → Type 0
@@ -68,23 +79,31 @@ AdoptsTruly reports _ = ⊤
 
 -- each decision that a rank adopted is true of what the ranks report
 abbrev pub AreTrue : List Report → Type 0
-AreTrue reports = (s : ℕ) (told : Report) → at reports s told → (k : ℕ) (entry : Entry) → at told.rank.log k entry → AdoptsTruly reports entry
+AreTrue reports =
+    (s : ℕ) (report : Report) → at reports s report → (k : ℕ) (entry : Entry) → at report.rank.log k entry
+    → AdoptsTruly reports entry
 
 -- decisions that ranks adopted for one context are equal
 abbrev pub AdoptOne : List Report → Type 0
 AdoptOne reports =
-    (r s : ℕ) (told other : Report) (d e : Decision) → at reports r told → at reports s other → HasAdopted told d → HasAdopted other e → d.context ≡ e.context → d ≡ e
+    (r s : ℕ) (report other : Report) (d e : Decision) → at reports r report → at reports s other → HasAdopted report d
+    → HasAdopted other e → d.context ≡ e.context → d ≡ e
 
 -- two ranks that made the communicator of a context have the same group for it
 abbrev pub HasOneGroup : List Report → Type 0
 HasOneGroup reports =
-    (r s c : ℕ) (told other : Report) → at reports r told → at reports s other → HasMade told c → HasMade other c → group_at told.rank c ≡ group_at other.rank c
+    (r s c : ℕ) (report other : Report) → at reports r report → at reports s other → HasMade report c → HasMade other c
+    → group_at report.rank c ≡ group_at other.rank c
 
 -- each running rank of this group entered the shrink of c
 abbrev pub AllEntered : List Report → List ℕ → ℕ → Type 0
-AllEntered reports group c = (m : ℕ) (member : Report) → at reports m member → is_member group m ≡ true → IsRunning member → has_entered member.rank.log c ≡ true
+AllEntered reports group c =
+    (m : ℕ) (member : Report) → at reports m member → is_member group m ≡ true → IsRunning member
+    → has_entered member.rank.log c ≡ true
 
 -- where all running members of a communicator entered its shrink, each of them has a proposal
 abbrev pub ProposesEach : List Report → Type 0
 ProposesEach reports =
-    (r c : ℕ) (told : Report) → at reports r told → IsRunning told → HasMade told c → AllEntered reports (group_at told.rank c) c → has_proposal told.rank.me (group_at told.rank c) told.rank.log c ≡ true
+    (r c : ℕ) (report : Report) → at reports r report → IsRunning report → HasMade report c
+    → AllEntered reports (group_at report.rank c) c
+    → has_proposal report.rank.me (group_at report.rank c) report.rank.log c ≡ true

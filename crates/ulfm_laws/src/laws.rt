@@ -1,7 +1,7 @@
 //! The laws of reports, whichever engine produced them.
 ghost use Rattle.std.specs.Prelude.{List, ◌≤◌};
 ghost use Rattle.ulfm_script.specs.Deciding.{Known};
-ghost use Rattle.ulfm_script.specs.Job.{Seen};
+ghost use Rattle.ulfm_job.specs.Job.{Seen};
 ghost use Rattle.ulfm_script.specs.Report.{Report};
 ghost use Rattle.ulfm_laws.specs.Flow.{Inboxes};
 ghost use Rattle.ulfm_laws.specs.Lawful.{AreProduced, LawfulReport};

@@ -3,17 +3,17 @@ use Rattle.std.proofs.Common.{◌≡◌, ℕ, ◌+◌, ◌<◌, inl, inr, List, 
 use Rattle.ulfm_base.specs.declared.pattern.Pattern.{Pattern}
 use Rattle.ulfm_base.specs.declared.envelope.Letter.{Letter}
 use Rattle.ulfm_base.specs.Pattern.{Admits}
-use Rattle.ulfm_match.specs.History.{Event, Come, number}
+use Rattle.ulfm_match.specs.History.{Event, Come, count_before}
 use Rattle.ulfm_match.specs.Pairing.{Pairing, IsWaiting, IsKept, LawfulPairing}
-use Rattle.ulfm_match.specs.State.{State, Lists, IsOpen, Tracks}
+use Rattle.ulfm_match.specs.State.{Matching, Lists, IsUncleared, Tracks}
 use Rattle.ulfm_match.proofs.Decide.{lt_or_ge}
-use Rattle.ulfm_match.proofs.Histories.{get_new, number_old, number_below}
+use Rattle.ulfm_match.proofs.Histories.{get_new, count_old, count_below}
 use Rattle.ulfm_match.proofs.Lists.{lists_same, lists_push}
 use Rattle.ulfm_match.proofs.Extend.{letter_within, none_missed_below, extend}
 use Rattle.ulfm_match.proofs.Steps.{stands_nowhere, tracks, waiting_to, waiting_back, kept_to, kept_back, waiting_number, kept_number}
 use Rattle.ulfm_match.proofs.ArriveStep.{longer, not_here, here}
 
-module _ (h : List Event) (r : Pairing) (s : State) (l : Letter) (t : Tracks h r s) (open' : IsOpen h l.envelope.context.number) where
+module _ (h : List Event) (r : Pairing) (s : Matching) (l : Letter) (t : Tracks h r s) (open' : IsUncleared h l.envelope.context.number) where
   -- no waiting receive fits: the letter is kept
   module _ (none : (y : ℕ × Pattern) → Contains s.waiting y → Admits y.1 l.envelope → ⊥) where
     arrive_lawful : LawfulPairing (h ++ Come l ∷ []) r
@@ -26,12 +26,12 @@ module _ (h : List Event) (r : Pairing) (s : State) (l : Letter) (t : Tracks h r
           | inl low ↦ none_missed_below h r t.lawful (Come l) r (λ i b q. q) i b q m li low w k adm
           | inr top ↦
               let e : l ≡ m = here h r s l t open' m b (omega arith) k.live.came in
-              none (number h i, q)
+              none (count_before h i, q)
               (t.remains.waiting.complete i q (waiting_back h (Come l) r r t.lawful (λ i b q. q) i q li w))
               (subst (λ (w : Letter). Admits q w.envelope) (sym e) adm)
         ])
 
-    pub arrive_keeps : (s' : State) → s'.count ≡ s.count + 1 → s'.waiting ≡ s.waiting → s'.kept ≡ s.kept ++ (s.count, l) ∷ [] → Tracks (h ++ Come l ∷ []) r s'
+    pub arrive_keeps : (s' : Matching) → s'.count ≡ s.count + 1 → s'.waiting ≡ s.waiting → s'.kept ≡ s.kept ++ (s.count, l) ∷ [] → Tracks (h ++ Come l ∷ []) r s'
     arrive_keeps s' ec ew ek =
         tracks h (Come l) r s' (longer h r s l t open') arrive_lawful
         (ec ∙ ap (λ n. n + 1) t.remains.count)
@@ -44,8 +44,8 @@ module _ (h : List Event) (r : Pairing) (s : State) (l : Letter) (t : Tracks h r
         (lists_push h (h ++ Come l ∷ []) (λ b m. IsKept h r b m (length h)) (λ b m. IsKept (h ++ Come l ∷ []) r b m (length h + 1)) s.kept t.remains.kept
         (kept_number h (Come l) r)
         (length h) l s.count
-        (number_old h (Come l) (length h) (omega arith) ∙ sym t.remains.count)
-        (λ b m k. let c = t.remains.count in omega (arith, number_below h b (length h) (Come m) k.live.came refl k.live.before))
+        (count_old h (Come l) (length h) (omega arith) ∙ sym t.remains.count)
+        (λ b m k. let c = t.remains.count in omega (arith, count_below h b (length h) (Come m) k.live.came refl k.live.before))
         (record {
           live = record { came = get_new h (Come l); before = omega arith; not_cleared = stands_nowhere };
           unpaired = λ i li q. let m = letter_within h r t.lawful i (length h) q in omega (arith, m);

@@ -4,16 +4,16 @@ use Rattle.ulfm_base.specs.declared.pattern.Pattern.{Pattern}
 use Rattle.ulfm_base.specs.declared.envelope.Letter.{Letter}
 use Rattle.ulfm_match.specs.History.{Event, Post, Come, PostAt, ComeAt, IsWellFormed}
 use Rattle.ulfm_match.specs.Pairing.{Pairing}
-use Rattle.ulfm_match.specs.State.{State, IsOpen, Tracks}
+use Rattle.ulfm_match.specs.State.{Matching, IsUncleared, Tracks}
 use Rattle.ulfm_match.proofs.Decide.{compared}
 use Rattle.ulfm_match.proofs.Histories.{get_last}
 use Rattle.ulfm_match.proofs.Steps.{history_more}
 
-module _ (h : List Event) (r : Pairing) (s : State) (l : Letter) (t : Tracks h r s) (open' : IsOpen h l.envelope.context.number) where
+module _ (h : List Event) (r : Pairing) (s : Matching) (l : Letter) (t : Tracks h r s) (open' : IsUncleared h l.envelope.context.number) where
   pub longer : IsWellFormed (h ++ Come l ∷ [])
   longer =
       history_more h (Come l) t.well_formed (λ i e. cc) (λ q e. cc)
-      (λ m e. subst (λ (w : Letter). IsOpen h w.envelope.context.number) (let f : l ≡ m = cc in f) open')
+      (λ m e. subst (λ (w : Letter). IsUncleared h w.envelope.context.number) (let f : l ≡ m = cc in f) open')
 
   -- no receive stands at the place of the letter
   pub not_here : (i : ℕ) (p : Pattern) → PostAt (h ++ Come l ∷ []) i p → i < length h + 1 → i < length h

@@ -4,21 +4,22 @@ use Rattle.std.proofs.lemmas.List.Elements.{Contains-push}
 use Rattle.ulfm_base.specs.declared.pattern.Pattern.{Pattern}
 use Rattle.ulfm_base.specs.declared.envelope.Letter.{Letter}
 use Rattle.ulfm_base.specs.Pattern.{Admits}
-use Rattle.ulfm_match.specs.History.{Event, Post, Come, End, PostAt, ComeAt, StandsBetween, IsLiveReceive, IsLiveLetter, number}
+use Rattle.ulfm_match.specs.History.{Event, Post, Come, End, PostAt, ComeAt, StandsBetween, IsLiveReceive, IsLiveLetter, count_before}
 use Rattle.ulfm_match.specs.Pairing.{Pairing, Pairs, IsWaiting, IsKept, LawfulPairing}
-use Rattle.ulfm_match.specs.State.{State, Lists, IsOpen, Tracks}
+use Rattle.ulfm_match.specs.State.{Matching, Lists, IsUncleared, Tracks}
+use Rattle.ulfm_match.specs.Calls.{ArrivalGoesTo}
 use Rattle.ulfm_match.proofs.Decide.{lt_or_ge, compared}
-use Rattle.ulfm_match.proofs.Histories.{get_new, get_below, stands_old, receive_more, stands_wider, number_below, same_number}
+use Rattle.ulfm_match.proofs.Histories.{get_new, get_below, stands_old, receive_more, stands_wider, count_below, same_number}
 use Rattle.ulfm_match.proofs.Least.{TakesLeast}
 use Rattle.ulfm_match.proofs.Lists.{lists_sub, lists_same}
 use Rattle.ulfm_match.proofs.Extend.{IsNew, letter_within, none_missed_below, extend}
 use Rattle.ulfm_match.proofs.Steps.{pair_cases, pair_old, stands_nowhere, tracks, waiting_to, waiting_back, kept_to, kept_back, waiting_number, kept_number, kept_or_paired, waits_or_paired}
 use Rattle.ulfm_match.proofs.ArriveStep.{longer, not_here, here}
 
-module _ (h : List Event) (r : Pairing) (s : State) (l : Letter) (t : Tracks h r s) (open' : IsOpen h l.envelope.context.number) where
+module _ (h : List Event) (r : Pairing) (s : Matching) (l : Letter) (t : Tracks h r s) (open' : IsUncleared h l.envelope.context.number) where
   -- the first waiting receive that admits the letter is answered
   module _ (waiting' : List (ℕ × Pattern)) (z : ℕ × Pattern) (taken : TakesLeast (λ (y : ℕ × Pattern). Admits y.1 l.envelope) s.waiting waiting' z) where
-    found : (i : ℕ) × (number h i ≡ z.0) × IsWaiting h r i z.1 (length h)
+    found : (i : ℕ) × (count_before h i ≡ z.0) × IsWaiting h r i z.1 (length h)
     found = t.remains.waiting.sound z.0 z.1 taken.there
 
     arrive_new : IsNew h (Come l) r found.0 (length h)
@@ -65,8 +66,8 @@ module _ (h : List Event) (r : Pairing) (s : State) (l : Letter) (t : Tracks h r
                 | inl a ↦ a
                 | inr wj ↦
                     let in' = t.remains.waiting.complete j q wj in
-                    let less : number h j < z.0 = let n = number_below h j i (Post q) posted' refl below in let g = found.1 in omega (arith, n) in
-                    absurd (let g = taken.least (number h j, q) in' adm' in omega (arith, g, less))
+                    let less : count_before h j < z.0 = let n = count_below h j i (Post q) posted' refl below in let g = found.1 in omega (arith, n) in
+                    absurd (let g = taken.least (count_before h j, q) in' adm' in omega (arith, g, less))
               ];
         }
 
@@ -89,16 +90,17 @@ module _ (h : List Event) (r : Pairing) (s : State) (l : Letter) (t : Tracks h r
               k.unpaired i0 (let l0 : i0 < length h = found.2.live.before in omega arith) (subst (λ (m : ℕ). Pairs r' i0 m) e (Contains-push r (i0, length h)))
         ])
 
-    pub arrive_takes : (s' : State) → s'.count ≡ s.count + 1 → s'.waiting ≡ waiting' → s'.kept ≡ s.kept → (i : ℕ) × PostAt h i z.1 × (number h i ≡ z.0) × Tracks (h ++ Come l ∷ []) (r ++ (i, length h) ∷ []) s'
+    pub arrive_takes : (s' : Matching) → s'.count ≡ s.count + 1 → s'.waiting ≡ waiting' → s'.kept ≡ s.kept → ArrivalGoesTo h r l z.0 s'
     arrive_takes s' ec ew ek =
         let i0 = found.0 in
         let r' : Pairing = r ++ (i0, length h) ∷ [] in
         let keep : (i b : ℕ) → Pairs r i b → Pairs r' i b = pair_old r i0 (length h) in
-        let low : (i b : ℕ) → b < length h → Pairs r' i b → Pairs r i b = λ i b lb q. elim (pair_cases r i0 (length h) i b q) [ inl o ↦ o | inr e ↦ absurd (let g : b ≡ length h = e.1 in omega arith) ] in (
-          i0,
-          found.2.live.posted,
-          found.1,
-          tracks h (Come l) r' s' (longer h r s l t open') arrive_pairs
+        let low : (i b : ℕ) → b < length h → Pairs r' i b → Pairs r i b = λ i b lb q. elim (pair_cases r i0 (length h) i b q) [ inl o ↦ o | inr e ↦ absurd (let g : b ≡ length h = e.1 in omega arith) ] in record {
+          place = i0;
+          pattern = z.1;
+          posted = found.2.live.posted;
+          numbered = found.1;
+          tracks = tracks h (Come l) r' s' (longer h r s l t open') arrive_pairs
               (ec ∙ ap (λ n. n + 1) t.remains.count)
               (subst (λ (xs : List (ℕ × Pattern)). Lists (h ++ Come l ∷ []) (λ i q. IsWaiting (h ++ Come l ∷ []) r' i q (length h + 1)) xs) (sym ew)
               (lists_sub h (h ++ Come l ∷ []) (λ i q. IsWaiting h r i q (length h)) (λ i q. IsWaiting (h ++ Come l ∷ []) r' i q (length h + 1)) s.waiting t.remains.waiting
@@ -107,7 +109,7 @@ module _ (h : List Event) (r : Pairing) (s : State) (l : Letter) (t : Tracks h r
               (λ i q w n. waiting_to h (Come l) r r' t.lawful keep i q (λ e. cc) (λ e. cc)
               (λ b p. elim (pair_cases r i0 (length h) i b p) [
                 | inl o ↦ o
-                | inr e ↦ absurd (n (ap (number h) e.0 ∙ found.1))
+                | inr e ↦ absurd (n (ap (count_before h) e.0 ∙ found.1))
               ]) w)
               (λ i q w.
               let li : i < length h = not_here h r s l t open' i q w.live.posted w.live.before in
@@ -128,5 +130,5 @@ module _ (h : List Event) (r : Pairing) (s : State) (l : Letter) (t : Tracks h r
                 | inr top ↦
                     let e : length h ≡ b = omega arith in
                     absurd (k.unpaired i0 (let l0 : i0 < length h = found.2.live.before in omega arith) (subst (λ (m : ℕ). Pairs r' i0 m) e (Contains-push r (i0, length h))))
-              ]))),
-        )
+              ])));
+        }

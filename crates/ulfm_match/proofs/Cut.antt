@@ -4,7 +4,7 @@ use Rattle.std.proofs.lemmas.Bool.Decides.{nat_tests}
 use Rattle.ulfm_base.specs.declared.pattern.Pattern.{Pattern}
 use Rattle.ulfm_base.specs.declared.envelope.Letter.{Letter}
 use Rattle.ulfm_match.specs.History.{Event, Post, Come, StandsBetween, IsLiveReceive, IsLiveLetter}
-use Rattle.ulfm_match.specs.Pairing.{Pairing, Pairs, inside, LawfulPairing}
+use Rattle.ulfm_match.specs.Pairing.{Pairing, Pairs, pairs_below, LawfulPairing}
 use Rattle.ulfm_match.proofs.Members.{Contains-filter, filter-Contains}
 
 module _ {X : Type 0} where
@@ -18,7 +18,7 @@ module _ {X : Type 0} where
   get_in_front (z ∷ xs) ys zero x l h = h
   get_in_front (z ∷ xs) ys (suc k) x l h = get_in_front xs ys k x (omega arith) h
 
-pub inside_to : (n : ℕ) (r : Pairing) (i b : ℕ) → Pairs (inside n r) i b → Pairs r i b × (i < n) × (b < n)
+pub inside_to : (n : ℕ) (r : Pairing) (i b : ℕ) → Pairs (pairs_below n r) i b → Pairs r i b × (i < n) × (b < n)
 inside_to n r i b q =
     let f = Contains-filter (λ (pair : ℕ × ℕ). nat_lt pair.0 n && nat_lt pair.1 n) r (i, b) q in
     let both = tests n i b f.1 in
@@ -27,7 +27,7 @@ inside_to n r i b q =
     tests : (n i b : ℕ) → nat_lt i n && nat_lt b n ≡ true → (i < n) × (b < n)
     tests n i b h = (grind (arith, nat_tests), grind (arith, nat_tests))
 
-pub inside_back : (n : ℕ) (r : Pairing) (i b : ℕ) → i < n → b < n → Pairs r i b → Pairs (inside n r) i b
+pub inside_back : (n : ℕ) (r : Pairing) (i b : ℕ) → i < n → b < n → Pairs r i b → Pairs (pairs_below n r) i b
 inside_back n r i b li lb q = filter-Contains (λ (pair : ℕ × ℕ). nat_lt pair.0 n && nat_lt pair.1 n) r (i, b) q (tests n i b li lb)
   where
     tests : (n i b : ℕ) → i < n → b < n → nat_lt i n && nat_lt b n ≡ true
@@ -55,9 +55,9 @@ module _ (h xs : List Event) where
   letter_off {b} {n} {l} le v = record { came = get_in_front h xs b (Come l) (let c : b < n = v.before in omega arith) v.came; before = v.before; not_cleared = λ s. v.not_cleared (stands_on s) }
 
   -- cut to a beginning, a lawful pairing is lawful there
-  pub cut : (r : Pairing) → LawfulPairing (h ++ xs) r → LawfulPairing h (inside (length h) r)
+  pub cut : (r : Pairing) → LawfulPairing (h ++ xs) r → LawfulPairing h (pairs_below (length h) r)
   cut r law =
-      let to : (i b : ℕ) → Pairs (inside (length h) r) i b → Pairs r i b × (i < length h) × (b < length h) = inside_to (length h) r in
+      let to : (i b : ℕ) → Pairs (pairs_below (length h) r) i b → Pairs r i b × (i < length h) × (b < length h) = inside_to (length h) r in
       record {
         one_letter = λ i b d p q. law.one_letter i b d (to i b p).0 (to i d q).0;
         one_receive = λ i j b p q. law.one_receive i j b (to i b p).0 (to j b q).0;

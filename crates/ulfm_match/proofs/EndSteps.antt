@@ -4,9 +4,9 @@ use Rattle.std.proofs.lemmas.Bool.Decides.{nat_tests}
 use Rattle.std.proofs.lemmas.Option.{slice_get_within}
 use Rattle.ulfm_base.specs.declared.pattern.Pattern.{Pattern}
 use Rattle.ulfm_base.specs.declared.envelope.Letter.{Letter}
-use Rattle.ulfm_match.specs.History.{Event, Post, Come, End, Clear, PostAt, ComeAt, IsWellFormed, weight, number}
+use Rattle.ulfm_match.specs.History.{Event, Post, Come, End, Clear, PostAt, ComeAt, IsWellFormed, counts_as, count_before}
 use Rattle.ulfm_match.specs.Pairing.{Pairing, IsWaiting, IsKept, LawfulPairing}
-use Rattle.ulfm_match.specs.State.{State, IsAscending, Tracks}
+use Rattle.ulfm_match.specs.State.{Matching, IsAscending, Tracks}
 use Rattle.ulfm_match.proofs.Decide.{compared}
 use Rattle.ulfm_match.proofs.Histories.{get_new, get_last, same_number}
 use Rattle.ulfm_match.proofs.Taking.{TakesFirst}
@@ -17,7 +17,7 @@ use Rattle.ulfm_match.proofs.Extend.{none_missed_below, extend}
 use Rattle.ulfm_match.proofs.Steps.{history_more, tracks, waiting_to, waiting_back, kept_to, kept_back, waiting_number, kept_number}
 
 -- an event that is no post and no arrival makes no pair
-module _ (h : List Event) (r : Pairing) (s : State) (x : Event) (t : Tracks h r s) (light : weight x ≡ 0) where
+module _ (h : List Event) (r : Pairing) (s : Matching) (x : Event) (t : Tracks h r s) (light : counts_as x ≡ 0) where
   pub no_post : (i : ℕ) (p : Pattern) → PostAt (h ++ x ∷ []) i p → i < length h + 1 → i < length h
   no_post i p posted l =
       elim (compared i (length h)) [
@@ -25,7 +25,7 @@ module _ (h : List Event) (r : Pairing) (s : State) (x : Event) (t : Tracks h r 
         | inr o ↦ elim o [
           | inl e ↦
               let g = get_last h x (Post p) (subst (λ (k : ℕ). PostAt (h ++ x ∷ []) k p) e posted) in
-              let one : weight x ≡ 1 = ap weight g in
+              let one : counts_as x ≡ 1 = ap counts_as g in
               absurd (omega arith)
           | inr y ↦ absurd (omega arith)
         ]
@@ -38,7 +38,7 @@ module _ (h : List Event) (r : Pairing) (s : State) (x : Event) (t : Tracks h r 
         | inr o ↦ elim o [
           | inl e ↦
               let g = get_last h x (Come m) (subst (λ (k : ℕ). ComeAt (h ++ x ∷ []) k m) e came) in
-              let one : weight x ≡ 1 = ap weight g in
+              let one : counts_as x ≡ 1 = ap counts_as g in
               absurd (omega arith)
           | inr y ↦ absurd (omega arith)
         ]
@@ -50,13 +50,13 @@ module _ (h : List Event) (r : Pairing) (s : State) (x : Event) (t : Tracks h r 
       (λ i b p l w k adm. none_missed_below h r t.lawful x r (λ i b q. q) i b p l (no_post i p w.live.posted w.live.before) (no_letter b l k.live.came k.live.before) w k adm)
 
   -- the receives with W and the letters with K stay, and no others
-  pub light_step : (W : ℕ × Pattern → Type 0) (K : ℕ × Letter → Type 0) (s' : State) → IsWellFormed (h ++ x ∷ []) → s'.count ≡ s.count
+  pub light_step : (W : ℕ × Pattern → Type 0) (K : ℕ × Letter → Type 0) (s' : Matching) → IsWellFormed (h ++ x ∷ []) → s'.count ≡ s.count
       → IsAscending s'.waiting → ((y : ℕ × Pattern) → Contains s'.waiting y → Contains s.waiting y × W y) → ((y : ℕ × Pattern) → Contains s.waiting y → W y → Contains s'.waiting y)
       → IsAscending s'.kept → ((y : ℕ × Letter) → Contains s'.kept y → Contains s.kept y × K y) → ((y : ℕ × Letter) → Contains s.kept y → K y → Contains s'.kept y)
-      → ((i : ℕ) (p : Pattern) → IsWaiting h r i p (length h) → W (number h i, p) → (x ≢ End i) × (x ≢ Clear p.context.number))
-      → ((i : ℕ) (p : Pattern) → IsWaiting h r i p (length h) → IsWaiting (h ++ x ∷ []) r i p (length h + 1) → W (number h i, p))
-      → ((b : ℕ) (l : Letter) → IsKept h r b l (length h) → K (number h b, l) → x ≢ Clear l.envelope.context.number)
-      → ((b : ℕ) (l : Letter) → IsKept h r b l (length h) → IsKept (h ++ x ∷ []) r b l (length h + 1) → K (number h b, l))
+      → ((i : ℕ) (p : Pattern) → IsWaiting h r i p (length h) → W (count_before h i, p) → (x ≢ End i) × (x ≢ Clear p.context.number))
+      → ((i : ℕ) (p : Pattern) → IsWaiting h r i p (length h) → IsWaiting (h ++ x ∷ []) r i p (length h + 1) → W (count_before h i, p))
+      → ((b : ℕ) (l : Letter) → IsKept h r b l (length h) → K (count_before h b, l) → x ≢ Clear l.envelope.context.number)
+      → ((b : ℕ) (l : Letter) → IsKept h r b l (length h) → IsKept (h ++ x ∷ []) r b l (length h + 1) → K (count_before h b, l))
       → Tracks (h ++ x ∷ []) r s'
   light_step W K s' wf ec aw w_to w_back ak k_to k_back stays stays_back keeps keeps_back =
       tracks h x r s' wf light_lawful
@@ -70,19 +70,19 @@ module _ (h : List Event) (r : Pairing) (s : State) (x : Event) (t : Tracks h r 
       (λ b l k y. kept_to h x r r t.lawful (λ i b q. q) b l (keeps b l k y) (λ i q. q) k)
       (λ b l k. let k' = kept_back h x r r t.lawful (λ i b q. q) b l (no_letter b l k.live.came k.live.before) k in (k', keeps_back b l k' k)))
 
-module _ (h : List Event) (r : Pairing) (s : State) (t : Tracks h r s) where
+module _ (h : List Event) (r : Pairing) (s : Matching) (t : Tracks h r s) where
   -- the receive posted at i0 ends; it may have been paired or ended before
   module _ (i0 : ℕ) (p0 : Pattern) (posted : PostAt h i0 p0) where
-    pub end_step : (s' : State) → s'.count ≡ s.count → IsAscending s'.waiting → ((y : ℕ × Pattern) → Contains s'.waiting y → Contains s.waiting y × (y.0 ≢ number h i0)) → ((y : ℕ × Pattern) → Contains s.waiting y → y.0 ≢ number h i0 → Contains s'.waiting y) → s'.kept ≡ s.kept → Tracks (h ++ End i0 ∷ []) r s'
+    pub end_step : (s' : Matching) → s'.count ≡ s.count → IsAscending s'.waiting → ((y : ℕ × Pattern) → Contains s'.waiting y → Contains s.waiting y × (y.0 ≢ count_before h i0)) → ((y : ℕ × Pattern) → Contains s.waiting y → y.0 ≢ count_before h i0 → Contains s'.waiting y) → s'.kept ≡ s.kept → Tracks (h ++ End i0 ∷ []) r s'
     end_step s' ec aw to back ek =
         let l0 : i0 < length h = slice_get_within h i0 (Post p0) posted in
-        light_step h r s (End i0) t refl (λ y. y.0 ≢ number h i0) (λ y. Unit {0}) s'
+        light_step h r s (End i0) t refl (λ y. y.0 ≢ count_before h i0) (λ y. Unit {0}) s'
         (history_more h (End i0) t.well_formed (λ i e. let q : i0 ≡ i = cc in (p0, omega arith, subst (λ (k : ℕ). PostAt h k p0) q posted)) (λ q e. cc) (λ q e. cc))
         ec aw to back
         (subst (λ (xs : List (ℕ × Letter)). IsAscending xs) (sym ek) t.remains.kept.ascending)
         (λ y c. (subst (λ (xs : List (ℕ × Letter)). Contains xs y) ek c, tt))
         (λ y c u. subst (λ (xs : List (ℕ × Letter)). Contains xs y) (sym ek) c)
-        (λ i p w n. (λ e. let q : i0 ≡ i = cc in n (ap (number h) (sym q)), λ e. cc))
+        (λ i p w n. (λ e. let q : i0 ≡ i = cc in n (ap (count_before h) (sym q)), λ e. cc))
         (λ i p w w' e.
         let q : i ≡ i0 = same_number h i i0 (Post p) (Post p0) w.live.posted refl posted refl e in
         w'.live.not_ended (record { place = length h; after = w.live.before; before = omega arith; is = get_new h (End i0) ∙ ap (λ (k : ℕ). Some (End k)) (sym q) }))
@@ -90,7 +90,7 @@ module _ (h : List Event) (r : Pairing) (s : State) (t : Tracks h r s) where
         (λ b l k k'. tt)
 
   -- everything of a context ends
-  pub clear_step : (c : ℕ) (s' : State) → s'.count ≡ s.count
+  pub clear_step : (c : ℕ) (s' : Matching) → s'.count ≡ s.count
       → IsAscending s'.waiting → ((y : ℕ × Pattern) → Contains s'.waiting y → Contains s.waiting y × (y.1.context.number ≢ c)) → ((y : ℕ × Pattern) → Contains s.waiting y → y.1.context.number ≢ c → Contains s'.waiting y)
       → IsAscending s'.kept → ((y : ℕ × Letter) → Contains s'.kept y → Contains s.kept y × (y.1.envelope.context.number ≢ c)) → ((y : ℕ × Letter) → Contains s.kept y → y.1.envelope.context.number ≢ c → Contains s'.kept y)
       → Tracks (h ++ Clear c ∷ []) r s'
@@ -103,13 +103,13 @@ module _ (h : List Event) (r : Pairing) (s : State) (t : Tracks h r s) where
       (λ b l k n e. n (let q : l.envelope.context.number ≡ c = cc in q))
       (λ b l k k' e. k'.live.not_cleared (record { place = length h; after = k.live.before; before = omega arith; is = get_new h (Clear c) ∙ ap (λ (k : ℕ). Some (Clear k)) (sym e) }))
 
-module _ (h : List Event) (r : Pairing) (s : State) (t : Tracks h r s) where
+module _ (h : List Event) (r : Pairing) (s : Matching) (t : Tracks h r s) where
   -- the receive at i0 was waiting, and is taken out
-  pub end_taken : (i0 : ℕ) (p0 : Pattern) → PostAt h i0 p0 → (id : ℕ) → number h i0 ≡ id → (w' : List (ℕ × Pattern)) (z : ℕ × Pattern) → TakesFirst (λ (y : ℕ × Pattern). y.0 ≡ id) s.waiting w' z → (s' : State) → s'.count ≡ s.count → s'.waiting ≡ w' → s'.kept ≡ s.kept → Tracks (h ++ End i0 ∷ []) r s'
+  pub end_taken : (i0 : ℕ) (p0 : Pattern) → PostAt h i0 p0 → (id : ℕ) → count_before h i0 ≡ id → (w' : List (ℕ × Pattern)) (z : ℕ × Pattern) → TakesFirst (λ (y : ℕ × Pattern). y.0 ≡ id) s.waiting w' z → (s' : Matching) → s'.count ≡ s.count → s'.waiting ≡ w' → s'.kept ≡ s.kept → Tracks (h ++ End i0 ∷ []) r s'
   end_taken i0 p0 posted id n w' z taken s' ec ew ek =
       let asc : IsAscending (taken.front ++ z ∷ taken.back) = subst (λ (xs : List (ℕ × Pattern)). IsAscending xs) taken.old_is t.remains.waiting.ascending in
       let e : s'.waiting ≡ taken.front ++ taken.back = ew ∙ taken.new_is in
-      let same : z.0 ≡ number h i0 = taken.passes ∙ sym n in
+      let same : z.0 ≡ count_before h i0 = taken.passes ∙ sym n in
       end_step h r s t i0 p0 posted s' ec
       (subst (λ (xs : List (ℕ × Pattern)). IsAscending xs) (sym e) (ascending_without taken.front taken.back z asc))
       (λ y c.
@@ -121,7 +121,7 @@ module _ (h : List Event) (r : Pairing) (s : State) (t : Tracks h r s) where
       ek
 
   -- the receive at i0 wasn't waiting
-  pub end_idle : (i0 : ℕ) (p0 : Pattern) → PostAt h i0 p0 → (id : ℕ) → number h i0 ≡ id → ((y : ℕ × Pattern) → Contains s.waiting y → y.0 ≡ id → ⊥) → Tracks (h ++ End i0 ∷ []) r s
+  pub end_idle : (i0 : ℕ) (p0 : Pattern) → PostAt h i0 p0 → (id : ℕ) → count_before h i0 ≡ id → ((y : ℕ × Pattern) → Contains s.waiting y → y.0 ≡ id → ⊥) → Tracks (h ++ End i0 ∷ []) r s
   end_idle i0 p0 posted id n none =
       end_step h r s t i0 p0 posted s refl t.remains.waiting.ascending (λ y c. (c, λ q. none y c (q ∙ n))) (λ y c ne. c) refl
 
@@ -132,7 +132,7 @@ pub passes_context : (a c : ℕ) → a ≢ c → not (a == c) ≡ true
 passes_context a c n = grind (arith, nat_tests)
 
 -- what isn't of the context stays
-pub clear_filtered : (h : List Event) (r : Pairing) (s : State) → Tracks h r s → (c : ℕ) (s' : State) → s'.count ≡ s.count → s'.waiting ≡ filter (λ (y : ℕ × Pattern). not (y.1.context.number == c)) s.waiting → s'.kept ≡ filter (λ (y : ℕ × Letter). not (y.1.envelope.context.number == c)) s.kept → Tracks (h ++ Clear c ∷ []) r s'
+pub clear_filtered : (h : List Event) (r : Pairing) (s : Matching) → Tracks h r s → (c : ℕ) (s' : Matching) → s'.count ≡ s.count → s'.waiting ≡ filter (λ (y : ℕ × Pattern). not (y.1.context.number == c)) s.waiting → s'.kept ≡ filter (λ (y : ℕ × Letter). not (y.1.envelope.context.number == c)) s.kept → Tracks (h ++ Clear c ∷ []) r s'
 clear_filtered h r s t c s' ec ew ek =
     let W : ℕ × Pattern → Bool = λ y. not (y.1.context.number == c) in
     let K : ℕ × Letter → Bool = λ y. not (y.1.envelope.context.number == c) in

@@ -4,9 +4,9 @@ use Rattle.std.proofs.lemmas.Option.{slice_get_within}
 use Rattle.ulfm_base.specs.declared.pattern.Pattern.{Pattern}
 use Rattle.ulfm_base.specs.declared.envelope.Letter.{Letter}
 use Rattle.ulfm_base.specs.Pattern.{Admits}
-use Rattle.ulfm_match.specs.History.{Event, Post, Come, End, Clear, PostAt, IsWellFormed, number}
+use Rattle.ulfm_match.specs.History.{Event, Post, Come, End, Clear, PostAt, IsWellFormed, count_before}
 use Rattle.ulfm_match.specs.Pairing.{Pairing, LawfulPairing}
-use Rattle.ulfm_match.specs.State.{State, Tracks, IsOpen}
+use Rattle.ulfm_match.specs.State.{Matching, Tracks, IsUncleared}
 use Rattle.ulfm_match.proofs.ArriveKeeps.{arrive_keeps}
 use Rattle.ulfm_match.proofs.ArriveTakes.{arrive_takes}
 use Rattle.ulfm_match.proofs.Ascending.{ascending_filter}
@@ -23,21 +23,21 @@ use Rattle.ulfm_match.proofs.Histories.{get_here}
 -- a history with a lawful pairing and its remains
 record IsPaired (h : List Event) : Type 0 where
   pub pairing : Pairing
-  pub state : State
+  pub state : Matching
   pub tracks : Tracks h pairing state
 
-abbrev a_state : List (ℕ × Pattern) → List (ℕ × Letter) → ℕ → State
+abbrev a_state : List (ℕ × Pattern) → List (ℕ × Letter) → ℕ → Matching
 a_state waiting kept count = record { waiting = waiting; kept = kept; count = count; prepared = false }
 
 module _ (h : List Event) (t : IsPaired h) where
-  paired-post : (p : Pattern) → IsOpen h p.context.number → IsPaired (h ++ Post p ∷ [])
+  paired-post : (p : Pattern) → IsUncleared h p.context.number → IsPaired (h ++ Post p ∷ [])
   paired-post p open' =
-      let s : State = t.state in
+      let s : Matching = t.state in
       let P : ℕ × Letter → Type 0 = λ y. Admits p y.1.envelope in
       elim (take_first P (λ y. admits_either p y.1.envelope) s.kept) [
         | inl f ↦
             let k = post_takes h t.pairing s p t.tracks open' f.0 f.1 (first_is_least P s.kept f.0 f.1 t.tracks.remains.kept.ascending f.2) (a_state s.waiting f.0 (s.count + 1)) refl refl refl in
-            record { pairing = t.pairing ++ (length h, k.0) ∷ []; state = a_state s.waiting f.0 (s.count + 1); tracks = k.2 }
+            record { pairing = t.pairing ++ (length h, k.place) ∷ []; state = a_state s.waiting f.0 (s.count + 1); tracks = k.tracks }
         | inr none ↦ record {
           pairing = t.pairing;
           state = a_state (s.waiting ++ (s.count, p) ∷ []) s.kept (s.count + 1);
@@ -45,14 +45,14 @@ module _ (h : List Event) (t : IsPaired h) where
         }
       ]
 
-  paired-come : (l : Letter) → IsOpen h l.envelope.context.number → IsPaired (h ++ Come l ∷ [])
+  paired-come : (l : Letter) → IsUncleared h l.envelope.context.number → IsPaired (h ++ Come l ∷ [])
   paired-come l open' =
-      let s : State = t.state in
+      let s : Matching = t.state in
       let P : ℕ × Pattern → Type 0 = λ y. Admits y.1 l.envelope in
       elim (take_first P (λ y. admits_either y.1 l.envelope) s.waiting) [
         | inl f ↦
             let k = arrive_takes h t.pairing s l t.tracks open' f.0 f.1 (first_is_least P s.waiting f.0 f.1 t.tracks.remains.waiting.ascending f.2) (a_state f.0 s.kept (s.count + 1)) refl refl refl in
-            record { pairing = t.pairing ++ (k.0, length h) ∷ []; state = a_state f.0 s.kept (s.count + 1); tracks = k.3 }
+            record { pairing = t.pairing ++ (k.place, length h) ∷ []; state = a_state f.0 s.kept (s.count + 1); tracks = k.tracks }
         | inr none ↦ record {
           pairing = t.pairing;
           state = a_state s.waiting (s.kept ++ (s.count, l) ∷ []) (s.count + 1);
@@ -62,21 +62,21 @@ module _ (h : List Event) (t : IsPaired h) where
 
   paired-end : (i : ℕ) (p : Pattern) → PostAt h i p → IsPaired (h ++ End i ∷ [])
   paired-end i p posted =
-      let s : State = t.state in
-      let W : ℕ × Pattern → Bool = λ y. not (y.0 == number h i) in
-      let new : State = a_state (filter W s.waiting) s.kept s.count in
+      let s : Matching = t.state in
+      let W : ℕ × Pattern → Bool = λ y. not (y.0 == count_before h i) in
+      let new : Matching = a_state (filter W s.waiting) s.kept s.count in
       record {
         pairing = t.pairing;
         state = new;
         tracks = end_step h t.pairing s t.tracks i p posted new refl (ascending_filter W s.waiting t.tracks.remains.waiting.ascending)
-            (λ y c. let f = Contains-filter W s.waiting y c in (f.0, other_context y.0 (number h i) f.1))
-            (λ y c n. filter-Contains W s.waiting y c (passes_context y.0 (number h i) n)) refl;
+            (λ y c. let f = Contains-filter W s.waiting y c in (f.0, other_context y.0 (count_before h i) f.1))
+            (λ y c n. filter-Contains W s.waiting y c (passes_context y.0 (count_before h i) n)) refl;
       }
 
   paired-clear : (c : ℕ) → IsPaired (h ++ Clear c ∷ [])
   paired-clear c =
-      let s : State = t.state in
-      let new : State = a_state (filter (λ (y : ℕ × Pattern). not (y.1.context.number == c)) s.waiting) (filter (λ (y : ℕ × Letter). not (y.1.envelope.context.number == c)) s.kept) s.count in
+      let s : Matching = t.state in
+      let new : Matching = a_state (filter (λ (y : ℕ × Pattern). not (y.1.context.number == c)) s.waiting) (filter (λ (y : ℕ × Letter). not (y.1.envelope.context.number == c)) s.kept) s.count in
       record { pairing = t.pairing; state = new; tracks = clear_filtered h t.pairing s t.tracks c new refl refl refl }
 
 -- one more event of a history that can happen

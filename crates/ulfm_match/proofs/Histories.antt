@@ -3,7 +3,7 @@ use Rattle.std.proofs.Common.{◌≡◌, ◌≢◌, ℕ, zero, suc, ◌+◌, ◌
 use Rattle.std.proofs.lemmas.Option.{slice_get_within}
 use Rattle.ulfm_base.specs.declared.pattern.Pattern.{Pattern}
 use Rattle.ulfm_base.specs.declared.envelope.Letter.{Letter}
-use Rattle.ulfm_match.specs.History.{Event, Post, Come, End, Clear, StandsBetween, IsLiveReceive, IsLiveLetter, weight, number}
+use Rattle.ulfm_match.specs.History.{Event, Post, Come, End, Clear, StandsBetween, IsLiveReceive, IsLiveLetter, counts_as, count_before}
 use Rattle.ulfm_match.proofs.Decide.{compared}
 
 module _ {X : Type 0} where
@@ -91,40 +91,40 @@ module _ (h : List Event) (x : Event) where
     letter_less c v = record { came = get_below h x b (Come l) c v.came; before = c; not_cleared = λ s. v.not_cleared (stands_wider (length h + 1) (omega arith) (stands_old s)) }
 
 -- numbers
-pub number_old : (h : List Event) (x : Event) (i : ℕ) → i ≤ length h → number (h ++ x ∷ []) i ≡ number h i
-number_old [] x zero l = refl
-number_old [] x (suc i) l = absurd (omega arith)
-number_old (e ∷ h) x zero l = refl
-number_old (e ∷ h) x (suc i) l = ap (λ n. weight e + n) (number_old h x i (omega arith))
+pub count_old : (h : List Event) (x : Event) (i : ℕ) → i ≤ length h → count_before (h ++ x ∷ []) i ≡ count_before h i
+count_old [] x zero l = refl
+count_old [] x (suc i) l = absurd (omega arith)
+count_old (e ∷ h) x zero l = refl
+count_old (e ∷ h) x (suc i) l = ap (λ n. counts_as e + n) (count_old h x i (omega arith))
 
-pub number_new : (h : List Event) (x : Event) → number (h ++ x ∷ []) (suc (length h)) ≡ number h (length h) + weight x
-number_new [] x = omega arith
-number_new (e ∷ h) x = let k = number_new h x in omega (arith, k)
+pub count_new : (h : List Event) (x : Event) → count_before (h ++ x ∷ []) (suc (length h)) ≡ count_before h (length h) + counts_as x
+count_new [] x = omega arith
+count_new (e ∷ h) x = let k = count_new h x in omega (arith, k)
 
-pub number_below : (h : List Event) (i n : ℕ) (e : Event) → slice_get h i ≡ Some e → weight e ≡ 1 → i < n → number h i < number h n
-number_below [] i n e g w l = cc
-number_below (y ∷ h) zero zero e g w l = absurd (omega arith)
-number_below (y ∷ h) zero (suc n) e g w l =
+pub count_below : (h : List Event) (i n : ℕ) (e : Event) → slice_get h i ≡ Some e → counts_as e ≡ 1 → i < n → count_before h i < count_before h n
+count_below [] i n e g w l = cc
+count_below (y ∷ h) zero zero e g w l = absurd (omega arith)
+count_below (y ∷ h) zero (suc n) e g w l =
     let q : y ≡ e = cc in
-    let one : weight y ≡ 1 = ap weight q ∙ w in
+    let one : counts_as y ≡ 1 = ap counts_as q ∙ w in
     omega arith
-number_below (y ∷ h) (suc i) zero e g w l = absurd (omega arith)
-number_below (y ∷ h) (suc i) (suc n) e g w l = let k = number_below h i n e g w (omega arith) in omega (arith, k)
+count_below (y ∷ h) (suc i) zero e g w l = absurd (omega arith)
+count_below (y ∷ h) (suc i) (suc n) e g w l = let k = count_below h i n e g w (omega arith) in omega (arith, k)
 
-pub same_number : (h : List Event) (i j : ℕ) (d e : Event) → slice_get h i ≡ Some d → weight d ≡ 1 → slice_get h j ≡ Some e → weight e ≡ 1 → number h i ≡ number h j → i ≡ j
+pub same_number : (h : List Event) (i j : ℕ) (d e : Event) → slice_get h i ≡ Some d → counts_as d ≡ 1 → slice_get h j ≡ Some e → counts_as e ≡ 1 → count_before h i ≡ count_before h j → i ≡ j
 same_number h i j d e gi wi gj wj q =
     elim (compared i j) [
-      | inl l ↦ absurd (omega (arith, number_below h i j d gi wi l))
-      | inr o ↦ elim o [ inl s ↦ s | inr l ↦ absurd (omega (arith, number_below h j i e gj wj l)) ]
+      | inl l ↦ absurd (omega (arith, count_below h i j d gi wi l))
+      | inr o ↦ elim o [ inl s ↦ s | inr l ↦ absurd (omega (arith, count_below h j i e gj wj l)) ]
     ]
 
-pub number_front : (h es : List Event) (i : ℕ) → i ≤ length h → number (h ++ es) i ≡ number h i
-number_front [] [] zero l = refl
-number_front [] (e ∷ es) zero l = refl
-number_front [] es (suc i) l = absurd (omega (arith, l))
-number_front (e ∷ h) es zero l = refl
-number_front (e ∷ h) es (suc i) l = ap (λ n. weight e + n) (number_front h es i (omega (arith, l)))
+pub count_front : (h es : List Event) (i : ℕ) → i ≤ length h → count_before (h ++ es) i ≡ count_before h i
+count_front [] [] zero l = refl
+count_front [] (e ∷ es) zero l = refl
+count_front [] es (suc i) l = absurd (omega (arith, l))
+count_front (e ∷ h) es zero l = refl
+count_front (e ∷ h) es (suc i) l = ap (λ n. counts_as e + n) (count_front h es i (omega (arith, l)))
 
-pub number_rises : (h es : List Event) → number h (length h) ≤ number (h ++ es) (length (h ++ es))
-number_rises [] es = omega arith
-number_rises (e ∷ h) es = let r = number_rises h es in omega (arith, r)
+pub count_rises : (h es : List Event) → count_before h (length h) ≤ count_before (h ++ es) (length (h ++ es))
+count_rises [] es = omega arith
+count_rises (e ∷ h) es = let r = count_rises h es in omega (arith, r)

@@ -4,16 +4,16 @@ use Rattle.ulfm_base.specs.declared.pattern.Pattern.{Pattern}
 use Rattle.ulfm_base.specs.declared.envelope.Letter.{Letter}
 use Rattle.ulfm_match.specs.History.{Event, Post, Come, PostAt, ComeAt, IsWellFormed}
 use Rattle.ulfm_match.specs.Pairing.{Pairing}
-use Rattle.ulfm_match.specs.State.{State, IsOpen, Tracks}
+use Rattle.ulfm_match.specs.State.{Matching, IsUncleared, Tracks}
 use Rattle.ulfm_match.proofs.Decide.{compared}
 use Rattle.ulfm_match.proofs.Histories.{get_last}
 use Rattle.ulfm_match.proofs.Steps.{history_more}
 
-module _ (h : List Event) (r : Pairing) (s : State) (p : Pattern) (t : Tracks h r s) (open' : IsOpen h p.context.number) where
+module _ (h : List Event) (r : Pairing) (s : Matching) (p : Pattern) (t : Tracks h r s) (open' : IsUncleared h p.context.number) where
   pub longer : IsWellFormed (h ++ Post p ∷ [])
   longer =
       history_more h (Post p) t.well_formed (λ i e. cc)
-      (λ q e. subst (λ (w : Pattern). IsOpen h w.context.number) (let f : p ≡ q = cc in f) open')
+      (λ q e. subst (λ (w : Pattern). IsUncleared h w.context.number) (let f : p ≡ q = cc in f) open')
       (λ l e. cc)
 
   -- no letter comes at the place of the post

@@ -4,21 +4,22 @@ use Rattle.std.proofs.lemmas.List.Elements.{Contains-push}
 use Rattle.ulfm_base.specs.declared.pattern.Pattern.{Pattern}
 use Rattle.ulfm_base.specs.declared.envelope.Letter.{Letter}
 use Rattle.ulfm_base.specs.Pattern.{Admits}
-use Rattle.ulfm_match.specs.History.{Event, Post, Come, End, PostAt, ComeAt, StandsBetween, IsLiveReceive, IsLiveLetter, number}
+use Rattle.ulfm_match.specs.History.{Event, Post, Come, End, PostAt, ComeAt, StandsBetween, IsLiveReceive, IsLiveLetter, count_before}
 use Rattle.ulfm_match.specs.Pairing.{Pairing, Pairs, IsWaiting, IsKept, LawfulPairing}
-use Rattle.ulfm_match.specs.State.{State, Lists, IsOpen, Tracks}
+use Rattle.ulfm_match.specs.State.{Matching, Lists, IsUncleared, Tracks}
+use Rattle.ulfm_match.specs.Calls.{PostGets}
 use Rattle.ulfm_match.proofs.Decide.{lt_or_ge, compared}
-use Rattle.ulfm_match.proofs.Histories.{get_new, get_below, stands_old, letter_more, number_below, same_number}
+use Rattle.ulfm_match.proofs.Histories.{get_new, get_below, stands_old, letter_more, count_below, same_number}
 use Rattle.ulfm_match.proofs.Least.{TakesLeast}
 use Rattle.ulfm_match.proofs.Lists.{lists_sub, lists_same}
 use Rattle.ulfm_match.proofs.Extend.{IsNew, receive_within, none_missed_below, extend}
 use Rattle.ulfm_match.proofs.Steps.{pair_cases, pair_old, stands_nowhere, tracks, waiting_to, waiting_back, kept_to, kept_back, waiting_number, kept_number, kept_or_paired, waits_or_paired}
 use Rattle.ulfm_match.proofs.PostStep.{longer, not_here, here}
 
-module _ (h : List Event) (r : Pairing) (s : State) (p : Pattern) (t : Tracks h r s) (open' : IsOpen h p.context.number) where
+module _ (h : List Event) (r : Pairing) (s : Matching) (p : Pattern) (t : Tracks h r s) (open' : IsUncleared h p.context.number) where
   -- the first kept letter that fits is taken
   module _ (kept' : List (ℕ × Letter)) (z : ℕ × Letter) (taken : TakesLeast (λ (y : ℕ × Letter). Admits p y.1.envelope) s.kept kept' z) where
-    found : (b : ℕ) × (number h b ≡ z.0) × IsKept h r b z.1 (length h)
+    found : (b : ℕ) × (count_before h b ≡ z.0) × IsKept h r b z.1 (length h)
     found = t.remains.kept.sound z.0 z.1 taken.there
 
     post_new : IsNew h (Post p) r (length h) found.0
@@ -47,8 +48,8 @@ module _ (h : List Event) (r : Pairing) (s : State) (p : Pattern) (t : Tracks h 
                 | inl j ↦ j
                 | inr ka ↦
                     let in' = t.remains.kept.complete a m ka in
-                    let less : number h a < z.0 = let n = number_below h a b (Come m) came' refl below in let g = found.1 in omega (arith, n) in
-                    absurd (let g = taken.least (number h a, m) in' adm' in omega (arith, g, less))
+                    let less : count_before h a < z.0 = let n = count_below h a b (Come m) came' refl below in let g = found.1 in omega (arith, n) in
+                    absurd (let g = taken.least (count_before h a, m) in' adm' in omega (arith, g, less))
               ];
           earlier_receives = λ j q m came below posted lives adm.
               let came' : ComeAt h b m = get_below h (Post p) b (Come m) lb came in
@@ -88,15 +89,15 @@ module _ (h : List Event) (r : Pairing) (s : State) (p : Pattern) (t : Tracks h 
               w.unpaired b0 (let l0 : b0 < length h = found.2.live.before in omega arith) (subst (λ (m : ℕ). Pairs r' m b0) e (Contains-push r (length h, b0)))
         ])
 
-    pub post_takes : (s' : State) → s'.count ≡ s.count + 1 → s'.waiting ≡ s.waiting → s'.kept ≡ kept' → (b : ℕ) × ComeAt h b z.1 × Tracks (h ++ Post p ∷ []) (r ++ (length h, b) ∷ []) s'
+    pub post_takes : (s' : Matching) → s'.count ≡ s.count + 1 → s'.waiting ≡ s.waiting → s'.kept ≡ kept' → PostGets h r p z.1 s'
     post_takes s' ec ew ek =
         let b0 = found.0 in
         let r' : Pairing = r ++ (length h, b0) ∷ [] in
         let keep : (i b : ℕ) → Pairs r i b → Pairs r' i b = pair_old r (length h) b0 in
-        let low : (i b : ℕ) → i < length h → Pairs r' i b → Pairs r i b = λ i b li q. elim (pair_cases r (length h) b0 i b q) [ inl o ↦ o | inr e ↦ absurd (let g : i ≡ length h = e.0 in omega arith) ] in (
-          b0,
-          found.2.live.came,
-          tracks h (Post p) r' s' (longer h r s p t open') post_pairs
+        let low : (i b : ℕ) → i < length h → Pairs r' i b → Pairs r i b = λ i b li q. elim (pair_cases r (length h) b0 i b q) [ inl o ↦ o | inr e ↦ absurd (let g : i ≡ length h = e.0 in omega arith) ] in record {
+          place = b0;
+          came = found.2.live.came;
+          tracks = tracks h (Post p) r' s' (longer h r s p t open') post_pairs
               (ec ∙ ap (λ n. n + 1) t.remains.count)
               (subst (λ (xs : List (ℕ × Pattern)). Lists (h ++ Post p ∷ []) (λ i q. IsWaiting (h ++ Post p ∷ []) r' i q (length h + 1)) xs) (sym ew)
               (lists_same h (h ++ Post p ∷ []) (λ i q. IsWaiting h r i q (length h)) (λ i q. IsWaiting (h ++ Post p ∷ []) r' i q (length h + 1)) s.waiting t.remains.waiting
@@ -117,7 +118,7 @@ module _ (h : List Event) (r : Pairing) (s : State) (p : Pattern) (t : Tracks h 
               (λ b l k n. kept_to h (Post p) r r' t.lawful keep b l (λ e. cc)
               (λ i q. elim (pair_cases r (length h) b0 i b q) [
                 | inl o ↦ o
-                | inr e ↦ absurd (n (ap (number h) e.1 ∙ found.1))
+                | inr e ↦ absurd (n (ap (count_before h) e.1 ∙ found.1))
               ]) k)
               (λ b l k.
               let lb : b < length h = not_here h r s p t open' b l k.live.came k.live.before in
@@ -126,5 +127,5 @@ module _ (h : List Event) (r : Pairing) (s : State) (p : Pattern) (t : Tracks h 
                 λ e.
                     let q : b0 ≡ b = same_number h b0 b (Come z.1) (Come l) found.2.live.came refl k'.live.came refl (found.1 ∙ sym e) in
                     k.unpaired (length h) (omega arith) (subst (λ (m : ℕ). Pairs r' (length h) m) q (Contains-push r (length h, b0))),
-              )))),
-        )
+              ))));
+        }

@@ -3,17 +3,17 @@ use Rattle.std.proofs.Common.{◌≡◌, ℕ, ◌+◌, ◌<◌, inl, inr, List, 
 use Rattle.ulfm_base.specs.declared.pattern.Pattern.{Pattern}
 use Rattle.ulfm_base.specs.declared.envelope.Letter.{Letter}
 use Rattle.ulfm_base.specs.Pattern.{Admits}
-use Rattle.ulfm_match.specs.History.{Event, Post, number}
+use Rattle.ulfm_match.specs.History.{Event, Post, count_before}
 use Rattle.ulfm_match.specs.Pairing.{Pairing, IsWaiting, IsKept, LawfulPairing}
-use Rattle.ulfm_match.specs.State.{State, Lists, IsOpen, Tracks}
+use Rattle.ulfm_match.specs.State.{Matching, Lists, IsUncleared, Tracks}
 use Rattle.ulfm_match.proofs.Decide.{lt_or_ge}
-use Rattle.ulfm_match.proofs.Histories.{get_new, number_old, number_below}
+use Rattle.ulfm_match.proofs.Histories.{get_new, count_old, count_below}
 use Rattle.ulfm_match.proofs.Lists.{lists_same, lists_push}
 use Rattle.ulfm_match.proofs.Extend.{receive_within, none_missed_below, extend}
 use Rattle.ulfm_match.proofs.Steps.{stands_nowhere, tracks, waiting_to, waiting_back, kept_to, kept_back, waiting_number, kept_number}
 use Rattle.ulfm_match.proofs.PostStep.{longer, not_here, here}
 
-module _ (h : List Event) (r : Pairing) (s : State) (p : Pattern) (t : Tracks h r s) (open' : IsOpen h p.context.number) where
+module _ (h : List Event) (r : Pairing) (s : Matching) (p : Pattern) (t : Tracks h r s) (open' : IsUncleared h p.context.number) where
   -- no kept letter fits: the receive waits
   module _ (none : (y : ℕ × Letter) → Contains s.kept y → Admits p y.1.envelope → ⊥) where
     post_lawful : LawfulPairing (h ++ Post p ∷ []) r
@@ -26,12 +26,12 @@ module _ (h : List Event) (r : Pairing) (s : State) (p : Pattern) (t : Tracks h 
           | inl low ↦ none_missed_below h r t.lawful (Post p) r (λ i b q. q) i b q l low lb w k adm
           | inr top ↦
               let e : p ≡ q = here h r s p t open' q i (omega arith) w.live.posted in
-              none (number h b, l)
+              none (count_before h b, l)
               (t.remains.kept.complete b l (kept_back h (Post p) r r t.lawful (λ i b q. q) b l lb k))
               (subst (λ (w : Pattern). Admits w l.envelope) (sym e) adm)
         ])
 
-    pub post_waits : (s' : State) → s'.count ≡ s.count + 1 → s'.waiting ≡ s.waiting ++ (s.count, p) ∷ [] → s'.kept ≡ s.kept → Tracks (h ++ Post p ∷ []) r s'
+    pub post_waits : (s' : Matching) → s'.count ≡ s.count + 1 → s'.waiting ≡ s.waiting ++ (s.count, p) ∷ [] → s'.kept ≡ s.kept → Tracks (h ++ Post p ∷ []) r s'
     post_waits s' ec ew ek =
         tracks h (Post p) r s' (longer h r s p t open') post_lawful
         (ec ∙ ap (λ n. n + 1) t.remains.count)
@@ -39,8 +39,8 @@ module _ (h : List Event) (r : Pairing) (s : State) (p : Pattern) (t : Tracks h 
         (lists_push h (h ++ Post p ∷ []) (λ i q. IsWaiting h r i q (length h)) (λ i q. IsWaiting (h ++ Post p ∷ []) r i q (length h + 1)) s.waiting t.remains.waiting
         (waiting_number h (Post p) r)
         (length h) p s.count
-        (number_old h (Post p) (length h) (omega arith) ∙ sym t.remains.count)
-        (λ i q w. let c = t.remains.count in omega (arith, number_below h i (length h) (Post q) w.live.posted refl w.live.before))
+        (count_old h (Post p) (length h) (omega arith) ∙ sym t.remains.count)
+        (λ i q w. let c = t.remains.count in omega (arith, count_below h i (length h) (Post q) w.live.posted refl w.live.before))
         (record {
           live = record { posted = get_new h (Post p); before = omega arith; not_ended = stands_nowhere; not_cleared = stands_nowhere };
           unpaired = λ b lb q. let l = receive_within h r t.lawful (length h) b q in omega (arith, l);

@@ -4,15 +4,15 @@ use Rattle.std.proofs.lemmas.Option.{slice_get_within}
 use Rattle.std.proofs.lemmas.List.Elements.{Contains-append_left, Contains-push_cases}
 use Rattle.ulfm_base.specs.declared.pattern.Pattern.{Pattern}
 use Rattle.ulfm_base.specs.declared.envelope.Letter.{Letter}
-use Rattle.ulfm_match.specs.History.{Event, Post, Come, End, Clear, PostAt, ComeAt, StandsBetween, IsWellFormed, weight, number}
+use Rattle.ulfm_match.specs.History.{Event, Post, Come, End, Clear, PostAt, ComeAt, StandsBetween, IsWellFormed, counts_as, count_before}
 use Rattle.ulfm_match.specs.Pairing.{Pairing, Pairs, IsWaiting, IsKept, LawfulPairing}
-use Rattle.ulfm_match.specs.State.{State, Lists, IsOpen, Tracks}
+use Rattle.ulfm_match.specs.State.{Matching, Lists, IsUncleared, Tracks}
 use Rattle.ulfm_match.proofs.Decide.{paired_receive, paired_letter}
-use Rattle.ulfm_match.proofs.Histories.{get_old, get_cases, get_below, length_more, receive_more, receive_less, letter_more, letter_less, number_old, number_new}
+use Rattle.ulfm_match.proofs.Histories.{get_old, get_cases, get_below, length_more, receive_more, receive_less, letter_more, letter_less, count_old, count_new}
 use Rattle.ulfm_match.proofs.Extend.{receive_within, letter_within}
 
 -- the longer history is one
-pub history_more : (h : List Event) (x : Event) → IsWellFormed h → ((i : ℕ) → x ≡ End i → (p : Pattern) × (i < length h) × PostAt h i p) → ((p : Pattern) → x ≡ Post p → IsOpen h p.context.number) → ((l : Letter) → x ≡ Come l → IsOpen h l.envelope.context.number) → IsWellFormed (h ++ x ∷ [])
+pub history_more : (h : List Event) (x : Event) → IsWellFormed h → ((i : ℕ) → x ≡ End i → (p : Pattern) × (i < length h) × PostAt h i p) → ((p : Pattern) → x ≡ Post p → IsUncleared h p.context.number) → ((l : Letter) → x ≡ Come l → IsUncleared h l.envelope.context.number) → IsWellFormed (h ++ x ∷ [])
 history_more h x wf ends posts letters = record {
   ends = λ i k g.
       elim (get_cases h x k (End i) g) [
@@ -54,14 +54,14 @@ pair_old r i0 b0 i b p = Contains-append_left r ((i0, b0) ∷ []) (i, b) p
 pub stands_nowhere : {h : List Event} {e : Event} {n : ℕ} → StandsBetween h e n (n + 1) → ⊥
 stands_nowhere {h} {e} {n} s = let a : n < s.place = s.after in let b : s.place < n + 1 = s.before in absurd (omega arith)
 
-pub tracks : (h : List Event) (x : Event) (r : Pairing) (s : State) → IsWellFormed (h ++ x ∷ []) → LawfulPairing (h ++ x ∷ []) r → s.count ≡ number h (length h) + weight x → Lists (h ++ x ∷ []) (λ i p. IsWaiting (h ++ x ∷ []) r i p (length h + 1)) s.waiting → Lists (h ++ x ∷ []) (λ b l. IsKept (h ++ x ∷ []) r b l (length h + 1)) s.kept → Tracks (h ++ x ∷ []) r s
+pub tracks : (h : List Event) (x : Event) (r : Pairing) (s : Matching) → IsWellFormed (h ++ x ∷ []) → LawfulPairing (h ++ x ∷ []) r → s.count ≡ count_before h (length h) + counts_as x → Lists (h ++ x ∷ []) (λ i p. IsWaiting (h ++ x ∷ []) r i p (length h + 1)) s.waiting → Lists (h ++ x ∷ []) (λ b l. IsKept (h ++ x ∷ []) r b l (length h + 1)) s.kept → Tracks (h ++ x ∷ []) r s
 tracks h x r s wf law c w k =
     let e = sym (length_more h x) in
     record {
       well_formed = wf;
       lawful = law;
       remains = record {
-        count = c ∙ sym (number_new h x) ∙ ap (number (h ++ x ∷ [])) (sym (add-one (length h)) ∙ e);
+        count = c ∙ sym (count_new h x) ∙ ap (count_before (h ++ x ∷ [])) (sym (add-one (length h)) ∙ e);
         waiting = subst (λ (m : ℕ). Lists (h ++ x ∷ []) (λ i p. IsWaiting (h ++ x ∷ []) r i p m) s.waiting) e w;
         kept = subst (λ (m : ℕ). Lists (h ++ x ∷ []) (λ b l. IsKept (h ++ x ∷ []) r b l m) s.kept) e k;
       };
@@ -87,14 +87,14 @@ module _ (h : List Event) (x : Event) (r r' : Pairing) (law : LawfulPairing h r)
   kept_back b l lb k = record { live = letter_less h x lb k.live; unpaired = λ i li q. k.unpaired i (omega arith) (keep i b q) }
 
 module _ (h : List Event) (x : Event) (r : Pairing) where
-  pub waiting_number : (i : ℕ) (p : Pattern) → IsWaiting h r i p (length h) → number (h ++ x ∷ []) i ≡ number h i
-  waiting_number i p w = let l : i < length h = w.live.before in number_old h x i (omega arith)
+  pub waiting_number : (i : ℕ) (p : Pattern) → IsWaiting h r i p (length h) → count_before (h ++ x ∷ []) i ≡ count_before h i
+  waiting_number i p w = let l : i < length h = w.live.before in count_old h x i (omega arith)
 
-  pub kept_number : (b : ℕ) (l : Letter) → IsKept h r b l (length h) → number (h ++ x ∷ []) b ≡ number h b
-  kept_number b l k = let m : b < length h = k.live.before in number_old h x b (omega arith)
+  pub kept_number : (b : ℕ) (l : Letter) → IsKept h r b l (length h) → count_before (h ++ x ∷ []) b ≡ count_before h b
+  kept_number b l k = let m : b < length h = k.live.before in count_old h x b (omega arith)
 
 -- in an open context what is unpaired is live
-module _ (h : List Event) (r : Pairing) (c : ℕ) (open' : IsOpen h c) where
+module _ (h : List Event) (r : Pairing) (c : ℕ) (open' : IsUncleared h c) where
   pub kept_or_paired : (b : ℕ) (l : Letter) → b < length h → ComeAt h b l → l.envelope.context.number ≡ c → ((j : ℕ) × (j < length h) × Pairs r j b) ⊎ IsKept h r b l (length h)
   kept_or_paired b l lb came e =
       elim (paired_letter r b (length h)) [

@@ -4,7 +4,7 @@ use Rattle.std.specs.List.{HoldsAt}
 use Rattle.std.proofs.lemmas.List.{take_more, take_all, take-append-drop}
 use Rattle.std.proofs.lemmas.List.Elements.{Contains-push_cases, Contains-get_or}
 use Rattle.std.proofs.Math.Seq.{drop-cons}
-use Rattle.ulfm_match.specs.Search.{IsFirstAt, FindsFirst}
+use Rattle.ulfm_match.specs.inside.Search.{IsFirstAt, FindsFirst}
 
 -- x was taken out, the first of which P holds
 pub record TakesFirst {X : Type 0} (P : X → Type 0) (old new : List X) (x : X) : Type 0 where

@@ -4,33 +4,44 @@ use Rattle.std.specs.Prelude.{◌≡◌, ℕ, true, List, [], ◌∷◌, ◌++�
 use Rattle.ulfm_base.specs.declared.pattern.Pattern.{Pattern}
 use Rattle.ulfm_base.specs.declared.envelope.Letter.{Letter}
 use Rattle.ulfm_base.specs.Pattern.{names}
-use Rattle.ulfm_match.specs.History.{Event, History, Post, Come, End, Clear, PostAt, ComeAt, number}
+use Rattle.ulfm_match.specs.History.{Event, History, Post, Come, End, Clear, PostAt, ComeAt, count_before}
 use Rattle.ulfm_match.specs.Pairing.{Pairing}
-use Rattle.ulfm_match.specs.State.{State, Tracks, IsOpen}
+use Rattle.ulfm_match.specs.State.{Matching, Tracks, IsUncleared}
+
+-- the receive that is posted now gets this letter, which came before
+pub record PostGets (history : History) (pairing : Pairing) (pattern : Pattern) (letter : Letter) (new : Matching) : Type 0 where
+  pub place : ℕ
+  pub came : ComeAt history place letter
+  pub tracks : Tracks (history ++ Post pattern ∷ []) (pairing ++ (length history, place) ∷ []) new
+
+-- the letter that comes now goes to the receive of this number, which was posted before
+pub record ArrivalGoesTo (history : History) (pairing : Pairing) (letter : Letter) (id : ℕ) (new : Matching) : Type 0 where
+  pub place : ℕ
+  pub pattern : Pattern
+  pub posted : PostAt history place pattern
+  pub numbered : count_before history place ≡ id
+  pub tracks : Tracks (history ++ Come letter ∷ []) (pairing ++ (place, length history) ∷ []) new
 
 -- a receive was posted, and the answer is the letter that it gets
-abbrev pub TracksPost : Pattern → State → Option Letter → State → Type 0
+abbrev pub TracksPost : Pattern → Matching → Option Letter → Matching → Type 0
 TracksPost pattern old answer new =
-    (history : History) (pairing : Pairing) → IsOpen history pattern.context.number → Tracks history pairing old →
-    MatchOption answer (Tracks (history ++ Post pattern ∷ []) pairing new) (λ letter.
-    (b : ℕ) × ComeAt history b letter × Tracks (history ++ Post pattern ∷ []) (pairing ++ (length history, b) ∷ []) new)
+    (history : History) (pairing : Pairing) → IsUncleared history pattern.context.number → Tracks history pairing old →
+    MatchOption answer (Tracks (history ++ Post pattern ∷ []) pairing new) (λ letter. PostGets history pairing pattern letter new)
 
 -- a letter came, and the answer is the number of the receive that gets it
-abbrev pub TracksArrival : Letter → State → Option ℕ → State → Type 0
+abbrev pub TracksArrival : Letter → Matching → Option ℕ → Matching → Type 0
 TracksArrival letter old answer new =
-    (history : History) (pairing : Pairing) → IsOpen history letter.envelope.context.number → Tracks history pairing old →
-    MatchOption answer (Tracks (history ++ Come letter ∷ []) pairing new) (λ id.
-    (i : ℕ) × (pattern : Pattern) × PostAt history i pattern × (number history i ≡ id) ×
-    Tracks (history ++ Come letter ∷ []) (pairing ++ (i, length history) ∷ []) new)
+    (history : History) (pairing : Pairing) → IsUncleared history letter.envelope.context.number → Tracks history pairing old →
+    MatchOption answer (Tracks (history ++ Come letter ∷ []) pairing new) (λ id. ArrivalGoesTo history pairing letter id new)
 
 -- the receive of this number ended
-abbrev pub TracksEnd : ℕ → State → State → Type 0
+abbrev pub TracksEnd : ℕ → Matching → Matching → Type 0
 TracksEnd id old new =
-    (history : History) (pairing : Pairing) (i : ℕ) (pattern : Pattern) → PostAt history i pattern → number history i ≡ id →
+    (history : History) (pairing : Pairing) (i : ℕ) (pattern : Pattern) → PostAt history i pattern → count_before history i ≡ id →
     Tracks history pairing old → Tracks (history ++ End i ∷ []) pairing new
 
 -- the context was cleared
-abbrev pub TracksClear : ℕ → State → State → Type 0
+abbrev pub TracksClear : ℕ → Matching → Matching → Type 0
 TracksClear context old new =
     (history : History) (pairing : Pairing) → Tracks history pairing old → Tracks (history ++ Clear context ∷ []) pairing new
 
@@ -40,7 +51,7 @@ pub record EndsNamed (history : History) (s : ℕ) (ends : List Event) : Type 0 
   pub complete : (i : ℕ) (pattern : Pattern) → PostAt history i pattern → names pattern.source s ≡ true → Contains ends (End i)
 
 -- the receives that name rank s ended
-abbrev pub TracksNamed : ℕ → State → State → Type 0
+abbrev pub TracksNamed : ℕ → Matching → Matching → Type 0
 TracksNamed s old new =
     (history : History) (pairing : Pairing) (ends : List Event) → EndsNamed history s ends →
     Tracks history pairing old → Tracks (history ++ ends) pairing new

@@ -54,14 +54,14 @@ pub record IsLiveLetter (history : History) (b : ℕ) (letter : Letter) (n : ℕ
   pub not_cleared : StandsBetween history (Clear letter.envelope.context.number) b n → ⊥
 
 -- posts and arrivals are counted, ends and clears aren't
-abbrev pub weight : Event → ℕ
-weight (Post pattern) = 1
-weight (Come letter) = 1
-weight (End place) = 0
-weight (Clear context) = 0
+abbrev pub counts_as : Event → ℕ
+counts_as (Post pattern) = 1
+counts_as (Come letter) = 1
+counts_as (End place) = 0
+counts_as (Clear context) = 0
 
 -- the number of the receive or letter at place i: how many posts and arrivals stand before it
-abbrev pub number : History → ℕ → ℕ
-number [] i = 0
-number (event ∷ history) zero = 0
-number (event ∷ history) (suc i) = weight event + number history i
+abbrev pub count_before : History → ℕ → ℕ
+count_before [] i = 0
+count_before (event ∷ history) zero = 0
+count_before (event ∷ history) (suc i) = counts_as event + count_before history i

@@ -1,6 +1,6 @@
-pub mod Arrived
-pub mod Calls
 pub mod History
 pub mod Pairing
-pub mod Search
 pub mod State
+pub mod Calls
+pub mod Arrived
+pub mod inside

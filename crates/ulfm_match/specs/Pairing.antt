@@ -54,5 +54,5 @@ pub record LawfulPairing (history : History) (pairing : Pairing) : Type 0 where
       IsWaiting history pairing i pattern n → IsKept history pairing b letter n → Admits pattern letter.envelope → ⊥
 
 -- the pairs with both places below n
-abbrev pub inside : ℕ → Pairing → Pairing
-inside n pairing = filter (λ (pair : ℕ × ℕ). nat_lt pair.0 n && nat_lt pair.1 n) pairing
+abbrev pub pairs_below : ℕ → Pairing → Pairing
+pairs_below n pairing = filter (λ (pair : ℕ × ℕ). nat_lt pair.0 n && nat_lt pair.1 n) pairing

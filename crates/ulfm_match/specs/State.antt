@@ -3,12 +3,12 @@ use Rattle.std.specs.Prelude.{◌≡◌, ◌≢◌, ℕ, Bool, ◌<◌, ◌↔�
 use Rattle.std.specs.List.{AllByRecursion}
 use Rattle.ulfm_base.specs.declared.pattern.Pattern.{Pattern}
 use Rattle.ulfm_base.specs.declared.envelope.Letter.{Letter}
-use Rattle.ulfm_match.specs.History.{History, Clear, IsWellFormed, number}
+use Rattle.ulfm_match.specs.History.{History, Clear, IsWellFormed, count_before}
 use Rattle.ulfm_match.specs.Pairing.{Pairing, IsWaiting, IsKept, LawfulPairing}
 
 -- The waiting receives and the kept letters, each with its number, how many posts and arrivals there were, and whether
 -- there is room for one more of each.
-pub record State : Type 0 where
+pub record Matching : Type 0 where
   pub waiting : List (ℕ × Pattern)
   pub kept : List (ℕ × Letter)
   pub count : ℕ
@@ -22,24 +22,24 @@ IsAscending (x ∷ xs) = AllByRecursion (λ y. x.0 < y.0) xs × IsAscending xs
 -- the entries are all those of which P holds, each under the number of its place, in order of places
 pub record Lists {X : Type 0} (history : History) (P : ℕ → X → Type 0) (entries : List (ℕ × X)) : Type 0 where
   pub ascending : IsAscending entries
-  pub sound : (k : ℕ) (x : X) → Contains entries (k, x) → (i : ℕ) × (number history i ≡ k) × P i x
-  pub complete : (i : ℕ) (x : X) → P i x → Contains entries (number history i, x)
+  pub sound : (k : ℕ) (x : X) → Contains entries (k, x) → (i : ℕ) × (count_before history i ≡ k) × P i x
+  pub complete : (i : ℕ) (x : X) → P i x → Contains entries (count_before history i, x)
 
 -- the state is the remains of the pairing: what waits and what is kept now, in order of places
-pub record Remains (history : History) (pairing : Pairing) (state : State) : Type 0 where
-  pub count : state.count ≡ number history (length history)
+pub record Remains (history : History) (pairing : Pairing) (state : Matching) : Type 0 where
+  pub count : state.count ≡ count_before history (length history)
   pub waiting : Lists history (λ i pattern. IsWaiting history pairing i pattern (length history)) state.waiting
   pub kept : Lists history (λ b letter. IsKept history pairing b letter (length history)) state.kept
 
 -- the pairing is lawful for this history, and the state is its remains
-pub record Tracks (history : History) (pairing : Pairing) (state : State) : Type 0 where
+pub record Tracks (history : History) (pairing : Pairing) (state : Matching) : Type 0 where
   pub well_formed : IsWellFormed history
   pub lawful : LawfulPairing history pairing
   pub remains : Remains history pairing state
 
 -- the context wasn't cleared
-abbrev pub IsOpen : History → ℕ → Type 0
-IsOpen history context = (k : ℕ) → slice_get history k ≢ Some (Clear context)
+abbrev pub IsUncleared : History → ℕ → Type 0
+IsUncleared history context = (k : ℕ) → slice_get history k ≢ Some (Clear context)
 
 -- the elements of which P holds stay, and no others
 abbrev pub Keeps : {X : Type 0} → (X → Type 0) → List X → List X → Type 0

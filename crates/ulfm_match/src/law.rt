@@ -4,8 +4,8 @@ ghost use Rattle.ulfm_base.specs.declared.envelope.Letter.{Letter};
 ghost use Rattle.ulfm_base.specs.declared.pattern.Pattern.{Pattern};
 ghost use Rattle.ulfm_match.specs.Calls.{TracksPost, TracksArrival};
 ghost use Rattle.ulfm_match.specs.History.{History};
-ghost use Rattle.ulfm_match.specs.Pairing.{Pairing, Pairs, LawfulPairing, inside};
-ghost use Rattle.ulfm_match.specs.State.{State, Tracks, IsOpen};
+ghost use Rattle.ulfm_match.specs.Pairing.{Pairing, Pairs, LawfulPairing, pairs_below};
+ghost use Rattle.ulfm_match.specs.State.{Matching, Tracks, IsUncleared};
 
 /// The empty history has the empty pairing, of which nothing remains.
 pub fn nothing_remains_at_first()
@@ -21,19 +21,19 @@ pub fn one_lawful_pairing()
 /// A lawful pairing, cut to a beginning of its history, is lawful there.
 pub fn beginnings_are_lawful()
     ensures { (front back : History) (pairing : Pairing) → LawfulPairing (front ++ back) pairing →
-        LawfulPairing front (inside (length front) pairing) }
+        LawfulPairing front (pairs_below (length front) pairing) }
 {}
 
 /// What a post answers is determined: its contract allows no two answers of a state that tracks some history.
 pub fn one_answer_to_a_post()
-    ensures { (history : History) (pairing : Pairing) (pattern : Pattern) (old new other : State) (answer another : Option Letter) →
-        IsOpen history pattern.context.number → Tracks history pairing old →
+    ensures { (history : History) (pairing : Pairing) (pattern : Pattern) (old new other : Matching) (answer another : Option Letter) →
+        IsUncleared history pattern.context.number → Tracks history pairing old →
         TracksPost pattern old answer new → TracksPost pattern old another other → answer ≡ another }
 {}
 
 /// So is which receive an arriving letter goes to, if any.
 pub fn one_answer_to_an_arrival()
-    ensures { (history : History) (pairing : Pairing) (letter : Letter) (old new other : State) (answer another : Option ℕ) →
-        IsOpen history letter.envelope.context.number → Tracks history pairing old →
+    ensures { (history : History) (pairing : Pairing) (letter : Letter) (old new other : Matching) (answer another : Option ℕ) →
+        IsUncleared history letter.envelope.context.number → Tracks history pairing old →
         TracksArrival letter old answer new → TracksArrival letter old another other → answer ≡ another }
 {}

@@ -8,8 +8,6 @@ mod matcher;
 mod removal;
 mod request;
 mod search;
-#[cfg(test)]
-mod tests;
 
 pub use arrived::Arrived;
 pub use law::{

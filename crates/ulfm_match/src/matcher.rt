@@ -24,9 +24,9 @@ pub struct Matcher {
 
 impl Model for Matcher {
     ghost use Rattle.std.specs.Prelude.{vec_len, vec_capacity, nat_lt, ◌&&◌};
-    ghost use Rattle.ulfm_match.specs.State.{State};
+    ghost use Rattle.ulfm_match.specs.State.{Matching};
 
-    ghost Value = { State };
+    ghost Value = { Matching };
 
     ghost view = { λ m. record {
       waiting = m.waiting.items;

@@ -1,7 +1,7 @@
 //! Searches of the waiting receives and of the kept letters, from the earliest on.
 ghost use Rattle.std.specs.Prelude.{◌≡◌, ℕ};
 ghost use Rattle.ulfm_base.specs.Pattern.{Admits};
-ghost use Rattle.ulfm_match.specs.Search.{FindsFirst};
+ghost use Rattle.ulfm_match.specs.inside.Search.{FindsFirst};
 
 use ulfm_base::{Letter, Pattern};
 

@@ -1,18 +1,18 @@
 -- What a test answers.
-use Rattle.std.proofs.Common.{◌≡◌, ℕ, Bool, true, false, cond, List, refl, ap, sym, ◌∙◌, subst, Option, Some}
-use Rattle.ulfm_rank.proofs.Common.{Pattern, Letter, WorldRank, PostAt, Entry, TestAnswer, Outcome, Waiting, Paired, Failed, Cleared, Request, group_of, history_of}
+use Rattle.std.proofs.Common.{◌≡◌, ℕ, Bool, true, false, cond, List, refl, sym, ◌∙◌, subst, Option, Some}
+use Rattle.ulfm_rank.proofs.Common.{Pattern, Letter, WorldRank, PostAt, Entry, TestAnswer, Fate, Waiting, Paired, Failed, Cleared, Request, group_of, history_of}
 use Rattle.ulfm_base.specs.declared.pattern.Source.{Source}
 use Rattle.ulfm_base.specs.declared.pattern.Source.TheVariants.{One, Any}
 use Rattle.ulfm_base.specs.declared.error.CallError.{CallError}
 use Rattle.ulfm_base.specs.Pattern.{AdmitsSource}
-use Rattle.ulfm_base.specs.Group.{is_member, rank_in}
+use Rattle.ulfm_base.specs.Group.{is_member}
 use Rattle.ulfm_match.specs.Pairing.{Pairing, Pairs, LawfulPairing}
-use Rattle.ulfm_match.specs.State.{State}
+use Rattle.ulfm_match.specs.State.{Matching}
 use Rattle.ulfm_match.proofs.Unique.{same_pattern, same_letter, one_pairing}
 use Rattle.ulfm_match.proofs.Extend.{letter_within}
 use Rattle.ulfm_rank.specs.declared.entry.TestAnswer.TheVariants.{Done, Over, Pending, NotYet}
-use Rattle.ulfm_rank.specs.Answer.{pends, Got, IsUnpaired, AnswersBy, IsRequest, IsTestAnswer}
-use Rattle.ulfm_rank.specs.Table.{IsSourceIn, IsInStep, Became, IsDelivered, GivesAnswer, HasSender}
+use Rattle.ulfm_rank.specs.Answer.{pends, Got, IsUnpaired, IsOpenReceive, IsReceived, IsAnswerBy, IsRequest, IsTestAnswer}
+use Rattle.ulfm_rank.specs.inside.Table.{IsSourceIn, IsInStep, Became, IsDelivered, GivesAnswer, HasSender}
 use Rattle.ulfm_rank.proofs.Groups.{rank_some}
 use Rattle.ulfm_rank.proofs.Grouped.{members_found}
 use Rattle.ulfm_rank.proofs.Steps.{same_place}
@@ -24,7 +24,7 @@ member_of group (Any m) r l e = l r.number e
 same_group : (a b : List ℕ) → Some a ≡ Some b → a ≡ b
 same_group a b e = cc
 
-module _ (n : ℕ) (log : List Entry) (m : State) (find : ℕ → Option Request) (t : IsInStep n log m find) where
+module _ (n : ℕ) (log : List Entry) (m : Matching) (find : ℕ → Option Request) (t : IsInStep n log m find) where
   -- a letter that a receive got is of a member
   got_member : (i : ℕ) (p : Pattern) (l : Letter) (group : List ℕ) → IsSourceIn group p.source → PostAt (history_of log) i p → Got (history_of log) t.pairing i l → is_member group l.envelope.source.number ≡ true
   got_member i p l group source posted got =
@@ -33,13 +33,13 @@ module _ (n : ℕ) (log : List Entry) (m : State) (find : ℕ → Option Request
       let el : k.letter ≡ l = same_letter (history_of log) got.place k.letter l k.letter_live.came got.came in
       member_of group p.source l.envelope.source source (subst (λ (w : Letter). AdmitsSource p.source w.envelope.source) el (subst (λ (q : Pattern). AdmitsSource q.source k.letter.envelope.source) ep k.admits.source))
 
-  pub has_sender : (id : ℕ) (q : Request) → find id ≡ Some q → (group : List ℕ) → group_of n log q.pattern.context.number ≡ Some group → HasSender group q.outcome
+  pub has_sender : (id : ℕ) (q : Request) → find id ≡ Some q → (group : List ℕ) → group_of n log q.pattern.context.number ≡ Some group → HasSender group q.fate
   has_sender id q f group made =
       let s = t.table.standing id q f in
       let o = t.table.of_group id q f in
-      sender q.outcome s.place q.pattern (subst (λ (g : List ℕ). IsSourceIn g q.pattern.source) (same_group o.group group (sym o.made ∙ made)) o.source) s.posted s.outcome
+      sender q.fate s.place q.pattern (subst (λ (g : List ℕ). IsSourceIn g q.pattern.source) (same_group o.group group (sym o.made ∙ made)) o.source) s.posted s.fate
     where
-      sender : (o : Outcome) (i : ℕ) (p : Pattern) → IsSourceIn group p.source → PostAt (history_of log) i p → Became (history_of log) t.pairing i p o → HasSender group o
+      sender : (o : Fate) (i : ℕ) (p : Pattern) → IsSourceIn group p.source → PostAt (history_of log) i p → Became (history_of log) t.pairing i p o → HasSender group o
       sender Waiting i p source posted b = tt
       sender (Paired l) i p source posted b = rank_some group l.envelope.source.number (got_member i p l group source posted b)
       sender Failed i p source posted b = tt
@@ -55,33 +55,40 @@ module _ (n : ℕ) (log : List Entry) (m : State) (find : ℕ → Option Request
     got : (l : Letter) → Got (history_of log) t.pairing i l → Got (history_of log) r i l
     got l g = record { place = g.place; pairs = one_pairing (history_of log) t.pairing r t.tracks.lawful law i g.place g.pairs; came = g.came }
 
-    delivered : (l : Letter) → Got (history_of log) t.pairing i l → (a : TestAnswer) → IsDelivered group p l a → AnswersBy n log r i p a
-    delivered l g (Done status body) d = (l, got l g, d.0, ap (λ (ms : List ℕ). rank_in ms l.envelope.source.number) (members_found n log p.context.number group made) ∙ d.1, d.2, d.3, d.4)
-    delivered l g (Over reason) d = subst (λ (e : CallError). AnswersBy n log r i p (Over e)) (sym d.0) (l, got l g, d.1)
+    delivered : (l : Letter) → Got (history_of log) t.pairing i l → (a : TestAnswer) → IsDelivered group p l a → IsAnswerBy n log r i p a
+    delivered l g (Done status body) d = record {
+      letter = l;
+      got = got l g;
+      received = subst (λ (ms : List ℕ). IsReceived ms p.room l status body) (sym (members_found n log p.context.number group made)) d;
+    }
+    delivered l g (Over reason) d = subst (λ (e : CallError). IsAnswerBy n log r i p (Over e)) (sym d.0) (l, got l g, d.1)
     delivered l g Pending d = absurd d
     delivered l g NotYet d = absurd d
 
-    answers : (o : Outcome) → Became (history_of log) t.pairing i p o → (a : TestAnswer) → GivesAnswer group (pends n log p) p o a → AnswersBy n log r i p a
-    answers Waiting w a gives = subst (λ (a : TestAnswer). AnswersBy n log r i p a) (sym gives) (pick (pends n log p) refl)
+    answers : (o : Fate) → Became (history_of log) t.pairing i p o → (a : TestAnswer) → GivesAnswer group (pends n log p) p o a → IsAnswerBy n log r i p a
+    answers Waiting w a gives = subst (λ (a : TestAnswer). IsAnswerBy n log r i p a) (sym gives) (pick (pends n log p) refl)
       where
         free : IsUnpaired r i
         free = unpaired (λ b q. w.unpaired b (letter_within (history_of log) t.pairing t.tracks.lawful i b q) q)
 
-        pick : (b : Bool) → pends n log p ≡ b → AnswersBy n log r i p (cond b Pending NotYet)
-        pick true e = (free, record { not_ended = w.live.not_ended; not_cleared = w.live.not_cleared }, e)
-        pick false e = (free, record { not_ended = w.live.not_ended; not_cleared = w.live.not_cleared }, e)
+        opened : IsOpenReceive (history_of log) i p
+        opened = record { not_ended = w.live.not_ended; not_cleared = w.live.not_cleared }
+
+        pick : (b : Bool) → pends n log p ≡ b → IsAnswerBy n log r i p (cond b Pending NotYet)
+        pick true e = record { unpaired = free; still_open = opened; pends = e }
+        pick false e = record { unpaired = free; still_open = opened; pends = e }
     answers (Paired l) g a gives = delivered l g a gives
-    answers Failed b a gives = subst (λ (a : TestAnswer). AnswersBy n log r i p a) (sym gives) (unpaired b.0, b.1)
-    answers Cleared b a gives = subst (λ (a : TestAnswer). AnswersBy n log r i p a) (sym gives) (unpaired b.0, b.1)
+    answers Failed b a gives = subst (λ (a : TestAnswer). IsAnswerBy n log r i p a) (sym gives) (unpaired b.0, b.1)
+    answers Cleared b a gives = subst (λ (a : TestAnswer). IsAnswerBy n log r i p a) (sym gives) (unpaired b.0, b.1)
 
   -- the answer for a request in the table is that of every lawful pairing
-  pub tested : (id : ℕ) (q : Request) → find id ≡ Some q → (group : List ℕ) → group_of n log q.pattern.context.number ≡ Some group → (a : TestAnswer) → GivesAnswer group (pends n log q.pattern) q.pattern q.outcome a → IsTestAnswer n log id a
+  pub tested : (id : ℕ) (q : Request) → find id ≡ Some q → (group : List ℕ) → group_of n log q.pattern.context.number ≡ Some group → (a : TestAnswer) → GivesAnswer group (pends n log q.pattern) q.pattern q.fate a → IsTestAnswer n log id a
   tested id q f group made a gives i p is r law =
       let s = t.table.standing id q f in
       let e : s.place ≡ i = same_place (history_of log) t.pairing id q s i p is.posted is.numbered in
       let ep : q.pattern ≡ p = same_pattern (history_of log) i q.pattern p (subst (λ (k : ℕ). PostAt (history_of log) k q.pattern) e s.posted) is.posted in
-      let b : Became (history_of log) t.pairing i q.pattern q.outcome = subst (λ (k : ℕ). Became (history_of log) t.pairing k q.pattern q.outcome) e s.outcome in
-      subst (λ (w : Pattern). AnswersBy n log r i w a) ep (answers i q.pattern r law group made q.outcome b a gives)
+      let b : Became (history_of log) t.pairing i q.pattern q.fate = subst (λ (k : ℕ). Became (history_of log) t.pairing k q.pattern q.fate) e s.fate in
+      subst (λ (w : Pattern). IsAnswerBy n log r i w a) ep (answers i q.pattern r law group made q.fate b a gives)
 
   pub is_request : (id : ℕ) (q : Request) → find id ≡ Some q → (i : ℕ) × (p : Pattern) × IsRequest log id i p
   is_request id q f =

@@ -1,5 +1,5 @@
 -- Each group has its own rank, and ranks of the world alone.
-use Rattle.std.proofs.Common.{◌≡◌, ℕ, ◌<◌, Bool, true, false, cond, eqb, List, [], ◌∷◌, ◌++◌, length, take, refl, ap, sym, subst, ◌∙◌, arith, inl, inr, Some, None, not, ◌==◌, nat_eq, slice_get}
+use Rattle.std.proofs.Common.{◌≡◌, ℕ, ◌<◌, Bool, true, false, cond, eqb, List, [], ◌∷◌, ◌++◌, length, take, refl, ap, sym, ◌∙◌, arith, inl, inr, Some, None, not, ◌==◌, nat_eq, slice_get}
 use lib.Pointwise.{pointwise, pointwise_decides}
 use Rattle.std.proofs.lemmas.Bool.{false≢true, or_parts, or_from, not-false, not_from_true, eqb-true, eq-eqb}
 use Rattle.std.proofs.lemmas.Option.{same_Some, slice_get_within, none-some}
@@ -54,9 +54,7 @@ pub belongs-start : (n me : ℕ) → me < n → BelongsToAll n me []
 belongs-start n me inside c g h = pick (eqb 0 c) h
   where
     pick : (b : Bool) → cond b (Some (numbers_from 0 n)) None ≡ Some g → Belongs n me g
-    pick true e =
-        let B : List ℕ → Type 0 = λ (x : List ℕ). Belongs n me x in
-        subst B (same_Some (numbers_from 0 n) g e) (record { member = world_member 0 n me (omega arith) (omega (arith, inside)); below = λ x member. omega (arith, world_below 0 n x member) })
+    pick true e = rw (← same_Some (numbers_from 0 n) g e) (record { member = world_member 0 n me (omega arith) (omega (arith, inside)); below = λ x member. omega (arith, world_below 0 n x member) })
     pick false e = absurd (none-some g e)
 
 -- the new group of a decision that isn't foreign
@@ -75,11 +73,9 @@ belongs n me log e h fits c g made = elim (group_cases n log e c g made) [
   | inl was ↦ h c g was
   | inr (inl d) ↦ h d.parent.number g d.group
   | inr (inr a) ↦
-      let F : Entry → Type 0 = λ (x : Entry). Fits n me log x in
-      let ok = subst F a.entry fits in
+      let ok = rw a.entry at fits in
       let i : ℕ = a.decision.context.number in
-      let B : List ℕ → Type 0 = λ (x : List ℕ). Belongs n me x in
-      subst B a.group (adopted_belongs n me i log a.decision h ok.0 (own_from me (members_of n log i) log i a.decision ok.2))
+      rw a.group at (adopted_belongs n me i log a.decision h ok.0 (own_from me (members_of n log i) log i a.decision ok.2))
 ]
 
 -- a rank enters a shrink once, with the failures that it knows then
@@ -93,8 +89,7 @@ enters_once n me log e h fits k context known stands = elim (get_cases log e k (
       let inside = slice_get_within log k (Entered context known) was in
       (own_stays log e context.number known old.0, λ r. old.1 r ∙ ap (λ (b : List Entry). is_gone b r) (sym (take-append-le k log (e ∷ []) (omega (arith, inside)))))
   | inr now ↦
-      let F : Entry → Type 0 = λ (x : Entry). Fits n me log x in
-      let ok = subst F now.1 fits in (
+      let ok = rw now.1 at fits in (
         own_first log e context.number known ok.1 (ap (entry_of context.number) now.1 ∙ entry_here context known context.number refl),
         λ r. ok.2 r ∙ ap (λ (b : List Entry). is_gone b r) (sym (ap (λ i. take i (log ++ e ∷ [])) now.0 ∙ take-append-le (length log) log (e ∷ []) (omega arith) ∙ take_all (length log) log (omega arith))),
       )

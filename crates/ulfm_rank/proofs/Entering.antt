@@ -1,9 +1,9 @@
 -- What a log tells of entries into shrinks, and what a longer one tells.
-use Rattle.std.proofs.Common.{◌≡◌, ℕ, Bool, true, false, cond, eqb, List, [], ◌∷◌, ◌++◌, refl, ap, sym, subst, ◌∙◌, inl, inr, ◌⊎◌, Option, Some, None}
+use Rattle.std.proofs.Common.{◌≡◌, ℕ, Bool, true, false, cond, eqb, List, [], ◌∷◌, ◌++◌, refl, ap, sym, ◌∙◌, inl, inr, ◌⊎◌, Option, Some, None}
 use Rattle.std.specs.Prelude.{⊤, is_some}
 use Rattle.std.proofs.lemmas.Bool.{false≢true, eq-eqb, eqb-true, or_cases, or_left, or_parts}
 use Rattle.std.proofs.lemmas.Option.{none-some, cond_some}
-use Rattle.ulfm_rank.proofs.Common.{Context, Decision, RankSet, has, Entry, Sent, Posted, Released, Acknowledged, Revoked, Duplicated, Entered, Adopted, Stopped, Took, first_of, Knows}
+use Rattle.ulfm_rank.proofs.Common.{Context, Decision, RankSet, has, Entry, Entered, Adopted, first_given, Knows}
 use Rattle.ulfm_rank.specs.Communicators.{group_of, is_made, members_of}
 use Rattle.ulfm_rank.specs.Facts.{is_gone, tells_gone}
 use Rattle.ulfm_rank.specs.Shrink.{entry_of, has_entered, adopts, has_adopted, is_foreign}
@@ -24,22 +24,14 @@ pub entry_parts : (c : ℕ) (e : Entry) (set : RankSet) → entry_of c e ≡ Som
 entry_parts c (Entered context known) set h =
     let both = cond_some (eqb context.number c) known set h in
     (context, ap (Entered context) both.1, eqb-true context.number c both.0)
-entry_parts c (Sent to letter) set h = absurd (none-some set h)
-entry_parts c (Posted pattern) set h = absurd (none-some set h)
-entry_parts c (Released id answer) set h = absurd (none-some set h)
-entry_parts c (Acknowledged context total) set h = absurd (none-some set h)
-entry_parts c (Revoked context) set h = absurd (none-some set h)
-entry_parts c (Duplicated context) set h = absurd (none-some set h)
-entry_parts c (Adopted d) set h = absurd (none-some set h)
-entry_parts c Stopped set h = absurd (none-some set h)
-entry_parts c (Took source item) set h = absurd (none-some set h)
+entry_parts c _ set h = absurd (none-some set h)
 
 pub entry_here : (context : Context) (known : RankSet) (c : ℕ) → context.number ≡ c → entry_of c (Entered context known) ≡ Some known
 entry_here context known c same = ap (λ (b : Bool). cond b (Some known) None) (eq-eqb context.number c same)
 
 -- the set of the first entry into the shrink of c
 abbrev pub own_set : List Entry → ℕ → Option RankSet
-own_set log c = first_of (entry_of c) log
+own_set log c = first_given (entry_of c) log
 
 pub own_stays : (log : List Entry) (e : Entry) (c : ℕ) (set : RankSet) → own_set log c ≡ Some set → own_set (log ++ e ∷ []) c ≡ Some set
 own_stays log e c set h = first-push (entry_of c) log e ∙ or_else_first (own_set log c) (entry_of c e) set h
@@ -77,8 +69,7 @@ enters_made n me log e h fits c entered =
       | inl was ↦ h c (ap is_some was)
       | inr now ↦
           let is = entry_parts c e set.0 now.1 in
-          let F : Entry → Type 0 = λ (x : Entry). Fits n me log x in
-          ap (is_made n log) (sym is.2) ∙ (subst F is.1 fits).0
+          ap (is_made n log) (sym is.2) ∙ (rw is.1 at fits).0
     ])
 
 -- it adopted decisions of shrinks alone that it entered
@@ -95,8 +86,7 @@ adopts_entered n me log e h fits c adopted =
       | inl was ↦ h c was
       | inr now ↦
           let is = adopts_parts c e now in
-          let F : Entry → Type 0 = λ (x : Entry). Fits n me log x in
-          ap (has_entered log) (sym is.2) ∙ (subst F is.1 fits).1
+          ap (has_entered log) (sym is.2) ∙ (rw is.1 at fits).1
     ])
 
 -- the failures of an entry are known
@@ -109,6 +99,5 @@ knows_sets n me log e h fits c s set own inside =
       | inl was ↦ h c s set was inside
       | inr now ↦
           let is = entry_parts c e set now.1 in
-          let F : Entry → Type 0 = λ (x : Entry). Fits n me log x in
-          sym ((subst F is.1 fits).2 s) ∙ inside
+          sym ((rw is.1 at fits).2 s) ∙ inside
     ])

@@ -2,9 +2,9 @@
 use Rattle.std.proofs.Common.{◌≡◌, ◌≢◌, ℕ, ◌<◌, ◌≤◌, Bool, true, false, cond, List, [], ◌∷◌, ◌++◌, refl, ap, sym, ◌∙◌, arith, eq-eqb, inl, inr, Option, Some, None, ◌==◌, not, is_some, MatchOption}
 use Rattle.std.proofs.lemmas.Bool.{cases_lt, false≢true, eqb-true, ne_eqb}
 use Rattle.std.proofs.lemmas.Bool.Decides.{nat_tests}
-use Rattle.ulfm_rank.proofs.Common.{Context, Item, WorldRank, RankSet, shrink_of, entry_at, Entry, Entered, Took, or_else, first_of}
+use Rattle.ulfm_rank.proofs.Common.{Context, Item, WorldRank, RankSet, shrink_of, entry_at, Entry, Entered, Took, or_else, first_given}
 use Rattle.ulfm_base.specs.declared.item.Item.TheVariants.{Letter as Mail, Gone, Revoke, Enter}
-use Rattle.ulfm_rank.specs.Fields.{set_of, Notes, HasEntries, HasShrinks}
+use Rattle.ulfm_rank.specs.inside.Fields.{set_of, Notes, HasEntries, HasShrinks}
 use Rattle.ulfm_rank.specs.Shrink.{entry_of, item_entry, heard_of, has_entered}
 use Rattle.ulfm_rank.proofs.Listed.{told_of, listed-push, entered-push, listed-own}
 use Rattle.ulfm_rank.proofs.Firsts.{or_none, first-push}
@@ -52,9 +52,9 @@ shrinks-entered me log context known old new held small notes =
     told : (c r : ℕ) → cond (context.number == c) (cond (me == r) (Some known) None) None ≡ told_of me c r (Entered context known)
     told c r = ap (λ (b : Bool). cond (context.number == c) (cond b (Some known) None) None) (eqb-flip me r) ∙ pick (context.number == c) (r == me)
 
-    here : (c : ℕ) (b : Bool) → (context.number == c) ≡ b → is_some (or_else (first_of (entry_of c) log) (cond b (Some known) None)) ≡ true → c < 31
+    here : (c : ℕ) (b : Bool) → (context.number == c) ≡ b → is_some (or_else (first_given (entry_of c) log) (cond b (Some known) None)) ≡ true → c < 31
     here c true same entered = let e = eqb-true context.number c same in omega (arith, small, e)
-    here c false apart entered = held.has_shrink c (ap is_some (sym (or_none (first_of (entry_of c) log))) ∙ entered)
+    here c false apart entered = held.has_shrink c (ap is_some (sym (or_none (first_given (entry_of c) log))) ∙ entered)
 
     within : (c : ℕ) → has_entered (log ++ Entered context known ∷ []) c ≡ true → c < 31
     within c entered = here c (context.number == c) refl (ap is_some (sym (first-push (entry_of c) log (Entered context known))) ∙ entered)
@@ -83,7 +83,7 @@ shrinks-heard me log s context known old new held other notes =
 -- word of the rank's own entry, which came back to it
 pub shrinks-own : (me : ℕ) (log : List Entry) (s : WorldRank) (item : Item) (rows : List (List (Option RankSet))) → HasShrinks me log rows → s.number ≡ me → HasShrinks me (log ++ Took s item ∷ []) rows
 shrinks-own me log s item rows held same =
-    shrinks-pushed me log (Took s item) rows rows held (λ c r small rank. sym (ap (or_else (set_of rows c r)) (untold c r) ∙ or_none (set_of rows c r)))
+    shrinks-pushed me log (Took s item) rows rows held (λ c r small rank. sym (ap (or_else (set_of rows c r)) (no_notice c r) ∙ or_none (set_of rows c r)))
     (λ c entered. held.has_shrink c (sym (entered-push log c (Took s item) refl) ∙ entered))
   where
     pick : (c r : ℕ) (b : Bool) → (r == me) ≡ b → cond {A = Option RankSet} b None (cond (s.number == r) (item_entry c item) None) ≡ None
@@ -92,8 +92,8 @@ shrinks-own me log s item rows held same =
         let other : (s.number == r) ≡ false = ne_eqb s.number r (λ k. false≢true (sym apart ∙ eq-eqb r me (sym k ∙ same))) in
         ap (λ (b : Bool). cond b (item_entry c item) None) other
 
-    untold : (c r : ℕ) → told_of me c r (Took s item) ≡ None
-    untold c r = pick c r (r == me) refl
+    no_notice : (c r : ℕ) → told_of me c r (Took s item) ≡ None
+    no_notice c r = pick c r (r == me) refl
 
 pub same_by : (a b : ℕ) → not (a == b) ≡ false → a ≡ b
 same_by a b h = eqb-true a b (pick (a == b) h)

@@ -1,7 +1,7 @@
 -- The first entry into a shrink that a log tells of, and that a rank took from another.
 use Rattle.std.proofs.Common.{◌≡◌, ℕ, Bool, true, false, cond, eqb, List, [], ◌∷◌, ◌++◌, refl, ap, sym, ◌∙◌, inl, inr, ◌⊎◌, Option, Some, None, is_some}
 use Rattle.std.proofs.lemmas.Bool.{false≢true}
-use Rattle.ulfm_rank.proofs.Common.{RankSet, Item, Entry, Took, took, took_by, or_else, first_of}
+use Rattle.ulfm_rank.proofs.Common.{RankSet, Item, Entry, Took, took, took_by, or_else, first_given}
 use Rattle.ulfm_rank.specs.Shrink.{item_entry, heard_of}
 
 pub or_none : {X : Type 0} (o : Option X) → or_else o None ≡ o
@@ -31,9 +31,9 @@ pub none_from : {X : Type 0} (o : Option X) → is_some o ≡ false → o ≡ No
 none_from None h = refl
 none_from (Some x) h = absurd (false≢true (sym h))
 
-pub first-push : {X : Type 0} (give : Entry → Option X) (log : List Entry) (e : Entry) → first_of give (log ++ e ∷ []) ≡ or_else (first_of give log) (give e)
+pub first-push : {X : Type 0} (give : Entry → Option X) (log : List Entry) (e : Entry) → first_given give (log ++ e ∷ []) ≡ or_else (first_given give log) (give e)
 first-push give [] e = or_none (give e)
-first-push give (x ∷ log) e = ap (or_else (give x)) (first-push give log e) ∙ sym (or_assoc (give x) (first_of give log) (give e))
+first-push give (x ∷ log) e = ap (or_else (give x)) (first-push give log e) ∙ sym (or_assoc (give x) (first_given give log) (give e))
 
 -- the set of the first entry into the shrink of c among these items
 abbrev pub first_set : ℕ → List Item → Option RankSet
@@ -53,9 +53,9 @@ heard_took c s (Took source item) = pick (eqb source.number s)
 heard_took c s _ = refl
 
 -- what a rank heard of the entry of s is the first that it took from s
-pub heard-took : (log : List Entry) (c s : ℕ) → first_of (heard_of c s) log ≡ first_set c (took log s)
+pub heard-took : (log : List Entry) (c s : ℕ) → first_given (heard_of c s) log ≡ first_set c (took log s)
 heard-took [] c s = refl
 heard-took (e ∷ log) c s =
-    ap (λ (o : Option RankSet). or_else o (first_of (heard_of c s) log)) (heard_took c s e)
+    ap (λ (o : Option RankSet). or_else o (first_given (heard_of c s) log)) (heard_took c s e)
     ∙ ap (or_else (first_set c (took_by s e))) (heard-took log c s)
     ∙ sym (set-append c (took_by s e) (took log s))

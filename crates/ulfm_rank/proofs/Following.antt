@@ -3,10 +3,10 @@ use Rattle.std.proofs.Common.{◌≡◌, ℕ, Bool, true, false, cond, eqb, List
 use Rattle.std.proofs.Math.Bool.{or-false}
 use Rattle.ulfm_rank.proofs.Common.{Context, Letter, WorldRank, RankSet, Decision, dup_of, shrink_of, Entry, Sent, Acknowledged, Revoked, Duplicated, Entered, Adopted, Stopped, Request, find_group, is_stop, is_stopped, is_revoked, HasFaults, Follows, Box, for_each, AllGrow}
 use Rattle.ulfm_base.specs.declared.item.Item.TheVariants.{Letter as Mail}
-use Rattle.ulfm_fault.specs.Facts.{Facts, acknowledged_in, is_marked}
-use Rattle.ulfm_match.specs.State.{State as Matching}
+use Rattle.ulfm_fault.specs.Facts.{FaultState, acknowledged_in, is_revoked_in}
+use Rattle.ulfm_match.specs.State.{Matching}
 use Rattle.ulfm_rank.specs.Owed.{passed_on, entry_told}
-use Rattle.ulfm_rank.specs.Requests.{TracksRevocation}
+use Rattle.ulfm_rank.specs.inside.Requests.{TracksRevocation}
 use Rattle.ulfm_rank.proofs.Adoptable.{communicators-adopted}
 use Rattle.ulfm_rank.proofs.Gather.{any-push}
 use Rattle.ulfm_rank.proofs.Held.{outboxes-grown, outboxes-quiet}
@@ -18,7 +18,7 @@ or_true : (b : Bool) → b || true ≡ true
 or_true true = refl
 or_true false = refl
 
-module _ (n me : ℕ) (log : List Entry) (stopped : Bool) (m : Matching) (find : ℕ → Option Request) (facts : Facts) (comms : List (ℕ × List ℕ)) (boxes : List Box) (f : Follows n me log stopped m find facts comms boxes) where
+module _ (n me : ℕ) (log : List Entry) (stopped : Bool) (m : Matching) (find : ℕ → Option Request) (facts : FaultState) (comms : List (ℕ × List ℕ)) (boxes : List Box) (f : Follows n me log stopped m find facts comms boxes) where
   runs_on : (x : Entry) → is_stop x ≡ false → stopped ≡ is_stopped (log ++ x ∷ [])
   runs_on x h = f.halted ∙ sym (any-push is_stop log x ∙ (ap (λ b. is_stopped log || b) h ∙ or-false (is_stopped log)))
 
@@ -67,7 +67,7 @@ module _ (n me : ℕ) (log : List Entry) (stopped : Bool) (m : Matching) (find :
   }
 
   -- failures were acknowledged
-  pub follows_acknowledged : (context : Context) (total : ℕ) (facts' : Facts) → ((c : ℕ) → acknowledged_in facts' c ≡ cond (eqb context.number c) total (acknowledged_in facts c)) → facts'.known ≡ facts.known → facts'.revoked ≡ facts.revoked → Follows n me (log ++ Acknowledged context total ∷ []) stopped m find facts' comms boxes
+  pub follows_acknowledged : (context : Context) (total : ℕ) (facts' : FaultState) → ((c : ℕ) → acknowledged_in facts' c ≡ cond (eqb context.number c) total (acknowledged_in facts c)) → facts'.known ≡ facts.known → facts'.revoked ≡ facts.revoked → Follows n me (log ++ Acknowledged context total ∷ []) stopped m find facts' comms boxes
   follows_acknowledged context total facts' a k r = record {
     small = f.small;
     halted = runs_on (Acknowledged context total) refl;
@@ -77,15 +77,15 @@ module _ (n me : ℕ) (log : List Entry) (stopped : Bool) (m : Matching) (find :
         record {
           knows = k ∙ (quiet.knows ∙ sym (known-push log (Acknowledged context total) ∙ append-nil _));
           acknowledges = λ c. a c ∙ (ap (λ t. cond (eqb context.number c) total t) (quiet.acknowledges c) ∙ sym (acknowledged-push c log (Acknowledged context total)));
-          marks = λ c. ap (λ (xs : List Bool). is_marked (record facts { revoked = xs }) c) r ∙ (quiet.marks c ∙ sym (any-push _ log (Acknowledged context total) ∙ or-false (is_revoked log c)));
+          marks = λ c. ap (λ (xs : List Bool). is_revoked_in (record facts { revoked = xs }) c) r ∙ (quiet.marks c ∙ sym (any-push _ log (Acknowledged context total) ∙ or-false (is_revoked log c)));
         };
     communicators = communicators-quiet n log (Acknowledged context total) comms f.communicators (λ b k. refl);
     outboxes = outboxes-quiet n me log (Acknowledged context total) boxes f.outboxes (λ d. refl);
   }
 
   -- a context was revoked for the first time by the rank itself
-  pub follows_revoked : (context : Context) (m' : Matching) (find' : ℕ → Option Request) (facts' : Facts) (boxes' : List Box) → is_revoked log context.number ≡ false → TracksRevocation context.number m find m' find'
-      → ((c : ℕ) → is_marked facts' c ≡ cond (eqb context.number c) true (is_marked facts c)) → facts'.known ≡ facts.known → facts'.acknowledged ≡ facts.acknowledged
+  pub follows_revoked : (context : Context) (m' : Matching) (find' : ℕ → Option Request) (facts' : FaultState) (boxes' : List Box) → is_revoked log context.number ≡ false → TracksRevocation context.number m find m' find'
+      → ((c : ℕ) → is_revoked_in facts' c ≡ cond (eqb context.number c) true (is_revoked_in facts c)) → facts'.known ≡ facts.known → facts'.acknowledged ≡ facts.acknowledged
       → AllGrow boxes boxes' (length log) (passed_on me log context) → Follows n me (log ++ Revoked context ∷ []) stopped m' find' facts' comms boxes'
   follows_revoked context m' find' facts' boxes' first tracks marks k a grows = record {
     small = f.small;

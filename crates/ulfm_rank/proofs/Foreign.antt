@@ -6,7 +6,7 @@ use Rattle.std.proofs.lemmas.Bool.{cases_eq, and_from, eqb-true, not-false, or_p
 use Rattle.std.specs.Cmp.Lexicographic.{same_text}
 use lib.Pointwise.{pointwise}
 use Rattle.ulfm_rank.proofs.Common.{Decision, RankSet, entry_at, is_member, numbers_from, Entry}
-use Rattle.ulfm_rank.specs.Fields.{HasEntries}
+use Rattle.ulfm_rank.specs.inside.Fields.{HasEntries}
 use Rattle.ulfm_rank.specs.Shrink.{differ, contradicts, is_foreign, listed_of}
 
 -- a number of which the test holds

@@ -3,10 +3,10 @@ use Rattle.std.proofs.Common.{◌≡◌, ℕ, zero, suc, ◌<◌, Bool, true, fa
 use Rattle.std.specs.Prelude.{⊤, slice_get}
 use Rattle.std.proofs.lemmas.Option.{slice_get_within}
 use Rattle.ulfm_rank.proofs.Common.{Letter, Pattern, Entry, Posted, Revoked, Took, is_revoked}
-use Rattle.ulfm_base.specs.declared.item.Item.TheVariants.{Letter as Mail, Gone, Revoke, Enter}
+use Rattle.ulfm_base.specs.declared.item.Item.TheVariants.{Letter as Mail, Gone, Revoke}
 use Rattle.ulfm_base.specs.Pattern.{names}
 use Rattle.ulfm_match.specs.History.{Event, Post, Come, End, Clear, PostAt, IsWellFormed}
-use Rattle.ulfm_match.specs.State.{IsOpen}
+use Rattle.ulfm_match.specs.State.{IsUncleared}
 use Rattle.ulfm_match.proofs.Decide.{Contains-head, Contains-tail}
 use Rattle.ulfm_match.proofs.Ends.{AreEnds}
 use Rattle.ulfm_match.proofs.Histories.{get_old, get_new, length_more}
@@ -58,7 +58,6 @@ none-events log h (Revoked context) none = none-cond (is_revoked log context.num
 none-events log h (Took source (Mail letter)) none = none-cond (is_revoked log letter.envelope.context.number) (Come letter) (λ p e. cc)
 none-events log h (Took source Gone) none = none-ends source.number 0 h
 none-events log h (Took source (Revoke context)) none = none-cond (is_revoked log context.number) (Clear context.number) (λ p e. cc)
-none-events log h (Took source (Enter context known)) none = none-nil
 none-events log h _ none = none-nil
 
 formed-none : (h : List Event) → IsWellFormed h → IsWellFormed (h ++ [])
@@ -72,7 +71,7 @@ formed-come : (log : List Entry) (letter : Letter) (b : Bool) → is_revoked log
 formed-come log letter true e wf = formed-none (history_of log) wf
 formed-come log letter false e wf =
     history_more (history_of log) (Come letter) wf (λ i e. cc) (λ p e. cc)
-    (λ l f. subst (λ (w : Letter). IsOpen (history_of log) w.envelope.context.number) (let g : letter ≡ l = cc in g) (unrevoked_open log letter.envelope.context.number e))
+    (λ l f. subst (λ (w : Letter). IsUncleared (history_of log) w.envelope.context.number) (let g : letter ≡ l = cc in g) (unrevoked_open log letter.envelope.context.number e))
 
 formed-ends : (es h : List Event) → IsWellFormed h → AreEnds h es → IsWellFormed (h ++ es)
 formed-ends [] h wf ends = formed-none h wf
@@ -90,7 +89,6 @@ formed-events log (Revoked context) wf none = formed-clear (history_of log) (is_
 formed-events log (Took source (Mail letter)) wf none = formed-come log letter (is_revoked log letter.envelope.context.number) refl wf
 formed-events log (Took source Gone) wf none = formed-ends (ends_of source.number (history_of log)) (history_of log) wf (λ x c. let e = (ends_named source.number (history_of log)).sound x c in (e.0, e.1, e.2, e.3))
 formed-events log (Took source (Revoke context)) wf none = formed-clear (history_of log) (is_revoked log context.number) context.number wf
-formed-events log (Took source (Enter context known)) wf none = formed-none (history_of log) wf
 formed-events log _ wf none = formed-none (history_of log) wf
 
 -- one more entry, which posts none
@@ -105,7 +103,7 @@ formed-posted log p wf fresh = subst (λ (g : List Event). IsWellFormed g) (sym 
     h = history_of log
 
     one : IsWellFormed (h ++ Post p ∷ [])
-    one = history_more h (Post p) wf (λ i e. cc) (λ q e. subst (λ (w : Pattern). IsOpen h w.context.number) (let g : p ≡ q = cc in g) (unrevoked_open log p.context.number fresh)) (λ l e. cc)
+    one = history_more h (Post p) wf (λ i e. cc) (λ q e. subst (λ (w : Pattern). IsUncleared h w.context.number) (let g : p ≡ q = cc in g) (unrevoked_open log p.context.number fresh)) (λ l e. cc)
 
     two : IsWellFormed ((h ++ Post p ∷ []) ++ End (length h) ∷ [])
     two = history_more (h ++ Post p ∷ []) (End (length h)) one (λ j e. subst (λ (k : ℕ). (q : Pattern) × (k < length (h ++ Post p ∷ [])) × PostAt (h ++ Post p ∷ []) k q) (let same : length h ≡ j = cc in same) (p, let l = length_more h (Post p) in omega (arith, l), get_new h (Post p))) (λ q e. cc) (λ l e. cc)

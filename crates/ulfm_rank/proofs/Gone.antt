@@ -3,9 +3,9 @@ use Rattle.std.proofs.Common.{◌≡◌, ◌≢◌, ℕ, zero, suc, ◌+◌, ◌
 use Rattle.std.specs.Option.{option_map}
 use Rattle.std.proofs.lemmas.Option.{slice_get_within}
 use Rattle.std.proofs.lemmas.List.Elements.{Contains-append_left, Contains-append_right, Contains-append_cases}
-use Rattle.ulfm_rank.proofs.Common.{Pattern, Entry, Outcome, Waiting, Paired, Failed, Cleared, Request, is_released}
+use Rattle.ulfm_rank.proofs.Common.{Pattern, Entry, Fate, Waiting, Paired, Failed, Cleared, Request, is_released}
 use Rattle.ulfm_base.specs.Pattern.{names}
-use Rattle.ulfm_match.specs.History.{Event, Post, Come, End, Clear, PostAt, StandsBetween, number}
+use Rattle.ulfm_match.specs.History.{Event, Post, Come, End, Clear, PostAt, StandsBetween, count_before}
 use Rattle.ulfm_match.specs.Pairing.{Pairing, IsWaiting, LawfulPairing}
 use Rattle.ulfm_match.proofs.Unique.{same_pattern}
 use Rattle.ulfm_match.proofs.Extend.{letter_within}
@@ -13,10 +13,10 @@ use Rattle.ulfm_match.proofs.Cut.{get_front}
 use Rattle.ulfm_match.specs.Calls.{EndsNamed}
 use Rattle.ulfm_match.proofs.Decide.{Contains-none, Contains-head, Contains-tail, Contains-cons_cases}
 use Rattle.ulfm_rank.specs.Answer.{StandsFirst}
-use Rattle.ulfm_rank.specs.Table.{IsOfGroup, Became, IsStanding, IsTable}
-use Rattle.ulfm_rank.specs.Requests.{is_waiting, over_named, Changes}
+use Rattle.ulfm_rank.specs.inside.Table.{IsOfGroup, Became, IsStanding, IsTable}
+use Rattle.ulfm_rank.specs.inside.Requests.{is_waiting, over_named, Changes}
 use Rattle.ulfm_rank.specs.History.{end_at, ends_from, ends_of}
-use Rattle.ulfm_match.proofs.Histories.{number_front, number_rises}
+use Rattle.ulfm_match.proofs.Histories.{count_front, count_rises}
 
 -- an end of the receive at the place i of these events, the first of which stands at k
 abbrev IsNamedAt : ℕ → ℕ → List Event → Event → Type 0
@@ -91,7 +91,7 @@ module _ (n s : ℕ) (log : List Entry) (h es : List Event) (r : Pairing) (law :
         | inr b ↦ absurd (only_ends x never b.1)
       ]
 
-  -- an outcome that stands stays
+  -- an fate that stands stays
   first_front : (i : ℕ) (e o : Event) → StandsFirst h i e o → StandsFirst (h ++ es) i e o
   first_front i e o f =
       let l : f.place < length h = slice_get_within h f.place e f.is in
@@ -139,10 +139,10 @@ module _ (n s : ℕ) (log : List Entry) (h es : List Event) (r : Pairing) (law :
         },
       )
 
-  became_over : (i : ℕ) (p : Pattern) (o : Outcome) → Became h r i p o → Became (h ++ es) r i p (over_named s (record { pattern = p; outcome = o })).outcome
+  became_over : (i : ℕ) (p : Pattern) (o : Fate) → Became h r i p o → Became (h ++ es) r i p (over_named s (record { pattern = p; fate = o })).fate
   became_over i p Waiting w = pick (names p.source s) refl
     where
-      pick : (b : Bool) → names p.source s ≡ b → Became (h ++ es) r i p (cond {A = Request} (true && b) (record { pattern = p; outcome = Failed }) (record { pattern = p; outcome = Waiting })).outcome
+      pick : (b : Bool) → names p.source s ≡ b → Became (h ++ es) r i p (cond {A = Request} (true && b) (record { pattern = p; fate = Failed }) (record { pattern = p; fate = Waiting })).fate
       pick true e = falls i p e w
       pick false e = waits_on i p (λ f. let g = e in cc) w
   became_over i p (Paired l) g = record { place = g.place; pairs = g.pairs; came = get_front h es g.place (Come l) g.came }
@@ -150,9 +150,9 @@ module _ (n s : ℕ) (log : List Entry) (h es : List Event) (r : Pairing) (law :
   became_over i p Cleared w = (w.0, first_front i (Clear p.context.number) (End i) w.1)
 
   same_over : (q : Request) → (over_named s q).pattern ≡ q.pattern
-  same_over q = pick (is_waiting q.outcome && names q.pattern.source s)
+  same_over q = pick (is_waiting q.fate && names q.pattern.source s)
     where
-      pick : (c : Bool) → (cond c (record { pattern = q.pattern; outcome = Failed }) q).pattern ≡ q.pattern
+      pick : (c : Bool) → (cond c (record { pattern = q.pattern; fate = Failed }) q).pattern ≡ q.pattern
       pick true = refl
       pick false = refl
 
@@ -165,8 +165,8 @@ module _ (n s : ℕ) (log : List Entry) (h es : List Event) (r : Pairing) (law :
         subst (λ (w : Request). IsStanding (h ++ es) r id w) o.2 (record {
           place = st.place;
           posted = subst (λ (p : Pattern). PostAt (h ++ es) st.place p) (sym (same_over o.0)) (get_front h es st.place (Post o.0.pattern) st.posted);
-          numbered = number_front h es st.place (omega arith) ∙ st.numbered;
-          outcome = subst (λ (p : Pattern). Became (h ++ es) r st.place p (over_named s o.0).outcome) (sym (same_over o.0)) (became_over st.place o.0.pattern o.0.outcome st.outcome);
+          numbered = count_front h es st.place (omega arith) ∙ st.numbered;
+          fate = subst (λ (p : Pattern). Became (h ++ es) r st.place p (over_named s o.0).fate) (sym (same_over o.0)) (became_over st.place o.0.pattern o.0.fate st.fate);
         });
     of_group = λ id q f. let o = was id q f in subst (λ (p : Pattern). IsOfGroup n log p) (sym (same_over o.0) ∙ ap (λ (w : Request). w.pattern) o.2) (t.of_group id o.0 o.1);
     unreleased = λ id q f. let o = was id q f in t.unreleased id o.0 o.1;
@@ -174,12 +174,12 @@ module _ (n s : ℕ) (log : List Entry) (h es : List Event) (r : Pairing) (law :
         elim (split h es i (Post p) posted) [
           | inl old ↦
               let l : i < length h = slice_get_within h i (Post p) old in
-              let num : number (h ++ es) i ≡ number h i = number_front h es i (omega arith) in
+              let num : count_before (h ++ es) i ≡ count_before h i = count_front h es i (omega arith) in
               let c = t.complete i p old (subst (λ (k : ℕ). is_released log k ≡ false) num free) in
-              (over_named s c.0, subst (λ (k : ℕ). find' k ≡ Some (over_named s c.0)) (sym num) (found (number h i) ∙ ap (λ (o : Option Request). option_map (over_named s) o) c.1))
+              (over_named s c.0, subst (λ (k : ℕ). find' k ≡ Some (over_named s c.0)) (sym num) (found (count_before h i) ∙ ap (λ (o : Option Request). option_map (over_named s) o) c.1))
           | inr new ↦ absurd (only_ends (Post p) (λ j e. cc) new.1)
         ];
-    released_below = λ id f. let a = t.released_below id f in let b = number_rises h es in omega (arith, a, b);
+    released_below = λ id f. let a = t.released_below id f in let b = count_rises h es in omega (arith, a, b);
   }
     where
       of_map : (o : Option Request) (q : Request) → option_map (over_named s) o ≡ Some q → (w : Request) × (o ≡ Some w) × (over_named s w ≡ q)

@@ -1,7 +1,7 @@
 -- What an entry makes of the communicators of a log.
 use Rattle.std.proofs.Common.{◌≡◌, ℕ, Bool, true, false, cond, eqb, List, [], ◌∷◌, ◌++◌, refl, ap, sym, ◌∙◌, inl, inr, ◌⊎◌, Some, None, eqb-true}
 use Rattle.std.proofs.lemmas.Option.{none-some, same_Some}
-use Rattle.ulfm_rank.proofs.Common.{Context, Decision, dup_of, shrink_of, numbers_from, Entry, Sent, Posted, Released, Acknowledged, Revoked, Duplicated, Entered, Adopted, Stopped, Took, or_else}
+use Rattle.ulfm_rank.proofs.Common.{Context, Decision, dup_of, shrink_of, numbers_from, Entry, Duplicated, Adopted, or_else}
 use Rattle.ulfm_rank.specs.Communicators.{find_group, copy_of, made_by, comms_of, group_of, members_of, or_empty}
 use Rattle.ulfm_rank.proofs.Gather.{gathered-push}
 use Rattle.ulfm_rank.proofs.Firsts.{or_else_cases, or_else_first}
@@ -63,14 +63,7 @@ made_cases before comms (Duplicated parent) c g h =
 made_cases before comms (Adopted decision) c g h =
     let found = found_one c (shrink_of decision.context.number) decision.fresh g h in
     inr (record { decision = decision; entry = refl; child = found.0; group = found.1 })
-made_cases before comms (Sent to letter) c g h = absurd (none-some g h)
-made_cases before comms (Posted pattern) c g h = absurd (none-some g h)
-made_cases before comms (Released id answer) c g h = absurd (none-some g h)
-made_cases before comms (Acknowledged context total) c g h = absurd (none-some g h)
-made_cases before comms (Revoked context) c g h = absurd (none-some g h)
-made_cases before comms (Entered context known) c g h = absurd (none-some g h)
-made_cases before comms Stopped c g h = absurd (none-some g h)
-made_cases before comms (Took source item) c g h = absurd (none-some g h)
+made_cases before comms _ c g h = absurd (none-some g h)
 
 -- the group of a context: it was there, or the last entry made it
 pub group_cases : (n : ℕ) (log : List Entry) (e : Entry) (c : ℕ) (g : List ℕ) → group_of n (log ++ e ∷ []) c ≡ Some g → (group_of n log c ≡ Some g) ⊎ (Duplicates (comms_of n log) e c g ⊎ Adopts e c g)

@@ -1,7 +1,7 @@
 -- The group of a communicator that was made stays as the log grows.
 use Rattle.std.proofs.Common.{◌≡◌, ℕ, zero, suc, arith, Bool, true, false, cond, List, [], ◌∷◌, ◌++◌, ap, refl, Some, Option, None, ◌==◌, ◌||◌, IsSome, slice_get}
 use Rattle.std.proofs.lemmas.Bool.Decides.{nat_tests}
-use Rattle.ulfm_base.specs.Group.{is_member, rank_in, later}
+use Rattle.ulfm_base.specs.Group.{is_member, rank_in, one_further}
 use Rattle.ulfm_rank.proofs.Common.{Pattern, Entry, IsOfGroup}
 use Rattle.ulfm_rank.proofs.Grouped.{group_stays}
 
@@ -13,11 +13,11 @@ pub rank_some : (group : List ℕ) (r : ℕ) → is_member group r ≡ true → 
 rank_some [] r h = cc
 rank_some (m ∷ group) r h = pick (m == r) h (rank_some group r)
   where
-    next : (o : Option ℕ) → IsSome o → IsSome (later o)
+    next : (o : Option ℕ) → IsSome o → IsSome (one_further o)
     next None s = s
     next (Some k) s = s
 
-    pick : (b : Bool) → b || is_member group r ≡ true → (is_member group r ≡ true → IsSome (rank_in group r)) → IsSome (cond b (Some 0) (later (rank_in group r)))
+    pick : (b : Bool) → b || is_member group r ≡ true → (is_member group r ≡ true → IsSome (rank_in group r)) → IsSome (cond b (Some 0) (one_further (rank_in group r)))
     pick true h rest = refl
     pick false h rest = next (rank_in group r) (rest h)
 

@@ -2,11 +2,11 @@
 use Rattle.std.proofs.Common.{◌≡◌, ℕ, zero, suc, ◌<◌, ◌≤◌, Bool, true, false, cond, eqb, List, [], ◌∷◌, ◌++◌, length, map, get_or, replicate, refl, ap, sym, ◌∙◌, arith, append-nil, length-append, Option, Some, ◌||◌}
 use Rattle.std.proofs.lemmas.Simd.{map-map}
 use Rattle.std.proofs.lemmas.List.{map-append, length-map, length-replicate, same_lists, get_or-map}
-use Rattle.ulfm_rank.proofs.Common.{Item, Context, Entry, Sent, Posted, Released, Acknowledged, Revoked, Duplicated, Entered, Adopted, Stopped, Took, is_stop, is_stopped, is_revoked}
-use Rattle.ulfm_base.specs.declared.item.Item.TheVariants.{Letter as Mail, Gone, Revoke, Enter}
+use Rattle.ulfm_rank.proofs.Common.{Item, Context, Entry, Sent, Revoked, Entered, Took, is_stop, is_stopped, is_revoked}
+use Rattle.ulfm_base.specs.declared.item.Item.TheVariants.{Letter as Mail, Revoke, Enter}
 use Rattle.ulfm_rank.specs.Owed.{is_told, passed_on, owed_by_item, owed_by, owed}
 use Rattle.ulfm_rank.specs.State.{no_mark, State, IsState}
-use Rattle.ulfm_rank.specs.Outboxes.{Box, empty_box, box_at, mark_of, left_by_item, left_by, item_at, AllGrow, HasOutboxes}
+use Rattle.ulfm_rank.specs.inside.Outboxes.{Box, empty_box, box_at, mark_of, passed_item, item_of_entry, item_at, AllGrow, HasOutboxes}
 use Rattle.ulfm_rank.proofs.Gather.{any-push}
 use Rattle.ulfm_rank.proofs.Owing.{owed-push}
 
@@ -16,7 +16,7 @@ item_at-kept [] e place item h = cc
 item_at-kept (x ∷ log) e zero item h = h
 item_at-kept (x ∷ log) e (suc place) item h = item_at-kept log e place item h
 
-pub item_at-last : (log : List Entry) (e : Entry) → item_at (log ++ e ∷ []) (length log) ≡ left_by e
+pub item_at-last : (log : List Entry) (e : Entry) → item_at (log ++ e ∷ []) (length log) ≡ item_of_entry e
 item_at-last [] e = refl
 item_at-last (x ∷ log) e = item_at-last log e
 
@@ -46,24 +46,17 @@ are_passed me before context d = pick (is_revoked before context.number)
     pick true = refl
     pick false = are_if (is_told me before d) (Revoke context)
 
-are_taken : (me : ℕ) (before : List Entry) (d : ℕ) (item : Item) → Are (owed_by_item me before d item) (left_by_item item)
-are_taken me before d (Mail letter) = refl
-are_taken me before d Gone = refl
+are_taken : (me : ℕ) (before : List Entry) (d : ℕ) (item : Item) → Are (owed_by_item me before d item) (passed_item item)
 are_taken me before d (Revoke context) = are_passed me before context d
-are_taken me before d (Enter context known) = refl
+are_taken me before d _ = refl
 
 -- an entry owes to a rank nothing, or the one item that it leaves
-are_left : (n me d : ℕ) (before : List Entry) (found : List Item) (e : Entry) → Are (owed_by n me d before found e) (left_by e)
+are_left : (n me d : ℕ) (before : List Entry) (found : List Item) (e : Entry) → Are (owed_by n me d before found e) (item_of_entry e)
 are_left n me d before found (Sent to letter) = are_if (eqb to.number d) (Mail letter)
-are_left n me d before found (Posted pattern) = refl
-are_left n me d before found (Released id answer) = refl
-are_left n me d before found (Acknowledged context total) = refl
 are_left n me d before found (Revoked context) = are_passed me before context d
-are_left n me d before found (Duplicated context) = refl
 are_left n me d before found (Entered context known) = are_if _ (Enter context known)
-are_left n me d before found (Adopted decision) = refl
-are_left n me d before found Stopped = refl
 are_left n me d before found (Took from item) = are_taken me before d item
+are_left n me d before found _ = refl
 
 -- an outbox that grew by what an entry owes holds what the longer log owes
 held : (n me : ℕ) (log : List Entry) (e : Entry) (d : ℕ) (places : List ℕ) → map (item_at log) places ≡ map Some (owed n me log d) →
@@ -93,16 +86,16 @@ outboxes-grown n me log e old new h grows =
       inside = h.inside;
       size = grows.size ∙ h.size;
       owed = λ d k. ap (map (item_at (log ++ e ∷ []))) (grows.each d k).places ∙ held n me log e d (box_at old d).places (h.owed d (old_of d k));
-      within = λ d k. omega (arith, h.within d (old_of d k), (grows.each d k).taken, ap length (grows.each d k).places, length-append (box_at old d).places (map (λ _. length log) (owed_by n me d log (owed n me log d) e)));
-      untold = λ s d k. (grows.each d k).told ∙ h.untold (stopped_stays log e s) d (old_of d k);
-      self_untold = (grows.each me (omega (arith, h.inside, h.size, grows.size))).told ∙ h.self_untold;
+      within = λ d k. omega (arith, h.within d (old_of d k), (grows.each d k).items_out, ap length (grows.each d k).places, length-append (box_at old d).places (map (λ _. length log) (owed_by n me d log (owed n me log d) e)));
+      no_notice = λ s d k. (grows.each d k).notice_out ∙ h.no_notice (stopped_stays log e s) d (old_of d k);
+      no_own_notice = (grows.each me (omega (arith, h.inside, h.size, grows.size))).notice_out ∙ h.no_own_notice;
     }
 
 -- outboxes by which no item is left are as they were
 pub none_grow : (boxes : List Box) (place : ℕ) (items : ℕ → List Item) → ((d : ℕ) → items d ≡ []) → AllGrow boxes boxes place items
 none_grow boxes place items none = record {
   size = refl;
-  each = λ d k. rw (none d) (record { places = sym (append-nil (box_at boxes d).places); taken = refl; told = refl });
+  each = λ d k. rw (none d) (record { places = sym (append-nil (box_at boxes d).places); items_out = refl; notice_out = refl });
 }
 
 -- outboxes that grew by these items grew by the same items, however these are said
@@ -122,7 +115,7 @@ marks-grown old new place items grows =
     (λ k d h.
     let i : k < length new = omega (arith, h, length-map new mark_of) in
     let j : k < length old = omega (arith, i, grows.size) in
-    let same : mark_of (box_at new k) ≡ mark_of (box_at old k) = let t = (grows.each k i).taken in let u = (grows.each k i).told in cc in
+    let same : mark_of (box_at new k) ≡ mark_of (box_at old k) = let t = (grows.each k i).items_out in let u = (grows.each k i).notice_out in cc in
     get_or-map mark_of new k empty_box d i ∙ same ∙ sym (get_or-map mark_of old k empty_box d j))
 
 starts_box : (n d : ℕ) → box_at (replicate n empty_box) d ≡ empty_box
@@ -137,8 +130,8 @@ outboxes-start n me inside = record {
   size = length-replicate n empty_box;
   owed = λ d k. rw (starts_box n d) refl;
   within = λ d k. rw (starts_box n d) (omega arith);
-  untold = λ s d k. rw (starts_box n d) refl;
-  self_untold = rw (starts_box n me) refl;
+  no_notice = λ s d k. rw (starts_box n d) refl;
+  no_own_notice = rw (starts_box n me) refl;
 }
 
 pub marks-start : (n : ℕ) → map mark_of (replicate n empty_box) ≡ replicate n no_mark
@@ -155,6 +148,6 @@ state-sound n me log boxes small h =
       me = h.inside;
       sized = length-map boxes mark_of ∙ h.size;
       within = λ d k. rw (mark d k) (omega (arith, h.within d (inside d k), length-map (box_at boxes d).places (item_at log), length-map (owed n me log d) Some, ap length (h.owed d (inside d k))));
-      untold = λ s d k. rw (mark d k) (h.untold s d (inside d k));
-      self_untold = rw (mark me h.inside) h.self_untold;
+      no_notice = λ s d k. rw (mark d k) (h.no_notice s d (inside d k));
+      no_own_notice = rw (mark me h.inside) h.no_own_notice;
     }

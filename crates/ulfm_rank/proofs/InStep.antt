@@ -2,21 +2,20 @@
 use Rattle.std.proofs.Common.{◌≡◌, ℕ, ◌+◌, ◌≤◌, Bool, true, false, cond, eqb, List, [], ◌∷◌, ◌++◌, length, refl, ap, sym, ◌∙◌, subst, Option, Some, None, arith, append-nil, slice_get, ◌||◌}
 use Rattle.std.proofs.lemmas.Bool.Decides.{nat_tests}
 use Rattle.std.proofs.Math.Bool.{or-false}
-use Rattle.ulfm_rank.proofs.Common.{Pattern, Context, Letter, Item, WorldRank, Entry, Posted, Revoked, Took, Outcome, Request, IsRequest}
-use Rattle.ulfm_base.specs.declared.item.Item.TheVariants.{Letter as Mail, Gone, Revoke, Enter}
-use Rattle.ulfm_match.specs.History.{Event, Post, Clear, weight, number}
+use Rattle.ulfm_rank.proofs.Common.{Pattern, Context, Letter, Item, WorldRank, Entry, Posted, Revoked, Took, Fate, Request, IsRequest}
+use Rattle.ulfm_match.specs.History.{Event, Post, Clear, counts_as, count_before}
 use Rattle.ulfm_match.specs.Pairing.{Pairing, IsWaiting, IsKept}
-use Rattle.ulfm_match.specs.State.{State, Lists, Tracks}
-use Rattle.ulfm_rank.specs.Facts.{is_revoked, is_released, releases}
+use Rattle.ulfm_match.specs.State.{Matching, Lists, Tracks}
+use Rattle.ulfm_rank.specs.Facts.{is_revoked, revoked_before, is_released, releases}
 use Rattle.ulfm_rank.specs.History.{history_of, events_by, item_events, names_gone, post_events}
-use Rattle.ulfm_rank.specs.Requests.{Adds, revoked_before, events_of_item, TracksAdmit, TracksRevocation, TracksItem}
-use Rattle.ulfm_rank.specs.Table.{IsOfGroup, IsTable, IsInStep}
+use Rattle.ulfm_rank.specs.inside.Requests.{Adds, TracksAdmit, TracksRevocation, TracksItem}
+use Rattle.ulfm_rank.specs.inside.Table.{IsOfGroup, IsTable, IsInStep}
 use Rattle.ulfm_rank.proofs.Gather.{history-push, any-push}
 use Rattle.ulfm_rank.proofs.Groups.{of_group_stays}
 use Rattle.ulfm_rank.proofs.Opens.{unrevoked_open, few_numbered}
 
 -- room plays no part
-pub tracks_same : (h : List Event) (r : Pairing) (s s' : State) → Tracks h r s → s'.waiting ≡ s.waiting → s'.kept ≡ s.kept → s'.count ≡ s.count → Tracks h r s'
+pub tracks_same : (h : List Event) (r : Pairing) (s s' : Matching) → Tracks h r s → s'.waiting ≡ s.waiting → s'.kept ≡ s.kept → s'.count ≡ s.count → Tracks h r s'
 tracks_same h r s s' t ew ek ec = record {
   well_formed = t.well_formed;
   lawful = t.lawful;
@@ -32,7 +31,7 @@ table_same n log h r find find' t e = record {
   standing = λ id q f. t.standing id q (sym (e id) ∙ f);
   of_group = λ id q f. t.of_group id q (sym (e id) ∙ f);
   unreleased = λ id q f. t.unreleased id q (sym (e id) ∙ f);
-  complete = λ i p posted free. let c = t.complete i p posted free in (c.0, e (number h i) ∙ c.1);
+  complete = λ i p posted free. let c = t.complete i p posted free in (c.0, e (count_before h i) ∙ c.1);
   released_below = t.released_below;
 }
 
@@ -44,12 +43,12 @@ table_logged n log x h r find none t =
       standing = t.standing;
       of_group = λ id q f. of_group_stays n log x q.pattern (t.of_group id q f);
       unreleased = λ id q f. same id ∙ t.unreleased id q f;
-      complete = λ i p posted free. t.complete i p posted (sym (same (number h i)) ∙ free);
+      complete = λ i p posted free. t.complete i p posted (sym (same (count_before h i)) ∙ free);
       released_below = λ id f. t.released_below id (sym (same id) ∙ f);
     }
 
 -- the history of one more entry
-stepped : (n : ℕ) (log : List Entry) (x : Entry) (m : State) (find : ℕ → Option Request) (xs : List Event) → events_by log (history_of log) x ≡ xs → ((k : ℕ) → releases k x ≡ false)
+stepped : (n : ℕ) (log : List Entry) (x : Entry) (m : Matching) (find : ℕ → Option Request) (xs : List Event) → events_by log (history_of log) x ≡ xs → ((k : ℕ) → releases k x ≡ false)
     → (r : Pairing) → Tracks (history_of log ++ xs) r m → IsTable n log (history_of log ++ xs) r find → IsInStep n (log ++ x ∷ []) m find
 stepped n log x m find xs e none r t table =
     let long : history_of log ++ xs ≡ history_of (log ++ x ∷ []) = ap (λ (ys : List Event). history_of log ++ ys) (sym e) ∙ sym (history-push log x) in
@@ -60,7 +59,7 @@ stepped n log x m find xs e none r t table =
     }
 
 -- the empty log
-pub in_step_start : (n : ℕ) (m : State) (find : ℕ → Option Request) → Tracks [] [] m → ((k : ℕ) → find k ≡ None) → IsInStep n [] m find
+pub in_step_start : (n : ℕ) (m : Matching) (find : ℕ → Option Request) → Tracks [] [] m → ((k : ℕ) → find k ≡ None) → IsInStep n [] m find
 in_step_start n m find t none = record {
   pairing = [];
   tracks = t;
@@ -73,12 +72,12 @@ in_step_start n m find t none = record {
   };
 }
 
-module _ (n : ℕ) (log : List Entry) (m : State) (find : ℕ → Option Request) (held : IsInStep n log m find) where
+module _ (n : ℕ) (log : List Entry) (m : Matching) (find : ℕ → Option Request) (held : IsInStep n log m find) where
   pub count_small : m.count ≤ length log
   count_small = let c = held.tracks.remains.count in let f = few_numbered log in omega (arith, c, f)
 
   -- room plays no part
-  pub in_step_same : (m' : State) (find' : ℕ → Option Request) → m'.waiting ≡ m.waiting → m'.kept ≡ m.kept → m'.count ≡ m.count → ((k : ℕ) → find' k ≡ find k) → IsInStep n log m' find'
+  pub in_step_same : (m' : Matching) (find' : ℕ → Option Request) → m'.waiting ≡ m.waiting → m'.kept ≡ m.kept → m'.count ≡ m.count → ((k : ℕ) → find' k ≡ find k) → IsInStep n log m' find'
   in_step_same m' find' ew ek ec ef = record {
     pairing = held.pairing;
     tracks = tracks_same (history_of log) held.pairing m m' held.tracks ew ek ec;
@@ -92,41 +91,35 @@ module _ (n : ℕ) (log : List Entry) (m : State) (find : ℕ → Option Request
       stepped n log x m find [] quiet none held.pairing (subst (λ (h : List Event). Tracks h held.pairing m) same held.tracks) (subst (λ (h : List Event). IsTable n log h held.pairing find) same held.table)
 
   -- a receive is posted
-  pub in_step_posted : (p : Pattern) → IsOfGroup n log p → (o : Outcome) (m' : State) (find' : ℕ → Option Request) → is_revoked log p.context.number ≡ false → TracksAdmit (names_gone log p.source) p m o m' → Adds m.count (record { pattern = p; outcome = o }) find find' → IsInStep n (log ++ Posted p ∷ []) m' find'
+  pub in_step_posted : (p : Pattern) → IsOfGroup n log p → (o : Fate) (m' : Matching) (find' : ℕ → Option Request) → is_revoked log p.context.number ≡ false → TracksAdmit (names_gone log p.source) p m o m' → Adds m.count (record { pattern = p; fate = o }) find find' → IsInStep n (log ++ Posted p ∷ []) m' find'
   in_step_posted p of o m' find' unrevoked tracks adds =
       let h = history_of log in
       let t = held.tracks in
       let a = tracks h held.pairing (unrevoked_open log p.context.number unrevoked) t in
-      stepped n log (Posted p) m' find' (post_events log h p) refl (λ k. refl) a.0 a.1 (a.2 n log find find' of held.table (subst (λ (c : ℕ). Adds c (record { pattern = p; outcome = o }) find find') t.remains.count adds))
+      stepped n log (Posted p) m' find' (post_events (names_gone log p.source) h p) refl (λ k. refl) a.0 a.1 (a.2 n log find find' of held.table (subst (λ (c : ℕ). Adds c (record { pattern = p; fate = o }) find find') t.remains.count adds))
 
   -- a context is revoked for the first time by the rank itself
-  pub in_step_revoked : (c : Context) → is_revoked log c.number ≡ false → (m' : State) (find' : ℕ → Option Request) → TracksRevocation c.number m find m' find' → IsInStep n (log ++ Revoked c ∷ []) m' find'
+  pub in_step_revoked : (c : Context) → is_revoked log c.number ≡ false → (m' : Matching) (find' : ℕ → Option Request) → TracksRevocation c.number m find m' find' → IsInStep n (log ++ Revoked c ∷ []) m' find'
   in_step_revoked c first m' find' tracks =
       let a = tracks n log (history_of log) held.pairing held.tracks held.table in
       stepped n log (Revoked c) m' find' (Clear c.number ∷ []) (ap (λ (b : Bool). cond b [] (Clear c.number ∷ [])) first) (λ k. refl) held.pairing a.0 a.1
 
   -- an item is taken
-  pub in_step_took : (s : WorldRank) (item : Item) (m' : State) (find' : ℕ → Option Request) → TracksItem (revoked_before log item) s.number item m find m' find' → IsInStep n (log ++ Took s item ∷ []) m' find'
+  pub in_step_took : (s : WorldRank) (item : Item) (m' : Matching) (find' : ℕ → Option Request) → TracksItem (revoked_before log item) s.number item m find m' find' → IsInStep n (log ++ Took s item ∷ []) m' find'
   in_step_took s item m' find' tracks =
       let h = history_of log in
       let a = tracks n log h held.pairing (λ l e f. unrevoked_open log l.envelope.context.number (sym (ap (λ (i : Item). revoked_before log i) e) ∙ f)) held.tracks held.table in
-      stepped n log (Took s item) m' find' (events_of_item (revoked_before log item) h s.number item) (sym (same_events item)) (λ k. refl) a.0 a.1 a.2
-    where
-      same_events : (i : Item) → events_of_item (revoked_before log i) (history_of log) s.number i ≡ item_events log (history_of log) s.number i
-      same_events (Mail l) = refl
-      same_events Gone = refl
-      same_events (Revoke c) = refl
-      same_events (Enter c known) = refl
+      stepped n log (Took s item) m' find' (item_events (revoked_before log item) h s.number item) refl (λ k. refl) a.0 a.1 a.2
 
 -- a receive that was posted is a request
-pub posted_request : (log : List Entry) (p : Pattern) (id : ℕ) → number (history_of log) (length (history_of log)) ≡ id → is_released (log ++ Posted p ∷ []) id ≡ false → (i : ℕ) × IsRequest (log ++ Posted p ∷ []) id i p
+pub posted_request : (log : List Entry) (p : Pattern) (id : ℕ) → count_before (history_of log) (length (history_of log)) ≡ id → is_released (log ++ Posted p ∷ []) id ≡ false → (i : ℕ) × IsRequest (log ++ Posted p ∷ []) id i p
 posted_request log p id num free =
     let h = history_of log in
-    let long : history_of (log ++ Posted p ∷ []) ≡ h ++ post_events log h p = history-push log (Posted p) in (
+    let long : history_of (log ++ Posted p ∷ []) ≡ h ++ post_events (names_gone log p.source) h p = history-push log (Posted p) in (
       length h,
       record {
         posted = ap (λ (g : List Event). slice_get g (length h)) long ∙ get_at h (Post p) _;
-        numbered = ap (λ (g : List Event). number g (length h)) long ∙ (number_at h (post_events log h p) ∙ num);
+        numbered = ap (λ (g : List Event). count_before g (length h)) long ∙ (count_at h (post_events (names_gone log p.source) h p) ∙ num);
         unreleased = free;
       },
     )
@@ -135,10 +128,10 @@ posted_request log p id num free =
     get_at [] x ys = refl
     get_at (y ∷ h) x ys = get_at h x ys
 
-    number_at : (h ys : List Event) → number (h ++ ys) (length h) ≡ number h (length h)
-    number_at [] [] = refl
-    number_at [] (y ∷ ys) = refl
-    number_at (y ∷ h) ys = ap (λ n. weight y + n) (number_at h ys)
+    count_at : (h ys : List Event) → count_before (h ++ ys) (length h) ≡ count_before h (length h)
+    count_at [] [] = refl
+    count_at [] (y ∷ ys) = refl
+    count_at (y ∷ h) ys = ap (λ n. counts_as y + n) (count_at h ys)
 
 pub adds_itself : (k : ℕ) (q : Request) (find find' : ℕ → Option Request) → Adds k q find find' → find' k ≡ Some q
 adds_itself k q find find' adds = adds k ∙ ap (λ (b : Bool). cond b (Some q) (find k)) (itself k)

@@ -9,12 +9,11 @@ use Rattle.ulfm_base.specs.declared.pattern.Source.TheVariants.{One, Any}
 use Rattle.ulfm_base.specs.Pattern.{is_any}
 use Rattle.ulfm_base.specs.declared.item.Item.TheVariants.{Letter as Mail, Gone, Revoke, Enter}
 use Rattle.ulfm_base.specs.Group.{is_member, including, intersection}
-use Rattle.ulfm_fault.specs.Facts.{Facts, acknowledged_in, is_marked, has_unacked}
-use Rattle.ulfm_rank.specs.Facts.{is_gone, tells_gone, known_of, newly_known, acknowledged_of, acknowledged_from, acknowledged_by, is_revoked, revokes}
+use Rattle.ulfm_fault.specs.Facts.{FaultState, acknowledged_in, is_revoked_in, has_unacked}
+use Rattle.ulfm_rank.specs.Facts.{is_gone, tells_gone, known_of, newly_known, acknowledged_of, acknowledged_from, acknowledged_by, is_revoked, revoked_before, revokes}
 use Rattle.ulfm_rank.specs.Answer.{pends}
-use Rattle.ulfm_rank.specs.Fields.{HasFaults, names_known, pends_by, was_marked}
+use Rattle.ulfm_rank.specs.inside.Fields.{HasFaults, names_known, pends_by, was_revoked_in}
 use Rattle.ulfm_rank.specs.History.{names_gone}
-use Rattle.ulfm_rank.specs.Requests.{revoked_before}
 use Rattle.ulfm_rank.proofs.Gather.{gathered-push, gathered_all, any-push}
 
 pub known-push : (log : List Entry) (x : Entry) → known_of (log ++ x ∷ []) ≡ known_of log ++ newly_known log (known_of log) x
@@ -27,11 +26,11 @@ acknowledged_from-push c k (y ∷ log) x = acknowledged_from-push c (acknowledge
 pub acknowledged-push : (c : ℕ) (log : List Entry) (x : Entry) → acknowledged_of (log ++ x ∷ []) c ≡ acknowledged_by c (acknowledged_of log c) x
 acknowledged-push c log x = acknowledged_from-push c 0 log x
 
-pub faults_start : (facts : Facts) → facts.known ≡ [] → ((c : ℕ) → acknowledged_in facts c ≡ 0) → ((c : ℕ) → is_marked facts c ≡ false) → HasFaults [] facts
+pub faults_start : (facts : FaultState) → facts.known ≡ [] → ((c : ℕ) → acknowledged_in facts c ≡ 0) → ((c : ℕ) → is_revoked_in facts c ≡ false) → HasFaults [] facts
 faults_start facts k a m = record { knows = k; acknowledges = a; marks = m }
 
 -- an entry that tells nothing of failures, acknowledgements and revocations
-pub faults_quiet : (log : List Entry) (facts : Facts) (x : Entry) → HasFaults log facts → ((before : List Entry) (known : List ℕ) → newly_known before known x ≡ []) → ((c k : ℕ) → acknowledged_by c k x ≡ k) → ((c : ℕ) → revokes c x ≡ false) → HasFaults (log ++ x ∷ []) facts
+pub faults_quiet : (log : List Entry) (facts : FaultState) (x : Entry) → HasFaults log facts → ((before : List Entry) (known : List ℕ) → newly_known before known x ≡ []) → ((c k : ℕ) → acknowledged_by c k x ≡ k) → ((c : ℕ) → revokes c x ≡ false) → HasFaults (log ++ x ∷ []) facts
 faults_quiet log facts x held k a m = record {
   knows = held.knows ∙ sym (known-push log x ∙ (ap (λ (ys : List ℕ). known_of log ++ ys) (k log (known_of log)) ∙ append-nil (known_of log)));
   acknowledges = λ c. held.acknowledges c ∙ sym (acknowledged-push c log x ∙ a c (acknowledged_of log c));
@@ -39,7 +38,7 @@ faults_quiet log facts x held k a m = record {
 }
 
 -- the notice of a failure
-pub faults_learned : (log : List Entry) (old new : Facts) (s : WorldRank) → HasFaults log old → new.known ≡ including old.known s.number → new.acknowledged ≡ old.acknowledged → new.revoked ≡ old.revoked → HasFaults (log ++ Took s Gone ∷ []) new
+pub faults_learned : (log : List Entry) (old new : FaultState) (s : WorldRank) → HasFaults log old → new.known ≡ including old.known s.number → new.acknowledged ≡ old.acknowledged → new.revoked ≡ old.revoked → HasFaults (log ++ Took s Gone ∷ []) new
 faults_learned log old new s held k a m = record {
   knows = k ∙ (ap (λ (known : List ℕ). including known s.number) held.knows ∙ sym (known-push log (Took s Gone)));
   acknowledges = λ c. ap (λ (xs : List ℕ). slice_index_or xs c 0) a ∙ (held.acknowledges c ∙ sym (acknowledged-push c log (Took s Gone)));
@@ -47,12 +46,12 @@ faults_learned log old new s held k a m = record {
 }
 
 -- a revocation, by an entry that gives nothing else
-pub faults_revoked : (log : List Entry) (old new : Facts) (x : Entry) (d : ℕ) → HasFaults log old → ((before : List Entry) (known : List ℕ) → newly_known before known x ≡ []) → ((c k : ℕ) → acknowledged_by c k x ≡ k) → ((c : ℕ) → revokes c x ≡ (d == c))
-    → ((c : ℕ) → is_marked new c ≡ cond (d == c) true (is_marked old c)) → new.known ≡ old.known → new.acknowledged ≡ old.acknowledged → HasFaults (log ++ x ∷ []) new
+pub faults_revoked : (log : List Entry) (old new : FaultState) (x : Entry) (d : ℕ) → HasFaults log old → ((before : List Entry) (known : List ℕ) → newly_known before known x ≡ []) → ((c k : ℕ) → acknowledged_by c k x ≡ k) → ((c : ℕ) → revokes c x ≡ (d == c))
+    → ((c : ℕ) → is_revoked_in new c ≡ cond (d == c) true (is_revoked_in old c)) → new.known ≡ old.known → new.acknowledged ≡ old.acknowledged → HasFaults (log ++ x ∷ []) new
 faults_revoked log old new x d held none same is m k a = record {
   knows = k ∙ (held.knows ∙ sym (known-push log x ∙ (ap (λ (ys : List ℕ). known_of log ++ ys) (none log (known_of log)) ∙ append-nil (known_of log))));
   acknowledges = λ c. ap (λ (xs : List ℕ). slice_index_or xs c 0) a ∙ (held.acknowledges c ∙ sym (acknowledged-push c log x ∙ same c (acknowledged_of log c)));
-  marks = λ c. m c ∙ (pick (d == c) (is_marked old c) ∙ (ap (λ b. b || (d == c)) (held.marks c) ∙ sym (any-push (revokes c) log x ∙ ap (λ b. is_revoked log c || b) (is c))));
+  marks = λ c. m c ∙ (pick (d == c) (is_revoked_in old c) ∙ (ap (λ b. b || (d == c)) (held.marks c) ∙ sym (any-push (revokes c) log x ∙ ap (λ b. is_revoked log c || b) (is c))));
 }
   where
     pick : (b e : Bool) → cond b true e ≡ e || b
@@ -87,12 +86,12 @@ known_gone log s =
     step l known (Took f item) p = unnoticed (is_member known s) (is_gone l s) f.number p (f.number == s)
     step l known x p = ap (λ (b : Bool). b || false) p
 
-pub known_named : (log : List Entry) (facts : Facts) → HasFaults log facts → (source : Source) → names_known facts source ≡ names_gone log source
+pub known_named : (log : List Entry) (facts : FaultState) → HasFaults log facts → (source : Source) → names_known facts source ≡ names_gone log source
 known_named log facts held (One rank) = ap (λ (known : List ℕ). is_member known rank.number) held.knows ∙ known_gone log rank.number
 known_named log facts held (Any members) = refl
 
 -- what pends by the facts pends by the log
-pub pends_known : (n : ℕ) (log : List Entry) (facts : Facts) (p : Pattern) (group : List ℕ) → HasFaults log facts → members_of n log p.context.number ≡ group
+pub pends_known : (n : ℕ) (log : List Entry) (facts : FaultState) (p : Pattern) (group : List ℕ) → HasFaults log facts → members_of n log p.context.number ≡ group
     → pends_by facts group p ≡ pends n log p
 pends_known n log facts p group held members =
     let c = p.context.number in
@@ -101,17 +100,17 @@ pends_known n log facts p group held members =
     ∙ (ap (λ (known : List ℕ). is_any p.source && (not (is_revoked log c) && nat_lt (acknowledged_of log c) (length (intersection known group)))) held.knows
     ∙ ap (λ (g : List ℕ). is_any p.source && (not (is_revoked log c) && nat_lt (acknowledged_of log c) (length (intersection (known_of log) g)))) (sym members)))
 
-pub marked_before : (log : List Entry) (facts : Facts) → HasFaults log facts → (item : Item) → was_marked facts item ≡ revoked_before log item
+pub marked_before : (log : List Entry) (facts : FaultState) → HasFaults log facts → (item : Item) → was_revoked_in facts item ≡ revoked_before log item
 marked_before log facts held (Mail letter) = held.marks letter.envelope.context.number
 marked_before log facts held (Revoke context) = held.marks context.number
 marked_before log facts held item = refl
 
 -- letters and entries into a shrink
-pub faults_taken : (log : List Entry) (facts : Facts) (s : WorldRank) (item : Item) → (item ≡ Gone → ⊥) → ((c : Context) → item ≡ Revoke c → ⊥) → HasFaults log facts → HasFaults (log ++ Took s item ∷ []) facts
+pub faults_taken : (log : List Entry) (facts : FaultState) (s : WorldRank) (item : Item) → (item ≡ Gone → ⊥) → ((c : Context) → item ≡ Revoke c → ⊥) → HasFaults log facts → HasFaults (log ++ Took s item ∷ []) facts
 faults_taken log facts s (Mail letter) gone revoke held = faults_quiet log facts (Took s (Mail letter)) held (λ b k. refl) (λ c k. refl) (λ c. refl)
 faults_taken log facts s Gone gone revoke held = absurd (gone refl)
 faults_taken log facts s (Revoke context) gone revoke held = absurd (revoke context refl)
 faults_taken log facts s (Enter context known) gone revoke held = faults_quiet log facts (Took s (Enter context known)) held (λ b k. refl) (λ c k. refl) (λ c. refl)
 
-pub knows_gone : (log : List Entry) (facts : Facts) → HasFaults log facts → (r : ℕ) → is_member facts.known r ≡ is_gone log r
+pub knows_gone : (log : List Entry) (facts : FaultState) → HasFaults log facts → (r : ℕ) → is_member facts.known r ≡ is_gone log r
 knows_gone log facts held r = ap (λ (known : List ℕ). is_member known r) held.knows ∙ known_gone log r

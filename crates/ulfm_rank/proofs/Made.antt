@@ -1,9 +1,10 @@
 -- The communicators that a longer log made.
-use Rattle.std.proofs.Common.{◌≡◌, ℕ, zero, suc, ◌+◌, ◌<◌, ◌≤◌, Bool, true, false, cond, eqb, List, [], ◌∷◌, ◌++◌, refl, ap, sym, subst, ◌∙◌, arith, append-nil, Some, All, slice_get}
+use Rattle.std.proofs.Common.{◌≡◌, ℕ, zero, suc, ◌+◌, ◌<◌, ◌≤◌, Bool, true, false, cond, eqb, List, [], ◌∷◌, ◌++◌, refl, ap, sym, ◌∙◌, arith, append-nil, Some, All, slice_get}
 use Rattle.std.proofs.lemmas.List.Elements.{All-append}
 use Rattle.std.proofs.lemmas.Option.{slice_get_within, get_or_from_slice_get}
 use Rattle.ulfm_rank.proofs.Common.{Context, dup_of, numbers_from, Entry, Duplicated}
-use Rattle.ulfm_rank.specs.Communicators.{find_group, copy_of, made_by, comms_of, group_of, AreOfWorld, HasCommunicators}
+use Rattle.ulfm_rank.specs.Communicators.{find_group, copy_of, made_by, comms_of, group_of}
+use Rattle.ulfm_rank.specs.inside.Fields.{AreOfWorld, HasCommunicators}
 use Rattle.ulfm_rank.proofs.Gather.{gathered-push}
 
 pub comms-push : (n : ℕ) (log : List Entry) (e : Entry) → comms_of n (log ++ e ∷ []) ≡ comms_of n log ++ made_by log (comms_of n log) e
@@ -36,15 +37,12 @@ found_of_world n c (comm ∷ comms) group all h = pick (eqb comm.0 c) h (found_o
     pick : (b : Bool) → cond b (Some comm.1) (find_group c comms) ≡ Some group → (find_group c comms ≡ Some group → All (λ r. r < n) group) → All (λ r. r < n) group
     pick true e next =
         let same : comm.1 ≡ group = cc in
-        let P : List ℕ → Type 0 = λ (g : List ℕ). All (λ r. r < n) g in
-        subst P same (all 0 comm (omega arith))
+        rw same at (all 0 comm (omega arith))
     pick false e next = next e
 
 -- the member at a position is a rank of the world
 pub member_of_world : (n c : ℕ) (comms : List (ℕ × List ℕ)) (group : List ℕ) (position r : ℕ) → AreOfWorld n comms → find_group c comms ≡ Some group → slice_get group position ≡ Some r → r < n
-member_of_world n c comms group position r all h at =
-    let P : ℕ → Type 0 = λ m. m < n in
-    subst P (get_or_from_slice_get group position r r at) (found_of_world n c comms group all h position r (slice_get_within group position r at))
+member_of_world n c comms group position r all h at = rw (get_or_from_slice_get group position r r at) at (found_of_world n c comms group all h position r (slice_get_within group position r at))
 
 -- a duplicate has its parent's group
 pub communicators-duplicated : (n : ℕ) (log : List Entry) (context : Context) (comms : List (ℕ × List ℕ)) (group : List ℕ) → HasCommunicators n log comms → find_group context.number comms ≡ Some group → HasCommunicators n (log ++ Duplicated context ∷ []) (comms ++ (dup_of context.number, group) ∷ [])

@@ -2,92 +2,86 @@
 use Rattle.std.proofs.Common.{◌≡◌, ◌≢◌, ℕ, zero, suc, ◌+◌, ◌≤◌, Bool, true, false, cond, List, [], ◌∷◌, ◌++◌, length, refl, ap, sym, ◌∙◌, arith, length-append, ◌==◌}
 use Rattle.std.proofs.lemmas.Bool.Decides.{nat_tests}
 use Rattle.std.proofs.lemmas.Bool.{or_parts}
-use Rattle.ulfm_rank.proofs.Common.{Item, Entry, Sent, Posted, Released, Acknowledged, Revoked, Duplicated, Entered, Adopted, Stopped, Took}
+use Rattle.ulfm_rank.proofs.Common.{Item, Entry, Posted, Revoked, Took}
 use Rattle.ulfm_base.specs.declared.item.Item.TheVariants.{Letter as Mail, Gone, Revoke, Enter}
-use Rattle.ulfm_match.specs.History.{Event, Post, Come, End, Clear, weight, number}
-use Rattle.ulfm_match.specs.State.{IsOpen}
-use Rattle.ulfm_rank.specs.Facts.{is_revoked, revokes, item_revokes}
+use Rattle.ulfm_match.specs.History.{Event, Post, Come, End, Clear, counts_as, count_before}
+use Rattle.ulfm_match.specs.State.{IsUncleared}
+use Rattle.ulfm_rank.specs.Facts.{is_revoked, revoked_before, revokes, item_revokes}
 use Rattle.ulfm_rank.specs.History.{names_gone, end_at, ends_from, cleared, item_events, events_by, history_of}
 use Rattle.ulfm_base.specs.Pattern.{names}
 use Rattle.ulfm_rank.proofs.Gather.{gathered_all, any-push}
 
-open_nil : (c : ℕ) → IsOpen [] c
+open_nil : (c : ℕ) → IsUncleared [] c
 open_nil c k h = cc
 
-open_cons : (x : Event) (xs : List Event) (c : ℕ) → x ≢ Clear c → IsOpen xs c → IsOpen (x ∷ xs) c
+open_cons : (x : Event) (xs : List Event) (c : ℕ) → x ≢ Clear c → IsUncleared xs c → IsUncleared (x ∷ xs) c
 open_cons x xs c n o zero h = n (let e : x ≡ Clear c = cc in e)
 open_cons x xs c n o (suc k) h = o k h
 
-pub open_append : (xs ys : List Event) (c : ℕ) → IsOpen xs c → IsOpen ys c → IsOpen (xs ++ ys) c
+pub open_append : (xs ys : List Event) (c : ℕ) → IsUncleared xs c → IsUncleared ys c → IsUncleared (xs ++ ys) c
 open_append [] ys c a b k h = b k h
 open_append (x ∷ xs) ys c a b zero h = a zero h
 open_append (x ∷ xs) ys c a b (suc k) h = open_append xs ys c (λ j g. a (suc j) g) b k h
 
-open_end : (s k c : ℕ) (e : Event) (rest : List Event) → IsOpen rest c → IsOpen (end_at s k e ++ rest) c
+open_end : (s k c : ℕ) (e : Event) (rest : List Event) → IsUncleared rest c → IsUncleared (end_at s k e ++ rest) c
 open_end s k c (Post p) rest o = pick (names p.source s)
   where
-    pick : (b : Bool) → IsOpen ((cond b (End k ∷ []) []) ++ rest) c
+    pick : (b : Bool) → IsUncleared ((cond b (End k ∷ []) []) ++ rest) c
     pick true = open_cons (End k) rest c (λ e. cc) o
     pick false = o
 open_end s k c (Come l) rest o = o
 open_end s k c (End i) rest o = o
 open_end s k c (Clear d) rest o = o
 
-open_ends : (s k c : ℕ) (h : List Event) → IsOpen (ends_from s k h) c
+open_ends : (s k c : ℕ) (h : List Event) → IsUncleared (ends_from s k h) c
 open_ends s k c [] = open_nil c
 open_ends s k c (e ∷ h) = open_end s k c e (ends_from s (suc k) h) (open_ends s (suc k) c h)
 
-open_cleared : (log : List Entry) (d c : ℕ) → (d == c) ≡ false → IsOpen (cleared log d) c
+open_cleared : (log : List Entry) (d c : ℕ) → (d == c) ≡ false → IsUncleared (cleared log d) c
 open_cleared log d c n = pick (is_revoked log d)
   where
     apart : (d c : ℕ) → (d == c) ≡ false → Clear d ≢ Clear c
     apart d c n e = let f : d ≡ c = cc in grind (arith, nat_tests)
 
-    pick : (b : Bool) → IsOpen (cond b [] (Clear d ∷ [])) c
+    pick : (b : Bool) → IsUncleared (cond b [] (Clear d ∷ [])) c
     pick true = open_nil c
     pick false = open_cons (Clear d) [] c (apart d c n) (open_nil c)
 
-open_item : (log : List Entry) (h : List Event) (s : ℕ) (item : Item) (c : ℕ) → item_revokes c item ≡ false → IsOpen (item_events log h s item) c
+open_item : (log : List Entry) (h : List Event) (s : ℕ) (item : Item) (c : ℕ) → item_revokes c item ≡ false → IsUncleared (item_events (revoked_before log item) h s item) c
 open_item log h s (Mail l) c n = pick (is_revoked log l.envelope.context.number)
   where
-    pick : (b : Bool) → IsOpen (cond b [] (Come l ∷ [])) c
+    pick : (b : Bool) → IsUncleared (cond b [] (Come l ∷ [])) c
     pick true = open_nil c
     pick false = open_cons (Come l) [] c (λ e. cc) (open_nil c)
 open_item log h s Gone c n = open_ends s 0 c h
 open_item log h s (Revoke d) c n = open_cleared log d.number c n
 open_item log h s (Enter d known) c n = open_nil c
 
-open_events : (log : List Entry) (h : List Event) (e : Entry) (c : ℕ) → revokes c e ≡ false → IsOpen (events_by log h e) c
-open_events log h (Sent to l) c n = open_nil c
+open_events : (log : List Entry) (h : List Event) (e : Entry) (c : ℕ) → revokes c e ≡ false → IsUncleared (events_by log h e) c
 open_events log h (Posted p) c n = open_cons (Post p) _ c (λ e. cc) (pick (names_gone log p.source))
   where
-    pick : (b : Bool) → IsOpen (cond b (End (length h) ∷ []) []) c
+    pick : (b : Bool) → IsUncleared (cond b (End (length h) ∷ []) []) c
     pick true = open_cons (End (length h)) [] c (λ e. cc) (open_nil c)
     pick false = open_nil c
-open_events log h (Released id a) c n = open_nil c
-open_events log h (Acknowledged d t) c n = open_nil c
 open_events log h (Revoked d) c n = open_cleared log d.number c n
-open_events log h (Duplicated d) c n = open_nil c
-open_events log h (Entered d k) c n = open_nil c
-open_events log h (Adopted d) c n = open_nil c
-open_events log h Stopped c n = open_nil c
 open_events log h (Took s item) c n = open_item log h s.number item c n
+open_events log h _ c n = open_nil c
 
 -- nothing of a context that isn't revoked was cleared
-pub unrevoked_open : (log : List Entry) (c : ℕ) → is_revoked log c ≡ false → IsOpen (history_of log) c
+pub unrevoked_open : (log : List Entry) (c : ℕ) → is_revoked log c ≡ false → IsUncleared (history_of log) c
 unrevoked_open log c h =
-    gathered_all events_by (λ l found. is_revoked l c ≡ false → IsOpen found c)
+    gathered_all events_by (λ l found. is_revoked l c ≡ false → IsUncleared found c)
     (λ l found e p n. let f = or_parts (is_revoked l c) (revokes c e) (sym (any-push (revokes c) l e) ∙ n) in open_append found (events_by l found e) c (p f.0) (open_events l found e c f.1))
     [] (λ n. open_nil c) log h
 
 -- how many numbered events
 abbrev total : List Event → ℕ
 total [] = 0
-total (e ∷ h) = weight e + total h
+total (e ∷ h) = counts_as e + total h
 
-number_total : (h : List Event) → number h (length h) ≡ total h
-number_total [] = refl
-number_total (e ∷ h) = ap (λ n. weight e + n) (number_total h)
+count_total : (h : List Event) → count_before h (length h) ≡ total h
+count_total [] = refl
+count_total (e ∷ h) = ap (λ n. counts_as e + n) (count_total h)
 
 total-append : (xs ys : List Event) → total (xs ++ ys) ≡ total xs + total ys
 total-append [] ys = omega arith
@@ -111,7 +105,7 @@ cleared_light : (b : Bool) (c : ℕ) → total (cond b [] (Clear c ∷ [])) ≤ 
 cleared_light true c = omega arith
 cleared_light false c = omega arith
 
-item_light : (log : List Entry) (h : List Event) (s : ℕ) (item : Item) → total (item_events log h s item) ≤ 1
+item_light : (log : List Entry) (h : List Event) (s : ℕ) (item : Item) → total (item_events (revoked_before log item) h s item) ≤ 1
 item_light log h s (Mail l) = pick (is_revoked log l.envelope.context.number)
   where
     pick : (b : Bool) → total (cond b [] (Come l ∷ [])) ≤ 1
@@ -122,29 +116,23 @@ item_light log h s (Revoke d) = cleared_light (is_revoked log d.number) d.number
 item_light log h s (Enter d known) = omega arith
 
 light : (log : List Entry) (h : List Event) (e : Entry) → total (events_by log h e) ≤ 1
-light log h (Sent to l) = omega arith
 light log h (Posted p) = pick (names_gone log p.source)
   where
     pick : (b : Bool) → 1 + total (cond b (End (length h) ∷ []) []) ≤ 1
     pick true = omega arith
     pick false = omega arith
-light log h (Released id a) = omega arith
-light log h (Acknowledged d t) = omega arith
 light log h (Revoked d) = cleared_light (is_revoked log d.number) d.number
-light log h (Duplicated d) = omega arith
-light log h (Entered d k) = omega arith
-light log h (Adopted d) = omega arith
-light log h Stopped = omega arith
 light log h (Took s item) = item_light log h s.number item
+light log h _ = omega arith
 
 -- no more posts and arrivals than entries
-pub few_numbered : (log : List Entry) → number (history_of log) (length (history_of log)) ≤ length log
+pub few_numbered : (log : List Entry) → count_before (history_of log) (length (history_of log)) ≤ length log
 few_numbered log =
-    gathered_all events_by (λ l found. number found (length found) ≤ length l)
+    gathered_all events_by (λ l found. count_before found (length found) ≤ length l)
     (λ l found e p.
-    let a = number_total (found ++ events_by l found e) in
+    let a = count_total (found ++ events_by l found e) in
     let b = total-append found (events_by l found e) in
-    let c = number_total found in
+    let c = count_total found in
     let d = light l found e in
     let n : length (l ++ e ∷ []) ≡ length l + 1 = length-append l (e ∷ []) in
     omega (arith, a, b, c, d, n, p))

@@ -1,8 +1,8 @@
 -- What a log owes of its entries into shrinks.
-use Rattle.std.proofs.Common.{◌≡◌, ◌≢◌, ℕ, Bool, true, false, cond, eqb, List, [], ◌∷◌, ◌++◌, refl, ap, sym, subst, ◌∙◌, inl, inr, Option, Some, None, is_some, ◌&&◌, ne_eqb}
+use Rattle.std.proofs.Common.{◌≡◌, ◌≢◌, ℕ, Bool, true, false, cond, eqb, List, [], ◌∷◌, ◌++◌, refl, ap, sym, ◌∙◌, inl, inr, Option, Some, None, is_some, ◌&&◌, ne_eqb}
 use Rattle.std.proofs.lemmas.Option.{none-some}
 use Rattle.ulfm_rank.proofs.Common.{Context, Item, RankSet, is_member, Entry, Sent, Revoked, Entered, Took, is_gone, is_revoked, or_else}
-use Rattle.ulfm_base.specs.declared.item.Item.TheVariants.{Letter as Mail, Gone, Revoke, Enter}
+use Rattle.ulfm_base.specs.declared.item.Item.TheVariants.{Letter as Mail, Revoke, Enter}
 use Rattle.ulfm_rank.specs.Communicators.{is_made, members_of}
 use Rattle.ulfm_rank.specs.Owed.{owed, owed_by, is_told}
 use Rattle.ulfm_rank.specs.Shrink.{entry_of, has_entered}
@@ -18,10 +18,10 @@ kept : (c : ℕ) (b : Bool) (item : Item) (set : RankSet) → first_set c (cond 
 kept c true item set h = h
 kept c false item set h = absurd (none-some set h)
 
-untold : (c : ℕ) (a b : Bool) (context : Context) → first_set c (cond a [] (cond b (Revoke context ∷ []) [])) ≡ None
-untold c true b context = refl
-untold c false true context = refl
-untold c false false context = refl
+no_notice : (c : ℕ) (a b : Bool) (context : Context) → first_set c (cond a [] (cond b (Revoke context ∷ []) [])) ≡ None
+no_notice c true b context = refl
+no_notice c false true context = refl
+no_notice c false false context = refl
 
 no_letter : (c : ℕ) (b : Bool) (item : Item) → first_set c (item ∷ []) ≡ None → first_set c (cond b (item ∷ []) []) ≡ None
 no_letter c true item h = h
@@ -35,11 +35,8 @@ pub owed_entry : (n me d c : ℕ) (before : List Entry) (found : List Item) (e :
 owed_entry n me d c before found (Entered context known) set h =
     sym (or_none (entry_of c (Entered context known))) ∙ kept c (is_member (members_of n before context.number) d && is_told me before d) (Enter context known) set h
 owed_entry n me d c before found (Sent to letter) set h = absurd (bad _ set (no_letter c (eqb to.number d) (Mail letter) refl) h)
-owed_entry n me d c before found (Revoked context) set h = absurd (bad _ set (untold c (is_revoked before context.number) (is_told me before d) context) h)
-owed_entry n me d c before found (Took source (Revoke context)) set h = absurd (bad _ set (untold c (is_revoked before context.number) (is_told me before d) context) h)
-owed_entry n me d c before found (Took source (Mail letter)) set h = absurd (none-some set h)
-owed_entry n me d c before found (Took source Gone) set h = absurd (none-some set h)
-owed_entry n me d c before found (Took source (Enter context known)) set h = absurd (none-some set h)
+owed_entry n me d c before found (Revoked context) set h = absurd (bad _ set (no_notice c (is_revoked before context.number) (is_told me before d) context) h)
+owed_entry n me d c before found (Took source (Revoke context)) set h = absurd (bad _ set (no_notice c (is_revoked before context.number) (is_told me before d) context) h)
 owed_entry n me d c before found _ set h = absurd (none-some set h)
 
 -- what is owed of an entry is the set of the rank's own
@@ -55,8 +52,7 @@ owes_own n me log e h fits d c set told = elim (or_else_cases _ (first_set c (ow
   | inr now ↦
       let here = owed_entry n me d c log (owed n me log d) e set now.1 in
       let is = entry_parts c e set here in
-      let F : Entry → Type 0 = λ (x : Entry). Fits n me log x in
-      own_first log e c set (ap (has_entered log) (sym is.2) ∙ (subst F is.1 fits).1) here
+      own_first log e c set (ap (has_entered log) (sym is.2) ∙ (rw is.1 at fits).1) here
 ]
 
 -- each other member that isn't known as gone is told of an entry
@@ -87,8 +83,7 @@ owes_each n me log e made h fits d c entered member other stays =
           some_either (first_set c (owed n me log d)) (first_set c (owed_by n me d log (owed n me log d) e)) (h d c (ap is_some was) (ap (λ (g : List ℕ). is_member g d) (sym same) ∙ member) other (gone_before log e d stays))
       | inr now ↦
           let is = entry_parts c e set.0 now.1 in
-          let F : Entry → Type 0 = λ (x : Entry). Fits n me log x in
-          let ok = subst F is.1 fits in
+          let ok = rw is.1 at fits in
           let same = members_stay n log e c (ap (is_made n log) (sym is.2) ∙ ok.0) in
           let inside : is_member (members_of n log is.0.number) d ≡ true = ap (λ i. is_member (members_of n log i) d) is.2 ∙ ap (λ (g : List ℕ). is_member g d) (sym same) ∙ member in
           some_second (first_set c (owed n me log d)) (first_set c (owed_by n me d log (owed n me log d) e)) set.0

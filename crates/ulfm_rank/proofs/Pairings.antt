@@ -1,5 +1,5 @@
 -- A log's history has one lawful pairing, which holds in its beginnings too.
-use Rattle.std.proofs.Common.{◌≡◌, List, [], ◌∷◌, ◌++◌, ap, sym, subst, ◌∙◌, append-nil, append_assoc}
+use Rattle.std.proofs.Common.{◌≡◌, List, [], ◌∷◌, ◌++◌, ap, sym, ◌∙◌, append-nil, append_assoc}
 use Rattle.ulfm_rank.proofs.Common.{Event, Pairing, LawfulPairing, Entry, events_by, history_of}
 use Rattle.ulfm_match.proofs.Cut.{cut}
 use Rattle.ulfm_match.proofs.Unique.{one_pairing}
@@ -25,6 +25,5 @@ paired log r law = record {
   only = λ s other i b. (λ p. one_pairing (history_of log) r s law other i b p, λ p. one_pairing (history_of log) s r other law i b p);
   cut = λ front rest e.
       let h = history-more front rest in
-      let L : List Event → Type 0 = λ (es : List Event). LawfulPairing es r in
-      cut (history_of front) h.0 r (subst L (ap history_of (sym e) ∙ h.1) law);
+      cut (history_of front) h.0 r (rw (ap history_of (sym e) ∙ h.1) at law);
 }

@@ -9,7 +9,7 @@ use Rattle.ulfm_rank.proofs.Common.{Decision, RankSet, Entry, members_of, is_gon
 use Rattle.ulfm_base.specs.Decision.{entry_at, is_listed, in_entry}
 use Rattle.ulfm_base.specs.Group.{is_member, excluding}
 use Rattle.ulfm_base.specs.RankSet.{has, IsSubset}
-use Rattle.ulfm_rank.specs.Fields.{HasEntries}
+use Rattle.ulfm_rank.specs.inside.Fields.{HasEntries}
 use Rattle.ulfm_rank.specs.Shrink.{has_entered, listed_of, is_out, has_proposal, IsProposal}
 use Rattle.ulfm_base.proofs.Among.{all_members, at_member, member_test, any_member, place_test, excluding_alike}
 

@@ -1,13 +1,13 @@
 -- What one more entry leaves of a rank.
-use Rattle.std.proofs.Common.{◌≢◌, subst, get_or-set_other, ◌≡◌, ℕ, ◌≤◌, List, [], ◌++◌, length, take, refl, ap, sym, ◌∙◌, arith, append-nil, length-append}
+use Rattle.std.proofs.Common.{◌≢◌, get_or-set_other, ◌≡◌, ℕ, ◌≤◌, List, [], ◌++◌, length, take, refl, ap, sym, ◌∙◌, arith, append-nil, length-append}
 use Rattle.std.proofs.lemmas.Bool.{or_parts}
 use Rattle.std.proofs.lemmas.List.{take-append-le}
 use Rattle.std.proofs.lemmas.List.Elements.{All-push}
 use Rattle.ulfm_rank.proofs.Common.{WorldRank, Item, Entry, Took, owed_by}
 use Rattle.ulfm_rank.specs.Facts.{took, took_by, is_stop, is_stopped, IsSigned}
-use Rattle.ulfm_rank.specs.State.{State, IsState, logged, owes, gone_out, mark_at, notice, Leaves, marked, no_mark}
+use Rattle.ulfm_rank.specs.State.{State, IsState, logged, owes, went_out, mark_at, notice, GoesOut, marked, no_mark}
 use Rattle.ulfm_rank.proofs.Logs.{owes-logged, took-push, stopped-push}
-use Rattle.ulfm_rank.specs.Quiet.{Calm, Quiet}
+use Rattle.ulfm_rank.specs.inside.Quiet.{Calm, Quiet}
 
 pub calm-same : (r : State) → IsState r → Calm r r
 calm-same r h = record { me = refl; ranks = refl; sound = h; out = λ d k. refl; signed = λ s. s }
@@ -21,15 +21,15 @@ sound-logged r e h = record {
   me = h.me;
   sized = h.sized;
   within = λ d k. omega (arith, h.within d k, ap length (owes-logged r e d), length-append (owes r d) (owed_by r.ranks r.me d r.log (owes r d) e));
-  untold = λ s d k. h.untold (or_parts (is_stopped r.log) (is_stop e) (sym (stopped-push r.log e) ∙ s)).0 d k;
-  self_untold = h.self_untold;
+  no_notice = λ s d k. h.no_notice (or_parts (is_stopped r.log) (is_stop e) (sym (stopped-push r.log e) ∙ s)).0 d k;
+  no_own_notice = h.no_own_notice;
 }
 
-out-logged : (r : State) (e : Entry) (d : ℕ) → (mark_at r d).taken ≤ length (owes r d) → gone_out (logged r e) d ≡ gone_out r d
+out-logged : (r : State) (e : Entry) (d : ℕ) → (mark_at r d).items_out ≤ length (owes r d) → went_out (logged r e) d ≡ went_out r d
 out-logged r e d within =
-    ap (λ (xs : List Item). take (mark_at r d).taken xs ++ notice (mark_at r d).told)
+    ap (λ (xs : List Item). take (mark_at r d).items_out xs ++ notice (mark_at r d).notice_out)
     (owes-logged r e d)
-    ∙ ap (λ (xs : List Item). xs ++ notice (mark_at r d).told) (take-append-le (mark_at r d).taken (owes r d) (owed_by r.ranks r.me d r.log (owes r d) e) within)
+    ∙ ap (λ (xs : List Item). xs ++ notice (mark_at r d).notice_out) (take-append-le (mark_at r d).items_out (owes r d) (owed_by r.ranks r.me d r.log (owes r d) e) within)
 
 pub calm-logged : (r : State) (e : Entry) → IsState r → IsSigned r.me e → Calm r (logged r e)
 calm-logged r e h signed = record {
@@ -55,7 +55,5 @@ pub calm-took : (r : State) (source : WorldRank) (item : Item) → IsState r →
 calm-took r source item h = calm-logged r (Took source item) h tt
 
 -- what went out to another rank
-pub out_other : (old new : State) (d x : ℕ) (item : Item) → Leaves old new d item → x ≢ d → gone_out new x ≡ gone_out old x
-out_other old new d x item k other =
-    let G : State → Type 0 = λ (s : State). gone_out s x ≡ gone_out old x in
-    subst G (sym k.marked) (rw (get_or-set_other old.marks d x (marked old (mark_at old d)) no_mark other) refl)
+pub out_other : (old new : State) (d x : ℕ) (item : Item) → GoesOut old new d item → x ≢ d → went_out new x ≡ went_out old x
+out_other old new d x item k other = rw k.marked (rw (get_or-set_other old.marks d x (marked old (mark_at old d)) no_mark other) refl)

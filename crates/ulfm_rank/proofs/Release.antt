@@ -4,17 +4,17 @@ use Rattle.std.proofs.lemmas.Option.{slice_get_within}
 use Rattle.std.proofs.Math.Bool.{or-false}
 use Rattle.std.proofs.lemmas.Bool.{eqb-true, or_parts}
 use Rattle.ulfm_match.specs.declared.request.RequestId.{RequestId}
-use Rattle.ulfm_rank.proofs.Common.{Event, Post, number, Entry, Released, TestAnswer, Request, history_of}
-use Rattle.ulfm_match.specs.State.{State, Tracks}
-use Rattle.ulfm_match.proofs.Histories.{number_below}
+use Rattle.ulfm_rank.proofs.Common.{Event, Post, count_before, Entry, Released, TestAnswer, Request, history_of}
+use Rattle.ulfm_match.specs.State.{Matching, Tracks}
+use Rattle.ulfm_match.proofs.Histories.{count_below}
 use Rattle.ulfm_rank.specs.Facts.{is_released, releases}
-use Rattle.ulfm_rank.specs.Requests.{Removes}
-use Rattle.ulfm_rank.specs.Table.{IsTable, IsInStep}
+use Rattle.ulfm_rank.specs.inside.Requests.{Removes}
+use Rattle.ulfm_rank.specs.inside.Table.{IsTable, IsInStep}
 use Rattle.ulfm_rank.proofs.Gather.{history-push, any-push}
 use Rattle.ulfm_rank.proofs.Groups.{of_group_stays}
 
 -- a request is released
-pub in_step_released : (n : ℕ) (log : List Entry) (m : State) (find : ℕ → Option Request) → IsInStep n log m find → (id : RequestId) (a : TestAnswer) (q : Request) → find id.number ≡ Some q → (find' : ℕ → Option Request) → Removes id.number find find' → IsInStep n (log ++ Released id a ∷ []) m find'
+pub in_step_released : (n : ℕ) (log : List Entry) (m : Matching) (find : ℕ → Option Request) → IsInStep n log m find → (id : RequestId) (a : TestAnswer) (q : Request) → find id.number ≡ Some q → (find' : ℕ → Option Request) → Removes id.number find find' → IsInStep n (log ++ Released id a ∷ []) m find'
 in_step_released n log m find t id a q f find' gone =
     let x : Entry = Released id a in
     let same : history_of log ≡ history_of (log ++ x ∷ []) = sym (history-push log x ∙ append-nil (history_of log)) in
@@ -24,7 +24,7 @@ in_step_released n log m find t id a q f find' gone =
       of_group = λ k w g. of_group_stays n log x w.pattern (t.table.of_group k w (left k w g).1);
       unreleased = λ k w g. let o = left k w g in any-push (releases k) log x ∙ (ap (λ b. is_released log k || b) o.0 ∙ (or-false (is_released log k) ∙ t.table.unreleased k w o.1));
       complete = λ i p posted free.
-          let k = number h i in
+          let k = count_before h i in
           let both = split k free in
           let c = t.table.complete i p posted both.0 in
           (c.0, gone k ∙ (ap (λ (b : Bool). cond b None (find k)) both.1 ∙ c.1));
@@ -46,12 +46,12 @@ in_step_released n log m find t id a q f find' gone =
     split : (k : ℕ) → is_released (log ++ Released id a ∷ []) k ≡ false → (is_released log k ≡ false) × (eqb id.number k ≡ false)
     split k e = or_parts (is_released log k) (eqb id.number k) (sym (any-push (releases k) log (Released id a)) ∙ e)
 
-    here : (k : ℕ) → id.number ≡ k → k < number (history_of log) (length (history_of log))
+    here : (k : ℕ) → id.number ≡ k → k < count_before (history_of log) (length (history_of log))
     here k e =
         let s = t.table.standing id.number q f in
-        let b = number_below (history_of log) s.place (length (history_of log)) (Post q.pattern) s.posted refl (slice_get_within (history_of log) s.place (Post q.pattern) s.posted) in
+        let b = count_below (history_of log) s.place (length (history_of log)) (Post q.pattern) s.posted refl (slice_get_within (history_of log) s.place (Post q.pattern) s.posted) in
         omega (arith, b, s.numbered, e)
 
-    pick_below : (k : ℕ) (b : Bool) → is_released log k ≡ b → is_released (log ++ Released id a ∷ []) k ≡ true → k < number (history_of log) (length (history_of log))
+    pick_below : (k : ℕ) (b : Bool) → is_released log k ≡ b → is_released (log ++ Released id a ∷ []) k ≡ true → k < count_before (history_of log) (length (history_of log))
     pick_below k true e r = t.table.released_below k e
     pick_below k false e r = here k (eqb-true id.number k (sym (ap (λ (b : Bool). b || eqb id.number k) e) ∙ (sym (any-push (releases k) log (Released id a)) ∙ r)))

@@ -38,15 +38,13 @@ after_stop me false false = All-push (ComesFrom me) [] Gone (All-nil (ComesFrom 
 outbox_signed : (r : State) (d : ℕ) → All (IsSigned r.me) r.log → All (ComesFrom r.me) (outbox r d)
 outbox_signed r d all = one (is_stopped r.log)
   where
-    one : (b : Bool) → All (ComesFrom r.me) (cond b (cond (eqb r.me d) [] (cond (mark_at r d).told [] (Gone ∷ []))) (drop (mark_at r d).taken (owes r d)))
-    one true = after_stop r.me (eqb r.me d) (mark_at r d).told
-    one false = All-drop (ComesFrom r.me) (mark_at r d).taken (owes r d) (owed_signed r.ranks r.me d r.log all)
+    one : (b : Bool) → All (ComesFrom r.me) (cond b (cond (eqb r.me d) [] (cond (mark_at r d).notice_out [] (Gone ∷ []))) (drop (mark_at r d).items_out (owes r d)))
+    one true = after_stop r.me (eqb r.me d) (mark_at r d).notice_out
+    one false = All-drop (ComesFrom r.me) (mark_at r d).items_out (owes r d) (owed_signed r.ranks r.me d r.log all)
 
 -- the first item of an outbox bears the number of the rank
 pub front_signed : (r : State) (d : ℕ) (item : Item) (rest : List Item) → All (IsSigned r.me) r.log → outbox r d ≡ item ∷ rest → ComesFrom r.me item
-front_signed r d item rest all front =
-    let A : List Item → Type 0 = λ (xs : List Item). All (ComesFrom r.me) xs in
-    All-head (ComesFrom r.me) item rest (subst A front (outbox_signed r d all))
+front_signed r d item rest all front = All-head (ComesFrom r.me) item rest (rw front at (outbox_signed r d all))
 
 -- an item of the rank with this number comes from it
 pub from_signed : (source : WorldRank) (item : Item) → ComesFrom source.number item → IsFrom source item

@@ -1,5 +1,5 @@
 -- What a change of one outbox changes of the list of all of them.
-use Rattle.std.proofs.Common.{◌≡◌, ◌≢◌, ℕ, suc, ◌+◌, ◌<◌, ◌≤◌, Bool, true, false, eqb, List, [], ◌∷◌, length, map, get_or, set, refl, ap, sym, subst, ◌∙◌, arith, inl, inr, ◌⊎◌, append-nil}
+use Rattle.std.proofs.Common.{◌≡◌, ◌≢◌, ℕ, suc, ◌+◌, ◌<◌, ◌≤◌, Bool, true, false, eqb, List, [], ◌∷◌, length, map, get_or, set, refl, ap, sym, ◌∙◌, arith, inl, inr, ◌⊎◌, append-nil}
 use Rattle.std.specs.List.{list_all}
 use Rattle.std.proofs.Math.ListN.{get_or-map}
 use Rattle.std.proofs.Math.Seq.{map-set_same}
@@ -8,7 +8,7 @@ use Rattle.std.proofs.lemmas.Bool.Decides.{nat_tests}
 use Rattle.std.proofs.lemmas.List.{map-set, length-map, length-set, get_or_read, get_or-set_same, get_or-set_other}
 use Rattle.std.proofs.lemmas.List.Folds.{list_all-map, list_all_at}
 use Rattle.ulfm_base.specs.declared.item.Item.{Item}
-use Rattle.ulfm_rank.specs.Outboxes.{Box, Slot, contents_of, has_room, empty_box, box_at, with_place, for_each, Grows, AllGrow}
+use Rattle.ulfm_rank.specs.inside.Outboxes.{Box, Slot, contents_of, has_room, empty_box, box_at, with_place, for_each, Grows, AllGrow}
 
 abbrev pub empty_slot : Slot
 empty_slot = record { contents = empty_box; room = false }
@@ -70,11 +70,11 @@ grow_one boxes to place item inside =
             let t : eqb to d ≡ true = grind (arith, nat_tests) in
             let here : box_at (set boxes to b) d ≡ b = ap (box_at (set boxes to b)) same ∙ get_or-set_same boxes to b empty_box inside in
             let was : box_at boxes d ≡ box_at boxes to = ap (box_at boxes) same in
-            rw (here, was, t) (record { places = refl; taken = refl; told = refl })
+            rw (here, was, t) (record { places = refl; items_out = refl; notice_out = refl })
         | inr other ↦
             let t : eqb to d ≡ false = grind (arith, nat_tests) in
             let here : box_at (set boxes to b) d ≡ box_at boxes d = get_or-set_other boxes to d b empty_box other in
-            rw (here, t) (record { places = sym (append-nil (box_at boxes d).places); taken = refl; told = refl })
+            rw (here, t) (record { places = sym (append-nil (box_at boxes d).places); items_out = refl; notice_out = refl })
       ];
     }
 
@@ -135,7 +135,7 @@ leaving-passed was now d place to so_far outside = record {
     | inl here ↦
         let t : to k ≡ false = ap to here ∙ outside in
         let same : slot_at now k ≡ slot_at was k = so_far.rest k (omega (arith, here)) in
-        rw (t, same) (record { places = sym (append-nil (slot_at was k).contents.places); taken = refl; told = refl })
+        rw (t, same) (record { places = sym (append-nil (slot_at was k).contents.places); items_out = refl; notice_out = refl })
     | inr other ↦ so_far.done k (omega (arith, h, other)) item
   ];
   rest = λ k h. so_far.rest k (omega (arith, h));
@@ -149,7 +149,7 @@ leaving-step was now d place to s s' so_far member inside is left = record {
         let t : to k ≡ true = ap to here ∙ member in
         let was_there : (slot_at was k).contents ≡ s.contents = ap (λ i. (slot_at was i).contents) here ∙ ap contents_of (sym (so_far.rest d (omega arith)) ∙ sym (get_or_read now d s inside is empty_slot)) in
         let now_there : (slot_at (set now d s') k).contents ≡ with_place s.contents place = ap contents_of (set_here now d k s' here inside) ∙ left in
-        rw (t, was_there, now_there) (record { places = refl; taken = refl; told = refl })
+        rw (t, was_there, now_there) (record { places = refl; items_out = refl; notice_out = refl })
     | inr other ↦ rw (set_else now d k s' other) (so_far.done k (omega (arith, h, other)) item)
   ];
   rest = λ k h. set_else now d k s' (omega (arith, h)) ∙ so_far.rest k (omega (arith, h));
@@ -157,8 +157,7 @@ leaving-step was now d place to s s' so_far member inside is left = record {
 
 pub leaving-end : (was now : List Slot) (boxes : List Box) (d place : ℕ) (to : ℕ → Bool) → map contents_of was ≡ boxes → Leaving was now d place to → length now ≤ d → (item : Item) → AllGrow boxes (map contents_of now) place (for_each to item)
 leaving-end was now boxes d place to seen so_far whole item =
-    let A : List Box → Type 0 = λ bs. AllGrow bs (map contents_of now) place (for_each to item) in
-    subst A seen (record {
+    rw (← seen) (record {
       size = length-map now contents_of ∙ so_far.size ∙ sym (length-map was contents_of);
       each = λ k h. rw (box-slot was k, box-slot now k) (so_far.done k (omega (arith, h, whole, length-map now contents_of)) item);
     })

@@ -4,13 +4,12 @@ use Rattle.std.proofs.lemmas.Option.{slice_get_within}
 use Rattle.ulfm_rank.proofs.Common.{Letter, Pattern, Event, Post, Come, End, Clear, PostAt, Entry, TestAnswer, group_of, members_of, or_empty, history_of, events_by}
 use Rattle.ulfm_base.specs.declared.error.CallError.{CallError}
 use Rattle.ulfm_base.specs.declared.error.CallError.TheVariants.{ProcFailed, Revoked, Truncated}
-use Rattle.ulfm_base.specs.Group.{rank_in}
-use Rattle.ulfm_match.specs.Pairing.{Pairing, LawfulPairing, inside}
+use Rattle.ulfm_match.specs.Pairing.{Pairing, LawfulPairing, pairs_below}
 use Rattle.ulfm_match.proofs.Cut.{cut, get_front, get_in_front, inside_to, inside_back}
 use Rattle.ulfm_match.proofs.Decide.{lt_or_ge}
 use Rattle.ulfm_match.proofs.Unique.{same_pattern}
 use Rattle.ulfm_rank.specs.declared.entry.TestAnswer.TheVariants.{Done, Over, Pending, NotYet}
-use Rattle.ulfm_rank.specs.Answer.{Got, IsUnpaired, StandsFirst, IsOver, AnswersBy, is_release}
+use Rattle.ulfm_rank.specs.Answer.{Got, IsUnpaired, StandsFirst, IsOver, IsReceived, IsAnswerBy, is_release}
 use Rattle.ulfm_rank.proofs.Gather.{history-push}
 use Rattle.ulfm_rank.proofs.Grouped.{group_stays, members_found}
 
@@ -23,11 +22,11 @@ members_stay n log e c P none p = pick (group_of n log c) refl p
     pick (Some g) q p = subst P (sym (members_found n (log ++ e ∷ []) c g (group_stays n log e c g q))) p
 
 module _ (h xs : List Event) (r : Pairing) (law : LawfulPairing (h ++ xs) r) where
-  got_on : (i : ℕ) (letter : Letter) → Got h (inside (length h) r) i letter → Got (h ++ xs) r i letter
+  got_on : (i : ℕ) (letter : Letter) → Got h (pairs_below (length h) r) i letter → Got (h ++ xs) r i letter
   got_on i letter g = record { place = g.place; pairs = (inside_to (length h) r i g.place g.pairs).0; came = get_front h xs g.place (Come letter) g.came }
 
   -- a receive that was over and unpaired isn't paired later
-  unpaired_on : (i place : ℕ) (p : Pattern) (e : Event) → PostAt h i p → IsUnpaired (inside (length h) r) i → i < place → slice_get h place ≡ Some e → (e ≡ End i) ⊎ (e ≡ Clear p.context.number) → IsUnpaired r i
+  unpaired_on : (i place : ℕ) (p : Pattern) (e : Event) → PostAt h i p → IsUnpaired (pairs_below (length h) r) i → i < place → slice_get h place ≡ Some e → (e ≡ End i) ⊎ (e ≡ Clear p.context.number) → IsUnpaired r i
   unpaired_on i place p e posted free after is why b q =
       let li : i < length h = slice_get_within h i (Post p) posted in
       let lp : place < length h = slice_get_within h place e is in
@@ -57,7 +56,7 @@ module _ (h xs : List Event) (r : Pairing) (law : LawfulPairing (h ++ xs) r) whe
       back : (k : ℕ) → k < length h → (x : Event) → slice_get (h ++ xs) k ≡ Some x → slice_get h k ≡ Some x
       back k l x is = get_in_front h xs k x l is
 
-  over_on : (i : ℕ) (p : Pattern) (reason : CallError) → PostAt h i p → IsOver h (inside (length h) r) i p reason → IsOver (h ++ xs) r i p reason
+  over_on : (i : ℕ) (p : Pattern) (reason : CallError) → PostAt h i p → IsOver h (pairs_below (length h) r) i p reason → IsOver (h ++ xs) r i p reason
   over_on i p ProcFailed posted o = (unpaired_on i o.1.place p (End i) posted o.0 o.1.after o.1.is (inl refl), first_on i (End i) (Clear p.context.number) o.1)
   over_on i p Revoked posted o = (unpaired_on i o.1.place p (Clear p.context.number) posted o.0 o.1.after o.1.is (inr refl), first_on i (Clear p.context.number) (End i) o.1)
   over_on i p Truncated posted o = (o.0, got_on i o.0 o.1, o.2)
@@ -65,7 +64,7 @@ module _ (h xs : List Event) (r : Pairing) (law : LawfulPairing (h ++ xs) r) whe
 
 -- an answer that released its request stays true
 pub answer_stays : (n : ℕ) (log : List Entry) (e : Entry) (i : ℕ) (p : Pattern) (answer : TestAnswer) → PostAt (history_of log) i p → is_release answer ≡ true
-    → ((r : Pairing) → LawfulPairing (history_of log) r → AnswersBy n log r i p answer) → (r : Pairing) → LawfulPairing (history_of (log ++ e ∷ [])) r → AnswersBy n (log ++ e ∷ []) r i p answer
+    → ((r : Pairing) → LawfulPairing (history_of log) r → IsAnswerBy n log r i p answer) → (r : Pairing) → LawfulPairing (history_of (log ++ e ∷ [])) r → IsAnswerBy n (log ++ e ∷ []) r i p answer
 answer_stays n log e i p answer posted released old r law = stays answer released old
   where
     h : List Event
@@ -80,20 +79,16 @@ answer_stays n log e i p answer posted released old r law = stays answer release
     law' : LawfulPairing (h ++ xs) r
     law' = subst (λ (g : List Event). LawfulPairing g r) long law
 
-    short : LawfulPairing h (inside (length h) r)
+    short : LawfulPairing h (pairs_below (length h) r)
     short = cut h xs r law'
 
-    stays : (answer : TestAnswer) → is_release answer ≡ true → ((r : Pairing) → LawfulPairing h r → AnswersBy n log r i p answer) → AnswersBy n (log ++ e ∷ []) r i p answer
+    stays : (answer : TestAnswer) → is_release answer ≡ true → ((r : Pairing) → LawfulPairing h r → IsAnswerBy n log r i p answer) → IsAnswerBy n (log ++ e ∷ []) r i p answer
     stays (Done status body) k old =
-        let a = old (inside (length h) r) short in (
-          a.0,
-          subst (λ (g : List Event). Got g r i a.0) (sym long) (got_on h xs r law' i a.0 a.1),
-          a.2,
-          members_stay n log e p.context.number (λ (group : List ℕ). rank_in group a.0.envelope.source.number ≡ Some status.source) (λ q. cc) a.3,
-          a.4,
-          a.5,
-          a.6,
-        )
-    stays (Over reason) k old = subst (λ (g : List Event). IsOver g r i p reason) (sym long) (over_on h xs r law' i p reason posted (old (inside (length h) r) short))
+        let a = old (pairs_below (length h) r) short in record {
+          letter = a.letter;
+          got = subst (λ (g : List Event). Got g r i a.letter) (sym long) (got_on h xs r law' i a.letter a.got);
+          received = members_stay n log e p.context.number (λ (group : List ℕ). IsReceived group p.room a.letter status body) (λ q. let s = q.sender in cc) a.received;
+        }
+    stays (Over reason) k old = subst (λ (g : List Event). IsOver g r i p reason) (sym long) (over_on h xs r law' i p reason posted (old (pairs_below (length h) r) short))
     stays Pending k old = let bad : ⊥ = cc in absurd bad
     stays NotYet k old = let bad : ⊥ = cc in absurd bad

@@ -3,30 +3,31 @@ use Rattle.std.proofs.Common.{◌≡◌, ◌≢◌, ℕ, ◌+◌, ◌<◌, inl, 
 use Rattle.std.specs.Option.{option_map}
 use Rattle.std.proofs.lemmas.Bool.Decides.{nat_tests}
 use Rattle.std.proofs.lemmas.List.Elements.{Contains-push}
-use Rattle.ulfm_rank.proofs.Common.{Pattern, Letter, Entry, Outcome, Paired, Request, Item}
-use Rattle.ulfm_match.specs.History.{Event, Post, Come, End, Clear, PostAt, StandsBetween, number}
+use Rattle.ulfm_rank.proofs.Common.{Pattern, Letter, Entry, Fate, Paired, Request, Item}
+use Rattle.ulfm_match.specs.History.{Event, Post, Come, End, Clear, PostAt, StandsBetween, count_before}
 use Rattle.ulfm_match.specs.Pairing.{Pairing, Pairs, LawfulPairing}
-use Rattle.ulfm_match.specs.State.{State, Tracks}
+use Rattle.ulfm_match.specs.State.{Matching, Tracks}
 use Rattle.ulfm_match.specs.Calls.{TracksEnd}
-use Rattle.ulfm_match.proofs.Histories.{get_old, get_new, length_more, number_old, same_number}
+use Rattle.ulfm_match.proofs.Histories.{get_old, get_new, length_more, count_old, same_number}
 use Rattle.ulfm_match.proofs.Extend.{receive_within}
 use Rattle.ulfm_match.proofs.Steps.{pair_cases, pair_old, stands_nowhere}
 use Rattle.ulfm_rank.specs.Answer.{IsUnpaired}
-use Rattle.ulfm_rank.specs.Table.{IsOfGroup, Became, IsStanding, IsTable}
-use Rattle.ulfm_rank.specs.Requests.{outcome_of, changed, Adds, Changes, events_of_post, events_of_item, TracksItem}
+use Rattle.ulfm_rank.specs.inside.Table.{IsOfGroup, Became, IsStanding, IsTable}
+use Rattle.ulfm_rank.specs.History.{post_events, item_events}
+use Rattle.ulfm_rank.specs.inside.Requests.{fate_of, changed, Adds, Changes, TracksItem}
 use Rattle.ulfm_rank.proofs.Tables.{became_keeps, table_change, table_post}
 use Rattle.ulfm_match.proofs.Determined.{Posts}
 
 -- the pairing after a post
-pub record IsPosted (h : List Event) (r : Pairing) (p : Pattern) (s : State) (o : Option Letter) : Type 0 where
+pub record IsPosted (h : List Event) (r : Pairing) (p : Pattern) (s : Matching) (o : Option Letter) : Type 0 where
   pub pairing : Pairing
   pub tracks : Tracks (h ++ Post p ∷ []) pairing s
   pub keep : (i b : ℕ) → Pairs r i b → Pairs pairing i b
   pub only : (i b : ℕ) → i < length h → Pairs pairing i b → Pairs r i b
-  pub became : Became (h ++ Post p ∷ []) pairing (length h) p (outcome_of o false)
+  pub became : Became (h ++ Post p ∷ []) pairing (length h) p (fate_of o false)
   pub unpaired : o ≡ None → IsUnpaired pairing (length h)
 
-pub posted : (h : List Event) (r : Pairing) (law : LawfulPairing h r) (p : Pattern) (s : State) (o : Option Letter) → Posts h r p s o → IsPosted h r p s o
+pub posted : (h : List Event) (r : Pairing) (law : LawfulPairing h r) (p : Pattern) (s : Matching) (o : Option Letter) → Posts h r p s o → IsPosted h r p s o
 posted h r law p s None t =
     let free : IsUnpaired r (length h) = λ b q. let l : length h < length h = receive_within h r law (length h) b q in absurd (omega arith) in
     record {
@@ -46,11 +47,11 @@ posted h r law p s None t =
       unpaired = λ e. free;
     }
 posted h r law p s (Some l) t = record {
-  pairing = r ++ (length h, t.0) ∷ [];
-  tracks = t.2;
-  keep = pair_old r (length h) t.0;
-  only = λ i b li q. elim (pair_cases r (length h) t.0 i b q) [ inl old ↦ old | inr e ↦ absurd (let f : i ≡ length h = e.0 in omega arith) ];
-  became = record { place = t.0; pairs = Contains-push r (length h, t.0); came = get_old h (Post p) t.0 (Come l) t.1 };
+  pairing = r ++ (length h, t.place) ∷ [];
+  tracks = t.tracks;
+  keep = pair_old r (length h) t.place;
+  only = λ i b li q. elim (pair_cases r (length h) t.place i b q) [ inl old ↦ old | inr e ↦ absurd (let f : i ≡ length h = e.0 in omega arith) ];
+  became = record { place = t.place; pairs = Contains-push r (length h, t.place); came = get_old h (Post p) t.place (Come l) t.came };
   unpaired = λ e. cc;
 }
 
@@ -58,53 +59,53 @@ differ : (a b : ℕ) → eqb a b ≡ false → a ≢ b
 differ a b e f = grind (arith, nat_tests)
 
 -- the number of a request is that of one place
-pub same_place : (h : List Event) (r : Pairing) (id : ℕ) (q : Request) (s : IsStanding h r id q) (i : ℕ) (p : Pattern) → PostAt h i p → number h i ≡ id → s.place ≡ i
+pub same_place : (h : List Event) (r : Pairing) (id : ℕ) (q : Request) (s : IsStanding h r id q) (i : ℕ) (p : Pattern) → PostAt h i p → count_before h i ≡ id → s.place ≡ i
 same_place h r id q s i p here e = same_number h s.place i (Post q.pattern) (Post p) s.posted refl here refl (s.numbered ∙ sym e)
 
 -- what a post leads to
-abbrev pub AdmitsTo : Bool → Pattern → List Event → Pairing → State → Outcome → Type 0
+abbrev pub AdmitsTo : Bool → Pattern → List Event → Pairing → Matching → Fate → Type 0
 AdmitsTo gone p h r s o =
-    (r' : Pairing) × Tracks (h ++ events_of_post gone h p) r' s
-    × ((n : ℕ) (entries : List Entry) (find find' : ℕ → Option Request) → IsOfGroup n entries p → IsTable n entries h r find → Adds (number h (length h)) (record { pattern = p; outcome = o }) find find' → IsTable n entries (h ++ events_of_post gone h p) r' find')
+    (r' : Pairing) × Tracks (h ++ post_events gone h p) r' s
+    × ((n : ℕ) (entries : List Entry) (find find' : ℕ → Option Request) → IsOfGroup n entries p → IsTable n entries h r find → Adds (count_before h (length h)) (record { pattern = p; fate = o }) find find' → IsTable n entries (h ++ post_events gone h p) r' find')
 
 -- a post that isn't over at once
-pub admitted : (p : Pattern) (h : List Event) (r : Pairing) (law : LawfulPairing h r) (s : State) (o : Option Letter) → Posts h r p s o → AdmitsTo false p h r s (outcome_of o false)
+pub admitted : (p : Pattern) (h : List Event) (r : Pairing) (law : LawfulPairing h r) (s : Matching) (o : Option Letter) → Posts h r p s o → AdmitsTo false p h r s (fate_of o false)
 admitted p h r law s o t =
     let d = posted h r law p s o t in (
       d.pairing,
       d.tracks,
-      λ n entries find find' of t adds. table_post n entries h (Post p) r d.pairing find find' t p (outcome_of o false) refl of law d.keep d.only d.became adds,
+      λ n entries find find' of t adds. table_post n entries h (Post p) r d.pairing find find' t p (fate_of o false) refl of law d.keep d.only d.became adds,
     )
 
 map_same : (o : Option Request) (f : Request → Request) → ((q : Request) → f q ≡ q) → option_map f o ≡ o
 map_same None f e = refl
 map_same (Some q) f e = ap (λ (w : Request). Some w) (e q)
 
--- the new request's outcome after its end, in the table that the post left
-ended_table : (id : ℕ) (p : Pattern) (a b : Outcome) (find find' : ℕ → Option Request) → Adds id (record { pattern = p; outcome = b }) find find' → (k : ℕ) → find' k ≡ option_map (changed id b k) (cond (eqb id k) (Some (record { pattern = p; outcome = a })) (find k))
+-- the new request's fate after its end, in the table that the post left
+ended_table : (id : ℕ) (p : Pattern) (a b : Fate) (find find' : ℕ → Option Request) → Adds id (record { pattern = p; fate = b }) find find' → (k : ℕ) → find' k ≡ option_map (changed id b k) (cond (eqb id k) (Some (record { pattern = p; fate = a })) (find k))
 ended_table id p a b find find' adds k = adds k ∙ pick (eqb id k) refl
   where
-    pick : (c : Bool) → eqb id k ≡ c → cond c (Some (record { pattern = p; outcome = b })) (find k) ≡ option_map (changed id b k) (cond c (Some (record { pattern = p; outcome = a })) (find k))
-    pick true e = ap (λ (c : Bool). Some (cond c (record { pattern = p; outcome = b }) (record { pattern = p; outcome = a }))) (sym e)
-    pick false e = sym (map_same (find k) (changed id b k) (λ q. ap (λ (c : Bool). cond c (record { pattern = q.pattern; outcome = b }) q) e))
+    pick : (c : Bool) → eqb id k ≡ c → cond c (Some (record { pattern = p; fate = b })) (find k) ≡ option_map (changed id b k) (cond c (Some (record { pattern = p; fate = a })) (find k))
+    pick true e = ap (λ (c : Bool). Some (cond c (record { pattern = p; fate = b }) (record { pattern = p; fate = a }))) (sym e)
+    pick false e = sym (map_same (find k) (changed id b k) (λ q. ap (λ (c : Bool). cond c (record { pattern = q.pattern; fate = b }) q) e))
 
-changed_pattern : (id : ℕ) (o : Outcome) (k : ℕ) (q : Request) → (changed id o k q).pattern ≡ q.pattern
+changed_pattern : (id : ℕ) (o : Fate) (k : ℕ) (q : Request) → (changed id o k q).pattern ≡ q.pattern
 changed_pattern id o k q = pick (eqb id k)
   where
-    pick : (c : Bool) → (cond c (record { pattern = q.pattern; outcome = o }) q).pattern ≡ q.pattern
+    pick : (c : Bool) → (cond c (record { pattern = q.pattern; fate = o }) q).pattern ≡ q.pattern
     pick true = refl
     pick false = refl
 
 -- by cases whether the request is the one that changes
-changed_became : (h : List Event) (r : Pairing) (id : ℕ) (o : Outcome) (k : ℕ) (q : Request) (i : ℕ) → (id ≡ k → Became h r i q.pattern o) → (id ≢ k → Became h r i q.pattern q.outcome) → Became h r i q.pattern (changed id o k q).outcome
+changed_became : (h : List Event) (r : Pairing) (id : ℕ) (o : Fate) (k : ℕ) (q : Request) (i : ℕ) → (id ≡ k → Became h r i q.pattern o) → (id ≢ k → Became h r i q.pattern q.fate) → Became h r i q.pattern (changed id o k q).fate
 changed_became h r id o k q i here there = pick (eqb id k) refl
   where
-    pick : (c : Bool) → eqb id k ≡ c → Became h r i q.pattern (cond c (record { pattern = q.pattern; outcome = o }) q).outcome
+    pick : (c : Bool) → eqb id k ≡ c → Became h r i q.pattern (cond c (record { pattern = q.pattern; fate = o }) q).fate
     pick true e = here (eqb-true id k e)
     pick false e = there (differ id k e)
 
 -- the receive at the last place ends: it keeps its letter, or is over
-over : (h1 : List Event) (r : Pairing) (i : ℕ) (p q : Pattern) (o : Option Letter) → length h1 ≡ i + 1 → Became h1 r i p (outcome_of o false) → (o ≡ None → IsUnpaired r i) → Became (h1 ++ End i ∷ []) r i q (outcome_of o true)
+over : (h1 : List Event) (r : Pairing) (i : ℕ) (p q : Pattern) (o : Option Letter) → length h1 ≡ i + 1 → Became h1 r i p (fate_of o false) → (o ≡ None → IsUnpaired r i) → Became (h1 ++ End i ∷ []) r i q (fate_of o true)
 over h1 r i p q None l b u = (
   u refl,
   record {
@@ -117,30 +118,30 @@ over h1 r i p q None l b u = (
 over h1 r i p q (Some letter) l b u = record { place = b.place; pairs = b.pairs; came = get_old h1 (End i) b.place (Come letter) b.came }
 
 -- a post that is over at once
-pub admitted_over : (p : Pattern) (h : List Event) (r : Pairing) (law : LawfulPairing h r) (s s' : State) (o : Option Letter) → Posts h r p s o → TracksEnd (number h (length h)) s s' → AdmitsTo true p h r s' (outcome_of o true)
+pub admitted_over : (p : Pattern) (h : List Event) (r : Pairing) (law : LawfulPairing h r) (s s' : Matching) (o : Option Letter) → Posts h r p s o → TracksEnd (count_before h (length h)) s s' → AdmitsTo true p h r s' (fate_of o true)
 admitted_over p h r law s s' o t ends =
     let d = posted h r law p s o t in
     let h1 : List Event = h ++ Post p ∷ [] in
-    let F : List Event → Type 0 = λ (g : List Event). (r' : Pairing) × Tracks g r' s' × ((n : ℕ) (entries : List Entry) (find find' : ℕ → Option Request) → IsOfGroup n entries p → IsTable n entries h r find → Adds (number h (length h)) (record { pattern = p; outcome = outcome_of o true }) find find' → IsTable n entries g r' find') in
-    let long : h1 ++ End (length h) ∷ [] ≡ h ++ events_of_post true h p = append_assoc h (Post p ∷ []) (End (length h) ∷ []) in
+    let F : List Event → Type 0 = λ (g : List Event). (r' : Pairing) × Tracks g r' s' × ((n : ℕ) (entries : List Entry) (find find' : ℕ → Option Request) → IsOfGroup n entries p → IsTable n entries h r find → Adds (count_before h (length h)) (record { pattern = p; fate = fate_of o true }) find find' → IsTable n entries g r' find') in
+    let long : h1 ++ End (length h) ∷ [] ≡ h ++ post_events true h p = append_assoc h (Post p ∷ []) (End (length h) ∷ []) in
     subst F long (
       d.pairing,
-      ends h1 d.pairing (length h) p (get_new h (Post p)) (number_old h (Post p) (length h) (omega arith)) d.tracks,
+      ends h1 d.pairing (length h) p (get_new h (Post p)) (count_old h (Post p) (length h) (omega arith)) d.tracks,
       λ n entries find find' of t adds.
-          let find1 : ℕ → Option Request = λ k. cond (eqb (number h (length h)) k) (Some (record { pattern = p; outcome = outcome_of o false })) (find k) in
-          let t1 : IsTable n entries h1 d.pairing find1 = table_post n entries h (Post p) r d.pairing find find1 t p (outcome_of o false) refl of law d.keep d.only d.became (λ k. refl) in
-          table_change n entries h1 (End (length h)) d.pairing d.pairing find1 find' t1 (λ q e. cc) (changed (number h (length h)) (outcome_of o true))
-          (ended_table (number h (length h)) p (outcome_of o false) (outcome_of o true) find find' adds)
-          (changed_pattern (number h (length h)) (outcome_of o true))
+          let find1 : ℕ → Option Request = λ k. cond (eqb (count_before h (length h)) k) (Some (record { pattern = p; fate = fate_of o false })) (find k) in
+          let t1 : IsTable n entries h1 d.pairing find1 = table_post n entries h (Post p) r d.pairing find find1 t p (fate_of o false) refl of law d.keep d.only d.became (λ k. refl) in
+          table_change n entries h1 (End (length h)) d.pairing d.pairing find1 find' t1 (λ q e. cc) (changed (count_before h (length h)) (fate_of o true))
+          (ended_table (count_before h (length h)) p (fate_of o false) (fate_of o true) find find' adds)
+          (changed_pattern (count_before h (length h)) (fate_of o true))
           (λ k q f w.
-          changed_became (h1 ++ End (length h) ∷ []) d.pairing (number h (length h)) (outcome_of o true) k q w.place
+          changed_became (h1 ++ End (length h) ∷ []) d.pairing (count_before h (length h)) (fate_of o true) k q w.place
           (λ e.
-          let same : w.place ≡ length h = same_place h1 d.pairing k q w (length h) p (get_new h (Post p)) (number_old h (Post p) (length h) (omega arith) ∙ e) in
-          subst (λ (m : ℕ). Became (h1 ++ End (length h) ∷ []) d.pairing m q.pattern (outcome_of o true)) (sym same) (over h1 d.pairing (length h) p q.pattern o (length_more h (Post p)) d.became d.unpaired))
+          let same : w.place ≡ length h = same_place h1 d.pairing k q w (length h) p (get_new h (Post p)) (count_old h (Post p) (length h) (omega arith) ∙ e) in
+          subst (λ (m : ℕ). Became (h1 ++ End (length h) ∷ []) d.pairing m q.pattern (fate_of o true)) (sym same) (over h1 d.pairing (length h) p q.pattern o (length_more h (Post p)) d.became d.unpaired))
           (λ ne.
-          became_keeps h1 (End (length h)) d.pairing d.pairing d.tracks.lawful (λ i b q. q) w.place q.pattern q.outcome (λ b q. q)
-          (λ e. (λ g. let f : length h ≡ w.place = cc in ne (sym (number_old h (Post p) (length h) (omega arith)) ∙ (ap (λ (m : ℕ). number h1 m) f ∙ w.numbered)), λ g. cc))
-          w.outcome)),
+          became_keeps h1 (End (length h)) d.pairing d.pairing d.tracks.lawful (λ i b q. q) w.place q.pattern q.fate (λ b q. q)
+          (λ e. (λ g. let f : length h ≡ w.place = cc in ne (sym (count_old h (Post p) (length h) (omega arith)) ∙ (ap (λ (m : ℕ). count_before h1 m) f ∙ w.numbered)), λ g. cc))
+          w.fate)),
     )
 
 module _ (n : ℕ) (entries : List Entry) (h : List Event) (r : Pairing) (law : LawfulPairing h r) (l : Letter) (find : ℕ → Option Request) (t : IsTable n entries h r find) where
@@ -148,10 +149,10 @@ module _ (n : ℕ) (entries : List Entry) (h : List Event) (r : Pairing) (law : 
   pub come_kept : IsTable n entries (h ++ Come l ∷ []) r find
   come_kept =
       table_change n entries h (Come l) r r find find t (λ q e. cc) (λ k q. q) (λ k. sym (map_same (find k) (λ q. q) (λ q. refl))) (λ k q. refl)
-      (λ k q f s. became_keeps h (Come l) r r law (λ i b q. q) s.place q.pattern q.outcome (λ b q. q) (λ e. (λ g. cc, λ g. cc)) s.outcome)
+      (λ k q f s. became_keeps h (Come l) r r law (λ i b q. q) s.place q.pattern q.fate (λ b q. q) (λ e. (λ g. cc, λ g. cc)) s.fate)
 
   -- a letter that is paired with the receive at i0
-  pub come_paired : (i0 : ℕ) (p0 : Pattern) (id : ℕ) → PostAt h i0 p0 → number h i0 ≡ id → (find' : ℕ → Option Request) → Changes (changed id (Paired l)) find find' → IsTable n entries (h ++ Come l ∷ []) (r ++ (i0, length h) ∷ []) find'
+  pub come_paired : (i0 : ℕ) (p0 : Pattern) (id : ℕ) → PostAt h i0 p0 → count_before h i0 ≡ id → (find' : ℕ → Option Request) → Changes (changed id (Paired l)) find find' → IsTable n entries (h ++ Come l ∷ []) (r ++ (i0, length h) ∷ []) find'
   come_paired i0 p0 id here num find' change =
       table_change n entries h (Come l) r (r ++ (i0, length h) ∷ []) find find' t (λ q e. cc) (changed id (Paired l)) change (changed_pattern id (Paired l))
       (λ k q f s.
@@ -164,11 +165,11 @@ module _ (n : ℕ) (entries : List Entry) (h : List Event) (r : Pairing) (law : 
         came = get_new h (Come l);
       })
       (λ ne.
-      became_keeps h (Come l) r (r ++ (i0, length h) ∷ []) law (pair_old r i0 (length h)) s.place q.pattern q.outcome
-      (λ b q'. elim (pair_cases r i0 (length h) s.place b q') [ inl old ↦ old | inr e ↦ absurd (ne (sym num ∙ (ap (λ (m : ℕ). number h m) (sym e.0) ∙ s.numbered))) ])
-      (λ e. (λ g. cc, λ g. cc)) s.outcome))
+      became_keeps h (Come l) r (r ++ (i0, length h) ∷ []) law (pair_old r i0 (length h)) s.place q.pattern q.fate
+      (λ b q'. elim (pair_cases r i0 (length h) s.place b q') [ inl old ↦ old | inr e ↦ absurd (ne (sym num ∙ (ap (λ (m : ℕ). count_before h m) (sym e.0) ∙ s.numbered))) ])
+      (λ e. (λ g. cc, λ g. cc)) s.fate))
 
 -- an item that gives no event
-pub nothing_happens : (revoked : Bool) (s : ℕ) (item : Item) (m : State) (find : ℕ → Option Request) → ((h : List Event) → events_of_item revoked h s item ≡ []) → TracksItem revoked s item m find m find
+pub nothing_happens : (revoked : Bool) (s : ℕ) (item : Item) (m : Matching) (find : ℕ → Option Request) → ((h : List Event) → item_events revoked h s item ≡ []) → TracksItem revoked s item m find m find
 nothing_happens revoked s item m find none n entries h r o t table =
     subst (λ (g : List Event). (r' : Pairing) × Tracks g r' m × IsTable n entries g r' find) (sym (ap (λ (xs : List Event). h ++ xs) (none h) ∙ append-nil h)) (r, t, table)

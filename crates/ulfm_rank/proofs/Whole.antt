@@ -2,14 +2,14 @@
 use Rattle.std.proofs.Common.{◌≡◌, ℕ, ◌+◌, ◌<◌, ◌≤◌, Bool, true, false, cond, List, [], ◌∷◌, ◌++◌, length, map, replicate, refl, ap, sym, subst, ◌∙◌, Option, Some, None, arith, ◌||◌, ◌&&◌, nat_lt, IsTrue}
 use Rattle.std.proofs.lemmas.Bool.Decides.{nat_tests}
 use Rattle.std.proofs.Math.Bool.{or-false}
-use Rattle.ulfm_rank.proofs.Common.{Item, Pattern, WorldRank, numbers_from, Entry, Posted, Released, Took, TestAnswer, Outcome, Request, is_revoked, is_stop, is_stopped, Follows, IsOfGroup}
-use Rattle.ulfm_fault.specs.Facts.{Facts, acknowledged_in, is_marked}
+use Rattle.ulfm_rank.proofs.Common.{Item, Pattern, WorldRank, numbers_from, Entry, Posted, Released, Took, TestAnswer, Fate, Request, is_revoked, is_stop, is_stopped, Follows, IsOfGroup}
+use Rattle.ulfm_fault.specs.Facts.{FaultState, acknowledged_in, is_revoked_in}
 use Rattle.ulfm_match.specs.declared.request.RequestId.{RequestId}
-use Rattle.ulfm_match.specs.State.{State as Matching, Tracks}
-use Rattle.ulfm_rank.specs.Fields.{HasFaults, names_known, was_marked}
-use Rattle.ulfm_rank.specs.Outboxes.{Box, empty_box, mark_of, AllGrow}
+use Rattle.ulfm_match.specs.State.{Matching, Tracks}
+use Rattle.ulfm_rank.specs.inside.Fields.{HasFaults, names_known, was_revoked_in}
+use Rattle.ulfm_rank.specs.inside.Outboxes.{Box, empty_box, mark_of, AllGrow}
 use Rattle.ulfm_rank.specs.Owed.{owed_by_item}
-use Rattle.ulfm_rank.specs.Requests.{Adds, Removes, TracksAdmit, TracksItem}
+use Rattle.ulfm_rank.specs.inside.Requests.{Adds, Removes, TracksAdmit, TracksItem}
 use Rattle.ulfm_rank.specs.State.{State, start_state, logged, no_mark}
 use Rattle.ulfm_rank.proofs.Gather.{any-push}
 use Rattle.ulfm_rank.proofs.Held.{outboxes-grown, outboxes-quiet, outboxes-start, marks-start}
@@ -22,8 +22,8 @@ use Rattle.ulfm_rank.proofs.Release.{in_step_released}
 pub halted_quiet : (log : List Entry) (x : Entry) (stopped : Bool) → stopped ≡ is_stopped log → is_stop x ≡ false → stopped ≡ is_stopped (log ++ x ∷ [])
 halted_quiet log x stopped h none = h ∙ sym (any-push is_stop log x ∙ (ap (λ (b : Bool). is_stopped log || b) none ∙ or-false (is_stopped log)))
 
-pub follows_start : (n me : ℕ) (matcher : Matching) (find : ℕ → Option Request) (facts : Facts) (comms : List (ℕ × List ℕ)) (boxes : List Box)
-    → n ≤ 8 → me < n → Tracks [] [] matcher → ((k : ℕ) → find k ≡ None) → facts.known ≡ [] → ((c : ℕ) → acknowledged_in facts c ≡ 0) → ((c : ℕ) → is_marked facts c ≡ false)
+pub follows_start : (n me : ℕ) (matcher : Matching) (find : ℕ → Option Request) (facts : FaultState) (comms : List (ℕ × List ℕ)) (boxes : List Box)
+    → n ≤ 8 → me < n → Tracks [] [] matcher → ((k : ℕ) → find k ≡ None) → facts.known ≡ [] → ((c : ℕ) → acknowledged_in facts c ≡ 0) → ((c : ℕ) → is_revoked_in facts c ≡ false)
     → comms ≡ (0, numbers_from 0 n) ∷ [] → boxes ≡ replicate n empty_box → Follows n me [] false matcher find facts comms boxes
 follows_start n me matcher find facts comms boxes small inside tracks none known acknowledged marked cs bs = record {
   small = small;
@@ -37,7 +37,7 @@ follows_start n me matcher find facts comms boxes small inside tracks none known
 pub state_start : (n me : ℕ) (log : List Entry) (boxes : List Box) → log ≡ [] → boxes ≡ replicate n empty_box → ◌≡◌ {A = State} (record { me = me; ranks = n; log = log; marks = map mark_of boxes }) (start_state me n)
 state_start n me log boxes l b = let m : map mark_of boxes ≡ replicate n no_mark = ap (map mark_of) b ∙ marks-start n in cc
 
-module _ (n me : ℕ) (log : List Entry) (stopped : Bool) (matcher : Matching) (find : ℕ → Option Request) (facts : Facts) (comms : List (ℕ × List ℕ)) (boxes : List Box) (held : Follows n me log stopped matcher find facts comms boxes) where
+module _ (n me : ℕ) (log : List Entry) (stopped : Bool) (matcher : Matching) (find : ℕ → Option Request) (facts : FaultState) (comms : List (ℕ × List ℕ)) (boxes : List Box) (held : Follows n me log stopped matcher find facts comms boxes) where
   -- room plays no part
   pub follows_same : (matcher' : Matching) (find' : ℕ → Option Request) (boxes' : List Box) → matcher'.waiting ≡ matcher.waiting → matcher'.kept ≡ matcher.kept → matcher'.count ≡ matcher.count → ((k : ℕ) → find' k ≡ find k) → boxes' ≡ boxes → Follows n me log stopped matcher' find' facts comms boxes'
   follows_same matcher' find' boxes' ew ek ec ef eb = record {
@@ -50,7 +50,7 @@ module _ (n me : ℕ) (log : List Entry) (stopped : Bool) (matcher : Matching) (
   }
 
   -- a receive is posted
-  pub follows_posted : (p : Pattern) → IsOfGroup n log p → (o : Outcome) (matcher' : Matching) (find' : ℕ → Option Request) → is_revoked log p.context.number ≡ false → TracksAdmit (names_known facts p.source) p matcher o matcher' → Adds matcher.count (record { pattern = p; outcome = o }) find find' → Follows n me (log ++ Posted p ∷ []) stopped matcher' find' facts comms boxes
+  pub follows_posted : (p : Pattern) → IsOfGroup n log p → (o : Fate) (matcher' : Matching) (find' : ℕ → Option Request) → is_revoked log p.context.number ≡ false → TracksAdmit (names_known facts p.source) p matcher o matcher' → Adds matcher.count (record { pattern = p; fate = o }) find find' → Follows n me (log ++ Posted p ∷ []) stopped matcher' find' facts comms boxes
   follows_posted p of o matcher' find' unrevoked tracks adds = record {
     small = held.small;
     halted = halted_quiet log (Posted p) stopped held.halted refl;
@@ -72,7 +72,7 @@ module _ (n me : ℕ) (log : List Entry) (stopped : Bool) (matcher : Matching) (
   }
 
   -- an item is taken
-  pub follows_took : (s : WorldRank) (item : Item) (matcher' : Matching) (find' : ℕ → Option Request) (facts' : Facts) (boxes' : List Box) → TracksItem (was_marked facts item) s.number item matcher find matcher' find' → HasFaults (log ++ Took s item ∷ []) facts' → AllGrow boxes boxes' (length log) (λ d. owed_by_item me log d item)
+  pub follows_took : (s : WorldRank) (item : Item) (matcher' : Matching) (find' : ℕ → Option Request) (facts' : FaultState) (boxes' : List Box) → TracksItem (was_revoked_in facts item) s.number item matcher find matcher' find' → HasFaults (log ++ Took s item ∷ []) facts' → AllGrow boxes boxes' (length log) (λ d. owed_by_item me log d item)
       → Follows n me (log ++ Took s item ∷ []) stopped matcher' find' facts' comms boxes'
   follows_took s item matcher' find' facts' boxes' tracks knows grows = record {
     small = held.small;

@@ -1,4 +1,4 @@
--- What a test of a request answers.
+-- What a test of a request answers (MPI 4.0, 3.2.5 on the status and 3.7.3 on tests; ULFM on what pends and what is over).
 use Rattle.std.specs.Prelude.{◌≡◌, ℕ, Bool, true, false, ◌<◌, ◌≤◌, List, length, not, ◌&&◌, nat_lt, Some, slice_get}
 use Rattle.ulfm_base.specs.declared.envelope.Letter.{Letter}
 use Rattle.ulfm_base.specs.declared.pattern.Pattern.{Pattern}
@@ -6,20 +6,27 @@ use Rattle.ulfm_base.specs.Pattern.{is_any}
 use Rattle.ulfm_base.specs.declared.error.CallError.{CallError}
 use Rattle.ulfm_base.specs.declared.error.CallError.TheVariants.{ProcFailed, Revoked, Truncated}
 use Rattle.ulfm_base.specs.Group.{rank_in}
-use Rattle.ulfm_match.specs.History.{Event, End, Clear, PostAt, ComeAt, StandsBetween, number}
+use Rattle.ulfm_match.specs.History.{Event, End, Clear, PostAt, ComeAt, StandsBetween, count_before}
 use Rattle.ulfm_match.specs.Pairing.{Pairing, Pairs, LawfulPairing}
 use Rattle.ulfm_rank.specs.declared.entry.Entry.{Entry}
+use Rattle.ulfm_rank.specs.declared.entry.Status.{Status}
 use Rattle.ulfm_rank.specs.declared.entry.TestAnswer.{TestAnswer}
 use Rattle.ulfm_rank.specs.declared.entry.TestAnswer.TheVariants.{Done, Over, Pending, NotYet}
 use Rattle.ulfm_rank.specs.Facts.{is_revoked, is_released, acknowledged_of, known_in}
 use Rattle.ulfm_rank.specs.History.{history_of}
 use Rattle.ulfm_rank.specs.Communicators.{members_of}
 
--- an unpaired receive of this source pends: of any source, on a context that isn't revoked, of which more failures
--- are known than acknowledged
+-- more failures are known in the group of the context c than were acknowledged there
+abbrev pub has_unacked : ℕ → List Entry → ℕ → Bool
+has_unacked n log c = nat_lt (acknowledged_of log c) (length (known_in log (members_of n log c)))
+
+-- an unpaired receive of this pattern pends: it is of any source, its context isn't revoked, and has a failure that isn't
+-- acknowledged
 abbrev pub pends : ℕ → List Entry → Pattern → Bool
 pends n log pattern =
-    is_any pattern.source && (not (is_revoked log pattern.context.number) && nat_lt (acknowledged_of log pattern.context.number) (length (known_in (members_of n log pattern.context.number) log)))
+    is_any pattern.source
+    && (not (is_revoked log pattern.context.number)
+    && has_unacked n log pattern.context.number)
 
 -- the receive at place i got this letter
 pub record Got (history : List Event) (pairing : Pairing) (i : ℕ) (letter : Letter) : Type 0 where
@@ -50,24 +57,43 @@ IsOver history pairing i pattern Revoked = IsUnpaired pairing i × StandsFirst h
 IsOver history pairing i pattern Truncated = (letter : Letter) × Got history pairing i letter × (pattern.room < length letter.body)
 IsOver history pairing i pattern _ = ⊥
 
--- the answer for the receive of this pattern at place i, by this pairing of the log's history
-abbrev pub AnswersBy : ℕ → List Entry → Pairing → ℕ → Pattern → TestAnswer → Type 0
-AnswersBy n log pairing i pattern (Done status body) =
-    (letter : Letter) × Got (history_of log) pairing i letter × (length letter.body ≤ pattern.room)
-    × (rank_in (members_of n log pattern.context.number) letter.envelope.source.number ≡ Some status.source) × (status.tag ≡ letter.envelope.tag) × (status.length ≡ length letter.body) × (body ≡ letter.body)
-AnswersBy n log pairing i pattern (Over reason) = IsOver (history_of log) pairing i pattern reason
-AnswersBy n log pairing i pattern Pending = IsUnpaired pairing i × IsOpenReceive (history_of log) i pattern × (pends n log pattern ≡ true)
-AnswersBy n log pairing i pattern NotYet = IsUnpaired pairing i × IsOpenReceive (history_of log) i pattern × (pends n log pattern ≡ false)
+-- a letter that fits the room is answered with its bytes and a status: its sender as a rank of the group, its tag and
+-- its length
+pub record IsReceived (group : List ℕ) (room : ℕ) (letter : Letter) (status : Status) (bytes : List ℕ) : Type 0 where
+  pub fits : length letter.body ≤ room
+  pub sender : rank_in group letter.envelope.source.number ≡ Some status.source
+  pub has_tag : status.tag ≡ letter.envelope.tag
+  pub has_length : status.length ≡ length letter.body
+  pub carries : bytes ≡ letter.body
+
+-- the receive of this pattern at place i is done with this status and these bytes: it got a letter that is so answered
+pub record IsDone (n : ℕ) (log : List Entry) (pairing : Pairing) (i : ℕ) (pattern : Pattern) (status : Status) (bytes : List ℕ) : Type 0 where
+  pub letter : Letter
+  pub got : Got (history_of log) pairing i letter
+  pub received : IsReceived (members_of n log pattern.context.number) pattern.room letter status bytes
+
+-- the receive of this pattern at place i got no letter and didn't end, and pends or doesn't
+pub record IsLeftWaiting (n : ℕ) (log : List Entry) (pairing : Pairing) (i : ℕ) (pattern : Pattern) (pending : Bool) : Type 0 where
+  pub unpaired : IsUnpaired pairing i
+  pub still_open : IsOpenReceive (history_of log) i pattern
+  pub pends : pends n log pattern ≡ pending
+
+-- this is the answer for the receive of this pattern at place i, by this pairing of the log's history
+abbrev pub IsAnswerBy : ℕ → List Entry → Pairing → ℕ → Pattern → TestAnswer → Type 0
+IsAnswerBy n log pairing i pattern (Done status body) = IsDone n log pairing i pattern status body
+IsAnswerBy n log pairing i pattern (Over reason) = IsOver (history_of log) pairing i pattern reason
+IsAnswerBy n log pairing i pattern Pending = IsLeftWaiting n log pairing i pattern true
+IsAnswerBy n log pairing i pattern NotYet = IsLeftWaiting n log pairing i pattern false
 
 -- the receive at place i has this pattern and number, and isn't released
 pub record IsRequest (log : List Entry) (id i : ℕ) (pattern : Pattern) : Type 0 where
   pub posted : PostAt (history_of log) i pattern
-  pub numbered : number (history_of log) i ≡ id
+  pub numbered : count_before (history_of log) i ≡ id
   pub unreleased : is_released log id ≡ false
 
 -- Each lawful pairing of the log's history gives this answer to the request.
 abbrev pub IsTestAnswer : ℕ → List Entry → ℕ → TestAnswer → Type 0
-IsTestAnswer n log id answer = (i : ℕ) (pattern : Pattern) → IsRequest log id i pattern → (pairing : Pairing) → LawfulPairing (history_of log) pairing → AnswersBy n log pairing i pattern answer
+IsTestAnswer n log id answer = (i : ℕ) (pattern : Pattern) → IsRequest log id i pattern → (pairing : Pairing) → LawfulPairing (history_of log) pairing → IsAnswerBy n log pairing i pattern answer
 
 -- the answer releases the request
 abbrev pub is_release : TestAnswer → Bool

@@ -15,8 +15,7 @@ use Rattle.ulfm_base.specs.Group.{is_member}
 use Rattle.ulfm_base.specs.RankSet.{has}
 use Rattle.ulfm_rank.specs.declared.entry.Comm.{Comm}
 use Rattle.ulfm_rank.specs.declared.entry.Entry.TheVariants.{Sent, Posted, Acknowledged, Revoked, Entered, Stopped}
-use Rattle.ulfm_rank.specs.Facts.{is_revoked, is_stopped, acknowledged_of}
-use Rattle.ulfm_rank.specs.Outboxes.{Knows}
+use Rattle.ulfm_rank.specs.Facts.{is_revoked, is_stopped, acknowledged_of, Knows}
 use Rattle.ulfm_rank.specs.Shrink.{has_proposal, IsProposal}
 use Rattle.ulfm_rank.specs.State.{State, logged}
 use Rattle.ulfm_rank.specs.Checks.{group_at}

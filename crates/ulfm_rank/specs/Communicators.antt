@@ -1,6 +1,5 @@
--- The communicators that a log made, with their groups.
-use Rattle.std.specs.Prelude.{◌≡◌, ℕ, Bool, List, [], ◌∷◌, ◌==◌, ◌<◌, Option, Some, None, is_some, All, if◌then◌else◌}
-use Rattle.ulfm_base.specs.declared.context.Context.{Context}
+-- The communicators that a log made, with their groups (MPI 4.0, 7.4.2; ULFM, shrink).
+use Rattle.std.specs.Prelude.{ℕ, Bool, List, [], ◌∷◌, ◌==◌, Option, Some, None, is_some, if◌then◌else◌}
 use Rattle.ulfm_base.specs.Context.{dup_of, shrink_of}
 use Rattle.ulfm_base.specs.Group.{numbers_from}
 use Rattle.ulfm_rank.specs.declared.entry.Entry.{Entry}
@@ -19,9 +18,9 @@ copy_of c d (comm ∷ comms) = if comm.0 == c then (d, comm.1) ∷ [] else copy_
 
 -- the communicator that an entry makes: a duplicate with its parent's group, or the new group of a shrink
 abbrev pub made_by : List Entry → List (ℕ × List ℕ) → Entry → List (ℕ × List ℕ)
-made_by before comms (Duplicated context) = copy_of context.number (dup_of context.number) comms
-made_by before comms (Adopted decision) = (shrink_of decision.context.number, decision.fresh) ∷ []
-made_by before comms _ = []
+made_by _ comms (Duplicated context) = copy_of context.number (dup_of context.number) comms
+made_by _ _ (Adopted decision) = (shrink_of decision.context.number, decision.fresh) ∷ []
+made_by _ _ _ = []
 
 -- the communicators at a rank of n with their groups, in the order in which they were made: the world's is the first
 abbrev pub comms_of : ℕ → List Entry → List (ℕ × List ℕ)
@@ -43,16 +42,3 @@ or_empty (Some group) = group
 -- the members of a context whose communicator was made
 abbrev pub members_of : ℕ → List Entry → ℕ → List ℕ
 members_of n log c = or_empty (group_of n log c)
-
--- a context by its number, with its group
-abbrev pub numbered : Context × List ℕ → ℕ × List ℕ
-numbered comm = (comm.0.number, comm.1)
-
--- each member of these communicators is a rank of the world
-abbrev pub AreOfWorld : ℕ → List (ℕ × List ℕ) → Type 0
-AreOfWorld n comms = All (λ (comm : ℕ × List ℕ). All (λ r. r < n) comm.1) comms
-
--- the communicators of a rank of n are those that its log made
-pub record HasCommunicators (n : ℕ) (log : List Entry) (comms : List (ℕ × List ℕ)) : Type 0 where
-  pub made : comms ≡ comms_of n log
-  pub of_world : AreOfWorld n comms

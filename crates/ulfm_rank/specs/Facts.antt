@@ -1,13 +1,16 @@
 -- What a log tells: which ranks are known to have failed, what was acknowledged, which contexts are revoked,
--- which requests are released, whether the rank stopped, and what it took from each rank.
-use Rattle.std.specs.Prelude.{◌≡◌, ⊤, ℕ, Bool, true, false, List, [], ◌∷◌, ◌==◌, length, min, max, filter, if◌then◌else◌}
+-- which requests are released, whether the rank stopped, and what it took from each rank (ULFM, `MPI_Comm_get_failed`,
+-- `MPI_Comm_ack_failed`, `MPI_Comm_revoke`; MPI 4.0, 3.7.3 on requests).
+use Rattle.std.specs.Prelude.{◌≡◌, ⊤, ℕ, Bool, true, false, List, [], ◌∷◌, ◌==◌, length, min, max, if◌then◌else◌}
 use Rattle.std.specs.List.{list_any, flat_map}
 use Rattle.ulfm_base.specs.declared.item.Item.{Item}
-use Rattle.ulfm_base.specs.declared.item.Item.TheVariants.{Gone, Revoke}
-use Rattle.ulfm_base.specs.Group.{is_member}
+use Rattle.ulfm_base.specs.declared.item.Item.TheVariants.{Letter as Mail, Gone, Revoke}
+use Rattle.ulfm_base.specs.Group.{is_member, intersection}
 use Rattle.ulfm_rank.specs.declared.entry.Entry.{Entry}
 use Rattle.ulfm_rank.specs.declared.entry.Entry.TheVariants.{Sent, Released, Acknowledged, Revoked, Stopped, Took}
 use Rattle.ulfm_rank.specs.Log.{gathered}
+use Rattle.ulfm_base.specs.declared.rank_set.RankSet.{RankSet}
+use Rattle.ulfm_base.specs.RankSet.{has}
 
 -- an item says that its sender stopped
 abbrev pub is_gone_item : Item → Bool
@@ -23,18 +26,18 @@ tells_gone s _ = false
 abbrev pub is_gone : List Entry → ℕ → Bool
 is_gone log s = list_any (tells_gone s) log
 
--- the sender of a notice, where it wasn't known yet
+-- the sender of a notice, where it isn't among those that were known
 abbrev pub newly_known : List Entry → List ℕ → Entry → List ℕ
-newly_known before known (Took from item) = if is_gone_item item then (if is_member known from.number then [] else from.number ∷ []) else []
-newly_known before known _ = []
+newly_known _ known (Took from item) = if is_gone_item item then (if is_member known from.number then [] else from.number ∷ []) else []
+newly_known _ _ _ = []
 
 -- the ranks that are known to have failed, in the order of the first notice from each
 abbrev pub known_of : List Entry → List ℕ
 known_of log = gathered [] newly_known log
 
 -- those of them that are members of a group, in the same order
-abbrev pub known_in : List ℕ → List Entry → List ℕ
-known_in group log = filter (λ r. is_member group r) (known_of log)
+abbrev pub known_in : List Entry → List ℕ → List ℕ
+known_in log group = intersection (known_of log) group
 
 -- an item revokes the context c
 abbrev pub item_revokes : ℕ → Item → Bool
@@ -51,6 +54,12 @@ revokes c _ = false
 abbrev pub is_revoked : List Entry → ℕ → Bool
 is_revoked log c = list_any (revokes c) log
 
+-- the context of a letter or of a revocation was revoked before
+abbrev pub revoked_before : List Entry → Item → Bool
+revoked_before log (Mail letter) = is_revoked log letter.envelope.context.number
+revoked_before log (Revoke context) = is_revoked log context.number
+revoked_before log _ = false
+
 -- the total acknowledged of c after an entry, where it was `total` before
 abbrev pub acknowledged_by : ℕ → ℕ → Entry → ℕ
 acknowledged_by c total (Acknowledged context raised) = if context.number == c then raised else total
@@ -66,8 +75,8 @@ abbrev pub acknowledged_of : List Entry → ℕ → ℕ
 acknowledged_of log c = acknowledged_from c 0 log
 
 -- what an acknowledgement of the first n failures of this group answers: never fewer than before
-abbrev pub ack_answer : List ℕ → List Entry → ℕ → ℕ → ℕ
-ack_answer group log c n = max (acknowledged_of log c) (min n (length (known_in group log)))
+abbrev pub ack_answer : List Entry → List ℕ → ℕ → ℕ → ℕ
+ack_answer log group c n = max (acknowledged_of log c) (min n (length (known_in log group)))
 
 -- an entry releases the request of this number
 abbrev pub releases : ℕ → Entry → Bool
@@ -100,3 +109,7 @@ took log s = flat_map (took_by s) log
 abbrev pub IsSigned : ℕ → Entry → Type 0
 IsSigned me (Sent to letter) = letter.envelope.source.number ≡ me
 IsSigned me _ = ⊤
+
+-- these are the ranks that are known to have failed
+abbrev pub Knows : List Entry → RankSet → Type 0
+Knows log known = (r : ℕ) → has known r ≡ is_gone log r

@@ -10,7 +10,7 @@ use Rattle.ulfm_match.specs.History.{Event, Post, Come, End, Clear}
 use Rattle.ulfm_rank.specs.declared.entry.Entry.{Entry}
 use Rattle.ulfm_rank.specs.declared.entry.Entry.TheVariants.{Posted, Revoked, Took}
 use Rattle.ulfm_rank.specs.Log.{gathered}
-use Rattle.ulfm_rank.specs.Facts.{is_gone, is_revoked}
+use Rattle.ulfm_rank.specs.Facts.{is_gone, is_revoked, revoked_before}
 
 -- the source names a rank that is known to have failed
 abbrev pub names_gone : List Entry → Source → Bool
@@ -35,22 +35,22 @@ ends_of s history = ends_from s 0 history
 abbrev pub cleared : List Entry → ℕ → List Event
 cleared before c = if is_revoked before c then [] else Clear c ∷ []
 
--- what an item that is taken from s gives
-abbrev pub item_events : List Entry → List Event → ℕ → Item → List Event
-item_events before history s (Mail letter) = if is_revoked before letter.envelope.context.number then [] else Come letter ∷ []
-item_events before history s Gone = ends_of s history
-item_events before history s (Revoke context) = cleared before context.number
-item_events before history s (Enter context known) = []
+-- what an item that is taken from s gives, whose context was revoked before or wasn't
+abbrev pub item_events : Bool → List Event → ℕ → Item → List Event
+item_events revoked history s (Mail letter) = if revoked then [] else Come letter ∷ []
+item_events revoked history s Gone = ends_of s history
+item_events revoked history s (Revoke context) = if revoked then [] else Clear context.number ∷ []
+item_events revoked history s (Enter context known) = []
 
--- what a post gives: the receive ends at once where it names a rank that is known to have failed
-abbrev pub post_events : List Entry → List Event → Pattern → List Event
-post_events before history pattern = Post pattern ∷ (if names_gone before pattern.source then End (length history) ∷ [] else [])
+-- what a post gives: the receive ends at once where its source is known to have failed
+abbrev pub post_events : Bool → List Event → Pattern → List Event
+post_events failed history pattern = Post pattern ∷ (if failed then End (length history) ∷ [] else [])
 
 -- what an entry gives, after the entries before it and their history
 abbrev pub events_by : List Entry → List Event → Entry → List Event
-events_by before history (Posted pattern) = post_events before history pattern
+events_by before history (Posted pattern) = post_events (names_gone before pattern.source) history pattern
 events_by before history (Revoked context) = cleared before context.number
-events_by before history (Took from item) = item_events before history from.number item
+events_by before history (Took from item) = item_events (revoked_before before item) history from.number item
 events_by before history _ = []
 
 -- the history of a log, read off entry by entry

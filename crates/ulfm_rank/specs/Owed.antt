@@ -1,4 +1,5 @@
--- What a log owes to each rank.
+-- What a log owes to each rank: its letters, and word of revocations and of entries into shrinks (ULFM, revoke and
+-- shrink).
 use Rattle.std.specs.Prelude.{ℕ, Bool, List, [], ◌∷◌, ◌==◌, not, ◌&&◌, if◌then◌else◌}
 use Rattle.ulfm_base.specs.declared.rank_set.RankSet.{RankSet}
 use Rattle.ulfm_base.specs.declared.context.Context.{Context}
@@ -30,11 +31,11 @@ entry_told n me before context known d = if is_member (members_of n before conte
 
 -- what an entry owes to d, after the entries before it
 abbrev pub owed_by : ℕ → ℕ → ℕ → List Entry → List Item → Entry → List Item
-owed_by n me d before owed (Sent to letter) = if to.number == d then Mail letter ∷ [] else []
-owed_by n me d before owed (Revoked context) = passed_on me before context d
-owed_by n me d before owed (Entered context known) = entry_told n me before context known d
-owed_by n me d before owed (Took from item) = owed_by_item me before d item
-owed_by n me d before owed _ = []
+owed_by n me d _ _ (Sent to letter) = if to.number == d then Mail letter ∷ [] else []
+owed_by n me d before _ (Revoked context) = passed_on me before context d
+owed_by n me d before _ (Entered context known) = entry_told n me before context known d
+owed_by n me d before _ (Took from item) = owed_by_item me before d item
+owed_by n me d _ _ _ = []
 
 -- what the log of the rank `me` of n owes to d, in order
 abbrev pub owed : ℕ → ℕ → List Entry → ℕ → List Item

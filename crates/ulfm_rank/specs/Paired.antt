@@ -1,6 +1,6 @@
 -- The one lawful pairing of a log's history.
 use Rattle.std.specs.Prelude.{◌≡◌, ℕ, List, ◌++◌, ◌↔◌, length}
-use Rattle.ulfm_match.specs.Pairing.{Pairing, Pairs, LawfulPairing, inside}
+use Rattle.ulfm_match.specs.Pairing.{Pairing, Pairs, LawfulPairing, pairs_below}
 use Rattle.ulfm_rank.specs.declared.entry.Entry.{Entry}
 use Rattle.ulfm_rank.specs.History.{history_of}
 
@@ -10,4 +10,4 @@ pub record IsPaired (log : List Entry) : Type 0 where
   pub pairing : Pairing
   pub lawful : LawfulPairing (history_of log) pairing
   pub only : (other : Pairing) → LawfulPairing (history_of log) other → (i b : ℕ) → Pairs pairing i b ↔ Pairs other i b
-  pub cut : (front rest : List Entry) → front ++ rest ≡ log → LawfulPairing (history_of front) (inside (length (history_of front)) pairing)
+  pub cut : (front rest : List Entry) → front ++ rest ≡ log → LawfulPairing (history_of front) (pairs_below (length (history_of front)) pairing)

@@ -11,7 +11,7 @@ use Rattle.ulfm_base.specs.declared.item.Item.TheVariants.{Enter}
 use Rattle.ulfm_base.specs.Group.{is_member, excluding, numbers_from}
 use Rattle.ulfm_rank.specs.declared.entry.Entry.{Entry}
 use Rattle.ulfm_rank.specs.declared.entry.Entry.TheVariants.{Entered, Adopted, Took}
-use Rattle.ulfm_rank.specs.Log.{first_of}
+use Rattle.ulfm_rank.specs.Log.{first_given}
 use Rattle.ulfm_rank.specs.Facts.{is_gone}
 use Rattle.ulfm_rank.specs.Communicators.{members_of}
 
@@ -32,7 +32,7 @@ heard_of c s _ = None
 
 -- the rank entered the shrink of c
 abbrev pub has_entered : List Entry → ℕ → Bool
-has_entered log c = is_some (first_of (entry_of c) log)
+has_entered log c = is_some (first_given (entry_of c) log)
 
 -- an entry adopts a decision on c
 abbrev pub adopts : ℕ → Entry → Bool
@@ -45,7 +45,7 @@ has_adopted log c = list_any (adopts c) log
 
 -- the set under which the member r is listed, if it is: its own entry's, or that of the first `Enter` taken from it
 abbrev pub listed_of : ℕ → List Entry → ℕ → ℕ → Option RankSet
-listed_of me log c r = if r == me then first_of (entry_of c) log else first_of (heard_of c r) log
+listed_of me log c r = if r == me then first_given (entry_of c) log else first_given (heard_of c r) log
 
 -- r is in the union of the listed sets and of what is known now
 abbrev pub is_out : ℕ → List ℕ → List Entry → ℕ → ℕ → Bool

@@ -1,4 +1,4 @@
--- What contracts see of a rank: its log, and what left each of its outboxes.
+-- What contracts see of a rank: its log, and what went out of each of its outboxes.
 use Rattle.std.specs.Prelude.{◌≡◌, ℕ, Bool, true, false, List, [], ◌∷◌, ◌++◌, ◌+◌, ◌-◌, ◌==◌, ◌<◌, ◌≤◌, if◌then◌else◌, take, drop, length, slice_index_or, slice_set, replicate}
 use Rattle.ulfm_base.specs.declared.item.Item.{Item}
 use Rattle.ulfm_base.specs.declared.item.Item.TheVariants.{Gone}
@@ -6,16 +6,16 @@ use Rattle.ulfm_rank.specs.declared.entry.Entry.{Entry}
 use Rattle.ulfm_rank.specs.Facts.{is_stopped}
 use Rattle.ulfm_rank.specs.Owed.{owed}
 
--- how many owed items left one outbox, and whether the notice of the stop did
+-- how many owed items went out of one outbox, and whether the notice of the stop did
 pub record Mark : Type 0 where
-  pub taken : ℕ
-  pub told : Bool
+  pub items_out : ℕ
+  pub notice_out : Bool
 
 -- the mark of an outbox of which nothing went out
 abbrev pub no_mark : Mark
-no_mark = record { taken = 0; told = false }
+no_mark = record { items_out = 0; notice_out = false }
 
--- a rank by its number, the number of ranks, its log, and a mark for each outbox
+-- a rank by its number, the number of ranks, its log, and how far each outbox went out
 pub record State : Type 0 where
   pub me : ℕ
   pub ranks : ℕ
@@ -49,28 +49,28 @@ owes r d = owed r.ranks r.me r.log d
 
 -- the notice of the stop, where it went out
 abbrev pub notice : Bool → List Item
-notice told = if told then Gone ∷ [] else []
+notice out = if out then Gone ∷ [] else []
 
--- what left the outbox towards d
-abbrev pub gone_out : State → ℕ → List Item
-gone_out r d = take (mark_at r d).taken (owes r d) ++ notice (mark_at r d).told
+-- what went out of the outbox towards d
+abbrev pub went_out : State → ℕ → List Item
+went_out r d = take (mark_at r d).items_out (owes r d) ++ notice (mark_at r d).notice_out
 
--- what the outbox towards d holds: what is owed and didn't leave it, or after a stop the notice, which isn't for itself
+-- what the outbox towards d holds: what is owed and didn't go out, or after a stop the notice, which isn't for itself
 abbrev pub outbox : State → ℕ → List Item
 outbox r d =
     if is_stopped r.log
-    then (if r.me == d then [] else (if (mark_at r d).told then [] else Gone ∷ []))
-    else drop (mark_at r d).taken (owes r d)
+    then (if r.me == d then [] else (if (mark_at r d).notice_out then [] else Gone ∷ []))
+    else drop (mark_at r d).items_out (owes r d)
 
--- the mark after the first item left the outbox
+-- the mark after the first item went out
 abbrev pub marked : State → Mark → Mark
-marked r m = if is_stopped r.log then record { taken = m.taken; told = true } else record { taken = m.taken + 1; told = m.told }
+marked r m = if is_stopped r.log then record { items_out = m.items_out; notice_out = true } else record { items_out = m.items_out + 1; notice_out = m.notice_out }
 
--- the mark before the item that left last
+-- the mark before the last item went out
 abbrev pub unmarked : State → Mark → Mark
-unmarked r m = if is_stopped r.log then record { taken = m.taken; told = false } else record { taken = m.taken - 1; told = m.told }
+unmarked r m = if is_stopped r.log then record { items_out = m.items_out; notice_out = false } else record { items_out = m.items_out - 1; notice_out = m.notice_out }
 
--- the rank after the first item left the outbox towards d
+-- the rank after the first item of the outbox towards d went out
 abbrev pub taken_out : State → ℕ → State
 taken_out r d = with_marks r (slice_set r.marks d (marked r (mark_at r d)))
 
@@ -83,20 +83,20 @@ pub record IsState (r : State) : Type 0 where
   pub small : r.ranks ≤ 8
   pub me : r.me < r.ranks
   pub sized : length r.marks ≡ r.ranks
-  pub within : (d : ℕ) → d < r.ranks → (mark_at r d).taken ≤ length (owes r d)
-  pub untold : is_stopped r.log ≡ false → (d : ℕ) → d < r.ranks → (mark_at r d).told ≡ false
-  pub self_untold : (mark_at r r.me).told ≡ false
+  pub within : (d : ℕ) → d < r.ranks → (mark_at r d).items_out ≤ length (owes r d)
+  pub no_notice : is_stopped r.log ≡ false → (d : ℕ) → d < r.ranks → (mark_at r d).notice_out ≡ false
+  pub no_own_notice : (mark_at r r.me).notice_out ≡ false
 
--- the last item that left the outbox towards d is this one, and it may come back
+-- the last item that went out of the outbox towards d is this one, and it may come back
 pub record MayReturn (r : State) (d : ℕ) (item : Item) : Type 0 where
   pub front : outbox (returned r d) d ≡ item ∷ outbox r d
   pub again : taken_out (returned r d) d ≡ r
 
--- from old to new this item left the outbox towards d, and may come back
-pub record Leaves (old new : State) (d : ℕ) (item : Item) : Type 0 where
+-- from old to new this item went out of the outbox towards d, and may come back
+pub record GoesOut (old new : State) (d : ℕ) (item : Item) : Type 0 where
   pub marked : new ≡ taken_out old d
   pub front : outbox old d ≡ item ∷ outbox new d
   pub may_return : MayReturn new d item
   pub comes_back : returned new d ≡ old
-  pub out : gone_out new d ≡ gone_out old d ++ item ∷ []
+  pub out : went_out new d ≡ went_out old d ++ item ∷ []
   pub keeps : IsState old → IsState new

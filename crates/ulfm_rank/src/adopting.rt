@@ -3,7 +3,7 @@ ghost use Rattle.std.specs.Prelude.{◌≡◌, ℕ, List};
 ghost use Rattle.std.specs.List.{list_any};
 ghost use Rattle.ulfm_base.specs.Group.{numbers_from};
 ghost use Rattle.ulfm_rank.specs.declared.entry.Entry.{Entry};
-ghost use Rattle.ulfm_rank.specs.Fields.{HasEntries};
+ghost use Rattle.ulfm_rank.specs.inside.Fields.{HasEntries};
 ghost use Rattle.ulfm_rank.specs.Shrink.{is_apart, differ, contradicts, is_foreign};
 
 use ulfm_base::{Context, Decision, Group, RankSet, WorldRank};

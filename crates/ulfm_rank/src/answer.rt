@@ -3,13 +3,13 @@ ghost use Rattle.std.specs.Prelude.{◌≡◌, IsSome};
 ghost use Rattle.ulfm_base.specs.Group.{rank_in};
 ghost use Rattle.ulfm_rank.specs.Answer.{is_release};
 ghost use Rattle.ulfm_rank.specs.Communicators.{find_group, or_empty};
-ghost use Rattle.ulfm_rank.specs.Fields.{pends_by};
-ghost use Rattle.ulfm_rank.specs.Table.{IsDelivered, GivesAnswer, HasSender};
+ghost use Rattle.ulfm_rank.specs.inside.Fields.{pends_by};
+ghost use Rattle.ulfm_rank.specs.inside.Table.{IsDelivered, GivesAnswer, HasSender};
 
 use crate::communicators::Communicators;
 use crate::entry::{Status, TestAnswer};
-use crate::knowing::pends;
-use crate::outcome::{Outcome, Request};
+use crate::failures::pends;
+use crate::request::{Fate, Request};
 use ulfm_base::{CallError, Group, Letter, Pattern};
 use ulfm_fault::Faults;
 
@@ -31,19 +31,19 @@ fn delivered(pattern: &Pattern, letter: Letter, group: &Group) -> TestAnswer
 
 /// The answer for a request of a communicator of this group. `pending` says whether it pends while it waits.
 pub(crate) fn answer_of(request: &Request, group: &Group, pending: bool) -> TestAnswer
-    requires { HasSender group.now request.now.outcome }
-    ensures { GivesAnswer group.now pending request.now.pattern request.now.outcome result }
+    requires { HasSender group.now request.now.fate }
+    ensures { GivesAnswer group.now pending request.now.pattern request.now.fate result }
 {
-    match request.outcome {
-        Outcome::Waiting => {
+    match request.fate {
+        Fate::Waiting => {
             if pending {
                 return TestAnswer::Pending;
             }
             TestAnswer::NotYet
         }
-        Outcome::Paired(letter) => delivered(&request.pattern, letter, group),
-        Outcome::Failed => TestAnswer::Over(CallError::ProcFailed),
-        Outcome::Cleared => TestAnswer::Over(CallError::Revoked),
+        Fate::Paired(letter) => delivered(&request.pattern, letter, group),
+        Fate::Failed => TestAnswer::Over(CallError::ProcFailed),
+        Fate::Cleared => TestAnswer::Over(CallError::Revoked),
     }
 }
 
@@ -54,8 +54,8 @@ pub(crate) fn answer_in(
     request: &Request,
 ) -> TestAnswer
     requires made { IsSome (find_group request.now.pattern.context.number communicators.now) }
-    requires sender { HasSender (or_empty (find_group request.now.pattern.context.number communicators.now)) request.now.outcome }
-    ensures { let group = or_empty (find_group request.now.pattern.context.number communicators.now) in GivesAnswer group (pends_by faults.now group request.now.pattern) request.now.pattern request.now.outcome result }
+    requires sender { HasSender (or_empty (find_group request.now.pattern.context.number communicators.now)) request.now.fate }
+    ensures { let group = or_empty (find_group request.now.pattern.context.number communicators.now) in GivesAnswer group (pends_by faults.now group request.now.pattern) request.now.pattern request.now.fate result }
 {
     let group = communicators.group_of(request.pattern.context).unwrap();
     answer_of(request, group, pends(faults, group, &request.pattern))

@@ -14,11 +14,11 @@ pub struct Communicators {
 
 impl Model for Communicators {
     ghost use Rattle.std.specs.Prelude.{ℕ, List, map};
-    ghost use Rattle.ulfm_rank.specs.Communicators.{numbered};
+    ghost use Rattle.ulfm_rank.specs.inside.Fields.{by_number};
 
     ghost Value = { List (ℕ × List ℕ) };
 
-    ghost view = { λ c. map numbered c.made.items };
+    ghost view = { λ c. map by_number c.made.items };
 }
 
 impl Communicators {

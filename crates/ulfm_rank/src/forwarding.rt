@@ -5,32 +5,31 @@ ghost use Rattle.ulfm_base.specs.Group.{is_member};
 ghost use Rattle.ulfm_base.specs.RankSet.{has};
 ghost use Rattle.ulfm_rank.specs.declared.entry.Entry.{Entry};
 ghost use Rattle.ulfm_rank.specs.Communicators.{members_of};
-ghost use Rattle.ulfm_rank.specs.Facts.{is_revoked};
-ghost use Rattle.ulfm_rank.specs.Outboxes.{AllGrow, Knows};
+ghost use Rattle.ulfm_rank.specs.Facts.{is_revoked, revoked_before, Knows};
+ghost use Rattle.ulfm_rank.specs.inside.Outboxes.{AllGrow};
 ghost use Rattle.ulfm_rank.specs.Owed.{passed_on, owed_by_item, entry_told};
-ghost use Rattle.ulfm_rank.specs.Requests.{revoked_before};
 
 use crate::members::members_of_both;
 use crate::outboxes::Outboxes;
 use ulfm_base::{Context, Item, RankSet, WorldRank};
 
 /// The ranks that something is told to: not the rank itself, nor those that are known to have failed.
-pub(crate) fn told(me: u8, known: RankSet) -> RankSet
+pub(crate) fn addressees(me: u8, known: RankSet) -> RankSet
     ensures { (d : ℕ) → d < 8 → has result d ≡ (not (me == d) && not (has known d)) }
 {
-    let mut told = RankSet::new();
+    let mut addressees = RankSet::new();
     for number in 0..8 {
         let rank = WorldRank { number };
         if number == me || known.contains(rank) {
             continue;
         }
-        told.insert(rank);
+        addressees.insert(rank);
     }
-    told
+    addressees
 }
 
-/// Leaves the first revocation of a context, whose entry stands at this place of the log, for each rank that it is told
-/// to.
+/// Puts the first revocation of a context, whose entry stands at this place of the log, into the outbox of each rank
+/// that it is told to.
 pub(crate) fn forward(
     outboxes: &mut Outboxes,
     me: u8,
@@ -43,10 +42,10 @@ pub(crate) fn forward(
     ensures { (log : List Entry) → Knows log known → is_revoked log context.number ≡ false → AllGrow outboxes.old.boxes outboxes.new.boxes place (passed_on me log context) }
 {
     let _ = context;
-    outboxes.leave_each(told(me, known), place);
+    outboxes.put_each(addressees(me, known), place);
 }
 
-/// Leaves an entry into a shrink, which stands at this place of the log, for each member that it is told to.
+/// Puts an entry into a shrink, which stands at this place of the log, into the outbox of each member that it is told to.
 pub(crate) fn announce(
     outboxes: &mut Outboxes,
     me: u8,
@@ -58,11 +57,11 @@ pub(crate) fn announce(
     requires room { IsTrue outboxes.old.room }
     ensures { (n : ℕ) (log : List Entry) (context : Context) → Knows log known → ((r : ℕ) → has members r ≡ is_member (members_of n log context.number) r) → AllGrow outboxes.old.boxes outboxes.new.boxes place (entry_told n me log context known) }
 {
-    outboxes.leave_each(members_of_both(members, told(me, known)), place);
+    outboxes.put_each(members_of_both(members, addressees(me, known)), place);
 }
 
-/// Leaves what a taken item, whose entry stands at this place of the log, owes to each rank. `revoked` says whether its
-/// context was revoked before.
+/// Puts what a taken item, whose entry stands at this place of the log, makes its taker owe into the outboxes. `revoked`
+/// says whether its context was revoked before.
 pub(crate) fn pass_on(
     outboxes: &mut Outboxes,
     me: u8,

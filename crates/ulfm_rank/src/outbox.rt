@@ -10,26 +10,26 @@ use ulfm_base::OutOfMemory;
 #[derive(Drop)]
 pub struct Outbox {
     places: Vec<usize>,
-    taken: usize,
-    told: bool,
+    items_out: usize,
+    notice_out: bool,
 }
 
 impl Model for Outbox {
     ghost use Rattle.std.specs.Prelude.{◌≤◌, length, vec_len, vec_capacity, nat_lt};
-    ghost use Rattle.ulfm_rank.specs.Outboxes.{Slot};
+    ghost use Rattle.ulfm_rank.specs.inside.Outboxes.{Slot};
 
     ghost Value = { Slot };
 
     ghost view = { λ o. record {
-      contents = record { places = o.places.items; taken = o.taken; told = o.told };
+      contents = record { places = o.places.items; items_out = o.items_out; notice_out = o.notice_out };
       room = nat_lt (vec_len o.places) (vec_capacity o.places);
     } };
 
-    ghost invariant = { λ o. o.taken ≤ length o.places.items };
+    ghost invariant = { λ o. o.items_out ≤ length o.places.items };
 }
 
 impl Outbox {
-    ghost use Rattle.ulfm_rank.specs.Outboxes.{empty_box, with_place, with_taken, with_told};
+    ghost use Rattle.ulfm_rank.specs.inside.Outboxes.{empty_box, with_place, with_items_out, with_notice_out};
 
     /// The empty outbox.
     pub fn new(alloc: Global) -> Self
@@ -37,8 +37,8 @@ impl Outbox {
     {
         Outbox {
             places: Vec::new(alloc),
-            taken: 0,
-            told: false,
+            items_out: 0,
+            notice_out: false,
         }
     }
 
@@ -64,7 +64,7 @@ impl Outbox {
     }
 
     /// Notes a place of the log behind the others.
-    pub fn leave(&mut self, place: usize)
+    pub fn put(&mut self, place: usize)
         requires { IsTrue self.old.room }
         ensures { self.new.contents ≡ with_place self.old.contents place }
     {
@@ -73,15 +73,15 @@ impl Outbox {
 
     /// The next item goes out, if there is one: answers the place of its entry.
     pub fn take_next(&mut self) -> Option<usize>
-        ensures place { IfSome result (λ place. slice_get self.old.contents.places self.old.contents.taken ≡ Some place) }
-        ensures taken { IfSome result (λ place. self.new.contents ≡ with_taken self.old.contents (self.old.contents.taken + 1)) }
-        ensures none { IfNone result (self.old.contents.taken ≡ length self.old.contents.places) }
+        ensures place { IfSome result (λ place. slice_get self.old.contents.places self.old.contents.items_out ≡ Some place) }
+        ensures taken { IfSome result (λ place. self.new.contents ≡ with_items_out self.old.contents (self.old.contents.items_out + 1)) }
+        ensures none { IfNone result (self.old.contents.items_out ≡ length self.old.contents.places) }
         ensures unchanged { IfNone result (self.new ≡ self.old) }
         ensures room { self.new.room ≡ self.old.room }
     {
-        if self.taken < self.places.len() {
-            let place = self.places[self.taken];
-            self.taken += 1;
+        if self.items_out < self.places.len() {
+            let place = self.places[self.items_out];
+            self.items_out += 1;
             Some(place)
         } else {
             None
@@ -90,32 +90,32 @@ impl Outbox {
 
     /// The item that went out last comes back.
     pub fn put_back(&mut self)
-        requires { 0 < self.old.contents.taken }
-        ensures contents { self.new.contents ≡ with_taken self.old.contents (self.old.contents.taken - 1) }
+        requires { 0 < self.old.contents.items_out }
+        ensures contents { self.new.contents ≡ with_items_out self.old.contents (self.old.contents.items_out - 1) }
         ensures room { self.new.room ≡ self.old.room }
     {
-        self.taken -= 1;
+        self.items_out -= 1;
     }
 
-    /// Whether each of its items left it.
+    /// Whether each of its items went out.
     pub fn is_drained(&self) -> bool
-        ensures { IsTrue result ↔ (self.now.contents.taken ≡ length self.now.contents.places) }
+        ensures { IsTrue result ↔ (self.now.contents.items_out ≡ length self.now.contents.places) }
     {
-        self.taken == self.places.len()
+        self.items_out == self.places.len()
     }
 
     /// Whether the notice went out.
-    pub fn is_told(&self) -> bool
-        ensures { result ≡ self.now.contents.told }
+    pub fn is_notice_out(&self) -> bool
+        ensures { result ≡ self.now.contents.notice_out }
     {
-        self.told
+        self.notice_out
     }
 
     /// Notes whether the notice went out.
-    pub fn set_told(&mut self, told: bool)
-        ensures contents { self.new.contents ≡ with_told self.old.contents told }
+    pub fn set_notice_out(&mut self, notice_out: bool)
+        ensures contents { self.new.contents ≡ with_notice_out self.old.contents notice_out }
         ensures room { self.new.room ≡ self.old.room }
     {
-        self.told = told;
+        self.notice_out = notice_out;
     }
 }

@@ -2,7 +2,7 @@
 ghost use Rattle.std.specs.Prelude.{◌≡◌, ◌==◌, ◌<◌, ◌+◌, ◌-◌, ℕ, [], length, replicate, slice_get, slice_set, IsTrue, ◌↔◌, IfNone, IfOk, IfSome, OnOk, OnErr, false};
 ghost use Rattle.ulfm_base.specs.RankSet.{has};
 ghost use Rattle.ulfm_base.specs.declared.item.Item.{Item};
-ghost use Rattle.ulfm_rank.specs.Outboxes.{empty_box, box_at, with_place, with_taken, with_told, for_each, AllGrow};
+ghost use Rattle.ulfm_rank.specs.inside.Outboxes.{empty_box, box_at, with_place, with_items_out, with_notice_out, for_each, AllGrow};
 
 use crate::outbox::Outbox;
 use std::alloc::Global;
@@ -18,7 +18,7 @@ pub struct Outboxes {
 impl Model for Outboxes {
     ghost use Rattle.std.specs.Prelude.{map};
     ghost use Rattle.std.specs.List.{list_all};
-    ghost use Rattle.ulfm_rank.specs.Outboxes.{Boxes, contents_of, has_room};
+    ghost use Rattle.ulfm_rank.specs.inside.Outboxes.{Boxes, contents_of, has_room};
 
     ghost Value = { Boxes };
 
@@ -75,17 +75,17 @@ impl Outboxes {
     }
 
     /// Notes a place of the log in the outbox towards a rank.
-    pub fn leave(&mut self, dest: WorldRank, place: usize)
+    pub fn put(&mut self, dest: WorldRank, place: usize)
         requires inside { dest.number < length self.old.boxes }
         requires room { IsTrue self.old.room }
         ensures { (item : Item) → AllGrow self.old.boxes self.new.boxes place (for_each (λ d. dest.number == d) item) }
     {
         let outbox = &mut self.slots[dest.number as usize];
-        outbox.leave(place);
+        outbox.put(place);
     }
 
     /// Notes a place of the log in the outbox towards each rank of a set.
-    pub fn leave_each(&mut self, to: RankSet, place: usize)
+    pub fn put_each(&mut self, to: RankSet, place: usize)
         requires small { length self.old.boxes < 9 }
         requires room { IsTrue self.old.room }
         ensures { (item : Item) → AllGrow self.old.boxes self.new.boxes place (for_each (has to) item) }
@@ -95,14 +95,14 @@ impl Outboxes {
                 continue;
             }
             let outbox = &mut self.slots[d];
-            outbox.leave(place);
+            outbox.put(place);
         }
     }
 
-    /// Whether each item left the outbox towards a rank.
+    /// Whether each item of the outbox towards a rank went out.
     pub fn is_drained(&self, dest: u8) -> bool
         requires { dest < length self.now.boxes }
-        ensures { IsTrue result ↔ ((box_at self.now.boxes dest).taken ≡ length (box_at self.now.boxes dest).places) }
+        ensures { IsTrue result ↔ ((box_at self.now.boxes dest).items_out ≡ length (box_at self.now.boxes dest).places) }
     {
         let outbox = &self.slots[dest as usize];
         outbox.is_drained()
@@ -111,9 +111,9 @@ impl Outboxes {
     /// The next item towards a rank goes out, if there is one: answers the place of its entry.
     pub fn take_next(&mut self, dest: u8) -> Option<usize>
         requires { dest < length self.old.boxes }
-        ensures place { IfSome result (λ place. slice_get (box_at self.old.boxes dest).places (box_at self.old.boxes dest).taken ≡ Some place) }
-        ensures taken { IfSome result (λ place. self.new.boxes ≡ slice_set self.old.boxes dest (with_taken (box_at self.old.boxes dest) ((box_at self.old.boxes dest).taken + 1))) }
-        ensures none { IfNone result ((box_at self.old.boxes dest).taken ≡ length (box_at self.old.boxes dest).places) }
+        ensures place { IfSome result (λ place. slice_get (box_at self.old.boxes dest).places (box_at self.old.boxes dest).items_out ≡ Some place) }
+        ensures taken { IfSome result (λ place. self.new.boxes ≡ slice_set self.old.boxes dest (with_items_out (box_at self.old.boxes dest) ((box_at self.old.boxes dest).items_out + 1))) }
+        ensures none { IfNone result ((box_at self.old.boxes dest).items_out ≡ length (box_at self.old.boxes dest).places) }
         ensures unchanged { IfNone result (self.new ≡ self.old) }
         ensures room { self.new.room ≡ self.old.room }
     {
@@ -124,8 +124,8 @@ impl Outboxes {
     /// The item towards a rank that went out last comes back.
     pub fn put_back(&mut self, dest: u8)
         requires inside { dest < length self.old.boxes }
-        requires taken { 0 < (box_at self.old.boxes dest).taken }
-        ensures boxes { self.new.boxes ≡ slice_set self.old.boxes dest (with_taken (box_at self.old.boxes dest) ((box_at self.old.boxes dest).taken - 1)) }
+        requires taken { 0 < (box_at self.old.boxes dest).items_out }
+        ensures boxes { self.new.boxes ≡ slice_set self.old.boxes dest (with_items_out (box_at self.old.boxes dest) ((box_at self.old.boxes dest).items_out - 1)) }
         ensures room { self.new.room ≡ self.old.room }
     {
         let outbox = &mut self.slots[dest as usize];
@@ -133,21 +133,21 @@ impl Outboxes {
     }
 
     /// Whether the notice towards a rank went out.
-    pub fn is_told(&self, dest: u8) -> bool
+    pub fn is_notice_out(&self, dest: u8) -> bool
         requires { dest < length self.now.boxes }
-        ensures { result ≡ (box_at self.now.boxes dest).told }
+        ensures { result ≡ (box_at self.now.boxes dest).notice_out }
     {
         let outbox = &self.slots[dest as usize];
-        outbox.is_told()
+        outbox.is_notice_out()
     }
 
     /// Notes whether the notice towards a rank went out.
-    pub fn set_told(&mut self, dest: u8, told: bool)
+    pub fn set_notice_out(&mut self, dest: u8, notice_out: bool)
         requires { dest < length self.old.boxes }
-        ensures boxes { self.new.boxes ≡ slice_set self.old.boxes dest (with_told (box_at self.old.boxes dest) told) }
+        ensures boxes { self.new.boxes ≡ slice_set self.old.boxes dest (with_notice_out (box_at self.old.boxes dest) notice_out) }
         ensures room { self.new.room ≡ self.old.room }
     {
         let outbox = &mut self.slots[dest as usize];
-        outbox.set_told(told);
+        outbox.set_notice_out(notice_out);
     }
 }

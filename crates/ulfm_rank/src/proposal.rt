@@ -7,8 +7,8 @@ ghost use Rattle.ulfm_base.specs.Group.{is_member};
 ghost use Rattle.ulfm_base.specs.RankSet.{has};
 ghost use Rattle.ulfm_rank.specs.Calls.{Proposes};
 ghost use Rattle.ulfm_rank.specs.Checks.{group_at};
-ghost use Rattle.ulfm_rank.specs.Fields.{HasEntries};
-ghost use Rattle.ulfm_rank.specs.Outboxes.{Knows};
+ghost use Rattle.ulfm_rank.specs.inside.Fields.{HasEntries};
+ghost use Rattle.ulfm_rank.specs.Facts.{Knows};
 ghost use Rattle.ulfm_rank.specs.Shrink.{has_entered};
 ghost use Rattle.ulfm_rank.specs.State.{State};
 

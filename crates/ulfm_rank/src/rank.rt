@@ -11,14 +11,14 @@ ghost use Rattle.std.specs.Prelude.{◌≡◌, [], IfOk, IfErr, OnOk, OnErr, Som
 ghost use Rattle.ulfm_rank.specs.Checks.{Passes, Fails, FailsOrStarves, start_checks, comm_checks};
 ghost use Rattle.ulfm_rank.specs.Communicators.{group_of};
 ghost use Rattle.ulfm_rank.specs.Facts.{is_stopped};
-ghost use Rattle.ulfm_rank.specs.Inside.{stop_places};
+ghost use Rattle.ulfm_rank.specs.inside.Rank.{stop_places};
 ghost use Rattle.ulfm_rank.specs.Paired.{IsPaired};
 ghost use Rattle.ulfm_rank.specs.State.{start_state, IsState};
 
 use crate::communicators::Communicators;
 use crate::entry::{Comm, Entry};
 use crate::outboxes::Outboxes;
-use crate::outcome::Request;
+use crate::request::Request;
 use crate::shrinks::Shrinks;
 use indexmap::IndexMap;
 use std::alloc::Global;
@@ -45,7 +45,7 @@ pub struct Rank {
 
 impl Model for Rank {
     ghost use Rattle.ulfm_rank.specs.State.{View};
-    ghost use Rattle.ulfm_rank.specs.Inside.{view_of, Holds};
+    ghost use Rattle.ulfm_rank.specs.inside.Rank.{view_of, Holds};
 
     ghost Value = { View };
 

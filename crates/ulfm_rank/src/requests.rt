@@ -1,15 +1,15 @@
 //! The table of requests beside the matcher: what posts, letters and notices do to both.
 ghost use Rattle.std.specs.Prelude.{◌≡◌, ◌+◌, ◌<◌, ◌^◌, IsTrue, nat_eq};
 ghost use Rattle.indexmap.specs.IndexMap.{get, index_map_len};
-ghost use Rattle.ulfm_rank.specs.Requests.{changed, Changes, TracksAdmit, TracksDelivery, TracksRevocation, TracksItem, over_named, over_context};
+ghost use Rattle.ulfm_rank.specs.inside.Requests.{changed, Changes, TracksAdmit, TracksDelivery, TracksRevocation, TracksItem, over_named, over_context};
 
-use crate::outcome::{Outcome, Request, outcome_of, over_context, over_named};
+use crate::request::{Fate, Request, fate_of, over_context, over_named};
 use indexmap::IndexMap;
 use ulfm_base::{Context, Item, Letter, Pattern, WorldRank};
 use ulfm_match::{Arrived, Matcher, RequestId};
 
 /// Posts a receive. Where its source is known to have failed and no kept letter is for it, it is over at once.
-pub(crate) fn admit(matcher: &mut Matcher, gone: bool, pattern: Pattern) -> (RequestId, Outcome)
+pub(crate) fn admit(matcher: &mut Matcher, gone: bool, pattern: Pattern) -> (RequestId, Fate)
     requires prepared { IsTrue matcher.old.prepared }
     requires countable { matcher.old.count + 1 < 2 ^ 64 }
     ensures number { result.0.number ≡ matcher.old.count }
@@ -19,16 +19,16 @@ pub(crate) fn admit(matcher: &mut Matcher, gone: bool, pattern: Pattern) -> (Req
     if gone {
         let _ = matcher.withdraw(id);
     }
-    (id, outcome_of(letter, gone))
+    (id, fate_of(letter, gone))
 }
 
 /// Notes what became of a receive.
-fn set_outcome(requests: &mut IndexMap<u64, Request>, id: u64, outcome: Outcome)
-    ensures change { Changes (changed id outcome) (get nat_eq requests.old) (get nat_eq requests.new) }
+fn set_fate(requests: &mut IndexMap<u64, Request>, id: u64, fate: Fate)
+    ensures change { Changes (changed id fate) (get nat_eq requests.old) (get nat_eq requests.new) }
     ensures len { index_map_len requests.new ≡ index_map_len requests.old }
 {
     if let Some(request) = requests.get_mut(&id) {
-        request.outcome = outcome;
+        request.fate = fate;
     }
 }
 
@@ -41,7 +41,7 @@ fn deliver(matcher: &mut Matcher, requests: &mut IndexMap<u64, Request>, letter:
 {
     match matcher.arrive(letter) {
         Arrived::Kept => {}
-        Arrived::Paired(id, paired) => set_outcome(requests, id.number, Outcome::Paired(paired)),
+        Arrived::Paired(id, paired) => set_fate(requests, id.number, Fate::Paired(paired)),
     }
 }
 

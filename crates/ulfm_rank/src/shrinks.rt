@@ -2,7 +2,7 @@
 ghost use Rattle.std.specs.Prelude.{◌≡◌, ◌≤◌, ℕ, List, ◌++◌, ◌∷◌, [], None, IfOk};
 ghost use Rattle.ulfm_base.specs.Decision.{entry_at};
 ghost use Rattle.ulfm_rank.specs.declared.entry.Entry.{Entry};
-ghost use Rattle.ulfm_rank.specs.Fields.{set_of, Notes, HasShrinks};
+ghost use Rattle.ulfm_rank.specs.inside.Fields.{set_of, Notes, HasShrinks};
 
 use std::alloc::Global;
 use std::marker::Model;
@@ -21,7 +21,7 @@ pub struct Shrinks {
 impl Model for Shrinks {
     ghost use Rattle.std.specs.Prelude.{List, Option};
     ghost use Rattle.ulfm_base.specs.declared.rank_set.RankSet.{RankSet};
-    ghost use Rattle.ulfm_rank.specs.Fields.{AreRows};
+    ghost use Rattle.ulfm_rank.specs.inside.Fields.{AreRows};
 
     ghost Value = { List (List (Option RankSet)) };
 

@@ -12,11 +12,11 @@ use Rattle.ulfm_base.specs.Lists.{at}
 use Rattle.ulfm_script.specs.Report.{Report}
 use Rattle.ulfm_script.specs.Deciding.{Known}
 use Rattle.ulfm_run.specs.declared.worker.Ran.{Ran}
-use Rattle.ulfm_script.specs.Answered.{HasAnswers}
-use Rattle.ulfm_laws.specs.Answers.{HaveAnswers}
+use Rattle.ulfm_script.specs.Answered.{AnswersFollow}
+use Rattle.ulfm_laws.specs.Answers.{AllAnswersFollow}
 use Rattle.ulfm_laws.specs.Flow.{inbox_of}
 use Rattle.ulfm_run.specs.Flow.{contents}
-use Rattle.ulfm_run.specs.Fields.{EachFresh, GaveAnswers, report_in, decider_in}
+use Rattle.ulfm_run.specs.inside.Threads.{EachFresh, GaveAnswers, report_in, decider_in}
 use Rattle.ulfm_base.proofs.Places.{at_view}
 
 pub fresh_first : {E : Type 0} (count : E → ℕ) (pushed taken : E → ℕ → List Item) (ready : E → Type 0) (n : ℕ) (all rest : List E) (x : E) → EachFresh count pushed taken ready n all → all ≡ x ∷ rest → IsFresh count pushed taken ready n x
@@ -52,7 +52,7 @@ same_maps {X} {Y} {Z} f g (x ∷ xs) (y ∷ ys) n h =
     ap (λ (z : Z). z ∷ map g ys) (h zero x y refl refl) ∙ ap (λ (zs : List Z). f x ∷ zs) (same_maps f g xs ys (omega (arith, n)) (λ k a b p q. h (suc k) a b p q))
 
 -- what each thread gave back has right answers, by its place in the lists of reports and of what deciders know
-pub answers_all : {E D : Type 0} (known : D → Known) (ran : List (Ran E D)) → All (GaveAnswers known) ran → (reports : List Report) (knows : List Known) → reports ≡ map report_in ran → knows ≡ map known (map decider_in ran) → HaveAnswers knows reports
+pub answers_all : {E D : Type 0} (known : D → Known) (ran : List (Ran E D)) → All (GaveAnswers known) ran → (reports : List Report) (knows : List Known) → reports ≡ map report_in ran → knows ≡ map known (map decider_in ran) → AllAnswersFollow knows reports
 answers_all {E} {D} known ran all reports knows rs ds k told it p q =
     let a = from_map report_in ran k told (ap (λ l. slice_get l k) (sym rs) ∙ p) in
     let c = from_map known (map decider_in ran) k it (ap (λ l. slice_get l k) (sym ds) ∙ q) in
@@ -60,5 +60,5 @@ answers_all {E} {D} known ran all reports knows rs ds k told it p q =
     let one : b.0 ≡ a.0 = same_Some b.0 a.0 (sym b.1 ∙ a.1) in
     let H : Ran E D → Type 0 = GaveAnswers known in
     let h : H a.0 = subst H (get_or_from_slice_get ran k a.0 a.0 a.1) (All-get_or H ran k a.0 (slice_get_within ran k a.0 a.1) all) in
-    let K : Known → Report → Type 0 = λ (x : Known) (r : Report). HasAnswers x r in
+    let K : Known → Report → Type 0 = λ (x : Known) (r : Report). AnswersFollow x r in
     subst (λ (x : Known). K x told) (ap known (ap decider_in (sym one) ∙ b.2) ∙ c.2) (subst (λ (r : Report). K (known a.0.decider) r) a.2 h)

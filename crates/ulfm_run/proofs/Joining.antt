@@ -6,12 +6,12 @@ use Rattle.ulfm_base.specs.declared.item.Item.{Item}
 use Rattle.ulfm_rank.specs.declared.entry.Entry.{Entry}
 use Rattle.ulfm_rank.specs.declared.entry.Entry.TheVariants.{Took}
 use Rattle.ulfm_rank.specs.Facts.{took, is_stopped, IsSigned}
-use Rattle.ulfm_rank.specs.State.{State, logged, gone_out, Leaves}
+use Rattle.ulfm_rank.specs.State.{State, logged, went_out, GoesOut}
 use Rattle.ulfm_script.specs.Player.{Player, View, with_rank}
-use Rattle.ulfm_run.specs.Joined.{IsJoined, Moves}
+use Rattle.ulfm_run.specs.inside.Joined.{IsJoined, Moves}
 use Rattle.ulfm_rank.proofs.Logs.{took-push, stopped-push}
 use Rattle.ulfm_rank.proofs.Quiet.{calm-took, out_other}
-use Rattle.ulfm_script.proofs.Takes.{takes-none, takes-then, takes-one}
+use Rattle.ulfm_script.proofs.Takes.{takes-none, takes-one}
 
 module _ {E N : Type 0} (name : E → N) (place count : E → ℕ) (pushed taken : E → ℕ → List Item) (ready : E → Type 0) where
   abbrev pub Joined : State → E → Type 0
@@ -33,20 +33,8 @@ module _ {E N : Type 0} (name : E → N) (place count : E → ℕ) (pushed taken
     takes = takes-none v.player.rank.log w.player.rank.log (ap (λ (p : Player). p.rank.log) same);
   }
 
-  pub moves-then : (u v w : View) (e f g : E) → Went u e v f → Went v f w g → Went u e w g
-  moves-then u v w e f g h k = record {
-    same_end = k.same_end ∙ h.same_end;
-    joined = k.joined;
-    me = k.me ∙ h.me;
-    ranks = k.ranks ∙ h.ranks;
-    stops = k.stops ∙ h.stops;
-    only = k.only ∙ ap (λ (p : Player). with_rank p w.player.rank) h.only;
-    room = k.room ∙ h.room;
-    takes = takes-then u.player.rank.log v.player.rank.log w.player.rank.log h.stops h.takes k.takes;
-  }
-
   -- the end pushed what left the outbox
-  pub moves-pushed : (v w : View) (e f : E) (d : ℕ) (item : Item) → Joined v.player.rank e → d < v.player.rank.ranks → Leaves v.player.rank w.player.rank d item → w.player ≡ with_rank v.player w.player.rank → w.room ≡ v.room →
+  pub moves-pushed : (v w : View) (e f : E) (d : ℕ) (item : Item) → Joined v.player.rank e → d < v.player.rank.ranks → GoesOut v.player.rank w.player.rank d item → w.player ≡ with_rank v.player w.player.rank → w.room ≡ v.room →
       name f ≡ name e → place f ≡ place e → count f ≡ count e → ready f → ((p : ℕ) → taken f p ≡ taken e p) → ((p : ℕ) → p ≢ d → pushed f p ≡ pushed e p) → pushed f d ≡ pushed e d ++ item ∷ [] → Went v e w f
   moves-pushed v w e f d item h inside leaves only room name_same place_same count_same is_ready taken_same others here =
       let me : w.player.rank.me ≡ v.player.rank.me = ap (λ (s : State). s.me) leaves.marked in
@@ -62,7 +50,7 @@ module _ {E N : Type 0} (name : E → N) (place count : E → ℕ) (pushed taken
           sound = leaves.keeps h.sound;
           signed = subst (λ m. S m w.player.rank.log) (sym me) (subst (λ (l : List Entry). S v.player.rank.me l) (sym log) h.signed);
           sent = λ x k. elim (cases_eq x d) [
-            | inl same ↦ ap (pushed f) same ∙ here ∙ ap (λ (xs : List Item). xs ++ item ∷ []) (h.sent d inside) ∙ sym leaves.out ∙ ap (gone_out w.player.rank) (sym same)
+            | inl same ↦ ap (pushed f) same ∙ here ∙ ap (λ (xs : List Item). xs ++ item ∷ []) (h.sent d inside) ∙ sym leaves.out ∙ ap (went_out w.player.rank) (sym same)
             | inr other ↦ others x other ∙ h.sent x (omega (arith, k, ranks)) ∙ sym (out_other v.player.rank w.player.rank d x item leaves other)
           ];
           took = λ s. taken_same s ∙ h.took s ∙ ap (λ (l : List Entry). took l s) (sym log);
@@ -141,5 +129,3 @@ module _ {E N : Type 0} (name : E → N) (place count : E → ℕ) (pushed taken
       or_none : (b : Bool) → (b || false) ≡ b
       or_none true = refl
       or_none false = refl
-
-pub ruleset going = (moves-none, moves-then, takes-none, takes-then)

@@ -8,4 +8,4 @@ pub mod Mapped
 pub mod Reporting
 pub mod Paired
 pub mod Served
-pub mod Invented
+pub mod Causes

@@ -5,10 +5,9 @@ use Rattle.std.proofs.lemmas.List.{length-map, map-append, get_or_append_left, g
 use Rattle.std.proofs.lemmas.Option.{same_Some, slice_get_within, slice_get-get_or, get_or_from_slice_get}
 use Rattle.std.proofs.Math.Seq.{map-set_same}
 use Rattle.ulfm_base.specs.declared.decision.Decision.{Decision}
-use Rattle.ulfm_board.specs.Known.{BothAgree, known_at}
-use Rattle.ulfm_board.specs.Names.{OneBoard}
+use Rattle.ulfm_board.specs.Known.{BothAgree, known_at, OneBoard}
 use Rattle.ulfm_base.specs.Lists.{at}
-use Rattle.ulfm_run.specs.Compared.{NameOneBoard}
+use Rattle.ulfm_run.specs.inside.Threads.{NameOneBoard}
 use Rattle.ulfm_laws.specs.Answers.{AllAgree, AgreeAt}
 use Rattle.ulfm_run.proofs.Handed.{from_map}
 use Rattle.ulfm_base.proofs.Places.{at_view}

@@ -3,22 +3,22 @@ use Rattle.std.proofs.Common.{◌≡◌, ℕ, ◌+◌, ◌<◌, ◌≤◌, false
 use Rattle.ulfm_base.specs.declared.context.Context.{Context}
 use Rattle.ulfm_rank.specs.Facts.{is_stopped}
 use Rattle.ulfm_rank.specs.State.{State, IsState}
-use Rattle.ulfm_script.specs.declared.step.Step.{Step}
-use Rattle.ulfm_script.specs.declared.step.Step.TheVariants.{Shrink}
+use Rattle.ulfm_job.specs.declared.step.Step.{Step}
+use Rattle.ulfm_job.specs.declared.step.Step.TheVariants.{Shrink}
 use Rattle.ulfm_script.specs.declared.answer.Called.{Called}
 use Rattle.ulfm_script.specs.declared.answer.Called.TheVariants.{Answered, NotYet}
 use Rattle.ulfm_script.specs.Deciding.{Known, IsDecided}
-use Rattle.ulfm_script.specs.Job.{Seen, IsJob, script_at}
-use Rattle.ulfm_script.specs.Player.{Polls as PollsBy, Player, View, IsCalled, Left}
-use Rattle.ulfm_script.specs.Script.{FollowsAt, left_at}
-use Rattle.ulfm_run.specs.Joined.{Polls}
-use Rattle.ulfm_rank.specs.Quiet.{Quiet}
+use Rattle.ulfm_job.specs.Job.{Seen, IsJob, script_at}
+use Rattle.ulfm_script.specs.Player.{Polls as PollsBy, Player, View, IsCalled, GivesUpStep}
+use Rattle.ulfm_script.specs.inside.Underway.{FollowsSoFar, polls_left}
+use Rattle.ulfm_run.specs.inside.Joined.{Polls}
+use Rattle.ulfm_rank.specs.inside.Quiet.{Quiet}
 use Rattle.ulfm_script.proofs.Polls.{quiet-called}
 use Rattle.ulfm_script.proofs.Advance.{ready-at, advance-called, advance-left}
 use Rattle.ulfm_script.proofs.Decisions.{ready-decided, advance-decided, quiet-decided}
 
 -- one call that is answered, or leaves the step open with polls to spare
-pub polls-call : (job : Seen) (me : ℕ) (v w : View) (asked : Step) → IsJob job → IsState v.player.rank → FollowsAt (script_at job me) job.turns v.player → is_stopped v.player.rank.log ≡ false → slice_get (script_at job me) (length v.player.done) ≡ Some asked →
+pub polls-call : (job : Seen) (me : ℕ) (v w : View) (asked : Step) → IsJob job → IsState v.player.rank → FollowsSoFar (script_at job me) job.turns v.player → is_stopped v.player.rank.log ≡ false → slice_get (script_at job me) (length v.player.done) ≡ Some asked →
     IsCalled v.player asked w.player → (w.player.current ≡ None) ⊎ (w.player.polls < job.turns) → w.room + length w.player.done ≡ v.room + length v.player.done → Polls job me v w
 polls-call job me v w asked is_job sound follows running next called few room =
     let a = advance-called (script_at job me) job.turns v.player asked w.player (omega (arith, is_job.most_turns)) (ready-at job me v.player asked is_job follows running next) called few in
@@ -30,8 +30,8 @@ answered_none Answered old asked new e h = ap (λ (p : Player). p.current) h.onl
 answered_none NotYet old asked new e h = let bad : ⊥ = cc in absurd bad
 
 -- one call that leaves its step open, which is then given up
-pub polls-leave : (job : Seen) (me : ℕ) (v u w : View) (asked : Step) → IsJob job → IsState v.player.rank → FollowsAt (script_at job me) job.turns v.player → is_stopped v.player.rank.log ≡ false → slice_get (script_at job me) (length v.player.done) ≡ Some asked →
-    IsCalled v.player asked u.player → Left u.player w.player → job.turns ≤ u.player.polls → w.room + length w.player.done ≡ v.room + length v.player.done → Polls job me v w
+pub polls-leave : (job : Seen) (me : ℕ) (v u w : View) (asked : Step) → IsJob job → IsState v.player.rank → FollowsSoFar (script_at job me) job.turns v.player → is_stopped v.player.rank.log ≡ false → slice_get (script_at job me) (length v.player.done) ≡ Some asked →
+    IsCalled v.player asked u.player → GivesUpStep u.player w.player → job.turns ≤ u.player.polls → w.room + length w.player.done ≡ v.room + length v.player.done → Polls job me v w
 polls-leave job me v u w asked is_job sound follows running next called left last room =
     let a = advance-left (script_at job me) job.turns v.player asked u.player w.player left.step (omega (arith, is_job.most_turns)) (ready-at job me v.player asked is_job follows running next) called left.was_open left last in
     let Q : State → Type 0 = λ (r : State). Quiet v.player.rank r in
@@ -39,7 +39,7 @@ polls-leave job me v u w asked is_job sound follows running next called left las
     record { quiet = subst Q (sym same) (quiet-called v.player asked u.player sound running called); follows = a.follows; room = room; falls = a.falls }
 
 -- an open shrink that is decided
-pub polls-decide : (job : Seen) (me : ℕ) (v w : View) (comm : Context) (board : Option (List ℕ)) (known later : Known) → IsState v.player.rank → FollowsAt (script_at job me) job.turns v.player → is_stopped v.player.rank.log ≡ false →
+pub polls-decide : (job : Seen) (me : ℕ) (v w : View) (comm : Context) (board : Option (List ℕ)) (known later : Known) → IsState v.player.rank → FollowsSoFar (script_at job me) job.turns v.player → is_stopped v.player.rank.log ≡ false →
     IsDecided v.player comm board known w.player later → w.room + length w.player.done ≡ v.room + length v.player.done → Polls job me v w
 polls-decide job me v w comm board known later sound follows running d room =
     let a = advance-decided (script_at job me) job.turns v.player comm board known later w.player (ready-decided (script_at job me) job.turns v.player (Shrink comm) follows running d.waits) d in
@@ -49,5 +49,5 @@ polls-decide job me v w comm board known later sound follows running d room =
 pub polls-after : (job : Seen) (me : ℕ) (v u w : View) → u.player ≡ v.player → u.room + length u.player.done ≡ v.room + length v.player.done → Polls job me u w → Polls job me v w
 polls-after job me v u w same room h =
     let Q : Player → Type 0 = λ (p : Player). Quiet p.rank w.player.rank in
-    let L : Player → Type 0 = λ (p : Player). left_at (script_at job me) job.turns w.player < left_at (script_at job me) job.turns p in
+    let L : Player → Type 0 = λ (p : Player). polls_left (script_at job me) job.turns w.player < polls_left (script_at job me) job.turns p in
     record { quiet = subst Q same h.quiet; follows = h.follows; room = h.room ∙ room; falls = subst L same h.falls }

@@ -6,22 +6,22 @@ use Rattle.ulfm_base.specs.declared.item.Item.{Item}
 use Rattle.ulfm_base.specs.declared.rank.WorldRank.{WorldRank}
 use Rattle.std.specs.declared.alloc.Global.{Global}
 use Rattle.std.specs.declared.vec.Vec.{Vec}
-use Rattle.ulfm_carrier.specs.Family.{Keeps, Settled}
+use Rattle.ulfm_carrier.specs.Family.{Keeps, IsGathered}
 use Rattle.ulfm_base.specs.Items.{items_from}
 use Rattle.ulfm_base.specs.Lists.{InPlace, at}
 use Rattle.ulfm_script.specs.Deciding.{Known}
-use Rattle.ulfm_script.specs.Job.{Seen, script_at, through_stop}
+use Rattle.ulfm_job.specs.Job.{Seen, script_at, through_stop}
 use Rattle.ulfm_script.specs.Report.{Report}
 use Rattle.ulfm_run.specs.declared.worker.Ran.{Ran}
-use Rattle.ulfm_board.specs.Names.{OneBoard}
-use Rattle.ulfm_run.specs.Compared.{NameOneBoard}
-use Rattle.ulfm_run.specs.Decided.{ShowUntrue}
+use Rattle.ulfm_board.specs.Known.{OneBoard}
+use Rattle.ulfm_run.specs.inside.Threads.{NameOneBoard, report_in, end_in, decider_in, WerePlayed, GaveAnswers}
+use Rattle.ulfm_run.specs.Fault.{ShowUntrue, Fits}
+use Rattle.ulfm_laws.specs.Causes.{RevokedByARank}
 use Rattle.ulfm_laws.specs.Shrinks.{AreTrue}
-use Rattle.ulfm_run.specs.Fields.{report_in, end_in, decider_in, Fits, WerePlayed, GaveAnswers}
-use Rattle.ulfm_run.specs.Flow.{AllCarry, contents}
-use Rattle.ulfm_run.specs.Played.{IsPlayed}
-use Rattle.ulfm_script.specs.Played.{HasPlayed}
-use Rattle.ulfm_laws.specs.Answers.{AllAgree, ArePlayed}
+use Rattle.ulfm_run.specs.Flow.{EndsMatchLogs, contents}
+use Rattle.ulfm_run.specs.inside.Played.{IsPlayed}
+use Rattle.ulfm_script.specs.Played.{FollowsScript}
+use Rattle.ulfm_laws.specs.Answers.{AllAgree, AllFollowScripts}
 use Rattle.ulfm_laws.specs.Flow.{Flows}
 use Rattle.ulfm_laws.specs.Lawful.{AreProduced}
 use Rattle.ulfm_run.proofs.Paired.{one_board_names}
@@ -59,13 +59,13 @@ module _ {E D N : Type 0} (name : E → N) (place count : E → ℕ) (pushed tak
       subst (λ (x : Report). P x f) a.2 (subst (λ (y : E). P a.0.report y) (ap end_in (sym one) ∙ b.2) (h.played k e a.0 p a.1))
 
   -- each rank went through its script
-  pub all_went : InPlace place ends → ArePlayed job (map report_in ran)
+  pub all_went : InPlace place ends → AllFollowScripts job (map report_in ran)
   all_went placed k r q =
       let a = from_map report_in ran k r q in
       let inside : k < length ran = slice_get_within ran k a.0 a.1 in
       let e = there ends k (omega (arith, inside, h.as_many)) in
       let p = h.played k e.0 a.0 e.1 a.1 in
-      let H : Report → Type 0 = λ (x : Report). HasPlayed job k x in
+      let H : Report → Type 0 = λ (x : Report). FollowsScript job k x in
       subst H a.2 (record {
         counted = p.counted;
         within = λ s l. p.joined.within s (omega (arith, l, p.counted));
@@ -81,9 +81,9 @@ module _ {E D N : Type 0} (name : E → N) (place count : E → ℕ) (pushed tak
 
   -- the flow of each pair, the order of the reports, and the lists, once the ends are gathered
   module _ (fit : Fits place job ends deciders) where
-    pub flow_all : (ranks : List Report) (after : List E) (inboxes : List (Vec (WorldRank × Item) Global)) → ranks ≡ map report_in ran → Keeps name pushed taken (map end_in ran) after → Settled pushed taken (map end_in ran) inboxes → AllCarry pushed taken ranks after inboxes
+    pub flow_all : (ranks : List Report) (after : List E) (inboxes : List (Vec (WorldRank × Item) Global)) → ranks ≡ map report_in ran → Keeps name pushed taken (map end_in ran) after → IsGathered pushed taken (map end_in ran) inboxes → EndsMatchLogs pushed taken ranks after inboxes
     flow_all ranks after inboxes is keeps settled =
-        subst (λ (rs : List Report). AllCarry pushed taken rs after inboxes) (sym is)
+        subst (λ (rs : List Report). EndsMatchLogs pushed taken rs after inboxes) (sym is)
         (carried name place count pushed taken ready job ends (map report_in ran) (map end_in ran) after inboxes (length-map ran report_in ∙ h.as_many) (length-map ran end_in ∙ h.as_many) all_played keeps settled)
 
     pub order_all : (ranks : List Report) → ranks ≡ map report_in ran → InPlace (λ (r : Report). r.rank.me) ranks
@@ -91,10 +91,10 @@ module _ {E D N : Type 0} (name : E → N) (place count : E → ℕ) (pushed tak
         subst (λ (rs : List Report). InPlace (λ (r : Report). r.rank.me) rs) (sym is)
         (ordered name place count pushed taken ready job ends (map report_in ran) (map end_in ran) (length-map ran report_in ∙ h.as_many) (length-map ran end_in ∙ h.as_many) fit.placed all_played)
 
-    pub went_all : (ranks : List Report) → ranks ≡ map report_in ran → ArePlayed job ranks
-    went_all ranks is = subst (ArePlayed job) (sym is) (all_went fit.placed)
+    pub went_all : (ranks : List Report) → ranks ≡ map report_in ran → AllFollowScripts job ranks
+    went_all ranks is = subst (AllFollowScripts job) (sym is) (all_went fit.placed)
 
-    pub sizes_all : (after : List E) (kept : List D) (inboxes : List (Vec (WorldRank × Item) Global)) → Keeps name pushed taken (map end_in ran) after → Settled pushed taken (map end_in ran) inboxes → map board kept ≡ map board (map decider_in ran) →
+    pub sizes_all : (after : List E) (kept : List D) (inboxes : List (Vec (WorldRank × Item) Global)) → Keeps name pushed taken (map end_in ran) after → IsGathered pushed taken (map end_in ran) inboxes → map board kept ≡ map board (map decider_in ran) →
         (length inboxes ≡ job.ranks) × (length after ≡ job.ranks) × (length kept ≡ job.ranks)
     sizes_all after kept inboxes keeps settled held =
         let many : length ran ≡ job.ranks = h.as_many ∙ fit.end_each in
@@ -105,7 +105,7 @@ module _ {E D N : Type 0} (name : E → N) (place count : E → ℕ) (pushed tak
         )
 
     -- what is left is what the ends that came back show
-    pub settled_all : (after : List E) (inboxes : List (Vec (WorldRank × Item) Global)) → Keeps name pushed taken (map end_in ran) after → Settled pushed taken (map end_in ran) inboxes → Settled pushed taken after inboxes
+    pub settled_all : (after : List E) (inboxes : List (Vec (WorldRank × Item) Global)) → Keeps name pushed taken (map end_in ran) after → IsGathered pushed taken (map end_in ran) inboxes → IsGathered pushed taken after inboxes
     settled_all after inboxes keeps settled =
         let many : length (map end_in ran) ≡ length after = sym (length-map (map end_in ran) name) ∙ ap length (sym keeps.names) ∙ length-map after name in
         record {
@@ -129,8 +129,8 @@ module _ {E D N : Type 0} (name : E → N) (place count : E → ℕ) (pushed tak
     board_all one = subst NameOneBoard (sym (same_boards (fit.decider_each ∙ sym fit.end_each))) (one_board_names board deciders one)
 
     -- what the threads gave back is what an engine has to produce
-    pub produced_all : (known : D → Known) → All (GaveAnswers known) ran → (ranks : List Report) (knows : List Known) (inboxes : List (Vec (WorldRank × Item) Global)) → ranks ≡ map report_in ran → knows ≡ map known (map decider_in ran) → Settled pushed taken (map end_in ran) inboxes → AllAgree knows → AreTrue ranks → AreProduced job (contents inboxes) knows ranks
-    produced_all known answers ranks knows inboxes is held settled agreed true = record {
+    pub produced_all : (known : D → Known) → All (GaveAnswers known) ran → (ranks : List Report) (knows : List Known) (inboxes : List (Vec (WorldRank × Item) Global)) → ranks ≡ map report_in ran → knows ≡ map known (map decider_in ran) → IsGathered pushed taken (map end_in ran) inboxes → AllAgree knows → AreTrue ranks → RevokedByARank ranks → AreProduced job (contents inboxes) knows ranks
+    produced_all known answers ranks knows inboxes is held settled agreed true revoked = record {
       each = ap length is ∙ length-map ran report_in ∙ h.as_many ∙ fit.end_each;
       known_each = ap length held ∙ length-map (map decider_in ran) known ∙ length-map ran decider_in ∙ h.as_many ∙ fit.end_each;
       order = order_all ranks is;
@@ -140,10 +140,11 @@ module _ {E D N : Type 0} (name : E → N) (place count : E → ℕ) (pushed tak
       answers = answers_all known ran answers ranks knows is held;
       agreed = agreed;
       decisions = true;
+      revoked = revoked;
     }
 
-    -- reports that show a decision that isn't true
-    pub untrue_all : (known : D → Known) → All (GaveAnswers known) ran → (ranks : List Report) → ranks ≡ map report_in ran → (AreTrue ranks → ⊥) → ShowUntrue job ranks
+    -- reports that show a decision that isn't true, or a revocation without a cause
+    pub untrue_all : (known : D → Known) → All (GaveAnswers known) ran → (ranks : List Report) → ranks ≡ map report_in ran → (AreTrue ranks × RevokedByARank ranks → ⊥) → ShowUntrue job ranks
     untrue_all known answers ranks is untrue = record {
       each = ap length is ∙ length-map ran report_in ∙ h.as_many ∙ fit.end_each;
       order = order_all ranks is;

@@ -5,29 +5,29 @@ use Rattle.std.proofs.lemmas.Option.{slice_get_within}
 use Rattle.std.proofs.lemmas.List.{length-map}
 use Rattle.ulfm_base.specs.declared.item.Item.{Item}
 use Rattle.ulfm_rank.specs.Facts.{is_stopped, IsSigned}
-use Rattle.ulfm_rank.specs.Paired.{IsPaired}
 use Rattle.ulfm_rank.specs.State.{State}
 use Rattle.ulfm_script.specs.declared.answer.StepReport.{StepReport}
-use Rattle.ulfm_script.specs.declared.step.Step.{Step}
-use Rattle.ulfm_script.specs.Job.{Seen, script_at, through_stop}
-use Rattle.ulfm_script.specs.Player.{Player, View}
+use Rattle.ulfm_job.specs.declared.step.Step.{Step}
+use Rattle.ulfm_job.specs.Job.{Seen, script_at, through_stop}
+use Rattle.ulfm_script.specs.Player.{Player, View, with_rank}
 use Rattle.ulfm_script.specs.Report.{Report}
 use Rattle.ulfm_script.specs.Deciding.{Known}
-use Rattle.ulfm_script.specs.Answered.{HasAnswers}
-use Rattle.ulfm_script.specs.Honest.{IsHonest}
-use Rattle.ulfm_script.proofs.Honestly.{honest-moved, honest-answers}
-use Rattle.ulfm_run.specs.Joined.{IsJoined, Moves, Polls, IsAtWork}
-use Rattle.ulfm_run.specs.Played.{IsPlayed}
-use Rattle.ulfm_script.specs.Script.{step_of, steps_done, IsPatient, FollowsAt, HasAnswered}
+use Rattle.ulfm_script.specs.inside.SoFar.{AnswersFollowSoFar}
+use Rattle.ulfm_script.proofs.Honestly.{honest-moved}
+use Rattle.ulfm_run.specs.inside.Joined.{IsJoined, Moves, Polls, IsAtWork}
+use Rattle.ulfm_run.specs.inside.Turns.{IsOver, WentOn, IsAsFar, Keeps, Carries, keeps-then}
+use Rattle.ulfm_run.specs.inside.Played.{IsPlayed}
+use Rattle.ulfm_script.specs.Script.{reported_step, steps_done, IsPatient, HasFinished}
+use Rattle.ulfm_script.specs.inside.Underway.{FollowsSoFar, polls_left}
 use Rattle.ulfm_script.proofs.Progress.{follows-rank, through-none}
 
 -- a player that stopped, or has no step left, answered its script
-pub has-answered : (script : List Step) (turns : ℕ) (p : Player) → FollowsAt script turns p → (is_stopped p.rank.log ≡ true) ⊎ (length script ≤ length p.done) → HasAnswered script turns p
+pub has-answered : (script : List Step) (turns : ℕ) (p : Player) → FollowsSoFar script turns p → IsOver script p → HasFinished script turns p
 has-answered script turns p h over = elim (stops (is_stopped p.rank.log) refl) [
   | inl stopped ↦ record { steps = (h.stopped stopped).0; patient = h.patient; closed = (h.stopped stopped).1 }
   | inr running ↦
       let all : length script ≤ length p.done = elim over [ inl stopped ↦ absurd (false≢true (sym running ∙ stopped)) | inr k ↦ k ] in
-      let none : h.rest ≡ [] = empty h.rest (omega (arith, all, ap length h.split, length-append (steps_done p) h.rest, length-map p.done step_of)) in
+      let none : h.rest ≡ [] = empty h.rest (omega (arith, all, ap length h.split, length-append (steps_done p) h.rest, length-map p.done reported_step)) in
       let whole : steps_done p ≡ script = sym (append-nil (steps_done p)) ∙ ap (λ (ys : List Step). steps_done p ++ ys) (sym none) ∙ h.split in
       record { steps = whole ∙ sym (ap through_stop (sym whole) ∙ through-none (steps_done p) (h.running running) ∙ whole); patient = h.patient; closed = none_open p.current h.current all }
 ]
@@ -44,6 +44,25 @@ has-answered script turns p h over = elim (stops (is_stopped p.rank.log) refl) [
     empty [] k = refl
     empty (x ∷ xs) k = absurd (omega (arith, k))
 
+-- what a rank took and what went out leaves as many polls
+as-far : (script : List Step) (turns : ℕ) (u v : Player) → v ≡ with_rank u v.rank → is_stopped v.rank.log ≡ is_stopped u.rank.log → IsAsFar script turns u v
+as-far script turns u v only stops =
+    let done : length v.done ≡ length u.done = ap (λ (p : Player). length p.done) only in
+    record {
+      left = ap (polls_left script turns) only;
+      over = λ o. elim o [ inl e ↦ inl (stops ∙ e) | inr k ↦ inr (omega (arith, k, done)) ];
+      was_over = λ o. elim o [ inl e ↦ inl (sym stops ∙ e) | inr k ↦ inr (omega (arith, k, done)) ];
+    }
+
+-- and a poll after it goes as one before
+pub went-after : (script : List Step) (turns : ℕ) (b : Bool) (u v w : Player) → IsAsFar script turns u v → WentOn script turns v w b → WentOn script turns u w b
+went-after script turns true u v w far h = (λ over. h.0 (far.over over), omega (arith, h.1, far.left))
+went-after script turns false u v w far h = (h.0, h.1 ∙ far.left)
+
+-- a rank that runs and has a step left isn't over
+pub not-over : (script : List Step) (p : Player) (asked : Step) → is_stopped p.rank.log ≡ false → slice_get script (length p.done) ≡ Some asked → ¬ IsOver script p
+not-over script p asked running next over = elim over [ inl e ↦ false≢true (sym running ∙ e) | inr k ↦ omega (arith, k, slice_get_within script (length p.done) asked next) ]
+
 module _ {E N : Type 0} (name : E → N) (place count : E → ℕ) (pushed taken : E → ℕ → List Item) (ready : E → Type 0) (job : Seen) (me : ℕ) where
   abbrev pub AtWork : View → E → Type 0
   AtWork v e = IsAtWork place count pushed taken ready job me v e
@@ -51,7 +70,7 @@ module _ {E N : Type 0} (name : E → N) (place count : E → ℕ) (pushed taken
   -- what moves between a player and its end keeps the rank at work
   pub at-work-moved : (v w : View) (e f : E) → AtWork v e → Moves name place count pushed taken ready v e w f → AtWork w f
   at-work-moved v w e f h m =
-      let F : Player → Type 0 = λ (p : Player). FollowsAt (script_at job me) job.turns p in
+      let F : Player → Type 0 = λ (p : Player). FollowsSoFar (script_at job me) job.turns p in
       record {
         joined = m.joined;
         named = m.me ∙ h.named;
@@ -61,10 +80,30 @@ module _ {E N : Type 0} (name : E → N) (place count : E → ℕ) (pushed taken
       }
 
   -- and leaves its answers right
-  pub honest-went : (known : Known) (v w : View) (e f : E) → Moves name place count pushed taken ready v e w f → IsHonest known v.player → IsHonest known w.player
+  pub honest-went : (known : Known) (v w : View) (e f : E) → Moves name place count pushed taken ready v e w f → AnswersFollowSoFar known v.player → AnswersFollowSoFar known w.player
   honest-went known v w e f m h = honest-moved known v.player w.player h m.only m.me m.ranks m.stops m.takes
 
-  -- so does a poll
+  -- so items that move are carried
+  pub carried : {D B : Type 0} (board : D → B) (known : D → Known) (v w : View) (e f : E) (d : D) → Moves name place count pushed taken ready v e w f → Carries name place count pushed taken ready board known job me v e d w f d
+  carried board known v w e f d m = record {
+    keeps = record { at_work = λ h. at-work-moved v w e f h m; same_end = m.same_end; same_board = refl; honest = honest-went (known d) v w e f m };
+    as_far = as-far (script_at job me) job.turns v.player w.player m.only m.stops;
+  }
+
+  -- what keeps the rank at work is followed by what does so too
+  pub goes-on : {D B : Type 0} (board : D → B) (known : D → Known) (i : Seen) (s : ℕ) (u v w : View) (e f g : E) (c d b : D) (p : Bool) → i ≡ job → s ≡ me → Keeps name place count pushed taken ready board known job me u e c v f d → Keeps name place count pushed taken ready board known i s v f d w g b → WentOn (script_at i s) i.turns v.player w.player p →
+      Keeps name place count pushed taken ready board known job me u e c w g b × WentOn (script_at job me) job.turns v.player w.player p
+  goes-on board known i s u v w e f g c d b p at_job at_rank h polls went =
+      let K : Seen → ℕ → Type 0 = λ (j : Seen) r. Keeps name place count pushed taken ready board known j r v f d w g b × WentOn (script_at j r) j.turns v.player w.player p in
+      let k = subst (λ (j : Seen). K j me) at_job (subst (λ r. K i r) at_rank (polls, went)) in
+      (keeps-then name place count pushed taken ready board known job me u v w e f g c d b h k.0, k.1)
+
+  -- a turn: its parts before the poll, and the poll
+  pub turned : {D B : Type 0} (board : D → B) (known : D → Known) (i : Seen) (s : ℕ) (u v w : View) (e f g : E) (c d b : D) (p : Bool) → i ≡ job → s ≡ me → Carries name place count pushed taken ready board known job me u e c v f d → Keeps name place count pushed taken ready board known i s v f d w g b → WentOn (script_at i s) i.turns v.player w.player p → WentOn (script_at job me) job.turns u.player w.player p
+  turned board known i s u v w e f g c d b p at_job at_rank h polls went =
+      went-after (script_at job me) job.turns p u.player v.player w.player h.as_far (goes-on board known i s u v w e f g c d b p at_job at_rank h.keeps polls went).1
+
+  -- a poll keeps the rank at work too
   pub at-work-polled : (v w : View) (e : E) → AtWork v e → Polls job me v w → AtWork w e
   at-work-polled v w e h p =
       let q = p.quiet in
@@ -87,21 +126,14 @@ module _ {E N : Type 0} (name : E → N) (place count : E → ℕ) (pushed taken
       }
 
   -- what was played is reported
-  pub played : (v w : View) (first e f : E) (report : Report) → place first ≡ me → name e ≡ name first → AtWork v e → HasAnswered (script_at job me) job.turns v.player → Moves name place count pushed taken ready v e w f → report.rank ≡ w.player.rank → report.steps ≡ w.player.done → IsPlayed name place count pushed taken ready job first report f
-  played v w first e f report at same h answered m rank steps =
-      let done : w.player.done ≡ v.player.done = ap (λ (p : Player). p.done) m.only in
-      let J : State → Type 0 = λ (r : State). IsJoined place count pushed taken ready r f in
+  pub played : (v : View) (first e : E) (report : Report) → place first ≡ me → name e ≡ name first → AtWork v e → HasFinished (script_at job me) job.turns v.player → report.rank ≡ v.player.rank → report.steps ≡ v.player.done → IsPlayed name place count pushed taken ready job first report e
+  played v first e report at same h answered rank steps =
+      let J : State → Type 0 = λ (r : State). IsJoined place count pushed taken ready r e in
       record {
-        same_end = m.same_end ∙ same;
-        joined = subst J (sym rank) m.joined;
-        named = ap (λ (r : State). r.me) rank ∙ m.me ∙ h.named ∙ sym at;
-        counted = ap (λ (r : State). r.ranks) rank ∙ m.ranks ∙ h.counted;
-        steps = ap (map step_of) (steps ∙ done) ∙ answered.steps ∙ ap (λ i. through_stop (script_at job i)) (sym at);
-        patient = subst (λ (xs : List StepReport). All (IsPatient job.turns) xs) (sym (steps ∙ done)) answered.patient;
+        same_end = same;
+        joined = subst J (sym rank) h.joined;
+        named = ap (λ (r : State). r.me) rank ∙ h.named ∙ sym at;
+        counted = ap (λ (r : State). r.ranks) rank ∙ h.counted;
+        steps = ap (map reported_step) steps ∙ answered.steps ∙ ap (λ i. through_stop (script_at job i)) (sym at);
+        patient = subst (λ (xs : List StepReport). All (IsPatient job.turns) xs) (sym steps) answered.patient;
       }
-
-  -- and its answers are right
-  pub told : (known : Known) (v w : View) (e f : E) (report : Report) → IsHonest known v.player → HasAnswered (script_at job me) job.turns v.player → Moves name place count pushed taken ready v e w f → report.rank ≡ w.player.rank → report.steps ≡ w.player.done → IsPaired w.player.rank.log → HasAnswers known report
-  told known v w e f report h answered m rank steps paired =
-      let none : w.player.current ≡ None = ap (λ (p : Player). p.current) m.only ∙ answered.closed in
-      honest-answers known w.player report (honest-went known v w e f m h) none rank steps paired

@@ -17,13 +17,15 @@ contents inboxes = map (λ (v : Vec (WorldRank × Item) Global). v.items) inboxe
 
 -- What the log of d took from s is what its end took from s. This, and then what is left of s in the inbox of d, is what
 -- the end of s pushed to d.
-pub record Carries {E : Type 0} (pushed taken : E → ℕ → List Item) (s d : ℕ) (receiver : State) (out inlet : E) (left : List Item) : Type 0 where
+pub record PairMatchesLogs {E : Type 0} (pushed taken : E → ℕ → List Item) (s d : ℕ) (receiver : State)
+    (out inlet : E) (left : List Item) : Type 0 where
   pub same_taken : taken inlet s ≡ took receiver.log s
   pub same_pushed : pushed out d ≡ took receiver.log s ++ left
 
 -- the same for each ordered pair of ranks
-abbrev pub AllCarry : {E : Type 0} → (E → ℕ → List Item) → (E → ℕ → List Item) → List Report → List E → List (Vec (WorldRank × Item) Global) → Type 0
-AllCarry {E} pushed taken reports ends inboxes =
+abbrev pub EndsMatchLogs : {E : Type 0} → (E → ℕ → List Item) → (E → ℕ → List Item) → List Report → List E
+    → List (Vec (WorldRank × Item) Global) → Type 0
+EndsMatchLogs {E} pushed taken reports ends inboxes =
     (s d : ℕ) (receiver : Report) (out inlet : E) (inbox : Vec (WorldRank × Item) Global)
     → at reports d receiver → at ends s out → at ends d inlet → at inboxes d inbox
-    → Carries pushed taken s d receiver.rank out inlet (items_from s inbox.items)
+    → PairMatchesLogs pushed taken s d receiver.rank out inlet (items_from s inbox.items)

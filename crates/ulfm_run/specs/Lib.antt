@@ -1,6 +1,4 @@
-pub mod Joined
-pub mod Played
 pub mod Flow
-pub mod Fields
-pub mod Decided
-pub mod Compared
+pub mod Fault
+pub mod inside
+pub mod Caused

@@ -1,7 +1,7 @@
 //! The decisions that ranks adopted, held against what the ranks report (ULFM, shrink).
 ghost use Rattle.std.specs.Prelude.{◌≡◌, ◌↔◌, ℕ, IsTrue, Some, slice_get};
 ghost use Rattle.ulfm_rank.specs.declared.entry.Entry.{Entry as Logged};
-ghost use Rattle.ulfm_rank.specs.Log.{first_of};
+ghost use Rattle.ulfm_rank.specs.Log.{first_given};
 ghost use Rattle.ulfm_rank.specs.Shrink.{entry_of};
 ghost use Rattle.ulfm_laws.specs.Shrinks.{AreTrue, AdoptsTruly, IsTrueOf, ExcludesStopped, ListsTruly, StoppedAt, EnteredWith};
 
@@ -104,7 +104,7 @@ fn has_stopped(reports: &[RankReport], rank: WorldRank) -> bool
 
 /// The failures with which a log enters the shrink of a communicator, if it does.
 fn entry_of(log: &[Entry], context: Context) -> Option<RankSet>
-    ensures { result ≡ first_of (entry_of context.number) log.now }
+    ensures { result ≡ first_given (entry_of context.number) log.now }
 {
     for entry in log {
         let known = entered_by(entry, context);

@@ -3,20 +3,19 @@ ghost use Rattle.std.specs.Prelude.{◌≡◌, ◌≤◌, ◌↔◌, [], ℕ, Al
 ghost use Rattle.std.specs.declared.alloc.Global.{Global as Heap};
 ghost use Rattle.std.specs.declared.vec.Vec.{Vec as Listed};
 ghost use Rattle.ulfm_base.specs.Lists.{InPlace, at};
-ghost use Rattle.ulfm_board.specs.Known.{nothing_known};
-ghost use Rattle.ulfm_board.specs.Names.{OneBoard};
-ghost use Rattle.ulfm_carrier.specs.Family.{AllFresh, Keeps, Settled};
+ghost use Rattle.ulfm_board.specs.Known.{nothing_known, OneBoard};
+ghost use Rattle.ulfm_carrier.specs.Family.{AllFresh, Keeps, IsGathered};
 ghost use Rattle.ulfm_laws.specs.Answers.{AllAgree};
+ghost use Rattle.ulfm_laws.specs.Causes.{RevokedByARank};
 ghost use Rattle.ulfm_laws.specs.Lawful.{LawfulReport};
 ghost use Rattle.ulfm_laws.specs.Reports.{IsEach};
 ghost use Rattle.ulfm_laws.specs.Shrinks.{AreTrue};
-ghost use Rattle.ulfm_run.specs.Compared.{NameOneBoard};
-ghost use Rattle.ulfm_run.specs.Decided.{ShowUntrue};
-ghost use Rattle.ulfm_run.specs.Fields.{report_in, end_in, decider_in, Fits};
-ghost use Rattle.ulfm_run.specs.Flow.{AllCarry, contents};
+ghost use Rattle.ulfm_run.specs.inside.Threads.{NameOneBoard, report_in, end_in, decider_in};
+ghost use Rattle.ulfm_run.specs.Fault.{ShowUntrue, Fits};
+ghost use Rattle.ulfm_run.specs.Flow.{EndsMatchLogs, contents};
 ghost use Rattle.ulfm_script.specs.Report.{Report as Told};
 
-use crate::adopted::are_true;
+use crate::caused::are_borne_out;
 use crate::comparing::compared;
 use crate::report::Report;
 use crate::threads::{Unplayed, play_all};
@@ -32,15 +31,16 @@ use ulfm_script::{Job, RankReport, RunFault};
 /// number. In a turn a rank pushes all that its outboxes hold and the inboxes have room for, takes one item, and polls its
 /// step once; a step that the job's last poll for it left open is given up. After its last step it goes on for as many
 /// turns without polls; where it stopped, it pushes alone, until nothing is left to go out. Then the decisions that ranks
-/// adopted are held against what the ranks report, what is left in the inboxes is gathered, and the deciders are compared:
-/// no two know two decisions of one shrink.
+/// adopted, and the revocations that they took notice of, are held against what the ranks report. What is left in the inboxes
+/// is gathered, and the deciders are compared: no two know two decisions of one shrink.
 ///
 /// # Errors
 ///
 /// `BadEnds` where the number of ends or of deciders isn't that of the ranks, or an end stands at another place than its
 /// number; no thread is started then. `NoThread` where a thread couldn't be started, `OutOfMemory` where a growth outside the
 /// turns of the ranks was refused, `Untrue` where a decision that a rank adopted lists a set that isn't that of its rank's
-/// own entry, or excludes a rank that didn't stop; the threads that were started have run to their end then.
+/// own entry, or excludes a rank that didn't stop, or where a rank took notice of a revocation that no rank's own call made;
+/// the threads that were started have run to their end then.
 pub fn run_job<E, D, R>(
     rt: &R,
     alloc: Global,
@@ -61,8 +61,8 @@ where
     ensures misfits { IfErr result (λ fault. fault ≡ RunFault.BadEnds → Fits E.place job.now ends.items deciders.items → ⊥) }
     ensures untrue { IfErr result (λ fault. (reports : Listed Told Heap) → fault ≡ RunFault.Untrue reports → ShowUntrue job.now reports.items) }
     ensures sizes { IfOk result (λ report. IsEach job.now report.residue.inboxes.items × IsEach job.now report.ends.items × IsEach job.now report.deciders.items) }
-    ensures flow { IfOk result (λ report. AllCarry E.pushed E.taken report.ranks.items report.ends.items report.residue.inboxes.items) }
-    ensures residue { IfOk result (λ report. Settled E.pushed E.taken report.ends.items report.residue.inboxes.items) }
+    ensures flow { IfOk result (λ report. EndsMatchLogs E.pushed E.taken report.ranks.items report.ends.items report.residue.inboxes.items) }
+    ensures residue { IfOk result (λ report. IsGathered E.pushed E.taken report.ends.items report.residue.inboxes.items) }
     ensures same_ends { IfOk result (λ report. map E.name report.ends.items ≡ map E.name ends.items) }
     ensures same_boards { IfOk result (λ report. map D.board report.deciders.items ≡ map D.board deciders.items) }
     ensures lawful { IfOk result (λ report. LawfulReport job.now (contents report.residue.inboxes.items) (map D.known report.deciders.items) report.ranks.items) }
@@ -90,12 +90,13 @@ fn report_of<E: Ends, D: Decider, R: Wait>(
     requires one_board { NameOneBoard (map D.board (map decider_in ran.items)) }
     ensures ranks { IfOk result (λ report. report.ranks.items ≡ map report_in ran.items) }
     ensures same { IfOk result (λ report. Keeps E.name E.pushed E.taken (map end_in ran.items) report.ends.items) }
-    ensures residue { IfOk result (λ report. Settled E.pushed E.taken (map end_in ran.items) report.residue.inboxes.items) }
+    ensures residue { IfOk result (λ report. IsGathered E.pushed E.taken (map end_in ran.items) report.residue.inboxes.items) }
     ensures boards { IfOk result (λ report. map D.board report.deciders.items ≡ map D.board (map decider_in ran.items)) }
     ensures known { IfOk result (λ report. map D.known report.deciders.items ≡ map D.known (map decider_in ran.items)) }
     ensures agree { IfOk result (λ report. AllAgree (map D.known report.deciders.items)) }
     ensures decisions { IfOk result (λ report. AreTrue report.ranks.items) }
-    ensures untrue { IfErr result (λ fault. (reports : Listed Told Heap) → fault ≡ RunFault.Untrue reports → (reports.items ≡ map report_in ran.items) × (AreTrue reports.items → ⊥)) }
+    ensures revoked { IfOk result (λ report. RevokedByARank report.ranks.items) }
+    ensures untrue { IfErr result (λ fault. (reports : Listed Told Heap) → fault ≡ RunFault.Untrue reports → (reports.items ≡ map report_in ran.items) × (AreTrue reports.items × RevokedByARank reports.items → ⊥)) }
     ensures fits { IfErr result (λ fault. fault ≡ RunFault.BadEnds → ⊥) }
 {
     let count = ran.len();
@@ -103,7 +104,7 @@ fn report_of<E: Ends, D: Decider, R: Wait>(
     let ends = room_for(alloc, count)?;
     let deciders = room_for(alloc, count)?;
     let (ranks, ends, deciders) = parted(ran, reports, ends, deciders);
-    if !are_true(&ranks) {
+    if !are_borne_out(&ranks) {
         return Err(RunFault::Untrue(ranks));
     }
     let (residue, ends) = E::gather(rt, ends);

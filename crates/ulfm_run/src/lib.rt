@@ -3,14 +3,13 @@
 #![tactic(auto)]
 
 mod adopted;
+mod at_work;
+mod caused;
 mod comparing;
 mod job;
-mod moving;
 mod polling;
 mod report;
 mod rest;
-#[cfg(test)]
-mod tests;
 mod threads;
 mod worker;
 

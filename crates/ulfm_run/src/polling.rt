@@ -4,10 +4,10 @@ ghost use Rattle.std.specs.Bool.{OnTrue};
 ghost use Rattle.ulfm_rank.specs.Facts.{is_stopped};
 ghost use Rattle.ulfm_rank.specs.State.{IsState};
 ghost use Rattle.ulfm_script.specs.Deciding.{Known};
-ghost use Rattle.ulfm_script.specs.Job.{script_at};
-ghost use Rattle.ulfm_script.specs.Honest.{IsHonest, IsUndecided};
-ghost use Rattle.ulfm_run.specs.Joined.{Polls};
-ghost use Rattle.ulfm_script.specs.Script.{FollowsAt};
+ghost use Rattle.ulfm_job.specs.Job.{script_at};
+ghost use Rattle.ulfm_script.specs.inside.SoFar.{AnswersFollowSoFar, IsUndecided};
+ghost use Rattle.ulfm_run.specs.inside.Joined.{Polls};
+ghost use Rattle.ulfm_script.specs.inside.Underway.{FollowsSoFar};
 
 use ulfm_board::Decider;
 use ulfm_script::{Called, Decided, Job, Player, Step};
@@ -22,12 +22,12 @@ pub(crate) fn poll<D: Decider>(
     step: &Step,
 ) -> bool
     requires sound { IsState player.old.player.rank }
-    requires follows { FollowsAt (script_at job.now me) job.now.turns player.old.player }
+    requires follows { FollowsSoFar (script_at job.now me) job.now.turns player.old.player }
     requires room { length (script_at job.now me) ≤ player.old.room + length player.old.player.done }
     requires running { is_stopped player.old.player.rank.log ≡ false }
     requires next { slice_get (script_at job.now me) (length player.old.player.done) ≡ Some step.now }
     ensures polls { Polls job.now me player.old player.new }
-    ensures honest { IsHonest (D.known decider.old) player.old.player → IsHonest (D.known decider.new) player.new.player }
+    ensures honest { AnswersFollowSoFar (D.known decider.old) player.old.player → AnswersFollowSoFar (D.known decider.new) player.new.player }
     ensures board { D.board decider.new ≡ D.board decider.old }
 {
     if decide(job, me, player, decider, step) {
@@ -39,11 +39,11 @@ pub(crate) fn poll<D: Decider>(
 /// The decision of a step that is an open shrink and has a proposal. Whether it was decided.
 fn decide<D: Decider>(job: &Job, me: u8, player: &mut Player, decider: &mut D, step: &Step) -> bool
     requires sound { IsState player.old.player.rank }
-    requires follows { FollowsAt (script_at job.now me) job.now.turns player.old.player }
+    requires follows { FollowsSoFar (script_at job.now me) job.now.turns player.old.player }
     requires running { is_stopped player.old.player.rank.log ≡ false }
     requires next { slice_get (script_at job.now me) (length player.old.player.done) ≡ Some step.now }
     ensures polls { OnTrue result (Polls job.now me player.old player.new) }
-    ensures honest { OnTrue result (IsHonest (D.known decider.old) player.old.player → IsHonest (D.known decider.new) player.new.player) }
+    ensures honest { OnTrue result (AnswersFollowSoFar (D.known decider.old) player.old.player → AnswersFollowSoFar (D.known decider.new) player.new.player) }
     ensures undecided { result ≡ false → IsUndecided player.old.player }
     ensures known_stay { result ≡ false → D.known decider.new ≡ D.known decider.old }
     ensures unchanged { result ≡ false → player.new.player ≡ player.old.player }
@@ -64,12 +64,12 @@ fn decide<D: Decider>(job: &Job, me: u8, player: &mut Player, decider: &mut D, s
 /// One poll of a step by `call`; it is given up where this was its last poll and left it open. Whether it is answered.
 fn call(job: &Job, me: u8, player: &mut Player, step: &Step) -> bool
     requires sound { IsState player.old.player.rank }
-    requires follows { FollowsAt (script_at job.now me) job.now.turns player.old.player }
+    requires follows { FollowsSoFar (script_at job.now me) job.now.turns player.old.player }
     requires room { length (script_at job.now me) ≤ player.old.room + length player.old.player.done }
     requires running { is_stopped player.old.player.rank.log ≡ false }
     requires next { slice_get (script_at job.now me) (length player.old.player.done) ≡ Some step.now }
     ensures polls { Polls job.now me player.old player.new }
-    ensures honest { (known : Known) → IsHonest known player.old.player → IsUndecided player.old.player → IsHonest known player.new.player }
+    ensures honest { (known : Known) → AnswersFollowSoFar known player.old.player → IsUndecided player.old.player → AnswersFollowSoFar known player.new.player }
 {
     let _ = me;
     let turns = job.turns();

@@ -1,9 +1,9 @@
 //! A thread for each rank.
 ghost use Rattle.std.specs.Prelude.{◌≡◌, ◌≤◌, ◌++◌, [], ℕ, List, All, length, vec_len, vec_capacity, IfSome, IfOk, IfErr, OnOk};
 ghost use Rattle.ulfm_carrier.specs.Family.{IsFresh};
-ghost use Rattle.ulfm_script.specs.Honest.{IsHonest};
-ghost use Rattle.ulfm_run.specs.Joined.{IsAtWork};
-ghost use Rattle.ulfm_run.specs.Fields.{begun_ends, begun_deciders, IsOfJob, EachFresh, WerePlayed, GaveAnswers};
+ghost use Rattle.ulfm_script.specs.inside.SoFar.{AnswersFollowSoFar};
+ghost use Rattle.ulfm_run.specs.inside.Joined.{IsAtWork};
+ghost use Rattle.ulfm_run.specs.inside.Threads.{begun_ends, begun_deciders, IsOfJob, EachFresh, WerePlayed, GaveAnswers};
 
 use crate::worker::{Ran, Worker};
 use std::alloc::Global;
@@ -34,10 +34,10 @@ pub(crate) struct Begun<E, D> {
 
 impl<E: Ends, D: Decider> Promise<Ran<E, D>> for Begun<E, D> {
     ghost use Rattle.std.specs.Prelude.{◌≡◌};
-    ghost use Rattle.ulfm_script.specs.Answered.{HasAnswers};
-    ghost use Rattle.ulfm_run.specs.Played.{IsPlayed};
+    ghost use Rattle.ulfm_script.specs.Answered.{AnswersFollow};
+    ghost use Rattle.ulfm_run.specs.inside.Played.{IsPlayed};
 
-    ghost kept_by = { λ p r. IsPlayed E.name E.place E.count E.pushed E.taken E.ready p.job.value p.end.value r.report r.end × (D.board r.decider ≡ D.board p.decider.value) × HasAnswers (D.known r.decider) r.report };
+    ghost kept_by = { λ p r. IsPlayed E.name E.place E.count E.pushed E.taken E.ready p.job.value p.end.value r.report r.end × (D.board r.decider ≡ D.board p.decider.value) × AnswersFollow (D.known r.decider) r.report };
 }
 
 /// A rank that goes to work, with room for the answers of its steps.
@@ -49,7 +49,7 @@ fn new_worker<E: Ends, D: Decider>(
 ) -> Result<Worker<E, D>, Unplayed>
     requires fresh { IsFresh E.count E.pushed E.taken E.ready job.now.ranks end }
     ensures at_work { IfOk result (λ w. IsAtWork E.place E.count E.pushed E.taken E.ready job.now (E.place end) w.player w.end) }
-    ensures honest { IfOk result (λ w. IsHonest (D.known w.decider) w.player.player) }
+    ensures honest { IfOk result (λ w. AnswersFollowSoFar (D.known w.decider) w.player.player) }
     ensures parts { IfOk result (λ w. (w.end ≡ end) × (w.decider ≡ decider)) }
     ensures starves { IfErr result (λ fault. fault ≡ Unplayed.OutOfMemory) }
 {
@@ -81,7 +81,7 @@ where
     R: Threads + Wait + Sync,
     requires place { E.place worker.end ≡ me }
     requires at_work { IsAtWork E.place E.count E.pushed E.taken E.ready job.now me worker.player worker.end }
-    requires honest { IsHonest (D.known worker.decider) worker.player.player }
+    requires honest { AnswersFollowSoFar (D.known worker.decider) worker.player.player }
     ensures { IfSome result (λ h. (h.promise.job.value ≡ job.now) × (h.promise.end.value ≡ worker.end) × (h.promise.decider.value ≡ worker.decider)) }
 {
     let begun = Begun {

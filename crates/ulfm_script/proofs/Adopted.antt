@@ -1,5 +1,5 @@
 -- What a decision makes of a player whose answers are right.
-use Rattle.std.proofs.Common.{◌≡◌, ◌≢◌, ℕ, List, length, refl, ap, sym, subst, ◌∙◌, inl, inr, ◌⊎◌, false, get_or-set_other, Option, Some, None}
+use Rattle.std.proofs.Common.{◌≡◌, ◌≢◌, ℕ, List, length, refl, ap, sym, ◌∙◌, inl, inr, ◌⊎◌, false, get_or-set_other, Option, Some, None}
 use Rattle.std.proofs.lemmas.Bool.{cases_eq}
 use Rattle.ulfm_base.specs.declared.context.Context.{Context}
 use Rattle.ulfm_base.specs.declared.decision.Decision.{Decision}
@@ -7,12 +7,11 @@ use Rattle.ulfm_board.specs.Known.{Answers as BoardAnswers, Agrees, known_at}
 use Rattle.ulfm_rank.specs.Facts.{is_stopped}
 use Rattle.ulfm_rank.specs.State.{State}
 use Rattle.ulfm_script.specs.declared.answer.StepAnswer.{StepAnswer}
-use Rattle.ulfm_script.specs.declared.step.Step.{Step}
-use Rattle.ulfm_script.specs.declared.step.Step.TheVariants.{Shrink}
+use Rattle.ulfm_job.specs.declared.step.Step.TheVariants.{Shrink}
 use Rattle.ulfm_script.specs.Deciding.{Known, AnswersDecision, IsDecided}
-use Rattle.ulfm_script.specs.Player.{Player, report_of}
-use Rattle.ulfm_script.specs.Answered.{EntersBetween, AdoptsKnown, WantsMemory}
-use Rattle.ulfm_script.specs.Honest.{Stands, StandsOpen, IsHonest, Learns}
+use Rattle.ulfm_script.specs.Player.{Player, step_report}
+use Rattle.ulfm_script.specs.Answered.{EntersBetween, AdoptsKnown, WantsMemory, by_decision}
+use Rattle.ulfm_script.specs.inside.SoFar.{StandsOpen, AnswersFollowSoFar, Learns}
 use Rattle.ulfm_script.proofs.Beginnings.{Grew, grew-long, stood-now, stood-before, enters-grew}
 use Rattle.ulfm_script.proofs.Added.{grew-adds, ends-adds}
 use Rattle.ulfm_script.proofs.Decisions.{decision_adds}
@@ -21,7 +20,7 @@ use Rattle.ulfm_script.proofs.Once.{entered-once}
 use Rattle.ulfm_script.proofs.Polls.{Adds}
 
 pub agreed : (o : Option Decision) (held d : Decision) → Agrees o held → o ≡ Some d → d ≡ held
-agreed o held d h e = let A : Option Decision → Type 0 = λ (x : Option Decision). Agrees x held in subst A e h
+agreed o held d h e = rw e at h
 
 pub keeps-answered : (board : Option (List ℕ)) (old : Known) (d held : Decision) (new : Known) → BoardAnswers board old d held new → (c : ℕ) (x : Decision) → known_at old c ≡ Some x → known_at new c ≡ Some x
 keeps-answered board old d held new h c x was = elim (cases_eq c d.context.number) [
@@ -59,26 +58,24 @@ outcome-decided board known later r comm answer new h = elim h.outcome [
 ]
 
 -- an open shrink that is decided
-pub honest-decided : (board : Option (List ℕ)) (known later : Known) (p : Player) (comm : Context) (q : Player) → IsHonest known p → is_stopped p.rank.log ≡ false → IsDecided p comm board known q later → IsHonest later q
+pub honest-decided : (board : Option (List ℕ)) (known later : Known) (p : Player) (comm : Context) (q : Player) → AnswersFollowSoFar known p → is_stopped p.rank.log ≡ false → IsDecided p comm board known q later → AnswersFollowSoFar later q
 honest-decided board known later p comm q h running d =
     let adds : Adds p.rank false d.rank = decision_adds board known later p.rank comm d.answer d.rank d.decision in
     let g : Grew p.rank d.rank = grew-adds p.rank false d.rank adds in
-    let S : Option Step → Type 0 = λ (o : Option Step). Stands known p.rank p.done h.place o p.at p.polls in
-    let was : StandsOpen known p.rank p.done h.place (Shrink comm) p.at p.polls = subst S d.waits h.stands in
-    let H : Player → Type 0 = λ (x : Player). IsHonest later x in
-    subst H (sym d.only) (honest-closed known later p d.rank (report_of (Shrink comm) d.answer (length p.rank.log) p.polls) h (learns-decided board known later p.rank h.place (length p.rank.log) comm d.answer d.rank was.since d.decision) g
+    let was : StandsOpen known p.rank p.done h.place (Shrink comm) p.at p.polls = rw d.waits at h.stands in
+    rw d.only (honest-closed known later p d.rank (step_report (Shrink comm) d.answer (length p.rank.log) p.polls) h (learns-decided board known later p.rank h.place (length p.rank.log) comm d.answer d.rank was.since d.decision) g
     (record {
       old = p.rank;
       new = d.rank;
       stood = stood-before p.rank d.rank g;
       stood_next = stood-now d.rank;
       onward = grew-long p.rank d.rank g;
-      how = inr (inr (inl (record {
+      how = by_decision (record {
         comm = comm;
         shrink = refl;
         entered = enters-grew p.rank d.rank comm h.place (length p.rank.log) g was.since;
         proposes = record { accepted = d.decision.accepted; complete = d.decision.proposed.complete };
         outcome = outcome-decided board known later p.rank comm d.answer d.rank d.decision;
-      })));
+      });
     })
     (ends-adds p.rank false d.rank running adds))

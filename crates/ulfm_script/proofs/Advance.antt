@@ -1,29 +1,30 @@
 -- What a poll moves at a player, and what falls with it.
-use Rattle.std.proofs.Common.{◌≡◌, ℕ, ◌^◌, ◌<◌, ◌≤◌, Bool, false, List, length, refl, ap, sym, subst, ◌∙◌, arith, inl, inr, ◌⊎◌, Option, Some, None, MatchOption, slice_get}
+use Rattle.std.proofs.Common.{◌≡◌, ℕ, ◌^◌, ◌<◌, ◌≤◌, Bool, false, List, length, refl, ap, sym, ◌∙◌, arith, inl, inr, ◌⊎◌, Option, Some, None, MatchOption, slice_get}
 use Rattle.std.proofs.lemmas.Option.{same_Some, slice_get_within}
 use Rattle.ulfm_rank.specs.Facts.{is_stopped}
 use Rattle.ulfm_rank.specs.State.{State}
-use Rattle.ulfm_script.specs.declared.step.Step.{Step}
-use Rattle.ulfm_script.specs.declared.step.Step.TheVariants.{Send, Recv, Wait, Failed, Ack, Revoke, Dup, Shrink, Stop}
+use Rattle.ulfm_job.specs.declared.step.Step.{Step}
+use Rattle.ulfm_job.specs.declared.step.Step.TheVariants.{Wait, Shrink}
 use Rattle.ulfm_script.specs.declared.answer.StepAnswer.{StepAnswer}
 use Rattle.ulfm_script.specs.declared.answer.StepAnswer.TheVariants.{Unfinished}
 use Rattle.ulfm_script.specs.declared.answer.StepReport.{StepReport}
-use Rattle.ulfm_script.specs.Player.{Player, Answers, StaysOpen, awaits_decision, IsCalled, Left, PollAnswers, PollOpens, with_rank, answered, polled, report_of}
-use Rattle.ulfm_script.specs.Job.{Seen, IsJob, script_at, is_stop_step}
-use Rattle.ulfm_script.specs.Script.{IsPolled, IsPatient, FollowsAt, left_at}
+use Rattle.ulfm_script.specs.Player.{Player, AnswersStep, StaysOpen, awaits_decision, IsCalled, GivesUpStep, PollAnswers, PollOpens, with_rank, answered, polled, step_report}
+use Rattle.ulfm_job.specs.Job.{Seen, IsJob, script_at, is_stop_step}
+use Rattle.ulfm_script.specs.Script.{IsPolled, IsPatient}
+use Rattle.ulfm_script.specs.inside.Underway.{FollowsSoFar, polls_left}
 use Rattle.ulfm_script.proofs.Polls.{Adds, answers_add, opens_add, opens_go_on, stopped-adds}
 use Rattle.ulfm_script.proofs.Progress.{closed, follows-closed, follows-polled, left-closed, left_polled, polls_small}
 
 -- what a player has before a poll of its next step
 pub record Ready (script : List Step) (turns : ℕ) (p : Player) (asked : Step) : Type 0 where
-  pub follows : FollowsAt script turns p
+  pub follows : FollowsSoFar script turns p
   pub running : is_stopped p.rank.log ≡ false
   pub few : p.polls < turns
   pub next : slice_get script (length p.done) ≡ Some asked
   pub inside : length p.done < length script
 
 -- a running player that has a step left is ready for its next poll
-pub ready-at : (job : Seen) (me : ℕ) (p : Player) (asked : Step) → IsJob job → FollowsAt (script_at job me) job.turns p → is_stopped p.rank.log ≡ false → slice_get (script_at job me) (length p.done) ≡ Some asked → Ready (script_at job me) job.turns p asked
+pub ready-at : (job : Seen) (me : ℕ) (p : Player) (asked : Step) → IsJob job → FollowsSoFar (script_at job me) job.turns p → is_stopped p.rank.log ≡ false → slice_get (script_at job me) (length p.done) ≡ Some asked → Ready (script_at job me) job.turns p asked
 ready-at job me p asked is_job h running next = record {
   follows = h;
   running = running;
@@ -34,8 +35,8 @@ ready-at job me p asked is_job h running next = record {
 
 -- it goes on through its script, fewer polls are left, and its log has one more entry of its own at most
 pub record Advances (script : List Step) (turns : ℕ) (old new : Player) : Type 0 where
-  pub follows : FollowsAt script turns new
-  pub falls : left_at script turns new < left_at script turns old
+  pub follows : FollowsSoFar script turns new
+  pub falls : polls_left script turns new < polls_left script turns old
   pub stops : Bool
   pub adds : Adds old.rank stops new.rank
 
@@ -49,19 +50,12 @@ advance-closed script turns old r x h adds patient = record {
 }
 
 -- a poll doesn't give its step up
-not_given_up : (done : List StepReport) (r : State) (asked : Step) (answer : StepAnswer) (new : State) → Answers done r asked answer new → answer ≡ Unfinished → ⊥
-not_given_up done r asked answer new h e = none asked (let A : StepAnswer → Type 0 = λ (x : StepAnswer). Answers done r asked x new in subst A e h)
+not_given_up : (done : List StepReport) (r : State) (asked : Step) (answer : StepAnswer) (new : State) → AnswersStep done r asked answer new → answer ≡ Unfinished → ⊥
+not_given_up done r asked answer new h e = none asked (rw e at h)
   where
-    none : (s : Step) → Answers done r s Unfinished new → ⊥
-    none (Send to tag body comm) h = h
-    none (Recv source tag room comm) h = h
+    none : (s : Step) → AnswersStep done r s Unfinished new → ⊥
     none (Wait req) h = h
-    none (Failed comm) h = h
-    none (Ack count comm) h = h
-    none (Revoke comm) h = h
-    none (Dup comm) h = h
-    none (Shrink comm) h = h
-    none Stop h = h
+    none _ h = h
 
 pub polled_in_time : (turns polls : ℕ) (answer : StepAnswer) → (answer ≡ Unfinished → ⊥) → polls < turns → IsPolled turns answer polls
 polled_in_time turns polls Unfinished h few = absurd (h refl)
@@ -69,8 +63,7 @@ polled_in_time turns polls _ h few = few
 
 advance-answers : (script : List Step) (turns : ℕ) (old : Player) (asked : Step) (new : Player) → Ready script turns old asked → PollAnswers old asked new → Advances script turns old new
 advance-answers script turns old asked new h a =
-    let A : Player → Type 0 = λ (p : Player). Advances script turns old p in
-    subst A (sym a.only) (advance-closed script turns old a.rank (report_of asked a.answer (length old.rank.log) old.polls) h (answers_add old.done old.rank asked a.answer a.rank h.running a.answers) (polled_in_time turns old.polls a.answer (not_given_up old.done old.rank asked a.answer a.rank a.answers) h.few))
+    rw a.only (advance-closed script turns old a.rank (step_report asked a.answer (length old.rank.log) old.polls) h (answers_add old.done old.rank asked a.answer a.rank h.running a.answers) (polled_in_time turns old.polls a.answer (not_given_up old.done old.rank asked a.answer a.rank a.answers) h.few))
 
 advance-polled : (script : List Step) (turns : ℕ) (old : Player) (r : State) (asked : Step) (at : ℕ) → turns < 2 ^ 32 → Ready script turns old asked → Adds old.rank false r → (polled (with_rank old r) asked at).polls < turns → Advances script turns old (polled (with_rank old r) asked at)
 advance-polled script turns old r asked at counted h adds few = record {
@@ -84,10 +77,8 @@ advance-polled script turns old r asked at counted h adds few = record {
 pub advance-called : (script : List Step) (turns : ℕ) (old : Player) (asked : Step) (new : Player) → turns < 2 ^ 32 → Ready script turns old asked → IsCalled old asked new → (new.current ≡ None) ⊎ (new.polls < turns) → Advances script turns old new
 advance-called script turns old asked new counted h (inl a) few = advance-answers script turns old asked new h a
 advance-called script turns old asked new counted h (inr o) few =
-    let A : Player → Type 0 = λ (p : Player). Advances script turns old p in
-    let F : Player → Type 0 = λ (p : Player). (p.current ≡ None) ⊎ (p.polls < turns) in
-    let low : (polled (with_rank old o.rank) asked (length old.rank.log)).polls < turns = elim (subst F o.only few) [ inl none ↦ (let bad : ⊥ = cc in absurd bad) | inr below ↦ below ] in
-    subst A (sym o.only) (advance-polled script turns old o.rank asked (length old.rank.log) counted h (opens_add (awaits_decision old.current) old.done old.rank asked o.rank o.stays) low)
+    let low : (polled (with_rank old o.rank) asked (length old.rank.log)).polls < turns = elim (rw o.only at few) [ inl none ↦ (let bad : ⊥ = cc in absurd bad) | inr below ↦ below ] in
+    rw o.only (advance-polled script turns old o.rank asked (length old.rank.log) counted h (opens_add (awaits_decision old.current) old.done old.rank asked o.rank o.stays) low)
 
 -- a step that may stay open is no stop
 goes_on : (script : List Step) (turns k polls : ℕ) (current : Option Step) (done : List StepReport) (r : State) (asked : Step) (new : State) → MatchOption current (polls ≡ 0) (λ s. (slice_get script k ≡ Some s) × (polls < turns)) → slice_get script k ≡ Some asked → StaysOpen (awaits_decision current) done r asked new → is_stop_step asked ≡ false
@@ -95,26 +86,19 @@ goes_on script turns k polls None done r asked new h next o = opens_go_on done r
 goes_on script turns k polls (Some (Shrink comm)) done r asked new h next o = ap is_stop_step (same_Some asked (Shrink comm) (sym next ∙ h.0))
 goes_on script turns k polls (Some s) done r asked new h next o = opens_go_on done r asked new o
 
-advance-opens : (script : List Step) (turns : ℕ) (old : Player) (asked : Step) (mid new : Player) → turns < 2 ^ 32 → Ready script turns old asked → PollOpens old asked mid → Left mid new → turns ≤ mid.polls → Advances script turns old new
+advance-opens : (script : List Step) (turns : ℕ) (old : Player) (asked : Step) (mid new : Player) → turns < 2 ^ 32 → Ready script turns old asked → PollOpens old asked mid → GivesUpStep mid new → turns ≤ mid.polls → Advances script turns old new
 advance-opens script turns old asked mid new counted h o left last =
-    let A : Player → Type 0 = λ (p : Player). Advances script turns old p in
-    let C : Player → Type 0 = λ (p : Player). p.current ≡ Some left.step in
-    let same : asked ≡ left.step = same_Some asked left.step (subst C o.only left.was_open) in
-    let N : Player → Step → Type 0 = λ (p : Player) (s : Step). new ≡ answered p s Unfinished p.at in
-    let P : Step → Type 0 = N mid in
-    let Q : Player → Type 0 = λ (p : Player). N p asked in
-    let now : new ≡ answered (polled (with_rank old o.rank) asked (length old.rank.log)) asked Unfinished (length old.rank.log) = subst Q o.only (subst P (sym same) left.only) in
+    let same : asked ≡ left.step = same_Some asked left.step (rw o.only at left.was_open) in
+    let now : new ≡ answered (polled (with_rank old o.rank) asked (length old.rank.log)) asked Unfinished (length old.rank.log) = rw (← same, o.only) at left.only in
     let all : (polled (with_rank old o.rank) asked (length old.rank.log)).polls ≡ turns = omega (arith, last, ap (λ (p : Player). p.polls) o.only, h.few, counted) in
     let adds : Adds old.rank false o.rank = opens_add (awaits_decision old.current) old.done old.rank asked o.rank o.stays in
     let goes : is_stop_step asked ≡ false = goes_on script turns (length old.done) old.polls old.current old.done old.rank asked o.rank h.follows.current h.next o.stays in
-    let B : Bool → Type 0 = λ (b : Bool). Adds old.rank b o.rank in
-    subst A (sym now) (advance-closed script turns old o.rank (report_of asked Unfinished (length old.rank.log) (polled (with_rank old o.rank) asked (length old.rank.log)).polls) h (subst B (sym goes) adds) all)
+    rw now (advance-closed script turns old o.rank (step_report asked Unfinished (length old.rank.log) (polled (with_rank old o.rank) asked (length old.rank.log)).polls) h (rw goes adds) all)
 
 -- a poll that leaves the step open, which is then given up
-pub advance-left : (script : List Step) (turns : ℕ) (old : Player) (asked : Step) (mid new : Player) (s : Step) → turns < 2 ^ 32 → Ready script turns old asked → IsCalled old asked mid → mid.current ≡ Some s → Left mid new → turns ≤ mid.polls → Advances script turns old new
+pub advance-left : (script : List Step) (turns : ℕ) (old : Player) (asked : Step) (mid new : Player) (s : Step) → turns < 2 ^ 32 → Ready script turns old asked → IsCalled old asked mid → mid.current ≡ Some s → GivesUpStep mid new → turns ≤ mid.polls → Advances script turns old new
 advance-left script turns old asked mid new s counted h (inr o) e left last = advance-opens script turns old asked mid new counted h o left last
 advance-left script turns old asked mid new s counted h (inl a) e left last =
-    let C : Player → Type 0 = λ (p : Player). p.current ≡ Some s in
-    let none : None ≡ Some s = subst C a.only e in
+    let none : None ≡ Some s = rw a.only at e in
     let bad : ⊥ = cc in
     absurd bad

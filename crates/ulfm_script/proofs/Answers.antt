@@ -1,12 +1,12 @@
 -- Right answers stay right while the log grows and more is known.
-use Rattle.std.proofs.Common.{ℕ, ◌+◌, ◌≤◌, List, [], ◌∷◌, ◌++◌, refl, sym, subst, ◌∙◌, arith, inl, inr, ◌⊎◌, append-nil, append_assoc}
+use Rattle.std.proofs.Common.{ℕ, ◌+◌, ◌≤◌, List, [], ◌∷◌, ◌++◌, refl, ◌∙◌, arith, inl, inr, append-nil, append_assoc}
 use Rattle.ulfm_base.specs.declared.context.Context.{Context}
 use Rattle.ulfm_rank.specs.declared.entry.Entry.{Entry}
 use Rattle.ulfm_rank.specs.State.{State}
 use Rattle.ulfm_script.specs.declared.answer.StepReport.{StepReport}
 use Rattle.ulfm_script.specs.Deciding.{Known}
-use Rattle.ulfm_script.specs.Answered.{OnlyTook, EntersBetween, AnsweredByCall, LeftByCall, AnsweredByDecision, LeftUndecided, IsAnswered, AreAnswered}
-use Rattle.ulfm_script.specs.Honest.{Learns}
+use Rattle.ulfm_script.specs.Answered.{OnlyTook, EntersBetween, How, by_call, left_by_call, by_decision, left_undecided, AnswerFollows, EachAnswerFollows}
+use Rattle.ulfm_script.specs.inside.SoFar.{Learns}
 use Rattle.ulfm_script.proofs.Beginnings.{Grew, stood-grew, took-grew, enters-grew}
 
 pub took-forth : (log : List Entry) (from to : ℕ) → OnlyTook log from to → from ≤ to
@@ -17,26 +17,25 @@ enters-forth r comm from to h = omega (arith, took-forth r.log from h.place h.to
 
 -- the places of answered steps never go back
 pub how-forth : (known : Known) (r : State) (before : List StepReport) (from : ℕ) (report : StepReport) (old new : State) →
-    (AnsweredByCall r before from report old new ⊎ (LeftByCall r before from report old new ⊎ (AnsweredByDecision known r from report old new ⊎ LeftUndecided r from report old new))) → from ≤ report.at
-how-forth known r before from report old new (inl h) = took-forth r.log from report.at h.took
-how-forth known r before from report old new (inr (inl h)) = took-forth r.log from report.at h.took
-how-forth known r before from report old new (inr (inr (inl h))) = enters-forth r h.comm from report.at h.entered
-how-forth known r before from report old new (inr (inr (inr h))) = enters-forth r h.comm from report.at h.entered
+    How known r before from report old new → from ≤ report.at
+how-forth known r before from report old new (by_call h) = took-forth r.log from report.at h.took
+how-forth known r before from report old new (left_by_call h) = took-forth r.log from report.at h.took
+how-forth known r before from report old new (by_decision h) = enters-forth r h.comm from report.at h.entered
+how-forth known r before from report old new (left_undecided h) = enters-forth r h.comm from report.at h.entered
 
-pub all-forth : (known : Known) (r : State) (before : List StepReport) (from : ℕ) (reports : List StepReport) (to : ℕ) → AreAnswered known r before from reports to → from ≤ to
+pub all-forth : (known : Known) (r : State) (before : List StepReport) (from : ℕ) (reports : List StepReport) (to : ℕ) → EachAnswerFollows known r before from reports to → from ≤ to
 all-forth known r before from [] to h = omega (arith, h)
 all-forth known r before from (x ∷ xs) to h =
     omega (arith, how-forth known r before from x h.1.old h.1.new h.1.how, h.1.onward, all-forth known r (before ++ x ∷ []) h.0 xs to h.2)
 
 -- how a step was answered stays so
 how-grew : (known later : Known) (r s : State) (to : ℕ) (before : List StepReport) (from : ℕ) (report : StepReport) (old new : State) → Learns r to known later → report.at ≤ to → Grew r s →
-    (AnsweredByCall r before from report old new ⊎ (LeftByCall r before from report old new ⊎ (AnsweredByDecision known r from report old new ⊎ LeftUndecided r from report old new))) →
-    AnsweredByCall s before from report old new ⊎ (LeftByCall s before from report old new ⊎ (AnsweredByDecision later s from report old new ⊎ LeftUndecided s from report old new))
-how-grew known later r s to before from report old new k up g (inl h) = inl (record { took = took-grew r.log s.log g.more from report.at g.log h.took; answers = h.answers })
-how-grew known later r s to before from report old new k up g (inr (inl h)) =
-    inr (inl (record { took = took-grew r.log s.log g.more from report.at g.log h.took; given_up = h.given_up; opens = h.opens; first = h.first }))
-how-grew known later r s to before from report old new k up g (inr (inr (inl h))) =
-    inr (inr (inl (record {
+    How known r before from report old new → How later s before from report old new
+how-grew known later r s to before from report old new k up g (by_call h) = by_call (record { took = took-grew r.log s.log g.more from report.at g.log h.took; answers = h.answers })
+how-grew known later r s to before from report old new k up g (left_by_call h) =
+    left_by_call (record { took = took-grew r.log s.log g.more from report.at g.log h.took; given_up = h.given_up; opens = h.opens; first = h.first })
+how-grew known later r s to before from report old new k up g (by_decision h) =
+    by_decision (record {
       comm = h.comm;
       shrink = h.shrink;
       entered = enters-grew r s h.comm from report.at g h.entered;
@@ -45,9 +44,9 @@ how-grew known later r s to before from report old new k up g (inr (inr (inl h))
         | inl a ↦ inl (record { held = a.held; knows = k.keeps h.comm.number a.held a.knows; adoption = a.adoption })
         | inr w ↦ inr (record { unknown = k.same h.comm from report.at h.entered up ∙ w.unknown; refused = w.refused; only = w.only })
       ];
-    })))
-how-grew known later r s to before from report old new k up g (inr (inr (inr h))) =
-    inr (inr (inr (record {
+    })
+how-grew known later r s to before from report old new k up g (left_undecided h) =
+    left_undecided (record {
       comm = h.comm;
       shrink = h.shrink;
       entered = enters-grew r s h.comm from report.at g h.entered;
@@ -55,9 +54,9 @@ how-grew known later r s to before from report old new k up g (inr (inr (inr h))
       later = h.later;
       undecided = h.undecided;
       only = h.only;
-    })))
+    })
 
-pub answered-grew : (known later : Known) (r s : State) (limit : ℕ) (before : List StepReport) (from : ℕ) (report : StepReport) (to : ℕ) → Learns r limit known later → report.at ≤ limit → Grew r s → IsAnswered known r before from report to → IsAnswered later s before from report to
+pub answered-grew : (known later : Known) (r s : State) (limit : ℕ) (before : List StepReport) (from : ℕ) (report : StepReport) (to : ℕ) → Learns r limit known later → report.at ≤ limit → Grew r s → AnswerFollows known r before from report to → AnswerFollows later s before from report to
 answered-grew known later r s limit before from report to k up g h = record {
   old = h.old;
   new = h.new;
@@ -67,20 +66,16 @@ answered-grew known later r s limit before from report to k up g h = record {
   how = how-grew known later r s limit before from report h.old h.new k up g h.how;
 }
 
-pub all-grew : (known later : Known) (r s : State) (before : List StepReport) (from : ℕ) (reports : List StepReport) (to : ℕ) → Learns r to known later → Grew r s → AreAnswered known r before from reports to → AreAnswered later s before from reports to
+pub all-grew : (known later : Known) (r s : State) (before : List StepReport) (from : ℕ) (reports : List StepReport) (to : ℕ) → Learns r to known later → Grew r s → EachAnswerFollows known r before from reports to → EachAnswerFollows later s before from reports to
 all-grew known later r s before from [] to k g h = h
 all-grew known later r s before from (x ∷ xs) to k g h =
     let up : x.at ≤ to = omega (arith, h.1.onward, all-forth known r (before ++ x ∷ []) h.0 xs to h.2) in
     (h.0, answered-grew known later r s to before from x h.0 k up g h.1, all-grew known later r s (before ++ x ∷ []) h.0 xs to k g h.2)
 
 -- one more step is answered
-all-push : (known : Known) (r : State) (before : List StepReport) (from : ℕ) (reports : List StepReport) (mid : ℕ) (x : StepReport) (to : ℕ) → AreAnswered known r before from reports mid → IsAnswered known r (before ++ reports) mid x to → AreAnswered known r before from (reports ++ x ∷ []) to
-all-push known r before from [] mid x to h a =
-    let A : List StepReport → ℕ → Type 0 = λ (bs : List StepReport) (n : ℕ). IsAnswered known r bs n x to in
-    (to, subst (λ (n : ℕ). A before n) (sym h) (subst (λ (bs : List StepReport). A bs mid) (append-nil before) a), refl)
-all-push known r before from (y ∷ ys) mid x to h a =
-    let A : List StepReport → Type 0 = λ (bs : List StepReport). IsAnswered known r bs mid x to in
-    (h.0, h.1, all-push known r (before ++ y ∷ []) h.0 ys mid x to h.2 (subst A (sym (append_assoc before (y ∷ []) ys)) a))
+all-push : (known : Known) (r : State) (before : List StepReport) (from : ℕ) (reports : List StepReport) (mid : ℕ) (x : StepReport) (to : ℕ) → EachAnswerFollows known r before from reports mid → AnswerFollows known r (before ++ reports) mid x to → EachAnswerFollows known r before from (reports ++ x ∷ []) to
+all-push known r before from [] mid x to h a = (to, rw h (rw (append-nil before) at a), refl)
+all-push known r before from (y ∷ ys) mid x to h a = (h.0, h.1, all-push known r (before ++ y ∷ []) h.0 ys mid x to h.2 (rw (append_assoc before (y ∷ []) ys) a))
 
-pub answers-push : (known : Known) (r : State) (reports : List StepReport) (mid : ℕ) (x : StepReport) (to : ℕ) → AreAnswered known r [] 0 reports mid → IsAnswered known r reports mid x to → AreAnswered known r [] 0 (reports ++ x ∷ []) to
+pub answers-push : (known : Known) (r : State) (reports : List StepReport) (mid : ℕ) (x : StepReport) (to : ℕ) → EachAnswerFollows known r [] 0 reports mid → AnswerFollows known r reports mid x to → EachAnswerFollows known r [] 0 (reports ++ x ∷ []) to
 answers-push known r reports mid x to h a = all-push known r [] 0 reports mid x to h a

@@ -4,7 +4,7 @@ use Rattle.std.proofs.lemmas.List.Elements.{All-nil, All-append}
 use Rattle.ulfm_base.specs.declared.context.Context.{Context}
 use Rattle.ulfm_rank.specs.declared.entry.Entry.{Entry}
 use Rattle.ulfm_rank.specs.State.{State}
-use Rattle.ulfm_script.specs.Answered.{Stood, IsTook, OnlyTook, EntersBetween}
+use Rattle.ulfm_script.specs.Answered.{StoodAt, IsTook, OnlyTook, EntersBetween}
 
 -- the same rank with a longer log
 pub record Grew (old new : State) : Type 0 where
@@ -13,7 +13,7 @@ pub record Grew (old new : State) : Type 0 where
   pub more : List Entry
   pub log : new.log ≡ old.log ++ more
 
-pub stood-grew : (r s : State) (n : ℕ) (t : State) → Grew r s → Stood r n t → Stood s n t
+pub stood-grew : (r s : State) (n : ℕ) (t : State) → Grew r s → StoodAt r n t → StoodAt s n t
 stood-grew r s n t g h = record {
   me = h.me ∙ sym g.me;
   ranks = h.ranks ∙ sym g.ranks;
@@ -101,11 +101,11 @@ enters-on r s comm from g all h = record {
 }
 
 -- a rank stood as it stands
-pub stood-now : (r : State) → Stood r (length r.log) r
+pub stood-now : (r : State) → StoodAt r (length r.log) r
 stood-now r = record { me = refl; ranks = refl; rest = []; beginning = append-nil r.log; entries = refl }
 
 -- a rank stood as it was before its log grew
-pub stood-before : (r s : State) → Grew r s → Stood s (length r.log) r
+pub stood-before : (r s : State) → Grew r s → StoodAt s (length r.log) r
 stood-before r s g = stood-grew r s (length r.log) r g (stood-now r)
 
 pub grew-same : (r s : State) → s ≡ r → Grew r s

@@ -6,13 +6,13 @@ use Rattle.ulfm_base.specs.declared.context.Context.{Context}
 use Rattle.ulfm_rank.specs.Facts.{is_stopped}
 use Rattle.ulfm_rank.specs.State.{State}
 use Rattle.ulfm_script.specs.declared.answer.StepReport.{StepReport}
-use Rattle.ulfm_script.specs.declared.step.Step.{Step}
-use Rattle.ulfm_script.specs.declared.step.Step.TheVariants.{Wait, Shrink}
-use Rattle.ulfm_script.specs.Deciding.{Known, Proposes}
-use Rattle.ulfm_script.specs.Job.{is_stop_step}
-use Rattle.ulfm_script.specs.Player.{Player, IsCalled, PollAnswers, IsOpen, StaysOpen, awaits_decision, report_of}
-use Rattle.ulfm_script.specs.Answered.{OnlyTook, EntersBetween, IsShrink, Stood}
-use Rattle.ulfm_script.specs.Honest.{Since, Stands, StandsOpen, IsHonest, IsUndecided}
+use Rattle.ulfm_job.specs.declared.step.Step.{Step}
+use Rattle.ulfm_job.specs.declared.step.Step.TheVariants.{Wait, Shrink}
+use Rattle.ulfm_script.specs.Deciding.{Known, HasProposal}
+use Rattle.ulfm_job.specs.Job.{is_stop_step}
+use Rattle.ulfm_script.specs.Player.{Player, IsCalled, PollAnswers, LeavesOpen, StaysOpen, awaits_decision, step_report}
+use Rattle.ulfm_script.specs.Answered.{OnlyTook, EntersBetween, IsShrink, StoodAt, by_call, left_by_call, left_undecided}
+use Rattle.ulfm_script.specs.inside.SoFar.{Since, Stands, StandsOpen, AnswersFollowSoFar, IsUndecided}
 use Rattle.ulfm_script.proofs.Beginnings.{Grew, grew-long, stood-now, stood-before, took-grew, took-none}
 use Rattle.ulfm_script.proofs.Honestly.{learns-none, honest-closed}
 use Rattle.ulfm_script.proofs.Added.{grew-adds, ends-adds}
@@ -26,28 +26,25 @@ took-since known r before from (Some (Shrink comm)) at polls h free = absurd (fa
 took-since known r before from (Some _) at polls h free = h.since
 
 -- a poll that answers its step
-honest-answered : (known : Known) (p : Player) (asked : Step) (q : Player) → IsHonest known p → is_stopped p.rank.log ≡ false → PollAnswers p asked q → IsHonest known q
+honest-answered : (known : Known) (p : Player) (asked : Step) (q : Player) → AnswersFollowSoFar known p → is_stopped p.rank.log ≡ false → PollAnswers p asked q → AnswersFollowSoFar known q
 honest-answered known p asked q h running a =
     let adds : Adds p.rank (is_stop_step asked) a.rank = answers_add p.done p.rank asked a.answer a.rank running a.answers in
     let g : Grew p.rank a.rank = grew-adds p.rank (is_stop_step asked) a.rank adds in
     let took : OnlyTook p.rank.log h.place (length p.rank.log) = took-since known p.rank p.done h.place p.current p.at p.polls h.stands a.first in
-    let H : Player → Type 0 = λ (x : Player). IsHonest known x in
-    subst H (sym a.only) (honest-closed known known p a.rank (report_of asked a.answer (length p.rank.log) p.polls) h (learns-none p.rank h.place known) g
+    rw a.only (honest-closed known known p a.rank (step_report asked a.answer (length p.rank.log) p.polls) h (learns-none p.rank h.place known) g
     (record {
       old = p.rank;
       new = a.rank;
       stood = stood-before p.rank a.rank g;
       stood_next = stood-now a.rank;
       onward = grew-long p.rank a.rank g;
-      how = inl (record { took = took-grew p.rank.log a.rank.log g.more h.place (length p.rank.log) g.log took; answers = a.answers });
+      how = by_call (record { took = took-grew p.rank.log a.rank.log g.more h.place (length p.rank.log) g.log took; answers = a.answers });
     })
     (ends-adds p.rank (is_stop_step asked) a.rank running adds))
 
 -- what a rank did since its last step, once a call left the step open
-since-opened : (r s : State) (before : List StepReport) (from : ℕ) (asked : Step) → OnlyTook r.log from (length r.log) → IsOpen before r asked s → Since s from asked
-since-opened r s before from (Wait req) took o =
-    let T : State → Type 0 = λ (t : State). OnlyTook t.log from (length t.log) in
-    subst T (sym o.only) took
+since-opened : (r s : State) (before : List StepReport) (from : ℕ) (asked : Step) → OnlyTook r.log from (length r.log) → LeavesOpen before r asked s → Since s from asked
+since-opened r s before from (Wait req) took o = rw o.only took
 since-opened r s before from (Shrink comm) took o =
     let log : s.log ≡ r.log ++ _ ∷ [] = ap (λ (t : State). t.log) o.1.only in
     let g : Grew r s = record { me = ap (λ (t : State). t.me) o.1.only; ranks = ap (λ (t : State). t.ranks) o.1.only; more = _; log = log } in
@@ -57,7 +54,7 @@ since-opened r s before from (Shrink comm) took o =
       old = r;
       new = s;
       stood = stood-before r s g;
-      stood_next = subst (λ n. Stood s n s) long (stood-now s);
+      stood_next = subst (λ n. StoodAt s n s) long (stood-now s);
       accepted = o.0;
       enters = o.1;
       took_before = took-grew r.log s.log g.more from (length r.log) log took;
@@ -66,7 +63,7 @@ since-opened r s before from (Shrink comm) took o =
 since-opened r s before from _ took o = absurd o
 
 -- a first poll that leaves its step open, or a later one of a wait
-stands-opened : (known : Known) (r s : State) (before : List StepReport) (from : ℕ) (asked : Step) (polls : ℕ) → Grew r s → OnlyTook r.log from (length r.log) → IsOpen before r asked s → 0 < polls → (IsShrink asked → polls ≡ 1) → StandsOpen known s before from asked (length r.log) polls
+stands-opened : (known : Known) (r s : State) (before : List StepReport) (from : ℕ) (asked : Step) (polls : ℕ) → Grew r s → OnlyTook r.log from (length r.log) → LeavesOpen before r asked s → 0 < polls → (IsShrink asked → polls ≡ 1) → StandsOpen known s before from asked (length r.log) polls
 stands-opened known r s before from asked polls g took o some first = record {
   polled = some;
   since = since-opened r s before from asked took o;
@@ -77,13 +74,13 @@ stands-opened known r s before from asked polls g took o some first = record {
     stood = stood-before r s g;
     stood_next = stood-now s;
     onward = grew-long r s g;
-    how = inr (inl (record { took = took-grew r.log s.log g.more from (length r.log) g.log took; given_up = refl; opens = o; first = first }));
+    how = left_by_call (record { took = took-grew r.log s.log g.more from (length r.log) g.log took; given_up = refl; opens = o; first = first });
   };
   took = took-none s.log;
 }
 
 -- a later poll of a shrink, which had no proposal
-stands-waiting : (known : Known) (r : State) (before : List StepReport) (from : ℕ) (comm : Context) (polls : ℕ) → EntersBetween r comm from (length r.log) → (Proposes r comm → ⊥) → 1 < polls → StandsOpen known r before from (Shrink comm) (length r.log) polls
+stands-waiting : (known : Known) (r : State) (before : List StepReport) (from : ℕ) (comm : Context) (polls : ℕ) → EntersBetween r comm from (length r.log) → (HasProposal r comm → ⊥) → 1 < polls → StandsOpen known r before from (Shrink comm) (length r.log) polls
 stands-waiting known r before from comm polls entered none later = record {
   polled = omega (arith, later);
   since = entered;
@@ -94,21 +91,20 @@ stands-waiting known r before from comm polls entered none later = record {
     stood = stood-now r;
     stood_next = stood-now r;
     onward = omega arith;
-    how = inr (inr (inr (record { comm = comm; shrink = refl; entered = entered; given_up = refl; later = later; undecided = none; only = refl })));
+    how = left_undecided (record { comm = comm; shrink = refl; entered = entered; given_up = refl; later = later; undecided = none; only = refl });
   };
   took = took-none r.log;
 }
 
 -- the step stands open after a poll that left it so
-stands-polled : (known : Known) (p : Player) (asked : Step) (s : State) (from : ℕ) (current : Option Step) (at : ℕ) → Stands known p.rank p.done from current at p.polls → MatchOption current (p.polls ≡ 0) (λ o. o ≡ asked) → ((comm : Context) → current ≡ Some (Shrink comm) → Proposes p.rank comm → ⊥) → StaysOpen (awaits_decision current) p.done p.rank asked s →
+stands-polled : (known : Known) (p : Player) (asked : Step) (s : State) (from : ℕ) (current : Option Step) (at : ℕ) → Stands known p.rank p.done from current at p.polls → MatchOption current (p.polls ≡ 0) (λ o. o ≡ asked) → ((comm : Context) → current ≡ Some (Shrink comm) → HasProposal p.rank comm → ⊥) → StaysOpen (awaits_decision current) p.done p.rank asked s →
     StandsOpen known s p.done from asked (length p.rank.log) (min (p.polls + 1) (2 ^ 32 - 1))
 stands-polled known p asked s from None at h m u o =
     stands-opened known p.rank s p.done from asked (min (p.polls + 1) (2 ^ 32 - 1)) (grew-adds p.rank false s (opens_add false p.done p.rank asked s o)) h o (omega arith) (λ _. omega (arith, m))
 stands-polled known p asked s from (Some (Shrink comm)) at h m u o =
     let waiting : StandsOpen known p.rank p.done from (Shrink comm) (length p.rank.log) (min (p.polls + 1) (2 ^ 32 - 1)) =
     stands-waiting known p.rank p.done from comm (min (p.polls + 1) (2 ^ 32 - 1)) h.since (u comm refl) (omega (arith, h.polled)) in
-    let S : Step → State → Type 0 = λ (a : Step) (t : State). StandsOpen known t p.done from a (length p.rank.log) (min (p.polls + 1) (2 ^ 32 - 1)) in
-    subst (λ (a : Step). S a s) m (subst (S (Shrink comm)) (sym o) waiting)
+    rw (← m, o) waiting
 stands-polled known p asked s from (Some other) at h m u o =
     stands-opened known p.rank s p.done from asked (min (p.polls + 1) (2 ^ 32 - 1)) (grew-adds p.rank false s (opens_add false p.done p.rank asked s o)) h.since o (omega arith)
     (λ e. absurd (subst IsShrink (sym m) e))
@@ -119,12 +115,11 @@ matches script k turns polls None asked h next = h
 matches script k turns polls (Some s) asked h next = same_Some s asked (sym h.0 ∙ next)
 
 -- one poll by a call
-pub honest-called : (known : Known) (script : List Step) (turns : ℕ) (p : Player) (asked : Step) (q : Player) → IsHonest known p → is_stopped p.rank.log ≡ false → MatchOption p.current (p.polls ≡ 0) (λ s. (slice_get script (length p.done) ≡ Some s) × (p.polls < turns)) → slice_get script (length p.done) ≡ Some asked → IsUndecided p → IsCalled p asked q → IsHonest known q
+pub honest-called : (known : Known) (script : List Step) (turns : ℕ) (p : Player) (asked : Step) (q : Player) → AnswersFollowSoFar known p → is_stopped p.rank.log ≡ false → MatchOption p.current (p.polls ≡ 0) (λ s. (slice_get script (length p.done) ≡ Some s) × (p.polls < turns)) → slice_get script (length p.done) ≡ Some asked → IsUndecided p → IsCalled p asked q → AnswersFollowSoFar known q
 honest-called known script turns p asked q h running current next u (inl a) = honest-answered known p asked q h running a
 honest-called known script turns p asked q h running current next u (inr o) =
     let adds : Adds p.rank false o.rank = opens_add (awaits_decision p.current) p.done p.rank asked o.rank o.stays in
-    let H : Player → Type 0 = λ (x : Player). IsHonest known x in
-    subst H (sym o.only) (record {
+    rw o.only (record {
       place = h.place;
       answers = all-grew known known p.rank o.rank [] 0 p.done h.place (learns-none p.rank h.place known) (grew-adds p.rank false o.rank adds) h.answers;
       stands = stands-polled known p asked o.rank h.place p.current p.at h.stands (matches script (length p.done) turns p.polls p.current asked current next) (λ comm e pr. u comm (record { waits = e; proposes = pr })) o.stays;

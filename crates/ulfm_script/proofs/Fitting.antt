@@ -2,18 +2,22 @@
 use Rattle.std.proofs.Common.{◌≡◌, ℕ, false, List, [], ◌∷◌, ◌++◌, ap, inl, inr, ◌⊎◌}
 use Rattle.std.specs.Prelude.{⊤}
 use Rattle.std.proofs.lemmas.Bool.{not-false}
+use Rattle.ulfm_base.specs.declared.context.Context.{Context}
+use Rattle.ulfm_base.specs.declared.rank_set.RankSet.{RankSet}
 use Rattle.ulfm_rank.specs.declared.entry.Entry.{Entry}
 use Rattle.ulfm_rank.specs.declared.entry.Entry.TheVariants.{Entered, Adopted}
 use Rattle.ulfm_rank.specs.Checks.{Passes, lacks, shrink_checks}
+use Rattle.ulfm_rank.specs.Facts.{Knows}
 use Rattle.ulfm_rank.specs.Shrink.{has_entered}
 use Rattle.ulfm_rank.specs.State.{State, logged}
 use Rattle.ulfm_rank.proofs.Entering.{Fits}
 use Rattle.ulfm_rank.proofs.Refusals.{all_pass}
-use Rattle.ulfm_script.specs.declared.step.Step.{Step}
+use Rattle.ulfm_job.specs.declared.step.Step.{Step}
 use Rattle.ulfm_script.specs.declared.answer.StepAnswer.{StepAnswer}
 use Rattle.ulfm_script.specs.declared.answer.StepReport.{StepReport}
-use Rattle.ulfm_script.specs.Player.{Answers, IsOpen}
-use Rattle.ulfm_script.proofs.Polls.{IsApart, answers_plain, opens_adds}
+use Rattle.ulfm_script.specs.Player.{AnswersStep, LeavesOpen}
+use Rattle.ulfm_script.proofs.Polls.{answers_plain, opens_adds}
+use Rattle.ulfm_script.proofs.Says.{IsApart}
 
 -- an entry adopts nothing
 abbrev pub IsPlain : Entry → Type 0
@@ -33,7 +37,7 @@ adds_same r new same = inl (ap (λ (s : State). s.log) same)
 pub adds_one : (r new : State) (e : Entry) → Fits r.ranks r.me r.log e → IsPlain e → new ≡ logged r e → Adds r new
 adds_one r new e fits plain only = inr (e, fits, plain, ap (λ (s : State). s.log) only)
 
-fits_apart : (n me : ℕ) (log : List Entry) (e : Entry) → IsApart e → Fits n me log e
+pub fits_apart : (n me : ℕ) (log : List Entry) (e : Entry) → IsApart e → Fits n me log e
 fits_apart n me log (Adopted d) h = absurd h
 fits_apart n me log (Entered context set) h = absurd h
 fits_apart n me log _ h = tt
@@ -43,7 +47,7 @@ adopts_none (Adopted d) h = h
 adopts_none _ h = tt
 
 -- an answer of a poll adds one such entry at most
-pub answers_add : (done : List StepReport) (r : State) (asked : Step) (answer : StepAnswer) (new : State) → Answers done r asked answer new → Adds r new
+pub answers_add : (done : List StepReport) (r : State) (asked : Step) (answer : StepAnswer) (new : State) → AnswersStep done r asked answer new → Adds r new
 answers_add done r asked answer new h = elim (answers_plain done r asked answer new h) [
   | inl same ↦ adds_same r new same.0
   | inr one ↦ adds_one r new one.0 (fits_apart r.ranks r.me r.log one.0 one.1.apart) (adopts_none one.0 one.1.apart) one.2
@@ -52,11 +56,13 @@ answers_add done r asked answer new h = elim (answers_plain done r asked answer 
 pub shrink_passed : (r : State) (c : ℕ) → Passes (shrink_checks r c) → (lacks r c ≡ false) × (has_entered r.log c ≡ false)
 shrink_passed r c h = let all = all_pass (shrink_checks r c) h in (all.1.0, all.1.1.0)
 
+-- an entry into a shrink that no check refuses fits
+pub fits_entered : (r : State) (comm : Context) (known : RankSet) → Passes (shrink_checks r comm.number) → Knows r.log known → Fits r.ranks r.me r.log (Entered comm known)
+fits_entered r comm known passes knows = let ok = shrink_passed r comm.number passes in (not-false _ ok.0, ok.1, knows)
+
 -- a poll that leaves a step open adds an entry into a shrink at most
-pub opens_add : (done : List StepReport) (r : State) (asked : Step) (new : State) → IsOpen done r asked new → Adds r new
+pub opens_add : (done : List StepReport) (r : State) (asked : Step) (new : State) → LeavesOpen done r asked new → Adds r new
 opens_add done r asked new h = elim (opens_adds done r asked new h) [
   | inl same ↦ adds_same r new same
-  | inr entry ↦
-      let ok = shrink_passed r entry.0.number entry.1 in
-      adds_one r new (Entered entry.0 entry.2.known) (not-false _ ok.0, ok.1, entry.2.knows) tt entry.2.only
+  | inr entry ↦ adds_one r new (Entered entry.0 entry.2.known) (fits_entered r entry.0 entry.2.known entry.1 entry.2.knows) tt entry.2.only
 ]

@@ -5,13 +5,13 @@ use Rattle.ulfm_rank.specs.Facts.{is_stopped}
 use Rattle.ulfm_rank.specs.Paired.{IsPaired}
 use Rattle.ulfm_rank.specs.State.{State}
 use Rattle.ulfm_script.specs.declared.answer.StepReport.{StepReport}
-use Rattle.ulfm_script.specs.declared.step.Step.{Step}
-use Rattle.ulfm_script.specs.declared.step.Step.TheVariants.{Shrink}
+use Rattle.ulfm_job.specs.declared.step.Step.{Step}
+use Rattle.ulfm_job.specs.declared.step.Step.TheVariants.{Shrink}
 use Rattle.ulfm_script.specs.Deciding.{Known}
-use Rattle.ulfm_script.specs.Player.{Player, Left, with_rank, start_player}
+use Rattle.ulfm_script.specs.Player.{Player, GivesUpStep, with_rank, start_player}
 use Rattle.ulfm_script.specs.Report.{Report}
-use Rattle.ulfm_script.specs.Answered.{IsTook, OnlyTook, IsAnswered, AreAnswered, EndsAtStop, HasAnswers}
-use Rattle.ulfm_script.specs.Honest.{Since, Stands, StandsOpen, IsHonest, Learns, OnlyTakes}
+use Rattle.ulfm_script.specs.Answered.{IsTook, OnlyTook, AnswerFollows, EndsAtStop, AnswersFollow}
+use Rattle.ulfm_script.specs.inside.SoFar.{Since, Stands, StandsOpen, AnswersFollowSoFar, Learns, OnlyTakes}
 use Rattle.ulfm_script.proofs.Beginnings.{Grew, took-on, took-none, enters-on}
 use Rattle.ulfm_script.proofs.Answers.{answered-grew, all-grew, answers-push}
 use Rattle.ulfm_script.proofs.Progress.{closed}
@@ -34,7 +34,7 @@ stands-on known r s before from (Some asked) at polls g all h = record {
   took = took-on r.log s.log g.more h.next g.log all h.took;
 }
 
-honest-rank : (known : Known) (p : Player) (r : State) → IsHonest known p → r.me ≡ p.rank.me → r.ranks ≡ p.rank.ranks → is_stopped r.log ≡ is_stopped p.rank.log → OnlyTakes p.rank.log r.log → IsHonest known (with_rank p r)
+honest-rank : (known : Known) (p : Player) (r : State) → AnswersFollowSoFar known p → r.me ≡ p.rank.me → r.ranks ≡ p.rank.ranks → is_stopped r.log ≡ is_stopped p.rank.log → OnlyTakes p.rank.log r.log → AnswersFollowSoFar known (with_rank p r)
 honest-rank known p r h me ranks stops takes =
     let g : Grew p.rank r = record { me = me; ranks = ranks; more = takes.more; log = takes.only } in
     record {
@@ -48,13 +48,11 @@ honest-rank known p r h me ranks stops takes =
     }
 
 -- what moves between a player and its end leaves its answers right
-pub honest-moved : (known : Known) (p q : Player) → IsHonest known p → q ≡ with_rank p q.rank → q.rank.me ≡ p.rank.me → q.rank.ranks ≡ p.rank.ranks → is_stopped q.rank.log ≡ is_stopped p.rank.log → OnlyTakes p.rank.log q.rank.log → IsHonest known q
-honest-moved known p q h only me ranks stops takes =
-    let H : Player → Type 0 = λ (x : Player). IsHonest known x in
-    subst H (sym only) (honest-rank known p q.rank h me ranks stops takes)
+pub honest-moved : (known : Known) (p q : Player) → AnswersFollowSoFar known p → q ≡ with_rank p q.rank → q.rank.me ≡ p.rank.me → q.rank.ranks ≡ p.rank.ranks → is_stopped q.rank.log ≡ is_stopped p.rank.log → OnlyTakes p.rank.log q.rank.log → AnswersFollowSoFar known q
+honest-moved known p q h only me ranks stops takes = rw only (honest-rank known p q.rank h me ranks stops takes)
 
 -- so does an answered step, whose entry, if it adds one, is the log's last
-pub honest-closed : (known later : Known) (p : Player) (r : State) (x : StepReport) → (h : IsHonest known p) → Learns p.rank h.place known later → Grew p.rank r → IsAnswered later r p.done h.place x (length r.log) → (is_stopped r.log ≡ true → EndsAtStop r.log) → IsHonest later (closed p r x)
+pub honest-closed : (known later : Known) (p : Player) (r : State) (x : StepReport) → (h : AnswersFollowSoFar known p) → Learns p.rank h.place known later → Grew p.rank r → AnswerFollows later r p.done h.place x (length r.log) → (is_stopped r.log ≡ true → EndsAtStop r.log) → AnswersFollowSoFar later (closed p r x)
 honest-closed known later p r x h k g a stop = record {
   place = length r.log;
   answers = answers-push later r p.done h.place x (length r.log) (all-grew known later p.rank r [] 0 p.done h.place k g h.answers) a;
@@ -63,12 +61,10 @@ honest-closed known later p r x h k g a stop = record {
 }
 
 -- an open step is given up
-pub honest-left : (known : Known) (p q : Player) → IsHonest known p → Left p q → IsHonest known q
+pub honest-left : (known : Known) (p q : Player) → AnswersFollowSoFar known p → GivesUpStep p q → AnswersFollowSoFar known q
 honest-left known p q h l =
-    let S : Option Step → Type 0 = λ (o : Option Step). Stands known p.rank p.done h.place o p.at p.polls in
-    let was : StandsOpen known p.rank p.done h.place l.step p.at p.polls = subst S l.was_open h.stands in
-    let H : Player → Type 0 = λ (x : Player). IsHonest known x in
-    subst H (sym l.only) (record {
+    let was : StandsOpen known p.rank p.done h.place l.step p.at p.polls = rw l.was_open at h.stands in
+    rw l.only (record {
       place = was.next;
       answers = answers-push known p.rank p.done h.place _ was.next h.answers was.left;
       stands = was.took;
@@ -76,22 +72,17 @@ honest-left known p q h l =
     })
 
 -- a player that starts
-pub honest-start : (known : Known) (me n : ℕ) → IsHonest known (start_player me n)
+pub honest-start : (known : Known) (me n : ℕ) → AnswersFollowSoFar known (start_player me n)
 honest-start known me n = record { place = 0; answers = refl; stands = took-none []; stop = λ s. absurd (false≢true s) }
 
 -- a player with no step open has its answers
-pub honest-answers : (known : Known) (p : Player) (report : Report) → IsHonest known p → p.current ≡ None → report.rank ≡ p.rank → report.steps ≡ p.done → IsPaired p.rank.log → HasAnswers known report
+pub honest-answers : (known : Known) (p : Player) (report : Report) → AnswersFollowSoFar known p → p.current ≡ None → report.rank ≡ p.rank → report.steps ≡ p.done → IsPaired p.rank.log → AnswersFollow known report
 honest-answers known p report h none rank steps paired =
-    let S : Option Step → Type 0 = λ (o : Option Step). Stands known p.rank p.done h.place o p.at p.polls in
-    let took : OnlyTook p.rank.log h.place (length p.rank.log) = subst S none h.stands in
-    let A : State → List StepReport → Type 0 = λ (r : State) (xs : List StepReport). AreAnswered known r [] 0 xs h.place in
-    let T : State → Type 0 = λ (r : State). OnlyTook r.log h.place (length r.log) in
-    let P : State → Type 0 = λ (r : State). IsPaired r.log in
-    let E : State → Type 0 = λ (r : State). is_stopped r.log ≡ true → EndsAtStop r.log in
+    let took : OnlyTook p.rank.log h.place (length p.rank.log) = rw none at h.stands in
     record {
       last = h.place;
-      answers = subst (λ (r : State). A r report.steps) (sym rank) (subst (A p.rank) (sym steps) h.answers);
-      took = subst T (sym rank) took;
-      stop = subst E (sym rank) h.stop;
-      paired = subst P (sym rank) paired;
+      answers = rw (rank, steps) h.answers;
+      took = rw rank took;
+      stop = rw rank h.stop;
+      paired = rw rank paired;
     }

@@ -1,13 +1,8 @@
 pub mod Adopting
-pub mod Filled
-pub mod Jobs
-pub mod Keys
-pub mod NoToml
 pub mod Positions
-pub mod Scripts
-pub mod Steps
 pub mod Waits
 pub mod Progress
+pub mod Says
 pub mod Polls
 pub mod Advance
 pub mod Decisions

@@ -7,7 +7,7 @@ use Rattle.ulfm_base.specs.declared.rank_set.RankSet.{RankSet}
 use Rattle.ulfm_rank.specs.declared.entry.Entry.{Entry}
 use Rattle.ulfm_rank.specs.declared.entry.Entry.TheVariants.{Entered}
 use Rattle.ulfm_rank.specs.Checks.{shrink_checks}
-use Rattle.ulfm_rank.specs.Log.{or_else, first_of}
+use Rattle.ulfm_rank.specs.Log.{or_else, first_given}
 use Rattle.ulfm_rank.specs.Shrink.{entry_of, has_entered}
 use Rattle.ulfm_rank.specs.State.{State}
 use Rattle.ulfm_rank.proofs.Refusals.{all_pass}
@@ -30,7 +30,7 @@ is_first (Some set) x y f h = refl
 
 entered-more : (log more : List Entry) (c : ℕ) → has_entered log c ≡ true → has_entered (log ++ more) c ≡ true
 entered-more [] more c h = absurd (false≢true h)
-entered-more (e ∷ log) more c h = is_first (entry_of c e) (first_of (entry_of c) log) (first_of (entry_of c) (log ++ more)) (entered-more log more c) h
+entered-more (e ∷ log) more c h = is_first (entry_of c e) (first_given (entry_of c) log) (first_given (entry_of c) (log ++ more)) (entered-more log more c) h
 
 is_second : (o x : Option RankSet) → is_some x ≡ true → is_some (or_else o x) ≡ true
 is_second None x h = h
@@ -38,7 +38,7 @@ is_second (Some set) x h = refl
 
 entered-here : (log : List Entry) (context : Context) (set : RankSet) → has_entered (log ++ Entered context set ∷ []) context.number ≡ true
 entered-here [] context set = ap (λ b. is_some (or_else (cond b (Some set) None) None)) (eq-eqb context.number context.number refl)
-entered-here (e ∷ log) context set = is_second (entry_of context.number e) (first_of (entry_of context.number) (log ++ Entered context set ∷ [])) (entered-here log context set)
+entered-here (e ∷ log) context set = is_second (entry_of context.number e) (first_given (entry_of context.number) (log ++ Entered context set ∷ [])) (entered-here log context set)
 
 -- a shrink that was entered up to a place isn't entered from there
 pub entered-once : (r : State) (a b : Context) (from at place to : ℕ) → EntersBetween r a from at → at ≤ place → EntersBetween r b place to → a.number ≡ b.number → ⊥

@@ -1,19 +1,20 @@
 -- A player that goes on through its script.
-use Rattle.std.proofs.Common.{◌≡◌, ℕ, ◌+◌, ◌-◌, ◌*◌, ◌^◌, ◌<◌, ◌≤◌, min, Bool, true, false, cond, List, [], ◌∷◌, ◌++◌, length, map, refl, ap, sym, subst, ◌∙◌, arith, append_assoc, length-append, inl, inr, ◌⊎◌, Option, Some, None, MatchOption, slice_get}
+use Rattle.std.proofs.Common.{◌≡◌, ℕ, ◌+◌, ◌-◌, ◌*◌, ◌^◌, ◌<◌, ◌≤◌, min, Bool, true, false, cond, List, [], ◌∷◌, ◌++◌, length, map, refl, ap, sym, ◌∙◌, arith, append_assoc, length-append, inl, inr, ◌⊎◌, Option, Some, None, MatchOption, slice_get}
 use Rattle.std.proofs.lemmas.Bool.{false≢true}
 use Rattle.std.proofs.lemmas.List.{map_push, length-map}
 use Rattle.std.proofs.lemmas.List.Elements.{All-nil, All-push}
 use Rattle.std.proofs.lemmas.Option.{same_Some}
 use Rattle.ulfm_rank.specs.Facts.{is_stopped}
 use Rattle.ulfm_rank.specs.State.{State}
-use Rattle.ulfm_script.specs.declared.step.Step.{Step}
+use Rattle.ulfm_job.specs.declared.step.Step.{Step}
 use Rattle.ulfm_script.specs.declared.answer.StepReport.{StepReport}
 use Rattle.ulfm_script.specs.Player.{Player, with_rank, polled, IsFree, start_player}
-use Rattle.ulfm_script.specs.Job.{is_stop_step, has_stop, through_stop}
-use Rattle.ulfm_script.specs.Script.{step_of, steps_done, IsPatient, FollowsAt, left_at}
+use Rattle.ulfm_job.specs.Job.{is_stop_step, through_stop}
+use Rattle.ulfm_script.specs.inside.Underway.{has_stop, FollowsSoFar, polls_left}
+use Rattle.ulfm_script.specs.Script.{reported_step, steps_done, IsPatient}
 
 split_next : (xs rest script : List Step) (s : Step) → xs ++ rest ≡ script → slice_get script (length xs) ≡ Some s → (more : List Step) × (rest ≡ s ∷ more)
-split_next xs rest script s e h = next xs rest s (let F : List Step → Type 0 = λ (l : List Step). slice_get l (length xs) ≡ Some s in subst F (sym e) h)
+split_next xs rest script s e h = next xs rest s (rw e h)
   where
     next : (xs rest : List Step) (s : Step) → slice_get (xs ++ rest) (length xs) ≡ Some s → (more : List Step) × (rest ≡ s ∷ more)
     next [] [] s h = let bad : ⊥ = cc in absurd bad
@@ -45,7 +46,7 @@ polls_below : (o : Option Step) (p t : ℕ) (P : Step → Type 0) → MatchOptio
 polls_below None p t P h k = omega (arith, h, k)
 polls_below (Some s) p t P h k = h.1
 
-pub polls_small : (script : List Step) (turns : ℕ) (p : Player) → FollowsAt script turns p → 0 < turns → p.polls < turns
+pub polls_small : (script : List Step) (turns : ℕ) (p : Player) → FollowsSoFar script turns p → 0 < turns → p.polls < turns
 polls_small script turns p h k = polls_below p.current p.polls turns (λ s. slice_get script (length p.done) ≡ Some s) h.current k
 
 -- the player with one more answer, whose rank is r now
@@ -53,12 +54,12 @@ abbrev pub closed : Player → State → StepReport → Player
 closed p r x = record { rank = r; done = p.done ++ x ∷ []; current = None; at = 0; polls = 0 }
 
 -- an answered step
-pub follows-closed : (script : List Step) (turns : ℕ) (old : Player) (r : State) (x : StepReport) → FollowsAt script turns old → is_stopped old.rank.log ≡ false → slice_get script (length old.done) ≡ Some x.step → is_stopped r.log ≡ is_stop_step x.step → IsPatient turns x → FollowsAt script turns (closed old r x)
+pub follows-closed : (script : List Step) (turns : ℕ) (old : Player) (r : State) (x : StepReport) → FollowsSoFar script turns old → is_stopped old.rank.log ≡ false → slice_get script (length old.done) ≡ Some x.step → is_stopped r.log ≡ is_stop_step x.step → IsPatient turns x → FollowsSoFar script turns (closed old r x)
 follows-closed script turns old r x h running next stop patient =
     let xs : List Step = steps_done old in
-    let l : length xs ≡ length old.done = length-map old.done step_of in
+    let l : length xs ≡ length old.done = length-map old.done reported_step in
     let following : (more : List Step) × (h.rest ≡ x.step ∷ more) = split_next xs h.rest script x.step h.split (ap (slice_get script) l ∙ next) in
-    let grown : map step_of (old.done ++ x ∷ []) ≡ xs ++ x.step ∷ [] = map_push step_of old.done x in
+    let grown : map reported_step (old.done ++ x ∷ []) ≡ xs ++ x.step ∷ [] = map_push reported_step old.done x in
     let whole : xs ++ x.step ∷ following.0 ≡ script = ap (λ (ys : List Step). xs ++ ys) (sym following.1) ∙ h.split in
     record {
       rest = following.0;
@@ -70,7 +71,7 @@ follows-closed script turns old r x h running next stop patient =
     }
 
 -- a step that stays open
-pub follows-polled : (script : List Step) (turns : ℕ) (old : Player) (r : State) (asked : Step) (at : ℕ) → FollowsAt script turns old → is_stopped old.rank.log ≡ false → is_stopped r.log ≡ false → slice_get script (length old.done) ≡ Some asked → (polled (with_rank old r) asked at).polls < turns → FollowsAt script turns (polled (with_rank old r) asked at)
+pub follows-polled : (script : List Step) (turns : ℕ) (old : Player) (r : State) (asked : Step) (at : ℕ) → FollowsSoFar script turns old → is_stopped old.rank.log ≡ false → is_stopped r.log ≡ false → slice_get script (length old.done) ≡ Some asked → (polled (with_rank old r) asked at).polls < turns → FollowsSoFar script turns (polled (with_rank old r) asked at)
 follows-polled script turns old r asked at h ran running next few = record {
   rest = h.rest;
   split = h.split;
@@ -86,7 +87,7 @@ left_numbers turns L k p h q =
     rw e (omega (arith, q))
 
 -- an answered step leaves fewer polls
-pub left-closed : (script : List Step) (turns : ℕ) (old : Player) (r : State) (x : StepReport) → old.polls < turns → length old.done < length script → left_at script turns (closed old r x) < left_at script turns old
+pub left-closed : (script : List Step) (turns : ℕ) (old : Player) (r : State) (x : StepReport) → old.polls < turns → length old.done < length script → polls_left script turns (closed old r x) < polls_left script turns old
 left-closed script turns old r x few inside =
     let l : length (old.done ++ x ∷ []) ≡ length old.done + 1 = omega (arith, length-append old.done (x ∷ [])) in
     rw l (omega (arith, left_numbers turns (length script) (length old.done) old.polls inside (omega (arith, few))))
@@ -99,7 +100,7 @@ left_polled turns L k p h q t =
     rw (e, m) (omega (arith, q))
 
 -- a player whose rank alone changed, and runs or has stopped as before
-pub follows-rank : (script : List Step) (turns : ℕ) (p : Player) (r : State) → is_stopped r.log ≡ is_stopped p.rank.log → FollowsAt script turns p → FollowsAt script turns (with_rank p r)
+pub follows-rank : (script : List Step) (turns : ℕ) (p : Player) (r : State) → is_stopped r.log ≡ is_stopped p.rank.log → FollowsSoFar script turns p → FollowsSoFar script turns (with_rank p r)
 follows-rank script turns p r stop h = record {
   rest = h.rest;
   split = h.split;
@@ -110,7 +111,7 @@ follows-rank script turns p r stop h = record {
 }
 
 -- no other step than the next one stands open
-pub next-free : (script : List Step) (turns : ℕ) (p : Player) (asked : Step) → FollowsAt script turns p → slice_get script (length p.done) ≡ Some asked → IsFree p asked
+pub next-free : (script : List Step) (turns : ℕ) (p : Player) (asked : Step) → FollowsSoFar script turns p → slice_get script (length p.done) ≡ Some asked → IsFree p asked
 next-free script turns p asked h next = free p.current h.current
   where
     free : (o : Option Step) → MatchOption o (p.polls ≡ 0) (λ s. (slice_get script (length p.done) ≡ Some s) × (p.polls < turns)) → (o ≡ None) ⊎ (o ≡ Some asked)
@@ -118,14 +119,13 @@ next-free script turns p asked h next = free p.current h.current
     free (Some s) k = inr (sym k.0 ∙ next)
 
 -- the step that stands open comes next
-pub next_open : (script : List Step) (turns : ℕ) (p : Player) (asked open_step : Step) → FollowsAt script turns p → slice_get script (length p.done) ≡ Some asked → p.current ≡ Some open_step → asked ≡ open_step
+pub next_open : (script : List Step) (turns : ℕ) (p : Player) (asked open_step : Step) → FollowsSoFar script turns p → slice_get script (length p.done) ≡ Some asked → p.current ≡ Some open_step → asked ≡ open_step
 next_open script turns p asked open_step h next current =
-    let C : Option Step → Type 0 = λ (o : Option Step). MatchOption o (p.polls ≡ 0) (λ s. (slice_get script (length p.done) ≡ Some s) × (p.polls < turns)) in
-    let here : (slice_get script (length p.done) ≡ Some open_step) × (p.polls < turns) = subst C current h.current in
+    let here : (slice_get script (length p.done) ≡ Some open_step) × (p.polls < turns) = rw current at h.current in
     same_Some asked open_step (sym next ∙ here.0)
 
 -- a player that starts
-pub follows-start : (script : List Step) (turns me n : ℕ) → FollowsAt script turns (start_player me n)
+pub follows-start : (script : List Step) (turns me n : ℕ) → FollowsSoFar script turns (start_player me n)
 follows-start script turns me n = record {
   rest = script;
   split = refl;

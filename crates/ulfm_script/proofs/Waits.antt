@@ -7,7 +7,8 @@ use Rattle.ulfm_rank.specs.declared.entry.TestAnswer.TheVariants.{Done, Over, Pe
 use Rattle.ulfm_rank.specs.State.{State, logged}
 use Rattle.ulfm_rank.specs.Answer.{is_release}
 use Rattle.ulfm_script.specs.declared.answer.StepReport.{StepReport}
-use Rattle.ulfm_script.specs.Player.{tested, Tests, answer_of, AnswersWait}
+use Rattle.ulfm_script.specs.Player.{tested, Tests, AnswersWait}
+use Rattle.ulfm_script.specs.inside.Underway.{answer_of}
 
 -- a test releases its request or changes nothing
 pub only_tested : (r new : State) (id : RequestId) (answer : TestAnswer) → (is_release answer ≡ true → new ≡ logged r (Released id answer)) → (is_release answer ≡ false → new ≡ r) → new ≡ tested r id answer

@@ -10,21 +10,21 @@ use Rattle.ulfm_rank.specs.declared.entry.Entry.{Entry}
 use Rattle.ulfm_rank.specs.State.{State}
 use Rattle.ulfm_script.specs.declared.answer.StepAnswer.TheVariants.{Unfinished, Refused}
 use Rattle.ulfm_script.specs.declared.answer.StepReport.{StepReport}
-use Rattle.ulfm_script.specs.declared.step.Step.{Step}
-use Rattle.ulfm_script.specs.declared.step.Step.TheVariants.{Shrink}
-use Rattle.ulfm_script.specs.Answered.{Stood, IsTook, OnlyTook, EntersBetween, AnsweredByDecision, IsAnswered, AreAnswered, HasAnswers}
+use Rattle.ulfm_job.specs.declared.step.Step.{Step}
+use Rattle.ulfm_job.specs.declared.step.Step.TheVariants.{Shrink}
+use Rattle.ulfm_script.specs.Answered.{StoodAt, IsTook, OnlyTook, EntersBetween, AnsweredByDecision, by_call, left_by_call, by_decision, left_undecided, AnswerFollows, EachAnswerFollows, AnswersFollow}
 use Rattle.ulfm_script.specs.Deciding.{Known, AnswersAdoption}
-use Rattle.ulfm_script.specs.Honest.{Since, Stands, IsHonest}
-use Rattle.ulfm_script.specs.Player.{Player, Answers, IsOpen}
+use Rattle.ulfm_script.specs.inside.SoFar.{Since, Stands, AnswersFollowSoFar}
+use Rattle.ulfm_script.specs.Player.{Player, AnswersStep, LeavesOpen}
 use Rattle.ulfm_script.specs.Report.{Report}
 
 -- K holds of the answered steps and the log after each thing that may happen to the rank r, if it held before: an item is
 -- taken, a step is answered by a call, left open by one, answered by a decision, or ended without either
 pub record KeepsAll (known : Known) (r : State) (K : List StepReport → List Entry → Type 0) : Type 0 where
   pub takes : (done : List StepReport) (log : List Entry) (e : Entry) → IsTook e → K done log → K done (log ++ e ∷ [])
-  pub answers : (n : ℕ) (old new : State) (done : List StepReport) (report : StepReport) → Stood r n old → Answers done old report.step report.answer new → K done old.log → K (done ++ report ∷ []) new.log
-  pub opens : (n : ℕ) (old new : State) (done : List StepReport) (asked : Step) → Stood r n old → IsOpen done old asked new → K done old.log → K done new.log
-  pub adopts : (n : ℕ) (old new : State) (done : List StepReport) (report : StepReport) (comm : Context) (held : Decision) → Stood r n old → report.step ≡ Shrink comm → known_at known comm.number ≡ Some held → AnswersAdoption old comm held report.answer new → K done old.log → K (done ++ report ∷ []) new.log
+  pub answers : (n : ℕ) (old new : State) (done : List StepReport) (report : StepReport) → StoodAt r n old → AnswersStep done old report.step report.answer new → K done old.log → K (done ++ report ∷ []) new.log
+  pub opens : (n : ℕ) (old new : State) (done : List StepReport) (asked : Step) → StoodAt r n old → LeavesOpen done old asked new → K done old.log → K done new.log
+  pub adopts : (n : ℕ) (old new : State) (done : List StepReport) (report : StepReport) (comm : Context) (held : Decision) → StoodAt r n old → report.step ≡ Shrink comm → known_at known comm.number ≡ Some held → AnswersAdoption old comm held report.answer new → K done old.log → K (done ++ report ∷ []) new.log
   pub ends : (log : List Entry) (done : List StepReport) (report : StepReport) → (report.answer ≡ Unfinished) ⊎ (report.answer ≡ Refused OutOfMemory) → K done log → K (done ++ report ∷ []) log
 
 module _ (known : Known) (r : State) (K : List StepReport → List Entry → Type 0) (keeps : KeepsAll known r K) where
@@ -33,18 +33,16 @@ module _ (known : Known) (r : State) (K : List StepReport → List Entry → Typ
 
   -- a beginning of the log
   front_is : (front rest : List Entry) (n : ℕ) → front ++ rest ≡ r.log → length front ≡ n → take n r.log ≡ front
-  front_is front rest n whole size =
-      let T : ℕ → Type 0 = λ (k : ℕ). take k r.log ≡ front in
-      subst T size (ap (take (length front)) (sym whole) ∙ take-append_seam front rest)
+  front_is front rest n whole size = rw size at (ap (take (length front)) (sym whole) ∙ take-append_seam front rest)
 
-  stood_is : (n : ℕ) (s : State) → Stood r n s → take n r.log ≡ s.log
+  stood_is : (n : ℕ) (s : State) → StoodAt r n s → take n r.log ≡ s.log
   stood_is n s h = front_is s.log h.rest n h.beginning h.entries
 
   -- from a place to the rank that stood there, and back
-  to_stood : (done : List StepReport) (n : ℕ) (s : State) → Stood r n s → Good done n → K done s.log
+  to_stood : (done : List StepReport) (n : ℕ) (s : State) → StoodAt r n s → Good done n → K done s.log
   to_stood done n s h good = subst (K done) (stood_is n s h) good
 
-  from_stood : (done : List StepReport) (n : ℕ) (s : State) → Stood r n s → K done s.log → Good done n
+  from_stood : (done : List StepReport) (n : ℕ) (s : State) → StoodAt r n s → K done s.log → Good done n
   from_stood done n s h k = subst (K done) (sym (stood_is n s h)) k
 
   good_more : (done : List StepReport) (log es : List Entry) → All IsTook es → K done log → K done (log ++ es)
@@ -65,7 +63,7 @@ module _ (known : Known) (r : State) (K : List StepReport → List Entry → Typ
       let entered : K done h.new.log = keeps.opens h.place h.old h.new done (Shrink comm) h.stood (h.accepted, h.enters) before in
       good_took done (h.place + 1) to h.took_after (from_stood done (h.place + 1) h.new h.stood_next entered)
 
-  good_decided : (done : List StepReport) (from n : ℕ) (report : StepReport) (old new : State) → n ≡ report.at → Stood r n old → AnsweredByDecision known r from report old new → Good done from → K (done ++ report ∷ []) new.log
+  good_decided : (done : List StepReport) (from n : ℕ) (report : StepReport) (old new : State) → n ≡ report.at → StoodAt r n old → AnsweredByDecision known r from report old new → Good done from → K (done ++ report ∷ []) new.log
   good_decided done from n report old new here stood h good =
       let now : K done old.log = to_stood done n old stood (subst (Good done) (sym here) (good_enters done h.comm from report.at h.entered good)) in
       elim h.outcome [
@@ -73,15 +71,15 @@ module _ (known : Known) (r : State) (K : List StepReport → List Entry → Typ
         | inr w ↦ keeps.ends new.log done report (inr w.refused) (subst (λ (s : State). K done s.log) (sym w.only) now)
       ]
 
-  good_answered : (done : List StepReport) (from : ℕ) (report : StepReport) (to : ℕ) → IsAnswered known r done from report to → Good done from → Good (done ++ report ∷ []) to
+  good_answered : (done : List StepReport) (from : ℕ) (report : StepReport) (to : ℕ) → AnswerFollows known r done from report to → Good done from → Good (done ++ report ∷ []) to
   good_answered done from report to h good = from_stood (done ++ report ∷ []) to h.new h.stood_next (elim h.how [
-    | inl a ↦ keeps.answers report.at h.old h.new done report h.stood a.answers (to_stood done report.at h.old h.stood (good_took done from report.at a.took good))
-    | inr (inl l) ↦ keeps.ends h.new.log done report (inl l.given_up) (keeps.opens report.at h.old h.new done report.step h.stood l.opens (to_stood done report.at h.old h.stood (good_took done from report.at l.took good)))
-    | inr (inr (inl d)) ↦ good_decided done from report.at report h.old h.new refl h.stood d good
-    | inr (inr (inr u)) ↦ keeps.ends h.new.log done report (inl u.given_up) (subst (λ (s : State). K done s.log) (sym u.only) (to_stood done report.at h.old h.stood (good_enters done u.comm from report.at u.entered good)))
+    | by_call a ↦ keeps.answers report.at h.old h.new done report h.stood a.answers (to_stood done report.at h.old h.stood (good_took done from report.at a.took good))
+    | left_by_call l ↦ keeps.ends h.new.log done report (inl l.given_up) (keeps.opens report.at h.old h.new done report.step h.stood l.opens (to_stood done report.at h.old h.stood (good_took done from report.at l.took good)))
+    | by_decision d ↦ good_decided done from report.at report h.old h.new refl h.stood d good
+    | left_undecided u ↦ keeps.ends h.new.log done report (inl u.given_up) (subst (λ (s : State). K done s.log) (sym u.only) (to_stood done report.at h.old h.stood (good_enters done u.comm from report.at u.entered good)))
   ])
 
-  good_all : (done : List StepReport) (from : ℕ) (reports : List StepReport) (to : ℕ) → AreAnswered known r done from reports to → Good done from → Good (done ++ reports) to
+  good_all : (done : List StepReport) (from : ℕ) (reports : List StepReport) (to : ℕ) → EachAnswerFollows known r done from reports to → Good done from → Good (done ++ reports) to
   good_all done from [] to h good = subst (λ (ds : List StepReport). Good ds to) (sym (append-nil done)) (subst (Good done) h good)
   good_all done from (x ∷ xs) to h good = subst (λ (ds : List StepReport). Good ds to) (append_assoc done (x ∷ []) xs) (good_all (done ++ x ∷ []) h.0 xs to h.2 (good_answered done from x h.0 h.1 good))
 
@@ -94,13 +92,13 @@ module _ (known : Known) (r : State) (K : List StepReport → List Entry → Typ
   good_stands done from (Some asked) at polls h good = good_since done from asked h.since good
 
 -- what holds at the start, and is kept by all that may happen, holds of a player with right answers
-pub walked : (known : Known) (p : Player) (K : List StepReport → List Entry → Type 0) → KeepsAll known p.rank K → K [] [] → IsHonest known p → K p.done p.rank.log
+pub walked : (known : Known) (p : Player) (K : List StepReport → List Entry → Type 0) → KeepsAll known p.rank K → K [] [] → AnswersFollowSoFar known p → K p.done p.rank.log
 walked known p K keeps start h =
     let last : K p.done (take h.place p.rank.log) = good_all known p.rank K keeps [] 0 p.done h.place h.answers start in
     subst (K p.done) (take-length p.rank.log) (good_stands known p.rank K keeps p.done h.place p.current p.at p.polls h.stands last)
 
 -- and of a report of one
-pub reported : (known : Known) (told : Report) (K : List StepReport → List Entry → Type 0) → KeepsAll known told.rank K → K [] [] → HasAnswers known told → K told.steps told.rank.log
+pub reported : (known : Known) (told : Report) (K : List StepReport → List Entry → Type 0) → KeepsAll known told.rank K → K [] [] → AnswersFollow known told → K told.steps told.rank.log
 reported known told K keeps start h =
     let p : Player = record { rank = told.rank; done = told.steps; current = None; at = 0; polls = 0 } in
     walked known p K keeps start (record { place = h.last; answers = h.answers; stands = h.took; stop = h.stop })

@@ -14,14 +14,14 @@ use Rattle.ulfm_rank.specs.State.{State}
 use Rattle.ulfm_script.specs.declared.answer.StepAnswer.{StepAnswer}
 use Rattle.ulfm_script.specs.declared.answer.StepAnswer.TheVariants.{Unfinished, Refused}
 use Rattle.ulfm_script.specs.declared.answer.StepReport.{StepReport}
-use Rattle.ulfm_script.specs.declared.step.Step.{Step}
-use Rattle.ulfm_script.specs.declared.step.Step.TheVariants.{Shrink}
-use Rattle.ulfm_script.specs.Deciding.{Known, AnswersAdoption, Proposes}
-use Rattle.ulfm_script.specs.Player.{Answers, IsOpen, comm_of}
+use Rattle.ulfm_job.specs.declared.step.Step.{Step}
+use Rattle.ulfm_job.specs.declared.step.Step.TheVariants.{Shrink}
+use Rattle.ulfm_script.specs.Deciding.{Known, AnswersAdoption, HasProposal}
+use Rattle.ulfm_script.specs.Player.{AnswersStep, LeavesOpen, comm_of}
 use Rattle.ulfm_script.specs.Report.{Report}
 
 -- the rank as it stood when its log had so many entries; what left its outboxes plays no part in an answer
-pub record Stood (rank : State) (many : ℕ) (then : State) : Type 0 where
+pub record StoodAt (rank : State) (many : ℕ) (then : State) : Type 0 where
   pub me : then.me ≡ rank.me
   pub ranks : then.ranks ≡ rank.ranks
   pub rest : List Entry
@@ -49,17 +49,18 @@ pub record EntersBetween (rank : State) (comm : Context) (from to : ℕ) : Type 
   pub place : ℕ
   pub old : State
   pub new : State
-  pub stood : Stood rank place old
-  pub stood_next : Stood rank (place + 1) new
+  pub stood : StoodAt rank place old
+  pub stood_next : StoodAt rank (place + 1) new
   pub accepted : Passes (shrink_checks old comm.number)
   pub enters : Enters old (comm_of comm) new
   pub took_before : OnlyTook rank.log from place
   pub took_after : OnlyTook rank.log (place + 1) to
 
 -- The rank only took since the step before, and the call of this one answered it.
-pub record AnsweredByCall (rank : State) (before : List StepReport) (from : ℕ) (report : StepReport) (old new : State) : Type 0 where
+pub record AnsweredByCall (rank : State) (before : List StepReport) (from : ℕ) (report : StepReport)
+    (old new : State) : Type 0 where
   pub took : OnlyTook rank.log from report.at
-  pub answers : Answers before old report.step report.answer new
+  pub answers : AnswersStep before old report.step report.answer new
 
 -- the step is a shrink
 abbrev pub IsShrink : Step → Type 0
@@ -71,7 +72,7 @@ IsShrink _ = ⊥
 pub record LeftByCall (rank : State) (before : List StepReport) (from : ℕ) (report : StepReport) (old new : State) : Type 0 where
   pub took : OnlyTook rank.log from report.at
   pub given_up : report.answer ≡ Unfinished
-  pub opens : IsOpen before old report.step new
+  pub opens : LeavesOpen before old report.step new
   pub first : IsShrink report.step → report.polls ≡ 1
 
 -- the decision that the rank's decider knows is adopted, or not, for a reason that stands
@@ -91,7 +92,7 @@ pub record AnsweredByDecision (known : Known) (rank : State) (from : ℕ) (repor
   pub comm : Context
   pub shrink : report.step ≡ Shrink comm
   pub entered : EntersBetween rank comm from report.at
-  pub proposes : Proposes old comm
+  pub proposes : HasProposal old comm
   pub outcome : AdoptsKnown known old comm report.answer new ⊎ WantsMemory known old comm report.answer new
 
 -- The rank entered the shrink since the step before, and at a later poll had no proposal.
@@ -101,28 +102,35 @@ pub record LeftUndecided (rank : State) (from : ℕ) (report : StepReport) (old 
   pub entered : EntersBetween rank comm from report.at
   pub given_up : report.answer ≡ Unfinished
   pub later : 1 < report.polls
-  pub undecided : Proposes old comm → ⊥
+  pub undecided : HasProposal old comm → ⊥
   pub only : new ≡ old
+
+-- How an answer came about: the call of the step gave it or left the step open, the decision of a shrink gave it, or there was no
+-- decision to be had.
+pub data How (known : Known) (rank : State) (before : List StepReport) (from : ℕ) (report : StepReport)
+    (old new : State) : Type 0 where
+  by_call : AnsweredByCall rank before from report old new → How known rank before from report old new
+  left_by_call : LeftByCall rank before from report old new → How known rank before from report old new
+  by_decision : AnsweredByDecision known rank from report old new → How known rank before from report old new
+  left_undecided : LeftUndecided rank from report old new → How known rank before from report old new
 
 -- The step's answer is right for the rank as it stood at the report's place, after these answered steps, of which the last
 -- one's entries end at the place `from`; what the answer adds to the log comes next, and ends at the place `to`.
-pub record IsAnswered (known : Known) (rank : State) (before : List StepReport) (from : ℕ) (report : StepReport) (to : ℕ) : Type 0 where
+pub record AnswerFollows (known : Known) (rank : State) (before : List StepReport) (from : ℕ)
+    (report : StepReport) (to : ℕ) : Type 0 where
   pub old : State
   pub new : State
-  pub stood : Stood rank report.at old
-  pub stood_next : Stood rank to new
+  pub stood : StoodAt rank report.at old
+  pub stood_next : StoodAt rank to new
   pub onward : report.at ≤ to
-  pub how :
-      AnsweredByCall rank before from report old new
-      ⊎ (LeftByCall rank before from report old new
-      ⊎ (AnsweredByDecision known rank from report old new
-      ⊎ LeftUndecided rank from report old new))
+  pub how : How known rank before from report old new
 
 -- these steps are answered, one after another, from one place of the log to another
-abbrev pub AreAnswered : Known → State → List StepReport → ℕ → List StepReport → ℕ → Type 0
-AreAnswered known rank before from [] to = from ≡ to
-AreAnswered known rank before from (report ∷ reports) to =
-    (next : ℕ) × IsAnswered known rank before from report next × AreAnswered known rank (before ++ report ∷ []) next reports to
+abbrev pub EachAnswerFollows : Known → State → List StepReport → ℕ → List StepReport → ℕ → Type 0
+EachAnswerFollows known rank before from [] to = from ≡ to
+EachAnswerFollows known rank before from (report ∷ reports) to =
+    (next : ℕ) × AnswerFollows known rank before from report next
+    × EachAnswerFollows known rank (before ++ report ∷ []) next reports to
 
 -- the stop, where the log has one, is its last entry
 pub record EndsAtStop (log : List Entry) : Type 0 where
@@ -133,9 +141,9 @@ pub record EndsAtStop (log : List Entry) : Type 0 where
 -- Each answer of a rank is its step's answer on the log's beginning up to its place, where a decision is the one that its
 -- decider knows. After the last one the rank only took, and nothing after a stop. The log's history has one lawful pairing,
 -- and its pairs inside a beginning are those by which a wait is answered there.
-pub record HasAnswers (known : Known) (report : Report) : Type 0 where
+pub record AnswersFollow (known : Known) (report : Report) : Type 0 where
   pub last : ℕ
-  pub answers : AreAnswered known report.rank [] 0 report.steps last
+  pub answers : EachAnswerFollows known report.rank [] 0 report.steps last
   pub took : OnlyTook report.rank.log last (length report.rank.log)
   pub stop : is_stopped report.rank.log ≡ true → EndsAtStop report.rank.log
   pub paired : IsPaired report.rank.log

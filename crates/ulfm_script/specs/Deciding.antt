@@ -10,7 +10,7 @@ use Rattle.ulfm_rank.specs.declared.entry.Entry.TheVariants.{Adopted}
 use Rattle.ulfm_rank.specs.State.{State, logged}
 use Rattle.ulfm_rank.specs.Checks.{Passes, group_at, proposal_checks, adopt_checks}
 use Rattle.ulfm_rank.specs.Shrink.{has_proposal, IsProposal}
-use Rattle.ulfm_script.specs.declared.step.Step.TheVariants.{Shrink}
+use Rattle.ulfm_job.specs.declared.step.Step.TheVariants.{Shrink}
 use Rattle.ulfm_script.specs.declared.answer.StepAnswer.{StepAnswer}
 use Rattle.ulfm_script.specs.declared.answer.StepAnswer.TheVariants.{Shrunk, Refused}
 use Rattle.ulfm_script.specs.declared.answer.Decided.{Decided}
@@ -34,13 +34,15 @@ AnswersAdoption r comm held (Refused e) new = Refuses (adopt_checks r comm.numbe
 AnswersAdoption r comm held _ new = ⊥
 
 -- the decision that the board holds, once the proposal is handed in, is adopted
-pub record AdoptsHeld (board : Option (List ℕ)) (known later : Known) (proposal : Decision) (r : State) (comm : Context) (answer : StepAnswer) (new : State) : Type 0 where
+pub record AdoptsBoardDecision (board : Option (List ℕ)) (known later : Known) (proposal : Decision)
+    (r : State) (comm : Context) (answer : StepAnswer) (new : State) : Type 0 where
   pub held : Decision
   pub board_answers : BoardAnswers board known proposal held later
   pub adoption : AnswersAdoption r comm held answer new
 
 -- the board found no memory, and nothing changes
-pub record BoardStarves (board : Option (List ℕ)) (known later : Known) (proposal : Decision) (r : State) (answer : StepAnswer) (new : State) : Type 0 where
+pub record BoardStarves (board : Option (List ℕ)) (known later : Known) (proposal : Decision) (r : State)
+    (answer : StepAnswer) (new : State) : Type 0 where
   pub starves : Starves board known proposal.context.number
   pub known_stay : later ≡ known
   pub refused : answer ≡ Refused OutOfMemory
@@ -48,24 +50,27 @@ pub record BoardStarves (board : Option (List ℕ)) (known later : Known) (propo
 
 -- A shrink is decided: the rank's proposal is handed in at the board, and the decision that is held there is adopted, or
 -- the board has no memory.
-pub record AnswersDecision (board : Option (List ℕ)) (known later : Known) (r : State) (comm : Context) (answer : StepAnswer) (new : State) : Type 0 where
+pub record AnswersDecision (board : Option (List ℕ)) (known later : Known) (r : State) (comm : Context)
+    (answer : StepAnswer) (new : State) : Type 0 where
   pub accepted : Passes (proposal_checks r comm.number)
   pub proposal : Decision
   pub proposed : IsProposal r.ranks r.me r.log comm.number proposal
-  pub outcome : AdoptsHeld board known later proposal r comm answer new ⊎ BoardStarves board known later proposal r answer new
+  pub outcome : AdoptsBoardDecision board known later proposal r comm answer new
+      ⊎ BoardStarves board known later proposal r answer new
 
 -- a rank has a proposal for the shrink of a communicator
-pub record Proposes (r : State) (comm : Context) : Type 0 where
+pub record HasProposal (r : State) (comm : Context) : Type 0 where
   pub accepted : Passes (proposal_checks r comm.number)
   pub complete : has_proposal r.me (group_at r comm.number) r.log comm.number ≡ true
 
 -- the shrink of this communicator stands open, and has a proposal
-pub record IsReady (p : Player) (comm : Context) : Type 0 where
+pub record IsReadyToDecide (p : Player) (comm : Context) : Type 0 where
   pub waits : p.current ≡ Some (Shrink comm)
-  pub proposes : Proposes p.rank comm
+  pub proposes : HasProposal p.rank comm
 
 -- the open shrink of this communicator is decided, and answered
-pub record IsDecided (old : Player) (comm : Context) (board : Option (List ℕ)) (known : Known) (new : Player) (later : Known) : Type 0 where
+pub record IsDecided (old : Player) (comm : Context) (board : Option (List ℕ)) (known : Known) (new : Player)
+    (later : Known) : Type 0 where
   pub waits : old.current ≡ Some (Shrink comm)
   pub answer : StepAnswer
   pub rank : State
@@ -74,7 +79,7 @@ pub record IsDecided (old : Player) (comm : Context) (board : Option (List ℕ))
 
 -- it isn't ready, and nothing changes
 pub record IsNotReady (old : Player) (comm : Context) (known : Known) (new : Player) (later : Known) : Type 0 where
-  pub not_ready : IsReady old comm → ⊥
+  pub not_ready : IsReadyToDecide old comm → ⊥
   pub player_stays : new ≡ old
   pub known_stay : later ≡ known
 

@@ -8,7 +8,7 @@ use Rattle.ulfm_base.specs.declared.error.CallError.TheVariants.{NoRequest, OutO
 use Rattle.ulfm_base.specs.Context.{dup_of}
 use Rattle.ulfm_base.specs.Group.{rank_in}
 use Rattle.ulfm_match.specs.declared.request.RequestId.{RequestId}
-use Rattle.ulfm_match.specs.History.{number}
+use Rattle.ulfm_match.specs.History.{count_before}
 use Rattle.ulfm_match.specs.Pairing.{Pairing, LawfulPairing}
 use Rattle.ulfm_rank.specs.declared.entry.Comm.{Comm}
 use Rattle.ulfm_rank.specs.declared.entry.Entry.{Entry}
@@ -21,8 +21,8 @@ use Rattle.ulfm_rank.specs.History.{history_of}
 use Rattle.ulfm_rank.specs.Answer.{IsRequest, IsNoRequest, IsTestAnswer, is_release}
 use Rattle.ulfm_rank.specs.Checks.{Check, Passes, Fails, FailsOrStarves, group_at, comm_checks, send_checks, receive_checks, dup_checks, shrink_checks}
 use Rattle.ulfm_rank.specs.Calls.{Sends, Posts, Enters, acknowledging, revoking, stopping}
-use Rattle.ulfm_script.specs.declared.step.Step.{Step}
-use Rattle.ulfm_script.specs.declared.step.Step.TheVariants.{Send, Recv, Wait, Failed, Ack, Revoke, Dup, Shrink, Stop}
+use Rattle.ulfm_job.specs.declared.step.Step.{Step}
+use Rattle.ulfm_job.specs.declared.step.Step.TheVariants.{Send, Recv, Wait, Failed, Ack, Revoke, Dup, Shrink, Stop}
 use Rattle.ulfm_script.specs.declared.answer.StepAnswer.{StepAnswer}
 use Rattle.ulfm_script.specs.declared.answer.StepAnswer.TheVariants.{Sent, Posted, Done, Over, Pending, Ranks, Acked, Revoked, Made, Stopped, Unfinished, Refused}
 use Rattle.ulfm_script.specs.declared.answer.StepReport.{StepReport}
@@ -53,12 +53,12 @@ abbrev pub with_rank : Player → State → Player
 with_rank p r = record { rank = r; done = p.done; current = p.current; at = p.at; polls = p.polls }
 
 -- a step's answer, with the log's length when its last poll began and the polls that left it open
-abbrev pub report_of : Step → StepAnswer → ℕ → ℕ → StepReport
-report_of step answer at polls = record { step = step; answer = answer; at = at; polls = polls }
+abbrev pub step_report : Step → StepAnswer → ℕ → ℕ → StepReport
+step_report step answer at polls = record { step = step; answer = answer; at = at; polls = polls }
 
 -- the step has its answer, which its last poll, begun at this length of the log, gave
 abbrev pub answered : Player → Step → StepAnswer → ℕ → Player
-answered p step answer at = record { rank = p.rank; done = p.done ++ report_of step answer at p.polls ∷ []; current = None; at = 0; polls = 0 }
+answered p step answer at = record { rank = p.rank; done = p.done ++ step_report step answer at p.polls ∷ []; current = None; at = 0; polls = 0 }
 
 -- one more poll, begun at this length of the log, left the step open
 abbrev pub polled : Player → Step → ℕ → Player
@@ -78,14 +78,16 @@ Refuses checks e r new = FailsOrStarves checks e × (new ≡ r)
 
 -- a send is accepted with its letter, or refused
 abbrev pub AnswersSend : State → ℕ → Tag → List ℕ → Context → StepAnswer → State → Type 0
-AnswersSend r to tag body comm Sent new = Passes (send_checks r comm.number to (length body)) × Sends r (comm_of comm) to tag body new
+AnswersSend r to tag body comm Sent new =
+    Passes (send_checks r comm.number to (length body)) × Sends r (comm_of comm) to tag body new
 AnswersSend r to tag body comm (Refused e) new = Refuses (send_checks r comm.number to (length body)) e r new
 AnswersSend r to tag body comm _ new = ⊥
 
 -- the request has the number of the new post
 abbrev pub AnswersRecv : State → Option ℕ → Option Tag → ℕ → Context → StepAnswer → State → Type 0
 AnswersRecv r source tag room comm (Posted id) new =
-    Passes (receive_checks r comm.number source) × Posts r (comm_of comm) source tag room new × (id.number ≡ number (history_of r.log) (length (history_of r.log)))
+    Passes (receive_checks r comm.number source) × Posts r (comm_of comm) source tag room new
+    × (id.number ≡ count_before (history_of r.log) (length (history_of r.log)))
 AnswersRecv r source tag room comm (Refused e) new = Refuses (receive_checks r comm.number source) e r new
 AnswersRecv r source tag room comm _ new = ⊥
 
@@ -119,13 +121,6 @@ pub record Tests (before : List StepReport) (r : State) (req : ℕ) (answer : Te
   pub answers : IsTestAnswer r.ranks r.log id.number answer
   pub only : new ≡ tested r id answer
 
--- what a test's answer is for a wait: nothing where the receive still waits
-abbrev pub answer_of : TestAnswer → Option StepAnswer
-answer_of (TestDone status body) = Some (Done status body)
-answer_of (TestOver reason) = Some (Over reason)
-answer_of TestPending = Some Pending
-answer_of TestNotYet = None
-
 -- there is no request, or it was released
 abbrev pub IsNoRequestOf : List Entry → Option RequestId → Type 0
 IsNoRequestOf log None = ⊤
@@ -141,30 +136,34 @@ AnswersWait before r req _ new = ⊥
 
 -- these are the positions in the group of its members that are known to have failed, in the order of the notices
 abbrev pub IsFailedList : List ℕ → List Entry → List ℕ → Type 0
-IsFailedList group log positions = positions ≡ filter_map (λ member. rank_in group member) (known_in group log)
+IsFailedList group log positions = positions ≡ filter_map (λ member. rank_in group member) (known_in log group)
 
 -- the failed members are told, or the question is refused
 abbrev pub AnswersFailed : State → Context → StepAnswer → State → Type 0
-AnswersFailed r comm (Ranks members) new = Passes (comm_checks r comm.number []) × IsFailedList (group_at r comm.number) r.log members.items × (new ≡ r)
+AnswersFailed r comm (Ranks members) new =
+    Passes (comm_checks r comm.number []) × IsFailedList (group_at r comm.number) r.log members.items × (new ≡ r)
 AnswersFailed r comm (Refused e) new = Fails (comm_checks r comm.number []) e × (new ≡ r)
 AnswersFailed r comm _ new = ⊥
 
 -- the total is told, or the acknowledgement is refused
 abbrev pub AnswersAck : State → ℕ → Context → StepAnswer → State → Type 0
 AnswersAck r count comm (Acked total) new =
-    Passes (comm_checks r comm.number []) × (total ≡ ack_answer (group_at r comm.number) r.log comm.number count) × (new ≡ acknowledging r comm total)
+    Passes (comm_checks r comm.number []) × (total ≡ ack_answer r.log (group_at r comm.number) comm.number count)
+    × (new ≡ acknowledging r comm total)
 AnswersAck r count comm (Refused e) new = Refuses (comm_checks r comm.number []) e r new
 AnswersAck r count comm _ new = ⊥
 
 -- the communicator is revoked, or the revocation is refused; where it was revoked before, not for want of memory
 abbrev pub AnswersRevoke : State → Context → StepAnswer → State → Type 0
 AnswersRevoke r comm Revoked new = Passes (comm_checks r comm.number []) × (new ≡ revoking r comm)
-AnswersRevoke r comm (Refused e) new = Refuses (comm_checks r comm.number []) e r new × (e ≡ OutOfMemory → is_revoked r.log comm.number ≡ false)
+AnswersRevoke r comm (Refused e) new =
+    Refuses (comm_checks r comm.number []) e r new × (e ≡ OutOfMemory → is_revoked r.log comm.number ≡ false)
 AnswersRevoke r comm _ new = ⊥
 
 -- the duplicate is made, or refused
 abbrev pub AnswersDup : State → Context → StepAnswer → State → Type 0
-AnswersDup r comm (Made child) new = Passes (dup_checks r comm.number) × (child.context.number ≡ dup_of comm.number) × (new ≡ logged r (Duplicated comm))
+AnswersDup r comm (Made child) new =
+    Passes (dup_checks r comm.number) × (child.context.number ≡ dup_of comm.number) × (new ≡ logged r (Duplicated comm))
 AnswersDup r comm (Refused e) new = Refuses (dup_checks r comm.number) e r new
 AnswersDup r comm _ new = ⊥
 
@@ -179,22 +178,22 @@ AnswersStop r Stopped new = new ≡ stopping r
 AnswersStop r _ new = ⊥
 
 -- A poll that answers the step says this, after these answered steps, and makes `new` of the rank.
-abbrev pub Answers : List StepReport → State → Step → StepAnswer → State → Type 0
-Answers before r (Send to tag body comm) answer new = AnswersSend r to tag body comm answer new
-Answers before r (Recv source tag room comm) answer new = AnswersRecv r source tag room comm answer new
-Answers before r (Wait req) answer new = AnswersWait before r req answer new
-Answers before r (Failed comm) answer new = AnswersFailed r comm answer new
-Answers before r (Ack count comm) answer new = AnswersAck r count comm answer new
-Answers before r (Revoke comm) answer new = AnswersRevoke r comm answer new
-Answers before r (Dup comm) answer new = AnswersDup r comm answer new
-Answers before r (Shrink comm) answer new = AnswersEntry r comm answer new
-Answers before r Stop answer new = AnswersStop r answer new
+abbrev pub AnswersStep : List StepReport → State → Step → StepAnswer → State → Type 0
+AnswersStep before r (Send to tag body comm) answer new = AnswersSend r to tag body comm answer new
+AnswersStep before r (Recv source tag room comm) answer new = AnswersRecv r source tag room comm answer new
+AnswersStep before r (Wait req) answer new = AnswersWait before r req answer new
+AnswersStep before r (Failed comm) answer new = AnswersFailed r comm answer new
+AnswersStep before r (Ack count comm) answer new = AnswersAck r count comm answer new
+AnswersStep before r (Revoke comm) answer new = AnswersRevoke r comm answer new
+AnswersStep before r (Dup comm) answer new = AnswersDup r comm answer new
+AnswersStep before r (Shrink comm) answer new = AnswersEntry r comm answer new
+AnswersStep before r Stop answer new = AnswersStop r answer new
 
 -- A poll leaves the step open: a wait, whose test says so, or a shrink, which is entered.
-abbrev pub IsOpen : List StepReport → State → Step → State → Type 0
-IsOpen before r (Wait req) new = Tests before r req TestNotYet new
-IsOpen before r (Shrink comm) new = Passes (shrink_checks r comm.number) × Enters r (comm_of comm) new
-IsOpen before r _ new = ⊥
+abbrev pub LeavesOpen : List StepReport → State → Step → State → Type 0
+LeavesOpen before r (Wait req) new = Tests before r req TestNotYet new
+LeavesOpen before r (Shrink comm) new = Passes (shrink_checks r comm.number) × Enters r (comm_of comm) new
+LeavesOpen before r _ new = ⊥
 
 -- a shrink that was entered stands open
 abbrev pub awaits_decision : Option Step → Bool
@@ -204,14 +203,14 @@ awaits_decision _ = false
 -- a further poll of a shrink changes nothing
 abbrev pub StaysOpen : Bool → List StepReport → State → Step → State → Type 0
 StaysOpen true before r asked new = new ≡ r
-StaysOpen false before r asked new = IsOpen before r asked new
+StaysOpen false before r asked new = LeavesOpen before r asked new
 
 -- a poll of the step answered it
 pub record PollAnswers (old : Player) (step : Step) (new : Player) : Type 0 where
   pub first : awaits_decision old.current ≡ false
   pub answer : StepAnswer
   pub rank : State
-  pub answers : Answers old.done old.rank step answer rank
+  pub answers : AnswersStep old.done old.rank step answer rank
   pub only : new ≡ answered (with_rank old rank) step answer (length old.rank.log)
 
 -- a poll of the step left it open
@@ -230,7 +229,7 @@ abbrev pub IsCalled : Player → Step → Player → Type 0
 IsCalled old step new = PollAnswers old step new ⊎ PollOpens old step new
 
 -- the open step gets the answer `unfinished`, with the place and the polls of its last poll
-pub record Left (old new : Player) : Type 0 where
+pub record GivesUpStep (old new : Player) : Type 0 where
   pub step : Step
   pub was_open : old.current ≡ Some step
   pub only : new ≡ answered old step Unfinished old.at

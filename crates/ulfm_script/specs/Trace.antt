@@ -1,39 +1,15 @@
 -- The trace: what is printed of the ranks' reports, line by line.
-use Rattle.std.specs.Prelude.{ℕ, ◌+◌, Bool, List, [], ◌∷◌, ◌++◌, Option, Some, None, codes, if◌then◌else◌, ◌==◌}
+use Rattle.std.specs.Prelude.{ℕ, ◌+◌, Bool, List, [], ◌∷◌, ◌++◌, codes, if◌then◌else◌, ◌==◌}
 use Rattle.std.specs.Fmt.{decimal}
 use Rattle.std.specs.List.{flat_map}
 use Rattle.hex.specs.Hex.{encode_lower}
-use Rattle.ulfm_base.specs.declared.tag.Tag.{Tag}
 use Rattle.ulfm_base.specs.Error.{error_text}
 use Rattle.ulfm_rank.specs.Facts.{is_stopped}
-use Rattle.ulfm_script.specs.declared.step.Step.{Step}
-use Rattle.ulfm_script.specs.declared.step.Step.TheVariants.{Send, Recv, Wait, Failed, Ack, Revoke, Dup, Shrink, Stop}
 use Rattle.ulfm_script.specs.declared.answer.StepAnswer.{StepAnswer}
 use Rattle.ulfm_script.specs.declared.answer.StepAnswer.TheVariants.{Sent, Posted, Done, Over, Pending, Ranks, Acked, Revoked, Made, Shrunk, Stopped, Unfinished, Refused}
 use Rattle.ulfm_script.specs.declared.answer.StepReport.{StepReport}
+use Rattle.ulfm_job.specs.Words.{step_text}
 use Rattle.ulfm_script.specs.Report.{Report}
-
--- a source, or `any` where it is left open
-abbrev pub source_text : Option ℕ → List ℕ
-source_text None = codes "any"
-source_text (Some rank) = decimal rank
-
--- a tag, or `any` where it is left open
-abbrev pub tag_text : Option Tag → List ℕ
-tag_text None = codes "any"
-tag_text (Some tag) = decimal tag.number
-
--- the words of a step
-abbrev pub step_text : Step → List ℕ
-step_text (Send to tag body comm) = codes "send " ++ decimal to ++ codes " tag " ++ decimal tag.number ++ codes " comm " ++ decimal comm.number
-step_text (Recv source tag room comm) = codes "recv " ++ source_text source ++ codes " tag " ++ tag_text tag ++ codes " comm " ++ decimal comm.number
-step_text (Wait req) = codes "wait " ++ decimal req
-step_text (Failed comm) = codes "failed comm " ++ decimal comm.number
-step_text (Ack count comm) = codes "ack " ++ decimal count ++ codes " comm " ++ decimal comm.number
-step_text (Revoke comm) = codes "revoke comm " ++ decimal comm.number
-step_text (Dup comm) = codes "dup comm " ++ decimal comm.number
-step_text (Shrink comm) = codes "shrink comm " ++ decimal comm.number
-step_text Stop = codes "stop"
 
 -- each byte in two lower case hexadecimal digits; the empty body is a dash
 abbrev pub body_text : List ℕ → List ℕ

@@ -1,8 +1,8 @@
 //! What comes of a step.
 
-use crate::step::Step;
 use smallvec::SmallVec;
 use ulfm_base::{Body, CallError, Group};
+use ulfm_job::Step;
 use ulfm_match::RequestId;
 use ulfm_rank::{Comm, Status};
 

@@ -1,28 +1,19 @@
-//! Jobs, the player of a rank's steps, and the trace of what came of them.
+//! The player of a rank's steps, and the trace of what came of them; jobs are passed on.
 #![tactic(auto)]
 
 mod answer;
 mod fault;
-mod fields;
-mod head;
-mod job;
-mod ops;
+mod hands;
 mod player;
 mod poll;
-mod reading;
 mod report;
 mod shrinking;
-mod step;
-mod text;
 mod trace;
-mod words;
 
 pub use answer::{Called, Decided, StepAnswer, StepReport};
-pub use fault::{Fault, JobFault, RunFault};
-pub use job::Job;
+pub use fault::RunFault;
+pub use hands::{Hands, turn};
 pub use player::Player;
-pub use reading::no_toml;
 pub use report::RankReport;
-pub use step::Step;
-pub use text::Text;
 pub use trace::trace_text;
+pub use ulfm_job::{Fault, Job, JobFault, Step, Text, no_toml};

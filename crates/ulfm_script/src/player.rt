@@ -5,18 +5,18 @@ mod deciding;
 ghost use Rattle.std.specs.Prelude.{◌≡◌, ◌≢◌, ◌<◌, ◌≤◌, ◌+◌, ◌↔◌, length, false, IsTrue, IsSome, IfOk, IfErr, IfSome, IfNone, OnOk, OnErr, None, [], nat_lt};
 ghost use Rattle.ulfm_rank.specs.Facts.{is_stopped};
 ghost use Rattle.ulfm_rank.specs.Paired.{IsPaired};
-ghost use Rattle.ulfm_rank.specs.State.{IsState, logged, outbox, returned, Leaves, MayReturn};
+ghost use Rattle.ulfm_rank.specs.State.{IsState, logged, outbox, returned, GoesOut, MayReturn};
 ghost use Rattle.ulfm_rank.specs.Checks.{Passes, FailsOrStarves, start_checks};
 ghost use Rattle.ulfm_rank.specs.Calls.{IsFrom};
-ghost use Rattle.ulfm_script.specs.Player.{start_player, with_rank, answered, polled, IsFree, Polls, IsCalled, Left, awaits_decision};
+ghost use Rattle.ulfm_script.specs.Player.{start_player, with_rank, answered, polled, IsFree, Polls, IsCalled, GivesUpStep, awaits_decision};
 
 use crate::answer::{Called, StepAnswer, StepReport};
 use crate::poll::poll;
 use crate::report::RankReport;
-use crate::step::Step;
 use std::alloc::Global;
 use std::marker::Model;
 use ulfm_base::{CallError, Item, OutOfMemory, WorldRank};
+use ulfm_job::Step;
 use ulfm_rank::{Entry, Rank};
 
 /// A rank, the answers of its steps, and the step that stands open.
@@ -175,7 +175,7 @@ impl Player {
     /// Gives the open step the answer `unfinished`. It takes no memory.
     pub fn leave(&mut self)
         requires { IsSome self.old.player.current }
-        ensures left { Left self.old.player self.new.player }
+        ensures left { GivesUpStep self.old.player self.new.player }
         ensures room { self.new.room + length self.new.player.done ≡ self.old.room + length self.old.player.done }
     {
         if let Some(step) = self.current {
@@ -257,7 +257,7 @@ impl Player {
     /// The first item of an outbox goes out, if there is one. It takes no memory.
     pub fn take_out(&mut self, dest: u8) -> Option<Item>
         requires inside { dest < self.old.player.rank.ranks }
-        ensures leaves { IfSome result (λ item. Leaves self.old.player.rank self.new.player.rank dest item) }
+        ensures leaves { IfSome result (λ item. GoesOut self.old.player.rank self.new.player.rank dest item) }
         ensures none { IfNone result (outbox self.old.player.rank dest ≡ []) }
         ensures unchanged { IfNone result (self.new.player ≡ self.old.player) }
         ensures only { self.new.player ≡ with_rank self.old.player self.new.player.rank }

@@ -1,7 +1,7 @@
 //! What a rank did.
 ghost use Rattle.std.specs.Prelude.{◌≡◌, ◌<◌, ◌↔◌, [], IsTrue, IfSome, IfNone};
 ghost use Rattle.ulfm_rank.specs.Facts.{is_stopped};
-ghost use Rattle.ulfm_rank.specs.State.{outbox, Leaves};
+ghost use Rattle.ulfm_rank.specs.State.{outbox, GoesOut};
 
 use crate::answer::StepReport;
 use std::fmt;
@@ -79,7 +79,7 @@ impl RankReport {
     /// The first item that was left for a rank, if there is one. It goes out of the report. It takes no memory.
     pub fn take_out(&mut self, dest: u8) -> Option<Item>
         requires { dest < self.old.rank.ranks }
-        ensures leaves { IfSome result (λ item. Leaves self.old.rank self.new.rank dest item) }
+        ensures leaves { IfSome result (λ item. GoesOut self.old.rank self.new.rank dest item) }
         ensures none { IfNone result (outbox self.old.rank dest ≡ []) }
         ensures unchanged { IfNone result (self.new ≡ self.old) }
         ensures steps { self.new.steps ≡ self.old.steps }

@@ -3,7 +3,7 @@ ghost use Rattle.std.specs.Prelude.{◌≡◌, IfSome, IfNone};
 ghost use Rattle.ulfm_rank.specs.Calls.{Enters};
 ghost use Rattle.ulfm_rank.specs.Checks.{Passes, shrink_checks};
 ghost use Rattle.ulfm_script.specs.Player.{comm_of, AnswersEntry};
-ghost use Rattle.ulfm_script.specs.Deciding.{AnswersAdoption, AnswersDecision, Proposes};
+ghost use Rattle.ulfm_script.specs.Deciding.{AnswersAdoption, AnswersDecision, HasProposal};
 
 use crate::answer::StepAnswer;
 use ulfm_base::{CallError, Context, Decision};
@@ -26,7 +26,7 @@ pub fn enter(rank: &mut Rank, context: Context) -> Option<StepAnswer>
 /// nothing where the rank has no proposal.
 pub fn decide<D: Decider>(rank: &mut Rank, context: Context, board: &mut D) -> Option<StepAnswer>
     ensures answers { IfSome result (λ answer. AnswersDecision (D.board board.old) (D.known board.old) (D.known board.new) rank.old.state context answer rank.new.state) }
-    ensures none { IfNone result (Proposes rank.old.state context → ⊥) }
+    ensures none { IfNone result (HasProposal rank.old.state context → ⊥) }
     ensures rank_stays { IfNone result (rank.new.state ≡ rank.old.state) }
     ensures known_stay { IfNone result (D.known board.new ≡ D.known board.old) }
     ensures board { D.board board.new ≡ D.board board.old }

@@ -1,17 +1,16 @@
 -- How a decision is held and adopted.
-use Rattle.std.proofs.Common.{◌≡◌, ◌≢◌, ℕ, ◌<◌, Bool, true, false, List, [], ◌∷◌, ◌++◌, refl, ap, sym, subst, ◌∙◌, arith, inl, inr, ◌⊎◌, Option, Some, None, get_or-set_other, All, not}
-use Rattle.std.proofs.lemmas.Bool.{false≢true, cases_eq, not_from_true}
+use Rattle.std.proofs.Common.{◌≡◌, ◌≢◌, ℕ, ◌<◌, true, false, List, [], ◌∷◌, ◌++◌, refl, ap, sym, ◌∙◌, arith, inl, inr, ◌⊎◌, Option, Some, None, get_or-set_other, All}
+use Rattle.std.proofs.lemmas.Bool.{cases_eq}
 use Rattle.std.proofs.lemmas.Option.{none-some, same_Some}
 use Rattle.std.proofs.lemmas.List.Elements.{All-push}
-use Rattle.ulfm_world.proofs.Common.{Context, Decision, Entry, Adopted, is_stopped, State, logged, Shrink, Player, World, player_at, rank_at, IsRunning, IsWorld}
+use Rattle.ulfm_world.proofs.Common.{Context, Decision, Entry, Adopted, is_stopped, State, Shrink, Player, World, player_at, rank_at, IsRunning, IsWorld}
 use Rattle.ulfm_base.specs.declared.error.CallError.{CallError}
-use Rattle.ulfm_base.specs.declared.error.CallError.TheVariants.{NoComm, AlreadyMade, NotEntered, NotMember, OutOfMemory, Stopped as StoppedError}
+use Rattle.ulfm_base.specs.declared.error.CallError.TheVariants.{OutOfMemory}
 use Rattle.ulfm_board.specs.Known.{known_at, Answers as BoardAnswers}
-use Rattle.ulfm_rank.specs.Checks.{Passes, FailsOrStarves, lacks, group_at, adopt_checks}
+use Rattle.ulfm_rank.specs.Checks.{Passes, FailsOrStarves, group_at, adopt_checks}
 use Rattle.ulfm_rank.specs.Communicators.{is_made, members_of}
 use Rattle.ulfm_rank.specs.Shrink.{has_entered, has_adopted, is_foreign, IsProposal}
 use Rattle.ulfm_script.specs.declared.answer.StepAnswer.{StepAnswer}
-use Rattle.ulfm_script.specs.declared.answer.StepAnswer.TheVariants.{Shrunk, Refused}
 use Rattle.ulfm_script.specs.Deciding.{AnswersAdoption}
 use Rattle.ulfm_rank.proofs.Entering.{Fits}
 use Rattle.ulfm_rank.proofs.Belonging.{IsOwn, not_foreign}
@@ -19,6 +18,7 @@ use Rattle.ulfm_world.proofs.Agreed.{IsAdopted, IsHeld, Settled}
 use Rattle.ulfm_world.proofs.Held.{proposal_held, held_own}
 use Rattle.ulfm_world.proofs.Grown.{Moved, StillHeld, all_later}
 use Rattle.ulfm_script.proofs.Adopted.{agreed}
+use Rattle.ulfm_script.proofs.Polls.{adoption_adds}
 
 -- what the board knew, and knows once a proposal is handed in: the one that is held, or what was known
 module _ (known later : List (Option Decision)) (proposal held : Decision) (b : BoardAnswers None known proposal held later) where
@@ -45,30 +45,14 @@ module _ (known later : List (Option Decision)) (proposal held : Decision) (b : 
     | inr other ↦ inl (sym (others_known c other) ∙ k)
   ]
 
-adopt_passes : (a b c d e : Bool) (i j k l m : CallError) → a ≡ false → b ≡ false → c ≡ false → d ≡ false → e ≡ false → Passes ((a, i) ∷ (b, j) ∷ (c, k) ∷ (d, l) ∷ (e, m) ∷ [])
-adopt_passes true b c d e i j k l m p q r s t = absurd (false≢true (sym p))
-adopt_passes false true c d e i j k l m p q r s t = absurd (false≢true (sym q))
-adopt_passes false false true d e i j k l m p q r s t = absurd (false≢true (sym r))
-adopt_passes false false false true e i j k l m p q r s t = absurd (false≢true (sym s))
-adopt_passes false false false false true i j k l m p q r s t = absurd (false≢true (sym t))
-adopt_passes false false false false false i j k l m p q r s t = refl
-
 -- no check refuses the adoption of a decision that is the rank's own
 pub own_passes : (r : State) (c : ℕ) (d : Decision) → is_stopped r.log ≡ false → is_made r.ranks r.log c ≡ true → has_adopted r.log c ≡ false → has_entered r.log c ≡ true → IsOwn r.me (group_at r c) r.log c d → Passes (adopt_checks r c d)
-own_passes r c d running made fresh entered own =
-    adopt_passes (is_stopped r.log) (lacks r c) (has_adopted r.log c) (not (has_entered r.log c)) (is_foreign r.me (group_at r c) r.log c d) StoppedError NoComm AlreadyMade NotEntered NotMember
-    running (not_from_true _ made) fresh (not_from_true _ entered) (not_foreign r.me (group_at r c) r.log c d own)
+own_passes r c d running made fresh entered own = rw (not_foreign r.me (group_at r c) r.log c d own, running, made, fresh, entered) refl
 
 -- a call that no check refuses lacks memory alone
 pub starves_alone : (r : State) (c : ℕ) (d : Decision) (e : CallError) → Passes (adopt_checks r c d) → FailsOrStarves (adopt_checks r c d) e → e ≡ OutOfMemory
 starves_alone r c d e passes (inl fails) = absurd (none-some e (sym passes ∙ fails))
 starves_alone r c d e passes (inr starves) = starves.1
-
--- a rank adopts a decision or its log stays
-adoption_cases : (r : State) (comm : Context) (held : Decision) (answer : StepAnswer) (new : State) → AnswersAdoption r comm held answer new → (new ≡ r) ⊎ (new ≡ logged r (Adopted held))
-adoption_cases r comm held (Shrunk child group me) new h = inr h.4
-adoption_cases r comm held (Refused e) new h = inl h.1
-adoption_cases r comm held _ new h = absurd h
 
 -- the rank r of a world decides the shrink of a communicator that stands open there
 module _ (n : ℕ) (w : World) (r : ℕ) (comm : Context) (h : IsWorld w) (settled : Settled n w) (i : r < n) (running : IsRunning w r) where
@@ -80,17 +64,12 @@ module _ (n : ℕ) (w : World) (r : ℕ) (comm : Context) (h : IsWorld w) (settl
 
   module _ (proposal : Decision) (proposed : IsProposal (rank_at w r).ranks (rank_at w r).me (rank_at w r).log comm.number proposal) where
     own_proposal : IsProposal n r (rank_at w r).log comm.number proposal
-    own_proposal =
-        let P : ℕ → Type 0 = λ k. IsProposal k (rank_at w r).me (rank_at w r).log comm.number proposal in
-        let Q : ℕ → Type 0 = λ k. IsProposal n k (rank_at w r).log comm.number proposal in
-        subst Q named (subst P counted proposed)
+    own_proposal = rw (counted, named) at proposed
 
     -- what is held may be held
     pub handed_held : (held : Decision) → (known_at w.decided proposal.context.number ≡ Some held) ⊎ (held ≡ proposal) → IsHeld n w comm.number held
     handed_held held (inl known) = settled.held comm.number held (ap (known_at w.decided) (sym own_proposal.context) ∙ known)
-    handed_held held (inr same) =
-        let P : Decision → Type 0 = λ (d : Decision). IsHeld n w comm.number d in
-        subst P (sym same) (proposal_held n w r comm.number h settled i proposal own_proposal)
+    handed_held held (inr same) = rw same (proposal_held n w r comm.number h settled i proposal own_proposal)
 
     made_here : is_made n (rank_at w r).log comm.number ≡ true
     made_here = (settled.keeps r i).enters_made comm.number own_proposal.entered
@@ -102,9 +81,7 @@ module _ (n : ℕ) (w : World) (r : ℕ) (comm : Context) (h : IsWorld w) (settl
     pub held_passes : (held : Decision) → IsHeld n w comm.number held → has_adopted (rank_at w r).log comm.number ≡ false → Passes (adopt_checks (rank_at w r) comm.number held)
     held_passes held ok fresh =
         let log : List Entry = (rank_at w r).log in
-        let O : ℕ → Type 0 = λ k. IsOwn r (members_of k log comm.number) log comm.number held in
-        let P : ℕ → Type 0 = λ k. IsOwn k (group_at (rank_at w r) comm.number) log comm.number held in
-        own_passes (rank_at w r) comm.number held running (ap (λ k. is_made k log comm.number) counted ∙ made_here) fresh own_proposal.entered (subst P (sym named) (subst O (sym counted) (held_fits held ok)))
+        own_passes (rank_at w r) comm.number held running (ap (λ k. is_made k log comm.number) counted ∙ made_here) fresh own_proposal.entered (rw named (rw counted (held_fits held ok)))
 
     pub adoption_fits : (held : Decision) → IsHeld n w comm.number held → Fits n r (rank_at w r).log (Adopted held)
     adoption_fits held ok =
@@ -120,17 +97,16 @@ module _ (n : ℕ) (w : World) (r : ℕ) (comm : Context) (h : IsWorld w) (settl
         let log : List Entry = (rank_at w r).log in
         let ok : IsHeld n w comm.number held = handed_held held (held_cases w.decided later proposal held b) in
         let all : All (IsAdopted later r) log = all_later w.decided later r log (still_known w.decided later proposal held b) (settled.adopted r i) in
-        let A : List Entry → Type 0 = λ (x : List Entry). All (IsAdopted later r) x in
         let known : known_at later held.context.number ≡ Some held = ap (known_at later) (ok.context ∙ sym own_proposal.context) ∙ b.known_now in
-        elim (adoption_cases (rank_at w r) comm held answer rank adoption) [
+        elim (adoption_adds (rank_at w r) comm held answer rank adoption) [
           | inl same ↦
               let log_same : new.rank.log ≡ log = ap (λ (s : State). s.log) (is ∙ same) in
-              record { grows = inl log_same; adopted = subst A (sym log_same) all; unadopted = λ c e. absurd (none-some (Shrink c) (sym closed ∙ e)) }
+              record { grows = inl log_same; adopted = rw log_same all; unadopted = λ c e. absurd (none-some (Shrink c) (sym closed ∙ e)) }
           | inr more ↦
-              let longer : new.rank.log ≡ log ++ Adopted held ∷ [] = ap (λ (s : State). s.log) (is ∙ more) in
+              let longer : new.rank.log ≡ log ++ Adopted held ∷ [] = ap (λ (s : State). s.log) (is ∙ more.1) in
               record {
                 grows = inr (Adopted held, adoption_fits held ok, longer);
-                adopted = subst A (sym longer) (All-push (IsAdopted later r) log (Adopted held) all (known, (held_fits held ok).member));
+                adopted = rw longer (All-push (IsAdopted later r) log (Adopted held) all (known, (held_fits held ok).member));
                 unadopted = λ c e. absurd (none-some (Shrink c) (sym closed ∙ e));
               }
         ]

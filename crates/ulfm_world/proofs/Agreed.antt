@@ -8,10 +8,9 @@ use Rattle.ulfm_base.specs.RankSet.{has}
 use Rattle.ulfm_rank.specs.Communicators.{group_of}
 use Rattle.ulfm_rank.specs.Facts.{is_gone}
 use Rattle.ulfm_rank.specs.Shrink.{listed_of, has_adopted}
-use Rattle.ulfm_laws.specs.Shrinks.{AdoptOne}
+use Rattle.ulfm_laws.specs.Shrinks.{AdoptOne, EntersEachOnce}
 use Rattle.ulfm_world.specs.World.{World, rank_at, player_at, HasStopped, report_of, reports_in}
 use Rattle.ulfm_rank.proofs.Entering.{own_set}
-use Rattle.ulfm_rank.proofs.Owing.{OwesOwn}
 use Rattle.ulfm_rank.proofs.Belonging.{Keeps}
 use Rattle.ulfm_laws.proofs.Flowing.{gone_stopped, listed_own}
 use Rattle.ulfm_laws.proofs.OneGroup.{same_group}
@@ -37,6 +36,7 @@ pub record IsHeld (n : ℕ) (w : World) (c : ℕ) (d : Decision) : Type 0 where
 pub record Settled (n : ℕ) (w : World) : Type 0 where
   pub size : length w.players ≡ n
   pub keeps : (r : ℕ) → r < n → Keeps n r (rank_at w r).log
+  pub once : (r : ℕ) → r < n → EntersEachOnce (rank_at w r).log
   pub held : (c : ℕ) (d : Decision) → known_at w.decided c ≡ Some d → IsHeld n w c d
   pub adopted : (r : ℕ) → r < n → All (IsAdopted w.decided r) (rank_at w r).log
   pub unadopted : (r : ℕ) (comm : Context) → r < n → (player_at w r).current ≡ Some (Shrink comm) → has_adopted (rank_at w r).log comm.number ≡ false
@@ -47,8 +47,7 @@ adopt-one n w settled r s told other d e p q first second same =
     let held : (x : ℕ) (report : Report) (k : ℕ) (decision : Decision) → at (reports_in w) x report → at report.rank.log k (Adopted decision) → known_at w.decided decision.context.number ≡ Some decision = λ x report k decision here stands.
     let log : List Entry = (rank_at w x).log in
     let there : at log k (Adopted decision) = subst (λ (a : Report). at a.rank.log k (Adopted decision)) (report_is w x report here) stands in
-    let A : Entry → Type 0 = λ (y : Entry). IsAdopted w.decided x y in
-    (subst A (get_or_from_slice_get log k (Adopted decision) (Adopted decision) there) (settled.adopted x (omega (arith, report_inside w x report here, settled.size)) k (Adopted decision) (slice_get_within log k (Adopted decision) there))).0 in
+    (rw (get_or_from_slice_get log k (Adopted decision) (Adopted decision) there) at (settled.adopted x (omega (arith, report_inside w x report here, settled.size)) k (Adopted decision) (slice_get_within log k (Adopted decision) there))).0 in
     same_Some d e (sym (held r told first.0 d p first.1) ∙ ap (λ (c : Context). known_at w.decided c.number) same ∙ held s other second.0 e q second.1)
 
 -- ranks that made the communicator of a context have one group for it
@@ -59,9 +58,8 @@ one_group n w r s c g h settled i j made other =
 -- the set under which a rank lists another is that of the other's own entry
 pub listed_entry : (n : ℕ) (w : World) (r s c : ℕ) (set : RankSet) → IsWorld w → Settled n w → r < n → s < n → listed_of r (rank_at w r).log c s ≡ Some set → own_set (rank_at w s).log c ≡ Some set
 listed_entry n w r s c set h settled i j listed =
-    let O : ℕ → Type 0 = λ k. OwesOwn k s (rank_at w s).log in
     listed_own w.inboxes (reports_in w) (flowing-world w h) r s c (report_of (player_at w r)) (report_of (player_at w s)) set (report_there w r (omega (arith, i, settled.size))) (report_there w s (omega (arith, j, settled.size)))
-    (subst O (sym (many_reports w ∙ settled.size)) (settled.keeps s j).owes_own) listed
+    (rw (many_reports w ∙ settled.size) (settled.keeps s j).owes_own) listed
 
 pub known_stopped : (n : ℕ) (w : World) (s d : ℕ) → IsWorld w → Settled n w → s < n → d < n → is_gone (rank_at w d).log s ≡ true → HasStopped w s
 known_stopped n w s d h settled i j gone =
@@ -70,5 +68,4 @@ known_stopped n w s d h settled i j gone =
 -- what the logs of a world keep of shrinks
 pub all_keep : (n : ℕ) (w : World) → Settled n w → AllKeep (reports_in w)
 all_keep n w settled = each_report (λ r told. Keeps (length (reports_in w)) r told.rank.log) w (λ r i.
-    let K : ℕ → Type 0 = λ k. Keeps k r (rank_at w r).log in
-    subst K (sym (many_reports w ∙ settled.size)) (settled.keeps r (omega (arith, i, settled.size))))
+    rw (many_reports w ∙ settled.size) (settled.keeps r (omega (arith, i, settled.size))))

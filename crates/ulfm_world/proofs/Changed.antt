@@ -13,12 +13,9 @@ player-other ps r x p other = get_or-set_other ps r x p no_player other
 pub each_player : (ps : List Player) (r : ℕ) (p : Player) (P : Player → Player → Type 0) → r < length ps → P (player_in ps r) p → ((x : ℕ) → x < length ps → P (player_in ps x) (player_in ps x)) → (x : ℕ) → x < length ps → P (player_in ps x) (player_in (set ps r p) x)
 each_player ps r p P inside changed unchanged x h = elim (cases_eq x r) [
   | inl same ↦
-      let Q : ℕ → Type 0 = λ i. P (player_in ps i) p in
-      let R : Player → Type 0 = λ (y : Player). P (player_in ps x) y in
-      subst R (sym (player-same ps r x p same inside)) (subst Q (sym same) changed)
+      rw (player-same ps r x p same inside) (rw same changed)
   | inr other ↦
-      let R : Player → Type 0 = λ (y : Player). P (player_in ps x) y in
-      subst R (sym (player-other ps r x p other)) (unchanged x h)
+      rw (player-other ps r x p other) (unchanged x h)
 ]
 
 pub inbox-same : (inboxes : List (List (WorldRank × Item))) (d x : ℕ) (items : List (WorldRank × Item)) → x ≡ d → d < length inboxes → get_or (set inboxes d items) x [] ≡ items

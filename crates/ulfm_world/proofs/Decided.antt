@@ -1,5 +1,5 @@
 -- The laws of the event that decides a shrink.
-use Rattle.std.proofs.Common.{◌≡◌, ℕ, ◌<◌, List, [], ◌∷◌, ◌++◌, length, get_or, refl, ap, sym, subst, ◌∙◌, arith, inl, inr, Option, Some}
+use Rattle.std.proofs.Common.{◌≡◌, ℕ, ◌<◌, List, [], ◌∷◌, ◌++◌, length, get_or, refl, ap, sym, ◌∙◌, arith, inl, inr, Option, Some}
 use Rattle.std.proofs.lemmas.List.{get_or_push}
 use Rattle.ulfm_world.proofs.Common.{Context, Decision, known_at, Shrink, IsWorld}
 use Rattle.ulfm_base.specs.declared.error.CallError.{CallError}
@@ -7,9 +7,9 @@ use Rattle.ulfm_base.specs.declared.error.CallError.TheVariants.{OutOfMemory}
 use Rattle.ulfm_script.specs.declared.answer.StepAnswer.{StepAnswer}
 use Rattle.ulfm_script.specs.declared.answer.StepAnswer.TheVariants.{Refused}
 use Rattle.ulfm_script.specs.declared.answer.StepReport.{StepReport}
-use Rattle.ulfm_script.specs.Player.{Player, report_of}
+use Rattle.ulfm_script.specs.Player.{Player, step_report}
 use Rattle.ulfm_script.specs.Deciding.{AnswersAdoption}
-use Rattle.ulfm_world.specs.World.{World, player_in, player_at, rank_at, Settles}
+use Rattle.ulfm_world.specs.World.{World, player_in, player_at, rank_at, DecidesShrink}
 use Rattle.ulfm_world.specs.Safe.{IsSafe, SettlesSafely, StarvesAlone}
 use Rattle.ulfm_world.proofs.Changed.{player-same}
 use Rattle.ulfm_world.proofs.Agreed.{IsHeld, Settled}
@@ -26,7 +26,7 @@ error_of _ = OutOfMemory
 
 module _ (n : ℕ) (w : World) (r : ℕ) (comm : Context) (h : IsWorld w) (settled : Settled n w) where
   -- a decision that is held after the event was safe before it
-  pub settled_safe : (players : List Player) (later : List (Option Decision)) (d : Decision) → Settles w.players w.decided r comm players later → known_at later comm.number ≡ Some d → IsSafe w d
+  pub settled_safe : (players : List Player) (later : List (Option Decision)) (d : Decision) → DecidesShrink w.players w.decided r comm players later → known_at later comm.number ≡ Some d → IsSafe w d
   settled_safe players later d c known =
       let i : r < n = omega (arith, c.inside, settled.size) in
       let s = c.decided.decision in
@@ -35,25 +35,23 @@ module _ (n : ℕ) (w : World) (r : ℕ) (comm : Context) (h : IsWorld w) (settl
             elim (later_cases w.decided later s.proposal a.held a.board_answers comm.number d known) [
               | inl was ↦ held-safe n w settled comm.number d (settled.held comm.number d was)
               | inr now ↦
-                  let S : Decision → Type 0 = λ (x : Decision). IsSafe w x in
-                  subst S (sym now.0) (held-safe n w settled comm.number a.held (handed_held n w r comm h settled i c.running s.proposal s.proposed a.held (held_cases w.decided later s.proposal a.held a.board_answers)))
+                  rw now.0 (held-safe n w settled comm.number a.held (handed_held n w r comm h settled i c.running s.proposal s.proposed a.held (held_cases w.decided later s.proposal a.held a.board_answers)))
             ]
         | inr b ↦ held-safe n w settled comm.number d (settled.held comm.number d (ap (λ (ks : List (Option Decision)). known_at ks comm.number) (sym b.known_stay) ∙ known))
       ]
 
-  pub settled_starves : (players : List Player) (later : List (Option Decision)) (e : CallError) (at polls : ℕ) → Settles w.players w.decided r comm players later → (player_in players r).done ≡ (player_at w r).done ++ report_of (Shrink comm) (Refused e) at polls ∷ [] → e ≡ OutOfMemory
+  pub settled_starves : (players : List Player) (later : List (Option Decision)) (e : CallError) (at polls : ℕ) → DecidesShrink w.players w.decided r comm players later → (player_in players r).done ≡ (player_at w r).done ++ step_report (Shrink comm) (Refused e) at polls ∷ [] → e ≡ OutOfMemory
   settled_starves players later e at polls c refused =
       let i : r < n = omega (arith, c.inside, settled.size) in
       let s = c.decided.decision in
       let after : player_in players r ≡ c.after = ap (λ (ps : List Player). player_in ps r) c.only ∙ player-same w.players r r c.after refl c.inside in
-      let longer : c.after.done ≡ (player_at w r).done ++ report_of (Shrink comm) c.decided.answer (length (rank_at w r).log) (player_at w r).polls ∷ [] = ap (λ (p : Player). p.done) c.decided.only in
+      let longer : c.after.done ≡ (player_at w r).done ++ step_report (Shrink comm) c.decided.answer (length (rank_at w r).log) (player_at w r).polls ∷ [] = ap (λ (p : Player). p.done) c.decided.only in
       let same : c.decided.answer ≡ Refused e =
-      ap (λ (x : StepReport). x.answer) (last_report (player_at w r).done (report_of (Shrink comm) c.decided.answer (length (rank_at w r).log) (player_at w r).polls) (report_of (Shrink comm) (Refused e) at polls) (sym longer ∙ ap (λ (p : Player). p.done) (sym after) ∙ refused)) in
+      ap (λ (x : StepReport). x.answer) (last_report (player_at w r).done (step_report (Shrink comm) c.decided.answer (length (rank_at w r).log) (player_at w r).polls) (step_report (Shrink comm) (Refused e) at polls) (sym longer ∙ ap (λ (p : Player). p.done) (sym after) ∙ refused)) in
       elim (s.outcome) [
         | inl a ↦
             let ok : IsHeld n w comm.number a.held = handed_held n w r comm h settled i c.running s.proposal s.proposed a.held (held_cases w.decided later s.proposal a.held a.board_answers) in
-            let A : StepAnswer → Type 0 = λ (x : StepAnswer). AnswersAdoption (rank_at w r) comm a.held x c.decided.rank in
-            let adoption : AnswersAdoption (rank_at w r) comm a.held (Refused e) c.decided.rank = subst A same a.adoption in
+            let adoption : AnswersAdoption (rank_at w r) comm a.held (Refused e) c.decided.rank = rw same at a.adoption in
             starves_alone (rank_at w r) comm.number a.held e (held_passes n w r comm h settled i c.running s.proposal s.proposed a.held ok (settled.unadopted r comm i c.decided.waits)) adoption.0
         | inr b ↦ ap error_of (sym same ∙ b.refused)
       ]
@@ -62,4 +60,4 @@ pub settles-safely : (n : ℕ) (w : World) → IsWorld w → Settled n w → Set
 settles-safely n w h settled r comm new d k known = settled_safe n w r comm h settled k.0 k.1 d k.2 (ap (λ (x : World). known_at x.decided comm.number) (sym k.3) ∙ known)
 
 pub starves-alone : (n : ℕ) (w : World) → IsWorld w → Settled n w → StarvesAlone w
-starves-alone n w h settled r comm new e at polls k refused = settled_starves n w r comm h settled k.0 k.1 e at polls k.2 (ap (λ (x : World). (player_at x r).done) (sym k.3) ∙ refused)
+starves-alone n w h settled r comm new e k refuses = settled_starves n w r comm h settled k.0 k.1 e refuses.at refuses.polls k.2 (ap (λ (x : World). (player_at x r).done) (sym k.3) ∙ refuses.answer)

@@ -4,29 +4,31 @@ use Rattle.std.proofs.lemmas.Bool.{cases_Bool}
 use Rattle.std.proofs.lemmas.List.{length-map, nil_from_length}
 use Rattle.std.proofs.lemmas.Option.{slice_get_within}
 use Rattle.ulfm_world.proofs.Common.{WorldRank, Item, is_stopped, Step, Player, Report, World, player_at, rank_at, inbox_at, start_world, report_of, IsAtRest}
-use Rattle.ulfm_script.specs.Job.{Seen, script_at, through_stop}
-use Rattle.ulfm_world.specs.Replay.{Follows, Moves, IsStuck, IsAnswered, IsReplayed, Came}
-use Rattle.ulfm_script.specs.Script.{FollowsAt, steps_done, step_of}
+use Rattle.ulfm_job.specs.Job.{Seen, script_at, through_stop}
+use Rattle.ulfm_world.specs.inside.Rounds.{Follows, Moves, IsStuck, IsUnderway}
+use Rattle.ulfm_world.specs.Replay.{AllHaveFinished, IsReplayed}
+use Rattle.ulfm_script.specs.inside.Underway.{FollowsSoFar}
+use Rattle.ulfm_script.specs.Script.{steps_done, reported_step}
 use Rattle.ulfm_world.proofs.Starts.{player-start, length-start}
 use Rattle.ulfm_script.proofs.Progress.{through-none, follows-start}
 use Rattle.ulfm_world.proofs.Runs.{reaches-then}
 use Rattle.ulfm_world.proofs.Rightly.{rightly-start}
 
-pub came-start : (j : Seen) (w : World) → w ≡ start_world j.ranks j.capacity → Came j w
+pub came-start : (j : Seen) (w : World) → w ≡ start_world j.ranks j.capacity → IsUnderway j w
 came-start j w is =
     let n : ℕ = j.ranks in
-    let C : World → Type 0 = λ (x : World). Came j x in
+    let C : World → Type 0 = λ (x : World). IsUnderway j x in
     subst C (sym is) (record {
       reaches = ([], refl);
       size = length-start n n;
       capacity = refl;
       follows = λ r k.
-          let F : Player → Type 0 = λ (p : Player). FollowsAt (script_at j r) j.turns p in
+          let F : Player → Type 0 = λ (p : Player). FollowsSoFar (script_at j r) j.turns p in
           subst F (sym (player-start n n r (omega (arith, k, length-start n n)))) (follows-start (script_at j r) j.turns r n);
       answers = rightly-start n j.capacity;
     })
 
-pub came-moves : (j : Seen) (v w : World) (a : Bool) → Came j v → Moves j v w a → Came j w
+pub came-moves : (j : Seen) (v w : World) (a : Bool) → IsUnderway j v → Moves j v w a → IsUnderway j w
 came-moves j v w a h k = record {
   reaches = reaches-then _ v w h.reaches k.reaches;
   size = k.size ∙ h.size;
@@ -48,9 +50,9 @@ stuck-rest j w roomy h = record {
   };
 }
 
-answered_running : (script : List Step) (turns : ℕ) (p : Player) → FollowsAt script turns p → is_stopped p.rank.log ≡ false → length script ≤ length p.done → steps_done p ≡ through_stop script
+answered_running : (script : List Step) (turns : ℕ) (p : Player) → FollowsSoFar script turns p → is_stopped p.rank.log ≡ false → length script ≤ length p.done → steps_done p ≡ through_stop script
 answered_running script turns p h running all =
-    let none : h.rest ≡ [] = nil_from_length h.rest (omega (arith, all, ap (λ (xs : List Step). length xs) h.split, length-append (steps_done p) h.rest, length-map p.done step_of)) in
+    let none : h.rest ≡ [] = nil_from_length h.rest (omega (arith, all, ap (λ (xs : List Step). length xs) h.split, length-append (steps_done p) h.rest, length-map p.done reported_step)) in
     let whole : steps_done p ≡ script = sym (append-nil (steps_done p)) ∙ ap (λ (xs : List Step). steps_done p ++ xs) (sym none) ∙ h.split in
     sym (through-none (steps_done p) (h.running running)) ∙ ap through_stop whole
 
@@ -59,7 +61,7 @@ none_open : (o : Option Step) (script : List Step) (k polls turns : ℕ) → len
 none_open None script k polls turns all h = refl
 none_open (Some asked) script k polls turns all h = absurd (omega (arith, all, slice_get_within script k asked h.0))
 
-pub stuck-answered : (j : Seen) (w : World) → Follows j w → ((r : ℕ) → r < length w.players → IsStuck j w r) → IsAnswered j w
+pub stuck-answered : (j : Seen) (w : World) → Follows j w → ((r : ℕ) → r < length w.players → IsStuck j w r) → AllHaveFinished j w
 stuck-answered j w f h r k = elim (cases_Bool (is_stopped (rank_at w r).log)) [
   | inl stopped ↦
       let all = (f r k).stopped stopped in
@@ -74,7 +76,7 @@ stuck-answered j w f h r k = elim (cases_Bool (is_stopped (rank_at w r).log)) [
 ]
 
 -- the reports of a world that came to rest
-pub replayed : (j : Seen) (w : World) (reports : List Report) → 0 < j.capacity → Came j w → ((r : ℕ) → r < length w.players → IsStuck j w r) → reports ≡ map report_of w.players → IsReplayed j reports
+pub replayed : (j : Seen) (w : World) (reports : List Report) → 0 < j.capacity → IsUnderway j w → ((r : ℕ) → r < length w.players → IsStuck j w r) → reports ≡ map report_of w.players → IsReplayed j reports
 replayed j w reports roomy came stuck is = record {
   world = w;
   reaches = came.reaches;

@@ -1,9 +1,9 @@
 -- What a world keeps of its shrinks when one rank does something.
-use Rattle.std.proofs.Common.{◌≡◌, ℕ, ◌<◌, true, false, List, [], ◌∷◌, ◌++◌, length, set, refl, ap, sym, subst, ◌∙◌, arith, inl, inr, ◌⊎◌, Option, Some, length-set, All}
+use Rattle.std.proofs.Common.{◌≡◌, ℕ, ◌<◌, true, false, List, [], ◌∷◌, ◌++◌, length, set, refl, ap, ◌∙◌, arith, inl, inr, ◌⊎◌, Option, Some, length-set, All}
 use Rattle.std.proofs.lemmas.Bool.{cases_eq, or_left}
 use Rattle.std.proofs.lemmas.List.Elements.{All-weaker}
 use Rattle.ulfm_world.proofs.Common.{Context, Decision, RankSet, known_at, Entry, has_adopted, Shrink, Player, World, player_in, player_at, rank_at}
-use Rattle.ulfm_rank.specs.declared.entry.Entry.TheVariants.{Sent, Posted, Released, Acknowledged, Revoked, Duplicated, Entered, Adopted, Stopped, Took}
+use Rattle.ulfm_rank.specs.declared.entry.Entry.TheVariants.{Adopted}
 use Rattle.ulfm_rank.specs.Communicators.{group_of}
 use Rattle.ulfm_rank.specs.Facts.{is_stop, is_stopped}
 use Rattle.ulfm_rank.proofs.Gather.{any-push}
@@ -11,6 +11,8 @@ use Rattle.ulfm_world.proofs.Changed.{player-same, player-other}
 use Rattle.ulfm_rank.proofs.Grouped.{group_stays}
 use Rattle.ulfm_rank.proofs.Entering.{Fits, own_set, own_stays}
 use Rattle.ulfm_rank.proofs.Belonging.{Keeps, keeps-push}
+use Rattle.ulfm_laws.specs.Shrinks.{EntersEachOnce}
+use Rattle.ulfm_laws.proofs.Once.{once-push}
 use Rattle.ulfm_world.proofs.Agreed.{IsAdopted, IsHeld, Settled}
 
 -- a log stays, or gets one entry that the rank may add
@@ -18,8 +20,12 @@ abbrev pub Grows : ℕ → ℕ → List Entry → List Entry → Type 0
 Grows n me old new = (new ≡ old) ⊎ ((e : Entry) × Fits n me old e × (new ≡ old ++ e ∷ []))
 
 pub keeps-grown : (n me : ℕ) (old new : List Entry) → Keeps n me old → Grows n me old new → Keeps n me new
-keeps-grown n me old new h (inl same) = let K : List Entry → Type 0 = λ (x : List Entry). Keeps n me x in subst K (sym same) h
-keeps-grown n me old new h (inr more) = let K : List Entry → Type 0 = λ (x : List Entry). Keeps n me x in subst K (sym more.2) (keeps-push n me old more.0 h more.1)
+keeps-grown n me old new h (inl same) = rw same h
+keeps-grown n me old new h (inr more) = rw more.2 (keeps-push n me old more.0 h more.1)
+
+once-grown : (n me : ℕ) (old new : List Entry) → Keeps n me old → EntersEachOnce old → Grows n me old new → EntersEachOnce new
+once-grown n me old new h once (inl same) = rw same once
+once-grown n me old new h once (inr more) = rw more.2 (once-push n me old more.0 h.enters_once once more.1)
 
 own-grown : (n me : ℕ) (old new : List Entry) (c : ℕ) (known : RankSet) → Grows n me old new → own_set old c ≡ Some known → own_set new c ≡ Some known
 own-grown n me old new c known (inl same) h = ap (λ (x : List Entry). own_set x c) same ∙ h
@@ -37,12 +43,9 @@ group-grown n me old new c g (inr more) h = ap (λ (x : List Entry). group_of n 
 pub each_at : (ps : List Player) (r : ℕ) (p : Player) (P : ℕ → Player → Player → Type 0) → r < length ps → P r (player_in ps r) p → ((x : ℕ) → P x (player_in ps x) (player_in ps x)) → (x : ℕ) → P x (player_in ps x) (player_in (set ps r p) x)
 each_at ps r p P inside changed unchanged x = elim (cases_eq x r) [
   | inl same ↦
-      let Q : ℕ → Type 0 = λ i. P i (player_in ps i) p in
-      let R : Player → Type 0 = λ (y : Player). P x (player_in ps x) y in
-      subst R (sym (player-same ps r x p same inside)) (subst Q (sym same) changed)
+      rw (player-same ps r x p same inside) (rw same changed)
   | inr other ↦
-      let R : Player → Type 0 = λ (y : Player). P x (player_in ps x) y in
-      subst R (sym (player-other ps r x p other)) (unchanged x)
+      rw (player-other ps r x p other) (unchanged x)
 ]
 
 -- every log grew as it may
@@ -72,15 +75,7 @@ StillHeld decided later = (c : ℕ) (d : Decision) → known_at decided c ≡ So
 
 later_adopted : (decided later : List (Option Decision)) (me : ℕ) → StillHeld decided later → (e : Entry) → IsAdopted decided me e → IsAdopted later me e
 later_adopted decided later me still (Adopted d) h = (still d.context.number d h.0, h.1)
-later_adopted decided later me still (Sent to letter) h = tt
-later_adopted decided later me still (Posted pattern) h = tt
-later_adopted decided later me still (Released id answer) h = tt
-later_adopted decided later me still (Acknowledged context total) h = tt
-later_adopted decided later me still (Revoked context) h = tt
-later_adopted decided later me still (Duplicated context) h = tt
-later_adopted decided later me still (Entered context known) h = tt
-later_adopted decided later me still Stopped h = tt
-later_adopted decided later me still (Took source item) h = tt
+later_adopted decided later me still _ h = tt
 
 pub all_later : (decided later : List (Option Decision)) (me : ℕ) (log : List Entry) → StillHeld decided later → All (IsAdopted decided me) log → All (IsAdopted later me) log
 all_later decided later me log still all = All-weaker (IsAdopted decided me) (IsAdopted later me) (later_adopted decided later me still) log all
@@ -90,20 +85,18 @@ pub settled-moved : (n : ℕ) (w w' : World) (r : ℕ) (p : Player) → Settled 
 settled-moved n w w' r p h i only still held moved =
     let inside : r < length w.players = omega (arith, i, h.size) in
     let at : (x : ℕ) → Grows n x (rank_at w x).log (player_in (set w.players r p) x).rank.log = each_at w.players r p (λ (x : ℕ) (a b : Player). Grows n x a.rank.log b.rank.log) inside moved.grows (λ x. inl refl) in
-    let A : List Player → Type 0 = λ (ps : List Player). (x : ℕ) → Grows n x (rank_at w x).log (player_in ps x).rank.log in
-    let grew : AllGrew n w w' = subst A (sym only) at in
-    let B : List Player → Type 0 = λ (ps : List Player). (x : ℕ) → x < n → All (IsAdopted w'.decided x) (player_in ps x).rank.log in
-    let C : List Player → Type 0 = λ (ps : List Player). (x : ℕ) → x < n → (comm : Context) → (player_in ps x).current ≡ Some (Shrink comm) → has_adopted (player_in ps x).rank.log comm.number ≡ false in
-    let adopted : B (set w.players r p) =
+    let grew : AllGrew n w w' = rw only at in
+    let adopted : (x : ℕ) → x < n → All (IsAdopted w'.decided x) (player_in (set w.players r p) x).rank.log =
     λ x. each_at w.players r p (λ (x : ℕ) (a b : Player). (x < n → All (IsAdopted w'.decided x) a.rank.log) → x < n → All (IsAdopted w'.decided x) b.rank.log) inside (λ was k. moved.adopted) (λ x was. was) x (λ k. all_later w.decided w'.decided x (rank_at w x).log still (h.adopted x k)) in
-    let unadopted : C (set w.players r p) =
+    let unadopted : (x : ℕ) → x < n → (comm : Context) → (player_in (set w.players r p) x).current ≡ Some (Shrink comm) → has_adopted (player_in (set w.players r p) x).rank.log comm.number ≡ false =
     λ x. each_at w.players r p
     (λ (x : ℕ) (a b : Player). (x < n → (comm : Context) → a.current ≡ Some (Shrink comm) → has_adopted a.rank.log comm.number ≡ false) → x < n → (comm : Context) → b.current ≡ Some (Shrink comm) → has_adopted b.rank.log comm.number ≡ false)
     inside (λ was k. moved.unadopted) (λ x was. was) x (λ k comm. h.unadopted x comm k) in
     record {
       size = ap length only ∙ length-set w.players r p ∙ h.size;
       keeps = λ x k. keeps-grown n x (rank_at w x).log (rank_at w' x).log (h.keeps x k) (grew x);
+      once = λ x k. once-grown n x (rank_at w x).log (rank_at w' x).log (h.keeps x k) (h.once x k) (grew x);
       held = λ c d known. held-grown n w w' c d grew (held c d known);
-      adopted = subst B (sym only) adopted;
-      unadopted = λ x comm k. let o : C w'.players = subst C (sym only) unadopted in o x k comm;
+      adopted = λ x k. rw only (adopted x k);
+      unadopted = λ x comm k. rw only (unadopted x k comm);
     }

@@ -1,5 +1,5 @@
 -- What a rank proposes may be held, and what is held may be adopted.
-use Rattle.std.proofs.Common.{◌≡◌, ℕ, ◌<◌, ◌≤◌, Bool, true, false, cond, List, refl, ap, sym, subst, ◌∙◌, arith, inl, inr, Option, Some, None, is_some, ◌||◌, ◌&&◌, not}
+use Rattle.std.proofs.Common.{◌≡◌, ℕ, ◌<◌, ◌≤◌, Bool, true, false, cond, List, refl, ap, sym, ◌∙◌, arith, inl, inr, Option, Some, None, is_some, ◌||◌, ◌&&◌, not}
 use Rattle.std.specs.List.{list_any}
 use Rattle.std.proofs.lemmas.Bool.{false≢true, or_cases, and_parts, cases_Bool, cond-true}
 use Rattle.std.proofs.lemmas.Option.{same_Some, get_or_from_slice_get}
@@ -62,7 +62,7 @@ module _ (n : ℕ) (w : World) (r c : ℕ) (h : IsWorld w) (settled : Settled n 
       }
 
 not_apart : (a b : RankSet) (x : ℕ) → a ≡ b → is_apart a b x ≡ false
-not_apart a b x same = let P : RankSet → Type 0 = λ (y : RankSet). is_apart a y x ≡ false in subst P same (pick (has a x))
+not_apart a b x same = rw (← same) (pick (has a x))
   where
     pick : (v : Bool) → (v && not v) || (v && not v) ≡ false
     pick true = refl

@@ -1,5 +1,5 @@
 -- A poll, a step that is given up, and a take keep what every world keeps.
-use Rattle.std.proofs.Common.{◌≡◌, ℕ, ◌<◌, List, [], ◌∷◌, ◌++◌, length, get_or, set, ap, sym, subst, ◌∙◌, arith, inl, inr, append_assoc, length-set, All}
+use Rattle.std.proofs.Common.{◌≡◌, ℕ, ◌<◌, List, [], ◌∷◌, ◌++◌, length, get_or, set, ap, sym, ◌∙◌, arith, inl, inr, append_assoc, length-set, All}
 use Rattle.std.proofs.lemmas.Bool.{cases_eq}
 use Rattle.std.proofs.lemmas.List.Elements.{All-rest}
 use Rattle.ulfm_world.proofs.Common.{WorldRank, Item, Took, State, logged, Player, with_rank, World, player_in, player_at, rank_at, inbox_at, with_player, with_inbox, Takes, items_from}
@@ -7,14 +7,12 @@ use Rattle.ulfm_rank.specs.Facts.{took, took_by, IsSigned}
 use Rattle.ulfm_world.specs.Flow.{arrived, IsPosted, IsWorld}
 use Rattle.ulfm_rank.proofs.Logs.{took-push}
 use Rattle.ulfm_rank.proofs.Quiet.{calm-same, quiet-same, calm-took}
-use Rattle.ulfm_rank.specs.Quiet.{Calm, Quiet}
+use Rattle.ulfm_rank.specs.inside.Quiet.{Calm, Quiet}
 use Rattle.ulfm_world.proofs.Changed.{player-same, player-other, each_player, inbox-same, inbox-other, each_inbox}
 
 -- what a rank sent stays signed
 pub signed_still : (me : ℕ) (old new : State) → old.me ≡ me → Calm old new → All (IsSigned me) old.log → All (IsSigned me) new.log
-signed_still me old new named calm all =
-    let S : ℕ → Type 0 = λ m. All (IsSigned m) old.log → All (IsSigned m) new.log in
-    subst S named calm.signed all
+signed_still me old new named calm all = (rw named at calm.signed) all
 
 -- a change of one player that takes nothing and lets nothing go out keeps the world
 pub keeps-quiet : (w : World) (r : ℕ) (p : Player) → IsWorld w → r < length w.players → Quiet (rank_at w r) p.rank → IsWorld (with_player w r p)
@@ -29,7 +27,7 @@ keeps-quiet w r p h inside quiet =
       counted = λ x k. (all x (omega (arith, k, l))).calm.ranks ∙ h.counted x (omega (arith, k, l)) ∙ sym l;
       sound = λ x k. (all x (omega (arith, k, l))).calm.sound;
       signed = λ x k. signed_still x (rank_at w x) (player_in (set w.players r p) x).rank (h.named x (omega (arith, k, l))) (all x (omega (arith, k, l))).calm (h.signed x (omega (arith, k, l)));
-      posted = λ x k. let N : ℕ → Type 0 = λ n. All (IsPosted n) (inbox_at w x) in subst N (sym l) (h.posted x (omega (arith, k, l)));
+      posted = λ x k. rw l (h.posted x (omega (arith, k, l)));
       passed_on = λ s d i j.
           (all s (omega (arith, i, l))).calm.out d (omega (arith, h.counted s (omega (arith, i, l)), j, l))
           ∙ h.passed_on s d (omega (arith, i, l)) (omega (arith, j, l))
@@ -61,8 +59,7 @@ keeps-takes w r w' h t =
     let m : length (set w.inboxes r t.rest) ≡ length w.inboxes = length-set w.inboxes r t.rest in
     let all : (x : ℕ) → x < length w.players → Calm (rank_at w x) (player_in (set w.players r p) x).rank =
     each_player w.players r p (λ (a b : Player). Calm a.rank b.rank) t.inside (calm-took (rank_at w r) t.source t.item (h.sound r t.inside)) (λ x k. calm-same (rank_at w x) (h.sound x k)) in
-    let W : World → Type 0 = λ (x : World). IsWorld x in
-    subst W (sym t.only) (record {
+    rw t.only (record {
       small = omega (arith, h.small, l);
       as_many = m ∙ h.as_many ∙ sym l;
       named = λ x k. (all x (omega (arith, k, l))).me ∙ h.named x (omega (arith, k, l));
@@ -70,8 +67,7 @@ keeps-takes w r w' h t =
       sound = λ x k. (all x (omega (arith, k, l))).sound;
       signed = λ x k. signed_still x (rank_at w x) (player_in (set w.players r p) x).rank (h.named x (omega (arith, k, l))) (all x (omega (arith, k, l))) (h.signed x (omega (arith, k, l)));
       posted = λ x k.
-          let N : ℕ → Type 0 = λ n. All (IsPosted n) (get_or (set w.inboxes r t.rest) x []) in
-          subst N (sym l) (each_inbox w.inboxes r (length w.players) t.rest (λ (items : List (WorldRank × Item)). All (IsPosted (length w.players)) items) (omega (arith, t.inside, h.as_many)) (All-rest (IsPosted (length w.players)) (t.source, t.item) t.rest (inbox_at w r) t.front (h.posted r t.inside)) h.posted x (omega (arith, k, l)));
+          rw l (each_inbox w.inboxes r (length w.players) t.rest (λ (items : List (WorldRank × Item)). All (IsPosted (length w.players)) items) (omega (arith, t.inside, h.as_many)) (All-rest (IsPosted (length w.players)) (t.source, t.item) t.rest (inbox_at w r) t.front (h.posted r t.inside)) h.posted x (omega (arith, k, l)));
       passed_on = λ s d i j.
           (all s (omega (arith, i, l))).out d (omega (arith, h.counted s (omega (arith, i, l)), j, l))
           ∙ h.passed_on s d (omega (arith, i, l)) (omega (arith, j, l))

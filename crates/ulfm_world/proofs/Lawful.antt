@@ -7,19 +7,21 @@ use Rattle.ulfm_match.proofs.Exists.{some_pairing}
 use Rattle.ulfm_rank.specs.History.{history_of}
 use Rattle.ulfm_rank.specs.Paired.{IsPaired}
 use Rattle.ulfm_rank.proofs.Pairings.{paired}
-use Rattle.ulfm_script.specs.Answered.{HasAnswers}
+use Rattle.ulfm_script.specs.Answered.{AnswersFollow}
 use Rattle.ulfm_script.specs.Deciding.{Known}
-use Rattle.ulfm_script.specs.Job.{Seen, IsJob}
-use Rattle.ulfm_script.specs.Played.{HasPlayed}
+use Rattle.ulfm_job.specs.Job.{Seen, IsJob}
+use Rattle.ulfm_script.specs.Played.{FollowsScript}
 use Rattle.ulfm_script.proofs.Honestly.{honest-answers}
 use Rattle.ulfm_laws.specs.Lawful.{AreProduced, IsLawful}
 use Rattle.ulfm_laws.specs.Shrinks.{IsTrueOf, AdoptsTruly}
 use Rattle.ulfm_laws.proofs.Closing.{IsTrueOf as TrueOfLog}
 use Rattle.ulfm_laws.proofs.Lawful.{lawful}
 use Rattle.ulfm_laws.proofs.Taken.{took_none}
-use Rattle.ulfm_world.specs.Replay.{known_in, IsAnswered, IsStuck, Came}
+use Rattle.ulfm_world.specs.inside.Rounds.{known_for, IsStuck, IsUnderway}
+use Rattle.ulfm_world.specs.Replay.{AllHaveFinished}
 use Rattle.ulfm_world.specs.Safe.{IsSafe}
 use Rattle.ulfm_world.proofs.Agreed.{IsHeld, Settled}
+use Rattle.ulfm_world.proofs.Caused.{revoked_by_a_rank}
 use Rattle.ulfm_world.proofs.Ends.{stuck-answered}
 use Rattle.ulfm_world.proofs.Honesty.{true-reached}
 use Rattle.ulfm_world.proofs.Read.{many_reports, report_there, each_report, flowing-world, world-reached}
@@ -31,20 +33,20 @@ both_agree None b c f g = tt
 both_agree (Some d) None c f g = tt
 both_agree (Some d) (Some e) c f g = same_Some e d (sym (g e refl) ∙ f d refl)
 
-module _ (j : Seen) (w : World) (job : IsJob j) (came : Came j w) (stuck : (r : ℕ) → r < length w.players → IsStuck j w r) where
+module _ (j : Seen) (w : World) (job : IsJob j) (came : IsUnderway j w) (stuck : (r : ℕ) → r < length w.players → IsStuck j w r) where
   world : IsWorld w
   world = world-reached j.ranks j.capacity w job.few_ranks came.reaches
 
   settled : Settled j.ranks w
   settled = settled-reached j.ranks j.capacity w job.few_ranks came.reaches
 
-  answered : IsAnswered j w
+  answered : AllHaveFinished j w
   answered = stuck-answered j w came.follows stuck
 
   on_log : (r : ℕ) → r < length w.players → TrueOfLog (rank_at w r) (player_at w r).done
   on_log r i = true-reached j.ranks j.capacity w job.few_ranks came.reaches r i
 
-  played : (r : ℕ) → r < length w.players → HasPlayed j r (report_of (player_at w r))
+  played : (r : ℕ) → r < length w.players → FollowsScript j r (report_of (player_at w r))
   played r i = record {
     counted = world.counted r i ∙ came.size;
     within = λ s far. took_none (rank_at w r).ranks s (rank_at w r).log (on_log r i).taken (omega (arith, far, world.counted r i, came.size));
@@ -55,11 +57,11 @@ module _ (j : Seen) (w : World) (job : IsJob j) (came : Came j w) (stuck : (r : 
   one_pairing : (r : ℕ) → r < length w.players → IsPaired (rank_at w r).log
   one_pairing r i = let p = some_pairing (history_of (rank_at w r).log) (on_log r i).formed in paired (rank_at w r).log p.0 p.1
 
-  has_answers : (r : ℕ) (told : Report) (known : Known) → at (reports_in w) r told → at came.answers.knows r known → HasAnswers known told
-  has_answers r told known here knowing = each_report (λ x report. (k : Known) → at came.answers.knows x k → HasAnswers k report) w (λ x i k stands.
-      let is : known_in came.answers.knows x ≡ k = get_or_from_slice_get came.answers.knows x k [] stands in
-      let H : Known → Type 0 = λ (ks : Known). HasAnswers ks (report_of (player_at w x)) in
-      subst H is (honest-answers (known_in came.answers.knows x) (player_at w x) (report_of (player_at w x)) (came.answers.honest x i) (answered x i).closed refl refl (one_pairing x i))) r told here known knowing
+  has_answers : (r : ℕ) (told : Report) (known : Known) → at (reports_in w) r told → at came.answers.knows r known → AnswersFollow known told
+  has_answers r told known here knowing = each_report (λ x report. (k : Known) → at came.answers.knows x k → AnswersFollow k report) w (λ x i k stands.
+      let is : known_for came.answers.knows x ≡ k = get_or_from_slice_get came.answers.knows x k [] stands in
+      let H : Known → Type 0 = λ (ks : Known). AnswersFollow ks (report_of (player_at w x)) in
+      subst H is (honest-answers (known_for came.answers.knows x) (player_at w x) (report_of (player_at w x)) (came.answers.honest x i) (answered x i).closed refl refl (one_pairing x i))) r told here known knowing
 
   -- what is known at a place is held
   known_held : (r c : ℕ) (known : Known) (d : Decision) → at came.answers.knows r known → known_at known c ≡ Some d → known_at w.decided c ≡ Some d
@@ -79,15 +81,15 @@ module _ (j : Seen) (w : World) (job : IsJob j) (came : Came j w) (stuck : (r : 
       record {
         listed = λ r known e.
             let inside : r < length w.players = member_inside c d held r (d.lawful.listed_members r (ap is_some e)) in
-            record { told = report_of (player_at w r); reported = report_there w r inside; entered = safe.listed r known e };
+            record { report = report_of (player_at w r); reported = report_there w r inside; entered = safe.listed r known e };
         excluded = λ r out.
             let inside : r < length w.players = member_inside c d held r (d.lawful.excluded_members r out) in
-            record { told = report_of (player_at w r); reported = report_there w r inside; stopped = safe.stopped r out };
+            record { report = report_of (player_at w r); reported = report_there w r inside; stopped = safe.stopped r out };
       }
 
   adopts_truly : (s : ℕ) → s < length w.players → (k : ℕ) (entry : Entry) → at (rank_at w s).log k entry → AdoptsTruly (reports_in w) entry
   adopts_truly s i k (Adopted d) here =
-      let known : known_at w.decided d.context.number ≡ Some d = (adopts-held j.ranks w settled s d i (k, here)).0 in
+      let known : known_at w.decided d.context.number ≡ Some d = (adopts-held j.ranks w settled s d i (k, here)).held in
       true_decision d.context.number d (settled.held d.context.number d known)
   adopts_truly s i k _ here = tt
 
@@ -96,11 +98,12 @@ module _ (j : Seen) (w : World) (job : IsJob j) (came : Came j w) (stuck : (r : 
     each = many_reports w ∙ came.size;
     known_each = came.answers.many ∙ came.size;
     order = (flowing-world w world).order;
-    scripts = each_report (λ r told. HasPlayed j r told) w played;
+    scripts = each_report (λ r told. FollowsScript j r told) w played;
     flow = (flowing-world w world).flow;
     answers = has_answers;
     agreed = λ r s one other here there c. both_agree (known_at one c) (known_at other c) (known_at w.decided c) (λ d e. known_held r c one d here e) (λ d e. known_held s c other d there e);
     decisions = each_report (λ s told. (k : ℕ) (entry : Entry) → at told.rank.log k entry → AdoptsTruly (reports_in w) entry) w adopts_truly;
+    revoked = revoked_by_a_rank j.ranks j.capacity w job.few_ranks came.reaches;
   }
 
   pub lawful-replay : (reports : List Report) → reports ≡ reports_in w → IsLawful j reports

@@ -29,4 +29,6 @@ pub mod Kept
 pub mod Shrunk
 pub mod Read
 pub mod Rightly
+pub mod Caused
+pub mod Made
 pub mod Lawful

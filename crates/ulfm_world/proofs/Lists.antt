@@ -1,11 +1,12 @@
 -- Players with their places, and a change of one of them.
-use Rattle.std.proofs.Common.{◌≡◌, ℕ, ◌<◌, false, List, [], ◌∷◌, ◌++◌, length, take, drop, get_or, set, refl, ap, sym, subst, ◌∙◌, arith, take_all, append-nil, Option, All}
+use Rattle.std.proofs.Common.{◌≡◌, ℕ, ◌<◌, false, List, [], ◌∷◌, ◌++◌, length, take, drop, get_or, set, refl, ap, sym, subst, ◌∙◌, arith, take_all, append-nil, Option}
 use Rattle.std.proofs.lemmas.List.{map-set, get_or-map, set-get_or, length-map, drop_all, get_or_default}
 use Rattle.std.proofs.lemmas.List.Elements.{All-head}
-use Rattle.ulfm_world.proofs.Common.{WorldRank, Decision, Item, Took, is_stopped, logged, Leaves, IsPosted}
+use Rattle.ulfm_world.proofs.Common.{WorldRank, Decision, Item, Took, is_stopped, logged, GoesOut, IsPosted}
 use Rattle.ulfm_script.specs.Player.{Player, View, with_rank}
 use Rattle.ulfm_world.specs.World.{World, player_in, no_player, with_inbox, with_players, Pushes, Takes}
-use Rattle.ulfm_world.specs.Fields.{the_player, players_of, parts, AreParts, HandsOver}
+use Rattle.ulfm_world.specs.Parts.{the_player, players_of, parts}
+use Rattle.ulfm_world.specs.inside.Steps.{AreParts, HandsOver}
 
 pub read_player : (views : List View) (r : ℕ) (d : View) → r < length views → player_in (players_of views) r ≡ (get_or views r d).player
 read_player views r d h = get_or-map the_player views r d no_player h
@@ -46,7 +47,7 @@ taken_front views inboxes r d source item h inside front =
     let l : length (players_of views) ≡ length views = length-map views the_player in
     let same : get_or inboxes r d ≡ get_or inboxes r [] = get_or_default inboxes r d [] (omega (arith, inside, l, h.as_many)) in
     All-head (IsPosted (length (players_of views))) (source, item) (drop 1 (get_or inboxes r d))
-    (let A : List (WorldRank × Item) → Type 0 = λ (xs : List (WorldRank × Item)). All (IsPosted (length (players_of views))) xs in subst A (sym same ∙ front) (h.posted r (omega (arith, inside, l))))
+    (rw (sym same ∙ front) at (h.posted r (omega (arith, inside, l))))
 
 pub takes_done : (views : List View) (inboxes : List (List (WorldRank × Item))) (r capacity : ℕ) (decided : List (Option Decision)) (v d : View) (e rest : List (WorldRank × Item)) (source : WorldRank) (item : Item) → AreParts (players_of views) inboxes → r < length views → is_stopped (get_or views r d).player.rank.log ≡ false →
     get_or inboxes r e ≡ (source, item) ∷ drop 1 (get_or inboxes r e) → v.player ≡ with_rank (get_or views r d).player (logged (get_or views r d).player.rank (Took source item)) → rest ≡ drop 1 (get_or inboxes r e) →
@@ -72,7 +73,6 @@ pushes_done views inboxes s d capacity decided v e later f sender many inside_s 
     let l : length (players_of views) ≡ length views = length-map views the_player in
     let read : player_in (players_of views) s ≡ (get_or views s e).player = read_player views s e inside_s in
     let same : get_or inboxes d f ≡ get_or inboxes d [] = get_or_default inboxes d f [] (omega (arith, inside_d, l, many)) in
-    let L : Player → Type 0 = λ (p : Player). Leaves p.rank v.player.rank d h.item in
     record {
       inside_s = omega (arith, inside_s, l);
       inside_d = omega (arith, inside_d, l);
@@ -81,6 +81,6 @@ pushes_done views inboxes s d capacity decided v e later f sender many inside_s 
       is_sender = named;
       item = h.item;
       after = v.player.rank;
-      leaves = subst L (sym read) h.leaves;
+      leaves = subst (λ (p : Player). GoesOut p.rank v.player.rank d h.item) (sym read) h.leaves;
       only = parts-set views inboxes capacity decided s d v _ later _ (h.only ∙ ap (λ (p : Player). with_rank p v.player.rank) (sym read)) (h.added ∙ ap (λ (xs : List (WorldRank × Item)). xs ++ (sender, h.item) ∷ []) same);
     }

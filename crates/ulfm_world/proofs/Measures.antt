@@ -1,8 +1,8 @@
 -- The measure of a world after a change of one player or of one inbox.
-use Rattle.std.proofs.Common.{◌≡◌, ◌≢◌, ℕ, ◌+◌, ◌*◌, ◌<◌, List, [], length, set, get_or, refl, ap, sym, subst, ◌∙◌, arith, length-set, get_or-set_other}
+use Rattle.std.proofs.Common.{◌≡◌, ◌≢◌, ℕ, ◌+◌, ◌*◌, ◌<◌, List, [], length, set, get_or, refl, ap, ◌∙◌, arith, length-set, get_or-set_other}
 use Rattle.ulfm_world.proofs.Common.{WorldRank, Item, Player, Seen, script_at, World, player_in, player_at, inbox_at, with_player}
-use Rattle.ulfm_rank.specs.State.{State, outbox, mark_at, marked, no_mark, Leaves}
-use Rattle.ulfm_world.specs.Replay.{sum_below, out_at, fresh_of, weight_of, inbox_weight, measure}
+use Rattle.ulfm_rank.specs.State.{State, outbox, mark_at, marked, no_mark, GoesOut}
+use Rattle.ulfm_world.specs.inside.Rounds.{sum_below, out_at, fresh_of, weight_of, inbox_weight, measure}
 use Rattle.ulfm_world.proofs.Sums.{sum-at}
 use Rattle.ulfm_world.proofs.Changed.{player-same, player-other, inbox-same, inbox-other}
 
@@ -37,7 +37,7 @@ measure-player j w r p inside lighter =
     omega (arith, measure-at j n (with_player w r p) (length-set w.players r p), measure-at j n w refl, players_part-set j n w r p refl inside, lighter)
 
 -- what leaves an outbox
-pub leaves_weight : (n : ℕ) (old new : State) (d : ℕ) (item : Item) → d < n → Leaves old new d item → out_at n new + 2 ≡ out_at n old
+pub leaves_weight : (n : ℕ) (old new : State) (d : ℕ) (item : Item) → d < n → GoesOut old new d item → out_at n new + 2 ≡ out_at n old
 leaves_weight n old new d item inside k =
     let here : 2 * length (outbox new d) + 2 ≡ 2 * length (outbox old d) = omega (arith, ap (λ (xs : List Item). length xs) k.front) in
     let sums : out_at n new + 2 * length (outbox old d) ≡ out_at n old + 2 * length (outbox new d) =
@@ -45,10 +45,8 @@ leaves_weight n old new d item inside k =
     omega (arith, here, sums)
   where
     elsewhere : (x : ℕ) → x ≢ d → outbox new x ≡ outbox old x
-    elsewhere x other =
-        let G : State → Type 0 = λ (s : State). outbox s x ≡ outbox old x in
-        subst G (sym k.marked) (rw (get_or-set_other old.marks d x (marked old (mark_at old d)) no_mark other) refl)
+    elsewhere x other = rw k.marked (rw (get_or-set_other old.marks d x (marked old (mark_at old d)) no_mark other) refl)
 
-pub leaves_fresh : (old new : State) (d : ℕ) (item : Item) → Leaves old new d item → fresh_of new ≡ fresh_of old
+pub leaves_fresh : (old new : State) (d : ℕ) (item : Item) → GoesOut old new d item → fresh_of new ≡ fresh_of old
 unfolding fresh_of
 leaves_fresh old new d item k = ap fresh_of k.marked

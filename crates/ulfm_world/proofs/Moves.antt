@@ -1,8 +1,9 @@
 -- How the parts of a replay join: something moves, or nothing does.
-use Rattle.std.proofs.Common.{◌≡◌, ℕ, ◌+◌, ◌<◌, ◌≤◌, Bool, true, false, cond, [], refl, sym, subst, ◌∙◌, arith, below_more}
+use Rattle.std.proofs.Common.{◌≡◌, ℕ, ◌+◌, ◌<◌, ◌≤◌, Bool, true, false, cond, [], length, Some, None, refl, sym, subst, ◌∙◌, arith, below_more}
 use Rattle.std.proofs.lemmas.Bool.{false≢true}
-use Rattle.ulfm_world.proofs.Common.{Seen, World}
-use Rattle.ulfm_world.specs.Replay.{Follows, measure, Moves}
+use Rattle.ulfm_world.proofs.Common.{Seen, script_at, World, player_at, IsRunning}
+use Rattle.ulfm_world.specs.inside.Rounds.{Follows, measure, Moves, IsStuck, IsStuckAt}
+use Rattle.ulfm_world.specs.inside.Turns.{Onward}
 use Rattle.ulfm_world.proofs.Runs.{reaches-then}
 
 pub moves-none : (j : Seen) (w : World) → Moves j w w false
@@ -28,17 +29,26 @@ moves-on j a u v w h k = record {
 pub moves-not : (j : Seen) (a : Bool) (u v w : World) → Moves j u v a → Moves j v w false → Moves j u w a
 moves-not j a u v w h k = let M : World → Type 0 = λ (x : World). Moves j u x a in subst M (sym (k.stays refl)) h
 
-pub moves-then : (j : Seen) (a b : Bool) (u v w : World) → Moves j u v a → Moves j v w b → Moves j u w (cond a true b)
-moves-then j a true u v w h k = let M : Bool → Type 0 = λ (x : Bool). Moves j u w x in subst M (whole a) (moves-on j a u v w h k)
+-- what moves, moves on
+pub onward : (j : Seen) (m : Bool) (u v : World) → Moves j u v m → Onward j u v m
+onward j true u v h = record { size = h.size; follows = h.follows; stays = h.stays; leads = λ first any x. moves-on j any first u v x h }
+onward j false u v h = record { size = h.size; follows = h.follows; stays = h.stays; leads = λ first any x. moves-not j any first u v x h }
+
+-- a turn moves: its parts before the poll, and the poll
+pub turned : (j i k : Seen) (m p : Bool) (u v w : World) → i ≡ j → k ≡ i → Onward i u v m → Moves k v w p → Moves j u w (cond p true m)
+turned j i k m true u v w e f h x = subst (λ (y : Seen). Moves y u w true) e (moves-on i _ u v w (h.leads u false (moves-none i u)) (subst (λ (y : Seen). Moves y v w true) f x))
+turned j i k m false u v w e f h x = subst (λ (y : Seen). Moves y u w m) e (moves-not i m u v w (went m (h.leads u false (moves-none i u))) (subst (λ (y : Seen). Moves y v w false) f x))
   where
-    whole : (a : Bool) → true ≡ cond a true true
-    whole true = refl
-    whole false = refl
-moves-then j a false u v w h k = let M : Bool → Type 0 = λ (x : Bool). Moves j u w x in subst M (whole a) (moves-not j a u v w h k)
-  where
-    whole : (a : Bool) → a ≡ cond a true false
-    whole true = refl
-    whole false = refl
+    went : (b : Bool) → Moves i u v (cond b true false) → Moves i u v b
+    went true g = g
+    went false g = g
+
+-- a rank whose poll found nothing is where it was
+pub turned-stuck : (j k : Seen) (r s : ℕ) (v w : World) → k ≡ j → s ≡ r → Moves k v w false → ((d : ℕ) → d < length v.players → IsStuckAt v s (Some d)) → IsStuckAt v s None → (IsRunning w s → length (script_at k s) ≤ length (player_at w s).done) → IsStuck j w r
+turned-stuck j k r s v w e f m pushes takes polls =
+    let S : World → Type 0 = λ (x : World). ((d : ℕ) → d < length x.players → IsStuckAt x s (Some d)) × IsStuckAt x s None in
+    let stuck = subst S (sym (m.stays refl)) (pushes, takes) in
+    subst (λ (y : Seen). IsStuck y w r) e (subst (λ y. IsStuck k w y) f (record { pushes = stuck.0; takes = stuck.1; polls = polls }))
 
 pub ruleset going = (moves-none, moves-on, moves-not)
 

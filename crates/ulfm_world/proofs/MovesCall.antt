@@ -2,13 +2,13 @@
 use Rattle.std.proofs.Common.{◌≡◌, ℕ, ◌<◌, ◌≤◌, true, false, cond, List, [], ◌∷◌, length, set, refl, ap, sym, subst, ◌∙◌, arith, inl, inr, ◌⊎◌, length-set, Option, Some, None, is_none, set-set}
 use Rattle.std.proofs.lemmas.Bool.{false≢true, cases_eq}
 use Rattle.ulfm_world.proofs.Common.{Context, Decision, Step, Shrink, Call, Decide, Leave, IsWorld, is_stopped}
-use Rattle.ulfm_script.specs.Player.{Player, Left}
-use Rattle.ulfm_script.specs.Job.{Seen, IsJob, script_at}
+use Rattle.ulfm_script.specs.Player.{Player, GivesUpStep}
+use Rattle.ulfm_job.specs.Job.{Seen, IsJob, script_at}
 use Rattle.ulfm_world.specs.declared.event.Outcome.{Outcome}
 use Rattle.ulfm_world.specs.declared.event.Outcome.TheVariants.{Answered, NotYet}
 use Rattle.ulfm_world.specs.World.{World, player_in, player_at, with_players, with_player, with_decided, Happens, Reaches, IsRunning}
-use Rattle.ulfm_world.specs.Replay.{AnswerRightly, Follows, Moves, weight_of}
-use Rattle.ulfm_script.specs.Script.{FollowsAt}
+use Rattle.ulfm_world.specs.inside.Rounds.{AllAnswersFollowSoFar, Follows, Moves, weight_of}
+use Rattle.ulfm_script.specs.inside.Underway.{FollowsSoFar}
 use Rattle.ulfm_rank.specs.State.{IsState}
 use Rattle.ulfm_world.proofs.Changed.{player-same, player-other}
 use Rattle.ulfm_script.proofs.Advance.{Ready, Advances, advance-called, advance-left}
@@ -17,14 +17,14 @@ use Rattle.ulfm_world.proofs.Measures.{measure-player}
 use Rattle.ulfm_world.proofs.Weights.{adds_weight}
 use Rattle.ulfm_world.proofs.Runs.{reaches-one}
 use Rattle.ulfm_world.proofs.Rightly.{rightly-calls, rightly-leaves, rightly-decides}
-use Rattle.ulfm_script.specs.Honest.{IsUndecided}
+use Rattle.ulfm_script.specs.inside.SoFar.{IsUndecided}
 
 -- less is left to a player that goes on, with what it may still send
 pub weight-advances : (script : List Step) (turns n : ℕ) (old new : Player) → IsState old.rank → n ≡ old.rank.ranks → is_stopped old.rank.log ≡ false → Advances script turns old new → weight_of script turns n new < weight_of script turns n old
 weight-advances script turns n old new sound size running a = omega (arith, a.falls, adds_weight n old.rank a.stops new.rank sound size running a.adds)
 
 -- what a player moves, the world moves, whatever is decided then
-pub moves-player : (j : Seen) (w : World) (r : ℕ) (p : Player) (decided : List (Option Decision)) → r < length w.players → IsWorld w → IsRunning w r → Follows j w → Advances (script_at j r) j.turns (player_at w r) p → (AnswerRightly w → AnswerRightly (with_decided (with_player w r p) decided)) → Reaches w (with_decided (with_player w r p) decided) → Moves j w (with_decided (with_player w r p) decided) true
+pub moves-player : (j : Seen) (w : World) (r : ℕ) (p : Player) (decided : List (Option Decision)) → r < length w.players → IsWorld w → IsRunning w r → Follows j w → Advances (script_at j r) j.turns (player_at w r) p → (AllAnswersFollowSoFar w → AllAnswersFollowSoFar (with_decided (with_player w r p) decided)) → Reaches w (with_decided (with_player w r p) decided) → Moves j w (with_decided (with_player w r p) decided) true
 moves-player j w r p decided i h running f a rightly reaches =
     let l : length (set w.players r p) ≡ length w.players = length-set w.players r p in
     record {
@@ -37,12 +37,12 @@ moves-player j w r p decided i h running f a rightly reaches =
       stays = λ e. absurd (false≢true (sym e));
     }
   where
-    follows_on : (x : ℕ) → x < length w.players → FollowsAt (script_at j x) j.turns (player_in (set w.players r p) x)
+    follows_on : (x : ℕ) → x < length w.players → FollowsSoFar (script_at j x) j.turns (player_in (set w.players r p) x)
     follows_on x k =
-        let F : Player → Type 0 = λ (q : Player). FollowsAt (script_at j x) j.turns q in
+        let F : Player → Type 0 = λ (q : Player). FollowsSoFar (script_at j x) j.turns q in
         elim (cases_eq x r) [
           | inl same ↦
-              let S : ℕ → Type 0 = λ y. FollowsAt (script_at j y) j.turns p in
+              let S : ℕ → Type 0 = λ y. FollowsSoFar (script_at j y) j.turns p in
               subst F (sym (player-same w.players r x p same i)) (subst S (sym same) a.follows)
           | inr other ↦ subst F (sym (player-other w.players r x p other)) (f x k)
         ]
@@ -58,7 +58,7 @@ moves-call j w r asked w' job h i f ready undecided t few =
     let low : F c.after = subst F (player-same w.players r r c.after refl i) (subst G is few) in
     let M : World → Type 0 = λ (x : World). Moves j w x true in
     let R : World → Type 0 = λ (x : World). Reaches w x in
-    let A : World → Type 0 = λ (x : World). AnswerRightly x in
+    let A : World → Type 0 = λ (x : World). AllAnswersFollowSoFar x in
     subst M (sym is) (moves-player j w r c.after w.decided i h ready.running f (advance-called (script_at j r) j.turns (player_at w r) asked c.after (omega (arith, job.most_turns)) ready c.called low) (λ right. subst A is (rightly-calls j w r asked w' f ready.next undecided t right)) (subst R is (reaches-one w (Call r asked) w' t)))
 
 -- a poll that answered its step left none open
@@ -73,7 +73,7 @@ moves-leave j w r asked mid w' job h i f ready undecided t u last =
     let g = u.1 in
     let mid_is : mid ≡ with_player w r c.after = t.2 ∙ ap (with_players w) c.only in
     let mid_at : player_at mid r ≡ c.after = ap (λ (x : World). player_at x r) mid_is ∙ player-same w.players r r c.after refl i in
-    let L : Player → Type 0 = λ (p : Player). Left p g.after in
+    let L : Player → Type 0 = λ (p : Player). GivesUpStep p g.after in
     let current : c.after.current ≡ Some g.left.step = ap (λ (p : Player). p.current) (sym mid_at) ∙ g.left.was_open in
     let is : w' ≡ with_player w r g.after =
     u.2 ∙ ap (with_players mid) g.only
@@ -81,7 +81,7 @@ moves-leave j w r asked mid w' job h i f ready undecided t u last =
     ∙ ap (with_players w) (set-set w.players r c.after g.after) in
     let M : World → Type 0 = λ (x : World). Moves j w x true in
     let R : World → Type 0 = λ (x : World). Reaches w x in
-    let A : World → Type 0 = λ (x : World). AnswerRightly x in
+    let A : World → Type 0 = λ (x : World). AllAnswersFollowSoFar x in
     subst M (sym is) (moves-player j w r g.after w.decided i h ready.running f (advance-left (script_at j r) j.turns (player_at w r) asked c.after g.after g.left.step (omega (arith, job.most_turns)) ready c.called current (subst L mid_at g.left) (omega (arith, last, ap (λ (p : Player). p.polls) mid_at))) (λ right. subst A is (rightly-leaves mid r w' u (rightly-calls j w r asked mid f ready.next undecided t right))) (subst R is (Call r asked ∷ Leave r ∷ [], (mid, inl t, (w', inl u, refl)))))
 
 -- a shrink that is decided
@@ -92,5 +92,5 @@ moves-decide j w r comm w' h f t =
     let ready : Ready (script_at j r) j.turns (player_at w r) (Shrink comm) = ready-decided (script_at j r) j.turns (player_at w r) (Shrink comm) (f r s.inside) s.running s.decided.waits in
     let M : World → Type 0 = λ (x : World). Moves j w x true in
     let R : World → Type 0 = λ (x : World). Reaches w x in
-    let A : World → Type 0 = λ (x : World). AnswerRightly x in
+    let A : World → Type 0 = λ (x : World). AllAnswersFollowSoFar x in
     subst M (sym is) (moves-player j w r s.after t.1 s.inside h s.running f (advance-decided (script_at j r) j.turns (player_at w r) comm None w.decided t.1 s.after ready s.decided) (λ right. subst A is (rightly-decides w r comm w' t right)) (subst R is (reaches-one w (Decide r comm) w' t)))

@@ -3,8 +3,8 @@ use Rattle.std.proofs.Common.{◌≡◌, ℕ, ◌+◌, ◌<◌, ◌≤◌, true,
 use Rattle.std.proofs.lemmas.Bool.{false≢true, cases_eq}
 use Rattle.std.proofs.Math.Bool.{or-false}
 use Rattle.ulfm_world.proofs.Common.{WorldRank, Item, Took, is_stopped, State, logged, Player, with_rank, Seen, script_at, Push, Take, World, player_in, player_at, rank_at, inbox_at, with_player, with_inbox, Pushes, Takes, IsWorld}
-use Rattle.ulfm_world.specs.Replay.{sum_below, out_at, fresh_of, weight_of, inbox_weight, Follows, Moves}
-use Rattle.ulfm_script.specs.Script.{FollowsAt}
+use Rattle.ulfm_world.specs.inside.Rounds.{sum_below, out_at, fresh_of, weight_of, inbox_weight, Follows, Moves}
+use Rattle.ulfm_script.specs.inside.Underway.{FollowsSoFar}
 use Rattle.ulfm_rank.proofs.Logs.{stopped-push}
 use Rattle.ulfm_world.proofs.Weights.{out-took}
 use Rattle.ulfm_world.proofs.Changed.{player-same, player-other}
@@ -17,12 +17,12 @@ use Rattle.ulfm_world.proofs.Rightly.{rightly-pushes, rightly-takes}
 pub follows-set : (j : Seen) (w w' : World) (r : ℕ) (after : State) → r < length w.players → w'.players ≡ set w.players r (with_rank (player_at w r) after) → is_stopped after.log ≡ is_stopped (rank_at w r).log → Follows j w → Follows j w'
 follows-set j w w' r after inside is stop f x k =
     let p : Player = with_rank (player_at w r) after in
-    let F : Player → Type 0 = λ (q : Player). FollowsAt (script_at j x) j.turns q in
+    let F : Player → Type 0 = λ (q : Player). FollowsSoFar (script_at j x) j.turns q in
     let l : length w'.players ≡ length w.players = ap (λ (ps : List Player). length ps) is ∙ length-set w.players r p in
     let at : player_at w' x ≡ player_in (set w.players r p) x = ap (λ (ps : List Player). player_in ps x) is in
     subst F (sym at) (elim (cases_eq x r) [
       | inl same ↦
-          let G : ℕ → Type 0 = λ y. FollowsAt (script_at j y) j.turns p in
+          let G : ℕ → Type 0 = λ y. FollowsSoFar (script_at j y) j.turns p in
           subst F (sym (player-same w.players r x p same inside)) (subst G (sym same) (follows-rank (script_at j r) j.turns (player_at w r) after stop (f r inside)))
       | inr other ↦ subst F (sym (player-other w.players r x p other)) (f x (omega (arith, k, l)))
     ])

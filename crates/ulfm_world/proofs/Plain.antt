@@ -1,12 +1,12 @@
 -- An entry that adopts nothing leaves what was adopted.
-use Rattle.std.proofs.Common.{◌≡◌, ℕ, false, List, refl, ap, sym, subst, ◌∙◌, inl, inr, Option, All}
+use Rattle.std.proofs.Common.{◌≡◌, ℕ, false, List, refl, ap, sym, ◌∙◌, inl, inr, Option, All}
 use Rattle.std.proofs.lemmas.Bool.{false≢true, or_from, false_from_ne_true}
 use Rattle.std.proofs.lemmas.List.Elements.{All-push}
 use Rattle.ulfm_world.proofs.Common.{Context, Decision, Entry, Adopted, State, Shrink}
 use Rattle.ulfm_rank.specs.Shrink.{adopts, has_adopted}
 use Rattle.ulfm_rank.proofs.Gather.{any-push}
 use Rattle.ulfm_script.specs.declared.answer.StepReport.{StepReport}
-use Rattle.ulfm_script.specs.Player.{IsOpen}
+use Rattle.ulfm_script.specs.Player.{LeavesOpen}
 use Rattle.ulfm_rank.proofs.Entering.{AdoptsEntered}
 use Rattle.ulfm_world.proofs.Agreed.{IsAdopted}
 use Rattle.ulfm_script.proofs.Fitting.{IsPlain, AddsPlain, shrink_passed, opens_add}
@@ -27,13 +27,11 @@ adopted-plain n me c old new (inr more) h =
 
 -- and what was adopted is held
 pub held-plain : (decided : List (Option Decision)) (n me : ℕ) (old new : List Entry) → AddsPlain n me old new → All (IsAdopted decided me) old → All (IsAdopted decided me) new
-held-plain decided n me old new (inl same) h = let A : List Entry → Type 0 = λ (x : List Entry). All (IsAdopted decided me) x in subst A (sym same) h
-held-plain decided n me old new (inr more) h =
-    let A : List Entry → Type 0 = λ (x : List Entry). All (IsAdopted decided me) x in
-    subst A (sym more.3) (All-push (IsAdopted decided me) old more.0 h (plain_adopted decided me more.0 more.2))
+held-plain decided n me old new (inl same) h = rw same h
+held-plain decided n me old new (inr more) h = rw more.3 (All-push (IsAdopted decided me) old more.0 h (plain_adopted decided me more.0 more.2))
 
 -- a shrink that is entered was not adopted
-pub opened_unadopted : (done : List StepReport) (r new : State) (comm : Context) → AdoptsEntered r.log → IsOpen done r (Shrink comm) new → has_adopted new.log comm.number ≡ false
+pub opened_unadopted : (done : List StepReport) (r new : State) (comm : Context) → AdoptsEntered r.log → LeavesOpen done r (Shrink comm) new → has_adopted new.log comm.number ≡ false
 opened_unadopted done r new comm entered h =
     let fresh : has_adopted r.log comm.number ≡ false =
     false_from_ne_true (has_adopted r.log comm.number) (λ adopted. false≢true (sym (shrink_passed r comm.number h.0).1 ∙ entered comm.number adopted)) in

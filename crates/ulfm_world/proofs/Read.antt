@@ -1,9 +1,9 @@
 -- The reports of the ranks of a world, and the flow between them.
-use Rattle.std.proofs.Common.{◌≡◌, ℕ, ◌<◌, ◌≤◌, false, ◌++◌, length, sym, ap, ◌∙◌, subst, arith, Some}
+use Rattle.std.proofs.Common.{◌≡◌, ℕ, ◌<◌, ◌≤◌, ◌++◌, length, sym, ap, ◌∙◌, subst, arith, Some}
 use Rattle.std.proofs.lemmas.List.{get_or-map, length-map}
 use Rattle.std.proofs.lemmas.Option.{get_or_from_slice_get, slice_get-get_or, slice_get_within}
 use Rattle.ulfm_world.proofs.Common.{items_from, at, outbox, Report, World, player_at, rank_at, inbox_at, no_player, report_of, reports_in, start_world, Reaches, IsWorld, IsAtRest}
-use Rattle.ulfm_rank.specs.Facts.{took, is_stopped}
+use Rattle.ulfm_rank.specs.Facts.{took}
 use Rattle.ulfm_laws.specs.Flow.{Flow, Flows}
 use Rattle.ulfm_laws.specs.Reports.{report_at, no_report}
 use Rattle.ulfm_laws.specs.Rest.{IsAtRest as IsRest}
@@ -38,12 +38,11 @@ flowing-world w h = record {
   order = each_report (λ r told. told.rank.me ≡ r) w h.named;
   counted = each_report (λ r told. told.rank.ranks ≡ length (reports_in w)) w (λ r i. h.counted r i ∙ sym (many_reports w));
   flow = λ s d sender receiver p q.
-      let F : Report → Report → Type 0 = λ (a b : Report). Flow a.rank s d (took b.rank.log s ++ items_from s (inbox_at w d)) in
       let i : s < length w.players = report_inside w s sender p in
       let j : d < length w.players = report_inside w d receiver q in
       let out : Flow (rank_at w s) s d (took (rank_at w d).log s ++ items_from s (inbox_at w d)) =
       flow_of (rank_at w s) s d (took (rank_at w d).log s ++ items_from s (inbox_at w d)) (h.sound s i) (h.named s i) (omega (arith, h.counted s i, j)) (h.passed_on s d i j) in
-      subst (λ (a : Report). F a receiver) (sym (report_is w s sender p)) (subst (F (report_of (player_at w s))) (sym (report_is w d receiver q)) out);
+      rw (report_is w s sender p, report_is w d receiver q) out;
 }
 
 pub flows-world : (w : World) → IsWorld w → Flows w.inboxes (reports_in w)
@@ -57,7 +56,7 @@ world-reached n capacity w small h = keeps-reaches (start_world n capacity) w (w
 pub rest-world : (w : World) → IsAtRest w → IsRest w.inboxes (reports_in w)
 rest-world w rest d told here running =
     let j : d < length w.players = report_inside w d told here in
-    let served = rest.served d j (let R : Report → Type 0 = λ (r : Report). is_stopped r.rank.log ≡ false in subst R (report_is w d told here) running) in
+    let served = rest.served d j (rw (report_is w d told here) at running) in
     record {
       inbox = served.inbox;
       outboxes = λ s sender p low. ap (λ (r : Report). outbox r.rank d) (report_is w s sender p) ∙ served.outboxes s (report_inside w s sender p);

@@ -6,7 +6,7 @@ use Rattle.ulfm_script.specs.Player.{Player, IsCalled, awaits_decision}
 use Rattle.ulfm_world.specs.declared.event.Refused.{Refused}
 use Rattle.ulfm_world.specs.declared.event.Refused.TheVariants.{NotReady, Stopped, OutOfMemory, NoSuchRank}
 use Rattle.ulfm_world.specs.World.{World, player_at, with_players, with_player, Happens, IsRunning, IsRefused}
-use Rattle.ulfm_world.specs.Replay.{Follows}
+use Rattle.ulfm_world.specs.inside.Rounds.{Follows}
 use Rattle.ulfm_script.proofs.Progress.{next-free}
 use Rattle.ulfm_world.proofs.Changed.{player-same}
 use Rattle.ulfm_script.proofs.Polls.{opens_add, stopped-adds}

@@ -1,9 +1,11 @@
 -- The reports of each world that a schedule leads to are true of its ranks' logs.
 use Rattle.std.proofs.Common.{ℕ, ◌≤◌, List, sym, subst}
 use Rattle.ulfm_world.proofs.Common.{Report, at, World, start_world, Reaches, reports_in, IsAtRest}
+use Rattle.ulfm_laws.specs.Causes.{GoneHaveStopped}
 use Rattle.ulfm_laws.specs.Reader.{AllHasCome}
 use Rattle.ulfm_laws.proofs.Arrivals.{all_come}
 use Rattle.ulfm_laws.proofs.Finding.{AreHonest}
+use Rattle.ulfm_laws.proofs.Flowing.{gone_stopped}
 use Rattle.ulfm_laws.proofs.Honest.{IsHonest}
 use Rattle.ulfm_laws.proofs.Lawful.{honest_reports}
 use Rattle.ulfm_world.specs.Each.{InEachWorld, InEachReplay}
@@ -25,9 +27,16 @@ module _ (n capacity : ℕ) (w : World) (small : n ≤ 8) (h : Reaches (start_wo
 pub in_world : (P : List Report → Type 0) → ((reports : List Report) → AreHonest reports → P reports) → InEachWorld P
 in_world P law n capacity w small h = law (reports_in w) (are_honest n capacity w small h)
 
--- and of those of each replay
+-- what holds of the reports of each world that a schedule leads to holds of those of each replay
+pub of_replay : (P : List Report → Type 0) → InEachWorld P → InEachReplay P
+of_replay P law j reports job h = subst P (sym h.reported) (law j.ranks j.capacity h.world job.few_ranks h.reaches)
+
 pub in_replay : (P : List Report → Type 0) → ((reports : List Report) → AreHonest reports → P reports) → InEachReplay P
-in_replay P law j reports job h = subst P (sym h.reported) (in_world P law j.ranks j.capacity h.world job.few_ranks h.reaches)
+in_replay P law = of_replay P (in_world P law)
+
+-- who is known to have failed has stopped
+pub gone_has_stopped : InEachWorld GoneHaveStopped
+gone_has_stopped n capacity w small h = gone_stopped w.inboxes (reports_in w) (flowing-world w (world-reached n capacity w small h))
 
 pub rest_world : (n capacity : ℕ) (w : World) → n ≤ 8 → Reaches (start_world n capacity) w → IsAtRest w → AllHasCome (reports_in w)
 rest_world n capacity w small h rest = rest_come n capacity w small h rest

@@ -1,5 +1,5 @@
 -- Each player's answers stay right, whatever a replay does next.
-use Rattle.std.proofs.Common.{◌≡◌, ◌≢◌, ℕ, ◌<◌, List, [], length, set, refl, ap, sym, subst, ◌∙◌, arith, inl, inr, length-set, get_or-set_same, get_or-set_other, Option, Some, None, slice_get, replicate}
+use Rattle.std.proofs.Common.{◌≡◌, ◌≢◌, ℕ, ◌<◌, List, [], length, set, refl, ap, sym, ◌∙◌, arith, inl, inr, length-set, get_or-set_same, get_or-set_other, Option, Some, None, slice_get, replicate}
 use Rattle.std.proofs.lemmas.Bool.{false≢true, cases_eq}
 use Rattle.std.proofs.lemmas.List.{get_or_past, get_or-replicate, length-replicate}
 use Rattle.std.proofs.lemmas.Option.{none-some}
@@ -9,17 +9,17 @@ use Rattle.ulfm_board.specs.Known.{Answers as BoardAnswers, Agrees, known_at, wi
 use Rattle.ulfm_match.proofs.Decide.{lt_or_ge}
 use Rattle.ulfm_rank.proofs.Logs.{stopped-push}
 use Rattle.ulfm_script.specs.Deciding.{Known, IsDecided}
-use Rattle.ulfm_script.specs.Honest.{IsHonest, IsUndecided}
+use Rattle.ulfm_script.specs.inside.SoFar.{AnswersFollowSoFar, IsUndecided}
 use Rattle.ulfm_script.proofs.Adopted.{agreed, keeps-answered, honest-decided}
 use Rattle.ulfm_script.proofs.Calling.{honest-called}
 use Rattle.ulfm_script.proofs.Honestly.{honest-moved, honest-left, honest-start}
 use Rattle.ulfm_script.proofs.Takes.{takes-none, takes-one}
-use Rattle.ulfm_world.specs.Replay.{known_in, AnswerRightly, Follows}
+use Rattle.ulfm_world.specs.inside.Rounds.{known_for, AllAnswersFollowSoFar, Follows}
 use Rattle.ulfm_world.proofs.Changed.{player-same, player-other}
 use Rattle.ulfm_world.proofs.Starts.{player-start, length-start}
 
 -- one player is another, and the same is decided
-rightly-set : (w w' : World) (r : ℕ) (p : Player) → r < length w.players → w'.players ≡ set w.players r p → w'.decided ≡ w.decided → ((known : Known) → IsHonest known (player_at w r) → IsHonest known p) → AnswerRightly w → AnswerRightly w'
+rightly-set : (w w' : World) (r : ℕ) (p : Player) → r < length w.players → w'.players ≡ set w.players r p → w'.decided ≡ w.decided → ((known : Known) → AnswersFollowSoFar known (player_at w r) → AnswersFollowSoFar known p) → AllAnswersFollowSoFar w → AllAnswersFollowSoFar w'
 rightly-set w w' r p inside players decided keeps h =
     let size : length w'.players ≡ length w.players = ap (λ (ps : List Player). length ps) players ∙ length-set w.players r p in
     record {
@@ -28,35 +28,33 @@ rightly-set w w' r p inside players decided keeps h =
       sized = λ x i. h.sized x (omega (arith, i, size)) ∙ ap (λ (ds : List (Option Decision)). length ds) (sym decided);
       held = λ x c d i knows. ap (λ (ds : List (Option Decision)). known_at ds c) decided ∙ h.held x c d (omega (arith, i, size)) knows;
       honest = λ x i.
-          let H : Player → Type 0 = λ (q : Player). IsHonest (known_in h.knows x) q in
-          let G : ℕ → Type 0 = λ (y : ℕ). IsHonest (known_in h.knows y) p in
-          subst H (sym (ap (λ (ps : List Player). player_in ps x) players)) (elim (cases_eq x r) [
-            | inl same ↦ subst H (sym (player-same w.players r x p same inside)) (subst G (sym same) (keeps (known_in h.knows r) (h.honest r inside)))
-            | inr other ↦ subst H (sym (player-other w.players r x p other)) (h.honest x (omega (arith, i, size)))
+          rw (ap (λ (ps : List Player). player_in ps x) players) (elim (cases_eq x r) [
+            | inl same ↦ rw (player-same w.players r x p same inside) (rw same (keeps (known_for h.knows r) (h.honest r inside)))
+            | inr other ↦ rw (player-other w.players r x p other) (h.honest x (omega (arith, i, size)))
           ]);
     }
 
-pub rightly-pushes : (w : World) (s d : ℕ) (w' : World) → Pushes w s d w' → AnswerRightly w → AnswerRightly w'
+pub rightly-pushes : (w : World) (s d : ℕ) (w' : World) → Pushes w s d w' → AllAnswersFollowSoFar w → AllAnswersFollowSoFar w'
 rightly-pushes w s d w' t h =
     let p : Player = with_rank (player_at w s) t.after in
     let same : t.after.log ≡ (rank_at w s).log = ap (λ (r : State). r.log) t.leaves.marked in
     rightly-set w w' s p t.inside_s (ap (λ (x : World). x.players) t.only) (ap (λ (x : World). x.decided) t.only)
     (λ known q. honest-moved known (player_at w s) p q refl (ap (λ (r : State). r.me) t.leaves.marked) (ap (λ (r : State). r.ranks) t.leaves.marked) (ap is_stopped same) (takes-none (rank_at w s).log t.after.log same)) h
 
-pub rightly-takes : (w : World) (r : ℕ) (w' : World) → Takes w r w' → AnswerRightly w → AnswerRightly w'
+pub rightly-takes : (w : World) (r : ℕ) (w' : World) → Takes w r w' → AllAnswersFollowSoFar w → AllAnswersFollowSoFar w'
 rightly-takes w r w' t h =
     let after : State = logged (rank_at w r) (Took t.source t.item) in
     let p : Player = with_rank (player_at w r) after in
     rightly-set w w' r p t.inside (ap (λ (x : World). x.players) t.only) (ap (λ (x : World). x.decided) t.only)
     (λ known q. honest-moved known (player_at w r) p q refl refl refl (stopped-push (rank_at w r).log (Took t.source t.item) ∙ or-false (is_stopped (rank_at w r).log)) (takes-one (rank_at w r).log after.log t.source t.item t.running refl)) h
 
-pub rightly-calls : (j : Seen) (w : World) (r : ℕ) (asked : Step) (w' : World) → Follows j w → slice_get (script_at j r) (length (player_at w r).done) ≡ Some asked → IsUndecided (player_at w r) → Happens w (Call r asked) w' → AnswerRightly w → AnswerRightly w'
+pub rightly-calls : (j : Seen) (w : World) (r : ℕ) (asked : Step) (w' : World) → Follows j w → slice_get (script_at j r) (length (player_at w r).done) ≡ Some asked → IsUndecided (player_at w r) → Happens w (Call r asked) w' → AllAnswersFollowSoFar w → AllAnswersFollowSoFar w'
 rightly-calls j w r asked w' f next undecided t h =
     let c = t.1 in
     rightly-set w w' r c.after c.inside (ap (λ (x : World). x.players) t.2 ∙ c.only) (ap (λ (x : World). x.decided) t.2)
     (λ known q. honest-called known (script_at j r) j.turns (player_at w r) asked c.after q c.running (f r c.inside).current next undecided c.called) h
 
-pub rightly-leaves : (w : World) (r : ℕ) (w' : World) → Happens w (Leave r) w' → AnswerRightly w → AnswerRightly w'
+pub rightly-leaves : (w : World) (r : ℕ) (w' : World) → Happens w (Leave r) w' → AllAnswersFollowSoFar w → AllAnswersFollowSoFar w'
 rightly-leaves w r w' t h =
     let g = t.1 in
     rightly-set w w' r g.after g.inside (ap (λ (x : World). x.players) t.2 ∙ g.only) (ap (λ (x : World). x.decided) t.2) (λ known q. honest-left known (player_at w r) g.after q g.left) h
@@ -72,28 +70,28 @@ agrees_with None held same = tt
 agrees_with (Some d) held same = same d refl
 
 -- a decision that is held is known for its rank from now on
-module _ (w : World) (h : AnswerRightly w) (r : ℕ) (inside : r < length w.players) (proposal held : Decision) (later : Known) (a : BoardAnswers None w.decided proposal held later) where
+module _ (w : World) (h : AllAnswersFollowSoFar w) (r : ℕ) (inside : r < length w.players) (proposal held : Decision) (later : Known) (a : BoardAnswers None w.decided proposal held later) where
   abbrev place : ℕ
   place = proposal.context.number
 
   abbrev now : Known
-  now = with_known (known_in h.knows r) place held
+  now = with_known (known_for h.knows r) place held
 
   many_later : length later ≡ length w.decided
   many_later = ap (λ (ks : Known). length ks) a.others_stay ∙ length-set w.decided place (Some held)
 
   many_now : length now ≡ length later
-  many_now = length-set (known_in h.knows r) place (Some held) ∙ h.sized r inside ∙ sym many_later
+  many_now = length-set (known_for h.knows r) place (Some held) ∙ h.sized r inside ∙ sym many_later
 
-  place_inside : place < length (known_in h.knows r)
+  place_inside : place < length (known_for h.knows r)
   place_inside = omega (arith, known_inside later place held a.known_now, many_later, h.sized r inside)
 
   now_here : known_at now place ≡ Some held
-  now_here = get_or-set_same (known_in h.knows r) place (Some held) None place_inside
+  now_here = get_or-set_same (known_for h.knows r) place (Some held) None place_inside
 
-  board_answers : BoardAnswers (Some []) (known_in h.knows r) proposal held now
+  board_answers : BoardAnswers (Some []) (known_for h.knows r) proposal held now
   board_answers = record {
-    as_before = agrees_with (known_at (known_in h.knows r) place) held (λ d e. agreed (known_at w.decided place) held d a.as_before (h.held r place d inside e));
+    as_before = agrees_with (known_at (known_for h.knows r) place) held (λ d e. agreed (known_at w.decided place) held d a.as_before (h.held r place d inside e));
     first_stays = λ e none. let bad : ⊥ = cc in absurd bad;
     known_now = now_here;
     others_stay = refl;
@@ -107,16 +105,16 @@ module _ (w : World) (h : AnswerRightly w) (r : ℕ) (inside : r < length w.play
   now_held : (c : ℕ) (d : Decision) → known_at now c ≡ Some d → known_at later c ≡ Some d
   now_held c d e = elim (cases_eq c place) [
     | inl same ↦ ap (known_at later) same ∙ a.known_now ∙ sym now_here ∙ ap (known_at now) (sym same) ∙ e
-    | inr other ↦ stays c d (h.held r c d inside (sym (get_or-set_other (known_in h.knows r) place c (Some held) None other) ∙ e))
+    | inr other ↦ stays c d (h.held r c d inside (sym (get_or-set_other (known_for h.knows r) place c (Some held) None other) ∙ e))
   ]
 
   -- the world after it, where this player has its answer
-  rightly-held : (p : Player) (w' : World) → w'.players ≡ set w.players r p → w'.decided ≡ later → IsHonest now p → AnswerRightly w'
+  rightly-held : (p : Player) (w' : World) → w'.players ≡ set w.players r p → w'.decided ≡ later → AnswersFollowSoFar now p → AllAnswersFollowSoFar w'
   rightly-held p w' players decided honest =
       let size : length w'.players ≡ length w.players = ap (λ (ps : List Player). length ps) players ∙ length-set w.players r p in
       let ks : List Known = set h.knows r now in
-      let here : (x : ℕ) → x ≡ r → known_in ks x ≡ now = λ x same. ap (known_in ks) same ∙ get_or-set_same h.knows r now [] (omega (arith, inside, h.many)) in
-      let there : (x : ℕ) → x ≢ r → known_in ks x ≡ known_in h.knows x = λ x other. get_or-set_other h.knows r x now [] other in
+      let here : (x : ℕ) → x ≡ r → known_for ks x ≡ now = λ x same. ap (known_for ks) same ∙ get_or-set_same h.knows r now [] (omega (arith, inside, h.many)) in
+      let there : (x : ℕ) → x ≢ r → known_for ks x ≡ known_for h.knows x = λ x other. get_or-set_other h.knows r x now [] other in
       record {
         knows = ks;
         many = length-set h.knows r now ∙ h.many ∙ sym size;
@@ -129,21 +127,20 @@ module _ (w : World) (h : AnswerRightly w) (r : ℕ) (inside : r < length w.play
           | inr other ↦ stays c d (h.held x c d (omega (arith, i, size)) (ap (λ (k : Known). known_at k c) (sym (there x other)) ∙ e))
         ];
         honest = λ x i.
-            let H : Known → Type 0 = λ (k : Known). IsHonest k (player_at w' x) in
             let at : player_at w' x ≡ player_in (set w.players r p) x = ap (λ (ps : List Player). player_in ps x) players in
             elim (cases_eq x r) [
-              | inl same ↦ subst H (sym (here x same)) (let Q : Player → Type 0 = λ (q : Player). IsHonest now q in subst Q (sym (at ∙ player-same w.players r x p same inside)) honest)
-              | inr other ↦ subst H (sym (there x other)) (let Q : Player → Type 0 = λ (q : Player). IsHonest (known_in h.knows x) q in subst Q (sym (at ∙ player-other w.players r x p other)) (h.honest x (omega (arith, i, size))))
+              | inl same ↦ rw (here x same) (rw (at ∙ player-same w.players r x p same inside) honest)
+              | inr other ↦ rw (there x other) (rw (at ∙ player-other w.players r x p other) (h.honest x (omega (arith, i, size))))
             ];
       }
 
-pub rightly-decides : (w : World) (r : ℕ) (comm : Context) (w' : World) → Happens w (Decide r comm) w' → AnswerRightly w → AnswerRightly w'
+pub rightly-decides : (w : World) (r : ℕ) (comm : Context) (w' : World) → Happens w (Decide r comm) w' → AllAnswersFollowSoFar w → AllAnswersFollowSoFar w'
 rightly-decides w r comm w' t h =
     let s = t.2 in
     let d = s.decided in
     elim d.decision.outcome [
       | inl a ↦
-          let known : Known = known_in h.knows r in
+          let known : Known = known_for h.knows r in
           let later : Known = now w h r s.inside d.decision.proposal a.held t.1 a.board_answers in
           let own : IsDecided (player_at w r) comm (Some []) known s.after later = record {
             waits = d.waits;
@@ -162,16 +159,15 @@ rightly-decides w r comm w' t h =
     ]
 
 -- ranks that start
-pub rightly-start : (n capacity : ℕ) → AnswerRightly (start_world n capacity)
+pub rightly-start : (n capacity : ℕ) → AllAnswersFollowSoFar (start_world n capacity)
 rightly-start n capacity = record {
   knows = replicate n nothing_known;
   many = length-replicate n nothing_known ∙ sym (length-start n n);
   sized = λ r i. ap (λ (k : Known). length k) (none_known r (omega (arith, i, length-start n n)));
   held = λ r c d i e. ap (λ (k : Known). known_at k c) (sym (none_known r (omega (arith, i, length-start n n)))) ∙ e;
   honest = λ r i.
-      let H : Player → Type 0 = λ (p : Player). IsHonest (known_in (replicate n nothing_known) r) p in
-      subst H (sym (player-start n n r (omega (arith, i, length-start n n)))) (honest-start (known_in (replicate n nothing_known) r) r n);
+      rw (player-start n n r (omega (arith, i, length-start n n))) (honest-start (known_for (replicate n nothing_known) r) r n);
 }
   where
-    none_known : (r : ℕ) → r < n → known_in (replicate n nothing_known) r ≡ nothing_known
+    none_known : (r : ℕ) → r < n → known_for (replicate n nothing_known) r ≡ nothing_known
     none_known r inside = get_or-replicate n r nothing_known [] inside

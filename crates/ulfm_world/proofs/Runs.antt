@@ -1,28 +1,23 @@
 -- Every schedule keeps what every world keeps.
-use Rattle.std.proofs.Common.{◌≡◌, ℕ, ◌+◌, ◌<◌, List, [], ◌∷◌, ◌++◌, length, take, get_or, refl, sym, subst, inl, inr, Result, Ok, Err, OnOk, OnErr, IfErr, Option, None}
+use Rattle.std.proofs.Common.{◌≡◌, ℕ, ◌+◌, ◌<◌, List, [], ◌∷◌, ◌++◌, length, take, get_or, refl, inl, inr, Result, Ok, Err, OnOk, OnErr, IfErr, Option, None}
 use Rattle.std.proofs.lemmas.List.{take_more}
 use Rattle.ulfm_world.proofs.Common.{Context, Decision, Event, Call, Push, Take, Decide, Leave, IsWorld, Player, Step}
 use Rattle.ulfm_world.specs.declared.event.Refused.{Refused}
-use Rattle.ulfm_world.specs.World.{World, with_players, with_decided, Calls, Settles, GivesUp, Happens, IsRefused, Applied, Run, Reaches, IsReached}
+use Rattle.ulfm_world.specs.World.{World, with_players, with_decided, Calls, DecidesShrink, GivesUp, Happens, IsRefused, Applied, Run, Reaches, IsReached}
 use Rattle.ulfm_script.proofs.Polls.{quiet-called, quiet-left}
 use Rattle.ulfm_script.proofs.Decisions.{quiet-decided}
 use Rattle.ulfm_world.proofs.KeepsCalls.{keeps-quiet, keeps-takes}
 use Rattle.ulfm_world.proofs.KeepsPush.{keeps-pushes}
 
 keeps-calls : (w : World) (r : ℕ) (asked : Step) (players : List Player) → IsWorld w → Calls w.players r asked players → IsWorld (with_players w players)
-keeps-calls w r asked players h c =
-    let W : List Player → Type 0 = λ (ps : List Player). IsWorld (with_players w ps) in
-    subst W (sym c.only) (keeps-quiet w r c.after h c.inside (quiet-called _ asked c.after (h.sound r c.inside) c.running c.called))
+keeps-calls w r asked players h c = rw c.only (keeps-quiet w r c.after h c.inside (quiet-called _ asked c.after (h.sound r c.inside) c.running c.called))
 
 keeps-gives_up : (w : World) (r : ℕ) (players : List Player) → IsWorld w → GivesUp w.players r players → IsWorld (with_players w players)
-keeps-gives_up w r players h c =
-    let W : List Player → Type 0 = λ (ps : List Player). IsWorld (with_players w ps) in
-    subst W (sym c.only) (keeps-quiet w r c.after h c.inside (quiet-left _ c.after (h.sound r c.inside) c.left))
+keeps-gives_up w r players h c = rw c.only (keeps-quiet w r c.after h c.inside (quiet-left _ c.after (h.sound r c.inside) c.left))
 
-keeps-settles : (w : World) (r : ℕ) (comm : Context) (players : List Player) (later : List (Option Decision)) → IsWorld w → Settles w.players w.decided r comm players later → IsWorld (with_decided (with_players w players) later)
+keeps-settles : (w : World) (r : ℕ) (comm : Context) (players : List Player) (later : List (Option Decision)) → IsWorld w → DecidesShrink w.players w.decided r comm players later → IsWorld (with_decided (with_players w players) later)
 keeps-settles w r comm players later h c =
-    let W : List Player → Type 0 = λ (ps : List Player). IsWorld (with_decided (with_players w ps) later) in
-    subst W (sym c.only) (decided_else _ later (keeps-quiet w r c.after h c.inside (quiet-decided _ comm None w.decided later c.after (h.sound r c.inside) c.decided)))
+    rw c.only (decided_else _ later (keeps-quiet w r c.after h c.inside (quiet-decided _ comm None w.decided later c.after (h.sound r c.inside) c.decided)))
   where
     -- what every world keeps says nothing of the decisions
     decided_else : (w : World) (later : List (Option Decision)) → IsWorld w → IsWorld (with_decided w later)
@@ -38,19 +33,29 @@ keeps-settles w r comm players later h c =
     }
 
 pub keeps-happens : (w : World) (event : Event) (w' : World) → IsWorld w → Happens w event w' → IsWorld w'
-keeps-happens w (Call r asked) w' h k = let W : World → Type 0 = λ (x : World). IsWorld x in subst W (sym k.2) (keeps-calls w r asked k.0 h k.1)
+keeps-happens w (Call r asked) w' h k = rw k.2 (keeps-calls w r asked k.0 h k.1)
 keeps-happens w (Push s d) w' h k = keeps-pushes w s d w' h k
 keeps-happens w (Take r) w' h k = keeps-takes w r w' h k
-keeps-happens w (Decide r comm) w' h k = let W : World → Type 0 = λ (x : World). IsWorld x in subst W (sym k.3) (keeps-settles w r comm k.0 k.1 h k.2)
-keeps-happens w (Leave r) w' h k = let W : World → Type 0 = λ (x : World). IsWorld x in subst W (sym k.2) (keeps-gives_up w r k.0 h k.1)
+keeps-happens w (Decide r comm) w' h k = rw k.3 (keeps-settles w r comm k.0 k.1 h k.2)
+keeps-happens w (Leave r) w' h k = rw k.2 (keeps-gives_up w r k.0 h k.1)
 
 pub keeps-applied : (w : World) (event : Event) (w' : World) → IsWorld w → Applied w event w' → IsWorld w'
 keeps-applied w event w' h (inl k) = keeps-happens w event w' h k
-keeps-applied w event w' h (inr e) = let W : World → Type 0 = λ (x : World). IsWorld x in subst W (sym e.2) h
+keeps-applied w event w' h (inr e) = rw e.2 h
 
 pub keeps-run : (events : List Event) (w w' : World) → IsWorld w → Run w events w' → IsWorld w'
-keeps-run [] w w' h k = let W : World → Type 0 = λ (x : World). IsWorld x in subst W (sym k) h
+keeps-run [] w w' h k = rw k h
 keeps-run (event ∷ events) w w' h k = keeps-run events k.0 w' (keeps-applied w event k.0 h k.1) k.2
+
+-- what each event keeps of a world, a schedule keeps
+module _ (P : World → Type 0) (step : (w : World) (event : Event) (w' : World) → IsWorld w → P w → Happens w event w' → P w') where
+  pub each_applied : (w : World) (event : Event) (w' : World) → IsWorld w → P w → Applied w event w' → P w'
+  each_applied w event w' h p (inl k) = step w event w' h p k
+  each_applied w event w' h p (inr e) = rw e.2 p
+
+  pub each_run : (events : List Event) (w w' : World) → IsWorld w → P w → Run w events w' → P w'
+  each_run [] w w' h p k = rw k p
+  each_run (event ∷ events) w w' h p k = each_run events k.0 w' (keeps-applied w event k.0 h k.1) (each_applied w event k.0 h p k.1) k.2
 
 pub keeps-reaches : (w w' : World) → IsWorld w → Reaches w w' → IsWorld w'
 keeps-reaches w w' h k = keeps-run k.0 w w' h k.1
@@ -61,18 +66,16 @@ either (Err x) w w' event k why e = inr (x, why, e)
 
 -- one more event
 pub run-push : (events : List Event) (event : Event) (w m w' : World) → Run w events m → Applied m event w' → Run w (events ++ event ∷ []) w'
-run-push [] event w m w' h k = let A : World → Type 0 = λ (x : World). Applied x event w' in (w', subst A h k, refl)
+run-push [] event w m w' h k = (w', rw h at k, refl)
 run-push (x ∷ events) event w m w' h k = (h.0, h.1, run-push events event h.0 m w' h.2 k)
 
 pub run_more : {A : Type 0} (r : Result A Refused) (events : List Event) (i : ℕ) (d : Event) (w m w' : World) → i < length events → Run w (take i events) m → OnOk r (Happens m (get_or events i d) w') → IfErr r (λ why. IsRefused m (get_or events i d) why) → OnErr r (w' ≡ m) → Run w (take (i + 1) events) w'
-run_more r events i d w m w' inside h k why e =
-    let R : List Event → Type 0 = λ (es : List Event). Run w es w' in
-    subst R (sym (take_more events i d inside)) (run-push (take i events) (get_or events i d) w m w' h (either r m w' (get_or events i d) k why e))
+run_more r events i d w m w' inside h k why e = rw (take_more events i d inside) (run-push (take i events) (get_or events i d) w m w' h (either r m w' (get_or events i d) k why e))
 
 pub ruleset runs = (run_more)
 
 run-append : (xs ys : List Event) (u v w : World) → Run u xs v → Run v ys w → Run u (xs ++ ys) w
-run-append [] ys u v w h k = let R : World → Type 0 = λ (x : World). Run x ys w in subst R h k
+run-append [] ys u v w h k = rw h at k
 run-append (x ∷ xs) ys u v w h k = (h.0, h.1, run-append xs ys h.0 v w h.2 k)
 
 pub reaches-one : (w : World) (event : Event) (w' : World) → Happens w event w' → Reaches w w'
@@ -84,4 +87,4 @@ reaches-then u v w h k = (h.0 ++ k.0, run-append h.0 k.0 u v w h.1 k.1)
 -- a world after an event that happened or was refused
 pub reaches-either : {A E : Type 0} (r : Result A E) (w w' : World) (event : Event) → IsReached w → OnOk r (Happens w event w') → OnErr r (w' ≡ w) → IsReached w'
 reaches-either (Ok x) w w' event h k e = record { ranks = h.ranks; capacity = h.capacity; few = h.few; schedule = reaches-then _ _ _ h.schedule (reaches-one w event w' k) }
-reaches-either (Err x) w w' event h k e = let W : World → Type 0 = λ (x : World). IsReached x in subst W (sym e) h
+reaches-either (Err x) w w' event h k e = rw e h

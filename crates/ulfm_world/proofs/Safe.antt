@@ -8,18 +8,22 @@ use Rattle.ulfm_base.specs.Decision.{entry_at, is_listed, in_entry}
 use Rattle.ulfm_base.specs.RankSet.{has}
 use Rattle.ulfm_board.specs.Known.{nothing_known}
 use Rattle.ulfm_world.specs.Safe.{entry_at_rank, EntersOnce, IsSafe, DecidesSafely, AdoptsHeld}
+use Rattle.ulfm_laws.specs.Shrinks.{EntersEachOnce}
+use Rattle.ulfm_laws.proofs.Once.{once-start}
 use Rattle.ulfm_rank.proofs.Firsts.{some_from}
 use Rattle.ulfm_base.proofs.Among.{excluding_from}
 use Rattle.ulfm_rank.proofs.Belonging.{Keeps, keeps-start}
 use Rattle.ulfm_world.proofs.Agreed.{IsAdopted, IsHeld, Settled}
 use Rattle.ulfm_world.proofs.Moving.{settled-run}
+use Rattle.ulfm_world.proofs.Read.{each_report}
 use Rattle.ulfm_world.proofs.Starts.{length-start, player-start, world-start}
 use Rattle.ulfm_base.proofs.Places.{get_or-blank}
 
-settled-start : (n capacity : ℕ) → Settled n (start_world n capacity)
+pub settled-start : (n capacity : ℕ) → Settled n (start_world n capacity)
 settled-start n capacity = record {
   size = length-start n n;
   keeps = λ r i. let K : Player → Type 0 = λ (p : Player). Keeps n r p.rank.log in subst K (sym (player-start n n r i)) (keeps-start n r i);
+  once = λ r i. let K : Player → Type 0 = λ (p : Player). EntersEachOnce p.rank.log in subst K (sym (player-start n n r i)) once-start;
   held = λ c d known. absurd (none-some d (sym (get_or-blank 31 c (let o : Option Decision = None in o)) ∙ known));
   adopted = λ r i. let A : Player → Type 0 = λ (p : Player). All (IsAdopted nothing_known r) p.rank.log in subst A (sym (player-start n n r i)) (All-nil (IsAdopted nothing_known r));
   unadopted = λ r comm i e. absurd (none-some (Shrink comm) (sym (ap (λ (p : Player). p.current) (player-start n n r i)) ∙ e));
@@ -34,7 +38,11 @@ module _ (n : ℕ) (w : World) (settled : Settled n w) where
   inside r i = omega (arith, i, settled.size)
 
   pub enters-once : EntersOnce w
-  enters-once r k context known i stands = (settled.keeps r (inside r i)).enters_once k context known stands
+  enters-once = record {
+    once = each_report (λ r told. EntersEachOnce told.rank.log) w (λ r i. settled.once r (inside r i));
+    knows = λ r place context known i stands.
+        let enters = (settled.keeps r (inside r i)).enters_once place context known stands in record { first = enters.0; knew = enters.1 };
+  }
 
   pub held-safe : (c : ℕ) (d : Decision) → IsHeld n w c d → IsSafe w d
   held-safe c d held = record {
@@ -52,11 +60,12 @@ module _ (n : ℕ) (w : World) (settled : Settled n w) where
   }
 
   pub decides-safely : DecidesSafely w
-  decides-safely c d known = let held = settled.held c d known in (held.context, held-safe c d held)
+  decides-safely c d known = let held = settled.held c d known in record { about = held.context; safe = held-safe c d held }
 
   pub adopts-held : AdoptsHeld w
   adopts-held r d i adopted =
       let log : List Entry = (rank_at w r).log in
       let place = slice_get_within log adopted.0 (Adopted d) adopted.1 in
       let A : Entry → Type 0 = λ (x : Entry). IsAdopted w.decided r x in
-      subst A (get_or_from_slice_get log adopted.0 (Adopted d) (Adopted d) adopted.1) (settled.adopted r (inside r i) adopted.0 (Adopted d) place)
+      let now = subst A (get_or_from_slice_get log adopted.0 (Adopted d) (Adopted d) adopted.1) (settled.adopted r (inside r i) adopted.0 (Adopted d) place) in
+      record { held = now.0; member = now.1 }

@@ -1,23 +1,23 @@
 -- What the ranks know at the rest that a replay ends at.
 use Rattle.std.proofs.Common.{List, sym, subst}
 use Rattle.ulfm_world.proofs.Common.{Report, IsReached, reports_in}
-use Rattle.ulfm_script.specs.Job.{Seen, IsJob}
+use Rattle.ulfm_job.specs.Job.{Seen, IsJob}
 use Rattle.ulfm_laws.specs.Lawful.{KnowAtRest}
 use Rattle.ulfm_laws.proofs.AtRest.{knows-stopped, agrees-revoked}
-use Rattle.ulfm_world.specs.Replay.{IsReplayed, AreSettled}
+use Rattle.ulfm_world.specs.Replay.{IsReplayed, MadeAtRest}
 use Rattle.ulfm_world.proofs.Kept.{world_of}
+use Rattle.ulfm_world.proofs.Made.{made-safely}
 use Rattle.ulfm_world.proofs.Read.{flowing-world, rest-world}
 use Rattle.ulfm_world.proofs.Reported.{rest_world}
 use Rattle.ulfm_world.proofs.Shrunk.{shrinks-safely, all-proposed}
 
-pub settled : (j : Seen) (reports : List Report) → IsJob j → IsReplayed j reports → AreSettled reports
+pub settled : (j : Seen) (reports : List Report) → IsJob j → IsReplayed j reports → MadeAtRest j reports
 settled j reports job h =
     let reached : IsReached h.world = record { ranks = j.ranks; capacity = j.capacity; few = job.few_ranks; schedule = h.reaches } in
     let flowing = flowing-world h.world (world_of h.world reached) in
     let K : List Report → Type 0 = λ (rs : List Report). KnowAtRest rs in
     record {
-      world = h.world;
-      reported = h.reported;
+      replayed = h;
       known = subst K (sym h.reported) (record {
         known = knows-stopped h.world.inboxes (reports_in h.world) flowing (rest-world h.world h.rests);
         agreed = agrees-revoked h.world.inboxes (reports_in h.world) flowing (rest-world h.world h.rests);
@@ -25,4 +25,5 @@ settled j reports job h =
         come = rest_world j.ranks j.capacity h.world job.few_ranks h.reaches h.rests;
       });
       safe = shrinks-safely h.world reached;
+      made = made-safely j.ranks j.capacity h.reaches.0 h.world job.few_ranks h.reaches.1;
     }

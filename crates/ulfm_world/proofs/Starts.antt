@@ -6,7 +6,7 @@ use Rattle.std.proofs.lemmas.List.Elements.{All-nil}
 use Rattle.ulfm_world.proofs.Common.{WorldRank, Decision, Item, the_player, players_of, parts, IsPosted, IsWorld, items_from}
 use Rattle.ulfm_board.specs.Known.{nothing_known}
 use Rattle.ulfm_rank.specs.Facts.{took, IsSigned}
-use Rattle.ulfm_rank.specs.State.{IsState, gone_out, no_mark, start_state}
+use Rattle.ulfm_rank.specs.State.{IsState, went_out, no_mark, start_state}
 use Rattle.ulfm_base.specs.declared.error.CallError.{CallError}
 use Rattle.ulfm_base.specs.declared.error.CallError.TheVariants.{OutOfMemory}
 use Rattle.ulfm_rank.specs.Checks.{Passes, FailsOrStarves, start_checks}
@@ -38,8 +38,8 @@ sound-start me n h small = record {
   me = h;
   sized = length-replicate n no_mark;
   within = λ d k. rw (get_or-blank n d no_mark) (omega arith);
-  untold = λ s d k. rw (get_or-blank n d no_mark) refl;
-  self_untold = rw (get_or-blank n me no_mark) refl;
+  no_notice = λ s d k. rw (get_or-blank n d no_mark) refl;
+  no_own_notice = rw (get_or-blank n me no_mark) refl;
 }
 
 pub world-start : (n capacity : ℕ) → n ≤ 8 → IsWorld (start_world n capacity)
@@ -58,7 +58,7 @@ world-start n capacity small = record {
       let P : List (WorldRank × Item) → Type 0 = λ (xs : List (WorldRank × Item)). All (IsPosted (length (start_players n n))) xs in
       subst P (sym (inbox-start n r)) (All-nil (IsPosted (length (start_players n n))));
   passed_on = λ s d i j.
-      ap (λ (p : Player). gone_out p.rank d) (player-start n n s (omega (arith, i, length-start n n)))
+      ap (λ (p : Player). went_out p.rank d) (player-start n n s (omega (arith, i, length-start n n)))
       ∙ rw (get_or-blank n d no_mark) (ap (λ (xs : List (WorldRank × Item)). items_from s xs) (sym (inbox-start n d)))
       ∙ ap (λ (p : Player). took p.rank.log s ++ items_from s (inbox_at (start_world n capacity) d)) (sym (player-start n n d (omega (arith, j, length-start n n))));
 }

@@ -1,5 +1,5 @@
 -- What one more entry changes of what a rank may still send.
-use Rattle.std.proofs.Common.{◌≡◌, ℕ, ◌+◌, ◌*◌, ◌<◌, ◌≤◌, Bool, true, false, cond, eqb, List, [], ◌∷◌, ◌++◌, length, drop, refl, ap, sym, subst, ◌∙◌, arith, inl, inr, append-nil, length-append, ◌||◌}
+use Rattle.std.proofs.Common.{◌≡◌, ℕ, ◌+◌, ◌*◌, ◌<◌, ◌≤◌, Bool, true, false, cond, eqb, List, [], ◌∷◌, ◌++◌, length, drop, refl, ap, ◌∙◌, arith, inl, inr, append-nil, length-append, ◌||◌}
 use Rattle.std.proofs.lemmas.Bool.{cases_Bool, eq-eqb, or_right}
 use Rattle.std.proofs.lemmas.List.{drop-append-le}
 use Rattle.std.proofs.Math.Bool.{or-false}
@@ -8,7 +8,7 @@ use Rattle.ulfm_base.specs.declared.item.Item.TheVariants.{Letter as Mail, Gone,
 use Rattle.ulfm_rank.specs.Facts.{is_stop, is_stopped, is_revoked, revokes}
 use Rattle.ulfm_rank.specs.Owed.{owed_by}
 use Rattle.ulfm_rank.specs.State.{State, IsState, logged, owes, outbox, mark_at}
-use Rattle.ulfm_world.specs.Replay.{out_at, fresh_at, fresh_of}
+use Rattle.ulfm_world.specs.inside.Rounds.{out_at, fresh_at, fresh_of}
 use Rattle.ulfm_rank.proofs.Gather.{any-push}
 use Rattle.ulfm_rank.proofs.Logs.{owes-logged, stopped-push, owed_by_few}
 use Rattle.ulfm_script.proofs.Polls.{Adds}
@@ -24,12 +24,12 @@ outbox_more : (r : State) (e : Entry) (d : ℕ) → IsState r → d < r.ranks �
 outbox_more r e d h inside running = elim (cases_Bool (is_stop e)) [
   | inl stop ↦
       let stops : is_stopped (r.log ++ e ∷ []) ≡ true = stopped-push r.log e ∙ or_right (is_stopped r.log) (is_stop e) stop in
-      rw stops (omega (arith, after_stop (eqb r.me d) (mark_at r d).told))
+      rw stops (omega (arith, after_stop (eqb r.me d) (mark_at r d).notice_out))
   | inr go ↦
       let runs : is_stopped (r.log ++ e ∷ []) ≡ false = stopped-push r.log e ∙ ap (λ b. b || is_stop e) running ∙ go in
-      let more : drop (mark_at r d).taken (owes (logged r e) d) ≡ drop (mark_at r d).taken (owes r d) ++ owed_by r.ranks r.me d r.log (owes r d) e =
-      ap (drop (mark_at r d).taken) (owes-logged r e d) ∙ drop-append-le (mark_at r d).taken (owes r d) (owed_by r.ranks r.me d r.log (owes r d) e) (h.within d inside) in
-      rw (runs, running) (omega (arith, ap (λ (xs : List Item). length xs) more, length-append (drop (mark_at r d).taken (owes r d)) (owed_by r.ranks r.me d r.log (owes r d) e), owed_by_few r.ranks r.me d r.log (owes r d) e))
+      let more : drop (mark_at r d).items_out (owes (logged r e) d) ≡ drop (mark_at r d).items_out (owes r d) ++ owed_by r.ranks r.me d r.log (owes r d) e =
+      ap (drop (mark_at r d).items_out) (owes-logged r e d) ∙ drop-append-le (mark_at r d).items_out (owes r d) (owed_by r.ranks r.me d r.log (owes r d) e) (h.within d inside) in
+      rw (runs, running) (omega (arith, ap (λ (xs : List Item). length xs) more, length-append (drop (mark_at r d).items_out (owes r d)) (owed_by r.ranks r.me d r.log (owes r d) e), owed_by_few r.ranks r.me d r.log (owes r d) e))
 ]
 
 out-logged : (n : ℕ) (r : State) (e : Entry) → IsState r → n ≡ r.ranks → is_stopped r.log ≡ false → out_at n (logged r e) ≤ out_at n r + 16
@@ -74,10 +74,8 @@ took_revoke false n r source context h size running fresh =
 
 -- an entry of the rank's own adds little
 pub adds_weight : (n : ℕ) (r : State) (stops : Bool) (new : State) → IsState r → n ≡ r.ranks → is_stopped r.log ≡ false → Adds r stops new → out_at n new + fresh_of new ≤ (out_at n r + fresh_of r) + 16
-adds_weight n r stops new h size running (inl same) = let W : State → Type 0 = λ (s : State). out_at n s + fresh_of s ≤ (out_at n r + fresh_of r) + 16 in subst W (sym same.0) (omega arith)
-adds_weight n r stops new h size running (inr one) =
-    let W : State → Type 0 = λ (s : State). out_at n s + fresh_of s ≤ (out_at n r + fresh_of r) + 16 in
-    subst W (sym one.only) (omega (arith, out-logged n r one.entry h size running, fresh-logged r one.entry))
+adds_weight n r stops new h size running (inl same) = rw same.0 (omega arith)
+adds_weight n r stops new h size running (inr one) = rw one.only (omega (arith, out-logged n r one.entry h size running, fresh-logged r one.entry))
 
 -- an item that is taken adds nothing to what the rank may still send
 pub out-took : (n : ℕ) (r : State) (source : WorldRank) (item : Item) → IsState r → n ≡ r.ranks → is_stopped r.log ≡ false → out_at n (logged r (Took source item)) + fresh_of (logged r (Took source item)) ≤ out_at n r + fresh_of r

@@ -3,9 +3,9 @@ use Rattle.std.specs.Prelude.{◌≡◌, ℕ, List, ◌++◌, ◌<◌, ◌≤◌
 use Rattle.ulfm_base.specs.declared.rank.WorldRank.{WorldRank}
 use Rattle.ulfm_base.specs.declared.item.Item.{Item}
 use Rattle.ulfm_rank.specs.Facts.{took, IsSigned}
-use Rattle.ulfm_rank.specs.State.{IsState, gone_out}
+use Rattle.ulfm_rank.specs.State.{IsState, went_out}
 use Rattle.ulfm_rank.specs.Calls.{IsFrom}
-use Rattle.ulfm_world.specs.World.{World, rank_at, inbox_at, IsReached}
+use Rattle.ulfm_world.specs.World.{World, rank_at, inbox_at}
 use Rattle.ulfm_base.specs.Items.{items_from}
 
 -- the items that d took from s, then those of s left in the inbox of d
@@ -25,9 +25,4 @@ pub record IsWorld (w : World) : Type 0 where
   pub sound : (r : ℕ) → r < length w.players → IsState (rank_at w r)
   pub signed : (r : ℕ) → r < length w.players → All (IsSigned r) (rank_at w r).log
   pub posted : (r : ℕ) → r < length w.players → All (IsPosted (length w.players)) (inbox_at w r)
-  pub passed_on : (s d : ℕ) → s < length w.players → d < length w.players → gone_out (rank_at w s) d ≡ arrived w s d
-
--- a world that some schedule leads to, and what it keeps
-pub record IsKept (w : World) : Type 0 where
-  pub world : IsWorld w
-  pub reached : IsReached w
+  pub passed_on : (s d : ℕ) → s < length w.players → d < length w.players → went_out (rank_at w s) d ≡ arrived w s d

@@ -1,7 +1,9 @@
 pub mod World
+pub mod Parts
 pub mod Flow
 pub mod Rest
 pub mod Safe
 pub mod Replay
-pub mod Fields
 pub mod Each
+pub mod inside
+pub mod Made

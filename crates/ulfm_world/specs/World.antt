@@ -7,10 +7,10 @@ use Rattle.ulfm_base.specs.declared.item.Item.{Item}
 use Rattle.ulfm_board.specs.Known.{nothing_known}
 use Rattle.ulfm_rank.specs.declared.entry.Entry.TheVariants.{Took}
 use Rattle.ulfm_rank.specs.Facts.{is_stopped}
-use Rattle.ulfm_rank.specs.State.{State, logged, outbox, Leaves}
-use Rattle.ulfm_script.specs.declared.step.Step.{Step}
-use Rattle.ulfm_script.specs.Player.{Player, start_player, with_rank, IsFree, IsCalled, Left}
-use Rattle.ulfm_script.specs.Deciding.{IsReady, IsDecided}
+use Rattle.ulfm_rank.specs.State.{State, logged, outbox, GoesOut}
+use Rattle.ulfm_job.specs.declared.step.Step.{Step}
+use Rattle.ulfm_script.specs.Player.{Player, start_player, with_rank, IsFree, IsCalled, GivesUpStep}
+use Rattle.ulfm_script.specs.Deciding.{IsReadyToDecide, IsDecided}
 use Rattle.ulfm_script.specs.Report.{Report}
 use Rattle.ulfm_world.specs.declared.event.Event.{Event}
 use Rattle.ulfm_world.specs.declared.event.Event.TheVariants.{Call, Push, Take, Decide, Leave}
@@ -91,7 +91,8 @@ pub record Calls (old : List Player) (r : ℕ) (step : Step) (new : List Player)
 
 -- The open shrink of a communicator by the player r, which has a proposal, is decided, and answered: the proposal is the
 -- decision where there was none.
-pub record Settles (old : List Player) (known : List (Option Decision)) (r : ℕ) (comm : Context) (new : List Player) (later : List (Option Decision)) : Type 0 where
+pub record DecidesShrink (old : List Player) (known : List (Option Decision)) (r : ℕ) (comm : Context)
+    (new : List Player) (later : List (Option Decision)) : Type 0 where
   pub inside : r < length old
   pub running : is_stopped (player_in old r).rank.log ≡ false
   pub after : Player
@@ -103,7 +104,7 @@ pub record GivesUp (old : List Player) (r : ℕ) (new : List Player) : Type 0 wh
   pub inside : r < length old
   pub running : is_stopped (player_in old r).rank.log ≡ false
   pub after : Player
-  pub left : Left (player_in old r) after
+  pub left : GivesUpStep (player_in old r) after
   pub only : new ≡ slice_set old r after
 
 -- the first item of the outbox of s towards d goes to the end of the inbox of d
@@ -115,7 +116,7 @@ pub record Pushes (old : World) (s d : ℕ) (new : World) : Type 0 where
   pub is_sender : sender.number ≡ s
   pub item : Item
   pub after : State
-  pub leaves : Leaves (rank_at old s) after d item
+  pub leaves : GoesOut (rank_at old s) after d item
   pub only : new ≡ with_inbox (with_player old s (with_rank (player_at old s) after)) d (inbox_at old d ++ (sender, item) ∷ [])
 
 -- the first item of the inbox of r goes to its log
@@ -133,7 +134,9 @@ abbrev pub Happens : World → Event → World → Type 0
 Happens old (Call r step) new = (players : List Player) × Calls old.players r step players × (new ≡ with_players old players)
 Happens old (Push s d) new = Pushes old s d new
 Happens old (Take r) new = Takes old r new
-Happens old (Decide r comm) new = (players : List Player) × (later : List (Option Decision)) × Settles old.players old.decided r comm players later × (new ≡ with_decided (with_players old players) later)
+Happens old (Decide r comm) new =
+    (players : List Player) × (later : List (Option Decision)) × DecidesShrink old.players old.decided r comm players later
+    × (new ≡ with_decided (with_players old players) later)
 Happens old (Leave r) new = (players : List Player) × GivesUp old.players r players × (new ≡ with_players old players)
 
 -- what is told of an event that happened, by the world after it
@@ -167,7 +170,7 @@ IsRefused w (Take r) InboxEmpty = IsLive w r × (inbox_at w r ≡ [])
 IsRefused w (Take r) OutOfMemory = IsLive w r × (inbox_at w r ≢ [])
 IsRefused w (Decide r comm) NoSuchRank = length w.players ≤ r
 IsRefused w (Decide r comm) Stopped = IsInside w r × HasStopped w r
-IsRefused w (Decide r comm) NotReady = IsLive w r × (IsReady (player_at w r) comm → ⊥)
+IsRefused w (Decide r comm) NotReady = IsLive w r × (IsReadyToDecide (player_at w r) comm → ⊥)
 IsRefused w (Leave r) NoSuchRank = length w.players ≤ r
 IsRefused w (Leave r) Stopped = IsInside w r × HasStopped w r
 IsRefused w (Leave r) NotReady = IsLive w r × ((player_at w r).current ≡ None)

@@ -24,7 +24,7 @@ impl Model for Inbox {
 }
 
 impl Inbox {
-    ghost use Rattle.ulfm_world.specs.Fields.{IsUnfit};
+    ghost use Rattle.ulfm_world.specs.Parts.{IsUnfit};
 
     /// The empty inbox.
     pub fn new(alloc: Global) -> Self

@@ -1,13 +1,16 @@
 //! Laws over every schedule, without threads: what holds of each world that a list of events leads to.
-ghost use Rattle.std.specs.Prelude.{ℕ, ◌≤◌};
+ghost use Rattle.std.specs.Prelude.{ℕ, ◌≤◌, List};
+ghost use Rattle.ulfm_laws.specs.Causes.{GoneHaveStopped, RevokedByARank};
 ghost use Rattle.ulfm_laws.specs.Flow.{Flows};
 ghost use Rattle.ulfm_laws.specs.Reader.{AllHasCome, ComeAsSent, DoneIsGiven, DonesDiffer, GivesOnce, HasOnePairing, IsFaithful, LettersKeepOrder, NoneIsMissed, OverIsTrue, ReceivesKeepOrder};
 ghost use Rattle.ulfm_laws.specs.Rest.{KnowsStopped, AgreesOnRevoked};
 ghost use Rattle.ulfm_laws.specs.Shrinks.{AdoptOne, HasOneGroup, ProposesEach};
+ghost use Rattle.ulfm_world.specs.declared.event.Event.{Event};
 ghost use Rattle.ulfm_world.specs.Each.{InEachReplay, InEachWorld};
+ghost use Rattle.ulfm_world.specs.Made.{MadeSafely};
 ghost use Rattle.ulfm_world.specs.Rest.{IsAtRest};
 ghost use Rattle.ulfm_world.specs.Safe.{EntersOnce, DecidesSafely, SettlesSafely, AdoptsHeld, StarvesAlone};
-ghost use Rattle.ulfm_world.specs.World.{World, start_world, Reaches, reports_in};
+ghost use Rattle.ulfm_world.specs.World.{World, start_world, Reaches, Run, reports_in};
 
 /// Whatever events come, between each pair of ranks nothing is lost, made or overtaken (MPI 4.0, 3.5).
 pub fn flows()
@@ -23,6 +26,19 @@ pub fn known_at_rest()
 /// half way (ULFM, revocation).
 pub fn agreed_at_rest()
     ensures { (n capacity : ℕ) (w : World) → n ≤ 8 → Reaches (start_world n capacity) w → IsAtRest w → AgreesOnRevoked (reports_in w) }
+{}
+
+/// Whatever events come, who is known to have failed has stopped: a failure is never suspected wrongly (ULFM, failure
+/// notification).
+pub fn gone_has_stopped()
+    ensures worlds { InEachWorld GoneHaveStopped }
+    ensures replays { InEachReplay GoneHaveStopped }
+{}
+
+/// Whatever events come, each context that is revoked at a rank was revoked by some rank's own call (ULFM, revocation).
+pub fn revoked_by_a_rank()
+    ensures worlds { InEachWorld RevokedByARank }
+    ensures replays { InEachReplay RevokedByARank }
 {}
 
 /// Whatever events come, on each communicator the letters that came to a rank from another one are a beginning of those
@@ -92,8 +108,8 @@ pub fn reports_are_faithful()
     ensures replays { InEachReplay IsFaithful }
 {}
 
-/// Whatever events come, a rank enters the shrink of a communicator once, with the failures that it knows then (ULFM,
-/// shrink).
+/// Whatever events come, a rank enters the shrink of a communicator once, with the failures that it knows then: two entries
+/// of one context are one (ULFM, shrink).
 pub fn entered_once()
     ensures { (n capacity : ℕ) (w : World) → n ≤ 8 → Reaches (start_world n capacity) w → EntersOnce w }
 {}
@@ -107,6 +123,12 @@ pub fn decided_safely()
 /// Whatever events come, a decision of a shrink was as safe before it was made: each excluded rank had stopped (ULFM, shrink).
 pub fn settled_safely()
     ensures { (n capacity : ℕ) (w : World) → n ≤ 8 → Reaches (start_world n capacity) w → SettlesSafely w }
+{}
+
+/// Whatever events come, each decision that is held was made by one of them, and each rank that it excludes had stopped before
+/// that event (ULFM, shrink).
+pub fn made_safely()
+    ensures { (n capacity : ℕ) (events : List Event) (w : World) → n ≤ 8 → Run (start_world n capacity) events w → MadeSafely (start_world n capacity) events w }
 {}
 
 /// Whatever events come, a rank that adopted a decision is in its new group, and it is the one that the board holds (ULFM,

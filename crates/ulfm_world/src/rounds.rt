@@ -1,17 +1,18 @@
 //! A job from its first round to rest.
 ghost use Rattle.std.specs.Prelude.{◌≡◌, ◌<◌, ◌≤◌, ℕ, List, length, false, true, [], IfOk, OnOk, Some, slice_get};
 ghost use Rattle.ulfm_base.specs.declared.context.Context.{Context};
-ghost use Rattle.ulfm_script.specs.Deciding.{IsReady};
-ghost use Rattle.ulfm_script.specs.Honest.{IsUndecided};
-ghost use Rattle.ulfm_script.specs.Job.{script_at};
+ghost use Rattle.ulfm_script.specs.Deciding.{IsReadyToDecide};
+ghost use Rattle.ulfm_script.specs.inside.SoFar.{IsUndecided};
+ghost use Rattle.ulfm_job.specs.Job.{script_at};
 ghost use Rattle.ulfm_world.specs.World.{IsRunning, player_at, inbox_at};
 ghost use Rattle.ulfm_laws.specs.Lawful.{IsLawful};
-ghost use Rattle.ulfm_world.specs.Replay.{Moves, Follows, IsPushStuck, IsStuck, IsReplayed, AreSettled};
+ghost use Rattle.ulfm_world.specs.inside.Rounds.{Moves, Follows, IsPushStuck, IsStuck};
+ghost use Rattle.ulfm_world.specs.Replay.{IsReplayed, MadeAtRest};
 
 use crate::event::{Event, Outcome, Refused};
 use crate::world::World;
 use std::alloc::Global;
-use ulfm_script::{Job, RankReport, RunFault, Step};
+use ulfm_script::{Hands, Job, RankReport, RunFault, Step, turn};
 
 /// The job, round by round. One inbox holds `capacity` items for each rank. In a round the ranks come upwards, and each
 /// pushes to each destination upwards, itself too, while its outbox isn't empty and the inbox has room; then, where it
@@ -27,114 +28,125 @@ use ulfm_script::{Job, RankReport, RunFault, Step};
 pub fn replay(alloc: Global, job: &Job) -> Result<Vec<RankReport>, RunFault>
     ensures replayed { IfOk result (λ reports. IsReplayed job.now reports.items) }
     ensures lawful { IfOk result (λ reports. IsLawful job.now reports.items) }
-    ensures settled { IfOk result (λ reports. AreSettled reports.items) }
+    ensures settled { IfOk result (λ reports. MadeAtRest job.now reports.items) }
 {
-    let mut world = match World::new(alloc, job.ranks(), job.capacity()) {
-        Ok(world) => world,
-        Err(_) => return Err(RunFault::OutOfMemory),
+    let Ok(world) = World::new(alloc, job.ranks(), job.capacity()) else {
+        return Err(RunFault::OutOfMemory);
     };
-    while round(job, &mut world)? {}
-    world.into_reports(alloc)
+    let mut rounds = Rounds {
+        job,
+        world,
+        rank: 0,
+    };
+    while round(job, &mut rounds)? {}
+    rounds.world.into_reports(alloc)
+}
+
+/// A world on its way through a job, and the rank whose turn it is.
+#[derive(Drop)]
+struct Rounds<'a> {
+    job: &'a Job,
+    world: World,
+    rank: u8,
+}
+
+impl Hands for Rounds<'_> {
+    ghost use Rattle.std.specs.Prelude.{◌≡◌, ◌<◌, ◌≤◌, ℕ, length, true, false};
+    ghost use Rattle.std.proofs.Common.{refl, sym, subst, ◌∙◌};
+    ghost use Rattle.ulfm_job.specs.Job.{Seen, script_at};
+    ghost use Rattle.ulfm_world.specs.World.{World as SeenWorld, IsRunning, player_at};
+    ghost use Rattle.ulfm_world.specs.inside.Rounds.{Moves, Follows, IsStuckAt, measure};
+    ghost use Rattle.ulfm_world.specs.inside.Turns.{Onward, onward-none, onward-on, onward-not};
+
+    type Fault = RunFault;
+
+    type Polled = bool;
+
+    ghost size = { λ t. length t.world.players };
+
+    ghost fits = { λ t. (t.rank < length t.world.players) × (t.job.now.ranks ≡ length t.world.players) × Follows t.job.now t.world };
+
+    ghost moves = { λ a b moved. (b.rank ≡ a.rank) × (b.job.now ≡ a.job.now) × Onward a.job.now a.world b.world moved };
+
+    ghost waits = { λ t dest. measure t.job.now t.world };
+
+    ghost stuck = { λ t at. IsStuckAt t.world t.rank at };
+
+    ghost polls = { λ a b polled. (b.job.now ≡ a.job.now) × Moves a.job.now a.world b.world polled × (polled ≡ false → IsRunning b.world a.rank → length (script_at a.job.now a.rank) ≤ length (player_at b.world a.rank).done) };
+
+    ghost none = { λ t f. (refl, refl, onward-none t.job.now t.world) };
+
+    ghost more = { λ a b c m h k. (k.0 ∙ h.0, k.1 ∙ h.1, onward-on a.job.now m a.world b.world c.world h.2 (subst (λ (j : Seen). Onward j b.world c.world true) h.1 k.2)) };
+
+    ghost same = { λ a b c m h k. (k.0 ∙ h.0, k.1 ∙ h.1, onward-not a.job.now m a.world b.world c.world h.2 (subst (λ (j : Seen). Onward j b.world c.world false) h.1 k.2)) };
+
+    ghost keeps = { λ a b m f h. (subst (λ n. n < length b.world.players) (sym h.0) (subst (λ n. a.rank < n) (sym h.2.size) f.0), subst (λ (j : Seen). j.ranks ≡ length b.world.players) (sym h.1) (f.1 ∙ sym h.2.size), subst (λ (j : Seen). Follows j b.world) (sym h.1) (h.2.follows f.2)) };
+
+    ghost sized = { λ a b m h. h.2.size };
+
+    ghost still = { λ a b at h k. subst (λ r. IsStuckAt b.world r at) (sym h.0) (subst (λ (w : SeenWorld). IsStuckAt w a.rank at) (sym (h.2.stays refl)) k) };
+
+    fn ranks(&self) -> u8 {
+        self.world.size()
+    }
+
+    fn push_one(&mut self, dest: u8) -> Result<bool, RunFault> {
+        match self.world.apply(Event::Push(self.rank, dest)) {
+            Ok(_) => Ok(true),
+            Err(Refused::OutOfMemory) => Err(RunFault::OutOfMemory),
+            Err(_) => Ok(false),
+        }
+    }
+
+    fn take_one(&mut self) -> Result<bool, RunFault> {
+        match self.world.apply(Event::Take(self.rank)) {
+            Ok(_) => Ok(true),
+            Err(Refused::OutOfMemory) => Err(RunFault::OutOfMemory),
+            Err(_) => Ok(false),
+        }
+    }
+
+    fn poll(&mut self) -> Result<bool, RunFault> {
+        poll(self.job, &mut self.world, self.rank)
+    }
 }
 
 /// A turn of each rank.
 #[tactic(auto, using(crate::proofs::Moves::going))]
-fn round(job: &Job, world: &mut World) -> Result<bool, RunFault>
-    requires scripts { job.now.ranks ≡ length world.old.players }
-    requires follows { Follows job.now world.old }
-    ensures moves { IfOk result (λ moved. Moves job.now world.old world.new moved) }
-    ensures stuck { IfOk result (λ moved. moved ≡ false → (r : ℕ) → r < length world.new.players → IsStuck job.now world.new r) }
+fn round(job: &Job, rounds: &mut Rounds<'_>) -> Result<bool, RunFault>
+    requires same_job { rounds.old.job.now ≡ job.now }
+    requires scripts { job.now.ranks ≡ length rounds.old.world.players }
+    requires follows { Follows job.now rounds.old.world }
+    ensures same_job { OnOk result (rounds.new.job.now ≡ job.now) }
+    ensures moves { IfOk result (λ moved. Moves job.now rounds.old.world rounds.new.world moved) }
+    ensures stuck { IfOk result (λ moved. moved ≡ false → (r : ℕ) → r < length rounds.new.world.players → IsStuck job.now rounds.new.world r) }
 {
     let mut moved = false;
-    for r in 0..world.size() {
-        if turn(job, world, r)? {
+    for r in 0..rounds.world.size() {
+        if turn_of(job, rounds, r)? {
             moved = true;
         }
     }
     Ok(moved)
 }
 
-/// The turn of one rank.
-#[tactic(auto, using(crate::proofs::Moves::going))]
-fn turn(job: &Job, world: &mut World, r: u8) -> Result<bool, RunFault>
-    requires inside { r < length world.old.players }
-    requires scripts { job.now.ranks ≡ length world.old.players }
-    requires follows { Follows job.now world.old }
-    ensures moves { IfOk result (λ moved. Moves job.now world.old world.new moved) }
-    ensures stuck { IfOk result (λ moved. moved ≡ false → IsStuck job.now world.new r) }
+/// The turn of one rank. Whether anything moved, or a step was polled.
+fn turn_of(job: &Job, rounds: &mut Rounds<'_>, r: u8) -> Result<bool, RunFault>
+    requires same_job { rounds.old.job.now ≡ job.now }
+    requires inside { r < length rounds.old.world.players }
+    requires scripts { job.now.ranks ≡ length rounds.old.world.players }
+    requires follows { Follows job.now rounds.old.world }
+    ensures same_job { OnOk result (rounds.new.job.now ≡ job.now) }
+    ensures moves { IfOk result (λ moved. Moves job.now rounds.old.world rounds.new.world moved) }
+    ensures stuck { IfOk result (λ moved. moved ≡ false → IsStuck job.now rounds.new.world r) }
 {
-    let pushed = push_all(job, world, r)?;
-    let took = take_one(job, world, r)?;
-    let polled = poll(job, world, r)?;
+    let _ = job;
+    rounds.rank = r;
+    let (moved, polled) = turn(rounds)?;
     if polled {
         return Ok(true);
     }
-    if took {
-        return Ok(true);
-    }
-    Ok(pushed)
-}
-
-/// Pushes to each rank, while there is something to push and room for it.
-#[tactic(auto, using(crate::proofs::Moves::going))]
-fn push_all(job: &Job, world: &mut World, s: u8) -> Result<bool, RunFault>
-    requires inside { s < length world.old.players }
-    requires follows { Follows job.now world.old }
-    ensures moves { IfOk result (λ moved. Moves job.now world.old world.new moved) }
-    ensures stuck { IfOk result (λ moved. moved ≡ false → (d : ℕ) → d < length world.new.players → IsPushStuck world.new s d) }
-{
-    let mut moved = false;
-    for d in 0..world.size() {
-        if push_to(job, world, s, d)? {
-            moved = true;
-        }
-    }
     Ok(moved)
-}
-
-/// Pushes to one rank, while there is something to push and room for it.
-#[tactic(auto, using(crate::proofs::Moves::going))]
-fn push_to(job: &Job, world: &mut World, s: u8, d: u8) -> Result<bool, RunFault>
-    requires inside_s { s < length world.old.players }
-    requires inside_d { d < length world.old.players }
-    requires follows { Follows job.now world.old }
-    ensures moves { IfOk result (λ moved. Moves job.now world.old world.new moved) }
-    ensures stuck { IfOk result (λ moved. IsPushStuck world.new s d) }
-{
-    let mut moved = false;
-    while push_one(job, world, s, d)? {
-        moved = true;
-    }
-    Ok(moved)
-}
-
-/// One push, if it can be made.
-fn push_one(job: &Job, world: &mut World, s: u8, d: u8) -> Result<bool, RunFault>
-    requires inside_s { s < length world.old.players }
-    requires inside_d { d < length world.old.players }
-    ensures moves { IfOk result (λ moved. Moves job.now world.old world.new moved) }
-    ensures stuck { IfOk result (λ moved. moved ≡ false → IsPushStuck world.new s d) }
-{
-    let _ = job;
-    match world.apply(Event::Push(s, d)) {
-        Ok(_) => Ok(true),
-        Err(Refused::OutOfMemory) => Err(RunFault::OutOfMemory),
-        Err(_) => Ok(false),
-    }
-}
-
-/// One take, if it can be made.
-fn take_one(job: &Job, world: &mut World, r: u8) -> Result<bool, RunFault>
-    requires { r < length world.old.players }
-    ensures moves { IfOk result (λ moved. Moves job.now world.old world.new moved) }
-    ensures stuck { IfOk result (λ moved. moved ≡ false → IsRunning world.new r → inbox_at world.new r ≡ []) }
-{
-    let _ = job;
-    match world.apply(Event::Take(r)) {
-        Ok(_) => Ok(true),
-        Err(Refused::OutOfMemory) => Err(RunFault::OutOfMemory),
-        Err(_) => Ok(false),
-    }
 }
 
 /// One poll of the step that comes next, if there is one: an open shrink that has a proposal is decided.
@@ -164,7 +176,7 @@ fn decide(job: &Job, world: &mut World, r: u8, step: &Step) -> bool
     requires running { IsRunning world.old r }
     requires follows { Follows job.now world.old }
     ensures moves { Moves job.now world.old world.new result }
-    ensures undecided { result ≡ false → (comm : Context) → step.now ≡ Step.Shrink comm → ¬ IsReady (player_at world.old r) comm }
+    ensures undecided { result ≡ false → (comm : Context) → step.now ≡ Step.Shrink comm → ¬ IsReadyToDecide (player_at world.old r) comm }
 {
     let _ = job;
     let Step::Shrink { comm } = step else {

@@ -3,6 +3,7 @@
 use super::{Kept, is_reply, reply};
 use crate::front::run_on;
 use std::alloc::AllocError;
+use std::io;
 use std::sync::Wait;
 use std::test::Fail;
 use std::thread::Threads;
@@ -163,7 +164,14 @@ fn status_of<R: AllocGlobal + Threads + Wait + Sync>(rt: &R, job: &[u8]) -> u8 {
         bytes: [0; 4096],
         len: 0,
     };
-    let status = run_on(rt, rt.alloc(), &["ulfm", "check"], &mut input, &mut output);
+    let status = run_on(
+        rt,
+        rt.alloc(),
+        &["ulfm", "check"],
+        &mut input,
+        &mut output,
+        &mut io::sink(),
+    );
     let Kept { bytes: _, len: _ } = output;
     status
 }

@@ -55,7 +55,14 @@ fn an_input_that_fails_writes_nothing(rt: HostRuntime) {
         let mut output = Vec::new(rt.alloc());
         let mut input = FailsSecond { reads: 0 };
         assert_eq!(rt;
-            run_on(&rt, rt.alloc(), &["ulfm", command], &mut input, &mut output),
+            run_on(
+                &rt,
+                rt.alloc(),
+                &["ulfm", command],
+                &mut input,
+                &mut output,
+                &mut io::sink()
+            ),
             5
         );
         assert!(rt; output.is_empty());
@@ -76,7 +83,8 @@ fn an_output_that_fails_gets_a_beginning(rt: HostRuntime) {
             rt.alloc(),
             &["ulfm", "replay"],
             &mut input,
-            &mut output
+            &mut output,
+            &mut io::sink()
         ),
         4
     );
@@ -132,7 +140,14 @@ fn an_output_that_takes_little_at_a_time_gets_all(rt: HostRuntime) {
             taken: Vec::new(rt.alloc()),
         };
         assert_eq!(rt;
-            run_on(&rt, rt.alloc(), &["ulfm", command], &mut input, &mut output),
+            run_on(
+                &rt,
+                rt.alloc(),
+                &["ulfm", command],
+                &mut input,
+                &mut output,
+                &mut io::sink()
+            ),
             status,
             "{command}"
         );
@@ -164,7 +179,14 @@ fn an_input_that_gives_little_at_a_time_is_read_whole(rt: HostRuntime) {
             };
             let mut output = Vec::new(rt.alloc());
             assert_eq!(rt;
-                run_on(&rt, rt.alloc(), &["ulfm", command], &mut input, &mut output),
+                run_on(
+                    &rt,
+                    rt.alloc(),
+                    &["ulfm", command],
+                    &mut input,
+                    &mut output,
+                    &mut io::sink()
+                ),
                 status,
                 "{command} {most}"
             );

@@ -1,9 +1,9 @@
 //! What goes out to the other ranks.
 ghost use Rattle.std.specs.Prelude.{◌≡◌, ◌<◌, ◌↔◌, [], IsTrue, IfNone, IfSome};
-ghost use Rattle.ulfm_rank.specs.State.{outbox, returned, Leaves, MayReturn};
+ghost use Rattle.ulfm_rank.specs.State.{outbox, returned, GoesOut, MayReturn};
 
 use super::Rank;
-use crate::leaving::take_next;
+use crate::owed::take_next;
 use ulfm_base::Item;
 
 impl Rank {
@@ -15,13 +15,13 @@ impl Rank {
         if !self.stopped {
             return self.outboxes.is_drained(dest);
         }
-        dest == self.me.number || self.outboxes.is_told(dest)
+        dest == self.me.number || self.outboxes.is_notice_out(dest)
     }
 
     /// The first item of the outbox towards a rank goes out, if there is one. It takes no memory.
     pub fn take_out(&mut self, dest: u8) -> Option<Item>
         requires { dest < self.old.state.ranks }
-        ensures leaves { IfSome result (λ item. Leaves self.old.state self.new.state dest item) }
+        ensures leaves { IfSome result (λ item. GoesOut self.old.state self.new.state dest item) }
         ensures none { IfNone result (outbox self.old.state dest ≡ []) }
         ensures unchanged { IfNone result (self.new ≡ self.old) }
         ensures prepared { self.new.prepared ≡ self.old.prepared }
@@ -29,10 +29,10 @@ impl Rank {
         if !self.stopped {
             return take_next(&mut self.outboxes, &self.log, dest);
         }
-        if dest == self.me.number || self.outboxes.is_told(dest) {
+        if dest == self.me.number || self.outboxes.is_notice_out(dest) {
             return None;
         }
-        self.outboxes.set_told(dest, true);
+        self.outboxes.set_notice_out(dest, true);
         Some(Item::Gone)
     }
 
@@ -47,7 +47,7 @@ impl Rank {
     {
         let _ = item;
         if self.stopped {
-            self.outboxes.set_told(dest, false);
+            self.outboxes.set_notice_out(dest, false);
             return;
         }
         self.outboxes.put_back(dest);

@@ -1,7 +1,7 @@
 //! Receives and their tests (MPI 4.0, 3.7).
 ghost use Rattle.std.specs.Prelude.{◌≡◌, ℕ, length, true, false, IfOk, IfErr, IsTrue, OnOk, OnErr};
 ghost use Rattle.ulfm_base.specs.declared.pattern.Pattern.{Pattern};
-ghost use Rattle.ulfm_match.specs.History.{number};
+ghost use Rattle.ulfm_match.specs.History.{count_before};
 ghost use Rattle.ulfm_match.specs.Pairing.{Pairing, LawfulPairing};
 ghost use Rattle.ulfm_rank.specs.Answer.{IsRequest, IsTestAnswer, is_release};
 ghost use Rattle.ulfm_rank.specs.Calls.{IsReceive, Posts};
@@ -9,13 +9,13 @@ ghost use Rattle.ulfm_rank.specs.Checks.{Passes, Fails, FailsOrStarves, IsTestRe
 ghost use Rattle.ulfm_rank.specs.Facts.{is_stopped};
 ghost use Rattle.ulfm_rank.specs.History.{history_of};
 ghost use Rattle.ulfm_rank.specs.State.{logged};
-ghost use Rattle.ulfm_rank.specs.Table.{IsOfGroup};
+ghost use Rattle.ulfm_rank.specs.inside.Table.{IsOfGroup};
 
 use super::Rank;
 use crate::answer::{answer_in, is_release};
 use crate::entry::{Comm, Entry, TestAnswer};
-use crate::knowing::names_known;
-use crate::outcome::Request;
+use crate::failures::names_known;
+use crate::request::Request;
 use crate::requests::admit;
 use crate::sources::source_of;
 use ulfm_base::{CallError, Pattern, Tag};
@@ -65,7 +65,7 @@ impl Rank {
     ) -> Result<RequestId, CallError>
         ensures accepted { OnOk result (Passes (receive_checks self.old.state comm.context.number source)) }
         ensures posts { OnOk result (Posts self.old.state comm source tag room self.new.state) }
-        ensures number { IfOk result (λ id. id.number ≡ number (history_of self.old.state.log) (length (history_of self.old.state.log))) }
+        ensures number { IfOk result (λ id. id.number ≡ count_before (history_of self.old.state.log) (length (history_of self.old.state.log))) }
         ensures request { IfOk result (λ id. (i : ℕ) × (pattern : Pattern) × IsRequest self.new.state.log id.number i pattern) }
         ensures refused { IfErr result (FailsOrStarves (receive_checks self.old.state comm.context.number source)) }
         ensures unchanged { OnErr result (self.new.state ≡ self.old.state) }
@@ -77,11 +77,8 @@ impl Rank {
         self.requests.reserve(1)?;
         self.matcher.prepare()?;
         let gone = names_known(&self.faults, pattern.source);
-        let (id, outcome) = admit(&mut self.matcher, gone, pattern);
-        match self
-            .requests
-            .insert(id.number, Request { pattern, outcome })
-        {
+        let (id, fate) = admit(&mut self.matcher, gone, pattern);
+        match self.requests.insert(id.number, Request { pattern, fate }) {
             Ok(_) => {}
             Err(_) => unreachable!(),
         }

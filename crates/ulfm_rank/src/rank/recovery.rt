@@ -30,7 +30,7 @@ impl Rank {
     /// `Stopped` where the rank has stopped, else `NoComm` where the communicator wasn't made.
     pub fn get_failed(&self, comm: Comm) -> Result<Group, CallError>
         ensures accepted { OnOk result (Passes (comm_checks self.now.state comm.context.number [])) }
-        ensures failed { IfOk result (λ group. group ≡ known_in (group_at self.now.state comm.context.number) self.now.state.log) }
+        ensures failed { IfOk result (λ group. group ≡ known_in self.now.state.log (group_at self.now.state comm.context.number)) }
         ensures refused { IfErr result (Fails (comm_checks self.now.state comm.context.number [])) }
     {
         let group = self.running_group(comm)?;
@@ -46,7 +46,7 @@ impl Rank {
     /// a growth was refused. Then nothing changed.
     pub fn ack_failed(&mut self, comm: Comm, n: u8) -> Result<u8, CallError>
         ensures accepted { OnOk result (Passes (comm_checks self.old.state comm.context.number [])) }
-        ensures total { IfOk result (λ total. total ≡ ack_answer (group_at self.old.state comm.context.number) self.old.state.log comm.context.number n) }
+        ensures total { IfOk result (λ total. total ≡ ack_answer self.old.state.log (group_at self.old.state comm.context.number) comm.context.number n) }
         ensures state { IfOk result (λ total. self.new.state ≡ acknowledging self.old.state comm.context total) }
         ensures refused { IfErr result (FailsOrStarves (comm_checks self.old.state comm.context.number [])) }
         ensures unchanged { OnErr result (self.new.state ≡ self.old.state) }

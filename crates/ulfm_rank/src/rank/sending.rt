@@ -52,7 +52,7 @@ impl Rank {
         let body = Body::from_bytes(body)?;
         self.log.reserve(self.requests.len() + 2)?;
         self.outboxes.reserve()?;
-        self.outboxes.leave(to, self.log.len());
+        self.outboxes.put(to, self.log.len());
         self.log
             .push_reserved(Entry::Sent(to, Letter { envelope, body }));
         Ok(())

@@ -6,8 +6,8 @@ ghost use Rattle.ulfm_rank.specs.State.{logged};
 
 use super::{Rank, stop_places};
 use crate::entry::Entry;
+use crate::failures::{is_late, learn};
 use crate::forwarding::pass_on;
-use crate::knowing::{is_late, learn};
 use crate::requests::settle;
 use ulfm_base::{Item, OutOfMemory, WorldRank};
 

@@ -5,9 +5,9 @@ ghost use Rattle.ulfm_script.specs.Deciding.{Decides};
 use super::Player;
 use crate::answer::Decided;
 use crate::shrinking::decide;
-use crate::step::Step;
 use ulfm_base::Context;
 use ulfm_board::Decider;
+use ulfm_job::Step;
 
 impl Player {
     /// Asks for the decision of the open shrink of a communicator: hands the rank's proposal in at the board, and adopts

@@ -1,7 +1,7 @@
 use Rattle.std.proofs.Common.{[], ◌∷◌, ◌++◌, ◌≡◌, ◌<◌, ap, ◌∙◌, arith, length, get_or, rules}
 use Rattle.std.specs.Arc.{arc_value}
 use Rattle.once_cell.specs.Once.{cell_name}
-use Rattle.ulfm_board.specs.Names.{note_names, known_of}
+use Rattle.ulfm_board.specs.inside.Names.{note_names, notes_known}
 use Rattle.ulfm_board.proofs.Notes.{unknown_push, names_push}
 use Rattle.ulfm_board.proofs.seat.new_seat.Goals as goal
 
@@ -14,5 +14,5 @@ loop-place-preserved c =
       search rules,
       ap note_names items ∙ names_push c.loop-place.notes.items cells c.note.result c.index.result.now c.loop-place.place c.loop-place.invariant.1 low there
           (c.note.ensures.0 ∙ ap (λ x. cell_name x) c.deref-cell.ensures),
-      ap known_of items ∙ unknown_push c.loop-place.notes.items c.note.result c.loop-place.place c.loop-place.invariant.2 c.note.ensures.1,
+      ap notes_known items ∙ unknown_push c.loop-place.notes.items c.note.result c.loop-place.place c.loop-place.invariant.2 c.note.ensures.1,
     )

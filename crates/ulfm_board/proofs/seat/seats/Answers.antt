@@ -1,5 +1,5 @@
 use Rattle.std.specs.Arc.{arc_value}
-use Rattle.ulfm_board.specs.Names.{cell_names}
+use Rattle.ulfm_board.specs.inside.Names.{cell_names}
 use Rattle.ulfm_board.proofs.seat.seats.Goals as goal
 
 pub returns-clause-one_board : goal.returns-clause-one_board

@@ -17,7 +17,7 @@ use Rattle.ulfm_carrier.proofs.emptying.gather_one.Goals as goal
 pub loop-from-init : goal.loop-from-init
 loop-from-init g c = record {
   many = refl;
-  heard = none_heard c.args.ends.now.items c.args.place (λ e here. ((c.requires.still_open c.args.place e here).receiver (omega arith)).told);
+  heard = none_heard c.args.ends.now.items c.args.place (λ e here. ((c.requires.still_open c.args.place e here).receiver (omega arith)).receipts);
 }
 
 pub close_to-receipt-requires-clause-passes : goal.close_to-receipt-requires-clause-passes
@@ -122,7 +122,7 @@ loop-from-preserved g c =
     let is_from = done.receipt.1 ∙ ap (λ n. n.number) old_s.2.frame.me ∙ number all c.requires.family from old_s.0 old_s.1 in
     let tells = done.receipt.2 ∙ receipt_pushed all c.requires.family c.args.place c.requires.still_open place from from from old_s.0 s old_s.1 old_s.2 in record {
       many = length-set (set now from s') c.args.place r' ∙ length-set now from s' ∙ c.loop-from.invariant.many;
-      heard = hears_more all (set now from s') c.args.place from r r' (view c.close_to-receipt.result) within c.index_mut-receiver.ensures.value c.hear.ensures.rest c.hear.ensures.inlet c.hear.ensures.told is_from tells closed;
+      heard = hears_more all (set now from s') c.args.place from r r' (view c.close_to-receipt.result) within c.index_mut-receiver.ensures.value c.hear.ensures.rest c.hear.ensures.inlet c.hear.ensures.receipts is_from tells closed;
     }
 
 pub empty-requires-clause-passes : goal.empty-requires-clause-passes
@@ -145,8 +145,8 @@ empty-requires-clause-receiver g c =
     let old = c.loop-from.invariant.heard c.args.place r (at_read now c.args.place r low c.index_mut-receiver-2.ensures.value) in
     may_hear all c.requires.family c.args.place c.requires.still_open place _ _ old.0 r old.1 old.2
 
-pub empty-requires-clause-told : goal.empty-requires-clause-told
-empty-requires-clause-told g c =
+pub empty-requires-clause-receipts : goal.empty-requires-clause-receipts
+empty-requires-clause-receipts g c =
     let all = c.args.ends.now.items in
     let now = c.loop-from.ends.items in
     let place : c.args.place < length all = omega (arith, c.requires.place, c.args.ends.now.ok) in
@@ -155,7 +155,7 @@ empty-requires-clause-told g c =
     let old = c.loop-from.invariant.heard c.args.place r (at_read now c.args.place r low c.index_mut-receiver-2.ensures.value) in
     let last : length all ≡ c.loop-from.from = omega (arith, c.loop-from-test.false, c.loop-from.auto, c.len-from-end.ensures, c.args.ends.now.ok) in
     let made = ((c.requires.still_open c.args.place old.0 old.1).receiver (omega arith)).receiver.made in
-    told_of_all all c.args.place c.loop-from.from (view old.0.inlet) (view r.inlet) (old.2.told refl) (made ∙ all_outs all c.requires.family c.args.place old.0 old.1 ∙ last)
+    told_of_all all c.args.place c.loop-from.from (view old.0.inlet) (view r.inlet) (old.2.receipts refl) (made ∙ all_outs all c.requires.family c.args.place old.0 old.1 ∙ last)
 
 pub returns-clause-same : goal.returns-clause-same
 returns-clause-same g c =
@@ -190,9 +190,9 @@ returns-clause-left g c = λ s sender receiver at_s at_place.
     let old = c.loop-from.invariant.heard place r (at_read now place r low c.index_mut-receiver-2.ensures.value) in
     let inside : s < n = omega (arith, slice_get_within all s sender at_s, c.loop-from-test.false, c.len-from-end.ensures, c.args.ends.now.ok) in
     let A : List (ℕ × List Item) → Type 0 = λ l. at l s (telling all place s) in
-    let told = subst A (sym (ap (λ (v : View). v.told) (old.2.told refl))) (told_at all place n s inside) in
+    let receipts = subst A (sym (ap (λ (v : View). v.receipts) (old.2.receipts refl))) (told_at all place n s inside) in
     let is = one_at all place receiver old.0 at_place old.1 in
-    sym (view_or (λ x. shared_pushed x place) all s sender _ at_s) ∙ c.empty.ensures.left s (telling all place s) told
+    sym (view_or (λ x. shared_pushed x place) all s sender _ at_s) ∙ c.empty.ensures.left s (telling all place s) receipts
     ∙ ap (λ l. l ++ items_from s c.empty.result.items) (taken_told all place n n old.0 r old.2 s ∙ ap (λ x. shared_taken x s) is)
 
 pub returns-clause-no_others : goal.returns-clause-no_others

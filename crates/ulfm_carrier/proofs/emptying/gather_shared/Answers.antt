@@ -8,7 +8,8 @@ use Rattle.ulfm_carrier.specs.declared.shared_ends.SharedName.{SharedName}
 use Rattle.ulfm_carrier.specs.declared.shared_ends.SharedEnds.{SharedEnds}
 use Rattle.ulfm_base.specs.Items.{items_from}
 use Rattle.ulfm_base.specs.Lists.{at}
-use Rattle.ulfm_carrier.specs.Shared.{shared_name, shared_pushed, shared_taken, IsOpenFrom, OneCall}
+use Rattle.ulfm_carrier.specs.Shared.{shared_name, shared_pushed, shared_taken, OneCall}
+use Rattle.ulfm_carrier.specs.inside.Emptying.{IsOpenFrom}
 use Rattle.ulfm_carrier.proofs.Places.{at_read, each_set}
 use Rattle.ulfm_carrier.proofs.Views.{as_many}
 use Rattle.ulfm_carrier.proofs.Gathered.{each_push, none_at}

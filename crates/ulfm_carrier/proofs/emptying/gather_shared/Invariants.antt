@@ -6,7 +6,8 @@ use Rattle.ulfm_base.specs.declared.item.Item.{Item}
 use Rattle.ulfm_carrier.specs.Family.{Keeps}
 use Rattle.ulfm_base.specs.Items.{items_from}
 use Rattle.ulfm_base.specs.Lists.{at}
-use Rattle.ulfm_carrier.specs.Shared.{shared_name, shared_pushed, shared_taken, AreOpenFrom}
+use Rattle.ulfm_carrier.specs.Shared.{shared_name, shared_pushed, shared_taken}
+use Rattle.ulfm_carrier.specs.inside.Emptying.{AreOpenFrom}
 use Rattle.ulfm_carrier.proofs.Settling.{Flows}
 use Rattle.ulfm_carrier.proofs.emptying.gather_shared.Given as goal
 

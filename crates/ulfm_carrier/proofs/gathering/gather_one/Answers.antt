@@ -2,7 +2,7 @@ use Rattle.std.proofs.Common.{◌≡◌, ◌<◌, ◌++◌, Some, [], length, ma
 use Rattle.std.proofs.Math.Seq.{map-set_same}
 use Rattle.std.specs.Vec.{with_item}
 use Rattle.ulfm_carrier.specs.declared.lane_ends.LaneEnds.{LaneEnds}
-use Rattle.ulfm_carrier.specs.Lanes.{inlet_name, inlet_capacity, taken_by, lane_pushed, lane_taken, IsOpen}
+use Rattle.ulfm_carrier.specs.Lanes.{inlet_name, inlet_capacity, taken_by, lane_pushed, lane_taken, IsOpenRing}
 use Rattle.ulfm_base.specs.Items.{items_from}
 use Rattle.std.proofs.lemmas.Option.{slice_get_within}
 use Rattle.ulfm_carrier.proofs.Places.{at_read, view_or, each_past}
@@ -100,7 +100,7 @@ loop-from-preserved c =
       names = inlet_names ins c.loop-from.from i j c.index_mut-inlet.ensures.value c.drain.ensures.name.0 ∙ c.loop-from.invariant.names;
       taken = map-set_same taken_by ins c.loop-from.from j i (c.drain.ensures.same.1 ∙ ap taken_by c.index_mut-inlet.ensures.value) ∙ c.loop-from.invariant.taken;
       capacities = map-set_same inlet_capacity ins c.loop-from.from j i (c.drain.ensures.name.1 ∙ ap inlet_capacity c.index_mut-inlet.ensures.value) ∙ c.loop-from.invariant.capacities;
-      live = each_past IsOpen ins c.loop-from.from j c.loop-from.invariant.live;
+      live = each_past IsOpenRing ins c.loop-from.from j c.loop-from.invariant.live;
       room = omega (arith, room, c.loop-from.invariant.room, c.drain.ensures.room.0, c.drain.ensures.room.1);
       left = left_below i.source c.loop-from.from number c.loop-from.left.items c.drain.new.left.items rest.0 rest.2 c.loop-from.invariant.rest (λ s. pushed_at all s c.args.place) (λ s. get_or (map taken_by c.replace-ins.result.items) s [])
           (pushed all c.args.place receiver c.loop-from.ends.items w c.loop-from.from sender c.index_mut.result.now i.source here out number ∙ rest.1 ∙ ap (λ l. l ++ rest.0) (sym had ∙ before)) c.loop-from.invariant.left;

@@ -2,7 +2,7 @@ use Rattle.std.proofs.Common.{◌≡◌, ◌<◌, ◌≤◌, ◌+◌, ◌++◌, 
 use Rattle.ulfm_carrier.specs.declared.inlet.Inlet.{Inlet}
 use Rattle.ulfm_base.specs.Items.{items_from}
 use Rattle.ulfm_base.specs.Lists.{at}
-use Rattle.ulfm_carrier.specs.Lanes.{inlet_name, inlet_capacity, taken_by, IsOpen}
+use Rattle.ulfm_carrier.specs.Lanes.{inlet_name, inlet_capacity, taken_by, IsOpenRing}
 use Rattle.ulfm_carrier.proofs.Views.{view, pushed_at}
 use Rattle.ulfm_carrier.proofs.gathering.gather_one.Given as goal
 
@@ -12,7 +12,7 @@ invariant-loop-from l = record {
   names : map inlet_name l.ins.items ≡ map inlet_name l.initial.ins.items;
   taken : map taken_by l.ins.items ≡ map taken_by l.initial.ins.items;
   capacities : map inlet_capacity l.ins.items ≡ map inlet_capacity l.initial.ins.items;
-  live : (k : ℕ) (i : Inlet) → l.from ≤ k → at l.ins.items k i → IsOpen k i;
+  live : (k : ℕ) (i : Inlet) → l.from ≤ k → at l.ins.items k i → IsOpenRing k i;
   room : vec_len l.left + sum (drop l.from (map inlet_capacity l.initial.ins.items)) ≤ vec_capacity l.left;
   left : (s : ℕ) → s < l.from → pushed_at l.fn.ends.items s l.place ≡ get_or (map taken_by l.initial.ins.items) s [] ++ items_from s l.left.items;
   rest : (s : ℕ) → l.from ≤ s → items_from s l.left.items ≡ [];

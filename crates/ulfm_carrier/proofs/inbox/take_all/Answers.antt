@@ -1,14 +1,15 @@
 use Rattle.std.proofs.Common.{◌≡◌, ◌<◌, [], ◌∷◌, ◌++◌, length, refl, ap, sym, ◌∙◌, arith, subst}
 use Rattle.crossbeam_queue.specs.Passes.{view}
 use Rattle.ulfm_carrier.specs.declared.inbox.View.{View}
-use Rattle.ulfm_carrier.specs.Inbox.{Signed, IsToldOfAll, AllBelow, ToldIsTakenAndHeld}
-use Rattle.ulfm_carrier.proofs.Rule.{learns}
+use Rattle.ulfm_carrier.specs.Inbox.{Signed, ReceiptsAreTakenAndHeld}
+use Rattle.ulfm_carrier.specs.inside.Emptying.{HasAllReceipts, AllBelow}
+use Rattle.ulfm_carrier.proofs.Rule.{hears_of}
 use Rattle.ulfm_carrier.proofs.Emptied.{took_more, emptied}
 use Rattle.ulfm_carrier.proofs.Gathered.{each_push}
 use Rattle.ulfm_carrier.proofs.inbox.take_all.Goals as goal
 
 pub len_as-count-requires-clause-rule : goal.len_as-count-requires-clause-rule
-len_as-count-requires-clause-rule g c = learns _ _ c.requires.inlet.1
+len_as-count-requires-clause-rule g c = hears_of _ _ c.requires.inlet.1
 
 pub loop-preserved : goal.loop-preserved
 loop-preserved g c =
@@ -36,7 +37,7 @@ returns-clause-all g c =
     let v = view c.len_as-count.new.pass in
     let same : v ≡ old = c.len_as-count.ensures.queue.1 in
     let rule = c.len_as-count.ensures.rule.1 in
-    let told : IsToldOfAll v = subst IsToldOfAll (sym same) c.requires.told in
-    let before : ToldIsTakenAndHeld v rule.0 = subst (λ (u : View). ToldIsTakenAndHeld u rule.0) (sym same) rule.2.told in
+    let receipts : HasAllReceipts v = subst HasAllReceipts (sym same) c.requires.receipts in
+    let before : ReceiptsAreTakenAndHeld v rule.0 = subst (λ (u : View). ReceiptsAreTakenAndHeld u rule.0) (sym same) rule.2 in
     let many : length rule.0 ≡ length c.loop.left.items = omega (arith, rule.1, kept.many, c.loop.left.ok, c.loop-test.false, c.loop.auto) in
-    emptied v (view c.loop.inlet) c.loop.left.items rule.0 kept.held.0 kept.taken told kept.senders many before kept.held.1
+    emptied v (view c.loop.inlet) c.loop.left.items rule.0 kept.held.0 kept.taken receipts kept.senders many before kept.held.1

@@ -1,6 +1,8 @@
 use Rattle.std.proofs.Common.{◌≡◌, List, vec_len, vec_capacity}
 use Rattle.crossbeam_queue.specs.Passes.{view, IsSamePass}
-use Rattle.ulfm_carrier.specs.Inbox.{Signed, after_all, ToldIsTakenAndHeld, AllBelow}
+use Rattle.ulfm_carrier.specs.Inbox.{Signed, ReceiptsAreTakenAndHeld}
+use Rattle.ulfm_carrier.specs.inside.Passes.{after_all}
+use Rattle.ulfm_carrier.specs.inside.Emptying.{AllBelow}
 use Rattle.ulfm_carrier.proofs.inbox.take_all.Given as goal
 
 abbrev pub invariant-loop : goal.invariant-loop
@@ -10,5 +12,5 @@ invariant-loop g l = record {
   many : vec_len l.left ≡ l.counter;
   room : vec_capacity l.left ≡ vec_capacity l.initial.left;
   senders : AllBelow (view l.initial.inlet).made l.left.items;
-  held : (held : List Signed) × ToldIsTakenAndHeld (view l.inlet) held;
+  held : (held : List Signed) × ReceiptsAreTakenAndHeld (view l.inlet) held;
 }

@@ -4,7 +4,7 @@ use Rattle.std.specs.declared.alloc.Global.{Global}
 use Rattle.std.specs.declared.vec.Vec.{Vec}
 use Rattle.ulfm_base.specs.Lists.{at}
 use Rattle.ulfm_carrier.specs.Inbox.{InboxPass}
-use Rattle.ulfm_carrier.specs.Seating.{AreInlets, AreOuts, AreRows}
+use Rattle.ulfm_carrier.specs.inside.Seating.{AreInlets, AreOuts, AreRows}
 use Rattle.ulfm_carrier.proofs.Gathered.{each_push, none_at}
 use Rattle.ulfm_carrier.proofs.Seats.{open_inlets, more_inlets, new_outs}
 use Rattle.ulfm_carrier.proofs.seating.all_outs.Goals as goal

@@ -2,7 +2,7 @@ use Rattle.std.proofs.Common.{◌≡◌, ◌+◌, ◌∷◌, [], ◌++◌, ℕ, 
 use Rattle.std.proofs.lemmas.List.{length_push}
 use Rattle.crossbeam_queue.specs.Passes.{view, IsPassOf, ruled_capacity}
 use Rattle.ulfm_carrier.specs.Inbox.{InboxPass}
-use Rattle.ulfm_carrier.specs.Seating.{Queue, receiver_of, AreInboxes, AreInlets}
+use Rattle.ulfm_carrier.specs.inside.Seating.{Queue, receiver_of, AreInboxes, AreInlets}
 use Rattle.ulfm_carrier.proofs.Gathered.{each_push}
 use Rattle.ulfm_carrier.proofs.Seats.{each_pair}
 use Rattle.ulfm_carrier.proofs.seating.new_inboxes.Goals as goal

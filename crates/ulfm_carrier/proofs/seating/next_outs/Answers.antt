@@ -2,7 +2,7 @@ use Rattle.std.proofs.Common.{◌<◌, ◌+◌, List, length, refl, ap, sym, ◌
 use Rattle.std.proofs.lemmas.List.{length_push, length-set}
 use Rattle.std.proofs.lemmas.Option.{slice_get_within}
 use Rattle.ulfm_carrier.specs.Inbox.{InboxPass}
-use Rattle.ulfm_carrier.specs.Seating.{AreNextOuts}
+use Rattle.ulfm_carrier.specs.inside.Seating.{AreNextOuts}
 use Rattle.ulfm_carrier.proofs.Places.{at_read}
 use Rattle.ulfm_carrier.proofs.Gathered.{none_at}
 use Rattle.ulfm_carrier.proofs.Seats.{made_next, waiting_next, outs_next}

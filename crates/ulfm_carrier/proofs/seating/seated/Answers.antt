@@ -5,7 +5,7 @@ use Rattle.std.proofs.lemmas.List.{length_push, length-set}
 use Rattle.ulfm_carrier.specs.declared.shared_ends.SharedEnds.{SharedEnds}
 use Rattle.ulfm_base.specs.Lists.{at}
 use Rattle.ulfm_carrier.specs.Inbox.{InboxPass}
-use Rattle.ulfm_carrier.specs.Seating.{AreOuts, IsMade}
+use Rattle.ulfm_carrier.specs.inside.Seating.{AreOuts, IsMade}
 use Rattle.ulfm_carrier.proofs.Places.{at_read, at_other}
 use Rattle.ulfm_carrier.proofs.Gathered.{each_push, none_at}
 use Rattle.ulfm_carrier.proofs.Seats.{inlet_next, inlets_next}

@@ -3,7 +3,7 @@ use Rattle.std.specs.Arc.{arc_value}
 use Rattle.std.specs.Vec.Iter.{into_iter_items, into_iter_len}
 use Rattle.ulfm_carrier.specs.declared.shared_ends.SharedEnds.{SharedEnds}
 use Rattle.ulfm_base.specs.Lists.{at}
-use Rattle.ulfm_carrier.specs.Seating.{IsMade}
+use Rattle.ulfm_carrier.specs.inside.Seating.{IsMade}
 use Rattle.ulfm_carrier.proofs.seating.seated.Given as goal
 
 abbrev pub invariant-loop-inlet : goal.invariant-loop-inlet

@@ -5,7 +5,7 @@ use Rattle.std.specs.declared.vec.Vec.{Vec}
 use Rattle.ulfm_carrier.specs.declared.shared_ends.SharedEnds.{SharedEnds}
 use Rattle.ulfm_carrier.specs.Family.{AllFresh}
 use Rattle.ulfm_base.specs.Lists.{at}
-use Rattle.ulfm_carrier.specs.Seating.{Queue, AreInboxes, AreMade}
+use Rattle.ulfm_carrier.specs.inside.Seating.{Queue, AreInboxes, AreMade}
 use Rattle.ulfm_carrier.specs.Shared.{shared_name, shared_pushed, shared_taken, inbox_capacity, IsReady, OneCall}
 use Rattle.ulfm_carrier.proofs.Seated.{if_ok, made_family, made_fresh, made_capacities}
 use Rattle.ulfm_carrier.proofs.seating.shared.Goals as goal

@@ -4,7 +4,7 @@ use Rattle.ulfm_base.specs.declared.rank.WorldRank.{WorldRank}
 use Rattle.ulfm_carrier.specs.declared.lane_ends.LaneEnds.{LaneEnds}
 use Rattle.ulfm_carrier.specs.Carried.{item_of}
 use Rattle.ulfm_carrier.specs.Lanes.{outlet_name, inlet_name, shown, reader_name}
-use Rattle.ulfm_carrier.specs.Wiring.{IsNewInlet}
+use Rattle.ulfm_carrier.specs.inside.Wiring.{IsNewInlet}
 use Rattle.ulfm_carrier.proofs.Wires.{adds}
 use Rattle.ulfm_carrier.proofs.Wired.{wired_more}
 use Rattle.ulfm_carrier.proofs.wiring.join.Goals as goal

@@ -1,5 +1,5 @@
 use Rattle.std.proofs.Common.{◌≡◌, ◌<◌, ◌≤◌, ℕ, arith, subst}
-use Rattle.ulfm_carrier.specs.Wiring.{AreWired}
+use Rattle.ulfm_carrier.specs.inside.Wiring.{AreWired}
 use Rattle.ulfm_carrier.proofs.Whole.{wired_family, wired_fresh, wired_room}
 use Rattle.ulfm_carrier.proofs.wiring.lanes.Goals as goal
 

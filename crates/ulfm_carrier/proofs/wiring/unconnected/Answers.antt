@@ -2,7 +2,7 @@ use Rattle.std.proofs.Common.{◌≡◌, ◌≤◌, ◌+◌, ◌*◌, vec_capaci
 use Rattle.std.proofs.lemmas.List.{length_push}
 use Rattle.ulfm_carrier.specs.declared.lane_ends.LaneEnds.{LaneEnds}
 use Rattle.ulfm_base.specs.Lists.{at}
-use Rattle.ulfm_carrier.specs.Wiring.{IsWired}
+use Rattle.ulfm_carrier.specs.inside.Wiring.{IsWired}
 use Rattle.ulfm_carrier.proofs.Gathered.{each_push, none_at}
 use Rattle.ulfm_carrier.proofs.wiring.unconnected.Goals as goal
 

@@ -1,7 +1,7 @@
 use Rattle.std.proofs.Common.{subst, nat_eq}
 use Rattle.indexmap.specs.IndexMap.{get}
 use Rattle.ulfm_rank.proofs.Common.{Letter, Paired}
-use Rattle.ulfm_rank.specs.Requests.{changed, Changes}
+use Rattle.ulfm_rank.specs.inside.Requests.{changed, Changes}
 use Rattle.ulfm_rank.proofs.Steps.{come_kept, come_paired}
 use Rattle.ulfm_rank.proofs.requests.deliver.Goals as goal
 
@@ -13,9 +13,9 @@ pub returns-in-Paired-clause-tracks : goal.returns-in-Paired-clause-tracks
 returns-in-Paired-clause-tracks c n entries h r o t table =
     let a = c.in-Paired.ensures.tracks h r o t in
     let find = get nat_eq c.args.requests.now in
-    let find' = get nat_eq c.set_outcome.new.requests in (
+    let find' = get nat_eq c.set_fate.new.requests in (
       _,
-      a.4,
-      come_paired n entries h r t.lawful c.args.letter find table a.0 a.1 c.in-Paired.id.number a.2 a.3 find'
-          (subst (λ (l : Letter). Changes (changed c.in-Paired.id.number (Paired l)) find find') c.in-Paired.ensures.letter c.set_outcome.ensures.change),
+      a.tracks,
+      come_paired n entries h r t.lawful c.args.letter find table a.place a.pattern c.in-Paired.id.number a.posted a.numbered find'
+          (subst (λ (l : Letter). Changes (changed c.in-Paired.id.number (Paired l)) find find') c.in-Paired.ensures.letter c.set_fate.ensures.change),
     )

@@ -1,10 +1,8 @@
-use Rattle.std.proofs.Common.{◌≡◌, ℕ, suc, ◌+◌, List, length, ap, sym, ◌∙◌, subst, arith, slice_get, map, nat_eq}
+use Rattle.std.proofs.Common.{◌≡◌, ℕ, suc, ◌+◌, List, length, ap, sym, ◌∙◌, arith, slice_get, map, nat_eq}
 use Rattle.std.specs.Map.{lookup}
-use Rattle.indexmap.specs.IndexMap.{IndexMap, set_value_at}
-use Rattle.std.specs.declared.hash.FoldHasher.{FoldHasher}
-use Rattle.std.specs.declared.hash.BuildHasherDefault.{BuildHasherDefault}
-use Rattle.ulfm_rank.specs.declared.outcome.Request.{Request}
-use Rattle.ulfm_rank.specs.Requests.{over_context}
+use Rattle.indexmap.specs.IndexMap.{set_value_at}
+use Rattle.ulfm_rank.specs.declared.request.Request.{Request}
+use Rattle.ulfm_rank.specs.inside.Requests.{over_context}
 use Rattle.ulfm_rank.proofs.Mapped.{changed_below, changed_more, changed_all, changed_length}
 use Rattle.ulfm_rank.proofs.requests.fail_context.Goals as goal
 use Rattle.ulfm_rank.proofs.requests.fail_context.Goals.{in-Some, in_default}
@@ -14,12 +12,11 @@ loop-i-preserved c =
     let es = c.args.requests.now.entries in
     let i = c.loop-i.i in
     let f = over_context c.args.context.number in
-    let P : IndexMap ℕ Request (BuildHasherDefault FoldHasher) → Type 0 = λ m. m.entries ≡ changed_below f (i + 1) es in
     let inv = c.loop-i.invariant in
     let more : suc i ≡ i + 1 = omega arith in
     elim c.match-get_index_mut.branch [
       | in-Some w ↦
-          subst P (sym w.requests-is)
+          rw w.requests-is
           (ap (λ (xs : List (ℕ × Request)). set_value_at xs i w.over_context.result) inv
           ∙ (ap (λ (v : Request). set_value_at (changed_below f i es) i v) w.over_context.ensures
           ∙ (changed_more f i es w.in-Some.request.now (ap (λ (xs : List (ℕ × Request)). slice_get (map (λ (e : ℕ × Request). e.1) xs) i) (sym inv) ∙ sym w.in-Some.ensures.value)

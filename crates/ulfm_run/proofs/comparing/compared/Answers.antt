@@ -1,5 +1,5 @@
 use Rattle.std.proofs.Common.{map, ap, sym, subst, ◌∙◌, arith}
-use Rattle.ulfm_run.specs.Compared.{NameOneBoard}
+use Rattle.ulfm_run.specs.inside.Threads.{NameOneBoard}
 use Rattle.ulfm_laws.specs.Answers.{AllAgree}
 use Rattle.ulfm_run.proofs.Paired.{lent_whole}
 use Rattle.ulfm_run.proofs.comparing.compared.Goals as goal

@@ -1,7 +1,14 @@
 use Rattle.std.proofs.Common.{ap, sym, ◌∙◌, subst, map, List, slice_get}
-use Rattle.ulfm_carrier.specs.Family.{Keeps, Settled}
-use Rattle.ulfm_run.specs.Compared.{NameOneBoard}
+use Rattle.std.proofs.lemmas.Bool.{false≢true}
+use Rattle.std.specs.declared.alloc.Global.{Global}
+use Rattle.std.specs.declared.vec.Vec.{Vec}
+use Rattle.ulfm_carrier.specs.Family.{Keeps, IsGathered}
+use Rattle.ulfm_run.specs.inside.Threads.{NameOneBoard}
+use Rattle.ulfm_laws.specs.Causes.{RevokedByARank}
 use Rattle.ulfm_laws.specs.Shrinks.{AreTrue}
+use Rattle.ulfm_script.specs.Report.{Report}
+use Rattle.ulfm_script.specs.declared.fault.RunFault.{RunFault}
+use Rattle.ulfm_script.specs.declared.fault.RunFault.TheVariants.{Untrue}
 use Rattle.ulfm_run.proofs.job.report_of.Goals as goal
 
 pub gather-residue-requires-clause-family : goal.gather-residue-requires-clause-family
@@ -17,11 +24,28 @@ returns-clause-same g c =
 
 pub returns-clause-residue : goal.returns-clause-residue
 returns-clause-residue g c =
-    let S : List g.row.E.Denot → Type 0 = λ (es : List g.row.E.Denot). Settled g.E.Ends.pushed g.E.Ends.taken es c.gather-residue.result.0.inboxes.items in
+    let S : List g.row.E.Denot → Type 0 = λ (es : List g.row.E.Denot). IsGathered g.E.Ends.pushed g.E.Ends.taken es c.gather-residue.result.0.inboxes.items in
     subst S c.parted-ranks.ensures.ends c.gather-residue.ensures.residue
 
 pub compared-deciders-requires : goal.compared-deciders-requires
 compared-deciders-requires g c = record { one_board = subst NameOneBoard (ap (map g.D.Decider.board) (sym c.parted-ranks.ensures.deciders)) c.requires.one_board }
 
 pub returns-clause-decisions : goal.returns-clause-decisions
-returns-clause-decisions g c = subst AreTrue c.deref.ensures.value (c.are_true.ensures.0 c.if-not-are_true.false)
+returns-clause-decisions g c = subst AreTrue c.deref.ensures.value (c.are_borne_out.ensures.0 c.if-not-are_borne_out.false).0
+
+pub returns-clause-revoked : goal.returns-clause-revoked
+returns-clause-revoked g c = let R : List Report → Type 0 = λ (rs : List Report). RevokedByARank rs in subst R c.deref.ensures.value (c.are_borne_out.ensures.0 c.if-not-are_borne_out.false).1
+
+-- the reports that a fault carries, where it is `Untrue`
+abbrev carried : RunFault → Vec Report Global → Vec Report Global
+carried (Untrue reports) other = reports
+carried _ other = other
+
+pub returns-then-not-are_borne_out-clause-untrue : goal.returns-then-not-are_borne_out-clause-untrue
+returns-then-not-are_borne_out-clause-untrue g c reports fault =
+    let same = ap (λ (rs : Vec Report Global). rs.items) (ap (λ f. carried f reports) fault) in (
+      sym same ∙ c.parted-ranks.ensures.reports,
+      λ both.
+          let shown = subst (λ (rs : List Report). AreTrue rs × RevokedByARank rs) (sym (c.deref.ensures.value ∙ same)) both in
+          false≢true (sym c.if-not-are_borne_out.true ∙ c.are_borne_out.ensures.1 shown),
+    )

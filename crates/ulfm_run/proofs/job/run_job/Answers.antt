@@ -70,4 +70,4 @@ returns-clause-lawful g c =
     let fit = fits_of g.E.Ends.place c.args.job.now c.args.ends.items c.args.deciders.items (c.fits.ensures.0 c.if-not-fits.false).0 (omega (arith, (c.fits.ensures.0 c.if-not-fits.false).1, c.len.ensures, c.args.deciders.ok)) (c.fits.ensures.0 c.if-not-fits.false).2 in
     let knows = map g.D.Decider.known c.in_ok-report.report.deciders.items in
     lawful c.args.job.now (contents c.in_ok-report.report.residue.inboxes.items) knows c.in_ok-report.report.ranks.items
-    (produced_all g.E.Ends.name g.E.Ends.place g.E.Ends.count g.E.Ends.pushed g.E.Ends.taken g.E.Ends.ready g.D.Decider.board c.args.job.now c.args.ends.items c.args.deciders.items c.in-Ok.ran.items c.in-Ok.ensures.played fit g.D.Decider.known c.in-Ok.ensures.answers c.in_ok-report.report.ranks.items knows c.in_ok-report.report.residue.inboxes.items c.in_ok-report.ensures.ranks c.in_ok-report.ensures.known c.in_ok-report.ensures.residue c.in_ok-report.ensures.agree c.in_ok-report.ensures.decisions)
+    (produced_all g.E.Ends.name g.E.Ends.place g.E.Ends.count g.E.Ends.pushed g.E.Ends.taken g.E.Ends.ready g.D.Decider.board c.args.job.now c.args.ends.items c.args.deciders.items c.in-Ok.ran.items c.in-Ok.ensures.played fit g.D.Decider.known c.in-Ok.ensures.answers c.in_ok-report.report.ranks.items knows c.in_ok-report.report.residue.inboxes.items c.in_ok-report.ensures.ranks c.in_ok-report.ensures.known c.in_ok-report.ensures.residue c.in_ok-report.ensures.agree c.in_ok-report.ensures.decisions c.in_ok-report.ensures.revoked)

@@ -1,6 +1,6 @@
 use Rattle.std.proofs.Common.{arith, inl, inr, ◌∙◌, length}
 use Rattle.std.proofs.lemmas.Option.{slice_get_within}
-use Rattle.ulfm_script.specs.Job.{script_at}
+use Rattle.ulfm_job.specs.Job.{script_at}
 use Rattle.ulfm_script.proofs.Calling.{honest-called}
 use Rattle.ulfm_script.proofs.Honestly.{honest-left}
 use Rattle.ulfm_script.proofs.Progress.{next-free}

@@ -1,9 +1,9 @@
 use Rattle.std.proofs.Common.{arith, ap, sym, ◌∙◌, subst, length, slice_get}
 use Rattle.ulfm_rank.specs.Facts.{is_stopped}
 use Rattle.ulfm_rank.specs.State.{IsState}
-use Rattle.ulfm_script.specs.Job.{script_at}
+use Rattle.ulfm_job.specs.Job.{script_at}
 use Rattle.ulfm_script.specs.Player.{Player}
-use Rattle.ulfm_script.specs.Script.{FollowsAt}
+use Rattle.ulfm_script.specs.inside.Underway.{FollowsSoFar}
 use Rattle.ulfm_run.proofs.Polled.{polls-after}
 use Rattle.ulfm_run.proofs.polling.poll.Goals as goal
 
@@ -12,7 +12,7 @@ call-requires-clause-sound g c = let S : Player → Type 0 = λ (p : Player). Is
 
 pub call-requires-clause-follows : goal.call-requires-clause-follows
 call-requires-clause-follows g c =
-    let F : Player → Type 0 = λ (p : Player). FollowsAt (script_at c.args.job.now c.args.me) c.args.job.now.turns p in
+    let F : Player → Type 0 = λ (p : Player). FollowsSoFar (script_at c.args.job.now c.args.me) c.args.job.now.turns p in
     subst F (sym (c.decide.ensures.unchanged c.if-decide.false)) c.requires.follows
 
 pub call-requires-clause-room : goal.call-requires-clause-room

@@ -1,8 +1,8 @@
 use Rattle.std.proofs.Common.{arith, refl, ap, sym, subst, ◌∙◌, length}
-use Rattle.ulfm_script.specs.Job.{script_at}
+use Rattle.ulfm_job.specs.Job.{script_at}
 use Rattle.ulfm_script.specs.Player.{Player, start_player}
 use Rattle.ulfm_script.proofs.Honestly.{honest-start}
-use Rattle.ulfm_script.specs.Honest.{IsHonest}
+use Rattle.ulfm_script.specs.inside.SoFar.{AnswersFollowSoFar}
 use Rattle.ulfm_run.proofs.Starting.{at-work-start}
 use Rattle.ulfm_run.proofs.threads.new_worker.Goals as goal
 
@@ -15,5 +15,5 @@ returns-clause-at_work g c =
 
 pub returns-clause-honest : goal.returns-clause-honest
 returns-clause-honest g c =
-    let H : Player → Type 0 = λ (p : Player). IsHonest (g.D.Decider.known c.args.decider) p in
+    let H : Player → Type 0 = λ (p : Player). AnswersFollowSoFar (g.D.Decider.known c.args.decider) p in
     subst H (sym c.in-Ok.ensures.player) (honest-start (g.D.Decider.known c.args.decider) _ _)

@@ -1,8 +1,9 @@
-use Rattle.ulfm_world.specs.Replay.{Came, measure}
+use Rattle.std.proofs.Common.{◌≡◌}
+use Rattle.ulfm_world.specs.inside.Rounds.{IsUnderway, measure}
 use Rattle.ulfm_world.proofs.rounds.replay.Given as goal
 
-abbrev pub invariant-loop-world : goal.invariant-loop-world
-invariant-loop-world l = Came l.job l.world
+abbrev pub invariant-loop-rounds : goal.invariant-loop-rounds
+invariant-loop-rounds l = (l.rounds.job.now ≡ l.job) × IsUnderway l.job l.rounds.world
 
-abbrev pub decreases-loop-world : goal.decreases-loop-world
-decreases-loop-world l = measure l.job l.world
+abbrev pub decreases-loop-rounds : goal.decreases-loop-rounds
+decreases-loop-rounds l = measure l.job l.rounds.world

@@ -1,7 +1,7 @@
 use Rattle.std.proofs.Common.{◌≡◌, ◌<◌, ap, ◌∙◌, sym, subst, arith, length, List, below_more}
 use Rattle.std.specs.Arc.{arc_value}
 use Rattle.ulfm_board.specs.Known.{BothAgree, known_at}
-use Rattle.ulfm_board.specs.Names.{cell_names, note_names, known_of}
+use Rattle.ulfm_board.specs.inside.Names.{cell_names, note_names, notes_known}
 use Rattle.ulfm_board.proofs.Notes.{same_cell, set_same, both_here}
 use Rattle.ulfm_board.proofs.seat.SeatDecider.same.Goals as goal
 
@@ -22,6 +22,6 @@ loop-place-preserved c =
       set_same c.loop-place.other.notes.items c.args.other.now.notes.items c.loop-place.place _ _ c.loop-place.invariant.1 c.index_mut-in-loop-place.ensures.value c.agree.ensures.other,
       c.loop-place.invariant.2,
       c.loop-place.invariant.3,
-      below_more (λ k. BothAgree (known_at (known_of c.args.self.now.notes.items) k) (known_at (known_of c.args.other.now.notes.items) k)) c.loop-place.place c.loop-place.invariant.4
-          (subst (λ (t : List _ × List _). BothAgree (known_at (known_of t.0) c.loop-place.place) (known_at (known_of t.1) c.loop-place.place)) (λ i. (c.loop-place.invariant.0 i, c.loop-place.invariant.1 i)) here),
+      below_more (λ k. BothAgree (known_at (notes_known c.args.self.now.notes.items) k) (known_at (notes_known c.args.other.now.notes.items) k)) c.loop-place.place c.loop-place.invariant.4
+          (subst (λ (t : List _ × List _). BothAgree (known_at (notes_known t.0) c.loop-place.place) (known_at (notes_known t.1) c.loop-place.place)) (λ i. (c.loop-place.invariant.0 i, c.loop-place.invariant.1 i)) here),
     )

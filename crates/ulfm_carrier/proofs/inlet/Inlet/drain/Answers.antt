@@ -1,7 +1,7 @@
 use Rattle.std.proofs.Common.{◌++◌, map, ap, ◌∙◌, arith}
 use Rattle.rtrb.specs.Ring.{sent, received, known_items}
 use Rattle.ulfm_carrier.specs.Carried.{item_of}
-use Rattle.ulfm_carrier.specs.Tagged.{signed}
+use Rattle.ulfm_carrier.specs.inside.Tagged.{signed}
 use Rattle.ulfm_carrier.proofs.Drained.{sent_rest, all_moved, tagged_twice}
 use Rattle.ulfm_carrier.proofs.inlet.Inlet.drain.Goals as goal
 

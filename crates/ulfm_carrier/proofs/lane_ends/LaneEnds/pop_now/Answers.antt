@@ -1,11 +1,26 @@
-use Rattle.std.proofs.Common.{◌≡◌, ◌≢◌, ◌<◌, ◌+◌, ◌%◌, ◌++◌, ◌∷◌, [], get_or, map, set, length, vec_len, refl, ap, sym, ◌∙◌, arith, subst}
+use Rattle.std.proofs.Common.{◌≡◌, ◌≢◌, ◌<◌, ◌+◌, ◌%◌, ◌++◌, ◌∷◌, inl, inr, [], get_or, map, set, length, refl, ap, sym, ◌∙◌, arith, subst, append-nil}
+use Rattle.std.proofs.lemmas.Bool.{cases_lt}
+use Rattle.std.proofs.lemmas.List.{nil_from_length}
 use Rattle.std.proofs.lemmas.Nat.{mod_below}
 use Rattle.ulfm_base.specs.Items.{ComesFrom}
-use Rattle.ulfm_carrier.specs.Lanes.{taken_by, seen_in}
+use Rattle.ulfm_carrier.specs.Carried.{item_of}
+use Rattle.ulfm_carrier.specs.Lanes.{taken_by, seen_in, seen_from, lane_pushed, lane_taken}
 use Rattle.ulfm_carrier.proofs.Places.{at_read, view_other}
 use Rattle.ulfm_carrier.proofs.Rings.{taken_from, taken_more}
-use Rattle.ulfm_carrier.proofs.Turns.{turns_apart, none_seen}
+use Rattle.ulfm_carrier.proofs.Turns.{turns_apart, turn_of, none_seen, not_found}
 use Rattle.ulfm_carrier.proofs.lane_ends.LaneEnds.pop_now.Goals as goal
+
+pub take-item-requires-clause-live : goal.take-item-requires-clause-live
+take-item-requires-clause-live c =
+    let now = c.has_item_from.new.self in
+    let was = c.loop-step.invariant in
+    let found = c.has_item_from.ensures in
+    let count = c.len-count.result in
+    let place = (c.args.self.now.next + c.loop-step.step) % count in
+    let many : length now.ins.items ≡ count = found.name.3.rings.square ∙ omega (arith, found.name.2, now.outs.ok, c.loop-step.self.outs.ok) ∙ sym was.ready.rings.square ∙ was.many in
+    let inside : place < count = mod_below (c.args.self.now.next + c.loop-step.step) count (omega (arith, c.loop-step-test.true)) in
+    let low : place < length now.ins.items = omega (arith, many, inside) in
+    (found.name.3.rings.live place c.index_mut-inlet.result.now (at_read now.ins.items place c.index_mut-inlet.result.now low c.index_mut-inlet.ensures.value)).1
 
 pub returns-in-loop-step-clause-name : goal.returns-in-loop-step-clause-name
 returns-in-loop-step-clause-name c =
@@ -14,12 +29,12 @@ returns-in-loop-step-clause-name c =
     let found = c.has_item_from.ensures in
     let count = c.len-count.result in
     let place = (c.args.self.now.next + c.loop-step.step) % count in
-    let many : length now.ins.items ≡ count = found.name.3.rings.square ∙ ap (λ v. length v.items) found.name.2 ∙ sym was.ready.rings.square ∙ was.many in
+    let many : length now.ins.items ≡ count = found.name.3.rings.square ∙ omega (arith, found.name.2, now.outs.ok, c.loop-step.self.outs.ok) ∙ sym was.ready.rings.square ∙ was.many in
     let inside : place < count = mod_below (c.args.self.now.next + c.loop-step.step) count (omega (arith, c.loop-step-test.true)) in
     let low : place < length now.ins.items = omega (arith, many, inside) in
     let took = c.take-item.ensures in
     let t = taken_from now _ place c.index_mut-inlet.result.now c.take-item.new.self refl refl refl refl refl c.index_mut-inlet.ensures.value low took.name.0 took.name.1 took.same.0 took.same.1 found.name.3 in
-    (t.0 ∙ found.name.0 ∙ was.name, found.name.1 ∙ was.me, ap (λ v. vec_len v) (found.name.2 ∙ was.outs), t.1)
+    (t.0 ∙ found.name.0 ∙ was.name, found.name.1 ∙ was.me, found.name.2 ∙ was.rows, t.1)
 
 pub returns-in-loop-step-clause-sender : goal.returns-in-loop-step-clause-sender
 returns-in-loop-step-clause-sender c =
@@ -28,7 +43,7 @@ returns-in-loop-step-clause-sender c =
     let found = c.has_item_from.ensures in
     let count = c.len-count.result in
     let place = (c.args.self.now.next + c.loop-step.step) % count in
-    let many : length now.ins.items ≡ count = found.name.3.rings.square ∙ ap (λ v. length v.items) found.name.2 ∙ sym was.ready.rings.square ∙ was.many in
+    let many : length now.ins.items ≡ count = found.name.3.rings.square ∙ omega (arith, found.name.2, now.outs.ok, c.loop-step.self.outs.ok) ∙ sym was.ready.rings.square ∙ was.many in
     let inside : place < count = mod_below (c.args.self.now.next + c.loop-step.step) count (omega (arith, c.loop-step-test.true)) in
     let low : place < length now.ins.items = omega (arith, many, inside) in
     let is = found.name.3.rings.live place c.index_mut-inlet.result.now (at_read now.ins.items place c.index_mut-inlet.result.now low c.index_mut-inlet.ensures.value) in
@@ -42,7 +57,7 @@ returns-in-loop-step-clause-taken c =
     let count = c.len-count.result in
     let item = c.take-item.result in
     let place = (c.args.self.now.next + c.loop-step.step) % count in
-    let many : length now.ins.items ≡ count = found.name.3.rings.square ∙ ap (λ v. length v.items) found.name.2 ∙ sym was.ready.rings.square ∙ was.many in
+    let many : length now.ins.items ≡ count = found.name.3.rings.square ∙ omega (arith, found.name.2, now.outs.ok, c.loop-step.self.outs.ok) ∙ sym was.ready.rings.square ∙ was.many in
     let inside : place < count = mod_below (c.args.self.now.next + c.loop-step.step) count (omega (arith, c.loop-step-test.true)) in
     let low : place < length now.ins.items = omega (arith, many, inside) in (
       taken_more place now.ins.items c.index_mut-inlet.result.now c.take-item.new.self item low c.index_mut-inlet.ensures.value c.take-item.ensures.taken.1 ∙ ap (λ l. l ++ item ∷ []) (found.taken place ∙ was.taken place),
@@ -66,6 +81,52 @@ returns-in-loop-step-clause-in_turn c =
           ∙ c.loop-step.invariant.nothing_seen j low;
       next = refl;
     }
+
+pub loop-step-preserved : goal.loop-step-preserved
+loop-step-preserved c =
+    let e = c.args.self.now in
+    let me = e.me.number in
+    let was = c.loop-step.invariant in
+    let before = c.loop-step.self in
+    let now = c.has_item_from.new.self in
+    let found = c.has_item_from.ensures in
+    let count = c.len-count.result in
+    let place = (e.next + c.loop-step.step) % count in
+    let same : now.me.number ≡ me = ap (λ r. r.number) (found.name.1 ∙ was.me) in
+    let before_me : before.me.number ≡ me = ap (λ r. r.number) was.me in
+    let none : seen_from now place ≡ [] = nil_from_length (seen_from now place) (not_found _ _ found.found c.if-not-has_item_from.true) in record {
+      name = found.name.0 ∙ was.name;
+      me = found.name.1 ∙ was.me;
+      rows = found.name.2 ∙ was.rows;
+      ready = found.name.3;
+      next = found.next ∙ was.next;
+      many = found.name.3.rings.square ∙ omega (arith, found.name.2, now.outs.ok, before.outs.ok) ∙ sym was.ready.rings.square ∙ was.many;
+      nothing_seen = λ j low. elim (cases_lt j c.loop-step.step) [
+        | inl below ↦
+            let apart : (e.next + j) % count ≢ place = turns_apart e.next j c.loop-step.step count below c.loop-step-test.true in found.others_seen ((e.next + j) % count) apart ∙ was.nothing_seen j below
+        | inr late ↦ let last : j ≡ c.loop-step.step = omega (arith, late, low) in ap (λ i. seen_from now ((e.next + i) % count)) last ∙ none
+      ];
+      own = λ j low is. elim (cases_lt j c.loop-step.step) [
+        | inl below ↦ found.pushed me ∙ was.own j below is ∙ sym (found.taken me)
+        | inr late ↦
+            let last : j ≡ c.loop-step.step = omega (arith, late, low) in
+            let here : place ≡ me = ap (λ i. (e.next + i) % count) (sym last) ∙ is in
+            let mine = found.own (here ∙ sym before_me) in
+            let all : lane_pushed now place ≡ lane_taken now place = mine ∙ ap (λ l. lane_taken now place ++ map (item_of before.me) l) none ∙ append-nil (lane_taken now place) in
+            subst (λ i. lane_pushed now i ≡ lane_taken now i) here all
+      ];
+      taken = λ p. found.taken p ∙ was.taken p;
+      pushed = λ p. found.pushed p ∙ was.pushed p;
+      rooms = λ p. omega (arith, was.rooms p, found.rooms p);
+      other_rooms = λ p apart. found.other_rooms p (λ x. apart (x ∙ before_me)) ∙ was.other_rooms p apart;
+    }
+
+pub returns-clause-own : goal.returns-clause-own
+returns-clause-own c =
+    let e = c.args.self.now in
+    let count = c.len-count.result in
+    let inside : e.me.number < count = omega (arith, c.requires.ready.rings.inside, c.requires.ready.rings.square, c.len-count.ensures, e.ins.ok) in
+    let t = turn_of e.next count e.me.number inside in c.loop-step.invariant.own t.0 (omega (arith, t.1, c.loop-step-test.false)) t.2
 
 pub returns-clause-nothing_seen : goal.returns-clause-nothing_seen
 returns-clause-nothing_seen c =

@@ -1,6 +1,6 @@
-use Rattle.std.proofs.Common.{map, ◌<◌, ◌++◌, ◌∷◌, [], get_or, ap, ◌∙◌, refl, arith, length, length-set}
+use Rattle.std.proofs.Common.{map, ◌<◌, ◌++◌, ◌∷◌, [], get_or, ap, ◌∙◌, refl, arith, length}
 use Rattle.rtrb.specs.Ring.{sent, known_free}
-use Rattle.ulfm_carrier.specs.Lanes.{inlet_name, sent_by}
+use Rattle.ulfm_carrier.specs.Lanes.{inlet_name, pushed_into}
 use Rattle.ulfm_carrier.proofs.Places.{at_read, view_here, view_or, view_other}
 use Rattle.ulfm_carrier.proofs.Rings.{outlet_names, same_twice, sent_more, sent_same, ready_outs}
 use Rattle.ulfm_carrier.proofs.lane_ends.LaneEnds.push_now.Goals as goal
@@ -11,10 +11,10 @@ pub returns-then-is_full-clause-name : goal.returns-then-is_full-clause-name
 returns-then-is_full-clause-name c =
     let e = c.args.self.now in
     let same = outlet_names e.outs.items c.args.dest _ c.is_full.new.self c.index_mut-out.ensures.value c.is_full.ensures.looked.0 in
-    ((λ i. record { place = e.me.number; outs = same i; ins = map inlet_name e.ins.items }), refl, refl, ready_outs e _ refl refl refl refl (length-set e.outs.items c.args.dest c.is_full.new.self) c.requires.ready)
+    ((λ i. record { place = e.me.number; outs = same i; ins = map inlet_name e.ins.items }), refl, refl, ready_outs e _ refl refl refl refl same c.requires.ready)
 
 pub returns-then-is_full-clause-others : goal.returns-then-is_full-clause-others
-returns-then-is_full-clause-others c = λ p apart. view_other (sent_by c.args.self.now.me) c.args.self.now.outs.items c.args.dest p c.is_full.new.self [] apart
+returns-then-is_full-clause-others c = λ p apart. view_other (pushed_into c.args.self.now.me) c.args.self.now.outs.items c.args.dest p c.is_full.new.self [] apart
 
 pub returns-then-is_full-clause-pushed : goal.returns-then-is_full-clause-pushed
 returns-then-is_full-clause-pushed c =
@@ -37,10 +37,10 @@ returns-clause-name c =
     let e = c.args.self.now in
     let ring = same_twice c.index_mut-out.result.now c.is_full.new.self c.push_reserved.new.self c.is_full.ensures.looked.0 c.push_reserved.ensures.ring in
     let same = outlet_names e.outs.items c.args.dest _ c.push_reserved.new.self c.index_mut-out.ensures.value ring in
-    ((λ i. record { place = e.me.number; outs = same i; ins = map inlet_name e.ins.items }), refl, refl, ready_outs e _ refl refl refl refl (length-set e.outs.items c.args.dest c.push_reserved.new.self) c.requires.ready)
+    ((λ i. record { place = e.me.number; outs = same i; ins = map inlet_name e.ins.items }), refl, refl, ready_outs e _ refl refl refl refl same c.requires.ready)
 
 pub returns-clause-others : goal.returns-clause-others
-returns-clause-others c = λ p apart. view_other (sent_by c.args.self.now.me) c.args.self.now.outs.items c.args.dest p c.push_reserved.new.self [] apart
+returns-clause-others c = λ p apart. view_other (pushed_into c.args.self.now.me) c.args.self.now.outs.items c.args.dest p c.push_reserved.new.self [] apart
 
 pub returns-clause-pushed : goal.returns-clause-pushed
 returns-clause-pushed c =

@@ -1,21 +1,21 @@
 use Rattle.std.proofs.Common.{◌≢◌, ℕ, ap, refl, subst, sym, not, ◌==◌}
 use Rattle.ulfm_base.specs.declared.envelope.Letter.{Letter}
 use Rattle.ulfm_base.specs.declared.pattern.Pattern.{Pattern}
-use Rattle.ulfm_match.specs.State.{State, Tracks}
+use Rattle.ulfm_match.specs.State.{Matching, Tracks}
 use Rattle.ulfm_match.proofs.Members.{filter_keeps}
 use Rattle.ulfm_match.proofs.EndSteps.{clear_filtered, other_context, passes_context}
 use Rattle.ulfm_match.proofs.matcher.Matcher.clear.Goals as goal
 
 pub returns-clause-others_wait : goal.returns-clause-others_wait
 returns-clause-others_wait c =
-    filter_keeps (λ (y : ℕ × Pattern). y.1.context.number ≢ c.args.context.number) (λ (y : ℕ × Pattern). not (y.1.context.number == c.args.context.number)) _ _ _ (ap (λ (s : State). s.waiting) c.self.view_is) c.clear_waiting.ensures.left
+    filter_keeps (λ (y : ℕ × Pattern). y.1.context.number ≢ c.args.context.number) (λ (y : ℕ × Pattern). not (y.1.context.number == c.args.context.number)) _ _ _ (ap (λ (s : Matching). s.waiting) c.self.view_is) c.clear_waiting.ensures.left
     (λ y. other_context y.1.context.number c.args.context.number) (λ y. passes_context y.1.context.number c.args.context.number)
 
 pub returns-clause-others_are_kept : goal.returns-clause-others_are_kept
 returns-clause-others_are_kept c =
-    filter_keeps (λ (y : ℕ × Letter). y.1.envelope.context.number ≢ c.args.context.number) (λ (y : ℕ × Letter). not (y.1.envelope.context.number == c.args.context.number)) _ _ _ (ap (λ (s : State). s.kept) c.self.view_is) c.clear_kept.ensures.left
+    filter_keeps (λ (y : ℕ × Letter). y.1.envelope.context.number ≢ c.args.context.number) (λ (y : ℕ × Letter). not (y.1.envelope.context.number == c.args.context.number)) _ _ _ (ap (λ (s : Matching). s.kept) c.self.view_is) c.clear_kept.ensures.left
     (λ y. other_context y.1.envelope.context.number c.args.context.number) (λ y. passes_context y.1.envelope.context.number c.args.context.number)
 
 pub returns-clause-tracks : goal.returns-clause-tracks
 returns-clause-tracks c h r t =
-    clear_filtered h r _ (subst (λ (s : State). Tracks h r s) (sym c.self.view_is) t) c.args.context.number _ refl c.clear_waiting.ensures.left c.clear_kept.ensures.left
+    clear_filtered h r _ (subst (λ (s : Matching). Tracks h r s) (sym c.self.view_is) t) c.args.context.number _ refl c.clear_waiting.ensures.left c.clear_kept.ensures.left

@@ -1,16 +1,16 @@
 use Rattle.std.proofs.Common.{◌≡◌, ℕ, false, ap, refl, subst, sym, not}
 use Rattle.ulfm_base.specs.declared.pattern.Pattern.{Pattern}
 use Rattle.ulfm_base.specs.Pattern.{names}
-use Rattle.ulfm_match.specs.State.{State, Tracks}
+use Rattle.ulfm_match.specs.State.{Matching, Tracks}
 use Rattle.ulfm_match.proofs.Members.{filter_keeps}
 use Rattle.ulfm_match.proofs.Ends.{named_filtered, spares, is_spared}
 use Rattle.ulfm_match.proofs.matcher.Matcher.end_named.Goals as goal
 
 pub returns-clause-others_wait : goal.returns-clause-others_wait
 returns-clause-others_wait c =
-    filter_keeps (λ (y : ℕ × Pattern). names y.1.source c.args.rank.number ≡ false) (λ (y : ℕ × Pattern). not (names y.1.source c.args.rank.number)) _ _ _ (ap (λ (s : State). s.waiting) c.self.view_is) c.end_waiting.ensures.left
+    filter_keeps (λ (y : ℕ × Pattern). names y.1.source c.args.rank.number ≡ false) (λ (y : ℕ × Pattern). not (names y.1.source c.args.rank.number)) _ _ _ (ap (λ (s : Matching). s.waiting) c.self.view_is) c.end_waiting.ensures.left
     (λ y. spares (names y.1.source c.args.rank.number)) (λ y. is_spared (names y.1.source c.args.rank.number))
 
 pub returns-clause-tracks : goal.returns-clause-tracks
 returns-clause-tracks c h r es ends t =
-    named_filtered c.args.rank.number h r es _ _ ends (subst (λ (s : State). Tracks h r s) (sym c.self.view_is) t) refl refl c.end_waiting.ensures.left
+    named_filtered c.args.rank.number h r es _ _ ends (subst (λ (s : Matching). Tracks h r s) (sym c.self.view_is) t) refl refl c.end_waiting.ensures.left

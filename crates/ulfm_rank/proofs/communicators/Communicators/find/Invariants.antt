@@ -1,6 +1,7 @@
 use Rattle.std.proofs.Common.{◌≡◌, map, drop}
-use Rattle.ulfm_rank.specs.Communicators.{find_group, numbered}
+use Rattle.ulfm_rank.specs.Communicators.{find_group}
+use Rattle.ulfm_rank.specs.inside.Fields.{by_number}
 use Rattle.ulfm_rank.proofs.communicators.Communicators.find.Given as goal
 
 abbrev pub invariant-loop-context : goal.invariant-loop-context
-invariant-loop-context l = find_group l.number (map numbered l.context-items) ≡ find_group l.number (map numbered (drop l.context-index l.context-items))
+invariant-loop-context l = find_group l.number (map by_number l.context-items) ≡ find_group l.number (map by_number (drop l.context-index l.context-items))

@@ -2,10 +2,10 @@ use Rattle.std.proofs.Common.{◌≡◌, ℕ, false, List, [], ◌∷◌, ◌++�
 use Rattle.std.specs.Map.{lookup}
 use Rattle.std.specs.Option.{is_some}
 use Rattle.indexmap.specs.IndexMap.{get, index_map_len}
-use Rattle.ulfm_rank.proofs.Common.{Context, Pattern, number, Entry, Posted, Request, IsRequest, is_revoked, history_of, Follows, state_of, IsOfGroup}
+use Rattle.ulfm_rank.proofs.Common.{Context, Pattern, count_before, Entry, Posted, Request, IsRequest, is_revoked, history_of, Follows, state_of, IsOfGroup}
 use Rattle.ulfm_rank.specs.Calls.{IsReceive}
 use Rattle.ulfm_rank.specs.Checks.{receive_checks, Passes}
-use Rattle.ulfm_rank.specs.Requests.{Adds}
+use Rattle.ulfm_rank.specs.inside.Requests.{Adds}
 use Rattle.ulfm_rank.specs.State.{View, State}
 use Rattle.ulfm_rank.proofs.Entries.{shrinks-same, shrinks-logged}
 use Rattle.ulfm_rank.proofs.InStep.{count_small, posted_request, adds_itself}
@@ -43,8 +43,8 @@ invariant_of-self-in_err-prepare c =
           omega (arith, c.self.invariant.places, same, c.reserve.ensures.len, c.reserve.ensures.capacity);
     }
 
-pub admit-outcome-requires-clause-countable : goal.admit-outcome-requires-clause-countable
-admit-outcome-requires-clause-countable c =
+pub admit-fate-requires-clause-countable : goal.admit-fate-requires-clause-countable
+admit-fate-requires-clause-countable c =
     let a = c.self.inside in
     let small = count_small a.ranks a.log.items a.matcher (get nat_eq a.requests) c.self.invariant.follows.in_step in
     omega (arith, small, c.prepare.ensures.count, a.log.small, a.log.ok.0, a.log.ok.1)
@@ -54,7 +54,7 @@ module _ (c : After-push_reserved) where
   pattern = c.in_ok-pattern.pattern
 
   abbrev request : Request
-  request = record { pattern = pattern; outcome = c.admit-outcome.result.1 }
+  request = record { pattern = pattern; fate = c.admit-fate.result.1 }
 
   ready : Follows c.self.inside.ranks c.self.inside.me.number c.self.inside.log.items c.self.inside.stopped c.prepare.new.self (get nat_eq c.reserve-2.new.self) c.self.inside.faults c.self.inside.communicators c.self.inside.outboxes.boxes
   ready =
@@ -74,23 +74,23 @@ module _ (c : After-push_reserved) where
       ∙ (all_pass (receive_checks s x c.args.source) passes).1.1.0
 
   adds : Adds c.prepare.new.self.count request (get nat_eq c.reserve-2.new.self) (get nat_eq c.insert.new.self)
-  adds = subst (λ (k : ℕ). Adds k request (get nat_eq c.reserve-2.new.self) (get nat_eq c.insert.new.self)) c.admit-outcome.ensures.number c.in-Ok.ensures.updates.0
+  adds = subst (λ (k : ℕ). Adds k request (get nat_eq c.reserve-2.new.self) (get nat_eq c.insert.new.self)) c.admit-fate.ensures.number c.in-Ok.ensures.updates.0
 
   longer : c.push_reserved.new.self.items ≡ c.self.inside.log.items ++ Posted pattern ∷ []
   longer = c.push_reserved.ensures.items ∙ ap (λ (log : List Entry). log ++ Posted pattern ∷ []) c.reserve.ensures.items
 
-  done : Follows c.self.inside.ranks c.self.inside.me.number (c.self.inside.log.items ++ Posted pattern ∷ []) c.self.inside.stopped c.admit-outcome.new.matcher (get nat_eq c.insert.new.self) c.self.inside.faults c.self.inside.communicators c.self.inside.outboxes.boxes
+  done : Follows c.self.inside.ranks c.self.inside.me.number (c.self.inside.log.items ++ Posted pattern ∷ []) c.self.inside.stopped c.admit-fate.new.matcher (get nat_eq c.insert.new.self) c.self.inside.faults c.self.inside.communicators c.self.inside.outboxes.boxes
   done =
       let a = c.self.inside in
       let of_group : IsOfGroup a.ranks a.log.items pattern = subst (λ (v : View). IsOfGroup v.state.ranks v.state.log pattern) (sym c.self.view_is) c.in_ok-pattern.ensures.of_group in
-      follows_posted a.ranks a.me.number a.log.items a.stopped c.prepare.new.self (get nat_eq c.reserve-2.new.self) a.faults a.communicators a.outboxes.boxes ready pattern of_group c.admit-outcome.result.1 c.admit-outcome.new.matcher (get nat_eq c.insert.new.self) unrevoked
-      (rw (sym c.names_known-gone.ensures) c.admit-outcome.ensures.tracks) adds
+      follows_posted a.ranks a.me.number a.log.items a.stopped c.prepare.new.self (get nat_eq c.reserve-2.new.self) a.faults a.communicators a.outboxes.boxes ready pattern of_group c.admit-fate.result.1 c.admit-fate.new.matcher (get nat_eq c.insert.new.self) unrevoked
+      (rw (sym c.names_known-gone.ensures) c.admit-fate.ensures.tracks) adds
 
 pub invariant_of-self-2 : goal.invariant_of-self-2
 invariant_of-self-2 c =
     let a = c.self.inside in
     record {
-      follows = subst (λ (log : List Entry). Follows a.ranks a.me.number log a.stopped c.admit-outcome.new.matcher (get nat_eq c.insert.new.self) a.faults a.communicators a.outboxes.boxes) (sym (longer c)) (done c);
+      follows = subst (λ (log : List Entry). Follows a.ranks a.me.number log a.stopped c.admit-fate.new.matcher (get nat_eq c.insert.new.self) a.faults a.communicators a.outboxes.boxes) (sym (longer c)) (done c);
       shrinks = shrinks-logged a.me.number a.log.items c.push_reserved.new.self.items (Posted (pattern c)) a.shrinks c.self.invariant.shrinks (λ k. refl) (λ k r. refl) (longer c);
       places =
           let same : index_map_len c.reserve-2.new.self ≡ index_map_len a.requests = ap (λ (es : List (ℕ × Request)). length es) c.reserve-2.ensures.entries in
@@ -111,8 +111,8 @@ returns-clause-posts c =
 pub returns-clause-request : goal.returns-clause-request
 returns-clause-request c =
     let a = c.self.inside in
-    let num : number (history_of a.log.items) (length (history_of a.log.items)) ≡ c.admit-outcome.result.0.number = sym (ready c).in_step.tracks.remains.count ∙ sym c.admit-outcome.ensures.number in
-    let there : get nat_eq c.insert.new.self c.admit-outcome.result.0.number ≡ Some (request c) =
-    adds_itself c.admit-outcome.result.0.number (request c) (get nat_eq c.reserve-2.new.self) (get nat_eq c.insert.new.self) (subst (λ (k : ℕ). Adds k (request c) (get nat_eq c.reserve-2.new.self) (get nat_eq c.insert.new.self)) (sym c.admit-outcome.ensures.number) (adds c)) in
-    let posted = posted_request a.log.items (pattern c) c.admit-outcome.result.0.number num ((done c).in_step.table.unreleased c.admit-outcome.result.0.number (request c) there) in
-    (posted.0, pattern c, subst (λ (log : List Entry). IsRequest log c.admit-outcome.result.0.number posted.0 (pattern c)) (sym (longer c)) posted.1)
+    let num : count_before (history_of a.log.items) (length (history_of a.log.items)) ≡ c.admit-fate.result.0.number = sym (ready c).in_step.tracks.remains.count ∙ sym c.admit-fate.ensures.number in
+    let there : get nat_eq c.insert.new.self c.admit-fate.result.0.number ≡ Some (request c) =
+    adds_itself c.admit-fate.result.0.number (request c) (get nat_eq c.reserve-2.new.self) (get nat_eq c.insert.new.self) (subst (λ (k : ℕ). Adds k (request c) (get nat_eq c.reserve-2.new.self) (get nat_eq c.insert.new.self)) (sym c.admit-fate.ensures.number) (adds c)) in
+    let posted = posted_request a.log.items (pattern c) c.admit-fate.result.0.number num ((done c).in_step.table.unreleased c.admit-fate.result.0.number (request c) there) in
+    (posted.0, pattern c, subst (λ (log : List Entry). IsRequest log c.admit-fate.result.0.number posted.0 (pattern c)) (sym (longer c)) posted.1)

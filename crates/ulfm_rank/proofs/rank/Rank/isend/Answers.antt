@@ -14,9 +14,9 @@ invariant_of-self-2 c =
     let letter : Letter = record { envelope = record { context = c.args.comm.context; source = c.self.inside.me; tag = c.args.tag }; body = c.in_ok-body.body } in
     let now_log : c.push_reserved.new.self.items ≡ c.self.inside.log.items ++ (Sent c.in_ok-to.to letter) ∷ [] = c.push_reserved.ensures.items ∙ ap (λ (l : List Entry). l ++ (Sent c.in_ok-to.to letter) ∷ []) c.reserve.ensures.items in
     let place : c.len-2.result ≡ length c.self.inside.log.items = search rules in
-    let grows = rw (place, c.in_ok-reserve-2.ensures.boxes) at (c.leave.ensures (Mail letter)) in
+    let grows = rw (place, c.in_ok-reserve-2.ensures.boxes) at (c.put.ensures (Mail letter)) in
     record {
-      follows = rw now_log (follows_sent c.self.inside.ranks c.self.inside.me.number c.self.inside.log.items c.self.inside.stopped c.self.inside.matcher (get nat_eq c.self.inside.requests) c.self.inside.faults c.self.inside.communicators c.self.inside.outboxes.boxes c.self.invariant.follows c.in_ok-to.to letter c.leave.new.self.boxes grows);
+      follows = rw now_log (follows_sent c.self.inside.ranks c.self.inside.me.number c.self.inside.log.items c.self.inside.stopped c.self.inside.matcher (get nat_eq c.self.inside.requests) c.self.inside.faults c.self.inside.communicators c.self.inside.outboxes.boxes c.self.invariant.follows c.in_ok-to.to letter c.put.new.self.boxes grows);
       shrinks = shrinks-logged c.self.inside.me.number c.self.inside.log.items c.push_reserved.new.self.items (Sent c.in_ok-to.to letter) c.self.inside.shrinks c.self.invariant.shrinks (λ k. refl) (λ k r. refl) now_log;
       places = omega (arith, c.in_ok-reserve.ensures.ok, c.push_reserved.ensures.len, c.push_reserved.ensures.capacity, c.len.ensures.len, stop_places_few c.self.inside.stopped);
     }
@@ -27,7 +27,7 @@ returns-clause-sends c =
     let letter : Letter = record { envelope = record { context = c.args.comm.context; source = c.self.inside.me; tag = c.args.tag }; body = c.in_ok-body.body } in
     let now_log : c.push_reserved.new.self.items ≡ c.self.inside.log.items ++ (Sent c.in_ok-to.to letter) ∷ [] = c.push_reserved.ensures.items ∙ ap (λ (l : List Entry). l ++ (Sent c.in_ok-to.to letter) ∷ []) c.reserve.ensures.items in
     let place : c.len-2.result ≡ length c.self.inside.log.items = search rules in
-    let grows = rw (place, c.in_ok-reserve-2.ensures.boxes) at (c.leave.ensures (Mail letter)) in
+    let grows = rw (place, c.in_ok-reserve-2.ensures.boxes) at (c.put.ensures (Mail letter)) in
     record {
       to = c.in_ok-to.to;
       letter = letter;
@@ -36,5 +36,5 @@ returns-clause-sends c =
       source = ap (λ (s : State). s.me) seen;
       has_tag = refl;
       carries = c.in_ok-body.ensures;
-      only = state_logged c.self.inside.me.number c.self.inside.ranks c.self.inside.log.items c.push_reserved.new.self.items c.self.inside.outboxes.boxes c.leave.new.self.boxes c.args.self.now.state (Sent c.in_ok-to.to letter) seen now_log (marks-grown c.self.inside.outboxes.boxes c.leave.new.self.boxes (length c.self.inside.log.items) (for_each (λ d. eqb c.in_ok-to.to.number d) (Mail letter)) grows);
+      only = state_logged c.self.inside.me.number c.self.inside.ranks c.self.inside.log.items c.push_reserved.new.self.items c.self.inside.outboxes.boxes c.put.new.self.boxes c.args.self.now.state (Sent c.in_ok-to.to letter) seen now_log (marks-grown c.self.inside.outboxes.boxes c.put.new.self.boxes (length c.self.inside.log.items) (for_each (λ d. eqb c.in_ok-to.to.number d) (Mail letter)) grows);
     }

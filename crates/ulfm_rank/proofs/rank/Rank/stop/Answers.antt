@@ -1,6 +1,6 @@
 use Rattle.std.proofs.Common.{◌≡◌, refl, arith, nat_eq}
 use Rattle.indexmap.specs.IndexMap.{get}
-use Rattle.ulfm_rank.specs.Inside.{stop_places}
+use Rattle.ulfm_rank.specs.inside.Rank.{stop_places}
 use Rattle.ulfm_rank.specs.declared.entry.Entry.TheVariants.{Stopped}
 use Rattle.ulfm_rank.proofs.Entries.{shrinks-logged}
 use Rattle.ulfm_rank.proofs.Following.{follows_stopped}

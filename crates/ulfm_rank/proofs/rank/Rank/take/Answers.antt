@@ -1,9 +1,9 @@
 use Rattle.std.proofs.Common.{ℕ, ◌+◌, Bool, List, [], ◌∷◌, ◌++◌, length, ap, sym, subst, arith, ◌∙◌, nat_eq, IsTrue, vec_len, vec_capacity}
 use Rattle.indexmap.specs.IndexMap.{get, index_map_len}
 use Rattle.ulfm_rank.proofs.Common.{Entry, Took, AllGrow, View}
-use Rattle.ulfm_rank.specs.Inside.{Follows, stop_places}
+use Rattle.ulfm_rank.specs.inside.Rank.{Follows, stop_places}
 use Rattle.ulfm_rank.specs.Owed.{owed_by_item}
-use Rattle.ulfm_rank.specs.Requests.{TracksItem}
+use Rattle.ulfm_rank.specs.inside.Requests.{TracksItem}
 use Rattle.ulfm_rank.proofs.Entries.{shrinks-same}
 use Rattle.ulfm_rank.proofs.Held.{marks-grown}
 use Rattle.ulfm_rank.proofs.InStep.{count_small}

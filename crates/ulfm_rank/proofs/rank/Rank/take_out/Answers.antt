@@ -56,4 +56,4 @@ returns-clause-leaves c =
     let held = c.self.invariant.follows.outboxes in
     let inside : c.args.dest < length boxes = omega (arith, c.requires, held.size, ap (λ (s : State). s.ranks) seen) in
     let stopped : is_stopped c.self.inside.log.items ≡ true = sym c.self.invariant.follows.halted ∙ c.if-not-self.false in
-    rw c.set_told.ensures.boxes (leaves_notice c.self.inside.me.number c.self.inside.ranks c.self.inside.log.items boxes c.args.self.now.state c.args.dest seen held inside stopped (sym c.is_told.ensures ∙ c.if-is_told.false) (λ e. c.if-dest-self.false (sym e)))
+    rw c.set_notice_out.ensures.boxes (leaves_notice c.self.inside.me.number c.self.inside.ranks c.self.inside.log.items boxes c.args.self.now.state c.args.dest seen held inside stopped (sym c.is_notice_out.ensures ∙ c.if-is_notice_out.false) (λ e. c.if-dest-self.false (sym e)))

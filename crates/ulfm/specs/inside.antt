@@ -1,0 +1,2 @@
+-- What private functions and proofs cite of the program's output.
+pub mod Writing

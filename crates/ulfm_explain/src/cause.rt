@@ -1,0 +1,103 @@
+//! What is wrong with a job.
+
+use crate::doom::Doom;
+use crate::rules::{Key, Kind, OPS, Rules};
+use crate::shown::Shown;
+use std::fmt;
+use toml::de::Error;
+
+/// What is wrong.
+#[derive(Drop)]
+pub enum Cause {
+    /// A byte that isn't UTF-8.
+    NotUtf8,
+    /// No TOML.
+    NotToml(Error),
+    /// More bytes than a job may have.
+    TooManyBytes,
+    /// More steps than a job may have.
+    TooManySteps(usize),
+    /// A required key is missing.
+    Missing(Key),
+    /// A required key of the job is missing, and stands in a step.
+    InStep(Key),
+    /// A key has a value of this kind, and not of the kind that it has to have.
+    WrongKind(Key, String, Kind),
+    /// The `step` of the job is a table, and no array of tables.
+    OneTable,
+    /// A step is no table, but a value of this kind.
+    NoTable(&'static str),
+    /// A key that the table doesn't have, and the nearest that it has.
+    UnknownKey(Shown, Option<Key>, Rules),
+    /// A number out of its range.
+    OutOfRange(Key, i64, Kind),
+    /// An op that there isn't, and the nearest one.
+    UnknownOp(Shown, Option<&'static str>),
+    /// The step can be read, and will be refused when it runs.
+    Doomed(Doom),
+}
+
+/// What to write in place of a word, where there is a word like it.
+#[derive(Clone, Copy)]
+struct Meant<'a>(Option<&'a str>);
+
+impl fmt::Display for Meant<'_> {
+    fn fmt<W: fmt::Write>(&self, f: &mut fmt::Formatter<W>) -> fmt::Result {
+        match self.0 {
+            Some(word) => write!(f, "; did you mean '{word}'?"),
+            None => f.write_str(";"),
+        }
+    }
+}
+
+/// The names of all ops, parted by commas.
+#[derive(Clone, Copy)]
+struct AllOps;
+
+impl fmt::Display for AllOps {
+    fn fmt<W: fmt::Write>(&self, f: &mut fmt::Formatter<W>) -> fmt::Result {
+        let mut mark = "";
+        for op in OPS {
+            write!(f, "{mark}{op}")?;
+            mark = ", ";
+        }
+        Ok(())
+    }
+}
+
+impl fmt::Display for Cause {
+    fn fmt<W: fmt::Write>(&self, f: &mut fmt::Formatter<W>) -> fmt::Result {
+        match self {
+            Cause::NotUtf8 => f.write_str("this byte is no UTF-8"),
+            Cause::NotToml(error) => write!(f, "this is no TOML: {}", error.message()),
+            Cause::TooManyBytes => f.write_str("the text has more than 1048576 bytes"),
+            Cause::TooManySteps(count) => {
+                write!(f, "there are {count} steps, and 256 are the most")
+            }
+            Cause::Missing(key) => write!(f, "key '{key}' is missing"),
+            Cause::InStep(key) => {
+                write!(
+                    f,
+                    "key '{key}' is missing above the first step, and stands in a step here"
+                )
+            }
+            Cause::WrongKind(key, found, wanted) => {
+                write!(f, "key '{key}' is {found}, and has to be {wanted}")
+            }
+            Cause::OneTable => f.write_str("'step' is one table; write [[step]] above each step"),
+            Cause::NoTable(found) => write!(f, "the step is a TOML {found}, and has to be a table"),
+            Cause::UnknownKey(word, nearest, rules) => {
+                let meant = Meant(nearest.map(|key| key.name()));
+                write!(f, "key '{word}' is unknown{meant} {rules}")
+            }
+            Cause::OutOfRange(key, value, wanted) => {
+                write!(f, "key '{key}' is {value}, and has to be {wanted}")
+            }
+            Cause::UnknownOp(word, nearest) => {
+                let meant = Meant(*nearest);
+                write!(f, "op '{word}' is unknown{meant} the ops are {AllOps}")
+            }
+            Cause::Doomed(doom) => write!(f, "{doom}: it will be refused"),
+        }
+    }
+}

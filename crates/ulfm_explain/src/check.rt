@@ -1,0 +1,67 @@
+//! All faults of a job's text, in the order in which they are looked for.
+ghost use Rattle.std.specs.Prelude.{◌≤◌, IfOk, vec_len};
+
+use crate::cause::Cause;
+use crate::explanation::Explanation;
+use crate::findings::Findings;
+use crate::place::{Place, place_at};
+use crate::steps::explain_job;
+use std::alloc::{AllocError, Global};
+use toml::Table;
+
+/// The most bytes of a job.
+const MOST_BYTES: usize = 1_048_576;
+
+/// What is wrong with a job's text: all of its faults up to ten, in the order in which the reader of jobs looks for them.
+/// A good job has none.
+///
+/// # Errors
+///
+/// `AllocError` where a growth was refused.
+pub fn explain(alloc: Global, bytes: &[u8]) -> Result<Vec<Explanation>, AllocError>
+    ensures few { IfOk result (λ found. vec_len found ≤ 10) }
+{
+    if bytes.len() > MOST_BYTES {
+        return one(alloc, None, Cause::TooManyBytes);
+    }
+    let text = match str::from_utf8(bytes) {
+        Ok(text) => text,
+        Err(error) => {
+            let place = Some(place_at(bytes, error.valid_up_to()));
+            return one(alloc, place, Cause::NotUtf8);
+        }
+    };
+    match toml::table_from_str(alloc, text) {
+        Ok(table) => explain_table(alloc, text, &table),
+        Err(error) => match error.span() {
+            Some(span) => one(
+                alloc,
+                Some(place_at(bytes, span.start)),
+                Cause::NotToml(error),
+            ),
+            None => Err(AllocError),
+        },
+    }
+}
+
+/// One explanation alone.
+fn one(alloc: Global, place: Option<Place>, cause: Cause) -> Result<Vec<Explanation>, AllocError>
+    ensures few { IfOk result (λ found. vec_len found ≤ 10) }
+{
+    let mut found = Vec::new(alloc);
+    found.push(Explanation {
+        place,
+        step: None,
+        cause,
+    })?;
+    Ok(found)
+}
+
+/// What is wrong with the table of a text.
+fn explain_table(alloc: Global, text: &str, table: &Table) -> Result<Vec<Explanation>, AllocError>
+    ensures few { IfOk result (λ found. vec_len found ≤ 10) }
+{
+    let mut findings = Findings::new(alloc, text)?;
+    explain_job(&mut findings, table)?;
+    Ok(findings.found)
+}

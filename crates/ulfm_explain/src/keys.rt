@@ -1,0 +1,158 @@
+//! What is wrong with the keys of a table.
+
+use crate::cause::Cause;
+use crate::explanation::StepPlace;
+use crate::findings::Findings;
+use crate::nearest::nearest_key;
+use crate::rules::{Key, Kind, Rules};
+use crate::shown::{Shown, shown_value};
+use std::alloc::AllocError;
+use toml::{Table, Value};
+
+/// A table of a job, the keys that it may have, and the number of ranks that the job has.
+#[derive(Clone, Copy)]
+pub struct Sheet<'a> {
+    pub table: &'a Table,
+    pub rules: Rules,
+    /// The step that the table is; none for the job.
+    pub step: Option<StepPlace>,
+    pub ranks: u8,
+}
+
+impl Sheet<'_> {
+    /// The number of its step in the file.
+    fn in_file(&self) -> Option<usize> {
+        self.step.map(|step| step.in_file)
+    }
+
+    /// Tells what is missing or of a wrong kind, then what is unknown, then what is out of range.
+    pub fn explain(&self, findings: &mut Findings<'_>) -> Result<(), AllocError> {
+        self.explain_kinds(findings)?;
+        self.explain_unknown(findings)?;
+        self.explain_ranges(findings)
+    }
+
+    /// Tells of required keys that are missing, and of keys of a wrong kind.
+    pub fn explain_kinds(&self, findings: &mut Findings<'_>) -> Result<(), AllocError> {
+        for key in self.rules.required {
+            match self.table.get(key.name()) {
+                Some(value) => self.explain_kind(findings, *key, value)?,
+                None => self.explain_missing(findings, *key)?,
+            }
+        }
+        for key in self.rules.optional {
+            if let Some(value) = self.table.get(key.name()) {
+                self.explain_kind(findings, *key, value)?;
+            }
+        }
+        Ok(())
+    }
+
+    /// Tells of a required key that is missing.
+    fn explain_missing(&self, findings: &mut Findings<'_>, key: Key) -> Result<(), AllocError> {
+        if self.step.is_none() {
+            if let Some(at) = findings.place_in_steps(key.name()) {
+                return findings.tell(Some(at), None, Cause::InStep(key));
+            }
+        }
+        let at = findings.place_of_step(self.in_file());
+        findings.tell(at, self.step, Cause::Missing(key))
+    }
+
+    /// Tells of a value that isn't of its key's kind.
+    fn explain_kind(
+        &self,
+        findings: &mut Findings<'_>,
+        key: Key,
+        value: &Value,
+    ) -> Result<(), AllocError> {
+        let wanted = key.kind(self.ranks);
+        if let (Kind::Tables, Some(items)) = (wanted, value.as_array()) {
+            return explain_items(findings, items.as_slice());
+        }
+        if is_of_kind(value, wanted) {
+            return Ok(());
+        }
+        let at = findings.place_of(self.in_file(), key.name());
+        if wanted == Kind::Tables && value.is_table() {
+            return findings.tell(at, self.step, Cause::OneTable);
+        }
+        let found = shown_value(findings.alloc, value)?;
+        findings.tell(at, self.step, Cause::WrongKind(key, found, wanted))
+    }
+
+    /// Tells of keys that the table doesn't have.
+    fn explain_unknown(&self, findings: &mut Findings<'_>) -> Result<(), AllocError> {
+        for name in self.table.keys() {
+            if self.rules.find(name.as_str()).is_none() && !findings.is_full() {
+                let word = Shown::new(findings.alloc, name.as_str())?;
+                let nearest = nearest_key(findings.alloc, name.as_str(), &self.rules)?;
+                let at = findings.place_of(self.in_file(), name.as_str());
+                findings.tell(at, self.step, Cause::UnknownKey(word, nearest, self.rules))?;
+            }
+        }
+        Ok(())
+    }
+
+    /// Tells of numbers that are out of their ranges.
+    pub fn explain_ranges(&self, findings: &mut Findings<'_>) -> Result<(), AllocError> {
+        for key in self.rules.required.iter().chain(self.rules.optional.iter()) {
+            let wanted = key.kind(self.ranks);
+            if let Some(number) = integer_at(self.table, *key) {
+                if is_outside(number, wanted) {
+                    let at = findings.place_of(self.in_file(), key.name());
+                    findings.tell(at, self.step, Cause::OutOfRange(*key, number, wanted))?;
+                }
+            }
+        }
+        Ok(())
+    }
+}
+
+/// Tells of steps that are no tables.
+fn explain_items(findings: &mut Findings<'_>, items: &[Value]) -> Result<(), AllocError> {
+    for (in_file, item) in items.iter().enumerate() {
+        if !item.is_table() {
+            let step = StepPlace {
+                in_file,
+                of_rank: None,
+            };
+            let at = findings.place_of_step(Some(in_file));
+            findings.tell(at, Some(step), Cause::NoTable(item.type_str()))?;
+        }
+    }
+    Ok(())
+}
+
+/// The integer at a key, if there is one.
+pub fn integer_at(table: &Table, key: Key) -> Option<i64> {
+    match table.get(key.name()) {
+        Some(value) => value.as_integer(),
+        None => None,
+    }
+}
+
+/// The text at a key, if there is one.
+pub fn text_at(table: &Table, key: Key) -> Option<&str> {
+    match table.get(key.name()) {
+        Some(value) => value.as_str(),
+        None => None,
+    }
+}
+
+/// Whether a value is of a kind, other than an array of tables.
+fn is_of_kind(value: &Value, kind: Kind) -> bool {
+    match kind {
+        Kind::Integer(_, _) => value.is_integer(),
+        Kind::Text => value.is_str(),
+        Kind::Tables => false,
+    }
+}
+
+/// Whether a number is out of the range of a kind.
+fn is_outside(number: i64, kind: Kind) -> bool {
+    match kind {
+        Kind::Integer(least, most) => number < least || most < number,
+        Kind::Text | Kind::Tables => false,
+    }
+}

@@ -1,0 +1,26 @@
+//! What is wrong with a job's text, and where: for people, beside the program's own line.
+#![tactic(auto)]
+
+mod cause;
+mod check;
+mod doom;
+mod explanation;
+mod findings;
+mod keys;
+mod marks;
+mod nearest;
+mod place;
+mod rules;
+mod shown;
+mod steps;
+mod walk;
+mod warning;
+
+pub use cause::Cause;
+pub use check::explain;
+pub use doom::Doom;
+pub use explanation::{Explanation, StepPlace};
+pub use place::Place;
+pub use rules::{Key, Kind, Rules};
+pub use shown::Shown;
+pub use warning::warnings;

@@ -1,0 +1,53 @@
+//! The nearest word to a misspelt one.
+
+use crate::rules::{Key, OPS, Rules};
+use std::alloc::{AllocError, Global};
+use strsim::osa_distance;
+
+/// The most letters of a word that is compared, and the most edits to the nearest word.
+const MOST_LETTERS: usize = 20;
+
+const MOST_EDITS: usize = 2;
+
+/// How many edits lead from one word to another, where it is few: fewer than the letters of either word.
+fn edits(alloc: Global, from: &str, to: &str) -> Result<Option<usize>, AllocError> {
+    if from.len() > MOST_LETTERS {
+        return Ok(None);
+    }
+    let count = osa_distance(alloc, from, to)?;
+    if count <= MOST_EDITS && count < from.len() && count < to.len() {
+        Ok(Some(count))
+    } else {
+        Ok(None)
+    }
+}
+
+/// The key of a table that is nearest to a word.
+pub fn nearest_key(alloc: Global, word: &str, rules: &Rules) -> Result<Option<Key>, AllocError> {
+    let mut nearest = None;
+    let mut least = usize::MAX;
+    for key in rules.required.iter().chain(rules.optional.iter()) {
+        if let Some(count) = edits(alloc, word, key.name())? {
+            if count < least {
+                least = count;
+                nearest = Some(*key);
+            }
+        }
+    }
+    Ok(nearest)
+}
+
+/// The op that is nearest to a word.
+pub fn nearest_op(alloc: Global, word: &str) -> Result<Option<&'static str>, AllocError> {
+    let mut nearest = None;
+    let mut least = usize::MAX;
+    for op in OPS {
+        if let Some(count) = edits(alloc, word, op)? {
+            if count < least {
+                least = count;
+                nearest = Some(op);
+            }
+        }
+    }
+    Ok(nearest)
+}

@@ -1,0 +1,176 @@
+//! The keys that the tables of a job may have (docs/JOBS.md).
+
+use std::fmt;
+
+/// What stands at a key.
+#[derive(Clone, Copy, Debug, PartialEq, Eq)]
+pub enum Kind {
+    /// An integer from the first to the second.
+    Integer(i64, i64),
+    /// A text.
+    Text,
+    /// An array of tables.
+    Tables,
+}
+
+/// A key of a job or of a step.
+#[derive(Clone, Copy, Debug, PartialEq, Eq)]
+pub enum Key {
+    Ranks,
+    Capacity,
+    Turns,
+    Step,
+    Op,
+    Rank,
+    To,
+    From,
+    Tag,
+    Body,
+    Room,
+    Req,
+    Count,
+    Comm,
+}
+
+impl Key {
+    /// How it is written.
+    pub fn name(self) -> &'static str {
+        match self {
+            Key::Ranks => "ranks",
+            Key::Capacity => "capacity",
+            Key::Turns => "turns",
+            Key::Step => "step",
+            Key::Op => "op",
+            Key::Rank => "rank",
+            Key::To => "to",
+            Key::From => "from",
+            Key::Tag => "tag",
+            Key::Body => "body",
+            Key::Room => "room",
+            Key::Req => "req",
+            Key::Count => "count",
+            Key::Comm => "comm",
+        }
+    }
+
+    /// What stands at it, in a job of so many ranks.
+    pub fn kind(self, ranks: u8) -> Kind {
+        match self {
+            Key::Ranks => Kind::Integer(1, 8),
+            Key::Capacity => Kind::Integer(1, 64),
+            Key::Turns => Kind::Integer(1, 10_000_000),
+            Key::Step => Kind::Tables,
+            Key::Op | Key::Body => Kind::Text,
+            Key::Rank => Kind::Integer(0, i64::from(ranks.saturating_sub(1))),
+            Key::To | Key::From => Kind::Integer(0, 7),
+            Key::Tag => Kind::Integer(0, 32767),
+            Key::Room => Kind::Integer(0, 1024),
+            Key::Req => Kind::Integer(0, 255),
+            Key::Count => Kind::Integer(0, 8),
+            Key::Comm => Kind::Integer(0, 62),
+        }
+    }
+}
+
+/// The keys of a table.
+#[derive(Clone, Copy)]
+pub struct Rules {
+    /// Whose keys these are.
+    pub owner: &'static str,
+    pub required: &'static [Key],
+    pub optional: &'static [Key],
+}
+
+/// The ops of steps.
+pub const OPS: [&str; 9] = [
+    "send", "recv", "wait", "failed", "ack", "revoke", "dup", "shrink", "stop",
+];
+
+/// The keys of a job.
+pub fn job_rules() -> Rules {
+    Rules {
+        owner: "a job",
+        required: &[Key::Ranks, Key::Capacity, Key::Turns],
+        optional: &[Key::Step],
+    }
+}
+
+/// The keys of a step whose op isn't known.
+pub fn any_step_rules() -> Rules {
+    Rules {
+        owner: "a step",
+        required: &[Key::Rank],
+        optional: &[],
+    }
+}
+
+/// The keys of a step with this op.
+pub fn rules_of(op: &str) -> Option<Rules> {
+    let (owner, required, optional): (&'static str, &'static [Key], &'static [Key]) = match op {
+        "send" => (
+            "send",
+            &[Key::Op, Key::Rank, Key::To, Key::Tag, Key::Body],
+            &[Key::Comm],
+        ),
+        "recv" => (
+            "recv",
+            &[Key::Op, Key::Rank],
+            &[Key::From, Key::Tag, Key::Room, Key::Comm],
+        ),
+        "wait" => ("wait", &[Key::Op, Key::Rank, Key::Req], &[]),
+        "failed" => ("failed", &[Key::Op, Key::Rank], &[Key::Comm]),
+        "ack" => ("ack", &[Key::Op, Key::Rank, Key::Count], &[Key::Comm]),
+        "revoke" => ("revoke", &[Key::Op, Key::Rank], &[Key::Comm]),
+        "dup" => ("dup", &[Key::Op, Key::Rank], &[Key::Comm]),
+        "shrink" => ("shrink", &[Key::Op, Key::Rank], &[Key::Comm]),
+        "stop" => ("stop", &[Key::Op, Key::Rank], &[]),
+        _ => return None,
+    };
+    Some(Rules {
+        owner,
+        required,
+        optional,
+    })
+}
+
+impl Rules {
+    /// The key that is written like this, if the table has it.
+    pub fn find(&self, name: &str) -> Option<Key> {
+        for key in self.required.iter().chain(self.optional.iter()) {
+            if key.name() == name {
+                return Some(*key);
+            }
+        }
+        None
+    }
+}
+
+impl fmt::Display for Kind {
+    fn fmt<W: fmt::Write>(&self, f: &mut fmt::Formatter<W>) -> fmt::Result {
+        match self {
+            Kind::Integer(least, most) => write!(f, "an integer from {least} to {most}"),
+            Kind::Text => f.write_str("a text in quotes"),
+            Kind::Tables => f.write_str("an array of tables"),
+        }
+    }
+}
+
+impl fmt::Display for Key {
+    fn fmt<W: fmt::Write>(&self, f: &mut fmt::Formatter<W>) -> fmt::Result {
+        f.write_str(self.name())
+    }
+}
+
+/// Whose keys these are, and which.
+impl fmt::Display for Rules {
+    fn fmt<W: fmt::Write>(&self, f: &mut fmt::Formatter<W>) -> fmt::Result {
+        write!(f, "{} has", self.owner)?;
+        for (place, key) in self.required.iter().chain(self.optional.iter()).enumerate() {
+            if place > 0 {
+                f.write_str(",")?;
+            }
+            write!(f, " {key}")?;
+        }
+        Ok(())
+    }
+}

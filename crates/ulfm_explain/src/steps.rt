@@ -1,0 +1,135 @@
+//! What is wrong with a job and with its steps.
+
+use crate::cause::Cause;
+use crate::explanation::StepPlace;
+use crate::findings::Findings;
+use crate::keys::{Sheet, integer_at, text_at};
+use crate::nearest::nearest_op;
+use crate::rules::{Key, any_step_rules, job_rules, rules_of};
+use crate::shown::{Shown, shown_value};
+use std::alloc::AllocError;
+use toml::{Table, Value};
+
+/// The most steps of a job.
+const MOST_STEPS: usize = 256;
+
+/// Tells what is wrong with a job: first with its own keys, then with each step, in the order of the file.
+pub fn explain_job(findings: &mut Findings<'_>, table: &Table) -> Result<(), AllocError> {
+    let ranks = ranks_of(table);
+    let sheet = Sheet {
+        table,
+        rules: job_rules(),
+        step: None,
+        ranks,
+    };
+    sheet.explain(findings)?;
+    let steps = steps_of(table);
+    if steps.len() > MOST_STEPS {
+        let at = findings.place_of_step(Some(MOST_STEPS));
+        findings.tell(at, None, Cause::TooManySteps(steps.len()))?;
+    }
+    for (in_file, value) in steps.iter().take(MOST_STEPS).enumerate() {
+        if findings.is_full() {
+            return Ok(());
+        }
+        if let Some(step) = value.as_table() {
+            explain_step(findings, ranks, place_of(ranks, steps, in_file), step)?;
+        }
+    }
+    Ok(())
+}
+
+/// How many ranks a job has: eight where that can't be read.
+pub fn ranks_of(table: &Table) -> u8 {
+    match integer_at(table, Key::Ranks) {
+        Some(ranks) => match u8::try_from(ranks) {
+            Ok(ranks) if 1 <= ranks && ranks <= 8 => ranks,
+            _ => 8,
+        },
+        None => 8,
+    }
+}
+
+/// The steps of a job.
+pub fn steps_of(table: &Table) -> &[Value] {
+    match table.get("step") {
+        Some(value) => match value.as_array() {
+            Some(values) => values.as_slice(),
+            None => &[],
+        },
+        None => &[],
+    }
+}
+
+/// The integer at the rank of a step, if there is one.
+pub fn rank_of(step: &Value) -> Option<i64> {
+    integer_at(step.as_table()?, Key::Rank)
+}
+
+/// The place of the step with this number in the file, in a job of so many ranks.
+pub fn place_of(ranks: u8, steps: &[Value], in_file: usize) -> StepPlace {
+    let rank = match steps.get(in_file) {
+        Some(step) => rank_of(step).filter(|rank| 0 <= *rank && *rank < i64::from(ranks)),
+        None => None,
+    };
+    let of_rank = rank.map(|rank| (rank, steps_before(steps, in_file, rank)));
+    StepPlace { in_file, of_rank }
+}
+
+/// How many steps of a rank come before the step with this number in the file.
+fn steps_before(steps: &[Value], in_file: usize, rank: i64) -> usize {
+    let earlier = steps.iter().take(in_file);
+    earlier.filter(|step| rank_of(*step) == Some(rank)).count()
+}
+
+/// Tells what is wrong with a step.
+fn explain_step(
+    findings: &mut Findings<'_>,
+    ranks: u8,
+    place: StepPlace,
+    table: &Table,
+) -> Result<(), AllocError> {
+    if let Some(op) = text_at(table, Key::Op) {
+        if let Some(rules) = rules_of(op) {
+            let sheet = Sheet {
+                table,
+                rules,
+                step: Some(place),
+                ranks,
+            };
+            return sheet.explain(findings);
+        }
+    }
+    explain_op(findings, place, table)?;
+    let sheet = Sheet {
+        table,
+        rules: any_step_rules(),
+        step: Some(place),
+        ranks,
+    };
+    sheet.explain_kinds(findings)?;
+    sheet.explain_ranges(findings)
+}
+
+/// Tells what is wrong with an op that isn't known.
+fn explain_op(
+    findings: &mut Findings<'_>,
+    place: StepPlace,
+    table: &Table,
+) -> Result<(), AllocError> {
+    let at = findings.place_of(Some(place.in_file), "op");
+    let cause = match table.get("op") {
+        Some(value) => match value.as_str() {
+            Some(op) => {
+                let nearest = nearest_op(findings.alloc, op)?;
+                Cause::UnknownOp(Shown::new(findings.alloc, op)?, nearest)
+            }
+            None => {
+                let found = shown_value(findings.alloc, value)?;
+                Cause::WrongKind(Key::Op, found, Key::Op.kind(8))
+            }
+        },
+        None => Cause::Missing(Key::Op),
+    };
+    findings.tell(at, Some(place), cause)
+}

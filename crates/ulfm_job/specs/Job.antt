@@ -1,0 +1,49 @@
+-- What contracts see of a job.
+use Rattle.std.specs.Prelude.{◌≡◌, ◌<◌, ◌≤◌, ℕ, Bool, true, false, List, [], ◌∷◌, length, map, sum_by, slice_index_or, Vec, if◌then◌else◌}
+use Rattle.std.specs.declared.alloc.Global.{Global}
+use Rattle.ulfm_job.specs.declared.step.Step.{Step}
+use Rattle.ulfm_job.specs.declared.step.Step.TheVariants.{Stop}
+
+-- how many ranks there are, the room of an inbox, the most polls of one step, and the steps of each rank
+pub record Seen : Type 0 where
+  pub ranks : ℕ
+  pub capacity : ℕ
+  pub turns : ℕ
+  pub scripts : List (List Step)
+
+-- how many steps there are in all
+abbrev pub step_count : List (List Step) → ℕ
+step_count scripts = sum_by length scripts
+
+-- the steps that the lists in memory hold
+abbrev pub lists_of : List (Vec Step Global) → List (List Step)
+lists_of scripts = map (λ script. script.items) scripts
+
+-- a job by its parts
+abbrev pub seen_of : ℕ → ℕ → List (Vec Step Global) → Seen
+seen_of capacity turns scripts = record { ranks = length scripts; capacity = capacity; turns = turns; scripts = lists_of scripts }
+
+-- the ranges of a job
+pub record IsJob (j : Seen) : Type 0 where
+  pub script_each : length j.scripts ≡ j.ranks
+  pub some_rank : 0 < j.ranks
+  pub few_ranks : j.ranks ≤ 8
+  pub some_room : 0 < j.capacity
+  pub most_room : j.capacity ≤ 64
+  pub some_turn : 0 < j.turns
+  pub most_turns : j.turns ≤ 10000000
+  pub most_steps : step_count j.scripts ≤ 256
+
+-- the steps of the rank r
+abbrev pub script_at : Seen → ℕ → List Step
+script_at j r = slice_index_or j.scripts r []
+
+-- the step is a stop
+abbrev pub is_stop_step : Step → Bool
+is_stop_step Stop = true
+is_stop_step _ = false
+
+-- a script up to and with its first stop, or the whole of it
+abbrev pub through_stop : List Step → List Step
+through_stop [] = []
+through_stop (x ∷ xs) = if is_stop_step x then x ∷ [] else x ∷ through_stop xs

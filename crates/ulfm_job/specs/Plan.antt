@@ -1,0 +1,54 @@
+-- What the text of a job asks for, without the form that a job has in memory.
+use Rattle.std.specs.Prelude.{◌==◌, ℕ, List, Option, map, option_map, filter}
+use Rattle.std.specs.List.{range_with_len}
+use Rattle.ulfm_job.specs.declared.step.Step.{Step}
+use Rattle.ulfm_job.specs.declared.step.Step.TheVariants.{Send, Recv, Wait, Failed, Ack, Revoke, Dup, Shrink, Stop}
+use Rattle.ulfm_job.specs.Job.{Seen}
+
+-- what a step asks for; communicators and tags are numbers, and a receive names a source and a tag or leaves them open
+pub data Order : Type 0 where
+  send : ℕ → ℕ → List ℕ → ℕ → Order
+  recv : Option ℕ → Option ℕ → ℕ → ℕ → Order
+  wait : ℕ → Order
+  failed : ℕ → Order
+  ack : ℕ → ℕ → Order
+  revoke : ℕ → Order
+  dup : ℕ → Order
+  shrink : ℕ → Order
+  stop : Order
+
+-- one step of the file
+pub record PlannedStep : Type 0 where
+  pub rank : ℕ
+  pub order : Order
+
+-- ranks, room of an inbox, most polls of a step, and the steps of each rank
+pub record Plan : Type 0 where
+  pub ranks : ℕ
+  pub capacity : ℕ
+  pub turns : ℕ
+  pub scripts : List (List Order)
+
+-- the steps of the rank r, in the order of the file
+abbrev pub script_of : List PlannedStep → ℕ → List Order
+script_of steps r = map (λ s. s.order) (filter (λ s. s.rank == r) steps)
+
+-- the steps of each rank
+abbrev pub scripts_of : ℕ → List PlannedStep → List (List Order)
+scripts_of ranks steps = map (script_of steps) (range_with_len 0 ranks)
+
+-- a step as the order that it keeps
+abbrev pub order_of : Step → Order
+order_of (Send to tag body comm) = send to tag.number body comm.number
+order_of (Recv from tag room comm) = recv from (option_map (λ t. t.number) tag) room comm.number
+order_of (Wait req) = wait req
+order_of (Failed comm) = failed comm.number
+order_of (Ack count comm) = ack count comm.number
+order_of (Revoke comm) = revoke comm.number
+order_of (Dup comm) = dup comm.number
+order_of (Shrink comm) = shrink comm.number
+order_of Stop = stop
+
+-- the plan of a job
+abbrev pub plan_of : Seen → Plan
+plan_of j = record { ranks = j.ranks; capacity = j.capacity; turns = j.turns; scripts = map (map order_of) j.scripts }

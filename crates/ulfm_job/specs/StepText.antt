@@ -1,0 +1,97 @@
+-- The step of a table, for each op, by cases in the order of the checks: keys and their kinds, unknown keys, ranges.
+use Rattle.std.specs.Prelude.{ℕ, pos, ◌-◌, List, [], ◌∷◌, take, Result, Ok, Err, unwrap_or, if◌then◌else◌, codes}
+use Rattle.std.specs.Str.{bytes_eq}
+use Rattle.toml.specs.Data.{Members}
+use Rattle.ulfm_job.specs.declared.fault.Fault.{Fault}
+use Rattle.ulfm_job.specs.declared.fault.Fault.TheVariants.{UnknownOp}
+use Rattle.ulfm_job.specs.Keys.{◌>>=◌, required_number, optional_number, required_text, only_keys, in_range, in_range_if_some}
+use Rattle.ulfm_job.specs.Plan.{Order, PlannedStep, send, recv, wait, failed, ack, revoke, dup, shrink, stop}
+
+-- the step of a `send`
+unfoldable pub send_step : ℕ → Members → Result PlannedStep Fault
+send_step ranks ms = do
+  rank_key ← required_number (codes "rank") ms
+  to_key ← required_number (codes "to") ms
+  tag_key ← required_number (codes "tag") ms
+  body ← required_text (codes "body") ms
+  comm_key ← optional_number (codes "comm") ms
+  keys ← only_keys (codes "op" ∷ codes "rank" ∷ codes "to" ∷ codes "tag" ∷ codes "body" ∷ codes "comm" ∷ []) ms
+  rank ← in_range 0 (ranks - 1) rank_key
+  to ← in_range 0 7 to_key
+  tag ← in_range 0 32767 tag_key
+  comm ← in_range 0 62 (unwrap_or comm_key (pos 0))
+  Ok (record { rank = rank; order = send to tag (take 1025 body) comm })
+
+-- the step of a `recv`
+unfoldable pub recv_step : ℕ → Members → Result PlannedStep Fault
+recv_step ranks ms = do
+  rank_key ← required_number (codes "rank") ms
+  from_key ← optional_number (codes "from") ms
+  tag_key ← optional_number (codes "tag") ms
+  room_key ← optional_number (codes "room") ms
+  comm_key ← optional_number (codes "comm") ms
+  keys ← only_keys (codes "op" ∷ codes "rank" ∷ codes "from" ∷ codes "tag" ∷ codes "room" ∷ codes "comm" ∷ []) ms
+  rank ← in_range 0 (ranks - 1) rank_key
+  from ← in_range_if_some 7 from_key
+  tag ← in_range_if_some 32767 tag_key
+  room ← in_range 0 1024 (unwrap_or room_key (pos 1024))
+  comm ← in_range 0 62 (unwrap_or comm_key (pos 0))
+  Ok (record { rank = rank; order = recv from tag room comm })
+
+-- the step of a `wait`
+unfoldable pub wait_step : ℕ → Members → Result PlannedStep Fault
+wait_step ranks ms = do
+  rank_key ← required_number (codes "rank") ms
+  req_key ← required_number (codes "req") ms
+  keys ← only_keys (codes "op" ∷ codes "rank" ∷ codes "req" ∷ []) ms
+  rank ← in_range 0 (ranks - 1) rank_key
+  req ← in_range 0 255 req_key
+  Ok (record { rank = rank; order = wait req })
+
+-- the step of an op that names a communicator, the world's where it is left out, and nothing else
+unfoldable pub step_on_comm : (ℕ → Order) → ℕ → Members → Result PlannedStep Fault
+step_on_comm order_on ranks ms = do
+  rank_key ← required_number (codes "rank") ms
+  comm_key ← optional_number (codes "comm") ms
+  keys ← only_keys (codes "op" ∷ codes "rank" ∷ codes "comm" ∷ []) ms
+  rank ← in_range 0 (ranks - 1) rank_key
+  comm ← in_range 0 62 (unwrap_or comm_key (pos 0))
+  Ok (record { rank = rank; order = order_on comm })
+
+-- the step of an `ack`
+unfoldable pub ack_step : ℕ → Members → Result PlannedStep Fault
+ack_step ranks ms = do
+  rank_key ← required_number (codes "rank") ms
+  count_key ← required_number (codes "count") ms
+  comm_key ← optional_number (codes "comm") ms
+  keys ← only_keys (codes "op" ∷ codes "rank" ∷ codes "count" ∷ codes "comm" ∷ []) ms
+  rank ← in_range 0 (ranks - 1) rank_key
+  count ← in_range 0 8 count_key
+  comm ← in_range 0 62 (unwrap_or comm_key (pos 0))
+  Ok (record { rank = rank; order = ack count comm })
+
+-- the step of a `stop`
+unfoldable pub stop_step : ℕ → Members → Result PlannedStep Fault
+stop_step ranks ms = do
+  rank_key ← required_number (codes "rank") ms
+  keys ← only_keys (codes "op" ∷ codes "rank" ∷ []) ms
+  rank ← in_range 0 (ranks - 1) rank_key
+  Ok (record { rank = rank; order = stop })
+
+-- the step of an op by its name
+unfoldable pub step_of_op : ℕ → List ℕ → Members → Result PlannedStep Fault
+step_of_op ranks op ms =
+    if bytes_eq op (codes "send") then send_step ranks ms
+    else if bytes_eq op (codes "recv") then recv_step ranks ms
+    else if bytes_eq op (codes "wait") then wait_step ranks ms
+    else if bytes_eq op (codes "failed") then step_on_comm failed ranks ms
+    else if bytes_eq op (codes "ack") then ack_step ranks ms
+    else if bytes_eq op (codes "revoke") then step_on_comm revoke ranks ms
+    else if bytes_eq op (codes "dup") then step_on_comm dup ranks ms
+    else if bytes_eq op (codes "shrink") then step_on_comm shrink ranks ms
+    else if bytes_eq op (codes "stop") then stop_step ranks ms
+    else Err UnknownOp
+
+-- the step of a table; its op comes before its other keys
+unfoldable pub step_of : ℕ → Members → Result PlannedStep Fault
+step_of ranks ms = required_text (codes "op") ms >>= (λ op. step_of_op ranks op ms)

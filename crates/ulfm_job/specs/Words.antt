@@ -1,0 +1,28 @@
+-- The words in which steps are printed.
+use Rattle.std.specs.Prelude.{ℕ, List, ◌++◌, Option, Some, None, codes}
+use Rattle.std.specs.Fmt.{decimal}
+use Rattle.ulfm_base.specs.declared.tag.Tag.{Tag}
+use Rattle.ulfm_job.specs.declared.step.Step.{Step}
+use Rattle.ulfm_job.specs.declared.step.Step.TheVariants.{Send, Recv, Wait, Failed, Ack, Revoke, Dup, Shrink, Stop}
+
+-- a source, or `any` where it is left open
+abbrev pub source_text : Option ℕ → List ℕ
+source_text None = codes "any"
+source_text (Some rank) = decimal rank
+
+-- a tag, or `any` where it is left open
+abbrev pub tag_text : Option Tag → List ℕ
+tag_text None = codes "any"
+tag_text (Some tag) = decimal tag.number
+
+-- the words of a step
+abbrev pub step_text : Step → List ℕ
+step_text (Send to tag body comm) = codes "send " ++ decimal to ++ codes " tag " ++ decimal tag.number ++ codes " comm " ++ decimal comm.number
+step_text (Recv source tag room comm) = codes "recv " ++ source_text source ++ codes " tag " ++ tag_text tag ++ codes " comm " ++ decimal comm.number
+step_text (Wait req) = codes "wait " ++ decimal req
+step_text (Failed comm) = codes "failed comm " ++ decimal comm.number
+step_text (Ack count comm) = codes "ack " ++ decimal count ++ codes " comm " ++ decimal comm.number
+step_text (Revoke comm) = codes "revoke comm " ++ decimal comm.number
+step_text (Dup comm) = codes "dup comm " ++ decimal comm.number
+step_text (Shrink comm) = codes "shrink comm " ++ decimal comm.number
+step_text Stop = codes "stop"

@@ -1,0 +1,99 @@
+//! A job.
+ghost use Rattle.std.specs.Prelude.{◌≡◌, slice_get, length};
+ghost use Rattle.ulfm_job.specs.Job.{IsJob, step_count, script_at};
+
+use crate::step::Step;
+use std::marker::Model;
+
+/// What 1 to 8 ranks are to do: the room of an inbox (1 to 64 items), the most polls of one step (1 to 10,000,000),
+/// and the steps of each rank, 256 at most in all.
+#[derive(Drop)]
+pub struct Job {
+    capacity: u8,
+    turns: u32,
+    scripts: Vec<Vec<Step>>,
+}
+
+impl Model for Job {
+    ghost use Rattle.ulfm_job.specs.Job.{Seen, IsJob, seen_of};
+
+    ghost Value = { Seen };
+
+    ghost view = { λ j. seen_of j.capacity j.turns j.scripts.items };
+
+    ghost invariant = { λ j. IsJob (seen_of j.capacity j.turns j.scripts.items) };
+}
+
+impl Job {
+    ghost use Rattle.ulfm_job.specs.Job.{seen_of};
+
+    /// The job of these scripts, one for each rank.
+    pub(crate) fn new(capacity: u8, turns: u32, scripts: Vec<Vec<Step>>) -> Job
+        requires { IsJob (seen_of capacity turns scripts.items) }
+        ensures { result ≡ seen_of capacity turns scripts.items }
+    {
+        Job {
+            capacity,
+            turns,
+            scripts,
+        }
+    }
+
+    /// How many ranks there are, 1 to 8. Each has a script.
+    pub fn ranks(&self) -> u8
+        ensures exact { result ≡ self.now.ranks }
+        ensures ranges { IsJob self.now }
+    {
+        self.scripts.len() as u8
+    }
+
+    /// How many items an inbox has room for, 1 to 64.
+    pub fn capacity(&self) -> u8
+        ensures exact { result ≡ self.now.capacity }
+        ensures ranges { IsJob self.now }
+    {
+        self.capacity
+    }
+
+    /// How many polls one step gets at most, 1 to 10,000,000.
+    pub fn turns(&self) -> u32
+        ensures exact { result ≡ self.now.turns }
+        ensures ranges { IsJob self.now }
+    {
+        self.turns
+    }
+
+    /// How many steps there are in all, 0 to 256.
+    pub fn len(&self) -> usize
+        ensures exact { result ≡ step_count self.now.scripts }
+        ensures ranges { IsJob self.now }
+    {
+        self.scripts.iter().map(|script| script.len()).sum()
+    }
+
+    /// A rank's steps, in the order of the file: none where there is no such rank.
+    pub fn script(&self, rank: u8) -> &[Step]
+        ensures { result.now ≡ script_at self.now rank }
+    {
+        match self.scripts.get(rank as usize) {
+            Some(script) => script.as_slice(),
+            None => &[],
+        }
+    }
+
+    /// How many steps a rank has: none where there is no such rank.
+    pub fn script_len(&self, rank: u8) -> usize
+        ensures exact { result ≡ length (script_at self.now rank) }
+        ensures ranges { IsJob self.now }
+    {
+        let _ = &self.scripts;
+        self.script(rank).len()
+    }
+
+    /// The step at a place, from 0, of a rank's script, where there is one. It takes no memory.
+    pub fn step(&self, rank: u8, place: usize) -> Option<Step>
+        ensures { result ≡ slice_get (script_at self.now rank) place }
+    {
+        self.script(rank).get(place).copied()
+    }
+}

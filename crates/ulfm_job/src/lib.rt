@@ -1,0 +1,18 @@
+//! Jobs: what the ranks are to do, read from a text.
+#![tactic(auto)]
+
+mod fault;
+mod fields;
+mod head;
+mod job;
+mod ops;
+mod reading;
+mod step;
+mod text;
+mod words;
+
+pub use fault::{Fault, JobFault};
+pub use job::Job;
+pub use reading::no_toml;
+pub use step::Step;
+pub use text::Text;

@@ -1,0 +1,67 @@
+//! The words in which steps are printed.
+ghost use Rattle.std.specs.Prelude.{Some};
+ghost use Rattle.ulfm_job.specs.Words.{source_text, tag_text, step_text};
+
+use crate::step::Step;
+use std::fmt;
+use ulfm_base::Tag;
+
+/// A source, or `any` where it is left open.
+#[derive(Clone, Copy)]
+struct AnySource(Option<u8>);
+
+impl fmt::Display for AnySource {
+    ghost output = { λ source. Some (source_text source.0) };
+
+    fn fmt<W: fmt::Write>(&self, f: &mut fmt::Formatter<W>) -> fmt::Result {
+        match self.0 {
+            Some(rank) => write!(f, "{rank}"),
+            None => f.write_str("any"),
+        }
+    }
+}
+
+/// A tag, or `any` where it is left open.
+#[derive(Clone, Copy)]
+struct AnyTag(Option<Tag>);
+
+impl fmt::Display for AnyTag {
+    ghost output = { λ tag. Some (tag_text tag.0) };
+
+    fn fmt<W: fmt::Write>(&self, f: &mut fmt::Formatter<W>) -> fmt::Result {
+        match self.0 {
+            Some(tag) => write!(f, "{}", tag.number),
+            None => f.write_str("any"),
+        }
+    }
+}
+
+/// The words of a step, as `recv any tag 5 comm 0`.
+impl fmt::Display for Step {
+    ghost output = { λ step. Some (step_text step) };
+
+    fn fmt<W: fmt::Write>(&self, f: &mut fmt::Formatter<W>) -> fmt::Result {
+        match self {
+            Step::Send { to, tag, comm, .. } => {
+                write!(f, "send {to} tag {} comm {}", tag.number, comm.number)
+            }
+            Step::Recv {
+                from,
+                tag,
+                comm,
+                ..
+            } => {
+                let from = AnySource(*from);
+                let tag = AnyTag(*tag);
+                write!(f, "recv {from} tag {tag} comm {}", comm.number)
+            }
+            Step::Wait { req } => write!(f, "wait {req}"),
+            Step::Failed { comm } => write!(f, "failed comm {}", comm.number),
+            Step::Ack { count, comm } => write!(f, "ack {count} comm {}", comm.number),
+            Step::Revoke { comm } => write!(f, "revoke comm {}", comm.number),
+            Step::Dup { comm } => write!(f, "dup comm {}", comm.number),
+            Step::Shrink { comm } => write!(f, "shrink comm {}", comm.number),
+            Step::Stop => f.write_str("stop"),
+        }
+    }
+}

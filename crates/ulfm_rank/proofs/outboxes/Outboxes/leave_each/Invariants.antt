@@ -1,6 +1,0 @@
-use Rattle.ulfm_base.specs.RankSet.{has}
-use Rattle.ulfm_rank.proofs.Slots.{Leaving}
-use Rattle.ulfm_rank.proofs.outboxes.Outboxes.leave_each.Given as goal
-
-abbrev pub invariant-loop-d : goal.invariant-loop-d
-invariant-loop-d l = Leaving l.initial.self-inside.slots.items l.self-inside.slots.items l.d l.place (has l.to)

@@ -1,0 +1,45 @@
+-- What holds of the fields of a rank, and what contracts see of them.
+use Rattle.std.specs.Prelude.{◌≡◌, ℕ, Bool, ◌≤◌, ◌+◌, List, map, Option, nat_eq, nat_lt, ◌&&◌, if◌then◌else◌, vec_len, vec_capacity}
+use Rattle.indexmap.specs.IndexMap.{get, index_map_len}
+use Rattle.ulfm_fault.specs.Facts.{FaultState}
+use Rattle.ulfm_match.specs.State.{Matching}
+use Rattle.ulfm_rank.specs.declared.entry.Entry.{Entry}
+use Rattle.ulfm_rank.specs.declared.request.Request.{Request}
+use Rattle.ulfm_rank.specs.declared.rank.Rank.TheInside.{Inside}
+use Rattle.ulfm_rank.specs.inside.Fields.{HasCommunicators, HasFaults, HasShrinks}
+use Rattle.ulfm_rank.specs.Facts.{is_stopped}
+use Rattle.ulfm_rank.specs.inside.Outboxes.{Box, mark_of, HasOutboxes}
+use Rattle.ulfm_rank.specs.State.{State, View}
+use Rattle.ulfm_rank.specs.inside.Table.{IsInStep}
+
+-- how many places of the log are kept for the stop
+abbrev pub stop_places : Bool → ℕ
+stop_places stopped = if stopped then 0 else 1
+
+-- the parts of the rank `me` of n are what its log tells
+pub record Follows (n me : ℕ) (log : List Entry) (stopped : Bool) (matcher : Matching) (find : ℕ → Option Request) (facts : FaultState) (comms : List (ℕ × List ℕ)) (boxes : List Box) : Type 0 where
+  pub small : n ≤ 8
+  pub halted : stopped ≡ is_stopped log
+  pub in_step : IsInStep n log matcher find
+  pub faults : HasFaults log facts
+  pub communicators : HasCommunicators n log comms
+  pub outboxes : HasOutboxes n me log boxes
+
+-- besides, the table of shrinks has what the log tells, and the log has a place for the release of each request, and one
+-- for the stop
+pub record Holds (a : Inside) : Type 0 where
+  pub follows : Follows a.ranks a.me.number a.log.items a.stopped a.matcher (get nat_eq a.requests) a.faults a.communicators a.outboxes.boxes
+  pub shrinks : HasShrinks a.me.number a.log.items a.shrinks
+  pub places : vec_len a.log + (index_map_len a.requests + stop_places a.stopped) ≤ vec_capacity a.log
+
+-- the state that the fields of a rank are seen as
+abbrev pub state_of : Inside → State
+state_of a = record { me = a.me.number; ranks = a.ranks; log = a.log.items; marks = map mark_of a.outboxes.boxes }
+
+-- there is room for a post or an arrival, for one more entry, and in each outbox
+abbrev pub is_prepared : Inside → Bool
+is_prepared a = a.matcher.prepared && (nat_lt (vec_len a.log + (index_map_len a.requests + stop_places a.stopped)) (vec_capacity a.log) && a.outboxes.room)
+
+-- what contracts see of the fields of a rank
+abbrev pub view_of : Inside → View
+view_of a = record { state = state_of a; prepared = is_prepared a }

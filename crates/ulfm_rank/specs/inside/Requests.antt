@@ -1,0 +1,81 @@
+-- What posts, letters and notices do to a tracked history and to the table of requests beside it.
+use Rattle.std.specs.Prelude.{◌≡◌, ℕ, Bool, true, false, List, [], ◌∷◌, ◌++◌, length, Option, Some, None, if◌then◌else◌, nat_eq, ◌==◌, ◌&&◌}
+use Rattle.std.specs.Option.{option_map}
+use Rattle.ulfm_base.specs.Pattern.{names}
+use Rattle.ulfm_base.specs.declared.envelope.Letter.{Letter}
+use Rattle.ulfm_base.specs.declared.item.Item.{Item}
+use Rattle.ulfm_base.specs.declared.item.Item.TheVariants.{Letter as Mail}
+use Rattle.ulfm_base.specs.declared.pattern.Pattern.{Pattern}
+use Rattle.ulfm_match.specs.History.{Event, Come, Clear, count_before}
+use Rattle.ulfm_match.specs.Pairing.{Pairing}
+use Rattle.ulfm_match.specs.State.{Matching, Tracks, IsUncleared}
+use Rattle.ulfm_rank.specs.declared.entry.Entry.{Entry}
+use Rattle.ulfm_rank.specs.declared.request.Fate.{Fate}
+use Rattle.ulfm_rank.specs.declared.request.Fate.TheVariants.{Waiting, Paired, Failed, Cleared}
+use Rattle.ulfm_rank.specs.declared.request.Request.{Request}
+use Rattle.ulfm_rank.specs.History.{post_events, item_events}
+use Rattle.ulfm_rank.specs.inside.Table.{IsOfGroup, IsTable}
+
+-- what becomes of a receive at its post
+abbrev pub fate_of : Option Letter → Bool → Fate
+fate_of (Some letter) gone = Paired letter
+fate_of None gone = if gone then Failed else Waiting
+
+-- the receive still waits
+abbrev pub is_waiting : Fate → Bool
+is_waiting Waiting = true
+is_waiting _ = false
+
+-- a receive that waits for a rank that failed is over
+abbrev pub over_named : ℕ → Request → Request
+over_named s request = if is_waiting request.fate && names request.pattern.source s then record { pattern = request.pattern; fate = Failed } else request
+
+-- a receive that waits on a revoked context is over
+abbrev pub over_context : ℕ → Request → Request
+over_context c request = if is_waiting request.fate && (request.pattern.context.number == c) then record { pattern = request.pattern; fate = Cleared } else request
+
+-- the table with one more request
+abbrev pub Adds : ℕ → Request → (ℕ → Option Request) → (ℕ → Option Request) → Type 0
+Adds id request find find' = (k : ℕ) → find' k ≡ (if nat_eq id k then Some request else find k)
+
+-- the table without the request of this number
+abbrev pub Removes : ℕ → (ℕ → Option Request) → (ℕ → Option Request) → Type 0
+Removes id find find' = (k : ℕ) → find' k ≡ (if nat_eq id k then None else find k)
+
+-- the request of this number has another fate
+abbrev pub changed : ℕ → Fate → ℕ → Request → Request
+changed id fate k request = if nat_eq id k then record { pattern = request.pattern; fate = fate } else request
+
+-- each request is changed
+abbrev pub Changes : (ℕ → Request → Request) → (ℕ → Option Request) → (ℕ → Option Request) → Type 0
+Changes change find find' = (k : ℕ) → find' k ≡ option_map (change k) (find k)
+
+-- a receive was posted
+abbrev pub TracksAdmit : Bool → Pattern → Matching → Fate → Matching → Type 0
+TracksAdmit gone pattern old fate new =
+    (history : List Event) (pairing : Pairing) → IsUncleared history pattern.context.number → Tracks history pairing old →
+    (pairing' : Pairing) × Tracks (history ++ post_events gone history pattern) pairing' new
+    × ((n : ℕ) (entries : List Entry) (find find' : ℕ → Option Request) → IsOfGroup n entries pattern → IsTable n entries history pairing find → Adds (count_before history (length history)) (record { pattern = pattern; fate = fate }) find find' →
+    IsTable n entries (history ++ post_events gone history pattern) pairing' find')
+
+-- a letter came
+abbrev pub TracksDelivery : Letter → Matching → (ℕ → Option Request) → Matching → (ℕ → Option Request) → Type 0
+TracksDelivery letter old find new find' =
+    (n : ℕ) (entries : List Entry) (history : List Event) (pairing : Pairing) → IsUncleared history letter.envelope.context.number → Tracks history pairing old → IsTable n entries history pairing find →
+    (pairing' : Pairing) × Tracks (history ++ Come letter ∷ []) pairing' new × IsTable n entries (history ++ Come letter ∷ []) pairing' find'
+
+-- the context c was revoked for the first time
+abbrev pub TracksRevocation : ℕ → Matching → (ℕ → Option Request) → Matching → (ℕ → Option Request) → Type 0
+TracksRevocation c old find new find' =
+    (n : ℕ) (entries : List Entry) (history : List Event) (pairing : Pairing) → Tracks history pairing old → IsTable n entries history pairing find →
+    Tracks (history ++ Clear c ∷ []) pairing new × IsTable n entries (history ++ Clear c ∷ []) pairing find'
+
+-- nothing of the context of a letter was cleared, unless it was revoked before
+abbrev pub IsUnclearedFor : Bool → List Event → Item → Type 0
+IsUnclearedFor revoked history item = (letter : Letter) → item ≡ Mail letter → revoked ≡ false → IsUncleared history letter.envelope.context.number
+
+-- an item was taken from the rank s
+abbrev pub TracksItem : Bool → ℕ → Item → Matching → (ℕ → Option Request) → Matching → (ℕ → Option Request) → Type 0
+TracksItem revoked s item old find new find' =
+    (n : ℕ) (entries : List Entry) (history : List Event) (pairing : Pairing) → IsUnclearedFor revoked history item → Tracks history pairing old → IsTable n entries history pairing find →
+    (pairing' : Pairing) × Tracks (history ++ item_events revoked history s item) pairing' new × IsTable n entries (history ++ item_events revoked history s item) pairing' find'

@@ -1,0 +1,79 @@
+-- The table of requests beside a log.
+use Rattle.std.specs.Prelude.{◌≡◌, ℕ, Bool, true, false, ⊤, ◌<◌, List, length, Option, Some, IsSome, if◌then◌else◌}
+use Rattle.ulfm_base.specs.declared.envelope.Letter.{Letter}
+use Rattle.ulfm_base.specs.declared.pattern.Pattern.{Pattern}
+use Rattle.ulfm_base.specs.declared.pattern.Source.{Source}
+use Rattle.ulfm_base.specs.declared.pattern.Source.TheVariants.{One, Any}
+use Rattle.ulfm_base.specs.declared.error.CallError.TheVariants.{ProcFailed, Revoked, Truncated}
+use Rattle.ulfm_base.specs.Group.{is_member, rank_in}
+use Rattle.ulfm_base.specs.RankSet.{has}
+use Rattle.ulfm_match.specs.History.{Event, PostAt, count_before}
+use Rattle.ulfm_match.specs.Pairing.{Pairing, IsWaiting}
+use Rattle.ulfm_match.specs.State.{Matching, Tracks}
+use Rattle.ulfm_rank.specs.declared.entry.Entry.{Entry}
+use Rattle.ulfm_rank.specs.declared.entry.TestAnswer.{TestAnswer}
+use Rattle.ulfm_rank.specs.declared.entry.TestAnswer.TheVariants.{Done, Over, Pending, NotYet}
+use Rattle.ulfm_rank.specs.declared.request.Fate.{Fate}
+use Rattle.ulfm_rank.specs.declared.request.Fate.TheVariants.{Waiting, Paired, Failed, Cleared}
+use Rattle.ulfm_rank.specs.declared.request.Request.{Request}
+use Rattle.ulfm_rank.specs.Answer.{Got, IsOver, IsReceived}
+use Rattle.ulfm_rank.specs.Communicators.{group_of}
+use Rattle.ulfm_rank.specs.Facts.{is_released}
+use Rattle.ulfm_rank.specs.History.{history_of}
+
+-- each rank of the source is a member
+abbrev pub IsSourceIn : List ℕ → Source → Type 0
+IsSourceIn group (One rank) = is_member group rank.number ≡ true
+IsSourceIn group (Any members) = (r : ℕ) → has members r ≡ true → is_member group r ≡ true
+
+-- the communicator was made, and its group has the sources
+pub record IsOfGroup (n : ℕ) (log : List Entry) (pattern : Pattern) : Type 0 where
+  pub group : List ℕ
+  pub made : group_of n log pattern.context.number ≡ Some group
+  pub source : IsSourceIn group pattern.source
+
+-- what became of the receive of this pattern at place i
+abbrev pub Became : List Event → Pairing → ℕ → Pattern → Fate → Type 0
+Became history pairing i pattern Waiting = IsWaiting history pairing i pattern (length history)
+Became history pairing i pattern (Paired letter) = Got history pairing i letter
+Became history pairing i pattern Failed = IsOver history pairing i pattern ProcFailed
+Became history pairing i pattern Cleared = IsOver history pairing i pattern Revoked
+
+-- the request of this number is a receive of the history, and its fate is what became of it
+pub record IsStanding (history : List Event) (pairing : Pairing) (id : ℕ) (request : Request) : Type 0 where
+  pub place : ℕ
+  pub posted : PostAt history place request.pattern
+  pub numbered : count_before history place ≡ id
+  pub fate : Became history pairing place request.pattern request.fate
+
+-- the table has the receives that aren't released; `find` looks a number up
+pub record IsTable (n : ℕ) (log : List Entry) (history : List Event) (pairing : Pairing) (find : ℕ → Option Request) : Type 0 where
+  pub standing : (id : ℕ) (request : Request) → find id ≡ Some request → IsStanding history pairing id request
+  pub of_group : (id : ℕ) (request : Request) → find id ≡ Some request → IsOfGroup n log request.pattern
+  pub unreleased : (id : ℕ) (request : Request) → find id ≡ Some request → is_released log id ≡ false
+  pub complete : (i : ℕ) (pattern : Pattern) → PostAt history i pattern → is_released log (count_before history i) ≡ false → (request : Request) × (find (count_before history i) ≡ Some request)
+  pub released_below : (id : ℕ) → is_released log id ≡ true → id < count_before history (length history)
+
+-- some lawful pairing of the log's history leaves what the matcher has, and the table is in step with it
+pub record IsInStep (n : ℕ) (log : List Entry) (matcher : Matching) (find : ℕ → Option Request) : Type 0 where
+  pub pairing : Pairing
+  pub tracks : Tracks (history_of log) pairing matcher
+  pub table : IsTable n log (history_of log) pairing find
+
+-- the letter with which a receive of this pattern is answered fits its room, or is too long
+abbrev pub IsDelivered : List ℕ → Pattern → Letter → TestAnswer → Type 0
+IsDelivered group pattern letter (Done status body) = IsReceived group pattern.room letter status body
+IsDelivered group pattern letter (Over reason) = (reason ≡ Truncated) × (pattern.room < length letter.body)
+IsDelivered group pattern letter _ = ⊥
+
+-- the answer for a request of this group and fate, which pends while it waits or doesn't
+abbrev pub GivesAnswer : List ℕ → Bool → Pattern → Fate → TestAnswer → Type 0
+GivesAnswer group pending pattern Waiting answer = answer ≡ (if pending then Pending else NotYet)
+GivesAnswer group pending pattern (Paired letter) answer = IsDelivered group pattern letter answer
+GivesAnswer group pending pattern Failed answer = answer ≡ Over ProcFailed
+GivesAnswer group pending pattern Cleared answer = answer ≡ Over Revoked
+
+-- the sender of the letter that a receive got is a member
+abbrev pub HasSender : List ℕ → Fate → Type 0
+HasSender group (Paired letter) = IsSome (rank_in group letter.envelope.source.number)
+HasSender group _ = ⊤

@@ -1,0 +1,9 @@
+use Rattle.std.proofs.Common.{◌≡◌, ◌<◌, ℕ, false}
+use Rattle.std.specs.List.{list_any}
+use Rattle.ulfm_base.specs.Lists.{at}
+use Rattle.ulfm_script.specs.Report.{Report}
+use Rattle.ulfm_laws.specs.Causes.{is_call_to_revoke}
+use Rattle.ulfm_run.proofs.caused.is_revoked_by_call.Given as goal
+
+abbrev pub invariant-loop-report : goal.invariant-loop-report
+invariant-loop-report l = (k : ℕ) (told : Report) → k < l.report-index → at l.reports k told → list_any (is_call_to_revoke l.context.number) told.rank.log ≡ false

@@ -1,0 +1,48 @@
+-- A rank and its end of a carrier, which go together.
+use Rattle.std.specs.Prelude.{◌≡◌, ℕ, List, [], ◌<◌, ◌≤◌, ◌+◌, length, All}
+use Rattle.ulfm_base.specs.declared.item.Item.{Item}
+use Rattle.ulfm_rank.specs.Facts.{took, is_stopped, IsSigned}
+use Rattle.ulfm_rank.specs.State.{State, IsState, went_out}
+use Rattle.ulfm_job.specs.Job.{Seen, script_at}
+use Rattle.ulfm_script.specs.Player.{View, with_rank}
+use Rattle.ulfm_script.specs.inside.Underway.{FollowsSoFar, polls_left}
+use Rattle.ulfm_script.specs.inside.SoFar.{OnlyTakes}
+use Rattle.ulfm_rank.specs.inside.Quiet.{Quiet}
+
+-- What left the outboxes of the rank is what its end pushed, and what its log took of each rank is what its end took, and of
+-- no other number it took anything.
+pub record IsJoined {E : Type 0} (place count : E → ℕ) (pushed taken : E → ℕ → List Item) (ready : E → Type 0) (r : State) (end : E) : Type 0 where
+  pub is_ready : ready end
+  pub placed : place end ≡ r.me
+  pub counted : count end ≡ r.ranks
+  pub sound : IsState r
+  pub signed : All (IsSigned r.me) r.log
+  pub sent : (d : ℕ) → d < r.ranks → pushed end d ≡ went_out r d
+  pub within : (s : ℕ) → r.ranks ≤ s → took r.log s ≡ []
+  pub took : (s : ℕ) → taken end s ≡ took r.log s
+
+-- Items went from a player to its end, or from the end to the player.
+pub record Moves {E N : Type 0} (name : E → N) (place count : E → ℕ) (pushed taken : E → ℕ → List Item) (ready : E → Type 0) (old : View) (before : E) (new : View) (after : E) : Type 0 where
+  pub same_end : name after ≡ name before
+  pub joined : IsJoined place count pushed taken ready new.player.rank after
+  pub me : new.player.rank.me ≡ old.player.rank.me
+  pub ranks : new.player.rank.ranks ≡ old.player.rank.ranks
+  pub stops : is_stopped new.player.rank.log ≡ is_stopped old.player.rank.log
+  pub only : new.player ≡ with_rank old.player new.player.rank
+  pub room : new.room ≡ old.room
+  pub takes : OnlyTakes old.player.rank.log new.player.rank.log
+
+-- One poll of the next step: nothing goes from or to the player, and fewer polls are left.
+pub record Polls (job : Seen) (me : ℕ) (old new : View) : Type 0 where
+  pub quiet : Quiet old.player.rank new.player.rank
+  pub follows : FollowsSoFar (script_at job me) job.turns new.player
+  pub room : new.room + length new.player.done ≡ old.room + length old.player.done
+  pub falls : polls_left (script_at job me) job.turns new.player < polls_left (script_at job me) job.turns old.player
+
+-- the rank `me` of a job on its way through its script, with its end
+pub record IsAtWork {E : Type 0} (place count : E → ℕ) (pushed taken : E → ℕ → List Item) (ready : E → Type 0) (job : Seen) (me : ℕ) (v : View) (end : E) : Type 0 where
+  pub joined : IsJoined place count pushed taken ready v.player.rank end
+  pub named : v.player.rank.me ≡ me
+  pub counted : v.player.rank.ranks ≡ job.ranks
+  pub follows : FollowsSoFar (script_at job me) job.turns v.player
+  pub room : length (script_at job me) ≤ v.room + length v.player.done

@@ -1,0 +1,3 @@
+-- What invariants, private functions and proofs cite of players.
+pub mod Underway
+pub mod SoFar

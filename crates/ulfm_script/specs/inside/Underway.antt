@@ -1,0 +1,36 @@
+-- A player on its way through its script.
+use Rattle.std.specs.Prelude.{◌≡◌, ℕ, true, false, List, ◌++◌, ◌+◌, ◌-◌, ◌*◌, ◌<◌, length, All, MatchOption, Some, None, slice_get, Bool, [], ◌∷◌, if◌then◌else◌, Option}
+use Rattle.ulfm_rank.specs.Facts.{is_stopped}
+use Rattle.ulfm_job.specs.declared.step.Step.{Step}
+use Rattle.ulfm_script.specs.Player.{Player}
+use Rattle.ulfm_job.specs.Job.{through_stop, is_stop_step}
+use Rattle.ulfm_script.specs.Script.{IsPatient, steps_done}
+use Rattle.ulfm_rank.specs.declared.entry.TestAnswer.{TestAnswer}
+use Rattle.ulfm_rank.specs.declared.entry.TestAnswer.TheVariants.{Done as TestDone, Over as TestOver, Pending as TestPending, NotYet as TestNotYet}
+use Rattle.ulfm_script.specs.declared.answer.StepAnswer.{StepAnswer}
+use Rattle.ulfm_script.specs.declared.answer.StepAnswer.TheVariants.{Done, Over, Pending}
+
+-- the polls that are left to a player
+abbrev pub polls_left : List Step → ℕ → Player → ℕ
+polls_left script turns p = (turns + 1) * (length script - length p.done) - p.polls
+
+-- whether a script has a stop
+abbrev pub has_stop : List Step → Bool
+has_stop [] = false
+has_stop (x ∷ xs) = if is_stop_step x then true else has_stop xs
+
+-- a player that goes through this script, with at most so many polls of a step
+pub record FollowsSoFar (script : List Step) (turns : ℕ) (p : Player) : Type 0 where
+  pub rest : List Step
+  pub split : steps_done p ++ rest ≡ script
+  pub patient : All (IsPatient turns) p.done
+  pub current : MatchOption p.current (p.polls ≡ 0) (λ asked. (slice_get script (length p.done) ≡ Some asked) × (p.polls < turns))
+  pub running : is_stopped p.rank.log ≡ false → has_stop (steps_done p) ≡ false
+  pub stopped : is_stopped p.rank.log ≡ true → (steps_done p ≡ through_stop script) × (p.current ≡ None)
+
+-- what a test's answer is for a wait: nothing where the receive still waits
+abbrev pub answer_of : TestAnswer → Option StepAnswer
+answer_of (TestDone status body) = Some (Done status body)
+answer_of (TestOver reason) = Some (Over reason)
+answer_of TestPending = Some Pending
+answer_of TestNotYet = None

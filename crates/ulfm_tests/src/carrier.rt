@@ -1,0 +1,6 @@
+//! Ends of both carriers.
+
+mod across;
+mod lane;
+mod pairs;
+mod shared;

@@ -1,0 +1,19 @@
+//! Tests of the libraries, by what they offer: each stands here and not beside its code, so that the gate proves a library once.
+#![tactic(auto)]
+
+#[cfg(test)]
+mod base;
+#[cfg(test)]
+mod board;
+#[cfg(test)]
+mod carrier;
+#[cfg(test)]
+mod explain;
+#[cfg(test)]
+mod fault;
+#[cfg(test)]
+mod matching;
+#[cfg(test)]
+mod run;
+#[cfg(test)]
+mod world;

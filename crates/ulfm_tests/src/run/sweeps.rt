@@ -1,0 +1,192 @@
+//! Stops put before each step of jobs of the gallery that recover, and what running ranks then know at rest.
+ghost use Rattle.std.specs.Prelude.{map};
+ghost use Rattle.ulfm_carrier.specs.Family.{AllFresh};
+
+use super::gallery::{
+    REVOKE_SHRINK_GO_ON, REVOKED_AND_SHRUNK, Recovery, SHRINK_AGAIN, SHRUNK_BUT_REVOKED,
+    STOPPED_AFTER_ENTERING,
+};
+use std::alloc::Global;
+use std::sync::Wait;
+use std::test::Fail;
+use std::thread::Threads;
+use ulfm_base::{Context, Item, RankSet, WorldRank};
+use ulfm_board::{Decider, seats};
+use ulfm_carrier::{Ends, lanes, shared};
+use ulfm_rank::Entry;
+use ulfm_run::{Report, at_rest, run_job};
+use ulfm_script::{Job, RankReport};
+
+/// Whether a rank took the notice of a stop.
+fn knows(told: &RankReport, stopped: WorldRank) -> bool {
+    told.log().iter().any(
+        |entry| matches!(entry, Entry::Took(source, Item::Gone) if *source == stopped),
+    )
+}
+
+/// The context that an entry of a log revokes, if it does: by the rank's own call, or by a revocation that it took.
+fn revoked_by(entry: &Entry) -> Option<Context> {
+    match entry {
+        Entry::Revoked(own) => Some(*own),
+        Entry::Took(_, Item::Revoke(taken)) => Some(*taken),
+        _ => None,
+    }
+}
+
+/// Whether a rank revoked a context, or took its revocation.
+fn has_revoked(told: &RankReport, context: Context) -> bool {
+    told.log().iter().any(|entry| match revoked_by(entry) {
+        Some(revoked) => revoked == context,
+        None => false,
+    })
+}
+
+/// The failures with which a member entered the shrink of the world, as this rank has it: its own entry, or the first word that
+/// it took of the member.
+fn listed(told: &RankReport, member: WorldRank) -> Option<RankSet> {
+    told.log().iter().find_map(|entry| match entry {
+        Entry::Entered(context, known) if *context == Context::WORLD && told.me() == member => {
+            Some(*known)
+        }
+        Entry::Took(source, Item::Enter { context, known })
+            if *context == Context::WORLD && *source == member && told.me() != member => {
+            Some(*known)
+        }
+        _ => None,
+    })
+}
+
+/// Whether a rank counts a member of the world as failed: it knows it, or a listed set has it.
+fn is_out(told: &RankReport, reports: &[RankReport], member: WorldRank) -> bool {
+    let listed_out = reports.iter().any(|other| match listed(told, other.me()) {
+        Some(known) => known.contains(member),
+        None => false,
+    });
+    listed_out || knows(told, member)
+}
+
+/// Whether a rank has a proposal for the shrink of the world.
+fn proposes(told: &RankReport, reports: &[RankReport]) -> bool {
+    reports.iter().all(|other| {
+        listed(told, other.me()).is_some() || is_out(told, reports, other.me())
+    })
+}
+
+/// Whether a running rank knows that another stopped, or, where that one runs, has revoked all that it revoked.
+fn agrees(told: &RankReport, other: &RankReport) -> bool {
+    if other.stopped() {
+        return knows(told, other.me());
+    }
+    other.log().iter().all(|entry| match revoked_by(entry) {
+        Some(context) => has_revoked(told, context),
+        None => true,
+    })
+}
+
+/// Whether the facts of rest hold of these reports, of shrinks that of the world alone.
+fn is_settled(reports: &[RankReport]) -> bool {
+    let all_entered = reports
+        .iter()
+        .all(|told| told.stopped() || listed(told, told.me()).is_some());
+    for told in reports {
+        if told.stopped() {
+            continue;
+        }
+        if !reports.iter().all(|other| agrees(told, other)) {
+            return false;
+        }
+        if all_entered && !proposes(told, reports) {
+            return false;
+        }
+    }
+    true
+}
+
+/// Whether a run came to rest, with its facts. An error is a run at rest without them.
+fn rested<E: Ends, D: Decider>(report: &Report<E, D>) -> Result<bool, Fail> {
+    if !at_rest(report) {
+        return Ok(false);
+    }
+    if !is_settled(report.ranks.as_slice()) {
+        return Err(Fail::from("a run at rest whose ranks don't know the same"));
+    }
+    Ok(true)
+}
+
+/// Whether the runs of a job, with a stop before each step of each rank and after its last one in turn, keep the facts of rest
+/// wherever they come to rest, and some come to rest over each carrier.
+fn settles<R>(rt: &R, alloc: Global, recovery: &Recovery) -> Result<bool, Fail>
+where
+    R: Threads + Wait + Sync,
+{
+    let mut rests_of_lanes = 0u32;
+    let mut rests_of_shared = 0u32;
+    for rank in 0..recovery.ranks {
+        for at in 0..=recovery.script_len(rank) {
+            let text = recovery.with_stop(alloc, rank, at)?;
+            let job = Job::read(alloc, text.as_bytes())?;
+            let ends = lanes(alloc, job.ranks(), job.capacity())?;
+            let report = run_job(rt, alloc, &job, ends, seats(alloc, job.ranks())?)?;
+            rests_of_lanes = rests_of_lanes.saturating_add(rested(&report)? as u32);
+            let ends = shared(alloc, job.ranks(), job.capacity())?;
+            let report = run_job(rt, alloc, &job, ends, seats(alloc, job.ranks())?)?;
+            rests_of_shared = rests_of_shared.saturating_add(rested(&report)? as u32);
+        }
+    }
+    Ok(rests_of_lanes > 0 && rests_of_shared > 0)
+}
+
+#[test]
+fn stops_in_revoke_shrink_go_on(rt: HostRuntime) -> Result<(), Fail> {
+    let recovery = Recovery {
+        ranks: 4,
+        capacity: 4,
+        steps: &REVOKE_SHRINK_GO_ON,
+    };
+    assert!(rt; settles(&rt, rt.alloc(), &recovery)?);
+    Ok(())
+}
+
+#[test]
+fn stops_in_revoked_and_shrunk(rt: HostRuntime) -> Result<(), Fail> {
+    let recovery = Recovery {
+        ranks: 3,
+        capacity: 1,
+        steps: &REVOKED_AND_SHRUNK,
+    };
+    assert!(rt; settles(&rt, rt.alloc(), &recovery)?);
+    Ok(())
+}
+
+#[test]
+fn stops_in_stopped_after_entering(rt: HostRuntime) -> Result<(), Fail> {
+    let recovery = Recovery {
+        ranks: 3,
+        capacity: 4,
+        steps: &STOPPED_AFTER_ENTERING,
+    };
+    assert!(rt; settles(&rt, rt.alloc(), &recovery)?);
+    Ok(())
+}
+
+#[test]
+fn stops_in_shrink_again(rt: HostRuntime) -> Result<(), Fail> {
+    let recovery = Recovery {
+        ranks: 4,
+        capacity: 4,
+        steps: &SHRINK_AGAIN,
+    };
+    assert!(rt; settles(&rt, rt.alloc(), &recovery)?);
+    Ok(())
+}
+
+#[test]
+fn stops_in_shrunk_but_revoked(rt: HostRuntime) -> Result<(), Fail> {
+    let recovery = Recovery {
+        ranks: 4,
+        capacity: 1,
+        steps: &SHRUNK_BUT_REVOKED,
+    };
+    assert!(rt; settles(&rt, rt.alloc(), &recovery)?);
+    Ok(())
+}

@@ -1,0 +1,195 @@
+//! Runs at rest and not at rest, and decisions that nobody proposed.
+ghost use Rattle.std.specs.Prelude.{◌≡◌, ◌++◌, ℕ, All, IfOk, OnErr, map, vec_len};
+ghost use Rattle.ulfm_board.specs.Known.{nothing_known, OneBoard};
+
+use std::alloc::Global;
+use std::sync::Wait;
+use std::test::Fail;
+use std::thread::Threads;
+use ulfm_base::{CallError, Decision, OutOfMemory, RankSet, WorldRank};
+use ulfm_board::{Decider, Seat, seats};
+use ulfm_carrier::lanes;
+use ulfm_run::{at_rest, run_job};
+use ulfm_script::{Job, RunFault};
+
+/// All that is sent is taken.
+const TAKEN: &str = r#"ranks = 2
+capacity = 4
+turns = 1000000
+step = [{rank = 0, op = "send", to = 1, tag = 5, body = "abc"}]
+"#;
+
+/// Rank 1 has one turn, and takes one letter of three.
+const LEFT: &str = r#"ranks = 2
+capacity = 1
+turns = 1
+step = [
+    {rank = 0, op = "send", to = 1, tag = 5, body = "a"},
+    {rank = 0, op = "send", to = 1, tag = 5, body = "b"},
+    {rank = 0, op = "send", to = 1, tag = 5, body = "c"},
+]
+"#;
+
+/// Rank 1 takes one letter of three at most, and stops.
+const LEFT_OF_THE_STOPPED: &str = r#"ranks = 2
+capacity = 1
+turns = 1000000
+step = [
+    {rank = 0, op = "send", to = 1, tag = 5, body = "a"},
+    {rank = 0, op = "send", to = 1, tag = 5, body = "b"},
+    {rank = 0, op = "send", to = 1, tag = 5, body = "c"},
+    {rank = 1, op = "stop"},
+]
+"#;
+
+/// A rank stops, and the others shrink.
+const SHRINK_OF_FOUR: &str = r#"ranks = 4
+capacity = 4
+turns = 1000000
+step = [
+    {rank = 0, op = "shrink"},
+    {rank = 1, op = "stop"},
+    {rank = 2, op = "shrink"},
+    {rank = 3, op = "shrink"},
+]
+"#;
+
+/// Whether a job of two ranks comes to rest over lanes.
+fn rests<R>(rt: &R, alloc: Global, text: &str) -> Result<bool, Fail>
+where
+    R: Threads + Wait + Sync,
+{
+    let job = Job::read(alloc, text.as_bytes())?;
+    let ends = lanes(alloc, 2, job.capacity())?;
+    let report = run_job(rt, alloc, &job, ends, seats(alloc, 2)?)?;
+    Ok(at_rest(&report))
+}
+
+#[test]
+fn what_waits_for_a_running_rank_disturbs_rest(rt: HostRuntime) -> Result<(), Fail> {
+    let alloc = rt.alloc();
+    assert!(rt; rests(&rt, alloc, TAKEN)?);
+    assert!(rt; !rests(&rt, alloc, LEFT)?);
+    assert!(rt; rests(&rt, alloc, LEFT_OF_THE_STOPPED)?);
+    Ok(())
+}
+
+/// What a decision says though it isn't so.
+#[derive(Clone, Copy)]
+enum Invention {
+    /// That rank 3 stopped.
+    Stop,
+    /// That rank 1 entered the shrink, with no failures known to it.
+    Entry,
+}
+
+/// A seat that hands in, for each decision, one with an invention.
+#[derive(Drop)]
+struct Inventor {
+    seat: Seat,
+    invention: Invention,
+}
+
+/// The decision, where rank 3 is a member with rank 3 excluded.
+#[tactic(auto, using(crate::proofs::Invented::also_excluded))]
+fn with_stop(decision: &Decision) -> Decision
+    ensures { result.context ≡ decision.now.context }
+{
+    let last = WorldRank { number: 3 };
+    if !decision.old.contains(last) {
+        return decision.copied();
+    }
+    let mut excluded = decision.excluded;
+    excluded.insert(last);
+    let fresh = decision.old.excluding(excluded);
+    Decision {
+        context: decision.context,
+        old: decision.old.copied(),
+        entries: decision.entries,
+        excluded,
+        fresh,
+    }
+}
+
+/// The decision, where rank 1 is a member with rank 1 listed.
+#[tactic(auto, using(crate::proofs::Invented::also_listed))]
+fn with_entry(decision: &Decision) -> Decision
+    ensures { result.context ≡ decision.now.context }
+{
+    if !decision.old.contains(WorldRank { number: 1 }) {
+        return decision.copied();
+    }
+    let mut entries = decision.entries;
+    entries[1] = Some(RankSet::new());
+    Decision {
+        context: decision.context,
+        old: decision.old.copied(),
+        entries,
+        excluded: decision.excluded,
+        fresh: decision.fresh.copied(),
+    }
+}
+
+/// The decision with an invention.
+fn invented(decision: &Decision, invention: Invention) -> Decision
+    ensures { result.context ≡ decision.now.context }
+{
+    match invention {
+        Invention::Stop => with_stop(decision),
+        Invention::Entry => with_entry(decision),
+    }
+}
+
+impl Decider for Inventor {
+    ghost board = { λ i. ⟦<Seat as Decider>⟧.board i.seat };
+
+    ghost known = { λ i. ⟦<Seat as Decider>⟧.known i.seat };
+
+    fn decide(&mut self, decision: Decision) -> Result<Decision, OutOfMemory> {
+        self.seat.decide(invented(&decision, self.invention))
+    }
+
+    fn same(&mut self, other: &mut Inventor) {
+        self.seat.same(&mut other.seat);
+    }
+}
+
+/// Four inventors on one board.
+fn inventors(alloc: Global, invention: Invention) -> Result<Vec<Inventor>, CallError>
+    ensures one_board { IfOk result (λ all. OneBoard ⟦<Inventor as Decider>⟧.board all.items) }
+    ensures nothing_known { IfOk result (λ all. All (λ i. ⟦<Inventor as Decider>⟧.known i ≡ nothing_known) all.items) }
+{
+    let mut all = Vec::new(alloc);
+    for seat in seats(alloc, 4)? {
+        all.push(Inventor { seat, invention })?;
+    }
+    Ok(all)
+}
+
+/// How many reports show that an invention was adopted over lanes, 0 where none do.
+fn caught<R>(rt: &R, alloc: Global, invention: Invention) -> Result<usize, Fail>
+where
+    R: Threads + Wait + Sync,
+{
+    let job = Job::read(alloc, SHRINK_OF_FOUR.as_bytes())?;
+    let ends = lanes(alloc, 4, job.capacity())?;
+    let deciders = inventors(alloc, invention)?;
+    match run_job(rt, alloc, &job, ends, deciders) {
+        Err(RunFault::Untrue(reports)) => Ok(reports.len()),
+        _ => Ok(0),
+    }
+}
+
+#[test]
+fn an_invented_stop_is_caught(rt: HostRuntime) -> Result<(), Fail> {
+    let alloc = rt.alloc();
+    assert_eq!(rt; caught(&rt, alloc, Invention::Stop)?, 4);
+    Ok(())
+}
+
+#[test]
+fn an_invented_entry_is_caught(rt: HostRuntime) -> Result<(), Fail> {
+    let alloc = rt.alloc();
+    assert_eq!(rt; caught(&rt, alloc, Invention::Entry)?, 4);
+    Ok(())
+}

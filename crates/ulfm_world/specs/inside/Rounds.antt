@@ -1,0 +1,95 @@
+-- A replay on its way: where its rounds stand, and what falls with each event.
+use Rattle.std.specs.Prelude.{◌≡◌, ℕ, zero, suc, Bool, true, false, List, [], ◌+◌, ◌*◌, ◌<◌, ◌≤◌, ◌⊎◌, length, Option, Some, None, slice_index_or, if◌then◌else◌}
+use Rattle.ulfm_rank.specs.Facts.{is_revoked}
+use Rattle.ulfm_rank.specs.State.{State, outbox}
+use Rattle.ulfm_job.specs.declared.step.Step.{Step}
+use Rattle.ulfm_script.specs.Player.{Player}
+use Rattle.ulfm_script.specs.inside.Underway.{FollowsSoFar, polls_left}
+use Rattle.ulfm_job.specs.Job.{Seen, script_at}
+use Rattle.ulfm_world.specs.World.{World, player_at, rank_at, inbox_at, IsRunning, Reaches, start_world}
+use Rattle.ulfm_base.specs.declared.decision.Decision.{Decision}
+use Rattle.ulfm_board.specs.Known.{known_at}
+use Rattle.ulfm_script.specs.Deciding.{Known}
+use Rattle.ulfm_script.specs.inside.SoFar.{AnswersFollowSoFar}
+
+-- each player goes through its script
+abbrev pub Follows : Seen → World → Type 0
+Follows j w = (r : ℕ) → r < length w.players → FollowsSoFar (script_at j r) j.turns (player_at w r)
+
+-- f 0 + f 1 + .., below n
+abbrev pub sum_below : ℕ → (ℕ → ℕ) → ℕ
+sum_below zero f = 0
+sum_below (suc n) f = sum_below n f + f n
+
+-- what n outboxes of a rank hold
+abbrev pub out_at : ℕ → State → ℕ
+out_at n r = sum_below n (λ d. 2 * length (outbox r d))
+
+-- what the first revocation of a context may still send
+abbrev pub fresh_at : State → ℕ → ℕ
+fresh_at r c = if is_revoked r.log c then 0 else 17
+
+-- what the first revocations of all contexts may still send
+unfoldable pub fresh_of : State → ℕ
+fresh_of r = sum_below 63 (fresh_at r)
+
+-- what falls with each event: of a player
+abbrev pub weight_of : List Step → ℕ → ℕ → Player → ℕ
+weight_of script turns n p = 17 * polls_left script turns p + (out_at n p.rank + fresh_of p.rank)
+
+-- what falls with each event, of the player r
+abbrev pub weight_at : Seen → World → ℕ → ℕ
+weight_at j w r = weight_of (script_at j r) j.turns (length w.players) (player_at w r)
+
+-- what an inbox holds
+abbrev pub inbox_weight : World → ℕ → ℕ
+inbox_weight w d = length (inbox_at w d)
+
+-- and of a world
+abbrev pub measure : Seen → World → ℕ
+measure j w = sum_below (length w.players) (weight_at j w) + sum_below (length w.players) (inbox_weight w)
+
+-- what is known for the rank r
+abbrev pub known_for : List Known → ℕ → Known
+known_for knows r = slice_index_or knows r []
+
+-- Each player's answers are right so far, where a decision is one that is known for its rank, and held.
+pub record AllAnswersFollowSoFar (w : World) : Type 0 where
+  pub knows : List Known
+  pub many : length knows ≡ length w.players
+  pub sized : (r : ℕ) → r < length w.players → length (known_for knows r) ≡ length w.decided
+  pub held : (r c : ℕ) (d : Decision) → r < length w.players → known_at (known_for knows r) c ≡ Some d → known_at w.decided c ≡ Some d
+  pub honest : (r : ℕ) → r < length w.players → AnswersFollowSoFar (known_for knows r) (player_at w r)
+
+-- from old to new, where something moved or nothing did
+pub record Moves (j : Seen) (old new : World) (moved : Bool) : Type 0 where
+  pub reaches : Reaches old new
+  pub size : length new.players ≡ length old.players
+  pub capacity : new.capacity ≡ old.capacity
+  pub follows : Follows j old → Follows j new
+  pub answers : Follows j old → AllAnswersFollowSoFar old → AllAnswersFollowSoFar new
+  pub falls : moved ≡ true → Follows j old → measure j new < measure j old
+  pub stays : moved ≡ false → new ≡ old
+
+-- nothing of s can go to d
+abbrev pub IsPushStuck : World → ℕ → ℕ → Type 0
+IsPushStuck w s d = (outbox (rank_at w s) d ≡ []) ⊎ (w.capacity ≤ length (inbox_at w d))
+
+-- nothing of r can go to the rank d; with none, r can take nothing
+abbrev pub IsStuckAt : World → ℕ → Option ℕ → Type 0
+IsStuckAt w r (Some d) = IsPushStuck w r d
+IsStuckAt w r None = IsRunning w r → inbox_at w r ≡ []
+
+-- the player r can do nothing
+pub record IsStuck (j : Seen) (w : World) (r : ℕ) : Type 0 where
+  pub pushes : (d : ℕ) → d < length w.players → IsPushStuck w r d
+  pub takes : IsRunning w r → inbox_at w r ≡ []
+  pub polls : IsRunning w r → length (script_at j r) ≤ length (player_at w r).done
+
+-- a world on the way of a replay
+pub record IsUnderway (j : Seen) (w : World) : Type 0 where
+  pub reaches : Reaches (start_world j.ranks j.capacity) w
+  pub size : length w.players ≡ j.ranks
+  pub capacity : w.capacity ≡ j.capacity
+  pub follows : Follows j w
+  pub answers : AllAnswersFollowSoFar w
