@@ -1,18 +1,24 @@
 -- What is written for a job, and for one that is refused.
-use Rattle.std.specs.Prelude.{◌≡◌, ℕ, List, ◌++◌, take, Option, Ok, Err, codes}
+use Rattle.std.specs.Prelude.{◌≡◌, ◌≢◌, ℕ, Bool, List, ◌++◌, length, map, take, Option, Some, None, Ok, Err, All, codes}
+use Rattle.std.specs.List.{list_any}
+use Rattle.std.specs.Option.{option_map_or}
 use Rattle.std.specs.Fmt.{decimal}
 use Rattle.std.specs.Io.KnownBytes.{Appends}
 use Rattle.ulfm_job.specs.declared.fault.Fault.{Fault}
 use Rattle.ulfm_job.specs.declared.fault.Fault.TheVariants.{BadKey, UnknownKey, OutOfRange, UnknownOp}
 use Rattle.ulfm_job.specs.declared.fault.JobFault.{JobFault}
 use Rattle.ulfm_job.specs.declared.fault.JobFault.TheVariants.{NotToml, InJob, InStep, TooLarge, OutOfMemory}
-use Rattle.ulfm_job.specs.Job.{Seen, step_count}
+use Rattle.ulfm_job.specs.Job.{Seen, step_count, with_turns}
 use Rattle.ulfm_job.specs.Plan.{plan_of}
 use Rattle.ulfm_job.specs.JobText.{job_of_bytes}
 use Rattle.ulfm_script.specs.Report.{Report}
 use Rattle.ulfm_script.specs.Trace.{trace_of}
 use Rattle.ulfm_laws.specs.Lawful.{IsLawful}
+use Rattle.ulfm_run.specs.Fault.{ShowUntrue}
 use Rattle.ulfm_world.specs.Replay.{IsReplayed, MadeAtRest}
+use Rattle.ulfm.specs.Tally.{tally, tally_text}
+use Rattle.ulfm.specs.Unfinished.{has_unfinished, played_status}
+use Rattle.ulfm.specs.declared.command.RunOptions.{RunOptions}
 use Rattle.ulfm.specs.declared.command.Wanted.{Wanted}
 use Rattle.ulfm.specs.declared.command.Wanted.TheVariants.{Check, Replay, Run}
 use Rattle.ulfm.specs.declared.run.Failure.{Failure}
@@ -52,7 +58,7 @@ abbrev pub out_of_memory_text : List ℕ
 out_of_memory_text = failed_text run.OutOfMemory
 
 -- The status and the text that `check` gives for these bytes: the line of their job with 0, of its refusal with 1,
--- which may be J7, or of want of memory with 3.
+-- which may be J7, or with 3 the line that memory ran out.
 pub data IsCheckReply (bytes : List ℕ) : ℕ → List ℕ → Type 0 where
   good : (job : Seen) → job_of_bytes bytes ≡ Ok (plan_of job) → IsCheckReply bytes 0 (good_line job.ranks (step_count job.scripts))
   refused : (f : JobFault) → job_of_bytes bytes ≡ Err f → IsCheckReply bytes 1 (refused_text f)
@@ -60,28 +66,47 @@ pub data IsCheckReply (bytes : List ℕ) : ℕ → List ℕ → Type 0 where
   starved : IsCheckReply bytes 3 out_of_memory_text
 
 -- The same for `replay`: with 0 the trace of the reports of a replay of the job, which are lawful for it, and whose running
--- ranks agree at its end on what failed and was revoked, and on each shrink.
-pub data IsReplayReply (bytes : List ℕ) : ℕ → List ℕ → Type 0 where
+-- ranks agree at its end on what failed and was revoked, and on each shrink. With `--strict` it comes with 6 exactly where a
+-- step was left unfinished.
+pub data IsReplayReply (is_strict : Bool) (bytes : List ℕ) : ℕ → List ℕ → Type 0 where
   traced : (job : Seen) (reports : List Report) → job_of_bytes bytes ≡ Ok (plan_of job) → IsReplayed job reports
-      → IsLawful job reports → MadeAtRest job reports → IsReplayReply bytes 0 (trace_of reports)
-  not_a_job : (f : JobFault) → job_of_bytes bytes ≡ Err f → IsReplayReply bytes 1 (refused_text f)
-  no_room : IsReplayReply bytes 1 (refused_text OutOfMemory)
-  failed : IsReplayReply bytes 3 out_of_memory_text
+      → IsLawful job reports → MadeAtRest job reports
+      → IsReplayReply is_strict bytes (played_status is_strict (has_unfinished reports)) (trace_of reports)
+  not_a_job : (f : JobFault) → job_of_bytes bytes ≡ Err f → IsReplayReply is_strict bytes 1 (refused_text f)
+  no_room : IsReplayReply is_strict bytes 1 (refused_text OutOfMemory)
+  failed : IsReplayReply is_strict bytes 3 out_of_memory_text
 
--- The same for `run`: with 0 the trace of reports that are lawful for the job, whichever thread went when; with 3 the line of
--- what failed.
-pub data IsRunReply (bytes : List ℕ) : ℕ → List ℕ → Type 0 where
-  ran : (job : Seen) (reports : List Report) → job_of_bytes bytes ≡ Ok (plan_of job) → IsLawful job reports
-      → IsRunReply bytes 0 (trace_of reports)
-  no_such_job : (f : JobFault) → job_of_bytes bytes ≡ Err f → IsRunReply bytes 1 (refused_text f)
-  no_place : IsRunReply bytes 1 (refused_text OutOfMemory)
-  fell : (f : Failure) → IsRunReply bytes 3 (failed_text f)
+-- the job that the options of `run` make of one: with their number of turns, where they have one
+abbrev pub with_options : RunOptions → Seen → Seen
+with_options options job = option_map_or (λ turns. with_turns turns job) options.turns job
+
+-- The same for `run`: with 0, or 6, the trace of reports that are lawful for the job, whichever thread went when; with 3 the
+-- line of what failed. F2 comes for a good job alone, and F4 only with reports of the job's ranks that
+-- show it. With `--repeat` each distinct trace of so many runs, each lawful, comes once with its count.
+pub data IsRunReply (options : RunOptions) (bytes : List ℕ) : ℕ → List ℕ → Type 0 where
+  ran : (job : Seen) (reports : List Report) → options.repeat ≡ None → job_of_bytes bytes ≡ Ok (plan_of job)
+      → IsLawful (with_options options job) reports
+      → IsRunReply options bytes (played_status options.is_strict (has_unfinished reports)) (trace_of reports)
+  repeated : (job : Seen) (runs : List (List Report)) → options.repeat ≡ Some (length runs) → job_of_bytes bytes ≡ Ok (plan_of job)
+      → All (IsLawful (with_options options job)) runs
+      → IsRunReply options bytes (played_status options.is_strict (list_any has_unfinished runs)) (tally_text (length runs) (tally (map trace_of runs)))
+  no_such_job : (f : JobFault) → job_of_bytes bytes ≡ Err f → IsRunReply options bytes 1 (refused_text f)
+  no_place : IsRunReply options bytes 1 (refused_text OutOfMemory)
+  no_thread : (job : Seen) → job_of_bytes bytes ≡ Ok (plan_of job) → IsRunReply options bytes 3 (failed_text run.NoThread)
+  untrue : (job : Seen) (reports : List Report) → job_of_bytes bytes ≡ Ok (plan_of job)
+      → ShowUntrue (with_options options job) reports
+      → IsRunReply options bytes 3 (failed_text run.Untrue)
+  fell : IsRunReply options bytes 3 out_of_memory_text
 
 -- the reply to what the words ask for
 abbrev pub IsReplyTo : Wanted → List ℕ → ℕ → List ℕ → Type 0
 IsReplyTo Check bytes status text = IsCheckReply bytes status text
-IsReplyTo Replay bytes status text = IsReplayReply bytes status text
-IsReplyTo (Run carrier) bytes status text = IsRunReply bytes status text
+IsReplyTo (Replay is_strict) bytes status text = IsReplayReply is_strict bytes status text
+IsReplyTo (Run options) bytes status text = IsRunReply options bytes status text
+
+-- the status of a reply that was written whole: the output didn't fail, and neither did the input
+abbrev pub IsWhole : ℕ → Type 0
+IsWhole status = (status ≢ 4) × (status ≢ 5)
 
 -- the writer got a text that is the reply to the bytes
 abbrev pub GetsReply : (ℕ → List ℕ → Type 0) → Option (List ℕ) → Option (List ℕ) → ℕ → Type 0

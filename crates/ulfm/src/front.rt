@@ -1,11 +1,11 @@
 //! From words and bytes to a status and bytes.
-ghost use Rattle.std.specs.Prelude.{◌≢◌, ◌≡◌, ◌≤◌, [], false, map, take, IfOk, IfSome, IsTrue, string_bytes};
+ghost use Rattle.std.specs.Prelude.{◌≢◌, ◌≡◌, ◌≤◌, ◌⊎◌, [], false, map, take, IfOk, IfSome, IsTrue, string_bytes};
 ghost use Rattle.std.specs.Io.KnownBytes.{Keeps, Appends};
 ghost use Rattle.clap.specs.Words.{kind_of};
 ghost use Rattle.ulfm.specs.declared.command.Wanted.{Wanted};
-ghost use Rattle.ulfm.specs.Replies.{IsReplyTo, GetsReply, GetsBeginning, GetsFront, out_of_memory_text};
+ghost use Rattle.ulfm.specs.Replies.{IsReplyTo, IsWhole, GetsReply, GetsBeginning, GetsFront, out_of_memory_text};
 ghost use Rattle.ulfm.specs.inside.Writing.{GetsFrontOf, not_text};
-ghost use Rattle.ulfm.specs.Words.{AsksFor, faults, status_of, IsWordsStatus};
+ghost use Rattle.ulfm.specs.Words.{AsksFor, HasRanges, faults, status_of, IsWordsStatus};
 
 use crate::command::{Wanted, wanted_of};
 use crate::notes::write_notes;
@@ -38,7 +38,7 @@ where
     R: Read,
     W: Write,
     E: Write,
-    ensures replies { (wanted : Wanted) → AsksFor wanted (map S.text words.now) → result ≤ 3 → IfSome (R.remaining input.old) (λ bytes.
+    ensures replies { (wanted : Wanted) → AsksFor wanted (map S.text words.now) → IsWhole result → IfSome (R.remaining input.old) (λ bytes.
         GetsReply (IsReplyTo wanted (take 1048577 bytes)) (W.contents output.old) (W.contents output.new) result) }
     ensures cut_off { (wanted : Wanted) → AsksFor wanted (map S.text words.now) → result ≡ 4 → IfSome (R.remaining input.old) (λ bytes.
         GetsBeginning (IsReplyTo wanted (take 1048577 bytes)) (W.contents output.old) (W.contents output.new)) }
@@ -46,7 +46,7 @@ where
     ensures input_failed { result ≡ 5 → Keeps (W.contents output.old) (W.contents output.new) }
     ensures words_first { result ≡ 2 → R.remaining input.new ≡ R.remaining input.old }
     ensures not_followed { faults (map S.text words.now) ≢ [] → (R.remaining input.new ≡ R.remaining input.old) × IsWordsStatus (faults (map S.text words.now)) result }
-    ensures known { result ≤ 5 }
+    ensures known { result ≤ 6 }
 {
     match wanted_of(alloc, words) {
         Ok(wanted) => follow(rt, alloc, wanted, input, output, errors),
@@ -64,8 +64,8 @@ where
 
 /// The reply where the words can't be had: they find no memory, or aren't UTF-8. Answers the status.
 pub fn without_words<W: Write>(is_starved: bool, output: &mut W) -> u8
-    ensures starved { IsTrue is_starved → result ≤ 3 → (result ≡ 3) × Appends (W.contents output.old) (W.contents output.new) out_of_memory_text }
-    ensures not_text { is_starved ≡ false → result ≤ 3 → (result ≡ 2) × Appends (W.contents output.old) (W.contents output.new) not_text }
+    ensures starved { IsTrue is_starved → result ≢ 4 → (result ≡ 3) × Appends (W.contents output.old) (W.contents output.new) out_of_memory_text }
+    ensures not_text { is_starved ≡ false → result ≢ 4 → (result ≡ 2) × Appends (W.contents output.old) (W.contents output.new) not_text }
     ensures known { result ≤ 4 }
 {
     if is_starved {
@@ -88,14 +88,15 @@ where
     R: Read,
     W: Write,
     E: Write,
-    ensures replies { result ≤ 3 → IfSome (R.remaining input.old) (λ bytes.
+    requires { HasRanges wanted }
+    ensures replies { IsWhole result → IfSome (R.remaining input.old) (λ bytes.
         GetsReply (IsReplyTo wanted (take 1048577 bytes)) (W.contents output.old) (W.contents output.new) result) }
     ensures cut_off { result ≡ 4 → IfSome (R.remaining input.old) (λ bytes.
         GetsBeginning (IsReplyTo wanted (take 1048577 bytes)) (W.contents output.old) (W.contents output.new)) }
     ensures output_failed { result ≡ 4 → GetsFront (W.contents output.old) (W.contents output.new) }
     ensures input_failed { result ≡ 5 → Keeps (W.contents output.old) (W.contents output.new) }
     ensures no_usage { result ≢ 2 }
-    ensures known { result ≤ 5 }
+    ensures known { result ≤ 6 }
 {
     let bytes = match read_front(alloc, input) {
         Ok(bytes) => bytes,
@@ -123,10 +124,10 @@ fn usage_of(alloc: Global, error: &Error) -> Result<Reply, AllocError>
 
 /// Writes a text, and answers the status of what it says, or of output that failed.
 fn write_reply<W: Write>(output: &mut W, status: u8, text: &[u8]) -> u8
-    requires { status ≤ 3 }
-    ensures written { result ≤ 3 → (result ≡ status) × Appends (W.contents output.old) (W.contents output.new) text.now }
+    requires { IsWhole status }
+    ensures written { result ≢ 4 → (result ≡ status) × Appends (W.contents output.old) (W.contents output.new) text.now }
     ensures failed { result ≡ 4 → GetsFrontOf (W.contents output.old) (W.contents output.new) text.now }
-    ensures known { result ≤ 4 }
+    ensures known { (result ≡ status) ⊎ (result ≡ 4) }
 {
     if write_whole(output, text) {
         status

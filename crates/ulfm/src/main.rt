@@ -4,9 +4,12 @@
 mod command;
 mod front;
 mod notes;
+mod number;
 mod reply;
 mod run;
 mod stream;
+mod tally;
+mod trace;
 
 use std::env;
 use std::io::ErrorKind;

@@ -1,14 +1,14 @@
 //! What standard error says beside a reply: for people, and none of it is promised.
 
 use crate::command::Wanted;
-use crate::reply::{DONE, JOB_REFUSED, Reply};
+use crate::reply::{DONE, JOB_REFUSED, Reply, UNFINISHED};
 use crate::stream::write_whole;
 use std::alloc::{AllocError, Global};
 use std::io::Write;
 use ulfm_explain::{Explanation, explain, warnings};
 
 /// How the line of an unfinished step ends.
-const UNFINISHED: &str = ": unfinished";
+const END_OF_UNFINISHED: &str = ": unfinished";
 
 /// Says what a reply to these bytes doesn't. Where it can't be said, nothing is.
 pub fn write_notes<E: Write>(
@@ -33,7 +33,7 @@ fn notes_on(
     match (reply.status, wanted) {
         (JOB_REFUSED, _) => lines_of(alloc, "", &explain(alloc, bytes)?),
         (DONE, Wanted::Check) => lines_of(alloc, "warning: ", &warnings(alloc, bytes)?),
-        (DONE, _) => hangs_in(alloc, reply.text.as_str()),
+        (DONE | UNFINISHED, _) => hangs_in(alloc, reply.text.as_str()),
         _ => Ok(String::new(alloc)),
     }
 }
@@ -47,32 +47,28 @@ fn lines_of(alloc: Global, word: &str, found: &[Explanation]) -> Result<String, 
     Ok(notes)
 }
 
-/// How many steps of a trace are unfinished, and which.
-fn hangs_in(alloc: Global, trace: &str) -> Result<String, AllocError> {
-    let mut notes = String::new(alloc);
-    let count = trace
-        .lines()
-        .filter(|line| line.ends_with(UNFINISHED))
-        .count();
-    if count == 0 {
-        return Ok(notes);
-    }
-    write!(notes, "unfinished steps, where MPI would hang: {count}\n")?;
-    for line in trace.lines() {
-        if let Some(step) = line.strip_suffix(UNFINISHED) {
-            push_step(&mut notes, step)?;
+/// How many steps of the traces in a text are unfinished, and which, each once.
+fn hangs_in(alloc: Global, text: &str) -> Result<String, AllocError> {
+    let mut steps = String::new(alloc);
+    let mut count = 0_usize;
+    for line in text.lines() {
+        if let Some(step) = line.strip_suffix(END_OF_UNFINISHED) {
+            let note = note_on(alloc, step)?;
+            if !steps.contains(note.as_str()) {
+                steps.push_str(note.as_str())?;
+                count = count.saturating_add(1);
+            }
         }
     }
-    Ok(notes)
+    if count == 0 {
+        return Ok(steps);
+    }
+    format!(in alloc; "unfinished steps, where MPI would hang: {count}\n{steps}")
 }
 
-/// The rank, the number and the words of a step, by the beginning of its line in a trace.
-fn push_step(notes: &mut String, line: &str) -> Result<(), AllocError> {
-    let Some((rank, rest)) = line.split_once(' ') else {
-        return Ok(());
-    };
-    match rest.split_once(' ') {
-        Some((number, words)) => write!(notes, "rank {rank} step {number}: {words}\n"),
-        None => Ok(()),
-    }
+/// The line on a step, by the beginning of its line in a trace: its rank, its number and its words.
+fn note_on(alloc: Global, line: &str) -> Result<String, AllocError> {
+    let (rank, rest) = line.split_once(' ').unwrap_or((line, ""));
+    let (number, words) = rest.split_once(' ').unwrap_or((rest, ""));
+    format!(in alloc; "rank {rank} step {number}: {words}\n")
 }

@@ -1,14 +1,16 @@
 //! The reply to a job's bytes.
 ghost use Rattle.std.specs.Prelude.{◌≡◌, Some, IfOk, string_bytes};
 ghost use Rattle.ulfm.specs.Replies.{fault_text, job_fault_text, refused_text, good_line, IsCheckReply, IsReplayReply, IsReplyTo};
+ghost use Rattle.ulfm.specs.Words.{HasRanges};
 
 use crate::command::Wanted;
 use crate::run::run_reply;
+use crate::trace::trace_reply;
 use std::alloc::{AllocError, Global};
 use std::fmt;
 use std::sync::Wait;
 use std::thread::Threads;
-use ulfm_script::{Fault, Job, JobFault, trace_text};
+use ulfm_script::{Fault, Job, JobFault};
 use ulfm_world::replay;
 
 /// The statuses (docs/JOBS.md).
@@ -28,6 +30,9 @@ pub const OUTPUT_FAILED: u8 = 4;
 
 /// The input could not be read, and nothing was written.
 pub const INPUT_FAILED: u8 = 5;
+
+/// What was played to its end left a step unfinished, and the words ask for this status then.
+pub const UNFINISHED: u8 = 6;
 
 /// A status, and the text that is written with it.
 #[derive(Drop)]
@@ -105,18 +110,15 @@ fn check_reply(alloc: Global, bytes: &[u8]) -> Result<Reply, AllocError>
 }
 
 /// The reply of `replay`.
-fn replay_reply(alloc: Global, bytes: &[u8]) -> Result<Reply, AllocError>
-    ensures { IfOk result (λ r. IsReplayReply bytes.now r.status (string_bytes r.text)) }
+fn replay_reply(alloc: Global, is_strict: bool, bytes: &[u8]) -> Result<Reply, AllocError>
+    ensures { IfOk result (λ r. IsReplayReply is_strict bytes.now r.status (string_bytes r.text)) }
 {
     let job = match Job::read(alloc, bytes) {
         Ok(job) => job,
         Err(fault) => return refusal(alloc, fault),
     };
     match replay(alloc, &job) {
-        Ok(reports) => {
-            let text = trace_text(alloc, reports.as_slice())?;
-            Ok(Reply { status: DONE, text })
-        }
+        Ok(reports) => trace_reply(alloc, is_strict, reports.as_slice()),
         Err(_) => Err(AllocError),
     }
 }
@@ -128,11 +130,12 @@ pub fn reply_to<R: Threads + Wait + Sync>(
     wanted: Wanted,
     bytes: &[u8],
 ) -> Result<Reply, AllocError>
+    requires { HasRanges wanted }
     ensures { IfOk result (λ r. IsReplyTo wanted bytes.now r.status (string_bytes r.text)) }
 {
     match wanted {
         Wanted::Check => check_reply(alloc, bytes),
-        Wanted::Replay => replay_reply(alloc, bytes),
-        Wanted::Run(carrier) => run_reply(rt, alloc, carrier, bytes),
+        Wanted::Replay { is_strict } => replay_reply(alloc, is_strict, bytes),
+        Wanted::Run(options) => run_reply(rt, alloc, options, bytes),
     }
 }

@@ -6,12 +6,15 @@ ghost use Rattle.ulfm_carrier.specs.Family.{AllFresh};
 ghost use Rattle.ulfm_base.specs.Lists.{InPlace, at};
 ghost use Rattle.ulfm_carrier.specs.Lanes.{known_room, lane_name, lane_pushed, lane_taken, IsReady as IsReadyLane, OneCall as OneWiring};
 ghost use Rattle.ulfm_carrier.specs.Shared.{inbox_capacity, shared_name, shared_pushed, shared_taken, IsReady as IsReadyShared, OneCall as OneSeating};
-ghost use Rattle.ulfm.specs.Replies.{failed_text, IsRunReply};
-ghost use Rattle.ulfm.specs.inside.Writing.{failure_of};
+ghost use Rattle.ulfm.specs.Replies.{failed_text, with_options, IsRunReply};
+ghost use Rattle.ulfm.specs.Words.{AreInRange};
+ghost use Rattle.ulfm.specs.inside.Writing.{failure_of, IsShown};
 ghost use Rattle.ulfm_laws.specs.Lawful.{IsLawful};
 
-use crate::command::Carrier;
-use crate::reply::{DONE, RUN_FAILED, Reply, refusal};
+use crate::command::{Carrier, RunOptions};
+use crate::reply::{RUN_FAILED, Reply, refusal};
+use crate::tally::{tally_of, tally_reply};
+use crate::trace::trace_reply;
 use std::alloc::{AllocError, Global};
 use std::sync::Wait;
 use std::thread::Threads;
@@ -19,7 +22,7 @@ use ulfm_base::CallError;
 use ulfm_board::seats;
 use ulfm_carrier::{Ends, LaneEnds, SharedEnds, lanes, shared};
 use ulfm_run::{Report, run_job};
-use ulfm_script::{Job, RankReport, RunFault, trace_text};
+use ulfm_script::{Job, RankReport, RunFault};
 
 /// Why a run has no trace.
 #[derive(Clone, Copy, Debug, PartialEq, Eq)]
@@ -28,30 +31,46 @@ pub enum Failure {
     NoThread,
     /// Memory ran out.
     OutOfMemory,
-    /// A decision that a rank adopted is untrue of what the ranks did, or no rank's own call made a revocation.
+    /// A decision that a rank adopted is untrue of what the ranks did, or no rank's own call made a revocation that a rank
+    /// took notice of.
     Untrue,
 }
 
-/// The reply of `run` with this carrier.
+/// The reply of `run` with these options.
 pub fn run_reply<R: Threads + Wait + Sync>(
     rt: &R,
     alloc: Global,
-    carrier: Carrier,
+    options: RunOptions,
     bytes: &[u8],
 ) -> Result<Reply, AllocError>
-    ensures { IfOk result (λ r. IsRunReply bytes.now r.status (string_bytes r.text)) }
+    requires { AreInRange options }
+    ensures { IfOk result (λ r. IsRunReply options bytes.now r.status (string_bytes r.text)) }
 {
     let job = match Job::read(alloc, bytes) {
-        Ok(job) => job,
+        Ok(job) => with_options(job, options),
         Err(fault) => return refusal(alloc, fault),
     };
-    let ran = run_by_carrier(rt, alloc, carrier, &job);
+    if let Some(times) = options.repeat {
+        return match tally_of(rt, alloc, options.carrier, times, &job) {
+            Ok(tally) => tally_reply(alloc, options.is_strict, times, &tally),
+            Err(failure) => failed(alloc, failure),
+        };
+    }
+    let ran = run_by_carrier(rt, alloc, options.carrier, &job);
     match ran {
-        Ok(reports) => {
-            let text = trace_text(alloc, reports.as_slice())?;
-            Ok(Reply { status: DONE, text })
-        }
+        Ok(reports) => trace_reply(alloc, options.is_strict, reports.as_slice()),
         Err(failure) => failed(alloc, failure),
+    }
+}
+
+/// The job that the options make of one: with their number of turns, where they have one.
+fn with_options(job: Job, options: RunOptions) -> Job
+    requires { AreInRange options }
+    ensures { result ≡ with_options options job }
+{
+    match options.turns {
+        Some(turns) => job.with_turns(turns),
+        None => job,
     }
 }
 
@@ -72,13 +91,14 @@ fn failed(alloc: Global, failure: Failure) -> Result<Reply, AllocError>
 }
 
 /// What the ranks of a job did, by this carrier.
-fn run_by_carrier<R: Threads + Wait + Sync>(
+pub fn run_by_carrier<R: Threads + Wait + Sync>(
     rt: &R,
     alloc: Global,
     carrier: Carrier,
     job: &Job,
 ) -> Result<Vec<RankReport>, Failure>
-    ensures { IfOk result (λ reports. IsLawful job.now reports.items) }
+    ensures lawful { IfOk result (λ reports. IsLawful job.now reports.items) }
+    ensures shown { IfErr result (λ failure. IsShown job.now failure) }
 {
     match carrier {
         Carrier::Lanes => run_by_lanes(rt, alloc, job),
@@ -92,7 +112,8 @@ fn run_by_lanes<R: Threads + Wait + Sync>(
     alloc: Global,
     job: &Job,
 ) -> Result<Vec<RankReport>, Failure>
-    ensures { IfOk result (λ reports. IsLawful job.now reports.items) }
+    ensures lawful { IfOk result (λ reports. IsLawful job.now reports.items) }
+    ensures shown { IfErr result (λ failure. IsShown job.now failure) }
 {
     match lanes_of(alloc, job) {
         Ok(ends) => run_by(rt, alloc, job, ends),
@@ -117,7 +138,8 @@ fn run_by_shared<R: Threads + Wait + Sync>(
     alloc: Global,
     job: &Job,
 ) -> Result<Vec<RankReport>, Failure>
-    ensures { IfOk result (λ reports. IsLawful job.now reports.items) }
+    ensures lawful { IfOk result (λ reports. IsLawful job.now reports.items) }
+    ensures shown { IfErr result (λ failure. IsShown job.now failure) }
 {
     match shared_of(alloc, job) {
         Ok(ends) => run_by(rt, alloc, job, ends),
@@ -147,7 +169,8 @@ fn run_by<E: Ends + Send, R: Threads + Wait + Sync>(
     requires family { E.one_call (map E.name ends.items) }
     requires places { InPlace E.place ends.items }
     requires fresh { AllFresh E.count E.pushed E.taken E.ready ends.items }
-    ensures { IfOk result (λ reports. IsLawful job.now reports.items) }
+    ensures lawful { IfOk result (λ reports. IsLawful job.now reports.items) }
+    ensures shown { IfErr result (λ failure. IsShown job.now failure) }
 {
     let deciders = match seats(alloc, job.ranks()) {
         Ok(deciders) => deciders,

@@ -1,19 +1,13 @@
 //! Command lines and jobs from end to end, in memory.
 ghost use Rattle.std.specs.Prelude.{◌≤◌};
 
-mod bodies;
-mod failures;
-mod messages;
 mod notes;
-mod recoveries;
+mod options;
 mod refused;
-mod revocations;
 mod rows;
 mod runs;
-mod schedule;
 mod schedule_steps;
 mod schedule_turns;
-mod shrinks;
 mod streams;
 
 use crate::front::run_on;

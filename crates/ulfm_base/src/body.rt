@@ -1,5 +1,5 @@
 //! The bytes of a message.
-ghost use Rattle.std.specs.Prelude.{◌≡◌, ◌==◌, ◌<◌, ◌≤◌, length, MatchResult};
+ghost use Rattle.std.specs.Prelude.{◌≡◌, ◌==◌, ◌<◌, ◌≤◌, length, MatchResult, OnOk};
 
 use crate::error::CallError;
 use std::marker::Model;
@@ -33,7 +33,8 @@ impl Body {
     ///
     /// `TooLong` where they are more than 1,024.
     pub fn from_bytes(bytes: &[u8]) -> Result<Body, CallError>
-        ensures { MatchResult result (λ body. body ≡ bytes.now) (λ error. (error ≡ CallError.TooLong) × (1024 < length bytes.now)) }
+        ensures bytes { MatchResult result (λ body. body ≡ bytes.now) (λ error. (error ≡ CallError.TooLong) × (1024 < length bytes.now)) }
+        ensures accepted { OnOk result (length bytes.now ≤ 1024) }
     {
         if bytes.len() > 1024 {
             return Err(CallError::TooLong);
@@ -55,7 +56,8 @@ impl Body {
 
     /// How many bytes there are, 0 to 1,024.
     pub fn len(&self) -> usize
-        ensures { result ≡ length self.now }
+        ensures len { result ≡ length self.now }
+        ensures small { result ≤ 1024 }
     {
         self.used
     }

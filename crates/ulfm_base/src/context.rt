@@ -1,4 +1,4 @@
-//! Contexts of communicators (MPI 4.0, 3.2 and 7.1).
+//! Contexts of communicators (MPI 4.0, 3.2.3 and 7.2.2).
 ghost use Rattle.std.specs.Prelude.{◌≡◌, ◌<◌, ◌≤◌, MatchOption};
 
 /// The context of a communicator, 0 to 62. The world's is 0.

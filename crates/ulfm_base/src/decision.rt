@@ -24,7 +24,7 @@ pub struct Decision {
 }
 
 impl Decision {
-    /// The same decision. It takes no memory.
+    /// The same decision. It can't run out of memory.
     pub fn copied(&self) -> Decision
         ensures { result ≡ self.now }
     {

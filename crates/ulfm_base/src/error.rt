@@ -4,7 +4,7 @@ ghost use Rattle.std.specs.Prelude.{◌≡◌, Some};
 use std::alloc::{AllocError, AllocFailed};
 use std::fmt;
 
-/// Want of memory: the allocator's refusal of a growth.
+/// Out of memory: the allocator refused a growth.
 pub type OutOfMemory = AllocError;
 
 /// Why a call is refused, or how a request is over. The numbers are this project's own.
@@ -24,7 +24,7 @@ pub enum CallError {
     Revoked = 6,
     /// There is no such request, or it was released.
     NoRequest = 7,
-    /// The communicator was duplicated or shrunk before.
+    /// The communicator was duplicated before, or its shrink was entered or adopted before.
     AlreadyMade = 8,
     /// There is no context left for the new communicator.
     NoContext = 9,

@@ -1,5 +1,5 @@
 //! Groups of ranks (MPI 4.0, 7.3).
-ghost use Rattle.std.specs.Prelude.{◌≡◌, [], ℕ, ◌+◌, ◌<◌, ◌≤◌, length, map, slice_get, Some, IfOk, IfErr, OnOk, MatchOption, MatchResult, All, Any, IsTrue, ◌↔◌, ◌⊎◌};
+ghost use Rattle.std.specs.Prelude.{◌≡◌, ◌≢◌, [], ℕ, ◌+◌, ◌<◌, ◌≤◌, length, map, slice_get, Some, IfOk, IfErr, OnOk, MatchOption, MatchResult, All, Any, IsTrue, ◌↔◌, ◌⊎◌};
 
 use crate::error::CallError;
 use crate::rank::WorldRank;
@@ -29,7 +29,7 @@ impl Group {
     ghost use Rattle.ulfm_base.specs.RankSet.{has};
     ghost use Rattle.ulfm_base.specs.Group.{IsGroup, is_member, rank_in, numbers_from, excluding, including, intersection, translated};
 
-    /// The group of the world: the ranks 0 to `n - 1`. It takes no memory.
+    /// The group of the world: the ranks 0 to `n - 1`. It never answers out of memory.
     ///
     /// # Errors
     ///
@@ -48,7 +48,7 @@ impl Group {
         Ok(Group { members })
     }
 
-    /// The group with no member (MPI 4.0, 7.2.1, `MPI_GROUP_EMPTY`). It takes no memory.
+    /// The group with no member (MPI 4.0, 7.2.1, `MPI_GROUP_EMPTY`). It can't run out of memory.
     pub fn empty(alloc: Global) -> Group
         ensures { result ≡ [] }
     {
@@ -97,7 +97,8 @@ impl Group {
         })
     }
 
-    /// The group without the ranks of a set, in the old order (MPI 4.0, 7.3.2, `MPI_Group_excl`). It takes no memory.
+    /// The group without the ranks of a set, in the old order (MPI 4.0, 7.3.2, `MPI_Group_excl`). It can't run out of
+    /// memory.
     pub fn excluding(&self, excluded: RankSet) -> Group
         ensures { result ≡ excluding self.now (has excluded) }
     {
@@ -110,7 +111,7 @@ impl Group {
         Group { members }
     }
 
-    /// Puts a rank at the end, where it isn't a member yet. It takes no memory.
+    /// Puts a rank at the end, where it isn't a member yet. It can't run out of memory.
     pub fn include(&mut self, rank: WorldRank)
         ensures { self.new ≡ including self.old rank.number }
     {
@@ -120,7 +121,7 @@ impl Group {
     }
 
     /// The members that are members of the other group too, in the order of this one (MPI 4.0, 7.3.2,
-    /// `MPI_Group_intersection`). It takes no memory.
+    /// `MPI_Group_intersection`). It can't run out of memory.
     pub fn intersection(&self, other: &Group) -> Group
         ensures { result ≡ intersection self.now other.now }
     {
@@ -144,7 +145,7 @@ impl Group {
         set
     }
 
-    /// The same group. It takes no memory.
+    /// The same group. It can't run out of memory.
     pub fn copied(&self) -> Group
         ensures { result ≡ self.now }
     {
@@ -166,11 +167,13 @@ impl Group {
     ///
     /// # Errors
     ///
-    /// `BadRank` where one of them is no position of this group, else `OutOfMemory` where the list finds no room.
+    /// `BadRank` where one of them is no position of this group, else `OutOfMemory` where there are some and the list
+    /// finds no room.
     pub fn translate(&self, ranks: &[u8], other: &Group) -> Result<Vec<Option<u8>>, CallError>
         ensures translated { IfOk result (λ found. found.items ≡ map (translated self.now other.now) ranks.now) }
         ensures positions { OnOk result (All (λ r. r < length self.now) ranks.now) }
         ensures refused { IfErr result (λ error. ((error ≡ CallError.BadRank) × Any (λ r. length self.now ≤ r) ranks.now) ⊎ ((error ≡ CallError.OutOfMemory) × All (λ r. r < length self.now) ranks.now)) }
+        ensures grows { IfErr result (λ error. error ≡ CallError.OutOfMemory → ranks.now ≢ []) }
     {
         let size = self.size();
         if ranks.iter().any(|rank| *rank >= size) {

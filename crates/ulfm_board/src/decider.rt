@@ -29,7 +29,7 @@ pub trait Decider: Drop {
         ensures starves { OnErr result (Starves (board self.old) (known self.old) decision.context.number) }
         ensures unchanged { OnErr result (known self.new ≡ known self.old) };
 
-    /// Two that share their cells know no two decisions of one shrink. It changes nothing, and takes no memory.
+    /// Two that share their cells know no two decisions of one shrink. It changes nothing, and never answers out of memory.
     fn same(&mut self, other: &mut Self)
         requires { board other.old ≡ board self.old }
         ensures board { board self.new ≡ board self.old }

@@ -1,4 +1,5 @@
-//! One decision for each shrink (ULFM, shrink): the first that reaches its cell. No call waits.
+//! One decision for each shrink (ULFM, shrink): a decider answers always what it answered first, and two of one board know
+//! no two. No call takes an `rt`, so none waits.
 #![tactic(auto)]
 
 mod decider;

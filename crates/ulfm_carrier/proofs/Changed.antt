@@ -1,9 +1,7 @@
 -- A function that is changed at one place, and the items of one sender with one item more.
 use Rattle.std.proofs.Common.{◌≡◌, ◌≢◌, ℕ, cond, eq-eqb, inl, inr, List, [], ◌∷◌, ◌++◌, refl, ap, sym, ◌∙◌, subst, append-nil, ◌==◌, if◌then◌else◌}
 use Rattle.std.proofs.lemmas.Bool.{ne_eqb, cases_eq}
-use Rattle.ulfm_base.specs.declared.item.Item.{Item}
-use Rattle.ulfm_base.specs.Items.{items_from}
-use Rattle.ulfm_carrier.specs.Inbox.{Signed}
+use Rattle.ulfm_carrier.proofs.Common.{Item, items_from, Signed}
 use Rattle.ulfm_carrier.proofs.Senders.{items-append}
 
 pub change : {X : Type 0} → (ℕ → X) → ℕ → X → ℕ → X

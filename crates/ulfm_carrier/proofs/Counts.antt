@@ -1,9 +1,6 @@
 -- How many items the senders below a number have among those of all.
 use Rattle.std.proofs.Common.{◌≡◌, ◌<◌, ◌≤◌, ◌+◌, inl, inr, ℕ, zero, suc, List, [], ◌∷◌, length, refl, ap, ◌∙◌, arith}
-use Rattle.std.proofs.lemmas.Bool.{cases_eq, cases_lt}
-use Rattle.ulfm_base.specs.Items.{items_from}
-use Rattle.ulfm_carrier.specs.Inbox.{Signed}
-use Rattle.ulfm_carrier.specs.inside.Emptying.{AllBelow}
+use Rattle.ulfm_carrier.proofs.Common.{AllBelow, cases_eq, cases_lt, items_from, Signed}
 use Rattle.ulfm_carrier.proofs.Changed.{items_here, items_else}
 
 abbrev pub items_below : ℕ → List Signed → ℕ
@@ -25,7 +22,7 @@ below_here (suc n) x xs low = elim (cases_eq x.0.number n) [
       let own = ap length (items_here n x xs same) in
       omega (arith, rest, own)
   | inr apart ↦
-      let m : x.0.number ≡ n → ⊥ = apart in
+      let m = apart in
       let rest = below_here n x xs (omega (arith, low, m)) in
       let own = ap length (items_else n x xs apart) in
       omega (arith, rest, own)
@@ -61,7 +58,7 @@ pub below-none : (n : ℕ) (xs : List Signed) → items_below n xs ≡ 0 → (p 
 below-none zero xs none p low = absurd (omega (arith, low))
 below-none (suc n) xs none p low = elim (cases_eq p n) [
   | inl same ↦ let own : length (items_from n xs) ≡ 0 = omega (arith, none) in ap (λ q. length (items_from q xs)) same ∙ own
-  | inr apart ↦ let m : p ≡ n → ⊥ = apart in below-none n xs (omega (arith, none)) p (omega (arith, low, m))
+  | inr apart ↦ let m = apart in below-none n xs (omega (arith, none)) p (omega (arith, low, m))
 ]
 
 -- Each sender below n has as many items in the one list as in the other two. Where the second has as many items as the

@@ -2,25 +2,19 @@
 use Rattle.std.proofs.Common.{◌≡◌, ◌<◌, ◌≤◌, ◌+◌, ℕ, suc, List, [], ◌∷◌, ◌++◌, Option, None, Some, length, get_or, refl, ap, sym, ◌∙◌, arith, subst, append_assoc, append-nil}
 use Rattle.std.proofs.lemmas.List.{nil_from_length, length-append}
 use Rattle.std.proofs.lemmas.Option.{slice_get-get_or, slice_get_within}
-use Rattle.ulfm_base.specs.declared.item.Item.{Item}
-use Rattle.ulfm_carrier.specs.declared.inbox.View.{View}
-use Rattle.ulfm_base.specs.Items.{items_from}
-use Rattle.ulfm_base.specs.Lists.{at}
-use Rattle.ulfm_carrier.specs.Inbox.{Signed, ReceiptsAreTakenAndHeld}
+use Rattle.ulfm_carrier.proofs.Common.{at, Item, items_from, ReceiptsAreTakenAndHeld, shown, Signed, View}
 use Rattle.ulfm_carrier.specs.inside.Passes.{after_take, after_all}
 use Rattle.ulfm_carrier.specs.inside.Emptying.{ReceiptsAreTaken, HasAllReceipts, AllBelow}
-use Rattle.ulfm_carrier.specs.Shared.{shown}
 use Rattle.ulfm_carrier.proofs.Changed.{items_else}
 use Rattle.ulfm_carrier.proofs.Counts.{none_more}
 use Rattle.ulfm_carrier.proofs.Senders.{items-append}
 
-pub took_more : (v u w : View) (xs ys : List Signed) (x : Signed) → u ≡ after_all v xs → w ≡ after_take u x → ys ≡ xs ++ x ∷ [] → w ≡ after_all v ys
-took_more v u w xs ys x was is more = is ∙ ap (λ (y : View). after_take y x) was ∙ (λ i. record v { taken = append_assoc v.taken xs (x ∷ []) i }) ∙ ap (after_all v) (sym more)
+pub took_more : (v : View) {u w : View} (xs ys : List Signed) (x : Signed) → u ≡ after_all v xs → w ≡ after_take u x → ys ≡ xs ++ x ∷ [] → w ≡ after_all v ys
+took_more v xs ys x was is more = is ∙ ap (λ (y : View). after_take y x) was ∙ (λ i. record v { taken = append_assoc v.taken xs (x ∷ []) i }) ∙ ap (after_all v) (sym more)
 
 pub none_above : (n s : ℕ) (xs : List Signed) → AllBelow n xs → n ≤ s → items_from s xs ≡ []
 none_above n s [] all past = refl
-none_above n s (x ∷ xs) all past =
-    let low = all 0 x refl in items_else s x xs (λ e. absurd (omega (arith, e, low, past))) ∙ none_above n s xs (λ k y here. all (suc k) y here) past
+none_above n s (x ∷ xs) all past = let low = all 0 x refl in items_else s x xs (λ e. absurd (omega (arith, e, low, past))) ∙ none_above n s xs (λ k y here. all (suc k) y here) past
 
 -- of one closed sender: what the inbox held is what was taken since and what it holds
 parts : (p : ℕ) (l : List Item) (taken left was now : List Signed) → l ≡ items_from p (taken ++ was) → l ≡ items_from p ((taken ++ left) ++ now) → length (items_from p was) ≡ length (items_from p left) + length (items_from p now)
@@ -34,21 +28,20 @@ parts p l taken left was now before after =
 
 all_taken : (v : View) (left was now : List Signed) → HasAllReceipts v → AllBelow v.made left → length was ≡ length left → ReceiptsAreTakenAndHeld v was → ReceiptsAreTakenAndHeld (after_all v left) now → ReceiptsAreTaken (after_all v left)
 all_taken v left was now receipts below many before after k p l here =
-    let is : p ≡ k = receipts.1 k (p, l) here in
+    let is = receipts.1 k (p, l) here in
     let low : p < v.made = omega (arith, slice_get_within v.receipts k (p, l) here, receipts.0, is) in
     let each : (q : ℕ) → q < v.made → length (items_from q was) ≡ length (items_from q left) + length (items_from q now) = λ q inside.
-    let x : ℕ × List Item = get_or v.receipts q (0, []) in
+    let x = get_or v.receipts q (0, []) in
     let there : at v.receipts q x = slice_get-get_or v.receipts q (0, []) (omega (arith, inside, receipts.0)) in
     subst (λ n. length (items_from n was) ≡ length (items_from n left) + length (items_from n now)) (receipts.1 q x there) (parts x.0 x.1 v.taken left was now (before q x.0 x.1 there) (after q x.0 x.1 there)) in
-    let none : items_from p now ≡ [] = nil_from_length (items_from p now) (none_more v.made was left now below many each p low) in
+    let none = nil_from_length (items_from p now) (none_more v.made was left now below many each p low) in
     after k p l here ∙ items-append p (v.taken ++ left) now ∙ ap (λ t. items_from p (v.taken ++ left) ++ t) none ∙ append-nil (items_from p (v.taken ++ left))
 
-pub emptied : (v w : View) (left was now : List Signed) → w ≡ after_all v left → HasAllReceipts v → AllBelow v.made left → length was ≡ length left → ReceiptsAreTakenAndHeld v was → ReceiptsAreTakenAndHeld w now → ReceiptsAreTaken w
-emptied v w left was now is receipts below many before after =
+pub emptied : (v : View) {w : View} (left was now : List Signed) → w ≡ after_all v left → HasAllReceipts v → AllBelow v.made left → length was ≡ length left → ReceiptsAreTakenAndHeld v was → ReceiptsAreTakenAndHeld w now → ReceiptsAreTaken w
+emptied v left was now is receipts below many before after =
     subst ReceiptsAreTaken (sym is) (all_taken v left was now receipts below many before (subst (λ (y : View). ReceiptsAreTakenAndHeld y now) is after))
 
 -- what a closed sender pushed, as an end tells of it that is being gathered
-pub told_left : (v w : View) (left : List Signed) (gathered : Option ℕ) → gathered ≡ None → w ≡ after_all v left → ReceiptsAreTaken w → (k : ℕ) (x : ℕ × List Item) → at v.receipts k x → x.1 ≡ items_from x.0 (shown gathered v.taken) ++ items_from x.0 left
-told_left v w left None live is all k x here =
-    let now = subst ReceiptsAreTaken is all in now k x.0 x.1 here ∙ items-append x.0 v.taken left
-told_left v w left (Some count) live is all k x here = absurd (cc)
+pub told_left : (v : View) {w : View} (left : List Signed) (gathered : Option ℕ) → gathered ≡ None → w ≡ after_all v left → ReceiptsAreTaken w → (k : ℕ) (x : ℕ × List Item) → at v.receipts k x → x.1 ≡ items_from x.0 (shown gathered v.taken) ++ items_from x.0 left
+told_left v left None live is all k x here = (subst ReceiptsAreTaken is all) k x.0 x.1 here ∙ items-append x.0 v.taken left
+told_left v left (Some count) live is all k x here = absurd (cc)

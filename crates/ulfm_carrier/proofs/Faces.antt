@@ -1,15 +1,8 @@
 -- What contracts see of ends, once one of them has its rings back.
 use Rattle.std.proofs.Common.{◌≡◌, ◌≢◌, ◌<◌, ℕ, List, [], length, map, set, get_or, sum, vec_capacity, ap, sym, ◌∙◌, arith, subst}
 use Rattle.std.proofs.lemmas.List.{length-map, map-set, set-set, set-get_or, length-set}
-use Rattle.std.proofs.lemmas.Simd.{map-map}
-use Rattle.rtrb.specs.Ring.{sent}
-use Rattle.ulfm_base.specs.declared.item.Item.{Item}
+use Rattle.ulfm_carrier.proofs.Common.{at, HasRings, inlet_capacity, inlet_name, Item, item_of, Keeps, lane_name, lane_pushed, lane_taken, LaneEnds, map-map, outlet_name, sent, taken_by}
 use Rattle.ulfm_carrier.specs.declared.lane_ends.LaneName.{LaneName}
-use Rattle.ulfm_carrier.specs.declared.lane_ends.LaneEnds.{LaneEnds}
-use Rattle.ulfm_carrier.specs.Carried.{item_of}
-use Rattle.ulfm_carrier.specs.Family.{Keeps}
-use Rattle.ulfm_base.specs.Lists.{at}
-use Rattle.ulfm_carrier.specs.Lanes.{outlet_name, inlet_name, inlet_capacity, taken_by, lane_name, lane_pushed, lane_taken, HasRings}
 use Rattle.ulfm_carrier.proofs.Places.{at_read, at_here, at_other}
 use Rattle.ulfm_carrier.proofs.Views.{View, view, of_views, same_at, as_many}
 
@@ -39,7 +32,7 @@ pub face_back : (e out emptied last : LaneEnds) (ends now : List LaneEnds) (k : 
     → map inlet_name last.ins.items ≡ map inlet_name e.ins.items → map taken_by last.ins.items ≡ map taken_by e.ins.items → face last ≡ face e
 face_back e out emptied last ends now k low same here me outs me' outs' names taken =
     let low' : k < length now = omega (arith, as_many view now (set ends k out) same, length-set ends k out) in
-    let v = same_at view now (set ends k out) k emptied out same (at_read now k emptied low' here) (at_here ends k out low) in
+    let v = same_at view now (set ends k out) k same (at_read now k low' here) (at_here ends k out low) in
     let is_me = me' ∙ ap (λ (w : View). w.me) v ∙ me in
     let is_outs = ap (λ l. map outlet_name l.items) outs' ∙ ap (λ (w : View). w.outs) v ∙ ap (λ l. map outlet_name l.items) outs in
     let is_sents = ap (λ l. map sent l.items) outs' ∙ ap (λ (w : View). w.sents) v ∙ ap (λ l. map sent l.items) outs in
@@ -48,8 +41,8 @@ face_back e out emptied last ends now k low same here me outs me' outs' names ta
 pub keeps_faces : (ends now : List LaneEnds) → map face now ≡ map face ends → Keeps lane_name lane_pushed lane_taken ends now
 keeps_faces ends now same = record {
   names = sym (map-map (λ (x : Face). x.name) face now) ∙ ap (map (λ (x : Face). x.name)) same ∙ map-map (λ (x : Face). x.name) face ends;
-  pushed_to = λ k e f there here p. face-pushed f p ∙ ap (λ (x : Face). get_or x.pushed p []) (same_at face now ends k f e same here there) ∙ sym (face-pushed e p);
-  taken_from = λ k e f there here p. ap (λ (x : Face). get_or x.taken p []) (same_at face now ends k f e same here there);
+  pushed_to = λ k e f there here p. face-pushed f p ∙ ap (λ (x : Face). get_or x.pushed p []) (same_at face now ends k same here there) ∙ sym (face-pushed e p);
+  taken_from = λ k e f there here p. ap (λ (x : Face). get_or x.taken p []) (same_at face now ends k same here there);
 }
 
 pub rings_view : (e f : LaneEnds) → view f ≡ view e → HasRings e → HasRings f
@@ -69,6 +62,4 @@ rings_view e f v r =
 -- the other ends have their rings as before
 pub rings_back : (ends now : List LaneEnds) (place k : ℕ) (out last e f : LaneEnds) → map view now ≡ map view (set ends place out) → k ≢ place → at ends k e → at (set now place last) k f → HasRings e → HasRings f
 rings_back ends now place k out last e f same apart there here rings =
-    let now_at : at now k f = sym (at_other now place k last apart) ∙ here in
-    let was_at : at (set ends place out) k e = at_other ends place k out apart ∙ there in
-    rings_view e f (same_at view now (set ends place out) k f e same now_at was_at) rings
+    rings_view e f (same_at view now (set ends place out) k same (sym (at_other now place k last apart) ∙ here) (at_other ends place k out apart ∙ there)) rings

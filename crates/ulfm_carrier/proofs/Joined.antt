@@ -1,23 +1,12 @@
 -- The ends of one call, looked up while one of them is emptied.
-use Rattle.std.proofs.Common.{◌≡◌, ◌<◌, ℕ, List, [], length, map, set, get_or, ap, sym, ◌∙◌, arith, Some, slice_get}
-use Rattle.std.proofs.lemmas.List.{length-map}
-use Rattle.std.proofs.lemmas.Option.{slice_get-get_or, slice_get_within}
-use Rattle.std.proofs.lemmas.Simd.{map-map}
-use Rattle.std.proofs.Math.Seq.{map-set_same}
+use Rattle.std.proofs.Common.{◌≡◌, ◌<◌, ℕ, List, [], length, map, set, get_or, ap, sym, ◌∙◌, arith, slice_get}
 use Rattle.rtrb.specs.Ring.{sent, IsPair}
-use Rattle.ulfm_base.specs.declared.rank.WorldRank.{WorldRank}
-use Rattle.ulfm_carrier.specs.declared.carried.Carried.{Carried}
-use Rattle.ulfm_carrier.specs.declared.inlet.Inlet.{Inlet}
-use Rattle.ulfm_carrier.specs.declared.lane_ends.RingName.{RingName}
-use Rattle.ulfm_carrier.specs.declared.lane_ends.LaneEnds.{LaneEnds}
-use Rattle.ulfm_carrier.specs.Carried.{item_of}
-use Rattle.ulfm_base.specs.Lists.{at}
+use Rattle.ulfm_carrier.proofs.Common.{at, at_view, Carried, Inlet, item_of, LaneEnds, length-map, map-map, map-set_same, RingName, same_rank, slice_get_within, there, WorldRank}
 use Rattle.ulfm_carrier.specs.Lanes.{Outlet, outlet_name, inlet_name, lane_name, lane_pushed, pushed_into, OneCall}
 use Rattle.ulfm_carrier.proofs.Places.{at_read, view_or}
-use Rattle.ulfm_base.proofs.Places.{at_view}
-use Rattle.ulfm_base.proofs.Numbers.{same_rank}
 use Rattle.ulfm_carrier.proofs.Views.{View, view, of_views, same_at, as_many, pushed_at}
 use Rattle.ulfm_carrier.proofs.Faces.{face-pushed}
+use Rattle.ulfm_carrier.proofs.Rings.{is_pair}
 
 -- an end's rank and its outgoing rings
 pub record Outline : Type 0 where
@@ -40,14 +29,14 @@ module _ (ends : List LaneEnds) (one : OneCall (map lane_name ends)) where
   many : length (map lane_name ends) ≡ length ends
   many = length-map ends lane_name
 
-  pub number : (k : ℕ) (e : LaneEnds) → at ends k e → e.me.number ≡ k
-  number k e here = one.placed k (lane_name e) (at_view lane_name ends k e here)
+  pub number : (k : ℕ) {e : LaneEnds} → at ends k e → e.me.number ≡ k
+  number k {e} here = one.placed k (lane_name e) (at_view lane_name ends k e here)
 
-  pub all_outs : (k : ℕ) (e : LaneEnds) → at ends k e → length e.outs.items ≡ length ends
-  all_outs k e here = sym (length-map e.outs.items outlet_name) ∙ one.outs k (lane_name e) (at_view lane_name ends k e here) ∙ many
+  pub all_outs : (k : ℕ) {e : LaneEnds} → at ends k e → length e.outs.items ≡ length ends
+  all_outs k {e} here = sym (length-map e.outs.items outlet_name) ∙ one.outs k (lane_name e) (at_view lane_name ends k e here) ∙ many
 
-  pub all_ins : (k : ℕ) (e : LaneEnds) → at ends k e → length e.ins.items ≡ length ends
-  all_ins k e here = sym (length-map e.ins.items inlet_name) ∙ one.ins k (lane_name e) (at_view lane_name ends k e here) ∙ many
+  pub all_ins : (k : ℕ) {e : LaneEnds} → at ends k e → length e.ins.items ≡ length ends
+  all_ins k {e} here = sym (length-map e.ins.items inlet_name) ∙ one.ins k (lane_name e) (at_view lane_name ends k e here) ∙ many
 
 -- one of the ends of one call is emptied, and the others are as they were but for their outgoing rings
 pub record Emptying (ends : List LaneEnds) (place : ℕ) (receiver : LaneEnds) (now : List LaneEnds) : Type 0 where
@@ -55,50 +44,44 @@ pub record Emptying (ends : List LaneEnds) (place : ℕ) (receiver : LaneEnds) (
   pub there : at ends place receiver
   pub same : map outline now ≡ map outline ends
 
-pub emptying : (ends : List LaneEnds) (place : ℕ) (receiver out : LaneEnds) (now : List LaneEnds) → OneCall (map lane_name ends) → place < length ends → receiver ≡ get_or ends place receiver → out.me ≡ receiver.me → out.outs ≡ receiver.outs
+pub emptying : (ends : List LaneEnds) (place : ℕ) {receiver : LaneEnds} (out : LaneEnds) (now : List LaneEnds) → OneCall (map lane_name ends) → place < length ends → receiver ≡ get_or ends place receiver → out.me ≡ receiver.me → out.outs ≡ receiver.outs
     → map view now ≡ map view (set ends place out) → Emptying ends place receiver now
-emptying ends place receiver out now one low here me outs same = record { one = one; there = at_read ends place receiver low here; same = outlines ends now place receiver out here me outs same }
+emptying ends place {receiver} out now one low here me outs same = record { one = one; there = at_read ends place low here; same = outlines ends now place receiver out here me outs same }
 
-module _ (ends : List LaneEnds) (place : ℕ) (receiver : LaneEnds) (now : List LaneEnds) (w : Emptying ends place receiver now) where
+module _ {ends : List LaneEnds} {place : ℕ} {receiver : LaneEnds} {now : List LaneEnds} (w : Emptying ends place receiver now) where
   pub as_before : (k : ℕ) → k < length ends → k < length now
   as_before k low = omega (arith, as_many outline now ends w.same)
 
   was : (k : ℕ) (e : LaneEnds) → at now k e → (d : LaneEnds) × at ends k d
-  was k e here =
-      let low : k < length ends = omega (arith, as_many outline now ends w.same, slice_get_within now k e here) in
-      (get_or ends k e, slice_get-get_or ends k e low)
+  was k e here = there ends k (omega (arith, as_many outline now ends w.same, slice_get_within now k e here))
 
   -- the end's ring to the receiver
-  pub out_room : (k : ℕ) (e : LaneEnds) → at now k e → place < length e.outs.items
-  out_room k e here =
+  pub out_room : (k : ℕ) {e : LaneEnds} → at now k e → place < length e.outs.items
+  out_room k {e} here =
       let d = was k e here in
-      let v = ap (λ (o : Outline). length o.outs) (same_at outline now ends k e d.0 w.same here d.1) in
+      let v = ap (λ (o : Outline). length o.outs) (same_at outline now ends k w.same here d.1) in
       let n : length e.outs.items ≡ length d.0.outs.items = sym (length-map e.outs.items outlet_name) ∙ v ∙ length-map d.0.outs.items outlet_name in
-      let m = all_outs ends w.one k d.0 d.1 in
+      let m = all_outs ends w.one k d.1 in
       let low = slice_get_within ends place receiver w.there in omega arith
 
   pub in_room : (k : ℕ) (ins : List Inlet) → k < length ends → map inlet_name ins ≡ map inlet_name receiver.ins.items → k < length ins
   in_room k ins low kept =
       let n = as_many inlet_name ins receiver.ins.items kept in
-      let m = all_ins ends w.one place receiver w.there in omega arith
+      let m = all_ins ends w.one place w.there in omega arith
 
-  pub pair : (k : ℕ) (e : LaneEnds) (p : Outlet) (ins : List Inlet) (i : Inlet) → at now k e → at e.outs.items place p → map inlet_name ins ≡ map inlet_name receiver.ins.items → at ins k i → IsPair p i.ring
-  pair k e p ins i here out kept inlet =
+  pub pair : (k : ℕ) {e : LaneEnds} {p : Outlet} (ins : List Inlet) {i : Inlet} → at now k e → at e.outs.items place p → map inlet_name ins ≡ map inlet_name receiver.ins.items → at ins k i → IsPair p i.ring
+  pair k {e} {p} ins {i} here out kept inlet =
       let d = was k e here in
-      let left : Some (outlet_name p) ≡ slice_get (map outlet_name d.0.outs.items) place =
-      sym (at_view outlet_name e.outs.items place p out) ∙ ap (λ (o : Outline). slice_get o.outs place) (same_at outline now ends k e d.0 w.same here d.1) in
-      let right : slice_get (map inlet_name receiver.ins.items) k ≡ Some (inlet_name i) = ap (λ l. slice_get l k) (sym kept) ∙ at_view inlet_name ins k i inlet in
-      let joined = w.one.joined k place (lane_name d.0) (lane_name receiver) (at_view lane_name ends k d.0 d.1) (at_view lane_name ends place receiver w.there) in
-      let both : Some (outlet_name p) ≡ Some (inlet_name i) = left ∙ joined ∙ right in
-      let is : outlet_name p ≡ inlet_name i = cc in
-      (ap (λ (n : RingName). n.words) (sym is), ap (λ (n : RingName). n.slots) (sym is), ap (λ (n : RingName). n.names) (sym is), ap (λ (n : RingName). n.heap) (sym is))
+      let left = sym (at_view outlet_name e.outs.items place p out) ∙ ap (λ (o : Outline). slice_get o.outs place) (same_at outline now ends k w.same here d.1) in
+      let right = ap (λ l. slice_get l k) (sym kept) ∙ at_view inlet_name ins k i inlet in
+      is_pair p i (left ∙ w.one.joined k place (lane_name d.0) (lane_name receiver) (at_view lane_name ends k d.0 d.1) (at_view lane_name ends place receiver w.there) ∙ right)
 
   -- what the end pushed to the receiver is what the ring between them carried
-  pub pushed : (k : ℕ) (e : LaneEnds) (p : Outlet) (source : WorldRank) → at now k e → at e.outs.items place p → source.number ≡ k → pushed_at ends k place ≡ pushed_into source p
-  pushed k e p source here out is =
+  pub pushed : {k : ℕ} {e : LaneEnds} {p : Outlet} (source : WorldRank) → at now k e → at e.outs.items place p → source.number ≡ k → pushed_at ends k place ≡ pushed_into source p
+  pushed {k} {e} {p} source here out is =
       let d = was k e here in
-      let v = same_at outline now ends k e d.0 w.same here d.1 in
-      let me : d.0.me ≡ source = same_rank d.0.me source (number ends w.one k d.0 d.1 ∙ sym is) in
-      view_or (λ e. lane_pushed e place) ends k d.0 [] d.1 ∙ face-pushed d.0 place ∙ ap (λ (o : Outline). get_or (map (map (item_of d.0.me)) o.sents) place []) (sym v)
+      let v = same_at outline now ends k w.same here d.1 in
+      let me : d.0.me ≡ source = same_rank d.0.me source (number ends w.one k d.1 ∙ sym is) in
+      view_or (λ e. lane_pushed e place) ends k [] d.1 ∙ face-pushed d.0 place ∙ ap (λ (o : Outline). get_or (map (map (item_of d.0.me)) o.sents) place []) (sym v)
       ∙ ap (λ r. get_or (map (map (item_of r)) (map sent e.outs.items)) place []) me ∙ ap (λ l. get_or l place []) (map-map (map (item_of source)) sent e.outs.items)
-      ∙ view_or (pushed_into source) e.outs.items place p [] out
+      ∙ view_or (pushed_into source) e.outs.items place [] out

@@ -1,3 +1,4 @@
+pub mod Common
 pub mod Changed
 pub mod Closing
 pub mod Counts
@@ -7,7 +8,6 @@ pub mod Emptied
 pub mod Faces
 pub mod Fitting
 pub mod Frames
-pub mod Gathered
 pub mod Heard
 pub mod Joined
 pub mod Last
@@ -26,10 +26,8 @@ pub mod Seats
 pub mod Senders
 pub mod Settling
 pub mod Steps
-pub mod Together
 pub mod Told
 pub mod Turns
-pub mod Used
 pub mod Views
 pub mod Whole
 pub mod Wired

@@ -1,18 +1,13 @@
 -- Both ends of the ring from a rank to itself are looked at.
 use Rattle.std.proofs.Common.{◌≡◌, ◌<◌, ◌≤◌, ℕ, inl, inr, List, [], ◌++◌, length, map, set, get_or, ap, sym, ◌∙◌, arith, subst}
-use Rattle.std.proofs.lemmas.Bool.{cases_eq}
-use Rattle.rtrb.specs.Ring.{sent, known_free}
-use Rattle.ulfm_base.specs.declared.rank.WorldRank.{WorldRank}
-use Rattle.ulfm_carrier.specs.declared.inlet.Inlet.{Inlet}
-use Rattle.ulfm_carrier.specs.Carried.{item_of}
-use Rattle.ulfm_carrier.specs.Lanes.{Outlet, pushed_into, taken_by, seen_in}
+use Rattle.ulfm_carrier.proofs.Common.{cases_eq, Inlet, item_of, known_free, Outlet, pushed_into, seen_in, sent, taken_by, WorldRank}
 use Rattle.ulfm_carrier.proofs.Places.{at_read, view_here, view_or, view_other}
 
 -- the places of other rings are known as before, and no fewer of this one
 pub rooms_grow : (outs : List Outlet) (k : ℕ) (p q : Outlet) → k < length outs → p ≡ get_or outs k p → known_free p ≤ known_free q → (d : ℕ) → get_or (map known_free outs) d 0 ≤ get_or (map known_free (set outs k q)) d 0
 rooms_grow outs k p q low here more d = elim (cases_eq d k) [
   | inl is ↦
-      let was = view_or known_free outs k p 0 (at_read outs k p low here) in
+      let was = view_or known_free outs k 0 (at_read outs k low here) in
       let now = view_here known_free outs k q 0 low in
       subst (λ n. get_or (map known_free outs) n 0 ≤ get_or (map known_free (set outs k q)) n 0) (sym is) (omega (arith, was, now, more))
   | inr apart ↦ let same = view_other known_free outs k d q 0 apart in omega (arith, same)
@@ -24,6 +19,5 @@ pub own_rest : (me : WorldRank) (outs : List Outlet) (ins : List Inlet) (k : ℕ
     → get_or (map (pushed_into me) (set outs k q)) k [] ≡ get_or (map taken_by (set ins k j)) k [] ++ map (item_of me) (get_or (map seen_in (set ins k j)) k [])
 own_rest me outs ins k p q i j low inside out inlet source same taken all =
     let mine : pushed_into me p ≡ taken_by i ++ map (item_of me) (seen_in j) = subst (λ r. pushed_into r p ≡ taken_by i ++ map (item_of r) (seen_in j)) source all in
-    let seen = view_here seen_in ins k j [] inside in
     let took : taken_by i ≡ get_or (map taken_by (set ins k j)) k [] = sym taken ∙ sym (view_here taken_by ins k j [] inside) in
-    view_here (pushed_into me) outs k q [] low ∙ ap (map (item_of me)) same ∙ mine ∙ (λ n. took n ++ map (item_of me) (sym seen n))
+    view_here (pushed_into me) outs k q [] low ∙ ap (map (item_of me)) same ∙ mine ∙ (λ n. took n ++ map (item_of me) (sym (view_here seen_in ins k j [] inside) n))

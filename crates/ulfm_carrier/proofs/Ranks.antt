@@ -1,16 +1,12 @@
 -- Ranks and their items.
 use Rattle.std.proofs.Common.{◌≡◌, refl, ap, sym}
-use Rattle.ulfm_base.specs.declared.rank.WorldRank.{WorldRank}
-use Rattle.ulfm_base.specs.declared.item.Item.{Item}
-use Rattle.ulfm_base.specs.declared.item.Item.TheVariants as item
-use Rattle.ulfm_base.proofs.Numbers.{same_rank}
+use Rattle.ulfm_carrier.proofs.Common.{ComesFrom, Item, same_rank, WorldRank}
 use Rattle.ulfm_carrier.specs.Carried.{carried_of, item_of}
-use Rattle.ulfm_base.specs.Items.{ComesFrom}
+use Rattle.ulfm_base.specs.declared.item.Item.TheVariants as item
 
 -- an item that came from a rank gets this source back
 pub source_back : (me : WorldRank) (x : Item) → ComesFrom me.number x → item_of me (carried_of x) ≡ x
-source_back me (item.Letter letter) h =
-    ap (λ (source : WorldRank). item.Letter (record letter { envelope = record letter.envelope { source = source } })) (same_rank me letter.envelope.source (sym h))
+source_back me (item.Letter letter) h = ap (λ (source : WorldRank). item.Letter (record letter { envelope = record letter.envelope { source = source } })) (same_rank me letter.envelope.source (sym h))
 source_back me item.Gone h = refl
 source_back me (item.Revoke context) h = refl
 source_back me (item.Enter context known) h = refl

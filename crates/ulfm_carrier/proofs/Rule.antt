@@ -1,18 +1,15 @@
 -- An inbox begins by its rule, pushes and pops keep it, and passes learn from it.
-use Rattle.std.proofs.Common.{◌≡◌, ◌≢◌, ℕ, zero, suc, ◌<◌, ◌⊎◌, inl, inr, List, [], ◌∷◌, ◌++◌, length, refl, ap, sym, ◌∙◌, append_assoc, None}
-use Rattle.std.proofs.lemmas.Bool.{cases_lt}
-use mathlib.Core.Option.{some, some-ne-none}
-use lib.ListN.{get_elem?}
+use Rattle.std.proofs.Common.{◌≡◌, ◌≢◌, ℕ, zero, suc, ◌⊎◌, inl, inr, List, [], ◌∷◌, ◌++◌, length, refl, ap, sym, ◌∙◌, append_assoc, None}
 use Rattle.crossbeam_queue.specs.Fifo.{Pushes, Pops, Learns}
-use Rattle.ulfm_base.specs.declared.item.Item.{Item}
-use Rattle.ulfm_carrier.specs.declared.inbox.View.{View}
-use Rattle.ulfm_carrier.specs.declared.inbox.Role.TheVariants as role
-use Rattle.ulfm_base.specs.Items.{items_from, ComesFrom}
+use Rattle.ulfm_carrier.proofs.Common.{cases_lt, ComesFrom, Item, items_from, View}
 use Rattle.ulfm_carrier.specs.Inbox.{Signed, receiver, Seats, Sends, Receives, KnowsTruly, InboxRule, OwnIsTakenAndHeld, ReceiptsAreTakenAndHeld}
 use Rattle.ulfm_carrier.specs.inside.Passes.{after_push, after_take, TakesOne}
 use Rattle.ulfm_carrier.proofs.Changed.{change, change_here, change_else, at_or_else, items_push, items_push_else, items_some}
-use Rattle.ulfm_carrier.proofs.Gathered.{each_push}
+use Rattle.ulfm_carrier.proofs.Places.{each_push}
 use Rattle.ulfm_carrier.proofs.Fitting.{all_set, sender_fits, receiver_fits, owner_fits, senders_fit, receives_same, others_fit}
+use mathlib.Core.Option.{some, some-ne-none}
+use lib.ListN.{get_elem?}
+use Rattle.ulfm_carrier.specs.declared.inbox.Role.TheVariants as role
 
 at_end : (l : List View) (a b : View) (j : ℕ) → get_elem? l j ≢ some b → get_elem? (l ++ a ∷ []) j ≡ some b → j ≡ length l
 at_end [] a b zero n e = refl
@@ -28,7 +25,7 @@ begins = record {
   taken = [];
   flows = λ p. refl;
   sources = λ k x here. absurd (cc);
-  fits = all_set (KnowsTruly 0 (λ _. None) (λ _. []) []) (receiver ∷ []) 0 receiver (receiver_fits 0 (λ _. None) (λ _. []) [] 0 receiver refl (refl, refl, (λ p _. (refl, refl)), λ k p l e. absurd (cc)))
+  fits = all_set (KnowsTruly 0 (λ _. None) (λ _. []) []) (receiver ∷ []) 0 receiver (receiver_fits refl (refl, refl, (λ p _. (refl, refl)), λ k p l e. absurd (cc)))
       (λ j u other e. absurd (other (at_end [] receiver u j (λ x. some-ne-none u (sym x)) e)));
 }
 
@@ -40,7 +37,7 @@ MayPush v = (v.role ≡ role.Sender) ⊎ (v.role ≡ role.Owner)
 abbrev pub MayTake : View → Type 0
 MayTake v = (v.role ≡ role.Receiver) ⊎ (v.role ≡ role.Owner)
 
-module _ (reader : ℕ) (seat : Seats) (pushed : ℕ → List Item) (taken : List Signed) (pass : ℕ) (v : View) (f : KnowsTruly reader seat pushed taken pass v) where
+module _ {reader : ℕ} {seat : Seats} {pushed : ℕ → List Item} {taken : List Signed} {pass : ℕ} {v : View} (f : KnowsTruly reader seat pushed taken pass v) where
   sending : MayPush v → Sends seat pushed pass v
   sending is = elim is [ inl s ↦ f.sends s | inr o ↦ (f.owns o).0 ]
 
@@ -50,47 +47,36 @@ module _ (reader : ℕ) (seat : Seats) (pushed : ℕ → List Item) (taken : Lis
   -- it pushed one item more
   pushes_fits : MayPush v → (x : Item) (pushed' : ℕ → List Item) → ((q : ℕ) → q ≢ v.from → (pushed' q ≡ pushed q) × (seat q ≡ seat q)) → v.pushed ++ x ∷ [] ≡ pushed' v.from → KnowsTruly reader seat pushed' taken pass (after_push v x)
   pushes_fits is x pushed' same more = elim is [
-    | inl s ↦ sender_fits reader seat pushed' taken pass (after_push v x) s ((f.sends s).0, more)
-    | inr o ↦
-        let was = f.owns o in
-        owner_fits reader seat pushed' taken pass (after_push v x) o (
-          (was.0.0, more),
-          receives_same reader seat pushed taken v.from pass was.0.0 pushed' seat same pass (after_push v x) was.1,
-        )
+    | inl s ↦ sender_fits s ((f.sends s).0, more)
+    | inr o ↦ let was = f.owns o in owner_fits o ((was.0.0, more), receives_same seat seat pushed pushed' v.from pass was.0.0 same (after_push v x) was.1)
   ]
 
   -- it took one item more
   takes_fits : MayTake v → (x : Signed) → KnowsTruly reader seat pushed (taken ++ x ∷ []) pass (after_take v x)
   takes_fits is x =
       let was = taking is in
-      let now : Receives reader seat pushed (taken ++ x ∷ []) pass (after_take v x) = (was.0, ap (λ l. l ++ x ∷ []) was.1, was.2, was.3) in elim is [
-        | inl r ↦ receiver_fits reader seat pushed (taken ++ x ∷ []) pass (after_take v x) r now
-        | inr o ↦ owner_fits reader seat pushed (taken ++ x ∷ []) pass (after_take v x) o ((f.owns o).0, now)
-      ]
+      let now : Receives reader seat pushed (taken ++ x ∷ []) pass (after_take v x) = (was.0, ap (λ l. l ++ x ∷ []) was.1, was.2, was.3) in elim is [ inl r ↦ receiver_fits r now | inr o ↦ owner_fits o ((f.owns o).0, now) ]
 
 -- a sender pushes
 pub sends : (n pass : ℕ) (v : View) (x : Signed) → MayPush v → x.0.number ≡ v.from → ComesFrom x.0.number x.1 → Pushes InboxRule n pass v x (λ w. w ≡ after_push v x.1)
 sends n pass v x is from source held views room h here =
-    let w : View = after_push v x.1 in
     let fit = h.fits pass v here in
-    let mine = sending h.reader h.seat h.pushed h.taken pass v fit is in
-    let pushed' : ℕ → List Item = change h.pushed v.from (h.pushed v.from ++ x.1 ∷ []) in
+    let mine = sending fit is in
+    let pushed' = change h.pushed v.from (h.pushed v.from ++ x.1 ∷ []) in
     let same : (q : ℕ) → q ≢ v.from → (pushed' q ≡ h.pushed q) × (h.seat q ≡ h.seat q) = λ q apart. (change_else h.pushed v.from q _ apart, refl) in
-    let more : (p : ℕ) → pushed' p ≡ items_from p (h.taken ++ (held ++ x ∷ [])) =
-    λ p. at_or_else (λ q. pushed' q ≡ items_from q (h.taken ++ (held ++ x ∷ []))) v.from p
-    (change_here h.pushed v.from _ ∙ ap (λ l. l ++ x.1 ∷ []) (h.flows v.from) ∙ sym (items_push v.from (h.taken ++ held) x from) ∙ ap (items_from v.from) (append_assoc h.taken held (x ∷ [])))
-    (λ apart. change_else h.pushed v.from p _ apart ∙ h.flows p ∙ sym (items_push_else p (h.taken ++ held) x (λ e. apart (e ∙ from))) ∙ ap (items_from p) (append_assoc h.taken held (x ∷ []))) in
-    let F : ℕ → View → Type 0 = KnowsTruly h.reader h.seat pushed' h.taken in (
-      w,
+    let F = KnowsTruly h.reader h.seat pushed' h.taken in (
+      after_push v x.1,
       record {
         reader = h.reader;
         seat = h.seat;
         pushed = pushed';
         taken = h.taken;
-        flows = more;
+        flows = λ p. at_or_else (λ q. pushed' q ≡ items_from q (h.taken ++ (held ++ x ∷ []))) v.from p
+            (change_here h.pushed v.from _ ∙ ap (λ l. l ++ x.1 ∷ []) (h.flows v.from) ∙ sym (items_push v.from (h.taken ++ held) x from) ∙ ap (items_from v.from) (append_assoc h.taken held (x ∷ [])))
+            (λ apart. change_else h.pushed v.from p _ apart ∙ h.flows p ∙ sym (items_push_else p (h.taken ++ held) x (λ e. apart (e ∙ from))) ∙ ap (items_from p) (append_assoc h.taken held (x ∷ [])));
         sources = each_push (λ _ (y : Signed). ComesFrom y.0.number y.1) held x (length held) refl h.sources source;
-        fits = all_set F views pass w (pushes_fits h.reader h.seat h.pushed h.taken pass v fit is x.1 pushed' same (ap (λ l. l ++ x.1 ∷ []) mine.1 ∙ sym (change_here h.pushed v.from _)))
-            (λ j u other e. others_fit h.reader h.seat h.pushed h.taken v.from pass mine.0 pushed' h.seat same j u other (h.fits j u e));
+        fits = all_set F views pass (after_push v x.1) (pushes_fits fit is x.1 pushed' same (ap (λ l. l ++ x.1 ∷ []) mine.1 ∙ sym (change_here h.pushed v.from _)))
+            (λ j u other e. others_fit h.seat h.seat h.pushed pushed' v.from pass mine.0 same other (h.fits j u e));
       },
       refl,
     )
@@ -98,15 +84,11 @@ sends n pass v x is from source held views room h here =
 -- the receiver takes
 pub takes : (pass : ℕ) (v : View) → MayTake v → Pops InboxRule pass v (TakesOne v)
 takes pass v is x held views h here =
-    let w : View = after_take v x in
     let fit = h.fits pass v here in
-    let was = taking h.reader h.seat h.pushed h.taken pass v fit is in
-    let taken' : List Signed = h.taken ++ x ∷ [] in
-    let more : (p : ℕ) → h.pushed p ≡ items_from p (taken' ++ held) = λ p. h.flows p ∙ ap (items_from p) (sym (append_assoc h.taken (x ∷ []) held)) in
-    let now : w.taken ≡ taken' = ap (λ l. l ++ x ∷ []) was.1 in
-    let low : x.0.number < v.made = elim (cases_lt x.0.number v.made) [ inl below ↦ below | inr late ↦ absurd (items_some h.taken held x (sym (h.flows x.0.number) ∙ (was.2 x.0.number late).1)) ] in
-    let F : ℕ → View → Type 0 = KnowsTruly h.reader h.seat h.pushed taken' in (
-      w,
+    let was = taking fit is in
+    let taken' = h.taken ++ x ∷ [] in
+    let more : (p : ℕ) → h.pushed p ≡ items_from p (taken' ++ held) = λ p. h.flows p ∙ ap (items_from p) (sym (append_assoc h.taken (x ∷ []) held)) in (
+      after_take v x,
       record {
         reader = h.reader;
         seat = h.seat;
@@ -114,14 +96,14 @@ takes pass v is x held views h here =
         taken = taken';
         flows = more;
         sources = λ k y at_k. h.sources (suc k) y at_k;
-        fits = all_set F views pass w (takes_fits h.reader h.seat h.pushed h.taken pass v fit is x) (λ j u other e. senders_fit h.reader h.reader h.seat h.pushed h.taken taken' j u (λ r. other (r ∙ sym was.0)) (h.fits j u e));
+        fits = all_set (KnowsTruly h.reader h.seat h.pushed taken') views pass (after_take v x) (takes_fits fit is x) (λ j u other e. senders_fit (λ r. other (r ∙ sym was.0)) (h.fits j u e));
       },
       record {
         taken = refl;
         source = h.sources 0 x refl;
-        made = low;
+        made = elim (cases_lt x.0.number v.made) [ inl below ↦ below | inr late ↦ absurd (items_some h.taken held x (sym (h.flows x.0.number) ∙ (was.2 x.0.number late).1)) ];
         held = held;
-        flows = λ k p l e. (was.3 k p l e).1 ∙ more p ∙ ap (λ t. items_from p (t ++ held)) (sym now);
+        flows = λ k p l e. (was.3 k p l e).1 ∙ more p ∙ ap (λ t. items_from p ((t ++ x ∷ []) ++ held)) (sym was.1);
       },
     )
 

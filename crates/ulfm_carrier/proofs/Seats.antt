@@ -1,33 +1,19 @@
 -- Inboxes and passes, while they are made one by one.
-use Rattle.std.proofs.Common.{◌≡◌, ◌<◌, ◌≤◌, ◌+◌, inl, inr, ℕ, List, [], ◌∷◌, ◌++◌, length, map, set, refl, ap, sym, ◌∙◌, arith, subst, append_assoc, slice_get}
-use Rattle.std.proofs.lemmas.List.{length-map, map-append}
-use Rattle.std.proofs.lemmas.Option.{slice_get_within}
-use Rattle.crossbeam_queue.specs.Passes.{view, IsPassOf, IsSamePass}
-use Rattle.ulfm_carrier.specs.declared.inbox.View.{View}
-use Rattle.ulfm_carrier.specs.declared.shared_ends.SharedEnds.{SharedEnds}
-use Rattle.ulfm_base.specs.Lists.{at}
-use Rattle.ulfm_carrier.specs.Inbox.{InboxPass}
+use Rattle.std.proofs.Common.{◌≡◌, ◌<◌, ◌≤◌, ◌+◌, inl, inr, ℕ, List, [], ◌∷◌, ◌++◌, length, map, set, ap, sym, ◌∙◌, arith, subst, append_assoc, slice_get}
+use Rattle.ulfm_carrier.proofs.Common.{at, InboxPass, IsPassOf, IsSamePass, length-map, map-append, only_at, SharedEnds, slice_get_within, there, View, view}
 use Rattle.ulfm_carrier.specs.inside.Passes.{sender, one_more}
 use Rattle.ulfm_carrier.specs.inside.Seating.{Queue, AreInlets, AreOpenInlets, HaveMadeOneMore, AreNextOuts, AreOuts}
-use Rattle.ulfm_carrier.proofs.Places.{at_push, at_set, at_other}
-use Rattle.ulfm_base.proofs.Places.{there, only_at}
-
-pub at_middle : {X : Type 0} (xs ys : List X) (x : X) → at (xs ++ x ∷ ys) (length xs) x
-at_middle [] ys x = refl
-at_middle (z ∷ xs) ys x = at_middle xs ys x
+use Rattle.ulfm_carrier.proofs.Places.{at_push, each_set, at_other, each_push}
+use Rattle.ulfm_carrier.proofs.Last.{at_middle}
 
 -- what holds of two lists by places still does with one more in each
-pub each_pair : {A B : Type 0} (P : ℕ → A → B → Type 0) (xs : List A) (ys : List B) (x : A) (y : B) (n : ℕ) → length xs ≡ n → length ys ≡ n → ((j : ℕ) (a : A) (b : B) → at xs j a → at ys j b → P j a b) → P n x y
+pub each_pair : {A B : Type 0} (P : ℕ → A → B → Type 0) (xs : List A) (ys : List B) (x : A) (y : B) {n : ℕ} → length xs ≡ n → length ys ≡ n → ((j : ℕ) (a : A) (b : B) → at xs j a → at ys j b → P j a b) → P n x y
     → (j : ℕ) (a : A) (b : B) → at (xs ++ x ∷ []) j a → at (ys ++ y ∷ []) j b → P j a b
-each_pair {A} {B} P xs ys x y n many as_many each here j a b at_a at_b = elim (at_push xs x j a at_a) [
-  | inl h ↦ let low = h.0 in elim (at_push ys y j b at_b) [ inl i ↦ each j a b h.1 i.1 | inr i ↦ let e = i.0 in absurd (omega (arith, low, e, many, as_many)) ]
-  | inr h ↦ let is = h.0 in elim (at_push ys y j b at_b) [
+each_pair P xs ys x y {n} many as_many each here j a b at_a at_b = elim (at_push xs x j at_a) [
+  | inl h ↦ let low = h.0 in elim (at_push ys y j at_b) [ inl i ↦ each j a b h.1 i.1 | inr i ↦ let e = i.0 in absurd (omega (arith, low, e, many, as_many)) ]
+  | inr h ↦ let is = h.0 in elim (at_push ys y j at_b) [
     | inl i ↦ let low = i.0 in absurd (omega (arith, is, low, many, as_many))
-    | inr i ↦
-        let Q : ℕ → Type 0 = λ m. P m a b in
-        let R : A → Type 0 = λ z. P n z b in
-        let S : B → Type 0 = λ z. P n x z in
-        subst Q (sym (is ∙ many)) (subst R (sym h.1) (subst S (sym i.1) here))
+    | inr i ↦ subst (λ m. P m a b) (sym (is ∙ many)) (subst (λ z. P n z b) (sym h.1) (subst (P n x) (sym i.1) here))
   ]
 ]
 
@@ -46,9 +32,8 @@ new_outs m inboxes inlets outs many as_many are next = (
   as_many,
   λ j inbox out at_i at_o.
       let old = there inlets j (omega (arith, slice_get_within inboxes j inbox at_i, many)) in
-      let h = are j inbox old.0 at_i old.1 in
       let g = next j inbox old.0 out at_i old.1 at_o in
-      (g.0, g.1 ∙ ap (λ (v : View). sender v.made) h.1),
+      (g.0, g.1 ∙ ap (λ (v : View). sender v.made) (are j inbox old.0 at_i old.1).1),
 )
 
 module _ (inboxes : List Queue) (start now outs : List InboxPass) (dest : ℕ) (inbox : Queue) (p q out : InboxPass) (many : length now ≡ length start) (as_many : length outs ≡ dest)
@@ -57,46 +42,30 @@ module _ (inboxes : List Queue) (start now outs : List InboxPass) (dest : ℕ) (
   at_start = sym (waiting dest (omega arith)) ∙ at_now
 
   pub made_next : ((j : ℕ) (a b : InboxPass) → j < dest → at start j a → at now j b → IsSamePass a b × (view b ≡ one_more (view a))) → (j : ℕ) (a b : InboxPass) → j < dest + 1 → at start j a → at (set now dest q) j b → IsSamePass a b × (view b ≡ one_more (view a))
-  made_next made j a b low at_a at_b = elim (at_set now dest q j b at_b) [
-    | inl h ↦
-        let A : ℕ → Type 0 = λ n. at start n a in
-        let old : a ≡ p = only_at start dest p a at_start (subst A h.0 at_a) in
-        let P : InboxPass → Type 0 = λ y. IsSamePass a y × (view y ≡ one_more (view a)) in
-        let R : InboxPass → Type 0 = λ x. IsSamePass x q × (view q ≡ one_more (view x)) in
-        subst P (sym h.1) (subst R (sym old) (same, is))
-    | inr h ↦ let apart : j ≡ dest → ⊥ = h.0 in made j a b (omega (arith, low, apart)) at_a h.1
-  ]
+  made_next made j a b low at_a at_b =
+      let P : ℕ → InboxPass → Type 0 = λ j b. (a : InboxPass) → j < dest + 1 → at start j a → IsSamePass a b × (view b ≡ one_more (view a)) in
+      let R : InboxPass → Type 0 = λ x. IsSamePass x q × (view q ≡ one_more (view x)) in
+      each_set P now dest q (λ j b apart h a low at_a. made j a b (omega (arith, low, apart)) at_a h) (λ a _ at_a. subst R (sym (only_at start dest p a at_start at_a)) (same, is)) j b at_b a low at_a
 
   pub waiting_next : (j : ℕ) → dest + 1 ≤ j → slice_get (set now dest q) j ≡ slice_get start j
   waiting_next j late = at_other now dest j q (λ e. absurd (omega (arith, e, late))) ∙ waiting j (omega (arith, late))
 
   pub outs_next : AreNextOuts inboxes start outs → AreNextOuts inboxes start (outs ++ out ∷ [])
-  outs_next next j i a o at_i at_a at_o = elim (at_push outs out j o at_o) [
-    | inl h ↦ next j i a o at_i at_a h.1
-    | inr h ↦
-        let there : j ≡ dest = h.0 ∙ as_many in
-        let A : ℕ → Type 0 = λ n. at start n a in
-        let I : ℕ → Type 0 = λ n. at inboxes n i in
-        let old : a ≡ p = only_at start dest p a at_start (subst A there at_a) in
-        let box : i ≡ inbox = only_at inboxes dest inbox i at_inbox (subst I there at_i) in
-        let P : InboxPass → Type 0 = λ y. IsPassOf i y × (view y ≡ sender (view a).made) in
-        let R : InboxPass → Type 0 = λ x. IsPassOf i out × (view out ≡ sender (view x).made) in
-        let B : Queue → Type 0 = λ x. IsPassOf x out × (view out ≡ sender (view p).made) in
-        subst P (sym h.1) (subst R (sym old) (subst B (sym box) (pass, new)))
-  ]
+  outs_next next j i a o at_i at_a at_o =
+      let P : ℕ → InboxPass → Type 0 = λ j o. (i : Queue) (a : InboxPass) → at inboxes j i → at start j a → IsPassOf i o × (view o ≡ sender (view a).made) in
+      let here : P dest out = λ i a at_i at_a. (subst (λ x. IsPassOf x out) (sym (only_at inboxes dest inbox i at_inbox at_i)) pass, new ∙ ap (λ (x : InboxPass). sender (view x).made) (sym (only_at start dest p a at_start at_a))) in
+      each_push P outs out dest as_many (λ j o h i a at_i at_a. next j i a o at_i at_a h) here j o at_o i a at_i at_a
 
 -- the pass that comes next is that at the next place
-pub inlet_next : (ends : List SharedEnds) (left left' all : List InboxPass) (p : InboxPass) → map (λ (e : SharedEnds). e.inlet) ends ++ left ≡ all → left ≡ p ∷ left' → (length ends < length all) × at all (length ends) p
-inlet_next ends left left' all p was next =
-    let is : map (λ (e : SharedEnds). e.inlet) ends ++ p ∷ left' ≡ all = ap (λ l. map (λ (e : SharedEnds). e.inlet) ends ++ l) (sym next) ∙ was in
-    let many = length-map ends (λ (e : SharedEnds). e.inlet) in
-    let A : ℕ → Type 0 = λ k. at all k p in
-    let B : List InboxPass → Type 0 = λ l. at l (length (map (λ (e : SharedEnds). e.inlet) ends)) p in
-    let there : at all (length ends) p = subst A many (subst B is (at_middle (map (λ (e : SharedEnds). e.inlet) ends) left' p)) in
+pub inlet_next : (ends : List SharedEnds) {left left' all : List InboxPass} {p : InboxPass} → map (λ (e : SharedEnds). e.inlet) ends ++ left ≡ all → left ≡ p ∷ left' → (length ends < length all) × at all (length ends) p
+inlet_next ends {left'} {all} {p} was next =
+    let f : SharedEnds → InboxPass = λ e. e.inlet in
+    let shown : at (map f ends ++ p ∷ left') (length ends) p = subst (λ k. at (map f ends ++ p ∷ left') k p) (length-map ends f) (at_middle (map f ends) left' p) in
+    let there : at all (length ends) p = subst (λ l. at l (length ends) p) (ap (λ l. map f ends ++ l) (sym next) ∙ was) shown in
     (slice_get_within all (length ends) p there, there)
 
-pub inlets_next : (ends ends' : List SharedEnds) (e : SharedEnds) (left left' all : List InboxPass) (p : InboxPass) → map (λ (x : SharedEnds). x.inlet) ends ++ left ≡ all → left ≡ p ∷ left' → ends' ≡ ends ++ e ∷ [] → e.inlet ≡ p
+pub inlets_next : (ends : List SharedEnds) {ends' : List SharedEnds} (e : SharedEnds) {left all : List InboxPass} (left' : List InboxPass) {p : InboxPass} → map (λ (x : SharedEnds). x.inlet) ends ++ left ≡ all → left ≡ p ∷ left' → ends' ≡ ends ++ e ∷ [] → e.inlet ≡ p
     → map (λ (x : SharedEnds). x.inlet) ends' ++ left' ≡ all
-inlets_next ends ends' e left left' all p was next more is =
-    ap (λ l. map (λ (x : SharedEnds). x.inlet) l ++ left') more ∙ ap (λ l. l ++ left') (map-append (λ (x : SharedEnds). x.inlet) ends (e ∷ [])) ∙ append_assoc (map (λ (x : SharedEnds). x.inlet) ends) (e.inlet ∷ []) left'
-    ∙ ap (λ y. map (λ (x : SharedEnds). x.inlet) ends ++ y ∷ left') is ∙ ap (λ l. map (λ (x : SharedEnds). x.inlet) ends ++ l) (sym next) ∙ was
+inlets_next ends e left' was next more is =
+    let f : SharedEnds → InboxPass = λ x. x.inlet in
+    ap (λ l. map f l ++ left') more ∙ ap (λ l. l ++ left') (map-append f ends (e ∷ [])) ∙ append_assoc (map f ends) (e.inlet ∷ []) left' ∙ ap (λ y. map f ends ++ y ∷ left') is ∙ ap (λ l. map f ends ++ l) (sym next) ∙ was

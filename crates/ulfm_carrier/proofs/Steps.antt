@@ -1,24 +1,16 @@
 -- One sender's items are put behind what is left.
 use Rattle.std.proofs.Common.{◌≡◌, ◌≢◌, ◌<◌, ◌≤◌, ◌+◌, inl, inr, ℕ, List, [], ◌++◌, length, map, sum, drop, get_or, ap, sym, ◌∙◌, arith, subst, append-nil}
-use Rattle.std.proofs.lemmas.Bool.{cases_eq}
 use Rattle.std.proofs.lemmas.List.Sums.{sum_by-cons}
 use Rattle.std.proofs.lemmas.List.{drop_more, length-map}
-use Rattle.std.proofs.lemmas.Option.{slice_get_within}
-use Rattle.ulfm_base.specs.declared.rank.WorldRank.{WorldRank}
-use Rattle.ulfm_base.specs.declared.item.Item.{Item}
-use Rattle.ulfm_carrier.specs.declared.inlet.Inlet.{Inlet}
-use Rattle.ulfm_base.specs.Items.{items_from}
-use Rattle.ulfm_base.specs.Lists.{at}
-use Rattle.ulfm_carrier.specs.Lanes.{inlet_capacity}
-use Rattle.ulfm_carrier.specs.inside.Tagged.{with_sender}
+use Rattle.ulfm_carrier.proofs.Common.{at, cases_eq, Inlet, inlet_capacity, Item, items_from, slice_get_within, with_sender, WorldRank}
 use Rattle.ulfm_carrier.proofs.Places.{view_or}
 use Rattle.ulfm_carrier.proofs.Senders.{items-append, items_own, items_other}
 
 -- the room that the rings from k on ask for is that of the ring k and that of the rest
-pub room_from : (caps : List ℕ) (ins : List Inlet) (k : ℕ) (i : Inlet) → map inlet_capacity ins ≡ caps → at ins k i → sum (drop k caps) ≡ inlet_capacity i + sum (drop (k + 1) caps)
-room_from caps ins k i is here =
+pub room_from : {caps : List ℕ} (ins : List Inlet) (k : ℕ) (i : Inlet) → map inlet_capacity ins ≡ caps → at ins k i → sum (drop k caps) ≡ inlet_capacity i + sum (drop (k + 1) caps)
+room_from {caps} ins k i is here =
     let low : k < length caps = omega (arith, slice_get_within ins k i here, ap length is, length-map ins inlet_capacity) in
-    ap sum (drop_more caps k 0 low) ∙ sum_by-cons (λ n. n) (get_or caps k 0) (drop (k + 1) caps) ∙ ap (λ n. n + sum (drop (k + 1) caps)) (ap (λ l. get_or l k 0) (sym is) ∙ view_or inlet_capacity ins k i 0 here)
+    ap sum (drop_more caps k 0 low) ∙ sum_by-cons (λ n. n) (get_or caps k 0) (drop (k + 1) caps) ∙ ap (λ n. n + sum (drop (k + 1) caps)) (ap (λ l. get_or l k 0) (sym is) ∙ view_or inlet_capacity ins k 0 here)
 
 module _ (source : WorldRank) (from : ℕ) (is : source.number ≡ from) (old new : List (WorldRank × Item)) (rest : List Item) (more : new ≡ old ++ map (with_sender source) rest) (none : (s : ℕ) → from ≤ s → items_from s old ≡ []) where
   other : (s : ℕ) → s ≢ from → items_from s new ≡ items_from s old
@@ -33,7 +25,7 @@ module _ (source : WorldRank) (from : ℕ) (is : source.number ≡ from) (old ne
   left_below sent taken own below s low = elim (cases_eq s from) [
     | inl e ↦
         let here : items_from from new ≡ rest =
-        ap (items_from from) more ∙ items-append from old (map (with_sender source) rest) ∙ ap (λ l. l ++ items_from from (map (with_sender source) rest)) (none from (omega arith)) ∙ items_own source from rest is in
-        let P : ℕ → Type 0 = λ s. sent s ≡ taken s ++ items_from s new in subst P (sym e) (own ∙ ap (λ l. taken from ++ l) (sym here))
-    | inr apart ↦ below s (let m : s ≢ from = apart in omega arith) ∙ ap (λ l. taken s ++ l) (sym (other s apart))
+        ap (items_from from) more ∙ items-append from old (map (with_sender source) rest) ∙ ap (λ l. l ++ items_from from (map (with_sender source) rest)) (none from (omega arith)) ∙ items_own source rest is in
+        subst (λ (s : ℕ). sent s ≡ taken s ++ items_from s new) (sym e) (own ∙ ap (λ l. taken from ++ l) (sym here))
+    | inr apart ↦ below s (let m = apart in omega arith) ∙ ap (λ l. taken s ++ l) (sym (other s apart))
   ]

@@ -1,14 +1,7 @@
 -- What the ends tell of which one of them hears.
 use Rattle.std.proofs.Common.{◌≡◌, ◌<◌, inl, inr, ℕ, zero, suc, List, [], ◌∷◌, length, map, get_or, refl, ap, sym, ◌∙◌, arith, subst}
-use Rattle.std.proofs.lemmas.Bool.{cases_eq}
-use Rattle.std.proofs.lemmas.List.{length_push}
-use Rattle.ulfm_base.specs.declared.item.Item.{Item}
-use Rattle.ulfm_carrier.specs.declared.inbox.View.{View}
-use Rattle.ulfm_carrier.specs.declared.shared_ends.SharedEnds.{SharedEnds}
-use Rattle.ulfm_base.specs.Lists.{at}
-use Rattle.ulfm_carrier.specs.inside.Emptying.{HasAllReceipts}
-use Rattle.ulfm_carrier.specs.Shared.{shared_pushed}
-use Rattle.ulfm_carrier.proofs.Last.{at_last, at_front}
+use Rattle.ulfm_carrier.proofs.Common.{at, cases_eq, HasAllReceipts, Item, length_push, shared_pushed, SharedEnds, View}
+use Rattle.ulfm_carrier.proofs.Last.{at_middle, at_front}
 use Rattle.ulfm_carrier.proofs.Places.{at_push}
 use Rattle.ulfm_carrier.proofs.Heard.{told_by, told_view}
 
@@ -25,18 +18,16 @@ module _ (all : List SharedEnds) (place : ℕ) where
   told_at zero s low = absurd (omega (arith, low))
   told_at (suc n) s low = elim (cases_eq s n) [
     | inl same ↦
-        let A : ℕ → Type 0 = λ k. at (told_by all place (suc n)) k (telling n) in
-        let B : ℕ → Type 0 = λ k. at (told_by all place (suc n)) s (telling k) in
-        subst B (sym same) (subst A (told-many n ∙ sym same) (at_last (told_by all place n) (telling n)))
-    | inr apart ↦ let m : s ≡ n → ⊥ = apart in at_front (told_by all place n) (telling n ∷ []) s (telling s) (told_at n s (omega (arith, low, m)))
+        subst (λ k. at (told_by all place (suc n)) s (telling k)) (sym same) (subst (λ k. at (told_by all place (suc n)) k (telling n)) (told-many n ∙ sym same) (at_middle (told_by all place n) [] (telling n)))
+    | inr apart ↦ let m = apart in at_front (told_by all place n) (telling n ∷ []) s (told_at n s (omega (arith, low, m)))
   ]
 
   pub told-number : (n k : ℕ) (x : ℕ × List Item) → at (told_by all place n) k x → x.0 ≡ k
   told-number zero k x here = absurd (cc)
-  told-number (suc n) k x here = elim (at_push (told_by all place n) (telling n) k x here) [
+  told-number (suc n) k x here = elim (at_push (told_by all place n) (telling n) k here) [
     | inl h ↦ told-number n k x h.1
     | inr h ↦ ap (λ (y : ℕ × List Item). y.0) h.1 ∙ sym (h.0 ∙ told-many n)
   ]
 
-  pub told_of_all : (n : ℕ) (v w : View) → w ≡ told_view v (told_by all place n) → v.made ≡ n → HasAllReceipts w
-  told_of_all n v w is made = subst HasAllReceipts (sym is) (told-many n ∙ sym made, told-number n)
+  pub told_of_all : {n : ℕ} (v : View) {w : View} → w ≡ told_view v (told_by all place n) → v.made ≡ n → HasAllReceipts w
+  told_of_all {n} v is made = subst HasAllReceipts (sym is) (told-many n ∙ sym made, told-number n)

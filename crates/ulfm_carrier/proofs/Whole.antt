@@ -1,21 +1,14 @@
 -- With all rings made, the ends are those of one call, and nothing was done with them.
 use Rattle.std.proofs.Common.{◌≡◌, ◌<◌, ◌≤◌, ◌*◌, ℕ, zero, suc, List, [], ◌∷◌, length, map, get_or, sum, vec_len, refl, ap, sym, ◌∙◌, arith, subst, slice_get}
-use Rattle.std.proofs.lemmas.List.{length-map}
 use Rattle.std.proofs.lemmas.List.Sums.{sum_by-cons}
-use Rattle.std.proofs.lemmas.Option.{slice_get_within}
-use Rattle.rtrb.specs.Ring.{known_free}
+use Rattle.ulfm_carrier.proofs.Common.{AllFresh, AreWired, at, item_of, known_free, LaneEnds, length-map, slice_get_within}
 use Rattle.ulfm_carrier.specs.declared.lane_ends.LaneName.{LaneName}
-use Rattle.ulfm_carrier.specs.declared.lane_ends.LaneEnds.{LaneEnds}
-use Rattle.ulfm_carrier.specs.Carried.{item_of}
-use Rattle.ulfm_carrier.specs.Family.{AllFresh}
-use Rattle.ulfm_base.specs.Lists.{at}
 use Rattle.ulfm_carrier.specs.Lanes.{outlet_name, inlet_name, inlet_capacity, pushed_into, taken_by, lane_name, lane_pushed, lane_taken, known_room, IsReady, OneCall}
-use Rattle.ulfm_carrier.specs.inside.Wiring.{AreWired}
 
-pub at_map : {X Y : Type 0} (f : X → Y) (xs : List X) (k : ℕ) (y : Y) → at (map f xs) k y → (x : X) × at xs k x × (y ≡ f x)
-at_map f [] k y here = absurd (cc)
-at_map f (x ∷ xs) zero y here = (x, refl, cc)
-at_map f (x ∷ xs) (suc k) y here = at_map f xs k y here
+pub at_map : {X Y : Type 0} (f : X → Y) (xs : List X) (k : ℕ) {y : Y} → at (map f xs) k y → (x : X) × at xs k x × (y ≡ f x)
+at_map f [] k here = absurd (cc)
+at_map f (x ∷ xs) zero here = (x, refl, cc)
+at_map f (x ∷ xs) (suc k) {y} here = at_map f xs k here
 
 pub all_empty : {X Y : Type 0} (f : X → List Y) (xs : List X) → ((k : ℕ) (x : X) → at xs k x → f x ≡ []) → (p : ℕ) → get_or (map f xs) p [] ≡ []
 all_empty f [] each p = refl
@@ -38,8 +31,8 @@ module _ (n capacity : ℕ) (ends : List LaneEnds) (w : AreWired n capacity n 0 
   below : (k : ℕ) (e : LaneEnds) → at ends k e → k < n
   below k e here = omega (arith, slice_get_within ends k e here, w.as_many)
 
-  pub outs_all : (k : ℕ) (e : LaneEnds) → at ends k e → length e.outs.items ≡ n
-  outs_all k e here = (w.each k e here).outs_below (below k e here)
+  pub outs_all : (k : ℕ) {e : LaneEnds} → at ends k e → length e.outs.items ≡ n
+  outs_all k {e} here = (w.each k e here).outs_below (below k e here)
 
   ins_all : (k : ℕ) (e : LaneEnds) → at ends k e → length e.ins.items ≡ n
   ins_all k e here = (w.each k e here).ins_above (omega arith)
@@ -50,20 +43,20 @@ module _ (n capacity : ℕ) (ends : List LaneEnds) (w : AreWired n capacity n 0 
   pub wired_family : 0 < n → OneCall (map lane_name ends)
   wired_family some = record {
     some = omega (arith, many);
-    placed = λ i x here. let e = at_map lane_name ends i x here in ap (λ (y : LaneName). y.place) e.2 ∙ (w.each i e.0 e.1).number;
+    placed = λ i x here. let e = at_map lane_name ends i here in ap (λ (y : LaneName). y.place) e.2 ∙ (w.each i e.0 e.1).number;
     outs = λ i x here.
-        let e = at_map lane_name ends i x here in ap (λ (y : LaneName). length y.outs) e.2 ∙ length-map e.0.outs.items outlet_name ∙ outs_all i e.0 e.1 ∙ sym many;
-    ins = λ i x here. let e = at_map lane_name ends i x here in ap (λ (y : LaneName). length y.ins) e.2 ∙ length-map e.0.ins.items inlet_name ∙ ins_all i e.0 e.1 ∙ sym many;
+        let e = at_map lane_name ends i here in ap (λ (y : LaneName). length y.outs) e.2 ∙ length-map e.0.outs.items outlet_name ∙ outs_all i e.1 ∙ sym many;
+    ins = λ i x here. let e = at_map lane_name ends i here in ap (λ (y : LaneName). length y.ins) e.2 ∙ length-map e.0.ins.items inlet_name ∙ ins_all i e.0 e.1 ∙ sym many;
     joined = λ i j x y at_i at_j.
-        let a = at_map lane_name ends i x at_i in
-        let b = at_map lane_name ends j y at_j in
+        let a = at_map lane_name ends i at_i in
+        let b = at_map lane_name ends j at_j in
         ap (λ (v : LaneName). slice_get v.outs j) a.2 ∙ w.joined i j a.0 b.0 a.1 b.1 ∙ sym (ap (λ (v : LaneName). slice_get v.ins i) b.2);
   }
 
   ready : n ≤ 8 → (k : ℕ) (e : LaneEnds) → at ends k e → IsReady e
   ready few k e here =
       let v = w.each k e here in
-      let outs = outs_all k e here in
+      let outs = outs_all k here in
       let ins = ins_all k e here in record {
         rings = record {
           square = ins ∙ sym outs;
@@ -82,11 +75,10 @@ module _ (n capacity : ℕ) (ends : List LaneEnds) (w : AreWired n capacity n 0 
   wired_fresh few k e here =
       let v = w.each k e here in record {
         is_ready = ready few k e here;
-        counted = omega (arith, outs_all k e here, e.outs.ok, w.as_many);
+        counted = omega (arith, outs_all k here, e.outs.ok, w.as_many);
         nothing_pushed = all_empty (pushed_into e.me) e.outs.items (λ j p there. ap (map (item_of e.me)) (v.new_outs j p there).0);
         nothing_taken = all_empty taken_by e.ins.items (λ j i there. (v.new_ins j i there).1);
       }
 
   pub wired_room : (k d : ℕ) (e : LaneEnds) → at ends k e → d < n → known_room e d ≡ capacity
-  wired_room k d e here low =
-      let v = w.each k e here in all_equal known_free capacity e.outs.items (λ j p there. (v.new_outs j p there).1) d (omega (arith, outs_all k e here))
+  wired_room k d e here low = let v = w.each k e here in all_equal known_free capacity e.outs.items (λ j p there. (v.new_outs j p there).1) d (omega (arith, outs_all k here))

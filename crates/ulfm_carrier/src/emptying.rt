@@ -20,7 +20,7 @@ use std::mem;
 use std::sync::Wait;
 use ulfm_base::{Item, WorldRank};
 
-/// Empties the inboxes of all ends of one call. It takes no memory.
+/// Empties the inboxes of all ends of one call. It never answers out of memory.
 pub(crate) fn gather_shared<R: Wait>(
     rt: &R,
     mut ends: Vec<SharedEnds>,

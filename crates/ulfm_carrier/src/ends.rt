@@ -43,7 +43,7 @@ pub trait Ends: Drop {
     ///
     /// # Errors
     ///
-    /// The item itself, where the inbox has no room for it.
+    /// The item itself. Where that may be each carrier says.
     fn push<R: Wait>(&mut self, rt: &R, dest: u8, item: Item) -> Result<(), Item>
         requires ready { ready self.old }
         requires dest { dest < count self.old }

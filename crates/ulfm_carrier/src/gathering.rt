@@ -11,7 +11,7 @@ use crate::residue::Residue;
 use std::mem;
 use ulfm_base::{Item, WorldRank};
 
-/// Empties the inboxes of all ends of one call. It takes no memory.
+/// Empties the inboxes of all ends of one call. It never answers out of memory.
 pub(crate) fn gather_all(mut ends: Vec<LaneEnds>) -> (Residue, Vec<LaneEnds>)
     requires family { OneCall (map lane_name ends.items) }
     requires ready { (k : ℕ) (e : Lanes) → at ends.items k e → IsReady e }

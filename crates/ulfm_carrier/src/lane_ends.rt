@@ -49,11 +49,11 @@ impl LaneEnds {
     ghost use Rattle.ulfm_carrier.specs.Carried.{item_of};
     ghost use Rattle.ulfm_carrier.specs.Lanes.{lane_name, lane_pushed, lane_taken, known_room, seen_from, IsReady, IsFoundInTurn};
 
-    /// `push`, which waits for nobody and takes no memory.
+    /// `push` without an `rt`, so it waits for nobody.
     ///
     /// # Errors
     ///
-    /// The item itself, where the ring to that rank is full.
+    /// The item itself, where this end knows of no free place in the ring to that rank.
     pub fn push_now(&mut self, dest: u8, item: Item) -> Result<(), Item>
         requires ready { IsReady self.old }
         requires dest { dest < vec_len self.old.outs }
@@ -76,7 +76,7 @@ impl LaneEnds {
         Ok(())
     }
 
-    /// `pop`, which waits for nobody and takes no memory. It looks at the ranks upwards and round, from the one after the
+    /// `pop` without an `rt`, so it waits for nobody. It looks at the ranks upwards and round, from the one after the
     /// last from which it took, first of all from rank 0. Where it finds nothing, that turn stays, and all that the rank
     /// pushed to itself was taken.
     pub fn pop_now(&mut self) -> Option<(WorldRank, Item)>

@@ -106,7 +106,8 @@ fn divide(inbox: &Inbox, own: &mut InboxPass, inlet: &mut InboxPass)
     inbox.absorb::<Returns>(inlet, part);
 }
 
-/// Pushes an item to the rank's own inbox. It comes back only where at one step of the call the inbox was full.
+/// Pushes an item to the rank's own inbox. It comes back only where what the rank pushed to itself and didn't take, with items
+/// of other ranks, can fill the inbox.
 pub(crate) fn send_own<R: Wait>(
     rt: &R,
     inbox: &Inbox,

@@ -15,7 +15,7 @@ use std::sync::Arc;
 use ulfm_base::{CallError, WorldRank};
 
 /// The ends of `n` ranks, by their places, with an inbox of `capacity` places for each rank, which all ranks share as
-/// senders, itself too. They keep room for all that the inboxes can hold, so that a gathering takes no memory.
+/// senders, itself too. They keep room for all that the inboxes can hold, so that a gathering needs no growth.
 ///
 /// # Errors
 ///

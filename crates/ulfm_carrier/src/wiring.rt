@@ -13,7 +13,7 @@ use std::alloc::Global;
 use ulfm_base::{CallError, WorldRank};
 
 /// The ends of `n` ranks, by their places, with a ring of `capacity` places for each ordered pair, a rank with itself
-/// too. They keep room for all that the rings can hold, so that a gathering takes no memory.
+/// too. They keep room for all that the rings can hold, so that a gathering needs no growth.
 ///
 /// # Errors
 ///

@@ -11,14 +11,14 @@ use toml::de::Error;
 pub enum Cause {
     /// A byte that isn't UTF-8.
     NotUtf8,
-    /// No TOML.
-    NotToml(Error),
+    /// No TOML, and what stands there.
+    NotToml(Error, Shown),
     /// More bytes than a job may have.
     TooManyBytes,
     /// More steps than a job may have.
     TooManySteps(usize),
-    /// A required key is missing.
-    Missing(Key),
+    /// A required key is missing, which has to be of this kind.
+    Missing(Key, Kind),
     /// A required key of the job is missing, and stands in a step.
     InStep(Key),
     /// A key has a value of this kind, and not of the kind that it has to have.
@@ -50,6 +50,24 @@ impl fmt::Display for Meant<'_> {
     }
 }
 
+/// Why a text is no TOML, and what stands there, if there is anything.
+#[derive(Clone, Copy)]
+struct Broken<'a>(&'a Error, &'a Shown);
+
+impl fmt::Display for Broken<'_> {
+    fn fmt<W: fmt::Write>(&self, f: &mut fmt::Formatter<W>) -> fmt::Result {
+        let why = self.0.message();
+        write!(f, "this is no TOML: {why}")?;
+        if !self.1.is_empty() {
+            write!(f, ", at '{}'", self.1)?;
+        }
+        if why == "duplicate key" && self.1.is_of_step() {
+            f.write_str(" (each step begins with a [[step]] of its own)")?;
+        }
+        Ok(())
+    }
+}
+
 /// The names of all ops, parted by commas.
 #[derive(Clone, Copy)]
 struct AllOps;
@@ -68,23 +86,30 @@ impl fmt::Display for AllOps {
 impl fmt::Display for Cause {
     fn fmt<W: fmt::Write>(&self, f: &mut fmt::Formatter<W>) -> fmt::Result {
         match self {
-            Cause::NotUtf8 => f.write_str("this byte is no UTF-8"),
-            Cause::NotToml(error) => write!(f, "this is no TOML: {}", error.message()),
-            Cause::TooManyBytes => f.write_str("the text has more than 1048576 bytes"),
+            Cause::NotUtf8 => f.write_str("this byte is no UTF-8; save the file as UTF-8"),
+            Cause::NotToml(error, rest) => write!(f, "{}", Broken(error, rest)),
+            Cause::TooManyBytes => f.write_str(
+                "the text has more than 1048576 bytes, which are the most",
+            ),
             Cause::TooManySteps(count) => {
                 write!(f, "there are {count} steps, and 256 are the most")
             }
-            Cause::Missing(key) => write!(f, "key '{key}' is missing"),
+            Cause::Missing(Key::Op, _) => write!(f, "key 'op' is missing; the ops are {AllOps}"),
+            Cause::Missing(key, wanted) => {
+                write!(f, "key '{key}' is missing; it has to be {wanted}")
+            }
             Cause::InStep(key) => {
                 write!(
                     f,
-                    "key '{key}' is missing above the first step, and stands in a step here"
+                    "key '{key}' is missing above the first step, and stands in a step here; move it up"
                 )
             }
             Cause::WrongKind(key, found, wanted) => {
                 write!(f, "key '{key}' is {found}, and has to be {wanted}")
             }
-            Cause::OneTable => f.write_str("'step' is one table; write [[step]] above each step"),
+            Cause::OneTable => f.write_str(
+                "key 'step' is one table, and has to be an array of tables; write [[step]] above each step",
+            ),
             Cause::NoTable(found) => write!(f, "the step is a TOML {found}, and has to be a table"),
             Cause::UnknownKey(word, nearest, rules) => {
                 let meant = Meant(nearest.map(|key| key.name()));
@@ -97,7 +122,7 @@ impl fmt::Display for Cause {
                 let meant = Meant(*nearest);
                 write!(f, "op '{word}' is unknown{meant} the ops are {AllOps}")
             }
-            Cause::Doomed(doom) => write!(f, "{doom}: it will be refused"),
+            Cause::Doomed(doom) => write!(f, "{doom}: this step will be refused"),
         }
     }
 }

@@ -5,6 +5,7 @@ use crate::cause::Cause;
 use crate::explanation::Explanation;
 use crate::findings::Findings;
 use crate::place::{Place, place_at};
+use crate::shown::Shown;
 use crate::steps::explain_job;
 use std::alloc::{AllocError, Global};
 use toml::Table;
@@ -34,11 +35,12 @@ pub fn explain(alloc: Global, bytes: &[u8]) -> Result<Vec<Explanation>, AllocErr
     match toml::table_from_str(alloc, text) {
         Ok(table) => explain_table(alloc, text, &table),
         Err(error) => match error.span() {
-            Some(span) => one(
-                alloc,
-                Some(place_at(bytes, span.start)),
-                Cause::NotToml(error),
-            ),
+            Some(span) => {
+                let rest = text.get(span.start..).unwrap_or("");
+                let there = Shown::new(alloc, rest.lines().next().unwrap_or(""))?;
+                let place = Some(place_at(bytes, span.start));
+                one(alloc, place, Cause::NotToml(error, there))
+            }
             None => Err(AllocError),
         },
     }

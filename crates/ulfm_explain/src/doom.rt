@@ -8,15 +8,59 @@ use std::fmt;
 pub enum Doom {
     /// A rank past those of the world, which has so many.
     PastRanks(Key, i64, u8),
-    /// A wait for a step that its rank doesn't have.
-    NoSuchStep(i64),
-    /// A wait for itself or for a later step.
-    NotEarlier(i64),
-    /// A wait for a step that is no receive, but has this op.
-    NoReceive(i64, &'static str),
     /// A body of more bytes than a message may have.
     LongBody(usize),
+    /// A communicator that no earlier step of the rank makes.
+    NotMade(i64),
+    /// A communicator that the earlier step of this number revokes.
+    Revoked(i64, usize),
+    /// A communicator of which none can be made any more, by this op.
+    NoContext(i64, &'static str),
+    /// The same op on the same communicator as the earlier step of this number.
+    Again(i64, &'static str, usize),
+    /// A wait for a step that its rank doesn't have.
+    NoSuchStep(i64),
+    /// A wait for itself.
+    Itself(i64),
+    /// A wait for a later step.
+    Later(i64),
+    /// A wait for a step that is no receive, but has this op.
+    NoReceive(i64, &'static str),
+    /// A wait for a receive that will be refused itself.
+    RefusedReceive(i64),
 }
+
+impl Doom {
+    /// The key that it is about.
+    pub fn key(&self) -> Key {
+        match self {
+            Doom::PastRanks(key, _, _) => *key,
+            Doom::LongBody(_) => Key::Body,
+            Doom::NotMade(_) | Doom::Revoked(_, _) | Doom::NoContext(_, _) | Doom::Again(_, _, _) =>
+                Key::Comm,
+            Doom::NoSuchStep(_)
+            | Doom::Itself(_)
+            | Doom::Later(_)
+            | Doom::NoReceive(_, _)
+            | Doom::RefusedReceive(_) => Key::Req,
+        }
+    }
+}
+
+/// The op that makes a communicator, and from which.
+#[derive(Clone, Copy)]
+struct Maker(i64);
+
+impl fmt::Display for Maker {
+    fn fmt<W: fmt::Write>(&self, f: &mut fmt::Formatter<W>) -> fmt::Result {
+        let parent = self.0.saturating_sub(1) / 2;
+        let op = if self.0 % 2 == 1 { "dup" } else { "shrink" };
+        write!(f, "a {op} of {parent}")
+    }
+}
+
+/// What a `req` names, for those who counted in another way.
+const COUNTED: &str = "req counts the steps of one rank, from 0";
 
 impl fmt::Display for Doom {
     fn fmt<W: fmt::Write>(&self, f: &mut fmt::Formatter<W>) -> fmt::Result {
@@ -28,19 +72,60 @@ impl fmt::Display for Doom {
                     "key '{key}' is {value}, and no communicator has more than the {ranks} ranks 0 to {last}"
                 )
             }
-            Doom::NoSuchStep(req) => {
-                write!(f, "key 'req' is {req}, and its rank has no step {req}")
-            }
-            Doom::NotEarlier(req) => write!(
-                f,
-                "key 'req' is {req}, and step {req} of its rank comes no earlier"
-            ),
-            Doom::NoReceive(req, op) => write!(
-                f,
-                "key 'req' is {req}, and step {req} of its rank is no recv but a {op}"
-            ),
             Doom::LongBody(count) => {
                 write!(f, "key 'body' has {count} bytes, and 1024 are the most")
+            }
+            Doom::NotMade(comm) => {
+                let maker = Maker(*comm);
+                write!(
+                    f,
+                    "no earlier step of its rank makes communicator {comm} ({maker} does)"
+                )
+            }
+            Doom::Revoked(comm, step) => {
+                write!(f, "step {step} of its rank revokes communicator {comm}")
+            }
+            Doom::NoContext(comm, op) => {
+                write!(
+                    f,
+                    "key 'comm' is {comm}, and 30 is the last of which there is a {op}"
+                )
+            }
+            Doom::Again(comm, op, step) => {
+                write!(
+                    f,
+                    "step {step} of its rank is a {op} of communicator {comm} too, and one is the most"
+                )
+            }
+            Doom::NoSuchStep(req) => {
+                write!(
+                    f,
+                    "key 'req' is {req}, and its rank has no step {req}; {COUNTED}"
+                )
+            }
+            Doom::Itself(req) => {
+                write!(
+                    f,
+                    "key 'req' is {req}, and that is this step itself; {COUNTED}"
+                )
+            }
+            Doom::Later(req) => {
+                write!(
+                    f,
+                    "key 'req' is {req}, and step {req} of its rank comes later; {COUNTED}"
+                )
+            }
+            Doom::NoReceive(req, op) => {
+                write!(
+                    f,
+                    "key 'req' is {req}, and step {req} of its rank is no recv but a {op}; {COUNTED}"
+                )
+            }
+            Doom::RefusedReceive(req) => {
+                write!(
+                    f,
+                    "key 'req' is {req}, and the recv that is step {req} of its rank will be refused"
+                )
             }
         }
     }

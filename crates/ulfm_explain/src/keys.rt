@@ -56,7 +56,7 @@ impl Sheet<'_> {
             }
         }
         let at = findings.place_of_step(self.in_file());
-        findings.tell(at, self.step, Cause::Missing(key))
+        findings.tell(at, self.step, Cause::Missing(key, key.kind(self.ranks)))
     }
 
     /// Tells of a value that isn't of its key's kind.
@@ -143,7 +143,7 @@ pub fn text_at(table: &Table, key: Key) -> Option<&str> {
 /// Whether a value is of a kind, other than an array of tables.
 fn is_of_kind(value: &Value, kind: Kind) -> bool {
     match kind {
-        Kind::Integer(_, _) => value.is_integer(),
+        Kind::Integer(_, _) | Kind::OrAny(_, _) => value.is_integer(),
         Kind::Text => value.is_str(),
         Kind::Tables => false,
     }
@@ -153,6 +153,7 @@ fn is_of_kind(value: &Value, kind: Kind) -> bool {
 fn is_outside(number: i64, kind: Kind) -> bool {
     match kind {
         Kind::Integer(least, most) => number < least || most < number,
+        Kind::OrAny(least, most) => number < least || most < number,
         Kind::Text | Kind::Tables => false,
     }
 }

@@ -5,6 +5,7 @@ mod cause;
 mod check;
 mod doom;
 mod explanation;
+mod fate;
 mod findings;
 mod keys;
 mod marks;

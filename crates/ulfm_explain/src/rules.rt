@@ -7,6 +7,8 @@ use std::fmt;
 pub enum Kind {
     /// An integer from the first to the second.
     Integer(i64, i64),
+    /// The same, and where the key is left out, any.
+    OrAny(i64, i64),
     /// A text.
     Text,
     /// An array of tables.
@@ -25,6 +27,8 @@ pub enum Key {
     To,
     From,
     Tag,
+    /// The tag of a receive.
+    TagOrAny,
     Body,
     Room,
     Req,
@@ -44,7 +48,7 @@ impl Key {
             Key::Rank => "rank",
             Key::To => "to",
             Key::From => "from",
-            Key::Tag => "tag",
+            Key::Tag | Key::TagOrAny => "tag",
             Key::Body => "body",
             Key::Room => "room",
             Key::Req => "req",
@@ -62,8 +66,10 @@ impl Key {
             Key::Step => Kind::Tables,
             Key::Op | Key::Body => Kind::Text,
             Key::Rank => Kind::Integer(0, i64::from(ranks.saturating_sub(1))),
-            Key::To | Key::From => Kind::Integer(0, 7),
+            Key::To => Kind::Integer(0, 7),
+            Key::From => Kind::OrAny(0, 7),
             Key::Tag => Kind::Integer(0, 32767),
+            Key::TagOrAny => Kind::OrAny(0, 32767),
             Key::Room => Kind::Integer(0, 1024),
             Key::Req => Kind::Integer(0, 255),
             Key::Count => Kind::Integer(0, 8),
@@ -95,12 +101,21 @@ pub fn job_rules() -> Rules {
     }
 }
 
-/// The keys of a step whose op isn't known.
+/// The keys of a step whose op isn't known: those of all ops.
 pub fn any_step_rules() -> Rules {
     Rules {
         owner: "a step",
-        required: &[Key::Rank],
-        optional: &[],
+        required: &[Key::Op, Key::Rank],
+        optional: &[
+            Key::To,
+            Key::From,
+            Key::Tag,
+            Key::Body,
+            Key::Room,
+            Key::Req,
+            Key::Count,
+            Key::Comm,
+        ],
     }
 }
 
@@ -115,7 +130,7 @@ pub fn rules_of(op: &str) -> Option<Rules> {
         "recv" => (
             "recv",
             &[Key::Op, Key::Rank],
-            &[Key::From, Key::Tag, Key::Room, Key::Comm],
+            &[Key::From, Key::TagOrAny, Key::Room, Key::Comm],
         ),
         "wait" => ("wait", &[Key::Op, Key::Rank, Key::Req], &[]),
         "failed" => ("failed", &[Key::Op, Key::Rank], &[Key::Comm]),
@@ -149,6 +164,9 @@ impl fmt::Display for Kind {
     fn fmt<W: fmt::Write>(&self, f: &mut fmt::Formatter<W>) -> fmt::Result {
         match self {
             Kind::Integer(least, most) => write!(f, "an integer from {least} to {most}"),
+            Kind::OrAny(least, most) => {
+                write!(f, "an integer from {least} to {most}, or left out for any")
+            }
             Kind::Text => f.write_str("a text in quotes"),
             Kind::Tables => f.write_str("an array of tables"),
         }

@@ -1,5 +1,6 @@
 //! Words of the job's text, as they are shown.
 
+use crate::rules::any_step_rules;
 use std::alloc::{AllocError, Global};
 use std::fmt;
 use toml::Value;
@@ -24,6 +25,18 @@ impl Shown {
             kept.push_str("..")?;
         }
         Ok(Shown { text: kept })
+    }
+
+    /// Whether nothing is shown.
+    pub fn is_empty(&self) -> bool {
+        self.text.is_empty()
+    }
+
+    /// Whether it begins as a line of a step does: with its head, or with one of its keys.
+    pub fn is_of_step(&self) -> bool {
+        let line = self.text.as_str();
+        let key = line.split(' ').next().unwrap_or("");
+        line.starts_with("[step]") || any_step_rules().find(key).is_some()
     }
 }
 

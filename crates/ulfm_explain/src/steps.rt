@@ -6,7 +6,7 @@ use crate::findings::Findings;
 use crate::keys::{Sheet, integer_at, text_at};
 use crate::nearest::nearest_op;
 use crate::rules::{Key, any_step_rules, job_rules, rules_of};
-use crate::shown::{Shown, shown_value};
+use crate::shown::Shown;
 use std::alloc::AllocError;
 use toml::{Table, Value};
 
@@ -100,36 +100,17 @@ fn explain_step(
             return sheet.explain(findings);
         }
     }
-    explain_op(findings, place, table)?;
+    if let Some(op) = text_at(table, Key::Op) {
+        let nearest = nearest_op(findings.alloc, op)?;
+        let cause = Cause::UnknownOp(Shown::new(findings.alloc, op)?, nearest);
+        let at = findings.place_of(Some(place.in_file), "op");
+        findings.tell(at, Some(place), cause)?;
+    }
     let sheet = Sheet {
         table,
         rules: any_step_rules(),
         step: Some(place),
         ranks,
     };
-    sheet.explain_kinds(findings)?;
-    sheet.explain_ranges(findings)
-}
-
-/// Tells what is wrong with an op that isn't known.
-fn explain_op(
-    findings: &mut Findings<'_>,
-    place: StepPlace,
-    table: &Table,
-) -> Result<(), AllocError> {
-    let at = findings.place_of(Some(place.in_file), "op");
-    let cause = match table.get("op") {
-        Some(value) => match value.as_str() {
-            Some(op) => {
-                let nearest = nearest_op(findings.alloc, op)?;
-                Cause::UnknownOp(Shown::new(findings.alloc, op)?, nearest)
-            }
-            None => {
-                let found = shown_value(findings.alloc, value)?;
-                Cause::WrongKind(Key::Op, found, Key::Op.kind(8))
-            }
-        },
-        None => Cause::Missing(Key::Op),
-    };
-    findings.tell(at, Some(place), cause)
+    sheet.explain(findings)
 }

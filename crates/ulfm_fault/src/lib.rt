@@ -1,5 +1,5 @@
 //! What one rank knows of failures and revocations (ULFM): which ranks have failed, how many of them were acknowledged
-//! for each communicator, and which communicators are revoked. No call takes memory.
+//! for each communicator, and which communicators are revoked. No call answers out of memory.
 #![tactic(auto)]
 
 mod faults;

@@ -23,6 +23,10 @@ lists_of scripts = map (λ script. script.items) scripts
 abbrev pub seen_of : ℕ → ℕ → List (Vec Step Global) → Seen
 seen_of capacity turns scripts = record { ranks = length scripts; capacity = capacity; turns = turns; scripts = lists_of scripts }
 
+-- a job with another number of turns
+abbrev pub with_turns : ℕ → Seen → Seen
+with_turns turns j = record j { turns = turns }
+
 -- the ranges of a job
 pub record IsJob (j : Seen) : Type 0 where
   pub script_each : length j.scripts ≡ j.ranks

@@ -1,5 +1,5 @@
 //! A job.
-ghost use Rattle.std.specs.Prelude.{◌≡◌, slice_get, length};
+ghost use Rattle.std.specs.Prelude.{◌≡◌, ◌<◌, ◌≤◌, slice_get, length};
 ghost use Rattle.ulfm_job.specs.Job.{IsJob, step_count, script_at};
 
 use crate::step::Step;
@@ -25,7 +25,7 @@ impl Model for Job {
 }
 
 impl Job {
-    ghost use Rattle.ulfm_job.specs.Job.{seen_of};
+    ghost use Rattle.ulfm_job.specs.Job.{seen_of, with_turns};
 
     /// The job of these scripts, one for each rank.
     pub(crate) fn new(capacity: u8, turns: u32, scripts: Vec<Vec<Step>>) -> Job
@@ -37,6 +37,15 @@ impl Job {
             turns,
             scripts,
         }
+    }
+
+    /// The same job with another number of turns, 1 to 10,000,000.
+    pub fn with_turns(self, turns: u32) -> Job
+        requires some { 0 < turns }
+        requires most { turns ≤ 10000000 }
+        ensures { result ≡ with_turns turns self }
+    {
+        Job::new(self.capacity, turns, self.scripts)
     }
 
     /// How many ranks there are, 1 to 8. Each has a script.
@@ -90,7 +99,7 @@ impl Job {
         self.script(rank).len()
     }
 
-    /// The step at a place, from 0, of a rank's script, where there is one. It takes no memory.
+    /// The step at a place, from 0, of a rank's script, where there is one. It never answers out of memory.
     pub fn step(&self, rank: u8, place: usize) -> Option<Step>
         ensures { result ≡ slice_get (script_at self.now rank) place }
     {

@@ -2,7 +2,6 @@
 use Rattle.std.proofs.Common.{◌≡◌, ℕ, List, [], ◌∷◌, ◌++◌, refl, inl, inr, Some, None}
 use Rattle.ulfm_laws.proofs.Common.{Entry, State, logged, Step, StepAnswer, StepReport}
 use Rattle.ulfm_rank.specs.declared.entry.Entry.TheVariants.{Sent as SentEntry, Posted as PostedEntry, Took}
-use Rattle.ulfm_rank.specs.declared.entry.TestAnswer.TheVariants.{Done as TestDone, Over as TestOver}
 use Rattle.ulfm_job.specs.declared.step.Step.TheVariants.{Send, Recv, Wait}
 use Rattle.ulfm_script.specs.declared.answer.StepAnswer.TheVariants.{Sent, Posted, Done, Over}
 use Rattle.ulfm_script.specs.Player.{AnswersStep, step_report, request_of}
@@ -49,16 +48,16 @@ plain asked answer silent = record { sends = λ group c d. sends group c d asked
 
 pub honest-plain : (n : ℕ) (log : List Entry) (done : List StepReport) (asked : Step) (answer : StepAnswer) (at polls : ℕ) → IsHonest n log done → IsSilent answer → IsHonest n log (done ++ step_report asked answer at polls ∷ [])
 honest-plain n log done asked answer at polls h silent =
-    let p : IsPlain asked answer = plain asked answer silent in
-    honest-answered n log done (step_report asked answer at polls) h (λ group c d. p.sends group c d) p.asks (p.tells n log (done ++ step_report asked answer at polls ∷ [])) (λ req k y c g f. p.waits req c)
+    let p = plain asked answer silent in
+    honest-answered n (step_report asked answer at polls) h (λ group c d. p.sends group c d) p.asks (p.tells n log (done ++ step_report asked answer at polls ∷ [])) (λ req k y c g f. p.waits req c)
 
 -- nothing is added to the log
 pub true-same : (r : State) (done : List StepReport) (asked : Step) (answer : StepAnswer) (at polls : ℕ) (new : State) → IsTrueOf r done → IsSilent answer → new ≡ r → IsTrueOf new (done ++ step_report asked answer at polls ∷ [])
 true-same r done asked answer at polls new h silent same = rw same (honest-plain r.ranks r.log done asked answer at polls h silent)
 
 -- an idle entry is added
-pub true-idle : (n : ℕ) (log : List Entry) (done : List StepReport) (e : Entry) → IsIdle e → IsHonest n log done → IsHonest n (log ++ e ∷ []) done
-true-idle n log done e idle h = honest-logged n log e done h (posts e idle) (λ c d. sends c d e idle) (takes e idle)
+pub true-idle : {n : ℕ} {log : List Entry} {done : List StepReport} (e : Entry) → IsIdle e → IsHonest n log done → IsHonest n (log ++ e ∷ []) done
+true-idle {n} {log} {done} e idle h = honest-logged e h (posts e idle) (λ c d. sends c d e idle) (takes e idle)
   where
     posts : (e : Entry) → IsIdle e → PostsNone e
     posts (PostedEntry pattern) h = absurd h
@@ -73,16 +72,16 @@ true-idle n log done e idle h = honest-logged n log e done h (posts e idle) (λ 
     takes _ h = tt
 
 pub true-one : (r : State) (done : List StepReport) (asked : Step) (answer : StepAnswer) (at polls : ℕ) (new : State) (e : Entry) → IsTrueOf r done → IsSilent answer → IsIdle e → new ≡ logged r e → IsTrueOf new (done ++ step_report asked answer at polls ∷ [])
-true-one r done asked answer at polls new e h silent idle only = true-same (logged r e) done asked answer at polls new (true-idle r.ranks r.log done e idle h) silent only
+true-one r done asked answer at polls new e h silent idle only = true-same (logged r e) done asked answer at polls new (true-idle e idle h) silent only
 
 -- an answer keeps the steps true
-pub true-answers : (r : State) (done : List StepReport) (h : IsTrueOf r done) (at polls : ℕ) (new : State) (asked : Step) (answer : StepAnswer) → AnswersStep done r asked answer new → IsTrueOf new (done ++ step_report asked answer at polls ∷ [])
-true-answers r done h at polls new asked answer a =
+pub true-answers : (r : State) {done : List StepReport} (h : IsTrueOf r done) (at polls : ℕ) (new : State) (asked : Step) (answer : StepAnswer) → AnswersStep done r asked answer new → IsTrueOf new (done ++ step_report asked answer at polls ∷ [])
+true-answers r {done} h at polls new asked answer a =
     each_answer done r new (λ step said. IsTrueOf new (done ++ step_report step said at polls ∷ []))
     (λ to tag body comm k. true-sent r done to tag body comm at polls new h k)
     (λ source tag room comm id k. true-posted r done source tag room comm id at polls new h k.0 k.1 k.2)
-    (λ req status body k. true-closed r done req (TestDone status body) (step_report (Wait req) (Done status body) at polls) new h refl refl refl (λ group c d. refl) (λ n log dones v. v) k)
-    (λ req reason k. true-closed r done req (TestOver reason) (step_report (Wait req) (Over reason) at polls) new h refl refl refl (λ group c d. refl) (λ n log dones v. v) k)
+    (λ req status body k. true-closed r (step_report (Wait req) (Done status body) at polls) h refl refl refl (λ group c d. refl) (λ n log dones v. v) k)
+    (λ req reason k. true-closed r (step_report (Wait req) (Over reason) at polls) h refl refl refl (λ group c d. refl) (λ n log dones v. v) k)
     (λ step said silent k. elim k [
       | inl same ↦ true-same r done step said at polls new h silent same.0
       | inr one ↦ true-one r done step said at polls new one.0 h silent one.1.idle one.2

@@ -16,16 +16,16 @@ use Rattle.ulfm_laws.proofs.Honest.{IsHonest}
 use Rattle.ulfm_laws.proofs.Mail.{mail_on, mail, mail_sent, mail_owed}
 
 -- the report that is read is the one that stands there
-pub read_at : (reports : List Report) (k : ℕ) (told : Report) → at reports k told → report_at reports k ≡ told
-read_at reports k told here = get_or_from_slice_get reports k told no_report here
+pub read_at : (reports : List Report) (k : ℕ) {told : Report} → at reports k told → report_at reports k ≡ told
+read_at reports k {told} here = get_or_from_slice_get reports k told no_report here
 
 -- letters of a beginning are a beginning of the letters
 mail_front : (c : ℕ) (xs ys : List Item) → IsBeginning xs ys → (rest : List Content) × (mail c xs ++ rest ≡ mail c ys)
 mail_front c xs ys b = (mail c b.0, sym (flat_map-append (mail_on c) xs b.0) ∙ ap (mail c) b.1)
 
 -- a notice is no letter
-mail_arrived : (c : ℕ) (sender : State) (s d : ℕ) (xs : List Item) → Flow sender s d xs → (rest : List Content) × (mail c xs ++ rest ≡ mail c (owes sender d))
-mail_arrived c sender s d xs h = elim (cases_Bool (is_stopped sender.log)) [
+mail_arrived : (c : ℕ) (sender : State) (s d : ℕ) {xs : List Item} → Flow sender s d xs → (rest : List Content) × (mail c xs ++ rest ≡ mail c (owes sender d))
+mail_arrived c sender s d {xs} h = elim (cases_Bool (is_stopped sender.log)) [
   | inr running ↦ mail_front c xs (owes sender d) (outbox sender d, sym (h.running running))
   | inl stopped ↦ elim (cases_eq s d) [
     | inl same ↦ mail_front c xs (owes sender d) (h.stopped_self stopped same).0
@@ -40,13 +40,13 @@ mail_arrived c sender s d xs h = elim (cases_Bool (is_stopped sender.log)) [
 
 module _ (inboxes : Inboxes) (reports : List Report) (h : AreFlowing inboxes reports) (honest : (k : ℕ) (told : Report) → at reports k told → IsHonest told.rank.ranks told.rank.log told.steps) where
   -- what came to d from s is a beginning of what the log of s sent to it
-  come_log : (s d c : ℕ) (sender receiver : Report) → at reports s sender → at reports d receiver → (rest : List Content) × (letters_come s c (history_of receiver.rank.log) ++ rest ≡ mail_sent c d sender.rank.log)
-  come_log s d c sender receiver p q =
-      let r : State = sender.rank in
+  come_log : (s d c : ℕ) {sender receiver : Report} → at reports s sender → at reports d receiver → (rest : List Content) × (letters_come s c (history_of receiver.rank.log) ++ rest ≡ mail_sent c d sender.rank.log)
+  come_log s d c {sender} {receiver} p q =
+      let r = sender.rank in
       let t = all_taken receiver.rank.ranks s c receiver.rank.log (honest d receiver q).taken in
-      let came : List Content = letters_come s c (history_of receiver.rank.log) in
-      let left : List Item = items_from s (inbox_of inboxes d) in
-      let a = mail_arrived c r s d (took receiver.rank.log s ++ left) (h.flow s d sender receiver p q) in
+      let came = letters_come s c (history_of receiver.rank.log) in
+      let left = items_from s (inbox_of inboxes d) in
+      let a = mail_arrived c r s d (h.flow s d sender receiver p q) in
       let arrived : mail c (took receiver.rank.log s) ++ (mail c left ++ a.0) ≡ mail_sent c d r.log =
       sym (append_assoc (mail c (took receiver.rank.log s)) (mail c left) a.0)
       ∙ ap (λ (ys : List Content). ys ++ a.0) (sym (flat_map-append (mail_on c) (took receiver.rank.log s) left))
@@ -57,21 +57,20 @@ module _ (inboxes : Inboxes) (reports : List Report) (h : AreFlowing inboxes rep
   come_as_sent s d c i j =
       let sender = there reports s i in
       let receiver = there reports d j in
-      let f = come_log s d c sender.0 receiver.0 sender.1 receiver.1 in
-      rw (read_at reports d receiver.0 receiver.1) (rw (read_at reports s sender.0 sender.1) (f.0, f.1 ∙ sym ((honest s sender.0 sender.1).sends c d)))
+      let f = come_log s d c sender.1 receiver.1 in
+      rw (read_at reports d receiver.1) (rw (read_at reports s sender.1) (f.0, f.1 ∙ sym ((honest s sender.0 sender.1).sends c d)))
 
   -- at rest, where the communicator isn't revoked, all has come
   pub all_come : IsAtRest inboxes reports → AllHasCome reports
   all_come rest s d c i j runs_s runs_d fresh =
       let sender = there reports s i in
       let receiver = there reports d j in
-      let from : report_at reports s ≡ sender.0 = read_at reports s sender.0 sender.1 in
-      let to : report_at reports d ≡ receiver.0 = read_at reports d receiver.0 receiver.1 in
-      let r : State = sender.0.rank in
-      let log = receiver.0.rank.log in
+      let from = read_at reports s sender.1 in
+      let to = read_at reports d receiver.1 in
+      let r = sender.0.rank in let log = receiver.0.rank.log in
       let t = all_taken receiver.0.rank.ranks s c log (honest d receiver.0 receiver.1).taken in
-      let came : List Content = letters_come s c (history_of log) in
-      let all : owes r d ≡ took log s = took_owed inboxes reports h rest s d sender.0 receiver.0 sender.1 receiver.1 (rw from at runs_s) (rw to at runs_d) in
+      let came = letters_come s c (history_of log) in
+      let all : owes r d ≡ took log s = took_owed inboxes reports h rest s d sender.1 receiver.1 (rw from at runs_s) (rw to at runs_d) in
       let come : came ≡ letters_sent r c d sender.0.steps =
       sym (append-nil came)
       ∙ ap (λ (ys : List Content). came ++ ys) (sym (t.none (sym (ap (λ (b : Report). is_revoked b.rank.log c) to) ∙ fresh)))

@@ -21,17 +21,17 @@ use Rattle.ulfm_laws.proofs.Shrinking.{true-open, true-adoption}
 abbrev AddsFew : State → State → Type 0
 AddsFew old new = (new ≡ old) ⊎ ((e : Entry) × (new ≡ logged old e))
 
-same_ranks : (old new : State) → AddsFew old new → new.ranks ≡ old.ranks
-same_ranks old new (inl same) = ap (λ (s : State). s.ranks) same
-same_ranks old new (inr one) = ap (λ (s : State). s.ranks) one.1
+same_ranks : {old new : State} → AddsFew old new → new.ranks ≡ old.ranks
+same_ranks (inl same) = ap (λ (s : State). s.ranks) same
+same_ranks (inr one) = ap (λ (s : State). s.ranks) one.1
 
-before_few : (P : Entry → Type 0) (old new : State) → AddsFew old new → All P new.log → All P old.log
-before_few P old new (inl same) all = subst (λ (s : State). All P s.log) same all
-before_few P old new (inr one) all = all_front P old.log one.0 (subst (λ (s : State). All P s.log) one.1 all)
+before_few : (P : Entry → Type 0) {old new : State} → AddsFew old new → All P new.log → All P old.log
+before_few P (inl same) all = subst (λ (s : State). All P s.log) same all
+before_few P {old} (inr one) all = all_front P old.log one.0 (subst (λ (s : State). All P s.log) one.1 all)
 
-took_borne : (n : ℕ) (log : List Entry) (e : Entry) (done : List StepReport) → IsTook e → IsHonest n log done → IsTakenFrom n e → IsHonest n (log ++ e ∷ []) done
-took_borne n log (Took source item) done t h own = honest-logged n log (Took source item) done h tt (λ c d. refl) own
-took_borne n log _ done t h own = absurd t
+took_borne : {n : ℕ} {log : List Entry} (e : Entry) {done : List StepReport} → IsTook e → IsHonest n log done → IsTakenFrom n e → IsHonest n (log ++ e ∷ []) done
+took_borne {n} {log} (Took source item) {done} t h own = honest-logged (Took source item) h tt (λ c d. refl) own
+took_borne _ t h own = absurd t
 
 module _ (known : Known) (r : State) where
   -- where each item that was taken came from a rank, the steps are true of the log
@@ -39,8 +39,8 @@ module _ (known : Known) (r : State) where
   IsBorne done log = All (IsTakenFrom r.ranks) log → IsHonest r.ranks log done
 
   -- what is kept true of a state that stood at some place
-  changed : (n : ℕ) (old new : State) (done later : List StepReport) → StoodAt r n old → AddsFew old new → (IsTrueOf old done → IsTrueOf new later) → IsBorne done old.log → IsBorne later new.log
-  changed n old new done later stood few keeps borne all = rw (same_ranks old new few ∙ stood.ranks) at (keeps (rw stood.ranks (borne (before_few (IsTakenFrom r.ranks) old new few all))))
+  changed : {n : ℕ} (old new : State) (done later : List StepReport) → StoodAt r n old → AddsFew old new → (IsTrueOf old done → IsTrueOf new later) → IsBorne done old.log → IsBorne later new.log
+  changed old new done later stood few keeps borne all = rw (same_ranks few ∙ stood.ranks) at (keeps (rw stood.ranks (borne (before_few (IsTakenFrom r.ranks) few all))))
 
   ended : (log : List Entry) (done : List StepReport) (report : StepReport) → (report.answer ≡ Unfinished) ⊎ (report.answer ≡ Refused OutOfMemory) → IsHonest r.ranks log done → IsHonest r.ranks log (done ++ report ∷ [])
   ended log done report how h = honest-plain r.ranks log done report.step report.answer report.at report.polls h (elim how [ inl is ↦ rw is tt | inr is ↦ rw is tt ])
@@ -54,14 +54,14 @@ module _ (known : Known) (r : State) where
   adopted : (n : ℕ) (old new : State) (done : List StepReport) (report : StepReport) (comm : Context) (held : Decision) → StoodAt r n old → report.step ≡ Shrink comm → AnswersAdoption old comm held report.answer new → IsBorne done old.log → IsBorne (done ++ report ∷ []) new.log
   adopted n old new done report comm held stood is a borne =
       subst (λ (s : Step). IsBorne (done ++ step_report s report.answer report.at report.polls ∷ []) new.log) (sym is)
-      (changed n old new done (done ++ step_report (Shrink comm) report.answer report.at report.polls ∷ []) stood (elim (adoption_adds old comm held report.answer new a) [ inl same ↦ inl same | inr one ↦ inr (Adopted held, one.1) ]) (λ h. true-adoption old done h comm report.at report.polls new held report.answer a) borne)
+      (changed old new done (done ++ step_report (Shrink comm) report.answer report.at report.polls ∷ []) stood (elim (adoption_adds old comm held report.answer new a) [ inl same ↦ inl same | inr one ↦ inr (Adopted held, one.1) ]) (λ h. true-adoption old done h comm report.at report.polls new held report.answer a) borne)
 
   borne : KeepsAll known r IsBorne
   borne = record {
-    takes = λ done log e took k all. took_borne r.ranks log e done took (k (all_front (IsTakenFrom r.ranks) log e all)) (all_last (IsTakenFrom r.ranks) log e all);
+    takes = λ done log e took k all. took_borne e took (k (all_front (IsTakenFrom r.ranks) log e all)) (all_last (IsTakenFrom r.ranks) log e all);
     answers = λ n old new done report stood a k.
-        changed n old new done (done ++ report ∷ []) stood (answered_few done old report new a) (λ h. true-answers old done h report.at report.polls new report.step report.answer a) k;
-    opens = λ n old new done asked stood o k. changed n old new done done stood (opened_few done old asked new o) (λ h. true-open done old asked new h o) k;
+        changed old new done (done ++ report ∷ []) stood (answered_few done old report new a) (λ h. true-answers old h report.at report.polls new report.step report.answer a) k;
+    opens = λ n old new done asked stood o k. changed old new done done stood (opened_few done old asked new o) (λ h. true-open old asked new h o) k;
     adopts = λ n old new done report comm held stood is knows a k. adopted n old new done report comm held stood is a k;
     ends = λ log done report how k all. ended log done report how (k all);
   }

@@ -1,5 +1,5 @@
 -- The letters that came by the history of a log are a beginning of those that it took.
-use Rattle.std.proofs.Common.{◌≡◌, ℕ, Bool, true, false, cond, eqb, List, [], ◌∷◌, ◌++◌, length, refl, ap, sym, ◌∙◌, append-nil, append_assoc, inl, inr, suc, ◌||◌, All}
+use Rattle.std.proofs.Common.{◌≡◌, ℕ, Bool, true, false, cond, eqb, List, [], ◌∷◌, ◌++◌, length, refl, ap, sym, ◌∙◌, append-nil, append_assoc, inl, inr, suc, All}
 use Rattle.std.proofs.lemmas.Bool.{false≢true, or_left, cases_Bool, eqb-true}
 use Rattle.std.proofs.lemmas.Grind.{flat_map-append}
 use Rattle.ulfm_laws.proofs.Common.{WorldRank, Letter, Item, Entry}
@@ -13,14 +13,14 @@ use Rattle.ulfm_laws.specs.Reader.{Content, come_in, letters_come}
 use Rattle.ulfm_rank.proofs.Gather.{gathered_all, any-push}
 use Rattle.ulfm_rank.proofs.Logs.{took-push}
 use Rattle.ulfm_rank.proofs.Signed.{all_front, all_last}
-use Rattle.ulfm_laws.proofs.Mail.{mail_on, mail, IsTakenFrom}
+use Rattle.ulfm_laws.proofs.Mail.{mail_on, mail, no_mail, IsTakenFrom}
+
+come_pick : (s c k : ℕ) (b : Bool) → letters_come s c (cond b (End k ∷ []) []) ≡ []
+come_pick s c k true = refl
+come_pick s c k false = refl
 
 come_end : (s c t k : ℕ) (e : Event) → letters_come s c (end_at t k e) ≡ []
-come_end s c t k (Post pattern) = one (names pattern.source t)
-  where
-    one : (b : Bool) → letters_come s c (cond b (End k ∷ []) []) ≡ []
-    one true = refl
-    one false = refl
+come_end s c t k (Post pattern) = come_pick s c k (names pattern.source t)
 come_end s c t k _ = refl
 
 come_ends : (s c t k : ℕ) (history : List Event) → letters_come s c (ends_from t k history) ≡ []
@@ -39,8 +39,8 @@ record IsCome (s c : ℕ) (before : List Entry) (events : List Event) (items : L
   pub fresh : is_revoked before c ≡ false → letters_come s c events ≡ mail c items
   pub late : is_revoked before c ≡ true → letters_come s c events ≡ []
 
-come_none : (s c : ℕ) (before : List Entry) (events : List Event) (items : List Item) → letters_come s c events ≡ [] → mail c items ≡ [] → IsCome s c before events items
-come_none s c before events items none no_mail = record { fresh = λ h. none ∙ sym no_mail; late = λ h. none }
+come_none : {s c : ℕ} {before : List Entry} {events : List Event} {items : List Item} → letters_come s c events ≡ [] → mail c items ≡ [] → IsCome s c before events items
+come_none none empty = record { fresh = λ h. none ∙ sym empty; late = λ h. none }
 
 come_letter : (s c : ℕ) (before : List Entry) (source : WorldRank) (letter : Letter) → letter.envelope.source ≡ source → IsCome s c before (cond (is_revoked before letter.envelope.context.number) [] (Come letter ∷ [])) (cond (eqb source.number s) (Mail letter ∷ []) [])
 come_letter s c before source letter same = record {
@@ -61,22 +61,14 @@ come_letter s c before source letter same = record {
   late false true g e = absurd (false≢true (g refl))
   late false false g e = rw e refl
 
-no_mail : (c : ℕ) (b : Bool) (item : Item) → mail_on c item ≡ [] → mail c (cond b (item ∷ []) []) ≡ []
-no_mail c true item e = append-nil (mail_on c item) ∙ e
-no_mail c false item e = refl
-
 come_entry : (n s c : ℕ) (before : List Entry) (found : List Event) (e : Entry) → IsTakenFrom n e → IsCome s c before (events_by before found e) (took_by s e)
-come_entry n s c before found (Posted pattern) h = come_none s c before _ [] (one (names_gone before pattern.source)) refl
-  where
-    one : (b : Bool) → letters_come s c (cond b (End (length found) ∷ []) []) ≡ []
-    one true = refl
-    one false = refl
-come_entry n s c before found (Revoked context) h = come_none s c before _ [] (come_clear s c context.number (is_revoked before context.number)) refl
+come_entry n s c before found (Posted pattern) h = come_none (come_pick s c (length found) (names_gone before pattern.source)) refl
+come_entry n s c before found (Revoked context) h = come_none (come_clear s c context.number (is_revoked before context.number)) refl
 come_entry n s c before found (Took source (Mail letter)) h = come_letter s c before source letter h.1
-come_entry n s c before found (Took source Gone) h = come_none s c before _ _ (come_ends s c source.number 0 found) (no_mail c (eqb source.number s) Gone refl)
-come_entry n s c before found (Took source (Revoke context)) h = come_none s c before _ _ (come_clear s c context.number (is_revoked before context.number)) (no_mail c (eqb source.number s) (Revoke context) refl)
-come_entry n s c before found (Took source (Enter context known)) h = come_none s c before [] _ refl (no_mail c (eqb source.number s) (Enter context known) refl)
-come_entry n s c before found _ h = come_none s c before [] [] refl refl
+come_entry n s c before found (Took source Gone) h = come_none (come_ends s c source.number 0 found) (no_mail c (eqb source.number s) Gone refl)
+come_entry n s c before found (Took source (Revoke context)) h = come_none (come_clear s c context.number (is_revoked before context.number)) (no_mail c (eqb source.number s) (Revoke context) refl)
+come_entry n s c before found (Took source (Enter context known)) h = come_none refl (no_mail c (eqb source.number s) (Enter context known) refl)
+come_entry n s c before found _ h = come_none refl refl
 
 -- what came is a beginning of what was taken, and all of it where the context isn't revoked
 pub record IsTakenMail (s c : ℕ) (before : List Entry) (found : List Event) : Type 0 where
@@ -86,10 +78,9 @@ pub record IsTakenMail (s c : ℕ) (before : List Entry) (found : List Event) : 
 
 taken_more : (n s c : ℕ) (before : List Entry) (found : List Event) (e : Entry) → IsTakenMail s c before found → IsTakenFrom n e → IsTakenMail s c (before ++ e ∷ []) (found ++ events_by before found e)
 taken_more n s c before found e h own =
-    let k : IsCome s c before (events_by before found e) (took_by s e) = come_entry n s c before found e own in
-    let came : letters_come s c (found ++ events_by before found e) ≡ letters_come s c found ++ letters_come s c (events_by before found e) = flat_map-append (come_in s c) found (events_by before found e) in
+    let k = come_entry n s c before found e own in
+    let came = flat_map-append (come_in s c) found (events_by before found e) in
     let taken : mail c (took (before ++ e ∷ []) s) ≡ mail c (took before s) ++ mail c (took_by s e) = ap (mail c) (took-push before e s) ∙ flat_map-append (mail_on c) (took before s) (took_by s e) in
-    let now : is_revoked (before ++ e ∷ []) c ≡ is_revoked before c || revokes c e = any-push (revokes c) before e in
     elim (cases_Bool (is_revoked before c)) [
       | inl was ↦ record {
         rest = h.rest ++ mail c (took_by s e);
@@ -97,7 +88,7 @@ taken_more n s c before found e h own =
             ∙ sym (append_assoc (letters_come s c found) h.rest (mail c (took_by s e)))
             ∙ ap (λ (xs : List Content). xs ++ mail c (took_by s e)) h.all
             ∙ sym taken;
-        none = λ f. absurd (false≢true (sym f ∙ now ∙ or_left (is_revoked before c) (revokes c e) was));
+        none = λ f. absurd (false≢true (sym f ∙ (any-push (revokes c) before e) ∙ or_left (is_revoked before c) (revokes c e) was));
       }
       | inr fresh ↦ record {
         rest = [];

@@ -12,7 +12,7 @@ few false x = inl refl
 
 one_is : (b : Bool) (x y : Content) → cond b (x ∷ []) [] ≡ y ∷ [] → (b ≡ true) × (x ≡ y)
 one_is true x y e = (refl, let same : x ≡ y = cc in same)
-one_is false x y e = let bad : ⊥ = cc in absurd bad
+one_is false x y e = absurd (cc)
 
 both_true : (a b : Bool) → a && b ≡ true → (a ≡ true) × (b ≡ true)
 both_true true b e = (refl, e)
@@ -54,7 +54,7 @@ sent_is group c d (Send to tag body comm) Sent y e =
       context = eqb-true comm.number c both.0;
       directed = is_named d (slice_get group to) both.1;
     }
-sent_is group c d _ _ y e = let bad : ⊥ = cc in absurd bad
+sent_is group c d _ _ y e = absurd (cc)
 
 pub sent_one : (group : List ℕ) (d to : ℕ) (tag : Tag) (body : List ℕ) (comm : Context) → slice_get group to ≡ Some d → sent_by group comm.number d (Send to tag body comm) Sent ≡ content tag body ∷ []
 sent_one group d to tag body comm at = rw (eq-eqb comm.number comm.number refl, at, eq-eqb d d refl) refl
@@ -67,12 +67,12 @@ pub record IsLetter (s c : ℕ) (event : Event) (y : Content) : Type 0 where
   pub source : letter.envelope.source.number ≡ s
   pub carries : content letter.envelope.tag letter.body ≡ y
 
-pub come_is : (s c : ℕ) (event : Event) (y : Content) → come_in s c event ≡ y ∷ [] → IsLetter s c event y
-come_is s c (Come letter) y e =
+pub come_is : (s c : ℕ) (event : Event) {y : Content} → come_in s c event ≡ y ∷ [] → IsLetter s c event y
+come_is s c (Come letter) {y} e =
     let k = one_is (eqb letter.envelope.context.number c && eqb letter.envelope.source.number s) (content letter.envelope.tag letter.body) y e in
     let both = both_true (eqb letter.envelope.context.number c) (eqb letter.envelope.source.number s) k.0 in
     record { letter = letter; came = refl; context = eqb-true letter.envelope.context.number c both.0; source = eqb-true letter.envelope.source.number s both.1; carries = k.1 }
-come_is s c _ y e = let bad : ⊥ = cc in absurd bad
+come_is s c _ e = absurd (cc)
 
 pub come_one : (s c : ℕ) (letter : Letter) → letter.envelope.context.number ≡ c → letter.envelope.source.number ≡ s → come_in s c (Come letter) ≡ content letter.envelope.tag letter.body ∷ []
 come_one s c letter ec es = rw (eq-eqb letter.envelope.context.number c ec, eq-eqb letter.envelope.source.number s es) refl

@@ -1,7 +1,7 @@
 -- Each wait that is over tells of the letter that its receive is given, and nothing is given twice.
 use Rattle.std.proofs.Common.{◌≡◌, ℕ, ◌<◌, inl, inr, List, length, refl, ap, sym, ◌∙◌, subst, slice_get}
 use Rattle.std.proofs.lemmas.Option.{same_Some}
-use Rattle.ulfm_laws.proofs.Common.{Context, Letter, Pattern, RequestId, TestAnswer, group_at, Send, Wait, Sent, Done, Over, step_report, Report, report_at}
+use Rattle.ulfm_laws.proofs.Common.{Context, Letter, Pattern, RequestId, TestAnswer, group_at, Wait, Done, Over, step_report, Report, report_at}
 use Rattle.ulfm_base.specs.declared.error.CallError.TheVariants.{ProcFailed, Revoked, Truncated}
 use Rattle.ulfm_base.specs.Pattern.{Admits}
 use Rattle.ulfm_match.specs.History.{History, Post, PostAt, ComeAt, count_before}
@@ -17,32 +17,31 @@ use Rattle.ulfm_laws.proofs.Senders.{sender, same_come, same_send}
 use Rattle.ulfm_laws.proofs.Tells.{IsVerdict}
 
 -- a receive admits the letter that it is paired with
-pub pair_admits : (h : History) (r : Pairing) → LawfulPairing h r → (i b : ℕ) (p : Pattern) (l : Letter) → PostAt h i p → ComeAt h b l → Pairs r i b → Admits p l.envelope
-pair_admits h r law i b p l posted came q =
+pub pair_admits : (h : History) {r : Pairing} → LawfulPairing h r → (i b : ℕ) (p : Pattern) (l : Letter) → PostAt h i p → ComeAt h b l → Pairs r i b → Admits p l.envelope
+pair_admits h law i b p l posted came q =
     let m = law.matched i b q in
     rw (same_pattern h i m.pattern p m.receive_live.posted posted, same_letter h b m.letter l m.letter_live.came came) at m.admits
 
 -- a step posted one receive
-same_place : (report : Report) (i place other : ℕ) (p q : Pattern) (a : IsPostedBy report i place p) (b : IsPostedBy report i other q) → place ≡ other
-same_place report i place other p q a b =
-    let id : a.id ≡ b.id = same_Some a.id b.id (sym (its_request report i place p a) ∙ its_request report i other q b) in
+same_place : {report : Report} (i : ℕ) {place other : ℕ} {p q : Pattern} (a : IsPostedBy report i place p) (b : IsPostedBy report i other q) → place ≡ other
+same_place {report} i {place} {other} {p} {q} a b =
+    let id : a.id ≡ b.id = same_Some a.id b.id (sym (its_request a) ∙ its_request b) in
     same_number _ place other (Post p) (Post q) a.posted refl b.posted refl (a.numbered ∙ ap (λ (k : RequestId). k.number) id ∙ sym b.numbered)
 
 module _ (reports : List Report) (all : AreHonest reports) where
   pub done_given : DoneIsGiven reports
   done_given d k req status body inside st =
-      let report : Report = report_at reports d in
-      let h : History = history_at reports d in
+      let report = report_at reports d in let h = history_at reports d in
       let v : IsVerdict report.rank.ranks report.rank.log report.steps req (TestDone status body) = (all.honest d inside).orderly.tells k (step_report (Wait req) (Done status body) st.at st.polls) st.stands in
       let r = some_pairing h (all.honest d inside).formed in
       let a = v.answers r.0 r.1 in
-      let by = verdict_posted reports all d inside req (TestDone status body) v in
+      let by = verdict_posted reports all d inside v in
       let sent = sender reports all d inside a.got.place a.letter a.got.came in
       record {
         sender = a.letter.envelope.source.number;
         step = sent.0;
         given = record { inside = inside; post_place = v.place; pattern = v.pattern; receive = by; come_place = a.got.place; letter = a.letter; sent = sent.1; pairing = r.0; lawful = r.1; pairs = a.got.pairs };
-        admits = pair_admits h r.0 r.1 v.place a.got.place v.pattern a.letter v.posted a.got.came a.got.pairs;
+        admits = pair_admits h r.1 v.place a.got.place v.pattern a.letter v.posted a.got.came a.got.pairs;
         fits = a.received.fits;
         source = a.received.sender;
         tag = a.received.has_tag;
@@ -50,21 +49,19 @@ module _ (reports : List Report) (all : AreHonest reports) where
         carries = a.received.carries;
       }
 
-  unpaired_given : (d req s j : ℕ) (inside : d < length reports) (answer : TestAnswer) (v : IsVerdict (report_at reports d).rank.ranks (report_at reports d).rank.log (report_at reports d).steps req answer) (g : IsGiven reports d req s j) → ((b : ℕ) → Pairs g.pairing v.place b → ⊥) → ⊥
-  unpaired_given d req s j inside answer v g none =
-      let by = verdict_posted reports all d inside req answer v in
-      let same : g.post_place ≡ v.place = same_place (report_at reports d) req g.post_place v.place g.pattern v.pattern g.receive by in
+  unpaired_given : (d : ℕ) {req s j : ℕ} (inside : d < length reports) {answer : TestAnswer} (v : IsVerdict (report_at reports d).rank.ranks (report_at reports d).rank.log (report_at reports d).steps req answer) (g : IsGiven reports d req s j) → ((b : ℕ) → Pairs g.pairing v.place b → ⊥) → ⊥
+  unpaired_given d {req} inside {answer} v g none =
+      let same = same_place req g.receive (verdict_posted reports all d inside v) in
       none g.come_place (subst (λ (i : ℕ). Pairs g.pairing i g.come_place) same g.pairs)
 
   pub over_true : OverIsTrue reports
   over_true = record {
     truncated = λ d k req inside st.
-        let report : Report = report_at reports d in
-        let h : History = history_at reports d in
+        let report = report_at reports d in
         let v : IsVerdict report.rank.ranks report.rank.log report.steps req (TestOver Truncated) = (all.honest d inside).orderly.tells k (step_report (Wait req) (Over Truncated) st.at st.polls) st.stands in
-        let r = some_pairing h (all.honest d inside).formed in
+        let r = some_pairing (history_at reports d) (all.honest d inside).formed in
         let a = v.answers r.0 r.1 in
-        let by = verdict_posted reports all d inside req (TestOver Truncated) v in
+        let by = verdict_posted reports all d inside v in
         let sent = sender reports all d inside a.1.place a.0 a.1.came in
         record {
           sender = a.0.envelope.source.number;
@@ -73,20 +70,19 @@ module _ (reports : List Report) (all : AreHonest reports) where
           longer = a.2;
         };
     failed = λ d k req s j inside st g.
-        let report : Report = report_at reports d in
+        let report = report_at reports d in
         let v : IsVerdict report.rank.ranks report.rank.log report.steps req (TestOver ProcFailed) = (all.honest d inside).orderly.tells k (step_report (Wait req) (Over ProcFailed) st.at st.polls) st.stands in
-        unpaired_given d req s j inside (TestOver ProcFailed) v g (v.answers g.pairing g.lawful).0;
+        unpaired_given d inside v g (v.answers g.pairing g.lawful).0;
     revoked = λ d k req s j inside st g.
-        let report : Report = report_at reports d in
+        let report = report_at reports d in
         let v : IsVerdict report.rank.ranks report.rank.log report.steps req (TestOver Revoked) = (all.honest d inside).orderly.tells k (step_report (Wait req) (Over Revoked) st.at st.polls) st.stands in
-        unpaired_given d req s j inside (TestOver Revoked) v g (v.answers g.pairing g.lawful).0;
+        unpaired_given d inside v g (v.answers g.pairing g.lawful).0;
   }
 
   -- a step sent its letter to one rank
-  same_destination : (d e b a : ℕ) (l m : Letter) (s j : ℕ) → IsSentBy reports d b l s j → IsSentBy reports e a m s j → d ≡ e
-  same_destination d e b a l m s j x y =
-      let own : Report = report_at reports s in
-      let steps = same_asked own j (Send x.to l.envelope.tag l.body l.envelope.context) (Send y.to m.envelope.tag m.body m.envelope.context) Sent Sent x.step y.step in
+  same_destination : (d e : ℕ) {b a : ℕ} {l m : Letter} (s j : ℕ) → IsSentBy reports d b l s j → IsSentBy reports e a m s j → d ≡ e
+  same_destination d e {l} {m} s j x y =
+      let own = report_at reports s in let steps = same_asked x.step y.step in
       let to : x.to ≡ y.to = cc in
       let comm : l.envelope.context ≡ m.envelope.context = cc in
       same_Some d e (sym x.directed ∙ ap (λ (k : Context). slice_get (group_at own.rank k.number) x.to) comm ∙ ap (slice_get (group_at own.rank m.envelope.context.number)) to ∙ y.directed)
@@ -94,19 +90,19 @@ module _ (reports : List Report) (all : AreHonest reports) where
   pub gives_once : GivesOnce reports
   gives_once = record {
     one_receive = λ d i e k s j x y.
-        let there : d ≡ e = same_destination d e x.come_place y.come_place x.letter y.letter s j x.sent y.sent in
+        let there = same_destination d e s j x.sent y.sent in
         let z : IsGiven reports d k s j = subst (λ (q : ℕ). IsGiven reports q k s j) (sym there) y in
-        let h : History = history_at reports d in
-        let come : z.come_place ≡ x.come_place = sym (same_come reports all d x.inside x.come_place z.come_place x.letter z.letter s j x.sent z.sent) in
+        let h = history_at reports d in
+        let come : z.come_place ≡ x.come_place = sym (same_come reports all d x.inside s j x.sent z.sent) in
         let pairs : Pairs x.pairing z.post_place x.come_place = subst (λ (b : ℕ). Pairs x.pairing z.post_place b) come (one_pairing h z.pairing x.pairing z.lawful x.lawful z.post_place z.come_place z.pairs) in
-        let post : x.post_place ≡ z.post_place = x.lawful.one_receive x.post_place z.post_place x.come_place x.pairs pairs in
-        (there, same_step reports all d x.inside i k x.receive.id z.receive.id (its_request (report_at reports d) i x.post_place x.pattern x.receive) (its_request (report_at reports d) k z.post_place z.pattern z.receive) (sym x.receive.numbered ∙ ap (count_before h) post ∙ z.receive.numbered));
+        let post = x.lawful.one_receive x.post_place z.post_place x.come_place x.pairs pairs in
+        (there, same_step reports all d x.inside i k (its_request x.receive) (its_request z.receive) (sym x.receive.numbered ∙ ap (count_before h) post ∙ z.receive.numbered));
     one_letter = λ d i s j t k x y.
-        let h : History = history_at reports d in
-        let post : y.post_place ≡ x.post_place = same_place (report_at reports d) i y.post_place x.post_place y.pattern x.pattern y.receive x.receive in
+        let h = history_at reports d in
+        let post = same_place i y.receive x.receive in
         let pairs : Pairs x.pairing x.post_place y.come_place = subst (λ (q : ℕ). Pairs x.pairing q y.come_place) post (one_pairing h y.pairing x.pairing y.lawful x.lawful y.post_place y.come_place y.pairs) in
-        let come : y.come_place ≡ x.come_place = x.lawful.one_letter x.post_place y.come_place x.come_place pairs x.pairs in
-        same_send reports all d x.inside x.come_place x.letter y.letter s j t k x.sent (subst (λ (b : ℕ). IsSentBy reports d b y.letter t k) come y.sent);
+        let come = x.lawful.one_letter x.post_place y.come_place x.come_place pairs x.pairs in
+        same_send reports all d x.inside s j t k x.sent (subst (λ (b : ℕ). IsSentBy reports d b y.letter t k) come y.sent);
     one_wait = λ d k m req x y inside gx gy cx cy. elim (compared k m) [
       | inl l ↦ absurd ((all.honest d inside).orderly.once k m req x y l gx gy cx cy)
       | inr o ↦ elim o [ inl same ↦ same | inr l ↦ absurd ((all.honest d inside).orderly.once m k req y x l gy gx cy cx) ]

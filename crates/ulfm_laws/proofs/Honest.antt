@@ -28,12 +28,11 @@ pub record IsHonest (n : ℕ) (log : List Entry) (done : List StepReport) : Type
 
 flat_same : {X Y : Type 0} (f g : X → List Y) (xs : List X) → ((k : ℕ) (x : X) → slice_get xs k ≡ Some x → f x ≡ g x) → flat_map f xs ≡ flat_map g xs
 flat_same f g [] same = refl
-flat_same {X} {Y} f g (x ∷ xs) same =
-    ap (λ (ys : List Y). ys ++ flat_map f xs) (same 0 x refl) ∙ ap (λ (ys : List Y). g x ++ ys) (flat_same f g xs (λ k y h. same (suc k) y h))
+flat_same {X} {Y} f g (x ∷ xs) same = ap (λ (ys : List Y). ys ++ flat_map f xs) (same 0 x refl) ∙ ap (λ (ys : List Y). g x ++ ys) (flat_same f g xs (λ k y h. same (suc k) y h))
 
 -- what the steps sent, and one more entry
-pub sends-logged : (n : ℕ) (log : List Entry) (e : Entry) (done : List StepReport) (c d : ℕ) → IsHonest n log done → flat_map (sent_in (members_of n (log ++ e ∷ []) c) c d) done ++ sent_entry c d e ≡ mail_sent c d (log ++ e ∷ [])
-sends-logged n log e done c d h =
+pub sends-logged : {n : ℕ} {log : List Entry} (e : Entry) {done : List StepReport} (c d : ℕ) → IsHonest n log done → flat_map (sent_in (members_of n (log ++ e ∷ []) c) c d) done ++ sent_entry c d e ≡ mail_sent c d (log ++ e ∷ [])
+sends-logged {n} {log} e {done} c d h =
     ap (λ (xs : List Content). xs ++ sent_entry c d e)
     (flat_same (sent_in (members_of n (log ++ e ∷ []) c) c d) (sent_in (members_of n log c) c d) done (λ k x g. sent-logged n log e done c d x.step x.answer (h.orderly.tells k x g)) ∙ h.sends c d)
     ∙ sym (flat-push (sent_entry c d) log e)
@@ -46,8 +45,8 @@ late (x ∷ xs) ys (suc k) p free l g = late xs ys k p free (omega (arith, l)) g
 
 pub covered-logged : (log : List Entry) (e : Entry) (done : List StepReport) → IsCovered log done → PostsNone e → IsCovered (log ++ e ∷ []) done
 covered-logged log e done covered none place p g =
-    let h : List Event = history_of log in
-    let es : List Event = events_by log h e in
+    let h = history_of log in
+    let es = events_by log h e in
     let at : PostAt (h ++ es) place p = subst (λ (xs : List Event). PostAt xs place p) (history-push log e) g in
     elim (lt_or_ge place (length h)) [
       | inl l ↦
@@ -57,26 +56,26 @@ covered-logged log e done covered none place p g =
     ]
 
 pub covered-answered : (log : List Entry) (done : List StepReport) (x : StepReport) → IsCovered log done → IsCovered log (done ++ x ∷ [])
-covered-answered log done x covered place p g = let c = covered place p g in (c.0, c.1, asked_front done (x ∷ []) c.0 c.1 c.2, c.3)
+covered-answered log done x covered place p g = let c = covered place p g in (c.0, c.1, asked_front done (x ∷ []) c.0 c.2, c.3)
 
 -- an entry that neither posts nor sends
-pub honest-logged : (n : ℕ) (log : List Entry) (e : Entry) (done : List StepReport) → IsHonest n log done → PostsNone e → ((c d : ℕ) → sent_entry c d e ≡ []) → IsTakenFrom n e → IsHonest n (log ++ e ∷ []) done
-honest-logged n log e done h none silent own = record {
-  orderly = orderly-logged n log e done h.orderly;
+pub honest-logged : {n : ℕ} {log : List Entry} (e : Entry) {done : List StepReport} → IsHonest n log done → PostsNone e → ((c d : ℕ) → sent_entry c d e ≡ []) → IsTakenFrom n e → IsHonest n (log ++ e ∷ []) done
+honest-logged {n} {log} e {done} h none silent own = record {
+  orderly = orderly-logged e h.orderly;
   sends = λ c d.
-      let now : List Content = flat_map (sent_in (members_of n (log ++ e ∷ []) c) c d) done in
-      sym (append-nil now) ∙ ap (λ (xs : List Content). now ++ xs) (sym (silent c d)) ∙ sends-logged n log e done c d h;
+      let now = flat_map (sent_in (members_of n (log ++ e ∷ []) c) c d) done in
+      sym (append-nil now) ∙ ap (λ (xs : List Content). now ++ xs) (sym (silent c d)) ∙ sends-logged e c d h;
   covered = covered-logged log e done h.covered none;
   formed = formed-logged log e h.formed none;
   taken = All-push (IsTakenFrom n) log e h.taken own;
 }
 
 -- one more answer, which posted and sent nothing
-pub honest-answered : (n : ℕ) (log : List Entry) (done : List StepReport) (x : StepReport) → IsHonest n log done → ((group : List ℕ) (c d : ℕ) → sent_in group c d x ≡ []) → request_of x.answer ≡ None → Tells n log (done ++ x ∷ []) x.step x.answer
+pub honest-answered : (n : ℕ) {log : List Entry} {done : List StepReport} (x : StepReport) → IsHonest n log done → ((group : List ℕ) (c d : ℕ) → sent_in group c d x ≡ []) → request_of x.answer ≡ None → Tells n log (done ++ x ∷ []) x.step x.answer
     → ((req k : ℕ) (y : StepReport) → closes x.step x.answer ≡ Some req → slice_get done k ≡ Some y → closes y.step y.answer ≡ Some req → ⊥)
     → IsHonest n log (done ++ x ∷ [])
-honest-answered n log done x h silent unposted new first = record {
-  orderly = orderly-answered n log done x h.orderly new (λ id e. let bad : ⊥ = cc in absurd bad) first;
+honest-answered n {log} {done} x h silent unposted new first = record {
+  orderly = orderly-answered x h.orderly new (λ id e. absurd (cc)) first;
   sends = λ c d. flat-push (sent_in (members_of n log c) c d) done x ∙ ap (λ (xs : List Content). flat_map (sent_in (members_of n log c) c d) done ++ xs) (silent (members_of n log c) c d) ∙ append-nil (flat_map (sent_in (members_of n log c) c d) done) ∙ h.sends c d;
   covered = covered-answered log done x h.covered;
   formed = h.formed;
@@ -87,13 +86,13 @@ honest-answered n log done x h silent unposted new first = record {
 pub honest-start : (n : ℕ) → IsHonest n [] []
 honest-start n = record {
   orderly = record {
-    tells = λ k x g. let bad : ⊥ = cc in absurd bad;
-    below = λ k id g. let bad : ⊥ = cc in absurd bad;
-    rises = λ j k id jd l g f. let bad : ⊥ = cc in absurd bad;
-    once = λ j k req x y l g f. let bad : ⊥ = cc in absurd bad;
+    tells = λ k x g. absurd (cc);
+    below = λ k id g. absurd (cc);
+    rises = λ j k id jd l g f. absurd (cc);
+    once = λ j k req x y l g f. absurd (cc);
   };
   sends = λ c d. refl;
-  covered = λ place p g. let bad : ⊥ = cc in absurd bad;
-  formed = record { ends = λ i k g. let bad : ⊥ = cc in absurd bad; no_posts = λ k i p l g f. let bad : ⊥ = cc in bad; no_letters = λ k b l m g f. let bad : ⊥ = cc in bad };
+  covered = λ place p g. absurd (cc);
+  formed = record { ends = λ i k g. absurd (cc); no_posts = λ k i p l g f. let bad : ⊥ = cc in bad; no_letters = λ k b l m g f. let bad : ⊥ = cc in bad };
   taken = All-nil (IsTakenFrom n);
 }

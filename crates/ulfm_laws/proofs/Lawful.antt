@@ -1,5 +1,5 @@
 -- What an engine produces is lawful.
-use Rattle.std.proofs.Common.{◌≡◌, ℕ, ◌<◌, List, length, ap, sym, subst, ◌∙◌, arith, Option, Some, All}
+use Rattle.std.proofs.Common.{◌≡◌, ℕ, List, length, ap, sym, subst, ◌∙◌, arith, Option, Some, All}
 use Rattle.std.proofs.lemmas.Option.{slice_get_within}
 use Rattle.ulfm_laws.proofs.Common.{Context, Decision, at, Report, Inboxes, IsAtRest}
 use Rattle.ulfm_board.specs.Known.{BothAgree, known_at}
@@ -24,10 +24,10 @@ use Rattle.ulfm_laws.proofs.Proposing.{AllKeep, proposes_each}
 use Rattle.ulfm_laws.proofs.Taken.{taken_of}
 
 -- steps that are true of their logs, and items that flow, are all that a reader needs
-pub honest_reports : (inboxes : Inboxes) (reports : List Report) → AreFlowing inboxes reports → ((k : ℕ) (told : Report) → at reports k told → IsHonest told.rank.ranks told.rank.log told.steps) → AreHonest reports
-honest_reports inboxes reports h honest = record {
-  honest = λ d i. let x = there reports d i in rw (read_at reports d x.0 x.1) (honest d x.0 x.1);
-  counted = λ d i. let x = there reports d i in ap (λ (r : Report). r.rank.ranks) (read_at reports d x.0 x.1) ∙ h.counted d x.0 x.1;
+pub honest_reports : {inboxes : Inboxes} {reports : List Report} → AreFlowing inboxes reports → ((k : ℕ) (told : Report) → at reports k told → IsHonest told.rank.ranks told.rank.log told.steps) → AreHonest reports
+honest_reports {inboxes} {reports} h honest = record {
+  honest = λ d i. let x = there reports d i in rw (read_at reports d x.1) (honest d x.0 x.1);
+  counted = λ d i. let x = there reports d i in ap (λ (r : Report). r.rank.ranks) (read_at reports d x.1) ∙ h.counted d x.0 x.1;
   sent = come_as_sent inboxes reports h honest;
 }
 
@@ -39,38 +39,36 @@ module _ (job : Seen) (inboxes : Inboxes) (knows : List Known) (reports : List R
   flowing = record { order = h.order; counted = counted; flow = h.flow }
 
   -- what is known for the rank of a report
-  known_of : (k : ℕ) (told : Report) → at reports k told → (known : Known) × at knows k known
-  known_of k told here = there knows k (let inside : k < length reports = slice_get_within reports k told here in omega (arith, inside, h.each, h.known_each))
+  known_of : (k : ℕ) {told : Report} → at reports k told → (known : Known) × at knows k known
+  known_of k {told} here = there knows k (let inside = slice_get_within reports k told here in omega (arith, inside, h.each, h.known_each))
 
   adopt_own : AdoptOwn knows reports
   adopt_own k told known d here knowing adopted = own_at known told adopted.0 d (h.answers k told known here knowing) adopted.1
 
   adopt_one : AdoptOne reports
   adopt_one r s told other d e at_r at_s first second same =
-      let x = known_of r told at_r in
-      let y = known_of s other at_s in
-      let d_known : known_at x.0 d.context.number ≡ Some d = (adopt_own r told x.0 d at_r x.1 first).held in
+      let x = known_of r at_r in let y = known_of s at_s in
       let e_known : known_at y.0 d.context.number ≡ Some e = ap (λ (c : Context). known_at y.0 c.number) same ∙ (adopt_own s other y.0 e at_s y.1 second).held in
-      let both : BothAgree (known_at x.0 d.context.number) (known_at y.0 d.context.number) = h.agreed r s x.0 y.0 x.1 y.1 d.context.number in
-      let B : Option Decision → Option Decision → Type 0 = BothAgree in
-      sym (subst (λ (o : Option Decision). B (Some d) o) e_known (subst (λ (o : Option Decision). B o (known_at y.0 d.context.number)) d_known both))
+      let both = h.agreed r s x.0 y.0 x.1 y.1 d.context.number in
+      let B = BothAgree in
+      sym (subst (λ (o : Option Decision). B (Some d) o) e_known (subst (λ (o : Option Decision). B o (known_at y.0 d.context.number)) ((adopt_own r told x.0 d at_r x.1 first).held) both))
 
   all_keep : AllKeep reports
   all_keep r told here =
-      let x = known_of r told here in
+      let x = known_of r here in
       keeps_of (length reports) r x.0 told (h.answers r told x.0 here x.1) (counted r told here) (h.order r told here) (slice_get_within reports r told here)
 
   each_once : EnterOnce reports
   each_once r told here =
-      let x = known_of r told here in
+      let x = known_of r here in
       once_of x.0 told (h.answers r told x.0 here x.1) (omega (arith, slice_get_within reports r told here, counted r told here, h.order r told here))
 
   signed : (k : ℕ) (told : Report) → at reports k told → All (IsSigned told.rank.me) told.rank.log
-  signed k told here = let x = known_of k told here in signed_of x.0 told (h.answers k told x.0 here x.1)
+  signed k told here = let x = known_of k here in signed_of x.0 told (h.answers k told x.0 here x.1)
 
   honest : (k : ℕ) (told : Report) → at reports k told → IsHonest told.rank.ranks told.rank.log told.steps
   honest k told here =
-      let x = known_of k told here in
+      let x = known_of k here in
       borne_out x.0 told (h.answers k told x.0 here x.1)
       (rw (counted k told here) (taken_of inboxes reports flowing signed (λ d r q s far. (h.scripts d r q).within s (omega (arith, far, h.each))) k told here))
 
@@ -89,15 +87,15 @@ module _ (job : Seen) (inboxes : Inboxes) (knows : List Known) (reports : List R
     known_each = h.known_each;
     answers = h.answers;
     agreed = h.agreed;
-    gone = gone_stopped inboxes reports flowing;
+    gone = gone_stopped flowing;
     revoked = h.revoked;
     entered = each_once;
     own = adopt_own;
     decisions = h.decisions;
     one_decision = adopt_one;
-    one_group = one_group reports adopt_one (length reports) counted;
+    one_group = one_group reports adopt_one counted;
     scripts = h.scripts;
     order = h.order;
-    reader = faithful reports (honest_reports inboxes reports flowing honest);
+    reader = faithful reports (honest_reports flowing honest);
     rest = at_rest;
   }

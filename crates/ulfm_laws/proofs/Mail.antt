@@ -3,12 +3,12 @@ use Rattle.std.proofs.Common.{◌≡◌, ℕ, ◌<◌, Bool, true, false, cond, 
 use Rattle.std.specs.Prelude.{⊤, ◌&&◌, ◌==◌, if◌then◌else◌}
 use Rattle.std.specs.List.{flat_map}
 use Rattle.std.proofs.lemmas.Grind.{flat_map-append}
-use Rattle.ulfm_laws.proofs.Common.{Context, Item, Entry, members_of, is_revoked}
+use Rattle.ulfm_laws.proofs.Common.{Item, Entry, members_of, is_revoked}
 use Rattle.ulfm_base.specs.Group.{is_member}
 use Rattle.ulfm_base.specs.declared.item.Item.TheVariants.{Letter as Mail, Gone, Revoke, Enter}
 use Rattle.ulfm_rank.specs.declared.entry.Entry.TheVariants.{Sent, Revoked, Entered, Took}
 use Rattle.ulfm_rank.specs.Calls.{IsFrom}
-use Rattle.ulfm_rank.specs.Owed.{owed, owed_by, is_told, passed_on}
+use Rattle.ulfm_rank.specs.Owed.{owed, owed_by, is_told}
 use Rattle.ulfm_laws.specs.Reader.{Content, content}
 use Rattle.ulfm_rank.proofs.Gather.{gathered_all}
 
@@ -36,6 +36,15 @@ IsTakenFrom n _ = ⊤
 pub flat-push : {X Y : Type 0} (f : X → List Y) (xs : List X) (x : X) → flat_map f (xs ++ x ∷ []) ≡ flat_map f xs ++ f x
 flat-push {X} {Y} f xs x = flat_map-append f xs (x ∷ []) ∙ ap (λ (ys : List Y). flat_map f xs ++ ys) (append-nil (f x))
 
+-- an item that is no letter brings none
+pub no_mail : (c : ℕ) (b : Bool) (item : Item) → mail_on c item ≡ [] → mail c (cond b (item ∷ []) []) ≡ []
+no_mail c true item e = append-nil (mail_on c item) ∙ e
+no_mail c false item e = refl
+
+unsent : (c : ℕ) (a b : Bool) (item : Item) → mail_on c item ≡ [] → mail c (cond a [] (cond b (item ∷ []) [])) ≡ []
+unsent c true b item e = refl
+unsent c false b item e = no_mail c b item e
+
 -- of what an entry owes the letters are those that it sent
 owed_entry : (n me c d : ℕ) (before : List Entry) (found : List Item) (e : Entry) → mail c (owed_by n me d before found e) ≡ sent_entry c d e
 owed_entry n me c d before found (Sent to letter) = one (eqb letter.envelope.context.number c) (eqb to.number d) refl
@@ -45,26 +54,9 @@ owed_entry n me c d before found (Sent to letter) = one (eqb letter.envelope.con
     one true false e = refl
     one false true e = rw e refl
     one false false e = refl
-owed_entry n me c d before found (Revoked context) = passed me c d before context
-  where
-    passed : (me c d : ℕ) (before : List Entry) (context : Context) → mail c (passed_on me before context d) ≡ []
-    passed me c d before context = two (is_revoked before context.number) (is_told me before d)
-      where
-        two : (a b : Bool) → mail c (cond a [] (cond b (Revoke context ∷ []) [])) ≡ []
-        two true b = refl
-        two false true = refl
-        two false false = refl
-owed_entry n me c d before found (Entered context known) = two (is_member (members_of n before context.number) d && is_told me before d)
-  where
-    two : (b : Bool) → mail c (cond b (Enter context known ∷ []) []) ≡ []
-    two true = refl
-    two false = refl
-owed_entry n me c d before found (Took source (Revoke context)) = two (is_revoked before context.number) (is_told me before d)
-  where
-    two : (a b : Bool) → mail c (cond a [] (cond b (Revoke context ∷ []) [])) ≡ []
-    two true b = refl
-    two false true = refl
-    two false false = refl
+owed_entry n me c d before found (Revoked context) = unsent c (is_revoked before context.number) (is_told me before d) (Revoke context) refl
+owed_entry n me c d before found (Entered context known) = no_mail c (is_member (members_of n before context.number) d && is_told me before d) (Enter context known) refl
+owed_entry n me c d before found (Took source (Revoke context)) = unsent c (is_revoked before context.number) (is_told me before d) (Revoke context) refl
 owed_entry n me c d before found (Took source (Mail letter)) = refl
 owed_entry n me c d before found (Took source Gone) = refl
 owed_entry n me c d before found (Took source (Enter context known)) = refl

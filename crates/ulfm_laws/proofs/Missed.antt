@@ -1,6 +1,6 @@
 -- Each rank's history has one lawful pairing, by which no match is missed.
 use Rattle.std.proofs.Common.{List, length, arith}
-use Rattle.ulfm_laws.proofs.Common.{History, Report}
+use Rattle.ulfm_laws.proofs.Common.{Report}
 use Rattle.ulfm_match.proofs.Unique.{one_pairing}
 use Rattle.ulfm_laws.specs.Reader.{history_at, HasOnePairing, NoneIsMissed}
 use Rattle.ulfm_match.proofs.Exists.{some_pairing}
@@ -10,13 +10,13 @@ use Rattle.ulfm_laws.proofs.Senders.{sender}
 module _ (reports : List Report) (all : AreHonest reports) where
   pub one_each : HasOnePairing reports
   one_each d inside =
-      let h : History = history_at reports d in
+      let h = history_at reports d in
       let r = some_pairing h (all.honest d inside).formed in
       (r.0, r.1, λ s law i b. (λ q. one_pairing h r.0 s r.1 law i b q, λ q. one_pairing h s r.0 law r.1 i b q))
 
   pub none_missed : NoneIsMissed reports
   none_missed d i s j pattern letter inside w k adm =
-      let h : History = history_at reports d in
+      let h = history_at reports d in
       let r = some_pairing h (all.honest d inside).formed in
       r.1.none_missed (length h) w.place k.place pattern letter (omega arith)
       (record {

@@ -1,6 +1,6 @@
 -- What is given keeps the order of the sends and of the posts.
 use Rattle.std.proofs.Common.{◌≡◌, ℕ, ◌<◌, inl, inr, List, ◌∷◌, ◌++◌, length, take, refl, ap, sym, subst, ◌∙◌, arith, append_assoc, Some, slice_get}
-use Rattle.ulfm_laws.proofs.Common.{Context, Tag, Letter, Pattern, Event, History, Post, count_before, group_at, Send, Sent, StepReport, step_report, request_at, RequestId, Report, report_at}
+use Rattle.ulfm_laws.proofs.Common.{Context, Tag, Letter, Pattern, Event, History, Post, count_before, group_at, Send, Sent, step_report, request_at, RequestId, Report, report_at}
 use Rattle.ulfm_base.specs.Pattern.{Admits}
 use Rattle.ulfm_match.proofs.Decide.{compared}
 use Rattle.ulfm_match.proofs.Histories.{count_below}
@@ -15,12 +15,11 @@ use Rattle.ulfm_match.proofs.Places.{gives_at, flat_within, flat_front, same_fro
 
 module _ (reports : List Report) (all : AreHonest reports) where
   -- receives stand in the order of their steps
-  earlier_step : (d : ℕ) → d < length reports → (i k place other : ℕ) (p q : Pattern) → IsPostedBy (report_at reports d) i place p → IsPostedBy (report_at reports d) k other q → place < other → i < k
-  earlier_step d inside i k place other p q a b l =
-      let n : count_before (history_at reports d) place < count_before (history_at reports d) other = count_below (history_at reports d) place other (Post p) a.posted refl l in
+  earlier_step : (d : ℕ) → d < length reports → (i k place : ℕ) {other : ℕ} {p q : Pattern} → IsPostedBy (report_at reports d) i place p → IsPostedBy (report_at reports d) k other q → place < other → i < k
+  earlier_step d inside i k place {other} {p} {q} a b l =
+      let n = count_below (history_at reports d) place other (Post p) a.posted refl l in
       let less : a.id.number < b.id.number = omega (arith, n, a.numbered, b.numbered) in
-      let ra = its_request (report_at reports d) i place p a in
-      let rb = its_request (report_at reports d) k other q b in
+      let ra = its_request a in let rb = its_request b in
       elim (compared i k) [
         | inl h ↦ h
         | inr o ↦ elim o [
@@ -31,20 +30,20 @@ module _ (reports : List Report) (all : AreHonest reports) where
         ]
       ]
 
-  earlier_place : (d : ℕ) → d < length reports → (i k place other : ℕ) (p q : Pattern) → IsPostedBy (report_at reports d) i place p → IsPostedBy (report_at reports d) k other q → i < k → place < other
-  earlier_place d inside i k place other p q a b l =
-      let less : a.id.number < b.id.number = (all.honest d inside).orderly.rises i k a.id b.id l (its_request (report_at reports d) i place p a) (its_request (report_at reports d) k other q b) in
+  earlier_place : (d : ℕ) → d < length reports → (i k place : ℕ) {other : ℕ} {p q : Pattern} → IsPostedBy (report_at reports d) i place p → IsPostedBy (report_at reports d) k other q → i < k → place < other
+  earlier_place d inside i k place {other} {p} {q} a b l =
+      let less : a.id.number < b.id.number = (all.honest d inside).orderly.rises i k a.id b.id l (its_request a) (its_request b) in
       elim (compared place other) [
         | inl h ↦ h
         | inr o ↦ elim o [
           | inl same ↦ absurd (let e : count_before (history_at reports d) place ≡ count_before (history_at reports d) other = ap (count_before (history_at reports d)) same in omega (arith, less, e, a.numbered, b.numbered))
-          | inr h ↦ absurd (let n : count_before (history_at reports d) other < count_before (history_at reports d) place = count_below (history_at reports d) other place (Post q) b.posted refl h in omega (arith, less, n, a.numbered, b.numbered))
+          | inr h ↦ absurd (let n = count_below (history_at reports d) other place (Post q) b.posted refl h in omega (arith, less, n, a.numbered, b.numbered))
         ]
       ]
 
   pub receives_keep_order : ReceivesKeepOrder reports
   receives_keep_order d i s j k place pattern given l by adm lives =
-      let before : place < given.post_place = earlier_place d given.inside k i place given.post_place pattern given.pattern by given.receive l in
+      let before = earlier_place d given.inside k i place by given.receive l in
       let e = given.lawful.earlier_receives given.post_place given.come_place place pattern given.letter given.pairs given.sent.came before by.posted lives adm in
       let m = given.lawful.matched place e.0 e.2 in
       let sent = sender reports all d given.inside e.0 m.letter m.letter_live.came in (
@@ -64,31 +63,29 @@ module _ (reports : List Report) (all : AreHonest reports) where
     pub tagged : letter.envelope.tag ≡ tag
     pub context : letter.envelope.context.number ≡ comm.number
 
-  as_many : (s c : ℕ) (es fs : History) (ys : List Content) → es ≡ fs → letters_come s c fs ≡ ys → length (letters_come s c es) ≡ length ys
-  as_many s c es fs ys e f = ap (λ (gs : History). length (letters_come s c gs)) e ∙ ap (λ (xs : List Content). length xs) f
+  as_many : (s c : ℕ) {es fs : History} {ys : List Content} → es ≡ fs → letters_come s c fs ≡ ys → length (letters_come s c es) ≡ length ys
+  as_many s c e f = ap (λ (gs : History). length (letters_come s c gs)) e ∙ ap (λ (xs : List Content). length xs) f
 
-  has_come : (d s b j k to : ℕ) (l : Letter) (tag : Tag) (body : List ℕ) (comm : Context) → d < length reports → IsSentBy reports d b l s j → l.envelope.context.number ≡ comm.number → k < j → IsStep (report_at reports s) k (Send to tag body comm) Sent → slice_get (group_at (report_at reports s).rank comm.number) to ≡ Some d → HasCome d s b k tag body comm
-  has_come d s b j k to l tag body comm inside x same less step directed =
-      let own : Report = report_at reports s in
-      let h : History = history_at reports d in
-      let c : ℕ = comm.number in
-      let group : List ℕ = group_at own.rank c in
+  has_come : {b : ℕ} (d s j k to : ℕ) {l : Letter} (tag : Tag) (body : List ℕ) (comm : Context) → d < length reports → IsSentBy reports d b l s j → l.envelope.context.number ≡ comm.number → k < j → IsStep (report_at reports s) k (Send to tag body comm) Sent → slice_get (group_at (report_at reports s).rank comm.number) to ≡ Some d → HasCome d s b k tag body comm
+  has_come {b} d s j k to tag body comm inside x same less step directed =
+      let own = report_at reports s in let h = history_at reports d in let c = comm.number in
+      let group = group_at own.rank c in
       let p = flat_front (come_in s c) h b in
       let w = all.sent s d c x.inside inside in
       let q = flat_front (sent_in group c d) own.steps j in
       let joined : letters_come s c (take b h) ++ (p.0 ++ w.0) ≡ letters_sent own.rank c d (take j own.steps) ++ q.0 =
       sym (append_assoc (letters_come s c (take b h)) p.0 w.0) ∙ ap (λ (xs : List Content). xs ++ w.0) p.1 ∙ w.1 ∙ sym q.1 in
       let fronts : letters_come s c (take b h) ≡ letters_sent own.rank c d (take j own.steps) = same_fronts (letters_come s c (take b h)) (p.0 ++ w.0) (letters_sent own.rank c d (take j own.steps)) q.0 joined (rw same at x.in_order) in
-      let y : StepReport = step_report (Send to tag body comm) Sent step.at step.polls in
+      let y = step_report (Send to tag body comm) Sent step.at step.polls in
       let z = flat_within (sent_in group c d) own.steps k j y less step.stands in
       let list : letters_come s c (take b h) ≡ letters_sent own.rank c d (take k own.steps) ++ content tag body ∷ z.0 =
       fronts ∙ z.1 ∙ ap (λ (xs : List Content). letters_sent own.rank c d (take k own.steps) ++ (xs ++ z.0)) (sent_one group d to tag body comm directed) in
       let g = gives_at (come_in s c) (come_few s c) (take b h) (letters_sent own.rank c d (take k own.steps)) (content tag body) z.0 list in
       let t = get_take h b g.index g.giver g.at in
-      let m = come_is s c g.giver (content tag body) g.gives in
+      let m = come_is s c g.giver g.gives in
       let its_tag : tag ≡ m.letter.envelope.tag = ap (λ (v : Content). v.tag) (sym m.carries) in
       let its_body : body ≡ m.letter.body = ap (λ (v : Content). v.body) (sym m.carries) in
-      let its_comm : comm ≡ m.letter.envelope.context = same_context comm m.letter.envelope.context (sym m.context) in
+      let its_comm = same_context comm m.letter.envelope.context (sym m.context) in
       record {
         place = g.index;
         letter = m.letter;
@@ -96,11 +93,11 @@ module _ (reports : List Report) (all : AreHonest reports) where
         sent = record {
           to = to;
           inside = x.inside;
-          step = sent_letter own k to m.letter tag body comm its_tag its_body its_comm step;
+          step = sent_letter m.letter its_tag its_body its_comm step;
           directed = rw its_comm at directed;
           came = t.1 ∙ ap (λ (e : Event). Some e) m.came;
           source = m.source;
-          in_order = subst (λ (r : Context). length (letters_come s r.number (take g.index h)) ≡ length (letters_sent own.rank r.number d (take k own.steps))) its_comm (as_many s c (take g.index h) (take g.index (take b h)) (letters_sent own.rank c d (take k own.steps)) (sym t.2) g.before);
+          in_order = subst (λ (r : Context). length (letters_come s r.number (take g.index h)) ≡ length (letters_sent own.rank r.number d (take k own.steps))) its_comm (as_many s c (sym t.2) g.before);
         };
         source = m.source;
         tagged = sym its_tag;
@@ -109,9 +106,9 @@ module _ (reports : List Report) (all : AreHonest reports) where
 
   pub letters_keep_order : LettersKeepOrder reports
   letters_keep_order d i s j k to tag body comm given l step directed adm =
-      let h : History = history_at reports d in
-      let own = pair_admits h given.pairing given.lawful given.post_place given.come_place given.pattern given.letter given.receive.posted given.sent.came given.pairs in
-      let x = has_come d s given.come_place j k to given.letter tag body comm given.inside given.sent (own.context ∙ sym adm.context) l step directed in
+      let h = history_at reports d in
+      let own = pair_admits h given.lawful given.post_place given.come_place given.pattern given.letter given.receive.posted given.sent.came given.pairs in
+      let x = has_come d s j k to tag body comm given.inside given.sent (own.context ∙ sym adm.context) l step directed in
       let admits : Admits given.pattern x.letter.envelope = record {
         context = x.context ∙ adm.context;
         source = rw (same_rank given.letter.envelope.source x.letter.envelope.source (given.sent.source ∙ sym x.source)) at adm.source;
@@ -121,6 +118,6 @@ module _ (reports : List Report) (all : AreHonest reports) where
       let m = given.lawful.matched e.0 x.place e.2 in
       let q = poster reports all d given.inside e.0 m.pattern m.receive_live.posted in (
         q.0,
-        earlier_step d given.inside q.0 i e.0 given.post_place m.pattern given.pattern q.1 given.receive e.1,
+        earlier_step d given.inside q.0 i e.0 q.1 given.receive e.1,
         record { inside = given.inside; post_place = e.0; pattern = m.pattern; receive = q.1; come_place = x.place; letter = x.letter; sent = x.sent; pairing = given.pairing; lawful = given.lawful; pairs = e.2 },
       )

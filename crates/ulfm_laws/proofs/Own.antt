@@ -1,5 +1,5 @@
 -- Each decision that a rank adopted is its own, where its answers are right.
-use Rattle.std.proofs.Common.{◌≡◌, ℕ, false, List, ap, sym, ◌∙◌, Some}
+use Rattle.std.proofs.Common.{◌≡◌, ℕ, ap, sym, ◌∙◌, Some}
 use Rattle.std.specs.Prelude.{⊤, All, not, ◌==◌, nat_eq}
 use lib.Pointwise.{pointwise}
 use Rattle.std.proofs.lemmas.Bool.{or_parts, not-false, eqb-true}
@@ -10,7 +10,6 @@ use Rattle.ulfm_base.specs.Group.{is_member}
 use Rattle.ulfm_board.specs.Known.{known_at}
 use Rattle.ulfm_rank.specs.declared.entry.Entry.TheVariants.{Adopted, Stopped}
 use Rattle.ulfm_rank.specs.Checks.{Passes, adopt_checks, group_at}
-use Rattle.ulfm_rank.specs.Shrink.{is_foreign}
 use Rattle.ulfm_rank.proofs.Belonging.{same_numbers}
 use Rattle.ulfm_rank.proofs.Refusals.{all_pass}
 use Rattle.ulfm_script.specs.Answered.{StoodAt, AnswersFollow}
@@ -25,14 +24,11 @@ AdoptsOwn known rank _ = ⊤
 
 module _ (known : Known) (r : State) where
   -- a decision that no check refuses is the rank's own
-  own_adopted : (n : ℕ) (old : State) (comm : Context) (held : Decision) → StoodAt r n old → known_at known comm.number ≡ Some held → Passes (adopt_checks old comm.number held) → IsOwn known r held
-  own_adopted n old comm held stood knows passes =
-      let group : List ℕ = group_at old comm.number in
-      let domestic : is_foreign old.me group old.log comm.number held ≡ false =
-      (all_pass (adopt_checks old comm.number held) passes).1.1.1.1.0 in
-      let first = or_parts (not (held.context.number == comm.number)) _ domestic in
+  own_adopted : {n : ℕ} (old : State) (comm : Context) (held : Decision) → StoodAt r n old → known_at known comm.number ≡ Some held → Passes (adopt_checks old comm.number held) → IsOwn known r held
+  own_adopted {n} old comm held stood knows passes =
+      let group = group_at old comm.number in
+      let first = or_parts (not (held.context.number == comm.number)) _ ((all_pass (adopt_checks old comm.number held) passes).1.1.1.1.0) in
       let second = or_parts (not (pointwise nat_eq held.old group)) _ first.1 in
-      let third = or_parts (not (is_member held.fresh old.me)) _ second.1 in
       let about : held.context.number ≡ comm.number = eqb-true held.context.number comm.number (not-false _ first.0) in
       record {
         held = ap (known_at known) about ∙ knows;
@@ -40,11 +36,11 @@ module _ (known : Known) (r : State) where
         then = old;
         stood = stood;
         group = (same_numbers held.old group).0 (not-false _ second.0) ∙ ap (group_at old) (sym about);
-        member = ap (is_member held.fresh) (sym stood.me) ∙ not-false _ third.0;
+        member = ap (is_member held.fresh) (sym stood.me) ∙ not-false _ (or_parts (not (is_member held.fresh old.me)) _ second.1).0;
       }
 
   granted_own : (e : Entry) → IsGranted known r e → AdoptsOwn known r e
-  granted_own (Adopted held) h = own_adopted h.place h.old h.comm held h.stood h.knows h.passes
+  granted_own (Adopted held) h = own_adopted h.old h.comm held h.stood h.knows h.passes
   granted_own _ h = tt
 
 -- each decision that the rank adopted is its own

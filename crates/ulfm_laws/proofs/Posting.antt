@@ -71,7 +71,7 @@ module _ (r : State) (done : List StepReport) (source : Option ℕ) (tag : Optio
   receipt : IsReceipt r.ranks (log ++ e ∷ []) source tag room comm id
   receipt =
       let m = may_receive r comm.number source passes in
-      let made : group_of r.ranks (log ++ e ∷ []) comm.number ≡ Some m.0.0 = group_stays r.ranks log e comm.number m.0.0 m.0.1 in
+      let made = group_stays r.ranks log e comm.number m.0.0 m.0.1 in
       let same : members_of r.ranks log comm.number ≡ members_of r.ranks (log ++ e ∷ []) comm.number = members_found r.ranks log comm.number m.0.0 m.0.1 ∙ sym (members_found r.ranks (log ++ e ∷ []) comm.number m.0.0 made) in
       record {
         place = length old;
@@ -88,7 +88,7 @@ module _ (r : State) (done : List StepReport) (source : Option ℕ) (tag : Optio
 
   below : (jd : RequestId) → id ≡ jd → jd.number < count_before (history_of (log ++ e ∷ [])) (length (history_of (log ++ e ∷ [])))
   below jd same =
-      let up : count_before now (length old) < count_before now (length now) = count_below now (length old) (length now) (Post s.pattern) here refl (slice_get_within now (length old) (Post s.pattern) here) in
+      let up = count_below now (length old) (length now) (Post s.pattern) here refl (slice_get_within now (length old) (Post s.pattern) here) in
       let n : id.number ≡ jd.number = ap (λ (i : RequestId). i.number) same in
       subst (λ (g : List Event). jd.number < count_before g (length g)) (sym long) (omega (arith, up, its_number, n))
 
@@ -98,7 +98,7 @@ module _ (r : State) (done : List StepReport) (source : Option ℕ) (tag : Optio
       elim (compared place (length old)) [
         | inl l ↦
             let c = h.covered place p (get_in_front old (Post s.pattern ∷ tail) place (Post p) l at') in
-            (c.0, c.1, asked_front done (x ∷ []) c.0 c.1 c.2, ap (λ (ys : List Event). count_before ys place) long ∙ count_front old (Post s.pattern ∷ tail) place (omega (arith, l)) ∙ c.3)
+            (c.0, c.1, asked_front done (x ∷ []) c.0 c.2, ap (λ (ys : List Event). count_before ys place) long ∙ count_front old (Post s.pattern ∷ tail) place (omega (arith, l)) ∙ c.3)
         | inr o ↦ elim o [
           | inl same ↦ (length done, id, asked_last done x, ap (λ (ys : List Event). count_before ys place) long ∙ ap (count_before now) same ∙ its_number)
           | inr far ↦
@@ -112,12 +112,11 @@ module _ (r : State) (done : List StepReport) (source : Option ℕ) (tag : Optio
   true-posted =
       let revoked : is_revoked log s.pattern.context.number ≡ false = ap (λ (k : Context). is_revoked log k.number) s.receive.context ∙ (may_receive r comm.number source passes).1 in
       rw s.only (record {
-        orderly = orderly-answered r.ranks (log ++ e ∷ []) done x (orderly-logged r.ranks log e done h.orderly) receipt
-            (λ jd q. (below jd (same_Some id jd q), λ k kd g. let l : kd.number < count_before old (length old) = h.orderly.below k kd g in let n : id.number ≡ jd.number = ap (λ (i : RequestId). i.number) (same_Some id jd q) in omega (arith, l, numbered, n)))
+        orderly = orderly-answered x (orderly-logged e h.orderly) receipt
+            (λ jd q. (below jd (same_Some id jd q), λ k kd g. let l = h.orderly.below k kd g in let n : id.number ≡ jd.number = ap (λ (i : RequestId). i.number) (same_Some id jd q) in omega (arith, l, numbered, n)))
             (λ req k y q g f. let bad : ⊥ = cc in bad);
         sends = λ c d.
-            let group : List ℕ = members_of r.ranks (log ++ e ∷ []) c in
-            flat-push (sent_in group c d) done x ∙ sends-logged r.ranks log e done c d h;
+            flat-push (sent_in (members_of r.ranks (log ++ e ∷ []) c) c d) done x ∙ sends-logged e c d h;
         covered = covered;
         formed = formed-posted log s.pattern h.formed revoked;
         taken = All-push (IsTakenFrom r.ranks) log e h.taken tt;

@@ -1,5 +1,5 @@
 -- Who has a proposal where reports are at rest.
-use Rattle.std.proofs.Common.{◌≡◌, ◌≢◌, ℕ, true, false, eqb, List, length, ap, sym, ◌∙◌, inl, inr, Some, is_some, ◌||◌}
+use Rattle.std.proofs.Common.{◌≡◌, ◌≢◌, ℕ, true, eqb, List, length, ap, sym, ◌∙◌, inl, inr, Some, is_some, ◌||◌}
 use Rattle.std.proofs.lemmas.Bool.{cases_Bool, cases_eq, or_left, or_right, ne_eqb, eq-eqb, cond-true, cond-false}
 use Rattle.ulfm_base.specs.Group.{is_member}
 use Rattle.ulfm_laws.proofs.Common.{at, Entry, group_at, Report, Inboxes, IsAtRest}
@@ -33,25 +33,22 @@ module _ (inboxes : Inboxes) (reports : List Report) (h : AreFlowing inboxes rep
   -- what a running rank took from another one is all that this one owes to it
   took_whole : (s d : ℕ) (sender receiver : Report) → at reports s sender → at reports d receiver → IsRunning sender → IsRunning receiver → took receiver.rank.log s ≡ owed (length reports) s sender.rank.log d
   took_whole s d sender receiver p q runs running =
-      sym (took_owed inboxes reports h rest s d sender receiver p q runs running)
+      sym (took_owed inboxes reports h rest s d p q runs running)
       ∙ ap (λ (k : ℕ). owed k sender.rank.me sender.rank.log d) (h.counted s sender p)
       ∙ ap (λ (k : ℕ). owed (length reports) k sender.rank.log d) (h.order s sender p)
 
   module _ (r c : ℕ) (told : Report) (here : at reports r told) (running : IsRunning told) (group : List ℕ) (made : group_of (length reports) told.rank.log c ≡ Some group) where
     -- a running member that entered was heard
-    heard : (m : ℕ) (member : Report) → at reports m member → is_member group m ≡ true → IsRunning member → has_entered member.rank.log c ≡ true → is_some (listed_of r told.rank.log c m) ≡ true
-    heard m member at_m inside runs entered = elim (cases_eq m r) [
-      | inl same ↦
-          let same_one : member ≡ told = same_report reports m r member told at_m here same in
-          ap is_some (listed_self r told.rank.log c m same) ∙ ap (λ (x : Report). has_entered x.rank.log c) (sym same_one) ∙ entered
+    heard : (m : ℕ) {member : Report} → at reports m member → is_member group m ≡ true → IsRunning member → has_entered member.rank.log c ≡ true → is_some (listed_of r told.rank.log c m) ≡ true
+    heard m {member} at_m inside runs entered = elim (cases_eq m r) [
+      | inl same ↦ ap is_some (listed_self r told.rank.log c m same) ∙ ap (λ (x : Report). has_entered x.rank.log c) (sym (same_report reports at_m here same)) ∙ entered
       | inr other ↦
           let theirs = some_from (group_of (length reports) member.rank.log c) ((keeps m member at_m).enters_made c entered) in
-          let alike : theirs.0 ≡ group = same_group reports one (length reports) m r c member told theirs.0 group at_m here theirs.1 made in
+          let alike = same_group reports one (length reports) m r c at_m here theirs.1 made in
           let mine : is_member (members_of (length reports) member.rank.log c) r ≡ true =
           ap (λ (g : List ℕ). is_member g r) (members_found (length reports) member.rank.log c theirs.0 theirs.1 ∙ alike) ∙ ((keeps r told here).belongs c group made).member in
-          let stays : is_gone member.rank.log r ≡ false = running-not_gone inboxes reports h r m told member here at_m running in
           ap is_some (listed_other r told.rank.log c m other ∙ heard-took told.rank.log c m ∙ ap (first_set c) (took_whole m r member told at_m here runs running))
-          ∙ (keeps m member at_m).owes_each r c entered mine other stays
+          ∙ (keeps m member at_m).owes_each r c entered mine other (running-not_gone h r m here at_m running)
     ]
 
     -- each member is listed or out
@@ -60,9 +57,9 @@ module _ (inboxes : Inboxes) (reports : List Report) (h : AreFlowing inboxes rep
         let member = there reports m (((keeps r told here).belongs c group made).below m inside) in
         elim (cases_Bool (is_stopped member.0.rank.log)) [
           | inl stopped ↦
-              let gone : is_gone told.rank.log m ≡ true = knows-stopped inboxes reports h rest m r member.0 told member.1 here stopped running in
+              let gone = knows-stopped inboxes reports h rest m r member.0 told member.1 here stopped running in
               or_right (is_some (listed_of r told.rank.log c m)) (is_out r group told.rank.log c m) (or_left (is_gone told.rank.log m) _ gone)
-          | inr runs ↦ or_left (is_some (listed_of r told.rank.log c m)) (is_out r group told.rank.log c m) (heard m member.0 member.1 inside runs (entered m member.0 member.1 inside runs))
+          | inr runs ↦ or_left (is_some (listed_of r told.rank.log c m)) (is_out r group told.rank.log c m) (heard m member.1 inside runs (entered m member.0 member.1 inside runs))
         ]
 
     has_one : AllEntered reports group c → has_proposal r group told.rank.log c ≡ true
@@ -70,9 +67,8 @@ module _ (inboxes : Inboxes) (reports : List Report) (h : AreFlowing inboxes rep
 
   pub proposes_each : ProposesEach reports
   proposes_each r c told here running made entered =
-      let log : List Entry = told.rank.log in
-      let n : ℕ = length reports in
-      let many : told.rank.ranks ≡ n = h.counted r told here in
+      let log = told.rank.log in let n = length reports in
+      let many = h.counted r told here in
       let mine = some_from (group_of n log c) (ap (λ (k : ℕ). is_made k log c) (sym many) ∙ made) in
       let same : group_at told.rank c ≡ mine.0 = ap (λ (k : ℕ). members_of k log c) many ∙ members_found n log c mine.0 mine.1 in
       ap (λ (me : ℕ). has_proposal me (group_at told.rank c) log c) (h.order r told here)

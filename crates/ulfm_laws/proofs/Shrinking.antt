@@ -11,15 +11,15 @@ use Rattle.ulfm_laws.proofs.Answering.{true-same, true-idle, true-one}
 use Rattle.ulfm_laws.proofs.Closing.{IsTrueOf}
 
 -- the entry into a shrink sends, posts and takes nothing
-pub true-open : (done : List StepReport) (r : State) (asked : Step) (new : State) → IsTrueOf r done → LeavesOpen done r asked new → IsTrueOf new done
-true-open done r (Wait req) new h o = rw o.only h
-true-open done r (Shrink comm) new h o = rw o.1.only (true-idle r.ranks r.log done (Entered comm o.1.known) tt h)
-true-open done r _ new h o = absurd o
+pub true-open : {done : List StepReport} (r : State) (asked : Step) (new : State) → IsTrueOf r done → LeavesOpen done r asked new → IsTrueOf new done
+true-open r (Wait req) new h o = rw o.only h
+true-open {done} r (Shrink comm) new h o = rw o.1.only (true-idle (Entered comm o.1.known) tt h)
+true-open r _ new h o = absurd o
 
 -- a poll that leaves its step open keeps the steps true
-pub true-opens : (waits : Bool) (done : List StepReport) (r : State) (asked : Step) (new : State) → IsTrueOf r done → StaysOpen waits done r asked new → IsTrueOf new done
-true-opens true done r asked new h o = rw o h
-true-opens false done r asked new h o = true-open done r asked new h o
+pub true-opens : (waits : Bool) {done : List StepReport} (r : State) (asked : Step) (new : State) → IsTrueOf r done → StaysOpen waits done r asked new → IsTrueOf new done
+true-opens true r asked new h o = rw o h
+true-opens false {done} r asked new h o = true-open r asked new h o
 
 module _ (r : State) (done : List StepReport) (h : IsTrueOf r done) (comm : Context) (at polls : ℕ) (new : State) where
   pub true-adoption : (held : Decision) (answer : StepAnswer) → AnswersAdoption r comm held answer new → IsTrueOf new (done ++ step_report (Shrink comm) answer at polls ∷ [])
@@ -28,13 +28,13 @@ module _ (r : State) (done : List StepReport) (h : IsTrueOf r done) (comm : Cont
   true-adoption held _ a = absurd a
 
   -- the adoption of a decision sends, posts and takes nothing
-  true-decision : (board : Option (List ℕ)) (known later : Known) (answer : StepAnswer) → AnswersDecision board known later r comm answer new → IsTrueOf new (done ++ step_report (Shrink comm) answer at polls ∷ [])
-  true-decision board known later answer d =
+  true-decision : {board : Option (List ℕ)} {known later : Known} {answer : StepAnswer} → AnswersDecision board known later r comm answer new → IsTrueOf new (done ++ step_report (Shrink comm) answer at polls ∷ [])
+  true-decision {answer} d =
       elim d.outcome [
         | inl adopts ↦ true-adoption adopts.held answer adopts.adoption
         | inr starves ↦ rw starves.refused (true-same r done (Shrink comm) (Refused OutOfMemory) at polls new h tt starves.rank_stays)
       ]
 
 -- a decision keeps the steps true
-pub true-decided : (old : Player) (comm : Context) (board : Option (List ℕ)) (known later : Known) (new : Player) → IsTrueOf old.rank old.done → IsDecided old comm board known new later → IsTrueOf new.rank new.done
-true-decided old comm board known later new h d = rw d.only (true-decision old.rank old.done h comm (length old.rank.log) old.polls d.rank board known later d.answer d.decision)
+pub true-decided : {old : Player} (comm : Context) (board : Option (List ℕ)) {known : Known} (later : Known) {new : Player} → IsTrueOf old.rank old.done → IsDecided old comm board known new later → IsTrueOf new.rank new.done
+true-decided {old} comm board {known} later h d = rw d.only (true-decision old.rank old.done h comm (length old.rank.log) old.polls d.rank d.decision)

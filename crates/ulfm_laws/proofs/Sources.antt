@@ -15,11 +15,11 @@ abbrev AreFrom : ℕ → List Event → Type 0
 AreFrom n es = (k : ℕ) (l : Letter) → slice_get es k ≡ Some (Come l) → l.envelope.source.number < n
 
 from-nil : (n : ℕ) → AreFrom n []
-from-nil n k l h = let bad : ⊥ = cc in absurd bad
+from-nil n k l h = absurd (cc)
 
 from-one : (n : ℕ) (e : Event) → ((l : Letter) → e ≡ Come l → l.envelope.source.number < n) → AreFrom n (e ∷ [])
 from-one n e own zero l h = own l (let f : e ≡ Come l = cc in f)
-from-one n e own (suc k) l h = let bad : ⊥ = cc in absurd bad
+from-one n e own (suc k) l h = absurd (cc)
 
 from-append : (n : ℕ) (xs ys : List Event) → AreFrom n xs → AreFrom n ys → AreFrom n (xs ++ ys)
 from-append n [] ys a b k l h = b k l h
@@ -30,30 +30,26 @@ from-cond : (n : ℕ) (b : Bool) (e : Event) → ((l : Letter) → e ≡ Come l 
 from-cond n true e own = from-nil n
 from-cond n false e own = from-one n e own
 
+from-end : (n : ℕ) (b : Bool) (k : ℕ) → AreFrom n (cond b (End k ∷ []) [])
+from-end n true k = from-one n (End k) (λ l e. absurd (cc))
+from-end n false k = from-nil n
+
 from-ends : (n s k : ℕ) (h : List Event) → AreFrom n (ends_from s k h)
 from-ends n s k [] = from-nil n
 from-ends n s k (e ∷ h) = from-append n (end_at s k e) (ends_from s (suc k) h) (one e) (from-ends n s (suc k) h)
   where
-    pick : (b : Bool) → AreFrom n (cond b (End k ∷ []) [])
-    pick true = from-one n (End k) (λ l e. let bad : ⊥ = cc in absurd bad)
-    pick false = from-nil n
-
     one : (e : Event) → AreFrom n (end_at s k e)
-    one (Post p) = pick (names p.source s)
+    one (Post p) = from-end n (names p.source s) k
     one _ = from-nil n
 
 from-events : (n : ℕ) (log : List Entry) (h : List Event) (e : Entry) → IsTakenFrom n e → AreFrom n (events_by log h e)
-from-events n log h (Posted p) own = from-append n (Post p ∷ []) (cond (names_gone log p.source) (End (length h) ∷ []) []) (from-one n (Post p) (λ l e. let bad : ⊥ = cc in absurd bad)) (pick (names_gone log p.source))
-  where
-    pick : (b : Bool) → AreFrom n (cond b (End (length h) ∷ []) [])
-    pick true = from-one n (End (length h)) (λ l e. let bad : ⊥ = cc in absurd bad)
-    pick false = from-nil n
-from-events n log h (Revoked context) own = from-cond n (is_revoked log context.number) (Clear context.number) (λ l e. let bad : ⊥ = cc in absurd bad)
+from-events n log h (Posted p) own = from-append n (Post p ∷ []) (cond (names_gone log p.source) (End (length h) ∷ []) []) (from-one n (Post p) (λ l e. absurd (cc))) (from-end n (names_gone log p.source) (length h))
+from-events n log h (Revoked context) own = from-cond n (is_revoked log context.number) (Clear context.number) (λ l e. absurd (cc))
 from-events n log h (Took source (Mail letter)) own =
     from-cond n (is_revoked log letter.envelope.context.number) (Come letter)
     (λ l e. let same : letter ≡ l = cc in rw (sym own.1 ∙ ap (λ (m : Letter). m.envelope.source) same) at own.0)
 from-events n log h (Took source Gone) own = from-ends n source.number 0 h
-from-events n log h (Took source (Revoke context)) own = from-cond n (is_revoked log context.number) (Clear context.number) (λ l e. let bad : ⊥ = cc in absurd bad)
+from-events n log h (Took source (Revoke context)) own = from-cond n (is_revoked log context.number) (Clear context.number) (λ l e. absurd (cc))
 from-events n log h (Took source (Enter context known)) own = from-nil n
 from-events n log h _ own = from-nil n
 

@@ -24,9 +24,9 @@ rest_of P false item rest h = h
 
 entry_of : (n : ℕ) (e : Entry) (log : List Entry) → ((s : ℕ) → All (FromOf n s) (took_by s e ++ took log s)) → IsTakenFrom n e
 entry_of n (Took source item) log h =
-    let s : ℕ = source.number in
+    let s = source.number in
     let one : All (FromOf n s) (item ∷ took log s) = subst (λ (b : Bool). All (FromOf n s) (cond b (item ∷ []) [] ++ took log s)) (eq-eqb s s refl) (h s) in
-    let p : FromOf n s item = All-head (FromOf n s) item (took log s) one in
+    let p = All-head (FromOf n s) item (took log s) one in
     (p.0, from_signed source item p.1)
 entry_of n _ log h = tt
 
@@ -42,37 +42,36 @@ taken_all n (e ∷ log) h = All-cons (IsTakenFrom n) e log (entry_of n e log h) 
 begun_all : (P : Item → Type 0) (xs ys : List Item) → IsBeginning xs ys → All P ys → All P xs
 begun_all P xs ys b all = subst (λ (zs : List Item). All P zs) (ap (take (length xs)) (sym b.1) ∙ take-append_seam xs b.0) (All-take P (length xs) ys all)
 
-arrived_from : (sender : State) (s d : ℕ) (xs : List Item) → Flow sender s d xs → All (ComesFrom s) (owes sender d) → All (ComesFrom s) xs
-arrived_from sender s d xs h all = elim (cases_Bool (is_stopped sender.log)) [
+arrived_from : (sender : State) (s d : ℕ) {xs : List Item} → Flow sender s d xs → All (ComesFrom s) (owes sender d) → All (ComesFrom s) xs
+arrived_from sender s d {xs} h all = elim (cases_Bool (is_stopped sender.log)) [
   | inr running ↦ begun_all (ComesFrom s) xs (owes sender d) (outbox sender d, sym (h.running running)) all
   | inl stopped ↦ elim (cases_eq s d) [
     | inl same ↦ begun_all (ComesFrom s) xs (owes sender d) (h.stopped_self stopped same).0 all
     | inr other ↦
         let n = h.stopped stopped other in
-        let whole : All (ComesFrom s) (n.sent ++ Gone ∷ []) = All-push (ComesFrom s) n.sent Gone (begun_all (ComesFrom s) n.sent (owes sender d) n.beginning all) tt in
-        begun_all (ComesFrom s) xs (n.sent ++ Gone ∷ []) (outbox sender d, sym n.all) whole
+        begun_all (ComesFrom s) xs (n.sent ++ Gone ∷ []) (outbox sender d, sym n.all) (All-push (ComesFrom s) n.sent Gone (begun_all (ComesFrom s) n.sent (owes sender d) n.beginning all) tt)
   ]
 ]
 
 module _ (inboxes : Inboxes) (reports : List Report) (h : AreFlowing inboxes reports) (signed : (k : ℕ) (told : Report) → at reports k told → All (IsSigned told.rank.me) told.rank.log)
     (within : (k : ℕ) (told : Report) → at reports k told → (s : ℕ) → length reports ≤ s → took told.rank.log s ≡ []) where
-  from_rank : (d s : ℕ) (receiver : Report) → at reports d receiver → s < length reports → All (FromOf (length reports) s) (took receiver.rank.log s)
-  from_rank d s receiver q inside =
+  from_rank : (d s : ℕ) {receiver : Report} → at reports d receiver → s < length reports → All (FromOf (length reports) s) (took receiver.rank.log s)
+  from_rank d s {receiver} q inside =
       let sender = there reports s inside in
-      let r : State = sender.0.rank in
+      let r = sender.0.rank in
       let owed_from : All (ComesFrom s) (owes r d) = subst (λ (m : ℕ). All (ComesFrom m) (owes r d)) (h.order s sender.0 sender.1) (owed_signed r.ranks r.me d r.log (signed s sender.0 sender.1)) in
-      let came : All (ComesFrom s) (took receiver.rank.log s ++ items_from s (inbox_of inboxes d)) = arrived_from r s d (took receiver.rank.log s ++ items_from s (inbox_of inboxes d)) (h.flow s d sender.0 receiver sender.1 q) owed_from in
+      let came = arrived_from r s d (h.flow s d sender.0 receiver sender.1 q) owed_from in
       All-weaker (ComesFrom s) (FromOf (length reports) s) (λ item from. (inside, from)) (took receiver.rank.log s) (begun_all (ComesFrom s) (took receiver.rank.log s) (took receiver.rank.log s ++ items_from s (inbox_of inboxes d)) (items_from s (inbox_of inboxes d), refl) came)
 
-  from_each : (d s : ℕ) (receiver : Report) → at reports d receiver → All (FromOf (length reports) s) (took receiver.rank.log s)
-  from_each d s receiver q = elim (lt_or_ge s (length reports)) [
-    | inl inside ↦ from_rank d s receiver q inside
+  from_each : (d s : ℕ) {receiver : Report} → at reports d receiver → All (FromOf (length reports) s) (took receiver.rank.log s)
+  from_each d s {receiver} q = elim (lt_or_ge s (length reports)) [
+    | inl inside ↦ from_rank d s q inside
     | inr far ↦ subst (λ (xs : List Item). All (FromOf (length reports) s) xs) (sym (within d receiver q s far)) (All-nil (FromOf (length reports) s))
   ]
 
   -- each item that a rank took came from a rank of these
   pub taken_of : (d : ℕ) (receiver : Report) → at reports d receiver → All (IsTakenFrom (length reports)) receiver.rank.log
-  taken_of d receiver q = taken_all (length reports) receiver.rank.log (λ s. from_each d s receiver q)
+  taken_of d receiver q = taken_all (length reports) receiver.rank.log (λ s. from_each d s q)
 
 -- nothing came from a number that is no rank
 pub took_none : (n s : ℕ) (log : List Entry) → All (IsTakenFrom n) log → n ≤ s → took log s ≡ []

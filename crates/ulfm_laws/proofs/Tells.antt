@@ -1,5 +1,5 @@
 -- What the answered steps of a rank tell of its log, and that it stays true.
-use Rattle.std.proofs.Common.{◌≡◌, ℕ, zero, suc, ◌<◌, Bool, true, false, cond, eqb, List, [], ◌∷◌, ◌++◌, length, refl, ap, sym, ◌∙◌, subst, arith, Option, Some}
+use Rattle.std.proofs.Common.{◌≡◌, ℕ, zero, suc, Bool, true, false, cond, eqb, List, [], ◌∷◌, ◌++◌, refl, ap, sym, ◌∙◌, subst, arith, Option, Some}
 use Rattle.std.specs.Prelude.{⊤, ◌&&◌, slice_get}
 use Rattle.std.proofs.lemmas.Bool.{or_left, eqb-true}
 use Rattle.std.proofs.lemmas.Option.{slice_get_within}
@@ -51,21 +51,21 @@ Tells n log done _ (Posted id) = ⊥
 Tells n log done _ _ = ⊤
 
 -- a request of a beginning of the answered steps is the same of all
-pub asked_front : (done more : List StepReport) (k : ℕ) (id : RequestId) → request_at done k ≡ Some id → request_at (done ++ more) k ≡ Some id
-asked_front [] more k id h = cc
-asked_front (x ∷ done) more zero id h = h
-asked_front (x ∷ done) more (suc k) id h = asked_front done more k id h
+pub asked_front : (done more : List StepReport) (k : ℕ) {id : RequestId} → request_at done k ≡ Some id → request_at (done ++ more) k ≡ Some id
+asked_front [] more k h = cc
+asked_front (x ∷ done) more zero h = h
+asked_front (x ∷ done) more (suc k) {id} h = asked_front done more k h
 
-receipt-logged : (n : ℕ) (log : List Entry) (e : Entry) (source : Option ℕ) (tag : Option Tag) (room : ℕ) (comm : Context) (id : RequestId) → IsReceipt n log source tag room comm id → IsReceipt n (log ++ e ∷ []) source tag room comm id
-receipt-logged n log e source tag room comm id h =
-    let long : history_of (log ++ e ∷ []) ≡ history_of log ++ events_by log (history_of log) e = history-push log e in
-    let made : group_of n (log ++ e ∷ []) comm.number ≡ Some h.group = group_stays n log e comm.number h.group h.made in
+receipt-logged : (n : ℕ) (log : List Entry) (e : Entry) (source : Option ℕ) {tag : Option Tag} {room : ℕ} (comm : Context) {id : RequestId} → IsReceipt n log source tag room comm id → IsReceipt n (log ++ e ∷ []) source tag room comm id
+receipt-logged n log e source comm h =
+    let long = history-push log e in
+    let made = group_stays n log e comm.number h.group h.made in
     let same : members_of n log comm.number ≡ members_of n (log ++ e ∷ []) comm.number = members_found n log comm.number h.group h.made ∙ sym (members_found n (log ++ e ∷ []) comm.number h.group made) in
     record {
       place = h.place;
       pattern = h.pattern;
       posted = subst (λ (g : List Event). PostAt g h.place h.pattern) (sym long) (get_front (history_of log) (events_by log (history_of log) e) h.place (Post h.pattern) h.posted);
-      numbered = ap (λ (g : List Event). count_before g h.place) long ∙ count_front (history_of log) (events_by log (history_of log) e) h.place (let l : h.place < length (history_of log) = slice_get_within (history_of log) h.place (Post h.pattern) h.posted in omega (arith, l)) ∙ h.numbered;
+      numbered = ap (λ (g : List Event). count_before g h.place) long ∙ count_front (history_of log) (events_by log (history_of log) e) h.place (let l = slice_get_within (history_of log) h.place (Post h.pattern) h.posted in omega (arith, l)) ∙ h.numbered;
       context = h.context;
       has_tag = h.has_tag;
       has_room = h.has_room;
@@ -74,25 +74,25 @@ receipt-logged n log e source tag room comm id h =
       asks_for = subst (λ (group : List ℕ). IsSourceOf group source h.pattern.source) same h.asks_for;
     }
 
-verdict-logged : (n : ℕ) (log : List Entry) (e : Entry) (done : List StepReport) (req : ℕ) (answer : TestAnswer) → IsVerdict n log done req answer → IsVerdict n (log ++ e ∷ []) done req answer
-verdict-logged n log e done req answer h =
-    let long : history_of (log ++ e ∷ []) ≡ history_of log ++ events_by log (history_of log) e = history-push log e in
+verdict-logged : (n : ℕ) {log : List Entry} (e : Entry) {done : List StepReport} {req : ℕ} {answer : TestAnswer} → IsVerdict n log done req answer → IsVerdict n (log ++ e ∷ []) done req answer
+verdict-logged n {log} e {answer} h =
+    let long = history-push log e in
     record {
       id = h.id;
       asked = h.asked;
       place = h.place;
       pattern = h.pattern;
       posted = subst (λ (g : List Event). PostAt g h.place h.pattern) (sym long) (get_front (history_of log) (events_by log (history_of log) e) h.place (Post h.pattern) h.posted);
-      numbered = ap (λ (g : List Event). count_before g h.place) long ∙ count_front (history_of log) (events_by log (history_of log) e) h.place (let l : h.place < length (history_of log) = slice_get_within (history_of log) h.place (Post h.pattern) h.posted in omega (arith, l)) ∙ h.numbered;
+      numbered = ap (λ (g : List Event). count_before g h.place) long ∙ count_front (history_of log) (events_by log (history_of log) e) h.place (let l = slice_get_within (history_of log) h.place (Post h.pattern) h.posted in omega (arith, l)) ∙ h.numbered;
       released = any-push (releases h.id.number) log e ∙ or_left (is_released log h.id.number) (releases h.id.number e) h.released;
       release = h.release;
       answers = answer_stays n log e h.place h.pattern answer h.posted h.release h.answers;
     }
 
-verdict-answered : (n : ℕ) (log : List Entry) (done : List StepReport) (x : StepReport) (req : ℕ) (answer : TestAnswer) → IsVerdict n log done req answer → IsVerdict n log (done ++ x ∷ []) req answer
-verdict-answered n log done x req answer h = record {
+verdict-answered : {n : ℕ} {log : List Entry} {done : List StepReport} (x : StepReport) {req : ℕ} {answer : TestAnswer} → IsVerdict n log done req answer → IsVerdict n log (done ++ x ∷ []) req answer
+verdict-answered {done} x {req} h = record {
   id = h.id;
-  asked = asked_front done (x ∷ []) req h.id h.asked;
+  asked = asked_front done (x ∷ []) req h.asked;
   place = h.place;
   pattern = h.pattern;
   posted = h.posted;
@@ -105,16 +105,16 @@ verdict-answered n log done x req answer h = record {
 -- an answered step tells the same of a longer log
 pub tells-logged : (n : ℕ) (log : List Entry) (e : Entry) (done : List StepReport) (asked : Step) (answer : StepAnswer) → Tells n log done asked answer → Tells n (log ++ e ∷ []) done asked answer
 tells-logged n log e done (Send to tag body comm) Sent h = (h.0, members_stay n log e comm.number (λ (group : List ℕ). slice_get group to ≡ Some h.0) (λ q. cc) h.1)
-tells-logged n log e done (Recv source tag room comm) (Posted id) h = receipt-logged n log e source tag room comm id h
-tells-logged n log e done (Wait req) (Done status body) h = verdict-logged n log e done req (TestDone status body) h
-tells-logged n log e done (Wait req) (Over reason) h = verdict-logged n log e done req (TestOver reason) h
+tells-logged n log e done (Recv source tag room comm) (Posted id) h = receipt-logged n log e source comm h
+tells-logged n log e done (Wait req) (Done status body) h = verdict-logged n e h
+tells-logged n log e done (Wait req) (Over reason) h = verdict-logged n e h
 tells-logged n log e done _ _ h = h
 
 -- and beside one more answer
 pub tells-answered : (n : ℕ) (log : List Entry) (done : List StepReport) (x : StepReport) (asked : Step) (answer : StepAnswer) → Tells n log done asked answer → Tells n log (done ++ x ∷ []) asked answer
 tells-answered n log done x (Recv source tag room comm) (Posted id) h = h
-tells-answered n log done x (Wait req) (Done status body) h = verdict-answered n log done x req (TestDone status body) h
-tells-answered n log done x (Wait req) (Over reason) h = verdict-answered n log done x req (TestOver reason) h
+tells-answered n log done x (Wait req) (Done status body) h = verdict-answered x h
+tells-answered n log done x (Wait req) (Over reason) h = verdict-answered x h
 tells-answered n log done x _ _ h = h
 
 -- what an answered step sent stays the same

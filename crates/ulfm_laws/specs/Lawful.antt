@@ -12,8 +12,8 @@ use Rattle.ulfm_laws.specs.Reports.{IsEach}
 use Rattle.ulfm_laws.specs.Rest.{IsAtRest, KnowsStopped, AgreesOnRevoked}
 use Rattle.ulfm_laws.specs.Shrinks.{AdoptOwn, AdoptOne, AreTrue, EnterOnce, HasOneGroup, ProposesEach}
 
--- Where nothing waits for any running rank: each of them knows each stopped one, all agree on revocations, each member of a
--- communicator that all running ones shrink has a proposal, and what running ranks sent to one another has come.
+-- Where nothing waits for any running rank: each of them knows each stopped one, and all agree on revocations. Where all running
+-- members of a communicator entered its shrink, each of them has a proposal. What running ranks sent to one another has come.
 pub record KnowAtRest (reports : List Report) : Type 0 where
   pub known : KnowsStopped reports
   pub agreed : AgreesOnRevoked reports

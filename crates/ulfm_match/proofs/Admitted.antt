@@ -48,8 +48,8 @@ take_first {X} P d (x ∷ xs) =
           record {
             front = x ∷ t.2.front;
             back = t.2.back;
-            old_is = ap (λ (ys : List X). x ∷ ys) t.2.old_is;
-            new_is = ap (λ (ys : List X). x ∷ ys) t.2.new_is;
+            old_is = ap (λ ys. x ∷ ys) t.2.old_is;
+            new_is = ap (λ ys. x ∷ ys) t.2.new_is;
             passes = t.2.passes;
             first = λ y c q. elim (Contains-cons_cases x t.2.front y c) [ inl e ↦ n (subst P (sym e) q) | inr f ↦ t.2.first y f q ];
           },

@@ -3,15 +3,14 @@ use Rattle.std.proofs.Common.{◌≡◌, ℕ, ◌+◌, ◌<◌, inl, inr, List, 
 use Rattle.ulfm_base.specs.declared.pattern.Pattern.{Pattern}
 use Rattle.ulfm_base.specs.declared.envelope.Letter.{Letter}
 use Rattle.ulfm_base.specs.Pattern.{Admits}
-use Rattle.ulfm_match.specs.History.{Event, Come, count_before}
+use Rattle.ulfm_match.specs.History.{Event, Post, Come, count_before}
 use Rattle.ulfm_match.specs.Pairing.{Pairing, IsWaiting, IsKept, LawfulPairing}
 use Rattle.ulfm_match.specs.State.{Matching, Lists, IsUncleared, Tracks}
 use Rattle.ulfm_match.proofs.Decide.{lt_or_ge}
-use Rattle.ulfm_match.proofs.Histories.{get_new, count_old, count_below}
+use Rattle.ulfm_match.proofs.Histories.{below_last, get_new, count_old, count_below}
 use Rattle.ulfm_match.proofs.Lists.{lists_same, lists_push}
 use Rattle.ulfm_match.proofs.Extend.{letter_within, none_missed_below, extend}
-use Rattle.ulfm_match.proofs.Steps.{stands_nowhere, tracks, waiting_to, waiting_back, kept_to, kept_back, waiting_number, kept_number}
-use Rattle.ulfm_match.proofs.ArriveStep.{longer, not_here, here}
+use Rattle.ulfm_match.proofs.Steps.{come_more, come_here, stands_nowhere, cleared_same, tracks, waiting_to, waiting_back, kept_to, kept_back, waiting_number, kept_number}
 
 module _ (h : List Event) (r : Pairing) (s : Matching) (l : Letter) (t : Tracks h r s) (open' : IsUncleared h l.envelope.context.number) where
   -- no waiting receive fits: the letter is kept
@@ -20,26 +19,27 @@ module _ (h : List Event) (r : Pairing) (s : Matching) (l : Letter) (t : Tracks 
     arrive_lawful =
         extend h r t.lawful (Come l) r 0 0 (λ i b q. q) (λ i b q. inl q)
         (λ i b q m w k adm.
-        let li : i < length h = not_here h r s l t open' i q w.live.posted w.live.before in
+        let li : i < length h = below_last h (Come l) i (Post q) w.live.posted (λ e. cc) in
         let lb : b < length h + 1 = k.live.before in
         elim (lt_or_ge b (length h)) [
           | inl low ↦ none_missed_below h r t.lawful (Come l) r (λ i b q. q) i b q m li low w k adm
           | inr top ↦
-              let e : l ≡ m = here h r s l t open' m b (omega arith) k.live.came in
+              let e : l ≡ m = come_here h l m b (omega arith) k.live.came in
               none (count_before h i, q)
               (t.remains.waiting.complete i q (waiting_back h (Come l) r r t.lawful (λ i b q. q) i q li w))
               (subst (λ (w : Letter). Admits q w.envelope) (sym e) adm)
         ])
 
-    pub arrive_keeps : (s' : Matching) → s'.count ≡ s.count + 1 → s'.waiting ≡ s.waiting → s'.kept ≡ s.kept ++ (s.count, l) ∷ [] → Tracks (h ++ Come l ∷ []) r s'
-    arrive_keeps s' ec ew ek =
-        tracks h (Come l) r s' (longer h r s l t open') arrive_lawful
+    pub arrive_keeps : (s' : Matching) → s'.count ≡ s.count + 1 → s'.waiting ≡ s.waiting → s'.kept ≡ s.kept ++ (s.count, l) ∷ [] → s'.cleared ≡ s.cleared → Tracks (h ++ Come l ∷ []) r s'
+    arrive_keeps s' ec ew ek em =
+        tracks h (Come l) r s' (come_more h l t.well_formed open') arrive_lawful
+        (cleared_same h (Come l) s s' t.remains.cleared em (λ c e. cc))
         (ec ∙ ap (λ n. n + 1) t.remains.count)
         (subst (λ (xs : List (ℕ × Pattern)). Lists (h ++ Come l ∷ []) (λ i q. IsWaiting (h ++ Come l ∷ []) r i q (length h + 1)) xs) (sym ew)
         (lists_same h (h ++ Come l ∷ []) (λ i q. IsWaiting h r i q (length h)) (λ i q. IsWaiting (h ++ Come l ∷ []) r i q (length h + 1)) s.waiting t.remains.waiting
         (waiting_number h (Come l) r)
         (λ i q w. waiting_to h (Come l) r r t.lawful (λ i b q. q) i q (λ e. cc) (λ e. cc) (λ b q. q) w)
-        (λ i q w. waiting_back h (Come l) r r t.lawful (λ i b q. q) i q (not_here h r s l t open' i q w.live.posted w.live.before) w)))
+        (λ i q w. waiting_back h (Come l) r r t.lawful (λ i b q. q) i q (below_last h (Come l) i (Post q) w.live.posted (λ e. cc)) w)))
         (subst (λ (xs : List (ℕ × Letter)). Lists (h ++ Come l ∷ []) (λ b m. IsKept (h ++ Come l ∷ []) r b m (length h + 1)) xs) (sym ek)
         (lists_push h (h ++ Come l ∷ []) (λ b m. IsKept h r b m (length h)) (λ b m. IsKept (h ++ Come l ∷ []) r b m (length h + 1)) s.kept t.remains.kept
         (kept_number h (Come l) r)
@@ -55,5 +55,5 @@ module _ (h : List Event) (r : Pairing) (s : Matching) (l : Letter) (t : Tracks 
         let lb : b < length h + 1 = k.live.before in
         elim (lt_or_ge b (length h)) [
           | inl low ↦ inl (kept_back h (Come l) r r t.lawful (λ i b q. q) b m low k)
-          | inr top ↦ let e : b ≡ length h = omega arith in inr (e, here h r s l t open' m b e k.live.came)
+          | inr top ↦ let e : b ≡ length h = omega arith in inr (e, come_here h l m b e k.live.came)
         ])))

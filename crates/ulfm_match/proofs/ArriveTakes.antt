@@ -9,12 +9,11 @@ use Rattle.ulfm_match.specs.Pairing.{Pairing, Pairs, IsWaiting, IsKept, LawfulPa
 use Rattle.ulfm_match.specs.State.{Matching, Lists, IsUncleared, Tracks}
 use Rattle.ulfm_match.specs.Calls.{ArrivalGoesTo}
 use Rattle.ulfm_match.proofs.Decide.{lt_or_ge, compared}
-use Rattle.ulfm_match.proofs.Histories.{get_new, get_below, stands_old, receive_more, stands_wider, count_below, same_number}
+use Rattle.ulfm_match.proofs.Histories.{below_last, get_new, get_below, stands_old, receive_more, stands_wider, count_below, same_number}
 use Rattle.ulfm_match.proofs.Least.{TakesLeast}
 use Rattle.ulfm_match.proofs.Lists.{lists_sub, lists_same}
 use Rattle.ulfm_match.proofs.Extend.{IsNew, letter_within, none_missed_below, extend}
-use Rattle.ulfm_match.proofs.Steps.{pair_cases, pair_old, stands_nowhere, tracks, waiting_to, waiting_back, kept_to, kept_back, waiting_number, kept_number, kept_or_paired, waits_or_paired}
-use Rattle.ulfm_match.proofs.ArriveStep.{longer, not_here, here}
+use Rattle.ulfm_match.proofs.Steps.{come_more, come_here, pair_cases, pair_old, stands_nowhere, cleared_same, tracks, waiting_to, waiting_back, kept_to, kept_back, waiting_number, kept_number, kept_or_paired, waits_or_paired}
 
 module _ (h : List Event) (r : Pairing) (s : Matching) (l : Letter) (t : Tracks h r s) (open' : IsUncleared h l.envelope.context.number) where
   -- the first waiting receive that admits the letter is answered
@@ -58,7 +57,7 @@ module _ (h : List Event) (r : Pairing) (s : Matching) (l : Letter) (t : Tracks 
                 | inr ka ↦ absurd (t.lawful.none_missed (length h) i a p m (omega arith) w ka adm')
               ];
           earlier_receives = λ j q m came below posted lives adm.
-              let same : l ≡ m = here h r s l t open' m (length h) refl came in
+              let same : l ≡ m = come_here h l m (length h) refl came in
               let adm' : Admits q l.envelope = subst (λ (v : Letter). Admits q v.envelope) (sym same) adm in
               let lj : j < length h = omega arith in
               let posted' : PostAt h j q = get_below h (Come l) j (Post q) lj posted in
@@ -81,7 +80,7 @@ module _ (h : List Event) (r : Pairing) (s : Matching) (l : Letter) (t : Tracks 
           | inr e ↦ inr (e.0, e.1, subst (λ (w : ℕ × ℕ). IsNew h (Come l) r w.0 w.1) (let same : ◌≡◌ {A = ℕ × ℕ} (i0, length h) (i, b) = (let a = e.0 in let c = e.1 in cc) in same) arrive_new)
         ])
         (λ i b q m w k adm.
-        let li : i < length h = not_here h r s l t open' i q w.live.posted w.live.before in
+        let li : i < length h = below_last h (Come l) i (Post q) w.live.posted (λ e. cc) in
         let lb : b < length h + 1 = k.live.before in
         elim (lt_or_ge b (length h)) [
           | inl low ↦ none_missed_below h r t.lawful (Come l) r' (pair_old r i0 (length h)) i b q m li low w k adm
@@ -90,8 +89,8 @@ module _ (h : List Event) (r : Pairing) (s : Matching) (l : Letter) (t : Tracks 
               k.unpaired i0 (let l0 : i0 < length h = found.2.live.before in omega arith) (subst (λ (m : ℕ). Pairs r' i0 m) e (Contains-push r (i0, length h)))
         ])
 
-    pub arrive_takes : (s' : Matching) → s'.count ≡ s.count + 1 → s'.waiting ≡ waiting' → s'.kept ≡ s.kept → ArrivalGoesTo h r l z.0 s'
-    arrive_takes s' ec ew ek =
+    pub arrive_takes : (s' : Matching) → s'.count ≡ s.count + 1 → s'.waiting ≡ waiting' → s'.kept ≡ s.kept → s'.cleared ≡ s.cleared → ArrivalGoesTo h r l z.0 s'
+    arrive_takes s' ec ew ek em =
         let i0 = found.0 in
         let r' : Pairing = r ++ (i0, length h) ∷ [] in
         let keep : (i b : ℕ) → Pairs r i b → Pairs r' i b = pair_old r i0 (length h) in
@@ -100,7 +99,8 @@ module _ (h : List Event) (r : Pairing) (s : Matching) (l : Letter) (t : Tracks 
           pattern = z.1;
           posted = found.2.live.posted;
           numbered = found.1;
-          tracks = tracks h (Come l) r' s' (longer h r s l t open') arrive_pairs
+          tracks = tracks h (Come l) r' s' (come_more h l t.well_formed open') arrive_pairs
+              (cleared_same h (Come l) s s' t.remains.cleared em (λ c e. cc))
               (ec ∙ ap (λ n. n + 1) t.remains.count)
               (subst (λ (xs : List (ℕ × Pattern)). Lists (h ++ Come l ∷ []) (λ i q. IsWaiting (h ++ Come l ∷ []) r' i q (length h + 1)) xs) (sym ew)
               (lists_sub h (h ++ Come l ∷ []) (λ i q. IsWaiting h r i q (length h)) (λ i q. IsWaiting (h ++ Come l ∷ []) r' i q (length h + 1)) s.waiting t.remains.waiting
@@ -112,7 +112,7 @@ module _ (h : List Event) (r : Pairing) (s : Matching) (l : Letter) (t : Tracks 
                 | inr e ↦ absurd (n (ap (count_before h) e.0 ∙ found.1))
               ]) w)
               (λ i q w.
-              let li : i < length h = not_here h r s l t open' i q w.live.posted w.live.before in
+              let li : i < length h = below_last h (Come l) i (Post q) w.live.posted (λ e. cc) in
               let w' = waiting_back h (Come l) r r' t.lawful keep i q li w in (
                 w',
                 λ e.

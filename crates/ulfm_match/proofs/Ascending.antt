@@ -1,6 +1,5 @@
 -- Lists by rising numbers, as they grow, are filtered, or lose an entry.
 use Rattle.std.proofs.Common.{◌≡◌, ◌≢◌, ℕ, ◌<◌, inl, inr, List, [], ◌∷◌, ◌++◌, ap, sym, subst, arith, Bool, true, false, cond, Contains, filter}
-use Rattle.std.specs.List.{AllByRecursion}
 use Rattle.std.proofs.lemmas.List.Elements.{Contains-append_left, Contains-append_right, Contains-append_cases, Contains-push_cases}
 use Rattle.ulfm_match.specs.State.{IsAscending}
 use Rattle.ulfm_match.proofs.Decide.{Contains-none, Contains-cons_cases, Contains-head, Contains-tail}
@@ -22,7 +21,7 @@ module _ {X : Type 0} where
   ascending_filter test [] a = tt
   ascending_filter test (x ∷ xs) a =
       let more = ascending_filter test xs a.1 in
-      let above : AllByRecursion (λ (y : ℕ × X). x.0 < y.0) (filter test xs) = all_from (λ (y : ℕ × X). x.0 < y.0) (filter test xs) (λ y h. all_of (λ (w : ℕ × X). x.0 < w.0) xs y a.0 (Contains-filter test xs y h).0) in
+      let above = all_from (λ (y : ℕ × X). x.0 < y.0) (filter test xs) (λ y h. all_of (λ (w : ℕ × X). x.0 < w.0) xs y a.0 (Contains-filter test xs y h).0) in
       elim (test x) as (λ b. IsAscending (cond b (x ∷ filter test xs) (filter test xs))) [ true ↦ (above, more) | false ↦ more ]
 
   pub ascending_tail : (front back : List (ℕ × X)) → IsAscending (front ++ back) → IsAscending back

@@ -39,51 +39,51 @@ module _ (h xs : List Event) where
 
   stands_off : {e : Event} {i n : ℕ} → n ≤ length h → StandsBetween (h ++ xs) e i n → StandsBetween h e i n
   stands_off {e} {i} {n} l s =
-      let b : s.place < n = s.before in
+      let b = s.before in
       record { place = s.place; after = s.after; before = s.before; is = get_in_front h xs s.place e (omega arith) s.is }
 
   receive_on : {i n : ℕ} {p : Pattern} → n ≤ length h → IsLiveReceive h i p n → IsLiveReceive (h ++ xs) i p n
   receive_on {i} {n} {p} l v = record { posted = get_front h xs i (Post p) v.posted; before = v.before; not_ended = λ s. v.not_ended (stands_off l s); not_cleared = λ s. v.not_cleared (stands_off l s) }
 
   receive_off : {i n : ℕ} {p : Pattern} → n ≤ length h → IsLiveReceive (h ++ xs) i p n → IsLiveReceive h i p n
-  receive_off {i} {n} {p} l v = record { posted = get_in_front h xs i (Post p) (let b : i < n = v.before in omega arith) v.posted; before = v.before; not_ended = λ s. v.not_ended (stands_on s); not_cleared = λ s. v.not_cleared (stands_on s) }
+  receive_off {i} {n} {p} l v = record { posted = get_in_front h xs i (Post p) (let b = v.before in omega arith) v.posted; before = v.before; not_ended = λ s. v.not_ended (stands_on s); not_cleared = λ s. v.not_cleared (stands_on s) }
 
   letter_on : {b n : ℕ} {l : Letter} → n ≤ length h → IsLiveLetter h b l n → IsLiveLetter (h ++ xs) b l n
   letter_on {b} {n} {l} le v = record { came = get_front h xs b (Come l) v.came; before = v.before; not_cleared = λ s. v.not_cleared (stands_off le s) }
 
   letter_off : {b n : ℕ} {l : Letter} → n ≤ length h → IsLiveLetter (h ++ xs) b l n → IsLiveLetter h b l n
-  letter_off {b} {n} {l} le v = record { came = get_in_front h xs b (Come l) (let c : b < n = v.before in omega arith) v.came; before = v.before; not_cleared = λ s. v.not_cleared (stands_on s) }
+  letter_off {b} {n} {l} le v = record { came = get_in_front h xs b (Come l) (let c = v.before in omega arith) v.came; before = v.before; not_cleared = λ s. v.not_cleared (stands_on s) }
 
   -- cut to a beginning, a lawful pairing is lawful there
   pub cut : (r : Pairing) → LawfulPairing (h ++ xs) r → LawfulPairing h (pairs_below (length h) r)
   cut r law =
-      let to : (i b : ℕ) → Pairs (pairs_below (length h) r) i b → Pairs r i b × (i < length h) × (b < length h) = inside_to (length h) r in
+      let to = inside_to (length h) r in
       record {
         one_letter = λ i b d p q. law.one_letter i b d (to i b p).0 (to i d q).0;
         one_receive = λ i j b p q. law.one_receive i j b (to i b p).0 (to j b q).0;
         matched = λ i b p.
             let f = to i b p in
-            let li : i < length h = f.1 in
-            let lb : b < length h = f.2 in
+            let li = f.1 in
+            let lb = f.2 in
             let top : max i b + 1 ≤ length h = omega arith in
             let k = law.matched i b f.0 in
             record { pattern = k.pattern; letter = k.letter; receive_live = receive_off top k.receive_live; letter_live = letter_off top k.letter_live; admits = k.admits };
         earlier_letters = λ i b a p l q posted below came adm.
             let f = to i b q in
-            let li : i < length h = f.1 in
-            let lb : b < length h = f.2 in
+            let li = f.1 in
+            let lb = f.2 in
             let j = law.earlier_letters i b a p l f.0 (get_front h xs i (Post p) posted) below (get_front h xs a (Come l) came) adm in
-            (j.0, j.1, inside_back (length h) r j.0 a (let lj : j.0 < i = j.1 in omega arith) (omega arith) j.2);
+            (j.0, j.1, inside_back (length h) r j.0 a (let lj = j.1 in omega arith) (omega arith) j.2);
         earlier_receives = λ i b j p l q came below posted lives adm.
             let f = to i b q in
-            let li : i < length h = f.1 in
-            let lb : b < length h = f.2 in
+            let li = f.1 in
+            let lb = f.2 in
             let top : max i b ≤ length h = omega arith in
             let a = law.earlier_receives i b j p l f.0 (get_front h xs b (Come l) came) below (get_front h xs j (Post p) posted) (λ s. lives (stands_off top s)) adm in
-            (a.0, a.1, inside_back (length h) r j a.0 (omega arith) (let la : a.0 < b = a.1 in omega arith) a.2);
+            (a.0, a.1, inside_back (length h) r j a.0 (omega arith) (let la = a.1 in omega arith) a.2);
         none_missed = λ n i b p l le w k adm.
-            let li : i < n = w.live.before in
-            let lb : b < n = k.live.before in
+            let li = w.live.before in
+            let lb = k.live.before in
             law.none_missed n i b p l (let m = length-append h xs in omega arith)
             (record { live = receive_on le w.live; unpaired = λ d ld q. w.unpaired d ld (inside_back (length h) r i d (omega arith) (omega arith) q) })
             (record { live = letter_on le k.live; unpaired = λ j lj q. k.unpaired j lj (inside_back (length h) r j b (omega arith) (omega arith) q) })

@@ -1,5 +1,5 @@
 -- A post and an arrival have one answer.
-use Rattle.std.proofs.Common.{◌≡◌, ℕ, ◌<◌, inl, inr, List, [], ◌∷◌, ◌++◌, length, refl, ap, sym, ◌∙◌, subst, arith, Option, Some, None, MatchOption}
+use Rattle.std.proofs.Common.{◌≡◌, ℕ, inl, inr, List, [], ◌∷◌, ◌++◌, length, refl, ap, sym, ◌∙◌, subst, arith, Option, Some, None, MatchOption}
 use Rattle.std.proofs.lemmas.List.Elements.{Contains-push}
 use Rattle.ulfm_base.specs.declared.pattern.Pattern.{Pattern}
 use Rattle.ulfm_base.specs.declared.envelope.Letter.{Letter}
@@ -20,7 +20,7 @@ module _ (h : List Event) (r : Pairing) (law : LawfulPairing h r) (p : Pattern) 
   never : (s s' : Matching) (l : Letter) → Posts h r p s None → Posts h r p s' (Some l) → ⊥
   never s s' l t t' =
       let q = one_pairing (h ++ Post p ∷ []) (r ++ (length h, t'.place) ∷ []) r t'.tracks.lawful t.lawful (length h) t'.place (Contains-push r (length h, t'.place)) in
-      let w : length h < length h = receive_within h r law (length h) t'.place q in
+      let w = receive_within h r law (length h) t'.place q in
       absurd (omega arith)
 
   pub one_answer : (s s' : Matching) (o o' : Option Letter) → Posts h r p s o → Posts h r p s' o' → o ≡ o'
@@ -30,8 +30,8 @@ module _ (h : List Event) (r : Pairing) (law : LawfulPairing h r) (p : Pattern) 
   one_answer s s' (Some l) (Some k) t t' =
       let q = one_pairing (h ++ Post p ∷ []) (r ++ (length h, t.place) ∷ []) (r ++ (length h, t'.place) ∷ []) t.tracks.lawful t'.tracks.lawful (length h) t.place (Contains-push r (length h, t.place)) in
       elim (pair_cases r (length h) t'.place (length h) t.place q) [
-        | inl old ↦ absurd (let w : length h < length h = receive_within h r law (length h) t.place old in omega arith)
-        | inr e ↦ ap (λ (x : Letter). Some x) (same_letter h t.place l k t.came (subst (λ (b : ℕ). ComeAt h b k) (sym e.1) t'.came))
+        | inl old ↦ absurd (let w = receive_within h r law (length h) t.place old in omega arith)
+        | inr e ↦ ap Some (same_letter h t.place l k t.came (subst (λ b. ComeAt h b k) (sym e.1) t'.came))
       ]
 
 abbrev Arrives : List Event → Pairing → Letter → Matching → Option ℕ → Type 0
@@ -41,7 +41,7 @@ module _ (h : List Event) (r : Pairing) (law : LawfulPairing h r) (l : Letter) w
   never_kept : (s s' : Matching) (id : ℕ) → Arrives h r l s None → Arrives h r l s' (Some id) → ⊥
   never_kept s s' id t t' =
       let q = one_pairing (h ++ Come l ∷ []) (r ++ (t'.place, length h) ∷ []) r t'.tracks.lawful t.lawful t'.place (length h) (Contains-push r (t'.place, length h)) in
-      let w : length h < length h = letter_within h r law t'.place (length h) q in
+      let w = letter_within h r law t'.place (length h) q in
       absurd (omega arith)
 
   pub one_receiver : (s s' : Matching) (o o' : Option ℕ) → Arrives h r l s o → Arrives h r l s' o' → o ≡ o'
@@ -51,6 +51,6 @@ module _ (h : List Event) (r : Pairing) (law : LawfulPairing h r) (l : Letter) w
   one_receiver s s' (Some id) (Some jd) t t' =
       let q = one_pairing (h ++ Come l ∷ []) (r ++ (t.place, length h) ∷ []) (r ++ (t'.place, length h) ∷ []) t.tracks.lawful t'.tracks.lawful t.place (length h) (Contains-push r (t.place, length h)) in
       elim (pair_cases r t'.place (length h) t.place (length h) q) [
-        | inl old ↦ absurd (let w : length h < length h = letter_within h r law t.place (length h) old in omega arith)
-        | inr e ↦ ap (λ (x : ℕ). Some x) (sym t.numbered ∙ (ap (count_before h) e.0 ∙ t'.numbered))
+        | inl old ↦ absurd (let w = letter_within h r law t.place (length h) old in omega arith)
+        | inr e ↦ ap Some (sym t.numbered ∙ (ap (count_before h) e.0 ∙ t'.numbered))
       ]

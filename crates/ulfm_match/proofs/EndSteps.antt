@@ -1,56 +1,35 @@
 -- A receive ends, or a context is cleared: an event that makes no pair.
-use Rattle.std.proofs.Common.{◌≡◌, ◌≢◌, ℕ, ◌+◌, ◌<◌, inl, inr, List, [], ◌∷◌, ◌++◌, length, refl, ap, sym, ◌∙◌, subst, Some, arith, Contains, filter, not, ◌==◌, Bool, true}
+use Rattle.std.proofs.Common.{◌≡◌, ◌≢◌, ℕ, ◌+◌, ◌<◌, inl, List, [], ◌∷◌, ◌++◌, length, refl, ap, sym, ◌∙◌, subst, Some, arith, Contains, filter, not, ◌==◌, Bool, true, false, ◌↔◌}
 use Rattle.std.proofs.lemmas.Bool.Decides.{nat_tests}
 use Rattle.std.proofs.lemmas.Option.{slice_get_within}
 use Rattle.ulfm_base.specs.declared.pattern.Pattern.{Pattern}
 use Rattle.ulfm_base.specs.declared.envelope.Letter.{Letter}
 use Rattle.ulfm_match.specs.History.{Event, Post, Come, End, Clear, PostAt, ComeAt, IsWellFormed, counts_as, count_before}
 use Rattle.ulfm_match.specs.Pairing.{Pairing, IsWaiting, IsKept, LawfulPairing}
-use Rattle.ulfm_match.specs.State.{Matching, IsAscending, Tracks}
-use Rattle.ulfm_match.proofs.Decide.{compared}
-use Rattle.ulfm_match.proofs.Histories.{get_new, get_last, same_number}
+use Rattle.ulfm_match.specs.State.{Matching, is_cleared, IsAscending, IsUncleared, Tracks}
+use Rattle.ulfm_match.proofs.Histories.{below_last, get_new, same_number}
 use Rattle.ulfm_match.proofs.Taking.{TakesFirst}
 use Rattle.ulfm_match.proofs.Members.{Contains-filter, filter-Contains}
 use Rattle.ulfm_match.proofs.Ascending.{ascending_filter, ascending_without, left_to, left_back}
 use Rattle.ulfm_match.proofs.Lists.{lists_sub}
 use Rattle.ulfm_match.proofs.Extend.{none_missed_below, extend}
-use Rattle.ulfm_match.proofs.Steps.{history_more, tracks, waiting_to, waiting_back, kept_to, kept_back, waiting_number, kept_number}
+use Rattle.ulfm_match.proofs.Steps.{history_more, cleared_same, cleared_also, tracks, waiting_to, waiting_back, kept_to, kept_back, waiting_number, kept_number}
 
 -- an event that is no post and no arrival makes no pair
 module _ (h : List Event) (r : Pairing) (s : Matching) (x : Event) (t : Tracks h r s) (light : counts_as x ≡ 0) where
-  pub no_post : (i : ℕ) (p : Pattern) → PostAt (h ++ x ∷ []) i p → i < length h + 1 → i < length h
-  no_post i p posted l =
-      elim (compared i (length h)) [
-        | inl y ↦ y
-        | inr o ↦ elim o [
-          | inl e ↦
-              let g = get_last h x (Post p) (subst (λ (k : ℕ). PostAt (h ++ x ∷ []) k p) e posted) in
-              let one : counts_as x ≡ 1 = ap counts_as g in
-              absurd (omega arith)
-          | inr y ↦ absurd (omega arith)
-        ]
-      ]
+  no_post : (i : ℕ) (p : Pattern) → PostAt (h ++ x ∷ []) i p → i < length h
+  no_post i p posted = below_last h x i (Post p) posted (λ e. let one : counts_as x ≡ 1 = ap counts_as e in absurd (omega arith))
 
-  pub no_letter : (b : ℕ) (l : Letter) → ComeAt (h ++ x ∷ []) b l → b < length h + 1 → b < length h
-  no_letter b m came l =
-      elim (compared b (length h)) [
-        | inl y ↦ y
-        | inr o ↦ elim o [
-          | inl e ↦
-              let g = get_last h x (Come m) (subst (λ (k : ℕ). ComeAt (h ++ x ∷ []) k m) e came) in
-              let one : counts_as x ≡ 1 = ap counts_as g in
-              absurd (omega arith)
-          | inr y ↦ absurd (omega arith)
-        ]
-      ]
+  no_letter : (b : ℕ) (l : Letter) → ComeAt (h ++ x ∷ []) b l → b < length h
+  no_letter b l came = below_last h x b (Come l) came (λ e. let one : counts_as x ≡ 1 = ap counts_as e in absurd (omega arith))
 
   light_lawful : LawfulPairing (h ++ x ∷ []) r
   light_lawful =
       extend h r t.lawful x r 0 0 (λ i b q. q) (λ i b q. inl q)
-      (λ i b p l w k adm. none_missed_below h r t.lawful x r (λ i b q. q) i b p l (no_post i p w.live.posted w.live.before) (no_letter b l k.live.came k.live.before) w k adm)
+      (λ i b p l w k adm. none_missed_below h r t.lawful x r (λ i b q. q) i b p l (no_post i p w.live.posted) (no_letter b l k.live.came) w k adm)
 
   -- the receives with W and the letters with K stay, and no others
-  pub light_step : (W : ℕ × Pattern → Type 0) (K : ℕ × Letter → Type 0) (s' : Matching) → IsWellFormed (h ++ x ∷ []) → s'.count ≡ s.count
+  pub light_step : (W : ℕ × Pattern → Type 0) (K : ℕ × Letter → Type 0) (s' : Matching) → IsWellFormed (h ++ x ∷ []) → ((c : ℕ) → (is_cleared s' c ≡ false) ↔ IsUncleared (h ++ x ∷ []) c) → s'.count ≡ s.count
       → IsAscending s'.waiting → ((y : ℕ × Pattern) → Contains s'.waiting y → Contains s.waiting y × W y) → ((y : ℕ × Pattern) → Contains s.waiting y → W y → Contains s'.waiting y)
       → IsAscending s'.kept → ((y : ℕ × Letter) → Contains s'.kept y → Contains s.kept y × K y) → ((y : ℕ × Letter) → Contains s.kept y → K y → Contains s'.kept y)
       → ((i : ℕ) (p : Pattern) → IsWaiting h r i p (length h) → W (count_before h i, p) → (x ≢ End i) × (x ≢ Clear p.context.number))
@@ -58,26 +37,27 @@ module _ (h : List Event) (r : Pairing) (s : Matching) (x : Event) (t : Tracks h
       → ((b : ℕ) (l : Letter) → IsKept h r b l (length h) → K (count_before h b, l) → x ≢ Clear l.envelope.context.number)
       → ((b : ℕ) (l : Letter) → IsKept h r b l (length h) → IsKept (h ++ x ∷ []) r b l (length h + 1) → K (count_before h b, l))
       → Tracks (h ++ x ∷ []) r s'
-  light_step W K s' wf ec aw w_to w_back ak k_to k_back stays stays_back keeps keeps_back =
-      tracks h x r s' wf light_lawful
+  light_step W K s' wf em ec aw w_to w_back ak k_to k_back stays stays_back keeps keeps_back =
+      tracks h x r s' wf light_lawful em
       (let c = t.remains.count in omega arith)
       (lists_sub h (h ++ x ∷ []) (λ i q. IsWaiting h r i q (length h)) (λ i q. IsWaiting (h ++ x ∷ []) r i q (length h + 1)) s.waiting t.remains.waiting
       (waiting_number h x r) s'.waiting W aw w_to w_back
       (λ i q w y. let n = stays i q w y in waiting_to h x r r t.lawful (λ i b q. q) i q n.0 n.1 (λ b q. q) w)
-      (λ i q w. let w' = waiting_back h x r r t.lawful (λ i b q. q) i q (no_post i q w.live.posted w.live.before) w in (w', stays_back i q w' w)))
+      (λ i q w. let w' = waiting_back h x r r t.lawful (λ i b q. q) i q (no_post i q w.live.posted) w in (w', stays_back i q w' w)))
       (lists_sub h (h ++ x ∷ []) (λ b l. IsKept h r b l (length h)) (λ b l. IsKept (h ++ x ∷ []) r b l (length h + 1)) s.kept t.remains.kept
       (kept_number h x r) s'.kept K ak k_to k_back
       (λ b l k y. kept_to h x r r t.lawful (λ i b q. q) b l (keeps b l k y) (λ i q. q) k)
-      (λ b l k. let k' = kept_back h x r r t.lawful (λ i b q. q) b l (no_letter b l k.live.came k.live.before) k in (k', keeps_back b l k' k)))
+      (λ b l k. let k' = kept_back h x r r t.lawful (λ i b q. q) b l (no_letter b l k.live.came) k in (k', keeps_back b l k' k)))
 
 module _ (h : List Event) (r : Pairing) (s : Matching) (t : Tracks h r s) where
   -- the receive posted at i0 ends; it may have been paired or ended before
   module _ (i0 : ℕ) (p0 : Pattern) (posted : PostAt h i0 p0) where
-    pub end_step : (s' : Matching) → s'.count ≡ s.count → IsAscending s'.waiting → ((y : ℕ × Pattern) → Contains s'.waiting y → Contains s.waiting y × (y.0 ≢ count_before h i0)) → ((y : ℕ × Pattern) → Contains s.waiting y → y.0 ≢ count_before h i0 → Contains s'.waiting y) → s'.kept ≡ s.kept → Tracks (h ++ End i0 ∷ []) r s'
-    end_step s' ec aw to back ek =
+    pub end_step : (s' : Matching) → s'.cleared ≡ s.cleared → s'.count ≡ s.count → IsAscending s'.waiting → ((y : ℕ × Pattern) → Contains s'.waiting y → Contains s.waiting y × (y.0 ≢ count_before h i0)) → ((y : ℕ × Pattern) → Contains s.waiting y → y.0 ≢ count_before h i0 → Contains s'.waiting y) → s'.kept ≡ s.kept → Tracks (h ++ End i0 ∷ []) r s'
+    end_step s' em ec aw to back ek =
         let l0 : i0 < length h = slice_get_within h i0 (Post p0) posted in
         light_step h r s (End i0) t refl (λ y. y.0 ≢ count_before h i0) (λ y. Unit {0}) s'
         (history_more h (End i0) t.well_formed (λ i e. let q : i0 ≡ i = cc in (p0, omega arith, subst (λ (k : ℕ). PostAt h k p0) q posted)) (λ q e. cc) (λ q e. cc))
+        (cleared_same h (End i0) s s' t.remains.cleared em (λ c e. cc))
         ec aw to back
         (subst (λ (xs : List (ℕ × Letter)). IsAscending xs) (sym ek) t.remains.kept.ascending)
         (λ y c. (subst (λ (xs : List (ℕ × Letter)). Contains xs y) ek c, tt))
@@ -90,13 +70,14 @@ module _ (h : List Event) (r : Pairing) (s : Matching) (t : Tracks h r s) where
         (λ b l k k'. tt)
 
   -- everything of a context ends
-  pub clear_step : (c : ℕ) (s' : Matching) → s'.count ≡ s.count
+  pub clear_step : (c : ℕ) (s' : Matching) → is_cleared s' c ≡ true → ((d : ℕ) → d ≢ c → is_cleared s' d ≡ is_cleared s d) → s'.count ≡ s.count
       → IsAscending s'.waiting → ((y : ℕ × Pattern) → Contains s'.waiting y → Contains s.waiting y × (y.1.context.number ≢ c)) → ((y : ℕ × Pattern) → Contains s.waiting y → y.1.context.number ≢ c → Contains s'.waiting y)
       → IsAscending s'.kept → ((y : ℕ × Letter) → Contains s'.kept y → Contains s.kept y × (y.1.envelope.context.number ≢ c)) → ((y : ℕ × Letter) → Contains s.kept y → y.1.envelope.context.number ≢ c → Contains s'.kept y)
       → Tracks (h ++ Clear c ∷ []) r s'
-  clear_step c s' ec aw w_to w_back ak k_to k_back =
+  clear_step c s' em others ec aw w_to w_back ak k_to k_back =
       light_step h r s (Clear c) t refl (λ y. y.1.context.number ≢ c) (λ y. y.1.envelope.context.number ≢ c) s'
       (history_more h (Clear c) t.well_formed (λ i e. cc) (λ q e. cc) (λ q e. cc))
+      (cleared_also h (Clear c) s s' t.remains.cleared c refl em others)
       ec aw w_to w_back ak k_to k_back
       (λ i p w n. (λ e. cc, λ e. n (let q : p.context.number ≡ c = cc in q)))
       (λ i p w w' e. w'.live.not_cleared (record { place = length h; after = w.live.before; before = omega arith; is = get_new h (Clear c) ∙ ap (λ (k : ℕ). Some (Clear k)) (sym e) }))
@@ -105,12 +86,12 @@ module _ (h : List Event) (r : Pairing) (s : Matching) (t : Tracks h r s) where
 
 module _ (h : List Event) (r : Pairing) (s : Matching) (t : Tracks h r s) where
   -- the receive at i0 was waiting, and is taken out
-  pub end_taken : (i0 : ℕ) (p0 : Pattern) → PostAt h i0 p0 → (id : ℕ) → count_before h i0 ≡ id → (w' : List (ℕ × Pattern)) (z : ℕ × Pattern) → TakesFirst (λ (y : ℕ × Pattern). y.0 ≡ id) s.waiting w' z → (s' : Matching) → s'.count ≡ s.count → s'.waiting ≡ w' → s'.kept ≡ s.kept → Tracks (h ++ End i0 ∷ []) r s'
-  end_taken i0 p0 posted id n w' z taken s' ec ew ek =
+  pub end_taken : (i0 : ℕ) (p0 : Pattern) → PostAt h i0 p0 → (id : ℕ) → count_before h i0 ≡ id → (w' : List (ℕ × Pattern)) (z : ℕ × Pattern) → TakesFirst (λ (y : ℕ × Pattern). y.0 ≡ id) s.waiting w' z → (s' : Matching) → s'.cleared ≡ s.cleared → s'.count ≡ s.count → s'.waiting ≡ w' → s'.kept ≡ s.kept → Tracks (h ++ End i0 ∷ []) r s'
+  end_taken i0 p0 posted id n w' z taken s' em ec ew ek =
       let asc : IsAscending (taken.front ++ z ∷ taken.back) = subst (λ (xs : List (ℕ × Pattern)). IsAscending xs) taken.old_is t.remains.waiting.ascending in
       let e : s'.waiting ≡ taken.front ++ taken.back = ew ∙ taken.new_is in
       let same : z.0 ≡ count_before h i0 = taken.passes ∙ sym n in
-      end_step h r s t i0 p0 posted s' ec
+      end_step h r s t i0 p0 posted s' em ec
       (subst (λ (xs : List (ℕ × Pattern)). IsAscending xs) (sym e) (ascending_without taken.front taken.back z asc))
       (λ y c.
       let l = left_to taken.front taken.back z asc y (subst (λ (xs : List (ℕ × Pattern)). Contains xs y) e c) in
@@ -123,7 +104,7 @@ module _ (h : List Event) (r : Pairing) (s : Matching) (t : Tracks h r s) where
   -- the receive at i0 wasn't waiting
   pub end_idle : (i0 : ℕ) (p0 : Pattern) → PostAt h i0 p0 → (id : ℕ) → count_before h i0 ≡ id → ((y : ℕ × Pattern) → Contains s.waiting y → y.0 ≡ id → ⊥) → Tracks (h ++ End i0 ∷ []) r s
   end_idle i0 p0 posted id n none =
-      end_step h r s t i0 p0 posted s refl t.remains.waiting.ascending (λ y c. (c, λ q. none y c (q ∙ n))) (λ y c ne. c) refl
+      end_step h r s t i0 p0 posted s refl refl t.remains.waiting.ascending (λ y c. (c, λ q. none y c (q ∙ n))) (λ y c ne. c) refl
 
 pub other_context : (a c : ℕ) → not (a == c) ≡ true → a ≢ c
 other_context a c h e = grind (arith, nat_tests)
@@ -132,11 +113,11 @@ pub passes_context : (a c : ℕ) → a ≢ c → not (a == c) ≡ true
 passes_context a c n = grind (arith, nat_tests)
 
 -- what isn't of the context stays
-pub clear_filtered : (h : List Event) (r : Pairing) (s : Matching) → Tracks h r s → (c : ℕ) (s' : Matching) → s'.count ≡ s.count → s'.waiting ≡ filter (λ (y : ℕ × Pattern). not (y.1.context.number == c)) s.waiting → s'.kept ≡ filter (λ (y : ℕ × Letter). not (y.1.envelope.context.number == c)) s.kept → Tracks (h ++ Clear c ∷ []) r s'
-clear_filtered h r s t c s' ec ew ek =
+pub clear_filtered : (h : List Event) (r : Pairing) (s : Matching) → Tracks h r s → (c : ℕ) (s' : Matching) → is_cleared s' c ≡ true → ((d : ℕ) → d ≢ c → is_cleared s' d ≡ is_cleared s d) → s'.count ≡ s.count → s'.waiting ≡ filter (λ (y : ℕ × Pattern). not (y.1.context.number == c)) s.waiting → s'.kept ≡ filter (λ (y : ℕ × Letter). not (y.1.envelope.context.number == c)) s.kept → Tracks (h ++ Clear c ∷ []) r s'
+clear_filtered h r s t c s' em others ec ew ek =
     let W : ℕ × Pattern → Bool = λ y. not (y.1.context.number == c) in
     let K : ℕ × Letter → Bool = λ y. not (y.1.envelope.context.number == c) in
-    clear_step h r s t c s' ec
+    clear_step h r s t c s' em others ec
     (subst (λ (xs : List (ℕ × Pattern)). IsAscending xs) (sym ew) (ascending_filter W s.waiting t.remains.waiting.ascending))
     (λ y d. let f = Contains-filter W s.waiting y (subst (λ (xs : List (ℕ × Pattern)). Contains xs y) ew d) in (f.0, other_context y.1.context.number c f.1))
     (λ y d n. subst (λ (xs : List (ℕ × Pattern)). Contains xs y) (sym ew) (filter-Contains W s.waiting y d (passes_context y.1.context.number c n)))

@@ -1,12 +1,14 @@
 -- Each history that can happen has a lawful pairing.
-use Rattle.std.proofs.Common.{◌≡◌, ℕ, ◌+◌, inl, inr, Bool, false, List, [], ◌∷◌, ◌++◌, length, refl, sym, subst, append-nil, append_assoc, filter, not, ◌==◌}
+use Rattle.std.proofs.Common.{◌≡◌, ℕ, zero, suc, ◌+◌, inl, inr, Bool, true, false, List, [], ◌∷◌, ◌++◌, length, refl, sym, subst, append-nil, append_assoc, filter, not, get_or, set, replicate, ◌==◌, ◌∙◌, arith, length-append}
+use Rattle.std.proofs.lemmas.List.{length-replicate, get_or-set_same, get_or-set_other}
+use Rattle.ulfm_base.proofs.Places.{get_or-blank}
 use Rattle.std.proofs.lemmas.Option.{slice_get_within}
 use Rattle.ulfm_base.specs.declared.pattern.Pattern.{Pattern}
 use Rattle.ulfm_base.specs.declared.envelope.Letter.{Letter}
 use Rattle.ulfm_base.specs.Pattern.{Admits}
 use Rattle.ulfm_match.specs.History.{Event, Post, Come, End, Clear, PostAt, IsWellFormed, count_before}
 use Rattle.ulfm_match.specs.Pairing.{Pairing, LawfulPairing}
-use Rattle.ulfm_match.specs.State.{Matching, Tracks, IsUncleared}
+use Rattle.ulfm_match.specs.State.{Matching, is_cleared, Tracks, IsUncleared}
 use Rattle.ulfm_match.proofs.ArriveKeeps.{arrive_keeps}
 use Rattle.ulfm_match.proofs.ArriveTakes.{arrive_takes}
 use Rattle.ulfm_match.proofs.Ascending.{ascending_filter}
@@ -26,58 +28,65 @@ record IsPaired (h : List Event) : Type 0 where
   pub state : Matching
   pub tracks : Tracks h pairing state
 
-abbrev a_state : List (ℕ × Pattern) → List (ℕ × Letter) → ℕ → Matching
-a_state waiting kept count = record { waiting = waiting; kept = kept; count = count; prepared = false }
+abbrev a_state : List (ℕ × Pattern) → List (ℕ × Letter) → ℕ → List Bool → Matching
+a_state waiting kept count cleared = record { waiting = waiting; kept = kept; count = count; cleared = cleared; prepared = false }
+
+-- with blanks behind it a list reads the same
+blanks : (n : ℕ) (bs : List Bool) (d : ℕ) → get_or (bs ++ replicate n false) d false ≡ get_or bs d false
+blanks n [] d = get_or-blank n d false
+blanks n (b ∷ bs) zero = refl
+blanks n (b ∷ bs) (suc d) = blanks n bs d
 
 module _ (h : List Event) (t : IsPaired h) where
   paired-post : (p : Pattern) → IsUncleared h p.context.number → IsPaired (h ++ Post p ∷ [])
   paired-post p open' =
-      let s : Matching = t.state in
+      let s = t.state in
       let P : ℕ × Letter → Type 0 = λ y. Admits p y.1.envelope in
       elim (take_first P (λ y. admits_either p y.1.envelope) s.kept) [
         | inl f ↦
-            let k = post_takes h t.pairing s p t.tracks open' f.0 f.1 (first_is_least P s.kept f.0 f.1 t.tracks.remains.kept.ascending f.2) (a_state s.waiting f.0 (s.count + 1)) refl refl refl in
-            record { pairing = t.pairing ++ (length h, k.place) ∷ []; state = a_state s.waiting f.0 (s.count + 1); tracks = k.tracks }
+            let k = post_takes h t.pairing s p t.tracks open' f.0 f.1 (first_is_least P s.kept f.0 f.1 t.tracks.remains.kept.ascending f.2) (a_state s.waiting f.0 (s.count + 1) s.cleared) refl refl refl refl in
+            record { pairing = t.pairing ++ (length h, k.place) ∷ []; state = a_state s.waiting f.0 (s.count + 1) s.cleared; tracks = k.tracks }
         | inr none ↦ record {
           pairing = t.pairing;
-          state = a_state (s.waiting ++ (s.count, p) ∷ []) s.kept (s.count + 1);
-          tracks = post_waits h t.pairing s p t.tracks open' none (a_state (s.waiting ++ (s.count, p) ∷ []) s.kept (s.count + 1)) refl refl refl;
+          state = a_state (s.waiting ++ (s.count, p) ∷ []) s.kept (s.count + 1) s.cleared;
+          tracks = post_waits h t.pairing s p t.tracks open' none (a_state (s.waiting ++ (s.count, p) ∷ []) s.kept (s.count + 1) s.cleared) refl refl refl refl;
         }
       ]
 
   paired-come : (l : Letter) → IsUncleared h l.envelope.context.number → IsPaired (h ++ Come l ∷ [])
   paired-come l open' =
-      let s : Matching = t.state in
+      let s = t.state in
       let P : ℕ × Pattern → Type 0 = λ y. Admits y.1 l.envelope in
       elim (take_first P (λ y. admits_either y.1 l.envelope) s.waiting) [
         | inl f ↦
-            let k = arrive_takes h t.pairing s l t.tracks open' f.0 f.1 (first_is_least P s.waiting f.0 f.1 t.tracks.remains.waiting.ascending f.2) (a_state f.0 s.kept (s.count + 1)) refl refl refl in
-            record { pairing = t.pairing ++ (k.place, length h) ∷ []; state = a_state f.0 s.kept (s.count + 1); tracks = k.tracks }
+            let k = arrive_takes h t.pairing s l t.tracks open' f.0 f.1 (first_is_least P s.waiting f.0 f.1 t.tracks.remains.waiting.ascending f.2) (a_state f.0 s.kept (s.count + 1) s.cleared) refl refl refl refl in
+            record { pairing = t.pairing ++ (k.place, length h) ∷ []; state = a_state f.0 s.kept (s.count + 1) s.cleared; tracks = k.tracks }
         | inr none ↦ record {
           pairing = t.pairing;
-          state = a_state s.waiting (s.kept ++ (s.count, l) ∷ []) (s.count + 1);
-          tracks = arrive_keeps h t.pairing s l t.tracks open' none (a_state s.waiting (s.kept ++ (s.count, l) ∷ []) (s.count + 1)) refl refl refl;
+          state = a_state s.waiting (s.kept ++ (s.count, l) ∷ []) (s.count + 1) s.cleared;
+          tracks = arrive_keeps h t.pairing s l t.tracks open' none (a_state s.waiting (s.kept ++ (s.count, l) ∷ []) (s.count + 1) s.cleared) refl refl refl refl;
         }
       ]
 
   paired-end : (i : ℕ) (p : Pattern) → PostAt h i p → IsPaired (h ++ End i ∷ [])
   paired-end i p posted =
-      let s : Matching = t.state in
+      let s = t.state in
       let W : ℕ × Pattern → Bool = λ y. not (y.0 == count_before h i) in
-      let new : Matching = a_state (filter W s.waiting) s.kept s.count in
+      let new = a_state (filter W s.waiting) s.kept s.count s.cleared in
       record {
         pairing = t.pairing;
         state = new;
-        tracks = end_step h t.pairing s t.tracks i p posted new refl (ascending_filter W s.waiting t.tracks.remains.waiting.ascending)
+        tracks = end_step h t.pairing s t.tracks i p posted new refl refl (ascending_filter W s.waiting t.tracks.remains.waiting.ascending)
             (λ y c. let f = Contains-filter W s.waiting y c in (f.0, other_context y.0 (count_before h i) f.1))
             (λ y c n. filter-Contains W s.waiting y c (passes_context y.0 (count_before h i) n)) refl;
       }
 
   paired-clear : (c : ℕ) → IsPaired (h ++ Clear c ∷ [])
   paired-clear c =
-      let s : Matching = t.state in
-      let new : Matching = a_state (filter (λ (y : ℕ × Pattern). not (y.1.context.number == c)) s.waiting) (filter (λ (y : ℕ × Letter). not (y.1.envelope.context.number == c)) s.kept) s.count in
-      record { pairing = t.pairing; state = new; tracks = clear_filtered h t.pairing s t.tracks c new refl refl refl }
+      let s = t.state in
+      let longer = s.cleared ++ replicate (c + 1) false in
+      let new = a_state (filter (λ (y : ℕ × Pattern). not (y.1.context.number == c)) s.waiting) (filter (λ (y : ℕ × Letter). not (y.1.envelope.context.number == c)) s.kept) s.count (set longer c true) in
+      record { pairing = t.pairing; state = new; tracks = clear_filtered h t.pairing s t.tracks c new (get_or-set_same longer c true false (omega (arith, length-append s.cleared (replicate (c + 1) false), length-replicate (c + 1) false))) (λ d n. get_or-set_other longer c d true false n ∙ blanks (c + 1) s.cleared d) refl refl refl }
 
 -- one more event of a history that can happen
 paired-next : (h : List Event) (e : Event) (rest : List Event) → IsPaired h → IsWellFormed (h ++ e ∷ rest) → IsPaired (h ++ e ∷ [])
@@ -87,33 +96,33 @@ paired-next h (End i) rest t wf = let e = wf.ends i (length h) (get_here h (End 
 paired-next h (Clear c) rest t wf = paired-clear h t c
 
 paired-all : (rest h : List Event) → IsPaired h → IsWellFormed (h ++ rest) → IsPaired (h ++ rest)
-paired-all [] h t wf = subst (λ (g : List Event). IsPaired g) (sym (append-nil h)) t
+paired-all [] h t wf = subst IsPaired (sym (append-nil h)) t
 paired-all (e ∷ rest) h t wf =
-    let same : (h ++ e ∷ []) ++ rest ≡ h ++ e ∷ rest = append_assoc h (e ∷ []) rest in
-    subst (λ (g : List Event). IsPaired g) same (paired-all rest (h ++ e ∷ []) (paired-next h e rest t wf) (subst (λ (g : List Event). IsWellFormed g) (sym same) wf))
+    let same = append_assoc h (e ∷ []) rest in
+    subst IsPaired same (paired-all rest (h ++ e ∷ []) (paired-next h e rest t wf) (subst IsWellFormed (sym same) wf))
 
-paired-none : IsPaired []
-paired-none = record {
-  pairing = [];
-  state = a_state [] [] 0;
-  tracks = record {
-    well_formed = record { ends = λ i k g. let bad : ⊥ = cc in absurd bad; no_posts = λ k i p l g f. let bad : ⊥ = cc in bad; no_letters = λ k b l m g f. let bad : ⊥ = cc in bad };
-    lawful = record {
-      one_letter = λ i b d p q. absurd (Contains-none (i, b) p);
-      one_receive = λ i j b p q. absurd (Contains-none (i, b) p);
-      matched = λ i b p. absurd (Contains-none (i, b) p);
-      earlier_letters = λ i b a p l q. absurd (Contains-none (i, b) q);
-      earlier_receives = λ i b j p l q. absurd (Contains-none (i, b) q);
-      none_missed = λ n i b p l le w k adm. let g = w.live.posted in let bad : ⊥ = cc in bad;
-    };
-    remains = record {
-      count = refl;
-      waiting = record { ascending = tt; sound = λ k x c. absurd (Contains-none (k, x) c); complete = λ i x w. let g = w.live.posted in let bad : ⊥ = cc in absurd bad };
-      kept = record { ascending = tt; sound = λ k x c. absurd (Contains-none (k, x) c); complete = λ i x w. let g = w.live.came in let bad : ⊥ = cc in absurd bad };
-    };
+-- before anything happened nothing waits, is kept or was cleared
+pub tracks_none : (s : Matching) → s.waiting ≡ [] → s.kept ≡ [] → s.count ≡ 0 → ((c : ℕ) → is_cleared s c ≡ false) → Tracks [] [] s
+tracks_none s ew ek ec open' = record {
+  well_formed = record { ends = λ i k g. cc; no_posts = λ k i p l g f. cc; no_letters = λ k b l m g f. cc };
+  lawful = record {
+    one_letter = λ i b d p q. absurd (Contains-none (i, b) p);
+    one_receive = λ i j b p q. absurd (Contains-none (i, b) p);
+    matched = λ i b p. absurd (Contains-none (i, b) p);
+    earlier_letters = λ i b a p l q. absurd (Contains-none (i, b) q);
+    earlier_receives = λ i b j p l q. absurd (Contains-none (i, b) q);
+    none_missed = λ n i b p l le w k adm. let g = w.live.posted in cc;
+  };
+  remains = record {
+    count = ec;
+    waiting = rw ew (record { ascending = tt; sound = λ k x c. absurd (Contains-none (k, x) c); complete = λ i x w. let g = w.live.posted in cc });
+    kept = rw ek (record { ascending = tt; sound = λ k x c. absurd (Contains-none (k, x) c); complete = λ i x w. let g = w.live.came in cc });
+    cleared = λ c. (λ e k g. cc, λ u. open' c);
   };
 }
 
 -- a history that can happen has a lawful pairing
 pub some_pairing : (h : List Event) → IsWellFormed h → (r : Pairing) × LawfulPairing h r
-some_pairing h wf = let t = paired-all h [] paired-none wf in (t.pairing, t.tracks.lawful)
+some_pairing h wf =
+    let t = paired-all h [] (record { pairing = []; state = a_state [] [] 0 []; tracks = tracks_none (a_state [] [] 0 []) refl refl refl (λ c. refl) }) wf in
+    (t.pairing, t.tracks.lawful)

@@ -28,8 +28,8 @@ module _ (h : List Event) (r : Pairing) (law : LawfulPairing h r) where
     pub match_old : (i b : ℕ) → Pairs r i b → IsMatch (h ++ x ∷ []) i b
     match_old i b q =
         let k = law.matched i b q in
-        let li : i < length h = receive_within i b q in
-        let lb : b < length h = letter_within i b q in
+        let li = receive_within i b q in
+        let lb = letter_within i b q in
         let top : max i b + 1 ≤ length h = omega arith in
         record { pattern = k.pattern; letter = k.letter; receive_live = receive_old h x top k.receive_live; letter_live = letter_old h x top k.letter_live; admits = k.admits }
 
@@ -58,8 +58,8 @@ module _ (h : List Event) (r : Pairing) (law : LawfulPairing h r) where
       earlier_letters = λ i b a p l q posted below came adm.
           elim (added i b q) [
             | inl old ↦
-                let li : i < length h = receive_within i b old in
-                let lb : b < length h = letter_within i b old in
+                let li = receive_within i b old in
+                let lb = letter_within i b old in
                 let j = law.earlier_letters i b a p l old (get_below h x i (Post p) li posted) below (get_below h x a (Come l) (omega arith) came) adm in
                 (j.0, j.1, keep j.0 a j.2)
             | inr new ↦ let j = new.2.earlier_letters a p l posted below came adm in (j.0, j.1, keep j.0 a j.2)
@@ -67,8 +67,8 @@ module _ (h : List Event) (r : Pairing) (law : LawfulPairing h r) where
       earlier_receives = λ i b j p l q came below posted lives adm.
           elim (added i b q) [
             | inl old ↦
-                let li : i < length h = receive_within i b old in
-                let lb : b < length h = letter_within i b old in
+                let li = receive_within i b old in
+                let lb = letter_within i b old in
                 let a = law.earlier_receives i b j p l old (get_below h x b (Come l) lb came) below (get_below h x j (Post p) (omega arith) posted) (λ s. lives (stands_old h x s)) adm in
                 (a.0, a.1, keep j a.0 a.2)
             | inr new ↦ let a = new.2.earlier_receives j p l came below posted lives adm in (a.0, a.1, keep j a.0 a.2)
@@ -78,7 +78,7 @@ module _ (h : List Event) (r : Pairing) (law : LawfulPairing h r) where
           elim (lt_or_ge (length h) n) [
             | inl top ↦
                 let e : n ≡ length h + 1 = omega arith in
-                last i b p l (subst (λ (m : ℕ). IsWaiting (h ++ x ∷ []) r' i p m) e w) (subst (λ (m : ℕ). IsKept (h ++ x ∷ []) r' b l m) e k) adm
+                last i b p l (subst (IsWaiting (h ++ x ∷ []) r' i p) e w) (subst (IsKept (h ++ x ∷ []) r' b l) e k) adm
             | inr low ↦
                 law.none_missed n i b p l low
                 (record { live = receive_back h x low w.live; unpaired = λ d ld q. w.unpaired d ld (keep i d q) })

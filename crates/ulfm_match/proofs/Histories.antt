@@ -29,6 +29,10 @@ module _ {X : Type 0} where
   pub get_below : (xs : List X) (e : X) (k : ℕ) (x : X) → k < length xs → slice_get (xs ++ e ∷ []) k ≡ Some x → slice_get xs k ≡ Some x
   get_below xs e k x l h = elim (get_cases xs e k x h) [ inl p ↦ p | inr p ↦ absurd (let q : k ≡ length xs = p.0 in omega arith) ]
 
+  -- an element that isn't the last one stands below it
+  pub below_last : (xs : List X) (e : X) (k : ℕ) (x : X) → slice_get (xs ++ e ∷ []) k ≡ Some x → (e ≡ x → ⊥) → k < length xs
+  below_last xs e k x h other = elim (get_cases xs e k x h) [ inl p ↦ slice_get_within xs k x p | inr p ↦ absurd (other p.1) ]
+
   pub get_last : (xs : List X) (e x : X) → slice_get (xs ++ e ∷ []) (length xs) ≡ Some x → e ≡ x
   get_last xs e x h = let g = get_new xs e in cc
 

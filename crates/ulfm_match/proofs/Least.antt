@@ -18,18 +18,18 @@ pub record TakesLeast {X : Type 0} (P : ℕ × X → Type 0) (old new : List (�
 -- in a list by rising numbers the first is the least
 pub first_is_least : {X : Type 0} (P : ℕ × X → Type 0) (old new : List (ℕ × X)) (z : ℕ × X) → IsAscending old → TakesFirst P old new z → TakesLeast P old new z
 first_is_least {X} P old new z a taken =
-    let asc : IsAscending (taken.front ++ z ∷ taken.back) = subst (λ (xs : List (ℕ × X)). IsAscending xs) taken.old_is a in
+    let asc : IsAscending (taken.front ++ z ∷ taken.back) = subst IsAscending taken.old_is a in
     record {
-      there = subst (λ (xs : List (ℕ × X)). Contains xs z) (sym taken.old_is) (Contains-append_right taken.front (z ∷ taken.back) z (Contains-head z taken.back));
+      there = subst (λ xs. Contains xs z) (sym taken.old_is) (Contains-append_right taken.front (z ∷ taken.back) z (Contains-head z taken.back));
       passes = taken.passes;
       least = λ y c p.
           elim (lt_or_ge y.0 z.0) [
-            | inl l ↦ absurd (taken.first y (left_below taken.front taken.back z asc y (subst (λ (xs : List (ℕ × X)). Contains xs y) taken.old_is c) l) p)
+            | inl l ↦ absurd (taken.first y (left_below taken.front taken.back z asc y (subst (λ xs. Contains xs y) taken.old_is c) l) p)
             | inr g ↦ g
           ];
-      ascending = subst (λ (xs : List (ℕ × X)). IsAscending xs) (sym taken.new_is) (ascending_without taken.front taken.back z asc);
+      ascending = subst IsAscending (sym taken.new_is) (ascending_without taken.front taken.back z asc);
       left_to = λ y c.
-          let l = left_to taken.front taken.back z asc y (subst (λ (xs : List (ℕ × X)). Contains xs y) taken.new_is c) in
-          (subst (λ (xs : List (ℕ × X)). Contains xs y) (sym taken.old_is) l.0, l.1);
-      left_back = λ y c n. subst (λ (xs : List (ℕ × X)). Contains xs y) (sym taken.new_is) (left_back taken.front taken.back z asc y (subst (λ (xs : List (ℕ × X)). Contains xs y) taken.old_is c) n);
+          let l = left_to taken.front taken.back z asc y (subst (λ xs. Contains xs y) taken.new_is c) in
+          (subst (λ xs. Contains xs y) (sym taken.old_is) l.0, l.1);
+      left_back = λ y c n. subst (λ xs. Contains xs y) (sym taken.new_is) (left_back taken.front taken.back z asc y (subst (λ xs. Contains xs y) taken.old_is c) n);
     }

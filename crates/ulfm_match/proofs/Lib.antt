@@ -1,5 +1,4 @@
 pub mod ArriveKeeps
-pub mod ArriveStep
 pub mod ArriveTakes
 pub mod Ascending
 pub mod Cut
@@ -12,7 +11,6 @@ pub mod Histories
 pub mod Least
 pub mod Lists
 pub mod Members
-pub mod PostStep
 pub mod PostTakes
 pub mod PostWaits
 pub mod Steps

@@ -12,10 +12,10 @@ module _ {X : Type 0} (h h' : List Event) (P P' : ℕ → X → Type 0) (xs : Li
     sound = λ k x c.
         let m = mem_to (k, x) c in
         let s = l.sound k x m.0 in
-        (s.0, num s.0 x s.2 ∙ s.1, to s.0 x s.2 (subst (λ (n : ℕ). Q (n, x)) (sym s.1) m.1));
+        (s.0, num s.0 x s.2 ∙ s.1, to s.0 x s.2 (subst (λ n. Q (n, x)) (sym s.1) m.1));
     complete = λ i x p.
         let q = back i x p in
-        subst (λ (n : ℕ). Contains ys (n, x)) (sym (num i x q.0)) (mem_back (count_before h i, x) (l.complete i x q.0) q.1);
+        subst (λ n. Contains ys (n, x)) (sym (num i x q.0)) (mem_back (count_before h i, x) (l.complete i x q.0) q.1);
   }
 
   pub lists_same : ((i : ℕ) (x : X) → P i x → P' i x) → ((i : ℕ) (x : X) → P' i x → P i x) → Lists h' P' xs
@@ -23,17 +23,17 @@ module _ {X : Type 0} (h h' : List Event) (P P' : ℕ → X → Type 0) (xs : Li
 
   pub lists_push : (n : ℕ) (z : X) (k : ℕ) → count_before h' n ≡ k → ((i : ℕ) (x : X) → P i x → count_before h i < k) → P' n z → ((i : ℕ) (x : X) → P i x → P' i x) → ((i : ℕ) (x : X) → P' i x → P i x ⊎ ((i ≡ n) × (z ≡ x))) → Lists h' P' (xs ++ (k, z) ∷ [])
   lists_push n z k nk below new to back = record {
-    ascending = ascending_push xs (k, z) l.ascending (λ y c. let s = l.sound y.0 y.1 c in subst (λ (w : ℕ). w < k) s.1 (below s.0 y.1 s.2));
+    ascending = ascending_push xs (k, z) l.ascending (λ y c. let s = l.sound y.0 y.1 c in subst (λ w. w < k) s.1 (below s.0 y.1 s.2));
     sound = λ j x c.
         elim (Contains-push_cases xs (k, z) (j, x) c) [
           | inl d ↦ let s = l.sound j x d in (s.0, num s.0 x s.2 ∙ s.1, to s.0 x s.2)
-          | inr e ↦ (n, nk ∙ ap (λ (w : ℕ × X). w.0) e, subst (λ (w : X). P' n w) (ap (λ (w : ℕ × X). w.1) e) new)
+          | inr e ↦ (n, nk ∙ ap (λ (w : ℕ × X). w.0) e, subst (P' n) (ap (λ (w : ℕ × X). w.1) e) new)
         ];
     complete = λ i x p.
         elim (back i x p) [
-          | inl q ↦ subst (λ (w : ℕ). Contains (xs ++ (k, z) ∷ []) (w, x)) (sym (num i x q)) (Contains-append_left xs ((k, z) ∷ []) (count_before h i, x) (l.complete i x q))
+          | inl q ↦ subst (λ w. Contains (xs ++ (k, z) ∷ []) (w, x)) (sym (num i x q)) (Contains-append_left xs ((k, z) ∷ []) (count_before h i, x) (l.complete i x q))
           | inr e ↦
               let nums : count_before h' i ≡ k = ap (count_before h') e.0 ∙ nk in
-              subst (λ (w : ℕ × X). Contains (xs ++ (k, z) ∷ []) w) (let same : ◌≡◌ {A = ℕ × X} (k, z) (count_before h' i, x) = (let a = sym nums in let b = e.1 in cc) in same) (Contains-push xs (k, z))
+              subst (Contains (xs ++ (k, z) ∷ [])) (let same : ◌≡◌ {A = ℕ × X} (k, z) (count_before h' i, x) = (let a = sym nums in let b = e.1 in cc) in same) (Contains-push xs (k, z))
         ];
   }

@@ -17,7 +17,7 @@ module _ {X : Type 0} where
   kept_from : (test : X → Bool) (y : X) (rest zs : List X) (x : X) → (Contains rest x → Contains zs x × (test x ≡ true)) → (b : Bool) → test y ≡ b → Contains (cond b (y ∷ rest) rest) x → Contains (y ∷ zs) x × (test x ≡ true)
   kept_from test y rest zs x more true e h =
       elim (Contains-cons_cases y rest x h) [
-        | inl q ↦ (subst (λ (z : X). Contains (y ∷ zs) z) q (Contains-head y zs), subst (λ (z : X). test z ≡ true) q e)
+        | inl q ↦ (subst (Contains (y ∷ zs)) q (Contains-head y zs), subst (λ z. test z ≡ true) q e)
         | inr t ↦ let k = more t in (Contains-tail y zs x k.0, k.1)
       ]
   kept_from test y rest zs x more false e h = let k = more h in (Contains-tail y zs x k.0, k.1)
@@ -29,12 +29,12 @@ module _ {X : Type 0} where
   kept_to : (test : X → Bool) (y : X) (rest zs : List X) (x : X) → (Contains zs x → Contains rest x) → (b : Bool) → test y ≡ b → Contains (y ∷ zs) x → test x ≡ true → Contains (cond b (y ∷ rest) rest) x
   kept_to test y rest zs x more true e h t =
       elim (Contains-cons_cases y zs x h) [
-        | inl q ↦ subst (λ (z : X). Contains (y ∷ rest) z) q (Contains-head y rest)
+        | inl q ↦ subst (Contains (y ∷ rest)) q (Contains-head y rest)
         | inr k ↦ Contains-tail y rest x (more k)
       ]
   kept_to test y rest zs x more false e h t =
       elim (Contains-cons_cases y zs x h) [
-        | inl q ↦ let f : test x ≡ false = subst (λ (z : X). test z ≡ false) q e in cc
+        | inl q ↦ let f : test x ≡ false = subst (λ z. test z ≡ false) q e in cc
         | inr k ↦ more k
       ]
 
@@ -45,5 +45,5 @@ module _ {X : Type 0} where
   -- what the test lets stay, as members
   pub filter_keeps : (P : X → Type 0) (test : X → Bool) (xs old new : List X) → xs ≡ old → new ≡ filter test xs → ((x : X) → test x ≡ true → P x) → ((x : X) → P x → test x ≡ true) → Keeps P old new
   filter_keeps P test xs old new e f to back =
-      subst (λ (zs : List X). Keeps P zs new) e (subst (λ (zs : List X). Keeps P xs zs) (sym f)
+      subst (λ zs. Keeps P zs new) e (subst (Keeps P xs) (sym f)
       (λ x. (λ h. let g = Contains-filter test xs x h in (g.0, to x g.1), λ h. filter-Contains test xs x h.0 (back x h.1))))

@@ -9,12 +9,11 @@ use Rattle.ulfm_match.specs.Pairing.{Pairing, Pairs, IsWaiting, IsKept, LawfulPa
 use Rattle.ulfm_match.specs.State.{Matching, Lists, IsUncleared, Tracks}
 use Rattle.ulfm_match.specs.Calls.{PostGets}
 use Rattle.ulfm_match.proofs.Decide.{lt_or_ge, compared}
-use Rattle.ulfm_match.proofs.Histories.{get_new, get_below, stands_old, letter_more, count_below, same_number}
+use Rattle.ulfm_match.proofs.Histories.{below_last, get_new, get_below, stands_old, letter_more, count_below, same_number}
 use Rattle.ulfm_match.proofs.Least.{TakesLeast}
 use Rattle.ulfm_match.proofs.Lists.{lists_sub, lists_same}
 use Rattle.ulfm_match.proofs.Extend.{IsNew, receive_within, none_missed_below, extend}
-use Rattle.ulfm_match.proofs.Steps.{pair_cases, pair_old, stands_nowhere, tracks, waiting_to, waiting_back, kept_to, kept_back, waiting_number, kept_number, kept_or_paired, waits_or_paired}
-use Rattle.ulfm_match.proofs.PostStep.{longer, not_here, here}
+use Rattle.ulfm_match.proofs.Steps.{posted_more, posted_here, pair_cases, pair_old, stands_nowhere, cleared_same, tracks, waiting_to, waiting_back, kept_to, kept_back, waiting_number, kept_number, kept_or_paired, waits_or_paired}
 
 module _ (h : List Event) (r : Pairing) (s : Matching) (p : Pattern) (t : Tracks h r s) (open' : IsUncleared h p.context.number) where
   -- the first kept letter that fits is taken
@@ -40,7 +39,7 @@ module _ (h : List Event) (r : Pairing) (s : Matching) (p : Pattern) (t : Tracks
           free_receive = λ d q. let l = receive_within h r t.lawful (length h) d q in omega (arith, l);
           free_letter = λ j q. k.unpaired j (receive_within h r t.lawful j b q) q;
           earlier_letters = λ a q m posted below came adm.
-              let e : p ≡ q = here h r s p t open' q (length h) refl posted in
+              let e : p ≡ q = posted_here h p q (length h) refl posted in
               let adm' : Admits p m.envelope = subst (λ (w : Pattern). Admits w m.envelope) (sym e) adm in
               let la : a < length h = omega arith in
               let came' : ComeAt h a m = get_below h (Post p) a (Come m) la came in
@@ -81,7 +80,7 @@ module _ (h : List Event) (r : Pairing) (s : Matching) (p : Pattern) (t : Tracks
         ])
         (λ i b q l w k adm.
         let li : i < length h + 1 = w.live.before in
-        let lb : b < length h = not_here h r s p t open' b l k.live.came k.live.before in
+        let lb : b < length h = below_last h (Post p) b (Come l) k.live.came (λ e. cc) in
         elim (lt_or_ge i (length h)) [
           | inl low ↦ none_missed_below h r t.lawful (Post p) r' (pair_old r (length h) b0) i b q l low lb w k adm
           | inr top ↦
@@ -89,15 +88,16 @@ module _ (h : List Event) (r : Pairing) (s : Matching) (p : Pattern) (t : Tracks
               w.unpaired b0 (let l0 : b0 < length h = found.2.live.before in omega arith) (subst (λ (m : ℕ). Pairs r' m b0) e (Contains-push r (length h, b0)))
         ])
 
-    pub post_takes : (s' : Matching) → s'.count ≡ s.count + 1 → s'.waiting ≡ s.waiting → s'.kept ≡ kept' → PostGets h r p z.1 s'
-    post_takes s' ec ew ek =
+    pub post_takes : (s' : Matching) → s'.count ≡ s.count + 1 → s'.waiting ≡ s.waiting → s'.kept ≡ kept' → s'.cleared ≡ s.cleared → PostGets h r p z.1 s'
+    post_takes s' ec ew ek em =
         let b0 = found.0 in
         let r' : Pairing = r ++ (length h, b0) ∷ [] in
         let keep : (i b : ℕ) → Pairs r i b → Pairs r' i b = pair_old r (length h) b0 in
         let low : (i b : ℕ) → i < length h → Pairs r' i b → Pairs r i b = λ i b li q. elim (pair_cases r (length h) b0 i b q) [ inl o ↦ o | inr e ↦ absurd (let g : i ≡ length h = e.0 in omega arith) ] in record {
           place = b0;
           came = found.2.live.came;
-          tracks = tracks h (Post p) r' s' (longer h r s p t open') post_pairs
+          tracks = tracks h (Post p) r' s' (posted_more h p t.well_formed open') post_pairs
+              (cleared_same h (Post p) s s' t.remains.cleared em (λ c e. cc))
               (ec ∙ ap (λ n. n + 1) t.remains.count)
               (subst (λ (xs : List (ℕ × Pattern)). Lists (h ++ Post p ∷ []) (λ i q. IsWaiting (h ++ Post p ∷ []) r' i q (length h + 1)) xs) (sym ew)
               (lists_same h (h ++ Post p ∷ []) (λ i q. IsWaiting h r i q (length h)) (λ i q. IsWaiting (h ++ Post p ∷ []) r' i q (length h + 1)) s.waiting t.remains.waiting
@@ -121,7 +121,7 @@ module _ (h : List Event) (r : Pairing) (s : Matching) (p : Pattern) (t : Tracks
                 | inr e ↦ absurd (n (ap (count_before h) e.1 ∙ found.1))
               ]) k)
               (λ b l k.
-              let lb : b < length h = not_here h r s p t open' b l k.live.came k.live.before in
+              let lb : b < length h = below_last h (Post p) b (Come l) k.live.came (λ e. cc) in
               let k' = kept_back h (Post p) r r' t.lawful keep b l lb k in (
                 k',
                 λ e.

@@ -3,15 +3,14 @@ use Rattle.std.proofs.Common.{◌≡◌, ℕ, ◌+◌, ◌<◌, inl, inr, List, 
 use Rattle.ulfm_base.specs.declared.pattern.Pattern.{Pattern}
 use Rattle.ulfm_base.specs.declared.envelope.Letter.{Letter}
 use Rattle.ulfm_base.specs.Pattern.{Admits}
-use Rattle.ulfm_match.specs.History.{Event, Post, count_before}
+use Rattle.ulfm_match.specs.History.{Event, Come, Post, count_before}
 use Rattle.ulfm_match.specs.Pairing.{Pairing, IsWaiting, IsKept, LawfulPairing}
 use Rattle.ulfm_match.specs.State.{Matching, Lists, IsUncleared, Tracks}
 use Rattle.ulfm_match.proofs.Decide.{lt_or_ge}
-use Rattle.ulfm_match.proofs.Histories.{get_new, count_old, count_below}
+use Rattle.ulfm_match.proofs.Histories.{below_last, get_new, count_old, count_below}
 use Rattle.ulfm_match.proofs.Lists.{lists_same, lists_push}
 use Rattle.ulfm_match.proofs.Extend.{receive_within, none_missed_below, extend}
-use Rattle.ulfm_match.proofs.Steps.{stands_nowhere, tracks, waiting_to, waiting_back, kept_to, kept_back, waiting_number, kept_number}
-use Rattle.ulfm_match.proofs.PostStep.{longer, not_here, here}
+use Rattle.ulfm_match.proofs.Steps.{posted_more, posted_here, stands_nowhere, cleared_same, tracks, waiting_to, waiting_back, kept_to, kept_back, waiting_number, kept_number}
 
 module _ (h : List Event) (r : Pairing) (s : Matching) (p : Pattern) (t : Tracks h r s) (open' : IsUncleared h p.context.number) where
   -- no kept letter fits: the receive waits
@@ -21,19 +20,20 @@ module _ (h : List Event) (r : Pairing) (s : Matching) (p : Pattern) (t : Tracks
         extend h r t.lawful (Post p) r 0 0 (λ i b q. q) (λ i b q. inl q)
         (λ i b q l w k adm.
         let li : i < length h + 1 = w.live.before in
-        let lb : b < length h = not_here h r s p t open' b l k.live.came k.live.before in
+        let lb : b < length h = below_last h (Post p) b (Come l) k.live.came (λ e. cc) in
         elim (lt_or_ge i (length h)) [
           | inl low ↦ none_missed_below h r t.lawful (Post p) r (λ i b q. q) i b q l low lb w k adm
           | inr top ↦
-              let e : p ≡ q = here h r s p t open' q i (omega arith) w.live.posted in
+              let e : p ≡ q = posted_here h p q i (omega arith) w.live.posted in
               none (count_before h b, l)
               (t.remains.kept.complete b l (kept_back h (Post p) r r t.lawful (λ i b q. q) b l lb k))
               (subst (λ (w : Pattern). Admits w l.envelope) (sym e) adm)
         ])
 
-    pub post_waits : (s' : Matching) → s'.count ≡ s.count + 1 → s'.waiting ≡ s.waiting ++ (s.count, p) ∷ [] → s'.kept ≡ s.kept → Tracks (h ++ Post p ∷ []) r s'
-    post_waits s' ec ew ek =
-        tracks h (Post p) r s' (longer h r s p t open') post_lawful
+    pub post_waits : (s' : Matching) → s'.count ≡ s.count + 1 → s'.waiting ≡ s.waiting ++ (s.count, p) ∷ [] → s'.kept ≡ s.kept → s'.cleared ≡ s.cleared → Tracks (h ++ Post p ∷ []) r s'
+    post_waits s' ec ew ek em =
+        tracks h (Post p) r s' (posted_more h p t.well_formed open') post_lawful
+        (cleared_same h (Post p) s s' t.remains.cleared em (λ c e. cc))
         (ec ∙ ap (λ n. n + 1) t.remains.count)
         (subst (λ (xs : List (ℕ × Pattern)). Lists (h ++ Post p ∷ []) (λ i q. IsWaiting (h ++ Post p ∷ []) r i q (length h + 1)) xs) (sym ew)
         (lists_push h (h ++ Post p ∷ []) (λ i q. IsWaiting h r i q (length h)) (λ i q. IsWaiting (h ++ Post p ∷ []) r i q (length h + 1)) s.waiting t.remains.waiting
@@ -50,10 +50,10 @@ module _ (h : List Event) (r : Pairing) (s : Matching) (p : Pattern) (t : Tracks
         let li : i < length h + 1 = w.live.before in
         elim (lt_or_ge i (length h)) [
           | inl low ↦ inl (waiting_back h (Post p) r r t.lawful (λ i b q. q) i q low w)
-          | inr top ↦ let e : i ≡ length h = omega arith in inr (e, here h r s p t open' q i e w.live.posted)
+          | inr top ↦ let e : i ≡ length h = omega arith in inr (e, posted_here h p q i e w.live.posted)
         ])))
         (subst (λ (xs : List (ℕ × Letter)). Lists (h ++ Post p ∷ []) (λ b l. IsKept (h ++ Post p ∷ []) r b l (length h + 1)) xs) (sym ek)
         (lists_same h (h ++ Post p ∷ []) (λ b l. IsKept h r b l (length h)) (λ b l. IsKept (h ++ Post p ∷ []) r b l (length h + 1)) s.kept t.remains.kept
         (kept_number h (Post p) r)
         (λ b l k. kept_to h (Post p) r r t.lawful (λ i b q. q) b l (λ e. cc) (λ i q. q) k)
-        (λ b l k. kept_back h (Post p) r r t.lawful (λ i b q. q) b l (not_here h r s p t open' b l k.live.came k.live.before) k)))
+        (λ b l k. kept_back h (Post p) r r t.lawful (λ i b q. q) b l (below_last h (Post p) b (Come l) k.live.came (λ e. cc)) k)))

@@ -1,14 +1,14 @@
 -- A history longer by one event: what waits and what is kept.
-use Rattle.std.proofs.Common.{◌≡◌, ◌≢◌, ℕ, ◌+◌, ◌<◌, ◌⊎◌, inl, inr, List, [], ◌∷◌, ◌++◌, length, ap, sym, ◌∙◌, subst, Some, arith, add-one, slice_get}
+use Rattle.std.proofs.Common.{◌≡◌, ◌≢◌, ℕ, ◌+◌, ◌<◌, ◌⊎◌, inl, inr, List, [], ◌∷◌, ◌++◌, length, ap, sym, ◌∙◌, subst, Some, arith, add-one, slice_get, true, false, ◌↔◌}
 use Rattle.std.proofs.lemmas.Option.{slice_get_within}
 use Rattle.std.proofs.lemmas.List.Elements.{Contains-append_left, Contains-push_cases}
 use Rattle.ulfm_base.specs.declared.pattern.Pattern.{Pattern}
 use Rattle.ulfm_base.specs.declared.envelope.Letter.{Letter}
 use Rattle.ulfm_match.specs.History.{Event, Post, Come, End, Clear, PostAt, ComeAt, StandsBetween, IsWellFormed, counts_as, count_before}
 use Rattle.ulfm_match.specs.Pairing.{Pairing, Pairs, IsWaiting, IsKept, LawfulPairing}
-use Rattle.ulfm_match.specs.State.{Matching, Lists, IsUncleared, Tracks}
-use Rattle.ulfm_match.proofs.Decide.{paired_receive, paired_letter}
-use Rattle.ulfm_match.proofs.Histories.{get_old, get_cases, get_below, length_more, receive_more, receive_less, letter_more, letter_less, count_old, count_new}
+use Rattle.ulfm_match.specs.State.{Matching, is_cleared, Lists, IsUncleared, Tracks}
+use Rattle.ulfm_match.proofs.Decide.{eq_either, paired_receive, paired_letter}
+use Rattle.ulfm_match.proofs.Histories.{get_old, get_new, get_cases, get_below, get_last, length_more, receive_more, receive_less, letter_more, letter_less, count_old, count_new}
 use Rattle.ulfm_match.proofs.Extend.{receive_within, letter_within}
 
 -- the longer history is one
@@ -41,6 +41,22 @@ history_more h x wf ends posts letters = record {
   within : (k : ℕ) (e : Event) → slice_get h k ≡ Some e → k < length h
   within = slice_get_within h
 
+-- a receive is posted in an open context
+module _ (h : List Event) (p : Pattern) where
+  pub posted_more : IsWellFormed h → IsUncleared h p.context.number → IsWellFormed (h ++ Post p ∷ [])
+  posted_more wf open' = history_more h (Post p) wf (λ i e. cc) (λ q e. subst (λ (w : Pattern). IsUncleared h w.context.number) (let f : p ≡ q = cc in f) open') (λ l e. cc)
+
+  pub posted_here : (q : Pattern) (i : ℕ) → i ≡ length h → PostAt (h ++ Post p ∷ []) i q → p ≡ q
+  posted_here q i e posted = let g = get_last h (Post p) (Post q) (subst (λ (k : ℕ). PostAt (h ++ Post p ∷ []) k q) e posted) in cc
+
+-- a letter comes in an open context
+module _ (h : List Event) (l : Letter) where
+  pub come_more : IsWellFormed h → IsUncleared h l.envelope.context.number → IsWellFormed (h ++ Come l ∷ [])
+  come_more wf open' = history_more h (Come l) wf (λ i e. cc) (λ q e. cc) (λ m e. subst (λ (w : Letter). IsUncleared h w.envelope.context.number) (let f : l ≡ m = cc in f) open')
+
+  pub come_here : (m : Letter) (b : ℕ) → b ≡ length h → ComeAt (h ++ Come l ∷ []) b m → l ≡ m
+  come_here m b e came = let g = get_last h (Come l) (Come m) (subst (λ (k : ℕ). ComeAt (h ++ Come l ∷ []) k m) e came) in cc
+
 pub pair_cases : (r : Pairing) (i0 b0 i b : ℕ) → Pairs (r ++ (i0, b0) ∷ []) i b → Pairs r i b ⊎ ((i ≡ i0) × (b ≡ b0))
 pair_cases r i0 b0 i b p =
     elim (Contains-push_cases r (i0, b0) (i, b) p) [
@@ -54,8 +70,26 @@ pair_old r i0 b0 i b p = Contains-append_left r ((i0, b0) ∷ []) (i, b) p
 pub stands_nowhere : {h : List Event} {e : Event} {n : ℕ} → StandsBetween h e n (n + 1) → ⊥
 stands_nowhere {h} {e} {n} s = let a : n < s.place = s.after in let b : s.place < n + 1 = s.before in absurd (omega arith)
 
-pub tracks : (h : List Event) (x : Event) (r : Pairing) (s : Matching) → IsWellFormed (h ++ x ∷ []) → LawfulPairing (h ++ x ∷ []) r → s.count ≡ count_before h (length h) + counts_as x → Lists (h ++ x ∷ []) (λ i p. IsWaiting (h ++ x ∷ []) r i p (length h + 1)) s.waiting → Lists (h ++ x ∷ []) (λ b l. IsKept (h ++ x ∷ []) r b l (length h + 1)) s.kept → Tracks (h ++ x ∷ []) r s
-tracks h x r s wf law c w k =
+-- what counts as cleared after one more event
+module _ (h : List Event) (x : Event) (s s' : Matching) (held : (c : ℕ) → (is_cleared s c ≡ false) ↔ IsUncleared h c) where
+  less : (c : ℕ) → IsUncleared (h ++ x ∷ []) c → is_cleared s c ≡ false
+  less c u = (held c).1 (λ k g. u k (get_old h x k (Clear c) g))
+
+  more : (c : ℕ) → is_cleared s c ≡ false → x ≢ Clear c → IsUncleared (h ++ x ∷ []) c
+  more c o n k g = elim (get_cases h x k (Clear c) g) [ inl y ↦ (held c).0 o k y | inr y ↦ n y.1 ]
+
+  pub cleared_same : s'.cleared ≡ s.cleared → ((c : ℕ) → x ≢ Clear c) → (c : ℕ) → (is_cleared s' c ≡ false) ↔ IsUncleared (h ++ x ∷ []) c
+  cleared_same e n c = rw e (λ o. more c o (n c), less c)
+
+  pub cleared_also : (d : ℕ) → x ≡ Clear d → is_cleared s' d ≡ true → ((c : ℕ) → c ≢ d → is_cleared s' c ≡ is_cleared s c) → (c : ℕ) → (is_cleared s' c ≡ false) ↔ IsUncleared (h ++ x ∷ []) c
+  cleared_also d is here there c =
+      elim (eq_either c d) [
+        | inl e ↦ (λ o. (let y = here in cc), λ u. absurd (u (length h) (get_new h x ∙ ap (λ (y : Event). Some y) (is ∙ ap (λ (n : ℕ). Clear n) (sym e)))))
+        | inr n ↦ (λ o. more c (sym (there c n) ∙ o) (λ g. let same : d ≡ c = cc in n (sym same)), λ u. there c n ∙ less c u)
+      ]
+
+pub tracks : (h : List Event) (x : Event) (r : Pairing) (s : Matching) → IsWellFormed (h ++ x ∷ []) → LawfulPairing (h ++ x ∷ []) r → ((c : ℕ) → (is_cleared s c ≡ false) ↔ IsUncleared (h ++ x ∷ []) c) → s.count ≡ count_before h (length h) + counts_as x → Lists (h ++ x ∷ []) (λ i p. IsWaiting (h ++ x ∷ []) r i p (length h + 1)) s.waiting → Lists (h ++ x ∷ []) (λ b l. IsKept (h ++ x ∷ []) r b l (length h + 1)) s.kept → Tracks (h ++ x ∷ []) r s
+tracks h x r s wf law m c w k =
     let e = sym (length_more h x) in
     record {
       well_formed = wf;
@@ -64,6 +98,7 @@ tracks h x r s wf law c w k =
         count = c ∙ sym (count_new h x) ∙ ap (count_before (h ++ x ∷ [])) (sym (add-one (length h)) ∙ e);
         waiting = subst (λ (m : ℕ). Lists (h ++ x ∷ []) (λ i p. IsWaiting (h ++ x ∷ []) r i p m) s.waiting) e w;
         kept = subst (λ (m : ℕ). Lists (h ++ x ∷ []) (λ b l. IsKept (h ++ x ∷ []) r b l m) s.kept) e k;
+        cleared = m;
       };
     }
 

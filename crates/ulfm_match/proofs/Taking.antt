@@ -19,14 +19,14 @@ module _ {X : Type 0} (P : X → Type 0) (xs : List X) where
   -- one more element that P doesn't hold of
   pub none_more : (k : ℕ) (x : X) → k < length xs → x ≡ get_or xs k x → ((y : X) → Contains (take k xs) y → P y → ⊥) → (P x → ⊥) → (y : X) → Contains (take (k + 1) xs) y → P y → ⊥
   none_more k x l is before here y c p =
-      let c' : Contains (take k xs ++ get_or xs k x ∷ []) y = subst (λ (zs : List X). Contains zs y) (take_more xs k x l) c in
+      let c' : Contains (take k xs ++ get_or xs k x ∷ []) y = subst (λ zs. Contains zs y) (take_more xs k x l) c in
       elim (Contains-push_cases (take k xs) (get_or xs k x) y c') [
         | inl d ↦ before y d p
         | inr e ↦ here (subst P (sym (is ∙ e)) p)
       ]
 
   pub none_all : (n : ℕ) → length xs ≤ n → ((y : X) → Contains (take n xs) y → P y → ⊥) → (y : X) → Contains xs y → P y → ⊥
-  none_all n l before y c p = before y (subst (λ (zs : List X). Contains zs y) (sym (take_all n xs l)) c) p
+  none_all n l before y c p = before y (subst (λ zs. Contains zs y) (sym (take_all n xs l)) c) p
 
   pub taken_at : (k : ℕ) (x : X) (ys : List X) → IsFirstAt P xs k → x ≡ get_or xs k x → ys ≡ remove xs k → TakesFirst P xs ys x
   taken_at k x ys f is e =
@@ -34,7 +34,7 @@ module _ {X : Type 0} (P : X → Type 0) (xs : List X) where
       record {
         front = take k xs;
         back = drop (suc k) xs;
-        old_is = sym (take-append-drop k xs) ∙ ap (λ (zs : List X). take k xs ++ zs) (drop-cons xs k x l ∙ ap (λ (z : X). z ∷ drop (suc k) xs) (sym is));
+        old_is = sym (take-append-drop k xs) ∙ ap (λ zs. take k xs ++ zs) (drop-cons xs k x l ∙ ap (λ z. z ∷ drop (suc k) xs) (sym is));
         new_is = e;
         passes = subst P (sym is) (f.passes x);
         first = f.none_before;

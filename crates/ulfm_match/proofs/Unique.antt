@@ -30,40 +30,40 @@ module _ (h : List Event) (r s : Pairing) (lr : LawfulPairing h r) (ls : LawfulP
       let k = lr.matched m b p in
       let top : max m b ≡ m = omega arith in
       let P = k.pattern in
-      let posted : PostAt h m P = k.receive_live.posted in
-      let within : m < length h = slice_get_within h m _ posted in
+      let posted = k.receive_live.posted in
+      let within = slice_get_within h m _ posted in
       elim (paired_receive s m (m + 1)) [
         | inl q ↦
             let d = q.0 in
             let kd = ls.matched m d q.2 in
-            let same : kd.pattern ≡ P = same_pattern h m kd.pattern P kd.receive_live.posted posted in
+            let same = same_pattern h m kd.pattern P kd.receive_live.posted posted in
             elim (compared b d) [
               | inl below ↦
                   let j = ls.earlier_letters m d b P k.letter q.2 posted below k.letter_live.came k.admits in
-                  let e : m ≡ j.0 = lr.one_receive m j.0 b p (sr j.0 b j.1 bm j.2) in
-                  absurd (let l : j.0 < m = j.1 in omega arith)
+                  let e = lr.one_receive m j.0 b p (sr j.0 b j.1 bm j.2) in
+                  absurd (let l = j.1 in omega arith)
               | inr o ↦ elim o [
-                | inl e ↦ subst (λ (x : ℕ). Pairs s m x) (sym e) q.2
+                | inl e ↦ subst (Pairs s m) (sym e) q.2
                 | inr above ↦
-                    let j = lr.earlier_letters m b d P kd.letter p posted above kd.letter_live.came (subst (λ (x : Pattern). Admits x kd.letter.envelope) same kd.admits) in
-                    let e : m ≡ j.0 = ls.one_receive m j.0 d q.2 (rs j.0 d j.1 (omega arith) j.2) in
-                    absurd (let l : j.0 < m = j.1 in omega arith)
+                    let j = lr.earlier_letters m b d P kd.letter p posted above kd.letter_live.came (subst (λ x. Admits x kd.letter.envelope) same kd.admits) in
+                    let e = ls.one_receive m j.0 d q.2 (rs j.0 d j.1 (omega arith) j.2) in
+                    absurd (let l = j.1 in omega arith)
               ]
             ]
         | inr free ↦ elim (paired_letter s b (m + 1)) [
           | inl q ↦ elim (compared q.0 m) [
             | inl below ↦
-                let e : m ≡ q.0 = lr.one_receive m q.0 b p (sr q.0 b below bm q.2) in
+                let e = lr.one_receive m q.0 b p (sr q.0 b below bm q.2) in
                 absurd (omega arith)
             | inr o ↦ elim o [
-              | inl e ↦ subst (λ (x : ℕ). Pairs s x b) e q.2
-              | inr above ↦ absurd (let l : q.0 < m + 1 = q.1 in omega arith)
+              | inl e ↦ subst (λ x. Pairs s x b) e q.2
+              | inr above ↦ absurd (let l = q.1 in omega arith)
             ]
           ]
           | inr none ↦
               absurd (ls.none_missed (m + 1) m b P k.letter (omega arith)
-              (record { live = subst (λ (x : ℕ). IsLiveReceive h m P (x + 1)) top k.receive_live; unpaired = free })
-              (record { live = subst (λ (x : ℕ). IsLiveLetter h b k.letter (x + 1)) top k.letter_live; unpaired = none }) k.admits)
+              (record { live = subst (λ x. IsLiveReceive h m P (x + 1)) top k.receive_live; unpaired = free })
+              (record { live = subst (λ x. IsLiveLetter h b k.letter (x + 1)) top k.letter_live; unpaired = none }) k.admits)
         ]
       ]
 
@@ -73,41 +73,41 @@ module _ (h : List Event) (r s : Pairing) (lr : LawfulPairing h r) (ls : LawfulP
       let k = lr.matched i m p in
       let top : max i m ≡ m = omega arith in
       let L = k.letter in
-      let came : ComeAt h m L = k.letter_live.came in
-      let within : m < length h = slice_get_within h m _ came in
+      let came = k.letter_live.came in
+      let within = slice_get_within h m _ came in
       elim (paired_letter s m (m + 1)) [
         | inl q ↦
             let j = q.0 in
-            let jm : j < m + 1 = q.1 in
+            let jm = q.1 in
             let kj = ls.matched j m q.2 in
-            let same : kj.letter ≡ L = same_letter h m kj.letter L kj.letter_live.came came in
+            let same = same_letter h m kj.letter L kj.letter_live.came came in
             elim (compared i j) [
               | inl below ↦
                   let a = ls.earlier_receives j m i k.pattern L q.2 came below k.receive_live.posted (λ e. k.receive_live.not_ended (stands_wider (max i m + 1) (omega arith) e)) k.admits in
-                  let e : a.0 ≡ m = lr.one_letter i a.0 m (sr i a.0 im a.1 a.2) p in
-                  absurd (let l : a.0 < m = a.1 in omega arith)
+                  let e = lr.one_letter i a.0 m (sr i a.0 im a.1 a.2) p in
+                  absurd (let l = a.1 in omega arith)
               | inr o ↦ elim o [
-                | inl e ↦ subst (λ (x : ℕ). Pairs s x m) (sym e) q.2
+                | inl e ↦ subst (λ x. Pairs s x m) (sym e) q.2
                 | inr above ↦
                     let a = lr.earlier_receives i m j kj.pattern L p came above kj.receive_live.posted (λ e. kj.receive_live.not_ended (stands_wider (max j m + 1) (omega arith) e)) (subst (λ (x : Letter). Admits kj.pattern x.envelope) same kj.admits) in
-                    let e : a.0 ≡ m = ls.one_letter j a.0 m (rs j a.0 (omega arith) a.1 a.2) q.2 in
-                    absurd (let l : a.0 < m = a.1 in omega arith)
+                    let e = ls.one_letter j a.0 m (rs j a.0 (omega arith) a.1 a.2) q.2 in
+                    absurd (let l = a.1 in omega arith)
               ]
             ]
         | inr none ↦ elim (paired_receive s i (m + 1)) [
           | inl q ↦ elim (compared q.0 m) [
             | inl below ↦
-                let e : q.0 ≡ m = lr.one_letter i q.0 m (sr i q.0 im below q.2) p in
+                let e = lr.one_letter i q.0 m (sr i q.0 im below q.2) p in
                 absurd (omega arith)
             | inr o ↦ elim o [
-              | inl e ↦ subst (λ (x : ℕ). Pairs s i x) e q.2
-              | inr above ↦ absurd (let l : q.0 < m + 1 = q.1 in omega arith)
+              | inl e ↦ subst (Pairs s i) e q.2
+              | inr above ↦ absurd (let l = q.1 in omega arith)
             ]
           ]
           | inr free ↦
               absurd (ls.none_missed (m + 1) i m k.pattern L (omega arith)
-              (record { live = subst (λ (x : ℕ). IsLiveReceive h i k.pattern (x + 1)) top k.receive_live; unpaired = free })
-              (record { live = subst (λ (x : ℕ). IsLiveLetter h m L (x + 1)) top k.letter_live; unpaired = none }) k.admits)
+              (record { live = subst (λ x. IsLiveReceive h i k.pattern (x + 1)) top k.receive_live; unpaired = free })
+              (record { live = subst (λ x. IsLiveLetter h m L (x + 1)) top k.letter_live; unpaired = none }) k.admits)
         ]
       ]
 
@@ -118,16 +118,16 @@ module _ (h : List Event) (r s : Pairing) (lr : LawfulPairing h r) (ls : LawfulP
           | inl bm ↦ rs i b im bm p
           | inr bm ↦
               let e : b ≡ m = omega arith in
-              subst (λ (x : ℕ). Pairs s i x) (sym e) (at_letter i im (subst (λ (x : ℕ). Pairs r i x) e p))
+              subst (Pairs s i) (sym e) (at_letter i im (subst (Pairs r i) e p))
         ]
         | inr im ↦
             let e : i ≡ m = omega arith in
             elim (lt_or_ge b m) [
-              | inl bm ↦ subst (λ (x : ℕ). Pairs s x b) (sym e) (at_receive b bm (subst (λ (x : ℕ). Pairs r x b) e p))
+              | inl bm ↦ subst (λ x. Pairs s x b) (sym e) (at_receive b bm (subst (λ x. Pairs r x b) e p))
               | inr bm ↦
                   let k = lr.matched i b p in
                   let f : b ≡ i = omega arith in
-                  absurd (no_both h i k.pattern k.letter k.receive_live.posted (subst (λ (x : ℕ). ComeAt h x k.letter) f k.letter_live.came))
+                  absurd (no_both h i k.pattern k.letter k.receive_live.posted (subst (λ x. ComeAt h x k.letter) f k.letter_live.came))
             ]
       ]
 
@@ -142,6 +142,6 @@ within_both h r s lr ls (suc m) =
 pub one_pairing : (h : List Event) (r s : Pairing) → LawfulPairing h r → LawfulPairing h s → (i b : ℕ) → Pairs r i b → Pairs s i b
 one_pairing h r s lr ls i b p =
     let k = lr.matched i b p in
-    let li : i < length h = slice_get_within h i _ k.receive_live.posted in
-    let lb : b < length h = slice_get_within h b _ k.letter_live.came in
+    let li = slice_get_within h i _ k.receive_live.posted in
+    let lb = slice_get_within h b _ k.letter_live.came in
     (within_both h r s lr ls (length h)).0 i b li lb p

@@ -6,7 +6,7 @@ use Rattle.ulfm_base.specs.declared.envelope.Letter.{Letter}
 use Rattle.ulfm_base.specs.Pattern.{names}
 use Rattle.ulfm_match.specs.History.{Event, History, Post, Come, End, Clear, PostAt, ComeAt, count_before}
 use Rattle.ulfm_match.specs.Pairing.{Pairing}
-use Rattle.ulfm_match.specs.State.{Matching, Tracks, IsUncleared}
+use Rattle.ulfm_match.specs.State.{Matching, Tracks}
 
 -- the receive that is posted now gets this letter, which came before
 pub record PostGets (history : History) (pairing : Pairing) (pattern : Pattern) (letter : Letter) (new : Matching) : Type 0 where
@@ -25,13 +25,13 @@ pub record ArrivalGoesTo (history : History) (pairing : Pairing) (letter : Lette
 -- a receive was posted, and the answer is the letter that it gets
 abbrev pub TracksPost : Pattern → Matching → Option Letter → Matching → Type 0
 TracksPost pattern old answer new =
-    (history : History) (pairing : Pairing) → IsUncleared history pattern.context.number → Tracks history pairing old →
+    (history : History) (pairing : Pairing) → Tracks history pairing old →
     MatchOption answer (Tracks (history ++ Post pattern ∷ []) pairing new) (λ letter. PostGets history pairing pattern letter new)
 
 -- a letter came, and the answer is the number of the receive that gets it
 abbrev pub TracksArrival : Letter → Matching → Option ℕ → Matching → Type 0
 TracksArrival letter old answer new =
-    (history : History) (pairing : Pairing) → IsUncleared history letter.envelope.context.number → Tracks history pairing old →
+    (history : History) (pairing : Pairing) → Tracks history pairing old →
     MatchOption answer (Tracks (history ++ Come letter ∷ []) pairing new) (λ id. ArrivalGoesTo history pairing letter id new)
 
 -- the receive of this number ended

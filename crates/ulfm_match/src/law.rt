@@ -5,11 +5,11 @@ ghost use Rattle.ulfm_base.specs.declared.pattern.Pattern.{Pattern};
 ghost use Rattle.ulfm_match.specs.Calls.{TracksPost, TracksArrival};
 ghost use Rattle.ulfm_match.specs.History.{History};
 ghost use Rattle.ulfm_match.specs.Pairing.{Pairing, Pairs, LawfulPairing, pairs_below};
-ghost use Rattle.ulfm_match.specs.State.{Matching, Tracks, IsUncleared};
+ghost use Rattle.ulfm_match.specs.State.{Matching, Tracks};
 
-/// The empty history has the empty pairing, of which nothing remains.
+/// The empty history has the empty pairing, of which nothing remains; no context was cleared.
 pub fn nothing_remains_at_first()
-    ensures { (prepared : Bool) → Tracks [] [] (record { waiting = []; kept = []; count = 0; prepared = prepared }) }
+    ensures { (prepared : Bool) → Tracks [] [] (record { waiting = []; kept = []; count = 0; cleared = []; prepared = prepared }) }
 {}
 
 /// A history has one lawful pairing at most, whatever ends and is cleared in it: two have the same pairs.
@@ -27,13 +27,13 @@ pub fn beginnings_are_lawful()
 /// What a post answers is determined: its contract allows no two answers of a state that tracks some history.
 pub fn one_answer_to_a_post()
     ensures { (history : History) (pairing : Pairing) (pattern : Pattern) (old new other : Matching) (answer another : Option Letter) →
-        IsUncleared history pattern.context.number → Tracks history pairing old →
+        Tracks history pairing old →
         TracksPost pattern old answer new → TracksPost pattern old another other → answer ≡ another }
 {}
 
 /// So is which receive an arriving letter goes to, if any.
 pub fn one_answer_to_an_arrival()
     ensures { (history : History) (pairing : Pairing) (letter : Letter) (old new other : Matching) (answer another : Option ℕ) →
-        IsUncleared history letter.envelope.context.number → Tracks history pairing old →
+        Tracks history pairing old →
         TracksArrival letter old answer new → TracksArrival letter old another other → answer ≡ another }
 {}

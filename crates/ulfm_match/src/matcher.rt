@@ -3,7 +3,7 @@ ghost use Rattle.std.specs.Prelude.{◌≡◌, ◌≢◌, ◌+◌, ◌<◌, ◌^
 ghost use Rattle.ulfm_base.specs.Pattern.{Admits, names};
 ghost use Rattle.ulfm_match.specs.Arrived.{answered, HandsOn};
 ghost use Rattle.ulfm_match.specs.Calls.{TracksPost, TracksArrival, TracksEnd, TracksClear, TracksNamed};
-ghost use Rattle.ulfm_match.specs.State.{Tracks, Keeps};
+ghost use Rattle.ulfm_match.specs.State.{is_cleared, Tracks, Keeps};
 
 use crate::arrived::Arrived;
 use crate::removal::{clear_kept, clear_waiting, end_waiting};
@@ -14,12 +14,14 @@ use std::marker::Model;
 use ulfm_base::{Context, Letter, OutOfMemory, Pattern, WorldRank};
 
 /// The receives of one rank that wait, and the letters that it keeps, each in order of their numbers. Contracts see
-/// both lists, how many posts and arrivals there were, and whether there is room for one more of each.
+/// both lists, how many posts and arrivals there were, which contexts were cleared, and whether there is room for one
+/// more post and one more arrival.
 #[derive(Drop)]
 pub struct Matcher {
     waiting: Vec<(u64, Pattern)>,
     kept: Vec<(u64, Letter)>,
     count: u64,
+    cleared: [bool; 63],
 }
 
 impl Model for Matcher {
@@ -32,12 +34,13 @@ impl Model for Matcher {
       waiting = m.waiting.items;
       kept = m.kept.items;
       count = m.count;
+      cleared = m.cleared;
       prepared = nat_lt (vec_len m.waiting) (vec_capacity m.waiting) && nat_lt (vec_len m.kept) (vec_capacity m.kept);
     } };
 }
 
 impl Matcher {
-    /// A matcher before anything happened: nothing waits, nothing is kept. It takes no memory.
+    /// A matcher before anything happened: nothing waits, nothing is kept. It never answers out of memory.
     pub fn new(alloc: Global) -> Self
         ensures { Tracks [] [] result }
     {
@@ -45,6 +48,7 @@ impl Matcher {
             waiting: Vec::new(alloc),
             kept: Vec::new(alloc),
             count: 0,
+            cleared: [false; 63],
         }
     }
 
@@ -60,6 +64,7 @@ impl Matcher {
         ensures waiting { self.new.waiting ≡ self.old.waiting }
         ensures kept { self.new.kept ≡ self.old.kept }
         ensures count { self.new.count ≡ self.old.count }
+        ensures cleared { self.new.cleared ≡ self.old.cleared }
         ensures stays_prepared { IsTrue self.old.prepared → IsTrue self.new.prepared }
     {
         self.waiting.reserve(1)?;
@@ -81,15 +86,24 @@ impl Matcher {
         self.count
     }
 
+    /// Whether `clear` was called with this context. Then nothing more of it may be posted or come.
+    pub fn is_cleared(&self, context: Context) -> bool
+        ensures { result ≡ is_cleared self.now context.number }
+    {
+        self.cleared[context.number as usize]
+    }
+
     /// Posts a receive (MPI 4.0, 3.7.2). It gets the earliest kept letter that it admits; where there is none it waits.
     /// Answers its number, and the letter. The room that `prepare` made is used up.
     ///
-    /// Of a context that was cleared before nothing is posted or comes: the answer then is open.
+    /// It is the caller's fault to post a receive of a context that was cleared; `is_cleared` says which those are.
     pub fn post(&mut self, pattern: Pattern) -> (RequestId, Option<Letter>)
         requires prepared { IsTrue self.old.prepared }
         requires countable { self.old.count + 1 < 2 ^ 64 }
+        requires open { is_cleared self.old pattern.context.number ≡ false }
         ensures number { result.0.number ≡ self.old.count }
         ensures count { self.new.count ≡ self.old.count + 1 }
+        ensures cleared { self.new.cleared ≡ self.old.cleared }
         ensures tracks { TracksPost pattern self.old result.1 self.new }
     {
         let number = self.count;
@@ -109,12 +123,14 @@ impl Matcher {
     /// Takes a letter that came. The earliest waiting receive that admits it gets it; where there is none it is kept.
     /// The room that `prepare` made is used up.
     ///
-    /// Of a context that was cleared before nothing is posted or comes: the answer then is open.
+    /// It is the caller's fault to hand on a letter of a context that was cleared; `is_cleared` says which those are.
     pub fn arrive(&mut self, letter: Letter) -> Arrived
         requires prepared { IsTrue self.old.prepared }
         requires countable { self.old.count + 1 < 2 ^ 64 }
+        requires open { is_cleared self.old letter.envelope.context.number ≡ false }
         ensures letter { HandsOn result letter }
         ensures count { self.new.count ≡ self.old.count + 1 }
+        ensures cleared { self.new.cleared ≡ self.old.cleared }
         ensures tracks { TracksArrival letter self.old (answered result) self.new }
     {
         let number = self.count;
@@ -137,6 +153,7 @@ impl Matcher {
         ensures idle { result ≡ false → self.new ≡ self.old }
         ensures kept { self.new.kept ≡ self.old.kept }
         ensures count { self.new.count ≡ self.old.count }
+        ensures cleared { self.new.cleared ≡ self.old.cleared }
         ensures prepared { IsTrue self.old.prepared → IsTrue self.new.prepared }
         ensures tracks { TracksEnd id.number self.old self.new }
     {
@@ -149,16 +166,20 @@ impl Matcher {
         }
     }
 
-    /// Ends all waiting receives and drops all kept letters of a context, as a revocation does.
+    /// Ends all waiting receives and drops all kept letters of a context, as a revocation does. From now on nothing of
+    /// it may be posted or come.
     pub fn clear(&mut self, context: Context)
         ensures others_wait { Keeps (λ (y : ℕ × Pattern). y.1.context.number ≢ context.number) self.old.waiting self.new.waiting }
         ensures others_are_kept { Keeps (λ (y : ℕ × Letter). y.1.envelope.context.number ≢ context.number) self.old.kept self.new.kept }
         ensures count { self.new.count ≡ self.old.count }
+        ensures cleared { IsTrue (is_cleared self.new context.number) }
+        ensures others_stay { (c : ℕ) → c ≢ context.number → is_cleared self.new c ≡ is_cleared self.old c }
         ensures prepared { IsTrue self.old.prepared → IsTrue self.new.prepared }
         ensures tracks { TracksClear context.number self.old self.new }
     {
         clear_waiting(&mut self.waiting, context);
         clear_kept(&mut self.kept, context);
+        self.cleared[context.number as usize] = true;
     }
 
     /// Ends all waiting receives that name a rank as their source, as its failure does. Those that leave the source
@@ -167,6 +188,7 @@ impl Matcher {
         ensures others_wait { Keeps (λ (y : ℕ × Pattern). names y.1.source rank.number ≡ false) self.old.waiting self.new.waiting }
         ensures kept { self.new.kept ≡ self.old.kept }
         ensures count { self.new.count ≡ self.old.count }
+        ensures cleared { self.new.cleared ≡ self.old.cleared }
         ensures prepared { IsTrue self.old.prepared → IsTrue self.new.prepared }
         ensures tracks { TracksNamed rank.number self.old self.new }
     {

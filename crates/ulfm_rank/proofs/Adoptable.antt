@@ -22,7 +22,7 @@ adoptable r c d foreign passes adopted entered known =
     passes_two (is_stopped r.log) (lacks r c) Stopped NoComm one _ passes
     (goes_on (has_adopted r.log c) AlreadyMade two _ adopted
     (goes_on (not (has_entered r.log c)) NotEntered three _ (ap not entered)
-    (ap (λ (b : Bool). cond b (Some NotMember) None) known)))
+    (ap (λ b. cond b (Some NotMember) None) known)))
 
 found-append : (c : ℕ) (xs ys : List (ℕ × List ℕ)) → is_some (find_group c (xs ++ ys)) ≡ (is_some (find_group c xs) || is_some (find_group c ys))
 found-append c [] ys = refl
@@ -41,7 +41,7 @@ none_copied c k (comm ∷ comms) = pick (comm.0 == k) (none_copied c k comms)
     odd = ne_eqb (dup_of k) (shrink_of c) (λ e. omega (arith, e))
 
     pick : (b : Bool) → is_some (find_group (shrink_of c) (copy_of k (dup_of k) comms)) ≡ false → is_some (find_group (shrink_of c) (cond b ((dup_of k, comm.1) ∷ []) (copy_of k (dup_of k) comms))) ≡ false
-    pick true rest = ap (λ (b : Bool). is_some (cond b (Some comm.1) None)) odd
+    pick true rest = ap (λ b. is_some (cond b (Some comm.1) None)) odd
     pick false rest = rest
 
 same_shrink : (a b : ℕ) → (shrink_of a == shrink_of b) ≡ (a == b)
@@ -64,15 +64,15 @@ made_shrunk c before comms e = refl
 -- the communicator of a shrink was made exactly where its decision was adopted
 pub made_adopted : (n : ℕ) (log : List Entry) (c : ℕ) → is_some (group_of n log (shrink_of c)) ≡ has_adopted log c
 made_adopted n log c = gathered_all made_by (λ l found. is_some (find_group (shrink_of c) found) ≡ has_adopted l c)
-    (λ l found e h. found-append (shrink_of c) found (made_by l found e) ∙ ap (λ (b : Bool). b || is_some (find_group (shrink_of c) (made_by l found e))) h ∙ ap (λ (b : Bool). has_adopted l c || b) (made_shrunk c l found e) ∙ sym (any-push (adopts c) l e))
-    ((0, numbers_from 0 n) ∷ []) (ap (λ (b : Bool). is_some (cond b (Some (numbers_from 0 n)) None)) (ne_eqb 0 (shrink_of c) (λ e. omega (arith, e)))) log
+    (λ l found e h. found-append (shrink_of c) found (made_by l found e) ∙ ap (λ b. b || is_some (find_group (shrink_of c) (made_by l found e))) h ∙ ap (λ b. has_adopted l c || b) (made_shrunk c l found e) ∙ sym (any-push (adopts c) l e))
+    ((0, numbers_from 0 n) ∷ []) (ap (λ b. is_some (cond b (Some (numbers_from 0 n)) None)) (ne_eqb 0 (shrink_of c) (λ e. omega (arith, e)))) log
 
 -- the new group of a decision has the members that it keeps of the old one
-pub communicators-adopted : (n : ℕ) (log : List Entry) (d : Decision) (comms : List (ℕ × List ℕ)) → HasCommunicators n log comms → find_group d.context.number comms ≡ Some d.old → HasCommunicators n (log ++ Adopted d ∷ []) (comms ++ (shrink_of d.context.number, d.fresh) ∷ [])
-communicators-adopted n log d comms h found =
-    let P : List ℕ → Type 0 = λ (g : List ℕ). All (λ r. r < n) g in
+pub communicators-adopted : {n : ℕ} {log : List Entry} (d : Decision) {comms : List (ℕ × List ℕ)} → HasCommunicators n log comms → find_group d.context.number comms ≡ Some d.old → HasCommunicators n (log ++ Adopted d ∷ []) (comms ++ (shrink_of d.context.number, d.fresh) ∷ [])
+communicators-adopted {n} {log} d {comms} h found =
+    let P = λ (g : List ℕ). All (λ r. r < n) g in
     let fresh : P d.fresh = subst P (sym d.lawful.survivors) (All-filter (λ m. not (has d.excluded m)) (λ r. r < n) d.old (found_of_world n d.context.number comms d.old h.of_world found)) in
     record {
-      made = ap (λ (xs : List (ℕ × List ℕ)). xs ++ (shrink_of d.context.number, d.fresh) ∷ []) h.made ∙ sym (comms-push n log (Adopted d));
+      made = ap (λ xs. xs ++ (shrink_of d.context.number, d.fresh) ∷ []) h.made ∙ sym (comms-push n log (Adopted d));
       of_world = All-append (λ (comm : ℕ × List ℕ). P comm.1) comms ((shrink_of d.context.number, d.fresh) ∷ []) h.of_world (All-one (λ (comm : ℕ × List ℕ). P comm.1) (shrink_of d.context.number, d.fresh) fresh);
     }

@@ -3,7 +3,6 @@ use Rattle.std.proofs.Common.{◌≡◌, ℕ, Bool, true, false, cond, List, ref
 use Rattle.ulfm_rank.proofs.Common.{Pattern, Letter, WorldRank, PostAt, Entry, TestAnswer, Fate, Waiting, Paired, Failed, Cleared, Request, group_of, history_of}
 use Rattle.ulfm_base.specs.declared.pattern.Source.{Source}
 use Rattle.ulfm_base.specs.declared.pattern.Source.TheVariants.{One, Any}
-use Rattle.ulfm_base.specs.declared.error.CallError.{CallError}
 use Rattle.ulfm_base.specs.Pattern.{AdmitsSource}
 use Rattle.ulfm_base.specs.Group.{is_member}
 use Rattle.ulfm_match.specs.Pairing.{Pairing, Pairs, LawfulPairing}
@@ -24,20 +23,20 @@ member_of group (Any m) r l e = l r.number e
 same_group : (a b : List ℕ) → Some a ≡ Some b → a ≡ b
 same_group a b e = cc
 
-module _ (n : ℕ) (log : List Entry) (m : Matching) (find : ℕ → Option Request) (t : IsInStep n log m find) where
+module _ {n : ℕ} {log : List Entry} {m : Matching} {find : ℕ → Option Request} (t : IsInStep n log m find) where
   -- a letter that a receive got is of a member
   got_member : (i : ℕ) (p : Pattern) (l : Letter) (group : List ℕ) → IsSourceIn group p.source → PostAt (history_of log) i p → Got (history_of log) t.pairing i l → is_member group l.envelope.source.number ≡ true
   got_member i p l group source posted got =
       let k = t.tracks.lawful.matched i got.place got.pairs in
-      let ep : k.pattern ≡ p = same_pattern (history_of log) i k.pattern p k.receive_live.posted posted in
-      let el : k.letter ≡ l = same_letter (history_of log) got.place k.letter l k.letter_live.came got.came in
+      let ep = same_pattern (history_of log) i k.pattern p k.receive_live.posted posted in
+      let el = same_letter (history_of log) got.place k.letter l k.letter_live.came got.came in
       member_of group p.source l.envelope.source source (subst (λ (w : Letter). AdmitsSource p.source w.envelope.source) el (subst (λ (q : Pattern). AdmitsSource q.source k.letter.envelope.source) ep k.admits.source))
 
   pub has_sender : (id : ℕ) (q : Request) → find id ≡ Some q → (group : List ℕ) → group_of n log q.pattern.context.number ≡ Some group → HasSender group q.fate
   has_sender id q f group made =
       let s = t.table.standing id q f in
       let o = t.table.of_group id q f in
-      sender q.fate s.place q.pattern (subst (λ (g : List ℕ). IsSourceIn g q.pattern.source) (same_group o.group group (sym o.made ∙ made)) o.source) s.posted s.fate
+      sender q.fate s.place q.pattern (subst (λ g. IsSourceIn g q.pattern.source) (same_group o.group group (sym o.made ∙ made)) o.source) s.posted s.fate
     where
       sender : (o : Fate) (i : ℕ) (p : Pattern) → IsSourceIn group p.source → PostAt (history_of log) i p → Became (history_of log) t.pairing i p o → HasSender group o
       sender Waiting i p source posted b = tt
@@ -59,14 +58,14 @@ module _ (n : ℕ) (log : List Entry) (m : Matching) (find : ℕ → Option Requ
     delivered l g (Done status body) d = record {
       letter = l;
       got = got l g;
-      received = subst (λ (ms : List ℕ). IsReceived ms p.room l status body) (sym (members_found n log p.context.number group made)) d;
+      received = subst (λ ms. IsReceived ms p.room l status body) (sym (members_found n log p.context.number group made)) d;
     }
-    delivered l g (Over reason) d = subst (λ (e : CallError). IsAnswerBy n log r i p (Over e)) (sym d.0) (l, got l g, d.1)
+    delivered l g (Over reason) d = subst (λ e. IsAnswerBy n log r i p (Over e)) (sym d.0) (l, got l g, d.1)
     delivered l g Pending d = absurd d
     delivered l g NotYet d = absurd d
 
     answers : (o : Fate) → Became (history_of log) t.pairing i p o → (a : TestAnswer) → GivesAnswer group (pends n log p) p o a → IsAnswerBy n log r i p a
-    answers Waiting w a gives = subst (λ (a : TestAnswer). IsAnswerBy n log r i p a) (sym gives) (pick (pends n log p) refl)
+    answers Waiting w a gives = subst (IsAnswerBy n log r i p) (sym gives) (pick (pends n log p) refl)
       where
         free : IsUnpaired r i
         free = unpaired (λ b q. w.unpaired b (letter_within (history_of log) t.pairing t.tracks.lawful i b q) q)
@@ -78,17 +77,17 @@ module _ (n : ℕ) (log : List Entry) (m : Matching) (find : ℕ → Option Requ
         pick true e = record { unpaired = free; still_open = opened; pends = e }
         pick false e = record { unpaired = free; still_open = opened; pends = e }
     answers (Paired l) g a gives = delivered l g a gives
-    answers Failed b a gives = subst (λ (a : TestAnswer). IsAnswerBy n log r i p a) (sym gives) (unpaired b.0, b.1)
-    answers Cleared b a gives = subst (λ (a : TestAnswer). IsAnswerBy n log r i p a) (sym gives) (unpaired b.0, b.1)
+    answers Failed b a gives = subst (IsAnswerBy n log r i p) (sym gives) (unpaired b.0, b.1)
+    answers Cleared b a gives = subst (IsAnswerBy n log r i p) (sym gives) (unpaired b.0, b.1)
 
   -- the answer for a request in the table is that of every lawful pairing
   pub tested : (id : ℕ) (q : Request) → find id ≡ Some q → (group : List ℕ) → group_of n log q.pattern.context.number ≡ Some group → (a : TestAnswer) → GivesAnswer group (pends n log q.pattern) q.pattern q.fate a → IsTestAnswer n log id a
   tested id q f group made a gives i p is r law =
       let s = t.table.standing id q f in
-      let e : s.place ≡ i = same_place (history_of log) t.pairing id q s i p is.posted is.numbered in
-      let ep : q.pattern ≡ p = same_pattern (history_of log) i q.pattern p (subst (λ (k : ℕ). PostAt (history_of log) k q.pattern) e s.posted) is.posted in
-      let b : Became (history_of log) t.pairing i q.pattern q.fate = subst (λ (k : ℕ). Became (history_of log) t.pairing k q.pattern q.fate) e s.fate in
-      subst (λ (w : Pattern). IsAnswerBy n log r i w a) ep (answers i q.pattern r law group made q.fate b a gives)
+      let e = same_place (history_of log) t.pairing id q s i p is.posted is.numbered in
+      let ep = same_pattern (history_of log) i q.pattern p (subst (λ k. PostAt (history_of log) k q.pattern) e s.posted) is.posted in
+      let b : Became (history_of log) t.pairing i q.pattern q.fate = subst (λ k. Became (history_of log) t.pairing k q.pattern q.fate) e s.fate in
+      subst (λ w. IsAnswerBy n log r i w a) ep (answers i q.pattern r law group made q.fate b a gives)
 
   pub is_request : (id : ℕ) (q : Request) → find id ≡ Some q → (i : ℕ) × (p : Pattern) × IsRequest log id i p
   is_request id q f =

@@ -64,8 +64,8 @@ adopted_belongs n me c log d h made own =
     record {
       member = own.member;
       below = λ x inside.
-          let stays = excluding_from d.old (has d.excluded) x (ap (λ (g : List ℕ). is_member g x) (sym d.lawful.survivors) ∙ inside) in
-          (h c found.0 found.1).below x (ap (λ (g : List ℕ). is_member g x) (sym (own.old_group ∙ members_found n log c found.0 found.1)) ∙ stays.0);
+          let stays = excluding_from d.old (has d.excluded) x (ap (λ g. is_member g x) (sym d.lawful.survivors) ∙ inside) in
+          (h c found.0 found.1).below x (ap (λ g. is_member g x) (sym (own.old_group ∙ members_found n log c found.0 found.1)) ∙ stays.0);
     }
 
 pub belongs : (n me : ℕ) (log : List Entry) (e : Entry) → BelongsToAll n me log → Fits n me log e → BelongsToAll n me (log ++ e ∷ [])
@@ -74,7 +74,7 @@ belongs n me log e h fits c g made = elim (group_cases n log e c g made) [
   | inr (inl d) ↦ h d.parent.number g d.group
   | inr (inr a) ↦
       let ok = rw a.entry at fits in
-      let i : ℕ = a.decision.context.number in
+      let i = a.decision.context.number in
       rw a.group at (adopted_belongs n me i log a.decision h ok.0 (own_from me (members_of n log i) log i a.decision ok.2))
 ]
 
@@ -87,11 +87,11 @@ enters_once n me log e h fits k context known stands = elim (get_cases log e k (
   | inl was ↦
       let old = h k context known was in
       let inside = slice_get_within log k (Entered context known) was in
-      (own_stays log e context.number known old.0, λ r. old.1 r ∙ ap (λ (b : List Entry). is_gone b r) (sym (take-append-le k log (e ∷ []) (omega (arith, inside)))))
+      (own_stays log e context.number known old.0, λ r. old.1 r ∙ ap (λ b. is_gone b r) (sym (take-append-le k log (e ∷ []) (omega (arith, inside)))))
   | inr now ↦
       let ok = rw now.1 at fits in (
         own_first log e context.number known ok.1 (ap (entry_of context.number) now.1 ∙ entry_here context known context.number refl),
-        λ r. ok.2 r ∙ ap (λ (b : List Entry). is_gone b r) (sym (ap (λ i. take i (log ++ e ∷ [])) now.0 ∙ take-append-le (length log) log (e ∷ []) (omega arith) ∙ take_all (length log) log (omega arith))),
+        λ r. ok.2 r ∙ ap (λ b. is_gone b r) (sym (ap (λ i. take i (log ++ e ∷ [])) now.0 ∙ take-append-le (length log) log (e ∷ []) (omega arith) ∙ take_all (length log) log (omega arith))),
       )
 ]
 

@@ -1,5 +1,5 @@
 -- What a log tells of entries into shrinks, and what a longer one tells.
-use Rattle.std.proofs.Common.{◌≡◌, ℕ, Bool, true, false, cond, eqb, List, [], ◌∷◌, ◌++◌, refl, ap, sym, ◌∙◌, inl, inr, ◌⊎◌, Option, Some, None}
+use Rattle.std.proofs.Common.{◌≡◌, ℕ, true, false, cond, eqb, List, [], ◌∷◌, ◌++◌, refl, ap, sym, ◌∙◌, inl, inr, ◌⊎◌, Option, Some, None}
 use Rattle.std.specs.Prelude.{⊤, is_some}
 use Rattle.std.proofs.lemmas.Bool.{false≢true, eq-eqb, eqb-true, or_cases, or_left, or_parts}
 use Rattle.std.proofs.lemmas.Option.{none-some, cond_some}
@@ -27,7 +27,7 @@ entry_parts c (Entered context known) set h =
 entry_parts c _ set h = absurd (none-some set h)
 
 pub entry_here : (context : Context) (known : RankSet) (c : ℕ) → context.number ≡ c → entry_of c (Entered context known) ≡ Some known
-entry_here context known c same = ap (λ (b : Bool). cond b (Some known) None) (eq-eqb context.number c same)
+entry_here context known c same = ap (λ b. cond b (Some known) None) (eq-eqb context.number c same)
 
 -- the set of the first entry into the shrink of c
 abbrev pub own_set : List Entry → ℕ → Option RankSet

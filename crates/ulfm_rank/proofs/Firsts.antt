@@ -18,10 +18,10 @@ or_else_cases None b x h = inr (refl, h)
 or_else_cases (Some y) b x h = inl h
 
 pub or_else_first : {X : Type 0} (a b : Option X) (x : X) → a ≡ Some x → or_else a b ≡ Some x
-or_else_first a b x h = ap (λ (o : Option _). or_else o b) h
+or_else_first a b x h = ap (λ o. or_else o b) h
 
 pub or_else_second : {X : Type 0} (a b : Option X) → a ≡ None → or_else a b ≡ b
-or_else_second a b h = ap (λ (o : Option _). or_else o b) h
+or_else_second a b h = ap (λ o. or_else o b) h
 
 pub some_from : {X : Type 0} (o : Option X) → is_some o ≡ true → (x : X) × (o ≡ Some x)
 some_from None h = absurd (false≢true h)
@@ -56,6 +56,6 @@ heard_took c s _ = refl
 pub heard-took : (log : List Entry) (c s : ℕ) → first_given (heard_of c s) log ≡ first_set c (took log s)
 heard-took [] c s = refl
 heard-took (e ∷ log) c s =
-    ap (λ (o : Option RankSet). or_else o (first_given (heard_of c s) log)) (heard_took c s e)
+    ap (λ o. or_else o (first_given (heard_of c s) log)) (heard_took c s e)
     ∙ ap (or_else (first_set c (took_by s e))) (heard-took log c s)
     ∙ sym (set-append c (took_by s e) (took log s))

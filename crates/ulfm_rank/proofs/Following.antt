@@ -1,7 +1,7 @@
 -- The parts of a rank follow its log through one more entry.
 use Rattle.std.proofs.Common.{◌≡◌, ℕ, Bool, true, false, cond, eqb, List, [], ◌∷◌, ◌++◌, length, refl, ap, sym, ◌∙◌, Option, Some, append-nil, ◌||◌}
 use Rattle.std.proofs.Math.Bool.{or-false}
-use Rattle.ulfm_rank.proofs.Common.{Context, Letter, WorldRank, RankSet, Decision, dup_of, shrink_of, Entry, Sent, Acknowledged, Revoked, Duplicated, Entered, Adopted, Stopped, Request, find_group, is_stop, is_stopped, is_revoked, HasFaults, Follows, Box, for_each, AllGrow}
+use Rattle.ulfm_rank.proofs.Common.{Context, Letter, WorldRank, RankSet, Decision, dup_of, shrink_of, Entry, Sent, Acknowledged, Revoked, Duplicated, Entered, Adopted, Stopped, Request, find_group, is_stop, is_stopped, is_revoked, Follows, Box, for_each, AllGrow}
 use Rattle.ulfm_base.specs.declared.item.Item.TheVariants.{Letter as Mail}
 use Rattle.ulfm_fault.specs.Facts.{FaultState, acknowledged_in, is_revoked_in}
 use Rattle.ulfm_match.specs.State.{Matching}
@@ -18,19 +18,19 @@ or_true : (b : Bool) → b || true ≡ true
 or_true true = refl
 or_true false = refl
 
-module _ (n me : ℕ) (log : List Entry) (stopped : Bool) (m : Matching) (find : ℕ → Option Request) (facts : FaultState) (comms : List (ℕ × List ℕ)) (boxes : List Box) (f : Follows n me log stopped m find facts comms boxes) where
-  runs_on : (x : Entry) → is_stop x ≡ false → stopped ≡ is_stopped (log ++ x ∷ [])
+module _ {n me : ℕ} {log : List Entry} {stopped : Bool} {m : Matching} {find : ℕ → Option Request} {facts : FaultState} {comms : List (ℕ × List ℕ)} {boxes : List Box} (f : Follows n me log stopped m find facts comms boxes) where
+  pub runs_on : (x : Entry) → is_stop x ≡ false → stopped ≡ is_stopped (log ++ x ∷ [])
   runs_on x h = f.halted ∙ sym (any-push is_stop log x ∙ (ap (λ b. is_stopped log || b) h ∙ or-false (is_stopped log)))
 
   -- a letter was accepted
-  pub follows_sent : (to : WorldRank) (letter : Letter) (boxes' : List Box) → AllGrow boxes boxes' (length log) (for_each (λ d. eqb to.number d) (Mail letter)) → Follows n me (log ++ Sent to letter ∷ []) stopped m find facts comms boxes'
+  pub follows_sent : (to : WorldRank) (letter : Letter) (boxes' : List Box) → AllGrow boxes boxes' (length log) (for_each (eqb to.number) (Mail letter)) → Follows n me (log ++ Sent to letter ∷ []) stopped m find facts comms boxes'
   follows_sent to letter boxes' grows = record {
     small = f.small;
     halted = runs_on (Sent to letter) refl;
-    in_step = in_step_quiet n log m find f.in_step (Sent to letter) refl (λ k. refl);
-    faults = faults_quiet log facts (Sent to letter) f.faults (λ b k. refl) (λ c k. refl) (λ c. refl);
-    communicators = communicators-quiet n log (Sent to letter) comms f.communicators (λ b k. refl);
-    outboxes = outboxes-grown n me log (Sent to letter) boxes boxes' f.outboxes grows;
+    in_step = in_step_quiet f.in_step (Sent to letter) refl (λ k. refl);
+    faults = faults_quiet (Sent to letter) f.faults (λ b k. refl) (λ c k. refl) (λ c. refl);
+    communicators = communicators-quiet (Sent to letter) f.communicators (λ b k. refl);
+    outboxes = outboxes-grown (Sent to letter) f.outboxes grows;
   }
 
   -- the shrink of a communicator was entered
@@ -38,10 +38,10 @@ module _ (n me : ℕ) (log : List Entry) (stopped : Bool) (m : Matching) (find :
   follows_entered context known boxes' grows = record {
     small = f.small;
     halted = runs_on (Entered context known) refl;
-    in_step = in_step_quiet n log m find f.in_step (Entered context known) refl (λ k. refl);
-    faults = faults_quiet log facts (Entered context known) f.faults (λ b k. refl) (λ c k. refl) (λ c. refl);
-    communicators = communicators-quiet n log (Entered context known) comms f.communicators (λ b k. refl);
-    outboxes = outboxes-grown n me log (Entered context known) boxes boxes' f.outboxes grows;
+    in_step = in_step_quiet f.in_step (Entered context known) refl (λ k. refl);
+    faults = faults_quiet (Entered context known) f.faults (λ b k. refl) (λ c k. refl) (λ c. refl);
+    communicators = communicators-quiet (Entered context known) f.communicators (λ b k. refl);
+    outboxes = outboxes-grown (Entered context known) f.outboxes grows;
   }
 
   -- a communicator was duplicated
@@ -49,10 +49,10 @@ module _ (n me : ℕ) (log : List Entry) (stopped : Bool) (m : Matching) (find :
   follows_duplicated context group found = record {
     small = f.small;
     halted = runs_on (Duplicated context) refl;
-    in_step = in_step_quiet n log m find f.in_step (Duplicated context) refl (λ k. refl);
-    faults = faults_quiet log facts (Duplicated context) f.faults (λ b k. refl) (λ c k. refl) (λ c. refl);
-    communicators = communicators-duplicated n log context comms group f.communicators found;
-    outboxes = outboxes-quiet n me log (Duplicated context) boxes f.outboxes (λ d. refl);
+    in_step = in_step_quiet f.in_step (Duplicated context) refl (λ k. refl);
+    faults = faults_quiet (Duplicated context) f.faults (λ b k. refl) (λ c k. refl) (λ c. refl);
+    communicators = communicators-duplicated context group f.communicators found;
+    outboxes = outboxes-quiet (Duplicated context) f.outboxes (λ d. refl);
   }
 
   -- a decision was adopted
@@ -60,10 +60,10 @@ module _ (n me : ℕ) (log : List Entry) (stopped : Bool) (m : Matching) (find :
   follows_adopted d found = record {
     small = f.small;
     halted = runs_on (Adopted d) refl;
-    in_step = in_step_quiet n log m find f.in_step (Adopted d) refl (λ k. refl);
-    faults = faults_quiet log facts (Adopted d) f.faults (λ b k. refl) (λ c k. refl) (λ c. refl);
-    communicators = communicators-adopted n log d comms f.communicators found;
-    outboxes = outboxes-quiet n me log (Adopted d) boxes f.outboxes (λ d. refl);
+    in_step = in_step_quiet f.in_step (Adopted d) refl (λ k. refl);
+    faults = faults_quiet (Adopted d) f.faults (λ b k. refl) (λ c k. refl) (λ c. refl);
+    communicators = communicators-adopted d f.communicators found;
+    outboxes = outboxes-quiet (Adopted d) f.outboxes (λ d. refl);
   }
 
   -- failures were acknowledged
@@ -71,16 +71,16 @@ module _ (n me : ℕ) (log : List Entry) (stopped : Bool) (m : Matching) (find :
   follows_acknowledged context total facts' a k r = record {
     small = f.small;
     halted = runs_on (Acknowledged context total) refl;
-    in_step = in_step_quiet n log m find f.in_step (Acknowledged context total) refl (λ k. refl);
+    in_step = in_step_quiet f.in_step (Acknowledged context total) refl (λ k. refl);
     faults =
-        let quiet : HasFaults log facts = f.faults in
+        let quiet = f.faults in
         record {
           knows = k ∙ (quiet.knows ∙ sym (known-push log (Acknowledged context total) ∙ append-nil _));
-          acknowledges = λ c. a c ∙ (ap (λ t. cond (eqb context.number c) total t) (quiet.acknowledges c) ∙ sym (acknowledged-push c log (Acknowledged context total)));
-          marks = λ c. ap (λ (xs : List Bool). is_revoked_in (record facts { revoked = xs }) c) r ∙ (quiet.marks c ∙ sym (any-push _ log (Acknowledged context total) ∙ or-false (is_revoked log c)));
+          acknowledges = λ c. a c ∙ (ap (cond (eqb context.number c) total) (quiet.acknowledges c) ∙ sym (acknowledged-push c log (Acknowledged context total)));
+          marks = λ c. ap (λ xs. is_revoked_in (record facts { revoked = xs }) c) r ∙ (quiet.marks c ∙ sym (any-push _ log (Acknowledged context total) ∙ or-false (is_revoked log c)));
         };
-    communicators = communicators-quiet n log (Acknowledged context total) comms f.communicators (λ b k. refl);
-    outboxes = outboxes-quiet n me log (Acknowledged context total) boxes f.outboxes (λ d. refl);
+    communicators = communicators-quiet (Acknowledged context total) f.communicators (λ b k. refl);
+    outboxes = outboxes-quiet (Acknowledged context total) f.outboxes (λ d. refl);
   }
 
   -- a context was revoked for the first time by the rank itself
@@ -90,10 +90,10 @@ module _ (n me : ℕ) (log : List Entry) (stopped : Bool) (m : Matching) (find :
   follows_revoked context m' find' facts' boxes' first tracks marks k a grows = record {
     small = f.small;
     halted = runs_on (Revoked context) refl;
-    in_step = in_step_revoked n log m find f.in_step context first m' find' tracks;
-    faults = faults_revoked log facts facts' (Revoked context) context.number f.faults (λ b k. refl) (λ c k. refl) (λ c. refl) marks k a;
-    communicators = communicators-quiet n log (Revoked context) comms f.communicators (λ b k. refl);
-    outboxes = outboxes-grown n me log (Revoked context) boxes boxes' f.outboxes grows;
+    in_step = in_step_revoked f.in_step context first m' find' tracks;
+    faults = faults_revoked facts' (Revoked context) context.number f.faults (λ b k. refl) (λ c k. refl) (λ c. refl) marks k a;
+    communicators = communicators-quiet (Revoked context) f.communicators (λ b k. refl);
+    outboxes = outboxes-grown (Revoked context) f.outboxes grows;
   }
 
   -- the rank stopped
@@ -101,8 +101,8 @@ module _ (n me : ℕ) (log : List Entry) (stopped : Bool) (m : Matching) (find :
   follows_stopped = record {
     small = f.small;
     halted = sym (any-push is_stop log Stopped ∙ or_true (is_stopped log));
-    in_step = in_step_quiet n log m find f.in_step Stopped refl (λ k. refl);
-    faults = faults_quiet log facts Stopped f.faults (λ b k. refl) (λ c k. refl) (λ c. refl);
-    communicators = communicators-quiet n log Stopped comms f.communicators (λ b k. refl);
-    outboxes = outboxes-quiet n me log Stopped boxes f.outboxes (λ d. refl);
+    in_step = in_step_quiet f.in_step Stopped refl (λ k. refl);
+    faults = faults_quiet Stopped f.faults (λ b k. refl) (λ c k. refl) (λ c. refl);
+    communicators = communicators-quiet Stopped f.communicators (λ b k. refl);
+    outboxes = outboxes-quiet Stopped f.outboxes (λ d. refl);
   }

@@ -1,20 +1,18 @@
 -- The history of a log that posts no receive on a revoked context can happen, and has a post for each that the log posted.
-use Rattle.std.proofs.Common.{◌≡◌, ℕ, zero, suc, ◌<◌, Bool, true, false, cond, List, [], ◌∷◌, ◌++◌, length, refl, ap, sym, ◌∙◌, subst, arith, append-nil, append_assoc, Some}
+use Rattle.std.proofs.Common.{◌≡◌, ◌≢◌, ℕ, zero, suc, ◌<◌, Bool, true, false, cond, List, [], ◌∷◌, ◌++◌, length, refl, ap, sym, ◌∙◌, subst, arith, append-nil, append_assoc, Some}
 use Rattle.std.specs.Prelude.{⊤, slice_get}
 use Rattle.std.proofs.lemmas.Option.{slice_get_within}
 use Rattle.ulfm_rank.proofs.Common.{Letter, Pattern, Entry, Posted, Revoked, Took, is_revoked}
 use Rattle.ulfm_base.specs.declared.item.Item.TheVariants.{Letter as Mail, Gone, Revoke}
-use Rattle.ulfm_base.specs.Pattern.{names}
 use Rattle.ulfm_match.specs.History.{Event, Post, Come, End, Clear, PostAt, IsWellFormed}
-use Rattle.ulfm_match.specs.State.{IsUncleared}
 use Rattle.ulfm_match.proofs.Decide.{Contains-head, Contains-tail}
 use Rattle.ulfm_match.proofs.Ends.{AreEnds}
 use Rattle.ulfm_match.proofs.Histories.{get_old, get_new, length_more}
-use Rattle.ulfm_match.proofs.Steps.{history_more}
-use Rattle.ulfm_rank.specs.History.{history_of, events_by, ends_from, ends_of, end_at, names_gone}
+use Rattle.ulfm_match.proofs.Steps.{history_more, posted_more, come_more}
+use Rattle.ulfm_rank.specs.History.{history_of, events_by, ends_of, names_gone}
 use Rattle.ulfm_rank.proofs.Gather.{history-push}
 use Rattle.ulfm_rank.proofs.Gone.{ends_named}
-use Rattle.ulfm_rank.proofs.Opens.{unrevoked_open}
+use Rattle.ulfm_rank.proofs.Opens.{each_event, unrevoked_open}
 
 abbrev pub PostsNone : Entry → Type 0
 PostsNone (Posted p) = ⊥
@@ -31,34 +29,9 @@ pub none-one : (e : Event) → ((p : Pattern) → e ≡ Post p → ⊥) → HasN
 none-one e other zero p h = other p (let f : e ≡ Post p = cc in f)
 none-one e other (suc k) p h = let bad : ⊥ = cc in bad
 
-none-append : (xs ys : List Event) → HasNoPost xs → HasNoPost ys → HasNoPost (xs ++ ys)
-none-append [] ys a b k p h = b k p h
-none-append (x ∷ xs) ys a b zero p h = a zero p h
-none-append (x ∷ xs) ys a b (suc k) p h = none-append xs ys (λ j q g. a (suc j) q g) b k p h
-
-none-cond : (b : Bool) (e : Event) → ((p : Pattern) → e ≡ Post p → ⊥) → HasNoPost (cond b [] (e ∷ []))
-none-cond true e other = none-nil
-none-cond false e other = none-one e other
-
-none-ends : (s k : ℕ) (h : List Event) → HasNoPost (ends_from s k h)
-none-ends s k [] = none-nil
-none-ends s k (e ∷ h) = none-append (end_at s k e) (ends_from s (suc k) h) (one e) (none-ends s (suc k) h)
-  where
-    pick : (b : Bool) → HasNoPost (cond b (End k ∷ []) [])
-    pick true = none-one (End k) (λ p e. cc)
-    pick false = none-nil
-
-    one : (e : Event) → HasNoPost (end_at s k e)
-    one (Post p) = pick (names p.source s)
-    one _ = none-nil
-
 pub none-events : (log : List Entry) (h : List Event) (e : Entry) → PostsNone e → HasNoPost (events_by log h e)
-none-events log h (Posted p) none = absurd none
-none-events log h (Revoked context) none = none-cond (is_revoked log context.number) (Clear context.number) (λ p e. cc)
-none-events log h (Took source (Mail letter)) none = none-cond (is_revoked log letter.envelope.context.number) (Come letter) (λ p e. cc)
-none-events log h (Took source Gone) none = none-ends source.number 0 h
-none-events log h (Took source (Revoke context)) none = none-cond (is_revoked log context.number) (Clear context.number) (λ p e. cc)
-none-events log h _ none = none-nil
+none-events log h e none k p g =
+    each_event (λ (x : Event). (q : Pattern) → x ≢ Post q) (λ i q f. cc) (λ l q f. cc) log h e (λ m f. absurd (subst (λ (x : Entry). PostsNone x) f none)) (λ c r q f. cc) k (Post p) g p refl
 
 formed-none : (h : List Event) → IsWellFormed h → IsWellFormed (h ++ [])
 formed-none h wf = subst (λ (g : List Event). IsWellFormed g) (sym (append-nil h)) wf
@@ -69,9 +42,7 @@ formed-clear h false c wf = history_more h (Clear c) wf (λ i e. cc) (λ p e. cc
 
 formed-come : (log : List Entry) (letter : Letter) (b : Bool) → is_revoked log letter.envelope.context.number ≡ b → IsWellFormed (history_of log) → IsWellFormed (history_of log ++ cond b [] (Come letter ∷ []))
 formed-come log letter true e wf = formed-none (history_of log) wf
-formed-come log letter false e wf =
-    history_more (history_of log) (Come letter) wf (λ i e. cc) (λ p e. cc)
-    (λ l f. subst (λ (w : Letter). IsUncleared (history_of log) w.envelope.context.number) (let g : letter ≡ l = cc in g) (unrevoked_open log letter.envelope.context.number e))
+formed-come log letter false e wf = come_more (history_of log) letter wf (unrevoked_open log letter.envelope.context.number e)
 
 formed-ends : (es h : List Event) → IsWellFormed h → AreEnds h es → IsWellFormed (h ++ es)
 formed-ends [] h wf ends = formed-none h wf
@@ -103,7 +74,7 @@ formed-posted log p wf fresh = subst (λ (g : List Event). IsWellFormed g) (sym 
     h = history_of log
 
     one : IsWellFormed (h ++ Post p ∷ [])
-    one = history_more h (Post p) wf (λ i e. cc) (λ q e. subst (λ (w : Pattern). IsUncleared h w.context.number) (let g : p ≡ q = cc in g) (unrevoked_open log p.context.number fresh)) (λ l e. cc)
+    one = posted_more h p wf (unrevoked_open log p.context.number fresh)
 
     two : IsWellFormed ((h ++ Post p ∷ []) ++ End (length h) ∷ [])
     two = history_more (h ++ Post p ∷ []) (End (length h)) one (λ j e. subst (λ (k : ℕ). (q : Pattern) × (k < length (h ++ Post p ∷ [])) × PostAt (h ++ Post p ∷ []) k q) (let same : length h ≡ j = cc in same) (p, let l = length_more h (Post p) in omega (arith, l), get_new h (Post p))) (λ q e. cc) (λ l e. cc)

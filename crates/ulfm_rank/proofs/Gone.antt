@@ -1,22 +1,20 @@
 -- The ends that a notice gives.
-use Rattle.std.proofs.Common.{◌≡◌, ◌≢◌, ℕ, zero, suc, ◌+◌, ◌<◌, ◌≤◌, ◌⊎◌, inl, inr, Bool, true, false, cond, List, [], ◌∷◌, ◌++◌, length, refl, ap, sym, ◌∙◌, subst, Option, Some, None, arith, length-append, slice_get, Contains, ◌&&◌}
-use Rattle.std.specs.Option.{option_map}
+use Rattle.std.proofs.Common.{◌≡◌, ◌≢◌, ℕ, zero, suc, ◌+◌, ◌≤◌, ◌⊎◌, inl, inr, Bool, true, false, cond, List, [], ◌∷◌, ◌++◌, length, refl, ap, sym, ◌∙◌, subst, Option, Some, arith, length-append, slice_get, Contains, ◌&&◌}
 use Rattle.std.proofs.lemmas.Option.{slice_get_within}
 use Rattle.std.proofs.lemmas.List.Elements.{Contains-append_left, Contains-append_right, Contains-append_cases}
-use Rattle.ulfm_rank.proofs.Common.{Pattern, Entry, Fate, Waiting, Paired, Failed, Cleared, Request, is_released}
+use Rattle.ulfm_rank.proofs.Common.{Pattern, Entry, Fate, Waiting, Paired, Failed, Cleared, Request}
 use Rattle.ulfm_base.specs.Pattern.{names}
-use Rattle.ulfm_match.specs.History.{Event, Post, Come, End, Clear, PostAt, StandsBetween, count_before}
+use Rattle.ulfm_match.specs.History.{Event, Post, Come, End, Clear, PostAt, StandsBetween}
 use Rattle.ulfm_match.specs.Pairing.{Pairing, IsWaiting, LawfulPairing}
 use Rattle.ulfm_match.proofs.Unique.{same_pattern}
 use Rattle.ulfm_match.proofs.Extend.{letter_within}
 use Rattle.ulfm_match.proofs.Cut.{get_front}
 use Rattle.ulfm_match.specs.Calls.{EndsNamed}
 use Rattle.ulfm_match.proofs.Decide.{Contains-none, Contains-head, Contains-tail, Contains-cons_cases}
-use Rattle.ulfm_rank.specs.Answer.{StandsFirst}
-use Rattle.ulfm_rank.specs.inside.Table.{IsOfGroup, Became, IsStanding, IsTable}
+use Rattle.ulfm_rank.specs.inside.Table.{Became, IsTable}
 use Rattle.ulfm_rank.specs.inside.Requests.{is_waiting, over_named, Changes}
 use Rattle.ulfm_rank.specs.History.{end_at, ends_from, ends_of}
-use Rattle.ulfm_match.proofs.Histories.{count_front, count_rises}
+use Rattle.ulfm_rank.proofs.Tables.{first_on, refated, table_change}
 
 -- an end of the receive at the place i of these events, the first of which stands at k
 abbrev IsNamedAt : ℕ → ℕ → List Event → Event → Type 0
@@ -27,7 +25,7 @@ here s k (Post p) x h c = pick (names p.source s) refl c
   where
     pick : (b : Bool) → names p.source s ≡ b → Contains (cond b (End k ∷ []) []) x → IsNamedAt s k (Post p ∷ h) x
     pick true e c = elim (Contains-cons_cases (End k) [] x c) [
-      | inl f ↦ (0, p, sym f ∙ ap (λ (m : ℕ). End m) (let g : k ≡ k + 0 = omega arith in g), refl, e)
+      | inl f ↦ (0, p, sym f ∙ ap End (let g : k ≡ k + 0 = omega arith in g), refl, e)
       | inr f ↦ absurd (Contains-none x f)
     ]
     pick false e c = absurd (Contains-none x c)
@@ -42,34 +40,34 @@ sound_from s k (e ∷ h) x c =
       | inl f ↦ here s k e x h f
       | inr f ↦
           let r = sound_from s (suc k) h x f in
-          (suc r.0, r.1, r.2 ∙ ap (λ (m : ℕ). End m) (let g : suc k + r.0 ≡ k + suc r.0 = omega arith in g), r.3, r.4)
+          (suc r.0, r.1, r.2 ∙ ap End (let g : suc k + r.0 ≡ k + suc r.0 = omega arith in g), r.3, r.4)
     ]
 
 complete_from : (s k : ℕ) (h : List Event) (i : ℕ) (p : Pattern) → PostAt h i p → names p.source s ≡ true → Contains (ends_from s k h) (End (k + i))
 complete_from s k [] i p at n = cc
 complete_from s k (e ∷ h) zero p at n =
     Contains-append_left (end_at s k e) (ends_from s (suc k) h) (End (k + 0))
-    (subst (λ (x : Event). Contains (end_at s k x) (End (k + 0))) (let f : Post p ≡ e = cc in f)
-    (subst (λ (b : Bool). Contains (cond b (End k ∷ []) []) (End (k + 0))) (sym n)
-    (subst (λ (m : ℕ). Contains (End k ∷ []) (End m)) (let g : k ≡ k + 0 = omega arith in g) (Contains-head (End k) []))))
+    (subst (λ x. Contains (end_at s k x) (End (k + 0))) (let f : Post p ≡ e = cc in f)
+    (subst (λ b. Contains (cond b (End k ∷ []) []) (End (k + 0))) (sym n)
+    (subst (λ m. Contains (End k ∷ []) (End m)) (let g : k ≡ k + 0 = omega arith in g) (Contains-head (End k) []))))
 complete_from s k (e ∷ h) (suc i) p at n =
     Contains-append_right (end_at s k e) (ends_from s (suc k) h) (End (k + suc i))
-    (subst (λ (m : ℕ). Contains (ends_from s (suc k) h) (End m)) (let g : suc k + i ≡ k + suc i = omega arith in g) (complete_from s (suc k) h i p at n))
+    (subst (λ m. Contains (ends_from s (suc k) h) (End m)) (let g : suc k + i ≡ k + suc i = omega arith in g) (complete_from s (suc k) h i p at n))
 
 pub ends_named : (s : ℕ) (h : List Event) → EndsNamed h s (ends_of s h)
 ends_named s h = record {
-  sound = λ x c. let r = sound_from s 0 h x c in (r.0, r.1, r.2 ∙ ap (λ (m : ℕ). End m) (let g : 0 + r.0 ≡ r.0 = omega arith in g), r.3, r.4);
-  complete = λ i p at n. subst (λ (m : ℕ). Contains (ends_of s h) (End m)) (let g : 0 + i ≡ i = omega arith in g) (complete_from s 0 h i p at n);
+  sound = λ x c. let r = sound_from s 0 h x c in (r.0, r.1, r.2 ∙ ap End (let g : 0 + r.0 ≡ r.0 = omega arith in g), r.3, r.4);
+  complete = λ i p at n. subst (λ m. Contains (ends_of s h) (End m)) (let g : 0 + i ≡ i = omega arith in g) (complete_from s 0 h i p at n);
 }
 
 from_get : (es : List Event) (k : ℕ) (x : Event) → slice_get es k ≡ Some x → Contains es x
 from_get [] k x at = cc
-from_get (y ∷ ys) zero x at = subst (λ (z : Event). Contains (y ∷ ys) z) (let f : y ≡ x = cc in f) (Contains-head y ys)
+from_get (y ∷ ys) zero x at = subst (Contains (y ∷ ys)) (let f : y ≡ x = cc in f) (Contains-head y ys)
 from_get (y ∷ ys) (suc k) x at = Contains-tail y ys x (from_get ys k x at)
 
 to_get : (es : List Event) (x : Event) → Contains es x → (k : ℕ) × (slice_get es k ≡ Some x)
 to_get [] x c = absurd (Contains-none x c)
-to_get (y ∷ ys) x c = elim (Contains-cons_cases y ys x c) [ inl e ↦ (0, ap (λ (z : Event). Some z) e) | inr d ↦ let r = to_get ys x d in (suc r.0, r.1) ]
+to_get (y ∷ ys) x c = elim (Contains-cons_cases y ys x c) [ inl e ↦ (0, ap Some e) | inr d ↦ let r = to_get ys x d in (suc r.0, r.1) ]
 
 split : (h es : List Event) (k : ℕ) (x : Event) → slice_get (h ++ es) k ≡ Some x → (slice_get h k ≡ Some x) ⊎ ((length h ≤ k) × Contains es x)
 split [] es k x at = inr (omega arith, from_get es k x at)
@@ -77,8 +75,8 @@ split (y ∷ g) es zero x at = inl at
 split (y ∷ g) es (suc k) x at = elim (split g es k x at) [ inl a ↦ inl a | inr b ↦ inr (let l = b.0 in omega (arith, l), b.1) ]
 
 get_after : (h es : List Event) (j : ℕ) (x : Event) → slice_get es j ≡ Some x → slice_get (h ++ es) (length h + j) ≡ Some x
-get_after [] es j x at = subst (λ (m : ℕ). slice_get es m ≡ Some x) (let g : j ≡ 0 + j = omega arith in g) at
-get_after (y ∷ h) es j x at = subst (λ (m : ℕ). slice_get (y ∷ h ++ es) m ≡ Some x) (let g : suc (length h + j) ≡ suc (length h) + j = omega arith in g) (get_after h es j x at)
+get_after [] es j x at = subst (λ m. slice_get es m ≡ Some x) (let g : j ≡ 0 + j = omega arith in g) at
+get_after (y ∷ h) es j x at = subst (λ m. slice_get (y ∷ h ++ es) m ≡ Some x) (let g : suc (length h + j) ≡ suc (length h) + j = omega arith in g) (get_after h es j x at)
 
 module _ (n s : ℕ) (log : List Entry) (h es : List Event) (r : Pairing) (law : LawfulPairing h r) (ends : EndsNamed h s es) (find find' : ℕ → Option Request) (t : IsTable n log h r find) where
   only_ends : (x : Event) → ((i : ℕ) → x ≢ End i) → Contains es x → ⊥
@@ -91,33 +89,19 @@ module _ (n s : ℕ) (log : List Entry) (h es : List Event) (r : Pairing) (law :
         | inr b ↦ absurd (only_ends x never b.1)
       ]
 
-  -- an fate that stands stays
-  first_front : (i : ℕ) (e o : Event) → StandsFirst h i e o → StandsFirst (h ++ es) i e o
-  first_front i e o f =
-      let l : f.place < length h = slice_get_within h f.place e f.is in
-      record {
-        place = f.place;
-        after = f.after;
-        is = get_front h es f.place e f.is;
-        first = λ st. elim (split h es st.place o st.is) [
-          | inl a ↦ f.first (record { place = st.place; after = st.after; before = st.before; is = a })
-          | inr b ↦ absurd (let g : length h ≤ st.place = b.0 in let m : st.place < f.place = st.before in omega (arith, g, m, l))
-        ];
-      }
-
   waits_on : (i : ℕ) (p : Pattern) → (names p.source s ≡ true → ⊥) → IsWaiting h r i p (length h) → IsWaiting (h ++ es) r i p (length (h ++ es))
   waits_on i p unnamed w =
       let la = length-append h es in
       record {
         live = record {
           posted = get_front h es i (Post p) w.live.posted;
-          before = let b : i < length h = w.live.before in omega (arith, la, b);
+          before = let b = w.live.before in omega (arith, la, b);
           not_ended = λ st. elim (split h es st.place (End i) st.is) [
             | inl a ↦ w.live.not_ended (record { place = st.place; after = st.after; before = slice_get_within h st.place (End i) a; is = a })
             | inr b ↦
                 let e = ends.sound (End i) b.1 in
                 let same : i ≡ e.0 = (let g = e.2 in cc) in
-                let pat : p ≡ e.1 = same_pattern h e.0 p e.1 (subst (λ (k : ℕ). PostAt h k p) same w.live.posted) e.3 in
+                let pat = same_pattern h e.0 p e.1 (subst (λ k. PostAt h k p) same w.live.posted) e.3 in
                 unnamed (subst (λ (q : Pattern). names q.source s ≡ true) (sym pat) e.4)
           ];
           not_cleared = λ st. w.live.not_cleared (stands_front (Clear p.context.number) i (length (h ++ es)) (λ j e. cc) st);
@@ -129,7 +113,7 @@ module _ (n s : ℕ) (log : List Entry) (h es : List Event) (r : Pairing) (law :
   falls i p named w =
       let c = ends.complete i p w.live.posted named in
       let g = to_get es (End i) c in
-      let b : i < length h = w.live.before in (
+      let b = w.live.before in (
         λ b q. w.unpaired b (letter_within h r law i b q) q,
         record {
           place = length h + g.0;
@@ -146,45 +130,10 @@ module _ (n s : ℕ) (log : List Entry) (h es : List Event) (r : Pairing) (law :
       pick true e = falls i p e w
       pick false e = waits_on i p (λ f. let g = e in cc) w
   became_over i p (Paired l) g = record { place = g.place; pairs = g.pairs; came = get_front h es g.place (Come l) g.came }
-  became_over i p Failed w = (w.0, first_front i (End i) (Clear p.context.number) w.1)
-  became_over i p Cleared w = (w.0, first_front i (Clear p.context.number) (End i) w.1)
-
-  same_over : (q : Request) → (over_named s q).pattern ≡ q.pattern
-  same_over q = pick (is_waiting q.fate && names q.pattern.source s)
-    where
-      pick : (c : Bool) → (cond c (record { pattern = q.pattern; fate = Failed }) q).pattern ≡ q.pattern
-      pick true = refl
-      pick false = refl
+  became_over i p Failed w = (w.0, first_on h es i (End i) (Clear p.context.number) w.1)
+  became_over i p Cleared w = (w.0, first_on h es i (Clear p.context.number) (End i) w.1)
 
   pub table_over : Changes (λ k. over_named s) find find' → IsTable n log (h ++ es) r find'
-  table_over found = record {
-    standing = λ id q f.
-        let o = was id q f in
-        let st = t.standing id o.0 o.1 in
-        let l : st.place < length h = slice_get_within h st.place (Post o.0.pattern) st.posted in
-        subst (λ (w : Request). IsStanding (h ++ es) r id w) o.2 (record {
-          place = st.place;
-          posted = subst (λ (p : Pattern). PostAt (h ++ es) st.place p) (sym (same_over o.0)) (get_front h es st.place (Post o.0.pattern) st.posted);
-          numbered = count_front h es st.place (omega arith) ∙ st.numbered;
-          fate = subst (λ (p : Pattern). Became (h ++ es) r st.place p (over_named s o.0).fate) (sym (same_over o.0)) (became_over st.place o.0.pattern o.0.fate st.fate);
-        });
-    of_group = λ id q f. let o = was id q f in subst (λ (p : Pattern). IsOfGroup n log p) (sym (same_over o.0) ∙ ap (λ (w : Request). w.pattern) o.2) (t.of_group id o.0 o.1);
-    unreleased = λ id q f. let o = was id q f in t.unreleased id o.0 o.1;
-    complete = λ i p posted free.
-        elim (split h es i (Post p) posted) [
-          | inl old ↦
-              let l : i < length h = slice_get_within h i (Post p) old in
-              let num : count_before (h ++ es) i ≡ count_before h i = count_front h es i (omega arith) in
-              let c = t.complete i p old (subst (λ (k : ℕ). is_released log k ≡ false) num free) in
-              (over_named s c.0, subst (λ (k : ℕ). find' k ≡ Some (over_named s c.0)) (sym num) (found (count_before h i) ∙ ap (λ (o : Option Request). option_map (over_named s) o) c.1))
-          | inr new ↦ absurd (only_ends (Post p) (λ j e. cc) new.1)
-        ];
-    released_below = λ id f. let a = t.released_below id f in let b = count_rises h es in omega (arith, a, b);
-  }
-    where
-      of_map : (o : Option Request) (q : Request) → option_map (over_named s) o ≡ Some q → (w : Request) × (o ≡ Some w) × (over_named s w ≡ q)
-      of_map None q e = cc
-      of_map (Some w) q e = (w, refl, let f : over_named s w ≡ q = cc in f)
-
-      was : (id : ℕ) (q : Request) → find' id ≡ Some q → (w : Request) × (find id ≡ Some w) × (over_named s w ≡ q)
-      was id q f = of_map (find id) q (sym (found id) ∙ f)
+  table_over found = table_change n log h es r r find find' t
+      (λ i p at. elim (split h es i (Post p) at) [ inl old ↦ old | inr new ↦ absurd (only_ends (Post p) (λ j e. cc) new.1) ])
+      (λ k. over_named s) found (λ k q. refated (is_waiting q.fate && names q.pattern.source s) Failed q) (λ k q f st. became_over st.place q.pattern q.fate st.fate)

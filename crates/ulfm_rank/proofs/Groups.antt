@@ -5,8 +5,8 @@ use Rattle.ulfm_base.specs.Group.{is_member, rank_in, one_further}
 use Rattle.ulfm_rank.proofs.Common.{Pattern, Entry, IsOfGroup}
 use Rattle.ulfm_rank.proofs.Grouped.{group_stays}
 
-pub of_group_stays : (n : ℕ) (log : List Entry) (x : Entry) (p : Pattern) → IsOfGroup n log p → IsOfGroup n (log ++ x ∷ []) p
-of_group_stays n log x p o = record { group = o.group; made = group_stays n log x p.context.number o.group o.made; source = o.source }
+pub of_group_stays : {n : ℕ} {log : List Entry} (x : Entry) {p : Pattern} → IsOfGroup n log p → IsOfGroup n (log ++ x ∷ []) p
+of_group_stays {n} {log} x {p} o = record { group = o.group; made = group_stays n log x p.context.number o.group o.made; source = o.source }
 
 -- a member has a rank
 pub rank_some : (group : List ℕ) (r : ℕ) → is_member group r ≡ true → IsSome (rank_in group r)
@@ -24,7 +24,7 @@ rank_some (m ∷ group) r h = pick (m == r) h (rank_some group r)
 -- who stands at a position is a member
 pub member_at : (group : List ℕ) (position r : ℕ) → slice_get group position ≡ Some r → is_member group r ≡ true
 member_at [] position r h = cc
-member_at (m ∷ group) zero r h = ap (λ (b : Bool). b || is_member group r) (alike m r (let e : m ≡ r = cc in e))
+member_at (m ∷ group) zero r h = ap (λ b. b || is_member group r) (alike m r (let e : m ≡ r = cc in e))
   where
     alike : (a b : ℕ) → a ≡ b → (a == b) ≡ true
     alike a b e = grind (arith, nat_tests)

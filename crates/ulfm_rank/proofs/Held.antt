@@ -62,9 +62,9 @@ are_left n me d before found _ = refl
 held : (n me : ℕ) (log : List Entry) (e : Entry) (d : ℕ) (places : List ℕ) → map (item_at log) places ≡ map Some (owed n me log d) →
     map (item_at (log ++ e ∷ [])) (places ++ map (λ _. length log) (owed_by n me d log (owed n me log d) e)) ≡ map Some (owed n me (log ++ e ∷ []) d)
 held n me log e d places h =
-    let gained : List Item = owed_by n me d log (owed n me log d) e in
+    let gained = owed_by n me d log (owed n me log d) e in
     let new : map (item_at (log ++ e ∷ [])) (map (λ _. length log) gained) ≡ map Some gained =
-    map-map (item_at (log ++ e ∷ [])) (λ _. length log) gained ∙ ap (λ (o : Option Item). map (λ _. o) gained) (item_at-last log e) ∙ are_left n me d log (owed n me log d) e in
+    map-map (item_at (log ++ e ∷ [])) (λ _. length log) gained ∙ ap (λ o. map (λ _. o) gained) (item_at-last log e) ∙ are_left n me d log (owed n me log d) e in
     map-append (item_at (log ++ e ∷ [])) places (map (λ _. length log) gained)
     ∙ ap (λ xs. xs ++ map (item_at (log ++ e ∷ [])) (map (λ _. length log) gained)) (items_kept log e places (owed n me log d) h)
     ∙ ap (λ xs. map Some (owed n me log d) ++ xs) new
@@ -79,8 +79,8 @@ stopped_stays log e h = first (is_stopped log) (is_stop e) (sym (any-push is_sto
     first true b h = h
     first false b h = refl
 
-pub outboxes-grown : (n me : ℕ) (log : List Entry) (e : Entry) (old new : List Box) → HasOutboxes n me log old → AllGrow old new (length log) (λ d. owed_by n me d log (owed n me log d) e) → HasOutboxes n me (log ++ e ∷ []) new
-outboxes-grown n me log e old new h grows =
+pub outboxes-grown : {n me : ℕ} {log : List Entry} (e : Entry) {old new : List Box} → HasOutboxes n me log old → AllGrow old new (length log) (λ d. owed_by n me d log (owed n me log d) e) → HasOutboxes n me (log ++ e ∷ []) new
+outboxes-grown {n} {me} {log} e {old} {new} h grows =
     let old_of : (d : ℕ) → d < length new → d < length old = λ d k. omega (arith, k, grows.size) in
     record {
       inside = h.inside;
@@ -99,18 +99,18 @@ none_grow boxes place items none = record {
 }
 
 -- outboxes that grew by these items grew by the same items, however these are said
-pub grows_alike : (old new : List Box) (place : ℕ) (items items' : ℕ → List Item) → AllGrow old new place items → ((d : ℕ) → d < length new → items d ≡ items' d) → AllGrow old new place items'
-grows_alike old new place items items' grows alike = record {
+pub grows_alike : {old new : List Box} {place : ℕ} {items : ℕ → List Item} (items' : ℕ → List Item) → AllGrow old new place items → ((d : ℕ) → d < length new → items d ≡ items' d) → AllGrow old new place items'
+grows_alike {old} {new} {place} {items} items' grows alike = record {
   size = grows.size;
   each = λ d h. rw (← alike d h) (grows.each d h);
 }
 
-pub outboxes-quiet : (n me : ℕ) (log : List Entry) (e : Entry) (boxes : List Box) → HasOutboxes n me log boxes → ((d : ℕ) → owed_by n me d log (owed n me log d) e ≡ []) → HasOutboxes n me (log ++ e ∷ []) boxes
-outboxes-quiet n me log e boxes h quiet = outboxes-grown n me log e boxes boxes h (none_grow boxes (length log) _ quiet)
+pub outboxes-quiet : {n me : ℕ} {log : List Entry} (e : Entry) {boxes : List Box} → HasOutboxes n me log boxes → ((d : ℕ) → owed_by n me d log (owed n me log d) e ≡ []) → HasOutboxes n me (log ++ e ∷ []) boxes
+outboxes-quiet {n} {me} {log} e {boxes} h quiet = outboxes-grown e h (none_grow boxes (length log) _ quiet)
 
 -- no item left outboxes that grew
-pub marks-grown : (old new : List Box) (place : ℕ) (items : ℕ → List Item) → AllGrow old new place items → map mark_of new ≡ map mark_of old
-marks-grown old new place items grows =
+pub marks-grown : {old new : List Box} {place : ℕ} {items : ℕ → List Item} → AllGrow old new place items → map mark_of new ≡ map mark_of old
+marks-grown {old} {new} {place} {items} grows =
     same_lists (map mark_of new) (map mark_of old) (length-map new mark_of ∙ grows.size ∙ sym (length-map old mark_of))
     (λ k d h.
     let i : k < length new = omega (arith, h, length-map new mark_of) in

@@ -1,11 +1,11 @@
 -- The matcher and the table stay in step with the log.
-use Rattle.std.proofs.Common.{◌≡◌, ℕ, ◌+◌, ◌≤◌, Bool, true, false, cond, eqb, List, [], ◌∷◌, ◌++◌, length, refl, ap, sym, ◌∙◌, subst, Option, Some, None, arith, append-nil, slice_get, ◌||◌}
+use Rattle.std.proofs.Common.{◌≡◌, ℕ, ◌+◌, ◌≤◌, true, false, cond, eqb, List, [], ◌∷◌, ◌++◌, length, refl, ap, sym, ◌∙◌, subst, Option, Some, None, arith, append-nil, slice_get, ◌||◌}
 use Rattle.std.proofs.lemmas.Bool.Decides.{nat_tests}
 use Rattle.std.proofs.Math.Bool.{or-false}
-use Rattle.ulfm_rank.proofs.Common.{Pattern, Context, Letter, Item, WorldRank, Entry, Posted, Revoked, Took, Fate, Request, IsRequest}
+use Rattle.ulfm_rank.proofs.Common.{Pattern, Context, Item, WorldRank, Entry, Posted, Revoked, Took, Fate, Request, IsRequest}
 use Rattle.ulfm_match.specs.History.{Event, Post, Clear, counts_as, count_before}
 use Rattle.ulfm_match.specs.Pairing.{Pairing, IsWaiting, IsKept}
-use Rattle.ulfm_match.specs.State.{Matching, Lists, Tracks}
+use Rattle.ulfm_match.specs.State.{Matching, is_cleared, Lists, Tracks}
 use Rattle.ulfm_rank.specs.Facts.{is_revoked, revoked_before, is_released, releases}
 use Rattle.ulfm_rank.specs.History.{history_of, events_by, item_events, names_gone, post_events}
 use Rattle.ulfm_rank.specs.inside.Requests.{Adds, TracksAdmit, TracksRevocation, TracksItem}
@@ -15,14 +15,15 @@ use Rattle.ulfm_rank.proofs.Groups.{of_group_stays}
 use Rattle.ulfm_rank.proofs.Opens.{unrevoked_open, few_numbered}
 
 -- room plays no part
-pub tracks_same : (h : List Event) (r : Pairing) (s s' : Matching) → Tracks h r s → s'.waiting ≡ s.waiting → s'.kept ≡ s.kept → s'.count ≡ s.count → Tracks h r s'
-tracks_same h r s s' t ew ek ec = record {
+pub tracks_same : (h : List Event) (r : Pairing) (s s' : Matching) → Tracks h r s → s'.waiting ≡ s.waiting → s'.kept ≡ s.kept → s'.count ≡ s.count → s'.cleared ≡ s.cleared → Tracks h r s'
+tracks_same h r s s' t ew ek ec em = record {
   well_formed = t.well_formed;
   lawful = t.lawful;
   remains = record {
     count = ec ∙ t.remains.count;
-    waiting = subst (λ (xs : List (ℕ × Pattern)). Lists h (λ i p. IsWaiting h r i p (length h)) xs) (sym ew) t.remains.waiting;
-    kept = subst (λ (xs : List (ℕ × Letter)). Lists h (λ b l. IsKept h r b l (length h)) xs) (sym ek) t.remains.kept;
+    waiting = subst (Lists h (λ i p. IsWaiting h r i p (length h))) (sym ew) t.remains.waiting;
+    kept = subst (Lists h (λ b l. IsKept h r b l (length h))) (sym ek) t.remains.kept;
+    cleared = rw em t.remains.cleared;
   };
 }
 
@@ -41,7 +42,7 @@ table_logged n log x h r find none t =
     let same : (k : ℕ) → is_released (log ++ x ∷ []) k ≡ is_released log k = λ k. any-push (releases k) log x ∙ (ap (λ b. is_released log k || b) (none k) ∙ or-false (is_released log k)) in
     record {
       standing = t.standing;
-      of_group = λ id q f. of_group_stays n log x q.pattern (t.of_group id q f);
+      of_group = λ id q f. of_group_stays x (t.of_group id q f);
       unreleased = λ id q f. same id ∙ t.unreleased id q f;
       complete = λ i p posted free. t.complete i p posted (sym (same (count_before h i)) ∙ free);
       released_below = λ id f. t.released_below id (sym (same id) ∙ f);
@@ -51,11 +52,11 @@ table_logged n log x h r find none t =
 stepped : (n : ℕ) (log : List Entry) (x : Entry) (m : Matching) (find : ℕ → Option Request) (xs : List Event) → events_by log (history_of log) x ≡ xs → ((k : ℕ) → releases k x ≡ false)
     → (r : Pairing) → Tracks (history_of log ++ xs) r m → IsTable n log (history_of log ++ xs) r find → IsInStep n (log ++ x ∷ []) m find
 stepped n log x m find xs e none r t table =
-    let long : history_of log ++ xs ≡ history_of (log ++ x ∷ []) = ap (λ (ys : List Event). history_of log ++ ys) (sym e) ∙ sym (history-push log x) in
+    let long : history_of log ++ xs ≡ history_of (log ++ x ∷ []) = ap (λ ys. history_of log ++ ys) (sym e) ∙ sym (history-push log x) in
     record {
       pairing = r;
-      tracks = subst (λ (h : List Event). Tracks h r m) long t;
-      table = subst (λ (h : List Event). IsTable n (log ++ x ∷ []) h r find) long (table_logged n log x (history_of log ++ xs) r find none table);
+      tracks = subst (λ h. Tracks h r m) long t;
+      table = subst (λ h. IsTable n (log ++ x ∷ []) h r find) long (table_logged n log x (history_of log ++ xs) r find none table);
     }
 
 -- the empty log
@@ -72,15 +73,19 @@ in_step_start n m find t none = record {
   };
 }
 
-module _ (n : ℕ) (log : List Entry) (m : Matching) (find : ℕ → Option Request) (held : IsInStep n log m find) where
+module _ {n : ℕ} {log : List Entry} {m : Matching} {find : ℕ → Option Request} (held : IsInStep n log m find) where
   pub count_small : m.count ≤ length log
   count_small = let c = held.tracks.remains.count in let f = few_numbered log in omega (arith, c, f)
 
+  -- what isn't revoked wasn't cleared
+  pub in_step_open : (c : ℕ) → is_revoked log c ≡ false → is_cleared m c ≡ false
+  in_step_open c fresh = (held.tracks.remains.cleared c).1 (unrevoked_open log c fresh)
+
   -- room plays no part
-  pub in_step_same : (m' : Matching) (find' : ℕ → Option Request) → m'.waiting ≡ m.waiting → m'.kept ≡ m.kept → m'.count ≡ m.count → ((k : ℕ) → find' k ≡ find k) → IsInStep n log m' find'
-  in_step_same m' find' ew ek ec ef = record {
+  pub in_step_same : (m' : Matching) (find' : ℕ → Option Request) → m'.waiting ≡ m.waiting → m'.kept ≡ m.kept → m'.count ≡ m.count → m'.cleared ≡ m.cleared → ((k : ℕ) → find' k ≡ find k) → IsInStep n log m' find'
+  in_step_same m' find' ew ek ec em ef = record {
     pairing = held.pairing;
-    tracks = tracks_same (history_of log) held.pairing m m' held.tracks ew ek ec;
+    tracks = tracks_same (history_of log) held.pairing m m' held.tracks ew ek ec em;
     table = table_same n log (history_of log) held.pairing find find' held.table ef;
   }
 
@@ -88,27 +93,27 @@ module _ (n : ℕ) (log : List Entry) (m : Matching) (find : ℕ → Option Requ
   pub in_step_quiet : (x : Entry) → events_by log (history_of log) x ≡ [] → ((k : ℕ) → releases k x ≡ false) → IsInStep n (log ++ x ∷ []) m find
   in_step_quiet x quiet none =
       let same : history_of log ≡ history_of log ++ [] = sym (append-nil (history_of log)) in
-      stepped n log x m find [] quiet none held.pairing (subst (λ (h : List Event). Tracks h held.pairing m) same held.tracks) (subst (λ (h : List Event). IsTable n log h held.pairing find) same held.table)
+      stepped n log x m find [] quiet none held.pairing (subst (λ h. Tracks h held.pairing m) same held.tracks) (subst (λ h. IsTable n log h held.pairing find) same held.table)
 
   -- a receive is posted
-  pub in_step_posted : (p : Pattern) → IsOfGroup n log p → (o : Fate) (m' : Matching) (find' : ℕ → Option Request) → is_revoked log p.context.number ≡ false → TracksAdmit (names_gone log p.source) p m o m' → Adds m.count (record { pattern = p; fate = o }) find find' → IsInStep n (log ++ Posted p ∷ []) m' find'
-  in_step_posted p of o m' find' unrevoked tracks adds =
+  pub in_step_posted : (p : Pattern) → IsOfGroup n log p → (o : Fate) (m' : Matching) (find' : ℕ → Option Request) → TracksAdmit (names_gone log p.source) p m o m' → Adds m.count (record { pattern = p; fate = o }) find find' → IsInStep n (log ++ Posted p ∷ []) m' find'
+  in_step_posted p of o m' find' tracks adds =
       let h = history_of log in
       let t = held.tracks in
-      let a = tracks h held.pairing (unrevoked_open log p.context.number unrevoked) t in
-      stepped n log (Posted p) m' find' (post_events (names_gone log p.source) h p) refl (λ k. refl) a.0 a.1 (a.2 n log find find' of held.table (subst (λ (c : ℕ). Adds c (record { pattern = p; fate = o }) find find') t.remains.count adds))
+      let a = tracks h held.pairing t in
+      stepped n log (Posted p) m' find' (post_events (names_gone log p.source) h p) refl (λ k. refl) a.0 a.1 (a.2 n log find find' of held.table (subst (λ c. Adds c (record { pattern = p; fate = o }) find find') t.remains.count adds))
 
   -- a context is revoked for the first time by the rank itself
   pub in_step_revoked : (c : Context) → is_revoked log c.number ≡ false → (m' : Matching) (find' : ℕ → Option Request) → TracksRevocation c.number m find m' find' → IsInStep n (log ++ Revoked c ∷ []) m' find'
   in_step_revoked c first m' find' tracks =
       let a = tracks n log (history_of log) held.pairing held.tracks held.table in
-      stepped n log (Revoked c) m' find' (Clear c.number ∷ []) (ap (λ (b : Bool). cond b [] (Clear c.number ∷ [])) first) (λ k. refl) held.pairing a.0 a.1
+      stepped n log (Revoked c) m' find' (Clear c.number ∷ []) (ap (λ b. cond b [] (Clear c.number ∷ [])) first) (λ k. refl) held.pairing a.0 a.1
 
   -- an item is taken
   pub in_step_took : (s : WorldRank) (item : Item) (m' : Matching) (find' : ℕ → Option Request) → TracksItem (revoked_before log item) s.number item m find m' find' → IsInStep n (log ++ Took s item ∷ []) m' find'
   in_step_took s item m' find' tracks =
       let h = history_of log in
-      let a = tracks n log h held.pairing (λ l e f. unrevoked_open log l.envelope.context.number (sym (ap (λ (i : Item). revoked_before log i) e) ∙ f)) held.tracks held.table in
+      let a = tracks n log h held.pairing held.tracks held.table in
       stepped n log (Took s item) m' find' (item_events (revoked_before log item) h s.number item) refl (λ k. refl) a.0 a.1 a.2
 
 -- a receive that was posted is a request
@@ -118,8 +123,8 @@ posted_request log p id num free =
     let long : history_of (log ++ Posted p ∷ []) ≡ h ++ post_events (names_gone log p.source) h p = history-push log (Posted p) in (
       length h,
       record {
-        posted = ap (λ (g : List Event). slice_get g (length h)) long ∙ get_at h (Post p) _;
-        numbered = ap (λ (g : List Event). count_before g (length h)) long ∙ (count_at h (post_events (names_gone log p.source) h p) ∙ num);
+        posted = ap (λ g. slice_get g (length h)) long ∙ get_at h (Post p) _;
+        numbered = ap (λ g. count_before g (length h)) long ∙ (count_at h (post_events (names_gone log p.source) h p) ∙ num);
         unreleased = free;
       },
     )
@@ -134,7 +139,7 @@ posted_request log p id num free =
     count_at (y ∷ h) ys = ap (λ n. counts_as y + n) (count_at h ys)
 
 pub adds_itself : (k : ℕ) (q : Request) (find find' : ℕ → Option Request) → Adds k q find find' → find' k ≡ Some q
-adds_itself k q find find' adds = adds k ∙ ap (λ (b : Bool). cond b (Some q) (find k)) (itself k)
+adds_itself k q find find' adds = adds k ∙ ap (λ b. cond b (Some q) (find k)) (itself k)
   where
     itself : (a : ℕ) → eqb a a ≡ true
     itself a = grind (arith, nat_tests)

@@ -30,27 +30,27 @@ pub faults_start : (facts : FaultState) → facts.known ≡ [] → ((c : ℕ) �
 faults_start facts k a m = record { knows = k; acknowledges = a; marks = m }
 
 -- an entry that tells nothing of failures, acknowledgements and revocations
-pub faults_quiet : (log : List Entry) (facts : FaultState) (x : Entry) → HasFaults log facts → ((before : List Entry) (known : List ℕ) → newly_known before known x ≡ []) → ((c k : ℕ) → acknowledged_by c k x ≡ k) → ((c : ℕ) → revokes c x ≡ false) → HasFaults (log ++ x ∷ []) facts
-faults_quiet log facts x held k a m = record {
-  knows = held.knows ∙ sym (known-push log x ∙ (ap (λ (ys : List ℕ). known_of log ++ ys) (k log (known_of log)) ∙ append-nil (known_of log)));
+pub faults_quiet : {log : List Entry} {facts : FaultState} (x : Entry) → HasFaults log facts → ((before : List Entry) (known : List ℕ) → newly_known before known x ≡ []) → ((c k : ℕ) → acknowledged_by c k x ≡ k) → ((c : ℕ) → revokes c x ≡ false) → HasFaults (log ++ x ∷ []) facts
+faults_quiet {log} {facts} x held k a m = record {
+  knows = held.knows ∙ sym (known-push log x ∙ (ap (λ ys. known_of log ++ ys) (k log (known_of log)) ∙ append-nil (known_of log)));
   acknowledges = λ c. held.acknowledges c ∙ sym (acknowledged-push c log x ∙ a c (acknowledged_of log c));
   marks = λ c. held.marks c ∙ sym (any-push (revokes c) log x ∙ (ap (λ b. is_revoked log c || b) (m c) ∙ or-false (is_revoked log c)));
 }
 
 -- the notice of a failure
-pub faults_learned : (log : List Entry) (old new : FaultState) (s : WorldRank) → HasFaults log old → new.known ≡ including old.known s.number → new.acknowledged ≡ old.acknowledged → new.revoked ≡ old.revoked → HasFaults (log ++ Took s Gone ∷ []) new
-faults_learned log old new s held k a m = record {
-  knows = k ∙ (ap (λ (known : List ℕ). including known s.number) held.knows ∙ sym (known-push log (Took s Gone)));
-  acknowledges = λ c. ap (λ (xs : List ℕ). slice_index_or xs c 0) a ∙ (held.acknowledges c ∙ sym (acknowledged-push c log (Took s Gone)));
-  marks = λ c. ap (λ (xs : List Bool). slice_index_or xs c false) m ∙ (held.marks c ∙ sym (any-push (revokes c) log (Took s Gone) ∙ or-false (is_revoked log c)));
+pub faults_learned : {log : List Entry} {old : FaultState} (new : FaultState) (s : WorldRank) → HasFaults log old → new.known ≡ including old.known s.number → new.acknowledged ≡ old.acknowledged → new.revoked ≡ old.revoked → HasFaults (log ++ Took s Gone ∷ []) new
+faults_learned {log} {old} new s held k a m = record {
+  knows = k ∙ (ap (λ known. including known s.number) held.knows ∙ sym (known-push log (Took s Gone)));
+  acknowledges = λ c. ap (λ xs. slice_index_or xs c 0) a ∙ (held.acknowledges c ∙ sym (acknowledged-push c log (Took s Gone)));
+  marks = λ c. ap (λ xs. slice_index_or xs c false) m ∙ (held.marks c ∙ sym (any-push (revokes c) log (Took s Gone) ∙ or-false (is_revoked log c)));
 }
 
 -- a revocation, by an entry that gives nothing else
-pub faults_revoked : (log : List Entry) (old new : FaultState) (x : Entry) (d : ℕ) → HasFaults log old → ((before : List Entry) (known : List ℕ) → newly_known before known x ≡ []) → ((c k : ℕ) → acknowledged_by c k x ≡ k) → ((c : ℕ) → revokes c x ≡ (d == c))
+pub faults_revoked : {log : List Entry} {old : FaultState} (new : FaultState) (x : Entry) (d : ℕ) → HasFaults log old → ((before : List Entry) (known : List ℕ) → newly_known before known x ≡ []) → ((c k : ℕ) → acknowledged_by c k x ≡ k) → ((c : ℕ) → revokes c x ≡ (d == c))
     → ((c : ℕ) → is_revoked_in new c ≡ cond (d == c) true (is_revoked_in old c)) → new.known ≡ old.known → new.acknowledged ≡ old.acknowledged → HasFaults (log ++ x ∷ []) new
-faults_revoked log old new x d held none same is m k a = record {
-  knows = k ∙ (held.knows ∙ sym (known-push log x ∙ (ap (λ (ys : List ℕ). known_of log ++ ys) (none log (known_of log)) ∙ append-nil (known_of log))));
-  acknowledges = λ c. ap (λ (xs : List ℕ). slice_index_or xs c 0) a ∙ (held.acknowledges c ∙ sym (acknowledged-push c log x ∙ same c (acknowledged_of log c)));
+faults_revoked {log} {old} new x d held none same is m k a = record {
+  knows = k ∙ (held.knows ∙ sym (known-push log x ∙ (ap (λ ys. known_of log ++ ys) (none log (known_of log)) ∙ append-nil (known_of log))));
+  acknowledges = λ c. ap (λ xs. slice_index_or xs c 0) a ∙ (held.acknowledges c ∙ sym (acknowledged-push c log x ∙ same c (acknowledged_of log c)));
   marks = λ c. m c ∙ (pick (d == c) (is_revoked_in old c) ∙ (ap (λ b. b || (d == c)) (held.marks c) ∙ sym (any-push (revokes c) log x ∙ ap (λ b. is_revoked log c || b) (is c))));
 }
   where
@@ -72,45 +72,45 @@ known_gone log s =
     or_true false = refl
 
     noticed : (known : List ℕ) (g : Bool) (f : ℕ) → is_member known s ≡ g → (r : Bool) → is_member known f ≡ r → (t : Bool) → (f == s) ≡ t → is_member known s || list_any (λ m. m == s) (cond r [] (f ∷ [])) ≡ g || cond t true false
-    noticed known g f p true e true q = or-false (is_member known s) ∙ (ap (λ (k : ℕ). is_member known k) (sym (eqb-true f s q)) ∙ (e ∙ or_true g))
-    noticed known g f p true e false q = ap (λ (b : Bool). b || false) p
-    noticed known g f p false e true q = ap (λ (b : Bool). is_member known s || (b || false)) q ∙ ap (λ (b : Bool). b || true) p
-    noticed known g f p false e false q = ap (λ (b : Bool). is_member known s || (b || false)) q ∙ ap (λ (b : Bool). b || false) p
+    noticed known g f p true e true q = or-false (is_member known s) ∙ (ap (is_member known) (sym (eqb-true f s q)) ∙ (e ∙ or_true g))
+    noticed known g f p true e false q = ap (λ b. b || false) p
+    noticed known g f p false e true q = ap (λ b. is_member known s || (b || false)) q ∙ ap (λ b. b || true) p
+    noticed known g f p false e false q = ap (λ b. is_member known s || (b || false)) q ∙ ap (λ b. b || false) p
 
     unnoticed : (a b : Bool) (f : ℕ) → a ≡ b → (t : Bool) → a || false ≡ b || cond t false false
-    unnoticed a b f p true = ap (λ (b : Bool). b || false) p
-    unnoticed a b f p false = ap (λ (b : Bool). b || false) p
+    unnoticed a b f p true = ap (λ b. b || false) p
+    unnoticed a b f p false = ap (λ b. b || false) p
 
     step : (l : List Entry) (known : List ℕ) (x : Entry) → is_member known s ≡ is_gone l s → is_member known s || list_any (λ m. m == s) (newly_known l known x) ≡ is_gone l s || tells_gone s x
     step l known (Took f Gone) p = noticed known (is_gone l s) f.number p (is_member known f.number) refl (f.number == s) refl
     step l known (Took f item) p = unnoticed (is_member known s) (is_gone l s) f.number p (f.number == s)
-    step l known x p = ap (λ (b : Bool). b || false) p
+    step l known x p = ap (λ b. b || false) p
 
-pub known_named : (log : List Entry) (facts : FaultState) → HasFaults log facts → (source : Source) → names_known facts source ≡ names_gone log source
-known_named log facts held (One rank) = ap (λ (known : List ℕ). is_member known rank.number) held.knows ∙ known_gone log rank.number
-known_named log facts held (Any members) = refl
+pub known_named : {log : List Entry} {facts : FaultState} → HasFaults log facts → (source : Source) → names_known facts source ≡ names_gone log source
+known_named {log} {facts} held (One rank) = ap (λ known. is_member known rank.number) held.knows ∙ known_gone log rank.number
+known_named {log} {facts} held (Any members) = refl
 
 -- what pends by the facts pends by the log
 pub pends_known : (n : ℕ) (log : List Entry) (facts : FaultState) (p : Pattern) (group : List ℕ) → HasFaults log facts → members_of n log p.context.number ≡ group
     → pends_by facts group p ≡ pends n log p
 pends_known n log facts p group held members =
     let c = p.context.number in
-    ap (λ (b : Bool). is_any p.source && (not b && has_unacked facts group c)) (held.marks c)
-    ∙ (ap (λ (k : ℕ). is_any p.source && (not (is_revoked log c) && nat_lt k (length (intersection facts.known group)))) (held.acknowledges c)
-    ∙ (ap (λ (known : List ℕ). is_any p.source && (not (is_revoked log c) && nat_lt (acknowledged_of log c) (length (intersection known group)))) held.knows
-    ∙ ap (λ (g : List ℕ). is_any p.source && (not (is_revoked log c) && nat_lt (acknowledged_of log c) (length (intersection (known_of log) g)))) (sym members)))
+    ap (λ b. is_any p.source && (not b && has_unacked facts group c)) (held.marks c)
+    ∙ (ap (λ k. is_any p.source && (not (is_revoked log c) && nat_lt k (length (intersection facts.known group)))) (held.acknowledges c)
+    ∙ (ap (λ known. is_any p.source && (not (is_revoked log c) && nat_lt (acknowledged_of log c) (length (intersection known group)))) held.knows
+    ∙ ap (λ g. is_any p.source && (not (is_revoked log c) && nat_lt (acknowledged_of log c) (length (intersection (known_of log) g)))) (sym members)))
 
-pub marked_before : (log : List Entry) (facts : FaultState) → HasFaults log facts → (item : Item) → was_revoked_in facts item ≡ revoked_before log item
-marked_before log facts held (Mail letter) = held.marks letter.envelope.context.number
-marked_before log facts held (Revoke context) = held.marks context.number
-marked_before log facts held item = refl
+pub marked_before : {log : List Entry} {facts : FaultState} → HasFaults log facts → (item : Item) → was_revoked_in facts item ≡ revoked_before log item
+marked_before {log} {facts} held (Mail letter) = held.marks letter.envelope.context.number
+marked_before {log} {facts} held (Revoke context) = held.marks context.number
+marked_before {log} {facts} held item = refl
 
 -- letters and entries into a shrink
-pub faults_taken : (log : List Entry) (facts : FaultState) (s : WorldRank) (item : Item) → (item ≡ Gone → ⊥) → ((c : Context) → item ≡ Revoke c → ⊥) → HasFaults log facts → HasFaults (log ++ Took s item ∷ []) facts
-faults_taken log facts s (Mail letter) gone revoke held = faults_quiet log facts (Took s (Mail letter)) held (λ b k. refl) (λ c k. refl) (λ c. refl)
-faults_taken log facts s Gone gone revoke held = absurd (gone refl)
-faults_taken log facts s (Revoke context) gone revoke held = absurd (revoke context refl)
-faults_taken log facts s (Enter context known) gone revoke held = faults_quiet log facts (Took s (Enter context known)) held (λ b k. refl) (λ c k. refl) (λ c. refl)
+pub faults_taken : {log : List Entry} {facts : FaultState} (s : WorldRank) (item : Item) → (item ≡ Gone → ⊥) → ((c : Context) → item ≡ Revoke c → ⊥) → HasFaults log facts → HasFaults (log ++ Took s item ∷ []) facts
+faults_taken {log} {facts} s (Mail letter) gone revoke held = faults_quiet (Took s (Mail letter)) held (λ b k. refl) (λ c k. refl) (λ c. refl)
+faults_taken {log} {facts} s Gone gone revoke held = absurd (gone refl)
+faults_taken {log} {facts} s (Revoke context) gone revoke held = absurd (revoke context refl)
+faults_taken {log} {facts} s (Enter context known) gone revoke held = faults_quiet (Took s (Enter context known)) held (λ b k. refl) (λ c k. refl) (λ c. refl)
 
-pub knows_gone : (log : List Entry) (facts : FaultState) → HasFaults log facts → (r : ℕ) → is_member facts.known r ≡ is_gone log r
-knows_gone log facts held r = ap (λ (known : List ℕ). is_member known r) held.knows ∙ known_gone log r
+pub knows_gone : {log : List Entry} {facts : FaultState} → HasFaults log facts → (r : ℕ) → is_member facts.known r ≡ is_gone log r
+knows_gone {log} {facts} held r = ap (λ known. is_member known r) held.knows ∙ known_gone log r

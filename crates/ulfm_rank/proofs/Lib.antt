@@ -18,6 +18,7 @@ pub mod Held
 pub mod Known
 pub mod States
 pub mod Made
+pub mod Contexts
 pub mod Following
 pub mod Seen
 pub mod Sendable

@@ -19,4 +19,4 @@ pub entered-push : (log : List Entry) (c : ℕ) (e : Entry) → entry_of c e ≡
 entered-push log c e none = ap is_some (first-push (entry_of c) log e ∙ ap (or_else (first_given (entry_of c) log)) none ∙ or_none (first_given (entry_of c) log))
 
 pub listed-own : (me : ℕ) (log : List Entry) (c : ℕ) → listed_of me log c me ≡ first_given (entry_of c) log
-listed-own me log c = ap (λ (b : Bool). cond b (first_given (entry_of c) log) (first_given (heard_of c me) log)) (eq-eqb me me refl)
+listed-own me log c = ap (λ b. cond b (first_given (entry_of c) log) (first_given (heard_of c me) log)) (eq-eqb me me refl)

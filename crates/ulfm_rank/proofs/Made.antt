@@ -11,9 +11,9 @@ pub comms-push : (n : ℕ) (log : List Entry) (e : Entry) → comms_of n (log ++
 comms-push n log e = gathered-push made_by ((0, numbers_from 0 n) ∷ []) log e
 
 -- an entry that makes nothing
-pub communicators-quiet : (n : ℕ) (log : List Entry) (e : Entry) (comms : List (ℕ × List ℕ)) → HasCommunicators n log comms → ((before : List Entry) (found : List (ℕ × List ℕ)) → made_by before found e ≡ []) → HasCommunicators n (log ++ e ∷ []) comms
-communicators-quiet n log e comms h none = record {
-  made = h.made ∙ sym (comms-push n log e ∙ (ap (λ (more : List (ℕ × List ℕ)). comms_of n log ++ more) (none log (comms_of n log)) ∙ append-nil (comms_of n log)));
+pub communicators-quiet : {n : ℕ} {log : List Entry} (e : Entry) {comms : List (ℕ × List ℕ)} → HasCommunicators n log comms → ((before : List Entry) (found : List (ℕ × List ℕ)) → made_by before found e ≡ []) → HasCommunicators n (log ++ e ∷ []) comms
+communicators-quiet {n} {log} e {comms} h none = record {
+  made = h.made ∙ sym (comms-push n log e ∙ (ap (λ more. comms_of n log ++ more) (none log (comms_of n log)) ∙ append-nil (comms_of n log)));
   of_world = h.of_world;
 }
 
@@ -22,7 +22,7 @@ copied c d [] group h = cc
 copied c d (comm ∷ comms) group h = pick (eqb comm.0 c) h (copied c d comms group)
   where
     pick : (b : Bool) → cond b (Some comm.1) (find_group c comms) ≡ Some group → (find_group c comms ≡ Some group → copy_of c d comms ≡ (d, group) ∷ []) → cond b ((d, comm.1) ∷ []) (copy_of c d comms) ≡ (d, group) ∷ []
-    pick true e next = let same : comm.1 ≡ group = cc in ap (λ (g : List ℕ). (d, g) ∷ []) same
+    pick true e next = let same : comm.1 ≡ group = cc in ap (λ g. (d, g) ∷ []) same
     pick false e next = next e
 
 pub All-one : {X : Type 0} (P : X → Type 0) (x : X) → P x → All P (x ∷ [])
@@ -45,10 +45,10 @@ pub member_of_world : (n c : ℕ) (comms : List (ℕ × List ℕ)) (group : List
 member_of_world n c comms group position r all h at = rw (get_or_from_slice_get group position r r at) at (found_of_world n c comms group all h position r (slice_get_within group position r at))
 
 -- a duplicate has its parent's group
-pub communicators-duplicated : (n : ℕ) (log : List Entry) (context : Context) (comms : List (ℕ × List ℕ)) (group : List ℕ) → HasCommunicators n log comms → find_group context.number comms ≡ Some group → HasCommunicators n (log ++ Duplicated context ∷ []) (comms ++ (dup_of context.number, group) ∷ [])
-communicators-duplicated n log context comms group h found = record {
-  made = ap (λ (xs : List (ℕ × List ℕ)). xs ++ (dup_of context.number, group) ∷ []) h.made
-      ∙ sym (comms-push n log (Duplicated context) ∙ ap (λ (more : List (ℕ × List ℕ)). comms_of n log ++ more) (copied context.number (dup_of context.number) (comms_of n log) group (ap (find_group context.number) (sym h.made) ∙ found)));
+pub communicators-duplicated : {n : ℕ} {log : List Entry} (context : Context) {comms : List (ℕ × List ℕ)} (group : List ℕ) → HasCommunicators n log comms → find_group context.number comms ≡ Some group → HasCommunicators n (log ++ Duplicated context ∷ []) (comms ++ (dup_of context.number, group) ∷ [])
+communicators-duplicated {n} {log} context {comms} group h found = record {
+  made = ap (λ xs. xs ++ (dup_of context.number, group) ∷ []) h.made
+      ∙ sym (comms-push n log (Duplicated context) ∙ ap (λ more. comms_of n log ++ more) (copied context.number (dup_of context.number) (comms_of n log) group (ap (find_group context.number) (sym h.made) ∙ found)));
   of_world = All-append (λ (comm : ℕ × List ℕ). All (λ r. r < n) comm.1) comms ((dup_of context.number, group) ∷ []) h.of_world (All-one (λ (comm : ℕ × List ℕ). All (λ r. r < n) comm.1) (dup_of context.number, group) (found_of_world n context.number comms group h.of_world found));
 }
 
@@ -64,5 +64,5 @@ communicators-start n = record {
   of_world = All-one (λ (comm : ℕ × List ℕ). All (λ r. r < n) comm.1) (0, numbers_from 0 n) (numbers_below 0 n n (omega arith));
 }
 
-pub found_group : (n : ℕ) (log : List Entry) (comms : List (ℕ × List ℕ)) (c : ℕ) → HasCommunicators n log comms → find_group c comms ≡ group_of n log c
-found_group n log comms c h = ap (find_group c) h.made
+pub found_group : {n : ℕ} {log : List Entry} {comms : List (ℕ × List ℕ)} (c : ℕ) → HasCommunicators n log comms → find_group c comms ≡ group_of n log c
+found_group {n} {log} {comms} c h = ap (find_group c) h.made

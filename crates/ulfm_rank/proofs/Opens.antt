@@ -1,78 +1,62 @@
--- A context that isn't revoked was never cleared, and at most one numbered event comes of an entry.
-use Rattle.std.proofs.Common.{◌≡◌, ◌≢◌, ℕ, zero, suc, ◌+◌, ◌≤◌, Bool, true, false, cond, List, [], ◌∷◌, ◌++◌, length, refl, ap, sym, ◌∙◌, arith, length-append, ◌==◌}
-use Rattle.std.proofs.lemmas.Bool.Decides.{nat_tests}
-use Rattle.std.proofs.lemmas.Bool.{or_parts}
-use Rattle.ulfm_rank.proofs.Common.{Item, Entry, Posted, Revoked, Took}
+-- What events come of an entry: a context that isn't revoked was never cleared, and at most one of them is numbered.
+use Rattle.std.proofs.Common.{◌≡◌, ◌≢◌, ℕ, zero, suc, ◌+◌, ◌≤◌, Bool, true, false, cond, List, [], ◌∷◌, ◌++◌, length, refl, ap, sym, ◌∙◌, subst, Some, arith, length-append, All, slice_get}
+use Rattle.std.proofs.lemmas.Bool.{false≢true, or_parts, eq-eqb}
+use Rattle.std.proofs.lemmas.List.Elements.{All-nil, All-push, All-append}
+use Rattle.std.proofs.lemmas.Option.{get_or_from_slice_get, slice_get_within}
+use Rattle.ulfm_rank.proofs.Common.{Letter, Pattern, Item, Entry, Posted, Revoked, Took}
 use Rattle.ulfm_base.specs.declared.item.Item.TheVariants.{Letter as Mail, Gone, Revoke, Enter}
 use Rattle.ulfm_match.specs.History.{Event, Post, Come, End, Clear, counts_as, count_before}
 use Rattle.ulfm_match.specs.State.{IsUncleared}
-use Rattle.ulfm_rank.specs.Facts.{is_revoked, revoked_before, revokes, item_revokes}
-use Rattle.ulfm_rank.specs.History.{names_gone, end_at, ends_from, cleared, item_events, events_by, history_of}
+use Rattle.ulfm_rank.specs.Facts.{is_revoked, revoked_before, revokes}
+use Rattle.ulfm_rank.specs.History.{names_gone, end_at, ends_from, item_events, events_by, history_of}
 use Rattle.ulfm_base.specs.Pattern.{names}
 use Rattle.ulfm_rank.proofs.Gather.{gathered_all, any-push}
 
-open_nil : (c : ℕ) → IsUncleared [] c
-open_nil c k h = cc
-
-open_cons : (x : Event) (xs : List Event) (c : ℕ) → x ≢ Clear c → IsUncleared xs c → IsUncleared (x ∷ xs) c
-open_cons x xs c n o zero h = n (let e : x ≡ Clear c = cc in e)
-open_cons x xs c n o (suc k) h = o k h
-
-pub open_append : (xs ys : List Event) (c : ℕ) → IsUncleared xs c → IsUncleared ys c → IsUncleared (xs ++ ys) c
+open_append : (xs ys : List Event) (c : ℕ) → IsUncleared xs c → IsUncleared ys c → IsUncleared (xs ++ ys) c
 open_append [] ys c a b k h = b k h
 open_append (x ∷ xs) ys c a b zero h = a zero h
 open_append (x ∷ xs) ys c a b (suc k) h = open_append xs ys c (λ j g. a (suc j) g) b k h
 
-open_end : (s k c : ℕ) (e : Event) (rest : List Event) → IsUncleared rest c → IsUncleared (end_at s k e ++ rest) c
-open_end s k c (Post p) rest o = pick (names p.source s)
-  where
-    pick : (b : Bool) → IsUncleared ((cond b (End k ∷ []) []) ++ rest) c
-    pick true = open_cons (End k) rest c (λ e. cc) o
-    pick false = o
-open_end s k c (Come l) rest o = o
-open_end s k c (End i) rest o = o
-open_end s k c (Clear d) rest o = o
+-- What holds of an end, of a letter that comes, and of what the entry posts and clears holds of each event that it gives.
+module _ (P : Event → Type 0) (ends : (k : ℕ) → P (End k)) (comes : (l : Letter) → P (Come l)) where
+  one_if : (b : Bool) (x : Event) → P x → All P (cond b (x ∷ []) [])
+  one_if true x p = All-push P [] x (All-nil P) p
+  one_if false x p = All-nil P
 
-open_ends : (s k c : ℕ) (h : List Event) → IsUncleared (ends_from s k h) c
-open_ends s k c [] = open_nil c
-open_ends s k c (e ∷ h) = open_end s k c e (ends_from s (suc k) h) (open_ends s (suc k) c h)
+  none_if : (b : Bool) (x : Event) → P x → All P (cond b [] (x ∷ []))
+  none_if true x p = All-nil P
+  none_if false x p = one_if true x p
 
-open_cleared : (log : List Entry) (d c : ℕ) → (d == c) ≡ false → IsUncleared (cleared log d) c
-open_cleared log d c n = pick (is_revoked log d)
-  where
-    apart : (d c : ℕ) → (d == c) ≡ false → Clear d ≢ Clear c
-    apart d c n e = let f : d ≡ c = cc in grind (arith, nat_tests)
+  all_ends : (s k : ℕ) (h : List Event) → All P (ends_from s k h)
+  all_ends s k [] = All-nil P
+  all_ends s k (e ∷ h) = All-append P (end_at s k e) (ends_from s (suc k) h) (at e) (all_ends s (suc k) h)
+    where
+      at : (e : Event) → All P (end_at s k e)
+      at (Post p) = one_if (names p.source s) (End k) (ends k)
+      at _ = All-nil P
 
-    pick : (b : Bool) → IsUncleared (cond b [] (Clear d ∷ [])) c
-    pick true = open_nil c
-    pick false = open_cons (Clear d) [] c (apart d c n) (open_nil c)
+  all_events : (log : List Entry) (h : List Event) (e : Entry) → ((p : Pattern) → e ≡ Posted p → P (Post p)) → ((c : ℕ) → revokes c e ≡ true → P (Clear c)) → All P (events_by log h e)
+  all_events log h (Posted p) posts clears = All-append P (Post p ∷ []) _ (one_if true (Post p) (posts p refl)) (one_if (names_gone log p.source) (End (length h)) (ends (length h)))
+  all_events log h (Revoked d) posts clears = none_if (is_revoked log d.number) (Clear d.number) (clears d.number (eq-eqb d.number d.number refl))
+  all_events log h (Took s (Mail l)) posts clears = none_if (is_revoked log l.envelope.context.number) (Come l) (comes l)
+  all_events log h (Took s Gone) posts clears = all_ends s.number 0 h
+  all_events log h (Took s (Revoke d)) posts clears = none_if (is_revoked log d.number) (Clear d.number) (clears d.number (eq-eqb d.number d.number refl))
+  all_events log h _ posts clears = All-nil P
 
-open_item : (log : List Entry) (h : List Event) (s : ℕ) (item : Item) (c : ℕ) → item_revokes c item ≡ false → IsUncleared (item_events (revoked_before log item) h s item) c
-open_item log h s (Mail l) c n = pick (is_revoked log l.envelope.context.number)
-  where
-    pick : (b : Bool) → IsUncleared (cond b [] (Come l ∷ [])) c
-    pick true = open_nil c
-    pick false = open_cons (Come l) [] c (λ e. cc) (open_nil c)
-open_item log h s Gone c n = open_ends s 0 c h
-open_item log h s (Revoke d) c n = open_cleared log d.number c n
-open_item log h s (Enter d known) c n = open_nil c
-
-open_events : (log : List Entry) (h : List Event) (e : Entry) (c : ℕ) → revokes c e ≡ false → IsUncleared (events_by log h e) c
-open_events log h (Posted p) c n = open_cons (Post p) _ c (λ e. cc) (pick (names_gone log p.source))
-  where
-    pick : (b : Bool) → IsUncleared (cond b (End (length h) ∷ []) []) c
-    pick true = open_cons (End (length h)) [] c (λ e. cc) (open_nil c)
-    pick false = open_nil c
-open_events log h (Revoked d) c n = open_cleared log d.number c n
-open_events log h (Took s item) c n = open_item log h s.number item c n
-open_events log h _ c n = open_nil c
+  pub each_event : (log : List Entry) (h : List Event) (e : Entry) → ((p : Pattern) → e ≡ Posted p → P (Post p)) → ((c : ℕ) → revokes c e ≡ true → P (Clear c)) → (k : ℕ) (x : Event) → slice_get (events_by log h e) k ≡ Some x → P x
+  each_event log h e posts clears k x g =
+      let es : List Event = events_by log h e in
+      subst P (get_or_from_slice_get es k x x g) (all_events log h e posts clears k x (slice_get_within es k x g))
 
 -- nothing of a context that isn't revoked was cleared
 pub unrevoked_open : (log : List Entry) (c : ℕ) → is_revoked log c ≡ false → IsUncleared (history_of log) c
 unrevoked_open log c h =
     gathered_all events_by (λ l found. is_revoked l c ≡ false → IsUncleared found c)
-    (λ l found e p n. let f = or_parts (is_revoked l c) (revokes c e) (sym (any-push (revokes c) l e) ∙ n) in open_append found (events_by l found e) c (p f.0) (open_events l found e c f.1))
-    [] (λ n. open_nil c) log h
+    (λ l found e p n.
+    let f = or_parts (is_revoked l c) (revokes c e) (sym (any-push (revokes c) l e) ∙ n) in
+    open_append found (events_by l found e) c (p f.0)
+    (λ k g. each_event (λ (x : Event). x ≢ Clear c) (λ i q. cc) (λ m q. cc) l found e (λ m q r. cc) (λ d r q. let same : d ≡ c = cc in false≢true (sym f.1 ∙ (ap (λ (b : ℕ). revokes b e) (sym same) ∙ r))) k (Clear c) g refl))
+    [] (λ n k g. cc) log h
 
 -- how many numbered events
 abbrev total : List Event → ℕ

@@ -80,12 +80,12 @@ owes_each n me log e made h fits d c entered member other stays =
     ∙ elim (own_cases log e c set.0 set.1) [
       | inl was ↦
           let same = members_stay n log e c (made c (ap is_some was)) in
-          some_either (first_set c (owed n me log d)) (first_set c (owed_by n me d log (owed n me log d) e)) (h d c (ap is_some was) (ap (λ (g : List ℕ). is_member g d) (sym same) ∙ member) other (gone_before log e d stays))
+          some_either (first_set c (owed n me log d)) (first_set c (owed_by n me d log (owed n me log d) e)) (h d c (ap is_some was) (ap (λ g. is_member g d) (sym same) ∙ member) other (gone_before log e d stays))
       | inr now ↦
           let is = entry_parts c e set.0 now.1 in
           let ok = rw is.1 at fits in
           let same = members_stay n log e c (ap (is_made n log) (sym is.2) ∙ ok.0) in
-          let inside : is_member (members_of n log is.0.number) d ≡ true = ap (λ i. is_member (members_of n log i) d) is.2 ∙ ap (λ (g : List ℕ). is_member g d) (sym same) ∙ member in
+          let inside : is_member (members_of n log is.0.number) d ≡ true = ap (λ i. is_member (members_of n log i) d) is.2 ∙ ap (λ g. is_member g d) (sym same) ∙ member in
           some_second (first_set c (owed n me log d)) (first_set c (owed_by n me d log (owed n me log d) e)) set.0
-          (ap (λ (x : Entry). first_set c (owed_by n me d log (owed n me log d) x)) is.1 ∙ told_now n me d c log (owed n me log d) is.0 set.0 is.2 inside other (gone_before log e d stays))
+          (ap (λ x. first_set c (owed_by n me d log (owed n me log d) x)) is.1 ∙ told_now n me d c log (owed n me log d) is.0 set.0 is.2 inside other (gone_before log e d stays))
     ]

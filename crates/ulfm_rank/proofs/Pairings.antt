@@ -1,6 +1,7 @@
 -- A log's history has one lawful pairing, which holds in its beginnings too.
 use Rattle.std.proofs.Common.{◌≡◌, List, [], ◌∷◌, ◌++◌, ap, sym, ◌∙◌, append-nil, append_assoc}
 use Rattle.ulfm_rank.proofs.Common.{Event, Pairing, LawfulPairing, Entry, events_by, history_of}
+use Rattle.ulfm_match.specs.History.{IsWellFormed}
 use Rattle.ulfm_match.proofs.Cut.{cut}
 use Rattle.ulfm_match.proofs.Unique.{one_pairing}
 use Rattle.ulfm_rank.specs.Paired.{IsPaired}
@@ -18,8 +19,9 @@ history-more front (e ∷ rest) =
           ∙ append_assoc (history_of front) added h.0,
     )
 
-pub paired : (log : List Entry) (r : Pairing) → LawfulPairing (history_of log) r → IsPaired log
-paired log r law = record {
+pub paired : (log : List Entry) (r : Pairing) → IsWellFormed (history_of log) → LawfulPairing (history_of log) r → IsPaired log
+paired log r formed law = record {
+  well_formed = formed;
   pairing = r;
   lawful = law;
   only = λ s other i b. (λ p. one_pairing (history_of log) r s law other i b p, λ p. one_pairing (history_of log) s r other law i b p);

@@ -18,7 +18,7 @@ shrink_only p q e = omega (arith, e)
 -- a duplicate has its parent's group
 pub parent_group : (n : ℕ) (log : List Entry) (p : ℕ) (g : List ℕ) → group_of n log (dup_of p) ≡ Some g → group_of n log p ≡ Some g
 parent_group n log p =
-    let P : List Entry → List (ℕ × List ℕ) → Type 0 = λ (before : List Entry) (found : List (ℕ × List ℕ)). (g : List ℕ) → find_group (dup_of p) found ≡ Some g → find_group p found ≡ Some g in
+    let P = λ (before : List Entry) (found : List (ℕ × List ℕ)). (g : List ℕ) → find_group (dup_of p) found ≡ Some g → find_group p found ≡ Some g in
     gathered_all {X = ℕ × List ℕ} made_by P step ((0, numbers_from 0 n) ∷ []) start log
   where
     start : (g : List ℕ) → find_group (dup_of p) ((0, numbers_from 0 n) ∷ []) ≡ Some g → find_group p ((0, numbers_from 0 n) ∷ []) ≡ Some g
@@ -40,7 +40,7 @@ pub record HasAdoption (P : Entry → Type 0) (p : ℕ) (g : List ℕ) : Type 0 
 
 pub adopted_group : (P : Entry → Type 0) (n : ℕ) (log : List Entry) (p : ℕ) (g : List ℕ) → All P log → group_of n log (shrink_of p) ≡ Some g → HasAdoption P p g
 adopted_group P n log p g all =
-    let Q : List Entry → List (ℕ × List ℕ) → Type 0 = λ (before : List Entry) (found : List (ℕ × List ℕ)). All P before → find_group (shrink_of p) found ≡ Some g → HasAdoption P p g in
+    let Q = λ (before : List Entry) (found : List (ℕ × List ℕ)). All P before → find_group (shrink_of p) found ≡ Some g → HasAdoption P p g in
     gathered_all {X = ℕ × List ℕ} made_by Q step ((0, numbers_from 0 n) ∷ []) start log all
   where
     start : All P [] → find_group (shrink_of p) ((0, numbers_from 0 n) ∷ []) ≡ Some g → HasAdoption P p g

@@ -48,7 +48,7 @@ same_truth true b f g = sym (f refl)
 same_truth false true f g = g refl
 same_truth false false f g = refl
 
-module _ (me : ℕ) (log : List Entry) (c : ℕ) (group : List ℕ) (known : RankSet) (entries listed : List (Option RankSet)) (failures members accounted : RankSet) (t : IsTally group known entries listed failures members accounted) (knows : Knows log known) (heard : HasEntries me log c entries) where
+module _ (me : ℕ) (log : List Entry) (c : ℕ) {group : List ℕ} {known : RankSet} {entries listed : List (Option RankSet)} {failures members accounted : RankSet} (t : IsTally group known entries listed failures members accounted) (knows : Knows log known) (heard : HasEntries me log c entries) where
   below : (r : ℕ) → is_member group r ≡ true → r < 8
   below r member = t.small r (t.are_members r ∙ member)
 
@@ -61,23 +61,23 @@ module _ (me : ℕ) (log : List Entry) (c : ℕ) (group : List ℕ) (known : Ran
     where
       pick : (b : Bool) → is_member group j ≡ b → b ≡ true
       pick true e = refl
-      pick false e = absurd (false≢true (sym (ap (λ (o : Option RankSet). in_entry o r) (t.kept j ∙ ap (λ (b : Bool). cond b (entry_at entries j) None) e)) ∙ h))
+      pick false e = absurd (false≢true (sym (ap (λ o. in_entry o r) (t.kept j ∙ ap (λ b. cond b (entry_at entries j) None) e)) ∙ h))
 
   in_listed : (r : ℕ) → list_any (λ entry. in_entry entry r) listed ≡ list_any (λ m. in_entry (listed_of me log c m) r) group
   in_listed r = same_truth _ _
       (λ h.
       let found = place_test (λ entry. in_entry entry r) None listed h in
       let member = placed found.0 r found.2 in
-      any_member group (λ m. in_entry (listed_of me log c m) r) found.0 member (ap (λ (o : Option RankSet). in_entry o r) (sym (listed_member found.0 member)) ∙ found.2))
+      any_member group (λ m. in_entry (listed_of me log c m) r) found.0 member (ap (λ o. in_entry o r) (sym (listed_member found.0 member)) ∙ found.2))
       (λ h.
       let found = member_test group (λ m. in_entry (listed_of me log c m) r) h in
-      list_any_at (λ entry. in_entry entry r) listed found.0 None (omega (arith, below found.0 found.1, t.size)) (ap (λ (o : Option RankSet). in_entry o r) (listed_member found.0 found.1) ∙ found.2))
+      list_any_at (λ entry. in_entry entry r) listed found.0 None (omega (arith, below found.0 found.1, t.size)) (ap (λ o. in_entry o r) (listed_member found.0 found.1) ∙ found.2))
 
   pub failures_out : (r : ℕ) → has failures r ≡ is_out me group log c r
-  failures_out r = t.failed r ∙ ap (λ (b : Bool). b || list_any (λ entry. in_entry entry r) listed) (knows r) ∙ ap (λ (b : Bool). is_gone log r || b) (in_listed r)
+  failures_out r = t.failed r ∙ ap (λ b. b || list_any (λ entry. in_entry entry r) listed) (knows r) ∙ ap (λ b. is_gone log r || b) (in_listed r)
 
   accounted_member : (r : ℕ) → is_member group r ≡ true → has accounted r ≡ (is_some (listed_of me log c r) || is_out me group log c r)
-  accounted_member r member = t.accounts r ∙ ap (λ (o : Option RankSet). is_some o || has failures r) (listed_member r member) ∙ ap (λ (b : Bool). is_some (listed_of me log c r) || b) (failures_out r)
+  accounted_member r member = t.accounts r ∙ ap (λ o. is_some o || has failures r) (listed_member r member) ∙ ap (λ b. is_some (listed_of me log c r) || b) (failures_out r)
 
   pub complete_from_subset : IsSubset members accounted → has_proposal me group log c ≡ true
   complete_from_subset within = all_members group _ (λ m member. sym (accounted_member m member) ∙ within m (t.are_members m ∙ member))
@@ -88,24 +88,23 @@ module _ (me : ℕ) (log : List Entry) (c : ℕ) (group : List ℕ) (known : Ran
       accounted_member r member ∙ at_member group _ r complete member
 
 -- there is no proposal
-pub no_proposal : (me : ℕ) (log : List Entry) (c : ℕ) (group : List ℕ) (known : RankSet) (entries listed : List (Option RankSet)) (failures members accounted : RankSet) → IsTally group known entries listed failures members accounted → Knows log known → HasEntries me log c entries → (IsSubset members accounted → ⊥) → has_proposal me group log c ≡ false
-no_proposal me log c group known entries listed failures members accounted t knows heard not_within =
-    false_from_ne_true _ (λ complete. not_within (subset_from_complete me log c group known entries listed failures members accounted t knows heard complete))
+pub no_proposal : (me : ℕ) (log : List Entry) (c : ℕ) {group : List ℕ} {known : RankSet} {entries listed : List (Option RankSet)} {failures members accounted : RankSet} → IsTally group known entries listed failures members accounted → Knows log known → HasEntries me log c entries → (IsSubset members accounted → ⊥) → has_proposal me group log c ≡ false
+no_proposal me log c t knows heard not_within = false_from_ne_true _ (λ complete. not_within (subset_from_complete me log c t knows heard complete))
 
 -- this is the proposal
-pub is_proposal : (n me : ℕ) (log : List Entry) (c : ℕ) (d : Decision) (known : RankSet) (entries : List (Option RankSet)) (failures members accounted : RankSet) → IsTally (members_of n log c) known entries d.entries failures members accounted → Knows log known → HasEntries me log c entries → IsSubset members accounted
+pub is_proposal : (n me : ℕ) (log : List Entry) (c : ℕ) (d : Decision) {known : RankSet} {entries : List (Option RankSet)} {failures members accounted : RankSet} → IsTally (members_of n log c) known entries d.entries failures members accounted → Knows log known → HasEntries me log c entries → IsSubset members accounted
     → has_entered log c ≡ true → d.context.number ≡ c → d.old ≡ members_of n log c → ((r : ℕ) → r < 8 → has d.excluded r ≡ (has members r && has failures r)) → d.fresh ≡ excluding (members_of n log c) (has d.excluded) → IsProposal n me log c d
-is_proposal n me log c d known entries failures members accounted t knows heard within entered context old excluded fresh =
+is_proposal n me log c d {known} {entries} {failures} {members} {accounted} t knows heard within entered context old excluded fresh =
     let group = members_of n log c in
-    let out = failures_out me log c group known entries d.entries failures members accounted t knows heard in
+    let out = failures_out me log c t knows heard in
     let both : (r : ℕ) → r < 8 → has d.excluded r ≡ (is_member group r && is_out me group log c r) =
-    λ r small. excluded r small ∙ ap (λ (b : Bool). b && has failures r) (t.are_members r) ∙ ap (λ (b : Bool). is_member group r && b) (out r) in
+    λ r small. excluded r small ∙ ap (λ b. b && has failures r) (t.are_members r) ∙ ap (λ b. is_member group r && b) (out r) in
     record {
       entered = entered;
-      complete = complete_from_subset me log c group known entries d.entries failures members accounted t knows heard within;
+      complete = complete_from_subset me log c t knows heard within;
       context = context;
       old_group = old;
-      entries = λ r small. slice_get-get_or d.entries r None (omega (arith, small, t.size)) ∙ ap Some (t.kept r ∙ ap (λ (o : Option RankSet). cond (is_member group r) o None) (heard r small));
+      entries = λ r small. slice_get-get_or d.entries r None (omega (arith, small, t.size)) ∙ ap Some (t.kept r ∙ ap (λ o. cond (is_member group r) o None) (heard r small));
       excluded = both;
-      fresh = fresh ∙ excluding_alike group (has d.excluded) (is_out me group log c) (λ m member. both m (t.small m (t.are_members m ∙ member)) ∙ ap (λ (b : Bool). b && is_out me group log c m) member);
+      fresh = fresh ∙ excluding_alike group (has d.excluded) (is_out me group log c) (λ m member. both m (t.small m (t.are_members m ∙ member)) ∙ ap (λ b. b && is_out me group log c m) member);
     }

@@ -1,5 +1,5 @@
 -- What one more entry leaves of a rank.
-use Rattle.std.proofs.Common.{◌≢◌, get_or-set_other, ◌≡◌, ℕ, ◌≤◌, List, [], ◌++◌, length, take, refl, ap, sym, ◌∙◌, arith, append-nil, length-append}
+use Rattle.std.proofs.Common.{◌≢◌, get_or-set_other, ◌≡◌, ℕ, ◌≤◌, [], ◌++◌, length, take, refl, ap, sym, ◌∙◌, arith, append-nil, length-append}
 use Rattle.std.proofs.lemmas.Bool.{or_parts}
 use Rattle.std.proofs.lemmas.List.{take-append-le}
 use Rattle.std.proofs.lemmas.List.Elements.{All-push}
@@ -27,9 +27,9 @@ sound-logged r e h = record {
 
 out-logged : (r : State) (e : Entry) (d : ℕ) → (mark_at r d).items_out ≤ length (owes r d) → went_out (logged r e) d ≡ went_out r d
 out-logged r e d within =
-    ap (λ (xs : List Item). take (mark_at r d).items_out xs ++ notice (mark_at r d).notice_out)
+    ap (λ xs. take (mark_at r d).items_out xs ++ notice (mark_at r d).notice_out)
     (owes-logged r e d)
-    ∙ ap (λ (xs : List Item). xs ++ notice (mark_at r d).notice_out) (take-append-le (mark_at r d).items_out (owes r d) (owed_by r.ranks r.me d r.log (owes r d) e) within)
+    ∙ ap (λ xs. xs ++ notice (mark_at r d).notice_out) (take-append-le (mark_at r d).items_out (owes r d) (owed_by r.ranks r.me d r.log (owes r d) e) within)
 
 pub calm-logged : (r : State) (e : Entry) → IsState r → IsSigned r.me e → Calm r (logged r e)
 calm-logged r e h signed = record {
@@ -48,7 +48,7 @@ pub record Own (me : ℕ) (e : Entry) : Type 0 where
 pub quiet-logged : (r : State) (e : Entry) → IsState r → Own r.me e → Quiet r (logged r e)
 quiet-logged r e h own = record {
   calm = calm-logged r e h own.signed;
-  took = λ s. took-push r.log e s ∙ ap (λ (xs : List Item). took r.log s ++ xs) (own.takes_none s) ∙ append-nil (took r.log s);
+  took = λ s. took-push r.log e s ∙ ap (λ xs. took r.log s ++ xs) (own.takes_none s) ∙ append-nil (took r.log s);
 }
 
 pub calm-took : (r : State) (source : WorldRank) (item : Item) → IsState r → Calm r (logged r (Took source item))

@@ -7,7 +7,7 @@ use Rattle.ulfm_rank.specs.Checks.{Check, first_refusal, Passes}
 
 -- a check that doesn't
 pub goes_on : (b : Bool) (e : CallError) (more : List Check) (o : Option CallError) → b ≡ false → first_refusal more ≡ o → first_refusal ((b, e) ∷ more) ≡ o
-goes_on b e more o h rest = ap (λ (b : Bool). cond b (Some e) (first_refusal more)) h ∙ rest
+goes_on b e more o h rest = ap (λ b. cond b (Some e) (first_refusal more)) h ∙ rest
 
 -- two checks that pass, and then more
 pub passes_two : (a b : Bool) (e f : CallError) (more : List Check) (o : Option CallError) → Passes ((a, e) ∷ (b, f) ∷ []) → first_refusal more ≡ o → first_refusal ((a, e) ∷ (b, f) ∷ more) ≡ o

@@ -12,24 +12,24 @@ use Rattle.ulfm_rank.proofs.Grouped.{members_found}
 use Rattle.ulfm_rank.proofs.Known.{pends_known}
 use Rattle.ulfm_rank.proofs.Made.{found_group}
 
-module _ (n me : ℕ) (log : List Entry) (stopped : Bool) (matcher : Matching) (find : ℕ → Option Request) (facts : FaultState) (comms : List (ℕ × List ℕ)) (boxes : List Box) (held : Follows n me log stopped matcher find facts comms boxes) (id : ℕ) (q : Request) (found : find id ≡ Some q) where
+module _ {n me : ℕ} {log : List Entry} {stopped : Bool} {matcher : Matching} {find : ℕ → Option Request} {facts : FaultState} {comms : List (ℕ × List ℕ)} {boxes : List Box} (held : Follows n me log stopped matcher find facts comms boxes) (id : ℕ) (q : Request) (found : find id ≡ Some q) where
   of_group : IsOfGroup n log q.pattern
   of_group = held.in_step.table.of_group id q found
 
   found_here : find_group q.pattern.context.number comms ≡ Some of_group.group
-  found_here = found_group n log comms q.pattern.context.number held.communicators ∙ of_group.made
+  found_here = found_group q.pattern.context.number held.communicators ∙ of_group.made
 
   pub has_group : IsSome (find_group q.pattern.context.number comms)
   has_group = ap is_some found_here
 
   pub sender_found : HasSender (or_empty (find_group q.pattern.context.number comms)) q.fate
   sender_found =
-      subst (λ (g : List ℕ). HasSender g q.fate) (sym (ap or_empty found_here))
-      (has_sender n log matcher find held.in_step id q found of_group.group of_group.made)
+      subst (λ g. HasSender g q.fate) (sym (ap or_empty found_here))
+      (has_sender held.in_step id q found of_group.group of_group.made)
 
   pub answered : (a : TestAnswer) → GivesAnswer (or_empty (find_group q.pattern.context.number comms)) (pends_by facts (or_empty (find_group q.pattern.context.number comms)) q.pattern) q.pattern q.fate a → IsTestAnswer n log id a
   answered a gives =
-      let g : List ℕ = of_group.group in
-      let gives' : GivesAnswer g (pends_by facts g q.pattern) q.pattern q.fate a = subst (λ (g : List ℕ). GivesAnswer g (pends_by facts g q.pattern) q.pattern q.fate a) (ap or_empty found_here) gives in
-      tested n log matcher find held.in_step id q found g of_group.made a
-      (subst (λ (b : Bool). GivesAnswer g b q.pattern q.fate a) (pends_known n log facts q.pattern g held.faults (members_found n log q.pattern.context.number g of_group.made)) gives')
+      let g = of_group.group in
+      let gives' : GivesAnswer g (pends_by facts g q.pattern) q.pattern q.fate a = subst (λ g. GivesAnswer g (pends_by facts g q.pattern) q.pattern q.fate a) (ap or_empty found_here) gives in
+      tested held.in_step id q found g of_group.made a
+      (subst (λ b. GivesAnswer g b q.pattern q.fate a) (pends_known n log facts q.pattern g held.faults (members_found n log q.pattern.context.number g of_group.made)) gives')

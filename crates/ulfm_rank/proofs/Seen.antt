@@ -18,59 +18,60 @@ stop_places_few true = omega arith
 stop_places_few false = omega arith
 
 -- one more entry, by which no item left
-pub state_logged : (me n : ℕ) (log log' : List Entry) (boxes boxes' : List Box) (r : State) (e : Entry) → seen_of me n log boxes ≡ r → log' ≡ log ++ e ∷ [] → map mark_of boxes' ≡ map mark_of boxes → seen_of me n log' boxes' ≡ logged r e
-state_logged me n log log' boxes boxes' r e seen longer same = rw (longer, same) (ap (λ (s : State). logged s e) seen)
+pub state_logged : {me n : ℕ} {log log' : List Entry} (boxes boxes' : List Box) {r : State} (e : Entry) → seen_of me n log boxes ≡ r → log' ≡ log ++ e ∷ [] → map mark_of boxes' ≡ map mark_of boxes → seen_of me n log' boxes' ≡ logged r e
+state_logged {me} {n} {log} {log'} boxes boxes' {r} e seen longer same = rw (longer, same) (ap (λ s. logged s e) seen)
 
 -- the mark of an outbox
 pub mark_read : (me n : ℕ) (log : List Entry) (boxes : List Box) (d : ℕ) → mark_at (seen_of me n log boxes) d ≡ mark_of (box_at boxes d)
 mark_read me n log boxes d = get_or-map mark_of boxes d empty_box
 
--- another mark of one outbox
-pub state_marked : (me n : ℕ) (log : List Entry) (boxes : List Box) (r : State) (d : ℕ) (b : Box) (m : Mark) → seen_of me n log boxes ≡ r → mark_of b ≡ m → seen_of me n log (set boxes d b) ≡ with_marks r (set r.marks d m)
-state_marked me n log boxes r d b m seen same =
-    let F : State → Type 0 = λ (r : State). seen_of me n log (set boxes d b) ≡ with_marks r (set r.marks d m) in
-    subst F seen (ap (λ (ms : List Mark). with_marks (seen_of me n log boxes) ms) (map-set mark_of boxes d b ∙ ap (set (map mark_of boxes) d) same))
+-- an outbox has a place for each item that is owed
+whole : {n me : ℕ} {log : List Entry} {boxes : List Box} (d : ℕ) → HasOutboxes n me log boxes → d < length boxes → length (box_at boxes d).places ≡ length (owed n me log d)
+whole {n} {me} {log} {boxes} d h inside = sym (length-map (box_at boxes d).places (item_at log)) ∙ ap length (h.owed d inside) ∙ length-map (owed n me log d) Some
 
--- the rank with the next item of a running rank's outbox out
-taken_running : (me n : ℕ) (log : List Entry) (boxes : List Box) (d : ℕ) → is_stopped log ≡ false → seen_of me n log (set boxes d (with_items_out (box_at boxes d) ((box_at boxes d).items_out + 1))) ≡ taken_out (seen_of me n log boxes) d
-taken_running me n log boxes d running =
-    state_marked me n log boxes (seen_of me n log boxes) d (with_items_out (box_at boxes d) ((box_at boxes d).items_out + 1)) (marked (seen_of me n log boxes) (mark_at (seen_of me n log boxes) d)) refl (rw (running, mark_read me n log boxes d) refl)
+module _ {me n : ℕ} {log : List Entry} (boxes : List Box) {r : State} (d : ℕ) (seen : seen_of me n log boxes ≡ r) where
+  -- the rank with another mark of one outbox
+  remarked : (b : Box) (change : State → Mark → Mark) → mark_of b ≡ change (seen_of me n log boxes) (mark_of (box_at boxes d)) → seen_of me n log (set boxes d b) ≡ with_marks r (set r.marks d (change r (mark_at r d)))
+  remarked b change same =
+      let s = seen_of me n log boxes in
+      subst (λ (r : State). seen_of me n log (set boxes d b) ≡ with_marks r (set r.marks d (change r (mark_at r d)))) seen
+      (ap (with_marks s) (map-set mark_of boxes d b ∙ ap (set (map mark_of boxes) d) (same ∙ ap (change s) (sym (mark_read me n log boxes d)))))
 
-pub leaves_next : (me n : ℕ) (log : List Entry) (boxes : List Box) (r : State) (d : ℕ) (item : Item) → seen_of me n log boxes ≡ r → HasOutboxes n me log boxes → d < length boxes → is_stopped log ≡ false → slice_get (owed n me log d) (box_at boxes d).items_out ≡ Some item →
-    GoesOut r (seen_of me n log (set boxes d (with_items_out (box_at boxes d) ((box_at boxes d).items_out + 1)))) d item
-leaves_next me n log boxes r d item seen h inside running next =
-    let s : State = seen_of me n log boxes in
-    let mark : mark_at s d ≡ mark_of (box_at boxes d) = mark_read me n log boxes d in
-    let no_notice : (mark_at s d).notice_out ≡ false = ap (λ (m : Mark). m.notice_out) mark ∙ h.no_notice running d inside in
-    let next' : slice_get (owed n me log d) (mark_at s d).items_out ≡ Some item = rw mark next in
-    let L : State → Type 0 = λ (t : State). GoesOut s t d item in
-    let F : State → Type 0 = λ (r : State). GoesOut r (seen_of me n log (set boxes d (with_items_out (box_at boxes d) ((box_at boxes d).items_out + 1)))) d item in
-    subst F seen (subst L (sym (taken_running me n log boxes d running)) (leaves-running s d item (omega (arith, inside, length-map boxes mark_of)) running no_notice next'))
+  -- an item or the notice comes back
+  pub returns_item : is_stopped log ≡ false → seen_of me n log (set boxes d (with_items_out (box_at boxes d) ((box_at boxes d).items_out - 1))) ≡ returned r d
+  returns_item running = remarked (with_items_out (box_at boxes d) ((box_at boxes d).items_out - 1)) unmarked (rw running refl)
 
-pub leaves_notice : (me n : ℕ) (log : List Entry) (boxes : List Box) (r : State) (d : ℕ) → seen_of me n log boxes ≡ r → HasOutboxes n me log boxes → d < length boxes → is_stopped log ≡ true → (box_at boxes d).notice_out ≡ false → me ≢ d →
-    GoesOut r (seen_of me n log (set boxes d (with_notice_out (box_at boxes d) true))) d Gone
-leaves_notice me n log boxes r d seen h inside stopped no_notice other =
-    let s : State = seen_of me n log boxes in
-    let mark : mark_at s d ≡ mark_of (box_at boxes d) = mark_read me n log boxes d in
-    let no_notice' : (mark_at s d).notice_out ≡ false = ap (λ (m : Mark). m.notice_out) mark ∙ no_notice in
-    let out : seen_of me n log (set boxes d (with_notice_out (box_at boxes d) true)) ≡ taken_out s d =
-    state_marked me n log boxes s d (with_notice_out (box_at boxes d) true) (marked s (mark_at s d)) refl (rw (stopped, mark) refl) in
-    let L : State → Type 0 = λ (t : State). GoesOut s t d Gone in
-    let F : State → Type 0 = λ (r : State). GoesOut r (seen_of me n log (set boxes d (with_notice_out (box_at boxes d) true))) d Gone in
-    subst F seen (subst L (sym out) (leaves-stopped s d (omega (arith, inside, length-map boxes mark_of)) (omega (arith, inside, h.size)) stopped no_notice' other))
+  pub returns_notice : is_stopped log ≡ true → seen_of me n log (set boxes d (with_notice_out (box_at boxes d) false)) ≡ returned r d
+  returns_notice stopped = remarked (with_notice_out (box_at boxes d) false) unmarked (rw stopped refl)
 
--- an item or the notice comes back
-pub returns_item : (me n : ℕ) (log : List Entry) (boxes : List Box) (r : State) (d : ℕ) → seen_of me n log boxes ≡ r → is_stopped log ≡ false → seen_of me n log (set boxes d (with_items_out (box_at boxes d) ((box_at boxes d).items_out - 1))) ≡ returned r d
-returns_item me n log boxes r d seen running =
-    let s : State = seen_of me n log boxes in
-    let back = state_marked me n log boxes s d (with_items_out (box_at boxes d) ((box_at boxes d).items_out - 1)) (unmarked s (mark_at s d)) refl (rw (running, mark_read me n log boxes d) refl) in
-    back ∙ ap (λ (t : State). returned t d) seen
+  module _ (h : HasOutboxes n me log boxes) (inside : d < length boxes) where
+    -- the next item of a running rank, or the notice, leaves
+    pub leaves_next : {item : Item} → is_stopped log ≡ false → slice_get (owed n me log d) (box_at boxes d).items_out ≡ Some item → GoesOut r (seen_of me n log (set boxes d (with_items_out (box_at boxes d) ((box_at boxes d).items_out + 1)))) d item
+    leaves_next {item} running next =
+        let s = seen_of me n log boxes in
+        let no_notice : (mark_at s d).notice_out ≡ false = ap (λ (m : Mark). m.notice_out) (mark_read me n log boxes d) ∙ h.no_notice running d inside in
+        let next' : slice_get (owed n me log d) (mark_at s d).items_out ≡ Some item = rw (mark_read me n log boxes d) next in
+        subst (λ (t : State). GoesOut r t d item) (sym (remarked (with_items_out (box_at boxes d) ((box_at boxes d).items_out + 1)) marked (rw running refl)))
+        (subst (λ (r : State). GoesOut r (taken_out r d) d item) seen (leaves-running s d item (omega (arith, inside, length-map boxes mark_of)) running no_notice next'))
 
-pub returns_notice : (me n : ℕ) (log : List Entry) (boxes : List Box) (r : State) (d : ℕ) → seen_of me n log boxes ≡ r → is_stopped log ≡ true → seen_of me n log (set boxes d (with_notice_out (box_at boxes d) false)) ≡ returned r d
-returns_notice me n log boxes r d seen stopped =
-    let s : State = seen_of me n log boxes in
-    let back = state_marked me n log boxes s d (with_notice_out (box_at boxes d) false) (unmarked s (mark_at s d)) refl (rw (stopped, mark_read me n log boxes d) refl) in
-    back ∙ ap (λ (t : State). returned t d) seen
+    pub leaves_notice : is_stopped log ≡ true → (box_at boxes d).notice_out ≡ false → me ≢ d → GoesOut r (seen_of me n log (set boxes d (with_notice_out (box_at boxes d) true))) d Gone
+    leaves_notice stopped no_notice other =
+        let s = seen_of me n log boxes in
+        let no_notice' : (mark_at s d).notice_out ≡ false = ap (λ (m : Mark). m.notice_out) (mark_read me n log boxes d) ∙ no_notice in
+        subst (λ (t : State). GoesOut r t d Gone) (sym (remarked (with_notice_out (box_at boxes d) true) marked (rw stopped refl)))
+        (subst (λ (r : State). GoesOut r (taken_out r d) d Gone) seen (leaves-stopped s d (omega (arith, inside, length-map boxes mark_of)) (omega (arith, inside, h.size)) stopped no_notice' other))
+
+    -- an outbox of a running rank holds nothing exactly where all went out
+    left : is_stopped log ≡ false → outbox r d ≡ drop (box_at boxes d).items_out (owed n me log d)
+    left running = subst (λ (r : State). outbox r d ≡ drop (box_at boxes d).items_out (owed n me log d)) seen (rw (running, mark_read me n log boxes d) refl)
+
+    pub all_out : is_stopped log ≡ false → (box_at boxes d).items_out ≡ length (box_at boxes d).places → outbox r d ≡ []
+    all_out running out = left running ∙ drop_all (box_at boxes d).items_out (owed n me log d) (omega (arith, out, whole d h inside))
+
+    pub none_left : is_stopped log ≡ false → outbox r d ≡ [] → (box_at boxes d).items_out ≡ length (box_at boxes d).places
+    none_left running none =
+        let gone : length (owed n me log d) - (box_at boxes d).items_out ≡ 0 = sym (length-drop (box_at boxes d).items_out (owed n me log d)) ∙ ap length (sym (left running) ∙ none) in
+        omega (arith, whole d h inside, gone, h.within d inside)
 
 -- the item of the next place
 pub next_item : (log : List Entry) (places : List ℕ) (items : List Item) (k place : ℕ) → map (item_at log) places ≡ map Some items → slice_get places k ≡ Some place → (item : Item) × (item_at log place ≡ Some item) × (slice_get items k ≡ Some item)
@@ -85,9 +86,9 @@ next_item log (p ∷ places) (item ∷ items) (suc k) place h at =
     next_item log places items k place rest at
 
 -- outboxes of which one has another mark
-pub outboxes-marked : (n me : ℕ) (log : List Entry) (boxes : List Box) (d : ℕ) (b : Box) → HasOutboxes n me log boxes → d < length boxes → b.places ≡ (box_at boxes d).places → b.items_out ≤ length b.places → (is_stopped log ≡ false → b.notice_out ≡ false) → (me ≡ d → b.notice_out ≡ false) → HasOutboxes n me log (set boxes d b)
-outboxes-marked n me log boxes d b h inside same within no_notice self =
-    let size : length (set boxes d b) ≡ length boxes = length-set boxes d b in
+pub outboxes-marked : {n me : ℕ} {log : List Entry} {boxes : List Box} (d : ℕ) (b : Box) → HasOutboxes n me log boxes → d < length boxes → b.places ≡ (box_at boxes d).places → b.items_out ≤ length b.places → (is_stopped log ≡ false → b.notice_out ≡ false) → (me ≡ d → b.notice_out ≡ false) → HasOutboxes n me log (set boxes d b)
+outboxes-marked {n} {me} {log} {boxes} d b h inside same within no_notice self =
+    let size = length-set boxes d b in
     let here : (k : ℕ) → k ≡ d → box_at (set boxes d b) k ≡ b = λ k e. ap (box_at (set boxes d b)) e ∙ get_or-set_same boxes d b empty_box inside in
     let other : (k : ℕ) → k ≢ d → box_at (set boxes d b) k ≡ box_at boxes k = λ k e. get_or-set_other boxes d k b empty_box e in
     record {
@@ -112,32 +113,13 @@ outboxes-marked n me log boxes d b h inside same within no_notice self =
     }
 
 -- outboxes of which the next item went out, if there was one
-pub outboxes-taken : (n me : ℕ) (log : List Entry) (old new : Boxes) (d : ℕ) (o : Option Item) → HasOutboxes n me log old.boxes → d < length old.boxes → IfSome o (λ item. slice_get (owed n me log d) (box_at old.boxes d).items_out ≡ Some item) →
+pub outboxes-taken : {n me : ℕ} {log : List Entry} (old new : Boxes) (d : ℕ) (o : Option Item) → HasOutboxes n me log old.boxes → d < length old.boxes → IfSome o (λ item. slice_get (owed n me log d) (box_at old.boxes d).items_out ≡ Some item) →
     IfSome o (λ item. new.boxes ≡ set old.boxes d (with_items_out (box_at old.boxes d) ((box_at old.boxes d).items_out + 1))) → IfNone o (new ≡ old) → HasOutboxes n me log new.boxes
-outboxes-taken n me log old new d None h inside next change same = rw same h
-outboxes-taken n me log old new d (Some item) h inside next change same =
-    let b : Box = box_at old.boxes d in
-    let whole : length b.places ≡ length (owed n me log d) = sym (length-map b.places (item_at log)) ∙ ap length (h.owed d inside) ∙ length-map (owed n me log d) Some in
-    let below : b.items_out < length (owed n me log d) = slice_get_within (owed n me log d) b.items_out item next in
-    rw change (outboxes-marked n me log old.boxes d (with_items_out b (b.items_out + 1)) h inside refl (omega (arith, whole, below)) (λ s. h.no_notice s d inside) (λ e. ap (λ k. (box_at old.boxes k).notice_out) (sym e) ∙ h.no_own_notice))
-
--- an outbox from which all went out holds nothing
-pub all_out : (me n : ℕ) (log : List Entry) (boxes : List Box) (r : State) (d : ℕ) → seen_of me n log boxes ≡ r → HasOutboxes n me log boxes → d < length boxes → is_stopped log ≡ false → (box_at boxes d).items_out ≡ length (box_at boxes d).places → outbox r d ≡ []
-all_out me n log boxes r d seen h inside running out =
-    let b : Box = box_at boxes d in
-    let whole : length b.places ≡ length (owed n me log d) = sym (length-map b.places (item_at log)) ∙ ap length (h.owed d inside) ∙ length-map (owed n me log d) Some in
-    let F : State → Type 0 = λ (r : State). outbox r d ≡ [] in
-    subst F seen (rw (running, mark_read me n log boxes d) (drop_all b.items_out (owed n me log d) (omega (arith, out, whole))))
-
--- an outbox of a running rank that holds nothing is one that all items left
-pub none_left : (me n : ℕ) (log : List Entry) (boxes : List Box) (r : State) (d : ℕ) → seen_of me n log boxes ≡ r → HasOutboxes n me log boxes → d < length boxes → is_stopped log ≡ false → outbox r d ≡ [] → (box_at boxes d).items_out ≡ length (box_at boxes d).places
-none_left me n log boxes r d seen h inside running none =
-    let b : Box = box_at boxes d in
-    let whole : length b.places ≡ length (owed n me log d) = sym (length-map b.places (item_at log)) ∙ ap length (h.owed d inside) ∙ length-map (owed n me log d) Some in
-    let F : State → Type 0 = λ (r : State). outbox r d ≡ [] in
-    let rest : drop b.items_out (owed n me log d) ≡ [] = rw (running, mark_read me n log boxes d) at (subst F (sym seen) none) in
-    let gone : length (owed n me log d) - b.items_out ≡ 0 = sym (length-drop b.items_out (owed n me log d)) ∙ ap length rest in
-    omega (arith, whole, gone, h.within d inside)
+outboxes-taken {n} {me} {log} old new d None h inside next change same = rw same h
+outboxes-taken {n} {me} {log} old new d (Some item) h inside next change same =
+    let b = box_at old.boxes d in
+    let below = slice_get_within (owed n me log d) b.items_out item next in
+    rw change (outboxes-marked d (with_items_out b (b.items_out + 1)) h inside refl (omega (arith, whole d h inside, below)) (λ s. h.no_notice s d inside) (λ e. ap (λ k. (box_at old.boxes k).notice_out) (sym e) ∙ h.no_own_notice))
 
 pub IfSome_both : {X : Type 0} {P Q R : X → Type 0} (o : Option X) → IfSome o P → IfSome o Q → ((x : X) → P x → Q x → R x) → IfSome o R
 IfSome_both None p q f = tt

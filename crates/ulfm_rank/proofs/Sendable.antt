@@ -1,5 +1,5 @@
 -- Which send is refused, and which isn't.
-use Rattle.std.proofs.Common.{◌≡◌, ℕ, ◌<◌, ◌≤◌, Bool, false, cond, List, [], ◌∷◌, length, ap, ◌∙◌, arith, Some, None, slice_get, nat_le, nat_lt}
+use Rattle.std.proofs.Common.{◌≡◌, ℕ, ◌≤◌, Bool, false, cond, List, [], ◌∷◌, length, ap, ◌∙◌, arith, Some, None, slice_get, nat_le, nat_lt}
 use Rattle.std.proofs.lemmas.Bool.Decides.{nat_tests}
 use Rattle.std.proofs.lemmas.Option.{slice_get_within}
 use Rattle.ulfm_base.specs.declared.error.CallError.TheVariants.{NoComm, BadRank, TooLong, ProcFailed, Revoked, Stopped}
@@ -13,7 +13,7 @@ pub sendable : (r : State) (c dest size : ℕ) (group : List ℕ) (member : ℕ)
     first_refusal (send_checks r c dest size) ≡ cond gone (Some ProcFailed) None
 sendable r c dest size group member gone passes made open_still named fits known =
     let members : group_at r c ≡ group = ap or_empty made in
-    let within : dest < length group = slice_get_within group dest member named in
+    let within = slice_get_within group dest member named in
     let inside : is_outside r c dest ≡ false = rw members (let h : nat_le (length group) dest ≡ false = grind (arith, nat_tests) in h) in
     let short : nat_lt 1024 size ≡ false = grind (arith, nat_tests) in
     let last : is_gone_at r c dest ≡ gone = rw members (ap (is_gone_if_member r) named ∙ known) in
@@ -25,4 +25,4 @@ sendable r c dest size group member gone passes made open_still named fits known
     (goes_on (is_revoked r.log c) Revoked two _ open_still
     (goes_on (is_outside r c dest) BadRank three _ inside
     (goes_on (nat_lt 1024 size) TooLong four _ short
-    (ap (λ (b : Bool). cond b (Some ProcFailed) None) last))))
+    (ap (λ b. cond b (Some ProcFailed) None) last))))

@@ -32,19 +32,19 @@ read slots boxes d s seen inside is =
     ap contents_of (get_or_read slots d s (within slots boxes d seen inside) is empty_slot) ∙ sym (box-slot slots d) ∙ ap (λ bs. box_at bs d) seen
 
 -- the boxes after a change of one of them
-pub put : (slots : List Slot) (boxes : List Box) (d : ℕ) (s s' : Slot) (f : Box → Box) → map contents_of slots ≡ boxes → d < length boxes → s ≡ get_or slots d s → s'.contents ≡ f s.contents →
+pub put : (slots : List Slot) {boxes : List Box} (d : ℕ) {s : Slot} (s' : Slot) (f : Box → Box) → map contents_of slots ≡ boxes → d < length boxes → s ≡ get_or slots d s → s'.contents ≡ f s.contents →
     map contents_of (set slots d s') ≡ set boxes d (f (box_at boxes d))
-put slots boxes d s s' f seen inside is change =
-    map-set contents_of slots d s' ∙ ap (λ b. set (map contents_of slots) d b) (change ∙ ap f (read slots boxes d s seen inside is)) ∙ ap (λ bs. set bs d (f (box_at boxes d))) seen
+put slots {boxes} d {s} s' f seen inside is change =
+    map-set contents_of slots d s' ∙ ap (set (map contents_of slots) d) (change ∙ ap f (read slots boxes d s seen inside is)) ∙ ap (λ bs. set bs d (f (box_at boxes d))) seen
 
 all_rooms : (slots : List Slot) → list_all has_room slots ≡ list_all (λ b. b) (map has_room slots)
 all_rooms slots = sym (list_all-map (λ b. b) has_room slots)
 
 -- the room of all, where a change of one outbox keeps its room
-pub room_kept : (slots : List Slot) (boxes : List Box) (room : Bool) (d : ℕ) (s s' : Slot) → map contents_of slots ≡ boxes → list_all has_room slots ≡ room → d < length boxes → s ≡ get_or slots d s → s'.room ≡ s.room →
+pub room_kept : (slots : List Slot) {boxes : List Box} {room : Bool} (d : ℕ) {s : Slot} (s' : Slot) → map contents_of slots ≡ boxes → list_all has_room slots ≡ room → d < length boxes → s ≡ get_or slots d s → s'.room ≡ s.room →
     list_all has_room (set slots d s') ≡ room
-room_kept slots boxes room d s s' seen all inside is same =
-    let was : s ≡ slot_at slots d = get_or_read slots d s (within slots boxes d seen inside) is empty_slot in
+room_kept slots {boxes} {room} d {s} s' seen all inside is same =
+    let was = get_or_read slots d s (within slots boxes d seen inside) is empty_slot in
     all_rooms (set slots d s') ∙ ap (list_all (λ b. b)) (map-set_same has_room slots d s' empty_slot (same ∙ ap has_room was)) ∙ sym (all_rooms slots) ∙ all
 
 -- each outbox has room, where all have
@@ -60,9 +60,9 @@ room_all [] each = refl
 room_all (s ∷ slots) each = rw (each 0 (omega arith)) (room_all slots (λ d h. each (suc d) (omega (arith, h))))
 
 -- the boxes after a place was left in one of them
-pub grow_one : (boxes : List Box) (to place : ℕ) (item : Item) → to < length boxes → AllGrow boxes (set boxes to (with_place (box_at boxes to) place)) place (for_each (λ d. eqb to d) item)
+pub grow_one : (boxes : List Box) (to place : ℕ) (item : Item) → to < length boxes → AllGrow boxes (set boxes to (with_place (box_at boxes to) place)) place (for_each (eqb to) item)
 grow_one boxes to place item inside =
-    let b : Box = with_place (box_at boxes to) place in
+    let b = with_place (box_at boxes to) place in
     record {
       size = length-set boxes to b;
       each = λ d h. elim (cases_eq d to) [
@@ -73,14 +73,14 @@ grow_one boxes to place item inside =
             rw (here, was, t) (record { places = refl; items_out = refl; notice_out = refl })
         | inr other ↦
             let t : eqb to d ≡ false = grind (arith, nat_tests) in
-            let here : box_at (set boxes to b) d ≡ box_at boxes d = get_or-set_other boxes to d b empty_box other in
+            let here = get_or-set_other boxes to d b empty_box other in
             rw (here, t) (record { places = sym (append-nil (box_at boxes d).places); items_out = refl; notice_out = refl })
       ];
     }
 
 -- a change of one outbox that keeps its contents
-pub contents_kept : (slots : List Slot) (d : ℕ) (s s' : Slot) → d < length slots → s ≡ get_or slots d s → s'.contents ≡ s.contents → map contents_of (set slots d s') ≡ map contents_of slots
-contents_kept slots d s s' inside is same = map-set_same contents_of slots d s' empty_slot (same ∙ ap contents_of (get_or_read slots d s inside is empty_slot))
+pub contents_kept : (slots : List Slot) (d : ℕ) {s : Slot} (s' : Slot) → d < length slots → s ≡ get_or slots d s → s'.contents ≡ s.contents → map contents_of (set slots d s') ≡ map contents_of slots
+contents_kept slots d {s} s' inside is same = map-set_same contents_of slots d s' empty_slot (same ∙ ap contents_of (get_or_read slots d s inside is empty_slot))
 
 set_here : (slots : List Slot) (d k : ℕ) (s : Slot) → k ≡ d → d < length slots → slot_at (set slots d s) k ≡ s
 set_here slots d k s same inside = ap (slot_at (set slots d s)) same ∙ get_or-set_same slots d s empty_slot inside
@@ -95,13 +95,13 @@ pub record Reserving (was now : List Slot) (d : ℕ) : Type 0 where
   pub done : (k : ℕ) → k < d → (slot_at now k).room ≡ true
   pub rest : (k : ℕ) → d ≤ k → slot_at now k ≡ slot_at was k
 
-pub reserving-start : (slots : List Slot) → Reserving slots slots 0
-reserving-start slots = record { size = refl; contents = refl; done = λ k h. absurd (omega (arith, h)); rest = λ k h. refl }
+pub reserving-start : {slots : List Slot} → Reserving slots slots 0
+reserving-start {slots} = record { size = refl; contents = refl; done = λ k h. absurd (omega (arith, h)); rest = λ k h. refl }
 
-pub reserving-step : (was now : List Slot) (d : ℕ) (s s' : Slot) → Reserving was now d → d < length now → s ≡ get_or now d s → s'.contents ≡ s.contents → s'.room ≡ true → Reserving was (set now d s') (d + 1)
-reserving-step was now d s s' so_far inside is same room = record {
+pub reserving-step : {was now : List Slot} {d : ℕ} {s : Slot} (s' : Slot) → Reserving was now d → d < length now → s ≡ get_or now d s → s'.contents ≡ s.contents → s'.room ≡ true → Reserving was (set now d s') (d + 1)
+reserving-step {was} {now} {d} {s} s' so_far inside is same room = record {
   size = length-set now d s' ∙ so_far.size;
-  contents = contents_kept now d s s' inside is same ∙ so_far.contents;
+  contents = contents_kept now d s' inside is same ∙ so_far.contents;
   done = λ k h. elim (cases_eq k d) [
     | inl here ↦ ap has_room (set_here now d k s' here inside) ∙ room
     | inr other ↦ ap has_room (set_else now d k s' other) ∙ so_far.done k (omega (arith, h, other))
@@ -110,8 +110,8 @@ reserving-step was now d s s' so_far inside is same room = record {
 }
 
 -- an outbox that finds no room had none before, so not all had
-pub reserving-fails : (was now : List Slot) (d : ℕ) (s : Slot) → Reserving was now d → d < length now → s ≡ get_or now d s → s.room ≡ false → list_all has_room was ≡ false
-reserving-fails was now d s so_far inside is lacks =
+pub reserving-fails : {was now : List Slot} {d : ℕ} {s : Slot} → Reserving was now d → d < length now → s ≡ get_or now d s → s.room ≡ false → list_all has_room was ≡ false
+reserving-fails {was} {now} {d} {s} so_far inside is lacks =
     let there : slot_at was d ≡ s = sym (so_far.rest d (omega arith)) ∙ sym (get_or_read now d s inside is empty_slot) in
     list_all_at has_room was d empty_slot (omega (arith, inside, so_far.size)) (ap has_room there ∙ lacks)
 
@@ -121,28 +121,28 @@ pub record Leaving (was now : List Slot) (d place : ℕ) (to : ℕ → Bool) : T
   pub done : (k : ℕ) → k < d → (item : Item) → Grows (slot_at was k).contents (slot_at now k).contents place (for_each to item k)
   pub rest : (k : ℕ) → d ≤ k → slot_at now k ≡ slot_at was k
 
-pub leaving-start : (slots : List Slot) (place : ℕ) (to : ℕ → Bool) → Leaving slots slots 0 place to
-leaving-start slots place to = record { size = refl; done = λ k h. absurd (omega (arith, h)); rest = λ k h. refl }
+pub leaving-start : {slots : List Slot} {place : ℕ} {to : ℕ → Bool} → Leaving slots slots 0 place to
+leaving-start {slots} {place} {to} = record { size = refl; done = λ k h. absurd (omega (arith, h)); rest = λ k h. refl }
 
-pub leaving-room : (was now : List Slot) (d place : ℕ) (to : ℕ → Bool) (s : Slot) → Leaving was now d place to → list_all has_room was ≡ true → d < length now → s ≡ get_or now d s → s.room ≡ true
-leaving-room was now d place to s so_far all inside is =
+pub leaving-room : {was now : List Slot} {d place : ℕ} {to : ℕ → Bool} {s : Slot} → Leaving was now d place to → list_all has_room was ≡ true → d < length now → s ≡ get_or now d s → s.room ≡ true
+leaving-room {was} {now} {d} {place} {to} {s} so_far all inside is =
     ap has_room (get_or_read now d s inside is empty_slot ∙ so_far.rest d (omega arith)) ∙ room_at was d all (omega (arith, inside, so_far.size))
 
-pub leaving-passed : (was now : List Slot) (d place : ℕ) (to : ℕ → Bool) → Leaving was now d place to → to d ≡ false → Leaving was now (d + 1) place to
-leaving-passed was now d place to so_far outside = record {
+pub leaving-passed : {was now : List Slot} {d place : ℕ} {to : ℕ → Bool} → Leaving was now d place to → to d ≡ false → Leaving was now (d + 1) place to
+leaving-passed {was} {now} {d} {place} {to} so_far outside = record {
   size = so_far.size;
   done = λ k h item. elim (cases_eq k d) [
     | inl here ↦
         let t : to k ≡ false = ap to here ∙ outside in
-        let same : slot_at now k ≡ slot_at was k = so_far.rest k (omega (arith, here)) in
+        let same = so_far.rest k (omega (arith, here)) in
         rw (t, same) (record { places = sym (append-nil (slot_at was k).contents.places); items_out = refl; notice_out = refl })
     | inr other ↦ so_far.done k (omega (arith, h, other)) item
   ];
   rest = λ k h. so_far.rest k (omega (arith, h));
 }
 
-pub leaving-step : (was now : List Slot) (d place : ℕ) (to : ℕ → Bool) (s s' : Slot) → Leaving was now d place to → to d ≡ true → d < length now → s ≡ get_or now d s → s'.contents ≡ with_place s.contents place → Leaving was (set now d s') (d + 1) place to
-leaving-step was now d place to s s' so_far member inside is left = record {
+pub leaving-step : {was now : List Slot} {d place : ℕ} {to : ℕ → Bool} {s : Slot} (s' : Slot) → Leaving was now d place to → to d ≡ true → d < length now → s ≡ get_or now d s → s'.contents ≡ with_place s.contents place → Leaving was (set now d s') (d + 1) place to
+leaving-step {was} {now} {d} {place} {to} {s} s' so_far member inside is left = record {
   size = length-set now d s' ∙ so_far.size;
   done = λ k h item. elim (cases_eq k d) [
     | inl here ↦
@@ -155,8 +155,8 @@ leaving-step was now d place to s s' so_far member inside is left = record {
   rest = λ k h. set_else now d k s' (omega (arith, h)) ∙ so_far.rest k (omega (arith, h));
 }
 
-pub leaving-end : (was now : List Slot) (boxes : List Box) (d place : ℕ) (to : ℕ → Bool) → map contents_of was ≡ boxes → Leaving was now d place to → length now ≤ d → (item : Item) → AllGrow boxes (map contents_of now) place (for_each to item)
-leaving-end was now boxes d place to seen so_far whole item =
+pub leaving-end : {was now : List Slot} {boxes : List Box} {d place : ℕ} {to : ℕ → Bool} → map contents_of was ≡ boxes → Leaving was now d place to → length now ≤ d → (item : Item) → AllGrow boxes (map contents_of now) place (for_each to item)
+leaving-end {was} {now} {boxes} {d} {place} {to} seen so_far whole item =
     rw (← seen) (record {
       size = length-map now contents_of ∙ so_far.size ∙ sym (length-map was contents_of);
       each = λ k h. rw (box-slot was k, box-slot now k) (so_far.done k (omega (arith, h, whole, length-map now contents_of)) item);

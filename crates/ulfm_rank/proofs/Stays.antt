@@ -5,11 +5,12 @@ use Rattle.ulfm_rank.proofs.Common.{Letter, Pattern, Event, Post, Come, End, Cle
 use Rattle.ulfm_base.specs.declared.error.CallError.{CallError}
 use Rattle.ulfm_base.specs.declared.error.CallError.TheVariants.{ProcFailed, Revoked, Truncated}
 use Rattle.ulfm_match.specs.Pairing.{Pairing, LawfulPairing, pairs_below}
-use Rattle.ulfm_match.proofs.Cut.{cut, get_front, get_in_front, inside_to, inside_back}
+use Rattle.ulfm_match.proofs.Cut.{cut, get_front, inside_to, inside_back}
 use Rattle.ulfm_match.proofs.Decide.{lt_or_ge}
 use Rattle.ulfm_match.proofs.Unique.{same_pattern}
 use Rattle.ulfm_rank.specs.declared.entry.TestAnswer.TheVariants.{Done, Over, Pending, NotYet}
-use Rattle.ulfm_rank.specs.Answer.{Got, IsUnpaired, StandsFirst, IsOver, IsReceived, IsAnswerBy, is_release}
+use Rattle.ulfm_rank.specs.Answer.{Got, IsUnpaired, IsOver, IsReceived, IsAnswerBy, is_release}
+use Rattle.ulfm_rank.proofs.Tables.{first_on}
 use Rattle.ulfm_rank.proofs.Gather.{history-push}
 use Rattle.ulfm_rank.proofs.Grouped.{group_stays, members_found}
 
@@ -28,37 +29,24 @@ module _ (h xs : List Event) (r : Pairing) (law : LawfulPairing (h ++ xs) r) whe
   -- a receive that was over and unpaired isn't paired later
   unpaired_on : (i place : ℕ) (p : Pattern) (e : Event) → PostAt h i p → IsUnpaired (pairs_below (length h) r) i → i < place → slice_get h place ≡ Some e → (e ≡ End i) ⊎ (e ≡ Clear p.context.number) → IsUnpaired r i
   unpaired_on i place p e posted free after is why b q =
-      let li : i < length h = slice_get_within h i (Post p) posted in
-      let lp : place < length h = slice_get_within h place e is in
+      let li = slice_get_within h i (Post p) posted in
+      let lp = slice_get_within h place e is in
       elim (lt_or_ge b (length h)) [
         | inl lb ↦ free b (inside_back (length h) r i b li lb q)
         | inr far ↦
             let live = (law.matched i b q).receive_live in
             let before : place < max i b + 1 = omega (arith, far, lp) in
-            let same : (law.matched i b q).pattern ≡ p = same_pattern (h ++ xs) i (law.matched i b q).pattern p live.posted (get_front h xs i (Post p) posted) in
+            let same = same_pattern (h ++ xs) i (law.matched i b q).pattern p live.posted (get_front h xs i (Post p) posted) in
             elim why [
-              | inl ended ↦ live.not_ended (record { place = place; after = after; before = before; is = get_front h xs place (End i) (is ∙ ap (λ (x : Event). Some x) ended) })
+              | inl ended ↦ live.not_ended (record { place = place; after = after; before = before; is = get_front h xs place (End i) (is ∙ ap Some ended) })
               | inr cleared ↦
-                  live.not_cleared (record { place = place; after = after; before = before; is = get_front h xs place (Clear (law.matched i b q).pattern.context.number) (is ∙ ap (λ (x : Event). Some x) cleared ∙ ap (λ (w : Pattern). Some (Clear w.context.number)) (sym same)) })
+                  live.not_cleared (record { place = place; after = after; before = before; is = get_front h xs place (Clear (law.matched i b q).pattern.context.number) (is ∙ ap Some cleared ∙ ap (λ (w : Pattern). Some (Clear w.context.number)) (sym same)) })
             ]
       ]
 
-  first_on : (i : ℕ) (e o : Event) → StandsFirst h i e o → StandsFirst (h ++ xs) i e o
-  first_on i e o f =
-      let l : f.place < length h = slice_get_within h f.place e f.is in
-      record {
-        place = f.place;
-        after = f.after;
-        is = get_front h xs f.place e f.is;
-        first = λ st. f.first (record { place = st.place; after = st.after; before = st.before; is = back st.place (let b : st.place < f.place = st.before in omega (arith, b, l)) o st.is });
-      }
-    where
-      back : (k : ℕ) → k < length h → (x : Event) → slice_get (h ++ xs) k ≡ Some x → slice_get h k ≡ Some x
-      back k l x is = get_in_front h xs k x l is
-
   over_on : (i : ℕ) (p : Pattern) (reason : CallError) → PostAt h i p → IsOver h (pairs_below (length h) r) i p reason → IsOver (h ++ xs) r i p reason
-  over_on i p ProcFailed posted o = (unpaired_on i o.1.place p (End i) posted o.0 o.1.after o.1.is (inl refl), first_on i (End i) (Clear p.context.number) o.1)
-  over_on i p Revoked posted o = (unpaired_on i o.1.place p (Clear p.context.number) posted o.0 o.1.after o.1.is (inr refl), first_on i (Clear p.context.number) (End i) o.1)
+  over_on i p ProcFailed posted o = (unpaired_on i o.1.place p (End i) posted o.0 o.1.after o.1.is (inl refl), first_on h xs i (End i) (Clear p.context.number) o.1)
+  over_on i p Revoked posted o = (unpaired_on i o.1.place p (Clear p.context.number) posted o.0 o.1.after o.1.is (inr refl), first_on h xs i (Clear p.context.number) (End i) o.1)
   over_on i p Truncated posted o = (o.0, got_on i o.0 o.1, o.2)
   over_on i p _ posted o = absurd o
 
@@ -77,7 +65,7 @@ answer_stays n log e i p answer posted released old r law = stays answer release
     long = history-push log e
 
     law' : LawfulPairing (h ++ xs) r
-    law' = subst (λ (g : List Event). LawfulPairing g r) long law
+    law' = subst (λ g. LawfulPairing g r) long law
 
     short : LawfulPairing h (pairs_below (length h) r)
     short = cut h xs r law'
@@ -86,9 +74,9 @@ answer_stays n log e i p answer posted released old r law = stays answer release
     stays (Done status body) k old =
         let a = old (pairs_below (length h) r) short in record {
           letter = a.letter;
-          got = subst (λ (g : List Event). Got g r i a.letter) (sym long) (got_on h xs r law' i a.letter a.got);
+          got = subst (λ g. Got g r i a.letter) (sym long) (got_on h xs r law' i a.letter a.got);
           received = members_stay n log e p.context.number (λ (group : List ℕ). IsReceived group p.room a.letter status body) (λ q. let s = q.sender in cc) a.received;
         }
-    stays (Over reason) k old = subst (λ (g : List Event). IsOver g r i p reason) (sym long) (over_on h xs r law' i p reason posted (old (pairs_below (length h) r) short))
-    stays Pending k old = let bad : ⊥ = cc in absurd bad
-    stays NotYet k old = let bad : ⊥ = cc in absurd bad
+    stays (Over reason) k old = subst (λ g. IsOver g r i p reason) (sym long) (over_on h xs r law' i p reason posted (old (pairs_below (length h) r) short))
+    stays Pending k old = cc
+    stays NotYet k old = cc

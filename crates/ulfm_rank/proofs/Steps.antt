@@ -15,7 +15,7 @@ use Rattle.ulfm_rank.specs.Answer.{IsUnpaired}
 use Rattle.ulfm_rank.specs.inside.Table.{IsOfGroup, Became, IsStanding, IsTable}
 use Rattle.ulfm_rank.specs.History.{post_events, item_events}
 use Rattle.ulfm_rank.specs.inside.Requests.{fate_of, changed, Adds, Changes, TracksItem}
-use Rattle.ulfm_rank.proofs.Tables.{became_keeps, table_change, table_post}
+use Rattle.ulfm_rank.proofs.Tables.{became_keeps, no_post, refated, table_change, table_post}
 use Rattle.ulfm_match.proofs.Determined.{Posts}
 
 -- the pairing after a post
@@ -29,7 +29,7 @@ pub record IsPosted (h : List Event) (r : Pairing) (p : Pattern) (s : Matching) 
 
 pub posted : (h : List Event) (r : Pairing) (law : LawfulPairing h r) (p : Pattern) (s : Matching) (o : Option Letter) → Posts h r p s o → IsPosted h r p s o
 posted h r law p s None t =
-    let free : IsUnpaired r (length h) = λ b q. let l : length h < length h = receive_within h r law (length h) b q in absurd (omega arith) in
+    let free : IsUnpaired r (length h) = λ b q. let l = receive_within h r law (length h) b q in absurd (omega arith) in
     record {
       pairing = r;
       tracks = t;
@@ -39,8 +39,8 @@ posted h r law p s None t =
         live = record {
           posted = get_new h (Post p);
           before = let l = length_more h (Post p) in omega (arith, l);
-          not_ended = λ s. stands_nowhere (subst (λ (m : ℕ). StandsBetween (h ++ Post p ∷ []) (End (length h)) (length h) m) (length_more h (Post p)) s);
-          not_cleared = λ s. stands_nowhere (subst (λ (m : ℕ). StandsBetween (h ++ Post p ∷ []) (Clear p.context.number) (length h) m) (length_more h (Post p)) s);
+          not_ended = λ s. stands_nowhere (subst (StandsBetween (h ++ Post p ∷ []) (End (length h)) (length h)) (length_more h (Post p)) s);
+          not_cleared = λ s. stands_nowhere (subst (StandsBetween (h ++ Post p ∷ []) (Clear p.context.number) (length h)) (length_more h (Post p)) s);
         };
         unpaired = λ b l q. free b q;
       };
@@ -50,7 +50,7 @@ posted h r law p s (Some l) t = record {
   pairing = r ++ (length h, t.place) ∷ [];
   tracks = t.tracks;
   keep = pair_old r (length h) t.place;
-  only = λ i b li q. elim (pair_cases r (length h) t.place i b q) [ inl old ↦ old | inr e ↦ absurd (let f : i ≡ length h = e.0 in omega arith) ];
+  only = λ i b li q. elim (pair_cases r (length h) t.place i b q) [ inl old ↦ old | inr e ↦ absurd (let f = e.0 in omega arith) ];
   became = record { place = t.place; pairs = Contains-push r (length h, t.place); came = get_old h (Post p) t.place (Come l) t.came };
   unpaired = λ e. cc;
 }
@@ -74,27 +74,20 @@ admitted p h r law s o t =
     let d = posted h r law p s o t in (
       d.pairing,
       d.tracks,
-      λ n entries find find' of t adds. table_post n entries h (Post p) r d.pairing find find' t p (fate_of o false) refl of law d.keep d.only d.became adds,
+      λ n entries find find' of t adds. table_post n entries h r d.pairing find find' t p (fate_of o false) of law d.keep d.only d.became adds,
     )
 
 map_same : (o : Option Request) (f : Request → Request) → ((q : Request) → f q ≡ q) → option_map f o ≡ o
 map_same None f e = refl
-map_same (Some q) f e = ap (λ (w : Request). Some w) (e q)
+map_same (Some q) f e = ap Some (e q)
 
 -- the new request's fate after its end, in the table that the post left
 ended_table : (id : ℕ) (p : Pattern) (a b : Fate) (find find' : ℕ → Option Request) → Adds id (record { pattern = p; fate = b }) find find' → (k : ℕ) → find' k ≡ option_map (changed id b k) (cond (eqb id k) (Some (record { pattern = p; fate = a })) (find k))
 ended_table id p a b find find' adds k = adds k ∙ pick (eqb id k) refl
   where
     pick : (c : Bool) → eqb id k ≡ c → cond c (Some (record { pattern = p; fate = b })) (find k) ≡ option_map (changed id b k) (cond c (Some (record { pattern = p; fate = a })) (find k))
-    pick true e = ap (λ (c : Bool). Some (cond c (record { pattern = p; fate = b }) (record { pattern = p; fate = a }))) (sym e)
-    pick false e = sym (map_same (find k) (changed id b k) (λ q. ap (λ (c : Bool). cond c (record { pattern = q.pattern; fate = b }) q) e))
-
-changed_pattern : (id : ℕ) (o : Fate) (k : ℕ) (q : Request) → (changed id o k q).pattern ≡ q.pattern
-changed_pattern id o k q = pick (eqb id k)
-  where
-    pick : (c : Bool) → (cond c (record { pattern = q.pattern; fate = o }) q).pattern ≡ q.pattern
-    pick true = refl
-    pick false = refl
+    pick true e = ap (λ c. Some (cond c (record { pattern = p; fate = b }) (record { pattern = p; fate = a }))) (sym e)
+    pick false e = sym (map_same (find k) (changed id b k) (λ q. ap (λ c. cond c (record { pattern = q.pattern; fate = b }) q) e))
 
 -- by cases whether the request is the one that changes
 changed_became : (h : List Event) (r : Pairing) (id : ℕ) (o : Fate) (k : ℕ) (q : Request) (i : ℕ) → (id ≡ k → Became h r i q.pattern o) → (id ≢ k → Became h r i q.pattern q.fate) → Became h r i q.pattern (changed id o k q).fate
@@ -112,7 +105,7 @@ over h1 r i p q None l b u = (
     place = length h1;
     after = omega (arith, l);
     is = get_new h1 (End i);
-    first = λ s. stands_nowhere (subst (λ (m : ℕ). StandsBetween (h1 ++ End i ∷ []) (Clear q.context.number) i m) l s);
+    first = λ s. stands_nowhere (subst (StandsBetween (h1 ++ End i ∷ []) (Clear q.context.number) i) l s);
   },
 )
 over h1 r i p q (Some letter) l b u = record { place = b.place; pairs = b.pairs; came = get_old h1 (End i) b.place (Come letter) b.came }
@@ -121,26 +114,26 @@ over h1 r i p q (Some letter) l b u = record { place = b.place; pairs = b.pairs;
 pub admitted_over : (p : Pattern) (h : List Event) (r : Pairing) (law : LawfulPairing h r) (s s' : Matching) (o : Option Letter) → Posts h r p s o → TracksEnd (count_before h (length h)) s s' → AdmitsTo true p h r s' (fate_of o true)
 admitted_over p h r law s s' o t ends =
     let d = posted h r law p s o t in
-    let h1 : List Event = h ++ Post p ∷ [] in
-    let F : List Event → Type 0 = λ (g : List Event). (r' : Pairing) × Tracks g r' s' × ((n : ℕ) (entries : List Entry) (find find' : ℕ → Option Request) → IsOfGroup n entries p → IsTable n entries h r find → Adds (count_before h (length h)) (record { pattern = p; fate = fate_of o true }) find find' → IsTable n entries g r' find') in
-    let long : h1 ++ End (length h) ∷ [] ≡ h ++ post_events true h p = append_assoc h (Post p ∷ []) (End (length h) ∷ []) in
+    let h1 = h ++ Post p ∷ [] in
+    let F = λ (g : List Event). (r' : Pairing) × Tracks g r' s' × ((n : ℕ) (entries : List Entry) (find find' : ℕ → Option Request) → IsOfGroup n entries p → IsTable n entries h r find → Adds (count_before h (length h)) (record { pattern = p; fate = fate_of o true }) find find' → IsTable n entries g r' find') in
+    let long = append_assoc h (Post p ∷ []) (End (length h) ∷ []) in
     subst F long (
       d.pairing,
       ends h1 d.pairing (length h) p (get_new h (Post p)) (count_old h (Post p) (length h) (omega arith)) d.tracks,
       λ n entries find find' of t adds.
           let find1 : ℕ → Option Request = λ k. cond (eqb (count_before h (length h)) k) (Some (record { pattern = p; fate = fate_of o false })) (find k) in
-          let t1 : IsTable n entries h1 d.pairing find1 = table_post n entries h (Post p) r d.pairing find find1 t p (fate_of o false) refl of law d.keep d.only d.became (λ k. refl) in
-          table_change n entries h1 (End (length h)) d.pairing d.pairing find1 find' t1 (λ q e. cc) (changed (count_before h (length h)) (fate_of o true))
+          let t1 = table_post n entries h r d.pairing find find1 t p (fate_of o false) of law d.keep d.only d.became (λ k. refl) in
+          table_change n entries h1 (End (length h) ∷ []) d.pairing d.pairing find1 find' t1 (no_post h1 (End (length h)) (λ q e. cc)) (changed (count_before h (length h)) (fate_of o true))
           (ended_table (count_before h (length h)) p (fate_of o false) (fate_of o true) find find' adds)
-          (changed_pattern (count_before h (length h)) (fate_of o true))
+          (λ k q. refated (eqb (count_before h (length h)) k) (fate_of o true) q)
           (λ k q f w.
           changed_became (h1 ++ End (length h) ∷ []) d.pairing (count_before h (length h)) (fate_of o true) k q w.place
           (λ e.
-          let same : w.place ≡ length h = same_place h1 d.pairing k q w (length h) p (get_new h (Post p)) (count_old h (Post p) (length h) (omega arith) ∙ e) in
-          subst (λ (m : ℕ). Became (h1 ++ End (length h) ∷ []) d.pairing m q.pattern (fate_of o true)) (sym same) (over h1 d.pairing (length h) p q.pattern o (length_more h (Post p)) d.became d.unpaired))
+          let same = same_place h1 d.pairing k q w (length h) p (get_new h (Post p)) (count_old h (Post p) (length h) (omega arith) ∙ e) in
+          subst (λ m. Became (h1 ++ End (length h) ∷ []) d.pairing m q.pattern (fate_of o true)) (sym same) (over h1 d.pairing (length h) p q.pattern o (length_more h (Post p)) d.became d.unpaired))
           (λ ne.
           became_keeps h1 (End (length h)) d.pairing d.pairing d.tracks.lawful (λ i b q. q) w.place q.pattern q.fate (λ b q. q)
-          (λ e. (λ g. let f : length h ≡ w.place = cc in ne (sym (count_old h (Post p) (length h) (omega arith)) ∙ (ap (λ (m : ℕ). count_before h1 m) f ∙ w.numbered)), λ g. cc))
+          (λ e. (λ g. let f : length h ≡ w.place = cc in ne (sym (count_old h (Post p) (length h) (omega arith)) ∙ (ap (count_before h1) f ∙ w.numbered)), λ g. cc))
           w.fate)),
     )
 
@@ -148,28 +141,28 @@ module _ (n : ℕ) (entries : List Entry) (h : List Event) (r : Pairing) (law : 
   -- a letter that is kept changes no request
   pub come_kept : IsTable n entries (h ++ Come l ∷ []) r find
   come_kept =
-      table_change n entries h (Come l) r r find find t (λ q e. cc) (λ k q. q) (λ k. sym (map_same (find k) (λ q. q) (λ q. refl))) (λ k q. refl)
+      table_change n entries h (Come l ∷ []) r r find find t (no_post h (Come l) (λ q e. cc)) (λ k q. q) (λ k. sym (map_same (find k) (λ q. q) (λ q. refl))) (λ k q. refl)
       (λ k q f s. became_keeps h (Come l) r r law (λ i b q. q) s.place q.pattern q.fate (λ b q. q) (λ e. (λ g. cc, λ g. cc)) s.fate)
 
   -- a letter that is paired with the receive at i0
   pub come_paired : (i0 : ℕ) (p0 : Pattern) (id : ℕ) → PostAt h i0 p0 → count_before h i0 ≡ id → (find' : ℕ → Option Request) → Changes (changed id (Paired l)) find find' → IsTable n entries (h ++ Come l ∷ []) (r ++ (i0, length h) ∷ []) find'
   come_paired i0 p0 id here num find' change =
-      table_change n entries h (Come l) r (r ++ (i0, length h) ∷ []) find find' t (λ q e. cc) (changed id (Paired l)) change (changed_pattern id (Paired l))
+      table_change n entries h (Come l ∷ []) r (r ++ (i0, length h) ∷ []) find find' t (no_post h (Come l) (λ q e. cc)) (changed id (Paired l)) change (λ k q. refated (eqb id k) (Paired l) q)
       (λ k q f s.
       changed_became (h ++ Come l ∷ []) (r ++ (i0, length h) ∷ []) id (Paired l) k q s.place
       (λ e.
       let same : i0 ≡ s.place = sym (same_place h r k q s i0 p0 here (num ∙ e)) in
       record {
         place = length h;
-        pairs = subst (λ (m : ℕ). Pairs (r ++ (i0, length h) ∷ []) m (length h)) same (Contains-push r (i0, length h));
+        pairs = subst (λ m. Pairs (r ++ (i0, length h) ∷ []) m (length h)) same (Contains-push r (i0, length h));
         came = get_new h (Come l);
       })
       (λ ne.
       became_keeps h (Come l) r (r ++ (i0, length h) ∷ []) law (pair_old r i0 (length h)) s.place q.pattern q.fate
-      (λ b q'. elim (pair_cases r i0 (length h) s.place b q') [ inl old ↦ old | inr e ↦ absurd (ne (sym num ∙ (ap (λ (m : ℕ). count_before h m) (sym e.0) ∙ s.numbered))) ])
+      (λ b q'. elim (pair_cases r i0 (length h) s.place b q') [ inl old ↦ old | inr e ↦ absurd (ne (sym num ∙ (ap (count_before h) (sym e.0) ∙ s.numbered))) ])
       (λ e. (λ g. cc, λ g. cc)) s.fate))
 
 -- an item that gives no event
 pub nothing_happens : (revoked : Bool) (s : ℕ) (item : Item) (m : Matching) (find : ℕ → Option Request) → ((h : List Event) → item_events revoked h s item ≡ []) → TracksItem revoked s item m find m find
-nothing_happens revoked s item m find none n entries h r o t table =
-    subst (λ (g : List Event). (r' : Pairing) × Tracks g r' m × IsTable n entries g r' find) (sym (ap (λ (xs : List Event). h ++ xs) (none h) ∙ append-nil h)) (r, t, table)
+nothing_happens revoked s item m find none n entries h r t table =
+    subst (λ g. (r' : Pairing) × Tracks g r' m × IsTable n entries g r' find) (sym (ap (λ xs. h ++ xs) (none h) ∙ append-nil h)) (r, t, table)

@@ -1,4 +1,4 @@
--- Why a call is refused: what is checked, in the order of the checks. Want of memory comes last.
+-- Why a call is refused: what is checked, in the order of the checks. Out of memory comes last.
 use Rattle.std.specs.Prelude.{◌≡◌, ℕ, Bool, true, false, List, [], ◌∷◌, length, not, ◌||◌, ◌⊎◌, nat_le, nat_lt, Option, Some, None, slice_get, if◌then◌else◌}
 use Rattle.ulfm_base.specs.declared.decision.Decision.{Decision}
 use Rattle.ulfm_base.specs.declared.error.CallError.{CallError}
@@ -28,7 +28,7 @@ Passes checks = first_refusal checks ≡ None
 abbrev pub Fails : List Check → CallError → Type 0
 Fails checks e = first_refusal checks ≡ Some e
 
--- the same for a call that takes memory: where no check refuses, memory ran out
+-- the same for a call that may answer out of memory: it does so only where no check refuses
 abbrev pub FailsOrStarves : List Check → CallError → Type 0
 FailsOrStarves checks e = Fails checks e ⊎ (Passes checks × (e ≡ OutOfMemory))
 
@@ -86,6 +86,7 @@ shrink_checks r c = comm_checks r c ((has_entered r.log c, AlreadyMade) ∷ (nat
 abbrev pub proposal_checks : State → ℕ → List Check
 proposal_checks r c = comm_checks r c ((not (has_entered r.log c), NotEntered) ∷ [])
 
+-- of an adoption
 abbrev pub adopt_checks : State → ℕ → Decision → List Check
 adopt_checks r c d = comm_checks r c ((has_adopted r.log c, AlreadyMade) ∷ (not (has_entered r.log c), NotEntered) ∷ (is_foreign r.me (group_at r c) r.log c d, NotMember) ∷ [])
 

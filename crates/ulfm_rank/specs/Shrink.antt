@@ -78,7 +78,14 @@ differ _ _ = false
 abbrev pub contradicts : ℕ → List Entry → ℕ → Decision → Bool
 contradicts me log c d = list_any (λ r. differ (entry_at d.entries r) (listed_of me log c r)) (numbers_from 0 8)
 
--- A decision isn't one to adopt for the shrink of c: it is about another context or group, its new group lacks this
--- rank, or it lists a rank that this rank lists too, itself or one whose `Enter` it took, with another set.
+-- A decision is one for the rank `me`, with this group and log, to adopt for the shrink of c. It is about that context and group,
+-- and its new group has this rank. Where it lists this rank, or one whose `Enter` this rank took, it does so with the same set.
+pub record IsOwnAffair (me : ℕ) (group : List ℕ) (log : List Entry) (c : ℕ) (d : Decision) : Type 0 where
+  pub context : d.context.number ≡ c
+  pub old_group : d.old ≡ group
+  pub keeps_me : is_member d.fresh me ≡ true
+  pub agrees : (r : ℕ) (set other : RankSet) → r < 8 → entry_at d.entries r ≡ Some set → listed_of me log c r ≡ Some other → (q : ℕ) → q < 8 → has set q ≡ has other q
+
+-- the test of that rule: the decision isn't one to adopt for the shrink of c
 abbrev pub is_foreign : ℕ → List ℕ → List Entry → ℕ → Decision → Bool
 is_foreign me group log c d = not (d.context.number == c) || (not (pointwise nat_eq d.old group) || (not (is_member d.fresh me) || contradicts me log c d))

@@ -22,7 +22,7 @@ pub record State : Type 0 where
   pub log : List Entry
   pub marks : List Mark
 
--- a rank, and whether there is room for one `take`, of which 'unchanged' doesn't speak
+-- a rank, and whether there is room for one `take` or one call, of which 'unchanged' doesn't speak
 pub record View : Type 0 where
   pub state : State
   pub prepared : Bool

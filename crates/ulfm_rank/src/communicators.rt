@@ -1,24 +1,30 @@
 //! The communicators of one rank (MPI 4.0, 7.4).
-ghost use Rattle.std.specs.Prelude.{◌≡◌, ◌++◌, ◌∷◌, [], Some, None, is_some, IfOk, OnOk, OnErr, MatchOption};
+ghost use Rattle.std.specs.Prelude.{◌≡◌, ◌++◌, ◌∷◌, [], Some, None, is_some, false, IfOk, MatchOption};
 ghost use Rattle.ulfm_rank.specs.Communicators.{find_group};
 
 use std::alloc::Global;
 use std::marker::Model;
 use ulfm_base::{Context, Group, OutOfMemory};
 
-/// Each communicator's context with its group, in the order in which they were made.
+/// How many contexts there are: 0 to 62.
+const CONTEXTS: usize = 63;
+
+/// Each communicator's context with its group, in the order in which they were made. There is room for one of each
+/// context from the start.
 #[derive(Drop)]
 pub struct Communicators {
     made: Vec<(Context, Group)>,
 }
 
 impl Model for Communicators {
-    ghost use Rattle.std.specs.Prelude.{ℕ, List, map};
-    ghost use Rattle.ulfm_rank.specs.inside.Fields.{by_number};
+    ghost use Rattle.std.specs.Prelude.{ℕ, List, map, ◌≤◌, vec_capacity};
+    ghost use Rattle.ulfm_rank.specs.inside.Fields.{by_number, AreApart};
 
     ghost Value = { List (ℕ × List ℕ) };
 
     ghost view = { λ c. map by_number c.made.items };
+
+    ghost invariant = { λ c. (63 ≤ vec_capacity c.made) × AreApart c.made.items };
 }
 
 impl Communicators {
@@ -31,23 +37,18 @@ impl Communicators {
         ensures { IfOk result (λ communicators. communicators ≡ (0, world) ∷ []) }
     {
         let mut communicators = Communicators {
-            made: Vec::new(alloc),
+            made: Vec::with_capacity(alloc, CONTEXTS)?,
         };
-        communicators.add(Context::WORLD, world)?;
+        communicators.add(Context::WORLD, world);
         Ok(communicators)
     }
 
-    /// Adds the communicator of a context.
-    ///
-    /// # Errors
-    ///
-    /// `OutOfMemory` where the list finds no room. Then nothing changed.
-    pub fn add(&mut self, context: Context, group: Group) -> Result<(), OutOfMemory>
-        ensures added { OnOk result (self.new ≡ self.old ++ (context.number, group) ∷ []) }
-        ensures unchanged { OnErr result (self.new ≡ self.old) }
+    /// Adds the communicator of a context that has none yet.
+    pub fn add(&mut self, context: Context, group: Group)
+        requires { is_some (find_group context.number self.old) ≡ false }
+        ensures { self.new ≡ self.old ++ (context.number, group) ∷ [] }
     {
-        self.made.push((context, group))?;
-        Ok(())
+        self.made.push_reserved((context, group));
     }
 
     /// The group of a context's communicator, where it was made.

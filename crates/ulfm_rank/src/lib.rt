@@ -1,4 +1,4 @@
-//! The state of one rank, which its log determines.
+//! One rank: its log, what follows from it, and how far each outbox went out.
 #![tactic(auto)]
 
 mod adopting;
@@ -7,6 +7,7 @@ mod communicators;
 mod entry;
 mod failures;
 mod forwarding;
+mod law;
 mod members;
 mod outbox;
 mod outboxes;
@@ -19,4 +20,5 @@ mod shrinks;
 mod sources;
 
 pub use entry::{Comm, Entry, Status, TestAnswer};
+pub use law::own_affairs_alone;
 pub use rank::Rank;

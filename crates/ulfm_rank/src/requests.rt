@@ -1,7 +1,8 @@
 //! The table of requests beside the matcher: what posts, letters and notices do to both.
-ghost use Rattle.std.specs.Prelude.{◌≡◌, ◌+◌, ◌<◌, ◌^◌, IsTrue, nat_eq};
+ghost use Rattle.std.specs.Prelude.{◌≡◌, ◌+◌, ◌<◌, ◌^◌, IsTrue, false, nat_eq};
 ghost use Rattle.indexmap.specs.IndexMap.{get, index_map_len};
-ghost use Rattle.ulfm_rank.specs.inside.Requests.{changed, Changes, TracksAdmit, TracksDelivery, TracksRevocation, TracksItem, over_named, over_context};
+ghost use Rattle.ulfm_match.specs.State.{is_cleared};
+ghost use Rattle.ulfm_rank.specs.inside.Requests.{changed, Changes, IsOpenFor, TracksAdmit, TracksDelivery, TracksRevocation, TracksItem, over_named, over_context};
 
 use crate::request::{Fate, Request, fate_of, over_context, over_named};
 use indexmap::IndexMap;
@@ -12,6 +13,7 @@ use ulfm_match::{Arrived, Matcher, RequestId};
 pub(crate) fn admit(matcher: &mut Matcher, gone: bool, pattern: Pattern) -> (RequestId, Fate)
     requires prepared { IsTrue matcher.old.prepared }
     requires countable { matcher.old.count + 1 < 2 ^ 64 }
+    requires open { is_cleared matcher.old pattern.context.number ≡ false }
     ensures number { result.0.number ≡ matcher.old.count }
     ensures tracks { TracksAdmit gone pattern matcher.old result.1 matcher.new }
 {
@@ -36,6 +38,7 @@ fn set_fate(requests: &mut IndexMap<u64, Request>, id: u64, fate: Fate)
 fn deliver(matcher: &mut Matcher, requests: &mut IndexMap<u64, Request>, letter: Letter)
     requires prepared { IsTrue matcher.old.prepared }
     requires countable { matcher.old.count + 1 < 2 ^ 64 }
+    requires open { is_cleared matcher.old letter.envelope.context.number ≡ false }
     ensures len { index_map_len requests.new ≡ index_map_len requests.old }
     ensures tracks { TracksDelivery letter matcher.old (get nat_eq requests.old) matcher.new (get nat_eq requests.new) }
 {
@@ -90,6 +93,7 @@ pub(crate) fn settle(
 )
     requires prepared { IsTrue matcher.old.prepared }
     requires countable { matcher.old.count + 1 < 2 ^ 64 }
+    requires open { IsOpenFor revoked matcher.old item.now }
     ensures len { index_map_len requests.new ≡ index_map_len requests.old }
     ensures tracks { TracksItem revoked source.number item.now matcher.old (get nat_eq requests.old) matcher.new (get nat_eq requests.new) }
 {

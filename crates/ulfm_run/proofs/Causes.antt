@@ -1,16 +1,12 @@
 -- Each revocation has a cause exactly where each notice of one that was taken has.
 use Rattle.std.proofs.Common.{◌≡◌, ℕ, zero, suc, true, List, [], ◌∷◌, ap, subst, ◌∙◌, inl, inr, ◌⊎◌, refl}
-use Rattle.std.specs.List.{list_any}
 use Rattle.std.proofs.lemmas.Bool.{false≢true, eq-eqb, eqb-true, or_cases, or_left, or_right}
 use Rattle.std.proofs.lemmas.Option.{none-some, same_Some}
-use Rattle.ulfm_base.specs.declared.item.Item.{Item}
 use Rattle.ulfm_base.specs.declared.item.Item.TheVariants.{Letter, Gone, Revoke, Enter}
-use Rattle.ulfm_base.specs.Lists.{at}
-use Rattle.ulfm_rank.specs.declared.entry.Entry.{Entry}
 use Rattle.ulfm_rank.specs.declared.entry.Entry.TheVariants.{Revoked, Took}
 use Rattle.ulfm_rank.specs.Facts.{revokes, item_revokes, is_revoked}
-use Rattle.ulfm_script.specs.Report.{Report}
 use Rattle.ulfm_laws.specs.Causes.{is_call_to_revoke, RevokedByCall, RevokedByARank}
+use Rattle.ulfm_run.proofs.Common.{at, Entry, Item, list_any, Report}
 use Rattle.ulfm_run.specs.Caused.{IsCaused, HasCause, HaveCauses}
 
 -- what an entry revokes it revokes by a call, or the notice that it took has a cause
@@ -50,14 +46,14 @@ revoked_at c [] k e here h = absurd (none-some e here)
 revoked_at c (x ∷ log) zero e here h = or_left (revokes c x) (is_revoked log c) (ap (revokes c) (same_Some x e here) ∙ h)
 revoked_at c (x ∷ log) (suc k) e here h = or_right (revokes c x) (is_revoked log c) (revoked_at c log k e here h)
 
-item_each : (reports : List Report) (item : Item) → ((c : ℕ) → item_revokes c item ≡ true → RevokedByCall reports c) → IsCaused reports item
-item_each reports (Revoke context) h = h context.number (eq-eqb context.number context.number refl)
-item_each reports (Letter letter) h = tt
-item_each reports Gone h = tt
-item_each reports (Enter context known) h = tt
+item_each : {reports : List Report} (item : Item) → ((c : ℕ) → item_revokes c item ≡ true → RevokedByCall reports c) → IsCaused reports item
+item_each (Revoke context) h = h context.number (eq-eqb context.number context.number refl)
+item_each (Letter letter) h = tt
+item_each Gone h = tt
+item_each (Enter context known) h = tt
 
 entry_each : (reports : List Report) (e : Entry) → ((c : ℕ) → revokes c e ≡ true → RevokedByCall reports c) → HasCause reports e
-entry_each reports (Took source item) h = item_each reports item h
+entry_each reports (Took source item) h = item_each item h
 entry_each reports _ h = tt
 
 pub caused_each : (reports : List Report) → RevokedByARank reports → HaveCauses reports

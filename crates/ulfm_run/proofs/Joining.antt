@@ -1,42 +1,32 @@
 -- A rank and its end stay together while items go from one to the other.
 use Rattle.std.proofs.Common.{◌≡◌, ◌≢◌, ℕ, ◌<◌, Bool, true, false, cond, List, [], ◌∷◌, ◌++◌, refl, ap, sym, subst, ◌∙◌, arith, inl, inr, append-nil, All, ◌||◌}
 use Rattle.std.proofs.lemmas.Bool.{cases_eq, eq-eqb, ne_eqb}
-use Rattle.ulfm_base.specs.declared.rank.WorldRank.{WorldRank}
-use Rattle.ulfm_base.specs.declared.item.Item.{Item}
-use Rattle.ulfm_rank.specs.declared.entry.Entry.{Entry}
-use Rattle.ulfm_rank.specs.declared.entry.Entry.TheVariants.{Took}
 use Rattle.ulfm_rank.specs.Facts.{took, is_stopped, IsSigned}
 use Rattle.ulfm_rank.specs.State.{State, logged, went_out, GoesOut}
-use Rattle.ulfm_script.specs.Player.{Player, View, with_rank}
-use Rattle.ulfm_run.specs.inside.Joined.{IsJoined, Moves}
 use Rattle.ulfm_rank.proofs.Logs.{took-push, stopped-push}
 use Rattle.ulfm_rank.proofs.Quiet.{calm-took, out_other}
 use Rattle.ulfm_script.proofs.Takes.{takes-none, takes-one}
+use Rattle.ulfm_run.proofs.Common.{Entry, Item, Player, Took, View, with_rank, WorldRank}
+use Rattle.ulfm_run.specs.inside.Joined.{IsJoined, Moves}
 
-module _ {E N : Type 0} (name : E → N) (place count : E → ℕ) (pushed taken : E → ℕ → List Item) (ready : E → Type 0) where
-  abbrev pub Joined : State → E → Type 0
-  Joined r e = IsJoined place count pushed taken ready r e
-
-  abbrev pub Went : View → E → View → E → Type 0
-  Went v e w f = Moves name place count pushed taken ready v e w f
-
+module _ {E N : Type 0} {name : E → N} {place count : E → ℕ} {pushed taken : E → ℕ → List Item} {ready : E → Type 0} where
   -- nothing moved
-  pub moves-none : (v w : View) (e : E) → Joined v.player.rank e → w.player ≡ v.player → w.room ≡ v.room → Went v e w e
+  pub moves-none : (v w : View) (e : E) → IsJoined place count pushed taken ready v.player.rank e → w.player ≡ v.player → w.room ≡ v.room → Moves name place count pushed taken ready v e w e
   moves-none v w e h same room = record {
     same_end = refl;
-    joined = let J : Player → Type 0 = λ (p : Player). Joined p.rank e in subst J (sym same) h;
+    joined = subst (λ (p : Player). IsJoined place count pushed taken ready p.rank e) (sym same) h;
     me = ap (λ (p : Player). p.rank.me) same;
     ranks = ap (λ (p : Player). p.rank.ranks) same;
     stops = ap (λ (p : Player). is_stopped p.rank.log) same;
-    only = let W : Player → Type 0 = λ (p : Player). p ≡ with_rank v.player p.rank in subst W (sym same) refl;
+    only = subst (λ (p : Player). p ≡ with_rank v.player p.rank) (sym same) refl;
     room = room;
     takes = takes-none v.player.rank.log w.player.rank.log (ap (λ (p : Player). p.rank.log) same);
   }
 
   -- the end pushed what left the outbox
-  pub moves-pushed : (v w : View) (e f : E) (d : ℕ) (item : Item) → Joined v.player.rank e → d < v.player.rank.ranks → GoesOut v.player.rank w.player.rank d item → w.player ≡ with_rank v.player w.player.rank → w.room ≡ v.room →
-      name f ≡ name e → place f ≡ place e → count f ≡ count e → ready f → ((p : ℕ) → taken f p ≡ taken e p) → ((p : ℕ) → p ≢ d → pushed f p ≡ pushed e p) → pushed f d ≡ pushed e d ++ item ∷ [] → Went v e w f
-  moves-pushed v w e f d item h inside leaves only room name_same place_same count_same is_ready taken_same others here =
+  pub moves-pushed : (v w : View) {e : E} (f : E) {d : ℕ} {item : Item} → IsJoined place count pushed taken ready v.player.rank e → d < v.player.rank.ranks → GoesOut v.player.rank w.player.rank d item → w.player ≡ with_rank v.player w.player.rank → w.room ≡ v.room →
+      name f ≡ name e → place f ≡ place e → count f ≡ count e → ready f → ((p : ℕ) → taken f p ≡ taken e p) → ((p : ℕ) → p ≢ d → pushed f p ≡ pushed e p) → pushed f d ≡ pushed e d ++ item ∷ [] → Moves name place count pushed taken ready v e w f
+  moves-pushed v w f {d} {item} h inside leaves only room name_same place_same count_same is_ready taken_same others here =
       let me : w.player.rank.me ≡ v.player.rank.me = ap (λ (s : State). s.me) leaves.marked in
       let ranks : w.player.rank.ranks ≡ v.player.rank.ranks = ap (λ (s : State). s.ranks) leaves.marked in
       let log : w.player.rank.log ≡ v.player.rank.log = ap (λ (s : State). s.log) leaves.marked in
@@ -65,10 +55,10 @@ module _ {E N : Type 0} (name : E → N) (place count : E → ℕ) (pushed taken
       }
 
   -- the end refused what left the outbox, and it is back there
-  pub moves-returned : (v w : View) (e f : E) (d : ℕ) → Joined v.player.rank e → w.player ≡ v.player → w.room ≡ v.room → name f ≡ name e → place f ≡ place e → count f ≡ count e → ready f →
-      ((p : ℕ) → taken f p ≡ taken e p) → ((p : ℕ) → p ≢ d → pushed f p ≡ pushed e p) → pushed f d ≡ pushed e d → Went v e w f
-  moves-returned v w e f d h same room name_same place_same count_same is_ready taken_same others here =
-      let still : Joined v.player.rank f = record {
+  pub moves-returned : (v w : View) {e : E} (f : E) (d : ℕ) → IsJoined place count pushed taken ready v.player.rank e → w.player ≡ v.player → w.room ≡ v.room → name f ≡ name e → place f ≡ place e → count f ≡ count e → ready f →
+      ((p : ℕ) → taken f p ≡ taken e p) → ((p : ℕ) → p ≢ d → pushed f p ≡ pushed e p) → pushed f d ≡ pushed e d → Moves name place count pushed taken ready v e w f
+  moves-returned v w {e} f d h same room name_same place_same count_same is_ready taken_same others here =
+      let still : IsJoined place count pushed taken ready v.player.rank f = record {
         is_ready = is_ready;
         placed = place_same ∙ h.placed;
         counted = count_same ∙ h.counted;
@@ -85,15 +75,14 @@ module _ {E N : Type 0} (name : E → N) (place count : E → ℕ) (pushed taken
       record { same_end = name_same; joined = n.joined; me = n.me; ranks = n.ranks; stops = n.stops; only = n.only; room = n.room; takes = n.takes }
 
   -- the log took what the end popped
-  pub moves-taken : (v w : View) (e f : E) (source : WorldRank) (item : Item) → is_stopped v.player.rank.log ≡ false → source.number < v.player.rank.ranks → Joined v.player.rank e → w.player ≡ with_rank v.player (logged v.player.rank (Took source item)) → w.room ≡ v.room →
-      name f ≡ name e → place f ≡ place e → count f ≡ count e → ready f → ((p : ℕ) → pushed f p ≡ pushed e p) → taken f source.number ≡ taken e source.number ++ item ∷ [] → ((p : ℕ) → p ≢ source.number → taken f p ≡ taken e p) → Went v e w f
-  moves-taken v w e f source item running below h same room name_same place_same count_same is_ready pushed_same here others =
+  pub moves-taken : (v w : View) {e : E} (f : E) (source : WorldRank) (item : Item) → is_stopped v.player.rank.log ≡ false → source.number < v.player.rank.ranks → IsJoined place count pushed taken ready v.player.rank e → w.player ≡ with_rank v.player (logged v.player.rank (Took source item)) → w.room ≡ v.room →
+      name f ≡ name e → place f ≡ place e → count f ≡ count e → ready f → ((p : ℕ) → pushed f p ≡ pushed e p) → taken f source.number ≡ taken e source.number ++ item ∷ [] → ((p : ℕ) → p ≢ source.number → taken f p ≡ taken e p) → Moves name place count pushed taken ready v e w f
+  moves-taken v w f source item running below h same room name_same place_same count_same is_ready pushed_same here others =
       let calm = calm-took v.player.rank source item h.sound in
-      let new : State = logged v.player.rank (Took source item) in
-      let J : Player → Type 0 = λ (p : Player). Joined p.rank f in
+      let new = logged v.player.rank (Took source item) in
       record {
         same_end = name_same;
-        joined = subst J (sym same) (record {
+        joined = subst (λ (p : Player). IsJoined place count pushed taken ready p.rank f) (sym same) (record {
           is_ready = is_ready;
           placed = place_same ∙ h.placed;
           counted = count_same ∙ h.counted;
@@ -121,7 +110,7 @@ module _ {E N : Type 0} (name : E → N) (place count : E → ℕ) (pushed taken
         me = ap (λ (p : Player). p.rank.me) same;
         ranks = ap (λ (p : Player). p.rank.ranks) same;
         stops = ap (λ (p : Player). is_stopped p.rank.log) same ∙ stopped-push v.player.rank.log (Took source item) ∙ or_none (is_stopped v.player.rank.log);
-        only = let W : Player → Type 0 = λ (p : Player). p ≡ with_rank v.player p.rank in subst W (sym same) refl;
+        only = subst (λ (p : Player). p ≡ with_rank v.player p.rank) (sym same) refl;
         room = room;
         takes = takes-one v.player.rank.log w.player.rank.log source item running (ap (λ (p : Player). p.rank.log) same);
       }

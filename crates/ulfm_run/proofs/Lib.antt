@@ -1,3 +1,4 @@
+pub mod Common
 pub mod Joining
 pub mod Polled
 pub mod Working

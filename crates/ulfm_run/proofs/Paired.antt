@@ -6,25 +6,21 @@ use Rattle.std.proofs.lemmas.Option.{same_Some, slice_get_within, slice_get-get_
 use Rattle.std.proofs.Math.Seq.{map-set_same}
 use Rattle.ulfm_base.specs.declared.decision.Decision.{Decision}
 use Rattle.ulfm_board.specs.Known.{BothAgree, known_at, OneBoard}
-use Rattle.ulfm_base.specs.Lists.{at}
-use Rattle.ulfm_run.specs.inside.Threads.{NameOneBoard}
-use Rattle.ulfm_laws.specs.Answers.{AllAgree, AgreeAt}
+use Rattle.ulfm_run.proofs.Common.{AgreeAt, AllAgree, at, at_view, NameOneBoard}
 use Rattle.ulfm_run.proofs.Handed.{from_map}
-use Rattle.ulfm_base.proofs.Places.{at_view}
 
 -- seats of one board
 pub one_board_names : {D : Type 0} (board : D → Option (List ℕ)) (all : List D) → OneBoard board all → NameOneBoard (map board all)
 one_board_names {D} board all one = (
   one.0,
   λ k b here.
-      let d = from_map board all k b here in
-      let S : D → Type 0 = λ x. board x ≡ Some one.0 in
-      sym d.2 ∙ subst S (get_or_from_slice_get all k d.0 d.0 d.1) (one.1 k d.0 (slice_get_within all k d.0 d.1)),
+      let d = from_map board all k here in
+      sym d.2 ∙ subst (λ (x : D). board x ≡ Some one.0) (get_or_from_slice_get all k d.0 d.0 d.1) (one.1 k d.0 (slice_get_within all k d.0 d.1)),
 )
 
 -- a list that was lent and came back with as many elements
-pub lent_whole : {D Z : Type 0} (f : D → Z) (xs ws ys : List D) (n : ℕ) → ws ≡ xs → map f ys ≡ map f ws → n ≡ length xs → take n (ys ++ drop (length ys) xs) ≡ ys
-lent_whole f xs ws ys n lent same size =
+pub lent_whole : {D Z : Type 0} (f : D → Z) {xs ws : List D} (ys : List D) (n : ℕ) → ws ≡ xs → map f ys ≡ map f ws → n ≡ length xs → take n (ys ++ drop (length ys) xs) ≡ ys
+lent_whole f {xs} {ws} ys n lent same size =
     let many : length ys ≡ length xs = sym (length-map ys f) ∙ ap length same ∙ length-map ws f ∙ ap length lent in
     ap (λ (l : List _). take n (ys ++ l)) (drop_all (length ys) xs (omega (arith, many)))
     ∙ ap (take n) (append-nil ys) ∙ take_all n ys (omega (arith, many, size))
@@ -46,9 +42,7 @@ module _ {D : Type 0} (all front back : List D) (i j : ℕ) (x y : D) (is : all 
     same_board = one.1 j (board (get_or back 0 y)) (at_view board all j (get_or back 0 y) second_at) ∙ sym (one.1 i (board (get_or front i x)) (at_view board all i (get_or front i x) first_at))
 
     pub on_board : IsSome (board (get_or front i x))
-    on_board =
-        let S : Option (List ℕ) → Type 0 = λ (b : Option (List ℕ)). IsSome b in
-        subst S (sym (one.1 i (board (get_or front i x)) (at_view board all i (get_or front i x) first_at))) refl
+    on_board = subst (λ (b : Option (List ℕ)). IsSome b) (sym (one.1 i (board (get_or front i x)) (at_view board all i (get_or front i x) first_at))) refl
 
   -- two that are replaced by ones that f can't tell from them
   pub kept : {Z : Type 0} (f : D → Z) (x' y' : D) → f x' ≡ f (get_or front i x) → f y' ≡ f (get_or back 0 y) → map f (set front i x' ++ set back 0 y') ≡ map f all
@@ -62,8 +56,7 @@ module _ {D : Type 0} (all front back : List D) (i j : ℕ) (x y : D) (is : all 
       let same = same_Some (known (get_or front i x)) one (sym (at_view known all i (get_or front i x) first_at) ∙ p) in
       let same' = same_Some (known (get_or back 0 y)) other (sym (at_view known all j (get_or back 0 y) second_at) ∙ q) in
       let A : List (Option Decision) → Type 0 = λ ks. BothAgree (known_at ks c) (known_at (known (get_or back 0 y)) c) in
-      let B : List (Option Decision) → Type 0 = λ ks. BothAgree (known_at one c) (known_at ks c) in
-      subst B same' (subst A same (agree c))
+      subst (λ (ks : List (Option Decision)). BothAgree (known_at one c) (known_at ks c)) same' (subst A same (agree c))
 
 agree_sym : (a b : Option Decision) → BothAgree a b → BothAgree b a
 agree_sym None None h = tt
@@ -78,12 +71,10 @@ agree_same (Some d) = refl
 -- each two agree where each agrees with each before it
 pub all_agree : (known : List (List (Option Decision))) (n : ℕ) → length known ≤ n → ((i j : ℕ) → i < j → j < n → AgreeAt known i j) → AllAgree known
 all_agree known n end agree i j one other p q c =
-    let first : i < length known = slice_get_within known i one p in
-    let second : j < length known = slice_get_within known j other q in
+    let first = slice_get_within known i one p in
+    let second = slice_get_within known j other q in
     elim (cases_eq i j) [
-      | inl same ↦
-          let S : List (Option Decision) → Type 0 = λ ks. BothAgree (known_at one c) (known_at ks c) in
-          subst S (same_Some one other (sym p ∙ ap (slice_get known) same ∙ q)) (agree_same (known_at one c))
+      | inl same ↦ subst (λ (ks : List (Option Decision)). BothAgree (known_at one c) (known_at ks c)) (same_Some one other (sym p ∙ ap (slice_get known) same ∙ q)) (agree_same (known_at one c))
       | inr apart ↦ elim (cases_lt i j) [
         | inl low ↦ agree i j low (omega (arith, second, end)) one other p q c
         | inr high ↦ agree_sym (known_at other c) (known_at one c) (agree j i (omega (arith, high, apart)) (omega (arith, first, end)) other one q p c)

@@ -1,8 +1,6 @@
 -- One poll of a rank's next step.
 use Rattle.std.proofs.Common.{◌≡◌, ℕ, ◌+◌, ◌<◌, ◌≤◌, false, List, length, ap, sym, subst, ◌∙◌, arith, ◌⊎◌, Option, Some, None, slice_get}
 use Rattle.ulfm_base.specs.declared.context.Context.{Context}
-use Rattle.ulfm_rank.specs.Facts.{is_stopped}
-use Rattle.ulfm_rank.specs.State.{State, IsState}
 use Rattle.ulfm_job.specs.declared.step.Step.{Step}
 use Rattle.ulfm_job.specs.declared.step.Step.TheVariants.{Shrink}
 use Rattle.ulfm_script.specs.declared.answer.Called.{Called}
@@ -10,29 +8,29 @@ use Rattle.ulfm_script.specs.declared.answer.Called.TheVariants.{Answered, NotYe
 use Rattle.ulfm_script.specs.Deciding.{Known, IsDecided}
 use Rattle.ulfm_job.specs.Job.{Seen, IsJob, script_at}
 use Rattle.ulfm_script.specs.Player.{Polls as PollsBy, Player, View, IsCalled, GivesUpStep}
-use Rattle.ulfm_script.specs.inside.Underway.{FollowsSoFar, polls_left}
-use Rattle.ulfm_run.specs.inside.Joined.{Polls}
 use Rattle.ulfm_rank.specs.inside.Quiet.{Quiet}
 use Rattle.ulfm_script.proofs.Polls.{quiet-called}
 use Rattle.ulfm_script.proofs.Advance.{ready-at, advance-called, advance-left}
 use Rattle.ulfm_script.proofs.Decisions.{ready-decided, advance-decided, quiet-decided}
+use Rattle.ulfm_run.proofs.Common.{FollowsSoFar, is_stopped, IsState, polls_left, State}
+use Rattle.ulfm_run.specs.inside.Joined.{Polls}
 
 -- one call that is answered, or leaves the step open with polls to spare
-pub polls-call : (job : Seen) (me : ℕ) (v w : View) (asked : Step) → IsJob job → IsState v.player.rank → FollowsSoFar (script_at job me) job.turns v.player → is_stopped v.player.rank.log ≡ false → slice_get (script_at job me) (length v.player.done) ≡ Some asked →
+pub polls-call : {job : Seen} (me : ℕ) (v w : View) {asked : Step} → IsJob job → IsState v.player.rank → FollowsSoFar (script_at job me) job.turns v.player → is_stopped v.player.rank.log ≡ false → slice_get (script_at job me) (length v.player.done) ≡ Some asked →
     IsCalled v.player asked w.player → (w.player.current ≡ None) ⊎ (w.player.polls < job.turns) → w.room + length w.player.done ≡ v.room + length v.player.done → Polls job me v w
-polls-call job me v w asked is_job sound follows running next called few room =
+polls-call {job} me v w {asked} is_job sound follows running next called few room =
     let a = advance-called (script_at job me) job.turns v.player asked w.player (omega (arith, is_job.most_turns)) (ready-at job me v.player asked is_job follows running next) called few in
     record { quiet = quiet-called v.player asked w.player sound running called; follows = a.follows; room = room; falls = a.falls }
 
 -- a poll that answered its step left none open
 pub answered_none : (told : Called) (old : Player) (asked : Step) (new : Player) → told ≡ Answered → PollsBy told old asked new → new.current ≡ None
 answered_none Answered old asked new e h = ap (λ (p : Player). p.current) h.only
-answered_none NotYet old asked new e h = let bad : ⊥ = cc in absurd bad
+answered_none NotYet old asked new e h = absurd (cc)
 
 -- one call that leaves its step open, which is then given up
-pub polls-leave : (job : Seen) (me : ℕ) (v u w : View) (asked : Step) → IsJob job → IsState v.player.rank → FollowsSoFar (script_at job me) job.turns v.player → is_stopped v.player.rank.log ≡ false → slice_get (script_at job me) (length v.player.done) ≡ Some asked →
+pub polls-leave : {job : Seen} (me : ℕ) (v u w : View) {asked : Step} → IsJob job → IsState v.player.rank → FollowsSoFar (script_at job me) job.turns v.player → is_stopped v.player.rank.log ≡ false → slice_get (script_at job me) (length v.player.done) ≡ Some asked →
     IsCalled v.player asked u.player → GivesUpStep u.player w.player → job.turns ≤ u.player.polls → w.room + length w.player.done ≡ v.room + length v.player.done → Polls job me v w
-polls-leave job me v u w asked is_job sound follows running next called left last room =
+polls-leave {job} me v u w {asked} is_job sound follows running next called left last room =
     let a = advance-left (script_at job me) job.turns v.player asked u.player w.player left.step (omega (arith, is_job.most_turns)) (ready-at job me v.player asked is_job follows running next) called left.was_open left last in
     let Q : State → Type 0 = λ (r : State). Quiet v.player.rank r in
     let same : w.player.rank ≡ u.player.rank = ap (λ (p : Player). p.rank) left.only in
@@ -46,8 +44,8 @@ polls-decide job me v w comm board known later sound follows running d room =
     record { quiet = quiet-decided v.player comm board known later w.player sound d; follows = a.follows; room = room; falls = a.falls }
 
 -- a poll after one that found nothing to decide
-pub polls-after : (job : Seen) (me : ℕ) (v u w : View) → u.player ≡ v.player → u.room + length u.player.done ≡ v.room + length v.player.done → Polls job me u w → Polls job me v w
-polls-after job me v u w same room h =
+pub polls-after : {job : Seen} {me : ℕ} (v : View) {u w : View} → u.player ≡ v.player → u.room + length u.player.done ≡ v.room + length v.player.done → Polls job me u w → Polls job me v w
+polls-after {job} {me} v {w} same room h =
     let Q : Player → Type 0 = λ (p : Player). Quiet p.rank w.player.rank in
     let L : Player → Type 0 = λ (p : Player). polls_left (script_at job me) job.turns w.player < polls_left (script_at job me) job.turns p in
     record { quiet = subst Q same h.quiet; follows = h.follows; room = h.room ∙ room; falls = subst L same h.falls }

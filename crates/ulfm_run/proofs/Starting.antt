@@ -1,32 +1,27 @@
 -- A rank that starts.
 use Rattle.std.proofs.Common.{◌≡◌, ℕ, ◌≤◌, List, [], length, refl, ap, sym, subst, ◌∙◌, arith}
 use Rattle.std.proofs.lemmas.List.Elements.{All-nil}
-use Rattle.ulfm_base.specs.declared.item.Item.{Item}
-use Rattle.ulfm_carrier.specs.Family.{IsFresh}
 use Rattle.ulfm_rank.specs.State.{IsState, went_out, no_mark, start_state}
-use Rattle.ulfm_job.specs.Job.{Seen, script_at}
 use Rattle.ulfm_script.specs.Player.{Player, View, start_player}
-use Rattle.ulfm_run.specs.inside.Joined.{IsJoined, IsAtWork}
-use Rattle.ulfm_rank.specs.Facts.{IsSigned}
-use Rattle.ulfm_script.specs.inside.Underway.{FollowsSoFar}
 use Rattle.ulfm_script.proofs.Progress.{follows-start}
 use Rattle.ulfm_base.proofs.Places.{get_or-blank}
+use Rattle.ulfm_run.proofs.Common.{FollowsSoFar, IsFresh, IsSigned, Item, script_at, Seen}
+use Rattle.ulfm_run.specs.inside.Joined.{IsJoined, IsAtWork}
 
 out-start : (me n d : ℕ) → went_out (start_state me n) d ≡ []
 out-start me n d = rw (get_or-blank n d no_mark) refl
 
 -- the rank of a fresh end goes to work
-pub at-work-start : {E : Type 0} (place count : E → ℕ) (pushed taken : E → ℕ → List Item) (ready : E → Type 0) (job : Seen) (me : ℕ) (v : View) (end : E) → IsFresh count pushed taken ready job.ranks end → place end ≡ me → v.player ≡ start_player me job.ranks → IsState v.player.rank → length (script_at job me) ≤ v.room → IsAtWork place count pushed taken ready job me v end
-at-work-start place count pushed taken ready job me v end fresh at starts sound room =
+pub at-work-start : {E : Type 0} (place count : E → ℕ) (pushed taken : E → ℕ → List Item) (ready : E → Type 0) (job : Seen) (me : ℕ) (v : View) {end : E} → IsFresh count pushed taken ready job.ranks end → place end ≡ me → v.player ≡ start_player me job.ranks → IsState v.player.rank → length (script_at job me) ≤ v.room → IsAtWork place count pushed taken ready job me v end
+at-work-start place count pushed taken ready job me v {end} fresh at starts sound room =
     let J : Player → Type 0 = λ (p : Player). IsJoined place count pushed taken ready p.rank end in
     let F : Player → Type 0 = λ (p : Player). FollowsSoFar (script_at job me) job.turns p in
-    let S : Player → Type 0 = λ (p : Player). IsState p.rank in
     record {
       joined = subst J (sym starts) (record {
         is_ready = fresh.is_ready;
         placed = at;
         counted = fresh.counted;
-        sound = subst S starts sound;
+        sound = subst (λ (p : Player). IsState p.rank) starts sound;
         signed = All-nil (IsSigned me);
         sent = λ d k. fresh.nothing_pushed d ∙ sym (out-start me job.ranks d);
         took = λ s. fresh.nothing_taken s;

@@ -1,29 +1,20 @@
 -- A rank at work.
 use Rattle.std.proofs.Common.{◌≡◌, ℕ, ◌≤◌, true, false, List, [], ◌++◌, length, map, refl, ap, sym, subst, ◌∙◌, arith, Bool, ◌∷◌, inl, inr, ◌⊎◌, append-nil, length-append, ◌<◌, Option, Some, None, MatchOption, slice_get, All}
 use Rattle.std.proofs.lemmas.Bool.{false≢true}
-use Rattle.std.proofs.lemmas.Option.{slice_get_within}
-use Rattle.std.proofs.lemmas.List.{length-map}
-use Rattle.ulfm_base.specs.declared.item.Item.{Item}
-use Rattle.ulfm_rank.specs.Facts.{is_stopped, IsSigned}
-use Rattle.ulfm_rank.specs.State.{State}
 use Rattle.ulfm_script.specs.declared.answer.StepReport.{StepReport}
 use Rattle.ulfm_job.specs.declared.step.Step.{Step}
 use Rattle.ulfm_job.specs.Job.{Seen, script_at, through_stop}
-use Rattle.ulfm_script.specs.Player.{Player, View, with_rank}
-use Rattle.ulfm_script.specs.Report.{Report}
-use Rattle.ulfm_script.specs.Deciding.{Known}
 use Rattle.ulfm_script.specs.inside.SoFar.{AnswersFollowSoFar}
 use Rattle.ulfm_script.proofs.Honestly.{honest-moved}
+use Rattle.ulfm_script.specs.Script.{reported_step, steps_done, IsPatient, HasFinished}
+use Rattle.ulfm_script.proofs.Progress.{follows-rank, through-none}
+use Rattle.ulfm_run.proofs.Common.{FollowsSoFar, is_stopped, IsPlayed, IsSigned, Item, Known, length-map, Player, polls_left, Report, slice_get_within, State, View, with_rank}
 use Rattle.ulfm_run.specs.inside.Joined.{IsJoined, Moves, Polls, IsAtWork}
 use Rattle.ulfm_run.specs.inside.Turns.{IsOver, WentOn, IsAsFar, Keeps, Carries, keeps-then}
-use Rattle.ulfm_run.specs.inside.Played.{IsPlayed}
-use Rattle.ulfm_script.specs.Script.{reported_step, steps_done, IsPatient, HasFinished}
-use Rattle.ulfm_script.specs.inside.Underway.{FollowsSoFar, polls_left}
-use Rattle.ulfm_script.proofs.Progress.{follows-rank, through-none}
 
 -- a player that stopped, or has no step left, answered its script
-pub has-answered : (script : List Step) (turns : ℕ) (p : Player) → FollowsSoFar script turns p → IsOver script p → HasFinished script turns p
-has-answered script turns p h over = elim (stops (is_stopped p.rank.log) refl) [
+pub has-answered : {script : List Step} {turns : ℕ} {p : Player} → FollowsSoFar script turns p → IsOver script p → HasFinished script turns p
+has-answered {script} {turns} {p} h over = elim (stops (is_stopped p.rank.log) refl) [
   | inl stopped ↦ record { steps = (h.stopped stopped).0; patient = h.patient; closed = (h.stopped stopped).1 }
   | inr running ↦
       let all : length script ≤ length p.done = elim over [ inl stopped ↦ absurd (false≢true (sym running ∙ stopped)) | inr k ↦ k ] in
@@ -55,83 +46,76 @@ as-far script turns u v only stops =
     }
 
 -- and a poll after it goes as one before
-pub went-after : (script : List Step) (turns : ℕ) (b : Bool) (u v w : Player) → IsAsFar script turns u v → WentOn script turns v w b → WentOn script turns u w b
-went-after script turns true u v w far h = (λ over. h.0 (far.over over), omega (arith, h.1, far.left))
-went-after script turns false u v w far h = (h.0, h.1 ∙ far.left)
+pub went-after : {script : List Step} {turns : ℕ} (b : Bool) {u v : Player} (w : Player) → IsAsFar script turns u v → WentOn script turns v w b → WentOn script turns u w b
+went-after true w far h = (λ over. h.0 (far.over over), omega (arith, h.1, far.left))
+went-after false w far h = (h.0, h.1 ∙ far.left)
 
 -- a rank that runs and has a step left isn't over
-pub not-over : (script : List Step) (p : Player) (asked : Step) → is_stopped p.rank.log ≡ false → slice_get script (length p.done) ≡ Some asked → ¬ IsOver script p
-not-over script p asked running next over = elim over [ inl e ↦ false≢true (sym running ∙ e) | inr k ↦ omega (arith, k, slice_get_within script (length p.done) asked next) ]
+pub not-over : (script : List Step) (p : Player) {asked : Step} → is_stopped p.rank.log ≡ false → slice_get script (length p.done) ≡ Some asked → ¬ IsOver script p
+not-over script p {asked} running next over = elim over [ inl e ↦ false≢true (sym running ∙ e) | inr k ↦ omega (arith, k, slice_get_within script (length p.done) asked next) ]
 
-module _ {E N : Type 0} (name : E → N) (place count : E → ℕ) (pushed taken : E → ℕ → List Item) (ready : E → Type 0) (job : Seen) (me : ℕ) where
-  abbrev pub AtWork : View → E → Type 0
-  AtWork v e = IsAtWork place count pushed taken ready job me v e
+-- what moves leaves the answers right
+pub honest-went : {E N : Type 0} {name : E → N} {place count : E → ℕ} {pushed taken : E → ℕ → List Item} {ready : E → Type 0} (known : Known) (v w : View) (e f : E) → Moves name place count pushed taken ready v e w f → AnswersFollowSoFar known v.player → AnswersFollowSoFar known w.player
+honest-went known v w e f m h = honest-moved known v.player w.player h m.only m.me m.ranks m.stops m.takes
 
+-- a poll keeps the rank at work
+pub at-work-polled : {E : Type 0} {place count : E → ℕ} {pushed taken : E → ℕ → List Item} {ready : E → Type 0} {job : Seen} {me : ℕ} {v w : View} {e : E} → IsAtWork place count pushed taken ready job me v e → Polls job me v w → IsAtWork place count pushed taken ready job me w e
+at-work-polled {w} h p =
+    let q = p.quiet in
+    record {
+      joined = record {
+        is_ready = h.joined.is_ready;
+        placed = h.joined.placed ∙ sym q.calm.me;
+        counted = h.joined.counted ∙ sym q.calm.ranks;
+        sound = q.calm.sound;
+        signed = subst (λ (m : ℕ). All (IsSigned m) w.player.rank.log) (sym q.calm.me) (q.calm.signed h.joined.signed);
+        sent = λ d k. h.joined.sent d (omega (arith, k, q.calm.ranks)) ∙ sym (q.calm.out d (omega (arith, k, q.calm.ranks)));
+        took = λ s. h.joined.took s ∙ sym (q.took s);
+        within = λ s k. q.took s ∙ h.joined.within s (omega (arith, k, q.calm.ranks));
+      };
+      named = q.calm.me ∙ h.named;
+      counted = q.calm.ranks ∙ h.counted;
+      follows = p.follows;
+      room = omega (arith, h.room, p.room);
+    }
+
+module _ {E N : Type 0} {name : E → N} {place count : E → ℕ} {pushed taken : E → ℕ → List Item} {ready : E → Type 0} {job : Seen} {me : ℕ} where
   -- what moves between a player and its end keeps the rank at work
-  pub at-work-moved : (v w : View) (e f : E) → AtWork v e → Moves name place count pushed taken ready v e w f → AtWork w f
+  pub at-work-moved : (v w : View) (e f : E) → IsAtWork place count pushed taken ready job me v e → Moves name place count pushed taken ready v e w f → IsAtWork place count pushed taken ready job me w f
   at-work-moved v w e f h m =
-      let F : Player → Type 0 = λ (p : Player). FollowsSoFar (script_at job me) job.turns p in
       record {
         joined = m.joined;
         named = m.me ∙ h.named;
         counted = m.ranks ∙ h.counted;
-        follows = subst F (sym m.only) (follows-rank (script_at job me) job.turns v.player w.player.rank m.stops h.follows);
+        follows = subst (λ (p : Player). FollowsSoFar (script_at job me) job.turns p) (sym m.only) (follows-rank (script_at job me) job.turns v.player w.player.rank m.stops h.follows);
         room = omega (arith, h.room, m.room, ap (λ (p : Player). length p.done) m.only);
       }
 
-  -- and leaves its answers right
-  pub honest-went : (known : Known) (v w : View) (e f : E) → Moves name place count pushed taken ready v e w f → AnswersFollowSoFar known v.player → AnswersFollowSoFar known w.player
-  honest-went known v w e f m h = honest-moved known v.player w.player h m.only m.me m.ranks m.stops m.takes
-
   -- so items that move are carried
-  pub carried : {D B : Type 0} (board : D → B) (known : D → Known) (v w : View) (e f : E) (d : D) → Moves name place count pushed taken ready v e w f → Carries name place count pushed taken ready board known job me v e d w f d
-  carried board known v w e f d m = record {
+  pub carried : {D B : Type 0} {board : D → B} {known : D → Known} {v w : View} {e f : E} {d : D} → Moves name place count pushed taken ready v e w f → Carries name place count pushed taken ready board known job me v e d w f d
+  carried {known = known} {v} {w} {e} {f} {d} m = record {
     keeps = record { at_work = λ h. at-work-moved v w e f h m; same_end = m.same_end; same_board = refl; honest = honest-went (known d) v w e f m };
     as_far = as-far (script_at job me) job.turns v.player w.player m.only m.stops;
   }
 
   -- what keeps the rank at work is followed by what does so too
-  pub goes-on : {D B : Type 0} (board : D → B) (known : D → Known) (i : Seen) (s : ℕ) (u v w : View) (e f g : E) (c d b : D) (p : Bool) → i ≡ job → s ≡ me → Keeps name place count pushed taken ready board known job me u e c v f d → Keeps name place count pushed taken ready board known i s v f d w g b → WentOn (script_at i s) i.turns v.player w.player p →
+  pub goes-on : {D B : Type 0} {board : D → B} {known : D → Known} {i : Seen} {s : ℕ} {u v w : View} {e f g : E} {c d b : D} (p : Bool) → i ≡ job → s ≡ me → Keeps name place count pushed taken ready board known job me u e c v f d → Keeps name place count pushed taken ready board known i s v f d w g b → WentOn (script_at i s) i.turns v.player w.player p →
       Keeps name place count pushed taken ready board known job me u e c w g b × WentOn (script_at job me) job.turns v.player w.player p
-  goes-on board known i s u v w e f g c d b p at_job at_rank h polls went =
+  goes-on {board = board} {known = known} {i} {u} {v} {w} {e} {f} {g} {c} {d} {b} p at_job at_rank h polls went =
       let K : Seen → ℕ → Type 0 = λ (j : Seen) r. Keeps name place count pushed taken ready board known j r v f d w g b × WentOn (script_at j r) j.turns v.player w.player p in
       let k = subst (λ (j : Seen). K j me) at_job (subst (λ r. K i r) at_rank (polls, went)) in
       (keeps-then name place count pushed taken ready board known job me u v w e f g c d b h k.0, k.1)
 
   -- a turn: its parts before the poll, and the poll
-  pub turned : {D B : Type 0} (board : D → B) (known : D → Known) (i : Seen) (s : ℕ) (u v w : View) (e f g : E) (c d b : D) (p : Bool) → i ≡ job → s ≡ me → Carries name place count pushed taken ready board known job me u e c v f d → Keeps name place count pushed taken ready board known i s v f d w g b → WentOn (script_at i s) i.turns v.player w.player p → WentOn (script_at job me) job.turns u.player w.player p
-  turned board known i s u v w e f g c d b p at_job at_rank h polls went =
-      went-after (script_at job me) job.turns p u.player v.player w.player h.as_far (goes-on board known i s u v w e f g c d b p at_job at_rank h.keeps polls went).1
-
-  -- a poll keeps the rank at work too
-  pub at-work-polled : (v w : View) (e : E) → AtWork v e → Polls job me v w → AtWork w e
-  at-work-polled v w e h p =
-      let q = p.quiet in
-      let S : ℕ → Type 0 = λ m. All (IsSigned m) w.player.rank.log in
-      record {
-        joined = record {
-          is_ready = h.joined.is_ready;
-          placed = h.joined.placed ∙ sym q.calm.me;
-          counted = h.joined.counted ∙ sym q.calm.ranks;
-          sound = q.calm.sound;
-          signed = subst S (sym q.calm.me) (q.calm.signed h.joined.signed);
-          sent = λ d k. h.joined.sent d (omega (arith, k, q.calm.ranks)) ∙ sym (q.calm.out d (omega (arith, k, q.calm.ranks)));
-          took = λ s. h.joined.took s ∙ sym (q.took s);
-          within = λ s k. q.took s ∙ h.joined.within s (omega (arith, k, q.calm.ranks));
-        };
-        named = q.calm.me ∙ h.named;
-        counted = q.calm.ranks ∙ h.counted;
-        follows = p.follows;
-        room = omega (arith, h.room, p.room);
-      }
+  pub turned : {D B : Type 0} {board : D → B} {known : D → Known} {i : Seen} (s : ℕ) {u v w : View} {e f g : E} {c d b : D} (p : Bool) → i ≡ job → s ≡ me → Carries name place count pushed taken ready board known job me u e c v f d → Keeps name place count pushed taken ready board known i s v f d w g b → WentOn (script_at i s) i.turns v.player w.player p → WentOn (script_at job me) job.turns u.player w.player p
+  turned s {w = w} p at_job at_rank h polls went = went-after p w.player h.as_far (goes-on p at_job at_rank h.keeps polls went).1
 
   -- what was played is reported
-  pub played : (v : View) (first e : E) (report : Report) → place first ≡ me → name e ≡ name first → AtWork v e → HasFinished (script_at job me) job.turns v.player → report.rank ≡ v.player.rank → report.steps ≡ v.player.done → IsPlayed name place count pushed taken ready job first report e
-  played v first e report at same h answered rank steps =
-      let J : State → Type 0 = λ (r : State). IsJoined place count pushed taken ready r e in
+  pub played : (v : View) (first : E) {e : E} (report : Report) → place first ≡ me → name e ≡ name first → IsAtWork place count pushed taken ready job me v e → HasFinished (script_at job me) job.turns v.player → report.rank ≡ v.player.rank → report.steps ≡ v.player.done → IsPlayed name place count pushed taken ready job first report e
+  played v first {e} report at same h answered rank steps =
       record {
         same_end = same;
-        joined = subst J (sym rank) h.joined;
+        joined = subst (λ (r : State). IsJoined place count pushed taken ready r e) (sym rank) h.joined;
         named = ap (λ (r : State). r.me) rank ∙ h.named ∙ sym at;
         counted = ap (λ (r : State). r.ranks) rank ∙ h.counted;
         steps = ap (map reported_step) steps ∙ answered.steps ∙ ap (λ i. through_stop (script_at job i)) (sym at);

@@ -10,7 +10,7 @@ use ulfm_rank::Entry;
 use ulfm_script::RankReport;
 
 /// Whether each decision that a rank adopted lists each rank with the failures of that rank's own entry, and excludes
-/// stopped ranks alone. It takes no memory.
+/// stopped ranks alone. It never answers out of memory.
 pub(crate) fn are_true(reports: &[RankReport]) -> bool
     ensures { IsTrue result ↔ AreTrue reports.now }
 {

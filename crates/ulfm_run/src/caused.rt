@@ -12,7 +12,7 @@ use ulfm_rank::Entry;
 use ulfm_script::RankReport;
 
 /// Whether the decisions that ranks adopted are true of what the ranks report, and each revocation was made by some rank's own
-/// call. It takes no memory.
+/// call. It never answers out of memory.
 #[tactic(auto, using(crate::proofs::Causes::caused))]
 pub(crate) fn are_borne_out(reports: &[RankReport]) -> bool
     ensures { IsTrue result ↔ (AreTrue reports.now × RevokedByARank reports.now) }

@@ -32,7 +32,8 @@ use ulfm_script::{Job, RankReport, RunFault};
 /// step once; a step that the job's last poll for it left open is given up. After its last step it goes on for as many
 /// turns without polls; where it stopped, it pushes alone, until nothing is left to go out. Then the decisions that ranks
 /// adopted, and the revocations that they took notice of, are held against what the ranks report. What is left in the inboxes
-/// is gathered, and the deciders are compared: no two know two decisions of one shrink.
+/// is gathered, and the deciders are compared: no two know two decisions of one shrink. No clause tells of threads, nor of the
+/// order in a turn (docs/LIMITS.md).
 ///
 /// # Errors
 ///
@@ -67,7 +68,7 @@ where
     ensures same_boards { IfOk result (λ report. map D.board report.deciders.items ≡ map D.board deciders.items) }
     ensures lawful { IfOk result (λ report. LawfulReport job.now (contents report.residue.inboxes.items) (map D.known report.deciders.items) report.ranks.items) }
 {
-    if !fits(job, &ends, deciders.len()) {
+    if !fits(job, &ends, &deciders) {
         return Err(RunFault::BadEnds);
     }
     let ran = match play_all(rt, alloc, job, ends, deciders) {
@@ -118,11 +119,11 @@ fn report_of<E: Ends, D: Decider, R: Wait>(
 }
 
 /// Whether there is an end and a decider for each rank, and each end stands at the place of its number.
-fn fits<E: Ends>(job: &Job, ends: &Vec<E>, deciders: usize) -> bool
-    ensures { IsTrue result ↔ ((length ends.now.items ≡ job.now.ranks) × (deciders ≡ job.now.ranks) × InPlace E.place ends.now.items) }
+fn fits<E: Ends, D>(job: &Job, ends: &Vec<E>, deciders: &Vec<D>) -> bool
+    ensures { IsTrue result ↔ Fits E.place job.now ends.now.items deciders.now.items }
 {
     let ranks = job.ranks() as usize;
-    if ends.len() != ranks || deciders != ranks {
+    if ends.len() != ranks || deciders.len() != ranks {
         return false;
     }
     for place in 0..ends.len() {

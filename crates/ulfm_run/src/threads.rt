@@ -2,6 +2,7 @@
 ghost use Rattle.std.specs.Prelude.{◌≡◌, ◌≤◌, ◌++◌, [], ℕ, List, All, length, vec_len, vec_capacity, IfSome, IfOk, IfErr, OnOk};
 ghost use Rattle.ulfm_carrier.specs.Family.{IsFresh};
 ghost use Rattle.ulfm_script.specs.inside.SoFar.{AnswersFollowSoFar};
+ghost use Rattle.ulfm_run.specs.Fault.{Fits};
 ghost use Rattle.ulfm_run.specs.inside.Joined.{IsAtWork};
 ghost use Rattle.ulfm_run.specs.inside.Threads.{begun_ends, begun_deciders, IsOfJob, EachFresh, WerePlayed, GaveAnswers};
 
@@ -118,7 +119,7 @@ where
     }
 }
 
-/// Starts a thread for each rank, in order, as far as that can be done.
+/// Starts a thread for each rank, in order, as far as that can be done: once it is seen that ends and deciders fit the job.
 fn start_all<'s, X: 's, E, D, R>(
     scope: &Scope<'s, X>,
     rt: &'s R,
@@ -136,7 +137,7 @@ where
     D: Decider + Send + 's,
     R: Threads + Wait + Sync,
     requires room { (handles.items ≡ []) × (vec_len ends ≤ vec_capacity handles) }
-    requires enough { vec_len ends ≤ vec_len deciders }
+    requires fits { Fits E.place job.now ends.items deciders.items }
     requires fresh { EachFresh E.count E.pushed E.taken E.ready job.now.ranks ends.items }
     ensures ends { OnOk result.1 (begun_ends result.0.items ≡ ends.items) }
     ensures deciders { OnOk result.1 ((rest : _) × (begun_deciders result.0.items ++ rest ≡ deciders.items)) }
@@ -169,7 +170,7 @@ where
     E: Ends + Send + 's,
     D: Decider + Send + 's,
     R: Threads + Wait + Sync,
-    requires enough { vec_len ends ≤ vec_len deciders }
+    requires fits { Fits E.place job.now ends.items deciders.items }
     requires fresh { EachFresh E.count E.pushed E.taken E.ready job.now.ranks ends.items }
     ensures played { IfOk result (λ ran. WerePlayed E.name E.place E.count E.pushed E.taken E.ready D.board job.now ends.items deciders.items ran.items) }
     ensures answers { IfOk result (λ ran. All (GaveAnswers D.known) ran.items) }
@@ -212,7 +213,7 @@ where
     E: Ends + Send,
     D: Decider + Send,
     R: Threads + Wait + Sync,
-    requires enough { vec_len ends ≤ vec_len deciders }
+    requires fits { Fits E.place job.now ends.items deciders.items }
     requires fresh { EachFresh E.count E.pushed E.taken E.ready job.now.ranks ends.items }
     ensures played { IfOk result (λ ran. WerePlayed E.name E.place E.count E.pushed E.taken E.ready D.board job.now ends.items deciders.items ran.items) }
     ensures answers { IfOk result (λ ran. All (GaveAnswers D.known) ran.items) }
@@ -221,7 +222,7 @@ where
         thread::scope_env(),
         rt,
         |scope| -> Result<Vec<Ran<E, D>>, Unplayed>
-            requires enough { vec_len ends ≤ vec_len deciders }
+            requires fits { Fits E.place job.now ends.items deciders.items }
             requires fresh { EachFresh E.count E.pushed E.taken E.ready job.now.ranks ends.items }
             ensures played { IfOk result (λ ran. WerePlayed E.name E.place E.count E.pushed E.taken E.ready D.board job.entry.now ends.items deciders.items ran.items) }
             ensures answers { IfOk result (λ ran. All (GaveAnswers D.known) ran.items) }

@@ -17,7 +17,7 @@ pub(crate) struct Worker<E, D> {
     pub(crate) player: Player,
     pub(crate) end: E,
     pub(crate) decider: D,
-    /// How many turns took nothing for want of memory, staying at its greatest value.
+    /// How many turns took nothing since no memory was found, staying at its greatest value.
     pub(crate) starved: u32,
 }
 

@@ -1,17 +1,10 @@
 -- What a decision makes of a player whose answers are right.
 use Rattle.std.proofs.Common.{◌≡◌, ◌≢◌, ℕ, List, length, refl, ap, sym, ◌∙◌, inl, inr, ◌⊎◌, false, get_or-set_other, Option, Some, None}
 use Rattle.std.proofs.lemmas.Bool.{cases_eq}
-use Rattle.ulfm_base.specs.declared.context.Context.{Context}
-use Rattle.ulfm_base.specs.declared.decision.Decision.{Decision}
 use Rattle.ulfm_board.specs.Known.{Answers as BoardAnswers, Agrees, known_at}
-use Rattle.ulfm_rank.specs.Facts.{is_stopped}
-use Rattle.ulfm_rank.specs.State.{State}
-use Rattle.ulfm_script.specs.declared.answer.StepAnswer.{StepAnswer}
-use Rattle.ulfm_job.specs.declared.step.Step.TheVariants.{Shrink}
+use Rattle.ulfm_script.proofs.Common.{AnswersFollowSoFar, Context, Decision, is_stopped, Learns, Player, Shrink, StandsOpen, State, step_report, StepAnswer}
 use Rattle.ulfm_script.specs.Deciding.{Known, AnswersDecision, IsDecided}
-use Rattle.ulfm_script.specs.Player.{Player, step_report}
 use Rattle.ulfm_script.specs.Answered.{EntersBetween, AdoptsKnown, WantsMemory, by_decision}
-use Rattle.ulfm_script.specs.inside.SoFar.{StandsOpen, AnswersFollowSoFar, Learns}
 use Rattle.ulfm_script.proofs.Beginnings.{Grew, grew-long, stood-now, stood-before, enters-grew}
 use Rattle.ulfm_script.proofs.Added.{grew-adds, ends-adds}
 use Rattle.ulfm_script.proofs.Decisions.{decision_adds}

@@ -1,12 +1,7 @@
 -- Right answers stay right while the log grows and more is known.
 use Rattle.std.proofs.Common.{ℕ, ◌+◌, ◌≤◌, List, [], ◌∷◌, ◌++◌, refl, ◌∙◌, arith, inl, inr, append-nil, append_assoc}
-use Rattle.ulfm_base.specs.declared.context.Context.{Context}
-use Rattle.ulfm_rank.specs.declared.entry.Entry.{Entry}
-use Rattle.ulfm_rank.specs.State.{State}
-use Rattle.ulfm_script.specs.declared.answer.StepReport.{StepReport}
-use Rattle.ulfm_script.specs.Deciding.{Known}
+use Rattle.ulfm_script.proofs.Common.{Context, Entry, Known, Learns, State, StepReport}
 use Rattle.ulfm_script.specs.Answered.{OnlyTook, EntersBetween, How, by_call, left_by_call, by_decision, left_undecided, AnswerFollows, EachAnswerFollows}
-use Rattle.ulfm_script.specs.inside.SoFar.{Learns}
 use Rattle.ulfm_script.proofs.Beginnings.{Grew, stood-grew, took-grew, enters-grew}
 
 pub took-forth : (log : List Entry) (from to : ℕ) → OnlyTook log from to → from ≤ to

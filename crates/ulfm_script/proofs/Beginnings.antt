@@ -1,10 +1,7 @@
 -- What a log's beginnings keep while the log grows.
 use Rattle.std.proofs.Common.{◌≡◌, ℕ, ◌+◌, ◌≤◌, List, [], ◌∷◌, ◌++◌, length, refl, ap, sym, ◌∙◌, arith, append-nil, append_assoc, length-append, All}
 use Rattle.std.proofs.lemmas.List.Elements.{All-nil, All-append}
-use Rattle.ulfm_base.specs.declared.context.Context.{Context}
-use Rattle.ulfm_rank.specs.declared.entry.Entry.{Entry}
-use Rattle.ulfm_rank.specs.State.{State}
-use Rattle.ulfm_script.specs.Answered.{StoodAt, IsTook, OnlyTook, EntersBetween}
+use Rattle.ulfm_script.proofs.Common.{Context, EntersBetween, Entry, IsTook, OnlyTook, State, StoodAt}
 
 -- the same rank with a longer log
 pub record Grew (old new : State) : Type 0 where

@@ -1,20 +1,12 @@
 -- What the decision of a shrink adds to a log, and what it moves at a player.
 use Rattle.std.proofs.Common.{◌≡◌, ℕ, ◌<◌, false, List, length, refl, sym, ◌∙◌, inl, inr, Option, Some, slice_get}
 use Rattle.std.proofs.lemmas.Option.{slice_get_within}
-use Rattle.ulfm_base.specs.declared.context.Context.{Context}
-use Rattle.ulfm_base.specs.declared.decision.Decision.{Decision}
 use Rattle.ulfm_base.specs.declared.error.CallError.TheVariants.{OutOfMemory}
-use Rattle.ulfm_rank.specs.declared.entry.Entry.TheVariants.{Adopted}
-use Rattle.ulfm_rank.specs.Facts.{is_stopped}
 use Rattle.ulfm_rank.specs.State.{State, IsState}
-use Rattle.ulfm_job.specs.declared.step.Step.{Step}
-use Rattle.ulfm_job.specs.declared.step.Step.TheVariants.{Shrink}
-use Rattle.ulfm_script.specs.declared.answer.StepAnswer.{StepAnswer}
-use Rattle.ulfm_script.specs.declared.answer.StepAnswer.TheVariants.{Unfinished, Refused}
-use Rattle.ulfm_script.specs.Deciding.{Known, AnswersAdoption, AnswersDecision, IsDecided}
-use Rattle.ulfm_script.specs.Player.{Player, step_report}
-use Rattle.ulfm_script.specs.inside.Underway.{FollowsSoFar}
 use Rattle.ulfm_rank.specs.inside.Quiet.{Quiet}
+use Rattle.ulfm_script.proofs.Common.{Adopted, Context, Decision, is_stopped, Player, Refused, Shrink, Step, step_report, StepAnswer, Unfinished}
+use Rattle.ulfm_script.specs.Deciding.{Known, AnswersAdoption, AnswersDecision, IsDecided}
+use Rattle.ulfm_script.specs.inside.Underway.{FollowsSoFar}
 use Rattle.ulfm_script.proofs.Polls.{Adds, adds_same, adds_one, adoption_adds, quiet-adds}
 use Rattle.ulfm_script.proofs.Advance.{Ready, Advances, advance-closed, polled_in_time}
 

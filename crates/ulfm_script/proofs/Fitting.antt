@@ -2,20 +2,12 @@
 use Rattle.std.proofs.Common.{◌≡◌, ℕ, false, List, [], ◌∷◌, ◌++◌, ap, inl, inr, ◌⊎◌}
 use Rattle.std.specs.Prelude.{⊤}
 use Rattle.std.proofs.lemmas.Bool.{not-false}
-use Rattle.ulfm_base.specs.declared.context.Context.{Context}
 use Rattle.ulfm_base.specs.declared.rank_set.RankSet.{RankSet}
-use Rattle.ulfm_rank.specs.declared.entry.Entry.{Entry}
-use Rattle.ulfm_rank.specs.declared.entry.Entry.TheVariants.{Entered, Adopted}
 use Rattle.ulfm_rank.specs.Checks.{Passes, lacks, shrink_checks}
 use Rattle.ulfm_rank.specs.Facts.{Knows}
 use Rattle.ulfm_rank.specs.Shrink.{has_entered}
-use Rattle.ulfm_rank.specs.State.{State, logged}
 use Rattle.ulfm_rank.proofs.Entering.{Fits}
-use Rattle.ulfm_rank.proofs.Refusals.{all_pass}
-use Rattle.ulfm_job.specs.declared.step.Step.{Step}
-use Rattle.ulfm_script.specs.declared.answer.StepAnswer.{StepAnswer}
-use Rattle.ulfm_script.specs.declared.answer.StepReport.{StepReport}
-use Rattle.ulfm_script.specs.Player.{AnswersStep, LeavesOpen}
+use Rattle.ulfm_script.proofs.Common.{Adopted, all_pass, AnswersStep, Context, Entered, Entry, LeavesOpen, logged, State, Step, StepAnswer, StepReport}
 use Rattle.ulfm_script.proofs.Polls.{answers_plain, opens_adds}
 use Rattle.ulfm_script.proofs.Says.{IsApart}
 

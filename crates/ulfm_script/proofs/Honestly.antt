@@ -1,21 +1,14 @@
 -- A player's answers stay right while its rank takes items, and with each answer more.
 use Rattle.std.proofs.Common.{◌≡◌, ℕ, true, List, [], ◌++◌, length, refl, ap, sym, subst, ◌∙◌, arith, append-nil, All, Option, Some, None}
-use Rattle.ulfm_rank.specs.declared.entry.Entry.{Entry}
-use Rattle.ulfm_rank.specs.Facts.{is_stopped}
+use Rattle.std.proofs.lemmas.Bool.{false≢true}
 use Rattle.ulfm_rank.specs.Paired.{IsPaired}
-use Rattle.ulfm_rank.specs.State.{State}
-use Rattle.ulfm_script.specs.declared.answer.StepReport.{StepReport}
-use Rattle.ulfm_job.specs.declared.step.Step.{Step}
-use Rattle.ulfm_job.specs.declared.step.Step.TheVariants.{Shrink}
-use Rattle.ulfm_script.specs.Deciding.{Known}
+use Rattle.ulfm_script.proofs.Common.{Entry, is_stopped, Known, Report, Shrink, State, Step, StepReport}
 use Rattle.ulfm_script.specs.Player.{Player, GivesUpStep, with_rank, start_player}
-use Rattle.ulfm_script.specs.Report.{Report}
 use Rattle.ulfm_script.specs.Answered.{IsTook, OnlyTook, AnswerFollows, EndsAtStop, AnswersFollow}
 use Rattle.ulfm_script.specs.inside.SoFar.{Since, Stands, StandsOpen, AnswersFollowSoFar, Learns, OnlyTakes}
 use Rattle.ulfm_script.proofs.Beginnings.{Grew, took-on, took-none, enters-on}
 use Rattle.ulfm_script.proofs.Answers.{answered-grew, all-grew, answers-push}
 use Rattle.ulfm_script.proofs.Progress.{closed}
-use Rattle.std.proofs.lemmas.Bool.{false≢true}
 
 pub learns-none : (r : State) (to : ℕ) (known : Known) → Learns r to known known
 learns-none r to known = record { keeps = λ c d h. h; same = λ comm from at h up. refl }

@@ -2,23 +2,13 @@
 use Rattle.std.proofs.Common.{◌≡◌, ℕ, ◌<◌, true, false, List, [], ◌∷◌, ◌++◌, sym, subst, arith, inl, inr, All}
 use Rattle.std.specs.Prelude.{⊤, Some}
 use Rattle.std.proofs.lemmas.Bool.{not-false}
-use Rattle.std.proofs.lemmas.List.Elements.{All-nil, All-push}
-use Rattle.ulfm_base.specs.declared.context.Context.{Context}
-use Rattle.ulfm_base.specs.declared.decision.Decision.{Decision}
-use Rattle.ulfm_rank.specs.declared.entry.Entry.{Entry}
-use Rattle.ulfm_rank.specs.declared.entry.Entry.TheVariants.{Entered, Adopted, Took}
-use Rattle.ulfm_board.specs.Known.{known_at}
 use Rattle.ulfm_rank.specs.Checks.{Passes, adopt_checks, group_at}
 use Rattle.ulfm_rank.specs.Communicators.{is_made, members_of}
 use Rattle.ulfm_rank.specs.Facts.{IsSigned}
 use Rattle.ulfm_rank.specs.Shrink.{has_entered, is_foreign}
-use Rattle.ulfm_rank.specs.State.{State, logged}
 use Rattle.ulfm_rank.proofs.Belonging.{Keeps, keeps-start, keeps-push, own_from}
 use Rattle.ulfm_rank.proofs.Entering.{Fits}
-use Rattle.ulfm_rank.proofs.Refusals.{all_pass}
-use Rattle.ulfm_script.specs.Answered.{StoodAt, IsTook, AnswersFollow}
-use Rattle.ulfm_script.specs.Deciding.{Known}
-use Rattle.ulfm_script.specs.Report.{Report}
+use Rattle.ulfm_script.proofs.Common.{Adopted, All-nil, All-push, all_pass, AnswersFollow, Context, Decision, Entered, Entry, IsTook, Known, known_at, logged, Report, State, StoodAt, Took}
 use Rattle.ulfm_script.proofs.Fitting.{fits_apart, fits_entered}
 use Rattle.ulfm_script.proofs.Polls.{answers_plain, opens_adds, adoption_adds}
 use Rattle.ulfm_script.proofs.Says.{IsApart}

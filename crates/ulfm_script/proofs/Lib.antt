@@ -1,3 +1,4 @@
+pub mod Common
 pub mod Adopting
 pub mod Positions
 pub mod Waits

@@ -2,14 +2,9 @@
 use Rattle.std.proofs.Common.{◌≡◌, ℕ, ◌+◌, ◌-◌, ◌*◌, ◌^◌, ◌<◌, ◌≤◌, min, Bool, true, false, cond, List, [], ◌∷◌, ◌++◌, length, map, refl, ap, sym, ◌∙◌, arith, append_assoc, length-append, inl, inr, ◌⊎◌, Option, Some, None, MatchOption, slice_get}
 use Rattle.std.proofs.lemmas.Bool.{false≢true}
 use Rattle.std.proofs.lemmas.List.{map_push, length-map}
-use Rattle.std.proofs.lemmas.List.Elements.{All-nil, All-push}
-use Rattle.std.proofs.lemmas.Option.{same_Some}
-use Rattle.ulfm_rank.specs.Facts.{is_stopped}
-use Rattle.ulfm_rank.specs.State.{State}
-use Rattle.ulfm_job.specs.declared.step.Step.{Step}
-use Rattle.ulfm_script.specs.declared.answer.StepReport.{StepReport}
-use Rattle.ulfm_script.specs.Player.{Player, with_rank, polled, IsFree, start_player}
 use Rattle.ulfm_job.specs.Job.{is_stop_step, through_stop}
+use Rattle.ulfm_script.proofs.Common.{All-nil, All-push, is_stopped, same_Some, State, Step, StepReport}
+use Rattle.ulfm_script.specs.Player.{Player, with_rank, polled, IsFree, start_player}
 use Rattle.ulfm_script.specs.inside.Underway.{has_stop, FollowsSoFar, polls_left}
 use Rattle.ulfm_script.specs.Script.{reported_step, steps_done, IsPatient}
 

@@ -1,23 +1,17 @@
 -- What an answer of a poll says, and what the log has of it: one walk over the steps and their answers.
 use Rattle.std.proofs.Common.{◌≡◌, ℕ, Bool, true, false, cond, List, refl, inl, inr, ◌⊎◌, Option}
 use Rattle.std.specs.Prelude.{⊤, nat_lt}
-use Rattle.ulfm_base.specs.declared.context.Context.{Context}
 use Rattle.ulfm_base.specs.declared.error.CallError.{CallError}
 use Rattle.ulfm_base.specs.declared.tag.Tag.{Tag}
 use Rattle.ulfm_match.specs.declared.request.RequestId.{RequestId}
-use Rattle.ulfm_rank.specs.declared.entry.Entry.{Entry}
 use Rattle.ulfm_rank.specs.declared.entry.Entry.TheVariants.{Sent as SentEntry, Posted as PostedEntry, Acknowledged, Revoked as RevokedEntry, Duplicated, Entered, Adopted, Stopped as StopEntry, Took}
 use Rattle.ulfm_rank.specs.declared.entry.Status.{Status}
 use Rattle.ulfm_rank.specs.declared.entry.TestAnswer.TheVariants.{Done as TestDone, Over as TestOver}
 use Rattle.ulfm_rank.specs.Calls.{Sends}
 use Rattle.ulfm_rank.specs.Facts.{is_stop, is_stopped, is_revoked, acknowledged_of}
-use Rattle.ulfm_rank.specs.State.{State, logged}
-use Rattle.ulfm_script.specs.declared.answer.StepAnswer.{StepAnswer}
-use Rattle.ulfm_script.specs.declared.answer.StepAnswer.TheVariants.{Sent, Posted, Done, Over, Pending, Ranks, Acked, Revoked, Made, Stopped, Refused}
-use Rattle.ulfm_script.specs.declared.answer.StepReport.{StepReport}
-use Rattle.ulfm_job.specs.declared.step.Step.{Step}
 use Rattle.ulfm_job.specs.declared.step.Step.TheVariants.{Send, Recv, Wait, Failed, Ack, Revoke, Dup, Shrink, Stop}
-use Rattle.ulfm_job.specs.Job.{is_stop_step}
+use Rattle.ulfm_script.proofs.Common.{Context, Entry, is_stop_step, logged, State, Step, StepAnswer, StepReport}
+use Rattle.ulfm_script.specs.declared.answer.StepAnswer.TheVariants.{Sent, Posted, Done, Over, Pending, Ranks, Acked, Revoked, Made, Stopped, Refused}
 use Rattle.ulfm_script.specs.Player.{comm_of, Tests, AnswersStep, AnswersRecv}
 
 -- an answer tells of no letter, and of no request that was posted or released
@@ -83,7 +77,7 @@ module _ (done : List StepReport) (r new : State) (P : Step → StepAnswer → T
   each_answer (Failed comm) (Ranks ranks) h = same (Failed comm) (Ranks ranks) tt refl h.2
   each_answer (Failed comm) (Refused e) h = same (Failed comm) (Refused e) tt refl h.1
   each_answer (Ack count comm) (Acked total) h = idly (Ack count comm) (Acked total) tt (idle_where (nat_lt (acknowledged_of r.log comm.number) total) r (Ack count comm) (Acknowledged comm total) new (record { idle = tt; apart = tt; stop = refl }) refl h.2)
-  each_answer (Ack count comm) (Refused e) h = same (Ack count comm) (Refused e) tt refl h.1
+  each_answer (Ack count comm) (Refused e) h = same (Ack count comm) (Refused e) tt refl h.0.1
   each_answer (Revoke comm) Revoked h = idly (Revoke comm) Revoked tt (idle_unless (is_revoked r.log comm.number) r (Revoke comm) (RevokedEntry comm) new (record { idle = tt; apart = tt; stop = refl }) (λ was. inl refl) h.1)
   each_answer (Revoke comm) (Refused e) h = same (Revoke comm) (Refused e) tt refl h.0.1
   each_answer (Dup comm) (Made made) h = idly (Dup comm) (Made made) tt (inr (Duplicated comm, record { idle = tt; apart = tt; stop = refl }, h.2))

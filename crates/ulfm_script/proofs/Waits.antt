@@ -4,9 +4,8 @@ use Rattle.ulfm_match.specs.declared.request.RequestId.{RequestId}
 use Rattle.ulfm_rank.specs.declared.entry.Entry.TheVariants.{Released}
 use Rattle.ulfm_rank.specs.declared.entry.TestAnswer.{TestAnswer}
 use Rattle.ulfm_rank.specs.declared.entry.TestAnswer.TheVariants.{Done, Over, Pending, NotYet}
-use Rattle.ulfm_rank.specs.State.{State, logged}
 use Rattle.ulfm_rank.specs.Answer.{is_release}
-use Rattle.ulfm_script.specs.declared.answer.StepReport.{StepReport}
+use Rattle.ulfm_script.proofs.Common.{logged, State, StepReport}
 use Rattle.ulfm_script.specs.Player.{tested, Tests, AnswersWait}
 use Rattle.ulfm_script.specs.inside.Underway.{answer_of}
 

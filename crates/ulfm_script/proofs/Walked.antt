@@ -2,21 +2,9 @@
 use Rattle.std.proofs.Common.{◌≡◌, ℕ, ◌+◌, List, [], ◌∷◌, ◌++◌, length, take, refl, ap, sym, subst, ◌∙◌, arith, inl, inr, ◌⊎◌, append-nil, append_assoc, length-append, Option, Some, None, All}
 use Rattle.std.proofs.lemmas.List.Elements.{All-head, All-tail}
 use Rattle.std.proofs.Math.Seq.{take-append_seam, take-length}
-use Rattle.ulfm_base.specs.declared.context.Context.{Context}
-use Rattle.ulfm_base.specs.declared.decision.Decision.{Decision}
 use Rattle.ulfm_base.specs.declared.error.CallError.TheVariants.{OutOfMemory}
-use Rattle.ulfm_board.specs.Known.{known_at}
-use Rattle.ulfm_rank.specs.declared.entry.Entry.{Entry}
-use Rattle.ulfm_rank.specs.State.{State}
-use Rattle.ulfm_script.specs.declared.answer.StepAnswer.TheVariants.{Unfinished, Refused}
-use Rattle.ulfm_script.specs.declared.answer.StepReport.{StepReport}
-use Rattle.ulfm_job.specs.declared.step.Step.{Step}
-use Rattle.ulfm_job.specs.declared.step.Step.TheVariants.{Shrink}
+use Rattle.ulfm_script.proofs.Common.{AnswersAdoption, AnswersFollowSoFar, AnswersStep, Context, Decision, Entry, Known, known_at, LeavesOpen, Player, Refused, Report, Shrink, Since, Stands, State, Step, StepReport, Unfinished}
 use Rattle.ulfm_script.specs.Answered.{StoodAt, IsTook, OnlyTook, EntersBetween, AnsweredByDecision, by_call, left_by_call, by_decision, left_undecided, AnswerFollows, EachAnswerFollows, AnswersFollow}
-use Rattle.ulfm_script.specs.Deciding.{Known, AnswersAdoption}
-use Rattle.ulfm_script.specs.inside.SoFar.{Since, Stands, AnswersFollowSoFar}
-use Rattle.ulfm_script.specs.Player.{Player, AnswersStep, LeavesOpen}
-use Rattle.ulfm_script.specs.Report.{Report}
 
 -- K holds of the answered steps and the log after each thing that may happen to the rank r, if it held before: an item is
 -- taken, a step is answered by a call, left open by one, answered by a decision, or ended without either

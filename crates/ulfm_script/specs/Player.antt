@@ -1,5 +1,5 @@
 -- What contracts see of a rank that goes through its steps, and what a poll of a step says and does.
-use Rattle.std.specs.Prelude.{◌≡◌, ℕ, ⊤, Bool, true, false, List, [], ◌∷◌, ◌++◌, ◌+◌, ◌-◌, ◌^◌, ◌⊎◌, min, length, filter_map, Option, Some, None, slice_get, if◌then◌else◌}
+use Rattle.std.specs.Prelude.{◌≡◌, ℕ, ⊤, Bool, true, false, List, [], ◌∷◌, ◌++◌, ◌+◌, ◌-◌, ◌<◌, ◌^◌, ◌⊎◌, min, length, filter_map, Option, Some, None, slice_get, if◌then◌else◌}
 use Rattle.ulfm_base.specs.declared.context.Context.{Context}
 use Rattle.ulfm_base.specs.declared.tag.Tag.{Tag}
 use Rattle.ulfm_base.specs.declared.pattern.Pattern.{Pattern}
@@ -16,7 +16,7 @@ use Rattle.ulfm_rank.specs.declared.entry.Entry.TheVariants.{Released, Duplicate
 use Rattle.ulfm_rank.specs.declared.entry.TestAnswer.{TestAnswer}
 use Rattle.ulfm_rank.specs.declared.entry.TestAnswer.TheVariants.{Done as TestDone, Over as TestOver, Pending as TestPending, NotYet as TestNotYet}
 use Rattle.ulfm_rank.specs.State.{State, start_state, logged}
-use Rattle.ulfm_rank.specs.Facts.{is_revoked, known_in, ack_answer}
+use Rattle.ulfm_rank.specs.Facts.{is_revoked, known_in, acknowledged_of, ack_answer}
 use Rattle.ulfm_rank.specs.History.{history_of}
 use Rattle.ulfm_rank.specs.Answer.{IsRequest, IsNoRequest, IsTestAnswer, is_release}
 use Rattle.ulfm_rank.specs.Checks.{Check, Passes, Fails, FailsOrStarves, group_at, comm_checks, send_checks, receive_checks, dup_checks, shrink_checks}
@@ -38,7 +38,7 @@ pub record Player : Type 0 where
   pub at : ℕ
   pub polls : ℕ
 
--- a player, its places for further answers, and whether its rank is prepared for one `take`
+-- a player, its places for further answers, and whether its rank is prepared for one `take` or one poll
 pub record View : Type 0 where
   pub player : Player
   pub room : ℕ
@@ -72,7 +72,7 @@ IsFree p step = (p.current ≡ None) ⊎ (p.current ≡ Some step)
 abbrev pub comm_of : Context → Comm
 comm_of context = record { context = context }
 
--- a call that takes memory is refused, and changes nothing
+-- a call that may answer out of memory is refused, and changes nothing
 abbrev pub Refuses : List Check → CallError → State → State → Type 0
 Refuses checks e r new = FailsOrStarves checks e × (new ≡ r)
 
@@ -126,7 +126,7 @@ abbrev pub IsNoRequestOf : List Entry → Option RequestId → Type 0
 IsNoRequestOf log None = ⊤
 IsNoRequestOf log (Some id) = IsNoRequest log id.number
 
--- a wait takes no memory; it is refused where its step posted no request, or this one was released
+-- a wait never answers out of memory; it is refused where its step posted no request, or this one was released
 abbrev pub AnswersWait : List StepReport → State → ℕ → StepAnswer → State → Type 0
 AnswersWait before r req (Done status body) new = Tests before r req (TestDone status body) new
 AnswersWait before r req (Over reason) new = Tests before r req (TestOver reason) new
@@ -145,15 +145,17 @@ AnswersFailed r comm (Ranks members) new =
 AnswersFailed r comm (Refused e) new = Fails (comm_checks r comm.number []) e × (new ≡ r)
 AnswersFailed r comm _ new = ⊥
 
--- the total is told, or the acknowledgement is refused
+-- the total is told, or the acknowledgement is refused; where the total stays as it was, not by out of memory
 abbrev pub AnswersAck : State → ℕ → Context → StepAnswer → State → Type 0
 AnswersAck r count comm (Acked total) new =
     Passes (comm_checks r comm.number []) × (total ≡ ack_answer r.log (group_at r comm.number) comm.number count)
     × (new ≡ acknowledging r comm total)
-AnswersAck r count comm (Refused e) new = Refuses (comm_checks r comm.number []) e r new
+AnswersAck r count comm (Refused e) new =
+    Refuses (comm_checks r comm.number []) e r new
+    × (e ≡ OutOfMemory → acknowledged_of r.log comm.number < ack_answer r.log (group_at r comm.number) comm.number count)
 AnswersAck r count comm _ new = ⊥
 
--- the communicator is revoked, or the revocation is refused; where it was revoked before, not for want of memory
+-- the communicator is revoked, or the revocation is refused; where it was revoked before, not by out of memory
 abbrev pub AnswersRevoke : State → Context → StepAnswer → State → Type 0
 AnswersRevoke r comm Revoked new = Passes (comm_checks r comm.number []) × (new ≡ revoking r comm)
 AnswersRevoke r comm (Refused e) new =
@@ -227,6 +229,10 @@ Polls NotYet old step new = PollOpens old step new
 -- one poll of the step by `call`
 abbrev pub IsCalled : Player → Step → Player → Type 0
 IsCalled old step new = PollAnswers old step new ⊎ PollOpens old step new
+
+-- this holds of the answer that was given, if one was
+abbrev pub IfAnswered : Player → Player → (StepAnswer → Type 0) → Type 0
+IfAnswered old new P = (report : StepReport) → new.done ≡ old.done ++ report ∷ [] → P report.answer
 
 -- the open step gets the answer `unfinished`, with the place and the polls of its last poll
 pub record GivesUpStep (old new : Player) : Type 0 where

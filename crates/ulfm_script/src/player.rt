@@ -8,7 +8,7 @@ ghost use Rattle.ulfm_rank.specs.Paired.{IsPaired};
 ghost use Rattle.ulfm_rank.specs.State.{IsState, logged, outbox, returned, GoesOut, MayReturn};
 ghost use Rattle.ulfm_rank.specs.Checks.{Passes, FailsOrStarves, start_checks};
 ghost use Rattle.ulfm_rank.specs.Calls.{IsFrom};
-ghost use Rattle.ulfm_script.specs.Player.{start_player, with_rank, answered, polled, IsFree, Polls, IsCalled, GivesUpStep, awaits_decision};
+ghost use Rattle.ulfm_script.specs.Player.{start_player, with_rank, answered, polled, IsFree, Polls, IsCalled, IfAnswered, GivesUpStep, awaits_decision};
 
 use crate::answer::{Called, StepAnswer, StepReport};
 use crate::poll::poll;
@@ -124,7 +124,7 @@ impl Player {
         self.done.len() < self.done.capacity()
     }
 
-    /// Makes room for one more answer.
+    /// Makes room for one more answer. An open step has this room.
     ///
     /// # Errors
     ///
@@ -134,12 +134,14 @@ impl Player {
         ensures prepared { self.new.prepared ≡ self.old.prepared }
         ensures room { OnOk result (0 < self.new.room) }
         ensures room_lacked { OnErr result (self.old.room ≡ 0) }
+        ensures none_open { OnErr result (self.old.player.current ≡ None) }
         ensures stays { self.old.room ≤ self.new.room }
     {
         self.done.reserve(1)
     }
 
-    /// One poll of a step, and whether it answered it. Where the step is open already, this is a further poll of it.
+    /// One poll of a step, and whether it answered it. Where the step is open already, this is a further poll of it. A
+    /// player that was prepared isn't answered out of memory.
     pub fn call(&mut self, step: &Step) -> Called
         requires running { is_stopped self.old.player.rank.log ≡ false }
         requires free { IsFree self.old.player step.now }
@@ -147,6 +149,8 @@ impl Player {
         ensures polls { Polls result self.old.player step.now self.new.player }
         ensures called { IsCalled self.old.player step.now self.new.player }
         ensures room { self.new.room + length self.new.player.done ≡ self.old.room + length self.old.player.done }
+        ensures room_lacked { IfAnswered self.old.player self.new.player (λ answer. answer ≡ StepAnswer.Refused CallError.OutOfMemory → self.old.prepared ≡ false) }
+        ensures stays_prepared { self.new.player.rank ≡ self.old.player.rank → IsTrue self.old.prepared → IsTrue self.new.prepared }
     {
         let at = self.rank.log().len();
         if self.awaits_decision() {
@@ -172,11 +176,12 @@ impl Player {
         matches!(self.current, Some(Step::Shrink { .. }))
     }
 
-    /// Gives the open step the answer `unfinished`. It takes no memory.
+    /// Gives the open step the answer `unfinished`. It never answers out of memory.
     pub fn leave(&mut self)
         requires { IsSome self.old.player.current }
         ensures left { GivesUpStep self.old.player self.new.player }
         ensures room { self.new.room + length self.new.player.done ≡ self.old.room + length self.old.player.done }
+        ensures prepared { self.new.prepared ≡ self.old.prepared }
     {
         if let Some(step) = self.current {
             self.answer(step, StepAnswer::Unfinished, self.at);
@@ -213,7 +218,7 @@ impl Player {
         self.polls = self.polls.saturating_add(1);
     }
 
-    /// Makes room for one `take` of its rank.
+    /// Makes room for one `take` of its rank, or for one poll.
     ///
     /// # Errors
     ///
@@ -227,14 +232,14 @@ impl Player {
         self.rank.prepare()
     }
 
-    /// Whether there is room for one `take`.
+    /// Whether there is room for one `take`, or for one poll.
     pub fn is_prepared(&self) -> bool
         ensures { result ≡ self.now.prepared }
     {
         self.rank.is_prepared()
     }
 
-    /// Takes an item that came from a rank. It takes no memory, and uses the room up.
+    /// Takes an item that came from a rank. It never answers out of memory: it uses the room.
     pub fn take(&mut self, source: WorldRank, item: Item)
         requires prepared { IsTrue self.old.prepared }
         requires running { is_stopped self.old.player.rank.log ≡ false }
@@ -254,7 +259,7 @@ impl Player {
         self.rank.is_outbox_empty(dest)
     }
 
-    /// The first item of an outbox goes out, if there is one. It takes no memory.
+    /// The first item of an outbox goes out, if there is one. It never answers out of memory.
     pub fn take_out(&mut self, dest: u8) -> Option<Item>
         requires inside { dest < self.old.player.rank.ranks }
         ensures leaves { IfSome result (λ item. GoesOut self.old.player.rank self.new.player.rank dest item) }
@@ -267,7 +272,7 @@ impl Player {
         self.rank.take_out(dest)
     }
 
-    /// The item that went out last comes back to the front of its outbox. It takes no memory.
+    /// The item that went out last comes back to the front of its outbox. It never answers out of memory.
     pub fn put_back(&mut self, dest: u8, item: Item)
         requires inside { dest < self.old.player.rank.ranks }
         requires taken { MayReturn self.old.player.rank dest item }
@@ -278,7 +283,7 @@ impl Player {
         self.rank.put_back(dest, item);
     }
 
-    /// The rank's report, with the number of its turns that took nothing for want of memory. It takes no memory.
+    /// The rank's report, with the number of its turns that took nothing since no memory was found.
     pub fn report(self, starved: u32) -> RankReport
         ensures rank { result.rank ≡ self.player.rank }
         ensures steps { result.steps ≡ self.player.done }

@@ -27,7 +27,7 @@ impl Model for RankReport {
 }
 
 impl RankReport {
-    /// The report of a rank, its answered steps, and the number of its turns that took nothing for want of memory.
+    /// The report of a rank, its answered steps, and the number of its turns that took nothing since no memory was found.
     pub(crate) fn new(rank: Rank, steps: Vec<StepReport>, starved: u32) -> RankReport
         ensures rank { result.rank ≡ rank.state }
         ensures steps { result.steps ≡ steps.items }
@@ -76,7 +76,7 @@ impl RankReport {
         self.rank.is_outbox_empty(dest)
     }
 
-    /// The first item that was left for a rank, if there is one. It goes out of the report. It takes no memory.
+    /// The first item that was left for a rank, if there is one. It goes out of the report. It never answers out of memory.
     pub fn take_out(&mut self, dest: u8) -> Option<Item>
         requires { dest < self.old.rank.ranks }
         ensures leaves { IfSome result (λ item. GoesOut self.old.rank self.new.rank dest item) }
@@ -95,7 +95,8 @@ impl RankReport {
         self.rank.is_stopped()
     }
 
-    /// How many of its turns took nothing for want of memory, staying at its greatest value.
+    /// How many of its turns took nothing since no memory was found, staying at its greatest value. No clause of a run says
+    /// that it counts these.
     pub fn starved(&self) -> u32
         ensures { result ≡ self.now.starved }
     {

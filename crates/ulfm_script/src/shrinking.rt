@@ -1,5 +1,6 @@
 //! The polls of a shrink: it is entered, and then decided.
-ghost use Rattle.std.specs.Prelude.{◌≡◌, IfSome, IfNone};
+ghost use Rattle.std.specs.Prelude.{◌≡◌, false, IfSome, IfNone, IsTrue};
+ghost use Rattle.ulfm_board.specs.Known.{Starves};
 ghost use Rattle.ulfm_rank.specs.Calls.{Enters};
 ghost use Rattle.ulfm_rank.specs.Checks.{Passes, shrink_checks};
 ghost use Rattle.ulfm_script.specs.Player.{comm_of, AnswersEntry};
@@ -15,6 +16,8 @@ pub fn enter(rank: &mut Rank, context: Context) -> Option<StepAnswer>
     ensures answers { IfSome result (λ answer. AnswersEntry rank.old.state context answer rank.new.state) }
     ensures accepted { IfNone result (Passes (shrink_checks rank.old.state context.number)) }
     ensures enters { IfNone result (Enters rank.old.state (comm_of context) rank.new.state) }
+    ensures room_lacked { IfSome result (λ answer. answer ≡ StepAnswer.Refused CallError.OutOfMemory → rank.old.prepared ≡ false) }
+    ensures stays_prepared { rank.new.state ≡ rank.old.state → IsTrue rank.old.prepared → IsTrue rank.new.prepared }
 {
     match rank.enter_shrink(Comm { context }) {
         Ok(()) => None,
@@ -27,9 +30,11 @@ pub fn enter(rank: &mut Rank, context: Context) -> Option<StepAnswer>
 pub fn decide<D: Decider>(rank: &mut Rank, context: Context, board: &mut D) -> Option<StepAnswer>
     ensures answers { IfSome result (λ answer. AnswersDecision (D.board board.old) (D.known board.old) (D.known board.new) rank.old.state context answer rank.new.state) }
     ensures none { IfNone result (HasProposal rank.old.state context → ⊥) }
-    ensures rank_stays { IfNone result (rank.new.state ≡ rank.old.state) }
+    ensures rank_stays { IfNone result (rank.new ≡ rank.old) }
     ensures known_stay { IfNone result (D.known board.new ≡ D.known board.old) }
     ensures board { D.board board.new ≡ D.board board.old }
+    ensures room_lacked { IfSome result (λ answer. answer ≡ StepAnswer.Refused CallError.OutOfMemory → IsTrue rank.old.prepared → Starves (D.board board.old) (D.known board.old) context.number) }
+    ensures stays_prepared { rank.new.state ≡ rank.old.state → IsTrue rank.old.prepared → IsTrue rank.new.prepared }
 {
     let Ok(Some(proposal)) = rank.proposal(Comm { context }) else {
         return None;
@@ -42,7 +47,9 @@ pub fn decide<D: Decider>(rank: &mut Rank, context: Context, board: &mut D) -> O
 
 /// The answer of a shrink that adopts this decision.
 fn adopt(rank: &mut Rank, context: Context, held: Decision) -> StepAnswer
-    ensures { AnswersAdoption rank.old.state context held result rank.new.state }
+    ensures answers { AnswersAdoption rank.old.state context held result rank.new.state }
+    ensures room_lacked { result ≡ StepAnswer.Refused CallError.OutOfMemory → rank.old.prepared ≡ false }
+    ensures stays_prepared { rank.new.state ≡ rank.old.state → IsTrue rank.old.prepared → IsTrue rank.new.prepared }
 {
     let group = held.fresh.copied();
     match rank.adopt(Comm { context }, held) {

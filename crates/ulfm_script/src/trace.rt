@@ -44,7 +44,7 @@ fn push_parted(text: &mut String, numbers: &[u8]) -> Result<(), AllocError>
     }
 }
 
-/// The ranks of the world in a group, in order. It takes no memory.
+/// The ranks of the world in a group, in order. It never answers out of memory.
 fn numbers_of(alloc: Global, group: &Group) -> SmallVec<u8, 8>
     ensures { result.items ≡ group.now }
 {

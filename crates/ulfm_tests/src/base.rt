@@ -17,8 +17,16 @@ fn positions_of_a_group_without_a_member(rt: HostRuntime) -> Result<(), Fail> {
     let (_world, rest) = four_and_three(&rt)?;
     assert_eq!(rt; rest.size(), 3);
     for (position, number) in [(0, 0), (1, 2), (2, 3)] {
-        assert_eq!(rt; rest.world_of(position), Some(WorldRank { number }));
-        assert_eq!(rt; rest.rank_of(WorldRank { number }), Some(position));
+        assert_eq!(rt;
+            rest.world_of(position),
+            Some(WorldRank { number }),
+            "position {position}"
+        );
+        assert_eq!(rt;
+            rest.rank_of(WorldRank { number }),
+            Some(position),
+            "rank {number}"
+        );
     }
     assert_eq!(rt; rest.rank_of(WorldRank { number: 1 }), None);
     Ok(())
@@ -42,7 +50,10 @@ fn translates_between_a_group_and_the_rest_of_it(rt: HostRuntime) -> Result<(), 
 #[test]
 fn numbers_out_of_range(rt: HostRuntime) {
     for n in [0, 9] {
-        assert!(rt; matches!(Group::world(rt.alloc(), n), Err(CallError::BadSize)));
+        assert!(rt;
+            matches!(Group::world(rt.alloc(), n), Err(CallError::BadSize)),
+            "{n} ranks"
+        );
     }
     assert!(rt; matches!(Tag::new(32768), Err(CallError::BadTag)));
     assert!(rt; Tag::new(32767).is_ok());
@@ -67,7 +78,7 @@ fn refusals_have_numbers_and_names(rt: HostRuntime) -> Result<(), Fail> {
         (CallError::NotEntered, 14, "14 NotEntered"),
         (CallError::Truncated, 15, "15 Truncated"),
     ] {
-        assert_eq!(rt; error as u8, number);
+        assert_eq!(rt; error as u8, number, "{text}");
         assert_eq!(rt; format!(in rt.alloc(); "{error}")?.as_str(), text);
     }
     Ok(())

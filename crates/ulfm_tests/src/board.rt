@@ -138,7 +138,10 @@ fn a_board_of_one_owner(rt: HostRuntime) -> Result<(), Fail> {
 #[test]
 fn numbers_of_seats(rt: HostRuntime) -> Result<(), Fail> {
     for n in [0, 9] {
-        assert!(rt; matches!(seats(rt.alloc(), n), Err(CallError::BadSize)));
+        assert!(rt;
+            matches!(seats(rt.alloc(), n), Err(CallError::BadSize)),
+            "{n} seats"
+        );
     }
     assert_eq!(rt; seats(rt.alloc(), 8)?.len(), 8);
     Ok(())

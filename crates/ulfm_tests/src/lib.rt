@@ -8,8 +8,6 @@ mod board;
 #[cfg(test)]
 mod carrier;
 #[cfg(test)]
-mod explain;
-#[cfg(test)]
 mod fault;
 #[cfg(test)]
 mod matching;

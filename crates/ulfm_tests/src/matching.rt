@@ -59,6 +59,9 @@ fn posted(matcher: &mut Matcher, pattern: Pattern) -> Result<(RequestId, u8), Fa
     requires { matcher.old.count + 1 < 2 ^ 64 }
     ensures { OnOk result (matcher.new.count ≡ matcher.old.count + 1) }
 {
+    if matcher.is_cleared(pattern.context) {
+        return Err(Fail::new("cleared"));
+    }
     matcher.prepare()?;
     let (id, letter) = matcher.post(pattern);
     let byte = match letter {
@@ -76,6 +79,9 @@ fn arrived(matcher: &mut Matcher, letter: Letter) -> Result<Option<RequestId>, F
     requires { matcher.old.count + 1 < 2 ^ 64 }
     ensures { OnOk result (matcher.new.count ≡ matcher.old.count + 1) }
 {
+    if matcher.is_cleared(letter.envelope.context) {
+        return Err(Fail::new("cleared"));
+    }
     matcher.prepare()?;
     Ok(match matcher.arrive(letter) {
         Arrived::Paired(id, _) => Some(id),
@@ -117,17 +123,6 @@ fn wildcard_before_named(rt: HostRuntime) -> Result<(), Fail> {
         arrived(&mut matcher, letter(ZERO, FIVE, b'y'))?,
         Some(named)
     );
-    Ok(())
-}
-
-// Selecting by tag isn't overtaking.
-#[test]
-fn selected_by_tag(rt: HostRuntime) -> Result<(), Fail> {
-    let mut matcher = Matcher::new(rt.alloc());
-    assert_eq!(rt; arrived(&mut matcher, letter(ZERO, FIVE, b'a'))?, None);
-    assert_eq!(rt; arrived(&mut matcher, letter(ZERO, SIX, b'b'))?, None);
-    assert_eq!(rt; posted(&mut matcher, receive(ZERO, Some(SIX)))?.1, b'b');
-    assert_eq!(rt; posted(&mut matcher, receive(ZERO, Some(FIVE)))?.1, b'a');
     Ok(())
 }
 
@@ -181,7 +176,10 @@ fn other_contexts_stay(rt: HostRuntime) -> Result<(), Fail> {
     );
     assert_eq!(rt; arrived(&mut matcher, letter(ONE, FIVE, b'b'))?, None);
     matcher.prepare()?;
+    assert!(rt; !matcher.is_cleared(DUP));
     matcher.clear(DUP);
+    assert!(rt; matcher.is_cleared(DUP));
+    assert!(rt; !matcher.is_cleared(Context::WORLD));
     assert!(rt; matcher.is_prepared());
     assert!(rt; !matcher.is_waiting(cleared));
     assert!(rt; matcher.is_waiting(stays));

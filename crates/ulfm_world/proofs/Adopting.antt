@@ -1,5 +1,5 @@
 -- How a decision is held and adopted.
-use Rattle.std.proofs.Common.{◌≡◌, ◌≢◌, ℕ, ◌<◌, true, false, List, [], ◌∷◌, ◌++◌, refl, ap, sym, ◌∙◌, arith, inl, inr, ◌⊎◌, Option, Some, None, get_or-set_other, All}
+use Rattle.std.proofs.Common.{◌≡◌, ◌≢◌, ℕ, ◌<◌, true, false, List, [], ◌∷◌, ◌++◌, refl, ap, sym, ◌∙◌, arith, inl, inr, ◌⊎◌, Option, Some, None, get_or-set_other}
 use Rattle.std.proofs.lemmas.Bool.{cases_eq}
 use Rattle.std.proofs.lemmas.Option.{none-some, same_Some}
 use Rattle.std.proofs.lemmas.List.Elements.{All-push}
@@ -67,36 +67,36 @@ module _ (n : ℕ) (w : World) (r : ℕ) (comm : Context) (h : IsWorld w) (settl
     own_proposal = rw (counted, named) at proposed
 
     -- what is held may be held
-    pub handed_held : (held : Decision) → (known_at w.decided proposal.context.number ≡ Some held) ⊎ (held ≡ proposal) → IsHeld n w comm.number held
-    handed_held held (inl known) = settled.held comm.number held (ap (known_at w.decided) (sym own_proposal.context) ∙ known)
-    handed_held held (inr same) = rw same (proposal_held n w r comm.number h settled i proposal own_proposal)
+    pub handed_held : {held : Decision} → (known_at w.decided proposal.context.number ≡ Some held) ⊎ (held ≡ proposal) → IsHeld n w comm.number held
+    handed_held {held} (inl known) = settled.held comm.number held (ap (known_at w.decided) (sym own_proposal.context) ∙ known)
+    handed_held (inr same) = rw same (proposal_held n w r comm.number h settled i own_proposal)
 
     made_here : is_made n (rank_at w r).log comm.number ≡ true
     made_here = (settled.keeps r i).enters_made comm.number own_proposal.entered
 
     -- and adopted by the rank
-    pub held_fits : (held : Decision) → IsHeld n w comm.number held → IsOwn r (members_of n (rank_at w r).log comm.number) (rank_at w r).log comm.number held
-    held_fits held ok = held_own n w r comm.number held h settled i running made_here ok
+    pub held_fits : {held : Decision} → IsHeld n w comm.number held → IsOwn r (members_of n (rank_at w r).log comm.number) (rank_at w r).log comm.number held
+    held_fits {held} ok = held_own n w r comm.number held h settled i running made_here ok
 
     pub held_passes : (held : Decision) → IsHeld n w comm.number held → has_adopted (rank_at w r).log comm.number ≡ false → Passes (adopt_checks (rank_at w r) comm.number held)
     held_passes held ok fresh =
         let log : List Entry = (rank_at w r).log in
-        own_passes (rank_at w r) comm.number held running (ap (λ k. is_made k log comm.number) counted ∙ made_here) fresh own_proposal.entered (rw named (rw counted (held_fits held ok)))
+        own_passes (rank_at w r) comm.number held running (ap (λ k. is_made k log comm.number) counted ∙ made_here) fresh own_proposal.entered (rw named (rw counted (held_fits ok)))
 
     pub adoption_fits : (held : Decision) → IsHeld n w comm.number held → Fits n r (rank_at w r).log (Adopted held)
     adoption_fits held ok =
         let log : List Entry = (rank_at w r).log in (
           ap (is_made n log) ok.context ∙ made_here,
           ap (has_entered log) ok.context ∙ own_proposal.entered,
-          ap (λ c. is_foreign r (members_of n log c) log c held) ok.context ∙ not_foreign r (members_of n log comm.number) log comm.number held (held_fits held ok),
+          ap (λ c. is_foreign r (members_of n log c) log c held) ok.context ∙ not_foreign r (members_of n log comm.number) log comm.number held (held_fits ok),
         )
 
     -- the rank's log once it adopted or was refused
     pub moved-adopted : (later : List (Option Decision)) (held : Decision) (b : BoardAnswers None w.decided proposal held later) (answer : StepAnswer) (rank : State) (new : Player) → AnswersAdoption (rank_at w r) comm held answer rank → new.rank ≡ rank → new.current ≡ None → Moved n later r (player_at w r) new
     moved-adopted later held b answer rank new adoption is closed =
         let log : List Entry = (rank_at w r).log in
-        let ok : IsHeld n w comm.number held = handed_held held (held_cases w.decided later proposal held b) in
-        let all : All (IsAdopted later r) log = all_later w.decided later r log (still_known w.decided later proposal held b) (settled.adopted r i) in
+        let ok = handed_held (held_cases w.decided later proposal held b) in
+        let all = all_later w.decided later r log (still_known w.decided later proposal held b) (settled.adopted r i) in
         let known : known_at later held.context.number ≡ Some held = ap (known_at later) (ok.context ∙ sym own_proposal.context) ∙ b.known_now in
         elim (adoption_adds (rank_at w r) comm held answer rank adoption) [
           | inl same ↦
@@ -106,7 +106,7 @@ module _ (n : ℕ) (w : World) (r : ℕ) (comm : Context) (h : IsWorld w) (settl
               let longer : new.rank.log ≡ log ++ Adopted held ∷ [] = ap (λ (s : State). s.log) (is ∙ more.1) in
               record {
                 grows = inr (Adopted held, adoption_fits held ok, longer);
-                adopted = rw longer (All-push (IsAdopted later r) log (Adopted held) all (known, (held_fits held ok).member));
+                adopted = rw longer (All-push (IsAdopted later r) log (Adopted held) all (known, (held_fits ok).member));
                 unadopted = λ c e. absurd (none-some (Shrink c) (sym closed ∙ e));
               }
         ]

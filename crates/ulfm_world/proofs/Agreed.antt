@@ -42,28 +42,28 @@ pub record Settled (n : ℕ) (w : World) : Type 0 where
   pub unadopted : (r : ℕ) (comm : Context) → r < n → (player_at w r).current ≡ Some (Shrink comm) → has_adopted (rank_at w r).log comm.number ≡ false
 
 -- decisions that ranks adopted for one context are equal
-pub adopt-one : (n : ℕ) (w : World) → Settled n w → AdoptOne (reports_in w)
-adopt-one n w settled r s told other d e p q first second same =
+pub adopt-one : {n : ℕ} {w : World} → Settled n w → AdoptOne (reports_in w)
+adopt-one {w} settled r s told other d e p q first second same =
     let held : (x : ℕ) (report : Report) (k : ℕ) (decision : Decision) → at (reports_in w) x report → at report.rank.log k (Adopted decision) → known_at w.decided decision.context.number ≡ Some decision = λ x report k decision here stands.
     let log : List Entry = (rank_at w x).log in
-    let there : at log k (Adopted decision) = subst (λ (a : Report). at a.rank.log k (Adopted decision)) (report_is w x report here) stands in
-    (rw (get_or_from_slice_get log k (Adopted decision) (Adopted decision) there) at (settled.adopted x (omega (arith, report_inside w x report here, settled.size)) k (Adopted decision) (slice_get_within log k (Adopted decision) there))).0 in
+    let there : at log k (Adopted decision) = subst (λ (a : Report). at a.rank.log k (Adopted decision)) (report_is w x here) stands in
+    (rw (get_or_from_slice_get log k (Adopted decision) (Adopted decision) there) at (settled.adopted x (omega (arith, report_inside w x here, settled.size)) k (Adopted decision) (slice_get_within log k (Adopted decision) there))).0 in
     same_Some d e (sym (held r told first.0 d p first.1) ∙ ap (λ (c : Context). known_at w.decided c.number) same ∙ held s other second.0 e q second.1)
 
 -- ranks that made the communicator of a context have one group for it
-pub one_group : (n : ℕ) (w : World) (r s c : ℕ) (g h : List ℕ) → Settled n w → r < n → s < n → group_of n (rank_at w r).log c ≡ Some g → group_of n (rank_at w s).log c ≡ Some h → g ≡ h
-one_group n w r s c g h settled i j made other =
-    same_group (reports_in w) (adopt-one n w settled) n r s c (report_of (player_at w r)) (report_of (player_at w s)) g h (report_there w r (omega (arith, i, settled.size))) (report_there w s (omega (arith, j, settled.size))) made other
+pub one_group : (n : ℕ) (w : World) (r s c : ℕ) {g h : List ℕ} → Settled n w → r < n → s < n → group_of n (rank_at w r).log c ≡ Some g → group_of n (rank_at w s).log c ≡ Some h → g ≡ h
+one_group n w r s c settled i j made other =
+    same_group (reports_in w) (adopt-one settled) n r s c (report_there w r (omega (arith, i, settled.size))) (report_there w s (omega (arith, j, settled.size))) made other
 
 -- the set under which a rank lists another is that of the other's own entry
-pub listed_entry : (n : ℕ) (w : World) (r s c : ℕ) (set : RankSet) → IsWorld w → Settled n w → r < n → s < n → listed_of r (rank_at w r).log c s ≡ Some set → own_set (rank_at w s).log c ≡ Some set
-listed_entry n w r s c set h settled i j listed =
-    listed_own w.inboxes (reports_in w) (flowing-world w h) r s c (report_of (player_at w r)) (report_of (player_at w s)) set (report_there w r (omega (arith, i, settled.size))) (report_there w s (omega (arith, j, settled.size)))
+pub listed_entry : {n : ℕ} (w : World) (r s c : ℕ) {set : RankSet} → IsWorld w → Settled n w → r < n → s < n → listed_of r (rank_at w r).log c s ≡ Some set → own_set (rank_at w s).log c ≡ Some set
+listed_entry w r s c {set} h settled i j listed =
+    listed_own (flowing-world h) r s c set (report_there w r (omega (arith, i, settled.size))) (report_there w s (omega (arith, j, settled.size)))
     (rw (many_reports w ∙ settled.size) (settled.keeps s j).owes_own) listed
 
-pub known_stopped : (n : ℕ) (w : World) (s d : ℕ) → IsWorld w → Settled n w → s < n → d < n → is_gone (rank_at w d).log s ≡ true → HasStopped w s
-known_stopped n w s d h settled i j gone =
-    gone_stopped w.inboxes (reports_in w) (flowing-world w h) s d (report_of (player_at w s)) (report_of (player_at w d)) (report_there w s (omega (arith, i, settled.size))) (report_there w d (omega (arith, j, settled.size))) gone
+pub known_stopped : {n : ℕ} (w : World) (s d : ℕ) → IsWorld w → Settled n w → s < n → d < n → is_gone (rank_at w d).log s ≡ true → HasStopped w s
+known_stopped w s d h settled i j gone =
+    gone_stopped (flowing-world h) s d (report_of (player_at w s)) (report_of (player_at w d)) (report_there w s (omega (arith, i, settled.size))) (report_there w d (omega (arith, j, settled.size))) gone
 
 -- what the logs of a world keep of shrinks
 pub all_keep : (n : ℕ) (w : World) → Settled n w → AllKeep (reports_in w)

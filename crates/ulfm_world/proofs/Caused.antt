@@ -10,7 +10,6 @@ use Rattle.ulfm_rank.specs.Facts.{took, is_revoked, revokes, item_revokes, is_st
 use Rattle.ulfm_rank.proofs.Gather.{any-push}
 use Rattle.ulfm_rank.proofs.Quiet.{Own}
 use Rattle.ulfm_script.specs.Player.{IsCalled, awaits_decision}
-use Rattle.ulfm_job.specs.Job.{is_stop_step}
 use Rattle.ulfm_job.specs.declared.step.Step.{Step}
 use Rattle.ulfm_script.proofs.Polls.{Adds, answers_add, opens_add}
 use Rattle.ulfm_script.proofs.Decisions.{decision_adds}
@@ -40,15 +39,15 @@ module _ (players : List Player) (r : ℕ) (p : Player) (inside : r < length pla
   abbrev later : List Player
   later = set players r p
 
-  calls_grown : (c : ℕ) (old new : List Entry) → Grows players old new → list_any (is_call_to_revoke c) old ≡ true → list_any (is_call_to_revoke c) new ≡ true
-  calls_grown c old new (inl same) h = ap (λ (log : List Entry). list_any (is_call_to_revoke c) log) same ∙ h
-  calls_grown c old new (inr more) h = ap (λ (log : List Entry). list_any (is_call_to_revoke c) log) more.1 ∙ any-push (is_call_to_revoke c) old more.0 ∙ or_left (list_any (is_call_to_revoke c) old) (is_call_to_revoke c more.0) h
+  calls_grown : (c : ℕ) {old new : List Entry} → Grows players old new → list_any (is_call_to_revoke c) old ≡ true → list_any (is_call_to_revoke c) new ≡ true
+  calls_grown c (inl same) h = ap (λ (log : List Entry). list_any (is_call_to_revoke c) log) same ∙ h
+  calls_grown c {old} (inr more) h = ap (λ (log : List Entry). list_any (is_call_to_revoke c) log) more.1 ∙ any-push (is_call_to_revoke c) old more.0 ∙ or_left (list_any (is_call_to_revoke c) old) (is_call_to_revoke c more.0) h
 
   still : (c : ℕ) → IsCaused players c → IsCaused later c
   still c k = (
     k.0,
     omega (arith, k.1, length-set players r p),
-    each_player players r p (λ (a b : Player). list_any (is_call_to_revoke c) a.rank.log ≡ true → list_any (is_call_to_revoke c) b.rank.log ≡ true) inside (calls_grown c (player_in players r).rank.log p.rank.log grows) (λ x i was. was) k.0 k.1 k.2,
+    each_player players r p (λ (a b : Player). list_any (is_call_to_revoke c) a.rank.log ≡ true → list_any (is_call_to_revoke c) b.rank.log ≡ true) inside (calls_grown c grows) (λ x i was. was) k.0 k.1 k.2,
   )
 
   called_now : (c : ℕ) (e : Entry) → p.rank.log ≡ (player_in players r).rank.log ++ e ∷ [] → is_call_to_revoke c e ≡ true → IsCaused later c
@@ -80,71 +79,64 @@ module _ (players : List Player) (r : ℕ) (p : Player) (inside : r < length pla
       (revoked_now c grows) (λ x k was now. still c (was now)) d low (h d low c) revoked
 
 -- an entry of a rank's own revokes by its call
-own_revokes : (me : ℕ) (e : Entry) (c : ℕ) → Own me e → revokes c e ≡ true → is_call_to_revoke c e ≡ true
-own_revokes me (Revoked context) c own h = h
-own_revokes me (Took source item) c own h =
-    let s : ℕ = source.number in
+own_revokes : {me : ℕ} (e : Entry) (c : ℕ) → Own me e → revokes c e ≡ true → is_call_to_revoke c e ≡ true
+own_revokes (Revoked context) c own h = h
+own_revokes (Took source item) c own h =
+    let s = source.number in
     let one : item ∷ [] ≡ [] = ap (λ (b : Bool). cond b (item ∷ []) []) (sym (eq-eqb s s refl)) ∙ own.takes_none s in
     absurd (let many : 1 ≡ 0 = ap (λ (xs : List Item). length xs) one in omega (arith, many))
-own_revokes me _ c own h = absurd (false≢true h)
+own_revokes _ c own h = absurd (false≢true h)
 
-grows-own : (players : List Player) (old : State) (stops : Bool) (new : State) → Adds old stops new → Grows players old.log new.log
-grows-own players old stops new (inl same) = inl (ap (λ (s : State). s.log) same.0)
-grows-own players old stops new (inr one) = inr (one.entry, ap (λ (s : State). s.log) one.only, λ c h. inl (own_revokes old.me one.entry c one.own h))
+grows-own : (players : List Player) {old : State} {stops : Bool} {new : State} → Adds old stops new → Grows players old.log new.log
+grows-own players (inl same) = inl (ap (λ (s : State). s.log) same.0)
+grows-own players {old} (inr one) = inr (one.entry, ap (λ (s : State). s.log) one.only, λ c h. inl (own_revokes one.entry c one.own h))
 
-grows-called : (players : List Player) (old : Player) (asked : Step) (new : Player) → is_stopped old.rank.log ≡ false → IsCalled old asked new → Grows players old.rank.log new.rank.log
-grows-called players old asked new running (inl a) =
-    let G : Player → Type 0 = λ (p : Player). Grows players old.rank.log p.rank.log in
-    subst G (sym a.only) (grows-own players old.rank (is_stop_step asked) a.rank (answers_add old.done old.rank asked a.answer a.rank running a.answers))
-grows-called players old asked new running (inr o) =
-    let G : Player → Type 0 = λ (p : Player). Grows players old.rank.log p.rank.log in
-    subst G (sym o.only) (grows-own players old.rank false o.rank (opens_add (awaits_decision old.current) old.done old.rank asked o.rank o.stays))
+grows-called : (players : List Player) {old : Player} (asked : Step) {new : Player} → is_stopped old.rank.log ≡ false → IsCalled old asked new → Grows players old.rank.log new.rank.log
+grows-called players {old} asked running (inl a) =
+    subst (λ (p : Player). Grows players old.rank.log p.rank.log) (sym a.only) (grows-own players (answers_add old.done old.rank asked a.answer a.rank running a.answers))
+grows-called players {old} asked running (inr o) =
+    subst (λ (p : Player). Grows players old.rank.log p.rank.log) (sym o.only) (grows-own players (opens_add (awaits_decision old.current) old.done old.rank asked o.rank o.stays))
 
 -- a notice that is taken is of a revocation that its sender's log tells of
-taken_caused : (w : World) (r : ℕ) (w' : World) → IsWorld w → HaveCauses w.players → (t : Takes w r w') → (c : ℕ) → item_revokes c t.item ≡ true → IsCaused w.players c
-taken_caused w r w' h all t c told =
-    let s : ℕ = t.source.number in
+taken_caused : (w : World) (r : ℕ) {w' : World} → IsWorld w → HaveCauses w.players → (t : Takes w r w') → (c : ℕ) → item_revokes c t.item ≡ true → IsCaused w.players c
+taken_caused w r h all t c told =
+    let s = t.source.number in
     let posted : IsPosted (length w.players) (t.source, t.item) = All-head (IsPosted (length w.players)) (t.source, t.item) t.rest (let X : List (WorldRank × Item) → Type 0 = λ (xs : List (WorldRank × Item)). All (IsPosted (length w.players)) xs in subst X t.front (h.posted r t.inside)) in
-    let mine : List Item = took (rank_at w r).log s in
+    let mine = took (rank_at w r).log s in
     let flow : Flow (rank_at w s) s r (mine ++ items_from s (inbox_at w r)) =
-    (flowing-world w h).flow s r (report_of (player_at w s)) (report_of (player_at w r)) (report_there w s posted.0) (report_there w r t.inside) in
+    (flowing-world h).flow s r (report_of (player_at w s)) (report_of (player_at w r)) (report_there w s posted.0) (report_there w r t.inside) in
     let waits : list_any (item_revokes c) (items_from s (inbox_at w r)) ≡ true =
     ap (λ (xs : List (WorldRank × Item)). list_any (item_revokes c) (items_from s xs)) t.front
     ∙ ap (λ (b : Bool). list_any (item_revokes c) (cond b (t.item ∷ []) [] ++ items_from s t.rest)) (eq-eqb s s refl)
     ∙ or_left (item_revokes c t.item) (list_any (item_revokes c) (items_from s t.rest)) told in
-    all s posted.0 c (revoked_arrived (rank_at w s) s r c (mine ++ items_from s (inbox_at w r)) flow
+    all s posted.0 c (revoked_arrived s r c flow
     (list_any-append (item_revokes c) mine (items_from s (inbox_at w r)) ∙ or_right (list_any (item_revokes c) mine) (list_any (item_revokes c) (items_from s (inbox_at w r))) waits))
 
 caused-happens : (w : World) (event : Event) (w' : World) → IsWorld w → HaveCauses w.players → Happens w event w' → HaveCauses w'.players
 caused-happens w (Call r asked) w' h all k =
     let H : List Player → Type 0 = λ (ps : List Player). HaveCauses ps in
-    subst H (sym (ap (λ (x : World). x.players) k.2 ∙ k.1.only)) (caused-set w.players r k.1.after k.1.inside (grows-called w.players (player_at w r) asked k.1.after k.1.running k.1.called) all)
+    subst H (sym (ap (λ (x : World). x.players) k.2 ∙ k.1.only)) (caused-set w.players r k.1.after k.1.inside (grows-called w.players asked k.1.running k.1.called) all)
 caused-happens w (Push s d) w' h all k =
-    let H : List Player → Type 0 = λ (ps : List Player). HaveCauses ps in
-    subst H (sym (ap (λ (x : World). x.players) k.only)) (caused-set w.players s (with_rank (player_at w s) k.after) k.inside_s (inl (ap (λ (x : State). x.log) k.leaves.marked)) all)
+    subst (λ (ps : List Player). HaveCauses ps) (sym (ap (λ (x : World). x.players) k.only)) (caused-set w.players s (with_rank (player_at w s) k.after) k.inside_s (inl (ap (λ (x : State). x.log) k.leaves.marked)) all)
 caused-happens w (Take r) w' h all k =
-    let H : List Player → Type 0 = λ (ps : List Player). HaveCauses ps in
-    subst H (sym (ap (λ (x : World). x.players) k.only))
-    (caused-set w.players r (with_rank (player_at w r) (logged (rank_at w r) (Took k.source k.item))) k.inside (inr (Took k.source k.item, refl, λ c told. inr (taken_caused w r w' h all k c told))) all)
+    subst (λ (ps : List Player). HaveCauses ps) (sym (ap (λ (x : World). x.players) k.only))
+    (caused-set w.players r (with_rank (player_at w r) (logged (rank_at w r) (Took k.source k.item))) k.inside (inr (Took k.source k.item, refl, λ c told. inr (taken_caused w r h all k c told))) all)
 caused-happens w (Decide r comm) w' h all k =
     let H : List Player → Type 0 = λ (ps : List Player). HaveCauses ps in
     let d = k.2.decided in
     let G : Player → Type 0 = λ (p : Player). Grows w.players (rank_at w r).log p.rank.log in
     subst H (sym (ap (λ (x : World). x.players) k.3 ∙ k.2.only))
-    (caused-set w.players r k.2.after k.2.inside (subst G (sym d.only) (grows-own w.players (rank_at w r) false d.rank (decision_adds None w.decided k.1 (rank_at w r) comm d.answer d.rank d.decision))) all)
+    (caused-set w.players r k.2.after k.2.inside (subst G (sym d.only) (grows-own w.players (decision_adds None w.decided k.1 (rank_at w r) comm d.answer d.rank d.decision))) all)
 caused-happens w (Leave r) w' h all k =
-    let H : List Player → Type 0 = λ (ps : List Player). HaveCauses ps in
-    subst H (sym (ap (λ (x : World). x.players) k.2 ∙ k.1.only)) (caused-set w.players r k.1.after k.1.inside (inl (ap (λ (p : Player). p.rank.log) k.1.left.only)) all)
+    subst (λ (ps : List Player). HaveCauses ps) (sym (ap (λ (x : World). x.players) k.2 ∙ k.1.only)) (caused-set w.players r k.1.after k.1.inside (inl (ap (λ (p : Player). p.rank.log) k.1.left.only)) all)
 
 caused-start : (n capacity : ℕ) → HaveCauses (start_world n capacity).players
-caused-start n capacity d i c revoked =
-    let R : Player → Type 0 = λ (p : Player). is_revoked p.rank.log c ≡ true in
-    absurd (false≢true (subst R (player-start n n d (omega (arith, i, length-start n n))) revoked))
+caused-start n capacity d i c revoked = absurd (false≢true (subst (λ (p : Player). is_revoked p.rank.log c ≡ true) (player-start n n d (omega (arith, i, length-start n n))) revoked))
 
 -- in each world that a schedule leads to
 pub revoked_by_a_rank : InEachWorld RevokedByARank
 revoked_by_a_rank n capacity w small h d c told here revoked =
-    let all : HaveCauses w.players = each_run (λ x. HaveCauses x.players) (λ u event u' kept caused happens. caused-happens u event u' kept caused happens) h.0 (start_world n capacity) w (world-start n capacity small) (caused-start n capacity) h.1 in
+    let all : HaveCauses w.players = each_run (λ x. HaveCauses x.players) (λ u event u' kept caused happens. caused-happens u event u' kept caused happens) h.0 w (world-start n capacity small) (caused-start n capacity) h.1 in
     each_report (λ x report. is_revoked report.rank.log c ≡ true → RevokedByCall (reports_in w) c) w (λ x i now.
     let k = all x i c now in
     record { rank = k.0; told = report_of (player_at w k.0); reported = report_there w k.0 k.1; called = k.2 }) d told here revoked

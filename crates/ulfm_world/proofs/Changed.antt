@@ -12,10 +12,8 @@ player-other ps r x p other = get_or-set_other ps r x p no_player other
 -- what holds of the changed player and of each unchanged one holds of each
 pub each_player : (ps : List Player) (r : ℕ) (p : Player) (P : Player → Player → Type 0) → r < length ps → P (player_in ps r) p → ((x : ℕ) → x < length ps → P (player_in ps x) (player_in ps x)) → (x : ℕ) → x < length ps → P (player_in ps x) (player_in (set ps r p) x)
 each_player ps r p P inside changed unchanged x h = elim (cases_eq x r) [
-  | inl same ↦
-      rw (player-same ps r x p same inside) (rw same changed)
-  | inr other ↦
-      rw (player-other ps r x p other) (unchanged x h)
+  | inl same ↦ rw (player-same ps r x p same inside) (rw same changed)
+  | inr other ↦ rw (player-other ps r x p other) (unchanged x h)
 ]
 
 pub inbox-same : (inboxes : List (List (WorldRank × Item))) (d x : ℕ) (items : List (WorldRank × Item)) → x ≡ d → d < length inboxes → get_or (set inboxes d items) x [] ≡ items

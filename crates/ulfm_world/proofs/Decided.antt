@@ -12,7 +12,7 @@ use Rattle.ulfm_script.specs.Deciding.{AnswersAdoption}
 use Rattle.ulfm_world.specs.World.{World, player_in, player_at, rank_at, DecidesShrink}
 use Rattle.ulfm_world.specs.Safe.{IsSafe, SettlesSafely, StarvesAlone}
 use Rattle.ulfm_world.proofs.Changed.{player-same}
-use Rattle.ulfm_world.proofs.Agreed.{IsHeld, Settled}
+use Rattle.ulfm_world.proofs.Agreed.{Settled}
 use Rattle.ulfm_world.proofs.Adopting.{held_cases, later_cases, handed_held, held_passes, starves_alone}
 use Rattle.ulfm_world.proofs.Safe.{held-safe}
 
@@ -26,18 +26,17 @@ error_of _ = OutOfMemory
 
 module _ (n : ℕ) (w : World) (r : ℕ) (comm : Context) (h : IsWorld w) (settled : Settled n w) where
   -- a decision that is held after the event was safe before it
-  pub settled_safe : (players : List Player) (later : List (Option Decision)) (d : Decision) → DecidesShrink w.players w.decided r comm players later → known_at later comm.number ≡ Some d → IsSafe w d
-  settled_safe players later d c known =
+  pub settled_safe : {players : List Player} (later : List (Option Decision)) (d : Decision) → DecidesShrink w.players w.decided r comm players later → known_at later comm.number ≡ Some d → IsSafe w d
+  settled_safe later d c known =
       let i : r < n = omega (arith, c.inside, settled.size) in
       let s = c.decided.decision in
       elim (s.outcome) [
         | inl a ↦
             elim (later_cases w.decided later s.proposal a.held a.board_answers comm.number d known) [
-              | inl was ↦ held-safe n w settled comm.number d (settled.held comm.number d was)
-              | inr now ↦
-                  rw now.0 (held-safe n w settled comm.number a.held (handed_held n w r comm h settled i c.running s.proposal s.proposed a.held (held_cases w.decided later s.proposal a.held a.board_answers)))
+              | inl was ↦ held-safe n w settled (settled.held comm.number d was)
+              | inr now ↦ rw now.0 (held-safe n w settled (handed_held n w r comm h settled i c.running s.proposal s.proposed (held_cases w.decided later s.proposal a.held a.board_answers)))
             ]
-        | inr b ↦ held-safe n w settled comm.number d (settled.held comm.number d (ap (λ (ks : List (Option Decision)). known_at ks comm.number) (sym b.known_stay) ∙ known))
+        | inr b ↦ held-safe n w settled (settled.held comm.number d (ap (λ (ks : List (Option Decision)). known_at ks comm.number) (sym b.known_stay) ∙ known))
       ]
 
   pub settled_starves : (players : List Player) (later : List (Option Decision)) (e : CallError) (at polls : ℕ) → DecidesShrink w.players w.decided r comm players later → (player_in players r).done ≡ (player_at w r).done ++ step_report (Shrink comm) (Refused e) at polls ∷ [] → e ≡ OutOfMemory
@@ -50,14 +49,14 @@ module _ (n : ℕ) (w : World) (r : ℕ) (comm : Context) (h : IsWorld w) (settl
       ap (λ (x : StepReport). x.answer) (last_report (player_at w r).done (step_report (Shrink comm) c.decided.answer (length (rank_at w r).log) (player_at w r).polls) (step_report (Shrink comm) (Refused e) at polls) (sym longer ∙ ap (λ (p : Player). p.done) (sym after) ∙ refused)) in
       elim (s.outcome) [
         | inl a ↦
-            let ok : IsHeld n w comm.number a.held = handed_held n w r comm h settled i c.running s.proposal s.proposed a.held (held_cases w.decided later s.proposal a.held a.board_answers) in
+            let ok = handed_held n w r comm h settled i c.running s.proposal s.proposed (held_cases w.decided later s.proposal a.held a.board_answers) in
             let adoption : AnswersAdoption (rank_at w r) comm a.held (Refused e) c.decided.rank = rw same at a.adoption in
             starves_alone (rank_at w r) comm.number a.held e (held_passes n w r comm h settled i c.running s.proposal s.proposed a.held ok (settled.unadopted r comm i c.decided.waits)) adoption.0
         | inr b ↦ ap error_of (sym same ∙ b.refused)
       ]
 
-pub settles-safely : (n : ℕ) (w : World) → IsWorld w → Settled n w → SettlesSafely w
-settles-safely n w h settled r comm new d k known = settled_safe n w r comm h settled k.0 k.1 d k.2 (ap (λ (x : World). known_at x.decided comm.number) (sym k.3) ∙ known)
+pub settles-safely : {n : ℕ} (w : World) → IsWorld w → Settled n w → SettlesSafely w
+settles-safely {n} w h settled r comm new d k known = settled_safe n w r comm h settled k.1 d k.2 (ap (λ (x : World). known_at x.decided comm.number) (sym k.3) ∙ known)
 
-pub starves-alone : (n : ℕ) (w : World) → IsWorld w → Settled n w → StarvesAlone w
-starves-alone n w h settled r comm new e k refuses = settled_starves n w r comm h settled k.0 k.1 e refuses.at refuses.polls k.2 (ap (λ (x : World). (player_at x r).done) (sym k.3) ∙ refuses.answer)
+pub starves-alone : {n : ℕ} (w : World) → IsWorld w → Settled n w → StarvesAlone w
+starves-alone {n} w h settled r comm new e k refuses = settled_starves n w r comm h settled k.0 k.1 e refuses.at refuses.polls k.2 (ap (λ (x : World). (player_at x r).done) (sym k.3) ∙ refuses.answer)

@@ -16,15 +16,13 @@ use Rattle.ulfm_world.proofs.Rightly.{rightly-start}
 
 pub came-start : (j : Seen) (w : World) → w ≡ start_world j.ranks j.capacity → IsUnderway j w
 came-start j w is =
-    let n : ℕ = j.ranks in
-    let C : World → Type 0 = λ (x : World). IsUnderway j x in
-    subst C (sym is) (record {
+    let n = j.ranks in
+    subst (λ (x : World). IsUnderway j x) (sym is) (record {
       reaches = ([], refl);
       size = length-start n n;
       capacity = refl;
       follows = λ r k.
-          let F : Player → Type 0 = λ (p : Player). FollowsSoFar (script_at j r) j.turns p in
-          subst F (sym (player-start n n r (omega (arith, k, length-start n n)))) (follows-start (script_at j r) j.turns r n);
+          subst (λ (p : Player). FollowsSoFar (script_at j r) j.turns p) (sym (player-start n n r (omega (arith, k, length-start n n)))) (follows-start (script_at j r) j.turns r n);
       answers = rightly-start n j.capacity;
     })
 
@@ -50,8 +48,8 @@ stuck-rest j w roomy h = record {
   };
 }
 
-answered_running : (script : List Step) (turns : ℕ) (p : Player) → FollowsSoFar script turns p → is_stopped p.rank.log ≡ false → length script ≤ length p.done → steps_done p ≡ through_stop script
-answered_running script turns p h running all =
+answered_running : {script : List Step} {turns : ℕ} {p : Player} → FollowsSoFar script turns p → is_stopped p.rank.log ≡ false → length script ≤ length p.done → steps_done p ≡ through_stop script
+answered_running {script} {p} h running all =
     let none : h.rest ≡ [] = nil_from_length h.rest (omega (arith, all, ap (λ (xs : List Step). length xs) h.split, length-append (steps_done p) h.rest, length-map p.done reported_step)) in
     let whole : steps_done p ≡ script = sym (append-nil (steps_done p)) ∙ ap (λ (xs : List Step). steps_done p ++ xs) (sym none) ∙ h.split in
     sym (through-none (steps_done p) (h.running running)) ∙ ap through_stop whole
@@ -69,15 +67,15 @@ stuck-answered j w f h r k = elim (cases_Bool (is_stopped (rank_at w r).log)) [
   | inr running ↦
       let all : length (script_at j r) ≤ length (player_at w r).done = (h r k).polls running in
       record {
-        steps = answered_running (script_at j r) j.turns (player_at w r) (f r k) running all;
+        steps = answered_running (f r k) running all;
         closed = none_open (player_at w r).current (script_at j r) (length (player_at w r).done) (player_at w r).polls j.turns all (f r k).current;
         patient = (f r k).patient;
       }
 ]
 
 -- the reports of a world that came to rest
-pub replayed : (j : Seen) (w : World) (reports : List Report) → 0 < j.capacity → IsUnderway j w → ((r : ℕ) → r < length w.players → IsStuck j w r) → reports ≡ map report_of w.players → IsReplayed j reports
-replayed j w reports roomy came stuck is = record {
+pub replayed : {j : Seen} {w : World} {reports : List Report} → 0 < j.capacity → IsUnderway j w → ((r : ℕ) → r < length w.players → IsStuck j w r) → reports ≡ map report_of w.players → IsReplayed j reports
+replayed {j} {w} roomy came stuck is = record {
   world = w;
   reaches = came.reaches;
   rests = stuck-rest j w (omega (arith, came.capacity, roomy)) stuck;

@@ -19,33 +19,31 @@ use Rattle.ulfm_world.proofs.Agreed.{IsAdopted, IsHeld, Settled}
 abbrev pub Grows : ℕ → ℕ → List Entry → List Entry → Type 0
 Grows n me old new = (new ≡ old) ⊎ ((e : Entry) × Fits n me old e × (new ≡ old ++ e ∷ []))
 
-pub keeps-grown : (n me : ℕ) (old new : List Entry) → Keeps n me old → Grows n me old new → Keeps n me new
-keeps-grown n me old new h (inl same) = rw same h
-keeps-grown n me old new h (inr more) = rw more.2 (keeps-push n me old more.0 h more.1)
+pub keeps-grown : (n me : ℕ) {old new : List Entry} → Keeps n me old → Grows n me old new → Keeps n me new
+keeps-grown n me h (inl same) = rw same h
+keeps-grown n me {old} h (inr more) = rw more.2 (keeps-push n me old more.0 h more.1)
 
-once-grown : (n me : ℕ) (old new : List Entry) → Keeps n me old → EntersEachOnce old → Grows n me old new → EntersEachOnce new
-once-grown n me old new h once (inl same) = rw same once
-once-grown n me old new h once (inr more) = rw more.2 (once-push n me old more.0 h.enters_once once more.1)
+once-grown : (n me : ℕ) {old new : List Entry} → Keeps n me old → EntersEachOnce old → Grows n me old new → EntersEachOnce new
+once-grown n me h once (inl same) = rw same once
+once-grown n me {old} h once (inr more) = rw more.2 (once-push n me old more.0 h.enters_once once more.1)
 
-own-grown : (n me : ℕ) (old new : List Entry) (c : ℕ) (known : RankSet) → Grows n me old new → own_set old c ≡ Some known → own_set new c ≡ Some known
-own-grown n me old new c known (inl same) h = ap (λ (x : List Entry). own_set x c) same ∙ h
-own-grown n me old new c known (inr more) h = ap (λ (x : List Entry). own_set x c) more.2 ∙ own_stays old more.0 c known h
+own-grown : (n me : ℕ) {old new : List Entry} (c : ℕ) {known : RankSet} → Grows n me old new → own_set old c ≡ Some known → own_set new c ≡ Some known
+own-grown n me c (inl same) h = ap (λ (x : List Entry). own_set x c) same ∙ h
+own-grown n me {old} c {known} (inr more) h = ap (λ (x : List Entry). own_set x c) more.2 ∙ own_stays old more.0 c known h
 
-stopped-grown : (n me : ℕ) (old new : List Entry) → Grows n me old new → is_stopped old ≡ true → is_stopped new ≡ true
-stopped-grown n me old new (inl same) h = ap is_stopped same ∙ h
-stopped-grown n me old new (inr more) h = ap is_stopped more.2 ∙ any-push is_stop old more.0 ∙ or_left (is_stopped old) (is_stop more.0) h
+stopped-grown : (n me : ℕ) {old new : List Entry} → Grows n me old new → is_stopped old ≡ true → is_stopped new ≡ true
+stopped-grown n me (inl same) h = ap is_stopped same ∙ h
+stopped-grown n me {old} (inr more) h = ap is_stopped more.2 ∙ any-push is_stop old more.0 ∙ or_left (is_stopped old) (is_stop more.0) h
 
-group-grown : (n me : ℕ) (old new : List Entry) (c : ℕ) (g : List ℕ) → Grows n me old new → group_of n old c ≡ Some g → group_of n new c ≡ Some g
-group-grown n me old new c g (inl same) h = ap (λ (x : List Entry). group_of n x c) same ∙ h
-group-grown n me old new c g (inr more) h = ap (λ (x : List Entry). group_of n x c) more.2 ∙ group_stays n old more.0 c g h
+group-grown : (n me : ℕ) {old new : List Entry} (c : ℕ) {g : List ℕ} → Grows n me old new → group_of n old c ≡ Some g → group_of n new c ≡ Some g
+group-grown n me c (inl same) h = ap (λ (x : List Entry). group_of n x c) same ∙ h
+group-grown n me {old} c {g} (inr more) h = ap (λ (x : List Entry). group_of n x c) more.2 ∙ group_stays n old more.0 c g h
 
 -- what held of each player holds of each after a change of one
 pub each_at : (ps : List Player) (r : ℕ) (p : Player) (P : ℕ → Player → Player → Type 0) → r < length ps → P r (player_in ps r) p → ((x : ℕ) → P x (player_in ps x) (player_in ps x)) → (x : ℕ) → P x (player_in ps x) (player_in (set ps r p) x)
 each_at ps r p P inside changed unchanged x = elim (cases_eq x r) [
-  | inl same ↦
-      rw (player-same ps r x p same inside) (rw same changed)
-  | inr other ↦
-      rw (player-other ps r x p other) (unchanged x)
+  | inl same ↦ rw (player-same ps r x p same inside) (rw same changed)
+  | inr other ↦ rw (player-other ps r x p other) (unchanged x)
 ]
 
 -- every log grew as it may
@@ -58,9 +56,9 @@ held-grown n w w' c d grew h = record {
   context = h.context;
   proposer = h.proposer;
   inside = h.inside;
-  group = group-grown n h.proposer (rank_at w h.proposer).log (rank_at w' h.proposer).log c d.old (grew h.proposer) h.group;
-  listed = λ r known listed. own-grown n r (rank_at w r).log (rank_at w' r).log c known (grew r) (h.listed r known listed);
-  stopped = λ r out. stopped-grown n r (rank_at w r).log (rank_at w' r).log (grew r) (h.stopped r out);
+  group = group-grown n h.proposer c (grew h.proposer) h.group;
+  listed = λ r known listed. own-grown n r c (grew r) (h.listed r known listed);
+  stopped = λ r out. stopped-grown n r (grew r) (h.stopped r out);
 }
 
 -- one rank's change: its log grew, what it adopted is held, and it adopted no decision of a shrink that stands open
@@ -81,8 +79,8 @@ pub all_later : (decided later : List (Option Decision)) (me : ℕ) (log : List 
 all_later decided later me log still all = All-weaker (IsAdopted decided me) (IsAdopted later me) (later_adopted decided later me still) log all
 
 -- a change of one player, in which each decision that is held then may be held before
-pub settled-moved : (n : ℕ) (w w' : World) (r : ℕ) (p : Player) → Settled n w → r < n → w'.players ≡ set w.players r p → StillHeld w.decided w'.decided → ((c : ℕ) (d : Decision) → known_at w'.decided c ≡ Some d → IsHeld n w c d) → Moved n w'.decided r (player_at w r) p → Settled n w'
-settled-moved n w w' r p h i only still held moved =
+pub settled-moved : {n : ℕ} (w w' : World) {r : ℕ} {p : Player} → Settled n w → r < n → w'.players ≡ set w.players r p → StillHeld w.decided w'.decided → ((c : ℕ) (d : Decision) → known_at w'.decided c ≡ Some d → IsHeld n w c d) → Moved n w'.decided r (player_at w r) p → Settled n w'
+settled-moved {n} w w' {r} {p} h i only still held moved =
     let inside : r < length w.players = omega (arith, i, h.size) in
     let at : (x : ℕ) → Grows n x (rank_at w x).log (player_in (set w.players r p) x).rank.log = each_at w.players r p (λ (x : ℕ) (a b : Player). Grows n x a.rank.log b.rank.log) inside moved.grows (λ x. inl refl) in
     let grew : AllGrew n w w' = rw only at in
@@ -94,8 +92,8 @@ settled-moved n w w' r p h i only still held moved =
     inside (λ was k. moved.unadopted) (λ x was. was) x (λ k comm. h.unadopted x comm k) in
     record {
       size = ap length only ∙ length-set w.players r p ∙ h.size;
-      keeps = λ x k. keeps-grown n x (rank_at w x).log (rank_at w' x).log (h.keeps x k) (grew x);
-      once = λ x k. once-grown n x (rank_at w x).log (rank_at w' x).log (h.keeps x k) (h.once x k) (grew x);
+      keeps = λ x k. keeps-grown n x (h.keeps x k) (grew x);
+      once = λ x k. once-grown n x (h.keeps x k) (h.once x k) (grew x);
       held = λ c d known. held-grown n w w' c d grew (held c d known);
       adopted = λ x k. rw only (adopted x k);
       unadopted = λ x comm k. rw only (unadopted x k comm);

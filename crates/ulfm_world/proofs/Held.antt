@@ -25,21 +25,20 @@ module _ (n : ℕ) (w : World) (r c : ℕ) (h : IsWorld w) (settled : Settled n 
   -- who is out has stopped
   out_stopped : (group : List ℕ) (x : ℕ) → x < n → ((m : ℕ) → is_member group m ≡ true → m < n) → is_out r group (rank_at w r).log c x ≡ true → HasStopped w x
   out_stopped group x inside below out = elim (or_cases (is_gone (rank_at w r).log x) (list_any (λ m. in_entry (listed_of r (rank_at w r).log c m) x) group) out) [
-    | inl gone ↦ known_stopped n w x r h settled inside i gone
+    | inl gone ↦ known_stopped w x r h settled inside i gone
     | inr told ↦
         let found = member_test group (λ m. in_entry (listed_of r (rank_at w r).log c m) x) told in
         let set = in_some (listed_of r (rank_at w r).log c found.0) x found.2 in
-        let lister : found.0 < n = below found.0 found.1 in
-        let own = listed_entry n w r found.0 c set.0 h settled i lister set.1 in
-        known_stopped n w x found.0 h settled inside lister ((settled.keeps found.0 lister).knows_sets c x set.0 own set.2)
+        let lister = below found.0 found.1 in
+        known_stopped w x found.0 h settled inside lister ((settled.keeps found.0 lister).knows_sets c x set.0 (listed_entry w r found.0 c h settled i lister set.1) set.2)
   ]
 
   -- what a rank proposes may be held
-  pub proposal_held : (d : Decision) → IsProposal n r (rank_at w r).log c d → IsHeld n w c d
-  proposal_held d p =
+  pub proposal_held : {d : Decision} → IsProposal n r (rank_at w r).log c d → IsHeld n w c d
+  proposal_held {d} p =
       let log : List Entry = (rank_at w r).log in
       let made = some_from (group_of n log c) ((settled.keeps r i).enters_made c p.entered) in
-      let group : members_of n log c ≡ made.0 = members_found n log c made.0 made.1 in
+      let group = members_found n log c made.0 made.1 in
       let below : (m : ℕ) → is_member (members_of n log c) m ≡ true → m < n = λ m member. ((settled.keeps r i).belongs c made.0 made.1).below m (ap (λ (g : List ℕ). is_member g m) (sym group) ∙ member) in
       let small : n ≤ 8 = omega (arith, h.small, settled.size) in
       let of_old : (m : ℕ) → is_member d.old m ≡ true → is_member (members_of n log c) m ≡ true = λ m member. ap (λ (g : List ℕ). is_member g m) (sym p.old_group) ∙ member in
@@ -50,13 +49,13 @@ module _ (n : ℕ) (w : World) (r c : ℕ) (h : IsWorld w) (settled : Settled n 
         group = made.1 ∙ ap Some (sym group ∙ sym p.old_group);
         listed = λ x known listed.
             let member = of_old x (d.lawful.listed_members x (ap is_some listed)) in
-            let inside : x < n = below x member in
+            let inside = below x member in
             let stands = p.entries x (omega (arith, inside, small)) in
             let same : entry_at d.entries x ≡ cond (is_member (members_of n log c) x) (listed_of r log c x) None = get_or_from_slice_get d.entries x _ None stands in
-            listed_entry n w r x c known h settled i inside (sym (same ∙ cond-true (is_member (members_of n log c) x) (listed_of r log c x) None member) ∙ listed);
+            listed_entry w r x c h settled i inside (sym (same ∙ cond-true (is_member (members_of n log c) x) (listed_of r log c x) None member) ∙ listed);
         stopped = λ x out.
             let member = of_old x (d.lawful.excluded_members x out) in
-            let inside : x < n = below x member in
+            let inside = below x member in
             let both = and_parts (is_member (members_of n log c) x) (is_out r (members_of n log c) log c x) (sym (p.excluded x (omega (arith, inside, small))) ∙ out) in
             out_stopped (members_of n log c) x inside below both.1;
       }
@@ -78,7 +77,7 @@ pub held_own : (n : ℕ) (w : World) (r c : ℕ) (d : Decision) → IsWorld w �
 held_own n w r c d h settled i running made held =
     let log : List Entry = (rank_at w r).log in
     let mine = some_from (group_of n log c) made in
-    let same : d.old ≡ mine.0 = one_group n w held.proposer r c d.old mine.0 settled held.inside i held.group mine.1 in
+    let same = one_group n w held.proposer r c settled held.inside i held.group mine.1 in
     let belongs = (settled.keeps r i).belongs c mine.0 mine.1 in
     let stays : has d.excluded r ≡ false = elim (cases_Bool (has d.excluded r)) [
       | inl out ↦ absurd (false≢true (sym running ∙ held.stopped r out))
@@ -90,6 +89,5 @@ held_own n w r c d h settled i running made held =
       old_group = same ∙ sym (members_found n log c mine.0 mine.1);
       member = ap (λ (g : List ℕ). is_member g r) d.lawful.survivors ∙ excluding_keeps d.old (has d.excluded) r (ap (λ (g : List ℕ). is_member g r) same ∙ belongs.member) stays;
       agrees = none_of (numbers_from 0 8) (λ x. differ (entry_at d.entries x) (listed_of r log c x)) (λ x. same_sets (entry_at d.entries x) (listed_of r log c x) (λ s t listed heard.
-          let inside : x < n = below x (d.lawful.listed_members x (ap is_some listed)) in
-          same_Some s t (sym (held.listed x s listed) ∙ listed_entry n w r x c t h settled i inside heard)));
+          same_Some s t (sym (held.listed x s listed) ∙ listed_entry w r x c h settled i (below x (d.lawful.listed_members x (ap is_some listed))) heard)));
     }

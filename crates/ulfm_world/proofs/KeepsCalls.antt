@@ -11,13 +11,13 @@ use Rattle.ulfm_rank.specs.inside.Quiet.{Calm, Quiet}
 use Rattle.ulfm_world.proofs.Changed.{player-same, player-other, each_player, inbox-same, inbox-other, each_inbox}
 
 -- what a rank sent stays signed
-pub signed_still : (me : ℕ) (old new : State) → old.me ≡ me → Calm old new → All (IsSigned me) old.log → All (IsSigned me) new.log
-signed_still me old new named calm all = (rw named at calm.signed) all
+pub signed_still : {me : ℕ} {old new : State} → old.me ≡ me → Calm old new → All (IsSigned me) old.log → All (IsSigned me) new.log
+signed_still named calm all = (rw named at calm.signed) all
 
 -- a change of one player that takes nothing and lets nothing go out keeps the world
 pub keeps-quiet : (w : World) (r : ℕ) (p : Player) → IsWorld w → r < length w.players → Quiet (rank_at w r) p.rank → IsWorld (with_player w r p)
 keeps-quiet w r p h inside quiet =
-    let l : length (set w.players r p) ≡ length w.players = length-set w.players r p in
+    let l = length-set w.players r p in
     let all : (x : ℕ) → x < length w.players → Quiet (rank_at w x) (player_in (set w.players r p) x).rank =
     each_player w.players r p (λ (a b : Player). Quiet a.rank b.rank) inside quiet (λ x k. quiet-same (rank_at w x) (h.sound x k)) in
     record {
@@ -26,7 +26,7 @@ keeps-quiet w r p h inside quiet =
       named = λ x k. (all x (omega (arith, k, l))).calm.me ∙ h.named x (omega (arith, k, l));
       counted = λ x k. (all x (omega (arith, k, l))).calm.ranks ∙ h.counted x (omega (arith, k, l)) ∙ sym l;
       sound = λ x k. (all x (omega (arith, k, l))).calm.sound;
-      signed = λ x k. signed_still x (rank_at w x) (player_in (set w.players r p) x).rank (h.named x (omega (arith, k, l))) (all x (omega (arith, k, l))).calm (h.signed x (omega (arith, k, l)));
+      signed = λ x k. signed_still (h.named x (omega (arith, k, l))) (all x (omega (arith, k, l))).calm (h.signed x (omega (arith, k, l)));
       posted = λ x k. rw l (h.posted x (omega (arith, k, l)));
       passed_on = λ s d i j.
           (all s (omega (arith, i, l))).calm.out d (omega (arith, h.counted s (omega (arith, i, l)), j, l))
@@ -35,11 +35,11 @@ keeps-quiet w r p h inside quiet =
     }
 
 -- what is taken is what left the inbox
-took_arrived : (w : World) (r : ℕ) (source : WorldRank) (item : Item) (rest : List (WorldRank × Item)) (s d : ℕ) → r < length w.players → length w.inboxes ≡ length w.players → inbox_at w r ≡ (source, item) ∷ rest →
+took_arrived : (w : World) (r : ℕ) {source : WorldRank} (item : Item) (rest : List (WorldRank × Item)) (s d : ℕ) → r < length w.players → length w.inboxes ≡ length w.players → inbox_at w r ≡ (source, item) ∷ rest →
     arrived (with_inbox (with_player w r (with_rank (player_at w r) (logged (rank_at w r) (Took source item)))) r rest) s d ≡ arrived w s d
-took_arrived w r source item rest s d inside many front = elim (cases_eq d r) [
+took_arrived w r {source} item rest s d inside many front = elim (cases_eq d r) [
   | inl same ↦
-      let new : Player = with_rank (player_at w r) (logged (rank_at w r) (Took source item)) in
+      let new = with_rank (player_at w r) (logged (rank_at w r) (Took source item)) in
       ap (λ (p : Player). took p.rank.log s ++ items_from s (get_or (set w.inboxes r rest) d [])) (player-same w.players r d new same inside)
       ∙ ap (λ (xs : List (WorldRank × Item)). took (logged (rank_at w r) (Took source item)).log s ++ items_from s xs) (inbox-same w.inboxes r d rest same (omega (arith, inside, many)))
       ∙ ap (λ (xs : List Item). xs ++ items_from s rest) (took-push (rank_at w r).log (Took source item) s)
@@ -47,16 +47,16 @@ took_arrived w r source item rest s d inside many front = elim (cases_eq d r) [
       ∙ ap (λ (xs : List (WorldRank × Item)). took (rank_at w r).log s ++ items_from s xs) (sym front)
       ∙ ap (λ i. arrived w s i) (sym same)
   | inr other ↦
-      let new : Player = with_rank (player_at w r) (logged (rank_at w r) (Took source item)) in
+      let new = with_rank (player_at w r) (logged (rank_at w r) (Took source item)) in
       ap (λ (p : Player). took p.rank.log s ++ items_from s (get_or (set w.inboxes r rest) d [])) (player-other w.players r d new other)
       ∙ ap (λ (xs : List (WorldRank × Item)). took (rank_at w d).log s ++ items_from s xs) (inbox-other w.inboxes r d rest other)
 ]
 
-pub keeps-takes : (w : World) (r : ℕ) (w' : World) → IsWorld w → Takes w r w' → IsWorld w'
-keeps-takes w r w' h t =
-    let p : Player = with_rank (player_at w r) (logged (rank_at w r) (Took t.source t.item)) in
-    let l : length (set w.players r p) ≡ length w.players = length-set w.players r p in
-    let m : length (set w.inboxes r t.rest) ≡ length w.inboxes = length-set w.inboxes r t.rest in
+pub keeps-takes : (w : World) (r : ℕ) {w' : World} → IsWorld w → Takes w r w' → IsWorld w'
+keeps-takes w r h t =
+    let p = with_rank (player_at w r) (logged (rank_at w r) (Took t.source t.item)) in
+    let l = length-set w.players r p in
+    let m = length-set w.inboxes r t.rest in
     let all : (x : ℕ) → x < length w.players → Calm (rank_at w x) (player_in (set w.players r p) x).rank =
     each_player w.players r p (λ (a b : Player). Calm a.rank b.rank) t.inside (calm-took (rank_at w r) t.source t.item (h.sound r t.inside)) (λ x k. calm-same (rank_at w x) (h.sound x k)) in
     rw t.only (record {
@@ -65,11 +65,11 @@ keeps-takes w r w' h t =
       named = λ x k. (all x (omega (arith, k, l))).me ∙ h.named x (omega (arith, k, l));
       counted = λ x k. (all x (omega (arith, k, l))).ranks ∙ h.counted x (omega (arith, k, l)) ∙ sym l;
       sound = λ x k. (all x (omega (arith, k, l))).sound;
-      signed = λ x k. signed_still x (rank_at w x) (player_in (set w.players r p) x).rank (h.named x (omega (arith, k, l))) (all x (omega (arith, k, l))) (h.signed x (omega (arith, k, l)));
+      signed = λ x k. signed_still (h.named x (omega (arith, k, l))) (all x (omega (arith, k, l))) (h.signed x (omega (arith, k, l)));
       posted = λ x k.
           rw l (each_inbox w.inboxes r (length w.players) t.rest (λ (items : List (WorldRank × Item)). All (IsPosted (length w.players)) items) (omega (arith, t.inside, h.as_many)) (All-rest (IsPosted (length w.players)) (t.source, t.item) t.rest (inbox_at w r) t.front (h.posted r t.inside)) h.posted x (omega (arith, k, l)));
       passed_on = λ s d i j.
           (all s (omega (arith, i, l))).out d (omega (arith, h.counted s (omega (arith, i, l)), j, l))
           ∙ h.passed_on s d (omega (arith, i, l)) (omega (arith, j, l))
-          ∙ sym (took_arrived w r t.source t.item t.rest s d t.inside h.as_many t.front);
+          ∙ sym (took_arrived w r t.item t.rest s d t.inside h.as_many t.front);
     })

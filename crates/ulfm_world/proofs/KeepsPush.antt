@@ -22,8 +22,8 @@ record Pushed (old new : State) : Type 0 where
 pushed-same : (r : State) → Pushed r r
 pushed-same r = record { me = refl; ranks = refl; log = refl; sound = λ h. h }
 
-pushed-leaves : (old new : State) (d : ℕ) (item : Item) → GoesOut old new d item → Pushed old new
-pushed-leaves old new d item k = record {
+pushed-leaves : {old new : State} {d : ℕ} {item : Item} → GoesOut old new d item → Pushed old new
+pushed-leaves k = record {
   me = ap (λ (s : State). s.me) k.marked;
   ranks = ap (λ (s : State). s.ranks) k.marked;
   log = ap (λ (s : State). s.log) k.marked;
@@ -40,24 +40,24 @@ from-push_other : (s : ℕ) (xs : List (WorldRank × Item)) (source : WorldRank)
 from-push_other s xs source item other = from-push s xs source item ∙ ap (λ b. items_from s xs ++ cond b (item ∷ []) []) (ne_eqb source.number s other) ∙ append-nil (items_from s xs)
 
 -- the flow of one pair, where its parts are equal to others
-flow_at : (q q' : Player) (log log' : List Entry) (ys ys' : List (WorldRank × Item)) (a b : ℕ) → q' ≡ q → log' ≡ log → ys' ≡ ys → went_out q.rank b ≡ took log a ++ items_from a ys → went_out q'.rank b ≡ took log' a ++ items_from a ys'
-flow_at q q' log log' ys ys' a b e f g core =
+flow_at : {q q' : Player} {log log' : List Entry} {ys ys' : List (WorldRank × Item)} (a b : ℕ) → q' ≡ q → log' ≡ log → ys' ≡ ys → went_out q.rank b ≡ took log a ++ items_from a ys → went_out q'.rank b ≡ took log' a ++ items_from a ys'
+flow_at {log'} {ys} a b e f g core =
     ap (λ (p : Player). went_out p.rank b) e ∙ core ∙ ap (λ (l : List Entry). took l a ++ items_from a ys) (sym f) ∙ ap (λ (zs : List (WorldRank × Item)). took log' a ++ items_from a zs) (sym g)
 
 -- the flow items_from a to b after a push items_from s to d
-pushed_on : (w : World) (s d a b : ℕ) (sender : WorldRank) (item : Item) (after : State) → IsWorld w → s < length w.players → d < length w.players → sender.number ≡ s → GoesOut (rank_at w s) after d item → a < length w.players → b < length w.players →
-    let w' : World = with_inbox (with_player w s (with_rank (player_at w s) after)) d (inbox_at w d ++ (sender, item) ∷ []) in went_out (rank_at w' a) b ≡ arrived w' a b
-pushed_on w s d a b sender item after h inside_s inside_d is_sender leaves i j =
-    let p : Player = with_rank (player_at w s) after in
-    let xs : List (WorldRank × Item) = inbox_at w d ++ (sender, item) ∷ [] in
+pushed_on : (w : World) (s d a b : ℕ) (sender : WorldRank) (item : Item) {after : State} → IsWorld w → s < length w.players → d < length w.players → sender.number ≡ s → GoesOut (rank_at w s) after d item → a < length w.players → b < length w.players →
+    let w' = with_inbox (with_player w s (with_rank (player_at w s) after)) d (inbox_at w d ++ (sender, item) ∷ []) in went_out (rank_at w' a) b ≡ arrived w' a b
+pushed_on w s d a b sender item {after} h inside_s inside_d is_sender leaves i j =
+    let p = with_rank (player_at w s) after in
+    let xs = inbox_at w d ++ (sender, item) ∷ [] in
     let logs : (player_in (set w.players s p) b).rank.log ≡ (rank_at w b).log =
-    (each_player w.players s p (λ (x y : Player). Pushed x.rank y.rank) inside_s (pushed-leaves (rank_at w s) after d item leaves) (λ x k. pushed-same (rank_at w x)) b j).log in
-    let was : went_out (rank_at w a) b ≡ arrived w a b = h.passed_on a b i j in
+    (each_player w.players s p (λ (x y : Player). Pushed x.rank y.rank) inside_s (pushed-leaves leaves) (λ x k. pushed-same (rank_at w x)) b j).log in
+    let was = h.passed_on a b i j in
     let many : d < length w.inboxes = omega (arith, inside_d, h.as_many) in
     elim (cases_eq a s) [
       | inl from_s ↦ elim (cases_eq b d) [
         | inl to_d ↦
-            flow_at p _ (rank_at w b).log _ xs _ a b (player-same w.players s a p from_s inside_s) logs (inbox-same w.inboxes d b xs to_d many)
+            flow_at a b (player-same w.players s a p from_s inside_s) logs (inbox-same w.inboxes d b xs to_d many)
             (ap (went_out after) to_d ∙ leaves.out
             ∙ ap (λ i. went_out (rank_at w i) d ++ item ∷ []) (sym from_s)
             ∙ ap (λ i. went_out (rank_at w a) i ++ item ∷ []) (sym to_d)
@@ -66,35 +66,34 @@ pushed_on w s d a b sender item after h inside_s inside_d is_sender leaves i j =
             ∙ ap (λ i. took (rank_at w b).log a ++ (items_from a (inbox_at w i) ++ item ∷ [])) to_d
             ∙ ap (λ (ys : List Item). took (rank_at w b).log a ++ ys) (sym (from-push_same a (inbox_at w d) sender item (is_sender ∙ sym from_s))))
         | inr other ↦
-            flow_at p _ (rank_at w b).log _ (inbox_at w b) _ a b (player-same w.players s a p from_s inside_s) logs (inbox-other w.inboxes d b xs other)
+            flow_at a b (player-same w.players s a p from_s inside_s) logs (inbox-other w.inboxes d b xs other)
             (out_other (rank_at w s) after d b item leaves other ∙ ap (λ i. went_out (rank_at w i) b) (sym from_s) ∙ was)
       ]
       | inr other_s ↦ elim (cases_eq b d) [
         | inl to_d ↦
-            flow_at (player_at w a) _ (rank_at w b).log _ xs _ a b (player-other w.players s a p other_s) logs (inbox-same w.inboxes d b xs to_d many)
+            flow_at a b (player-other w.players s a p other_s) logs (inbox-same w.inboxes d b xs to_d many)
             (was
             ∙ ap (λ i. took (rank_at w b).log a ++ items_from a (inbox_at w i)) to_d
             ∙ ap (λ (ys : List Item). took (rank_at w b).log a ++ ys) (sym (from-push_other a (inbox_at w d) sender item (λ e. other_s (sym e ∙ is_sender)))))
-        | inr other ↦
-            flow_at (player_at w a) _ (rank_at w b).log _ (inbox_at w b) _ a b (player-other w.players s a p other_s) logs (inbox-other w.inboxes d b xs other) was
+        | inr other ↦ flow_at a b (player-other w.players s a p other_s) logs (inbox-other w.inboxes d b xs other) was
       ]
     ]
 
 -- what is pushed is posted
-pushed_posted : (w : World) (s d : ℕ) (sender : WorldRank) (item : Item) (after : State) → IsWorld w → s < length w.players → sender.number ≡ s → GoesOut (rank_at w s) after d item → IsPosted (length w.players) (sender, item)
-pushed_posted w s d sender item after h inside is_sender leaves =
-    let named : (rank_at w s).me ≡ s = h.named s inside in
+pushed_posted : (w : World) (s d : ℕ) (sender : WorldRank) (item : Item) {after : State} → IsWorld w → s < length w.players → sender.number ≡ s → GoesOut (rank_at w s) after d item → IsPosted (length w.players) (sender, item)
+pushed_posted w s d sender item h inside is_sender leaves =
+    let named = h.named s inside in
     let own : ComesFrom (rank_at w s).me item = front_signed (rank_at w s) d item _ (rw named (h.signed s inside)) leaves.front in
     (omega (arith, is_sender, inside), from_signed sender item (rw (named ∙ sym is_sender) at own))
 
-pub keeps-pushes : (w : World) (s d : ℕ) (w' : World) → IsWorld w → Pushes w s d w' → IsWorld w'
-keeps-pushes w s d w' h t =
-    let p : Player = with_rank (player_at w s) t.after in
-    let xs : List (WorldRank × Item) = inbox_at w d ++ (t.sender, t.item) ∷ [] in
-    let l : length (set w.players s p) ≡ length w.players = length-set w.players s p in
-    let m : length (set w.inboxes d xs) ≡ length w.inboxes = length-set w.inboxes d xs in
+pub keeps-pushes : (w : World) (s d : ℕ) {w' : World} → IsWorld w → Pushes w s d w' → IsWorld w'
+keeps-pushes w s d h t =
+    let p = with_rank (player_at w s) t.after in
+    let xs = inbox_at w d ++ (t.sender, t.item) ∷ [] in
+    let l = length-set w.players s p in
+    let m = length-set w.inboxes d xs in
     let all : (x : ℕ) → x < length w.players → Pushed (rank_at w x) (player_in (set w.players s p) x).rank =
-    each_player w.players s p (λ (a b : Player). Pushed a.rank b.rank) t.inside_s (pushed-leaves (rank_at w s) t.after d t.item t.leaves) (λ x k. pushed-same (rank_at w x)) in
+    each_player w.players s p (λ (a b : Player). Pushed a.rank b.rank) t.inside_s (pushed-leaves t.leaves) (λ x k. pushed-same (rank_at w x)) in
     rw t.only (record {
       small = omega (arith, h.small, l);
       as_many = m ∙ h.as_many ∙ sym l;
@@ -103,6 +102,6 @@ keeps-pushes w s d w' h t =
       sound = λ x k. (all x (omega (arith, k, l))).sound (h.sound x (omega (arith, k, l)));
       signed = λ x k. rw ((all x (omega (arith, k, l))).log) (h.signed x (omega (arith, k, l)));
       posted = λ x k.
-          rw l (each_inbox w.inboxes d (length w.players) xs (λ (items : List (WorldRank × Item)). All (IsPosted (length w.players)) items) (omega (arith, t.inside_d, h.as_many)) (All-push (IsPosted (length w.players)) (inbox_at w d) (t.sender, t.item) (h.posted d t.inside_d) (pushed_posted w s d t.sender t.item t.after h t.inside_s t.is_sender t.leaves)) h.posted x (omega (arith, k, l)));
-      passed_on = λ a b i j. pushed_on w s d a b t.sender t.item t.after h t.inside_s t.inside_d t.is_sender t.leaves (omega (arith, i, l)) (omega (arith, j, l));
+          rw l (each_inbox w.inboxes d (length w.players) xs (λ (items : List (WorldRank × Item)). All (IsPosted (length w.players)) items) (omega (arith, t.inside_d, h.as_many)) (All-push (IsPosted (length w.players)) (inbox_at w d) (t.sender, t.item) (h.posted d t.inside_d) (pushed_posted w s d t.sender t.item h t.inside_s t.is_sender t.leaves)) h.posted x (omega (arith, k, l)));
+      passed_on = λ a b i j. pushed_on w s d a b t.sender t.item h t.inside_s t.inside_d t.is_sender t.leaves (omega (arith, i, l)) (omega (arith, j, l));
     })

@@ -19,7 +19,6 @@ use Rattle.ulfm_laws.proofs.Lawful.{lawful}
 use Rattle.ulfm_laws.proofs.Taken.{took_none}
 use Rattle.ulfm_world.specs.inside.Rounds.{known_for, IsStuck, IsUnderway}
 use Rattle.ulfm_world.specs.Replay.{AllHaveFinished}
-use Rattle.ulfm_world.specs.Safe.{IsSafe}
 use Rattle.ulfm_world.proofs.Agreed.{IsHeld, Settled}
 use Rattle.ulfm_world.proofs.Caused.{revoked_by_a_rank}
 use Rattle.ulfm_world.proofs.Ends.{stuck-answered}
@@ -55,17 +54,17 @@ module _ (j : Seen) (w : World) (job : IsJob j) (came : IsUnderway j w) (stuck :
   }
 
   one_pairing : (r : ℕ) → r < length w.players → IsPaired (rank_at w r).log
-  one_pairing r i = let p = some_pairing (history_of (rank_at w r).log) (on_log r i).formed in paired (rank_at w r).log p.0 p.1
+  one_pairing r i = let formed = (on_log r i).formed in let p = some_pairing (history_of (rank_at w r).log) formed in paired (rank_at w r).log p.0 formed p.1
 
   has_answers : (r : ℕ) (told : Report) (known : Known) → at (reports_in w) r told → at came.answers.knows r known → AnswersFollow known told
   has_answers r told known here knowing = each_report (λ x report. (k : Known) → at came.answers.knows x k → AnswersFollow k report) w (λ x i k stands.
-      let is : known_for came.answers.knows x ≡ k = get_or_from_slice_get came.answers.knows x k [] stands in
+      let is = get_or_from_slice_get came.answers.knows x k [] stands in
       let H : Known → Type 0 = λ (ks : Known). AnswersFollow ks (report_of (player_at w x)) in
       subst H is (honest-answers (known_for came.answers.knows x) (player_at w x) (report_of (player_at w x)) (came.answers.honest x i) (answered x i).closed refl refl (one_pairing x i))) r told here known knowing
 
   -- what is known at a place is held
-  known_held : (r c : ℕ) (known : Known) (d : Decision) → at came.answers.knows r known → known_at known c ≡ Some d → known_at w.decided c ≡ Some d
-  known_held r c known d here e =
+  known_held : (r c : ℕ) {known : Known} (d : Decision) → at came.answers.knows r known → known_at known c ≡ Some d → known_at w.decided c ≡ Some d
+  known_held r c {known} d here e =
       let inside : r < length w.players = omega (arith, slice_get_within came.answers.knows r known here, came.answers.many) in
       came.answers.held r c d inside (ap (λ (k : Known). known_at k c) (get_or_from_slice_get came.answers.knows r known [] here) ∙ e)
 
@@ -75,38 +74,33 @@ module _ (j : Seen) (w : World) (job : IsJob j) (came : IsUnderway j w) (stuck :
       let low : r < j.ranks = ((settled.keeps held.proposer held.inside).belongs c d.old held.group).below r member in
       omega (arith, low, came.size)
 
-  true_decision : (c : ℕ) (d : Decision) → IsHeld j.ranks w c d → IsTrueOf (reports_in w) d
-  true_decision c d held =
-      let safe : IsSafe w d = held-safe j.ranks w settled c d held in
+  true_decision : {c : ℕ} (d : Decision) → IsHeld j.ranks w c d → IsTrueOf (reports_in w) d
+  true_decision {c} d held =
+      let safe = held-safe j.ranks w settled held in
       record {
         listed = λ r known e.
-            let inside : r < length w.players = member_inside c d held r (d.lawful.listed_members r (ap is_some e)) in
-            record { report = report_of (player_at w r); reported = report_there w r inside; entered = safe.listed r known e };
+            record { report = report_of (player_at w r); reported = report_there w r (member_inside c d held r (d.lawful.listed_members r (ap is_some e))); entered = safe.listed r known e };
         excluded = λ r out.
-            let inside : r < length w.players = member_inside c d held r (d.lawful.excluded_members r out) in
-            record { report = report_of (player_at w r); reported = report_there w r inside; stopped = safe.stopped r out };
+            record { report = report_of (player_at w r); reported = report_there w r (member_inside c d held r (d.lawful.excluded_members r out)); stopped = safe.stopped r out };
       }
 
   adopts_truly : (s : ℕ) → s < length w.players → (k : ℕ) (entry : Entry) → at (rank_at w s).log k entry → AdoptsTruly (reports_in w) entry
-  adopts_truly s i k (Adopted d) here =
-      let known : known_at w.decided d.context.number ≡ Some d = (adopts-held j.ranks w settled s d i (k, here)).held in
-      true_decision d.context.number d (settled.held d.context.number d known)
+  adopts_truly s i k (Adopted d) here = true_decision d (settled.held d.context.number d ((adopts-held j.ranks w settled s d i (k, here)).held))
   adopts_truly s i k _ here = tt
 
   produced : AreProduced j w.inboxes came.answers.knows (reports_in w)
   produced = record {
     each = many_reports w ∙ came.size;
     known_each = came.answers.many ∙ came.size;
-    order = (flowing-world w world).order;
+    order = (flowing-world world).order;
     scripts = each_report (λ r told. FollowsScript j r told) w played;
-    flow = (flowing-world w world).flow;
+    flow = (flowing-world world).flow;
     answers = has_answers;
-    agreed = λ r s one other here there c. both_agree (known_at one c) (known_at other c) (known_at w.decided c) (λ d e. known_held r c one d here e) (λ d e. known_held s c other d there e);
+    agreed = λ r s one other here there c. both_agree (known_at one c) (known_at other c) (known_at w.decided c) (λ d e. known_held r c d here e) (λ d e. known_held s c d there e);
     decisions = each_report (λ s told. (k : ℕ) (entry : Entry) → at told.rank.log k entry → AdoptsTruly (reports_in w) entry) w adopts_truly;
     revoked = revoked_by_a_rank j.ranks j.capacity w job.few_ranks came.reaches;
   }
 
-  pub lawful-replay : (reports : List Report) → reports ≡ reports_in w → IsLawful j reports
-  lawful-replay reports is =
-      let L : List Report → Type 0 = λ (rs : List Report). IsLawful j rs in
-      subst L (sym is) (record { inboxes = w.inboxes; knows = came.answers.knows; lawful = lawful j w.inboxes came.answers.knows (reports_in w) produced })
+  pub lawful-replay : {reports : List Report} → reports ≡ reports_in w → IsLawful j reports
+  lawful-replay is =
+      subst (λ (rs : List Report). IsLawful j rs) (sym is) (record { inboxes = w.inboxes; knows = came.answers.knows; lawful = lawful j w.inboxes came.answers.knows (reports_in w) produced })

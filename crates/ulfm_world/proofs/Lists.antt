@@ -12,8 +12,8 @@ pub read_player : (views : List View) (r : ℕ) (d : View) → r < length views 
 read_player views r d h = get_or-map the_player views r d no_player h
 
 -- what a reading of the player r gives
-pub seen_player : (views : List View) (r : ℕ) (v : View) → r < length views → v ≡ get_or views r v → player_in (players_of views) r ≡ v.player
-seen_player views r v h e = read_player views r v h ∙ ap (λ (x : View). x.player) (sym e)
+pub seen_player : (views : List View) (r : ℕ) {v : View} → r < length views → v ≡ get_or views r v → player_in (players_of views) r ≡ v.player
+seen_player views r {v} h e = read_player views r v h ∙ ap (λ (x : View). x.player) (sym e)
 
 pub players-set : (views : List View) (r : ℕ) (v : View) → players_of (set views r v) ≡ set (players_of views) r v.player
 players-set views r v = map-set the_player views r v
@@ -42,19 +42,19 @@ parts-set views inboxes capacity decided s d v p xs ys e f =
     ∙ ap (λ (zs : List (WorldRank × Item)). let w : World = record { players = set (players_of views) s p; inboxes = set inboxes d zs; capacity = capacity; decided = decided } in w) f
 
 -- the first item of an inbox was posted
-pub taken_front : (views : List View) (inboxes : List (List (WorldRank × Item))) (r : ℕ) (d : List (WorldRank × Item)) (source : WorldRank) (item : Item) → AreParts (players_of views) inboxes → r < length views → get_or inboxes r d ≡ (source, item) ∷ drop 1 (get_or inboxes r d) → IsPosted (length (players_of views)) (source, item)
-taken_front views inboxes r d source item h inside front =
-    let l : length (players_of views) ≡ length views = length-map views the_player in
+pub taken_front : (views : List View) {inboxes : List (List (WorldRank × Item))} (r : ℕ) (d : List (WorldRank × Item)) {source : WorldRank} {item : Item} → AreParts (players_of views) inboxes → r < length views → get_or inboxes r d ≡ (source, item) ∷ drop 1 (get_or inboxes r d) → IsPosted (length (players_of views)) (source, item)
+taken_front views {inboxes} r d {source} {item} h inside front =
+    let l = length-map views the_player in
     let same : get_or inboxes r d ≡ get_or inboxes r [] = get_or_default inboxes r d [] (omega (arith, inside, l, h.as_many)) in
     All-head (IsPosted (length (players_of views))) (source, item) (drop 1 (get_or inboxes r d))
     (rw (sym same ∙ front) at (h.posted r (omega (arith, inside, l))))
 
-pub takes_done : (views : List View) (inboxes : List (List (WorldRank × Item))) (r capacity : ℕ) (decided : List (Option Decision)) (v d : View) (e rest : List (WorldRank × Item)) (source : WorldRank) (item : Item) → AreParts (players_of views) inboxes → r < length views → is_stopped (get_or views r d).player.rank.log ≡ false →
+pub takes_done : (views : List View) (inboxes : List (List (WorldRank × Item))) (r capacity : ℕ) (decided : List (Option Decision)) (v d : View) (e rest : List (WorldRank × Item)) {source : WorldRank} {item : Item} → AreParts (players_of views) inboxes → r < length views → is_stopped (get_or views r d).player.rank.log ≡ false →
     get_or inboxes r e ≡ (source, item) ∷ drop 1 (get_or inboxes r e) → v.player ≡ with_rank (get_or views r d).player (logged (get_or views r d).player.rank (Took source item)) → rest ≡ drop 1 (get_or inboxes r e) →
     Takes (parts views inboxes capacity decided) r (parts (set views r v) (set inboxes r rest) capacity decided)
-takes_done views inboxes r capacity decided v d e rest source item h inside running front took left =
-    let l : length (players_of views) ≡ length views = length-map views the_player in
-    let read : player_in (players_of views) r ≡ (get_or views r d).player = read_player views r d inside in
+takes_done views inboxes r capacity decided v d e rest {source} {item} h inside running front took left =
+    let l = length-map views the_player in
+    let read = read_player views r d inside in
     let same : get_or inboxes r e ≡ get_or inboxes r [] = get_or_default inboxes r e [] (omega (arith, inside, l, h.as_many)) in
     record {
       inside = omega (arith, inside, l);
@@ -70,8 +70,8 @@ takes_done views inboxes r capacity decided v d e rest source item h inside runn
 pub pushes_done : (views : List View) (inboxes : List (List (WorldRank × Item))) (s d capacity : ℕ) (decided : List (Option Decision)) (v e : View) (later f : List (WorldRank × Item)) (sender : WorldRank) → length inboxes ≡ length (players_of views) → s < length views → d < length views → sender.number ≡ s →
     HandsOver (get_or views s e).player (get_or inboxes d f) capacity sender d v.player later → Pushes (parts views inboxes capacity decided) s d (parts (set views s v) (set inboxes d later) capacity decided)
 pushes_done views inboxes s d capacity decided v e later f sender many inside_s inside_d named h =
-    let l : length (players_of views) ≡ length views = length-map views the_player in
-    let read : player_in (players_of views) s ≡ (get_or views s e).player = read_player views s e inside_s in
+    let l = length-map views the_player in
+    let read = read_player views s e inside_s in
     let same : get_or inboxes d f ≡ get_or inboxes d [] = get_or_default inboxes d f [] (omega (arith, inside_d, l, many)) in
     record {
       inside_s = omega (arith, inside_s, l);

@@ -45,13 +45,13 @@ record DecidedBy (w : World) (event : Event) (w' : World) (c : ℕ) : Type 0 whe
   pub about : comm.number ≡ c
   pub decides : Happens w (Decide rank comm) w'
 
-undecided_still : (w w' : World) (c : ℕ) (d : Decision) → w'.decided ≡ w.decided → decided_at w c ≡ None → decided_at w' c ≡ Some d → ⊥
-undecided_still w w' c d same none known = none-some d (sym (ap (λ (ks : List (Option Decision)). known_at ks c) same ∙ none) ∙ known)
+undecided_still : (w w' : World) (c : ℕ) {d : Decision} → w'.decided ≡ w.decided → decided_at w c ≡ None → decided_at w' c ≡ Some d → ⊥
+undecided_still w w' c {d} same none known = none-some d (sym (ap (λ (ks : List (Option Decision)). known_at ks c) same ∙ none) ∙ known)
 
 decides-happens : (w : World) (event : Event) (w' : World) (c : ℕ) (d : Decision) → Happens w event w' → decided_at w c ≡ None → decided_at w' c ≡ Some d → DecidedBy w event w' c
-decides-happens w (Call r asked) w' c d k none known = absurd (undecided_still w w' c d (ap (λ (x : World). x.decided) k.2) none known)
-decides-happens w (Push s r) w' c d k none known = absurd (undecided_still w w' c d (ap (λ (x : World). x.decided) k.only) none known)
-decides-happens w (Take r) w' c d k none known = absurd (undecided_still w w' c d (ap (λ (x : World). x.decided) k.only) none known)
+decides-happens w (Call r asked) w' c d k none known = absurd (undecided_still w w' c (ap (λ (x : World). x.decided) k.2) none known)
+decides-happens w (Push s r) w' c d k none known = absurd (undecided_still w w' c (ap (λ (x : World). x.decided) k.only) none known)
+decides-happens w (Take r) w' c d k none known = absurd (undecided_still w w' c (ap (λ (x : World). x.decided) k.only) none known)
 decides-happens w (Decide r comm) w' c d k none known =
     let s = k.2.decided.decision in
     let later : known_at k.1 c ≡ Some d = ap (λ (x : World). known_at x.decided c) (sym k.3) ∙ known in
@@ -68,11 +68,11 @@ decides-happens w (Decide r comm) w' c d k none known =
       ];
       decides = k;
     }
-decides-happens w (Leave r) w' c d k none known = absurd (undecided_still w w' c d (ap (λ (x : World). x.decided) k.2) none known)
+decides-happens w (Leave r) w' c d k none known = absurd (undecided_still w w' c (ap (λ (x : World). x.decided) k.2) none known)
 
 decides-applied : (w : World) (event : Event) (w' : World) (c : ℕ) (d : Decision) → Applied w event w' → decided_at w c ≡ None → decided_at w' c ≡ Some d → DecidedBy w event w' c
 decides-applied w event w' c d (inl k) none known = decides-happens w event w' c d k none known
-decides-applied w event w' c d (inr e) none known = absurd (undecided_still w w' c d (ap (λ (x : World). x.decided) e.2) none known)
+decides-applied w event w' c d (inr e) none known = absurd (undecided_still w w' c (ap (λ (x : World). x.decided) e.2) none known)
 
 module _ (n c : ℕ) (d : Decision) where
   -- the event that comes next decides, and what it decides stays
@@ -93,7 +93,7 @@ module _ (n c : ℕ) (d : Decision) where
         decides = by.decides;
         held = mine;
         went_on = run;
-        safe = settles-safely n v h settled by.rank by.comm m d by.decides (ap (decided_at m) by.about ∙ mine);
+        safe = settles-safely v h settled by.rank by.comm m d by.decides (ap (decided_at m) by.about ∙ mine);
       }
 
   -- the event that comes next decides, or a later one
@@ -120,12 +120,11 @@ module _ (n c : ℕ) (d : Decision) where
             safe = made.safe;
           }
 
-  made-run : (events : List Event) (v w : World) → IsWorld v → Settled n v → Run v events w → decided_at v c ≡ None → decided_at w c ≡ Some d → WasMadeSafely v events w c d
-  made-run [] v w h settled k none held = absurd (none-some d (sym (ap (λ (x : World). decided_at x c) k ∙ none) ∙ held))
-  made-run (event ∷ events) v w h settled k none held =
-      step event events v k.0 w h settled k.1 k.2 none held (λ still. made-run events k.0 w (keeps-applied v event k.0 h k.1) (each_applied (Settled n) (λ u x u' i held happens. settled-happens n u i held x u' happens) v event k.0 h settled k.1) k.2 still held)
+  made-run : (events : List Event) {v : World} (w : World) → IsWorld v → Settled n v → Run v events w → decided_at v c ≡ None → decided_at w c ≡ Some d → WasMadeSafely v events w c d
+  made-run [] w h settled k none held = absurd (none-some d (sym (ap (λ (x : World). decided_at x c) k ∙ none) ∙ held))
+  made-run (event ∷ events) {v} w h settled k none held =
+      step event events v k.0 w h settled k.1 k.2 none held (λ still. made-run events w (keeps-applied event h k.1) (each_applied (Settled n) (λ u x u' i held happens. settled-happens n u i held x u' happens) v event h settled k.1) k.2 still held)
 
 -- in each run from the start
 pub made-safely : (n capacity : ℕ) (events : List Event) (w : World) → n ≤ 8 → Run (start_world n capacity) events w → MadeSafely (start_world n capacity) events w
-made-safely n capacity events w small k c d held =
-    made-run n c d events (start_world n capacity) w (world-start n capacity small) (settled-start n capacity) k (get_or-blank 31 c (let o : Option Decision = None in o)) held
+made-safely n capacity events w small k c d held = made-run n c d events w (world-start n capacity small) (settled-start n capacity) k (get_or-blank 31 c (None)) held

@@ -33,12 +33,12 @@ inboxes_part-set n w w' d items size inside is =
 -- a player that gets lighter makes the world lighter
 pub measure-player : (j : Seen) (w : World) (r : ℕ) (p : Player) → r < length w.players → weight_of (script_at j r) j.turns (length w.players) p < weight_of (script_at j r) j.turns (length w.players) (player_at w r) → measure j (with_player w r p) < measure j w
 measure-player j w r p inside lighter =
-    let n : ℕ = length w.players in
+    let n = length w.players in
     omega (arith, measure-at j n (with_player w r p) (length-set w.players r p), measure-at j n w refl, players_part-set j n w r p refl inside, lighter)
 
 -- what leaves an outbox
-pub leaves_weight : (n : ℕ) (old new : State) (d : ℕ) (item : Item) → d < n → GoesOut old new d item → out_at n new + 2 ≡ out_at n old
-leaves_weight n old new d item inside k =
+pub leaves_weight : (n : ℕ) {old new : State} (d : ℕ) {item : Item} → d < n → GoesOut old new d item → out_at n new + 2 ≡ out_at n old
+leaves_weight n {old} {new} d inside k =
     let here : 2 * length (outbox new d) + 2 ≡ 2 * length (outbox old d) = omega (arith, ap (λ (xs : List Item). length xs) k.front) in
     let sums : out_at n new + 2 * length (outbox old d) ≡ out_at n old + 2 * length (outbox new d) =
     sum-at n d (λ x. 2 * length (outbox new x)) (λ x. 2 * length (outbox old x)) inside (λ x h other. ap (λ (xs : List Item). 2 * length xs) (elsewhere x other)) in
@@ -47,6 +47,6 @@ leaves_weight n old new d item inside k =
     elsewhere : (x : ℕ) → x ≢ d → outbox new x ≡ outbox old x
     elsewhere x other = rw k.marked (rw (get_or-set_other old.marks d x (marked old (mark_at old d)) no_mark other) refl)
 
-pub leaves_fresh : (old new : State) (d : ℕ) (item : Item) → GoesOut old new d item → fresh_of new ≡ fresh_of old
+pub leaves_fresh : {old new : State} (d : ℕ) {item : Item} → GoesOut old new d item → fresh_of new ≡ fresh_of old
 unfolding fresh_of
-leaves_fresh old new d item k = ap fresh_of k.marked
+leaves_fresh d k = ap fresh_of k.marked

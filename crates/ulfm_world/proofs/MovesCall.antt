@@ -20,20 +20,20 @@ use Rattle.ulfm_world.proofs.Rightly.{rightly-calls, rightly-leaves, rightly-dec
 use Rattle.ulfm_script.specs.inside.SoFar.{IsUndecided}
 
 -- less is left to a player that goes on, with what it may still send
-pub weight-advances : (script : List Step) (turns n : ℕ) (old new : Player) → IsState old.rank → n ≡ old.rank.ranks → is_stopped old.rank.log ≡ false → Advances script turns old new → weight_of script turns n new < weight_of script turns n old
-weight-advances script turns n old new sound size running a = omega (arith, a.falls, adds_weight n old.rank a.stops new.rank sound size running a.adds)
+pub weight-advances : {script : List Step} {turns n : ℕ} {old : Player} (new : Player) → IsState old.rank → n ≡ old.rank.ranks → is_stopped old.rank.log ≡ false → Advances script turns old new → weight_of script turns n new < weight_of script turns n old
+weight-advances {n} {old} new sound size running a = omega (arith, a.falls, adds_weight n sound size running a.adds)
 
 -- what a player moves, the world moves, whatever is decided then
-pub moves-player : (j : Seen) (w : World) (r : ℕ) (p : Player) (decided : List (Option Decision)) → r < length w.players → IsWorld w → IsRunning w r → Follows j w → Advances (script_at j r) j.turns (player_at w r) p → (AllAnswersFollowSoFar w → AllAnswersFollowSoFar (with_decided (with_player w r p) decided)) → Reaches w (with_decided (with_player w r p) decided) → Moves j w (with_decided (with_player w r p) decided) true
-moves-player j w r p decided i h running f a rightly reaches =
-    let l : length (set w.players r p) ≡ length w.players = length-set w.players r p in
+pub moves-player : (j : Seen) (w : World) (r : ℕ) {p : Player} (decided : List (Option Decision)) → r < length w.players → IsWorld w → IsRunning w r → Follows j w → Advances (script_at j r) j.turns (player_at w r) p → (AllAnswersFollowSoFar w → AllAnswersFollowSoFar (with_decided (with_player w r p) decided)) → Reaches w (with_decided (with_player w r p) decided) → Moves j w (with_decided (with_player w r p) decided) true
+moves-player j w r {p} decided i h running f a rightly reaches =
+    let l = length-set w.players r p in
     record {
       reaches = reaches;
       size = l;
       capacity = refl;
       follows = λ _ x k. follows_on x (omega (arith, k, l));
       answers = λ _ right. rightly right;
-      falls = λ _ _. measure-player j w r p i (weight-advances (script_at j r) j.turns (length w.players) (player_at w r) p (h.sound r i) (sym (h.counted r i)) running a);
+      falls = λ _ _. measure-player j w r p i (weight-advances p (h.sound r i) (sym (h.counted r i)) running a);
       stays = λ e. absurd (false≢true (sym e));
     }
   where
@@ -41,36 +41,29 @@ moves-player j w r p decided i h running f a rightly reaches =
     follows_on x k =
         let F : Player → Type 0 = λ (q : Player). FollowsSoFar (script_at j x) j.turns q in
         elim (cases_eq x r) [
-          | inl same ↦
-              let S : ℕ → Type 0 = λ y. FollowsSoFar (script_at j y) j.turns p in
-              subst F (sym (player-same w.players r x p same i)) (subst S (sym same) a.follows)
+          | inl same ↦ subst F (sym (player-same w.players r x p same i)) (subst (λ (y : ℕ). FollowsSoFar (script_at j y) j.turns p) (sym same) a.follows)
           | inr other ↦ subst F (sym (player-other w.players r x p other)) (f x k)
         ]
 
 -- one call that is answered, or leaves the step open with polls to spare
-pub moves-call : (j : Seen) (w : World) (r : ℕ) (asked : Step) (w' : World) → IsJob j → IsWorld w → r < length w.players → Follows j w → Ready (script_at j r) j.turns (player_at w r) asked → IsUndecided (player_at w r) → Happens w (Call r asked) w' → ((player_at w' r).current ≡ None) ⊎ ((player_at w' r).polls < j.turns) → Moves j w w' true
-moves-call j w r asked w' job h i f ready undecided t few =
+pub moves-call : {j : Seen} {w : World} (r : ℕ) {asked : Step} (w' : World) → IsJob j → IsWorld w → r < length w.players → Follows j w → Ready (script_at j r) j.turns (player_at w r) asked → IsUndecided (player_at w r) → Happens w (Call r asked) w' → ((player_at w' r).current ≡ None) ⊎ ((player_at w' r).polls < j.turns) → Moves j w w' true
+moves-call {j} {w} r {asked} w' job h i f ready undecided t few =
     let c = t.1 in
-    let made : World = with_player w r c.after in
+    let made = with_player w r c.after in
     let is : w' ≡ made = t.2 ∙ ap (with_players w) c.only in
     let F : Player → Type 0 = λ (p : Player). (p.current ≡ None) ⊎ (p.polls < j.turns) in
-    let G : World → Type 0 = λ (x : World). F (player_at x r) in
-    let low : F c.after = subst F (player-same w.players r r c.after refl i) (subst G is few) in
-    let M : World → Type 0 = λ (x : World). Moves j w x true in
-    let R : World → Type 0 = λ (x : World). Reaches w x in
-    let A : World → Type 0 = λ (x : World). AllAnswersFollowSoFar x in
-    subst M (sym is) (moves-player j w r c.after w.decided i h ready.running f (advance-called (script_at j r) j.turns (player_at w r) asked c.after (omega (arith, job.most_turns)) ready c.called low) (λ right. subst A is (rightly-calls j w r asked w' f ready.next undecided t right)) (subst R is (reaches-one w (Call r asked) w' t)))
+    let low : F c.after = subst F (player-same w.players r r c.after refl i) (subst (λ (x : World). F (player_at x r)) is few) in
+    rw is (moves-player j w r w.decided i h ready.running f (advance-called (script_at j r) j.turns (player_at w r) asked c.after (omega (arith, job.most_turns)) ready c.called low) (λ right. rw is at (rightly-calls j w r w' f ready.next undecided t right)) (rw is at (reaches-one w (Call r asked) w' t)))
 
 -- a poll that answered its step left none open
-pub none_open : (o : Option Step) (outcome : Outcome) → outcome ≡ cond (is_none o) Answered NotYet → outcome ≡ Answered → o ≡ None
-none_open None outcome e f = refl
-none_open (Some asked) outcome e f = let bad : ⊥ = cc in absurd bad
+pub none_open : (o : Option Step) {outcome : Outcome} → outcome ≡ cond (is_none o) Answered NotYet → outcome ≡ Answered → o ≡ None
+none_open None e f = refl
+none_open (Some asked) e f = absurd (cc)
 
 -- one call that leaves its step open, which is then given up
-pub moves-leave : (j : Seen) (w : World) (r : ℕ) (asked : Step) (mid w' : World) → IsJob j → IsWorld w → r < length w.players → Follows j w → Ready (script_at j r) j.turns (player_at w r) asked → IsUndecided (player_at w r) → Happens w (Call r asked) mid → Happens mid (Leave r) w' → j.turns ≤ (player_at mid r).polls → Moves j w w' true
-moves-leave j w r asked mid w' job h i f ready undecided t u last =
-    let c = t.1 in
-    let g = u.1 in
+pub moves-leave : {j : Seen} {w : World} (r : ℕ) {asked : Step} (mid w' : World) → IsJob j → IsWorld w → r < length w.players → Follows j w → Ready (script_at j r) j.turns (player_at w r) asked → IsUndecided (player_at w r) → Happens w (Call r asked) mid → Happens mid (Leave r) w' → j.turns ≤ (player_at mid r).polls → Moves j w w' true
+moves-leave {j} {w} r {asked} mid w' job h i f ready undecided t u last =
+    let c = t.1 in let g = u.1 in
     let mid_is : mid ≡ with_player w r c.after = t.2 ∙ ap (with_players w) c.only in
     let mid_at : player_at mid r ≡ c.after = ap (λ (x : World). player_at x r) mid_is ∙ player-same w.players r r c.after refl i in
     let L : Player → Type 0 = λ (p : Player). GivesUpStep p g.after in
@@ -79,18 +72,12 @@ moves-leave j w r asked mid w' job h i f ready undecided t u last =
     u.2 ∙ ap (with_players mid) g.only
     ∙ ap (λ (x : World). with_player x r g.after) mid_is
     ∙ ap (with_players w) (set-set w.players r c.after g.after) in
-    let M : World → Type 0 = λ (x : World). Moves j w x true in
-    let R : World → Type 0 = λ (x : World). Reaches w x in
-    let A : World → Type 0 = λ (x : World). AllAnswersFollowSoFar x in
-    subst M (sym is) (moves-player j w r g.after w.decided i h ready.running f (advance-left (script_at j r) j.turns (player_at w r) asked c.after g.after g.left.step (omega (arith, job.most_turns)) ready c.called current (subst L mid_at g.left) (omega (arith, last, ap (λ (p : Player). p.polls) mid_at))) (λ right. subst A is (rightly-leaves mid r w' u (rightly-calls j w r asked mid f ready.next undecided t right))) (subst R is (Call r asked ∷ Leave r ∷ [], (mid, inl t, (w', inl u, refl)))))
+    rw is (moves-player j w r w.decided i h ready.running f (advance-left (script_at j r) j.turns (player_at w r) asked c.after g.after g.left.step (omega (arith, job.most_turns)) ready c.called current (subst L mid_at g.left) (omega (arith, last, ap (λ (p : Player). p.polls) mid_at))) (λ right. rw is at (rightly-leaves mid r w' u (rightly-calls j w r mid f ready.next undecided t right))) (subst (λ (x : World). Reaches w x) is (Call r asked ∷ Leave r ∷ [], (mid, inl t, (w', inl u, refl)))))
 
 -- a shrink that is decided
 pub moves-decide : (j : Seen) (w : World) (r : ℕ) (comm : Context) (w' : World) → IsWorld w → Follows j w → Happens w (Decide r comm) w' → Moves j w w' true
 moves-decide j w r comm w' h f t =
     let s = t.2 in
     let is : w' ≡ with_decided (with_player w r s.after) t.1 = t.3 ∙ ap (λ (ps : List Player). with_decided (with_players w ps) t.1) s.only in
-    let ready : Ready (script_at j r) j.turns (player_at w r) (Shrink comm) = ready-decided (script_at j r) j.turns (player_at w r) (Shrink comm) (f r s.inside) s.running s.decided.waits in
-    let M : World → Type 0 = λ (x : World). Moves j w x true in
-    let R : World → Type 0 = λ (x : World). Reaches w x in
-    let A : World → Type 0 = λ (x : World). AllAnswersFollowSoFar x in
-    subst M (sym is) (moves-player j w r s.after t.1 s.inside h s.running f (advance-decided (script_at j r) j.turns (player_at w r) comm None w.decided t.1 s.after ready s.decided) (λ right. subst A is (rightly-decides w r comm w' t right)) (subst R is (reaches-one w (Decide r comm) w' t)))
+    let ready = ready-decided (script_at j r) j.turns (player_at w r) (Shrink comm) (f r s.inside) s.running s.decided.waits in
+    rw is (moves-player j w r t.1 s.inside h s.running f (advance-decided (script_at j r) j.turns (player_at w r) comm None w.decided t.1 s.after ready s.decided) (λ right. rw is at (rightly-decides w r comm w' t right)) (rw is at (reaches-one w (Decide r comm) w' t)))

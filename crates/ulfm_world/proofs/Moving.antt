@@ -6,41 +6,41 @@ use Rattle.ulfm_world.proofs.Common.{Context, Decision, known_at, Entry, Took, h
 use Rattle.ulfm_script.specs.Player.{Player, with_rank, answered, polled, IsFree, StaysOpen, awaits_decision, IsCalled}
 use Rattle.ulfm_world.specs.World.{World, player_at, rank_at, inbox_at, with_players, with_player, with_inbox, with_decided, Calls, DecidesShrink, GivesUp, Pushes, Takes, Happens, Run}
 use Rattle.ulfm_rank.proofs.Entering.{AdoptsEntered}
-use Rattle.ulfm_world.proofs.Agreed.{IsAdopted, IsHeld, Settled}
-use Rattle.ulfm_world.proofs.Grown.{Grows, Moved, StillHeld, settled-moved}
+use Rattle.ulfm_world.proofs.Agreed.{IsAdopted, Settled}
+use Rattle.ulfm_world.proofs.Grown.{Grows, Moved, settled-moved}
 use Rattle.ulfm_script.proofs.Fitting.{AddsPlain, Adds, answers_add, opens_add}
 use Rattle.ulfm_world.proofs.Plain.{adopted-plain, held-plain, opened_unadopted}
 use Rattle.ulfm_world.proofs.Adopting.{still_known, held_cases, later_cases, handed_held, moved-adopted}
 use Rattle.ulfm_world.proofs.Runs.{each_run}
 
-grows-plain : (n me : ℕ) (old new : List Entry) → AddsPlain n me old new → Grows n me old new
-grows-plain n me old new (inl same) = inl same
-grows-plain n me old new (inr more) = inr (more.0, more.1, more.3)
+grows-plain : (n me : ℕ) {old new : List Entry} → AddsPlain n me old new → Grows n me old new
+grows-plain n me (inl same) = inl same
+grows-plain n me (inr more) = inr (more.0, more.1, more.3)
 
 -- a change that adopts nothing
 moved-plain : (n : ℕ) (decided : List (Option Decision)) (r : ℕ) (old new : Player) → AddsPlain n r old.rank.log new.rank.log → All (IsAdopted decided r) old.rank.log → ((comm : Context) → new.current ≡ Some (Shrink comm) → has_adopted new.rank.log comm.number ≡ false) → Moved n decided r old new
-moved-plain n decided r old new adds all unadopted = record { grows = grows-plain n r old.rank.log new.rank.log adds; adopted = held-plain decided n r old.rank.log new.rank.log adds all; unadopted = unadopted }
+moved-plain n decided r old new adds all unadopted = record { grows = grows-plain n r adds; adopted = held-plain decided n r adds all; unadopted = unadopted }
 
 closed_open : (p : Player) → p.current ≡ None → (comm : Context) → p.current ≡ Some (Shrink comm) → has_adopted p.rank.log comm.number ≡ false
 closed_open p closed comm e = absurd (none-some (Shrink comm) (sym closed ∙ e))
 
-adds_at : (n r : ℕ) (old new : State) → old.ranks ≡ n → old.me ≡ r → Adds old new → AddsPlain n r old.log new.log
-adds_at n r old new counted named adds = rw (counted, named) at adds
+adds_at : {n r : ℕ} (old new : State) → old.ranks ≡ n → old.me ≡ r → Adds old new → AddsPlain n r old.log new.log
+adds_at old new counted named adds = rw (counted, named) at adds
 
 -- a poll that leaves the step open
-opened : (old : Player) (asked : Step) (o : State) (b : Bool) → awaits_decision old.current ≡ b → IsFree old asked → AdoptsEntered old.rank.log → ((comm : Context) → old.current ≡ Some (Shrink comm) → has_adopted old.rank.log comm.number ≡ false) → StaysOpen b old.done old.rank asked o → Adds old.rank o × ((comm : Context) → asked ≡ Shrink comm → has_adopted o.log comm.number ≡ false)
-opened old asked o true waits (inl none) entered unadopted same = absurd (false≢true (sym (ap awaits_decision none) ∙ waits))
-opened old asked o true waits (inr this) entered unadopted same =
+opened : (old : Player) {asked : Step} (o : State) (b : Bool) → awaits_decision old.current ≡ b → IsFree old asked → AdoptsEntered old.rank.log → ((comm : Context) → old.current ≡ Some (Shrink comm) → has_adopted old.rank.log comm.number ≡ false) → StaysOpen b old.done old.rank asked o → Adds old.rank o × ((comm : Context) → asked ≡ Shrink comm → has_adopted o.log comm.number ≡ false)
+opened old o true waits (inl none) entered unadopted same = absurd (false≢true (sym (ap awaits_decision none) ∙ waits))
+opened old o true waits (inr this) entered unadopted same =
     (inl (ap (λ (s : State). s.log) same), λ comm is. ap (λ (s : State). has_adopted s.log comm.number) same ∙ unadopted comm (this ∙ ap Some is))
-opened old asked o false waits free entered unadopted opens = (opens_add old.done old.rank asked o opens, λ comm is. opened_unadopted old.done old.rank o comm entered (rw is at opens))
+opened old {asked} o false waits free entered unadopted opens = (opens_add old.done old.rank asked o opens, λ comm is. opened_unadopted old.done old.rank o comm entered (rw is at opens))
 
-moved-called : (n : ℕ) (decided : List (Option Decision)) (r : ℕ) (old : Player) (asked : Step) (new : Player) → old.rank.ranks ≡ n → old.rank.me ≡ r → IsFree old asked → AdoptsEntered old.rank.log → All (IsAdopted decided r) old.rank.log → ((comm : Context) → old.current ≡ Some (Shrink comm) → has_adopted old.rank.log comm.number ≡ false) → IsCalled old asked new → Moved n decided r old new
-moved-called n decided r old asked new counted named free entered all unadopted (inl a) =
-    let p : Player = answered (with_rank old a.rank) asked a.answer (length old.rank.log) in
-    rw a.only (moved-plain n decided r old p (adds_at n r old.rank a.rank counted named (answers_add old.done old.rank asked a.answer a.rank a.answers)) all (closed_open p refl))
-moved-called n decided r old asked new counted named free entered all unadopted (inr o) =
-    let both = opened old asked o.rank (awaits_decision old.current) refl free entered unadopted o.stays in
-    rw o.only (moved-plain n decided r old (polled (with_rank old o.rank) asked (length old.rank.log)) (adds_at n r old.rank o.rank counted named both.0) all (λ comm e. both.1 comm (same_Some asked (Shrink comm) e)))
+moved-called : (n : ℕ) (decided : List (Option Decision)) (r : ℕ) {old : Player} (asked : Step) {new : Player} → old.rank.ranks ≡ n → old.rank.me ≡ r → IsFree old asked → AdoptsEntered old.rank.log → All (IsAdopted decided r) old.rank.log → ((comm : Context) → old.current ≡ Some (Shrink comm) → has_adopted old.rank.log comm.number ≡ false) → IsCalled old asked new → Moved n decided r old new
+moved-called n decided r {old} asked counted named free entered all unadopted (inl a) =
+    let p = answered (with_rank old a.rank) asked a.answer (length old.rank.log) in
+    rw a.only (moved-plain n decided r old p (adds_at old.rank a.rank counted named (answers_add old.done old.rank asked a.answer a.rank a.answers)) all (closed_open p refl))
+moved-called n decided r {old} asked counted named free entered all unadopted (inr o) =
+    let both = opened old o.rank (awaits_decision old.current) refl free entered unadopted o.stays in
+    rw o.only (moved-plain n decided r old (polled (with_rank old o.rank) asked (length old.rank.log)) (adds_at old.rank o.rank counted named both.0) all (λ comm e. both.1 comm (same_Some asked (Shrink comm) e)))
 
 module _ (n : ℕ) (w : World) (h : IsWorld w) (settled : Settled n w) where
   below : (r : ℕ) → r < length w.players → r < n
@@ -48,61 +48,58 @@ module _ (n : ℕ) (w : World) (h : IsWorld w) (settled : Settled n w) where
 
   settled-calls : (r : ℕ) (asked : Step) (players : List Player) → Calls w.players r asked players → Settled n (with_players w players)
   settled-calls r asked players c =
-      let i : r < n = below r c.inside in
-      rw c.only (settled-moved n w (with_players w (set w.players r c.after)) r c.after settled i refl (λ c d k. k) settled.held (moved-called n w.decided r (player_at w r) asked c.after (h.counted r c.inside ∙ settled.size) (h.named r c.inside) c.free (settled.keeps r i).adopts_entered (settled.adopted r i) (λ comm. settled.unadopted r comm i) c.called))
+      let i = below r c.inside in
+      rw c.only (settled-moved w (with_players w (set w.players r c.after)) settled i refl (λ c d k. k) settled.held (moved-called n w.decided r asked (h.counted r c.inside ∙ settled.size) (h.named r c.inside) c.free (settled.keeps r i).adopts_entered (settled.adopted r i) (λ comm. settled.unadopted r comm i) c.called))
 
   settled-gives_up : (r : ℕ) (players : List Player) → GivesUp w.players r players → Settled n (with_players w players)
   settled-gives_up r players c =
-      let i : r < n = below r c.inside in
+      let i = below r c.inside in
       let same : c.after.rank.log ≡ (rank_at w r).log = ap (λ (p : Player). p.rank.log) c.left.only in
-      rw c.only (settled-moved n w (with_players w (set w.players r c.after)) r c.after settled i refl (λ c d k. k) settled.held (moved-plain n w.decided r (player_at w r) c.after (inl same) (settled.adopted r i) (closed_open c.after (ap (λ (p : Player). p.current) c.left.only))))
+      rw c.only (settled-moved w (with_players w (set w.players r c.after)) settled i refl (λ c d k. k) settled.held (moved-plain n w.decided r (player_at w r) c.after (inl same) (settled.adopted r i) (closed_open c.after (ap (λ (p : Player). p.current) c.left.only))))
 
-  settled-takes : (r : ℕ) (w' : World) → Takes w r w' → Settled n w'
-  settled-takes r w' t =
-      let i : r < n = below r t.inside in
-      let p : Player = with_rank (player_at w r) (logged (rank_at w r) (Took t.source t.item)) in
-      let adds : AddsPlain n r (rank_at w r).log p.rank.log = inr (Took t.source t.item, tt, tt, refl) in
-      rw t.only (settled-moved n w (with_inbox (with_player w r p) r t.rest) r p settled i refl (λ c d k. k) settled.held (moved-plain n w.decided r (player_at w r) p adds (settled.adopted r i) (λ comm e. adopted-plain n r comm.number (rank_at w r).log p.rank.log adds (settled.unadopted r comm i e))))
+  settled-takes : (r : ℕ) {w' : World} → Takes w r w' → Settled n w'
+  settled-takes r t =
+      let i = below r t.inside in
+      let p = with_rank (player_at w r) (logged (rank_at w r) (Took t.source t.item)) in
+      let adds = inr (Took t.source t.item, tt, tt, refl) in
+      rw t.only (settled-moved w (with_inbox (with_player w r p) r t.rest) settled i refl (λ c d k. k) settled.held (moved-plain n w.decided r (player_at w r) p adds (settled.adopted r i) (λ comm e. adopted-plain n r comm.number adds (settled.unadopted r comm i e))))
 
-  settled-pushes : (s d : ℕ) (w' : World) → Pushes w s d w' → Settled n w'
-  settled-pushes s d w' t =
-      let i : s < n = below s t.inside_s in
-      let p : Player = with_rank (player_at w s) t.after in
+  settled-pushes : (s d : ℕ) {w' : World} → Pushes w s d w' → Settled n w'
+  settled-pushes s d t =
+      let i = below s t.inside_s in
+      let p = with_rank (player_at w s) t.after in
       let same : t.after.log ≡ (rank_at w s).log = ap (λ (x : State). x.log) t.leaves.marked in
-      let adds : AddsPlain n s (rank_at w s).log p.rank.log = inl same in
-      rw t.only (settled-moved n w (with_inbox (with_player w s p) d (inbox_at w d ++ (t.sender, t.item) ∷ [])) s p settled i refl (λ c d k. k) settled.held (moved-plain n w.decided s (player_at w s) p adds (settled.adopted s i) (λ comm e. adopted-plain n s comm.number (rank_at w s).log p.rank.log adds (settled.unadopted s comm i e))))
+      let adds = inl same in
+      rw t.only (settled-moved w (with_inbox (with_player w s p) d (inbox_at w d ++ (t.sender, t.item) ∷ [])) settled i refl (λ c d k. k) settled.held (moved-plain n w.decided s (player_at w s) p adds (settled.adopted s i) (λ comm e. adopted-plain n s comm.number adds (settled.unadopted s comm i e))))
 
   settled-settles : (r : ℕ) (comm : Context) (players : List Player) (later : List (Option Decision)) → DecidesShrink w.players w.decided r comm players later → Settled n (with_decided (with_players w players) later)
   settled-settles r comm players later c =
-      let i : r < n = below r c.inside in
-      let d = c.decided in
-      let proposal = d.decision.proposal in
+      let i = below r c.inside in let d = c.decided in let proposal = d.decision.proposal in
       let is : c.after.rank ≡ d.rank = ap (λ (p : Player). p.rank) d.only in
       let closed : c.after.current ≡ None = ap (λ (p : Player). p.current) d.only in
-      let w' : World = with_decided (with_players w (set w.players r c.after)) later in
+      let w' = with_decided (with_players w (set w.players r c.after)) later in
       rw c.only (elim (d.decision.outcome) [
         | inl a ↦
-            let still : StillHeld w.decided later = still_known w.decided later proposal a.held a.board_answers in
-            let ok : IsHeld n w comm.number a.held = handed_held n w r comm h settled i c.running proposal d.decision.proposed a.held (held_cases w.decided later proposal a.held a.board_answers) in
-            settled-moved n w w' r c.after settled i refl still
+            let still = still_known w.decided later proposal a.held a.board_answers in
+            let ok = handed_held n w r comm h settled i c.running proposal d.decision.proposed (held_cases w.decided later proposal a.held a.board_answers) in
+            settled-moved w w' settled i refl still
             (λ x e known. elim (later_cases w.decided later proposal a.held a.board_answers x e known) [
               | inl was ↦ settled.held x e was
-              | inr now ↦
-                  rw now.0 (rw (now.1 ∙ d.decision.proposed.context) ok)
+              | inr now ↦ rw now.0 (rw (now.1 ∙ d.decision.proposed.context) ok)
             ])
             (moved-adopted n w r comm h settled i c.running proposal d.decision.proposed later a.held a.board_answers d.answer d.rank c.after a.adoption is closed)
         | inr b ↦
             let log_same : c.after.rank.log ≡ (rank_at w r).log = ap (λ (s : State). s.log) (is ∙ b.rank_stays) in
-            settled-moved n w w' r c.after settled i refl (λ x e known. ap (λ (ks : List (Option Decision)). known_at ks x) b.known_stay ∙ known) (λ x e known. settled.held x e (ap (λ (ks : List (Option Decision)). known_at ks x) (sym b.known_stay) ∙ known))
+            settled-moved w w' settled i refl (λ x e known. ap (λ (ks : List (Option Decision)). known_at ks x) b.known_stay ∙ known) (λ x e known. settled.held x e (ap (λ (ks : List (Option Decision)). known_at ks x) (sym b.known_stay) ∙ known))
             (moved-plain n later r (player_at w r) c.after (inl log_same) (rw b.known_stay (settled.adopted r i)) (closed_open c.after closed))
       ])
 
   pub settled-happens : (event : Event) (w' : World) → Happens w event w' → Settled n w'
   settled-happens (Call r asked) w' k = rw k.2 (settled-calls r asked k.0 k.1)
-  settled-happens (Push s d) w' k = settled-pushes s d w' k
-  settled-happens (Take r) w' k = settled-takes r w' k
+  settled-happens (Push s d) w' k = settled-pushes s d k
+  settled-happens (Take r) w' k = settled-takes r k
   settled-happens (Decide r comm) w' k = rw k.3 (settled-settles r comm k.0 k.1 k.2)
   settled-happens (Leave r) w' k = rw k.2 (settled-gives_up r k.0 k.1)
 
-pub settled-run : (n : ℕ) (events : List Event) (w w' : World) → IsWorld w → Settled n w → Run w events w' → Settled n w'
-settled-run n events w w' h settled k = each_run (Settled n) (λ u event u' i held happens. settled-happens n u i held event u' happens) events w w' h settled k
+pub settled-run : (n : ℕ) (events : List Event) {w : World} (w' : World) → IsWorld w → Settled n w → Run w events w' → Settled n w'
+settled-run n events {w} w' h settled k = each_run (Settled n) (λ u event u' i held happens. settled-happens n u i held event u' happens) events w' h settled k

@@ -20,19 +20,19 @@ plain_adopted decided me (Adopted d) h = absurd h
 plain_adopted decided me _ h = tt
 
 -- such an entry adopts no decision
-pub adopted-plain : (n me c : ℕ) (old new : List Entry) → AddsPlain n me old new → has_adopted old c ≡ false → has_adopted new c ≡ false
-adopted-plain n me c old new (inl same) h = ap (λ (x : List Entry). has_adopted x c) same ∙ h
-adopted-plain n me c old new (inr more) h =
+pub adopted-plain : (n me c : ℕ) {old new : List Entry} → AddsPlain n me old new → has_adopted old c ≡ false → has_adopted new c ≡ false
+adopted-plain n me c (inl same) h = ap (λ (x : List Entry). has_adopted x c) same ∙ h
+adopted-plain n me c {old} (inr more) h =
     ap (λ (x : List Entry). has_adopted x c) more.3 ∙ any-push (adopts c) old more.0 ∙ or_from (has_adopted old c) (adopts c more.0) h (plain_adopts c more.0 more.2)
 
 -- and what was adopted is held
-pub held-plain : (decided : List (Option Decision)) (n me : ℕ) (old new : List Entry) → AddsPlain n me old new → All (IsAdopted decided me) old → All (IsAdopted decided me) new
-held-plain decided n me old new (inl same) h = rw same h
-held-plain decided n me old new (inr more) h = rw more.3 (All-push (IsAdopted decided me) old more.0 h (plain_adopted decided me more.0 more.2))
+pub held-plain : (decided : List (Option Decision)) (n me : ℕ) {old new : List Entry} → AddsPlain n me old new → All (IsAdopted decided me) old → All (IsAdopted decided me) new
+held-plain decided n me (inl same) h = rw same h
+held-plain decided n me {old} (inr more) h = rw more.3 (All-push (IsAdopted decided me) old more.0 h (plain_adopted decided me more.0 more.2))
 
 -- a shrink that is entered was not adopted
 pub opened_unadopted : (done : List StepReport) (r new : State) (comm : Context) → AdoptsEntered r.log → LeavesOpen done r (Shrink comm) new → has_adopted new.log comm.number ≡ false
 opened_unadopted done r new comm entered h =
     let fresh : has_adopted r.log comm.number ≡ false =
     false_from_ne_true (has_adopted r.log comm.number) (λ adopted. false≢true (sym (shrink_passed r comm.number h.0).1 ∙ entered comm.number adopted)) in
-    adopted-plain r.ranks r.me comm.number r.log new.log (opens_add done r (Shrink comm) new h) fresh
+    adopted-plain r.ranks r.me comm.number (opens_add done r (Shrink comm) new h) fresh

@@ -22,42 +22,42 @@ report-read w r inside = get_or-map report_of w.players r no_player no_report in
 pub report_there : (w : World) (r : ℕ) → r < length w.players → at (reports_in w) r (report_of (player_at w r))
 report_there w r inside = slice_get-get_or (reports_in w) r no_report (omega (arith, inside, many_reports w)) ∙ ap Some (report-read w r inside)
 
-pub report_inside : (w : World) (r : ℕ) (told : Report) → at (reports_in w) r told → r < length w.players
-report_inside w r told here = omega (arith, slice_get_within (reports_in w) r told here, many_reports w)
+pub report_inside : (w : World) (r : ℕ) {told : Report} → at (reports_in w) r told → r < length w.players
+report_inside w r {told} here = omega (arith, slice_get_within (reports_in w) r told here, many_reports w)
 
 -- and no other stands there
-pub report_is : (w : World) (r : ℕ) (told : Report) → at (reports_in w) r told → told ≡ report_of (player_at w r)
-report_is w r told here = sym (get_or_from_slice_get (reports_in w) r told no_report here) ∙ report-read w r (report_inside w r told here)
+pub report_is : (w : World) (r : ℕ) {told : Report} → at (reports_in w) r told → told ≡ report_of (player_at w r)
+report_is w r {told} here = sym (get_or_from_slice_get (reports_in w) r told no_report here) ∙ report-read w r (report_inside w r here)
 
 -- what holds of each rank's report holds of each report
 pub each_report : (P : ℕ → Report → Type 0) (w : World) → ((r : ℕ) → r < length w.players → P r (report_of (player_at w r))) → (r : ℕ) (told : Report) → at (reports_in w) r told → P r told
-each_report P w h r told here = subst (P r) (sym (report_is w r told here)) (h r (report_inside w r told here))
+each_report P w h r told here = subst (P r) (sym (report_is w r here)) (h r (report_inside w r here))
 
-pub flowing-world : (w : World) → IsWorld w → AreFlowing w.inboxes (reports_in w)
-flowing-world w h = record {
+pub flowing-world : {w : World} → IsWorld w → AreFlowing w.inboxes (reports_in w)
+flowing-world {w} h = record {
   order = each_report (λ r told. told.rank.me ≡ r) w h.named;
   counted = each_report (λ r told. told.rank.ranks ≡ length (reports_in w)) w (λ r i. h.counted r i ∙ sym (many_reports w));
   flow = λ s d sender receiver p q.
-      let i : s < length w.players = report_inside w s sender p in
-      let j : d < length w.players = report_inside w d receiver q in
+      let i = report_inside w s p in
+      let j = report_inside w d q in
       let out : Flow (rank_at w s) s d (took (rank_at w d).log s ++ items_from s (inbox_at w d)) =
-      flow_of (rank_at w s) s d (took (rank_at w d).log s ++ items_from s (inbox_at w d)) (h.sound s i) (h.named s i) (omega (arith, h.counted s i, j)) (h.passed_on s d i j) in
-      rw (report_is w s sender p, report_is w d receiver q) out;
+      flow_of s d (h.sound s i) (h.named s i) (omega (arith, h.counted s i, j)) (h.passed_on s d i j) in
+      rw (report_is w s p, report_is w d q) out;
 }
 
 pub flows-world : (w : World) → IsWorld w → Flows w.inboxes (reports_in w)
-flows-world w h = (flowing-world w h).flow
+flows-world w h = (flowing-world h).flow
 
 -- every world that a schedule leads to is one
 pub world-reached : (n capacity : ℕ) (w : World) → n ≤ 8 → Reaches (start_world n capacity) w → IsWorld w
-world-reached n capacity w small h = keeps-reaches (start_world n capacity) w (world-start n capacity small) h
+world-reached n capacity w small h = keeps-reaches w (world-start n capacity small) h
 
 -- the reports of a world at rest are at rest
-pub rest-world : (w : World) → IsAtRest w → IsRest w.inboxes (reports_in w)
-rest-world w rest d told here running =
-    let j : d < length w.players = report_inside w d told here in
-    let served = rest.served d j (rw (report_is w d told here) at running) in
+pub rest-world : {w : World} → IsAtRest w → IsRest w.inboxes (reports_in w)
+rest-world {w} rest d told here running =
+    let j = report_inside w d here in
+    let served = rest.served d j (rw (report_is w d here) at running) in
     record {
       inbox = served.inbox;
-      outboxes = λ s sender p low. ap (λ (r : Report). outbox r.rank d) (report_is w s sender p) ∙ served.outboxes s (report_inside w s sender p);
+      outboxes = λ s sender p low. ap (λ (r : Report). outbox r.rank d) (report_is w s p) ∙ served.outboxes s (report_inside w s p);
     }

@@ -11,7 +11,7 @@ use Rattle.ulfm_script.proofs.Progress.{next-free}
 use Rattle.ulfm_world.proofs.Changed.{player-same}
 use Rattle.ulfm_script.proofs.Polls.{opens_add, stopped-adds}
 
--- the next step of a running player is refused for want of memory alone
+-- the next step of a running player is refused by out of memory alone
 pub refused-starves : (j : Seen) (w : World) (r : ℕ) (asked : Step) (why : Refused) → r < length w.players → Follows j w → IsRunning w r → slice_get (script_at j r) (length (player_at w r).done) ≡ Some asked → IsRefused w (Call r asked) why → why ≡ OutOfMemory
 refused-starves j w r asked NoSuchRank i f running next k = absurd (omega (arith, i, k))
 refused-starves j w r asked Stopped i f running next k = absurd (false≢true (sym running ∙ k.1))
@@ -20,9 +20,9 @@ refused-starves j w r asked OutOfMemory i f running next k = refl
 refused-starves j w r asked _ i f running next k = absurd k
 
 -- a poll that was spent and left its step open didn't stop the rank
-spent_open : (old : Player) (asked : Step) (new : Player) → is_stopped old.rank.log ≡ false → IsCalled old asked new → 0 < new.polls → (is_stopped new.rank.log ≡ false) × (new.current ≡ Some asked)
-spent_open old asked new running (inl a) spent = absurd (omega (arith, spent, ap (λ (p : Player). p.polls) a.only))
-spent_open old asked new running (inr o) spent = (
+spent_open : {old : Player} {asked : Step} {new : Player} → is_stopped old.rank.log ≡ false → IsCalled old asked new → 0 < new.polls → (is_stopped new.rank.log ≡ false) × (new.current ≡ Some asked)
+spent_open running (inl a) spent = absurd (omega (arith, spent, ap (λ (p : Player). p.polls) a.only))
+spent_open {old} {asked} running (inr o) spent = (
   ap (λ (p : Player). is_stopped p.rank.log) o.only ∙ stopped-adds old.rank false o.rank running (opens_add (awaits_decision old.current) old.done old.rank asked o.rank o.stays),
   ap (λ (p : Player). p.current) o.only,
 )
@@ -34,7 +34,7 @@ leave-goes w mid r asked why t spent k =
     let mid_is : mid ≡ with_player w r c.after = t.2 ∙ ap (with_players w) c.only in
     let mid_at : player_at mid r ≡ c.after = ap (λ (x : World). player_at x r) mid_is ∙ player-same w.players r r c.after refl c.inside in
     let size : length mid.players ≡ length w.players = ap (λ (x : World). length x.players) mid_is ∙ length-set w.players r c.after in
-    let stays = spent_open (player_at w r) asked c.after c.running c.called (omega (arith, spent, ap (λ (p : Player). p.polls) mid_at)) in
+    let stays = spent_open c.running c.called (omega (arith, spent, ap (λ (p : Player). p.polls) mid_at)) in
     goes why (omega (arith, size, c.inside)) (ap (λ (p : Player). is_stopped p.rank.log) mid_at ∙ stays.0) (ap (λ (p : Player). p.current) mid_at ∙ stays.1) k
   where
     goes : (x : Refused) → r < length mid.players → IsRunning mid r → (player_at mid r).current ≡ Some asked → IsRefused mid (Leave r) x → ⊥

@@ -17,11 +17,11 @@ module _ (n capacity : ℕ) (w : World) (small : n ≤ 8) (h : Reaches (start_wo
   honest = each_report (λ r told. IsHonest told.rank.ranks told.rank.log told.steps) w (true-reached n capacity w small h)
 
   are_honest : AreHonest (reports_in w)
-  are_honest = honest_reports w.inboxes (reports_in w) (flowing-world w (world-reached n capacity w small h)) honest
+  are_honest = honest_reports (flowing-world (world-reached n capacity w small h)) honest
 
   -- at rest all has come
   pub rest_come : IsAtRest w → AllHasCome (reports_in w)
-  rest_come rest = all_come w.inboxes (reports_in w) (flowing-world w (world-reached n capacity w small h)) honest (rest-world w rest)
+  rest_come rest = all_come w.inboxes (reports_in w) (flowing-world (world-reached n capacity w small h)) honest (rest-world rest)
 
 -- what holds of all reports that are true of their logs holds of those of each world that a schedule leads to
 pub in_world : (P : List Report → Type 0) → ((reports : List Report) → AreHonest reports → P reports) → InEachWorld P
@@ -36,12 +36,10 @@ in_replay P law = of_replay P (in_world P law)
 
 -- who is known to have failed has stopped
 pub gone_has_stopped : InEachWorld GoneHaveStopped
-gone_has_stopped n capacity w small h = gone_stopped w.inboxes (reports_in w) (flowing-world w (world-reached n capacity w small h))
+gone_has_stopped n capacity w small h = gone_stopped (flowing-world (world-reached n capacity w small h))
 
 pub rest_world : (n capacity : ℕ) (w : World) → n ≤ 8 → Reaches (start_world n capacity) w → IsAtRest w → AllHasCome (reports_in w)
 rest_world n capacity w small h rest = rest_come n capacity w small h rest
 
 pub rest_replay : InEachReplay AllHasCome
-rest_replay j reports job h =
-    let P : List Report → Type 0 = λ (rs : List Report). AllHasCome rs in
-    subst P (sym h.reported) (rest_world j.ranks j.capacity h.world job.few_ranks h.reaches h.rests)
+rest_replay j reports job h = subst (λ (rs : List Report). AllHasCome rs) (sym h.reported) (rest_world j.ranks j.capacity h.world job.few_ranks h.reaches h.rests)

@@ -36,20 +36,20 @@ rightly-set w w' r p inside players decided keeps h =
 
 pub rightly-pushes : (w : World) (s d : ℕ) (w' : World) → Pushes w s d w' → AllAnswersFollowSoFar w → AllAnswersFollowSoFar w'
 rightly-pushes w s d w' t h =
-    let p : Player = with_rank (player_at w s) t.after in
+    let p = with_rank (player_at w s) t.after in
     let same : t.after.log ≡ (rank_at w s).log = ap (λ (r : State). r.log) t.leaves.marked in
     rightly-set w w' s p t.inside_s (ap (λ (x : World). x.players) t.only) (ap (λ (x : World). x.decided) t.only)
     (λ known q. honest-moved known (player_at w s) p q refl (ap (λ (r : State). r.me) t.leaves.marked) (ap (λ (r : State). r.ranks) t.leaves.marked) (ap is_stopped same) (takes-none (rank_at w s).log t.after.log same)) h
 
 pub rightly-takes : (w : World) (r : ℕ) (w' : World) → Takes w r w' → AllAnswersFollowSoFar w → AllAnswersFollowSoFar w'
 rightly-takes w r w' t h =
-    let after : State = logged (rank_at w r) (Took t.source t.item) in
-    let p : Player = with_rank (player_at w r) after in
+    let after = logged (rank_at w r) (Took t.source t.item) in
+    let p = with_rank (player_at w r) after in
     rightly-set w w' r p t.inside (ap (λ (x : World). x.players) t.only) (ap (λ (x : World). x.decided) t.only)
     (λ known q. honest-moved known (player_at w r) p q refl refl refl (stopped-push (rank_at w r).log (Took t.source t.item) ∙ or-false (is_stopped (rank_at w r).log)) (takes-one (rank_at w r).log after.log t.source t.item t.running refl)) h
 
-pub rightly-calls : (j : Seen) (w : World) (r : ℕ) (asked : Step) (w' : World) → Follows j w → slice_get (script_at j r) (length (player_at w r).done) ≡ Some asked → IsUndecided (player_at w r) → Happens w (Call r asked) w' → AllAnswersFollowSoFar w → AllAnswersFollowSoFar w'
-rightly-calls j w r asked w' f next undecided t h =
+pub rightly-calls : (j : Seen) (w : World) (r : ℕ) {asked : Step} (w' : World) → Follows j w → slice_get (script_at j r) (length (player_at w r).done) ≡ Some asked → IsUndecided (player_at w r) → Happens w (Call r asked) w' → AllAnswersFollowSoFar w → AllAnswersFollowSoFar w'
+rightly-calls j w r {asked} w' f next undecided t h =
     let c = t.1 in
     rightly-set w w' r c.after c.inside (ap (λ (x : World). x.players) t.2 ∙ c.only) (ap (λ (x : World). x.decided) t.2)
     (λ known q. honest-called known (script_at j r) j.turns (player_at w r) asked c.after q c.running (f r c.inside).current next undecided c.called) h
@@ -92,7 +92,7 @@ module _ (w : World) (h : AllAnswersFollowSoFar w) (r : ℕ) (inside : r < lengt
   board_answers : BoardAnswers (Some []) (known_for h.knows r) proposal held now
   board_answers = record {
     as_before = agrees_with (known_at (known_for h.knows r) place) held (λ d e. agreed (known_at w.decided place) held d a.as_before (h.held r place d inside e));
-    first_stays = λ e none. let bad : ⊥ = cc in absurd bad;
+    first_stays = λ e none. absurd (cc);
     known_now = now_here;
     others_stay = refl;
   }
@@ -109,10 +109,10 @@ module _ (w : World) (h : AllAnswersFollowSoFar w) (r : ℕ) (inside : r < lengt
   ]
 
   -- the world after it, where this player has its answer
-  rightly-held : (p : Player) (w' : World) → w'.players ≡ set w.players r p → w'.decided ≡ later → AnswersFollowSoFar now p → AllAnswersFollowSoFar w'
-  rightly-held p w' players decided honest =
+  rightly-held : {p : Player} (w' : World) → w'.players ≡ set w.players r p → w'.decided ≡ later → AnswersFollowSoFar now p → AllAnswersFollowSoFar w'
+  rightly-held {p} w' players decided honest =
       let size : length w'.players ≡ length w.players = ap (λ (ps : List Player). length ps) players ∙ length-set w.players r p in
-      let ks : List Known = set h.knows r now in
+      let ks = set h.knows r now in
       let here : (x : ℕ) → x ≡ r → known_for ks x ≡ now = λ x same. ap (known_for ks) same ∙ get_or-set_same h.knows r now [] (omega (arith, inside, h.many)) in
       let there : (x : ℕ) → x ≢ r → known_for ks x ≡ known_for h.knows x = λ x other. get_or-set_other h.knows r x now [] other in
       record {
@@ -136,12 +136,11 @@ module _ (w : World) (h : AllAnswersFollowSoFar w) (r : ℕ) (inside : r < lengt
 
 pub rightly-decides : (w : World) (r : ℕ) (comm : Context) (w' : World) → Happens w (Decide r comm) w' → AllAnswersFollowSoFar w → AllAnswersFollowSoFar w'
 rightly-decides w r comm w' t h =
-    let s = t.2 in
-    let d = s.decided in
+    let s = t.2 in let d = s.decided in
     elim d.decision.outcome [
       | inl a ↦
-          let known : Known = known_for h.knows r in
-          let later : Known = now w h r s.inside d.decision.proposal a.held t.1 a.board_answers in
+          let known = known_for h.knows r in
+          let later = now w h r s.inside d.decision.proposal a.held t.1 a.board_answers in
           let own : IsDecided (player_at w r) comm (Some []) known s.after later = record {
             waits = d.waits;
             answer = d.answer;
@@ -154,7 +153,7 @@ rightly-decides w r comm w' t h =
             };
             only = d.only;
           } in
-          rightly-held w h r s.inside d.decision.proposal a.held t.1 a.board_answers s.after w' (ap (λ (x : World). x.players) t.3 ∙ s.only) (ap (λ (x : World). x.decided) t.3) (honest-decided (Some []) known later (player_at w r) comm s.after (h.honest r s.inside) s.running own)
+          rightly-held w h r s.inside d.decision.proposal a.held t.1 a.board_answers w' (ap (λ (x : World). x.players) t.3 ∙ s.only) (ap (λ (x : World). x.decided) t.3) (honest-decided (Some []) known later (player_at w r) comm s.after (h.honest r s.inside) s.running own)
       | inr starves ↦ absurd (false≢true starves.starves.shares)
     ]
 

@@ -9,14 +9,14 @@ use Rattle.ulfm_script.proofs.Decisions.{quiet-decided}
 use Rattle.ulfm_world.proofs.KeepsCalls.{keeps-quiet, keeps-takes}
 use Rattle.ulfm_world.proofs.KeepsPush.{keeps-pushes}
 
-keeps-calls : (w : World) (r : ℕ) (asked : Step) (players : List Player) → IsWorld w → Calls w.players r asked players → IsWorld (with_players w players)
-keeps-calls w r asked players h c = rw c.only (keeps-quiet w r c.after h c.inside (quiet-called _ asked c.after (h.sound r c.inside) c.running c.called))
+keeps-calls : (w : World) (r : ℕ) (asked : Step) {players : List Player} → IsWorld w → Calls w.players r asked players → IsWorld (with_players w players)
+keeps-calls w r asked h c = rw c.only (keeps-quiet w r c.after h c.inside (quiet-called _ asked c.after (h.sound r c.inside) c.running c.called))
 
-keeps-gives_up : (w : World) (r : ℕ) (players : List Player) → IsWorld w → GivesUp w.players r players → IsWorld (with_players w players)
-keeps-gives_up w r players h c = rw c.only (keeps-quiet w r c.after h c.inside (quiet-left _ c.after (h.sound r c.inside) c.left))
+keeps-gives_up : (w : World) (r : ℕ) {players : List Player} → IsWorld w → GivesUp w.players r players → IsWorld (with_players w players)
+keeps-gives_up w r h c = rw c.only (keeps-quiet w r c.after h c.inside (quiet-left _ c.after (h.sound r c.inside) c.left))
 
-keeps-settles : (w : World) (r : ℕ) (comm : Context) (players : List Player) (later : List (Option Decision)) → IsWorld w → DecidesShrink w.players w.decided r comm players later → IsWorld (with_decided (with_players w players) later)
-keeps-settles w r comm players later h c =
+keeps-settles : (w : World) (r : ℕ) (comm : Context) {players : List Player} (later : List (Option Decision)) → IsWorld w → DecidesShrink w.players w.decided r comm players later → IsWorld (with_decided (with_players w players) later)
+keeps-settles w r comm later h c =
     rw c.only (decided_else _ later (keeps-quiet w r c.after h c.inside (quiet-decided _ comm None w.decided later c.after (h.sound r c.inside) c.decided)))
   where
     -- what every world keeps says nothing of the decisions
@@ -33,32 +33,32 @@ keeps-settles w r comm players later h c =
     }
 
 pub keeps-happens : (w : World) (event : Event) (w' : World) → IsWorld w → Happens w event w' → IsWorld w'
-keeps-happens w (Call r asked) w' h k = rw k.2 (keeps-calls w r asked k.0 h k.1)
-keeps-happens w (Push s d) w' h k = keeps-pushes w s d w' h k
-keeps-happens w (Take r) w' h k = keeps-takes w r w' h k
-keeps-happens w (Decide r comm) w' h k = rw k.3 (keeps-settles w r comm k.0 k.1 h k.2)
-keeps-happens w (Leave r) w' h k = rw k.2 (keeps-gives_up w r k.0 h k.1)
+keeps-happens w (Call r asked) w' h k = rw k.2 (keeps-calls w r asked h k.1)
+keeps-happens w (Push s d) w' h k = keeps-pushes w s d h k
+keeps-happens w (Take r) w' h k = keeps-takes w r h k
+keeps-happens w (Decide r comm) w' h k = rw k.3 (keeps-settles w r comm k.1 h k.2)
+keeps-happens w (Leave r) w' h k = rw k.2 (keeps-gives_up w r h k.1)
 
-pub keeps-applied : (w : World) (event : Event) (w' : World) → IsWorld w → Applied w event w' → IsWorld w'
-keeps-applied w event w' h (inl k) = keeps-happens w event w' h k
-keeps-applied w event w' h (inr e) = rw e.2 h
+pub keeps-applied : {w : World} (event : Event) {w' : World} → IsWorld w → Applied w event w' → IsWorld w'
+keeps-applied {w} event {w'} h (inl k) = keeps-happens w event w' h k
+keeps-applied event h (inr e) = rw e.2 h
 
 pub keeps-run : (events : List Event) (w w' : World) → IsWorld w → Run w events w' → IsWorld w'
 keeps-run [] w w' h k = rw k h
-keeps-run (event ∷ events) w w' h k = keeps-run events k.0 w' (keeps-applied w event k.0 h k.1) k.2
+keeps-run (event ∷ events) w w' h k = keeps-run events k.0 w' (keeps-applied event h k.1) k.2
 
 -- what each event keeps of a world, a schedule keeps
 module _ (P : World → Type 0) (step : (w : World) (event : Event) (w' : World) → IsWorld w → P w → Happens w event w' → P w') where
-  pub each_applied : (w : World) (event : Event) (w' : World) → IsWorld w → P w → Applied w event w' → P w'
-  each_applied w event w' h p (inl k) = step w event w' h p k
-  each_applied w event w' h p (inr e) = rw e.2 p
+  pub each_applied : (w : World) (event : Event) {w' : World} → IsWorld w → P w → Applied w event w' → P w'
+  each_applied w event {w'} h p (inl k) = step w event w' h p k
+  each_applied w event h p (inr e) = rw e.2 p
 
-  pub each_run : (events : List Event) (w w' : World) → IsWorld w → P w → Run w events w' → P w'
-  each_run [] w w' h p k = rw k p
-  each_run (event ∷ events) w w' h p k = each_run events k.0 w' (keeps-applied w event k.0 h k.1) (each_applied w event k.0 h p k.1) k.2
+  pub each_run : (events : List Event) {w : World} (w' : World) → IsWorld w → P w → Run w events w' → P w'
+  each_run [] w' h p k = rw k p
+  each_run (event ∷ events) {w} w' h p k = each_run events w' (keeps-applied event h k.1) (each_applied w event h p k.1) k.2
 
-pub keeps-reaches : (w w' : World) → IsWorld w → Reaches w w' → IsWorld w'
-keeps-reaches w w' h k = keeps-run k.0 w w' h k.1
+pub keeps-reaches : {w : World} (w' : World) → IsWorld w → Reaches w w' → IsWorld w'
+keeps-reaches {w} w' h k = keeps-run k.0 w w' h k.1
 
 either : {A : Type 0} (r : Result A Refused) (w w' : World) (event : Event) → OnOk r (Happens w event w') → IfErr r (λ why. IsRefused w event why) → OnErr r (w' ≡ w) → Applied w event w'
 either (Ok x) w w' event k why e = inl k

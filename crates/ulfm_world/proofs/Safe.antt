@@ -22,16 +22,16 @@ use Rattle.ulfm_base.proofs.Places.{get_or-blank}
 pub settled-start : (n capacity : ℕ) → Settled n (start_world n capacity)
 settled-start n capacity = record {
   size = length-start n n;
-  keeps = λ r i. let K : Player → Type 0 = λ (p : Player). Keeps n r p.rank.log in subst K (sym (player-start n n r i)) (keeps-start n r i);
-  once = λ r i. let K : Player → Type 0 = λ (p : Player). EntersEachOnce p.rank.log in subst K (sym (player-start n n r i)) once-start;
-  held = λ c d known. absurd (none-some d (sym (get_or-blank 31 c (let o : Option Decision = None in o)) ∙ known));
-  adopted = λ r i. let A : Player → Type 0 = λ (p : Player). All (IsAdopted nothing_known r) p.rank.log in subst A (sym (player-start n n r i)) (All-nil (IsAdopted nothing_known r));
+  keeps = λ r i. subst (λ (p : Player). Keeps n r p.rank.log) (sym (player-start n n r i)) (keeps-start n r i);
+  once = λ r i. subst (λ (p : Player). EntersEachOnce p.rank.log) (sym (player-start n n r i)) once-start;
+  held = λ c d known. absurd (none-some d (sym (get_or-blank 31 c (None)) ∙ known));
+  adopted = λ r i. subst (λ (p : Player). All (IsAdopted nothing_known r) p.rank.log) (sym (player-start n n r i)) (All-nil (IsAdopted nothing_known r));
   unadopted = λ r comm i e. absurd (none-some (Shrink comm) (sym (ap (λ (p : Player). p.current) (player-start n n r i)) ∙ e));
 }
 
 -- every world that a schedule leads to is settled
 pub settled-reached : (n capacity : ℕ) (w : World) → n ≤ 8 → Reaches (start_world n capacity) w → Settled n w
-settled-reached n capacity w small k = settled-run n k.0 (start_world n capacity) w (world-start n capacity small) (settled-start n capacity) k.1
+settled-reached n capacity w small k = settled-run n k.0 w (world-start n capacity small) (settled-start n capacity) k.1
 
 module _ (n : ℕ) (w : World) (settled : Settled n w) where
   inside : (r : ℕ) → r < length w.players → r < n
@@ -44,8 +44,8 @@ module _ (n : ℕ) (w : World) (settled : Settled n w) where
         let enters = (settled.keeps r (inside r i)).enters_once place context known stands in record { first = enters.0; knew = enters.1 };
   }
 
-  pub held-safe : (c : ℕ) (d : Decision) → IsHeld n w c d → IsSafe w d
-  held-safe c d held = record {
+  pub held-safe : {c : ℕ} {d : Decision} → IsHeld n w c d → IsSafe w d
+  held-safe {d} held = record {
     listed = λ r known listed. ap (entry_at_rank w r) held.context ∙ held.listed r known listed;
     stopped = held.stopped;
     excluded = λ m r known member entered knows of_old.
@@ -60,12 +60,11 @@ module _ (n : ℕ) (w : World) (settled : Settled n w) where
   }
 
   pub decides-safely : DecidesSafely w
-  decides-safely c d known = let held = settled.held c d known in record { about = held.context; safe = held-safe c d held }
+  decides-safely c d known = let held = settled.held c d known in record { about = held.context; safe = held-safe held }
 
   pub adopts-held : AdoptsHeld w
   adopts-held r d i adopted =
       let log : List Entry = (rank_at w r).log in
       let place = slice_get_within log adopted.0 (Adopted d) adopted.1 in
-      let A : Entry → Type 0 = λ (x : Entry). IsAdopted w.decided r x in
-      let now = subst A (get_or_from_slice_get log adopted.0 (Adopted d) (Adopted d) adopted.1) (settled.adopted r (inside r i) adopted.0 (Adopted d) place) in
+      let now = subst (λ (x : Entry). IsAdopted w.decided r x) (get_or_from_slice_get log adopted.0 (Adopted d) (Adopted d) adopted.1) (settled.adopted r (inside r i) adopted.0 (Adopted d) place) in
       record { held = now.0; member = now.1 }

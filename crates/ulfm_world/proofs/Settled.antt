@@ -11,19 +11,18 @@ use Rattle.ulfm_world.proofs.Read.{flowing-world, rest-world}
 use Rattle.ulfm_world.proofs.Reported.{rest_world}
 use Rattle.ulfm_world.proofs.Shrunk.{shrinks-safely, all-proposed}
 
-pub settled : (j : Seen) (reports : List Report) → IsJob j → IsReplayed j reports → MadeAtRest j reports
-settled j reports job h =
+pub settled : {j : Seen} {reports : List Report} → IsJob j → IsReplayed j reports → MadeAtRest j reports
+settled {j} job h =
     let reached : IsReached h.world = record { ranks = j.ranks; capacity = j.capacity; few = job.few_ranks; schedule = h.reaches } in
-    let flowing = flowing-world h.world (world_of h.world reached) in
-    let K : List Report → Type 0 = λ (rs : List Report). KnowAtRest rs in
+    let flowing = flowing-world (world_of reached) in
     record {
       replayed = h;
-      known = subst K (sym h.reported) (record {
-        known = knows-stopped h.world.inboxes (reports_in h.world) flowing (rest-world h.world h.rests);
-        agreed = agrees-revoked h.world.inboxes (reports_in h.world) flowing (rest-world h.world h.rests);
-        proposed = all-proposed h.world reached h.rests;
+      known = subst (λ (rs : List Report). KnowAtRest rs) (sym h.reported) (record {
+        known = knows-stopped h.world.inboxes (reports_in h.world) flowing (rest-world h.rests);
+        agreed = agrees-revoked h.world.inboxes (reports_in h.world) flowing (rest-world h.rests);
+        proposed = all-proposed reached h.rests;
         come = rest_world j.ranks j.capacity h.world job.few_ranks h.reaches h.rests;
       });
-      safe = shrinks-safely h.world reached;
+      safe = shrinks-safely reached;
       made = made-safely j.ranks j.capacity h.reaches.0 h.world job.few_ranks h.reaches.1;
     }

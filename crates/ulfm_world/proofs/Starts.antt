@@ -49,14 +49,11 @@ world-start n capacity small = record {
   named = λ r k. ap (λ (p : Player). p.rank.me) (player-start n n r (omega (arith, k, length-start n n)));
   counted = λ r k. ap (λ (p : Player). p.rank.ranks) (player-start n n r (omega (arith, k, length-start n n))) ∙ sym (length-start n n);
   sound = λ r k.
-      let P : Player → Type 0 = λ (p : Player). IsState p.rank in
-      subst P (sym (player-start n n r (omega (arith, k, length-start n n)))) (sound-start r n (omega (arith, k, length-start n n)) small);
+      subst (λ (p : Player). IsState p.rank) (sym (player-start n n r (omega (arith, k, length-start n n)))) (sound-start r n (omega (arith, k, length-start n n)) small);
   signed = λ r k.
-      let P : Player → Type 0 = λ (p : Player). All (IsSigned r) p.rank.log in
-      subst P (sym (player-start n n r (omega (arith, k, length-start n n)))) (All-nil (IsSigned r));
+      subst (λ (p : Player). All (IsSigned r) p.rank.log) (sym (player-start n n r (omega (arith, k, length-start n n)))) (All-nil (IsSigned r));
   posted = λ r k.
-      let P : List (WorldRank × Item) → Type 0 = λ (xs : List (WorldRank × Item)). All (IsPosted (length (start_players n n))) xs in
-      subst P (sym (inbox-start n r)) (All-nil (IsPosted (length (start_players n n))));
+      subst (λ (xs : List (WorldRank × Item)). All (IsPosted (length (start_players n n))) xs) (sym (inbox-start n r)) (All-nil (IsPosted (length (start_players n n))));
   passed_on = λ s d i j.
       ap (λ (p : Player). went_out p.rank d) (player-start n n s (omega (arith, i, length-start n n)))
       ∙ rw (get_or-blank n d no_mark) (ap (λ (xs : List (WorldRank × Item)). items_from s xs) (sym (inbox-start n d)))
@@ -64,13 +61,13 @@ world-start n capacity small = record {
 }
 
 -- what a loop over the ranks made
-pub new_world : (views : List View) (inboxes : List (List (WorldRank × Item))) (n r capacity : ℕ) (decided : List (Option Decision)) → players_of views ≡ start_players n r → inboxes ≡ replicate r [] → r ≡ n → decided ≡ nothing_known → parts views inboxes capacity decided ≡ start_world n capacity
-new_world views inboxes n r capacity decided p q e none =
+pub new_world : (views : List View) {inboxes : List (List (WorldRank × Item))} {r : ℕ} (n capacity : ℕ) (decided : List (Option Decision)) → players_of views ≡ start_players n r → inboxes ≡ replicate r [] → r ≡ n → decided ≡ nothing_known → parts views inboxes capacity decided ≡ start_world n capacity
+new_world views {inboxes} n capacity decided p q e none =
     ap (λ (ps : List Player). let w : World = record { players = ps; inboxes = inboxes; capacity = capacity; decided = decided } in w) (p ∙ ap (start_players n) e)
-    ∙ ap (λ (is : List (List (WorldRank × Item))). let w : World = record { players = start_players n n; inboxes = is; capacity = capacity; decided = decided } in w) (q ∙ ap (λ k. replicate k (let xs : List (WorldRank × Item) = [] in xs)) e)
+    ∙ ap (λ (is : List (List (WorldRank × Item))). let w : World = record { players = start_players n n; inboxes = is; capacity = capacity; decided = decided } in w) (q ∙ ap (λ k. replicate k ([])) e)
     ∙ ap (λ (ds : List (Option Decision)). let w : World = record { players = start_players n n; inboxes = replicate n []; capacity = capacity; decided = ds } in w) none
 
--- a player of one of 1 to 8 ranks is refused for want of memory alone
+-- a player of one of 1 to 8 ranks is refused by out of memory alone
 pub starts_or_starves : (me n : ℕ) (e : CallError) → me < n → n ≤ 8 → FailsOrStarves (start_checks me n) e → e ≡ OutOfMemory
 starts_or_starves me n e inside small h = starved h (passes me n inside small)
   where
@@ -94,8 +91,8 @@ more_players views views' v n r were longer starts =
     ∙ ap (λ (p : Player). start_players n r ++ p ∷ []) starts
     ∙ ap (start_players n) next
 
-pub more_inboxes : (inboxes inboxes' : List (List (WorldRank × Item))) (items : List (WorldRank × Item)) (r : ℕ) → inboxes ≡ replicate r [] → inboxes' ≡ inboxes ++ items ∷ [] → items ≡ [] → inboxes' ≡ replicate (r + 1) []
-more_inboxes inboxes inboxes' items r were longer none =
+pub more_inboxes : {inboxes inboxes' : List (List (WorldRank × Item))} {items : List (WorldRank × Item)} (r : ℕ) → inboxes ≡ replicate r [] → inboxes' ≡ inboxes ++ items ∷ [] → items ≡ [] → inboxes' ≡ replicate (r + 1) []
+more_inboxes {items} r were longer none =
     let next : suc r ≡ r + 1 = omega arith in
     longer
     ∙ ap (λ (is : List (List (WorldRank × Item))). is ++ items ∷ []) were

@@ -73,13 +73,13 @@ took_revoke false n r source context h size running fresh =
     omega (arith, out-logged n r (Took source (Revoke context)) h size running, fresh_falls r (Took source (Revoke context)) context.number context.in_range fresh (eq-eqb context.number context.number refl))
 
 -- an entry of the rank's own adds little
-pub adds_weight : (n : ℕ) (r : State) (stops : Bool) (new : State) → IsState r → n ≡ r.ranks → is_stopped r.log ≡ false → Adds r stops new → out_at n new + fresh_of new ≤ (out_at n r + fresh_of r) + 16
-adds_weight n r stops new h size running (inl same) = rw same.0 (omega arith)
-adds_weight n r stops new h size running (inr one) = rw one.only (omega (arith, out-logged n r one.entry h size running, fresh-logged r one.entry))
+pub adds_weight : (n : ℕ) {r : State} {stops : Bool} {new : State} → IsState r → n ≡ r.ranks → is_stopped r.log ≡ false → Adds r stops new → out_at n new + fresh_of new ≤ (out_at n r + fresh_of r) + 16
+adds_weight n h size running (inl same) = rw same.0 (omega arith)
+adds_weight n {r} h size running (inr one) = rw one.only (omega (arith, out-logged n r one.entry h size running, fresh-logged r one.entry))
 
 -- an item that is taken adds nothing to what the rank may still send
-pub out-took : (n : ℕ) (r : State) (source : WorldRank) (item : Item) → IsState r → n ≡ r.ranks → is_stopped r.log ≡ false → out_at n (logged r (Took source item)) + fresh_of (logged r (Took source item)) ≤ out_at n r + fresh_of r
-out-took n r source (Revoke context) h size running = took_revoke (is_revoked r.log context.number) n r source context h size running refl
-out-took n r source (Mail letter) h size running = took_light n r source (Mail letter) (λ d. refl)
-out-took n r source Gone h size running = took_light n r source Gone (λ d. refl)
-out-took n r source (Enter context known) h size running = took_light n r source (Enter context known) (λ d. refl)
+pub out-took : (n : ℕ) {r : State} (source : WorldRank) (item : Item) → IsState r → n ≡ r.ranks → is_stopped r.log ≡ false → out_at n (logged r (Took source item)) + fresh_of (logged r (Took source item)) ≤ out_at n r + fresh_of r
+out-took n {r} source (Revoke context) h size running = took_revoke (is_revoked r.log context.number) n r source context h size running refl
+out-took n {r} source (Mail letter) h size running = took_light n r source (Mail letter) (λ d. refl)
+out-took n {r} source Gone h size running = took_light n r source Gone (λ d. refl)
+out-took n {r} source (Enter context known) h size running = took_light n r source (Enter context known) (λ d. refl)

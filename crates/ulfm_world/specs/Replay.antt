@@ -22,8 +22,8 @@ pub record IsReplayed (j : Seen) (reports : List Report) : Type 0 where
   pub reported : reports ≡ reports_in world
 
 -- What a replay has beside lawful reports, since it ends at rest: at that rest each running rank knows each stopped one, all
--- agree on revocations, and each member of a communicator that all running ones shrink has a proposal; and since a decision is
--- seen when it is made: in the world that it ended in shrinks were safe, and each decision held there was safe when its
+-- agree on revocations, and running members of a communicator whose shrink all of them entered have proposals; and since a
+-- decision is seen when it is made: in the world that it ended in shrinks were safe, and each decision held there was safe when its
 -- schedule made it. A run of threads may end before rest, and shows its decisions in reports alone.
 pub record MadeAtRest (j : Seen) (reports : List Report) : Type 0 where
   pub replayed : IsReplayed j reports

@@ -79,14 +79,14 @@ pub record RefusesShrink (old : World) (r : ℕ) (comm : Context) (new : World) 
   pub polls : ℕ
   pub answer : (player_at new r).done ≡ (player_at old r).done ++ step_report (Shrink comm) (Refused e) at polls ∷ []
 
--- a shrink that is decided is refused for want of memory alone
+-- a shrink that is decided is refused by out of memory alone
 abbrev pub StarvesAlone : World → Type 0
 StarvesAlone old =
     (r : ℕ) (comm : Context) (new : World) (e : CallError) → Happens old (Decide r comm) new
     → RefusesShrink old r comm new e → e ≡ OutOfMemory
 
 -- What shrinks keep: each rank enters once, decisions are safe and are adopted as they are held, the next one too, and for
--- each context there is one decision and one group. Want of memory alone keeps a rank from adopting.
+-- each context there is one decision and one group. Out of memory alone keeps a rank from adopting.
 pub record ShrinksSafely (w : World) : Type 0 where
   pub entered : EntersOnce w
   pub decided : DecidesSafely w

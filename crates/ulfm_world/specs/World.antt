@@ -153,13 +153,13 @@ IsInside w r = r < length w.players
 abbrev pub IsLive : World → ℕ → Type 0
 IsLive w r = IsInside w r × IsRunning w r
 
--- Why an event is refused, in the order of the checks. Want of memory has no cause that a world shows; to decide takes
--- none, and a decision that finds no memory to be adopted is answered so.
+-- Why an event is refused, in the order of the checks. Out of memory has no cause that a world shows. It refuses no further
+-- poll of an open step, whose answer has its room, and no decision: one that finds no memory to be adopted is answered so.
 abbrev pub IsRefused : World → Event → Refused → Type 0
 IsRefused w (Call r asked) NoSuchRank = length w.players ≤ r
 IsRefused w (Call r asked) Stopped = IsInside w r × HasStopped w r
 IsRefused w (Call r asked) NotReady = IsLive w r × (IsFree (player_at w r) asked → ⊥)
-IsRefused w (Call r asked) OutOfMemory = IsLive w r × IsFree (player_at w r) asked
+IsRefused w (Call r asked) OutOfMemory = IsLive w r × ((player_at w r).current ≡ None)
 IsRefused w (Push s d) NoSuchRank = (length w.players ≤ s) ⊎ (length w.players ≤ d)
 IsRefused w (Push s d) NothingToPush = IsInside w s × IsInside w d × (outbox (rank_at w s) d ≡ [])
 IsRefused w (Push s d) InboxFull = IsInside w s × IsInside w d × (outbox (rank_at w s) d ≢ []) × (w.capacity ≤ length (inbox_at w d))

@@ -12,7 +12,8 @@ ghost use Rattle.ulfm_world.specs.Rest.{IsAtRest};
 ghost use Rattle.ulfm_world.specs.Safe.{EntersOnce, DecidesSafely, SettlesSafely, AdoptsHeld, StarvesAlone};
 ghost use Rattle.ulfm_world.specs.World.{World, start_world, Reaches, Run, reports_in};
 
-/// Whatever events come, between each pair of ranks nothing is lost, made or overtaken (MPI 4.0, 3.5).
+/// Whatever events come, between each ordered pair of ranks nothing is made, doubled or overtaken, and nothing is lost but what a
+/// stop leaves in an outbox (MPI 4.0, 3.5).
 pub fn flows()
     ensures { (n capacity : ℕ) (w : World) → n ≤ 8 → Reaches (start_world n capacity) w → Flows w.inboxes (reports_in w) }
 {}
@@ -49,7 +50,7 @@ pub fn letters_come_as_sent()
 {}
 
 /// Whatever events come, each wait that is done tells of a letter that an answered step sent to this rank, and that the
-/// receive of the wait was given and admits (MPI 4.0, 3.2.4 and 3.2.5).
+/// receive of the wait was given and admits, with room enough (MPI 4.0, 3.2.4 and 3.2.5).
 pub fn each_done_was_sent()
     ensures worlds { InEachWorld DoneIsGiven }
     ensures replays { InEachReplay DoneIsGiven }
@@ -77,7 +78,8 @@ pub fn letters_keep_order()
     ensures replays { InEachReplay LettersKeepOrder }
 {}
 
-/// Whatever events come, no receive overtakes another that was posted earlier and also admits the letter (MPI 4.0, 3.5).
+/// Whatever events come, no receive overtakes another that was posted earlier, didn't end by a failure, and also admits the
+/// letter (MPI 4.0, 3.5).
 pub fn receives_keep_order()
     ensures worlds { InEachWorld ReceivesKeepOrder }
     ensures replays { InEachReplay ReceivesKeepOrder }
@@ -137,7 +139,7 @@ pub fn adopted_as_held()
     ensures { (n capacity : ℕ) (w : World) → n ≤ 8 → Reaches (start_world n capacity) w → AdoptsHeld w }
 {}
 
-/// Whatever events come, a shrink that is decided is refused for want of memory alone (ULFM, shrink).
+/// Whatever events come, a shrink that is decided is refused by out of memory alone (ULFM, shrink).
 pub fn adoption_starves_alone()
     ensures { (n capacity : ℕ) (w : World) → n ≤ 8 → Reaches (start_world n capacity) w → StarvesAlone w }
 {}

@@ -1,5 +1,5 @@
 //! A job from its first round to rest.
-ghost use Rattle.std.specs.Prelude.{◌≡◌, ◌<◌, ◌≤◌, ℕ, List, length, false, true, [], IfOk, OnOk, Some, slice_get};
+ghost use Rattle.std.specs.Prelude.{◌≡◌, ◌<◌, ◌≤◌, ℕ, List, length, false, true, [], IfErr, IfOk, OnOk, Some, slice_get};
 ghost use Rattle.ulfm_base.specs.declared.context.Context.{Context};
 ghost use Rattle.ulfm_script.specs.Deciding.{IsReadyToDecide};
 ghost use Rattle.ulfm_script.specs.inside.SoFar.{IsUndecided};
@@ -17,9 +17,10 @@ use ulfm_script::{Hands, Job, RankReport, RunFault, Step, turn};
 /// The job, round by round. One inbox holds `capacity` items for each rank. In a round the ranks come upwards, and each
 /// pushes to each destination upwards, itself too, while its outbox isn't empty and the inbox has room; then, where it
 /// runs, it takes one item and polls its next step once, which decides an open shrink that has a proposal. A step that
-/// its last poll left open is given up. The rounds end after the first one in which nothing was pushed, taken or polled. What
-/// the reports tell of letters is true of what was sent, and at the end all running ranks know each stopped one and agree
-/// on revocations.
+/// its last poll left open is given up. The rounds end after the first one in which nothing was pushed, taken or polled.
+///
+/// No clause tells of this order of events. The reports are those of some schedule that ends at rest. They are lawful, and at
+/// the end all running ranks know each stopped one and agree on revocations.
 ///
 /// # Errors
 ///
@@ -29,6 +30,7 @@ pub fn replay(alloc: Global, job: &Job) -> Result<Vec<RankReport>, RunFault>
     ensures replayed { IfOk result (λ reports. IsReplayed job.now reports.items) }
     ensures lawful { IfOk result (λ reports. IsLawful job.now reports.items) }
     ensures settled { IfOk result (λ reports. MadeAtRest job.now reports.items) }
+    ensures refused { IfErr result (λ fault. fault ≡ RunFault.OutOfMemory) }
 {
     let Ok(world) = World::new(alloc, job.ranks(), job.capacity()) else {
         return Err(RunFault::OutOfMemory);
@@ -120,6 +122,7 @@ fn round(job: &Job, rounds: &mut Rounds<'_>) -> Result<bool, RunFault>
     ensures same_job { OnOk result (rounds.new.job.now ≡ job.now) }
     ensures moves { IfOk result (λ moved. Moves job.now rounds.old.world rounds.new.world moved) }
     ensures stuck { IfOk result (λ moved. moved ≡ false → (r : ℕ) → r < length rounds.new.world.players → IsStuck job.now rounds.new.world r) }
+    ensures refused { IfErr result (λ fault. fault ≡ RunFault.OutOfMemory) }
 {
     let mut moved = false;
     for r in 0..rounds.world.size() {
@@ -139,10 +142,13 @@ fn turn_of(job: &Job, rounds: &mut Rounds<'_>, r: u8) -> Result<bool, RunFault>
     ensures same_job { OnOk result (rounds.new.job.now ≡ job.now) }
     ensures moves { IfOk result (λ moved. Moves job.now rounds.old.world rounds.new.world moved) }
     ensures stuck { IfOk result (λ moved. moved ≡ false → IsStuck job.now rounds.new.world r) }
+    ensures refused { IfErr result (λ fault. fault ≡ RunFault.OutOfMemory) }
 {
     let _ = job;
     rounds.rank = r;
-    let (moved, polled) = turn(rounds)?;
+    let Ok((moved, polled)) = turn(rounds) else {
+        return Err(RunFault::OutOfMemory);
+    };
     if polled {
         return Ok(true);
     }

@@ -1,7 +1,10 @@
 -- What single functions of the program answer and write.
-use Rattle.std.specs.Prelude.{ℕ, List, take, Option, Some, None, codes}
+use Rattle.std.specs.Prelude.{ℕ, List, take, Option, Some, None, codes, ⊤}
 use Rattle.std.specs.Io.KnownBytes.{Appends}
+use Rattle.ulfm_job.specs.Job.{Seen}
 use Rattle.ulfm_script.specs.declared.fault.RunFault.{RunFault}
+use Rattle.ulfm_script.specs.Report.{Report}
+use Rattle.ulfm_run.specs.Fault.{ShowUntrue}
 use Rattle.ulfm.specs.declared.run.Failure.{Failure}
 use Rattle.ulfm_script.specs.declared.fault.RunFault.TheVariants as fault
 use Rattle.ulfm.specs.declared.run.Failure.TheVariants as run
@@ -12,6 +15,11 @@ failure_of fault.NoThread = Some run.NoThread
 failure_of fault.OutOfMemory = Some run.OutOfMemory
 failure_of (fault.Untrue reports) = Some run.Untrue
 failure_of fault.BadEnds = None
+
+-- F4 comes only with reports that show it
+abbrev pub IsShown : Seen → Failure → Type 0
+IsShown job run.Untrue = (reports : List Report) × ShowUntrue job reports
+IsShown job _ = ⊤
 
 -- the line for words that can't be read
 abbrev pub not_text : List ℕ

@@ -50,7 +50,7 @@ fn standard_error_says_more(rt: HostRuntime) -> Result<(), Fail> {
             "check",
             "{rank = 0, op = \"wait\", req = 0}",
             0,
-            "warning: line 4, column 33: rank 0 step 0 (step 0 of the file): key 'req' is 0, and step 0 of its rank comes no earlier: it will be refused\n",
+            "warning: line 4, column 33: rank 0 step 0 (step 0 of the file): key 'req' is 0, and that is this step itself; req counts the steps of one rank, from 0: this step will be refused\n",
         ),
         ("check", "{rank = 0, op = \"recv\"}", 0, ""),
         ("replay", "{rank = 0, op = \"recv\"}", 0, ""),
@@ -64,7 +64,7 @@ fn standard_error_says_more(rt: HostRuntime) -> Result<(), Fail> {
     for (command, steps, status, said) in rows {
         let (ended, errors) = noted(&rt, command, steps)?;
         assert_eq!(rt; ended, status, "{command} {steps}");
-        assert_eq!(rt; errors.as_slice(), said.as_bytes());
+        assert_eq!(rt; errors.as_slice(), said.as_bytes(), "{command} {steps}");
     }
     Ok(())
 }

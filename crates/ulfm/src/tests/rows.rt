@@ -6,12 +6,12 @@ use std::thread::Threads;
 
 /// A job by what it shows, and its trace.
 pub struct Row {
-    pub shows: &'static str,
+    pub name: &'static str,
     pub job: &'static str,
     pub trace: &'static str,
 }
 
-/// The first row whose job doesn't give its trace under `replay`.
+/// The name of the first row whose job doesn't give its trace under `replay`.
 pub fn first_wrong<R: AllocGlobal + Threads + Wait + Sync>(
     rt: &R,
     rows: &[Row],
@@ -21,7 +21,7 @@ pub fn first_wrong<R: AllocGlobal + Threads + Wait + Sync>(
         let follows = is_reply(&answer, 0, row.trace);
         let (_, Kept { bytes: _, len: _ }) = answer;
         if !follows {
-            return Some(row.shows);
+            return Some(row.name);
         }
     }
     None

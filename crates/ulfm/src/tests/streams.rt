@@ -6,9 +6,7 @@ use crate::front::run_on;
 use std::alloc::{AllocError, Global};
 use std::io;
 use std::io::{ErrorKind, Read, Write};
-use std::sync::Wait;
 use std::test::Fail;
-use std::thread::Threads;
 
 /// A job of one letter, by its steps.
 const ONE_LETTER: &str =
@@ -65,7 +63,7 @@ fn an_input_that_fails_writes_nothing(rt: HostRuntime) {
             ),
             5
         );
-        assert!(rt; output.is_empty());
+        assert!(rt; output.is_empty(), "{command}");
         let FailsSecond { reads: _ } = input;
     }
 }
@@ -152,7 +150,7 @@ fn an_output_that_takes_little_at_a_time_gets_all(rt: HostRuntime) {
             "{command}"
         );
         let TakesTen { taken } = output;
-        assert_eq!(rt; taken.as_slice(), text.as_bytes());
+        assert_eq!(rt; taken.as_slice(), text.as_bytes(), "{command}");
     }
 }
 
@@ -190,9 +188,9 @@ fn an_input_that_gives_little_at_a_time_is_read_whole(rt: HostRuntime) {
                 status,
                 "{command} {most}"
             );
-            assert_eq!(rt; output.as_slice(), text.as_bytes());
+            assert_eq!(rt; output.as_slice(), text.as_bytes(), "{command} {most}");
             let GivesFew { left, most: _ } = input;
-            assert!(rt; left.is_empty());
+            assert!(rt; left.is_empty(), "{command} {most}");
         }
     }
 }
@@ -222,72 +220,47 @@ fn the_longest_job_is_answered(rt: HostRuntime) -> Result<(), Fail> {
     Ok(())
 }
 
-/// The status for these words, with an empty input.
-fn status_of<R: AllocGlobal + Threads + Wait + Sync>(rt: &R, words: &[&str]) -> u8 {
-    let (status, kept) = reply(rt, words, "");
-    let Kept { bytes: _, len: _ } = kept;
-    status
-}
-
-#[test]
-fn words_are_looked_at_first(rt: HostRuntime) {
-    assert_eq!(rt; status_of(&rt, &["ulfm"]), 2);
-    assert_eq!(rt; status_of(&rt, &["ulfm", "check", "x"]), 2);
-    assert_eq!(rt; status_of(&rt, &["ulfm", "--help"]), 0);
-}
-
-/// Whether the reply to these words has this status and begins with this text.
-fn begins<R: AllocGlobal + Threads + Wait + Sync>(
-    rt: &R,
-    words: &[&str],
-    status: u8,
-    text: &str,
-) -> bool {
-    let (answered, kept) = reply(rt, words, "");
-    let same = answered == status && kept.bytes[..kept.len].starts_with(text.as_bytes());
-    let Kept { bytes: _, len: _ } = kept;
-    same
-}
+/// Words, and the status and the beginning of the reply to them.
+const WORDS: [(&[&str], u8, &str); 6] = [
+    (
+        &["ulfm"],
+        2,
+        "error: 'ulfm' requires a subcommand but one was not provided\n  [subcommands: check, replay, run, help]\n\nUsage: ulfm <COMMAND>\n",
+    ),
+    (
+        &["ulfm", "bogus"],
+        2,
+        "error: unrecognized subcommand 'bogus'\n\nUsage: ulfm <COMMAND>\n",
+    ),
+    (
+        &["ulfm", "check", "x"],
+        2,
+        "error: unexpected argument 'x' found\n",
+    ),
+    (
+        &["ulfm", "help"],
+        0,
+        "MPI messages with ULFM recovery among the ranks of one program\n\nUsage: ulfm <COMMAND>\n",
+    ),
+    (
+        &["ulfm", "--help"],
+        0,
+        "MPI messages with ULFM recovery among the ranks of one program\n\nUsage: ulfm <COMMAND>\n",
+    ),
+    (
+        &["ulfm", "check", "--help"],
+        0,
+        "Says whether the job on standard input can be run\n\nUsage: ulfm check\n",
+    ),
+];
 
 #[test]
 fn usage_and_help_say_what_is_wanted(rt: HostRuntime) {
-    assert!(rt;
-        begins(
-            &rt,
-            &["ulfm"],
-            2,
-            "error: 'ulfm' requires a subcommand but one was not provided\n  [subcommands: check, replay, run, help]\n\nUsage: ulfm <COMMAND>\n"
-        )
-    );
-    assert!(rt;
-        begins(
-            &rt,
-            &["ulfm", "bogus"],
-            2,
-            "error: unrecognized subcommand 'bogus'\n\nUsage: ulfm <COMMAND>\n"
-        )
-    );
-    assert!(rt;
-        begins(
-            &rt,
-            &["ulfm", "help"],
-            0,
-            "MPI messages with ULFM recovery among the ranks of one program\n\nUsage: ulfm <COMMAND>\n"
-        )
-    );
-    assert!(rt;
-        begins(
-            &rt,
-            &["ulfm", "check", "--help"],
-            0,
-            "Says whether the job on standard input can be run\n\nUsage: ulfm check\n"
-        )
-    );
-}
-
-#[test]
-fn a_good_job_is_counted(rt: HostRuntime) {
-    let answer = reply(&rt, &["ulfm", "check"], ONE_LETTER);
-    assert!(rt; is_reply(&answer, 0, "job ok: 2 ranks 3 steps\n"));
-    let (_, Kept { bytes: _, len: _ }) = answer;
+    for (words, status, text) in WORDS {
+        let (answered, kept) = reply(&rt, words, "");
+        let begins = kept.bytes[..kept.len].starts_with(text.as_bytes());
+        let Kept { bytes: _, len: _ } = kept;
+        assert_eq!(rt; answered, status, "{text}");
+        assert!(rt; begins, "{text}");
+    }
 }

@@ -1,5 +1,6 @@
 -- What holds of the parts of a rank, each beside the log.
-use Rattle.std.specs.Prelude.{◌≡◌, ℕ, Bool, false, true, List, [], length, not, ◌&&◌, ◌==◌, ◌<◌, Option, Some, None, slice_index_or, if◌then◌else◌, All}
+use Rattle.std.specs.Prelude.{◌≡◌, ℕ, Bool, false, true, List, [], length, not, ◌&&◌, ◌==◌, ◌<◌, Option, Some, None, slice_index_or, if◌then◌else◌, All, map, nat_eq}
+use Rattle.std.specs.List.{IsDistinct}
 use Rattle.ulfm_base.specs.declared.item.Item.{Item}
 use Rattle.ulfm_base.specs.declared.item.Item.TheVariants.{Letter as Mail, Revoke}
 use Rattle.ulfm_base.specs.declared.pattern.Pattern.{Pattern}
@@ -66,6 +67,14 @@ pub record HasShrinks (me : ℕ) (log : List Entry) (rows : List (List (Option R
 -- a context by its number, with its group
 abbrev pub by_number : Context × List ℕ → ℕ × List ℕ
 by_number comm = (comm.0.number, comm.1)
+
+-- the number of a communicator's context
+abbrev pub number_of : Context × List ℕ → ℕ
+number_of comm = comm.0.number
+
+-- each communicator has a context of its own
+abbrev pub AreApart : List (Context × List ℕ) → Type 0
+AreApart made = IsDistinct nat_eq (map number_of made)
 
 -- each member of these communicators is a rank of the world
 abbrev pub AreOfWorld : ℕ → List (ℕ × List ℕ) → Type 0

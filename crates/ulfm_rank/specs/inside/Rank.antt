@@ -1,6 +1,6 @@
 -- What holds of the fields of a rank, and what contracts see of them.
 use Rattle.std.specs.Prelude.{◌≡◌, ℕ, Bool, ◌≤◌, ◌+◌, List, map, Option, nat_eq, nat_lt, ◌&&◌, if◌then◌else◌, vec_len, vec_capacity}
-use Rattle.indexmap.specs.IndexMap.{get, index_map_len}
+use Rattle.indexmap.specs.IndexMap.{get, index_map_len, spare}
 use Rattle.ulfm_fault.specs.Facts.{FaultState}
 use Rattle.ulfm_match.specs.State.{Matching}
 use Rattle.ulfm_rank.specs.declared.entry.Entry.{Entry}
@@ -36,9 +36,10 @@ pub record Holds (a : Inside) : Type 0 where
 abbrev pub state_of : Inside → State
 state_of a = record { me = a.me.number; ranks = a.ranks; log = a.log.items; marks = map mark_of a.outboxes.boxes }
 
--- there is room for a post or an arrival, for one more entry, and in each outbox
+-- there is room for a post or an arrival, for one more entry and the release of one more request, for that request, and
+-- in each outbox
 abbrev pub is_prepared : Inside → Bool
-is_prepared a = a.matcher.prepared && (nat_lt (vec_len a.log + (index_map_len a.requests + stop_places a.stopped)) (vec_capacity a.log) && a.outboxes.room)
+is_prepared a = a.matcher.prepared && (nat_lt (vec_len a.log + (index_map_len a.requests + stop_places a.stopped) + 1) (vec_capacity a.log) && (nat_lt (index_map_len a.requests) (index_map_len a.requests + spare a.requests) && a.outboxes.room))
 
 -- what contracts see of the fields of a rank
 abbrev pub view_of : Inside → View

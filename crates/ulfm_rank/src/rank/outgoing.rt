@@ -18,7 +18,7 @@ impl Rank {
         dest == self.me.number || self.outboxes.is_notice_out(dest)
     }
 
-    /// The first item of the outbox towards a rank goes out, if there is one. It takes no memory.
+    /// The first item of the outbox towards a rank goes out, if there is one. It can't run out of memory.
     pub fn take_out(&mut self, dest: u8) -> Option<Item>
         requires { dest < self.old.state.ranks }
         ensures leaves { IfSome result (λ item. GoesOut self.old.state self.new.state dest item) }
@@ -36,7 +36,7 @@ impl Rank {
         Some(Item::Gone)
     }
 
-    /// The item that went out last comes back to the front of its outbox. It takes no memory.
+    /// The item that went out last comes back to the front of its outbox. It can't run out of memory.
     ///
     /// The rank's last call was `take_out` of this outbox, and gave this item.
     pub fn put_back(&mut self, dest: u8, item: Item)

@@ -69,6 +69,7 @@ impl Rank {
         ensures request { IfOk result (λ id. (i : ℕ) × (pattern : Pattern) × IsRequest self.new.state.log id.number i pattern) }
         ensures refused { IfErr result (FailsOrStarves (receive_checks self.old.state comm.context.number source)) }
         ensures unchanged { OnErr result (self.new.state ≡ self.old.state) }
+        ensures room_lacked { IfErr result (λ e. e ≡ CallError.OutOfMemory → self.old.prepared ≡ false) }
         ensures stays_prepared { OnErr result (IsTrue self.old.prepared → IsTrue self.new.prepared) }
     {
         let pattern = self.pattern_of(comm, source, tag, room)?;
@@ -86,7 +87,8 @@ impl Rank {
         Ok(id)
     }
 
-    /// Tests a request (MPI 4.0, 3.7.3). An answer `Done` or `Over` releases it. It takes no memory.
+    /// Tests a request (MPI 4.0, 3.7.3). An answer `Done` or `Over` releases it. It never answers out of
+    /// memory.
     ///
     /// # Errors
     ///
@@ -98,10 +100,10 @@ impl Rank {
         ensures pairing { OnOk result ((pairing : Pairing) × LawfulPairing (history_of self.old.state.log) pairing) }
         ensures running { OnOk result (is_stopped self.old.state.log ≡ false) }
         ensures released { IfOk result (λ answer. is_release answer ≡ true → self.new.state ≡ logged self.old.state (Entry.Released id answer)) }
-        ensures stays { IfOk result (λ answer. is_release answer ≡ false → self.new.state ≡ self.old.state) }
+        ensures stays { IfOk result (λ answer. is_release answer ≡ false → self.new ≡ self.old) }
         ensures refused { IfErr result (IsTestRefusal self.old.state.log id.number) }
         ensures unchanged { OnErr result (self.new ≡ self.old) }
-        ensures prepared { self.new.prepared ≡ self.old.prepared }
+        ensures stays_prepared { IsTrue self.old.prepared → IsTrue self.new.prepared }
     {
         if self.stopped {
             return Err(CallError::Stopped);

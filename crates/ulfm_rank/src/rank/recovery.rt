@@ -1,8 +1,8 @@
 //! Failures, revocations and the rank's own stop (ULFM).
-ghost use Rattle.std.specs.Prelude.{◌≡◌, [], false, IfOk, IfErr, IsTrue, OnOk, OnErr};
+ghost use Rattle.std.specs.Prelude.{◌≡◌, ◌<◌, [], true, false, IfOk, IfErr, IsTrue, OnOk, OnErr};
 ghost use Rattle.ulfm_rank.specs.Calls.{acknowledging, revoking, stopping};
 ghost use Rattle.ulfm_rank.specs.Checks.{Passes, Fails, FailsOrStarves, group_at, comm_checks};
-ghost use Rattle.ulfm_rank.specs.Facts.{is_revoked, known_in, ack_answer};
+ghost use Rattle.ulfm_rank.specs.Facts.{is_revoked, known_in, acknowledged_of, ack_answer};
 
 use super::Rank;
 use crate::entry::{Comm, Entry};
@@ -11,9 +11,10 @@ use crate::requests::clear;
 use ulfm_base::{CallError, Group};
 
 impl Rank {
-    /// The rank stops (ULFM: it fails). Again it changes nothing. It takes no memory.
+    /// The rank stops (ULFM: it fails). Again it changes nothing. It can't run out of memory.
     pub fn stop(&mut self)
-        ensures { self.new.state ≡ stopping self.old.state }
+        ensures state { self.new.state ≡ stopping self.old.state }
+        ensures prepared { self.new.prepared ≡ self.old.prepared }
     {
         if self.stopped {
             return;
@@ -23,7 +24,7 @@ impl Rank {
     }
 
     /// The members of a communicator that are known to have failed, in the order in which their notices were taken
-    /// (ULFM, `MPI_Comm_get_failed`). It takes no memory.
+    /// (ULFM, `MPI_Comm_get_failed`). It never answers out of memory.
     ///
     /// # Errors
     ///
@@ -39,28 +40,32 @@ impl Rank {
 
     /// Acknowledges the first `n` failures that are known in a communicator's group, or all of them where fewer are
     /// known, and never fewer than before (ULFM, `MPI_Comm_ack_failed`). Answers how many are acknowledged now.
+    /// Where that is the number from before, nothing changes.
     ///
     /// # Errors
     ///
     /// `Stopped` where the rank has stopped, else `NoComm` where the communicator wasn't made, else `OutOfMemory` where
-    /// a growth was refused. Then nothing changed.
+    /// the total would rise and a growth was refused. Then nothing changed.
     pub fn ack_failed(&mut self, comm: Comm, n: u8) -> Result<u8, CallError>
         ensures accepted { OnOk result (Passes (comm_checks self.old.state comm.context.number [])) }
         ensures total { IfOk result (λ total. total ≡ ack_answer self.old.state.log (group_at self.old.state comm.context.number) comm.context.number n) }
         ensures state { IfOk result (λ total. self.new.state ≡ acknowledging self.old.state comm.context total) }
         ensures refused { IfErr result (FailsOrStarves (comm_checks self.old.state comm.context.number [])) }
+        ensures grows { IfErr result (λ e. e ≡ CallError.OutOfMemory → acknowledged_of self.old.state.log comm.context.number < ack_answer self.old.state.log (group_at self.old.state comm.context.number) comm.context.number n) }
+        ensures idle { ack_answer self.old.state.log (group_at self.old.state comm.context.number) comm.context.number n ≡ acknowledged_of self.old.state.log comm.context.number → self.new ≡ self.old }
         ensures unchanged { OnErr result (self.new.state ≡ self.old.state) }
         ensures room_lacked { IfErr result (λ e. e ≡ CallError.OutOfMemory → self.old.prepared ≡ false) }
         ensures stays_prepared { OnErr result (IsTrue self.old.prepared → IsTrue self.new.prepared) }
     {
         let group = self.running_group(comm)?.copied();
-        self.log.reserve(self.requests.len() + 2)?;
         let before = self.faults.acknowledged(comm.context);
-        let total = self.faults.ack(comm.context, &group, n);
-        if before < total {
-            self.log
-                .push_reserved(Entry::Acknowledged(comm.context, total));
+        if n.min(self.faults.known_in(&group).size()) <= before {
+            return Ok(before);
         }
+        self.log.reserve(self.requests.len() + 2)?;
+        let total = self.faults.ack(comm.context, &group, n);
+        self.log
+            .push_reserved(Entry::Acknowledged(comm.context, total));
         Ok(total)
     }
 
@@ -76,6 +81,7 @@ impl Rank {
         ensures state { OnOk result (self.new.state ≡ revoking self.old.state comm.context) }
         ensures refused { IfErr result (FailsOrStarves (comm_checks self.old.state comm.context.number [])) }
         ensures grows { IfErr result (λ e. e ≡ CallError.OutOfMemory → is_revoked self.old.state.log comm.context.number ≡ false) }
+        ensures idle { is_revoked self.old.state.log comm.context.number ≡ true → self.new ≡ self.old }
         ensures unchanged { OnErr result (self.new.state ≡ self.old.state) }
         ensures room_lacked { IfErr result (λ e. e ≡ CallError.OutOfMemory → self.old.prepared ≡ false) }
         ensures stays_prepared { OnErr result (IsTrue self.old.prepared → IsTrue self.new.prepared) }

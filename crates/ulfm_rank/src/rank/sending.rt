@@ -1,4 +1,4 @@
-//! Sends and communicators (MPI 4.0, 3 and 7).
+//! Sends and communicators (MPI 4.0, chapters 3 and 7).
 ghost use Rattle.std.specs.Prelude.{◌≡◌, ◌<◌, [], ◌∷◌, false, length, slice_get, IfOk, IfErr, IsTrue, OnOk, OnErr, Some, None};
 ghost use Rattle.ulfm_base.specs.Context.{dup_of};
 ghost use Rattle.ulfm_rank.specs.Calls.{Sends};
@@ -11,7 +11,7 @@ use crate::entry::{Comm, Entry};
 use ulfm_base::{Body, CallError, Context, Envelope, Group, Letter, Tag, WorldRank};
 
 impl Rank {
-    /// The group of a communicator (MPI 4.0, 7.4.1, `MPI_Comm_group`). It takes no memory.
+    /// The group of a communicator (MPI 4.0, 7.3.2, `MPI_Comm_group`). It never answers out of memory.
     ///
     /// # Errors
     ///
@@ -79,7 +79,8 @@ impl Rank {
         Ok(to)
     }
 
-    /// Duplicates a communicator: the new one has the same group (MPI 4.0, 7.4.2, `MPI_Comm_dup`).
+    /// Duplicates a communicator: the new one has the same group (MPI 4.0, 7.4.2, `MPI_Comm_dup`). It is made at this
+    /// rank alone, where MPI's call is collective.
     ///
     /// # Errors
     ///
@@ -92,6 +93,7 @@ impl Rank {
         ensures state { OnOk result (self.new.state ≡ logged self.old.state (Entry.Duplicated comm.context)) }
         ensures refused { IfErr result (FailsOrStarves (dup_checks self.old.state comm.context.number)) }
         ensures unchanged { OnErr result (self.new.state ≡ self.old.state) }
+        ensures room_lacked { IfErr result (λ e. e ≡ CallError.OutOfMemory → self.old.prepared ≡ false) }
         ensures stays_prepared { OnErr result (IsTrue self.old.prepared → IsTrue self.new.prepared) }
     {
         let group = self.running_group(comm)?.copied();
@@ -104,7 +106,7 @@ impl Rank {
         }
         let context = Context::new(number).ok_or(CallError::NoContext)?;
         self.log.reserve(self.requests.len() + 2)?;
-        self.communicators.add(context, group)?;
+        self.communicators.add(context, group);
         self.log.push_reserved(Entry::Duplicated(comm.context));
         Ok(Comm { context })
     }

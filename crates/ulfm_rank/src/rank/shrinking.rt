@@ -55,7 +55,7 @@ impl Rank {
 
     /// What the rank proposes for a shrink that it entered, once each member is listed, by its own entry or by one that
     /// was heard of, or excluded, as one that a listed member or the rank itself knows to have failed (ULFM,
-    /// `MPI_Comm_shrink`). It takes no memory.
+    /// `MPI_Comm_shrink`). It never answers out of memory.
     ///
     /// # Errors
     ///
@@ -83,18 +83,19 @@ impl Rank {
     /// a decision of its shrink was adopted before, else `NotEntered` where its shrink wasn't entered, else `NotMember`
     /// where the decision isn't about this communicator's context and group, or its new group lacks this rank, or it
     /// lists this rank, or another one whose entry was heard of, with another set than that of this entry, else
-    /// `OutOfMemory` where a growth was refused. Then nothing changed.
+    /// `OutOfMemory` where a growth was refused. Then nothing changed, and the decision that was handed over is dropped.
     pub fn adopt(&mut self, comm: Comm, decision: Decision) -> Result<Comm, CallError>
         ensures accepted { OnOk result (Passes (adopt_checks self.old.state comm.context.number decision)) }
         ensures made { IfOk result (λ made. made.context.number ≡ shrink_of comm.context.number) }
         ensures state { OnOk result (self.new.state ≡ logged self.old.state (Entry.Adopted decision)) }
         ensures refused { IfErr result (FailsOrStarves (adopt_checks self.old.state comm.context.number decision)) }
         ensures unchanged { OnErr result (self.new.state ≡ self.old.state) }
+        ensures room_lacked { IfErr result (λ e. e ≡ CallError.OutOfMemory → self.old.prepared ≡ false) }
         ensures stays_prepared { OnErr result (IsTrue self.old.prepared → IsTrue self.new.prepared) }
     {
         let context = self.shrunk_context(comm, &decision)?;
         self.log.reserve(self.requests.len() + 2)?;
-        self.communicators.add(context, decision.fresh.copied())?;
+        self.communicators.add(context, decision.fresh.copied());
         self.log.push_reserved(Entry::Adopted(decision));
         Ok(Comm { context })
     }

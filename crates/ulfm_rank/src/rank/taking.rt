@@ -12,7 +12,7 @@ use crate::requests::settle;
 use ulfm_base::{Item, OutOfMemory, WorldRank};
 
 impl Rank {
-    /// Makes room for one `take`.
+    /// Makes room for one `take` or one call.
     ///
     /// # Errors
     ///
@@ -23,24 +23,29 @@ impl Rank {
         ensures room_lacked { OnErr result (self.old.prepared ≡ false) }
         ensures stays_prepared { IsTrue self.old.prepared → IsTrue self.new.prepared }
     {
-        let places = self.requests.len() + stop_places(self.stopped) + 1;
+        let places = self.requests.len() + stop_places(self.stopped) + 2;
         self.log.reserve(places)?;
+        self.requests.reserve(1)?;
         self.matcher.prepare()?;
         self.outboxes.reserve()
     }
 
-    /// Whether there is room for one `take`.
+    /// Whether there is room for one `take` or one call.
     pub fn is_prepared(&self) -> bool
         ensures { result ≡ self.now.prepared }
     {
-        let places = self.log.len() + self.requests.len() + stop_places(self.stopped);
-        self.matcher.is_prepared() && places < self.log.capacity() && self.outboxes.has_room()
+        let places = self.log.len() + self.requests.len() + stop_places(self.stopped) + 1;
+        self.matcher.is_prepared()
+            && places < self.log.capacity()
+            && self.requests.len() < self.requests.capacity()
+            && self.outboxes.has_room()
     }
 
     /// Takes an item that came from a rank. A letter is handed to the earliest receive that takes it, or kept, or
     /// dropped where its communicator is revoked. The notice of a stop ends the receives that name its sender. The
     /// first notice that a communicator is revoked ends its receives, and is passed on to the other ranks. The first
-    /// word of another rank's entry into a shrink is kept. It takes no memory: the room that `prepare` made is used up.
+    /// word of another rank's entry into a shrink is kept. It can't run out of memory: the room that `prepare` made is
+    /// used up.
     pub fn take(&mut self, source: WorldRank, item: Item)
         requires prepared { IsTrue self.old.prepared }
         requires running { is_stopped self.old.state.log ≡ false }

@@ -200,7 +200,7 @@ fn left_by_three(rt: HostRuntime) -> Result<(), Fail> {
 fn rings_of_their_capacity(rt: HostRuntime) -> Result<(), Fail> {
     for capacity in [1, 2, 64] {
         let mut ends = lanes(rt.alloc(), 2, capacity)?;
-        assert_eq!(rt; room_of(&mut ends)?, capacity);
+        assert_eq!(rt; room_of(&mut ends)?, capacity, "capacity {capacity}");
     }
     Ok(())
 }
@@ -231,10 +231,16 @@ fn senders_in_turn(rt: HostRuntime) -> Result<(), Fail> {
 #[test]
 fn sizes_in_range(rt: HostRuntime) {
     for (n, capacity) in [(0, 1), (9, 1), (1, 0), (1, 65), (0, 65)] {
-        assert!(rt; matches!(lanes(rt.alloc(), n, capacity), Err(CallError::BadSize)));
+        assert!(rt;
+            matches!(lanes(rt.alloc(), n, capacity), Err(CallError::BadSize)),
+            "{n} ranks, capacity {capacity}"
+        );
     }
     for (n, capacity) in [(1, 1), (8, 64)] {
-        assert!(rt; lanes(rt.alloc(), n, capacity).is_ok());
+        assert!(rt;
+            lanes(rt.alloc(), n, capacity).is_ok(),
+            "{n} ranks, capacity {capacity}"
+        );
     }
 }
 

@@ -117,10 +117,24 @@ fn shared_ends_for_threads(rt: HostRuntime) -> Result<(), Fail> {
 fn inboxes_of_their_capacity(rt: HostRuntime) -> Result<(), Fail> {
     for (ranks, capacity) in [(2, 1), (2, 2), (2, 64), (8, 1), (8, 64)] {
         let mut ends = shared(rt.alloc(), ranks, capacity)?;
-        assert!(rt; accepts_all(&rt, &mut ends, ranks, capacity)?);
-        assert_eq!(rt; push(&rt, &mut ends, 0, b'A')?, Some(b'A'));
-        assert_eq!(rt; push(&rt, &mut ends, ranks - 1, b'B')?, Some(b'B'));
-        assert!(rt; finds_all(&rt, &mut ends, ranks, capacity));
+        assert!(rt;
+            accepts_all(&rt, &mut ends, ranks, capacity)?,
+            "{ranks} ranks, capacity {capacity}"
+        );
+        assert_eq!(rt;
+            push(&rt, &mut ends, 0, b'A')?,
+            Some(b'A'),
+            "{ranks} ranks, capacity {capacity}"
+        );
+        assert_eq!(rt;
+            push(&rt, &mut ends, ranks - 1, b'B')?,
+            Some(b'B'),
+            "{ranks} ranks, capacity {capacity}"
+        );
+        assert!(rt;
+            finds_all(&rt, &mut ends, ranks, capacity),
+            "{ranks} ranks, capacity {capacity}"
+        );
     }
     Ok(())
 }
@@ -128,9 +142,15 @@ fn inboxes_of_their_capacity(rt: HostRuntime) -> Result<(), Fail> {
 #[test]
 fn shared_sizes_in_range(rt: HostRuntime) {
     for (n, capacity) in [(0, 1), (9, 1), (1, 0), (1, 65), (0, 65)] {
-        assert!(rt; matches!(shared(rt.alloc(), n, capacity), Err(CallError::BadSize)));
+        assert!(rt;
+            matches!(shared(rt.alloc(), n, capacity), Err(CallError::BadSize)),
+            "{n} ranks, capacity {capacity}"
+        );
     }
     for (n, capacity) in [(1, 1), (8, 64)] {
-        assert!(rt; shared(rt.alloc(), n, capacity).is_ok());
+        assert!(rt;
+            shared(rt.alloc(), n, capacity).is_ok(),
+            "{n} ranks, capacity {capacity}"
+        );
     }
 }

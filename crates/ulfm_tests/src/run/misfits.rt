@@ -53,7 +53,10 @@ fn backwards(alloc: Global) -> Result<Vec<LaneEnds>, Fail>
 fn another_number_of_ends_or_deciders(rt: HostRuntime) -> Result<(), Fail> {
     let alloc = rt.alloc();
     for (ends, deciders) in [(2, 3), (4, 3), (3, 2), (3, 4)] {
-        assert!(rt; is_bad_with(&rt, alloc, ends, deciders)?);
+        assert!(rt;
+            is_bad_with(&rt, alloc, ends, deciders)?,
+            "{ends} ends, {deciders} deciders"
+        );
     }
     assert!(rt; !is_bad_with(&rt, alloc, 3, 3)?);
     Ok(())

@@ -1,10 +1,10 @@
-use Rattle.std.proofs.Common.{ap, ap₂, refl, sym, subst, inl, inr, ◌≡◌, ◌⊎◌, ◌∙◌, map, true, option_map}
+use Rattle.std.proofs.Common.{ap, ap₂, refl, sym, subst, inl, inr, ◌≡◌, ◌⊎◌, ◌∙◌, map, true}
 use Rattle.std.proofs.lemmas.Result.{err_from_is_err_and}
 use Rattle.clap.specs.declared.error.kind.ErrorKind.TheVariants.{OutOfMemory}
 use Rattle.clap.specs.Kinds.{HasKind, or_else}
 use Rattle.clap.specs.Words.{App, Kinds, IsAmong, fault_of, is_simple, is_simple_and_free, subcommand_of}
 use Rattle.clap.proofs.OnLiterals.{clap_on_literals}
-use Rattle.ulfm.specs.Words.{tool_app, asked, choice, faults, meant, unmeant}
+use Rattle.ulfm.specs.Words.{tool_app, asked, faults, meant, unmeant}
 use Rattle.ulfm.proofs.Parsed.{among_first}
 use Rattle.ulfm.proofs.command.wanted_of.Goals as goal
 
@@ -29,14 +29,14 @@ unfolding asked
 returns-in-Some-clause-ok g c =
     let words = map g.S.AsStr.text c.args.words.now in
     let matched = c.in_ok-matches.ensures.ok.2 (ap is_simple c.in_ok-command.ensures ∙ simple) in
-    sym (c.in-Some.ensures ∙ ap (λ rows. meant (option_map choice rows)) (matched.1 ∙ ap (λ (a : App). subcommand_of a words) c.in_ok-command.ensures))
+    sym (c.in-Some.ensures.exact ∙ ap meant (matched.1 ∙ ap (λ (a : App). subcommand_of a words) c.in_ok-command.ensures))
 
 pub returns-in-Some-clause-kinds : goal.returns-in-Some-clause-kinds
 unfolding faults asked
 returns-in-Some-clause-kinds g c =
     let words = map g.S.AsStr.text c.args.words.now in
     let matched = c.in_ok-matches.ensures.ok.2 (ap is_simple c.in_ok-command.ensures ∙ simple) in
-    let means = c.in-Some.ensures ∙ ap (λ rows. meant (option_map choice rows)) (matched.1 ∙ ap (λ (a : App). subcommand_of a words) c.in_ok-command.ensures) in
+    let means = c.in-Some.ensures.exact ∙ ap meant (matched.1 ∙ ap (λ (a : App). subcommand_of a words) c.in_ok-command.ensures) in
     let none = ap (λ (a : App). fault_of a words) (sym c.in_ok-command.ensures) ∙ c.in_ok-matches.ensures.kinds (ap is_simple_and_free c.in_ok-command.ensures ∙ free) in
     ap₂ or_else none (ap unmeant (sym means))
 
@@ -45,7 +45,7 @@ unfolding faults asked
 returns-clause-kinds g c =
     let words = map g.S.AsStr.text c.args.words.now in
     let matched = c.in_ok-matches.ensures.ok.2 (ap is_simple c.in_ok-command.ensures ∙ simple) in
-    let means = c.in-None.ensures ∙ ap (λ rows. meant (option_map choice rows)) (matched.1 ∙ ap (λ (a : App). subcommand_of a words) c.in_ok-command.ensures) in
+    let means = c.in-None.ensures.exact ∙ ap meant (matched.1 ∙ ap (λ (a : App). subcommand_of a words) c.in_ok-command.ensures) in
     let none = ap (λ (a : App). fault_of a words) (sym c.in_ok-command.ensures) ∙ c.in_ok-matches.ensures.kinds (ap is_simple_and_free c.in_ok-command.ensures ∙ free) in
     let H : Kinds → Type 0 = λ (kinds : Kinds). HasKind kinds c.in_ok-unknown_carrier-in-None.field-0 in
     subst H (sym (ap₂ or_else none (ap unmeant (sym means)))) (inr (inl c.in_ok-unknown_carrier-in-None.ensures))

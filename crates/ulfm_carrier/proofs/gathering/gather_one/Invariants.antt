@@ -1,8 +1,5 @@
 use Rattle.std.proofs.Common.{◌≡◌, ◌<◌, ◌≤◌, ◌+◌, ◌++◌, ℕ, [], map, sum, drop, get_or, vec_len, vec_capacity}
-use Rattle.ulfm_carrier.specs.declared.inlet.Inlet.{Inlet}
-use Rattle.ulfm_base.specs.Items.{items_from}
-use Rattle.ulfm_base.specs.Lists.{at}
-use Rattle.ulfm_carrier.specs.Lanes.{inlet_name, inlet_capacity, taken_by, IsOpenRing}
+use Rattle.ulfm_carrier.proofs.Common.{at, Inlet, inlet_capacity, inlet_name, IsOpenRing, items_from, taken_by}
 use Rattle.ulfm_carrier.proofs.Views.{view, pushed_at}
 use Rattle.ulfm_carrier.proofs.gathering.gather_one.Given as goal
 

@@ -1,5 +1,5 @@
 use Rattle.std.proofs.Common.{ap, inr}
-use Rattle.ulfm_carrier.specs.declared.inbox.View.{View}
+use Rattle.ulfm_carrier.proofs.Common.{View}
 use Rattle.ulfm_carrier.proofs.Rule.{takes, sees_own}
 use Rattle.ulfm_carrier.proofs.own_inbox.receive_own.Goals as goal
 

@@ -1,5 +1,5 @@
 use Rattle.std.proofs.Common.{ap}
-use Rattle.ulfm_carrier.specs.declared.inbox.View.{View}
+use Rattle.ulfm_carrier.proofs.Common.{View}
 use Rattle.ulfm_carrier.proofs.Owners.{lends, owns}
 use Rattle.ulfm_carrier.proofs.own_inbox.unite.Goals as goal
 

@@ -1,11 +1,7 @@
 use Rattle.std.proofs.Common.{◌≡◌, ◌+◌, ℕ, length, ap, sym, ◌∙◌, arith, subst}
-use Rattle.std.proofs.lemmas.List.{length_push}
-use Rattle.std.specs.declared.alloc.Global.{Global}
-use Rattle.std.specs.declared.vec.Vec.{Vec}
-use Rattle.ulfm_base.specs.Lists.{at}
-use Rattle.ulfm_carrier.specs.Inbox.{InboxPass}
+use Rattle.ulfm_carrier.proofs.Common.{at, Global, InboxPass, length_push, Vec}
 use Rattle.ulfm_carrier.specs.inside.Seating.{AreInlets, AreOuts, AreRows}
-use Rattle.ulfm_carrier.proofs.Gathered.{each_push, none_at}
+use Rattle.ulfm_carrier.proofs.Places.{each_push, none_at}
 use Rattle.ulfm_carrier.proofs.Seats.{open_inlets, more_inlets, new_outs}
 use Rattle.ulfm_carrier.proofs.seating.all_outs.Goals as goal
 
@@ -14,7 +10,7 @@ loop-init c =
     let none = ap length c.in_ok-rows.ensures.items in record {
       many = c.requires.len.1;
       inlets = c.requires.inlets;
-      rows = (none, λ s o here. absurd (none_at c.in_ok-rows.rows.items s o none here));
+      rows = (none, λ s o here. absurd (none_at c.in_ok-rows.rows.items s none here));
     }
 
 pub next_outs-requires-clause-inlets : goal.next_outs-requires-clause-inlets
@@ -22,12 +18,8 @@ next_outs-requires-clause-inlets c = open_inlets c.loop.counter c.args.inboxes.n
 
 pub loop-preserved : goal.loop-preserved
 loop-preserved c =
-    let kept = c.loop.invariant in
-    let boxes = c.args.inboxes.now.items in
-    let inlets = c.loop.inlets.items in
-    let rows = c.loop.rows.items in
-    let outs = c.in_ok-outs.outs in
-    let made = c.in_ok-outs.ensures in
+    let kept = c.loop.invariant in let boxes = c.args.inboxes.now.items in let inlets = c.loop.inlets.items in
+    let rows = c.loop.rows.items in let outs = c.in_ok-outs.outs in let made = c.in_ok-outs.ensures in
     let more = c.in_ok-push.ensures.items in
     let P : ℕ → Vec InboxPass Global → Type 0 = λ s o. AreOuts s boxes o.items in record {
       many = made.len ∙ kept.many;
@@ -42,9 +34,9 @@ loop-preserved c =
 pub returns-clause-inlets : goal.returns-clause-inlets
 returns-clause-inlets c =
     let all : c.loop.counter ≡ c.args.n = omega (arith, c.loop-test.false, c.loop.auto) in
-    let I : ℕ → Type 0 = λ m. AreInlets m c.args.inboxes.now.items c.loop.inlets.items in subst I all c.loop.invariant.inlets
+    subst (λ (m : ℕ). AreInlets m c.args.inboxes.now.items c.loop.inlets.items) all c.loop.invariant.inlets
 
 pub returns-clause-rows : goal.returns-clause-rows
 returns-clause-rows c =
     let all : c.loop.counter ≡ c.args.n = omega (arith, c.loop-test.false, c.loop.auto) in
-    let R : ℕ → Type 0 = λ m. AreRows m c.args.inboxes.now.items c.loop.rows.items in subst R all c.loop.invariant.rows
+    subst (λ (m : ℕ). AreRows m c.args.inboxes.now.items c.loop.rows.items) all c.loop.invariant.rows

@@ -1,5 +1,5 @@
 use Rattle.std.proofs.Common.{◌≡◌, length}
-use Rattle.ulfm_carrier.specs.inside.Seating.{AreInboxes, AreInlets}
+use Rattle.ulfm_carrier.proofs.Common.{AreInboxes, AreInlets}
 use Rattle.ulfm_carrier.proofs.seating.new_inboxes.Given as goal
 
 abbrev pub invariant-loop : goal.invariant-loop

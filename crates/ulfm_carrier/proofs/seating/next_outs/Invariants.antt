@@ -1,9 +1,6 @@
 use Rattle.std.proofs.Common.{◌≡◌, ◌≤◌, ◌<◌, ℕ, length, slice_get}
-use Rattle.crossbeam_queue.specs.Passes.{view, IsSamePass}
-use Rattle.ulfm_base.specs.Lists.{at}
-use Rattle.ulfm_carrier.specs.Inbox.{InboxPass}
+use Rattle.ulfm_carrier.proofs.Common.{AreNextOuts, at, InboxPass, IsSamePass, view}
 use Rattle.ulfm_carrier.specs.inside.Passes.{one_more}
-use Rattle.ulfm_carrier.specs.inside.Seating.{AreNextOuts}
 use Rattle.ulfm_carrier.proofs.seating.next_outs.Given as goal
 
 abbrev pub invariant-loop-dest : goal.invariant-loop-dest

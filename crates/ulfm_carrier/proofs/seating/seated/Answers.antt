@@ -1,13 +1,8 @@
-use Rattle.std.proofs.Common.{◌≡◌, ◌<◌, ◌≤◌, ◌++◌, ℕ, List, length, map, refl, ap, sym, ◌∙◌, arith, subst, vec_capacity}
-use Rattle.std.specs.Arc.{arc_value}
+use Rattle.std.proofs.Common.{◌≡◌, ◌<◌, ◌≤◌, ◌++◌, ℕ, length, map, refl, ap, sym, ◌∙◌, arith, subst, vec_capacity}
 use Rattle.std.specs.Vec.Iter.{into_iter_items}
-use Rattle.std.proofs.lemmas.List.{length_push, length-set}
-use Rattle.ulfm_carrier.specs.declared.shared_ends.SharedEnds.{SharedEnds}
-use Rattle.ulfm_base.specs.Lists.{at}
-use Rattle.ulfm_carrier.specs.Inbox.{InboxPass}
+use Rattle.ulfm_carrier.proofs.Common.{arc_value, at, length-set, length_push, SharedEnds}
 use Rattle.ulfm_carrier.specs.inside.Seating.{AreOuts, IsMade}
-use Rattle.ulfm_carrier.proofs.Places.{at_read, at_other}
-use Rattle.ulfm_carrier.proofs.Gathered.{each_push, none_at}
+use Rattle.ulfm_carrier.proofs.Places.{at_read, at_other, each_push, none_at}
 use Rattle.ulfm_carrier.proofs.Seats.{inlet_next, inlets_next}
 use Rattle.ulfm_carrier.proofs.seating.seated.Goals as goal
 
@@ -19,56 +14,49 @@ loop-inlet-init c =
       count = omega (arith, ap length none, items.1, c.args.inlets.ok);
       many = c.requires.rows.0;
       waiting = λ j late. refl;
-      each = λ k e here. absurd (none_at c.in_ok-ends.ends.items k e (ap length none) here);
+      each = λ k e here. absurd (none_at c.in_ok-ends.ends.items k (ap length none) here);
     }
 
 pub index_mut-requires : goal.index_mut-requires
 index_mut-requires c =
     let kept = c.loop-inlet.invariant in
-    let next = inlet_next c.loop-inlet.ends.items (into_iter_items c.loop-inlet.inlet-iterator) (into_iter_items c.next.new.self) c.args.inlets.items c.in-Some.inlet kept.inlets c.in-Some.ensures.steps.0 in
+    let next = inlet_next c.loop-inlet.ends.items kept.inlets c.in-Some.ensures.steps.0 in
     omega (arith, next.0, kept.many, c.len-place.ensures, c.loop-inlet.ends.ok, c.loop-inlet.rows.ok)
 
 pub overflow_cast-place : goal.overflow_cast-place
 overflow_cast-place c =
     let kept = c.loop-inlet.invariant in
-    let next = inlet_next c.loop-inlet.ends.items (into_iter_items c.loop-inlet.inlet-iterator) (into_iter_items c.next.new.self) c.args.inlets.items c.in-Some.inlet kept.inlets c.in-Some.ensures.steps.0 in
+    let next = inlet_next c.loop-inlet.ends.items kept.inlets c.in-Some.ensures.steps.0 in
     omega (arith, next.0, c.requires.few, c.len-place.ensures, c.loop-inlet.ends.ok)
 
 pub invariant_of-push : goal.invariant_of-push
 invariant_of-push c =
     let kept = c.loop-inlet.invariant in
-    let next = inlet_next c.loop-inlet.ends.items (into_iter_items c.loop-inlet.inlet-iterator) (into_iter_items c.next.new.self) c.args.inlets.items c.in-Some.inlet kept.inlets c.in-Some.ensures.steps.0 in
+    let next = inlet_next c.loop-inlet.ends.items kept.inlets c.in-Some.ensures.steps.0 in
     omega (arith, next.0, c.requires.few, c.len-place.ensures, c.loop-inlet.ends.ok)
 
 pub loop-inlet-preserved : goal.loop-inlet-preserved
 loop-inlet-preserved c =
-    let kept = c.loop-inlet.invariant in
-    let ends = c.loop-inlet.ends.items in
-    let rows = c.loop-inlet.rows.items in
-    let all = c.args.inlets.items in
-    let boxes = (arc_value c.args.inboxes.now).items in
-    let inlet = c.in-Some.inlet in
-    let left = into_iter_items c.loop-inlet.inlet-iterator in
-    let left' = into_iter_items c.next.new.self in
-    let next = inlet_next ends left left' all inlet kept.inlets c.in-Some.ensures.steps.0 in
+    let kept = c.loop-inlet.invariant in let ends = c.loop-inlet.ends.items in let rows = c.loop-inlet.rows.items in
+    let all = c.args.inlets.items in let boxes = (arc_value c.args.inboxes.now).items in let inlet = c.in-Some.inlet in
+    let left = into_iter_items c.loop-inlet.inlet-iterator in let left' = into_iter_items c.next.new.self in
+    let next = inlet_next ends kept.inlets c.in-Some.ensures.steps.0 in
     let place : c.len-place.result ≡ length ends = omega (arith, c.len-place.ensures, c.loop-inlet.ends.ok) in
-    let more = c.in_ok-push.ensures.items in
-    let lefts = c.in_ok-with_capacity.ensures in
+    let more = c.in_ok-push.ensures.items in let lefts = c.in_ok-with_capacity.ensures in
     let lists = c.in_ok-with_capacity-2.ensures in
     let room : c.args.capacity ≤ vec_capacity c.in_ok-with_capacity.field-0 = omega (arith, lefts.exact) in
     let places : length all ≤ vec_capacity c.in_ok-with_capacity-2.field-0 = omega (arith, lists.exact, c.len-count.ensures, c.args.inlets.ok) in
     let longer = ap length more ∙ length_push ends _ in
     let row = c.index_mut.result.now in
     let low : c.len-place.result < length rows = omega (arith, next.0, kept.many, place) in
-    let at_row = at_read rows c.len-place.result row low c.index_mut.ensures.value in
+    let at_row = at_read rows c.len-place.result low c.index_mut.ensures.value in
     let at_old = sym (kept.waiting c.len-place.result (omega (arith, place))) ∙ at_row in
-    let A : ℕ → Type 0 = λ k. at c.args.rows.now.items k row in
-    let outs = c.requires.rows.1 (length ends) row (subst A place at_old) in
+    let outs = c.requires.rows.1 (length ends) row (subst (λ (k : ℕ). at c.args.rows.now.items k row) place at_old) in
     let mine = ap (λ v. v.items) c.replace-outs.ensures.value in
-    let O : List InboxPass → Type 0 = AreOuts (length ends) boxes in
-    let P : ℕ → SharedEnds → Type 0 = IsMade (length all) c.args.capacity boxes in
+    let O = AreOuts (length ends) boxes in
+    let P = IsMade (length all) c.args.capacity boxes in
     record {
-      inlets = inlets_next ends c.push.new.self.items _ left left' all inlet kept.inlets c.in-Some.ensures.steps.0 more refl;
+      inlets = inlets_next ends _ left' kept.inlets c.in-Some.ensures.steps.0 more refl;
       count = omega (arith, longer, kept.count, c.in-Some.ensures.steps.1);
       many = length-set rows c.len-place.result c.replace-outs.new.dest ∙ kept.many;
       waiting = λ j late. at_other rows c.len-place.result j c.replace-outs.new.dest (λ e. absurd (omega (arith, e, late, longer, place))) ∙ kept.waiting j (omega (arith, late, longer));

@@ -1,8 +1,6 @@
 use Rattle.std.proofs.Common.{◌≡◌, ◌≤◌, ◌+◌, ◌++◌, ℕ, length, map, slice_get}
-use Rattle.std.specs.Arc.{arc_value}
 use Rattle.std.specs.Vec.Iter.{into_iter_items, into_iter_len}
-use Rattle.ulfm_carrier.specs.declared.shared_ends.SharedEnds.{SharedEnds}
-use Rattle.ulfm_base.specs.Lists.{at}
+use Rattle.ulfm_carrier.proofs.Common.{arc_value, at, SharedEnds}
 use Rattle.ulfm_carrier.specs.inside.Seating.{IsMade}
 use Rattle.ulfm_carrier.proofs.seating.seated.Given as goal
 

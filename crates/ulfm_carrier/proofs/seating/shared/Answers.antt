@@ -1,10 +1,5 @@
 use Rattle.std.proofs.Common.{◌≡◌, ◌<◌, ℕ, List, length, map, vec_len, ap, sym, ◌∙◌, arith, subst}
-use Rattle.std.specs.Arc.{arc_value}
-use Rattle.std.specs.declared.alloc.Global.{Global}
-use Rattle.std.specs.declared.vec.Vec.{Vec}
-use Rattle.ulfm_carrier.specs.declared.shared_ends.SharedEnds.{SharedEnds}
-use Rattle.ulfm_carrier.specs.Family.{AllFresh}
-use Rattle.ulfm_base.specs.Lists.{at}
+use Rattle.ulfm_carrier.proofs.Common.{AllFresh, arc_value, at, Global, SharedEnds, Vec}
 use Rattle.ulfm_carrier.specs.inside.Seating.{Queue, AreInboxes, AreMade}
 use Rattle.ulfm_carrier.specs.Shared.{shared_name, shared_pushed, shared_taken, inbox_capacity, IsReady, OneCall}
 use Rattle.ulfm_carrier.proofs.Seated.{if_ok, made_family, made_fresh, made_capacities}
@@ -12,25 +7,22 @@ use Rattle.ulfm_carrier.proofs.seating.shared.Goals as goal
 
 pub returns-clause-family : goal.returns-clause-family
 returns-clause-family c =
-    let n = length c.all_outs.new.inlets.items in
-    let is : n ≡ c.args.n = c.all_outs.ensures.len in
+    let n = length c.all_outs.new.inlets.items in let is = c.all_outs.ensures.len in
     let boxes : List Queue = (arc_value c.in_ok-inboxes-2.inboxes).items in
     let same : boxes ≡ c.in_ok-inboxes.inboxes.items = ap (λ v. v.items) c.in_ok-inboxes-2.ensures.ok in
     let many : length boxes ≡ n = ap length same ∙ c.in_ok-inboxes.ensures.len.0 ∙ sym is in
-    let C : List Queue → Type 0 = AreInboxes c.args.capacity in
+    let C = AreInboxes c.args.capacity in
     let capacities : AreInboxes c.args.capacity boxes = subst C (sym same) c.in_ok-inboxes.ensures.inboxes in
     let M : Vec SharedEnds Global → Type 0 = λ ends. AreMade n c.args.capacity boxes ends.items in
-    let Q : Vec SharedEnds Global → Type 0 = λ ends. OneCall (map shared_name ends.items) in
-    if_ok M Q c.seated.result (λ ends made. made_family n c.args.capacity boxes many capacities ends.items made (omega arith)) c.seated.ensures.made
+    if_ok M (λ (ends : Vec SharedEnds Global). OneCall (map shared_name ends.items)) c.seated.result (λ ends made. made_family n c.args.capacity boxes many capacities ends.items made (omega arith)) c.seated.ensures.made
 
 pub returns-clause-fresh : goal.returns-clause-fresh
 returns-clause-fresh c =
-    let n = length c.all_outs.new.inlets.items in
-    let is : n ≡ c.args.n = c.all_outs.ensures.len in
+    let n = length c.all_outs.new.inlets.items in let is = c.all_outs.ensures.len in
     let boxes : List Queue = (arc_value c.in_ok-inboxes-2.inboxes).items in
     let same : boxes ≡ c.in_ok-inboxes.inboxes.items = ap (λ v. v.items) c.in_ok-inboxes-2.ensures.ok in
     let many : length boxes ≡ n = ap length same ∙ c.in_ok-inboxes.ensures.len.0 ∙ sym is in
-    let C : List Queue → Type 0 = AreInboxes c.args.capacity in
+    let C = AreInboxes c.args.capacity in
     let capacities : AreInboxes c.args.capacity boxes = subst C (sym same) c.in_ok-inboxes.ensures.inboxes in
     let M : Vec SharedEnds Global → Type 0 = λ ends. AreMade n c.args.capacity boxes ends.items in
     let Q : Vec SharedEnds Global → Type 0 = λ ends. AllFresh (λ (e : SharedEnds). vec_len e.outs) shared_pushed shared_taken IsReady ends.items in
@@ -38,12 +30,11 @@ returns-clause-fresh c =
 
 pub returns-clause-capacities : goal.returns-clause-capacities
 returns-clause-capacities c =
-    let n = length c.all_outs.new.inlets.items in
-    let is : n ≡ c.args.n = c.all_outs.ensures.len in
+    let n = length c.all_outs.new.inlets.items in let is = c.all_outs.ensures.len in
     let boxes : List Queue = (arc_value c.in_ok-inboxes-2.inboxes).items in
     let same : boxes ≡ c.in_ok-inboxes.inboxes.items = ap (λ v. v.items) c.in_ok-inboxes-2.ensures.ok in
     let many : length boxes ≡ n = ap length same ∙ c.in_ok-inboxes.ensures.len.0 ∙ sym is in
-    let C : List Queue → Type 0 = AreInboxes c.args.capacity in
+    let C = AreInboxes c.args.capacity in
     let capacities : AreInboxes c.args.capacity boxes = subst C (sym same) c.in_ok-inboxes.ensures.inboxes in
     let M : Vec SharedEnds Global → Type 0 = λ ends. AreMade n c.args.capacity boxes ends.items in
     let Q : Vec SharedEnds Global → Type 0 = λ ends. (k d : ℕ) (e : SharedEnds) → at ends.items k e → d < c.args.n → inbox_capacity e d ≡ c.args.capacity in

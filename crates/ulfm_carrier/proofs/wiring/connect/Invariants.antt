@@ -1,5 +1,5 @@
 use Rattle.std.proofs.Common.{◌≡◌, vec_len}
-use Rattle.ulfm_carrier.specs.inside.Wiring.{AreWired}
+use Rattle.ulfm_carrier.proofs.Common.{AreWired}
 use Rattle.ulfm_carrier.proofs.wiring.connect.Given as goal
 
 abbrev pub invariant-loop-dest : goal.invariant-loop-dest

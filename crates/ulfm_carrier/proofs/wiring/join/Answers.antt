@@ -1,8 +1,6 @@
-use Rattle.std.proofs.Common.{◌≡◌, ◌<◌, length, map, refl, ap, sym, ◌∙◌, arith, length-set}
+use Rattle.std.proofs.Common.{◌≡◌, ◌<◌, length, map, ap, sym, ◌∙◌, arith, length-set}
 use Rattle.rtrb.specs.Ring.{received, consumer_capacity}
-use Rattle.ulfm_base.specs.declared.rank.WorldRank.{WorldRank}
-use Rattle.ulfm_carrier.specs.declared.lane_ends.LaneEnds.{LaneEnds}
-use Rattle.ulfm_carrier.specs.Carried.{item_of}
+use Rattle.ulfm_carrier.proofs.Common.{item_of, LaneEnds, WorldRank}
 use Rattle.ulfm_carrier.specs.Lanes.{outlet_name, inlet_name, shown, reader_name}
 use Rattle.ulfm_carrier.specs.inside.Wiring.{IsNewInlet}
 use Rattle.ulfm_carrier.proofs.Wires.{adds}
@@ -11,15 +9,9 @@ use Rattle.ulfm_carrier.proofs.wiring.join.Goals as goal
 
 pub returns-clause-wired : goal.returns-clause-wired
 returns-clause-wired c =
-    let all = c.args.ends.now.items in
-    let s = c.args.source.number in
-    let d = c.args.dest in
-    let out = c.in_ok-out.out in
-    let ring = c.in_ok-out.ring in
-    let inlet = c.new-2.result in
-    let made = c.in_ok-out.ensures in
-    let new = c.new-2.ensures in
-    let sender = c.index_mut-sender.result.now in
+    let all = c.args.ends.now.items in let s = c.args.source.number in let d = c.args.dest in
+    let out = c.in_ok-out.out in let ring = c.in_ok-out.ring in let inlet = c.new-2.result in
+    let made = c.in_ok-out.ensures in let new = c.new-2.ensures in let sender = c.index_mut-sender.result.now in
     let sent : LaneEnds = record sender { outs = c.push.new.self } in
     let receiver = c.index_mut-receiver.result.now in
     let received' : LaneEnds = record receiver { ins = c.push-2.new.self } in
@@ -32,5 +24,5 @@ returns-clause-wired c =
     ) in
     let pair : outlet_name out ≡ inlet_name inlet = (λ i. record { words = sym made.pair.0 i; slots = sym made.pair.1 i; names = sym made.pair.2 i; heap = sym made.pair.3 i }) ∙ ap (λ r. reader_name r) (sym new.ring) in
     wired_more _ c.args.capacity s d out inlet (made.producer.0, made.producer.1) is_new all _ pair (length-set _ d received' ∙ length-set all s sent)
-    (adds all s d out inlet low_s low_d sender sent receiver received' c.index_mut-sender.ensures.value refl refl refl refl refl c.in_ok-push.ensures.items c.index_mut-receiver.ensures.value refl refl refl refl refl c.in_ok-push-2.ensures.items)
+    (adds all s d out inlet low_s low_d sender receiver c.push.new.self c.push-2.new.self c.index_mut-sender.ensures.value c.in_ok-push.ensures.items c.index_mut-receiver.ensures.value c.in_ok-push-2.ensures.items)
     c.requires.wired

@@ -1,5 +1,5 @@
 use Rattle.std.proofs.Common.{◌≡◌, vec_len}
-use Rattle.ulfm_carrier.specs.inside.Wiring.{AreWired}
+use Rattle.ulfm_carrier.proofs.Common.{AreWired}
 use Rattle.ulfm_carrier.proofs.wiring.lanes.Given as goal
 
 abbrev pub invariant-loop-source : goal.invariant-loop-source

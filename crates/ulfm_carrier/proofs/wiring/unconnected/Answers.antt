@@ -1,17 +1,12 @@
 use Rattle.std.proofs.Common.{◌≡◌, ◌≤◌, ◌+◌, ◌*◌, vec_capacity, [], length, refl, ap, ◌∙◌, arith, subst}
-use Rattle.std.proofs.lemmas.List.{length_push}
-use Rattle.ulfm_carrier.specs.declared.lane_ends.LaneEnds.{LaneEnds}
-use Rattle.ulfm_base.specs.Lists.{at}
-use Rattle.ulfm_carrier.specs.inside.Wiring.{IsWired}
-use Rattle.ulfm_carrier.proofs.Gathered.{each_push, none_at}
+use Rattle.ulfm_carrier.proofs.Common.{at, IsWired, LaneEnds, length_push}
+use Rattle.ulfm_carrier.proofs.Places.{each_push, none_at}
 use Rattle.ulfm_carrier.proofs.wiring.unconnected.Goals as goal
 
 pub loop-number-preserved : goal.loop-number-preserved
 loop-number-preserved c =
-    let outs = c.in_ok-with_capacity.ensures in
-    let ins = c.in_ok-with_capacity-2.ensures in
-    let left = c.in_ok-with_capacity-3.ensures in
-    let inboxes = c.in_ok-with_capacity-4.ensures in
+    let outs = c.in_ok-with_capacity.ensures in let ins = c.in_ok-with_capacity-2.ensures in
+    let left = c.in_ok-with_capacity-3.ensures in let inboxes = c.in_ok-with_capacity-4.ensures in
     let room : c.args.n * c.args.capacity ≤ vec_capacity c.in_ok-with_capacity-3.field-0 = omega (arith, left.exact) in
     let places : c.args.n ≤ vec_capacity c.in_ok-with_capacity-4.field-0 = omega (arith, inboxes.exact) in
     let more = c.in_ok-push.ensures.items in
@@ -27,8 +22,8 @@ loop-number-preserved c =
             outs_above = λ _. outs.items;
             ins_below = λ below. absurd (omega (arith, below));
             ins_above = λ _. ap length ins.items;
-            new_outs = λ j p there. absurd (none_at _ j p (ap length outs.items) there);
-            new_ins = λ j i there. absurd (none_at _ j i (ap length ins.items) there);
+            new_outs = λ j p there. absurd (none_at _ j (ap length outs.items) there);
+            new_ins = λ j i there. absurd (none_at _ j (ap length ins.items) there);
             nothing_left = left.items;
             room = room;
             no_inbox = inboxes.items;

@@ -1,7 +1,5 @@
 use Rattle.std.proofs.Common.{◌≡◌, ℕ, [], length}
-use Rattle.ulfm_carrier.specs.declared.lane_ends.LaneEnds.{LaneEnds}
-use Rattle.ulfm_base.specs.Lists.{at}
-use Rattle.ulfm_carrier.specs.inside.Wiring.{IsWired}
+use Rattle.ulfm_carrier.proofs.Common.{at, IsWired, LaneEnds}
 use Rattle.ulfm_carrier.proofs.wiring.unconnected.Given as goal
 
 abbrev pub invariant-loop-number : goal.invariant-loop-number

@@ -1,6 +1,6 @@
 use Rattle.std.proofs.Common.{◌≡◌, ◌<◌, eqb, refl, ap, arith, ◌∙◌, ◌&&◌, not}
 use Rattle.ulfm_base.specs.declared.item.Item.TheVariants.{Enter}
-use Rattle.ulfm_rank.proofs.Common.{is_member, has, members_of, is_gone, for_each}
+use Rattle.ulfm_rank.proofs.Common.{is_member, has, members_of, is_gone}
 use Rattle.ulfm_rank.specs.Owed.{entry_told}
 use Rattle.ulfm_rank.proofs.Held.{grows_alike}
 use Rattle.ulfm_rank.proofs.forwarding.announce.Goals as goal
@@ -9,7 +9,7 @@ pub returns : goal.returns
 returns c = λ n log context knows members.
     let told = c.put_each.ensures (Enter context c.args.known) in
     let to = has c.members_of_both.result in
-    grows_alike c.args.outboxes.now.boxes c.put_each.new.self.boxes c.args.place (for_each to (Enter context c.args.known)) (entry_told n c.args.me log context c.args.known) told
+    grows_alike (entry_told n c.args.me log context c.args.known) told
     (λ d h.
     let small : d < 8 = omega (arith, h, told.size, c.requires.small) in
     let same : to d ≡ (is_member (members_of n log context.number) d && (not (eqb c.args.me d) && not (is_gone log d))) =

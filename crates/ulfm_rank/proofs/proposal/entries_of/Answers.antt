@@ -1,4 +1,4 @@
-use Rattle.std.proofs.Common.{◌≡◌, ◌∙◌, sym, ap, arith, cond, true, length-set, Bool, None}
+use Rattle.std.proofs.Common.{◌≡◌, ◌∙◌, sym, ap, arith, cond, true, length-set, None}
 use Rattle.ulfm_rank.proofs.Common.{entry_at, is_member}
 use Rattle.ulfm_rank.proofs.Proposing.{filled_more}
 use Rattle.ulfm_rank.proofs.proposal.entries_of.Goals as goal
@@ -10,5 +10,5 @@ loop-number-preserved c =
     let entry = entry_at c.args.entries.now number in
     let member : is_member c.args.group.now number ≡ true = sym c.contains.ensures ∙ c.if-not-contains.false in (
       length-set listed number entry ∙ c.loop-number.invariant.0,
-      filled_more (λ k. cond (is_member c.args.group.now k) (entry_at c.args.entries.now k) None) None listed number entry (omega (arith, c.loop-number-test.true, c.loop-number.invariant.0)) (ap (λ (b : Bool). cond b entry None) (sym member)) c.loop-number.invariant.1,
+      filled_more (λ k. cond (is_member c.args.group.now k) (entry_at c.args.entries.now k) None) None listed number entry (omega (arith, c.loop-number-test.true, c.loop-number.invariant.0)) (ap (λ b. cond b entry None) (sym member)) c.loop-number.invariant.1,
     )

@@ -1,6 +1,4 @@
-use Rattle.std.proofs.Common.{◌≡◌, ℕ, sym, subst, ◌∙◌, Bool, length}
-use Rattle.ulfm_rank.proofs.Common.{count_before, Fate}
-use Rattle.ulfm_match.specs.State.{Matching}
+use Rattle.std.proofs.Common.{sym, subst, ◌∙◌}
 use Rattle.ulfm_match.specs.Calls.{TracksEnd}
 use Rattle.ulfm_rank.specs.inside.Requests.{fate_of}
 use Rattle.ulfm_rank.proofs.Steps.{AdmitsTo, admitted, admitted_over}
@@ -8,20 +6,20 @@ use Rattle.ulfm_rank.proofs.requests.admit.Goals as goal
 use Rattle.ulfm_rank.proofs.requests.admit.Goals.{then-gone, else-gone}
 
 pub returns-clause-tracks : goal.returns-clause-tracks
-returns-clause-tracks c h r o t =
+returns-clause-tracks c h r t =
     let p = c.args.pattern in
     let letter = c.post-letter.result.1 in
-    let said = c.post-letter.ensures.tracks h r o t in
-    let here : c.post-letter.result.0.number ≡ count_before h (length h) = c.post-letter.ensures.number ∙ t.remains.count in
-    subst (λ (q : Fate). AdmitsTo c.args.gone p h r c.if-gone.matcher q) (sym c.fate_of.ensures)
+    let said = c.post-letter.ensures.tracks h r t in
+    let here = c.post-letter.ensures.number ∙ t.remains.count in
+    subst (AdmitsTo c.args.gone p h r c.if-gone.matcher) (sym c.fate_of.ensures)
     (elim c.if-gone.branch [
       | then-gone w ↦
-          subst (λ (m : Matching). AdmitsTo c.args.gone p h r m (fate_of letter c.args.gone)) (sym w.matcher-is)
-          (subst (λ (b : Bool). AdmitsTo b p h r w.withdraw.new.self (fate_of letter b)) (sym w.if-gone.true)
+          subst (λ m. AdmitsTo c.args.gone p h r m (fate_of letter c.args.gone)) (sym w.matcher-is)
+          (subst (λ b. AdmitsTo b p h r w.withdraw.new.self (fate_of letter b)) (sym w.if-gone.true)
           (admitted_over p h r t.lawful c.post-letter.new.self w.withdraw.new.self letter said
-          (subst (λ (k : ℕ). TracksEnd k c.post-letter.new.self w.withdraw.new.self) here w.withdraw.ensures.tracks)))
+          (subst (λ k. TracksEnd k c.post-letter.new.self w.withdraw.new.self) here w.withdraw.ensures.tracks)))
       | else-gone w ↦
-          subst (λ (m : Matching). AdmitsTo c.args.gone p h r m (fate_of letter c.args.gone)) (sym w.matcher-is)
-          (subst (λ (b : Bool). AdmitsTo b p h r c.post-letter.new.self (fate_of letter b)) (sym w.if-gone.false)
+          subst (λ m. AdmitsTo c.args.gone p h r m (fate_of letter c.args.gone)) (sym w.matcher-is)
+          (subst (λ b. AdmitsTo b p h r c.post-letter.new.self (fate_of letter b)) (sym w.if-gone.false)
           (admitted p h r t.lawful c.post-letter.new.self letter said))
     ])

@@ -1,4 +1,4 @@
-use Rattle.std.proofs.Common.{◌≡◌, ℕ, suc, ◌+◌, List, length, ap, sym, ◌∙◌, arith, slice_get, map, nat_eq}
+use Rattle.std.proofs.Common.{◌≡◌, ℕ, suc, ◌+◌, length, ap, sym, ◌∙◌, arith, slice_get, map, nat_eq}
 use Rattle.std.specs.Map.{lookup}
 use Rattle.indexmap.specs.IndexMap.{set_value_at}
 use Rattle.ulfm_rank.specs.declared.request.Request.{Request}
@@ -17,19 +17,19 @@ loop-i-preserved c =
     elim c.match-get_index_mut.branch [
       | in-Some w ↦
           rw w.requests-is
-          (ap (λ (xs : List (ℕ × Request)). set_value_at xs i w.over_context.result) inv
-          ∙ (ap (λ (v : Request). set_value_at (changed_below f i es) i v) w.over_context.ensures
-          ∙ (changed_more f i es w.in-Some.request.now (ap (λ (xs : List (ℕ × Request)). slice_get (map (λ (e : ℕ × Request). e.1) xs) i) (sym inv) ∙ sym w.in-Some.ensures.value)
-          ∙ ap (λ (n : ℕ). changed_below f n es) more)))
+          (ap (λ xs. set_value_at xs i w.over_context.result) inv
+          ∙ (ap (set_value_at (changed_below f i es) i) w.over_context.ensures
+          ∙ (changed_more f i es w.in-Some.request.now (ap (λ xs. slice_get (map (λ (e : ℕ × Request). e.1) xs) i) (sym inv) ∙ sym w.in-Some.ensures.value)
+          ∙ ap (λ n. changed_below f n es) more)))
       | in_default w ↦
-          let long : length c.loop-i.requests.entries ≡ length es = ap (λ (xs : List (ℕ × Request)). length xs) inv ∙ changed_length f i es in
+          let long : length c.loop-i.requests.entries ≡ length es = ap length inv ∙ changed_length f i es in
           absurd (let some = w.in_default.ensures.found.1 (omega (arith, long, c.len-i-end.ensures.len, c.loop-i-test.true)) in cc)
     ]
 
 pub returns-clause-change : goal.returns-clause-change
 returns-clause-change c k =
-    ap (λ (xs : List (ℕ × Request)). lookup (nat_eq k) xs) c.loop-i.invariant
+    ap (lookup (nat_eq k)) c.loop-i.invariant
     ∙ changed_all (over_context c.args.context.number) c.loop-i.i c.args.requests.now.entries (omega (arith, c.len-i-end.ensures.len, c.loop-i-test.false)) k
 
 pub returns-clause-len : goal.returns-clause-len
-returns-clause-len c = ap (λ (xs : List (ℕ × Request)). length xs) c.loop-i.invariant ∙ changed_length (over_context c.args.context.number) c.loop-i.i c.args.requests.now.entries
+returns-clause-len c = ap length c.loop-i.invariant ∙ changed_length (over_context c.args.context.number) c.loop-i.i c.args.requests.now.entries

@@ -1,8 +1,6 @@
 use Rattle.std.proofs.Common.{◌<◌, ℕ}
-use Rattle.ulfm_base.specs.Lists.{at}
-use Rattle.ulfm_rank.specs.declared.entry.Entry.{Entry}
-use Rattle.ulfm_script.specs.Report.{Report}
 use Rattle.ulfm_laws.specs.Shrinks.{AdoptsTruly}
+use Rattle.ulfm_run.proofs.Common.{at, Entry, Report}
 use Rattle.ulfm_run.proofs.adopted.are_true.Given as goal
 
 abbrev pub invariant-loop-report : goal.invariant-loop-report

@@ -1,6 +1,5 @@
 use Rattle.std.proofs.Common.{◌≡◌, drop}
-use Rattle.std.specs.List.{list_any}
-use Rattle.ulfm_laws.specs.Causes.{is_call_to_revoke}
+use Rattle.ulfm_run.proofs.Common.{is_call_to_revoke, list_any}
 use Rattle.ulfm_run.proofs.caused.calls_to_revoke.Given as goal
 
 abbrev pub invariant-loop-entry : goal.invariant-loop-entry

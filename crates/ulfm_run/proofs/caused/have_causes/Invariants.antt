@@ -1,7 +1,5 @@
 use Rattle.std.proofs.Common.{◌<◌, ℕ}
-use Rattle.ulfm_base.specs.Lists.{at}
-use Rattle.ulfm_rank.specs.declared.entry.Entry.{Entry}
-use Rattle.ulfm_run.specs.Caused.{HasCause}
+use Rattle.ulfm_run.proofs.Common.{at, Entry, HasCause}
 use Rattle.ulfm_run.proofs.caused.have_causes.Given as goal
 
 abbrev pub invariant-loop-entry : goal.invariant-loop-entry

@@ -1,8 +1,5 @@
 use Rattle.std.proofs.Common.{◌≡◌, ◌<◌, ℕ, false}
-use Rattle.std.specs.List.{list_any}
-use Rattle.ulfm_base.specs.Lists.{at}
-use Rattle.ulfm_script.specs.Report.{Report}
-use Rattle.ulfm_laws.specs.Causes.{is_call_to_revoke}
+use Rattle.ulfm_run.proofs.Common.{at, is_call_to_revoke, list_any, Report}
 use Rattle.ulfm_run.proofs.caused.is_revoked_by_call.Given as goal
 
 abbrev pub invariant-loop-report : goal.invariant-loop-report

@@ -1,5 +1,5 @@
 use Rattle.std.proofs.Common.{arith}
-use Rattle.std.proofs.lemmas.List.{length-map}
+use Rattle.ulfm_run.proofs.Common.{length-map}
 use Rattle.ulfm_run.proofs.Paired.{all_agree}
 use Rattle.ulfm_run.proofs.comparing.compare_all.Goals as goal
 

@@ -1,5 +1,5 @@
 use Rattle.std.proofs.Common.{◌≡◌, ◌<◌, ℕ, map}
-use Rattle.ulfm_laws.specs.Answers.{AgreeAt}
+use Rattle.ulfm_run.proofs.Common.{AgreeAt}
 use Rattle.ulfm_run.proofs.comparing.compare_all.Given as goal
 
 abbrev pub invariant-loop-second : goal.invariant-loop-second

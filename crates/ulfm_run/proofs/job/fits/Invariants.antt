@@ -1,5 +1,5 @@
 use Rattle.std.proofs.Common.{◌≡◌, ◌<◌, ℕ}
-use Rattle.ulfm_base.specs.Lists.{at}
+use Rattle.ulfm_run.proofs.Common.{at}
 use Rattle.ulfm_run.proofs.job.fits.Given as goal
 
 abbrev pub invariant-loop-place : goal.invariant-loop-place

@@ -1,14 +1,9 @@
 use Rattle.std.proofs.Common.{ap, sym, ◌∙◌, subst, map, List, slice_get}
 use Rattle.std.proofs.lemmas.Bool.{false≢true}
-use Rattle.std.specs.declared.alloc.Global.{Global}
-use Rattle.std.specs.declared.vec.Vec.{Vec}
-use Rattle.ulfm_carrier.specs.Family.{Keeps, IsGathered}
-use Rattle.ulfm_run.specs.inside.Threads.{NameOneBoard}
-use Rattle.ulfm_laws.specs.Causes.{RevokedByARank}
 use Rattle.ulfm_laws.specs.Shrinks.{AreTrue}
-use Rattle.ulfm_script.specs.Report.{Report}
 use Rattle.ulfm_script.specs.declared.fault.RunFault.{RunFault}
 use Rattle.ulfm_script.specs.declared.fault.RunFault.TheVariants.{Untrue}
+use Rattle.ulfm_run.proofs.Common.{Global, IsGathered, Keeps, NameOneBoard, Report, RevokedByARank, Vec}
 use Rattle.ulfm_run.proofs.job.report_of.Goals as goal
 
 pub gather-residue-requires-clause-family : goal.gather-residue-requires-clause-family
@@ -19,13 +14,11 @@ gather-residue-requires-clause-ready g c = λ k e here. c.requires.ready k e (ap
 
 pub returns-clause-same : goal.returns-clause-same
 returns-clause-same g c =
-    let K : List g.row.E.Denot → Type 0 = λ (es : List g.row.E.Denot). Keeps g.E.Ends.name g.E.Ends.pushed g.E.Ends.taken es c.gather-residue.result.1.items in
-    subst K c.parted-ranks.ensures.ends c.gather-residue.ensures.same
+    subst (λ (es : List g.row.E.Denot). Keeps g.E.Ends.name g.E.Ends.pushed g.E.Ends.taken es c.gather-residue.result.1.items) c.parted-ranks.ensures.ends c.gather-residue.ensures.same
 
 pub returns-clause-residue : goal.returns-clause-residue
 returns-clause-residue g c =
-    let S : List g.row.E.Denot → Type 0 = λ (es : List g.row.E.Denot). IsGathered g.E.Ends.pushed g.E.Ends.taken es c.gather-residue.result.0.inboxes.items in
-    subst S c.parted-ranks.ensures.ends c.gather-residue.ensures.residue
+    subst (λ (es : List g.row.E.Denot). IsGathered g.E.Ends.pushed g.E.Ends.taken es c.gather-residue.result.0.inboxes.items) c.parted-ranks.ensures.ends c.gather-residue.ensures.residue
 
 pub compared-deciders-requires : goal.compared-deciders-requires
 compared-deciders-requires g c = record { one_board = subst NameOneBoard (ap (map g.D.Decider.board) (sym c.parted-ranks.ensures.deciders)) c.requires.one_board }
@@ -34,7 +27,7 @@ pub returns-clause-decisions : goal.returns-clause-decisions
 returns-clause-decisions g c = subst AreTrue c.deref.ensures.value (c.are_borne_out.ensures.0 c.if-not-are_borne_out.false).0
 
 pub returns-clause-revoked : goal.returns-clause-revoked
-returns-clause-revoked g c = let R : List Report → Type 0 = λ (rs : List Report). RevokedByARank rs in subst R c.deref.ensures.value (c.are_borne_out.ensures.0 c.if-not-are_borne_out.false).1
+returns-clause-revoked g c = subst (λ (rs : List Report). RevokedByARank rs) c.deref.ensures.value (c.are_borne_out.ensures.0 c.if-not-are_borne_out.false).1
 
 -- the reports that a fault carries, where it is `Untrue`
 abbrev carried : RunFault → Vec Report Global → Vec Report Global

@@ -1,9 +1,8 @@
 use Rattle.std.proofs.Common.{arith, inl, inr, ◌∙◌, length}
-use Rattle.std.proofs.lemmas.Option.{slice_get_within}
-use Rattle.ulfm_job.specs.Job.{script_at}
 use Rattle.ulfm_script.proofs.Calling.{honest-called}
 use Rattle.ulfm_script.proofs.Honestly.{honest-left}
 use Rattle.ulfm_script.proofs.Progress.{next-free}
+use Rattle.ulfm_run.proofs.Common.{script_at, slice_get_within}
 use Rattle.ulfm_run.proofs.Polled.{polls-call, polls-leave, answered_none}
 use Rattle.ulfm_run.proofs.polling.call.Goals as goal
 
@@ -13,23 +12,20 @@ call-requires-clause-free c = next-free (script_at c.args.job.now c.args.me) c.a
 pub call-requires-clause-room : goal.call-requires-clause-room
 call-requires-clause-room c = λ _. omega (arith, c.requires.room, slice_get_within (script_at c.args.job.now c.args.me) (length c.args.player.now.player.done) c.args.step.now c.requires.next)
 
-pub returns-in-Answered-clause-polls : goal.returns-in-Answered-clause-polls
-returns-in-Answered-clause-polls c =
-    polls-call c.args.job.now c.args.me c.args.player.now c.call.new.self c.args.step.now c.turns-turns.ensures.ranges c.requires.sound c.requires.follows c.requires.running c.requires.next c.call.ensures.called (inl (answered_none c.call.result c.args.player.now.player c.args.step.now c.call.new.self.player c.in-Answered.is c.call.ensures.polls)) c.call.ensures.room
+pub returns-in-Answered : goal.returns-in-Answered
+returns-in-Answered c = record {
+  polls = polls-call c.args.me c.args.player.now c.call.new.self c.turns-turns.ensures.ranges c.requires.sound c.requires.follows c.requires.running c.requires.next c.call.ensures.called (inl (answered_none c.call.result c.args.player.now.player c.args.step.now c.call.new.self.player c.in-Answered.is c.call.ensures.polls)) c.call.ensures.room;
+  honest = λ known h u. honest-called known (script_at c.args.job.now c.args.me) c.args.job.now.turns c.args.player.now.player c.args.step.now c.call.new.self.player h c.requires.running c.requires.follows.current c.requires.next u c.call.ensures.called;
+}
 
-pub returns-then-polls-turns-clause-polls : goal.returns-then-polls-turns-clause-polls
-returns-then-polls-turns-clause-polls c =
-    polls-call c.args.job.now c.args.me c.args.player.now c.call.new.self c.args.step.now c.turns-turns.ensures.ranges c.requires.sound c.requires.follows c.requires.running c.requires.next c.call.ensures.called (inr (omega (arith, c.polls.ensures, c.turns-turns.ensures.exact, c.if-polls-turns.true))) c.call.ensures.room
+pub returns-then-polls-turns : goal.returns-then-polls-turns
+returns-then-polls-turns c = record {
+  polls = polls-call c.args.me c.args.player.now c.call.new.self c.turns-turns.ensures.ranges c.requires.sound c.requires.follows c.requires.running c.requires.next c.call.ensures.called (inr (omega (arith, c.polls.ensures, c.turns-turns.ensures.exact, c.if-polls-turns.true))) c.call.ensures.room;
+  honest = λ known h u. honest-called known (script_at c.args.job.now c.args.me) c.args.job.now.turns c.args.player.now.player c.args.step.now c.call.new.self.player h c.requires.running c.requires.follows.current c.requires.next u c.call.ensures.called;
+}
 
-pub returns-clause-polls : goal.returns-clause-polls
-returns-clause-polls c =
-    polls-leave c.args.job.now c.args.me c.args.player.now c.call.new.self c.leave.new.self c.args.step.now c.turns-turns.ensures.ranges c.requires.sound c.requires.follows c.requires.running c.requires.next c.call.ensures.called c.leave.ensures.left (omega (arith, c.polls.ensures, c.turns-turns.ensures.exact, c.if-polls-turns.false)) (c.leave.ensures.room ∙ c.call.ensures.room)
-
-pub returns-in-Answered-clause-honest : goal.returns-in-Answered-clause-honest
-returns-in-Answered-clause-honest c = λ known h u. honest-called known (script_at c.args.job.now c.args.me) c.args.job.now.turns c.args.player.now.player c.args.step.now c.call.new.self.player h c.requires.running c.requires.follows.current c.requires.next u c.call.ensures.called
-
-pub returns-then-polls-turns-clause-honest : goal.returns-then-polls-turns-clause-honest
-returns-then-polls-turns-clause-honest c = λ known h u. honest-called known (script_at c.args.job.now c.args.me) c.args.job.now.turns c.args.player.now.player c.args.step.now c.call.new.self.player h c.requires.running c.requires.follows.current c.requires.next u c.call.ensures.called
-
-pub returns-clause-honest : goal.returns-clause-honest
-returns-clause-honest c = λ known h u. honest-left known c.call.new.self.player c.leave.new.self.player (honest-called known (script_at c.args.job.now c.args.me) c.args.job.now.turns c.args.player.now.player c.args.step.now c.call.new.self.player h c.requires.running c.requires.follows.current c.requires.next u c.call.ensures.called) c.leave.ensures.left
+pub returns : goal.returns
+returns c = record {
+  polls = polls-leave c.args.me c.args.player.now c.call.new.self c.leave.new.self c.turns-turns.ensures.ranges c.requires.sound c.requires.follows c.requires.running c.requires.next c.call.ensures.called c.leave.ensures.left (omega (arith, c.polls.ensures, c.turns-turns.ensures.exact, c.if-polls-turns.false)) (c.leave.ensures.room ∙ c.call.ensures.room);
+  honest = λ known h u. honest-left known c.call.new.self.player c.leave.new.self.player (honest-called known (script_at c.args.job.now c.args.me) c.args.job.now.turns c.args.player.now.player c.args.step.now c.call.new.self.player h c.requires.running c.requires.follows.current c.requires.next u c.call.ensures.called) c.leave.ensures.left;
+}

@@ -1,9 +1,7 @@
 use Rattle.std.proofs.Common.{◌<◌, ℕ}
-use Rattle.ulfm_base.specs.Lists.{at}
-use Rattle.ulfm_script.specs.Report.{Report}
-use Rattle.ulfm_run.specs.Flow.{contents}
 use Rattle.ulfm_laws.specs.Rest.{IsServed}
 use Rattle.ulfm_laws.specs.Reports.{IsRunning}
+use Rattle.ulfm_run.proofs.Common.{at, contents, Report}
 use Rattle.ulfm_run.proofs.rest.at_rest.Given as goal
 
 abbrev pub invariant-loop-d : goal.invariant-loop-d

@@ -1,5 +1,5 @@
 use Rattle.std.proofs.Common.{◌≡◌, ◌≤◌, ℕ, take, length, filter_map}
-use Rattle.ulfm_base.specs.Group.{rank_in}
+use Rattle.ulfm_script.proofs.Common.{rank_in}
 use Rattle.ulfm_script.proofs.poll.positions_in.Given as goal
 
 abbrev pub invariant-loop-k : goal.invariant-loop-k

@@ -1,6 +1,5 @@
 use Rattle.std.proofs.Common.{◌≡◌, ℕ, ◌∙◌, ap, sym, None, List}
-use Rattle.ulfm_base.specs.Group.{rank_in}
-use Rattle.ulfm_rank.specs.State.{State}
+use Rattle.ulfm_script.proofs.Common.{rank_in, State}
 use Rattle.ulfm_script.proofs.Adopting.{member_found, adopter_is_member}
 use Rattle.ulfm_script.proofs.shrinking.adopt.Goals as goal
 

@@ -6,7 +6,7 @@ returns-in-Ok-clause-answers g c = record {
   accepted = c.in-Ok-Some.ensures.accepted;
   proposal = c.in-Ok-Some.proposal;
   proposed = rw c.in-Ok-Some.field-0-is at c.in-Ok-Some.ensures.proposal;
-  outcome = inl (record { held = c.in-Ok.held; board_answers = c.in-Ok.ensures.answers; adoption = c.adopt.ensures });
+  outcome = inl (record { held = c.in-Ok.held; board_answers = c.in-Ok.ensures.answers; adoption = c.adopt.ensures.answers });
 }
 
 pub returns-in-Err-clause-answers : goal.returns-in-Err-clause-answers

@@ -1,12 +1,7 @@
-use Rattle.std.proofs.Common.{List}
-use Rattle.ulfm_script.specs.Report.{Report}
 use Rattle.ulfm_laws.specs.Reader.{OverIsTrue}
 use Rattle.ulfm_laws.proofs.Given.{over_true}
 use Rattle.ulfm_world.proofs.Reported.{in_world, in_replay}
 use Rattle.ulfm_world.proofs.laws.each_over_is_true.Goals as goal
 
-pub returns-clause-worlds : goal.returns-clause-worlds
-returns-clause-worlds c = in_world (λ (reports : List Report). OverIsTrue reports) over_true
-
-pub returns-clause-replays : goal.returns-clause-replays
-returns-clause-replays c = in_replay (λ (reports : List Report). OverIsTrue reports) over_true
+pub returns : goal.returns
+returns c = record { worlds = in_world OverIsTrue over_true; replays = in_replay OverIsTrue over_true }

@@ -1,11 +1,6 @@
-use Rattle.std.proofs.Common.{List}
-use Rattle.ulfm_script.specs.Report.{Report}
 use Rattle.ulfm_laws.specs.Reader.{ComeAsSent}
 use Rattle.ulfm_world.proofs.Reported.{in_world, in_replay}
 use Rattle.ulfm_world.proofs.laws.letters_come_as_sent.Goals as goal
 
-pub returns-clause-worlds : goal.returns-clause-worlds
-returns-clause-worlds c = in_world (λ (reports : List Report). ComeAsSent reports) (λ reports all. all.sent)
-
-pub returns-clause-replays : goal.returns-clause-replays
-returns-clause-replays c = in_replay (λ (reports : List Report). ComeAsSent reports) (λ reports all. all.sent)
+pub returns : goal.returns
+returns c = record { worlds = in_world ComeAsSent (λ reports all. all.sent); replays = in_replay ComeAsSent (λ reports all. all.sent) }

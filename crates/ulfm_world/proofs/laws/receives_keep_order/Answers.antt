@@ -1,12 +1,7 @@
-use Rattle.std.proofs.Common.{List}
-use Rattle.ulfm_script.specs.Report.{Report}
 use Rattle.ulfm_laws.specs.Reader.{ReceivesKeepOrder}
 use Rattle.ulfm_laws.proofs.Order.{receives_keep_order}
 use Rattle.ulfm_world.proofs.Reported.{in_world, in_replay}
 use Rattle.ulfm_world.proofs.laws.receives_keep_order.Goals as goal
 
-pub returns-clause-worlds : goal.returns-clause-worlds
-returns-clause-worlds c = in_world (λ (reports : List Report). ReceivesKeepOrder reports) receives_keep_order
-
-pub returns-clause-replays : goal.returns-clause-replays
-returns-clause-replays c = in_replay (λ (reports : List Report). ReceivesKeepOrder reports) receives_keep_order
+pub returns : goal.returns
+returns c = record { worlds = in_world ReceivesKeepOrder receives_keep_order; replays = in_replay ReceivesKeepOrder receives_keep_order }

@@ -1,12 +1,7 @@
-use Rattle.std.proofs.Common.{List}
-use Rattle.ulfm_script.specs.Report.{Report}
 use Rattle.ulfm_laws.specs.Reader.{IsFaithful}
 use Rattle.ulfm_laws.proofs.Faithful.{faithful}
 use Rattle.ulfm_world.proofs.Reported.{in_world, in_replay}
 use Rattle.ulfm_world.proofs.laws.reports_are_faithful.Goals as goal
 
-pub returns-clause-worlds : goal.returns-clause-worlds
-returns-clause-worlds c = in_world (λ (reports : List Report). IsFaithful reports) faithful
-
-pub returns-clause-replays : goal.returns-clause-replays
-returns-clause-replays c = in_replay (λ (reports : List Report). IsFaithful reports) faithful
+pub returns : goal.returns
+returns c = record { worlds = in_world IsFaithful faithful; replays = in_replay IsFaithful faithful }

@@ -13,17 +13,12 @@ loop-rounds-init c =
 pub loop-rounds-preserved : goal.loop-rounds-preserved
 loop-rounds-preserved c = (c.in_ok-round.ensures.same_job, came-moves _ _ _ _ c.loop-rounds.invariant.1 c.in_ok-round.ensures.moves)
 
-pub returns-clause-replayed : goal.returns-clause-replayed
-returns-clause-replayed c =
-    let came = came-moves c.args.job.now c.loop-rounds.rounds.world c.round.new.rounds.world c.in_ok-round.field-0 c.loop-rounds.invariant.1 c.in_ok-round.ensures.moves in
-    IfOk-weaker c.into_reports.result _ _ (λ reports k. replayed c.args.job.now c.round.new.rounds.world reports.items c.ranks.ensures.ranges.some_room came (c.in_ok-round.ensures.stuck c.if-branch.false) k) c.into_reports.ensures
-
-pub returns-clause-lawful : goal.returns-clause-lawful
-returns-clause-lawful c =
-    let came = came-moves c.args.job.now c.loop-rounds.rounds.world c.round.new.rounds.world c.in_ok-round.field-0 c.loop-rounds.invariant.1 c.in_ok-round.ensures.moves in
-    IfOk-weaker c.into_reports.result _ _ (λ reports k. lawful-replay c.args.job.now c.round.new.rounds.world c.ranks.ensures.ranges came (c.in_ok-round.ensures.stuck c.if-branch.false) reports.items k) c.into_reports.ensures
-
-pub returns-clause-settled : goal.returns-clause-settled
-returns-clause-settled c =
-    let came = came-moves c.args.job.now c.loop-rounds.rounds.world c.round.new.rounds.world c.in_ok-round.field-0 c.loop-rounds.invariant.1 c.in_ok-round.ensures.moves in
-    IfOk-weaker c.into_reports.result _ _ (λ reports k. settled c.args.job.now reports.items c.ranks.ensures.ranges (replayed c.args.job.now c.round.new.rounds.world reports.items c.ranks.ensures.ranges.some_room came (c.in_ok-round.ensures.stuck c.if-branch.false) k)) c.into_reports.ensures
+pub returns : goal.returns
+returns c =
+    let ranges = c.ranks.ensures.ranges in let stuck = c.in_ok-round.ensures.stuck c.if-branch.false in
+    let came = came-moves c.args.job.now c.loop-rounds.rounds.world c.round.new.rounds.world c.in_ok-round.field-0 c.loop-rounds.invariant.1 c.in_ok-round.ensures.moves in record {
+      replayed = IfOk-weaker c.into_reports.result _ _ (λ reports k. replayed ranges.some_room came stuck k) c.into_reports.ensures.told;
+      lawful = IfOk-weaker c.into_reports.result _ _ (λ reports k. lawful-replay c.args.job.now c.round.new.rounds.world ranges came stuck k) c.into_reports.ensures.told;
+      settled = IfOk-weaker c.into_reports.result _ _ (λ reports k. settled ranges (replayed ranges.some_room came stuck k)) c.into_reports.ensures.told;
+      refused = c.into_reports.ensures.refused;
+    }

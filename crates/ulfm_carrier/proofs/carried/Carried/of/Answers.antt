@@ -1,6 +1,6 @@
 use Rattle.std.proofs.Common.{ap, refl, ◌∙◌}
+use Rattle.ulfm_carrier.proofs.Common.{same_rank}
 use Rattle.ulfm_carrier.specs.Carried.{blank, signed_by}
-use Rattle.ulfm_base.proofs.Numbers.{same_rank}
 use Rattle.ulfm_carrier.proofs.carried.Carried.of.Goals as goal
 
 pub returns : goal.returns

@@ -1,6 +1,6 @@
 use Rattle.std.proofs.Common.{◌≡◌, ◌+◌, ◌++◌, map, length, vec_len, vec_capacity}
 use Rattle.rtrb.specs.Ring.{received, known_items, SameConsumer}
-use Rattle.ulfm_carrier.specs.inside.Tagged.{signed}
+use Rattle.ulfm_carrier.proofs.Common.{signed}
 use Rattle.ulfm_carrier.proofs.inlet.Inlet.drain.Given as goal
 
 abbrev pub invariant-loop : goal.invariant-loop

@@ -1,11 +1,10 @@
 use Rattle.std.proofs.Common.{arith}
-use Rattle.crossbeam_queue.specs.Passes.{view}
+use Rattle.ulfm_carrier.proofs.Common.{view}
 use Rattle.ulfm_carrier.proofs.Emptied.{none_above, told_left}
 use Rattle.ulfm_carrier.proofs.shared_ends.SharedEnds.empty.Goals as goal
 
 pub returns-clause-left : goal.returns-clause-left
-returns-clause-left g c =
-    told_left (view c.args.self.now.inlet) (view c.take_all.new.inlet) c.take_all.new.left.items c.args.self.now.gathered c.requires.receiver.live c.take_all.ensures.taken c.take_all.ensures.all
+returns-clause-left g c = told_left (view c.args.self.now.inlet) c.take_all.new.left.items c.args.self.now.gathered c.requires.receiver.live c.take_all.ensures.taken c.take_all.ensures.all
 
 pub returns-clause-no_others : goal.returns-clause-no_others
 returns-clause-no_others g c = λ s past.

@@ -1,4 +1,4 @@
-use Rattle.std.proofs.Common.{◌≢◌, ℕ, ap, refl, subst, sym, not, ◌==◌}
+use Rattle.std.proofs.Common.{rules, ◌≢◌, ℕ, ap, refl, subst, sym, not, ◌==◌}
 use Rattle.ulfm_base.specs.declared.envelope.Letter.{Letter}
 use Rattle.ulfm_base.specs.declared.pattern.Pattern.{Pattern}
 use Rattle.ulfm_match.specs.State.{Matching, Tracks}
@@ -18,4 +18,4 @@ returns-clause-others_are_kept c =
 
 pub returns-clause-tracks : goal.returns-clause-tracks
 returns-clause-tracks c h r t =
-    clear_filtered h r _ (subst (λ (s : Matching). Tracks h r s) (sym c.self.view_is) t) c.args.context.number _ refl c.clear_waiting.ensures.left c.clear_kept.ensures.left
+    clear_filtered h r _ (subst (Tracks h r) (sym c.self.view_is) t) c.args.context.number _ (search rules) (search rules) refl c.clear_waiting.ensures.left c.clear_kept.ensures.left

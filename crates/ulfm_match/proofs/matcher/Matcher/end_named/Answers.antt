@@ -13,4 +13,4 @@ returns-clause-others_wait c =
 
 pub returns-clause-tracks : goal.returns-clause-tracks
 returns-clause-tracks c h r es ends t =
-    named_filtered c.args.rank.number h r es _ _ ends (subst (λ (s : Matching). Tracks h r s) (sym c.self.view_is) t) refl refl c.end_waiting.ensures.left
+    named_filtered c.args.rank.number h r es _ _ ends (subst (Tracks h r) (sym c.self.view_is) t) refl refl refl c.end_waiting.ensures.left

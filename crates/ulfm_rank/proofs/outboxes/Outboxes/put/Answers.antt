@@ -5,5 +5,5 @@ use Rattle.ulfm_rank.proofs.outboxes.Outboxes.put.Goals as goal
 
 pub returns : goal.returns
 returns c = λ item.
-    let after = put c.self.inside.slots.items c.args.self.now.boxes c.args.dest.number c.index_mut-outbox.result.now c.put.new.self (λ b. with_place b c.args.place) (ap (λ (v : Boxes). v.boxes) c.self.view_is) c.requires.inside c.index_mut-outbox.ensures.value c.put.ensures in
+    let after = put c.self.inside.slots.items c.args.dest.number c.put.new.self (λ b. with_place b c.args.place) (ap (λ (v : Boxes). v.boxes) c.self.view_is) c.requires.inside c.index_mut-outbox.ensures.value c.put.ensures in
     rw after (grow_one c.args.self.now.boxes c.args.dest.number c.args.place item c.requires.inside)

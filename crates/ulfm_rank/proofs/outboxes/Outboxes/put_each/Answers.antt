@@ -1,20 +1,19 @@
 use Rattle.std.proofs.Common.{rules, ap, sym, ◌∙◌, arith}
-use Rattle.ulfm_base.specs.RankSet.{has}
 use Rattle.ulfm_rank.specs.inside.Outboxes.{Boxes}
 use Rattle.ulfm_rank.proofs.Slots.{leaving-start, leaving-room, leaving-passed, leaving-step, leaving-end}
 use Rattle.ulfm_rank.proofs.outboxes.Outboxes.put_each.Goals as goal
 
 pub loop-d-init : goal.loop-d-init
-loop-d-init c = leaving-start _ _ _
+loop-d-init c = leaving-start
 
 pub put-requires : goal.put-requires
-put-requires c = leaving-room c.self.inside.slots.items c.loop-d.self-inside.slots.items c.loop-d.d c.args.place (has c.args.to) c.index_mut-outbox.result.now c.loop-d.invariant (ap (λ (v : Boxes). v.room) c.self.view_is ∙ c.requires.room) (search rules) c.index_mut-outbox.ensures.value
+put-requires c = leaving-room c.loop-d.invariant (ap (λ (v : Boxes). v.room) c.self.view_is ∙ c.requires.room) (search rules) c.index_mut-outbox.ensures.value
 
 pub loop-d-preserved : goal.loop-d-preserved
-loop-d-preserved c = leaving-step _ c.loop-d.self-inside.slots.items c.loop-d.d c.args.place (has c.args.to) c.index_mut-outbox.result.now c.put.new.self c.loop-d.invariant (sym c.contains.ensures ∙ c.if-not-contains.false) (search rules) c.index_mut-outbox.ensures.value c.put.ensures
+loop-d-preserved c = leaving-step c.put.new.self c.loop-d.invariant (sym c.contains.ensures ∙ c.if-not-contains.false) (search rules) c.index_mut-outbox.ensures.value c.put.ensures
 
 pub returns : goal.returns
-returns c = leaving-end c.self.inside.slots.items c.loop-d.self-inside.slots.items c.args.self.now.boxes c.loop-d.d c.args.place (has c.args.to) (ap (λ (v : Boxes). v.boxes) c.self.view_is) c.loop-d.invariant (omega (arith, c.loop-d-test.false))
+returns c = leaving-end (ap (λ (v : Boxes). v.boxes) c.self.view_is) c.loop-d.invariant (omega (arith, c.loop-d-test.false))
 
 pub loop-d-preserved-then-not-contains : goal.loop-d-preserved-then-not-contains
-loop-d-preserved-then-not-contains c = leaving-passed _ c.loop-d.self-inside.slots.items c.loop-d.d c.args.place (has c.args.to) c.loop-d.invariant (sym c.contains.ensures ∙ c.if-not-contains.true)
+loop-d-preserved-then-not-contains c = leaving-passed c.loop-d.invariant (sym c.contains.ensures ∙ c.if-not-contains.true)

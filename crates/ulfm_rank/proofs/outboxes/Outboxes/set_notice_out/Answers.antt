@@ -4,7 +4,7 @@ use Rattle.ulfm_rank.proofs.Slots.{put, room_kept}
 use Rattle.ulfm_rank.proofs.outboxes.Outboxes.set_notice_out.Goals as goal
 
 pub returns-clause-boxes : goal.returns-clause-boxes
-returns-clause-boxes c = put c.self.inside.slots.items _ c.args.dest c.index_mut-outbox.result.now _ (λ b. with_notice_out b c.args.notice_out) (ap (λ (v : Boxes). v.boxes) c.self.view_is) c.requires c.index_mut-outbox.ensures.value c.set_notice_out.ensures.contents
+returns-clause-boxes c = put c.self.inside.slots.items c.args.dest _ (λ b. with_notice_out b c.args.notice_out) (ap (λ (v : Boxes). v.boxes) c.self.view_is) c.requires c.index_mut-outbox.ensures.value c.set_notice_out.ensures.contents
 
 pub returns-clause-room : goal.returns-clause-room
-returns-clause-room c = room_kept c.self.inside.slots.items _ _ c.args.dest c.index_mut-outbox.result.now _ (ap (λ (v : Boxes). v.boxes) c.self.view_is) (ap (λ (v : Boxes). v.room) c.self.view_is) c.requires c.index_mut-outbox.ensures.value c.set_notice_out.ensures.room
+returns-clause-room c = room_kept c.self.inside.slots.items c.args.dest _ (ap (λ (v : Boxes). v.boxes) c.self.view_is) (ap (λ (v : Boxes). v.room) c.self.view_is) c.requires c.index_mut-outbox.ensures.value c.set_notice_out.ensures.room

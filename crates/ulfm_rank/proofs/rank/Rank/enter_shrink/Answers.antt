@@ -1,6 +1,5 @@
-use Rattle.std.proofs.Common.{rules, ◌≡◌, ◌++◌, ◌∷◌, [], ℕ, List, length, ap, sym, subst, ◌∙◌, arith, nat_eq, not}
-use Rattle.indexmap.specs.IndexMap.{get}
-use Rattle.ulfm_rank.proofs.Common.{is_member, Entry, Entered, state_of, Knows, AllGrow, members_of}
+use Rattle.std.proofs.Common.{rules, ◌≡◌, ◌++◌, ◌∷◌, [], length, ap, sym, subst, ◌∙◌, arith, not}
+use Rattle.ulfm_rank.proofs.Common.{is_member, Entered, state_of, Knows, AllGrow, members_of}
 use Rattle.ulfm_rank.specs.Owed.{entry_told}
 use Rattle.ulfm_rank.specs.State.{State, View}
 use Rattle.ulfm_rank.proofs.Entries.{shrinks-entered, shrinkable}
@@ -16,10 +15,10 @@ seen : (c : After-push_reserved) → state_of c.self.inside ≡ c.args.self.now.
 seen c = ap (λ (v : View). v.state) c.self.view_is
 
 longer : (c : After-push_reserved) → c.push_reserved.new.self.items ≡ c.self.inside.log.items ++ Entered c.args.comm.context c.known-known.result ∷ []
-longer c = c.push_reserved.ensures.items ∙ ap (λ (l : List Entry). l ++ Entered c.args.comm.context c.known-known.result ∷ []) c.reserve.ensures.items
+longer c = c.push_reserved.ensures.items ∙ ap (λ l. l ++ Entered c.args.comm.context c.known-known.result ∷ []) c.reserve.ensures.items
 
 knows : (c : After-push_reserved) → Knows c.self.inside.log.items c.known-known.result
-knows c = λ r. c.known-known.ensures r ∙ knows_gone c.self.inside.log.items c.self.inside.faults c.self.invariant.follows.faults r
+knows c = λ r. c.known-known.ensures r ∙ knows_gone c.self.invariant.follows.faults r
 
 grows : (c : After-push_reserved) → AllGrow c.self.inside.outboxes.boxes c.announce.new.outboxes.boxes (length c.self.inside.log.items) (entry_told c.self.inside.ranks c.self.inside.me.number c.self.inside.log.items c.args.comm.context c.known-known.result)
 grows c =
@@ -27,14 +26,14 @@ grows c =
     let place : c.len-2.result ≡ length a.log.items = search rules in
     let group : members_of a.ranks a.log.items c.args.comm.context.number ≡ c.in_ok-running_group.field-0.now =
     ap (λ (s : State). members_of s.ranks s.log c.args.comm.context.number) (seen c) ∙ members_found c.args.self.now.state.ranks c.args.self.now.state.log c.args.comm.context.number c.in_ok-running_group.field-0.now c.in_ok-running_group.ensures.group in
-    rw (place, c.in_ok-reserve-2.ensures.boxes) at (c.announce.ensures a.ranks a.log.items c.args.comm.context (knows c) (λ r. c.members-members.ensures r ∙ ap (λ (g : List ℕ). is_member g r) (sym group)))
+    rw (place, c.in_ok-reserve-2.ensures.boxes) at (c.announce.ensures a.ranks a.log.items c.args.comm.context (knows c) (λ r. c.members-members.ensures r ∙ ap (λ g. is_member g r) (sym group)))
 
 pub invariant_of-self-2 : goal.invariant_of-self-2
 invariant_of-self-2 c =
     let a = c.self.inside in
     record {
-      follows = rw (longer c) (follows_entered a.ranks a.me.number a.log.items a.stopped a.matcher (get nat_eq a.requests) a.faults a.communicators a.outboxes.boxes c.self.invariant.follows c.args.comm.context c.known-known.result c.announce.new.outboxes.boxes (grows c));
-      shrinks = rw (longer c) (shrinks-entered a.me.number a.log.items c.args.comm.context c.known-known.result a.shrinks c.note.new.self c.self.invariant.shrinks (shrinkable c.args.comm.context.number c.shrink_of.result c.shrink_of.ensures (c.is_none.ensures ∙ ap not c.if-is_none.false)) c.note.ensures);
+      follows = rw (longer c) (follows_entered c.self.invariant.follows c.args.comm.context c.known-known.result c.announce.new.outboxes.boxes (grows c));
+      shrinks = rw (longer c) (shrinks-entered c.args.comm.context c.known-known.result c.note.new.self c.self.invariant.shrinks (shrinkable c.args.comm.context.number c.shrink_of.result c.shrink_of.ensures (c.is_none.ensures ∙ ap not c.if-is_none.false)) c.note.ensures);
       places = omega (arith, c.in_ok-reserve.ensures.ok, c.push_reserved.ensures.len, c.push_reserved.ensures.capacity, c.len.ensures.len, stop_places_few a.stopped);
     }
 
@@ -44,6 +43,5 @@ returns-clause-enters c =
     record {
       known = c.known-known.result;
       knows = subst (λ (s : State). Knows s.log c.known-known.result) (seen c) (knows c);
-      only = state_logged a.me.number a.ranks a.log.items c.push_reserved.new.self.items a.outboxes.boxes c.announce.new.outboxes.boxes c.args.self.now.state (Entered c.args.comm.context c.known-known.result) (seen c) (longer c)
-          (marks-grown a.outboxes.boxes c.announce.new.outboxes.boxes (length a.log.items) (entry_told a.ranks a.me.number a.log.items c.args.comm.context c.known-known.result) (grows c));
+      only = state_logged a.outboxes.boxes c.announce.new.outboxes.boxes (Entered c.args.comm.context c.known-known.result) (seen c) (longer c) (marks-grown (grows c));
     }

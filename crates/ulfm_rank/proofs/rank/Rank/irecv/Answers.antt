@@ -1,53 +1,40 @@
-use Rattle.std.proofs.Common.{◌≡◌, ℕ, false, List, [], ◌∷◌, ◌++◌, length, ap, sym, subst, arith, refl, ◌∙◌, Some, nat_eq}
+use Rattle.std.proofs.Common.{◌≡◌, false, [], ◌∷◌, ◌++◌, length, ap, sym, subst, arith, refl, ◌∙◌, Some, nat_eq}
 use Rattle.std.specs.Map.{lookup}
 use Rattle.std.specs.Option.{is_some}
 use Rattle.indexmap.specs.IndexMap.{get, index_map_len}
-use Rattle.ulfm_rank.proofs.Common.{Context, Pattern, count_before, Entry, Posted, Request, IsRequest, is_revoked, history_of, Follows, state_of, IsOfGroup}
+use Rattle.ulfm_rank.proofs.Common.{Context, Pattern, count_before, Posted, Request, IsRequest, is_revoked, history_of, Follows, state_of, IsOfGroup}
 use Rattle.ulfm_rank.specs.Calls.{IsReceive}
 use Rattle.ulfm_rank.specs.Checks.{receive_checks, Passes}
 use Rattle.ulfm_rank.specs.inside.Requests.{Adds}
-use Rattle.ulfm_rank.specs.State.{View, State}
-use Rattle.ulfm_rank.proofs.Entries.{shrinks-same, shrinks-logged}
-use Rattle.ulfm_rank.proofs.InStep.{count_small, posted_request, adds_itself}
+use Rattle.ulfm_rank.specs.State.{View}
+use Rattle.ulfm_rank.proofs.Entries.{shrinks-logged}
+use Rattle.ulfm_rank.proofs.InStep.{count_small, in_step_open, posted_request, adds_itself}
 use Rattle.ulfm_rank.proofs.Refusals.{all_pass}
-use Rattle.ulfm_rank.proofs.Whole.{at_most_one, follows_same, follows_posted, state_grown}
-use Rattle.ulfm_rank.proofs.Seen.{stop_places_few}
+use Rattle.ulfm_rank.proofs.Whole.{at_most_one, follows_same, follows_posted, holds_same}
+use Rattle.ulfm_rank.proofs.Seen.{state_logged, stop_places_few}
 use Rattle.ulfm_rank.proofs.rank.Rank.irecv.Goals as goal
 use Rattle.ulfm_rank.proofs.rank.Rank.irecv.Goals.{After-push_reserved}
 
 pub invariant_of-self-in_err-reserve-2 : goal.invariant_of-self-in_err-reserve-2
-invariant_of-self-in_err-reserve-2 c =
-    let a = c.self.inside in
-    record {
-      follows =
-          subst (λ (log : List Entry). Follows a.ranks a.me.number log a.stopped a.matcher (get nat_eq c.reserve-2.new.self) a.faults a.communicators a.outboxes.boxes) (sym c.reserve.ensures.items)
-          (follows_same a.ranks a.me.number a.log.items a.stopped a.matcher (get nat_eq a.requests) a.faults a.communicators a.outboxes.boxes c.self.invariant.follows
-          a.matcher (get nat_eq c.reserve-2.new.self) a.outboxes.boxes refl refl refl (λ k. ap (λ (es : List (ℕ × Request)). lookup (nat_eq k) es) c.reserve-2.ensures.entries) refl);
-      shrinks = shrinks-same a.me.number a.log.items c.reserve.new.self.items a.shrinks c.self.invariant.shrinks c.reserve.ensures.items;
-      places =
-          let same : index_map_len c.reserve-2.new.self ≡ index_map_len a.requests = ap (λ (es : List (ℕ × Request)). length es) c.reserve-2.ensures.entries in
-          omega (arith, c.self.invariant.places, same, c.reserve.ensures.len, c.reserve.ensures.capacity);
-    }
+invariant_of-self-in_err-reserve-2 c = holds_same c.self.inside c.self.invariant refl refl refl refl refl refl refl refl refl refl c.reserve-2.ensures.entries refl c.reserve.ensures.items c.reserve.ensures.len c.reserve.ensures.capacity
 
 pub invariant_of-self-in_err-prepare : goal.invariant_of-self-in_err-prepare
-invariant_of-self-in_err-prepare c =
-    let a = c.self.inside in
-    record {
-      follows =
-          subst (λ (log : List Entry). Follows a.ranks a.me.number log a.stopped c.prepare.new.self (get nat_eq c.reserve-2.new.self) a.faults a.communicators a.outboxes.boxes) (sym c.reserve.ensures.items)
-          (follows_same a.ranks a.me.number a.log.items a.stopped a.matcher (get nat_eq a.requests) a.faults a.communicators a.outboxes.boxes c.self.invariant.follows
-          c.prepare.new.self (get nat_eq c.reserve-2.new.self) a.outboxes.boxes c.prepare.ensures.waiting c.prepare.ensures.kept c.prepare.ensures.count (λ k. ap (λ (es : List (ℕ × Request)). lookup (nat_eq k) es) c.reserve-2.ensures.entries) refl);
-      shrinks = shrinks-same a.me.number a.log.items c.reserve.new.self.items a.shrinks c.self.invariant.shrinks c.reserve.ensures.items;
-      places =
-          let same : index_map_len c.reserve-2.new.self ≡ index_map_len a.requests = ap (λ (es : List (ℕ × Request)). length es) c.reserve-2.ensures.entries in
-          omega (arith, c.self.invariant.places, same, c.reserve.ensures.len, c.reserve.ensures.capacity);
-    }
+invariant_of-self-in_err-prepare c = holds_same c.self.inside c.self.invariant refl refl refl refl refl refl c.prepare.ensures.waiting c.prepare.ensures.kept c.prepare.ensures.count c.prepare.ensures.cleared c.reserve-2.ensures.entries refl c.reserve.ensures.items c.reserve.ensures.len c.reserve.ensures.capacity
 
 pub admit-fate-requires-clause-countable : goal.admit-fate-requires-clause-countable
 admit-fate-requires-clause-countable c =
     let a = c.self.inside in
-    let small = count_small a.ranks a.log.items a.matcher (get nat_eq a.requests) c.self.invariant.follows.in_step in
+    let small = count_small c.self.invariant.follows.in_step in
     omega (arith, small, c.prepare.ensures.count, a.log.small, a.log.ok.0, a.log.ok.1)
+
+pub admit-fate-requires-clause-open : goal.admit-fate-requires-clause-open
+admit-fate-requires-clause-open c =
+    let a = c.self.inside in
+    let s = state_of a in
+    let x = c.args.comm.context.number in
+    let passes : Passes (receive_checks s x c.args.source) = subst (λ (v : View). Passes (receive_checks v.state x c.args.source)) (sym c.self.view_is) c.in_ok-pattern.ensures.accepted in
+    let fresh : is_revoked a.log.items c.in_ok-pattern.pattern.context.number ≡ false = ap (λ (d : Context). is_revoked a.log.items d.number) c.in_ok-pattern.ensures.asks_for.context ∙ (all_pass (receive_checks s x c.args.source) passes).1.1.0 in
+    rw c.prepare.ensures.cleared (in_step_open c.self.invariant.follows.in_step c.in_ok-pattern.pattern.context.number fresh)
 
 module _ (c : After-push_reserved) where
   abbrev pattern : Pattern
@@ -59,41 +46,33 @@ module _ (c : After-push_reserved) where
   ready : Follows c.self.inside.ranks c.self.inside.me.number c.self.inside.log.items c.self.inside.stopped c.prepare.new.self (get nat_eq c.reserve-2.new.self) c.self.inside.faults c.self.inside.communicators c.self.inside.outboxes.boxes
   ready =
       let a = c.self.inside in
-      follows_same a.ranks a.me.number a.log.items a.stopped a.matcher (get nat_eq a.requests) a.faults a.communicators a.outboxes.boxes c.self.invariant.follows
-      c.prepare.new.self (get nat_eq c.reserve-2.new.self) a.outboxes.boxes c.prepare.ensures.waiting c.prepare.ensures.kept c.prepare.ensures.count (λ k. ap (λ (es : List (ℕ × Request)). lookup (nat_eq k) es) c.reserve-2.ensures.entries) refl
+      follows_same c.self.invariant.follows
+      c.prepare.new.self (get nat_eq c.reserve-2.new.self) a.outboxes.boxes c.prepare.ensures.waiting c.prepare.ensures.kept c.prepare.ensures.count c.prepare.ensures.cleared (λ k. ap (lookup (nat_eq k)) c.reserve-2.ensures.entries) refl
 
   receive : IsReceive c.args.self.now.state c.args.comm c.args.source c.args.tag c.args.room pattern
   receive = c.in_ok-pattern.ensures.asks_for
 
-  unrevoked : is_revoked c.self.inside.log.items pattern.context.number ≡ false
-  unrevoked =
-      let s : State = state_of c.self.inside in
-      let passes : Passes (receive_checks s c.args.comm.context.number c.args.source) = subst (λ (v : View). Passes (receive_checks v.state c.args.comm.context.number c.args.source)) (sym c.self.view_is) c.in_ok-pattern.ensures.accepted in
-      let x = c.args.comm.context.number in
-      ap (λ (d : Context). is_revoked c.self.inside.log.items d.number) receive.context
-      ∙ (all_pass (receive_checks s x c.args.source) passes).1.1.0
-
   adds : Adds c.prepare.new.self.count request (get nat_eq c.reserve-2.new.self) (get nat_eq c.insert.new.self)
-  adds = subst (λ (k : ℕ). Adds k request (get nat_eq c.reserve-2.new.self) (get nat_eq c.insert.new.self)) c.admit-fate.ensures.number c.in-Ok.ensures.updates.0
+  adds = subst (λ k. Adds k request (get nat_eq c.reserve-2.new.self) (get nat_eq c.insert.new.self)) c.admit-fate.ensures.number c.in-Ok.ensures.updates.0
 
   longer : c.push_reserved.new.self.items ≡ c.self.inside.log.items ++ Posted pattern ∷ []
-  longer = c.push_reserved.ensures.items ∙ ap (λ (log : List Entry). log ++ Posted pattern ∷ []) c.reserve.ensures.items
+  longer = c.push_reserved.ensures.items ∙ ap (λ log. log ++ Posted pattern ∷ []) c.reserve.ensures.items
 
   done : Follows c.self.inside.ranks c.self.inside.me.number (c.self.inside.log.items ++ Posted pattern ∷ []) c.self.inside.stopped c.admit-fate.new.matcher (get nat_eq c.insert.new.self) c.self.inside.faults c.self.inside.communicators c.self.inside.outboxes.boxes
   done =
       let a = c.self.inside in
       let of_group : IsOfGroup a.ranks a.log.items pattern = subst (λ (v : View). IsOfGroup v.state.ranks v.state.log pattern) (sym c.self.view_is) c.in_ok-pattern.ensures.of_group in
-      follows_posted a.ranks a.me.number a.log.items a.stopped c.prepare.new.self (get nat_eq c.reserve-2.new.self) a.faults a.communicators a.outboxes.boxes ready pattern of_group c.admit-fate.result.1 c.admit-fate.new.matcher (get nat_eq c.insert.new.self) unrevoked
+      follows_posted ready pattern of_group c.admit-fate.result.1 c.admit-fate.new.matcher (get nat_eq c.insert.new.self)
       (rw (sym c.names_known-gone.ensures) c.admit-fate.ensures.tracks) adds
 
 pub invariant_of-self-2 : goal.invariant_of-self-2
 invariant_of-self-2 c =
     let a = c.self.inside in
     record {
-      follows = subst (λ (log : List Entry). Follows a.ranks a.me.number log a.stopped c.admit-fate.new.matcher (get nat_eq c.insert.new.self) a.faults a.communicators a.outboxes.boxes) (sym (longer c)) (done c);
-      shrinks = shrinks-logged a.me.number a.log.items c.push_reserved.new.self.items (Posted (pattern c)) a.shrinks c.self.invariant.shrinks (λ k. refl) (λ k r. refl) (longer c);
+      follows = subst (λ log. Follows a.ranks a.me.number log a.stopped c.admit-fate.new.matcher (get nat_eq c.insert.new.self) a.faults a.communicators a.outboxes.boxes) (sym (longer c)) (done c);
+      shrinks = shrinks-logged (Posted (pattern c)) c.self.invariant.shrinks (λ k. refl) (λ k r. refl) (longer c);
       places =
-          let same : index_map_len c.reserve-2.new.self ≡ index_map_len a.requests = ap (λ (es : List (ℕ × Request)). length es) c.reserve-2.ensures.entries in
+          let same : index_map_len c.reserve-2.new.self ≡ index_map_len a.requests = ap length c.reserve-2.ensures.entries in
           let one = at_most_one (is_some c.in-Ok.field-0) in
           let stop = stop_places_few a.stopped in
           omega (arith, c.in_ok-reserve.ensures.ok, c.push_reserved.ensures.len, c.push_reserved.ensures.capacity, c.in-Ok.ensures.len, one, stop, c.len-places.ensures.len, same, c.reserve.ensures.len);
@@ -105,7 +84,7 @@ returns-clause-posts c =
     record {
       pattern = pattern c;
       receive = receive c;
-      only = state_grown a.me.number a.ranks a.log.items c.push_reserved.new.self.items a.outboxes.boxes a.outboxes.boxes (Posted (pattern c)) c.args.self.now.state (ap (λ (v : View). v.state) c.self.view_is) (longer c) refl;
+      only = state_logged a.outboxes.boxes a.outboxes.boxes (Posted (pattern c)) (ap (λ (v : View). v.state) c.self.view_is) (longer c) refl;
     }
 
 pub returns-clause-request : goal.returns-clause-request
@@ -113,6 +92,6 @@ returns-clause-request c =
     let a = c.self.inside in
     let num : count_before (history_of a.log.items) (length (history_of a.log.items)) ≡ c.admit-fate.result.0.number = sym (ready c).in_step.tracks.remains.count ∙ sym c.admit-fate.ensures.number in
     let there : get nat_eq c.insert.new.self c.admit-fate.result.0.number ≡ Some (request c) =
-    adds_itself c.admit-fate.result.0.number (request c) (get nat_eq c.reserve-2.new.self) (get nat_eq c.insert.new.self) (subst (λ (k : ℕ). Adds k (request c) (get nat_eq c.reserve-2.new.self) (get nat_eq c.insert.new.self)) (sym c.admit-fate.ensures.number) (adds c)) in
+    adds_itself c.admit-fate.result.0.number (request c) (get nat_eq c.reserve-2.new.self) (get nat_eq c.insert.new.self) (subst (λ k. Adds k (request c) (get nat_eq c.reserve-2.new.self) (get nat_eq c.insert.new.self)) (sym c.admit-fate.ensures.number) (adds c)) in
     let posted = posted_request a.log.items (pattern c) c.admit-fate.result.0.number num ((done c).in_step.table.unreleased c.admit-fate.result.0.number (request c) there) in
-    (posted.0, pattern c, subst (λ (log : List Entry). IsRequest log c.admit-fate.result.0.number posted.0 (pattern c)) (sym (longer c)) posted.1)
+    (posted.0, pattern c, subst (λ log. IsRequest log c.admit-fate.result.0.number posted.0 (pattern c)) (sym (longer c)) posted.1)

@@ -1,16 +1,16 @@
-use Rattle.std.proofs.Common.{◌≡◌, ◌<◌, false, List, length, ap, sym, ◌∙◌, arith}
-use Rattle.ulfm_rank.proofs.Common.{is_stopped, Box, state_of}
+use Rattle.std.proofs.Common.{◌≡◌, ◌<◌, false, length, ap, sym, ◌∙◌, arith}
+use Rattle.ulfm_rank.proofs.Common.{is_stopped}
 use Rattle.ulfm_rank.specs.State.{State, View}
 use Rattle.ulfm_rank.proofs.Seen.{all_out, none_left}
 use Rattle.ulfm_rank.proofs.rank.Rank.is_outbox_empty.Goals as goal
 
 pub returns-then-not-self : goal.returns-then-not-self
 returns-then-not-self c =
-    let seen : state_of c.self.inside ≡ c.args.self.now.state = ap (λ (v : View). v.state) c.self.view_is in
-    let boxes : List Box = c.self.inside.outboxes.boxes in
+    let seen = ap (λ (v : View). v.state) c.self.view_is in
+    let boxes = c.self.inside.outboxes.boxes in
     let held = c.self.invariant.follows.outboxes in
     let inside : c.args.dest < length boxes = omega (arith, c.requires, held.size, ap (λ (s : State). s.ranks) seen) in
     let running : is_stopped c.self.inside.log.items ≡ false = sym c.self.invariant.follows.halted ∙ c.if-not-self.true in (
-      λ t. all_out c.self.inside.me.number c.self.inside.ranks c.self.inside.log.items boxes c.args.self.now.state c.args.dest seen held inside running (c.is_drained.ensures.0 t),
-      λ e. c.is_drained.ensures.1 (none_left c.self.inside.me.number c.self.inside.ranks c.self.inside.log.items boxes c.args.self.now.state c.args.dest seen held inside running e),
+      λ t. all_out boxes c.args.dest seen held inside running (c.is_drained.ensures.0 t),
+      λ e. c.is_drained.ensures.1 (none_left boxes c.args.dest seen held inside running e),
     )

@@ -1,7 +1,6 @@
-use Rattle.std.proofs.Common.{rules, ◌≡◌, ◌++◌, ◌∷◌, [], eqb, List, length, refl, ap, ◌∙◌, arith, nat_eq}
-use Rattle.indexmap.specs.IndexMap.{get}
+use Rattle.std.proofs.Common.{rules, ◌≡◌, ◌++◌, ◌∷◌, [], length, refl, ap, ◌∙◌, arith}
 use Rattle.ulfm_base.specs.declared.item.Item.TheVariants.{Letter as Mail}
-use Rattle.ulfm_rank.proofs.Common.{Letter, Entry, Sent, for_each, state_of}
+use Rattle.ulfm_rank.proofs.Common.{Letter, Sent}
 use Rattle.ulfm_rank.specs.State.{State, View}
 use Rattle.ulfm_rank.proofs.Entries.{shrinks-logged}
 use Rattle.ulfm_rank.proofs.Held.{marks-grown}
@@ -11,22 +10,24 @@ use Rattle.ulfm_rank.proofs.rank.Rank.isend.Goals as goal
 
 pub invariant_of-self-2 : goal.invariant_of-self-2
 invariant_of-self-2 c =
-    let letter : Letter = record { envelope = record { context = c.args.comm.context; source = c.self.inside.me; tag = c.args.tag }; body = c.in_ok-body.body } in
-    let now_log : c.push_reserved.new.self.items ≡ c.self.inside.log.items ++ (Sent c.in_ok-to.to letter) ∷ [] = c.push_reserved.ensures.items ∙ ap (λ (l : List Entry). l ++ (Sent c.in_ok-to.to letter) ∷ []) c.reserve.ensures.items in
-    let place : c.len-2.result ≡ length c.self.inside.log.items = search rules in
+    let a = c.self.inside in
+    let letter : Letter = record { envelope = record { context = c.args.comm.context; source = a.me; tag = c.args.tag }; body = c.in_ok-body.body } in
+    let now_log = c.push_reserved.ensures.items ∙ ap (λ l. l ++ (Sent c.in_ok-to.to letter) ∷ []) c.reserve.ensures.items in
+    let place : c.len-2.result ≡ length a.log.items = search rules in
     let grows = rw (place, c.in_ok-reserve-2.ensures.boxes) at (c.put.ensures (Mail letter)) in
     record {
-      follows = rw now_log (follows_sent c.self.inside.ranks c.self.inside.me.number c.self.inside.log.items c.self.inside.stopped c.self.inside.matcher (get nat_eq c.self.inside.requests) c.self.inside.faults c.self.inside.communicators c.self.inside.outboxes.boxes c.self.invariant.follows c.in_ok-to.to letter c.put.new.self.boxes grows);
-      shrinks = shrinks-logged c.self.inside.me.number c.self.inside.log.items c.push_reserved.new.self.items (Sent c.in_ok-to.to letter) c.self.inside.shrinks c.self.invariant.shrinks (λ k. refl) (λ k r. refl) now_log;
-      places = omega (arith, c.in_ok-reserve.ensures.ok, c.push_reserved.ensures.len, c.push_reserved.ensures.capacity, c.len.ensures.len, stop_places_few c.self.inside.stopped);
+      follows = rw now_log (follows_sent c.self.invariant.follows c.in_ok-to.to letter c.put.new.self.boxes grows);
+      shrinks = shrinks-logged (Sent c.in_ok-to.to letter) c.self.invariant.shrinks (λ k. refl) (λ k r. refl) now_log;
+      places = omega (arith, c.in_ok-reserve.ensures.ok, c.push_reserved.ensures.len, c.push_reserved.ensures.capacity, c.len.ensures.len, stop_places_few a.stopped);
     }
 
 pub returns-clause-sends : goal.returns-clause-sends
 returns-clause-sends c =
-    let seen : state_of c.self.inside ≡ c.args.self.now.state = ap (λ (v : View). v.state) c.self.view_is in
-    let letter : Letter = record { envelope = record { context = c.args.comm.context; source = c.self.inside.me; tag = c.args.tag }; body = c.in_ok-body.body } in
-    let now_log : c.push_reserved.new.self.items ≡ c.self.inside.log.items ++ (Sent c.in_ok-to.to letter) ∷ [] = c.push_reserved.ensures.items ∙ ap (λ (l : List Entry). l ++ (Sent c.in_ok-to.to letter) ∷ []) c.reserve.ensures.items in
-    let place : c.len-2.result ≡ length c.self.inside.log.items = search rules in
+    let a = c.self.inside in
+    let seen = ap (λ (v : View). v.state) c.self.view_is in
+    let letter : Letter = record { envelope = record { context = c.args.comm.context; source = a.me; tag = c.args.tag }; body = c.in_ok-body.body } in
+    let now_log = c.push_reserved.ensures.items ∙ ap (λ l. l ++ (Sent c.in_ok-to.to letter) ∷ []) c.reserve.ensures.items in
+    let place : c.len-2.result ≡ length a.log.items = search rules in
     let grows = rw (place, c.in_ok-reserve-2.ensures.boxes) at (c.put.ensures (Mail letter)) in
     record {
       to = c.in_ok-to.to;
@@ -35,6 +36,6 @@ returns-clause-sends c =
       context = refl;
       source = ap (λ (s : State). s.me) seen;
       has_tag = refl;
-      carries = c.in_ok-body.ensures;
-      only = state_logged c.self.inside.me.number c.self.inside.ranks c.self.inside.log.items c.push_reserved.new.self.items c.self.inside.outboxes.boxes c.put.new.self.boxes c.args.self.now.state (Sent c.in_ok-to.to letter) seen now_log (marks-grown c.self.inside.outboxes.boxes c.put.new.self.boxes (length c.self.inside.log.items) (for_each (λ d. eqb c.in_ok-to.to.number d) (Mail letter)) grows);
+      carries = c.in_ok-body.ensures.bytes;
+      only = state_logged a.outboxes.boxes c.put.new.self.boxes (Sent c.in_ok-to.to letter) seen now_log (marks-grown grows);
     }

@@ -13,4 +13,5 @@ returns-clause-sound c =
 pub returns-clause-paired : goal.returns-clause-paired
 returns-clause-paired c =
     let a = c.self.inside in
-    subst (λ (v : View). IsPaired v.state.log) c.self.view_is (paired a.log.items c.self.invariant.follows.in_step.pairing c.self.invariant.follows.in_step.tracks.lawful)
+    let t = c.self.invariant.follows.in_step in
+    subst (λ (v : View). IsPaired v.state.log) c.self.view_is (paired a.log.items t.pairing t.tracks.well_formed t.tracks.lawful)

@@ -1,26 +1,27 @@
-use Rattle.std.proofs.Common.{◌≡◌, ◌<◌, ◌≤◌, ◌-◌, true, false, List, length, set, refl, ap, sym, ◌∙◌, arith}
-use Rattle.ulfm_rank.proofs.Common.{is_stopped, state_of}
-use Rattle.ulfm_rank.specs.inside.Outboxes.{Box, box_at, with_items_out, HasOutboxes}
+use Rattle.std.proofs.Common.{◌≡◌, ◌<◌, ◌-◌, true, false, length, set, refl, ap, sym, ◌∙◌, arith}
+use Rattle.ulfm_rank.proofs.Common.{is_stopped}
+use Rattle.ulfm_rank.specs.inside.Outboxes.{box_at, with_items_out, HasOutboxes}
 use Rattle.ulfm_rank.specs.State.{State, View}
 use Rattle.ulfm_rank.proofs.Seen.{returns_item, returns_notice, outboxes-marked}
 use Rattle.ulfm_rank.proofs.rank.Rank.put_back.Goals as goal
 
 pub returns-then-self-clause-state : goal.returns-then-self-clause-state
 returns-then-self-clause-state c =
-    let seen : state_of c.self.inside ≡ c.args.self.now.state = ap (λ (v : View). v.state) c.self.view_is in
+    let seen = ap (λ (v : View). v.state) c.self.view_is in
     let stopped : is_stopped c.self.inside.log.items ≡ true = sym c.self.invariant.follows.halted ∙ c.if-self.true in
-    rw c.set_notice_out.ensures.boxes (returns_notice c.self.inside.me.number c.self.inside.ranks c.self.inside.log.items c.self.inside.outboxes.boxes c.args.self.now.state c.args.dest seen stopped)
+    rw c.set_notice_out.ensures.boxes (returns_notice c.self.inside.outboxes.boxes c.args.dest seen stopped)
 
 pub invariant_of-self-2 : goal.invariant_of-self-2
 invariant_of-self-2 c =
-    let seen : state_of c.self.inside ≡ c.args.self.now.state = ap (λ (v : View). v.state) c.self.view_is in
-    let boxes : List Box = c.self.inside.outboxes.boxes in
+    let a = c.self.inside in
+    let seen = ap (λ (v : View). v.state) c.self.view_is in
+    let boxes = a.outboxes.boxes in
     let held = c.self.invariant.follows.outboxes in
     let inside : c.args.dest < length boxes = omega (arith, c.requires.inside, held.size, ap (λ (s : State). s.ranks) seen) in
-    let b : Box = box_at boxes c.args.dest in
-    let w : b.items_out ≤ length b.places = held.within c.args.dest inside in
-    let marked : HasOutboxes c.self.inside.ranks c.self.inside.me.number c.self.inside.log.items (set boxes c.args.dest (with_items_out b (b.items_out - 1))) =
-    outboxes-marked c.self.inside.ranks c.self.inside.me.number c.self.inside.log.items boxes c.args.dest (with_items_out b (b.items_out - 1)) held inside refl (omega (arith, w)) (λ s. held.no_notice s c.args.dest inside) (λ e. ap (λ k. (box_at boxes k).notice_out) (sym e) ∙ held.no_own_notice) in
+    let b = box_at boxes c.args.dest in
+    let w = held.within c.args.dest inside in
+    let marked : HasOutboxes a.ranks a.me.number a.log.items (set boxes c.args.dest (with_items_out b (b.items_out - 1))) =
+    outboxes-marked c.args.dest (with_items_out b (b.items_out - 1)) held inside refl (omega (arith, w)) (λ s. held.no_notice s c.args.dest inside) (λ e. ap (λ k. (box_at boxes k).notice_out) (sym e) ∙ held.no_own_notice) in
     record {
       follows = record {
         small = c.self.invariant.follows.small;
@@ -36,6 +37,6 @@ invariant_of-self-2 c =
 
 pub returns-clause-state : goal.returns-clause-state
 returns-clause-state c =
-    let seen : state_of c.self.inside ≡ c.args.self.now.state = ap (λ (v : View). v.state) c.self.view_is in
+    let seen = ap (λ (v : View). v.state) c.self.view_is in
     let running : is_stopped c.self.inside.log.items ≡ false = sym c.self.invariant.follows.halted ∙ c.if-self.false in
-    rw c.put_back.ensures.boxes (returns_item c.self.inside.me.number c.self.inside.ranks c.self.inside.log.items c.self.inside.outboxes.boxes c.args.self.now.state c.args.dest seen running)
+    rw c.put_back.ensures.boxes (returns_item c.self.inside.outboxes.boxes c.args.dest seen running)

@@ -1,36 +1,38 @@
-use Rattle.std.proofs.Common.{rules, ◌≡◌, ◌++◌, ◌∷◌, [], ℕ, false, List, length, refl, ap, sym, ◌∙◌, arith, nat_eq}
+use Rattle.std.proofs.Common.{rules, ◌≡◌, ◌++◌, ◌∷◌, [], ℕ, false, length, refl, ap, sym, ◌∙◌, arith, nat_eq}
 use Rattle.indexmap.specs.IndexMap.{get}
-use Rattle.ulfm_rank.proofs.Common.{Entry, Revoked, is_revoked, is_gone, passed_on, state_of, is_member, has}
+use Rattle.ulfm_rank.proofs.Common.{Revoked, is_revoked, is_gone, has}
 use Rattle.ulfm_rank.specs.State.{State, View}
 use Rattle.ulfm_rank.proofs.Entries.{shrinks-logged}
 use Rattle.ulfm_rank.proofs.Held.{marks-grown}
 use Rattle.ulfm_rank.proofs.Following.{follows_revoked}
 use Rattle.ulfm_rank.proofs.Seen.{stop_places_few, state_logged}
-use Rattle.ulfm_rank.proofs.Known.{known_gone}
+use Rattle.ulfm_rank.proofs.Known.{knows_gone}
 use Rattle.ulfm_rank.proofs.rank.Rank.revoke.Goals as goal
 
 pub invariant_of-self-2 : goal.invariant_of-self-2
 invariant_of-self-2 c =
-    let now_log : c.push_reserved.new.self.items ≡ c.self.inside.log.items ++ Revoked c.args.comm.context ∷ [] = c.push_reserved.ensures.items ∙ ap (λ (l : List Entry). l ++ Revoked c.args.comm.context ∷ []) c.reserve.ensures.items in
+    let a = c.self.inside in
+    let now_log = c.push_reserved.ensures.items ∙ ap (λ l. l ++ Revoked c.args.comm.context ∷ []) c.reserve.ensures.items in
     let faults = c.self.invariant.follows.faults in
-    let first : is_revoked c.self.inside.log.items c.args.comm.context.number ≡ false = sym (faults.marks c.args.comm.context.number) ∙ sym c.is_revoked.ensures ∙ c.if-is_revoked.false in
-    let place : c.len-2.result ≡ length c.self.inside.log.items = search rules in
-    let knows : (r : ℕ) → has c.known-known.result r ≡ is_gone c.self.inside.log.items r = λ r. c.known-known.ensures r ∙ ap (λ (known : List ℕ). is_member known r) faults.knows ∙ known_gone c.self.inside.log.items r in
-    let grows = rw (place, c.in_ok-reserve-2.ensures.boxes) at (c.forward.ensures c.self.inside.log.items knows first) in
+    let first : is_revoked a.log.items c.args.comm.context.number ≡ false = sym (faults.marks c.args.comm.context.number) ∙ sym c.is_revoked.ensures ∙ c.if-is_revoked.false in
+    let place : c.len-2.result ≡ length a.log.items = search rules in
+    let knows : (r : ℕ) → has c.known-known.result r ≡ is_gone a.log.items r = λ r. c.known-known.ensures r ∙ knows_gone faults r in
+    let grows = rw (place, c.in_ok-reserve-2.ensures.boxes) at (c.forward.ensures a.log.items knows first) in
     record {
-      follows = rw now_log (follows_revoked c.self.inside.ranks c.self.inside.me.number c.self.inside.log.items c.self.inside.stopped c.self.inside.matcher (get nat_eq c.self.inside.requests) c.self.inside.faults c.self.inside.communicators c.self.inside.outboxes.boxes c.self.invariant.follows c.args.comm.context c.clear.new.matcher (get nat_eq c.clear.new.requests) c.revoke.new.self c.forward.new.outboxes.boxes first c.clear.ensures.tracks c.revoke.ensures.marks_this_context_alone c.revoke.ensures.known_stay c.revoke.ensures.totals_stay grows);
-      shrinks = shrinks-logged c.self.inside.me.number c.self.inside.log.items c.push_reserved.new.self.items (Revoked c.args.comm.context) c.self.inside.shrinks c.self.invariant.shrinks (λ k. refl) (λ k r. refl) now_log;
-      places = omega (arith, c.in_ok-reserve.ensures.ok, c.push_reserved.ensures.len, c.push_reserved.ensures.capacity, c.len.ensures.len, c.clear.ensures.len, stop_places_few c.self.inside.stopped);
+      follows = rw now_log (follows_revoked c.self.invariant.follows c.args.comm.context c.clear.new.matcher (get nat_eq c.clear.new.requests) c.revoke.new.self c.forward.new.outboxes.boxes first c.clear.ensures.tracks c.revoke.ensures.marks_this_context_alone c.revoke.ensures.known_stay c.revoke.ensures.totals_stay grows);
+      shrinks = shrinks-logged (Revoked c.args.comm.context) c.self.invariant.shrinks (λ k. refl) (λ k r. refl) now_log;
+      places = omega (arith, c.in_ok-reserve.ensures.ok, c.push_reserved.ensures.len, c.push_reserved.ensures.capacity, c.len.ensures.len, c.clear.ensures.len, stop_places_few a.stopped);
     }
 
 pub returns-clause-state : goal.returns-clause-state
 returns-clause-state c =
-    let seen : state_of c.self.inside ≡ c.args.self.now.state = ap (λ (v : View). v.state) c.self.view_is in
-    let now_log : c.push_reserved.new.self.items ≡ c.self.inside.log.items ++ Revoked c.args.comm.context ∷ [] = c.push_reserved.ensures.items ∙ ap (λ (l : List Entry). l ++ Revoked c.args.comm.context ∷ []) c.reserve.ensures.items in
+    let a = c.self.inside in
+    let seen = ap (λ (v : View). v.state) c.self.view_is in
+    let now_log = c.push_reserved.ensures.items ∙ ap (λ l. l ++ Revoked c.args.comm.context ∷ []) c.reserve.ensures.items in
     let faults = c.self.invariant.follows.faults in
-    let first : is_revoked c.self.inside.log.items c.args.comm.context.number ≡ false = sym (faults.marks c.args.comm.context.number) ∙ sym c.is_revoked.ensures ∙ c.if-is_revoked.false in
-    let place : c.len-2.result ≡ length c.self.inside.log.items = search rules in
-    let knows : (r : ℕ) → has c.known-known.result r ≡ is_gone c.self.inside.log.items r = λ r. c.known-known.ensures r ∙ ap (λ (known : List ℕ). is_member known r) faults.knows ∙ known_gone c.self.inside.log.items r in
-    let grows = rw (place, c.in_ok-reserve-2.ensures.boxes) at (c.forward.ensures c.self.inside.log.items knows first) in
+    let first : is_revoked a.log.items c.args.comm.context.number ≡ false = sym (faults.marks c.args.comm.context.number) ∙ sym c.is_revoked.ensures ∙ c.if-is_revoked.false in
+    let place : c.len-2.result ≡ length a.log.items = search rules in
+    let knows : (r : ℕ) → has c.known-known.result r ≡ is_gone a.log.items r = λ r. c.known-known.ensures r ∙ knows_gone faults r in
+    let grows = rw (place, c.in_ok-reserve-2.ensures.boxes) at (c.forward.ensures a.log.items knows first) in
     let first' : is_revoked c.args.self.now.state.log c.args.comm.context.number ≡ false = ap (λ (s : State). is_revoked s.log c.args.comm.context.number) (sym seen) ∙ first in
-    rw first' (state_logged c.self.inside.me.number c.self.inside.ranks c.self.inside.log.items c.push_reserved.new.self.items c.self.inside.outboxes.boxes c.forward.new.outboxes.boxes c.args.self.now.state (Revoked c.args.comm.context) seen now_log (marks-grown c.self.inside.outboxes.boxes c.forward.new.outboxes.boxes (length c.self.inside.log.items) (passed_on c.self.inside.me.number c.self.inside.log.items c.args.comm.context) grows))
+    rw first' (state_logged a.outboxes.boxes c.forward.new.outboxes.boxes (Revoked c.args.comm.context) seen now_log (marks-grown grows))

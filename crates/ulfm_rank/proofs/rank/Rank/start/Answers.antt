@@ -1,7 +1,6 @@
-use Rattle.std.proofs.Common.{◌≡◌, ℕ, List, [], ◌∷◌, ap, arith, sym, subst, ◌∙◌, None, nat_eq}
+use Rattle.std.proofs.Common.{◌≡◌, ℕ, [], ◌∷◌, ap, arith, ◌∙◌, None, nat_eq}
 use Rattle.std.specs.Map.{lookup}
 use Rattle.indexmap.specs.IndexMap.{get}
-use Rattle.ulfm_rank.proofs.Common.{Entry, Request, Follows}
 use Rattle.ulfm_rank.proofs.Entries.{shrinks-same, shrinks-start}
 use Rattle.ulfm_rank.proofs.Whole.{follows_start, state_start}
 use Rattle.ulfm_rank.proofs.rank.Rank.start.Goals as goal
@@ -12,15 +11,14 @@ empty c = c.reserve.ensures.items ∙ c.new-log.ensures.items
 
 pub invariant_of-result-2 : goal.invariant_of-result-2
 invariant_of-result-2 c =
-    let none : (k : ℕ) → get nat_eq c.new-6.result k ≡ None = λ k. ap (λ (es : List (ℕ × Request)). lookup (nat_eq k) es) c.new-6.ensures.empty in
+    let none : (k : ℕ) → get nat_eq c.new-6.result k ≡ None = λ k. ap (lookup (nat_eq k)) c.new-6.ensures.empty in
     let size = c.in_ok-world.ensures.ok in
     record {
-      follows =
-          subst (λ (log : List Entry). Follows c.args.ranks c.args.me log _ c.new-4.result (get nat_eq c.new-6.result) c.new-5.result c.in_ok-communicators.communicators c.in_ok-outboxes.outboxes.boxes) (sym (empty c))
+      follows = rw (empty c)
           (follows_start c.args.ranks c.args.me c.new-4.result (get nat_eq c.new-6.result) c.new-5.result c.in_ok-communicators.communicators c.in_ok-outboxes.outboxes.boxes
           size.1 c.if-me-ranks.false c.new-4.ensures none c.new-5.ensures.none_known c.new-5.ensures.none_acknowledged c.new-5.ensures.none_revoked
-          (c.in_ok-communicators.ensures ∙ ap (λ (g : List ℕ). (0, g) ∷ []) size.2) c.in_ok-outboxes.ensures);
-      shrinks = shrinks-same c.args.me [] c.reserve.new.self.items c.in_ok-shrinks.shrinks (shrinks-start c.args.me c.in_ok-shrinks.shrinks c.in_ok-shrinks.ensures) (empty c);
+          (c.in_ok-communicators.ensures ∙ ap (λ g. (0, g) ∷ []) size.2) c.in_ok-outboxes.ensures);
+      shrinks = shrinks-same (shrinks-start c.args.me c.in_ok-shrinks.shrinks c.in_ok-shrinks.ensures) (empty c);
       places = omega (arith, c.in_ok-reserve.ensures.ok, c.reserve.ensures.len, c.new-log.ensures.len, c.new-6.ensures.len);
     }
 

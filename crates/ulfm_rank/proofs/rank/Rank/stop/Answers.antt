@@ -1,5 +1,4 @@
-use Rattle.std.proofs.Common.{◌≡◌, refl, arith, nat_eq}
-use Rattle.indexmap.specs.IndexMap.{get}
+use Rattle.std.proofs.Common.{◌≡◌, refl, arith}
 use Rattle.ulfm_rank.specs.inside.Rank.{stop_places}
 use Rattle.ulfm_rank.specs.declared.entry.Entry.TheVariants.{Stopped}
 use Rattle.ulfm_rank.proofs.Entries.{shrinks-logged}
@@ -8,7 +7,7 @@ use Rattle.ulfm_rank.proofs.rank.Rank.stop.Goals as goal
 
 pub invariant_of-self : goal.invariant_of-self
 invariant_of-self c = record {
-  follows = rw c.push_reserved.ensures.items (follows_stopped c.self.inside.ranks c.self.inside.me.number c.self.inside.log.items c.self.inside.stopped c.self.inside.matcher (get nat_eq c.self.inside.requests) c.self.inside.faults c.self.inside.communicators c.self.inside.outboxes.boxes c.self.invariant.follows);
-  shrinks = shrinks-logged c.self.inside.me.number c.self.inside.log.items c.push_reserved.new.self.items Stopped c.self.inside.shrinks c.self.invariant.shrinks (λ k. refl) (λ k r. refl) c.push_reserved.ensures.items;
+  follows = rw c.push_reserved.ensures.items (follows_stopped c.self.invariant.follows);
+  shrinks = shrinks-logged Stopped c.self.invariant.shrinks (λ k. refl) (λ k r. refl) c.push_reserved.ensures.items;
   places = let p = c.self.invariant.places in let q : stop_places c.self.inside.stopped ≡ 1 = rw c.if-self.false refl in omega (arith, p, q, c.push_reserved.ensures.len, c.push_reserved.ensures.capacity);
 }

@@ -1,18 +1,19 @@
-use Rattle.std.proofs.Common.{◌≡◌, ◌<◌, true, false, List, length, ap, sym, ◌∙◌, arith}
-use Rattle.ulfm_rank.proofs.Common.{is_stopped, Box, state_of}
+use Rattle.std.proofs.Common.{◌≡◌, ◌<◌, true, false, length, ap, sym, ◌∙◌, arith}
+use Rattle.ulfm_rank.proofs.Common.{is_stopped}
 use Rattle.ulfm_rank.specs.State.{State, View}
 use Rattle.ulfm_rank.proofs.Seen.{leaves_next, leaves_notice, outboxes-taken, all_out, IfSome_both, IfNone_weaker}
 use Rattle.ulfm_rank.proofs.rank.Rank.take_out.Goals as goal
 
 pub invariant_of-self : goal.invariant_of-self
 invariant_of-self c =
-    let seen : state_of c.self.inside ≡ c.args.self.now.state = ap (λ (v : View). v.state) c.self.view_is in
-    let boxes : List Box = c.self.inside.outboxes.boxes in
+    let a = c.self.inside in
+    let seen = ap (λ (v : View). v.state) c.self.view_is in
+    let boxes = a.outboxes.boxes in
     let held = c.self.invariant.follows.outboxes in
     let inside : c.args.dest < length boxes = omega (arith, c.requires, held.size, ap (λ (s : State). s.ranks) seen) in
-    let log : c.deref.result.now ≡ c.self.inside.log.items = c.deref.ensures.value in
-    let next = rw log at (c.take_next.ensures.next c.self.inside.ranks c.self.inside.me.number) in
-    let same = rw log at (c.take_next.ensures.unchanged c.self.inside.ranks c.self.inside.me.number) in
+    let log = c.deref.ensures.value in
+    let next = rw log at (c.take_next.ensures.next a.ranks a.me.number) in
+    let same = rw log at (c.take_next.ensures.unchanged a.ranks a.me.number) in
     record {
       follows = record {
         small = c.self.invariant.follows.small;
@@ -20,7 +21,7 @@ invariant_of-self c =
         in_step = c.self.invariant.follows.in_step;
         faults = c.self.invariant.follows.faults;
         communicators = c.self.invariant.follows.communicators;
-        outboxes = outboxes-taken c.self.inside.ranks c.self.inside.me.number c.self.inside.log.items c.self.inside.outboxes c.take_next.new.outboxes c.args.dest c.take_next.result held inside (next held) c.take_next.ensures.taken (same held);
+        outboxes = outboxes-taken a.outboxes c.take_next.new.outboxes c.args.dest c.take_next.result held inside (next held) c.take_next.ensures.taken (same held);
       };
       shrinks = c.self.invariant.shrinks;
       places = c.self.invariant.places;
@@ -28,32 +29,34 @@ invariant_of-self c =
 
 pub returns-then-not-self-clause-leaves : goal.returns-then-not-self-clause-leaves
 returns-then-not-self-clause-leaves c =
-    let seen : state_of c.self.inside ≡ c.args.self.now.state = ap (λ (v : View). v.state) c.self.view_is in
-    let boxes : List Box = c.self.inside.outboxes.boxes in
+    let a = c.self.inside in
+    let seen = ap (λ (v : View). v.state) c.self.view_is in
+    let boxes = a.outboxes.boxes in
     let held = c.self.invariant.follows.outboxes in
     let inside : c.args.dest < length boxes = omega (arith, c.requires, held.size, ap (λ (s : State). s.ranks) seen) in
-    let running : is_stopped c.self.inside.log.items ≡ false = sym c.self.invariant.follows.halted ∙ c.if-not-self.true in
-    let log : c.deref.result.now ≡ c.self.inside.log.items = c.deref.ensures.value in
-    let next = rw log at (c.take_next.ensures.next c.self.inside.ranks c.self.inside.me.number) in
+    let running : is_stopped a.log.items ≡ false = sym c.self.invariant.follows.halted ∙ c.if-not-self.true in
+    let log = c.deref.ensures.value in
+    let next = rw log at (c.take_next.ensures.next a.ranks a.me.number) in
     IfSome_both c.take_next.result (next held) c.take_next.ensures.taken (λ item found change.
-    rw change (leaves_next c.self.inside.me.number c.self.inside.ranks c.self.inside.log.items boxes c.args.self.now.state c.args.dest item seen held inside running found))
+    rw change (leaves_next boxes c.args.dest seen held inside running found))
 
 pub returns-then-not-self-clause-none : goal.returns-then-not-self-clause-none
 returns-then-not-self-clause-none c =
-    let seen : state_of c.self.inside ≡ c.args.self.now.state = ap (λ (v : View). v.state) c.self.view_is in
-    let boxes : List Box = c.self.inside.outboxes.boxes in
+    let a = c.self.inside in
+    let seen = ap (λ (v : View). v.state) c.self.view_is in
+    let boxes = a.outboxes.boxes in
     let held = c.self.invariant.follows.outboxes in
     let inside : c.args.dest < length boxes = omega (arith, c.requires, held.size, ap (λ (s : State). s.ranks) seen) in
-    let running : is_stopped c.self.inside.log.items ≡ false = sym c.self.invariant.follows.halted ∙ c.if-not-self.true in
-    let log : c.deref.result.now ≡ c.self.inside.log.items = c.deref.ensures.value in
-    let none = rw log at (c.take_next.ensures.none c.self.inside.ranks c.self.inside.me.number) in
-    IfNone_weaker c.take_next.result (none held) (all_out c.self.inside.me.number c.self.inside.ranks c.self.inside.log.items boxes c.args.self.now.state c.args.dest seen held inside running)
+    let running : is_stopped a.log.items ≡ false = sym c.self.invariant.follows.halted ∙ c.if-not-self.true in
+    let log = c.deref.ensures.value in
+    let none = rw log at (c.take_next.ensures.none a.ranks a.me.number) in
+    IfNone_weaker c.take_next.result (none held) (all_out boxes c.args.dest seen held inside running)
 
 pub returns-clause-leaves : goal.returns-clause-leaves
 returns-clause-leaves c =
-    let seen : state_of c.self.inside ≡ c.args.self.now.state = ap (λ (v : View). v.state) c.self.view_is in
-    let boxes : List Box = c.self.inside.outboxes.boxes in
+    let seen = ap (λ (v : View). v.state) c.self.view_is in
+    let boxes = c.self.inside.outboxes.boxes in
     let held = c.self.invariant.follows.outboxes in
     let inside : c.args.dest < length boxes = omega (arith, c.requires, held.size, ap (λ (s : State). s.ranks) seen) in
     let stopped : is_stopped c.self.inside.log.items ≡ true = sym c.self.invariant.follows.halted ∙ c.if-not-self.false in
-    rw c.set_notice_out.ensures.boxes (leaves_notice c.self.inside.me.number c.self.inside.ranks c.self.inside.log.items boxes c.args.self.now.state c.args.dest seen held inside stopped (sym c.is_notice_out.ensures ∙ c.if-is_notice_out.false) (λ e. c.if-dest-self.false (sym e)))
+    rw c.set_notice_out.ensures.boxes (leaves_notice boxes c.args.dest seen held inside stopped (sym c.is_notice_out.ensures ∙ c.if-is_notice_out.false) (λ e. c.if-dest-self.false (sym e)))

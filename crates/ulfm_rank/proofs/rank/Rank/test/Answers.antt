@@ -1,7 +1,7 @@
-use Rattle.std.proofs.Common.{◌≡◌, ℕ, List, refl, ap, sym, subst, arith, ◌∙◌, Some, nat_eq}
+use Rattle.std.proofs.Common.{◌≡◌, ℕ, refl, ap, sym, subst, arith, ◌∙◌, Some, nat_eq}
 use Rattle.std.specs.Option.{is_some}
 use Rattle.indexmap.specs.IndexMap.{get, index_map_len}
-use Rattle.ulfm_rank.proofs.Common.{Pattern, Entry, Follows, View, Released}
+use Rattle.ulfm_rank.proofs.Common.{Pattern, View, Released}
 use Rattle.ulfm_rank.specs.Answer.{IsTestAnswer, IsRequest}
 use Rattle.ulfm_rank.proofs.Entries.{shrinks-logged}
 use Rattle.ulfm_rank.proofs.Answered.{is_request}
@@ -12,12 +12,12 @@ use Rattle.ulfm_rank.proofs.rank.Rank.test.Goals as goal
 pub answer_in-answer-requires-clause-made : goal.answer_in-answer-requires-clause-made
 answer_in-answer-requires-clause-made c =
     let a = c.self.inside in
-    has_group a.ranks a.me.number a.log.items a.stopped a.matcher (get nat_eq a.requests) a.faults a.communicators a.outboxes.boxes c.self.invariant.follows c.args.id.number c.in-Some.request.now (sym c.in-Some.ensures.value)
+    has_group c.self.invariant.follows c.args.id.number c.in-Some.request.now (sym c.in-Some.ensures.value)
 
 pub answer_in-answer-requires-clause-sender : goal.answer_in-answer-requires-clause-sender
 answer_in-answer-requires-clause-sender c =
     let a = c.self.inside in
-    sender_found a.ranks a.me.number a.log.items a.stopped a.matcher (get nat_eq a.requests) a.faults a.communicators a.outboxes.boxes c.self.invariant.follows c.args.id.number c.in-Some.request.now (sym c.in-Some.ensures.value)
+    sender_found c.self.invariant.follows c.args.id.number c.in-Some.request.now (sym c.in-Some.ensures.value)
 
 pub invariant_of-self : goal.invariant_of-self
 invariant_of-self c =
@@ -25,11 +25,9 @@ invariant_of-self c =
     let found : get nat_eq a.requests c.args.id.number ≡ Some c.in-Some.request.now = sym c.in-Some.ensures.value in
     let less = one_less (is_some c.shift_remove.result) (index_map_len c.shift_remove.new.self) (index_map_len a.requests) c.shift_remove.ensures.len (ap is_some (c.shift_remove.ensures.value ∙ found)) in
     record {
-      follows =
-          subst (λ (log : List Entry). Follows a.ranks a.me.number log a.stopped a.matcher (get nat_eq c.shift_remove.new.self) a.faults a.communicators a.outboxes.boxes) (sym c.push_reserved.ensures.items)
-          (follows_released a.ranks a.me.number a.log.items a.stopped a.matcher (get nat_eq a.requests) a.faults a.communicators a.outboxes.boxes c.self.invariant.follows
-          c.args.id c.answer_in-answer.result c.in-Some.request.now found (get nat_eq c.shift_remove.new.self) c.shift_remove.ensures.updates.0);
-      shrinks = shrinks-logged a.me.number a.log.items c.push_reserved.new.self.items (Released c.args.id c.answer_in-answer.result) a.shrinks c.self.invariant.shrinks (λ k. refl) (λ k r. refl) c.push_reserved.ensures.items;
+      follows = rw c.push_reserved.ensures.items
+          (follows_released c.self.invariant.follows c.args.id c.answer_in-answer.result c.in-Some.request.now found (get nat_eq c.shift_remove.new.self) c.shift_remove.ensures.updates.0);
+      shrinks = shrinks-logged (Released c.args.id c.answer_in-answer.result) c.self.invariant.shrinks (λ k. refl) (λ k r. refl) c.push_reserved.ensures.items;
       places = omega (arith, c.self.invariant.places, less, c.push_reserved.ensures.len, c.push_reserved.ensures.capacity);
     }
 
@@ -37,10 +35,10 @@ pub returns-clause-answer : goal.returns-clause-answer
 returns-clause-answer c =
     let a = c.self.inside in
     subst (λ (v : View). IsTestAnswer v.state.ranks v.state.log c.args.id.number c.answer_in-answer.result) c.self.view_is
-    (answered a.ranks a.me.number a.log.items a.stopped a.matcher (get nat_eq a.requests) a.faults a.communicators a.outboxes.boxes c.self.invariant.follows c.args.id.number c.in-Some.request.now (sym c.in-Some.ensures.value) c.answer_in-answer.result c.answer_in-answer.ensures)
+    (answered c.self.invariant.follows c.args.id.number c.in-Some.request.now (sym c.in-Some.ensures.value) c.answer_in-answer.result c.answer_in-answer.ensures)
 
 pub returns-clause-request : goal.returns-clause-request
 returns-clause-request c =
     let a = c.self.inside in
     subst (λ (v : View). (i : ℕ) × (p : Pattern) × IsRequest v.state.log c.args.id.number i p) c.self.view_is
-    (is_request a.ranks a.log.items a.matcher (get nat_eq a.requests) c.self.invariant.follows.in_step c.args.id.number c.in-Some.request.now (sym c.in-Some.ensures.value))
+    (is_request c.self.invariant.follows.in_step c.args.id.number c.in-Some.request.now (sym c.in-Some.ensures.value))

@@ -1,6 +1,5 @@
 use Rattle.std.proofs.Common.{rules, ◌≡◌, Bool, false, arith, subst, ◌∙◌}
-use Rattle.ulfm_job.specs.Job.{script_at}
-use Rattle.ulfm_run.specs.inside.Turns.{WentOn}
+use Rattle.ulfm_run.proofs.Common.{script_at, WentOn}
 use Rattle.ulfm_run.proofs.Working.{goes-on, has-answered}
 use Rattle.ulfm_run.proofs.at_work.AtWork.go_through.Goals as goal
 
@@ -9,8 +8,7 @@ loop-left-preserved-then-not-go_on g c =
     let over : c.go_on.result ≡ false = search rules in
     let same = c.loop-left.invariant.same_job in
     let W : Bool → Type 0 = λ (b : Bool). WentOn (script_at c.args.self.now.job.now c.args.self.now.me) c.args.self.now.job.now.turns c.loop-left.self.worker.player.player c.go_on.new.self.worker.player.player b in
-    let on = goes-on g.E.Ends.name g.E.Ends.place g.E.Ends.count g.E.Ends.pushed g.E.Ends.taken g.E.Ends.ready c.args.self.now.job.now c.args.self.now.me g.D.Decider.board g.D.Decider.known c.loop-left.self.job.now c.loop-left.self.me c.args.self.now.worker.player c.loop-left.self.worker.player c.go_on.new.self.worker.player c.args.self.now.worker.end c.loop-left.self.worker.end c.go_on.new.self.worker.end
-    c.args.self.now.worker.decider c.loop-left.self.worker.decider c.go_on.new.self.worker.decider c.go_on.result same.0 same.1 c.loop-left.invariant.keeps c.go_on.ensures.keeps c.go_on.ensures.polls in
+    let on = goes-on c.go_on.result same.0 same.1 c.loop-left.invariant.keeps c.go_on.ensures.keeps c.go_on.ensures.polls in
     record {
       same_job = (c.go_on.ensures.same_job.0 ∙ same.0, c.go_on.ensures.same_job.1 ∙ same.1);
       keeps = on.0;
@@ -19,5 +17,5 @@ loop-left-preserved-then-not-go_on g c =
 
 pub returns-clause-done : goal.returns-clause-done
 returns-clause-done g c =
-    has-answered (script_at c.args.self.now.job.now c.args.self.now.me) c.args.self.now.job.now.turns c.loop-left.self.worker.player.player (c.loop-left.invariant.keeps.at_work c.requires.at_work).follows
+    has-answered (c.loop-left.invariant.keeps.at_work c.requires.at_work).follows
     (c.loop-left.invariant.over (omega (arith, c.loop-left-test.false, c.turns-left.ensures.ranges.some_turn)))

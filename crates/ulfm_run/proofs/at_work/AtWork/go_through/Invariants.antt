@@ -1,6 +1,5 @@
 use Rattle.std.proofs.Common.{◌≡◌, ◌+◌, ◌<◌}
-use Rattle.ulfm_job.specs.Job.{script_at}
-use Rattle.ulfm_script.specs.inside.Underway.{polls_left}
+use Rattle.ulfm_run.proofs.Common.{polls_left, script_at}
 use Rattle.ulfm_run.specs.inside.Turns.{IsOver, Keeps}
 use Rattle.ulfm_run.proofs.at_work.AtWork.go_through.Given as goal
 

@@ -1,5 +1,5 @@
 use Rattle.std.proofs.Common.{refl, sym, ap, ◌∙◌, slice_get}
-use Rattle.ulfm_job.specs.Job.{script_at}
+use Rattle.ulfm_run.proofs.Common.{script_at}
 use Rattle.ulfm_run.proofs.Working.{at-work-polled, not-over}
 use Rattle.ulfm_run.proofs.at_work.AtWorkHands.poll.Goals as goal
 
@@ -11,11 +11,11 @@ returns g c =
         refl,
         refl,
         record {
-          at_work = λ h. at-work-polled g.E.Ends.name g.E.Ends.place g.E.Ends.count g.E.Ends.pushed g.E.Ends.taken g.E.Ends.ready c.args.self.now.job.now c.args.self.now.me c.args.self.now.worker.player c.poll-answered.new.player c.args.self.now.worker.end h c.poll-answered.ensures.polls;
+          at_work = λ h. at-work-polled h c.poll-answered.ensures.polls;
           same_end = refl;
           same_board = c.poll-answered.ensures.board;
           honest = c.poll-answered.ensures.honest;
         },
-        (not-over (script_at c.args.self.now.job.now c.args.self.now.me) c.args.self.now.worker.player.player c.in-Some.step running next, c.poll-answered.ensures.polls.falls),
+        (not-over (script_at c.args.self.now.job.now c.args.self.now.me) c.args.self.now.worker.player.player running next, c.poll-answered.ensures.polls.falls),
       );
     }

@@ -1,40 +1,37 @@
 use Rattle.std.proofs.Common.{◌≡◌, ℕ, arith, refl, ap, sym, subst, ◌∙◌}
 use Rattle.ulfm_base.specs.Items.{ComesFrom}
 use Rattle.ulfm_rank.specs.State.{State, returned}
-use Rattle.ulfm_script.specs.Player.{Player, with_rank}
+use Rattle.ulfm_rank.proofs.Signed.{front_signed}
+use Rattle.ulfm_run.proofs.Common.{Player, with_rank}
 use Rattle.ulfm_run.proofs.Working.{carried}
 use Rattle.ulfm_run.proofs.Joining.{moves-pushed, moves-returned}
-use Rattle.ulfm_rank.proofs.Signed.{front_signed}
 use Rattle.ulfm_run.proofs.at_work.AtWorkHands.push_one.Goals as goal
 
 pub push-requires-clause-item : goal.push-requires-clause-item
 push-requires-clause-item g c =
-    let P : ℕ → Type 0 = λ m. ComesFrom m c.in-Some.item in
     let joined = c.requires.fits.joined in
-    subst P (sym joined.placed) (front_signed c.args.self.now.worker.player.player.rank c.args.dest c.in-Some.item _ joined.signed c.in-Some.ensures.leaves.front)
+    subst (λ (m : ℕ). ComesFrom m c.in-Some.item) (sym joined.placed) (front_signed c.args.self.now.worker.player.player.rank c.args.dest c.in-Some.item _ joined.signed c.in-Some.ensures.leaves.front)
 
 pub returns-in-Ok-clause-moves : goal.returns-in-Ok-clause-moves
 returns-in-Ok-clause-moves g c =
     let t = c.in-Ok.ensures in (
       refl,
       refl,
-      carried g.E.Ends.name g.E.Ends.place g.E.Ends.count g.E.Ends.pushed g.E.Ends.taken g.E.Ends.ready c.args.self.now.job.now c.args.self.now.me g.D.Decider.board g.D.Decider.known c.args.self.now.worker.player c.take_out.new.self c.args.self.now.worker.end c.push.new.self c.args.self.now.worker.decider
-          (moves-pushed g.E.Ends.name g.E.Ends.place g.E.Ends.count g.E.Ends.pushed g.E.Ends.taken g.E.Ends.ready c.args.self.now.worker.player c.take_out.new.self c.args.self.now.worker.end c.push.new.self c.args.dest c.in-Some.item c.requires.fits.joined (omega (arith, c.requires.inside, c.requires.fits.counted))
+      carried
+          (moves-pushed c.args.self.now.worker.player c.take_out.new.self c.push.new.self c.requires.fits.joined (omega (arith, c.requires.inside, c.requires.fits.counted))
           c.in-Some.ensures.leaves c.in-Some.ensures.only c.in-Some.ensures.room t.name.0 t.name.1 t.name.2 t.name.3 t.taken t.others t.pushed),
     )
 
 pub returns-in-Err-clause-moves : goal.returns-in-Err-clause-moves
 returns-in-Err-clause-moves g c =
-    let t = c.in-Err.ensures in
-    let v : Player = c.args.self.now.worker.player.player in
-    let out : Player = c.take_out.new.self.player in
+    let t = c.in-Err.ensures in let v = c.args.self.now.worker.player.player in
     let same : c.put_back.new.self.player ≡ v =
     c.put_back.ensures.player
-    ∙ ap (λ (p : Player). with_rank p (returned out.rank c.args.dest)) c.in-Some.ensures.only
+    ∙ ap (λ (p : Player). with_rank p (returned c.take_out.new.self.player.rank c.args.dest)) c.in-Some.ensures.only
     ∙ ap (λ (r : State). with_rank v r) c.in-Some.ensures.leaves.comes_back in (
       refl,
       refl,
-      carried g.E.Ends.name g.E.Ends.place g.E.Ends.count g.E.Ends.pushed g.E.Ends.taken g.E.Ends.ready c.args.self.now.job.now c.args.self.now.me g.D.Decider.board g.D.Decider.known c.args.self.now.worker.player c.put_back.new.self c.args.self.now.worker.end c.push.new.self c.args.self.now.worker.decider
-          (moves-returned g.E.Ends.name g.E.Ends.place g.E.Ends.count g.E.Ends.pushed g.E.Ends.taken g.E.Ends.ready c.args.self.now.worker.player c.put_back.new.self c.args.self.now.worker.end c.push.new.self c.args.dest c.requires.fits.joined
+      carried
+          (moves-returned c.args.self.now.worker.player c.put_back.new.self c.push.new.self c.args.dest c.requires.fits.joined
           same (c.put_back.ensures.room ∙ c.in-Some.ensures.room) t.name.0 t.name.1 t.name.2 t.name.3 t.taken t.others t.pushed.1),
     )

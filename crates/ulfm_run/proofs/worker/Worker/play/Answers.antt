@@ -4,7 +4,7 @@ use Rattle.ulfm_run.proofs.worker.Worker.play.Goals as goal
 
 pub returns-clause-played : goal.returns-clause-played
 returns-clause-played g c =
-    played g.E.Ends.name g.E.Ends.place g.E.Ends.count g.E.Ends.pushed g.E.Ends.taken g.E.Ends.ready c.args.job.now c.args.me c.go_through.new.self.worker.player c.args.self.end c.go_through.new.self.worker.end c.report.result
+    played c.go_through.new.self.worker.player c.args.self.end c.report.result
     c.requires.place c.go_through.ensures.keeps.same_end (c.go_through.ensures.keeps.at_work c.requires.at_work) c.go_through.ensures.done c.report.ensures.rank c.report.ensures.steps
 
 pub returns-clause-answers : goal.returns-clause-answers

@@ -11,4 +11,4 @@ run_job-requires-clause-one_call g c κs within =
 pub run_job-requires-clause-fresh : goal.run_job-requires-clause-fresh
 run_job-requires-clause-fresh g c κs within =
     let inner = λ (e : Laid g.row.E.Denot g.row.H.Denot). e.inner in
-    fresh_over inner g.E.Ends.count g.E.Ends.pushed g.E.Ends.taken g.E.Ends.ready c.in-Some.ends.items c.args.inners.items c.in-Some.ensures c.requires.fresh
+    fresh_over inner g.E.Ends.count g.E.Ends.pushed g.E.Ends.taken g.E.Ends.ready c.in-Some.ends.items c.in-Some.ensures c.requires.fresh

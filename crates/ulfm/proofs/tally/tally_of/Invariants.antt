@@ -1,0 +1,18 @@
+use Rattle.std.proofs.Common.{◌≡◌, ◌≤◌, ◌-◌, All, List, length, map}
+use Rattle.std.specs.List.{list_any}
+use Rattle.ulfm_laws.specs.Lawful.{IsLawful}
+use Rattle.ulfm_script.specs.Report.{Report}
+use Rattle.ulfm_script.specs.Trace.{trace_of}
+use Rattle.ulfm.specs.declared.tally.Counted.{Counted}
+use Rattle.ulfm.specs.inside.Tallied.{rows_of}
+use Rattle.ulfm.specs.Tally.{tally}
+use Rattle.ulfm.specs.Unfinished.{has_unfinished}
+use Rattle.ulfm.proofs.tally.tally_of.Given as goal
+
+abbrev pub decreases-loop-done : goal.decreases-loop-done
+decreases-loop-done g l = l.times - l.done
+
+abbrev pub invariant-loop-done : goal.invariant-loop-done
+invariant-loop-done g l = (l.done ≤ l.times) × All (λ (row : Counted). row.count ≤ l.done) l.tally.rows.items
+    × ((runs : List (List Report)) × (length runs ≡ l.done) × All (IsLawful l.job) runs
+    × (l.tally.is_unfinished ≡ list_any has_unfinished runs) × (rows_of l.tally.rows.items ≡ tally (map trace_of runs)))

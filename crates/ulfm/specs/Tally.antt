@@ -1,0 +1,26 @@
+-- The traces of repeated runs, counted.
+use Rattle.std.specs.Prelude.{ℕ, ◌+◌, List, [], ◌∷◌, ◌++◌, codes, fold, if◌then◌else◌}
+use Rattle.std.specs.Fmt.{decimal}
+use Rattle.std.specs.List.{flat_map}
+use Rattle.std.specs.Str.{bytes_eq}
+
+-- a trace, and how many runs gave it
+abbrev pub Row : Type 0
+Row = List ℕ × ℕ
+
+-- one more trace: where it came before, its count rises by one, else it stands last, once
+abbrev pub counted : List Row → List ℕ → List Row
+counted [] trace = (trace, 1) ∷ []
+counted (row ∷ rows) trace = if bytes_eq row.0 trace then (row.0, row.1 + 1) ∷ rows else row ∷ counted rows trace
+
+-- each distinct trace once, in the order in which they first came, with its count
+abbrev pub tally : List (List ℕ) → List Row
+tally traces = fold counted [] traces
+
+-- a count and its trace, of so many runs
+abbrev pub row_text : ℕ → Row → List ℕ
+row_text times row = decimal row.1 ++ codes " of " ++ decimal times ++ codes " runs:\n" ++ row.0
+
+-- all counts with their traces
+abbrev pub tally_text : ℕ → List Row → List ℕ
+tally_text times rows = flat_map (row_text times) rows

@@ -1,0 +1,179 @@
+//! Which steps of a job that can be read will surely be refused, and why.
+
+use crate::doom::Doom;
+use crate::keys::{integer_at, text_at};
+use crate::rules::{Key, OPS};
+use crate::steps::rank_of;
+use toml::Value;
+
+/// The most bytes of a message.
+const MOST_BYTES: usize = 1024;
+
+/// The last communicator that can be duplicated or shrunk.
+const LAST_PARENT: i64 = 30;
+
+/// A step among those of its rank, in a job of so many ranks.
+#[derive(Clone, Copy)]
+pub struct Placed<'a> {
+    /// The steps of the file.
+    pub steps: &'a [Value],
+    pub ranks: u8,
+    pub rank: i64,
+    /// Its number among the steps of its rank.
+    pub number: usize,
+    pub step: &'a Value,
+}
+
+/// The op of a step, if it is known.
+fn op_of(step: &Value) -> Option<&'static str> {
+    let op = text_at(step.as_table()?, Key::Op)?;
+    OPS.iter().copied().find(|known| *known == op)
+}
+
+/// The communicator of a step: the world where it names none.
+fn comm_of(step: &Value) -> i64 {
+    match step.as_table() {
+        Some(table) => integer_at(table, Key::Comm).unwrap_or(0),
+        None => 0,
+    }
+}
+
+/// Whether a step makes this communicator, if it isn't refused.
+fn makes(step: &Value, comm: i64) -> bool {
+    let twice = comm_of(step).saturating_mul(2);
+    match op_of(step) {
+        Some("dup") => twice.saturating_add(1) == comm,
+        Some("shrink") => twice.saturating_add(2) == comm,
+        _ => false,
+    }
+}
+
+impl<'a> Placed<'a> {
+    /// The step of its rank with this number.
+    fn sibling(&self, number: usize) -> Option<&'a Value> {
+        let mut of_rank = self
+            .steps
+            .iter()
+            .filter(|step| rank_of(*step) == Some(self.rank));
+        of_rank.nth(number)
+    }
+
+    /// Whether its rank stops before it.
+    pub fn is_after_stop(&self) -> bool {
+        let mut of_rank = self
+            .steps
+            .iter()
+            .filter(|step| rank_of(*step) == Some(self.rank));
+        of_rank
+            .by_ref()
+            .take(self.number)
+            .any(|step| op_of(step) == Some("stop"))
+    }
+
+    /// Why it will be refused, if it surely will.
+    pub fn doom(&self) -> Option<Doom> {
+        match op_of(self.step) {
+            Some("wait") => self.doom_of_wait(),
+            Some(op) => self.doom_of_call(op),
+            None => None,
+        }
+    }
+
+    /// Why a call other than a wait will be refused.
+    fn doom_of_call(&self, op: &'static str) -> Option<Doom> {
+        if op == "stop" {
+            return None;
+        }
+        self.doom_of_rank()
+            .or(self.doom_of_body())
+            .or(self.doom_of_comm(op))
+    }
+
+    /// A `to` or a `from` past the ranks of the world.
+    fn doom_of_rank(&self) -> Option<Doom> {
+        let table = self.step.as_table()?;
+        for key in [Key::To, Key::From] {
+            if let Some(rank) = integer_at(table, key) {
+                if rank >= i64::from(self.ranks) {
+                    return Some(Doom::PastRanks(key, rank, self.ranks));
+                }
+            }
+        }
+        None
+    }
+
+    /// A body that is too long.
+    fn doom_of_body(&self) -> Option<Doom> {
+        let body = text_at(self.step.as_table()?, Key::Body)?;
+        if body.len() > MOST_BYTES {
+            Some(Doom::LongBody(body.len()))
+        } else {
+            None
+        }
+    }
+
+    /// A communicator that isn't made, is revoked, or has its one duplicate or shrink. Where a step that makes it stands between,
+    /// earlier calls on it say nothing.
+    fn doom_of_comm(&self, op: &'static str) -> Option<Doom> {
+        let comm = comm_of(self.step);
+        let is_making = op == "dup" || op == "shrink";
+        let mut is_made = comm == 0;
+        let mut revoked = None;
+        let mut again = None;
+        for number in 0..self.number {
+            let earlier = self.sibling(number)?;
+            if makes(earlier, comm) {
+                is_made = true;
+                revoked = None;
+                again = None;
+            }
+            if comm_of(earlier) == comm {
+                let other = op_of(earlier);
+                if other == Some("revoke") {
+                    revoked = Some(Doom::Revoked(comm, number));
+                }
+                if is_making && other == Some(op) {
+                    again = Some(Doom::Again(comm, op, number));
+                }
+            }
+        }
+        if !is_made {
+            return Some(Doom::NotMade(comm));
+        }
+        if is_making && comm > LAST_PARENT {
+            return Some(Doom::NoContext(comm, op));
+        }
+        if op == "send" || op == "recv" || op == "dup" {
+            return revoked.or(again);
+        }
+        again
+    }
+
+    /// A `req` that names no receive, none that comes earlier, or one that will be refused.
+    fn doom_of_wait(&self) -> Option<Doom> {
+        let req = integer_at(self.step.as_table()?, Key::Req)?;
+        let Ok(number) = usize::try_from(req) else {
+            return None;
+        };
+        let Some(step) = self.sibling(number) else {
+            return Some(Doom::NoSuchStep(req));
+        };
+        if number == self.number {
+            return Some(Doom::Itself(req));
+        }
+        if number > self.number {
+            return Some(Doom::Later(req));
+        }
+        let op = op_of(step)?;
+        if op != "recv" {
+            return Some(Doom::NoReceive(req, op));
+        }
+        let asked = Placed {
+            number,
+            step,
+            ..*self
+        };
+        asked.doom_of_call(op)?;
+        Some(Doom::RefusedReceive(req))
+    }
+}
