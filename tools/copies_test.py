@@ -10,6 +10,19 @@ def using(*names):
 
 
 LEMMA = "or_false : (b : Bool) → b || false ≡ b\nor_false b = refl\n"
+
+
+def taken(types, name, kind, of=""):
+    """A file with a type, and a definition of this kind on lists."""
+    return PRELUDE + (
+        "use Rattle.std.specs.Prelude.{Option, None, Some, ◌-◌, take}\n"
+        f"abbrev pub {types}\n"
+        f"abbrev pub {name} : {kind}\n"
+        f"{name}{of} None now = now\n"
+        f"{name}{of} (Some count) now = take (length now - count) now\n"
+    )
+
+
 EXAMPLES = [
     ("a rename is found", {
         "crates/a/proofs/One.antt": PRELUDE + "pub " + LEMMA,
@@ -43,6 +56,21 @@ EXAMPLES = [
             "two a b h = h\n"
         ),
     } | using("One::one", "Two::two"), ["`Suits` is a copy of `Fits`", "`two` is a copy of `one`"]),
+    ("a definition at another type is found, whatever its types are made of, and at any type too", {
+        "crates/a/specs/One.antt": taken("Carried : Type 0\nCarried = ℕ", "shown", "Option ℕ → List Carried → List Carried"),
+        "crates/a/specs/Two.antt": taken("Signed : Type 0\nSigned = ℕ × Bool", "shown", "Option ℕ → List Signed → List Signed"),
+        "crates/a/specs/Three.antt": taken("Ends : Type 0\nEnds = List Bool", "seen", "Option ℕ → List (ℕ × List Ends) → List (ℕ × List Ends)"),
+        "crates/a/specs/Four.antt": taken("Room : Type 0\nRoom = Bool", "left", "{X : Type 0} → Option ℕ → List X → List X", " {X}"),
+        ROOT: "".join(f"ghost use Rattle.a.specs.{names};\n" for names in (
+            "One.{Carried, shown}", "Two.{Signed, shown}", "Three.{Ends, seen}", "Four.{Room, left}"
+        )),
+    }, ["`shown` is a copy but for types of `left`", "`seen` is a copy but for types of `left`", "`shown` is a copy but for types of `left`"]),
+    ("a lemma at another type is found, one that takes a field isn't", {
+        "crates/a/proofs/One.antt": PRELUDE + "pub one : (xs : List ℕ) → length xs ≡ 0 → xs ≡ [] || xs\none xs h = sym h\n"
+        "pub field : (a b : ℕ) → a.number ≡ b.number → a ≡ b\nfield a b h = it h\n",
+        "crates/a/proofs/Two.antt": PRELUDE + "pub two : (ys : List (List Bool)) → length ys ≡ 0 → ys ≡ [] || ys\ntwo ys h = sym h\n"
+        "pub other : (a b : Bool) → a.number ≡ b.number → a ≡ b\nother a b h = it h\n",
+    } | using("One::one", "One::field", "Two::two", "Two::other"), ["`two` is a copy but for types of `one`"]),
     ("bound names of λ, let and elim don't matter", {
         "crates/a/specs/One.antt": PRELUDE + "abbrev pub One : ℕ → Type 0\n"
         "One n = let m : ℕ = n in elim m [ zero ↦ m ≡ n | suc k ↦ (λ (x : ℕ) y. x ≡ y) k m ]\n",

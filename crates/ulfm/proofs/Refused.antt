@@ -12,20 +12,15 @@ use Rattle.ulfm_run.specs.Fault.{ShowUntrue}
 use Rattle.ulfm_script.specs.Report.{Report}
 use Rattle.ulfm_script.specs.declared.fault.RunFault.{RunFault}
 use Rattle.ulfm_script.specs.declared.fault.RunFault.TheVariants as faults
-use Rattle.ulfm.specs.declared.command.RunOptions.{RunOptions}
-use Rattle.ulfm.specs.declared.command.Wanted.{Wanted}
-use Rattle.ulfm.specs.declared.command.Wanted.TheVariants.{Check, Replay, Run}
-use Rattle.ulfm.specs.declared.run.Failure.{Failure}
-use Rattle.ulfm.specs.declared.run.Failure.TheVariants as run
-use Rattle.ulfm.specs.Replies.{IsCheckReply, IsReplayReply, IsRunReply, IsReplyTo, IsWhole, GetsReply, GetsBeginning, refused, no_memory, starved, not_a_job, no_room, failed, no_such_job, no_place, no_thread, untrue, fell, failed_text, refused_text, out_of_memory_text, with_options}
-use Rattle.ulfm.specs.inside.Writing.{GetsFrontOf, failure_of, IsShown}
-
-pub check_refused : (f : JobFault) (bytes : List ℕ) → (f ≢ OutOfMemory → job_of_bytes bytes ≡ Err f) → IsCheckReply bytes 1 (refused_text f)
-check_refused NotToml bytes h = refused _ (h (λ e. cc))
-check_refused (InJob f) bytes h = refused _ (h (λ e. cc))
-check_refused (InStep f k) bytes h = refused _ (h (λ e. cc))
-check_refused TooLarge bytes h = refused _ (h (λ e. cc))
-check_refused OutOfMemory bytes h = no_memory
+use Rattle.ulfm_replies.specs.declared.command.RunOptions.{RunOptions}
+use Rattle.ulfm_replies.specs.declared.command.Wanted.{Wanted}
+use Rattle.ulfm_replies.specs.declared.command.Wanted.TheVariants.{Check, Replay, Run}
+use Rattle.ulfm_replies.specs.Failure.{failed_text, failure_of, out_of_memory_text}
+use Rattle.ulfm_replies.specs.Replies.{refused_text, starved}
+use Rattle.ulfm_replies.specs.declared.failure.Failure.{Failure}
+use Rattle.ulfm_replies.specs.declared.failure.Failure.TheVariants as run
+use Rattle.ulfm.specs.Replies.{IsReplayReply, IsRunReply, IsReplyTo, IsWhole, GetsReply, GetsBeginning, not_a_job, no_room, failed, no_such_job, no_place, no_thread, untrue, fell, with_options}
+use Rattle.ulfm.specs.inside.Writing.{GetsFrontOf, IsShown}
 
 pub replay_refused : {is_strict : Bool} (f : JobFault) (bytes : List ℕ) → (f ≢ OutOfMemory → job_of_bytes bytes ≡ Err f) → IsReplayReply is_strict bytes 1 (refused_text f)
 replay_refused NotToml bytes h = not_a_job _ (h (λ e. cc))

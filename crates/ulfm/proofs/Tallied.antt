@@ -10,7 +10,7 @@ use Rattle.ulfm_script.specs.Trace.{trace_of}
 use Rattle.ulfm.specs.declared.tally.Counted.{Counted}
 use Rattle.ulfm.specs.inside.Tallied.{row_of, rows_of}
 use Rattle.ulfm.specs.Tally.{Row, counted, tally}
-use Rattle.ulfm.specs.Unfinished.{has_unfinished}
+use Rattle.ulfm_replies.specs.Unfinished.{has_unfinished}
 
 -- the first i rows, and then the others with one more trace
 abbrev pub counted_from : List Counted → List ℕ → ℕ → List Row

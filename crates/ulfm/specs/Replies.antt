@@ -1,14 +1,11 @@
--- What is written for a job, and for one that is refused.
-use Rattle.std.specs.Prelude.{◌≡◌, ◌≢◌, ℕ, Bool, List, ◌++◌, length, map, take, Option, Some, None, Ok, Err, All, codes}
+-- What `replay` and `run` write for a job.
+use Rattle.std.specs.Prelude.{◌≡◌, ◌≢◌, ℕ, Bool, List, length, map, take, Option, Some, None, Ok, Err, All}
 use Rattle.std.specs.List.{list_any}
 use Rattle.std.specs.Option.{option_map_or}
-use Rattle.std.specs.Fmt.{decimal}
 use Rattle.std.specs.Io.KnownBytes.{Appends}
-use Rattle.ulfm_job.specs.declared.fault.Fault.{Fault}
-use Rattle.ulfm_job.specs.declared.fault.Fault.TheVariants.{BadKey, UnknownKey, OutOfRange, UnknownOp}
 use Rattle.ulfm_job.specs.declared.fault.JobFault.{JobFault}
-use Rattle.ulfm_job.specs.declared.fault.JobFault.TheVariants.{NotToml, InJob, InStep, TooLarge, OutOfMemory}
-use Rattle.ulfm_job.specs.Job.{Seen, step_count, with_turns}
+use Rattle.ulfm_job.specs.declared.fault.JobFault.TheVariants.{OutOfMemory}
+use Rattle.ulfm_job.specs.Job.{Seen, with_turns}
 use Rattle.ulfm_job.specs.Plan.{plan_of}
 use Rattle.ulfm_job.specs.JobText.{job_of_bytes}
 use Rattle.ulfm_script.specs.Report.{Report}
@@ -17,55 +14,15 @@ use Rattle.ulfm_laws.specs.Lawful.{IsLawful}
 use Rattle.ulfm_run.specs.Fault.{ShowUntrue}
 use Rattle.ulfm_world.specs.Replay.{IsReplayed, MadeAtRest}
 use Rattle.ulfm.specs.Tally.{tally, tally_text}
-use Rattle.ulfm.specs.Unfinished.{has_unfinished, played_status}
-use Rattle.ulfm.specs.declared.command.RunOptions.{RunOptions}
-use Rattle.ulfm.specs.declared.command.Wanted.{Wanted}
-use Rattle.ulfm.specs.declared.command.Wanted.TheVariants.{Check, Replay, Run}
-use Rattle.ulfm.specs.declared.run.Failure.{Failure}
-use Rattle.ulfm.specs.declared.run.Failure.TheVariants as run
+use Rattle.ulfm_replies.specs.declared.command.RunOptions.{RunOptions}
+use Rattle.ulfm_replies.specs.declared.command.Wanted.{Wanted}
+use Rattle.ulfm_replies.specs.declared.command.Wanted.TheVariants.{Check, Replay, Run}
+use Rattle.ulfm_replies.specs.Failure.{failed_text, out_of_memory_text}
+use Rattle.ulfm_replies.specs.Replies.{refused_text, IsCheckReply}
+use Rattle.ulfm_replies.specs.Unfinished.{has_unfinished, played_status}
+use Rattle.ulfm_replies.specs.declared.failure.Failure.TheVariants as run
 
--- how a fault of a table of keys is printed
-abbrev pub fault_text : Fault → List ℕ
-fault_text BadKey = codes "J2"
-fault_text UnknownKey = codes "J3"
-fault_text OutOfRange = codes "J4"
-fault_text UnknownOp = codes "J5"
-
--- how a refusal of a job is printed
-abbrev pub job_fault_text : JobFault → List ℕ
-job_fault_text NotToml = codes "J1"
-job_fault_text (InJob f) = fault_text f
-job_fault_text (InStep f k) = fault_text f ++ codes " step " ++ decimal k
-job_fault_text TooLarge = codes "J6"
-job_fault_text OutOfMemory = codes "J7"
-
--- the line for a job that is refused
-abbrev pub refused_text : JobFault → List ℕ
-refused_text f = codes "job refused: " ++ job_fault_text f ++ codes "\n"
-
--- the line for a good job
-unfoldable pub good_line : ℕ → ℕ → List ℕ
-good_line ranks steps = codes "job ok: " ++ decimal ranks ++ codes " ranks " ++ decimal steps ++ codes " steps\n"
-
--- the line for a run that failed
-abbrev pub failed_text : Failure → List ℕ
-failed_text run.NoThread = codes "run failed: F2\n"
-failed_text run.OutOfMemory = codes "run failed: F3\n"
-failed_text run.Untrue = codes "run failed: F4\n"
-
--- the line for a run that found no memory
-abbrev pub out_of_memory_text : List ℕ
-out_of_memory_text = failed_text run.OutOfMemory
-
--- The status and the text that `check` gives for these bytes: the line of their job with 0, of its refusal with 1,
--- which may be J7, or with 3 the line that memory ran out.
-pub data IsCheckReply (bytes : List ℕ) : ℕ → List ℕ → Type 0 where
-  good : (job : Seen) → job_of_bytes bytes ≡ Ok (plan_of job) → IsCheckReply bytes 0 (good_line job.ranks (step_count job.scripts))
-  refused : (f : JobFault) → job_of_bytes bytes ≡ Err f → IsCheckReply bytes 1 (refused_text f)
-  no_memory : IsCheckReply bytes 1 (refused_text OutOfMemory)
-  starved : IsCheckReply bytes 3 out_of_memory_text
-
--- The same for `replay`: with 0 the trace of the reports of a replay of the job, which are lawful for it, and whose running
+-- The status and the text that `replay` gives for these bytes: with 0 the trace of the reports of a replay of the job, which are lawful for it, and whose running
 -- ranks agree at its end on what failed and was revoked, and on each shrink. With `--strict` it comes with 6 exactly where a
 -- step was left unfinished.
 pub data IsReplayReply (is_strict : Bool) (bytes : List ℕ) : ℕ → List ℕ → Type 0 where

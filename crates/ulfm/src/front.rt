@@ -1,23 +1,22 @@
 //! From words and bytes to a status and bytes.
-ghost use Rattle.std.specs.Prelude.{◌≢◌, ◌≡◌, ◌≤◌, ◌⊎◌, [], false, map, take, IfOk, IfSome, IsTrue, string_bytes};
+ghost use Rattle.std.specs.Prelude.{◌≢◌, ◌≡◌, ◌≤◌, ◌⊎◌, [], false, map, take, IfSome, IsTrue};
 ghost use Rattle.std.specs.Io.KnownBytes.{Keeps, Appends};
-ghost use Rattle.clap.specs.Words.{kind_of};
-ghost use Rattle.ulfm.specs.declared.command.Wanted.{Wanted};
-ghost use Rattle.ulfm.specs.Replies.{IsReplyTo, IsWhole, GetsReply, GetsBeginning, GetsFront, out_of_memory_text};
+ghost use Rattle.ulfm.specs.Replies.{IsReplyTo, IsWhole, GetsReply, GetsBeginning, GetsFront};
 ghost use Rattle.ulfm.specs.inside.Writing.{GetsFrontOf, not_text};
-ghost use Rattle.ulfm.specs.Words.{AsksFor, HasRanges, faults, status_of, IsWordsStatus};
+ghost use Rattle.ulfm_replies.specs.declared.command.Wanted.{Wanted};
+ghost use Rattle.ulfm_replies.specs.Words.{AsksFor, HasRanges, faults, IsWordsStatus};
+ghost use Rattle.ulfm_replies.specs.Failure.{out_of_memory_text};
 
-use crate::command::{Wanted, wanted_of};
-use crate::notes::write_notes;
-use crate::reply::{DONE, INPUT_FAILED, OUTPUT_FAILED, RUN_FAILED, Reply, USAGE, reply_to};
-use crate::stream::{InputFault, read_front, write_whole};
-use clap::Error;
-use clap::error::ErrorKind;
-use std::alloc::{AllocError, Global};
+use crate::reply::reply_to;
+use std::alloc::Global;
 use std::convert::AsStr;
 use std::io::{Read, Write};
 use std::sync::Wait;
 use std::thread::Threads;
+use ulfm_replies::{
+    DONE, INPUT_FAILED, InputFault, OUTPUT_FAILED, RUN_FAILED, USAGE, Unfollowed, Wanted,
+    asked_for, read_front, write_notes, write_whole,
+};
 
 /// What is written where memory runs out outside the reading of a job.
 const STARVED: &[u8] = b"run failed: F3\n";
@@ -48,17 +47,11 @@ where
     ensures not_followed { faults (map S.text words.now) ≢ [] → (R.remaining input.new ≡ R.remaining input.old) × IsWordsStatus (faults (map S.text words.now)) result }
     ensures known { result ≤ 6 }
 {
-    match wanted_of(alloc, words) {
+    match asked_for(alloc, words) {
         Ok(wanted) => follow(rt, alloc, wanted, input, output, errors),
-        Err(error) => {
-            if error.kind() == ErrorKind::OutOfMemory {
-                return write_reply(output, RUN_FAILED, STARVED);
-            }
-            match usage_of(alloc, &error) {
-                Ok(reply) => write_reply(output, reply.status, reply.text.as_bytes()),
-                Err(_) => write_reply(output, RUN_FAILED, STARVED),
-            }
-        }
+        Err(Unfollowed::Help(text)) => write_reply(output, DONE, text.as_bytes()),
+        Err(Unfollowed::Usage(text)) => write_reply(output, USAGE, text.as_bytes()),
+        Err(Unfollowed::OutOfMemory) => write_reply(output, RUN_FAILED, STARVED),
     }
 }
 
@@ -111,15 +104,6 @@ where
         }
         Err(_) => write_reply(output, RUN_FAILED, STARVED),
     }
-}
-
-/// The reply to a command line that can't be followed, and to one that asks for help.
-fn usage_of(alloc: Global, error: &Error) -> Result<Reply, AllocError>
-    ensures { IfOk result (λ r. r.status ≡ status_of (kind_of error.now)) }
-{
-    let text = format!(in alloc; "{error}")?;
-    let status = if error.use_stderr() { USAGE } else { DONE };
-    Ok(Reply { status, text })
 }
 
 /// Writes a text, and answers the status of what it says, or of output that failed.

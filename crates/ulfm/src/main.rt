@@ -1,15 +1,10 @@
 //! The program: words and a job in, a trace out.
 #![tactic(auto)]
 
-mod command;
 mod front;
-mod notes;
-mod number;
 mod reply;
 mod run;
-mod stream;
 mod tally;
-mod trace;
 
 use std::env;
 use std::io::ErrorKind;

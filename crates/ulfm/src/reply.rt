@@ -1,113 +1,15 @@
 //! The reply to a job's bytes.
-ghost use Rattle.std.specs.Prelude.{◌≡◌, Some, IfOk, string_bytes};
-ghost use Rattle.ulfm.specs.Replies.{fault_text, job_fault_text, refused_text, good_line, IsCheckReply, IsReplayReply, IsReplyTo};
-ghost use Rattle.ulfm.specs.Words.{HasRanges};
+ghost use Rattle.std.specs.Prelude.{◌≡◌, IfOk, string_bytes};
+ghost use Rattle.ulfm.specs.Replies.{IsReplayReply, IsReplyTo};
+ghost use Rattle.ulfm_replies.specs.Words.{HasRanges};
 
-use crate::command::Wanted;
 use crate::run::run_reply;
-use crate::trace::trace_reply;
 use std::alloc::{AllocError, Global};
-use std::fmt;
 use std::sync::Wait;
 use std::thread::Threads;
-use ulfm_script::{Fault, Job, JobFault};
+use ulfm_replies::{Reply, Wanted, check_reply, refusal, trace_reply};
+use ulfm_script::Job;
 use ulfm_world::replay;
-
-/// The statuses (docs/JOBS.md).
-pub const DONE: u8 = 0;
-
-/// The job is refused.
-pub const JOB_REFUSED: u8 = 1;
-
-/// The words are no command line that can be followed.
-pub const USAGE: u8 = 2;
-
-/// The run failed.
-pub const RUN_FAILED: u8 = 3;
-
-/// The output took a beginning alone.
-pub const OUTPUT_FAILED: u8 = 4;
-
-/// The input could not be read, and nothing was written.
-pub const INPUT_FAILED: u8 = 5;
-
-/// What was played to its end left a step unfinished, and the words ask for this status then.
-pub const UNFINISHED: u8 = 6;
-
-/// A status, and the text that is written with it.
-#[derive(Drop)]
-pub struct Reply {
-    pub status: u8,
-    pub text: String,
-}
-
-fn fault_name(fault: Fault) -> &'static str
-    ensures { result.now ≡ fault_text fault }
-{
-    match fault {
-        Fault::BadKey => "J2",
-        Fault::UnknownKey => "J3",
-        Fault::OutOfRange => "J4",
-        Fault::UnknownOp => "J5",
-    }
-}
-
-/// How a fault is printed.
-#[derive(Clone, Copy)]
-struct FaultText(JobFault);
-
-impl fmt::Display for FaultText {
-    ghost output = { λ f. Some (job_fault_text f.0) };
-
-    fn fmt<W: fmt::Write>(&self, f: &mut fmt::Formatter<W>) -> fmt::Result {
-        match self.0 {
-            JobFault::NotToml => write!(f, "J1"),
-            JobFault::InJob(fault) => {
-                let name = fault_name(fault);
-                write!(f, "{name}")
-            }
-            JobFault::InStep(fault, place) => {
-                let name = fault_name(fault);
-                write!(f, "{name} step {place}")
-            }
-            JobFault::TooLarge => write!(f, "J6"),
-            JobFault::OutOfMemory => write!(f, "J7"),
-        }
-    }
-}
-
-/// The line for a good job.
-#[tactic(auto, unfolding(crate::specs::Replies::good_line))]
-fn good_line(alloc: Global, ranks: u8, steps: usize) -> Result<String, AllocError>
-    ensures { IfOk result (λ text. string_bytes text ≡ good_line ranks steps) }
-{
-    format!(in alloc; "job ok: {ranks} ranks {steps} steps\n")
-}
-
-/// The reply to a job that is refused.
-pub fn refusal(alloc: Global, fault: JobFault) -> Result<Reply, AllocError>
-    ensures { IfOk result (λ r. (r.status ≡ 1) × (string_bytes r.text ≡ refused_text fault)) }
-{
-    let fault = FaultText(fault);
-    let text = format!(in alloc; "job refused: {fault}\n")?;
-    Ok(Reply {
-        status: JOB_REFUSED,
-        text,
-    })
-}
-
-/// The reply of `check`.
-fn check_reply(alloc: Global, bytes: &[u8]) -> Result<Reply, AllocError>
-    ensures { IfOk result (λ r. IsCheckReply bytes.now r.status (string_bytes r.text)) }
-{
-    match Job::read(alloc, bytes) {
-        Ok(job) => {
-            let text = good_line(alloc, job.ranks(), job.len())?;
-            Ok(Reply { status: DONE, text })
-        }
-        Err(fault) => refusal(alloc, fault),
-    }
-}
 
 /// The reply of `replay`.
 fn replay_reply(alloc: Global, is_strict: bool, bytes: &[u8]) -> Result<Reply, AllocError>

@@ -6,35 +6,21 @@ ghost use Rattle.ulfm_carrier.specs.Family.{AllFresh};
 ghost use Rattle.ulfm_base.specs.Lists.{InPlace, at};
 ghost use Rattle.ulfm_carrier.specs.Lanes.{known_room, lane_name, lane_pushed, lane_taken, IsReady as IsReadyLane, OneCall as OneWiring};
 ghost use Rattle.ulfm_carrier.specs.Shared.{inbox_capacity, shared_name, shared_pushed, shared_taken, IsReady as IsReadyShared, OneCall as OneSeating};
-ghost use Rattle.ulfm.specs.Replies.{failed_text, with_options, IsRunReply};
-ghost use Rattle.ulfm.specs.Words.{AreInRange};
-ghost use Rattle.ulfm.specs.inside.Writing.{failure_of, IsShown};
+ghost use Rattle.ulfm.specs.Replies.{with_options, IsRunReply};
+ghost use Rattle.ulfm.specs.inside.Writing.{IsShown};
+ghost use Rattle.ulfm_replies.specs.Words.{AreInRange};
 ghost use Rattle.ulfm_laws.specs.Lawful.{IsLawful};
 
-use crate::command::{Carrier, RunOptions};
-use crate::reply::{RUN_FAILED, Reply, refusal};
 use crate::tally::{tally_of, tally_reply};
-use crate::trace::trace_reply;
 use std::alloc::{AllocError, Global};
 use std::sync::Wait;
 use std::thread::Threads;
 use ulfm_base::CallError;
 use ulfm_board::seats;
 use ulfm_carrier::{Ends, LaneEnds, SharedEnds, lanes, shared};
+use ulfm_replies::{Carrier, Failure, Reply, RunOptions, failed, failure_of, refusal, trace_reply};
 use ulfm_run::{Report, run_job};
-use ulfm_script::{Job, RankReport, RunFault};
-
-/// Why a run has no trace.
-#[derive(Clone, Copy, Debug, PartialEq, Eq)]
-pub enum Failure {
-    /// A thread couldn't be started.
-    NoThread,
-    /// Memory ran out.
-    OutOfMemory,
-    /// A decision that a rank adopted is untrue of what the ranks did, or no rank's own call made a revocation that a rank
-    /// took notice of.
-    Untrue,
-}
+use ulfm_script::{Job, RankReport};
 
 /// The reply of `run` with these options.
 pub fn run_reply<R: Threads + Wait + Sync>(
@@ -72,22 +58,6 @@ fn with_options(job: Job, options: RunOptions) -> Job
         Some(turns) => job.with_turns(turns),
         None => job,
     }
-}
-
-/// The reply where a run failed.
-fn failed(alloc: Global, failure: Failure) -> Result<Reply, AllocError>
-    ensures { IfOk result (λ r. (r.status ≡ 3) × (string_bytes r.text ≡ failed_text failure)) }
-{
-    let line = match failure {
-        Failure::NoThread => "run failed: F2\n",
-        Failure::OutOfMemory => "run failed: F3\n",
-        Failure::Untrue => "run failed: F4\n",
-    };
-    let text = String::from_str(alloc, line)?;
-    Ok(Reply {
-        status: RUN_FAILED,
-        text,
-    })
 }
 
 /// What the ranks of a job did, by this carrier.
@@ -182,17 +152,5 @@ fn run_by<E: Ends + Send, R: Threads + Wait + Sync>(
             Some(failure) => Err(failure),
             None => unreachable!(),
         },
-    }
-}
-
-/// The failure that a run's fault is. Ends that don't fit the job are none.
-fn failure_of(fault: RunFault) -> Option<Failure>
-    ensures { result ≡ failure_of fault }
-{
-    match fault {
-        RunFault::NoThread => Some(Failure::NoThread),
-        RunFault::OutOfMemory => Some(Failure::OutOfMemory),
-        RunFault::Untrue(_) => Some(Failure::Untrue),
-        RunFault::BadEnds => None,
     }
 }

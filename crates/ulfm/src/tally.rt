@@ -8,15 +8,13 @@ ghost use Rattle.ulfm.specs.declared.tally.Counted.{Counted as Kept};
 ghost use Rattle.ulfm.specs.inside.Tallied.{row_of, rows_of};
 ghost use Rattle.ulfm.specs.inside.Writing.{IsShown};
 ghost use Rattle.ulfm.specs.Tally.{counted, row_text, tally, tally_text};
-ghost use Rattle.ulfm.specs.Unfinished.{has_unfinished, played_status};
+ghost use Rattle.ulfm_replies.specs.Unfinished.{has_unfinished, played_status};
 
-use crate::command::Carrier;
-use crate::reply::Reply;
-use crate::run::{Failure, run_by_carrier};
-use crate::trace::{has_unfinished, played_status};
+use crate::run::run_by_carrier;
 use std::alloc::{AllocError, Global};
 use std::sync::Wait;
 use std::thread::Threads;
+use ulfm_replies::{Carrier, Failure, Reply, has_unfinished, played_status};
 use ulfm_script::{Job, trace_text};
 
 /// A trace, and how many runs gave it.

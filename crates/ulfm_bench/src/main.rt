@@ -1,12 +1,17 @@
 //! How fast letters go over the two carriers, beside the kit's rings and queues alone: on standard error, in letters a second.
 //! The first word, if there is one, is the number of letters of each trip; the second the bytes of the letters, 8 or 1024, where
-//! the trips of one size alone are made.
+//! the trips of one size alone are made. Where the first word is `match`, the matcher is measured beside plain lists; the second
+//! is then the most letters that a case has.
 #![tactic(auto)]
 
+mod case;
+mod matching;
+mod pairing;
 mod pairs;
 mod trip;
 mod way;
 
+use crate::matching::each_case;
 use crate::pairs::{letter, over_lanes, over_queues, over_rings, over_shared};
 use crate::trip::{one_way, there_and_back};
 use crate::way::Way;
@@ -24,21 +29,42 @@ const LETTERS: u32 = 20_000;
 /// The bytes of the letters.
 const SIZES: [u32; 2] = [8, 1024];
 
+/// The most letters that a case of the matcher has, where no word says it.
+const MOST: u32 = 10_000;
+
 fn main(rt: HostRuntime) -> ExitCode {
-    let count = number(&rt, 1).unwrap_or(LETTERS);
-    let only = number(&rt, 2);
+    let measured = if is_match(&rt) {
+        each_case(&rt, rt.alloc(), number(&rt, 2).unwrap_or(MOST))
+    } else {
+        let count = number(&rt, 1).unwrap_or(LETTERS);
+        trips(&rt, rt.alloc(), number(&rt, 2), count)
+    };
+    ExitCode::from(measured.is_none() as u8)
+}
+
+/// Whether the first word asks for the matcher.
+fn is_match(rt: &HostRuntime) -> bool {
+    match env::args(rt) {
+        Ok(mut words) => words.nth(1).is_some_and(|word| word.as_str() == "match"),
+        Err(_) => false,
+    }
+}
+
+/// The trips with letters of each size, or of this one alone. Nothing where one of them failed.
+fn trips<R: Runtime + Threads + Wait + Copy + Send + 'static>(
+    rt: &R,
+    alloc: Global,
+    only: Option<u32>,
+    count: u32,
+) -> Option<()> {
     for bytes in SIZES {
         if only.unwrap_or(bytes) != bytes {
             continue;
         }
-        if there_each(&rt, rt.alloc(), bytes as usize, count).is_none() {
-            return ExitCode::from(1);
-        }
-        if and_back_each(&rt, rt.alloc(), bytes as usize, count).is_none() {
-            return ExitCode::from(1);
-        }
+        there_each(rt, alloc, bytes as usize, count)?;
+        and_back_each(rt, alloc, bytes as usize, count)?;
     }
-    ExitCode::from(0)
+    Some(())
 }
 
 /// The number that a word has, by its place after the program's name, if it has one.

@@ -1,7 +1,6 @@
 -- Ends of one call while all of them close to one: what each may do.
 use Rattle.std.proofs.Common.{◌≡◌, ◌<◌, ◌≤◌, ℕ, List, [], length, map, get_or, refl, ap, sym, ◌∙◌, arith, slice_get}
-use Rattle.ulfm_carrier.proofs.Common.{AreOpenFrom, at, at_view, InboxPass, length-map, SharedEnds, there, View}
-use Rattle.ulfm_carrier.specs.Shared.{pass_name, shared_name, shared_pushed, HasPasses, MaySend, IsReceiver, OneCall}
+use Rattle.ulfm_carrier.proofs.Common.{AreOpenFrom, at, at_view, InboxPass, length-map, SharedEnds, there, pass_name, shared_name, shared_pushed, HasPasses, MaySend, IsReceiver, OneCall}
 use Rattle.ulfm_carrier.proofs.Places.{view_or}
 use Rattle.ulfm_carrier.proofs.Frames.{as_many_outs, passes_same, sends_same, receiver_same}
 use Rattle.ulfm_carrier.proofs.Heard.{Hears}
@@ -42,4 +41,4 @@ module _ {all : List SharedEnds} {place closed heard k : ℕ} {e f : SharedEnds}
 pub may_hear : {all : List SharedEnds} {place closed heard : ℕ} {e f : SharedEnds} → at all place e → Hears all place closed heard place e f → AreOpenFrom place all → IsReceiver f
 may_hear {place = place} {e = e} {f = f} here h still =
     let is = h.receipts refl in
-    receiver_same h.frame (as_many_outs e f h.names) h.pass (ap (λ (v : View). v.role) is) (ap (λ (v : View). v.made) is) ((still place e here).receiver (omega arith)).receiver
+    receiver_same h.frame (as_many_outs e f h.names) h.pass (ap (λ v. v.role) is) (ap (λ v. v.made) is) ((still place e here).receiver (omega arith)).receiver

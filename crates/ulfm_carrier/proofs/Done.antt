@@ -1,7 +1,6 @@
 -- The ends, once the inbox of one of them is empty.
 use Rattle.std.proofs.Common.{◌≡◌, ◌≢◌, ◌<◌, ◌+◌, ◌≤◌, ℕ, suc, List, [], ◌∷◌, length, map, set, get_or, refl, ap, ◌∙◌, arith, slice_get}
-use Rattle.ulfm_carrier.proofs.Common.{arc_value, AreOpenFrom, at, InboxPass, IsOpenFrom, IsSamePass, items_from, Keeps, only_at, SharedEnds, View, view}
-use Rattle.ulfm_carrier.specs.Shared.{pass_name, pushed_with, shown, shared_name, shared_pushed, shared_taken, MayReceive}
+use Rattle.ulfm_carrier.proofs.Common.{arc_value, AreOpenFrom, at, InboxPass, IsOpenFrom, IsSamePass, items_from, Keeps, only_at, SharedEnds, shown, view, pass_name, pushed_with, shared_name, shared_pushed, shared_taken, MayReceive}
 use Rattle.ulfm_carrier.proofs.Places.{at_read, each_set}
 use Rattle.ulfm_carrier.proofs.Passes.{name_same}
 use Rattle.ulfm_carrier.proofs.Frames.{as_many_outs, passes_same, sends_same, receiver_same}
@@ -20,7 +19,7 @@ AllDone all place now = (k : ℕ) (g : SharedEnds) → at now k g → (e : Share
 -- what was taken is shown as before also where closed senders told of theirs
 pub taken_told : {all : List SharedEnds} {place closed heard : ℕ} {e f : SharedEnds} → Hears all place closed heard place e f → (s : ℕ) → shared_taken f s ≡ shared_taken e s
 taken_told h s =
-    let t = ap (λ (v : View). v.taken) (h.receipts refl) in
+    let t = ap (λ v. v.taken) (h.receipts refl) in
     λ i. items_from s (shown (h.frame.gathered i) (t i))
 
 module _ (all : List SharedEnds) (place n : ℕ) (still : AreOpenFrom place all) where

@@ -1,7 +1,6 @@
 -- A ring is emptied into a list.
 use Rattle.std.proofs.Common.{◌≡◌, ℕ, Option, None, Some, List, [], ◌∷◌, ◌++◌, length, map, refl, ap, sym, ◌∙◌, append-nil}
-use Rattle.ulfm_carrier.proofs.Common.{Carried, item_of, map-append, nil_from_length, signed, with_sender, WorldRank}
-use Rattle.ulfm_carrier.specs.Lanes.{shown}
+use Rattle.ulfm_carrier.proofs.Common.{Carried, item_of, map-append, nil_from_length, shown, signed, with_sender, WorldRank}
 
 pub all_moved : {X Y : Type 0} (f : X → Y) (done all : List Y) (ahead : List X) → length ahead ≡ 0 → done ++ map f ahead ≡ all → done ≡ all
 all_moved f done all ahead none was = sym (append-nil done) ∙ ap (λ l. done ++ map f l) (sym (nil_from_length ahead none)) ∙ was

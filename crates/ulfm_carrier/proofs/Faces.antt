@@ -1,8 +1,7 @@
 -- What contracts see of ends, once one of them has its rings back.
 use Rattle.std.proofs.Common.{◌≡◌, ◌≢◌, ◌<◌, ℕ, List, [], length, map, set, get_or, sum, vec_capacity, ap, sym, ◌∙◌, arith, subst}
 use Rattle.std.proofs.lemmas.List.{length-map, map-set, set-set, set-get_or, length-set}
-use Rattle.ulfm_carrier.proofs.Common.{at, HasRings, inlet_capacity, inlet_name, Item, item_of, Keeps, lane_name, lane_pushed, lane_taken, LaneEnds, map-map, outlet_name, sent, taken_by}
-use Rattle.ulfm_carrier.specs.declared.lane_ends.LaneName.{LaneName}
+use Rattle.ulfm_carrier.proofs.Common.{at, HasRings, inlet_capacity, inlet_name, Item, item_of, Keeps, lane_name, lane_pushed, lane_taken, LaneEnds, map-map, outlet_name, sent, taken_by, LaneName}
 use Rattle.ulfm_carrier.proofs.Places.{at_read, at_here, at_other}
 use Rattle.ulfm_carrier.proofs.Views.{View, view, of_views, same_at, as_many}
 
@@ -33,24 +32,24 @@ pub face_back : (e out emptied last : LaneEnds) (ends now : List LaneEnds) (k : 
 face_back e out emptied last ends now k low same here me outs me' outs' names taken =
     let low' : k < length now = omega (arith, as_many view now (set ends k out) same, length-set ends k out) in
     let v = same_at view now (set ends k out) k same (at_read now k low' here) (at_here ends k out low) in
-    let is_me = me' ∙ ap (λ (w : View). w.me) v ∙ me in
-    let is_outs = ap (λ l. map outlet_name l.items) outs' ∙ ap (λ (w : View). w.outs) v ∙ ap (λ l. map outlet_name l.items) outs in
-    let is_sents = ap (λ l. map sent l.items) outs' ∙ ap (λ (w : View). w.sents) v ∙ ap (λ l. map sent l.items) outs in
+    let is_me = me' ∙ ap (λ w. w.me) v ∙ me in
+    let is_outs = ap (λ l. map outlet_name l.items) outs' ∙ ap (λ w. w.outs) v ∙ ap (λ l. map outlet_name l.items) outs in
+    let is_sents = ap (λ l. map sent l.items) outs' ∙ ap (λ w. w.sents) v ∙ ap (λ l. map sent l.items) outs in
     λ i. record { name = record { place = (is_me i).number; outs = is_outs i; ins = names i }; pushed = map (map (item_of (is_me i))) (is_sents i); taken = taken i }
 
 pub keeps_faces : (ends now : List LaneEnds) → map face now ≡ map face ends → Keeps lane_name lane_pushed lane_taken ends now
 keeps_faces ends now same = record {
-  names = sym (map-map (λ (x : Face). x.name) face now) ∙ ap (map (λ (x : Face). x.name)) same ∙ map-map (λ (x : Face). x.name) face ends;
-  pushed_to = λ k e f there here p. face-pushed f p ∙ ap (λ (x : Face). get_or x.pushed p []) (same_at face now ends k same here there) ∙ sym (face-pushed e p);
-  taken_from = λ k e f there here p. ap (λ (x : Face). get_or x.taken p []) (same_at face now ends k same here there);
+  names = sym (map-map (λ x. x.name) face now) ∙ ap (map (λ x. x.name)) same ∙ map-map (λ x. x.name) face ends;
+  pushed_to = λ k e f there here p. face-pushed f p ∙ ap (λ x. get_or x.pushed p []) (same_at face now ends k same here there) ∙ sym (face-pushed e p);
+  taken_from = λ k e f there here p. ap (λ x. get_or x.taken p []) (same_at face now ends k same here there);
 }
 
 pub rings_view : (e f : LaneEnds) → view f ≡ view e → HasRings e → HasRings f
 rings_view e f v r =
-    let me = ap (λ (w : View). w.me.number) v in
-    let outs : length f.outs.items ≡ length e.outs.items = sym (length-map f.outs.items outlet_name) ∙ ap (λ (w : View). length w.outs) v ∙ length-map e.outs.items outlet_name in
-    let ins = ap (λ (w : View). w.ins) v in
-    let left = ap (λ (w : View). w.left) v in record {
+    let me = ap (λ w. w.me.number) v in
+    let outs : length f.outs.items ≡ length e.outs.items = sym (length-map f.outs.items outlet_name) ∙ ap (λ w. length w.outs) v ∙ length-map e.outs.items outlet_name in
+    let ins = ap (λ w. w.ins) v in
+    let left = ap (λ w. w.left) v in record {
       square = ap (λ l. length l.items) ins ∙ r.square ∙ sym outs;
       inside = let h = r.inside in omega arith;
       few = let h = r.few in omega arith;

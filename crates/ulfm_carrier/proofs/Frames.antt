@@ -1,8 +1,7 @@
 -- What an end may do, as far as its passes stay the same.
 use Rattle.std.proofs.Common.{◌≡◌, ◌<◌, ℕ, length, map, get_or, vec_capacity, refl, ap, sym, ◌∙◌, arith, slice_get}
-use Rattle.ulfm_carrier.proofs.Common.{arc_value, Global, InboxPass, IsPassOf, IsSamePass, Item, length-map, Queue, SharedEnds, Vec, view, WorldRank}
+use Rattle.ulfm_carrier.proofs.Common.{arc_value, Global, InboxPass, IsPassOf, IsSamePass, Item, length-map, Queue, SharedEnds, Vec, view, WorldRank, pass_name, HasPasses, MaySend, IsReceiver}
 use Rattle.ulfm_carrier.proofs.Places.{at_read}
-use Rattle.ulfm_carrier.specs.Shared.{pass_name, HasPasses, MaySend, IsReceiver}
 use Rattle.ulfm_carrier.specs.declared.inbox.Role.TheVariants as role
 
 -- the two ends are one but for their passes and their room for lists
@@ -39,7 +38,7 @@ sends_same e f d me inboxes same h = λ inbox out at_d at_out.
 pub receiver_same : {e f : SharedEnds} → SameFrame e f → length f.outs.items ≡ length e.outs.items → IsSamePass e.inlet f.inlet → (view f.inlet).role ≡ (view e.inlet).role → (view f.inlet).made ≡ (view e.inlet).made → IsReceiver e → IsReceiver f
 receiver_same {e} {f} same many pass role made h = record {
   own = λ inbox here.
-      let there = ap (λ (a : ℕ). slice_get (arc_value f.inboxes).items a) (ap (λ r. r.number) (sym same.me)) in
+      let there = ap (λ a. slice_get (arc_value f.inboxes).items a) (ap (λ r. r.number) (sym same.me)) in
       let r = h.own inbox (ap (λ l. slice_get l e.me.number) (sym same.inboxes) ∙ there ∙ here) in
       let room = ap (λ v. vec_capacity v) same.left in ((pass.0 ∙ r.0.0, pass.2 ∙ r.0.1), omega (arith, r.1, room));
   receives = role ∙ h.receives;

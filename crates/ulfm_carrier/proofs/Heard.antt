@@ -1,7 +1,6 @@
 -- End by end, all close to one of them.
 use Rattle.std.proofs.Common.{◌≡◌, ◌≢◌, ◌<◌, ◌≤◌, ◌+◌, ℕ, zero, suc, List, [], ◌∷◌, ◌++◌, length, map, set, get_or, refl, ap, sym, ◌∙◌, arith, subst, slice_get}
-use Rattle.ulfm_carrier.proofs.Common.{at, IsSamePass, Item, pass_name, pushed_with, shared_pushed, SharedEnds, View, view}
-use Rattle.ulfm_carrier.specs.inside.Passes.{after_receipt}
+use Rattle.ulfm_carrier.proofs.Common.{at, IsSamePass, Item, pass_name, pushed_with, shared_pushed, SharedEnds, View, view, after_receipt}
 use Rattle.ulfm_carrier.specs.inside.Emptying.{with_outs, with_inlet}
 use Rattle.ulfm_carrier.proofs.Places.{at_read, each_set}
 use Rattle.ulfm_carrier.proofs.Frames.{SameFrame, frame_twice, frame_with, same_inlet}
@@ -41,7 +40,7 @@ module _ (all now : List SharedEnds) (place from : ℕ) where
   closes_more {s} {s'} low here rest names pushed others was =
       let old = was from s (at_read now from low here) in
       let w = old.2 in
-      let inlet : s'.inlet ≡ s.inlet = ap (λ (x : SharedEnds). x.inlet) rest in
+      let inlet : s'.inlet ≡ s.inlet = ap (λ x. x.inlet) rest in
       each_set (λ (k : ℕ) (f : SharedEnds). (e : SharedEnds) × at all k e × Hears all place (from + 1) from k e f) now from s' (λ k g _ there. let o = was k g there in let h = o.2 in
       (o.0, o.1, record { frame = h.frame; names = h.names; pushed = h.pushed; others = h.others; waiting = λ late. h.waiting (omega (arith, late)); pass = h.pass; apart = h.apart; receipts = h.receipts })) (
         old.0,
@@ -65,7 +64,7 @@ module _ (all now : List SharedEnds) (place from : ℕ) where
       let old = was place r (at_read now place low here) in
       let w = old.2 in
       let next : suc from ≡ from + 1 = omega arith in
-      let outs : r'.outs ≡ r.outs = ap (λ (x : SharedEnds). x.outs) rest in
+      let outs : r'.outs ≡ r.outs = ap (λ x. x.outs) rest in
       each_set (λ (k : ℕ) (f : SharedEnds). (e : SharedEnds) × at all k e × Hears all place (from + 1) (from + 1) k e f) now place r' (λ k g apart there. let o = was k g there in let h = o.2 in
       (o.0, o.1, record { frame = h.frame; names = h.names; pushed = h.pushed; others = h.others; waiting = h.waiting; pass = h.pass; apart = h.apart; receipts = λ is. absurd (apart is) })) (
         old.0,

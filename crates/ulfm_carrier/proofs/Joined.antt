@@ -59,7 +59,7 @@ module _ {ends : List LaneEnds} {place : ℕ} {receiver : LaneEnds} {now : List 
   pub out_room : (k : ℕ) {e : LaneEnds} → at now k e → place < length e.outs.items
   out_room k {e} here =
       let d = was k e here in
-      let v = ap (λ (o : Outline). length o.outs) (same_at outline now ends k w.same here d.1) in
+      let v = ap (λ o. length o.outs) (same_at outline now ends k w.same here d.1) in
       let n : length e.outs.items ≡ length d.0.outs.items = sym (length-map e.outs.items outlet_name) ∙ v ∙ length-map d.0.outs.items outlet_name in
       let m = all_outs ends w.one k d.1 in
       let low = slice_get_within ends place receiver w.there in omega arith
@@ -72,7 +72,7 @@ module _ {ends : List LaneEnds} {place : ℕ} {receiver : LaneEnds} {now : List 
   pub pair : (k : ℕ) {e : LaneEnds} {p : Outlet} (ins : List Inlet) {i : Inlet} → at now k e → at e.outs.items place p → map inlet_name ins ≡ map inlet_name receiver.ins.items → at ins k i → IsPair p i.ring
   pair k {e} {p} ins {i} here out kept inlet =
       let d = was k e here in
-      let left = sym (at_view outlet_name e.outs.items place p out) ∙ ap (λ (o : Outline). slice_get o.outs place) (same_at outline now ends k w.same here d.1) in
+      let left = sym (at_view outlet_name e.outs.items place p out) ∙ ap (λ o. slice_get o.outs place) (same_at outline now ends k w.same here d.1) in
       let right = ap (λ l. slice_get l k) (sym kept) ∙ at_view inlet_name ins k i inlet in
       is_pair p i (left ∙ w.one.joined k place (lane_name d.0) (lane_name receiver) (at_view lane_name ends k d.0 d.1) (at_view lane_name ends place receiver w.there) ∙ right)
 
@@ -82,6 +82,6 @@ module _ {ends : List LaneEnds} {place : ℕ} {receiver : LaneEnds} {now : List 
       let d = was k e here in
       let v = same_at outline now ends k w.same here d.1 in
       let me : d.0.me ≡ source = same_rank d.0.me source (number ends w.one k d.1 ∙ sym is) in
-      view_or (λ e. lane_pushed e place) ends k [] d.1 ∙ face-pushed d.0 place ∙ ap (λ (o : Outline). get_or (map (map (item_of d.0.me)) o.sents) place []) (sym v)
+      view_or (λ e. lane_pushed e place) ends k [] d.1 ∙ face-pushed d.0 place ∙ ap (λ o. get_or (map (map (item_of d.0.me)) o.sents) place []) (sym v)
       ∙ ap (λ r. get_or (map (map (item_of r)) (map sent e.outs.items)) place []) me ∙ ap (λ l. get_or l place []) (map-map (map (item_of source)) sent e.outs.items)
       ∙ view_or (pushed_into source) e.outs.items place [] out

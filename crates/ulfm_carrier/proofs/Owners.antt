@@ -1,8 +1,6 @@
 -- The rule of an inbox stays, when a rank's own sender has the receiver's pass too, and when it gives it back.
 use Rattle.std.proofs.Common.{◌≡◌, ◌≢◌, ℕ, ◌++◌, List, [], ◌∷◌, length, set, refl, sym, ◌∙◌, inl, inr, subst}
-use Rattle.crossbeam_queue.specs.Fifo.{Forks, Merges}
-use Rattle.ulfm_carrier.proofs.Common.{at_set, InboxRule, KnowsTruly, Receives, Signed, spent, View}
-use Rattle.ulfm_carrier.specs.inside.Passes.{in_role, owner, returned}
+use Rattle.ulfm_carrier.proofs.Common.{at_set, InboxRule, KnowsTruly, Receives, Signed, spent, View, in_role, owner, returned, Forks, Merges}
 use Rattle.ulfm_carrier.proofs.Fitting.{All, all_set, all_push, spent_fits, sender_fits, receiver_fits, owner_fits, senders_fit, over}
 use mathlib.Core.Option.{some}
 use lib.ListN.{get_elem?}

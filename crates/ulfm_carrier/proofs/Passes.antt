@@ -2,8 +2,7 @@
 use Rattle.std.proofs.Common.{◌≡◌, ◌<◌, ℕ, List, [], ◌∷◌, ◌++◌, length, map, set, get_or, ap, sym, ◌∙◌, MatchResult, Result, Ok, Err}
 use Rattle.std.specs.Prelude.{⊤}
 use Rattle.crossbeam_queue.specs.Ring.{idle}
-use Rattle.ulfm_carrier.proofs.Common.{at, InboxPass, IsSamePass, Item, map-set_same, pass_name, pushed_with, spent, View, view}
-use Rattle.ulfm_carrier.specs.inside.Passes.{after_push}
+use Rattle.ulfm_carrier.proofs.Common.{at, InboxPass, IsSamePass, Item, map-set_same, pass_name, pushed_with, spent, view, after_push}
 use Rattle.ulfm_carrier.proofs.Places.{at_read, each_set, view_here, view_or}
 
 pub name_same : (p q : InboxPass) → IsSamePass p q → pass_name q ≡ pass_name p
@@ -22,8 +21,8 @@ pushed_more (Err b) outs k {p} q x H low here h = (h.0, view_here pushed_with ou
 -- what a push of a sender tells of its pass
 pub sender_same : (r : Result Unit Item) (p q : InboxPass) (x : Item) → MatchResult r (λ _. view q ≡ after_push (view p) x) (λ back. (back ≡ x) × (view q ≡ view p))
     → ((view q).role ≡ (view p).role) × ((view q).from ≡ (view p).from) × MatchResult r (λ _. pushed_with q ≡ pushed_with p ++ x ∷ []) (λ back. (back ≡ x) × (pushed_with q ≡ pushed_with p) × ⊤)
-sender_same (Ok u) p q x h = (ap (λ (v : View). v.role) h, ap (λ (v : View). v.from) h, ap (λ (v : View). v.pushed) h)
-sender_same (Err b) p q x h = (ap (λ (v : View). v.role) h.1, ap (λ (v : View). v.from) h.1, (h.0, ap (λ (v : View). v.pushed) h.1, tt))
+sender_same (Ok u) p q x h = (ap (λ v. v.role) h, ap (λ v. v.from) h, ap (λ v. v.pushed) h)
+sender_same (Err b) p q x h = (ap (λ v. v.role) h.1, ap (λ v. v.from) h.1, (h.0, ap (λ v. v.pushed) h.1, tt))
 
 -- a fact of each pass at its inbox, after one pass was used
 pub each_pass : {Q : Type 0} (P : Q → InboxPass → Type 0) (inboxes : List Q) (outs : List InboxPass) (k : ℕ) (p q : InboxPass) → k < length outs → p ≡ get_or outs k p

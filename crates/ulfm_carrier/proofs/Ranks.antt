@@ -6,7 +6,7 @@ use Rattle.ulfm_base.specs.declared.item.Item.TheVariants as item
 
 -- an item that came from a rank gets this source back
 pub source_back : (me : WorldRank) (x : Item) → ComesFrom me.number x → item_of me (carried_of x) ≡ x
-source_back me (item.Letter letter) h = ap (λ (source : WorldRank). item.Letter (record letter { envelope = record letter.envelope { source = source } })) (same_rank me letter.envelope.source (sym h))
+source_back me (item.Letter letter) h = ap (λ source. item.Letter (record letter { envelope = record letter.envelope { source = source } })) (same_rank me letter.envelope.source (sym h))
 source_back me item.Gone h = refl
 source_back me (item.Revoke context) h = refl
 source_back me (item.Enter context known) h = refl

@@ -1,10 +1,7 @@
 -- An end stays ready, after its passes were used, and what it learned of its inbox.
 use Rattle.std.proofs.Common.{◌≡◌, ◌<◌, ◌≤◌, ℕ, List, [], ◌++◌, Option, None, Some, length, set, get_or, ap, sym, ◌∙◌, arith, subst, append-nil, length-set, vec_capacity, Result, Ok, Err, MatchResult, OnErr, MatchOption, IfNone}
-use Rattle.crossbeam_queue.specs.Fifo.{Held}
-use Rattle.ulfm_carrier.proofs.Common.{arc_value, at, IsPassOf, IsSamePass, Item, items_from, nil_from_length, SharedEnds, View, view}
+use Rattle.ulfm_carrier.proofs.Common.{arc_value, at, IsPassOf, IsSamePass, Item, items_from, nil_from_length, SharedEnds, shown, view, pushed_with, shared_pushed, shared_taken, OwnIsTakenAndHeldAt, IsReady, owner, TakesOne, Held}
 use Rattle.ulfm_carrier.specs.Inbox.{Signed, InboxPass, OwnIsTakenAndHeld}
-use Rattle.ulfm_carrier.specs.inside.Passes.{owner, TakesOne}
-use Rattle.ulfm_carrier.specs.Shared.{pushed_with, shown, shared_pushed, shared_taken, OwnIsTakenAndHeldAt, IsReady}
 use Rattle.ulfm_carrier.proofs.Frames.{SameFrame, passes_same, receiver_same}
 use Rattle.ulfm_carrier.proofs.Passes.{each_pass}
 use Rattle.ulfm_carrier.proofs.Places.{view_or}
@@ -31,8 +28,8 @@ module _ (e f : SharedEnds) (k : ℕ) (p q : InboxPass) (outs : f.outs.items ≡
 -- what a pop of a receiver tells of its pass
 pub receiver_kept : (r : Option Signed) (p q : InboxPass) (H : Type 0) → MatchOption r ((view q ≡ view p) × H) (λ x. TakesOne (view p) x (view q))
     → ((view q).role ≡ (view p).role) × ((view q).made ≡ (view p).made) × ((view q).receipts ≡ (view p).receipts)
-receiver_kept None p q H h = (ap (λ (v : View). v.role) h.0, ap (λ (v : View). v.made) h.0, ap (λ (v : View). v.receipts) h.0)
-receiver_kept (Some x) p q H h = (ap (λ (v : View). v.role) h.taken, ap (λ (v : View). v.made) h.taken, ap (λ (v : View). v.receipts) h.taken)
+receiver_kept None p q H h = (ap (λ v. v.role) h.0, ap (λ v. v.made) h.0, ap (λ v. v.receipts) h.0)
+receiver_kept (Some x) p q H h = (ap (λ v. v.role) h.taken, ap (λ v. v.made) h.taken, ap (λ v. v.receipts) h.taken)
 
 -- what an end learns of its inbox, whose sender it is too
 module _ (e : SharedEnds) (own : InboxPass) (live : e.gathered ≡ None) (there : at e.outs.items e.me.number own) (from : (view own).from ≡ e.me.number) (made : (view e.inlet).made ≡ length e.outs.items) where

@@ -1,7 +1,7 @@
 -- One ring of an end is written.
 use Rattle.std.proofs.Common.{◌≡◌, ◌<◌, ℕ, None, List, [], ◌∷◌, ◌++◌, length, map, set, get_or, sum, vec_capacity, refl, ap, sym, ◌∙◌, arith, subst, Some, slice_get}
 use Rattle.rtrb.specs.Ring.{sent, IsPair, SameProducer}
-use Rattle.ulfm_carrier.proofs.Common.{at, at_view, ComesFrom, Global, Inlet, Item, LaneEnds, map-append, map-set_same, RingName, Vec, WorldRank}
+use Rattle.ulfm_carrier.proofs.Common.{at, at_view, ComesFrom, Global, Inlet, Item, LaneEnds, map-append, map-set_same, Vec, WorldRank}
 use Rattle.ulfm_carrier.specs.Carried.{carried_of, item_of}
 use Rattle.ulfm_carrier.specs.Lanes.{Outlet, outlet_name, inlet_name, inlet_capacity, pushed_into, taken_by, lane_name, IsReady, IsOpenRing}
 use Rattle.ulfm_carrier.proofs.Places.{at_read, each_set, view_or, view_here}
@@ -32,7 +32,7 @@ sent_same me k outs p q here same = map-set_same (pushed_into me) outs k q p (ap
 -- two ends of one name are those of one ring
 pub is_pair : (p : Outlet) (i : Inlet) → Some (outlet_name p) ≡ Some (inlet_name i) → IsPair p i.ring
 is_pair p i both =
-    let is : inlet_name i ≡ outlet_name p = cc in (ap (λ (n : RingName). n.words) is, ap (λ (n : RingName). n.slots) is, ap (λ (n : RingName). n.names) is, ap (λ (n : RingName). n.heap) is)
+    let is : inlet_name i ≡ outlet_name p = cc in (ap (λ n. n.words) is, ap (λ n. n.slots) is, ap (λ n. n.names) is, ap (λ n. n.heap) is)
 
 -- the two ends of the ring from a rank to itself
 pub own_pair : (e : LaneEnds) {p : Outlet} {i : Inlet} → IsReady e → at e.outs.items e.me.number p → at e.ins.items e.me.number i → IsPair p i.ring
@@ -42,7 +42,7 @@ own_pair e {p} {i} r out inlet = is_pair p i (sym (at_view outlet_name e.outs.it
 ready_as : (e f : LaneEnds) → f.me ≡ e.me → map outlet_name f.outs.items ≡ map outlet_name e.outs.items → map inlet_name f.ins.items ≡ map inlet_name e.ins.items → map inlet_capacity f.ins.items ≡ map inlet_capacity e.ins.items
     → ((k : ℕ) (i : Inlet) → at f.ins.items k i → IsOpenRing k i) → f.left ≡ e.left → f.inboxes ≡ e.inboxes → IsReady e → IsReady f
 ready_as e f me outs ins capacities live left inboxes r =
-    let number : f.me.number ≡ e.me.number = ap (λ (a : WorldRank). a.number) me in
+    let number : f.me.number ≡ e.me.number = ap (λ a. a.number) me in
     let many = as_many outlet_name f.outs.items e.outs.items outs in record {
       own_ring = (λ i. slice_get (outs i) (number i)) ∙ r.own_ring ∙ sym (λ i. slice_get (ins i) (number i));
       rings = record {
@@ -71,7 +71,7 @@ pub taken_from : {e : LaneEnds} (ins : Vec Inlet Global) (next k : ℕ) {i : Inl
     → j.source ≡ i.source → j.gathered ≡ None → IsReady e → (lane_name (record e { ins = ins; next = next }) ≡ lane_name e) × IsReady (record e { ins = ins; next = next })
 taken_from {e} ins next k {i} j is here low name capacity source gathered r = (
   (λ n. record { place = e.me.number; outs = map outlet_name e.outs.items; ins = (ap (map inlet_name) is ∙ inlet_names e.ins.items k i j here name) n }),
-  ready_both e e.outs ins next k i j refl is here name capacity (ap (λ (a : WorldRank). a.number) source ∙ (r.rings.live k i (at_read e.ins.items k low here)).0, gathered) r,
+  ready_both e e.outs ins next k i j refl is here name capacity (ap (λ a. a.number) source ∙ (r.rings.live k i (at_read e.ins.items k low here)).0, gathered) r,
 )
 
 pub taken_more : (k : ℕ) (ins : List Inlet) {i : Inlet} (j : Inlet) (x : Item) → k < length ins → i ≡ get_or ins k i → taken_by j ≡ taken_by i ++ x ∷ []

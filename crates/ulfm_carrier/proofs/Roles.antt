@@ -1,8 +1,6 @@
 -- The rule of an inbox stays, when a sender is made, when it closes, and when the receiver hears of it.
 use Rattle.std.proofs.Common.{◌≡◌, ◌≢◌, ℕ, ◌+◌, ◌≤◌, inl, inr, List, [], length, set, refl, ap, sym, ◌∙◌, arith, Option, None, Some}
-use Rattle.crossbeam_queue.specs.Fifo.{Forks, Merges}
-use Rattle.ulfm_carrier.proofs.Common.{at_set, Item, View}
-use Rattle.ulfm_carrier.specs.inside.Passes.{sender, one_more, in_role, after_receipt}
+use Rattle.ulfm_carrier.proofs.Common.{at_set, Item, View, sender, one_more, in_role, after_receipt, Forks, Merges}
 use Rattle.ulfm_carrier.specs.Inbox.{spent, AreClosed, KnowsTruly, InboxRule}
 use Rattle.ulfm_carrier.proofs.Changed.{change, change_here, change_else}
 use Rattle.ulfm_carrier.proofs.Places.{each_push}

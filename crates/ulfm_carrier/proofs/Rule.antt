@@ -1,9 +1,7 @@
 -- An inbox begins by its rule, pushes and pops keep it, and passes learn from it.
 use Rattle.std.proofs.Common.{◌≡◌, ◌≢◌, ℕ, zero, suc, ◌⊎◌, inl, inr, List, [], ◌∷◌, ◌++◌, length, refl, ap, sym, ◌∙◌, append_assoc, None}
-use Rattle.crossbeam_queue.specs.Fifo.{Pushes, Pops, Learns}
-use Rattle.ulfm_carrier.proofs.Common.{cases_lt, ComesFrom, Item, items_from, View}
+use Rattle.ulfm_carrier.proofs.Common.{cases_lt, ComesFrom, Item, items_from, View, after_push, after_take, TakesOne, Pushes, Pops, Learns}
 use Rattle.ulfm_carrier.specs.Inbox.{Signed, receiver, Seats, Sends, Receives, KnowsTruly, InboxRule, OwnIsTakenAndHeld, ReceiptsAreTakenAndHeld}
-use Rattle.ulfm_carrier.specs.inside.Passes.{after_push, after_take, TakesOne}
 use Rattle.ulfm_carrier.proofs.Changed.{change, change_here, change_else, at_or_else, items_push, items_push_else, items_some}
 use Rattle.ulfm_carrier.proofs.Places.{each_push}
 use Rattle.ulfm_carrier.proofs.Fitting.{all_set, sender_fits, receiver_fits, owner_fits, senders_fit, receives_same, others_fit}

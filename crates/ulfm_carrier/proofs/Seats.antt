@@ -1,8 +1,6 @@
 -- Inboxes and passes, while they are made one by one.
 use Rattle.std.proofs.Common.{◌≡◌, ◌<◌, ◌≤◌, ◌+◌, inl, inr, ℕ, List, [], ◌∷◌, ◌++◌, length, map, set, ap, sym, ◌∙◌, arith, subst, append_assoc, slice_get}
-use Rattle.ulfm_carrier.proofs.Common.{at, InboxPass, IsPassOf, IsSamePass, length-map, map-append, only_at, SharedEnds, slice_get_within, there, View, view}
-use Rattle.ulfm_carrier.specs.inside.Passes.{sender, one_more}
-use Rattle.ulfm_carrier.specs.inside.Seating.{Queue, AreInlets, AreOpenInlets, HaveMadeOneMore, AreNextOuts, AreOuts}
+use Rattle.ulfm_carrier.proofs.Common.{at, InboxPass, IsPassOf, IsSamePass, length-map, map-append, only_at, SharedEnds, slice_get_within, there, view, sender, one_more, Queue, AreInlets, AreOpenInlets, HaveMadeOneMore, AreNextOuts, AreOuts}
 use Rattle.ulfm_carrier.proofs.Places.{at_push, each_set, at_other, each_push}
 use Rattle.ulfm_carrier.proofs.Last.{at_middle}
 
@@ -18,7 +16,7 @@ each_pair P xs ys x y {n} many as_many each here j a b at_a at_b = elim (at_push
 ]
 
 pub open_inlets : (m : ℕ) (inboxes : List Queue) (inlets : List InboxPass) → AreInlets m inboxes inlets → AreOpenInlets inboxes inlets
-open_inlets m inboxes inlets are j inbox inlet at_i at_j = let h = are j inbox inlet at_i at_j in (h.0, ap (λ (v : View). v.role) h.1)
+open_inlets m inboxes inlets are j inbox inlet at_i at_j = let h = are j inbox inlet at_i at_j in (h.0, ap (λ v. v.role) h.1)
 
 pub more_inlets : (m : ℕ) (inboxes : List Queue) (before after : List InboxPass) → length after ≡ length before → AreInlets m inboxes before → HaveMadeOneMore before after → AreInlets (m + 1) inboxes after
 more_inlets m inboxes before after many are more j inbox q at_i at_q =
@@ -33,7 +31,7 @@ new_outs m inboxes inlets outs many as_many are next = (
   λ j inbox out at_i at_o.
       let old = there inlets j (omega (arith, slice_get_within inboxes j inbox at_i, many)) in
       let g = next j inbox old.0 out at_i old.1 at_o in
-      (g.0, g.1 ∙ ap (λ (v : View). sender v.made) (are j inbox old.0 at_i old.1).1),
+      (g.0, g.1 ∙ ap (λ v. sender v.made) (are j inbox old.0 at_i old.1).1),
 )
 
 module _ (inboxes : List Queue) (start now outs : List InboxPass) (dest : ℕ) (inbox : Queue) (p q out : InboxPass) (many : length now ≡ length start) (as_many : length outs ≡ dest)
@@ -57,15 +55,15 @@ module _ (inboxes : List Queue) (start now outs : List InboxPass) (dest : ℕ) (
       each_push P outs out dest as_many (λ j o h i a at_i at_a. next j i a o at_i at_a h) here j o at_o i a at_i at_a
 
 -- the pass that comes next is that at the next place
-pub inlet_next : (ends : List SharedEnds) {left left' all : List InboxPass} {p : InboxPass} → map (λ (e : SharedEnds). e.inlet) ends ++ left ≡ all → left ≡ p ∷ left' → (length ends < length all) × at all (length ends) p
+pub inlet_next : (ends : List SharedEnds) {left left' all : List InboxPass} {p : InboxPass} → map (λ e. e.inlet) ends ++ left ≡ all → left ≡ p ∷ left' → (length ends < length all) × at all (length ends) p
 inlet_next ends {left'} {all} {p} was next =
     let f : SharedEnds → InboxPass = λ e. e.inlet in
     let shown : at (map f ends ++ p ∷ left') (length ends) p = subst (λ k. at (map f ends ++ p ∷ left') k p) (length-map ends f) (at_middle (map f ends) left' p) in
     let there : at all (length ends) p = subst (λ l. at l (length ends) p) (ap (λ l. map f ends ++ l) (sym next) ∙ was) shown in
     (slice_get_within all (length ends) p there, there)
 
-pub inlets_next : (ends : List SharedEnds) {ends' : List SharedEnds} (e : SharedEnds) {left all : List InboxPass} (left' : List InboxPass) {p : InboxPass} → map (λ (x : SharedEnds). x.inlet) ends ++ left ≡ all → left ≡ p ∷ left' → ends' ≡ ends ++ e ∷ [] → e.inlet ≡ p
-    → map (λ (x : SharedEnds). x.inlet) ends' ++ left' ≡ all
+pub inlets_next : (ends : List SharedEnds) {ends' : List SharedEnds} (e : SharedEnds) {left all : List InboxPass} (left' : List InboxPass) {p : InboxPass} → map (λ x. x.inlet) ends ++ left ≡ all → left ≡ p ∷ left' → ends' ≡ ends ++ e ∷ [] → e.inlet ≡ p
+    → map (λ x. x.inlet) ends' ++ left' ≡ all
 inlets_next ends e left' was next more is =
     let f : SharedEnds → InboxPass = λ x. x.inlet in
     ap (λ l. map f l ++ left') more ∙ ap (λ l. l ++ left') (map-append f ends (e ∷ [])) ∙ append_assoc (map f ends) (e.inlet ∷ []) left' ∙ ap (λ y. map f ends ++ y ∷ left') is ∙ ap (λ l. map f ends ++ l) (sym next) ∙ was

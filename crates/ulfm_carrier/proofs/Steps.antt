@@ -26,6 +26,6 @@ module _ (source : WorldRank) (from : ℕ) (is : source.number ≡ from) (old ne
     | inl e ↦
         let here : items_from from new ≡ rest =
         ap (items_from from) more ∙ items-append from old (map (with_sender source) rest) ∙ ap (λ l. l ++ items_from from (map (with_sender source) rest)) (none from (omega arith)) ∙ items_own source rest is in
-        subst (λ (s : ℕ). sent s ≡ taken s ++ items_from s new) (sym e) (own ∙ ap (λ l. taken from ++ l) (sym here))
+        subst (λ s. sent s ≡ taken s ++ items_from s new) (sym e) (own ∙ ap (λ l. taken from ++ l) (sym here))
     | inr apart ↦ below s (let m = apart in omega arith) ∙ ap (λ l. taken s ++ l) (sym (other s apart))
   ]

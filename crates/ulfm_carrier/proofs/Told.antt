@@ -26,7 +26,7 @@ module _ (all : List SharedEnds) (place : ℕ) where
   told-number zero k x here = absurd (cc)
   told-number (suc n) k x here = elim (at_push (told_by all place n) (telling n) k here) [
     | inl h ↦ told-number n k x h.1
-    | inr h ↦ ap (λ (y : ℕ × List Item). y.0) h.1 ∙ sym (h.0 ∙ told-many n)
+    | inr h ↦ ap (λ y. y.0) h.1 ∙ sym (h.0 ∙ told-many n)
   ]
 
   pub told_of_all : {n : ℕ} (v : View) {w : View} → w ≡ told_view v (told_by all place n) → v.made ≡ n → HasAllReceipts w

@@ -2,7 +2,6 @@
 use Rattle.std.proofs.Common.{◌≡◌, ◌<◌, ◌≤◌, ◌*◌, ℕ, zero, suc, List, [], ◌∷◌, length, map, get_or, sum, vec_len, refl, ap, sym, ◌∙◌, arith, subst, slice_get}
 use Rattle.std.proofs.lemmas.List.Sums.{sum_by-cons}
 use Rattle.ulfm_carrier.proofs.Common.{AllFresh, AreWired, at, item_of, known_free, LaneEnds, length-map, slice_get_within}
-use Rattle.ulfm_carrier.specs.declared.lane_ends.LaneName.{LaneName}
 use Rattle.ulfm_carrier.specs.Lanes.{outlet_name, inlet_name, inlet_capacity, pushed_into, taken_by, lane_name, lane_pushed, lane_taken, known_room, IsReady, OneCall}
 
 pub at_map : {X Y : Type 0} (f : X → Y) (xs : List X) (k : ℕ) {y : Y} → at (map f xs) k y → (x : X) × at xs k x × (y ≡ f x)
@@ -43,14 +42,14 @@ module _ (n capacity : ℕ) (ends : List LaneEnds) (w : AreWired n capacity n 0 
   pub wired_family : 0 < n → OneCall (map lane_name ends)
   wired_family some = record {
     some = omega (arith, many);
-    placed = λ i x here. let e = at_map lane_name ends i here in ap (λ (y : LaneName). y.place) e.2 ∙ (w.each i e.0 e.1).number;
+    placed = λ i x here. let e = at_map lane_name ends i here in ap (λ y. y.place) e.2 ∙ (w.each i e.0 e.1).number;
     outs = λ i x here.
-        let e = at_map lane_name ends i here in ap (λ (y : LaneName). length y.outs) e.2 ∙ length-map e.0.outs.items outlet_name ∙ outs_all i e.1 ∙ sym many;
-    ins = λ i x here. let e = at_map lane_name ends i here in ap (λ (y : LaneName). length y.ins) e.2 ∙ length-map e.0.ins.items inlet_name ∙ ins_all i e.0 e.1 ∙ sym many;
+        let e = at_map lane_name ends i here in ap (λ y. length y.outs) e.2 ∙ length-map e.0.outs.items outlet_name ∙ outs_all i e.1 ∙ sym many;
+    ins = λ i x here. let e = at_map lane_name ends i here in ap (λ y. length y.ins) e.2 ∙ length-map e.0.ins.items inlet_name ∙ ins_all i e.0 e.1 ∙ sym many;
     joined = λ i j x y at_i at_j.
         let a = at_map lane_name ends i at_i in
         let b = at_map lane_name ends j at_j in
-        ap (λ (v : LaneName). slice_get v.outs j) a.2 ∙ w.joined i j a.0 b.0 a.1 b.1 ∙ sym (ap (λ (v : LaneName). slice_get v.ins i) b.2);
+        ap (λ v. slice_get v.outs j) a.2 ∙ w.joined i j a.0 b.0 a.1 b.1 ∙ sym (ap (λ v. slice_get v.ins i) b.2);
   }
 
   ready : n ≤ 8 → (k : ℕ) (e : LaneEnds) → at ends k e → IsReady e
@@ -71,7 +70,7 @@ module _ (n capacity : ℕ) (ends : List LaneEnds) (w : AreWired n capacity n 0 
         inbox_for_each = let r = v.inbox_for_each in omega arith;
       }
 
-  pub wired_fresh : n ≤ 8 → AllFresh (λ (e : LaneEnds). vec_len e.outs) lane_pushed lane_taken IsReady ends
+  pub wired_fresh : n ≤ 8 → AllFresh (λ e. vec_len e.outs) lane_pushed lane_taken IsReady ends
   wired_fresh few k e here =
       let v = w.each k e here in record {
         is_ready = ready few k e here;

@@ -1,6 +1,6 @@
 -- Ends stay wired when the ring of the next pair is added.
 use Rattle.std.proofs.Common.{◌≡◌, ◌<◌, ◌+◌, inl, inr, ℕ, List, length, map, Some, vec_capacity, refl, ap, sym, ◌∙◌, arith, subst, slice_get}
-use Rattle.ulfm_carrier.proofs.Common.{at, cases_eq, Inlet, inlet_name, LaneEnds, length_push, Outlet, outlet_name, slice_get_within, WorldRank}
+use Rattle.ulfm_carrier.proofs.Common.{at, cases_eq, Inlet, inlet_name, LaneEnds, length_push, Outlet, outlet_name, slice_get_within}
 use Rattle.ulfm_carrier.specs.inside.Wiring.{IsNewOutlet, IsNewInlet, IsWired, AreWired}
 use Rattle.ulfm_carrier.proofs.Places.{view_pushed, view_unpushed, each_push}
 use Rattle.ulfm_carrier.proofs.Wires.{Adds}
@@ -11,7 +11,7 @@ each_of P same each j x here = each j x (subst (λ l. at l j x) same here)
 module _ (n capacity s d : ℕ) (out : Outlet) (inlet : Inlet) (new_out : IsNewOutlet capacity out) (new_in : IsNewInlet capacity s inlet) where
   wired_end : (k : ℕ) (e f : LaneEnds) → IsWired n capacity s d k e → Adds s d k out inlet e f → IsWired n capacity s (d + 1) k f
   wired_end k e f w a = record {
-    number = ap (λ (r : WorldRank). r.number) a.me ∙ w.number;
+    number = ap (λ r. r.number) a.me ∙ w.number;
     first = a.next ∙ w.first;
     outs_below = λ below. ap length (a.outs_other (λ same. absurd (omega arith))) ∙ w.outs_below below;
     outs_here = λ same. ap length (a.outs_here same) ∙ length_push e.outs.items out ∙ ap (λ m. m + 1) (w.outs_here same);

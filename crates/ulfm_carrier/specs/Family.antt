@@ -1,11 +1,16 @@
 -- Words on ends and on the items that they carry.
-use Rattle.std.specs.Prelude.{◌≡◌, ℕ, List, [], ◌++◌, ◌≤◌, length, map}
+use Rattle.std.specs.Prelude.{◌≡◌, ℕ, List, [], ◌++◌, ◌≤◌, ◌-◌, length, map, take, Option, None, Some}
 use Rattle.std.specs.declared.alloc.Global.{Global}
 use Rattle.std.specs.declared.vec.Vec.{Vec}
 use Rattle.ulfm_base.specs.declared.rank.WorldRank.{WorldRank}
 use Rattle.ulfm_base.specs.declared.item.Item.{Item}
 use Rattle.ulfm_base.specs.Lists.{at}
 use Rattle.ulfm_base.specs.Items.{items_from}
+
+-- what was taken, without what a gathering took last
+abbrev pub shown : {X : Type 0} → Option ℕ → List X → List X
+shown None now = now
+shown (Some count) now = take (length now - count) now
 
 -- the ends of the one list have the names and show the lists of the ends of the other
 pub record Keeps {E N : Type 0} (name : E → N) (pushed taken : E → ℕ → List Item) (before after : List E) : Type 0 where

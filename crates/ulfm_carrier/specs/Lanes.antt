@@ -1,5 +1,5 @@
 -- What contracts see of the ends of rings.
-use Rattle.std.specs.Prelude.{◌≡◌, ◌<◌, ◌≤◌, ℕ, List, [], length, map, sum, vec_capacity, Option, None, Some, slice_index_or, slice_get, take, ◌-◌, ◌+◌, ◌%◌}
+use Rattle.std.specs.Prelude.{◌≡◌, ◌<◌, ◌≤◌, ℕ, List, [], length, map, sum, vec_capacity, None, slice_index_or, slice_get, ◌+◌, ◌%◌}
 use Rattle.std.specs.declared.alloc.Global.{Global}
 use Rattle.rtrb.specs.declared.AnyItems.{AnyItems}
 use Rattle.rtrb.specs.declared.producer.Producer.{Producer}
@@ -13,6 +13,7 @@ use Rattle.ulfm_carrier.specs.declared.lane_ends.RingName.{RingName}
 use Rattle.ulfm_carrier.specs.declared.lane_ends.LaneName.{LaneName}
 use Rattle.ulfm_carrier.specs.declared.lane_ends.LaneEnds.{LaneEnds}
 use Rattle.ulfm_carrier.specs.Carried.{item_of}
+use Rattle.ulfm_carrier.specs.Family.{shown}
 use Rattle.ulfm_base.specs.Lists.{at}
 
 -- the sender's end of a ring
@@ -38,11 +39,6 @@ inlet_name i = reader_name i.ring
 -- what a rank pushed into a ring
 abbrev pub pushed_into : WorldRank → Outlet → List Item
 pushed_into me outlet = map (item_of me) (sent outlet)
-
--- what was received, without what a gathering took last
-abbrev pub shown : Option ℕ → List Carried → List Carried
-shown None now = now
-shown (Some count) now = take (length now - count) now
 
 -- what was popped from a ring
 abbrev pub taken_by : Inlet → List Item

@@ -1,5 +1,5 @@
 -- What contracts see of the ends of shared inboxes.
-use Rattle.std.specs.Prelude.{◌≡◌, ◌<◌, ◌≤◌, ◌-◌, ℕ, List, [], ◌++◌, length, map, take, vec_capacity, Option, None, Some, slice_index_or}
+use Rattle.std.specs.Prelude.{◌≡◌, ◌<◌, ◌≤◌, ℕ, List, [], ◌++◌, length, map, vec_capacity, None, slice_index_or}
 use Rattle.std.specs.Arc.{arc_value}
 use Rattle.crossbeam_queue.specs.Passes.{view, IsPassOf, ruled_capacity}
 use Rattle.crossbeam_queue.specs.Ring.{idle}
@@ -8,6 +8,7 @@ use Rattle.ulfm_carrier.specs.declared.shared_ends.SharedName.{SharedName}
 use Rattle.ulfm_carrier.specs.declared.shared_ends.SharedEnds.{SharedEnds}
 use Rattle.ulfm_base.specs.Items.{items_from}
 use Rattle.ulfm_base.specs.Lists.{at}
+use Rattle.ulfm_carrier.specs.Family.{shown}
 use Rattle.ulfm_carrier.specs.Inbox.{Signed, InboxPass, spent}
 use Rattle.ulfm_carrier.specs.declared.inbox.Role.TheVariants as role
 
@@ -22,11 +23,6 @@ shared_name e = record { place = e.me.number; outs = map pass_name e.outs.items;
 -- what was pushed with a pass
 abbrev pub pushed_with : InboxPass → List Item
 pushed_with p = (view p).pushed
-
--- what was taken, without what a gathering took last
-abbrev pub shown : Option ℕ → List Signed → List Signed
-shown None now = now
-shown (Some count) now = take (length now - count) now
 
 -- what was pushed to the rank d
 abbrev pub shared_pushed : SharedEnds → ℕ → List Item

@@ -65,5 +65,5 @@ fn explain_table(alloc: Global, text: &str, table: &Table) -> Result<Vec<Explana
 {
     let mut findings = Findings::new(alloc, text)?;
     explain_job(&mut findings, table)?;
-    Ok(findings.found)
+    Ok(findings.found.into_vec())
 }

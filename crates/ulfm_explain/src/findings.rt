@@ -1,23 +1,19 @@
 //! What was found in a text, and where.
-ghost use Rattle.std.specs.Prelude.{◌≤◌, vec_len};
 
 use crate::cause::Cause;
 use crate::explanation::{Explanation, StepPlace};
 use crate::marks::{Mark, marks_of};
 use crate::place::place_at;
 use std::alloc::{AllocError, Global};
+use ulfm_findings::FirstTen;
 
-/// The most explanations of a text.
-const MOST: usize = 10;
-
-/// What was found in a text.
+/// What was found in a text: its first ten explanations.
 #[derive(Drop)]
 pub struct Findings<'a> {
     pub alloc: Global,
     pub text: &'a str,
     pub marks: Vec<Mark>,
-    pub found: Vec<Explanation>,
-    ghost few: { vec_len found ≤ 10 },
+    pub found: FirstTen<Explanation>,
 }
 
 impl<'a> Findings<'a> {
@@ -28,13 +24,13 @@ impl<'a> Findings<'a> {
             alloc,
             text,
             marks,
-            found: Vec::new(alloc),
+            found: FirstTen::new(alloc),
         })
     }
 
     /// Whether there is no room for another explanation.
     pub fn is_full(&self) -> bool {
-        self.found.len() >= MOST
+        self.found.is_full()
     }
 
     /// Keeps an explanation, if there is room for it.
@@ -44,12 +40,11 @@ impl<'a> Findings<'a> {
         step: Option<StepPlace>,
         cause: Cause,
     ) -> Result<(), AllocError> {
-        if self.found.len() >= MOST {
+        if self.found.is_full() {
             return Ok(());
         }
         let place = at.map(|at| place_at(self.text.as_bytes(), at));
-        self.found.push(Explanation { place, step, cause })?;
-        Ok(())
+        self.found.tell(Explanation { place, step, cause })
     }
 
     /// Where a key of the job or of a step begins; where it doesn't stand there, the step itself.

@@ -58,5 +58,5 @@ fn table_warnings(alloc: Global, text: &str, table: &Table) -> Result<Vec<Explan
             }
         }
     }
-    Ok(findings.found)
+    Ok(findings.found.into_vec())
 }

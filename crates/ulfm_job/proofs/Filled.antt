@@ -1,14 +1,8 @@
 -- The scripts after the first steps of the file.
 use Rattle.std.proofs.Common.{◌≡◌, ℕ, ◌+◌, ◌<◌, ◌≤◌, List, [], ◌∷◌, ◌++◌, length, map, set, get_or, drop, replicate, slice_index_or, Result, Ok, Err, sym, ap, ◌∙◌, arith}
-use Rattle.std.proofs.lemmas.List.{length-set, length-replicate}
-use Rattle.toml.specs.declared.value.Value.{Value}
-use Rattle.toml.specs.View.{view, items_view}
-use Rattle.ulfm_job.specs.declared.fault.JobFault.{JobFault}
-use Rattle.ulfm_job.specs.declared.step.Step.{Step}
-use Rattle.ulfm_job.specs.inside.Reading.{map_ok}
-use Rattle.ulfm_job.specs.Job.{step_count}
+use Rattle.std.proofs.lemmas.List.{length-set, length-replicate, length_push}
+use Rattle.ulfm_job.proofs.Common.{Value, view, items_view, JobFault, Step, map_ok, step_count, Order, PlannedStep, scripts_of, order_of}
 use Rattle.ulfm_job.specs.JobText.{step_at, steps_of}
-use Rattle.ulfm_job.specs.Plan.{Order, PlannedStep, scripts_of, order_of}
 use Rattle.ulfm_job.proofs.Scripts.{orders-put, orders-empty, step_count-set, step_count-empty}
 use Rattle.ulfm_job.proofs.Steps.{prepend, prepend-nil, goes_on, ends, is_done}
 
@@ -37,7 +31,7 @@ one_step ranks i r x scripts after vs v total h lt here read below e = record {
   filled = ap (map (map order_of)) e ∙ orders-put scripts ranks r x h.front below h.each h.filled;
   ahead = goes_on h.front ranks i vs v (record { rank = r; order = order_of x }) total lt here read h.ahead;
   each = ap length e ∙ length-set scripts r _ ∙ h.each;
-  counted = let inside : r < length scripts = omega (arith, h.each) in ap step_count e ∙ step_count-set scripts r x inside ∙ ap (λ (n : ℕ). n + 1) h.counted;
+  counted = let inside : r < length scripts = omega (arith, h.each) in ap step_count e ∙ step_count-set scripts r _ inside (length_push _ x) ∙ ap (λ (n : ℕ). n + 1) h.counted;
 }
 
 -- the first fault of a step

@@ -1,16 +1,10 @@
 -- The job of a table and of bytes, case by case.
 use Rattle.std.proofs.Common.{◌≡◌, ℕ, ◌<◌, ◌≤◌, List, length, ltb, true, false, Option, Result, Ok, Err, refl, ap, ◌∙◌, arith}
-use Rattle.std.proofs.lemmas.Bool.Decides.{nat_tests}
+use Rattle.ulfm_job.proofs.Common.{JobFault, map_ok, Order, Plan, scripts_of, nat_tests, IsUtf8, is_utf8, parse_document, ◌>>=◌}
 use Rattle.std.proofs.lemmas.Str.{is_utf8-from_IsUtf8, IsUtf8-from_is_utf8}
 use Rattle.std.proofs.lemmas.Bool.{false_from_ne_true}
-use Rattle.std.specs.Str.{IsUtf8, is_utf8}
 use Rattle.toml.specs.Data.{Members}
-use Rattle.toml.specs.Parse.{parse_document}
-use Rattle.ulfm_job.specs.declared.fault.JobFault.{JobFault}
 use Rattle.ulfm_job.specs.declared.fault.JobFault.TheVariants as refused
-use Rattle.ulfm_job.specs.Keys.{◌>>=◌}
-use Rattle.ulfm_job.specs.inside.Reading.{map_ok}
-use Rattle.ulfm_job.specs.Plan.{Order, Plan, scripts_of}
 use Rattle.ulfm_job.specs.JobText.{Head, head_of, items_len, steps_of, job_of, job_of_document, job_of_bytes}
 
 pub too_many : (ms : Members) (h : Head) → Ok h ≡ head_of ms → 256 < items_len h.steps → job_of ms ≡ Err refused.TooLarge

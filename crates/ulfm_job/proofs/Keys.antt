@@ -1,11 +1,7 @@
 -- The keys of a table, as the code goes over them and as its members show them.
 use Rattle.std.proofs.Common.{◌≡◌, ℕ, List, [], ◌∷◌, Bool, ◌||◌, map, Bor, String, Global, string_bytes, refl, ap}
-use Rattle.std.specs.List.{list_any, list_all}
+use Rattle.ulfm_job.proofs.Common.{Value, members_view, bytes_eq, is_among, keys_of, list_any, list_all}
 use Rattle.std.specs.Map.{keys_of as map_keys}
-use Rattle.std.specs.Str.{bytes_eq}
-use Rattle.toml.specs.declared.value.Value.{Value}
-use Rattle.toml.specs.View.{members_view}
-use Rattle.ulfm_job.specs.Keys.{is_among, keys_of}
 
 pub list_any-map : {X Y : Type 0} (p : Y → Bool) (h : X → Y) (xs : List X) → list_any p (map h xs) ≡ list_any (λ x. p (h x)) xs
 list_any-map p h [] = refl

@@ -1,3 +1,4 @@
+pub mod Common
 pub mod Filled
 pub mod Jobs
 pub mod Keys
@@ -5,3 +6,4 @@ pub mod NoToml
 pub mod Scripts
 pub mod Steps
 pub mod Padded
+pub mod WithStop

@@ -1,16 +1,11 @@
 -- Which bytes are refused as no TOML.
 use Rattle.std.proofs.Common.{◌≡◌, ◌≢◌, ℕ, ◌+◌, List, length, ltb, cond, Bool, true, false, Option, Some, None, Result, Ok, Err, ◌⊎◌, inl, inr, refl, sym, ◌∙◌, arith}
 use Rattle.std.proofs.lemmas.Bool.{false≢true, ltb-false}
-use Rattle.std.proofs.lemmas.Bool.Decides.{nat_tests}
+use Rattle.ulfm_job.proofs.Common.{JobFault, Plan, nat_tests, is_utf8, parse_document, ◌>>=◌}
 use Rattle.std.proofs.lemmas.Str.{is_utf8-from_IsUtf8}
-use Rattle.std.specs.Str.{is_utf8}
 use Rattle.toml.specs.Data.{Items, no_items, item, Members, as_table}
-use Rattle.toml.specs.Parse.{parse_document}
 use Rattle.ulfm_job.specs.declared.fault.Fault.{Fault}
-use Rattle.ulfm_job.specs.declared.fault.JobFault.{JobFault}
 use Rattle.ulfm_job.specs.declared.fault.JobFault.TheVariants.{NotToml, TooLarge}
-use Rattle.ulfm_job.specs.Keys.{◌>>=◌}
-use Rattle.ulfm_job.specs.Plan.{Plan}
 use Rattle.ulfm_job.specs.JobText.{in_job, in_step, step_in, steps_of, head_of, job_of, job_of_document, job_of_bytes, IsNoDocument}
 use Rattle.ulfm_job.specs.StepText.{step_of}
 use Rattle.ulfm_job.proofs.Jobs.{no_text}

@@ -1,6 +1,6 @@
 -- The scripts of the ranks, as they grow.
 use Rattle.std.proofs.Common.{◌≡◌, ℕ, zero, suc, ◌+◌, ◌<◌, ◌==◌, List, [], ◌∷◌, ◌++◌, length, map, filter, set, get_or, replicate, slice_index_or, Bool, true, false, Vec, Global, refl, sym, ap, ◌∙◌, arith}
-use Rattle.std.specs.List.{range_with_len}
+use Rattle.ulfm_job.proofs.Common.{Step, lists_of, step_count, Order, PlannedStep, script_of, scripts_of, order_of, range_with_len}
 use Rattle.std.proofs.lemmas.Bool.{eqb-true, eqb-false}
 use Rattle.std.proofs.lemmas.List.{append-nil, length-set, map_push, map-set, get_or-map, get_or-set_other, replicate_more}
 use Rattle.std.proofs.lemmas.List.Elements.{filter-append}
@@ -8,9 +8,6 @@ use Rattle.std.proofs.lemmas.List.Folds.{sum_by-replicate}
 use Rattle.std.proofs.lemmas.List.FromFn.{fill_by_all, length-map-range_with_len, get_or-map-range_with_len}
 use Rattle.std.proofs.lemmas.List.Sums.{sum_by-set}
 use Rattle.std.proofs.lemmas.Grind.{get_or-set_at}
-use Rattle.ulfm_job.specs.declared.step.Step.{Step}
-use Rattle.ulfm_job.specs.Job.{lists_of, step_count}
-use Rattle.ulfm_job.specs.Plan.{Order, PlannedStep, script_of, scripts_of, order_of}
 
 -- one more rank, with no steps yet
 pub one_more : (vs : List (Vec Step Global)) (v : Vec Step Global) (n : ℕ) → v.items ≡ [] → lists_of vs ≡ replicate n [] → lists_of (vs ++ v ∷ []) ≡ replicate (n + 1) []
@@ -27,15 +24,8 @@ lists_of-set vs v w r x lt here grown =
     let same : (slice_index_or vs r w).items ≡ w.items = ap (λ (u : Vec Step Global). u.items) (sym here) in
     kept ∙ ap (set (lists_of vs) r) (grown ∙ ap (λ (xs : List Step). xs ++ x ∷ []) (sym (old ∙ same)))
 
-pub step_count-set : (scripts : List (List Step)) (r : ℕ) (x : Step) → r < length scripts → step_count (set scripts r (slice_index_or scripts r [] ++ x ∷ [])) ≡ step_count scripts + 1
-step_count-set scripts r x lt =
-    let e = sum_by-set length scripts r (slice_index_or scripts r [] ++ x ∷ []) [] lt in
-    let longer : length (slice_index_or scripts r [] ++ x ∷ []) ≡ length (slice_index_or scripts r []) + 1 = one (slice_index_or scripts r []) x in
-    omega (arith, e, longer)
-  where
-    one : (xs : List Step) (y : Step) → length (xs ++ y ∷ []) ≡ length xs + 1
-    one [] y = refl
-    one (x ∷ xs) y = let e : length (xs ++ y ∷ []) ≡ length xs + 1 = one xs y in omega (arith, e)
+pub step_count-set : (scripts : List (List Step)) (r : ℕ) (longer : List Step) → r < length scripts → length longer ≡ length (slice_index_or scripts r []) + 1 → step_count (set scripts r longer) ≡ step_count scripts + 1
+step_count-set scripts r longer lt one = let e = sum_by-set length scripts r longer [] lt in omega (arith, e, one)
 
 -- a script with a step of its rank, and with a step of another rank
 script_of-own : (front : List PlannedStep) (s : PlannedStep) (r : ℕ) → (s.rank == r) ≡ true → script_of (front ++ s ∷ []) r ≡ script_of front r ++ s.order ∷ []

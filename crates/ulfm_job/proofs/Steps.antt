@@ -1,15 +1,10 @@
 -- The steps of an array, one after the other.
 use Rattle.std.proofs.Common.{◌≡◌, ℕ, ◌+◌, ◌<◌, ◌≤◌, List, [], ◌∷◌, ◌++◌, length, get_or, drop, Bool, cond, ◌&&◌, Option, Some, is_some, Result, Ok, Err, refl, sym, ap, ◌∙◌, append_assoc, arith}
 use Rattle.std.proofs.lemmas.List.{append-nil, drop_all}
-use Rattle.std.specs.List.{list_all}
+use Rattle.ulfm_job.proofs.Common.{Value, view, items_view, JobFault, PlannedStep, ◌>>=◌, list_all}
 use Rattle.toml.specs.Data.{Data, as_table, as_array}
-use Rattle.toml.specs.declared.value.Value.{Value}
-use Rattle.toml.specs.View.{view, items_view}
 use Rattle.toml.proofs.Views.{items_view-drop}
 use Rattle.ulfm_job.specs.declared.fault.Fault.TheVariants.{BadKey}
-use Rattle.ulfm_job.specs.declared.fault.JobFault.{JobFault}
-use Rattle.ulfm_job.specs.Keys.{◌>>=◌}
-use Rattle.ulfm_job.specs.Plan.{PlannedStep}
 use Rattle.ulfm_job.specs.JobText.{step_at, steps_of, are_tables, step_items_in, items_len}
 
 -- steps that were read, before those still to be read

@@ -1,8 +1,9 @@
 -- What contracts see of a job.
-use Rattle.std.specs.Prelude.{◌≡◌, ◌<◌, ◌≤◌, ℕ, Bool, true, false, List, [], ◌∷◌, length, map, sum_by, slice_index_or, Vec, if◌then◌else◌}
+use Rattle.std.specs.Prelude.{◌≡◌, ◌<◌, ◌≤◌, ◌+◌, ◌&&◌, ℕ, Bool, true, false, List, [], ◌∷◌, length, map, sum_by, slice_index_or, slice_set, nat_le, nat_lt, Vec, if◌then◌else◌}
+use Rattle.std.specs.List.{insert}
 use Rattle.std.specs.declared.alloc.Global.{Global}
 use Rattle.ulfm_job.specs.declared.step.Step.{Step}
-use Rattle.ulfm_job.specs.declared.step.Step.TheVariants.{Stop}
+use Rattle.ulfm_job.specs.declared.step.Step.TheVariants.{Wait, Stop}
 
 -- how many ranks there are, the room of an inbox, the most polls of one step, and the steps of each rank
 pub record Seen : Type 0 where
@@ -27,6 +28,23 @@ seen_of capacity turns scripts = record { ranks = length scripts; capacity = cap
 abbrev pub with_turns : ℕ → Seen → Seen
 with_turns turns j = record j { turns = turns }
 
+-- the steps of the rank r
+abbrev pub script_at : Seen → ℕ → List Step
+script_at j r = slice_index_or j.scripts r []
+
+-- a step of a script of n steps, once there is one more before the step `at`: a wait for a later one names it by its new number
+abbrev pub moved_on : ℕ → ℕ → Step → Step
+moved_on at n (Wait req) = Wait (if nat_le at req && nat_lt req n then req + 1 else req)
+moved_on at n step = step
+
+-- a script with a stop before its step `at`, or after its last one
+abbrev pub stopped_at : ℕ → List Step → List Step
+stopped_at at script = insert (map (moved_on at (length script)) script) at Stop
+
+-- a job with one more step, a stop before the step `at` of the rank r
+abbrev pub with_stop : ℕ → ℕ → Seen → Seen
+with_stop r at j = record j { scripts = slice_set j.scripts r (stopped_at at (script_at j r)) }
+
 -- the ranges of a job
 pub record IsJob (j : Seen) : Type 0 where
   pub script_each : length j.scripts ≡ j.ranks
@@ -37,10 +55,6 @@ pub record IsJob (j : Seen) : Type 0 where
   pub some_turn : 0 < j.turns
   pub most_turns : j.turns ≤ 10000000
   pub most_steps : step_count j.scripts ≤ 256
-
--- the steps of the rank r
-abbrev pub script_at : Seen → ℕ → List Step
-script_at j r = slice_index_or j.scripts r []
 
 -- the step is a stop
 abbrev pub is_stop_step : Step → Bool

@@ -1,9 +1,14 @@
 //! A job.
-ghost use Rattle.std.specs.Prelude.{◌≡◌, ◌<◌, ◌≤◌, slice_get, length};
+ghost use Rattle.std.specs.Prelude.{◌≡◌, ◌≢◌, ◌<◌, ◌≤◌, IfErr, IfOk, Err, slice_get, length};
 ghost use Rattle.ulfm_job.specs.Job.{IsJob, step_count, script_at};
 
+use crate::fault::JobFault;
 use crate::step::Step;
+use crate::stopped::stopped_at;
 use std::marker::Model;
+
+/// The most steps of a job.
+pub const MOST_STEPS: usize = 256;
 
 /// What 1 to 8 ranks are to do: the room of an inbox (1 to 64 items), the most polls of one step (1 to 10,000,000),
 /// and the steps of each rank, 256 at most in all.
@@ -25,7 +30,7 @@ impl Model for Job {
 }
 
 impl Job {
-    ghost use Rattle.ulfm_job.specs.Job.{seen_of, with_turns};
+    ghost use Rattle.ulfm_job.specs.Job.{seen_of, with_stop, with_turns};
 
     /// The job of these scripts, one for each rank.
     pub(crate) fn new(capacity: u8, turns: u32, scripts: Vec<Vec<Step>>) -> Job
@@ -46,6 +51,30 @@ impl Job {
         ensures { result ≡ with_turns turns self }
     {
         Job::new(self.capacity, turns, self.scripts)
+    }
+
+    /// The job with one more step, a stop, before the step `at` of a rank, or after its last one. Later steps have a number more,
+    /// by which that rank's waits then name them. The job itself stays as it is.
+    ///
+    /// # Errors
+    ///
+    /// `TooLarge` where the job has 256 steps, else `OutOfMemory` where a growth was refused.
+    pub fn with_stop(&self, rank: u8, at: u16) -> Result<Job, JobFault>
+        requires inside { rank < self.now.ranks }
+        requires place { at ≤ length (script_at self.now rank) }
+        ensures exact { IfOk result (λ job. job ≡ with_stop rank at self.now) }
+        ensures full { step_count self.now.scripts ≡ 256 → result ≡ Err JobFault.TooLarge }
+        ensures memory { step_count self.now.scripts ≢ 256 → IfErr result (λ fault. fault ≡ JobFault.OutOfMemory) }
+    {
+        if self.len() == MOST_STEPS {
+            return Err(JobFault::TooLarge);
+        }
+        let steps = stopped_at(*self.scripts.allocator(), self.script(rank), at)?;
+        let Ok(mut scripts) = self.scripts.clone() else {
+            return Err(JobFault::OutOfMemory);
+        };
+        scripts[rank as usize] = steps;
+        Ok(Job::new(self.capacity, self.turns, scripts))
     }
 
     /// How many ranks there are, 1 to 8. Each has a script.

@@ -8,11 +8,12 @@ mod job;
 mod ops;
 mod reading;
 mod step;
+mod stopped;
 mod text;
 mod words;
 
 pub use fault::{Fault, JobFault};
-pub use job::Job;
+pub use job::{Job, MOST_STEPS};
 pub use reading::no_toml;
 pub use step::Step;
 pub use text::Text;

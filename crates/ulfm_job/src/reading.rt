@@ -8,15 +8,13 @@ ghost use Rattle.ulfm_job.specs.Plan.{plan_of, order_of, scripts_of};
 
 use crate::fault::{Fault, JobFault};
 use crate::head::head_of;
-use crate::job::Job;
+use crate::job::{Job, MOST_STEPS};
 use crate::ops::{Placed, step_of};
 use crate::step::Step;
 use std::alloc::Global;
 use toml::{Table, Value};
 
-/// The most steps and bytes of a job.
-const MOST_STEPS: usize = 256;
-
+/// The most bytes of a job.
 const MOST_BYTES: usize = 1_048_576;
 
 impl Job {

@@ -1,13 +1,8 @@
 -- Each answer of a poll keeps the steps of a rank true of its log.
 use Rattle.std.proofs.Common.{◌≡◌, ℕ, List, [], ◌∷◌, ◌++◌, refl, inl, inr, Some, None}
-use Rattle.ulfm_laws.proofs.Common.{Entry, State, logged, Step, StepAnswer, StepReport}
+use Rattle.ulfm_laws.proofs.Common.{Entry, State, logged, Step, StepAnswer, StepReport, Send, Recv, Wait, Sent, Posted, Done, Over, AnswersStep, step_report, request_of, sent_by, closes, PostsNone}
 use Rattle.ulfm_rank.specs.declared.entry.Entry.TheVariants.{Sent as SentEntry, Posted as PostedEntry, Took}
-use Rattle.ulfm_job.specs.declared.step.Step.TheVariants.{Send, Recv, Wait}
-use Rattle.ulfm_script.specs.declared.answer.StepAnswer.TheVariants.{Sent, Posted, Done, Over}
-use Rattle.ulfm_script.specs.Player.{AnswersStep, step_report, request_of}
 use Rattle.ulfm_script.proofs.Says.{IsSilent, IsIdle, each_answer}
-use Rattle.ulfm_laws.specs.Reader.{sent_by, closes}
-use Rattle.ulfm_rank.proofs.Formed.{PostsNone}
 use Rattle.ulfm_laws.proofs.Honest.{IsHonest, honest-logged, honest-answered}
 use Rattle.ulfm_laws.proofs.Mail.{sent_entry, IsTakenFrom}
 use Rattle.ulfm_laws.proofs.Closing.{IsTrueOf, true-sent, true-closed}

@@ -1,17 +1,9 @@
 -- The letters that came to a rank are a beginning of those that the steps of their senders sent to it.
 use Rattle.std.proofs.Common.{◌≡◌, ℕ, List, [], ◌∷◌, ◌++◌, ap, sym, ◌∙◌, inl, inr, append-nil, append_assoc}
-use Rattle.std.proofs.lemmas.Bool.{cases_Bool, cases_eq}
-use Rattle.std.proofs.lemmas.Grind.{flat_map-append}
-use Rattle.std.proofs.lemmas.Option.{get_or_from_slice_get}
-use Rattle.ulfm_laws.proofs.Common.{Item, Gone, items_from, at, history_of, State, owes, outbox, Report, IsAtRest}
-use Rattle.ulfm_rank.specs.Facts.{took, is_stopped, is_revoked}
-use Rattle.ulfm_laws.specs.Flow.{Inboxes, inbox_of, IsBeginning, Flow}
-use Rattle.ulfm_laws.specs.Reader.{Content, letters_come, letters_sent, ComeAsSent, AllHasCome}
-use Rattle.ulfm_laws.specs.Reports.{report_at, no_report}
+use Rattle.ulfm_laws.proofs.Common.{Item, Gone, items_from, at, history_of, State, owes, outbox, Report, IsAtRest, Content, letters_come, letters_sent, ComeAsSent, AllHasCome, cases_Bool, cases_eq, get_or_from_slice_get, took, is_stopped, is_revoked, Inboxes, inbox_of, IsBeginning, Flow, report_at, no_report, there, flat_map-append}
 use Rattle.ulfm_laws.proofs.AtRest.{took_owed}
 use Rattle.ulfm_laws.proofs.Comes.{all_taken}
 use Rattle.ulfm_laws.proofs.Flowing.{AreFlowing}
-use Rattle.ulfm_base.proofs.Places.{there}
 use Rattle.ulfm_laws.proofs.Honest.{IsHonest}
 use Rattle.ulfm_laws.proofs.Mail.{mail_on, mail, mail_sent, mail_owed}
 
@@ -32,9 +24,9 @@ mail_arrived c sender s d {xs} h = elim (cases_Bool (is_stopped sender.log)) [
     | inr other ↦
         let n = h.stopped stopped other in
         let sent = mail_front c n.sent (owes sender d) n.beginning in
-        let whole : mail c xs ++ mail c (outbox sender d) ≡ mail c n.sent =
+        let whole =
         sym (flat_map-append (mail_on c) xs (outbox sender d)) ∙ ap (mail c) (sym n.all) ∙ flat_map-append (mail_on c) n.sent (Gone ∷ []) ∙ append-nil (mail c n.sent) in
-        (mail c (outbox sender d) ++ sent.0, sym (append_assoc (mail c xs) (mail c (outbox sender d)) sent.0) ∙ ap (λ (ys : List Content). ys ++ sent.0) whole ∙ sent.1)
+        (mail c (outbox sender d) ++ sent.0, sym (append_assoc (mail c xs) (mail c (outbox sender d)) sent.0) ∙ ap (λ ys. ys ++ sent.0) whole ∙ sent.1)
   ]
 ]
 
@@ -47,11 +39,11 @@ module _ (inboxes : Inboxes) (reports : List Report) (h : AreFlowing inboxes rep
       let came = letters_come s c (history_of receiver.rank.log) in
       let left = items_from s (inbox_of inboxes d) in
       let a = mail_arrived c r s d (h.flow s d sender receiver p q) in
-      let arrived : mail c (took receiver.rank.log s) ++ (mail c left ++ a.0) ≡ mail_sent c d r.log =
+      let arrived =
       sym (append_assoc (mail c (took receiver.rank.log s)) (mail c left) a.0)
-      ∙ ap (λ (ys : List Content). ys ++ a.0) (sym (flat_map-append (mail_on c) (took receiver.rank.log s) left))
+      ∙ ap (λ ys. ys ++ a.0) (sym (flat_map-append (mail_on c) (took receiver.rank.log s) left))
       ∙ a.1 ∙ mail_owed r.ranks r.me c d r.log in
-      (t.rest ++ (mail c left ++ a.0), sym (append_assoc came t.rest (mail c left ++ a.0)) ∙ ap (λ (ys : List Content). ys ++ (mail c left ++ a.0)) t.all ∙ arrived)
+      (t.rest ++ (mail c left ++ a.0), sym (append_assoc came t.rest (mail c left ++ a.0)) ∙ ap (λ ys. ys ++ (mail c left ++ a.0)) t.all ∙ arrived)
 
   pub come_as_sent : ComeAsSent reports
   come_as_sent s d c i j =
@@ -70,10 +62,10 @@ module _ (inboxes : Inboxes) (reports : List Report) (h : AreFlowing inboxes rep
       let r = sender.0.rank in let log = receiver.0.rank.log in
       let t = all_taken receiver.0.rank.ranks s c log (honest d receiver.0 receiver.1).taken in
       let came = letters_come s c (history_of log) in
-      let all : owes r d ≡ took log s = took_owed inboxes reports h rest s d sender.1 receiver.1 (rw from at runs_s) (rw to at runs_d) in
-      let come : came ≡ letters_sent r c d sender.0.steps =
+      let all = took_owed inboxes reports h rest s d sender.1 receiver.1 (rw from at runs_s) (rw to at runs_d) in
+      let come =
       sym (append-nil came)
-      ∙ ap (λ (ys : List Content). came ++ ys) (sym (t.none (sym (ap (λ (b : Report). is_revoked b.rank.log c) to) ∙ fresh)))
+      ∙ ap (λ ys. came ++ ys) (sym (t.none (sym (ap (λ b. is_revoked b.rank.log c) to) ∙ fresh)))
       ∙ t.all ∙ ap (mail c) (sym all) ∙ mail_owed r.ranks r.me c d r.log
       ∙ sym ((honest s sender.0 sender.1).sends c d) in
-      ap (λ (b : Report). letters_come s c (history_of b.rank.log)) to ∙ come ∙ ap (λ (a : Report). letters_sent a.rank c d a.steps) (sym from)
+      ap (λ b. letters_come s c (history_of b.rank.log)) to ∙ come ∙ ap (λ a. letters_sent a.rank c d a.steps) (sym from)

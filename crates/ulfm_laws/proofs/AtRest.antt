@@ -1,14 +1,7 @@
 -- What running ranks know where reports are at rest.
 use Rattle.std.proofs.Common.{◌≡◌, ◌≢◌, ℕ, true, List, [], ◌∷◌, ◌++◌, arith, ap, sym, ◌∙◌, inl, inr, append-nil, refl}
-use Rattle.std.specs.List.{list_any}
-use Rattle.std.proofs.lemmas.Bool.{false≢true, cases_eq, or_right}
-use Rattle.std.proofs.lemmas.List.Folds.{list_any-append}
-use Rattle.std.proofs.lemmas.Option.{slice_get_within}
-use Rattle.ulfm_laws.proofs.Common.{Item, Gone, WorldRank, items_from, at, owes, outbox, Report}
-use Rattle.ulfm_rank.specs.Facts.{took, is_gone_item, is_revoked, item_revokes, is_stopped}
+use Rattle.ulfm_laws.proofs.Common.{Gone, items_from, at, owes, outbox, Report, false≢true, cases_eq, or_right, slice_get_within, took, is_gone_item, is_revoked, item_revokes, is_stopped, Inboxes, Flow, IsRunning, list_any, list_any-append}
 use Rattle.ulfm_rank.proofs.Told.{gone-took, revoked-took, revoked_told}
-use Rattle.ulfm_laws.specs.Flow.{Inboxes, Flow}
-use Rattle.ulfm_laws.specs.Reports.{IsRunning}
 use Rattle.ulfm_laws.specs.Rest.{IsAtRest, KnowsStopped, AgreesOnRevoked}
 use Rattle.ulfm_laws.proofs.Flowing.{AreFlowing, same_report, running-not_gone}
 
@@ -19,21 +12,21 @@ module _ (inboxes : Inboxes) (reports : List Report) (h : AreFlowing inboxes rep
 
   -- whatever came towards a running rank was taken
   took_all : (s d : ℕ) {sender receiver : Report} → at reports s sender → at reports d receiver → IsRunning receiver → Flow sender.rank s d (took receiver.rank.log s)
-  took_all s d {sender} {receiver} p q running = rw (ap (λ (xs : List (WorldRank × Item)). took receiver.rank.log s ++ items_from s xs) (rest d receiver q running).inbox ∙ append-nil (took receiver.rank.log s)) at (h.flow s d sender receiver p q)
+  took_all s d {sender} {receiver} p q running = rw (ap (λ xs. took receiver.rank.log s ++ items_from s xs) (rest d receiver q running).inbox ∙ append-nil (took receiver.rank.log s)) at (h.flow s d sender receiver p q)
 
   -- all that a running rank owes to another one was taken
   pub took_owed : (s d : ℕ) {sender receiver : Report} → at reports s sender → at reports d receiver → IsRunning sender → IsRunning receiver → owes sender.rank d ≡ took receiver.rank.log s
   took_owed s d {sender} {receiver} p q runs running =
       (took_all s d p q running).running runs
-      ∙ ap (λ (xs : List Item). took receiver.rank.log s ++ xs) (nothing_out s d p q running)
+      ∙ ap (λ xs. took receiver.rank.log s ++ xs) (nothing_out s d p q running)
       ∙ append-nil (took receiver.rank.log s)
 
   pub knows-stopped : KnowsStopped reports
   knows-stopped s d sender receiver p q stopped running =
-      let other : s ≢ d = λ e. false≢true (sym running ∙ ap (λ (r : Report). is_stopped r.rank.log) (sym (same_report reports p q e)) ∙ stopped) in
+      let other : s ≢ d = λ e. false≢true (sym running ∙ ap (λ r. is_stopped r.rank.log) (sym (same_report reports p q e)) ∙ stopped) in
       let last = (took_all s d p q running).stopped stopped other in
-      let all : last.sent ++ Gone ∷ [] ≡ took receiver.rank.log s =
-      last.all ∙ ap (λ (xs : List Item). took receiver.rank.log s ++ xs) (nothing_out s d p q running) ∙ append-nil (took receiver.rank.log s) in
+      let all =
+      last.all ∙ ap (λ xs. took receiver.rank.log s ++ xs) (nothing_out s d p q running) ∙ append-nil (took receiver.rank.log s) in
       gone-took receiver.rank.log s
       ∙ ap (list_any is_gone_item) (sym all)
       ∙ list_any-append is_gone_item last.sent (Gone ∷ [])
@@ -41,9 +34,9 @@ module _ (inboxes : Inboxes) (reports : List Report) (h : AreFlowing inboxes rep
 
   pub agrees-revoked : AgreesOnRevoked reports
   agrees-revoked s d c sender receiver p q runs running revoked = elim (cases_eq s d) [
-    | inl same ↦ ap (λ (r : Report). is_revoked r.rank.log c) (sym (same_report reports p q same)) ∙ revoked
+    | inl same ↦ ap (λ r. is_revoked r.rank.log c) (sym (same_report reports p q same)) ∙ revoked
     | inr other ↦
-        let told : list_any (item_revokes c) (owes sender.rank d) ≡ true =
+        let told =
         revoked_told sender.rank.ranks sender.rank.me d c sender.rank.log (λ e. other (sym (h.order s sender p) ∙ e)) revoked (running-not_gone h d s q p running) in
         revoked-took receiver.rank.log s c (ap (list_any (item_revokes c)) (sym (took_owed s d p q runs running)) ∙ told)
   ]

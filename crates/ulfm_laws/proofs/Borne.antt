@@ -1,14 +1,7 @@
 -- Reports whose answers are right are true of their logs.
 use Rattle.std.proofs.Common.{◌≡◌, ℕ, List, [], ◌∷◌, ◌++◌, refl, ap, sym, subst, ◌∙◌, inl, inr, ◌⊎◌, All}
-use Rattle.ulfm_laws.proofs.Common.{Context, Decision, Entry, State, logged, StepReport, Step, Report}
-use Rattle.ulfm_base.specs.declared.error.CallError.TheVariants.{OutOfMemory}
+use Rattle.ulfm_laws.proofs.Common.{Context, Decision, Entry, State, logged, StepReport, Step, Report, Shrink, Unfinished, Refused, AnswersStep, LeavesOpen, step_report, OutOfMemory, all_front, all_last, Known, AnswersAdoption, StoodAt, IsTook, AnswersFollow}
 use Rattle.ulfm_rank.specs.declared.entry.Entry.TheVariants.{Took, Entered, Adopted}
-use Rattle.ulfm_rank.proofs.Signed.{all_front, all_last}
-use Rattle.ulfm_script.specs.declared.answer.StepAnswer.TheVariants.{Unfinished, Refused}
-use Rattle.ulfm_job.specs.declared.step.Step.TheVariants.{Shrink}
-use Rattle.ulfm_script.specs.Answered.{StoodAt, IsTook, AnswersFollow}
-use Rattle.ulfm_script.specs.Deciding.{Known, AnswersAdoption}
-use Rattle.ulfm_script.specs.Player.{AnswersStep, LeavesOpen, step_report}
 use Rattle.ulfm_script.proofs.Polls.{answers_plain, opens_adds, adoption_adds}
 use Rattle.ulfm_script.proofs.Walked.{KeepsAll, reported}
 use Rattle.ulfm_laws.proofs.Answering.{true-answers, honest-plain}
@@ -22,12 +15,12 @@ abbrev AddsFew : State → State → Type 0
 AddsFew old new = (new ≡ old) ⊎ ((e : Entry) × (new ≡ logged old e))
 
 same_ranks : {old new : State} → AddsFew old new → new.ranks ≡ old.ranks
-same_ranks (inl same) = ap (λ (s : State). s.ranks) same
-same_ranks (inr one) = ap (λ (s : State). s.ranks) one.1
+same_ranks (inl same) = ap (λ s. s.ranks) same
+same_ranks (inr one) = ap (λ s. s.ranks) one.1
 
 before_few : (P : Entry → Type 0) {old new : State} → AddsFew old new → All P new.log → All P old.log
-before_few P (inl same) all = subst (λ (s : State). All P s.log) same all
-before_few P {old} (inr one) all = all_front P old.log one.0 (subst (λ (s : State). All P s.log) one.1 all)
+before_few P (inl same) all = subst (λ s. All P s.log) same all
+before_few P {old} (inr one) all = all_front P old.log one.0 (subst (λ s. All P s.log) one.1 all)
 
 took_borne : {n : ℕ} {log : List Entry} (e : Entry) {done : List StepReport} → IsTook e → IsHonest n log done → IsTakenFrom n e → IsHonest n (log ++ e ∷ []) done
 took_borne {n} {log} (Took source item) {done} t h own = honest-logged (Took source item) h tt (λ c d. refl) own
@@ -53,7 +46,7 @@ module _ (known : Known) (r : State) where
 
   adopted : (n : ℕ) (old new : State) (done : List StepReport) (report : StepReport) (comm : Context) (held : Decision) → StoodAt r n old → report.step ≡ Shrink comm → AnswersAdoption old comm held report.answer new → IsBorne done old.log → IsBorne (done ++ report ∷ []) new.log
   adopted n old new done report comm held stood is a borne =
-      subst (λ (s : Step). IsBorne (done ++ step_report s report.answer report.at report.polls ∷ []) new.log) (sym is)
+      subst (λ s. IsBorne (done ++ step_report s report.answer report.at report.polls ∷ []) new.log) (sym is)
       (changed old new done (done ++ step_report (Shrink comm) report.answer report.at report.polls ∷ []) stood (elim (adoption_adds old comm held report.answer new a) [ inl same ↦ inl same | inr one ↦ inr (Adopted held, one.1) ]) (λ h. true-adoption old done h comm report.at report.polls new held report.answer a) borne)
 
   borne : KeepsAll known r IsBorne

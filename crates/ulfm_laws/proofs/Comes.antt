@@ -1,18 +1,9 @@
 -- The letters that came by the history of a log are a beginning of those that it took.
 use Rattle.std.proofs.Common.{◌≡◌, ℕ, Bool, true, false, cond, eqb, List, [], ◌∷◌, ◌++◌, length, refl, ap, sym, ◌∙◌, append-nil, append_assoc, inl, inr, suc, All}
-use Rattle.std.proofs.lemmas.Bool.{false≢true, or_left, cases_Bool, eqb-true}
-use Rattle.std.proofs.lemmas.Grind.{flat_map-append}
-use Rattle.ulfm_laws.proofs.Common.{WorldRank, Letter, Item, Entry}
+use Rattle.ulfm_laws.proofs.Common.{WorldRank, Letter, Item, Entry, Content, come_in, letters_come, false≢true, or_left, cases_Bool, eqb-true, took, took_by, is_revoked, revokes, all_front, all_last, gathered_all, any-push, names, Event, Post, Come, End, Clear, flat_map-append, history_of, events_by, ends_from, end_at, names_gone}
 use Rattle.ulfm_base.specs.declared.item.Item.TheVariants.{Letter as Mail, Gone, Revoke, Enter}
-use Rattle.ulfm_base.specs.Pattern.{names}
-use Rattle.ulfm_match.specs.History.{Event, Post, Come, End, Clear}
 use Rattle.ulfm_rank.specs.declared.entry.Entry.TheVariants.{Posted, Revoked, Took}
-use Rattle.ulfm_rank.specs.Facts.{took, took_by, is_revoked, revokes}
-use Rattle.ulfm_rank.specs.History.{history_of, events_by, ends_from, end_at, names_gone}
-use Rattle.ulfm_laws.specs.Reader.{Content, come_in, letters_come}
-use Rattle.ulfm_rank.proofs.Gather.{gathered_all, any-push}
 use Rattle.ulfm_rank.proofs.Logs.{took-push}
-use Rattle.ulfm_rank.proofs.Signed.{all_front, all_last}
 use Rattle.ulfm_laws.proofs.Mail.{mail_on, mail, no_mail, IsTakenFrom}
 
 come_pick : (s c k : ℕ) (b : Bool) → letters_come s c (cond b (End k ∷ []) []) ≡ []
@@ -27,7 +18,7 @@ come_ends : (s c t k : ℕ) (history : List Event) → letters_come s c (ends_fr
 come_ends s c t k [] = refl
 come_ends s c t k (e ∷ history) =
     flat_map-append (come_in s c) (end_at t k e) (ends_from t (suc k) history)
-    ∙ ap (λ (xs : List Content). xs ++ letters_come s c (ends_from t (suc k) history)) (come_end s c t k e)
+    ∙ ap (λ xs. xs ++ letters_come s c (ends_from t (suc k) history)) (come_end s c t k e)
     ∙ come_ends s c t (suc k) history
 
 come_clear : (s c d : ℕ) (b : Bool) → letters_come s c (cond b [] (Clear d ∷ [])) ≡ []
@@ -44,7 +35,7 @@ come_none none empty = record { fresh = λ h. none ∙ sym empty; late = λ h. n
 
 come_letter : (s c : ℕ) (before : List Entry) (source : WorldRank) (letter : Letter) → letter.envelope.source ≡ source → IsCome s c before (cond (is_revoked before letter.envelope.context.number) [] (Come letter ∷ [])) (cond (eqb source.number s) (Mail letter ∷ []) [])
 come_letter s c before source letter same = record {
-  fresh = λ h. fresh (is_revoked before letter.envelope.context.number) (eqb letter.envelope.context.number c) (eqb letter.envelope.source.number s) (λ e. ap (is_revoked before) (eqb-true letter.envelope.context.number c e) ∙ h) refl refl (ap (λ (r : WorldRank). eqb r.number s) (sym same));
+  fresh = λ h. fresh (is_revoked before letter.envelope.context.number) (eqb letter.envelope.context.number c) (eqb letter.envelope.source.number s) (λ e. ap (is_revoked before) (eqb-true letter.envelope.context.number c e) ∙ h) refl refl (ap (λ r. eqb r.number s) (sym same));
   late = λ h. late (is_revoked before letter.envelope.context.number) (eqb letter.envelope.context.number c) (λ e. ap (is_revoked before) (eqb-true letter.envelope.context.number c e) ∙ h) refl;
 } where
   fresh : (v a b : Bool) → (a ≡ true → v ≡ false) → eqb letter.envelope.context.number c ≡ a → eqb letter.envelope.source.number s ≡ b → eqb source.number s ≡ b → letters_come s c (cond v [] (Come letter ∷ [])) ≡ mail c (cond (eqb source.number s) (Mail letter ∷ []) [])
@@ -80,13 +71,13 @@ taken_more : (n s c : ℕ) (before : List Entry) (found : List Event) (e : Entry
 taken_more n s c before found e h own =
     let k = come_entry n s c before found e own in
     let came = flat_map-append (come_in s c) found (events_by before found e) in
-    let taken : mail c (took (before ++ e ∷ []) s) ≡ mail c (took before s) ++ mail c (took_by s e) = ap (mail c) (took-push before e s) ∙ flat_map-append (mail_on c) (took before s) (took_by s e) in
+    let taken = ap (mail c) (took-push before e s) ∙ flat_map-append (mail_on c) (took before s) (took_by s e) in
     elim (cases_Bool (is_revoked before c)) [
       | inl was ↦ record {
         rest = h.rest ++ mail c (took_by s e);
-        all = ap (λ (xs : List Content). xs ++ (h.rest ++ mail c (took_by s e))) (came ∙ ap (λ (xs : List Content). letters_come s c found ++ xs) (k.late was) ∙ append-nil (letters_come s c found))
+        all = ap (λ xs. xs ++ (h.rest ++ mail c (took_by s e))) (came ∙ ap (λ xs. letters_come s c found ++ xs) (k.late was) ∙ append-nil (letters_come s c found))
             ∙ sym (append_assoc (letters_come s c found) h.rest (mail c (took_by s e)))
-            ∙ ap (λ (xs : List Content). xs ++ mail c (took_by s e)) h.all
+            ∙ ap (λ xs. xs ++ mail c (took_by s e)) h.all
             ∙ sym taken;
         none = λ f. absurd (false≢true (sym f ∙ (any-push (revokes c) before e) ∙ or_left (is_revoked before c) (revokes c e) was));
       }
@@ -94,8 +85,8 @@ taken_more n s c before found e h own =
         rest = [];
         all = append-nil (letters_come s c (found ++ events_by before found e))
             ∙ came
-            ∙ ap (λ (xs : List Content). xs ++ letters_come s c (events_by before found e)) (sym (append-nil (letters_come s c found)) ∙ ap (λ (xs : List Content). letters_come s c found ++ xs) (sym (h.none fresh)) ∙ h.all)
-            ∙ ap (λ (xs : List Content). mail c (took before s) ++ xs) (k.fresh fresh)
+            ∙ ap (λ xs. xs ++ letters_come s c (events_by before found e)) (sym (append-nil (letters_come s c found)) ∙ ap (λ xs. letters_come s c found ++ xs) (sym (h.none fresh)) ∙ h.all)
+            ∙ ap (λ xs. mail c (took before s) ++ xs) (k.fresh fresh)
             ∙ sym taken;
         none = λ f. refl;
       }

@@ -9,22 +9,56 @@ pub use Rattle.ulfm_base.specs.declared.item.Item.TheVariants.{Gone}
 pub use Rattle.ulfm_base.specs.declared.pattern.Pattern.{Pattern}
 pub use Rattle.ulfm_base.specs.declared.rank.WorldRank.{WorldRank}
 pub use Rattle.ulfm_base.specs.declared.tag.Tag.{Tag}
-pub use Rattle.ulfm_match.specs.History.{Event, count_before, History, Post, PostAt}
+pub use Rattle.ulfm_match.specs.History.{Event, count_before, History, Post, PostAt, Clear, Come, ComeAt, End, IsWellFormed}
 pub use Rattle.ulfm_match.specs.declared.request.RequestId.{RequestId}
 pub use Rattle.ulfm_rank.specs.Checks.{group_at}
 pub use Rattle.ulfm_rank.specs.Communicators.{members_of, group_of}
-pub use Rattle.ulfm_rank.specs.Facts.{is_revoked, is_stopped}
-pub use Rattle.ulfm_rank.specs.History.{history_of, events_by}
+pub use Rattle.ulfm_rank.specs.Facts.{is_revoked, is_stopped, IsSigned, is_gone, is_gone_item, is_released, item_revokes, releases, revokes, took, took_by}
+pub use Rattle.ulfm_rank.specs.History.{history_of, events_by, end_at, ends_from, names_gone}
 pub use Rattle.ulfm_rank.specs.State.{State, logged, outbox, owes}
 pub use Rattle.ulfm_rank.specs.declared.entry.Entry.{Entry}
 pub use Rattle.ulfm_rank.specs.declared.entry.TestAnswer.{TestAnswer}
-pub use Rattle.ulfm_script.specs.Player.{request_at, step_report, request_of}
+pub use Rattle.ulfm_script.specs.Player.{request_at, step_report, request_of, AnswersStep, LeavesOpen, Player, StaysOpen, Tests, comm_of, request_in}
 pub use Rattle.ulfm_script.specs.Report.{Report}
 pub use Rattle.ulfm_script.specs.declared.answer.StepAnswer.{StepAnswer}
-pub use Rattle.ulfm_script.specs.declared.answer.StepAnswer.TheVariants.{Sent, Done, Over, Posted}
+pub use Rattle.ulfm_script.specs.declared.answer.StepAnswer.TheVariants.{Sent, Done, Over, Posted, Refused, Shrunk, Unfinished}
 pub use Rattle.ulfm_script.specs.declared.answer.StepReport.{StepReport}
 pub use Rattle.ulfm_job.specs.declared.step.Step.{Step}
-pub use Rattle.ulfm_job.specs.declared.step.Step.TheVariants.{Send, Recv, Wait}
-pub use Rattle.ulfm_laws.specs.Flow.{Inboxes}
-pub use Rattle.ulfm_laws.specs.Reports.{report_at}
+pub use Rattle.ulfm_job.specs.declared.step.Step.TheVariants.{Send, Recv, Wait, Shrink}
+pub use Rattle.ulfm_laws.specs.Flow.{Inboxes, Flow, Flows, IsBeginning, inbox_of}
+pub use Rattle.ulfm_laws.specs.Reports.{report_at, HasStopped, IsRunning, no_report}
 pub use Rattle.ulfm_laws.specs.Rest.{IsAtRest}
+pub use Rattle.std.proofs.lemmas.Bool.{cases_Bool, cases_eq, cond-false, cond-true, eq-eqb, eqb-true, false≢true, ne_eqb, not-false, or_cases, or_left, or_parts, or_right}
+pub use Rattle.std.proofs.lemmas.List.Elements.{All-cons, All-get_or, All-head, All-nil, All-push, All-tail, All-take, All-weaker}
+pub use Rattle.std.proofs.lemmas.List.Folds.{list_any-append}
+pub use Rattle.std.proofs.lemmas.Option.{get_or_from_slice_get, none-some, same_Some, slice_get-get_or, slice_get_within}
+pub use Rattle.std.specs.List.{flat_map, list_any}
+pub use Rattle.ulfm_base.proofs.Places.{there}
+pub use Rattle.ulfm_base.specs.Group.{is_member}
+pub use Rattle.ulfm_base.specs.Pattern.{Admits, names}
+pub use Rattle.ulfm_base.specs.declared.error.CallError.TheVariants.{OutOfMemory, ProcFailed, Revoked, Truncated}
+pub use Rattle.ulfm_laws.specs.Reader.{AllHasCome, ComeAsSent, Content, DoneIsGiven, DonesDiffer, GivesOnce, HasOnePairing, IsFaithful, IsGiven, IsPostedBy, IsSentBy, IsStep, LettersKeepOrder, NoneIsMissed, OverIsTrue, ReceivesKeepOrder, closes, come_in, content, history_at, is_rank, letters_come, letters_sent, sent_by, sent_in}
+pub use Rattle.ulfm_match.proofs.Decide.{compared, lt_or_ge}
+pub use Rattle.ulfm_match.proofs.Histories.{count_below, count_front, count_rises, get_cases, get_here, same_number}
+pub use Rattle.ulfm_match.proofs.Unique.{one_pairing, same_letter, same_pattern}
+pub use Rattle.ulfm_rank.proofs.Gather.{any-push, gathered_all, history-push}
+pub use Rattle.ulfm_rank.proofs.Grouped.{group_stays, members_found}
+pub use Rattle.ulfm_rank.proofs.Signed.{all_front, all_last, from_signed, owed_signed}
+pub use Rattle.ulfm_rank.specs.Calls.{IsFrom, IsSourceOf, Posts, Sends}
+pub use Rattle.ulfm_rank.specs.Owed.{is_told, owed, owed_by, passed_on}
+pub use Rattle.ulfm_script.specs.Deciding.{AnswersAdoption, AnswersDecision, IsDecided, Known}
+pub use Rattle.std.proofs.lemmas.Grind.{flat_map-append}
+pub use Rattle.std.specs.Prelude.{All, if◌then◌else◌, nat_eq, not, slice_get, ⊤, ◌&&◌, ◌==◌}
+pub use Rattle.ulfm_base.proofs.Numbers.{same_context, same_rank}
+pub use Rattle.ulfm_base.specs.declared.rank_set.RankSet.{RankSet}
+pub use Rattle.ulfm_laws.specs.Shrinks.{AdoptOne, AdoptOwn, AllEntered, EnterOnce, EntersEachOnce, HasOneGroup, IsOwn, ProposesEach}
+pub use Rattle.ulfm_match.proofs.Cut.{get_front, get_in_front}
+pub use Rattle.ulfm_match.proofs.Exists.{some_pairing}
+pub use Rattle.ulfm_rank.proofs.Belonging.{EntersOnce, Keeps, keeps-push, keeps-start, same_numbers}
+pub use Rattle.ulfm_rank.proofs.Entering.{Fits, own_set}
+pub use Rattle.ulfm_rank.proofs.Firsts.{first_set, heard-took, or_else_first, or_none, set-append, some_from}
+pub use Rattle.ulfm_rank.proofs.Formed.{HasNoPost, PostsNone, formed-logged, formed-posted, none-events, none-nil, none-one}
+pub use Rattle.ulfm_rank.proofs.Refusals.{all_pass}
+pub use Rattle.ulfm_rank.specs.Log.{first_given}
+pub use Rattle.ulfm_script.proofs.Kept.{IsGranted, each_logged, keeps_of, signed_of}
+pub use Rattle.ulfm_script.specs.Answered.{AnswersFollow, IsTook, StoodAt}

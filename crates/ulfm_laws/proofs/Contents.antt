@@ -1,9 +1,6 @@
 -- What a step sent, and what an event brought, is one letter or none.
 use Rattle.std.proofs.Common.{◌≡◌, ℕ, ◌⊎◌, inl, inr, Bool, true, false, cond, eqb, List, [], ◌∷◌, refl, ap, Option, Some, None, ◌&&◌, slice_get}
-use Rattle.std.proofs.lemmas.Bool.{false≢true, eq-eqb, eqb-true}
-use Rattle.ulfm_laws.proofs.Common.{Context, Letter, Tag, Step, Send, StepAnswer, Sent}
-use Rattle.ulfm_match.specs.History.{Event, Come}
-use Rattle.ulfm_laws.specs.Reader.{Content, content, is_rank, sent_by, sent_in, come_in}
+use Rattle.ulfm_laws.proofs.Common.{Context, Letter, Tag, Step, Send, StepAnswer, Sent, Content, content, is_rank, sent_by, sent_in, come_in, false≢true, eq-eqb, eqb-true, Event, Come}
 use Rattle.ulfm_match.proofs.Places.{GivesFew}
 
 few : (b : Bool) (x : Content) → (cond b (x ∷ []) [] ≡ []) ⊎ ((y : Content) × (cond b (x ∷ []) [] ≡ y ∷ []))
@@ -31,7 +28,7 @@ come_few s c _ = inl refl
 
 is_named : (d : ℕ) (o : Option ℕ) → is_rank d o ≡ true → o ≡ Some d
 is_named d None e = absurd (false≢true e)
-is_named d (Some member) e = ap (λ (k : ℕ). Some k) (eqb-true member d e)
+is_named d (Some member) e = ap (λ k. Some k) (eqb-true member d e)
 
 -- a step that sent this on the communicator c to d
 pub record IsSend (group : List ℕ) (c d : ℕ) (asked : Step) (answer : StepAnswer) (y : Content) : Type 0 where
@@ -49,7 +46,7 @@ sent_is group c d (Send to tag body comm) Sent y e =
     record {
       to = to;
       comm = comm;
-      step = ap (λ (z : Content). Send to z.tag z.body comm) k.1;
+      step = ap (λ z. Send to z.tag z.body comm) k.1;
       sent = refl;
       context = eqb-true comm.number c both.0;
       directed = is_named d (slice_get group to) both.1;

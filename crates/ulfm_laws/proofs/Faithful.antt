@@ -1,7 +1,6 @@
 -- What is true of the reports, all in one.
 use Rattle.std.proofs.Common.{List}
-use Rattle.ulfm_script.specs.Report.{Report}
-use Rattle.ulfm_laws.specs.Reader.{IsFaithful}
+use Rattle.ulfm_laws.proofs.Common.{IsFaithful, Report}
 use Rattle.ulfm_laws.proofs.Finding.{AreHonest}
 use Rattle.ulfm_laws.proofs.Given.{done_given, over_true, gives_once, dones_differ}
 use Rattle.ulfm_laws.proofs.Missed.{one_each, none_missed}

@@ -1,12 +1,6 @@
 -- Which step posted the receive at a place of the history.
 use Rattle.std.proofs.Common.{◌≡◌, ℕ, ◌<◌, inl, inr, List, length, refl, ap, sym, ◌∙◌, subst, arith, Option, Some, None, slice_get}
-use Rattle.std.proofs.lemmas.Option.{same_Some}
-use Rattle.ulfm_laws.proofs.Common.{Context, Pattern, Tag, RequestId, Post, PostAt, Entry, Step, Recv, StepAnswer, Posted, StepReport, Report, report_at, TestAnswer}
-use Rattle.ulfm_match.proofs.Decide.{compared}
-use Rattle.ulfm_match.proofs.Histories.{same_number}
-use Rattle.ulfm_match.proofs.Unique.{same_pattern}
-use Rattle.ulfm_script.specs.Player.{request_of, request_in, request_at, step_report}
-use Rattle.ulfm_laws.specs.Reader.{history_at, IsStep, ComeAsSent, IsPostedBy}
+use Rattle.ulfm_laws.proofs.Common.{Context, Pattern, Tag, RequestId, Post, PostAt, Entry, Step, Recv, StepAnswer, Posted, StepReport, Report, report_at, TestAnswer, request_of, request_in, request_at, step_report, history_at, IsStep, ComeAsSent, IsPostedBy, same_Some, compared, same_number, same_pattern}
 use Rattle.ulfm_laws.proofs.Honest.{IsHonest}
 use Rattle.ulfm_laws.proofs.Tells.{Tells, IsReceipt, IsVerdict}
 
@@ -18,14 +12,14 @@ pub record AreHonest (reports : List Report) : Type 0 where
 
 pub step_at : (report : Report) (k : ℕ) {x : StepReport} {asked : Step} {said : StepAnswer} → slice_get report.steps k ≡ Some x → x.step ≡ asked → x.answer ≡ said → IsStep report k asked said
 step_at report k {x} {asked} h step answer =
-    record { at = x.at; polls = x.polls; stands = h ∙ ap (λ (s : Step). Some (step_report s x.answer x.at x.polls)) step ∙ ap (λ (a : StepAnswer). Some (step_report asked a x.at x.polls)) answer }
+    record { at = x.at; polls = x.polls; stands = h ∙ ap (λ s. Some (step_report s x.answer x.at x.polls)) step ∙ ap (λ a. Some (step_report asked a x.at x.polls)) answer }
 
 -- two steps at one place are the same
 pub same_asked : {report : Report} {k : ℕ} {a b : Step} {s t : StepAnswer} → IsStep report k a s → IsStep report k b t → a ≡ b
-same_asked {a} {b} {s} {t} x y = ap (λ (z : StepReport). z.step) (same_Some (step_report a s x.at x.polls) (step_report b t y.at y.polls) (sym x.stands ∙ y.stands))
+same_asked {a} {b} {s} {t} x y = ap (λ z. z.step) (same_Some (step_report a s x.at x.polls) (step_report b t y.at y.polls) (sym x.stands ∙ y.stands))
 
 posted_answer : (answer : StepAnswer) (id : RequestId) → request_of answer ≡ Some id → answer ≡ Posted id
-posted_answer (Posted jd) id e = ap (λ (i : RequestId). Posted i) (same_Some jd id e)
+posted_answer (Posted jd) id e = ap (λ i. Posted i) (same_Some jd id e)
 posted_answer _ id e = absurd (cc)
 
 request_step : (steps : List StepReport) (k : ℕ) (id : RequestId) → request_at steps k ≡ Some id → (x : StepReport) × (slice_get steps k ≡ Some x) × (x.answer ≡ Posted id)
@@ -62,7 +56,7 @@ receipt_posted {source} id step v =
 
 -- the request of a receive that a step posted
 pub its_request : {report : Report} {i place : ℕ} {p : Pattern} (q : IsPostedBy report i place p) → request_at report.steps i ≡ Some q.id
-its_request q = ap (λ (o : Option StepReport). request_in o) q.step.stands
+its_request q = ap (λ o. request_in o) q.step.stands
 
 module _ (reports : List Report) (all : AreHonest reports) (d : ℕ) (inside : d < length reports) where
   abbrev report : Report
@@ -83,13 +77,13 @@ module _ (reports : List Report) (all : AreHonest reports) (d : ℕ) (inside : d
       let q = request_step report.steps c.0 c.1 c.2 in
       let r = posted_is report.rank.ranks report.rank.log report.steps q.0.step c.1 (rw q.2 at ((all.honest d inside).orderly.tells c.0 q.0 q.1)) in
       let v = r.receipt in
-      let there : v.place ≡ place = same_number h v.place place (Post v.pattern) (Post p) v.posted refl posted refl (v.numbered ∙ sym c.3) in
-      let same : v.pattern ≡ p = same_pattern h place v.pattern p (subst (λ (k : ℕ). PostAt h k v.pattern) there v.posted) posted in
+      let there = same_number h v.place place (Post v.pattern) (Post p) v.posted refl posted refl (v.numbered ∙ sym c.3) in
+      let same = same_pattern h place v.pattern p (subst (λ k. PostAt h k v.pattern) there v.posted) posted in
       let by = receipt_posted c.1 (step_at report c.0 q.1 r.step q.2) v in
-      (c.0, subst (λ (w : Pattern). IsPostedBy report c.0 place w) same (subst (λ (k : ℕ). IsPostedBy report c.0 k v.pattern) there by))
+      (c.0, subst (λ w. IsPostedBy report c.0 place w) same (subst (λ k. IsPostedBy report c.0 k v.pattern) there by))
 
   -- the receive of a request that was released
   pub verdict_posted : {req : ℕ} {answer : TestAnswer} (v : IsVerdict report.rank.ranks report.rank.log report.steps req answer) → IsPostedBy report req v.place v.pattern
   verdict_posted {req} v =
       let q = poster v.place v.pattern v.posted in
-      subst (λ (k : ℕ). IsPostedBy report k v.place v.pattern) (same_step q.0 req (its_request q.1) v.asked (sym q.1.numbered ∙ v.numbered)) q.1
+      subst (λ k. IsPostedBy report k v.place v.pattern) (same_step q.0 req (its_request q.1) v.asked (sym q.1.numbered ∙ v.numbered)) q.1

@@ -1,35 +1,19 @@
 -- Reports in rank order between which items flow, and what one of them heard of another.
 use Rattle.std.proofs.Common.{◌≡◌, ℕ, Bool, true, false, cond, eqb, List, [], ◌∷◌, ◌++◌, length, refl, ap, sym, ◌∙◌, inl, inr, append_assoc, Some, slice_get}
-use Rattle.std.specs.List.{list_any}
-use Rattle.std.proofs.lemmas.Bool.{false≢true, cases_Bool, cases_eq, eqb-true, or_left}
-use Rattle.std.proofs.lemmas.List.Folds.{list_any-append}
-use Rattle.std.proofs.lemmas.Option.{same_Some}
-use Rattle.ulfm_laws.proofs.Common.{Item, Gone, items_from, State, owes, outbox, Report}
-use Rattle.ulfm_base.specs.declared.rank_set.RankSet.{RankSet}
+use Rattle.ulfm_laws.proofs.Common.{Item, Gone, items_from, State, owes, outbox, Report, false≢true, cases_Bool, cases_eq, eqb-true, or_left, same_Some, took, is_gone, is_gone_item, is_stopped, Inboxes, inbox_of, IsBeginning, Flow, Flows, HasStopped, list_any, list_any-append, owed, RankSet, first_given, own_set, or_none, or_else_first, first_set, set-append, heard-took}
 use Rattle.ulfm_base.specs.Lists.{at, InPlace}
-use Rattle.ulfm_rank.specs.Facts.{took, is_gone, is_gone_item, is_stopped}
-use Rattle.ulfm_rank.specs.Log.{first_given}
-use Rattle.ulfm_rank.specs.Owed.{owed}
 use Rattle.ulfm_rank.specs.Shrink.{entry_of, heard_of, listed_of}
-use Rattle.ulfm_rank.proofs.Entering.{own_set}
-use Rattle.ulfm_rank.proofs.Firsts.{or_none, or_else_first, first_set, set-append, heard-took}
 use Rattle.ulfm_rank.proofs.Owing.{OwesOwn}
 use Rattle.ulfm_rank.proofs.Told.{owed_not_gone, gone-took}
-use Rattle.ulfm_laws.specs.Flow.{Inboxes, inbox_of, IsBeginning, Flow, Flows}
-use Rattle.ulfm_laws.specs.Reports.{HasStopped}
 
 -- the reports of ranks, in their order, between which items flow
 pub record AreFlowing (inboxes : Inboxes) (reports : List Report) : Type 0 where
-  pub order : InPlace (λ (told : Report). told.rank.me) reports
+  pub order : InPlace (λ told. told.rank.me) reports
   pub counted : (k : ℕ) (told : Report) → at reports k told → told.rank.ranks ≡ length reports
   pub flow : Flows inboxes reports
 
 pub same_report : (reports : List Report) {s d : ℕ} {one other : Report} → at reports s one → at reports d other → s ≡ d → one ≡ other
 same_report reports {one} {other} p q same = same_Some one other (sym p ∙ ap (slice_get reports) same ∙ q)
-
--- what arrived begins with what was taken
-abbrev pub came : Inboxes → ℕ → ℕ → Report → List Item
-came inboxes s d receiver = took receiver.rank.log s ++ items_from s (inbox_of inboxes d)
 
 -- what arrived from a rank that didn't stop, or at that rank itself, is a beginning of what it owes
 pub arrived_owed : {sender : State} {s : ℕ} (d : ℕ) {xs : List Item} → Flow sender s d xs → (is_stopped sender.log ≡ true → s ≡ d) → IsBeginning xs (owes sender d)
@@ -53,7 +37,7 @@ none_begun test xs ys b none = pick (list_any test xs) refl
 -- a rank that didn't stop isn't known as gone
 pub running-not_gone : {inboxes : Inboxes} {reports : List Report} → AreFlowing inboxes reports → (s d : ℕ) {sender receiver : Report} → at reports s sender → at reports d receiver → is_stopped sender.rank.log ≡ false → is_gone receiver.rank.log s ≡ false
 running-not_gone {inboxes} h s d {sender} {receiver} p q running =
-    let b : IsBeginning (came inboxes s d receiver) (owes sender.rank d) = arrived_owed d (h.flow s d sender receiver p q) (λ stopped. absurd (false≢true (sym running ∙ stopped))) in
+    let b = arrived_owed d (h.flow s d sender receiver p q) (λ stopped. absurd (false≢true (sym running ∙ stopped))) in
     gone-took receiver.rank.log s
     ∙ none_begun is_gone_item (took receiver.rank.log s) (owes sender.rank d)
     (items_from s (inbox_of inboxes d) ++ b.0, sym (append_assoc (took receiver.rank.log s) (items_from s (inbox_of inboxes d)) b.0) ∙ b.1)
@@ -77,7 +61,7 @@ set_arrived {sender} s d c {xs} set h heard = elim (cases_eq s d) [
     | inr running ↦ set_begun c xs (owes sender d) (outbox sender d, sym (h.running running)) heard
     | inl stopped ↦
         let n = h.stopped stopped other in
-        let whole : first_set c (xs ++ outbox sender d) ≡ Some set = set-append c xs (outbox sender d) ∙ or_else_first (first_set c xs) (first_set c (outbox sender d)) set heard in
+        let whole = set-append c xs (outbox sender d) ∙ or_else_first (first_set c xs) (first_set c (outbox sender d)) set heard in
         set_begun c n.sent (owes sender d) n.beginning (before_notice c n.sent set (ap (first_set c) n.all ∙ whole))
   ]
 ]
@@ -95,11 +79,11 @@ listed_own {inboxes} {reports} h r s c {lister} {member} set p q owns listed = p
 
     heard : first_given (heard_of c s) lister.rank.log ≡ Some set → own_set member.rank.log c ≡ Some set
     heard l =
-        let took_first : first_set c (took lister.rank.log s) ≡ Some set = sym (heard-took lister.rank.log c s) ∙ l in
-        let arrived : first_set c (came inboxes s r lister) ≡ Some set =
+        let took_first = sym (heard-took lister.rank.log c s) ∙ l in
+        let arrived =
         set-append c (took lister.rank.log s) (items_from s (inbox_of inboxes r)) ∙ or_else_first (first_set c (took lister.rank.log s)) (first_set c (items_from s (inbox_of inboxes r))) set took_first in
         owns r c set (ap (first_set c) (sym owed_here) ∙ set_arrived s r c set (h.flow s r member lister q p) arrived)
 
     pick : (b : Bool) → eqb s r ≡ b → cond b (first_given (entry_of c) lister.rank.log) (first_given (heard_of c s) lister.rank.log) ≡ Some set → own_set member.rank.log c ≡ Some set
-    pick true same l = ap (λ (told : Report). own_set told.rank.log c) (same_report reports q p (eqb-true s r same)) ∙ l
+    pick true same l = ap (λ told. own_set told.rank.log c) (same_report reports q p (eqb-true s r same)) ∙ l
     pick false other l = heard l

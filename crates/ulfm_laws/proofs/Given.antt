@@ -1,17 +1,8 @@
 -- Each wait that is over tells of the letter that its receive is given, and nothing is given twice.
 use Rattle.std.proofs.Common.{◌≡◌, ℕ, ◌<◌, inl, inr, List, length, refl, ap, sym, ◌∙◌, subst, slice_get}
-use Rattle.std.proofs.lemmas.Option.{same_Some}
-use Rattle.ulfm_laws.proofs.Common.{Context, Letter, Pattern, RequestId, TestAnswer, group_at, Wait, Done, Over, step_report, Report, report_at}
-use Rattle.ulfm_base.specs.declared.error.CallError.TheVariants.{ProcFailed, Revoked, Truncated}
-use Rattle.ulfm_base.specs.Pattern.{Admits}
-use Rattle.ulfm_match.specs.History.{History, Post, PostAt, ComeAt, count_before}
+use Rattle.ulfm_laws.proofs.Common.{Letter, Pattern, TestAnswer, group_at, Wait, Done, Over, step_report, Report, report_at, history_at, IsStep, IsPostedBy, IsSentBy, IsGiven, DoneIsGiven, OverIsTrue, GivesOnce, DonesDiffer, same_Some, ProcFailed, Revoked, Truncated, Admits, History, Post, PostAt, ComeAt, count_before, compared, same_number, one_pairing, same_pattern, same_letter, some_pairing}
 use Rattle.ulfm_match.specs.Pairing.{Pairing, Pairs, LawfulPairing}
-use Rattle.ulfm_match.proofs.Decide.{compared}
-use Rattle.ulfm_match.proofs.Histories.{same_number}
-use Rattle.ulfm_match.proofs.Unique.{one_pairing, same_pattern, same_letter}
 use Rattle.ulfm_rank.specs.declared.entry.TestAnswer.TheVariants.{Done as TestDone, Over as TestOver}
-use Rattle.ulfm_laws.specs.Reader.{history_at, IsStep, IsPostedBy, IsSentBy, IsGiven, DoneIsGiven, OverIsTrue, GivesOnce, DonesDiffer}
-use Rattle.ulfm_match.proofs.Exists.{some_pairing}
 use Rattle.ulfm_laws.proofs.Finding.{AreHonest, same_asked, its_request, same_step, verdict_posted}
 use Rattle.ulfm_laws.proofs.Senders.{sender, same_come, same_send}
 use Rattle.ulfm_laws.proofs.Tells.{IsVerdict}
@@ -25,8 +16,8 @@ pair_admits h law i b p l posted came q =
 -- a step posted one receive
 same_place : {report : Report} (i : ℕ) {place other : ℕ} {p q : Pattern} (a : IsPostedBy report i place p) (b : IsPostedBy report i other q) → place ≡ other
 same_place {report} i {place} {other} {p} {q} a b =
-    let id : a.id ≡ b.id = same_Some a.id b.id (sym (its_request a) ∙ its_request b) in
-    same_number _ place other (Post p) (Post q) a.posted refl b.posted refl (a.numbered ∙ ap (λ (k : RequestId). k.number) id ∙ sym b.numbered)
+    let id = same_Some a.id b.id (sym (its_request a) ∙ its_request b) in
+    same_number _ place other (Post p) (Post q) a.posted refl b.posted refl (a.numbered ∙ ap (λ k. k.number) id ∙ sym b.numbered)
 
 module _ (reports : List Report) (all : AreHonest reports) where
   pub done_given : DoneIsGiven reports
@@ -52,7 +43,7 @@ module _ (reports : List Report) (all : AreHonest reports) where
   unpaired_given : (d : ℕ) {req s j : ℕ} (inside : d < length reports) {answer : TestAnswer} (v : IsVerdict (report_at reports d).rank.ranks (report_at reports d).rank.log (report_at reports d).steps req answer) (g : IsGiven reports d req s j) → ((b : ℕ) → Pairs g.pairing v.place b → ⊥) → ⊥
   unpaired_given d {req} inside {answer} v g none =
       let same = same_place req g.receive (verdict_posted reports all d inside v) in
-      none g.come_place (subst (λ (i : ℕ). Pairs g.pairing i g.come_place) same g.pairs)
+      none g.come_place (subst (λ i. Pairs g.pairing i g.come_place) same g.pairs)
 
   pub over_true : OverIsTrue reports
   over_true = record {
@@ -85,24 +76,24 @@ module _ (reports : List Report) (all : AreHonest reports) where
       let own = report_at reports s in let steps = same_asked x.step y.step in
       let to : x.to ≡ y.to = cc in
       let comm : l.envelope.context ≡ m.envelope.context = cc in
-      same_Some d e (sym x.directed ∙ ap (λ (k : Context). slice_get (group_at own.rank k.number) x.to) comm ∙ ap (slice_get (group_at own.rank m.envelope.context.number)) to ∙ y.directed)
+      same_Some d e (sym x.directed ∙ ap (λ k. slice_get (group_at own.rank k.number) x.to) comm ∙ ap (slice_get (group_at own.rank m.envelope.context.number)) to ∙ y.directed)
 
   pub gives_once : GivesOnce reports
   gives_once = record {
     one_receive = λ d i e k s j x y.
         let there = same_destination d e s j x.sent y.sent in
-        let z : IsGiven reports d k s j = subst (λ (q : ℕ). IsGiven reports q k s j) (sym there) y in
+        let z = subst (λ q. IsGiven reports q k s j) (sym there) y in
         let h = history_at reports d in
-        let come : z.come_place ≡ x.come_place = sym (same_come reports all d x.inside s j x.sent z.sent) in
-        let pairs : Pairs x.pairing z.post_place x.come_place = subst (λ (b : ℕ). Pairs x.pairing z.post_place b) come (one_pairing h z.pairing x.pairing z.lawful x.lawful z.post_place z.come_place z.pairs) in
+        let come = sym (same_come reports all d x.inside s j x.sent z.sent) in
+        let pairs = subst (λ b. Pairs x.pairing z.post_place b) come (one_pairing h z.pairing x.pairing z.lawful x.lawful z.post_place z.come_place z.pairs) in
         let post = x.lawful.one_receive x.post_place z.post_place x.come_place x.pairs pairs in
         (there, same_step reports all d x.inside i k (its_request x.receive) (its_request z.receive) (sym x.receive.numbered ∙ ap (count_before h) post ∙ z.receive.numbered));
     one_letter = λ d i s j t k x y.
         let h = history_at reports d in
         let post = same_place i y.receive x.receive in
-        let pairs : Pairs x.pairing x.post_place y.come_place = subst (λ (q : ℕ). Pairs x.pairing q y.come_place) post (one_pairing h y.pairing x.pairing y.lawful x.lawful y.post_place y.come_place y.pairs) in
+        let pairs = subst (λ q. Pairs x.pairing q y.come_place) post (one_pairing h y.pairing x.pairing y.lawful x.lawful y.post_place y.come_place y.pairs) in
         let come = x.lawful.one_letter x.post_place y.come_place x.come_place pairs x.pairs in
-        same_send reports all d x.inside s j t k x.sent (subst (λ (b : ℕ). IsSentBy reports d b y.letter t k) come y.sent);
+        same_send reports all d x.inside s j t k x.sent (subst (λ b. IsSentBy reports d b y.letter t k) come y.sent);
     one_wait = λ d k m req x y inside gx gy cx cy. elim (compared k m) [
       | inl l ↦ absurd ((all.honest d inside).orderly.once k m req x y l gx gy cx cy)
       | inr o ↦ elim o [ inl same ↦ same | inr l ↦ absurd ((all.honest d inside).orderly.once m k req y x l gy gx cy cx) ]

@@ -1,17 +1,8 @@
 -- What the answered steps of a rank sent and posted is what its log has.
 use Rattle.std.proofs.Common.{◌≡◌, ℕ, zero, suc, ◌≤◌, inl, inr, List, [], ◌∷◌, ◌++◌, length, refl, ap, sym, ◌∙◌, subst, arith, append-nil, Some, None, All, slice_get}
-use Rattle.std.specs.List.{flat_map}
-use Rattle.std.proofs.lemmas.List.Elements.{All-nil, All-push}
-use Rattle.ulfm_laws.proofs.Common.{Pattern, RequestId, Entry, members_of, history_of, events_by, StepReport, request_of, request_at}
-use Rattle.ulfm_match.specs.History.{Event, Post, PostAt, IsWellFormed, count_before}
-use Rattle.ulfm_match.proofs.Cut.{get_in_front}
-use Rattle.ulfm_match.proofs.Decide.{lt_or_ge}
-use Rattle.ulfm_rank.proofs.Gather.{history-push}
-use Rattle.ulfm_laws.specs.Reader.{Content, sent_in, closes}
-use Rattle.ulfm_rank.proofs.Formed.{PostsNone, HasNoPost, none-events, formed-logged}
+use Rattle.ulfm_laws.proofs.Common.{Pattern, RequestId, Entry, members_of, history_of, events_by, StepReport, request_of, request_at, sent_in, closes, flat_map, All-nil, All-push, history-push, Event, Post, PostAt, IsWellFormed, count_before, lt_or_ge, count_front, PostsNone, HasNoPost, none-events, formed-logged, get_in_front}
 use Rattle.ulfm_laws.proofs.Orderly.{IsOrderly, orderly-logged, orderly-answered}
 use Rattle.ulfm_laws.proofs.Mail.{mail_sent, sent_entry, IsTakenFrom, flat-push}
-use Rattle.ulfm_match.proofs.Histories.{count_front}
 use Rattle.ulfm_laws.proofs.Tells.{Tells, asked_front, sent-logged}
 
 -- each receive of the log's history is one that a step posted
@@ -28,12 +19,12 @@ pub record IsHonest (n : ℕ) (log : List Entry) (done : List StepReport) : Type
 
 flat_same : {X Y : Type 0} (f g : X → List Y) (xs : List X) → ((k : ℕ) (x : X) → slice_get xs k ≡ Some x → f x ≡ g x) → flat_map f xs ≡ flat_map g xs
 flat_same f g [] same = refl
-flat_same {X} {Y} f g (x ∷ xs) same = ap (λ (ys : List Y). ys ++ flat_map f xs) (same 0 x refl) ∙ ap (λ (ys : List Y). g x ++ ys) (flat_same f g xs (λ k y h. same (suc k) y h))
+flat_same {X} {Y} f g (x ∷ xs) same = ap (λ ys. ys ++ flat_map f xs) (same 0 x refl) ∙ ap (λ ys. g x ++ ys) (flat_same f g xs (λ k y h. same (suc k) y h))
 
 -- what the steps sent, and one more entry
 pub sends-logged : {n : ℕ} {log : List Entry} (e : Entry) {done : List StepReport} (c d : ℕ) → IsHonest n log done → flat_map (sent_in (members_of n (log ++ e ∷ []) c) c d) done ++ sent_entry c d e ≡ mail_sent c d (log ++ e ∷ [])
 sends-logged {n} {log} e {done} c d h =
-    ap (λ (xs : List Content). xs ++ sent_entry c d e)
+    ap (λ xs. xs ++ sent_entry c d e)
     (flat_same (sent_in (members_of n (log ++ e ∷ []) c) c d) (sent_in (members_of n log c) c d) done (λ k x g. sent-logged n log e done c d x.step x.answer (h.orderly.tells k x g)) ∙ h.sends c d)
     ∙ sym (flat-push (sent_entry c d) log e)
 
@@ -47,11 +38,11 @@ pub covered-logged : (log : List Entry) (e : Entry) (done : List StepReport) →
 covered-logged log e done covered none place p g =
     let h = history_of log in
     let es = events_by log h e in
-    let at : PostAt (h ++ es) place p = subst (λ (xs : List Event). PostAt xs place p) (history-push log e) g in
+    let at = subst (λ xs. PostAt xs place p) (history-push log e) g in
     elim (lt_or_ge place (length h)) [
       | inl l ↦
           let c = covered place p (get_in_front h es place (Post p) l at) in
-          (c.0, c.1, c.2, ap (λ (ys : List Event). count_before ys place) (history-push log e) ∙ count_front h es place (omega (arith, l)) ∙ c.3)
+          (c.0, c.1, c.2, ap (λ ys. count_before ys place) (history-push log e) ∙ count_front h es place (omega (arith, l)) ∙ c.3)
       | inr far ↦ absurd (late h es place p (none-events log h e none) far at)
     ]
 
@@ -64,7 +55,7 @@ honest-logged {n} {log} e {done} h none silent own = record {
   orderly = orderly-logged e h.orderly;
   sends = λ c d.
       let now = flat_map (sent_in (members_of n (log ++ e ∷ []) c) c d) done in
-      sym (append-nil now) ∙ ap (λ (xs : List Content). now ++ xs) (sym (silent c d)) ∙ sends-logged e c d h;
+      sym (append-nil now) ∙ ap (λ xs. now ++ xs) (sym (silent c d)) ∙ sends-logged e c d h;
   covered = covered-logged log e done h.covered none;
   formed = formed-logged log e h.formed none;
   taken = All-push (IsTakenFrom n) log e h.taken own;
@@ -76,7 +67,7 @@ pub honest-answered : (n : ℕ) {log : List Entry} {done : List StepReport} (x :
     → IsHonest n log (done ++ x ∷ [])
 honest-answered n {log} {done} x h silent unposted new first = record {
   orderly = orderly-answered x h.orderly new (λ id e. absurd (cc)) first;
-  sends = λ c d. flat-push (sent_in (members_of n log c) c d) done x ∙ ap (λ (xs : List Content). flat_map (sent_in (members_of n log c) c d) done ++ xs) (silent (members_of n log c) c d) ∙ append-nil (flat_map (sent_in (members_of n log c) c d) done) ∙ h.sends c d;
+  sends = λ c d. flat-push (sent_in (members_of n log c) c d) done x ∙ ap (λ xs. flat_map (sent_in (members_of n log c) c d) done ++ xs) (silent (members_of n log c) c d) ∙ append-nil (flat_map (sent_in (members_of n log c) c d) done) ∙ h.sends c d;
   covered = covered-answered log done x h.covered;
   formed = h.formed;
   taken = h.taken;

@@ -1,21 +1,15 @@
 -- What an engine produces is lawful.
-use Rattle.std.proofs.Common.{◌≡◌, ℕ, List, length, ap, sym, subst, ◌∙◌, arith, Option, Some, All}
-use Rattle.std.proofs.lemmas.Option.{slice_get_within}
-use Rattle.ulfm_laws.proofs.Common.{Context, Decision, at, Report, Inboxes, IsAtRest}
+use Rattle.std.proofs.Common.{◌≡◌, ℕ, List, length, ap, sym, subst, ◌∙◌, arith, Some, All}
+use Rattle.ulfm_laws.proofs.Common.{at, Report, Inboxes, IsAtRest, slice_get_within, IsSigned, there, Known, keeps_of, signed_of, AdoptOwn, AdoptOne, EnterOnce}
 use Rattle.ulfm_board.specs.Known.{BothAgree, known_at}
-use Rattle.ulfm_rank.specs.Facts.{IsSigned}
-use Rattle.ulfm_script.specs.Deciding.{Known}
 use Rattle.ulfm_job.specs.Job.{Seen}
-use Rattle.ulfm_script.proofs.Kept.{keeps_of, signed_of}
 use Rattle.ulfm_laws.specs.Lawful.{AreProduced, KnowAtRest, LawfulReport}
-use Rattle.ulfm_laws.specs.Shrinks.{AdoptOwn, AdoptOne, EnterOnce}
 use Rattle.ulfm_laws.proofs.Arrivals.{read_at, come_as_sent, all_come}
 use Rattle.ulfm_laws.proofs.AtRest.{knows-stopped, agrees-revoked}
 use Rattle.ulfm_laws.proofs.Borne.{borne_out}
 use Rattle.ulfm_laws.proofs.Faithful.{faithful}
 use Rattle.ulfm_laws.proofs.Finding.{AreHonest}
 use Rattle.ulfm_laws.proofs.Flowing.{AreFlowing, gone_stopped}
-use Rattle.ulfm_base.proofs.Places.{there}
 use Rattle.ulfm_laws.proofs.Honest.{IsHonest}
 use Rattle.ulfm_laws.proofs.Once.{once_of}
 use Rattle.ulfm_laws.proofs.OneGroup.{one_group}
@@ -27,7 +21,7 @@ use Rattle.ulfm_laws.proofs.Taken.{taken_of}
 pub honest_reports : {inboxes : Inboxes} {reports : List Report} → AreFlowing inboxes reports → ((k : ℕ) (told : Report) → at reports k told → IsHonest told.rank.ranks told.rank.log told.steps) → AreHonest reports
 honest_reports {inboxes} {reports} h honest = record {
   honest = λ d i. let x = there reports d i in rw (read_at reports d x.1) (honest d x.0 x.1);
-  counted = λ d i. let x = there reports d i in ap (λ (r : Report). r.rank.ranks) (read_at reports d x.1) ∙ h.counted d x.0 x.1;
+  counted = λ d i. let x = there reports d i in ap (λ r. r.rank.ranks) (read_at reports d x.1) ∙ h.counted d x.0 x.1;
   sent = come_as_sent inboxes reports h honest;
 }
 
@@ -48,10 +42,10 @@ module _ (job : Seen) (inboxes : Inboxes) (knows : List Known) (reports : List R
   adopt_one : AdoptOne reports
   adopt_one r s told other d e at_r at_s first second same =
       let x = known_of r at_r in let y = known_of s at_s in
-      let e_known : known_at y.0 d.context.number ≡ Some e = ap (λ (c : Context). known_at y.0 c.number) same ∙ (adopt_own s other y.0 e at_s y.1 second).held in
+      let e_known = ap (λ c. known_at y.0 c.number) same ∙ (adopt_own s other y.0 e at_s y.1 second).held in
       let both = h.agreed r s x.0 y.0 x.1 y.1 d.context.number in
       let B = BothAgree in
-      sym (subst (λ (o : Option Decision). B (Some d) o) e_known (subst (λ (o : Option Decision). B o (known_at y.0 d.context.number)) ((adopt_own r told x.0 d at_r x.1 first).held) both))
+      sym (subst (λ o. B (Some d) o) e_known (subst (λ o. B o (known_at y.0 d.context.number)) ((adopt_own r told x.0 d at_r x.1 first).held) both))
 
   all_keep : AllKeep reports
   all_keep r told here =

@@ -1,16 +1,8 @@
 -- The letters of one communicator among items, and those that a log sent.
 use Rattle.std.proofs.Common.{◌≡◌, ℕ, ◌<◌, Bool, true, false, cond, eqb, List, [], ◌∷◌, ◌++◌, refl, ap, sym, ◌∙◌, append-nil}
-use Rattle.std.specs.Prelude.{⊤, ◌&&◌, ◌==◌, if◌then◌else◌}
-use Rattle.std.specs.List.{flat_map}
-use Rattle.std.proofs.lemmas.Grind.{flat_map-append}
-use Rattle.ulfm_laws.proofs.Common.{Item, Entry, members_of, is_revoked}
-use Rattle.ulfm_base.specs.Group.{is_member}
+use Rattle.ulfm_laws.proofs.Common.{Item, Entry, members_of, is_revoked, Content, content, flat_map, IsFrom, gathered_all, owed, owed_by, is_told, is_member, flat_map-append, ⊤, ◌&&◌, ◌==◌, if◌then◌else◌}
 use Rattle.ulfm_base.specs.declared.item.Item.TheVariants.{Letter as Mail, Gone, Revoke, Enter}
 use Rattle.ulfm_rank.specs.declared.entry.Entry.TheVariants.{Sent, Revoked, Entered, Took}
-use Rattle.ulfm_rank.specs.Calls.{IsFrom}
-use Rattle.ulfm_rank.specs.Owed.{owed, owed_by, is_told}
-use Rattle.ulfm_laws.specs.Reader.{Content, content}
-use Rattle.ulfm_rank.proofs.Gather.{gathered_all}
 
 abbrev pub mail_on : ℕ → Item → List Content
 mail_on c (Mail letter) = if letter.envelope.context.number == c then content letter.envelope.tag letter.body ∷ [] else []
@@ -34,7 +26,7 @@ IsTakenFrom n (Took source item) = (source.number < n) × IsFrom source item
 IsTakenFrom n _ = ⊤
 
 pub flat-push : {X Y : Type 0} (f : X → List Y) (xs : List X) (x : X) → flat_map f (xs ++ x ∷ []) ≡ flat_map f xs ++ f x
-flat-push {X} {Y} f xs x = flat_map-append f xs (x ∷ []) ∙ ap (λ (ys : List Y). flat_map f xs ++ ys) (append-nil (f x))
+flat-push {X} {Y} f xs x = flat_map-append f xs (x ∷ []) ∙ ap (λ ys. flat_map f xs ++ ys) (append-nil (f x))
 
 -- an item that is no letter brings none
 pub no_mail : (c : ℕ) (b : Bool) (item : Item) → mail_on c item ≡ [] → mail c (cond b (item ∷ []) []) ≡ []
@@ -67,7 +59,7 @@ mail_owed n me c d log =
     gathered_all {X = Item} (owed_by n me d) (λ (before : List Entry) (found : List Item). mail c found ≡ mail_sent c d before)
     (λ before found e h.
     flat_map-append (mail_on c) found (owed_by n me d before found e)
-    ∙ ap (λ (xs : List Content). xs ++ mail c (owed_by n me d before found e)) h
-    ∙ ap (λ (xs : List Content). mail_sent c d before ++ xs) (owed_entry n me c d before found e)
+    ∙ ap (λ xs. xs ++ mail c (owed_by n me d before found e)) h
+    ∙ ap (λ xs. mail_sent c d before ++ xs) (owed_entry n me c d before found e)
     ∙ sym (flat-push (sent_entry c d) before e))
     [] refl log

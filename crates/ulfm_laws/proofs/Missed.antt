@@ -1,9 +1,6 @@
 -- Each rank's history has one lawful pairing, by which no match is missed.
 use Rattle.std.proofs.Common.{List, length, arith}
-use Rattle.ulfm_laws.proofs.Common.{Report}
-use Rattle.ulfm_match.proofs.Unique.{one_pairing}
-use Rattle.ulfm_laws.specs.Reader.{history_at, HasOnePairing, NoneIsMissed}
-use Rattle.ulfm_match.proofs.Exists.{some_pairing}
+use Rattle.ulfm_laws.proofs.Common.{Report, history_at, HasOnePairing, NoneIsMissed, one_pairing, some_pairing}
 use Rattle.ulfm_laws.proofs.Finding.{AreHonest, poster}
 use Rattle.ulfm_laws.proofs.Senders.{sender}
 

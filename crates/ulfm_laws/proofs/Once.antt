@@ -1,18 +1,7 @@
 -- A rank enters each shrink once.
 use Rattle.std.proofs.Common.{◌≡◌, ℕ, ◌<◌, List, [], ◌∷◌, ◌++◌, ap, sym, subst, ◌∙◌, inl, inr, Some, is_some, slice_get}
-use Rattle.std.proofs.lemmas.Bool.{false≢true}
-use Rattle.std.proofs.lemmas.Option.{none-some}
-use Rattle.ulfm_match.proofs.Histories.{get_cases}
-use Rattle.ulfm_base.specs.declared.rank_set.RankSet.{RankSet}
 use Rattle.ulfm_rank.specs.declared.entry.Entry.TheVariants.{Entered}
-use Rattle.ulfm_rank.proofs.Belonging.{Keeps, EntersOnce, keeps-start, keeps-push}
-use Rattle.ulfm_rank.proofs.Entering.{Fits}
-use Rattle.ulfm_script.specs.Answered.{AnswersFollow}
-use Rattle.ulfm_script.specs.Deciding.{Known}
-use Rattle.ulfm_script.specs.Report.{Report}
-use Rattle.ulfm_script.proofs.Kept.{each_logged}
-use Rattle.ulfm_laws.proofs.Common.{Context, Entry}
-use Rattle.ulfm_laws.specs.Shrinks.{EntersEachOnce}
+use Rattle.ulfm_laws.proofs.Common.{Context, Entry, false≢true, none-some, Known, get_cases, AnswersFollow, Report, RankSet, Fits, each_logged, EntersEachOnce, Keeps, EntersOnce, keeps-start, keeps-push}
 
 -- a rank that entered a shrink adds no second entry into it
 entered_again : (n me : ℕ) (log : List Entry) (k : ℕ) {context : Context} (known other : RankSet) → EntersOnce log → slice_get log k ≡ Some (Entered context known) → Fits n me log (Entered context other) → ⊥
@@ -23,7 +12,7 @@ once-start k m context known other h = absurd (none-some (Entered context known)
 
 pub once-push : (n me : ℕ) (log : List Entry) (e : Entry) → EntersOnce log → EntersEachOnce log → Fits n me log e → EntersEachOnce (log ++ e ∷ [])
 once-push n me log e h once fits k m context known other first second =
-    let F : Entry → Type 0 = λ (x : Entry). Fits n me log x in
+    let F : Entry → Type 0 = λ x. Fits n me log x in
     elim (get_cases log e k (Entered context known) first) [
       | inl was ↦ elim (get_cases log e m (Entered context other) second) [
         | inl both ↦ once k m context known other was both

@@ -1,13 +1,8 @@
 -- Ranks that adopted one decision for each context have one group for each communicator that they made.
 use Rattle.std.proofs.Common.{◌≡◌, ℕ, zero, suc, ◌<◌, List, ap, sym, ◌∙◌, arith, inl, inr, Some, All}
-use Rattle.std.proofs.lemmas.Option.{same_Some, slice_get-get_or}
-use Rattle.ulfm_laws.proofs.Common.{Decision, at, Entry, group_of, Report}
+use Rattle.ulfm_laws.proofs.Common.{at, Entry, group_of, Report, same_Some, slice_get-get_or, members_found, some_from, AdoptOne, HasOneGroup, same_context}
 use Rattle.ulfm_base.specs.Context.{shrink_of}
-use Rattle.ulfm_base.proofs.Numbers.{same_context}
-use Rattle.ulfm_rank.proofs.Firsts.{some_from}
-use Rattle.ulfm_rank.proofs.Grouped.{members_found}
 use Rattle.ulfm_rank.proofs.Parents.{HasAdoption, world_group, parent_group, adopted_group, context_cases}
-use Rattle.ulfm_laws.specs.Shrinks.{AdoptOne, HasOneGroup}
 
 -- an entry stands somewhere in a log
 abbrev StandsIn : List Entry → Entry → Type 0
@@ -31,8 +26,8 @@ module _ (reports : List Report) (one : AdoptOne reports) (n : ℕ) where
     | inr (inr d) ↦
         let mine = adopted_in told d.0 g (ap (group_of n told.rank.log) (sym d.1) ∙ made) in
         let yours = adopted_in other d.0 h (ap (group_of n other.rank.log) (sym d.1) ∙ theirs) in
-        let same : mine.decision ≡ yours.decision = one r s told other mine.decision yours.decision here yonder mine.holds yours.holds (same_context mine.decision.context yours.decision.context (mine.context ∙ sym yours.context)) in
-        sym mine.group ∙ ap (λ (x : Decision). x.fresh) same ∙ yours.group
+        let same = one r s told other mine.decision yours.decision here yonder mine.holds yours.holds (same_context mine.decision.context yours.decision.context (mine.context ∙ sym yours.context)) in
+        sym mine.group ∙ ap (λ x. x.fresh) same ∙ yours.group
   ]
 
   pub same_group : (r s c : ℕ) {told other : Report} {g h : List ℕ} → at reports r told → at reports s other → group_of n told.rank.log c ≡ Some g → group_of n other.rank.log c ≡ Some h → g ≡ h

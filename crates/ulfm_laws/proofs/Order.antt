@@ -1,13 +1,7 @@
 -- What is given keeps the order of the sends and of the posts.
-use Rattle.std.proofs.Common.{◌≡◌, ℕ, ◌<◌, inl, inr, List, ◌∷◌, ◌++◌, length, take, refl, ap, sym, subst, ◌∙◌, arith, append_assoc, Some, slice_get}
-use Rattle.ulfm_laws.proofs.Common.{Context, Tag, Letter, Pattern, Event, History, Post, count_before, group_at, Send, Sent, step_report, request_at, RequestId, Report, report_at}
-use Rattle.ulfm_base.specs.Pattern.{Admits}
-use Rattle.ulfm_match.proofs.Decide.{compared}
-use Rattle.ulfm_match.proofs.Histories.{count_below}
-use Rattle.std.proofs.lemmas.Option.{same_Some}
-use Rattle.ulfm_laws.specs.Reader.{Content, content, history_at, IsStep, sent_in, come_in, letters_come, letters_sent, IsPostedBy, IsSentBy, LettersKeepOrder, ReceivesKeepOrder}
+use Rattle.std.proofs.Common.{◌≡◌, ℕ, ◌<◌, inl, inr, List, ◌++◌, length, take, refl, ap, sym, subst, ◌∙◌, arith, append_assoc, Some, slice_get}
+use Rattle.ulfm_laws.proofs.Common.{Context, Tag, Letter, Pattern, History, Post, count_before, group_at, Send, Sent, step_report, request_at, Report, report_at, Content, content, history_at, IsStep, sent_in, come_in, letters_come, letters_sent, IsPostedBy, IsSentBy, LettersKeepOrder, ReceivesKeepOrder, same_Some, Admits, compared, count_below, same_context, same_rank}
 use Rattle.ulfm_laws.proofs.Contents.{sent_one, come_few, come_is}
-use Rattle.ulfm_base.proofs.Numbers.{same_context, same_rank}
 use Rattle.ulfm_laws.proofs.Finding.{AreHonest, its_request, poster}
 use Rattle.ulfm_laws.proofs.Senders.{sender, sent_letter}
 use Rattle.ulfm_laws.proofs.Given.{pair_admits}
@@ -24,8 +18,8 @@ module _ (reports : List Report) (all : AreHonest reports) where
         | inl h ↦ h
         | inr o ↦ elim o [
           | inl same ↦
-              let e : Some a.id ≡ Some b.id = sym ra ∙ ap (request_at (report_at reports d).steps) same ∙ rb in
-              absurd (let f : a.id.number ≡ b.id.number = ap (λ (x : RequestId). x.number) (same_Some a.id b.id e) in omega (arith, less, f))
+              let e = sym ra ∙ ap (request_at (report_at reports d).steps) same ∙ rb in
+              absurd (let f = ap (λ x. x.number) (same_Some a.id b.id e) in omega (arith, less, f))
           | inr h ↦ absurd (let r : b.id.number < a.id.number = (all.honest d inside).orderly.rises k i b.id a.id h rb ra in omega (arith, less, r))
         ]
       ]
@@ -36,7 +30,7 @@ module _ (reports : List Report) (all : AreHonest reports) where
       elim (compared place other) [
         | inl h ↦ h
         | inr o ↦ elim o [
-          | inl same ↦ absurd (let e : count_before (history_at reports d) place ≡ count_before (history_at reports d) other = ap (count_before (history_at reports d)) same in omega (arith, less, e, a.numbered, b.numbered))
+          | inl same ↦ absurd (let e = ap (count_before (history_at reports d)) same in omega (arith, less, e, a.numbered, b.numbered))
           | inr h ↦ absurd (let n = count_below (history_at reports d) other place (Post q) b.posted refl h in omega (arith, less, n, a.numbered, b.numbered))
         ]
       ]
@@ -64,7 +58,7 @@ module _ (reports : List Report) (all : AreHonest reports) where
     pub context : letter.envelope.context.number ≡ comm.number
 
   as_many : (s c : ℕ) {es fs : History} {ys : List Content} → es ≡ fs → letters_come s c fs ≡ ys → length (letters_come s c es) ≡ length ys
-  as_many s c e f = ap (λ (gs : History). length (letters_come s c gs)) e ∙ ap (λ (xs : List Content). length xs) f
+  as_many s c e f = ap (λ gs. length (letters_come s c gs)) e ∙ ap (λ xs. length xs) f
 
   has_come : {b : ℕ} (d s j k to : ℕ) {l : Letter} (tag : Tag) (body : List ℕ) (comm : Context) → d < length reports → IsSentBy reports d b l s j → l.envelope.context.number ≡ comm.number → k < j → IsStep (report_at reports s) k (Send to tag body comm) Sent → slice_get (group_at (report_at reports s).rank comm.number) to ≡ Some d → HasCome d s b k tag body comm
   has_come {b} d s j k to tag body comm inside x same less step directed =
@@ -73,18 +67,18 @@ module _ (reports : List Report) (all : AreHonest reports) where
       let p = flat_front (come_in s c) h b in
       let w = all.sent s d c x.inside inside in
       let q = flat_front (sent_in group c d) own.steps j in
-      let joined : letters_come s c (take b h) ++ (p.0 ++ w.0) ≡ letters_sent own.rank c d (take j own.steps) ++ q.0 =
-      sym (append_assoc (letters_come s c (take b h)) p.0 w.0) ∙ ap (λ (xs : List Content). xs ++ w.0) p.1 ∙ w.1 ∙ sym q.1 in
-      let fronts : letters_come s c (take b h) ≡ letters_sent own.rank c d (take j own.steps) = same_fronts (letters_come s c (take b h)) (p.0 ++ w.0) (letters_sent own.rank c d (take j own.steps)) q.0 joined (rw same at x.in_order) in
+      let joined =
+      sym (append_assoc (letters_come s c (take b h)) p.0 w.0) ∙ ap (λ xs. xs ++ w.0) p.1 ∙ w.1 ∙ sym q.1 in
+      let fronts = same_fronts (letters_come s c (take b h)) (p.0 ++ w.0) (letters_sent own.rank c d (take j own.steps)) q.0 joined (rw same at x.in_order) in
       let y = step_report (Send to tag body comm) Sent step.at step.polls in
       let z = flat_within (sent_in group c d) own.steps k j y less step.stands in
-      let list : letters_come s c (take b h) ≡ letters_sent own.rank c d (take k own.steps) ++ content tag body ∷ z.0 =
-      fronts ∙ z.1 ∙ ap (λ (xs : List Content). letters_sent own.rank c d (take k own.steps) ++ (xs ++ z.0)) (sent_one group d to tag body comm directed) in
+      let list =
+      fronts ∙ z.1 ∙ ap (λ xs. letters_sent own.rank c d (take k own.steps) ++ (xs ++ z.0)) (sent_one group d to tag body comm directed) in
       let g = gives_at (come_in s c) (come_few s c) (take b h) (letters_sent own.rank c d (take k own.steps)) (content tag body) z.0 list in
       let t = get_take h b g.index g.giver g.at in
       let m = come_is s c g.giver g.gives in
-      let its_tag : tag ≡ m.letter.envelope.tag = ap (λ (v : Content). v.tag) (sym m.carries) in
-      let its_body : body ≡ m.letter.body = ap (λ (v : Content). v.body) (sym m.carries) in
+      let its_tag = ap (λ v. v.tag) (sym m.carries) in
+      let its_body = ap (λ v. v.body) (sym m.carries) in
       let its_comm = same_context comm m.letter.envelope.context (sym m.context) in
       record {
         place = g.index;
@@ -95,9 +89,9 @@ module _ (reports : List Report) (all : AreHonest reports) where
           inside = x.inside;
           step = sent_letter m.letter its_tag its_body its_comm step;
           directed = rw its_comm at directed;
-          came = t.1 ∙ ap (λ (e : Event). Some e) m.came;
+          came = t.1 ∙ ap (λ e. Some e) m.came;
           source = m.source;
-          in_order = subst (λ (r : Context). length (letters_come s r.number (take g.index h)) ≡ length (letters_sent own.rank r.number d (take k own.steps))) its_comm (as_many s c (sym t.2) g.before);
+          in_order = subst (λ r. length (letters_come s r.number (take g.index h)) ≡ length (letters_sent own.rank r.number d (take k own.steps))) its_comm (as_many s c (sym t.2) g.before);
         };
         source = m.source;
         tagged = sym its_tag;

@@ -1,10 +1,6 @@
 -- The answered steps of a rank are true of its log, and each request is answered once.
 use Rattle.std.proofs.Common.{◌≡◌, ℕ, zero, suc, ◌<◌, ◌⊎◌, inl, inr, List, [], ◌∷◌, ◌++◌, length, refl, ap, sym, ◌∙◌, subst, arith, Some, slice_get}
-use Rattle.std.proofs.lemmas.Option.{slice_get_within}
-use Rattle.ulfm_laws.proofs.Common.{RequestId, Event, count_before, Entry, history_of, events_by, StepReport, request_of, request_at}
-use Rattle.ulfm_match.proofs.Histories.{get_cases, count_rises}
-use Rattle.ulfm_rank.proofs.Gather.{history-push}
-use Rattle.ulfm_laws.specs.Reader.{closes}
+use Rattle.ulfm_laws.proofs.Common.{RequestId, count_before, Entry, history_of, events_by, StepReport, request_of, request_at, closes, slice_get_within, history-push, get_cases, count_rises}
 use Rattle.ulfm_laws.proofs.Tells.{Tells, tells-logged, tells-answered}
 
 -- each answer is true, the requests have rising numbers, and each is closed once
@@ -31,7 +27,7 @@ orderly-logged {n} {log} e {done} h = record {
   tells = λ k x g. tells-logged n log e done x.step x.answer (h.tells k x g);
   below = λ k id g.
       let up = count_rises (history_of log) (events_by log (history_of log) e) in
-      subst (λ (es : List Event). id.number < count_before es (length es)) (sym (history-push log e)) (omega (arith, up, h.below k id g));
+      subst (λ es. id.number < count_before es (length es)) (sym (history-push log e)) (omega (arith, up, h.below k id g));
   rises = h.rises;
   once = h.once;
 }
@@ -45,7 +41,7 @@ orderly-answered {n} {log} {done} x h new fresh first = record {
   tells = λ k y g.
       elim (get_cases done x k y g) [
         | inl o ↦ tells-answered n log done x y.step y.answer (h.tells k y o)
-        | inr e ↦ subst (λ (z : StepReport). Tells n log (done ++ x ∷ []) z.step z.answer) e.1 new
+        | inr e ↦ subst (λ z. Tells n log (done ++ x ∷ []) z.step z.answer) e.1 new
       ];
   below = λ k id g. elim (request_cases done x k g) [ inl o ↦ h.below k id o | inr e ↦ (fresh id e.1).0 ];
   rises = λ j k id jd l g f.
@@ -65,7 +61,7 @@ orderly-answered {n} {log} {done} x h new fresh first = record {
         | inr e ↦
             let top = e.0 in
             elim (get_cases done x j y gy) [
-              | inl p ↦ first req j y (ap (λ (w : StepReport). closes w.step w.answer) e.1 ∙ cz) p cy
+              | inl p ↦ first req j y (ap (λ w. closes w.step w.answer) e.1 ∙ cz) p cy
               | inr q ↦ absurd (let same = q.0 in omega (arith, l, top, same))
             ]
       ];

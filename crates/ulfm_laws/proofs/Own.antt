@@ -1,21 +1,10 @@
 -- Each decision that a rank adopted is its own, where its answers are right.
 use Rattle.std.proofs.Common.{◌≡◌, ℕ, ap, sym, ◌∙◌, Some}
-use Rattle.std.specs.Prelude.{⊤, All, not, ◌==◌, nat_eq}
 use lib.Pointwise.{pointwise}
-use Rattle.std.proofs.lemmas.Bool.{or_parts, not-false, eqb-true}
-use Rattle.std.proofs.lemmas.Option.{slice_get_within, get_or_from_slice_get}
-use Rattle.std.proofs.lemmas.List.Elements.{All-nil, All-push, All-get_or}
-use Rattle.ulfm_laws.proofs.Common.{Context, Decision, at, Entry, State, Report}
-use Rattle.ulfm_base.specs.Group.{is_member}
+use Rattle.ulfm_laws.proofs.Common.{Context, Decision, at, Entry, State, Report, or_parts, not-false, eqb-true, slice_get_within, get_or_from_slice_get, Known, All-nil, All-push, All-get_or, is_member, StoodAt, AnswersFollow, IsGranted, each_logged, IsOwn, ⊤, All, not, ◌==◌, nat_eq, same_numbers, all_pass}
 use Rattle.ulfm_board.specs.Known.{known_at}
 use Rattle.ulfm_rank.specs.declared.entry.Entry.TheVariants.{Adopted, Stopped}
 use Rattle.ulfm_rank.specs.Checks.{Passes, adopt_checks, group_at}
-use Rattle.ulfm_rank.proofs.Belonging.{same_numbers}
-use Rattle.ulfm_rank.proofs.Refusals.{all_pass}
-use Rattle.ulfm_script.specs.Answered.{StoodAt, AnswersFollow}
-use Rattle.ulfm_script.specs.Deciding.{Known}
-use Rattle.ulfm_script.proofs.Kept.{IsGranted, each_logged}
-use Rattle.ulfm_laws.specs.Shrinks.{IsOwn}
 
 -- the decision that an entry adopts, if it adopts one, is the rank's own
 abbrev pub AdoptsOwn : Known → State → Entry → Type 0
@@ -29,7 +18,7 @@ module _ (known : Known) (r : State) where
       let group = group_at old comm.number in
       let first = or_parts (not (held.context.number == comm.number)) _ ((all_pass (adopt_checks old comm.number held) passes).1.1.1.1.0) in
       let second = or_parts (not (pointwise nat_eq held.old group)) _ first.1 in
-      let about : held.context.number ≡ comm.number = eqb-true held.context.number comm.number (not-false _ first.0) in
+      let about = eqb-true held.context.number comm.number (not-false _ first.0) in
       record {
         held = ap (known_at known) about ∙ knows;
         place = n;

@@ -1,25 +1,9 @@
 -- A receive that is posted keeps the steps of a rank true of its log.
 use Rattle.std.proofs.Common.{◌≡◌, ℕ, ◌<◌, inl, inr, Bool, true, false, cond, List, [], ◌∷◌, ◌++◌, length, refl, ap, sym, ◌∙◌, subst, arith, append_assoc, length-append, Option, Some, slice_get}
 use Rattle.std.specs.Option.{is_some}
-use Rattle.std.proofs.lemmas.Bool.{not-false}
-use Rattle.std.proofs.lemmas.List.Elements.{All-push}
-use Rattle.std.proofs.lemmas.Option.{same_Some, slice_get_within}
-use Rattle.ulfm_laws.proofs.Common.{Context, Tag, RequestId, Entry, group_of, members_of, is_revoked, State, Recv, Posted, StepReport}
-use Rattle.ulfm_match.specs.History.{Event, Post, End, PostAt, count_before}
-use Rattle.ulfm_match.proofs.Cut.{get_in_front}
-use Rattle.ulfm_match.proofs.Decide.{compared}
-use Rattle.ulfm_match.proofs.Histories.{count_below, count_front, get_here}
+use Rattle.ulfm_laws.proofs.Common.{Context, Tag, RequestId, Entry, group_of, members_of, is_revoked, State, Recv, Posted, StepReport, comm_of, step_report, request_of, request_at, sent_in, not-false, same_Some, slice_get_within, All-push, Posts, IsSourceOf, history-push, Event, Post, End, PostAt, count_before, compared, count_below, count_front, get_here, group_stays, members_found, HasNoPost, none-nil, none-one, formed-posted, history_of, names_gone, some_from, get_in_front, all_pass}
 use Rattle.ulfm_rank.specs.declared.entry.Entry.TheVariants.{Posted as PostedEntry}
-use Rattle.ulfm_rank.specs.Calls.{Posts, IsSourceOf}
 use Rattle.ulfm_rank.specs.Checks.{Passes, receive_checks}
-use Rattle.ulfm_rank.specs.History.{history_of, names_gone}
-use Rattle.ulfm_rank.proofs.Gather.{history-push}
-use Rattle.ulfm_rank.proofs.Grouped.{group_stays, members_found}
-use Rattle.ulfm_rank.proofs.Firsts.{some_from}
-use Rattle.ulfm_rank.proofs.Refusals.{all_pass}
-use Rattle.ulfm_script.specs.Player.{comm_of, step_report, request_of, request_at}
-use Rattle.ulfm_laws.specs.Reader.{sent_in}
-use Rattle.ulfm_rank.proofs.Formed.{HasNoPost, none-nil, none-one, formed-posted}
 use Rattle.ulfm_laws.proofs.Honest.{IsCovered, sends-logged, late}
 use Rattle.ulfm_laws.proofs.Orderly.{orderly-logged, orderly-answered}
 use Rattle.ulfm_laws.proofs.Mail.{IsTakenFrom, flat-push}
@@ -72,37 +56,37 @@ module _ (r : State) (done : List StepReport) (source : Option ℕ) (tag : Optio
   receipt =
       let m = may_receive r comm.number source passes in
       let made = group_stays r.ranks log e comm.number m.0.0 m.0.1 in
-      let same : members_of r.ranks log comm.number ≡ members_of r.ranks (log ++ e ∷ []) comm.number = members_found r.ranks log comm.number m.0.0 m.0.1 ∙ sym (members_found r.ranks (log ++ e ∷ []) comm.number m.0.0 made) in
+      let same = members_found r.ranks log comm.number m.0.0 m.0.1 ∙ sym (members_found r.ranks (log ++ e ∷ []) comm.number m.0.0 made) in
       record {
         place = length old;
         pattern = s.pattern;
-        posted = subst (λ (g : List Event). PostAt g (length old) s.pattern) (sym long) here;
-        numbered = ap (λ (g : List Event). count_before g (length old)) long ∙ its_number;
+        posted = subst (λ g. PostAt g (length old) s.pattern) (sym long) here;
+        numbered = ap (λ g. count_before g (length old)) long ∙ its_number;
         context = s.receive.context;
         has_tag = s.receive.has_tag;
         has_room = s.receive.has_room;
         group = m.0.0;
         made = made;
-        asks_for = subst (λ (group : List ℕ). IsSourceOf group source s.pattern.source) same s.receive.asks_for;
+        asks_for = subst (λ group. IsSourceOf group source s.pattern.source) same s.receive.asks_for;
       }
 
   below : (jd : RequestId) → id ≡ jd → jd.number < count_before (history_of (log ++ e ∷ [])) (length (history_of (log ++ e ∷ [])))
   below jd same =
       let up = count_below now (length old) (length now) (Post s.pattern) here refl (slice_get_within now (length old) (Post s.pattern) here) in
-      let n : id.number ≡ jd.number = ap (λ (i : RequestId). i.number) same in
-      subst (λ (g : List Event). jd.number < count_before g (length g)) (sym long) (omega (arith, up, its_number, n))
+      let n = ap (λ i. i.number) same in
+      subst (λ g. jd.number < count_before g (length g)) (sym long) (omega (arith, up, its_number, n))
 
   covered : IsCovered (log ++ e ∷ []) (done ++ x ∷ [])
   covered place p g =
-      let at' : PostAt now place p = subst (λ (xs : List Event). PostAt xs place p) long g in
+      let at' = subst (λ xs. PostAt xs place p) long g in
       elim (compared place (length old)) [
         | inl l ↦
             let c = h.covered place p (get_in_front old (Post s.pattern ∷ tail) place (Post p) l at') in
-            (c.0, c.1, asked_front done (x ∷ []) c.0 c.2, ap (λ (ys : List Event). count_before ys place) long ∙ count_front old (Post s.pattern ∷ tail) place (omega (arith, l)) ∙ c.3)
+            (c.0, c.1, asked_front done (x ∷ []) c.0 c.2, ap (λ ys. count_before ys place) long ∙ count_front old (Post s.pattern ∷ tail) place (omega (arith, l)) ∙ c.3)
         | inr o ↦ elim o [
-          | inl same ↦ (length done, id, asked_last done x, ap (λ (ys : List Event). count_before ys place) long ∙ ap (count_before now) same ∙ its_number)
+          | inl same ↦ (length done, id, asked_last done x, ap (λ ys. count_before ys place) long ∙ ap (count_before now) same ∙ its_number)
           | inr far ↦
-              let at'' : PostAt ((old ++ Post s.pattern ∷ []) ++ tail) place p = subst (λ (xs : List Event). PostAt xs place p) (sym (append_assoc old (Post s.pattern ∷ []) tail)) at' in
+              let at'' = subst (λ xs. PostAt xs place p) (sym (append_assoc old (Post s.pattern ∷ []) tail)) at' in
               absurd (late (old ++ Post s.pattern ∷ []) tail place p (no_end (names_gone r.log s.pattern.source) (length old)) (omega (arith, far, length-append old (Post s.pattern ∷ []))) at'')
         ]
       ]
@@ -110,10 +94,10 @@ module _ (r : State) (done : List StepReport) (source : Option ℕ) (tag : Optio
   -- a receive that is posted
   pub true-posted : IsTrueOf new (done ++ x ∷ [])
   true-posted =
-      let revoked : is_revoked log s.pattern.context.number ≡ false = ap (λ (k : Context). is_revoked log k.number) s.receive.context ∙ (may_receive r comm.number source passes).1 in
+      let revoked = ap (λ k. is_revoked log k.number) s.receive.context ∙ (may_receive r comm.number source passes).1 in
       rw s.only (record {
         orderly = orderly-answered x (orderly-logged e h.orderly) receipt
-            (λ jd q. (below jd (same_Some id jd q), λ k kd g. let l = h.orderly.below k kd g in let n : id.number ≡ jd.number = ap (λ (i : RequestId). i.number) (same_Some id jd q) in omega (arith, l, numbered, n)))
+            (λ jd q. (below jd (same_Some id jd q), λ k kd g. let l = h.orderly.below k kd g in let n = ap (λ i. i.number) (same_Some id jd q) in omega (arith, l, numbered, n)))
             (λ req k y q g f. let bad : ⊥ = cc in bad);
         sends = λ c d.
             flat-push (sent_in (members_of r.ranks (log ++ e ∷ []) c) c d) done x ∙ sends-logged e c d h;

@@ -1,11 +1,7 @@
 -- Which step sent the letter that came at a place of the history.
 use Rattle.std.proofs.Common.{◌≡◌, ℕ, ◌<◌, List, ◌∷◌, ◌++◌, length, take, refl, ap, sym, ◌∙◌, arith, append_assoc}
-use Rattle.ulfm_laws.proofs.Common.{Context, Letter, Tag, group_at, Send, Sent, step_report, Report, report_at}
-use Rattle.ulfm_match.specs.History.{Come, ComeAt}
-use Rattle.ulfm_match.proofs.Unique.{same_letter}
-use Rattle.ulfm_laws.specs.Reader.{Content, content, history_at, IsStep, sent_in, come_in, letters_come, letters_sent, IsSentBy}
+use Rattle.ulfm_laws.proofs.Common.{Context, Letter, Tag, group_at, Send, Sent, step_report, Report, report_at, content, history_at, IsStep, sent_in, come_in, letters_come, IsSentBy, Come, ComeAt, same_letter, same_context}
 use Rattle.ulfm_laws.proofs.Contents.{sent_few, sent_is, sent_one, come_one}
-use Rattle.ulfm_base.proofs.Numbers.{same_context}
 use Rattle.ulfm_laws.proofs.Finding.{AreHonest, step_at, same_asked}
 use Rattle.ulfm_match.proofs.Places.{gives_at, flat_at, index_same}
 use Rattle.ulfm_laws.proofs.Sources.{come_bound}
@@ -29,9 +25,9 @@ module _ (reports : List Report) (all : AreHonest reports) (d : ℕ) (inside : d
       let y = content letter.envelope.tag letter.body in
       let front = letters_come s c (take b h) in
       let parts = flat_at (come_in s c) h b (Come letter) came in
-      let list : letters_sent own.rank c d own.steps ≡ front ++ y ∷ (parts.0 ++ whole.0) =
+      let list =
       sym whole.1
-      ∙ ap (λ (xs : List Content). xs ++ whole.0) (parts.1 ∙ ap (λ (xs : List Content). front ++ (xs ++ parts.0)) (come_one s c letter refl refl))
+      ∙ ap (λ xs. xs ++ whole.0) (parts.1 ∙ ap (λ xs. front ++ (xs ++ parts.0)) (come_one s c letter refl refl))
       ∙ append_assoc front (y ∷ parts.0) whole.0 in
       let g = gives_at (sent_in group c d) (sent_few group c d) own.steps front y (parts.0 ++ whole.0) list in
       let k = sent_is group c d g.giver.step g.giver.answer y g.gives in (
@@ -43,7 +39,7 @@ module _ (reports : List Report) (all : AreHonest reports) (d : ℕ) (inside : d
           directed = k.directed;
           came = came;
           source = refl;
-          in_order = ap (λ (xs : List Content). length xs) (sym g.before);
+          in_order = ap (λ xs. length xs) (sym g.before);
         },
       )
 
@@ -54,14 +50,14 @@ module _ (reports : List Report) (all : AreHonest reports) (d : ℕ) (inside : d
       let comm : l.envelope.context ≡ m.envelope.context = cc in
       let c = m.envelope.context.number in
       index_same (come_in s c) (history_at reports d) b e (Come l) (Come m) (content l.envelope.tag l.body) (content m.envelope.tag m.body) x.came y.came
-      (come_one s c l (ap (λ (k : Context). k.number) comm) x.source) (come_one s c m refl y.source)
-      ((rw (ap (λ (k : Context). k.number) comm) at x.in_order) ∙ sym y.in_order)
+      (come_one s c l (ap (λ k. k.number) comm) x.source) (come_one s c m refl y.source)
+      ((rw (ap (λ k. k.number) comm) at x.in_order) ∙ sym y.in_order)
 
   -- a letter was sent by one step
   pub same_send : {b : ℕ} {l m : Letter} (s j t k : ℕ) → IsSentBy reports d b l s j → IsSentBy reports d b m t k → (s ≡ t) × (j ≡ k)
   same_send {b} {l} {m} s j t k x y =
       let same = same_letter (history_at reports d) b l m x.came y.came in
-      let who : s ≡ t = sym x.source ∙ ap (λ (w : Letter). w.envelope.source.number) same ∙ y.source in
+      let who = sym x.source ∙ ap (λ w. w.envelope.source.number) same ∙ y.source in
       let y' : IsSentBy reports d b l s k = rw (same, who) y in
       let own = report_at reports s in let c = l.envelope.context.number in let group = group_at own.rank c in
       let w = content l.envelope.tag l.body in (

@@ -1,12 +1,7 @@
 -- A shrink that is entered or decided keeps the steps of a rank true of its log.
 use Rattle.std.proofs.Common.{ℕ, Bool, true, false, List, [], ◌∷◌, ◌++◌, length, inl, inr, Option}
-use Rattle.ulfm_laws.proofs.Common.{Context, Decision, State, Step, StepAnswer, StepReport}
-use Rattle.ulfm_base.specs.declared.error.CallError.TheVariants.{OutOfMemory}
+use Rattle.ulfm_laws.proofs.Common.{Context, Decision, State, Step, StepAnswer, StepReport, Wait, Shrink, Shrunk, Refused, Player, LeavesOpen, StaysOpen, step_report, OutOfMemory, Known, AnswersAdoption, AnswersDecision, IsDecided}
 use Rattle.ulfm_rank.specs.declared.entry.Entry.TheVariants.{Entered, Adopted}
-use Rattle.ulfm_job.specs.declared.step.Step.TheVariants.{Wait, Shrink}
-use Rattle.ulfm_script.specs.declared.answer.StepAnswer.TheVariants.{Shrunk, Refused}
-use Rattle.ulfm_script.specs.Deciding.{Known, AnswersAdoption, AnswersDecision, IsDecided}
-use Rattle.ulfm_script.specs.Player.{Player, LeavesOpen, StaysOpen, step_report}
 use Rattle.ulfm_laws.proofs.Answering.{true-same, true-idle, true-one}
 use Rattle.ulfm_laws.proofs.Closing.{IsTrueOf}
 

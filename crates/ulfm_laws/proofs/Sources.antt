@@ -1,14 +1,9 @@
 -- Each letter that came is from a rank of the world.
 use Rattle.std.proofs.Common.{◌≡◌, ℕ, zero, suc, ◌<◌, Bool, true, false, cond, List, [], ◌∷◌, ◌++◌, length, ap, sym, ◌∙◌, Some, slice_get, All}
-use Rattle.ulfm_laws.proofs.Common.{Letter, Entry, is_revoked}
+use Rattle.ulfm_laws.proofs.Common.{Letter, Entry, is_revoked, all_front, all_last, gathered_all, names, Event, Post, Come, End, Clear, ComeAt, history_of, events_by, ends_from, end_at, names_gone}
 use Rattle.ulfm_base.specs.declared.item.Item.TheVariants.{Letter as Mail, Gone, Revoke, Enter}
-use Rattle.ulfm_base.specs.Pattern.{names}
-use Rattle.ulfm_match.specs.History.{Event, Post, Come, End, Clear, ComeAt}
 use Rattle.ulfm_rank.specs.declared.entry.Entry.TheVariants.{Posted, Revoked, Took}
-use Rattle.ulfm_rank.specs.History.{history_of, events_by, ends_from, end_at, names_gone}
-use Rattle.ulfm_rank.proofs.Gather.{gathered_all}
 use Rattle.ulfm_laws.proofs.Mail.{IsTakenFrom}
-use Rattle.ulfm_rank.proofs.Signed.{all_front, all_last}
 
 -- a letter among these events is from one of n ranks
 abbrev AreFrom : ℕ → List Event → Type 0
@@ -47,7 +42,7 @@ from-events n log h (Posted p) own = from-append n (Post p ∷ []) (cond (names_
 from-events n log h (Revoked context) own = from-cond n (is_revoked log context.number) (Clear context.number) (λ l e. absurd (cc))
 from-events n log h (Took source (Mail letter)) own =
     from-cond n (is_revoked log letter.envelope.context.number) (Come letter)
-    (λ l e. let same : letter ≡ l = cc in rw (sym own.1 ∙ ap (λ (m : Letter). m.envelope.source) same) at own.0)
+    (λ l e. let same : letter ≡ l = cc in rw (sym own.1 ∙ ap (λ m. m.envelope.source) same) at own.0)
 from-events n log h (Took source Gone) own = from-ends n source.number 0 h
 from-events n log h (Took source (Revoke context)) own = from-cond n (is_revoked log context.number) (Clear context.number) (λ l e. absurd (cc))
 from-events n log h (Took source (Enter context known)) own = from-nil n

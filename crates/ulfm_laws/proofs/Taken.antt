@@ -1,17 +1,10 @@
 -- What a rank took came from the rank that is named with it, where items flow.
 use Rattle.std.proofs.Common.{◌≡◌, ℕ, ◌<◌, ◌≤◌, Bool, true, false, cond, eqb, List, [], ◌∷◌, ◌++◌, length, take, refl, ap, sym, subst, ◌∙◌, arith, inl, inr, All}
-use Rattle.std.proofs.lemmas.Bool.{cases_Bool, cases_eq, eq-eqb, ne_eqb}
-use Rattle.std.proofs.lemmas.List.Elements.{All-nil, All-cons, All-head, All-tail, All-push, All-take, All-weaker}
 use Rattle.std.proofs.Math.Seq.{take-append_seam}
-use Rattle.ulfm_laws.proofs.Common.{Item, Gone, at, Entry, State, owes, outbox, Report}
+use Rattle.ulfm_laws.proofs.Common.{Item, Gone, at, Entry, State, owes, outbox, Report, cases_Bool, cases_eq, eq-eqb, ne_eqb, took, took_by, is_stopped, IsSigned, Inboxes, inbox_of, IsBeginning, Flow, there, owed_signed, from_signed, All-nil, All-cons, All-head, All-tail, All-push, All-take, All-weaker, lt_or_ge}
 use Rattle.ulfm_base.specs.Items.{ComesFrom, items_from}
-use Rattle.ulfm_match.proofs.Decide.{lt_or_ge}
 use Rattle.ulfm_rank.specs.declared.entry.Entry.TheVariants.{Took}
-use Rattle.ulfm_rank.specs.Facts.{took, took_by, is_stopped, IsSigned}
-use Rattle.ulfm_rank.proofs.Signed.{owed_signed, from_signed}
-use Rattle.ulfm_laws.specs.Flow.{Inboxes, inbox_of, IsBeginning, Flow}
 use Rattle.ulfm_laws.proofs.Flowing.{AreFlowing}
-use Rattle.ulfm_base.proofs.Places.{there}
 use Rattle.ulfm_laws.proofs.Mail.{IsTakenFrom}
 
 -- an item came from the rank s, which is one of n
@@ -25,7 +18,7 @@ rest_of P false item rest h = h
 entry_of : (n : ℕ) (e : Entry) (log : List Entry) → ((s : ℕ) → All (FromOf n s) (took_by s e ++ took log s)) → IsTakenFrom n e
 entry_of n (Took source item) log h =
     let s = source.number in
-    let one : All (FromOf n s) (item ∷ took log s) = subst (λ (b : Bool). All (FromOf n s) (cond b (item ∷ []) [] ++ took log s)) (eq-eqb s s refl) (h s) in
+    let one = subst (λ b. All (FromOf n s) (cond b (item ∷ []) [] ++ took log s)) (eq-eqb s s refl) (h s) in
     let p = All-head (FromOf n s) item (took log s) one in
     (p.0, from_signed source item p.1)
 entry_of n _ log h = tt
@@ -40,7 +33,7 @@ taken_all n (e ∷ log) h = All-cons (IsTakenFrom n) e log (entry_of n e log h) 
 
 -- what holds of a list holds of a beginning of it
 begun_all : (P : Item → Type 0) (xs ys : List Item) → IsBeginning xs ys → All P ys → All P xs
-begun_all P xs ys b all = subst (λ (zs : List Item). All P zs) (ap (take (length xs)) (sym b.1) ∙ take-append_seam xs b.0) (All-take P (length xs) ys all)
+begun_all P xs ys b all = subst (λ zs. All P zs) (ap (take (length xs)) (sym b.1) ∙ take-append_seam xs b.0) (All-take P (length xs) ys all)
 
 arrived_from : (sender : State) (s d : ℕ) {xs : List Item} → Flow sender s d xs → All (ComesFrom s) (owes sender d) → All (ComesFrom s) xs
 arrived_from sender s d {xs} h all = elim (cases_Bool (is_stopped sender.log)) [
@@ -59,14 +52,14 @@ module _ (inboxes : Inboxes) (reports : List Report) (h : AreFlowing inboxes rep
   from_rank d s {receiver} q inside =
       let sender = there reports s inside in
       let r = sender.0.rank in
-      let owed_from : All (ComesFrom s) (owes r d) = subst (λ (m : ℕ). All (ComesFrom m) (owes r d)) (h.order s sender.0 sender.1) (owed_signed r.ranks r.me d r.log (signed s sender.0 sender.1)) in
+      let owed_from = subst (λ m. All (ComesFrom m) (owes r d)) (h.order s sender.0 sender.1) (owed_signed r.ranks r.me d r.log (signed s sender.0 sender.1)) in
       let came = arrived_from r s d (h.flow s d sender.0 receiver sender.1 q) owed_from in
       All-weaker (ComesFrom s) (FromOf (length reports) s) (λ item from. (inside, from)) (took receiver.rank.log s) (begun_all (ComesFrom s) (took receiver.rank.log s) (took receiver.rank.log s ++ items_from s (inbox_of inboxes d)) (items_from s (inbox_of inboxes d), refl) came)
 
   from_each : (d s : ℕ) {receiver : Report} → at reports d receiver → All (FromOf (length reports) s) (took receiver.rank.log s)
   from_each d s {receiver} q = elim (lt_or_ge s (length reports)) [
     | inl inside ↦ from_rank d s q inside
-    | inr far ↦ subst (λ (xs : List Item). All (FromOf (length reports) s) xs) (sym (within d receiver q s far)) (All-nil (FromOf (length reports) s))
+    | inr far ↦ subst (λ xs. All (FromOf (length reports) s) xs) (sym (within d receiver q s far)) (All-nil (FromOf (length reports) s))
   ]
 
   -- each item that a rank took came from a rank of these
@@ -76,8 +69,8 @@ module _ (inboxes : Inboxes) (reports : List Report) (h : AreFlowing inboxes rep
 -- nothing came from a number that is no rank
 pub took_none : (n s : ℕ) (log : List Entry) → All (IsTakenFrom n) log → n ≤ s → took log s ≡ []
 took_none n s [] all far = refl
-took_none n s (e ∷ log) all far = ap (λ (xs : List Item). xs ++ took log s) (one e (All-head (IsTakenFrom n) e log all)) ∙ took_none n s log (All-tail (IsTakenFrom n) e log all) far
+took_none n s (e ∷ log) all far = ap (λ xs. xs ++ took log s) (one e (All-head (IsTakenFrom n) e log all)) ∙ took_none n s log (All-tail (IsTakenFrom n) e log all) far
   where
     one : (e : Entry) → IsTakenFrom n e → took_by s e ≡ []
-    one (Took source item) own = ap (λ (b : Bool). cond b (item ∷ []) []) (ne_eqb source.number s (λ same. let low : s < n = subst (λ k. k < n) same own.0 in omega (arith, low, far)))
+    one (Took source item) own = ap (λ b. cond b (item ∷ []) []) (ne_eqb source.number s (λ same. let low = subst (λ k. k < n) same own.0 in omega (arith, low, far)))
     one _ own = refl

@@ -1,20 +1,10 @@
 -- What the answered steps of a rank tell of its log, and that it stays true.
 use Rattle.std.proofs.Common.{◌≡◌, ℕ, zero, suc, Bool, true, false, cond, eqb, List, [], ◌∷◌, ◌++◌, refl, ap, sym, ◌∙◌, subst, arith, Option, Some}
-use Rattle.std.specs.Prelude.{⊤, ◌&&◌, slice_get}
-use Rattle.std.proofs.lemmas.Bool.{or_left, eqb-true}
-use Rattle.std.proofs.lemmas.Option.{slice_get_within}
-use Rattle.ulfm_laws.proofs.Common.{Context, Tag, Pattern, RequestId, Event, Post, PostAt, count_before, Entry, TestAnswer, group_of, members_of, history_of, events_by, Step, Send, Recv, Wait, StepAnswer, Sent, Posted, Done, Over, StepReport, request_at}
+use Rattle.ulfm_laws.proofs.Common.{Context, Tag, Pattern, RequestId, Post, PostAt, count_before, Entry, TestAnswer, group_of, members_of, history_of, events_by, Step, Send, Recv, Wait, StepAnswer, Sent, Posted, Done, Over, StepReport, request_at, content, is_rank, sent_by, or_left, eqb-true, slice_get_within, is_released, releases, IsSourceOf, history-push, any-push, count_front, group_stays, members_found, get_front, ⊤, ◌&&◌, slice_get}
 use Rattle.ulfm_match.specs.Pairing.{Pairing, LawfulPairing}
-use Rattle.ulfm_match.proofs.Cut.{get_front}
 use Rattle.ulfm_rank.specs.declared.entry.TestAnswer.TheVariants.{Done as TestDone, Over as TestOver}
 use Rattle.ulfm_rank.specs.Answer.{IsAnswerBy, is_release}
-use Rattle.ulfm_rank.specs.Calls.{IsSourceOf}
-use Rattle.ulfm_rank.specs.Facts.{is_released, releases}
-use Rattle.ulfm_rank.proofs.Gather.{history-push, any-push}
-use Rattle.ulfm_rank.proofs.Grouped.{group_stays, members_found}
-use Rattle.ulfm_laws.specs.Reader.{content, is_rank, sent_by}
 use Rattle.ulfm_rank.proofs.Stays.{members_stay, answer_stays}
-use Rattle.ulfm_match.proofs.Histories.{count_front}
 
 -- a receive of the history has the number of this request, and asks for this
 pub record IsReceipt (n : ℕ) (log : List Entry) (source : Option ℕ) (tag : Option Tag) (room : ℕ) (comm : Context) (id : RequestId) : Type 0 where
@@ -60,18 +50,18 @@ receipt-logged : (n : ℕ) (log : List Entry) (e : Entry) (source : Option ℕ) 
 receipt-logged n log e source comm h =
     let long = history-push log e in
     let made = group_stays n log e comm.number h.group h.made in
-    let same : members_of n log comm.number ≡ members_of n (log ++ e ∷ []) comm.number = members_found n log comm.number h.group h.made ∙ sym (members_found n (log ++ e ∷ []) comm.number h.group made) in
+    let same = members_found n log comm.number h.group h.made ∙ sym (members_found n (log ++ e ∷ []) comm.number h.group made) in
     record {
       place = h.place;
       pattern = h.pattern;
-      posted = subst (λ (g : List Event). PostAt g h.place h.pattern) (sym long) (get_front (history_of log) (events_by log (history_of log) e) h.place (Post h.pattern) h.posted);
-      numbered = ap (λ (g : List Event). count_before g h.place) long ∙ count_front (history_of log) (events_by log (history_of log) e) h.place (let l = slice_get_within (history_of log) h.place (Post h.pattern) h.posted in omega (arith, l)) ∙ h.numbered;
+      posted = subst (λ g. PostAt g h.place h.pattern) (sym long) (get_front (history_of log) (events_by log (history_of log) e) h.place (Post h.pattern) h.posted);
+      numbered = ap (λ g. count_before g h.place) long ∙ count_front (history_of log) (events_by log (history_of log) e) h.place (let l = slice_get_within (history_of log) h.place (Post h.pattern) h.posted in omega (arith, l)) ∙ h.numbered;
       context = h.context;
       has_tag = h.has_tag;
       has_room = h.has_room;
       group = h.group;
       made = made;
-      asks_for = subst (λ (group : List ℕ). IsSourceOf group source h.pattern.source) same h.asks_for;
+      asks_for = subst (λ group. IsSourceOf group source h.pattern.source) same h.asks_for;
     }
 
 verdict-logged : (n : ℕ) {log : List Entry} (e : Entry) {done : List StepReport} {req : ℕ} {answer : TestAnswer} → IsVerdict n log done req answer → IsVerdict n (log ++ e ∷ []) done req answer
@@ -82,8 +72,8 @@ verdict-logged n {log} e {answer} h =
       asked = h.asked;
       place = h.place;
       pattern = h.pattern;
-      posted = subst (λ (g : List Event). PostAt g h.place h.pattern) (sym long) (get_front (history_of log) (events_by log (history_of log) e) h.place (Post h.pattern) h.posted);
-      numbered = ap (λ (g : List Event). count_before g h.place) long ∙ count_front (history_of log) (events_by log (history_of log) e) h.place (let l = slice_get_within (history_of log) h.place (Post h.pattern) h.posted in omega (arith, l)) ∙ h.numbered;
+      posted = subst (λ g. PostAt g h.place h.pattern) (sym long) (get_front (history_of log) (events_by log (history_of log) e) h.place (Post h.pattern) h.posted);
+      numbered = ap (λ g. count_before g h.place) long ∙ count_front (history_of log) (events_by log (history_of log) e) h.place (let l = slice_get_within (history_of log) h.place (Post h.pattern) h.posted in omega (arith, l)) ∙ h.numbered;
       released = any-push (releases h.id.number) log e ∙ or_left (is_released log h.id.number) (releases h.id.number e) h.released;
       release = h.release;
       answers = answer_stays n log e h.place h.pattern answer h.posted h.release h.answers;
@@ -104,7 +94,7 @@ verdict-answered {done} x {req} h = record {
 
 -- an answered step tells the same of a longer log
 pub tells-logged : (n : ℕ) (log : List Entry) (e : Entry) (done : List StepReport) (asked : Step) (answer : StepAnswer) → Tells n log done asked answer → Tells n (log ++ e ∷ []) done asked answer
-tells-logged n log e done (Send to tag body comm) Sent h = (h.0, members_stay n log e comm.number (λ (group : List ℕ). slice_get group to ≡ Some h.0) (λ q. cc) h.1)
+tells-logged n log e done (Send to tag body comm) Sent h = (h.0, members_stay n log e comm.number (λ group. slice_get group to ≡ Some h.0) (λ q. cc) h.1)
 tells-logged n log e done (Recv source tag room comm) (Posted id) h = receipt-logged n log e source comm h
 tells-logged n log e done (Wait req) (Done status body) h = verdict-logged n e h
 tells-logged n log e done (Wait req) (Over reason) h = verdict-logged n e h
@@ -122,9 +112,9 @@ pub sent-logged : (n : ℕ) (log : List Entry) (e : Entry) (done : List StepRepo
 sent-logged n log e done c d (Send to tag body comm) Sent h = pick (eqb comm.number c) (λ k. eqb-true comm.number c k)
   where
     later : slice_get (members_of n (log ++ e ∷ []) comm.number) to ≡ Some h.0
-    later = members_stay n log e comm.number (λ (group : List ℕ). slice_get group to ≡ Some h.0) (λ q. cc) h.1
+    later = members_stay n log e comm.number (λ group. slice_get group to ≡ Some h.0) (λ q. cc) h.1
 
     pick : (b : Bool) → (b ≡ true → comm.number ≡ c) → cond (b && is_rank d (slice_get (members_of n (log ++ e ∷ []) c) to)) (content tag body ∷ []) [] ≡ cond (b && is_rank d (slice_get (members_of n log c) to)) (content tag body ∷ []) []
     pick false same = refl
-    pick true same = ap (λ (o : Option ℕ). cond (is_rank d o) (content tag body ∷ []) []) (rw (same refl) at (later ∙ sym h.1))
+    pick true same = ap (λ o. cond (is_rank d o) (content tag body ∷ []) []) (rw (same refl) at (later ∙ sym h.1))
 sent-logged n log e done c d _ _ h = refl

@@ -1,11 +1,6 @@
 -- A letter comes, and is kept.
-use Rattle.std.proofs.Common.{◌≡◌, ℕ, ◌+◌, ◌<◌, inl, inr, List, [], ◌∷◌, ◌++◌, length, refl, ap, sym, ◌∙◌, subst, arith, Contains}
-use Rattle.ulfm_base.specs.declared.pattern.Pattern.{Pattern}
-use Rattle.ulfm_base.specs.declared.envelope.Letter.{Letter}
-use Rattle.ulfm_base.specs.Pattern.{Admits}
-use Rattle.ulfm_match.specs.History.{Event, Post, Come, count_before}
-use Rattle.ulfm_match.specs.Pairing.{Pairing, IsWaiting, IsKept, LawfulPairing}
-use Rattle.ulfm_match.specs.State.{Matching, Lists, IsUncleared, Tracks}
+use Rattle.std.proofs.Common.{◌≡◌, ℕ, ◌+◌, ◌<◌, inl, inr, List, [], ◌∷◌, ◌++◌, length, refl, ap, sym, ◌∙◌, arith, Contains}
+use Rattle.ulfm_match.proofs.Common.{Pattern, Admits, Letter, Event, Post, Come, count_before, Pairing, LawfulPairing, Matching, IsUncleared, Tracks}
 use Rattle.ulfm_match.proofs.Decide.{lt_or_ge}
 use Rattle.ulfm_match.proofs.Histories.{below_last, get_new, count_old, count_below}
 use Rattle.ulfm_match.proofs.Lists.{lists_same, lists_push}
@@ -27,7 +22,7 @@ module _ (h : List Event) (r : Pairing) (s : Matching) (l : Letter) (t : Tracks 
               let e : l ≡ m = come_here h l m b (omega arith) k.live.came in
               none (count_before h i, q)
               (t.remains.waiting.complete i q (waiting_back h (Come l) r r t.lawful (λ i b q. q) i q li w))
-              (subst (λ (w : Letter). Admits q w.envelope) (sym e) adm)
+              (rw e adm)
         ])
 
     pub arrive_keeps : (s' : Matching) → s'.count ≡ s.count + 1 → s'.waiting ≡ s.waiting → s'.kept ≡ s.kept ++ (s.count, l) ∷ [] → s'.cleared ≡ s.cleared → Tracks (h ++ Come l ∷ []) r s'
@@ -35,13 +30,13 @@ module _ (h : List Event) (r : Pairing) (s : Matching) (l : Letter) (t : Tracks 
         tracks h (Come l) r s' (come_more h l t.well_formed open') arrive_lawful
         (cleared_same h (Come l) s s' t.remains.cleared em (λ c e. cc))
         (ec ∙ ap (λ n. n + 1) t.remains.count)
-        (subst (λ (xs : List (ℕ × Pattern)). Lists (h ++ Come l ∷ []) (λ i q. IsWaiting (h ++ Come l ∷ []) r i q (length h + 1)) xs) (sym ew)
-        (lists_same h (h ++ Come l ∷ []) (λ i q. IsWaiting h r i q (length h)) (λ i q. IsWaiting (h ++ Come l ∷ []) r i q (length h + 1)) s.waiting t.remains.waiting
+        (rw ew
+        (lists_same t.remains.waiting
         (waiting_number h (Come l) r)
         (λ i q w. waiting_to h (Come l) r r t.lawful (λ i b q. q) i q (λ e. cc) (λ e. cc) (λ b q. q) w)
         (λ i q w. waiting_back h (Come l) r r t.lawful (λ i b q. q) i q (below_last h (Come l) i (Post q) w.live.posted (λ e. cc)) w)))
-        (subst (λ (xs : List (ℕ × Letter)). Lists (h ++ Come l ∷ []) (λ b m. IsKept (h ++ Come l ∷ []) r b m (length h + 1)) xs) (sym ek)
-        (lists_push h (h ++ Come l ∷ []) (λ b m. IsKept h r b m (length h)) (λ b m. IsKept (h ++ Come l ∷ []) r b m (length h + 1)) s.kept t.remains.kept
+        (rw ek
+        (lists_push t.remains.kept
         (kept_number h (Come l) r)
         (length h) l s.count
         (count_old h (Come l) (length h) (omega arith) ∙ sym t.remains.count)

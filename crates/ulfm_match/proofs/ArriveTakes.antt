@@ -1,13 +1,6 @@
 -- A letter comes, and a waiting receive gets it.
-use Rattle.std.proofs.Common.{◌≡◌, ◌≢◌, ℕ, ◌+◌, ◌<◌, inl, inr, List, [], ◌∷◌, ◌++◌, length, refl, ap, sym, ◌∙◌, subst, arith, max}
-use Rattle.std.proofs.lemmas.List.Elements.{Contains-push}
-use Rattle.ulfm_base.specs.declared.pattern.Pattern.{Pattern}
-use Rattle.ulfm_base.specs.declared.envelope.Letter.{Letter}
-use Rattle.ulfm_base.specs.Pattern.{Admits}
-use Rattle.ulfm_match.specs.History.{Event, Post, Come, End, PostAt, ComeAt, StandsBetween, IsLiveReceive, IsLiveLetter, count_before}
-use Rattle.ulfm_match.specs.Pairing.{Pairing, Pairs, IsWaiting, IsKept, LawfulPairing}
-use Rattle.ulfm_match.specs.State.{Matching, Lists, IsUncleared, Tracks}
-use Rattle.ulfm_match.specs.Calls.{ArrivalGoesTo}
+use Rattle.std.proofs.Common.{◌≡◌, ◌≢◌, ℕ, ◌+◌, ◌<◌, inl, inr, List, [], ◌∷◌, ◌++◌, length, refl, ap, sym, ◌∙◌, arith, max}
+use Rattle.ulfm_match.proofs.Common.{Pattern, Admits, Letter, Event, Post, Come, PostAt, ComeAt, count_before, Pairing, Pairs, IsWaiting, LawfulPairing, Matching, IsUncleared, Tracks, Contains-push, ArrivalGoesTo}
 use Rattle.ulfm_match.proofs.Decide.{lt_or_ge, compared}
 use Rattle.ulfm_match.proofs.Histories.{below_last, get_new, get_below, stands_old, receive_more, stands_wider, count_below, same_number}
 use Rattle.ulfm_match.proofs.Least.{TakesLeast}
@@ -32,8 +25,8 @@ module _ (h : List Event) (r : Pairing) (s : Matching) (l : Letter) (t : Tracks 
           match = record {
             pattern = p;
             letter = l;
-            receive_live = subst (λ (m : ℕ). IsLiveReceive (h ++ Come l ∷ []) i p (m + 1)) (sym top) (receive_more h (Come l) (λ e. cc) (λ e. cc) w.live);
-            letter_live = subst (λ (m : ℕ). IsLiveLetter (h ++ Come l ∷ []) (length h) l (m + 1)) (sym top) (record { came = get_new h (Come l); before = omega arith; not_cleared = stands_nowhere });
+            receive_live = rw top (receive_more h (Come l) (λ e. cc) (λ e. cc) w.live);
+            letter_live = rw top (record { came = get_new h (Come l); before = omega arith; not_cleared = stands_nowhere });
             admits = taken.passes;
           };
           free_receive = λ d q. w.unpaired d (letter_within h r t.lawful i d q) q;
@@ -41,13 +34,13 @@ module _ (h : List Event) (r : Pairing) (s : Matching) (l : Letter) (t : Tracks 
           earlier_letters = λ a q m posted below came adm.
               let posted' : PostAt h i q = get_below h (Come l) i (Post q) li posted in
               let same : q ≡ p = (let g = w.live.posted in cc) in
-              let adm' : Admits p m.envelope = subst (λ (v : Pattern). Admits v m.envelope) same adm in
+              let adm' : Admits p m.envelope = rw (sym same) adm in
               let came' : ComeAt h a m = get_below h (Come l) a (Come m) below came in
               elim (kept_or_paired h r l.envelope.context.number open' a m below came' (adm'.context ∙ sym taken.passes.context)) [
                 | inl j ↦ elim (compared j.0 i) [
                   | inl y ↦ (j.0, y, j.2)
                   | inr o ↦ elim o [
-                    | inl e ↦ absurd (w.unpaired a below (subst (λ (v : ℕ). Pairs r v a) e j.2))
+                    | inl e ↦ absurd (w.unpaired a below (rw (sym e) j.2))
                     | inr y ↦
                         let lj : j.0 < length h = j.1 in
                         let d = t.lawful.earlier_receives j.0 a i p m j.2 came' y w.live.posted (λ s. w.live.not_ended (stands_wider (length h) (omega arith) s)) adm' in
@@ -58,10 +51,10 @@ module _ (h : List Event) (r : Pairing) (s : Matching) (l : Letter) (t : Tracks 
               ];
           earlier_receives = λ j q m came below posted lives adm.
               let same : l ≡ m = come_here h l m (length h) refl came in
-              let adm' : Admits q l.envelope = subst (λ (v : Letter). Admits q v.envelope) (sym same) adm in
+              let adm' : Admits q l.envelope = rw same adm in
               let lj : j < length h = omega arith in
               let posted' : PostAt h j q = get_below h (Come l) j (Post q) lj posted in
-              elim (waits_or_paired h r l.envelope.context.number open' j q lj posted' (λ s. lives (subst (λ (m : ℕ). StandsBetween (h ++ Come l ∷ []) (End j) j m) (sym top) (stands_old h (Come l) s))) (sym adm'.context)) [
+              elim (waits_or_paired h r l.envelope.context.number open' j q lj posted' (λ s. lives (rw top (stands_old h (Come l) s))) (sym adm'.context)) [
                 | inl a ↦ a
                 | inr wj ↦
                     let in' = t.remains.waiting.complete j q wj in
@@ -77,7 +70,7 @@ module _ (h : List Event) (r : Pairing) (s : Matching) (l : Letter) (t : Tracks 
         extend h r t.lawful (Come l) r' i0 (length h) (pair_old r i0 (length h))
         (λ i b q. elim (pair_cases r i0 (length h) i b q) [
           | inl o ↦ inl o
-          | inr e ↦ inr (e.0, e.1, subst (λ (w : ℕ × ℕ). IsNew h (Come l) r w.0 w.1) (let same : ◌≡◌ {A = ℕ × ℕ} (i0, length h) (i, b) = (let a = e.0 in let c = e.1 in cc) in same) arrive_new)
+          | inr e ↦ inr (e.0, e.1, rw e.0 (rw e.1 arrive_new))
         ])
         (λ i b q m w k adm.
         let li : i < length h = below_last h (Come l) i (Post q) w.live.posted (λ e. cc) in
@@ -85,8 +78,8 @@ module _ (h : List Event) (r : Pairing) (s : Matching) (l : Letter) (t : Tracks 
         elim (lt_or_ge b (length h)) [
           | inl low ↦ none_missed_below h r t.lawful (Come l) r' (pair_old r i0 (length h)) i b q m li low w k adm
           | inr top ↦
-              let e : length h ≡ b = omega arith in
-              k.unpaired i0 (let l0 : i0 < length h = found.2.live.before in omega arith) (subst (λ (m : ℕ). Pairs r' i0 m) e (Contains-push r (i0, length h)))
+              let e : b ≡ length h = omega arith in
+              k.unpaired i0 (let l0 : i0 < length h = found.2.live.before in omega arith) (rw e (Contains-push r (i0, length h)))
         ])
 
     pub arrive_takes : (s' : Matching) → s'.count ≡ s.count + 1 → s'.waiting ≡ waiting' → s'.kept ≡ s.kept → s'.cleared ≡ s.cleared → ArrivalGoesTo h r l z.0 s'
@@ -102,10 +95,10 @@ module _ (h : List Event) (r : Pairing) (s : Matching) (l : Letter) (t : Tracks 
           tracks = tracks h (Come l) r' s' (come_more h l t.well_formed open') arrive_pairs
               (cleared_same h (Come l) s s' t.remains.cleared em (λ c e. cc))
               (ec ∙ ap (λ n. n + 1) t.remains.count)
-              (subst (λ (xs : List (ℕ × Pattern)). Lists (h ++ Come l ∷ []) (λ i q. IsWaiting (h ++ Come l ∷ []) r' i q (length h + 1)) xs) (sym ew)
-              (lists_sub h (h ++ Come l ∷ []) (λ i q. IsWaiting h r i q (length h)) (λ i q. IsWaiting (h ++ Come l ∷ []) r' i q (length h + 1)) s.waiting t.remains.waiting
+              (rw ew
+              (lists_sub t.remains.waiting
               (waiting_number h (Come l) r)
-              waiting' (λ y. y.0 ≢ z.0) taken.ascending taken.left_to taken.left_back
+              (λ y. y.0 ≢ z.0) taken.ascending taken.left_to taken.left_back
               (λ i q w n. waiting_to h (Come l) r r' t.lawful keep i q (λ e. cc) (λ e. cc)
               (λ b p. elim (pair_cases r i0 (length h) i b p) [
                 | inl o ↦ o
@@ -117,10 +110,10 @@ module _ (h : List Event) (r : Pairing) (s : Matching) (l : Letter) (t : Tracks 
                 w',
                 λ e.
                     let g : i0 ≡ i = same_number h i0 i (Post z.1) (Post q) found.2.live.posted refl w'.live.posted refl (found.1 ∙ sym e) in
-                    w.unpaired (length h) (omega arith) (subst (λ (m : ℕ). Pairs r' m (length h)) g (Contains-push r (i0, length h))),
+                    w.unpaired (length h) (omega arith) (rw (sym g) (Contains-push r (i0, length h))),
               ))))
-              (subst (λ (xs : List (ℕ × Letter)). Lists (h ++ Come l ∷ []) (λ b m. IsKept (h ++ Come l ∷ []) r' b m (length h + 1)) xs) (sym ek)
-              (lists_same h (h ++ Come l ∷ []) (λ b m. IsKept h r b m (length h)) (λ b m. IsKept (h ++ Come l ∷ []) r' b m (length h + 1)) s.kept t.remains.kept
+              (rw ek
+              (lists_same t.remains.kept
               (kept_number h (Come l) r)
               (λ b m k. kept_to h (Come l) r r' t.lawful keep b m (λ e. cc) (λ i. low i b k.live.before) k)
               (λ b m k.
@@ -128,7 +121,7 @@ module _ (h : List Event) (r : Pairing) (s : Matching) (l : Letter) (t : Tracks 
               elim (lt_or_ge b (length h)) [
                 | inl y ↦ kept_back h (Come l) r r' t.lawful keep b m y k
                 | inr top ↦
-                    let e : length h ≡ b = omega arith in
-                    absurd (k.unpaired i0 (let l0 : i0 < length h = found.2.live.before in omega arith) (subst (λ (m : ℕ). Pairs r' i0 m) e (Contains-push r (i0, length h))))
+                    let e : b ≡ length h = omega arith in
+                    absurd (k.unpaired i0 (let l0 : i0 < length h = found.2.live.before in omega arith) (rw e (Contains-push r (i0, length h))))
               ])));
         }

@@ -1,10 +1,6 @@
 -- A lawful pairing, cut to a beginning of its history, is lawful there.
 use Rattle.std.proofs.Common.{◌≡◌, ℕ, zero, suc, ◌+◌, ◌<◌, ◌≤◌, List, [], ◌∷◌, ◌++◌, length, Some, arith, true, length-append, slice_get, max, nat_lt, ◌&&◌}
-use Rattle.std.proofs.lemmas.Bool.Decides.{nat_tests}
-use Rattle.ulfm_base.specs.declared.pattern.Pattern.{Pattern}
-use Rattle.ulfm_base.specs.declared.envelope.Letter.{Letter}
-use Rattle.ulfm_match.specs.History.{Event, Post, Come, StandsBetween, IsLiveReceive, IsLiveLetter}
-use Rattle.ulfm_match.specs.Pairing.{Pairing, Pairs, pairs_below, LawfulPairing}
+use Rattle.ulfm_match.proofs.Common.{Pattern, Letter, Event, Post, Come, StandsBetween, IsLiveReceive, IsLiveLetter, Pairing, Pairs, pairs_below, LawfulPairing, nat_tests}
 use Rattle.ulfm_match.proofs.Members.{Contains-filter, filter-Contains}
 
 module _ {X : Type 0} where

@@ -1,12 +1,6 @@
 -- A post and an arrival have one answer.
-use Rattle.std.proofs.Common.{◌≡◌, ℕ, inl, inr, List, [], ◌∷◌, ◌++◌, length, refl, ap, sym, ◌∙◌, subst, arith, Option, Some, None, MatchOption}
-use Rattle.std.proofs.lemmas.List.Elements.{Contains-push}
-use Rattle.ulfm_base.specs.declared.pattern.Pattern.{Pattern}
-use Rattle.ulfm_base.specs.declared.envelope.Letter.{Letter}
-use Rattle.ulfm_match.specs.History.{Event, Post, Come, ComeAt, count_before}
-use Rattle.ulfm_match.specs.Pairing.{Pairing, LawfulPairing}
-use Rattle.ulfm_match.specs.State.{Matching, Tracks}
-use Rattle.ulfm_match.specs.Calls.{PostGets, ArrivalGoesTo}
+use Rattle.std.proofs.Common.{◌≡◌, ℕ, inl, inr, List, [], ◌∷◌, ◌++◌, length, refl, ap, sym, ◌∙◌, arith, Option, Some, None, MatchOption}
+use Rattle.ulfm_match.proofs.Common.{Pattern, Letter, Event, Post, Come, count_before, Pairing, LawfulPairing, Matching, Tracks, Contains-push, PostGets, ArrivalGoesTo}
 use Rattle.ulfm_match.proofs.Extend.{receive_within, letter_within}
 use Rattle.ulfm_match.proofs.Steps.{pair_cases}
 use Rattle.ulfm_match.proofs.Unique.{one_pairing, same_letter}
@@ -31,7 +25,7 @@ module _ (h : List Event) (r : Pairing) (law : LawfulPairing h r) (p : Pattern) 
       let q = one_pairing (h ++ Post p ∷ []) (r ++ (length h, t.place) ∷ []) (r ++ (length h, t'.place) ∷ []) t.tracks.lawful t'.tracks.lawful (length h) t.place (Contains-push r (length h, t.place)) in
       elim (pair_cases r (length h) t'.place (length h) t.place q) [
         | inl old ↦ absurd (let w = receive_within h r law (length h) t.place old in omega arith)
-        | inr e ↦ ap Some (same_letter h t.place l k t.came (subst (λ b. ComeAt h b k) (sym e.1) t'.came))
+        | inr e ↦ ap Some (same_letter h t.place l k t.came (rw e.1 t'.came))
       ]
 
 abbrev Arrives : List Event → Pairing → Letter → Matching → Option ℕ → Type 0

@@ -1,16 +1,9 @@
 -- A receive ends, or a context is cleared: an event that makes no pair.
-use Rattle.std.proofs.Common.{◌≡◌, ◌≢◌, ℕ, ◌+◌, ◌<◌, inl, List, [], ◌∷◌, ◌++◌, length, refl, ap, sym, ◌∙◌, subst, Some, arith, Contains, filter, not, ◌==◌, Bool, true, false, ◌↔◌}
-use Rattle.std.proofs.lemmas.Bool.Decides.{nat_tests}
-use Rattle.std.proofs.lemmas.Option.{slice_get_within}
-use Rattle.ulfm_base.specs.declared.pattern.Pattern.{Pattern}
-use Rattle.ulfm_base.specs.declared.envelope.Letter.{Letter}
-use Rattle.ulfm_match.specs.History.{Event, Post, Come, End, Clear, PostAt, ComeAt, IsWellFormed, counts_as, count_before}
-use Rattle.ulfm_match.specs.Pairing.{Pairing, IsWaiting, IsKept, LawfulPairing}
-use Rattle.ulfm_match.specs.State.{Matching, is_cleared, IsAscending, IsUncleared, Tracks}
+use Rattle.std.proofs.Common.{◌≡◌, ◌≢◌, ℕ, ◌+◌, ◌<◌, inl, List, [], ◌∷◌, ◌++◌, length, refl, ap, sym, ◌∙◌, Some, arith, Contains, filter, not, ◌==◌, Bool, true, false, ◌↔◌}
+use Rattle.ulfm_match.proofs.Common.{Pattern, Letter, Event, Post, Come, End, Clear, PostAt, ComeAt, IsWellFormed, counts_as, count_before, Pairing, IsWaiting, IsKept, LawfulPairing, Matching, is_cleared, IsAscending, IsUncleared, Tracks, nat_tests, slice_get_within}
 use Rattle.ulfm_match.proofs.Histories.{below_last, get_new, same_number}
-use Rattle.ulfm_match.proofs.Taking.{TakesFirst}
 use Rattle.ulfm_match.proofs.Members.{Contains-filter, filter-Contains}
-use Rattle.ulfm_match.proofs.Ascending.{ascending_filter, ascending_without, left_to, left_back}
+use Rattle.ulfm_match.proofs.Ascending.{ascending_filter}
 use Rattle.ulfm_match.proofs.Lists.{lists_sub}
 use Rattle.ulfm_match.proofs.Extend.{none_missed_below, extend}
 use Rattle.ulfm_match.proofs.Steps.{history_more, cleared_same, cleared_also, tracks, waiting_to, waiting_back, kept_to, kept_back, waiting_number, kept_number}
@@ -40,12 +33,12 @@ module _ (h : List Event) (r : Pairing) (s : Matching) (x : Event) (t : Tracks h
   light_step W K s' wf em ec aw w_to w_back ak k_to k_back stays stays_back keeps keeps_back =
       tracks h x r s' wf light_lawful em
       (let c = t.remains.count in omega arith)
-      (lists_sub h (h ++ x ∷ []) (λ i q. IsWaiting h r i q (length h)) (λ i q. IsWaiting (h ++ x ∷ []) r i q (length h + 1)) s.waiting t.remains.waiting
-      (waiting_number h x r) s'.waiting W aw w_to w_back
+      (lists_sub t.remains.waiting
+      (waiting_number h x r) W aw w_to w_back
       (λ i q w y. let n = stays i q w y in waiting_to h x r r t.lawful (λ i b q. q) i q n.0 n.1 (λ b q. q) w)
       (λ i q w. let w' = waiting_back h x r r t.lawful (λ i b q. q) i q (no_post i q w.live.posted) w in (w', stays_back i q w' w)))
-      (lists_sub h (h ++ x ∷ []) (λ b l. IsKept h r b l (length h)) (λ b l. IsKept (h ++ x ∷ []) r b l (length h + 1)) s.kept t.remains.kept
-      (kept_number h x r) s'.kept K ak k_to k_back
+      (lists_sub t.remains.kept
+      (kept_number h x r) K ak k_to k_back
       (λ b l k y. kept_to h x r r t.lawful (λ i b q. q) b l (keeps b l k y) (λ i q. q) k)
       (λ b l k. let k' = kept_back h x r r t.lawful (λ i b q. q) b l (no_letter b l k.live.came) k in (k', keeps_back b l k' k)))
 
@@ -56,12 +49,12 @@ module _ (h : List Event) (r : Pairing) (s : Matching) (t : Tracks h r s) where
     end_step s' em ec aw to back ek =
         let l0 : i0 < length h = slice_get_within h i0 (Post p0) posted in
         light_step h r s (End i0) t refl (λ y. y.0 ≢ count_before h i0) (λ y. Unit {0}) s'
-        (history_more h (End i0) t.well_formed (λ i e. let q : i0 ≡ i = cc in (p0, omega arith, subst (λ (k : ℕ). PostAt h k p0) q posted)) (λ q e. cc) (λ q e. cc))
+        (history_more h (End i0) t.well_formed (λ i e. let q : i0 ≡ i = cc in (p0, omega arith, rw (sym q) posted)) (λ q e. cc) (λ q e. cc))
         (cleared_same h (End i0) s s' t.remains.cleared em (λ c e. cc))
         ec aw to back
-        (subst (λ (xs : List (ℕ × Letter)). IsAscending xs) (sym ek) t.remains.kept.ascending)
-        (λ y c. (subst (λ (xs : List (ℕ × Letter)). Contains xs y) ek c, tt))
-        (λ y c u. subst (λ (xs : List (ℕ × Letter)). Contains xs y) (sym ek) c)
+        (rw ek t.remains.kept.ascending)
+        (λ y c. (rw (sym ek) c, tt))
+        (λ y c u. rw ek c)
         (λ i p w n. (λ e. let q : i0 ≡ i = cc in n (ap (count_before h) (sym q)), λ e. cc))
         (λ i p w w' e.
         let q : i ≡ i0 = same_number h i i0 (Post p) (Post p0) w.live.posted refl posted refl e in
@@ -86,20 +79,9 @@ module _ (h : List Event) (r : Pairing) (s : Matching) (t : Tracks h r s) where
 
 module _ (h : List Event) (r : Pairing) (s : Matching) (t : Tracks h r s) where
   -- the receive at i0 was waiting, and is taken out
-  pub end_taken : (i0 : ℕ) (p0 : Pattern) → PostAt h i0 p0 → (id : ℕ) → count_before h i0 ≡ id → (w' : List (ℕ × Pattern)) (z : ℕ × Pattern) → TakesFirst (λ (y : ℕ × Pattern). y.0 ≡ id) s.waiting w' z → (s' : Matching) → s'.cleared ≡ s.cleared → s'.count ≡ s.count → s'.waiting ≡ w' → s'.kept ≡ s.kept → Tracks (h ++ End i0 ∷ []) r s'
-  end_taken i0 p0 posted id n w' z taken s' em ec ew ek =
-      let asc : IsAscending (taken.front ++ z ∷ taken.back) = subst (λ (xs : List (ℕ × Pattern)). IsAscending xs) taken.old_is t.remains.waiting.ascending in
-      let e : s'.waiting ≡ taken.front ++ taken.back = ew ∙ taken.new_is in
-      let same : z.0 ≡ count_before h i0 = taken.passes ∙ sym n in
-      end_step h r s t i0 p0 posted s' em ec
-      (subst (λ (xs : List (ℕ × Pattern)). IsAscending xs) (sym e) (ascending_without taken.front taken.back z asc))
-      (λ y c.
-      let l = left_to taken.front taken.back z asc y (subst (λ (xs : List (ℕ × Pattern)). Contains xs y) e c) in
-      (subst (λ (xs : List (ℕ × Pattern)). Contains xs y) (sym taken.old_is) l.0, λ q. l.1 (q ∙ sym same)))
-      (λ y c ne.
-      subst (λ (xs : List (ℕ × Pattern)). Contains xs y) (sym e)
-      (left_back taken.front taken.back z asc y (subst (λ (xs : List (ℕ × Pattern)). Contains xs y) taken.old_is c) (λ q. ne (q ∙ same))))
-      ek
+  pub end_taken : (i0 : ℕ) (p0 : Pattern) → PostAt h i0 p0 → (id : ℕ) → count_before h i0 ≡ id → (s' : Matching) → s'.cleared ≡ s.cleared → s'.count ≡ s.count → IsAscending s'.waiting → ((y : ℕ × Pattern) → Contains s'.waiting y → Contains s.waiting y × (y.0 ≢ id)) → ((y : ℕ × Pattern) → Contains s.waiting y → y.0 ≢ id → Contains s'.waiting y) → s'.kept ≡ s.kept → Tracks (h ++ End i0 ∷ []) r s'
+  end_taken i0 p0 posted id n s' em ec asc to back ek =
+      end_step h r s t i0 p0 posted s' em ec asc (λ y c. let x = to y c in (x.0, λ q. x.1 (q ∙ n))) (λ y c ne. back y c (λ q. ne (q ∙ sym n))) ek
 
   -- the receive at i0 wasn't waiting
   pub end_idle : (i0 : ℕ) (p0 : Pattern) → PostAt h i0 p0 → (id : ℕ) → count_before h i0 ≡ id → ((y : ℕ × Pattern) → Contains s.waiting y → y.0 ≡ id → ⊥) → Tracks (h ++ End i0 ∷ []) r s
@@ -118,9 +100,9 @@ clear_filtered h r s t c s' em others ec ew ek =
     let W : ℕ × Pattern → Bool = λ y. not (y.1.context.number == c) in
     let K : ℕ × Letter → Bool = λ y. not (y.1.envelope.context.number == c) in
     clear_step h r s t c s' em others ec
-    (subst (λ (xs : List (ℕ × Pattern)). IsAscending xs) (sym ew) (ascending_filter W s.waiting t.remains.waiting.ascending))
-    (λ y d. let f = Contains-filter W s.waiting y (subst (λ (xs : List (ℕ × Pattern)). Contains xs y) ew d) in (f.0, other_context y.1.context.number c f.1))
-    (λ y d n. subst (λ (xs : List (ℕ × Pattern)). Contains xs y) (sym ew) (filter-Contains W s.waiting y d (passes_context y.1.context.number c n)))
-    (subst (λ (xs : List (ℕ × Letter)). IsAscending xs) (sym ek) (ascending_filter K s.kept t.remains.kept.ascending))
-    (λ y d. let f = Contains-filter K s.kept y (subst (λ (xs : List (ℕ × Letter)). Contains xs y) ek d) in (f.0, other_context y.1.envelope.context.number c f.1))
-    (λ y d n. subst (λ (xs : List (ℕ × Letter)). Contains xs y) (sym ek) (filter-Contains K s.kept y d (passes_context y.1.envelope.context.number c n)))
+    (rw ew (ascending_filter W s.waiting t.remains.waiting.ascending))
+    (λ y d. let f = Contains-filter W s.waiting y (rw (sym ew) d) in (f.0, other_context y.1.context.number c f.1))
+    (λ y d n. rw ew (filter-Contains W s.waiting y d (passes_context y.1.context.number c n)))
+    (rw ek (ascending_filter K s.kept t.remains.kept.ascending))
+    (λ y d. let f = Contains-filter K s.kept y (rw (sym ek) d) in (f.0, other_context y.1.envelope.context.number c f.1))
+    (λ y d n. rw ek (filter-Contains K s.kept y d (passes_context y.1.envelope.context.number c n)))

@@ -1,18 +1,12 @@
 -- Several receives end.
-use Rattle.std.proofs.Common.{◌≡◌, ◌≢◌, ℕ, inl, inr, Bool, true, false, List, [], ◌∷◌, ◌++◌, length, refl, ap, sym, ◌∙◌, subst, arith, append-nil, append_assoc, Contains, filter, not, ◌==◌}
-use Rattle.std.proofs.lemmas.Option.{slice_get_within}
-use Rattle.ulfm_base.specs.declared.pattern.Pattern.{Pattern}
-use Rattle.ulfm_match.specs.History.{Event, Post, End, PostAt, count_before}
-use Rattle.ulfm_match.specs.Pairing.{Pairing, IsWaiting, IsKept}
-use Rattle.ulfm_match.specs.State.{Matching, IsAscending, Lists, Tracks}
+use Rattle.std.proofs.Common.{◌≡◌, ◌≢◌, ℕ, inl, inr, Bool, true, false, List, [], ◌∷◌, ◌++◌, refl, ap, sym, ◌∙◌, subst, arith, append-nil, append_assoc, Contains, filter, not, ◌==◌}
+use Rattle.ulfm_match.proofs.Common.{Pattern, names, Event, Post, End, PostAt, count_before, Pairing, Matching, IsAscending, Tracks, EndsNamed, slice_get_within}
 use Rattle.ulfm_match.proofs.Decide.{Contains-head, Contains-tail, Contains-cons_cases, Contains-none}
 use Rattle.ulfm_match.proofs.Histories.{get_old, count_old, same_number}
 use Rattle.ulfm_match.proofs.Members.{Contains-filter, filter-Contains}
 use Rattle.ulfm_match.proofs.Ascending.{ascending_filter}
 use Rattle.ulfm_match.proofs.Lists.{lists_sub}
 use Rattle.ulfm_match.proofs.EndSteps.{end_step, other_context, passes_context}
-use Rattle.ulfm_base.specs.Pattern.{names}
-use Rattle.ulfm_match.specs.Calls.{EndsNamed}
 use Rattle.ulfm_match.proofs.Unique.{same_pattern}
 
 -- each of the events ends a receive of the history
@@ -29,14 +23,14 @@ pub ends_tracks : (es h : List Event) (r : Pairing) (s s' : Matching) → Tracks
     → ((y : ℕ × Pattern) → Contains s.waiting y → IsSpared h es y.0 → Contains s'.waiting y)
     → Tracks (h ++ es) r s'
 ends_tracks [] h r s s' t ends em ec ek asc to back =
-    subst (λ g. Tracks g r s') (sym (append-nil h)) (record {
+    rw (append-nil h) (record {
       well_formed = t.well_formed;
       lawful = t.lawful;
       remains = record {
         count = ec ∙ t.remains.count;
-        waiting = lists_sub h h (λ i p. IsWaiting h r i p (length h)) (λ i p. IsWaiting h r i p (length h)) s.waiting t.remains.waiting (λ i p w. refl) s'.waiting (λ y. Unit {0}) asc
+        waiting = lists_sub t.remains.waiting (λ i p w. refl) (λ y. Unit {0}) asc
             (λ y c. ((to y c).0, tt)) (λ y c u. back y c (λ i e. absurd (Contains-none (End i) e))) (λ i p w u. w) (λ i p w. (w, tt));
-        kept = subst (Lists h (λ b l. IsKept h r b l (length h))) (sym ek) t.remains.kept;
+        kept = rw ek t.remains.kept;
         cleared = rw em t.remains.cleared;
       };
     })
@@ -54,13 +48,13 @@ ends_tracks (x ∷ es) h r s s' t ends em ec ek asc to back =
     let num : (j : ℕ) (q : Pattern) → PostAt h j q → count_before h1 j ≡ count_before h j = λ j q at. let l = slice_get_within h j (Post q) at in count_old h (End i) j (omega arith) in
     let long = append_assoc h (End i ∷ []) es ∙ ap (λ e. h ++ e ∷ es) (sym first.2) in
     let at : (j : ℕ) → Contains es (End j) → count_before h1 j ≡ count_before h j = λ j c. let e = ends (End j) (Contains-tail x es (End j) c) in let f : j ≡ e.0 = (let g = e.2 in cc) in num j e.1 (subst (λ k. PostAt h k e.1) (sym f) e.3) in
-    subst (λ g. Tracks g r s') long
+    rw (sym long)
     (ends_tracks es h1 r s1 s' t1
     (λ y c. let e = ends y (Contains-tail x es y c) in (e.0, e.1, e.2, get_old h (End i) e.0 (Post e.1) e.3))
     em ec ek asc
     (λ y c.
     let f = to y c in (
-      filter-Contains (λ (y : ℕ × Pattern). not (y.0 == count_before h i)) s.waiting y f.0 (passes_context y.0 (count_before h i) (f.1 i (subst (Contains (x ∷ es)) first.2 (Contains-head x es)))),
+      filter-Contains (λ (y : ℕ × Pattern). not (y.0 == count_before h i)) s.waiting y f.0 (passes_context y.0 (count_before h i) (f.1 i (rw (sym first.2) (Contains-head x es)))),
       λ j e n. f.1 j (Contains-tail x es (End j) e) (n ∙ at j e),
     ))
     (λ y c sp.
@@ -92,19 +86,19 @@ pub named_filtered : (n : ℕ) (h : List Event) (r : Pairing) (es : List Event) 
 named_filtered n h r es s s' ends t em ec ek ew =
     let W : ℕ × Pattern → Bool = λ y. not (names y.1.source n) in
     ends_tracks es h r s s' t (λ x c. let e = ends.sound x c in (e.0, e.1, e.2, e.3)) em ec ek
-    (subst IsAscending (sym ew) (ascending_filter W s.waiting t.remains.waiting.ascending))
+    (rw ew (ascending_filter W s.waiting t.remains.waiting.ascending))
     (λ y c.
-    let f = Contains-filter W s.waiting y (subst (λ xs. Contains xs y) ew c) in (
+    let f = Contains-filter W s.waiting y (rw (sym ew) c) in (
       f.0,
       λ i e num.
           let at = t.remains.waiting.sound y.0 y.1 f.0 in
           let x = ends.sound (End i) e in
           let ei : i ≡ x.0 = (let g = x.2 in cc) in
           let same = same_number h at.0 x.0 (Post y.1) (Post x.1) at.2.live.posted refl x.3 refl (at.1 ∙ (num ∙ ap (count_before h) ei)) in
-          let pat = same_pattern h x.0 y.1 x.1 (subst (λ k. PostAt h k y.1) same at.2.live.posted) x.3 in
-          not_named (names y.1.source n) f.1 (subst (λ (p : Pattern). names p.source n ≡ true) (sym pat) x.4),
+          let pat = same_pattern h x.0 y.1 x.1 (rw (sym same) at.2.live.posted) x.3 in
+          not_named (names y.1.source n) f.1 (rw pat x.4),
     ))
     (λ y c sp.
     let at = t.remains.waiting.sound y.0 y.1 c in
-    subst (λ xs. Contains xs y) (sym ew)
+    rw ew
     (filter-Contains W s.waiting y c (unnamed (names y.1.source n) (λ e. sp at.0 (ends.complete at.0 y.1 at.2.live.posted e) (sym at.1)))))

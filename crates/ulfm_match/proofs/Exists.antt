@@ -1,25 +1,18 @@
 -- Each history that can happen has a lawful pairing.
 use Rattle.std.proofs.Common.{◌≡◌, ℕ, zero, suc, ◌+◌, inl, inr, Bool, true, false, List, [], ◌∷◌, ◌++◌, length, refl, sym, subst, append-nil, append_assoc, filter, not, get_or, set, replicate, ◌==◌, ◌∙◌, arith, length-append}
 use Rattle.std.proofs.lemmas.List.{length-replicate, get_or-set_same, get_or-set_other}
-use Rattle.ulfm_base.proofs.Places.{get_or-blank}
-use Rattle.std.proofs.lemmas.Option.{slice_get_within}
-use Rattle.ulfm_base.specs.declared.pattern.Pattern.{Pattern}
-use Rattle.ulfm_base.specs.declared.envelope.Letter.{Letter}
-use Rattle.ulfm_base.specs.Pattern.{Admits}
-use Rattle.ulfm_match.specs.History.{Event, Post, Come, End, Clear, PostAt, IsWellFormed, count_before}
-use Rattle.ulfm_match.specs.Pairing.{Pairing, LawfulPairing}
-use Rattle.ulfm_match.specs.State.{Matching, is_cleared, Tracks, IsUncleared}
+use Rattle.ulfm_match.proofs.Common.{Pattern, Admits, Letter, Event, Post, Come, End, Clear, PostAt, IsWellFormed, count_before, Pairing, LawfulPairing, Matching, is_cleared, Tracks, IsUncleared, slice_get_within, get_or-blank}
 use Rattle.ulfm_match.proofs.ArriveKeeps.{arrive_keeps}
 use Rattle.ulfm_match.proofs.ArriveTakes.{arrive_takes}
 use Rattle.ulfm_match.proofs.Ascending.{ascending_filter}
 use Rattle.ulfm_match.proofs.Cut.{get_front, get_in_front}
 use Rattle.ulfm_match.proofs.Decide.{Contains-none}
 use Rattle.ulfm_match.proofs.EndSteps.{end_step, clear_filtered, other_context, passes_context}
-use Rattle.ulfm_match.proofs.Least.{first_is_least}
+use Rattle.ulfm_match.proofs.Least.{take_least}
 use Rattle.ulfm_match.proofs.Members.{Contains-filter, filter-Contains}
 use Rattle.ulfm_match.proofs.PostTakes.{post_takes}
 use Rattle.ulfm_match.proofs.PostWaits.{post_waits}
-use Rattle.ulfm_match.proofs.Admitted.{admits_either, take_first}
+use Rattle.ulfm_match.proofs.Admitted.{admits_either}
 use Rattle.ulfm_match.proofs.Histories.{get_here}
 
 -- a history with a lawful pairing and its remains
@@ -42,9 +35,9 @@ module _ (h : List Event) (t : IsPaired h) where
   paired-post p open' =
       let s = t.state in
       let P : ℕ × Letter → Type 0 = λ y. Admits p y.1.envelope in
-      elim (take_first P (λ y. admits_either p y.1.envelope) s.kept) [
+      elim (take_least P (λ y. admits_either p y.1.envelope) s.kept t.tracks.remains.kept.ascending) [
         | inl f ↦
-            let k = post_takes h t.pairing s p t.tracks open' f.0 f.1 (first_is_least P s.kept f.0 f.1 t.tracks.remains.kept.ascending f.2) (a_state s.waiting f.0 (s.count + 1) s.cleared) refl refl refl refl in
+            let k = post_takes h t.pairing s p t.tracks open' f.0 f.1 f.2 (a_state s.waiting f.0 (s.count + 1) s.cleared) refl refl refl refl in
             record { pairing = t.pairing ++ (length h, k.place) ∷ []; state = a_state s.waiting f.0 (s.count + 1) s.cleared; tracks = k.tracks }
         | inr none ↦ record {
           pairing = t.pairing;
@@ -57,9 +50,9 @@ module _ (h : List Event) (t : IsPaired h) where
   paired-come l open' =
       let s = t.state in
       let P : ℕ × Pattern → Type 0 = λ y. Admits y.1 l.envelope in
-      elim (take_first P (λ y. admits_either y.1 l.envelope) s.waiting) [
+      elim (take_least P (λ y. admits_either y.1 l.envelope) s.waiting t.tracks.remains.waiting.ascending) [
         | inl f ↦
-            let k = arrive_takes h t.pairing s l t.tracks open' f.0 f.1 (first_is_least P s.waiting f.0 f.1 t.tracks.remains.waiting.ascending f.2) (a_state f.0 s.kept (s.count + 1) s.cleared) refl refl refl refl in
+            let k = arrive_takes h t.pairing s l t.tracks open' f.0 f.1 f.2 (a_state f.0 s.kept (s.count + 1) s.cleared) refl refl refl refl in
             record { pairing = t.pairing ++ (k.place, length h) ∷ []; state = a_state f.0 s.kept (s.count + 1) s.cleared; tracks = k.tracks }
         | inr none ↦ record {
           pairing = t.pairing;

@@ -1,11 +1,6 @@
 -- A history longer by one event, with one new pair at most, has a lawful pairing.
 use Rattle.std.proofs.Common.{◌≡◌, ℕ, ◌+◌, ◌<◌, ◌≤◌, ◌⊎◌, inl, inr, List, [], ◌∷◌, ◌++◌, length, sym, ◌∙◌, subst, arith, max}
-use Rattle.std.proofs.lemmas.Option.{slice_get_within}
-use Rattle.ulfm_base.specs.declared.pattern.Pattern.{Pattern}
-use Rattle.ulfm_base.specs.declared.envelope.Letter.{Letter}
-use Rattle.ulfm_base.specs.Pattern.{Admits}
-use Rattle.ulfm_match.specs.History.{Event, Post, Come, End, PostAt, ComeAt, StandsBetween}
-use Rattle.ulfm_match.specs.Pairing.{Pairing, Pairs, IsWaiting, IsKept, IsMatch, LawfulPairing}
+use Rattle.ulfm_match.proofs.Common.{Pattern, Admits, Letter, Event, Post, Come, End, PostAt, ComeAt, StandsBetween, Pairing, Pairs, IsWaiting, IsKept, IsMatch, LawfulPairing, slice_get_within}
 use Rattle.ulfm_match.proofs.Decide.{lt_or_ge}
 use Rattle.ulfm_match.proofs.Histories.{get_below, length_more, stands_old, receive_old, receive_back, receive_less, letter_old, letter_back, letter_less}
 

@@ -1,9 +1,6 @@
 -- A history longer by one event: what is at each place, what is live, and the numbers.
 use Rattle.std.proofs.Common.{◌≡◌, ◌≢◌, ℕ, zero, suc, ◌+◌, ◌<◌, ◌≤◌, ◌⊎◌, inl, inr, List, [], ◌∷◌, ◌++◌, length, refl, ap, ◌∙◌, Some, arith, length-append, slice_get}
-use Rattle.std.proofs.lemmas.Option.{slice_get_within}
-use Rattle.ulfm_base.specs.declared.pattern.Pattern.{Pattern}
-use Rattle.ulfm_base.specs.declared.envelope.Letter.{Letter}
-use Rattle.ulfm_match.specs.History.{Event, Post, Come, End, Clear, StandsBetween, IsLiveReceive, IsLiveLetter, counts_as, count_before}
+use Rattle.ulfm_match.proofs.Common.{Pattern, Letter, Event, Post, Come, End, Clear, StandsBetween, IsLiveReceive, IsLiveLetter, counts_as, count_before, slice_get_within}
 use Rattle.ulfm_match.proofs.Decide.{compared}
 
 module _ {X : Type 0} where

@@ -1,10 +1,10 @@
 -- The entry of the least number that passes.
-use Rattle.std.proofs.Common.{◌≢◌, ℕ, ◌≤◌, inl, inr, List, ◌∷◌, ◌++◌, sym, subst, Contains}
-use Rattle.std.proofs.lemmas.List.Elements.{Contains-append_right}
-use Rattle.ulfm_match.specs.State.{IsAscending}
-use Rattle.ulfm_match.proofs.Decide.{lt_or_ge, Contains-head}
-use Rattle.ulfm_match.proofs.Taking.{TakesFirst}
-use Rattle.ulfm_match.proofs.Ascending.{ascending_without, left_to, left_back, left_below}
+use Rattle.std.proofs.Common.{◌≡◌, ◌≢◌, ℕ, ◌<◌, ◌≤◌, ◌⊎◌, inl, inr, List, [], ◌∷◌, ap, sym, subst, arith, Contains, filter, not, ◌==◌, Bool}
+use Rattle.ulfm_match.proofs.Common.{IsAscending}
+use Rattle.ulfm_match.proofs.Decide.{Either, Contains-none, Contains-cons_cases, Contains-head, Contains-tail}
+use Rattle.ulfm_match.proofs.EndSteps.{other_context, passes_context}
+use Rattle.ulfm_match.proofs.Members.{all_of, Contains-filter, filter-Contains}
+use Rattle.ulfm_match.proofs.Ascending.{ascending_filter}
 
 -- z was taken out, the one of the least number of which P holds: what a matcher owes, however it keeps its entries
 pub record TakesLeast {X : Type 0} (P : ℕ × X → Type 0) (old new : List (ℕ × X)) (z : ℕ × X) : Type 0 where
@@ -15,21 +15,41 @@ pub record TakesLeast {X : Type 0} (P : ℕ × X → Type 0) (old new : List (�
   pub left_to : (y : ℕ × X) → Contains new y → Contains old y × (y.0 ≢ z.0)
   pub left_back : (y : ℕ × X) → Contains old y → y.0 ≢ z.0 → Contains new y
 
--- in a list by rising numbers the first is the least
-pub first_is_least : {X : Type 0} (P : ℕ × X → Type 0) (old new : List (ℕ × X)) (z : ℕ × X) → IsAscending old → TakesFirst P old new z → TakesLeast P old new z
-first_is_least {X} P old new z a taken =
-    let asc : IsAscending (taken.front ++ z ∷ taken.back) = subst IsAscending taken.old_is a in
-    record {
-      there = subst (λ xs. Contains xs z) (sym taken.old_is) (Contains-append_right taken.front (z ∷ taken.back) z (Contains-head z taken.back));
-      passes = taken.passes;
-      least = λ y c p.
-          elim (lt_or_ge y.0 z.0) [
-            | inl l ↦ absurd (taken.first y (left_below taken.front taken.back z asc y (subst (λ xs. Contains xs y) taken.old_is c) l) p)
-            | inr g ↦ g
-          ];
-      ascending = subst IsAscending (sym taken.new_is) (ascending_without taken.front taken.back z asc);
-      left_to = λ y c.
-          let l = left_to taken.front taken.back z asc y (subst (λ xs. Contains xs y) taken.new_is c) in
-          (subst (λ xs. Contains xs y) (sym taken.old_is) l.0, l.1);
-      left_back = λ y c n. subst (λ xs. Contains xs y) (sym taken.new_is) (left_back taken.front taken.back z asc y (subst (λ xs. Contains xs y) taken.old_is c) n);
-    }
+module _ {X : Type 0} (P : ℕ × X → Type 0) (d : (y : ℕ × X) → Either (P y)) where
+  least_of : (xs : List (ℕ × X)) → IsAscending xs → ((z : ℕ × X) × Contains xs z × P z × ((y : ℕ × X) → Contains xs y → P y → z.0 ≤ y.0)) ⊎ ((y : ℕ × X) → Contains xs y → P y → ⊥)
+  least_of [] a = inr (λ y c p. Contains-none y c)
+  least_of (x ∷ xs) a = elim (d x) [
+    | inl p ↦ inl (
+      x,
+      Contains-head x xs,
+      p,
+      λ y c q. elim (Contains-cons_cases x xs y c) [
+        | inl e ↦ (let n : x.0 ≡ y.0 = ap (λ (w : ℕ × X). w.0) e in omega (arith, n))
+        | inr t ↦ (let l = all_of (λ (w : ℕ × X). x.0 < w.0) xs y a.0 t in omega (arith, l))
+      ],
+    )
+    | inr n ↦ elim (least_of xs a.1) [
+      | inl f ↦ inl (f.0, Contains-tail x xs f.0 f.1, f.2, λ y c q. elim (Contains-cons_cases x xs y c) [ inl e ↦ absurd (n (subst P (sym e) q)) | inr t ↦ f.3 y t q ])
+      | inr none ↦ inr (λ y c q. elim (Contains-cons_cases x xs y c) [ inl e ↦ n (subst P (sym e) q) | inr t ↦ none y t q ])
+    ]
+  ]
+
+  -- it can be taken out, or none passes
+  pub take_least : (xs : List (ℕ × X)) → IsAscending xs → ((ys : List (ℕ × X)) × (z : ℕ × X) × TakesLeast P xs ys z) ⊎ ((y : ℕ × X) → Contains xs y → P y → ⊥)
+  take_least xs a = elim (least_of xs a) [
+    | inr none ↦ inr none
+    | inl f ↦
+        let W : ℕ × X → Bool = λ y. not (y.0 == f.0.0) in
+        inl (
+          filter W xs,
+          f.0,
+          record {
+            there = f.1;
+            passes = f.2;
+            least = f.3;
+            ascending = ascending_filter W xs a;
+            left_to = λ y c. let k = Contains-filter W xs y c in (k.0, other_context y.0 f.0.0 k.1);
+            left_back = λ y c n. filter-Contains W xs y c (passes_context y.0 f.0.0 n);
+          },
+        )
+  ]

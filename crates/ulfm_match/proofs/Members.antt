@@ -2,7 +2,7 @@
 use Rattle.std.proofs.Common.{◌≡◌, inl, inr, List, [], ◌∷◌, refl, sym, subst, Bool, true, false, cond, Contains, filter}
 use Rattle.std.specs.List.{AllByRecursion}
 use Rattle.ulfm_match.proofs.Decide.{Contains-none, Contains-cons_cases, Contains-head, Contains-tail}
-use Rattle.ulfm_match.specs.State.{Keeps}
+use Rattle.ulfm_match.proofs.Common.{Keeps}
 
 module _ {X : Type 0} where
   pub all_of : (P : X → Type 0) (xs : List X) (x : X) → AllByRecursion P xs → Contains xs x → P x
@@ -17,7 +17,7 @@ module _ {X : Type 0} where
   kept_from : (test : X → Bool) (y : X) (rest zs : List X) (x : X) → (Contains rest x → Contains zs x × (test x ≡ true)) → (b : Bool) → test y ≡ b → Contains (cond b (y ∷ rest) rest) x → Contains (y ∷ zs) x × (test x ≡ true)
   kept_from test y rest zs x more true e h =
       elim (Contains-cons_cases y rest x h) [
-        | inl q ↦ (subst (Contains (y ∷ zs)) q (Contains-head y zs), subst (λ z. test z ≡ true) q e)
+        | inl q ↦ (rw (sym q) (Contains-head y zs), rw (sym q) e)
         | inr t ↦ let k = more t in (Contains-tail y zs x k.0, k.1)
       ]
   kept_from test y rest zs x more false e h = let k = more h in (Contains-tail y zs x k.0, k.1)
@@ -29,12 +29,12 @@ module _ {X : Type 0} where
   kept_to : (test : X → Bool) (y : X) (rest zs : List X) (x : X) → (Contains zs x → Contains rest x) → (b : Bool) → test y ≡ b → Contains (y ∷ zs) x → test x ≡ true → Contains (cond b (y ∷ rest) rest) x
   kept_to test y rest zs x more true e h t =
       elim (Contains-cons_cases y zs x h) [
-        | inl q ↦ subst (Contains (y ∷ rest)) q (Contains-head y rest)
+        | inl q ↦ rw (sym q) (Contains-head y rest)
         | inr k ↦ Contains-tail y rest x (more k)
       ]
   kept_to test y rest zs x more false e h t =
       elim (Contains-cons_cases y zs x h) [
-        | inl q ↦ let f : test x ≡ false = subst (λ z. test z ≡ false) q e in cc
+        | inl q ↦ let f : test x ≡ false = rw (sym q) e in cc
         | inr k ↦ more k
       ]
 

@@ -1,13 +1,6 @@
 -- A receive is posted, and gets a kept letter.
-use Rattle.std.proofs.Common.{◌≡◌, ◌≢◌, ℕ, ◌+◌, ◌<◌, inl, inr, List, [], ◌∷◌, ◌++◌, length, refl, ap, sym, ◌∙◌, subst, arith, max}
-use Rattle.std.proofs.lemmas.List.Elements.{Contains-push}
-use Rattle.ulfm_base.specs.declared.pattern.Pattern.{Pattern}
-use Rattle.ulfm_base.specs.declared.envelope.Letter.{Letter}
-use Rattle.ulfm_base.specs.Pattern.{Admits}
-use Rattle.ulfm_match.specs.History.{Event, Post, Come, End, PostAt, ComeAt, StandsBetween, IsLiveReceive, IsLiveLetter, count_before}
-use Rattle.ulfm_match.specs.Pairing.{Pairing, Pairs, IsWaiting, IsKept, LawfulPairing}
-use Rattle.ulfm_match.specs.State.{Matching, Lists, IsUncleared, Tracks}
-use Rattle.ulfm_match.specs.Calls.{PostGets}
+use Rattle.std.proofs.Common.{◌≡◌, ◌≢◌, ℕ, ◌+◌, ◌<◌, inl, inr, List, [], ◌∷◌, ◌++◌, length, refl, ap, sym, ◌∙◌, arith, max}
+use Rattle.ulfm_match.proofs.Common.{Pattern, Admits, Letter, Event, Post, Come, PostAt, ComeAt, count_before, Pairing, Pairs, IsKept, LawfulPairing, Matching, IsUncleared, Tracks, Contains-push, PostGets}
 use Rattle.ulfm_match.proofs.Decide.{lt_or_ge, compared}
 use Rattle.ulfm_match.proofs.Histories.{below_last, get_new, get_below, stands_old, letter_more, count_below, same_number}
 use Rattle.ulfm_match.proofs.Least.{TakesLeast}
@@ -32,15 +25,15 @@ module _ (h : List Event) (r : Pairing) (s : Matching) (p : Pattern) (t : Tracks
           match = record {
             pattern = p;
             letter = l;
-            receive_live = subst (λ (m : ℕ). IsLiveReceive (h ++ Post p ∷ []) (length h) p (m + 1)) (sym top) (record { posted = get_new h (Post p); before = omega arith; not_ended = stands_nowhere; not_cleared = stands_nowhere });
-            letter_live = subst (λ (m : ℕ). IsLiveLetter (h ++ Post p ∷ []) b l (m + 1)) (sym top) (letter_more h (Post p) (λ e. cc) k.live);
+            receive_live = rw top (record { posted = get_new h (Post p); before = omega arith; not_ended = stands_nowhere; not_cleared = stands_nowhere });
+            letter_live = rw top (letter_more h (Post p) (λ e. cc) k.live);
             admits = taken.passes;
           };
           free_receive = λ d q. let l = receive_within h r t.lawful (length h) d q in omega (arith, l);
           free_letter = λ j q. k.unpaired j (receive_within h r t.lawful j b q) q;
           earlier_letters = λ a q m posted below came adm.
               let e : p ≡ q = posted_here h p q (length h) refl posted in
-              let adm' : Admits p m.envelope = subst (λ (w : Pattern). Admits w m.envelope) (sym e) adm in
+              let adm' : Admits p m.envelope = rw e adm in
               let la : a < length h = omega arith in
               let came' : ComeAt h a m = get_below h (Post p) a (Come m) la came in
               elim (kept_or_paired h r p.context.number open' a m la came' adm'.context) [
@@ -53,13 +46,13 @@ module _ (h : List Event) (r : Pairing) (s : Matching) (p : Pattern) (t : Tracks
           earlier_receives = λ j q m came below posted lives adm.
               let came' : ComeAt h b m = get_below h (Post p) b (Come m) lb came in
               let same : l ≡ m = (let g = k.live.came in cc) in
-              let adm' : Admits q l.envelope = subst (λ (w : Letter). Admits q w.envelope) (sym same) adm in
+              let adm' : Admits q l.envelope = rw same adm in
               let posted' : PostAt h j q = get_below h (Post p) j (Post q) below posted in
-              elim (waits_or_paired h r p.context.number open' j q below posted' (λ s. lives (subst (λ (m : ℕ). StandsBetween (h ++ Post p ∷ []) (End j) j m) (sym top) (stands_old h (Post p) s))) (sym adm'.context ∙ taken.passes.context)) [
+              elim (waits_or_paired h r p.context.number open' j q below posted' (λ s. lives (rw top (stands_old h (Post p) s))) (sym adm'.context ∙ taken.passes.context)) [
                 | inl a ↦ elim (compared a.0 b) [
                   | inl y ↦ (a.0, y, a.2)
                   | inr o ↦ elim o [
-                    | inl e ↦ absurd (k.unpaired j below (subst (λ (w : ℕ). Pairs r j w) e a.2))
+                    | inl e ↦ absurd (k.unpaired j below (rw (sym e) a.2))
                     | inr y ↦
                         let i = t.lawful.earlier_letters j a.0 b q l a.2 posted' y k.live.came adm' in
                         absurd (k.unpaired i.0 (let li : i.0 < j = i.1 in omega arith) i.2)
@@ -76,7 +69,7 @@ module _ (h : List Event) (r : Pairing) (s : Matching) (p : Pattern) (t : Tracks
         extend h r t.lawful (Post p) r' (length h) b0 (pair_old r (length h) b0)
         (λ i b q. elim (pair_cases r (length h) b0 i b q) [
           | inl o ↦ inl o
-          | inr e ↦ inr (e.0, e.1, subst (λ (w : ℕ × ℕ). IsNew h (Post p) r w.0 w.1) (let same : ◌≡◌ {A = ℕ × ℕ} (length h, b0) (i, b) = (let a = e.0 in let c = e.1 in cc) in same) post_new)
+          | inr e ↦ inr (e.0, e.1, rw e.0 (rw e.1 post_new))
         ])
         (λ i b q l w k adm.
         let li : i < length h + 1 = w.live.before in
@@ -84,8 +77,8 @@ module _ (h : List Event) (r : Pairing) (s : Matching) (p : Pattern) (t : Tracks
         elim (lt_or_ge i (length h)) [
           | inl low ↦ none_missed_below h r t.lawful (Post p) r' (pair_old r (length h) b0) i b q l low lb w k adm
           | inr top ↦
-              let e : length h ≡ i = omega arith in
-              w.unpaired b0 (let l0 : b0 < length h = found.2.live.before in omega arith) (subst (λ (m : ℕ). Pairs r' m b0) e (Contains-push r (length h, b0)))
+              let e : i ≡ length h = omega arith in
+              w.unpaired b0 (let l0 : b0 < length h = found.2.live.before in omega arith) (rw e (Contains-push r (length h, b0)))
         ])
 
     pub post_takes : (s' : Matching) → s'.count ≡ s.count + 1 → s'.waiting ≡ s.waiting → s'.kept ≡ kept' → s'.cleared ≡ s.cleared → PostGets h r p z.1 s'
@@ -99,8 +92,8 @@ module _ (h : List Event) (r : Pairing) (s : Matching) (p : Pattern) (t : Tracks
           tracks = tracks h (Post p) r' s' (posted_more h p t.well_formed open') post_pairs
               (cleared_same h (Post p) s s' t.remains.cleared em (λ c e. cc))
               (ec ∙ ap (λ n. n + 1) t.remains.count)
-              (subst (λ (xs : List (ℕ × Pattern)). Lists (h ++ Post p ∷ []) (λ i q. IsWaiting (h ++ Post p ∷ []) r' i q (length h + 1)) xs) (sym ew)
-              (lists_same h (h ++ Post p ∷ []) (λ i q. IsWaiting h r i q (length h)) (λ i q. IsWaiting (h ++ Post p ∷ []) r' i q (length h + 1)) s.waiting t.remains.waiting
+              (rw ew
+              (lists_same t.remains.waiting
               (waiting_number h (Post p) r)
               (λ i q w. waiting_to h (Post p) r r' t.lawful keep i q (λ e. cc) (λ e. cc) (λ b. low i b w.live.before) w)
               (λ i q w.
@@ -108,13 +101,13 @@ module _ (h : List Event) (r : Pairing) (s : Matching) (p : Pattern) (t : Tracks
               elim (lt_or_ge i (length h)) [
                 | inl l ↦ waiting_back h (Post p) r r' t.lawful keep i q l w
                 | inr top ↦
-                    let e : length h ≡ i = omega arith in
-                    absurd (w.unpaired b0 (let l0 : b0 < length h = found.2.live.before in omega arith) (subst (λ (m : ℕ). Pairs r' m b0) e (Contains-push r (length h, b0))))
+                    let e : i ≡ length h = omega arith in
+                    absurd (w.unpaired b0 (let l0 : b0 < length h = found.2.live.before in omega arith) (rw e (Contains-push r (length h, b0))))
               ])))
-              (subst (λ (xs : List (ℕ × Letter)). Lists (h ++ Post p ∷ []) (λ b l. IsKept (h ++ Post p ∷ []) r' b l (length h + 1)) xs) (sym ek)
-              (lists_sub h (h ++ Post p ∷ []) (λ b l. IsKept h r b l (length h)) (λ b l. IsKept (h ++ Post p ∷ []) r' b l (length h + 1)) s.kept t.remains.kept
+              (rw ek
+              (lists_sub t.remains.kept
               (kept_number h (Post p) r)
-              kept' (λ y. y.0 ≢ z.0) taken.ascending taken.left_to taken.left_back
+              (λ y. y.0 ≢ z.0) taken.ascending taken.left_to taken.left_back
               (λ b l k n. kept_to h (Post p) r r' t.lawful keep b l (λ e. cc)
               (λ i q. elim (pair_cases r (length h) b0 i b q) [
                 | inl o ↦ o
@@ -126,6 +119,6 @@ module _ (h : List Event) (r : Pairing) (s : Matching) (p : Pattern) (t : Tracks
                 k',
                 λ e.
                     let q : b0 ≡ b = same_number h b0 b (Come z.1) (Come l) found.2.live.came refl k'.live.came refl (found.1 ∙ sym e) in
-                    k.unpaired (length h) (omega arith) (subst (λ (m : ℕ). Pairs r' (length h) m) q (Contains-push r (length h, b0))),
+                    k.unpaired (length h) (omega arith) (rw (sym q) (Contains-push r (length h, b0))),
               ))));
         }

@@ -1,11 +1,6 @@
 -- A receive is posted, and waits.
-use Rattle.std.proofs.Common.{◌≡◌, ℕ, ◌+◌, ◌<◌, inl, inr, List, [], ◌∷◌, ◌++◌, length, refl, ap, sym, ◌∙◌, subst, arith, Contains}
-use Rattle.ulfm_base.specs.declared.pattern.Pattern.{Pattern}
-use Rattle.ulfm_base.specs.declared.envelope.Letter.{Letter}
-use Rattle.ulfm_base.specs.Pattern.{Admits}
-use Rattle.ulfm_match.specs.History.{Event, Come, Post, count_before}
-use Rattle.ulfm_match.specs.Pairing.{Pairing, IsWaiting, IsKept, LawfulPairing}
-use Rattle.ulfm_match.specs.State.{Matching, Lists, IsUncleared, Tracks}
+use Rattle.std.proofs.Common.{◌≡◌, ℕ, ◌+◌, ◌<◌, inl, inr, List, [], ◌∷◌, ◌++◌, length, refl, ap, sym, ◌∙◌, arith, Contains}
+use Rattle.ulfm_match.proofs.Common.{Pattern, Admits, Letter, Event, Come, Post, count_before, Pairing, LawfulPairing, Matching, IsUncleared, Tracks}
 use Rattle.ulfm_match.proofs.Decide.{lt_or_ge}
 use Rattle.ulfm_match.proofs.Histories.{below_last, get_new, count_old, count_below}
 use Rattle.ulfm_match.proofs.Lists.{lists_same, lists_push}
@@ -27,7 +22,7 @@ module _ (h : List Event) (r : Pairing) (s : Matching) (p : Pattern) (t : Tracks
               let e : p ≡ q = posted_here h p q i (omega arith) w.live.posted in
               none (count_before h b, l)
               (t.remains.kept.complete b l (kept_back h (Post p) r r t.lawful (λ i b q. q) b l lb k))
-              (subst (λ (w : Pattern). Admits w l.envelope) (sym e) adm)
+              (rw e adm)
         ])
 
     pub post_waits : (s' : Matching) → s'.count ≡ s.count + 1 → s'.waiting ≡ s.waiting ++ (s.count, p) ∷ [] → s'.kept ≡ s.kept → s'.cleared ≡ s.cleared → Tracks (h ++ Post p ∷ []) r s'
@@ -35,8 +30,8 @@ module _ (h : List Event) (r : Pairing) (s : Matching) (p : Pattern) (t : Tracks
         tracks h (Post p) r s' (posted_more h p t.well_formed open') post_lawful
         (cleared_same h (Post p) s s' t.remains.cleared em (λ c e. cc))
         (ec ∙ ap (λ n. n + 1) t.remains.count)
-        (subst (λ (xs : List (ℕ × Pattern)). Lists (h ++ Post p ∷ []) (λ i q. IsWaiting (h ++ Post p ∷ []) r i q (length h + 1)) xs) (sym ew)
-        (lists_push h (h ++ Post p ∷ []) (λ i q. IsWaiting h r i q (length h)) (λ i q. IsWaiting (h ++ Post p ∷ []) r i q (length h + 1)) s.waiting t.remains.waiting
+        (rw ew
+        (lists_push t.remains.waiting
         (waiting_number h (Post p) r)
         (length h) p s.count
         (count_old h (Post p) (length h) (omega arith) ∙ sym t.remains.count)
@@ -52,8 +47,8 @@ module _ (h : List Event) (r : Pairing) (s : Matching) (p : Pattern) (t : Tracks
           | inl low ↦ inl (waiting_back h (Post p) r r t.lawful (λ i b q. q) i q low w)
           | inr top ↦ let e : i ≡ length h = omega arith in inr (e, posted_here h p q i e w.live.posted)
         ])))
-        (subst (λ (xs : List (ℕ × Letter)). Lists (h ++ Post p ∷ []) (λ b l. IsKept (h ++ Post p ∷ []) r b l (length h + 1)) xs) (sym ek)
-        (lists_same h (h ++ Post p ∷ []) (λ b l. IsKept h r b l (length h)) (λ b l. IsKept (h ++ Post p ∷ []) r b l (length h + 1)) s.kept t.remains.kept
+        (rw ek
+        (lists_same t.remains.kept
         (kept_number h (Post p) r)
         (λ b l k. kept_to h (Post p) r r t.lawful (λ i b q. q) b l (λ e. cc) (λ i q. q) k)
         (λ b l k. kept_back h (Post p) r r t.lawful (λ i b q. q) b l (below_last h (Post p) b (Come l) k.live.came (λ e. cc)) k)))

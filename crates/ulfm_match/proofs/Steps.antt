@@ -1,12 +1,6 @@
 -- A history longer by one event: what waits and what is kept.
-use Rattle.std.proofs.Common.{◌≡◌, ◌≢◌, ℕ, ◌+◌, ◌<◌, ◌⊎◌, inl, inr, List, [], ◌∷◌, ◌++◌, length, ap, sym, ◌∙◌, subst, Some, arith, add-one, slice_get, true, false, ◌↔◌}
-use Rattle.std.proofs.lemmas.Option.{slice_get_within}
-use Rattle.std.proofs.lemmas.List.Elements.{Contains-append_left, Contains-push_cases}
-use Rattle.ulfm_base.specs.declared.pattern.Pattern.{Pattern}
-use Rattle.ulfm_base.specs.declared.envelope.Letter.{Letter}
-use Rattle.ulfm_match.specs.History.{Event, Post, Come, End, Clear, PostAt, ComeAt, StandsBetween, IsWellFormed, counts_as, count_before}
-use Rattle.ulfm_match.specs.Pairing.{Pairing, Pairs, IsWaiting, IsKept, LawfulPairing}
-use Rattle.ulfm_match.specs.State.{Matching, is_cleared, Lists, IsUncleared, Tracks}
+use Rattle.std.proofs.Common.{◌≡◌, ◌≢◌, ℕ, ◌+◌, ◌<◌, ◌⊎◌, inl, inr, List, [], ◌∷◌, ◌++◌, length, ap, sym, ◌∙◌, Some, arith, add-one, slice_get, true, false, ◌↔◌}
+use Rattle.ulfm_match.proofs.Common.{Pattern, Letter, Event, Post, Come, End, Clear, PostAt, ComeAt, StandsBetween, IsWellFormed, counts_as, count_before, Pairing, Pairs, IsWaiting, IsKept, LawfulPairing, Matching, is_cleared, Lists, IsUncleared, Tracks, Contains-append_left, Contains-push_cases, slice_get_within}
 use Rattle.ulfm_match.proofs.Decide.{eq_either, paired_receive, paired_letter}
 use Rattle.ulfm_match.proofs.Histories.{get_old, get_new, get_cases, get_below, get_last, length_more, receive_more, receive_less, letter_more, letter_less, count_old, count_new}
 use Rattle.ulfm_match.proofs.Extend.{receive_within, letter_within}
@@ -44,18 +38,18 @@ history_more h x wf ends posts letters = record {
 -- a receive is posted in an open context
 module _ (h : List Event) (p : Pattern) where
   pub posted_more : IsWellFormed h → IsUncleared h p.context.number → IsWellFormed (h ++ Post p ∷ [])
-  posted_more wf open' = history_more h (Post p) wf (λ i e. cc) (λ q e. subst (λ (w : Pattern). IsUncleared h w.context.number) (let f : p ≡ q = cc in f) open') (λ l e. cc)
+  posted_more wf open' = history_more h (Post p) wf (λ i e. cc) (λ q e. let f : q ≡ p = cc in rw f open') (λ l e. cc)
 
   pub posted_here : (q : Pattern) (i : ℕ) → i ≡ length h → PostAt (h ++ Post p ∷ []) i q → p ≡ q
-  posted_here q i e posted = let g = get_last h (Post p) (Post q) (subst (λ (k : ℕ). PostAt (h ++ Post p ∷ []) k q) e posted) in cc
+  posted_here q i e posted = let g = get_last h (Post p) (Post q) (rw (sym e) posted) in cc
 
 -- a letter comes in an open context
 module _ (h : List Event) (l : Letter) where
   pub come_more : IsWellFormed h → IsUncleared h l.envelope.context.number → IsWellFormed (h ++ Come l ∷ [])
-  come_more wf open' = history_more h (Come l) wf (λ i e. cc) (λ q e. cc) (λ m e. subst (λ (w : Letter). IsUncleared h w.envelope.context.number) (let f : l ≡ m = cc in f) open')
+  come_more wf open' = history_more h (Come l) wf (λ i e. cc) (λ q e. cc) (λ m e. let f : m ≡ l = cc in rw f open')
 
   pub come_here : (m : Letter) (b : ℕ) → b ≡ length h → ComeAt (h ++ Come l ∷ []) b m → l ≡ m
-  come_here m b e came = let g = get_last h (Come l) (Come m) (subst (λ (k : ℕ). ComeAt (h ++ Come l ∷ []) k m) e came) in cc
+  come_here m b e came = let g = get_last h (Come l) (Come m) (rw (sym e) came) in cc
 
 pub pair_cases : (r : Pairing) (i0 b0 i b : ℕ) → Pairs (r ++ (i0, b0) ∷ []) i b → Pairs r i b ⊎ ((i ≡ i0) × (b ≡ b0))
 pair_cases r i0 b0 i b p =
@@ -96,8 +90,8 @@ tracks h x r s wf law m c w k =
       lawful = law;
       remains = record {
         count = c ∙ sym (count_new h x) ∙ ap (count_before (h ++ x ∷ [])) (sym (add-one (length h)) ∙ e);
-        waiting = subst (λ (m : ℕ). Lists (h ++ x ∷ []) (λ i p. IsWaiting (h ++ x ∷ []) r i p m) s.waiting) e w;
-        kept = subst (λ (m : ℕ). Lists (h ++ x ∷ []) (λ b l. IsKept (h ++ x ∷ []) r b l m) s.kept) e k;
+        waiting = rw (sym e) w;
+        kept = rw (sym e) k;
         cleared = m;
       };
     }
@@ -135,7 +129,7 @@ module _ (h : List Event) (r : Pairing) (c : ℕ) (open' : IsUncleared h c) wher
       elim (paired_letter r b (length h)) [
         | inl q ↦ inl q
         | inr free ↦ inr (record {
-          live = record { came = came; before = lb; not_cleared = λ s. open' s.place (subst (λ (n : ℕ). slice_get h s.place ≡ Some (Clear n)) e s.is) };
+          live = record { came = came; before = lb; not_cleared = λ s. open' s.place (rw (sym e) s.is) };
           unpaired = free;
         })
       ]
@@ -145,7 +139,7 @@ module _ (h : List Event) (r : Pairing) (c : ℕ) (open' : IsUncleared h c) wher
       elim (paired_receive r i (length h)) [
         | inl q ↦ inl q
         | inr free ↦ inr (record {
-          live = record { posted = posted; before = li; not_ended = lives; not_cleared = λ s. open' s.place (subst (λ (n : ℕ). slice_get h s.place ≡ Some (Clear n)) e s.is) };
+          live = record { posted = posted; before = li; not_ended = lives; not_cleared = λ s. open' s.place (rw (sym e) s.is) };
           unpaired = free;
         })
       ]

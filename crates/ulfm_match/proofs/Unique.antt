@@ -1,11 +1,6 @@
 -- A history has one lawful pairing at most.
 use Rattle.std.proofs.Common.{◌≡◌, ℕ, zero, suc, ◌+◌, ◌<◌, inl, inr, List, length, sym, subst, arith, max}
-use Rattle.std.proofs.lemmas.Option.{slice_get_within}
-use Rattle.ulfm_base.specs.declared.pattern.Pattern.{Pattern}
-use Rattle.ulfm_base.specs.declared.envelope.Letter.{Letter}
-use Rattle.ulfm_base.specs.Pattern.{Admits}
-use Rattle.ulfm_match.specs.History.{Event, PostAt, ComeAt, IsLiveReceive, IsLiveLetter}
-use Rattle.ulfm_match.specs.Pairing.{Pairing, Pairs, LawfulPairing}
+use Rattle.ulfm_match.proofs.Common.{Pattern, Letter, Event, PostAt, ComeAt, IsLiveReceive, IsLiveLetter, Pairing, Pairs, LawfulPairing, slice_get_within}
 use Rattle.ulfm_match.proofs.Histories.{stands_wider}
 use Rattle.ulfm_match.proofs.Decide.{lt_or_ge, compared, paired_receive, paired_letter}
 
@@ -45,7 +40,7 @@ module _ (h : List Event) (r s : Pairing) (lr : LawfulPairing h r) (ls : LawfulP
               | inr o ↦ elim o [
                 | inl e ↦ subst (Pairs s m) (sym e) q.2
                 | inr above ↦
-                    let j = lr.earlier_letters m b d P kd.letter p posted above kd.letter_live.came (subst (λ x. Admits x kd.letter.envelope) same kd.admits) in
+                    let j = lr.earlier_letters m b d P kd.letter p posted above kd.letter_live.came (rw (sym same) kd.admits) in
                     let e = ls.one_receive m j.0 d q.2 (rs j.0 d j.1 (omega arith) j.2) in
                     absurd (let l = j.1 in omega arith)
               ]
@@ -56,7 +51,7 @@ module _ (h : List Event) (r s : Pairing) (lr : LawfulPairing h r) (ls : LawfulP
                 let e = lr.one_receive m q.0 b p (sr q.0 b below bm q.2) in
                 absurd (omega arith)
             | inr o ↦ elim o [
-              | inl e ↦ subst (λ x. Pairs s x b) e q.2
+              | inl e ↦ rw (sym e) q.2
               | inr above ↦ absurd (let l = q.1 in omega arith)
             ]
           ]
@@ -87,9 +82,9 @@ module _ (h : List Event) (r s : Pairing) (lr : LawfulPairing h r) (ls : LawfulP
                   let e = lr.one_letter i a.0 m (sr i a.0 im a.1 a.2) p in
                   absurd (let l = a.1 in omega arith)
               | inr o ↦ elim o [
-                | inl e ↦ subst (λ x. Pairs s x m) (sym e) q.2
+                | inl e ↦ rw e q.2
                 | inr above ↦
-                    let a = lr.earlier_receives i m j kj.pattern L p came above kj.receive_live.posted (λ e. kj.receive_live.not_ended (stands_wider (max j m + 1) (omega arith) e)) (subst (λ (x : Letter). Admits kj.pattern x.envelope) same kj.admits) in
+                    let a = lr.earlier_receives i m j kj.pattern L p came above kj.receive_live.posted (λ e. kj.receive_live.not_ended (stands_wider (max j m + 1) (omega arith) e)) (rw (sym same) kj.admits) in
                     let e = ls.one_letter j a.0 m (rs j a.0 (omega arith) a.1 a.2) q.2 in
                     absurd (let l = a.1 in omega arith)
               ]
@@ -118,12 +113,12 @@ module _ (h : List Event) (r s : Pairing) (lr : LawfulPairing h r) (ls : LawfulP
           | inl bm ↦ rs i b im bm p
           | inr bm ↦
               let e : b ≡ m = omega arith in
-              subst (Pairs s i) (sym e) (at_letter i im (subst (Pairs r i) e p))
+              rw e (at_letter i im (rw (sym e) p))
         ]
         | inr im ↦
             let e : i ≡ m = omega arith in
             elim (lt_or_ge b m) [
-              | inl bm ↦ subst (λ x. Pairs s x b) (sym e) (at_receive b bm (subst (λ x. Pairs r x b) e p))
+              | inl bm ↦ rw e (at_receive b bm (rw (sym e) p))
               | inr bm ↦
                   let k = lr.matched i b p in
                   let f : b ≡ i = omega arith in

@@ -1,1 +1,3 @@
-pub mod Search
+pub mod Buckets
+pub mod Key
+pub mod Order

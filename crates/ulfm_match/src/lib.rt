@@ -3,11 +3,16 @@
 #![tactic(auto)]
 
 mod arrived;
+mod bucket;
+mod buckets;
+mod key;
 mod law;
 mod matcher;
+mod placing;
 mod removal;
 mod request;
 mod search;
+mod taking;
 
 pub use arrived::Arrived;
 pub use law::{

@@ -6,37 +6,49 @@ ghost use Rattle.ulfm_match.specs.Calls.{TracksPost, TracksArrival, TracksEnd, T
 ghost use Rattle.ulfm_match.specs.State.{is_cleared, Tracks, Keeps};
 
 use crate::arrived::Arrived;
+use crate::buckets::{Buckets, forget_gone};
+use crate::placing::{put_kept, put_receive};
 use crate::removal::{clear_kept, clear_waiting, end_waiting};
 use crate::request::RequestId;
-use crate::search::{first_kept, first_waiting, numbered};
+use crate::search::first_kept;
+use crate::taking::{take_kept, take_numbered, take_waiting};
+use indexmap::IndexMap;
 use std::alloc::Global;
 use std::marker::Model;
 use ulfm_base::{Context, Letter, OutOfMemory, Pattern, WorldRank};
 
-/// The receives of one rank that wait, and the letters that it keeps, each in order of their numbers. Contracts see
-/// both lists, how many posts and arrivals there were, which contexts were cleared, and whether there is room for one
-/// more post and one more arrival.
+/// The receives of one rank that wait, and the letters that it keeps, each by number, and the numbers in buckets by what
+/// they are searched for. Contracts see both as lists in order of their numbers, how many posts and arrivals there were,
+/// which contexts were cleared, and whether there is room for one more post and one more arrival.
 #[derive(Drop)]
 pub struct Matcher {
-    waiting: Vec<(u64, Pattern)>,
-    kept: Vec<(u64, Letter)>,
+    alloc: Global,
+    waiting: IndexMap<u64, Pattern>,
+    posted: Buckets,
+    kept: IndexMap<u64, Letter>,
+    came: Buckets,
+    fresh: Option<u64>,
+    ready: bool,
     count: u64,
     cleared: [bool; 63],
 }
 
 impl Model for Matcher {
-    ghost use Rattle.std.specs.Prelude.{vec_len, vec_capacity, nat_lt, ◌&&◌};
     ghost use Rattle.ulfm_match.specs.State.{Matching};
+    ghost use Rattle.ulfm_match.specs.inside.Order.{in_order};
+    ghost use Rattle.ulfm_match.specs.inside.Buckets.{IsWhole};
 
     ghost Value = { Matching };
 
     ghost view = { λ m. record {
-      waiting = m.waiting.items;
-      kept = m.kept.items;
+      waiting = in_order m.waiting.entries;
+      kept = in_order m.kept.entries;
       count = m.count;
       cleared = m.cleared;
-      prepared = nat_lt (vec_len m.waiting) (vec_capacity m.waiting) && nat_lt (vec_len m.kept) (vec_capacity m.kept);
+      prepared = m.ready;
     } };
+
+    ghost invariant = { λ m. IsWhole m.waiting m.posted m.kept m.came m.fresh m.count m.ready };
 }
 
 impl Matcher {
@@ -45,8 +57,13 @@ impl Matcher {
         ensures { Tracks [] [] result }
     {
         Matcher {
-            waiting: Vec::new(alloc),
-            kept: Vec::new(alloc),
+            alloc,
+            waiting: IndexMap::new(alloc),
+            posted: IndexMap::new(alloc),
+            kept: IndexMap::new(alloc),
+            came: IndexMap::new(alloc),
+            fresh: None,
+            ready: false,
             count: 0,
             cleared: [false; 63],
         }
@@ -67,16 +84,31 @@ impl Matcher {
         ensures cleared { self.new.cleared ≡ self.old.cleared }
         ensures stays_prepared { IsTrue self.old.prepared → IsTrue self.new.prepared }
     {
+        if self.ready {
+            return Ok(());
+        }
         self.waiting.reserve(1)?;
         self.kept.reserve(1)?;
-        Ok(())
+        match self.fresh {
+            Some(number) => {
+                put_receive(&self.waiting, &mut self.posted, self.alloc, number)?;
+                put_kept(&self.kept, &mut self.came, self.alloc, number)?;
+                self.fresh = None;
+                self.ready = true;
+                Ok(())
+            }
+            None => {
+                self.ready = true;
+                Ok(())
+            }
+        }
     }
 
     /// Whether there is room for one post and one arrival.
     pub fn is_prepared(&self) -> bool
         ensures { result ≡ self.now.prepared }
     {
-        self.waiting.len() < self.waiting.capacity() && self.kept.len() < self.kept.capacity()
+        self.ready
     }
 
     /// How many posts and arrivals there were.
@@ -108,13 +140,12 @@ impl Matcher {
     {
         let number = self.count;
         self.count += 1;
-        match first_kept(self.kept.as_slice(), &pattern) {
-            Some(k) => {
-                let (_, letter) = self.kept.remove(k);
-                (RequestId { number }, Some(letter))
-            }
+        match take_kept(&mut self.kept, &mut self.came, &pattern) {
+            Some(letter) => (RequestId { number }, Some(letter)),
             None => {
-                self.waiting.push_reserved((number, pattern));
+                let _ = self.waiting.insert(number, pattern);
+                self.fresh = Some(number);
+                self.ready = false;
                 (RequestId { number }, None)
             }
         }
@@ -135,13 +166,12 @@ impl Matcher {
     {
         let number = self.count;
         self.count += 1;
-        match first_waiting(self.waiting.as_slice(), &letter) {
-            Some(k) => {
-                let (request, _) = self.waiting.remove(k);
-                Arrived::Paired(RequestId { number: request }, letter)
-            }
+        match take_waiting(&mut self.waiting, &mut self.posted, &letter) {
+            Some(request) => Arrived::Paired(RequestId { number: request }, letter),
             None => {
-                self.kept.push_reserved((number, letter));
+                let _ = self.kept.insert(number, letter);
+                self.fresh = Some(number);
+                self.ready = false;
                 Arrived::Kept
             }
         }
@@ -157,13 +187,11 @@ impl Matcher {
         ensures prepared { IsTrue self.old.prepared → IsTrue self.new.prepared }
         ensures tracks { TracksEnd id.number self.old self.new }
     {
-        match numbered(self.waiting.as_slice(), id.number) {
-            Some(k) => {
-                let _ = self.waiting.remove(k);
-                true
-            }
-            None => false,
+        if !self.waiting.contains_key(&id.number) {
+            return false;
         }
+        take_numbered(&mut self.waiting, &mut self.posted, id.number);
+        true
     }
 
     /// Ends all waiting receives and drops all kept letters of a context, as a revocation does. From now on nothing of
@@ -178,7 +206,9 @@ impl Matcher {
         ensures tracks { TracksClear context.number self.old self.new }
     {
         clear_waiting(&mut self.waiting, context);
+        forget_gone(&mut self.posted, &self.waiting);
         clear_kept(&mut self.kept, context);
+        forget_gone(&mut self.came, &self.kept);
         self.cleared[context.number as usize] = true;
     }
 
@@ -193,19 +223,27 @@ impl Matcher {
         ensures tracks { TracksNamed rank.number self.old self.new }
     {
         end_waiting(&mut self.waiting, rank);
+        forget_gone(&mut self.posted, &self.waiting);
     }
 
     /// Whether the receive of this number waits: it was posted, has no letter, and didn't end.
     pub fn is_waiting(&self, id: RequestId) -> bool
         ensures { IsTrue result ↔ ((pattern : Pattern) × Contains self.now.waiting (id.number, pattern)) }
     {
-        numbered(self.waiting.as_slice(), id.number).is_some()
+        self.waiting.contains_key(&id.number)
     }
 
     /// Whether a letter is kept that a receive with this pattern admits.
     pub fn keeps_match(&self, pattern: &Pattern) -> bool
         ensures { IsTrue result ↔ ((entry : ℕ × Letter) × Contains self.now.kept entry × Admits pattern.now entry.1.envelope) }
     {
-        first_kept(self.kept.as_slice(), pattern).is_some()
+        if let Some(number) = self.fresh {
+            if let Some(letter) = self.kept.get(&number) {
+                if pattern.admits(&letter.envelope) {
+                    return true;
+                }
+            }
+        }
+        first_kept(&self.came, &self.kept, pattern).is_some()
     }
 }

@@ -1,14 +1,8 @@
 -- Which decision is adopted, and the communicator that it makes.
 use Rattle.std.proofs.Common.{◌≡◌, ℕ, ◌<◌, Bool, true, false, cond, List, [], ◌∷◌, ◌++◌, refl, ap, sym, subst, ◌∙◌, arith, Some, None, ◌||◌, ◌==◌, not, is_some, All}
-use Rattle.std.proofs.lemmas.Bool.{eqb-true, eqb-false, eq-eqb, ne_eqb}
-use Rattle.std.proofs.lemmas.List.Elements.{All-append, All-filter}
-use Rattle.ulfm_rank.proofs.Common.{Decision, dup_of, shrink_of, numbers_from, has, Entry, Duplicated, Adopted, is_stopped}
+use Rattle.ulfm_rank.proofs.Common.{Decision, dup_of, shrink_of, numbers_from, has, Entry, Duplicated, Adopted, is_stopped, eqb-true, eqb-false, eq-eqb, ne_eqb, All-append, All-filter, find_group, copy_of, made_by, group_of, HasCommunicators, adopts, has_adopted, has_entered, is_foreign, State}
 use Rattle.ulfm_base.specs.declared.error.CallError.TheVariants.{NoComm, AlreadyMade, NotEntered, NotMember, Stopped}
 use Rattle.ulfm_rank.specs.Checks.{first_refusal, Passes, lacks, group_at, comm_checks, adopt_checks}
-use Rattle.ulfm_rank.specs.Communicators.{find_group, copy_of, made_by, group_of}
-use Rattle.ulfm_rank.specs.inside.Fields.{HasCommunicators}
-use Rattle.ulfm_rank.specs.Shrink.{adopts, has_adopted, has_entered, is_foreign}
-use Rattle.ulfm_rank.specs.State.{State}
 use Rattle.ulfm_rank.proofs.Gather.{gathered_all, any-push}
 use Rattle.ulfm_rank.proofs.Made.{comms-push, found_of_world, All-one}
 use Rattle.ulfm_rank.proofs.Refusals.{goes_on, passes_two}

@@ -1,17 +1,6 @@
 -- What a test answers.
 use Rattle.std.proofs.Common.{◌≡◌, ℕ, Bool, true, false, cond, List, refl, sym, ◌∙◌, subst, Option, Some}
-use Rattle.ulfm_rank.proofs.Common.{Pattern, Letter, WorldRank, PostAt, Entry, TestAnswer, Fate, Waiting, Paired, Failed, Cleared, Request, group_of, history_of}
-use Rattle.ulfm_base.specs.declared.pattern.Source.{Source}
-use Rattle.ulfm_base.specs.declared.pattern.Source.TheVariants.{One, Any}
-use Rattle.ulfm_base.specs.Pattern.{AdmitsSource}
-use Rattle.ulfm_base.specs.Group.{is_member}
-use Rattle.ulfm_match.specs.Pairing.{Pairing, Pairs, LawfulPairing}
-use Rattle.ulfm_match.specs.State.{Matching}
-use Rattle.ulfm_match.proofs.Unique.{same_pattern, same_letter, one_pairing}
-use Rattle.ulfm_match.proofs.Extend.{letter_within}
-use Rattle.ulfm_rank.specs.declared.entry.TestAnswer.TheVariants.{Done, Over, Pending, NotYet}
-use Rattle.ulfm_rank.specs.Answer.{pends, Got, IsUnpaired, IsOpenReceive, IsReceived, IsAnswerBy, IsRequest, IsTestAnswer}
-use Rattle.ulfm_rank.specs.inside.Table.{IsSourceIn, IsInStep, Became, IsDelivered, GivesAnswer, HasSender}
+use Rattle.ulfm_rank.proofs.Common.{Pattern, Letter, WorldRank, PostAt, Entry, TestAnswer, Fate, Waiting, Paired, Failed, Cleared, Request, group_of, history_of, AdmitsSource, Pairing, Pairs, LawfulPairing, Matching, same_pattern, same_letter, one_pairing, letter_within, pends, Got, IsUnpaired, IsOpenReceive, IsReceived, IsAnswerBy, IsRequest, IsTestAnswer, IsSourceIn, IsInStep, Became, IsDelivered, GivesAnswer, HasSender, Source, One, Any, is_member, Done, Over, Pending, NotYet}
 use Rattle.ulfm_rank.proofs.Groups.{rank_some}
 use Rattle.ulfm_rank.proofs.Grouped.{members_found}
 use Rattle.ulfm_rank.proofs.Steps.{same_place}

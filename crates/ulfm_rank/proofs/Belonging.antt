@@ -1,16 +1,11 @@
 -- Each group has its own rank, and ranks of the world alone.
 use Rattle.std.proofs.Common.{◌≡◌, ℕ, ◌<◌, Bool, true, false, cond, eqb, List, [], ◌∷◌, ◌++◌, length, take, refl, ap, sym, ◌∙◌, arith, inl, inr, Some, None, not, ◌==◌, nat_eq, slice_get}
 use lib.Pointwise.{pointwise, pointwise_decides}
-use Rattle.std.proofs.lemmas.Bool.{false≢true, or_parts, or_from, not-false, not_from_true, eqb-true, eq-eqb}
-use Rattle.std.proofs.lemmas.Option.{same_Some, slice_get_within, none-some}
 use Rattle.std.proofs.lemmas.List.{take-append-le, take_all}
-use Rattle.ulfm_rank.proofs.Common.{Context, Decision, RankSet, is_member, numbers_from, has, Entry, Entered, Knows, is_gone}
-use Rattle.ulfm_rank.specs.Communicators.{group_of, is_made, members_of}
-use Rattle.ulfm_rank.specs.Shrink.{entry_of, is_foreign, contradicts}
+use Rattle.ulfm_rank.proofs.Common.{Context, Decision, RankSet, is_member, numbers_from, has, Entry, Entered, Knows, is_gone, false≢true, or_parts, or_from, not-false, not_from_true, eqb-true, eq-eqb, group_of, is_made, members_of, entry_of, is_foreign, contradicts, same_Some, slice_get_within, none-some, get_cases}
 use Rattle.ulfm_rank.proofs.Firsts.{some_from}
 use Rattle.ulfm_rank.proofs.Grouped.{group_cases, members_found}
 use Rattle.ulfm_base.proofs.Among.{excluding_from, world_member, world_below}
-use Rattle.ulfm_match.proofs.Histories.{get_cases}
 use Rattle.ulfm_rank.proofs.Entering.{Fits, own_set, own_stays, entry_here, EntersMade, enters_made, AdoptsEntered, adopts_entered, KnowsSets, knows_sets}
 use Rattle.ulfm_rank.proofs.Owing.{OwesOwn, owes_own, OwesEach, owes_each, own_first}
 

@@ -1,11 +1,6 @@
 -- The table after a revocation.
 use Rattle.std.proofs.Common.{◌≡◌, ◌≢◌, ℕ, ◌≤◌, Bool, true, false, cond, List, [], ◌∷◌, ◌++◌, length, refl, ap, sym, ◌∙◌, Option, Some, arith, ◌&&◌, ◌==◌, eqb-true}
-use Rattle.std.proofs.lemmas.Bool.{eq-eqb, false≢true}
-use Rattle.ulfm_rank.proofs.Common.{Pattern, Event, Clear, Pairing, LawfulPairing, Entry, Fate, Waiting, Paired, Failed, Cleared, Request}
-use Rattle.ulfm_match.proofs.Histories.{get_new, stands_back}
-use Rattle.ulfm_match.proofs.Extend.{letter_within}
-use Rattle.ulfm_rank.specs.inside.Table.{Became, IsTable}
-use Rattle.ulfm_rank.specs.inside.Requests.{is_waiting, over_context, Changes}
+use Rattle.ulfm_rank.proofs.Common.{Pattern, Event, Clear, Pairing, LawfulPairing, Entry, Fate, Waiting, Paired, Failed, Cleared, Request, eq-eqb, false≢true, letter_within, Became, IsTable, get_new, stands_back, is_waiting, over_context, Changes}
 use Rattle.ulfm_rank.proofs.Tables.{became_keeps, no_post, refated, table_change}
 
 module _ (n c : ℕ) (log : List Entry) (h : List Event) (r : Pairing) (law : LawfulPairing h r) where

@@ -1,14 +1,11 @@
 -- Each context has one communicator at most, so there is room for another.
 use Rattle.std.proofs.Common.{◌≡◌, ℕ, ◌+◌, ◌<◌, ◌≤◌, Bool, true, false, cond, eqb, List, [], ◌∷◌, ◌++◌, length, map, refl, sym, subst, ◌∙◌, arith, ⊎_elim, Some, nat_eq}
 use Rattle.std.proofs.lemmas.Cmp.{nat_eq_equiv}
-use Rattle.std.specs.List.{IsDistinct, list_any}
-use Rattle.std.specs.Option.{is_some}
-use Rattle.std.proofs.lemmas.Bool.{or_from, or_cases, false≢true, eqb-true, eqb-false, ne_eqb}
 use Rattle.std.proofs.lemmas.List.{length_push, length-map, map-append}
 use Rattle.std.proofs.lemmas.Map.Keys.{IsDistinct-push}
 use Rattle.std.proofs.lemmas.Map.Steps.{length-le_from_distinct_below}
-use Rattle.ulfm_rank.proofs.Common.{Context, find_group}
-use Rattle.ulfm_rank.specs.inside.Fields.{by_number, number_of, AreApart}
+use Rattle.std.specs.List.{IsDistinct}
+use Rattle.ulfm_rank.proofs.Common.{Context, find_group, or_from, or_cases, false≢true, eqb-true, eqb-false, ne_eqb, by_number, number_of, AreApart, list_any, is_some}
 
 absent : (made : List (Context × List ℕ)) (c : ℕ) → is_some (find_group c (map by_number made)) ≡ false → list_any (eqb c) (map number_of made) ≡ false
 absent [] c h = refl

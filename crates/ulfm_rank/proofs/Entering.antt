@@ -1,12 +1,7 @@
 -- What a log tells of entries into shrinks, and what a longer one tells.
 use Rattle.std.proofs.Common.{◌≡◌, ℕ, true, false, cond, eqb, List, [], ◌∷◌, ◌++◌, refl, ap, sym, ◌∙◌, inl, inr, ◌⊎◌, Option, Some, None}
 use Rattle.std.specs.Prelude.{⊤, is_some}
-use Rattle.std.proofs.lemmas.Bool.{false≢true, eq-eqb, eqb-true, or_cases, or_left, or_parts}
-use Rattle.std.proofs.lemmas.Option.{none-some, cond_some}
-use Rattle.ulfm_rank.proofs.Common.{Context, Decision, RankSet, has, Entry, Entered, Adopted, first_given, Knows}
-use Rattle.ulfm_rank.specs.Communicators.{group_of, is_made, members_of}
-use Rattle.ulfm_rank.specs.Facts.{is_gone, tells_gone}
-use Rattle.ulfm_rank.specs.Shrink.{entry_of, has_entered, adopts, has_adopted, is_foreign}
+use Rattle.ulfm_rank.proofs.Common.{Context, Decision, RankSet, has, Entry, Entered, Adopted, first_given, Knows, false≢true, eq-eqb, eqb-true, or_cases, or_left, or_parts, group_of, is_made, members_of, entry_of, has_entered, adopts, has_adopted, is_foreign, none-some, cond_some, is_gone, tells_gone}
 use Rattle.ulfm_rank.proofs.Gather.{any-push}
 use Rattle.ulfm_rank.proofs.Firsts.{or_else_cases, or_else_first, some_from, first-push}
 use Rattle.ulfm_rank.proofs.Grouped.{group_stays, members_found}

@@ -1,11 +1,7 @@
 -- The table of shrinks stays in step with the log.
 use Rattle.std.proofs.Common.{◌≡◌, ◌≢◌, ℕ, ◌<◌, ◌≤◌, Bool, true, false, cond, List, [], ◌∷◌, ◌++◌, refl, ap, sym, ◌∙◌, arith, eq-eqb, inl, inr, Option, Some, None, ◌==◌, not, is_some, MatchOption}
-use Rattle.std.proofs.lemmas.Bool.{not-false, false_from_ne_true, cases_lt, false≢true, eqb-true, ne_eqb}
-use Rattle.std.proofs.lemmas.Bool.Decides.{nat_tests}
-use Rattle.ulfm_rank.proofs.Common.{Context, Item, WorldRank, RankSet, shrink_of, entry_at, Entry, Entered, Took, or_else, first_given}
+use Rattle.ulfm_rank.proofs.Common.{Context, Item, WorldRank, RankSet, shrink_of, entry_at, Entry, Entered, Took, or_else, first_given, not-false, false_from_ne_true, cases_lt, false≢true, eqb-true, ne_eqb, set_of, Notes, HasEntries, HasShrinks, entry_of, item_entry, heard_of, has_entered, nat_tests}
 use Rattle.ulfm_base.specs.declared.item.Item.TheVariants.{Letter as Mail, Gone, Revoke, Enter}
-use Rattle.ulfm_rank.specs.inside.Fields.{set_of, Notes, HasEntries, HasShrinks}
-use Rattle.ulfm_rank.specs.Shrink.{entry_of, item_entry, heard_of, has_entered}
 use Rattle.ulfm_rank.proofs.Listed.{told_of, listed-push, entered-push, listed-own}
 use Rattle.ulfm_rank.proofs.Firsts.{or_none, first-push}
 

@@ -1,8 +1,6 @@
 -- The first entry into a shrink that a log tells of, and that a rank took from another.
 use Rattle.std.proofs.Common.{◌≡◌, ℕ, Bool, true, false, cond, eqb, List, [], ◌∷◌, ◌++◌, refl, ap, sym, ◌∙◌, inl, inr, ◌⊎◌, Option, Some, None, is_some}
-use Rattle.std.proofs.lemmas.Bool.{false≢true}
-use Rattle.ulfm_rank.proofs.Common.{RankSet, Item, Entry, Took, took, took_by, or_else, first_given}
-use Rattle.ulfm_rank.specs.Shrink.{item_entry, heard_of}
+use Rattle.ulfm_rank.proofs.Common.{RankSet, Item, Entry, Took, took, took_by, or_else, first_given, false≢true, item_entry, heard_of}
 
 pub or_none : {X : Type 0} (o : Option X) → or_else o None ≡ o
 or_none None = refl

@@ -1,12 +1,7 @@
 -- The parts of a rank follow its log through one more entry.
 use Rattle.std.proofs.Common.{◌≡◌, ℕ, Bool, true, false, cond, eqb, List, [], ◌∷◌, ◌++◌, length, refl, ap, sym, ◌∙◌, Option, Some, append-nil, ◌||◌}
-use Rattle.std.proofs.Math.Bool.{or-false}
-use Rattle.ulfm_rank.proofs.Common.{Context, Letter, WorldRank, RankSet, Decision, dup_of, shrink_of, Entry, Sent, Acknowledged, Revoked, Duplicated, Entered, Adopted, Stopped, Request, find_group, is_stop, is_stopped, is_revoked, Follows, Box, for_each, AllGrow}
+use Rattle.ulfm_rank.proofs.Common.{Context, Letter, WorldRank, RankSet, Decision, dup_of, shrink_of, Entry, Sent, Acknowledged, Revoked, Duplicated, Entered, Adopted, Stopped, Request, find_group, is_stop, is_stopped, is_revoked, Follows, Box, for_each, AllGrow, Matching, TracksRevocation, or-false, passed_on, entry_told, FaultState, acknowledged_in, is_revoked_in}
 use Rattle.ulfm_base.specs.declared.item.Item.TheVariants.{Letter as Mail}
-use Rattle.ulfm_fault.specs.Facts.{FaultState, acknowledged_in, is_revoked_in}
-use Rattle.ulfm_match.specs.State.{Matching}
-use Rattle.ulfm_rank.specs.Owed.{passed_on, entry_told}
-use Rattle.ulfm_rank.specs.inside.Requests.{TracksRevocation}
 use Rattle.ulfm_rank.proofs.Adoptable.{communicators-adopted}
 use Rattle.ulfm_rank.proofs.Gather.{any-push}
 use Rattle.ulfm_rank.proofs.Held.{outboxes-grown, outboxes-quiet}

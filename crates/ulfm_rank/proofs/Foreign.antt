@@ -1,13 +1,9 @@
 -- Which decisions contradict what a rank lists.
 use Rattle.std.proofs.Common.{◌≡◌, ℕ, zero, suc, ◌+◌, ◌<◌, ◌≤◌, Bool, true, false, List, refl, ap, sym, ◌∙◌, arith, inl, inr, Option, Some, None, ◌||◌, ◌&&◌, ◌==◌, not, nat_eq}
-use Rattle.std.specs.List.{list_any}
 use mathlib.Core.Bool.{beq}
-use Rattle.std.proofs.lemmas.Bool.{cases_eq, false≢true, or_left, or_right}
 use Rattle.ulfm_rank.proofs.Belonging.{own_from, same_numbers, not_foreign as own_not_foreign}
 use lib.Pointwise.{pointwise}
-use Rattle.ulfm_rank.proofs.Common.{Decision, RankSet, entry_at, has, is_member, numbers_from, Entry}
-use Rattle.ulfm_rank.specs.inside.Fields.{HasEntries}
-use Rattle.ulfm_rank.specs.Shrink.{is_apart, differ, contradicts, is_foreign, listed_of, IsOwnAffair}
+use Rattle.ulfm_rank.proofs.Common.{Decision, RankSet, entry_at, has, is_member, numbers_from, Entry, cases_eq, false≢true, or_left, or_right, HasEntries, is_apart, differ, contradicts, is_foreign, listed_of, IsOwnAffair, list_any}
 
 -- a number of which the test holds
 pub any_number : (test : ℕ → Bool) (k n j : ℕ) → k ≤ j → j < k + n → test j ≡ true → list_any test (numbers_from k n) ≡ true

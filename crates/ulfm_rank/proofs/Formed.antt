@@ -1,15 +1,11 @@
 -- The history of a log that posts no receive on a revoked context can happen, and has a post for each that the log posted.
 use Rattle.std.proofs.Common.{◌≡◌, ◌≢◌, ℕ, zero, suc, ◌<◌, Bool, true, false, cond, List, [], ◌∷◌, ◌++◌, length, refl, ap, sym, ◌∙◌, subst, arith, append-nil, append_assoc, Some}
 use Rattle.std.specs.Prelude.{⊤, slice_get}
-use Rattle.std.proofs.lemmas.Option.{slice_get_within}
-use Rattle.ulfm_rank.proofs.Common.{Letter, Pattern, Entry, Posted, Revoked, Took, is_revoked}
+use Rattle.ulfm_rank.proofs.Common.{Letter, Pattern, Entry, Posted, Revoked, Took, is_revoked, slice_get_within, get_old, get_new, length_more, Event, Post, Come, End, Clear, PostAt, IsWellFormed, history_of, events_by, ends_of, names_gone}
 use Rattle.ulfm_base.specs.declared.item.Item.TheVariants.{Letter as Mail, Gone, Revoke}
-use Rattle.ulfm_match.specs.History.{Event, Post, Come, End, Clear, PostAt, IsWellFormed}
 use Rattle.ulfm_match.proofs.Decide.{Contains-head, Contains-tail}
 use Rattle.ulfm_match.proofs.Ends.{AreEnds}
-use Rattle.ulfm_match.proofs.Histories.{get_old, get_new, length_more}
 use Rattle.ulfm_match.proofs.Steps.{history_more, posted_more, come_more}
-use Rattle.ulfm_rank.specs.History.{history_of, events_by, ends_of, names_gone}
 use Rattle.ulfm_rank.proofs.Gather.{history-push}
 use Rattle.ulfm_rank.proofs.Gone.{ends_named}
 use Rattle.ulfm_rank.proofs.Opens.{each_event, unrevoked_open}

@@ -1,19 +1,7 @@
 -- The ends that a notice gives.
 use Rattle.std.proofs.Common.{◌≡◌, ◌≢◌, ℕ, zero, suc, ◌+◌, ◌≤◌, ◌⊎◌, inl, inr, Bool, true, false, cond, List, [], ◌∷◌, ◌++◌, length, refl, ap, sym, ◌∙◌, subst, Option, Some, arith, length-append, slice_get, Contains, ◌&&◌}
-use Rattle.std.proofs.lemmas.Option.{slice_get_within}
-use Rattle.std.proofs.lemmas.List.Elements.{Contains-append_left, Contains-append_right, Contains-append_cases}
-use Rattle.ulfm_rank.proofs.Common.{Pattern, Entry, Fate, Waiting, Paired, Failed, Cleared, Request}
-use Rattle.ulfm_base.specs.Pattern.{names}
-use Rattle.ulfm_match.specs.History.{Event, Post, Come, End, Clear, PostAt, StandsBetween}
-use Rattle.ulfm_match.specs.Pairing.{Pairing, IsWaiting, LawfulPairing}
-use Rattle.ulfm_match.proofs.Unique.{same_pattern}
-use Rattle.ulfm_match.proofs.Extend.{letter_within}
-use Rattle.ulfm_match.proofs.Cut.{get_front}
-use Rattle.ulfm_match.specs.Calls.{EndsNamed}
+use Rattle.ulfm_rank.proofs.Common.{Pattern, Entry, Fate, Waiting, Paired, Failed, Cleared, Request, Contains-append_left, Contains-append_right, Contains-append_cases, names, Pairing, IsWaiting, LawfulPairing, same_pattern, letter_within, Became, IsTable, slice_get_within, is_waiting, over_named, Changes, Event, Post, Come, End, Clear, PostAt, StandsBetween, end_at, ends_from, ends_of, get_front, EndsNamed}
 use Rattle.ulfm_match.proofs.Decide.{Contains-none, Contains-head, Contains-tail, Contains-cons_cases}
-use Rattle.ulfm_rank.specs.inside.Table.{Became, IsTable}
-use Rattle.ulfm_rank.specs.inside.Requests.{is_waiting, over_named, Changes}
-use Rattle.ulfm_rank.specs.History.{end_at, ends_from, ends_of}
 use Rattle.ulfm_rank.proofs.Tables.{first_on, refated, table_change}
 
 -- an end of the receive at the place i of these events, the first of which stands at k

@@ -1,8 +1,6 @@
 -- What an entry makes of the communicators of a log.
 use Rattle.std.proofs.Common.{◌≡◌, ℕ, Bool, true, false, cond, eqb, List, [], ◌∷◌, ◌++◌, refl, ap, sym, ◌∙◌, inl, inr, ◌⊎◌, Some, None, eqb-true}
-use Rattle.std.proofs.lemmas.Option.{none-some, same_Some}
-use Rattle.ulfm_rank.proofs.Common.{Context, Decision, dup_of, shrink_of, numbers_from, Entry, Duplicated, Adopted, or_else}
-use Rattle.ulfm_rank.specs.Communicators.{find_group, copy_of, made_by, comms_of, group_of, members_of, or_empty}
+use Rattle.ulfm_rank.proofs.Common.{Context, Decision, dup_of, shrink_of, numbers_from, Entry, Duplicated, Adopted, or_else, find_group, copy_of, made_by, comms_of, group_of, members_of, or_empty, none-some, same_Some}
 use Rattle.ulfm_rank.proofs.Gather.{gathered-push}
 use Rattle.ulfm_rank.proofs.Firsts.{or_else_cases, or_else_first}
 

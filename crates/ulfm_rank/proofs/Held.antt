@@ -2,11 +2,8 @@
 use Rattle.std.proofs.Common.{◌≡◌, ℕ, zero, suc, ◌<◌, ◌≤◌, Bool, true, false, cond, eqb, List, [], ◌∷◌, ◌++◌, length, map, get_or, replicate, refl, ap, sym, ◌∙◌, arith, append-nil, length-append, Option, Some, ◌||◌}
 use Rattle.std.proofs.lemmas.Simd.{map-map}
 use Rattle.std.proofs.lemmas.List.{map-append, length-map, length-replicate, same_lists, get_or-map}
-use Rattle.ulfm_rank.proofs.Common.{Item, Context, Entry, Sent, Revoked, Entered, Took, is_stop, is_stopped, is_revoked}
+use Rattle.ulfm_rank.proofs.Common.{Item, Context, Entry, Sent, Revoked, Entered, Took, is_stop, is_stopped, is_revoked, no_mark, State, IsState, is_told, passed_on, owed_by_item, owed_by, owed, Box, empty_box, box_at, mark_of, passed_item, item_of_entry, item_at, AllGrow, HasOutboxes}
 use Rattle.ulfm_base.specs.declared.item.Item.TheVariants.{Letter as Mail, Revoke, Enter}
-use Rattle.ulfm_rank.specs.Owed.{is_told, passed_on, owed_by_item, owed_by, owed}
-use Rattle.ulfm_rank.specs.State.{no_mark, State, IsState}
-use Rattle.ulfm_rank.specs.inside.Outboxes.{Box, empty_box, box_at, mark_of, passed_item, item_of_entry, item_at, AllGrow, HasOutboxes}
 use Rattle.ulfm_rank.proofs.Gather.{any-push}
 use Rattle.ulfm_rank.proofs.Owing.{owed-push}
 

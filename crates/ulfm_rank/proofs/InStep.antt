@@ -1,15 +1,6 @@
 -- The matcher and the table stay in step with the log.
 use Rattle.std.proofs.Common.{◌≡◌, ℕ, ◌+◌, ◌≤◌, true, false, cond, eqb, List, [], ◌∷◌, ◌++◌, length, refl, ap, sym, ◌∙◌, subst, Option, Some, None, arith, append-nil, slice_get, ◌||◌}
-use Rattle.std.proofs.lemmas.Bool.Decides.{nat_tests}
-use Rattle.std.proofs.Math.Bool.{or-false}
-use Rattle.ulfm_rank.proofs.Common.{Pattern, Context, Item, WorldRank, Entry, Posted, Revoked, Took, Fate, Request, IsRequest}
-use Rattle.ulfm_match.specs.History.{Event, Post, Clear, counts_as, count_before}
-use Rattle.ulfm_match.specs.Pairing.{Pairing, IsWaiting, IsKept}
-use Rattle.ulfm_match.specs.State.{Matching, is_cleared, Lists, Tracks}
-use Rattle.ulfm_rank.specs.Facts.{is_revoked, revoked_before, is_released, releases}
-use Rattle.ulfm_rank.specs.History.{history_of, events_by, item_events, names_gone, post_events}
-use Rattle.ulfm_rank.specs.inside.Requests.{Adds, TracksAdmit, TracksRevocation, TracksItem}
-use Rattle.ulfm_rank.specs.inside.Table.{IsOfGroup, IsTable, IsInStep}
+use Rattle.ulfm_rank.proofs.Common.{Pattern, Context, Item, WorldRank, Entry, Posted, Revoked, Took, Fate, Request, IsRequest, Pairing, IsWaiting, IsKept, Matching, is_cleared, Lists, Tracks, IsOfGroup, IsTable, IsInStep, get_here, Adds, TracksAdmit, TracksRevocation, TracksItem, nat_tests, or-false, Event, Post, Clear, counts_as, count_before, history_of, events_by, item_events, names_gone, post_events, is_revoked, revoked_before, is_released, releases}
 use Rattle.ulfm_rank.proofs.Gather.{history-push, any-push}
 use Rattle.ulfm_rank.proofs.Groups.{of_group_stays}
 use Rattle.ulfm_rank.proofs.Opens.{unrevoked_open, few_numbered}
@@ -123,16 +114,12 @@ posted_request log p id num free =
     let long : history_of (log ++ Posted p ∷ []) ≡ h ++ post_events (names_gone log p.source) h p = history-push log (Posted p) in (
       length h,
       record {
-        posted = ap (λ g. slice_get g (length h)) long ∙ get_at h (Post p) _;
+        posted = ap (λ g. slice_get g (length h)) long ∙ get_here h (Post p) _;
         numbered = ap (λ g. count_before g (length h)) long ∙ (count_at h (post_events (names_gone log p.source) h p) ∙ num);
         unreleased = free;
       },
     )
   where
-    get_at : (h : List Event) (x : Event) (ys : List Event) → slice_get (h ++ x ∷ ys) (length h) ≡ Some x
-    get_at [] x ys = refl
-    get_at (y ∷ h) x ys = get_at h x ys
-
     count_at : (h ys : List Event) → count_before (h ++ ys) (length h) ≡ count_before h (length h)
     count_at [] [] = refl
     count_at [] (y ∷ ys) = refl

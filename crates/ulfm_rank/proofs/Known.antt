@@ -1,19 +1,7 @@
 -- What is known of failures and revocations stays in step with the log.
 use Rattle.std.proofs.Common.{◌≡◌, ℕ, Bool, true, false, cond, List, [], ◌∷◌, ◌++◌, refl, ap, sym, ◌∙◌, append-nil, ◌||◌, ◌&&◌, ◌==◌, not, nat_lt, length, slice_index_or, eqb-true}
-use Rattle.std.specs.List.{list_any}
-use Rattle.std.proofs.Math.Bool.{or-false}
-use Rattle.std.proofs.lemmas.List.Folds.{list_any-append}
-use Rattle.ulfm_rank.proofs.Common.{Context, Pattern, WorldRank, Item, Entry, Took, members_of}
-use Rattle.ulfm_base.specs.declared.pattern.Source.{Source}
-use Rattle.ulfm_base.specs.declared.pattern.Source.TheVariants.{One, Any}
-use Rattle.ulfm_base.specs.Pattern.{is_any}
+use Rattle.ulfm_rank.proofs.Common.{Context, Pattern, WorldRank, Item, Entry, Took, members_of, HasFaults, names_known, pends_by, was_revoked_in, is_any, pends, list_any, or-false, names_gone, list_any-append, Source, One, Any, is_member, including, intersection, is_gone, tells_gone, known_of, newly_known, acknowledged_of, acknowledged_from, acknowledged_by, is_revoked, revoked_before, revokes, FaultState, acknowledged_in, is_revoked_in, has_unacked}
 use Rattle.ulfm_base.specs.declared.item.Item.TheVariants.{Letter as Mail, Gone, Revoke, Enter}
-use Rattle.ulfm_base.specs.Group.{is_member, including, intersection}
-use Rattle.ulfm_fault.specs.Facts.{FaultState, acknowledged_in, is_revoked_in, has_unacked}
-use Rattle.ulfm_rank.specs.Facts.{is_gone, tells_gone, known_of, newly_known, acknowledged_of, acknowledged_from, acknowledged_by, is_revoked, revoked_before, revokes}
-use Rattle.ulfm_rank.specs.Answer.{pends}
-use Rattle.ulfm_rank.specs.inside.Fields.{HasFaults, names_known, pends_by, was_revoked_in}
-use Rattle.ulfm_rank.specs.History.{names_gone}
 use Rattle.ulfm_rank.proofs.Gather.{gathered-push, gathered_all, any-push}
 
 pub known-push : (log : List Entry) (x : Entry) → known_of (log ++ x ∷ []) ≡ known_of log ++ newly_known log (known_of log) x

@@ -1,7 +1,6 @@
 -- Who a rank lists in a shrink as its log grows.
 use Rattle.std.proofs.Common.{◌≡◌, ℕ, Bool, true, false, cond, List, [], ◌∷◌, ◌++◌, refl, ap, ◌∙◌, eq-eqb, Option, None, ◌==◌, is_some}
-use Rattle.ulfm_rank.proofs.Common.{RankSet, Entry, or_else, first_given}
-use Rattle.ulfm_rank.specs.Shrink.{entry_of, heard_of, has_entered, listed_of}
+use Rattle.ulfm_rank.proofs.Common.{RankSet, Entry, or_else, first_given, entry_of, heard_of, has_entered, listed_of}
 use Rattle.ulfm_rank.proofs.Firsts.{or_none, first-push}
 
 -- what an entry tells of the rank r

@@ -1,10 +1,6 @@
 -- The communicators that a longer log made.
 use Rattle.std.proofs.Common.{◌≡◌, ℕ, zero, suc, ◌+◌, ◌<◌, ◌≤◌, Bool, true, false, cond, eqb, List, [], ◌∷◌, ◌++◌, refl, ap, sym, ◌∙◌, arith, append-nil, Some, All, slice_get}
-use Rattle.std.proofs.lemmas.List.Elements.{All-append}
-use Rattle.std.proofs.lemmas.Option.{slice_get_within, get_or_from_slice_get}
-use Rattle.ulfm_rank.proofs.Common.{Context, dup_of, numbers_from, Entry, Duplicated}
-use Rattle.ulfm_rank.specs.Communicators.{find_group, copy_of, made_by, comms_of, group_of}
-use Rattle.ulfm_rank.specs.inside.Fields.{AreOfWorld, HasCommunicators}
+use Rattle.ulfm_rank.proofs.Common.{Context, dup_of, numbers_from, Entry, Duplicated, All-append, find_group, copy_of, made_by, comms_of, group_of, AreOfWorld, HasCommunicators, slice_get_within, get_or_from_slice_get}
 use Rattle.ulfm_rank.proofs.Gather.{gathered-push}
 
 pub comms-push : (n : ℕ) (log : List Entry) (e : Entry) → comms_of n (log ++ e ∷ []) ≡ comms_of n log ++ made_by log (comms_of n log) e

@@ -1,15 +1,7 @@
 -- What events come of an entry: a context that isn't revoked was never cleared, and at most one of them is numbered.
 use Rattle.std.proofs.Common.{◌≡◌, ◌≢◌, ℕ, zero, suc, ◌+◌, ◌≤◌, Bool, true, false, cond, List, [], ◌∷◌, ◌++◌, length, refl, ap, sym, ◌∙◌, subst, Some, arith, length-append, All, slice_get}
-use Rattle.std.proofs.lemmas.Bool.{false≢true, or_parts, eq-eqb}
-use Rattle.std.proofs.lemmas.List.Elements.{All-nil, All-push, All-append}
-use Rattle.std.proofs.lemmas.Option.{get_or_from_slice_get, slice_get_within}
-use Rattle.ulfm_rank.proofs.Common.{Letter, Pattern, Item, Entry, Posted, Revoked, Took}
+use Rattle.ulfm_rank.proofs.Common.{Letter, Pattern, Item, Entry, Posted, Revoked, Took, false≢true, or_parts, eq-eqb, All-nil, All-push, All-append, names, IsUncleared, get_or_from_slice_get, slice_get_within, Event, Post, Come, End, Clear, counts_as, count_before, names_gone, end_at, ends_from, item_events, events_by, history_of, is_revoked, revoked_before, revokes}
 use Rattle.ulfm_base.specs.declared.item.Item.TheVariants.{Letter as Mail, Gone, Revoke, Enter}
-use Rattle.ulfm_match.specs.History.{Event, Post, Come, End, Clear, counts_as, count_before}
-use Rattle.ulfm_match.specs.State.{IsUncleared}
-use Rattle.ulfm_rank.specs.Facts.{is_revoked, revoked_before, revokes}
-use Rattle.ulfm_rank.specs.History.{names_gone, end_at, ends_from, item_events, events_by, history_of}
-use Rattle.ulfm_base.specs.Pattern.{names}
 use Rattle.ulfm_rank.proofs.Gather.{gathered_all, any-push}
 
 open_append : (xs ys : List Event) (c : ℕ) → IsUncleared xs c → IsUncleared ys c → IsUncleared (xs ++ ys) c

@@ -1,11 +1,7 @@
 -- What a log owes of its entries into shrinks.
 use Rattle.std.proofs.Common.{◌≡◌, ◌≢◌, ℕ, Bool, true, false, cond, eqb, List, [], ◌∷◌, ◌++◌, refl, ap, sym, ◌∙◌, inl, inr, Option, Some, None, is_some, ◌&&◌, ne_eqb}
-use Rattle.std.proofs.lemmas.Option.{none-some}
-use Rattle.ulfm_rank.proofs.Common.{Context, Item, RankSet, is_member, Entry, Sent, Revoked, Entered, Took, is_gone, is_revoked, or_else}
+use Rattle.ulfm_rank.proofs.Common.{Context, Item, RankSet, is_member, Entry, Sent, Revoked, Entered, Took, is_gone, is_revoked, or_else, is_made, members_of, entry_of, has_entered, none-some, owed, owed_by, is_told}
 use Rattle.ulfm_base.specs.declared.item.Item.TheVariants.{Letter as Mail, Revoke, Enter}
-use Rattle.ulfm_rank.specs.Communicators.{is_made, members_of}
-use Rattle.ulfm_rank.specs.Owed.{owed, owed_by, is_told}
-use Rattle.ulfm_rank.specs.Shrink.{entry_of, has_entered}
 use Rattle.ulfm_rank.proofs.Gather.{gathered-push}
 use Rattle.ulfm_rank.proofs.Firsts.{or_none, or_else_cases, or_else_first, or_else_second, some_from, none_from, first-push, first_set, set-append}
 use Rattle.ulfm_rank.proofs.Entering.{Fits, EntersMade, own_set, own_stays, own_cases, entry_parts, entry_here, gone_before, members_stay}

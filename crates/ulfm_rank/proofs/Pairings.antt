@@ -1,10 +1,6 @@
 -- A log's history has one lawful pairing, which holds in its beginnings too.
 use Rattle.std.proofs.Common.{◌≡◌, List, [], ◌∷◌, ◌++◌, ap, sym, ◌∙◌, append-nil, append_assoc}
-use Rattle.ulfm_rank.proofs.Common.{Event, Pairing, LawfulPairing, Entry, events_by, history_of}
-use Rattle.ulfm_match.specs.History.{IsWellFormed}
-use Rattle.ulfm_match.proofs.Cut.{cut}
-use Rattle.ulfm_match.proofs.Unique.{one_pairing}
-use Rattle.ulfm_rank.specs.Paired.{IsPaired}
+use Rattle.ulfm_rank.proofs.Common.{Event, Pairing, LawfulPairing, Entry, events_by, history_of, one_pairing, IsWellFormed, cut, IsPaired}
 use Rattle.ulfm_rank.proofs.Gather.{history-push}
 
 -- the history of a longer log goes on where that of its beginning ends

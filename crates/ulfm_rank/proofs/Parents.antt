@@ -1,8 +1,6 @@
 -- From what the groups of communicators come: the world, a duplicated parent, an adopted decision.
 use Rattle.std.proofs.Common.{◌≡◌, ℕ, zero, suc, List, [], ◌∷◌, ◌++◌, refl, ap, sym, subst, ◌∙◌, arith, inl, inr, ◌⊎◌, Some, All}
-use Rattle.std.proofs.lemmas.List.Elements.{All-pop}
-use Rattle.ulfm_rank.proofs.Common.{Decision, dup_of, shrink_of, numbers_from, Entry, Adopted}
-use Rattle.ulfm_rank.specs.Communicators.{find_group, made_by, group_of}
+use Rattle.ulfm_rank.proofs.Common.{Decision, dup_of, shrink_of, numbers_from, Entry, Adopted, All-pop, find_group, made_by, group_of}
 use Rattle.ulfm_rank.proofs.Gather.{gathered_all}
 use Rattle.ulfm_rank.proofs.Grouped.{found_one, found_cases, still_found}
 

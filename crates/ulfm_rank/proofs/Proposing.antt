@@ -1,16 +1,7 @@
 -- What a rank proposes, from the entries that it knows of.
 use Rattle.std.proofs.Common.{◌≡◌, ℕ, ◌+◌, ◌<◌, ◌≤◌, Bool, true, false, cond, List, length, get_or, set, refl, ap, sym, ◌∙◌, arith, inl, inr, get_or-set_same, get_or-set_other, Option, Some, None, ◌||◌, ◌&&◌, is_some}
-use Rattle.std.specs.List.{list_any}
-use Rattle.std.proofs.lemmas.Bool.{cases_eq, cases_lt, false≢true, cond-true, false_from_ne_true}
 use Rattle.std.proofs.lemmas.List.{get_or_past}
-use Rattle.std.proofs.lemmas.List.Folds.{list_any_at}
-use Rattle.std.proofs.lemmas.Option.{slice_get-get_or}
-use Rattle.ulfm_rank.proofs.Common.{Decision, RankSet, Entry, members_of, is_gone, Knows}
-use Rattle.ulfm_base.specs.Decision.{entry_at, is_listed, in_entry}
-use Rattle.ulfm_base.specs.Group.{is_member, excluding}
-use Rattle.ulfm_base.specs.RankSet.{has, IsSubset}
-use Rattle.ulfm_rank.specs.inside.Fields.{HasEntries}
-use Rattle.ulfm_rank.specs.Shrink.{has_entered, listed_of, is_out, has_proposal, IsProposal}
+use Rattle.ulfm_rank.proofs.Common.{Decision, RankSet, Entry, members_of, is_gone, Knows, cases_eq, cases_lt, false≢true, cond-true, false_from_ne_true, HasEntries, has_entered, listed_of, is_out, has_proposal, IsProposal, slice_get-get_or, list_any, list_any_at, entry_at, is_listed, in_entry, has, IsSubset, is_member, excluding}
 use Rattle.ulfm_base.proofs.Among.{all_members, at_member, member_test, any_member, place_test, excluding_alike}
 
 -- the places below k are filled, and no other

@@ -1,8 +1,7 @@
 -- Which check refuses first.
 use Rattle.std.proofs.Common.{◌≡◌, Bool, true, false, cond, List, [], ◌∷◌, refl, ap, sym, ◌∙◌, Option, Some}
 use Rattle.std.specs.Prelude.{⊤}
-use Rattle.std.proofs.lemmas.Option.{none-some}
-use Rattle.ulfm_base.specs.declared.error.CallError.{CallError}
+use Rattle.ulfm_rank.proofs.Common.{none-some, CallError}
 use Rattle.ulfm_rank.specs.Checks.{Check, first_refusal, Passes}
 
 -- a check that doesn't

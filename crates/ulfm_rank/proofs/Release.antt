@@ -1,15 +1,6 @@
 -- A request is released.
 use Rattle.std.proofs.Common.{◌≡◌, ℕ, ◌<◌, Bool, true, false, cond, eqb, List, [], ◌∷◌, ◌++◌, length, refl, ap, sym, ◌∙◌, subst, Option, Some, None, arith, append-nil, ◌||◌}
-use Rattle.std.proofs.lemmas.Option.{slice_get_within}
-use Rattle.std.proofs.Math.Bool.{or-false}
-use Rattle.std.proofs.lemmas.Bool.{eqb-true, or_parts}
-use Rattle.ulfm_match.specs.declared.request.RequestId.{RequestId}
-use Rattle.ulfm_rank.proofs.Common.{Post, count_before, Entry, Released, TestAnswer, Request, history_of}
-use Rattle.ulfm_match.specs.State.{Matching, Tracks}
-use Rattle.ulfm_match.proofs.Histories.{count_below}
-use Rattle.ulfm_rank.specs.Facts.{is_released, releases}
-use Rattle.ulfm_rank.specs.inside.Requests.{Removes}
-use Rattle.ulfm_rank.specs.inside.Table.{IsTable, IsInStep}
+use Rattle.ulfm_rank.proofs.Common.{Post, count_before, Entry, Released, TestAnswer, Request, history_of, eqb-true, or_parts, Matching, Tracks, IsTable, IsInStep, slice_get_within, count_below, Removes, or-false, is_released, releases, RequestId}
 use Rattle.ulfm_rank.proofs.Gather.{history-push, any-push}
 use Rattle.ulfm_rank.proofs.Groups.{of_group_stays}
 

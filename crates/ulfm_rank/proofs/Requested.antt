@@ -1,12 +1,6 @@
 -- A request that a rank has is answered as its log tells.
 use Rattle.std.proofs.Common.{◌≡◌, ℕ, Bool, List, ap, sym, subst, ◌∙◌, Some, Option, IsSome}
-use Rattle.std.specs.Option.{is_some}
-use Rattle.ulfm_fault.specs.Facts.{FaultState}
-use Rattle.ulfm_match.specs.State.{Matching}
-use Rattle.ulfm_rank.proofs.Common.{Entry, TestAnswer, Request, find_group, or_empty, Follows, Box}
-use Rattle.ulfm_rank.specs.Answer.{IsTestAnswer}
-use Rattle.ulfm_rank.specs.inside.Fields.{pends_by}
-use Rattle.ulfm_rank.specs.inside.Table.{GivesAnswer, HasSender, IsOfGroup}
+use Rattle.ulfm_rank.proofs.Common.{Entry, TestAnswer, Request, find_group, or_empty, Follows, Box, pends_by, Matching, IsTestAnswer, GivesAnswer, HasSender, IsOfGroup, is_some, FaultState}
 use Rattle.ulfm_rank.proofs.Answered.{tested, has_sender}
 use Rattle.ulfm_rank.proofs.Grouped.{members_found}
 use Rattle.ulfm_rank.proofs.Known.{pends_known}

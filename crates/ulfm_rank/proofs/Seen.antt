@@ -1,13 +1,7 @@
 -- What contracts see of a rank whose log or outboxes changed.
 use Rattle.std.proofs.Common.{◌≡◌, ◌≢◌, ℕ, zero, suc, ◌+◌, ◌-◌, ◌<◌, ◌≤◌, Bool, true, false, List, [], ◌∷◌, ◌++◌, length, map, set, refl, ap, sym, subst, ◌∙◌, arith, inl, inr, length-set, get_or-set_same, get_or-set_other, Option, Some, None, slice_get, drop, IfSome, IfNone}
-use Rattle.std.proofs.Math.ListN.{get_or-map}
-use Rattle.std.proofs.lemmas.Bool.{cases_eq}
 use Rattle.std.proofs.lemmas.List.{map-set, length-map, length-drop, drop_all}
-use Rattle.std.proofs.lemmas.Option.{slice_get_within}
-use Rattle.ulfm_rank.proofs.Common.{Item, Gone, Entry, is_stopped, owed}
-use Rattle.ulfm_rank.specs.State.{Mark, State, logged, with_marks, mark_at, outbox, taken_out, returned, unmarked, marked, GoesOut}
-use Rattle.ulfm_rank.specs.inside.Outboxes.{Box, Boxes, empty_box, box_at, mark_of, with_items_out, with_notice_out, item_at, HasOutboxes}
-use Rattle.ulfm_rank.specs.inside.Rank.{stop_places}
+use Rattle.ulfm_rank.proofs.Common.{Item, Gone, Entry, is_stopped, owed, cases_eq, Mark, State, logged, with_marks, mark_at, outbox, taken_out, returned, unmarked, marked, GoesOut, slice_get_within, Box, Boxes, empty_box, box_at, mark_of, with_items_out, with_notice_out, item_at, HasOutboxes, stop_places, get_or-map}
 use Rattle.ulfm_rank.proofs.States.{leaves-running, leaves-stopped}
 
 abbrev pub seen_of : ℕ → ℕ → List Entry → List Box → State

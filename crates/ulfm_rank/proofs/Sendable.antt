@@ -1,11 +1,8 @@
 -- Which send is refused, and which isn't.
 use Rattle.std.proofs.Common.{◌≡◌, ℕ, ◌≤◌, Bool, false, cond, List, [], ◌∷◌, length, ap, ◌∙◌, arith, Some, None, slice_get, nat_le, nat_lt}
-use Rattle.std.proofs.lemmas.Bool.Decides.{nat_tests}
-use Rattle.std.proofs.lemmas.Option.{slice_get_within}
 use Rattle.ulfm_base.specs.declared.error.CallError.TheVariants.{NoComm, BadRank, TooLong, ProcFailed, Revoked, Stopped}
 use Rattle.ulfm_rank.specs.Checks.{first_refusal, Passes, lacks, is_outside, is_gone_at, is_gone_if_member, group_at, comm_checks, send_checks}
-use Rattle.ulfm_rank.proofs.Common.{group_of, or_empty, is_gone, is_revoked, is_stopped}
-use Rattle.ulfm_rank.specs.State.{State}
+use Rattle.ulfm_rank.proofs.Common.{group_of, or_empty, is_gone, is_revoked, is_stopped, State, slice_get_within, nat_tests}
 use Rattle.ulfm_rank.proofs.Refusals.{goes_on, passes_two}
 
 -- a send of which all checks pass but perhaps the last

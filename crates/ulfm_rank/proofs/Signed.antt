@@ -1,12 +1,8 @@
 -- What goes out of a rank bears its number.
 use Rattle.std.proofs.Common.{◌≡◌, ℕ, Bool, true, false, cond, eqb, List, [], ◌∷◌, ◌++◌, length, drop, refl, subst, arith, length-append, All}
 use Rattle.std.proofs.lemmas.List.{get_or_append_left, get_or_at}
-use Rattle.std.proofs.lemmas.List.Elements.{All-append, All-push, All-drop, All-head, All-nil}
-use Rattle.ulfm_rank.proofs.Common.{WorldRank, Item, Entry, owed, owed_by}
+use Rattle.ulfm_rank.proofs.Common.{WorldRank, Item, Entry, owed, owed_by, All-append, All-push, All-drop, All-head, All-nil, State, owes, outbox, mark_at, is_stopped, IsSigned, IsFrom}
 use Rattle.ulfm_base.specs.declared.item.Item.TheVariants.{Letter as Mail, Gone, Revoke, Enter}
-use Rattle.ulfm_rank.specs.Facts.{is_stopped, IsSigned}
-use Rattle.ulfm_rank.specs.State.{State, owes, outbox, mark_at}
-use Rattle.ulfm_rank.specs.Calls.{IsFrom}
 use Rattle.ulfm_base.proofs.Numbers.{same_rank}
 use Rattle.ulfm_rank.proofs.Gather.{gathered_all}
 use Rattle.ulfm_rank.proofs.Logs.{owed_by_cases}

@@ -1,14 +1,9 @@
 -- What a change of one outbox changes of the list of all of them.
 use Rattle.std.proofs.Common.{◌≡◌, ◌≢◌, ℕ, suc, ◌+◌, ◌<◌, ◌≤◌, Bool, true, false, eqb, List, [], ◌∷◌, length, map, get_or, set, refl, ap, sym, ◌∙◌, arith, inl, inr, ◌⊎◌, append-nil}
-use Rattle.std.specs.List.{list_all}
-use Rattle.std.proofs.Math.ListN.{get_or-map}
+use Rattle.ulfm_rank.proofs.Common.{cases_eq, false≢true, list_all, nat_tests, Box, Slot, contents_of, has_room, empty_box, box_at, with_place, for_each, Grows, AllGrow, list_all-map, list_all_at, get_or-map}
 use Rattle.std.proofs.Math.Seq.{map-set_same}
-use Rattle.std.proofs.lemmas.Bool.{cases_eq, false≢true}
-use Rattle.std.proofs.lemmas.Bool.Decides.{nat_tests}
 use Rattle.std.proofs.lemmas.List.{map-set, length-map, length-set, get_or_read, get_or-set_same, get_or-set_other}
-use Rattle.std.proofs.lemmas.List.Folds.{list_all-map, list_all_at}
 use Rattle.ulfm_base.specs.declared.item.Item.{Item}
-use Rattle.ulfm_rank.specs.inside.Outboxes.{Box, Slot, contents_of, has_room, empty_box, box_at, with_place, for_each, Grows, AllGrow}
 
 abbrev pub empty_slot : Slot
 empty_slot = record { contents = empty_box; room = false }

@@ -1,15 +1,8 @@
 -- What is told of a receive stays as the log grows.
 use Rattle.std.proofs.Common.{◌≡◌, ℕ, ◌+◌, ◌<◌, ◌⊎◌, inl, inr, true, List, [], ◌∷◌, ◌++◌, length, refl, ap, sym, ◌∙◌, subst, arith, Option, Some, None, slice_get, max}
-use Rattle.std.proofs.lemmas.Option.{slice_get_within}
-use Rattle.ulfm_rank.proofs.Common.{Letter, Pattern, Event, Post, Come, End, Clear, PostAt, Entry, TestAnswer, group_of, members_of, or_empty, history_of, events_by}
-use Rattle.ulfm_base.specs.declared.error.CallError.{CallError}
+use Rattle.ulfm_rank.proofs.Common.{Letter, Pattern, Event, Post, Come, End, Clear, PostAt, Entry, TestAnswer, group_of, members_of, or_empty, history_of, events_by, Pairing, LawfulPairing, pairs_below, same_pattern, Got, IsUnpaired, IsOver, IsReceived, IsAnswerBy, is_release, slice_get_within, Done, Over, Pending, NotYet, cut, get_front, inside_to, inside_back, CallError}
 use Rattle.ulfm_base.specs.declared.error.CallError.TheVariants.{ProcFailed, Revoked, Truncated}
-use Rattle.ulfm_match.specs.Pairing.{Pairing, LawfulPairing, pairs_below}
-use Rattle.ulfm_match.proofs.Cut.{cut, get_front, inside_to, inside_back}
 use Rattle.ulfm_match.proofs.Decide.{lt_or_ge}
-use Rattle.ulfm_match.proofs.Unique.{same_pattern}
-use Rattle.ulfm_rank.specs.declared.entry.TestAnswer.TheVariants.{Done, Over, Pending, NotYet}
-use Rattle.ulfm_rank.specs.Answer.{Got, IsUnpaired, IsOver, IsReceived, IsAnswerBy, is_release}
 use Rattle.ulfm_rank.proofs.Tables.{first_on}
 use Rattle.ulfm_rank.proofs.Gather.{history-push}
 use Rattle.ulfm_rank.proofs.Grouped.{group_stays, members_found}

@@ -1,20 +1,7 @@
 -- A post and an arrival, with the table beside them.
 use Rattle.std.proofs.Common.{◌≡◌, ◌≢◌, ℕ, ◌+◌, ◌<◌, inl, inr, Bool, true, false, cond, eqb, List, [], ◌∷◌, ◌++◌, length, refl, ap, sym, ◌∙◌, subst, Option, Some, None, arith, append_assoc, append-nil, eqb-true}
-use Rattle.std.specs.Option.{option_map}
-use Rattle.std.proofs.lemmas.Bool.Decides.{nat_tests}
-use Rattle.std.proofs.lemmas.List.Elements.{Contains-push}
-use Rattle.ulfm_rank.proofs.Common.{Pattern, Letter, Entry, Fate, Paired, Request, Item}
-use Rattle.ulfm_match.specs.History.{Event, Post, Come, End, Clear, PostAt, StandsBetween, count_before}
-use Rattle.ulfm_match.specs.Pairing.{Pairing, Pairs, LawfulPairing}
-use Rattle.ulfm_match.specs.State.{Matching, Tracks}
-use Rattle.ulfm_match.specs.Calls.{TracksEnd}
-use Rattle.ulfm_match.proofs.Histories.{get_old, get_new, length_more, count_old, same_number}
-use Rattle.ulfm_match.proofs.Extend.{receive_within}
+use Rattle.ulfm_rank.proofs.Common.{Pattern, Letter, Entry, Fate, Paired, Request, Item, Contains-push, Pairing, Pairs, LawfulPairing, Matching, Tracks, receive_within, IsUnpaired, IsOfGroup, Became, IsStanding, IsTable, get_old, get_new, length_more, count_old, same_number, fate_of, changed, Adds, Changes, TracksItem, option_map, nat_tests, Event, Post, Come, End, Clear, PostAt, StandsBetween, count_before, post_events, item_events, TracksEnd}
 use Rattle.ulfm_match.proofs.Steps.{pair_cases, pair_old, stands_nowhere}
-use Rattle.ulfm_rank.specs.Answer.{IsUnpaired}
-use Rattle.ulfm_rank.specs.inside.Table.{IsOfGroup, Became, IsStanding, IsTable}
-use Rattle.ulfm_rank.specs.History.{post_events, item_events}
-use Rattle.ulfm_rank.specs.inside.Requests.{fate_of, changed, Adds, Changes, TracksItem}
 use Rattle.ulfm_rank.proofs.Tables.{became_keeps, no_post, refated, table_change, table_post}
 use Rattle.ulfm_match.proofs.Determined.{Posts}
 

@@ -1,16 +1,7 @@
 -- The table of requests when the history grows by one event.
 use Rattle.std.proofs.Common.{◌≡◌, ◌≢◌, ℕ, ◌<◌, ◌⊎◌, inl, inr, Bool, true, false, cond, eqb, List, [], ◌∷◌, ◌++◌, length, refl, ap, sym, ◌∙◌, subst, Option, Some, None, arith, eqb-true}
-use Rattle.std.specs.Option.{option_map}
-use Rattle.std.proofs.lemmas.Option.{slice_get_within}
-use Rattle.std.proofs.lemmas.Bool.{eq-eqb, ne_eqb, false_from_ne_true}
-use Rattle.ulfm_rank.proofs.Common.{Pattern, Event, Post, Come, End, Clear, PostAt, count_before, Entry, Fate, Waiting, Paired, Failed, Cleared, Request, is_released}
-use Rattle.ulfm_match.specs.Pairing.{Pairing, Pairs, IsWaiting, LawfulPairing}
-use Rattle.ulfm_match.proofs.Histories.{get_old, get_new, get_cases, length_more, count_old, count_below, count_front, count_rises}
-use Rattle.ulfm_match.proofs.Cut.{get_front, get_in_front}
-use Rattle.ulfm_rank.specs.inside.Requests.{Adds, Changes}
+use Rattle.ulfm_rank.proofs.Common.{Pattern, Event, Post, Come, End, Clear, PostAt, count_before, Entry, Fate, Waiting, Paired, Failed, Cleared, Request, is_released, eq-eqb, ne_eqb, false_from_ne_true, Pairing, Pairs, IsWaiting, LawfulPairing, StandsFirst, IsOfGroup, Became, IsStanding, IsTable, slice_get_within, get_old, get_new, get_cases, length_more, count_old, count_below, count_front, count_rises, Adds, Changes, option_map, get_front, get_in_front}
 use Rattle.ulfm_match.proofs.Steps.{waiting_to}
-use Rattle.ulfm_rank.specs.Answer.{StandsFirst}
-use Rattle.ulfm_rank.specs.inside.Table.{IsOfGroup, Became, IsStanding, IsTable}
 
 -- what stands first goes on standing first
 pub first_on : (h xs : List Event) (i : ℕ) (e o : Event) → StandsFirst h i e o → StandsFirst (h ++ xs) i e o

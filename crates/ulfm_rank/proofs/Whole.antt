@@ -1,19 +1,7 @@
 -- All parts of a rank follow the log, call by call.
 use Rattle.std.proofs.Common.{◌≡◌, ℕ, ◌+◌, ◌<◌, ◌≤◌, Bool, true, false, cond, List, [], ◌∷◌, ◌++◌, length, map, replicate, refl, ap, sym, ◌∙◌, Option, Some, None, arith, ◌&&◌, nat_lt, nat_eq, vec_len, vec_capacity, IsTrue}
-use Rattle.std.specs.Map.{lookup}
-use Rattle.indexmap.specs.IndexMap.{get, index_map_len}
-use Rattle.std.proofs.lemmas.Bool.Decides.{nat_tests}
-use Rattle.ulfm_rank.proofs.Common.{Item, Pattern, WorldRank, numbers_from, Entry, Posted, Released, Took, TestAnswer, Fate, Request, Follows, IsOfGroup}
-use Rattle.ulfm_fault.specs.Facts.{FaultState, acknowledged_in, is_revoked_in}
-use Rattle.ulfm_match.specs.declared.request.RequestId.{RequestId}
-use Rattle.ulfm_match.specs.State.{Matching, Tracks}
-use Rattle.ulfm_rank.specs.inside.Fields.{HasFaults, names_known, was_revoked_in}
-use Rattle.ulfm_rank.specs.inside.Outboxes.{Box, empty_box, mark_of, AllGrow}
-use Rattle.ulfm_rank.specs.Owed.{owed_by_item}
-use Rattle.ulfm_rank.specs.inside.Requests.{Adds, Removes, TracksAdmit, TracksItem}
-use Rattle.ulfm_rank.specs.State.{State, start_state, no_mark}
+use Rattle.ulfm_rank.proofs.Common.{Item, Pattern, WorldRank, numbers_from, Entry, Posted, Released, Took, TestAnswer, Fate, Request, Follows, IsOfGroup, HasFaults, names_known, was_revoked_in, State, start_state, no_mark, Matching, Tracks, Adds, Removes, TracksAdmit, TracksItem, nat_tests, owed_by_item, Box, empty_box, mark_of, AllGrow, lookup, get, index_map_len, Holds, FaultState, acknowledged_in, is_revoked_in, RequestId}
 use Rattle.ulfm_rank.specs.declared.rank.Rank.TheInside.{Inside}
-use Rattle.ulfm_rank.specs.inside.Rank.{Holds}
 use Rattle.ulfm_rank.proofs.Following.{runs_on}
 use Rattle.ulfm_rank.proofs.Held.{outboxes-grown, outboxes-quiet, outboxes-start, marks-start}
 use Rattle.ulfm_rank.proofs.InStep.{in_step_start, in_step_same, in_step_posted, in_step_took}

@@ -1,5 +1,5 @@
 -- What contracts see of a rank: its log, and what went out of each of its outboxes.
-use Rattle.std.specs.Prelude.{◌≡◌, ℕ, Bool, true, false, List, [], ◌∷◌, ◌++◌, ◌+◌, ◌-◌, ◌==◌, ◌<◌, ◌≤◌, if◌then◌else◌, take, drop, length, slice_index_or, slice_set, replicate}
+use Rattle.std.specs.Prelude.{◌≡◌, ℕ, Bool, true, false, ◌&&◌, List, [], ◌∷◌, ◌++◌, ◌+◌, ◌-◌, ◌==◌, ◌<◌, ◌≤◌, if◌then◌else◌, take, drop, length, slice_index_or, slice_set, replicate}
 use Rattle.ulfm_base.specs.declared.item.Item.{Item}
 use Rattle.ulfm_base.specs.declared.item.Item.TheVariants.{Gone}
 use Rattle.ulfm_rank.specs.declared.entry.Entry.{Entry}
@@ -22,10 +22,16 @@ pub record State : Type 0 where
   pub log : List Entry
   pub marks : List Mark
 
--- a rank, and whether there is room for one `take` or one call, of which 'unchanged' doesn't speak
+-- A rank, whether there is room for one `take` or one call, and whether the table of requests has a place for one more, as
+-- a receive needs it. Of both 'unchanged' doesn't speak.
 pub record View : Type 0 where
   pub state : State
   pub prepared : Bool
+  pub has_place : Bool
+
+-- there is room for one `take` or one call, whichever it is
+abbrev pub is_ready : View → Bool
+is_ready rank = rank.prepared && rank.has_place
 
 -- the rank that starts
 abbrev pub start_state : ℕ → ℕ → State

@@ -28,7 +28,7 @@ use ulfm_fault::Faults;
 use ulfm_match::Matcher;
 
 /// One rank of a world of 1 to 8. Contracts see its number, the number of ranks, its log, a mark for each outbox, and
-/// whether there is room for one `take` or one call; all its other parts follow from the log.
+/// whether there is room for one `take` or one call, and for one more request; all its other parts follow from the log.
 #[derive(Drop)]
 pub struct Rank {
     me: WorldRank,

@@ -1,12 +1,10 @@
 -- Each revocation has a cause exactly where each notice of one that was taken has.
 use Rattle.std.proofs.Common.{◌≡◌, ℕ, zero, suc, true, List, [], ◌∷◌, ap, subst, ◌∙◌, inl, inr, ◌⊎◌, refl}
-use Rattle.std.proofs.lemmas.Bool.{false≢true, eq-eqb, eqb-true, or_cases, or_left, or_right}
-use Rattle.std.proofs.lemmas.Option.{none-some, same_Some}
 use Rattle.ulfm_base.specs.declared.item.Item.TheVariants.{Letter, Gone, Revoke, Enter}
 use Rattle.ulfm_rank.specs.declared.entry.Entry.TheVariants.{Revoked, Took}
 use Rattle.ulfm_rank.specs.Facts.{revokes, item_revokes, is_revoked}
 use Rattle.ulfm_laws.specs.Causes.{is_call_to_revoke, RevokedByCall, RevokedByARank}
-use Rattle.ulfm_run.proofs.Common.{at, Entry, Item, list_any, Report}
+use Rattle.ulfm_run.proofs.Common.{at, Entry, Item, list_any, Report, false≢true, eq-eqb, eqb-true, or_cases, or_left, or_right, none-some, same_Some}
 use Rattle.ulfm_run.specs.Caused.{IsCaused, HasCause, HaveCauses}
 
 -- what an entry revokes it revokes by a call, or the notice that it took has a cause

@@ -1,13 +1,10 @@
 -- A rank and its end stay together while items go from one to the other.
 use Rattle.std.proofs.Common.{◌≡◌, ◌≢◌, ℕ, ◌<◌, Bool, true, false, cond, List, [], ◌∷◌, ◌++◌, refl, ap, sym, subst, ◌∙◌, arith, inl, inr, append-nil, All, ◌||◌}
-use Rattle.std.proofs.lemmas.Bool.{cases_eq, eq-eqb, ne_eqb}
 use Rattle.ulfm_rank.specs.Facts.{took, is_stopped, IsSigned}
-use Rattle.ulfm_rank.specs.State.{State, logged, went_out, GoesOut}
 use Rattle.ulfm_rank.proofs.Logs.{took-push, stopped-push}
 use Rattle.ulfm_rank.proofs.Quiet.{calm-took, out_other}
 use Rattle.ulfm_script.proofs.Takes.{takes-none, takes-one}
-use Rattle.ulfm_run.proofs.Common.{Entry, Item, Player, Took, View, with_rank, WorldRank}
-use Rattle.ulfm_run.specs.inside.Joined.{IsJoined, Moves}
+use Rattle.ulfm_run.proofs.Common.{Entry, Item, Player, Took, View, with_rank, WorldRank, cases_eq, eq-eqb, ne_eqb, State, logged, went_out, GoesOut, IsJoined, Moves}
 
 module _ {E N : Type 0} {name : E → N} {place count : E → ℕ} {pushed taken : E → ℕ → List Item} {ready : E → Type 0} where
   -- nothing moved

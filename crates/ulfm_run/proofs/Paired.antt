@@ -1,12 +1,10 @@
 -- Two deciders of a list that is parted between them, and lists of which each two agree.
 use Rattle.std.proofs.Common.{◌≡◌, ℕ, ◌<◌, ◌≤◌, ◌+◌, List, ◌++◌, length, map, refl, ap, ap₂, sym, subst, ◌∙◌, arith, inl, inr, get_or, set, take, drop, append-nil, Option, Some, None, slice_get, IsSome}
-use Rattle.std.proofs.lemmas.Bool.{cases_eq, cases_lt}
 use Rattle.std.proofs.lemmas.List.{length-map, map-append, get_or_append_left, get_or-append-add, drop_all, take_all}
-use Rattle.std.proofs.lemmas.Option.{same_Some, slice_get_within, slice_get-get_or, get_or_from_slice_get}
 use Rattle.std.proofs.Math.Seq.{map-set_same}
 use Rattle.ulfm_base.specs.declared.decision.Decision.{Decision}
 use Rattle.ulfm_board.specs.Known.{BothAgree, known_at, OneBoard}
-use Rattle.ulfm_run.proofs.Common.{AgreeAt, AllAgree, at, at_view, NameOneBoard}
+use Rattle.ulfm_run.proofs.Common.{AgreeAt, AllAgree, at, at_view, NameOneBoard, cases_eq, cases_lt, same_Some, slice_get_within, slice_get-get_or, get_or_from_slice_get}
 use Rattle.ulfm_run.proofs.Handed.{from_map}
 
 -- seats of one board

@@ -1,19 +1,16 @@
 -- One poll of a rank's next step.
 use Rattle.std.proofs.Common.{◌≡◌, ℕ, ◌+◌, ◌<◌, ◌≤◌, false, List, length, ap, sym, subst, ◌∙◌, arith, ◌⊎◌, Option, Some, None, slice_get}
 use Rattle.ulfm_base.specs.declared.context.Context.{Context}
-use Rattle.ulfm_job.specs.declared.step.Step.{Step}
 use Rattle.ulfm_job.specs.declared.step.Step.TheVariants.{Shrink}
 use Rattle.ulfm_script.specs.declared.answer.Called.{Called}
 use Rattle.ulfm_script.specs.declared.answer.Called.TheVariants.{Answered, NotYet}
 use Rattle.ulfm_script.specs.Deciding.{Known, IsDecided}
-use Rattle.ulfm_job.specs.Job.{Seen, IsJob, script_at}
 use Rattle.ulfm_script.specs.Player.{Polls as PollsBy, Player, View, IsCalled, GivesUpStep}
 use Rattle.ulfm_rank.specs.inside.Quiet.{Quiet}
 use Rattle.ulfm_script.proofs.Polls.{quiet-called}
 use Rattle.ulfm_script.proofs.Advance.{ready-at, advance-called, advance-left}
 use Rattle.ulfm_script.proofs.Decisions.{ready-decided, advance-decided, quiet-decided}
-use Rattle.ulfm_run.proofs.Common.{FollowsSoFar, is_stopped, IsState, polls_left, State}
-use Rattle.ulfm_run.specs.inside.Joined.{Polls}
+use Rattle.ulfm_run.proofs.Common.{FollowsSoFar, is_stopped, IsState, polls_left, State, Polls, Step, Seen, IsJob, script_at}
 
 -- one call that is answered, or leaves the step open with polls to spare
 pub polls-call : {job : Seen} (me : ℕ) (v w : View) {asked : Step} → IsJob job → IsState v.player.rank → FollowsSoFar (script_at job me) job.turns v.player → is_stopped v.player.rank.log ≡ false → slice_get (script_at job me) (length v.player.done) ≡ Some asked →

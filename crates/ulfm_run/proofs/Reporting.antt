@@ -1,17 +1,10 @@
 -- From what the threads gave back to the report of a run.
 use Rattle.std.proofs.Common.{◌≡◌, ℕ, List, ◌++◌, length, map, refl, ap, sym, ◌∙◌, subst, arith, All, Some, Option}
-use Rattle.ulfm_base.specs.Items.{items_from}
-use Rattle.ulfm_job.specs.Job.{Seen, script_at, through_stop}
 use Rattle.ulfm_board.specs.Known.{OneBoard}
-use Rattle.ulfm_laws.specs.Shrinks.{AreTrue}
 use Rattle.ulfm_script.specs.Played.{FollowsScript}
 use Rattle.ulfm_laws.specs.Answers.{AllAgree, AllFollowScripts}
-use Rattle.ulfm_laws.specs.Flow.{Flows}
 use Rattle.ulfm_laws.specs.Lawful.{AreProduced}
-use Rattle.ulfm_base.proofs.Places.{there}
-use Rattle.ulfm_run.proofs.Common.{at, Global, InPlace, IsGathered, IsPlayed, Item, Keeps, Known, length-map, Report, RevokedByARank, slice_get_within, Vec, WorldRank}
-use Rattle.ulfm_run.specs.declared.worker.Ran.{Ran}
-use Rattle.ulfm_run.specs.inside.Threads.{NameOneBoard, report_in, end_in, decider_in, WerePlayed, GaveAnswers}
+use Rattle.ulfm_run.proofs.Common.{at, Global, InPlace, IsGathered, IsPlayed, Item, Keeps, Known, length-map, Report, RevokedByARank, slice_get_within, Vec, WorldRank, items_from, Flows, there, AreTrue, Ran, NameOneBoard, report_in, end_in, decider_in, WerePlayed, GaveAnswers, Seen, script_at, through_stop}
 use Rattle.ulfm_run.specs.Fault.{ShowUntrue, Fits}
 use Rattle.ulfm_run.specs.Flow.{EndsMatchLogs, contents}
 use Rattle.ulfm_run.proofs.Paired.{one_board_names}

@@ -1,10 +1,7 @@
 -- Whom nothing waits for, as a loop over the ranks finds it.
 use Rattle.std.proofs.Common.{◌≡◌, ℕ, ◌<◌, ◌≤◌, ◌+◌, ◌↔◌, Bool, List, [], length, refl, ap, sym, subst, ◌∙◌, arith, inl, inr, get_or, eq-eqb, ◌==◌, IsTrue, slice_get, vec_len}
-use Rattle.std.proofs.lemmas.Bool.{cases_lt, eqb-true}
 use Rattle.std.proofs.lemmas.List.{nil_from_length, get_or_past, length-map}
-use Rattle.std.proofs.lemmas.Option.{same_Some, slice_get_read}
-use Rattle.ulfm_laws.specs.Flow.{inbox_of}
-use Rattle.ulfm_run.proofs.Common.{at, contents, Global, Item, Vec, WorldRank}
+use Rattle.ulfm_run.proofs.Common.{at, contents, Global, Item, Vec, WorldRank, cases_lt, eqb-true, same_Some, slice_get_read, inbox_of}
 use Rattle.ulfm_run.proofs.Handed.{inbox_there}
 
 -- what holds at each place before k, and at k, holds at each before k + 1

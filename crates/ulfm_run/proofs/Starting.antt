@@ -1,12 +1,7 @@
 -- A rank that starts.
 use Rattle.std.proofs.Common.{◌≡◌, ℕ, ◌≤◌, List, [], length, refl, ap, sym, subst, ◌∙◌, arith}
-use Rattle.std.proofs.lemmas.List.Elements.{All-nil}
-use Rattle.ulfm_rank.specs.State.{IsState, went_out, no_mark, start_state}
 use Rattle.ulfm_script.specs.Player.{Player, View, start_player}
-use Rattle.ulfm_script.proofs.Progress.{follows-start}
-use Rattle.ulfm_base.proofs.Places.{get_or-blank}
-use Rattle.ulfm_run.proofs.Common.{FollowsSoFar, IsFresh, IsSigned, Item, script_at, Seen}
-use Rattle.ulfm_run.specs.inside.Joined.{IsJoined, IsAtWork}
+use Rattle.ulfm_run.proofs.Common.{FollowsSoFar, IsFresh, IsSigned, Item, script_at, Seen, get_or-blank, All-nil, IsState, went_out, no_mark, start_state, IsJoined, IsAtWork, follows-start}
 
 out-start : (me n d : ℕ) → went_out (start_state me n) d ≡ []
 out-start me n d = rw (get_or-blank n d no_mark) refl

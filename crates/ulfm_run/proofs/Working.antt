@@ -1,15 +1,9 @@
 -- A rank at work.
-use Rattle.std.proofs.Common.{◌≡◌, ℕ, ◌≤◌, true, false, List, [], ◌++◌, length, map, refl, ap, sym, subst, ◌∙◌, arith, Bool, ◌∷◌, inl, inr, ◌⊎◌, append-nil, length-append, ◌<◌, Option, Some, None, MatchOption, slice_get, All}
-use Rattle.std.proofs.lemmas.Bool.{false≢true}
+use Rattle.std.proofs.Common.{◌≡◌, ℕ, ◌≤◌, true, false, List, [], ◌++◌, length, map, refl, ap, sym, subst, ◌∙◌, arith, Bool, inl, inr, ◌⊎◌, append-nil, length-append, ◌<◌, Option, Some, None, MatchOption, slice_get, All}
+use Rattle.std.proofs.lemmas.List.{nil_from_length}
 use Rattle.ulfm_script.specs.declared.answer.StepReport.{StepReport}
-use Rattle.ulfm_job.specs.declared.step.Step.{Step}
-use Rattle.ulfm_job.specs.Job.{Seen, script_at, through_stop}
-use Rattle.ulfm_script.specs.inside.SoFar.{AnswersFollowSoFar}
-use Rattle.ulfm_script.proofs.Honestly.{honest-moved}
 use Rattle.ulfm_script.specs.Script.{reported_step, steps_done, IsPatient, HasFinished}
-use Rattle.ulfm_script.proofs.Progress.{follows-rank, through-none}
-use Rattle.ulfm_run.proofs.Common.{FollowsSoFar, is_stopped, IsPlayed, IsSigned, Item, Known, length-map, Player, polls_left, Report, slice_get_within, State, View, with_rank}
-use Rattle.ulfm_run.specs.inside.Joined.{IsJoined, Moves, Polls, IsAtWork}
+use Rattle.ulfm_run.proofs.Common.{FollowsSoFar, is_stopped, IsPlayed, IsSigned, Item, Known, length-map, Player, polls_left, Report, slice_get_within, State, View, with_rank, false≢true, IsJoined, Moves, Polls, IsAtWork, honest-moved, Step, Seen, script_at, through_stop, follows-rank, through-none, AnswersFollowSoFar}
 use Rattle.ulfm_run.specs.inside.Turns.{IsOver, WentOn, IsAsFar, Keeps, Carries, keeps-then}
 
 -- a player that stopped, or has no step left, answered its script
@@ -18,7 +12,7 @@ has-answered {script} {turns} {p} h over = elim (stops (is_stopped p.rank.log) r
   | inl stopped ↦ record { steps = (h.stopped stopped).0; patient = h.patient; closed = (h.stopped stopped).1 }
   | inr running ↦
       let all : length script ≤ length p.done = elim over [ inl stopped ↦ absurd (false≢true (sym running ∙ stopped)) | inr k ↦ k ] in
-      let none : h.rest ≡ [] = empty h.rest (omega (arith, all, ap length h.split, length-append (steps_done p) h.rest, length-map p.done reported_step)) in
+      let none : h.rest ≡ [] = nil_from_length h.rest (omega (arith, all, ap length h.split, length-append (steps_done p) h.rest, length-map p.done reported_step)) in
       let whole : steps_done p ≡ script = sym (append-nil (steps_done p)) ∙ ap (λ (ys : List Step). steps_done p ++ ys) (sym none) ∙ h.split in
       record { steps = whole ∙ sym (ap through_stop (sym whole) ∙ through-none (steps_done p) (h.running running) ∙ whole); patient = h.patient; closed = none_open p.current h.current all }
 ]
@@ -30,10 +24,6 @@ has-answered {script} {turns} {p} h over = elim (stops (is_stopped p.rank.log) r
     none_open : (o : Option Step) → MatchOption o (p.polls ≡ 0) (λ s. (slice_get script (length p.done) ≡ Some s) × (p.polls < turns)) → length script ≤ length p.done → o ≡ None
     none_open None k all = refl
     none_open (Some s) k all = absurd (omega (arith, all, slice_get_within script (length p.done) s k.0))
-
-    empty : (xs : List Step) → length xs ≤ 0 → xs ≡ []
-    empty [] k = refl
-    empty (x ∷ xs) k = absurd (omega (arith, k))
 
 -- what a rank took and what went out leaves as many polls
 as-far : (script : List Step) (turns : ℕ) (u v : Player) → v ≡ with_rank u v.rank → is_stopped v.rank.log ≡ is_stopped u.rank.log → IsAsFar script turns u v

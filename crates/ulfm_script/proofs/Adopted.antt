@@ -1,8 +1,7 @@
 -- What a decision makes of a player whose answers are right.
 use Rattle.std.proofs.Common.{◌≡◌, ◌≢◌, ℕ, List, length, refl, ap, sym, ◌∙◌, inl, inr, ◌⊎◌, false, get_or-set_other, Option, Some, None}
-use Rattle.std.proofs.lemmas.Bool.{cases_eq}
 use Rattle.ulfm_board.specs.Known.{Answers as BoardAnswers, Agrees, known_at}
-use Rattle.ulfm_script.proofs.Common.{AnswersFollowSoFar, Context, Decision, is_stopped, Learns, Player, Shrink, StandsOpen, State, step_report, StepAnswer}
+use Rattle.ulfm_script.proofs.Common.{AnswersFollowSoFar, Context, Decision, is_stopped, Learns, Player, Shrink, StandsOpen, State, step_report, StepAnswer, cases_eq}
 use Rattle.ulfm_script.specs.Deciding.{Known, AnswersDecision, IsDecided}
 use Rattle.ulfm_script.specs.Answered.{EntersBetween, AdoptsKnown, WantsMemory, by_decision}
 use Rattle.ulfm_script.proofs.Beginnings.{Grew, grew-long, stood-now, stood-before, enters-grew}

@@ -2,8 +2,7 @@
 use Rattle.std.proofs.Common.{◌≡◌, ℕ, Bool, true, false, cond, List, [], ◌∷◌, ◌||◌, Option, Some, None, not, refl, nat_eq, ◌==◌}
 use Rattle.ulfm_base.specs.Group.{is_member, one_further, rank_in}
 use Rattle.ulfm_rank.specs.Checks.{Passes, adopt_checks, group_at}
-use Rattle.ulfm_rank.specs.Shrink.{contradicts}
-use Rattle.ulfm_script.proofs.Common.{all_pass, Decision, State}
+use Rattle.ulfm_script.proofs.Common.{all_pass, Decision, State, contradicts}
 use lib.Pointwise.{pointwise}
 
 third_of_four : (a b m d : Bool) → (not a || (not b || (not m || d))) ≡ false → m ≡ true

@@ -1,11 +1,8 @@
 -- What a poll moves at a player, and what falls with it.
 use Rattle.std.proofs.Common.{◌≡◌, ℕ, ◌^◌, ◌<◌, ◌≤◌, Bool, false, List, length, refl, ap, sym, ◌∙◌, arith, inl, inr, ◌⊎◌, Option, Some, None, MatchOption, slice_get}
-use Rattle.std.proofs.lemmas.Option.{same_Some, slice_get_within}
 use Rattle.ulfm_job.specs.Job.{Seen, IsJob, script_at, is_stop_step}
-use Rattle.ulfm_script.proofs.Common.{is_stopped, Shrink, State, Step, StepAnswer, StepReport, Unfinished, Wait}
-use Rattle.ulfm_script.specs.Player.{Player, AnswersStep, StaysOpen, awaits_decision, IsCalled, GivesUpStep, PollAnswers, PollOpens, with_rank, answered, polled, step_report}
+use Rattle.ulfm_script.proofs.Common.{is_stopped, Shrink, State, Step, StepAnswer, StepReport, Unfinished, Wait, Player, AnswersStep, StaysOpen, awaits_decision, IsCalled, GivesUpStep, PollAnswers, PollOpens, with_rank, answered, polled, step_report, FollowsSoFar, polls_left, same_Some, slice_get_within}
 use Rattle.ulfm_script.specs.Script.{IsPolled, IsPatient}
-use Rattle.ulfm_script.specs.inside.Underway.{FollowsSoFar, polls_left}
 use Rattle.ulfm_script.proofs.Polls.{Adds, answers_add, opens_add, opens_go_on, stopped-adds}
 use Rattle.ulfm_script.proofs.Progress.{closed, follows-closed, follows-polled, left-closed, left_polled, polls_small}
 

@@ -1,7 +1,6 @@
 -- What a log's beginnings keep while the log grows.
 use Rattle.std.proofs.Common.{◌≡◌, ℕ, ◌+◌, ◌≤◌, List, [], ◌∷◌, ◌++◌, length, refl, ap, sym, ◌∙◌, arith, append-nil, append_assoc, length-append, All}
-use Rattle.std.proofs.lemmas.List.Elements.{All-nil, All-append}
-use Rattle.ulfm_script.proofs.Common.{Context, EntersBetween, Entry, IsTook, OnlyTook, State, StoodAt}
+use Rattle.ulfm_script.proofs.Common.{Context, EntersBetween, Entry, IsTook, OnlyTook, State, StoodAt, All-nil, All-append}
 
 -- the same rank with a longer log
 pub record Grew (old new : State) : Type 0 where

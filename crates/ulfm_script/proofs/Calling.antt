@@ -1,9 +1,7 @@
 -- What a poll by a call makes of a player whose answers are right.
 use Rattle.std.proofs.Common.{◌≡◌, ℕ, ◌+◌, ◌-◌, ◌^◌, ◌<◌, min, false, List, [], ◌∷◌, ◌++◌, length, refl, ap, sym, subst, ◌∙◌, arith, inl, inr, length-append, MatchOption, Option, Some, None, slice_get}
-use Rattle.std.proofs.lemmas.Bool.{false≢true}
-use Rattle.ulfm_script.proofs.Common.{Context, is_stop_step, is_stopped, same_Some, Shrink, State, Step, StepReport, Wait}
+use Rattle.ulfm_script.proofs.Common.{Context, is_stop_step, is_stopped, same_Some, Shrink, State, Step, StepReport, Wait, false≢true, Player, IsCalled, PollAnswers, LeavesOpen, StaysOpen, awaits_decision, step_report}
 use Rattle.ulfm_script.specs.Deciding.{Known, HasProposal}
-use Rattle.ulfm_script.specs.Player.{Player, IsCalled, PollAnswers, LeavesOpen, StaysOpen, awaits_decision, step_report}
 use Rattle.ulfm_script.specs.Answered.{OnlyTook, EntersBetween, IsShrink, StoodAt, by_call, left_by_call, left_undecided}
 use Rattle.ulfm_script.specs.inside.SoFar.{Since, Stands, StandsOpen, AnswersFollowSoFar, IsUndecided}
 use Rattle.ulfm_script.proofs.Beginnings.{Grew, grew-long, stood-now, stood-before, took-grew, took-none}

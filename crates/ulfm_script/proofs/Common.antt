@@ -1,6 +1,6 @@
 -- The names that most proofs of scripts cite, passed on from one place. Declares nothing.
-pub use Rattle.std.proofs.lemmas.List.Elements.{All-nil, All-push}
-pub use Rattle.std.proofs.lemmas.Option.{same_Some}
+pub use Rattle.std.proofs.lemmas.List.Elements.{All-nil, All-push, All-append, All-head, All-tail, filter_map-append}
+pub use Rattle.std.proofs.lemmas.Option.{same_Some, slice_get-get_or, slice_get_within}
 pub use Rattle.ulfm_base.specs.Group.{rank_in}
 pub use Rattle.ulfm_base.specs.declared.context.Context.{Context}
 pub use Rattle.ulfm_base.specs.declared.decision.Decision.{Decision}
@@ -10,15 +10,27 @@ pub use Rattle.ulfm_job.specs.declared.step.Step.{Step}
 pub use Rattle.ulfm_job.specs.declared.step.Step.TheVariants.{Shrink, Wait}
 pub use Rattle.ulfm_rank.proofs.Refusals.{all_pass}
 pub use Rattle.ulfm_rank.specs.Checks.{adopt_checks, Passes, shrink_checks}
-pub use Rattle.ulfm_rank.specs.Facts.{is_stop, is_stopped}
+pub use Rattle.ulfm_rank.specs.Facts.{is_stop, is_stopped, IsSigned, Knows, acknowledged_of, is_revoked, took_by}
 pub use Rattle.ulfm_rank.specs.State.{logged, State}
 pub use Rattle.ulfm_rank.specs.declared.entry.Entry.{Entry}
 pub use Rattle.ulfm_rank.specs.declared.entry.Entry.TheVariants.{Adopted, Entered, Took}
 pub use Rattle.ulfm_script.specs.Answered.{AnswersFollow, EntersBetween, IsTook, OnlyTook, StoodAt}
 pub use Rattle.ulfm_script.specs.Deciding.{AnswersAdoption, Known}
-pub use Rattle.ulfm_script.specs.Player.{AnswersStep, LeavesOpen, Player, step_report, Tests}
+pub use Rattle.ulfm_script.specs.Player.{AnswersStep, LeavesOpen, Player, step_report, Tests, AnswersRecv, AnswersWait, GivesUpStep, IsCalled, IsFree, PollAnswers, PollOpens, StaysOpen, View, answered, awaits_decision, comm_of, polled, start_player, tested, with_rank}
 pub use Rattle.ulfm_script.specs.Report.{Report}
 pub use Rattle.ulfm_script.specs.declared.answer.StepAnswer.{StepAnswer}
 pub use Rattle.ulfm_script.specs.declared.answer.StepAnswer.TheVariants.{Refused, Unfinished}
 pub use Rattle.ulfm_script.specs.declared.answer.StepReport.{StepReport}
 pub use Rattle.ulfm_script.specs.inside.SoFar.{AnswersFollowSoFar, Learns, Since, Stands, StandsOpen}
+pub use Rattle.std.proofs.lemmas.Bool.{cases_eq, eq-eqb, false≢true, not-false}
+pub use Rattle.std.specs.Prelude.{Some, nat_lt, ⊤, ◌||◌}
+pub use Rattle.ulfm_base.specs.declared.error.CallError.TheVariants.{OutOfMemory}
+pub use Rattle.ulfm_base.specs.declared.rank_set.RankSet.{RankSet}
+pub use Rattle.ulfm_match.specs.declared.request.RequestId.{RequestId}
+pub use Rattle.ulfm_rank.specs.Shrink.{contradicts, entry_of, has_entered, is_foreign}
+pub use Rattle.ulfm_script.specs.Trace.{spaced, step_lines, trace_of}
+pub use Rattle.ulfm_script.specs.inside.Underway.{FollowsSoFar, answer_of, has_stop, polls_left}
+pub use Rattle.ulfm_rank.proofs.Entering.{Fits}
+pub use Rattle.ulfm_rank.proofs.Logs.{stopped-push}
+pub use Rattle.ulfm_rank.specs.Calls.{Enters, Sends}
+pub use Rattle.ulfm_rank.specs.inside.Quiet.{Quiet}

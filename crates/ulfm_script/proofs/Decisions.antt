@@ -1,12 +1,8 @@
 -- What the decision of a shrink adds to a log, and what it moves at a player.
 use Rattle.std.proofs.Common.{◌≡◌, ℕ, ◌<◌, false, List, length, refl, sym, ◌∙◌, inl, inr, Option, Some, slice_get}
-use Rattle.std.proofs.lemmas.Option.{slice_get_within}
-use Rattle.ulfm_base.specs.declared.error.CallError.TheVariants.{OutOfMemory}
 use Rattle.ulfm_rank.specs.State.{State, IsState}
-use Rattle.ulfm_rank.specs.inside.Quiet.{Quiet}
-use Rattle.ulfm_script.proofs.Common.{Adopted, Context, Decision, is_stopped, Player, Refused, Shrink, Step, step_report, StepAnswer, Unfinished}
+use Rattle.ulfm_script.proofs.Common.{Adopted, Context, Decision, is_stopped, Player, Refused, Shrink, Step, step_report, StepAnswer, Unfinished, FollowsSoFar, OutOfMemory, slice_get_within, Quiet}
 use Rattle.ulfm_script.specs.Deciding.{Known, AnswersAdoption, AnswersDecision, IsDecided}
-use Rattle.ulfm_script.specs.inside.Underway.{FollowsSoFar}
 use Rattle.ulfm_script.proofs.Polls.{Adds, adds_same, adds_one, adoption_adds, quiet-adds}
 use Rattle.ulfm_script.proofs.Advance.{Ready, Advances, advance-closed, polled_in_time}
 

@@ -1,13 +1,7 @@
 -- What a poll of a step adds to a log fits it, and is no adoption.
 use Rattle.std.proofs.Common.{◌≡◌, ℕ, false, List, [], ◌∷◌, ◌++◌, ap, inl, inr, ◌⊎◌}
-use Rattle.std.specs.Prelude.{⊤}
-use Rattle.std.proofs.lemmas.Bool.{not-false}
-use Rattle.ulfm_base.specs.declared.rank_set.RankSet.{RankSet}
 use Rattle.ulfm_rank.specs.Checks.{Passes, lacks, shrink_checks}
-use Rattle.ulfm_rank.specs.Facts.{Knows}
-use Rattle.ulfm_rank.specs.Shrink.{has_entered}
-use Rattle.ulfm_rank.proofs.Entering.{Fits}
-use Rattle.ulfm_script.proofs.Common.{Adopted, all_pass, AnswersStep, Context, Entered, Entry, LeavesOpen, logged, State, Step, StepAnswer, StepReport}
+use Rattle.ulfm_script.proofs.Common.{Adopted, all_pass, AnswersStep, Context, Entered, Entry, LeavesOpen, logged, State, Step, StepAnswer, StepReport, not-false, has_entered, ⊤, RankSet, Knows, Fits}
 use Rattle.ulfm_script.proofs.Polls.{answers_plain, opens_adds}
 use Rattle.ulfm_script.proofs.Says.{IsApart}
 

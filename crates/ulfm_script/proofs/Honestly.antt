@@ -1,9 +1,7 @@
 -- A player's answers stay right while its rank takes items, and with each answer more.
 use Rattle.std.proofs.Common.{◌≡◌, ℕ, true, List, [], ◌++◌, length, refl, ap, sym, subst, ◌∙◌, arith, append-nil, All, Option, Some, None}
-use Rattle.std.proofs.lemmas.Bool.{false≢true}
 use Rattle.ulfm_rank.specs.Paired.{IsPaired}
-use Rattle.ulfm_script.proofs.Common.{Entry, is_stopped, Known, Report, Shrink, State, Step, StepReport}
-use Rattle.ulfm_script.specs.Player.{Player, GivesUpStep, with_rank, start_player}
+use Rattle.ulfm_script.proofs.Common.{Entry, is_stopped, Known, Report, Shrink, State, Step, StepReport, false≢true, Player, GivesUpStep, with_rank, start_player}
 use Rattle.ulfm_script.specs.Answered.{IsTook, OnlyTook, AnswerFollows, EndsAtStop, AnswersFollow}
 use Rattle.ulfm_script.specs.inside.SoFar.{Since, Stands, StandsOpen, AnswersFollowSoFar, Learns, OnlyTakes}
 use Rattle.ulfm_script.proofs.Beginnings.{Grew, took-on, took-none, enters-on}

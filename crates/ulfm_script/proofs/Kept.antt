@@ -1,14 +1,9 @@
 -- What logs keep of shrinks, and that letters are signed, where a rank's answers are right.
 use Rattle.std.proofs.Common.{◌≡◌, ℕ, ◌<◌, true, false, List, [], ◌∷◌, ◌++◌, sym, subst, arith, inl, inr, All}
-use Rattle.std.specs.Prelude.{⊤, Some}
-use Rattle.std.proofs.lemmas.Bool.{not-false}
 use Rattle.ulfm_rank.specs.Checks.{Passes, adopt_checks, group_at}
 use Rattle.ulfm_rank.specs.Communicators.{is_made, members_of}
-use Rattle.ulfm_rank.specs.Facts.{IsSigned}
-use Rattle.ulfm_rank.specs.Shrink.{has_entered, is_foreign}
 use Rattle.ulfm_rank.proofs.Belonging.{Keeps, keeps-start, keeps-push, own_from}
-use Rattle.ulfm_rank.proofs.Entering.{Fits}
-use Rattle.ulfm_script.proofs.Common.{Adopted, All-nil, All-push, all_pass, AnswersFollow, Context, Decision, Entered, Entry, IsTook, Known, known_at, logged, Report, State, StoodAt, Took}
+use Rattle.ulfm_script.proofs.Common.{Adopted, All-nil, All-push, all_pass, AnswersFollow, Context, Decision, Entered, Entry, IsTook, Known, known_at, logged, Report, State, StoodAt, Took, not-false, has_entered, is_foreign, ⊤, Some, IsSigned, Fits}
 use Rattle.ulfm_script.proofs.Fitting.{fits_apart, fits_entered}
 use Rattle.ulfm_script.proofs.Polls.{answers_plain, opens_adds, adoption_adds}
 use Rattle.ulfm_script.proofs.Says.{IsApart}

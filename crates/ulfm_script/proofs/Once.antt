@@ -1,11 +1,8 @@
 -- A rank enters each shrink once.
 use Rattle.std.proofs.Common.{◌≡◌, ℕ, ◌+◌, ◌≤◌, true, false, cond, List, [], ◌∷◌, ◌++◌, length, take, drop, refl, ap, sym, ◌∙◌, arith, Option, Some, None, is_some}
-use Rattle.std.proofs.lemmas.Bool.{false≢true, eq-eqb}
 use Rattle.std.proofs.lemmas.List.{take_all, take-append-drop, take-append-le}
-use Rattle.ulfm_base.specs.declared.rank_set.RankSet.{RankSet}
 use Rattle.ulfm_rank.specs.Log.{or_else, first_given}
-use Rattle.ulfm_rank.specs.Shrink.{entry_of, has_entered}
-use Rattle.ulfm_script.proofs.Common.{all_pass, Context, Entered, EntersBetween, Entry, shrink_checks, State}
+use Rattle.ulfm_script.proofs.Common.{all_pass, Context, Entered, EntersBetween, Entry, shrink_checks, State, false≢true, eq-eqb, entry_of, has_entered, RankSet}
 use Rattle.ulfm_script.proofs.Answers.{took-forth}
 
 -- of two beginnings of a list the longer one begins with the shorter one

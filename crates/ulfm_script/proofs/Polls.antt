@@ -1,18 +1,11 @@
 -- What a poll of a step adds to a log.
 use Rattle.std.proofs.Common.{◌≡◌, ℕ, Bool, true, false, List, [], refl, ap, sym, ◌∙◌, inl, inr, ◌⊎◌}
-use Rattle.std.specs.Prelude.{◌||◌}
-use Rattle.std.proofs.lemmas.Bool.{false≢true}
 use Rattle.ulfm_rank.specs.declared.entry.Entry.TheVariants.{Sent as SentEntry, Posted as PostedEntry, Released, Entered, Adopted, Took}
 use Rattle.ulfm_rank.specs.declared.entry.TestAnswer.TheVariants.{Done as TestDone, Over as TestOver}
-use Rattle.ulfm_rank.specs.Facts.{is_stop, is_stopped, took_by, IsSigned}
-use Rattle.ulfm_rank.specs.Calls.{Enters}
 use Rattle.ulfm_rank.specs.State.{State, IsState, logged}
-use Rattle.ulfm_rank.proofs.Logs.{stopped-push}
 use Rattle.ulfm_rank.proofs.Quiet.{Own, quiet-same, quiet-logged}
-use Rattle.ulfm_rank.specs.inside.Quiet.{Quiet}
-use Rattle.ulfm_script.proofs.Common.{adopt_checks, AnswersAdoption, Context, Decision, Entry, is_stop_step, Passes, Shrink, shrink_checks, Step, StepAnswer, StepReport, Wait}
+use Rattle.ulfm_script.proofs.Common.{adopt_checks, AnswersAdoption, Context, Decision, Entry, is_stop_step, Passes, Shrink, shrink_checks, Step, StepAnswer, StepReport, Wait, false≢true, Player, comm_of, AnswersStep, LeavesOpen, StaysOpen, awaits_decision, IsCalled, GivesUpStep, ◌||◌, stopped-push, Quiet, is_stop, is_stopped, took_by, IsSigned, Enters}
 use Rattle.ulfm_script.specs.declared.answer.StepAnswer.TheVariants.{Shrunk, Refused}
-use Rattle.ulfm_script.specs.Player.{Player, comm_of, AnswersStep, LeavesOpen, StaysOpen, awaits_decision, IsCalled, GivesUpStep}
 use Rattle.ulfm_script.proofs.Says.{IsIdle, IsApart, AddsIdle, each_answer}
 
 -- one entry of the rank's own is added, a stop or not

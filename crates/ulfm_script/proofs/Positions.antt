@@ -1,8 +1,7 @@
 -- Positions that are found one by one.
 use Rattle.std.proofs.Common.{◌≡◌, ℕ, ◌+◌, ◌<◌, List, [], ◌∷◌, ◌++◌, Option, Some, None, length, take, filter_map, refl, get_or, ap, sym, ◌∙◌, append-nil, length-append, arith, ◌≤◌, MatchOption}
 use Rattle.std.proofs.lemmas.List.{take_more}
-use Rattle.std.proofs.lemmas.List.Elements.{filter_map-append}
-use Rattle.std.proofs.lemmas.Option.{slice_get-get_or}
+use Rattle.ulfm_script.proofs.Common.{slice_get-get_or, filter_map-append}
 use Rattle.ulfm_base.specs.Group.{rank_in, translated, position_in}
 
 -- the positions in a group of the first k others

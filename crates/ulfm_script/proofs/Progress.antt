@@ -1,11 +1,8 @@
 -- A player that goes on through its script.
 use Rattle.std.proofs.Common.{◌≡◌, ℕ, ◌+◌, ◌-◌, ◌*◌, ◌^◌, ◌<◌, ◌≤◌, min, Bool, true, false, cond, List, [], ◌∷◌, ◌++◌, length, map, refl, ap, sym, ◌∙◌, arith, append_assoc, length-append, inl, inr, ◌⊎◌, Option, Some, None, MatchOption, slice_get}
-use Rattle.std.proofs.lemmas.Bool.{false≢true}
 use Rattle.std.proofs.lemmas.List.{map_push, length-map}
 use Rattle.ulfm_job.specs.Job.{is_stop_step, through_stop}
-use Rattle.ulfm_script.proofs.Common.{All-nil, All-push, is_stopped, same_Some, State, Step, StepReport}
-use Rattle.ulfm_script.specs.Player.{Player, with_rank, polled, IsFree, start_player}
-use Rattle.ulfm_script.specs.inside.Underway.{has_stop, FollowsSoFar, polls_left}
+use Rattle.ulfm_script.proofs.Common.{All-nil, All-push, is_stopped, same_Some, State, Step, StepReport, false≢true, Player, with_rank, polled, IsFree, start_player, has_stop, FollowsSoFar, polls_left}
 use Rattle.ulfm_script.specs.Script.{reported_step, steps_done, IsPatient}
 
 split_next : (xs rest script : List Step) (s : Step) → xs ++ rest ≡ script → slice_get script (length xs) ≡ Some s → (more : List Step) × (rest ≡ s ∷ more)

@@ -1,18 +1,13 @@
 -- What an answer of a poll says, and what the log has of it: one walk over the steps and their answers.
 use Rattle.std.proofs.Common.{◌≡◌, ℕ, Bool, true, false, cond, List, refl, inl, inr, ◌⊎◌, Option}
-use Rattle.std.specs.Prelude.{⊤, nat_lt}
 use Rattle.ulfm_base.specs.declared.error.CallError.{CallError}
 use Rattle.ulfm_base.specs.declared.tag.Tag.{Tag}
-use Rattle.ulfm_match.specs.declared.request.RequestId.{RequestId}
 use Rattle.ulfm_rank.specs.declared.entry.Entry.TheVariants.{Sent as SentEntry, Posted as PostedEntry, Acknowledged, Revoked as RevokedEntry, Duplicated, Entered, Adopted, Stopped as StopEntry, Took}
 use Rattle.ulfm_rank.specs.declared.entry.Status.{Status}
 use Rattle.ulfm_rank.specs.declared.entry.TestAnswer.TheVariants.{Done as TestDone, Over as TestOver}
-use Rattle.ulfm_rank.specs.Calls.{Sends}
-use Rattle.ulfm_rank.specs.Facts.{is_stop, is_stopped, is_revoked, acknowledged_of}
 use Rattle.ulfm_job.specs.declared.step.Step.TheVariants.{Send, Recv, Wait, Failed, Ack, Revoke, Dup, Shrink, Stop}
-use Rattle.ulfm_script.proofs.Common.{Context, Entry, is_stop_step, logged, State, Step, StepAnswer, StepReport}
+use Rattle.ulfm_script.proofs.Common.{Context, Entry, is_stop_step, logged, State, Step, StepAnswer, StepReport, comm_of, Tests, AnswersStep, AnswersRecv, ⊤, nat_lt, RequestId, is_stop, is_stopped, is_revoked, acknowledged_of, Sends}
 use Rattle.ulfm_script.specs.declared.answer.StepAnswer.TheVariants.{Sent, Posted, Done, Over, Pending, Ranks, Acked, Revoked, Made, Stopped, Refused}
-use Rattle.ulfm_script.specs.Player.{comm_of, Tests, AnswersStep, AnswersRecv}
 
 -- an answer tells of no letter, and of no request that was posted or released
 abbrev pub IsSilent : StepAnswer → Type 0

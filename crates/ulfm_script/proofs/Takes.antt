@@ -1,9 +1,8 @@
 -- A log that grows by what is taken.
 use Rattle.std.proofs.Common.{◌≡◌, false, List, [], ◌∷◌, ◌++◌, refl, sym, ◌∙◌, append-nil}
-use Rattle.std.proofs.lemmas.Bool.{false≢true}
 use Rattle.ulfm_base.specs.declared.rank.WorldRank.{WorldRank}
 use Rattle.ulfm_base.specs.declared.item.Item.{Item}
-use Rattle.ulfm_script.proofs.Common.{All-nil, All-push, Entry, is_stopped, IsTook, Took}
+use Rattle.ulfm_script.proofs.Common.{All-nil, All-push, Entry, is_stopped, IsTook, Took, false≢true}
 use Rattle.ulfm_script.specs.inside.SoFar.{OnlyTakes}
 
 -- a log that stays

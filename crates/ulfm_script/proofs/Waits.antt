@@ -1,13 +1,10 @@
 -- What a test of its request says for a wait.
 use Rattle.std.proofs.Common.{◌≡◌, ℕ, true, false, List, refl, IfSome, IfNone}
-use Rattle.ulfm_match.specs.declared.request.RequestId.{RequestId}
 use Rattle.ulfm_rank.specs.declared.entry.Entry.TheVariants.{Released}
 use Rattle.ulfm_rank.specs.declared.entry.TestAnswer.{TestAnswer}
 use Rattle.ulfm_rank.specs.declared.entry.TestAnswer.TheVariants.{Done, Over, Pending, NotYet}
 use Rattle.ulfm_rank.specs.Answer.{is_release}
-use Rattle.ulfm_script.proofs.Common.{logged, State, StepReport}
-use Rattle.ulfm_script.specs.Player.{tested, Tests, AnswersWait}
-use Rattle.ulfm_script.specs.inside.Underway.{answer_of}
+use Rattle.ulfm_script.proofs.Common.{logged, State, StepReport, tested, Tests, AnswersWait, answer_of, RequestId}
 
 -- a test releases its request or changes nothing
 pub only_tested : (r new : State) (id : RequestId) (answer : TestAnswer) → (is_release answer ≡ true → new ≡ logged r (Released id answer)) → (is_release answer ≡ false → new ≡ r) → new ≡ tested r id answer

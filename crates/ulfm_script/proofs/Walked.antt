@@ -1,9 +1,7 @@
 -- What each thing that happens to a rank keeps, all that happened to it keeps, where its answers are right.
 use Rattle.std.proofs.Common.{◌≡◌, ℕ, ◌+◌, List, [], ◌∷◌, ◌++◌, length, take, refl, ap, sym, subst, ◌∙◌, arith, inl, inr, ◌⊎◌, append-nil, append_assoc, length-append, Option, Some, None, All}
-use Rattle.std.proofs.lemmas.List.Elements.{All-head, All-tail}
 use Rattle.std.proofs.Math.Seq.{take-append_seam, take-length}
-use Rattle.ulfm_base.specs.declared.error.CallError.TheVariants.{OutOfMemory}
-use Rattle.ulfm_script.proofs.Common.{AnswersAdoption, AnswersFollowSoFar, AnswersStep, Context, Decision, Entry, Known, known_at, LeavesOpen, Player, Refused, Report, Shrink, Since, Stands, State, Step, StepReport, Unfinished}
+use Rattle.ulfm_script.proofs.Common.{AnswersAdoption, AnswersFollowSoFar, AnswersStep, Context, Decision, Entry, Known, known_at, LeavesOpen, Player, Refused, Report, Shrink, Since, Stands, State, Step, StepReport, Unfinished, OutOfMemory, All-head, All-tail}
 use Rattle.ulfm_script.specs.Answered.{StoodAt, IsTook, OnlyTook, EntersBetween, AnsweredByDecision, by_call, left_by_call, by_decision, left_undecided, AnswerFollows, EachAnswerFollows, AnswersFollow}
 
 -- K holds of the answered steps and the log after each thing that may happen to the rank r, if it held before: an item is

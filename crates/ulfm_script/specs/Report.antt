@@ -1,6 +1,8 @@
 -- What contracts see of a rank's report.
-use Rattle.std.specs.Prelude.{ℕ, List}
+use Rattle.std.specs.Prelude.{ℕ, Bool, true, false, List}
 use Rattle.ulfm_rank.specs.State.{State}
+use Rattle.ulfm_script.specs.declared.answer.StepAnswer.{StepAnswer}
+use Rattle.ulfm_script.specs.declared.answer.StepAnswer.TheVariants.{Unfinished}
 use Rattle.ulfm_script.specs.declared.answer.StepReport.{StepReport}
 
 -- a rank as it stood at the end, its answered steps, and how many of its turns took nothing since no memory was found
@@ -8,3 +10,8 @@ pub record Report : Type 0 where
   pub rank : State
   pub steps : List StepReport
   pub starved : ℕ
+
+-- the answer of a step that was given up
+abbrev pub is_unfinished : StepAnswer → Bool
+is_unfinished Unfinished = true
+is_unfinished _ = false

@@ -31,6 +31,7 @@ pub struct Player {
 
 impl Model for Player {
     ghost use Rattle.std.specs.Prelude.{◌-◌, ◌<◌, ◌≢◌, vec_len, vec_capacity, None};
+    ghost use Rattle.ulfm_rank.specs.State.{is_ready};
     ghost use Rattle.ulfm_script.specs.Player.{View};
 
     ghost Value = { View };
@@ -38,7 +39,7 @@ impl Model for Player {
     ghost view = { λ p. record {
       player = record { rank = p.rank.state; done = p.done.items; current = p.current; at = p.at; polls = p.polls };
       room = vec_capacity p.done - vec_len p.done;
-      prepared = p.rank.prepared;
+      prepared = is_ready p.rank;
     } };
 
     ghost invariant = { λ p. p.current ≢ None → vec_len p.done < vec_capacity p.done };

@@ -18,6 +18,7 @@ pub fn enter(rank: &mut Rank, context: Context) -> Option<StepAnswer>
     ensures enters { IfNone result (Enters rank.old.state (comm_of context) rank.new.state) }
     ensures room_lacked { IfSome result (λ answer. answer ≡ StepAnswer.Refused CallError.OutOfMemory → rank.old.prepared ≡ false) }
     ensures stays_prepared { rank.new.state ≡ rank.old.state → IsTrue rank.old.prepared → IsTrue rank.new.prepared }
+    ensures keeps_place { rank.new.state ≡ rank.old.state → IsTrue rank.old.has_place → IsTrue rank.new.has_place }
 {
     match rank.enter_shrink(Comm { context }) {
         Ok(()) => None,
@@ -35,6 +36,7 @@ pub fn decide<D: Decider>(rank: &mut Rank, context: Context, board: &mut D) -> O
     ensures board { D.board board.new ≡ D.board board.old }
     ensures room_lacked { IfSome result (λ answer. answer ≡ StepAnswer.Refused CallError.OutOfMemory → IsTrue rank.old.prepared → Starves (D.board board.old) (D.known board.old) context.number) }
     ensures stays_prepared { rank.new.state ≡ rank.old.state → IsTrue rank.old.prepared → IsTrue rank.new.prepared }
+    ensures keeps_place { rank.new.state ≡ rank.old.state → IsTrue rank.old.has_place → IsTrue rank.new.has_place }
 {
     let Ok(Some(proposal)) = rank.proposal(Comm { context }) else {
         return None;
@@ -50,6 +52,7 @@ fn adopt(rank: &mut Rank, context: Context, held: Decision) -> StepAnswer
     ensures answers { AnswersAdoption rank.old.state context held result rank.new.state }
     ensures room_lacked { result ≡ StepAnswer.Refused CallError.OutOfMemory → rank.old.prepared ≡ false }
     ensures stays_prepared { rank.new.state ≡ rank.old.state → IsTrue rank.old.prepared → IsTrue rank.new.prepared }
+    ensures keeps_place { rank.new.state ≡ rank.old.state → IsTrue rank.old.has_place → IsTrue rank.new.has_place }
 {
     let group = held.fresh.copied();
     match rank.adopt(Comm { context }, held) {

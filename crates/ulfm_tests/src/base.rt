@@ -12,37 +12,44 @@ fn four_and_three(rt: &HostRuntime) -> Result<(Group, Group), CallError> {
     Ok((world, rest))
 }
 
+// Whether a rank of the world stands at a position of a group.
+fn stands(group: &Group, position: u8, rank: WorldRank) -> bool {
+    group.world_of(position) == Some(rank) && group.rank_of(rank) == Some(position)
+}
+
 #[test]
 fn positions_of_a_group_without_a_member(rt: HostRuntime) -> Result<(), Fail> {
     let (_world, rest) = four_and_three(&rt)?;
     assert_eq!(rt; rest.size(), 3);
-    for (position, number) in [(0, 0), (1, 2), (2, 3)] {
-        assert_eq!(rt;
-            rest.world_of(position),
-            Some(WorldRank { number }),
-            "position {position}"
-        );
-        assert_eq!(rt;
-            rest.rank_of(WorldRank { number }),
-            Some(position),
-            "rank {number}"
-        );
-    }
+    assert!(rt; stands(&rest, 0, WorldRank { number: 0 }));
+    assert!(rt; stands(&rest, 1, WorldRank { number: 2 }));
+    assert!(rt; stands(&rest, 2, WorldRank { number: 3 }));
     assert_eq!(rt; rest.rank_of(WorldRank { number: 1 }), None);
     Ok(())
 }
 
+// Whether positions of a group are these of another.
+fn translates(
+    from: &Group,
+    to: &Group,
+    positions: &[u8],
+    wants: &[Option<u8>],
+) -> Result<bool, CallError> {
+    Ok(from.translate(positions, to)?.as_slice() == wants)
+}
+
+// The positions of the world in the rest of it.
+const IN_THE_REST: [Option<u8>; 4] = [Some(0), None, Some(1), Some(2)];
+
+// The positions of the rest in the world.
+const IN_THE_WORLD: [Option<u8>; 3] = [Some(0), Some(2), Some(3)];
+
 #[test]
 fn translates_between_a_group_and_the_rest_of_it(rt: HostRuntime) -> Result<(), Fail> {
     let (world, rest) = four_and_three(&rt)?;
-    let to_world = rest.translate(&[0, 1, 2], &world)?;
-    assert_eq!(rt; to_world.as_slice(), [Some(0), Some(2), Some(3)].as_slice());
-    let to_rest = world.translate(&[0, 1, 2, 3], &rest)?;
-    assert_eq!(rt;
-        to_rest.as_slice(),
-        [Some(0), None, Some(1), Some(2)].as_slice()
-    );
-    assert_eq!(rt; world.translate(&[], &rest)?.len(), 0);
+    assert!(rt; translates(&rest, &world, &[0, 1, 2], &IN_THE_WORLD)?);
+    assert!(rt; translates(&world, &rest, &[0, 1, 2, 3], &IN_THE_REST)?);
+    assert!(rt; translates(&world, &rest, &[], &[])?);
     assert!(rt; matches!(rest.translate(&[3], &world), Err(CallError::BadRank)));
     Ok(())
 }
@@ -59,27 +66,38 @@ fn numbers_out_of_range(rt: HostRuntime) {
     assert!(rt; Tag::new(32767).is_ok());
 }
 
+// All refusals, in the order of their numbers.
+const REFUSALS: [CallError; 15] = [
+    CallError::NoComm,
+    CallError::BadRank,
+    CallError::BadTag,
+    CallError::TooLong,
+    CallError::ProcFailed,
+    CallError::Revoked,
+    CallError::NoRequest,
+    CallError::AlreadyMade,
+    CallError::NoContext,
+    CallError::Stopped,
+    CallError::NotMember,
+    CallError::OutOfMemory,
+    CallError::BadSize,
+    CallError::NotEntered,
+    CallError::Truncated,
+];
+
+// A line for each refusal.
+const NAMES: &str =
+    "1 NoComm\n2 BadRank\n3 BadTag\n4 TooLong\n5 ProcFailed\n6 Revoked\n7 NoRequest\n8 AlreadyMade\n9 NoContext\n10 Stopped\n11 NotMember\n12 OutOfMemory\n13 BadSize\n14 NotEntered\n15 Truncated\n";
+
 #[test]
 fn refusals_have_numbers_and_names(rt: HostRuntime) -> Result<(), Fail> {
-    for (error, number, text) in [
-        (CallError::NoComm, 1, "1 NoComm"),
-        (CallError::BadRank, 2, "2 BadRank"),
-        (CallError::BadTag, 3, "3 BadTag"),
-        (CallError::TooLong, 4, "4 TooLong"),
-        (CallError::ProcFailed, 5, "5 ProcFailed"),
-        (CallError::Revoked, 6, "6 Revoked"),
-        (CallError::NoRequest, 7, "7 NoRequest"),
-        (CallError::AlreadyMade, 8, "8 AlreadyMade"),
-        (CallError::NoContext, 9, "9 NoContext"),
-        (CallError::Stopped, 10, "10 Stopped"),
-        (CallError::NotMember, 11, "11 NotMember"),
-        (CallError::OutOfMemory, 12, "12 OutOfMemory"),
-        (CallError::BadSize, 13, "13 BadSize"),
-        (CallError::NotEntered, 14, "14 NotEntered"),
-        (CallError::Truncated, 15, "15 Truncated"),
-    ] {
-        assert_eq!(rt; error as u8, number, "{text}");
-        assert_eq!(rt; format!(in rt.alloc(); "{error}")?.as_str(), text);
+    let mut names = String::new(rt.alloc());
+    let mut number = 0_u8;
+    for error in REFUSALS {
+        number = number.saturating_add(1);
+        assert_eq!(rt; error as u8, number);
+        write!(names, "{error}\n")?;
     }
+    assert_eq!(rt; names.as_str(), NAMES);
     Ok(())
 }

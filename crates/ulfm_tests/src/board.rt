@@ -18,13 +18,21 @@ fn none_left(alloc: Global, context: Context, n: u8) -> Result<Decision, CallErr
     let old = Group::world(alloc, n)?;
     let excluded = old.members();
     let fresh = old.excluding(excluded);
-    Ok(Decision {
+    let decision = Decision {
         context,
         old,
         entries: [None; 8],
         excluded,
         fresh,
-    })
+    };
+    Ok(decision)
+}
+
+// Whether a decider answers a decision by this one.
+fn answers<D: Decider>(decider: &mut D, decision: Decision, by: &Decision) -> Result<bool, Fail>
+    ensures { D.board decider.new ≡ D.board decider.old }
+{
+    Ok(decider.decide(decision)?.is_same(by))
 }
 
 // Whether two deciders of one board both answer the first decision of a context.
@@ -33,11 +41,11 @@ fn answers_the_first<D: Decider>(one: &mut D, other: &mut D, alloc: Global) -> R
 {
     let first = none_left(alloc, Context::WORLD, 2)?;
     let second = none_left(alloc, Context::WORLD, 3)?;
-    let mine = one.decide(first.copied())?;
-    let theirs = other.decide(second.copied())?;
-    let again = one.decide(second)?;
+    let mine = answers(one, first.copied(), &first)?;
+    let theirs = answers(other, second.copied(), &first)?;
+    let again = answers(one, second, &first)?;
     one.same(other);
-    Ok(mine.is_same(&first) && theirs.is_same(&first) && again.is_same(&first))
+    Ok(mine && theirs && again)
 }
 
 // Whether a decider answers, in each of these turns, the first decision of the turn's context, where this one is handed in, or
@@ -58,7 +66,7 @@ fn answers_each<D: Decider>(
         let first = none_left(alloc, context, 1 + number % 7)?;
         let second = none_left(alloc, context, 8)?;
         let handed_in = if is_first { first.copied() } else { second };
-        if !decider.decide(handed_in)?.is_same(&first) {
+        if !answers(decider, handed_in, &first)? {
             return Ok(false);
         }
     }

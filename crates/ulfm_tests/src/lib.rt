@@ -10,6 +10,8 @@ mod carrier;
 #[cfg(test)]
 mod fault;
 #[cfg(test)]
+mod matchers;
+#[cfg(test)]
 mod matching;
 #[cfg(test)]
 mod run;

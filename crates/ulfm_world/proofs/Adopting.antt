@@ -1,24 +1,13 @@
 -- How a decision is held and adopted.
 use Rattle.std.proofs.Common.{◌≡◌, ◌≢◌, ℕ, ◌<◌, true, false, List, [], ◌∷◌, ◌++◌, refl, ap, sym, ◌∙◌, arith, inl, inr, ◌⊎◌, Option, Some, None, get_or-set_other}
-use Rattle.std.proofs.lemmas.Bool.{cases_eq}
-use Rattle.std.proofs.lemmas.Option.{none-some, same_Some}
-use Rattle.std.proofs.lemmas.List.Elements.{All-push}
-use Rattle.ulfm_world.proofs.Common.{Context, Decision, Entry, Adopted, is_stopped, State, Shrink, Player, World, player_at, rank_at, IsRunning, IsWorld}
-use Rattle.ulfm_base.specs.declared.error.CallError.{CallError}
-use Rattle.ulfm_base.specs.declared.error.CallError.TheVariants.{OutOfMemory}
+use Rattle.ulfm_world.proofs.Common.{Context, Decision, Entry, Adopted, is_stopped, State, Shrink, Player, World, player_at, rank_at, IsRunning, IsWorld, cases_eq, none-some, same_Some, All-push, CallError, OutOfMemory, is_made, members_of, StepAnswer, AnswersAdoption, Fits, IsOwn, not_foreign, adoption_adds}
 use Rattle.ulfm_board.specs.Known.{known_at, Answers as BoardAnswers}
 use Rattle.ulfm_rank.specs.Checks.{Passes, FailsOrStarves, group_at, adopt_checks}
-use Rattle.ulfm_rank.specs.Communicators.{is_made, members_of}
 use Rattle.ulfm_rank.specs.Shrink.{has_entered, has_adopted, is_foreign, IsProposal}
-use Rattle.ulfm_script.specs.declared.answer.StepAnswer.{StepAnswer}
-use Rattle.ulfm_script.specs.Deciding.{AnswersAdoption}
-use Rattle.ulfm_rank.proofs.Entering.{Fits}
-use Rattle.ulfm_rank.proofs.Belonging.{IsOwn, not_foreign}
 use Rattle.ulfm_world.proofs.Agreed.{IsAdopted, IsHeld, Settled}
 use Rattle.ulfm_world.proofs.Held.{proposal_held, held_own}
 use Rattle.ulfm_world.proofs.Grown.{Moved, StillHeld, all_later}
 use Rattle.ulfm_script.proofs.Adopted.{agreed}
-use Rattle.ulfm_script.proofs.Polls.{adoption_adds}
 
 -- what the board knew, and knows once a proposal is handed in: the one that is held, or what was known
 module _ (known later : List (Option Decision)) (proposal held : Decision) (b : BoardAnswers None known proposal held later) where

@@ -1,18 +1,8 @@
 -- What every world keeps of its shrinks, and that ranks have one group for each context.
 use Rattle.std.proofs.Common.{◌≡◌, ℕ, ◌<◌, true, false, List, length, ap, sym, subst, ◌∙◌, arith, Option, Some}
 use Rattle.std.specs.Prelude.{All, ⊤}
-use Rattle.std.proofs.lemmas.Option.{same_Some, get_or_from_slice_get, slice_get_within}
-use Rattle.ulfm_world.proofs.Common.{Context, Decision, RankSet, is_member, known_at, Entry, Adopted, Shrink, Report, at, IsWorld}
-use Rattle.ulfm_base.specs.Decision.{entry_at}
-use Rattle.ulfm_base.specs.RankSet.{has}
-use Rattle.ulfm_rank.specs.Communicators.{group_of}
-use Rattle.ulfm_rank.specs.Facts.{is_gone}
+use Rattle.ulfm_world.proofs.Common.{Context, Decision, RankSet, is_member, known_at, Entry, Adopted, Shrink, Report, at, IsWorld, same_Some, get_or_from_slice_get, slice_get_within, group_of, own_set, Keeps, has, is_gone, AdoptOne, EntersEachOnce, World, rank_at, player_at, HasStopped, report_of, reports_in, entry_at, gone_stopped, listed_own}
 use Rattle.ulfm_rank.specs.Shrink.{listed_of, has_adopted}
-use Rattle.ulfm_laws.specs.Shrinks.{AdoptOne, EntersEachOnce}
-use Rattle.ulfm_world.specs.World.{World, rank_at, player_at, HasStopped, report_of, reports_in}
-use Rattle.ulfm_rank.proofs.Entering.{own_set}
-use Rattle.ulfm_rank.proofs.Belonging.{Keeps}
-use Rattle.ulfm_laws.proofs.Flowing.{gone_stopped, listed_own}
 use Rattle.ulfm_laws.proofs.OneGroup.{same_group}
 use Rattle.ulfm_laws.proofs.Proposing.{AllKeep}
 use Rattle.ulfm_world.proofs.Read.{many_reports, report_there, report_inside, report_is, each_report, flowing-world}

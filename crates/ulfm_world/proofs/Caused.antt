@@ -1,20 +1,7 @@
 -- In every schedule each revocation was made by some rank's own call.
 use Rattle.std.proofs.Common.{◌≡◌, ℕ, ◌<◌, Bool, true, false, cond, List, [], ◌∷◌, ◌++◌, length, set, refl, ap, sym, subst, ◌∙◌, arith, inl, inr, ◌⊎◌, length-set, None, All}
-use Rattle.std.specs.List.{list_any}
-use Rattle.std.proofs.lemmas.Bool.{false≢true, eq-eqb, or_cases, or_left, or_right}
-use Rattle.std.proofs.lemmas.List.Elements.{All-head}
 use Rattle.std.proofs.lemmas.List.Folds.{list_any-append}
-use Rattle.ulfm_world.proofs.Common.{WorldRank, Item, items_from, Entry, Took, State, logged, Player, with_rank, Event, Call, Push, Take, Decide, Leave, World, player_in, player_at, rank_at, inbox_at, start_world, Happens, Takes, report_of, reports_in, IsPosted, IsWorld}
-use Rattle.ulfm_rank.specs.declared.entry.Entry.TheVariants.{Revoked}
-use Rattle.ulfm_rank.specs.Facts.{took, is_revoked, revokes, item_revokes, is_stopped}
-use Rattle.ulfm_rank.proofs.Gather.{any-push}
-use Rattle.ulfm_rank.proofs.Quiet.{Own}
-use Rattle.ulfm_script.specs.Player.{IsCalled, awaits_decision}
-use Rattle.ulfm_job.specs.declared.step.Step.{Step}
-use Rattle.ulfm_script.proofs.Polls.{Adds, answers_add, opens_add}
-use Rattle.ulfm_script.proofs.Decisions.{decision_adds}
-use Rattle.ulfm_laws.specs.Causes.{is_call_to_revoke, RevokedByCall, RevokedByARank}
-use Rattle.ulfm_laws.specs.Flow.{Flow}
+use Rattle.ulfm_world.proofs.Common.{WorldRank, Item, items_from, Entry, Took, State, logged, Player, with_rank, Event, Call, Push, Take, Decide, Leave, World, player_in, player_at, rank_at, inbox_at, start_world, Happens, Takes, report_of, reports_in, IsPosted, IsWorld, false≢true, eq-eqb, or_cases, or_left, or_right, All-head, Adds, answers_add, opens_add, took, is_revoked, revokes, item_revokes, is_stopped, list_any, any-push, IsCalled, awaits_decision, Revoked, Own, Step, decision_adds, is_call_to_revoke, RevokedByCall, RevokedByARank, Flow}
 use Rattle.ulfm_laws.proofs.Notices.{revoked_arrived}
 use Rattle.ulfm_world.specs.Each.{InEachWorld}
 use Rattle.ulfm_world.proofs.Changed.{player-same, each_player}

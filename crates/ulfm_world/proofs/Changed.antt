@@ -1,7 +1,6 @@
 -- A list of players or of inboxes after a change of one.
 use Rattle.std.proofs.Common.{◌≡◌, ◌≢◌, ℕ, ◌<◌, List, [], length, get_or, set, ap, sym, subst, ◌∙◌, inl, inr, get_or-set_other, get_or-set_same}
-use Rattle.std.proofs.lemmas.Bool.{cases_eq}
-use Rattle.ulfm_world.proofs.Common.{WorldRank, Item, Player, player_in, no_player}
+use Rattle.ulfm_world.proofs.Common.{WorldRank, Item, Player, player_in, no_player, cases_eq}
 
 pub player-same : (ps : List Player) (r x : ℕ) (p : Player) → x ≡ r → r < length ps → player_in (set ps r p) x ≡ p
 player-same ps r x p same inside = ap (λ i. get_or (set ps r p) i no_player) same ∙ get_or-set_same ps r p no_player inside

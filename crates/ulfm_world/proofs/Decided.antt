@@ -1,15 +1,6 @@
 -- The laws of the event that decides a shrink.
 use Rattle.std.proofs.Common.{◌≡◌, ℕ, ◌<◌, List, [], ◌∷◌, ◌++◌, length, get_or, refl, ap, sym, ◌∙◌, arith, inl, inr, Option, Some}
-use Rattle.std.proofs.lemmas.List.{get_or_push}
-use Rattle.ulfm_world.proofs.Common.{Context, Decision, known_at, Shrink, IsWorld}
-use Rattle.ulfm_base.specs.declared.error.CallError.{CallError}
-use Rattle.ulfm_base.specs.declared.error.CallError.TheVariants.{OutOfMemory}
-use Rattle.ulfm_script.specs.declared.answer.StepAnswer.{StepAnswer}
-use Rattle.ulfm_script.specs.declared.answer.StepAnswer.TheVariants.{Refused}
-use Rattle.ulfm_script.specs.declared.answer.StepReport.{StepReport}
-use Rattle.ulfm_script.specs.Player.{Player, step_report}
-use Rattle.ulfm_script.specs.Deciding.{AnswersAdoption}
-use Rattle.ulfm_world.specs.World.{World, player_in, player_at, rank_at, DecidesShrink}
+use Rattle.ulfm_world.proofs.Common.{Context, Decision, known_at, Shrink, IsWorld, CallError, OutOfMemory, StepAnswer, AnswersAdoption, World, player_in, player_at, rank_at, DecidesShrink, Player, step_report, get_or_push, StepReport, Refused}
 use Rattle.ulfm_world.specs.Safe.{IsSafe, SettlesSafely, StarvesAlone}
 use Rattle.ulfm_world.proofs.Changed.{player-same}
 use Rattle.ulfm_world.proofs.Agreed.{Settled}

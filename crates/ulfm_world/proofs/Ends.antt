@@ -1,16 +1,8 @@
 -- A replay from its start to rest.
 use Rattle.std.proofs.Common.{◌≡◌, ℕ, ◌<◌, ◌≤◌, Bool, false, List, [], ◌++◌, length, map, refl, ap, sym, subst, ◌∙◌, arith, inl, inr, append-nil, length-append, Option, Some, None, MatchOption, slice_get}
-use Rattle.std.proofs.lemmas.Bool.{cases_Bool}
-use Rattle.std.proofs.lemmas.List.{length-map, nil_from_length}
-use Rattle.std.proofs.lemmas.Option.{slice_get_within}
-use Rattle.ulfm_world.proofs.Common.{WorldRank, Item, is_stopped, Step, Player, Report, World, player_at, rank_at, inbox_at, start_world, report_of, IsAtRest}
-use Rattle.ulfm_job.specs.Job.{Seen, script_at, through_stop}
-use Rattle.ulfm_world.specs.inside.Rounds.{Follows, Moves, IsStuck, IsUnderway}
-use Rattle.ulfm_world.specs.Replay.{AllHaveFinished, IsReplayed}
-use Rattle.ulfm_script.specs.inside.Underway.{FollowsSoFar}
+use Rattle.ulfm_world.proofs.Common.{WorldRank, Item, is_stopped, Step, Player, Report, World, player_at, rank_at, inbox_at, start_world, report_of, IsAtRest, cases_Bool, slice_get_within, length-map, nil_from_length, Seen, script_at, through_stop, Follows, Moves, IsStuck, IsUnderway, AllHaveFinished, IsReplayed, FollowsSoFar, through-none, follows-start}
 use Rattle.ulfm_script.specs.Script.{steps_done, reported_step}
 use Rattle.ulfm_world.proofs.Starts.{player-start, length-start}
-use Rattle.ulfm_script.proofs.Progress.{through-none, follows-start}
 use Rattle.ulfm_world.proofs.Runs.{reaches-then}
 use Rattle.ulfm_world.proofs.Rightly.{rightly-start}
 

@@ -1,17 +1,8 @@
 -- What a world keeps of its shrinks when one rank does something.
 use Rattle.std.proofs.Common.{◌≡◌, ℕ, ◌<◌, true, false, List, [], ◌∷◌, ◌++◌, length, set, refl, ap, ◌∙◌, arith, inl, inr, ◌⊎◌, Option, Some, length-set, All}
-use Rattle.std.proofs.lemmas.Bool.{cases_eq, or_left}
-use Rattle.std.proofs.lemmas.List.Elements.{All-weaker}
-use Rattle.ulfm_world.proofs.Common.{Context, Decision, RankSet, known_at, Entry, has_adopted, Shrink, Player, World, player_in, player_at, rank_at}
-use Rattle.ulfm_rank.specs.declared.entry.Entry.TheVariants.{Adopted}
-use Rattle.ulfm_rank.specs.Communicators.{group_of}
-use Rattle.ulfm_rank.specs.Facts.{is_stop, is_stopped}
-use Rattle.ulfm_rank.proofs.Gather.{any-push}
+use Rattle.ulfm_world.proofs.Common.{Context, Decision, RankSet, known_at, Entry, has_adopted, Shrink, Player, World, player_in, player_at, rank_at, cases_eq, or_left, All-weaker, group_of, Fits, own_set, own_stays, Keeps, keeps-push, is_stop, is_stopped, EntersEachOnce, any-push, Adopted}
 use Rattle.ulfm_world.proofs.Changed.{player-same, player-other}
 use Rattle.ulfm_rank.proofs.Grouped.{group_stays}
-use Rattle.ulfm_rank.proofs.Entering.{Fits, own_set, own_stays}
-use Rattle.ulfm_rank.proofs.Belonging.{Keeps, keeps-push}
-use Rattle.ulfm_laws.specs.Shrinks.{EntersEachOnce}
 use Rattle.ulfm_laws.proofs.Once.{once-push}
 use Rattle.ulfm_world.proofs.Agreed.{IsAdopted, IsHeld, Settled}
 

@@ -1,20 +1,10 @@
 -- What a rank proposes may be held, and what is held may be adopted.
 use Rattle.std.proofs.Common.{◌≡◌, ℕ, ◌<◌, ◌≤◌, Bool, true, false, cond, List, refl, ap, sym, ◌∙◌, arith, inl, inr, Option, Some, None, is_some, ◌||◌, ◌&&◌, not}
-use Rattle.std.specs.List.{list_any}
-use Rattle.std.proofs.lemmas.Bool.{false≢true, or_cases, and_parts, cases_Bool, cond-true}
-use Rattle.std.proofs.lemmas.Option.{same_Some, get_or_from_slice_get}
-use Rattle.ulfm_world.proofs.Common.{Decision, RankSet, Entry, IsWorld}
-use Rattle.ulfm_base.specs.Decision.{entry_at, in_entry}
+use Rattle.ulfm_world.proofs.Common.{Decision, RankSet, Entry, IsWorld, false≢true, or_cases, and_parts, cases_Bool, cond-true, same_Some, get_or_from_slice_get, group_of, is_made, members_of, IsOwn, has, is_gone, World, rank_at, IsRunning, HasStopped, list_any, entry_at, in_entry, some_from}
 use Rattle.ulfm_base.specs.Group.{is_member, numbers_from}
-use Rattle.ulfm_base.specs.RankSet.{has}
-use Rattle.ulfm_rank.specs.Communicators.{group_of, is_made, members_of}
-use Rattle.ulfm_rank.specs.Facts.{is_gone}
 use Rattle.ulfm_rank.specs.Shrink.{listed_of, is_out, IsProposal, is_apart, differ}
-use Rattle.ulfm_world.specs.World.{World, rank_at, IsRunning, HasStopped}
-use Rattle.ulfm_rank.proofs.Firsts.{some_from}
 use Rattle.ulfm_rank.proofs.Grouped.{members_found}
 use Rattle.ulfm_base.proofs.Among.{excluding_keeps, none_of, member_test}
-use Rattle.ulfm_rank.proofs.Belonging.{IsOwn}
 use Rattle.ulfm_world.proofs.Agreed.{IsHeld, Settled, one_group, listed_entry, known_stopped}
 
 in_some : (o : Option RankSet) (x : ℕ) → in_entry o x ≡ true → (set : RankSet) × (o ≡ Some set) × (has set x ≡ true)

@@ -1,10 +1,6 @@
 -- In every schedule the answered steps of each rank are true of its log.
 use Rattle.std.proofs.Common.{ℕ, ◌<◌, ◌≤◌, List, length, set, refl, arith, inl, inr, length-set, None}
-use Rattle.std.proofs.lemmas.List.Elements.{All-head}
-use Rattle.ulfm_world.proofs.Common.{WorldRank, Item, Took, State, GoesOut, logged, Step, Event, Call, Push, Take, Decide, Leave, IsPosted, IsWorld}
-use Rattle.ulfm_script.specs.declared.answer.StepAnswer.TheVariants.{Unfinished}
-use Rattle.ulfm_script.specs.Player.{Player, IsCalled, GivesUpStep, awaits_decision, with_rank, start_player}
-use Rattle.ulfm_world.specs.World.{World, player_in, player_at, rank_at, start_world, Happens, Reaches}
+use Rattle.ulfm_world.proofs.Common.{WorldRank, Item, Took, State, GoesOut, logged, Step, Event, Call, Push, Take, Decide, Leave, IsPosted, IsWorld, All-head, World, player_in, player_at, rank_at, start_world, Happens, Reaches, Player, IsCalled, GivesUpStep, awaits_decision, with_rank, start_player, Unfinished}
 use Rattle.ulfm_laws.proofs.Answering.{true-same, true-answers}
 use Rattle.ulfm_world.proofs.Changed.{each_player}
 use Rattle.ulfm_laws.proofs.Closing.{IsTrueOf}

@@ -1,12 +1,6 @@
 -- A poll, a step that is given up, and a take keep what every world keeps.
 use Rattle.std.proofs.Common.{◌≡◌, ℕ, ◌<◌, List, [], ◌∷◌, ◌++◌, length, get_or, set, ap, sym, ◌∙◌, arith, inl, inr, append_assoc, length-set, All}
-use Rattle.std.proofs.lemmas.Bool.{cases_eq}
-use Rattle.std.proofs.lemmas.List.Elements.{All-rest}
-use Rattle.ulfm_world.proofs.Common.{WorldRank, Item, Took, State, logged, Player, with_rank, World, player_in, player_at, rank_at, inbox_at, with_player, with_inbox, Takes, items_from}
-use Rattle.ulfm_rank.specs.Facts.{took, took_by, IsSigned}
-use Rattle.ulfm_world.specs.Flow.{arrived, IsPosted, IsWorld}
-use Rattle.ulfm_rank.proofs.Logs.{took-push}
-use Rattle.ulfm_rank.proofs.Quiet.{calm-same, quiet-same, calm-took}
+use Rattle.ulfm_world.proofs.Common.{WorldRank, Item, Took, State, logged, Player, with_rank, World, player_in, player_at, rank_at, inbox_at, with_player, with_inbox, Takes, items_from, cases_eq, All-rest, took, took_by, IsSigned, calm-same, quiet-same, calm-took, arrived, IsPosted, IsWorld, took-push}
 use Rattle.ulfm_rank.specs.inside.Quiet.{Calm, Quiet}
 use Rattle.ulfm_world.proofs.Changed.{player-same, player-other, each_player, inbox-same, inbox-other, each_inbox}
 

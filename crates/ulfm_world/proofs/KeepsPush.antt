@@ -1,16 +1,10 @@
 -- A push keeps what every world keeps.
 use Rattle.std.proofs.Common.{◌≡◌, ◌≢◌, ℕ, ◌<◌, cond, eqb, List, [], ◌∷◌, ◌++◌, length, set, refl, ap, sym, ◌∙◌, arith, inl, inr, append-nil, append_assoc, length-set, All}
-use Rattle.std.proofs.lemmas.Bool.{cases_eq, eq-eqb, ne_eqb}
 use Rattle.std.proofs.lemmas.Grind.{flat_map-append}
-use Rattle.std.proofs.lemmas.List.Elements.{All-push}
-use Rattle.ulfm_world.proofs.Common.{WorldRank, Item, Entry, Player, with_rank, World, player_in, player_at, rank_at, inbox_at, with_player, with_inbox, Pushes}
-use Rattle.ulfm_rank.specs.Facts.{took}
-use Rattle.ulfm_rank.specs.State.{State, IsState, went_out, GoesOut}
-use Rattle.ulfm_world.specs.Flow.{arrived, IsPosted, IsWorld}
+use Rattle.ulfm_world.proofs.Common.{WorldRank, Item, Entry, Player, with_rank, World, player_in, player_at, rank_at, inbox_at, with_player, with_inbox, Pushes, cases_eq, eq-eqb, ne_eqb, All-push, took, out_other, arrived, IsPosted, IsWorld, State, IsState, went_out, GoesOut}
 use Rattle.ulfm_base.specs.Items.{ComesFrom, items_from, item_if_from}
 use Rattle.ulfm_rank.proofs.Signed.{front_signed, from_signed}
 use Rattle.ulfm_world.proofs.Changed.{player-same, player-other, each_player, inbox-same, inbox-other, each_inbox}
-use Rattle.ulfm_rank.proofs.Quiet.{out_other}
 
 -- a push keeps the logs
 record Pushed (old new : State) : Type 0 where

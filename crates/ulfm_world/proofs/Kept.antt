@@ -1,7 +1,6 @@
 -- What a world keeps because some schedule leads to it.
 use Rattle.std.proofs.Common.{◌≡◌, Result, OnOk, OnErr}
-use Rattle.ulfm_world.proofs.Common.{Event, World, Happens, IsReached}
-use Rattle.ulfm_world.specs.Flow.{IsWorld}
+use Rattle.ulfm_world.proofs.Common.{Event, World, Happens, IsReached, IsWorld}
 use Rattle.ulfm_world.specs.inside.Steps.{IsKeptWorld}
 use Rattle.ulfm_world.proofs.Read.{world-reached}
 use Rattle.ulfm_world.proofs.Runs.{reaches-either}

@@ -1,24 +1,17 @@
 -- The reports of a replay are lawful.
 use Rattle.std.proofs.Common.{◌≡◌, ℕ, ◌<◌, true, List, [], length, refl, ap, sym, subst, ◌∙◌, arith, Option, Some, None, is_some}
-use Rattle.std.proofs.lemmas.Option.{same_Some, slice_get_within, get_or_from_slice_get}
-use Rattle.ulfm_world.proofs.Common.{Decision, is_member, at, Entry, Adopted, Report, World, player_at, rank_at, report_of, reports_in, IsWorld}
+use Rattle.ulfm_world.proofs.Common.{Decision, is_member, at, Entry, Adopted, Report, World, player_at, rank_at, report_of, reports_in, IsWorld, same_Some, slice_get_within, get_or_from_slice_get, Known, IsTrueOf, AdoptsTruly, Seen, IsJob, known_for, IsStuck, IsUnderway, AllHaveFinished, AreProduced, IsLawful}
 use Rattle.ulfm_board.specs.Known.{BothAgree, known_at}
 use Rattle.ulfm_match.proofs.Exists.{some_pairing}
 use Rattle.ulfm_rank.specs.History.{history_of}
 use Rattle.ulfm_rank.specs.Paired.{IsPaired}
 use Rattle.ulfm_rank.proofs.Pairings.{paired}
 use Rattle.ulfm_script.specs.Answered.{AnswersFollow}
-use Rattle.ulfm_script.specs.Deciding.{Known}
-use Rattle.ulfm_job.specs.Job.{Seen, IsJob}
 use Rattle.ulfm_script.specs.Played.{FollowsScript}
 use Rattle.ulfm_script.proofs.Honestly.{honest-answers}
-use Rattle.ulfm_laws.specs.Lawful.{AreProduced, IsLawful}
-use Rattle.ulfm_laws.specs.Shrinks.{IsTrueOf, AdoptsTruly}
 use Rattle.ulfm_laws.proofs.Closing.{IsTrueOf as TrueOfLog}
 use Rattle.ulfm_laws.proofs.Lawful.{lawful}
 use Rattle.ulfm_laws.proofs.Taken.{took_none}
-use Rattle.ulfm_world.specs.inside.Rounds.{known_for, IsStuck, IsUnderway}
-use Rattle.ulfm_world.specs.Replay.{AllHaveFinished}
 use Rattle.ulfm_world.proofs.Agreed.{IsHeld, Settled}
 use Rattle.ulfm_world.proofs.Caused.{revoked_by_a_rank}
 use Rattle.ulfm_world.proofs.Ends.{stuck-answered}

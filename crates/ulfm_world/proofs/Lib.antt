@@ -32,3 +32,4 @@ pub mod Rightly
 pub mod Caused
 pub mod Made
 pub mod Lawful
+pub mod Swept

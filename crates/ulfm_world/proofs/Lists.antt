@@ -1,10 +1,6 @@
 -- Players with their places, and a change of one of them.
 use Rattle.std.proofs.Common.{◌≡◌, ℕ, ◌<◌, false, List, [], ◌∷◌, ◌++◌, length, take, drop, get_or, set, refl, ap, sym, subst, ◌∙◌, arith, take_all, append-nil, Option}
-use Rattle.std.proofs.lemmas.List.{map-set, get_or-map, set-get_or, length-map, drop_all, get_or_default}
-use Rattle.std.proofs.lemmas.List.Elements.{All-head}
-use Rattle.ulfm_world.proofs.Common.{WorldRank, Decision, Item, Took, is_stopped, logged, GoesOut, IsPosted}
-use Rattle.ulfm_script.specs.Player.{Player, View, with_rank}
-use Rattle.ulfm_world.specs.World.{World, player_in, no_player, with_inbox, with_players, Pushes, Takes}
+use Rattle.ulfm_world.proofs.Common.{WorldRank, Decision, Item, Took, is_stopped, logged, GoesOut, IsPosted, All-head, World, player_in, no_player, with_inbox, with_players, Pushes, Takes, Player, View, with_rank, map-set, get_or-map, set-get_or, length-map, drop_all, get_or_default}
 use Rattle.ulfm_world.specs.Parts.{the_player, players_of, parts}
 use Rattle.ulfm_world.specs.inside.Steps.{AreParts, HandsOver}
 

@@ -1,8 +1,6 @@
 -- In every run each decision is made once, and each rank that it excludes had stopped then.
 use Rattle.std.proofs.Common.{◌≡◌, ℕ, ◌≤◌, List, [], ◌∷◌, refl, ap, sym, ◌∙◌, inl, inr, Option, Some, None}
-use Rattle.std.proofs.lemmas.Option.{none-some, same_Some}
-use Rattle.ulfm_world.proofs.Common.{Context, Decision, known_at, Event, Call, Push, Take, Decide, Leave, World, start_world, Happens, IsWorld}
-use Rattle.ulfm_world.specs.World.{Applied, Run}
+use Rattle.ulfm_world.proofs.Common.{Context, Decision, known_at, Event, Call, Push, Take, Decide, Leave, World, start_world, Happens, IsWorld, none-some, same_Some, Applied, Run, get_or-blank}
 use Rattle.ulfm_world.specs.Safe.{decided_at}
 use Rattle.ulfm_world.specs.Made.{WasMadeSafely, MadeSafely}
 use Rattle.ulfm_world.proofs.Adopting.{still_known, later_cases}
@@ -13,7 +11,6 @@ use Rattle.ulfm_world.proofs.Moving.{settled-happens}
 use Rattle.ulfm_world.proofs.Runs.{keeps-applied, each_applied}
 use Rattle.ulfm_world.proofs.Safe.{settled-start}
 use Rattle.ulfm_world.proofs.Starts.{world-start}
-use Rattle.ulfm_base.proofs.Places.{get_or-blank}
 
 same_held : (w w' : World) → w'.decided ≡ w.decided → StillHeld w.decided w'.decided
 same_held w w' same c d known = ap (λ (ks : List (Option Decision)). known_at ks c) same ∙ known

@@ -1,8 +1,7 @@
 -- The measure of a world after a change of one player or of one inbox.
 use Rattle.std.proofs.Common.{◌≡◌, ◌≢◌, ℕ, ◌+◌, ◌*◌, ◌<◌, List, [], length, set, get_or, refl, ap, ◌∙◌, arith, length-set, get_or-set_other}
-use Rattle.ulfm_world.proofs.Common.{WorldRank, Item, Player, Seen, script_at, World, player_in, player_at, inbox_at, with_player}
-use Rattle.ulfm_rank.specs.State.{State, outbox, mark_at, marked, no_mark, GoesOut}
-use Rattle.ulfm_world.specs.inside.Rounds.{sum_below, out_at, fresh_of, weight_of, inbox_weight, measure}
+use Rattle.ulfm_world.specs.inside.Rounds.{fresh_of}
+use Rattle.ulfm_world.proofs.Common.{WorldRank, Item, Player, Seen, script_at, World, player_in, player_at, inbox_at, with_player, sum_below, out_at, weight_of, inbox_weight, measure, State, outbox, mark_at, marked, no_mark, GoesOut}
 use Rattle.ulfm_world.proofs.Sums.{sum-at}
 use Rattle.ulfm_world.proofs.Changed.{player-same, player-other, inbox-same, inbox-other}
 

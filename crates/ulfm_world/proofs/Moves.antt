@@ -1,8 +1,6 @@
 -- How the parts of a replay join: something moves, or nothing does.
 use Rattle.std.proofs.Common.{◌≡◌, ℕ, ◌+◌, ◌<◌, ◌≤◌, Bool, true, false, cond, [], length, Some, None, refl, sym, subst, ◌∙◌, arith, below_more}
-use Rattle.std.proofs.lemmas.Bool.{false≢true}
-use Rattle.ulfm_world.proofs.Common.{Seen, script_at, World, player_at, IsRunning}
-use Rattle.ulfm_world.specs.inside.Rounds.{Follows, measure, Moves, IsStuck, IsStuckAt}
+use Rattle.ulfm_world.proofs.Common.{Seen, script_at, World, player_at, IsRunning, false≢true, Follows, measure, Moves, IsStuck, IsStuckAt}
 use Rattle.ulfm_world.specs.inside.Turns.{Onward}
 use Rattle.ulfm_world.proofs.Runs.{reaches-then}
 

@@ -1,23 +1,13 @@
 -- What a poll moves, and a step that is given up.
 use Rattle.std.proofs.Common.{◌≡◌, ℕ, ◌<◌, ◌≤◌, true, false, cond, List, [], ◌∷◌, length, set, refl, ap, sym, subst, ◌∙◌, arith, inl, inr, ◌⊎◌, length-set, Option, Some, None, is_none, set-set}
-use Rattle.std.proofs.lemmas.Bool.{false≢true, cases_eq}
-use Rattle.ulfm_world.proofs.Common.{Context, Decision, Step, Shrink, Call, Decide, Leave, IsWorld, is_stopped}
-use Rattle.ulfm_script.specs.Player.{Player, GivesUpStep}
-use Rattle.ulfm_job.specs.Job.{Seen, IsJob, script_at}
+use Rattle.ulfm_world.proofs.Common.{Context, Decision, Step, Shrink, Call, Decide, Leave, IsWorld, is_stopped, false≢true, cases_eq, World, player_in, player_at, with_players, with_player, with_decided, Happens, Reaches, IsRunning, Player, GivesUpStep, Seen, IsJob, script_at, AllAnswersFollowSoFar, Follows, Moves, weight_of, FollowsSoFar, ready-decided, advance-decided, IsState, Answered, NotYet, IsUndecided}
 use Rattle.ulfm_world.specs.declared.event.Outcome.{Outcome}
-use Rattle.ulfm_world.specs.declared.event.Outcome.TheVariants.{Answered, NotYet}
-use Rattle.ulfm_world.specs.World.{World, player_in, player_at, with_players, with_player, with_decided, Happens, Reaches, IsRunning}
-use Rattle.ulfm_world.specs.inside.Rounds.{AllAnswersFollowSoFar, Follows, Moves, weight_of}
-use Rattle.ulfm_script.specs.inside.Underway.{FollowsSoFar}
-use Rattle.ulfm_rank.specs.State.{IsState}
 use Rattle.ulfm_world.proofs.Changed.{player-same, player-other}
 use Rattle.ulfm_script.proofs.Advance.{Ready, Advances, advance-called, advance-left}
-use Rattle.ulfm_script.proofs.Decisions.{ready-decided, advance-decided}
 use Rattle.ulfm_world.proofs.Measures.{measure-player}
 use Rattle.ulfm_world.proofs.Weights.{adds_weight}
 use Rattle.ulfm_world.proofs.Runs.{reaches-one}
 use Rattle.ulfm_world.proofs.Rightly.{rightly-calls, rightly-leaves, rightly-decides}
-use Rattle.ulfm_script.specs.inside.SoFar.{IsUndecided}
 
 -- less is left to a player that goes on, with what it may still send
 pub weight-advances : {script : List Step} {turns n : ℕ} {old : Player} (new : Player) → IsState old.rank → n ≡ old.rank.ranks → is_stopped old.rank.log ≡ false → Advances script turns old new → weight_of script turns n new < weight_of script turns n old

@@ -1,14 +1,8 @@
 -- What a push and a take move.
 use Rattle.std.proofs.Common.{◌≡◌, ℕ, ◌+◌, ◌<◌, true, List, [], ◌∷◌, ◌++◌, length, set, refl, ap, sym, subst, ◌∙◌, arith, length-append, length-set, inl, inr}
-use Rattle.std.proofs.lemmas.Bool.{false≢true, cases_eq}
-use Rattle.std.proofs.Math.Bool.{or-false}
-use Rattle.ulfm_world.proofs.Common.{WorldRank, Item, Took, is_stopped, State, logged, Player, with_rank, Seen, script_at, Push, Take, World, player_in, player_at, rank_at, inbox_at, with_player, with_inbox, Pushes, Takes, IsWorld}
-use Rattle.ulfm_world.specs.inside.Rounds.{Follows, Moves}
-use Rattle.ulfm_script.specs.inside.Underway.{FollowsSoFar}
-use Rattle.ulfm_rank.proofs.Logs.{stopped-push}
+use Rattle.ulfm_world.proofs.Common.{WorldRank, Item, Took, is_stopped, State, logged, Player, with_rank, Seen, script_at, Push, Take, World, player_in, player_at, rank_at, inbox_at, with_player, with_inbox, Pushes, Takes, IsWorld, false≢true, cases_eq, Follows, Moves, FollowsSoFar, follows-rank, stopped-push, or-false}
 use Rattle.ulfm_world.proofs.Weights.{out-took}
 use Rattle.ulfm_world.proofs.Changed.{player-same, player-other}
-use Rattle.ulfm_script.proofs.Progress.{follows-rank}
 use Rattle.ulfm_world.proofs.Measures.{measure-at, players_part-set, inboxes_part-set, leaves_weight, leaves_fresh}
 use Rattle.ulfm_world.proofs.Runs.{reaches-one}
 use Rattle.ulfm_world.proofs.Rightly.{rightly-pushes, rightly-takes}

@@ -1,11 +1,6 @@
 -- What each event leaves of a world's shrinks.
 use Rattle.std.proofs.Common.{◌≡◌, ℕ, ◌<◌, Bool, true, false, List, [], ◌∷◌, ◌++◌, length, set, refl, ap, sym, ◌∙◌, arith, inl, inr, Option, Some, None, All}
-use Rattle.std.proofs.lemmas.Bool.{false≢true}
-use Rattle.std.proofs.lemmas.Option.{none-some, same_Some}
-use Rattle.ulfm_world.proofs.Common.{Context, Decision, known_at, Entry, Took, has_adopted, State, logged, Step, Shrink, Event, Call, Push, Take, Decide, Leave, IsWorld}
-use Rattle.ulfm_script.specs.Player.{Player, with_rank, answered, polled, IsFree, StaysOpen, awaits_decision, IsCalled}
-use Rattle.ulfm_world.specs.World.{World, player_at, rank_at, inbox_at, with_players, with_player, with_inbox, with_decided, Calls, DecidesShrink, GivesUp, Pushes, Takes, Happens, Run}
-use Rattle.ulfm_rank.proofs.Entering.{AdoptsEntered}
+use Rattle.ulfm_world.proofs.Common.{Context, Decision, known_at, Entry, Took, has_adopted, State, logged, Step, Shrink, Event, Call, Push, Take, Decide, Leave, IsWorld, false≢true, none-some, same_Some, AdoptsEntered, World, player_at, rank_at, inbox_at, with_players, with_player, with_inbox, with_decided, Calls, DecidesShrink, GivesUp, Pushes, Takes, Happens, Run, Player, with_rank, answered, polled, IsFree, StaysOpen, awaits_decision, IsCalled}
 use Rattle.ulfm_world.proofs.Agreed.{IsAdopted, Settled}
 use Rattle.ulfm_world.proofs.Grown.{Grows, Moved, settled-moved}
 use Rattle.ulfm_script.proofs.Fitting.{AddsPlain, Adds, answers_add, opens_add}

@@ -1,13 +1,7 @@
 -- An entry that adopts nothing leaves what was adopted.
 use Rattle.std.proofs.Common.{◌≡◌, ℕ, false, List, refl, ap, sym, ◌∙◌, inl, inr, Option, All}
-use Rattle.std.proofs.lemmas.Bool.{false≢true, or_from, false_from_ne_true}
-use Rattle.std.proofs.lemmas.List.Elements.{All-push}
-use Rattle.ulfm_world.proofs.Common.{Context, Decision, Entry, Adopted, State, Shrink}
+use Rattle.ulfm_world.proofs.Common.{Context, Decision, Entry, Adopted, State, Shrink, false≢true, or_from, false_from_ne_true, All-push, AdoptsEntered, any-push, LeavesOpen, StepReport}
 use Rattle.ulfm_rank.specs.Shrink.{adopts, has_adopted}
-use Rattle.ulfm_rank.proofs.Gather.{any-push}
-use Rattle.ulfm_script.specs.declared.answer.StepReport.{StepReport}
-use Rattle.ulfm_script.specs.Player.{LeavesOpen}
-use Rattle.ulfm_rank.proofs.Entering.{AdoptsEntered}
 use Rattle.ulfm_world.proofs.Agreed.{IsAdopted}
 use Rattle.ulfm_script.proofs.Fitting.{IsPlain, AddsPlain, shrink_passed, opens_add}
 

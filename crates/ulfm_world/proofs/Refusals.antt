@@ -1,15 +1,9 @@
 -- Why a poll of a replay can be refused.
 use Rattle.std.proofs.Common.{◌≡◌, ℕ, ◌<◌, false, length, refl, ap, sym, ◌∙◌, arith, inl, inr, length-set, Some, None, slice_get}
-use Rattle.std.proofs.lemmas.Bool.{false≢true}
-use Rattle.ulfm_world.proofs.Common.{is_stopped, Step, Seen, script_at, Call, Leave}
-use Rattle.ulfm_script.specs.Player.{Player, IsCalled, awaits_decision}
+use Rattle.ulfm_world.proofs.Common.{is_stopped, Step, Seen, script_at, Call, Leave, false≢true, opens_add, stopped-adds, World, player_at, with_players, with_player, Happens, IsRunning, IsRefused, Player, IsCalled, awaits_decision, Follows, next-free}
 use Rattle.ulfm_world.specs.declared.event.Refused.{Refused}
 use Rattle.ulfm_world.specs.declared.event.Refused.TheVariants.{NotReady, Stopped, OutOfMemory, NoSuchRank}
-use Rattle.ulfm_world.specs.World.{World, player_at, with_players, with_player, Happens, IsRunning, IsRefused}
-use Rattle.ulfm_world.specs.inside.Rounds.{Follows}
-use Rattle.ulfm_script.proofs.Progress.{next-free}
 use Rattle.ulfm_world.proofs.Changed.{player-same}
-use Rattle.ulfm_script.proofs.Polls.{opens_add, stopped-adds}
 
 -- the next step of a running player is refused by out of memory alone
 pub refused-starves : (j : Seen) (w : World) (r : ℕ) (asked : Step) (why : Refused) → r < length w.players → Follows j w → IsRunning w r → slice_get (script_at j r) (length (player_at w r).done) ≡ Some asked → IsRefused w (Call r asked) why → why ≡ OutOfMemory

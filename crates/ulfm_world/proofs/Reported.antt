@@ -1,11 +1,8 @@
 -- The reports of each world that a schedule leads to are true of its ranks' logs.
 use Rattle.std.proofs.Common.{ℕ, ◌≤◌, List, sym, subst}
-use Rattle.ulfm_world.proofs.Common.{Report, at, World, start_world, Reaches, reports_in, IsAtRest}
-use Rattle.ulfm_laws.specs.Causes.{GoneHaveStopped}
-use Rattle.ulfm_laws.specs.Reader.{AllHasCome}
+use Rattle.ulfm_world.proofs.Common.{Report, at, World, start_world, Reaches, reports_in, IsAtRest, AllHasCome, gone_stopped, GoneHaveStopped}
 use Rattle.ulfm_laws.proofs.Arrivals.{all_come}
 use Rattle.ulfm_laws.proofs.Finding.{AreHonest}
-use Rattle.ulfm_laws.proofs.Flowing.{gone_stopped}
 use Rattle.ulfm_laws.proofs.Honest.{IsHonest}
 use Rattle.ulfm_laws.proofs.Lawful.{honest_reports}
 use Rattle.ulfm_world.specs.Each.{InEachWorld, InEachReplay}

@@ -1,20 +1,12 @@
 -- Each player's answers stay right, whatever a replay does next.
 use Rattle.std.proofs.Common.{◌≡◌, ◌≢◌, ℕ, ◌<◌, List, [], length, set, refl, ap, sym, ◌∙◌, arith, inl, inr, length-set, get_or-set_same, get_or-set_other, Option, Some, None, slice_get, replicate}
-use Rattle.std.proofs.lemmas.Bool.{false≢true, cases_eq}
-use Rattle.std.proofs.lemmas.List.{get_or_past, get_or-replicate, length-replicate}
-use Rattle.std.proofs.lemmas.Option.{none-some}
-use Rattle.std.proofs.Math.Bool.{or-false}
-use Rattle.ulfm_world.proofs.Common.{Context, Decision, Took, is_stopped, State, logged, Step, Seen, script_at, Player, with_rank, Call, Decide, Leave, World, player_in, player_at, rank_at, start_world, Happens, Pushes, Takes}
+use Rattle.ulfm_world.proofs.Common.{Context, Decision, Took, is_stopped, State, logged, Step, Seen, script_at, Player, with_rank, Call, Decide, Leave, World, player_in, player_at, rank_at, start_world, Happens, Pushes, Takes, false≢true, cases_eq, none-some, Known, IsDecided, get_or_past, get_or-replicate, length-replicate, known_for, AllAnswersFollowSoFar, Follows, stopped-push, AnswersFollowSoFar, IsUndecided, or-false}
 use Rattle.ulfm_board.specs.Known.{Answers as BoardAnswers, Agrees, known_at, with_known, nothing_known}
 use Rattle.ulfm_match.proofs.Decide.{lt_or_ge}
-use Rattle.ulfm_rank.proofs.Logs.{stopped-push}
-use Rattle.ulfm_script.specs.Deciding.{Known, IsDecided}
-use Rattle.ulfm_script.specs.inside.SoFar.{AnswersFollowSoFar, IsUndecided}
 use Rattle.ulfm_script.proofs.Adopted.{agreed, keeps-answered, honest-decided}
 use Rattle.ulfm_script.proofs.Calling.{honest-called}
 use Rattle.ulfm_script.proofs.Honestly.{honest-moved, honest-left, honest-start}
 use Rattle.ulfm_script.proofs.Takes.{takes-none, takes-one}
-use Rattle.ulfm_world.specs.inside.Rounds.{known_for, AllAnswersFollowSoFar, Follows}
 use Rattle.ulfm_world.proofs.Changed.{player-same, player-other}
 use Rattle.ulfm_world.proofs.Starts.{player-start, length-start}
 

@@ -1,11 +1,7 @@
 -- Every schedule keeps what every world keeps.
 use Rattle.std.proofs.Common.{◌≡◌, ℕ, ◌+◌, ◌<◌, List, [], ◌∷◌, ◌++◌, length, take, get_or, refl, inl, inr, Result, Ok, Err, OnOk, OnErr, IfErr, Option, None}
-use Rattle.std.proofs.lemmas.List.{take_more}
-use Rattle.ulfm_world.proofs.Common.{Context, Decision, Event, Call, Push, Take, Decide, Leave, IsWorld, Player, Step}
+use Rattle.ulfm_world.proofs.Common.{Context, Decision, Event, Call, Push, Take, Decide, Leave, IsWorld, Player, Step, quiet-called, quiet-left, World, with_players, with_decided, Calls, DecidesShrink, GivesUp, Happens, IsRefused, Applied, Run, Reaches, IsReached, take_more, quiet-decided}
 use Rattle.ulfm_world.specs.declared.event.Refused.{Refused}
-use Rattle.ulfm_world.specs.World.{World, with_players, with_decided, Calls, DecidesShrink, GivesUp, Happens, IsRefused, Applied, Run, Reaches, IsReached}
-use Rattle.ulfm_script.proofs.Polls.{quiet-called, quiet-left}
-use Rattle.ulfm_script.proofs.Decisions.{quiet-decided}
 use Rattle.ulfm_world.proofs.KeepsCalls.{keeps-quiet, keeps-takes}
 use Rattle.ulfm_world.proofs.KeepsPush.{keeps-pushes}
 

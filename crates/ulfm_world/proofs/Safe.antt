@@ -1,23 +1,14 @@
 -- The laws of shrinks, from what every world keeps.
 use Rattle.std.proofs.Common.{◌≡◌, ℕ, ◌<◌, ◌≤◌, List, length, ap, sym, subst, ◌∙◌, arith, inl, inr, Option, Some, None, All}
-use Rattle.std.proofs.lemmas.Bool.{false≢true, or_cases}
-use Rattle.std.proofs.lemmas.Option.{none-some, same_Some, slice_get_within, get_or_from_slice_get}
-use Rattle.std.proofs.lemmas.List.Elements.{All-nil}
-use Rattle.ulfm_world.proofs.Common.{Decision, RankSet, is_member, Entry, Adopted, Shrink, Player, World, rank_at, start_world, Reaches}
-use Rattle.ulfm_base.specs.Decision.{entry_at, is_listed, in_entry}
-use Rattle.ulfm_base.specs.RankSet.{has}
+use Rattle.ulfm_world.proofs.Common.{Decision, RankSet, is_member, Entry, Adopted, Shrink, Player, World, rank_at, start_world, Reaches, false≢true, or_cases, none-some, same_Some, slice_get_within, get_or_from_slice_get, All-nil, Keeps, keeps-start, has, EntersEachOnce, entry_at, is_listed, in_entry, some_from, get_or-blank}
 use Rattle.ulfm_board.specs.Known.{nothing_known}
 use Rattle.ulfm_world.specs.Safe.{entry_at_rank, EntersOnce, IsSafe, DecidesSafely, AdoptsHeld}
-use Rattle.ulfm_laws.specs.Shrinks.{EntersEachOnce}
 use Rattle.ulfm_laws.proofs.Once.{once-start}
-use Rattle.ulfm_rank.proofs.Firsts.{some_from}
 use Rattle.ulfm_base.proofs.Among.{excluding_from}
-use Rattle.ulfm_rank.proofs.Belonging.{Keeps, keeps-start}
 use Rattle.ulfm_world.proofs.Agreed.{IsAdopted, IsHeld, Settled}
 use Rattle.ulfm_world.proofs.Moving.{settled-run}
 use Rattle.ulfm_world.proofs.Read.{each_report}
 use Rattle.ulfm_world.proofs.Starts.{length-start, player-start, world-start}
-use Rattle.ulfm_base.proofs.Places.{get_or-blank}
 
 pub settled-start : (n capacity : ℕ) → Settled n (start_world n capacity)
 settled-start n capacity = record {

@@ -1,10 +1,6 @@
 -- What the ranks know at the rest that a replay ends at.
 use Rattle.std.proofs.Common.{List, sym, subst}
-use Rattle.ulfm_world.proofs.Common.{Report, IsReached, reports_in}
-use Rattle.ulfm_job.specs.Job.{Seen, IsJob}
-use Rattle.ulfm_laws.specs.Lawful.{KnowAtRest}
-use Rattle.ulfm_laws.proofs.AtRest.{knows-stopped, agrees-revoked}
-use Rattle.ulfm_world.specs.Replay.{IsReplayed, MadeAtRest}
+use Rattle.ulfm_world.proofs.Common.{Report, IsReached, reports_in, Seen, IsJob, IsReplayed, MadeAtRest, KnowAtRest, knows-stopped, agrees-revoked}
 use Rattle.ulfm_world.proofs.Kept.{world_of}
 use Rattle.ulfm_world.proofs.Made.{made-safely}
 use Rattle.ulfm_world.proofs.Read.{flowing-world, rest-world}

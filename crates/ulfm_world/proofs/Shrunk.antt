@@ -1,9 +1,8 @@
 -- What every world keeps of shrinks.
 use Rattle.std.proofs.Common.{◌≡◌, ℕ, ◌∙◌}
-use Rattle.ulfm_laws.specs.Shrinks.{HasOneGroup, ProposesEach}
 use Rattle.ulfm_laws.proofs.OneGroup.{one_group}
 use Rattle.ulfm_laws.proofs.Proposing.{proposes_each}
-use Rattle.ulfm_world.proofs.Common.{World, IsReached, reports_in, IsWorld, IsAtRest}
+use Rattle.ulfm_world.proofs.Common.{World, IsReached, reports_in, IsWorld, IsAtRest, HasOneGroup, ProposesEach}
 use Rattle.ulfm_world.specs.Safe.{ShrinksSafely}
 use Rattle.ulfm_world.proofs.Agreed.{Settled, adopt-one, all_keep}
 use Rattle.ulfm_world.proofs.Decided.{settles-safely, starves-alone}

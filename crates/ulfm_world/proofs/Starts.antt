@@ -1,18 +1,8 @@
 -- The world that starts.
 use Rattle.std.proofs.Common.{◌≡◌, ℕ, zero, suc, ◌+◌, ◌<◌, ◌≤◌, List, [], ◌∷◌, ◌++◌, length, get_or, replicate, refl, ap, sym, subst, ◌∙◌, arith, inl, inr, length-append, Option, Some, None, All}
-use Rattle.std.proofs.lemmas.Bool.{cases_lt, le-ltb, lt-leb}
-use Rattle.std.proofs.lemmas.List.{length-replicate, get_or_append_left, get_or_at, map_push}
-use Rattle.std.proofs.lemmas.List.Elements.{All-nil}
-use Rattle.ulfm_world.proofs.Common.{WorldRank, Decision, Item, the_player, players_of, parts, IsPosted, IsWorld, items_from}
+use Rattle.ulfm_world.proofs.Common.{WorldRank, Decision, Item, the_player, players_of, parts, IsPosted, IsWorld, items_from, cases_lt, le-ltb, lt-leb, All-nil, CallError, OutOfMemory, took, IsSigned, World, player_in, no_player, inbox_at, start_players, start_world, Player, View, start_player, length-replicate, get_or_append_left, get_or_at, map_push, IsState, went_out, no_mark, start_state, get_or-blank}
 use Rattle.ulfm_board.specs.Known.{nothing_known}
-use Rattle.ulfm_rank.specs.Facts.{took, IsSigned}
-use Rattle.ulfm_rank.specs.State.{IsState, went_out, no_mark, start_state}
-use Rattle.ulfm_base.specs.declared.error.CallError.{CallError}
-use Rattle.ulfm_base.specs.declared.error.CallError.TheVariants.{OutOfMemory}
 use Rattle.ulfm_rank.specs.Checks.{Passes, FailsOrStarves, start_checks}
-use Rattle.ulfm_script.specs.Player.{Player, View, start_player}
-use Rattle.ulfm_world.specs.World.{World, player_in, no_player, inbox_at, start_players, start_world}
-use Rattle.ulfm_base.proofs.Places.{get_or-blank}
 
 pub length-start : (n k : ℕ) → length (start_players n k) ≡ k
 length-start n zero = refl

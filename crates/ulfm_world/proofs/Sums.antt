@@ -1,7 +1,6 @@
 -- Sums below a number.
 use Rattle.std.proofs.Common.{◌≡◌, ◌≢◌, ℕ, zero, suc, ◌+◌, ◌*◌, ◌<◌, ◌≤◌, refl, ap, arith, inl, inr}
-use Rattle.std.proofs.lemmas.Bool.{cases_eq}
-use Rattle.ulfm_world.specs.inside.Rounds.{sum_below}
+use Rattle.ulfm_world.proofs.Common.{cases_eq, sum_below}
 
 pub sum-same : (n : ℕ) (f g : ℕ → ℕ) → ((x : ℕ) → x < n → f x ≡ g x) → sum_below n f ≡ sum_below n g
 sum-same zero f g h = refl

@@ -1,17 +1,9 @@
 -- What one more entry changes of what a rank may still send.
 use Rattle.std.proofs.Common.{◌≡◌, ℕ, ◌+◌, ◌*◌, ◌<◌, ◌≤◌, Bool, true, false, cond, eqb, List, [], ◌∷◌, ◌++◌, length, drop, refl, ap, ◌∙◌, arith, inl, inr, append-nil, length-append, ◌||◌}
-use Rattle.std.proofs.lemmas.Bool.{cases_Bool, eq-eqb, or_right}
-use Rattle.std.proofs.lemmas.List.{drop-append-le}
-use Rattle.std.proofs.Math.Bool.{or-false}
-use Rattle.ulfm_world.proofs.Common.{WorldRank, Context, Item, Entry, Took}
+use Rattle.ulfm_world.specs.inside.Rounds.{fresh_of}
+use Rattle.ulfm_world.proofs.Common.{WorldRank, Context, Item, Entry, Took, cases_Bool, eq-eqb, or_right, Adds, is_stop, is_stopped, is_revoked, revokes, any-push, drop-append-le, out_at, fresh_at, owes-logged, stopped-push, owed_by_few, State, IsState, logged, owes, outbox, mark_at, or-false}
 use Rattle.ulfm_base.specs.declared.item.Item.TheVariants.{Letter as Mail, Gone, Revoke, Enter}
-use Rattle.ulfm_rank.specs.Facts.{is_stop, is_stopped, is_revoked, revokes}
 use Rattle.ulfm_rank.specs.Owed.{owed_by}
-use Rattle.ulfm_rank.specs.State.{State, IsState, logged, owes, outbox, mark_at}
-use Rattle.ulfm_world.specs.inside.Rounds.{out_at, fresh_at, fresh_of}
-use Rattle.ulfm_rank.proofs.Gather.{any-push}
-use Rattle.ulfm_rank.proofs.Logs.{owes-logged, stopped-push, owed_by_few}
-use Rattle.ulfm_script.proofs.Polls.{Adds}
 use Rattle.ulfm_world.proofs.Sums.{sum-within, sum-le, sum-falls}
 
 after_stop : (a b : Bool) → length (cond a [] (cond b [] (Gone ∷ []))) ≤ 1

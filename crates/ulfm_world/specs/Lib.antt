@@ -7,3 +7,4 @@ pub mod Replay
 pub mod Each
 pub mod inside
 pub mod Made
+pub mod Sweep

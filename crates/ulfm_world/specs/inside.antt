@@ -2,3 +2,4 @@
 pub mod Steps
 pub mod Rounds
 pub mod Turns
+pub mod Kinds

@@ -1,14 +1,19 @@
-//! All ranks with their inboxes, in every schedule, and the replay of a job.
+//! All ranks with their inboxes, in every schedule, and the replay of a job, also with one more stop at each place in turn.
 #![tactic(auto)]
 
 mod event;
+mod fault;
 mod inbox;
+mod kind;
 mod laws;
+mod line;
 mod rounds;
 mod steps;
+mod sweeps;
 mod world;
 
 pub use event::{Event, Outcome, Refused};
+pub use fault::SweepFault;
 pub use inbox::Inbox;
 pub use laws::{
     adopted_as_held, adoption_starves_alone, agreed_at_rest, all_come_at_rest, decided_safely,
@@ -17,5 +22,7 @@ pub use laws::{
     no_match_is_missed, one_decision, one_group, one_pairing_each, proposed_at_rest,
     receives_keep_order, reports_are_faithful, revoked_by_a_rank, settled_safely,
 };
+pub use line::SweepLine;
 pub use rounds::replay;
+pub use sweeps::sweep;
 pub use world::{World, run};

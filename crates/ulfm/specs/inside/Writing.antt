@@ -1,20 +1,11 @@
 -- What single functions of the program answer and write.
-use Rattle.std.specs.Prelude.{ℕ, List, take, Option, Some, None, codes, ⊤}
+use Rattle.std.specs.Prelude.{ℕ, List, take, Option, codes, ⊤}
 use Rattle.std.specs.Io.KnownBytes.{Appends}
 use Rattle.ulfm_job.specs.Job.{Seen}
-use Rattle.ulfm_script.specs.declared.fault.RunFault.{RunFault}
 use Rattle.ulfm_script.specs.Report.{Report}
 use Rattle.ulfm_run.specs.Fault.{ShowUntrue}
-use Rattle.ulfm.specs.declared.run.Failure.{Failure}
-use Rattle.ulfm_script.specs.declared.fault.RunFault.TheVariants as fault
-use Rattle.ulfm.specs.declared.run.Failure.TheVariants as run
-
--- the failure that a fault of `run_job` is: ends that don't fit the job are none
-abbrev pub failure_of : RunFault → Option Failure
-failure_of fault.NoThread = Some run.NoThread
-failure_of fault.OutOfMemory = Some run.OutOfMemory
-failure_of (fault.Untrue reports) = Some run.Untrue
-failure_of fault.BadEnds = None
+use Rattle.ulfm_replies.specs.declared.failure.Failure.{Failure}
+use Rattle.ulfm_replies.specs.declared.failure.Failure.TheVariants as run
 
 -- F4 comes only with reports that show it
 abbrev pub IsShown : Seen → Failure → Type 0

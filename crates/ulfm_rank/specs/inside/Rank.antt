@@ -36,11 +36,14 @@ pub record Holds (a : Inside) : Type 0 where
 abbrev pub state_of : Inside → State
 state_of a = record { me = a.me.number; ranks = a.ranks; log = a.log.items; marks = map mark_of a.outboxes.boxes }
 
--- there is room for a post or an arrival, for one more entry and the release of one more request, for that request, and
--- in each outbox
+-- there is room for a post or an arrival, for one more entry and the release of one more request, and in each outbox
 abbrev pub is_prepared : Inside → Bool
-is_prepared a = a.matcher.prepared && (nat_lt (vec_len a.log + (index_map_len a.requests + stop_places a.stopped) + 1) (vec_capacity a.log) && (nat_lt (index_map_len a.requests) (index_map_len a.requests + spare a.requests) && a.outboxes.room))
+is_prepared a = a.matcher.prepared && (nat_lt (vec_len a.log + (index_map_len a.requests + stop_places a.stopped) + 1) (vec_capacity a.log) && a.outboxes.room)
+
+-- the table of requests has a place for one more
+abbrev pub has_place : Inside → Bool
+has_place a = nat_lt (index_map_len a.requests) (index_map_len a.requests + spare a.requests)
 
 -- what contracts see of the fields of a rank
 abbrev pub view_of : Inside → View
-view_of a = record { state = state_of a; prepared = is_prepared a }
+view_of a = record { state = state_of a; prepared = is_prepared a; has_place = has_place a }

@@ -25,6 +25,7 @@ impl Rank {
         ensures none { IfNone result (outbox self.old.state dest ≡ []) }
         ensures unchanged { IfNone result (self.new ≡ self.old) }
         ensures prepared { self.new.prepared ≡ self.old.prepared }
+        ensures place { self.new.has_place ≡ self.old.has_place }
     {
         if !self.stopped {
             return take_next(&mut self.outboxes, &self.log, dest);
@@ -44,6 +45,7 @@ impl Rank {
         requires taken { MayReturn self.old.state dest item }
         ensures state { self.new.state ≡ returned self.old.state dest }
         ensures prepared { self.new.prepared ≡ self.old.prepared }
+        ensures place { self.new.has_place ≡ self.old.has_place }
     {
         let _ = item;
         if self.stopped {

@@ -8,7 +8,7 @@ ghost use Rattle.ulfm_rank.specs.Calls.{IsReceive, Posts};
 ghost use Rattle.ulfm_rank.specs.Checks.{Passes, Fails, FailsOrStarves, IsTestRefusal, receive_checks};
 ghost use Rattle.ulfm_rank.specs.Facts.{is_stopped};
 ghost use Rattle.ulfm_rank.specs.History.{history_of};
-ghost use Rattle.ulfm_rank.specs.State.{logged};
+ghost use Rattle.ulfm_rank.specs.State.{is_ready, logged};
 ghost use Rattle.ulfm_rank.specs.inside.Table.{IsOfGroup};
 
 use super::Rank;
@@ -69,8 +69,9 @@ impl Rank {
         ensures request { IfOk result (λ id. (i : ℕ) × (pattern : Pattern) × IsRequest self.new.state.log id.number i pattern) }
         ensures refused { IfErr result (FailsOrStarves (receive_checks self.old.state comm.context.number source)) }
         ensures unchanged { OnErr result (self.new.state ≡ self.old.state) }
-        ensures room_lacked { IfErr result (λ e. e ≡ CallError.OutOfMemory → self.old.prepared ≡ false) }
+        ensures room_lacked { IfErr result (λ e. e ≡ CallError.OutOfMemory → is_ready self.old ≡ false) }
         ensures stays_prepared { OnErr result (IsTrue self.old.prepared → IsTrue self.new.prepared) }
+        ensures keeps_place { OnErr result (IsTrue self.old.has_place → IsTrue self.new.has_place) }
     {
         let pattern = self.pattern_of(comm, source, tag, room)?;
         let places = self.requests.len() + 3;
@@ -103,7 +104,8 @@ impl Rank {
         ensures stays { IfOk result (λ answer. is_release answer ≡ false → self.new ≡ self.old) }
         ensures refused { IfErr result (IsTestRefusal self.old.state.log id.number) }
         ensures unchanged { OnErr result (self.new ≡ self.old) }
-        ensures stays_prepared { IsTrue self.old.prepared → IsTrue self.new.prepared }
+        ensures prepared { self.new.prepared ≡ self.old.prepared }
+        ensures keeps_place { IsTrue self.old.has_place → IsTrue self.new.has_place }
     {
         if self.stopped {
             return Err(CallError::Stopped);

@@ -15,6 +15,7 @@ impl Rank {
     pub fn stop(&mut self)
         ensures state { self.new.state ≡ stopping self.old.state }
         ensures prepared { self.new.prepared ≡ self.old.prepared }
+        ensures place { self.new.has_place ≡ self.old.has_place }
     {
         if self.stopped {
             return;
@@ -56,6 +57,7 @@ impl Rank {
         ensures unchanged { OnErr result (self.new.state ≡ self.old.state) }
         ensures room_lacked { IfErr result (λ e. e ≡ CallError.OutOfMemory → self.old.prepared ≡ false) }
         ensures stays_prepared { OnErr result (IsTrue self.old.prepared → IsTrue self.new.prepared) }
+        ensures place { self.new.has_place ≡ self.old.has_place }
     {
         let group = self.running_group(comm)?.copied();
         let before = self.faults.acknowledged(comm.context);
@@ -85,6 +87,7 @@ impl Rank {
         ensures unchanged { OnErr result (self.new.state ≡ self.old.state) }
         ensures room_lacked { IfErr result (λ e. e ≡ CallError.OutOfMemory → self.old.prepared ≡ false) }
         ensures stays_prepared { OnErr result (IsTrue self.old.prepared → IsTrue self.new.prepared) }
+        ensures place { OnErr result (self.new.has_place ≡ self.old.has_place) }
     {
         let _ = self.running_group(comm)?;
         if self.faults.is_revoked(comm.context) {

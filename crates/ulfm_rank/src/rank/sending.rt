@@ -42,6 +42,7 @@ impl Rank {
         ensures unchanged { OnErr result (self.new.state ≡ self.old.state) }
         ensures room_lacked { IfErr result (λ e. e ≡ CallError.OutOfMemory → self.old.prepared ≡ false) }
         ensures stays_prepared { OnErr result (IsTrue self.old.prepared → IsTrue self.new.prepared) }
+        ensures place { self.new.has_place ≡ self.old.has_place }
     {
         let to = self.destination(comm, dest, body.len())?;
         let envelope = Envelope {
@@ -95,6 +96,7 @@ impl Rank {
         ensures unchanged { OnErr result (self.new.state ≡ self.old.state) }
         ensures room_lacked { IfErr result (λ e. e ≡ CallError.OutOfMemory → self.old.prepared ≡ false) }
         ensures stays_prepared { OnErr result (IsTrue self.old.prepared → IsTrue self.new.prepared) }
+        ensures place { self.new.has_place ≡ self.old.has_place }
     {
         let group = self.running_group(comm)?.copied();
         if self.faults.is_revoked(comm.context) {

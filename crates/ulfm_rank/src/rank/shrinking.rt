@@ -30,6 +30,7 @@ impl Rank {
         ensures unchanged { OnErr result (self.new.state ≡ self.old.state) }
         ensures room_lacked { IfErr result (λ e. e ≡ CallError.OutOfMemory → self.old.prepared ≡ false) }
         ensures stays_prepared { OnErr result (IsTrue self.old.prepared → IsTrue self.new.prepared) }
+        ensures place { self.new.has_place ≡ self.old.has_place }
     {
         let members = self.running_group(comm)?.members();
         if self.has_entered(comm.context) {
@@ -92,6 +93,7 @@ impl Rank {
         ensures unchanged { OnErr result (self.new.state ≡ self.old.state) }
         ensures room_lacked { IfErr result (λ e. e ≡ CallError.OutOfMemory → self.old.prepared ≡ false) }
         ensures stays_prepared { OnErr result (IsTrue self.old.prepared → IsTrue self.new.prepared) }
+        ensures place { self.new.has_place ≡ self.old.has_place }
     {
         let context = self.shrunk_context(comm, &decision)?;
         self.log.reserve(self.requests.len() + 2)?;

@@ -2,7 +2,7 @@
 ghost use Rattle.std.specs.Prelude.{◌≡◌, ◌<◌, IsTrue, OnOk, OnErr, false};
 ghost use Rattle.ulfm_rank.specs.Calls.{IsFrom};
 ghost use Rattle.ulfm_rank.specs.Facts.{is_stopped};
-ghost use Rattle.ulfm_rank.specs.State.{logged};
+ghost use Rattle.ulfm_rank.specs.State.{is_ready, logged};
 
 use super::{Rank, stop_places};
 use crate::entry::Entry;
@@ -20,8 +20,10 @@ impl Rank {
     pub fn prepare(&mut self) -> Result<(), OutOfMemory>
         ensures state { self.new.state ≡ self.old.state }
         ensures prepared { OnOk result (IsTrue self.new.prepared) }
-        ensures room_lacked { OnErr result (self.old.prepared ≡ false) }
+        ensures place { OnOk result (IsTrue self.new.has_place) }
+        ensures room_lacked { OnErr result (is_ready self.old ≡ false) }
         ensures stays_prepared { IsTrue self.old.prepared → IsTrue self.new.prepared }
+        ensures keeps_place { IsTrue self.old.has_place → IsTrue self.new.has_place }
     {
         let places = self.requests.len() + stop_places(self.stopped) + 2;
         self.log.reserve(places)?;
@@ -32,7 +34,7 @@ impl Rank {
 
     /// Whether there is room for one `take` or one call.
     pub fn is_prepared(&self) -> bool
-        ensures { result ≡ self.now.prepared }
+        ensures { result ≡ is_ready self.now }
     {
         let places = self.log.len() + self.requests.len() + stop_places(self.stopped) + 1;
         self.matcher.is_prepared()

@@ -4,7 +4,7 @@ use Rattle.ulfm_job.specs.Job.{Seen}
 use Rattle.ulfm_laws.specs.Lawful.{IsLawful}
 use Rattle.ulfm.specs.Replies.{ran, repeated, with_options}
 use Rattle.ulfm.specs.Tally.{tally_text}
-use Rattle.ulfm.specs.Unfinished.{played_status}
+use Rattle.ulfm_replies.specs.Unfinished.{played_status}
 use Rattle.ulfm.specs.inside.Writing.{IsShown}
 use Rattle.ulfm.proofs.Refused.{run_refused, run_failed, without_repeat}
 use Rattle.ulfm.proofs.run.run_reply.Goals as goal

@@ -3,7 +3,7 @@ use Rattle.std.proofs.lemmas.List.Elements.{All-push}
 use Rattle.ulfm_laws.specs.Lawful.{IsLawful}
 use Rattle.ulfm_script.specs.Trace.{trace_of}
 use Rattle.ulfm.specs.Tally.{counted}
-use Rattle.ulfm.specs.Unfinished.{has_unfinished}
+use Rattle.ulfm_replies.specs.Unfinished.{has_unfinished}
 use Rattle.ulfm.proofs.Tallied.{one_more, some_more}
 use Rattle.ulfm.proofs.tally.tally_of.Goals as goal
 

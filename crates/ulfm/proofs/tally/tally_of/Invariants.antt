@@ -6,7 +6,7 @@ use Rattle.ulfm_script.specs.Trace.{trace_of}
 use Rattle.ulfm.specs.declared.tally.Counted.{Counted}
 use Rattle.ulfm.specs.inside.Tallied.{rows_of}
 use Rattle.ulfm.specs.Tally.{tally}
-use Rattle.ulfm.specs.Unfinished.{has_unfinished}
+use Rattle.ulfm_replies.specs.Unfinished.{has_unfinished}
 use Rattle.ulfm.proofs.tally.tally_of.Given as goal
 
 abbrev pub decreases-loop-done : goal.decreases-loop-done

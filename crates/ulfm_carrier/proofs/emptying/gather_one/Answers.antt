@@ -1,5 +1,5 @@
-use Rattle.std.proofs.Common.{◌≡◌, ◌<◌, ◌+◌, ◌++◌, ℕ, List, length, set, refl, ap, sym, ◌∙◌, arith, subst, length-set}
-use Rattle.ulfm_carrier.proofs.Common.{at, Item, items_from, only_at, shared_pushed, shared_taken, SharedEnds, slice_get_within, View, view}
+use Rattle.std.proofs.Common.{◌≡◌, ◌<◌, ◌+◌, ◌++◌, length, set, refl, ap, sym, ◌∙◌, arith, subst, length-set}
+use Rattle.ulfm_carrier.proofs.Common.{at, items_from, only_at, shared_pushed, shared_taken, SharedEnds, slice_get_within, view}
 use Rattle.ulfm_carrier.proofs.Places.{at_read, view_or}
 use Rattle.ulfm_carrier.proofs.Frames.{as_many_outs}
 use Rattle.ulfm_carrier.proofs.Heard.{Hears, AllHear, none_heard, closes_more, hears_more}
@@ -86,7 +86,7 @@ returns g c =
       still_open = λ k x here. (done k x here).2.later;
       left = λ s sender receiver at_s at_place.
           let inside : s < n = omega (arith, slice_get_within all s sender at_s, c.loop-from-test.false, c.len-from-end.ensures, c.args.ends.now.ok) in
-          let receipts = subst (λ (l : List (ℕ × List Item)). at l s (telling all place s)) (sym (ap (λ (v : View). v.receipts) (old.2.receipts refl))) (told_at all place n s inside) in
+          let receipts = subst (λ l. at l s (telling all place s)) (sym (ap (λ v. v.receipts) (old.2.receipts refl))) (told_at all place n s inside) in
           let is = only_at all place receiver old.0 at_place old.1 in
           sym (view_or (λ x. shared_pushed x place) all s _ at_s) ∙ left.left s (telling all place s) receipts ∙ ap (λ l. l ++ items_from s c.empty.result.items) (taken_told old.2 s ∙ ap (λ x. shared_taken x s) is);
       no_others = λ s past. left.no_others s (omega (arith, past, as_many_outs old.0 r old.2.names, all_outs all c.requires.family place old.1, r.outs.ok, c.args.ends.now.ok));

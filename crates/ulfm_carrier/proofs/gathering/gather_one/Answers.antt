@@ -88,6 +88,6 @@ returns c =
           let low : s < c.loop-from.from = omega (arith, slice_get_within all s sender at_s, c.loop-from-test.false, c.len-from-end.ensures, c.args.ends.now.ok) in
           let same = only_at all c.args.place receiver first at_place (at_read all c.args.place place c.index_mut-receiver.ensures.value) in
           sym (view_or (λ e. lane_pushed e c.args.place) all s [] at_s) ∙ c.loop-from.invariant.left s low
-          ∙ ap (λ l. l ++ items_from s c.loop-from.left.items) (ap (λ v. get_or (map taken_by v.items) s []) start ∙ ap (λ (e : LaneEnds). lane_taken e s) same);
+          ∙ ap (λ l. l ++ items_from s c.loop-from.left.items) (ap (λ v. get_or (map taken_by v.items) s []) start ∙ ap (λ e. lane_taken e s) same);
       no_others = λ s past. c.loop-from.invariant.rest s (omega (arith, past, c.loop-from.auto, c.len-from-end.ensures));
     }

@@ -1,6 +1,5 @@
 use Rattle.std.proofs.Common.{◌≡◌, List, vec_len, vec_capacity}
-use Rattle.ulfm_carrier.proofs.Common.{AllBelow, IsSamePass, ReceiptsAreTakenAndHeld, Signed, view}
-use Rattle.ulfm_carrier.specs.inside.Passes.{after_all}
+use Rattle.ulfm_carrier.proofs.Common.{AllBelow, IsSamePass, ReceiptsAreTakenAndHeld, Signed, view, after_all}
 use Rattle.ulfm_carrier.proofs.inbox.take_all.Given as goal
 
 abbrev pub invariant-loop : goal.invariant-loop

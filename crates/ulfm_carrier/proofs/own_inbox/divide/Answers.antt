@@ -1,5 +1,4 @@
 use Rattle.std.proofs.Common.{ap}
-use Rattle.ulfm_carrier.proofs.Common.{View}
 use Rattle.ulfm_carrier.proofs.Owners.{parts, has_back}
 use Rattle.ulfm_carrier.proofs.own_inbox.divide.Goals as goal
 
@@ -7,4 +6,4 @@ pub another-part-requires-clause-rule : goal.another-part-requires-clause-rule
 another-part-requires-clause-rule c = parts _ _ c.requires.own.1
 
 pub absorb-requires-clause-rule : goal.absorb-requires-clause-rule
-absorb-requires-clause-rule c = has_back _ _ _ _ (ap (λ (v : View). v.role) c.another-part.ensures.rule.1)
+absorb-requires-clause-rule c = has_back _ _ _ _ (ap (λ v. v.role) c.another-part.ensures.rule.1)

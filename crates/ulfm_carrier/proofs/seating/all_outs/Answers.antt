@@ -1,6 +1,5 @@
 use Rattle.std.proofs.Common.{◌≡◌, ◌+◌, ℕ, length, ap, sym, ◌∙◌, arith, subst}
-use Rattle.ulfm_carrier.proofs.Common.{at, Global, InboxPass, length_push, Vec}
-use Rattle.ulfm_carrier.specs.inside.Seating.{AreInlets, AreOuts, AreRows}
+use Rattle.ulfm_carrier.proofs.Common.{at, Global, InboxPass, length_push, Vec, AreInlets, AreOuts, AreRows}
 use Rattle.ulfm_carrier.proofs.Places.{each_push, none_at}
 use Rattle.ulfm_carrier.proofs.Seats.{open_inlets, more_inlets, new_outs}
 use Rattle.ulfm_carrier.proofs.seating.all_outs.Goals as goal
@@ -34,9 +33,9 @@ loop-preserved c =
 pub returns-clause-inlets : goal.returns-clause-inlets
 returns-clause-inlets c =
     let all : c.loop.counter ≡ c.args.n = omega (arith, c.loop-test.false, c.loop.auto) in
-    subst (λ (m : ℕ). AreInlets m c.args.inboxes.now.items c.loop.inlets.items) all c.loop.invariant.inlets
+    subst (λ m. AreInlets m c.args.inboxes.now.items c.loop.inlets.items) all c.loop.invariant.inlets
 
 pub returns-clause-rows : goal.returns-clause-rows
 returns-clause-rows c =
     let all : c.loop.counter ≡ c.args.n = omega (arith, c.loop-test.false, c.loop.auto) in
-    subst (λ (m : ℕ). AreRows m c.args.inboxes.now.items c.loop.rows.items) all c.loop.invariant.rows
+    subst (λ m. AreRows m c.args.inboxes.now.items c.loop.rows.items) all c.loop.invariant.rows

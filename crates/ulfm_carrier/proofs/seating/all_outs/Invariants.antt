@@ -1,5 +1,5 @@
 use Rattle.std.proofs.Common.{◌≡◌, length}
-use Rattle.ulfm_carrier.specs.inside.Seating.{AreInlets, AreRows}
+use Rattle.ulfm_carrier.proofs.Common.{AreInlets, AreRows}
 use Rattle.ulfm_carrier.proofs.seating.all_outs.Given as goal
 
 abbrev pub invariant-loop : goal.invariant-loop

@@ -1,6 +1,5 @@
 use Rattle.std.proofs.Common.{◌≡◌, ◌+◌, ◌∷◌, [], ◌++◌, ℕ, List, length, ap, sym, ◌∙◌, subst}
-use Rattle.ulfm_carrier.proofs.Common.{InboxPass, IsPassOf, length_push, ruled_capacity, view}
-use Rattle.ulfm_carrier.specs.inside.Seating.{Queue, receiver_of, AreInboxes, AreInlets}
+use Rattle.ulfm_carrier.proofs.Common.{InboxPass, IsPassOf, length_push, ruled_capacity, view, Queue, receiver_of, AreInboxes, AreInlets}
 use Rattle.ulfm_carrier.proofs.Places.{each_push}
 use Rattle.ulfm_carrier.proofs.Seats.{each_pair}
 use Rattle.ulfm_carrier.proofs.seating.new_inboxes.Goals as goal
@@ -17,5 +16,5 @@ loop-preserved c =
       many = ap length more ∙ length_push boxes box ∙ ap (λ n. n + 1) kept.many;
       as_many = ap length more' ∙ length_push inlets inlet ∙ ap (λ n. n + 1) kept.as_many;
       inboxes = subst (AreInboxes c.args.capacity) (sym more) all;
-      inlets = subst (λ (l : List InboxPass). AreInlets 0 c.push.new.self.items l) (sym more') (subst A (sym more) both);
+      inlets = subst (λ l. AreInlets 0 c.push.new.self.items l) (sym more') (subst A (sym more) both);
     }

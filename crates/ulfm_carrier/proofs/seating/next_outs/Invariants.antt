@@ -1,6 +1,5 @@
 use Rattle.std.proofs.Common.{◌≡◌, ◌≤◌, ◌<◌, ℕ, length, slice_get}
-use Rattle.ulfm_carrier.proofs.Common.{AreNextOuts, at, InboxPass, IsSamePass, view}
-use Rattle.ulfm_carrier.specs.inside.Passes.{one_more}
+use Rattle.ulfm_carrier.proofs.Common.{AreNextOuts, at, InboxPass, IsSamePass, view, one_more}
 use Rattle.ulfm_carrier.proofs.seating.next_outs.Given as goal
 
 abbrev pub invariant-loop-dest : goal.invariant-loop-dest

@@ -1,7 +1,6 @@
-use Rattle.std.proofs.Common.{◌≡◌, ◌<◌, ◌≤◌, ◌++◌, ℕ, length, map, refl, ap, sym, ◌∙◌, arith, subst, vec_capacity}
+use Rattle.std.proofs.Common.{◌≡◌, ◌<◌, ◌≤◌, ◌++◌, length, map, refl, ap, sym, ◌∙◌, arith, subst, vec_capacity}
 use Rattle.std.specs.Vec.Iter.{into_iter_items}
-use Rattle.ulfm_carrier.proofs.Common.{arc_value, at, length-set, length_push, SharedEnds}
-use Rattle.ulfm_carrier.specs.inside.Seating.{AreOuts, IsMade}
+use Rattle.ulfm_carrier.proofs.Common.{arc_value, at, length-set, length_push, AreOuts, IsMade}
 use Rattle.ulfm_carrier.proofs.Places.{at_read, at_other, each_push, none_at}
 use Rattle.ulfm_carrier.proofs.Seats.{inlet_next, inlets_next}
 use Rattle.ulfm_carrier.proofs.seating.seated.Goals as goal
@@ -10,7 +9,7 @@ pub loop-inlet-init : goal.loop-inlet-init
 loop-inlet-init c =
     let items = c.into_iter-inlet-iterator.ensures.into_iter_gives in
     let none = c.in_ok-ends.ensures.items in record {
-      inlets = ap (λ l. map (λ (e : SharedEnds). e.inlet) l ++ into_iter_items c.into_iter-inlet-iterator.result) none ∙ items.0;
+      inlets = ap (λ l. map (λ e. e.inlet) l ++ into_iter_items c.into_iter-inlet-iterator.result) none ∙ items.0;
       count = omega (arith, ap length none, items.1, c.args.inlets.ok);
       many = c.requires.rows.0;
       waiting = λ j late. refl;
@@ -51,7 +50,7 @@ loop-inlet-preserved c =
     let low : c.len-place.result < length rows = omega (arith, next.0, kept.many, place) in
     let at_row = at_read rows c.len-place.result low c.index_mut.ensures.value in
     let at_old = sym (kept.waiting c.len-place.result (omega (arith, place))) ∙ at_row in
-    let outs = c.requires.rows.1 (length ends) row (subst (λ (k : ℕ). at c.args.rows.now.items k row) place at_old) in
+    let outs = c.requires.rows.1 (length ends) row (subst (λ k. at c.args.rows.now.items k row) place at_old) in
     let mine = ap (λ v. v.items) c.replace-outs.ensures.value in
     let O = AreOuts (length ends) boxes in
     let P = IsMade (length all) c.args.capacity boxes in

@@ -1,7 +1,5 @@
 use Rattle.std.proofs.Common.{◌≡◌, ◌<◌, ℕ, List, length, map, vec_len, ap, sym, ◌∙◌, arith, subst}
-use Rattle.ulfm_carrier.proofs.Common.{AllFresh, arc_value, at, Global, SharedEnds, Vec}
-use Rattle.ulfm_carrier.specs.inside.Seating.{Queue, AreInboxes, AreMade}
-use Rattle.ulfm_carrier.specs.Shared.{shared_name, shared_pushed, shared_taken, inbox_capacity, IsReady, OneCall}
+use Rattle.ulfm_carrier.proofs.Common.{AllFresh, arc_value, at, Global, SharedEnds, Vec, shared_name, shared_pushed, shared_taken, inbox_capacity, IsReady, OneCall, Queue, AreInboxes, AreMade}
 use Rattle.ulfm_carrier.proofs.Seated.{if_ok, made_family, made_fresh, made_capacities}
 use Rattle.ulfm_carrier.proofs.seating.shared.Goals as goal
 
@@ -14,7 +12,7 @@ returns-clause-family c =
     let C = AreInboxes c.args.capacity in
     let capacities : AreInboxes c.args.capacity boxes = subst C (sym same) c.in_ok-inboxes.ensures.inboxes in
     let M : Vec SharedEnds Global → Type 0 = λ ends. AreMade n c.args.capacity boxes ends.items in
-    if_ok M (λ (ends : Vec SharedEnds Global). OneCall (map shared_name ends.items)) c.seated.result (λ ends made. made_family n c.args.capacity boxes many capacities ends.items made (omega arith)) c.seated.ensures.made
+    if_ok M (λ ends. OneCall (map shared_name ends.items)) c.seated.result (λ ends made. made_family n c.args.capacity boxes many capacities ends.items made (omega arith)) c.seated.ensures.made
 
 pub returns-clause-fresh : goal.returns-clause-fresh
 returns-clause-fresh c =
@@ -25,7 +23,7 @@ returns-clause-fresh c =
     let C = AreInboxes c.args.capacity in
     let capacities : AreInboxes c.args.capacity boxes = subst C (sym same) c.in_ok-inboxes.ensures.inboxes in
     let M : Vec SharedEnds Global → Type 0 = λ ends. AreMade n c.args.capacity boxes ends.items in
-    let Q : Vec SharedEnds Global → Type 0 = λ ends. AllFresh (λ (e : SharedEnds). vec_len e.outs) shared_pushed shared_taken IsReady ends.items in
+    let Q : Vec SharedEnds Global → Type 0 = λ ends. AllFresh (λ e. vec_len e.outs) shared_pushed shared_taken IsReady ends.items in
     if_ok M Q c.seated.result (λ ends made. made_fresh n c.args.capacity boxes many capacities ends.items made (omega arith)) c.seated.ensures.made
 
 pub returns-clause-capacities : goal.returns-clause-capacities

@@ -1,7 +1,7 @@
 use Rattle.std.proofs.Common.{◌≡◌, ◌<◌, length, map, ap, sym, ◌∙◌, arith, length-set}
 use Rattle.rtrb.specs.Ring.{received, consumer_capacity}
-use Rattle.ulfm_carrier.proofs.Common.{item_of, LaneEnds, WorldRank}
-use Rattle.ulfm_carrier.specs.Lanes.{outlet_name, inlet_name, shown, reader_name}
+use Rattle.ulfm_carrier.proofs.Common.{item_of, LaneEnds, shown}
+use Rattle.ulfm_carrier.specs.Lanes.{outlet_name, inlet_name, reader_name}
 use Rattle.ulfm_carrier.specs.inside.Wiring.{IsNewInlet}
 use Rattle.ulfm_carrier.proofs.Wires.{adds}
 use Rattle.ulfm_carrier.proofs.Wired.{wired_more}
@@ -18,7 +18,7 @@ returns-clause-wired c =
     let low_s : s < length all = omega (arith, c.requires.source, c.args.ends.now.ok) in
     let low_d : d < length all = omega (arith, c.requires.dest, c.args.ends.now.ok) in
     let is_new : IsNewInlet c.args.capacity s inlet = (
-      (ap (λ (r : WorldRank). r.number) new.source, new.live),
+      (ap (λ r. r.number) new.source, new.live),
       ap (λ g. map (item_of inlet.source) (shown g (received inlet.ring))) new.live ∙ ap (λ r. map (item_of inlet.source) (received r)) new.ring ∙ ap (map (item_of inlet.source)) made.consumer.0,
       ap (λ r. consumer_capacity r) new.ring ∙ made.consumer.2,
     ) in

@@ -1,5 +1,5 @@
 use Rattle.std.proofs.Common.{◌≡◌, [], replicate}
-use Rattle.ulfm_job.specs.Job.{lists_of}
+use Rattle.ulfm_job.proofs.Common.{lists_of}
 use Rattle.ulfm_job.proofs.reading.empty_scripts.Given as goal
 
 abbrev pub invariant-loop : goal.invariant-loop

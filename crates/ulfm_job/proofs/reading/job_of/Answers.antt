@@ -1,6 +1,6 @@
 use Rattle.std.proofs.Common.{arith}
 use Rattle.std.proofs.lemmas.Result.{err_from_is_err_and}
-use Rattle.ulfm_job.specs.inside.Reading.{head_view}
+use Rattle.ulfm_job.proofs.Common.{head_view}
 use Rattle.ulfm_job.proofs.Steps.{items_len-view}
 use Rattle.ulfm_job.proofs.Jobs.{too_many, steps_read}
 use Rattle.ulfm_job.proofs.reading.job_of.Goals as goal

@@ -1,8 +1,7 @@
 use Rattle.std.proofs.Common.{◌<◌, length, arith, Vec, Global}
 use Rattle.std.proofs.lemmas.List.{length-map}
 use Rattle.std.proofs.lemmas.Result.{err_from_is_err_and}
-use Rattle.ulfm_job.specs.declared.step.Step.{Step}
-use Rattle.ulfm_job.specs.Job.{lists_of}
+use Rattle.ulfm_job.proofs.Common.{Step, lists_of}
 use Rattle.ulfm_job.proofs.Filled.{starts, one_step, faults, whole}
 use Rattle.ulfm_job.proofs.Scripts.{lists_of-set}
 use Rattle.ulfm_job.proofs.reading.scripts_of.Goals as goal

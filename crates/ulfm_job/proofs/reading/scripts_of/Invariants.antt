@@ -1,6 +1,5 @@
 use Rattle.std.proofs.Common.{drop}
-use Rattle.toml.specs.View.{items_view}
-use Rattle.ulfm_job.specs.Job.{lists_of}
+use Rattle.ulfm_job.proofs.Common.{items_view, lists_of}
 use Rattle.ulfm_job.specs.JobText.{steps_of}
 use Rattle.ulfm_job.proofs.Filled.{IsFilled}
 use Rattle.ulfm_job.proofs.reading.scripts_of.Given as goal

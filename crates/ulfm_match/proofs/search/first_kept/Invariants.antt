@@ -1,7 +1,6 @@
 use Rattle.std.proofs.Common.{ℕ, take, Contains}
-use Rattle.ulfm_base.specs.declared.envelope.Letter.{Letter}
-use Rattle.ulfm_base.specs.Pattern.{Admits}
+use Rattle.ulfm_match.proofs.Common.{Admits, Letter, Passes}
 use Rattle.ulfm_match.proofs.search.first_kept.Given as goal
 
 abbrev pub invariant-loop-k : goal.invariant-loop-k
-invariant-loop-k l = (y : ℕ × Letter) → Contains (take l.k l.kept) y → Admits l.pattern y.1.envelope → ⊥
+invariant-loop-k l = (m : ℕ) → Contains (take l.k l.bucket.numbers.items) m → Passes (λ (letter : Letter). Admits l.pattern letter.envelope) l.kept m → ⊥

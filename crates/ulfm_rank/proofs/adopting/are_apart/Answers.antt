@@ -1,6 +1,5 @@
 use Rattle.std.proofs.Common.{sym, ◌∙◌, arith}
-use Rattle.ulfm_base.specs.RankSet.{has}
-use Rattle.ulfm_rank.specs.Shrink.{is_apart}
+use Rattle.ulfm_rank.proofs.Common.{is_apart, has}
 use Rattle.ulfm_rank.proofs.Foreign.{any_number, apart, unlike}
 use Rattle.ulfm_rank.proofs.adopting.are_apart.Goals as goal
 

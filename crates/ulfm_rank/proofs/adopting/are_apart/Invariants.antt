@@ -1,5 +1,5 @@
 use Rattle.std.proofs.Common.{◌≡◌, ◌<◌, ℕ, false}
-use Rattle.ulfm_rank.specs.Shrink.{is_apart}
+use Rattle.ulfm_rank.proofs.Common.{is_apart}
 use Rattle.ulfm_rank.proofs.adopting.are_apart.Given as goal
 
 abbrev pub invariant-loop-number : goal.invariant-loop-number

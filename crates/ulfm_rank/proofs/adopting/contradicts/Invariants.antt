@@ -1,6 +1,5 @@
 use Rattle.std.proofs.Common.{◌≡◌, ◌<◌, ℕ, false}
-use Rattle.ulfm_base.specs.Decision.{entry_at}
-use Rattle.ulfm_rank.specs.Shrink.{differ}
+use Rattle.ulfm_rank.proofs.Common.{differ, entry_at}
 use Rattle.ulfm_rank.proofs.adopting.contradicts.Given as goal
 
 abbrev pub invariant-loop-rank : goal.invariant-loop-rank

@@ -1,5 +1,5 @@
 use Rattle.std.proofs.Common.{◌≡◌, ◌<◌, ◌≤◌, ℕ, false, ◌==◌, ◌&&◌, not}
-use Rattle.ulfm_base.specs.RankSet.{has}
+use Rattle.ulfm_rank.proofs.Common.{has}
 use Rattle.ulfm_rank.proofs.forwarding.addressees.Given as goal
 
 abbrev pub invariant-loop-number : goal.invariant-loop-number

@@ -1,7 +1,6 @@
 use Rattle.std.proofs.Common.{◌≡◌, ◌<◌, eqb, refl, ap, arith, ◌∙◌, ◌&&◌, not}
 use Rattle.ulfm_base.specs.declared.item.Item.TheVariants.{Enter}
-use Rattle.ulfm_rank.proofs.Common.{is_member, has, members_of, is_gone}
-use Rattle.ulfm_rank.specs.Owed.{entry_told}
+use Rattle.ulfm_rank.proofs.Common.{is_member, has, members_of, is_gone, entry_told}
 use Rattle.ulfm_rank.proofs.Held.{grows_alike}
 use Rattle.ulfm_rank.proofs.forwarding.announce.Goals as goal
 

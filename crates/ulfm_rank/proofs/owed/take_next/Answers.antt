@@ -1,5 +1,4 @@
-use Rattle.ulfm_rank.specs.Owed.{owed}
-use Rattle.ulfm_rank.specs.inside.Outboxes.{box_at}
+use Rattle.ulfm_rank.proofs.Common.{owed, box_at}
 use Rattle.ulfm_rank.proofs.Seen.{next_item}
 use Rattle.ulfm_rank.proofs.owed.take_next.Goals as goal
 

@@ -1,7 +1,5 @@
 use Rattle.std.proofs.Common.{◌≡◌, ℕ, take, ◌||◌}
-use Rattle.std.specs.List.{list_any}
-use Rattle.ulfm_base.specs.RankSet.{has}
-use Rattle.ulfm_base.specs.Decision.{in_entry}
+use Rattle.ulfm_rank.proofs.Common.{list_any, in_entry, has}
 use Rattle.ulfm_rank.proofs.proposal.failures_in.Given as goal
 
 abbrev pub invariant-loop-entry : goal.invariant-loop-entry

@@ -1,6 +1,5 @@
 use Rattle.std.proofs.Common.{◌≡◌, ◌<◌, ◌≤◌, ℕ, ◌||◌}
-use Rattle.ulfm_base.specs.Decision.{is_listed}
-use Rattle.ulfm_base.specs.RankSet.{has}
+use Rattle.ulfm_rank.proofs.Common.{is_listed, has}
 use Rattle.ulfm_rank.proofs.proposal.listed_or.Given as goal
 
 abbrev pub invariant-loop-number : goal.invariant-loop-number

@@ -1,5 +1,5 @@
 use Rattle.std.proofs.Common.{rules, ◌≡◌, sym, ◌∙◌, refl, length}
-use Rattle.std.proofs.lemmas.Bool.{false≢true}
+use Rattle.ulfm_rank.proofs.Common.{false≢true}
 use Rattle.ulfm_rank.proofs.Proposing.{IsTally, has_small, no_proposal, is_proposal}
 use Rattle.ulfm_rank.proofs.proposal.proposed.Goals as goal
 

@@ -1,6 +1,5 @@
 use Rattle.std.proofs.Common.{sym, subst, ◌∙◌}
-use Rattle.ulfm_match.specs.Calls.{TracksEnd}
-use Rattle.ulfm_rank.specs.inside.Requests.{fate_of}
+use Rattle.ulfm_rank.proofs.Common.{fate_of, TracksEnd}
 use Rattle.ulfm_rank.proofs.Steps.{AdmitsTo, admitted, admitted_over}
 use Rattle.ulfm_rank.proofs.requests.admit.Goals as goal
 use Rattle.ulfm_rank.proofs.requests.admit.Goals.{then-gone, else-gone}

@@ -1,5 +1,5 @@
 use Rattle.std.specs.Prelude.{nat_eq}
-use Rattle.indexmap.specs.IndexMap.{get}
+use Rattle.ulfm_rank.proofs.Common.{get}
 use Rattle.ulfm_rank.proofs.Clears.{table_cleared}
 use Rattle.ulfm_rank.proofs.requests.clear.Goals as goal
 

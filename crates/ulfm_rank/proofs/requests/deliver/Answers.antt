@@ -1,7 +1,5 @@
 use Rattle.std.proofs.Common.{subst, nat_eq}
-use Rattle.indexmap.specs.IndexMap.{get}
-use Rattle.ulfm_rank.proofs.Common.{Paired}
-use Rattle.ulfm_rank.specs.inside.Requests.{changed, Changes}
+use Rattle.ulfm_rank.proofs.Common.{Paired, changed, Changes, get}
 use Rattle.ulfm_rank.proofs.Steps.{come_kept, come_paired}
 use Rattle.ulfm_rank.proofs.requests.deliver.Goals as goal
 

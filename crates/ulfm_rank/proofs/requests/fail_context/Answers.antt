@@ -1,8 +1,5 @@
 use Rattle.std.proofs.Common.{◌≡◌, ℕ, suc, ◌+◌, length, ap, sym, ◌∙◌, arith, slice_get, map, nat_eq}
-use Rattle.std.specs.Map.{lookup}
-use Rattle.indexmap.specs.IndexMap.{set_value_at}
-use Rattle.ulfm_rank.specs.declared.request.Request.{Request}
-use Rattle.ulfm_rank.specs.inside.Requests.{over_context}
+use Rattle.ulfm_rank.proofs.Common.{over_context, lookup, set_value_at, Request}
 use Rattle.ulfm_rank.proofs.Mapped.{changed_below, changed_more, changed_all, changed_length}
 use Rattle.ulfm_rank.proofs.requests.fail_context.Goals as goal
 use Rattle.ulfm_rank.proofs.requests.fail_context.Goals.{in-Some, in_default}

@@ -1,5 +1,5 @@
 use Rattle.std.proofs.Common.{◌≡◌}
-use Rattle.ulfm_rank.specs.inside.Requests.{over_named}
+use Rattle.ulfm_rank.proofs.Common.{over_named}
 use Rattle.ulfm_rank.proofs.Mapped.{changed_below}
 use Rattle.ulfm_rank.proofs.requests.fail_named.Given as goal
 

@@ -1,10 +1,5 @@
 use Rattle.std.proofs.Common.{◌≡◌, cond, [], ◌∷◌, ◌++◌, ap, sym, subst, ◌∙◌, nat_eq}
-use Rattle.indexmap.specs.IndexMap.{get}
-use Rattle.ulfm_rank.proofs.Common.{Come, Clear, Pairing}
-use Rattle.ulfm_match.specs.State.{Tracks}
-use Rattle.ulfm_rank.specs.History.{ends_of}
-use Rattle.ulfm_rank.specs.History.{item_events}
-use Rattle.ulfm_rank.specs.inside.Table.{IsTable}
+use Rattle.ulfm_rank.proofs.Common.{Come, Clear, Pairing, Tracks, IsTable, ends_of, item_events, get}
 use Rattle.ulfm_rank.proofs.Gone.{ends_named, table_over}
 use Rattle.ulfm_rank.proofs.Steps.{nothing_happens}
 use Rattle.ulfm_rank.proofs.requests.settle.Goals as goal

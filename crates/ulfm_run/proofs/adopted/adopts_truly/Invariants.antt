@@ -1,6 +1,5 @@
 use Rattle.std.proofs.Common.{◌<◌, ℕ}
-use Rattle.ulfm_laws.specs.Shrinks.{AdoptsTruly}
-use Rattle.ulfm_run.proofs.Common.{at, Entry}
+use Rattle.ulfm_run.proofs.Common.{at, Entry, AdoptsTruly}
 use Rattle.ulfm_run.proofs.adopted.adopts_truly.Given as goal
 
 abbrev pub invariant-loop-entry : goal.invariant-loop-entry

@@ -1,6 +1,5 @@
 use Rattle.std.proofs.Common.{◌<◌, ℕ}
-use Rattle.ulfm_laws.specs.Shrinks.{AdoptsTruly}
-use Rattle.ulfm_run.proofs.Common.{at, Entry, Report}
+use Rattle.ulfm_run.proofs.Common.{at, Entry, Report, AdoptsTruly}
 use Rattle.ulfm_run.proofs.adopted.are_true.Given as goal
 
 abbrev pub invariant-loop-report : goal.invariant-loop-report

@@ -1,6 +1,6 @@
 use Rattle.std.proofs.Common.{◌≡◌, ◌<◌, ℕ, true}
 use Rattle.ulfm_base.specs.RankSet.{has}
-use Rattle.ulfm_laws.specs.Shrinks.{StoppedAt}
+use Rattle.ulfm_run.proofs.Common.{StoppedAt}
 use Rattle.ulfm_run.proofs.adopted.excludes_stopped.Given as goal
 
 abbrev pub invariant-loop-number : goal.invariant-loop-number

@@ -1,7 +1,7 @@
 use Rattle.std.proofs.Common.{◌≡◌, ◌<◌, ℕ, Some}
 use Rattle.ulfm_base.specs.declared.rank_set.RankSet.{RankSet}
 use Rattle.ulfm_base.specs.Decision.{entry_at}
-use Rattle.ulfm_laws.specs.Shrinks.{EnteredWith}
+use Rattle.ulfm_run.proofs.Common.{EnteredWith}
 use Rattle.ulfm_run.proofs.adopted.lists_truly.Given as goal
 
 abbrev pub invariant-loop-number : goal.invariant-loop-number

@@ -1,6 +1,5 @@
 use Rattle.std.proofs.Common.{◌≡◌, ◌+◌, ◌≤◌, ◌++◌, vec_len, vec_capacity, map}
-use Rattle.std.specs.Vec.Iter.{into_iter_items, into_iter_len}
-use Rattle.ulfm_run.specs.inside.Threads.{report_in, end_in, decider_in}
+use Rattle.ulfm_run.proofs.Common.{report_in, end_in, decider_in, into_iter_items, into_iter_len}
 use Rattle.ulfm_run.proofs.job.parted.Given as goal
 
 abbrev pub invariant-loop-one : goal.invariant-loop-one

@@ -1,9 +1,7 @@
 use Rattle.std.proofs.Common.{ap, sym, ◌∙◌, subst, map, List, slice_get}
-use Rattle.std.proofs.lemmas.Bool.{false≢true}
-use Rattle.ulfm_laws.specs.Shrinks.{AreTrue}
 use Rattle.ulfm_script.specs.declared.fault.RunFault.{RunFault}
 use Rattle.ulfm_script.specs.declared.fault.RunFault.TheVariants.{Untrue}
-use Rattle.ulfm_run.proofs.Common.{Global, IsGathered, Keeps, NameOneBoard, Report, RevokedByARank, Vec}
+use Rattle.ulfm_run.proofs.Common.{Global, IsGathered, Keeps, NameOneBoard, Report, RevokedByARank, Vec, false≢true, AreTrue}
 use Rattle.ulfm_run.proofs.job.report_of.Goals as goal
 
 pub gather-residue-requires-clause-family : goal.gather-residue-requires-clause-family

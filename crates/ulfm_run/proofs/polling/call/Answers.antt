@@ -1,8 +1,6 @@
 use Rattle.std.proofs.Common.{arith, inl, inr, ◌∙◌, length}
 use Rattle.ulfm_script.proofs.Calling.{honest-called}
-use Rattle.ulfm_script.proofs.Honestly.{honest-left}
-use Rattle.ulfm_script.proofs.Progress.{next-free}
-use Rattle.ulfm_run.proofs.Common.{script_at, slice_get_within}
+use Rattle.ulfm_run.proofs.Common.{script_at, slice_get_within, honest-left, next-free}
 use Rattle.ulfm_run.proofs.Polled.{polls-call, polls-leave, answered_none}
 use Rattle.ulfm_run.proofs.polling.call.Goals as goal
 

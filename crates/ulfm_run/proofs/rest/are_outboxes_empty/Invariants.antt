@@ -1,6 +1,5 @@
 use Rattle.std.proofs.Common.{◌≡◌, ◌<◌, ℕ, []}
-use Rattle.ulfm_rank.specs.State.{outbox}
-use Rattle.ulfm_run.proofs.Common.{at, Report}
+use Rattle.ulfm_run.proofs.Common.{at, Report, outbox}
 use Rattle.ulfm_run.proofs.rest.are_outboxes_empty.Given as goal
 
 abbrev pub invariant-loop-sender : goal.invariant-loop-sender

@@ -1,7 +1,5 @@
 use Rattle.std.proofs.Common.{arith, refl}
-use Rattle.ulfm_laws.specs.Rest.{IsServed}
-use Rattle.ulfm_laws.specs.Reports.{IsRunning}
-use Rattle.ulfm_run.proofs.Common.{contents, slice_get_within}
+use Rattle.ulfm_run.proofs.Common.{contents, slice_get_within, IsServed, IsRunning}
 use Rattle.ulfm_run.proofs.Served.{each_more}
 use Rattle.ulfm_run.proofs.rest.at_rest.Goals as goal
 

@@ -1,7 +1,5 @@
 use Rattle.std.proofs.Common.{◌<◌, ℕ}
-use Rattle.ulfm_laws.specs.Rest.{IsServed}
-use Rattle.ulfm_laws.specs.Reports.{IsRunning}
-use Rattle.ulfm_run.proofs.Common.{at, contents, Report}
+use Rattle.ulfm_run.proofs.Common.{at, contents, Report, IsServed, IsRunning}
 use Rattle.ulfm_run.proofs.rest.at_rest.Given as goal
 
 abbrev pub invariant-loop-d : goal.invariant-loop-d

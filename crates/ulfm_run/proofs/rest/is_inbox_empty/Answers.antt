@@ -1,7 +1,6 @@
 use Rattle.std.proofs.Common.{◌<◌, ◌≤◌, length, refl, subst, arith, List}
 use Rattle.std.proofs.lemmas.Bool.Decides.{nat_tests}
-use Rattle.std.proofs.lemmas.Option.{slice_get_read}
-use Rattle.ulfm_run.proofs.Common.{at, Global, Item, Vec, WorldRank}
+use Rattle.ulfm_run.proofs.Common.{at, Global, Item, Vec, WorldRank, slice_get_read}
 use Rattle.ulfm_run.proofs.Served.{inbox_at, no_inbox}
 use Rattle.ulfm_run.proofs.rest.is_inbox_empty.Goals as goal
 

@@ -1,8 +1,6 @@
 use Rattle.std.proofs.Common.{arith, refl, ap, sym, subst, ◌∙◌, length}
 use Rattle.ulfm_script.specs.Player.{Player, start_player}
-use Rattle.ulfm_script.proofs.Honestly.{honest-start}
-use Rattle.ulfm_script.specs.inside.SoFar.{AnswersFollowSoFar}
-use Rattle.ulfm_run.proofs.Common.{script_at}
+use Rattle.ulfm_run.proofs.Common.{script_at, honest-start, AnswersFollowSoFar}
 use Rattle.ulfm_run.proofs.Starting.{at-work-start}
 use Rattle.ulfm_run.proofs.threads.new_worker.Goals as goal
 

@@ -1,7 +1,5 @@
 use Rattle.std.proofs.Common.{arith, ap, ◌∙◌, sym, ◌++◌, length, subst, slice_get, All}
-use Rattle.std.proofs.lemmas.List.Elements.{All-nil, All-push}
-use Rattle.std.specs.Vec.Iter.{into_iter_items}
-use Rattle.ulfm_run.specs.inside.Threads.{begun_end, begun_decider, begun_ends, begun_deciders, IsOfJob}
+use Rattle.ulfm_run.proofs.Common.{All-nil, All-push, begun_end, begun_decider, begun_ends, begun_deciders, IsOfJob, into_iter_items}
 use Rattle.ulfm_run.proofs.Handed.{fresh_first, fresh_rest, handed}
 use Rattle.ulfm_run.proofs.threads.start_all.Goals as goal
 

@@ -1,6 +1,5 @@
 use Rattle.std.proofs.Common.{◌≡◌, ◌+◌, ◌≤◌, ◌++◌, vec_len, vec_capacity, All}
-use Rattle.std.specs.Vec.Iter.{into_iter_items, into_iter_len}
-use Rattle.ulfm_run.specs.inside.Threads.{begun_ends, begun_deciders, IsOfJob, EachFresh}
+use Rattle.ulfm_run.proofs.Common.{begun_ends, begun_deciders, IsOfJob, EachFresh, into_iter_items, into_iter_len}
 use Rattle.ulfm_run.proofs.threads.start_all.Given as goal
 
 abbrev pub invariant-loop-end : goal.invariant-loop-end

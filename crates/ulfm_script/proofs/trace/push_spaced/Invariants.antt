@@ -1,5 +1,5 @@
 use Rattle.std.proofs.Common.{◌≡◌, ◌++◌, string_bytes, take}
-use Rattle.ulfm_script.specs.Trace.{spaced}
+use Rattle.ulfm_script.proofs.Common.{spaced}
 use Rattle.ulfm_script.proofs.trace.push_spaced.Given as goal
 
 abbrev pub invariant-loop-number : goal.invariant-loop-number

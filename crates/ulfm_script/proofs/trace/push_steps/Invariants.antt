@@ -1,5 +1,5 @@
 use Rattle.std.proofs.Common.{◌≡◌, ◌++◌, string_bytes, drop}
-use Rattle.ulfm_script.specs.Trace.{step_lines}
+use Rattle.ulfm_script.proofs.Common.{step_lines}
 use Rattle.ulfm_script.proofs.trace.push_steps.Given as goal
 
 abbrev pub invariant-loop-k : goal.invariant-loop-k

@@ -1,5 +1,5 @@
 use Rattle.std.proofs.Common.{◌≡◌, string_bytes, take}
-use Rattle.ulfm_script.specs.Trace.{trace_of}
+use Rattle.ulfm_script.proofs.Common.{trace_of}
 use Rattle.ulfm_script.proofs.trace.trace_text.Given as goal
 
 abbrev pub invariant-loop-report : goal.invariant-loop-report

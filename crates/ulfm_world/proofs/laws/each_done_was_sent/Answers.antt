@@ -1,5 +1,4 @@
-use Rattle.ulfm_laws.specs.Reader.{DoneIsGiven}
-use Rattle.ulfm_laws.proofs.Given.{done_given}
+use Rattle.ulfm_world.proofs.Common.{DoneIsGiven, done_given}
 use Rattle.ulfm_world.proofs.Reported.{in_world, in_replay}
 use Rattle.ulfm_world.proofs.laws.each_done_was_sent.Goals as goal
 

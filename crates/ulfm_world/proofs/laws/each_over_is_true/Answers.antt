@@ -1,5 +1,4 @@
-use Rattle.ulfm_laws.specs.Reader.{OverIsTrue}
-use Rattle.ulfm_laws.proofs.Given.{over_true}
+use Rattle.ulfm_world.proofs.Common.{OverIsTrue, over_true}
 use Rattle.ulfm_world.proofs.Reported.{in_world, in_replay}
 use Rattle.ulfm_world.proofs.laws.each_over_is_true.Goals as goal
 

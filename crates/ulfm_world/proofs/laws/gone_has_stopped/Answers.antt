@@ -1,4 +1,4 @@
-use Rattle.ulfm_laws.specs.Causes.{GoneHaveStopped}
+use Rattle.ulfm_world.proofs.Common.{GoneHaveStopped}
 use Rattle.ulfm_world.proofs.Reported.{of_replay, gone_has_stopped}
 use Rattle.ulfm_world.proofs.laws.gone_has_stopped.Goals as goal
 

@@ -1,5 +1,4 @@
-use Rattle.ulfm_laws.proofs.AtRest.{knows-stopped}
-use Rattle.ulfm_world.specs.World.{reports_in}
+use Rattle.ulfm_world.proofs.Common.{reports_in, knows-stopped}
 use Rattle.ulfm_world.proofs.Read.{world-reached, flowing-world, rest-world}
 use Rattle.ulfm_world.proofs.laws.known_at_rest.Goals as goal
 

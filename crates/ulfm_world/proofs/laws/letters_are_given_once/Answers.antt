@@ -1,5 +1,4 @@
-use Rattle.ulfm_laws.specs.Reader.{GivesOnce, DonesDiffer}
-use Rattle.ulfm_laws.proofs.Given.{gives_once, dones_differ}
+use Rattle.ulfm_world.proofs.Common.{GivesOnce, DonesDiffer, gives_once, dones_differ}
 use Rattle.ulfm_world.proofs.Reported.{in_world, in_replay}
 use Rattle.ulfm_world.proofs.laws.letters_are_given_once.Goals as goal
 

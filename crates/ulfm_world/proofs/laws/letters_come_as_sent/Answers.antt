@@ -1,4 +1,4 @@
-use Rattle.ulfm_laws.specs.Reader.{ComeAsSent}
+use Rattle.ulfm_world.proofs.Common.{ComeAsSent}
 use Rattle.ulfm_world.proofs.Reported.{in_world, in_replay}
 use Rattle.ulfm_world.proofs.laws.letters_come_as_sent.Goals as goal
 

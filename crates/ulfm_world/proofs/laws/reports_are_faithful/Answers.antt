@@ -1,4 +1,4 @@
-use Rattle.ulfm_laws.specs.Reader.{IsFaithful}
+use Rattle.ulfm_world.proofs.Common.{IsFaithful}
 use Rattle.ulfm_laws.proofs.Faithful.{faithful}
 use Rattle.ulfm_world.proofs.Reported.{in_world, in_replay}
 use Rattle.ulfm_world.proofs.laws.reports_are_faithful.Goals as goal

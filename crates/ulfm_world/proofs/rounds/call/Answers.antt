@@ -1,7 +1,7 @@
 use Rattle.std.proofs.Common.{arith, inl, inr}
 use Rattle.ulfm_world.proofs.MovesCall.{moves-call, moves-leave, none_open}
 use Rattle.ulfm_script.proofs.Advance.{ready-at}
-use Rattle.ulfm_world.specs.World.{player_at}
+use Rattle.ulfm_world.proofs.Common.{player_at}
 use Rattle.ulfm_world.proofs.Refusals.{leave-goes}
 use Rattle.ulfm_world.proofs.rounds.call.Goals as goal
 

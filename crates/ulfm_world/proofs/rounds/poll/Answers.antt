@@ -1,8 +1,5 @@
 use Rattle.std.proofs.Common.{◌≡◌, length, Bool, Some, refl, ap, sym, subst, ◌∙◌, arith, slice_get}
-use Rattle.ulfm_world.proofs.Common.{script_at, World, player_at, IsRunning, Shrink}
-use Rattle.ulfm_world.specs.inside.Rounds.{Moves}
-use Rattle.ulfm_script.specs.inside.SoFar.{IsUndecided}
-use Rattle.ulfm_script.proofs.Progress.{next_open}
+use Rattle.ulfm_world.proofs.Common.{script_at, World, player_at, IsRunning, Shrink, Moves, next_open, IsUndecided}
 use Rattle.ulfm_world.proofs.Moves.{moves-on}
 use Rattle.ulfm_world.proofs.rounds.poll.Goals as goal
 

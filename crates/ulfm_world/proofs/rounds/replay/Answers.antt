@@ -1,6 +1,5 @@
 use Rattle.std.proofs.Common.{refl, ap, ◌∙◌}
-use Rattle.std.proofs.lemmas.Result.{IfOk-weaker}
-use Rattle.ulfm_world.specs.World.{start_world}
+use Rattle.ulfm_world.proofs.Common.{start_world, IfOk-weaker}
 use Rattle.ulfm_world.proofs.Ends.{came-start, came-moves, replayed}
 use Rattle.ulfm_world.proofs.Lawful.{lawful-replay}
 use Rattle.ulfm_world.proofs.Settled.{settled}

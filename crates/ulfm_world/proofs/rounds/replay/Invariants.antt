@@ -1,5 +1,5 @@
 use Rattle.std.proofs.Common.{◌≡◌}
-use Rattle.ulfm_world.specs.inside.Rounds.{IsUnderway, measure}
+use Rattle.ulfm_world.proofs.Common.{IsUnderway, measure}
 use Rattle.ulfm_world.proofs.rounds.replay.Given as goal
 
 abbrev pub invariant-loop-rounds : goal.invariant-loop-rounds

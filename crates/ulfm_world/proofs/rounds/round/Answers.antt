@@ -1,6 +1,5 @@
 use Rattle.std.proofs.Common.{◌≡◌, ◌<◌, ◌+◌, ℕ, false}
-use Rattle.ulfm_world.specs.World.{World}
-use Rattle.ulfm_world.specs.inside.Rounds.{Moves, IsStuck}
+use Rattle.ulfm_world.proofs.Common.{World, Moves, IsStuck}
 use Rattle.ulfm_world.proofs.Moves.{loop_then, loop_else}
 use Rattle.ulfm_world.proofs.rounds.round.Goals as goal
 use Rattle.ulfm_world.proofs.rounds.round.Goals.{then-branch, else-branch}

@@ -1,5 +1,5 @@
 use Rattle.std.proofs.Common.{◌≡◌, false, ℕ, ◌<◌}
-use Rattle.ulfm_world.specs.inside.Rounds.{Moves, IsStuck}
+use Rattle.ulfm_world.proofs.Common.{Moves, IsStuck}
 use Rattle.ulfm_world.proofs.rounds.round.Given as goal
 
 abbrev pub invariant-loop-r : goal.invariant-loop-r

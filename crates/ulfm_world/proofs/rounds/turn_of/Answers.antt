@@ -1,5 +1,5 @@
 use Rattle.std.proofs.Common.{Bool, cond, true, subst, ◌∙◌}
-use Rattle.ulfm_world.specs.inside.Rounds.{Moves}
+use Rattle.ulfm_world.proofs.Common.{Moves}
 use Rattle.ulfm_world.proofs.Moves.{turned, turned-stuck}
 use Rattle.ulfm_world.proofs.rounds.turn_of.Goals as goal
 

@@ -1,5 +1,5 @@
-use Rattle.std.proofs.Common.{◌≡◌, ◌<◌, ◌↔◌, ◌++◌, [], List, length, map, get_or, ap, sym, ◌∙◌, refl, arith, subst, IsTrue}
-use Rattle.ulfm_carrier.proofs.Common.{Carried, item_of, lane_pushed, lane_taken, map-set_same, outlet_name, seen_from, seen_in, taken_by, WorldRank}
+use Rattle.std.proofs.Common.{◌≡◌, ◌<◌, ◌↔◌, ◌++◌, [], length, map, get_or, ap, sym, ◌∙◌, refl, arith, subst, IsTrue}
+use Rattle.ulfm_carrier.proofs.Common.{item_of, lane_pushed, lane_taken, map-set_same, outlet_name, seen_from, seen_in, taken_by}
 use Rattle.ulfm_carrier.proofs.Places.{at_read, view_here, view_other}
 use Rattle.ulfm_carrier.proofs.Rings.{inlet_names, ready_both}
 use Rattle.ulfm_carrier.proofs.lane_ends.LaneEnds.has_item_from.Goals as goal
@@ -32,10 +32,10 @@ returns c =
         (λ n. record { place = e.me.number; outs = map outlet_name e.outs.items; ins = same n }),
         refl,
         refl,
-        ready_both e e.outs _ _ peer i j refl refl here looked.name.0 looked.name.1 (ap (λ (r : WorldRank). r.number) looked.same.0 ∙ is.0, looked.same.1 ∙ is.1) c.requires.ready,
+        ready_both e e.outs _ _ peer i j refl refl here looked.name.0 looked.name.1 (ap (λ r. r.number) looked.same.0 ∙ is.0, looked.same.1 ∙ is.1) c.requires.ready,
       );
       next = refl;
-      found = subst (λ (seen : List Carried). IsTrue c.has_item.result ↔ (0 < length seen)) (sym (view_here seen_in e.ins.items peer j [] low)) looked.found;
+      found = subst (λ seen. IsTrue c.has_item.result ↔ (0 < length seen)) (sym (view_here seen_in e.ins.items peer j [] low)) looked.found;
       own = λ same. absurd (c.if-peer-self.false same);
       others_seen = λ p apart. view_other seen_in e.ins.items peer p j [] apart;
       taken = λ p. ap (λ l. get_or l p []) (map-set_same taken_by e.ins.items peer j i (looked.same.2 ∙ ap taken_by here));

@@ -1,5 +1,5 @@
-use Rattle.std.proofs.Common.{◌≡◌, ◌<◌, ◌↔◌, [], List, length, map, get_or, ap, sym, ◌∙◌, refl, arith, subst, IsTrue}
-use Rattle.ulfm_carrier.proofs.Common.{Carried, known_free, map-set_same, outlet_name, same_rank, seen_in, taken_by, WorldRank}
+use Rattle.std.proofs.Common.{◌≡◌, ◌<◌, ◌↔◌, [], length, map, get_or, ap, sym, ◌∙◌, refl, arith, subst, IsTrue}
+use Rattle.ulfm_carrier.proofs.Common.{known_free, map-set_same, outlet_name, same_rank, seen_in, taken_by}
 use Rattle.ulfm_carrier.proofs.Owned.{rooms_grow, own_rest}
 use Rattle.ulfm_carrier.proofs.Places.{at_read, view_here, view_other}
 use Rattle.ulfm_carrier.proofs.Rings.{inlet_names, ready_both, sent_same, own_pair}
@@ -25,10 +25,10 @@ returns c =
         (λ n. record { place = me; outs = outs n; ins = ins n }),
         refl,
         refl,
-        ready_both e _ _ _ me i j outs refl here looked.name.0 looked.name.1 (ap (λ (a : WorldRank). a.number) looked.same.0 ∙ is.0, looked.same.1) r,
+        ready_both e _ _ _ me i j outs refl here looked.name.0 looked.name.1 (ap (λ a. a.number) looked.same.0 ∙ is.0, looked.same.1) r,
       );
       next = refl;
-      found = subst (λ (seen : List Carried). IsTrue c.has_item_beside.result ↔ (0 < length seen)) (sym (view_here seen_in e.ins.items me j [] inside)) looked.found;
+      found = subst (λ seen. IsTrue c.has_item_beside.result ↔ (0 < length seen)) (sym (view_here seen_in e.ins.items me j [] inside)) looked.found;
       own = own_rest e.me e.outs.items e.ins.items me p q i j r.rings.inside inside out here (same_rank i.source e.me is.0) looked.out.1 looked.same.2 looked.all;
       others_seen = λ n apart. view_other seen_in e.ins.items me n j [] apart;
       taken = λ n. ap (λ l. get_or l n []) (map-set_same taken_by e.ins.items me j i (looked.same.2 ∙ ap taken_by here));

@@ -1,5 +1,5 @@
 use Rattle.std.proofs.Common.{ap, ◌∙◌, refl, sym, arith, get_or}
-use Rattle.ulfm_carrier.proofs.Common.{map-set_same, only_at, pushed_with, View}
+use Rattle.ulfm_carrier.proofs.Common.{map-set_same, only_at, pushed_with}
 use Rattle.ulfm_carrier.proofs.Frames.{own_pass}
 use Rattle.ulfm_carrier.proofs.Places.{at_read, at_other, view_or}
 use Rattle.ulfm_carrier.proofs.Passes.{names_same}
@@ -19,8 +19,8 @@ returns c =
     let is = c.close.ensures.receipt.1 in record {
       rest = refl;
       names = names_same outs c.args.dest p c.close.new.out c.index_mut.ensures.value c.close.ensures.out.0;
-      pushed = map-set_same pushed_with outs c.args.dest c.close.new.out p (ap (λ (v : View). v.pushed) c.close.ensures.out.1 ∙ ap pushed_with c.index_mut.ensures.value);
+      pushed = map-set_same pushed_with outs c.args.dest c.close.new.out p (ap (λ v. v.pushed) c.close.ensures.out.1 ∙ ap pushed_with c.index_mut.ensures.value);
       others = λ q apart. at_other outs c.args.dest q c.close.new.out apart;
       queue = λ out at_out. (receipt.0 ∙ sym sender.0.0 ∙ ap (λ q. q.table_id) (sym (only_at outs c.args.dest p out here at_out)), receipt.1);
-      receipt = (ap (λ (v : View). v.role) is, ap (λ (v : View). v.from) is ∙ sender.2, ap (λ (v : View). v.pushed) is ∙ sym (view_or pushed_with outs c.args.dest _ here));
+      receipt = (ap (λ v. v.role) is, ap (λ v. v.from) is ∙ sender.2, ap (λ v. v.pushed) is ∙ sym (view_or pushed_with outs c.args.dest _ here));
     }

@@ -1,6 +1,5 @@
 use Rattle.std.proofs.Common.{[], ap, ◌∙◌, refl, sym, get_or, IfNone}
-use Rattle.ulfm_carrier.proofs.Common.{map-set_same}
-use Rattle.ulfm_carrier.specs.Shared.{pushed_with, OwnIsTakenAndHeldAt}
+use Rattle.ulfm_carrier.proofs.Common.{map-set_same, pushed_with, OwnIsTakenAndHeldAt}
 use Rattle.ulfm_carrier.proofs.Frames.{frame_with, own_pass}
 use Rattle.ulfm_carrier.proofs.Passes.{name_same, names_same}
 use Rattle.ulfm_carrier.proofs.Places.{at_read}

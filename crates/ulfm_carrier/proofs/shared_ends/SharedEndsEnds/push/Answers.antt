@@ -1,5 +1,5 @@
 use Rattle.std.proofs.Common.{◌<◌, ap, ◌∙◌, refl, sym, arith, length, get_or, subst}
-use Rattle.ulfm_carrier.proofs.Common.{arc_value, at, pass_name, pushed_with, ruled_capacity, View}
+use Rattle.ulfm_carrier.proofs.Common.{arc_value, at, pass_name, pushed_with, ruled_capacity}
 use Rattle.ulfm_carrier.proofs.Places.{at_read, view_other, view_or}
 use Rattle.ulfm_carrier.proofs.Frames.{frame_with, own_pass}
 use Rattle.ulfm_carrier.proofs.Passes.{name_same, names_same, pushed_more, sender_same}
@@ -43,7 +43,7 @@ returns-then-dest-self-clause-name g c =
       (λ n. record { place = e.me.number; outs = (names_same e.outs.items c.args.dest p q here own.0) n; inlet = name_same e.inlet c.send_own.new.inlet inlet.0 n }),
       refl,
       refl,
-      still_ready e _ c.args.dest p q refl here own.0 inlet.0 (frame_with e _ _ _) refl low (own.1 ∙ sym is.1) own.2 (ap (λ (v : View). v.role) inlet.1) (ap (λ (v : View). v.made) inlet.1) (ap (λ (v : View). v.receipts) inlet.1) r,
+      still_ready e _ c.args.dest p q refl here own.0 inlet.0 (frame_with e _ _ _) refl low (own.1 ∙ sym is.1) own.2 (ap (λ v. v.role) inlet.1) (ap (λ v. v.made) inlet.1) (ap (λ v. v.receipts) inlet.1) r,
     )
 
 pub returns-then-dest-self-clause-others : goal.returns-then-dest-self-clause-others

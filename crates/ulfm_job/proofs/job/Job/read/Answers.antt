@@ -1,6 +1,5 @@
 use Rattle.std.proofs.Common.{◌≡◌, Some, arith, sym, ap, ◌∙◌}
-use Rattle.toml.specs.Parse.{parse_document}
-use Rattle.toml.specs.View.{table_view}
+use Rattle.ulfm_job.proofs.Common.{table_view, parse_document}
 use Rattle.ulfm_job.proofs.Jobs.{no_text, of_text}
 use Rattle.ulfm_job.proofs.job.Job.read.Goals as goal
 

@@ -1,25 +1,42 @@
-use Rattle.std.proofs.Common.{ℕ, subst, refl, sym, Contains}
-use Rattle.ulfm_base.specs.declared.envelope.Letter.{Letter}
-use Rattle.ulfm_base.specs.Pattern.{Admits}
-use Rattle.ulfm_match.specs.State.{Tracks}
-use Rattle.ulfm_match.specs.inside.Search.{IsFirstAt}
-use Rattle.ulfm_match.proofs.Taking.{taken_at}
-use Rattle.ulfm_match.proofs.Least.{first_is_least}
+use Rattle.std.proofs.Common.{ap, subst, refl, sym, ◌∙◌}
+use Rattle.ulfm_match.proofs.Common.{Letter, Matching, Tracks, Entries, in_order}
+use Rattle.ulfm_match.proofs.Inserted.{on_ok}
+use Rattle.ulfm_match.proofs.Listed.{listed_push, listed_takes, unlisted}
 use Rattle.ulfm_match.proofs.PostWaits.{post_waits}
 use Rattle.ulfm_match.proofs.PostTakes.{post_takes}
+use Rattle.ulfm_match.proofs.Whole.{whole_takes_kept, whole_waits}
 use Rattle.ulfm_match.proofs.matcher.Matcher.post.Goals as goal
+
+pub invariant_of-self : goal.invariant_of-self
+invariant_of-self c =
+    let room = c.self.invariant.room (ap (λ (s : Matching). s.prepared) c.self.view_is ∙ c.requires.prepared) in
+    let t = c.in-Some.ensures.taken in
+    whole_takes_kept c.self.invariant room.0 t.1.out
+
+pub invariant_of-self-in-None : goal.invariant_of-self-in-None
+invariant_of-self-in-None c =
+    let room = c.self.invariant.room (ap (λ (s : Matching). s.prepared) c.self.view_is ∙ c.requires.prepared) in
+    let idle = c.in-None.ensures.idle in
+    let put = on_ok c.insert.result (c.insert.ensures.succeeds room.1) c.insert.ensures.updates in
+    let whole = whole_waits c.self.invariant room.0 c.insert.new.self c.args.pattern c.insert.ensures.unique put.0 in
+    rw idle.0 (rw idle.1 whole)
 
 pub returns-in-Some-clause-tracks : goal.returns-in-Some-clause-tracks
 returns-in-Some-clause-tracks c h r t =
-    let P : ℕ × Letter → Type 0 = λ y. Admits c.args.pattern y.1.envelope in
-    let f = subst (λ xs. IsFirstAt P xs c.in-Some.k) c.as_slice.ensures.value c.in-Some.ensures in
-    let taken = taken_at P c.self.inside.kept.items c.in-Some.k c.remove-letter.result c.remove-letter.new.self.items f c.remove-letter.ensures.value c.remove-letter.ensures.items in
-    let t' = subst (Tracks h r) (sym c.self.view_is) t in
-    post_takes h r _ c.args.pattern t' ((t.remains.cleared _).0 c.requires.open) c.remove-letter.new.self.items c.remove-letter.result (first_is_least P c.self.inside.kept.items c.remove-letter.new.self.items c.remove-letter.result t'.remains.kept.ascending taken) _ refl refl refl refl
+    let i = c.self.inside in
+    let x = c.in-Some.ensures.taken in
+    post_takes h r _ c.args.pattern (subst (Tracks h r) (sym c.self.view_is) t) ((t.remains.cleared _).0 c.requires.open) (in_order c.take_kept.new.kept.entries) (x.0, c.in-Some.letter)
+    (listed_takes i.kept c.take_kept.new.kept c.self.invariant.of_kept.unique x.1.out.unique x.1)
+    _ refl refl refl refl
 
 pub returns-in-None-clause-tracks : goal.returns-in-None-clause-tracks
 returns-in-None-clause-tracks c h r t =
-    let P : ℕ × Letter → Type 0 = λ y. Admits c.args.pattern y.1.envelope in
+    let i = c.self.inside in
+    let inv = c.self.invariant in
+    let room = inv.room (ap (λ (s : Matching). s.prepared) c.self.view_is ∙ c.requires.prepared) in
+    let put = on_ok c.insert.result (c.insert.ensures.succeeds room.1) c.insert.ensures.updates in
     post_waits h r _ c.args.pattern (subst (Tracks h r) (sym c.self.view_is) t) ((t.remains.cleared _).0 c.requires.open)
-    (subst (λ xs. (y : ℕ × Letter) → Contains xs y → P y → ⊥) c.as_slice.ensures.value c.in-None.ensures)
-    _ refl c.push_reserved.ensures.items refl refl
+    (λ y m a. c.in-None.ensures.taken y.0 (record { entry = y.1; found = unlisted i.kept inv.of_kept.unique y m; passes = a }))
+    _ refl
+    (listed_push i.waiting c.insert.new.self inv.of_waiting.unique c.insert.ensures.unique i.count c.args.pattern put.0 inv.of_waiting.below)
+    (ap (λ (k : Entries Letter). in_order k.entries) c.in-None.ensures.idle.0) refl

@@ -1,8 +1,6 @@
 use Rattle.std.proofs.Common.{◌≡◌, false, sym, subst, arith}
-use Rattle.std.specs.Option.{is_some}
-use Rattle.ulfm_rank.proofs.Common.{find_group}
+use Rattle.ulfm_rank.proofs.Common.{find_group, AreApart, is_some}
 use Rattle.ulfm_rank.proofs.Contexts.{one_more_context}
-use Rattle.ulfm_rank.specs.inside.Fields.{AreApart}
 use Rattle.ulfm_rank.proofs.communicators.Communicators.add.Goals as goal
 
 pub push_reserved-requires : goal.push_reserved-requires

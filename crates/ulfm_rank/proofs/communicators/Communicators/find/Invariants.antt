@@ -1,6 +1,5 @@
 use Rattle.std.proofs.Common.{◌≡◌, map, drop}
-use Rattle.ulfm_rank.specs.Communicators.{find_group}
-use Rattle.ulfm_rank.specs.inside.Fields.{by_number}
+use Rattle.ulfm_rank.proofs.Common.{find_group, by_number}
 use Rattle.ulfm_rank.proofs.communicators.Communicators.find.Given as goal
 
 abbrev pub invariant-loop-context : goal.invariant-loop-context

@@ -1,6 +1,6 @@
 use Rattle.std.proofs.Common.{subst, sym}
 use Rattle.ulfm_rank.proofs.Contexts.{none_apart}
-use Rattle.ulfm_rank.specs.inside.Fields.{AreApart}
+use Rattle.ulfm_rank.proofs.Common.{AreApart}
 use Rattle.ulfm_rank.proofs.communicators.Communicators.new.Goals as goal
 
 pub invariant_of-communicators : goal.invariant_of-communicators

@@ -1,5 +1,5 @@
 use Rattle.std.proofs.Common.{◌≡◌, map, replicate}
-use Rattle.ulfm_rank.specs.inside.Outboxes.{contents_of, empty_box}
+use Rattle.ulfm_rank.proofs.Common.{contents_of, empty_box}
 use Rattle.ulfm_rank.proofs.outboxes.Outboxes.new.Given as goal
 
 abbrev pub invariant-loop-dest : goal.invariant-loop-dest

@@ -1,5 +1,5 @@
 use Rattle.std.proofs.Common.{ap}
-use Rattle.ulfm_rank.specs.inside.Outboxes.{Boxes, with_place}
+use Rattle.ulfm_rank.proofs.Common.{Boxes, with_place}
 use Rattle.ulfm_rank.proofs.Slots.{put, grow_one}
 use Rattle.ulfm_rank.proofs.outboxes.Outboxes.put.Goals as goal
 

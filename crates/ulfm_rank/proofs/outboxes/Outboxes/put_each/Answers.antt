@@ -1,5 +1,5 @@
 use Rattle.std.proofs.Common.{rules, ap, sym, ◌∙◌, arith}
-use Rattle.ulfm_rank.specs.inside.Outboxes.{Boxes}
+use Rattle.ulfm_rank.proofs.Common.{Boxes}
 use Rattle.ulfm_rank.proofs.Slots.{leaving-start, leaving-room, leaving-passed, leaving-step, leaving-end}
 use Rattle.ulfm_rank.proofs.outboxes.Outboxes.put_each.Goals as goal
 

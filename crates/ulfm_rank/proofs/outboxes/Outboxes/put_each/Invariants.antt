@@ -1,4 +1,4 @@
-use Rattle.ulfm_base.specs.RankSet.{has}
+use Rattle.ulfm_rank.proofs.Common.{has}
 use Rattle.ulfm_rank.proofs.Slots.{Leaving}
 use Rattle.ulfm_rank.proofs.outboxes.Outboxes.put_each.Given as goal
 

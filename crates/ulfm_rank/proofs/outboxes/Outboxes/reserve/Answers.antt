@@ -1,6 +1,6 @@
 use Rattle.std.proofs.Common.{rules, ap, sym, ◌∙◌, arith}
 use Rattle.std.proofs.lemmas.Result.{err_from_is_err_and}
-use Rattle.ulfm_rank.specs.inside.Outboxes.{Boxes}
+use Rattle.ulfm_rank.proofs.Common.{Boxes}
 use Rattle.ulfm_rank.proofs.Slots.{room_all, contents_kept, reserving-start, reserving-step, reserving-fails}
 use Rattle.ulfm_rank.proofs.outboxes.Outboxes.reserve.Goals as goal
 

@@ -1,5 +1,5 @@
 use Rattle.std.proofs.Common.{ap}
-use Rattle.ulfm_rank.specs.inside.Outboxes.{Boxes, with_notice_out}
+use Rattle.ulfm_rank.proofs.Common.{Boxes, with_notice_out}
 use Rattle.ulfm_rank.proofs.Slots.{put, room_kept}
 use Rattle.ulfm_rank.proofs.outboxes.Outboxes.set_notice_out.Goals as goal
 

@@ -1,6 +1,5 @@
 use Rattle.std.proofs.Common.{◌+◌, ap}
-use Rattle.std.proofs.lemmas.Option.{IfSome_then}
-use Rattle.ulfm_rank.specs.inside.Outboxes.{Boxes, with_items_out}
+use Rattle.ulfm_rank.proofs.Common.{IfSome_then, Boxes, with_items_out}
 use Rattle.ulfm_rank.proofs.Slots.{put, room_kept}
 use Rattle.ulfm_rank.proofs.outboxes.Outboxes.take_next.Goals as goal
 

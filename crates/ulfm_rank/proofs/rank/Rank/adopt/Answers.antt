@@ -1,10 +1,8 @@
 use Rattle.std.proofs.Common.{◌≡◌, ◌++◌, ◌∷◌, [], Bool, true, false, refl, ap, sym, subst, ◌∙◌, arith, Some}
-use Rattle.ulfm_rank.proofs.Common.{shrink_of, Adopted, find_group, group_of, state_of}
-use Rattle.std.specs.Option.{is_some}
+use Rattle.ulfm_rank.proofs.Common.{shrink_of, Adopted, find_group, group_of, state_of, State, View, is_some}
 use Rattle.std.proofs.lemmas.Result.{err_from_is_err_and}
 use Rattle.ulfm_base.specs.declared.error.CallError.TheVariants.{Stopped, NoComm, AlreadyMade, NotEntered, NotMember, OutOfMemory}
 use Rattle.ulfm_rank.specs.Checks.{adopt_checks, Fails, Passes}
-use Rattle.ulfm_rank.specs.State.{State, View}
 use Rattle.ulfm_rank.proofs.Adoptable.{made_adopted}
 use Rattle.ulfm_rank.proofs.Refusals.{all_pass}
 use Rattle.ulfm_rank.proofs.Entries.{shrinks-logged}

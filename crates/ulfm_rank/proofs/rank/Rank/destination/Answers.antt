@@ -1,6 +1,5 @@
 use Rattle.std.proofs.Common.{rules, ◌≡◌, true, false, ap, sym, ◌∙◌, arith, Some, slice_get}
-use Rattle.ulfm_rank.proofs.Common.{is_revoked, is_gone, find_group, group_of}
-use Rattle.ulfm_rank.specs.State.{State, View}
+use Rattle.ulfm_rank.proofs.Common.{is_revoked, is_gone, find_group, group_of, State, View}
 use Rattle.ulfm_rank.proofs.Known.{knows_gone}
 use Rattle.ulfm_rank.proofs.Made.{found_group, member_of_world}
 use Rattle.ulfm_rank.proofs.Sendable.{sendable}

@@ -1,6 +1,5 @@
 use Rattle.std.proofs.Common.{rules, ◌≡◌, ◌++◌, ◌∷◌, [], refl, ap, ◌∙◌, arith, Some}
-use Rattle.ulfm_rank.proofs.Common.{Duplicated, dup_of, find_group, group_of}
-use Rattle.ulfm_rank.specs.State.{State, View}
+use Rattle.ulfm_rank.proofs.Common.{Duplicated, dup_of, find_group, group_of, State, View}
 use Rattle.ulfm_rank.proofs.Entries.{shrinks-logged}
 use Rattle.ulfm_rank.proofs.Following.{follows_duplicated}
 use Rattle.ulfm_rank.proofs.Seen.{stop_places_few}

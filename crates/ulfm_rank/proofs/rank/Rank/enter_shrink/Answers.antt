@@ -1,7 +1,5 @@
 use Rattle.std.proofs.Common.{rules, ◌≡◌, ◌++◌, ◌∷◌, [], length, ap, sym, subst, ◌∙◌, arith, not}
-use Rattle.ulfm_rank.proofs.Common.{is_member, Entered, state_of, Knows, AllGrow, members_of}
-use Rattle.ulfm_rank.specs.Owed.{entry_told}
-use Rattle.ulfm_rank.specs.State.{State, View}
+use Rattle.ulfm_rank.proofs.Common.{is_member, Entered, state_of, Knows, AllGrow, members_of, State, View, entry_told}
 use Rattle.ulfm_rank.proofs.Entries.{shrinks-entered, shrinkable}
 use Rattle.ulfm_rank.proofs.Following.{follows_entered}
 use Rattle.ulfm_rank.proofs.Grouped.{members_found}

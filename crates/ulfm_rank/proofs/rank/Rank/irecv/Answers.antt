@@ -1,12 +1,6 @@
 use Rattle.std.proofs.Common.{◌≡◌, false, [], ◌∷◌, ◌++◌, length, ap, sym, subst, arith, refl, ◌∙◌, Some, nat_eq}
-use Rattle.std.specs.Map.{lookup}
-use Rattle.std.specs.Option.{is_some}
-use Rattle.indexmap.specs.IndexMap.{get, index_map_len}
-use Rattle.ulfm_rank.proofs.Common.{Context, Pattern, count_before, Posted, Request, IsRequest, is_revoked, history_of, Follows, state_of, IsOfGroup}
-use Rattle.ulfm_rank.specs.Calls.{IsReceive}
+use Rattle.ulfm_rank.proofs.Common.{Context, Pattern, count_before, Posted, Request, IsRequest, is_revoked, history_of, Follows, state_of, IsOfGroup, View, Adds, is_some, lookup, get, index_map_len, IsReceive}
 use Rattle.ulfm_rank.specs.Checks.{receive_checks, Passes}
-use Rattle.ulfm_rank.specs.inside.Requests.{Adds}
-use Rattle.ulfm_rank.specs.State.{View}
 use Rattle.ulfm_rank.proofs.Entries.{shrinks-logged}
 use Rattle.ulfm_rank.proofs.InStep.{count_small, in_step_open, posted_request, adds_itself}
 use Rattle.ulfm_rank.proofs.Refusals.{all_pass}

@@ -1,6 +1,5 @@
 use Rattle.std.proofs.Common.{◌≡◌, ◌<◌, false, length, ap, sym, ◌∙◌, arith}
-use Rattle.ulfm_rank.proofs.Common.{is_stopped}
-use Rattle.ulfm_rank.specs.State.{State, View}
+use Rattle.ulfm_rank.proofs.Common.{is_stopped, State, View}
 use Rattle.ulfm_rank.proofs.Seen.{all_out, none_left}
 use Rattle.ulfm_rank.proofs.rank.Rank.is_outbox_empty.Goals as goal
 

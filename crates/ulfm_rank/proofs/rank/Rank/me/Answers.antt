@@ -1,6 +1,5 @@
 use Rattle.std.proofs.Common.{subst}
-use Rattle.ulfm_rank.specs.State.{View, IsState}
-use Rattle.ulfm_rank.specs.Paired.{IsPaired}
+use Rattle.ulfm_rank.proofs.Common.{View, IsState, IsPaired}
 use Rattle.ulfm_rank.proofs.Held.{state-sound}
 use Rattle.ulfm_rank.proofs.Pairings.{paired}
 use Rattle.ulfm_rank.proofs.rank.Rank.me.Goals as goal

@@ -1,7 +1,5 @@
 use Rattle.std.proofs.Common.{◌≡◌, true, ap, sym, subst, ◌∙◌}
-use Rattle.ulfm_rank.specs.Calls.{Proposes}
-use Rattle.ulfm_rank.proofs.Common.{group_at, state_of, Knows, has_entered}
-use Rattle.ulfm_rank.specs.State.{State, View}
+use Rattle.ulfm_rank.proofs.Common.{group_at, state_of, Knows, has_entered, State, View, Proposes}
 use Rattle.ulfm_rank.proofs.Entries.{has_entries}
 use Rattle.ulfm_rank.proofs.Grouped.{members_found}
 use Rattle.ulfm_rank.proofs.Known.{knows_gone}

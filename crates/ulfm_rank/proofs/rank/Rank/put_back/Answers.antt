@@ -1,7 +1,5 @@
 use Rattle.std.proofs.Common.{◌≡◌, ◌<◌, ◌-◌, true, false, length, set, refl, ap, sym, ◌∙◌, arith}
-use Rattle.ulfm_rank.proofs.Common.{is_stopped}
-use Rattle.ulfm_rank.specs.inside.Outboxes.{box_at, with_items_out, HasOutboxes}
-use Rattle.ulfm_rank.specs.State.{State, View}
+use Rattle.ulfm_rank.proofs.Common.{is_stopped, State, View, box_at, with_items_out, HasOutboxes}
 use Rattle.ulfm_rank.proofs.Seen.{returns_item, returns_notice, outboxes-marked}
 use Rattle.ulfm_rank.proofs.rank.Rank.put_back.Goals as goal
 

@@ -1,7 +1,5 @@
 use Rattle.std.proofs.Common.{rules, ◌≡◌, ◌++◌, ◌∷◌, [], ℕ, false, length, refl, ap, sym, ◌∙◌, arith, nat_eq}
-use Rattle.indexmap.specs.IndexMap.{get}
-use Rattle.ulfm_rank.proofs.Common.{Revoked, is_revoked, is_gone, has}
-use Rattle.ulfm_rank.specs.State.{State, View}
+use Rattle.ulfm_rank.proofs.Common.{Revoked, is_revoked, is_gone, has, State, View, get}
 use Rattle.ulfm_rank.proofs.Entries.{shrinks-logged}
 use Rattle.ulfm_rank.proofs.Held.{marks-grown}
 use Rattle.ulfm_rank.proofs.Following.{follows_revoked}

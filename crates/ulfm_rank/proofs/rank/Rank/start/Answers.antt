@@ -1,6 +1,5 @@
 use Rattle.std.proofs.Common.{◌≡◌, ℕ, [], ◌∷◌, ap, arith, ◌∙◌, None, nat_eq}
-use Rattle.std.specs.Map.{lookup}
-use Rattle.indexmap.specs.IndexMap.{get}
+use Rattle.ulfm_rank.proofs.Common.{lookup, get}
 use Rattle.ulfm_rank.proofs.Entries.{shrinks-same, shrinks-start}
 use Rattle.ulfm_rank.proofs.Whole.{follows_start, state_start}
 use Rattle.ulfm_rank.proofs.rank.Rank.start.Goals as goal

@@ -1,5 +1,5 @@
 use Rattle.std.proofs.Common.{◌≡◌, refl, arith}
-use Rattle.ulfm_rank.specs.inside.Rank.{stop_places}
+use Rattle.ulfm_rank.proofs.Common.{stop_places}
 use Rattle.ulfm_rank.specs.declared.entry.Entry.TheVariants.{Stopped}
 use Rattle.ulfm_rank.proofs.Entries.{shrinks-logged}
 use Rattle.ulfm_rank.proofs.Following.{follows_stopped}

@@ -1,9 +1,5 @@
-use Rattle.std.proofs.Common.{◌+◌, length, ap, sym, subst, arith, ◌∙◌, nat_eq, nat_lt, ◌&&◌, IsTrue, vec_len, vec_capacity}
-use Rattle.indexmap.specs.IndexMap.{get, index_map_len, spare}
-use Rattle.ulfm_rank.proofs.Common.{Took, AllGrow, View}
-use Rattle.ulfm_rank.specs.Facts.{revoked_before}
-use Rattle.ulfm_rank.specs.inside.Rank.{stop_places}
-use Rattle.ulfm_rank.specs.Owed.{owed_by_item}
+use Rattle.std.proofs.Common.{◌+◌, length, ap, sym, subst, arith, ◌∙◌, nat_eq, IsTrue, vec_len, vec_capacity}
+use Rattle.ulfm_rank.proofs.Common.{Took, AllGrow, View, owed_by_item, get, index_map_len, stop_places, revoked_before}
 use Rattle.ulfm_rank.proofs.Entries.{shrinks-same}
 use Rattle.ulfm_rank.proofs.Held.{marks-grown}
 use Rattle.ulfm_rank.proofs.InStep.{count_small, in_step_open}
@@ -35,7 +31,7 @@ grows c =
 pub invariant_of-self : goal.invariant_of-self
 invariant_of-self c =
     let a = c.self.inside in
-    let room = room_of a.matcher.prepared (vec_len a.log + (index_map_len a.requests + stop_places a.stopped)) (vec_capacity a.log) (nat_lt (index_map_len a.requests) (index_map_len a.requests + spare a.requests) && a.outboxes.room) (subst (λ (v : View). IsTrue v.prepared) (sym c.self.view_is) c.requires.prepared) in
+    let room = room_of a.matcher.prepared (vec_len a.log + (index_map_len a.requests + stop_places a.stopped)) (vec_capacity a.log) a.outboxes.room (subst (λ (v : View). IsTrue v.prepared) (sym c.self.view_is) c.requires.prepared) in
     let tracks = rw c.is_late-late.ensures at c.settle.ensures.tracks in
     record {
       follows = rw c.push_reserved.ensures.items

@@ -1,6 +1,5 @@
 use Rattle.std.proofs.Common.{◌≡◌, ◌<◌, true, false, length, ap, sym, ◌∙◌, arith}
-use Rattle.ulfm_rank.proofs.Common.{is_stopped}
-use Rattle.ulfm_rank.specs.State.{State, View}
+use Rattle.ulfm_rank.proofs.Common.{is_stopped, State, View}
 use Rattle.ulfm_rank.proofs.Seen.{leaves_next, leaves_notice, outboxes-taken, all_out, IfSome_both, IfNone_weaker}
 use Rattle.ulfm_rank.proofs.rank.Rank.take_out.Goals as goal
 

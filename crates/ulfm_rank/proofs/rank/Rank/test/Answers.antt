@@ -1,8 +1,5 @@
 use Rattle.std.proofs.Common.{◌≡◌, ℕ, refl, ap, sym, subst, arith, ◌∙◌, Some, nat_eq}
-use Rattle.std.specs.Option.{is_some}
-use Rattle.indexmap.specs.IndexMap.{get, index_map_len}
-use Rattle.ulfm_rank.proofs.Common.{Pattern, View, Released}
-use Rattle.ulfm_rank.specs.Answer.{IsTestAnswer, IsRequest}
+use Rattle.ulfm_rank.proofs.Common.{Pattern, View, Released, IsTestAnswer, IsRequest, is_some, get, index_map_len}
 use Rattle.ulfm_rank.proofs.Entries.{shrinks-logged}
 use Rattle.ulfm_rank.proofs.Answered.{is_request}
 use Rattle.ulfm_rank.proofs.Requested.{has_group, sender_found, answered}

@@ -1,5 +1,5 @@
 use Rattle.std.proofs.Common.{◌≡◌, ◌<◌, ℕ, []}
-use Rattle.ulfm_rank.specs.State.{outbox}
+use Rattle.ulfm_run.proofs.Common.{outbox}
 use Rattle.ulfm_run.proofs.at_work.AtWork.has_pushed_all.Given as goal
 
 abbrev pub invariant-loop-dest : goal.invariant-loop-dest

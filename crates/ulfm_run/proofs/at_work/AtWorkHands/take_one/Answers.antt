@@ -1,7 +1,6 @@
 use Rattle.std.proofs.Common.{◌∙◌, refl, sym, subst, ◌≡◌, arith}
-use Rattle.ulfm_rank.specs.State.{logged}
 use Rattle.ulfm_rank.proofs.Signed.{from_signed}
-use Rattle.ulfm_run.proofs.Common.{Player, Took, with_rank}
+use Rattle.ulfm_run.proofs.Common.{Player, Took, with_rank, logged}
 use Rattle.ulfm_run.proofs.Working.{carried}
 use Rattle.ulfm_run.proofs.Joining.{moves-taken, moves-returned}
 use Rattle.ulfm_run.proofs.at_work.AtWorkHands.take_one.Goals as goal

@@ -1,4 +1,4 @@
-use Rattle.ulfm_script.proofs.Honestly.{honest-answers}
+use Rattle.ulfm_run.proofs.Common.{honest-answers}
 use Rattle.ulfm_run.proofs.Working.{played}
 use Rattle.ulfm_run.proofs.worker.Worker.play.Goals as goal
 

@@ -1,5 +1,5 @@
 use Rattle.std.proofs.Common.{◌∙◌, ◌≡◌, false, sym, ap, inl, inr}
-use Rattle.ulfm_script.specs.Player.{View, awaits_decision}
+use Rattle.ulfm_script.proofs.Common.{View, awaits_decision}
 use Rattle.ulfm_script.proofs.player.Player.call.Goals as goal
 
 pub returns-in-Some-clause-polls : goal.returns-in-Some-clause-polls

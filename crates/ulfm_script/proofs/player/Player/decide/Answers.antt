@@ -1,6 +1,5 @@
 use Rattle.std.proofs.Common.{◌≡◌, Some, ◌∙◌, ap}
-use Rattle.ulfm_script.proofs.Common.{Shrink}
-use Rattle.ulfm_script.specs.Player.{View}
+use Rattle.ulfm_script.proofs.Common.{Shrink, View}
 use Rattle.ulfm_script.proofs.player.Player.decide.Goals as goal
 
 pub returns-in-Some-clause-decides : goal.returns-in-Some-clause-decides

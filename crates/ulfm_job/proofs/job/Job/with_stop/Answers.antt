@@ -1,0 +1,15 @@
+use Rattle.std.proofs.Common.{subst, ap, sym, ◌∙◌}
+use Rattle.ulfm_job.proofs.Common.{IsJob, stopped_at}
+use Rattle.ulfm_job.proofs.WithStop.{seen-stopped, is_job-stopped}
+use Rattle.ulfm_job.proofs.job.Job.with_stop.Goals as goal
+
+pub new-requires : goal.new-requires
+new-requires c =
+    let steps = c.in_ok-steps.ensures.exact ∙ ap (stopped_at c.args.at) c.script.ensures in
+    let made = seen-stopped c.args.self.now _ _ c.args.rank c.args.at c.self.inside.scripts.items _ c.in_ok-steps.steps (sym c.self.view_is) c.in-Ok.ensures.cases.0 steps in
+    subst IsJob (sym made) (is_job-stopped _ c.args.rank c.args.at c.len.ensures.ranges c.requires.inside c.requires.place (λ e. c.if-len-eq-MOST_STEPS.false (c.len.ensures.exact ∙ e)))
+
+pub returns-clause-exact : goal.returns-clause-exact
+returns-clause-exact c =
+    let steps = c.in_ok-steps.ensures.exact ∙ ap (stopped_at c.args.at) c.script.ensures in
+    c.new.ensures ∙ seen-stopped c.args.self.now _ _ c.args.rank c.args.at c.self.inside.scripts.items _ c.in_ok-steps.steps (sym c.self.view_is) c.in-Ok.ensures.cases.0 steps

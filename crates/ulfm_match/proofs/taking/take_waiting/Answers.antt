@@ -1,0 +1,17 @@
+use Rattle.ulfm_match.proofs.Indexed.{waiting_found}
+use Rattle.ulfm_match.proofs.taking.take_waiting.Goals as goal
+
+pub returns-in-Some-clause-taken : goal.returns-in-Some-clause-taken
+returns-in-Some-clause-taken c =
+    let f = c.in-Some.ensures in (
+      f.is.entry,
+      record {
+        found = f.is.found;
+        passes = f.is.passes;
+        least = λ m q. f.least m (waiting_found c.args.letter.now c.requires.0 c.args.waiting.now c.args.buckets.now c.requires.1 m q) q;
+        out = c.take_numbered.ensures;
+      },
+    )
+
+pub returns-in-None-clause-taken : goal.returns-in-None-clause-taken
+returns-in-None-clause-taken c m q = c.in-None.ensures m (waiting_found c.args.letter.now c.requires.0 c.args.waiting.now c.args.buckets.now c.requires.1 m q) q

@@ -1,0 +1,49 @@
+-- The keys of buckets.
+use Rattle.std.specs.Prelude.{◌≡◌, ℕ, ◌+◌, ◌*◌, Bool, Option, Some, None, cond}
+use Rattle.ulfm_base.specs.declared.pattern.Pattern.{Pattern}
+use Rattle.ulfm_base.specs.declared.pattern.Source.{Source}
+use Rattle.ulfm_base.specs.declared.pattern.Source.TheVariants.{One, Any}
+use Rattle.ulfm_base.specs.declared.rank.WorldRank.{WorldRank}
+use Rattle.ulfm_base.specs.declared.envelope.Envelope.{Envelope}
+use Rattle.ulfm_base.specs.declared.envelope.Letter.{Letter}
+use Rattle.ulfm_base.specs.declared.tag.Tag.{Tag}
+
+-- each context, source and tag has one number
+abbrev pub key_number : ℕ → ℕ → ℕ → ℕ
+key_number context source tag = (context * 9 + source) * 32769 + tag
+
+-- the source that a receive names, or 8
+abbrev pub source_of : Source → ℕ
+source_of (One rank) = rank.number
+source_of (Any members) = 8
+
+-- the tag that a receive names, or 32768
+abbrev pub tag_of : Option Tag → ℕ
+tag_of (Some tag) = tag.number
+tag_of None = 32768
+
+-- the key of a receive
+abbrev pub key_of : Pattern → ℕ
+key_of pattern = key_number pattern.context.number (source_of pattern.source) (tag_of pattern.tag)
+
+-- the source of a letter, or 8 where it is left open
+abbrev pub source_at : Bool → WorldRank → ℕ
+source_at any_source rank = cond any_source 8 rank.number
+
+-- the tag of a letter, or 32768 where it is left open
+abbrev pub tag_at : Bool → Tag → ℕ
+tag_at any_tag tag = cond any_tag 32768 tag.number
+
+-- the key of the receives that name the letter's source or any, and its tag or any
+abbrev pub key_at : Bool → Bool → Envelope → ℕ
+key_at any_source any_tag envelope = key_number envelope.context.number (source_at any_source envelope.source) (tag_at any_tag envelope.tag)
+
+-- a kept letter stands in the buckets of four keys
+pub record IsKeyOf (letter : Letter) (k : ℕ) : Type 0 where
+  pub any_source : Bool
+  pub any_tag : Bool
+  pub is : k ≡ key_at any_source any_tag letter.envelope
+
+-- a receive that waits stands in the bucket of its own
+abbrev pub IsKeyOfReceive : Pattern → ℕ → Type 0
+IsKeyOfReceive pattern k = k ≡ key_of pattern

@@ -1,0 +1,91 @@
+//! The buckets of all keys.
+ghost use Rattle.std.specs.Prelude.{Bool, OnOk, Contains, ℕ};
+ghost use Rattle.ulfm_match.specs.inside.Buckets.{SweepsFor, Grows, numbers_at};
+ghost use Rattle.ulfm_match.specs.inside.Key.{key_at};
+
+use crate::bucket::Bucket;
+use crate::key::key_at;
+use indexmap::IndexMap;
+use std::alloc::Global;
+use std::collections::VecDeque;
+use ulfm_base::{Envelope, OutOfMemory};
+
+/// The bucket of each key that has entries.
+pub(crate) type Buckets = IndexMap<u64, Bucket>;
+
+/// Puts a number into the bucket of a key.
+pub(crate) fn put(
+    buckets: &mut Buckets,
+    alloc: Global,
+    key: u64,
+    number: u64,
+) -> Result<(), OutOfMemory>
+    ensures put { OnOk result (Contains (numbers_at buckets.new key) number) }
+    ensures grows { (k : ℕ) → Grows number (numbers_at buckets.old k) (numbers_at buckets.new k) }
+{
+    if let Some(bucket) = buckets.get_mut(&key) {
+        return bucket.push(number);
+    }
+    let mut bucket = Bucket {
+        numbers: VecDeque::new(alloc),
+        gone: 0,
+    };
+    bucket.push(number)?;
+    buckets.insert(key, bucket)?;
+    Ok(())
+}
+
+/// Puts a number into the buckets of a letter's keys.
+pub(crate) fn put_letter(
+    buckets: &mut Buckets,
+    alloc: Global,
+    envelope: &Envelope,
+    number: u64,
+) -> Result<(), OutOfMemory>
+    ensures put { OnOk result ((any_source any_tag : Bool) → Contains (numbers_at buckets.new (key_at any_source any_tag envelope.now)) number) }
+    ensures grows { (k : ℕ) → Grows number (numbers_at buckets.old k) (numbers_at buckets.new k) }
+{
+    put(buckets, alloc, key_at(envelope, false, false), number)?;
+    put(buckets, alloc, key_at(envelope, false, true), number)?;
+    put(buckets, alloc, key_at(envelope, true, false), number)?;
+    put(buckets, alloc, key_at(envelope, true, true), number)?;
+    Ok(())
+}
+
+/// Notes that an entry of a key went. A bucket that has none left goes too.
+pub(crate) fn forget<X>(buckets: &mut Buckets, key: u64, live: &IndexMap<u64, X>)
+    ensures { (k : ℕ) → SweepsFor live.now (numbers_at buckets.old k) (numbers_at buckets.new k) }
+{
+    if let Some(bucket) = buckets.get_mut(&key) {
+        bucket.sweep(live);
+        if !bucket.numbers.is_empty() {
+            return;
+        }
+    } else {
+        return;
+    }
+    let _ = buckets.swap_remove(&key);
+}
+
+/// Drops the numbers of many entries that went, and the buckets that have none left.
+pub(crate) fn forget_gone<X>(buckets: &mut Buckets, live: &IndexMap<u64, X>)
+    ensures { (k : ℕ) → SweepsFor live.now (numbers_at buckets.old k) (numbers_at buckets.new k) }
+{
+    let len = buckets.len();
+    for i in 0..len {
+        if let Some((key, _)) = buckets.get_index(len - 1 - i) {
+            let key = *key;
+            forget(buckets, key, live);
+        }
+    }
+}
+
+/// Notes that a letter went.
+pub(crate) fn forget_letter<X>(buckets: &mut Buckets, envelope: &Envelope, live: &IndexMap<u64, X>)
+    ensures { (k : ℕ) → SweepsFor live.now (numbers_at buckets.old k) (numbers_at buckets.new k) }
+{
+    forget(buckets, key_at(envelope, false, false), live);
+    forget(buckets, key_at(envelope, false, true), live);
+    forget(buckets, key_at(envelope, true, false), live);
+    forget(buckets, key_at(envelope, true, true), live);
+}

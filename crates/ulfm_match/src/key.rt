@@ -1,0 +1,39 @@
+//! What the entries of a bucket have in common: a context, one source or any, one tag or any. Each such has one number.
+ghost use Rattle.std.specs.Prelude.{◌≡◌};
+ghost use Rattle.ulfm_match.specs.inside.Key.{key_number, key_of, key_at};
+
+use ulfm_base::{Envelope, Pattern, Source};
+
+fn key(context: u8, source: u8, tag: u16) -> u64
+    ensures { result ≡ key_number context source tag }
+{
+    (u64::from(context) * 9 + u64::from(source)) * 32769 + u64::from(tag)
+}
+
+/// The key of a receive. Those from any source have one key, whatever the sources are.
+pub(crate) fn key_of(pattern: &Pattern) -> u64
+    ensures { result ≡ key_of pattern.now }
+{
+    let source = match pattern.source {
+        Source::One(rank) => rank.number,
+        Source::Any(_) => 8,
+    };
+    let tag = match pattern.tag {
+        Some(tag) => tag.number,
+        None => 32768,
+    };
+    key(pattern.context.number, source, tag)
+}
+
+/// The key of the receives that name the source of a letter or any, and its tag or any.
+pub(crate) fn key_at(envelope: &Envelope, any_source: bool, any_tag: bool) -> u64
+    ensures { result ≡ key_at any_source any_tag envelope.now }
+{
+    let source = if any_source {
+        8
+    } else {
+        envelope.source.number
+    };
+    let tag = if any_tag { 32768 } else { envelope.tag.number };
+    key(envelope.context.number, source, tag)
+}

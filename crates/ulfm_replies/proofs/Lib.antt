@@ -1,0 +1,4 @@
+pub mod Parsed
+pub mod Numbers
+pub mod Refused
+pub mod Written

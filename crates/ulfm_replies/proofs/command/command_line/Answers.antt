@@ -1,0 +1,13 @@
+use Rattle.std.proofs.Common.{ap₂, ◌∙◌}
+use Rattle.std.proofs.lemmas.Result.{IfOk-weaker}
+use Rattle.clap.specs.Words.{App, with_subcommand}
+use Rattle.ulfm_replies.proofs.command.command_line.Goals as goal
+
+abbrev join : App → App → App
+join a b = with_subcommand a b.top
+
+pub returns : goal.returns
+returns c =
+    let first = c.in_ok-command.ensures.shape c.check_command.ensures.local ∙ ap₂ join c.bare_command.ensures c.check_command.ensures.app in
+    let second = c.in_ok-command-2.ensures.shape c.in_ok-replay_command.ensures.local ∙ ap₂ join first c.in_ok-replay_command.ensures.app in
+    IfOk-weaker c.subcommand-3.result _ _ (λ r h. h.shape c.in_ok-run_command.ensures.local ∙ ap₂ join second c.in_ok-run_command.ensures.app) c.subcommand-3.ensures

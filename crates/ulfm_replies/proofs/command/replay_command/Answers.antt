@@ -1,0 +1,9 @@
+use Rattle.std.proofs.Common.{rules, ap₂, codes, ◌≡◌, ◌∙◌}
+use Rattle.std.proofs.lemmas.Result.{IfOk-weaker}
+use Rattle.clap.specs.Words.{app_of, new_app, with_rule}
+use Rattle.ulfm_replies.proofs.command.replay_command.Goals as goal
+
+pub returns-clause-app : goal.returns-clause-app
+returns-clause-app c =
+    let about_is : app_of c.after_help.result ≡ new_app (codes "replay") = search rules in
+    IfOk-weaker c.arg.result _ _ (λ r h. h.shape c.strict_flag.ensures.local ∙ ap₂ with_rule about_is c.strict_flag.ensures.rule) c.arg.ensures

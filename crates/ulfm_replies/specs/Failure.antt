@@ -1,0 +1,23 @@
+-- Why a run has no trace, and how that is printed.
+use Rattle.std.specs.Prelude.{ℕ, List, Option, Some, None, codes}
+use Rattle.ulfm_script.specs.declared.fault.RunFault.{RunFault}
+use Rattle.ulfm_script.specs.declared.fault.RunFault.TheVariants as fault
+use Rattle.ulfm_replies.specs.declared.failure.Failure.{Failure}
+use Rattle.ulfm_replies.specs.declared.failure.Failure.TheVariants as run
+
+-- the failure that a fault of `run_job` is: ends that don't fit the job are none
+abbrev pub failure_of : RunFault → Option Failure
+failure_of fault.NoThread = Some run.NoThread
+failure_of fault.OutOfMemory = Some run.OutOfMemory
+failure_of (fault.Untrue reports) = Some run.Untrue
+failure_of fault.BadEnds = None
+
+-- the line for a run that failed
+abbrev pub failed_text : Failure → List ℕ
+failed_text run.NoThread = codes "run failed: F2\n"
+failed_text run.OutOfMemory = codes "run failed: F3\n"
+failed_text run.Untrue = codes "run failed: F4\n"
+
+-- the line for a run that found no memory
+abbrev pub out_of_memory_text : List ℕ
+out_of_memory_text = failed_text run.OutOfMemory

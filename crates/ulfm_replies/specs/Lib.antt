@@ -1,0 +1,5 @@
+pub mod Words
+pub mod Asked
+pub mod Failure
+pub mod Replies
+pub mod Unfinished

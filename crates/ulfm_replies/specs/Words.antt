@@ -1,0 +1,129 @@
+-- What the words of a command line ask for.
+use Rattle.std.specs.Prelude.{◌≡◌, ◌<◌, ◌≤◌, ◌⊎◌, ⊤, ℕ, Bool, List, [], ◌∷◌, Option, Some, None, option_map, codes, true, false, IfSome, if◌then◌else◌}
+use Rattle.std.specs.Option.{option_map_or}
+use Rattle.std.specs.Str.{bytes_eq}
+use Rattle.std.specs.Str.Parse.{digits_value, without_leading_plus}
+use Rattle.ulfm_replies.specs.declared.command.Carrier.{Carrier}
+use Rattle.ulfm_replies.specs.declared.command.Carrier.TheVariants.{Lanes, Shared}
+use Rattle.ulfm_replies.specs.declared.command.RunOptions.{RunOptions}
+use Rattle.ulfm_replies.specs.declared.command.Wanted.{Wanted}
+use Rattle.ulfm_replies.specs.declared.command.Wanted.TheVariants.{Check, Replay, Run}
+use Rattle.clap.specs.ValueTests.{accepts}
+use Rattle.clap.specs.declared.builder.action.ArgAction.TheVariants.{SetTrue}
+use Rattle.clap.specs.declared.builder.value_parser.ValueParser.TheVariants.{Unsigned}
+use Rattle.clap.specs.declared.error.kind.ErrorKind.{ErrorKind}
+use Rattle.clap.specs.declared.error.kind.ErrorKind.TheVariants.{DisplayHelp, DisplayVersion, InvalidValue}
+use Rattle.clap.specs.Kinds.{or_else}
+use Rattle.clap.specs.Words.{App, Row, Rule, Text, Kinds, IsAmong, first_of, new_app, new_rule, subcommand_of, fault_of, with_rule, with_subcommand}
+
+-- the command `check`
+abbrev pub check_app : App
+check_app = new_app (codes "check")
+
+-- the flag `--strict`
+abbrev pub strict_rule : Rule
+strict_rule = record (new_rule (codes "strict")) { long = Some (codes "strict"); action = Some SetTrue }
+
+-- the command `replay` with its flag
+abbrev pub replay_app : App
+replay_app = with_rule (new_app (codes "replay")) strict_rule
+
+-- the command `ulfm`, to which its subcommands come
+abbrev pub plain_app : App
+plain_app = new_app (codes "ulfm")
+
+-- the command `ulfm`, which wants a subcommand
+abbrev pub demanding_app : App
+demanding_app = record plain_app { top = record (plain_app.top) { subcommand_required = true } }
+
+-- the option `--carrier` with one value, which has to be there
+abbrev pub carrier_rule : Rule
+carrier_rule = record (new_rule (codes "carrier")) { long = Some (codes "carrier"); value_names = 1; required = true }
+
+-- the most turns that `--turns` can give a job, as its own key
+abbrev pub most_turns : ℕ
+most_turns = 10000000
+
+-- the most runs that `--repeat` can ask for
+abbrev pub most_runs : ℕ
+most_runs = 10000
+
+-- an option whose value is a number, at least 1
+abbrev pub number_rule : Text → ℕ → Rule
+number_rule name most = record (new_rule name) { long = Some name; value_names = 1; parser = Some (Unsigned 1 most) }
+
+-- the command `run` with its options
+abbrev pub run_app : App
+run_app = with_rule (with_rule (with_rule (with_rule (new_app (codes "run")) carrier_rule) strict_rule) (number_rule (codes "turns") most_turns)) (number_rule (codes "repeat") most_runs)
+
+-- the whole command line
+abbrev pub tool_app : App
+tool_app = with_subcommand (with_subcommand (with_subcommand demanding_app check_app.top) replay_app.top) run_app.top
+
+-- the subcommand that the words name, and what was met of its options
+unfoldable pub asked : List Text → Option (Text × List Row)
+asked words = subcommand_of tool_app words
+
+-- the carrier of a name
+abbrev pub carrier_named : Option Text → Option Carrier
+carrier_named None = None
+carrier_named (Some name) = if bytes_eq name (codes "lanes") then Some Lanes else (if bytes_eq name (codes "shared") then Some Shared else None)
+
+-- the flag `--strict` was given
+abbrev pub is_strict : List Row → Bool
+is_strict rows = option_map_or (λ text. bytes_eq text (codes "true")) (first_of (codes "strict") rows) false
+
+-- the number that an option was given: the rule of the option refuses all others
+abbrev pub number_given : ℕ → Option Text → Option ℕ
+number_given most None = None
+number_given most (Some text) = if accepts false (Unsigned 1 most) text then Some (digits_value 10 (without_leading_plus text)) else None
+
+-- the options of `run` with a carrier
+abbrev pub options_by : List Row → Carrier → RunOptions
+options_by rows carrier = record { carrier = carrier; is_strict = is_strict rows; turns = number_given most_turns (first_of (codes "turns") rows); repeat = number_given most_runs (first_of (codes "repeat") rows) }
+
+-- what the options of `run` ask for, where there is a carrier of that name
+abbrev pub run_options : List Row → Option RunOptions
+run_options rows = option_map (options_by rows) (carrier_named (first_of (codes "carrier") rows))
+
+-- the command of a name, with its options
+abbrev pub named : Text → List Row → Option Wanted
+named name rows = if bytes_eq name (codes "check") then Some Check else (if bytes_eq name (codes "replay") then Some (Replay (is_strict rows)) else (if bytes_eq name (codes "run") then option_map Run (run_options rows) else None))
+
+-- what a subcommand and its options mean
+abbrev pub meant : Option (Text × List Row) → Option Wanted
+meant None = None
+meant (Some p) = named p.0 p.1
+
+-- the fault of words that mean no command, as where there is no carrier of that name
+abbrev pub unmeant : Option Wanted → Kinds
+unmeant None = InvalidValue ∷ []
+unmeant (Some wanted) = []
+
+-- What is at fault with the words, by clap's rules and then by the names of carriers: nothing where they can be followed, and
+-- a wish for help is one.
+unfoldable pub faults : List Text → Kinds
+faults words = or_else (fault_of tool_app words) (unmeant (meant (asked words)))
+
+-- the words are a command line that is to be followed, and no wish for help
+abbrev pub AsksFor : Wanted → List Text → Type 0
+AsksFor wanted words = (faults words ≡ []) × (meant (asked words) ≡ Some wanted)
+
+-- the numbers of the options of `run` are in their ranges
+abbrev pub AreInRange : RunOptions → Type 0
+AreInRange options = IfSome options.turns (λ n. (0 < n) × (n ≤ most_turns)) × IfSome options.repeat (λ n. (0 < n) × (n ≤ most_runs))
+
+-- the numbers of what the words ask for are in their ranges
+abbrev pub HasRanges : Wanted → Type 0
+HasRanges (Run options) = AreInRange options
+HasRanges _ = ⊤
+
+-- the status of a kind of fault: help is no failure
+abbrev pub status_of : ErrorKind → ℕ
+status_of DisplayHelp = 0
+status_of DisplayVersion = 0
+status_of _ = 2
+
+-- a status of words with these faults: that of one of them, 3 where memory ran out, 4 where the output failed
+abbrev pub IsWordsStatus : Kinds → ℕ → Type 0
+IsWordsStatus kinds status = ((kind : ErrorKind) × IsAmong kind kinds × (status ≡ status_of kind)) ⊎ (status ≡ 3) ⊎ (status ≡ 4)

@@ -1,0 +1,59 @@
+//! What the words ask for, or what is said in place of it.
+ghost use Rattle.std.specs.Prelude.{◌≡◌, [], Some, map, IfErr, IfOk, OnOk};
+ghost use Rattle.clap.specs.Words.{kind_of};
+ghost use Rattle.ulfm_replies.specs.Asked.{IsTold, IsToldAs};
+ghost use Rattle.ulfm_replies.specs.Words.{HasRanges, asked, faults, meant};
+
+use crate::command::{Wanted, wanted_of};
+use clap::Error;
+use clap::error::ErrorKind;
+use std::alloc::{AllocError, Global};
+use std::convert::AsStr;
+
+/// Why words aren't followed.
+#[derive(Drop)]
+pub enum Unfollowed {
+    /// Memory ran out.
+    OutOfMemory,
+    /// They ask for help: its text.
+    Help(String),
+    /// They can't be followed: why.
+    Usage(String),
+}
+
+/// What the words ask for.
+///
+/// # Errors
+///
+/// What to write in place of a reply: help that is asked for, or what is wrong with the words. Or memory ran out.
+pub fn asked_for<S: AsStr>(alloc: Global, words: &[S]) -> Result<Wanted, Unfollowed>
+    ensures ok { IfOk result (λ wanted. meant (asked (map S.text words.now)) ≡ Some wanted) }
+    ensures ranges { IfOk result HasRanges }
+    ensures no_fault { OnOk result (faults (map S.text words.now) ≡ []) }
+    ensures told { IfErr result (IsTold (faults (map S.text words.now))) }
+{
+    match wanted_of(alloc, words) {
+        Ok(wanted) => Ok(wanted),
+        Err(error) => {
+            if error.kind() == ErrorKind::OutOfMemory {
+                return Err(Unfollowed::OutOfMemory);
+            }
+            match told_of(alloc, &error) {
+                Ok(told) => Err(told),
+                Err(_) => Err(Unfollowed::OutOfMemory),
+            }
+        }
+    }
+}
+
+/// What is said of words that can't be followed, or that ask for help.
+fn told_of(alloc: Global, error: &Error) -> Result<Unfollowed, AllocError>
+    ensures { IfOk result (IsToldAs (kind_of error.now)) }
+{
+    let text = format!(in alloc; "{error}")?;
+    Ok(if error.use_stderr() {
+        Unfollowed::Usage(text)
+    } else {
+        Unfollowed::Help(text)
+    })
+}

@@ -1,0 +1,291 @@
+//! The command line.
+ghost use Rattle.std.specs.Prelude.{◌≡◌, false, Some, map, option_map, IfOk, IfSome};
+ghost use Rattle.clap.specs.declared.builder.command.Command.TheViews.{out-Command};
+ghost use Rattle.clap.specs.Words.{FailsBy, app_of, first_of, found_of, kind_of, rows_of, rule_of, subcommand_rows_of, with_subcommand};
+ghost use Rattle.ulfm_replies.specs.Words.{AreInRange, HasRanges, asked, carrier_named, carrier_rule, check_app, demanding_app, faults, is_strict, meant, named, number_rule, replay_app, run_app, run_options, strict_rule, tool_app};
+
+use crate::number::number_given;
+use clap::builder::ValueParser;
+use clap::error::ErrorKind;
+use clap::{Arg, ArgAction, ArgMatches, Command, Error};
+use std::alloc::{AllocError, Global};
+use std::convert::AsStr;
+
+/// What takes the items of a run from rank to rank.
+#[derive(Clone, Copy, Debug, PartialEq, Eq)]
+pub enum Carrier {
+    /// A ring for each ordered pair of ranks.
+    Lanes,
+    /// One inbox for each rank, which all senders share.
+    Shared,
+}
+
+/// The options of `run`.
+#[derive(Clone, Copy, Debug, PartialEq, Eq)]
+pub struct RunOptions {
+    /// What takes the items from rank to rank.
+    pub carrier: Carrier,
+    /// Whether an unfinished step has a status of its own.
+    pub is_strict: bool,
+    /// The turns of the job, in place of its own, 1 to 10,000,000.
+    pub turns: Option<u32>,
+    /// How many runs are counted, 1 to 10,000.
+    pub repeat: Option<u32>,
+}
+
+/// What the words ask for.
+#[derive(Clone, Copy, Debug, PartialEq, Eq)]
+pub enum Wanted {
+    /// The line of a job, or of its refusal.
+    Check,
+    /// The trace of a replay.
+    Replay {
+        /// Whether an unfinished step has a status of its own.
+        is_strict: bool,
+    },
+    /// The trace of a run.
+    Run(RunOptions),
+}
+
+/// The most turns that `--turns` can give a job.
+const MOST_TURNS: u32 = 10_000_000;
+
+/// The most runs that `--repeat` can ask for.
+const MOST_RUNS: u32 = 10_000;
+
+/// What is shown below the commands.
+const HELP: &str = "A job is a TOML text on standard input:
+
+  ranks = 2
+  capacity = 4
+  turns = 10
+
+  [[step]]
+  rank = 0
+  op = \"send\"
+  to = 1
+  tag = 5
+  body = \"abc\"
+
+  [[step]]
+  rank = 1
+  op = \"recv\"
+  from = 0
+
+  [[step]]
+  rank = 1
+  op = \"wait\"
+  req = 0
+
+Under run a step's polls come fast: give a job many turns, as 1000000.
+Statuses: 0 done, 1 job refused, 2 usage, 3 run failed, 4 output failed, 5 input failed;
+6 by --strict alone, where a step is unfinished: MPI would hang there.
+docs/JOBS.md has the format of jobs and traces, docs/RULES.md the rules that ranks obey.";
+
+/// What the words ask for. An error is a wrong command line, or help that is asked for.
+pub fn wanted_of<S: AsStr>(alloc: Global, words: &[S]) -> Result<Wanted, Error>
+    ensures ok { IfOk result (λ wanted. meant (asked (map S.text words.now)) ≡ Some wanted) }
+    ensures ranges { IfOk result HasRanges }
+    ensures kinds { FailsBy (faults (map S.text words.now)) result }
+{
+    let mut command = command_line(alloc)?;
+    let matches = command.try_get_matches_from_mut(words)?;
+    match wanted_in(&matches) {
+        Some(wanted) => Ok(wanted),
+        None => Err(unknown_carrier(alloc, &mut command, &matches)?),
+    }
+}
+
+/// The error of a command line that names a carrier that there isn't.
+fn unknown_carrier(
+    alloc: Global,
+    command: &mut Command<'_>,
+    matches: &ArgMatches<'_>,
+) -> Result<Error, AllocError>
+    ensures { IfOk result (λ error. kind_of error ≡ ErrorKind.InvalidValue) }
+{
+    let value = match matches.subcommand() {
+        Some((_, options)) => options.get_str("carrier").unwrap_or(""),
+        None => "",
+    };
+    let message = format!(in alloc;
+        "invalid value '{value}' for '--carrier <CARRIER>'\n  [possible values: lanes, shared]"
+    )?;
+    command.error(ErrorKind::InvalidValue, message.as_str())
+}
+
+/// The command line that is followed.
+fn command_line<'a>(alloc: Global) -> Result<Command<'a>, AllocError>
+    ensures { IfOk result (λ command. app_of command ≡ tool_app) }
+{
+    let command = bare_command(alloc).subcommand(check_command(alloc))?;
+    let command = command.subcommand(replay_command(alloc)?)?;
+    command.subcommand(run_command(alloc)?)
+}
+
+/// The command `ulfm` without its commands.
+fn bare_command<'a>(alloc: Global) -> Command<'a>
+    ensures { app_of result ≡ demanding_app }
+{
+    Command::new(alloc, "ulfm")
+        .about("MPI messages with ULFM recovery among the ranks of one program")
+        .after_help(HELP)
+        .subcommand_required(true)
+}
+
+/// The command `check`.
+fn check_command<'a>(alloc: Global) -> Command<'a>
+    ensures app { app_of result ≡ check_app }
+    ensures local { (out-Command result).has_globals ≡ false }
+{
+    Command::new(alloc, "check")
+        .about("Says whether the job on standard input can be run")
+        .after_help("Example: ulfm check < jobs/one_letter.toml")
+}
+
+/// The command `replay` with its flag.
+fn replay_command<'a>(alloc: Global) -> Result<Command<'a>, AllocError>
+    ensures app { IfOk result (λ command. app_of command ≡ replay_app) }
+    ensures local { IfOk result (λ command. (out-Command command).has_globals ≡ false) }
+{
+    Command::new(alloc, "replay")
+        .about("Plays the job on standard input round by round and prints its trace")
+        .after_help("Example: ulfm replay --strict < jobs/one_letter.toml")
+        .arg(strict_flag(alloc))
+}
+
+/// The command `run` with its options.
+fn run_command<'a>(alloc: Global) -> Result<Command<'a>, AllocError>
+    ensures app { IfOk result (λ command. app_of command ≡ run_app) }
+    ensures local { IfOk result (λ command. (out-Command command).has_globals ≡ false) }
+{
+    let command = Command::new(alloc, "run")
+        .about(
+            "Runs the job on standard input, each rank in a thread of its own, and prints its trace",
+        )
+        .after_help(
+            "Example: ulfm run --carrier lanes --turns 1000000 --repeat 20 < jobs/one_letter.toml",
+        )
+        .arg(carrier_option(alloc))?;
+    let command = command.arg(strict_flag(alloc))?;
+    let turns = number_option(
+        alloc,
+        "turns",
+        MOST_TURNS,
+        "Runs the job with this number of turns in place of its own [1 to 10000000]",
+    );
+    let command = command.arg(turns)?;
+    let repeat = number_option(
+        alloc,
+        "repeat",
+        MOST_RUNS,
+        "Runs the job so many times and prints each distinct trace once, with its count [1 to 10000]",
+    );
+    command.arg(repeat)
+}
+
+/// The option `--carrier`.
+fn carrier_option<'a>(alloc: Global) -> Arg<'a>
+    ensures rule { rule_of result ≡ carrier_rule }
+    ensures local { result.global ≡ false }
+{
+    Arg::new(alloc, "carrier")
+        .long("carrier")
+        .value_name("CARRIER")
+        .help("What takes items from rank to rank [possible values: lanes, shared]")
+        .required(true)
+}
+
+/// The flag `--strict`.
+fn strict_flag<'a>(alloc: Global) -> Arg<'a>
+    ensures rule { rule_of result ≡ strict_rule }
+    ensures local { result.global ≡ false }
+{
+    Arg::new(alloc, "strict")
+        .long("strict")
+        .help("Ends with status 6 in place of 0 where a step is unfinished")
+        .action(ArgAction::SetTrue)
+}
+
+/// An option whose value is a number, from 1 to the most.
+fn number_option<'a>(alloc: Global, name: &'a str, most: u32, help: &'a str) -> Arg<'a>
+    ensures rule { rule_of result ≡ number_rule name.entry.now most }
+    ensures local { result.global ≡ false }
+{
+    Arg::new(alloc, name)
+        .long(name)
+        .value_name("N")
+        .help(help)
+        .value_parser(ValueParser::Unsigned(1, u64::from(most)))
+}
+
+/// What the words ask for, by what was found in them.
+fn wanted_in(matches: &ArgMatches<'_>) -> Option<Wanted>
+    ensures exact { result ≡ meant (subcommand_rows_of matches.now) }
+    ensures ranges { IfSome result HasRanges }
+{
+    let (name, options) = matches.subcommand()?;
+    named(name, options)
+}
+
+/// The command of a name, with what was found of its options.
+fn named(name: &str, options: &ArgMatches<'_>) -> Option<Wanted>
+    ensures exact { result ≡ named name.now (rows_of (found_of options.now)) }
+    ensures ranges { IfSome result HasRanges }
+{
+    match name {
+        "check" => Some(Wanted::Check),
+        "replay" => Some(Wanted::Replay {
+            is_strict: is_strict(options),
+        }),
+        "run" => match run_options(options) {
+            Some(options) => Some(Wanted::Run(options)),
+            None => None,
+        },
+        _ => None,
+    }
+}
+
+/// What the options of `run` ask for, where there is a carrier of that name.
+fn run_options(options: &ArgMatches<'_>) -> Option<RunOptions>
+    ensures exact { result ≡ run_options (rows_of (found_of options.now)) }
+    ensures ranges { IfSome result AreInRange }
+{
+    match carrier_named(value_of(options, "carrier")) {
+        Some(carrier) => Some(RunOptions {
+            carrier,
+            is_strict: is_strict(options),
+            turns: number_given(value_of(options, "turns"), MOST_TURNS),
+            repeat: number_given(value_of(options, "repeat"), MOST_RUNS),
+        }),
+        None => None,
+    }
+}
+
+/// The first value that was found of an option, by its name.
+fn value_of<'a>(options: &ArgMatches<'a>, name: &str) -> Option<&'a str>
+    ensures { option_map (λ s. s.now) result ≡ first_of name.now (rows_of (found_of options.now)) }
+{
+    options.get_str(name)
+}
+
+/// The carrier of a name.
+fn carrier_named(name: Option<&str>) -> Option<Carrier>
+    ensures { result ≡ carrier_named (option_map (λ s. s.now) name.entry) }
+{
+    match name {
+        Some("lanes") => Some(Carrier::Lanes),
+        Some("shared") => Some(Carrier::Shared),
+        _ => None,
+    }
+}
+
+/// Whether the flag `--strict` was given.
+fn is_strict(options: &ArgMatches<'_>) -> bool
+    ensures { result ≡ is_strict (rows_of (found_of options.now)) }
+{
+    match value_of(options, "strict") {
+        Some(text) => text == "true",
+        None => false,
+    }
+}

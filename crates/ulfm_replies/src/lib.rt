@@ -1,0 +1,22 @@
+//! What is said without an engine: of the words of a command line, of a job's text, and beside a reply.
+#![tactic(auto)]
+
+mod asked;
+mod command;
+mod failure;
+mod notes;
+mod number;
+mod reply;
+mod stream;
+mod trace;
+
+pub use asked::{Unfollowed, asked_for};
+pub use command::{Carrier, RunOptions, Wanted};
+pub use failure::{Failure, failed, failure_of};
+pub use notes::write_notes;
+pub use reply::{
+    DONE, INPUT_FAILED, JOB_REFUSED, OUTPUT_FAILED, RUN_FAILED, Reply, UNFINISHED, USAGE,
+    check_reply, refusal,
+};
+pub use stream::{InputFault, read_front, write_whole};
+pub use trace::{has_unfinished, played_status, trace_reply};

@@ -1,0 +1,187 @@
+//! The same calls to the matcher and to two plain lists: each answer is the same.
+ghost use Rattle.std.specs.Prelude.{◌≡◌, ◌+◌, ◌<◌, ◌^◌, IsTrue, false};
+ghost use Rattle.ulfm_match.specs.State.{is_cleared};
+
+use rand_core::utils::NextWord;
+use rand_pcg::Pcg32;
+use std::test::Fail;
+use ulfm_base::{
+    Body, Context, Envelope, Letter, OutOfMemory, Pattern, RankSet, Source, Tag, WorldRank,
+};
+use ulfm_match::{Arrived, Matcher, RequestId};
+use ulfm_plain::Plain;
+
+/// How many lists of calls are drawn.
+const LISTS: u32 = 1000;
+
+/// How many calls each list has.
+const CALLS: u32 = 200;
+
+/// Draws a number below this one.
+fn below(draws: &mut Pcg32, bound: u32) -> u32
+    requires { 0 < bound }
+    ensures { result < bound }
+{
+    draws.next_word() % bound
+}
+
+/// Draws one of two contexts.
+fn context(draws: &mut Pcg32) -> Context {
+    Context {
+        number: below(draws, 2) as u8,
+    }
+}
+
+/// Draws one of three ranks.
+fn rank(draws: &mut Pcg32) -> WorldRank {
+    WorldRank {
+        number: below(draws, 3) as u8,
+    }
+}
+
+/// Draws one of three tags.
+fn tag(draws: &mut Pcg32) -> Tag {
+    Tag {
+        number: below(draws, 3) as u16,
+    }
+}
+
+/// Draws a source: a rank by name, or any of two drawn ranks.
+fn source(draws: &mut Pcg32) -> Source {
+    if below(draws, 3) > 0 {
+        return Source::One(rank(draws));
+    }
+    let mut members = RankSet::new();
+    members.insert(rank(draws));
+    members.insert(rank(draws));
+    Source::Any(members)
+}
+
+/// Draws what a receive asks for.
+fn pattern(draws: &mut Pcg32) -> Pattern {
+    Pattern {
+        context: context(draws),
+        source: source(draws),
+        tag: if below(draws, 3) > 0 {
+            Some(tag(draws))
+        } else {
+            None
+        },
+        room: 4,
+    }
+}
+
+/// Draws a letter, whose body is the number of the call by which it comes.
+fn letter(draws: &mut Pcg32, call: u32) -> Letter {
+    let envelope = Envelope {
+        context: context(draws),
+        source: rank(draws),
+        tag: tag(draws),
+    };
+    let body = match Body::from_bytes(&call.to_be_bytes()) {
+        Ok(body) => body,
+        Err(_) => unreachable!(),
+    };
+    Letter { envelope, body }
+}
+
+/// Whether two letters carry the same, or there is none of either.
+fn is_same(one: &Option<Letter>, other: &Option<Letter>) -> bool {
+    match (one, other) {
+        (Some(one), Some(other)) => {
+            one.envelope == other.envelope && one.body.as_bytes() == other.body.as_bytes()
+        }
+        (None, None) => true,
+        _ => false,
+    }
+}
+
+/// Whether both can be handed something of a context.
+fn is_open(matcher: &Matcher, context: Context) -> bool
+    ensures { IsTrue result → (is_cleared matcher.now context.number ≡ false) × (matcher.now.count + 1 < 2 ^ 64) }
+{
+    !matcher.is_cleared(context) && matcher.count() < u64::MAX
+}
+
+/// Posts a receive to both: whether they answer the same.
+fn posts(matcher: &mut Matcher, plain: &mut Plain, pattern: Pattern) -> Result<bool, OutOfMemory> {
+    matcher.prepare()?;
+    if !is_open(matcher, pattern.context) {
+        return Ok(plain.is_cleared(pattern.context));
+    }
+    let (id, letter) = matcher.post(pattern);
+    let (number, other) = plain.post(pattern)?;
+    Ok(id.number == number && is_same(&letter, &other))
+}
+
+/// Hands a letter to both: whether they answer the same.
+fn arrives(matcher: &mut Matcher, plain: &mut Plain, letter: Letter) -> Result<bool, OutOfMemory> {
+    matcher.prepare()?;
+    if !is_open(matcher, letter.envelope.context) {
+        return Ok(plain.is_cleared(letter.envelope.context));
+    }
+    let paired = match matcher.arrive(letter) {
+        Arrived::Paired(id, _) => Some(id.number),
+        Arrived::Kept => None,
+    };
+    Ok(paired == plain.arrive(letter)?)
+}
+
+/// Ends something of both: whether they answer the same.
+fn ends(matcher: &mut Matcher, plain: &mut Plain, draws: &mut Pcg32) -> bool {
+    let number = below(draws, CALLS) as u64;
+    match below(draws, 16) {
+        0 => {
+            let context = context(draws);
+            matcher.clear(context);
+            plain.clear(context);
+            matcher.is_cleared(context)
+        }
+        1..4 => {
+            let rank = rank(draws);
+            matcher.end_named(rank);
+            plain.end_named(rank);
+            matcher.is_waiting(RequestId { number }) == plain.is_waiting(number)
+        }
+        _ => matcher.withdraw(RequestId { number }) == plain.withdraw(number),
+    }
+}
+
+/// Draws one call to both: whether they answer the same.
+fn call(
+    matcher: &mut Matcher,
+    plain: &mut Plain,
+    draws: &mut Pcg32,
+    call: u32,
+) -> Result<bool, OutOfMemory> {
+    match below(draws, 12) {
+        0..5 => posts(matcher, plain, pattern(draws)),
+        5..10 => arrives(matcher, plain, letter(draws, call)),
+        10 => Ok(ends(matcher, plain, draws)),
+        _ => {
+            let pattern = pattern(draws);
+            let number = below(draws, CALLS) as u64;
+            Ok(
+                matcher.keeps_match(&pattern) == plain.keeps_match(&pattern)
+                    && matcher.is_waiting(RequestId { number }) == plain.is_waiting(number)
+                    && matcher.count() == plain.count(),
+            )
+        }
+    }
+}
+
+#[test]
+fn the_matcher_answers_as_plain_lists_do(rt: HostRuntime) -> Result<(), Fail> {
+    let mut draws = Pcg32::new(42, 54);
+    for list in 0..LISTS {
+        let mut matcher = Matcher::new(rt.alloc());
+        let mut plain = Plain::new(rt.alloc());
+        for k in 0..CALLS {
+            assert!(rt;
+                call(&mut matcher, &mut plain, &mut draws, k)?,
+                "list {list}, call {k}"
+            );
+        }
+    }
+    Ok(())
+}

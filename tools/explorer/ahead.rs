@@ -1,0 +1,68 @@
+//! What may still come to a rank. Where this says no, it can't come in any schedule.
+
+use crate::items::Item;
+use crate::job::{Context, Job, Place, Step};
+use crate::rank::{Fate, Source};
+use crate::world::World;
+
+impl World {
+    /// Whether a rank runs and has a stop ahead.
+    pub fn has_stop_ahead(&self, job: &Job, rank: usize) -> bool {
+        self.steps_ahead(job, rank).last() == Some(&Step::Stop)
+    }
+
+    /// Whether a rank runs now and will never stop.
+    pub fn runs_on(&self, job: &Job, rank: usize) -> bool {
+        !self.ranks[rank].stopped && !self.has_stop_ahead(job, rank)
+    }
+
+    /// Whether no rank stopped or will stop.
+    pub fn all_run_on(&self, job: &Job) -> bool {
+        (0..job.ranks()).all(|rank| self.runs_on(job, rank))
+    }
+
+    /// Whether a rank may still learn that another one stopped.
+    pub fn may_learn_of(&self, job: &Job, rank: usize, other: Place) -> bool {
+        let is_other = other as usize != rank;
+        is_other && !self.ranks[rank].knows(other) && !self.runs_on(job, other as usize)
+    }
+
+    /// Whether a context may still become revoked at a rank: a revocation of it is on its way to some rank, or may be called
+    /// for.
+    pub fn may_be_revoked(&self, job: &Job, rank: usize, context: Context) -> bool {
+        !self.ranks[rank].is_revoked(context) && self.revocations_ahead(job) >> context & 1 == 1
+    }
+
+    /// Whether any context may still become revoked at a rank.
+    pub fn may_be_revoked_anywhere(&self, job: &Job, rank: usize) -> bool {
+        self.revocations_ahead(job) & !self.ranks[rank].revoked != 0
+    }
+
+    /// The contexts of which a revocation is on its way, or a call of it ahead, a bit for each.
+    pub fn revocations_ahead(&self, job: &Job) -> u64 {
+        let mut found = 0;
+        for rank in 0..job.ranks() {
+            for step in self.steps_ahead(job, rank) {
+                if let Step::Revoke { comm } = step {
+                    found |= 1 << comm;
+                }
+            }
+            let owed = self.ranks[rank].outboxes.iter().flatten();
+            for item in owed.chain(self.inboxes[rank].iter().map(|(_, item)| item)) {
+                if let Item::Revoke(context) = item {
+                    found |= 1 << context;
+                }
+            }
+        }
+        found
+    }
+
+    /// Whether a receive from any source waits in a context at a rank, or may still be posted there.
+    pub fn may_receive_from_any(&self, job: &Job, rank: usize, context: Context) -> bool {
+        let waits = self.ranks[rank].requests.values().any(|(pattern, fate)| {
+            *fate == Fate::Waiting && pattern.context == context && matches!(pattern.source, Source::Any(_))
+        });
+        let asks = |step: &Step| matches!(step, Step::Recv { from: None, comm, .. } if *comm == context);
+        waits || self.steps_ahead(job, rank).iter().any(asks)
+    }
+}

@@ -1,0 +1,62 @@
+//! The polls of a step, by its kind.
+
+use crate::items::{Answer, Item, Refusal};
+use crate::job::{Job, Place, Step};
+use crate::rank::Rank;
+use crate::shrink::Decisions;
+
+/// What a poll does to its step.
+#[derive(Clone, Debug, PartialEq, Eq, Hash)]
+pub enum Poll {
+    Answered(Answer),
+    /// A shrink was entered, and stays open.
+    Entered,
+    /// The step stays open, and nothing changed.
+    Open,
+}
+
+impl Rank {
+    /// One poll of the next step.
+    pub fn poll(&mut self, job: &Job, step: Step, decisions: &mut Decisions) -> Poll {
+        let poll = match step {
+            Step::Wait { req } => self.wait(job, req).map_or(Poll::Open, Poll::Answered),
+            Step::Shrink { comm } if self.is_open => {
+                self.decide(comm, decisions).map_or(Poll::Open, Poll::Answered)
+            }
+            Step::Shrink { comm } => match self.enter(comm) {
+                Ok(()) => Poll::Entered,
+                Err(refusal) => Poll::Answered(Answer::Refused(refusal)),
+            },
+            _ => Poll::Answered(self.call(job, step).unwrap_or_else(Answer::Refused)),
+        };
+        self.is_open = poll == Poll::Entered;
+        if let Poll::Answered(_) = poll {
+            self.answered += 1;
+        }
+        poll
+    }
+
+    /// A call that its first poll answers.
+    fn call(&mut self, job: &Job, step: Step) -> Result<Answer, Refusal> {
+        match step {
+            Step::Send { .. } => self.send(job, step),
+            Step::Recv { .. } => self.post(step),
+            Step::Failed { comm } => self.failed(comm),
+            Step::Ack { count, comm } => self.ack(count, comm),
+            Step::Revoke { comm } => self.revoke(comm),
+            Step::Dup { comm } => self.dup(comm),
+            Step::Stop => Ok(self.stop()),
+            Step::Wait { .. } | Step::Shrink { .. } => unreachable!(),
+        }
+    }
+
+    /// Takes an item that came from a rank.
+    pub fn take(&mut self, source: Place, item: Item) {
+        match item {
+            Item::Letter(letter) => self.take_letter(letter),
+            Item::Gone => self.take_notice(source),
+            Item::Revoke(context) => self.take_revocation(context),
+            Item::Enter(comm, known) => self.take_entry(source, comm, known),
+        }
+    }
+}

@@ -1,0 +1,69 @@
+"""Builds the explorer of all outcomes, and hands jobs over to it in their plain form: `<ranks> <capacity>`, then a line a step."""
+import os
+import pathlib
+import shutil
+import subprocess
+
+FOLDER = pathlib.Path(__file__).resolve().parent
+PROGRAM = FOLDER / "out" / "explorer"
+LONGEST_KEPT = 1025
+
+
+def compiler():
+    """Rust's compiler, where there is one."""
+    own = pathlib.Path.home() / ".cargo" / "bin" / "rustc"
+    return shutil.which("rustc") or (str(own) if os.access(own, os.X_OK) else None)
+
+
+def missing():
+    """What isn't on this machine and has to be, or nothing."""
+    try:
+        import tomllib  # noqa: F401
+    except ImportError:
+        return "tomllib for this Python"
+    return None if compiler() else "rustc"
+
+
+def build():
+    """The explorer, built anew where a source is newer."""
+    sources = sorted(FOLDER.glob("*.rs"))
+    newest = max(source.stat().st_mtime for source in sources)
+    if not PROGRAM.exists() or PROGRAM.stat().st_mtime < newest:
+        PROGRAM.parent.mkdir(exist_ok=True)
+        fresh = PROGRAM.with_suffix(f".{os.getpid()}")
+        subprocess.run([compiler(), "-O", "--edition", "2021", "-o", fresh, FOLDER / "main.rs"], check=True)
+        fresh.replace(PROGRAM)
+    return PROGRAM
+
+
+def words_of(step):
+    """The words of a step, in the plain form."""
+    op, comm = step["op"], step.get("comm", 0)
+    if op == "send":
+        body = step["body"].encode()[:LONGEST_KEPT].hex() or "-"
+        return [op, step["to"], step["tag"], body, comm]
+    if op == "recv":
+        return [op, step.get("from", "any"), step.get("tag", "any"), step.get("room", 1024), comm]
+    if op == "wait":
+        return [op, step["req"]]
+    if op == "ack":
+        return [op, step["count"], comm]
+    return [op] if op == "stop" else [op, comm]
+
+
+def plain(text):
+    """The plain form of a job's text. A job that the program refuses isn't to be handed in here."""
+    import tomllib
+
+    job = tomllib.loads(text)
+    lines = [[job["ranks"], job["capacity"]]]
+    lines += [[step["rank"], *words_of(step)] for step in job.get("step", [])]
+    return "\n".join(" ".join(map(str, line)) for line in lines) + "\n"
+
+
+def explore(text, *options):
+    """The status and the lines of the explorer for a job's text."""
+    ran = subprocess.run([PROGRAM, *options], input=plain(text), capture_output=True, text=True, check=False)
+    if ran.returncode not in (0, 7):
+        raise RuntimeError(f"the explorer ended with status {ran.returncode}: {ran.stderr.strip()}")
+    return ran.returncode, ran.stdout.splitlines()

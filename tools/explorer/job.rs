@@ -1,0 +1,120 @@
+//! A job: what each rank calls, step by step, in the plain form that `front.py` makes of the TOML text.
+
+use std::str::SplitWhitespace;
+
+/// The number of a context: 0 is the world's.
+pub type Context = u8;
+
+/// Contexts are 0 to 62.
+pub const LAST_CONTEXT: Context = 62;
+
+/// A rank of the world, or a position in a group.
+pub type Place = u8;
+
+/// The body of a letter, by its place in the job's list of bodies.
+pub type Body = u16;
+
+/// One step of a rank, in the words of a job.
+#[derive(Clone, Copy, Debug, PartialEq, Eq)]
+pub enum Step {
+    Send { to: Place, tag: u16, body: Body, comm: Context },
+    Recv { from: Option<Place>, tag: Option<u16>, room: u16, comm: Context },
+    Wait { req: u16 },
+    Failed { comm: Context },
+    Ack { count: u8, comm: Context },
+    Revoke { comm: Context },
+    Dup { comm: Context },
+    Shrink { comm: Context },
+    Stop,
+}
+
+/// What every rank does, and how many items an inbox, or each ring, has room for.
+pub struct Job {
+    pub capacity: usize,
+    /// The steps of each rank, those behind its `stop` too.
+    pub steps: Vec<Vec<Step>>,
+    /// Each body once, in lower case hexadecimal digits.
+    pub bodies: Vec<String>,
+}
+
+impl Job {
+    /// Reads the plain form: a line `<ranks> <capacity>`, then a line `<rank> <op> <words>` for each step.
+    pub fn read(text: &str) -> Result<Job, String> {
+        let mut lines = text.lines();
+        let head = lines.next().unwrap_or("");
+        let mut words = head.split_whitespace();
+        let ranks: usize = number(&mut words).filter(|ranks| (1..=8).contains(ranks)).ok_or(head)?;
+        let capacity = number(&mut words).ok_or(head)?;
+        let mut job = Job { capacity, steps: vec![vec![]; ranks], bodies: vec![] };
+        for line in lines {
+            let mut words = line.split_whitespace();
+            let rank: usize = number(&mut words).filter(|rank| *rank < ranks).ok_or(line)?;
+            let step = job.step(&mut words).ok_or(line)?;
+            job.steps[rank].push(step);
+        }
+        Ok(job)
+    }
+
+    fn step(&mut self, words: &mut SplitWhitespace) -> Option<Step> {
+        Some(match words.next()? {
+            "send" => {
+                let (to, tag) = (number(words)?, number(words)?);
+                let body = self.body(words.next()?);
+                Step::Send { to, tag, body, comm: context(words)? }
+            }
+            "recv" => {
+                let (from, tag) = (number_or_any(words)?, number_or_any(words)?);
+                Step::Recv { from, tag, room: number(words)?, comm: context(words)? }
+            }
+            "wait" => Step::Wait { req: number(words)? },
+            "failed" => Step::Failed { comm: context(words)? },
+            "ack" => Step::Ack { count: number(words)?, comm: context(words)? },
+            "revoke" => Step::Revoke { comm: context(words)? },
+            "dup" => Step::Dup { comm: context(words)? },
+            "shrink" => Step::Shrink { comm: context(words)? },
+            "stop" => Step::Stop,
+            _ => return None,
+        })
+    }
+
+    /// The place of a body in the list, in which equal bodies stand once.
+    fn body(&mut self, digits: &str) -> Body {
+        let digits = if digits == "-" { "" } else { digits };
+        let found = self.bodies.iter().position(|body| body == digits);
+        found.unwrap_or_else(|| {
+            self.bodies.push(digits.to_string());
+            self.bodies.len() - 1
+        }) as Body
+    }
+
+    pub fn ranks(&self) -> usize {
+        self.steps.len()
+    }
+
+    /// How many bytes a body has.
+    pub fn length(&self, body: Body) -> usize {
+        self.bodies[body as usize].len() / 2
+    }
+
+    /// The steps of a rank that are run: those up to its `stop`.
+    pub fn script(&self, rank: usize) -> &[Step] {
+        let steps = &self.steps[rank];
+        let stop = steps.iter().position(|step| *step == Step::Stop);
+        &steps[..stop.map_or(steps.len(), |at| at + 1)]
+    }
+}
+
+fn number<N: std::str::FromStr>(words: &mut SplitWhitespace) -> Option<N> {
+    words.next()?.parse().ok()
+}
+
+fn context(words: &mut SplitWhitespace) -> Option<Context> {
+    number(words).filter(|context| *context <= LAST_CONTEXT)
+}
+
+fn number_or_any<N: std::str::FromStr>(words: &mut SplitWhitespace) -> Option<Option<N>> {
+    match words.next()? {
+        "any" => Some(None),
+        word => Some(Some(word.parse().ok()?)),
+    }
+}

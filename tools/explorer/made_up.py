@@ -1,0 +1,164 @@
+"""Made-up jobs: small ones, with what schedules can turn: stops, full inboxes, revocations, shrinks, receives from any source,
+duplicates and acknowledgements."""
+
+MOST_STEPS = 12
+TURNS = 2000
+
+
+def job_text(ranks, capacity, steps):
+    """The TOML text of a job. A step is its rank, its op and its keys."""
+    lines = [f"ranks = {ranks}", f"capacity = {capacity}", f"turns = {TURNS}"]
+    for rank, op, keys in steps:
+        lines += ["[[step]]", f"rank = {rank}", f'op = "{op}"']
+        lines += [f'{key} = "{value}"' if isinstance(value, str) else f"{key} = {value}" for key, value in keys.items()]
+    return "\n".join(lines) + "\n"
+
+
+# Jobs by hand, each with a step and its answers over lanes and over shared inboxes: a wrong carrier or a wrong reduction loses one.
+CHOSEN = [
+    # Rank 2 knows that rank 0 stopped when it sends. A shared inbox has the letter of rank 0 before that one, if it has it at all.
+    ("late_letter", job_text(3, 1, [
+        (0, "send", {"to": 1, "tag": 1, "body": "a"}), (0, "stop", {}),
+        (1, "recv", {}), (1, "wait", {"req": 0}), (1, "recv", {}), (1, "wait", {"req": 2}),
+        (2, "recv", {"from": 0}), (2, "wait", {"req": 0}), (2, "send", {"to": 1, "tag": 1, "body": "b"}),
+    ]), "1 3 wait 2", "done from 0 tag 1 61 | done from 2 tag 1 62 | pending", "done from 2 tag 1 62 | pending"),
+    # Rank 0 may pass the revocation on before it sends. Only then is rank 1 freed without a letter of others.
+    ("passed_on_first", job_text(3, 4, [
+        (0, "send", {"to": 1, "tag": 0, "body": "a"}),
+        (1, "dup", {}), (1, "recv", {"from": 0, "comm": 1}), (1, "wait", {"req": 1}),
+        (1, "send", {"to": 1, "tag": 0, "body": "b"}), (1, "recv", {}), (1, "wait", {"req": 4}),
+        (2, "dup", {}), (2, "send", {"to": 1, "tag": 0, "body": "c"}), (2, "revoke", {"comm": 1}), (2, "stop", {}),
+    ]), "1 5 wait 4", *["done from 0 tag 0 61 | done from 1 tag 0 62 | done from 2 tag 0 63 | pending"] * 2),
+    # The revocation follows the letter in time, and may still come to rank 1 first.
+    ("revoked_first", job_text(3, 1, [
+        (0, "send", {"to": 1, "tag": 0, "body": "a"}), (0, "send", {"to": 2, "tag": 0, "body": "b"}),
+        (1, "recv", {"from": 0}), (1, "wait", {"req": 0}),
+        (2, "recv", {"from": 0}), (2, "wait", {"req": 0}), (2, "revoke", {}),
+    ]), "1 1 wait 0", *["done from 0 tag 0 61 | over 6 Revoked | refused 7 NoRequest"] * 2),
+    # What was sent may be lost with its sender.
+    ("lost_letter", job_text(2, 1, [
+        (0, "send", {"to": 1, "tag": 0, "body": "a"}), (0, "stop", {}), (1, "recv", {"from": 0}), (1, "wait", {"req": 0}),
+    ]), "1 1 wait 0", *["done from 0 tag 0 61 | over 5 ProcFailed"] * 2),
+    # Both letters may be kept, in either order, before a receive asks for any.
+    ("kept_in_order", job_text(3, 2, [
+        (0, "send", {"to": 2, "tag": 1, "body": "a"}), (0, "send", {"to": 2, "tag": 2, "body": "c"}),
+        (1, "send", {"to": 2, "tag": 1, "body": "b"}),
+        (2, "recv", {"from": 0, "tag": 2}), (2, "wait", {"req": 0}), (2, "recv", {"tag": 1}), (2, "wait", {"req": 2}),
+    ]), "2 3 wait 2", *["done from 0 tag 1 61 | done from 1 tag 1 62"] * 2),
+]
+
+
+class Maker:
+    """Makes one job, piece by piece, out of a source of chance."""
+
+    def __init__(self, chance):
+        self.chance = chance
+        self.ranks = chance.choice([2, 3, 3, 3, 4])
+        self.capacity = chance.choice([1, 1, 1, 2])
+        self.steps = []
+        self.comms = {rank: [0] for rank in range(self.ranks)}
+
+    def add(self, rank, op, **keys):
+        """One more step, whose number of its rank this gives."""
+        if keys.get("comm") == 0:
+            del keys["comm"]
+        self.steps.append((rank, op, keys))
+        return sum(1 for step in self.steps if step[0] == rank) - 1
+
+    def rank(self):
+        return self.chance.randrange(self.ranks)
+
+    def comm(self, rank):
+        """A communicator that the rank asked for, the latest one as a rule."""
+        return self.chance.choice(self.comms[rank][-2:])
+
+    def send(self, sender=None, to=None, tag=None, comm=None):
+        sender = self.rank() if sender is None else sender
+        to = self.rank() if to is None else to
+        tag = self.chance.randrange(2) if tag is None else tag
+        self.add(sender, "send", to=to, tag=tag, body=chr(97 + len(self.steps)), comm=self.comm(sender) if comm is None else comm)
+
+    def recv(self, rank=None, source=None, tag=None, comm=None):
+        rank = self.rank() if rank is None else rank
+        keys = {"comm": self.comm(rank) if comm is None else comm}
+        if self.chance.random() < 0.5:
+            keys["from"] = self.rank() if source is None else source
+        if self.chance.random() < 0.3:
+            keys["tag"] = self.chance.randrange(2) if tag is None else tag
+        if self.chance.random() < 0.05:
+            keys["room"] = 0
+        return rank, self.add(rank, "recv", **keys)
+
+    def letter(self):
+        """A send and a receive that is waited for, in some order. Now and then nothing is sent."""
+        sender, to, tag = self.rank(), self.rank(), self.chance.randrange(2)
+        comm = self.comm(sender)
+        order = self.chance.choice(["before", "before", "behind", "behind", "both", "never"])
+        if order in ("before", "both"):
+            self.send(sender, to, tag, comm)
+        number = self.recv(to, sender, tag, comm)[1]
+        if order in ("behind", "both"):
+            self.send(sender, to, tag, comm)
+        self.add(to, "wait", req=number)
+
+    def receive(self):
+        rank, number = self.recv()
+        if self.chance.random() < 0.8:
+            self.add(rank, "wait", req=number)
+
+    def wait_again(self):
+        posts = [(step[0], at) for at, step in enumerate(self.steps) if step[1] == "recv"]
+        if posts:
+            rank, at = self.chance.choice(posts)
+            self.add(rank, "wait", req=sum(1 for step in self.steps[:at] if step[0] == rank))
+
+    def shrink(self):
+        """A shrink by all or by some. Who stopped before takes no part."""
+        comm = self.comm(self.rank())
+        for rank in range(self.ranks):
+            if self.chance.random() < 0.9:
+                self.add(rank, "shrink", comm=comm)
+                self.comms[rank].append(2 * comm + 2)
+
+    def dup(self):
+        comm = self.comm(self.rank())
+        for rank in range(self.ranks):
+            if self.chance.random() < 0.6:
+                self.add(rank, "dup", comm=comm)
+                self.comms[rank].append(2 * comm + 1)
+
+    def late_letter(self):
+        """A letter of a rank that stops, and one of a rank that knows of the stop, both for any receive of a third."""
+        if self.ranks < 3 or self.steps:
+            return
+        first, second, third = self.chance.sample(range(self.ranks), 3)
+        self.send(first, third)
+        self.add(first, "stop")
+        self.add(second, "wait", req=self.recv(second, first)[1])
+        self.send(second, third)
+        for _ in range(2):
+            self.add(third, "wait", req=self.recv(third, first)[1])
+
+    def of_comm(self, op, **keys):
+        rank = self.rank()
+        self.add(rank, op, comm=self.comm(rank), **keys)
+
+    def piece(self):
+        """One more piece of the job."""
+        pieces = [
+            (8, self.letter), (3, self.send), (3, self.receive), (2, self.wait_again), (3, self.shrink), (1, self.dup),
+            (2, lambda: self.of_comm("revoke")), (1, lambda: self.of_comm("failed")),
+            (2, lambda: self.of_comm("ack", count=self.chance.randrange(1, 3))), (3, lambda: self.add(self.rank(), "stop")),
+            (4, self.late_letter),
+        ]
+        self.chance.choices([piece for _, piece in pieces], [weight for weight, _ in pieces])[0]()
+
+    def text(self):
+        while len(self.steps) < MOST_STEPS - 3:
+            self.piece()
+        return job_text(self.ranks, self.capacity, self.steps[:MOST_STEPS])
+
+
+def made_up(chance):
+    """The text of a made-up job."""
+    return Maker(chance).text()

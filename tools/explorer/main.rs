@@ -1,0 +1,88 @@
+//! All outcomes of a job, over every schedule. `tools/explore` builds this and calls it with the job, in the plain form, on standard
+//! input. It shares no code with the program that it checks, and nothing of it is proved.
+//!
+//!     explorer [--carrier lanes|shared] [--reduce NAMES] [--limit N] [--capacity N] [--count]
+
+mod ahead;
+mod calls;
+mod carriers;
+mod communicators;
+mod failures;
+mod first;
+mod group;
+mod items;
+mod job;
+mod late;
+mod list;
+mod matching;
+mod part;
+mod rank;
+mod reductions;
+mod revocation;
+mod search;
+mod shrink;
+mod words;
+mod world;
+
+use carriers::Carrier;
+use job::Job;
+use reductions::Reductions;
+use search::Search;
+use std::io::Read;
+use std::process::exit;
+
+/// What the words of the command line ask for.
+struct Asked {
+    carrier: Carrier,
+    reductions: Reductions,
+    limit: usize,
+    capacity: Option<usize>,
+    counts_only: bool,
+}
+
+fn asked(mut words: impl Iterator<Item = String>) -> Option<Asked> {
+    let reductions = Reductions::named("key,late")?;
+    let mut asked =
+        Asked { carrier: Carrier::Lanes, reductions, limit: 1_000_000, capacity: None, counts_only: false };
+    while let Some(word) = words.next() {
+        match word.as_str() {
+            "--carrier" => {
+                asked.carrier = match words.next()?.as_str() {
+                    "lanes" => Carrier::Lanes,
+                    "shared" => Carrier::Shared,
+                    _ => return None,
+                }
+            }
+            "--reduce" => asked.reductions = Reductions::named(&words.next()?)?,
+            "--limit" => asked.limit = words.next()?.parse().ok()?,
+            "--capacity" => asked.capacity = Some(words.next()?.parse().ok()?),
+            "--count" => asked.counts_only = true,
+            _ => return None,
+        }
+    }
+    Some(asked)
+}
+
+/// The list, or the line that there are too many states; the status is 7 then.
+fn main() {
+    let Some(asked) = asked(std::env::args().skip(1)) else {
+        eprintln!("explorer: [--carrier lanes|shared] [--reduce NAMES] [--limit N] [--capacity N] [--count]");
+        exit(2)
+    };
+    let mut text = String::new();
+    let read = std::io::stdin().read_to_string(&mut text).map_err(|error| error.to_string());
+    let mut job = match read.and_then(|_| Job::read(&text)) {
+        Ok(job) => job,
+        Err(line) => {
+            eprintln!("explorer: this line isn't of a job: {line}");
+            exit(1)
+        }
+    };
+    job.capacity = asked.capacity.unwrap_or(job.capacity);
+    let mut search = Search::new(&job, asked.carrier, asked.reductions);
+    if !search.run(asked.limit) {
+        println!("more than {} states", asked.limit);
+        exit(7)
+    }
+    println!("{}", if asked.counts_only { search.count() } else { search.list() });
+}

@@ -1,0 +1,106 @@
+//! What one rank holds.
+
+use crate::group::Group;
+use crate::items::{Item, Letter, Refusal};
+use crate::job::{Context, Place};
+use std::collections::{BTreeMap, VecDeque};
+use std::hash::{DefaultHasher, Hash, Hasher};
+
+/// The sources that a receive asks for, as ranks of the world.
+#[derive(Clone, Copy, Debug, PartialEq, Eq, Hash)]
+pub enum Source {
+    One(Place),
+    /// Any member of the communicator's group.
+    Any(Group),
+}
+
+/// What a receive asks for (MPI 4.0, 3.2.4).
+#[derive(Clone, Copy, Debug, PartialEq, Eq, Hash)]
+pub struct Pattern {
+    pub context: Context,
+    pub source: Source,
+    pub tag: Option<u16>,
+    pub room: u16,
+}
+
+/// What became of a receive.
+#[derive(Clone, Copy, Debug, PartialEq, Eq, Hash)]
+pub enum Fate {
+    Waiting,
+    Paired(Letter),
+    Over(Refusal),
+}
+
+/// One rank. Two ranks that are equal by `Hash` go on alike.
+#[derive(Clone, Debug, Hash)]
+pub struct Rank {
+    pub me: Place,
+    /// How many of its steps are answered.
+    pub answered: usize,
+    /// Whether the next step is a shrink that was entered.
+    pub is_open: bool,
+    pub stopped: bool,
+    /// The communicators that were made here.
+    pub groups: BTreeMap<Context, Group>,
+    /// The ranks that are known to have failed, in the order of their notices.
+    pub known: Vec<Place>,
+    /// How many failures were acknowledged for a communicator, where some were.
+    pub acknowledged: BTreeMap<Context, u8>,
+    /// The contexts that are revoked here, a bit for each.
+    pub revoked: u64,
+    /// The requests that weren't released, by the steps that posted them, and so in the order of the posts.
+    pub requests: BTreeMap<u16, (Pattern, Fate)>,
+    /// The letters that came before a receive that admits them, in the order in which they came.
+    pub kept: Vec<Letter>,
+    /// The entries into shrinks that are known here, by context and rank, the rank's own too.
+    pub entries: BTreeMap<(Context, Place), Group>,
+    /// What the rank owes to each rank and hasn't pushed.
+    pub outboxes: Vec<VecDeque<Item>>,
+    /// What the rank did and took, in order. It stays 0 where states are told apart by what they hold.
+    pub log: u64,
+}
+
+impl Rank {
+    /// A rank before its first step.
+    pub fn start(me: Place, ranks: usize) -> Rank {
+        Rank {
+            me,
+            answered: 0,
+            is_open: false,
+            stopped: false,
+            groups: BTreeMap::from([(0, Group::world(ranks))]),
+            known: vec![],
+            acknowledged: BTreeMap::new(),
+            revoked: 0,
+            requests: BTreeMap::new(),
+            kept: vec![],
+            entries: BTreeMap::new(),
+            outboxes: vec![VecDeque::new(); ranks],
+            log: 0,
+        }
+    }
+
+    /// Puts an item into the outbox for each of these ranks.
+    pub fn owe(&mut self, to: impl Iterator<Item = Place>, item: Item) {
+        for rank in to {
+            self.outboxes[rank as usize].push_back(item);
+        }
+    }
+
+    /// Writes into the log what happened.
+    pub fn note<T: Hash>(&mut self, happened: &T) {
+        let mut hasher = DefaultHasher::new();
+        (self.log, happened).hash(&mut hasher);
+        self.log = hasher.finish();
+    }
+
+    /// The rank with nothing of what only its own calls would ask for. What it owes stays, and which contexts are revoked.
+    pub fn forget(&mut self) {
+        self.groups.clear();
+        self.known.clear();
+        self.acknowledged.clear();
+        self.requests.clear();
+        self.kept.clear();
+        self.entries.clear();
+    }
+}
