@@ -57,12 +57,16 @@ impl World {
         found
     }
 
-    /// Whether a receive from any source waits in a context at a rank, or may still be posted there.
+    /// Whether a receive from any source waits in a context at a rank, or may still be posted there, or such a probe be made.
     pub fn may_receive_from_any(&self, job: &Job, rank: usize, context: Context) -> bool {
         let waits = self.ranks[rank].requests.values().any(|(pattern, fate)| {
             *fate == Fate::Waiting && pattern.context == context && matches!(pattern.source, Source::Any(_))
         });
-        let asks = |step: &Step| matches!(step, Step::Recv { from: None, comm, .. } if *comm == context);
-        waits || self.steps_ahead(job, rank).iter().any(asks)
+        waits || self.steps_ahead(job, rank).iter().any(|step| step.asks_any(context))
+    }
+
+    /// Whether a rank may still cancel a receive.
+    pub fn may_cancel(&self, job: &Job, rank: usize) -> bool {
+        self.steps_ahead(job, rank).iter().any(|step| matches!(step, Step::Cancel { .. }))
     }
 }

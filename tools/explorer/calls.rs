@@ -20,6 +20,7 @@ impl Rank {
     pub fn poll(&mut self, job: &Job, step: Step, decisions: &mut Decisions) -> Poll {
         let poll = match step {
             Step::Wait { req } => self.wait(job, req).map_or(Poll::Open, Poll::Answered),
+            Step::Probe { .. } => self.probe(job, step).map_or(Poll::Open, Poll::Answered),
             Step::Shrink { comm } if self.is_open => {
                 self.decide(comm, decisions).map_or(Poll::Open, Poll::Answered)
             }
@@ -41,12 +42,14 @@ impl Rank {
         match step {
             Step::Send { .. } => self.send(job, step),
             Step::Recv { .. } => self.post(step),
+            Step::Mrecv { req, room } => self.mrecv(job, req, room),
+            Step::Cancel { req } => self.cancel(job, req),
             Step::Failed { comm } => self.failed(comm),
             Step::Ack { count, comm } => self.ack(count, comm),
             Step::Revoke { comm } => self.revoke(comm),
             Step::Dup { comm } => self.dup(comm),
             Step::Stop => Ok(self.stop()),
-            Step::Wait { .. } | Step::Shrink { .. } => unreachable!(),
+            Step::Wait { .. } | Step::Probe { .. } | Step::Shrink { .. } => unreachable!(),
         }
     }
 

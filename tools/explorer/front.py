@@ -44,8 +44,12 @@ def words_of(step):
         return [op, step["to"], step["tag"], body, comm]
     if op == "recv":
         return [op, step.get("from", "any"), step.get("tag", "any"), step.get("room", 1024), comm]
-    if op == "wait":
+    if op == "probe":
+        return [op, step.get("from", "any"), step.get("tag", "any"), comm]
+    if op in ("wait", "cancel"):
         return [op, step["req"]]
+    if op == "mrecv":
+        return [op, step["req"], step.get("room", 1024)]
     if op == "ack":
         return [op, step["count"], comm]
     return [op] if op == "stop" else [op, comm]

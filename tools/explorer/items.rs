@@ -48,6 +48,9 @@ pub enum Answer {
     Done(Place, u16, Body),
     Over(Refusal),
     Pending,
+    /// The source's position, the tag, and how many bytes the letter has.
+    Found(Place, u16, usize),
+    Cancelled,
     /// Positions, in the order of the notices.
     Ranks(Vec<Place>),
     Acked(u8),

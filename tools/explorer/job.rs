@@ -20,6 +20,9 @@ pub enum Step {
     Send { to: Place, tag: u16, body: Body, comm: Context },
     Recv { from: Option<Place>, tag: Option<u16>, room: u16, comm: Context },
     Wait { req: u16 },
+    Probe { from: Option<Place>, tag: Option<u16>, comm: Context },
+    Mrecv { req: u16, room: u16 },
+    Cancel { req: u16 },
     Failed { comm: Context },
     Ack { count: u8, comm: Context },
     Revoke { comm: Context },
@@ -35,6 +38,16 @@ pub struct Job {
     pub steps: Vec<Vec<Step>>,
     /// Each body once, in lower case hexadecimal digits.
     pub bodies: Vec<String>,
+}
+
+impl Step {
+    /// Whether it may take a letter of any source in a context.
+    pub fn asks_any(&self, context: Context) -> bool {
+        match *self {
+            Step::Recv { from: None, comm, .. } | Step::Probe { from: None, comm, .. } => comm == context,
+            _ => false,
+        }
+    }
 }
 
 impl Job {
@@ -67,6 +80,12 @@ impl Job {
                 Step::Recv { from, tag, room: number(words)?, comm: context(words)? }
             }
             "wait" => Step::Wait { req: number(words)? },
+            "probe" => {
+                let (from, tag) = (number_or_any(words)?, number_or_any(words)?);
+                Step::Probe { from, tag, comm: context(words)? }
+            }
+            "mrecv" => Step::Mrecv { req: number(words)?, room: number(words)? },
+            "cancel" => Step::Cancel { req: number(words)? },
             "failed" => Step::Failed { comm: context(words)? },
             "ack" => Step::Ack { count: number(words)?, comm: context(words)? },
             "revoke" => Step::Revoke { comm: context(words)? },

@@ -1,5 +1,5 @@
-"""Made-up jobs: small ones, with what schedules can turn: stops, full inboxes, revocations, shrinks, receives from any source,
-duplicates and acknowledgements."""
+"""Made-up jobs: small ones, with what schedules can turn: stops, full inboxes, revocations, shrinks, receives and probes from any
+source, cancels, duplicates and acknowledgements."""
 
 MOST_STEPS = 12
 TURNS = 2000
@@ -45,6 +45,21 @@ CHOSEN = [
         (1, "send", {"to": 2, "tag": 1, "body": "b"}),
         (2, "recv", {"from": 0, "tag": 2}), (2, "wait", {"req": 0}), (2, "recv", {"tag": 1}), (2, "wait", {"req": 2}),
     ]), "2 3 wait 2", *["done from 0 tag 1 61 | done from 1 tag 1 62"] * 2),
+    # The same, before a probe asks for any.
+    ("probed_in_order", job_text(3, 2, [
+        (0, "send", {"to": 2, "tag": 1, "body": "a"}), (0, "send", {"to": 2, "tag": 2, "body": "c"}),
+        (1, "send", {"to": 2, "tag": 1, "body": "b"}),
+        (2, "recv", {"from": 0, "tag": 2}), (2, "wait", {"req": 0}), (2, "probe", {"tag": 1}), (2, "mrecv", {"req": 2}),
+    ]), "2 3 mrecv 2", *["done from 0 tag 1 61 | done from 1 tag 1 62"] * 2),
+    # A letter that only a receive by name can get comes before the cancel, or behind it.
+    ("cancelled_or_late", job_text(2, 1, [
+        (0, "send", {"to": 1, "tag": 0, "body": "a"}),
+        (1, "recv", {"from": 0}), (1, "cancel", {"req": 0}), (1, "probe", {"from": 0}),
+    ]), "1 1 cancel 0", *["cancelled | done from 0 tag 0 61"] * 2),
+    # A probe waits for a letter, which a revocation or a stop may keep away.
+    ("probed_or_not", job_text(3, 1, [
+        (0, "send", {"to": 1, "tag": 0, "body": "a"}), (0, "stop", {}), (1, "probe", {"from": 0}), (2, "revoke", {}),
+    ]), "1 0 probe 0 tag any comm 0", *["found from 0 tag 0 length 1 | refused 5 ProcFailed | refused 6 Revoked"] * 2),
 ]
 
 
@@ -106,11 +121,36 @@ class Maker:
         if self.chance.random() < 0.8:
             self.add(rank, "wait", req=number)
 
-    def wait_again(self):
-        posts = [(step[0], at) for at, step in enumerate(self.steps) if step[1] == "recv"]
+    def probe(self):
+        """A letter, and a probe that may find it, with a receive of what it finds. Now and then another receive stands between."""
+        sender, to, tag = self.rank(), self.rank(), self.chance.randrange(2)
+        comm = self.comm(sender)
+        self.send(sender, to, tag, comm)
+        keys = {"comm": comm}
+        if self.chance.random() < 0.5:
+            keys["from"] = sender
+        if self.chance.random() < 0.3:
+            keys["tag"] = tag
+        number = self.add(to, "probe", **keys)
+        if self.chance.random() < 0.3:
+            self.recv(to, sender, tag, comm)
+        self.add(to, "mrecv", req=number, **({"room": 0} if self.chance.random() < 0.1 else {}))
+
+    def named(self, op, ops):
+        """A step with this op, which names a step with one of these."""
+        posts = [(step[0], at) for at, step in enumerate(self.steps) if step[1] in ops]
         if posts:
             rank, at = self.chance.choice(posts)
-            self.add(rank, "wait", req=sum(1 for step in self.steps[:at] if step[0] == rank))
+            self.add(rank, op, req=sum(1 for step in self.steps[:at] if step[0] == rank))
+
+    def cancel(self):
+        """A cancel of a receive, new or old, now and then of a probe."""
+        if self.chance.random() < 0.5:
+            self.recv()
+        self.named("cancel", ["recv", "probe"])
+
+    def wait_again(self):
+        self.named("wait", ["recv"])
 
     def shrink(self):
         """A shrink by all or by some. Who stopped before takes no part."""
@@ -149,7 +189,7 @@ class Maker:
             (8, self.letter), (3, self.send), (3, self.receive), (2, self.wait_again), (3, self.shrink), (1, self.dup),
             (2, lambda: self.of_comm("revoke")), (1, lambda: self.of_comm("failed")),
             (2, lambda: self.of_comm("ack", count=self.chance.randrange(1, 3))), (3, lambda: self.add(self.rank(), "stop")),
-            (4, self.late_letter),
+            (4, self.late_letter), (4, self.probe), (3, self.cancel),
         ]
         self.chance.choices([piece for _, piece in pieces], [weight for weight, _ in pieces])[0]()
 

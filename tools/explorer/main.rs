@@ -15,6 +15,7 @@ mod job;
 mod late;
 mod list;
 mod matching;
+mod messages;
 mod part;
 mod rank;
 mod reductions;

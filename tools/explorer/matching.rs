@@ -36,20 +36,35 @@ impl Rank {
     /// known to have failed, it is over at once; else it waits.
     pub fn post(&mut self, step: Step) -> Result<Answer, Refusal> {
         let Step::Recv { from, tag, room, comm } = step else { unreachable!() };
-        let group = self.unrevoked_group(comm)?;
-        let source = match from {
-            Some(position) => Source::One(group.at(position).ok_or(Refusal::BadRank)?),
-            None => Source::Any(group),
-        };
-        let pattern = Pattern { context: comm, source, tag, room };
-        let kept = self.kept.iter().position(|letter| pattern.admits(letter));
-        let fate = match (kept, source) {
+        let pattern = self.pattern(comm, from, tag, room)?;
+        let fate = match (self.earliest_for(&pattern), pattern.source) {
             (Some(at), _) => Fate::Paired(self.kept.remove(at)),
             (None, Source::One(rank)) if self.knows(rank) => Fate::Over(Refusal::ProcFailed),
             _ => Fate::Waiting,
         };
         self.requests.insert(self.answered as u16, (pattern, fate));
         Ok(Answer::Posted)
+    }
+
+    /// What a receive or a probe asks for. It is refused 1, 6 and 2, in this order.
+    pub fn pattern(
+        &self,
+        comm: Context,
+        from: Option<Place>,
+        tag: Option<u16>,
+        room: u16,
+    ) -> Result<Pattern, Refusal> {
+        let group = self.unrevoked_group(comm)?;
+        let source = match from {
+            Some(position) => Source::One(group.at(position).ok_or(Refusal::BadRank)?),
+            None => Source::Any(group),
+        };
+        Ok(Pattern { context: comm, source, tag, room })
+    }
+
+    /// Where the earliest kept letter stands that a pattern admits.
+    pub fn earliest_for(&self, pattern: &Pattern) -> Option<usize> {
+        self.kept.iter().position(|letter| pattern.admits(letter))
     }
 
     /// A letter that came goes to the earliest waiting receive that admits it, else it is kept. On a revoked context it is
@@ -79,17 +94,24 @@ impl Rank {
         let Some((pattern, fate)) = self.requests.get(&req).copied() else {
             return Some(Answer::Refused(Refusal::NoRequest));
         };
-        let answer = match fate {
-            Fate::Waiting => return self.pends(&pattern).then_some(Answer::Pending),
-            Fate::Over(reason) => Answer::Over(reason),
-            Fate::Paired(letter) => self.told(job, &pattern, letter),
+        let Some(answer) = self.ended(job, &pattern, fate) else {
+            return self.pends(&pattern).then_some(Answer::Pending);
         };
         self.requests.remove(&req);
         Some(answer)
     }
 
+    /// What a receive tells that doesn't wait any more.
+    pub fn ended(&self, job: &Job, pattern: &Pattern, fate: Fate) -> Option<Answer> {
+        match fate {
+            Fate::Waiting => None,
+            Fate::Over(reason) => Some(Answer::Over(reason)),
+            Fate::Paired(letter) => Some(self.told(job, pattern, letter)),
+        }
+    }
+
     /// What a receive tells of its letter: one that is longer than the room is used up.
-    fn told(&self, job: &Job, pattern: &Pattern, letter: Letter) -> Answer {
+    pub fn told(&self, job: &Job, pattern: &Pattern, letter: Letter) -> Answer {
         if job.length(letter.body) > pattern.room as usize {
             return Answer::Over(Refusal::Truncated);
         }
@@ -98,7 +120,7 @@ impl Rank {
     }
 
     /// The position of a rank in the group of a communicator that was made, which has it.
-    fn position_in(&self, comm: Context, rank: Place) -> Place {
+    pub fn position_in(&self, comm: Context, rank: Place) -> Place {
         self.groups[&comm].position_of(rank).expect("the receive admitted it")
     }
 }

@@ -50,6 +50,8 @@ pub struct Rank {
     pub revoked: u64,
     /// The requests that weren't released, by the steps that posted them, and so in the order of the posts.
     pub requests: BTreeMap<u16, (Pattern, Fate)>,
+    /// What probes found and no receive was given, by the steps that probed.
+    pub messages: BTreeMap<u16, (Pattern, Letter)>,
     /// The letters that came before a receive that admits them, in the order in which they came.
     pub kept: Vec<Letter>,
     /// The entries into shrinks that are known here, by context and rank, the rank's own too.
@@ -73,6 +75,7 @@ impl Rank {
             acknowledged: BTreeMap::new(),
             revoked: 0,
             requests: BTreeMap::new(),
+            messages: BTreeMap::new(),
             kept: vec![],
             entries: BTreeMap::new(),
             outboxes: vec![VecDeque::new(); ranks],
@@ -100,6 +103,7 @@ impl Rank {
         self.known.clear();
         self.acknowledged.clear();
         self.requests.clear();
+        self.messages.clear();
         self.kept.clear();
         self.entries.clear();
     }

@@ -11,6 +11,9 @@ pub fn step_words(step: &Step) -> String {
             format!("recv {} tag {} comm {comm}", or_any(from), or_any(tag))
         }
         Step::Wait { req } => format!("wait {req}"),
+        Step::Probe { from, tag, comm } => format!("probe {} tag {} comm {comm}", or_any(from), or_any(tag)),
+        Step::Mrecv { req, .. } => format!("mrecv {req}"),
+        Step::Cancel { req } => format!("cancel {req}"),
         Step::Failed { comm } => format!("failed comm {comm}"),
         Step::Ack { count, comm } => format!("ack {count} comm {comm}"),
         Step::Revoke { comm } => format!("revoke comm {comm}"),
@@ -32,6 +35,8 @@ pub fn answer_words(job: &Job, answer: &Answer) -> String {
         }
         Answer::Over(refusal) => format!("over {}", refusal_words(*refusal)),
         Answer::Pending => "pending".to_string(),
+        Answer::Found(source, tag, length) => format!("found from {source} tag {tag} length {length}"),
+        Answer::Cancelled => "cancelled".to_string(),
         Answer::Ranks(positions) => format!("ranks [{}]", parted(positions.iter())),
         Answer::Acked(total) => format!("acked {total}"),
         Answer::Revoked => "revoked".to_string(),

@@ -1,3 +1,4 @@
 pub mod Tally
+pub mod Sweep
 pub mod Replies
 pub mod inside

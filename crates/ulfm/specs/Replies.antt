@@ -1,4 +1,4 @@
--- What `replay` and `run` write for a job.
+-- What the program writes for a job.
 use Rattle.std.specs.Prelude.{◌≡◌, ◌≢◌, ℕ, Bool, List, length, map, take, Option, Some, None, Ok, Err, All}
 use Rattle.std.specs.List.{list_any}
 use Rattle.std.specs.Option.{option_map_or}
@@ -13,10 +13,11 @@ use Rattle.ulfm_script.specs.Trace.{trace_of}
 use Rattle.ulfm_laws.specs.Lawful.{IsLawful}
 use Rattle.ulfm_run.specs.Fault.{ShowUntrue}
 use Rattle.ulfm_world.specs.Replay.{IsReplayed, MadeAtRest}
+use Rattle.ulfm.specs.Sweep.{IsSweepReply}
 use Rattle.ulfm.specs.Tally.{tally, tally_text}
 use Rattle.ulfm_replies.specs.declared.command.RunOptions.{RunOptions}
 use Rattle.ulfm_replies.specs.declared.command.Wanted.{Wanted}
-use Rattle.ulfm_replies.specs.declared.command.Wanted.TheVariants.{Check, Replay, Run}
+use Rattle.ulfm_replies.specs.declared.command.Wanted.TheVariants.{Check, Replay, Run, Sweep}
 use Rattle.ulfm_replies.specs.Failure.{failed_text, out_of_memory_text}
 use Rattle.ulfm_replies.specs.Replies.{refused_text, IsCheckReply}
 use Rattle.ulfm_replies.specs.Unfinished.{has_unfinished, played_status}
@@ -60,6 +61,7 @@ abbrev pub IsReplyTo : Wanted → List ℕ → ℕ → List ℕ → Type 0
 IsReplyTo Check bytes status text = IsCheckReply bytes status text
 IsReplyTo (Replay is_strict) bytes status text = IsReplayReply is_strict bytes status text
 IsReplyTo (Run options) bytes status text = IsRunReply options bytes status text
+IsReplyTo Sweep bytes status text = IsSweepReply bytes status text
 
 -- the status of a reply that was written whole: the output didn't fail, and neither did the input
 abbrev pub IsWhole : ℕ → Type 0

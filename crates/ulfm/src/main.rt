@@ -4,6 +4,7 @@
 mod front;
 mod reply;
 mod run;
+mod swept;
 mod tally;
 
 use std::env;

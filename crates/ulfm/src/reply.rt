@@ -4,6 +4,7 @@ ghost use Rattle.ulfm.specs.Replies.{IsReplayReply, IsReplyTo};
 ghost use Rattle.ulfm_replies.specs.Words.{HasRanges};
 
 use crate::run::run_reply;
+use crate::swept::sweep_reply;
 use std::alloc::{AllocError, Global};
 use std::sync::Wait;
 use std::thread::Threads;
@@ -39,5 +40,6 @@ pub fn reply_to<R: Threads + Wait + Sync>(
         Wanted::Check => check_reply(alloc, bytes),
         Wanted::Replay { is_strict } => replay_reply(alloc, is_strict, bytes),
         Wanted::Run(options) => run_reply(rt, alloc, options, bytes),
+        Wanted::Sweep => sweep_reply(alloc, bytes),
     }
 }

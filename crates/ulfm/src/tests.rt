@@ -4,12 +4,14 @@ ghost use Rattle.std.specs.Prelude.{◌≤◌};
 mod broken;
 mod notes;
 mod options;
+mod probes;
 mod refused;
 mod rows;
 mod runs;
 mod schedule_steps;
 mod schedule_turns;
 mod streams;
+mod sweeps;
 
 use crate::front::run_on;
 use std::io;

@@ -30,7 +30,7 @@ pub record Answers (board : Option (List ℕ)) (old : List (Option Decision)) (d
   pub known_now : known_at new d.context.number ≡ Some held
   pub others_stay : new ≡ with_known old d.context.number held
 
--- memory is wanted for a shared cell alone of which nothing is known
+-- out of memory: for a shared cell alone, of which nothing is known
 pub record Starves (board : Option (List ℕ)) (known : List (Option Decision)) (c : ℕ) : Type 0 where
   pub shares : IsSome board
   pub unknown : known_at known c ≡ None

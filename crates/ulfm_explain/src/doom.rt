@@ -18,16 +18,18 @@ pub enum Doom {
     NoContext(i64, &'static str),
     /// The same op on the same communicator as the earlier step of this number.
     Again(i64, &'static str, usize),
-    /// A wait for a step that its rank doesn't have.
+    /// A `req` that names a step that its rank doesn't have.
     NoSuchStep(i64),
-    /// A wait for itself.
+    /// A `req` that names its own step.
     Itself(i64),
-    /// A wait for a later step.
+    /// A `req` that names a later step.
     Later(i64),
-    /// A wait for a step that is no receive, but has this op.
-    NoReceive(i64, &'static str),
-    /// A wait for a receive that will be refused itself.
-    RefusedReceive(i64),
+    /// A `req` that has to name a step with the first op, and names one with the second.
+    AnotherOp(i64, &'static str, &'static str),
+    /// A `req` that names a step with this op, which will be refused itself.
+    RefusedStep(i64, &'static str),
+    /// A `req` of which the earlier step with this op and number leaves nothing.
+    UsedUp(i64, &'static str, usize),
 }
 
 impl Doom {
@@ -41,8 +43,9 @@ impl Doom {
             Doom::NoSuchStep(_)
             | Doom::Itself(_)
             | Doom::Later(_)
-            | Doom::NoReceive(_, _)
-            | Doom::RefusedReceive(_) => Key::Req,
+            | Doom::AnotherOp(_, _, _)
+            | Doom::RefusedStep(_, _)
+            | Doom::UsedUp(_, _, _) => Key::Req,
         }
     }
 }
@@ -56,6 +59,21 @@ impl fmt::Display for Maker {
         let parent = self.0.saturating_sub(1) / 2;
         let op = if self.0 % 2 == 1 { "dup" } else { "shrink" };
         write!(f, "a {op} of {parent}")
+    }
+}
+
+/// An op behind its article.
+#[derive(Clone, Copy)]
+struct An(&'static str);
+
+impl fmt::Display for An {
+    fn fmt<W: fmt::Write>(&self, f: &mut fmt::Formatter<W>) -> fmt::Result {
+        let op = self.0;
+        if op == "ack" || op == "mrecv" {
+            write!(f, "an {op}")
+        } else {
+            write!(f, "a {op}")
+        }
     }
 }
 
@@ -115,16 +133,24 @@ impl fmt::Display for Doom {
                     "key 'req' is {req}, and step {req} of its rank comes later; {COUNTED}"
                 )
             }
-            Doom::NoReceive(req, op) => {
+            Doom::AnotherOp(req, wanted, op) => {
+                let found = An(*op);
                 write!(
                     f,
-                    "key 'req' is {req}, and step {req} of its rank is no recv but a {op}; {COUNTED}"
+                    "key 'req' is {req}, and step {req} of its rank is no {wanted} but {found}; {COUNTED}"
                 )
             }
-            Doom::RefusedReceive(req) => {
+            Doom::RefusedStep(req, op) => {
                 write!(
                     f,
-                    "key 'req' is {req}, and the recv that is step {req} of its rank will be refused"
+                    "key 'req' is {req}, and the {op} that is step {req} of its rank will be refused"
+                )
+            }
+            Doom::UsedUp(req, op, step) => {
+                let used = An(*op);
+                write!(
+                    f,
+                    "key 'req' is {req}, and step {step} of its rank, {used}, uses up what that one left"
                 )
             }
         }

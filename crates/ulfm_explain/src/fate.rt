@@ -38,6 +38,11 @@ fn comm_of(step: &Value) -> i64 {
     }
 }
 
+/// The step that a step names.
+fn req_of(step: &Value) -> Option<i64> {
+    integer_at(step.as_table()?, Key::Req)
+}
+
 /// Whether a step makes this communicator, if it isn't refused.
 fn makes(step: &Value, comm: i64) -> bool {
     let twice = comm_of(step).saturating_mul(2);
@@ -73,13 +78,15 @@ impl<'a> Placed<'a> {
     /// Why it will be refused, if it surely will.
     pub fn doom(&self) -> Option<Doom> {
         match op_of(self.step) {
-            Some("wait") => self.doom_of_wait(),
+            Some("wait") => self.doom_of_req("recv", "cancel"),
+            Some("cancel") => self.doom_of_req("recv", "cancel"),
+            Some("mrecv") => self.doom_of_req("probe", "mrecv"),
             Some(op) => self.doom_of_call(op),
             None => None,
         }
     }
 
-    /// Why a call other than a wait will be refused.
+    /// Why a call that names no earlier step will be refused.
     fn doom_of_call(&self, op: &'static str) -> Option<Doom> {
         if op == "stop" {
             return None;
@@ -143,14 +150,15 @@ impl<'a> Placed<'a> {
         if is_making && comm > LAST_PARENT {
             return Some(Doom::NoContext(comm, op));
         }
-        if op == "send" || op == "recv" || op == "dup" {
+        if op == "send" || op == "recv" || op == "probe" || op == "dup" {
             return revoked.or(again);
         }
         again
     }
 
-    /// A `req` that names no receive, none that comes earlier, or one that will be refused.
-    fn doom_of_wait(&self) -> Option<Doom> {
+    /// A `req` that names no step with the wanted op, none that comes earlier, one that will be refused, or one of which
+    /// an earlier step with the last op leaves nothing.
+    fn doom_of_req(&self, wanted: &'static str, last: &'static str) -> Option<Doom> {
         let req = integer_at(self.step.as_table()?, Key::Req)?;
         let Ok(number) = usize::try_from(req) else {
             return None;
@@ -165,15 +173,29 @@ impl<'a> Placed<'a> {
             return Some(Doom::Later(req));
         }
         let op = op_of(step)?;
-        if op != "recv" {
-            return Some(Doom::NoReceive(req, op));
+        if op != wanted {
+            return Some(Doom::AnotherOp(req, wanted, op));
         }
         let asked = Placed {
             number,
             step,
             ..*self
         };
-        asked.doom_of_call(op)?;
-        Some(Doom::RefusedReceive(req))
+        if asked.doom_of_call(op).is_some() {
+            return Some(Doom::RefusedStep(req, op));
+        }
+        let used = self.used_up_by(req, number, last)?;
+        Some(Doom::UsedUp(req, last, used))
+    }
+
+    /// The number of the earlier step of its rank that has this op and this `req`, and comes after the step that is named.
+    fn used_up_by(&self, req: i64, named: usize, op: &'static str) -> Option<usize> {
+        for number in named..self.number {
+            let earlier = self.sibling(number)?;
+            if op_of(earlier) == Some(op) && req_of(earlier) == Some(req) {
+                return Some(number);
+            }
+        }
+        None
     }
 }

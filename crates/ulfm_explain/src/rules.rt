@@ -27,7 +27,7 @@ pub enum Key {
     To,
     From,
     Tag,
-    /// The tag of a receive.
+    /// The tag of a receive or a probe.
     TagOrAny,
     Body,
     Room,
@@ -88,8 +88,9 @@ pub struct Rules {
 }
 
 /// The ops of steps.
-pub const OPS: [&str; 9] = [
-    "send", "recv", "wait", "failed", "ack", "revoke", "dup", "shrink", "stop",
+pub const OPS: [&str; 12] = [
+    "send", "recv", "wait", "probe", "mrecv", "cancel", "failed", "ack", "revoke", "dup", "shrink",
+    "stop",
 ];
 
 /// The keys of a job.
@@ -133,6 +134,13 @@ pub fn rules_of(op: &str) -> Option<Rules> {
             &[Key::From, Key::TagOrAny, Key::Room, Key::Comm],
         ),
         "wait" => ("wait", &[Key::Op, Key::Rank, Key::Req], &[]),
+        "probe" => (
+            "probe",
+            &[Key::Op, Key::Rank],
+            &[Key::From, Key::TagOrAny, Key::Comm],
+        ),
+        "mrecv" => ("mrecv", &[Key::Op, Key::Rank, Key::Req], &[Key::Room]),
+        "cancel" => ("cancel", &[Key::Op, Key::Rank, Key::Req], &[]),
         "failed" => ("failed", &[Key::Op, Key::Rank], &[Key::Comm]),
         "ack" => ("ack", &[Key::Op, Key::Rank, Key::Count], &[Key::Comm]),
         "revoke" => ("revoke", &[Key::Op, Key::Rank], &[Key::Comm]),

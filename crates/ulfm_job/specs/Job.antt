@@ -3,7 +3,7 @@ use Rattle.std.specs.Prelude.{◌≡◌, ◌<◌, ◌≤◌, ◌+◌, ◌&&◌, 
 use Rattle.std.specs.List.{insert}
 use Rattle.std.specs.declared.alloc.Global.{Global}
 use Rattle.ulfm_job.specs.declared.step.Step.{Step}
-use Rattle.ulfm_job.specs.declared.step.Step.TheVariants.{Wait, Stop}
+use Rattle.ulfm_job.specs.declared.step.Step.TheVariants.{Wait, Mrecv, Cancel, Stop}
 
 -- how many ranks there are, the room of an inbox, the most polls of one step, and the steps of each rank
 pub record Seen : Type 0 where
@@ -32,9 +32,15 @@ with_turns turns j = record j { turns = turns }
 abbrev pub script_at : Seen → ℕ → List Step
 script_at j r = slice_index_or j.scripts r []
 
--- a step of a script of n steps, once there is one more before the step `at`: a wait for a later one names it by its new number
+-- the number of a step of a script of n steps, once there is one more before the step `at`
+abbrev pub moved_number : ℕ → ℕ → ℕ → ℕ
+moved_number at n req = if nat_le at req && nat_lt req n then req + 1 else req
+
+-- a step of a script of n steps, once there is one more before the step `at`: where it names a later one, it names it by its new number
 abbrev pub moved_on : ℕ → ℕ → Step → Step
-moved_on at n (Wait req) = Wait (if nat_le at req && nat_lt req n then req + 1 else req)
+moved_on at n (Wait req) = Wait (moved_number at n req)
+moved_on at n (Mrecv req room) = Mrecv (moved_number at n req) room
+moved_on at n (Cancel req) = Cancel (moved_number at n req)
 moved_on at n step = step
 
 -- a script with a stop before its step `at`, or after its last one

@@ -2,14 +2,17 @@
 use Rattle.std.specs.Prelude.{◌==◌, ℕ, List, Option, map, option_map, filter}
 use Rattle.std.specs.List.{range_with_len}
 use Rattle.ulfm_job.specs.declared.step.Step.{Step}
-use Rattle.ulfm_job.specs.declared.step.Step.TheVariants.{Send, Recv, Wait, Failed, Ack, Revoke, Dup, Shrink, Stop}
+use Rattle.ulfm_job.specs.declared.step.Step.TheVariants.{Send, Recv, Wait, Probe, Mrecv, Cancel, Failed, Ack, Revoke, Dup, Shrink, Stop}
 use Rattle.ulfm_job.specs.Job.{Seen}
 
--- what a step asks for; communicators and tags are numbers, and a receive names a source and a tag or leaves them open
+-- what a step asks for; communicators and tags are numbers, and a receive or a probe names a source and a tag or leaves them open
 pub data Order : Type 0 where
   send : ℕ → ℕ → List ℕ → ℕ → Order
   recv : Option ℕ → Option ℕ → ℕ → ℕ → Order
   wait : ℕ → Order
+  probe : Option ℕ → Option ℕ → ℕ → Order
+  mrecv : ℕ → ℕ → Order
+  cancel : ℕ → Order
   failed : ℕ → Order
   ack : ℕ → ℕ → Order
   revoke : ℕ → Order
@@ -42,6 +45,9 @@ abbrev pub order_of : Step → Order
 order_of (Send to tag body comm) = send to tag.number body comm.number
 order_of (Recv from tag room comm) = recv from (option_map (λ t. t.number) tag) room comm.number
 order_of (Wait req) = wait req
+order_of (Probe from tag comm) = probe from (option_map (λ t. t.number) tag) comm.number
+order_of (Mrecv req room) = mrecv req room
+order_of (Cancel req) = cancel req
 order_of (Failed comm) = failed comm.number
 order_of (Ack count comm) = ack count comm.number
 order_of (Revoke comm) = revoke comm.number

@@ -5,7 +5,7 @@ use Rattle.toml.specs.Data.{Members}
 use Rattle.ulfm_job.specs.declared.fault.Fault.{Fault}
 use Rattle.ulfm_job.specs.declared.fault.Fault.TheVariants.{UnknownOp}
 use Rattle.ulfm_job.specs.Keys.{◌>>=◌, required_number, optional_number, required_text, only_keys, in_range, in_range_if_some}
-use Rattle.ulfm_job.specs.Plan.{Order, PlannedStep, send, recv, wait, failed, ack, revoke, dup, shrink, stop}
+use Rattle.ulfm_job.specs.Plan.{Order, PlannedStep, send, recv, wait, probe, mrecv, cancel, failed, ack, revoke, dup, shrink, stop}
 
 -- the step of a `send`
 unfoldable pub send_step : ℕ → Members → Result PlannedStep Fault
@@ -38,15 +38,41 @@ recv_step ranks ms = do
   comm ← in_range 0 62 (unwrap_or comm_key (pos 0))
   Ok (record { rank = rank; order = recv from tag room comm })
 
--- the step of a `wait`
-unfoldable pub wait_step : ℕ → Members → Result PlannedStep Fault
-wait_step ranks ms = do
+-- the step of an op that names an earlier step of its rank, and nothing else
+unfoldable pub step_on_req : (ℕ → Order) → ℕ → Members → Result PlannedStep Fault
+step_on_req order_on ranks ms = do
   rank_key ← required_number (codes "rank") ms
   req_key ← required_number (codes "req") ms
   keys ← only_keys (codes "op" ∷ codes "rank" ∷ codes "req" ∷ []) ms
   rank ← in_range 0 (ranks - 1) rank_key
   req ← in_range 0 255 req_key
-  Ok (record { rank = rank; order = wait req })
+  Ok (record { rank = rank; order = order_on req })
+
+-- the step of a `probe`
+unfoldable pub probe_step : ℕ → Members → Result PlannedStep Fault
+probe_step ranks ms = do
+  rank_key ← required_number (codes "rank") ms
+  from_key ← optional_number (codes "from") ms
+  tag_key ← optional_number (codes "tag") ms
+  comm_key ← optional_number (codes "comm") ms
+  keys ← only_keys (codes "op" ∷ codes "rank" ∷ codes "from" ∷ codes "tag" ∷ codes "comm" ∷ []) ms
+  rank ← in_range 0 (ranks - 1) rank_key
+  from ← in_range_if_some 7 from_key
+  tag ← in_range_if_some 32767 tag_key
+  comm ← in_range 0 62 (unwrap_or comm_key (pos 0))
+  Ok (record { rank = rank; order = probe from tag comm })
+
+-- the step of an `mrecv`
+unfoldable pub mrecv_step : ℕ → Members → Result PlannedStep Fault
+mrecv_step ranks ms = do
+  rank_key ← required_number (codes "rank") ms
+  req_key ← required_number (codes "req") ms
+  room_key ← optional_number (codes "room") ms
+  keys ← only_keys (codes "op" ∷ codes "rank" ∷ codes "req" ∷ codes "room" ∷ []) ms
+  rank ← in_range 0 (ranks - 1) rank_key
+  req ← in_range 0 255 req_key
+  room ← in_range 0 1024 (unwrap_or room_key (pos 1024))
+  Ok (record { rank = rank; order = mrecv req room })
 
 -- the step of an op that names a communicator, the world's where it is left out, and nothing else
 unfoldable pub step_on_comm : (ℕ → Order) → ℕ → Members → Result PlannedStep Fault
@@ -83,7 +109,10 @@ unfoldable pub step_of_op : ℕ → List ℕ → Members → Result PlannedStep 
 step_of_op ranks op ms =
     if bytes_eq op (codes "send") then send_step ranks ms
     else if bytes_eq op (codes "recv") then recv_step ranks ms
-    else if bytes_eq op (codes "wait") then wait_step ranks ms
+    else if bytes_eq op (codes "wait") then step_on_req wait ranks ms
+    else if bytes_eq op (codes "probe") then probe_step ranks ms
+    else if bytes_eq op (codes "mrecv") then mrecv_step ranks ms
+    else if bytes_eq op (codes "cancel") then step_on_req cancel ranks ms
     else if bytes_eq op (codes "failed") then step_on_comm failed ranks ms
     else if bytes_eq op (codes "ack") then ack_step ranks ms
     else if bytes_eq op (codes "revoke") then step_on_comm revoke ranks ms

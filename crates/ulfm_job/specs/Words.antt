@@ -3,7 +3,7 @@ use Rattle.std.specs.Prelude.{ℕ, List, ◌++◌, Option, Some, None, codes}
 use Rattle.std.specs.Fmt.{decimal}
 use Rattle.ulfm_base.specs.declared.tag.Tag.{Tag}
 use Rattle.ulfm_job.specs.declared.step.Step.{Step}
-use Rattle.ulfm_job.specs.declared.step.Step.TheVariants.{Send, Recv, Wait, Failed, Ack, Revoke, Dup, Shrink, Stop}
+use Rattle.ulfm_job.specs.declared.step.Step.TheVariants.{Send, Recv, Wait, Probe, Mrecv, Cancel, Failed, Ack, Revoke, Dup, Shrink, Stop}
 
 -- a source, or `any` where it is left open
 abbrev pub source_text : Option ℕ → List ℕ
@@ -20,6 +20,9 @@ abbrev pub step_text : Step → List ℕ
 step_text (Send to tag body comm) = codes "send " ++ decimal to ++ codes " tag " ++ decimal tag.number ++ codes " comm " ++ decimal comm.number
 step_text (Recv source tag room comm) = codes "recv " ++ source_text source ++ codes " tag " ++ tag_text tag ++ codes " comm " ++ decimal comm.number
 step_text (Wait req) = codes "wait " ++ decimal req
+step_text (Probe source tag comm) = codes "probe " ++ source_text source ++ codes " tag " ++ tag_text tag ++ codes " comm " ++ decimal comm.number
+step_text (Mrecv req room) = codes "mrecv " ++ decimal req
+step_text (Cancel req) = codes "cancel " ++ decimal req
 step_text (Failed comm) = codes "failed comm " ++ decimal comm.number
 step_text (Ack count comm) = codes "ack " ++ decimal count ++ codes " comm " ++ decimal comm.number
 step_text (Revoke comm) = codes "revoke comm " ++ decimal comm.number

@@ -54,7 +54,7 @@ impl Job {
     }
 
     /// The job with one more step, a stop, before the step `at` of a rank, or after its last one. Later steps have a number more,
-    /// by which that rank's waits then name them. The job itself stays as it is.
+    /// by which its waits, receives of probed letters and cancels then name them. The job itself stays as it is.
     ///
     /// # Errors
     ///

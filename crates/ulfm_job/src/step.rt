@@ -5,7 +5,7 @@ use crate::text::Text;
 use ulfm_base::{Context, Tag};
 
 /// One step of one rank. It is copied without memory. A rank (`to`, `from`) is one of the communicator `comm`, which is
-/// named by its context; `req` is the number of the step, of the same rank, that posted the receive.
+/// named by its context; `req` is the number of the step, of the same rank, that posted the receive or probed.
 #[derive(Clone, Copy)]
 pub enum Step {
     /// Sends a letter to a position of a communicator.
@@ -24,6 +24,21 @@ pub enum Step {
     },
     /// Tests the request of an earlier step.
     Wait {
+        req: u16,
+    },
+    /// Looks for a letter, from a position or any, with a tag or any, and takes it from all other receives.
+    Probe {
+        from: Option<u8>,
+        tag: Option<Tag>,
+        comm: Context,
+    },
+    /// Receives the letter that an earlier probe found.
+    Mrecv {
+        req: u16,
+        room: u16,
+    },
+    /// Cancels the receive of an earlier step.
+    Cancel {
         req: u16,
     },
     /// Asks for the failures known in a communicator.
@@ -108,6 +123,35 @@ impl Step {
                 same_comm(*comm, *other_comm)
             }
             (Step::Wait { req }, Step::Wait { req: other_req }) => req == other_req,
+            (
+                Step::Probe { from, tag, comm },
+                Step::Probe {
+                    from: other_from,
+                    tag: other_tag,
+                    comm: other_comm,
+                },
+            ) => {
+                if from != other_from {
+                    return false;
+                }
+                if !same_tags(*tag, *other_tag) {
+                    return false;
+                }
+                same_comm(*comm, *other_comm)
+            }
+            (
+                Step::Mrecv { req, room },
+                Step::Mrecv {
+                    req: other_req,
+                    room: other_room,
+                },
+            ) => {
+                if req != other_req {
+                    return false;
+                }
+                room == other_room
+            }
+            (Step::Cancel { req }, Step::Cancel { req: other_req }) => req == other_req,
             (Step::Failed { comm }, Step::Failed { comm: other_comm }) => {
                 same_comm(*comm, *other_comm)
             }

@@ -1,6 +1,6 @@
 //! A script with one more stop.
 ghost use Rattle.std.specs.Prelude.{◌≡◌, ◌≤◌, IfErr, IfOk, length};
-ghost use Rattle.ulfm_job.specs.Job.{moved_on, stopped_at};
+ghost use Rattle.ulfm_job.specs.Job.{moved_number, moved_on, stopped_at};
 
 use crate::fault::JobFault;
 use crate::step::Step;
@@ -27,7 +27,28 @@ fn moved_on(step: Step, at: u16, len: usize) -> Step
     ensures { result ≡ moved_on at len step }
 {
     match step {
-        Step::Wait { req } if at <= req && (req as usize) < len => Step::Wait { req: req + 1 },
+        Step::Wait { req } => Step::Wait {
+            req: moved_number(req, at, len),
+        },
+        Step::Mrecv { req, room } => Step::Mrecv {
+            req: moved_number(req, at, len),
+            room,
+        },
+        Step::Cancel { req } => Step::Cancel {
+            req: moved_number(req, at, len),
+        },
         _ => step,
+    }
+}
+
+/// The number of a step of a script that had `len` steps, once there is one more before the step `at`.
+fn moved_number(req: u16, at: u16, len: usize) -> u16
+    requires { len ≤ 256 }
+    ensures { result ≡ moved_number at len req }
+{
+    if at <= req && (req as usize) < len {
+        req + 1
+    } else {
+        req
     }
 }

@@ -56,6 +56,13 @@ impl fmt::Display for Step {
                 write!(f, "recv {from} tag {tag} comm {}", comm.number)
             }
             Step::Wait { req } => write!(f, "wait {req}"),
+            Step::Probe { from, tag, comm } => {
+                let from = AnySource(*from);
+                let tag = AnyTag(*tag);
+                write!(f, "probe {from} tag {tag} comm {}", comm.number)
+            }
+            Step::Mrecv { req, .. } => write!(f, "mrecv {req}"),
+            Step::Cancel { req } => write!(f, "cancel {req}"),
             Step::Failed { comm } => write!(f, "failed comm {}", comm.number),
             Step::Ack { count, comm } => write!(f, "ack {count} comm {}", comm.number),
             Step::Revoke { comm } => write!(f, "revoke comm {}", comm.number),

@@ -1,18 +1,21 @@
 -- Each answer of a poll keeps the steps of a rank true of its log.
 use Rattle.std.proofs.Common.{◌≡◌, ℕ, List, [], ◌∷◌, ◌++◌, refl, inl, inr, Some, None}
-use Rattle.ulfm_laws.proofs.Common.{Entry, State, logged, Step, StepAnswer, StepReport, Send, Recv, Wait, Sent, Posted, Done, Over, AnswersStep, step_report, request_of, sent_by, closes, PostsNone}
-use Rattle.ulfm_rank.specs.declared.entry.Entry.TheVariants.{Sent as SentEntry, Posted as PostedEntry, Took}
+use Rattle.ulfm_laws.proofs.Common.{Entry, State, logged, Step, StepAnswer, StepReport, Send, Wait, Mrecv, Cancel, Sent, Posted, Done, Over, Found, Cancelled, AnswersStep, step_report, sent_by, closes, PostsNone}
+use Rattle.ulfm_rank.specs.declared.entry.Entry.TheVariants.{Sent as SentEntry, Posted as PostedEntry, Released, Received, Cancelled as CancelEntry, Probed, Took}
+use Rattle.ulfm_rank.specs.declared.entry.TestAnswer.TheVariants.{Done as TestDone, Over as TestOver}
 use Rattle.ulfm_script.proofs.Says.{IsSilent, IsIdle, each_answer}
 use Rattle.ulfm_laws.proofs.Honest.{IsHonest, honest-logged, honest-answered}
 use Rattle.ulfm_laws.proofs.Mail.{sent_entry, IsTakenFrom}
 use Rattle.ulfm_laws.proofs.Closing.{IsTrueOf, true-sent, true-closed}
-use Rattle.ulfm_laws.proofs.Posting.{true-posted}
+use Rattle.ulfm_laws.proofs.Numbers.{number_of}
+use Rattle.ulfm_laws.proofs.Posting.{true-posted, true-found}
+use Rattle.ulfm_laws.proofs.Releasing.{closes_request, closes_message, closes_cancelled}
 use Rattle.ulfm_laws.proofs.Tells.{Tells}
 
 -- an answer that posts, sends and releases nothing
 pub record IsPlain (asked : Step) (answer : StepAnswer) : Type 0 where
   pub sends : (group : List ℕ) (c d : ℕ) → sent_by group c d asked answer ≡ []
-  pub asks : request_of answer ≡ None
+  pub asks : number_of answer ≡ None
   pub tells : (n : ℕ) (log : List Entry) (done : List StepReport) → Tells n log done asked answer
   pub waits : (req : ℕ) → closes asked answer ≡ Some req → ⊥
 
@@ -24,22 +27,25 @@ plain asked answer silent = record { sends = λ group c d. sends group c d asked
     sends group c d (Send to tag body comm) Sent h = absurd h
     sends group c d _ _ h = refl
 
-    asks : (answer : StepAnswer) → IsSilent answer → request_of answer ≡ None
+    asks : (answer : StepAnswer) → IsSilent answer → number_of answer ≡ None
     asks (Posted id) h = absurd h
+    asks (Found id status) h = absurd h
     asks _ h = refl
 
     tells : (n : ℕ) (log : List Entry) (done : List StepReport) (asked : Step) (answer : StepAnswer) → IsSilent answer → Tells n log done asked answer
-    tells n log done (Send to tag body comm) Sent h = absurd h
-    tells n log done (Recv source tag room comm) (Posted id) h = absurd h
-    tells n log done (Wait req) (Done status body) h = absurd h
-    tells n log done (Wait req) (Over reason) h = absurd h
-    tells n log done _ (Posted id) h = absurd h
-    tells n log done _ _ h = tt
+    tells n log done asked Sent h = absurd h
+    tells n log done asked (Posted id) h = absurd h
+    tells n log done asked (Found id status) h = absurd h
+    tells n log done asked (Done status body) h = absurd h
+    tells n log done asked (Over reason) h = absurd h
+    tells n log done asked Cancelled h = absurd h
+    tells n log done asked _ h = tt
 
     waits : (req : ℕ) (asked : Step) (answer : StepAnswer) → IsSilent answer → closes asked answer ≡ Some req → ⊥
-    waits req (Wait k) (Done status body) h e = absurd h
-    waits req (Wait k) (Over reason) h e = absurd h
-    waits req _ _ h e = let bad : ⊥ = cc in bad
+    waits req asked (Done status body) h e = absurd h
+    waits req asked (Over reason) h e = absurd h
+    waits req asked Cancelled h e = absurd h
+    waits req asked _ h e = let bad : ⊥ = cc in bad
 
 pub honest-plain : (n : ℕ) (log : List Entry) (done : List StepReport) (asked : Step) (answer : StepAnswer) (at polls : ℕ) → IsHonest n log done → IsSilent answer → IsHonest n log (done ++ step_report asked answer at polls ∷ [])
 honest-plain n log done asked answer at polls h silent =
@@ -56,6 +62,7 @@ true-idle {n} {log} {done} e idle h = honest-logged e h (posts e idle) (λ c d. 
   where
     posts : (e : Entry) → IsIdle e → PostsNone e
     posts (PostedEntry pattern) h = absurd h
+    posts (Probed id pattern) h = absurd h
     posts _ h = tt
 
     sends : (c d : ℕ) (e : Entry) → IsIdle e → sent_entry c d e ≡ []
@@ -75,8 +82,14 @@ true-answers r {done} h at polls new asked answer a =
     each_answer done r new (λ step said. IsTrueOf new (done ++ step_report step said at polls ∷ []))
     (λ to tag body comm k. true-sent r done to tag body comm at polls new h k)
     (λ source tag room comm id k. true-posted r done source tag room comm id at polls new h k.0 k.1 k.2)
-    (λ req status body k. true-closed r (step_report (Wait req) (Done status body) at polls) h refl refl refl (λ group c d. refl) (λ n log dones v. v) k)
-    (λ req reason k. true-closed r (step_report (Wait req) (Over reason) at polls) h refl refl refl (λ group c d. refl) (λ n log dones v. v) k)
+    (λ req status body k. true-closed r (Released k.id (TestDone status body)) (step_report (Wait req) (Done status body) at polls) h (closes_request r (Wait req) (λ p. refl) refl k) refl refl (λ group c d. refl) (λ n log dones v. v) k.only)
+    (λ req reason k. true-closed r (Released k.id (TestOver reason)) (step_report (Wait req) (Over reason) at polls) h (closes_request r (Wait req) (λ p. refl) refl k) refl refl (λ group c d. refl) (λ n log dones v. v) k.only)
+    (λ source tag comm id status k. true-found r done source tag comm id status at polls new h k)
+    (λ req room status body k. true-closed r (Received k.id (TestDone status body)) (step_report (Mrecv req room) (Done status body) at polls) h (closes_message r (Mrecv req room) room (λ p. refl) refl k) refl refl (λ group c d. refl) (λ n log dones v. v) k.only)
+    (λ req room reason k. true-closed r (Received k.id (TestOver reason)) (step_report (Mrecv req room) (Over reason) at polls) h (closes_message r (Mrecv req room) room (λ p. refl) refl k) refl refl (λ group c d. refl) (λ n log dones v. v) k.only)
+    (λ req k. true-closed r (CancelEntry k.tests.id) (step_report (Cancel req) Cancelled at polls) h (closes_cancelled r k) refl refl (λ group c d. refl) (λ n log dones v. v) k.only)
+    (λ req status body k. true-closed r (Released k.id (TestDone status body)) (step_report (Cancel req) (Done status body) at polls) h (closes_request r (Cancel req) (λ p. refl) refl k) refl refl (λ group c d. refl) (λ n log dones v. v) k.only)
+    (λ req reason k. true-closed r (Released k.id (TestOver reason)) (step_report (Cancel req) (Over reason) at polls) h (closes_request r (Cancel req) (λ p. refl) refl k) refl refl (λ group c d. refl) (λ n log dones v. v) k.only)
     (λ step said silent k. elim k [
       | inl same ↦ true-same r done step said at polls new h silent same.0
       | inr one ↦ true-one r done step said at polls new one.0 h silent one.1.idle one.2

@@ -1,13 +1,17 @@
--- A send and a wait that is over keep the steps of a rank true of its log.
-use Rattle.std.proofs.Common.{◌≡◌, ℕ, Bool, true, false, cond, eqb, List, [], ◌∷◌, ◌++◌, refl, ap, sym, ◌∙◌, subst, append-nil, Some, None, slice_get, ◌&&◌}
-use Rattle.ulfm_laws.proofs.Common.{Context, Tag, RequestId, PostAt, count_before, Entry, TestAnswer, members_of, history_of, State, logged, Step, Send, Wait, StepAnswer, Sent, Done, Over, StepReport, Tests, comm_of, step_report, request_of, request_at, content, is_rank, sent_in, closes, false≢true, or_right, eq-eqb, eqb-true, same_Some, is_released, releases, flat_map, All-push, Sends, history-push, any-push, formed-logged}
-use Rattle.ulfm_rank.specs.declared.entry.Entry.TheVariants.{Sent as SentEntry, Released}
-use Rattle.ulfm_rank.specs.Answer.{is_release}
+-- A send, and a step that releases the receive of another one, keep the steps of a rank true of its log.
+use Rattle.std.proofs.Common.{◌≡◌, ℕ, Bool, true, false, cond, eqb, List, [], ◌∷◌, ◌++◌, refl, ap, sym, ◌∙◌, Option, Some, None, slice_get, ◌&&◌}
+use Rattle.ulfm_laws.proofs.Common.{Context, Pattern, Tag, PostAt, PostsNone, count_before, Entry, TestAnswer, members_of, history_of, State, logged, Step, Send, StepAnswer, Sent, Done, Over, Cancelled, ProcFailed, StepReport, asks_of, room_of, comm_of, step_report, content, is_rank, sent_in, closes, false≢true, or_right, eqb-true, same_Some, is_released, releases, flat_map, All-push, Sends, any-push, formed-logged}
+use Rattle.ulfm_rank.specs.declared.entry.Entry.TheVariants.{Sent as SentEntry}
+use Rattle.ulfm_rank.specs.declared.entry.TestAnswer.TheVariants.{Done as TestDone, Over as TestOver}
+use Rattle.ulfm_match.specs.Pairing.{Pairing, LawfulPairing}
+use Rattle.ulfm_rank.specs.Answer.{IsAnswerBy, is_release}
+use Rattle.ulfm_rank.specs.Messages.{with_room}
 use Rattle.ulfm_laws.proofs.Honest.{IsHonest, sends-logged, covered-logged, covered-answered, honest-logged, honest-answered}
 use Rattle.ulfm_laws.proofs.Orderly.{orderly-logged, orderly-answered}
-use Rattle.ulfm_laws.proofs.Mail.{IsTakenFrom, flat-push}
-use Rattle.ulfm_rank.proofs.Stays.{members_stay, answer_stays}
-use Rattle.ulfm_laws.proofs.Tells.{Tells, IsVerdict, asked_front}
+use Rattle.ulfm_laws.proofs.Mail.{IsTakenFrom, flat-push, sent_entry}
+use Rattle.ulfm_laws.proofs.Numbers.{number_at, number_of, number_front}
+use Rattle.ulfm_rank.proofs.Stays.{members_stay}
+use Rattle.ulfm_laws.proofs.Tells.{Tells, TellsVerdict, IsVerdict, posted_longer, numbered_longer}
 
 -- the answered steps are true of the rank's log
 abbrev pub IsTrueOf : State → List StepReport → Type 0
@@ -44,34 +48,50 @@ true-sent r done to tag body comm at polls new h s =
       taken = All-push (IsTakenFrom n) log e h.taken tt;
     })
 
--- a request that was closed is released
-released_of : {n : ℕ} {log : List Entry} {done : List StepReport} (k : ℕ) {a : TestAnswer} (req : ℕ) (id : RequestId) (v : IsVerdict n log done k a) → Some k ≡ Some req → request_at done req ≡ Some id → is_released log id.number ≡ true
-released_of {log = log} {done = done} k req id v e g = ap (λ i. is_released log i.number) (same_Some id v.id (sym (ap (request_at done) (same_Some k req e) ∙ g) ∙ v.asked)) ∙ v.released
+-- a receive that was closed is released
+released_of : (n : ℕ) (log : List Entry) (done : List StepReport) (o : Option ℕ) (asked : Step) (answer : TestAnswer) (req number : ℕ) → TellsVerdict n log done o asked answer → o ≡ Some req → number_at done req ≡ Some number → is_released log number ≡ true
+released_of n log done None asked answer req number v e g = absurd (cc)
+released_of n log done (Some k) asked answer req number v e g = ap (is_released log) (same_Some number v.number (sym g ∙ ap (number_at done) (sym (same_Some k req e)) ∙ v.named)) ∙ v.released
 
-closed_released : (n : ℕ) (log : List Entry) (done : List StepReport) (asked : Step) (answer : StepAnswer) (req : ℕ) (id : RequestId) → Tells n log done asked answer → closes asked answer ≡ Some req → request_at done req ≡ Some id → is_released log id.number ≡ true
-closed_released n log done (Wait k) (Done status body) req id t e g = released_of k req id t e g
-closed_released n log done (Wait k) (Over reason) req id t e g = released_of k req id t e g
-closed_released n log done _ _ req id t e g = absurd (cc)
+closed_released : (n : ℕ) (log : List Entry) (done : List StepReport) (asked : Step) (answer : StepAnswer) (req number : ℕ) → Tells n log done asked answer → closes asked answer ≡ Some req → number_at done req ≡ Some number → is_released log number ≡ true
+closed_released n log done asked (Done status body) req number t e g = released_of n log done (asks_of asked) asked (TestDone status body) req number t e g
+closed_released n log done asked (Over reason) req number t e g = released_of n log done (asks_of asked) asked (TestOver reason) req number t e g
+closed_released n log done asked Cancelled req number t e g = released_of n log done (asks_of asked) asked (TestOver ProcFailed) req number t e g
+closed_released n log done asked _ req number t e g = absurd (cc)
 
--- a wait that releases its request
-pub true-closed : (r : State) {done : List StepReport} {req : ℕ} {answer : TestAnswer} (x : StepReport) {new : State} → IsTrueOf r done → is_release answer ≡ true → request_of x.answer ≡ None → closes x.step x.answer ≡ Some req → ((group : List ℕ) (c d : ℕ) → sent_in group c d x ≡ [])
-    → ((n : ℕ) (log : List Entry) (dones : List StepReport) → IsVerdict n log dones req answer → Tells n log dones x.step x.answer) → Tests done r req answer new → IsTrueOf new (done ++ x ∷ [])
-true-closed r {done} {req} {answer} x {new} h release unposted closing silent tells t =
-    let n = r.ranks in let log = r.log in let e = Released t.id answer in
-    let only = t.only ∙ ap (λ b. cond b (logged r e) r) release in
-    let longer = honest-logged e h tt (λ c d. refl) tt in
-    let long = history-push log e in
-    let verdict : IsVerdict n (log ++ e ∷ []) (done ++ x ∷ []) req answer = record {
-      id = t.id;
-      asked = asked_front done (x ∷ []) req t.posted;
+-- A step that asks for the receive of step req, and the entry that releases it. After that each lawful pairing gives this answer.
+pub record Closes (r : State) (done : List StepReport) (req : ℕ) (asked : Step) (e : Entry) (answer : TestAnswer) : Type 0 where
+  pub number : ℕ
+  pub named : number_at done req ≡ Some number
+  pub place : ℕ
+  pub pattern : Pattern
+  pub posted : PostAt (history_of r.log) place pattern
+  pub numbered : count_before (history_of r.log) place ≡ number
+  pub unreleased : is_released r.log number ≡ false
+  pub releases_it : releases number e ≡ true
+  pub release : is_release answer ≡ true
+  pub answers : (p : Pairing) → LawfulPairing (history_of (r.log ++ e ∷ [])) p → IsAnswerBy r.ranks (r.log ++ e ∷ []) p place (with_room pattern (room_of asked pattern)) answer
+  pub posts : PostsNone e
+  pub sends : (c d : ℕ) → sent_entry c d e ≡ []
+  pub takes : IsTakenFrom r.ranks e
+
+-- such a step keeps the steps true
+pub true-closed : (r : State) {done : List StepReport} {req : ℕ} {answer : TestAnswer} (e : Entry) (x : StepReport) {new : State} → IsTrueOf r done → Closes r done req x.step e answer → number_of x.answer ≡ None → closes x.step x.answer ≡ Some req → ((group : List ℕ) (c d : ℕ) → sent_in group c d x ≡ [])
+    → ((n : ℕ) (log : List Entry) (dones : List StepReport) → IsVerdict n log dones req x.step answer → Tells n log dones x.step x.answer) → new ≡ logged r e → IsTrueOf new (done ++ x ∷ [])
+true-closed r {done} {req} {answer} e x {new} h t unposted closing silent tells only =
+    let n = r.ranks in let log = r.log in
+    let longer = honest-logged e h t.posts t.sends t.takes in
+    let verdict : IsVerdict n (log ++ e ∷ []) (done ++ x ∷ []) req x.step answer = record {
+      number = t.number;
+      named = number_front done (x ∷ []) req t.named;
       place = t.place;
       pattern = t.pattern;
-      posted = subst (λ g. PostAt g t.place t.pattern) (sym (long ∙ append-nil (history_of log))) t.request.posted;
-      numbered = ap (λ g. count_before g t.place) (long ∙ append-nil (history_of log)) ∙ t.request.numbered;
-      released = any-push (releases t.id.number) log e ∙ or_right (is_released log t.id.number) (releases t.id.number e) (eq-eqb t.id.number t.id.number refl);
-      release = release;
-      answers = answer_stays n log e t.place t.pattern answer t.request.posted release (λ p law. t.answers t.place t.pattern t.request p law);
+      posted = posted_longer log e t.place t.pattern t.posted;
+      numbered = numbered_longer log e t.place t.pattern t.posted ∙ t.numbered;
+      released = any-push (releases t.number) log e ∙ or_right (is_released log t.number) (releases t.number e) t.releases_it;
+      release = t.release;
+      answers = t.answers;
     } in
     rw only (honest-answered n x longer silent unposted (tells n (log ++ e ∷ []) (done ++ x ∷ []) verdict)
     (λ q k y c g f.
-    false≢true (sym t.request.unreleased ∙ closed_released n log done y.step y.answer q t.id (h.orderly.tells k y g) f (ap (request_at done) (same_Some q req (sym c ∙ closing)) ∙ t.posted))))
+    false≢true (sym t.unreleased ∙ closed_released n log done y.step y.answer q t.number (h.orderly.tells k y g) f (ap (number_at done) (same_Some q req (sym c ∙ closing)) ∙ t.named))))

@@ -1,8 +1,8 @@
 -- The letters that came by the history of a log are a beginning of those that it took.
 use Rattle.std.proofs.Common.{◌≡◌, ℕ, Bool, true, false, cond, eqb, List, [], ◌∷◌, ◌++◌, length, refl, ap, sym, ◌∙◌, append-nil, append_assoc, inl, inr, suc, All}
-use Rattle.ulfm_laws.proofs.Common.{WorldRank, Letter, Item, Entry, Content, come_in, letters_come, false≢true, or_left, cases_Bool, eqb-true, took, took_by, is_revoked, revokes, all_front, all_last, gathered_all, any-push, names, Event, Post, Come, End, Clear, flat_map-append, history_of, events_by, ends_from, end_at, names_gone}
+use Rattle.ulfm_laws.proofs.Common.{WorldRank, Letter, Pattern, Item, count_before, ◌==◌, Entry, Content, come_in, letters_come, false≢true, or_left, cases_Bool, eqb-true, took, took_by, is_revoked, revokes, all_front, all_last, gathered_all, any-push, names, Event, Post, Come, End, Clear, flat_map-append, history_of, events_by, ends_from, end_at, names_gone}
 use Rattle.ulfm_base.specs.declared.item.Item.TheVariants.{Letter as Mail, Gone, Revoke, Enter}
-use Rattle.ulfm_rank.specs.declared.entry.Entry.TheVariants.{Posted, Revoked, Took}
+use Rattle.ulfm_rank.specs.declared.entry.Entry.TheVariants.{Posted, Cancelled, Revoked, Took}
 use Rattle.ulfm_rank.proofs.Logs.{took-push}
 use Rattle.ulfm_laws.proofs.Mail.{mail_on, mail, no_mail, IsTakenFrom}
 
@@ -10,16 +10,16 @@ come_pick : (s c k : ℕ) (b : Bool) → letters_come s c (cond b (End k ∷ [])
 come_pick s c k true = refl
 come_pick s c k false = refl
 
-come_end : (s c t k : ℕ) (e : Event) → letters_come s c (end_at t k e) ≡ []
-come_end s c t k (Post pattern) = come_pick s c k (names pattern.source t)
-come_end s c t k _ = refl
+come_end : (s c : ℕ) (test : ℕ → Pattern → Bool) (k : ℕ) (e : Event) → letters_come s c (end_at test k e) ≡ []
+come_end s c test k (Post pattern) = come_pick s c k (test k pattern)
+come_end s c test k _ = refl
 
-come_ends : (s c t k : ℕ) (history : List Event) → letters_come s c (ends_from t k history) ≡ []
-come_ends s c t k [] = refl
-come_ends s c t k (e ∷ history) =
-    flat_map-append (come_in s c) (end_at t k e) (ends_from t (suc k) history)
-    ∙ ap (λ xs. xs ++ letters_come s c (ends_from t (suc k) history)) (come_end s c t k e)
-    ∙ come_ends s c t (suc k) history
+come_ends : (s c : ℕ) (test : ℕ → Pattern → Bool) (k : ℕ) (history : List Event) → letters_come s c (ends_from test k history) ≡ []
+come_ends s c test k [] = refl
+come_ends s c test k (e ∷ history) =
+    flat_map-append (come_in s c) (end_at test k e) (ends_from test (suc k) history)
+    ∙ ap (λ xs. xs ++ letters_come s c (ends_from test (suc k) history)) (come_end s c test k e)
+    ∙ come_ends s c test (suc k) history
 
 come_clear : (s c d : ℕ) (b : Bool) → letters_come s c (cond b [] (Clear d ∷ [])) ≡ []
 come_clear s c d true = refl
@@ -54,9 +54,10 @@ come_letter s c before source letter same = record {
 
 come_entry : (n s c : ℕ) (before : List Entry) (found : List Event) (e : Entry) → IsTakenFrom n e → IsCome s c before (events_by before found e) (took_by s e)
 come_entry n s c before found (Posted pattern) h = come_none (come_pick s c (length found) (names_gone before pattern.source)) refl
+come_entry n s c before found (Cancelled id) h = come_none (come_ends s c (λ k _. count_before found k == id.number) 0 found) refl
 come_entry n s c before found (Revoked context) h = come_none (come_clear s c context.number (is_revoked before context.number)) refl
 come_entry n s c before found (Took source (Mail letter)) h = come_letter s c before source letter h.1
-come_entry n s c before found (Took source Gone) h = come_none (come_ends s c source.number 0 found) (no_mail c (eqb source.number s) Gone refl)
+come_entry n s c before found (Took source Gone) h = come_none (come_ends s c (λ _ pattern. names pattern.source source.number) 0 found) (no_mail c (eqb source.number s) Gone refl)
 come_entry n s c before found (Took source (Revoke context)) h = come_none (come_clear s c context.number (is_revoked before context.number)) (no_mail c (eqb source.number s) (Revoke context) refl)
 come_entry n s c before found (Took source (Enter context known)) h = come_none refl (no_mail c (eqb source.number s) (Enter context known) refl)
 come_entry n s c before found _ h = come_none refl refl

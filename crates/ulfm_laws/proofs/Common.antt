@@ -18,13 +18,16 @@ pub use Rattle.ulfm_rank.specs.History.{history_of, events_by, end_at, ends_from
 pub use Rattle.ulfm_rank.specs.State.{State, logged, outbox, owes}
 pub use Rattle.ulfm_rank.specs.declared.entry.Entry.{Entry}
 pub use Rattle.ulfm_rank.specs.declared.entry.TestAnswer.{TestAnswer}
-pub use Rattle.ulfm_script.specs.Player.{request_at, step_report, request_of, AnswersStep, LeavesOpen, Player, StaysOpen, Tests, comm_of, request_in}
+pub use Rattle.ulfm_rank.specs.declared.entry.Status.{Status}
+pub use Rattle.ulfm_rank.specs.declared.message.MessageId.{MessageId}
+pub use Rattle.ulfm_script.specs.Calls.{AnswersProbe, AnswersStep, Cancels, LeavesOpen, Receives, Tests, comm_of, message_at, message_in, message_of, request_at, request_in, request_of}
+pub use Rattle.ulfm_script.specs.Player.{step_report, Player, StaysOpen}
 pub use Rattle.ulfm_script.specs.Report.{Report}
 pub use Rattle.ulfm_script.specs.declared.answer.StepAnswer.{StepAnswer}
-pub use Rattle.ulfm_script.specs.declared.answer.StepAnswer.TheVariants.{Sent, Done, Over, Posted, Refused, Shrunk, Unfinished}
+pub use Rattle.ulfm_script.specs.declared.answer.StepAnswer.TheVariants.{Sent, Done, Over, Posted, Found, Cancelled, Refused, Shrunk, Unfinished}
 pub use Rattle.ulfm_script.specs.declared.answer.StepReport.{StepReport}
 pub use Rattle.ulfm_job.specs.declared.step.Step.{Step}
-pub use Rattle.ulfm_job.specs.declared.step.Step.TheVariants.{Send, Recv, Wait, Shrink}
+pub use Rattle.ulfm_job.specs.declared.step.Step.TheVariants.{Send, Recv, Wait, Probe, Mrecv, Cancel, Shrink}
 pub use Rattle.ulfm_laws.specs.Flow.{Inboxes, Flow, Flows, IsBeginning, inbox_of}
 pub use Rattle.ulfm_laws.specs.Reports.{report_at, HasStopped, IsRunning, no_report}
 pub use Rattle.ulfm_laws.specs.Rest.{IsAtRest}
@@ -37,7 +40,7 @@ pub use Rattle.ulfm_base.proofs.Places.{there}
 pub use Rattle.ulfm_base.specs.Group.{is_member}
 pub use Rattle.ulfm_base.specs.Pattern.{Admits, names}
 pub use Rattle.ulfm_base.specs.declared.error.CallError.TheVariants.{OutOfMemory, ProcFailed, Revoked, Truncated}
-pub use Rattle.ulfm_laws.specs.Reader.{AllHasCome, ComeAsSent, Content, DoneIsGiven, DonesDiffer, GivesOnce, HasOnePairing, IsFaithful, IsGiven, IsPostedBy, IsSentBy, IsStep, LettersKeepOrder, NoneIsMissed, OverIsTrue, ReceivesKeepOrder, closes, come_in, content, history_at, is_rank, letters_come, letters_sent, sent_by, sent_in}
+pub use Rattle.ulfm_laws.specs.Reader.{AllHasCome, ComeAsSent, Content, DoneIsGiven, DonesDiffer, FoundIsGiven, GivesOnce, HasOnePairing, IsFaithful, IsCut, IsGiven, IsNamed, IsPostedBy, IsSentBy, IsStep, IsTold, PostsAs, asks_of, room_of, LettersKeepOrder, NoneIsMissed, OverIsTrue, ReceivesKeepOrder, closes, come_in, content, history_at, is_rank, letters_come, letters_sent, sent_by, sent_in}
 pub use Rattle.ulfm_match.proofs.Decide.{compared, lt_or_ge}
 pub use Rattle.ulfm_match.proofs.Histories.{count_below, count_front, count_rises, get_cases, get_here, same_number}
 pub use Rattle.ulfm_match.proofs.Unique.{one_pairing, same_letter, same_pattern}
@@ -57,7 +60,7 @@ pub use Rattle.ulfm_match.proofs.Exists.{some_pairing}
 pub use Rattle.ulfm_rank.proofs.Belonging.{EntersOnce, Keeps, keeps-push, keeps-start, same_numbers}
 pub use Rattle.ulfm_rank.proofs.Entering.{Fits, own_set}
 pub use Rattle.ulfm_rank.proofs.Firsts.{first_set, heard-took, or_else_first, or_none, set-append, some_from}
-pub use Rattle.ulfm_rank.proofs.Formed.{HasNoPost, PostsNone, formed-logged, formed-posted, none-events, none-nil, none-one}
+pub use Rattle.ulfm_rank.proofs.Formed.{HasNoPost, PostsNone, formed-logged, formed-posted, formed-probed, none-events, none-nil, none-one}
 pub use Rattle.ulfm_rank.proofs.Refusals.{all_pass}
 pub use Rattle.ulfm_rank.specs.Log.{first_given}
 pub use Rattle.ulfm_script.proofs.Kept.{IsGranted, each_logged, keeps_of, signed_of}

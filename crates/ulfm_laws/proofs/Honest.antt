@@ -1,13 +1,14 @@
 -- What the answered steps of a rank sent and posted is what its log has.
 use Rattle.std.proofs.Common.{◌≡◌, ℕ, zero, suc, ◌≤◌, inl, inr, List, [], ◌∷◌, ◌++◌, length, refl, ap, sym, ◌∙◌, subst, arith, append-nil, Some, None, All, slice_get}
-use Rattle.ulfm_laws.proofs.Common.{Pattern, RequestId, Entry, members_of, history_of, events_by, StepReport, request_of, request_at, sent_in, closes, flat_map, All-nil, All-push, history-push, Event, Post, PostAt, IsWellFormed, count_before, lt_or_ge, count_front, PostsNone, HasNoPost, none-events, formed-logged, get_in_front}
+use Rattle.ulfm_laws.proofs.Common.{Pattern, Entry, members_of, history_of, events_by, StepReport, sent_in, closes, flat_map, All-nil, All-push, history-push, Event, Post, PostAt, IsWellFormed, count_before, lt_or_ge, count_front, PostsNone, HasNoPost, none-events, formed-logged, get_in_front}
 use Rattle.ulfm_laws.proofs.Orderly.{IsOrderly, orderly-logged, orderly-answered}
 use Rattle.ulfm_laws.proofs.Mail.{mail_sent, sent_entry, IsTakenFrom, flat-push}
-use Rattle.ulfm_laws.proofs.Tells.{Tells, asked_front, sent-logged}
+use Rattle.ulfm_laws.proofs.Numbers.{number_at, number_of, number_front}
+use Rattle.ulfm_laws.proofs.Tells.{Tells, sent-logged}
 
 -- each receive of the log's history is one that a step posted
 abbrev pub IsCovered : List Entry → List StepReport → Type 0
-IsCovered log done = (place : ℕ) (p : Pattern) → PostAt (history_of log) place p → (k : ℕ) × (id : RequestId) × (request_at done k ≡ Some id) × (count_before (history_of log) place ≡ id.number)
+IsCovered log done = (place : ℕ) (p : Pattern) → PostAt (history_of log) place p → (k number : ℕ) × (number_at done k ≡ Some number) × (count_before (history_of log) place ≡ number)
 
 -- besides, what the steps sent is what the log sent, and each receive of the log is one of theirs
 pub record IsHonest (n : ℕ) (log : List Entry) (done : List StepReport) : Type 0 where
@@ -47,7 +48,7 @@ covered-logged log e done covered none place p g =
     ]
 
 pub covered-answered : (log : List Entry) (done : List StepReport) (x : StepReport) → IsCovered log done → IsCovered log (done ++ x ∷ [])
-covered-answered log done x covered place p g = let c = covered place p g in (c.0, c.1, asked_front done (x ∷ []) c.0 c.2, c.3)
+covered-answered log done x covered place p g = let c = covered place p g in (c.0, c.1, number_front done (x ∷ []) c.0 c.2, c.3)
 
 -- an entry that neither posts nor sends
 pub honest-logged : {n : ℕ} {log : List Entry} (e : Entry) {done : List StepReport} → IsHonest n log done → PostsNone e → ((c d : ℕ) → sent_entry c d e ≡ []) → IsTakenFrom n e → IsHonest n (log ++ e ∷ []) done
@@ -62,7 +63,7 @@ honest-logged {n} {log} e {done} h none silent own = record {
 }
 
 -- one more answer, which posted and sent nothing
-pub honest-answered : (n : ℕ) {log : List Entry} {done : List StepReport} (x : StepReport) → IsHonest n log done → ((group : List ℕ) (c d : ℕ) → sent_in group c d x ≡ []) → request_of x.answer ≡ None → Tells n log (done ++ x ∷ []) x.step x.answer
+pub honest-answered : (n : ℕ) {log : List Entry} {done : List StepReport} (x : StepReport) → IsHonest n log done → ((group : List ℕ) (c d : ℕ) → sent_in group c d x ≡ []) → number_of x.answer ≡ None → Tells n log (done ++ x ∷ []) x.step x.answer
     → ((req k : ℕ) (y : StepReport) → closes x.step x.answer ≡ Some req → slice_get done k ≡ Some y → closes y.step y.answer ≡ Some req → ⊥)
     → IsHonest n log (done ++ x ∷ [])
 honest-answered n {log} {done} x h silent unposted new first = record {

@@ -2,11 +2,14 @@ pub mod Common
 pub mod Contents
 pub mod Mail
 pub mod Comes
+pub mod Numbers
+pub mod Lasting
 pub mod Tells
 pub mod Orderly
 pub mod Honest
 pub mod Closing
 pub mod Posting
+pub mod Releasing
 pub mod Answering
 pub mod Shrinking
 pub mod Finding

@@ -1,8 +1,9 @@
 -- What is given keeps the order of the sends and of the posts.
 use Rattle.std.proofs.Common.{◌≡◌, ℕ, ◌<◌, inl, inr, List, ◌++◌, length, take, refl, ap, sym, subst, ◌∙◌, arith, append_assoc, Some, slice_get}
-use Rattle.ulfm_laws.proofs.Common.{Context, Tag, Letter, Pattern, History, Post, count_before, group_at, Send, Sent, step_report, request_at, Report, report_at, Content, content, history_at, IsStep, sent_in, come_in, letters_come, letters_sent, IsPostedBy, IsSentBy, LettersKeepOrder, ReceivesKeepOrder, same_Some, Admits, compared, count_below, same_context, same_rank}
+use Rattle.ulfm_laws.proofs.Common.{Context, Tag, Letter, Pattern, History, Post, count_before, group_at, Send, Sent, step_report, Report, report_at, Content, content, history_at, IsStep, sent_in, come_in, letters_come, letters_sent, IsPostedBy, IsSentBy, LettersKeepOrder, ReceivesKeepOrder, same_Some, Admits, compared, count_below, same_context, same_rank}
 use Rattle.ulfm_laws.proofs.Contents.{sent_one, come_few, come_is}
-use Rattle.ulfm_laws.proofs.Finding.{AreHonest, its_request, poster}
+use Rattle.ulfm_laws.proofs.Finding.{AreHonest, its_number, poster}
+use Rattle.ulfm_laws.proofs.Numbers.{number_at}
 use Rattle.ulfm_laws.proofs.Senders.{sender, sent_letter}
 use Rattle.ulfm_laws.proofs.Given.{pair_admits}
 use Rattle.ulfm_match.proofs.Places.{gives_at, flat_within, flat_front, same_fronts, get_take}
@@ -12,21 +13,21 @@ module _ (reports : List Report) (all : AreHonest reports) where
   earlier_step : (d : ℕ) → d < length reports → (i k place : ℕ) {other : ℕ} {p q : Pattern} → IsPostedBy (report_at reports d) i place p → IsPostedBy (report_at reports d) k other q → place < other → i < k
   earlier_step d inside i k place {other} {p} {q} a b l =
       let n = count_below (history_at reports d) place other (Post p) a.posted refl l in
-      let less : a.id.number < b.id.number = omega (arith, n, a.numbered, b.numbered) in
-      let ra = its_request a in let rb = its_request b in
+      let less : a.number < b.number = omega (arith, n, a.numbered, b.numbered) in
+      let ra = its_number a in let rb = its_number b in
       elim (compared i k) [
         | inl h ↦ h
         | inr o ↦ elim o [
           | inl same ↦
-              let e = sym ra ∙ ap (request_at (report_at reports d).steps) same ∙ rb in
-              absurd (let f = ap (λ x. x.number) (same_Some a.id b.id e) in omega (arith, less, f))
-          | inr h ↦ absurd (let r : b.id.number < a.id.number = (all.honest d inside).orderly.rises k i b.id a.id h rb ra in omega (arith, less, r))
+              let e = sym ra ∙ ap (number_at (report_at reports d).steps) same ∙ rb in
+              absurd (let f = same_Some a.number b.number e in omega (arith, less, f))
+          | inr h ↦ absurd (let r : b.number < a.number = (all.honest d inside).orderly.rises k i b.number a.number h rb ra in omega (arith, less, r))
         ]
       ]
 
   earlier_place : (d : ℕ) → d < length reports → (i k place : ℕ) {other : ℕ} {p q : Pattern} → IsPostedBy (report_at reports d) i place p → IsPostedBy (report_at reports d) k other q → i < k → place < other
   earlier_place d inside i k place {other} {p} {q} a b l =
-      let less : a.id.number < b.id.number = (all.honest d inside).orderly.rises i k a.id b.id l (its_request a) (its_request b) in
+      let less : a.number < b.number = (all.honest d inside).orderly.rises i k a.number b.number l (its_number a) (its_number b) in
       elim (compared place other) [
         | inl h ↦ h
         | inr o ↦ elim o [

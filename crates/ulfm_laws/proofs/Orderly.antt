@@ -1,25 +1,15 @@
 -- The answered steps of a rank are true of its log, and each request is answered once.
-use Rattle.std.proofs.Common.{◌≡◌, ℕ, zero, suc, ◌<◌, ◌⊎◌, inl, inr, List, [], ◌∷◌, ◌++◌, length, refl, ap, sym, ◌∙◌, subst, arith, Some, slice_get}
-use Rattle.ulfm_laws.proofs.Common.{RequestId, count_before, Entry, history_of, events_by, StepReport, request_of, request_at, closes, slice_get_within, history-push, get_cases, count_rises}
+use Rattle.std.proofs.Common.{◌≡◌, ℕ, ◌<◌, inl, inr, List, [], ◌∷◌, ◌++◌, length, ap, sym, ◌∙◌, subst, arith, Some, slice_get}
+use Rattle.ulfm_laws.proofs.Common.{count_before, Entry, history_of, events_by, StepReport, closes, slice_get_within, history-push, get_cases, count_rises}
+use Rattle.ulfm_laws.proofs.Numbers.{number_at, number_of, number_cases, number_within}
 use Rattle.ulfm_laws.proofs.Tells.{Tells, tells-logged, tells-answered}
 
--- each answer is true, the requests have rising numbers, and each is closed once
+-- each answer is true, receives have rising numbers, and each is closed once
 pub record IsOrderly (n : ℕ) (log : List Entry) (done : List StepReport) : Type 0 where
   pub tells : (k : ℕ) (x : StepReport) → slice_get done k ≡ Some x → Tells n log done x.step x.answer
-  pub below : (k : ℕ) (id : RequestId) → request_at done k ≡ Some id → id.number < count_before (history_of log) (length (history_of log))
-  pub rises : (j k : ℕ) (id jd : RequestId) → j < k → request_at done j ≡ Some id → request_at done k ≡ Some jd → id.number < jd.number
+  pub below : (k number : ℕ) → number_at done k ≡ Some number → number < count_before (history_of log) (length (history_of log))
+  pub rises : (j k number other : ℕ) → j < k → number_at done j ≡ Some number → number_at done k ≡ Some other → number < other
   pub once : (j k req : ℕ) (x y : StepReport) → j < k → slice_get done j ≡ Some x → slice_get done k ≡ Some y → closes x.step x.answer ≡ Some req → closes y.step y.answer ≡ Some req → ⊥
-
-request_cases : (done : List StepReport) (x : StepReport) (k : ℕ) {id : RequestId} → request_at (done ++ x ∷ []) k ≡ Some id → (request_at done k ≡ Some id) ⊎ ((k ≡ length done) × (request_of x.answer ≡ Some id))
-request_cases [] x zero h = inr (refl, h)
-request_cases [] x (suc k) h = absurd (cc)
-request_cases (y ∷ done) x zero h = inl h
-request_cases (y ∷ done) x (suc k) {id} h = elim (request_cases done x k h) [ inl o ↦ inl o | inr e ↦ inr (ap suc e.0, e.1) ]
-
-request_within : (done : List StepReport) (k : ℕ) {id : RequestId} → request_at done k ≡ Some id → k < length done
-request_within [] k h = absurd (cc)
-request_within (x ∷ done) zero h = omega arith
-request_within (x ∷ done) (suc k) {id} h = let l = request_within done k h in omega (arith, l)
 
 -- the log grows
 pub orderly-logged : {n : ℕ} {log : List Entry} (e : Entry) {done : List StepReport} → IsOrderly n log done → IsOrderly n (log ++ e ∷ []) done
@@ -27,14 +17,14 @@ orderly-logged {n} {log} e {done} h = record {
   tells = λ k x g. tells-logged n log e done x.step x.answer (h.tells k x g);
   below = λ k id g.
       let up = count_rises (history_of log) (events_by log (history_of log) e) in
-      subst (λ es. id.number < count_before es (length es)) (sym (history-push log e)) (omega (arith, up, h.below k id g));
+      subst (λ es. id < count_before es (length es)) (sym (history-push log e)) (omega (arith, up, h.below k id g));
   rises = h.rises;
   once = h.once;
 }
 
 -- one more answer
 pub orderly-answered : {n : ℕ} {log : List Entry} {done : List StepReport} (x : StepReport) → IsOrderly n log done → Tells n log (done ++ x ∷ []) x.step x.answer
-    → ((id : RequestId) → request_of x.answer ≡ Some id → (id.number < count_before (history_of log) (length (history_of log))) × ((k : ℕ) (jd : RequestId) → request_at done k ≡ Some jd → jd.number < id.number))
+    → ((number : ℕ) → number_of x.answer ≡ Some number → (number < count_before (history_of log) (length (history_of log))) × ((k other : ℕ) → number_at done k ≡ Some other → other < number))
     → ((req k : ℕ) (y : StepReport) → closes x.step x.answer ≡ Some req → slice_get done k ≡ Some y → closes y.step y.answer ≡ Some req → ⊥)
     → IsOrderly n log (done ++ x ∷ [])
 orderly-answered {n} {log} {done} x h new fresh first = record {
@@ -43,15 +33,15 @@ orderly-answered {n} {log} {done} x h new fresh first = record {
         | inl o ↦ tells-answered n log done x y.step y.answer (h.tells k y o)
         | inr e ↦ subst (λ z. Tells n log (done ++ x ∷ []) z.step z.answer) e.1 new
       ];
-  below = λ k id g. elim (request_cases done x k g) [ inl o ↦ h.below k id o | inr e ↦ (fresh id e.1).0 ];
+  below = λ k id g. elim (number_cases done x k g) [ inl o ↦ h.below k id o | inr e ↦ (fresh id e.1).0 ];
   rises = λ j k id jd l g f.
-      elim (request_cases done x k f) [
+      elim (number_cases done x k f) [
         | inl o ↦
-            let lk = request_within done k o in
-            elim (request_cases done x j g) [ inl p ↦ h.rises j k id jd l p o | inr q ↦ absurd (let same = q.0 in omega (arith, l, lk, same)) ]
+            let lk = number_within done k o in
+            elim (number_cases done x j g) [ inl p ↦ h.rises j k id jd l p o | inr q ↦ absurd (let same = q.0 in omega (arith, l, lk, same)) ]
         | inr e ↦
             let top = e.0 in
-            elim (request_cases done x j g) [ inl p ↦ (fresh jd e.1).1 j id p | inr q ↦ absurd (let same = q.0 in omega (arith, l, top, same)) ]
+            elim (number_cases done x j g) [ inl p ↦ (fresh jd e.1).1 j id p | inr q ↦ absurd (let same = q.0 in omega (arith, l, top, same)) ]
       ];
   once = λ j k req y z l gy gz cy cz.
       elim (get_cases done x k z gz) [

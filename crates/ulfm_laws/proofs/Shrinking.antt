@@ -1,6 +1,6 @@
 -- A shrink that is entered or decided keeps the steps of a rank true of its log.
 use Rattle.std.proofs.Common.{ℕ, Bool, true, false, List, [], ◌∷◌, ◌++◌, length, inl, inr, Option}
-use Rattle.ulfm_laws.proofs.Common.{Context, Decision, State, Step, StepAnswer, StepReport, Wait, Shrink, Shrunk, Refused, Player, LeavesOpen, StaysOpen, step_report, OutOfMemory, Known, AnswersAdoption, AnswersDecision, IsDecided}
+use Rattle.ulfm_laws.proofs.Common.{Context, Decision, State, Step, StepAnswer, StepReport, Wait, Probe, Shrink, Shrunk, Refused, Player, LeavesOpen, StaysOpen, step_report, OutOfMemory, Known, AnswersAdoption, AnswersDecision, IsDecided}
 use Rattle.ulfm_rank.specs.declared.entry.Entry.TheVariants.{Entered, Adopted}
 use Rattle.ulfm_laws.proofs.Answering.{true-same, true-idle, true-one}
 use Rattle.ulfm_laws.proofs.Closing.{IsTrueOf}
@@ -8,6 +8,7 @@ use Rattle.ulfm_laws.proofs.Closing.{IsTrueOf}
 -- the entry into a shrink sends, posts and takes nothing
 pub true-open : {done : List StepReport} (r : State) (asked : Step) (new : State) → IsTrueOf r done → LeavesOpen done r asked new → IsTrueOf new done
 true-open r (Wait req) new h o = rw o.only h
+true-open r (Probe source tag comm) new h o = rw o.2 h
 true-open {done} r (Shrink comm) new h o = rw o.1.only (true-idle (Entered comm o.1.known) tt h)
 true-open r _ new h o = absurd o
 

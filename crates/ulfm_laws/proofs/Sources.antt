@@ -1,8 +1,8 @@
 -- Each letter that came is from a rank of the world.
 use Rattle.std.proofs.Common.{◌≡◌, ℕ, zero, suc, ◌<◌, Bool, true, false, cond, List, [], ◌∷◌, ◌++◌, length, ap, sym, ◌∙◌, Some, slice_get, All}
-use Rattle.ulfm_laws.proofs.Common.{Letter, Entry, is_revoked, all_front, all_last, gathered_all, names, Event, Post, Come, End, Clear, ComeAt, history_of, events_by, ends_from, end_at, names_gone}
+use Rattle.ulfm_laws.proofs.Common.{Letter, Pattern, Entry, is_revoked, count_before, ◌==◌, all_front, all_last, gathered_all, names, Event, Post, Come, End, Clear, ComeAt, history_of, events_by, ends_from, end_at, names_gone}
 use Rattle.ulfm_base.specs.declared.item.Item.TheVariants.{Letter as Mail, Gone, Revoke, Enter}
-use Rattle.ulfm_rank.specs.declared.entry.Entry.TheVariants.{Posted, Revoked, Took}
+use Rattle.ulfm_rank.specs.declared.entry.Entry.TheVariants.{Posted, Probed, Cancelled, Revoked, Took}
 use Rattle.ulfm_laws.proofs.Mail.{IsTakenFrom}
 
 -- a letter among these events is from one of n ranks
@@ -29,21 +29,23 @@ from-end : (n : ℕ) (b : Bool) (k : ℕ) → AreFrom n (cond b (End k ∷ []) [
 from-end n true k = from-one n (End k) (λ l e. absurd (cc))
 from-end n false k = from-nil n
 
-from-ends : (n s k : ℕ) (h : List Event) → AreFrom n (ends_from s k h)
-from-ends n s k [] = from-nil n
-from-ends n s k (e ∷ h) = from-append n (end_at s k e) (ends_from s (suc k) h) (one e) (from-ends n s (suc k) h)
+from-ends : (n : ℕ) (test : ℕ → Pattern → Bool) (k : ℕ) (h : List Event) → AreFrom n (ends_from test k h)
+from-ends n test k [] = from-nil n
+from-ends n test k (e ∷ h) = from-append n (end_at test k e) (ends_from test (suc k) h) (one e) (from-ends n test (suc k) h)
   where
-    one : (e : Event) → AreFrom n (end_at s k e)
-    one (Post p) = from-end n (names p.source s) k
+    one : (e : Event) → AreFrom n (end_at test k e)
+    one (Post p) = from-end n (test k p) k
     one _ = from-nil n
 
 from-events : (n : ℕ) (log : List Entry) (h : List Event) (e : Entry) → IsTakenFrom n e → AreFrom n (events_by log h e)
 from-events n log h (Posted p) own = from-append n (Post p ∷ []) (cond (names_gone log p.source) (End (length h) ∷ []) []) (from-one n (Post p) (λ l e. absurd (cc))) (from-end n (names_gone log p.source) (length h))
+from-events n log h (Probed id p) own = from-append n (Post p ∷ []) (End (length h) ∷ []) (from-one n (Post p) (λ l e. absurd (cc))) (from-one n (End (length h)) (λ l e. absurd (cc)))
+from-events n log h (Cancelled id) own = from-ends n (λ k _. count_before h k == id.number) 0 h
 from-events n log h (Revoked context) own = from-cond n (is_revoked log context.number) (Clear context.number) (λ l e. absurd (cc))
 from-events n log h (Took source (Mail letter)) own =
     from-cond n (is_revoked log letter.envelope.context.number) (Come letter)
     (λ l e. let same : letter ≡ l = cc in rw (sym own.1 ∙ ap (λ m. m.envelope.source) same) at own.0)
-from-events n log h (Took source Gone) own = from-ends n source.number 0 h
+from-events n log h (Took source Gone) own = from-ends n (λ _ p. names p.source source.number) 0 h
 from-events n log h (Took source (Revoke context)) own = from-cond n (is_revoked log context.number) (Clear context.number) (λ l e. absurd (cc))
 from-events n log h (Took source (Enter context known)) own = from-nil n
 from-events n log h _ own = from-nil n

@@ -8,19 +8,19 @@ use Rattle.ulfm_base.specs.declared.pattern.Pattern.{Pattern}
 use Rattle.ulfm_base.specs.declared.error.CallError.TheVariants.{ProcFailed, Revoked, Truncated}
 use Rattle.ulfm_base.specs.Group.{rank_in}
 use Rattle.ulfm_base.specs.Pattern.{Admits}
-use Rattle.ulfm_match.specs.declared.request.RequestId.{RequestId}
 use Rattle.ulfm_match.specs.History.{Event, History, Come, End, PostAt, ComeAt, StandsBetween, IsLiveReceive, IsLiveLetter, count_before}
 use Rattle.ulfm_match.specs.Pairing.{Pairing, Pairs, LawfulPairing}
 use Rattle.ulfm_rank.specs.declared.entry.Status.{Status}
+use Rattle.ulfm_rank.specs.declared.message.MessageId.{MessageId}
 use Rattle.ulfm_rank.specs.Calls.{IsSourceOf}
 use Rattle.ulfm_rank.specs.Checks.{group_at}
 use Rattle.ulfm_rank.specs.Facts.{is_stopped, is_revoked}
 use Rattle.ulfm_rank.specs.History.{history_of}
 use Rattle.ulfm_rank.specs.State.{State}
 use Rattle.ulfm_job.specs.declared.step.Step.{Step}
-use Rattle.ulfm_job.specs.declared.step.Step.TheVariants.{Send, Recv, Wait}
+use Rattle.ulfm_job.specs.declared.step.Step.TheVariants.{Send, Recv, Wait, Probe, Mrecv, Cancel}
 use Rattle.ulfm_script.specs.declared.answer.StepAnswer.{StepAnswer}
-use Rattle.ulfm_script.specs.declared.answer.StepAnswer.TheVariants.{Sent, Posted, Done, Over}
+use Rattle.ulfm_script.specs.declared.answer.StepAnswer.TheVariants.{Sent, Posted, Done, Over, Found, Cancelled}
 use Rattle.ulfm_script.specs.declared.answer.StepReport.{StepReport}
 use Rattle.ulfm_script.specs.Player.{step_report}
 use Rattle.ulfm_script.specs.Report.{Report}
@@ -92,13 +92,25 @@ HasOnePairing reports =
     (d : ℕ) → d < length reports → (r : Pairing) × LawfulPairing (history_at reports d) r ×
     ((s : Pairing) → LawfulPairing (history_at reports d) s → (i b : ℕ) → Pairs r i b ↔ Pairs s i b)
 
+-- A step with this answer posted the receive of this source, pattern and number. A probe that found a letter posted one that
+-- ended at once.
+abbrev pub PostsAs : Step → StepAnswer → Option ℕ → Pattern → ℕ → Type 0
+PostsAs (Recv source tag room comm) (Posted id) asked pattern number =
+    (source ≡ asked) × (tag ≡ pattern.tag) × (room ≡ pattern.room) × (comm ≡ pattern.context) × (id.number ≡ number)
+PostsAs (Probe source tag comm) (Found id status) asked pattern number =
+    (source ≡ asked) × (tag ≡ pattern.tag) × (comm ≡ pattern.context) × (id.number ≡ number)
+PostsAs _ _ asked pattern number = ⊥
+
 -- The receive at this place of the history is the one that step i posted.
 pub record IsPostedBy (report : Report) (i place : ℕ) (pattern : Pattern) : Type 0 where
+  pub asked : Step
+  pub said : StepAnswer
+  pub step : IsStep report i asked said
   pub source : Option ℕ
-  pub id : RequestId
-  pub step : IsStep report i (Recv source pattern.tag pattern.room pattern.context) (Posted id)
+  pub number : ℕ
+  pub posts : PostsAs asked said source pattern number
   pub posted : PostAt (history_of report.rank.log) place pattern
-  pub numbered : count_before (history_of report.rank.log) place ≡ id.number
+  pub numbered : count_before (history_of report.rank.log) place ≡ number
   pub asks_for : IsSourceOf (group_at report.rank pattern.context.number) source pattern.source
 
 -- The letter that came to the rank d at this place of its history is the one that step j of the rank s sent to it: before
@@ -126,49 +138,76 @@ pub record IsGiven (reports : List Report) (d i s j : ℕ) : Type 0 where
   pub lawful : LawfulPairing (history_at reports d) pairing
   pub pairs : Pairs pairing post_place come_place
 
--- What a wait of the rank d for step req tells of a letter is true of one that was sent, was given to this receive, and
--- that the receive admits with room enough. The source told is the sender's position in the communicator's group.
-pub record IsTold (reports : List Report) (d req : ℕ) (status : Status) (body : List ℕ) : Type 0 where
+-- What a status that the rank d was told for step req says is true of a letter that was sent, was given to this receive, and that
+-- the receive admits. The source told is the sender's position in the communicator's group.
+pub record IsNamed (reports : List Report) (d req : ℕ) (status : Status) : Type 0 where
   pub sender : ℕ
   pub step : ℕ
   pub given : IsGiven reports d req sender step
   pub admits : Admits given.pattern given.letter.envelope
-  pub fits : length given.letter.body ≤ given.pattern.room
   pub source : rank_in (group_at (report_at reports d).rank given.pattern.context.number) sender ≡ Some status.source
   pub tag : status.tag ≡ given.letter.envelope.tag
   pub size : status.length ≡ length given.letter.body
-  pub carries : body ≡ given.letter.body
 
--- each wait that is done tells of the letter that its receive was given
+-- each probe that found a letter tells of the one that it was given
+abbrev pub FoundIsGiven : List Report → Type 0
+FoundIsGiven reports =
+    (d k : ℕ) (source : Option ℕ) (tag : Option Tag) (comm : Context) (id : MessageId) (status : Status) → d < length reports
+    → IsStep (report_at reports d) k (Probe source tag comm) (Found id status) → IsNamed reports d k status
+
+-- the step whose receive another one asks for: by a wait, a cancel, or a receive of what a probe found
+abbrev pub asks_of : Step → Option ℕ
+asks_of (Wait req) = Some req
+asks_of (Mrecv req room) = Some req
+asks_of (Cancel req) = Some req
+asks_of _ = None
+
+-- the room for a letter that a step asks for: that of the receive, or, for what a probe found, that of the step itself
+abbrev pub room_of : Step → Pattern → ℕ
+room_of (Mrecv req room) pattern = room
+room_of _ pattern = pattern.room
+
+-- What the rank d was told of a letter, when it asked for the receive of step req, is true of the one that this was given, with
+-- room enough.
+pub record IsTold (reports : List Report) (d req : ℕ) (asked : Step) (status : Status) (body : List ℕ) : Type 0 where
+  pub named : IsNamed reports d req status
+  pub fits : length named.given.letter.body ≤ room_of asked named.given.pattern
+  pub carries : body ≡ named.given.letter.body
+
+-- each step that is done tells of the letter that the receive it asks for was given
 abbrev pub DoneIsGiven : List Report → Type 0
 DoneIsGiven reports =
-    (d k req : ℕ) (status : Status) (body : List ℕ) → d < length reports
-    → IsStep (report_at reports d) k (Wait req) (Done status body) → IsTold reports d req status body
+    (d k req : ℕ) (asked : Step) (status : Status) (body : List ℕ) → d < length reports → asks_of asked ≡ Some req
+    → IsStep (report_at reports d) k asked (Done status body) → IsTold reports d req asked status body
 
--- a receive was given a letter that is longer than its room
-pub record IsCut (reports : List Report) (d req : ℕ) : Type 0 where
+-- a receive was given a letter that is longer than the room of a step that asks for it
+pub record IsCut (reports : List Report) (d req : ℕ) (asked : Step) : Type 0 where
   pub sender : ℕ
   pub step : ℕ
   pub given : IsGiven reports d req sender step
-  pub longer : given.pattern.room < length given.letter.body
+  pub longer : room_of asked given.pattern < length given.letter.body
 
 -- each receive that is over as truncated was given a letter longer than its room, and one that is over by a failure or a
--- revocation is given none
+-- revocation, or that was cancelled, is given none
 pub record OverIsTrue (reports : List Report) : Type 0 where
-  pub truncated : (d k req : ℕ) → d < length reports → IsStep (report_at reports d) k (Wait req) (Over Truncated)
-      → IsCut reports d req
-  pub failed : (d k req s j : ℕ) → d < length reports → IsStep (report_at reports d) k (Wait req) (Over ProcFailed)
-      → IsGiven reports d req s j → ⊥
-  pub revoked : (d k req s j : ℕ) → d < length reports → IsStep (report_at reports d) k (Wait req) (Over Revoked)
-      → IsGiven reports d req s j → ⊥
+  pub truncated : (d k req : ℕ) (asked : Step) → d < length reports → asks_of asked ≡ Some req
+      → IsStep (report_at reports d) k asked (Over Truncated) → IsCut reports d req asked
+  pub failed : (d k req s j : ℕ) (asked : Step) → d < length reports → asks_of asked ≡ Some req
+      → IsStep (report_at reports d) k asked (Over ProcFailed) → IsGiven reports d req s j → ⊥
+  pub revoked : (d k req s j : ℕ) (asked : Step) → d < length reports → asks_of asked ≡ Some req
+      → IsStep (report_at reports d) k asked (Over Revoked) → IsGiven reports d req s j → ⊥
+  pub cancelled : (d k req s j : ℕ) (asked : Step) → d < length reports → asks_of asked ≡ Some req
+      → IsStep (report_at reports d) k asked Cancelled → IsGiven reports d req s j → ⊥
 
--- the step whose request a wait with this answer closes
+-- the step whose receive a step with this answer closes
 abbrev pub closes : Step → StepAnswer → Option ℕ
-closes (Wait req) (Done status body) = Some req
-closes (Wait req) (Over reason) = Some req
-closes _ _ = None
+closes asked (Done status body) = asks_of asked
+closes asked (Over reason) = asks_of asked
+closes asked Cancelled = asks_of asked
+closes asked _ = None
 
--- Each send is given to one receive at most, each receive one letter at most, and each is told done or over once at most.
+-- Each send is given to one receive at most, of a receive or a probe, each receive one letter at most, and each is told done, over or
+-- cancelled once at most.
 pub record GivesOnce (reports : List Report) : Type 0 where
   pub one_receive : (d i e k s j : ℕ) → IsGiven reports d i s j → IsGiven reports e k s j → (d ≡ e) × (i ≡ k)
   pub one_letter : (d i s j t k : ℕ) → IsGiven reports d i s j → IsGiven reports d i t k → (s ≡ t) × (j ≡ k)
@@ -176,13 +215,13 @@ pub record GivesOnce (reports : List Report) : Type 0 where
       → slice_get (report_at reports d).steps m ≡ Some y → closes x.step x.answer ≡ Some req → closes y.step y.answer ≡ Some req
       → k ≡ m
 
--- Two waits that are done and tell of one send are one wait.
+-- Two steps that are done and tell of one send are one step.
 abbrev pub DonesDiffer : List Report → Type 0
 DonesDiffer reports =
-    (d k req e m other : ℕ) (status another : Status) (body text : List ℕ)
-    (x : IsTold reports d req status body) (y : IsTold reports e other another text)
-    → IsStep (report_at reports d) k (Wait req) (Done status body)
-    → IsStep (report_at reports e) m (Wait other) (Done another text) → x.sender ≡ y.sender → x.step ≡ y.step
+    (d k req e m other : ℕ) (asked asking : Step) (status another : Status) (body text : List ℕ)
+    (x : IsTold reports d req asked status body) (y : IsTold reports e other asking another text)
+    → asks_of asked ≡ Some req → asks_of asking ≡ Some other → IsStep (report_at reports d) k asked (Done status body)
+    → IsStep (report_at reports e) m asking (Done another text) → x.named.sender ≡ y.named.sender → x.named.step ≡ y.named.step
     → (d ≡ e) × (k ≡ m)
 
 -- No letter overtakes another: of two that one rank sent to another and that a receive admits, the later isn't given to it
@@ -195,8 +234,8 @@ LettersKeepOrder reports =
     → Admits given.pattern (record { context = comm; source = given.letter.envelope.source; tag = tag })
     → (before : ℕ) × (before < i) × IsGiven reports d before s k
 
--- No receive overtakes another: if one that was posted earlier also admits the letter, and hasn't ended by a failure before
--- the pair is made, then it is given a letter that came earlier.
+-- No receive overtakes another: if one that was posted earlier also admits the letter, and hasn't ended before the pair is made (by
+-- a failure, by a cancel, or at once as a probe), then it is given a letter that came earlier.
 abbrev pub ReceivesKeepOrder : List Report → Type 0
 ReceivesKeepOrder reports =
     (d i s j k place : ℕ) (pattern : Pattern) (given : IsGiven reports d i s j) → k < i
@@ -227,6 +266,7 @@ NoneIsMissed reports =
 -- All of this: what a trace tells of letters is true of what was sent, once each and in order.
 pub record IsFaithful (reports : List Report) : Type 0 where
   pub as_sent : ComeAsSent reports
+  pub found : FoundIsGiven reports
   pub done : DoneIsGiven reports
   pub over : OverIsTrue reports
   pub once : GivesOnce reports

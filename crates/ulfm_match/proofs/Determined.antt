@@ -1,8 +1,10 @@
 -- A post and an arrival have one answer.
 use Rattle.std.proofs.Common.{◌≡◌, ℕ, inl, inr, List, [], ◌∷◌, ◌++◌, length, refl, ap, sym, ◌∙◌, arith, Option, Some, None, MatchOption}
 use Rattle.ulfm_match.proofs.Common.{Pattern, Letter, Event, Post, Come, count_before, Pairing, LawfulPairing, Matching, Tracks, Contains-push, PostGets, ArrivalGoesTo}
+use Rattle.ulfm_match.specs.Calls.{ProbeGets, KeepsNone}
 use Rattle.ulfm_match.proofs.Extend.{receive_within, letter_within}
 use Rattle.ulfm_match.proofs.Steps.{pair_cases}
+use Rattle.ulfm_match.proofs.Probed.{posted_with, probe_gives, probe_leaves}
 use Rattle.ulfm_match.proofs.Unique.{one_pairing, same_letter}
 
 -- what a post says of its answer
@@ -27,6 +29,23 @@ module _ (h : List Event) (r : Pairing) (law : LawfulPairing h r) (p : Pattern) 
         | inl old ↦ absurd (let w = receive_within h r law (length h) t.place old in omega arith)
         | inr e ↦ ap Some (same_letter h t.place l k t.came (rw e.1 t'.came))
       ]
+
+-- what a probe says of its answer
+abbrev Probes : List Event → Pairing → Pattern → Matching → Option Letter → Type 0
+Probes h r p s o = MatchOption o (KeepsNone h r p) (λ letter. ProbeGets h r p letter s)
+
+module _ (h : List Event) (r : Pairing) (law : LawfulPairing h r) (p : Pattern) where
+  never_found : (s' : Matching) (l : Letter) → KeepsNone h r p → ProbeGets h r p l s' → ⊥
+  never_found s' l none g = let f = posted_with g in probe_leaves h r p law none f.pairing f.lawful g.place f.pairs
+
+  pub one_find : (s s' : Matching) (o o' : Option Letter) → Probes h r p s o → Probes h r p s' o' → o ≡ o'
+  one_find s s' None None t t' = refl
+  one_find s s' None (Some l) t t' = absurd (never_found s' l t t')
+  one_find s s' (Some l) None t t' = absurd (never_found s l t' t)
+  one_find s s' (Some l) (Some k) t t' =
+      let f = posted_with t in
+      let e : t.place ≡ t'.place = f.lawful.one_letter (length h) t.place t'.place f.pairs (probe_gives t' f.pairing f.lawful) in
+      ap Some (same_letter h t.place l k t.came (rw e t'.came))
 
 abbrev Arrives : List Event → Pairing → Letter → Matching → Option ℕ → Type 0
 Arrives h r l s o = MatchOption o (Tracks (h ++ Come l ∷ []) r s) (λ id. ArrivalGoesTo h r l id s)

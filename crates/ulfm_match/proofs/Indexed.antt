@@ -22,9 +22,9 @@ admits_key p l a =
           ∙ (ap (λ n. key_number l.envelope.context.number n (tag_of p.tag)) s.1 ∙ ap (λ n. key_number l.envelope.context.number (source_at s.0 l.envelope.source) n) t.1);
     }
 
--- a kept letter that a pattern admits stands in the bucket of its key
-pub kept_found : (p : Pattern) (count : ℕ) (es : Entries Letter) (bs : Buckets) → IsIndexed IsKeyOf None count es bs → (m : ℕ) → Passes (λ (l : Letter). Admits p l.envelope) es m → Contains (numbers_at bs (key_of p)) m
-kept_found p count es bs i m q = elim (i.held m q.entry (key_of p) q.found (admits_key p q.entry q.passes)) [ inl e ↦ absurd cc | inr c ↦ c ]
+-- a kept letter that a pattern admits stands in the bucket of its key, or is fresh
+pub kept_found : {p : Pattern} {fresh : Option ℕ} {top : ℕ} {es : Entries Letter} {bs : Buckets} → IsIndexed IsKeyOf fresh top es bs → (m : ℕ) → Passes (λ (l : Letter). Admits p l.envelope) es m → Contains (numbers_at bs (key_of p)) m ⊎ (fresh ≡ Some m)
+kept_found {p} i m q = elim (i.held m q.entry (key_of p) q.found (admits_key p q.entry q.passes)) [ inl e ↦ inr e | inr c ↦ inl c ]
 
 -- a receive that admits a letter stands in the bucket of one of its keys
 pub waiting_found : (l : Letter) (count : ℕ) (es : Entries Pattern) (bs : Buckets) → IsIndexed IsKeyOfReceive None count es bs → (m : ℕ) → Passes (λ (p : Pattern). Admits p l.envelope) es m → (k : ℕ) × IsKeyOf l k × Contains (numbers_at bs k) m

@@ -19,6 +19,7 @@ pub mod Members
 pub mod Order
 pub mod PostTakes
 pub mod PostWaits
+pub mod Probed
 pub mod Rising
 pub mod Steps
 pub mod Unique

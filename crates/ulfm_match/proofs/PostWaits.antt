@@ -10,7 +10,7 @@ use Rattle.ulfm_match.proofs.Steps.{posted_more, posted_here, stands_nowhere, cl
 module _ (h : List Event) (r : Pairing) (s : Matching) (p : Pattern) (t : Tracks h r s) (open' : IsUncleared h p.context.number) where
   -- no kept letter fits: the receive waits
   module _ (none : (y : ℕ × Letter) → Contains s.kept y → Admits p y.1.envelope → ⊥) where
-    post_lawful : LawfulPairing (h ++ Post p ∷ []) r
+    pub post_lawful : LawfulPairing (h ++ Post p ∷ []) r
     post_lawful =
         extend h r t.lawful (Post p) r 0 0 (λ i b q. q) (λ i b q. inl q)
         (λ i b q l w k adm.

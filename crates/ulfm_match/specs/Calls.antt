@@ -3,9 +3,9 @@
 use Rattle.std.specs.Prelude.{◌≡◌, ℕ, true, List, [], ◌∷◌, ◌++◌, Option, length, MatchOption, Contains}
 use Rattle.ulfm_base.specs.declared.pattern.Pattern.{Pattern}
 use Rattle.ulfm_base.specs.declared.envelope.Letter.{Letter}
-use Rattle.ulfm_base.specs.Pattern.{names}
+use Rattle.ulfm_base.specs.Pattern.{names, Admits}
 use Rattle.ulfm_match.specs.History.{Event, History, Post, Come, End, Clear, PostAt, ComeAt, count_before}
-use Rattle.ulfm_match.specs.Pairing.{Pairing}
+use Rattle.ulfm_match.specs.Pairing.{Pairing, IsKept}
 use Rattle.ulfm_match.specs.State.{Matching, Tracks}
 
 -- the receive that is posted now gets this letter, which came before
@@ -13,6 +13,16 @@ pub record PostGets (history : History) (pairing : Pairing) (pattern : Pattern) 
   pub place : ℕ
   pub came : ComeAt history place letter
   pub tracks : Tracks (history ++ Post pattern ∷ []) (pairing ++ (length history, place) ∷ []) new
+
+-- the receive that is posted now and ends at once gets this letter, which came before
+pub record ProbeGets (history : History) (pairing : Pairing) (pattern : Pattern) (letter : Letter) (new : Matching) : Type 0 where
+  pub place : ℕ
+  pub came : ComeAt history place letter
+  pub tracks : Tracks (history ++ Post pattern ∷ End (length history) ∷ []) (pairing ++ (length history, place) ∷ []) new
+
+-- no letter is kept that the pattern admits
+abbrev pub KeepsNone : History → Pairing → Pattern → Type 0
+KeepsNone history pairing pattern = (b : ℕ) (letter : Letter) → IsKept history pairing b letter (length history) → Admits pattern letter.envelope → ⊥
 
 -- the letter that comes now goes to the receive of this number, which was posted before
 pub record ArrivalGoesTo (history : History) (pairing : Pairing) (letter : Letter) (id : ℕ) (new : Matching) : Type 0 where
@@ -27,6 +37,12 @@ abbrev pub TracksPost : Pattern → Matching → Option Letter → Matching → 
 TracksPost pattern old answer new =
     (history : History) (pairing : Pairing) → Tracks history pairing old →
     MatchOption answer (Tracks (history ++ Post pattern ∷ []) pairing new) (λ letter. PostGets history pairing pattern letter new)
+
+-- the answer is the letter that was taken, as by a receive that was posted and ended at once, or none was there
+abbrev pub TracksProbe : Pattern → Matching → Option Letter → Matching → Type 0
+TracksProbe pattern old answer new =
+    (history : History) (pairing : Pairing) → Tracks history pairing old →
+    MatchOption answer (KeepsNone history pairing pattern) (λ letter. ProbeGets history pairing pattern letter new)
 
 -- a letter came, and the answer is the number of the receive that gets it
 abbrev pub TracksArrival : Letter → Matching → Option ℕ → Matching → Type 0

@@ -2,7 +2,7 @@
 ghost use Rattle.std.specs.Prelude.{◌≡◌, ◌↔◌, ◌++◌, ℕ, Bool, Option, length, []};
 ghost use Rattle.ulfm_base.specs.declared.envelope.Letter.{Letter};
 ghost use Rattle.ulfm_base.specs.declared.pattern.Pattern.{Pattern};
-ghost use Rattle.ulfm_match.specs.Calls.{TracksPost, TracksArrival};
+ghost use Rattle.ulfm_match.specs.Calls.{TracksPost, TracksProbe, TracksArrival};
 ghost use Rattle.ulfm_match.specs.History.{History};
 ghost use Rattle.ulfm_match.specs.Pairing.{Pairing, Pairs, LawfulPairing, pairs_below};
 ghost use Rattle.ulfm_match.specs.State.{Matching, Tracks};
@@ -29,6 +29,13 @@ pub fn one_answer_to_a_post()
     ensures { (history : History) (pairing : Pairing) (pattern : Pattern) (old new other : Matching) (answer another : Option Letter) →
         Tracks history pairing old →
         TracksPost pattern old answer new → TracksPost pattern old another other → answer ≡ another }
+{}
+
+/// So is what a probe answers.
+pub fn one_answer_to_a_probe()
+    ensures { (history : History) (pairing : Pairing) (pattern : Pattern) (old new other : Matching) (answer another : Option Letter) →
+        Tracks history pairing old →
+        TracksProbe pattern old answer new → TracksProbe pattern old another other → answer ≡ another }
 {}
 
 /// So is which receive an arriving letter goes to, if any.

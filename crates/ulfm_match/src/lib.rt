@@ -16,7 +16,7 @@ mod taking;
 
 pub use arrived::Arrived;
 pub use law::{
-    beginnings_are_lawful, nothing_remains_at_first, one_answer_to_a_post,
+    beginnings_are_lawful, nothing_remains_at_first, one_answer_to_a_post, one_answer_to_a_probe,
     one_answer_to_an_arrival, one_lawful_pairing,
 };
 pub use matcher::Matcher;

@@ -1,8 +1,8 @@
 //! The receives that wait and the letters that are kept.
-ghost use Rattle.std.specs.Prelude.{◌≡◌, ◌≢◌, ◌+◌, ◌<◌, ◌^◌, ◌↔◌, ℕ, [], IsTrue, Contains, OnOk, OnErr, false};
+ghost use Rattle.std.specs.Prelude.{◌≡◌, ◌≢◌, ◌+◌, ◌<◌, ◌^◌, ◌↔◌, ℕ, [], IsTrue, Contains, OnOk, OnErr, IfNone, IfSome, false};
 ghost use Rattle.ulfm_base.specs.Pattern.{Admits, names};
 ghost use Rattle.ulfm_match.specs.Arrived.{answered, HandsOn};
-ghost use Rattle.ulfm_match.specs.Calls.{TracksPost, TracksArrival, TracksEnd, TracksClear, TracksNamed};
+ghost use Rattle.ulfm_match.specs.Calls.{TracksPost, TracksProbe, TracksArrival, TracksEnd, TracksClear, TracksNamed};
 ghost use Rattle.ulfm_match.specs.State.{is_cleared, Tracks, Keeps};
 
 use crate::arrived::Arrived;
@@ -140,7 +140,7 @@ impl Matcher {
     {
         let number = self.count;
         self.count += 1;
-        match take_kept(&mut self.kept, &mut self.came, &pattern) {
+        match take_kept(&mut self.kept, &mut self.came, self.fresh, &pattern) {
             Some(letter) => (RequestId { number }, Some(letter)),
             None => {
                 let _ = self.waiting.insert(number, pattern);
@@ -149,6 +149,26 @@ impl Matcher {
                 (RequestId { number }, None)
             }
         }
+    }
+
+    /// Takes the earliest kept letter that the pattern admits, as a receive that is posted now and ends at once
+    /// (MPI 4.0, 3.8.2). `None` where there is none: then nothing changes. It never answers out of memory, and no room is
+    /// used up.
+    ///
+    /// It is the caller's fault to name a context that was cleared; `is_cleared` says which those are.
+    pub fn probe(&mut self, pattern: &Pattern) -> Option<Letter>
+        requires countable { self.old.count + 1 < 2 ^ 64 }
+        requires open { is_cleared self.old pattern.now.context.number ≡ false }
+        ensures idle { IfNone result (self.new ≡ self.old) }
+        ensures count { IfSome result (λ letter. self.new.count ≡ self.old.count + 1) }
+        ensures waiting { self.new.waiting ≡ self.old.waiting }
+        ensures cleared { self.new.cleared ≡ self.old.cleared }
+        ensures prepared { self.new.prepared ≡ self.old.prepared }
+        ensures tracks { TracksProbe pattern.now self.old result self.new }
+    {
+        let letter = take_kept(&mut self.kept, &mut self.came, self.fresh, pattern)?;
+        self.count += 1;
+        Some(letter)
     }
 
     /// Takes a letter that came. The earliest waiting receive that admits it gets it; where there is none it is kept.
@@ -184,7 +204,7 @@ impl Matcher {
         ensures kept { self.new.kept ≡ self.old.kept }
         ensures count { self.new.count ≡ self.old.count }
         ensures cleared { self.new.cleared ≡ self.old.cleared }
-        ensures prepared { IsTrue self.old.prepared → IsTrue self.new.prepared }
+        ensures prepared { self.new.prepared ≡ self.old.prepared }
         ensures tracks { TracksEnd id.number self.old self.new }
     {
         if !self.waiting.contains_key(&id.number) {
@@ -237,13 +257,6 @@ impl Matcher {
     pub fn keeps_match(&self, pattern: &Pattern) -> bool
         ensures { IsTrue result ↔ ((entry : ℕ × Letter) × Contains self.now.kept entry × Admits pattern.now entry.1.envelope) }
     {
-        if let Some(number) = self.fresh {
-            if let Some(letter) = self.kept.get(&number) {
-                if pattern.admits(&letter.envelope) {
-                    return true;
-                }
-            }
-        }
-        first_kept(&self.came, &self.kept, pattern).is_some()
+        first_kept(&self.came, &self.kept, self.fresh, pattern).is_some()
     }
 }

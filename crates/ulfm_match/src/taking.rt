@@ -13,13 +13,14 @@ use ulfm_base::{Letter, Pattern};
 pub(crate) fn take_kept(
     kept: &mut IndexMap<u64, Letter>,
     buckets: &mut Buckets,
+    fresh: Option<u64>,
     pattern: &Pattern,
 ) -> Option<Letter>
-    requires { (count : ℕ) × IsIndexed IsKeyOf None count kept.old buckets.old }
+    requires { (top : ℕ) × IsIndexed IsKeyOf fresh top kept.old buckets.old }
     ensures taken { MatchOption result (NonePass (MayGet pattern.now) kept.old) (GivesLetter pattern.now kept.old kept.new buckets.old buckets.new) }
     ensures idle { IfNone result ((kept.new ≡ kept.old) × (buckets.new ≡ buckets.old)) }
 {
-    match first_kept(buckets, kept, pattern) {
+    match first_kept(buckets, kept, fresh, pattern) {
         Some(number) => {
             let letter = kept.swap_remove(&number)?;
             forget_letter(buckets, &letter.envelope, kept);
@@ -35,7 +36,7 @@ pub(crate) fn take_waiting(
     buckets: &mut Buckets,
     letter: &Letter,
 ) -> Option<u64>
-    requires { (count : ℕ) × IsIndexed IsKeyOfReceive None count waiting.old buckets.old }
+    requires { (top : ℕ) × IsIndexed IsKeyOfReceive None top waiting.old buckets.old }
     ensures taken { MatchOption result (NonePass (MayGoTo letter.now) waiting.old) (GivesReceive letter.now waiting.old waiting.new buckets.old buckets.new) }
     ensures idle { IfNone result ((waiting.new ≡ waiting.old) × (buckets.new ≡ buckets.old)) }
 {

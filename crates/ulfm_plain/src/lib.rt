@@ -56,6 +56,13 @@ impl Plain {
         }
     }
 
+    /// Takes the earliest kept letter that the pattern admits. Where there is one, it counts as a post.
+    pub fn probe(&mut self, pattern: &Pattern) -> Option<Letter> {
+        let k = first_kept(self.kept.as_slice(), pattern)?;
+        self.count = self.count.wrapping_add(1);
+        Some(self.kept.remove(k))
+    }
+
     /// Takes a letter that came. Answers the earliest waiting receive that admits it; where there is none it is kept.
     ///
     /// # Errors

@@ -1,6 +1,6 @@
 -- What a test answers.
-use Rattle.std.proofs.Common.{◌≡◌, ℕ, Bool, true, false, cond, List, refl, sym, ◌∙◌, subst, Option, Some}
-use Rattle.ulfm_rank.proofs.Common.{Pattern, Letter, WorldRank, PostAt, Entry, TestAnswer, Fate, Waiting, Paired, Failed, Cleared, Request, group_of, history_of, AdmitsSource, Pairing, Pairs, LawfulPairing, Matching, same_pattern, same_letter, one_pairing, letter_within, pends, Got, IsUnpaired, IsOpenReceive, IsReceived, IsAnswerBy, IsRequest, IsTestAnswer, IsSourceIn, IsInStep, Became, IsDelivered, GivesAnswer, HasSender, Source, One, Any, is_member, Done, Over, Pending, NotYet}
+use Rattle.std.proofs.Common.{◌≡◌, ℕ, Bool, true, false, cond, List, refl, ap, sym, ◌∙◌, subst, Option, Some}
+use Rattle.ulfm_rank.proofs.Common.{Pattern, Letter, WorldRank, PostAt, Entry, TestAnswer, Fate, Waiting, Paired, Found, Failed, Cleared, Request, group_of, history_of, AdmitsSource, Pairing, Pairs, LawfulPairing, Matching, same_pattern, same_letter, one_pairing, letter_within, pends, Got, IsUnpaired, IsOpenReceive, IsReceived, IsAnswerBy, IsRequest, IsTestAnswer, IsSourceIn, IsInStep, is_found, is_released, false≢true, IsNoRequest, IsMessage, IsNoMessage, with_room, Became, IsDelivered, GivesAnswer, HasSender, Source, One, Any, is_member, Done, Over, Pending, NotYet}
 use Rattle.ulfm_rank.proofs.Groups.{rank_some}
 use Rattle.ulfm_rank.proofs.Grouped.{members_found}
 use Rattle.ulfm_rank.proofs.Steps.{same_place}
@@ -30,6 +30,7 @@ module _ {n : ℕ} {log : List Entry} {m : Matching} {find : ℕ → Option Requ
       sender : (o : Fate) (i : ℕ) (p : Pattern) → IsSourceIn group p.source → PostAt (history_of log) i p → Became (history_of log) t.pairing i p o → HasSender group o
       sender Waiting i p source posted b = tt
       sender (Paired l) i p source posted b = rank_some group l.envelope.source.number (got_member i p l group source posted b)
+      sender (Found l) i p source posted b = rank_some group l.envelope.source.number (got_member i p l group source posted b)
       sender Failed i p source posted b = tt
       sender Cleared i p source posted b = tt
 
@@ -66,6 +67,7 @@ module _ {n : ℕ} {log : List Entry} {m : Matching} {find : ℕ → Option Requ
         pick true e = record { unpaired = free; still_open = opened; pends = e }
         pick false e = record { unpaired = free; still_open = opened; pends = e }
     answers (Paired l) g a gives = delivered l g a gives
+    answers (Found l) g a gives = delivered l g a gives
     answers Failed b a gives = subst (IsAnswerBy n log r i p) (sym gives) (unpaired b.0, b.1)
     answers Cleared b a gives = subst (IsAnswerBy n log r i p) (sym gives) (unpaired b.0, b.1)
 
@@ -78,7 +80,36 @@ module _ {n : ℕ} {log : List Entry} {m : Matching} {find : ℕ → Option Requ
       let b : Became (history_of log) t.pairing i q.pattern q.fate = subst (λ k. Became (history_of log) t.pairing k q.pattern q.fate) e s.fate in
       subst (λ w. IsAnswerBy n log r i w a) ep (answers i q.pattern r law group made q.fate b a gives)
 
-  pub is_request : (id : ℕ) (q : Request) → find id ≡ Some q → (i : ℕ) × (p : Pattern) × IsRequest log id i p
-  is_request id q f =
+  -- the answer for a message, received with another room
+  pub received : (id : ℕ) (q : Request) → find id ≡ Some q → (l : Letter) → q.fate ≡ Found l → (room : ℕ) (group : List ℕ) → group_of n log q.pattern.context.number ≡ Some group → (a : TestAnswer) → IsDelivered group (with_room q.pattern room) l a
+      → (i : ℕ) (p : Pattern) → IsMessage log id i p → (r : Pairing) → LawfulPairing (history_of log) r → IsAnswerBy n log r i (with_room p room) a
+  received id q f l found room group made a gives i p is r law =
       let s = t.table.standing id q f in
-      (s.place, q.pattern, record { posted = s.posted; numbered = s.numbered; unreleased = t.table.unreleased id q f })
+      let e = same_place (history_of log) t.pairing id q s i p is.posted is.numbered in
+      let ep = same_pattern (history_of log) i q.pattern p (subst (λ k. PostAt (history_of log) k q.pattern) e s.posted) is.posted in
+      let b : Got (history_of log) t.pairing i l = subst (λ k. Got (history_of log) t.pairing k l) e (subst (Became (history_of log) t.pairing s.place q.pattern) found s.fate) in
+      subst (λ (w : Pattern). IsAnswerBy n log r i (with_room w room) a) ep (delivered i (with_room q.pattern room) r law group made l b a gives)
+
+  pub is_message : (id : ℕ) (q : Request) → find id ≡ Some q → is_found q.fate ≡ true → (i : ℕ) × (p : Pattern) × IsMessage log id i p
+  is_message id q f found =
+      let s = t.table.standing id q f in
+      (s.place, q.pattern, record { posted = s.posted; numbered = s.numbered; unreleased = t.table.unreleased id q f; found = sym (t.table.kind id q f) ∙ found })
+
+  -- no message has a number that stands for none in the table, or for a request
+  pub no_message : (id : ℕ) → ((q : Request) → find id ≡ Some q → is_found q.fate ≡ false) → IsNoMessage log id
+  no_message id none i p is =
+      let c = t.table.complete i p is.posted (ap (is_released log) is.numbered ∙ is.unreleased) in
+      let f = subst (λ k. find k ≡ Some c.0) is.numbered c.1 in
+      false≢true (sym (none c.0 f) ∙ (t.table.kind id c.0 f ∙ is.found))
+
+  pub is_request : (id : ℕ) (q : Request) → find id ≡ Some q → is_found q.fate ≡ false → (i : ℕ) × (p : Pattern) × IsRequest log id i p
+  is_request id q f receive =
+      let s = t.table.standing id q f in
+      (s.place, q.pattern, record { posted = s.posted; numbered = s.numbered; unreleased = t.table.unreleased id q f; receive = sym (t.table.kind id q f) ∙ receive })
+
+  -- no request has a number that stands for none in the table, or for a message
+  pub no_request : (id : ℕ) → ((q : Request) → find id ≡ Some q → is_found q.fate ≡ true) → IsNoRequest log id
+  no_request id none i p is =
+      let c = t.table.complete i p is.posted (ap (is_released log) is.numbered ∙ is.unreleased) in
+      let f = subst (λ k. find k ≡ Some c.0) is.numbered c.1 in
+      false≢true (sym is.receive ∙ (sym (t.table.kind id c.0 f) ∙ none c.0 f))

@@ -1,7 +1,7 @@
 -- The table after a revocation.
 use Rattle.std.proofs.Common.{◌≡◌, ◌≢◌, ℕ, ◌≤◌, Bool, true, false, cond, List, [], ◌∷◌, ◌++◌, length, refl, ap, sym, ◌∙◌, Option, Some, arith, ◌&&◌, ◌==◌, eqb-true}
-use Rattle.ulfm_rank.proofs.Common.{Pattern, Event, Clear, Pairing, LawfulPairing, Entry, Fate, Waiting, Paired, Failed, Cleared, Request, eq-eqb, false≢true, letter_within, Became, IsTable, get_new, stands_back, is_waiting, over_context, Changes}
-use Rattle.ulfm_rank.proofs.Tables.{became_keeps, no_post, refated, table_change}
+use Rattle.ulfm_rank.proofs.Common.{Pattern, Event, Clear, Pairing, LawfulPairing, Entry, Fate, Waiting, Paired, Found, Failed, Cleared, Request, and_parts, eq-eqb, false≢true, letter_within, Became, IsTable, get_new, stands_back, is_waiting, over_context, Changes}
+use Rattle.ulfm_rank.proofs.Tables.{became_keeps, no_post, refated, same_kind, table_change, waiting_receive}
 
 module _ (n c : ℕ) (log : List Entry) (h : List Event) (r : Pairing) (law : LawfulPairing h r) where
   still : (i : ℕ) (p : Pattern) (o : Fate) → (o ≡ Waiting → p.context.number ≢ c) → Became h r i p o → Became (h ++ Clear c ∷ []) r i p o
@@ -22,9 +22,10 @@ module _ (n c : ℕ) (log : List Entry) (h : List Event) (r : Pairing) (law : La
       )
       pick false e = still i p Waiting (λ f g. false≢true (sym e ∙ eq-eqb p.context.number c g)) w
   became_cleared i p (Paired l) b = still i p (Paired l) (λ e. cc) b
+  became_cleared i p (Found l) b = still i p (Found l) (λ e. cc) b
   became_cleared i p Failed b = still i p Failed (λ e. cc) b
   became_cleared i p Cleared b = still i p Cleared (λ e. cc) b
 
   pub table_cleared : (find find' : ℕ → Option Request) → IsTable n log h r find → Changes (λ k. over_context c) find find' → IsTable n log (h ++ Clear c ∷ []) r find'
   table_cleared find find' t change =
-      table_change n log h (Clear c ∷ []) r r find find' t (no_post h (Clear c) (λ q e. cc)) (λ k. over_context c) change (λ k q. refated (is_waiting q.fate && (q.pattern.context.number == c)) Cleared q) (λ k q f s. became_cleared s.place q.pattern q.fate s.fate)
+      table_change n log h (Clear c ∷ []) r r find find' t (no_post h (Clear c) (λ q e. cc)) (λ k. over_context c) change (λ k q. refated (is_waiting q.fate && (q.pattern.context.number == c)) Cleared q) (λ k q f s. became_cleared s.place q.pattern q.fate s.fate) (λ k q f s. same_kind (is_waiting q.fate && (q.pattern.context.number == c)) Cleared q refl (λ e. waiting_receive q.fate (and_parts (is_waiting q.fate) (q.pattern.context.number == c) e).0))

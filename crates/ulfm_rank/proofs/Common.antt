@@ -13,12 +13,12 @@ pub use Rattle.ulfm_base.specs.declared.rank.WorldRank.{WorldRank}
 pub use Rattle.ulfm_base.specs.declared.rank_set.RankSet.{RankSet}
 pub use Rattle.ulfm_match.specs.History.{Event, Clear, count_before, Come, Post, PostAt, End, IsWellFormed, StandsBetween, counts_as}
 pub use Rattle.ulfm_match.specs.Pairing.{Pairing, LawfulPairing, IsKept, IsWaiting, Pairs, pairs_below}
-pub use Rattle.ulfm_rank.specs.Answer.{IsRequest, Got, IsAnswerBy, IsOpenReceive, IsOver, IsReceived, IsTestAnswer, IsUnpaired, StandsFirst, is_release, pends}
+pub use Rattle.ulfm_rank.specs.Answer.{IsRequest, IsNoRequest, Got, IsAnswerBy, IsOpenReceive, IsOver, IsReceived, IsTestAnswer, IsUnpaired, StandsFirst, is_release, pends}
 pub use Rattle.ulfm_rank.specs.Checks.{group_at}
 pub use Rattle.ulfm_rank.specs.Communicators.{find_group, group_of, members_of, or_empty, comms_of, copy_of, is_made, made_by}
-pub use Rattle.ulfm_rank.specs.Facts.{is_stopped, is_revoked, is_gone, is_stop, is_released, took, took_by}
+pub use Rattle.ulfm_rank.specs.Facts.{is_stopped, is_revoked, is_gone, is_stop, is_released, is_probed, probes, took, took_by}
 pub use Rattle.ulfm_rank.specs.inside.Fields.{HasFaults, AreApart, AreOfWorld, HasCommunicators, HasEntries, HasShrinks, Notes, by_number, names_known, number_of, pends_by, set_of, was_revoked_in}
-pub use Rattle.ulfm_rank.specs.History.{history_of, events_by, end_at, ends_from, ends_of, item_events, names_gone, post_events}
+pub use Rattle.ulfm_rank.specs.History.{history_of, events_by, end_at, end_numbered, ends_from, ends_of, item_events, names_gone, post_events}
 pub use Rattle.ulfm_rank.specs.inside.Rank.{state_of, Follows, Holds, stop_places}
 pub use Rattle.ulfm_rank.specs.Log.{or_else, first_given}
 pub use Rattle.ulfm_rank.specs.inside.Outboxes.{Box, for_each, AllGrow, Boxes, Grows, HasOutboxes, Slot, box_at, contents_of, empty_box, has_room, item_at, item_of_entry, mark_of, passed_item, with_items_out, with_notice_out, with_place}
@@ -26,16 +26,16 @@ pub use Rattle.ulfm_rank.specs.Facts.{Knows, IsSigned, acknowledged_by, acknowle
 pub use Rattle.ulfm_rank.specs.Owed.{owed, owed_by, passed_on, entry_told, is_told, owed_by_item}
 pub use Rattle.ulfm_rank.specs.Shrink.{has_entered, is_foreign, IsOwnAffair, IsProposal, adopts, contradicts, differ, entry_of, has_adopted, has_proposal, heard_of, is_apart, is_out, item_entry, listed_of}
 pub use Rattle.ulfm_rank.specs.State.{View, GoesOut, IsState, Mark, State, logged, mark_at, marked, no_mark, notice, outbox, owes, returned, start_state, taken_out, unmarked, went_out, with_marks}
-pub use Rattle.ulfm_rank.specs.inside.Table.{IsOfGroup, Became, GivesAnswer, HasSender, IsDelivered, IsInStep, IsSourceIn, IsStanding, IsTable}
+pub use Rattle.ulfm_rank.specs.inside.Table.{IsOfGroup, Became, GivesAnswer, HasSender, IsDelivered, IsInStep, IsSourceIn, IsStanding, IsTable, is_found}
 pub use Rattle.ulfm_rank.specs.declared.entry.Entry.{Entry}
-pub use Rattle.ulfm_rank.specs.declared.entry.Entry.TheVariants.{Took, Revoked, Entered, Adopted, Duplicated, Posted, Sent, Released, Acknowledged, Stopped}
+pub use Rattle.ulfm_rank.specs.declared.entry.Entry.TheVariants.{Took, Revoked, Entered, Adopted, Duplicated, Posted, Probed, Received, Cancelled, Sent, Released, Acknowledged, Stopped}
 pub use Rattle.ulfm_rank.specs.declared.entry.TestAnswer.{TestAnswer}
 pub use Rattle.ulfm_rank.specs.declared.request.Fate.{Fate}
-pub use Rattle.ulfm_rank.specs.declared.request.Fate.TheVariants.{Paired, Cleared, Failed, Waiting}
+pub use Rattle.ulfm_rank.specs.declared.request.Fate.TheVariants.{Paired, Found, Cleared, Failed, Waiting}
 pub use Rattle.ulfm_rank.specs.declared.request.Request.{Request}
 pub use Rattle.indexmap.specs.IndexMap.{get, index_map_len, set_value_at}
 pub use Rattle.std.proofs.Math.Bool.{or-false}
-pub use Rattle.std.proofs.lemmas.Bool.{cases_Bool, cases_eq, cases_lt, cond-true, eq-eqb, eqb-false, eqb-true, false_from_ne_true, false≢true, ne_eqb, not-false, not_from_true, or_cases, or_from, or_left, or_parts, or_right}
+pub use Rattle.std.proofs.lemmas.Bool.{and_parts, cases_Bool, cases_eq, cases_lt, cond-true, eq-eqb, eqb-false, eqb-true, false_from_ne_true, false≢true, ne_eqb, not-false, not_from_true, or_cases, or_from, or_left, or_parts, or_right}
 pub use Rattle.std.proofs.lemmas.Bool.Decides.{nat_tests}
 pub use Rattle.std.proofs.lemmas.List.Elements.{All-append, All-drop, All-filter, All-head, All-nil, All-pop, All-push, Contains-append_cases, Contains-append_left, Contains-append_right, Contains-push}
 pub use Rattle.std.proofs.lemmas.List.Folds.{list_all-map, list_all_at, list_any-append, list_any_at}
@@ -57,6 +57,8 @@ pub use Rattle.ulfm_fault.specs.Facts.{FaultState, acknowledged_in, has_unacked,
 pub use Rattle.ulfm_match.proofs.Cut.{cut, get_front, get_in_front, inside_back, inside_to}
 pub use Rattle.ulfm_match.specs.Calls.{EndsNamed, TracksEnd}
 pub use Rattle.ulfm_match.specs.declared.request.RequestId.{RequestId}
+pub use Rattle.ulfm_rank.specs.declared.message.MessageId.{MessageId}
+pub use Rattle.ulfm_rank.specs.Messages.{FindsNone, IsMessage, IsMessageAnswer, IsNoMessage, KeepsOne, TellsOf, WouldGet, WouldWait, is_receipt, posting, with_room}
 pub use Rattle.ulfm_rank.specs.Calls.{IsFrom, IsReceive, Proposes}
 pub use Rattle.ulfm_rank.specs.Paired.{IsPaired}
 pub use Rattle.ulfm_rank.specs.declared.entry.TestAnswer.TheVariants.{Done, NotYet, Over, Pending}

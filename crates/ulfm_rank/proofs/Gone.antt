@@ -1,51 +1,14 @@
 -- The ends that a notice gives.
 use Rattle.std.proofs.Common.{◌≡◌, ◌≢◌, ℕ, zero, suc, ◌+◌, ◌≤◌, ◌⊎◌, inl, inr, Bool, true, false, cond, List, [], ◌∷◌, ◌++◌, length, refl, ap, sym, ◌∙◌, subst, Option, Some, arith, length-append, slice_get, Contains, ◌&&◌}
-use Rattle.ulfm_rank.proofs.Common.{Pattern, Entry, Fate, Waiting, Paired, Failed, Cleared, Request, Contains-append_left, Contains-append_right, Contains-append_cases, names, Pairing, IsWaiting, LawfulPairing, same_pattern, letter_within, Became, IsTable, slice_get_within, is_waiting, over_named, Changes, Event, Post, Come, End, Clear, PostAt, StandsBetween, end_at, ends_from, ends_of, get_front, EndsNamed}
+use Rattle.ulfm_rank.proofs.Common.{Pattern, Entry, Fate, Waiting, Paired, Found, Failed, Cleared, Request, and_parts, names, Pairing, IsWaiting, LawfulPairing, same_pattern, letter_within, Became, IsTable, slice_get_within, is_waiting, over_named, Changes, Event, Post, Come, End, Clear, PostAt, StandsBetween, ends_of, get_front, EndsNamed}
 use Rattle.ulfm_match.proofs.Decide.{Contains-none, Contains-head, Contains-tail, Contains-cons_cases}
-use Rattle.ulfm_rank.proofs.Tables.{first_on, refated, table_change}
-
--- an end of the receive at the place i of these events, the first of which stands at k
-abbrev IsNamedAt : ℕ → ℕ → List Event → Event → Type 0
-IsNamedAt s k h x = (i : ℕ) × (p : Pattern) × (x ≡ End (k + i)) × PostAt h i p × (names p.source s ≡ true)
-
-here : (s k : ℕ) (e x : Event) (h : List Event) → Contains (end_at s k e) x → IsNamedAt s k (e ∷ h) x
-here s k (Post p) x h c = pick (names p.source s) refl c
-  where
-    pick : (b : Bool) → names p.source s ≡ b → Contains (cond b (End k ∷ []) []) x → IsNamedAt s k (Post p ∷ h) x
-    pick true e c = elim (Contains-cons_cases (End k) [] x c) [
-      | inl f ↦ (0, p, sym f ∙ ap End (let g : k ≡ k + 0 = omega arith in g), refl, e)
-      | inr f ↦ absurd (Contains-none x f)
-    ]
-    pick false e c = absurd (Contains-none x c)
-here s k (Come l) x h c = absurd (Contains-none x c)
-here s k (End i) x h c = absurd (Contains-none x c)
-here s k (Clear d) x h c = absurd (Contains-none x c)
-
-sound_from : (s k : ℕ) (h : List Event) (x : Event) → Contains (ends_from s k h) x → IsNamedAt s k h x
-sound_from s k [] x c = absurd (Contains-none x c)
-sound_from s k (e ∷ h) x c =
-    elim (Contains-append_cases (end_at s k e) (ends_from s (suc k) h) x c) [
-      | inl f ↦ here s k e x h f
-      | inr f ↦
-          let r = sound_from s (suc k) h x f in
-          (suc r.0, r.1, r.2 ∙ ap End (let g : suc k + r.0 ≡ k + suc r.0 = omega arith in g), r.3, r.4)
-    ]
-
-complete_from : (s k : ℕ) (h : List Event) (i : ℕ) (p : Pattern) → PostAt h i p → names p.source s ≡ true → Contains (ends_from s k h) (End (k + i))
-complete_from s k [] i p at n = cc
-complete_from s k (e ∷ h) zero p at n =
-    Contains-append_left (end_at s k e) (ends_from s (suc k) h) (End (k + 0))
-    (subst (λ x. Contains (end_at s k x) (End (k + 0))) (let f : Post p ≡ e = cc in f)
-    (subst (λ b. Contains (cond b (End k ∷ []) []) (End (k + 0))) (sym n)
-    (subst (λ m. Contains (End k ∷ []) (End m)) (let g : k ≡ k + 0 = omega arith in g) (Contains-head (End k) []))))
-complete_from s k (e ∷ h) (suc i) p at n =
-    Contains-append_right (end_at s k e) (ends_from s (suc k) h) (End (k + suc i))
-    (subst (λ m. Contains (ends_from s (suc k) h) (End m)) (let g : suc k + i ≡ k + suc i = omega arith in g) (complete_from s (suc k) h i p at n))
+use Rattle.ulfm_rank.proofs.Endings.{sound_from, complete_from}
+use Rattle.ulfm_rank.proofs.Tables.{first_on, refated, same_kind, table_change, waiting_receive}
 
 pub ends_named : (s : ℕ) (h : List Event) → EndsNamed h s (ends_of s h)
 ends_named s h = record {
-  sound = λ x c. let r = sound_from s 0 h x c in (r.0, r.1, r.2 ∙ ap End (let g : 0 + r.0 ≡ r.0 = omega arith in g), r.3, r.4);
-  complete = λ i p at n. subst (λ m. Contains (ends_of s h) (End m)) (let g : 0 + i ≡ i = omega arith in g) (complete_from s 0 h i p at n);
+  sound = λ x c. let r = sound_from (λ _ p. names p.source s) 0 h x c in (r.0, r.1, r.2 ∙ ap End (let g : 0 + r.0 ≡ r.0 = omega arith in g), r.3, r.4);
+  complete = λ i p at n. subst (λ m. Contains (ends_of s h) (End m)) (let g : 0 + i ≡ i = omega arith in g) (complete_from (λ _ p. names p.source s) 0 h i p at n);
 }
 
 from_get : (es : List Event) (k : ℕ) (x : Event) → slice_get es k ≡ Some x → Contains es x
@@ -118,10 +81,11 @@ module _ (n s : ℕ) (log : List Entry) (h es : List Event) (r : Pairing) (law :
       pick true e = falls i p e w
       pick false e = waits_on i p (λ f. let g = e in cc) w
   became_over i p (Paired l) g = record { place = g.place; pairs = g.pairs; came = get_front h es g.place (Come l) g.came }
+  became_over i p (Found l) g = record { place = g.place; pairs = g.pairs; came = get_front h es g.place (Come l) g.came }
   became_over i p Failed w = (w.0, first_on h es i (End i) (Clear p.context.number) w.1)
   became_over i p Cleared w = (w.0, first_on h es i (Clear p.context.number) (End i) w.1)
 
   pub table_over : Changes (λ k. over_named s) find find' → IsTable n log (h ++ es) r find'
   table_over found = table_change n log h es r r find find' t
       (λ i p at. elim (split h es i (Post p) at) [ inl old ↦ old | inr new ↦ absurd (only_ends (Post p) (λ j e. cc) new.1) ])
-      (λ k. over_named s) found (λ k q. refated (is_waiting q.fate && names q.pattern.source s) Failed q) (λ k q f st. became_over st.place q.pattern q.fate st.fate)
+      (λ k. over_named s) found (λ k q. refated (is_waiting q.fate && names q.pattern.source s) Failed q) (λ k q f st. became_over st.place q.pattern q.fate st.fate) (λ k q f st. same_kind (is_waiting q.fate && names q.pattern.source s) Failed q refl (λ e. waiting_receive q.fate (and_parts (is_waiting q.fate) (names q.pattern.source s) e).0))

@@ -4,6 +4,7 @@ pub mod Whole
 pub mod Requested
 pub mod Gather
 pub mod Opens
+pub mod Endings
 pub mod Tables
 pub mod Steps
 pub mod Mapped
@@ -13,6 +14,7 @@ pub mod Groups
 pub mod InStep
 pub mod Answered
 pub mod Release
+pub mod Cancelled
 pub mod Slots
 pub mod Held
 pub mod Known
@@ -28,6 +30,8 @@ pub mod Proposing
 pub mod Foreign
 pub mod Adoptable
 pub mod Pairings
+pub mod Probing
+pub mod Found
 pub mod Logs
 pub mod Firsts
 pub mod Told

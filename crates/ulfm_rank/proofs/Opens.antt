@@ -1,8 +1,14 @@
 -- What events come of an entry: a context that isn't revoked was never cleared, and at most one of them is numbered.
-use Rattle.std.proofs.Common.{◌≡◌, ◌≢◌, ℕ, zero, suc, ◌+◌, ◌≤◌, Bool, true, false, cond, List, [], ◌∷◌, ◌++◌, length, refl, ap, sym, ◌∙◌, subst, Some, arith, length-append, All, slice_get}
-use Rattle.ulfm_rank.proofs.Common.{Letter, Pattern, Item, Entry, Posted, Revoked, Took, false≢true, or_parts, eq-eqb, All-nil, All-push, All-append, names, IsUncleared, get_or_from_slice_get, slice_get_within, Event, Post, Come, End, Clear, counts_as, count_before, names_gone, end_at, ends_from, item_events, events_by, history_of, is_revoked, revoked_before, revokes}
+use Rattle.std.proofs.Common.{◌≡◌, ◌≢◌, ℕ, zero, suc, ◌+◌, ◌≤◌, Bool, true, false, cond, List, [], ◌∷◌, ◌++◌, ◌==◌, length, refl, ap, sym, ◌∙◌, subst, Option, Some, None, arith, length-append, All, slice_get}
+use Rattle.ulfm_rank.proofs.Common.{Letter, Pattern, Item, Entry, Posted, Probed, Cancelled, Revoked, Took, false≢true, or_parts, eq-eqb, All-nil, All-push, All-append, names, IsUncleared, get_or_from_slice_get, slice_get_within, Event, Post, Come, End, Clear, counts_as, count_before, names_gone, end_at, ends_from, item_events, events_by, history_of, is_revoked, revoked_before, revokes}
 use Rattle.ulfm_base.specs.declared.item.Item.TheVariants.{Letter as Mail, Gone, Revoke, Enter}
 use Rattle.ulfm_rank.proofs.Gather.{gathered_all, any-push}
+
+-- the pattern of the receive that an entry posts
+abbrev pub posted_by : Entry → Option Pattern
+posted_by (Posted p) = Some p
+posted_by (Probed id p) = Some p
+posted_by _ = None
 
 open_append : (xs ys : List Event) (c : ℕ) → IsUncleared xs c → IsUncleared ys c → IsUncleared (xs ++ ys) c
 open_append [] ys c a b k h = b k h
@@ -19,23 +25,25 @@ module _ (P : Event → Type 0) (ends : (k : ℕ) → P (End k)) (comes : (l : L
   none_if true x p = All-nil P
   none_if false x p = one_if true x p
 
-  all_ends : (s k : ℕ) (h : List Event) → All P (ends_from s k h)
-  all_ends s k [] = All-nil P
-  all_ends s k (e ∷ h) = All-append P (end_at s k e) (ends_from s (suc k) h) (at e) (all_ends s (suc k) h)
+  all_ends : (test : ℕ → Pattern → Bool) (k : ℕ) (h : List Event) → All P (ends_from test k h)
+  all_ends test k [] = All-nil P
+  all_ends test k (e ∷ h) = All-append P (end_at test k e) (ends_from test (suc k) h) (at e) (all_ends test (suc k) h)
     where
-      at : (e : Event) → All P (end_at s k e)
-      at (Post p) = one_if (names p.source s) (End k) (ends k)
+      at : (e : Event) → All P (end_at test k e)
+      at (Post p) = one_if (test k p) (End k) (ends k)
       at _ = All-nil P
 
-  all_events : (log : List Entry) (h : List Event) (e : Entry) → ((p : Pattern) → e ≡ Posted p → P (Post p)) → ((c : ℕ) → revokes c e ≡ true → P (Clear c)) → All P (events_by log h e)
+  all_events : (log : List Entry) (h : List Event) (e : Entry) → ((p : Pattern) → posted_by e ≡ Some p → P (Post p)) → ((c : ℕ) → revokes c e ≡ true → P (Clear c)) → All P (events_by log h e)
   all_events log h (Posted p) posts clears = All-append P (Post p ∷ []) _ (one_if true (Post p) (posts p refl)) (one_if (names_gone log p.source) (End (length h)) (ends (length h)))
+  all_events log h (Probed id p) posts clears = All-append P (Post p ∷ []) (End (length h) ∷ []) (one_if true (Post p) (posts p refl)) (one_if true (End (length h)) (ends (length h)))
+  all_events log h (Cancelled id) posts clears = all_ends _ 0 h
   all_events log h (Revoked d) posts clears = none_if (is_revoked log d.number) (Clear d.number) (clears d.number (eq-eqb d.number d.number refl))
   all_events log h (Took s (Mail l)) posts clears = none_if (is_revoked log l.envelope.context.number) (Come l) (comes l)
-  all_events log h (Took s Gone) posts clears = all_ends s.number 0 h
+  all_events log h (Took s Gone) posts clears = all_ends _ 0 h
   all_events log h (Took s (Revoke d)) posts clears = none_if (is_revoked log d.number) (Clear d.number) (clears d.number (eq-eqb d.number d.number refl))
   all_events log h _ posts clears = All-nil P
 
-  pub each_event : (log : List Entry) (h : List Event) (e : Entry) → ((p : Pattern) → e ≡ Posted p → P (Post p)) → ((c : ℕ) → revokes c e ≡ true → P (Clear c)) → (k : ℕ) (x : Event) → slice_get (events_by log h e) k ≡ Some x → P x
+  pub each_event : (log : List Entry) (h : List Event) (e : Entry) → ((p : Pattern) → posted_by e ≡ Some p → P (Post p)) → ((c : ℕ) → revokes c e ≡ true → P (Clear c)) → (k : ℕ) (x : Event) → slice_get (events_by log h e) k ≡ Some x → P x
   each_event log h e posts clears k x g =
       let es : List Event = events_by log h e in
       subst P (get_or_from_slice_get es k x x g) (all_events log h e posts clears k x (slice_get_within es k x g))
@@ -63,16 +71,16 @@ total-append : (xs ys : List Event) → total (xs ++ ys) ≡ total xs + total ys
 total-append [] ys = omega arith
 total-append (x ∷ xs) ys = let t = total-append xs ys in omega (arith, t)
 
-ends_light : (s k : ℕ) (h : List Event) → total (ends_from s k h) ≡ 0
-ends_light s k [] = refl
-ends_light s k (e ∷ h) = total-append (end_at s k e) (ends_from s (suc k) h) ∙ (ap (λ n. total (end_at s k e) + n) (ends_light s (suc k) h) ∙ light e)
+ends_light : (test : ℕ → Pattern → Bool) (k : ℕ) (h : List Event) → total (ends_from test k h) ≡ 0
+ends_light test k [] = refl
+ends_light test k (e ∷ h) = total-append (end_at test k e) (ends_from test (suc k) h) ∙ (ap (λ n. total (end_at test k e) + n) (ends_light test (suc k) h) ∙ light e)
   where
     named : (b : Bool) → total (cond b (End k ∷ []) []) + 0 ≡ 0
     named true = refl
     named false = refl
 
-    light : (e : Event) → total (end_at s k e) + 0 ≡ 0
-    light (Post p) = named (names p.source s)
+    light : (e : Event) → total (end_at test k e) + 0 ≡ 0
+    light (Post p) = named (test k p)
     light (Come l) = refl
     light (End i) = refl
     light (Clear c) = refl
@@ -87,7 +95,7 @@ item_light log h s (Mail l) = pick (is_revoked log l.envelope.context.number)
     pick : (b : Bool) → total (cond b [] (Come l ∷ [])) ≤ 1
     pick true = omega arith
     pick false = omega arith
-item_light log h s Gone = let e = ends_light s 0 h in omega (arith, e)
+item_light log h s Gone = let e = ends_light (λ _ p. names p.source s) 0 h in omega (arith, e)
 item_light log h s (Revoke d) = cleared_light (is_revoked log d.number) d.number
 item_light log h s (Enter d known) = omega arith
 
@@ -97,6 +105,8 @@ light log h (Posted p) = pick (names_gone log p.source)
     pick : (b : Bool) → 1 + total (cond b (End (length h) ∷ []) []) ≤ 1
     pick true = omega arith
     pick false = omega arith
+light log h (Probed id p) = omega arith
+light log h (Cancelled id) = let e = ends_light (λ k _. count_before h k == id.number) 0 h in omega (arith, e)
 light log h (Revoked d) = cleared_light (is_revoked log d.number) d.number
 light log h (Took s item) = item_light log h s.number item
 light log h _ = omega arith

@@ -1,7 +1,7 @@
 -- A request that a rank has is answered as its log tells.
-use Rattle.std.proofs.Common.{◌≡◌, ℕ, Bool, List, ap, sym, subst, ◌∙◌, Some, Option, IsSome}
-use Rattle.ulfm_rank.proofs.Common.{Entry, TestAnswer, Request, find_group, or_empty, Follows, Box, pends_by, Matching, IsTestAnswer, GivesAnswer, HasSender, IsOfGroup, is_some, FaultState}
-use Rattle.ulfm_rank.proofs.Answered.{tested, has_sender}
+use Rattle.std.proofs.Common.{◌≡◌, ℕ, Bool, true, List, refl, ap, sym, subst, ◌∙◌, Some, Option, IsSome}
+use Rattle.ulfm_rank.proofs.Common.{Letter, Pattern, Entry, TestAnswer, Done, Over, Pending, NotYet, Fate, Waiting, Paired, Found, Failed, Cleared, Request, IsDelivered, IsMessageAnswer, is_found, is_receipt, with_room, find_group, or_empty, Follows, Box, pends_by, Matching, IsTestAnswer, GivesAnswer, HasSender, IsOfGroup, is_some, FaultState}
+use Rattle.ulfm_rank.proofs.Answered.{tested, received, has_sender}
 use Rattle.ulfm_rank.proofs.Grouped.{members_found}
 use Rattle.ulfm_rank.proofs.Known.{pends_known}
 use Rattle.ulfm_rank.proofs.Made.{found_group}
@@ -27,3 +27,27 @@ module _ {n me : ℕ} {log : List Entry} {stopped : Bool} {matcher : Matching} {
       let gives' : GivesAnswer g (pends_by facts g q.pattern) q.pattern q.fate a = subst (λ g. GivesAnswer g (pends_by facts g q.pattern) q.pattern q.fate a) (ap or_empty found_here) gives in
       tested held.in_step id q found g of_group.made a
       (subst (λ b. GivesAnswer g b q.pattern q.fate a) (pends_known n log facts q.pattern g held.faults (members_found n log q.pattern.context.number g of_group.made)) gives')
+
+  -- a message is answered with another room
+  pub answered_message : is_found q.fate ≡ true → (room : ℕ) (pending : Bool) (a : TestAnswer) → GivesAnswer (or_empty (find_group q.pattern.context.number comms)) pending (with_room q.pattern room) q.fate a → IsMessageAnswer n log id room a
+  answered_message e room pending a gives =
+      let m = letter_of q.fate e in
+      let g = of_group.group in
+      let d : IsDelivered g (with_room q.pattern room) m.0 a = subst (λ o. GivesAnswer g pending (with_room q.pattern room) o a) m.1 (subst (λ g. GivesAnswer g pending (with_room q.pattern room) q.fate a) (ap or_empty found_here) gives) in
+      record {
+        receipt = is_received g (with_room q.pattern room) m.0 a d;
+        each = received held.in_step id q found m.0 m.1 room g of_group.made a d;
+      }
+    where
+      letter_of : (o : Fate) → is_found o ≡ true → (l : Letter) × (o ≡ Found l)
+      letter_of (Found l) e = (l, refl)
+      letter_of Waiting e = cc
+      letter_of (Paired l) e = cc
+      letter_of Failed e = cc
+      letter_of Cleared e = cc
+
+      is_received : (g : List ℕ) (p : Pattern) (l : Letter) (a : TestAnswer) → IsDelivered g p l a → is_receipt a ≡ true
+      is_received g p l (Done status body) d = refl
+      is_received g p l (Over reason) d = ap (λ e. is_receipt (Over e)) d.0
+      is_received g p l Pending d = absurd d
+      is_received g p l NotYet d = absurd d

@@ -1,6 +1,6 @@
 -- What is told of a receive stays as the log grows.
 use Rattle.std.proofs.Common.{◌≡◌, ℕ, ◌+◌, ◌<◌, ◌⊎◌, inl, inr, true, List, [], ◌∷◌, ◌++◌, length, refl, ap, sym, ◌∙◌, subst, arith, Option, Some, None, slice_get, max}
-use Rattle.ulfm_rank.proofs.Common.{Letter, Pattern, Event, Post, Come, End, Clear, PostAt, Entry, TestAnswer, group_of, members_of, or_empty, history_of, events_by, Pairing, LawfulPairing, pairs_below, same_pattern, Got, IsUnpaired, IsOver, IsReceived, IsAnswerBy, is_release, slice_get_within, Done, Over, Pending, NotYet, cut, get_front, inside_to, inside_back, CallError}
+use Rattle.ulfm_rank.proofs.Common.{Letter, Pattern, Event, Post, Come, End, Clear, PostAt, Entry, TestAnswer, group_of, members_of, or_empty, history_of, events_by, Pairing, LawfulPairing, pairs_below, same_pattern, Got, IsUnpaired, IsOver, IsReceived, IsAnswerBy, is_receipt, is_release, slice_get_within, Done, Over, Pending, NotYet, cut, get_front, inside_to, inside_back, CallError}
 use Rattle.ulfm_base.specs.declared.error.CallError.TheVariants.{ProcFailed, Revoked, Truncated}
 use Rattle.ulfm_match.proofs.Decide.{lt_or_ge}
 use Rattle.ulfm_rank.proofs.Tables.{first_on}
@@ -43,33 +43,44 @@ module _ (h xs : List Event) (r : Pairing) (law : LawfulPairing (h ++ xs) r) whe
   over_on i p Truncated posted o = (o.0, got_on i o.0 o.1, o.2)
   over_on i p _ posted o = absurd o
 
+-- what a pairing of the longer log says of the beginning
+module _ (n : ℕ) (log : List Entry) (e : Entry) (i : ℕ) (p : Pattern) (r : Pairing) (law : LawfulPairing (history_of (log ++ e ∷ [])) r) where
+  abbrev h : List Event
+  h = history_of log
+
+  abbrev xs : List Event
+  xs = events_by log h e
+
+  long : history_of (log ++ e ∷ []) ≡ h ++ xs
+  long = history-push log e
+
+  law' : LawfulPairing (h ++ xs) r
+  law' = subst (λ g. LawfulPairing g r) long law
+
+  short : LawfulPairing h (pairs_below (length h) r)
+  short = cut h xs r law'
+
+  receipt_on : (answer : TestAnswer) → is_receipt answer ≡ true → IsAnswerBy n log (pairs_below (length h) r) i p answer → IsAnswerBy n (log ++ e ∷ []) r i p answer
+  receipt_on (Done status body) k a = record {
+    letter = a.letter;
+    got = subst (λ g. Got g r i a.letter) (sym long) (got_on h xs r law' i a.letter a.got);
+    received = members_stay n log e p.context.number (λ (group : List ℕ). IsReceived group p.room a.letter status body) (λ q. let s = q.sender in cc) a.received;
+  }
+  receipt_on (Over Truncated) k o = subst (λ g. IsOver g r i p Truncated) (sym long) (o.0, got_on h xs r law' i o.0 o.1, o.2)
+  receipt_on _ k o = cc
+
+  release_on : (answer : TestAnswer) → PostAt h i p → is_release answer ≡ true → IsAnswerBy n log (pairs_below (length h) r) i p answer → IsAnswerBy n (log ++ e ∷ []) r i p answer
+  release_on (Done status body) posted k a = receipt_on (Done status body) refl a
+  release_on (Over reason) posted k o = subst (λ g. IsOver g r i p reason) (sym long) (over_on h xs r law' i p reason posted o)
+  release_on Pending posted k a = cc
+  release_on NotYet posted k a = cc
+
 -- an answer that released its request stays true
 pub answer_stays : (n : ℕ) (log : List Entry) (e : Entry) (i : ℕ) (p : Pattern) (answer : TestAnswer) → PostAt (history_of log) i p → is_release answer ≡ true
     → ((r : Pairing) → LawfulPairing (history_of log) r → IsAnswerBy n log r i p answer) → (r : Pairing) → LawfulPairing (history_of (log ++ e ∷ [])) r → IsAnswerBy n (log ++ e ∷ []) r i p answer
-answer_stays n log e i p answer posted released old r law = stays answer released old
-  where
-    h : List Event
-    h = history_of log
+answer_stays n log e i p answer posted released old r law = release_on n log e i p r law answer posted released (old _ (short n log e i p r law))
 
-    xs : List Event
-    xs = events_by log h e
-
-    long : history_of (log ++ e ∷ []) ≡ h ++ xs
-    long = history-push log e
-
-    law' : LawfulPairing (h ++ xs) r
-    law' = subst (λ g. LawfulPairing g r) long law
-
-    short : LawfulPairing h (pairs_below (length h) r)
-    short = cut h xs r law'
-
-    stays : (answer : TestAnswer) → is_release answer ≡ true → ((r : Pairing) → LawfulPairing h r → IsAnswerBy n log r i p answer) → IsAnswerBy n (log ++ e ∷ []) r i p answer
-    stays (Done status body) k old =
-        let a = old (pairs_below (length h) r) short in record {
-          letter = a.letter;
-          got = subst (λ g. Got g r i a.letter) (sym long) (got_on h xs r law' i a.letter a.got);
-          received = members_stay n log e p.context.number (λ (group : List ℕ). IsReceived group p.room a.letter status body) (λ q. let s = q.sender in cc) a.received;
-        }
-    stays (Over reason) k old = subst (λ g. IsOver g r i p reason) (sym long) (over_on h xs r law' i p reason posted (old (pairs_below (length h) r) short))
-    stays Pending k old = cc
-    stays NotYet k old = cc
+-- and so does the answer of a message, by whatever room it was received
+pub receipt_stays : (n : ℕ) (log : List Entry) (e : Entry) (i : ℕ) (p : Pattern) (answer : TestAnswer) → is_receipt answer ≡ true
+    → ((r : Pairing) → LawfulPairing (history_of log) r → IsAnswerBy n log r i p answer) → (r : Pairing) → LawfulPairing (history_of (log ++ e ∷ [])) r → IsAnswerBy n (log ++ e ∷ []) r i p answer
+receipt_stays n log e i p answer receipt old r law = receipt_on n log e i p r law answer receipt (old _ (short n log e i p r law))

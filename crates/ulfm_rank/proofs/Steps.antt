@@ -1,8 +1,8 @@
 -- A post and an arrival, with the table beside them.
 use Rattle.std.proofs.Common.{◌≡◌, ◌≢◌, ℕ, ◌+◌, ◌<◌, inl, inr, Bool, true, false, cond, eqb, List, [], ◌∷◌, ◌++◌, length, refl, ap, sym, ◌∙◌, subst, Option, Some, None, arith, append_assoc, append-nil, eqb-true}
-use Rattle.ulfm_rank.proofs.Common.{Pattern, Letter, Entry, Fate, Paired, Request, Item, Contains-push, Pairing, Pairs, LawfulPairing, Matching, Tracks, receive_within, IsUnpaired, IsOfGroup, Became, IsStanding, IsTable, get_old, get_new, length_more, count_old, same_number, fate_of, changed, Adds, Changes, TracksItem, option_map, nat_tests, Event, Post, Come, End, Clear, PostAt, StandsBetween, count_before, post_events, item_events, TracksEnd}
+use Rattle.ulfm_rank.proofs.Common.{Pattern, Letter, Entry, Fate, Paired, Found, Request, Item, Contains-push, same_Some, Pairing, Pairs, LawfulPairing, Matching, Tracks, receive_within, IsUnpaired, IsOfGroup, Became, IsStanding, IsTable, is_found, letter_within, get_old, get_new, length_more, count_old, same_number, fate_of, changed, Adds, Changes, TracksItem, option_map, nat_tests, Event, Post, Come, End, Clear, PostAt, StandsBetween, count_before, post_events, item_events, TracksEnd}
 use Rattle.ulfm_match.proofs.Steps.{pair_cases, pair_old, stands_nowhere}
-use Rattle.ulfm_rank.proofs.Tables.{became_keeps, no_post, refated, table_change, table_post}
+use Rattle.ulfm_rank.proofs.Tables.{became_keeps, no_post, refated, same_kind, table_change, table_post}
 use Rattle.ulfm_match.proofs.Determined.{Posts}
 
 -- the pairing after a post
@@ -42,6 +42,12 @@ posted h r law p s (Some l) t = record {
   unpaired = λ e. cc;
 }
 
+-- what is posted is no message
+fate_receive : (o : Option Letter) (gone : Bool) → is_found (fate_of o gone) ≡ false
+fate_receive None true = refl
+fate_receive None false = refl
+fate_receive (Some l) gone = refl
+
 differ : (a b : ℕ) → eqb a b ≡ false → a ≢ b
 differ a b e f = grind (arith, nat_tests)
 
@@ -61,10 +67,10 @@ admitted p h r law s o t =
     let d = posted h r law p s o t in (
       d.pairing,
       d.tracks,
-      λ n entries find find' of t adds. table_post n entries h r d.pairing find find' t p (fate_of o false) of law d.keep d.only d.became adds,
+      λ n entries find find' of t adds. table_post n entries h r d.pairing find find' t p (fate_of o false) (fate_receive o false) of law d.keep d.only d.became adds,
     )
 
-map_same : (o : Option Request) (f : Request → Request) → ((q : Request) → f q ≡ q) → option_map f o ≡ o
+pub map_same : (o : Option Request) (f : Request → Request) → ((q : Request) → f q ≡ q) → option_map f o ≡ o
 map_same None f e = refl
 map_same (Some q) f e = ap Some (e q)
 
@@ -109,7 +115,7 @@ admitted_over p h r law s s' o t ends =
       ends h1 d.pairing (length h) p (get_new h (Post p)) (count_old h (Post p) (length h) (omega arith)) d.tracks,
       λ n entries find find' of t adds.
           let find1 : ℕ → Option Request = λ k. cond (eqb (count_before h (length h)) k) (Some (record { pattern = p; fate = fate_of o false })) (find k) in
-          let t1 = table_post n entries h r d.pairing find find1 t p (fate_of o false) of law d.keep d.only d.became (λ k. refl) in
+          let t1 = table_post n entries h r d.pairing find find1 t p (fate_of o false) (fate_receive o false) of law d.keep d.only d.became (λ k. refl) in
           table_change n entries h1 (End (length h) ∷ []) d.pairing d.pairing find1 find' t1 (no_post h1 (End (length h)) (λ q e. cc)) (changed (count_before h (length h)) (fate_of o true))
           (ended_table (count_before h (length h)) p (fate_of o false) (fate_of o true) find find' adds)
           (λ k q. refated (eqb (count_before h (length h)) k) (fate_of o true) q)
@@ -121,19 +127,25 @@ admitted_over p h r law s s' o t ends =
           (λ ne.
           became_keeps h1 (End (length h)) d.pairing d.pairing d.tracks.lawful (λ i b q. q) w.place q.pattern q.fate (λ b q. q)
           (λ e. (λ g. let f : length h ≡ w.place = cc in ne (sym (count_old h (Post p) (length h) (omega arith)) ∙ (ap (count_before h1) f ∙ w.numbered)), λ g. cc))
-          w.fate)),
+          w.fate))
+          (λ k q f w. same_kind (eqb (count_before h (length h)) k) (fate_of o true) q (fate_receive o true) (λ e. new_receive (count_before h (length h)) p o k q (find k) e f)),
     )
+  where
+    new_receive : (id : ℕ) (p : Pattern) (o : Option Letter) (k : ℕ) (q : Request) (old : Option Request) → eqb id k ≡ true → cond (eqb id k) (Some (record { pattern = p; fate = fate_of o false })) old ≡ Some q → is_found q.fate ≡ false
+    new_receive id p o k q old e f =
+        let here : Some (record { pattern = p; fate = fate_of o false }) ≡ Some q = sym (ap (λ b. cond b (Some (record { pattern = p; fate = fate_of o false })) old) e) ∙ f in
+        ap (λ (w : Request). is_found w.fate) (sym (same_Some _ q here)) ∙ fate_receive o false
 
 module _ (n : ℕ) (entries : List Entry) (h : List Event) (r : Pairing) (law : LawfulPairing h r) (l : Letter) (find : ℕ → Option Request) (t : IsTable n entries h r find) where
   -- a letter that is kept changes no request
   pub come_kept : IsTable n entries (h ++ Come l ∷ []) r find
   come_kept =
       table_change n entries h (Come l ∷ []) r r find find t (no_post h (Come l) (λ q e. cc)) (λ k q. q) (λ k. sym (map_same (find k) (λ q. q) (λ q. refl))) (λ k q. refl)
-      (λ k q f s. became_keeps h (Come l) r r law (λ i b q. q) s.place q.pattern q.fate (λ b q. q) (λ e. (λ g. cc, λ g. cc)) s.fate)
+      (λ k q f s. became_keeps h (Come l) r r law (λ i b q. q) s.place q.pattern q.fate (λ b q. q) (λ e. (λ g. cc, λ g. cc)) s.fate) (λ k q f s. refl)
 
   -- a letter that is paired with the receive at i0
-  pub come_paired : (i0 : ℕ) (p0 : Pattern) (id : ℕ) → PostAt h i0 p0 → count_before h i0 ≡ id → (find' : ℕ → Option Request) → Changes (changed id (Paired l)) find find' → IsTable n entries (h ++ Come l ∷ []) (r ++ (i0, length h) ∷ []) find'
-  come_paired i0 p0 id here num find' change =
+  pub come_paired : (i0 : ℕ) (p0 : Pattern) (id : ℕ) → PostAt h i0 p0 → count_before h i0 ≡ id → LawfulPairing (h ++ Come l ∷ []) (r ++ (i0, length h) ∷ []) → (find' : ℕ → Option Request) → Changes (changed id (Paired l)) find find' → IsTable n entries (h ++ Come l ∷ []) (r ++ (i0, length h) ∷ []) find'
+  come_paired i0 p0 id here num law' find' change =
       table_change n entries h (Come l ∷ []) r (r ++ (i0, length h) ∷ []) find find' t (no_post h (Come l) (λ q e. cc)) (changed id (Paired l)) change (λ k q. refated (eqb id k) (Paired l) q)
       (λ k q f s.
       changed_became (h ++ Come l ∷ []) (r ++ (i0, length h) ∷ []) id (Paired l) k q s.place
@@ -148,6 +160,18 @@ module _ (n : ℕ) (entries : List Entry) (h : List Event) (r : Pairing) (law : 
       became_keeps h (Come l) r (r ++ (i0, length h) ∷ []) law (pair_old r i0 (length h)) s.place q.pattern q.fate
       (λ b q'. elim (pair_cases r i0 (length h) s.place b q') [ inl old ↦ old | inr e ↦ absurd (ne (sym num ∙ (ap (count_before h) (sym e.0) ∙ s.numbered))) ])
       (λ e. (λ g. cc, λ g. cc)) s.fate))
+      (λ k q f s.
+      same_kind (eqb id k) (Paired l) q refl (λ e.
+      unpaired_receive s.place q.pattern q.fate
+      (λ b p.
+      let same : i0 ≡ s.place = sym (same_place h r k q s i0 p0 here (num ∙ eqb-true id k e)) in
+      let two = law'.one_letter i0 b (length h) (pair_old r i0 (length h) i0 b (subst (λ m. Pairs r m b) (sym same) p)) (Contains-push r (i0, length h)) in
+      omega (arith, two, letter_within h r law s.place b p)) s.fate))
+    where
+      unpaired_receive : (i : ℕ) (p : Pattern) (o : Fate) → IsUnpaired r i → Became h r i p o → is_found o ≡ false
+      unpaired_receive i p (Found m) free g = absurd (free g.place g.pairs)
+      unpaired_receive i p (Paired m) free g = refl
+      unpaired_receive i p _ free g = refl
 
 -- an item that gives no event
 pub nothing_happens : (revoked : Bool) (s : ℕ) (item : Item) (m : Matching) (find : ℕ → Option Request) → ((h : List Event) → item_events revoked h s item ≡ []) → TracksItem revoked s item m find m find

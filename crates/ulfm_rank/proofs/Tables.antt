@@ -1,6 +1,6 @@
 -- The table of requests when the history grows by one event.
 use Rattle.std.proofs.Common.{◌≡◌, ◌≢◌, ℕ, ◌<◌, ◌⊎◌, inl, inr, Bool, true, false, cond, eqb, List, [], ◌∷◌, ◌++◌, length, refl, ap, sym, ◌∙◌, subst, Option, Some, None, arith, eqb-true}
-use Rattle.ulfm_rank.proofs.Common.{Pattern, Event, Post, Come, End, Clear, PostAt, count_before, Entry, Fate, Waiting, Paired, Failed, Cleared, Request, is_released, eq-eqb, ne_eqb, false_from_ne_true, Pairing, Pairs, IsWaiting, LawfulPairing, StandsFirst, IsOfGroup, Became, IsStanding, IsTable, slice_get_within, get_old, get_new, get_cases, length_more, count_old, count_below, count_front, count_rises, Adds, Changes, option_map, get_front, get_in_front}
+use Rattle.ulfm_rank.proofs.Common.{Pattern, Event, Post, Come, End, Clear, PostAt, count_before, Entry, Fate, Waiting, Paired, Found, Failed, Cleared, Request, is_released, is_probed, is_found, is_waiting, eq-eqb, ne_eqb, false_from_ne_true, Pairing, Pairs, IsWaiting, LawfulPairing, StandsFirst, IsOfGroup, Became, IsStanding, IsTable, slice_get_within, get_old, get_new, get_cases, length_more, count_old, count_below, count_front, count_rises, Adds, Changes, option_map, get_front, get_in_front}
 use Rattle.ulfm_match.proofs.Steps.{waiting_to}
 
 -- what stands first goes on standing first
@@ -21,6 +21,7 @@ module _ (h : List Event) (x : Event) (r r' : Pairing) (law : LawfulPairing h r)
       let ne = still refl in
       subst (IsWaiting (h ++ x ∷ []) r' i p) (sym (length_more h x)) (waiting_to h x r r' law keep i p ne.0 ne.1 only w)
   became_keeps i p (Paired l) only still g = record { place = g.place; pairs = keep i g.place g.pairs; came = get_old h x g.place (Come l) g.came }
+  became_keeps i p (Found l) only still g = record { place = g.place; pairs = keep i g.place g.pairs; came = get_old h x g.place (Come l) g.came }
   became_keeps i p Failed only still w = (λ b q. w.0 b (only b q), first_on h (x ∷ []) i (End i) (Clear p.context.number) w.1)
   became_keeps i p Cleared only still w = (λ b q. w.0 b (only b q), first_on h (x ∷ []) i (Clear p.context.number) (End i) w.1)
 
@@ -28,6 +29,19 @@ module _ (h : List Event) (x : Event) (r r' : Pairing) (law : LawfulPairing h r)
 pub refated : (b : Bool) (o : Fate) (q : Request) → (cond b (record { pattern = q.pattern; fate = o }) q).pattern ≡ q.pattern
 refated true o q = refl
 refated false o q = refl
+
+-- and its kind, where the request is no message before and after
+pub same_kind : (b : Bool) (o : Fate) (q : Request) → is_found o ≡ false → (b ≡ true → is_found q.fate ≡ false) → is_found (cond b (record { pattern = q.pattern; fate = o }) q).fate ≡ is_found q.fate
+same_kind true o q new old = new ∙ sym (old refl)
+same_kind false o q new old = refl
+
+-- what waits is no message
+pub waiting_receive : (o : Fate) → is_waiting o ≡ true → is_found o ≡ false
+waiting_receive Waiting e = refl
+waiting_receive (Paired l) e = cc
+waiting_receive (Found l) e = cc
+waiting_receive Failed e = cc
+waiting_receive Cleared e = cc
 
 -- a history with one more event that is no post has no more posts
 pub no_post : (h : List Event) (x : Event) → ((p : Pattern) → x ≢ Post p) → (i : ℕ) (p : Pattern) → PostAt (h ++ x ∷ []) i p → PostAt h i p
@@ -38,8 +52,9 @@ module _ (n : ℕ) (log : List Entry) (h es : List Event) (r r' : Pairing) (find
   pub table_change : ((i : ℕ) (p : Pattern) → PostAt (h ++ es) i p → PostAt h i p) → (change : ℕ → Request → Request) → Changes change find find'
       → ((id : ℕ) (q : Request) → (change id q).pattern ≡ q.pattern)
       → ((id : ℕ) (q : Request) → find id ≡ Some q → (s : IsStanding h r id q) → Became (h ++ es) r' s.place q.pattern (change id q).fate)
+      → ((id : ℕ) (q : Request) → find id ≡ Some q → IsStanding h r id q → is_found (change id q).fate ≡ is_found q.fate)
       → IsTable n log (h ++ es) r' find'
-  table_change posts change found same became = record {
+  table_change posts change found same became kind = record {
     standing = λ id q f.
         let o = was id (find id) q (sym (found id) ∙ f) in
         let s = t.standing id o.0 o.1 in
@@ -59,6 +74,10 @@ module _ (n : ℕ) (log : List Entry) (h es : List Event) (r r' : Pairing) (find
         let c = t.complete i p old (subst (λ k. is_released log k ≡ false) num free) in
         (change (count_before h i) c.0, subst (λ k. find' k ≡ Some (change (count_before h i) c.0)) (sym num) (found (count_before h i) ∙ ap (option_map (change (count_before h i))) c.1));
     released_below = λ id f. omega (arith, t.released_below id f, count_rises h es);
+    kind = λ id q f.
+        let o = was id (find id) q (sym (found id) ∙ f) in
+        subst (λ (w : Request). is_found w.fate ≡ is_probed log id) o.2 (kind id o.0 o.1 (t.standing id o.0 o.1) ∙ t.kind id o.0 o.1);
+    probed_below = λ id f. omega (arith, t.probed_below id f, count_rises h es);
   }
     where
       was : (id : ℕ) (o : Option Request) (q : Request) → option_map (change id) o ≡ Some q → (w : Request) × (o ≡ Some w) × (change id w ≡ q)
@@ -67,9 +86,9 @@ module _ (n : ℕ) (log : List Entry) (h es : List Event) (r r' : Pairing) (find
 
 module _ (n : ℕ) (log : List Entry) (h : List Event) (r r' : Pairing) (find find' : ℕ → Option Request) (t : IsTable n log h r find) (p : Pattern) (o : Fate) where
   -- a post adds one request
-  pub table_post : IsOfGroup n log p → LawfulPairing h r → ((i b : ℕ) → Pairs r i b → Pairs r' i b) → ((i b : ℕ) → i < length h → Pairs r' i b → Pairs r i b)
+  pub table_post : is_found o ≡ false → IsOfGroup n log p → LawfulPairing h r → ((i b : ℕ) → Pairs r i b → Pairs r' i b) → ((i b : ℕ) → i < length h → Pairs r' i b → Pairs r i b)
       → Became (h ++ Post p ∷ []) r' (length h) p o → Adds (count_before h (length h)) (record { pattern = p; fate = o }) find find' → IsTable n log (h ++ Post p ∷ []) r' find'
-  table_post world law keep only became found = record {
+  table_post receive world law keep only became found = record {
     standing = λ id q f.
         elim (was id q f) [
           | inl new ↦ subst (IsStanding (h ++ Post p ∷ []) r' id) new.1 (record { place = length h; posted = get_new h (Post p); numbered = count_old h (Post p) (length h) (omega arith) ∙ new.0; fate = became })
@@ -99,6 +118,11 @@ module _ (n : ℕ) (log : List Entry) (h : List Event) (r r' : Pairing) (find fi
               (record { pattern = p; fate = o }, rw num (found here ∙ ap (λ b. cond b (Some (record { pattern = p; fate = o })) (find here)) (eq-eqb here here refl)))
         ];
     released_below = λ id f. omega (arith, t.released_below id f, count_rises h (Post p ∷ []));
+    kind = λ id q f. elim (was id q f) [
+      | inl new ↦ ap (λ (w : Request). is_found w.fate) (sym new.1) ∙ receive ∙ sym (false_from_ne_true _ (λ g. omega (arith, t.probed_below id g, new.0)))
+      | inr old ↦ t.kind id q old
+    ];
+    probed_below = λ id f. omega (arith, t.probed_below id f, count_rises h (Post p ∷ []));
   }
     where
       choose : (b : Bool) (id : ℕ) (q : Request) → eqb (count_before h (length h)) id ≡ b → cond b (Some (record { pattern = p; fate = o })) (find id) ≡ Some q → ((count_before h (length h) ≡ id) × ◌≡◌ {A = Request} (record { pattern = p; fate = o }) q) ⊎ (find id ≡ Some q)

@@ -1,13 +1,22 @@
 -- All parts of a rank follow the log, call by call.
 use Rattle.std.proofs.Common.{◌≡◌, ℕ, ◌+◌, ◌<◌, ◌≤◌, Bool, true, false, cond, List, [], ◌∷◌, ◌++◌, length, map, replicate, refl, ap, sym, ◌∙◌, Option, Some, None, arith, ◌&&◌, nat_lt, nat_eq, vec_len, vec_capacity, IsTrue}
-use Rattle.ulfm_rank.proofs.Common.{Item, Pattern, WorldRank, numbers_from, Entry, Posted, Released, Took, TestAnswer, Fate, Request, Follows, IsOfGroup, HasFaults, names_known, was_revoked_in, State, start_state, no_mark, Matching, Tracks, Adds, Removes, TracksAdmit, TracksItem, nat_tests, owed_by_item, Box, empty_box, mark_of, AllGrow, lookup, get, index_map_len, Holds, FaultState, acknowledged_in, is_revoked_in, RequestId}
+use Rattle.ulfm_rank.proofs.Common.{Item, Pattern, WorldRank, numbers_from, Entry, Posted, Released, Probed, Received, Cancelled, Took, Fate, Request, Follows, IsInStep, IsOfGroup, events_by, history_of, is_stop, newly_known, acknowledged_by, revokes, made_by, owed, owed_by, false≢true, HasFaults, names_known, was_revoked_in, State, start_state, no_mark, Matching, Tracks, Adds, Removes, TracksAdmit, TracksItem, nat_tests, owed_by_item, Box, empty_box, mark_of, AllGrow, lookup, get, index_map_len, Holds, FaultState, acknowledged_in, is_revoked_in}
 use Rattle.ulfm_rank.specs.declared.rank.Rank.TheInside.{Inside}
 use Rattle.ulfm_rank.proofs.Following.{runs_on}
 use Rattle.ulfm_rank.proofs.Held.{outboxes-grown, outboxes-quiet, outboxes-start, marks-start}
 use Rattle.ulfm_rank.proofs.InStep.{in_step_start, in_step_same, in_step_posted, in_step_took}
 use Rattle.ulfm_rank.proofs.Known.{faults_start, faults_quiet, known_named, marked_before}
 use Rattle.ulfm_rank.proofs.Made.{communicators-quiet, communicators-start}
-use Rattle.ulfm_rank.proofs.Release.{in_step_released}
+use Rattle.ulfm_rank.proofs.Release.{IsRelease, in_step_released}
+
+-- an entry is about receives and messages alone
+abbrev pub is_of_requests : Entry → Bool
+is_of_requests (Posted p) = true
+is_of_requests (Released id a) = true
+is_of_requests (Probed id p) = true
+is_of_requests (Received id a) = true
+is_of_requests (Cancelled id) = true
+is_of_requests _ = false
 
 pub follows_start : (n me : ℕ) (matcher : Matching) (find : ℕ → Option Request) (facts : FaultState) (comms : List (ℕ × List ℕ)) (boxes : List Box)
     → n ≤ 8 → me < n → Tracks [] [] matcher → ((k : ℕ) → find k ≡ None) → facts.known ≡ [] → ((c : ℕ) → acknowledged_in facts c ≡ 0) → ((c : ℕ) → is_revoked_in facts c ≡ false)
@@ -36,27 +45,35 @@ module _ {n me : ℕ} {log : List Entry} {stopped : Bool} {matcher : Matching} {
     outboxes = rw eb held.outboxes;
   }
 
-  -- a receive is posted
-  pub follows_posted : (p : Pattern) → IsOfGroup n log p → (o : Fate) (matcher' : Matching) (find' : ℕ → Option Request) → TracksAdmit (names_known facts p.source) p matcher o matcher' → Adds matcher.count (record { pattern = p; fate = o }) find find' → Follows n me (log ++ Posted p ∷ []) stopped matcher' find' facts comms boxes
-  follows_posted p of o matcher' find' tracks adds = record {
+  follows_quiet : (x : Entry) → is_stop x ≡ false → ((before : List Entry) (known : List ℕ) → newly_known before known x ≡ []) → ((c k : ℕ) → acknowledged_by c k x ≡ k) → ((c : ℕ) → revokes c x ≡ false)
+      → ((before : List Entry) (found : List (ℕ × List ℕ)) → made_by before found x ≡ []) → ((d : ℕ) → owed_by n me d log (owed n me log d) x ≡ [])
+      → {matcher' : Matching} {find' : ℕ → Option Request} → IsInStep n (log ++ x ∷ []) matcher' find' → Follows n me (log ++ x ∷ []) stopped matcher' find' facts comms boxes
+  follows_quiet x runs knows acknowledges marks makes owes step = record {
     small = held.small;
-    halted = runs_on held (Posted p) refl;
-    in_step = in_step_posted held.in_step p of o matcher' find' (rw (sym (known_named held.faults p.source)) tracks) adds;
-    faults = faults_quiet (Posted p) held.faults (λ b k. refl) (λ c k. refl) (λ c. refl);
-    communicators = communicators-quiet (Posted p) held.communicators (λ b f. refl);
-    outboxes = outboxes-quiet (Posted p) held.outboxes (λ d. refl);
+    halted = runs_on held x runs;
+    in_step = step;
+    faults = faults_quiet x held.faults knows acknowledges marks;
+    communicators = communicators-quiet x held.communicators makes;
+    outboxes = outboxes-quiet x held.outboxes owes;
   }
 
-  -- a request is released
-  pub follows_released : (id : RequestId) (answer : TestAnswer) (request : Request) → find id.number ≡ Some request → (find' : ℕ → Option Request) → Removes id.number find find' → Follows n me (log ++ Released id answer ∷ []) stopped matcher find' facts comms boxes
-  follows_released id answer request found find' removes = record {
-    small = held.small;
-    halted = runs_on held (Released id answer) refl;
-    in_step = in_step_released held.in_step id answer request found find' removes;
-    faults = faults_quiet (Released id answer) held.faults (λ b k. refl) (λ c k. refl) (λ c. refl);
-    communicators = communicators-quiet (Released id answer) held.communicators (λ b f. refl);
-    outboxes = outboxes-quiet (Released id answer) held.outboxes (λ d. refl);
-  }
+  -- an entry about receives and messages alone
+  pub follows_requests : (x : Entry) → is_of_requests x ≡ true → {matcher' : Matching} {find' : ℕ → Option Request} → IsInStep n (log ++ x ∷ []) matcher' find' → Follows n me (log ++ x ∷ []) stopped matcher' find' facts comms boxes
+  follows_requests (Posted p) is step = follows_quiet (Posted p) refl (λ b k. refl) (λ c k. refl) (λ c. refl) (λ b f. refl) (λ d. refl) step
+  follows_requests (Released id a) is step = follows_quiet (Released id a) refl (λ b k. refl) (λ c k. refl) (λ c. refl) (λ b f. refl) (λ d. refl) step
+  follows_requests (Probed id p) is step = follows_quiet (Probed id p) refl (λ b k. refl) (λ c k. refl) (λ c. refl) (λ b f. refl) (λ d. refl) step
+  follows_requests (Received id a) is step = follows_quiet (Received id a) refl (λ b k. refl) (λ c k. refl) (λ c. refl) (λ b f. refl) (λ d. refl) step
+  follows_requests (Cancelled id) is step = follows_quiet (Cancelled id) refl (λ b k. refl) (λ c k. refl) (λ c. refl) (λ b f. refl) (λ d. refl) step
+  follows_requests _ is step = absurd (false≢true is)
+
+  -- a receive is posted
+  pub follows_posted : (p : Pattern) → IsOfGroup n log p → (o : Fate) (matcher' : Matching) (find' : ℕ → Option Request) → TracksAdmit (names_known facts p.source) p matcher o matcher' → Adds matcher.count (record { pattern = p; fate = o }) find find' → Follows n me (log ++ Posted p ∷ []) stopped matcher' find' facts comms boxes
+  follows_posted p of o matcher' find' tracks adds =
+      follows_requests (Posted p) refl (in_step_posted held.in_step p of o matcher' find' (rw (sym (known_named held.faults p.source)) tracks) adds)
+
+  -- a request or a message is released by an entry that gives no event
+  pub follows_released : (x : Entry) → is_of_requests x ≡ true → (id : ℕ) → IsRelease id x → events_by log (history_of log) x ≡ [] → (request : Request) → find id ≡ Some request → (find' : ℕ → Option Request) → Removes id find find' → Follows n me (log ++ x ∷ []) stopped matcher find' facts comms boxes
+  follows_released x is id release quiet request found find' removes = follows_requests x is (in_step_released held.in_step x id release quiet request found find' removes)
 
   -- an item is taken
   pub follows_took : (s : WorldRank) (item : Item) (matcher' : Matching) (find' : ℕ → Option Request) (facts' : FaultState) (boxes' : List Box) → TracksItem (was_revoked_in facts item) s.number item matcher find matcher' find' → HasFaults (log ++ Took s item ∷ []) facts' → AllGrow boxes boxes' (length log) (λ d. owed_by_item me log d item)

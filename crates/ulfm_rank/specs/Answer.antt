@@ -12,7 +12,7 @@ use Rattle.ulfm_rank.specs.declared.entry.Entry.{Entry}
 use Rattle.ulfm_rank.specs.declared.entry.Status.{Status}
 use Rattle.ulfm_rank.specs.declared.entry.TestAnswer.{TestAnswer}
 use Rattle.ulfm_rank.specs.declared.entry.TestAnswer.TheVariants.{Done, Over, Pending, NotYet}
-use Rattle.ulfm_rank.specs.Facts.{is_revoked, is_released, acknowledged_of, known_in}
+use Rattle.ulfm_rank.specs.Facts.{is_revoked, is_released, is_probed, acknowledged_of, known_in}
 use Rattle.ulfm_rank.specs.History.{history_of}
 use Rattle.ulfm_rank.specs.Communicators.{members_of}
 
@@ -85,11 +85,12 @@ IsAnswerBy n log pairing i pattern (Over reason) = IsOver (history_of log) pairi
 IsAnswerBy n log pairing i pattern Pending = IsLeftWaiting n log pairing i pattern true
 IsAnswerBy n log pairing i pattern NotYet = IsLeftWaiting n log pairing i pattern false
 
--- the receive at place i has this pattern and number, and isn't released
+-- the receive at place i has this pattern and number, isn't released, and isn't that of a message
 pub record IsRequest (log : List Entry) (id i : ℕ) (pattern : Pattern) : Type 0 where
   pub posted : PostAt (history_of log) i pattern
   pub numbered : count_before (history_of log) i ≡ id
   pub unreleased : is_released log id ≡ false
+  pub receive : is_probed log id ≡ false
 
 -- Each lawful pairing of the log's history gives this answer to the request.
 abbrev pub IsTestAnswer : ℕ → List Entry → ℕ → TestAnswer → Type 0

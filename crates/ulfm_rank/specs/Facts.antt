@@ -1,13 +1,14 @@
 -- What a log tells: which ranks are known to have failed, what was acknowledged, which contexts are revoked,
--- which requests are released, whether the rank stopped, and what it took from each rank (ULFM, `MPI_Comm_get_failed`,
--- `MPI_Comm_ack_failed`, `MPI_Comm_revoke`; MPI 4.0, 3.7.3 on requests).
+-- which numbers are those of messages, which requests and messages are released, whether the rank stopped, and what it
+-- took from each rank (ULFM, `MPI_Comm_get_failed`, `MPI_Comm_ack_failed`, `MPI_Comm_revoke`; MPI 4.0, 3.7.3 on
+-- requests, 3.8.2 on messages).
 use Rattle.std.specs.Prelude.{◌≡◌, ⊤, ℕ, Bool, true, false, List, [], ◌∷◌, ◌==◌, length, min, max, if◌then◌else◌}
 use Rattle.std.specs.List.{list_any, flat_map}
 use Rattle.ulfm_base.specs.declared.item.Item.{Item}
 use Rattle.ulfm_base.specs.declared.item.Item.TheVariants.{Letter as Mail, Gone, Revoke}
 use Rattle.ulfm_base.specs.Group.{is_member, intersection}
 use Rattle.ulfm_rank.specs.declared.entry.Entry.{Entry}
-use Rattle.ulfm_rank.specs.declared.entry.Entry.TheVariants.{Sent, Released, Acknowledged, Revoked, Stopped, Took}
+use Rattle.ulfm_rank.specs.declared.entry.Entry.TheVariants.{Sent, Released, Probed, Received, Cancelled, Acknowledged, Revoked, Stopped, Took}
 use Rattle.ulfm_rank.specs.Log.{gathered}
 use Rattle.ulfm_base.specs.declared.rank_set.RankSet.{RankSet}
 use Rattle.ulfm_base.specs.RankSet.{has}
@@ -78,14 +79,25 @@ acknowledged_of log c = acknowledged_from c 0 log
 abbrev pub ack_answer : List Entry → List ℕ → ℕ → ℕ → ℕ
 ack_answer log group c n = max (acknowledged_of log c) (min n (length (known_in log group)))
 
--- an entry releases the request of this number
+-- an entry releases the request or message of this number
 abbrev pub releases : ℕ → Entry → Bool
 releases k (Released id answer) = id.number == k
+releases k (Received id answer) = id.number == k
+releases k (Cancelled id) = id.number == k
 releases k _ = false
 
--- the request of this number was released
+-- the request or message of this number was released
 abbrev pub is_released : List Entry → ℕ → Bool
 is_released log k = list_any (releases k) log
+
+-- an entry is that of the probe which found the message of this number
+abbrev pub probes : ℕ → Entry → Bool
+probes k (Probed id pattern) = id.number == k
+probes k _ = false
+
+-- this is the number of a message, released or not
+abbrev pub is_probed : List Entry → ℕ → Bool
+is_probed log k = list_any (probes k) log
 
 -- an entry is the stop
 abbrev pub is_stop : Entry → Bool

@@ -1,14 +1,14 @@
 -- The history of posts, arrivals, ends and clears that a log tells.
-use Rattle.std.specs.Prelude.{ℕ, suc, Bool, false, List, [], ◌∷◌, ◌++◌, length, if◌then◌else◌}
+use Rattle.std.specs.Prelude.{ℕ, suc, Bool, false, List, [], ◌∷◌, ◌++◌, ◌==◌, length, if◌then◌else◌}
 use Rattle.ulfm_base.specs.declared.item.Item.{Item}
 use Rattle.ulfm_base.specs.declared.item.Item.TheVariants.{Letter as Mail, Gone, Revoke, Enter}
 use Rattle.ulfm_base.specs.declared.pattern.Source.{Source}
 use Rattle.ulfm_base.specs.declared.pattern.Source.TheVariants.{One, Any}
 use Rattle.ulfm_base.specs.declared.pattern.Pattern.{Pattern}
 use Rattle.ulfm_base.specs.Pattern.{names}
-use Rattle.ulfm_match.specs.History.{Event, Post, Come, End, Clear}
+use Rattle.ulfm_match.specs.History.{Event, Post, Come, End, Clear, count_before}
 use Rattle.ulfm_rank.specs.declared.entry.Entry.{Entry}
-use Rattle.ulfm_rank.specs.declared.entry.Entry.TheVariants.{Posted, Revoked, Took}
+use Rattle.ulfm_rank.specs.declared.entry.Entry.TheVariants.{Posted, Probed, Cancelled, Revoked, Took}
 use Rattle.ulfm_rank.specs.Log.{gathered}
 use Rattle.ulfm_rank.specs.Facts.{is_gone, is_revoked, revoked_before}
 
@@ -17,19 +17,23 @@ abbrev pub names_gone : List Entry → Source → Bool
 names_gone log (One rank) = is_gone log rank.number
 names_gone log (Any members) = false
 
--- an end of the receive at place k, where it names s
-abbrev pub end_at : ℕ → ℕ → Event → List Event
-end_at s k (Post pattern) = if names pattern.source s then End k ∷ [] else []
-end_at s k _ = []
+-- an end of the receive at place k, where the test holds of its place and pattern
+abbrev pub end_at : (ℕ → Pattern → Bool) → ℕ → Event → List Event
+end_at test k (Post pattern) = if test k pattern then End k ∷ [] else []
+end_at test k _ = []
 
--- an end of each receive that names s; the first event here stands at place k
-abbrev pub ends_from : ℕ → ℕ → List Event → List Event
-ends_from s k [] = []
-ends_from s k (event ∷ history) = end_at s k event ++ ends_from s (suc k) history
+-- an end of each receive of which the test holds; the first event here stands at place k
+abbrev pub ends_from : (ℕ → Pattern → Bool) → ℕ → List Event → List Event
+ends_from test k [] = []
+ends_from test k (event ∷ history) = end_at test k event ++ ends_from test (suc k) history
 
 -- an end of each receive posted so far that names s
 abbrev pub ends_of : ℕ → List Event → List Event
-ends_of s history = ends_from s 0 history
+ends_of s history = ends_from (λ _ pattern. names pattern.source s) 0 history
+
+-- the end of the receive of this number
+abbrev pub end_numbered : ℕ → List Event → List Event
+end_numbered id history = ends_from (λ k _. count_before history k == id) 0 history
 
 -- the first revocation of a context clears it
 abbrev pub cleared : List Entry → ℕ → List Event
@@ -49,6 +53,8 @@ post_events failed history pattern = Post pattern ∷ (if failed then End (lengt
 -- what an entry gives, after the entries before it and their history
 abbrev pub events_by : List Entry → List Event → Entry → List Event
 events_by before history (Posted pattern) = post_events (names_gone before pattern.source) history pattern
+events_by before history (Probed id pattern) = Post pattern ∷ End (length history) ∷ []
+events_by before history (Cancelled id) = end_numbered id.number history
 events_by before history (Revoked context) = cleared before context.number
 events_by before history (Took from item) = item_events (revoked_before before item) history from.number item
 events_by before history _ = []

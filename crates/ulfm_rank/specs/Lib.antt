@@ -7,6 +7,8 @@ pub mod Owed
 pub mod Shrink
 pub mod Checks
 pub mod Calls
+pub mod Messages
+pub mod Cancel
 pub mod State
 pub mod Paired
 pub mod inside

@@ -23,7 +23,7 @@ pub record State : Type 0 where
   pub marks : List Mark
 
 -- A rank, whether there is room for one `take` or one call, and whether the table of requests has a place for one more, as
--- a receive needs it. Of both 'unchanged' doesn't speak.
+-- a receive, or a probe that finds a letter, needs it. Of both 'unchanged' doesn't speak.
 pub record View : Type 0 where
   pub state : State
   pub prepared : Bool

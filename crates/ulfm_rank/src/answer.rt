@@ -5,13 +5,35 @@ ghost use Rattle.ulfm_rank.specs.Answer.{is_release};
 ghost use Rattle.ulfm_rank.specs.Communicators.{find_group, or_empty};
 ghost use Rattle.ulfm_rank.specs.inside.Fields.{pends_by};
 ghost use Rattle.ulfm_rank.specs.inside.Table.{IsDelivered, GivesAnswer, HasSender};
+ghost use Rattle.ulfm_rank.specs.Messages.{TellsOf};
 
 use crate::communicators::Communicators;
 use crate::entry::{Status, TestAnswer};
 use crate::failures::pends;
 use crate::request::{Fate, Request};
-use ulfm_base::{CallError, Group, Letter, Pattern};
+use ulfm_base::{CallError, Context, Group, Letter, Pattern};
 use ulfm_fault::Faults;
+
+/// What is told of a letter, whose sender is a member of the group.
+fn status_of(letter: &Letter, group: &Group) -> Status
+    requires { IsSome (rank_in group.now letter.now.envelope.source.number) }
+    ensures { TellsOf group.now letter.now result }
+{
+    Status {
+        source: group.rank_of(letter.envelope.source).unwrap(),
+        tag: letter.envelope.tag,
+        length: letter.body.len(),
+    }
+}
+
+/// What is told of a letter of a communicator that was made.
+pub(crate) fn status_in(communicators: &Communicators, context: Context, letter: &Letter) -> Status
+    requires made { IsSome (find_group context.number communicators.now) }
+    requires sender { IsSome (rank_in (or_empty (find_group context.number communicators.now)) letter.now.envelope.source.number) }
+    ensures { TellsOf (or_empty (find_group context.number communicators.now)) letter.now result }
+{
+    status_of(letter, communicators.group_of(context).unwrap())
+}
 
 /// The answer for a receive of this pattern that got a letter, whose sender is a member of the group.
 fn delivered(pattern: &Pattern, letter: Letter, group: &Group) -> TestAnswer
@@ -21,12 +43,7 @@ fn delivered(pattern: &Pattern, letter: Letter, group: &Group) -> TestAnswer
     if letter.body.len() > pattern.room as usize {
         return TestAnswer::Over(CallError::Truncated);
     }
-    let status = Status {
-        source: group.rank_of(letter.envelope.source).unwrap(),
-        tag: letter.envelope.tag,
-        length: letter.body.len(),
-    };
-    TestAnswer::Done(status, letter.body)
+    TestAnswer::Done(status_of(&letter, group), letter.body)
 }
 
 /// The answer for a request of a communicator of this group. `pending` says whether it pends while it waits.
@@ -42,6 +59,7 @@ pub(crate) fn answer_of(request: &Request, group: &Group, pending: bool) -> Test
             TestAnswer::NotYet
         }
         Fate::Paired(letter) => delivered(&request.pattern, letter, group),
+        Fate::Found(letter) => delivered(&request.pattern, letter, group),
         Fate::Failed => TestAnswer::Over(CallError::ProcFailed),
         Fate::Cleared => TestAnswer::Over(CallError::Revoked),
     }

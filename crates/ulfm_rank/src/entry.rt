@@ -1,5 +1,6 @@
 //! What a rank writes into its log, and what its calls answer.
 
+use crate::message::MessageId;
 use ulfm_base::{
     Body, CallError, Context, Decision, Item, Letter, Pattern, RankSet, Tag, WorldRank,
 };
@@ -36,6 +37,24 @@ pub enum TestAnswer {
     NotYet,
 }
 
+/// What a probe finds (MPI 4.0, 3.8.2).
+#[derive(Clone, Copy)]
+pub enum Probed {
+    /// This message, and what is told of its letter.
+    Found(MessageId, Status),
+    /// No letter that a receive could get.
+    Nothing,
+}
+
+/// What becomes of a request that is to be cancelled (MPI 4.0, 3.8.4).
+#[derive(Clone, Copy)]
+pub enum Cancel {
+    /// The receive was withdrawn, and gets no letter.
+    Cancelled,
+    /// It had ended before, with this answer.
+    Late(TestAnswer),
+}
+
 /// An accepted call that changed something, or an item that was taken.
 #[derive(Drop)]
 pub enum Entry {
@@ -45,6 +64,12 @@ pub enum Entry {
     Posted(Pattern),
     /// A request was released with this answer.
     Released(RequestId, TestAnswer),
+    /// A probe found a letter for a receive that asks for this, and the letter became this message.
+    Probed(MessageId, Pattern),
+    /// A message was received with this answer.
+    Received(MessageId, TestAnswer),
+    /// A request was withdrawn.
+    Cancelled(RequestId),
     /// The failures acknowledged of a communicator rose to this total.
     Acknowledged(Context, u8),
     /// A context was revoked by the rank's own call.

@@ -9,6 +9,7 @@ mod failures;
 mod forwarding;
 mod law;
 mod members;
+mod message;
 mod outbox;
 mod outboxes;
 mod owed;
@@ -19,6 +20,7 @@ mod requests;
 mod shrinks;
 mod sources;
 
-pub use entry::{Comm, Entry, Status, TestAnswer};
+pub use entry::{Cancel, Comm, Entry, Probed, Status, TestAnswer};
 pub use law::own_affairs_alone;
+pub use message::MessageId;
 pub use rank::Rank;

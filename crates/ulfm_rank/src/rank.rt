@@ -1,6 +1,8 @@
 //! One rank (MPI 4.0, chapters 3 and 7; ULFM).
 
+mod cancelling;
 mod outgoing;
+mod probing;
 mod receiving;
 mod recovery;
 mod sending;

@@ -1,13 +1,27 @@
-//! The table of requests beside the matcher: what posts, letters and notices do to both.
-ghost use Rattle.std.specs.Prelude.{◌≡◌, ◌+◌, ◌<◌, ◌^◌, IsTrue, false, nat_eq};
+//! The table of requests and messages beside the matcher: what posts, letters and notices do to both.
+ghost use Rattle.std.specs.Prelude.{◌≡◌, ◌+◌, ◌<◌, ◌^◌, IsTrue, IfNone, IfSome, Some, false, nat_eq, not};
 ghost use Rattle.indexmap.specs.IndexMap.{get, index_map_len};
 ghost use Rattle.ulfm_match.specs.State.{is_cleared};
+ghost use Rattle.ulfm_rank.specs.declared.request.Request.{Request};
 ghost use Rattle.ulfm_rank.specs.inside.Requests.{changed, Changes, IsOpenFor, TracksAdmit, TracksDelivery, TracksRevocation, TracksItem, over_named, over_context};
+ghost use Rattle.ulfm_rank.specs.inside.Table.{is_found};
 
-use crate::request::{Fate, Request, fate_of, over_context, over_named};
+use crate::request::{Fate, Request, fate_of, is_found, over_context, over_named};
 use indexmap::IndexMap;
 use ulfm_base::{Context, Item, Letter, Pattern, WorldRank};
 use ulfm_match::{Arrived, Matcher, RequestId};
+
+/// The message of a number where `found`, else the request of it, if it isn't released.
+pub(crate) fn find(requests: &IndexMap<u64, Request>, number: u64, found: bool) -> Option<Request>
+    ensures there { IfSome result (λ request. (get nat_eq requests.now number ≡ Some request) × (is_found request.fate ≡ found)) }
+    ensures none { IfNone result ((request : Request) → get nat_eq requests.now number ≡ Some request → is_found request.fate ≡ not found) }
+{
+    let request = *requests.get(&number)?;
+    if is_found(&request.fate) == found {
+        return Some(request);
+    }
+    None
+}
 
 /// Posts a receive. Where its source is known to have failed and no kept letter is for it, it is over at once.
 pub(crate) fn admit(matcher: &mut Matcher, gone: bool, pattern: Pattern) -> (RequestId, Fate)

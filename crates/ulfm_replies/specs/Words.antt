@@ -7,7 +7,7 @@ use Rattle.ulfm_replies.specs.declared.command.Carrier.{Carrier}
 use Rattle.ulfm_replies.specs.declared.command.Carrier.TheVariants.{Lanes, Shared}
 use Rattle.ulfm_replies.specs.declared.command.RunOptions.{RunOptions}
 use Rattle.ulfm_replies.specs.declared.command.Wanted.{Wanted}
-use Rattle.ulfm_replies.specs.declared.command.Wanted.TheVariants.{Check, Replay, Run}
+use Rattle.ulfm_replies.specs.declared.command.Wanted.TheVariants.{Check, Replay, Run, Sweep}
 use Rattle.clap.specs.ValueTests.{accepts}
 use Rattle.clap.specs.declared.builder.action.ArgAction.TheVariants.{SetTrue}
 use Rattle.clap.specs.declared.builder.value_parser.ValueParser.TheVariants.{Unsigned}
@@ -56,9 +56,13 @@ number_rule name most = record (new_rule name) { long = Some name; value_names =
 abbrev pub run_app : App
 run_app = with_rule (with_rule (with_rule (with_rule (new_app (codes "run")) carrier_rule) strict_rule) (number_rule (codes "turns") most_turns)) (number_rule (codes "repeat") most_runs)
 
+-- the command `sweep`
+abbrev pub sweep_app : App
+sweep_app = new_app (codes "sweep")
+
 -- the whole command line
 abbrev pub tool_app : App
-tool_app = with_subcommand (with_subcommand (with_subcommand demanding_app check_app.top) replay_app.top) run_app.top
+tool_app = with_subcommand (with_subcommand (with_subcommand (with_subcommand demanding_app check_app.top) replay_app.top) run_app.top) sweep_app.top
 
 -- the subcommand that the words name, and what was met of its options
 unfoldable pub asked : List Text → Option (Text × List Row)
@@ -88,7 +92,7 @@ run_options rows = option_map (options_by rows) (carrier_named (first_of (codes 
 
 -- the command of a name, with its options
 abbrev pub named : Text → List Row → Option Wanted
-named name rows = if bytes_eq name (codes "check") then Some Check else (if bytes_eq name (codes "replay") then Some (Replay (is_strict rows)) else (if bytes_eq name (codes "run") then option_map Run (run_options rows) else None))
+named name rows = if bytes_eq name (codes "check") then Some Check else (if bytes_eq name (codes "replay") then Some (Replay (is_strict rows)) else (if bytes_eq name (codes "run") then option_map Run (run_options rows) else (if bytes_eq name (codes "sweep") then Some Sweep else None)))
 
 -- what a subcommand and its options mean
 abbrev pub meant : Option (Text × List Row) → Option Wanted

@@ -2,8 +2,9 @@
 ghost use Rattle.std.specs.Prelude.{◌≡◌, false, Some, map, option_map, IfOk, IfSome};
 ghost use Rattle.clap.specs.declared.builder.command.Command.TheViews.{out-Command};
 ghost use Rattle.clap.specs.Words.{FailsBy, app_of, first_of, found_of, kind_of, rows_of, rule_of, subcommand_rows_of, with_subcommand};
-ghost use Rattle.ulfm_replies.specs.Words.{AreInRange, HasRanges, asked, carrier_named, carrier_rule, check_app, demanding_app, faults, is_strict, meant, named, number_rule, replay_app, run_app, run_options, strict_rule, tool_app};
+ghost use Rattle.ulfm_replies.specs.Words.{AreInRange, HasRanges, asked, carrier_named, carrier_rule, check_app, demanding_app, faults, is_strict, meant, named, number_rule, replay_app, run_app, run_options, strict_rule, sweep_app, tool_app};
 
+use crate::help::HELP;
 use crate::number::number_given;
 use clap::builder::ValueParser;
 use clap::error::ErrorKind;
@@ -45,6 +46,8 @@ pub enum Wanted {
     },
     /// The trace of a run.
     Run(RunOptions),
+    /// A line for each place of a stop.
+    Sweep,
 }
 
 /// The most turns that `--turns` can give a job.
@@ -52,35 +55,6 @@ const MOST_TURNS: u32 = 10_000_000;
 
 /// The most runs that `--repeat` can ask for.
 const MOST_RUNS: u32 = 10_000;
-
-/// What is shown below the commands.
-const HELP: &str = "A job is a TOML text on standard input:
-
-  ranks = 2
-  capacity = 4
-  turns = 10
-
-  [[step]]
-  rank = 0
-  op = \"send\"
-  to = 1
-  tag = 5
-  body = \"abc\"
-
-  [[step]]
-  rank = 1
-  op = \"recv\"
-  from = 0
-
-  [[step]]
-  rank = 1
-  op = \"wait\"
-  req = 0
-
-Under run a step's polls come fast: give a job many turns, as 1000000.
-Statuses: 0 done, 1 job refused, 2 usage, 3 run failed, 4 output failed, 5 input failed;
-6 by --strict alone, where a step is unfinished: MPI would hang there.
-docs/JOBS.md has the format of jobs and traces, docs/RULES.md the rules that ranks obey.";
 
 /// What the words ask for. An error is a wrong command line, or help that is asked for.
 pub fn wanted_of<S: AsStr>(alloc: Global, words: &[S]) -> Result<Wanted, Error>
@@ -120,7 +94,8 @@ fn command_line<'a>(alloc: Global) -> Result<Command<'a>, AllocError>
 {
     let command = bare_command(alloc).subcommand(check_command(alloc))?;
     let command = command.subcommand(replay_command(alloc)?)?;
-    command.subcommand(run_command(alloc)?)
+    let command = command.subcommand(run_command(alloc)?)?;
+    command.subcommand(sweep_command(alloc))
 }
 
 /// The command `ulfm` without its commands.
@@ -184,6 +159,18 @@ fn run_command<'a>(alloc: Global) -> Result<Command<'a>, AllocError>
     command.arg(repeat)
 }
 
+/// The command `sweep`.
+fn sweep_command<'a>(alloc: Global) -> Command<'a>
+    ensures app { app_of result ≡ sweep_app }
+    ensures local { (out-Command result).has_globals ≡ false }
+{
+    Command::new(alloc, "sweep")
+        .about(
+            "Replays the job on standard input with a stop at each place in turn and counts the answers",
+        )
+        .after_help("Example: ulfm sweep < jobs/recovery_of_three.toml")
+}
+
 /// The option `--carrier`.
 fn carrier_option<'a>(alloc: Global) -> Arg<'a>
     ensures rule { rule_of result ≡ carrier_rule }
@@ -242,6 +229,7 @@ fn named(name: &str, options: &ArgMatches<'_>) -> Option<Wanted>
             Some(options) => Some(Wanted::Run(options)),
             None => None,
         },
+        "sweep" => Some(Wanted::Sweep),
         _ => None,
     }
 }

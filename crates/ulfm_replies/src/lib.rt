@@ -4,6 +4,7 @@
 mod asked;
 mod command;
 mod failure;
+mod help;
 mod notes;
 mod number;
 mod reply;

@@ -7,6 +7,13 @@ use std::alloc::{AllocError, Global};
 use std::io::Write;
 use ulfm_explain::{Explanation, explain, warnings};
 
+/// Why a good job can't be swept.
+const NO_PLACE: &str =
+    "the job has 256 steps, which are the most: with a stop put in, as sweep does, there are too many\n";
+
+/// The line for a job that is too large.
+const TOO_LARGE: &str = "job refused: J6\n";
+
 /// How the line of an unfinished step ends.
 const END_OF_UNFINISHED: &str = ": unfinished";
 
@@ -23,7 +30,7 @@ pub fn write_notes<E: Write>(
     }
 }
 
-/// What is said of a reply: why a job is refused, what of a good one will be refused, or which steps of a trace hang.
+/// What is said of a reply: why a job is refused or can't be swept, what of a good one will be refused, or which steps hang.
 fn notes_on(
     alloc: Global,
     wanted: Wanted,
@@ -31,11 +38,19 @@ fn notes_on(
     reply: &Reply,
 ) -> Result<String, AllocError> {
     match (reply.status, wanted) {
-        (JOB_REFUSED, _) => lines_of(alloc, "", &explain(alloc, bytes)?),
+        (JOB_REFUSED, _) => refused_lines(alloc, &explain(alloc, bytes)?, reply.text.as_str()),
         (DONE, Wanted::Check) => lines_of(alloc, "warning: ", &warnings(alloc, bytes)?),
         (DONE | UNFINISHED, _) => hangs_in(alloc, reply.text.as_str()),
         _ => Ok(String::new(alloc)),
     }
+}
+
+/// Why a job is refused, by what is wrong with its text. Where nothing is, yet it is too large, a stop has no room in it.
+fn refused_lines(alloc: Global, found: &[Explanation], text: &str) -> Result<String, AllocError> {
+    if found.is_empty() && text == TOO_LARGE {
+        return String::from_str(alloc, NO_PLACE);
+    }
+    lines_of(alloc, "", found)
 }
 
 /// A line for each explanation, behind a word.

@@ -1,6 +1,6 @@
 -- What a poll by a call makes of a player whose answers are right.
 use Rattle.std.proofs.Common.{◌≡◌, ℕ, ◌+◌, ◌-◌, ◌^◌, ◌<◌, min, false, List, [], ◌∷◌, ◌++◌, length, refl, ap, sym, subst, ◌∙◌, arith, inl, inr, length-append, MatchOption, Option, Some, None, slice_get}
-use Rattle.ulfm_script.proofs.Common.{Context, is_stop_step, is_stopped, same_Some, Shrink, State, Step, StepReport, Wait, false≢true, Player, IsCalled, PollAnswers, LeavesOpen, StaysOpen, awaits_decision, step_report}
+use Rattle.ulfm_script.proofs.Common.{Context, is_stop_step, is_stopped, same_Some, Shrink, State, Step, StepReport, Wait, Probe, false≢true, Player, IsCalled, PollAnswers, LeavesOpen, StaysOpen, awaits_decision, step_report}
 use Rattle.ulfm_script.specs.Deciding.{Known, HasProposal}
 use Rattle.ulfm_script.specs.Answered.{OnlyTook, EntersBetween, IsShrink, StoodAt, by_call, left_by_call, left_undecided}
 use Rattle.ulfm_script.specs.inside.SoFar.{Since, Stands, StandsOpen, AnswersFollowSoFar, IsUndecided}
@@ -36,6 +36,7 @@ honest-answered known p asked q h running a =
 -- what a rank did since its last step, once a call left the step open
 since-opened : (r s : State) (before : List StepReport) (from : ℕ) (asked : Step) → OnlyTook r.log from (length r.log) → LeavesOpen before r asked s → Since s from asked
 since-opened r s before from (Wait req) took o = rw o.only took
+since-opened r s before from (Probe source tag comm) took o = rw o.2 took
 since-opened r s before from (Shrink comm) took o =
     let log : s.log ≡ r.log ++ _ ∷ [] = ap (λ (t : State). t.log) o.1.only in
     let g : Grew r s = record { me = ap (λ (t : State). t.me) o.1.only; ranks = ap (λ (t : State). t.ranks) o.1.only; more = _; log = log } in

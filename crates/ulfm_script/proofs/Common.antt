@@ -7,16 +7,18 @@ pub use Rattle.ulfm_base.specs.declared.decision.Decision.{Decision}
 pub use Rattle.ulfm_board.specs.Known.{known_at}
 pub use Rattle.ulfm_job.specs.Job.{is_stop_step}
 pub use Rattle.ulfm_job.specs.declared.step.Step.{Step}
-pub use Rattle.ulfm_job.specs.declared.step.Step.TheVariants.{Shrink, Wait}
+pub use Rattle.ulfm_job.specs.declared.step.Step.TheVariants.{Shrink, Wait, Probe}
 pub use Rattle.ulfm_rank.proofs.Refusals.{all_pass}
 pub use Rattle.ulfm_rank.specs.Checks.{adopt_checks, Passes, shrink_checks}
 pub use Rattle.ulfm_rank.specs.Facts.{is_stop, is_stopped, IsSigned, Knows, acknowledged_of, is_revoked, took_by}
 pub use Rattle.ulfm_rank.specs.State.{logged, State}
+pub use Rattle.ulfm_rank.specs.declared.message.MessageId.{MessageId}
 pub use Rattle.ulfm_rank.specs.declared.entry.Entry.{Entry}
 pub use Rattle.ulfm_rank.specs.declared.entry.Entry.TheVariants.{Adopted, Entered, Took}
 pub use Rattle.ulfm_script.specs.Answered.{AnswersFollow, EntersBetween, IsTook, OnlyTook, StoodAt}
 pub use Rattle.ulfm_script.specs.Deciding.{AnswersAdoption, Known}
-pub use Rattle.ulfm_script.specs.Player.{AnswersStep, LeavesOpen, Player, step_report, Tests, AnswersRecv, AnswersWait, GivesUpStep, IsCalled, IsFree, PollAnswers, PollOpens, StaysOpen, View, answered, awaits_decision, comm_of, polled, start_player, tested, with_rank}
+pub use Rattle.ulfm_script.specs.Calls.{AnswersProbe, Cancels, Receives, AnswersStep, LeavesOpen, Tests, AnswersRecv, AnswersWait, AnswersCancel, AnswersMrecv, comm_of, request_at, tested}
+pub use Rattle.ulfm_script.specs.Player.{Player, step_report, GivesUpStep, IsCalled, IsFree, PollAnswers, PollOpens, StaysOpen, View, answered, awaits_decision, polled, start_player, with_rank}
 pub use Rattle.ulfm_script.specs.Report.{Report}
 pub use Rattle.ulfm_script.specs.declared.answer.StepAnswer.{StepAnswer}
 pub use Rattle.ulfm_script.specs.declared.answer.StepAnswer.TheVariants.{Refused, Unfinished}

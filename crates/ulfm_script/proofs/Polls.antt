@@ -1,10 +1,10 @@
 -- What a poll of a step adds to a log.
 use Rattle.std.proofs.Common.{◌≡◌, ℕ, Bool, true, false, List, [], refl, ap, sym, ◌∙◌, inl, inr, ◌⊎◌}
-use Rattle.ulfm_rank.specs.declared.entry.Entry.TheVariants.{Sent as SentEntry, Posted as PostedEntry, Released, Entered, Adopted, Took}
+use Rattle.ulfm_rank.specs.declared.entry.Entry.TheVariants.{Sent as SentEntry, Posted as PostedEntry, Released, Received, Cancelled, Probed, Entered, Adopted, Took}
 use Rattle.ulfm_rank.specs.declared.entry.TestAnswer.TheVariants.{Done as TestDone, Over as TestOver}
 use Rattle.ulfm_rank.specs.State.{State, IsState, logged}
 use Rattle.ulfm_rank.proofs.Quiet.{Own, quiet-same, quiet-logged}
-use Rattle.ulfm_script.proofs.Common.{adopt_checks, AnswersAdoption, Context, Decision, Entry, is_stop_step, Passes, Shrink, shrink_checks, Step, StepAnswer, StepReport, Wait, false≢true, Player, comm_of, AnswersStep, LeavesOpen, StaysOpen, awaits_decision, IsCalled, GivesUpStep, ◌||◌, stopped-push, Quiet, is_stop, is_stopped, took_by, IsSigned, Enters}
+use Rattle.ulfm_script.proofs.Common.{adopt_checks, AnswersAdoption, Context, Decision, Entry, is_stop_step, Passes, Shrink, shrink_checks, Step, StepAnswer, StepReport, Wait, Probe, false≢true, Player, comm_of, AnswersStep, LeavesOpen, StaysOpen, awaits_decision, IsCalled, GivesUpStep, ◌||◌, stopped-push, Quiet, is_stop, is_stopped, took_by, IsSigned, Enters}
 use Rattle.ulfm_script.specs.declared.answer.StepAnswer.TheVariants.{Shrunk, Refused}
 use Rattle.ulfm_script.proofs.Says.{IsIdle, IsApart, AddsIdle, each_answer}
 
@@ -58,6 +58,12 @@ answers_plain done r asked answer new h =
     (λ source tag room comm id k. plain_one r new (PostedEntry k.1.pattern) tt (λ s. refl) refl tt k.1.only)
     (λ req status body k. plain_one r new (Released k.id (TestDone status body)) tt (λ s. refl) refl tt k.only)
     (λ req reason k. plain_one r new (Released k.id (TestOver reason)) tt (λ s. refl) refl tt k.only)
+    (λ source tag comm id status k. plain_one r new (Probed id k.1.pattern) tt (λ s. refl) refl tt k.1.only)
+    (λ req room status body k. plain_one r new (Received k.id (TestDone status body)) tt (λ s. refl) refl tt k.only)
+    (λ req room reason k. plain_one r new (Received k.id (TestOver reason)) tt (λ s. refl) refl tt k.only)
+    (λ req k. plain_one r new (Cancelled k.tests.id) tt (λ s. refl) refl tt k.only)
+    (λ req status body k. plain_one r new (Released k.id (TestDone status body)) tt (λ s. refl) refl tt k.only)
+    (λ req reason k. plain_one r new (Released k.id (TestOver reason)) tt (λ s. refl) refl tt k.only)
     (λ step said silent k. plain_idle r step new k)
     asked answer h
 
@@ -74,12 +80,14 @@ Opens old new = (new ≡ old) ⊎ ((comm : Context) × Passes (shrink_checks old
 
 pub opens_adds : (done : List StepReport) (r : State) (asked : Step) (new : State) → LeavesOpen done r asked new → Opens r new
 opens_adds done r (Wait req) new h = inl h.only
+opens_adds done r (Probe source tag comm) new h = inl h.2
 opens_adds done r (Shrink comm) new h = inr (comm, h.0, h.1)
 opens_adds done r _ new h = absurd h
 
 -- a step that its first poll may leave open is no stop
 pub opens_go_on : (done : List StepReport) (r : State) (asked : Step) (new : State) → LeavesOpen done r asked new → is_stop_step asked ≡ false
 opens_go_on done r (Wait req) new h = refl
+opens_go_on done r (Probe source tag comm) new h = refl
 opens_go_on done r (Shrink comm) new h = refl
 opens_go_on done r _ new h = absurd h
 

@@ -17,7 +17,7 @@ use Rattle.ulfm_script.specs.declared.answer.StepReport.{StepReport}
 use Rattle.ulfm_job.specs.declared.step.Step.{Step}
 use Rattle.ulfm_job.specs.declared.step.Step.TheVariants.{Shrink}
 use Rattle.ulfm_script.specs.Deciding.{Known, AnswersAdoption, HasProposal}
-use Rattle.ulfm_script.specs.Player.{AnswersStep, LeavesOpen, comm_of}
+use Rattle.ulfm_script.specs.Calls.{AnswersStep, LeavesOpen, comm_of}
 use Rattle.ulfm_script.specs.Report.{Report}
 
 -- the rank as it stood when its log had so many entries; what left its outboxes plays no part in an answer
@@ -67,8 +67,8 @@ abbrev pub IsShrink : Step → Type 0
 IsShrink (Shrink comm) = ⊤
 IsShrink _ = ⊥
 
--- The rank only took since the step before, and the call left this one open: a wait whose receive waits, or a shrink, which
--- this first call of it entered.
+-- The rank only took since the step before, and the call left this one open: a wait whose receive waits, a probe that found
+-- nothing, or a shrink, which this first call of it entered.
 pub record LeftByCall (rank : State) (before : List StepReport) (from : ℕ) (report : StepReport) (old new : State) : Type 0 where
   pub took : OnlyTook rank.log from report.at
   pub given_up : report.answer ≡ Unfinished
@@ -81,7 +81,7 @@ pub record AdoptsKnown (known : Known) (r : State) (comm : Context) (answer : St
   pub knows : known_at known comm.number ≡ Some held
   pub adoption : AnswersAdoption r comm held answer new
 
--- memory was wanted for the board, where no decision is known, and nothing changes
+-- the board was out of memory, where no decision is known, and nothing changes
 pub record WantsMemory (known : Known) (r : State) (comm : Context) (answer : StepAnswer) (new : State) : Type 0 where
   pub unknown : known_at known comm.number ≡ None
   pub refused : answer ≡ Refused OutOfMemory

@@ -15,7 +15,8 @@ use Rattle.ulfm_script.specs.declared.answer.StepAnswer.{StepAnswer}
 use Rattle.ulfm_script.specs.declared.answer.StepAnswer.TheVariants.{Shrunk, Refused}
 use Rattle.ulfm_script.specs.declared.answer.Decided.{Decided}
 use Rattle.ulfm_script.specs.declared.answer.Decided.TheVariants.{Answered, NotReady}
-use Rattle.ulfm_script.specs.Player.{Player, Refuses, with_rank, answered}
+use Rattle.ulfm_script.specs.Calls.{Refuses}
+use Rattle.ulfm_script.specs.Player.{Player, with_rank, answered}
 
 -- what a decider knows, by the numbers of contexts
 abbrev pub Known : Type 0

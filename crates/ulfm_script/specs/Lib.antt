@@ -1,3 +1,4 @@
+pub mod Calls
 pub mod Player
 pub mod Deciding
 pub mod Report

@@ -6,7 +6,7 @@ use Rattle.hex.specs.Hex.{encode_lower}
 use Rattle.ulfm_base.specs.Error.{error_text}
 use Rattle.ulfm_rank.specs.Facts.{is_stopped}
 use Rattle.ulfm_script.specs.declared.answer.StepAnswer.{StepAnswer}
-use Rattle.ulfm_script.specs.declared.answer.StepAnswer.TheVariants.{Sent, Posted, Done, Over, Pending, Ranks, Acked, Revoked, Made, Shrunk, Stopped, Unfinished, Refused}
+use Rattle.ulfm_script.specs.declared.answer.StepAnswer.TheVariants.{Sent, Posted, Done, Over, Pending, Found, Cancelled, Ranks, Acked, Revoked, Made, Shrunk, Stopped, Unfinished, Refused}
 use Rattle.ulfm_script.specs.declared.answer.StepReport.{StepReport}
 use Rattle.ulfm_job.specs.Words.{step_text}
 use Rattle.ulfm_script.specs.Report.{Report}
@@ -32,6 +32,8 @@ answer_text (Posted id) = codes "posted"
 answer_text (Done status body) = codes "done from " ++ decimal status.source ++ codes " tag " ++ decimal status.tag.number ++ codes " " ++ body_text body
 answer_text (Over reason) = codes "over " ++ error_text reason
 answer_text Pending = codes "pending"
+answer_text (Found id status) = codes "found from " ++ decimal status.source ++ codes " tag " ++ decimal status.tag.number ++ codes " length " ++ decimal status.length
+answer_text Cancelled = codes "cancelled"
 answer_text (Ranks members) = codes "ranks [" ++ parted members.items ++ codes "]"
 answer_text (Acked total) = codes "acked " ++ decimal total
 answer_text Revoked = codes "revoked"

@@ -4,7 +4,7 @@ use smallvec::SmallVec;
 use ulfm_base::{Body, CallError, Group};
 use ulfm_job::Step;
 use ulfm_match::RequestId;
-use ulfm_rank::{Comm, Status};
+use ulfm_rank::{Comm, MessageId, Status};
 
 /// The answer of a step.
 #[derive(Drop)]
@@ -13,12 +13,16 @@ pub enum StepAnswer {
     Sent,
     /// A receive was posted.
     Posted(RequestId),
-    /// A wait got this letter.
+    /// A wait got this letter, or a receive of what a probe found, or a cancel that came too late.
     Done(Status, Body),
-    /// A wait's receive is over: 5, 6 or 15.
+    /// The receive that such a step names is over: 5, 6 or 15.
     Over(CallError),
     /// A wait for any source met failures that aren't acknowledged.
     Pending,
+    /// A probe found this message, of a letter with this status.
+    Found(MessageId, Status),
+    /// A receive was cancelled: it gets no letter.
+    Cancelled,
     /// The members known to have failed, as ranks of the communicator, in the order of the notices.
     Ranks(SmallVec<u8, 8>),
     /// How many failures are acknowledged.

@@ -6,6 +6,7 @@ mod fault;
 mod hands;
 mod player;
 mod poll;
+mod receiving;
 mod report;
 mod shrinking;
 mod trace;

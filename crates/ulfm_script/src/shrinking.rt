@@ -3,7 +3,7 @@ ghost use Rattle.std.specs.Prelude.{◌≡◌, false, IfSome, IfNone, IsTrue};
 ghost use Rattle.ulfm_board.specs.Known.{Starves};
 ghost use Rattle.ulfm_rank.specs.Calls.{Enters};
 ghost use Rattle.ulfm_rank.specs.Checks.{Passes, shrink_checks};
-ghost use Rattle.ulfm_script.specs.Player.{comm_of, AnswersEntry};
+ghost use Rattle.ulfm_script.specs.Calls.{comm_of, AnswersEntry};
 ghost use Rattle.ulfm_script.specs.Deciding.{AnswersAdoption, AnswersDecision, HasProposal};
 
 use crate::answer::StepAnswer;

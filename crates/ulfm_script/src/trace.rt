@@ -74,6 +74,12 @@ fn push_answer(text: &mut String, answer: &StepAnswer) -> Result<(), AllocError>
         }
         StepAnswer::Over(reason) => write!(text, "over {reason}"),
         StepAnswer::Pending => text.push_str("pending"),
+        StepAnswer::Found(_, status) => write!(
+            text,
+            "found from {} tag {} length {}",
+            status.source, status.tag.number, status.length
+        ),
+        StepAnswer::Cancelled => text.push_str("cancelled"),
         StepAnswer::Ranks(members) => {
             text.push_str("ranks [")?;
             push_parted(text, members.as_slice())?;

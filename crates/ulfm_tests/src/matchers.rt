@@ -114,6 +114,16 @@ fn posts(matcher: &mut Matcher, plain: &mut Plain, pattern: Pattern) -> Result<b
     Ok(id.number == number && is_same(&letter, &other))
 }
 
+/// Probes both: whether they answer the same.
+fn probes(matcher: &mut Matcher, plain: &mut Plain, pattern: &Pattern) -> bool {
+    if !is_open(matcher, pattern.context) {
+        return plain.is_cleared(pattern.context);
+    }
+    let letter = matcher.probe(pattern);
+    let other = plain.probe(pattern);
+    is_same(&letter, &other) && matcher.count() == plain.count()
+}
+
 /// Hands a letter to both: whether they answer the same.
 fn arrives(matcher: &mut Matcher, plain: &mut Plain, letter: Letter) -> Result<bool, OutOfMemory> {
     matcher.prepare()?;
@@ -154,10 +164,11 @@ fn call(
     draws: &mut Pcg32,
     call: u32,
 ) -> Result<bool, OutOfMemory> {
-    match below(draws, 12) {
+    match below(draws, 13) {
         0..5 => posts(matcher, plain, pattern(draws)),
         5..10 => arrives(matcher, plain, letter(draws, call)),
         10 => Ok(ends(matcher, plain, draws)),
+        11 => Ok(probes(matcher, plain, &pattern(draws))),
         _ => {
             let pattern = pattern(draws);
             let number = below(draws, CALLS) as u64;

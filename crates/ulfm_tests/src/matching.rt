@@ -1,5 +1,5 @@
 //! Worked examples.
-ghost use Rattle.std.specs.Prelude.{◌≡◌, ◌+◌, ◌<◌, ◌^◌, OnOk};
+ghost use Rattle.std.specs.Prelude.{◌≡◌, ◌+◌, ◌<◌, ◌≤◌, ◌^◌, OnOk};
 
 use std::test::Fail;
 use ulfm_base::{Body, Context, Envelope, Letter, Pattern, RankSet, Source, Tag, WorldRank};
@@ -54,6 +54,17 @@ fn zero_or_two() -> Source {
     Source::Any(members)
 }
 
+// The one byte of a letter, or 0 where there is none.
+fn byte_of(letter: Option<Letter>) -> u8 {
+    match letter {
+        Some(letter) => match letter.body.as_bytes() {
+            [byte] => *byte,
+            _ => 0,
+        },
+        None => 0,
+    }
+}
+
 // Posts a receive. Answers its number, and the byte of the letter that it gets, or 0 where it waits.
 fn posted(matcher: &mut Matcher, pattern: Pattern) -> Result<(RequestId, u8), Fail>
     requires { matcher.old.count + 1 < 2 ^ 64 }
@@ -64,14 +75,7 @@ fn posted(matcher: &mut Matcher, pattern: Pattern) -> Result<(RequestId, u8), Fa
     }
     matcher.prepare()?;
     let (id, letter) = matcher.post(pattern);
-    let byte = match letter {
-        Some(letter) => match letter.body.as_bytes() {
-            [byte] => *byte,
-            _ => 0,
-        },
-        None => 0,
-    };
-    Ok((id, byte))
+    Ok((id, byte_of(letter)))
 }
 
 // A letter comes. Answers the receive that gets it.
@@ -89,101 +93,125 @@ fn arrived(matcher: &mut Matcher, letter: Letter) -> Result<Option<RequestId>, F
     })
 }
 
+/// Letters come, and are received in their order.
+fn keeps_their_order(matcher: &mut Matcher) -> Result<bool, Fail>
+    requires { matcher.old.count + 8 < 2 ^ 64 }
+{
+    let first = arrived(matcher, letter(ZERO, FIVE, b'a'))?;
+    let second = arrived(matcher, letter(ZERO, FIVE, b'b'))?;
+    let kept = matcher.keeps_match(&receive(ZERO, None));
+    let other = matcher.keeps_match(&receive(ONE, None));
+    let (_, byte) = posted(matcher, receive(ZERO, None))?;
+    let (id, next) = posted(matcher, receive(ZERO, Some(FIVE)))?;
+    let none_came = first.is_none() && second.is_none();
+    let left = matcher.keeps_match(&receive(ZERO, None));
+    Ok(none_came && kept && !other && !left && byte == b'a' && next == b'b' && id.number == 3)
+}
+
 #[test]
 fn letters_in_order(rt: HostRuntime) -> Result<(), Fail> {
     let mut matcher = Matcher::new(rt.alloc());
-    assert_eq!(rt; arrived(&mut matcher, letter(ZERO, FIVE, b'a'))?, None);
-    assert_eq!(rt; arrived(&mut matcher, letter(ZERO, FIVE, b'b'))?, None);
-    assert!(rt; matcher.keeps_match(&receive(ZERO, None)));
-    assert!(rt; !matcher.keeps_match(&receive(ONE, None)));
-    assert_eq!(rt; posted(&mut matcher, receive(ZERO, None))?.1, b'a');
-    let (id, byte) = posted(&mut matcher, receive(ZERO, Some(FIVE)))?;
-    assert_eq!(rt; byte, b'b');
-    assert_eq!(rt; id.number, 3);
+    let kept = keeps_their_order(&mut matcher)?;
+    assert!(rt; kept);
     assert_eq!(rt; matcher.count(), 4);
-    assert!(rt; !matcher.keeps_match(&receive(ZERO, None)));
     Ok(())
+}
+
+/// A receive that ended gets nothing, and one that leaves the tag open goes before a later one that names it.
+fn gives_to_the_wildcard(matcher: &mut Matcher) -> Result<bool, Fail>
+    requires { matcher.old.count + 8 < 2 ^ 64 }
+{
+    let ended = posted(matcher, receive(ZERO, Some(FIVE)))?.0;
+    let wildcard = posted(matcher, receive(ZERO, None))?.0;
+    let named = posted(matcher, receive(ZERO, Some(FIVE)))?.0;
+    let once = matcher.withdraw(ended);
+    let twice = matcher.withdraw(ended);
+    let first = arrived(matcher, letter(ZERO, FIVE, b'x'))?;
+    let paired = !matcher.is_waiting(wildcard) && matcher.is_waiting(named);
+    let second = arrived(matcher, letter(ZERO, FIVE, b'y'))?;
+    Ok(once && !twice && paired && first == Some(wildcard) && second == Some(named))
 }
 
 #[test]
 fn wildcard_before_named(rt: HostRuntime) -> Result<(), Fail> {
     let mut matcher = Matcher::new(rt.alloc());
-    let ended = posted(&mut matcher, receive(ZERO, Some(FIVE)))?.0;
-    let wildcard = posted(&mut matcher, receive(ZERO, None))?.0;
-    let named = posted(&mut matcher, receive(ZERO, Some(FIVE)))?.0;
-    assert!(rt; matcher.withdraw(ended));
-    assert!(rt; !matcher.withdraw(ended));
-    assert_eq!(rt;
-        arrived(&mut matcher, letter(ZERO, FIVE, b'x'))?,
-        Some(wildcard)
-    );
-    assert!(rt; !matcher.is_waiting(wildcard));
-    assert!(rt; matcher.is_waiting(named));
-    assert_eq!(rt;
-        arrived(&mut matcher, letter(ZERO, FIVE, b'y'))?,
-        Some(named)
-    );
+    let given = gives_to_the_wildcard(&mut matcher)?;
+    assert!(rt; given);
     Ok(())
+}
+
+/// Receives of any source get letters of their sources alone, the earliest first.
+fn receives_of_any(matcher: &mut Matcher) -> Result<bool, Fail>
+    requires { matcher.old.count + 9 < 2 ^ 64 }
+{
+    let any = receive_in(Context::WORLD, zero_or_two(), None);
+    let _ = arrived(matcher, letter(ONE, FIVE, b'a'))?;
+    let _ = arrived(matcher, letter(TWO, SIX, b'b'))?;
+    let _ = arrived(matcher, letter(ZERO, FIVE, b'c'))?;
+    let first = posted(matcher, any)?.1;
+    let second = posted(matcher, any)?.1;
+    let (third, byte) = posted(matcher, any)?;
+    let none = arrived(matcher, letter(ONE, FIVE, b'd'))?;
+    let last = arrived(matcher, letter(TWO, FIVE, b'e'))?;
+    let taken = first == b'b' && second == b'c' && byte == 0;
+    Ok(taken && none.is_none() && last == Some(third))
 }
 
 #[test]
 fn any_source(rt: HostRuntime) -> Result<(), Fail> {
     let mut matcher = Matcher::new(rt.alloc());
-    let any = receive_in(Context::WORLD, zero_or_two(), None);
-    assert_eq!(rt; arrived(&mut matcher, letter(ONE, FIVE, b'a'))?, None);
-    assert_eq!(rt; arrived(&mut matcher, letter(TWO, SIX, b'b'))?, None);
-    assert_eq!(rt; arrived(&mut matcher, letter(ZERO, FIVE, b'c'))?, None);
-    assert_eq!(rt; posted(&mut matcher, any)?.1, b'b');
-    assert_eq!(rt; posted(&mut matcher, any)?.1, b'c');
-    let (third, byte) = posted(&mut matcher, any)?;
-    assert_eq!(rt; byte, 0);
-    assert_eq!(rt; arrived(&mut matcher, letter(ONE, FIVE, b'd'))?, None);
-    assert_eq!(rt;
-        arrived(&mut matcher, letter(TWO, FIVE, b'e'))?,
-        Some(third)
-    );
+    let received = receives_of_any(&mut matcher)?;
+    assert!(rt; received);
     Ok(())
 }
 
-// A failure ends the receives that name the rank. A letter that came before it is still received.
+/// A failure ends the receives that name the rank. A letter that came before it is still received.
+fn ends_the_named(matcher: &mut Matcher) -> Result<bool, Fail>
+    requires { matcher.old.count + 8 < 2 ^ 64 }
+{
+    let _ = arrived(matcher, letter(ZERO, SIX, b'b'))?;
+    let named = posted(matcher, receive(ZERO, Some(FIVE)))?.0;
+    let other = posted(matcher, receive(TWO, Some(FIVE)))?.0;
+    let any = receive_in(Context::WORLD, zero_or_two(), Some(FIVE));
+    let any = posted(matcher, any)?.0;
+    matcher.end_named(ZERO);
+    let ended = !matcher.is_waiting(named);
+    let waits = matcher.is_waiting(other) && matcher.is_waiting(any);
+    let byte = posted(matcher, receive(ZERO, None))?.1;
+    Ok(ended && waits && byte == b'b')
+}
+
 #[test]
 fn kept_before_notice(rt: HostRuntime) -> Result<(), Fail> {
     let mut matcher = Matcher::new(rt.alloc());
-    assert_eq!(rt; arrived(&mut matcher, letter(ZERO, SIX, b'b'))?, None);
-    let named = posted(&mut matcher, receive(ZERO, Some(FIVE)))?.0;
-    let other = posted(&mut matcher, receive(TWO, Some(FIVE)))?.0;
-    let any = posted(
-        &mut matcher,
-        receive_in(Context::WORLD, zero_or_two(), Some(FIVE)),
-    )?
-    .0;
-    matcher.end_named(ZERO);
-    assert!(rt; !matcher.is_waiting(named));
-    assert!(rt; matcher.is_waiting(other));
-    assert!(rt; matcher.is_waiting(any));
-    assert_eq!(rt; posted(&mut matcher, receive(ZERO, None))?.1, b'b');
+    let ended = ends_the_named(&mut matcher)?;
+    assert!(rt; ended);
     Ok(())
+}
+
+/// A context is cleared, and what is of another stays.
+fn clears_one(matcher: &mut Matcher) -> Result<bool, Fail>
+    requires { matcher.old.count + 8 < 2 ^ 64 }
+{
+    let cleared = posted(matcher, receive_in(DUP, Source::One(ZERO), None))?.0;
+    let stays = posted(matcher, receive(ZERO, None))?.0;
+    let _ = arrived(matcher, letter_in(DUP, ONE, FIVE, b'a'))?;
+    let _ = arrived(matcher, letter(ONE, FIVE, b'b'))?;
+    matcher.prepare()?;
+    let before = matcher.is_cleared(DUP);
+    matcher.clear(DUP);
+    let marked = matcher.is_cleared(DUP) && !matcher.is_cleared(Context::WORLD);
+    let prepared = matcher.is_prepared();
+    let waits = matcher.is_waiting(stays) && !matcher.is_waiting(cleared);
+    let dropped = !matcher.keeps_match(&receive_in(DUP, Source::One(ONE), None));
+    let byte = posted(matcher, receive(ONE, None))?.1;
+    Ok(!before && marked && prepared && waits && dropped && byte == b'b')
 }
 
 #[test]
 fn other_contexts_stay(rt: HostRuntime) -> Result<(), Fail> {
     let mut matcher = Matcher::new(rt.alloc());
-    let cleared = posted(&mut matcher, receive_in(DUP, Source::One(ZERO), None))?.0;
-    let stays = posted(&mut matcher, receive(ZERO, None))?.0;
-    assert_eq!(rt;
-        arrived(&mut matcher, letter_in(DUP, ONE, FIVE, b'a'))?,
-        None
-    );
-    assert_eq!(rt; arrived(&mut matcher, letter(ONE, FIVE, b'b'))?, None);
-    matcher.prepare()?;
-    assert!(rt; !matcher.is_cleared(DUP));
-    matcher.clear(DUP);
-    assert!(rt; matcher.is_cleared(DUP));
-    assert!(rt; !matcher.is_cleared(Context::WORLD));
-    assert!(rt; matcher.is_prepared());
-    assert!(rt; !matcher.is_waiting(cleared));
-    assert!(rt; matcher.is_waiting(stays));
-    assert!(rt; !matcher.keeps_match(&receive_in(DUP, Source::One(ONE), None)));
-    assert_eq!(rt; posted(&mut matcher, receive(ONE, None))?.1, b'b');
+    let stay = clears_one(&mut matcher)?;
+    assert!(rt; stay);
     Ok(())
 }

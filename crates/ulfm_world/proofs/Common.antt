@@ -14,7 +14,8 @@ pub use Rattle.ulfm_rank.specs.declared.entry.Entry.{Entry}
 pub use Rattle.ulfm_rank.specs.declared.entry.Entry.TheVariants.{Took, Adopted, Revoked}
 pub use Rattle.ulfm_board.specs.Known.{known_at}
 pub use Rattle.ulfm_job.specs.Job.{Seen, script_at, IsJob, is_stop_step, through_stop}
-pub use Rattle.ulfm_script.specs.Player.{Player, with_rank, GivesUpStep, IsCalled, IsFree, LeavesOpen, PollAnswers, PollOpens, StaysOpen, View, answered, awaits_decision, polled, start_player, step_report}
+pub use Rattle.ulfm_script.specs.Calls.{LeavesOpen}
+pub use Rattle.ulfm_script.specs.Player.{Player, with_rank, GivesUpStep, IsCalled, IsFree, PollAnswers, PollOpens, StaysOpen, View, answered, awaits_decision, polled, start_player, step_report}
 pub use Rattle.ulfm_script.specs.Report.{Report}
 pub use Rattle.ulfm_job.specs.declared.step.Step.{Step}
 pub use Rattle.ulfm_job.specs.declared.step.Step.TheVariants.{Shrink}
@@ -34,7 +35,7 @@ pub use Rattle.ulfm_base.specs.declared.error.CallError.{CallError}
 pub use Rattle.ulfm_base.specs.declared.error.CallError.TheVariants.{OutOfMemory}
 pub use Rattle.ulfm_laws.proofs.AtRest.{agrees-revoked, knows-stopped}
 pub use Rattle.ulfm_laws.specs.Lawful.{AreProduced, IsLawful, KnowAtRest}
-pub use Rattle.ulfm_laws.specs.Reader.{AllHasCome, ComeAsSent, DoneIsGiven, DonesDiffer, GivesOnce, HasOnePairing, IsFaithful, LettersKeepOrder, NoneIsMissed, OverIsTrue, ReceivesKeepOrder}
+pub use Rattle.ulfm_laws.specs.Reader.{AllHasCome, ComeAsSent, DoneIsGiven, DonesDiffer, FoundIsGiven, GivesOnce, HasOnePairing, IsFaithful, LettersKeepOrder, NoneIsMissed, OverIsTrue, ReceivesKeepOrder}
 pub use Rattle.ulfm_laws.specs.Shrinks.{AdoptOne, AdoptsTruly, EntersEachOnce, HasOneGroup, IsTrueOf, ProposesEach}
 pub use Rattle.ulfm_rank.proofs.Belonging.{IsOwn, Keeps, keeps-push, keeps-start, not_foreign}
 pub use Rattle.ulfm_rank.proofs.Entering.{AdoptsEntered, Fits, own_set, own_stays}
@@ -53,7 +54,7 @@ pub use Rattle.std.proofs.lemmas.Result.{IfOk-weaker, on_err_weaker, on_ok_weake
 pub use Rattle.ulfm_base.proofs.Places.{get_or-blank}
 pub use Rattle.ulfm_base.specs.Decision.{entry_at, in_entry, is_listed}
 pub use Rattle.ulfm_laws.proofs.Flowing.{AreFlowing, gone_stopped, listed_own}
-pub use Rattle.ulfm_laws.proofs.Given.{done_given, dones_differ, gives_once, over_true}
+pub use Rattle.ulfm_laws.proofs.Given.{done_given, dones_differ, found_given, gives_once, over_true}
 pub use Rattle.ulfm_laws.specs.Causes.{GoneHaveStopped, RevokedByARank, RevokedByCall, is_call_to_revoke}
 pub use Rattle.ulfm_laws.specs.Flow.{Flow, Flows}
 pub use Rattle.ulfm_rank.proofs.Firsts.{some_from}

@@ -14,12 +14,12 @@ use Rattle.ulfm_world.specs.declared.fault.SweepFault.TheVariants.{Job, Run}
 use Rattle.ulfm_world.specs.declared.line.SweepLine.{SweepLine}
 use Rattle.ulfm_world.specs.Replay.{IsReplayed, MadeAtRest}
 
--- a wait got a letter
+-- a wait, a late cancel or a receive of what a probe found got a letter
 abbrev pub is_done : StepAnswer → Bool
 is_done (Done _ _) = true
 is_done _ = false
 
--- a wait's receive is over
+-- what such a step asks for is over
 abbrev pub is_over : StepAnswer → Bool
 is_over (Over _) = true
 is_over _ = false

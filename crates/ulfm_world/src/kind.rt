@@ -7,9 +7,9 @@ use ulfm_script::StepAnswer;
 /// A kind of answers.
 #[derive(Clone, Copy)]
 pub(crate) enum Kind {
-    /// A wait got a letter.
+    /// A wait, a late cancel or a receive of what a probe found got a letter.
     Done,
-    /// A wait's receive is over.
+    /// What such a step asks for is over.
     Over,
     /// A wait met failures that aren't acknowledged.
     Pending,

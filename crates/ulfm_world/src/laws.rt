@@ -2,7 +2,7 @@
 ghost use Rattle.std.specs.Prelude.{ℕ, ◌≤◌, List};
 ghost use Rattle.ulfm_laws.specs.Causes.{GoneHaveStopped, RevokedByARank};
 ghost use Rattle.ulfm_laws.specs.Flow.{Flows};
-ghost use Rattle.ulfm_laws.specs.Reader.{AllHasCome, ComeAsSent, DoneIsGiven, DonesDiffer, GivesOnce, HasOnePairing, IsFaithful, LettersKeepOrder, NoneIsMissed, OverIsTrue, ReceivesKeepOrder};
+ghost use Rattle.ulfm_laws.specs.Reader.{AllHasCome, ComeAsSent, DoneIsGiven, DonesDiffer, FoundIsGiven, GivesOnce, HasOnePairing, IsFaithful, LettersKeepOrder, NoneIsMissed, OverIsTrue, ReceivesKeepOrder};
 ghost use Rattle.ulfm_laws.specs.Rest.{KnowsStopped, AgreesOnRevoked};
 ghost use Rattle.ulfm_laws.specs.Shrinks.{AdoptOne, HasOneGroup, ProposesEach};
 ghost use Rattle.ulfm_world.specs.declared.event.Event.{Event};
@@ -49,22 +49,29 @@ pub fn letters_come_as_sent()
     ensures replays { InEachReplay ComeAsSent }
 {}
 
-/// Whatever events come, each wait that is done tells of a letter that an answered step sent to this rank, and that the
-/// receive of the wait was given and admits, with room enough (MPI 4.0, 3.2.4 and 3.2.5).
+/// Whatever events come, each wait, late cancel or receive of a found letter that is done tells of a letter that an answered
+/// step sent to this rank, and that its receive or probe was given and admits, with room enough (MPI 4.0, 3.2.4 and 3.2.5).
 pub fn each_done_was_sent()
     ensures worlds { InEachWorld DoneIsGiven }
     ensures replays { InEachReplay DoneIsGiven }
 {}
 
+/// Whatever events come, each probe that found a letter tells of one that an answered step sent to this rank, and that the
+/// probe was given and admits (MPI 4.0, 3.8.2).
+pub fn each_found_was_sent()
+    ensures worlds { InEachWorld FoundIsGiven }
+    ensures replays { InEachReplay FoundIsGiven }
+{}
+
 /// Whatever events come, a receive that is over as truncated was given a letter longer than its room, and one that is over
-/// by a failure or a revocation was given none (MPI 4.0, 3.2.4; ULFM).
+/// by a failure or a revocation, or was cancelled, was given none (MPI 4.0, 3.2.4 and 3.8.4; ULFM).
 pub fn each_over_is_true()
     ensures worlds { InEachWorld OverIsTrue }
     ensures replays { InEachReplay OverIsTrue }
 {}
 
-/// Whatever events come, no letter that was sent is given to two receives, no receive gets two letters, no request is
-/// answered twice as done or over, and no two waits tell of one send (MPI 4.0, 3.5 and 3.7.3).
+/// Whatever events come, no letter that was sent is given to two receives or probes, none of these gets two letters, none
+/// is answered twice as done or over, and no two such answers tell of one send (MPI 4.0, 3.5 and 3.7.3).
 pub fn letters_are_given_once()
     ensures worlds { InEachWorld GivesOnce }
     ensures replays { InEachReplay GivesOnce }
@@ -78,8 +85,8 @@ pub fn letters_keep_order()
     ensures replays { InEachReplay LettersKeepOrder }
 {}
 
-/// Whatever events come, no receive overtakes another that was posted earlier, didn't end by a failure, and also admits the
-/// letter (MPI 4.0, 3.5).
+/// Whatever events come, no receive overtakes another that was posted earlier, also admits the letter, and hasn't ended
+/// before the pair is made: by a failure, by a cancel, or at once as a probe (MPI 4.0, 3.5).
 pub fn receives_keep_order()
     ensures worlds { InEachWorld ReceivesKeepOrder }
     ensures replays { InEachReplay ReceivesKeepOrder }

@@ -15,9 +15,9 @@ pub struct SweepLine {
     pub rank: u8,
     /// How many steps it has before the stop.
     pub at: u16,
-    /// Waits that got a letter.
+    /// Waits, late cancels and receives of what probes found that got a letter.
     pub done: usize,
-    /// Waits whose receive was over.
+    /// Such steps that were told that it is over.
     pub over: usize,
     /// Waits that met failures that weren't acknowledged.
     pub pending: usize,

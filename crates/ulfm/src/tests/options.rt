@@ -82,6 +82,12 @@ fn an_unfinished_step_has_a_status_where_it_is_asked_for(rt: HostRuntime) -> Res
             2,
             "error: unexpected argument '--strict' found\n",
         ),
+        gives(
+            "sweep --strict",
+            HANG,
+            2,
+            "error: unexpected argument '--strict' found\n",
+        ),
     ];
     assert_eq!(rt; first_wrong(&rt, cases.as_slice())?, None);
     Ok(())
@@ -161,6 +167,7 @@ fn the_help_of_each_command_has_an_example(rt: HostRuntime) {
             "run",
             "Example: ulfm run --carrier lanes --turns 1000000 --repeat 20 < jobs/one_letter.toml",
         ),
+        ("sweep", "Example: ulfm sweep < jobs/recovery_of_three.toml"),
     ] {
         let (status, kept) = reply(&rt, &["ulfm", command, "--help"], "");
         let has_example = kept.bytes[..kept.len]

@@ -16,8 +16,17 @@ pub fn first_wrong<R: AllocGlobal + Threads + Wait + Sync>(
     rt: &R,
     rows: &[Row],
 ) -> Option<&'static str> {
+    first_wrong_by(rt, &["ulfm", "replay"], rows)
+}
+
+/// The name of the first row whose job doesn't give its trace by these words.
+pub fn first_wrong_by<R: AllocGlobal + Threads + Wait + Sync>(
+    rt: &R,
+    words: &[&str],
+    rows: &[Row],
+) -> Option<&'static str> {
     for row in rows {
-        let answer = reply(rt, &["ulfm", "replay"], row.job);
+        let answer = reply(rt, words, row.job);
         let follows = is_reply(&answer, 0, row.trace);
         let (_, Kept { bytes: _, len: _ }) = answer;
         if !follows {

@@ -3,7 +3,7 @@ use Rattle.std.specs.Prelude.{Result, Ok, Err, ◌<◌, ◌≤◌}
 use Rattle.toml.specs.View.{items_view}
 use Rattle.ulfm_job.specs.declared.head.Head.{Head as Coded}
 use Rattle.ulfm_job.specs.JobText.{Head}
-use Rattle.ulfm_job.specs.declared.ops.Placed.{Placed}
+use Rattle.ulfm_job.specs.declared.placed.Placed.{Placed}
 use Rattle.ulfm_job.specs.Plan.{PlannedStep, order_of}
 
 -- a result, its value seen by view

@@ -107,19 +107,21 @@ NonePass {X} P entries = (n : ℕ) → Passes P entries n → ⊥
 abbrev pub StandsFor : Letter → Buckets → ℕ → Type 0
 StandsFor letter buckets n = (k : ℕ) × IsKeyOf letter k × Contains (numbers_at buckets k) n
 
--- each entry stands in the buckets of its keys, by rising numbers, but for the one that came last and is in no bucket yet
-pub record IsIndexed {X : Type 0} (IsKey : X → ℕ → Type 0) (fresh : Option ℕ) (count : ℕ) (entries : Entries X) (buckets : Buckets) : Type 0 where
+-- each entry stands in the buckets of its keys, by rising numbers below the top, but for the one that came last and may be in no bucket yet
+pub record IsIndexed {X : Type 0} (IsKey : X → ℕ → Type 0) (fresh : Option ℕ) (top : ℕ) (entries : Entries X) (buckets : Buckets) : Type 0 where
   pub unique : IsUnique nat_eq entries
-  pub below : (n : ℕ) (x : X) → get nat_eq entries n ≡ Some x → n < count
+  pub below : (n : ℕ) (x : X) → get nat_eq entries n ≡ Some x → n < top
   pub held : (n : ℕ) (x : X) (k : ℕ) → get nat_eq entries n ≡ Some x → IsKey x k
       → (fresh ≡ Some n) ⊎ Contains (numbers_at buckets k) n
   pub rises : (k : ℕ) → Rises (numbers_at buckets k)
-  pub within : (k n : ℕ) → Contains (numbers_at buckets k) n → n < count
+  pub within : (k n : ℕ) → Contains (numbers_at buckets k) n → n < top
 
--- what a matcher holds: the receives that wait and the letters that are kept, both in buckets; the fresh one came last
+-- what a matcher holds: the receives that wait and the letters that are kept, both in buckets; the fresh one came last of them
 pub record IsWhole (waiting : Entries Pattern) (posted : Buckets) (kept : Entries Letter) (came : Buckets) (fresh : Option ℕ) (count : ℕ) (ready : Bool) : Type 0 where
-  pub of_waiting : IsIndexed IsKeyOfReceive fresh count waiting posted
-  pub of_kept : IsIndexed IsKeyOf fresh count kept came
-  pub last : (n : ℕ) → fresh ≡ Some n → count ≡ n + 1
+  pub top : ℕ
+  pub counted : top ≤ count
+  pub of_waiting : IsIndexed IsKeyOfReceive fresh top waiting posted
+  pub of_kept : IsIndexed IsKeyOf fresh top kept came
+  pub last : (n : ℕ) → fresh ≡ Some n → top ≡ n + 1
   -- room was made for one entry more, and no entry is fresh
   pub room : ready ≡ true → (fresh ≡ None) × (0 < spare waiting) × (0 < spare kept)

@@ -1,4 +1,4 @@
--- The table of requests beside a log.
+-- The table of requests and messages beside a log.
 use Rattle.std.specs.Prelude.{◌≡◌, ℕ, Bool, true, false, ⊤, ◌<◌, List, length, Option, Some, IsSome, if◌then◌else◌}
 use Rattle.ulfm_base.specs.declared.envelope.Letter.{Letter}
 use Rattle.ulfm_base.specs.declared.pattern.Pattern.{Pattern}
@@ -14,11 +14,11 @@ use Rattle.ulfm_rank.specs.declared.entry.Entry.{Entry}
 use Rattle.ulfm_rank.specs.declared.entry.TestAnswer.{TestAnswer}
 use Rattle.ulfm_rank.specs.declared.entry.TestAnswer.TheVariants.{Done, Over, Pending, NotYet}
 use Rattle.ulfm_rank.specs.declared.request.Fate.{Fate}
-use Rattle.ulfm_rank.specs.declared.request.Fate.TheVariants.{Waiting, Paired, Failed, Cleared}
+use Rattle.ulfm_rank.specs.declared.request.Fate.TheVariants.{Waiting, Paired, Found, Failed, Cleared}
 use Rattle.ulfm_rank.specs.declared.request.Request.{Request}
 use Rattle.ulfm_rank.specs.Answer.{Got, IsOver, IsReceived}
 use Rattle.ulfm_rank.specs.Communicators.{group_of}
-use Rattle.ulfm_rank.specs.Facts.{is_released}
+use Rattle.ulfm_rank.specs.Facts.{is_released, is_probed}
 use Rattle.ulfm_rank.specs.History.{history_of}
 
 -- each rank of the source is a member
@@ -32,10 +32,16 @@ pub record IsOfGroup (n : ℕ) (log : List Entry) (pattern : Pattern) : Type 0 w
   pub made : group_of n log pattern.context.number ≡ Some group
   pub source : IsSourceIn group pattern.source
 
--- what became of the receive of this pattern at place i
+-- it is the letter of a message
+abbrev pub is_found : Fate → Bool
+is_found (Found letter) = true
+is_found _ = false
+
+-- what became of the receive of this pattern at place i, which is that of a message where its letter was found
 abbrev pub Became : List Event → Pairing → ℕ → Pattern → Fate → Type 0
 Became history pairing i pattern Waiting = IsWaiting history pairing i pattern (length history)
 Became history pairing i pattern (Paired letter) = Got history pairing i letter
+Became history pairing i pattern (Found letter) = Got history pairing i letter
 Became history pairing i pattern Failed = IsOver history pairing i pattern ProcFailed
 Became history pairing i pattern Cleared = IsOver history pairing i pattern Revoked
 
@@ -46,13 +52,15 @@ pub record IsStanding (history : List Event) (pairing : Pairing) (id : ℕ) (req
   pub numbered : count_before history place ≡ id
   pub fate : Became history pairing place request.pattern request.fate
 
--- the table has the receives that aren't released; `find` looks a number up
+-- the table has the receives that aren't released, those of messages too; `find` looks a number up
 pub record IsTable (n : ℕ) (log : List Entry) (history : List Event) (pairing : Pairing) (find : ℕ → Option Request) : Type 0 where
   pub standing : (id : ℕ) (request : Request) → find id ≡ Some request → IsStanding history pairing id request
   pub of_group : (id : ℕ) (request : Request) → find id ≡ Some request → IsOfGroup n log request.pattern
   pub unreleased : (id : ℕ) (request : Request) → find id ≡ Some request → is_released log id ≡ false
   pub complete : (i : ℕ) (pattern : Pattern) → PostAt history i pattern → is_released log (count_before history i) ≡ false → (request : Request) × (find (count_before history i) ≡ Some request)
   pub released_below : (id : ℕ) → is_released log id ≡ true → id < count_before history (length history)
+  pub kind : (id : ℕ) (request : Request) → find id ≡ Some request → is_found request.fate ≡ is_probed log id
+  pub probed_below : (id : ℕ) → is_probed log id ≡ true → id < count_before history (length history)
 
 -- some lawful pairing of the log's history leaves what the matcher has, and the table is in step with it
 pub record IsInStep (n : ℕ) (log : List Entry) (matcher : Matching) (find : ℕ → Option Request) : Type 0 where
@@ -70,10 +78,12 @@ IsDelivered group pattern letter _ = ⊥
 abbrev pub GivesAnswer : List ℕ → Bool → Pattern → Fate → TestAnswer → Type 0
 GivesAnswer group pending pattern Waiting answer = answer ≡ (if pending then Pending else NotYet)
 GivesAnswer group pending pattern (Paired letter) answer = IsDelivered group pattern letter answer
+GivesAnswer group pending pattern (Found letter) answer = IsDelivered group pattern letter answer
 GivesAnswer group pending pattern Failed answer = answer ≡ Over ProcFailed
 GivesAnswer group pending pattern Cleared answer = answer ≡ Over Revoked
 
 -- the sender of the letter that a receive got is a member
 abbrev pub HasSender : List ℕ → Fate → Type 0
 HasSender group (Paired letter) = IsSome (rank_in group letter.envelope.source.number)
+HasSender group (Found letter) = IsSome (rank_in group letter.envelope.source.number)
 HasSender group _ = ⊤

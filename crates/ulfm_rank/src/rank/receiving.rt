@@ -16,14 +16,14 @@ use crate::answer::{answer_in, is_release};
 use crate::entry::{Comm, Entry, TestAnswer};
 use crate::failures::names_known;
 use crate::request::Request;
-use crate::requests::admit;
+use crate::requests::{admit, find};
 use crate::sources::source_of;
 use ulfm_base::{CallError, Pattern, Tag};
 use ulfm_match::RequestId;
 
 impl Rank {
     /// What a receive with these arguments asks for, where it may be posted.
-    fn pattern_of(
+    pub(super) fn pattern_of(
         &self,
         comm: Comm,
         source: Option<u8>,
@@ -110,8 +110,8 @@ impl Rank {
         if self.stopped {
             return Err(CallError::Stopped);
         }
-        let request = match self.requests.get(&id.number) {
-            Some(request) => *request,
+        let request = match find(&self.requests, id.number, false) {
+            Some(request) => request,
             None => return Err(CallError::NoRequest),
         };
         let answer = answer_in(&self.communicators, &self.faults, &request);

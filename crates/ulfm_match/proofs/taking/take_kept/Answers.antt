@@ -10,10 +10,10 @@ returns-in_ok-letter-in-Some-clause-taken c =
       record {
         found = sym e;
         passes = rw (some_same (sym e) f.is.found) f.is.passes;
-        least = λ m q. f.least m (kept_found c.args.pattern.now c.requires.0 c.args.kept.now c.args.buckets.now c.requires.1 m q) q;
+        least = λ m q. f.least m (kept_found c.requires.1 m q) q;
         out = record { updates = c.swap_remove.ensures.updates.0; unique = c.swap_remove.ensures.unique; room = c.swap_remove.ensures.room.0; sweeps = c.forget_letter.ensures };
       },
     )
 
 pub returns-in-None-clause-taken : goal.returns-in-None-clause-taken
-returns-in-None-clause-taken c m q = c.in-None.ensures m (kept_found c.args.pattern.now c.requires.0 c.args.kept.now c.args.buckets.now c.requires.1 m q) q
+returns-in-None-clause-taken c m q = c.in-None.ensures m (kept_found c.requires.1 m q) q

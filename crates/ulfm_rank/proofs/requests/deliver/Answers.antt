@@ -14,6 +14,6 @@ returns-in-Paired-clause-tracks c n entries h r t table =
     let find' = get nat_eq c.set_fate.new.requests in (
       _,
       a.tracks,
-      come_paired n entries h r t.lawful c.args.letter find table a.place a.pattern c.in-Paired.id.number a.posted a.numbered find'
+      come_paired n entries h r t.lawful c.args.letter find table a.place a.pattern c.in-Paired.id.number a.posted a.numbered a.tracks.lawful find'
           (subst (λ l. Changes (changed c.in-Paired.id.number (Paired l)) find find') c.in-Paired.ensures.letter c.set_fate.ensures.change),
     )

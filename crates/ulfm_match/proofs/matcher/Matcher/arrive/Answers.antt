@@ -4,14 +4,12 @@ use Rattle.ulfm_match.proofs.Inserted.{on_ok}
 use Rattle.ulfm_match.proofs.Listed.{listed_push, listed_takes, unlisted}
 use Rattle.ulfm_match.proofs.ArriveKeeps.{arrive_keeps}
 use Rattle.ulfm_match.proofs.ArriveTakes.{arrive_takes}
-use Rattle.ulfm_match.proofs.Whole.{whole_takes_waiting, whole_keeps}
+use Rattle.ulfm_match.proofs.Whole.{whole_takes_waiting, whole_keeps, kept_below}
 use Rattle.ulfm_match.proofs.matcher.Matcher.arrive.Goals as goal
 
 pub invariant_of-self : goal.invariant_of-self
 invariant_of-self c =
-    let room = c.self.invariant.room (ap (λ (s : Matching). s.prepared) c.self.view_is ∙ c.requires.prepared) in
-    let t = c.in-Some.ensures.taken in
-    whole_takes_waiting c.self.invariant room.0 t.1.out
+    whole_takes_waiting c.self.invariant c.in-Some.ensures.taken.1.out
 
 pub invariant_of-self-in-None : goal.invariant_of-self-in-None
 invariant_of-self-in-None c =
@@ -39,4 +37,4 @@ returns-in-None-clause-tracks c h r t =
     (λ y m a. c.in-None.ensures.taken y.0 (record { entry = y.1; found = unlisted i.waiting inv.of_waiting.unique y m; passes = a }))
     _ refl
     (ap (λ (w : Entries Pattern). in_order w.entries) c.in-None.ensures.idle.0)
-    (listed_push i.kept c.insert.new.self inv.of_kept.unique c.insert.ensures.unique i.count c.args.letter put.0 inv.of_kept.below) refl
+    (listed_push i.kept c.insert.new.self inv.of_kept.unique c.insert.ensures.unique i.count c.args.letter put.0 (kept_below inv)) refl

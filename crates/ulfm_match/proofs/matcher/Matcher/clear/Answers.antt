@@ -10,6 +10,8 @@ pub invariant_of-self : goal.invariant_of-self
 invariant_of-self c =
     let i = c.self.invariant in
     record {
+      top = i.top;
+      counted = i.counted;
       of_waiting = less_indexed i.of_waiting c.clear_waiting.ensures.unique (filter_less c.self.inside.waiting c.clear_waiting.new.waiting i.of_waiting.unique c.clear_waiting.ensures.unique _ c.clear_waiting.ensures.left) c.forget_gone.ensures;
       of_kept = less_indexed i.of_kept c.clear_kept.ensures.unique (filter_less c.self.inside.kept c.clear_kept.new.kept i.of_kept.unique c.clear_kept.ensures.unique _ c.clear_kept.ensures.left) c.forget_gone-2.ensures;
       last = i.last;

@@ -10,6 +10,8 @@ pub invariant_of-self : goal.invariant_of-self
 invariant_of-self c =
     let i = c.self.invariant in
     record {
+      top = i.top;
+      counted = i.counted;
       of_waiting = less_indexed i.of_waiting c.end_waiting.ensures.unique (filter_less c.self.inside.waiting c.end_waiting.new.waiting i.of_waiting.unique c.end_waiting.ensures.unique _ c.end_waiting.ensures.left) c.forget_gone.ensures;
       of_kept = i.of_kept;
       last = i.last;

@@ -4,14 +4,12 @@ use Rattle.ulfm_match.proofs.Inserted.{on_ok}
 use Rattle.ulfm_match.proofs.Listed.{listed_push, listed_takes, unlisted}
 use Rattle.ulfm_match.proofs.PostWaits.{post_waits}
 use Rattle.ulfm_match.proofs.PostTakes.{post_takes}
-use Rattle.ulfm_match.proofs.Whole.{whole_takes_kept, whole_waits}
+use Rattle.ulfm_match.proofs.Whole.{whole_takes_kept, whole_waits, waiting_below}
 use Rattle.ulfm_match.proofs.matcher.Matcher.post.Goals as goal
 
 pub invariant_of-self : goal.invariant_of-self
 invariant_of-self c =
-    let room = c.self.invariant.room (ap (λ (s : Matching). s.prepared) c.self.view_is ∙ c.requires.prepared) in
-    let t = c.in-Some.ensures.taken in
-    whole_takes_kept c.self.invariant room.0 t.1.out
+    whole_takes_kept c.self.invariant c.in-Some.ensures.taken.1.out
 
 pub invariant_of-self-in-None : goal.invariant_of-self-in-None
 invariant_of-self-in-None c =
@@ -38,5 +36,5 @@ returns-in-None-clause-tracks c h r t =
     post_waits h r _ c.args.pattern (subst (Tracks h r) (sym c.self.view_is) t) ((t.remains.cleared _).0 c.requires.open)
     (λ y m a. c.in-None.ensures.taken y.0 (record { entry = y.1; found = unlisted i.kept inv.of_kept.unique y m; passes = a }))
     _ refl
-    (listed_push i.waiting c.insert.new.self inv.of_waiting.unique c.insert.ensures.unique i.count c.args.pattern put.0 inv.of_waiting.below)
+    (listed_push i.waiting c.insert.new.self inv.of_waiting.unique c.insert.ensures.unique i.count c.args.pattern put.0 (waiting_below inv))
     (ap (λ (k : Entries Letter). in_order k.entries) c.in-None.ensures.idle.0) refl

@@ -1,8 +1,8 @@
-use Rattle.std.proofs.Common.{◌≡◌, false, [], ◌∷◌, ◌++◌, length, ap, sym, subst, arith, refl, ◌∙◌, Some, nat_eq}
-use Rattle.ulfm_rank.proofs.Common.{Context, Pattern, count_before, Posted, Request, IsRequest, is_revoked, history_of, Follows, state_of, IsOfGroup, View, Adds, is_some, lookup, get, index_map_len, IsReceive}
+use Rattle.std.proofs.Common.{◌≡◌, false, [], ◌∷◌, ◌++◌, length, ap, sym, subst, arith, refl, ◌∙◌, nat_eq}
+use Rattle.ulfm_rank.proofs.Common.{Context, Pattern, Posted, Request, IsRequest, is_revoked, Follows, state_of, IsOfGroup, View, Adds, is_some, lookup, get, index_map_len, IsReceive}
 use Rattle.ulfm_rank.specs.Checks.{receive_checks, Passes}
 use Rattle.ulfm_rank.proofs.Entries.{shrinks-logged}
-use Rattle.ulfm_rank.proofs.InStep.{count_small, in_step_open, posted_request, adds_itself}
+use Rattle.ulfm_rank.proofs.InStep.{count_small, in_step_open, posted_request}
 use Rattle.ulfm_rank.proofs.Refusals.{all_pass}
 use Rattle.ulfm_rank.proofs.Whole.{at_most_one, follows_same, follows_posted, holds_same}
 use Rattle.ulfm_rank.proofs.Seen.{state_logged, stop_places_few}
@@ -83,9 +83,9 @@ returns-clause-posts c =
 
 pub returns-clause-request : goal.returns-clause-request
 returns-clause-request c =
-    let a = c.self.inside in
-    let num : count_before (history_of a.log.items) (length (history_of a.log.items)) ≡ c.admit-fate.result.0.number = sym (ready c).in_step.tracks.remains.count ∙ sym c.admit-fate.ensures.number in
-    let there : get nat_eq c.insert.new.self c.admit-fate.result.0.number ≡ Some (request c) =
-    adds_itself c.admit-fate.result.0.number (request c) (get nat_eq c.reserve-2.new.self) (get nat_eq c.insert.new.self) (subst (λ k. Adds k (request c) (get nat_eq c.reserve-2.new.self) (get nat_eq c.insert.new.self)) (sym c.admit-fate.ensures.number) (adds c)) in
-    let posted = posted_request a.log.items (pattern c) c.admit-fate.result.0.number num ((done c).in_step.table.unreleased c.admit-fate.result.0.number (request c) there) in
-    (posted.0, pattern c, subst (λ log. IsRequest log c.admit-fate.result.0.number posted.0 (pattern c)) (sym (longer c)) posted.1)
+    let posted = posted_request (ready c).in_step (pattern c) in (
+      posted.0,
+      pattern c,
+      subst (λ log. IsRequest log c.admit-fate.result.0.number posted.0 (pattern c)) (sym (longer c))
+          (subst (λ k. IsRequest (c.self.inside.log.items ++ Posted (pattern c) ∷ []) k posted.0 (pattern c)) (sym c.admit-fate.ensures.number) posted.1),
+    )

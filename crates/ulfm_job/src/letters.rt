@@ -1,0 +1,150 @@
+//! The steps of a table that send, receive, probe, or name such a step.
+ghost use Rattle.std.specs.Prelude.{◌≡◌, ◌<◌, IfOk};
+ghost use Rattle.toml.specs.View.{table_view};
+ghost use Rattle.ulfm_job.specs.inside.Reading.{map_ok, planned};
+ghost use Rattle.ulfm_job.specs.Plan.{wait, cancel};
+ghost use Rattle.ulfm_job.specs.StepText.{send_step, recv_step, step_on_req, probe_step, mrecv_step};
+
+use crate::fault::Fault;
+use crate::fields::{only_keys, optional_number, required_number, required_text};
+use crate::placed::Placed;
+use crate::ranges::{comm_in, from_if_some, rank_in, req_in, room_in, tag_if_some, tag_in, to_in};
+use crate::step::Step;
+use crate::text::Text;
+use toml::Table;
+
+/// A `send`.
+#[tactic(auto, unfolding(crate::specs::StepText::send_step))]
+pub fn send_of(ranks: u8, table: &Table) -> Result<Placed, Fault>
+    requires { 0 < ranks }
+    ensures exact { map_ok planned result ≡ send_step ranks (table_view table.now) }
+    ensures below { IfOk result (λ placed. placed.rank < ranks) }
+{
+    let rank = required_number(table, "rank")?;
+    let to = required_number(table, "to")?;
+    let tag = required_number(table, "tag")?;
+    let body = required_text(table, "body")?;
+    let comm = optional_number(table, "comm")?;
+    only_keys(table, &["op", "rank", "to", "tag", "body", "comm"])?;
+    let rank = rank_in(ranks, rank)?;
+    let to = to_in(to)?;
+    let tag = tag_in(tag)?;
+    let comm = comm_in(comm)?;
+    let body = Text::new(body);
+    Ok(Placed {
+        rank,
+        step: Step::Send {
+            to,
+            tag,
+            body,
+            comm,
+        },
+    })
+}
+
+/// A `recv`.
+#[tactic(auto, unfolding(crate::specs::StepText::recv_step))]
+pub fn recv_of(ranks: u8, table: &Table) -> Result<Placed, Fault>
+    requires { 0 < ranks }
+    ensures exact { map_ok planned result ≡ recv_step ranks (table_view table.now) }
+    ensures below { IfOk result (λ placed. placed.rank < ranks) }
+{
+    let rank = required_number(table, "rank")?;
+    let from = optional_number(table, "from")?;
+    let tag = optional_number(table, "tag")?;
+    let room = optional_number(table, "room")?;
+    let comm = optional_number(table, "comm")?;
+    only_keys(table, &["op", "rank", "from", "tag", "room", "comm"])?;
+    let rank = rank_in(ranks, rank)?;
+    let from = from_if_some(from)?;
+    let tag = tag_if_some(tag)?;
+    let room = room_in(room)?;
+    let comm = comm_in(comm)?;
+    Ok(Placed {
+        rank,
+        step: Step::Recv {
+            from,
+            tag,
+            room,
+            comm,
+        },
+    })
+}
+
+/// A `wait`.
+#[tactic(auto, unfolding(crate::specs::StepText::step_on_req))]
+pub fn wait_of(ranks: u8, table: &Table) -> Result<Placed, Fault>
+    requires { 0 < ranks }
+    ensures exact { map_ok planned result ≡ step_on_req wait ranks (table_view table.now) }
+    ensures below { IfOk result (λ placed. placed.rank < ranks) }
+{
+    let rank = required_number(table, "rank")?;
+    let req = required_number(table, "req")?;
+    only_keys(table, &["op", "rank", "req"])?;
+    let rank = rank_in(ranks, rank)?;
+    let req = req_in(req)?;
+    Ok(Placed {
+        rank,
+        step: Step::Wait { req },
+    })
+}
+
+/// A `probe`.
+#[tactic(auto, unfolding(crate::specs::StepText::probe_step))]
+pub fn probe_of(ranks: u8, table: &Table) -> Result<Placed, Fault>
+    requires { 0 < ranks }
+    ensures exact { map_ok planned result ≡ probe_step ranks (table_view table.now) }
+    ensures below { IfOk result (λ placed. placed.rank < ranks) }
+{
+    let rank = required_number(table, "rank")?;
+    let from = optional_number(table, "from")?;
+    let tag = optional_number(table, "tag")?;
+    let comm = optional_number(table, "comm")?;
+    only_keys(table, &["op", "rank", "from", "tag", "comm"])?;
+    let rank = rank_in(ranks, rank)?;
+    let from = from_if_some(from)?;
+    let tag = tag_if_some(tag)?;
+    let comm = comm_in(comm)?;
+    Ok(Placed {
+        rank,
+        step: Step::Probe { from, tag, comm },
+    })
+}
+
+/// An `mrecv`.
+#[tactic(auto, unfolding(crate::specs::StepText::mrecv_step))]
+pub fn mrecv_of(ranks: u8, table: &Table) -> Result<Placed, Fault>
+    requires { 0 < ranks }
+    ensures exact { map_ok planned result ≡ mrecv_step ranks (table_view table.now) }
+    ensures below { IfOk result (λ placed. placed.rank < ranks) }
+{
+    let rank = required_number(table, "rank")?;
+    let req = required_number(table, "req")?;
+    let room = optional_number(table, "room")?;
+    only_keys(table, &["op", "rank", "req", "room"])?;
+    let rank = rank_in(ranks, rank)?;
+    let req = req_in(req)?;
+    let room = room_in(room)?;
+    Ok(Placed {
+        rank,
+        step: Step::Mrecv { req, room },
+    })
+}
+
+/// A `cancel`.
+#[tactic(auto, unfolding(crate::specs::StepText::step_on_req))]
+pub fn cancel_of(ranks: u8, table: &Table) -> Result<Placed, Fault>
+    requires { 0 < ranks }
+    ensures exact { map_ok planned result ≡ step_on_req cancel ranks (table_view table.now) }
+    ensures below { IfOk result (λ placed. placed.rank < ranks) }
+{
+    let rank = required_number(table, "rank")?;
+    let req = required_number(table, "req")?;
+    only_keys(table, &["op", "rank", "req"])?;
+    let rank = rank_in(ranks, rank)?;
+    let req = req_in(req)?;
+    Ok(Placed {
+        rank,
+        step: Step::Cancel { req },
+    })
+}

@@ -1,0 +1,62 @@
+//! Cancelling of receives (MPI 4.0, 3.8.4).
+ghost use Rattle.std.specs.Prelude.{◌≡◌, ℕ, false, IfOk, IfErr, IsTrue, OnOk, OnErr};
+ghost use Rattle.ulfm_base.specs.declared.pattern.Pattern.{Pattern};
+ghost use Rattle.ulfm_match.specs.Pairing.{Pairing, LawfulPairing};
+ghost use Rattle.ulfm_rank.specs.Answer.{IsRequest};
+ghost use Rattle.ulfm_rank.specs.Cancel.{IsCancelAnswer, cancelling};
+ghost use Rattle.ulfm_rank.specs.Checks.{IsTestRefusal};
+ghost use Rattle.ulfm_rank.specs.Facts.{is_stopped};
+ghost use Rattle.ulfm_rank.specs.History.{history_of};
+ghost use Rattle.ulfm_rank.specs.State.{logged};
+
+use super::Rank;
+use crate::answer::{answer_in, is_release};
+use crate::entry::{Cancel, Entry, TestAnswer};
+use crate::requests::find;
+use ulfm_base::CallError;
+use ulfm_match::RequestId;
+
+impl Rank {
+    /// Cancels a receive (MPI 4.0, 3.8.4). One that waits is withdrawn: it gets no letter from now on. One that has a
+    /// letter or is over answers as a test of it. Both release the request. It never answers out of memory.
+    ///
+    /// # Errors
+    ///
+    /// `Stopped` after the stop, else `NoRequest` where there is no such request or it was released. Then nothing
+    /// changed.
+    pub fn cancel(&mut self, id: RequestId) -> Result<Cancel, CallError>
+        ensures answer { IfOk result (IsCancelAnswer self.old.state.ranks self.old.state.log id.number) }
+        ensures request { OnOk result ((i : ℕ) × (pattern : Pattern) × IsRequest self.old.state.log id.number i pattern) }
+        ensures pairing { OnOk result ((pairing : Pairing) × LawfulPairing (history_of self.old.state.log) pairing) }
+        ensures running { OnOk result (is_stopped self.old.state.log ≡ false) }
+        ensures released { IfOk result (λ answer. self.new.state ≡ logged self.old.state (cancelling id answer)) }
+        ensures refused { IfErr result (IsTestRefusal self.old.state.log id.number) }
+        ensures unchanged { OnErr result (self.new ≡ self.old) }
+        ensures prepared { self.new.prepared ≡ self.old.prepared }
+        ensures keeps_place { IsTrue self.old.has_place → IsTrue self.new.has_place }
+    {
+        if self.stopped {
+            return Err(CallError::Stopped);
+        }
+        let request = match find(&self.requests, id.number, false) {
+            Some(request) => request,
+            None => return Err(CallError::NoRequest),
+        };
+        let answer = answer_in(&self.communicators, &self.faults, &request);
+        let _ = self.requests.shift_remove(&id.number);
+        if is_release(&answer) {
+            self.log.push_reserved(released(id, &answer));
+            return Ok(Cancel::Late(answer));
+        }
+        let _ = self.matcher.withdraw(id);
+        self.log.push_reserved(Entry::Cancelled(id));
+        Ok(Cancel::Cancelled)
+    }
+}
+
+/// The entry of a request that is released.
+fn released(id: RequestId, answer: &TestAnswer) -> Entry
+    ensures { result ≡ Entry.Released id answer.now }
+{
+    Entry::Released(id, *answer)
+}

@@ -1,0 +1,30 @@
+//! What help says beside the commands and their options.
+
+/// What is shown below the commands.
+pub const HELP: &str = "A job is a TOML text on standard input:
+
+  ranks = 2
+  capacity = 4
+  turns = 10
+
+  [[step]]
+  rank = 0
+  op = \"send\"
+  to = 1
+  tag = 5
+  body = \"abc\"
+
+  [[step]]
+  rank = 1
+  op = \"recv\"
+  from = 0
+
+  [[step]]
+  rank = 1
+  op = \"wait\"
+  req = 0
+
+Under run a step's polls come fast: give a job many turns, as 1000000.
+Statuses: 0 done, 1 job refused, 2 usage, 3 run failed, 4 output failed, 5 input failed;
+6 by --strict alone, where a step is unfinished: MPI would hang there.
+docs/JOBS.md has the format of jobs and traces, docs/RULES.md the rules that ranks obey.";
