@@ -1,4 +1,4 @@
-//! What every carrier owes to the ranks.
+//! What every carrier has to do for the ranks.
 ghost use Rattle.std.specs.Prelude.{◌≡◌, ◌≢◌, ◌<◌, ℕ, List, [], ◌∷◌, ◌++◌, map, MatchResult, MatchOption};
 ghost use Rattle.ulfm_base.specs.declared.item.Item.{Item as Sent};
 ghost use Rattle.ulfm_carrier.specs.Family.{Keeps, IsGathered};

@@ -82,14 +82,14 @@ true-answers r {done} h at polls new asked answer a =
     each_answer done r new (λ step said. IsTrueOf new (done ++ step_report step said at polls ∷ []))
     (λ to tag body comm k. true-sent r done to tag body comm at polls new h k)
     (λ source tag room comm id k. true-posted r done source tag room comm id at polls new h k.0 k.1 k.2)
-    (λ req status body k. true-closed r (Released k.id (TestDone status body)) (step_report (Wait req) (Done status body) at polls) h (closes_request r (Wait req) (λ p. refl) refl k) refl refl (λ group c d. refl) (λ n log dones v. v) k.only)
-    (λ req reason k. true-closed r (Released k.id (TestOver reason)) (step_report (Wait req) (Over reason) at polls) h (closes_request r (Wait req) (λ p. refl) refl k) refl refl (λ group c d. refl) (λ n log dones v. v) k.only)
+    (λ req status body k. true-closed r (Released k.id (TestDone status body)) (step_report (Wait req) (Done status body) at polls) h (closes_request r (Wait req) (λ p. refl) (λ other. tt) refl k) refl refl (λ group c d. refl) (λ n log dones v. v) k.only)
+    (λ req reason k. true-closed r (Released k.id (TestOver reason)) (step_report (Wait req) (Over reason) at polls) h (closes_request r (Wait req) (λ p. refl) (λ other. tt) refl k) refl refl (λ group c d. refl) (λ n log dones v. v) k.only)
     (λ source tag comm id status k. true-found r done source tag comm id status at polls new h k)
-    (λ req room status body k. true-closed r (Received k.id (TestDone status body)) (step_report (Mrecv req room) (Done status body) at polls) h (closes_message r (Mrecv req room) room (λ p. refl) refl k) refl refl (λ group c d. refl) (λ n log dones v. v) k.only)
-    (λ req room reason k. true-closed r (Received k.id (TestOver reason)) (step_report (Mrecv req room) (Over reason) at polls) h (closes_message r (Mrecv req room) room (λ p. refl) refl k) refl refl (λ group c d. refl) (λ n log dones v. v) k.only)
+    (λ req room status body k. true-closed r (Received k.id (TestDone status body)) (step_report (Mrecv req room) (Done status body) at polls) h (closes_message r (Mrecv req room) room (λ p. refl) (λ other seen. tt) refl k) refl refl (λ group c d. refl) (λ n log dones v. v) k.only)
+    (λ req room reason k. true-closed r (Received k.id (TestOver reason)) (step_report (Mrecv req room) (Over reason) at polls) h (closes_message r (Mrecv req room) room (λ p. refl) (λ other seen. tt) refl k) refl refl (λ group c d. refl) (λ n log dones v. v) k.only)
     (λ req k. true-closed r (CancelEntry k.tests.id) (step_report (Cancel req) Cancelled at polls) h (closes_cancelled r k) refl refl (λ group c d. refl) (λ n log dones v. v) k.only)
-    (λ req status body k. true-closed r (Released k.id (TestDone status body)) (step_report (Cancel req) (Done status body) at polls) h (closes_request r (Cancel req) (λ p. refl) refl k) refl refl (λ group c d. refl) (λ n log dones v. v) k.only)
-    (λ req reason k. true-closed r (Released k.id (TestOver reason)) (step_report (Cancel req) (Over reason) at polls) h (closes_request r (Cancel req) (λ p. refl) refl k) refl refl (λ group c d. refl) (λ n log dones v. v) k.only)
+    (λ req status body k. true-closed r (Released k.id (TestDone status body)) (step_report (Cancel req) (Done status body) at polls) h (closes_request r (Cancel req) (λ p. refl) (λ other. tt) refl k) refl refl (λ group c d. refl) (λ n log dones v. v) k.only)
+    (λ req reason k. true-closed r (Released k.id (TestOver reason)) (step_report (Cancel req) (Over reason) at polls) h (closes_request r (Cancel req) (λ p. refl) (λ other. tt) refl k) refl refl (λ group c d. refl) (λ n log dones v. v) k.only)
     (λ step said silent k. elim k [
       | inl same ↦ true-same r done step said at polls new h silent same.0
       | inr one ↦ true-one r done step said at polls new one.0 h silent one.1.idle one.2

@@ -9,7 +9,7 @@ use Rattle.ulfm_rank.specs.Messages.{with_room}
 use Rattle.ulfm_laws.proofs.Honest.{IsHonest, sends-logged, covered-logged, covered-answered, honest-logged, honest-answered}
 use Rattle.ulfm_laws.proofs.Orderly.{orderly-logged, orderly-answered}
 use Rattle.ulfm_laws.proofs.Mail.{IsTakenFrom, flat-push, sent_entry}
-use Rattle.ulfm_laws.proofs.Numbers.{number_at, number_of, number_front}
+use Rattle.ulfm_laws.proofs.Numbers.{number_at, number_of, number_front, AsksAt, asks_front}
 use Rattle.ulfm_rank.proofs.Stays.{members_stay}
 use Rattle.ulfm_laws.proofs.Tells.{Tells, TellsVerdict, IsVerdict, posted_longer, numbered_longer}
 
@@ -63,6 +63,7 @@ closed_released n log done asked _ req number t e g = absurd (cc)
 pub record Closes (r : State) (done : List StepReport) (req : ℕ) (asked : Step) (e : Entry) (answer : TestAnswer) : Type 0 where
   pub number : ℕ
   pub named : number_at done req ≡ Some number
+  pub kind : AsksAt done req asked
   pub place : ℕ
   pub pattern : Pattern
   pub posted : PostAt (history_of r.log) place pattern
@@ -84,6 +85,7 @@ true-closed r {done} {req} {answer} e x {new} h t unposted closing silent tells 
     let verdict : IsVerdict n (log ++ e ∷ []) (done ++ x ∷ []) req x.step answer = record {
       number = t.number;
       named = number_front done (x ∷ []) req t.named;
+      kind = asks_front done (x ∷ []) req x.step t.kind;
       place = t.place;
       pattern = t.pattern;
       posted = posted_longer log e t.place t.pattern t.posted;

@@ -1,8 +1,8 @@
 -- Which step posted the receive at a place of the history.
 use Rattle.std.proofs.Common.{◌≡◌, ℕ, ◌<◌, inl, inr, List, length, refl, ap, sym, ◌∙◌, subst, arith, Option, Some, slice_get}
-use Rattle.ulfm_laws.proofs.Common.{Context, Pattern, Tag, MessageId, RequestId, Status, Post, PostAt, Entry, Step, Recv, Probe, StepAnswer, Posted, Found, StepReport, Report, report_at, TestAnswer, step_report, history_at, IsStep, ComeAsSent, IsPostedBy, PostsAs, same_Some, compared, same_number, same_pattern}
+use Rattle.ulfm_laws.proofs.Common.{Context, Pattern, Tag, MessageId, RequestId, Status, Post, PostAt, Entry, Step, Recv, Probe, StepAnswer, Posted, Found, StepReport, Report, report_at, TestAnswer, step_report, history_at, IsStep, ComeAsSent, IsPostedBy, PostsAs, MayAskFor, Wait, Mrecv, Cancel, same_Some, compared, same_number, same_pattern}
 use Rattle.ulfm_laws.proofs.Honest.{IsHonest}
-use Rattle.ulfm_laws.proofs.Numbers.{number_at, number_in, number_of, number_step}
+use Rattle.ulfm_laws.proofs.Numbers.{number_at, number_in, number_of, number_step, AsksForAnswer, AsksAt}
 use Rattle.ulfm_laws.proofs.Tells.{Tells, TellsFound, TellsPosted, IsReceipt, IsVerdict}
 
 -- the steps of each report are true of its log, and what came was sent
@@ -35,7 +35,7 @@ by_receive n log _ id h = absurd h
 
 by_probe : (n : ℕ) (log : List Entry) (asked : Step) (id : MessageId) (status : Status) → TellsFound n log asked id.number status → IsPoster n log asked (Found id status) id.number
 by_probe n log (Probe source tag comm) id status h =
-    record { source = source; tag = tag; room = 1024; comm = comm; receipt = h.receipt; posts = (refl, sym h.receipt.has_tag, sym h.receipt.context, refl) }
+    record { source = source; tag = tag; room = 1024; comm = comm; receipt = h.receipt; posts = (refl, sym h.receipt.has_tag, sym h.receipt.has_room, sym h.receipt.context, refl) }
 by_probe n log _ id status h = absurd h
 
 posted_is : (n : ℕ) (log : List Entry) (done : List StepReport) (asked : Step) (said : StepAnswer) (number : ℕ) → number_of said ≡ Some number → Tells n log done asked said → IsPoster n log asked said number
@@ -60,8 +60,29 @@ receipt_posted {report} {k} x {number} here v =
 
 posts_number : (asked : Step) (said : StepAnswer) (source : Option ℕ) (pattern : Pattern) (number : ℕ) → PostsAs asked said source pattern number → number_of said ≡ Some number
 posts_number (Recv other tag room comm) (Posted id) source pattern number h = ap Some h.4
-posts_number (Probe other tag comm) (Found id status) source pattern number h = ap Some h.3
+posts_number (Probe other tag comm) (Found id status) source pattern number h = ap Some h.4
 posts_number _ _ source pattern number h = absurd h
+
+-- what was posted with this answer is of a receive step, or of a probe
+asks_receive : (asked posted : Step) (id : RequestId) (source : Option ℕ) (pattern : Pattern) (number : ℕ) → ((from : Option ℕ) (tag : Option Tag) (room : ℕ) (comm : Context) → MayAskFor asked (Recv from tag room comm)) → PostsAs posted (Posted id) source pattern number → MayAskFor asked posted
+asks_receive asked (Recv from tag room comm) id source pattern number any h = any from tag room comm
+asks_receive asked _ id source pattern number any h = absurd h
+
+asks_probe : (req room : ℕ) (posted : Step) (id : MessageId) (status : Status) (source : Option ℕ) (pattern : Pattern) (number : ℕ) → PostsAs posted (Found id status) source pattern number → MayAskFor (Mrecv req room) posted
+asks_probe req room (Probe from tag comm) id status source pattern number h = tt
+asks_probe req room _ id status source pattern number h = absurd h
+
+asks_posted : (asked posted : Step) (said : StepAnswer) (source : Option ℕ) (pattern : Pattern) (number : ℕ) → AsksForAnswer asked said → PostsAs posted said source pattern number → MayAskFor asked posted
+asks_posted (Mrecv req room) posted (Found id status) source pattern number a h = asks_probe req room posted id status source pattern number h
+asks_posted (Wait req) posted (Posted id) source pattern number a h = asks_receive (Wait req) posted id source pattern number (λ from tag room comm. tt) h
+asks_posted (Cancel req) posted (Posted id) source pattern number a h = asks_receive (Cancel req) posted id source pattern number (λ from tag room comm. tt) h
+asks_posted _ posted _ source pattern number a h = absurd a
+
+-- a step that asks for what step i was answered may ask for the receive that this posted
+pub may_ask : {report : Report} {i place : ℕ} {p : Pattern} (asked : Step) → AsksAt report.steps i asked → (q : IsPostedBy report i place p) → MayAskFor asked q.asked
+may_ask {p = p} asked k q =
+    let same = same_Some k.report (step_report q.asked q.said q.step.at q.step.polls) (sym k.there ∙ q.step.stands) in
+    asks_posted asked q.asked q.said q.source p q.number (subst (λ (x : StepReport). AsksForAnswer asked x.answer) same k.names) q.posts
 
 -- the number of a receive that a step posted
 pub its_number : {report : Report} {i place : ℕ} {p : Pattern} (q : IsPostedBy report i place p) → number_at report.steps i ≡ Some q.number

@@ -1,11 +1,11 @@
 -- Each step that is done or over tells of the letter that the receive it asks for is given, and nothing is given twice.
 use Rattle.std.proofs.Common.{◌≡◌, ℕ, ◌<◌, inl, inr, List, length, refl, ap, sym, ◌∙◌, subst, Some, slice_get}
-use Rattle.ulfm_laws.proofs.Common.{Entry, Letter, Pattern, Status, Step, StepAnswer, StepReport, TestAnswer, group_at, Probe, Done, Over, Found, Cancelled, asks_of, step_report, Report, report_at, history_at, IsNamed, IsStep, IsPostedBy, IsSentBy, IsGiven, DoneIsGiven, FoundIsGiven, OverIsTrue, GivesOnce, DonesDiffer, same_Some, ProcFailed, Revoked, Truncated, Admits, History, Post, PostAt, ComeAt, count_before, compared, same_number, one_pairing, same_pattern, same_letter, some_pairing}
+use Rattle.ulfm_laws.proofs.Common.{Entry, Letter, Pattern, Status, Step, StepAnswer, StepReport, TestAnswer, group_at, Probe, Done, Over, Found, Cancelled, asks_of, step_report, Report, report_at, history_at, IsNamed, IsStep, IsPostedBy, IsSentBy, IsGiven, AsksRightly, MayAskFor, DoneIsGiven, FoundIsGiven, OverIsTrue, GivesOnce, DonesDiffer, same_Some, ProcFailed, Revoked, Truncated, Admits, History, Post, PostAt, ComeAt, count_before, compared, same_number, one_pairing, same_pattern, same_letter, some_pairing}
 use Rattle.ulfm_match.specs.Pairing.{Pairing, Pairs, LawfulPairing}
 use Rattle.ulfm_rank.specs.declared.entry.TestAnswer.TheVariants.{Done as TestDone, Over as TestOver}
 use Rattle.ulfm_rank.specs.Answer.{Got}
 use Rattle.ulfm_rank.specs.Messages.{TellsOf}
-use Rattle.ulfm_laws.proofs.Finding.{AreHonest, IsPoster, same_asked, its_number, receipt_posted, same_step, verdict_posted}
+use Rattle.ulfm_laws.proofs.Finding.{AreHonest, IsPoster, same_asked, its_number, may_ask, receipt_posted, same_step, verdict_posted}
 use Rattle.ulfm_laws.proofs.Senders.{sender, same_come, same_send}
 use Rattle.ulfm_laws.proofs.Tells.{IsFinding, IsVerdict, Tells, TellsVerdict}
 
@@ -51,13 +51,25 @@ module _ (reports : List Report) (all : AreHonest reports) where
       let t = tells report.rank.ranks report.rank.log report.steps ((all.honest d inside).orderly.tells k (step_report asked said st.at st.polls) st.stands) in
       subst (λ o. TellsVerdict report.rank.ranks report.rank.log report.steps o asked answer) asks t
 
+  -- such a step may ask for that receive
+  asks_at : (d req : ℕ) (inside : d < length reports) (asked : Step) (answer : TestAnswer) → IsVerdict (report_at reports d).rank.ranks (report_at reports d).rank.log (report_at reports d).steps req asked answer → (place : ℕ) × (pattern : Pattern) × (receive : IsPostedBy (report_at reports d) req place pattern) × MayAskFor asked receive.asked
+  asks_at d req inside asked answer v =
+      let by = verdict_posted reports all d inside v in
+      (v.place, v.pattern, by, may_ask asked v.kind by)
+
+  pub asks_rightly : AsksRightly reports
+  asks_rightly d k req asked (Done status body) inside asks st = asks_at d req inside asked (TestDone status body) (verdict_at d k req inside asked (Done status body) (TestDone status body) asks st (λ n log done t. t))
+  asks_rightly d k req asked (Over reason) inside asks st = asks_at d req inside asked (TestOver reason) (verdict_at d k req inside asked (Over reason) (TestOver reason) asks st (λ n log done t. t))
+  asks_rightly d k req asked Cancelled inside asks st = asks_at d req inside asked (TestOver ProcFailed) (verdict_at d k req inside asked Cancelled (TestOver ProcFailed) asks st (λ n log done t. t))
+  asks_rightly d k req asked _ inside asks st = absurd (cc)
+
   pub found_given : FoundIsGiven reports
   found_given d k source tag comm id status inside st =
       let report = report_at reports d in
       let f : IsFinding report.rank.ranks report.rank.log source tag comm id.number status = (all.honest d inside).orderly.tells k (step_report (Probe source tag comm) (Found id status) st.at st.polls) st.stands in
       let r = some_pairing (history_at reports d) (all.honest d inside).formed in
       let v : IsPoster report.rank.ranks report.rank.log (Probe source tag comm) (Found id status) id.number =
-      record { source = source; tag = tag; room = 1024; comm = comm; receipt = f.receipt; posts = (refl, sym f.receipt.has_tag, sym f.receipt.context, refl) } in
+      record { source = source; tag = tag; room = 1024; comm = comm; receipt = f.receipt; posts = (refl, sym f.receipt.has_tag, sym f.receipt.has_room, sym f.receipt.context, refl) } in
       let by = receipt_posted (step_report (Probe source tag comm) (Found id status) st.at st.polls) st.stands v in
       named_by d k inside v.receipt.place v.receipt.pattern by r.0 r.1 f.letter (f.got r.0 r.1) status
       (subst (λ c. TellsOf (group_at report.rank c.number) f.letter status) (sym v.receipt.context) f.told)

@@ -1,7 +1,7 @@
 -- The steps that release the receive of another one: waits and cancels that are done or over, receives of what a probe found, and
 -- cancels.
 use Rattle.std.proofs.Common.{◌≡◌, ℕ, ◌<◌, true, false, List, [], ◌∷◌, ◌++◌, length, length-append, refl, ap, sym, ◌∙◌, subst, arith, inl, inr, Some, slice_get}
-use Rattle.ulfm_laws.proofs.Common.{Clear, Come, ComeAt, End, Entry, Event, Pattern, Post, PostAt, State, Step, StepReport, TestAnswer, Tests, Receives, Cancels, Cancel, history_of, room_of, eq-eqb, history-push, slice_get_within, lt_or_ge, get_here, get_in_front, ProcFailed}
+use Rattle.ulfm_laws.proofs.Common.{MessageId, RequestId, Status, Posted, Found, Clear, Come, ComeAt, End, Entry, Event, Pattern, Post, PostAt, State, Step, StepReport, TestAnswer, Tests, Receives, Cancels, Cancel, history_of, room_of, eq-eqb, history-push, slice_get_within, lt_or_ge, get_here, get_in_front, ProcFailed}
 use Rattle.ulfm_rank.specs.declared.entry.Entry.TheVariants.{Released, Received, Cancelled}
 use Rattle.ulfm_rank.specs.declared.entry.TestAnswer.TheVariants.{Done as TestDone, Over as TestOver, Pending, NotYet}
 use Rattle.ulfm_match.proofs.Cut.{cut, inside_back}
@@ -12,14 +12,15 @@ use Rattle.ulfm_rank.proofs.Stays.{answer_stays}
 use Rattle.ulfm_rank.proofs.Endings.{one_number}
 use Rattle.ulfm_laws.proofs.Closing.{Closes}
 use Rattle.ulfm_laws.proofs.Lasting.{answer_lasts}
-use Rattle.ulfm_laws.proofs.Numbers.{request_number, message_number}
+use Rattle.ulfm_laws.proofs.Numbers.{request_number, message_number, AsksForAnswer, asks_request, asks_message}
 
 -- a test that releases its request, for a step that asks for the room of the receive
-pub closes_request : (r : State) {done : List StepReport} {req : ℕ} (asked : Step) {answer : TestAnswer} {new : State} → ((p : Pattern) → p.room ≡ room_of asked p) → is_release answer ≡ true → (t : Tests done r req answer new) → Closes r done req asked (Released t.id answer) answer
-closes_request r {done} {req} asked {answer} rooms release t =
+pub closes_request : (r : State) {done : List StepReport} {req : ℕ} (asked : Step) {answer : TestAnswer} {new : State} → ((p : Pattern) → p.room ≡ room_of asked p) → ((id : RequestId) → AsksForAnswer asked (Posted id)) → is_release answer ≡ true → (t : Tests done r req answer new) → Closes r done req asked (Released t.id answer) answer
+closes_request r {done} {req} asked {answer} rooms any release t =
     let n = r.ranks in let log = r.log in let e = Released t.id answer in record {
       number = t.id.number;
       named = request_number done req t.posted;
+      kind = asks_request done req asked any t.posted;
       place = t.place;
       pattern = t.pattern;
       posted = t.request.posted;
@@ -36,11 +37,12 @@ closes_request r {done} {req} asked {answer} rooms release t =
     }
 
 -- a message that is received
-pub closes_message : (r : State) {done : List StepReport} {req : ℕ} (asked : Step) (room : ℕ) {answer : TestAnswer} {new : State} → ((p : Pattern) → room_of asked p ≡ room) → is_release answer ≡ true → (t : Receives done r req room answer new) → Closes r done req asked (Received t.id answer) answer
-closes_message r {done} {req} asked room {answer} rooms release t =
+pub closes_message : (r : State) {done : List StepReport} {req : ℕ} (asked : Step) (room : ℕ) {answer : TestAnswer} {new : State} → ((p : Pattern) → room_of asked p ≡ room) → ((id : MessageId) (status : Status) → AsksForAnswer asked (Found id status)) → is_release answer ≡ true → (t : Receives done r req room answer new) → Closes r done req asked (Received t.id answer) answer
+closes_message r {done} {req} asked room {answer} rooms any release t =
     let n = r.ranks in let log = r.log in let e = Received t.id answer in record {
       number = t.id.number;
       named = message_number done req t.found;
+      kind = asks_message done req asked any t.found;
       place = t.place;
       pattern = t.pattern;
       posted = t.message.posted;
@@ -100,6 +102,7 @@ closes_cancelled r {done} {req} k =
     let long : history_of (log ++ e ∷ []) ≡ h ++ End t.place ∷ [] = history-push log e ∙ ap (λ xs. h ++ xs) (one_number t.id.number h t.place t.pattern t.request.posted t.request.numbered) in record {
       number = t.id.number;
       named = request_number done req t.posted;
+      kind = asks_request done req (Cancel req) (λ id. tt) t.posted;
       place = t.place;
       pattern = t.pattern;
       posted = t.request.posted;

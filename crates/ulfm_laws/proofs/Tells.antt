@@ -7,7 +7,7 @@ use Rattle.ulfm_rank.specs.Answer.{Got, IsAnswerBy, is_release}
 use Rattle.ulfm_rank.specs.Messages.{TellsOf, with_room}
 use Rattle.ulfm_rank.proofs.Stays.{members_stay}
 use Rattle.ulfm_laws.proofs.Lasting.{answer_lasts, got_lasts}
-use Rattle.ulfm_laws.proofs.Numbers.{number_at, number_front}
+use Rattle.ulfm_laws.proofs.Numbers.{number_at, number_front, AsksAt, asks_front}
 
 -- a receive of the history has this number, and asks for this
 pub record IsReceipt (n : ℕ) (log : List Entry) (source : Option ℕ) (tag : Option Tag) (room : ℕ) (comm : Context) (number : ℕ) : Type 0 where
@@ -33,6 +33,7 @@ pub record IsFinding (n : ℕ) (log : List Entry) (source : Option ℕ) (tag : O
 pub record IsVerdict (n : ℕ) (log : List Entry) (done : List StepReport) (req : ℕ) (asked : Step) (answer : TestAnswer) : Type 0 where
   pub number : ℕ
   pub named : number_at done req ≡ Some number
+  pub kind : AsksAt done req asked
   pub place : ℕ
   pub pattern : Pattern
   pub posted : PostAt (history_of log) place pattern
@@ -110,6 +111,7 @@ verdict-logged n log e done None asked answer h = h
 verdict-logged n log e done (Some req) asked answer h = record {
   number = h.number;
   named = h.named;
+  kind = h.kind;
   place = h.place;
   pattern = h.pattern;
   posted = posted_longer log e h.place h.pattern h.posted;
@@ -124,6 +126,7 @@ verdict-answered n log done x None asked answer h = h
 verdict-answered n log done x (Some req) asked answer h = record {
   number = h.number;
   named = number_front done (x ∷ []) req h.named;
+  kind = asks_front done (x ∷ []) req asked h.kind;
   place = h.place;
   pattern = h.pattern;
   posted = h.posted;

@@ -1,5 +1,5 @@
 -- What a reader of reports may rely on: which letter each receive was given, and who sent it (MPI 4.0, 3.5).
-use Rattle.std.specs.Prelude.{◌≡◌, ◌↔◌, ◌++◌, ◌<◌, ◌≤◌, ◌==◌, ◌&&◌, ℕ, Bool, false, List, [], ◌∷◌, length, max, take, Option, Some, None, slice_get, if◌then◌else◌}
+use Rattle.std.specs.Prelude.{⊤, ◌≡◌, ◌↔◌, ◌++◌, ◌<◌, ◌≤◌, ◌==◌, ◌&&◌, ℕ, Bool, false, List, [], ◌∷◌, length, max, take, Option, Some, None, slice_get, if◌then◌else◌}
 use Rattle.std.specs.List.{flat_map}
 use Rattle.ulfm_base.specs.declared.tag.Tag.{Tag}
 use Rattle.ulfm_base.specs.declared.context.Context.{Context}
@@ -93,12 +93,12 @@ HasOnePairing reports =
     ((s : Pairing) → LawfulPairing (history_at reports d) s → (i b : ℕ) → Pairs r i b ↔ Pairs s i b)
 
 -- A step with this answer posted the receive of this source, pattern and number. A probe that found a letter posted one that
--- ended at once.
+-- ended at once, with room for any letter.
 abbrev pub PostsAs : Step → StepAnswer → Option ℕ → Pattern → ℕ → Type 0
 PostsAs (Recv source tag room comm) (Posted id) asked pattern number =
     (source ≡ asked) × (tag ≡ pattern.tag) × (room ≡ pattern.room) × (comm ≡ pattern.context) × (id.number ≡ number)
 PostsAs (Probe source tag comm) (Found id status) asked pattern number =
-    (source ≡ asked) × (tag ≡ pattern.tag) × (comm ≡ pattern.context) × (id.number ≡ number)
+    (source ≡ asked) × (tag ≡ pattern.tag) × (1024 ≡ pattern.room) × (comm ≡ pattern.context) × (id.number ≡ number)
 PostsAs _ _ asked pattern number = ⊥
 
 -- The receive at this place of the history is the one that step i posted.
@@ -162,6 +162,27 @@ asks_of (Mrecv req room) = Some req
 asks_of (Cancel req) = Some req
 asks_of _ = None
 
+-- A receive of what a probe found may ask for a probe's step, a wait or a cancel for a receive's, and no step for any other.
+abbrev pub MayAskFor : Step → Step → Type 0
+MayAskFor (Mrecv req room) (Probe source tag comm) = ⊤
+MayAskFor (Wait req) (Recv source tag room comm) = ⊤
+MayAskFor (Cancel req) (Recv source tag room comm) = ⊤
+MayAskFor _ _ = ⊥
+
+-- the step whose receive a step with this answer closes
+abbrev pub closes : Step → StepAnswer → Option ℕ
+closes asked (Done status body) = asks_of asked
+closes asked (Over reason) = asks_of asked
+closes asked Cancelled = asks_of asked
+closes asked _ = None
+
+-- Each step that is done, over or cancelled asked for a receive that was posted, by a step that it may ask for.
+abbrev pub AsksRightly : List Report → Type 0
+AsksRightly reports =
+    (d k req : ℕ) (asked : Step) (said : StepAnswer) → d < length reports → closes asked said ≡ Some req
+    → IsStep (report_at reports d) k asked said
+    → (place : ℕ) × (pattern : Pattern) × (receive : IsPostedBy (report_at reports d) req place pattern) × MayAskFor asked receive.asked
+
 -- the room for a letter that a step asks for: that of the receive, or, for what a probe found, that of the step itself
 abbrev pub room_of : Step → Pattern → ℕ
 room_of (Mrecv req room) pattern = room
@@ -198,13 +219,6 @@ pub record OverIsTrue (reports : List Report) : Type 0 where
       → IsStep (report_at reports d) k asked (Over Revoked) → IsGiven reports d req s j → ⊥
   pub cancelled : (d k req s j : ℕ) (asked : Step) → d < length reports → asks_of asked ≡ Some req
       → IsStep (report_at reports d) k asked Cancelled → IsGiven reports d req s j → ⊥
-
--- the step whose receive a step with this answer closes
-abbrev pub closes : Step → StepAnswer → Option ℕ
-closes asked (Done status body) = asks_of asked
-closes asked (Over reason) = asks_of asked
-closes asked Cancelled = asks_of asked
-closes asked _ = None
 
 -- Each send is given to one receive at most, of a receive or a probe, each receive one letter at most, and each is told done, over or
 -- cancelled once at most.
@@ -266,6 +280,7 @@ NoneIsMissed reports =
 -- All of this: what a trace tells of letters is true of what was sent, once each and in order.
 pub record IsFaithful (reports : List Report) : Type 0 where
   pub as_sent : ComeAsSent reports
+  pub asks : AsksRightly reports
   pub found : FoundIsGiven reports
   pub done : DoneIsGiven reports
   pub over : OverIsTrue reports

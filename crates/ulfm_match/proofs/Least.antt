@@ -6,7 +6,7 @@ use Rattle.ulfm_match.proofs.EndSteps.{other_context, passes_context}
 use Rattle.ulfm_match.proofs.Members.{all_of, Contains-filter, filter-Contains}
 use Rattle.ulfm_match.proofs.Ascending.{ascending_filter}
 
--- z was taken out, the one of the least number of which P holds: what a matcher owes, however it keeps its entries
+-- z was taken out, the one of the least number of which P holds: what a matcher has to find, however it keeps its entries
 pub record TakesLeast {X : Type 0} (P : ℕ × X → Type 0) (old new : List (ℕ × X)) (z : ℕ × X) : Type 0 where
   pub there : Contains old z
   pub passes : P z

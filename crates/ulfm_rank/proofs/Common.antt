@@ -58,7 +58,7 @@ pub use Rattle.ulfm_match.proofs.Cut.{cut, get_front, get_in_front, inside_back,
 pub use Rattle.ulfm_match.specs.Calls.{EndsNamed, TracksEnd}
 pub use Rattle.ulfm_match.specs.declared.request.RequestId.{RequestId}
 pub use Rattle.ulfm_rank.specs.declared.message.MessageId.{MessageId}
-pub use Rattle.ulfm_rank.specs.Messages.{FindsNone, IsMessage, IsMessageAnswer, IsNoMessage, KeepsOne, TellsOf, WouldGet, WouldWait, is_receipt, posting, with_room}
+pub use Rattle.ulfm_rank.specs.Messages.{FindsNone, IsMessage, IsMessageAnswer, IsNoMessage, TellsOf, WouldGet, WouldWait, is_receipt, posting, with_room}
 pub use Rattle.ulfm_rank.specs.Calls.{IsFrom, IsReceive, Proposes}
 pub use Rattle.ulfm_rank.specs.Paired.{IsPaired}
 pub use Rattle.ulfm_rank.specs.declared.entry.TestAnswer.TheVariants.{Done, NotYet, Over, Pending}

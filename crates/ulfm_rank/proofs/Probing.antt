@@ -1,15 +1,20 @@
 -- A probe finds a letter, or none.
-use Rattle.std.proofs.Common.{◌≡◌, ℕ, ◌+◌, Bool, false, List, [], ◌∷◌, ◌++◌, length, refl, ap, sym, ◌∙◌, subst, Option, Some, None, arith, Contains}
-use Rattle.ulfm_rank.proofs.Common.{Context, Pattern, Letter, State, IsReceive, FaultState, Box, Follows, FindsNone, names_gone, names_known, Post, Come, Entry, Request, Matching, IsInStep, is_revoked, history_of, get_old, receive_within, one_pairing, KeepsOne, WouldGet, WouldWait}
+use Rattle.std.proofs.Common.{◌≡◌, ℕ, ◌+◌, Bool, false, List, [], ◌∷◌, ◌++◌, length, refl, ap, sym, ◌∙◌, subst, Option, Some, None, inl, inr, arith, Contains}
+use Rattle.ulfm_rank.proofs.Common.{Context, Pattern, Letter, State, IsReceive, FaultState, Box, Follows, FindsNone, names_gone, names_known, Post, Come, Entry, Request, Matching, IsInStep, is_revoked, history_of, get_old, receive_within, one_pairing, WouldGet, WouldWait}
 use Rattle.ulfm_base.specs.Pattern.{Admits}
+use Rattle.ulfm_base.specs.declared.error.CallError.TheVariants.{OutOfMemory}
 use Rattle.ulfm_base.specs.declared.tag.Tag.{Tag}
+use Rattle.ulfm_match.proofs.Admitted.{admits_either}
+use Rattle.ulfm_match.proofs.Least.{take_least}
 use Rattle.ulfm_match.proofs.PostWaits.{post_waits}
-use Rattle.ulfm_match.proofs.Probed.{posted_with, probe_gives}
+use Rattle.ulfm_match.proofs.Probed.{posted_with, probe_gives, probe_takes}
 use Rattle.ulfm_match.specs.Calls.{ProbeGets, TracksProbe}
+use Rattle.ulfm_rank.proofs.InStep.{in_step_open}
 use Rattle.ulfm_rank.proofs.Known.{known_named}
 use Rattle.ulfm_rank.proofs.Opens.{unrevoked_open}
 use Rattle.ulfm_rank.proofs.Refusals.{all_pass}
 use Rattle.ulfm_rank.specs.Checks.{Passes, receive_checks}
+use Rattle.ulfm_rank.specs.Messages.{IsLateRefusal}
 use Rattle.ulfm_rank.specs.declared.entry.Comm.{Comm}
 
 -- where no kept letter fits, a receive gets none
@@ -45,17 +50,6 @@ never_none {log = log} held p y there fits m' none =
     let s = held.tracks.remains.kept.sound y.0 y.1 there in
     none (history_of log) held.pairing held.tracks s.0 y.1 s.2 fits
 
--- a kept letter is kept by each lawful pairing
-pub keeps : {n : ℕ} {log : List Entry} {m : Matching} {find : ℕ → Option Request} → IsInStep n log m find → (p : Pattern) (y : ℕ × Letter) → Contains m.kept y → Admits p y.1.envelope → KeepsOne log p
-keeps {n} {log} {m} {find} held p y there fits other law =
-    let h = history_of log in
-    let s = held.tracks.remains.kept.sound y.0 y.1 there in (
-      s.0,
-      y.1,
-      record { live = s.2.live; unpaired = λ i l q. s.2.unpaired i l (one_pairing h other held.pairing law held.tracks.lawful i s.0 q) },
-      fits,
-    )
-
 -- such a receive gets the letter by each lawful pairing
 pub gets : {n : ℕ} {log : List Entry} {m : Matching} {find : ℕ → Option Request} → IsInStep n log m find → (p : Pattern) (l : Letter) (m' : Matching) → TracksProbe p m (Some l) m' → WouldGet log p l
 gets {log = log} held p l m' tracks =
@@ -67,3 +61,16 @@ gets {log = log} held p l m' tracks =
       lawful = w.lawful;
       each = λ other law. record { place = g.place; pairs = probe_gives g other law; came = get_old h (Post p) g.place (Come l) g.came };
     }
+
+-- where a kept letter fits, a receive gets the earliest of those that do, so that a probe may be out of memory
+pub may_starve : {n me : ℕ} {log : List Entry} {stopped : Bool} {m : Matching} {find : ℕ → Option Request} {facts : FaultState} {comms : List (ℕ × List ℕ)} {boxes : List Box} → Follows n me log stopped m find facts comms boxes → (r : State) → log ≡ r.log
+    → (comm : Comm) (source : Option ℕ) (tag : Option Tag) (p : Pattern) → Passes (receive_checks r comm.context.number source) → IsReceive r comm source tag 1024 p → (y : ℕ × Letter) → Contains m.kept y → Admits p y.1.envelope → IsLateRefusal r comm source tag OutOfMemory
+may_starve {log = log} {m = m} held r seen comm source tag p passes receive y there fits =
+    let fresh = ap (λ (l : List Entry). is_revoked l p.context.number) seen ∙ unrevoked r comm source tag 1024 p passes receive in
+    let uncleared = in_step_open held.in_step p.context.number fresh in
+    elim (take_least (λ (z : ℕ × Letter). Admits p z.1.envelope) (λ z. admits_either p z.1.envelope) m.kept held.in_step.tracks.remains.kept.ascending) [
+      | inr none ↦ absurd (none y there fits)
+      | inl f ↦
+          let later : Matching = record { waiting = m.waiting; kept = f.0; count = m.count + 1; cleared = m.cleared; prepared = false } in
+          (p, receive, f.1.1, subst (λ (l : List Entry). WouldGet l p f.1.1) seen (gets held.in_step p f.1.1 later (λ h pairs t. probe_takes h pairs m p t ((t.remains.cleared p.context.number).0 uncleared) f.0 f.1 f.2 later refl refl refl refl)))
+    ]

@@ -7,9 +7,8 @@ use Rattle.ulfm_base.specs.declared.error.CallError.TheVariants.{ProcFailed, Tru
 use Rattle.ulfm_base.specs.declared.pattern.Pattern.{Pattern}
 use Rattle.ulfm_base.specs.declared.tag.Tag.{Tag}
 use Rattle.ulfm_base.specs.Group.{rank_in}
-use Rattle.ulfm_base.specs.Pattern.{Admits}
 use Rattle.ulfm_match.specs.History.{Event, Post, PostAt, count_before}
-use Rattle.ulfm_match.specs.Pairing.{Pairing, LawfulPairing, IsKept}
+use Rattle.ulfm_match.specs.Pairing.{Pairing, LawfulPairing}
 use Rattle.ulfm_rank.specs.declared.entry.Comm.{Comm}
 use Rattle.ulfm_rank.specs.declared.entry.Entry.{Entry}
 use Rattle.ulfm_rank.specs.declared.entry.Entry.TheVariants.{Probed as ProbedEntry}
@@ -41,10 +40,6 @@ pub record WouldWait (log : List Entry) (pattern : Pattern) : Type 0 where
   pub pairing : Pairing
   pub lawful : LawfulPairing (posting log pattern) pairing
   pub each : (other : Pairing) → LawfulPairing (posting log pattern) other → IsUnpaired other (length (history_of log))
-
--- a letter is kept that the pattern admits, by each lawful pairing
-abbrev pub KeepsOne : List Entry → Pattern → Type 0
-KeepsOne log pattern = (pairing : Pairing) → LawfulPairing (history_of log) pairing → (b : ℕ) × (letter : Letter) × IsKept (history_of log) pairing b letter (length (history_of log)) × Admits pattern letter.envelope
 
 -- a status tells of this letter: its sender as a rank of the group, its tag and its length
 pub record TellsOf (group : List ℕ) (letter : Letter) (status : Status) : Type 0 where
@@ -79,7 +74,7 @@ IsProbeAnswer old comm source tag new Nothing = FindsNone old comm source tag fa
 -- why a probe is refused that passes the checks of a receive
 abbrev pub IsLateRefusal : State → Comm → Option ℕ → Option Tag → CallError → Type 0
 IsLateRefusal rank comm source tag ProcFailed = FindsNone rank comm source tag true
-IsLateRefusal rank comm source tag OutOfMemory = (pattern : Pattern) × IsReceive rank comm source tag 1024 pattern × KeepsOne rank.log pattern
+IsLateRefusal rank comm source tag OutOfMemory = (pattern : Pattern) × IsReceive rank comm source tag 1024 pattern × (letter : Letter) × WouldGet rank.log pattern letter
 IsLateRefusal rank comm source tag _ = ⊥
 
 -- why a probe is refused

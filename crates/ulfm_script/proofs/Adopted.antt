@@ -3,7 +3,7 @@ use Rattle.std.proofs.Common.{◌≡◌, ◌≢◌, ℕ, List, length, refl, ap,
 use Rattle.ulfm_board.specs.Known.{Answers as BoardAnswers, Agrees, known_at}
 use Rattle.ulfm_script.proofs.Common.{AnswersFollowSoFar, Context, Decision, is_stopped, Learns, Player, Shrink, StandsOpen, State, step_report, StepAnswer, cases_eq}
 use Rattle.ulfm_script.specs.Deciding.{Known, AnswersDecision, IsDecided}
-use Rattle.ulfm_script.specs.Answered.{EntersBetween, AdoptsKnown, WantsMemory, by_decision}
+use Rattle.ulfm_script.specs.Answered.{EntersBetween, AdoptsKnown, LacksMemory, by_decision}
 use Rattle.ulfm_script.proofs.Beginnings.{Grew, grew-long, stood-now, stood-before, enters-grew}
 use Rattle.ulfm_script.proofs.Added.{grew-adds, ends-adds}
 use Rattle.ulfm_script.proofs.Decisions.{decision_adds}
@@ -38,7 +38,7 @@ learns-decided board known later r to end comm answer new entered h = elim h.out
 ]
 
 -- the decision that is adopted is known from now on
-outcome-decided : (board : Option (List ℕ)) (known later : Known) (r : State) (comm : Context) (answer : StepAnswer) (new : State) → AnswersDecision board known later r comm answer new → AdoptsKnown later r comm answer new ⊎ WantsMemory later r comm answer new
+outcome-decided : (board : Option (List ℕ)) (known later : Known) (r : State) (comm : Context) (answer : StepAnswer) (new : State) → AnswersDecision board known later r comm answer new → AdoptsKnown later r comm answer new ⊎ LacksMemory later r comm answer new
 outcome-decided board known later r comm answer new h = elim h.outcome [
   | inl a ↦ inl (record { held = a.held; knows = ap (known_at later) (sym h.proposed.context) ∙ a.board_answers.known_now; adoption = a.adoption })
   | inr s ↦

@@ -82,7 +82,7 @@ pub record AdoptsKnown (known : Known) (r : State) (comm : Context) (answer : St
   pub adoption : AnswersAdoption r comm held answer new
 
 -- the board was out of memory, where no decision is known, and nothing changes
-pub record WantsMemory (known : Known) (r : State) (comm : Context) (answer : StepAnswer) (new : State) : Type 0 where
+pub record LacksMemory (known : Known) (r : State) (comm : Context) (answer : StepAnswer) (new : State) : Type 0 where
   pub unknown : known_at known comm.number ≡ None
   pub refused : answer ≡ Refused OutOfMemory
   pub only : new ≡ r
@@ -93,7 +93,7 @@ pub record AnsweredByDecision (known : Known) (rank : State) (from : ℕ) (repor
   pub shrink : report.step ≡ Shrink comm
   pub entered : EntersBetween rank comm from report.at
   pub proposes : HasProposal old comm
-  pub outcome : AdoptsKnown known old comm report.answer new ⊎ WantsMemory known old comm report.answer new
+  pub outcome : AdoptsKnown known old comm report.answer new ⊎ LacksMemory known old comm report.answer new
 
 -- The rank entered the shrink since the step before, and at a later poll had no proposal.
 pub record LeftUndecided (rank : State) (from : ℕ) (report : StepReport) (old new : State) : Type 0 where

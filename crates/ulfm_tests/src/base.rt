@@ -44,24 +44,35 @@ const IN_THE_REST: [Option<u8>; 4] = [Some(0), None, Some(1), Some(2)];
 // The positions of the rest in the world.
 const IN_THE_WORLD: [Option<u8>; 3] = [Some(0), Some(2), Some(3)];
 
+// Whether positions of the world are these of the rest of it, and the other way round, and one that the rest hasn't is refused.
+fn translates_both_ways(world: &Group, rest: &Group) -> Result<bool, CallError> {
+    let into_the_world = translates(rest, world, &[0, 1, 2], &IN_THE_WORLD)?;
+    let into_the_rest = translates(world, rest, &[0, 1, 2, 3], &IN_THE_REST)?;
+    let none = translates(world, rest, &[], &[])?;
+    let is_refused = matches!(rest.translate(&[3], world), Err(CallError::BadRank));
+    Ok(into_the_world && into_the_rest && none && is_refused)
+}
+
 #[test]
 fn translates_between_a_group_and_the_rest_of_it(rt: HostRuntime) -> Result<(), Fail> {
     let (world, rest) = four_and_three(&rt)?;
-    assert!(rt; translates(&rest, &world, &[0, 1, 2], &IN_THE_WORLD)?);
-    assert!(rt; translates(&world, &rest, &[0, 1, 2, 3], &IN_THE_REST)?);
-    assert!(rt; translates(&world, &rest, &[], &[])?);
-    assert!(rt; matches!(rest.translate(&[3], &world), Err(CallError::BadRank)));
+    let both = translates_both_ways(&world, &rest)?;
+    assert!(rt; both);
     Ok(())
+}
+
+// Why there is no world of so many ranks, if there is none.
+fn refusal(rt: &HostRuntime, n: u8) -> Option<CallError> {
+    match Group::world(rt.alloc(), n) {
+        Ok(_) => None,
+        Err(error) => Some(error),
+    }
 }
 
 #[test]
 fn numbers_out_of_range(rt: HostRuntime) {
-    for n in [0, 9] {
-        assert!(rt;
-            matches!(Group::world(rt.alloc(), n), Err(CallError::BadSize)),
-            "{n} ranks"
-        );
-    }
+    assert_eq!(rt; refusal(&rt, 0), Some(CallError::BadSize));
+    assert_eq!(rt; refusal(&rt, 9), Some(CallError::BadSize));
     assert!(rt; matches!(Tag::new(32768), Err(CallError::BadTag)));
     assert!(rt; Tag::new(32767).is_ok());
 }

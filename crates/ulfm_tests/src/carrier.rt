@@ -2,5 +2,6 @@
 
 mod across;
 mod lane;
+mod letters;
 mod pairs;
 mod shared;

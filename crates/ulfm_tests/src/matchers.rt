@@ -4,6 +4,7 @@ ghost use Rattle.ulfm_match.specs.State.{is_cleared};
 
 use rand_core::utils::NextWord;
 use rand_pcg::Pcg32;
+use std::alloc::Global;
 use std::test::Fail;
 use ulfm_base::{
     Body, Context, Envelope, Letter, OutOfMemory, Pattern, RankSet, Source, Tag, WorldRank,
@@ -181,18 +182,33 @@ fn call(
     }
 }
 
+/// Draws a list of calls to both: the first call that they answer otherwise.
+fn first_apart(
+    matcher: &mut Matcher,
+    plain: &mut Plain,
+    draws: &mut Pcg32,
+) -> Result<Option<u32>, OutOfMemory> {
+    for k in 0..CALLS {
+        if !call(matcher, plain, draws, k)? {
+            return Ok(Some(k));
+        }
+    }
+    Ok(None)
+}
+
+/// The same, of a matcher and plain lists that hold nothing yet.
+fn first_apart_of_new(alloc: Global, draws: &mut Pcg32) -> Result<Option<u32>, OutOfMemory> {
+    let mut matcher = Matcher::new(alloc);
+    let mut plain = Plain::new(alloc);
+    first_apart(&mut matcher, &mut plain, draws)
+}
+
 #[test]
 fn the_matcher_answers_as_plain_lists_do(rt: HostRuntime) -> Result<(), Fail> {
     let mut draws = Pcg32::new(42, 54);
     for list in 0..LISTS {
-        let mut matcher = Matcher::new(rt.alloc());
-        let mut plain = Plain::new(rt.alloc());
-        for k in 0..CALLS {
-            assert!(rt;
-                call(&mut matcher, &mut plain, &mut draws, k)?,
-                "list {list}, call {k}"
-            );
-        }
+        let apart = first_apart_of_new(rt.alloc(), &mut draws)?;
+        assert_eq!(rt; apart, None, "list {list}");
     }
     Ok(())
 }

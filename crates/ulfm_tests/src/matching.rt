@@ -1,6 +1,7 @@
 //! Worked examples.
 ghost use Rattle.std.specs.Prelude.{◌≡◌, ◌+◌, ◌<◌, ◌≤◌, ◌^◌, OnOk};
 
+use std::alloc::Global;
 use std::test::Fail;
 use ulfm_base::{Body, Context, Envelope, Letter, Pattern, RankSet, Source, Tag, WorldRank};
 use ulfm_match::{Arrived, Matcher, RequestId};
@@ -105,16 +106,8 @@ fn keeps_their_order(matcher: &mut Matcher) -> Result<bool, Fail>
     let (id, next) = posted(matcher, receive(ZERO, Some(FIVE)))?;
     let none_came = first.is_none() && second.is_none();
     let left = matcher.keeps_match(&receive(ZERO, None));
-    Ok(none_came && kept && !other && !left && byte == b'a' && next == b'b' && id.number == 3)
-}
-
-#[test]
-fn letters_in_order(rt: HostRuntime) -> Result<(), Fail> {
-    let mut matcher = Matcher::new(rt.alloc());
-    let kept = keeps_their_order(&mut matcher)?;
-    assert!(rt; kept);
-    assert_eq!(rt; matcher.count(), 4);
-    Ok(())
+    let received = byte == b'a' && next == b'b' && id.number == 3;
+    Ok(none_came && kept && !other && received && !left && matcher.count() == 4)
 }
 
 /// A receive that ended gets nothing, and one that leaves the tag open goes before a later one that names it.
@@ -130,14 +123,6 @@ fn gives_to_the_wildcard(matcher: &mut Matcher) -> Result<bool, Fail>
     let paired = !matcher.is_waiting(wildcard) && matcher.is_waiting(named);
     let second = arrived(matcher, letter(ZERO, FIVE, b'y'))?;
     Ok(once && !twice && paired && first == Some(wildcard) && second == Some(named))
-}
-
-#[test]
-fn wildcard_before_named(rt: HostRuntime) -> Result<(), Fail> {
-    let mut matcher = Matcher::new(rt.alloc());
-    let given = gives_to_the_wildcard(&mut matcher)?;
-    assert!(rt; given);
-    Ok(())
 }
 
 /// Receives of any source get letters of their sources alone, the earliest first.
@@ -157,14 +142,6 @@ fn receives_of_any(matcher: &mut Matcher) -> Result<bool, Fail>
     Ok(taken && none.is_none() && last == Some(third))
 }
 
-#[test]
-fn any_source(rt: HostRuntime) -> Result<(), Fail> {
-    let mut matcher = Matcher::new(rt.alloc());
-    let received = receives_of_any(&mut matcher)?;
-    assert!(rt; received);
-    Ok(())
-}
-
 /// A failure ends the receives that name the rank. A letter that came before it is still received.
 fn ends_the_named(matcher: &mut Matcher) -> Result<bool, Fail>
     requires { matcher.old.count + 8 < 2 ^ 64 }
@@ -179,14 +156,6 @@ fn ends_the_named(matcher: &mut Matcher) -> Result<bool, Fail>
     let waits = matcher.is_waiting(other) && matcher.is_waiting(any);
     let byte = posted(matcher, receive(ZERO, None))?.1;
     Ok(ended && waits && byte == b'b')
-}
-
-#[test]
-fn kept_before_notice(rt: HostRuntime) -> Result<(), Fail> {
-    let mut matcher = Matcher::new(rt.alloc());
-    let ended = ends_the_named(&mut matcher)?;
-    assert!(rt; ended);
-    Ok(())
 }
 
 /// A context is cleared, and what is of another stays.
@@ -208,10 +177,60 @@ fn clears_one(matcher: &mut Matcher) -> Result<bool, Fail>
     Ok(!before && marked && prepared && waits && dropped && byte == b'b')
 }
 
+/// What is asked of a new matcher.
+enum Asked {
+    KeptInOrder,
+    WildcardFirst,
+    AnySource,
+    NamedEnded,
+    OneCleared,
+}
+
+/// Whether a matcher does what is asked.
+fn answers(matcher: &mut Matcher, asked: Asked) -> Result<bool, Fail>
+    requires { matcher.old.count + 9 < 2 ^ 64 }
+{
+    match asked {
+        Asked::KeptInOrder => keeps_their_order(matcher),
+        Asked::WildcardFirst => gives_to_the_wildcard(matcher),
+        Asked::AnySource => receives_of_any(matcher),
+        Asked::NamedEnded => ends_the_named(matcher),
+        Asked::OneCleared => clears_one(matcher),
+    }
+}
+
+/// Whether a new matcher does.
+fn new_answers(alloc: Global, asked: Asked) -> Result<bool, Fail> {
+    let mut matcher = Matcher::new(alloc);
+    answers(&mut matcher, asked)
+}
+
+#[test]
+fn letters_in_order(rt: HostRuntime) -> Result<(), Fail> {
+    assert!(rt; new_answers(rt.alloc(), Asked::KeptInOrder)?);
+    Ok(())
+}
+
+#[test]
+fn wildcard_before_named(rt: HostRuntime) -> Result<(), Fail> {
+    assert!(rt; new_answers(rt.alloc(), Asked::WildcardFirst)?);
+    Ok(())
+}
+
+#[test]
+fn any_source(rt: HostRuntime) -> Result<(), Fail> {
+    assert!(rt; new_answers(rt.alloc(), Asked::AnySource)?);
+    Ok(())
+}
+
+#[test]
+fn kept_before_notice(rt: HostRuntime) -> Result<(), Fail> {
+    assert!(rt; new_answers(rt.alloc(), Asked::NamedEnded)?);
+    Ok(())
+}
+
 #[test]
 fn other_contexts_stay(rt: HostRuntime) -> Result<(), Fail> {
-    let mut matcher = Matcher::new(rt.alloc());
-    let stay = clears_one(&mut matcher)?;
-    assert!(rt; stay);
+    assert!(rt; new_answers(rt.alloc(), Asked::OneCleared)?);
     Ok(())
 }

@@ -88,3 +88,13 @@ fn probes_take_their_letters_by_shared_inboxes(rt: HostRuntime) {
     let words = ["ulfm", "run", "--carrier", "shared", "--turns", "1000000"];
     assert_eq!(rt; first_wrong_by(&rt, &words, &PROBES[..2]), None);
 }
+
+// Rank 0 stops at once, so that its notice comes long before the turns of the first probe are over. Those of the second pass in
+// vain.
+#[test]
+fn a_probe_of_a_stopped_rank_is_refused_by_threads(rt: HostRuntime) {
+    let words = ["ulfm", "run", "--carrier", "lanes", "--turns", "50000"];
+    assert_eq!(rt; first_wrong_by(&rt, &words, &PROBES[2..]), None);
+    let words = ["ulfm", "run", "--carrier", "shared", "--turns", "50000"];
+    assert_eq!(rt; first_wrong_by(&rt, &words, &PROBES[2..]), None);
+}

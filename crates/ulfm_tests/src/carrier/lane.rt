@@ -1,38 +1,14 @@
 //! Items go through rings, as the ranks see it, and a gathering gives what is left.
-ghost use Rattle.std.specs.Prelude.{◌≡◌, ◌<◌, ℕ, map, vec_len, IfOk};
-ghost use Rattle.ulfm_base.specs.Items.{ComesFrom};
-ghost use Rattle.ulfm_base.specs.Lists.{at};
+ghost use Rattle.std.specs.Prelude.{◌≡◌, ◌<◌, map, vec_len};
 ghost use Rattle.ulfm_carrier.specs.Lanes.{lane_name, OneCall};
 ghost use Rattle.ulfm_carrier.specs.inside.Wiring.{AllReady};
 
+use super::letters::{byte_of, is_left, left_of, letter};
+use std::alloc::Global;
 use std::sync::Wait;
 use std::test::Fail;
-use ulfm_base::{Body, CallError, Context, Envelope, Item, Letter, Tag, WorldRank};
-use ulfm_carrier::{Ends, LaneEnds, Residue, lanes};
-
-// A letter of one byte.
-pub(crate) fn letter(source: u8, byte: u8) -> Result<Item, CallError>
-    ensures { IfOk result (λ item. ComesFrom source item) }
-{
-    if source >= 8 {
-        return Err(CallError::BadRank);
-    }
-    let envelope = Envelope {
-        context: Context::WORLD,
-        source: WorldRank { number: source },
-        tag: Tag::new(5)?,
-    };
-    let body = Body::from_bytes(&[byte])?;
-    Ok(Item::Letter(Letter { envelope, body }))
-}
-
-// The byte of a letter of one byte.
-pub(crate) fn byte_of(item: &Item) -> Option<u8> {
-    match item {
-        Item::Letter(letter) => letter.body.as_bytes().first().copied(),
-        _ => None,
-    }
-}
+use ulfm_base::CallError;
+use ulfm_carrier::{Ends, LaneEnds, lanes};
 
 // A rank pushes a letter to rank 1: the byte of the letter that is handed back.
 fn push(ends: &mut Vec<LaneEnds>, from: u8, byte: u8) -> Result<Option<u8>, CallError>
@@ -116,69 +92,57 @@ fn room_of(ends: &mut Vec<LaneEnds>) -> Result<u8, CallError>
     Ok(66)
 }
 
-// Whether these letters are left, by their receivers, and no more.
-pub(crate) fn is_left(residue: &Residue, wants: &[&[(u8, u8)]]) -> bool {
-    if residue.inboxes.len() != wants.len() {
-        return false;
-    }
-    for (inbox, want) in residue.inboxes.iter().zip(wants) {
-        if !are_letters(inbox, want) {
-            return false;
-        }
-    }
-    true
-}
-
-// Whether these are the letters of an inbox, in this order.
-fn are_letters(inbox: &[(WorldRank, Item)], wants: &[(u8, u8)]) -> bool {
-    if inbox.len() != wants.len() {
-        return false;
-    }
-    for ((source, item), (number, byte)) in inbox.iter().zip(wants) {
-        if source.number != *number || byte_of(item) != Some(*byte) {
-            return false;
-        }
-    }
-    true
-}
-
-// A rank sends to itself, and takes what it finds.
-fn to_itself<E: Ends, R: Wait>(rt: &R, end: &mut E, item: Item) -> Option<(WorldRank, Item)>
+// A rank sends a letter to itself: the sender's number and the letter's byte, as it pops them.
+fn to_itself<E: Ends, R: Wait>(
+    rt: &R,
+    end: &mut E,
+    byte: u8,
+) -> Result<Option<(u8, Option<u8>)>, CallError>
     requires ready { E.ready end.old }
     requires inside { E.place end.old < E.count end.old }
-    requires item { ComesFrom (E.place end.old) item }
 {
     let me = end.me();
+    let item = letter(me.number, byte)?;
     if end.push(rt, me.number, item).is_err() {
-        return None;
+        return Ok(None);
     }
-    end.pop(rt)
+    let found = end.pop(rt);
+    Ok(found.map(|(source, item)| (source.number, byte_of(&item))))
 }
 
-// All ends are gathered.
-pub(crate) fn left_of<E: Ends, R: Wait>(rt: &R, ends: Vec<E>) -> Residue
-    requires family { E.one_call (map E.name ends.items) }
-    requires ready { (k : ℕ) (e : E) → at ends.items k e → E.ready e }
+// Whether a second letter of rank 0 is accepted only once the first is taken.
+fn accepts_one(ends: &mut Vec<LaneEnds>) -> Result<bool, CallError>
+    requires dest { 1 < vec_len ends.old }
+    requires family { OneCall (map lane_name ends.old.items) }
+    requires ready { AllReady ends.old.items }
+    ensures family { OneCall (map lane_name ends.new.items) }
+    ensures ready { AllReady ends.new.items }
 {
-    let (residue, _ends) = E::gather(rt, ends);
-    residue
+    let first = push(ends, 0, b'A')?;
+    let second = push(ends, 0, b'B')?;
+    let found = finds(ends, &[(0, b'A')]);
+    let again = push(ends, 0, b'B')?;
+    Ok(first.is_none() && second == Some(b'B') && found && again.is_none())
 }
 
 #[test]
 fn one_place_in_each_ring(rt: HostRuntime) -> Result<(), Fail> {
     let mut ends = lanes(rt.alloc(), 2, 1)?;
-    assert_eq!(rt; push(&mut ends, 0, b'A')?, None);
-    assert_eq!(rt; push(&mut ends, 0, b'B')?, Some(b'B'));
-    assert!(rt; finds(&mut ends, &[(0, b'A')]));
-    assert_eq!(rt; push(&mut ends, 0, b'B')?, None);
+    let accepted = accepts_one(&mut ends)?;
     let residue = left_of(&rt, ends);
+    assert!(rt; accepted);
     assert!(rt; is_left(&residue, &[&[], &[(0, b'B')]]));
     Ok(())
 }
 
-#[test]
-fn left_by_three(rt: HostRuntime) -> Result<(), Fail> {
-    let mut ends = lanes(rt.alloc(), 3, 3)?;
+// Whether six letters are accepted, and the first two that rank 1 pops are of two ranks.
+fn accepts_six(ends: &mut Vec<LaneEnds>) -> Result<bool, CallError>
+    requires dest { 1 < vec_len ends.old }
+    requires family { OneCall (map lane_name ends.old.items) }
+    requires ready { AllReady ends.old.items }
+    ensures family { OneCall (map lane_name ends.new.items) }
+    ensures ready { AllReady ends.new.items }
+{
     let letters = [
         (2, b'a'),
         (0, b'b'),
@@ -187,61 +151,107 @@ fn left_by_three(rt: HostRuntime) -> Result<(), Fail> {
         (2, b'e'),
         (0, b'f'),
     ];
-    assert!(rt; accepts_all(&mut ends, &letters)?);
-    assert_eq!(rt; pop(&mut ends, 1), Some((0, Some(b'b'))));
-    assert_eq!(rt; pop(&mut ends, 1), Some((1, Some(b'c'))));
+    let accepted = accepts_all(ends, &letters)?;
+    let first = pop(ends, 1);
+    let second = pop(ends, 1);
+    Ok(accepted && first == Some((0, Some(b'b'))) && second == Some((1, Some(b'c'))))
+}
+
+#[test]
+fn left_by_three(rt: HostRuntime) -> Result<(), Fail> {
+    let mut ends = lanes(rt.alloc(), 3, 3)?;
+    let accepted = accepts_six(&mut ends)?;
     let residue = left_of(&rt, ends);
     let left = [(0, b'd'), (0, b'f'), (2, b'a'), (2, b'e')];
+    assert!(rt; accepted);
     assert!(rt; is_left(&residue, &[&[], &left, &[]]));
     Ok(())
+}
+
+// The same of new rings of a capacity.
+fn room_of_new(alloc: Global, capacity: u8) -> Result<u8, CallError> {
+    let mut ends = lanes(alloc, 2, capacity)?;
+    room_of(&mut ends)
 }
 
 #[test]
 fn rings_of_their_capacity(rt: HostRuntime) -> Result<(), Fail> {
     for capacity in [1, 2, 64] {
-        let mut ends = lanes(rt.alloc(), 2, capacity)?;
-        assert_eq!(rt; room_of(&mut ends)?, capacity, "capacity {capacity}");
+        assert_eq!(rt;
+            room_of_new(rt.alloc(), capacity)?,
+            capacity,
+            "capacity {capacity}"
+        );
     }
     Ok(())
+}
+
+// Whether rank 1 finds these letters, once they are pushed in this order.
+fn finds_pushed(
+    ends: &mut Vec<LaneEnds>,
+    pushed: &[(u8, u8)],
+    found: &[(u8, u8)],
+) -> Result<bool, CallError>
+    requires dest { 1 < vec_len ends.old }
+    requires family { OneCall (map lane_name ends.old.items) }
+    requires ready { AllReady ends.old.items }
+    ensures len { vec_len ends.new ≡ vec_len ends.old }
+    ensures family { OneCall (map lane_name ends.new.items) }
+    ensures ready { AllReady ends.new.items }
+{
+    let accepted = accepts_all(ends, pushed)?;
+    Ok(accepted && finds(ends, found))
+}
+
+// Whether rank 1 takes of the senders by turns, from the one after the last on, and rank 0 finds nothing.
+fn takes_by_turns(ends: &mut Vec<LaneEnds>) -> Result<bool, CallError>
+    requires dest { 1 < vec_len ends.old }
+    requires family { OneCall (map lane_name ends.old.items) }
+    requires ready { AllReady ends.old.items }
+{
+    let pushed = [(2, b'a'), (2, b'b'), (0, b'c'), (1, b'd'), (0, b'e')];
+    let found = [(0, b'c'), (1, b'd'), (2, b'a'), (0, b'e'), (2, b'b')];
+    let of_three = finds_pushed(ends, &pushed, &found)?;
+    let of_itself = finds_pushed(ends, &[(1, b'f')], &[(1, b'f')])?;
+    let pushed = [(0, b'g'), (2, b'h')];
+    let found = [(2, b'h'), (0, b'g')];
+    let of_two = finds_pushed(ends, &pushed, &found)?;
+    Ok(of_three && of_itself && of_two && pop(ends, 0).is_none())
 }
 
 #[test]
 fn senders_in_turn(rt: HostRuntime) -> Result<(), Fail> {
     let mut ends = lanes(rt.alloc(), 3, 4)?;
-    assert!(rt;
-        accepts_all(
-            &mut ends,
-            &[(2, b'a'), (2, b'b'), (0, b'c'), (1, b'd'), (0, b'e')]
-        )?
-    );
-    assert!(rt;
-        finds(
-            &mut ends,
-            &[(0, b'c'), (1, b'd'), (2, b'a'), (0, b'e'), (2, b'b')]
-        )
-    );
-    assert!(rt; accepts_all(&mut ends, &[(1, b'f')])?);
-    assert!(rt; finds(&mut ends, &[(1, b'f')]));
-    assert!(rt; accepts_all(&mut ends, &[(0, b'g'), (2, b'h')])?);
-    assert!(rt; finds(&mut ends, &[(2, b'h'), (0, b'g')]));
-    assert_eq!(rt; pop(&mut ends, 0), None);
+    let taken = takes_by_turns(&mut ends)?;
+    assert!(rt; taken);
     Ok(())
+}
+
+// Why there are no lanes of so many ranks with rings of this room, if there are none.
+fn refusal(alloc: Global, n: u8, capacity: u8) -> Option<CallError> {
+    match lanes(alloc, n, capacity) {
+        Ok(_) => None,
+        Err(error) => Some(error),
+    }
+}
+
+// The first of these numbers of ranks and room for which that is another answer.
+fn first_other(alloc: Global, sizes: &[(u8, u8)], answer: Option<CallError>) -> Option<(u8, u8)> {
+    for (n, capacity) in sizes {
+        if refusal(alloc, *n, *capacity) != answer {
+            return Some((*n, *capacity));
+        }
+    }
+    None
 }
 
 #[test]
 fn sizes_in_range(rt: HostRuntime) {
-    for (n, capacity) in [(0, 1), (9, 1), (1, 0), (1, 65), (0, 65)] {
-        assert!(rt;
-            matches!(lanes(rt.alloc(), n, capacity), Err(CallError::BadSize)),
-            "{n} ranks, capacity {capacity}"
-        );
-    }
-    for (n, capacity) in [(1, 1), (8, 64)] {
-        assert!(rt;
-            lanes(rt.alloc(), n, capacity).is_ok(),
-            "{n} ranks, capacity {capacity}"
-        );
-    }
+    let bad = [(0, 1), (9, 1), (1, 0), (1, 65), (0, 65)];
+    let refused = first_other(rt.alloc(), &bad, Some(CallError::BadSize));
+    let made = first_other(rt.alloc(), &[(1, 1), (8, 64)], None);
+    assert_eq!(rt; refused, None);
+    assert_eq!(rt; made, None);
 }
 
 // A thread may own it.
@@ -253,8 +263,8 @@ fn ends_for_threads(rt: HostRuntime) -> Result<(), Fail> {
     let Some(mut end) = ends.pop() else {
         return Err(Fail::new("no end"));
     };
-    let found = to_itself(&rt, &mut end, letter(0, b'A')?);
-    assert!(rt; matches!(found, Some((WorldRank { number: 0 }, _))));
+    let found = to_itself(&rt, &mut end, b'A')?;
     crosses(end);
+    assert_eq!(rt; found, Some((0, Some(b'A'))));
     Ok(())
 }

@@ -2,7 +2,7 @@
 ghost use Rattle.std.specs.Prelude.{◌≡◌, ◌<◌, ℕ, vec_len};
 ghost use Rattle.ulfm_base.specs.Lists.{at};
 
-use super::lane::{byte_of, letter};
+use super::letters::{byte_of, letter};
 use std::sync::Wait;
 use std::test::Fail;
 use ulfm_base::CallError;

@@ -3,7 +3,8 @@ ghost use Rattle.std.specs.Prelude.{◌≡◌, ◌<◌, ℕ, map, vec_len};
 ghost use Rattle.ulfm_carrier.specs.Shared.{shared_name, OneCall};
 ghost use Rattle.ulfm_carrier.specs.inside.Emptying.{AllReady};
 
-use super::lane::{byte_of, is_left, left_of, letter};
+use super::letters::{byte_of, is_left, left_of, letter};
+use std::alloc::Global;
 use std::sync::Wait;
 use std::test::Fail;
 use ulfm_base::CallError;
@@ -92,15 +93,29 @@ fn finds_all<R: Wait>(rt: &R, ends: &mut Vec<SharedEnds>, ranks: u8, count: u8) 
 // A thread may own it.
 fn crosses<T: Send + Drop + 'static>(_end: T) {}
 
+// Whether a third letter is accepted only once the first is taken.
+fn accepts_two<R: Wait>(rt: &R, ends: &mut Vec<SharedEnds>) -> Result<bool, CallError>
+    requires dest { 1 < vec_len ends.old }
+    requires family { OneCall (map shared_name ends.old.items) }
+    requires ready { AllReady ends.old.items }
+    ensures family { OneCall (map shared_name ends.new.items) }
+    ensures ready { AllReady ends.new.items }
+{
+    let first = push(rt, ends, 0, b'A')?;
+    let second = push(rt, ends, 2, b'B')?;
+    let third = push(rt, ends, 0, b'C')?;
+    let taken = pop(rt, ends);
+    let again = push(rt, ends, 0, b'C')?;
+    let accepted = first.is_none() && second.is_none() && again.is_none();
+    Ok(accepted && third == Some(b'C') && taken == Some((0, Some(b'A'))))
+}
+
 #[test]
 fn two_places_for_three(rt: HostRuntime) -> Result<(), Fail> {
     let mut ends = shared(rt.alloc(), 3, 2)?;
-    assert_eq!(rt; push(&rt, &mut ends, 0, b'A')?, None);
-    assert_eq!(rt; push(&rt, &mut ends, 2, b'B')?, None);
-    assert_eq!(rt; push(&rt, &mut ends, 0, b'C')?, Some(b'C'));
-    assert_eq!(rt; pop(&rt, &mut ends), Some((0, Some(b'A'))));
-    assert_eq!(rt; push(&rt, &mut ends, 0, b'C')?, None);
+    let accepted = accepts_two(&rt, &mut ends)?;
     let residue = left_of(&rt, ends);
+    assert!(rt; accepted);
     assert!(rt; is_left(&residue, &[&[], &[(2, b'B'), (0, b'C')], &[]]));
     Ok(())
 }
@@ -113,44 +128,73 @@ fn shared_ends_for_threads(rt: HostRuntime) -> Result<(), Fail> {
     Ok(())
 }
 
+// Whether an inbox takes as many letters as it has room for, refuses one more of the first and of the last rank, and gives them
+// back in their order.
+fn holds_its_capacity<R: Wait>(
+    rt: &R,
+    ends: &mut Vec<SharedEnds>,
+    ranks: u8,
+    capacity: u8,
+) -> Result<bool, CallError>
+    requires some { 0 < ranks }
+    requires dest { 1 < vec_len ends.old }
+    requires family { OneCall (map shared_name ends.old.items) }
+    requires ready { AllReady ends.old.items }
+{
+    let accepted = accepts_all(rt, ends, ranks, capacity)?;
+    let first = push(rt, ends, 0, b'A')?;
+    let last = push(rt, ends, ranks - 1, b'B')?;
+    let found = finds_all(rt, ends, ranks, capacity);
+    Ok(accepted && first == Some(b'A') && last == Some(b'B') && found)
+}
+
+// The same of new inboxes.
+fn new_hold_their_capacity<R: Wait>(
+    rt: &R,
+    alloc: Global,
+    ranks: u8,
+    capacity: u8,
+) -> Result<bool, CallError>
+    requires { 1 < ranks }
+{
+    let mut ends = shared(alloc, ranks, capacity)?;
+    holds_its_capacity(rt, &mut ends, ranks, capacity)
+}
+
 #[test]
 fn inboxes_of_their_capacity(rt: HostRuntime) -> Result<(), Fail> {
     for (ranks, capacity) in [(2, 1), (2, 2), (2, 64), (8, 1), (8, 64)] {
-        let mut ends = shared(rt.alloc(), ranks, capacity)?;
         assert!(rt;
-            accepts_all(&rt, &mut ends, ranks, capacity)?,
-            "{ranks} ranks, capacity {capacity}"
-        );
-        assert_eq!(rt;
-            push(&rt, &mut ends, 0, b'A')?,
-            Some(b'A'),
-            "{ranks} ranks, capacity {capacity}"
-        );
-        assert_eq!(rt;
-            push(&rt, &mut ends, ranks - 1, b'B')?,
-            Some(b'B'),
-            "{ranks} ranks, capacity {capacity}"
-        );
-        assert!(rt;
-            finds_all(&rt, &mut ends, ranks, capacity),
+            new_hold_their_capacity(&rt, rt.alloc(), ranks, capacity)?,
             "{ranks} ranks, capacity {capacity}"
         );
     }
     Ok(())
 }
 
+// Why there are no inboxes of so many ranks with this room, if there are none.
+fn refusal(alloc: Global, n: u8, capacity: u8) -> Option<CallError> {
+    match shared(alloc, n, capacity) {
+        Ok(_) => None,
+        Err(error) => Some(error),
+    }
+}
+
+// The first of these numbers of ranks and room for which that is another answer.
+fn first_other(alloc: Global, sizes: &[(u8, u8)], answer: Option<CallError>) -> Option<(u8, u8)> {
+    for (n, capacity) in sizes {
+        if refusal(alloc, *n, *capacity) != answer {
+            return Some((*n, *capacity));
+        }
+    }
+    None
+}
+
 #[test]
 fn shared_sizes_in_range(rt: HostRuntime) {
-    for (n, capacity) in [(0, 1), (9, 1), (1, 0), (1, 65), (0, 65)] {
-        assert!(rt;
-            matches!(shared(rt.alloc(), n, capacity), Err(CallError::BadSize)),
-            "{n} ranks, capacity {capacity}"
-        );
-    }
-    for (n, capacity) in [(1, 1), (8, 64)] {
-        assert!(rt;
-            shared(rt.alloc(), n, capacity).is_ok(),
-            "{n} ranks, capacity {capacity}"
-        );
-    }
+    let bad = [(0, 1), (9, 1), (1, 0), (1, 65), (0, 65)];
+    let refused = first_other(rt.alloc(), &bad, Some(CallError::BadSize));
+    let made = first_other(rt.alloc(), &[(1, 1), (8, 64)], None);
+    assert_eq!(rt; refused, None);
+    assert_eq!(rt; made, None);
 }

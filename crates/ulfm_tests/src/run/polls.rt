@@ -37,17 +37,30 @@ impl Habit for Blind {
     }
 }
 
+/// The habit of one end, of which so many pops find nothing.
+fn one_habit(alloc: Global, pops: u32) -> Result<Vec<Blind>, Fail> {
+    let mut habits = Vec::new(alloc);
+    habits.push(Blind { pops })?;
+    Ok(habits)
+}
+
+/// The trace of a job, where the first so many pops find nothing.
+fn trace_of<R>(rt: &R, alloc: Global, job: &Job, pops: u32) -> Result<String, Fail>
+where
+    R: Threads + Wait + Sync,
+{
+    let ends = lanes(alloc, job.ranks(), job.capacity())?;
+    let report = run_over(rt, alloc, job, ends, one_habit(alloc, pops)?)?;
+    Ok(trace_text(alloc, &report.ranks)?)
+}
+
 /// The trace of `TO_ITSELF`, where the first so many pops find nothing.
 fn trace_after<R>(rt: &R, alloc: Global, pops: u32) -> Result<String, Fail>
 where
     R: Threads + Wait + Sync,
 {
     let job = Job::read(alloc, TO_ITSELF.as_bytes())?;
-    let mut habits = Vec::new(alloc);
-    habits.push(Blind { pops })?;
-    let ends = lanes(alloc, job.ranks(), job.capacity())?;
-    let report = run_over(rt, alloc, &job, ends, habits)?;
-    Ok(trace_text(alloc, &report.ranks)?)
+    trace_of(rt, alloc, &job, pops)
 }
 
 /// The wait is polled in the turns 3 to 52, each time after that turn's pop.

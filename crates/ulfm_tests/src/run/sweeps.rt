@@ -113,6 +113,47 @@ fn rested<E: Ends, D: Decider>(report: &Report<E, D>) -> Result<bool, Fail> {
     Ok(true)
 }
 
+/// Whether a run of a job over these ends comes to rest, with its facts.
+fn rests_over<E, R>(rt: &R, alloc: Global, job: &Job, ends: Vec<E>) -> Result<bool, Fail>
+where
+    E: Ends + Send,
+    R: Threads + Wait + Sync,
+    requires one_call { E.one_call (map E.name ends.items) }
+    requires fresh { AllFresh E.count E.pushed E.taken E.ready ends.items }
+{
+    let deciders = seats(alloc, job.ranks())?;
+    let report = run_job(rt, alloc, job, ends, deciders)?;
+    rested(&report)
+}
+
+/// How many runs of a job come to rest, with its facts: over lanes, and over shared inboxes.
+fn rests_of<R>(rt: &R, alloc: Global, job: &Job) -> Result<(u32, u32), Fail>
+where
+    R: Threads + Wait + Sync,
+{
+    let ends = lanes(alloc, job.ranks(), job.capacity())?;
+    let over_lanes = rests_over(rt, alloc, job, ends)?;
+    let ends = shared(alloc, job.ranks(), job.capacity())?;
+    let over_shared = rests_over(rt, alloc, job, ends)?;
+    Ok((over_lanes as u32, over_shared as u32))
+}
+
+/// The same of a job with a stop before one step of a rank, or after its last one.
+fn rests_with_stop<R>(
+    rt: &R,
+    alloc: Global,
+    recovery: &Recovery,
+    rank: u8,
+    at: usize,
+) -> Result<(u32, u32), Fail>
+where
+    R: Threads + Wait + Sync,
+{
+    let text = recovery.with_stop(alloc, rank, at)?;
+    let job = Job::read(alloc, text.as_bytes())?;
+    rests_of(rt, alloc, &job)
+}
+
 /// Whether the runs of a job, with a stop before each step of each rank and after its last one in turn, keep the facts of rest
 /// wherever they come to rest, and some come to rest over each carrier.
 fn settles<R>(rt: &R, alloc: Global, recovery: &Recovery) -> Result<bool, Fail>
@@ -123,14 +164,9 @@ where
     let mut rests_of_shared = 0u32;
     for rank in 0..recovery.ranks {
         for at in 0..=recovery.script_len(rank) {
-            let text = recovery.with_stop(alloc, rank, at)?;
-            let job = Job::read(alloc, text.as_bytes())?;
-            let ends = lanes(alloc, job.ranks(), job.capacity())?;
-            let report = run_job(rt, alloc, &job, ends, seats(alloc, job.ranks())?)?;
-            rests_of_lanes = rests_of_lanes.saturating_add(rested(&report)? as u32);
-            let ends = shared(alloc, job.ranks(), job.capacity())?;
-            let report = run_job(rt, alloc, &job, ends, seats(alloc, job.ranks())?)?;
-            rests_of_shared = rests_of_shared.saturating_add(rested(&report)? as u32);
+            let (of_lanes, of_shared) = rests_with_stop(rt, alloc, recovery, rank, at)?;
+            rests_of_lanes = rests_of_lanes.saturating_add(of_lanes);
+            rests_of_shared = rests_of_shared.saturating_add(of_shared);
         }
     }
     Ok(rests_of_lanes > 0 && rests_of_shared > 0)

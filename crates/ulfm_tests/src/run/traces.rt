@@ -71,20 +71,33 @@ fn trace_where(alloc: Global, first: &str, second: &str) -> Result<String, Fail>
     Ok(trace)
 }
 
-/// A lane keeps its one place for the first letter. A shared inbox may be full of another rank's.
+/// Whether a trace is that of `SENDS_AND_STOPS`, where the waits of rank 1 have one of these pairs of answers.
+fn has_answers(alloc: Global, trace: &str, answers: &[(&str, &str)]) -> Result<bool, Fail> {
+    for (first, second) in answers {
+        let wanted = trace_where(alloc, first, second)?;
+        if trace == wanted.as_str() {
+            return Ok(true);
+        }
+    }
+    Ok(false)
+}
+
+/// Whether these traces of `SENDS_AND_STOPS` are answered. A lane keeps its one place for the first letter. A shared inbox may be
+/// full of another rank's.
+fn are_answered(alloc: Global, over_lanes: &str, over_shared: &str) -> Result<bool, Fail> {
+    let over = "over 5 ProcFailed";
+    let both = ("done from 0 tag 1 61", "done from 0 tag 1 62");
+    let one = ("done from 0 tag 1 61", over);
+    let of_lanes = has_answers(alloc, over_lanes, &[both, one])?;
+    let of_shared = has_answers(alloc, over_shared, &[both, one, (over, over)])?;
+    Ok(of_lanes && of_shared)
+}
+
 #[test]
 fn sends_and_stops(rt: HostRuntime) -> Result<(), Fail> {
     let alloc = rt.alloc();
-    let over = "over 5 ProcFailed";
-    let both = trace_where(alloc, "done from 0 tag 1 61", "done from 0 tag 1 62")?;
-    let one = trace_where(alloc, "done from 0 tag 1 61", over)?;
-    let none = trace_where(alloc, over, over)?;
     let (over_lanes, over_shared) = traces_of(&rt, alloc, SENDS_AND_STOPS)?;
-    let over_lanes = over_lanes.as_str();
-    assert!(rt; over_lanes == both.as_str() || over_lanes == one.as_str());
-    let over_shared = over_shared.as_str();
-    assert!(rt;
-        over_shared == both.as_str() || over_shared == one.as_str() || over_shared == none.as_str()
-    );
+    let answered = are_answered(alloc, over_lanes.as_str(), over_shared.as_str())?;
+    assert!(rt; answered);
     Ok(())
 }

@@ -8,8 +8,8 @@ use std::test::Fail;
 use std::thread::Threads;
 use ulfm_base::{CallError, Decision, OutOfMemory, RankSet, WorldRank};
 use ulfm_board::{Decider, Seat, seats};
-use ulfm_carrier::lanes;
-use ulfm_run::{at_rest, run_job};
+use ulfm_carrier::{LaneEnds, lanes};
+use ulfm_run::{Report, at_rest, run_job};
 use ulfm_script::{Job, RunFault};
 
 /// All that is sent is taken.
@@ -54,15 +54,23 @@ step = [
 ]
 "#;
 
+/// Whether a job of two ranks that was read comes to rest over lanes.
+fn rests_as_read<R>(rt: &R, alloc: Global, job: &Job) -> Result<bool, Fail>
+where
+    R: Threads + Wait + Sync,
+{
+    let ends = lanes(alloc, 2, job.capacity())?;
+    let report = run_job(rt, alloc, job, ends, seats(alloc, 2)?)?;
+    Ok(at_rest(&report))
+}
+
 /// Whether a job of two ranks comes to rest over lanes.
 fn rests<R>(rt: &R, alloc: Global, text: &str) -> Result<bool, Fail>
 where
     R: Threads + Wait + Sync,
 {
     let job = Job::read(alloc, text.as_bytes())?;
-    let ends = lanes(alloc, 2, job.capacity())?;
-    let report = run_job(rt, alloc, &job, ends, seats(alloc, 2)?)?;
-    Ok(at_rest(&report))
+    rests_as_read(rt, alloc, &job)
 }
 
 #[test]
@@ -166,18 +174,32 @@ fn inventors(alloc: Global, invention: Invention) -> Result<Vec<Inventor>, CallE
     Ok(all)
 }
 
+/// How many reports of a run show that an invention was adopted, 0 where none do.
+fn untrue_reports(run: &Result<Report<LaneEnds, Inventor>, RunFault>) -> usize {
+    match run {
+        Err(RunFault::Untrue(reports)) => reports.len(),
+        _ => 0,
+    }
+}
+
+/// The same of a run over lanes, of a job of four ranks that was read.
+fn caught_as_read<R>(rt: &R, alloc: Global, job: &Job, invention: Invention) -> Result<usize, Fail>
+where
+    R: Threads + Wait + Sync,
+{
+    let ends = lanes(alloc, 4, job.capacity())?;
+    let deciders = inventors(alloc, invention)?;
+    let run = run_job(rt, alloc, job, ends, deciders);
+    Ok(untrue_reports(&run))
+}
+
 /// How many reports show that an invention was adopted over lanes, 0 where none do.
 fn caught<R>(rt: &R, alloc: Global, invention: Invention) -> Result<usize, Fail>
 where
     R: Threads + Wait + Sync,
 {
     let job = Job::read(alloc, SHRINK_OF_FOUR.as_bytes())?;
-    let ends = lanes(alloc, 4, job.capacity())?;
-    let deciders = inventors(alloc, invention)?;
-    match run_job(rt, alloc, &job, ends, deciders) {
-        Err(RunFault::Untrue(reports)) => Ok(reports.len()),
-        _ => Ok(0),
-    }
+    caught_as_read(rt, alloc, &job, invention)
 }
 
 #[test]

@@ -1,11 +1,11 @@
 use Rattle.std.proofs.Common.{◌≡◌, ℕ, false, true, [], ◌∷◌, ◌++◌, length, ap, sym, subst, arith, refl, ◌∙◌, Option, Some, nat_eq, inr, cond, eqb, Contains}
 use Rattle.std.proofs.lemmas.Result.{err_from_is_err_and}
 use Rattle.ulfm_base.specs.Pattern.{Admits}
-use Rattle.ulfm_rank.proofs.Common.{Context, Letter, Pattern, MessageId, Probed, Found, Request, IsMessage, KeepsOne, TellsOf, WouldGet, is_revoked, group_at, members_of, or_empty, find_group, Follows, IsOfGroup, View, State, eq-eqb, is_some, lookup, get, index_map_len, false≢true, history_of, count_before}
+use Rattle.ulfm_rank.proofs.Common.{Context, Letter, Pattern, MessageId, Probed, Found, Request, IsMessage, TellsOf, WouldGet, is_revoked, group_at, members_of, or_empty, find_group, Follows, IsOfGroup, View, State, eq-eqb, is_some, lookup, get, index_map_len, false≢true, history_of, count_before}
 use Rattle.ulfm_rank.proofs.Entries.{shrinks-logged}
 use Rattle.ulfm_rank.proofs.InStep.{count_small, in_step_open}
 use Rattle.ulfm_rank.proofs.Made.{found_group}
-use Rattle.ulfm_rank.proofs.Probing.{finds_none, never_none, keeps, gets, unrevoked}
+use Rattle.ulfm_rank.proofs.Probing.{finds_none, never_none, gets, may_starve, unrevoked}
 use Rattle.ulfm_rank.proofs.Found.{in_step_probed, found_message}
 use Rattle.ulfm_rank.proofs.Requested.{sender_found}
 use Rattle.ulfm_rank.proofs.Whole.{at_most_one, follows_same, follows_requests, holds_same}
@@ -28,10 +28,9 @@ returns-then-not-keeps_match-clause-answer c =
 pub returns-in_err-reserve-clause-refused : goal.returns-in_err-reserve-clause-refused
 returns-in_err-reserve-clause-refused c =
     let k = c.in_ok-pattern.ensures in
-    let p = c.in_ok-pattern.pattern in
     let there = c.keeps_match.ensures.0 c.if-not-keeps_match.false in
     let e = err_from_is_err_and c.from_residual-in_err-reserve.result c.from_residual-in_err-reserve.ensures.1 in
-    rw (e.1, e.2) (inr (k.accepted, (p, k.asks_for, subst (λ (v : View). KeepsOne v.state.log p) c.self.view_is (keeps c.self.invariant.follows.in_step p there.0 there.1 there.2))))
+    rw (e.1, e.2) (inr (k.accepted, may_starve c.self.invariant.follows c.args.self.now.state (ap (λ (v : View). v.state.log) c.self.view_is) c.args.comm c.args.source c.args.tag c.in_ok-pattern.pattern k.accepted k.asks_for there.0 there.1 there.2))
 
 pub invariant_of-self-in_err-reserve-2 : goal.invariant_of-self-in_err-reserve-2
 invariant_of-self-in_err-reserve-2 c = holds_same c.self.inside c.self.invariant refl refl refl refl refl refl refl refl refl refl c.reserve-2.ensures.entries refl c.reserve.ensures.items c.reserve.ensures.len c.reserve.ensures.capacity
@@ -39,10 +38,9 @@ invariant_of-self-in_err-reserve-2 c = holds_same c.self.inside c.self.invariant
 pub returns-in_err-reserve-2-clause-refused : goal.returns-in_err-reserve-2-clause-refused
 returns-in_err-reserve-2-clause-refused c =
     let k = c.in_ok-pattern.ensures in
-    let p = c.in_ok-pattern.pattern in
     let there = c.keeps_match.ensures.0 c.if-not-keeps_match.false in
     let e = err_from_is_err_and c.from_residual-in_err-reserve-2.result c.from_residual-in_err-reserve-2.ensures.1 in
-    rw (e.1, e.2) (inr (k.accepted, (p, k.asks_for, subst (λ (v : View). KeepsOne v.state.log p) c.self.view_is (keeps c.self.invariant.follows.in_step p there.0 there.1 there.2))))
+    rw (e.1, e.2) (inr (k.accepted, may_starve c.self.invariant.follows c.args.self.now.state (ap (λ (v : View). v.state.log) c.self.view_is) c.args.comm c.args.source c.args.tag c.in_ok-pattern.pattern k.accepted k.asks_for there.0 there.1 there.2))
 
 pub probe-requires-clause-countable : goal.probe-requires-clause-countable
 probe-requires-clause-countable c =
