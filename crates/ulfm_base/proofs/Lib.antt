@@ -6,3 +6,4 @@ pub mod Same
 pub mod Among
 pub mod Numbers
 pub mod Places
+pub mod Topics

@@ -1,8 +1,12 @@
--- Sets and listings whose tests pass are equal.
-use Rattle.std.proofs.Common.{◌≡◌, Bool, true, false, Option, Some, None, List, refl, ap}
+-- Sets, contributions and listings whose tests pass are equal.
+use Rattle.std.proofs.Common.{◌≡◌, ℕ, ◌==◌, Bool, true, false, Option, Some, None, List, refl, ap}
 use Rattle.std.specs.Option.{option_eq}
 use mathlib.Core.Bool.{beq}
 use lib.Pointwise.{pointwise, pointwise_decides}
+use Rattle.std.proofs.lemmas.Bool.{and_parts, and_from, eqb-true, eq-eqb}
+use Rattle.std.proofs.lemmas.Option.{same_Some}
+use Rattle.ulfm_base.specs.declared.contribution.Contribution.{Contribution}
+use Rattle.ulfm_base.specs.Topic.{is_contribution}
 use Rattle.ulfm_base.specs.declared.rank_set.RankSet.{RankSet}
 
 bools_decide : (x y : Bool) → (beq x y ≡ true → x ≡ y) × (x ≡ y → beq x y ≡ true)
@@ -16,11 +20,26 @@ sets_decide x y =
     let d = pointwise_decides bools_decide x.members y.members in
     (λ h. λ i. record { members = d.0 h i }, λ e. d.1 (ap (λ (s : RankSet). s.members) e))
 
-options_decide : (x y : Option RankSet) → (option_eq (λ s t. pointwise beq s.members t.members) x y ≡ true → x ≡ y) × (x ≡ y → option_eq (λ s t. pointwise beq s.members t.members) x y ≡ true)
+flags_decide : (x y : Option ℕ) → (option_eq (λ a b. a == b) x y ≡ true → x ≡ y) × (x ≡ y → option_eq (λ a b. a == b) x y ≡ true)
+flags_decide None None = (λ _. refl, λ _. refl)
+flags_decide None (Some t) = (λ h. cc, λ h. cc)
+flags_decide (Some s) None = (λ h. cc, λ h. cc)
+flags_decide (Some s) (Some t) = (λ h. ap Some (eqb-true s t h), λ e. eq-eqb s t (same_Some s t e))
+
+-- contributions are equal exactly where the test passes
+pub contributions_decide : (x y : Contribution) → (is_contribution x y ≡ true → x ≡ y) × (x ≡ y → is_contribution x y ≡ true)
+contributions_decide x y =
+    let known = sets_decide x.known y.known in
+    let flag = flags_decide x.flag y.flag in (
+      λ h. let parts = and_parts (pointwise beq x.known.members y.known.members) (option_eq (λ a b. a == b) x.flag y.flag) h in λ i. record { known = known.0 parts.0 i; flag = flag.0 parts.1 i },
+      λ e. and_from _ _ (known.1 (ap (λ (c : Contribution). c.known) e)) (flag.1 (ap (λ (c : Contribution). c.flag) e)),
+    )
+
+options_decide : (x y : Option Contribution) → (option_eq is_contribution x y ≡ true → x ≡ y) × (x ≡ y → option_eq is_contribution x y ≡ true)
 options_decide None None = (λ _. refl, λ _. refl)
 options_decide None (Some t) = (λ h. cc, λ h. cc)
 options_decide (Some s) None = (λ h. cc, λ h. cc)
-options_decide (Some s) (Some t) = (λ h. ap Some ((sets_decide s t).0 h), λ e. (sets_decide s t).1 cc)
+options_decide (Some s) (Some t) = (λ h. ap Some ((contributions_decide s t).0 h), λ e. (contributions_decide s t).1 cc)
 
-pub entries_decide : (xs ys : List (Option RankSet)) → (pointwise (option_eq (λ s t. pointwise beq s.members t.members)) xs ys ≡ true → xs ≡ ys) × (xs ≡ ys → pointwise (option_eq (λ s t. pointwise beq s.members t.members)) xs ys ≡ true)
+pub entries_decide : (xs ys : List (Option Contribution)) → (pointwise (option_eq is_contribution) xs ys ≡ true → xs ≡ ys) × (xs ≡ ys → pointwise (option_eq is_contribution) xs ys ≡ true)
 entries_decide = pointwise_decides options_decide

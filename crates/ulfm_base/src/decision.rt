@@ -1,26 +1,31 @@
-//! The decision of a shrink (ULFM, shrink).
-ghost use Rattle.std.specs.Prelude.{◌≡◌, ◌↔◌, IsTrue};
-ghost use Rattle.ulfm_base.specs.Decision.{IsLawfulDecision, IsLawfulDecision-prop};
+//! The decisions of shrinks and agreements (ULFM, shrink and agree).
+ghost use Rattle.std.specs.Prelude.{◌≡◌, ℕ, ◌↔◌, IsTrue};
+ghost use Rattle.ulfm_base.specs.Decision.{IsLawfulDecision, IsLawfulDecision-prop, is_listed, left_out};
+ghost use Rattle.ulfm_base.specs.RankSet.{has};
 
-use crate::context::Context;
+use crate::contribution::Contribution;
 use crate::group::Group;
+use crate::rank::WorldRank;
 use crate::rank_set::RankSet;
+use crate::topic::Topic;
 
-/// What a shrink decided: the context of the communicator that is shrunk, its group, each listed rank with the set of
-/// failures that it knew at its entry, the excluded members, and the new group.
+/// What was decided: about which shrink or agreement, the group of its communicator, what each listed rank brought at
+/// its entry, the excluded members, the group without them, and the value of an agreement.
 #[derive(Drop)]
 pub struct Decision {
-    /// Whose communicator is shrunk.
-    pub context: Context,
-    /// The group of that communicator.
+    /// What it is about.
+    pub topic: Topic,
+    /// The group of the communicator.
     pub old: Group,
-    /// By its number, the set of each rank that is listed.
-    pub entries: [Option<RankSet>; 8],
-    /// The members that the new group lacks.
+    /// By its number, what each rank brought that is listed.
+    pub entries: [Option<Contribution>; 8],
+    /// The members that failed.
     pub excluded: RankSet,
-    /// The new group.
+    /// The other members: the new group, where the communicator is shrunk.
     pub fresh: Group,
-    pub ghost lawful: { IsLawfulDecision context.number old entries excluded fresh } by { IsLawfulDecision-prop context.number old entries excluded fresh },
+    /// The AND of the listed flags, in an agreement.
+    pub value: Option<u32>,
+    pub ghost lawful: { IsLawfulDecision topic old entries excluded fresh value } by { IsLawfulDecision-prop topic old entries excluded fresh value },
 }
 
 impl Decision {
@@ -29,11 +34,12 @@ impl Decision {
         ensures { result ≡ self.now }
     {
         Decision {
-            context: self.context,
+            topic: self.topic,
             old: self.old.copied(),
             entries: self.entries,
             excluded: self.excluded,
             fresh: self.fresh.copied(),
+            value: self.value,
         }
     }
 
@@ -41,7 +47,7 @@ impl Decision {
     pub fn is_same(&self, other: &Decision) -> bool
         ensures { IsTrue result ↔ (self.now ≡ other.now) }
     {
-        if self.context != other.context {
+        if self.topic != other.topic {
             return false;
         }
         if !self.old.is_same(&other.old) {
@@ -53,12 +59,35 @@ impl Decision {
         if !self.excluded.is_same(other.excluded) {
             return false;
         }
-        self.fresh.is_same(&other.fresh)
+        if !self.fresh.is_same(&other.fresh) {
+            return false;
+        }
+        self.value == other.value
+    }
+
+    /// The members of the old group that aren't listed, in order (ULFM, `MPI_Comm_agree`). It can't run out of memory.
+    pub fn left_out(&self) -> Group
+        ensures { result ≡ left_out self.now.old self.now.entries }
+    {
+        self.old.excluding(listed(&self.entries))
     }
 }
 
-/// Whether the same ranks are listed with the same sets.
-fn is_same_listing(entries: &[Option<RankSet>; 8], other: &[Option<RankSet>; 8]) -> bool
+/// The ranks that are listed.
+fn listed(entries: &[Option<Contribution>; 8]) -> RankSet
+    ensures { (r : ℕ) → has result r ≡ is_listed entries.now r }
+{
+    let mut ranks = RankSet::new();
+    for number in 0..8 {
+        if entries[number as usize].is_some() {
+            ranks.insert(WorldRank { number });
+        }
+    }
+    ranks
+}
+
+/// Whether the same ranks are listed with the same contributions.
+fn is_same_listing(entries: &[Option<Contribution>; 8], other: &[Option<Contribution>; 8]) -> bool
     ensures { IsTrue result ↔ (entries.now ≡ other.now) }
 {
     entries == other

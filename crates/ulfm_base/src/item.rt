@@ -1,8 +1,8 @@
 //! What ranks hand to one another.
 
 use crate::context::Context;
+use crate::entrance::Entrance;
 use crate::envelope::Letter;
-use crate::rank_set::RankSet;
 
 /// What stands in an outbox and in an inbox. It is copied without memory.
 #[derive(Clone, Copy)]
@@ -13,6 +13,6 @@ pub enum Item {
     Gone,
     /// The notice that a context is revoked.
     Revoke(Context),
-    /// That its sender entered the shrink of a communicator, knowing these ranks to have failed.
-    Enter { context: Context, known: RankSet },
+    /// That its sender entered a shrink or an agreement.
+    Enter(Entrance),
 }

@@ -4,7 +4,9 @@
 
 mod body;
 mod context;
+mod contribution;
 mod decision;
+mod entrance;
 mod envelope;
 mod error;
 mod group;
@@ -13,10 +15,13 @@ mod pattern;
 mod rank;
 mod rank_set;
 mod tag;
+mod topic;
 
 pub use body::Body;
 pub use context::Context;
+pub use contribution::Contribution;
 pub use decision::Decision;
+pub use entrance::Entrance;
 pub use envelope::{Envelope, Letter};
 pub use error::{CallError, OutOfMemory};
 pub use group::Group;
@@ -25,3 +30,4 @@ pub use pattern::{Pattern, Source};
 pub use rank::WorldRank;
 pub use rank_set::RankSet;
 pub use tag::Tag;
+pub use topic::{Purpose, Topic};

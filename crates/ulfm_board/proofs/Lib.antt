@@ -1,2 +1,5 @@
+pub mod Apart
+pub mod Padded
 pub mod Notes
 pub mod Handed
+pub mod Topics

@@ -8,7 +8,7 @@ use Rattle.once_cell.specs.Once.{cell_name}
 use Rattle.crossbeam_utils.specs.declared.cache_padded.CachePadded.{CachePadded}
 use Rattle.crossbeam_utils.specs.Padded.{padded_value}
 use Rattle.ulfm_base.specs.declared.decision.Decision.{Decision}
-use Rattle.ulfm_board.specs.Known.{BothAgree, known_at}
+use Rattle.ulfm_board.specs.Known.{BothAgree}
 use Rattle.ulfm_board.specs.inside.Names.{cell_names, note_names, notes_known}
 
 abbrev Notes : Type 0
@@ -32,7 +32,7 @@ pub tied_after : (notes : Notes) (names : List ℕ) (k : ℕ) (n m : Note Decisi
 tied_after notes names k n m tied here cell = map-set_same (λ (x : Note Decision). x.cell) notes k m n (cell ∙ ap (λ (x : Note Decision). x.cell) here) ∙ tied
 
 -- what the note at a place knows
-pub known_read : (notes : Notes) (k : ℕ) (n : Note Decision) → k < length notes → n ≡ get_or notes k n → known_at (notes_known notes) k ≡ n.known
+pub known_read : (notes : Notes) (k : ℕ) (n : Note Decision) → k < length notes → n ≡ get_or notes k n → get_or (notes_known notes) k None ≡ n.known
 known_read notes k n low here = get_or-map (λ (x : Note Decision). x.known) notes k n None low ∙ ap (λ (x : Note Decision). x.known) (sym here)
 
 -- a note is written over, and what it knows from now on
@@ -43,11 +43,15 @@ known_set notes k m = map-set (λ (x : Note Decision). x.known) notes k m
 pub known_kept : (notes : Notes) (k : ℕ) (n m : Note Decision) → n ≡ get_or notes k n → m.known ≡ n.known → notes_known (set notes k m) ≡ notes_known notes
 known_kept notes k n m here kept = map-set_same (λ (x : Note Decision). x.known) notes k m n (kept ∙ ap (λ (x : Note Decision). x.known) here)
 
+-- notes of boards with the same names are as many
+pub same_count : (xs ys : Notes) → note_names ys ≡ note_names xs → length ys ≡ length xs
+same_count xs ys tied = sym (length-map ys (λ (x : Note Decision). x.cell)) ∙ ap length tied ∙ length-map xs (λ (x : Note Decision). x.cell)
+
 -- notes of boards with the same names, at one place
 pub same_cell : (xs ys : Notes) (k : ℕ) (n m : Note Decision) → note_names ys ≡ note_names xs → k < length xs → n ≡ get_or xs k n → m ≡ get_or ys k m → m.cell ≡ n.cell
 same_cell xs ys k n m tied low here there =
     let f : Note Decision → ℕ = λ x. x.cell in
-    let same : length ys ≡ length xs = sym (length-map ys f) ∙ ap length tied ∙ length-map xs f in
+    let same = same_count xs ys tied in
     let low' : k < length ys = omega arith in
     ap f there ∙ sym (get_or-map f ys k m 0 low') ∙ ap (λ (l : List ℕ). get_or l k 0) tied ∙ get_or-map f xs k n 0 low ∙ ap f (sym here)
 
@@ -72,6 +76,6 @@ unknown_push xs n k unknown new =
 
 -- what two notes at one place say of each other, their lists say there
 pub both_here : (xs ys : Notes) (k : ℕ) (n m : Note Decision) → k < length xs → k < length ys → n ≡ get_or xs k n → m ≡ get_or ys k m
-    → BothAgree n.known m.known → BothAgree (known_at (notes_known xs) k) (known_at (notes_known ys) k)
+    → BothAgree n.known m.known → BothAgree (get_or (notes_known xs) k None) (get_or (notes_known ys) k None)
 both_here xs ys k n m low low' here there h =
     subst (λ (t : Option Decision × Option Decision). BothAgree t.0 t.1) (λ i. (sym (known_read xs k n low here) i, sym (known_read ys k m low' there) i)) h

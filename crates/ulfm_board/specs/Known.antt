@@ -1,18 +1,35 @@
--- What a decider knows of the decisions of shrinks, by the numbers of their contexts.
-use Rattle.std.specs.Prelude.{◌≡◌, ℕ, List, Option, Some, None, IfSome, IsSome, replicate, slice_index_or, slice_set, All}
+-- What a decider knows of the decisions of shrinks and agreements, by the cells of their topics.
+use Rattle.std.specs.Prelude.{◌≡◌, ℕ, suc, ◌+◌, ◌*◌, ◌-◌, ◌++◌, List, length, Option, Some, None, IfSome, IsSome, IsTrue, ◌⊎◌, replicate, slice_index_or, slice_set, All}
 use Rattle.ulfm_base.specs.declared.decision.Decision.{Decision}
+use Rattle.ulfm_base.specs.declared.topic.Purpose.{Purpose}
+use Rattle.ulfm_base.specs.declared.topic.Purpose.TheVariants.{Shrink, Agree}
+use Rattle.ulfm_base.specs.declared.topic.Topic.{Topic}
+use Rattle.ulfm_base.specs.Topic.{is_agreement}
 
--- of no context a decision is known
-abbrev pub nothing_known : List (Option Decision)
-nothing_known = replicate 31 None
+-- which row of cells a purpose has: shrinks have the first, and each round of agreements one of its own
+abbrev pub row_of : Purpose → ℕ
+row_of Shrink = 0
+row_of (Agree round) = suc round
 
--- the decision that is known of the shrink of c, if one is
-abbrev pub known_at : List (Option Decision) → ℕ → Option Decision
-known_at known c = slice_index_or known c None
+-- the cell of a topic: each row has one for each of the contexts 0 to 62
+abbrev pub cell_of : Topic → ℕ
+cell_of topic = 63 * row_of topic.purpose + topic.context.number
 
--- the same with this decision of the shrink of c
-abbrev pub with_known : List (Option Decision) → ℕ → Decision → List (Option Decision)
-with_known known c held = slice_set known c (Some held)
+-- nothing is known, with cells for so many rounds of agreements
+abbrev pub nothing_known : ℕ → List (Option Decision)
+nothing_known rounds = replicate (63 * suc rounds) None
+
+-- the decision that is known on a topic, if one is
+abbrev pub known_at : List (Option Decision) → Topic → Option Decision
+known_at known topic = slice_index_or known (cell_of topic) None
+
+-- the same cells, and empty ones up to this number of cells
+abbrev pub padded : List (Option Decision) → ℕ → List (Option Decision)
+padded known count = known ++ replicate (count - length known) None
+
+-- the same with this decision on a topic
+abbrev pub with_known : List (Option Decision) → Topic → Decision → List (Option Decision)
+with_known known topic held = slice_set (padded known (suc (cell_of topic))) (cell_of topic) (Some held)
 
 -- a decision is the one that was known, if one was
 abbrev pub Agrees : Option Decision → Decision → Type 0
@@ -25,15 +42,15 @@ BothAgree known other = IfSome known (λ d. IfSome other (λ e. e ≡ d))
 -- A decision d is handed in, and one is held from now on: the one that was known, if one was; d itself, if none was known
 -- and the cells aren't shared. It is known from now on, and nothing else changes.
 pub record Answers (board : Option (List ℕ)) (old : List (Option Decision)) (d held : Decision) (new : List (Option Decision)) : Type 0 where
-  pub as_before : Agrees (known_at old d.context.number) held
-  pub first_stays : board ≡ None → known_at old d.context.number ≡ None → held ≡ d
-  pub known_now : known_at new d.context.number ≡ Some held
-  pub others_stay : new ≡ with_known old d.context.number held
+  pub as_before : Agrees (known_at old d.topic) held
+  pub first_stays : board ≡ None → known_at old d.topic ≡ None → held ≡ d
+  pub known_now : known_at new d.topic ≡ Some held
+  pub others_stay : new ≡ with_known old d.topic held
 
--- out of memory: for a shared cell alone, of which nothing is known
-pub record Starves (board : Option (List ℕ)) (known : List (Option Decision)) (c : ℕ) : Type 0 where
-  pub shares : IsSome board
-  pub unknown : known_at known c ≡ None
+-- out of memory: where nothing is known on a topic, for a cell that is shared, or for one of an agreement
+pub record Starves (board : Option (List ℕ)) (known : List (Option Decision)) (topic : Topic) : Type 0 where
+  pub may_grow : IsSome board ⊎ IsTrue (is_agreement topic.purpose)
+  pub unknown : known_at known topic ≡ None
 
 -- all are seats of one board
 abbrev pub OneBoard : {D : Type 0} → (D → Option (List ℕ)) → List D → Type 0

@@ -1,40 +1,39 @@
-//! Who answers for the decisions of shrinks.
+//! Who answers for the decisions of shrinks and agreements.
 ghost use Rattle.std.specs.Prelude.{◌≡◌, ℕ, List, Option, IfOk, OnErr, IsSome};
 ghost use Rattle.ulfm_base.specs.declared.decision.Decision.{Decision as Decided};
+ghost use Rattle.ulfm_base.specs.declared.topic.Topic.{Topic};
 ghost use Rattle.ulfm_board.specs.Known.{Answers, Starves, BothAgree, known_at};
 
 use ulfm_base::{Decision, OutOfMemory};
 
-/// How many communicators have a shrink: those of the contexts 0 to 30.
-pub(crate) const CELLS: usize = 31;
-
-/// Answers one decision for the shrink of each context, 0 to 30: always the first that it answered.
+/// Answers one decision for each shrink and each agreement: always the first that it answered.
 pub trait Decider: Drop {
     /// The names of the cells that it shares with others. `None`: it shares none.
     ghost board: { Self → Option (List ℕ) };
 
-    /// By the number of a context, the decision that it knows of its shrink, if it knows one.
+    /// By the cells of topics, the decision that it knows on each, if it knows one.
     ghost known: { Self → List (Option Decided) };
 
-    /// Hands a decision in, and answers the one that it knows of this shrink from now on: the one that it knew, else, if it
+    /// Hands a decision in, and answers the one that it knows on this topic from now on: the one that it knew, else, if it
     /// shares no cell, this one. That a decider which shares its cells answers the first decision that was handed in at them
     /// is held by tests alone.
     ///
     /// # Errors
     ///
-    /// `OutOfMemory` where its cells are shared, it knew no decision of this shrink, and a growth was refused.
+    /// `OutOfMemory` where it knew no decision on this topic, its cells are shared or it is an agreement, and a growth was
+    /// refused or the board has no cell for its round.
     fn decide(&mut self, decision: Decision) -> Result<Decision, OutOfMemory>
         ensures board { board self.new ≡ board self.old }
         ensures answers { IfOk result (λ held. Answers (board self.old) (known self.old) decision held (known self.new)) }
-        ensures starves { OnErr result (Starves (board self.old) (known self.old) decision.context.number) }
+        ensures starves { OnErr result (Starves (board self.old) (known self.old) decision.topic) }
         ensures unchanged { OnErr result (known self.new ≡ known self.old) };
 
-    /// Two that share their cells know no two decisions of one shrink. It changes nothing, and never answers out of memory.
+    /// Two that share their cells know no two decisions on one topic. It changes nothing, and never answers out of memory.
     fn same(&mut self, other: &mut Self)
         requires { board other.old ≡ board self.old }
         ensures board { board self.new ≡ board self.old }
         ensures board_of_the_other { board other.new ≡ board other.old }
         ensures known { known self.new ≡ known self.old }
         ensures known_to_the_other { known other.new ≡ known other.old }
-        ensures agree { IsSome (board self.old) → (c : ℕ) → BothAgree (known_at (known self.old) c) (known_at (known other.old) c) };
+        ensures agree { IsSome (board self.old) → (topic : Topic) → BothAgree (known_at (known self.old) topic) (known_at (known other.old) topic) };
 }

@@ -1,7 +1,8 @@
-//! One decision for each shrink (ULFM, shrink): a decider answers always what it answered first, and two of one board know
-//! no two. No call takes an `rt`, so none waits.
+//! One decision for each shrink and each agreement (ULFM, shrink and agree): a decider answers always what it answered
+//! first, and two of one board know no two. No call takes an `rt`, so none waits.
 #![tactic(auto)]
 
+mod cells;
 mod decider;
 mod memory;
 mod seat;

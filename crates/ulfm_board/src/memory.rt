@@ -1,45 +1,68 @@
 //! A board of one owner.
-ghost use Rattle.std.specs.Prelude.{◌≡◌, IfOk};
-ghost use Rattle.ulfm_board.specs.Known.{nothing_known};
+ghost use Rattle.std.specs.Prelude.{◌≡◌, ◌<◌, ◌≤◌, suc, vec_len, vec_capacity, IfOk, OnOk, OnErr};
+ghost use Rattle.ulfm_board.specs.Known.{cell_of, nothing_known, padded};
 
-use crate::decider::{CELLS, Decider};
-use std::alloc::Global;
+use crate::cells::{ROW, place_of};
+use crate::decider::Decider;
+use std::alloc::{AllocError, Global};
 use std::marker::Model;
-use ulfm_base::{Decision, OutOfMemory};
+use ulfm_base::{Decision, OutOfMemory, Topic};
 
-/// A board of one owner, for the core and for tests: the first decision handed in for a context stays. Contracts see the
-/// decision of each context 0 to 30, or none, as a list.
+/// A board of one owner, for the core and for tests: the first decision handed in on a topic stays. What it keeps follows the
+/// rounds of agreements in use: it has 63 cells for shrinks, and at most 63 for each round up to the greatest that was decided.
+/// Contracts see the decision of each cell, or none, as a list.
 #[derive(Drop)]
 pub struct MemoryBoard {
     cells: Vec<Option<Decision>>,
 }
 
 impl Model for MemoryBoard {
-    ghost use Rattle.std.specs.Prelude.{◌≡◌, List, Option, length};
+    ghost use Rattle.std.specs.Prelude.{◌≤◌, List, Option, length};
     ghost use Rattle.ulfm_base.specs.declared.decision.Decision.{Decision as Decided};
 
     ghost Value = { List (Option Decided) };
 
     ghost view = { λ b. b.cells.items };
 
-    ghost invariant = { λ b. length b.cells.items ≡ 31 };
+    ghost invariant = { λ b. 63 ≤ length b.cells.items };
 }
 
 impl MemoryBoard {
-    /// A board on which nothing is decided, with room for every decision.
+    /// A board on which nothing is decided, with room for the decision of every shrink.
     ///
     /// # Errors
     ///
     /// `OutOfMemory` where a growth was refused.
     pub fn new(alloc: Global) -> Result<MemoryBoard, OutOfMemory>
-        ensures { IfOk result (λ board. board ≡ nothing_known) }
+        ensures { IfOk result (λ board. board ≡ nothing_known 0) }
     {
         let mut cells = Vec::new(alloc);
-        for _ in 0..CELLS {
+        for _ in 0..ROW {
             cells.push(None)?;
         }
         Ok(MemoryBoard { cells })
     }
+}
+
+/// The place of a topic's cell. Where there is none yet, empty cells are put in up to it, all in one growth.
+fn reach(cells: &mut Vec<Option<Decision>>, topic: Topic) -> Result<usize, OutOfMemory>
+    requires { 0 < vec_len cells.old }
+    ensures place { IfOk result (λ place. place ≡ cell_of topic) }
+    ensures reached { OnOk result (cells.new.items ≡ padded cells.old.items (suc (cell_of topic))) }
+    ensures past { OnErr result (vec_capacity cells.old ≤ cell_of topic) }
+    ensures unchanged { OnErr result (cells.new.items ≡ cells.old.items) }
+{
+    let Some(place) = place_of(topic) else {
+        return Err(AllocError);
+    };
+    if place >= cells.len() {
+        let missing = place - cells.len() + 1;
+        cells.reserve(missing)?;
+        for _ in 0..missing {
+            cells.push_reserved(None);
+        }
+    }
+    Ok(place)
 }
 
 impl Decider for MemoryBoard {
@@ -50,7 +73,7 @@ impl Decider for MemoryBoard {
     ghost known = { λ b. b };
 
     fn decide(&mut self, decision: Decision) -> Result<Decision, OutOfMemory> {
-        let place = decision.context.number as usize;
+        let place = reach(&mut self.cells, decision.topic)?;
         if let Some(first) = &self.cells[place] {
             return Ok(first.copied());
         }

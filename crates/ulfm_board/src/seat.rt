@@ -1,15 +1,16 @@
 //! Seats of one board.
-ghost use Rattle.std.specs.Prelude.{◌≡◌, ◌<◌, ◌≤◌, ◌⊎◌, vec_len, IfOk, IfErr, OnOk, OnErr, All};
+ghost use Rattle.std.specs.Prelude.{◌≡◌, ◌<◌, ◌≤◌, ◌*◌, ◌⊎◌, suc, replicate, vec_len, IfOk, IfErr, OnOk, OnErr, All};
 ghost use Rattle.std.specs.declared.option.Option.TheVariants.{None, Some};
 ghost use Rattle.std.specs.Arc.{arc_value};
 ghost use Rattle.once_cell.specs.Once.{cell_name};
 ghost use Rattle.ulfm_board.specs.Known.{Agrees, BothAgree, nothing_known, OneBoard};
 ghost use Rattle.ulfm_board.specs.inside.Names.{cell_names, note_names};
 
-use crate::decider::{CELLS, Decider};
+use crate::cells::{ROW, place_of};
+use crate::decider::Decider;
 use crossbeam_utils::CachePadded;
 use once_cell::race::{Note, OnceBox};
-use std::alloc::Global;
+use std::alloc::{AllocError, Global};
 use std::sync::Arc;
 use ulfm_base::{CallError, Decision, OutOfMemory};
 
@@ -22,26 +23,27 @@ pub struct Seat {
     alloc: Global,
     cells: Arc<Vec<Cell>>,
     notes: Vec<Note<Decision>>,
-    ghost whole: { vec_len notes ≡ 31 },
+    ghost whole: { 63 ≤ vec_len notes },
     ghost tied: { note_names notes.items ≡ cell_names (arc_value cells).items },
 }
 
-/// As many seats, 1 to 8, of one new board. None knows a decision; that the board holds none is held by tests alone.
+/// As many seats, 1 to 8, of one new board, which has a cell for the shrink of each context, and one for each of its agreements
+/// of the rounds below `rounds`. None knows a decision; that the board holds none is held by tests alone.
 ///
 /// # Errors
 ///
 /// `BadSize` where `n` isn't 1 to 8, else `OutOfMemory` where a growth was refused.
-pub fn seats(alloc: Global, n: u8) -> Result<Vec<Seat>, CallError>
+pub fn seats(alloc: Global, n: u8, rounds: u16) -> Result<Vec<Seat>, CallError>
     ensures in_range { OnOk result ((1 ≤ n) × (n ≤ 8)) }
     ensures count { IfOk result (λ seats. vec_len seats ≡ n) }
     ensures one_board { IfOk result (λ seats. OneBoard ⟦<Seat as Decider>⟧.board seats.items) }
-    ensures nothing_known { IfOk result (λ seats. All (λ seat. ⟦<Seat as Decider>⟧.known seat ≡ nothing_known) seats.items) }
+    ensures nothing_known { IfOk result (λ seats. All (λ seat. ⟦<Seat as Decider>⟧.known seat ≡ nothing_known rounds) seats.items) }
     ensures refused { IfErr result (λ error. ((error ≡ CallError.BadSize) × ((n < 1) ⊎ (8 < n))) ⊎ ((error ≡ CallError.OutOfMemory) × (1 ≤ n) × (n ≤ 8))) }
 {
     if n == 0 || n > 8 {
         return Err(CallError::BadSize);
     }
-    let board = Arc::new(alloc, empty_cells(alloc)?)?;
+    let board = Arc::new(alloc, empty_cells(alloc, rounds)?)?;
     let mut all = Vec::with_capacity(alloc, n as usize)?;
     for _ in 0..n {
         all.push_reserved(new_seat(alloc, Arc::try_clone(&board)?)?);
@@ -49,12 +51,12 @@ pub fn seats(alloc: Global, n: u8) -> Result<Vec<Seat>, CallError>
     Ok(all)
 }
 
-/// A cell for each context that has a shrink, with nothing in it.
-fn empty_cells(alloc: Global) -> Result<Vec<Cell>, OutOfMemory>
-    ensures { IfOk result (λ cells. vec_len cells ≡ 31) }
+/// A row of cells for shrinks and one for each round of agreements below `rounds`, with nothing in them.
+fn empty_cells(alloc: Global, rounds: u16) -> Result<Vec<Cell>, OutOfMemory>
+    ensures { IfOk result (λ cells. vec_len cells ≡ 63 * suc rounds) }
 {
     let mut cells = Vec::new(alloc);
-    for _ in 0..CELLS {
+    for _ in 0..ROW * (rounds as usize + 1) {
         cells.push(CachePadded::new(OnceBox::new(alloc)))?;
     }
     Ok(cells)
@@ -62,12 +64,12 @@ fn empty_cells(alloc: Global) -> Result<Vec<Cell>, OutOfMemory>
 
 /// A seat that knows nothing.
 fn new_seat(alloc: Global, cells: Arc<Vec<Cell>>) -> Result<Seat, OutOfMemory>
-    requires { vec_len (arc_value cells) ≡ 31 }
+    requires { 63 ≤ vec_len (arc_value cells) }
     ensures board { IfOk result (λ seat. ⟦<Seat as Decider>⟧.board seat ≡ Some (cell_names (arc_value cells).items)) }
-    ensures nothing_known { IfOk result (λ seat. ⟦<Seat as Decider>⟧.known seat ≡ nothing_known) }
+    ensures nothing_known { IfOk result (λ seat. ⟦<Seat as Decider>⟧.known seat ≡ replicate (vec_len (arc_value cells)) None) }
 {
     let mut notes = Vec::new(alloc);
-    for place in 0..CELLS {
+    for place in 0..cells.len() {
         let cell: &OnceBox<Decision> = &cells[place];
         notes.push(cell.note())?;
     }
@@ -119,13 +121,18 @@ impl Decider for Seat {
 
     fn decide(&mut self, decision: Decision) -> Result<Decision, OutOfMemory> {
         let alloc = self.alloc;
-        let place = decision.context.number as usize;
+        let Some(place) = place_of(decision.topic) else {
+            return Err(AllocError);
+        };
+        if place >= self.notes.len() {
+            return Err(AllocError);
+        }
         let cell: &OnceBox<Decision> = &self.cells[place];
         decided(alloc, cell, &mut self.notes[place], decision)
     }
 
     fn same(&mut self, other: &mut Seat) {
-        for place in 0..CELLS {
+        for place in 0..self.notes.len() {
             agree(&mut self.notes[place], &mut other.notes[place]);
         }
     }

@@ -9,4 +9,4 @@ pub source_back : (me : WorldRank) (x : Item) → ComesFrom me.number x → item
 source_back me (item.Letter letter) h = ap (λ source. item.Letter (record letter { envelope = record letter.envelope { source = source } })) (same_rank me letter.envelope.source (sym h))
 source_back me item.Gone h = refl
 source_back me (item.Revoke context) h = refl
-source_back me (item.Enter context known) h = refl
+source_back me (item.Enter entrance) h = refl

@@ -10,7 +10,7 @@ abbrev pub signed_by : WorldRank → Item → Item
 signed_by source (item.Letter letter) = item.Letter (record letter { envelope = record letter.envelope { source = source } })
 signed_by source item.Gone = item.Gone
 signed_by source (item.Revoke context) = item.Revoke context
-signed_by source (item.Enter context known) = item.Enter context known
+signed_by source (item.Enter entrance) = item.Enter entrance
 
 -- the source that stands in an item without one
 abbrev pub blank : WorldRank

@@ -42,7 +42,7 @@ module _ (known : Known) (r : State) where
   answered_few done old report new a = elim (answers_plain done old report.step report.answer new a) [ inl same ↦ inl same.0 | inr one ↦ inr (one.0, one.2) ]
 
   opened_few : (done : List StepReport) (old : State) (asked : Step) (new : State) → LeavesOpen done old asked new → AddsFew old new
-  opened_few done old asked new o = elim (opens_adds done old asked new o) [ inl same ↦ inl same | inr entry ↦ inr (Entered entry.0 entry.2.known, entry.2.only) ]
+  opened_few done old asked new o = elim (opens_adds done old asked new o) [ inl same ↦ inl same | inr entry ↦ inr (Entered entry.2.entrance, entry.2.only) ]
 
   adopted : (n : ℕ) (old new : State) (done : List StepReport) (report : StepReport) (comm : Context) (held : Decision) → StoodAt r n old → report.step ≡ Shrink comm → AnswersAdoption old comm held report.answer new → IsBorne done old.log → IsBorne (done ++ report ∷ []) new.log
   adopted n old new done report comm held stood is a borne =

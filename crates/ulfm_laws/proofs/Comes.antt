@@ -59,7 +59,7 @@ come_entry n s c before found (Revoked context) h = come_none (come_clear s c co
 come_entry n s c before found (Took source (Mail letter)) h = come_letter s c before source letter h.1
 come_entry n s c before found (Took source Gone) h = come_none (come_ends s c (λ _ pattern. names pattern.source source.number) 0 found) (no_mail c (eqb source.number s) Gone refl)
 come_entry n s c before found (Took source (Revoke context)) h = come_none (come_clear s c context.number (is_revoked before context.number)) (no_mail c (eqb source.number s) (Revoke context) refl)
-come_entry n s c before found (Took source (Enter context known)) h = come_none refl (no_mail c (eqb source.number s) (Enter context known) refl)
+come_entry n s c before found (Took source (Enter entrance)) h = come_none refl (no_mail c (eqb source.number s) (Enter entrance) refl)
 come_entry n s c before found _ h = come_none refl refl
 
 -- what came is a beginning of what was taken, and all of it where the context isn't revoked

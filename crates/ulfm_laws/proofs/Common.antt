@@ -53,8 +53,12 @@ pub use Rattle.ulfm_script.specs.Deciding.{AnswersAdoption, AnswersDecision, IsD
 pub use Rattle.std.proofs.lemmas.Grind.{flat_map-append}
 pub use Rattle.std.specs.Prelude.{All, if◌then◌else◌, nat_eq, not, slice_get, ⊤, ◌&&◌, ◌==◌}
 pub use Rattle.ulfm_base.proofs.Numbers.{same_context, same_rank}
-pub use Rattle.ulfm_base.specs.declared.rank_set.RankSet.{RankSet}
-pub use Rattle.ulfm_laws.specs.Shrinks.{AdoptOne, AdoptOwn, AllEntered, EnterOnce, EntersEachOnce, HasOneGroup, IsOwn, ProposesEach}
+pub use Rattle.ulfm_base.specs.declared.contribution.Contribution.{Contribution}
+pub use Rattle.ulfm_base.specs.declared.entrance.Entrance.{Entrance}
+pub use Rattle.ulfm_base.specs.declared.topic.Topic.{Topic}
+pub use Rattle.ulfm_base.specs.Topic.{is_topic, shrink_topic}
+pub use Rattle.ulfm_base.proofs.Topics.{topics_equal}
+pub use Rattle.ulfm_laws.specs.Decisions.{AdoptOne, AdoptOwn, AllEntered, EnterOnce, EntersEachOnce, HasOneGroup, IsOwn, ProposesEach}
 pub use Rattle.ulfm_match.proofs.Cut.{get_front, get_in_front}
 pub use Rattle.ulfm_match.proofs.Exists.{some_pairing}
 pub use Rattle.ulfm_rank.proofs.Belonging.{EntersOnce, Keeps, keeps-push, keeps-start, same_numbers}

@@ -1,8 +1,8 @@
 -- Reports in rank order between which items flow, and what one of them heard of another.
 use Rattle.std.proofs.Common.{◌≡◌, ℕ, Bool, true, false, cond, eqb, List, [], ◌∷◌, ◌++◌, length, refl, ap, sym, ◌∙◌, inl, inr, append_assoc, Some, slice_get}
-use Rattle.ulfm_laws.proofs.Common.{Item, Gone, items_from, State, owes, outbox, Report, false≢true, cases_Bool, cases_eq, eqb-true, or_left, same_Some, took, is_gone, is_gone_item, is_stopped, Inboxes, inbox_of, IsBeginning, Flow, Flows, HasStopped, list_any, list_any-append, owed, RankSet, first_given, own_set, or_none, or_else_first, first_set, set-append, heard-took}
+use Rattle.ulfm_laws.proofs.Common.{Item, Gone, items_from, State, owes, outbox, Report, false≢true, cases_Bool, cases_eq, eqb-true, or_left, same_Some, took, is_gone, is_gone_item, is_stopped, Inboxes, inbox_of, IsBeginning, Flow, Flows, HasStopped, list_any, list_any-append, owed, Topic, Contribution, first_given, own_set, or_none, or_else_first, first_set, set-append, heard-took}
 use Rattle.ulfm_base.specs.Lists.{at, InPlace}
-use Rattle.ulfm_rank.specs.Shrink.{entry_of, heard_of, listed_of}
+use Rattle.ulfm_rank.specs.Proposal.{entry_of, heard_of, listed_of}
 use Rattle.ulfm_rank.proofs.Owing.{OwesOwn}
 use Rattle.ulfm_rank.proofs.Told.{owed_not_gone, gone-took}
 
@@ -50,11 +50,11 @@ gone_stopped {inboxes} {reports} h s d sender receiver p q gone = elim (cases_Bo
   | inr running ↦ absurd (false≢true (sym (running-not_gone h s d p q running) ∙ gone))
 ]
 
-set_begun : (c : ℕ) (xs ys : List Item) {set : RankSet} → IsBeginning xs ys → first_set c xs ≡ Some set → first_set c ys ≡ Some set
+set_begun : (c : Topic) (xs ys : List Item) {set : Contribution} → IsBeginning xs ys → first_set c xs ≡ Some set → first_set c ys ≡ Some set
 set_begun c xs ys {set} b h = ap (first_set c) (sym b.1) ∙ set-append c xs b.0 ∙ or_else_first (first_set c xs) (first_set c b.0) set h
 
 -- the first entry that arrived is the first that is owed, also before a notice
-set_arrived : {sender : State} (s d c : ℕ) {xs : List Item} (set : RankSet) → Flow sender s d xs → first_set c xs ≡ Some set → first_set c (owes sender d) ≡ Some set
+set_arrived : {sender : State} (s d : ℕ) (c : Topic) {xs : List Item} (set : Contribution) → Flow sender s d xs → first_set c xs ≡ Some set → first_set c (owes sender d) ≡ Some set
 set_arrived {sender} s d c {xs} set h heard = elim (cases_eq s d) [
   | inl same ↦ set_begun c xs (owes sender d) (arrived_owed d h (λ stopped. same)) heard
   | inr other ↦ elim (cases_Bool (is_stopped sender.log)) [
@@ -66,11 +66,11 @@ set_arrived {sender} s d c {xs} set h heard = elim (cases_eq s d) [
   ]
 ]
   where
-    before_notice : (c : ℕ) (xs : List Item) (set : RankSet) → first_set c (xs ++ Gone ∷ []) ≡ Some set → first_set c xs ≡ Some set
+    before_notice : (c : Topic) (xs : List Item) (set : Contribution) → first_set c (xs ++ Gone ∷ []) ≡ Some set → first_set c xs ≡ Some set
     before_notice c xs set h = sym (or_none (first_set c xs)) ∙ sym (set-append c xs (Gone ∷ [])) ∙ h
 
--- the set under which a rank lists another is that of the other's own entry
-pub listed_own : {inboxes : Inboxes} {reports : List Report} → AreFlowing inboxes reports → (r s c : ℕ) {lister member : Report} (set : RankSet) → at reports r lister → at reports s member → OwesOwn (length reports) s member.rank.log
+-- what a rank lists another with is what the other's own entrance brings
+pub listed_own : {inboxes : Inboxes} {reports : List Report} → AreFlowing inboxes reports → (r s : ℕ) (c : Topic) {lister member : Report} (set : Contribution) → at reports r lister → at reports s member → OwesOwn (length reports) s member.rank.log
     → listed_of r lister.rank.log c s ≡ Some set → own_set member.rank.log c ≡ Some set
 listed_own {inboxes} {reports} h r s c {lister} {member} set p q owns listed = pick (eqb s r) refl listed
   where

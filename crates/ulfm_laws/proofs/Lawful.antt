@@ -42,10 +42,10 @@ module _ (job : Seen) (inboxes : Inboxes) (knows : List Known) (reports : List R
   adopt_one : AdoptOne reports
   adopt_one r s told other d e at_r at_s first second same =
       let x = known_of r at_r in let y = known_of s at_s in
-      let e_known = ap (λ c. known_at y.0 c.number) same ∙ (adopt_own s other y.0 e at_s y.1 second).held in
-      let both = h.agreed r s x.0 y.0 x.1 y.1 d.context.number in
+      let e_known = ap (known_at y.0) same ∙ (adopt_own s other y.0 e at_s y.1 second).held in
+      let both = h.agreed r s x.0 y.0 x.1 y.1 d.topic in
       let B = BothAgree in
-      sym (subst (λ o. B (Some d) o) e_known (subst (λ o. B o (known_at y.0 d.context.number)) ((adopt_own r told x.0 d at_r x.1 first).held) both))
+      sym (subst (λ o. B (Some d) o) e_known (subst (λ o. B o (known_at y.0 d.topic)) ((adopt_own r told x.0 d at_r x.1 first).held) both))
 
   all_keep : AllKeep reports
   all_keep r told here =

@@ -47,11 +47,11 @@ owed_entry n me c d before found (Sent to letter) = one (eqb letter.envelope.con
     one false true e = rw e refl
     one false false e = refl
 owed_entry n me c d before found (Revoked context) = unsent c (is_revoked before context.number) (is_told me before d) (Revoke context) refl
-owed_entry n me c d before found (Entered context known) = no_mail c (is_member (members_of n before context.number) d && is_told me before d) (Enter context known) refl
+owed_entry n me c d before found (Entered entrance) = no_mail c (is_member (members_of n before entrance.topic.context.number) d && is_told me before d) (Enter entrance) refl
 owed_entry n me c d before found (Took source (Revoke context)) = unsent c (is_revoked before context.number) (is_told me before d) (Revoke context) refl
 owed_entry n me c d before found (Took source (Mail letter)) = refl
 owed_entry n me c d before found (Took source Gone) = refl
-owed_entry n me c d before found (Took source (Enter context known)) = refl
+owed_entry n me c d before found (Took source (Enter entrance)) = refl
 owed_entry n me c d before found _ = refl
 
 pub mail_owed : (n me c d : ℕ) (log : List Entry) → mail c (owed n me log d) ≡ mail_sent c d log

@@ -1,8 +1,14 @@
--- Ranks that adopted one decision for each context have one group for each communicator that they made.
+-- Ranks that adopted one decision on each topic have one group for each communicator that they made.
 use Rattle.std.proofs.Common.{◌≡◌, ℕ, zero, suc, ◌<◌, List, ap, sym, ◌∙◌, arith, inl, inr, Some, All}
-use Rattle.ulfm_laws.proofs.Common.{at, Entry, group_of, Report, same_Some, slice_get-get_or, members_found, some_from, AdoptOne, HasOneGroup, same_context}
+use Rattle.ulfm_laws.proofs.Common.{at, Decision, Entry, group_of, Report, same_Some, slice_get-get_or, members_found, some_from, AdoptOne, HasOneGroup, same_context}
 use Rattle.ulfm_base.specs.Context.{shrink_of}
 use Rattle.ulfm_rank.proofs.Parents.{HasAdoption, world_group, parent_group, adopted_group, context_cases}
+
+-- decisions of one purpose on contexts of one number are on one topic
+same_topic : (d e : Decision) → d.topic.purpose ≡ e.topic.purpose → d.topic.context.number ≡ e.topic.context.number → d.topic ≡ e.topic
+same_topic d e purpose number =
+    let context = same_context d.topic.context e.topic.context number in
+    λ i. record { context = context i; purpose = purpose i }
 
 -- an entry stands somewhere in a log
 abbrev StandsIn : List Entry → Entry → Type 0
@@ -26,7 +32,7 @@ module _ (reports : List Report) (one : AdoptOne reports) (n : ℕ) where
     | inr (inr d) ↦
         let mine = adopted_in told d.0 g (ap (group_of n told.rank.log) (sym d.1) ∙ made) in
         let yours = adopted_in other d.0 h (ap (group_of n other.rank.log) (sym d.1) ∙ theirs) in
-        let same = one r s told other mine.decision yours.decision here yonder mine.holds yours.holds (same_context mine.decision.context yours.decision.context (mine.context ∙ sym yours.context)) in
+        let same = one r s told other mine.decision yours.decision here yonder mine.holds yours.holds (same_topic mine.decision yours.decision (mine.shrinks ∙ sym yours.shrinks) (mine.context ∙ sym yours.context)) in
         sym mine.group ∙ ap (λ x. x.fresh) same ∙ yours.group
   ]
 

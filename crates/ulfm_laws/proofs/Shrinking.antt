@@ -9,7 +9,7 @@ use Rattle.ulfm_laws.proofs.Closing.{IsTrueOf}
 pub true-open : {done : List StepReport} (r : State) (asked : Step) (new : State) → IsTrueOf r done → LeavesOpen done r asked new → IsTrueOf new done
 true-open r (Wait req) new h o = rw o.only h
 true-open r (Probe source tag comm) new h o = rw o.2 h
-true-open {done} r (Shrink comm) new h o = rw o.1.only (true-idle (Entered comm o.1.known) tt h)
+true-open {done} r (Shrink comm) new h o = rw o.1.only (true-idle (Entered o.1.entrance) tt h)
 true-open r _ new h o = absurd o
 
 -- a poll that leaves its step open keeps the steps true

@@ -47,7 +47,7 @@ from-events n log h (Took source (Mail letter)) own =
     (λ l e. let same : letter ≡ l = cc in rw (sym own.1 ∙ ap (λ m. m.envelope.source) same) at own.0)
 from-events n log h (Took source Gone) own = from-ends n (λ _ p. names p.source source.number) 0 h
 from-events n log h (Took source (Revoke context)) own = from-cond n (is_revoked log context.number) (Clear context.number) (λ l e. absurd (cc))
-from-events n log h (Took source (Enter context known)) own = from-nil n
+from-events n log h (Took source (Enter entrance)) own = from-nil n
 from-events n log h _ own = from-nil n
 
 -- a letter that came is from one of the ranks that the log took from

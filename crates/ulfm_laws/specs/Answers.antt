@@ -1,6 +1,7 @@
 -- What the steps of each rank were answered, and with what decisions.
 use Rattle.std.specs.Prelude.{ℕ, List}
 use Rattle.ulfm_base.specs.Lists.{at}
+use Rattle.ulfm_base.specs.declared.topic.Topic.{Topic}
 use Rattle.ulfm_board.specs.Known.{BothAgree, known_at}
 use Rattle.ulfm_script.specs.Answered.{AnswersFollow}
 use Rattle.ulfm_script.specs.Deciding.{Known}
@@ -18,11 +19,11 @@ abbrev pub AllAnswersFollow : List Known → List Report → Type 0
 AllAnswersFollow knows reports =
     (k : ℕ) (report : Report) (known : Known) → at reports k report → at knows k known → AnswersFollow known report
 
--- at these two places no two decisions of one shrink are known
+-- at these two places no two decisions on one topic are known
 abbrev pub AgreeAt : List Known → ℕ → ℕ → Type 0
 AgreeAt knows i j =
-    (one other : Known) → at knows i one → at knows j other → (c : ℕ) → BothAgree (known_at one c) (known_at other c)
+    (one other : Known) → at knows i one → at knows j other → (topic : Topic) → BothAgree (known_at one topic) (known_at other topic)
 
--- nowhere two decisions of one shrink are known
+-- nowhere two decisions on one topic are known
 abbrev pub AllAgree : List Known → Type 0
 AllAgree knows = (i j : ℕ) → AgreeAt knows i j

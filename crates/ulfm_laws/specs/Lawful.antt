@@ -10,10 +10,10 @@ use Rattle.ulfm_laws.specs.Flow.{Inboxes, Flows}
 use Rattle.ulfm_laws.specs.Reader.{IsFaithful, AllHasCome}
 use Rattle.ulfm_laws.specs.Reports.{IsEach}
 use Rattle.ulfm_laws.specs.Rest.{IsAtRest, KnowsStopped, AgreesOnRevoked}
-use Rattle.ulfm_laws.specs.Shrinks.{AdoptOwn, AdoptOne, AreTrue, EnterOnce, HasOneGroup, ProposesEach}
+use Rattle.ulfm_laws.specs.Decisions.{AdoptOwn, AdoptOne, AreTrue, EnterOnce, HasOneGroup, ProposesEach}
 
 -- Where nothing waits for any running rank: each of them knows each stopped one, and all agree on revocations. Where all running
--- members of a communicator entered its shrink, each of them has a proposal. What running ranks sent to one another has come.
+-- members of a communicator entered its shrink, or one agreement on it, each of them has a proposal there. What running ranks sent to one another has come.
 pub record KnowAtRest (reports : List Report) : Type 0 where
   pub known : KnowsStopped reports
   pub agreed : AgreesOnRevoked reports
@@ -22,7 +22,7 @@ pub record KnowAtRest (reports : List Report) : Type 0 where
 
 -- What an engine has to produce: a report for each rank, in rank order, whose script was played; items flow between each
 -- ordered pair of ranks; each answer is its step's answer by the one lawful pairing of the rank's log, where a decision is the
--- one that is known for this rank; no two decisions of one shrink are known, and those adopted are true of what ranks did;
+-- one that is known for this rank; no two decisions on one topic are known, and those adopted are true of what ranks did;
 -- and each revocation was made by some rank's own call.
 pub record AreProduced (job : Seen) (inboxes : Inboxes) (knows : List Known) (reports : List Report) : Type 0 where
   pub each : IsEach job reports
@@ -38,7 +38,7 @@ pub record AreProduced (job : Seen) (inboxes : Inboxes) (knows : List Known) (re
 -- The headline. What a rank took from each sender is, once and in order, a beginning of what that sender sent. Its receives
 -- are paired with letters by the one lawful pairing; after a revocation no receive there is paired; wildcards pend exactly at
 -- unacknowledged known failures. Who is known to have failed has stopped, and what is revoked some rank's own call revoked.
--- Ranks enter each shrink once. Those that shrank hold one decision, survivors in order, and have one group. Each rank went
+-- Ranks enter each shrink and each agreement once. Those that decided on one topic hold one decision, survivors in order, and have one group. Each rank went
 -- through its script, and the reports stand in rank order. What they tell of letters is true of what was sent. At rest all
 -- running ranks know what happened.
 pub record LawfulReport (job : Seen) (inboxes : Inboxes) (knows : List Known) (reports : List Report) : Type 0 where

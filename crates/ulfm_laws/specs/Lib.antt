@@ -1,7 +1,7 @@
 pub mod Reports
 pub mod Flow
 pub mod Answers
-pub mod Shrinks
+pub mod Decisions
 pub mod Rest
 pub mod Reader
 pub mod Lawful

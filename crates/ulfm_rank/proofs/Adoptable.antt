@@ -1,22 +1,21 @@
 -- Which decision is adopted, and the communicator that it makes.
-use Rattle.std.proofs.Common.{◌≡◌, ℕ, ◌<◌, Bool, true, false, cond, List, [], ◌∷◌, ◌++◌, refl, ap, sym, subst, ◌∙◌, arith, Some, None, ◌||◌, ◌==◌, not, is_some, All}
-use Rattle.ulfm_rank.proofs.Common.{Decision, dup_of, shrink_of, numbers_from, has, Entry, Duplicated, Adopted, is_stopped, eqb-true, eqb-false, eq-eqb, ne_eqb, All-append, All-filter, find_group, copy_of, made_by, group_of, HasCommunicators, adopts, has_adopted, has_entered, is_foreign, State}
-use Rattle.ulfm_base.specs.declared.error.CallError.TheVariants.{NoComm, AlreadyMade, NotEntered, NotMember, Stopped}
-use Rattle.ulfm_rank.specs.Checks.{first_refusal, Passes, lacks, group_at, comm_checks, adopt_checks}
+use Rattle.std.proofs.Common.{◌≡◌, ℕ, ◌<◌, Bool, true, false, cond, List, [], ◌∷◌, ◌++◌, refl, ap, sym, subst, ◌∙◌, arith, Some, None, ◌||◌, ◌==◌, ◌&&◌, not, is_some, All}
+use Rattle.std.proofs.Math.Bool.{and-true, and-false}
+use Rattle.ulfm_base.specs.Topic.{is_agreement, is_purpose}
+use Rattle.ulfm_rank.proofs.Common.{Context, Purpose, Shrink, Agree, shrink_topic, decided_comm, Decision, dup_of, shrink_of, numbers_from, has, Entry, Duplicated, Adopted, false≢true, eqb-true, eqb-false, eq-eqb, ne_eqb, All-append, All-filter, All-nil, find_group, copy_of, made_by, group_of, HasCommunicators, adopts, has_adopted}
+use Rattle.ulfm_base.specs.declared.error.CallError.TheVariants.{NoComm, AlreadyMade, NotEntered, NotMember, OutOfMemory, Stopped}
+use Rattle.ulfm_rank.specs.Checks.{Fails}
 use Rattle.ulfm_rank.proofs.Gather.{gathered_all, any-push}
 use Rattle.ulfm_rank.proofs.Made.{comms-push, found_of_world, All-one}
-use Rattle.ulfm_rank.proofs.Refusals.{goes_on, passes_two}
 
--- a decision for which all checks pass but perhaps the last
-pub adoptable : (r : State) (c : ℕ) (d : Decision) (foreign : Bool) → Passes (comm_checks r c []) → has_adopted r.log c ≡ false → has_entered r.log c ≡ true → is_foreign r.me (group_at r c) r.log c d ≡ foreign → first_refusal (adopt_checks r c d) ≡ cond foreign (Some NotMember) None
-adoptable r c d foreign passes adopted entered known =
-    let three = (is_foreign r.me (group_at r c) r.log c d, NotMember) ∷ [] in
-    let two = (not (has_entered r.log c), NotEntered) ∷ three in
-    let one = (has_adopted r.log c, AlreadyMade) ∷ two in
-    passes_two (is_stopped r.log) (lacks r c) Stopped NoComm one _ passes
-    (goes_on (has_adopted r.log c) AlreadyMade two _ adopted
-    (goes_on (not (has_entered r.log c)) NotEntered three _ (ap not entered)
-    (ap (λ b. cond b (Some NotMember) None) known)))
+-- an adoption that a check refuses isn't refused for lack of memory
+pub never_starved : (a b d e f : Bool) → Fails ((a, Stopped) ∷ (b, NoComm) ∷ (d, AlreadyMade) ∷ (e, NotEntered) ∷ (f, NotMember) ∷ []) OutOfMemory → ⊥
+never_starved true b d e f h = cc
+never_starved false true d e f h = cc
+never_starved false false true e f h = cc
+never_starved false false false true f h = cc
+never_starved false false false false true h = cc
+never_starved false false false false false h = cc
 
 found-append : (c : ℕ) (xs ys : List (ℕ × List ℕ)) → is_some (find_group c (xs ++ ys)) ≡ (is_some (find_group c xs) || is_some (find_group c ys))
 found-append c [] ys = refl
@@ -45,28 +44,46 @@ same_shrink a b = pick (a == b) refl
     pick true e = eq-eqb (shrink_of a) (shrink_of b) (ap shrink_of (eqb-true a b e))
     pick false e = ne_eqb (shrink_of a) (shrink_of b) (λ k. eqb-false a b e (omega (arith, k)))
 
--- what an entry makes is the communicator of a shrink exactly where it adopts its decision
-made_shrunk : (c : ℕ) (before : List Entry) (comms : List (ℕ × List ℕ)) (e : Entry) → is_some (find_group (shrink_of c) (made_by before comms e)) ≡ adopts c e
-made_shrunk c before comms (Duplicated context) = none_copied c context.number comms
-made_shrunk c before comms (Adopted decision) = pick (shrink_of decision.context.number == shrink_of c) ∙ same_shrink decision.context.number c
+-- what a decision makes is the communicator of a shrink exactly where it is about this shrink
+decided_shrunk : (context : Context) (purpose : Purpose) (d : ℕ) (fresh : List ℕ) → is_some (find_group (shrink_of context.number) (decided_comm purpose d fresh)) ≡ ((d == context.number) && is_purpose purpose Shrink)
+decided_shrunk context Shrink d fresh = pick (shrink_of d == shrink_of context.number) ∙ same_shrink d context.number ∙ sym (and-true (d == context.number))
   where
-    pick : (b : Bool) → is_some (cond b (Some decision.fresh) None) ≡ b
+    pick : (b : Bool) → is_some (cond b (Some fresh) None) ≡ b
     pick true = refl
     pick false = refl
-made_shrunk c before comms e = refl
+decided_shrunk context (Agree round) d fresh = sym (and-false (d == context.number))
+
+-- what an entry makes is the communicator of a shrink exactly where it adopts its decision
+made_shrunk : (context : Context) (before : List Entry) (comms : List (ℕ × List ℕ)) (e : Entry) → is_some (find_group (shrink_of context.number) (made_by before comms e)) ≡ adopts (shrink_topic context) e
+made_shrunk context before comms (Duplicated parent) = none_copied context.number parent.number comms
+made_shrunk context before comms (Adopted decision) = decided_shrunk context decision.topic.purpose decision.topic.context.number decision.fresh
+made_shrunk context before comms e = refl
 
 -- the communicator of a shrink was made exactly where its decision was adopted
-pub made_adopted : (n : ℕ) (log : List Entry) (c : ℕ) → is_some (group_of n log (shrink_of c)) ≡ has_adopted log c
-made_adopted n log c = gathered_all made_by (λ l found. is_some (find_group (shrink_of c) found) ≡ has_adopted l c)
-    (λ l found e h. found-append (shrink_of c) found (made_by l found e) ∙ ap (λ b. b || is_some (find_group (shrink_of c) (made_by l found e))) h ∙ ap (λ b. has_adopted l c || b) (made_shrunk c l found e) ∙ sym (any-push (adopts c) l e))
+pub made_adopted : (n : ℕ) (log : List Entry) (context : Context) → is_some (group_of n log (shrink_of context.number)) ≡ has_adopted log (shrink_topic context)
+made_adopted n log context =
+    let c = context.number in
+    let t = shrink_topic context in
+    gathered_all made_by (λ l found. is_some (find_group (shrink_of c) found) ≡ has_adopted l t)
+    (λ l found e h. found-append (shrink_of c) found (made_by l found e) ∙ ap (λ b. b || is_some (find_group (shrink_of c) (made_by l found e))) h ∙ ap (λ b. has_adopted l t || b) (made_shrunk context l found e) ∙ sym (any-push (adopts t) l e))
     ((0, numbers_from 0 n) ∷ []) (ap (λ b. is_some (cond b (Some (numbers_from 0 n)) None)) (ne_eqb 0 (shrink_of c) (λ e. omega (arith, e)))) log
 
+-- an agreement makes no communicator
+pub none_agreed : (purpose : Purpose) (c : ℕ) (fresh : List ℕ) → is_agreement purpose ≡ true → decided_comm purpose c fresh ≡ []
+none_agreed Shrink c fresh h = absurd (false≢true h)
+none_agreed (Agree round) c fresh h = refl
+
+all_decided : (P : List ℕ → Type 0) (purpose : Purpose) (c : ℕ) (fresh : List ℕ) → P fresh → All (λ (comm : ℕ × List ℕ). P comm.1) (decided_comm purpose c fresh)
+all_decided P Shrink c fresh p = All-one (λ (comm : ℕ × List ℕ). P comm.1) (shrink_of c, fresh) p
+all_decided P (Agree round) c fresh p = All-nil (λ (comm : ℕ × List ℕ). P comm.1)
+
 -- the new group of a decision has the members that it keeps of the old one
-pub communicators-adopted : {n : ℕ} {log : List Entry} (d : Decision) {comms : List (ℕ × List ℕ)} → HasCommunicators n log comms → find_group d.context.number comms ≡ Some d.old → HasCommunicators n (log ++ Adopted d ∷ []) (comms ++ (shrink_of d.context.number, d.fresh) ∷ [])
+pub communicators-adopted : {n : ℕ} {log : List Entry} (d : Decision) {comms : List (ℕ × List ℕ)} → HasCommunicators n log comms → find_group d.topic.context.number comms ≡ Some d.old → HasCommunicators n (log ++ Adopted d ∷ []) (comms ++ decided_comm d.topic.purpose d.topic.context.number d.fresh)
 communicators-adopted {n} {log} d {comms} h found =
     let P = λ (g : List ℕ). All (λ r. r < n) g in
-    let fresh : P d.fresh = subst P (sym d.lawful.survivors) (All-filter (λ m. not (has d.excluded m)) (λ r. r < n) d.old (found_of_world n d.context.number comms d.old h.of_world found)) in
+    let c = d.topic.context.number in
+    let fresh : P d.fresh = subst P (sym d.lawful.survivors) (All-filter (λ m. not (has d.excluded m)) (λ r. r < n) d.old (found_of_world n c comms d.old h.of_world found)) in
     record {
-      made = ap (λ xs. xs ++ (shrink_of d.context.number, d.fresh) ∷ []) h.made ∙ sym (comms-push n log (Adopted d));
-      of_world = All-append (λ (comm : ℕ × List ℕ). P comm.1) comms ((shrink_of d.context.number, d.fresh) ∷ []) h.of_world (All-one (λ (comm : ℕ × List ℕ). P comm.1) (shrink_of d.context.number, d.fresh) fresh);
+      made = ap (λ xs. xs ++ decided_comm d.topic.purpose c d.fresh) h.made ∙ sym (comms-push n log (Adopted d));
+      of_world = All-append (λ (comm : ℕ × List ℕ). P comm.1) comms (decided_comm d.topic.purpose c d.fresh) h.of_world (all_decided P d.topic.purpose c d.fresh fresh);
     }

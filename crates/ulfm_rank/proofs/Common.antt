@@ -1,5 +1,12 @@
 -- The names that most proofs of ranks cite, passed on from one place. Declares nothing.
 pub use Rattle.ulfm_base.specs.Context.{shrink_of, dup_of}
+pub use Rattle.ulfm_base.specs.Topic.{HasShrink, agreement_topic, is_agreement, is_contribution, is_topic, shrink_topic}
+pub use Rattle.ulfm_base.specs.declared.topic.Topic.{Topic}
+pub use Rattle.ulfm_base.specs.declared.topic.Purpose.{Purpose}
+pub use Rattle.ulfm_base.specs.declared.topic.Purpose.TheVariants.{Shrink, Agree}
+pub use Rattle.ulfm_base.specs.declared.contribution.Contribution.{Contribution}
+pub use Rattle.ulfm_base.specs.declared.entrance.Entrance.{Entrance}
+pub use Rattle.ulfm_base.proofs.Topics.{topic_itself, topic_passes, topics_equal}
 pub use Rattle.ulfm_base.specs.Decision.{entry_at, in_entry, is_listed}
 pub use Rattle.ulfm_base.specs.Group.{is_member, numbers_from, excluding, including, intersection, one_further, rank_in}
 pub use Rattle.ulfm_base.specs.RankSet.{has, IsSubset}
@@ -15,16 +22,16 @@ pub use Rattle.ulfm_match.specs.History.{Event, Clear, count_before, Come, Post,
 pub use Rattle.ulfm_match.specs.Pairing.{Pairing, LawfulPairing, IsKept, IsWaiting, Pairs, pairs_below}
 pub use Rattle.ulfm_rank.specs.Answer.{IsRequest, IsNoRequest, Got, IsAnswerBy, IsOpenReceive, IsOver, IsReceived, IsTestAnswer, IsUnpaired, StandsFirst, is_release, pends}
 pub use Rattle.ulfm_rank.specs.Checks.{group_at}
-pub use Rattle.ulfm_rank.specs.Communicators.{find_group, group_of, members_of, or_empty, comms_of, copy_of, is_made, made_by}
+pub use Rattle.ulfm_rank.specs.Communicators.{decided_comm, find_group, group_of, members_of, or_empty, comms_of, copy_of, is_made, made_by}
 pub use Rattle.ulfm_rank.specs.Facts.{is_stopped, is_revoked, is_gone, is_stop, is_released, is_probed, probes, took, took_by}
-pub use Rattle.ulfm_rank.specs.inside.Fields.{HasFaults, AreApart, AreOfWorld, HasCommunicators, HasEntries, HasShrinks, Notes, by_number, names_known, number_of, pends_by, set_of, was_revoked_in}
+pub use Rattle.ulfm_rank.specs.inside.Fields.{HasFaults, AreApart, AreOfWorld, HasCommunicators, HasEntries, by_number, given_by, names_known, number_of, pends_by, told_of, was_revoked_in}
 pub use Rattle.ulfm_rank.specs.History.{history_of, events_by, end_at, end_numbered, ends_from, ends_of, item_events, names_gone, post_events}
 pub use Rattle.ulfm_rank.specs.inside.Rank.{state_of, Follows, Holds, stop_places}
 pub use Rattle.ulfm_rank.specs.Log.{or_else, first_given}
 pub use Rattle.ulfm_rank.specs.inside.Outboxes.{Box, for_each, AllGrow, Boxes, Grows, HasOutboxes, Slot, box_at, contents_of, empty_box, has_room, item_at, item_of_entry, mark_of, passed_item, with_items_out, with_notice_out, with_place}
 pub use Rattle.ulfm_rank.specs.Facts.{Knows, IsSigned, acknowledged_by, acknowledged_from, acknowledged_of, is_gone, is_gone_item, is_released, is_revoked, is_stop, is_stopped, item_revokes, known_of, newly_known, releases, revoked_before, revokes, tells_gone, took, took_by}
 pub use Rattle.ulfm_rank.specs.Owed.{owed, owed_by, passed_on, entry_told, is_told, owed_by_item}
-pub use Rattle.ulfm_rank.specs.Shrink.{has_entered, is_foreign, IsOwnAffair, IsProposal, adopts, contradicts, differ, entry_of, has_adopted, has_proposal, heard_of, is_apart, is_out, item_entry, listed_of}
+pub use Rattle.ulfm_rank.specs.Proposal.{brought_to, has_entered, is_foreign, IsOwnAffair, IsProposal, adopts, agreements, contradicts, deciders, differ, enters_agreement, entry_of, has_adopted, has_proposal, heard_of, is_agreeing, is_out, item_entry, last_agreement, listed_of, next_agreement}
 pub use Rattle.ulfm_rank.specs.State.{View, GoesOut, IsState, Mark, State, logged, mark_at, marked, no_mark, notice, outbox, owes, returned, start_state, taken_out, unmarked, went_out, with_marks}
 pub use Rattle.ulfm_rank.specs.inside.Table.{IsOfGroup, Became, GivesAnswer, HasSender, IsDelivered, IsInStep, IsSourceIn, IsStanding, IsTable, is_found}
 pub use Rattle.ulfm_rank.specs.declared.entry.Entry.{Entry}

@@ -1,6 +1,6 @@
--- The first entry into a shrink that a log tells of, and that a rank took from another.
+-- The first entrance into a topic that a log tells of, and that a rank took from another.
 use Rattle.std.proofs.Common.{◌≡◌, ℕ, Bool, true, false, cond, eqb, List, [], ◌∷◌, ◌++◌, refl, ap, sym, ◌∙◌, inl, inr, ◌⊎◌, Option, Some, None, is_some}
-use Rattle.ulfm_rank.proofs.Common.{RankSet, Item, Entry, Took, took, took_by, or_else, first_given, false≢true, item_entry, heard_of}
+use Rattle.ulfm_rank.proofs.Common.{Topic, Contribution, Item, Entry, Took, took, took_by, or_else, first_given, false≢true, item_entry, heard_of}
 
 pub or_none : {X : Type 0} (o : Option X) → or_else o None ≡ o
 or_none None = refl
@@ -33,16 +33,16 @@ pub first-push : {X : Type 0} (give : Entry → Option X) (log : List Entry) (e 
 first-push give [] e = or_none (give e)
 first-push give (x ∷ log) e = ap (or_else (give x)) (first-push give log e) ∙ sym (or_assoc (give x) (first_given give log) (give e))
 
--- the set of the first entry into the shrink of c among these items
-abbrev pub first_set : ℕ → List Item → Option RankSet
+-- what the first entrance into the topic c among these items brings
+abbrev pub first_set : Topic → List Item → Option Contribution
 first_set c [] = None
 first_set c (item ∷ items) = or_else (item_entry c item) (first_set c items)
 
-pub set-append : (c : ℕ) (xs ys : List Item) → first_set c (xs ++ ys) ≡ or_else (first_set c xs) (first_set c ys)
+pub set-append : (c : Topic) (xs ys : List Item) → first_set c (xs ++ ys) ≡ or_else (first_set c xs) (first_set c ys)
 set-append c [] ys = refl
 set-append c (x ∷ xs) ys = ap (or_else (item_entry c x)) (set-append c xs ys) ∙ sym (or_assoc (item_entry c x) (first_set c xs) (first_set c ys))
 
-heard_took : (c s : ℕ) (e : Entry) → heard_of c s e ≡ first_set c (took_by s e)
+heard_took : (c : Topic) (s : ℕ) (e : Entry) → heard_of c s e ≡ first_set c (took_by s e)
 heard_took c s (Took source item) = pick (eqb source.number s)
   where
     pick : (b : Bool) → cond b (item_entry c item) None ≡ first_set c (cond b (item ∷ []) [])
@@ -51,7 +51,7 @@ heard_took c s (Took source item) = pick (eqb source.number s)
 heard_took c s _ = refl
 
 -- what a rank heard of the entry of s is the first that it took from s
-pub heard-took : (log : List Entry) (c s : ℕ) → first_given (heard_of c s) log ≡ first_set c (took log s)
+pub heard-took : (log : List Entry) (c : Topic) (s : ℕ) → first_given (heard_of c s) log ≡ first_set c (took log s)
 heard-took [] c s = refl
 heard-took (e ∷ log) c s =
     ap (λ o. or_else o (first_given (heard_of c s) log)) (heard_took c s e)

@@ -1,6 +1,6 @@
 -- The parts of a rank follow its log through one more entry.
 use Rattle.std.proofs.Common.{◌≡◌, ℕ, Bool, true, false, cond, eqb, List, [], ◌∷◌, ◌++◌, length, refl, ap, sym, ◌∙◌, Option, Some, append-nil, ◌||◌}
-use Rattle.ulfm_rank.proofs.Common.{Context, Letter, WorldRank, RankSet, Decision, dup_of, shrink_of, Entry, Sent, Acknowledged, Revoked, Duplicated, Entered, Adopted, Stopped, Request, find_group, is_stop, is_stopped, is_revoked, Follows, Box, for_each, AllGrow, Matching, TracksRevocation, or-false, passed_on, entry_told, FaultState, acknowledged_in, is_revoked_in}
+use Rattle.ulfm_rank.proofs.Common.{Context, Letter, WorldRank, Entrance, Decision, dup_of, decided_comm, Entry, Sent, Acknowledged, Revoked, Duplicated, Entered, Adopted, Stopped, Request, find_group, is_stop, is_stopped, is_revoked, Follows, Box, for_each, AllGrow, Matching, TracksRevocation, or-false, passed_on, entry_told, FaultState, acknowledged_in, is_revoked_in}
 use Rattle.ulfm_base.specs.declared.item.Item.TheVariants.{Letter as Mail}
 use Rattle.ulfm_rank.proofs.Adoptable.{communicators-adopted}
 use Rattle.ulfm_rank.proofs.Gather.{any-push}
@@ -28,15 +28,15 @@ module _ {n me : ℕ} {log : List Entry} {stopped : Bool} {m : Matching} {find :
     outboxes = outboxes-grown (Sent to letter) f.outboxes grows;
   }
 
-  -- the shrink of a communicator was entered
-  pub follows_entered : (context : Context) (known : RankSet) (boxes' : List Box) → AllGrow boxes boxes' (length log) (entry_told n me log context known) → Follows n me (log ++ Entered context known ∷ []) stopped m find facts comms boxes'
-  follows_entered context known boxes' grows = record {
+  -- a topic was entered
+  pub follows_entered : (entrance : Entrance) (boxes' : List Box) → AllGrow boxes boxes' (length log) (entry_told n me log entrance) → Follows n me (log ++ Entered entrance ∷ []) stopped m find facts comms boxes'
+  follows_entered entrance boxes' grows = record {
     small = f.small;
-    halted = runs_on (Entered context known) refl;
-    in_step = in_step_quiet f.in_step (Entered context known) refl (λ k. refl);
-    faults = faults_quiet (Entered context known) f.faults (λ b k. refl) (λ c k. refl) (λ c. refl);
-    communicators = communicators-quiet (Entered context known) f.communicators (λ b k. refl);
-    outboxes = outboxes-grown (Entered context known) f.outboxes grows;
+    halted = runs_on (Entered entrance) refl;
+    in_step = in_step_quiet f.in_step (Entered entrance) refl (λ k. refl);
+    faults = faults_quiet (Entered entrance) f.faults (λ b k. refl) (λ c k. refl) (λ c. refl);
+    communicators = communicators-quiet (Entered entrance) f.communicators (λ b k. refl);
+    outboxes = outboxes-grown (Entered entrance) f.outboxes grows;
   }
 
   -- a communicator was duplicated
@@ -51,7 +51,7 @@ module _ {n me : ℕ} {log : List Entry} {stopped : Bool} {m : Matching} {find :
   }
 
   -- a decision was adopted
-  pub follows_adopted : (d : Decision) → find_group d.context.number comms ≡ Some d.old → Follows n me (log ++ Adopted d ∷ []) stopped m find facts (comms ++ (shrink_of d.context.number, d.fresh) ∷ []) boxes
+  pub follows_adopted : (d : Decision) → find_group d.topic.context.number comms ≡ Some d.old → Follows n me (log ++ Adopted d ∷ []) stopped m find facts (comms ++ decided_comm d.topic.purpose d.topic.context.number d.fresh) boxes
   follows_adopted d found = record {
     small = f.small;
     halted = runs_on (Adopted d) refl;

@@ -1,6 +1,6 @@
 -- What an entry makes of the communicators of a log.
 use Rattle.std.proofs.Common.{◌≡◌, ℕ, Bool, true, false, cond, eqb, List, [], ◌∷◌, ◌++◌, refl, ap, sym, ◌∙◌, inl, inr, ◌⊎◌, Some, None, eqb-true}
-use Rattle.ulfm_rank.proofs.Common.{Context, Decision, dup_of, shrink_of, numbers_from, Entry, Duplicated, Adopted, or_else, find_group, copy_of, made_by, comms_of, group_of, members_of, or_empty, none-some, same_Some}
+use Rattle.ulfm_rank.proofs.Common.{Context, Purpose, Shrink, Agree, Decision, decided_comm, dup_of, shrink_of, numbers_from, Entry, Duplicated, Adopted, or_else, find_group, copy_of, made_by, comms_of, group_of, members_of, or_empty, none-some, same_Some}
 use Rattle.ulfm_rank.proofs.Gather.{gathered-push}
 use Rattle.ulfm_rank.proofs.Firsts.{or_else_cases, or_else_first}
 
@@ -47,20 +47,26 @@ pub record Duplicates (comms : List (ℕ × List ℕ)) (e : Entry) (c : ℕ) (g 
   pub child : c ≡ dup_of parent.number
   pub group : find_group parent.number comms ≡ Some g
 
--- an entry adopts a decision with this new group, whose communicator has the context c
+-- an entry adopts the decision of a shrink with this new group, whose communicator has the context c
 pub record Adopts (e : Entry) (c : ℕ) (g : List ℕ) : Type 0 where
   pub decision : Decision
   pub entry : e ≡ Adopted decision
-  pub child : c ≡ shrink_of decision.context.number
+  pub shrinks : decision.topic.purpose ≡ Shrink
+  pub child : c ≡ shrink_of decision.topic.context.number
   pub group : decision.fresh ≡ g
+
+-- the communicator that a decision makes is that of a shrink
+shrunk : (c : ℕ) (purpose : Purpose) (d : ℕ) (fresh g : List ℕ) → find_group c (decided_comm purpose d fresh) ≡ Some g → (purpose ≡ Shrink) × (c ≡ shrink_of d) × (fresh ≡ g)
+shrunk c Shrink d fresh g h = let found = found_one c (shrink_of d) fresh g h in (refl, found.0, found.1)
+shrunk c (Agree round) d fresh g h = absurd (none-some g h)
 
 pub made_cases : (before : List Entry) (comms : List (ℕ × List ℕ)) (e : Entry) (c : ℕ) (g : List ℕ) → find_group c (made_by before comms e) ≡ Some g → Duplicates comms e c g ⊎ Adopts e c g
 made_cases before comms (Duplicated parent) c g h =
     let found = found_copy c parent.number (dup_of parent.number) comms g h in
     inl (record { parent = parent; entry = refl; child = found.0; group = found.1 })
 made_cases before comms (Adopted decision) c g h =
-    let found = found_one c (shrink_of decision.context.number) decision.fresh g h in
-    inr (record { decision = decision; entry = refl; child = found.0; group = found.1 })
+    let made = shrunk c decision.topic.purpose decision.topic.context.number decision.fresh g h in
+    inr (record { decision = decision; entry = refl; shrinks = made.0; child = made.1; group = made.2 })
 made_cases before comms _ c g h = absurd (none-some g h)
 
 -- the group of a context: it was there, or the last entry made it

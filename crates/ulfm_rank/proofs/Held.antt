@@ -51,7 +51,7 @@ are_taken me before d _ = refl
 are_left : (n me d : ℕ) (before : List Entry) (found : List Item) (e : Entry) → Are (owed_by n me d before found e) (item_of_entry e)
 are_left n me d before found (Sent to letter) = are_if (eqb to.number d) (Mail letter)
 are_left n me d before found (Revoked context) = are_passed me before context d
-are_left n me d before found (Entered context known) = are_if _ (Enter context known)
+are_left n me d before found (Entered entrance) = are_if _ (Enter entrance)
 are_left n me d before found (Took from item) = are_taken me before d item
 are_left n me d before found _ = refl
 

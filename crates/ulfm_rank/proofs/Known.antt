@@ -93,12 +93,12 @@ marked_before {log} {facts} held (Mail letter) = held.marks letter.envelope.cont
 marked_before {log} {facts} held (Revoke context) = held.marks context.number
 marked_before {log} {facts} held item = refl
 
--- letters and entries into a shrink
+-- letters and entrances
 pub faults_taken : {log : List Entry} {facts : FaultState} (s : WorldRank) (item : Item) → (item ≡ Gone → ⊥) → ((c : Context) → item ≡ Revoke c → ⊥) → HasFaults log facts → HasFaults (log ++ Took s item ∷ []) facts
 faults_taken {log} {facts} s (Mail letter) gone revoke held = faults_quiet (Took s (Mail letter)) held (λ b k. refl) (λ c k. refl) (λ c. refl)
 faults_taken {log} {facts} s Gone gone revoke held = absurd (gone refl)
 faults_taken {log} {facts} s (Revoke context) gone revoke held = absurd (revoke context refl)
-faults_taken {log} {facts} s (Enter context known) gone revoke held = faults_quiet (Took s (Enter context known)) held (λ b k. refl) (λ c k. refl) (λ c. refl)
+faults_taken {log} {facts} s (Enter entrance) gone revoke held = faults_quiet (Took s (Enter entrance)) held (λ b k. refl) (λ c k. refl) (λ c. refl)
 
 pub knows_gone : {log : List Entry} {facts : FaultState} → HasFaults log facts → (r : ℕ) → is_member facts.known r ≡ is_gone log r
 knows_gone {log} {facts} held r = ap (λ known. is_member known r) held.knows ∙ known_gone log r

@@ -97,7 +97,7 @@ item_light log h s (Mail l) = pick (is_revoked log l.envelope.context.number)
     pick false = omega arith
 item_light log h s Gone = let e = ends_light (λ _ p. names p.source s) 0 h in omega (arith, e)
 item_light log h s (Revoke d) = cleared_light (is_revoked log d.number) d.number
-item_light log h s (Enter d known) = omega arith
+item_light log h s (Enter entrance) = omega arith
 
 light : (log : List Entry) (h : List Event) (e : Entry) → total (events_by log h e) ≤ 1
 light log h (Posted p) = pick (names_gone log p.source)

@@ -1,6 +1,6 @@
 -- From what the groups of communicators come: the world, a duplicated parent, an adopted decision.
 use Rattle.std.proofs.Common.{◌≡◌, ℕ, zero, suc, List, [], ◌∷◌, ◌++◌, refl, ap, sym, subst, ◌∙◌, arith, inl, inr, ◌⊎◌, Some, All}
-use Rattle.ulfm_rank.proofs.Common.{Decision, dup_of, shrink_of, numbers_from, Entry, Adopted, All-pop, find_group, made_by, group_of}
+use Rattle.ulfm_rank.proofs.Common.{Decision, Shrink, dup_of, shrink_of, numbers_from, Entry, Adopted, All-pop, find_group, made_by, group_of}
 use Rattle.ulfm_rank.proofs.Gather.{gathered_all}
 use Rattle.ulfm_rank.proofs.Grouped.{found_one, found_cases, still_found}
 
@@ -26,13 +26,14 @@ parent_group n log p =
     step before found e h g now = still_found p found (made_by before found e) g (elim (found_cases before found e (dup_of p) g now) [
       | inl was ↦ h g was
       | inr (inl d) ↦ ap (λ i. find_group i found) (sym (dup_only p d.parent.number d.child)) ∙ d.group
-      | inr (inr a) ↦ absurd (dup_not_shrink p a.decision.context.number a.child)
+      | inr (inr a) ↦ absurd (dup_not_shrink p a.decision.topic.context.number a.child)
     ])
 
 -- the group of a shrunk communicator is the new group of a decision that was adopted
 pub record HasAdoption (P : Entry → Type 0) (p : ℕ) (g : List ℕ) : Type 0 where
   pub decision : Decision
-  pub context : decision.context.number ≡ p
+  pub shrinks : decision.topic.purpose ≡ Shrink
+  pub context : decision.topic.context.number ≡ p
   pub group : decision.fresh ≡ g
   pub holds : P (Adopted decision)
 
@@ -50,7 +51,7 @@ adopted_group P n log p g all =
         elim (found_cases before found e (shrink_of p) g now) [
           | inl was ↦ h parts.0 was
           | inr (inl d) ↦ absurd (dup_not_shrink d.parent.number p (sym d.child))
-          | inr (inr a) ↦ record { decision = a.decision; context = shrink_only a.decision.context.number p (sym a.child); group = a.group; holds = subst P a.entry parts.1 }
+          | inr (inr a) ↦ record { decision = a.decision; shrinks = a.shrinks; context = shrink_only a.decision.topic.context.number p (sym a.child); group = a.group; holds = subst P a.entry parts.1 }
         ]
 
 -- the group of the world is that of all ranks

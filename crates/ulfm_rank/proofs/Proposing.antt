@@ -1,7 +1,8 @@
 -- What a rank proposes, from the entries that it knows of.
-use Rattle.std.proofs.Common.{◌≡◌, ℕ, ◌+◌, ◌<◌, ◌≤◌, Bool, true, false, cond, List, length, get_or, set, refl, ap, sym, ◌∙◌, arith, inl, inr, get_or-set_same, get_or-set_other, Option, Some, None, ◌||◌, ◌&&◌, is_some}
+use Rattle.std.proofs.Common.{◌≡◌, ℕ, ◌+◌, ◌<◌, ◌≤◌, Bool, true, false, cond, List, [], ◌∷◌, ◌++◌, length, get_or, set, refl, ap, sym, ◌∙◌, arith, inl, inr, get_or-set_same, get_or-set_other, Option, Some, None, ◌||◌, ◌&&◌, is_some}
 use Rattle.std.proofs.lemmas.List.{get_or_past}
-use Rattle.ulfm_rank.proofs.Common.{Decision, RankSet, Entry, members_of, is_gone, Knows, cases_eq, cases_lt, false≢true, cond-true, false_from_ne_true, HasEntries, has_entered, listed_of, is_out, has_proposal, IsProposal, slice_get-get_or, list_any, list_any_at, entry_at, is_listed, in_entry, has, IsSubset, is_member, excluding}
+use Rattle.ulfm_rank.proofs.Common.{Decision, Contribution, Topic, RankSet, Entry, deciders, is_gone, Knows, cases_eq, cases_lt, false≢true, cond-true, false_from_ne_true, HasEntries, has_entered, listed_of, is_out, has_proposal, IsProposal, slice_get-get_or, list_any, list_any_at, entry_at, is_listed, in_entry, has, IsSubset, is_member, excluding}
+use Rattle.ulfm_base.specs.Decision.{and_entries, and_entry}
 use Rattle.ulfm_base.proofs.Among.{all_members, at_member, member_test, any_member, place_test, excluding_alike}
 
 -- the places below k are filled, and no other
@@ -19,7 +20,7 @@ filled_more want d xs k v inside same filled = (
 
 -- the sets by which a proposal for this group is made: the listed entries, the failures, the members, and all of whom is known
 -- what they did
-pub record IsTally (group : List ℕ) (known : RankSet) (entries listed : List (Option RankSet)) (failures members accounted : RankSet) : Type 0 where
+pub record IsTally (group : List ℕ) (known : RankSet) (entries listed : List (Option Contribution)) (failures members accounted : RankSet) : Type 0 where
   pub size : length listed ≡ 8
   pub small : (r : ℕ) → has members r ≡ true → r < 8
   pub are_members : (r : ℕ) → has members r ≡ is_member group r
@@ -39,14 +40,14 @@ same_truth true b f g = sym (f refl)
 same_truth false true f g = g refl
 same_truth false false f g = refl
 
-module _ (me : ℕ) (log : List Entry) (c : ℕ) {group : List ℕ} {known : RankSet} {entries listed : List (Option RankSet)} {failures members accounted : RankSet} (t : IsTally group known entries listed failures members accounted) (knows : Knows log known) (heard : HasEntries me log c entries) where
+module _ (me : ℕ) (log : List Entry) (c : Topic) {group : List ℕ} {known : RankSet} {entries listed : List (Option Contribution)} {failures members accounted : RankSet} (t : IsTally group known entries listed failures members accounted) (knows : Knows log known) (heard : HasEntries me log c entries) where
   below : (r : ℕ) → is_member group r ≡ true → r < 8
   below r member = t.small r (t.are_members r ∙ member)
 
   listed_member : (r : ℕ) → is_member group r ≡ true → entry_at listed r ≡ listed_of me log c r
   listed_member r member = t.kept r ∙ cond-true (is_member group r) (entry_at entries r) None member ∙ heard r (below r member)
 
-  -- a listed set stands at the place of a member
+  -- a listed contribution stands at the place of a member
   placed : (j r : ℕ) → in_entry (entry_at listed j) r ≡ true → is_member group j ≡ true
   placed j r h = pick (is_member group j) refl
     where
@@ -79,23 +80,28 @@ module _ (me : ℕ) (log : List Entry) (c : ℕ) {group : List ℕ} {known : Ran
       accounted_member r member ∙ at_member group _ r complete member
 
 -- there is no proposal
-pub no_proposal : (me : ℕ) (log : List Entry) (c : ℕ) {group : List ℕ} {known : RankSet} {entries listed : List (Option RankSet)} {failures members accounted : RankSet} → IsTally group known entries listed failures members accounted → Knows log known → HasEntries me log c entries → (IsSubset members accounted → ⊥) → has_proposal me group log c ≡ false
+pub no_proposal : (me : ℕ) (log : List Entry) (c : Topic) {group : List ℕ} {known : RankSet} {entries listed : List (Option Contribution)} {failures members accounted : RankSet} → IsTally group known entries listed failures members accounted → Knows log known → HasEntries me log c entries → (IsSubset members accounted → ⊥) → has_proposal me group log c ≡ false
 no_proposal me log c t knows heard not_within = false_from_ne_true _ (λ complete. not_within (subset_from_complete me log c t knows heard complete))
 
 -- this is the proposal
-pub is_proposal : (n me : ℕ) (log : List Entry) (c : ℕ) (d : Decision) {known : RankSet} {entries : List (Option RankSet)} {failures members accounted : RankSet} → IsTally (members_of n log c) known entries d.entries failures members accounted → Knows log known → HasEntries me log c entries → IsSubset members accounted
-    → has_entered log c ≡ true → d.context.number ≡ c → d.old ≡ members_of n log c → ((r : ℕ) → r < 8 → has d.excluded r ≡ (has members r && has failures r)) → d.fresh ≡ excluding (members_of n log c) (has d.excluded) → IsProposal n me log c d
-is_proposal n me log c d {known} {entries} {failures} {members} {accounted} t knows heard within entered context old excluded fresh =
-    let group = members_of n log c in
+pub is_proposal : (n me : ℕ) (log : List Entry) (c : Topic) (d : Decision) {known : RankSet} {entries : List (Option Contribution)} {failures members accounted : RankSet} → IsTally (deciders n log c) known entries d.entries failures members accounted → Knows log known → HasEntries me log c entries → IsSubset members accounted
+    → has_entered log c ≡ true → d.topic ≡ c → d.old ≡ deciders n log c → ((r : ℕ) → r < 8 → has d.excluded r ≡ (has members r && has failures r)) → d.fresh ≡ excluding (deciders n log c) (has d.excluded) → IsProposal n me log c d
+is_proposal n me log c d {known} {entries} {failures} {members} {accounted} t knows heard within entered about old excluded fresh =
+    let group = deciders n log c in
     let out = failures_out me log c t knows heard in
     let both : (r : ℕ) → r < 8 → has d.excluded r ≡ (is_member group r && is_out me group log c r) =
     λ r small. excluded r small ∙ ap (λ b. b && has failures r) (t.are_members r) ∙ ap (λ b. is_member group r && b) (out r) in
     record {
       entered = entered;
       complete = complete_from_subset me log c t knows heard within;
-      context = context;
+      about = about;
       old_group = old;
       entries = λ r small. slice_get-get_or d.entries r None (omega (arith, small, t.size)) ∙ ap Some (t.kept r ∙ ap (λ o. cond (is_member group r) o None) (heard r small));
       excluded = both;
       fresh = fresh ∙ excluding_alike group (has d.excluded) (is_out me group log c) (λ m member. both m (t.small m (t.are_members m ∙ member)) ∙ ap (λ b. b && is_out me group log c m) member);
     }
+
+-- the flag of one more entry counts
+pub and_entries-push : (bits : ℕ) (xs : List (Option Contribution)) (x : Option Contribution) → and_entries bits (xs ++ x ∷ []) ≡ and_entry (and_entries bits xs) x
+and_entries-push bits [] x = refl
+and_entries-push bits (y ∷ xs) x = and_entries-push (and_entry bits y) xs x

@@ -19,7 +19,7 @@ signed_step n me d before found e h all =
     let own = all_last (IsSigned me) before e all in
     let one : (item : Item) → ComesFrom me item → All (ComesFrom me) (item ∷ []) = λ item k. All-push (ComesFrom me) [] item (All-nil (ComesFrom me)) k in
     All-append (ComesFrom me) found (owed_by n me d before found e) (h (all_front (IsSigned me) before e all))
-    (owed_by_cases (λ (xs : List Item). All (ComesFrom me) xs) n me d before found e (All-nil (ComesFrom me)) (λ to letter is. one (Mail letter) (let S = IsSigned me in subst S is own)) (λ context. one (Revoke context) tt) (λ context known. one (Enter context known) tt))
+    (owed_by_cases (λ (xs : List Item). All (ComesFrom me) xs) n me d before found e (All-nil (ComesFrom me)) (λ to letter is. one (Mail letter) (let S = IsSigned me in subst S is own)) (λ context. one (Revoke context) tt) (λ entrance. one (Enter entrance) tt))
 
 pub owed_signed : (n me d : ℕ) (log : List Entry) → All (IsSigned me) log → All (ComesFrom me) (owed n me log d)
 owed_signed n me d log =

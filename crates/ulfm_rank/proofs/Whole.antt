@@ -88,12 +88,11 @@ module _ {n me : ℕ} {log : List Entry} {stopped : Bool} {matcher : Matching} {
   }
 
 -- room plays no part
-pub holds_same : (a : Inside) {b : Inside} → Holds a → b.me ≡ a.me → b.ranks ≡ a.ranks → b.stopped ≡ a.stopped → b.faults ≡ a.faults → b.communicators ≡ a.communicators → b.shrinks ≡ a.shrinks
+pub holds_same : (a : Inside) {b : Inside} → Holds a → b.me ≡ a.me → b.ranks ≡ a.ranks → b.stopped ≡ a.stopped → b.faults ≡ a.faults → b.communicators ≡ a.communicators
     → b.matcher.waiting ≡ a.matcher.waiting → b.matcher.kept ≡ a.matcher.kept → b.matcher.count ≡ a.matcher.count → b.matcher.cleared ≡ a.matcher.cleared → b.requests.entries ≡ a.requests.entries → b.outboxes.boxes ≡ a.outboxes.boxes
     → b.log.items ≡ a.log.items → vec_len b.log ≡ vec_len a.log → vec_capacity a.log ≤ vec_capacity b.log → Holds b
-holds_same a {b} h me ranks stopped faults comms shrinks waiting kept count cleared entries boxes items len room = record {
+holds_same a {b} h me ranks stopped faults comms waiting kept count cleared entries boxes items len room = record {
   follows = rw (me, ranks, stopped, faults, comms, items) (follows_same h.follows b.matcher (get nat_eq b.requests) b.outboxes.boxes waiting kept count cleared (λ k. ap (lookup (nat_eq k)) entries) boxes);
-  shrinks = rw (me, items, shrinks) h.shrinks;
   places =
       let same : index_map_len b.requests ≡ index_map_len a.requests = ap length entries in
       rw stopped (omega (arith, h.places, same, len, room));

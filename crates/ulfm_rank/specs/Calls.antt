@@ -8,15 +8,16 @@ use Rattle.ulfm_base.specs.declared.pattern.Pattern.{Pattern}
 use Rattle.ulfm_base.specs.declared.pattern.Source.{Source}
 use Rattle.ulfm_base.specs.declared.pattern.Source.TheVariants.{One, Any}
 use Rattle.ulfm_base.specs.declared.rank.WorldRank.{WorldRank}
-use Rattle.ulfm_base.specs.declared.rank_set.RankSet.{RankSet}
 use Rattle.ulfm_base.specs.declared.tag.Tag.{Tag}
+use Rattle.ulfm_base.specs.declared.topic.Topic.{Topic}
+use Rattle.ulfm_base.specs.declared.entrance.Entrance.{Entrance}
 use Rattle.ulfm_base.specs.declared.context.Context.{Context}
 use Rattle.ulfm_base.specs.Group.{is_member}
 use Rattle.ulfm_base.specs.RankSet.{has}
 use Rattle.ulfm_rank.specs.declared.entry.Comm.{Comm}
 use Rattle.ulfm_rank.specs.declared.entry.Entry.TheVariants.{Sent, Posted, Acknowledged, Revoked, Entered, Stopped}
 use Rattle.ulfm_rank.specs.Facts.{is_revoked, is_stopped, acknowledged_of, Knows}
-use Rattle.ulfm_rank.specs.Shrink.{has_proposal, IsProposal}
+use Rattle.ulfm_rank.specs.Proposal.{deciders, has_proposal, IsProposal}
 use Rattle.ulfm_rank.specs.State.{State, logged}
 use Rattle.ulfm_rank.specs.Checks.{group_at}
 
@@ -58,15 +59,17 @@ acknowledging old context total = if nat_lt (acknowledged_of old.log context.num
 abbrev pub revoking : State → Context → State
 revoking old context = if is_revoked old.log context.number then old else logged old (Revoked context)
 
--- the shrink of a communicator is entered with the failures that are known
-pub record Enters (old : State) (comm : Comm) (new : State) : Type 0 where
-  pub known : RankSet
-  pub knows : Knows old.log known
-  pub only : new ≡ logged old (Entered comm.context known)
+-- a topic is entered with the failures that are known and this flag
+pub record Enters (old : State) (topic : Topic) (flag : Option ℕ) (new : State) : Type 0 where
+  pub entrance : Entrance
+  pub about : entrance.topic ≡ topic
+  pub knows : Knows old.log entrance.contribution.known
+  pub brings : entrance.contribution.flag ≡ flag
+  pub only : new ≡ logged old (Entered entrance)
 
--- what a rank that entered the shrink of c proposes: a decision exactly where each member is listed or excluded
-abbrev pub Proposes : State → ℕ → Option Decision → Type 0
-Proposes rank c found = MatchOption found (has_proposal rank.me (group_at rank c) rank.log c ≡ false) (IsProposal rank.ranks rank.me rank.log c)
+-- what a rank that entered a topic proposes: a decision exactly where each member is listed or excluded
+abbrev pub Proposes : State → Topic → Option Decision → Type 0
+Proposes rank topic found = MatchOption found (has_proposal rank.me (deciders rank.ranks rank.log topic) rank.log topic ≡ false) (IsProposal rank.ranks rank.me rank.log topic)
 
 -- the rank after its stop
 abbrev pub stopping : State → State

@@ -4,11 +4,14 @@ use Rattle.ulfm_base.specs.declared.decision.Decision.{Decision}
 use Rattle.ulfm_base.specs.declared.error.CallError.{CallError}
 use Rattle.ulfm_base.specs.declared.error.CallError.TheVariants.{NoComm, BadRank, TooLong, ProcFailed, Revoked, NoRequest, AlreadyMade, NoContext, Stopped, NotMember, OutOfMemory, BadSize, NotEntered}
 use Rattle.ulfm_base.specs.Context.{dup_of, shrink_of}
+use Rattle.ulfm_base.specs.Topic.{shrink_topic}
+use Rattle.ulfm_base.specs.declared.context.Context.{Context}
+use Rattle.ulfm_base.specs.declared.topic.Topic.{Topic}
 use Rattle.ulfm_rank.specs.declared.entry.Entry.{Entry}
 use Rattle.ulfm_rank.specs.Answer.{IsNoRequest}
 use Rattle.ulfm_rank.specs.Facts.{is_gone, is_revoked, is_stopped}
 use Rattle.ulfm_rank.specs.Communicators.{is_made, members_of}
-use Rattle.ulfm_rank.specs.Shrink.{has_entered, has_adopted, is_foreign}
+use Rattle.ulfm_rank.specs.Proposal.{has_entered, has_adopted, is_agreeing, is_foreign}
 use Rattle.ulfm_rank.specs.State.{State}
 
 -- whether a check refuses, and with which error
@@ -79,16 +82,22 @@ abbrev pub dup_checks : State → ℕ → List Check
 dup_checks r c = comm_checks r c ((is_revoked r.log c, Revoked) ∷ (is_made r.ranks r.log (dup_of c), AlreadyMade) ∷ (nat_le 63 (dup_of c), NoContext) ∷ [])
 
 -- of an entry into a shrink
-abbrev pub shrink_checks : State → ℕ → List Check
-shrink_checks r c = comm_checks r c ((has_entered r.log c, AlreadyMade) ∷ (nat_le 63 (shrink_of c), NoContext) ∷ [])
+abbrev pub shrink_checks : State → Context → List Check
+shrink_checks r context = comm_checks r context.number ((has_entered r.log (shrink_topic context), AlreadyMade) ∷ (nat_le 63 (shrink_of context.number), NoContext) ∷ [])
 
--- of the question for a proposal
-abbrev pub proposal_checks : State → ℕ → List Check
-proposal_checks r c = comm_checks r c ((not (has_entered r.log c), NotEntered) ∷ [])
+-- of an entry into the next agreement
+abbrev pub agree_checks : State → Context → List Check
+agree_checks r context = comm_checks r context.number ((is_agreeing r.log context, AlreadyMade) ∷ [])
 
--- of an adoption
-abbrev pub adopt_checks : State → ℕ → Decision → List Check
-adopt_checks r c d = comm_checks r c ((has_adopted r.log c, AlreadyMade) ∷ (not (has_entered r.log c), NotEntered) ∷ (is_foreign r.me (group_at r c) r.log c d, NotMember) ∷ [])
+-- of the question for a proposal on a topic
+abbrev pub proposal_checks : State → Topic → List Check
+proposal_checks r topic = comm_checks r topic.context.number ((not (has_entered r.log topic), NotEntered) ∷ [])
+
+-- of an adoption on a topic
+abbrev pub adopt_checks : State → Topic → Decision → List Check
+adopt_checks r topic d =
+    comm_checks r topic.context.number
+    ((has_adopted r.log topic, AlreadyMade) ∷ (not (has_entered r.log topic), NotEntered) ∷ (is_foreign r.me (group_at r topic.context.number) r.log topic d, NotMember) ∷ [])
 
 -- why a test of the request of this number is refused
 abbrev pub IsTestRefusal : List Entry → ℕ → CallError → Type 0

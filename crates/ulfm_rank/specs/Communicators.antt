@@ -2,6 +2,8 @@
 use Rattle.std.specs.Prelude.{ℕ, Bool, List, [], ◌∷◌, ◌==◌, Option, Some, None, is_some, if◌then◌else◌}
 use Rattle.ulfm_base.specs.Context.{dup_of, shrink_of}
 use Rattle.ulfm_base.specs.Group.{numbers_from}
+use Rattle.ulfm_base.specs.declared.topic.Purpose.{Purpose}
+use Rattle.ulfm_base.specs.declared.topic.Purpose.TheVariants.{Shrink, Agree}
 use Rattle.ulfm_rank.specs.declared.entry.Entry.{Entry}
 use Rattle.ulfm_rank.specs.declared.entry.Entry.TheVariants.{Duplicated, Adopted}
 use Rattle.ulfm_rank.specs.Log.{gathered}
@@ -16,10 +18,15 @@ abbrev pub copy_of : ℕ → ℕ → List (ℕ × List ℕ) → List (ℕ × Lis
 copy_of c d [] = []
 copy_of c d (comm ∷ comms) = if comm.0 == c then (d, comm.1) ∷ [] else copy_of c d comms
 
+-- the communicator that a decision on c makes, with this new group: a shrink makes one, and an agreement none
+abbrev pub decided_comm : Purpose → ℕ → List ℕ → List (ℕ × List ℕ)
+decided_comm Shrink c fresh = (shrink_of c, fresh) ∷ []
+decided_comm (Agree round) c fresh = []
+
 -- the communicator that an entry makes: a duplicate with its parent's group, or the new group of a shrink
 abbrev pub made_by : List Entry → List (ℕ × List ℕ) → Entry → List (ℕ × List ℕ)
 made_by _ comms (Duplicated context) = copy_of context.number (dup_of context.number) comms
-made_by _ _ (Adopted decision) = (shrink_of decision.context.number, decision.fresh) ∷ []
+made_by _ _ (Adopted decision) = decided_comm decision.topic.purpose decision.topic.context.number decision.fresh
 made_by _ _ _ = []
 
 -- the communicators at a rank of n with their groups, in the order in which they were made: the world's is the first

@@ -44,7 +44,7 @@ abbrev pub item_events : Bool → List Event → ℕ → Item → List Event
 item_events revoked history s (Mail letter) = if revoked then [] else Come letter ∷ []
 item_events revoked history s Gone = ends_of s history
 item_events revoked history s (Revoke context) = if revoked then [] else Clear context.number ∷ []
-item_events revoked history s (Enter context known) = []
+item_events revoked history s (Enter entrance) = []
 
 -- what a post gives: the receive ends at once where its source is known to have failed
 abbrev pub post_events : Bool → List Event → Pattern → List Event

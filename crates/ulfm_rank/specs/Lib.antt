@@ -4,7 +4,7 @@ pub mod Facts
 pub mod Communicators
 pub mod Answer
 pub mod Owed
-pub mod Shrink
+pub mod Proposal
 pub mod Checks
 pub mod Calls
 pub mod Messages

@@ -1,7 +1,7 @@
--- What a log owes to each rank: its letters, and word of revocations and of entries into shrinks (ULFM, revoke and
--- shrink).
+-- What a log owes to each rank: its letters, and word of revocations and of entrances into shrinks and agreements (ULFM,
+-- revoke, shrink and agree).
 use Rattle.std.specs.Prelude.{ℕ, Bool, List, [], ◌∷◌, ◌==◌, not, ◌&&◌, if◌then◌else◌}
-use Rattle.ulfm_base.specs.declared.rank_set.RankSet.{RankSet}
+use Rattle.ulfm_base.specs.declared.entrance.Entrance.{Entrance}
 use Rattle.ulfm_base.specs.declared.context.Context.{Context}
 use Rattle.ulfm_base.specs.declared.item.Item.{Item}
 use Rattle.ulfm_base.specs.declared.item.Item.TheVariants.{Letter as Mail, Revoke, Enter}
@@ -25,15 +25,15 @@ abbrev pub owed_by_item : ℕ → List Entry → ℕ → Item → List Item
 owed_by_item me before d (Revoke context) = passed_on me before context d
 owed_by_item me before d _ = []
 
--- an entry into a shrink is told to the other members
-abbrev pub entry_told : ℕ → ℕ → List Entry → Context → RankSet → ℕ → List Item
-entry_told n me before context known d = if is_member (members_of n before context.number) d && is_told me before d then Enter context known ∷ [] else []
+-- an entrance is told to the other members
+abbrev pub entry_told : ℕ → ℕ → List Entry → Entrance → ℕ → List Item
+entry_told n me before entrance d = if is_member (members_of n before entrance.topic.context.number) d && is_told me before d then Enter entrance ∷ [] else []
 
 -- what an entry owes to d, after the entries before it
 abbrev pub owed_by : ℕ → ℕ → ℕ → List Entry → List Item → Entry → List Item
 owed_by n me d _ _ (Sent to letter) = if to.number == d then Mail letter ∷ [] else []
 owed_by n me d before _ (Revoked context) = passed_on me before context d
-owed_by n me d before _ (Entered context known) = entry_told n me before context known d
+owed_by n me d before _ (Entered entrance) = entry_told n me before entrance d
 owed_by n me d before _ (Took from item) = owed_by_item me before d item
 owed_by n me d _ _ _ = []
 

@@ -2,7 +2,7 @@
 
 use crate::message::MessageId;
 use ulfm_base::{
-    Body, CallError, Context, Decision, Item, Letter, Pattern, RankSet, Tag, WorldRank,
+    Body, CallError, Context, Decision, Entrance, Item, Letter, Pattern, Tag, WorldRank,
 };
 use ulfm_match::RequestId;
 
@@ -76,9 +76,9 @@ pub enum Entry {
     Revoked(Context),
     /// A communicator was duplicated.
     Duplicated(Context),
-    /// The shrink of a communicator was entered, with these ranks known to have failed.
-    Entered(Context, RankSet),
-    /// The decision of a shrink was adopted.
+    /// A shrink or an agreement was entered.
+    Entered(Entrance),
+    /// The decision of a shrink or of an agreement was adopted.
     Adopted(Decision),
     /// The rank stopped.
     Stopped,

@@ -1,6 +1,6 @@
 //! What a rank passes on to the other ranks.
 ghost use Rattle.std.specs.Prelude.{◌≡◌, ◌==◌, ◌<◌, ◌&&◌, ℕ, List, length, not, IsTrue, false};
-ghost use Rattle.ulfm_base.specs.declared.context.Context.{Context};
+ghost use Rattle.ulfm_base.specs.declared.entrance.Entrance.{Entrance};
 ghost use Rattle.ulfm_base.specs.Group.{is_member};
 ghost use Rattle.ulfm_base.specs.RankSet.{has};
 ghost use Rattle.ulfm_rank.specs.declared.entry.Entry.{Entry};
@@ -45,7 +45,7 @@ pub(crate) fn forward(
     outboxes.put_each(addressees(me, known), place);
 }
 
-/// Puts an entry into a shrink, which stands at this place of the log, into the outbox of each member that it is told to.
+/// Puts an entrance, which stands at this place of the log, into the outbox of each member that it is told to.
 pub(crate) fn announce(
     outboxes: &mut Outboxes,
     me: u8,
@@ -55,7 +55,7 @@ pub(crate) fn announce(
 )
     requires small { length outboxes.old.boxes < 9 }
     requires room { IsTrue outboxes.old.room }
-    ensures { (n : ℕ) (log : List Entry) (context : Context) → Knows log known → ((r : ℕ) → has members r ≡ is_member (members_of n log context.number) r) → AllGrow outboxes.old.boxes outboxes.new.boxes place (entry_told n me log context known) }
+    ensures { (n : ℕ) (log : List Entry) (entrance : Entrance) → Knows log known → ((r : ℕ) → has members r ≡ is_member (members_of n log entrance.topic.context.number) r) → AllGrow outboxes.old.boxes outboxes.new.boxes place (entry_told n me log entrance) }
 {
     outboxes.put_each(members_of_both(members, addressees(me, known)), place);
 }

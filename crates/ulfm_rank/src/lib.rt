@@ -4,6 +4,7 @@
 mod adopting;
 mod answer;
 mod communicators;
+mod entrances;
 mod entry;
 mod failures;
 mod forwarding;
@@ -17,7 +18,6 @@ mod proposal;
 mod rank;
 mod request;
 mod requests;
-mod shrinks;
 mod sources;
 
 pub use entry::{Cancel, Comm, Entry, Probed, Status, TestAnswer};

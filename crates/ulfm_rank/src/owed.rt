@@ -14,10 +14,7 @@ fn item_of_entry(entry: &Entry) -> Option<Item>
     match entry {
         Entry::Sent(_, letter) => Some(Item::Letter(*letter)),
         Entry::Revoked(context) => Some(Item::Revoke(*context)),
-        Entry::Entered(context, known) => Some(Item::Enter {
-            context: *context,
-            known: *known,
-        }),
+        Entry::Entered(entrance) => Some(Item::Enter(*entrance)),
         Entry::Took(_, item) => passed_item(item),
         _ => None,
     }

@@ -1,6 +1,8 @@
 //! One rank (MPI 4.0, chapters 3 and 7; ULFM).
 
+mod agreeing;
 mod cancelling;
+mod deciding;
 mod outgoing;
 mod probing;
 mod receiving;
@@ -21,7 +23,6 @@ use crate::communicators::Communicators;
 use crate::entry::{Comm, Entry};
 use crate::outboxes::Outboxes;
 use crate::request::Request;
-use crate::shrinks::Shrinks;
 use indexmap::IndexMap;
 use std::alloc::Global;
 use std::marker::Model;
@@ -40,7 +41,6 @@ pub struct Rank {
     faults: Faults,
     requests: IndexMap<u64, Request>,
     communicators: Communicators,
-    shrinks: Shrinks,
     outboxes: Outboxes,
     log: Vec<Entry>,
 }
@@ -73,7 +73,6 @@ impl Rank {
             return Err(CallError::BadRank);
         }
         let communicators = Communicators::new(alloc, world)?;
-        let shrinks = Shrinks::new(alloc)?;
         let outboxes = Outboxes::new(alloc, ranks)?;
         let mut log = Vec::new(alloc);
         log.reserve(1)?;
@@ -85,7 +84,6 @@ impl Rank {
             faults: Faults::new(alloc),
             requests: IndexMap::new(alloc),
             communicators,
-            shrinks,
             outboxes,
             log,
         })

@@ -12,7 +12,7 @@ item_caused : (reports : List Report) (c : ℕ) (item : Item) → IsCaused repor
 item_caused reports c (Revoke context) h revoked = subst (RevokedByCall reports) (eqb-true context.number c revoked) h
 item_caused reports c (Letter letter) h revoked = absurd (false≢true revoked)
 item_caused reports c Gone h revoked = absurd (false≢true revoked)
-item_caused reports c (Enter context known) h revoked = absurd (false≢true revoked)
+item_caused reports c (Enter entrance) h revoked = absurd (false≢true revoked)
 
 entry_caused : (reports : List Report) (c : ℕ) (e : Entry) → HasCause reports e → revokes c e ≡ true → (is_call_to_revoke c e ≡ true) ⊎ RevokedByCall reports c
 entry_caused reports c (Revoked context) h revoked = inl revoked
@@ -48,7 +48,7 @@ item_each : {reports : List Report} (item : Item) → ((c : ℕ) → item_revoke
 item_each (Revoke context) h = h context.number (eq-eqb context.number context.number refl)
 item_each (Letter letter) h = tt
 item_each Gone h = tt
-item_each (Enter context known) h = tt
+item_each (Enter entrance) h = tt
 
 entry_each : (reports : List Report) (e : Entry) → ((c : ℕ) → revokes c e ≡ true → RevokedByCall reports c) → HasCause reports e
 entry_each reports (Took source item) h = item_each item h

@@ -3,6 +3,7 @@ use Rattle.std.proofs.Common.{◌≡◌, ℕ, ◌<◌, ◌≤◌, ◌+◌, List,
 use Rattle.std.proofs.lemmas.List.{length-map, map-append, get_or_append_left, get_or-append-add, drop_all, take_all}
 use Rattle.std.proofs.Math.Seq.{map-set_same}
 use Rattle.ulfm_base.specs.declared.decision.Decision.{Decision}
+use Rattle.ulfm_base.specs.declared.topic.Topic.{Topic}
 use Rattle.ulfm_board.specs.Known.{BothAgree, known_at, OneBoard}
 use Rattle.ulfm_run.proofs.Common.{AgreeAt, AllAgree, at, at_view, NameOneBoard, cases_eq, cases_lt, same_Some, slice_get_within, slice_get-get_or, get_or_from_slice_get}
 use Rattle.ulfm_run.proofs.Handed.{from_map}
@@ -49,7 +50,7 @@ module _ {D : Type 0} (all front back : List D) (i j : ℕ) (x y : D) (is : all 
       ∙ ap₂ (λ xs ys. xs ++ ys) (map-set_same f front i x' x p) (map-set_same f back 0 y' y q)
       ∙ sym (map-append f front back) ∙ ap (map f) (sym is)
 
-  pub agree_two : (known : D → List (Option Decision)) → ((c : ℕ) → BothAgree (known_at (known (get_or front i x)) c) (known_at (known (get_or back 0 y)) c)) → AgreeAt (map known all) i j
+  pub agree_two : (known : D → List (Option Decision)) → ((c : Topic) → BothAgree (known_at (known (get_or front i x)) c) (known_at (known (get_or back 0 y)) c)) → AgreeAt (map known all) i j
   agree_two known agree one other p q c =
       let same = same_Some (known (get_or front i x)) one (sym (at_view known all i (get_or front i x) first_at) ∙ p) in
       let same' = same_Some (known (get_or back 0 y)) other (sym (at_view known all j (get_or back 0 y) second_at) ∙ q) in

@@ -7,7 +7,7 @@ use Rattle.ulfm_script.specs.Report.{Report}
 use Rattle.ulfm_laws.specs.Answers.{AllFollowScripts, AllAnswersFollow}
 use Rattle.ulfm_laws.specs.Causes.{RevokedByARank}
 use Rattle.ulfm_laws.specs.Reports.{IsEach}
-use Rattle.ulfm_laws.specs.Shrinks.{AreTrue}
+use Rattle.ulfm_laws.specs.Decisions.{AreTrue}
 
 -- there is an end and a decider for each rank, and the ends stand at the places of their numbers
 pub record Fits {E D : Type 0} (place : E → ℕ) (job : Seen) (ends : List E) (deciders : List D) : Type 0 where

@@ -1,15 +1,15 @@
-//! The decisions that ranks adopted, held against what the ranks report (ULFM, shrink).
+//! The decisions that ranks adopted, held against what the ranks report (ULFM, shrink and agree).
 ghost use Rattle.std.specs.Prelude.{◌≡◌, ◌↔◌, ℕ, IsTrue, Some, slice_get};
 ghost use Rattle.ulfm_rank.specs.declared.entry.Entry.{Entry as Logged};
 ghost use Rattle.ulfm_rank.specs.Log.{first_given};
-ghost use Rattle.ulfm_rank.specs.Shrink.{entry_of};
-ghost use Rattle.ulfm_laws.specs.Shrinks.{AreTrue, AdoptsTruly, IsTrueOf, ExcludesStopped, ListsTruly, StoppedAt, EnteredWith};
+ghost use Rattle.ulfm_rank.specs.Proposal.{entry_of};
+ghost use Rattle.ulfm_laws.specs.Decisions.{AreTrue, AdoptsTruly, IsTrueOf, ExcludesStopped, ListsTruly, StoppedAt, EnteredWith};
 
-use ulfm_base::{Context, Decision, RankSet, WorldRank};
+use ulfm_base::{Contribution, Decision, RankSet, Topic, WorldRank};
 use ulfm_rank::Entry;
 use ulfm_script::RankReport;
 
-/// Whether each decision that a rank adopted lists each rank with the failures of that rank's own entry, and excludes
+/// Whether each decision that a rank adopted lists each rank with what that rank's own entrance brought, and excludes
 /// stopped ranks alone. It never answers out of memory.
 pub(crate) fn are_true(reports: &[RankReport]) -> bool
     ensures { IsTrue result ↔ AreTrue reports.now }
@@ -48,17 +48,17 @@ fn is_truly_adopted(reports: &[RankReport], entry: &Entry) -> bool
 fn is_true(reports: &[RankReport], decision: &Decision) -> bool
     ensures { IsTrue result ↔ IsTrueOf reports.now decision.now }
 {
-    lists_truly(reports, decision.context, decision.entries)
+    lists_truly(reports, decision.topic, decision.entries)
         && excludes_stopped(reports, decision.excluded)
 }
 
-/// Whether each listed rank reports that it entered the shrink of a communicator with the failures that are listed for it.
-fn lists_truly(reports: &[RankReport], context: Context, entries: [Option<RankSet>; 8]) -> bool
-    ensures { IsTrue result ↔ ListsTruly reports.now context.number entries }
+/// Whether each listed rank reports that it entered a topic, and brought what is listed for it.
+fn lists_truly(reports: &[RankReport], topic: Topic, entries: [Option<Contribution>; 8]) -> bool
+    ensures { IsTrue result ↔ ListsTruly reports.now topic entries }
 {
     for number in 0..8 {
-        if let Some(known) = entries[number as usize] {
-            if !entered_with(reports, WorldRank { number }, context, known) {
+        if let Some(brought) = entries[number as usize] {
+            if !entered_with(reports, WorldRank { number }, topic, brought) {
                 return false;
             }
         }
@@ -79,17 +79,29 @@ fn excludes_stopped(reports: &[RankReport], excluded: RankSet) -> bool
     true
 }
 
-/// Whether a rank reports that it entered the shrink of a communicator with these failures known to it.
-fn entered_with(reports: &[RankReport], rank: WorldRank, context: Context, known: RankSet) -> bool
-    ensures { IsTrue result ↔ EnteredWith reports.now rank.number context.number known }
+/// Whether a rank reports that it entered a topic, and brought this.
+fn entered_with(
+    reports: &[RankReport],
+    rank: WorldRank,
+    topic: Topic,
+    brought: Contribution,
+) -> bool
+    ensures { IsTrue result ↔ EnteredWith reports.now rank.number topic brought }
 {
     let Some(report) = reports.get(rank.number as usize) else {
         return false;
     };
-    match entry_of(report.log(), context) {
-        Some(own) => own.is_same(known),
+    match entry_of(report.log(), topic) {
+        Some(own) => are_same(own, brought),
         None => false,
     }
+}
+
+/// Whether two contributions are the same.
+fn are_same(one: Contribution, other: Contribution) -> bool
+    ensures { IsTrue result ↔ (one ≡ other) }
+{
+    one.is_same(other)
 }
 
 /// Whether a rank reports that it stopped.
@@ -102,25 +114,31 @@ fn has_stopped(reports: &[RankReport], rank: WorldRank) -> bool
     }
 }
 
-/// The failures with which a log enters the shrink of a communicator, if it does.
-fn entry_of(log: &[Entry], context: Context) -> Option<RankSet>
-    ensures { result ≡ first_given (entry_of context.number) log.now }
+/// What a log brings into a topic, if it enters it.
+fn entry_of(log: &[Entry], topic: Topic) -> Option<Contribution>
+    ensures { result ≡ first_given (entry_of topic) log.now }
 {
     for entry in log {
-        let known = entered_by(entry, context);
-        if known.is_some() {
-            return known;
+        let brought = entered_by(entry, topic);
+        if brought.is_some() {
+            return brought;
         }
     }
     None
 }
 
-/// The failures with which an entry enters the shrink of a communicator, if it does.
-fn entered_by(entry: &Entry, context: Context) -> Option<RankSet>
-    ensures { result ≡ entry_of context.number entry.now }
+/// What an entry brings into a topic, if it enters it.
+fn entered_by(entry: &Entry, topic: Topic) -> Option<Contribution>
+    ensures { result ≡ entry_of topic entry.now }
 {
     match entry {
-        Entry::Entered(entered, known) if *entered == context => Some(*known),
+        Entry::Entered(entrance) => {
+            if entrance.topic.is_same(topic) {
+                Some(entrance.contribution)
+            } else {
+                None
+            }
+        }
         _ => None,
     }
 }

@@ -3,7 +3,7 @@ ghost use Rattle.std.specs.Prelude.{◌≡◌, ◌↔◌, ℕ, IsTrue, Some, sli
 ghost use Rattle.std.specs.List.{list_any};
 ghost use Rattle.ulfm_rank.specs.declared.entry.Entry.{Entry as Logged};
 ghost use Rattle.ulfm_laws.specs.Causes.{is_call_to_revoke, RevokedByCall, RevokedByARank};
-ghost use Rattle.ulfm_laws.specs.Shrinks.{AreTrue};
+ghost use Rattle.ulfm_laws.specs.Decisions.{AreTrue};
 ghost use Rattle.ulfm_run.specs.Caused.{HaveCauses, HasCause, IsCaused};
 
 use crate::adopted::are_true;

@@ -5,7 +5,7 @@ ghost use Rattle.ulfm_laws.specs.Answers.{AllAgree, AgreeAt};
 
 use ulfm_board::Decider;
 
-/// Compares each two of these deciders, which share a board: of no shrink they know two decisions. It
+/// Compares each two of these deciders, which share a board: on no topic they know two decisions. It
 /// changes nothing that they know.
 pub(crate) fn compared<D: Decider>(deciders: Vec<D>) -> Vec<D>
     requires one_board { NameOneBoard (map D.board deciders.items) }

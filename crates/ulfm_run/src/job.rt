@@ -9,7 +9,7 @@ ghost use Rattle.ulfm_laws.specs.Answers.{AllAgree};
 ghost use Rattle.ulfm_laws.specs.Causes.{RevokedByARank};
 ghost use Rattle.ulfm_laws.specs.Lawful.{LawfulReport};
 ghost use Rattle.ulfm_laws.specs.Reports.{IsEach};
-ghost use Rattle.ulfm_laws.specs.Shrinks.{AreTrue};
+ghost use Rattle.ulfm_laws.specs.Decisions.{AreTrue};
 ghost use Rattle.ulfm_run.specs.inside.Threads.{NameOneBoard, report_in, end_in, decider_in};
 ghost use Rattle.ulfm_run.specs.Fault.{ShowUntrue, Fits};
 ghost use Rattle.ulfm_run.specs.Flow.{EndsMatchLogs, contents};
@@ -32,14 +32,14 @@ use ulfm_script::{Job, RankReport, RunFault};
 /// step once; a step that the job's last poll for it left open is given up. After its last step it goes on for as many
 /// turns without polls; where it stopped, it pushes alone, until nothing is left to go out. Then the decisions that ranks
 /// adopted, and the revocations that they took notice of, are held against what the ranks report. What is left in the inboxes
-/// is gathered, and the deciders are compared: no two know two decisions of one shrink. No clause tells of threads, nor of the
+/// is gathered, and the deciders are compared: no two know two decisions on one topic. No clause tells of threads, nor of the
 /// order in a turn (docs/LIMITS.md).
 ///
 /// # Errors
 ///
 /// `BadEnds` where the number of ends or of deciders isn't that of the ranks, or an end stands at another place than its
 /// number; no thread is started then. `NoThread` where a thread couldn't be started, `OutOfMemory` where a growth outside the
-/// turns of the ranks was refused, `Untrue` where a decision that a rank adopted lists a set that isn't that of its rank's
+/// turns of the ranks was refused, `Untrue` where a decision that a rank adopted lists a set or a flag that isn't that of its rank's
 /// own entry, or excludes a rank that didn't stop, or where a rank took notice of a revocation that no rank's own call made;
 /// the threads that were started have run to their end then.
 pub fn run_job<E, D, R>(
@@ -56,7 +56,7 @@ where
     requires one_call { InPlace E.place ends.items → E.one_call (map E.name ends.items) }
     requires fresh { AllFresh E.count E.pushed E.taken E.ready ends.items }
     requires one_board { OneBoard D.board deciders.items }
-    requires undecided { All (λ d. D.known d ≡ nothing_known) deciders.items }
+    requires undecided { All (λ d. D.known d ≡ nothing_known 0) deciders.items }
     ensures fits { OnOk result (Fits E.place job.now ends.items deciders.items) }
     ensures bad_ends { (Fits E.place job.now ends.items deciders.items → ⊥) → result ≡ Err RunFault.BadEnds }
     ensures misfits { IfErr result (λ fault. fault ≡ RunFault.BadEnds → Fits E.place job.now ends.items deciders.items → ⊥) }

@@ -1,7 +1,9 @@
 -- What a decision makes of a player whose answers are right.
-use Rattle.std.proofs.Common.{◌≡◌, ◌≢◌, ℕ, List, length, refl, ap, sym, ◌∙◌, inl, inr, ◌⊎◌, false, get_or-set_other, Option, Some, None}
-use Rattle.ulfm_board.specs.Known.{Answers as BoardAnswers, Agrees, known_at}
-use Rattle.ulfm_script.proofs.Common.{AnswersFollowSoFar, Context, Decision, is_stopped, Learns, Player, Shrink, StandsOpen, State, step_report, StepAnswer, cases_eq}
+use Rattle.std.proofs.Common.{◌≡◌, ◌≢◌, ℕ, List, length, refl, ap, sym, ◌∙◌, inl, inr, ◌⊎◌, false, Option, Some}
+use Rattle.ulfm_board.specs.Known.{Answers as BoardAnswers, Agrees, cell_of, known_at}
+use Rattle.ulfm_board.proofs.Apart.{cells_apart}
+use Rattle.ulfm_board.proofs.Topics.{known_other}
+use Rattle.ulfm_script.proofs.Common.{AnswersFollowSoFar, Context, Topic, shrink_topic, Decision, is_stopped, Learns, Player, Shrink, StandsOpen, State, step_report, StepAnswer, cases_eq}
 use Rattle.ulfm_script.specs.Deciding.{Known, AnswersDecision, IsDecided}
 use Rattle.ulfm_script.specs.Answered.{EntersBetween, AdoptsKnown, LacksMemory, by_decision}
 use Rattle.ulfm_script.proofs.Beginnings.{Grew, grew-long, stood-now, stood-before, enters-grew}
@@ -14,12 +16,13 @@ use Rattle.ulfm_script.proofs.Polls.{Adds}
 pub agreed : (o : Option Decision) (held d : Decision) → Agrees o held → o ≡ Some d → d ≡ held
 agreed o held d h e = rw e at h
 
-pub keeps-answered : (board : Option (List ℕ)) (old : Known) (d held : Decision) (new : Known) → BoardAnswers board old d held new → (c : ℕ) (x : Decision) → known_at old c ≡ Some x → known_at new c ≡ Some x
-keeps-answered board old d held new h c x was = elim (cases_eq c d.context.number) [
+pub keeps-answered : (board : Option (List ℕ)) (old : Known) (d held : Decision) (new : Known) → BoardAnswers board old d held new → (c : Topic) (x : Decision) → known_at old c ≡ Some x → known_at new c ≡ Some x
+keeps-answered board old d held new h c x was = elim (cases_eq (cell_of c) (cell_of d.topic)) [
   | inl same ↦
-      let here : known_at old d.context.number ≡ Some x = ap (known_at old) (sym same) ∙ was in
-      ap (known_at new) same ∙ h.known_now ∙ ap (λ (y : Decision). Some y) (sym (agreed (known_at old d.context.number) held x h.as_before here))
-  | inr other ↦ ap (λ (k : Known). known_at k c) h.others_stay ∙ get_or-set_other old d.context.number c (Some held) None other ∙ was
+      let topic = cells_apart c d.topic same in
+      let here : known_at old d.topic ≡ Some x = ap (known_at old) (sym topic) ∙ was in
+      ap (known_at new) topic ∙ h.known_now ∙ ap (λ (y : Decision). Some y) (sym (agreed (known_at old d.topic) held x h.as_before here))
+  | inr other ↦ ap (λ (k : Known). known_at k c) h.others_stay ∙ known_other old c d.topic held other ∙ was
 ]
 
 -- what a rank's decider learns when the rank's open shrink is decided
@@ -28,22 +31,22 @@ learns-decided board known later r to end comm answer new entered h = elim h.out
   | inl a ↦ record {
     keeps = keeps-answered board known h.proposal a.held later a.board_answers;
     same = λ other from at e up.
-        let apart : other.number ≢ h.proposal.context.number = λ same. entered-once r other comm from at to end e up entered (same ∙ h.proposed.context) in
-        ap (λ (k : Known). known_at k other.number) a.board_answers.others_stay ∙ get_or-set_other known h.proposal.context.number other.number (Some a.held) None apart;
+        let apart : cell_of (shrink_topic other) ≢ cell_of h.proposal.topic = λ same. entered-once r other comm from at to end e up entered (ap (λ (t : Topic). t.context.number) (cells_apart (shrink_topic other) h.proposal.topic same ∙ h.proposed.about)) in
+        ap (λ (k : Known). known_at k (shrink_topic other)) a.board_answers.others_stay ∙ known_other known (shrink_topic other) h.proposal.topic a.held apart;
   }
   | inr s ↦ record {
     keeps = λ c x was. ap (λ (k : Known). known_at k c) s.known_stay ∙ was;
-    same = λ other from at e up. ap (λ (k : Known). known_at k other.number) s.known_stay;
+    same = λ other from at e up. ap (λ (k : Known). known_at k (shrink_topic other)) s.known_stay;
   }
 ]
 
 -- the decision that is adopted is known from now on
 outcome-decided : (board : Option (List ℕ)) (known later : Known) (r : State) (comm : Context) (answer : StepAnswer) (new : State) → AnswersDecision board known later r comm answer new → AdoptsKnown later r comm answer new ⊎ LacksMemory later r comm answer new
 outcome-decided board known later r comm answer new h = elim h.outcome [
-  | inl a ↦ inl (record { held = a.held; knows = ap (known_at later) (sym h.proposed.context) ∙ a.board_answers.known_now; adoption = a.adoption })
+  | inl a ↦ inl (record { held = a.held; knows = ap (known_at later) (sym h.proposed.about) ∙ a.board_answers.known_now; adoption = a.adoption })
   | inr s ↦
       inr (record {
-        unknown = ap (λ (k : Known). known_at k comm.number) s.known_stay ∙ ap (known_at known) (sym h.proposed.context) ∙ s.starves.unknown;
+        unknown = ap (λ (k : Known). known_at k (shrink_topic comm)) s.known_stay ∙ ap (known_at known) (sym h.proposed.about) ∙ s.starves.unknown;
         refused = s.refused;
         only = s.rank_stays;
       })

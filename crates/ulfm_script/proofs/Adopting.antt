@@ -1,8 +1,8 @@
 -- A rank that may adopt a decision is in its new group.
-use Rattle.std.proofs.Common.{◌≡◌, ℕ, Bool, true, false, cond, List, [], ◌∷◌, ◌||◌, Option, Some, None, not, refl, nat_eq, ◌==◌}
+use Rattle.std.proofs.Common.{◌≡◌, ℕ, Bool, true, false, cond, List, [], ◌∷◌, ◌||◌, Option, Some, None, not, refl, nat_eq}
 use Rattle.ulfm_base.specs.Group.{is_member, one_further, rank_in}
 use Rattle.ulfm_rank.specs.Checks.{Passes, adopt_checks, group_at}
-use Rattle.ulfm_script.proofs.Common.{all_pass, Decision, State, contradicts}
+use Rattle.ulfm_script.proofs.Common.{all_pass, is_topic, Topic, Decision, State, contradicts}
 use lib.Pointwise.{pointwise}
 
 third_of_four : (a b m d : Bool) → (not a || (not b || (not m || d))) ≡ false → m ≡ true
@@ -24,6 +24,6 @@ pub member_found : (group : List ℕ) (r : ℕ) → is_member group r ≡ true �
 member_found [] r member none = absurd (cc)
 member_found (m ∷ group) r member none = found_first _ group r (member_found group r) member none
 
-pub adopter_is_member : (r : State) (c : ℕ) (d : Decision) → Passes (adopt_checks r c d) → is_member d.fresh r.me ≡ true
-adopter_is_member r c d h =
-    third_of_four (d.context.number == c) (pointwise nat_eq d.old (group_at r c)) (is_member d.fresh r.me) (contradicts r.me r.log c d) (all_pass (adopt_checks r c d) h).1.1.1.1.0
+pub adopter_is_member : (r : State) (t : Topic) (d : Decision) → Passes (adopt_checks r t d) → is_member d.fresh r.me ≡ true
+adopter_is_member r t d h =
+    third_of_four (is_topic d.topic t) (pointwise nat_eq d.old (group_at r t.context.number)) (is_member d.fresh r.me) (contradicts r.me r.log t d) (all_pass (adopt_checks r t d) h).1.1.1.1.0

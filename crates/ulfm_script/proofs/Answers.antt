@@ -1,6 +1,6 @@
 -- Right answers stay right while the log grows and more is known.
 use Rattle.std.proofs.Common.{ℕ, ◌+◌, ◌≤◌, List, [], ◌∷◌, ◌++◌, refl, ◌∙◌, arith, inl, inr, append-nil, append_assoc}
-use Rattle.ulfm_script.proofs.Common.{Context, Entry, Known, Learns, State, StepReport}
+use Rattle.ulfm_script.proofs.Common.{Context, shrink_topic, Entry, Known, Learns, State, StepReport}
 use Rattle.ulfm_script.specs.Answered.{OnlyTook, EntersBetween, How, by_call, left_by_call, by_decision, left_undecided, AnswerFollows, EachAnswerFollows}
 use Rattle.ulfm_script.proofs.Beginnings.{Grew, stood-grew, took-grew, enters-grew}
 
@@ -36,7 +36,7 @@ how-grew known later r s to before from report old new k up g (by_decision h) =
       entered = enters-grew r s h.comm from report.at g h.entered;
       proposes = h.proposes;
       outcome = elim h.outcome [
-        | inl a ↦ inl (record { held = a.held; knows = k.keeps h.comm.number a.held a.knows; adoption = a.adoption })
+        | inl a ↦ inl (record { held = a.held; knows = k.keeps (shrink_topic h.comm) a.held a.knows; adoption = a.adoption })
         | inr w ↦ inr (record { unknown = k.same h.comm from report.at h.entered up ∙ w.unknown; refused = w.refused; only = w.only })
       ];
     })

@@ -2,6 +2,10 @@
 pub use Rattle.std.proofs.lemmas.List.Elements.{All-nil, All-push, All-append, All-head, All-tail, filter_map-append}
 pub use Rattle.std.proofs.lemmas.Option.{same_Some, slice_get-get_or, slice_get_within}
 pub use Rattle.ulfm_base.specs.Group.{rank_in}
+pub use Rattle.ulfm_base.specs.Topic.{is_topic, shrink_topic}
+pub use Rattle.ulfm_base.specs.declared.topic.Topic.{Topic}
+pub use Rattle.ulfm_base.specs.declared.contribution.Contribution.{Contribution}
+pub use Rattle.ulfm_base.specs.declared.entrance.Entrance.{Entrance}
 pub use Rattle.ulfm_base.specs.declared.context.Context.{Context}
 pub use Rattle.ulfm_base.specs.declared.decision.Decision.{Decision}
 pub use Rattle.ulfm_board.specs.Known.{known_at}
@@ -29,7 +33,7 @@ pub use Rattle.std.specs.Prelude.{Some, nat_lt, ⊤, ◌||◌}
 pub use Rattle.ulfm_base.specs.declared.error.CallError.TheVariants.{OutOfMemory}
 pub use Rattle.ulfm_base.specs.declared.rank_set.RankSet.{RankSet}
 pub use Rattle.ulfm_match.specs.declared.request.RequestId.{RequestId}
-pub use Rattle.ulfm_rank.specs.Shrink.{contradicts, entry_of, has_entered, is_foreign}
+pub use Rattle.ulfm_rank.specs.Proposal.{contradicts, entry_of, has_entered, is_foreign}
 pub use Rattle.ulfm_script.specs.Trace.{spaced, step_lines, trace_of}
 pub use Rattle.ulfm_script.specs.inside.Underway.{FollowsSoFar, answer_of, has_stop, polls_left}
 pub use Rattle.ulfm_rank.proofs.Entering.{Fits}

@@ -1,20 +1,22 @@
 -- What logs keep of shrinks, and that letters are signed, where a rank's answers are right.
 use Rattle.std.proofs.Common.{◌≡◌, ℕ, ◌<◌, true, false, List, [], ◌∷◌, ◌++◌, sym, subst, arith, inl, inr, All}
 use Rattle.ulfm_rank.specs.Checks.{Passes, adopt_checks, group_at}
-use Rattle.ulfm_rank.specs.Communicators.{is_made, members_of}
+use Rattle.ulfm_rank.specs.Communicators.{is_made}
+use Rattle.ulfm_rank.specs.Proposal.{deciders}
 use Rattle.ulfm_rank.proofs.Belonging.{Keeps, keeps-start, keeps-push, own_from}
-use Rattle.ulfm_script.proofs.Common.{Adopted, All-nil, All-push, all_pass, AnswersFollow, Context, Decision, Entered, Entry, IsTook, Known, known_at, logged, Report, State, StoodAt, Took, not-false, has_entered, is_foreign, ⊤, Some, IsSigned, Fits}
+use Rattle.ulfm_script.proofs.Common.{Adopted, All-nil, All-push, all_pass, AnswersFollow, Context, Topic, shrink_topic, Decision, Entered, Entry, IsTook, Known, known_at, logged, Report, State, StoodAt, Took, not-false, has_entered, is_foreign, ⊤, Some, IsSigned, Fits}
 use Rattle.ulfm_script.proofs.Fitting.{fits_apart, fits_entered}
 use Rattle.ulfm_script.proofs.Polls.{answers_plain, opens_adds, adoption_adds}
 use Rattle.ulfm_script.proofs.Says.{IsApart}
 use Rattle.ulfm_script.proofs.Walked.{KeepsAll, reported}
 
 -- a decision that no check refuses fits
-fits_adopted : (old : State) (comm : Context) (held : Decision) → Passes (adopt_checks old comm.number held) → Fits old.ranks old.me old.log (Adopted held)
+fits_adopted : (old : State) (comm : Context) (held : Decision) → Passes (adopt_checks old (shrink_topic comm) held) → Fits old.ranks old.me old.log (Adopted held)
 fits_adopted old comm held passes =
-    let all = all_pass (adopt_checks old comm.number held) passes in
-    let own = own_from old.me (group_at old comm.number) old.log comm.number held all.1.1.1.1.0 in
-    subst (λ (c : ℕ). (is_made old.ranks old.log c ≡ true) × (has_entered old.log c ≡ true) × (is_foreign old.me (members_of old.ranks old.log c) old.log c held ≡ false)) (sym own.context) (not-false (is_made old.ranks old.log comm.number) all.1.0, not-false (has_entered old.log comm.number) all.1.1.1.0, all.1.1.1.1.0)
+    let all = all_pass (adopt_checks old (shrink_topic comm) held) passes in
+    let own = own_from old.me (group_at old comm.number) old.log (shrink_topic comm) held all.1.1.1.1.0 in
+    let F : Topic → Type 0 = λ t. (is_made old.ranks old.log t.context.number ≡ true) × (has_entered old.log t ≡ true) × (is_foreign old.me (deciders old.ranks old.log t) old.log t held ≡ false) in
+    subst F (sym own.about) (not-false (is_made old.ranks old.log comm.number) all.1.0, not-false (has_entered old.log (shrink_topic comm)) all.1.1.1.0, all.1.1.1.1.0)
 
 -- a decision that is known, and that no check refused to the rank r as it stood
 pub record Granted (known : Known) (r : State) (held : Decision) : Type 0 where
@@ -22,8 +24,8 @@ pub record Granted (known : Known) (r : State) (held : Decision) : Type 0 where
   pub old : State
   pub comm : Context
   pub stood : StoodAt r place old
-  pub knows : known_at known comm.number ≡ Some held
-  pub passes : Passes (adopt_checks old comm.number held)
+  pub knows : known_at known (shrink_topic comm) ≡ Some held
+  pub passes : Passes (adopt_checks old (shrink_topic comm) held)
 
 -- an entry adopts such a decision, if it adopts one
 abbrev pub IsGranted : Known → State → Entry → Type 0
@@ -57,7 +59,7 @@ module _ (known : Known) (r : State) (K : List Entry → Type 0) (step : (log : 
     ];
     opens = λ n old new done asked stood o k. elim (opens_adds done old asked new o) [
       | inl same ↦ rw same k
-      | inr entry ↦ push n old new (Entered entry.0 entry.2.known) stood (fits_entered old entry.0 entry.2.known entry.1 entry.2.knows) tt tt entry.2.only k
+      | inr entry ↦ push n old new (Entered entry.2.entrance) stood (fits_entered old entry.0 entry.2.entrance entry.1 entry.2.about entry.2.knows) tt tt entry.2.only k
     ];
     adopts = λ n old new done report comm held stood is knows a k. elim (adoption_adds old comm held report.answer new a) [
       | inl same ↦ rw same k

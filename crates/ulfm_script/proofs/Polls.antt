@@ -1,10 +1,10 @@
 -- What a poll of a step adds to a log.
-use Rattle.std.proofs.Common.{◌≡◌, ℕ, Bool, true, false, List, [], refl, ap, sym, ◌∙◌, inl, inr, ◌⊎◌}
+use Rattle.std.proofs.Common.{◌≡◌, ℕ, Bool, true, false, List, [], None, refl, ap, sym, ◌∙◌, inl, inr, ◌⊎◌}
 use Rattle.ulfm_rank.specs.declared.entry.Entry.TheVariants.{Sent as SentEntry, Posted as PostedEntry, Released, Received, Cancelled, Probed, Entered, Adopted, Took}
 use Rattle.ulfm_rank.specs.declared.entry.TestAnswer.TheVariants.{Done as TestDone, Over as TestOver}
 use Rattle.ulfm_rank.specs.State.{State, IsState, logged}
 use Rattle.ulfm_rank.proofs.Quiet.{Own, quiet-same, quiet-logged}
-use Rattle.ulfm_script.proofs.Common.{adopt_checks, AnswersAdoption, Context, Decision, Entry, is_stop_step, Passes, Shrink, shrink_checks, Step, StepAnswer, StepReport, Wait, Probe, false≢true, Player, comm_of, AnswersStep, LeavesOpen, StaysOpen, awaits_decision, IsCalled, GivesUpStep, ◌||◌, stopped-push, Quiet, is_stop, is_stopped, took_by, IsSigned, Enters}
+use Rattle.ulfm_script.proofs.Common.{adopt_checks, shrink_topic, AnswersAdoption, Context, Decision, Entry, is_stop_step, Passes, Shrink, shrink_checks, Step, StepAnswer, StepReport, Wait, Probe, false≢true, Player, AnswersStep, LeavesOpen, StaysOpen, awaits_decision, IsCalled, GivesUpStep, ◌||◌, stopped-push, Quiet, is_stop, is_stopped, took_by, IsSigned, Enters}
 use Rattle.ulfm_script.specs.declared.answer.StepAnswer.TheVariants.{Shrunk, Refused}
 use Rattle.ulfm_script.proofs.Says.{IsIdle, IsApart, AddsIdle, each_answer}
 
@@ -76,7 +76,7 @@ answers_add done r asked answer new running h = elim (answers_plain done r asked
 
 -- nothing is added, or a shrink is entered that no check refuses
 abbrev pub Opens : State → State → Type 0
-Opens old new = (new ≡ old) ⊎ ((comm : Context) × Passes (shrink_checks old comm.number) × Enters old (comm_of comm) new)
+Opens old new = (new ≡ old) ⊎ ((comm : Context) × Passes (shrink_checks old comm) × Enters old (shrink_topic comm) None new)
 
 pub opens_adds : (done : List StepReport) (r : State) (asked : Step) (new : State) → LeavesOpen done r asked new → Opens r new
 opens_adds done r (Wait req) new h = inl h.only
@@ -94,7 +94,7 @@ opens_go_on done r _ new h = absurd h
 adds_open : (done : List StepReport) (r : State) (asked : Step) (new : State) → LeavesOpen done r asked new → Adds r false new
 adds_open done r asked new h = elim (opens_adds done r asked new h) [
   | inl same ↦ adds_same r new same
-  | inr entry ↦ adds_one r new (Entered entry.0 entry.2.known) false (record { signed = tt; takes_none = λ s. refl }) refl entry.2.only
+  | inr entry ↦ adds_one r new (Entered entry.2.entrance) false (record { signed = tt; takes_none = λ s. refl }) refl entry.2.only
 ]
 
 -- a poll that leaves a step open adds its entry into a shrink at most
@@ -103,7 +103,7 @@ opens_add true done r asked new h = adds_same r new h
 opens_add false done r asked new h = adds_open done r asked new h
 
 -- an adoption adds nothing where it is refused, else its entry
-pub adoption_adds : (r : State) (comm : Context) (held : Decision) (answer : StepAnswer) (new : State) → AnswersAdoption r comm held answer new → (new ≡ r) ⊎ (Passes (adopt_checks r comm.number held) × (new ≡ logged r (Adopted held)))
+pub adoption_adds : (r : State) (comm : Context) (held : Decision) (answer : StepAnswer) (new : State) → AnswersAdoption r comm held answer new → (new ≡ r) ⊎ (Passes (adopt_checks r (shrink_topic comm) held) × (new ≡ logged r (Adopted held)))
 adoption_adds r comm held (Shrunk child group me) new h = inr (h.0, h.4)
 adoption_adds r comm held (Refused e) new h = inl h.1
 adoption_adds r comm held _ new h = absurd h

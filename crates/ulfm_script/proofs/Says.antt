@@ -30,7 +30,7 @@ IsIdle _ = ⊤
 -- an entry adopts no decision and enters no shrink
 abbrev pub IsApart : Entry → Type 0
 IsApart (Adopted d) = ⊥
-IsApart (Entered context set) = ⊥
+IsApart (Entered entrance) = ⊥
 IsApart _ = ⊤
 
 -- an entry of a step's silent answer, a stop where the step is

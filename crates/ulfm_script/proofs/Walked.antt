@@ -1,7 +1,7 @@
 -- What each thing that happens to a rank keeps, all that happened to it keeps, where its answers are right.
 use Rattle.std.proofs.Common.{◌≡◌, ℕ, ◌+◌, List, [], ◌∷◌, ◌++◌, length, take, refl, ap, sym, subst, ◌∙◌, arith, inl, inr, ◌⊎◌, append-nil, append_assoc, length-append, Option, Some, None, All}
 use Rattle.std.proofs.Math.Seq.{take-append_seam, take-length}
-use Rattle.ulfm_script.proofs.Common.{AnswersAdoption, AnswersFollowSoFar, AnswersStep, Context, Decision, Entry, Known, known_at, LeavesOpen, Player, Refused, Report, Shrink, Since, Stands, State, Step, StepReport, Unfinished, OutOfMemory, All-head, All-tail}
+use Rattle.ulfm_script.proofs.Common.{AnswersAdoption, AnswersFollowSoFar, AnswersStep, Context, Decision, Entry, shrink_topic, Known, known_at, LeavesOpen, Player, Refused, Report, Shrink, Since, Stands, State, Step, StepReport, Unfinished, OutOfMemory, All-head, All-tail}
 use Rattle.ulfm_script.specs.Answered.{StoodAt, IsTook, OnlyTook, EntersBetween, AnsweredByDecision, by_call, left_by_call, by_decision, left_undecided, AnswerFollows, EachAnswerFollows, AnswersFollow}
 
 -- K holds of the answered steps and the log after each thing that may happen to the rank r, if it held before: an item is
@@ -10,7 +10,7 @@ pub record KeepsAll (known : Known) (r : State) (K : List StepReport → List En
   pub takes : (done : List StepReport) (log : List Entry) (e : Entry) → IsTook e → K done log → K done (log ++ e ∷ [])
   pub answers : (n : ℕ) (old new : State) (done : List StepReport) (report : StepReport) → StoodAt r n old → AnswersStep done old report.step report.answer new → K done old.log → K (done ++ report ∷ []) new.log
   pub opens : (n : ℕ) (old new : State) (done : List StepReport) (asked : Step) → StoodAt r n old → LeavesOpen done old asked new → K done old.log → K done new.log
-  pub adopts : (n : ℕ) (old new : State) (done : List StepReport) (report : StepReport) (comm : Context) (held : Decision) → StoodAt r n old → report.step ≡ Shrink comm → known_at known comm.number ≡ Some held → AnswersAdoption old comm held report.answer new → K done old.log → K (done ++ report ∷ []) new.log
+  pub adopts : (n : ℕ) (old new : State) (done : List StepReport) (report : StepReport) (comm : Context) (held : Decision) → StoodAt r n old → report.step ≡ Shrink comm → known_at known (shrink_topic comm) ≡ Some held → AnswersAdoption old comm held report.answer new → K done old.log → K (done ++ report ∷ []) new.log
   pub ends : (log : List Entry) (done : List StepReport) (report : StepReport) → (report.answer ≡ Unfinished) ⊎ (report.answer ≡ Refused OutOfMemory) → K done log → K (done ++ report ∷ []) log
 
 module _ (known : Known) (r : State) (K : List StepReport → List Entry → Type 0) (keeps : KeepsAll known r K) where

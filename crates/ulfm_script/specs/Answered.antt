@@ -1,5 +1,6 @@
 -- What the answers of a rank's steps say of its log.
 use Rattle.std.specs.Prelude.{◌≡◌, ℕ, ⊤, true, false, List, [], ◌∷◌, ◌++◌, ◌+◌, ◌<◌, ◌⊎◌, ◌≤◌, length, All, Some, None}
+use Rattle.ulfm_base.specs.Topic.{shrink_topic}
 use Rattle.ulfm_base.specs.declared.context.Context.{Context}
 use Rattle.ulfm_base.specs.declared.decision.Decision.{Decision}
 use Rattle.ulfm_base.specs.declared.error.CallError.TheVariants.{OutOfMemory}
@@ -17,7 +18,7 @@ use Rattle.ulfm_script.specs.declared.answer.StepReport.{StepReport}
 use Rattle.ulfm_job.specs.declared.step.Step.{Step}
 use Rattle.ulfm_job.specs.declared.step.Step.TheVariants.{Shrink}
 use Rattle.ulfm_script.specs.Deciding.{Known, AnswersAdoption, HasProposal}
-use Rattle.ulfm_script.specs.Calls.{AnswersStep, LeavesOpen, comm_of}
+use Rattle.ulfm_script.specs.Calls.{AnswersStep, LeavesOpen}
 use Rattle.ulfm_script.specs.Report.{Report}
 
 -- the rank as it stood when its log had so many entries; what left its outboxes plays no part in an answer
@@ -51,8 +52,8 @@ pub record EntersBetween (rank : State) (comm : Context) (from to : ℕ) : Type 
   pub new : State
   pub stood : StoodAt rank place old
   pub stood_next : StoodAt rank (place + 1) new
-  pub accepted : Passes (shrink_checks old comm.number)
-  pub enters : Enters old (comm_of comm) new
+  pub accepted : Passes (shrink_checks old comm)
+  pub enters : Enters old (shrink_topic comm) None new
   pub took_before : OnlyTook rank.log from place
   pub took_after : OnlyTook rank.log (place + 1) to
 
@@ -78,12 +79,12 @@ pub record LeftByCall (rank : State) (before : List StepReport) (from : ℕ) (re
 -- the decision that the rank's decider knows is adopted, or not, for a reason that stands
 pub record AdoptsKnown (known : Known) (r : State) (comm : Context) (answer : StepAnswer) (new : State) : Type 0 where
   pub held : Decision
-  pub knows : known_at known comm.number ≡ Some held
+  pub knows : known_at known (shrink_topic comm) ≡ Some held
   pub adoption : AnswersAdoption r comm held answer new
 
 -- the board was out of memory, where no decision is known, and nothing changes
 pub record LacksMemory (known : Known) (r : State) (comm : Context) (answer : StepAnswer) (new : State) : Type 0 where
-  pub unknown : known_at known comm.number ≡ None
+  pub unknown : known_at known (shrink_topic comm) ≡ None
   pub refused : answer ≡ Refused OutOfMemory
   pub only : new ≡ r
 

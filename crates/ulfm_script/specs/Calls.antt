@@ -1,5 +1,6 @@
 -- What the answer of a step says of its rank, and what it does to it.
 use Rattle.std.specs.Prelude.{◌≡◌, ℕ, ⊤, false, List, [], ◌<◌, length, filter_map, Option, Some, None, slice_get, if◌then◌else◌}
+use Rattle.ulfm_base.specs.Topic.{shrink_topic}
 use Rattle.ulfm_base.specs.declared.context.Context.{Context}
 use Rattle.ulfm_base.specs.declared.tag.Tag.{Tag}
 use Rattle.ulfm_base.specs.declared.pattern.Pattern.{Pattern}
@@ -198,7 +199,7 @@ AnswersDup r comm _ new = ⊥
 
 -- the first poll of a shrink enters it, or is refused
 abbrev pub AnswersEntry : State → Context → StepAnswer → State → Type 0
-AnswersEntry r comm (Refused e) new = Refuses (shrink_checks r comm.number) e r new
+AnswersEntry r comm (Refused e) new = Refuses (shrink_checks r comm) e r new
 AnswersEntry r comm _ new = ⊥
 
 -- the rank stops
@@ -225,5 +226,5 @@ AnswersStep before r Stop answer new = AnswersStop r answer new
 abbrev pub LeavesOpen : List StepReport → State → Step → State → Type 0
 LeavesOpen before r (Wait req) new = Tests before r req TestNotYet new
 LeavesOpen before r (Probe source tag comm) new = LeavesProbe r source tag comm new
-LeavesOpen before r (Shrink comm) new = Passes (shrink_checks r comm.number) × Enters r (comm_of comm) new
+LeavesOpen before r (Shrink comm) new = Passes (shrink_checks r comm) × Enters r (shrink_topic comm) None new
 LeavesOpen before r _ new = ⊥

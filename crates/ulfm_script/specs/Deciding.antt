@@ -1,5 +1,6 @@
 -- How the decision of a shrink is asked for and adopted.
 use Rattle.std.specs.Prelude.{◌≡◌, ℕ, true, List, ◌⊎◌, length, Option, Some}
+use Rattle.ulfm_base.specs.Topic.{shrink_topic}
 use Rattle.ulfm_base.specs.declared.context.Context.{Context}
 use Rattle.ulfm_base.specs.declared.decision.Decision.{Decision}
 use Rattle.ulfm_base.specs.declared.error.CallError.TheVariants.{OutOfMemory}
@@ -9,7 +10,7 @@ use Rattle.ulfm_board.specs.Known.{Answers as BoardAnswers, Starves}
 use Rattle.ulfm_rank.specs.declared.entry.Entry.TheVariants.{Adopted}
 use Rattle.ulfm_rank.specs.State.{State, logged}
 use Rattle.ulfm_rank.specs.Checks.{Passes, group_at, proposal_checks, adopt_checks}
-use Rattle.ulfm_rank.specs.Shrink.{has_proposal, IsProposal}
+use Rattle.ulfm_rank.specs.Proposal.{has_proposal, IsProposal}
 use Rattle.ulfm_job.specs.declared.step.Step.TheVariants.{Shrink}
 use Rattle.ulfm_script.specs.declared.answer.StepAnswer.{StepAnswer}
 use Rattle.ulfm_script.specs.declared.answer.StepAnswer.TheVariants.{Shrunk, Refused}
@@ -18,7 +19,7 @@ use Rattle.ulfm_script.specs.declared.answer.Decided.TheVariants.{Answered, NotR
 use Rattle.ulfm_script.specs.Calls.{Refuses}
 use Rattle.ulfm_script.specs.Player.{Player, with_rank, answered}
 
--- what a decider knows, by the numbers of contexts
+-- what a decider knows, by the cells of topics
 abbrev pub Known : Type 0
 Known = List (Option Decision)
 
@@ -26,12 +27,12 @@ Known = List (Option Decision)
 -- or with why it is refused.
 abbrev pub AnswersAdoption : State → Context → Decision → StepAnswer → State → Type 0
 AnswersAdoption r comm held (Shrunk child group me) new =
-    Passes (adopt_checks r comm.number held)
+    Passes (adopt_checks r (shrink_topic comm) held)
     × (child.context.number ≡ shrink_of comm.number)
     × (group ≡ held.fresh)
     × (rank_in held.fresh r.me ≡ Some me)
     × (new ≡ logged r (Adopted held))
-AnswersAdoption r comm held (Refused e) new = Refuses (adopt_checks r comm.number held) e r new
+AnswersAdoption r comm held (Refused e) new = Refuses (adopt_checks r (shrink_topic comm) held) e r new
 AnswersAdoption r comm held _ new = ⊥
 
 -- the decision that the board holds, once the proposal is handed in, is adopted
@@ -44,7 +45,7 @@ pub record AdoptsBoardDecision (board : Option (List ℕ)) (known later : Known)
 -- the board found no memory, and nothing changes
 pub record BoardStarves (board : Option (List ℕ)) (known later : Known) (proposal : Decision) (r : State)
     (answer : StepAnswer) (new : State) : Type 0 where
-  pub starves : Starves board known proposal.context.number
+  pub starves : Starves board known proposal.topic
   pub known_stay : later ≡ known
   pub refused : answer ≡ Refused OutOfMemory
   pub rank_stays : new ≡ r
@@ -53,16 +54,16 @@ pub record BoardStarves (board : Option (List ℕ)) (known later : Known) (propo
 -- the board has no memory.
 pub record AnswersDecision (board : Option (List ℕ)) (known later : Known) (r : State) (comm : Context)
     (answer : StepAnswer) (new : State) : Type 0 where
-  pub accepted : Passes (proposal_checks r comm.number)
+  pub accepted : Passes (proposal_checks r (shrink_topic comm))
   pub proposal : Decision
-  pub proposed : IsProposal r.ranks r.me r.log comm.number proposal
+  pub proposed : IsProposal r.ranks r.me r.log (shrink_topic comm) proposal
   pub outcome : AdoptsBoardDecision board known later proposal r comm answer new
       ⊎ BoardStarves board known later proposal r answer new
 
 -- a rank has a proposal for the shrink of a communicator
 pub record HasProposal (r : State) (comm : Context) : Type 0 where
-  pub accepted : Passes (proposal_checks r comm.number)
-  pub complete : has_proposal r.me (group_at r comm.number) r.log comm.number ≡ true
+  pub accepted : Passes (proposal_checks r (shrink_topic comm))
+  pub complete : has_proposal r.me (group_at r comm.number) r.log (shrink_topic comm) ≡ true
 
 -- the shrink of this communicator stands open, and has a proposal
 pub record IsReadyToDecide (p : Player) (comm : Context) : Type 0 where

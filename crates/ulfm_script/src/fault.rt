@@ -17,7 +17,7 @@ pub enum RunFault {
     /// A growth was refused outside the polls of steps.
     #[error("out of memory")]
     OutOfMemory,
-    /// A rank adopted a decision that lists a rank with another set than the one with which that rank entered, or that
+    /// A rank adopted a decision that lists a rank with another set or flag than those with which that rank entered, or that
     /// excludes a rank that didn't stop. Or a rank took notice of a revocation that no rank's own call made. What the ranks
     /// did shows it.
     #[error("a decision or a revocation isn't true of what the ranks did")]

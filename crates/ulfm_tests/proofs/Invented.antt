@@ -1,13 +1,17 @@
 -- Decisions of which one more member is excluded, or listed, and a mapped list that is made.
-use Rattle.std.proofs.Common.{◌≡◌, ◌≢◌, ◌⊎◌, ◌||◌, ℕ, zero, suc, true, false, List, [], ◌∷◌, ◌++◌, append-nil, map, set, Option, Some, is_some, refl, ap, sym, ◌∙◌, inl, inr}
+use Rattle.std.proofs.Common.{◌≡◌, ◌≢◌, ◌⊎◌, ◌||◌, ℕ, zero, suc, true, false, List, [], ◌∷◌, ◌++◌, append-nil, map, set, subst, Option, Some, None, is_some, refl, ap, sym, ◌∙◌, inl, inr}
 use Rattle.std.proofs.lemmas.Bool.{cases_eq, false≢true, or_cases, or_left, or_right}
 use Rattle.ulfm_base.specs.declared.decision.Decision.{Decision}
 use Rattle.ulfm_base.specs.declared.rank_set.RankSet.{RankSet}
-use Rattle.ulfm_base.specs.Decision.{IsLawfulDecision, entry_at, in_entry, is_listed}
+use Rattle.std.proofs.lemmas.Option.{same_Some}
+use Rattle.ulfm_base.specs.declared.contribution.Contribution.{Contribution}
+use Rattle.ulfm_base.specs.declared.topic.Purpose.TheVariants.{Shrink}
+use Rattle.ulfm_base.specs.Topic.{Fits, is_agreement}
+use Rattle.ulfm_base.specs.Decision.{IsLawfulDecision, entry_at, in_entry, is_listed, value_of}
 use Rattle.ulfm_base.specs.Group.{is_member, excluding}
 use Rattle.ulfm_base.specs.RankSet.{has}
 
-pub also_excluded : (d : Decision) (last : ℕ) (excluded : RankSet) (fresh : _) → is_member d.old last ≡ true → has excluded last ≡ true → ((r : ℕ) → r ≢ last → has excluded r ≡ has d.excluded r) → fresh ≡ excluding d.old (has excluded) → IsLawfulDecision d.context.number d.old d.entries excluded fresh
+pub also_excluded : (d : Decision) (last : ℕ) (excluded : RankSet) (fresh : _) → is_member d.old last ≡ true → has excluded last ≡ true → ((r : ℕ) → r ≢ last → has excluded r ≡ has d.excluded r) → fresh ≡ excluding d.old (has excluded) → IsLawfulDecision d.topic d.old d.entries excluded fresh d.value
 also_excluded d last excluded fresh member out others is = record {
   has_shrink = d.lawful.has_shrink;
   complete = λ r h. elim (or_cases (is_listed d.entries r) (has d.excluded r) (d.lawful.complete r h)) [
@@ -21,6 +25,8 @@ also_excluded d last excluded fresh member out others is = record {
     | inr other ↦ d.lawful.excluded_members r (sym (others r other) ∙ h)
   ];
   survivors = is;
+  flags = d.lawful.flags;
+  and_of_flags = d.lawful.and_of_flags;
 }
   where
     still : (r : ℕ) → has d.excluded r ≡ true → has excluded r ≡ true
@@ -29,8 +35,8 @@ also_excluded d last excluded fresh member out others is = record {
       | inr other ↦ others r other ∙ h
     ]
 
--- where a list has one more set, there is that set, or what was there
-pub entry_set : (entries : List (Option RankSet)) (one r : ℕ) (set_of : Option RankSet) → ((entry_at (set entries one set_of) r ≡ set_of) × (r ≡ one)) ⊎ (entry_at (set entries one set_of) r ≡ entry_at entries r)
+-- where a list has one more entry, there is that entry, or what was there
+pub entry_set : (entries : List (Option Contribution)) (one r : ℕ) (set_of : Option Contribution) → ((entry_at (set entries one set_of) r ≡ set_of) × (r ≡ one)) ⊎ (entry_at (set entries one set_of) r ≡ entry_at entries r)
 entry_set [] one r set_of = inr refl
 entry_set (e ∷ entries) zero zero set_of = inl (refl, refl)
 entry_set (e ∷ entries) zero (suc r) set_of = inr refl
@@ -40,9 +46,9 @@ entry_set (e ∷ entries) (suc one) (suc r) set_of = elim (entry_set entries one
   | inr other ↦ inr other
 ]
 
--- a member is listed with no failures, and all else is as before
-pub also_listed : (d : Decision) (one : ℕ) (none : RankSet) → is_member d.old one ≡ true → ((r : ℕ) → has none r ≡ false) → IsLawfulDecision d.context.number d.old (set d.entries one (Some none)) d.excluded d.fresh
-also_listed d one none member empty = record {
+-- a member is listed with no failures in the decision of a shrink, and all else is as before
+pub also_listed : (d : Decision) (one : ℕ) (known : RankSet) → is_member d.old one ≡ true → ((r : ℕ) → has known r ≡ false) → d.topic.purpose ≡ Shrink → IsLawfulDecision d.topic d.old (set d.entries one (Some (record { known = known; flag = None }))) d.excluded d.fresh d.value
+also_listed d one known member empty shrinks = record {
   has_shrink = d.lawful.has_shrink;
   complete = λ r h. elim (entry_set d.entries one r (Some none)) [
     | inl here ↦ or_left (is_listed entries r) (has d.excluded r) (ap is_some here.0)
@@ -58,9 +64,19 @@ also_listed d one none member empty = record {
   ];
   excluded_members = d.lawful.excluded_members;
   survivors = d.lawful.survivors;
+  flags = λ r brought h. elim (entry_set d.entries one r (Some none)) [
+    | inl here ↦
+        let same : none ≡ brought = same_Some none brought (sym here.0 ∙ h) in
+        subst (λ (c : Contribution). Fits d.topic.purpose c.flag) same (sym (ap is_agreement shrinks))
+    | inr is ↦ d.lawful.flags r brought (sym is ∙ h)
+  ];
+  and_of_flags = d.lawful.and_of_flags ∙ ap (λ p. value_of p d.entries) shrinks ∙ ap (λ p. value_of p entries) (sym shrinks);
 }
   where
-    entries : List (Option RankSet)
+    none : Contribution
+    none = record { known = known; flag = None }
+
+    entries : List (Option Contribution)
     entries = set d.entries one (Some none)
 
 -- all that was left is made, where nothing is left now

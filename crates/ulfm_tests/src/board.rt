@@ -7,7 +7,7 @@ use std::ops::Range;
 use std::test::Fail;
 use std::thread;
 use std::thread::{JoinHandle, Threads};
-use ulfm_base::{CallError, Context, Decision, Group, OutOfMemory};
+use ulfm_base::{CallError, Context, Decision, Group, OutOfMemory, Purpose, Topic};
 use ulfm_board::{Decider, MemoryBoard, Seat, seats};
 
 const SHRUNK: Context = Context { number: 2 };
@@ -20,11 +20,15 @@ fn none_left(alloc: Global, context: Context, n: u8) -> Result<Decision, CallErr
     let excluded = old.members();
     let fresh = old.excluding(excluded);
     let decision = Decision {
-        context,
+        topic: Topic {
+            context,
+            purpose: Purpose::Shrink,
+        },
         old,
         entries: [None; 8],
         excluded,
         fresh,
+        value: None,
     };
     Ok(decision)
 }
@@ -115,7 +119,7 @@ fn answer_by_context<D: Decider>(one: &mut D, other: &mut D, alloc: Global) -> R
 
 #[test]
 fn seats_of_one_board(rt: HostRuntime) -> Result<(), Fail> {
-    let mut all = seats(rt.alloc(), 3)?;
+    let mut all = seats(rt.alloc(), 3, 0)?;
     let count = all.len();
     let (Some(mut one), Some(mut other)) = (all.pop(), all.pop()) else {
         return Err(Fail::new("no seats"));
@@ -146,7 +150,7 @@ fn both_answer_each<D: Decider>(
 
 // Whether two seats do.
 fn seats_answer_each(alloc: Global, upwards: bool) -> Result<bool, Fail> {
-    let mut all = seats(alloc, 2)?;
+    let mut all = seats(alloc, 2, 0)?;
     let (Some(mut one), Some(mut other)) = (all.pop(), all.pop()) else {
         return Err(Fail::new("no seats"));
     };
@@ -208,7 +212,7 @@ fn start<R: Threads>(
 
 // Three seats of one board.
 fn three_seats(alloc: Global) -> Result<(Seat, Seat, Seat), Fail> {
-    let mut all = seats(alloc, 3)?;
+    let mut all = seats(alloc, 3, 0)?;
     let one = all.pop().ok_or("no seat")?;
     let two = all.pop().ok_or("no seat")?;
     let three = all.pop().ok_or("no seat")?;
@@ -262,10 +266,10 @@ fn a_board_of_one_owner(rt: HostRuntime) -> Result<(), Fail> {
 fn numbers_of_seats(rt: HostRuntime) -> Result<(), Fail> {
     for n in [0, 9] {
         assert!(rt;
-            matches!(seats(rt.alloc(), n), Err(CallError::BadSize)),
+            matches!(seats(rt.alloc(), n, 0), Err(CallError::BadSize)),
             "{n} seats"
         );
     }
-    assert_eq!(rt; seats(rt.alloc(), 8)?.len(), 8);
+    assert_eq!(rt; seats(rt.alloc(), 8, 0)?.len(), 8);
     Ok(())
 }

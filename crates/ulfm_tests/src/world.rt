@@ -1,6 +1,7 @@
 //! Events one by one.
 
 mod adopting;
+mod agreeing;
 mod recovery;
 
 use std::test::Fail;

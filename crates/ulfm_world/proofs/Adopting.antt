@@ -1,9 +1,11 @@
 -- How a decision is held and adopted.
-use Rattle.std.proofs.Common.{◌≡◌, ◌≢◌, ℕ, ◌<◌, true, false, List, [], ◌∷◌, ◌++◌, refl, ap, sym, ◌∙◌, arith, inl, inr, ◌⊎◌, Option, Some, None, get_or-set_other}
-use Rattle.ulfm_world.proofs.Common.{Context, Decision, Entry, Adopted, is_stopped, State, Shrink, Player, World, player_at, rank_at, IsRunning, IsWorld, cases_eq, none-some, same_Some, All-push, CallError, OutOfMemory, is_made, members_of, StepAnswer, AnswersAdoption, Fits, IsOwn, not_foreign, adoption_adds}
-use Rattle.ulfm_board.specs.Known.{known_at, Answers as BoardAnswers}
+use Rattle.std.proofs.Common.{◌≡◌, ◌≢◌, ℕ, ◌<◌, true, false, List, [], ◌∷◌, ◌++◌, refl, ap, sym, ◌∙◌, arith, inl, inr, ◌⊎◌, Option, Some, None}
+use Rattle.ulfm_world.proofs.Common.{Context, Topic, shrink_topic, deciders, Decision, Entry, Adopted, is_stopped, State, Shrink, Player, World, player_at, rank_at, IsRunning, IsWorld, cases_eq, none-some, same_Some, All-push, CallError, OutOfMemory, is_made, members_of, StepAnswer, AnswersAdoption, Fits, IsOwn, not_foreign, adoption_adds}
+use Rattle.ulfm_board.specs.Known.{cell_of, known_at, Answers as BoardAnswers}
+use Rattle.ulfm_board.proofs.Apart.{cells_apart}
+use Rattle.ulfm_board.proofs.Topics.{known_other}
 use Rattle.ulfm_rank.specs.Checks.{Passes, FailsOrStarves, group_at, adopt_checks}
-use Rattle.ulfm_rank.specs.Shrink.{has_entered, has_adopted, is_foreign, IsProposal}
+use Rattle.ulfm_rank.specs.Proposal.{has_entered, has_adopted, is_foreign, IsProposal}
 use Rattle.ulfm_world.proofs.Agreed.{IsAdopted, IsHeld, Settled}
 use Rattle.ulfm_world.proofs.Held.{proposal_held, held_own}
 use Rattle.ulfm_world.proofs.Grown.{Moved, StillHeld, all_later}
@@ -11,35 +13,37 @@ use Rattle.ulfm_script.proofs.Adopted.{agreed}
 
 -- what the board knew, and knows once a proposal is handed in: the one that is held, or what was known
 module _ (known later : List (Option Decision)) (proposal held : Decision) (b : BoardAnswers None known proposal held later) where
-  pub others_known : (c : ℕ) → c ≢ proposal.context.number → known_at later c ≡ known_at known c
-  others_known c other = ap (λ (ks : List (Option Decision)). known_at ks c) b.others_stay ∙ get_or-set_other known proposal.context.number c (Some held) None other
+  pub others_known : (c : Topic) → cell_of c ≢ cell_of proposal.topic → known_at later c ≡ known_at known c
+  others_known c other = ap (λ (ks : List (Option Decision)). known_at ks c) b.others_stay ∙ known_other known c proposal.topic held other
 
   pub still_known : StillHeld known later
-  still_known c d k = elim (cases_eq c proposal.context.number) [
-    | inl same ↦ ap (known_at later) same ∙ b.known_now ∙ ap Some (sym (agreed (known_at known proposal.context.number) held d b.as_before (ap (known_at known) (sym same) ∙ k)))
+  still_known c d k = elim (cases_eq (cell_of c) (cell_of proposal.topic)) [
+    | inl cell ↦
+        let same = cells_apart c proposal.topic cell in
+        ap (known_at later) same ∙ b.known_now ∙ ap Some (sym (agreed (known_at known proposal.topic) held d b.as_before (ap (known_at known) (sym same) ∙ k)))
     | inr other ↦ others_known c other ∙ k
   ]
 
   -- the decision that is held was known, or it is the proposal
-  pub held_cases : (known_at known proposal.context.number ≡ Some held) ⊎ (held ≡ proposal)
-  held_cases = pick (known_at known proposal.context.number) refl
+  pub held_cases : (known_at known proposal.topic ≡ Some held) ⊎ (held ≡ proposal)
+  held_cases = pick (known_at known proposal.topic) refl
     where
-      pick : (o : Option Decision) → known_at known proposal.context.number ≡ o → (known_at known proposal.context.number ≡ Some held) ⊎ (held ≡ proposal)
+      pick : (o : Option Decision) → known_at known proposal.topic ≡ o → (known_at known proposal.topic ≡ Some held) ⊎ (held ≡ proposal)
       pick None e = inr (b.first_stays refl e)
-      pick (Some d) e = inl (e ∙ ap Some (agreed (known_at known proposal.context.number) held d b.as_before e))
+      pick (Some d) e = inl (e ∙ ap Some (agreed (known_at known proposal.topic) held d b.as_before e))
 
-  pub later_cases : (c : ℕ) (d : Decision) → known_at later c ≡ Some d → (known_at known c ≡ Some d) ⊎ ((d ≡ held) × (c ≡ proposal.context.number))
-  later_cases c d k = elim (cases_eq c proposal.context.number) [
-    | inl same ↦ inr (same_Some d held (sym k ∙ ap (known_at later) same ∙ b.known_now), same)
+  pub later_cases : (c : Topic) (d : Decision) → known_at later c ≡ Some d → (known_at known c ≡ Some d) ⊎ ((d ≡ held) × (c ≡ proposal.topic))
+  later_cases c d k = elim (cases_eq (cell_of c) (cell_of proposal.topic)) [
+    | inl cell ↦ let same = cells_apart c proposal.topic cell in inr (same_Some d held (sym k ∙ ap (known_at later) same ∙ b.known_now), same)
     | inr other ↦ inl (sym (others_known c other) ∙ k)
   ]
 
 -- no check refuses the adoption of a decision that is the rank's own
-pub own_passes : (r : State) (c : ℕ) (d : Decision) → is_stopped r.log ≡ false → is_made r.ranks r.log c ≡ true → has_adopted r.log c ≡ false → has_entered r.log c ≡ true → IsOwn r.me (group_at r c) r.log c d → Passes (adopt_checks r c d)
-own_passes r c d running made fresh entered own = rw (not_foreign r.me (group_at r c) r.log c d own, running, made, fresh, entered) refl
+pub own_passes : (r : State) (c : Topic) (d : Decision) → is_stopped r.log ≡ false → is_made r.ranks r.log c.context.number ≡ true → has_adopted r.log c ≡ false → has_entered r.log c ≡ true → IsOwn r.me (group_at r c.context.number) r.log c d → Passes (adopt_checks r c d)
+own_passes r c d running made fresh entered own = rw (not_foreign r.me (group_at r c.context.number) r.log c d own, running, made, fresh, entered) refl
 
 -- a call that no check refuses lacks memory alone
-pub starves_alone : (r : State) (c : ℕ) (d : Decision) (e : CallError) → Passes (adopt_checks r c d) → FailsOrStarves (adopt_checks r c d) e → e ≡ OutOfMemory
+pub starves_alone : (r : State) (c : Topic) (d : Decision) (e : CallError) → Passes (adopt_checks r c d) → FailsOrStarves (adopt_checks r c d) e → e ≡ OutOfMemory
 starves_alone r c d e passes (inl fails) = absurd (none-some e (sym passes ∙ fails))
 starves_alone r c d e passes (inr starves) = starves.1
 
@@ -51,33 +55,33 @@ module _ (n : ℕ) (w : World) (r : ℕ) (comm : Context) (h : IsWorld w) (settl
   named : (rank_at w r).me ≡ r
   named = h.named r (omega (arith, i, settled.size))
 
-  module _ (proposal : Decision) (proposed : IsProposal (rank_at w r).ranks (rank_at w r).me (rank_at w r).log comm.number proposal) where
-    own_proposal : IsProposal n r (rank_at w r).log comm.number proposal
+  module _ (proposal : Decision) (proposed : IsProposal (rank_at w r).ranks (rank_at w r).me (rank_at w r).log (shrink_topic comm) proposal) where
+    own_proposal : IsProposal n r (rank_at w r).log (shrink_topic comm) proposal
     own_proposal = rw (counted, named) at proposed
 
     -- what is held may be held
-    pub handed_held : {held : Decision} → (known_at w.decided proposal.context.number ≡ Some held) ⊎ (held ≡ proposal) → IsHeld n w comm.number held
-    handed_held {held} (inl known) = settled.held comm.number held (ap (known_at w.decided) (sym own_proposal.context) ∙ known)
-    handed_held (inr same) = rw same (proposal_held n w r comm.number h settled i own_proposal)
+    pub handed_held : {held : Decision} → (known_at w.decided proposal.topic ≡ Some held) ⊎ (held ≡ proposal) → IsHeld n w (shrink_topic comm) held
+    handed_held {held} (inl known) = settled.held (shrink_topic comm) held (ap (known_at w.decided) (sym own_proposal.about) ∙ known)
+    handed_held (inr same) = rw same (proposal_held n w r (shrink_topic comm) h settled i own_proposal)
 
     made_here : is_made n (rank_at w r).log comm.number ≡ true
-    made_here = (settled.keeps r i).enters_made comm.number own_proposal.entered
+    made_here = (settled.keeps r i).enters_made (shrink_topic comm) own_proposal.entered
 
     -- and adopted by the rank
-    pub held_fits : {held : Decision} → IsHeld n w comm.number held → IsOwn r (members_of n (rank_at w r).log comm.number) (rank_at w r).log comm.number held
-    held_fits {held} ok = held_own n w r comm.number held h settled i running made_here ok
+    pub held_fits : {held : Decision} → IsHeld n w (shrink_topic comm) held → IsOwn r (members_of n (rank_at w r).log comm.number) (rank_at w r).log (shrink_topic comm) held
+    held_fits {held} ok = held_own n w r (shrink_topic comm) held h settled i running made_here ok
 
-    pub held_passes : (held : Decision) → IsHeld n w comm.number held → has_adopted (rank_at w r).log comm.number ≡ false → Passes (adopt_checks (rank_at w r) comm.number held)
+    pub held_passes : (held : Decision) → IsHeld n w (shrink_topic comm) held → has_adopted (rank_at w r).log (shrink_topic comm) ≡ false → Passes (adopt_checks (rank_at w r) (shrink_topic comm) held)
     held_passes held ok fresh =
         let log : List Entry = (rank_at w r).log in
-        own_passes (rank_at w r) comm.number held running (ap (λ k. is_made k log comm.number) counted ∙ made_here) fresh own_proposal.entered (rw named (rw counted (held_fits ok)))
+        own_passes (rank_at w r) (shrink_topic comm) held running (ap (λ k. is_made k log comm.number) counted ∙ made_here) fresh own_proposal.entered (rw named (rw counted (held_fits ok)))
 
-    pub adoption_fits : (held : Decision) → IsHeld n w comm.number held → Fits n r (rank_at w r).log (Adopted held)
+    pub adoption_fits : (held : Decision) → IsHeld n w (shrink_topic comm) held → Fits n r (rank_at w r).log (Adopted held)
     adoption_fits held ok =
         let log : List Entry = (rank_at w r).log in (
-          ap (is_made n log) ok.context ∙ made_here,
-          ap (has_entered log) ok.context ∙ own_proposal.entered,
-          ap (λ c. is_foreign r (members_of n log c) log c held) ok.context ∙ not_foreign r (members_of n log comm.number) log comm.number held (held_fits ok),
+          ap (λ (t : Topic). is_made n log t.context.number) ok.about ∙ made_here,
+          ap (has_entered log) ok.about ∙ own_proposal.entered,
+          ap (λ (t : Topic). is_foreign r (deciders n log t) log t held) ok.about ∙ not_foreign r (members_of n log comm.number) log (shrink_topic comm) held (held_fits ok),
         )
 
     -- the rank's log once it adopted or was refused
@@ -86,7 +90,7 @@ module _ (n : ℕ) (w : World) (r : ℕ) (comm : Context) (h : IsWorld w) (settl
         let log : List Entry = (rank_at w r).log in
         let ok = handed_held (held_cases w.decided later proposal held b) in
         let all = all_later w.decided later r log (still_known w.decided later proposal held b) (settled.adopted r i) in
-        let known : known_at later held.context.number ≡ Some held = ap (known_at later) (ok.context ∙ sym own_proposal.context) ∙ b.known_now in
+        let known : known_at later held.topic ≡ Some held = ap (known_at later) (ok.about ∙ sym own_proposal.about) ∙ b.known_now in
         elim (adoption_adds (rank_at w r) comm held answer rank adoption) [
           | inl same ↦
               let log_same : new.rank.log ≡ log = ap (λ (s : State). s.log) (is ∙ same) in

@@ -6,9 +6,12 @@ pub use Rattle.ulfm_base.specs.declared.context.Context.{Context}
 pub use Rattle.ulfm_base.specs.declared.decision.Decision.{Decision}
 pub use Rattle.ulfm_base.specs.declared.item.Item.{Item}
 pub use Rattle.ulfm_base.specs.declared.rank.WorldRank.{WorldRank}
-pub use Rattle.ulfm_base.specs.declared.rank_set.RankSet.{RankSet}
+pub use Rattle.ulfm_base.specs.declared.contribution.Contribution.{Contribution}
+pub use Rattle.ulfm_base.specs.declared.entrance.Entrance.{Entrance}
+pub use Rattle.ulfm_base.specs.declared.topic.Topic.{Topic}
+pub use Rattle.ulfm_base.specs.Topic.{shrink_topic}
 pub use Rattle.ulfm_rank.specs.Facts.{is_stopped, IsSigned, is_gone, is_revoked, is_stop, item_revokes, revokes, took, took_by}
-pub use Rattle.ulfm_rank.specs.Shrink.{has_adopted}
+pub use Rattle.ulfm_rank.specs.Proposal.{deciders, has_adopted}
 pub use Rattle.ulfm_rank.specs.State.{State, logged, outbox, GoesOut, IsState, mark_at, marked, no_mark, owes, start_state, went_out}
 pub use Rattle.ulfm_rank.specs.declared.entry.Entry.{Entry}
 pub use Rattle.ulfm_rank.specs.declared.entry.Entry.TheVariants.{Took, Adopted, Revoked}
@@ -36,7 +39,7 @@ pub use Rattle.ulfm_base.specs.declared.error.CallError.TheVariants.{OutOfMemory
 pub use Rattle.ulfm_laws.proofs.AtRest.{agrees-revoked, knows-stopped}
 pub use Rattle.ulfm_laws.specs.Lawful.{AreProduced, IsLawful, KnowAtRest}
 pub use Rattle.ulfm_laws.specs.Reader.{AllHasCome, ComeAsSent, DoneIsGiven, DonesDiffer, FoundIsGiven, GivesOnce, HasOnePairing, IsFaithful, LettersKeepOrder, NoneIsMissed, OverIsTrue, ReceivesKeepOrder}
-pub use Rattle.ulfm_laws.specs.Shrinks.{AdoptOne, AdoptsTruly, EntersEachOnce, HasOneGroup, IsTrueOf, ProposesEach}
+pub use Rattle.ulfm_laws.specs.Decisions.{AdoptOne, AdoptsTruly, EntersEachOnce, HasOneGroup, IsTrueOf, ProposesEach}
 pub use Rattle.ulfm_rank.proofs.Belonging.{IsOwn, Keeps, keeps-push, keeps-start, not_foreign}
 pub use Rattle.ulfm_rank.proofs.Entering.{AdoptsEntered, Fits, own_set, own_stays}
 pub use Rattle.ulfm_rank.proofs.Gather.{any-push}

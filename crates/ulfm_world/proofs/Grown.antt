@@ -1,6 +1,6 @@
--- What a world keeps of its shrinks when one rank does something.
+-- What a world keeps of its topics when one rank does something.
 use Rattle.std.proofs.Common.{◌≡◌, ℕ, ◌<◌, true, false, List, [], ◌∷◌, ◌++◌, length, set, refl, ap, ◌∙◌, arith, inl, inr, ◌⊎◌, Option, Some, length-set, All}
-use Rattle.ulfm_world.proofs.Common.{Context, Decision, RankSet, known_at, Entry, has_adopted, Shrink, Player, World, player_in, player_at, rank_at, cases_eq, or_left, All-weaker, group_of, Fits, own_set, own_stays, Keeps, keeps-push, is_stop, is_stopped, EntersEachOnce, any-push, Adopted}
+use Rattle.ulfm_world.proofs.Common.{Context, Topic, shrink_topic, Contribution, Decision, known_at, Entry, has_adopted, Shrink, Player, World, player_in, player_at, rank_at, cases_eq, or_left, All-weaker, group_of, Fits, own_set, own_stays, Keeps, keeps-push, is_stop, is_stopped, EntersEachOnce, any-push, Adopted}
 use Rattle.ulfm_world.proofs.Changed.{player-same, player-other}
 use Rattle.ulfm_rank.proofs.Grouped.{group_stays}
 use Rattle.ulfm_laws.proofs.Once.{once-push}
@@ -18,7 +18,7 @@ once-grown : (n me : ℕ) {old new : List Entry} → Keeps n me old → EntersEa
 once-grown n me h once (inl same) = rw same once
 once-grown n me {old} h once (inr more) = rw more.2 (once-push n me old more.0 h.enters_once once more.1)
 
-own-grown : (n me : ℕ) {old new : List Entry} (c : ℕ) {known : RankSet} → Grows n me old new → own_set old c ≡ Some known → own_set new c ≡ Some known
+own-grown : (n me : ℕ) {old new : List Entry} (c : Topic) {known : Contribution} → Grows n me old new → own_set old c ≡ Some known → own_set new c ≡ Some known
 own-grown n me c (inl same) h = ap (λ (x : List Entry). own_set x c) same ∙ h
 own-grown n me {old} c {known} (inr more) h = ap (λ (x : List Entry). own_set x c) more.2 ∙ own_stays old more.0 c known h
 
@@ -42,12 +42,12 @@ abbrev pub AllGrew : ℕ → World → World → Type 0
 AllGrew n w w' = (x : ℕ) → Grows n x (rank_at w x).log (rank_at w' x).log
 
 -- what may be held still may
-pub held-grown : (n : ℕ) (w w' : World) (c : ℕ) (d : Decision) → AllGrew n w w' → IsHeld n w c d → IsHeld n w' c d
+pub held-grown : (n : ℕ) (w w' : World) (c : Topic) (d : Decision) → AllGrew n w w' → IsHeld n w c d → IsHeld n w' c d
 held-grown n w w' c d grew h = record {
-  context = h.context;
+  about = h.about;
   proposer = h.proposer;
   inside = h.inside;
-  group = group-grown n h.proposer c (grew h.proposer) h.group;
+  group = group-grown n h.proposer c.context.number (grew h.proposer) h.group;
   listed = λ r known listed. own-grown n r c (grew r) (h.listed r known listed);
   stopped = λ r out. stopped-grown n r (grew r) (h.stopped r out);
 }
@@ -56,30 +56,30 @@ held-grown n w w' c d grew h = record {
 pub record Moved (n : ℕ) (decided : List (Option Decision)) (r : ℕ) (old new : Player) : Type 0 where
   pub grows : Grows n r old.rank.log new.rank.log
   pub adopted : All (IsAdopted decided r) new.rank.log
-  pub unadopted : (comm : Context) → new.current ≡ Some (Shrink comm) → has_adopted new.rank.log comm.number ≡ false
+  pub unadopted : (comm : Context) → new.current ≡ Some (Shrink comm) → has_adopted new.rank.log (shrink_topic comm) ≡ false
 
 -- decisions that were held stay
 abbrev pub StillHeld : List (Option Decision) → List (Option Decision) → Type 0
-StillHeld decided later = (c : ℕ) (d : Decision) → known_at decided c ≡ Some d → known_at later c ≡ Some d
+StillHeld decided later = (c : Topic) (d : Decision) → known_at decided c ≡ Some d → known_at later c ≡ Some d
 
 later_adopted : (decided later : List (Option Decision)) (me : ℕ) → StillHeld decided later → (e : Entry) → IsAdopted decided me e → IsAdopted later me e
-later_adopted decided later me still (Adopted d) h = (still d.context.number d h.0, h.1)
+later_adopted decided later me still (Adopted d) h = (still d.topic d h.0, h.1)
 later_adopted decided later me still _ h = tt
 
 pub all_later : (decided later : List (Option Decision)) (me : ℕ) (log : List Entry) → StillHeld decided later → All (IsAdopted decided me) log → All (IsAdopted later me) log
 all_later decided later me log still all = All-weaker (IsAdopted decided me) (IsAdopted later me) (later_adopted decided later me still) log all
 
 -- a change of one player, in which each decision that is held then may be held before
-pub settled-moved : {n : ℕ} (w w' : World) {r : ℕ} {p : Player} → Settled n w → r < n → w'.players ≡ set w.players r p → StillHeld w.decided w'.decided → ((c : ℕ) (d : Decision) → known_at w'.decided c ≡ Some d → IsHeld n w c d) → Moved n w'.decided r (player_at w r) p → Settled n w'
+pub settled-moved : {n : ℕ} (w w' : World) {r : ℕ} {p : Player} → Settled n w → r < n → w'.players ≡ set w.players r p → StillHeld w.decided w'.decided → ((c : Topic) (d : Decision) → known_at w'.decided c ≡ Some d → IsHeld n w c d) → Moved n w'.decided r (player_at w r) p → Settled n w'
 settled-moved {n} w w' {r} {p} h i only still held moved =
     let inside : r < length w.players = omega (arith, i, h.size) in
     let at : (x : ℕ) → Grows n x (rank_at w x).log (player_in (set w.players r p) x).rank.log = each_at w.players r p (λ (x : ℕ) (a b : Player). Grows n x a.rank.log b.rank.log) inside moved.grows (λ x. inl refl) in
     let grew : AllGrew n w w' = rw only at in
     let adopted : (x : ℕ) → x < n → All (IsAdopted w'.decided x) (player_in (set w.players r p) x).rank.log =
     λ x. each_at w.players r p (λ (x : ℕ) (a b : Player). (x < n → All (IsAdopted w'.decided x) a.rank.log) → x < n → All (IsAdopted w'.decided x) b.rank.log) inside (λ was k. moved.adopted) (λ x was. was) x (λ k. all_later w.decided w'.decided x (rank_at w x).log still (h.adopted x k)) in
-    let unadopted : (x : ℕ) → x < n → (comm : Context) → (player_in (set w.players r p) x).current ≡ Some (Shrink comm) → has_adopted (player_in (set w.players r p) x).rank.log comm.number ≡ false =
+    let unadopted : (x : ℕ) → x < n → (comm : Context) → (player_in (set w.players r p) x).current ≡ Some (Shrink comm) → has_adopted (player_in (set w.players r p) x).rank.log (shrink_topic comm) ≡ false =
     λ x. each_at w.players r p
-    (λ (x : ℕ) (a b : Player). (x < n → (comm : Context) → a.current ≡ Some (Shrink comm) → has_adopted a.rank.log comm.number ≡ false) → x < n → (comm : Context) → b.current ≡ Some (Shrink comm) → has_adopted b.rank.log comm.number ≡ false)
+    (λ (x : ℕ) (a b : Player). (x < n → (comm : Context) → a.current ≡ Some (Shrink comm) → has_adopted a.rank.log (shrink_topic comm) ≡ false) → x < n → (comm : Context) → b.current ≡ Some (Shrink comm) → has_adopted b.rank.log (shrink_topic comm) ≡ false)
     inside (λ was k. moved.unadopted) (λ x was. was) x (λ k comm. h.unadopted x comm k) in
     record {
       size = ap length only ∙ length-set w.players r p ∙ h.size;

@@ -1,6 +1,6 @@
 -- The reports of a replay are lawful.
 use Rattle.std.proofs.Common.{◌≡◌, ℕ, ◌<◌, true, List, [], length, refl, ap, sym, subst, ◌∙◌, arith, Option, Some, None, is_some}
-use Rattle.ulfm_world.proofs.Common.{Decision, is_member, at, Entry, Adopted, Report, World, player_at, rank_at, report_of, reports_in, IsWorld, same_Some, slice_get_within, get_or_from_slice_get, Known, IsTrueOf, AdoptsTruly, Seen, IsJob, known_for, IsStuck, IsUnderway, AllHaveFinished, AreProduced, IsLawful}
+use Rattle.ulfm_world.proofs.Common.{Topic, Decision, is_member, at, Entry, Adopted, Report, World, player_at, rank_at, report_of, reports_in, IsWorld, same_Some, slice_get_within, get_or_from_slice_get, Known, IsTrueOf, AdoptsTruly, Seen, IsJob, known_for, IsStuck, IsUnderway, AllHaveFinished, AreProduced, IsLawful}
 use Rattle.ulfm_board.specs.Known.{BothAgree, known_at}
 use Rattle.ulfm_match.proofs.Exists.{some_pairing}
 use Rattle.ulfm_rank.specs.History.{history_of}
@@ -56,18 +56,18 @@ module _ (j : Seen) (w : World) (job : IsJob j) (came : IsUnderway j w) (stuck :
       subst H is (honest-answers (known_for came.answers.knows x) (player_at w x) (report_of (player_at w x)) (came.answers.honest x i) (answered x i).closed refl refl (one_pairing x i))) r told here known knowing
 
   -- what is known at a place is held
-  known_held : (r c : ℕ) {known : Known} (d : Decision) → at came.answers.knows r known → known_at known c ≡ Some d → known_at w.decided c ≡ Some d
+  known_held : (r : ℕ) (c : Topic) {known : Known} (d : Decision) → at came.answers.knows r known → known_at known c ≡ Some d → known_at w.decided c ≡ Some d
   known_held r c {known} d here e =
       let inside : r < length w.players = omega (arith, slice_get_within came.answers.knows r known here, came.answers.many) in
       came.answers.held r c d inside (ap (λ (k : Known). known_at k c) (get_or_from_slice_get came.answers.knows r known [] here) ∙ e)
 
   -- a member of the group that a decision is about is a rank of the world
-  member_inside : (c : ℕ) (d : Decision) → IsHeld j.ranks w c d → (r : ℕ) → is_member d.old r ≡ true → r < length w.players
+  member_inside : (c : Topic) (d : Decision) → IsHeld j.ranks w c d → (r : ℕ) → is_member d.old r ≡ true → r < length w.players
   member_inside c d held r member =
-      let low : r < j.ranks = ((settled.keeps held.proposer held.inside).belongs c d.old held.group).below r member in
+      let low : r < j.ranks = ((settled.keeps held.proposer held.inside).belongs c.context.number d.old held.group).below r member in
       omega (arith, low, came.size)
 
-  true_decision : {c : ℕ} (d : Decision) → IsHeld j.ranks w c d → IsTrueOf (reports_in w) d
+  true_decision : {c : Topic} (d : Decision) → IsHeld j.ranks w c d → IsTrueOf (reports_in w) d
   true_decision {c} d held =
       let safe = held-safe j.ranks w settled held in
       record {
@@ -78,7 +78,7 @@ module _ (j : Seen) (w : World) (job : IsJob j) (came : IsUnderway j w) (stuck :
       }
 
   adopts_truly : (s : ℕ) → s < length w.players → (k : ℕ) (entry : Entry) → at (rank_at w s).log k entry → AdoptsTruly (reports_in w) entry
-  adopts_truly s i k (Adopted d) here = true_decision d (settled.held d.context.number d ((adopts-held j.ranks w settled s d i (k, here)).held))
+  adopts_truly s i k (Adopted d) here = true_decision d (settled.held d.topic d ((adopts-held j.ranks w settled s d i (k, here)).held))
   adopts_truly s i k _ here = tt
 
   produced : AreProduced j w.inboxes came.answers.knows (reports_in w)

@@ -1,6 +1,7 @@
 -- In every run each decision is made once, and each rank that it excludes had stopped then.
 use Rattle.std.proofs.Common.{◌≡◌, ℕ, ◌≤◌, List, [], ◌∷◌, refl, ap, sym, ◌∙◌, inl, inr, Option, Some, None}
-use Rattle.ulfm_world.proofs.Common.{Context, Decision, known_at, Event, Call, Push, Take, Decide, Leave, World, start_world, Happens, IsWorld, none-some, same_Some, Applied, Run, get_or-blank}
+use Rattle.ulfm_world.proofs.Common.{Context, Topic, shrink_topic, Decision, known_at, Event, Call, Push, Take, Decide, Leave, World, start_world, Happens, IsWorld, none-some, same_Some, Applied, Run, get_or-blank}
+use Rattle.ulfm_board.specs.Known.{cell_of}
 use Rattle.ulfm_world.specs.Safe.{decided_at}
 use Rattle.ulfm_world.specs.Made.{WasMadeSafely, MadeSafely}
 use Rattle.ulfm_world.proofs.Adopting.{still_known, later_cases}
@@ -34,18 +35,18 @@ held-run : (events : List Event) (w w' : World) → Run w events w' → StillHel
 held-run [] w w' k c d known = same_held w w' (ap (λ (x : World). x.decided) k) c d known
 held-run (event ∷ events) w w' k c d known = held-run events k.0 w' k.2 c d (held-applied w event k.0 k.1 c d known)
 
--- an event that decided the shrink of c
-record DecidedBy (w : World) (event : Event) (w' : World) (c : ℕ) : Type 0 where
+-- an event that decided on a topic
+record DecidedBy (w : World) (event : Event) (w' : World) (c : Topic) : Type 0 where
   pub rank : ℕ
   pub comm : Context
   pub is : event ≡ Decide rank comm
-  pub about : comm.number ≡ c
+  pub about : shrink_topic comm ≡ c
   pub decides : Happens w (Decide rank comm) w'
 
-undecided_still : (w w' : World) (c : ℕ) {d : Decision} → w'.decided ≡ w.decided → decided_at w c ≡ None → decided_at w' c ≡ Some d → ⊥
+undecided_still : (w w' : World) (c : Topic) {d : Decision} → w'.decided ≡ w.decided → decided_at w c ≡ None → decided_at w' c ≡ Some d → ⊥
 undecided_still w w' c {d} same none known = none-some d (sym (ap (λ (ks : List (Option Decision)). known_at ks c) same ∙ none) ∙ known)
 
-decides-happens : (w : World) (event : Event) (w' : World) (c : ℕ) (d : Decision) → Happens w event w' → decided_at w c ≡ None → decided_at w' c ≡ Some d → DecidedBy w event w' c
+decides-happens : (w : World) (event : Event) (w' : World) (c : Topic) (d : Decision) → Happens w event w' → decided_at w c ≡ None → decided_at w' c ≡ Some d → DecidedBy w event w' c
 decides-happens w (Call r asked) w' c d k none known = absurd (undecided_still w w' c (ap (λ (x : World). x.decided) k.2) none known)
 decides-happens w (Push s r) w' c d k none known = absurd (undecided_still w w' c (ap (λ (x : World). x.decided) k.only) none known)
 decides-happens w (Take r) w' c d k none known = absurd (undecided_still w w' c (ap (λ (x : World). x.decided) k.only) none known)
@@ -59,7 +60,7 @@ decides-happens w (Decide r comm) w' c d k none known =
       about = elim (s.outcome) [
         | inl a ↦ elim (later_cases w.decided k.1 s.proposal a.held a.board_answers c d later) [
           | inl was ↦ absurd (none-some d (sym none ∙ was))
-          | inr now ↦ sym (now.1 ∙ s.proposed.context)
+          | inr now ↦ sym (now.1 ∙ s.proposed.about)
         ]
         | inr b ↦ absurd (none-some d (sym (ap (λ (ks : List (Option Decision)). known_at ks c) b.known_stay ∙ none) ∙ later))
       ];
@@ -67,11 +68,11 @@ decides-happens w (Decide r comm) w' c d k none known =
     }
 decides-happens w (Leave r) w' c d k none known = absurd (undecided_still w w' c (ap (λ (x : World). x.decided) k.2) none known)
 
-decides-applied : (w : World) (event : Event) (w' : World) (c : ℕ) (d : Decision) → Applied w event w' → decided_at w c ≡ None → decided_at w' c ≡ Some d → DecidedBy w event w' c
+decides-applied : (w : World) (event : Event) (w' : World) (c : Topic) (d : Decision) → Applied w event w' → decided_at w c ≡ None → decided_at w' c ≡ Some d → DecidedBy w event w' c
 decides-applied w event w' c d (inl k) none known = decides-happens w event w' c d k none known
 decides-applied w event w' c d (inr e) none known = absurd (undecided_still w w' c (ap (λ (x : World). x.decided) e.2) none known)
 
-module _ (n c : ℕ) (d : Decision) where
+module _ (n : ℕ) (c : Topic) (d : Decision) where
   -- the event that comes next decides, and what it decides stays
   now : (event : Event) (events : List Event) (v m w : World) (e : Decision) → IsWorld v → Settled n v → Applied v event m → Run m events w → decided_at v c ≡ None → decided_at m c ≡ Some e → decided_at w c ≡ Some d → WasMadeSafely v (event ∷ events) w c d
   now event events v m w e h settled k run none known held =
@@ -124,4 +125,4 @@ module _ (n c : ℕ) (d : Decision) where
 
 -- in each run from the start
 pub made-safely : (n capacity : ℕ) (events : List Event) (w : World) → n ≤ 8 → Run (start_world n capacity) events w → MadeSafely (start_world n capacity) events w
-made-safely n capacity events w small k c d held = made-run n c d events w (world-start n capacity small) (settled-start n capacity) k (get_or-blank 31 c (None)) held
+made-safely n capacity events w small k c d held = made-run n c d events w (world-start n capacity small) (settled-start n capacity) k (get_or-blank 63 (cell_of c) None) held

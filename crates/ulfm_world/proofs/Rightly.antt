@@ -1,8 +1,11 @@
 -- Each player's answers stay right, whatever a replay does next.
 use Rattle.std.proofs.Common.{◌≡◌, ◌≢◌, ℕ, ◌<◌, List, [], length, set, refl, ap, sym, ◌∙◌, arith, inl, inr, length-set, get_or-set_same, get_or-set_other, Option, Some, None, slice_get, replicate}
-use Rattle.ulfm_world.proofs.Common.{Context, Decision, Took, is_stopped, State, logged, Step, Seen, script_at, Player, with_rank, Call, Decide, Leave, World, player_in, player_at, rank_at, start_world, Happens, Pushes, Takes, false≢true, cases_eq, none-some, Known, IsDecided, get_or_past, get_or-replicate, length-replicate, known_for, AllAnswersFollowSoFar, Follows, stopped-push, AnswersFollowSoFar, IsUndecided, or-false}
-use Rattle.ulfm_board.specs.Known.{Answers as BoardAnswers, Agrees, known_at, with_known, nothing_known}
-use Rattle.ulfm_match.proofs.Decide.{lt_or_ge}
+use Rattle.ulfm_world.proofs.Common.{Context, Topic, shrink_topic, Decision, Took, is_stopped, State, logged, Step, Seen, script_at, Player, with_rank, Call, Decide, Leave, World, player_in, player_at, rank_at, start_world, Happens, Pushes, Takes, false≢true, cases_eq, Known, IsDecided, get_or-replicate, length-replicate, known_for, AllAnswersFollowSoFar, Follows, stopped-push, AnswersFollowSoFar, IsUndecided, or-false}
+use Rattle.ulfm_board.specs.Known.{Answers as BoardAnswers, Agrees, cell_of, known_at, with_known, nothing_known}
+use Rattle.ulfm_board.proofs.Apart.{cells_apart}
+use Rattle.ulfm_board.proofs.Topics.{known_other, known_with}
+use Rattle.std.specs.Prelude.{◌⊎◌, true, false}
+use Rattle.ulfm_base.specs.Topic.{is_agreement}
 use Rattle.ulfm_script.proofs.Adopted.{agreed, keeps-answered, honest-decided}
 use Rattle.ulfm_script.proofs.Calling.{honest-called}
 use Rattle.ulfm_script.proofs.Honestly.{honest-moved, honest-left, honest-start}
@@ -17,7 +20,6 @@ rightly-set w w' r p inside players decided keeps h =
     record {
       knows = h.knows;
       many = h.many ∙ sym size;
-      sized = λ x i. h.sized x (omega (arith, i, size)) ∙ ap (λ (ds : List (Option Decision)). length ds) (sym decided);
       held = λ x c d i knows. ap (λ (ds : List (Option Decision)). known_at ds c) decided ∙ h.held x c d (omega (arith, i, size)) knows;
       honest = λ x i.
           rw (ap (λ (ps : List Player). player_in ps x) players) (elim (cases_eq x r) [
@@ -51,53 +53,38 @@ rightly-leaves w r w' t h =
     let g = t.1 in
     rightly-set w w' r g.after g.inside (ap (λ (x : World). x.players) t.2 ∙ g.only) (ap (λ (x : World). x.decided) t.2) (λ known q. honest-left known (player_at w r) g.after q g.left) h
 
-known_inside : (ks : Known) (c : ℕ) (d : Decision) → known_at ks c ≡ Some d → c < length ks
-known_inside ks c d h = elim (lt_or_ge c (length ks)) [
-  | inl inside ↦ inside
-  | inr past ↦ absurd (none-some d (sym (get_or_past ks c None past) ∙ h))
-]
-
 agrees_with : (o : Option Decision) (held : Decision) → ((d : Decision) → o ≡ Some d → d ≡ held) → Agrees o held
 agrees_with None held same = tt
 agrees_with (Some d) held same = same d refl
 
 -- a decision that is held is known for its rank from now on
 module _ (w : World) (h : AllAnswersFollowSoFar w) (r : ℕ) (inside : r < length w.players) (proposal held : Decision) (later : Known) (a : BoardAnswers None w.decided proposal held later) where
-  abbrev place : ℕ
-  place = proposal.context.number
+  abbrev topic : Topic
+  topic = proposal.topic
 
   abbrev now : Known
-  now = with_known (known_for h.knows r) place held
+  now = with_known (known_for h.knows r) topic held
 
-  many_later : length later ≡ length w.decided
-  many_later = ap (λ (ks : Known). length ks) a.others_stay ∙ length-set w.decided place (Some held)
-
-  many_now : length now ≡ length later
-  many_now = length-set (known_for h.knows r) place (Some held) ∙ h.sized r inside ∙ sym many_later
-
-  place_inside : place < length (known_for h.knows r)
-  place_inside = omega (arith, known_inside later place held a.known_now, many_later, h.sized r inside)
-
-  now_here : known_at now place ≡ Some held
-  now_here = get_or-set_same (known_for h.knows r) place (Some held) None place_inside
+  now_here : known_at now topic ≡ Some held
+  now_here = known_with (known_for h.knows r) topic held
 
   board_answers : BoardAnswers (Some []) (known_for h.knows r) proposal held now
   board_answers = record {
-    as_before = agrees_with (known_at (known_for h.knows r) place) held (λ d e. agreed (known_at w.decided place) held d a.as_before (h.held r place d inside e));
+    as_before = agrees_with (known_at (known_for h.knows r) topic) held (λ d e. agreed (known_at w.decided topic) held d a.as_before (h.held r topic d inside e));
     first_stays = λ e none. absurd (cc);
     known_now = now_here;
     others_stay = refl;
   }
 
   -- what was decided stays so
-  stays : (c : ℕ) (d : Decision) → known_at w.decided c ≡ Some d → known_at later c ≡ Some d
+  stays : (c : Topic) (d : Decision) → known_at w.decided c ≡ Some d → known_at later c ≡ Some d
   stays c d e = keeps-answered None w.decided proposal held later a c d e
 
   -- and what is known for the rank is held
-  now_held : (c : ℕ) (d : Decision) → known_at now c ≡ Some d → known_at later c ≡ Some d
-  now_held c d e = elim (cases_eq c place) [
-    | inl same ↦ ap (known_at later) same ∙ a.known_now ∙ sym now_here ∙ ap (known_at now) (sym same) ∙ e
-    | inr other ↦ stays c d (h.held r c d inside (sym (get_or-set_other (known_for h.knows r) place c (Some held) None other) ∙ e))
+  now_held : (c : Topic) (d : Decision) → known_at now c ≡ Some d → known_at later c ≡ Some d
+  now_held c d e = elim (cases_eq (cell_of c) (cell_of topic)) [
+    | inl cell ↦ let same = cells_apart c topic cell in ap (known_at later) same ∙ a.known_now ∙ sym now_here ∙ ap (known_at now) (sym same) ∙ e
+    | inr other ↦ stays c d (h.held r c d inside (sym (known_other (known_for h.knows r) c topic held other) ∙ e))
   ]
 
   -- the world after it, where this player has its answer
@@ -110,10 +97,6 @@ module _ (w : World) (h : AllAnswersFollowSoFar w) (r : ℕ) (inside : r < lengt
       record {
         knows = ks;
         many = length-set h.knows r now ∙ h.many ∙ sym size;
-        sized = λ x i. elim (cases_eq x r) [
-          | inl same ↦ ap (λ (k : Known). length k) (here x same) ∙ many_now ∙ ap (λ (k : Known). length k) (sym decided)
-          | inr other ↦ ap (λ (k : Known). length k) (there x other) ∙ h.sized x (omega (arith, i, size)) ∙ sym many_later ∙ ap (λ (k : Known). length k) (sym decided)
-        ];
         held = λ x c d i e. ap (λ (k : Known). known_at k c) decided ∙ elim (cases_eq x r) [
           | inl same ↦ now_held c d (ap (λ (k : Known). known_at k c) (sym (here x same)) ∙ e)
           | inr other ↦ stays c d (h.held x c d (omega (arith, i, size)) (ap (λ (k : Known). known_at k c) (sym (there x other)) ∙ e))
@@ -125,6 +108,11 @@ module _ (w : World) (h : AllAnswersFollowSoFar w) (r : ℕ) (inside : r < lengt
               | inr other ↦ rw (there x other) (rw (at ∙ player-other w.players r x p other) (h.honest x (omega (arith, i, size))))
             ];
       }
+
+-- a board of one owner doesn't lack a cell for a shrink
+none_lacked : (topic : Topic) (comm : Context) → topic ≡ shrink_topic comm → (false ≡ true) ⊎ (is_agreement topic.purpose ≡ true) → ⊥
+none_lacked topic comm about (inl shares) = false≢true shares
+none_lacked topic comm about (inr agreement) = false≢true (sym (ap (λ (t : Topic). is_agreement t.purpose) about) ∙ agreement)
 
 pub rightly-decides : (w : World) (r : ℕ) (comm : Context) (w' : World) → Happens w (Decide r comm) w' → AllAnswersFollowSoFar w → AllAnswersFollowSoFar w'
 rightly-decides w r comm w' t h =
@@ -146,19 +134,18 @@ rightly-decides w r comm w' t h =
             only = d.only;
           } in
           rightly-held w h r s.inside d.decision.proposal a.held t.1 a.board_answers w' (ap (λ (x : World). x.players) t.3 ∙ s.only) (ap (λ (x : World). x.decided) t.3) (honest-decided (Some []) known later (player_at w r) comm s.after (h.honest r s.inside) s.running own)
-      | inr starves ↦ absurd (false≢true starves.starves.shares)
+      | inr starves ↦ absurd (none_lacked d.decision.proposal.topic comm d.decision.proposed.about starves.starves.may_grow)
     ]
 
 -- ranks that start
 pub rightly-start : (n capacity : ℕ) → AllAnswersFollowSoFar (start_world n capacity)
 rightly-start n capacity = record {
-  knows = replicate n nothing_known;
-  many = length-replicate n nothing_known ∙ sym (length-start n n);
-  sized = λ r i. ap (λ (k : Known). length k) (none_known r (omega (arith, i, length-start n n)));
+  knows = replicate n (nothing_known 0);
+  many = length-replicate n (nothing_known 0) ∙ sym (length-start n n);
   held = λ r c d i e. ap (λ (k : Known). known_at k c) (sym (none_known r (omega (arith, i, length-start n n)))) ∙ e;
   honest = λ r i.
-      rw (player-start n n r (omega (arith, i, length-start n n))) (honest-start (known_for (replicate n nothing_known) r) r n);
+      rw (player-start n n r (omega (arith, i, length-start n n))) (honest-start (known_for (replicate n (nothing_known 0)) r) r n);
 }
   where
-    none_known : (r : ℕ) → r < n → known_for (replicate n nothing_known) r ≡ nothing_known
-    none_known r inside = get_or-replicate n r nothing_known [] inside
+    none_known : (r : ℕ) → r < n → known_for (replicate n (nothing_known 0)) r ≡ (nothing_known 0)
+    none_known r inside = get_or-replicate n r (nothing_known 0) [] inside

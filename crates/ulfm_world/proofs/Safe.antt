@@ -1,7 +1,7 @@
--- The laws of shrinks, from what every world keeps.
+-- The laws of decisions, from what every world keeps.
 use Rattle.std.proofs.Common.{◌≡◌, ℕ, ◌<◌, ◌≤◌, List, length, ap, sym, subst, ◌∙◌, arith, inl, inr, Option, Some, None, All}
-use Rattle.ulfm_world.proofs.Common.{Decision, RankSet, is_member, Entry, Adopted, Shrink, Player, World, rank_at, start_world, Reaches, false≢true, or_cases, none-some, same_Some, slice_get_within, get_or_from_slice_get, All-nil, Keeps, keeps-start, has, EntersEachOnce, entry_at, is_listed, in_entry, some_from, get_or-blank}
-use Rattle.ulfm_board.specs.Known.{nothing_known}
+use Rattle.ulfm_world.proofs.Common.{Decision, Contribution, Topic, is_member, Entry, Adopted, Shrink, Player, World, rank_at, start_world, Reaches, false≢true, or_cases, none-some, same_Some, slice_get_within, get_or_from_slice_get, All-nil, Keeps, keeps-start, has, EntersEachOnce, entry_at, is_listed, in_entry, some_from, get_or-blank}
+use Rattle.ulfm_board.specs.Known.{cell_of, nothing_known}
 use Rattle.ulfm_world.specs.Safe.{entry_at_rank, EntersOnce, IsSafe, DecidesSafely, AdoptsHeld}
 use Rattle.ulfm_laws.proofs.Once.{once-start}
 use Rattle.ulfm_base.proofs.Among.{excluding_from}
@@ -15,8 +15,8 @@ settled-start n capacity = record {
   size = length-start n n;
   keeps = λ r i. subst (λ (p : Player). Keeps n r p.rank.log) (sym (player-start n n r i)) (keeps-start n r i);
   once = λ r i. subst (λ (p : Player). EntersEachOnce p.rank.log) (sym (player-start n n r i)) once-start;
-  held = λ c d known. absurd (none-some d (sym (get_or-blank 31 c (None)) ∙ known));
-  adopted = λ r i. subst (λ (p : Player). All (IsAdopted nothing_known r) p.rank.log) (sym (player-start n n r i)) (All-nil (IsAdopted nothing_known r));
+  held = λ c d known. absurd (none-some d (sym (get_or-blank 63 (cell_of c) None) ∙ known));
+  adopted = λ r i. subst (λ (p : Player). All (IsAdopted (nothing_known 0) r) p.rank.log) (sym (player-start n n r i)) (All-nil (IsAdopted (nothing_known 0) r));
   unadopted = λ r comm i e. absurd (none-some (Shrink comm) (sym (ap (λ (p : Player). p.current) (player-start n n r i)) ∙ e));
 }
 
@@ -31,27 +31,27 @@ module _ (n : ℕ) (w : World) (settled : Settled n w) where
   pub enters-once : EntersOnce w
   enters-once = record {
     once = each_report (λ r told. EntersEachOnce told.rank.log) w (λ r i. settled.once r (inside r i));
-    knows = λ r place context known i stands.
-        let enters = (settled.keeps r (inside r i)).enters_once place context known stands in record { first = enters.0; knew = enters.1 };
+    knows = λ r place entrance i stands.
+        let enters = (settled.keeps r (inside r i)).enters_once place entrance stands in record { first = enters.0; knew = enters.1 };
   }
 
-  pub held-safe : {c : ℕ} {d : Decision} → IsHeld n w c d → IsSafe w d
+  pub held-safe : {c : Topic} {d : Decision} → IsHeld n w c d → IsSafe w d
   held-safe {d} held = record {
-    listed = λ r known listed. ap (entry_at_rank w r) held.context ∙ held.listed r known listed;
+    listed = λ r known listed. ap (entry_at_rank w r) held.about ∙ held.listed r known listed;
     stopped = held.stopped;
     excluded = λ m r known member entered knows of_old.
         let stays = excluding_from d.old (has d.excluded) m (ap (λ (g : List ℕ). is_member g m) (sym d.lawful.survivors) ∙ member) in
         elim (or_cases (is_listed d.entries m) (has d.excluded m) (d.lawful.complete m stays.0)) [
           | inl listed ↦
               let set = some_from (entry_at d.entries m) listed in
-              let same : set.0 ≡ known = same_Some set.0 known (sym (held.listed m set.0 set.1) ∙ ap (entry_at_rank w m) (sym held.context) ∙ entered) in
-              d.lawful.union m r (ap (λ (o : Option RankSet). in_entry o r) (set.1 ∙ ap Some same) ∙ knows) of_old
+              let same : set.0 ≡ known = same_Some set.0 known (sym (held.listed m set.0 set.1) ∙ ap (entry_at_rank w m) (sym held.about) ∙ entered) in
+              d.lawful.union m r (ap (λ (o : Option Contribution). in_entry o r) (set.1 ∙ ap Some same) ∙ knows) of_old
           | inr out ↦ absurd (false≢true (sym stays.1 ∙ out))
         ];
   }
 
   pub decides-safely : DecidesSafely w
-  decides-safely c d known = let held = settled.held c d known in record { about = held.context; safe = held-safe held }
+  decides-safely c d known = let held = settled.held c d known in record { about = held.about; safe = held-safe held }
 
   pub adopts-held : AdoptsHeld w
   adopts-held r d i adopted =

@@ -51,7 +51,7 @@ world-start n capacity small = record {
 }
 
 -- what a loop over the ranks made
-pub new_world : (views : List View) {inboxes : List (List (WorldRank × Item))} {r : ℕ} (n capacity : ℕ) (decided : List (Option Decision)) → players_of views ≡ start_players n r → inboxes ≡ replicate r [] → r ≡ n → decided ≡ nothing_known → parts views inboxes capacity decided ≡ start_world n capacity
+pub new_world : (views : List View) {inboxes : List (List (WorldRank × Item))} {r : ℕ} (n capacity : ℕ) (decided : List (Option Decision)) → players_of views ≡ start_players n r → inboxes ≡ replicate r [] → r ≡ n → decided ≡ nothing_known 0 → parts views inboxes capacity decided ≡ start_world n capacity
 new_world views {inboxes} n capacity decided p q e none =
     ap (λ (ps : List Player). let w : World = record { players = ps; inboxes = inboxes; capacity = capacity; decided = decided } in w) (p ∙ ap (start_players n) e)
     ∙ ap (λ (is : List (List (WorldRank × Item))). let w : World = record { players = start_players n n; inboxes = is; capacity = capacity; decided = decided } in w) (q ∙ ap (λ k. replicate k ([])) e)

@@ -74,4 +74,4 @@ pub out-took : (n : ℕ) {r : State} (source : WorldRank) (item : Item) → IsSt
 out-took n {r} source (Revoke context) h size running = took_revoke (is_revoked r.log context.number) n r source context h size running refl
 out-took n {r} source (Mail letter) h size running = took_light n r source (Mail letter) (λ d. refl)
 out-took n {r} source Gone h size running = took_light n r source Gone (λ d. refl)
-out-took n {r} source (Enter context known) h size running = took_light n r source (Enter context known) (λ d. refl)
+out-took n {r} source (Enter entrance) h size running = took_light n r source (Enter entrance) (λ d. refl)

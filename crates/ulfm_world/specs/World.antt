@@ -78,7 +78,7 @@ start_players n (suc k) = start_players n k ++ start_player k n ∷ []
 
 -- n ranks that start, with empty inboxes, and nothing decided
 abbrev pub start_world : ℕ → ℕ → World
-start_world n capacity = record { players = start_players n n; inboxes = replicate n []; capacity = capacity; decided = nothing_known }
+start_world n capacity = record { players = start_players n n; inboxes = replicate n []; capacity = capacity; decided = nothing_known 0 }
 
 -- one poll of a step by the player r, where no other step stands open
 pub record Calls (old : List Player) (r : ℕ) (step : Step) (new : List Player) : Type 0 where

@@ -4,7 +4,7 @@ ghost use Rattle.ulfm_laws.specs.Causes.{GoneHaveStopped, RevokedByARank};
 ghost use Rattle.ulfm_laws.specs.Flow.{Flows};
 ghost use Rattle.ulfm_laws.specs.Reader.{AllHasCome, ComeAsSent, DoneIsGiven, DonesDiffer, FoundIsGiven, GivesOnce, HasOnePairing, IsFaithful, LettersKeepOrder, NoneIsMissed, OverIsTrue, ReceivesKeepOrder};
 ghost use Rattle.ulfm_laws.specs.Rest.{KnowsStopped, AgreesOnRevoked};
-ghost use Rattle.ulfm_laws.specs.Shrinks.{AdoptOne, HasOneGroup, ProposesEach};
+ghost use Rattle.ulfm_laws.specs.Decisions.{AdoptOne, HasOneGroup, ProposesEach};
 ghost use Rattle.ulfm_world.specs.declared.event.Event.{Event};
 ghost use Rattle.ulfm_world.specs.Each.{InEachReplay, InEachWorld};
 ghost use Rattle.ulfm_world.specs.Made.{MadeSafely};

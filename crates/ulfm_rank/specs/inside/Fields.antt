@@ -1,20 +1,22 @@
 -- What holds of the parts of a rank, each beside the log.
-use Rattle.std.specs.Prelude.{◌≡◌, ℕ, Bool, false, true, List, [], length, not, ◌&&◌, ◌==◌, ◌<◌, Option, Some, None, slice_index_or, if◌then◌else◌, All, map, nat_eq}
+use Rattle.std.specs.Prelude.{◌≡◌, ℕ, Bool, false, List, not, ◌&&◌, ◌==◌, ◌<◌, Option, Some, None, if◌then◌else◌, All, map, nat_eq}
 use Rattle.std.specs.List.{IsDistinct}
 use Rattle.ulfm_base.specs.declared.item.Item.{Item}
 use Rattle.ulfm_base.specs.declared.item.Item.TheVariants.{Letter as Mail, Revoke}
 use Rattle.ulfm_base.specs.declared.pattern.Pattern.{Pattern}
 use Rattle.ulfm_base.specs.declared.pattern.Source.{Source}
 use Rattle.ulfm_base.specs.declared.pattern.Source.TheVariants.{One, Any}
-use Rattle.ulfm_base.specs.declared.rank_set.RankSet.{RankSet}
+use Rattle.ulfm_base.specs.declared.contribution.Contribution.{Contribution}
+use Rattle.ulfm_base.specs.declared.topic.Topic.{Topic}
+use Rattle.ulfm_base.specs.declared.entrance.Entrance.{Entrance}
+use Rattle.ulfm_base.specs.declared.rank.WorldRank.{WorldRank}
 use Rattle.ulfm_base.specs.Decision.{entry_at}
 use Rattle.ulfm_base.specs.Group.{is_member}
 use Rattle.ulfm_base.specs.Pattern.{is_any}
 use Rattle.ulfm_fault.specs.Facts.{FaultState, acknowledged_in, is_revoked_in, has_unacked}
 use Rattle.ulfm_rank.specs.declared.entry.Entry.{Entry}
 use Rattle.ulfm_rank.specs.Facts.{known_of, acknowledged_of, is_revoked}
-use Rattle.ulfm_rank.specs.Log.{or_else}
-use Rattle.ulfm_rank.specs.Shrink.{has_entered, listed_of}
+use Rattle.ulfm_rank.specs.Proposal.{brought_to, entry_of, heard_of, listed_of}
 use Rattle.ulfm_base.specs.declared.context.Context.{Context}
 use Rattle.ulfm_rank.specs.Communicators.{comms_of}
 
@@ -39,30 +41,18 @@ was_revoked_in facts (Mail letter) = is_revoked_in facts letter.envelope.context
 was_revoked_in facts (Revoke context) = is_revoked_in facts context.number
 was_revoked_in facts _ = false
 
--- the row of the context c
-abbrev pub row_at : List (List (Option RankSet)) → ℕ → List (Option RankSet)
-row_at rows c = slice_index_or rows c []
+-- this is what the rank `me` lists the ranks with in the decision on a topic
+abbrev pub HasEntries : ℕ → List Entry → Topic → List (Option Contribution) → Type 0
+HasEntries me log topic entries = (r : ℕ) → r < 8 → entry_at entries r ≡ listed_of me log topic r
 
--- the set with which the rank r entered the shrink of c, if it stands in the table
-abbrev pub set_of : List (List (Option RankSet)) → ℕ → ℕ → Option RankSet
-set_of rows c r = entry_at (row_at rows c) r
+-- what an entrance of a rank, where there is one, gives for r in the decision on a topic
+abbrev pub given_by : Topic → ℕ → Option (WorldRank × Entrance) → Option Contribution
+given_by topic r None = None
+given_by topic r (Some (rank, entrance)) = if rank.number == r then brought_to topic entrance else None
 
--- a row for each of the contexts 0 to 30, with a place for each rank
-abbrev pub AreRows : List (List (Option RankSet)) → Type 0
-AreRows rows = (length rows ≡ 31) × ((c : ℕ) → c < 31 → length (row_at rows c) ≡ 8)
-
--- the table in which it is noted that the rank s entered the shrink of c, where its first entry stays
-abbrev pub Notes : ℕ → ℕ → RankSet → List (List (Option RankSet)) → List (List (Option RankSet)) → Type 0
-Notes c s known old new = (d r : ℕ) → d < 31 → set_of new d r ≡ or_else (set_of old d r) (if c == d then (if s == r then Some known else None) else None)
-
--- these are the sets under which the rank `me` lists the ranks in the shrink of c
-abbrev pub HasEntries : ℕ → List Entry → ℕ → List (Option RankSet) → Type 0
-HasEntries me log c entries = (r : ℕ) → r < 8 → entry_at entries r ≡ listed_of me log c r
-
--- the table has the sets under which the rank `me` lists the ranks; each context of which it entered the shrink has one
-pub record HasShrinks (me : ℕ) (log : List Entry) (rows : List (List (Option RankSet))) : Type 0 where
-  pub lists : (c r : ℕ) → c < 31 → r < 8 → set_of rows c r ≡ listed_of me log c r
-  pub has_shrink : (c : ℕ) → has_entered log c ≡ true → c < 31
+-- what an entry of the log of the rank `me` tells of the rank r in the decision on a topic
+abbrev pub told_of : ℕ → Topic → ℕ → Entry → Option Contribution
+told_of me topic r e = if r == me then entry_of topic e else heard_of topic r e
 
 -- a context by its number, with its group
 abbrev pub by_number : Context × List ℕ → ℕ × List ℕ

@@ -66,7 +66,7 @@ passed_item _ = None
 abbrev pub item_of_entry : Entry → Option Item
 item_of_entry (Sent to letter) = Some (Mail letter)
 item_of_entry (Revoked context) = Some (Revoke context)
-item_of_entry (Entered context known) = Some (Enter context known)
+item_of_entry (Entered entrance) = Some (Enter entrance)
 item_of_entry (Took from item) = passed_item item
 item_of_entry _ = None
 

@@ -6,7 +6,7 @@ use Rattle.ulfm_match.specs.State.{Matching}
 use Rattle.ulfm_rank.specs.declared.entry.Entry.{Entry}
 use Rattle.ulfm_rank.specs.declared.request.Request.{Request}
 use Rattle.ulfm_rank.specs.declared.rank.Rank.TheInside.{Inside}
-use Rattle.ulfm_rank.specs.inside.Fields.{HasCommunicators, HasFaults, HasShrinks}
+use Rattle.ulfm_rank.specs.inside.Fields.{HasCommunicators, HasFaults}
 use Rattle.ulfm_rank.specs.Facts.{is_stopped}
 use Rattle.ulfm_rank.specs.inside.Outboxes.{Box, mark_of, HasOutboxes}
 use Rattle.ulfm_rank.specs.State.{State, View}
@@ -25,11 +25,10 @@ pub record Follows (n me : ℕ) (log : List Entry) (stopped : Bool) (matcher : M
   pub communicators : HasCommunicators n log comms
   pub outboxes : HasOutboxes n me log boxes
 
--- besides, the table of shrinks has what the log tells, and the log has a place for the release of each request, and one
+-- besides, the log has a place for the release of each request, and one
 -- for the stop
 pub record Holds (a : Inside) : Type 0 where
   pub follows : Follows a.ranks a.me.number a.log.items a.stopped a.matcher (get nat_eq a.requests) a.faults a.communicators a.outboxes.boxes
-  pub shrinks : HasShrinks a.me.number a.log.items a.shrinks
   pub places : vec_len a.log + (index_map_len a.requests + stop_places a.stopped) ≤ vec_capacity a.log
 
 -- the state that the fields of a rank are seen as

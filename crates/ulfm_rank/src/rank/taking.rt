@@ -46,8 +46,8 @@ impl Rank {
     /// Takes an item that came from a rank. A letter is handed to the earliest receive that takes it, or kept, or
     /// dropped where its communicator is revoked. The notice of a stop ends the receives that name its sender. The
     /// first notice that a communicator is revoked ends its receives, and is passed on to the other ranks. The first
-    /// word of another rank's entry into a shrink is kept. It can't run out of memory: the room that `prepare` made is
-    /// used up.
+    /// word of another rank's entrance into a shrink or an agreement counts. It can't run out of memory: the room that
+    /// `prepare` made is used up.
     pub fn take(&mut self, source: WorldRank, item: Item)
         requires prepared { IsTrue self.old.prepared }
         requires running { is_stopped self.old.state.log ≡ false }
@@ -66,7 +66,6 @@ impl Rank {
             self.log.len(),
         );
         learn(&mut self.faults, source, &item);
-        self.shrinks.hear(self.me, source, &item);
         self.log.push_reserved(Entry::Took(source, item));
     }
 }

@@ -1,5 +1,7 @@
 -- A player whose answers are right so far.
 use Rattle.std.specs.Prelude.{◌≡◌, ℕ, true, List, [], ◌++◌, ◌<◌, ◌≤◌, length, All, Option, Some, None}
+use Rattle.ulfm_base.specs.Topic.{shrink_topic}
+use Rattle.ulfm_base.specs.declared.topic.Topic.{Topic}
 use Rattle.ulfm_base.specs.declared.context.Context.{Context}
 use Rattle.ulfm_base.specs.declared.decision.Decision.{Decision}
 use Rattle.ulfm_board.specs.Known.{known_at}
@@ -46,9 +48,9 @@ IsUndecided p = (comm : Context) → IsReadyToDecide p comm → ⊥
 
 -- what is known stays known, and of shrinks that the rank entered and left up to this place nothing more becomes known
 pub record Learns (rank : State) (to : ℕ) (old new : Known) : Type 0 where
-  pub keeps : (c : ℕ) (d : Decision) → known_at old c ≡ Some d → known_at new c ≡ Some d
+  pub keeps : (topic : Topic) (d : Decision) → known_at old topic ≡ Some d → known_at new topic ≡ Some d
   pub same : (comm : Context) (from at : ℕ) → EntersBetween rank comm from at → at ≤ to
-      → known_at new comm.number ≡ known_at old comm.number
+      → known_at new (shrink_topic comm) ≡ known_at old (shrink_topic comm)
 
 -- the log has more entries, all taken, and none after a stop
 pub record OnlyTakes (old new : List Entry) : Type 0 where

@@ -1,5 +1,6 @@
 //! Shrinks that stand open.
 ghost use Rattle.std.specs.Prelude.{◌≡◌, ◌+◌, ◌↔◌, length, IsTrue, Some};
+ghost use Rattle.ulfm_base.specs.Topic.{shrink_topic};
 ghost use Rattle.ulfm_board.specs.Known.{Starves};
 ghost use Rattle.ulfm_script.specs.Deciding.{Decides};
 ghost use Rattle.ulfm_script.specs.Player.{IfAnswered};
@@ -18,7 +19,7 @@ impl Player {
         ensures decides { Decides result self.old.player context (D.board board.old) (D.known board.old) self.new.player (D.known board.new) }
         ensures board { D.board board.new ≡ D.board board.old }
         ensures room { self.new.room + length self.new.player.done ≡ self.old.room + length self.old.player.done }
-        ensures room_lacked { IfAnswered self.old.player self.new.player (λ answer. answer ≡ StepAnswer.Refused CallError.OutOfMemory → IsTrue self.old.prepared → Starves (D.board board.old) (D.known board.old) context.number) }
+        ensures room_lacked { IfAnswered self.old.player self.new.player (λ answer. answer ≡ StepAnswer.Refused CallError.OutOfMemory → IsTrue self.old.prepared → Starves (D.board board.old) (D.known board.old) (shrink_topic context)) }
         ensures prepared { result ≡ Decided.NotReady → self.new.prepared ≡ self.old.prepared }
         ensures stays_prepared { self.new.player.rank ≡ self.old.player.rank → IsTrue self.old.prepared → IsTrue self.new.prepared }
     {

@@ -159,6 +159,6 @@ where
     let Some(ends) = laid_over(inners, habits, room) else {
         return Err(Fail::new("too few habits"));
     };
-    let deciders = seats(alloc, job.ranks())?;
+    let deciders = seats(alloc, job.ranks(), 0)?;
     Ok(run_job(rt, alloc, job, ends, deciders)?)
 }

@@ -10,7 +10,7 @@ use std::alloc::Global;
 use std::sync::Wait;
 use std::test::Fail;
 use std::thread::Threads;
-use ulfm_base::{Context, Item, RankSet, WorldRank};
+use ulfm_base::{Context, Entrance, Item, Purpose, RankSet, WorldRank};
 use ulfm_board::{Decider, seats};
 use ulfm_carrier::{Ends, lanes, shared};
 use ulfm_rank::Entry;
@@ -41,16 +41,22 @@ fn has_revoked(told: &RankReport, context: Context) -> bool {
     })
 }
 
+/// The failures that an entrance into the shrink of the world brings.
+fn shrinks_with(entrance: &Entrance) -> Option<RankSet> {
+    if entrance.topic.context == Context::WORLD && entrance.topic.purpose == Purpose::Shrink {
+        Some(entrance.contribution.known)
+    } else {
+        None
+    }
+}
+
 /// The failures with which a member entered the shrink of the world, as this rank has it: its own entry, or the first word that
 /// it took of the member.
 fn listed(told: &RankReport, member: WorldRank) -> Option<RankSet> {
     told.log().iter().find_map(|entry| match entry {
-        Entry::Entered(context, known) if *context == Context::WORLD && told.me() == member => {
-            Some(*known)
-        }
-        Entry::Took(source, Item::Enter { context, known })
-            if *context == Context::WORLD && *source == member && told.me() != member => {
-            Some(*known)
+        Entry::Entered(entrance) if told.me() == member => shrinks_with(entrance),
+        Entry::Took(source, Item::Enter(entrance)) if *source == member && told.me() != member => {
+            shrinks_with(entrance)
         }
         _ => None,
     })
@@ -121,7 +127,7 @@ where
     requires one_call { E.one_call (map E.name ends.items) }
     requires fresh { AllFresh E.count E.pushed E.taken E.ready ends.items }
 {
-    let deciders = seats(alloc, job.ranks())?;
+    let deciders = seats(alloc, job.ranks(), 0)?;
     let report = run_job(rt, alloc, job, ends, deciders)?;
     rested(&report)
 }

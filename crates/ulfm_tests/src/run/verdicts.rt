@@ -6,7 +6,7 @@ use std::alloc::Global;
 use std::sync::Wait;
 use std::test::Fail;
 use std::thread::Threads;
-use ulfm_base::{CallError, Decision, OutOfMemory, RankSet, WorldRank};
+use ulfm_base::{CallError, Contribution, Decision, OutOfMemory, Purpose, RankSet, WorldRank};
 use ulfm_board::{Decider, Seat, seats};
 use ulfm_carrier::{LaneEnds, lanes};
 use ulfm_run::{Report, at_rest, run_job};
@@ -60,7 +60,7 @@ where
     R: Threads + Wait + Sync,
 {
     let ends = lanes(alloc, 2, job.capacity())?;
-    let report = run_job(rt, alloc, job, ends, seats(alloc, 2)?)?;
+    let report = run_job(rt, alloc, job, ends, seats(alloc, 2, 0)?)?;
     Ok(at_rest(&report))
 }
 
@@ -101,7 +101,7 @@ struct Inventor {
 /// The decision, where rank 3 is a member with rank 3 excluded.
 #[tactic(auto, using(crate::proofs::Invented::also_excluded))]
 fn with_stop(decision: &Decision) -> Decision
-    ensures { result.context ≡ decision.now.context }
+    ensures { result.topic ≡ decision.now.topic }
 {
     let last = WorldRank { number: 3 };
     if !decision.old.contains(last) {
@@ -111,36 +111,44 @@ fn with_stop(decision: &Decision) -> Decision
     excluded.insert(last);
     let fresh = decision.old.excluding(excluded);
     Decision {
-        context: decision.context,
+        topic: decision.topic,
         old: decision.old.copied(),
         entries: decision.entries,
         excluded,
         fresh,
+        value: decision.value,
     }
 }
 
-/// The decision, where rank 1 is a member with rank 1 listed.
+/// The decision of a shrink, where rank 1 is a member with rank 1 listed.
 #[tactic(auto, using(crate::proofs::Invented::also_listed))]
 fn with_entry(decision: &Decision) -> Decision
-    ensures { result.context ≡ decision.now.context }
+    ensures { result.topic ≡ decision.now.topic }
 {
     if !decision.old.contains(WorldRank { number: 1 }) {
         return decision.copied();
     }
+    let Purpose::Shrink = decision.topic.purpose else {
+        return decision.copied();
+    };
     let mut entries = decision.entries;
-    entries[1] = Some(RankSet::new());
+    entries[1] = Some(Contribution {
+        known: RankSet::new(),
+        flag: None,
+    });
     Decision {
-        context: decision.context,
+        topic: decision.topic,
         old: decision.old.copied(),
         entries,
         excluded: decision.excluded,
         fresh: decision.fresh.copied(),
+        value: decision.value,
     }
 }
 
 /// The decision with an invention.
 fn invented(decision: &Decision, invention: Invention) -> Decision
-    ensures { result.context ≡ decision.now.context }
+    ensures { result.topic ≡ decision.now.topic }
 {
     match invention {
         Invention::Stop => with_stop(decision),
@@ -165,10 +173,10 @@ impl Decider for Inventor {
 /// Four inventors on one board.
 fn inventors(alloc: Global, invention: Invention) -> Result<Vec<Inventor>, CallError>
     ensures one_board { IfOk result (λ all. OneBoard ⟦<Inventor as Decider>⟧.board all.items) }
-    ensures nothing_known { IfOk result (λ all. All (λ i. ⟦<Inventor as Decider>⟧.known i ≡ nothing_known) all.items) }
+    ensures nothing_known { IfOk result (λ all. All (λ i. ⟦<Inventor as Decider>⟧.known i ≡ nothing_known 0) all.items) }
 {
     let mut all = Vec::new(alloc);
-    for seat in seats(alloc, 4)? {
+    for seat in seats(alloc, 4, 0)? {
         all.push(Inventor { seat, invention })?;
     }
     Ok(all)

@@ -1,17 +1,19 @@
 //! Which decisions one rank adopts.
 
 use std::alloc::Global;
-use ulfm_base::{CallError, Context, Decision, Item, RankSet, WorldRank};
+use ulfm_base::{
+    CallError, Context, Contribution, Decision, Entrance, Item, Purpose, RankSet, Topic, WorldRank,
+};
 use ulfm_rank::Rank;
 
 const FIRST: WorldRank = WorldRank { number: 0 };
 
-const SECOND: WorldRank = WorldRank { number: 1 };
+pub(super) const SECOND: WorldRank = WorldRank { number: 1 };
 
-const THIRD: WorldRank = WorldRank { number: 2 };
+pub(super) const THIRD: WorldRank = WorldRank { number: 2 };
 
 /// Takes a notice from another rank. It answers whether it could be taken.
-fn take(rank: &mut Rank, source: WorldRank, item: Item) -> bool {
+pub(super) fn take(rank: &mut Rank, source: WorldRank, item: Item) -> bool {
     let letter = matches!(item, Item::Letter(_));
     if letter || rank.is_stopped() || source.number >= rank.ranks() || rank.prepare().is_err() {
         return false;
@@ -22,10 +24,16 @@ fn take(rank: &mut Rank, source: WorldRank, item: Item) -> bool {
 
 /// Word of an entry into the shrink of the world by a rank that knows no failure.
 fn entry() -> Item {
-    Item::Enter {
-        context: Context::WORLD,
-        known: RankSet::new(),
-    }
+    Item::Enter(Entrance {
+        topic: Topic {
+            context: Context::WORLD,
+            purpose: Purpose::Shrink,
+        },
+        contribution: Contribution {
+            known: RankSet::new(),
+            flag: None,
+        },
+    })
 }
 
 /// Whether a rank enters the shrink of the world.
@@ -50,7 +58,7 @@ fn proposes_nothing(rank: &Rank) -> bool {
 fn lists_second(rank: &Rank, set: RankSet) -> bool {
     match proposed(rank) {
         Some(decision) => match decision.entries[1] {
-            Some(listed) => listed.is_same(set),
+            Some(listed) => listed.known.is_same(set),
             None => false,
         },
         None => false,

@@ -8,6 +8,7 @@ use Rattle.ulfm_script.specs.inside.Underway.{FollowsSoFar, polls_left}
 use Rattle.ulfm_job.specs.Job.{Seen, script_at}
 use Rattle.ulfm_world.specs.World.{World, player_at, rank_at, inbox_at, IsRunning, Reaches, start_world}
 use Rattle.ulfm_base.specs.declared.decision.Decision.{Decision}
+use Rattle.ulfm_base.specs.declared.topic.Topic.{Topic}
 use Rattle.ulfm_board.specs.Known.{known_at}
 use Rattle.ulfm_script.specs.Deciding.{Known}
 use Rattle.ulfm_script.specs.inside.SoFar.{AnswersFollowSoFar}
@@ -57,8 +58,7 @@ known_for knows r = slice_index_or knows r []
 pub record AllAnswersFollowSoFar (w : World) : Type 0 where
   pub knows : List Known
   pub many : length knows ≡ length w.players
-  pub sized : (r : ℕ) → r < length w.players → length (known_for knows r) ≡ length w.decided
-  pub held : (r c : ℕ) (d : Decision) → r < length w.players → known_at (known_for knows r) c ≡ Some d → known_at w.decided c ≡ Some d
+  pub held : (r : ℕ) (topic : Topic) (d : Decision) → r < length w.players → known_at (known_for knows r) topic ≡ Some d → known_at w.decided topic ≡ Some d
   pub honest : (r : ℕ) → r < length w.players → AnswersFollowSoFar (known_for knows r) (player_at w r)
 
 -- from old to new, where something moved or nothing did

@@ -10,4 +10,4 @@ invariant-loop l =
     (vec_len l.all ≡ l.counter)
     × (l.n ≤ vec_capacity l.all)
     × All (λ (s : Seat). Some (cell_names (arc_value s.cells).items) ≡ Some (cell_names (arc_value l.board).items)) l.all.items
-    × All (λ (s : Seat). notes_known s.notes.items ≡ nothing_known) l.all.items
+    × All (λ (s : Seat). notes_known s.notes.items ≡ nothing_known l.rounds) l.all.items

@@ -1,7 +1,7 @@
 use Rattle.std.proofs.Common.{◌≡◌, drop}
 use Rattle.ulfm_rank.specs.Log.{first_given}
-use Rattle.ulfm_rank.specs.Shrink.{entry_of}
+use Rattle.ulfm_rank.specs.Proposal.{entry_of}
 use Rattle.ulfm_run.proofs.adopted.entry_of.Given as goal
 
 abbrev pub invariant-loop-entry : goal.invariant-loop-entry
-invariant-loop-entry l = first_given (entry_of l.context.number) (drop l.entry-index l.log) ≡ first_given (entry_of l.context.number) l.log
+invariant-loop-entry l = first_given (entry_of l.topic) (drop l.entry-index l.log) ≡ first_given (entry_of l.topic) l.log

@@ -1,7 +1,11 @@
-use Rattle.std.proofs.Common.{◌≡◌, ◌<◌, ℕ, List, Option, None, is_some, ap, sym, ◌∙◌}
+use Rattle.std.proofs.Common.{◌≡◌, ◌<◌, ℕ, List, Option, None, is_some, ap, sym, refl, ◌∙◌}
 use Rattle.std.proofs.lemmas.Bool.{false≢true, or_right}
 use Rattle.ulfm_base.proofs.Places.{get_or-blank}
 use Rattle.ulfm_base.specs.declared.rank_set.RankSet.{RankSet}
+use Rattle.std.proofs.lemmas.Option.{none-some}
+use Rattle.ulfm_base.specs.declared.context.Context.{Context}
+use Rattle.ulfm_base.specs.declared.contribution.Contribution.{Contribution}
+use Rattle.ulfm_base.specs.Topic.{shrink_topic}
 use Rattle.ulfm_base.specs.Context.{shrink_of}
 use Rattle.ulfm_base.specs.Decision.{IsLawfulDecision, entry_at, is_listed}
 use Rattle.ulfm_base.specs.Group.{is_member, excluding}
@@ -9,17 +13,19 @@ use Rattle.ulfm_base.specs.RankSet.{has}
 use Rattle.ulfm_tests.proofs.board.none_left.Goals as goal
 
 -- nobody is listed, and all are excluded
-all_excluded : (context : ℕ) (old : List ℕ) (entries : List (Option RankSet)) (excluded : RankSet) (fresh : List ℕ) → shrink_of context < 63 → ((r : ℕ) → entry_at entries r ≡ None) → ((r : ℕ) → has excluded r ≡ is_member old r) → fresh ≡ excluding old (has excluded) → IsLawfulDecision context old entries excluded fresh
+all_excluded : (context : Context) (old : List ℕ) (entries : List (Option Contribution)) (excluded : RankSet) (fresh : List ℕ) → shrink_of context.number < 63 → ((r : ℕ) → entry_at entries r ≡ None) → ((r : ℕ) → has excluded r ≡ is_member old r) → fresh ≡ excluding old (has excluded) → IsLawfulDecision (shrink_topic context) old entries excluded fresh None
 all_excluded context old entries excluded fresh room none all is = record {
-  has_shrink = room;
+  has_shrink = λ shrinks. room;
   complete = λ r h. or_right (is_listed entries r) (has excluded r) (all r ∙ h);
   union = λ r s h k. all s ∙ k;
   listed_members = λ r h. absurd (false≢true (sym (ap is_some (none r)) ∙ h));
   excluded_members = λ r h. sym (all r) ∙ h;
   survivors = is;
+  flags = λ r brought h. absurd (none-some brought (sym (none r) ∙ h));
+  and_of_flags = refl;
 }
 
 pub invariant_of-decision : goal.invariant_of-decision
 invariant_of-decision c = record {
-  lawful = all_excluded c.args.context.number _ _ _ _ c.requires (λ r. get_or-blank 8 r None) c.members-excluded.ensures c.excluding-fresh.ensures;
+  lawful = all_excluded c.args.context _ _ _ _ c.requires (λ r. get_or-blank 8 r None) c.members-excluded.ensures c.excluding-fresh.ensures;
 }

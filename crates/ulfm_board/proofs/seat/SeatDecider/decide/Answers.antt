@@ -6,26 +6,26 @@ use Rattle.ulfm_board.proofs.seat.SeatDecider.decide.Goals as goal
 
 pub decided-requires : goal.decided-requires
 decided-requires c =
-    let low : c.args.decision.context.number < length c.args.self.now.notes.items = omega (arith, c.args.decision.lawful.has_shrink, c.args.self.now.whole, c.args.self.now.notes.ok) in
-    cell_at c.args.self.now.notes.items _ c.args.decision.context.number _ c.index.result.now c.args.self.now.tied low c.index_mut.ensures.value
-    (c.index.ensures ∙ ap (λ v. get_or v.items c.args.decision.context.number c.index.result.now) c.deref.ensures)
+    let low : c.in-Some.place < length c.args.self.now.notes.items = omega (arith, c.args.self.now.notes.ok) in
+    cell_at c.args.self.now.notes.items _ c.in-Some.place _ c.index.result.now c.args.self.now.tied low c.index_mut.ensures.value
+    (c.index.ensures ∙ ap (λ v. get_or v.items c.in-Some.place c.index.result.now) c.deref.ensures)
     ∙ ap (λ x. cell_name x) (sym c.deref-cell.ensures)
 
-pub invariant_of-self : goal.invariant_of-self
-invariant_of-self c = record {
+pub invariant_of-self-2 : goal.invariant_of-self-2
+invariant_of-self-2 c = record {
   whole = c.args.self.now.whole;
-  tied = tied_after c.args.self.now.notes.items _ c.args.decision.context.number _ _ c.args.self.now.tied c.index_mut.ensures.value c.decided.ensures.cell;
+  tied = tied_after c.args.self.now.notes.items _ c.in-Some.place _ _ c.args.self.now.tied c.index_mut.ensures.value c.decided.ensures.cell;
 }
 
 pub returns-clause-answers : goal.returns-clause-answers
 returns-clause-answers c =
-    let low : c.args.decision.context.number < length c.args.self.now.notes.items = omega (arith, c.args.decision.lawful.has_shrink, c.args.self.now.whole, c.args.self.now.notes.ok) in
-    answers_of c.args.self.now.notes.items _ c.args.decision _ c.decided.new.note _ low c.index_mut.ensures.value c.decided.ensures.held
+    let low : c.in-Some.place < length c.args.self.now.notes.items = omega (arith, c.args.self.now.notes.ok) in
+    answers_of c.args.self.now.notes.items _ c.args.decision c.in-Some.place _ c.decided.new.note _ c.in-Some.ensures.place low c.index_mut.ensures.value c.decided.ensures.held
 
 pub returns-clause-starves : goal.returns-clause-starves
 returns-clause-starves c =
-    let low : c.args.decision.context.number < length c.args.self.now.notes.items = omega (arith, c.args.decision.lawful.has_shrink, c.args.self.now.whole, c.args.self.now.notes.ok) in
-    starves_of c.args.self.now.notes.items _ c.args.decision.context.number _ c.decided.new.note _ low c.index_mut.ensures.value c.decided.ensures.starves
+    let low : c.in-Some.place < length c.args.self.now.notes.items = omega (arith, c.args.self.now.notes.ok) in
+    starves_of c.args.self.now.notes.items _ c.args.decision.topic c.in-Some.place _ c.decided.new.note _ c.in-Some.ensures.place low c.index_mut.ensures.value c.decided.ensures.starves
 
 pub returns-clause-unchanged : goal.returns-clause-unchanged
-returns-clause-unchanged c = unchanged_of c.args.self.now.notes.items c.args.decision.context.number _ c.decided.new.note _ c.index_mut.ensures.value c.decided.ensures.starves
+returns-clause-unchanged c = unchanged_of c.args.self.now.notes.items c.in-Some.place _ c.decided.new.note _ c.index_mut.ensures.value c.decided.ensures.starves

@@ -1,6 +1,5 @@
-use Rattle.std.proofs.Common.{◌++◌, ◌∷◌, [], refl, ap, ◌∙◌, arith}
+use Rattle.std.proofs.Common.{◌++◌, ◌∷◌, [], ap, ◌∙◌, arith}
 use Rattle.ulfm_rank.proofs.Common.{Acknowledged}
-use Rattle.ulfm_rank.proofs.Entries.{shrinks-logged}
 use Rattle.ulfm_rank.proofs.Following.{follows_acknowledged}
 use Rattle.ulfm_rank.proofs.Seen.{stop_places_few}
 use Rattle.ulfm_rank.proofs.rank.Rank.ack_failed.Goals as goal
@@ -10,6 +9,5 @@ invariant_of-self-2 c =
     let now_log = c.push_reserved.ensures.items ∙ ap (λ l. l ++ Acknowledged c.args.comm.context c.ack-total.result ∷ []) c.reserve.ensures.items in
     record {
       follows = rw now_log (follows_acknowledged c.self.invariant.follows c.args.comm.context c.ack-total.result c.ack-total.new.self c.ack-total.ensures.sets_this_total_alone c.ack-total.ensures.known_stay c.ack-total.ensures.marks_stay);
-      shrinks = shrinks-logged (Acknowledged c.args.comm.context c.ack-total.result) c.self.invariant.shrinks (λ k. refl) (λ k r. refl) now_log;
       places = omega (arith, c.in_ok-reserve.ensures.ok, c.push_reserved.ensures.len, c.push_reserved.ensures.capacity, c.len.ensures.len, stop_places_few c.self.inside.stopped);
     }

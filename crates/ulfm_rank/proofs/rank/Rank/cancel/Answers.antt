@@ -2,7 +2,6 @@ use Rattle.std.proofs.Common.{◌≡◌, ℕ, [], ◌∷◌, ◌++◌, refl, ap,
 use Rattle.ulfm_rank.proofs.Common.{Pattern, View, Released, Cancelled, IsTestAnswer, IsRequest, IsNoRequest, is_some, is_stopped, get, index_map_len}
 use Rattle.ulfm_rank.proofs.Answered.{is_request, no_request}
 use Rattle.ulfm_rank.proofs.Cancelled.{in_step_cancelled}
-use Rattle.ulfm_rank.proofs.Entries.{shrinks-logged}
 use Rattle.ulfm_rank.proofs.Requested.{has_group, sender_found, answered}
 use Rattle.ulfm_rank.proofs.Whole.{follows_released, follows_requests, one_less}
 use Rattle.ulfm_rank.proofs.rank.Rank.cancel.Goals as goal
@@ -27,7 +26,6 @@ invariant_of-self c =
     record {
       follows = rw longer
           (follows_released c.self.invariant.follows (Released c.args.id c.answer_in-answer.result) refl c.args.id.number (record { releases_this = λ k. refl; probes_none = λ k. refl }) refl c.in-Some.request found (get nat_eq c.shift_remove.new.self) c.shift_remove.ensures.updates.0);
-      shrinks = shrinks-logged (Released c.args.id c.answer_in-answer.result) c.self.invariant.shrinks (λ k. refl) (λ k r. refl) longer;
       places = omega (arith, c.self.invariant.places, less, c.push_reserved.ensures.len, c.push_reserved.ensures.capacity);
     }
 
@@ -51,7 +49,6 @@ invariant_of-self-2 c =
     record {
       follows = rw c.push_reserved-2.ensures.items
           (follows_requests c.self.invariant.follows (Cancelled c.args.id) refl (in_step_cancelled c.self.invariant.follows.in_step c.args.id c.in-Some.request found c.withdraw.new.self c.withdraw.ensures.tracks (get nat_eq c.shift_remove.new.self) c.shift_remove.ensures.updates.0));
-      shrinks = shrinks-logged (Cancelled c.args.id) c.self.invariant.shrinks (λ k. refl) (λ k r. refl) c.push_reserved-2.ensures.items;
       places = omega (arith, c.self.invariant.places, less, c.push_reserved-2.ensures.len, c.push_reserved-2.ensures.capacity);
     }
 

@@ -1,6 +1,5 @@
-use Rattle.std.proofs.Common.{rules, ◌≡◌, ◌++◌, ◌∷◌, [], refl, ap, ◌∙◌, arith, Some}
+use Rattle.std.proofs.Common.{rules, ◌≡◌, ◌++◌, ◌∷◌, [], ap, ◌∙◌, arith, Some}
 use Rattle.ulfm_rank.proofs.Common.{Duplicated, dup_of, find_group, group_of, State, View}
-use Rattle.ulfm_rank.proofs.Entries.{shrinks-logged}
 use Rattle.ulfm_rank.proofs.Following.{follows_duplicated}
 use Rattle.ulfm_rank.proofs.Seen.{stop_places_few}
 use Rattle.ulfm_rank.proofs.Made.{found_group}
@@ -19,6 +18,5 @@ invariant_of-self-2 c =
     let added = c.add.ensures ∙ ap (λ k. a.communicators ++ (k, c.copied-group.result) ∷ []) number ∙ ap (λ g. a.communicators ++ (dup_of c.args.comm.context.number, g) ∷ []) c.copied-group.ensures in
     record {
       follows = rw (now_log, added) (follows_duplicated c.self.invariant.follows c.args.comm.context group found);
-      shrinks = shrinks-logged (Duplicated c.args.comm.context) c.self.invariant.shrinks (λ k. refl) (λ k r. refl) now_log;
       places = omega (arith, c.in_ok-reserve.ensures.ok, c.push_reserved.ensures.len, c.push_reserved.ensures.capacity, c.len.ensures.len, stop_places_few a.stopped);
     }

@@ -2,7 +2,6 @@ use Rattle.std.proofs.Common.{◌≡◌, ℕ, false, true, [], ◌∷◌, ◌++�
 use Rattle.std.proofs.lemmas.Result.{err_from_is_err_and}
 use Rattle.ulfm_base.specs.Pattern.{Admits}
 use Rattle.ulfm_rank.proofs.Common.{Context, Letter, Pattern, MessageId, Probed, Found, Request, IsMessage, TellsOf, WouldGet, is_revoked, group_at, members_of, or_empty, find_group, Follows, IsOfGroup, View, State, eq-eqb, is_some, lookup, get, index_map_len, false≢true, history_of, count_before}
-use Rattle.ulfm_rank.proofs.Entries.{shrinks-logged}
 use Rattle.ulfm_rank.proofs.InStep.{count_small, in_step_open}
 use Rattle.ulfm_rank.proofs.Made.{found_group}
 use Rattle.ulfm_rank.proofs.Probing.{finds_none, never_none, gets, may_starve, unrevoked}
@@ -33,7 +32,7 @@ returns-in_err-reserve-clause-refused c =
     rw (e.1, e.2) (inr (k.accepted, may_starve c.self.invariant.follows c.args.self.now.state (ap (λ (v : View). v.state.log) c.self.view_is) c.args.comm c.args.source c.args.tag c.in_ok-pattern.pattern k.accepted k.asks_for there.0 there.1 there.2))
 
 pub invariant_of-self-in_err-reserve-2 : goal.invariant_of-self-in_err-reserve-2
-invariant_of-self-in_err-reserve-2 c = holds_same c.self.inside c.self.invariant refl refl refl refl refl refl refl refl refl refl c.reserve-2.ensures.entries refl c.reserve.ensures.items c.reserve.ensures.len c.reserve.ensures.capacity
+invariant_of-self-in_err-reserve-2 c = holds_same c.self.inside c.self.invariant refl refl refl refl refl refl refl refl refl c.reserve-2.ensures.entries refl c.reserve.ensures.items c.reserve.ensures.len c.reserve.ensures.capacity
 
 pub returns-in_err-reserve-2-clause-refused : goal.returns-in_err-reserve-2-clause-refused
 returns-in_err-reserve-2-clause-refused c =
@@ -95,7 +94,6 @@ invariant_of-self-2 c =
     let a = c.self.inside in
     record {
       follows = subst (λ log. Follows a.ranks a.me.number log a.stopped c.probe.new.self (get nat_eq c.insert.new.self) a.faults a.communicators a.outboxes.boxes) (sym (longer c)) (done c);
-      shrinks = shrinks-logged (Probed (id c) (pattern c)) c.self.invariant.shrinks (λ k. refl) (λ k r. refl) (longer c);
       places =
           let same : index_map_len c.reserve-2.new.self ≡ index_map_len a.requests = ap length c.reserve-2.ensures.entries in
           let one = at_most_one (is_some c.in-Ok.field-0) in

@@ -1,7 +1,6 @@
 use Rattle.std.proofs.Common.{rules, ◌≡◌, ◌++◌, ◌∷◌, [], length, refl, ap, ◌∙◌, arith}
 use Rattle.ulfm_base.specs.declared.item.Item.TheVariants.{Letter as Mail}
 use Rattle.ulfm_rank.proofs.Common.{Letter, Sent, State, View}
-use Rattle.ulfm_rank.proofs.Entries.{shrinks-logged}
 use Rattle.ulfm_rank.proofs.Held.{marks-grown}
 use Rattle.ulfm_rank.proofs.Following.{follows_sent}
 use Rattle.ulfm_rank.proofs.Seen.{stop_places_few, state_logged}
@@ -16,7 +15,6 @@ invariant_of-self-2 c =
     let grows = rw (place, c.in_ok-reserve-2.ensures.boxes) at (c.put.ensures (Mail letter)) in
     record {
       follows = rw now_log (follows_sent c.self.invariant.follows c.in_ok-to.to letter c.put.new.self.boxes grows);
-      shrinks = shrinks-logged (Sent c.in_ok-to.to letter) c.self.invariant.shrinks (λ k. refl) (λ k r. refl) now_log;
       places = omega (arith, c.in_ok-reserve.ensures.ok, c.push_reserved.ensures.len, c.push_reserved.ensures.capacity, c.len.ensures.len, stop_places_few a.stopped);
     }
 

@@ -1,6 +1,5 @@
 use Rattle.std.proofs.Common.{◌≡◌, ℕ, [], ◌∷◌, ◌++◌, refl, ap, sym, subst, arith, ◌∙◌, false, nat_eq}
 use Rattle.ulfm_rank.proofs.Common.{Pattern, View, Received, IsMessage, IsMessageAnswer, IsNoMessage, is_some, is_stopped, get, index_map_len}
-use Rattle.ulfm_rank.proofs.Entries.{shrinks-logged}
 use Rattle.ulfm_rank.proofs.Answered.{is_message, no_message}
 use Rattle.ulfm_rank.proofs.Requested.{has_group, sender_found, answered_message}
 use Rattle.ulfm_rank.proofs.Whole.{follows_released, one_less}
@@ -26,7 +25,6 @@ invariant_of-self c =
     record {
       follows = rw longer
           (follows_released c.self.invariant.follows (Received c.args.id c.answer_in-answer.result) refl c.args.id.number (record { releases_this = λ k. refl; probes_none = λ k. refl }) refl c.in-Some.message found (get nat_eq c.shift_remove.new.self) c.shift_remove.ensures.updates.0);
-      shrinks = shrinks-logged (Received c.args.id c.answer_in-answer.result) c.self.invariant.shrinks (λ k. refl) (λ k r. refl) longer;
       places = omega (arith, c.self.invariant.places, less, c.push_reserved.ensures.len, c.push_reserved.ensures.capacity);
     }
 

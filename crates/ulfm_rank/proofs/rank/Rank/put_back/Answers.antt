@@ -29,7 +29,6 @@ invariant_of-self-2 c =
         communicators = c.self.invariant.follows.communicators;
         outboxes = rw c.put_back.ensures.boxes marked;
       };
-      shrinks = c.self.invariant.shrinks;
       places = c.self.invariant.places;
     }
 

@@ -1,6 +1,5 @@
-use Rattle.std.proofs.Common.{rules, ◌≡◌, ◌++◌, ◌∷◌, [], ℕ, false, length, refl, ap, sym, ◌∙◌, arith, nat_eq}
+use Rattle.std.proofs.Common.{rules, ◌≡◌, ◌++◌, ◌∷◌, [], ℕ, false, length, ap, sym, ◌∙◌, arith, nat_eq}
 use Rattle.ulfm_rank.proofs.Common.{Revoked, is_revoked, is_gone, has, State, View, get}
-use Rattle.ulfm_rank.proofs.Entries.{shrinks-logged}
 use Rattle.ulfm_rank.proofs.Held.{marks-grown}
 use Rattle.ulfm_rank.proofs.Following.{follows_revoked}
 use Rattle.ulfm_rank.proofs.Seen.{stop_places_few, state_logged}
@@ -18,7 +17,6 @@ invariant_of-self-2 c =
     let grows = rw (place, c.in_ok-reserve-2.ensures.boxes) at (c.forward.ensures a.log.items knows first) in
     record {
       follows = rw now_log (follows_revoked c.self.invariant.follows c.args.comm.context c.clear.new.matcher (get nat_eq c.clear.new.requests) c.revoke.new.self c.forward.new.outboxes.boxes first c.clear.ensures.tracks c.revoke.ensures.marks_this_context_alone c.revoke.ensures.known_stay c.revoke.ensures.totals_stay grows);
-      shrinks = shrinks-logged (Revoked c.args.comm.context) c.self.invariant.shrinks (λ k. refl) (λ k r. refl) now_log;
       places = omega (arith, c.in_ok-reserve.ensures.ok, c.push_reserved.ensures.len, c.push_reserved.ensures.capacity, c.len.ensures.len, c.clear.ensures.len, stop_places_few a.stopped);
     }
 

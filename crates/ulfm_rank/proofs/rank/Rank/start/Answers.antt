@@ -1,6 +1,5 @@
 use Rattle.std.proofs.Common.{◌≡◌, ℕ, [], ◌∷◌, ap, arith, ◌∙◌, None, nat_eq}
 use Rattle.ulfm_rank.proofs.Common.{lookup, get}
-use Rattle.ulfm_rank.proofs.Entries.{shrinks-same, shrinks-start}
 use Rattle.ulfm_rank.proofs.Whole.{follows_start, state_start}
 use Rattle.ulfm_rank.proofs.rank.Rank.start.Goals as goal
 use Rattle.ulfm_rank.proofs.rank.Rank.start.Goals.{After-result-1}
@@ -10,15 +9,14 @@ empty c = c.reserve.ensures.items ∙ c.new-log.ensures.items
 
 pub invariant_of-result-2 : goal.invariant_of-result-2
 invariant_of-result-2 c =
-    let none : (k : ℕ) → get nat_eq c.new-6.result k ≡ None = λ k. ap (lookup (nat_eq k)) c.new-6.ensures.empty in
+    let none : (k : ℕ) → get nat_eq c.new-5.result k ≡ None = λ k. ap (lookup (nat_eq k)) c.new-5.ensures.empty in
     let size = c.in_ok-world.ensures.ok in
     record {
       follows = rw (empty c)
-          (follows_start c.args.ranks c.args.me c.new-4.result (get nat_eq c.new-6.result) c.new-5.result c.in_ok-communicators.communicators c.in_ok-outboxes.outboxes.boxes
-          size.1 c.if-me-ranks.false c.new-4.ensures none c.new-5.ensures.none_known c.new-5.ensures.none_acknowledged c.new-5.ensures.none_revoked
+          (follows_start c.args.ranks c.args.me c.new-3.result (get nat_eq c.new-5.result) c.new-4.result c.in_ok-communicators.communicators c.in_ok-outboxes.outboxes.boxes
+          size.1 c.if-me-ranks.false c.new-3.ensures none c.new-4.ensures.none_known c.new-4.ensures.none_acknowledged c.new-4.ensures.none_revoked
           (c.in_ok-communicators.ensures ∙ ap (λ g. (0, g) ∷ []) size.2) c.in_ok-outboxes.ensures);
-      shrinks = shrinks-same (shrinks-start c.args.me c.in_ok-shrinks.shrinks c.in_ok-shrinks.ensures) (empty c);
-      places = omega (arith, c.in_ok-reserve.ensures.ok, c.reserve.ensures.len, c.new-log.ensures.len, c.new-6.ensures.len);
+      places = omega (arith, c.in_ok-reserve.ensures.ok, c.reserve.ensures.len, c.new-log.ensures.len, c.new-5.ensures.len);
     }
 
 pub returns-clause-started : goal.returns-clause-started

@@ -1,13 +1,10 @@
 use Rattle.std.proofs.Common.{◌≡◌, refl, arith}
 use Rattle.ulfm_rank.proofs.Common.{stop_places}
-use Rattle.ulfm_rank.specs.declared.entry.Entry.TheVariants.{Stopped}
-use Rattle.ulfm_rank.proofs.Entries.{shrinks-logged}
 use Rattle.ulfm_rank.proofs.Following.{follows_stopped}
 use Rattle.ulfm_rank.proofs.rank.Rank.stop.Goals as goal
 
 pub invariant_of-self : goal.invariant_of-self
 invariant_of-self c = record {
   follows = rw c.push_reserved.ensures.items (follows_stopped c.self.invariant.follows);
-  shrinks = shrinks-logged Stopped c.self.invariant.shrinks (λ k. refl) (λ k r. refl) c.push_reserved.ensures.items;
   places = let p = c.self.invariant.places in let q : stop_places c.self.inside.stopped ≡ 1 = rw c.if-self.false refl in omega (arith, p, q, c.push_reserved.ensures.len, c.push_reserved.ensures.capacity);
 }

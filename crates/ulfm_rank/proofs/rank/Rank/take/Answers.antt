@@ -1,6 +1,5 @@
 use Rattle.std.proofs.Common.{◌+◌, length, ap, sym, subst, arith, ◌∙◌, nat_eq, IsTrue, vec_len, vec_capacity}
 use Rattle.ulfm_rank.proofs.Common.{Took, AllGrow, View, owed_by_item, get, index_map_len, stop_places, revoked_before}
-use Rattle.ulfm_rank.proofs.Entries.{shrinks-same}
 use Rattle.ulfm_rank.proofs.Held.{marks-grown}
 use Rattle.ulfm_rank.proofs.InStep.{count_small, in_step_open}
 use Rattle.ulfm_rank.proofs.Known.{marked_before, knows_gone}
@@ -36,7 +35,6 @@ invariant_of-self c =
     record {
       follows = rw c.push_reserved.ensures.items
           (follows_took c.self.invariant.follows c.args.source c.args.item c.settle.new.matcher (get nat_eq c.settle.new.requests) c.learn.new.faults c.pass_on.new.outboxes.boxes tracks (c.learn.ensures a.log.items c.self.invariant.follows.faults) (grows c));
-      shrinks = shrinks-same (c.hear.ensures a.log.items c.self.invariant.shrinks) c.push_reserved.ensures.items;
       places = omega (arith, room, c.settle.ensures.len, c.push_reserved.ensures.len, c.push_reserved.ensures.capacity);
     }
 

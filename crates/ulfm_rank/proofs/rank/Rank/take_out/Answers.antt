@@ -22,7 +22,6 @@ invariant_of-self c =
         communicators = c.self.invariant.follows.communicators;
         outboxes = outboxes-taken a.outboxes c.take_next.new.outboxes c.args.dest c.take_next.result held inside (next held) c.take_next.ensures.taken (same held);
       };
-      shrinks = c.self.invariant.shrinks;
       places = c.self.invariant.places;
     }
 

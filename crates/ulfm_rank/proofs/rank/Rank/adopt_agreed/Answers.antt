@@ -1,0 +1,31 @@
+use Rattle.std.proofs.Common.{◌≡◌, ◌++◌, ◌∷◌, [], append-nil, ap, sym, subst, ◌∙◌, arith, Some}
+use Rattle.ulfm_rank.proofs.Common.{Topic, is_agreement, decided_comm, Adopted, find_group, group_of, State, View}
+use Rattle.std.proofs.lemmas.Result.{err_from_is_err_and}
+use Rattle.ulfm_rank.specs.Checks.{adopt_checks, Fails}
+use Rattle.ulfm_rank.proofs.Adoptable.{never_starved, none_agreed}
+use Rattle.ulfm_rank.proofs.Following.{follows_adopted}
+use Rattle.ulfm_rank.proofs.Made.{found_group}
+use Rattle.ulfm_rank.proofs.Seen.{stop_places_few}
+use Rattle.ulfm_rank.proofs.rank.Rank.adopt_agreed.Goals as goal
+
+pub returns-in_err-check_adoption-clause-room_lacked : goal.returns-in_err-check_adoption-clause-room_lacked
+returns-in_err-check_adoption-clause-room_lacked c =
+    let p = err_from_is_err_and c.from_residual.result c.from_residual.ensures.1 in
+    rw (p.1, p.2) (λ starved. absurd (never_starved _ _ _ _ _ (subst (Fails (adopt_checks c.args.self.now.state c.args.topic c.args.decision)) starved c.in_err-check_adoption.ensures.refused)))
+
+pub invariant_of-self-2 : goal.invariant_of-self-2
+invariant_of-self-2 c =
+    let a = c.self.inside in
+    let d = c.args.decision in
+    let seen = ap (λ (v : View). v.state) c.self.view_is in
+    let about = c.in_ok-check_adoption.ensures.about in
+    let longer = c.push_reserved.ensures.items ∙ ap (λ l. l ++ Adopted c.args.decision ∷ []) c.reserve.ensures.items in
+    let found : find_group c.args.decision.topic.context.number c.self.inside.communicators ≡ Some c.args.decision.old =
+    found_group d.topic.context.number c.self.invariant.follows.communicators ∙ ap (λ (t : Topic). group_of a.ranks a.log.items t.context.number) about ∙ ap (λ (s : State). group_of s.ranks s.log c.args.topic.context.number) seen ∙ c.in_ok-check_adoption.ensures.group in
+    let none : decided_comm c.args.decision.topic.purpose c.args.decision.topic.context.number c.args.decision.fresh ≡ [] = none_agreed d.topic.purpose d.topic.context.number d.fresh (ap (λ (t : Topic). is_agreement t.purpose) about ∙ c.requires) in
+    let same : c.self.inside.communicators ≡ c.self.inside.communicators ++ decided_comm c.args.decision.topic.purpose c.args.decision.topic.context.number c.args.decision.fresh =
+    sym (ap (λ more. a.communicators ++ more) none ∙ append-nil a.communicators) in
+    record {
+      follows = rw (longer, same) (follows_adopted c.self.invariant.follows c.args.decision found);
+      places = omega (arith, c.in_ok-reserve.ensures.ok, c.push_reserved.ensures.len, c.push_reserved.ensures.capacity, c.len.ensures.len, stop_places_few a.stopped);
+    }

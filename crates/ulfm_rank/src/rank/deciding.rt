@@ -1,0 +1,122 @@
+//! What shrinks and agreements have in common: entry, proposal and adoption (ULFM, shrink and agree).
+ghost use Rattle.std.specs.Prelude.{◌≡◌, ℕ, true, IsTrue, Some, IfOk, IfErr, OnOk, OnErr, false};
+ghost use Rattle.ulfm_base.specs.declared.contribution.Contribution.{Contribution as Brought};
+ghost use Rattle.ulfm_base.specs.Decision.{entry_at};
+ghost use Rattle.ulfm_base.specs.Group.{is_member};
+ghost use Rattle.ulfm_base.specs.RankSet.{has};
+ghost use Rattle.ulfm_base.specs.Topic.{Fits, HasShrink};
+ghost use Rattle.ulfm_rank.specs.Calls.{Enters, Proposes};
+ghost use Rattle.ulfm_rank.specs.Checks.{Passes, Fails, proposal_checks, adopt_checks};
+ghost use Rattle.ulfm_rank.specs.Communicators.{group_of};
+ghost use Rattle.ulfm_rank.specs.inside.Fields.{HasEntries};
+ghost use Rattle.ulfm_rank.specs.Proposal.{deciders, has_entered, has_adopted, is_foreign};
+
+use super::Rank;
+use crate::adopting::is_foreign;
+use crate::entrances::{has_adopted, listed};
+use crate::entry::{Comm, Entry};
+use crate::forwarding::announce;
+use crate::proposal::proposed;
+use ulfm_base::{CallError, Contribution, Decision, Entrance, Group, OutOfMemory, RankSet, Topic};
+
+impl Rank {
+    /// Enters a topic, on the communicator of these members, with the failures that are known now.
+    pub(super) fn enter(
+        &mut self,
+        topic: Topic,
+        flag: Option<u32>,
+        members: RankSet,
+    ) -> Result<(), OutOfMemory>
+        requires fits { Fits topic.purpose flag }
+        requires has_shrink { HasShrink topic }
+        requires members { (r : ℕ) → has members r ≡ is_member (deciders self.old.state.ranks self.old.state.log topic) r }
+        ensures enters { OnOk result (Enters self.old.state topic flag self.new.state) }
+        ensures unchanged { OnErr result (self.new.state ≡ self.old.state) }
+        ensures room_lacked { OnErr result (self.old.prepared ≡ false) }
+        ensures stays_prepared { OnErr result (IsTrue self.old.prepared → IsTrue self.new.prepared) }
+        ensures place { self.new.has_place ≡ self.old.has_place }
+    {
+        self.log.reserve(self.requests.len() + 2)?;
+        self.outboxes.reserve()?;
+        let known = self.faults.known();
+        announce(
+            &mut self.outboxes,
+            self.me.number,
+            known,
+            members,
+            self.log.len(),
+        );
+        self.log.push_reserved(Entry::Entered(Entrance {
+            topic,
+            contribution: Contribution { known, flag },
+        }));
+        Ok(())
+    }
+
+    /// What the rank proposes on a topic that it entered, once each member is listed or failed.
+    pub(super) fn proposal_on(&self, topic: Topic) -> Result<Option<Decision>, CallError>
+        ensures accepted { OnOk result (Passes (proposal_checks self.now.state topic)) }
+        ensures proposal { IfOk result (Proposes self.now.state topic) }
+        ensures refused { IfErr result (Fails (proposal_checks self.now.state topic)) }
+    {
+        let group = self.running_group(Comm {
+            context: topic.context,
+        })?;
+        let entries = self.listed(topic);
+        if entries[self.me.number as usize].is_none() {
+            return Err(CallError::NotEntered);
+        }
+        Ok(proposed(topic, group, &entries, self.faults.known()))
+    }
+
+    /// Whether a decision may be adopted on a topic.
+    pub(super) fn check_adoption(&self, topic: Topic, decision: &Decision) -> Result<(), CallError>
+        ensures accepted { OnOk result (Passes (adopt_checks self.now.state topic decision.now)) }
+        ensures about { OnOk result (decision.now.topic ≡ topic) }
+        ensures group { OnOk result (group_of self.now.state.ranks self.now.state.log topic.context.number ≡ Some decision.now.old) }
+        ensures refused { IfErr result (Fails (adopt_checks self.now.state topic decision.now)) }
+    {
+        let group = self.running_group(Comm {
+            context: topic.context,
+        })?;
+        if self.has_adopted(topic) {
+            return Err(CallError::AlreadyMade);
+        }
+        if !self.has_entered(topic) {
+            return Err(CallError::NotEntered);
+        }
+        if self.is_foreign(topic, group, decision) {
+            return Err(CallError::NotMember);
+        }
+        Ok(())
+    }
+
+    /// Whether a decision isn't one to adopt on a topic, where the communicator has this group.
+    fn is_foreign(&self, topic: Topic, group: &Group, decision: &Decision) -> bool
+        ensures { result ≡ is_foreign self.now.state.me group.now self.now.state.log topic decision.now }
+    {
+        is_foreign(decision, topic, group, self.me, &self.listed(topic))
+    }
+
+    /// Whether the rank adopted a decision on a topic.
+    pub(super) fn has_adopted(&self, topic: Topic) -> bool
+        ensures { result ≡ has_adopted self.now.state.log topic }
+    {
+        has_adopted(&self.log, topic)
+    }
+
+    /// Whether the rank entered a topic.
+    pub(super) fn has_entered(&self, topic: Topic) -> bool
+        ensures { result ≡ has_entered self.now.state.log topic }
+    {
+        self.listed(topic)[self.me.number as usize].is_some()
+    }
+
+    /// With what the rank lists each rank in the decision on a topic.
+    fn listed(&self, topic: Topic) -> [Option<Contribution>; 8]
+        ensures entries { HasEntries self.now.state.me self.now.state.log topic result }
+        ensures flags { (r : ℕ) (brought : Brought) → entry_at result r ≡ Some brought → Fits topic.purpose brought.flag }
+    {
+        listed(self.me, &self.log, topic)
+    }
+}
