@@ -110,9 +110,9 @@ module _ (w : World) (h : AllAnswersFollowSoFar w) (r : ℕ) (inside : r < lengt
       }
 
 -- a board of one owner doesn't lack a cell for a shrink
-none_lacked : (topic : Topic) (comm : Context) → topic ≡ shrink_topic comm → (false ≡ true) ⊎ (is_agreement topic.purpose ≡ true) → ⊥
-none_lacked topic comm about (inl shares) = false≢true shares
-none_lacked topic comm about (inr agreement) = false≢true (sym (ap (λ (t : Topic). is_agreement t.purpose) about) ∙ agreement)
+none_lacked : (t : Topic) (comm : Context) → t ≡ shrink_topic comm → (false ≡ true) ⊎ (is_agreement t.purpose ≡ true) → ⊥
+none_lacked t comm about (inl shares) = false≢true shares
+none_lacked t comm about (inr agreement) = false≢true (sym (ap (λ (u : Topic). is_agreement u.purpose) about) ∙ agreement)
 
 pub rightly-decides : (w : World) (r : ℕ) (comm : Context) (w' : World) → Happens w (Decide r comm) w' → AllAnswersFollowSoFar w → AllAnswersFollowSoFar w'
 rightly-decides w r comm w' t h =
