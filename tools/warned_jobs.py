@@ -51,6 +51,17 @@ WARNED = [
     ("revoked before", 'rank = 0, op = "revoke"; rank = 0, op = "recv"; rank = 0, op = "failed"; rank = 0, op = "shrink"', [
         "rank 0 step 1 .. step 0 of its rank revokes communicator 0: this step will be refused",
     ]),
+    ("agreements, revoked too", 'rank = 0, op = "agree", flag = 1; rank = 0, op = "revoke"; rank = 0, op = "agree", flag = 1', []),
+    ("an agreement where nobody makes the communicator", 'rank = 0, op = "agree", flag = 1, comm = 2; rank = 0, op = "agree", flag = 1, comm = 1', [
+        "rank 0 step 0 .. makes communicator 2 (a shrink of 0 does): this step will be refused",
+        "rank 0 step 1 .. makes communicator 1 (a dup of 0 does): this step will be refused",
+    ]),
+    ("a wait for an agreement", 'rank = 1, op = "agree", flag = 1; rank = 1, op = "wait", req = 0', [
+        f"rank 1 step 1 .. key 'req' is 0, and step 0 of its rank is no recv but an agree; {COUNTED}",
+    ]),
+    ("an agreement makes no communicator", 'rank = 0, op = "agree", flag = 1; rank = 0, op = "recv", comm = 2', [
+        "rank 0 step 1 .. makes communicator 2 (a shrink of 0 does): this step will be refused",
+    ]),
     ("no context left", '; '.join(f'rank = 0, op = "dup", comm = {it}' for it in (0, 1, 3, 7, 15, 31)), [
         "rank 0 step 5 .. key 'comm' is 31, and 30 is the last of which there is a dup: this step will be refused",
     ]),

@@ -1,15 +1,15 @@
 //! The polls of a step, by its kind.
 
+use crate::deciding::Decisions;
 use crate::items::{Answer, Item, Refusal};
 use crate::job::{Job, Place, Step};
 use crate::rank::Rank;
-use crate::shrink::Decisions;
 
 /// What a poll does to its step.
 #[derive(Clone, Debug, PartialEq, Eq, Hash)]
 pub enum Poll {
     Answered(Answer),
-    /// A shrink was entered, and stays open.
+    /// A shrink or an agreement was entered, and stays open.
     Entered,
     /// The step stays open, and nothing changed.
     Open,
@@ -21,13 +21,8 @@ impl Rank {
         let poll = match step {
             Step::Wait { req } => self.wait(job, req).map_or(Poll::Open, Poll::Answered),
             Step::Probe { .. } => self.probe(job, step).map_or(Poll::Open, Poll::Answered),
-            Step::Shrink { comm } if self.is_open => {
-                self.decide(comm, decisions).map_or(Poll::Open, Poll::Answered)
-            }
-            Step::Shrink { comm } => match self.enter(comm) {
-                Ok(()) => Poll::Entered,
-                Err(refusal) => Poll::Answered(Answer::Refused(refusal)),
-            },
+            Step::Shrink { comm } => self.poll_topic(self.shrink_of(comm), None, decisions),
+            Step::Agree { flag, comm } => self.poll_topic(self.agreement_on(comm), Some(flag), decisions),
             _ => Poll::Answered(self.call(job, step).unwrap_or_else(Answer::Refused)),
         };
         self.is_open = poll == Poll::Entered;

@@ -142,7 +142,7 @@ fn run_by<E: Ends + Send, R: Threads + Wait + Sync>(
     ensures lawful { IfOk result (λ reports. IsLawful job.now reports.items) }
     ensures shown { IfErr result (λ failure. IsShown job.now failure) }
 {
-    let deciders = match seats(alloc, job.ranks(), 0) {
+    let deciders = match seats(alloc, job.ranks(), job.rounds()) {
         Ok(deciders) => deciders,
         Err(_) => return Err(Failure::OutOfMemory),
     };

@@ -69,7 +69,7 @@ struct An(&'static str);
 impl fmt::Display for An {
     fn fmt<W: fmt::Write>(&self, f: &mut fmt::Formatter<W>) -> fmt::Result {
         let op = self.0;
-        if op == "ack" || op == "mrecv" {
+        if op == "ack" || op == "agree" || op == "mrecv" {
             write!(f, "an {op}")
         } else {
             write!(f, "a {op}")

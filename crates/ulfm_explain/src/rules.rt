@@ -33,6 +33,7 @@ pub enum Key {
     Room,
     Req,
     Count,
+    Flag,
     Comm,
 }
 
@@ -53,6 +54,7 @@ impl Key {
             Key::Room => "room",
             Key::Req => "req",
             Key::Count => "count",
+            Key::Flag => "flag",
             Key::Comm => "comm",
         }
     }
@@ -73,6 +75,7 @@ impl Key {
             Key::Room => Kind::Integer(0, 1024),
             Key::Req => Kind::Integer(0, 255),
             Key::Count => Kind::Integer(0, 8),
+            Key::Flag => Kind::Integer(0, 4_294_967_295),
             Key::Comm => Kind::Integer(0, 62),
         }
     }
@@ -88,9 +91,9 @@ pub struct Rules {
 }
 
 /// The ops of steps.
-pub const OPS: [&str; 12] = [
+pub const OPS: [&str; 13] = [
     "send", "recv", "wait", "probe", "mrecv", "cancel", "failed", "ack", "revoke", "dup", "shrink",
-    "stop",
+    "agree", "stop",
 ];
 
 /// The keys of a job.
@@ -115,6 +118,7 @@ pub fn any_step_rules() -> Rules {
             Key::Room,
             Key::Req,
             Key::Count,
+            Key::Flag,
             Key::Comm,
         ],
     }
@@ -146,6 +150,7 @@ pub fn rules_of(op: &str) -> Option<Rules> {
         "revoke" => ("revoke", &[Key::Op, Key::Rank], &[Key::Comm]),
         "dup" => ("dup", &[Key::Op, Key::Rank], &[Key::Comm]),
         "shrink" => ("shrink", &[Key::Op, Key::Rank], &[Key::Comm]),
+        "agree" => ("agree", &[Key::Op, Key::Rank, Key::Flag], &[Key::Comm]),
         "stop" => ("stop", &[Key::Op, Key::Rank], &[]),
         _ => return None,
     };

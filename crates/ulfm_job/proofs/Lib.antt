@@ -7,3 +7,4 @@ pub mod Scripts
 pub mod Steps
 pub mod Padded
 pub mod WithStop
+pub mod Rounds

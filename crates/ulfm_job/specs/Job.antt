@@ -1,9 +1,10 @@
 -- What contracts see of a job.
-use Rattle.std.specs.Prelude.{◌≡◌, ◌<◌, ◌≤◌, ◌+◌, ◌&&◌, ℕ, Bool, true, false, List, [], ◌∷◌, length, map, sum_by, slice_index_or, slice_set, nat_le, nat_lt, Vec, if◌then◌else◌}
+use Rattle.std.specs.Prelude.{◌≡◌, ◌<◌, ◌≤◌, ◌+◌, ◌&&◌, ℕ, Bool, true, false, List, [], ◌∷◌, Option, Some, None, length, map, sum_by, filter, slice_index_or, slice_set, nat_le, nat_lt, Vec, if◌then◌else◌}
 use Rattle.std.specs.List.{insert}
 use Rattle.std.specs.declared.alloc.Global.{Global}
 use Rattle.ulfm_job.specs.declared.step.Step.{Step}
-use Rattle.ulfm_job.specs.declared.step.Step.TheVariants.{Wait, Mrecv, Cancel, Stop}
+use Rattle.ulfm_base.specs.declared.context.Context.{Context}
+use Rattle.ulfm_job.specs.declared.step.Step.TheVariants.{Wait, Mrecv, Cancel, Shrink, Agree, Stop}
 
 -- how many ranks there are, the room of an inbox, the most polls of one step, and the steps of each rank
 pub record Seen : Type 0 where
@@ -66,6 +67,21 @@ pub record IsJob (j : Seen) : Type 0 where
 abbrev pub is_stop_step : Step → Bool
 is_stop_step Stop = true
 is_stop_step _ = false
+
+-- the communicator about which ranks decide together by a step: they shrink it, or agree on it
+abbrev pub decides_on : Step → Option Context
+decides_on (Shrink comm) = Some comm
+decides_on (Agree flag comm) = Some comm
+decides_on _ = None
+
+-- the step is an agreement
+abbrev pub is_agreement_step : Step → Bool
+is_agreement_step (Agree flag comm) = true
+is_agreement_step _ = false
+
+-- how many steps of a script are agreements
+abbrev pub agreements_in : List Step → ℕ
+agreements_in script = length (filter is_agreement_step script)
 
 -- a script up to and with its first stop, or the whole of it
 abbrev pub through_stop : List Step → List Step

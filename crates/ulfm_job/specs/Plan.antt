@@ -2,7 +2,7 @@
 use Rattle.std.specs.Prelude.{◌==◌, ℕ, List, Option, map, option_map, filter}
 use Rattle.std.specs.List.{range_with_len}
 use Rattle.ulfm_job.specs.declared.step.Step.{Step}
-use Rattle.ulfm_job.specs.declared.step.Step.TheVariants.{Send, Recv, Wait, Probe, Mrecv, Cancel, Failed, Ack, Revoke, Dup, Shrink, Stop}
+use Rattle.ulfm_job.specs.declared.step.Step.TheVariants.{Send, Recv, Wait, Probe, Mrecv, Cancel, Failed, Ack, Revoke, Dup, Shrink, Agree, Stop}
 use Rattle.ulfm_job.specs.Job.{Seen}
 
 -- what a step asks for; communicators and tags are numbers, and a receive or a probe names a source and a tag or leaves them open
@@ -18,6 +18,7 @@ pub data Order : Type 0 where
   revoke : ℕ → Order
   dup : ℕ → Order
   shrink : ℕ → Order
+  agree : ℕ → ℕ → Order
   stop : Order
 
 -- one step of the file
@@ -53,6 +54,7 @@ order_of (Ack count comm) = ack count comm.number
 order_of (Revoke comm) = revoke comm.number
 order_of (Dup comm) = dup comm.number
 order_of (Shrink comm) = shrink comm.number
+order_of (Agree flag comm) = agree flag comm.number
 order_of Stop = stop
 
 -- the plan of a job

@@ -5,7 +5,7 @@ use Rattle.toml.specs.Data.{Members}
 use Rattle.ulfm_job.specs.declared.fault.Fault.{Fault}
 use Rattle.ulfm_job.specs.declared.fault.Fault.TheVariants.{UnknownOp}
 use Rattle.ulfm_job.specs.Keys.{◌>>=◌, required_number, optional_number, required_text, only_keys, in_range, in_range_if_some}
-use Rattle.ulfm_job.specs.Plan.{Order, PlannedStep, send, recv, wait, probe, mrecv, cancel, failed, ack, revoke, dup, shrink, stop}
+use Rattle.ulfm_job.specs.Plan.{Order, PlannedStep, send, recv, wait, probe, mrecv, cancel, failed, ack, revoke, dup, shrink, agree, stop}
 
 -- the step of a `send`
 unfoldable pub send_step : ℕ → Members → Result PlannedStep Fault
@@ -96,6 +96,18 @@ ack_step ranks ms = do
   comm ← in_range 0 62 (unwrap_or comm_key (pos 0))
   Ok (record { rank = rank; order = ack count comm })
 
+-- the step of an `agree`
+unfoldable pub agree_step : ℕ → Members → Result PlannedStep Fault
+agree_step ranks ms = do
+  rank_key ← required_number (codes "rank") ms
+  flag_key ← required_number (codes "flag") ms
+  comm_key ← optional_number (codes "comm") ms
+  keys ← only_keys (codes "op" ∷ codes "rank" ∷ codes "flag" ∷ codes "comm" ∷ []) ms
+  rank ← in_range 0 (ranks - 1) rank_key
+  flag ← in_range 0 4294967295 flag_key
+  comm ← in_range 0 62 (unwrap_or comm_key (pos 0))
+  Ok (record { rank = rank; order = agree flag comm })
+
 -- the step of a `stop`
 unfoldable pub stop_step : ℕ → Members → Result PlannedStep Fault
 stop_step ranks ms = do
@@ -118,6 +130,7 @@ step_of_op ranks op ms =
     else if bytes_eq op (codes "revoke") then step_on_comm revoke ranks ms
     else if bytes_eq op (codes "dup") then step_on_comm dup ranks ms
     else if bytes_eq op (codes "shrink") then step_on_comm shrink ranks ms
+    else if bytes_eq op (codes "agree") then agree_step ranks ms
     else if bytes_eq op (codes "stop") then stop_step ranks ms
     else Err UnknownOp
 

@@ -1,6 +1,6 @@
 //! A job.
-ghost use Rattle.std.specs.Prelude.{◌≡◌, ◌≢◌, ◌<◌, ◌≤◌, IfErr, IfOk, Err, slice_get, length};
-ghost use Rattle.ulfm_job.specs.Job.{IsJob, step_count, script_at};
+ghost use Rattle.std.specs.Prelude.{◌≡◌, ◌≢◌, ◌<◌, ◌≤◌, IfErr, IfOk, Err, slice_get, length, ℕ, ◌⊎◌};
+ghost use Rattle.ulfm_job.specs.Job.{IsJob, step_count, script_at, agreements_in};
 
 use crate::fault::JobFault;
 use crate::step::Step;
@@ -128,10 +128,41 @@ impl Job {
         self.script(rank).len()
     }
 
+    /// How many of a rank's steps are agreements, 0 to 256: none where there is no such rank.
+    pub fn agreements(&self, rank: u8) -> u16
+        ensures exact { result ≡ agreements_in (script_at self.now rank) }
+        ensures few { result ≤ 256 }
+    {
+        let _ = &self.scripts;
+        agreements(self.script(rank)) as u16
+    }
+
+    /// The most agreements that a rank has among its steps, 0 to 256: as many rounds of agreements a board needs for the job.
+    pub fn rounds(&self) -> u16
+        ensures enough { (r : ℕ) → r < self.now.ranks → agreements_in (script_at self.now r) ≤ result }
+        ensures needed { (result ≡ 0) ⊎ ((r : ℕ) × (agreements_in (script_at self.now r) ≡ result)) }
+    {
+        let mut most = 0;
+        for rank in 0..self.ranks() {
+            let one = self.agreements(rank);
+            if most < one {
+                most = one;
+            }
+        }
+        most
+    }
+
     /// The step at a place, from 0, of a rank's script, where there is one. It never answers out of memory.
     pub fn step(&self, rank: u8, place: usize) -> Option<Step>
         ensures { result ≡ slice_get (script_at self.now rank) place }
     {
         self.script(rank).get(place).copied()
     }
+}
+
+/// How many steps of a script are agreements.
+fn agreements(script: &[Step]) -> usize
+    ensures { result ≡ agreements_in script.now }
+{
+    script.iter().filter(|step| step.is_agreement()).count()
 }

@@ -3,13 +3,13 @@ ghost use Rattle.std.specs.Prelude.{◌≡◌, ◌<◌, IfOk};
 ghost use Rattle.toml.specs.View.{table_view};
 ghost use Rattle.ulfm_job.specs.inside.Reading.{map_ok, planned};
 ghost use Rattle.ulfm_job.specs.Plan.{failed, revoke, dup, shrink};
-ghost use Rattle.ulfm_job.specs.StepText.{step_on_comm, ack_step, stop_step, step_of_op, step_of};
+ghost use Rattle.ulfm_job.specs.StepText.{step_on_comm, ack_step, agree_step, stop_step, step_of_op, step_of};
 
 use crate::fault::Fault;
 use crate::fields::{in_range, only_keys, optional_number, required_number, required_text};
 use crate::letters::{cancel_of, mrecv_of, probe_of, recv_of, send_of, wait_of};
 use crate::placed::Placed;
-use crate::ranges::{comm_in, rank_in};
+use crate::ranges::{comm_in, flag_in, rank_in};
 use crate::step::Step;
 use toml::Table;
 
@@ -100,6 +100,25 @@ fn shrink_of(ranks: u8, table: &Table) -> Result<Placed, Fault>
     })
 }
 
+#[tactic(auto, unfolding(crate::specs::StepText::agree_step))]
+fn agree_of(ranks: u8, table: &Table) -> Result<Placed, Fault>
+    requires { 0 < ranks }
+    ensures exact { map_ok planned result ≡ agree_step ranks (table_view table.now) }
+    ensures below { IfOk result (λ placed. placed.rank < ranks) }
+{
+    let rank = required_number(table, "rank")?;
+    let flag = required_number(table, "flag")?;
+    let comm = optional_number(table, "comm")?;
+    only_keys(table, &["op", "rank", "flag", "comm"])?;
+    let rank = rank_in(ranks, rank)?;
+    let flag = flag_in(flag)?;
+    let comm = comm_in(comm)?;
+    Ok(Placed {
+        rank,
+        step: Step::Agree { flag, comm },
+    })
+}
+
 #[tactic(auto, unfolding(crate::specs::StepText::stop_step))]
 fn stop_of(ranks: u8, table: &Table) -> Result<Placed, Fault>
     requires { 0 < ranks }
@@ -139,6 +158,7 @@ pub fn step_of(ranks: u8, table: &Table) -> Result<Placed, Fault>
         "revoke" => revoke_of(ranks, table),
         "dup" => dup_of(ranks, table),
         "shrink" => shrink_of(ranks, table),
+        "agree" => agree_of(ranks, table),
         "stop" => stop_of(ranks, table),
         _ => Err(Fault::UnknownOp),
     }

@@ -7,7 +7,7 @@ use crate::fault::Fault;
 use crate::fields::{in_range, in_range_if_some};
 use ulfm_base::{Context, Tag};
 
-/// The greatest rank, tag, context, room and step number.
+/// The greatest rank, tag, context, room, step number and flag.
 const LAST_RANK: u32 = 7;
 
 const LAST_TAG: u32 = 32767;
@@ -17,6 +17,8 @@ const LAST_COMM: u32 = 62;
 const MOST_ROOM: u32 = 1024;
 
 const LAST_STEP: u32 = 255;
+
+const LAST_FLAG: u32 = 4294967295;
 
 /// The rank of a step, below the number of ranks.
 pub fn rank_in(ranks: u8, number: i64) -> Result<u8, Fault>
@@ -83,4 +85,11 @@ pub fn req_in(number: i64) -> Result<u16, Fault>
     ensures { result ≡ in_range 0 255 number }
 {
     Ok(in_range(number, 0, LAST_STEP)? as u16)
+}
+
+/// A flag of 32 bits.
+pub fn flag_in(number: i64) -> Result<u32, Fault>
+    ensures { result ≡ in_range 0 4294967295 number }
+{
+    in_range(number, 0, LAST_FLAG)
 }

@@ -1,5 +1,5 @@
 //! What a rank is asked to do.
-ghost use Rattle.std.specs.Prelude.{◌≡◌, ◌↔◌, IsTrue};
+ghost use Rattle.std.specs.Prelude.{◌≡◌, ◌↔◌, IsTrue, Some};
 
 use crate::text::Text;
 use ulfm_base::{Context, Tag};
@@ -62,11 +62,45 @@ pub enum Step {
     Shrink {
         comm: Context,
     },
+    /// Agrees on a value, by the AND of flags, with the members of a communicator.
+    Agree {
+        flag: u32,
+        comm: Context,
+    },
     /// The rank stops.
     Stop,
 }
 
 impl Step {
+    ghost use Rattle.ulfm_job.specs.Job.{decides_on, is_agreement_step};
+
+    /// The communicator about which ranks decide together by this step: they shrink it, or agree on it.
+    pub fn decides_on(&self) -> Option<Context>
+        ensures { result ≡ decides_on self.now }
+    {
+        match self {
+            Step::Shrink { comm } | Step::Agree { comm, .. } => Some(*comm),
+            _ => None,
+        }
+    }
+
+    /// Whether ranks decide about this communicator by this step.
+    pub fn is_decided_on(&self, context: Context) -> bool
+        ensures { IsTrue result ↔ (decides_on self.now ≡ Some context) }
+    {
+        match self.decides_on() {
+            Some(comm) => same_comm(comm, context),
+            None => false,
+        }
+    }
+
+    /// Whether this step is an agreement.
+    pub fn is_agreement(&self) -> bool
+        ensures { result ≡ is_agreement_step self.now }
+    {
+        matches!(self, Step::Agree { .. })
+    }
+
     /// Whether two steps are the same.
     pub fn is_same(&self, other: &Step) -> bool
         ensures { IsTrue result ↔ (self.now ≡ other.now) }
@@ -172,6 +206,18 @@ impl Step {
             }
             (Step::Dup { comm }, Step::Dup { comm: other_comm }) => same_comm(*comm, *other_comm),
             (Step::Shrink { comm }, Step::Shrink { comm: other_comm }) => {
+                same_comm(*comm, *other_comm)
+            }
+            (
+                Step::Agree { flag, comm },
+                Step::Agree {
+                    flag: other_flag,
+                    comm: other_comm,
+                },
+            ) => {
+                if flag != other_flag {
+                    return false;
+                }
                 same_comm(*comm, *other_comm)
             }
             (Step::Stop, Step::Stop) => true,

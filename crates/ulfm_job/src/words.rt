@@ -68,6 +68,7 @@ impl fmt::Display for Step {
             Step::Revoke { comm } => write!(f, "revoke comm {}", comm.number),
             Step::Dup { comm } => write!(f, "dup comm {}", comm.number),
             Step::Shrink { comm } => write!(f, "shrink comm {}", comm.number),
+            Step::Agree { flag, comm } => write!(f, "agree {flag} comm {}", comm.number),
             Step::Stop => f.write_str("stop"),
         }
     }

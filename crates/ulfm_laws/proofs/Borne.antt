@@ -1,6 +1,6 @@
 -- Reports whose answers are right are true of their logs.
-use Rattle.std.proofs.Common.{◌≡◌, ℕ, List, [], ◌∷◌, ◌++◌, refl, ap, sym, subst, ◌∙◌, inl, inr, ◌⊎◌, All}
-use Rattle.ulfm_laws.proofs.Common.{Context, Decision, Entry, State, logged, StepReport, Step, Report, Shrink, Unfinished, Refused, AnswersStep, LeavesOpen, step_report, OutOfMemory, all_front, all_last, Known, AnswersAdoption, StoodAt, IsTook, AnswersFollow}
+use Rattle.std.proofs.Common.{◌≡◌, ℕ, List, [], ◌∷◌, ◌++◌, refl, ap, subst, ◌∙◌, inl, inr, ◌⊎◌, All}
+use Rattle.ulfm_laws.proofs.Common.{Topic, Decision, Entry, State, logged, StepReport, Step, Report, Unfinished, Refused, AnswersStep, LeavesOpen, OutOfMemory, all_front, all_last, Known, AnswersAdoption, StoodAt, IsTook, AnswersFollow}
 use Rattle.ulfm_rank.specs.declared.entry.Entry.TheVariants.{Took, Entered, Adopted}
 use Rattle.ulfm_script.proofs.Polls.{answers_plain, opens_adds, adoption_adds}
 use Rattle.ulfm_script.proofs.Walked.{KeepsAll, reported}
@@ -8,7 +8,7 @@ use Rattle.ulfm_laws.proofs.Answering.{true-answers, honest-plain}
 use Rattle.ulfm_laws.proofs.Closing.{IsTrueOf}
 use Rattle.ulfm_laws.proofs.Honest.{IsHonest, honest-logged, honest-start}
 use Rattle.ulfm_laws.proofs.Mail.{IsTakenFrom}
-use Rattle.ulfm_laws.proofs.Shrinking.{true-open, true-adoption}
+use Rattle.ulfm_laws.proofs.Joint.{true-open, true-adoption}
 
 -- nothing is added, or one entry
 abbrev AddsFew : State → State → Type 0
@@ -42,12 +42,11 @@ module _ (known : Known) (r : State) where
   answered_few done old report new a = elim (answers_plain done old report.step report.answer new a) [ inl same ↦ inl same.0 | inr one ↦ inr (one.0, one.2) ]
 
   opened_few : (done : List StepReport) (old : State) (asked : Step) (new : State) → LeavesOpen done old asked new → AddsFew old new
-  opened_few done old asked new o = elim (opens_adds done old asked new o) [ inl same ↦ inl same | inr entry ↦ inr (Entered entry.2.entrance, entry.2.only) ]
+  opened_few done old asked new o = elim (opens_adds done old asked new o) [ inl same ↦ inl same | inr entry ↦ inr (Entered entry.2.enters.entrance, entry.2.enters.only) ]
 
-  adopted : (n : ℕ) (old new : State) (done : List StepReport) (report : StepReport) (comm : Context) (held : Decision) → StoodAt r n old → report.step ≡ Shrink comm → AnswersAdoption old comm held report.answer new → IsBorne done old.log → IsBorne (done ++ report ∷ []) new.log
-  adopted n old new done report comm held stood is a borne =
-      subst (λ s. IsBorne (done ++ step_report s report.answer report.at report.polls ∷ []) new.log) (sym is)
-      (changed old new done (done ++ step_report (Shrink comm) report.answer report.at report.polls ∷ []) stood (elim (adoption_adds old comm held report.answer new a) [ inl same ↦ inl same | inr one ↦ inr (Adopted held, one.1) ]) (λ h. true-adoption old done h comm report.at report.polls new held report.answer a) borne)
+  adopted : (n : ℕ) (old new : State) (done : List StepReport) (report : StepReport) (topic : Topic) (held : Decision) → StoodAt r n old → AnswersAdoption old report.step topic held report.answer new → IsBorne done old.log → IsBorne (done ++ report ∷ []) new.log
+  adopted n old new done report topic held stood a borne =
+      changed old new done (done ++ report ∷ []) stood (elim (adoption_adds old report.step topic held report.answer new a) [ inl same ↦ inl same | inr one ↦ inr (Adopted held, one.1) ]) (λ h. true-adoption old done h report.at report.polls new report.step topic held report.answer a) borne
 
   borne : KeepsAll known r IsBorne
   borne = record {
@@ -55,7 +54,7 @@ module _ (known : Known) (r : State) where
     answers = λ n old new done report stood a k.
         changed old new done (done ++ report ∷ []) stood (answered_few done old report new a) (λ h. true-answers old h report.at report.polls new report.step report.answer a) k;
     opens = λ n old new done asked stood o k. changed old new done done stood (opened_few done old asked new o) (λ h. true-open old asked new h o) k;
-    adopts = λ n old new done report comm held stood is knows a k. adopted n old new done report comm held stood is a k;
+    adopts = λ n old new done report topic held stood knows a k. adopted n old new done report topic held stood a k;
     ends = λ log done report how k all. ended log done report how (k all);
   }
 

@@ -11,7 +11,7 @@ pub mod Closing
 pub mod Posting
 pub mod Releasing
 pub mod Answering
-pub mod Shrinking
+pub mod Joint
 pub mod Finding
 pub mod Given
 pub mod Missed

@@ -1,7 +1,7 @@
 -- Each decision that a rank adopted is its own, where its answers are right.
 use Rattle.std.proofs.Common.{◌≡◌, ℕ, ap, sym, ◌∙◌, Some}
 use lib.Pointwise.{pointwise}
-use Rattle.ulfm_laws.proofs.Common.{Context, Topic, shrink_topic, is_topic, topics_equal, Decision, at, Entry, State, Report, or_parts, not-false, slice_get_within, get_or_from_slice_get, Known, All-nil, All-push, All-get_or, is_member, StoodAt, AnswersFollow, IsGranted, each_logged, IsOwn, ⊤, All, not, nat_eq, same_numbers, all_pass}
+use Rattle.ulfm_laws.proofs.Common.{Topic, is_topic, topics_equal, Decision, at, Entry, State, Report, or_parts, not-false, slice_get_within, get_or_from_slice_get, Known, All-nil, All-push, All-get_or, is_member, StoodAt, AnswersFollow, IsGranted, each_logged, IsOwn, ⊤, All, not, nat_eq, same_numbers, all_pass}
 use Rattle.ulfm_board.specs.Known.{known_at}
 use Rattle.ulfm_rank.specs.declared.entry.Entry.TheVariants.{Adopted, Stopped}
 use Rattle.ulfm_rank.specs.Checks.{Passes, adopt_checks, group_at}
@@ -13,12 +13,12 @@ AdoptsOwn known rank _ = ⊤
 
 module _ (known : Known) (r : State) where
   -- a decision that no check refuses is the rank's own
-  own_adopted : {n : ℕ} (old : State) (comm : Context) (held : Decision) → StoodAt r n old → known_at known (shrink_topic comm) ≡ Some held → Passes (adopt_checks old (shrink_topic comm) held) → IsOwn known r held
-  own_adopted {n} old comm held stood knows passes =
-      let group = group_at old comm.number in
-      let first = or_parts (not (is_topic held.topic (shrink_topic comm))) _ ((all_pass (adopt_checks old (shrink_topic comm) held) passes).1.1.1.1.0) in
+  own_adopted : {n : ℕ} (old : State) (topic : Topic) (held : Decision) → StoodAt r n old → known_at known topic ≡ Some held → Passes (adopt_checks old topic held) → IsOwn known r held
+  own_adopted {n} old topic held stood knows passes =
+      let group = group_at old topic.context.number in
+      let first = or_parts (not (is_topic held.topic topic)) _ ((all_pass (adopt_checks old topic held) passes).1.1.1.1.0) in
       let second = or_parts (not (pointwise nat_eq held.old group)) _ first.1 in
-      let about = topics_equal held.topic (shrink_topic comm) (not-false _ first.0) in
+      let about = topics_equal held.topic topic (not-false _ first.0) in
       record {
         held = ap (known_at known) about ∙ knows;
         place = n;
@@ -29,7 +29,7 @@ module _ (known : Known) (r : State) where
       }
 
   granted_own : (e : Entry) → IsGranted known r e → AdoptsOwn known r e
-  granted_own (Adopted held) h = own_adopted h.old h.comm held h.stood h.knows h.passes
+  granted_own (Adopted held) h = own_adopted h.old h.topic held h.stood h.knows h.passes
   granted_own _ h = tt
 
 -- each decision that the rank adopted is its own

@@ -107,11 +107,12 @@ knows_sets n me log e h fits t s set own inside =
 abbrev pub RoundsCounted : List Entry → Type 0
 RoundsCounted log = (context : Context) (round : ℕ) → has_entered log (agreement_topic context round) ≡ true → round < agreements log context.number
 
-agreements-push : (log : List Entry) (e : Entry) (c : ℕ) → agreements (log ++ e ∷ []) c ≡ agreements log c + length (filter (enters_agreement c) (e ∷ []))
-agreements-push log e c = ap length (filter-append (enters_agreement c) log (e ∷ [])) ∙ length-append (filter (enters_agreement c) log) (filter (enters_agreement c) (e ∷ []))
+-- the agreements of a log that goes on
+pub agreements-more : (log more : List Entry) (c : ℕ) → agreements (log ++ more) c ≡ agreements log c + agreements more c
+agreements-more log more c = ap length (filter-append (enters_agreement c) log more) ∙ length-append (filter (enters_agreement c) log) (filter (enters_agreement c) more)
 
 -- an entrance into an agreement counts
-counts : (entrance : Entrance) (context : Context) (round : ℕ) → entrance.topic ≡ agreement_topic context round → length (filter (enters_agreement context.number) (Entered entrance ∷ [])) ≡ 1
+pub counts : (entrance : Entrance) (context : Context) (round : ℕ) → entrance.topic ≡ agreement_topic context round → length (filter (enters_agreement context.number) (Entered entrance ∷ [])) ≡ 1
 counts entrance context round same =
     let one : (eqb entrance.topic.context.number context.number && is_agreement entrance.topic.purpose) ≡ true = ap (λ (t : Topic). eqb t.context.number context.number && is_agreement t.purpose) same ∙ ap (λ b. b && true) (eq-eqb context.number context.number refl) in
     ap (λ b. length (cond b (Entered entrance ∷ []) [])) one
@@ -120,7 +121,7 @@ pub rounds_counted : (n me : ℕ) (log : List Entry) (e : Entry) → RoundsCount
 rounds_counted n me log e h fits context round entered =
     let t = agreement_topic context round in
     let set = some_from (own_set (log ++ e ∷ []) t) entered in
-    let more = agreements-push log e context.number in
+    let more = agreements-more log (e ∷ []) context.number in
     elim (own_cases log e t set.0 set.1) [
       | inl was ↦ let below = h context round (ap is_some was) in omega (arith, more, below)
       | inr now ↦

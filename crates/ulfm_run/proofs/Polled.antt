@@ -1,7 +1,6 @@
 -- One poll of a rank's next step.
 use Rattle.std.proofs.Common.{◌≡◌, ℕ, ◌+◌, ◌<◌, ◌≤◌, false, List, length, ap, sym, subst, ◌∙◌, arith, ◌⊎◌, Option, Some, None, slice_get}
 use Rattle.ulfm_base.specs.declared.context.Context.{Context}
-use Rattle.ulfm_job.specs.declared.step.Step.TheVariants.{Shrink}
 use Rattle.ulfm_script.specs.declared.answer.Called.{Called}
 use Rattle.ulfm_script.specs.declared.answer.Called.TheVariants.{Answered, NotYet}
 use Rattle.ulfm_script.specs.Deciding.{Known, IsDecided}
@@ -33,11 +32,11 @@ polls-leave {job} me v u w {asked} is_job sound follows running next called left
     let same : w.player.rank ≡ u.player.rank = ap (λ (p : Player). p.rank) left.only in
     record { quiet = subst Q (sym same) (quiet-called v.player asked u.player sound running called); follows = a.follows; room = room; falls = a.falls }
 
--- an open shrink that is decided
+-- an open step that is decided
 pub polls-decide : (job : Seen) (me : ℕ) (v w : View) (comm : Context) (board : Option (List ℕ)) (known later : Known) → IsState v.player.rank → FollowsSoFar (script_at job me) job.turns v.player → is_stopped v.player.rank.log ≡ false →
     IsDecided v.player comm board known w.player later → w.room + length w.player.done ≡ v.room + length v.player.done → Polls job me v w
 polls-decide job me v w comm board known later sound follows running d room =
-    let a = advance-decided (script_at job me) job.turns v.player comm board known later w.player (ready-decided (script_at job me) job.turns v.player (Shrink comm) follows running d.waits) d in
+    let a = advance-decided (script_at job me) job.turns v.player comm board known later w.player (λ asked waits. ready-decided (script_at job me) job.turns v.player asked follows running waits) d in
     record { quiet = quiet-decided v.player comm board known later w.player sound d; follows = a.follows; room = room; falls = a.falls }
 
 -- a poll after one that found nothing to decide

@@ -1,4 +1,4 @@
--- Ends that don't fit a job, and decisions that aren't true of what its ranks report (ULFM, shrink).
+-- Ends that don't fit a job, and decisions that aren't true of what its ranks report (ULFM, shrink and agree).
 use Rattle.std.specs.Prelude.{◌≡◌, ℕ, List, length}
 use Rattle.ulfm_base.specs.Lists.{InPlace}
 use Rattle.ulfm_job.specs.Job.{Seen}

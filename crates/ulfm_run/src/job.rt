@@ -3,7 +3,7 @@ ghost use Rattle.std.specs.Prelude.{◌≡◌, ◌≤◌, ◌↔◌, [], ℕ, Al
 ghost use Rattle.std.specs.declared.alloc.Global.{Global as Heap};
 ghost use Rattle.std.specs.declared.vec.Vec.{Vec as Listed};
 ghost use Rattle.ulfm_base.specs.Lists.{InPlace, at};
-ghost use Rattle.ulfm_board.specs.Known.{nothing_known, OneBoard};
+ghost use Rattle.ulfm_board.specs.Known.{OneBoard};
 ghost use Rattle.ulfm_carrier.specs.Family.{AllFresh, Keeps, IsGathered};
 ghost use Rattle.ulfm_laws.specs.Answers.{AllAgree};
 ghost use Rattle.ulfm_laws.specs.Causes.{RevokedByARank};
@@ -56,7 +56,6 @@ where
     requires one_call { InPlace E.place ends.items → E.one_call (map E.name ends.items) }
     requires fresh { AllFresh E.count E.pushed E.taken E.ready ends.items }
     requires one_board { OneBoard D.board deciders.items }
-    requires undecided { All (λ d. D.known d ≡ nothing_known 0) deciders.items }
     ensures fits { OnOk result (Fits E.place job.now ends.items deciders.items) }
     ensures bad_ends { (Fits E.place job.now ends.items deciders.items → ⊥) → result ≡ Err RunFault.BadEnds }
     ensures misfits { IfErr result (λ fault. fault ≡ RunFault.BadEnds → Fits E.place job.now ends.items deciders.items → ⊥) }

@@ -12,8 +12,8 @@ ghost use Rattle.ulfm_script.specs.inside.Underway.{FollowsSoFar};
 use ulfm_board::Decider;
 use ulfm_script::{Called, Decided, Job, Player, Step};
 
-/// One poll of a rank's next step: an open shrink that has a proposal is decided, another step is called, and given up
-/// where its last poll left it open. Whether the step has its answer now.
+/// One poll of a rank's next step: an open shrink or agreement that has a proposal is decided, another step is called, and given
+/// up where its last poll left it open. Whether the step has its answer now.
 pub(crate) fn poll<D: Decider>(
     job: &Job,
     me: u8,
@@ -36,7 +36,7 @@ pub(crate) fn poll<D: Decider>(
     call(job, me, player, step)
 }
 
-/// The decision of a step that is an open shrink and has a proposal. Whether it was decided.
+/// The decision of a step that stands open and has a proposal: a shrink or an agreement. Whether it was decided.
 fn decide<D: Decider>(job: &Job, me: u8, player: &mut Player, decider: &mut D, step: &Step) -> bool
     requires sound { IsState player.old.player.rank }
     requires follows { FollowsSoFar (script_at job.now me) job.now.turns player.old.player }
@@ -52,10 +52,10 @@ fn decide<D: Decider>(job: &Job, me: u8, player: &mut Player, decider: &mut D, s
 {
     let _ = job;
     let _ = me;
-    let Step::Shrink { comm } = step else {
+    let Some(comm) = step.decides_on() else {
         return false;
     };
-    match player.decide(*comm, decider) {
+    match player.decide(comm, decider) {
         Decided::Answered => true,
         Decided::NotReady => false,
     }

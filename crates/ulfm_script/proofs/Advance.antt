@@ -1,7 +1,7 @@
 -- What a poll moves at a player, and what falls with it.
 use Rattle.std.proofs.Common.{◌≡◌, ℕ, ◌^◌, ◌<◌, ◌≤◌, Bool, false, List, length, refl, ap, sym, ◌∙◌, arith, inl, inr, ◌⊎◌, Option, Some, None, MatchOption, slice_get}
 use Rattle.ulfm_job.specs.Job.{Seen, IsJob, script_at, is_stop_step}
-use Rattle.ulfm_script.proofs.Common.{is_stopped, Shrink, State, Step, StepAnswer, StepReport, Unfinished, Wait, Player, AnswersStep, StaysOpen, awaits_decision, IsCalled, GivesUpStep, PollAnswers, PollOpens, with_rank, answered, polled, step_report, FollowsSoFar, polls_left, same_Some, slice_get_within}
+use Rattle.ulfm_script.proofs.Common.{is_stopped, Shrink, Agree, State, Step, StepAnswer, StepReport, Unfinished, Wait, Player, AnswersStep, StaysOpen, awaits_decision, IsCalled, GivesUpStep, PollAnswers, PollOpens, with_rank, answered, polled, step_report, FollowsSoFar, polls_left, same_Some, slice_get_within}
 use Rattle.ulfm_script.specs.Script.{IsPolled, IsPatient}
 use Rattle.ulfm_script.proofs.Polls.{Adds, answers_add, opens_add, opens_go_on, stopped-adds}
 use Rattle.ulfm_script.proofs.Progress.{closed, follows-closed, follows-polled, left-closed, left_polled, polls_small}
@@ -75,6 +75,7 @@ advance-called script turns old asked new counted h (inr o) few =
 goes_on : (script : List Step) (turns k polls : ℕ) (current : Option Step) (done : List StepReport) (r : State) (asked : Step) (new : State) → MatchOption current (polls ≡ 0) (λ s. (slice_get script k ≡ Some s) × (polls < turns)) → slice_get script k ≡ Some asked → StaysOpen (awaits_decision current) done r asked new → is_stop_step asked ≡ false
 goes_on script turns k polls None done r asked new h next o = opens_go_on done r asked new o
 goes_on script turns k polls (Some (Shrink comm)) done r asked new h next o = ap is_stop_step (same_Some asked (Shrink comm) (sym next ∙ h.0))
+goes_on script turns k polls (Some (Agree flag comm)) done r asked new h next o = ap is_stop_step (same_Some asked (Agree flag comm) (sym next ∙ h.0))
 goes_on script turns k polls (Some s) done r asked new h next o = opens_go_on done r asked new o
 
 advance-opens : (script : List Step) (turns : ℕ) (old : Player) (asked : Step) (mid new : Player) → turns < 2 ^ 32 → Ready script turns old asked → PollOpens old asked mid → GivesUpStep mid new → turns ≤ mid.polls → Advances script turns old new

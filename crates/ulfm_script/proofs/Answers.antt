@@ -1,22 +1,22 @@
 -- Right answers stay right while the log grows and more is known.
 use Rattle.std.proofs.Common.{ℕ, ◌+◌, ◌≤◌, List, [], ◌∷◌, ◌++◌, refl, ◌∙◌, arith, inl, inr, append-nil, append_assoc}
-use Rattle.ulfm_script.proofs.Common.{Context, shrink_topic, Entry, Known, Learns, State, StepReport}
+use Rattle.ulfm_script.proofs.Common.{Step, Topic, Entry, Known, Learns, State, StepReport}
 use Rattle.ulfm_script.specs.Answered.{OnlyTook, EntersBetween, How, by_call, left_by_call, by_decision, left_undecided, AnswerFollows, EachAnswerFollows}
 use Rattle.ulfm_script.proofs.Beginnings.{Grew, stood-grew, took-grew, enters-grew}
 
 pub took-forth : (log : List Entry) (from to : ℕ) → OnlyTook log from to → from ≤ to
 took-forth log from to h = omega (arith, h.ends)
 
-pub enters-forth : (r : State) (comm : Context) (from to : ℕ) → EntersBetween r comm from to → from ≤ to
-enters-forth r comm from to h = omega (arith, took-forth r.log from h.place h.took_before, took-forth r.log (h.place + 1) to h.took_after)
+pub enters-forth : (r : State) (asked : Step) (topic : Topic) (from to : ℕ) → EntersBetween r asked topic from to → from ≤ to
+enters-forth r asked topic from to h = omega (arith, took-forth r.log from h.place h.took_before, took-forth r.log (h.place + 1) to h.took_after)
 
 -- the places of answered steps never go back
 pub how-forth : (known : Known) (r : State) (before : List StepReport) (from : ℕ) (report : StepReport) (old new : State) →
     How known r before from report old new → from ≤ report.at
 how-forth known r before from report old new (by_call h) = took-forth r.log from report.at h.took
 how-forth known r before from report old new (left_by_call h) = took-forth r.log from report.at h.took
-how-forth known r before from report old new (by_decision h) = enters-forth r h.comm from report.at h.entered
-how-forth known r before from report old new (left_undecided h) = enters-forth r h.comm from report.at h.entered
+how-forth known r before from report old new (by_decision h) = enters-forth r report.step h.topic from report.at h.entered
+how-forth known r before from report old new (left_undecided h) = enters-forth r report.step h.topic from report.at h.entered
 
 pub all-forth : (known : Known) (r : State) (before : List StepReport) (from : ℕ) (reports : List StepReport) (to : ℕ) → EachAnswerFollows known r before from reports to → from ≤ to
 all-forth known r before from [] to h = omega (arith, h)
@@ -31,20 +31,18 @@ how-grew known later r s to before from report old new k up g (left_by_call h) =
     left_by_call (record { took = took-grew r.log s.log g.more from report.at g.log h.took; given_up = h.given_up; opens = h.opens; first = h.first })
 how-grew known later r s to before from report old new k up g (by_decision h) =
     by_decision (record {
-      comm = h.comm;
-      shrink = h.shrink;
-      entered = enters-grew r s h.comm from report.at g h.entered;
+      topic = h.topic;
+      entered = enters-grew r s report.step h.topic from report.at g h.entered;
       proposes = h.proposes;
       outcome = elim h.outcome [
-        | inl a ↦ inl (record { held = a.held; knows = k.keeps (shrink_topic h.comm) a.held a.knows; adoption = a.adoption })
-        | inr w ↦ inr (record { unknown = k.same h.comm from report.at h.entered up ∙ w.unknown; refused = w.refused; only = w.only })
+        | inl a ↦ inl (record { held = a.held; knows = k.keeps h.topic a.held a.knows; adoption = a.adoption })
+        | inr w ↦ inr (record { unknown = k.same report.step h.topic from report.at h.entered up ∙ w.unknown; refused = w.refused; only = w.only })
       ];
     })
 how-grew known later r s to before from report old new k up g (left_undecided h) =
     left_undecided (record {
-      comm = h.comm;
-      shrink = h.shrink;
-      entered = enters-grew r s h.comm from report.at g h.entered;
+      topic = h.topic;
+      entered = enters-grew r s report.step h.topic from report.at g h.entered;
       given_up = h.given_up;
       later = h.later;
       undecided = h.undecided;

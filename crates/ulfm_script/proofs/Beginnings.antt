@@ -1,6 +1,6 @@
 -- What a log's beginnings keep while the log grows.
 use Rattle.std.proofs.Common.{◌≡◌, ℕ, ◌+◌, ◌≤◌, List, [], ◌∷◌, ◌++◌, length, refl, ap, sym, ◌∙◌, arith, append-nil, append_assoc, length-append, All}
-use Rattle.ulfm_script.proofs.Common.{Context, EntersBetween, Entry, IsTook, OnlyTook, State, StoodAt, All-nil, All-append}
+use Rattle.ulfm_script.proofs.Common.{EntersBetween, Step, Topic, Entry, IsTook, OnlyTook, State, StoodAt, All-nil, All-append}
 
 -- the same rank with a longer log
 pub record Grew (old new : State) : Type 0 where
@@ -32,21 +32,20 @@ took-grew log new more from to e h = record {
   took = h.took;
 }
 
-pub enters-grew : (r s : State) (comm : Context) (from to : ℕ) → Grew r s → EntersBetween r comm from to → EntersBetween s comm from to
-enters-grew r s comm from to g h = record {
+pub enters-grew : (r s : State) (asked : Step) (topic : Topic) (from to : ℕ) → Grew r s → EntersBetween r asked topic from to → EntersBetween s asked topic from to
+enters-grew r s asked topic from to g h = record {
   place = h.place;
   old = h.old;
   new = h.new;
   stood = stood-grew r s h.place h.old g h.stood;
   stood_next = stood-grew r s (h.place + 1) h.new g h.stood_next;
-  accepted = h.accepted;
   enters = h.enters;
   took_before = took-grew r.log s.log g.more from h.place g.log h.took_before;
   took_after = took-grew r.log s.log g.more (h.place + 1) to g.log h.took_after;
 }
 
 -- a list with no place left has nothing after its end
-none_after : (xs : List Entry) → length xs ≤ 0 → xs ≡ []
+pub none_after : (xs : List Entry) → length xs ≤ 0 → xs ≡ []
 none_after [] h = refl
 none_after (x ∷ xs) h = absurd (omega (arith, h))
 
@@ -83,14 +82,13 @@ took-none log = record {
   took = All-nil IsTook;
 }
 
-pub enters-on : (r s : State) (comm : Context) (from : ℕ) → (g : Grew r s) → All IsTook g.more → EntersBetween r comm from (length r.log) → EntersBetween s comm from (length s.log)
-enters-on r s comm from g all h = record {
+pub enters-on : (r s : State) (asked : Step) (topic : Topic) (from : ℕ) → (g : Grew r s) → All IsTook g.more → EntersBetween r asked topic from (length r.log) → EntersBetween s asked topic from (length s.log)
+enters-on r s asked topic from g all h = record {
   place = h.place;
   old = h.old;
   new = h.new;
   stood = stood-grew r s h.place h.old g h.stood;
   stood_next = stood-grew r s (h.place + 1) h.new g h.stood_next;
-  accepted = h.accepted;
   enters = h.enters;
   took_before = took-grew r.log s.log g.more from h.place g.log h.took_before;
   took_after = took-on r.log s.log g.more (h.place + 1) g.log all h.took_after;

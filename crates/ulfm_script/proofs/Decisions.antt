@@ -1,15 +1,16 @@
--- What the decision of a shrink adds to a log, and what it moves at a player.
+-- What the decision of a step adds to a log, and what it moves at a player.
 use Rattle.std.proofs.Common.{◌≡◌, ℕ, ◌<◌, false, List, length, refl, sym, ◌∙◌, inl, inr, Option, Some, slice_get}
 use Rattle.ulfm_rank.specs.State.{State, IsState}
-use Rattle.ulfm_script.proofs.Common.{Adopted, Context, Decision, is_stopped, Player, Refused, Shrink, Step, step_report, StepAnswer, Unfinished, FollowsSoFar, OutOfMemory, slice_get_within, Quiet}
+use Rattle.ulfm_job.specs.Job.{decides_on}
+use Rattle.ulfm_script.proofs.Common.{Adopted, Context, Topic, Decision, is_stop_step, is_stopped, Player, Refused, Shrink, Agree, Step, step_report, StepAnswer, Unfinished, FollowsSoFar, OutOfMemory, slice_get_within, Quiet, none-some}
 use Rattle.ulfm_script.specs.Deciding.{Known, AnswersAdoption, AnswersDecision, IsDecided}
 use Rattle.ulfm_script.proofs.Polls.{Adds, adds_same, adds_one, adoption_adds, quiet-adds}
 use Rattle.ulfm_script.proofs.Advance.{Ready, Advances, advance-closed, polled_in_time}
 
 -- a decision adds its adoption at most
-pub decision_adds : (board : Option (List ℕ)) (known later : Known) (r : State) (comm : Context) (answer : StepAnswer) (new : State) → AnswersDecision board known later r comm answer new → Adds r false new
-decision_adds board known later r comm answer new h = elim h.outcome [
-  | inl adopts ↦ elim (adoption_adds r comm adopts.held answer new adopts.adoption) [
+pub decision_adds : (board : Option (List ℕ)) (known later : Known) (r : State) (asked : Step) (answer : StepAnswer) (new : State) → AnswersDecision board known later r asked answer new → Adds r false new
+decision_adds board known later r asked answer new h = elim h.outcome [
+  | inl adopts ↦ elim (adoption_adds r asked h.topic adopts.held answer new adopts.adoption) [
     | inl same ↦ adds_same r new same
     | inr one ↦ adds_one r new (Adopted adopts.held) false (record { signed = tt; takes_none = λ s. refl }) refl one.1
   ]
@@ -18,22 +19,26 @@ decision_adds board known later r comm answer new h = elim h.outcome [
 
 -- a decision takes nothing and lets nothing go out
 pub quiet-decided : (old : Player) (comm : Context) (board : Option (List ℕ)) (known later : Known) (new : Player) → IsState old.rank → IsDecided old comm board known new later → Quiet old.rank new.rank
-quiet-decided old comm board known later new h d = rw d.only (quiet-adds old.rank false d.rank h (decision_adds board known later old.rank comm d.answer d.rank d.decision))
+quiet-decided old comm board known later new h d = rw d.only (quiet-adds old.rank false d.rank h (decision_adds board known later old.rank d.asked d.answer d.rank d.decision))
 
 -- a decision doesn't give its step up
-adoption_ends : (r : State) (comm : Context) (held : Decision) (answer : StepAnswer) (new : State) → AnswersAdoption r comm held answer new → answer ≡ Unfinished → ⊥
-adoption_ends r comm held answer new h e = rw e at h
+adoption_ends : (r : State) (asked : Step) (topic : Topic) (held : Decision) (answer : StepAnswer) (new : State) → AnswersAdoption r asked topic held answer new → answer ≡ Unfinished → ⊥
+adoption_ends r asked topic held answer new h e = none asked (rw e at h)
+  where
+    none : (s : Step) → AnswersAdoption r s topic held Unfinished new → ⊥
+    none (Shrink comm) h = h
+    none _ h = h
 
-decision_ends : (board : Option (List ℕ)) (known later : Known) (r : State) (comm : Context) (answer : StepAnswer) (new : State) → AnswersDecision board known later r comm answer new → answer ≡ Unfinished → ⊥
-decision_ends board known later r comm answer new h e = elim h.outcome [
-  | inl adopts ↦ adoption_ends r comm adopts.held answer new adopts.adoption e
+decision_ends : (board : Option (List ℕ)) (known later : Known) (r : State) (asked : Step) (answer : StepAnswer) (new : State) → AnswersDecision board known later r asked answer new → answer ≡ Unfinished → ⊥
+decision_ends board known later r asked answer new h e = elim h.outcome [
+  | inl adopts ↦ adoption_ends r asked h.topic adopts.held answer new adopts.adoption e
   | inr starves ↦
       let both : Refused OutOfMemory ≡ Unfinished = sym starves.refused ∙ e in
       let bad : ⊥ = cc in
       bad
 ]
 
--- the shrink of a communicator that stands open comes next, and has a poll to spare
+-- the step that stands open comes next, and has a poll to spare
 pub ready-decided : (script : List Step) (turns : ℕ) (p : Player) (asked : Step) → FollowsSoFar script turns p → is_stopped p.rank.log ≡ false → p.current ≡ Some asked → Ready script turns p asked
 ready-decided script turns p asked h running current =
     let open_step : (slice_get script (length p.done) ≡ Some asked) × (p.polls < turns) = rw current at h.current in
@@ -45,7 +50,13 @@ ready-decided script turns p asked h running current =
       inside = slice_get_within script (length p.done) asked open_step.0;
     }
 
--- a shrink that is decided
-pub advance-decided : (script : List Step) (turns : ℕ) (old : Player) (comm : Context) (board : Option (List ℕ)) (known later : Known) (new : Player) → Ready script turns old (Shrink comm) → IsDecided old comm board known new later → Advances script turns old new
+-- a step that is decided
+pub advance-decided : (script : List Step) (turns : ℕ) (old : Player) (comm : Context) (board : Option (List ℕ)) (known later : Known) (new : Player) → ((asked : Step) → old.current ≡ Some asked → Ready script turns old asked) → IsDecided old comm board known new later → Advances script turns old new
 advance-decided script turns old comm board known later new h d =
-    rw d.only (advance-closed script turns old d.rank (step_report (Shrink comm) d.answer (length old.rank.log) old.polls) h (decision_adds board known later old.rank comm d.answer d.rank d.decision) (polled_in_time turns old.polls d.answer (decision_ends board known later old.rank comm d.answer d.rank d.decision) h.few))
+    let ready : Ready script turns old d.asked = h d.asked d.waits in
+    rw d.only (advance-closed script turns old d.rank (step_report d.asked d.answer (length old.rank.log) old.polls) ready (joint-adds d.asked comm d.on (decision_adds board known later old.rank d.asked d.answer d.rank d.decision)) (polled_in_time turns old.polls d.answer (decision_ends board known later old.rank d.asked d.answer d.rank d.decision) ready.few))
+  where
+    joint-adds : (asked : Step) (on : Context) → decides_on asked ≡ Some on → Adds old.rank false d.rank → Adds old.rank (is_stop_step asked) d.rank
+    joint-adds (Shrink comm) on h adds = adds
+    joint-adds (Agree flag comm) on h adds = adds
+    joint-adds _ on h adds = absurd (none-some on h)

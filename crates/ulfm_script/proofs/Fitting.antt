@@ -1,7 +1,7 @@
 -- What a poll of a step adds to a log fits it, and is no adoption.
-use Rattle.std.proofs.Common.{◌≡◌, ℕ, true, false, List, [], ◌∷◌, ◌++◌, ap, sym, subst, inl, inr, ◌⊎◌}
+use Rattle.std.proofs.Common.{◌≡◌, ℕ, Bool, true, false, List, [], ◌∷◌, ◌++◌, arith, refl, ap, sym, subst, inl, inr, ◌⊎◌}
 use Rattle.ulfm_rank.specs.Checks.{Passes, lacks, shrink_checks}
-use Rattle.ulfm_script.proofs.Common.{Adopted, all_pass, AnswersStep, Context, Topic, shrink_topic, Entrance, Entered, Entry, LeavesOpen, logged, State, Step, StepAnswer, StepReport, not-false, has_entered, ⊤, Knows, Fits}
+use Rattle.ulfm_script.proofs.Common.{Adopted, agree_checks, agreements, all_pass, AnswersStep, Agree, Context, EntersBy, Topic, shrink_topic, Entered, Entry, LeavesOpen, logged, next_agreement, none-some, RoundsCounted, same_Some, Shrink, State, Step, StepAnswer, StepReport, not-false, has_entered, ⊤, Knows, Fits}
 use Rattle.ulfm_rank.specs.Communicators.{is_made}
 use Rattle.ulfm_rank.proofs.Entering.{IsInTurn}
 use Rattle.ulfm_script.proofs.Polls.{answers_plain, opens_adds}
@@ -44,16 +44,38 @@ answers_add done r asked answer new h = elim (answers_plain done r asked answer 
 pub shrink_passed : (r : State) (context : Context) → Passes (shrink_checks r context) → (lacks r context.number ≡ false) × (has_entered r.log (shrink_topic context) ≡ false)
 shrink_passed r context h = let all = all_pass (shrink_checks r context) h in (all.1.0, all.1.1.0)
 
--- an entry into a shrink that no check refuses fits
-pub fits_entered : (r : State) (comm : Context) (entrance : Entrance) → Passes (shrink_checks r comm) → entrance.topic ≡ shrink_topic comm → Knows r.log entrance.contribution.known → Fits r.ranks r.me r.log (Entered entrance)
-fits_entered r comm entrance passes about knows =
-    let ok = shrink_passed r comm passes in
-    let F : Topic → Type 0 = λ t. (is_made r.ranks r.log t.context.number ≡ true) × (has_entered r.log t ≡ false) × Knows r.log entrance.contribution.known × IsInTurn r.log t.context.number t.purpose in
-    subst F (sym about) (not-false _ ok.0, ok.1, knows, tt)
+-- a topic that a rank may enter: its communicator was made, and it is new and in its turn
+abbrev pub IsNew : State → Topic → Type 0
+IsNew r t = (is_made r.ranks r.log t.context.number ≡ true) × (has_entered r.log t ≡ false) × IsInTurn r.log t.context.number t.purpose
 
--- a poll that leaves a step open adds an entry into a shrink at most
-pub opens_add : (done : List StepReport) (r : State) (asked : Step) (new : State) → LeavesOpen done r asked new → Adds r new
-opens_add done r asked new h = elim (opens_adds done r asked new h) [
+-- the next agreement wasn't entered
+next_is_new : (log : List Entry) (comm : Context) → RoundsCounted log → has_entered log (next_agreement log comm) ≡ false
+next_is_new log comm counted = refused (has_entered log (next_agreement log comm)) (λ is. let below = counted comm (agreements log comm.number) is in omega (arith, below))
+  where
+    refused : (b : Bool) → (b ≡ true → ⊥) → b ≡ false
+    refused true h = absurd (h refl)
+    refused false h = refl
+
+-- what a step enters is new
+pub entered_new : (r : State) (asked : Step) (topic : Topic) (new : State) → RoundsCounted r.log → EntersBy r asked topic new → IsNew r topic
+entered_new r (Shrink comm) topic new counted h =
+    let ok = shrink_passed r comm h.accepted in
+    subst (IsNew r) (same_Some _ topic h.about) (not-false _ ok.0, ok.1, tt)
+entered_new r (Agree flag comm) topic new counted h =
+    let ok = all_pass (agree_checks r comm) h.accepted in
+    subst (IsNew r) (same_Some _ topic h.about) (not-false _ ok.1.0, next_is_new r.log comm counted, refl)
+entered_new r _ topic new counted h = absurd (none-some topic h.about)
+
+-- an entrance of a step fits
+pub fits_entered : (r : State) (asked : Step) (topic : Topic) (new : State) → RoundsCounted r.log → (h : EntersBy r asked topic new) → Fits r.ranks r.me r.log (Entered h.enters.entrance)
+fits_entered r asked topic new counted h =
+    let F : Topic → Type 0 = λ t. (is_made r.ranks r.log t.context.number ≡ true) × (has_entered r.log t ≡ false) × Knows r.log h.enters.entrance.contribution.known × IsInTurn r.log t.context.number t.purpose in
+    let is : IsNew r topic = entered_new r asked topic new counted h in
+    subst F (sym h.enters.about) (is.0, is.1, h.enters.knows, is.2)
+
+-- a poll that leaves a step open adds its entrance at most
+pub opens_add : (done : List StepReport) (r : State) (asked : Step) (new : State) → RoundsCounted r.log → LeavesOpen done r asked new → Adds r new
+opens_add done r asked new counted h = elim (opens_adds done r asked new h) [
   | inl same ↦ adds_same r new same
-  | inr entry ↦ adds_one r new (Entered entry.2.entrance) (fits_entered r entry.0 entry.2.entrance entry.1 entry.2.about entry.2.knows) tt entry.2.only
+  | inr entry ↦ adds_one r new (Entered entry.2.enters.entrance) (fits_entered r entry.0 entry.1 new counted entry.2) tt entry.2.enters.only
 ]

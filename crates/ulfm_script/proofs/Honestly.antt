@@ -1,25 +1,25 @@
 -- A player's answers stay right while its rank takes items, and with each answer more.
-use Rattle.std.proofs.Common.{◌≡◌, ℕ, true, List, [], ◌++◌, length, refl, ap, sym, subst, ◌∙◌, arith, append-nil, All, Option, Some, None}
+use Rattle.std.proofs.Common.{◌≡◌, ℕ, Bool, true, false, List, [], ◌++◌, length, refl, ap, sym, subst, ◌∙◌, arith, append-nil, All, Option, Some, None}
 use Rattle.ulfm_rank.specs.Paired.{IsPaired}
-use Rattle.ulfm_script.proofs.Common.{Entry, is_stopped, Known, Report, Shrink, State, Step, StepReport, false≢true, Player, GivesUpStep, with_rank, start_player}
+use Rattle.ulfm_script.proofs.Common.{Entry, is_stopped, Known, Report, State, Step, StepReport, false≢true, Player, GivesUpStep, with_rank, is_joint, start_player}
 use Rattle.ulfm_script.specs.Answered.{IsTook, OnlyTook, AnswerFollows, EndsAtStop, AnswersFollow}
-use Rattle.ulfm_script.specs.inside.SoFar.{Since, Stands, StandsOpen, AnswersFollowSoFar, Learns, OnlyTakes}
+use Rattle.ulfm_script.specs.inside.SoFar.{EntersSince, Stands, StandsOpen, AnswersFollowSoFar, Learns, OnlyTakes}
 use Rattle.ulfm_script.proofs.Beginnings.{Grew, took-on, took-none, enters-on}
 use Rattle.ulfm_script.proofs.Answers.{answered-grew, all-grew, answers-push}
 use Rattle.ulfm_script.proofs.Progress.{closed}
 
 pub learns-none : (r : State) (to : ℕ) (known : Known) → Learns r to known known
-learns-none r to known = record { keeps = λ c d h. h; same = λ comm from at h up. refl }
+learns-none r to known = record { keeps = λ c d h. h; same = λ asked topic from at h up. refl }
 
-since-on : (r s : State) (from : ℕ) (asked : Step) → (g : Grew r s) → All IsTook g.more → Since r from asked → Since s from asked
-since-on r s from (Shrink comm) g all h = enters-on r s comm from g all h
-since-on r s from _ g all h = took-on r.log s.log g.more from g.log all h
+since-on : (joint : Bool) (r s : State) (from : ℕ) (asked : Step) → (g : Grew r s) → All IsTook g.more → EntersSince joint r asked from → EntersSince joint s asked from
+since-on true r s from asked g all h = (h.0, enters-on r s asked h.0 from g all h.1)
+since-on false r s from asked g all h = took-on r.log s.log g.more from g.log all h
 
 stands-on : (known : Known) (r s : State) (before : List StepReport) (from : ℕ) (current : Option Step) (at polls : ℕ) → (g : Grew r s) → All IsTook g.more → Stands known r before from current at polls → Stands known s before from current at polls
 stands-on known r s before from None at polls g all h = took-on r.log s.log g.more from g.log all h
 stands-on known r s before from (Some asked) at polls g all h = record {
   polled = h.polled;
-  since = since-on r s from asked g all h.since;
+  since = since-on (is_joint asked) r s from asked g all h.since;
   next = h.next;
   left = answered-grew known known r s at before from _ h.next (learns-none r at known) (omega arith) g h.left;
   took = took-on r.log s.log g.more h.next g.log all h.took;

@@ -1,6 +1,7 @@
 pub mod Common
 pub mod Adopting
 pub mod Positions
+pub mod Proposals
 pub mod Waits
 pub mod Progress
 pub mod Says
@@ -14,6 +15,7 @@ pub mod Calling
 pub mod Added
 pub mod Adopted
 pub mod Once
+pub mod Rounds
 pub mod Takes
 pub mod Fitting
 pub mod Walked

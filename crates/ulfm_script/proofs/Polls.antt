@@ -1,11 +1,13 @@
 -- What a poll of a step adds to a log.
-use Rattle.std.proofs.Common.{◌≡◌, ℕ, Bool, true, false, List, [], None, refl, ap, sym, ◌∙◌, inl, inr, ◌⊎◌}
+use Rattle.std.proofs.Common.{◌≡◌, ℕ, Bool, true, false, List, [], refl, ap, sym, ◌∙◌, inl, inr, ◌⊎◌}
 use Rattle.ulfm_rank.specs.declared.entry.Entry.TheVariants.{Sent as SentEntry, Posted as PostedEntry, Released, Received, Cancelled, Probed, Entered, Adopted, Took}
 use Rattle.ulfm_rank.specs.declared.entry.TestAnswer.TheVariants.{Done as TestDone, Over as TestOver}
 use Rattle.ulfm_rank.specs.State.{State, IsState, logged}
 use Rattle.ulfm_rank.proofs.Quiet.{Own, quiet-same, quiet-logged}
-use Rattle.ulfm_script.proofs.Common.{adopt_checks, shrink_topic, AnswersAdoption, Context, Decision, Entry, is_stop_step, Passes, Shrink, shrink_checks, Step, StepAnswer, StepReport, Wait, Probe, false≢true, Player, AnswersStep, LeavesOpen, StaysOpen, awaits_decision, IsCalled, GivesUpStep, ◌||◌, stopped-push, Quiet, is_stop, is_stopped, took_by, IsSigned, Enters}
-use Rattle.ulfm_script.specs.declared.answer.StepAnswer.TheVariants.{Shrunk, Refused}
+use Rattle.ulfm_script.proofs.Common.{adopt_checks, AnswersAdoption, Topic, Decision, Entry, EntersBy, is_stop_step, Passes, Shrink, Agree, Step, StepAnswer, StepReport, Wait, Probe, false≢true, Player, AnswersStep, LeavesOpen, StaysOpen, awaits_decision, IsCalled, GivesUpStep, ◌||◌, stopped-push, Quiet, is_stop, is_stopped, took_by, IsSigned}
+use Rattle.ulfm_script.specs.declared.answer.StepAnswer.TheVariants.{Shrunk, Agreed, Refused}
+use Rattle.ulfm_base.specs.declared.error.CallError.{CallError}
+use Rattle.ulfm_script.specs.Calls.{Refuses}
 use Rattle.ulfm_script.proofs.Says.{IsIdle, IsApart, AddsIdle, each_answer}
 
 -- one entry of the rank's own is added, a stop or not
@@ -25,7 +27,7 @@ adds_same r new e = inl (e, refl)
 pub adds_one : (r new : State) (e : Entry) (stops : Bool) → Own r.me e → is_stop e ≡ stops → new ≡ logged r e → Adds r stops new
 adds_one r new e stops own stop only = inr (record { entry = e; own = own; stop = stop; only = only })
 
--- an entry of an answer by a call: it adopts no decision and enters no shrink
+-- an entry of an answer by a call: it adopts no decision and enters no topic
 pub record IsPlain (me : ℕ) (stops : Bool) (e : Entry) : Type 0 where
   pub own : Own me e
   pub stop : is_stop e ≡ stops
@@ -50,7 +52,7 @@ plain_idle : (r : State) (asked : Step) (new : State) → AddsIdle r asked new �
 plain_idle r asked new (inl same) = inl same
 plain_idle r asked new (inr one) = inr (one.0, record { own = record { signed = idle_signed r.me one.0 one.1.idle; takes_none = λ s. idle_takes s one.0 one.1.idle }; stop = one.1.stop; apart = one.1.apart }, one.2)
 
--- an answer by a call adds one entry of the rank's own at most, a stop where the step is, no adoption and no entry of a shrink
+-- an answer by a call adds one entry of the rank's own at most, a stop where the step is, no adoption and no entrance
 pub answers_plain : (done : List StepReport) (r : State) (asked : Step) (answer : StepAnswer) (new : State) → AnswersStep done r asked answer new → AddsPlain r (is_stop_step asked) new
 answers_plain done r asked answer new h =
     each_answer done r new (λ step said. AddsPlain r (is_stop_step step) new)
@@ -74,14 +76,15 @@ answers_add done r asked answer new running h = elim (answers_plain done r asked
   | inr one ↦ adds_one r new one.0 (is_stop_step asked) one.1.own one.1.stop one.2
 ]
 
--- nothing is added, or a shrink is entered that no check refuses
+-- nothing is added, or a step enters its topic
 abbrev pub Opens : State → State → Type 0
-Opens old new = (new ≡ old) ⊎ ((comm : Context) × Passes (shrink_checks old comm) × Enters old (shrink_topic comm) None new)
+Opens old new = (new ≡ old) ⊎ ((asked : Step) × (topic : Topic) × EntersBy old asked topic new)
 
 pub opens_adds : (done : List StepReport) (r : State) (asked : Step) (new : State) → LeavesOpen done r asked new → Opens r new
 opens_adds done r (Wait req) new h = inl h.only
 opens_adds done r (Probe source tag comm) new h = inl h.2
-opens_adds done r (Shrink comm) new h = inr (comm, h.0, h.1)
+opens_adds done r (Shrink comm) new h = inr (Shrink comm, h.0, h.1)
+opens_adds done r (Agree flag comm) new h = inr (Agree flag comm, h.0, h.1)
 opens_adds done r _ new h = absurd h
 
 -- a step that its first poll may leave open is no stop
@@ -89,24 +92,32 @@ pub opens_go_on : (done : List StepReport) (r : State) (asked : Step) (new : Sta
 opens_go_on done r (Wait req) new h = refl
 opens_go_on done r (Probe source tag comm) new h = refl
 opens_go_on done r (Shrink comm) new h = refl
+opens_go_on done r (Agree flag comm) new h = refl
 opens_go_on done r _ new h = absurd h
 
 adds_open : (done : List StepReport) (r : State) (asked : Step) (new : State) → LeavesOpen done r asked new → Adds r false new
 adds_open done r asked new h = elim (opens_adds done r asked new h) [
   | inl same ↦ adds_same r new same
-  | inr entry ↦ adds_one r new (Entered entry.2.entrance) false (record { signed = tt; takes_none = λ s. refl }) refl entry.2.only
+  | inr entry ↦ adds_one r new (Entered entry.2.enters.entrance) false (record { signed = tt; takes_none = λ s. refl }) refl entry.2.enters.only
 ]
 
--- a poll that leaves a step open adds its entry into a shrink at most
+-- a poll that leaves a step open adds its entrance at most
 pub opens_add : (waits : Bool) (done : List StepReport) (r : State) (asked : Step) (new : State) → StaysOpen waits done r asked new → Adds r false new
 opens_add true done r asked new h = adds_same r new h
 opens_add false done r asked new h = adds_open done r asked new h
 
 -- an adoption adds nothing where it is refused, else its entry
-pub adoption_adds : (r : State) (comm : Context) (held : Decision) (answer : StepAnswer) (new : State) → AnswersAdoption r comm held answer new → (new ≡ r) ⊎ (Passes (adopt_checks r (shrink_topic comm) held) × (new ≡ logged r (Adopted held)))
-adoption_adds r comm held (Shrunk child group me) new h = inr (h.0, h.4)
-adoption_adds r comm held (Refused e) new h = inl h.1
-adoption_adds r comm held _ new h = absurd h
+pub adoption_adds : (r : State) (asked : Step) (topic : Topic) (held : Decision) (answer : StepAnswer) (new : State) → AnswersAdoption r asked topic held answer new → (new ≡ r) ⊎ (Passes (adopt_checks r topic held) × (new ≡ logged r (Adopted held)))
+adoption_adds r (Shrink comm) topic held (Shrunk child group me) new h = inr (h.0, h.4)
+adoption_adds r (Agree flag comm) topic held (Agreed value missing) new h = inr (h.0, h.3)
+adoption_adds r asked topic held (Refused e) new h = inl h.1
+adoption_adds r asked topic held _ new h = absurd h
+
+-- an adoption is refused by its checks, or by out of memory
+pub refused_adoption : (r : State) (asked : Step) (topic : Topic) (held : Decision) (e : CallError) (new : State) → AnswersAdoption r asked topic held (Refused e) new → Refuses (adopt_checks r topic held) e r new
+refused_adoption r (Shrink comm) topic held e new h = h
+refused_adoption r (Agree flag comm) topic held e new h = h
+refused_adoption r _ topic held e new h = h
 
 -- the rank stopped exactly where a stop was added
 pub stopped-adds : (r : State) (stops : Bool) (new : State) → is_stopped r.log ≡ false → Adds r stops new → is_stopped new.log ≡ stops

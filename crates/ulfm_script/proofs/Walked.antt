@@ -1,8 +1,15 @@
 -- What each thing that happens to a rank keeps, all that happened to it keeps, where its answers are right.
-use Rattle.std.proofs.Common.{◌≡◌, ℕ, ◌+◌, List, [], ◌∷◌, ◌++◌, length, take, refl, ap, sym, subst, ◌∙◌, arith, inl, inr, ◌⊎◌, append-nil, append_assoc, length-append, Option, Some, None, All}
+use Rattle.std.proofs.Common.{◌≡◌, ℕ, ◌+◌, Bool, true, false, List, [], ◌∷◌, ◌++◌, length, take, refl, ap, sym, subst, ◌∙◌, arith, inl, inr, ◌⊎◌, append-nil, append_assoc, length-append, Option, Some, None, All}
 use Rattle.std.proofs.Math.Seq.{take-append_seam, take-length}
-use Rattle.ulfm_script.proofs.Common.{AnswersAdoption, AnswersFollowSoFar, AnswersStep, Context, Decision, Entry, shrink_topic, Known, known_at, LeavesOpen, Player, Refused, Report, Shrink, Since, Stands, State, Step, StepReport, Unfinished, OutOfMemory, All-head, All-tail}
+use Rattle.ulfm_script.proofs.Common.{AnswersAdoption, AnswersFollowSoFar, AnswersStep, EntersBy, Topic, Decision, Entry, is_joint, Known, known_at, LeavesOpen, Player, Refused, Report, Shrink, Agree, Stands, State, Step, StepReport, Unfinished, OutOfMemory, All-head, All-tail, none-some}
+use Rattle.ulfm_script.specs.inside.SoFar.{EntersSince}
 use Rattle.ulfm_script.specs.Answered.{StoodAt, IsTook, OnlyTook, EntersBetween, AnsweredByDecision, by_call, left_by_call, by_decision, left_undecided, AnswerFollows, EachAnswerFollows, AnswersFollow}
+
+-- a step that enters its topic is left open
+opens_by : (done : List StepReport) (old : State) (asked : Step) (topic : Topic) (new : State) → EntersBy old asked topic new → LeavesOpen done old asked new
+opens_by done old (Shrink comm) topic new h = (topic, h)
+opens_by done old (Agree flag comm) topic new h = (topic, h)
+opens_by done old _ topic new h = absurd (none-some topic h.about)
 
 -- K holds of the answered steps and the log after each thing that may happen to the rank r, if it held before: an item is
 -- taken, a step is answered by a call, left open by one, answered by a decision, or ended without either
@@ -10,7 +17,7 @@ pub record KeepsAll (known : Known) (r : State) (K : List StepReport → List En
   pub takes : (done : List StepReport) (log : List Entry) (e : Entry) → IsTook e → K done log → K done (log ++ e ∷ [])
   pub answers : (n : ℕ) (old new : State) (done : List StepReport) (report : StepReport) → StoodAt r n old → AnswersStep done old report.step report.answer new → K done old.log → K (done ++ report ∷ []) new.log
   pub opens : (n : ℕ) (old new : State) (done : List StepReport) (asked : Step) → StoodAt r n old → LeavesOpen done old asked new → K done old.log → K done new.log
-  pub adopts : (n : ℕ) (old new : State) (done : List StepReport) (report : StepReport) (comm : Context) (held : Decision) → StoodAt r n old → report.step ≡ Shrink comm → known_at known (shrink_topic comm) ≡ Some held → AnswersAdoption old comm held report.answer new → K done old.log → K (done ++ report ∷ []) new.log
+  pub adopts : (n : ℕ) (old new : State) (done : List StepReport) (report : StepReport) (topic : Topic) (held : Decision) → StoodAt r n old → known_at known topic ≡ Some held → AnswersAdoption old report.step topic held report.answer new → K done old.log → K (done ++ report ∷ []) new.log
   pub ends : (log : List Entry) (done : List StepReport) (report : StepReport) → (report.answer ≡ Unfinished) ⊎ (report.answer ≡ Refused OutOfMemory) → K done log → K (done ++ report ∷ []) log
 
 module _ (known : Known) (r : State) (K : List StepReport → List Entry → Type 0) (keeps : KeepsAll known r K) where
@@ -43,17 +50,17 @@ module _ (known : Known) (r : State) (K : List StepReport → List Entry → Typ
       let size : length (h.front ++ h.between) ≡ to = omega (arith, length-append h.front h.between, h.begins, h.ends) in
       subst (K done) (sym (front_is (h.front ++ h.between) h.rest to whole size)) (good_more done h.front h.between h.took front)
 
-  good_enters : (done : List StepReport) (comm : Context) (from to : ℕ) → EntersBetween r comm from to → Good done from → Good done to
-  good_enters done comm from to h good =
+  good_enters : (done : List StepReport) (asked : Step) (topic : Topic) (from to : ℕ) → EntersBetween r asked topic from to → Good done from → Good done to
+  good_enters done asked topic from to h good =
       let before : K done h.old.log = to_stood done h.place h.old h.stood (good_took done from h.place h.took_before good) in
-      let entered : K done h.new.log = keeps.opens h.place h.old h.new done (Shrink comm) h.stood (h.accepted, h.enters) before in
+      let entered : K done h.new.log = keeps.opens h.place h.old h.new done asked h.stood (opens_by done h.old asked topic h.new h.enters) before in
       good_took done (h.place + 1) to h.took_after (from_stood done (h.place + 1) h.new h.stood_next entered)
 
   good_decided : (done : List StepReport) (from n : ℕ) (report : StepReport) (old new : State) → n ≡ report.at → StoodAt r n old → AnsweredByDecision known r from report old new → Good done from → K (done ++ report ∷ []) new.log
   good_decided done from n report old new here stood h good =
-      let now : K done old.log = to_stood done n old stood (subst (Good done) (sym here) (good_enters done h.comm from report.at h.entered good)) in
+      let now : K done old.log = to_stood done n old stood (subst (Good done) (sym here) (good_enters done report.step h.topic from report.at h.entered good)) in
       elim h.outcome [
-        | inl a ↦ keeps.adopts n old new done report h.comm a.held stood h.shrink a.knows a.adoption now
+        | inl a ↦ keeps.adopts n old new done report h.topic a.held stood a.knows a.adoption now
         | inr w ↦ keeps.ends new.log done report (inr w.refused) (subst (λ (s : State). K done s.log) (sym w.only) now)
       ]
 
@@ -62,20 +69,20 @@ module _ (known : Known) (r : State) (K : List StepReport → List Entry → Typ
     | by_call a ↦ keeps.answers report.at h.old h.new done report h.stood a.answers (to_stood done report.at h.old h.stood (good_took done from report.at a.took good))
     | left_by_call l ↦ keeps.ends h.new.log done report (inl l.given_up) (keeps.opens report.at h.old h.new done report.step h.stood l.opens (to_stood done report.at h.old h.stood (good_took done from report.at l.took good)))
     | by_decision d ↦ good_decided done from report.at report h.old h.new refl h.stood d good
-    | left_undecided u ↦ keeps.ends h.new.log done report (inl u.given_up) (subst (λ (s : State). K done s.log) (sym u.only) (to_stood done report.at h.old h.stood (good_enters done u.comm from report.at u.entered good)))
+    | left_undecided u ↦ keeps.ends h.new.log done report (inl u.given_up) (subst (λ (s : State). K done s.log) (sym u.only) (to_stood done report.at h.old h.stood (good_enters done report.step u.topic from report.at u.entered good)))
   ])
 
   good_all : (done : List StepReport) (from : ℕ) (reports : List StepReport) (to : ℕ) → EachAnswerFollows known r done from reports to → Good done from → Good (done ++ reports) to
   good_all done from [] to h good = subst (λ (ds : List StepReport). Good ds to) (sym (append-nil done)) (subst (Good done) h good)
   good_all done from (x ∷ xs) to h good = subst (λ (ds : List StepReport). Good ds to) (append_assoc done (x ∷ []) xs) (good_all (done ++ x ∷ []) h.0 xs to h.2 (good_answered done from x h.0 h.1 good))
 
-  good_since : (done : List StepReport) (from : ℕ) (asked : Step) → Since r from asked → Good done from → Good done (length r.log)
-  good_since done from (Shrink comm) h good = good_enters done comm from (length r.log) h good
-  good_since done from _ h good = good_took done from (length r.log) h good
+  good_since : (joint : Bool) (done : List StepReport) (from : ℕ) (asked : Step) → EntersSince joint r asked from → Good done from → Good done (length r.log)
+  good_since true done from asked h good = good_enters done asked h.0 from (length r.log) h.1 good
+  good_since false done from asked h good = good_took done from (length r.log) h good
 
   good_stands : (done : List StepReport) (from : ℕ) (current : Option Step) (at polls : ℕ) → Stands known r done from current at polls → Good done from → Good done (length r.log)
   good_stands done from None at polls h good = good_took done from (length r.log) h good
-  good_stands done from (Some asked) at polls h good = good_since done from asked h.since good
+  good_stands done from (Some asked) at polls h good = good_since (is_joint asked) done from asked h.since good
 
 -- what holds at the start, and is kept by all that may happen, holds of a player with right answers
 pub walked : (known : Known) (p : Player) (K : List StepReport → List Entry → Type 0) → KeepsAll known p.rank K → K [] [] → AnswersFollowSoFar known p → K p.done p.rank.log

@@ -1,14 +1,11 @@
 -- What the answers of a rank's steps say of its log.
 use Rattle.std.specs.Prelude.{◌≡◌, ℕ, ⊤, true, false, List, [], ◌∷◌, ◌++◌, ◌+◌, ◌<◌, ◌⊎◌, ◌≤◌, length, All, Some, None}
-use Rattle.ulfm_base.specs.Topic.{shrink_topic}
-use Rattle.ulfm_base.specs.declared.context.Context.{Context}
+use Rattle.ulfm_base.specs.declared.topic.Topic.{Topic}
 use Rattle.ulfm_base.specs.declared.decision.Decision.{Decision}
 use Rattle.ulfm_base.specs.declared.error.CallError.TheVariants.{OutOfMemory}
 use Rattle.ulfm_board.specs.Known.{known_at}
 use Rattle.ulfm_rank.specs.declared.entry.Entry.{Entry}
 use Rattle.ulfm_rank.specs.declared.entry.Entry.TheVariants.{Took, Stopped}
-use Rattle.ulfm_rank.specs.Calls.{Enters}
-use Rattle.ulfm_rank.specs.Checks.{Passes, shrink_checks}
 use Rattle.ulfm_rank.specs.Facts.{is_stopped}
 use Rattle.ulfm_rank.specs.Paired.{IsPaired}
 use Rattle.ulfm_rank.specs.State.{State}
@@ -16,9 +13,9 @@ use Rattle.ulfm_script.specs.declared.answer.StepAnswer.{StepAnswer}
 use Rattle.ulfm_script.specs.declared.answer.StepAnswer.TheVariants.{Unfinished, Refused}
 use Rattle.ulfm_script.specs.declared.answer.StepReport.{StepReport}
 use Rattle.ulfm_job.specs.declared.step.Step.{Step}
-use Rattle.ulfm_job.specs.declared.step.Step.TheVariants.{Shrink}
 use Rattle.ulfm_script.specs.Deciding.{Known, AnswersAdoption, HasProposal}
-use Rattle.ulfm_script.specs.Calls.{AnswersStep, LeavesOpen}
+use Rattle.ulfm_script.specs.Calls.{AnswersStep, EntersBy, LeavesOpen}
+use Rattle.ulfm_script.specs.Player.{is_joint}
 use Rattle.ulfm_script.specs.Report.{Report}
 
 -- the rank as it stood when its log had so many entries; what left its outboxes plays no part in an answer
@@ -44,16 +41,15 @@ pub record OnlyTook (log : List Entry) (from to : ℕ) : Type 0 where
   pub ends : from + length between ≡ to
   pub took : All IsTook between
 
--- From one place of its log up to another the rank took items, and entered the shrink of this communicator once, with the
--- failures known there.
-pub record EntersBetween (rank : State) (comm : Context) (from to : ℕ) : Type 0 where
+-- From one place of its log up to another the rank took items, and the step entered this topic once, with the failures known
+-- there.
+pub record EntersBetween (rank : State) (asked : Step) (topic : Topic) (from to : ℕ) : Type 0 where
   pub place : ℕ
   pub old : State
   pub new : State
   pub stood : StoodAt rank place old
   pub stood_next : StoodAt rank (place + 1) new
-  pub accepted : Passes (shrink_checks old comm)
-  pub enters : Enters old (shrink_topic comm) None new
+  pub enters : EntersBy old asked topic new
   pub took_before : OnlyTook rank.log from place
   pub took_after : OnlyTook rank.log (place + 1) to
 
@@ -63,50 +59,43 @@ pub record AnsweredByCall (rank : State) (before : List StepReport) (from : ℕ)
   pub took : OnlyTook rank.log from report.at
   pub answers : AnswersStep before old report.step report.answer new
 
--- the step is a shrink
-abbrev pub IsShrink : Step → Type 0
-IsShrink (Shrink comm) = ⊤
-IsShrink _ = ⊥
-
 -- The rank only took since the step before, and the call left this one open: a wait whose receive waits, a probe that found
--- nothing, or a shrink, which this first call of it entered.
+-- nothing, or a step that ranks decide together, which this first call of it entered.
 pub record LeftByCall (rank : State) (before : List StepReport) (from : ℕ) (report : StepReport) (old new : State) : Type 0 where
   pub took : OnlyTook rank.log from report.at
   pub given_up : report.answer ≡ Unfinished
   pub opens : LeavesOpen before old report.step new
-  pub first : IsShrink report.step → report.polls ≡ 1
+  pub first : is_joint report.step ≡ true → report.polls ≡ 1
 
 -- the decision that the rank's decider knows is adopted, or not, for a reason that stands
-pub record AdoptsKnown (known : Known) (r : State) (comm : Context) (answer : StepAnswer) (new : State) : Type 0 where
+pub record AdoptsKnown (known : Known) (r : State) (asked : Step) (topic : Topic) (answer : StepAnswer) (new : State) : Type 0 where
   pub held : Decision
-  pub knows : known_at known (shrink_topic comm) ≡ Some held
-  pub adoption : AnswersAdoption r comm held answer new
+  pub knows : known_at known topic ≡ Some held
+  pub adoption : AnswersAdoption r asked topic held answer new
 
 -- the board was out of memory, where no decision is known, and nothing changes
-pub record LacksMemory (known : Known) (r : State) (comm : Context) (answer : StepAnswer) (new : State) : Type 0 where
-  pub unknown : known_at known (shrink_topic comm) ≡ None
+pub record LacksMemory (known : Known) (r : State) (topic : Topic) (answer : StepAnswer) (new : State) : Type 0 where
+  pub unknown : known_at known topic ≡ None
   pub refused : answer ≡ Refused OutOfMemory
   pub only : new ≡ r
 
--- The rank entered the shrink since the step before, and had a proposal; the decision answers it.
+-- The step entered its topic since the step before, and the rank had a proposal there; the decision answers it.
 pub record AnsweredByDecision (known : Known) (rank : State) (from : ℕ) (report : StepReport) (old new : State) : Type 0 where
-  pub comm : Context
-  pub shrink : report.step ≡ Shrink comm
-  pub entered : EntersBetween rank comm from report.at
-  pub proposes : HasProposal old comm
-  pub outcome : AdoptsKnown known old comm report.answer new ⊎ LacksMemory known old comm report.answer new
+  pub topic : Topic
+  pub entered : EntersBetween rank report.step topic from report.at
+  pub proposes : HasProposal old topic
+  pub outcome : AdoptsKnown known old report.step topic report.answer new ⊎ LacksMemory known old topic report.answer new
 
--- The rank entered the shrink since the step before, and at a later poll had no proposal.
+-- The step entered its topic since the step before, and at a later poll the rank had no proposal there.
 pub record LeftUndecided (rank : State) (from : ℕ) (report : StepReport) (old new : State) : Type 0 where
-  pub comm : Context
-  pub shrink : report.step ≡ Shrink comm
-  pub entered : EntersBetween rank comm from report.at
+  pub topic : Topic
+  pub entered : EntersBetween rank report.step topic from report.at
   pub given_up : report.answer ≡ Unfinished
   pub later : 1 < report.polls
-  pub undecided : HasProposal old comm → ⊥
+  pub undecided : HasProposal old topic → ⊥
   pub only : new ≡ old
 
--- How an answer came about: the call of the step gave it or left the step open, the decision of a shrink gave it, or there was no
+-- How an answer came about: the call of the step gave it or left the step open, the ranks' decision gave it, or there was no
 -- decision to be had.
 pub data How (known : Known) (rank : State) (before : List StepReport) (from : ℕ) (report : StepReport)
     (old new : State) : Type 0 where

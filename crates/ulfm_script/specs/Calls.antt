@@ -1,6 +1,7 @@
 -- What the answer of a step says of its rank, and what it does to it.
 use Rattle.std.specs.Prelude.{◌≡◌, ℕ, ⊤, false, List, [], ◌<◌, length, filter_map, Option, Some, None, slice_get, if◌then◌else◌}
 use Rattle.ulfm_base.specs.Topic.{shrink_topic}
+use Rattle.ulfm_base.specs.declared.topic.Topic.{Topic}
 use Rattle.ulfm_base.specs.declared.context.Context.{Context}
 use Rattle.ulfm_base.specs.declared.tag.Tag.{Tag}
 use Rattle.ulfm_base.specs.declared.pattern.Pattern.{Pattern}
@@ -21,11 +22,12 @@ use Rattle.ulfm_rank.specs.State.{State, logged}
 use Rattle.ulfm_rank.specs.Facts.{is_revoked, known_in, acknowledged_of, ack_answer}
 use Rattle.ulfm_rank.specs.History.{history_of}
 use Rattle.ulfm_rank.specs.Answer.{IsRequest, IsNoRequest, IsTestAnswer, is_release}
-use Rattle.ulfm_rank.specs.Checks.{Check, Passes, Fails, FailsOrStarves, group_at, comm_checks, send_checks, receive_checks, dup_checks, shrink_checks}
+use Rattle.ulfm_rank.specs.Checks.{Check, Passes, Fails, FailsOrStarves, group_at, comm_checks, send_checks, receive_checks, dup_checks, shrink_checks, agree_checks}
 use Rattle.ulfm_rank.specs.Calls.{Sends, Posts, Enters, acknowledging, revoking, stopping}
+use Rattle.ulfm_rank.specs.Proposal.{next_agreement}
 use Rattle.ulfm_rank.specs.Messages.{IsMessage, IsNoMessage, IsMessageAnswer, IsProbed, FindsNone, IsProbeRefusal}
 use Rattle.ulfm_job.specs.declared.step.Step.{Step}
-use Rattle.ulfm_job.specs.declared.step.Step.TheVariants.{Send, Recv, Wait, Probe, Mrecv, Cancel, Failed, Ack, Revoke, Dup, Shrink, Stop}
+use Rattle.ulfm_job.specs.declared.step.Step.TheVariants.{Send, Recv, Wait, Probe, Mrecv, Cancel, Failed, Ack, Revoke, Dup, Shrink, Agree, Stop}
 use Rattle.ulfm_script.specs.declared.answer.StepAnswer.{StepAnswer}
 use Rattle.ulfm_script.specs.declared.answer.StepAnswer.TheVariants.{Sent, Posted, Done, Over, Pending, Found, Cancelled, Ranks, Acked, Revoked, Made, Stopped, Refused}
 use Rattle.ulfm_script.specs.declared.answer.StepReport.{StepReport}
@@ -197,10 +199,37 @@ AnswersDup r comm (Made child) new =
 AnswersDup r comm (Refused e) new = Refuses (dup_checks r comm.number) e r new
 AnswersDup r comm _ new = ⊥
 
--- the first poll of a shrink enters it, or is refused
-abbrev pub AnswersEntry : State → Context → StepAnswer → State → Type 0
-AnswersEntry r comm (Refused e) new = Refuses (shrink_checks r comm) e r new
-AnswersEntry r comm _ new = ⊥
+-- why the entry of a step is refused that ranks decide together
+abbrev pub entry_checks : State → Step → List Check
+entry_checks r (Shrink comm) = shrink_checks r comm
+entry_checks r (Agree flag comm) = agree_checks r comm
+entry_checks r _ = []
+
+-- what a step enters that ranks decide together: the shrink of its communicator, or the next agreement on it
+abbrev pub entered_by : List Entry → Step → Option Topic
+entered_by log (Shrink comm) = Some (shrink_topic comm)
+entered_by log (Agree flag comm) = Some (next_agreement log comm)
+entered_by log _ = None
+
+-- the flag that a step brings in: an agreement has one
+abbrev pub flag_of : Step → Option ℕ
+flag_of (Agree flag comm) = Some flag
+flag_of _ = None
+
+-- a step that ranks decide together enters its topic, with the failures that are known and its flag
+pub record EntersBy (old : State) (asked : Step) (topic : Topic) (new : State) : Type 0 where
+  pub about : entered_by old.log asked ≡ Some topic
+  pub accepted : Passes (entry_checks old asked)
+  pub enters : Enters old topic (flag_of asked) new
+
+-- a step enters its topic
+abbrev pub EntersSome : State → Step → State → Type 0
+EntersSome old asked new = (topic : Topic) × EntersBy old asked topic new
+
+-- the first poll of a shrink or an agreement is refused, where it doesn't enter
+abbrev pub AnswersEntry : State → Step → StepAnswer → State → Type 0
+AnswersEntry r asked (Refused e) new = Refuses (entry_checks r asked) e r new
+AnswersEntry r asked _ new = ⊥
 
 -- the rank stops
 abbrev pub AnswersStop : State → StepAnswer → State → Type 0
@@ -219,12 +248,14 @@ AnswersStep before r (Failed comm) answer new = AnswersFailed r comm answer new
 AnswersStep before r (Ack count comm) answer new = AnswersAck r count comm answer new
 AnswersStep before r (Revoke comm) answer new = AnswersRevoke r comm answer new
 AnswersStep before r (Dup comm) answer new = AnswersDup r comm answer new
-AnswersStep before r (Shrink comm) answer new = AnswersEntry r comm answer new
+AnswersStep before r (Shrink comm) answer new = AnswersEntry r (Shrink comm) answer new
+AnswersStep before r (Agree flag comm) answer new = AnswersEntry r (Agree flag comm) answer new
 AnswersStep before r Stop answer new = AnswersStop r answer new
 
--- A poll leaves the step open: a wait, whose test says so; a probe, which finds nothing; or a shrink, which is entered.
+-- A poll leaves the step open: a wait, whose test says so; a probe, which finds nothing; a shrink or an agreement, which is entered.
 abbrev pub LeavesOpen : List StepReport → State → Step → State → Type 0
 LeavesOpen before r (Wait req) new = Tests before r req TestNotYet new
 LeavesOpen before r (Probe source tag comm) new = LeavesProbe r source tag comm new
-LeavesOpen before r (Shrink comm) new = Passes (shrink_checks r comm) × Enters r (shrink_topic comm) None new
+LeavesOpen before r (Shrink comm) new = EntersSome r (Shrink comm) new
+LeavesOpen before r (Agree flag comm) new = EntersSome r (Agree flag comm) new
 LeavesOpen before r _ new = ⊥

@@ -1,8 +1,8 @@
 -- What contracts see of a rank that goes through its steps, and what a poll of a step does.
-use Rattle.std.specs.Prelude.{◌≡◌, ℕ, Bool, true, false, List, [], ◌∷◌, ◌++◌, ◌+◌, ◌-◌, ◌^◌, ◌⊎◌, min, length, Option, Some, None}
+use Rattle.std.specs.Prelude.{◌≡◌, ℕ, Bool, true, false, is_some, List, [], ◌∷◌, ◌++◌, ◌+◌, ◌-◌, ◌^◌, ◌⊎◌, min, length, Option, Some, None}
 use Rattle.ulfm_rank.specs.State.{State, start_state}
 use Rattle.ulfm_job.specs.declared.step.Step.{Step}
-use Rattle.ulfm_job.specs.declared.step.Step.TheVariants.{Shrink}
+use Rattle.ulfm_job.specs.Job.{decides_on}
 use Rattle.ulfm_script.specs.declared.answer.StepAnswer.{StepAnswer}
 use Rattle.ulfm_script.specs.declared.answer.StepAnswer.TheVariants.{Unfinished}
 use Rattle.ulfm_script.specs.declared.answer.StepReport.{StepReport}
@@ -49,12 +49,16 @@ polled p step at = record { rank = p.rank; done = p.done; current = Some step; a
 abbrev pub IsFree : Player → Step → Type 0
 IsFree p step = (p.current ≡ None) ⊎ (p.current ≡ Some step)
 
--- a shrink that was entered stands open
-abbrev pub awaits_decision : Option Step → Bool
-awaits_decision (Some (Shrink comm)) = true
-awaits_decision _ = false
+-- ranks decide a step together: a shrink or an agreement
+abbrev pub is_joint : Step → Bool
+is_joint asked = is_some (decides_on asked)
 
--- a further poll of a shrink changes nothing
+-- a shrink or an agreement that was entered stands open
+abbrev pub awaits_decision : Option Step → Bool
+awaits_decision None = false
+awaits_decision (Some asked) = is_joint asked
+
+-- a further poll of a shrink or an agreement changes nothing
 abbrev pub StaysOpen : Bool → List StepReport → State → Step → State → Type 0
 StaysOpen true before r asked new = new ≡ r
 StaysOpen false before r asked new = LeavesOpen before r asked new

@@ -1,3 +1,4 @@
 -- What invariants, private functions and proofs cite of players.
 pub mod Underway
 pub mod SoFar
+pub mod Joint

@@ -33,6 +33,8 @@ pub enum StepAnswer {
     Made(Comm),
     /// A shrink made a communicator, with this group, in which the rank has this position.
     Shrunk(Comm, Group, u8),
+    /// An agreement has this value, and leaves out these members, as ranks of the communicator.
+    Agreed(u32, SmallVec<u8, 8>),
     /// The rank stopped.
     Stopped,
     /// The last poll that the job grants left the step open.
@@ -50,12 +52,12 @@ pub enum Called {
     NotYet,
 }
 
-/// What came of asking for the decision of a shrink.
+/// What came of asking for the decision of a shrink or an agreement.
 #[derive(Clone, Copy, Debug, PartialEq, Eq)]
 pub enum Decided {
     /// The step has its answer.
     Answered,
-    /// No shrink of this communicator stands open, or it has no proposal yet.
+    /// No shrink of this communicator or agreement on it stands open, or it has no proposal yet.
     NotReady,
 }
 

@@ -4,11 +4,12 @@
 mod answer;
 mod fault;
 mod hands;
+mod joint;
+mod members;
 mod player;
 mod poll;
 mod receiving;
 mod report;
-mod shrinking;
 mod trace;
 
 pub use answer::{Called, Decided, StepAnswer, StepReport};

@@ -170,11 +170,11 @@ impl Player {
         }
     }
 
-    /// Whether a shrink that was entered stands open.
+    /// Whether a shrink or an agreement that was entered stands open.
     fn awaits_decision(&self) -> bool
         ensures { result ≡ awaits_decision self.now.player.current }
     {
-        matches!(self.current, Some(Step::Shrink { .. }))
+        matches!(self.current, Some(Step::Shrink { .. } | Step::Agree { .. }))
     }
 
     /// Gives the open step the answer `unfinished`. It never answers out of memory.

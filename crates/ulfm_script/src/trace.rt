@@ -94,6 +94,11 @@ fn push_answer(text: &mut String, answer: &StepAnswer) -> Result<(), AllocError>
             push_parted(text, members.as_slice())?;
             write!(text, "] me {me}")
         }
+        StepAnswer::Agreed(value, missing) => {
+            write!(text, "agreed {value} without [")?;
+            push_parted(text, missing.as_slice())?;
+            text.push_str("]")
+        }
         StepAnswer::Stopped => text.push_str("stopped"),
         StepAnswer::Unfinished => text.push_str("unfinished"),
         StepAnswer::Refused(error) => write!(text, "refused {error}"),

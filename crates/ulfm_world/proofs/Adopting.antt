@@ -1,6 +1,6 @@
 -- How a decision is held and adopted.
 use Rattle.std.proofs.Common.{◌≡◌, ◌≢◌, ℕ, ◌<◌, true, false, List, [], ◌∷◌, ◌++◌, refl, ap, sym, ◌∙◌, arith, inl, inr, ◌⊎◌, Option, Some, None}
-use Rattle.ulfm_world.proofs.Common.{Context, Topic, shrink_topic, deciders, Decision, Entry, Adopted, is_stopped, State, Shrink, Player, World, player_at, rank_at, IsRunning, IsWorld, cases_eq, none-some, same_Some, All-push, CallError, OutOfMemory, is_made, members_of, StepAnswer, AnswersAdoption, Fits, IsOwn, not_foreign, adoption_adds}
+use Rattle.ulfm_world.proofs.Common.{Topic, deciders, Decision, Entry, Adopted, is_stopped, State, Step, Player, World, player_at, rank_at, IsRunning, IsWorld, cases_eq, none-some, same_Some, All-push, CallError, OutOfMemory, is_made, members_of, StepAnswer, AnswersAdoption, Fits, IsOwn, not_foreign, adoption_adds}
 use Rattle.ulfm_board.specs.Known.{cell_of, known_at, Answers as BoardAnswers}
 use Rattle.ulfm_board.proofs.Apart.{cells_apart}
 use Rattle.ulfm_board.proofs.Topics.{known_other}
@@ -47,59 +47,59 @@ pub starves_alone : (r : State) (c : Topic) (d : Decision) (e : CallError) → P
 starves_alone r c d e passes (inl fails) = absurd (none-some e (sym passes ∙ fails))
 starves_alone r c d e passes (inr starves) = starves.1
 
--- the rank r of a world decides the shrink of a communicator that stands open there
-module _ (n : ℕ) (w : World) (r : ℕ) (comm : Context) (h : IsWorld w) (settled : Settled n w) (i : r < n) (running : IsRunning w r) where
+-- the rank r of a world decides on a topic
+module _ (n : ℕ) (w : World) (r : ℕ) (topic : Topic) (h : IsWorld w) (settled : Settled n w) (i : r < n) (running : IsRunning w r) where
   counted : (rank_at w r).ranks ≡ n
   counted = h.counted r (omega (arith, i, settled.size)) ∙ settled.size
 
   named : (rank_at w r).me ≡ r
   named = h.named r (omega (arith, i, settled.size))
 
-  module _ (proposal : Decision) (proposed : IsProposal (rank_at w r).ranks (rank_at w r).me (rank_at w r).log (shrink_topic comm) proposal) where
-    own_proposal : IsProposal n r (rank_at w r).log (shrink_topic comm) proposal
+  module _ (proposal : Decision) (proposed : IsProposal (rank_at w r).ranks (rank_at w r).me (rank_at w r).log topic proposal) where
+    own_proposal : IsProposal n r (rank_at w r).log topic proposal
     own_proposal = rw (counted, named) at proposed
 
     -- what is held may be held
-    pub handed_held : {held : Decision} → (known_at w.decided proposal.topic ≡ Some held) ⊎ (held ≡ proposal) → IsHeld n w (shrink_topic comm) held
-    handed_held {held} (inl known) = settled.held (shrink_topic comm) held (ap (known_at w.decided) (sym own_proposal.about) ∙ known)
-    handed_held (inr same) = rw same (proposal_held n w r (shrink_topic comm) h settled i own_proposal)
+    pub handed_held : {held : Decision} → (known_at w.decided proposal.topic ≡ Some held) ⊎ (held ≡ proposal) → IsHeld n w topic held
+    handed_held {held} (inl known) = settled.held topic held (ap (known_at w.decided) (sym own_proposal.about) ∙ known)
+    handed_held (inr same) = rw same (proposal_held n w r topic h settled i own_proposal)
 
-    made_here : is_made n (rank_at w r).log comm.number ≡ true
-    made_here = (settled.keeps r i).enters_made (shrink_topic comm) own_proposal.entered
+    made_here : is_made n (rank_at w r).log topic.context.number ≡ true
+    made_here = (settled.keeps r i).enters_made topic own_proposal.entered
 
     -- and adopted by the rank
-    pub held_fits : {held : Decision} → IsHeld n w (shrink_topic comm) held → IsOwn r (members_of n (rank_at w r).log comm.number) (rank_at w r).log (shrink_topic comm) held
-    held_fits {held} ok = held_own n w r (shrink_topic comm) held h settled i running made_here ok
+    pub held_fits : {held : Decision} → IsHeld n w topic held → IsOwn r (members_of n (rank_at w r).log topic.context.number) (rank_at w r).log topic held
+    held_fits {held} ok = held_own n w r topic held h settled i running made_here ok
 
-    pub held_passes : (held : Decision) → IsHeld n w (shrink_topic comm) held → has_adopted (rank_at w r).log (shrink_topic comm) ≡ false → Passes (adopt_checks (rank_at w r) (shrink_topic comm) held)
+    pub held_passes : (held : Decision) → IsHeld n w topic held → has_adopted (rank_at w r).log topic ≡ false → Passes (adopt_checks (rank_at w r) topic held)
     held_passes held ok fresh =
         let log : List Entry = (rank_at w r).log in
-        own_passes (rank_at w r) (shrink_topic comm) held running (ap (λ k. is_made k log comm.number) counted ∙ made_here) fresh own_proposal.entered (rw named (rw counted (held_fits ok)))
+        own_passes (rank_at w r) topic held running (ap (λ k. is_made k log topic.context.number) counted ∙ made_here) fresh own_proposal.entered (rw named (rw counted (held_fits ok)))
 
-    pub adoption_fits : (held : Decision) → IsHeld n w (shrink_topic comm) held → Fits n r (rank_at w r).log (Adopted held)
+    pub adoption_fits : (held : Decision) → IsHeld n w topic held → Fits n r (rank_at w r).log (Adopted held)
     adoption_fits held ok =
         let log : List Entry = (rank_at w r).log in (
           ap (λ (t : Topic). is_made n log t.context.number) ok.about ∙ made_here,
           ap (has_entered log) ok.about ∙ own_proposal.entered,
-          ap (λ (t : Topic). is_foreign r (deciders n log t) log t held) ok.about ∙ not_foreign r (members_of n log comm.number) log (shrink_topic comm) held (held_fits ok),
+          ap (λ (t : Topic). is_foreign r (deciders n log t) log t held) ok.about ∙ not_foreign r (members_of n log topic.context.number) log topic held (held_fits ok),
         )
 
     -- the rank's log once it adopted or was refused
-    pub moved-adopted : (later : List (Option Decision)) (held : Decision) (b : BoardAnswers None w.decided proposal held later) (answer : StepAnswer) (rank : State) (new : Player) → AnswersAdoption (rank_at w r) comm held answer rank → new.rank ≡ rank → new.current ≡ None → Moved n later r (player_at w r) new
-    moved-adopted later held b answer rank new adoption is closed =
+    pub moved-adopted : (later : List (Option Decision)) (held : Decision) (b : BoardAnswers None w.decided proposal held later) (asked : Step) (answer : StepAnswer) (rank : State) (new : Player) → AnswersAdoption (rank_at w r) asked topic held answer rank → new.rank ≡ rank → new.current ≡ None → Moved n later r (player_at w r) new
+    moved-adopted later held b asked answer rank new adoption is closed =
         let log : List Entry = (rank_at w r).log in
         let ok = handed_held (held_cases w.decided later proposal held b) in
         let all = all_later w.decided later r log (still_known w.decided later proposal held b) (settled.adopted r i) in
         let known : known_at later held.topic ≡ Some held = ap (known_at later) (ok.about ∙ sym own_proposal.about) ∙ b.known_now in
-        elim (adoption_adds (rank_at w r) comm held answer rank adoption) [
+        elim (adoption_adds (rank_at w r) asked topic held answer rank adoption) [
           | inl same ↦
               let log_same : new.rank.log ≡ log = ap (λ (s : State). s.log) (is ∙ same) in
-              record { grows = inl log_same; adopted = rw log_same all; unadopted = λ c e. absurd (none-some (Shrink c) (sym closed ∙ e)) }
+              record { grows = inl log_same; adopted = rw log_same all; unadopted = λ other t e about. absurd (none-some other (sym closed ∙ e)) }
           | inr more ↦
               let longer : new.rank.log ≡ log ++ Adopted held ∷ [] = ap (λ (s : State). s.log) (is ∙ more.1) in
               record {
                 grows = inr (Adopted held, adoption_fits held ok, longer);
                 adopted = rw longer (All-push (IsAdopted later r) log (Adopted held) all (known, (held_fits ok).member));
-                unadopted = λ c e. absurd (none-some (Shrink c) (sym closed ∙ e));
+                unadopted = λ other t e about. absurd (none-some other (sym closed ∙ e));
               }
         ]

@@ -1,7 +1,7 @@
 -- What every world keeps of its topics, and that ranks have one group for each context.
 use Rattle.std.proofs.Common.{◌≡◌, ℕ, ◌<◌, true, false, List, length, ap, sym, subst, ◌∙◌, arith, Option, Some}
 use Rattle.std.specs.Prelude.{All, ⊤}
-use Rattle.ulfm_world.proofs.Common.{Context, Topic, shrink_topic, Contribution, Decision, is_member, known_at, Entry, Adopted, Shrink, Report, at, IsWorld, same_Some, get_or_from_slice_get, slice_get_within, group_of, own_set, Keeps, has, is_gone, AdoptOne, EntersEachOnce, World, rank_at, player_at, HasStopped, report_of, reports_in, entry_at, gone_stopped, listed_own}
+use Rattle.ulfm_world.proofs.Common.{Topic, Contribution, Decision, is_member, known_at, Entry, Adopted, Player, Step, topic_of, Report, at, IsWorld, same_Some, get_or_from_slice_get, slice_get_within, group_of, own_set, Keeps, has, is_gone, AdoptOne, EntersEachOnce, World, rank_at, player_at, HasStopped, report_of, reports_in, entry_at, gone_stopped, listed_own}
 use Rattle.ulfm_rank.specs.Proposal.{listed_of, has_adopted}
 use Rattle.ulfm_laws.proofs.OneGroup.{same_group}
 use Rattle.ulfm_laws.proofs.Proposing.{AllKeep}
@@ -22,6 +22,10 @@ pub record IsHeld (n : ℕ) (w : World) (t : Topic) (d : Decision) : Type 0 wher
   pub listed : (r : ℕ) (brought : Contribution) → entry_at d.entries r ≡ Some brought → own_set (rank_at w r).log t ≡ Some brought
   pub stopped : (r : ℕ) → has d.excluded r ≡ true → HasStopped w r
 
+-- a player adopted no decision on the topic of its open step
+abbrev pub HasNotAdopted : Player → Type 0
+HasNotAdopted p = (asked : Step) (topic : Topic) → p.current ≡ Some asked → topic_of p.rank.log asked ≡ Some topic → has_adopted p.rank.log topic ≡ false
+
 -- what a world of n ranks keeps of its topics
 pub record Settled (n : ℕ) (w : World) : Type 0 where
   pub size : length w.players ≡ n
@@ -29,7 +33,7 @@ pub record Settled (n : ℕ) (w : World) : Type 0 where
   pub once : (r : ℕ) → r < n → EntersEachOnce (rank_at w r).log
   pub held : (t : Topic) (d : Decision) → known_at w.decided t ≡ Some d → IsHeld n w t d
   pub adopted : (r : ℕ) → r < n → All (IsAdopted w.decided r) (rank_at w r).log
-  pub unadopted : (r : ℕ) (comm : Context) → r < n → (player_at w r).current ≡ Some (Shrink comm) → has_adopted (rank_at w r).log (shrink_topic comm) ≡ false
+  pub unadopted : (r : ℕ) → r < n → HasNotAdopted (player_at w r)
 
 -- decisions that ranks adopted on one topic are equal
 pub adopt-one : {n : ℕ} {w : World} → Settled n w → AdoptOne (reports_in w)

@@ -113,7 +113,7 @@ caused-happens w (Decide r comm) w' h all k =
     let d = k.2.decided in
     let G : Player → Type 0 = λ (p : Player). Grows w.players (rank_at w r).log p.rank.log in
     subst H (sym (ap (λ (x : World). x.players) k.3 ∙ k.2.only))
-    (caused-set w.players r k.2.after k.2.inside (subst G (sym d.only) (grows-own w.players (decision_adds None w.decided k.1 (rank_at w r) comm d.answer d.rank d.decision))) all)
+    (caused-set w.players r k.2.after k.2.inside (subst G (sym d.only) (grows-own w.players (decision_adds None w.decided k.1 (rank_at w r) d.asked d.answer d.rank d.decision))) all)
 caused-happens w (Leave r) w' h all k =
     subst (λ (ps : List Player). HaveCauses ps) (sym (ap (λ (x : World). x.players) k.2 ∙ k.1.only)) (caused-set w.players r k.1.after k.1.inside (inl (ap (λ (p : Player). p.rank.log) k.1.left.only)) all)
 

@@ -17,15 +17,16 @@ pub use Rattle.ulfm_rank.specs.declared.entry.Entry.{Entry}
 pub use Rattle.ulfm_rank.specs.declared.entry.Entry.TheVariants.{Took, Adopted, Revoked}
 pub use Rattle.ulfm_board.specs.Known.{known_at}
 pub use Rattle.ulfm_job.specs.Job.{Seen, script_at, IsJob, is_stop_step, through_stop}
-pub use Rattle.ulfm_script.specs.Calls.{LeavesOpen}
+pub use Rattle.ulfm_script.specs.Calls.{EntersBy, LeavesOpen}
+pub use Rattle.ulfm_script.specs.Deciding.{topic_of}
 pub use Rattle.ulfm_script.specs.Player.{Player, with_rank, GivesUpStep, IsCalled, IsFree, PollAnswers, PollOpens, StaysOpen, View, answered, awaits_decision, polled, start_player, step_report}
 pub use Rattle.ulfm_script.specs.Report.{Report}
 pub use Rattle.ulfm_job.specs.declared.step.Step.{Step}
-pub use Rattle.ulfm_job.specs.declared.step.Step.TheVariants.{Shrink}
+pub use Rattle.ulfm_job.specs.declared.step.Step.TheVariants.{Shrink, Agree}
 pub use Rattle.ulfm_world.specs.Parts.{players_of, the_player, parts}
 pub use Rattle.ulfm_world.specs.Flow.{IsWorld, IsPosted, arrived}
 pub use Rattle.ulfm_world.specs.Rest.{IsAtRest}
-pub use Rattle.ulfm_world.specs.World.{World, rank_at, player_at, player_in, inbox_at, reports_in, start_world, report_of, with_player, IsReached, Pushes, Reaches, Takes, with_inbox, Happens, IsRunning, no_player, Applied, Calls, DecidesShrink, GivesUp, HasStopped, IsRefused, Run, outcome_of, start_players, with_decided, with_players}
+pub use Rattle.ulfm_world.specs.World.{World, rank_at, player_at, player_in, inbox_at, reports_in, start_world, report_of, with_player, IsReached, Pushes, Reaches, Takes, with_inbox, Happens, IsRunning, no_player, Applied, Calls, DecidesStep, GivesUp, HasStopped, IsRefused, Run, outcome_of, start_players, with_decided, with_players}
 pub use Rattle.ulfm_world.specs.declared.event.Event.{Event}
 pub use Rattle.ulfm_world.specs.declared.event.Event.TheVariants.{Call, Leave, Decide, Push, Take}
 pub use Rattle.std.proofs.lemmas.Bool.{and_parts, cases_Bool, cases_eq, cases_lt, cond-true, eq-eqb, false_from_ne_true, false≢true, le-ltb, lt-leb, ne_eqb, or_cases, or_from, or_left, or_right}
@@ -41,7 +42,7 @@ pub use Rattle.ulfm_laws.specs.Lawful.{AreProduced, IsLawful, KnowAtRest}
 pub use Rattle.ulfm_laws.specs.Reader.{AllHasCome, ComeAsSent, DoneIsGiven, DonesDiffer, FoundIsGiven, GivesOnce, HasOnePairing, IsFaithful, LettersKeepOrder, NoneIsMissed, OverIsTrue, ReceivesKeepOrder}
 pub use Rattle.ulfm_laws.specs.Decisions.{AdoptOne, AdoptsTruly, EntersEachOnce, HasOneGroup, IsTrueOf, ProposesEach}
 pub use Rattle.ulfm_rank.proofs.Belonging.{IsOwn, Keeps, keeps-push, keeps-start, not_foreign}
-pub use Rattle.ulfm_rank.proofs.Entering.{AdoptsEntered, Fits, own_set, own_stays}
+pub use Rattle.ulfm_rank.proofs.Entering.{AdoptsEntered, Fits, RoundsCounted, own_set, own_stays}
 pub use Rattle.ulfm_rank.proofs.Gather.{any-push}
 pub use Rattle.ulfm_rank.specs.Communicators.{group_of, is_made, members_of}
 pub use Rattle.ulfm_script.proofs.Polls.{Adds, adoption_adds, answers_add, opens_add, quiet-called, quiet-left, stopped-adds}

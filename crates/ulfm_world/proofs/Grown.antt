@@ -1,10 +1,10 @@
 -- What a world keeps of its topics when one rank does something.
-use Rattle.std.proofs.Common.{◌≡◌, ℕ, ◌<◌, true, false, List, [], ◌∷◌, ◌++◌, length, set, refl, ap, ◌∙◌, arith, inl, inr, ◌⊎◌, Option, Some, length-set, All}
-use Rattle.ulfm_world.proofs.Common.{Context, Topic, shrink_topic, Contribution, Decision, known_at, Entry, has_adopted, Shrink, Player, World, player_in, player_at, rank_at, cases_eq, or_left, All-weaker, group_of, Fits, own_set, own_stays, Keeps, keeps-push, is_stop, is_stopped, EntersEachOnce, any-push, Adopted}
+use Rattle.std.proofs.Common.{◌≡◌, ℕ, ◌<◌, true, List, [], ◌∷◌, ◌++◌, length, set, refl, ap, ◌∙◌, arith, inl, inr, ◌⊎◌, Option, Some, length-set, All}
+use Rattle.ulfm_world.proofs.Common.{Topic, Contribution, Decision, known_at, Entry, Player, World, player_in, player_at, rank_at, cases_eq, or_left, All-weaker, group_of, Fits, own_set, own_stays, Keeps, keeps-push, is_stop, is_stopped, EntersEachOnce, any-push, Adopted}
 use Rattle.ulfm_world.proofs.Changed.{player-same, player-other}
 use Rattle.ulfm_rank.proofs.Grouped.{group_stays}
 use Rattle.ulfm_laws.proofs.Once.{once-push}
-use Rattle.ulfm_world.proofs.Agreed.{IsAdopted, IsHeld, Settled}
+use Rattle.ulfm_world.proofs.Agreed.{HasNotAdopted, IsAdopted, IsHeld, Settled}
 
 -- a log stays, or gets one entry that the rank may add
 abbrev pub Grows : ℕ → ℕ → List Entry → List Entry → Type 0
@@ -52,11 +52,11 @@ held-grown n w w' c d grew h = record {
   stopped = λ r out. stopped-grown n r (grew r) (h.stopped r out);
 }
 
--- one rank's change: its log grew, what it adopted is held, and it adopted no decision of a shrink that stands open
+-- one rank's change: its log grew, what it adopted is held, and it adopted no decision on the topic of its open step
 pub record Moved (n : ℕ) (decided : List (Option Decision)) (r : ℕ) (old new : Player) : Type 0 where
   pub grows : Grows n r old.rank.log new.rank.log
   pub adopted : All (IsAdopted decided r) new.rank.log
-  pub unadopted : (comm : Context) → new.current ≡ Some (Shrink comm) → has_adopted new.rank.log (shrink_topic comm) ≡ false
+  pub unadopted : HasNotAdopted new
 
 -- decisions that were held stay
 abbrev pub StillHeld : List (Option Decision) → List (Option Decision) → Type 0
@@ -77,15 +77,13 @@ settled-moved {n} w w' {r} {p} h i only still held moved =
     let grew : AllGrew n w w' = rw only at in
     let adopted : (x : ℕ) → x < n → All (IsAdopted w'.decided x) (player_in (set w.players r p) x).rank.log =
     λ x. each_at w.players r p (λ (x : ℕ) (a b : Player). (x < n → All (IsAdopted w'.decided x) a.rank.log) → x < n → All (IsAdopted w'.decided x) b.rank.log) inside (λ was k. moved.adopted) (λ x was. was) x (λ k. all_later w.decided w'.decided x (rank_at w x).log still (h.adopted x k)) in
-    let unadopted : (x : ℕ) → x < n → (comm : Context) → (player_in (set w.players r p) x).current ≡ Some (Shrink comm) → has_adopted (player_in (set w.players r p) x).rank.log (shrink_topic comm) ≡ false =
-    λ x. each_at w.players r p
-    (λ (x : ℕ) (a b : Player). (x < n → (comm : Context) → a.current ≡ Some (Shrink comm) → has_adopted a.rank.log (shrink_topic comm) ≡ false) → x < n → (comm : Context) → b.current ≡ Some (Shrink comm) → has_adopted b.rank.log (shrink_topic comm) ≡ false)
-    inside (λ was k. moved.unadopted) (λ x was. was) x (λ k comm. h.unadopted x comm k) in
+    let unadopted : (x : ℕ) → x < n → HasNotAdopted (player_in (set w.players r p) x) =
+    λ x. each_at w.players r p (λ (x : ℕ) (a b : Player). (x < n → HasNotAdopted a) → x < n → HasNotAdopted b) inside (λ was k. moved.unadopted) (λ x was. was) x (h.unadopted x) in
     record {
       size = ap length only ∙ length-set w.players r p ∙ h.size;
       keeps = λ x k. keeps-grown n x (h.keeps x k) (grew x);
       once = λ x k. once-grown n x (h.keeps x k) (h.once x k) (grew x);
       held = λ c d known. held-grown n w w' c d grew (held c d known);
       adopted = λ x k. rw only (adopted x k);
-      unadopted = λ x comm k. rw only (unadopted x k comm);
+      unadopted = λ x k. rw only (unadopted x k);
     }

@@ -7,7 +7,7 @@ use Rattle.ulfm_laws.proofs.Closing.{IsTrueOf}
 use Rattle.ulfm_laws.proofs.Honest.{honest-logged, honest-start}
 use Rattle.ulfm_laws.proofs.Mail.{IsTakenFrom}
 use Rattle.ulfm_world.proofs.Runs.{each_run}
-use Rattle.ulfm_laws.proofs.Shrinking.{true-opens, true-decided}
+use Rattle.ulfm_laws.proofs.Joint.{true-opens, true-decided}
 use Rattle.ulfm_world.proofs.Starts.{player-start, length-start, world-start}
 
 -- the answered steps of each player are true of its log

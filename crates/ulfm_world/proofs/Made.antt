@@ -1,10 +1,10 @@
 -- In every run each decision is made once, and each rank that it excludes had stopped then.
 use Rattle.std.proofs.Common.{◌≡◌, ℕ, ◌≤◌, List, [], ◌∷◌, refl, ap, sym, ◌∙◌, inl, inr, Option, Some, None}
-use Rattle.ulfm_world.proofs.Common.{Context, Topic, shrink_topic, Decision, known_at, Event, Call, Push, Take, Decide, Leave, World, start_world, Happens, IsWorld, none-some, same_Some, Applied, Run, get_or-blank}
+use Rattle.ulfm_world.proofs.Common.{Context, Topic, Decision, known_at, Event, Call, Push, Take, Decide, Leave, World, start_world, Happens, IsWorld, none-some, same_Some, Applied, Run, get_or-blank}
 use Rattle.ulfm_board.specs.Known.{cell_of}
 use Rattle.ulfm_world.specs.Safe.{decided_at}
 use Rattle.ulfm_world.specs.Made.{WasMadeSafely, MadeSafely}
-use Rattle.ulfm_world.proofs.Adopting.{still_known, later_cases}
+use Rattle.ulfm_world.proofs.Adopting.{still_known}
 use Rattle.ulfm_world.proofs.Agreed.{Settled}
 use Rattle.ulfm_world.proofs.Decided.{settles-safely}
 use Rattle.ulfm_world.proofs.Grown.{StillHeld}
@@ -40,7 +40,6 @@ record DecidedBy (w : World) (event : Event) (w' : World) (c : Topic) : Type 0 w
   pub rank : ℕ
   pub comm : Context
   pub is : event ≡ Decide rank comm
-  pub about : shrink_topic comm ≡ c
   pub decides : Happens w (Decide rank comm) w'
 
 undecided_still : (w w' : World) (c : Topic) {d : Decision} → w'.decided ≡ w.decided → decided_at w c ≡ None → decided_at w' c ≡ Some d → ⊥
@@ -51,19 +50,10 @@ decides-happens w (Call r asked) w' c d k none known = absurd (undecided_still w
 decides-happens w (Push s r) w' c d k none known = absurd (undecided_still w w' c (ap (λ (x : World). x.decided) k.only) none known)
 decides-happens w (Take r) w' c d k none known = absurd (undecided_still w w' c (ap (λ (x : World). x.decided) k.only) none known)
 decides-happens w (Decide r comm) w' c d k none known =
-    let s = k.2.decided.decision in
-    let later : known_at k.1 c ≡ Some d = ap (λ (x : World). known_at x.decided c) (sym k.3) ∙ known in
     record {
       rank = r;
       comm = comm;
       is = refl;
-      about = elim (s.outcome) [
-        | inl a ↦ elim (later_cases w.decided k.1 s.proposal a.held a.board_answers c d later) [
-          | inl was ↦ absurd (none-some d (sym none ∙ was))
-          | inr now ↦ sym (now.1 ∙ s.proposed.about)
-        ]
-        | inr b ↦ absurd (none-some d (sym (ap (λ (ks : List (Option Decision)). known_at ks c) b.known_stay ∙ none) ∙ later))
-      ];
       decides = k;
     }
 decides-happens w (Leave r) w' c d k none known = absurd (undecided_still w w' c (ap (λ (x : World). x.decided) k.2) none known)
@@ -91,7 +81,7 @@ module _ (n : ℕ) (c : Topic) (d : Decision) where
         decides = by.decides;
         held = mine;
         went_on = run;
-        safe = settles-safely v h settled by.rank by.comm m d by.decides (ap (decided_at m) by.about ∙ mine);
+        safe = settles-safely v h settled by.rank by.comm m c d by.decides mine;
       }
 
   -- the event that comes next decides, or a later one

@@ -1,6 +1,6 @@
 -- What a poll moves, and a step that is given up.
 use Rattle.std.proofs.Common.{◌≡◌, ℕ, ◌<◌, ◌≤◌, true, false, cond, List, [], ◌∷◌, length, set, refl, ap, sym, subst, ◌∙◌, arith, inl, inr, ◌⊎◌, length-set, Option, Some, None, is_none, set-set}
-use Rattle.ulfm_world.proofs.Common.{Context, Decision, Step, Shrink, Call, Decide, Leave, IsWorld, is_stopped, false≢true, cases_eq, World, player_in, player_at, with_players, with_player, with_decided, Happens, Reaches, IsRunning, Player, GivesUpStep, Seen, IsJob, script_at, AllAnswersFollowSoFar, Follows, Moves, weight_of, FollowsSoFar, ready-decided, advance-decided, IsState, Answered, NotYet, IsUndecided}
+use Rattle.ulfm_world.proofs.Common.{Context, Decision, Step, Call, Decide, Leave, IsWorld, is_stopped, false≢true, cases_eq, World, player_in, player_at, with_players, with_player, with_decided, Happens, Reaches, IsRunning, Player, GivesUpStep, Seen, IsJob, script_at, AllAnswersFollowSoFar, Follows, Moves, weight_of, FollowsSoFar, ready-decided, advance-decided, IsState, Answered, NotYet, IsUndecided}
 use Rattle.ulfm_world.specs.declared.event.Outcome.{Outcome}
 use Rattle.ulfm_world.proofs.Changed.{player-same, player-other}
 use Rattle.ulfm_script.proofs.Advance.{Ready, Advances, advance-called, advance-left}
@@ -64,10 +64,10 @@ moves-leave {j} {w} r {asked} mid w' job h i f ready undecided t u last =
     ∙ ap (with_players w) (set-set w.players r c.after g.after) in
     rw is (moves-player j w r w.decided i h ready.running f (advance-left (script_at j r) j.turns (player_at w r) asked c.after g.after g.left.step (omega (arith, job.most_turns)) ready c.called current (subst L mid_at g.left) (omega (arith, last, ap (λ (p : Player). p.polls) mid_at))) (λ right. rw is at (rightly-leaves mid r w' u (rightly-calls j w r mid f ready.next undecided t right))) (subst (λ (x : World). Reaches w x) is (Call r asked ∷ Leave r ∷ [], (mid, inl t, (w', inl u, refl)))))
 
--- a shrink that is decided
+-- a step that is decided
 pub moves-decide : (j : Seen) (w : World) (r : ℕ) (comm : Context) (w' : World) → IsWorld w → Follows j w → Happens w (Decide r comm) w' → Moves j w w' true
 moves-decide j w r comm w' h f t =
     let s = t.2 in
     let is : w' ≡ with_decided (with_player w r s.after) t.1 = t.3 ∙ ap (λ (ps : List Player). with_decided (with_players w ps) t.1) s.only in
-    let ready = ready-decided (script_at j r) j.turns (player_at w r) (Shrink comm) (f r s.inside) s.running s.decided.waits in
+    let ready : (asked : Step) → (player_at w r).current ≡ Some asked → Ready (script_at j r) j.turns (player_at w r) asked = λ asked waits. ready-decided (script_at j r) j.turns (player_at w r) asked (f r s.inside) s.running waits in
     rw is (moves-player j w r t.1 s.inside h s.running f (advance-decided (script_at j r) j.turns (player_at w r) comm None w.decided t.1 s.after ready s.decided) (λ right. rw is at (rightly-decides w r comm w' t right)) (rw is at (reaches-one w (Decide r comm) w' t)))

@@ -1,9 +1,10 @@
 -- What each event leaves of a world's topics.
 use Rattle.std.proofs.Common.{◌≡◌, ℕ, ◌<◌, Bool, true, false, List, [], ◌∷◌, ◌++◌, length, set, refl, ap, sym, ◌∙◌, arith, inl, inr, Option, Some, None, All}
-use Rattle.ulfm_world.proofs.Common.{Context, shrink_topic, Decision, known_at, Entry, Took, has_adopted, State, logged, Step, Shrink, Event, Call, Push, Take, Decide, Leave, IsWorld, false≢true, none-some, same_Some, AdoptsEntered, World, player_at, rank_at, inbox_at, with_players, with_player, with_inbox, with_decided, Calls, DecidesShrink, GivesUp, Pushes, Takes, Happens, Run, Player, with_rank, answered, polled, IsFree, StaysOpen, awaits_decision, IsCalled}
-use Rattle.ulfm_world.proofs.Agreed.{IsAdopted, Settled}
+use Rattle.ulfm_world.proofs.Common.{Context, Topic, topic_of, RoundsCounted, Decision, known_at, Entry, Took, has_adopted, State, logged, Step, Event, Call, Push, Take, Decide, Leave, IsWorld, false≢true, none-some, same_Some, AdoptsEntered, World, player_at, rank_at, inbox_at, with_players, with_player, with_inbox, with_decided, Calls, DecidesStep, GivesUp, Pushes, Takes, Happens, Run, Player, with_rank, answered, polled, IsFree, StaysOpen, awaits_decision, IsCalled}
+use Rattle.ulfm_world.proofs.Agreed.{HasNotAdopted, IsAdopted, Settled}
 use Rattle.ulfm_world.proofs.Grown.{Grows, Moved, settled-moved}
 use Rattle.ulfm_script.proofs.Fitting.{AddsPlain, Adds, answers_add, opens_add}
+use Rattle.ulfm_script.proofs.Rounds.{topic-took}
 use Rattle.ulfm_world.proofs.Plain.{adopted-plain, held-plain, opened_unadopted}
 use Rattle.ulfm_world.proofs.Adopting.{still_known, held_cases, later_cases, handed_held, moved-adopted}
 use Rattle.ulfm_world.proofs.Runs.{each_run}
@@ -13,29 +14,29 @@ grows-plain n me (inl same) = inl same
 grows-plain n me (inr more) = inr (more.0, more.1, more.3)
 
 -- a change that adopts nothing
-moved-plain : (n : ℕ) (decided : List (Option Decision)) (r : ℕ) (old new : Player) → AddsPlain n r old.rank.log new.rank.log → All (IsAdopted decided r) old.rank.log → ((comm : Context) → new.current ≡ Some (Shrink comm) → has_adopted new.rank.log (shrink_topic comm) ≡ false) → Moved n decided r old new
+moved-plain : (n : ℕ) (decided : List (Option Decision)) (r : ℕ) (old new : Player) → AddsPlain n r old.rank.log new.rank.log → All (IsAdopted decided r) old.rank.log → HasNotAdopted new → Moved n decided r old new
 moved-plain n decided r old new adds all unadopted = record { grows = grows-plain n r adds; adopted = held-plain decided n r adds all; unadopted = unadopted }
 
-closed_open : (p : Player) → p.current ≡ None → (comm : Context) → p.current ≡ Some (Shrink comm) → has_adopted p.rank.log (shrink_topic comm) ≡ false
-closed_open p closed comm e = absurd (none-some (Shrink comm) (sym closed ∙ e))
+closed_open : (p : Player) → p.current ≡ None → HasNotAdopted p
+closed_open p closed asked topic e about = absurd (none-some asked (sym closed ∙ e))
 
 adds_at : {n r : ℕ} (old new : State) → old.ranks ≡ n → old.me ≡ r → Adds old new → AddsPlain n r old.log new.log
 adds_at old new counted named adds = rw (counted, named) at adds
 
 -- a poll that leaves the step open
-opened : (old : Player) {asked : Step} (o : State) (b : Bool) → awaits_decision old.current ≡ b → IsFree old asked → AdoptsEntered old.rank.log → ((comm : Context) → old.current ≡ Some (Shrink comm) → has_adopted old.rank.log (shrink_topic comm) ≡ false) → StaysOpen b old.done old.rank asked o → Adds old.rank o × ((comm : Context) → asked ≡ Shrink comm → has_adopted o.log (shrink_topic comm) ≡ false)
-opened old o true waits (inl none) entered unadopted same = absurd (false≢true (sym (ap awaits_decision none) ∙ waits))
-opened old o true waits (inr this) entered unadopted same =
-    (inl (ap (λ (s : State). s.log) same), λ comm is. ap (λ (s : State). has_adopted s.log (shrink_topic comm)) same ∙ unadopted comm (this ∙ ap Some is))
-opened old {asked} o false waits free entered unadopted opens = (opens_add old.done old.rank asked o opens, λ comm is. opened_unadopted old.done old.rank o comm entered (rw is at opens))
+opened : (old : Player) (asked : Step) (o : State) (b : Bool) → awaits_decision old.current ≡ b → IsFree old asked → AdoptsEntered old.rank.log → RoundsCounted old.rank.log → HasNotAdopted old → StaysOpen b old.done old.rank asked o → Adds old.rank o × ((topic : Topic) → topic_of o.log asked ≡ Some topic → has_adopted o.log topic ≡ false)
+opened old asked o true waits (inl none) entered counted unadopted same = absurd (false≢true (sym (ap awaits_decision none) ∙ waits))
+opened old asked o true waits (inr this) entered counted unadopted same =
+    (inl (ap (λ (s : State). s.log) same), λ topic about. ap (λ (s : State). has_adopted s.log topic) same ∙ unadopted asked topic this (ap (λ (s : State). topic_of s.log asked) (sym same) ∙ about))
+opened old asked o false waits free entered counted unadopted opens = (opens_add old.done old.rank asked o counted opens, λ topic about. opened_unadopted old.done old.rank o asked topic entered counted opens about)
 
-moved-called : (n : ℕ) (decided : List (Option Decision)) (r : ℕ) {old : Player} (asked : Step) {new : Player} → old.rank.ranks ≡ n → old.rank.me ≡ r → IsFree old asked → AdoptsEntered old.rank.log → All (IsAdopted decided r) old.rank.log → ((comm : Context) → old.current ≡ Some (Shrink comm) → has_adopted old.rank.log (shrink_topic comm) ≡ false) → IsCalled old asked new → Moved n decided r old new
-moved-called n decided r {old} asked counted named free entered all unadopted (inl a) =
+moved-called : (n : ℕ) (decided : List (Option Decision)) (r : ℕ) {old : Player} (asked : Step) {new : Player} → old.rank.ranks ≡ n → old.rank.me ≡ r → IsFree old asked → AdoptsEntered old.rank.log → RoundsCounted old.rank.log → All (IsAdopted decided r) old.rank.log → HasNotAdopted old → IsCalled old asked new → Moved n decided r old new
+moved-called n decided r {old} asked counted named free entered rounds all unadopted (inl a) =
     let p = answered (with_rank old a.rank) asked a.answer (length old.rank.log) in
     rw a.only (moved-plain n decided r old p (adds_at old.rank a.rank counted named (answers_add old.done old.rank asked a.answer a.rank a.answers)) all (closed_open p refl))
-moved-called n decided r {old} asked counted named free entered all unadopted (inr o) =
-    let both = opened old o.rank (awaits_decision old.current) refl free entered unadopted o.stays in
-    rw o.only (moved-plain n decided r old (polled (with_rank old o.rank) asked (length old.rank.log)) (adds_at old.rank o.rank counted named both.0) all (λ comm e. both.1 comm (same_Some asked (Shrink comm) e)))
+moved-called n decided r {old} asked counted named free entered rounds all unadopted (inr o) =
+    let both = opened old asked o.rank (awaits_decision old.current) refl free entered rounds unadopted o.stays in
+    rw o.only (moved-plain n decided r old (polled (with_rank old o.rank) asked (length old.rank.log)) (adds_at old.rank o.rank counted named both.0) all (λ other topic e about. both.1 topic (ap (topic_of o.rank.log) (same_Some asked other e) ∙ about)))
 
 module _ (n : ℕ) (w : World) (h : IsWorld w) (settled : Settled n w) where
   below : (r : ℕ) → r < length w.players → r < n
@@ -44,7 +45,7 @@ module _ (n : ℕ) (w : World) (h : IsWorld w) (settled : Settled n w) where
   settled-calls : (r : ℕ) (asked : Step) (players : List Player) → Calls w.players r asked players → Settled n (with_players w players)
   settled-calls r asked players c =
       let i = below r c.inside in
-      rw c.only (settled-moved w (with_players w (set w.players r c.after)) settled i refl (λ c d k. k) settled.held (moved-called n w.decided r asked (h.counted r c.inside ∙ settled.size) (h.named r c.inside) c.free (settled.keeps r i).adopts_entered (settled.adopted r i) (λ comm. settled.unadopted r comm i) c.called))
+      rw c.only (settled-moved w (with_players w (set w.players r c.after)) settled i refl (λ c d k. k) settled.held (moved-called n w.decided r asked (h.counted r c.inside ∙ settled.size) (h.named r c.inside) c.free (settled.keeps r i).adopts_entered (settled.keeps r i).rounds_counted (settled.adopted r i) (settled.unadopted r i) c.called))
 
   settled-gives_up : (r : ℕ) (players : List Player) → GivesUp w.players r players → Settled n (with_players w players)
   settled-gives_up r players c =
@@ -57,7 +58,7 @@ module _ (n : ℕ) (w : World) (h : IsWorld w) (settled : Settled n w) where
       let i = below r t.inside in
       let p = with_rank (player_at w r) (logged (rank_at w r) (Took t.source t.item)) in
       let adds = inr (Took t.source t.item, tt, tt, refl) in
-      rw t.only (settled-moved w (with_inbox (with_player w r p) r t.rest) settled i refl (λ c d k. k) settled.held (moved-plain n w.decided r (player_at w r) p adds (settled.adopted r i) (λ comm e. adopted-plain n r (shrink_topic comm) adds (settled.unadopted r comm i e))))
+      rw t.only (settled-moved w (with_inbox (with_player w r p) r t.rest) settled i refl (λ c d k. k) settled.held (moved-plain n w.decided r (player_at w r) p adds (settled.adopted r i) (λ asked topic e about. adopted-plain n r topic adds (settled.unadopted r i asked topic e (sym (topic-took (rank_at w r).log (Took t.source t.item) asked tt) ∙ about)))))
 
   settled-pushes : (s d : ℕ) {w' : World} → Pushes w s d w' → Settled n w'
   settled-pushes s d t =
@@ -65,9 +66,9 @@ module _ (n : ℕ) (w : World) (h : IsWorld w) (settled : Settled n w) where
       let p = with_rank (player_at w s) t.after in
       let same : t.after.log ≡ (rank_at w s).log = ap (λ (x : State). x.log) t.leaves.marked in
       let adds = inl same in
-      rw t.only (settled-moved w (with_inbox (with_player w s p) d (inbox_at w d ++ (t.sender, t.item) ∷ [])) settled i refl (λ c d k. k) settled.held (moved-plain n w.decided s (player_at w s) p adds (settled.adopted s i) (λ comm e. adopted-plain n s (shrink_topic comm) adds (settled.unadopted s comm i e))))
+      rw t.only (settled-moved w (with_inbox (with_player w s p) d (inbox_at w d ++ (t.sender, t.item) ∷ [])) settled i refl (λ c d k. k) settled.held (moved-plain n w.decided s (player_at w s) p adds (settled.adopted s i) (λ asked topic e about. adopted-plain n s topic adds (settled.unadopted s i asked topic e (ap (λ (l : List Entry). topic_of l asked) (sym same) ∙ about)))))
 
-  settled-settles : (r : ℕ) (comm : Context) (players : List Player) (later : List (Option Decision)) → DecidesShrink w.players w.decided r comm players later → Settled n (with_decided (with_players w players) later)
+  settled-settles : (r : ℕ) (comm : Context) (players : List Player) (later : List (Option Decision)) → DecidesStep w.players w.decided r comm players later → Settled n (with_decided (with_players w players) later)
   settled-settles r comm players later c =
       let i = below r c.inside in let d = c.decided in let proposal = d.decision.proposal in
       let is : c.after.rank ≡ d.rank = ap (λ (p : Player). p.rank) d.only in
@@ -76,13 +77,13 @@ module _ (n : ℕ) (w : World) (h : IsWorld w) (settled : Settled n w) where
       rw c.only (elim (d.decision.outcome) [
         | inl a ↦
             let still = still_known w.decided later proposal a.held a.board_answers in
-            let ok = handed_held n w r comm h settled i c.running proposal d.decision.proposed (held_cases w.decided later proposal a.held a.board_answers) in
+            let ok = handed_held n w r d.decision.topic h settled i c.running proposal d.decision.proposed (held_cases w.decided later proposal a.held a.board_answers) in
             settled-moved w w' settled i refl still
             (λ x e known. elim (later_cases w.decided later proposal a.held a.board_answers x e known) [
               | inl was ↦ settled.held x e was
               | inr now ↦ rw now.0 (rw (now.1 ∙ d.decision.proposed.about) ok)
             ])
-            (moved-adopted n w r comm h settled i c.running proposal d.decision.proposed later a.held a.board_answers d.answer d.rank c.after a.adoption is closed)
+            (moved-adopted n w r d.decision.topic h settled i c.running proposal d.decision.proposed later a.held a.board_answers d.asked d.answer d.rank c.after a.adoption is closed)
         | inr b ↦
             let log_same : c.after.rank.log ≡ (rank_at w r).log = ap (λ (s : State). s.log) (is ∙ b.rank_stays) in
             settled-moved w w' settled i refl (λ x e known. ap (λ (ks : List (Option Decision)). known_at ks x) b.known_stay ∙ known) (λ x e known. settled.held x e (ap (λ (ks : List (Option Decision)). known_at ks x) (sym b.known_stay) ∙ known))

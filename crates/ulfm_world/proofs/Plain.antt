@@ -1,9 +1,10 @@
 -- An entry that adopts nothing leaves what was adopted.
-use Rattle.std.proofs.Common.{◌≡◌, ℕ, false, List, refl, ap, sym, ◌∙◌, inl, inr, Option, All}
-use Rattle.ulfm_world.proofs.Common.{Context, Topic, shrink_topic, Decision, Entry, Adopted, State, Shrink, false≢true, or_from, false_from_ne_true, All-push, AdoptsEntered, any-push, LeavesOpen, StepReport}
+use Rattle.std.proofs.Common.{◌≡◌, ℕ, false, List, refl, ap, sym, subst, ◌∙◌, inl, inr, Option, Some, All}
+use Rattle.ulfm_world.proofs.Common.{Topic, topic_of, Decision, Entry, Adopted, State, Step, Shrink, Agree, EntersBy, RoundsCounted, none-some, same_Some, false≢true, or_from, false_from_ne_true, All-push, AdoptsEntered, any-push, LeavesOpen, StepReport}
 use Rattle.ulfm_rank.specs.Proposal.{adopts, has_adopted}
 use Rattle.ulfm_world.proofs.Agreed.{IsAdopted}
-use Rattle.ulfm_script.proofs.Fitting.{IsPlain, AddsPlain, shrink_passed, opens_add}
+use Rattle.ulfm_script.proofs.Fitting.{IsPlain, AddsPlain, entered_new, opens_add}
+use Rattle.ulfm_script.proofs.Rounds.{entered-now}
 
 plain_adopts : (c : Topic) (e : Entry) → IsPlain e → adopts c e ≡ false
 plain_adopts c (Adopted d) h = absurd h
@@ -24,9 +25,17 @@ pub held-plain : (decided : List (Option Decision)) (n me : ℕ) {old new : List
 held-plain decided n me (inl same) h = rw same h
 held-plain decided n me {old} (inr more) h = rw more.3 (All-push (IsAdopted decided me) old more.0 h (plain_adopted decided me more.0 more.2))
 
--- a shrink that is entered was not adopted
-pub opened_unadopted : (done : List StepReport) (r new : State) (comm : Context) → AdoptsEntered r.log → LeavesOpen done r (Shrink comm) new → has_adopted new.log (shrink_topic comm) ≡ false
-opened_unadopted done r new comm entered h =
-    let fresh : has_adopted r.log (shrink_topic comm) ≡ false =
-    false_from_ne_true (has_adopted r.log (shrink_topic comm)) (λ adopted. false≢true (sym (shrink_passed r comm h.0).1 ∙ entered (shrink_topic comm) adopted)) in
-    adopted-plain r.ranks r.me (shrink_topic comm) (opens_add done r (Shrink comm) new h) fresh
+-- on a topic that a step enters no decision was adopted
+entered_unadopted : (r : State) (asked : Step) (topic : Topic) (new : State) → AdoptsEntered r.log → RoundsCounted r.log → EntersBy r asked topic new → has_adopted r.log topic ≡ false
+entered_unadopted r asked topic new entered counted e =
+    false_from_ne_true (has_adopted r.log topic) (λ adopted. false≢true (sym (entered_new r asked topic new counted e).1 ∙ entered topic adopted))
+
+-- a step that is left open
+pub opened_unadopted : (done : List StepReport) (r new : State) (asked : Step) (topic : Topic) → AdoptsEntered r.log → RoundsCounted r.log → LeavesOpen done r asked new → topic_of new.log asked ≡ Some topic → has_adopted new.log topic ≡ false
+opened_unadopted done r new (Shrink comm) topic entered counted h about =
+    let here : has_adopted r.log topic ≡ false = entered_unadopted r (Shrink comm) topic new entered counted (subst (λ t. EntersBy r (Shrink comm) t new) (same_Some _ topic (sym (entered-now r (Shrink comm) h.0 new h.1) ∙ about)) h.1) in
+    adopted-plain r.ranks r.me topic (opens_add done r (Shrink comm) new counted h) here
+opened_unadopted done r new (Agree flag comm) topic entered counted h about =
+    let here : has_adopted r.log topic ≡ false = entered_unadopted r (Agree flag comm) topic new entered counted (subst (λ t. EntersBy r (Agree flag comm) t new) (same_Some _ topic (sym (entered-now r (Agree flag comm) h.0 new h.1) ∙ about)) h.1) in
+    adopted-plain r.ranks r.me topic (opens_add done r (Agree flag comm) new counted h) here
+opened_unadopted done r new _ topic entered counted h about = absurd (none-some topic about)

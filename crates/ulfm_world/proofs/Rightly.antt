@@ -1,11 +1,9 @@
 -- Each player's answers stay right, whatever a replay does next.
 use Rattle.std.proofs.Common.{◌≡◌, ◌≢◌, ℕ, ◌<◌, List, [], length, set, refl, ap, sym, ◌∙◌, arith, inl, inr, length-set, get_or-set_same, get_or-set_other, Option, Some, None, slice_get, replicate}
-use Rattle.ulfm_world.proofs.Common.{Context, Topic, shrink_topic, Decision, Took, is_stopped, State, logged, Step, Seen, script_at, Player, with_rank, Call, Decide, Leave, World, player_in, player_at, rank_at, start_world, Happens, Pushes, Takes, false≢true, cases_eq, Known, IsDecided, get_or-replicate, length-replicate, known_for, AllAnswersFollowSoFar, Follows, stopped-push, AnswersFollowSoFar, IsUndecided, or-false}
+use Rattle.ulfm_world.proofs.Common.{Context, Topic, Decision, none-some, Took, is_stopped, State, logged, Step, Seen, script_at, Player, with_rank, Call, Decide, Leave, World, player_in, player_at, rank_at, start_world, Happens, Pushes, Takes, cases_eq, Known, IsDecided, get_or-replicate, length-replicate, known_for, AllAnswersFollowSoFar, Follows, stopped-push, AnswersFollowSoFar, IsUndecided, or-false}
 use Rattle.ulfm_board.specs.Known.{Answers as BoardAnswers, Agrees, cell_of, known_at, with_known, nothing_known}
 use Rattle.ulfm_board.proofs.Apart.{cells_apart}
 use Rattle.ulfm_board.proofs.Topics.{known_other, known_with}
-use Rattle.std.specs.Prelude.{◌⊎◌, true, false}
-use Rattle.ulfm_base.specs.Topic.{is_agreement}
 use Rattle.ulfm_script.proofs.Adopted.{agreed, keeps-answered, honest-decided}
 use Rattle.ulfm_script.proofs.Calling.{honest-called}
 use Rattle.ulfm_script.proofs.Honestly.{honest-moved, honest-left, honest-start}
@@ -14,8 +12,8 @@ use Rattle.ulfm_world.proofs.Changed.{player-same, player-other}
 use Rattle.ulfm_world.proofs.Starts.{player-start, length-start}
 
 -- one player is another, and the same is decided
-rightly-set : (w w' : World) (r : ℕ) (p : Player) → r < length w.players → w'.players ≡ set w.players r p → w'.decided ≡ w.decided → ((known : Known) → AnswersFollowSoFar known (player_at w r) → AnswersFollowSoFar known p) → AllAnswersFollowSoFar w → AllAnswersFollowSoFar w'
-rightly-set w w' r p inside players decided keeps h =
+rightly-kept : (w w' : World) (r : ℕ) (p : Player) → r < length w.players → w'.players ≡ set w.players r p → w'.decided ≡ w.decided → (h : AllAnswersFollowSoFar w) → AnswersFollowSoFar (known_for h.knows r) p → AllAnswersFollowSoFar w'
+rightly-kept w w' r p inside players decided h honest =
     let size : length w'.players ≡ length w.players = ap (λ (ps : List Player). length ps) players ∙ length-set w.players r p in
     record {
       knows = h.knows;
@@ -23,10 +21,13 @@ rightly-set w w' r p inside players decided keeps h =
       held = λ x c d i knows. ap (λ (ds : List (Option Decision)). known_at ds c) decided ∙ h.held x c d (omega (arith, i, size)) knows;
       honest = λ x i.
           rw (ap (λ (ps : List Player). player_in ps x) players) (elim (cases_eq x r) [
-            | inl same ↦ rw (player-same w.players r x p same inside) (rw same (keeps (known_for h.knows r) (h.honest r inside)))
+            | inl same ↦ rw (player-same w.players r x p same inside) (rw same honest)
             | inr other ↦ rw (player-other w.players r x p other) (h.honest x (omega (arith, i, size)))
           ]);
     }
+
+rightly-set : (w w' : World) (r : ℕ) (p : Player) → r < length w.players → w'.players ≡ set w.players r p → w'.decided ≡ w.decided → ((known : Known) → AnswersFollowSoFar known (player_at w r) → AnswersFollowSoFar known p) → AllAnswersFollowSoFar w → AllAnswersFollowSoFar w'
+rightly-set w w' r p inside players decided keeps h = rightly-kept w w' r p inside players decided h (keeps (known_for h.knows r) (h.honest r inside))
 
 pub rightly-pushes : (w : World) (s d : ℕ) (w' : World) → Pushes w s d w' → AllAnswersFollowSoFar w → AllAnswersFollowSoFar w'
 rightly-pushes w s d w' t h =
@@ -109,10 +110,10 @@ module _ (w : World) (h : AllAnswersFollowSoFar w) (r : ℕ) (inside : r < lengt
             ];
       }
 
--- a board of one owner doesn't lack a cell for a shrink
-none_lacked : (t : Topic) (comm : Context) → t ≡ shrink_topic comm → (false ≡ true) ⊎ (is_agreement t.purpose ≡ true) → ⊥
-none_lacked t comm about (inl shares) = false≢true shares
-none_lacked t comm about (inr agreement) = false≢true (sym (ap (λ (u : Topic). is_agreement u.purpose) about) ∙ agreement)
+-- where what is known at one place is held at another, and nothing is held there, nothing is known
+unknown_too : (known held : Option Decision) → ((d : Decision) → known ≡ Some d → held ≡ Some d) → held ≡ None → known ≡ None
+unknown_too None held holds none = refl
+unknown_too (Some d) held holds none = absurd (none-some d (sym none ∙ holds d refl))
 
 pub rightly-decides : (w : World) (r : ℕ) (comm : Context) (w' : World) → Happens w (Decide r comm) w' → AllAnswersFollowSoFar w → AllAnswersFollowSoFar w'
 rightly-decides w r comm w' t h =
@@ -122,10 +123,14 @@ rightly-decides w r comm w' t h =
           let known = known_for h.knows r in
           let later = now w h r s.inside d.decision.proposal a.held t.1 a.board_answers in
           let own : IsDecided (player_at w r) comm (Some []) known s.after later = record {
+            asked = d.asked;
             waits = d.waits;
+            on = d.on;
             answer = d.answer;
             rank = d.rank;
             decision = record {
+              topic = d.decision.topic;
+              about = d.decision.about;
               accepted = d.decision.accepted;
               proposal = d.decision.proposal;
               proposed = d.decision.proposed;
@@ -134,7 +139,27 @@ rightly-decides w r comm w' t h =
             only = d.only;
           } in
           rightly-held w h r s.inside d.decision.proposal a.held t.1 a.board_answers w' (ap (λ (x : World). x.players) t.3 ∙ s.only) (ap (λ (x : World). x.decided) t.3) (honest-decided (Some []) known later (player_at w r) comm s.after (h.honest r s.inside) s.running own)
-      | inr starves ↦ absurd (none_lacked d.decision.proposal.topic comm d.decision.proposed.about starves.starves.may_grow)
+      | inr starves ↦
+          let known = known_for h.knows r in
+          let unknown : known_at known d.decision.proposal.topic ≡ None =
+          unknown_too (known_at known d.decision.proposal.topic) (known_at w.decided d.decision.proposal.topic) (λ held e. h.held r d.decision.proposal.topic held s.inside e) starves.starves.unknown in
+          let own : IsDecided (player_at w r) comm (Some []) known s.after known = record {
+            asked = d.asked;
+            waits = d.waits;
+            on = d.on;
+            answer = d.answer;
+            rank = d.rank;
+            decision = record {
+              topic = d.decision.topic;
+              about = d.decision.about;
+              accepted = d.decision.accepted;
+              proposal = d.decision.proposal;
+              proposed = d.decision.proposed;
+              outcome = inr (record { starves = record { may_grow = inl refl; unknown = unknown }; known_stay = refl; refused = starves.refused; rank_stays = starves.rank_stays });
+            };
+            only = d.only;
+          } in
+          rightly-kept w w' r s.after s.inside (ap (λ (x : World). x.players) t.3 ∙ s.only) (ap (λ (x : World). x.decided) t.3 ∙ starves.known_stay) h (honest-decided (Some []) known known (player_at w r) comm s.after (h.honest r s.inside) s.running own)
     ]
 
 -- ranks that start

@@ -1,6 +1,6 @@
 -- Every schedule keeps what every world keeps.
 use Rattle.std.proofs.Common.{◌≡◌, ℕ, ◌+◌, ◌<◌, List, [], ◌∷◌, ◌++◌, length, take, get_or, refl, inl, inr, Result, Ok, Err, OnOk, OnErr, IfErr, Option, None}
-use Rattle.ulfm_world.proofs.Common.{Context, Decision, Event, Call, Push, Take, Decide, Leave, IsWorld, Player, Step, quiet-called, quiet-left, World, with_players, with_decided, Calls, DecidesShrink, GivesUp, Happens, IsRefused, Applied, Run, Reaches, IsReached, take_more, quiet-decided}
+use Rattle.ulfm_world.proofs.Common.{Context, Decision, Event, Call, Push, Take, Decide, Leave, IsWorld, Player, Step, quiet-called, quiet-left, World, with_players, with_decided, Calls, DecidesStep, GivesUp, Happens, IsRefused, Applied, Run, Reaches, IsReached, take_more, quiet-decided}
 use Rattle.ulfm_world.specs.declared.event.Refused.{Refused}
 use Rattle.ulfm_world.proofs.KeepsCalls.{keeps-quiet, keeps-takes}
 use Rattle.ulfm_world.proofs.KeepsPush.{keeps-pushes}
@@ -11,7 +11,7 @@ keeps-calls w r asked h c = rw c.only (keeps-quiet w r c.after h c.inside (quiet
 keeps-gives_up : (w : World) (r : ℕ) {players : List Player} → IsWorld w → GivesUp w.players r players → IsWorld (with_players w players)
 keeps-gives_up w r h c = rw c.only (keeps-quiet w r c.after h c.inside (quiet-left _ c.after (h.sound r c.inside) c.left))
 
-keeps-settles : (w : World) (r : ℕ) (comm : Context) {players : List Player} (later : List (Option Decision)) → IsWorld w → DecidesShrink w.players w.decided r comm players later → IsWorld (with_decided (with_players w players) later)
+keeps-settles : (w : World) (r : ℕ) (comm : Context) {players : List Player} (later : List (Option Decision)) → IsWorld w → DecidesStep w.players w.decided r comm players later → IsWorld (with_decided (with_players w players) later)
 keeps-settles w r comm later h c =
     rw c.only (decided_else _ later (keeps-quiet w r c.after h c.inside (quiet-decided _ comm None w.decided later c.after (h.sound r c.inside) c.decided)))
   where

@@ -5,7 +5,7 @@ use Rattle.ulfm_world.proofs.Kept.{world_of}
 use Rattle.ulfm_world.proofs.Made.{made-safely}
 use Rattle.ulfm_world.proofs.Read.{flowing-world, rest-world}
 use Rattle.ulfm_world.proofs.Reported.{rest_world}
-use Rattle.ulfm_world.proofs.Shrunk.{shrinks-safely, all-proposed}
+use Rattle.ulfm_world.proofs.Shrunk.{keeps-decisions, all-proposed}
 
 pub settled : {j : Seen} {reports : List Report} → IsJob j → IsReplayed j reports → MadeAtRest j reports
 settled {j} job h =
@@ -19,6 +19,6 @@ settled {j} job h =
         proposed = all-proposed reached h.rests;
         come = rest_world j.ranks j.capacity h.world job.few_ranks h.reaches h.rests;
       });
-      safe = shrinks-safely reached;
+      safe = keeps-decisions reached;
       made = made-safely j.ranks j.capacity h.reaches.0 h.world job.few_ranks h.reaches.1;
     }

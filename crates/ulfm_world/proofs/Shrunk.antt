@@ -1,9 +1,9 @@
--- What every world keeps of shrinks.
+-- What every world keeps of decisions.
 use Rattle.std.proofs.Common.{◌≡◌, ℕ, ◌∙◌}
 use Rattle.ulfm_laws.proofs.OneGroup.{one_group}
 use Rattle.ulfm_laws.proofs.Proposing.{proposes_each}
 use Rattle.ulfm_world.proofs.Common.{World, IsReached, reports_in, IsWorld, IsAtRest, HasOneGroup, ProposesEach}
-use Rattle.ulfm_world.specs.Safe.{ShrinksSafely}
+use Rattle.ulfm_world.specs.Safe.{KeepsDecisions}
 use Rattle.ulfm_world.proofs.Agreed.{Settled, adopt-one, all_keep}
 use Rattle.ulfm_world.proofs.Decided.{settles-safely, starves-alone}
 use Rattle.ulfm_world.proofs.Kept.{world_of}
@@ -19,8 +19,8 @@ proposes-each {n} w h settled rest = proposes_each w.inboxes (reports_in w) (flo
 settled_of : {w : World} (h : IsReached w) → Settled h.ranks w
 settled_of {w} h = settled-reached h.ranks h.capacity w h.few h.schedule
 
-pub shrinks-safely : {w : World} → IsReached w → ShrinksSafely w
-shrinks-safely {w} h = record {
+pub keeps-decisions : {w : World} → IsReached w → KeepsDecisions w
+keeps-decisions {w} h = record {
   entered = enters-once h.ranks w (settled_of h);
   decided = decides-safely h.ranks w (settled_of h);
   settled = settles-safely w (world_of h) (settled_of h);

@@ -7,7 +7,7 @@ use Rattle.ulfm_world.specs.World.{World, player_at, Reaches, start_world, repor
 use Rattle.ulfm_laws.specs.Lawful.{KnowAtRest}
 use Rattle.ulfm_world.specs.Rest.{IsAtRest}
 use Rattle.ulfm_world.specs.Made.{MadeSafely}
-use Rattle.ulfm_world.specs.Safe.{ShrinksSafely}
+use Rattle.ulfm_world.specs.Safe.{KeepsDecisions}
 
 -- each player answered its script
 abbrev pub AllHaveFinished : Seen → World → Type 0
@@ -28,5 +28,5 @@ pub record IsReplayed (j : Seen) (reports : List Report) : Type 0 where
 pub record MadeAtRest (j : Seen) (reports : List Report) : Type 0 where
   pub replayed : IsReplayed j reports
   pub known : KnowAtRest reports
-  pub safe : ShrinksSafely replayed.world
+  pub safe : KeepsDecisions replayed.world
   pub made : MadeSafely (start_world j.ranks j.capacity) replayed.reaches.0 replayed.world

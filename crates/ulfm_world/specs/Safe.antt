@@ -7,7 +7,6 @@ use Rattle.ulfm_base.specs.declared.error.CallError.TheVariants.{OutOfMemory}
 use Rattle.ulfm_base.specs.declared.contribution.Contribution.{Contribution}
 use Rattle.ulfm_base.specs.declared.entrance.Entrance.{Entrance}
 use Rattle.ulfm_base.specs.declared.topic.Topic.{Topic}
-use Rattle.ulfm_base.specs.Topic.{shrink_topic}
 use Rattle.ulfm_base.specs.Decision.{entry_at}
 use Rattle.ulfm_base.specs.Group.{is_member}
 use Rattle.ulfm_base.specs.RankSet.{has}
@@ -17,7 +16,7 @@ use Rattle.ulfm_rank.specs.Log.{first_given}
 use Rattle.ulfm_rank.specs.Facts.{Knows}
 use Rattle.ulfm_rank.specs.Proposal.{entry_of}
 use Rattle.ulfm_script.specs.declared.answer.StepAnswer.TheVariants.{Refused}
-use Rattle.ulfm_job.specs.declared.step.Step.TheVariants.{Shrink}
+use Rattle.ulfm_job.specs.declared.step.Step.{Step}
 use Rattle.ulfm_script.specs.Player.{step_report}
 use Rattle.ulfm_laws.specs.Reports.{HasAdopted}
 use Rattle.ulfm_laws.specs.Decisions.{AdoptOne, EnterOnce, HasOneGroup}
@@ -69,27 +68,28 @@ pub record IsHeldOf (w : World) (r : ℕ) (d : Decision) : Type 0 where
 abbrev pub AdoptsHeld : World → Type 0
 AdoptsHeld w = (r : ℕ) (d : Decision) → r < length w.players → HasAdopted (report_of (player_at w r)) d → IsHeldOf w r d
 
--- a decision that is held once a rank decided a shrink was safe before: each excluded rank had stopped
+-- a decision that is held once a rank decided was safe before: each excluded rank had stopped
 abbrev pub SettlesSafely : World → Type 0
 SettlesSafely old =
-    (r : ℕ) (comm : Context) (new : World) (d : Decision) → Happens old (Decide r comm) new
-    → decided_at new (shrink_topic comm) ≡ Some d → IsSafe old d
+    (r : ℕ) (comm : Context) (new : World) (topic : Topic) (d : Decision) → Happens old (Decide r comm) new
+    → decided_at new topic ≡ Some d → IsSafe old d
 
--- the rank r refused its shrink of this communicator for this cause, in the step from the one world to the other
-pub record RefusesShrink (old : World) (r : ℕ) (comm : Context) (new : World) (e : CallError) : Type 0 where
+-- the rank r refused its open step for this cause, in the step from the one world to the other
+pub record RefusesDecision (old : World) (r : ℕ) (new : World) (e : CallError) : Type 0 where
+  pub asked : Step
   pub at : ℕ
   pub polls : ℕ
-  pub answer : (player_at new r).done ≡ (player_at old r).done ++ step_report (Shrink comm) (Refused e) at polls ∷ []
+  pub answer : (player_at new r).done ≡ (player_at old r).done ++ step_report asked (Refused e) at polls ∷ []
 
--- a shrink that is decided is refused by out of memory alone
+-- a step that is decided is refused by out of memory alone
 abbrev pub StarvesAlone : World → Type 0
 StarvesAlone old =
     (r : ℕ) (comm : Context) (new : World) (e : CallError) → Happens old (Decide r comm) new
-    → RefusesShrink old r comm new e → e ≡ OutOfMemory
+    → RefusesDecision old r new e → e ≡ OutOfMemory
 
 -- What decisions keep: each rank enters once, decisions are safe and are adopted as they are held, the next one too, and there
 -- is one decision on each topic, and one group for each context. Out of memory alone keeps a rank from adopting.
-pub record ShrinksSafely (w : World) : Type 0 where
+pub record KeepsDecisions (w : World) : Type 0 where
   pub entered : EntersOnce w
   pub decided : DecidesSafely w
   pub settled : SettlesSafely w

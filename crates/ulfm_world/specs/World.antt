@@ -19,8 +19,7 @@ use Rattle.ulfm_world.specs.declared.event.Outcome.TheVariants.{Answered, NotYet
 use Rattle.ulfm_world.specs.declared.event.Refused.{Refused}
 use Rattle.ulfm_world.specs.declared.event.Refused.TheVariants.{NothingToPush, InboxFull, InboxEmpty, NotReady, Stopped, OutOfMemory, NoSuchRank}
 
--- The players, an inbox for each with the senders of its items, the room of an inbox, and by the number of a context the
--- decision of its shrink, if it is decided.
+-- The players, an inbox for each with the senders of its items, the room of an inbox, and by the cells of topics what is decided.
 pub record World : Type 0 where
   pub players : List Player
   pub inboxes : List (List (WorldRank × Item))
@@ -89,9 +88,9 @@ pub record Calls (old : List Player) (r : ℕ) (step : Step) (new : List Player)
   pub called : IsCalled (player_in old r) step after
   pub only : new ≡ slice_set old r after
 
--- The open shrink of a communicator by the player r, which has a proposal, is decided, and answered: the proposal is the
--- decision where there was none.
-pub record DecidesShrink (old : List Player) (known : List (Option Decision)) (r : ℕ) (comm : Context)
+-- The open shrink of a communicator by the player r, or its open agreement on it, has a proposal, is decided, and answered: the
+-- proposal is the decision where there was none.
+pub record DecidesStep (old : List Player) (known : List (Option Decision)) (r : ℕ) (comm : Context)
     (new : List Player) (later : List (Option Decision)) : Type 0 where
   pub inside : r < length old
   pub running : is_stopped (player_in old r).rank.log ≡ false
@@ -135,7 +134,7 @@ Happens old (Call r step) new = (players : List Player) × Calls old.players r s
 Happens old (Push s d) new = Pushes old s d new
 Happens old (Take r) new = Takes old r new
 Happens old (Decide r comm) new =
-    (players : List Player) × (later : List (Option Decision)) × DecidesShrink old.players old.decided r comm players later
+    (players : List Player) × (later : List (Option Decision)) × DecidesStep old.players old.decided r comm players later
     × (new ≡ with_decided (with_players old players) later)
 Happens old (Leave r) new = (players : List Player) × GivesUp old.players r players × (new ≡ with_players old players)
 

@@ -117,41 +117,41 @@ pub fn reports_are_faithful()
     ensures replays { InEachReplay IsFaithful }
 {}
 
-/// Whatever events come, a rank enters the shrink of a communicator once, with the failures that it knows then: two entries
-/// of one context are one (ULFM, shrink).
+/// Whatever events come, a rank enters the shrink of a communicator once, and each agreement on it, with the failures that it
+/// knows then: two entrances into one topic are one (ULFM, shrink and agree).
 pub fn entered_once()
     ensures { (n capacity : ℕ) (w : World) → n ≤ 8 → Reaches (start_world n capacity) w → EntersOnce w }
 {}
 
-/// Whatever events come, each decision of a shrink lists its ranks with the failures of their own entries, excludes ranks
-/// alone that have stopped, and excludes each member whose failure a member of the new group knew at its entry (ULFM, shrink).
+/// Whatever events come, each decision lists its ranks with what their own entrances brought, excludes ranks alone that have
+/// stopped, and excludes each member whose failure a member of the new group knew at its entrance (ULFM, shrink and agree).
 pub fn decided_safely()
     ensures { (n capacity : ℕ) (w : World) → n ≤ 8 → Reaches (start_world n capacity) w → DecidesSafely w }
 {}
 
-/// Whatever events come, a decision of a shrink was as safe before it was made: each excluded rank had stopped (ULFM, shrink).
+/// Whatever events come, a decision was as safe before it was made: each excluded rank had stopped (ULFM, shrink and agree).
 pub fn settled_safely()
     ensures { (n capacity : ℕ) (w : World) → n ≤ 8 → Reaches (start_world n capacity) w → SettlesSafely w }
 {}
 
 /// Whatever events come, each decision that is held was made by one of them, and each rank that it excludes had stopped before
-/// that event (ULFM, shrink).
+/// that event (ULFM, shrink and agree).
 pub fn made_safely()
     ensures { (n capacity : ℕ) (events : List Event) (w : World) → n ≤ 8 → Run (start_world n capacity) events w → MadeSafely (start_world n capacity) events w }
 {}
 
 /// Whatever events come, a rank that adopted a decision is in its new group, and it is the one that the board holds (ULFM,
-/// shrink).
+/// shrink and agree).
 pub fn adopted_as_held()
     ensures { (n capacity : ℕ) (w : World) → n ≤ 8 → Reaches (start_world n capacity) w → AdoptsHeld w }
 {}
 
-/// Whatever events come, a shrink that is decided is refused by out of memory alone (ULFM, shrink).
+/// Whatever events come, a shrink or an agreement that is decided is refused by out of memory alone (ULFM, shrink and agree).
 pub fn adoption_starves_alone()
     ensures { (n capacity : ℕ) (w : World) → n ≤ 8 → Reaches (start_world n capacity) w → StarvesAlone w }
 {}
 
-/// Whatever events come, decisions that ranks adopted for one context are equal (ULFM, shrink).
+/// Whatever events come, decisions that ranks adopted on one topic are equal (ULFM, shrink and agree).
 pub fn one_decision()
     ensures { (n capacity : ℕ) (w : World) → n ≤ 8 → Reaches (start_world n capacity) w → AdoptOne (reports_in w) }
 {}
@@ -161,8 +161,8 @@ pub fn one_group()
     ensures { (n capacity : ℕ) (w : World) → n ≤ 8 → Reaches (start_world n capacity) w → HasOneGroup (reports_in w) }
 {}
 
-/// Whatever events come, at rest, where all running members of a communicator entered its shrink, each of them has a
-/// proposal (ULFM, shrink).
+/// Whatever events come, at rest, where all running members of a communicator entered its shrink, or one agreement on it, each
+/// of them has a proposal there (ULFM, shrink and agree).
 pub fn proposed_at_rest()
     ensures { (n capacity : ℕ) (w : World) → n ≤ 8 → Reaches (start_world n capacity) w → IsAtRest w → ProposesEach (reports_in w) }
 {}

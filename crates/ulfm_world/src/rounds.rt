@@ -3,7 +3,7 @@ ghost use Rattle.std.specs.Prelude.{◌≡◌, ◌<◌, ◌≤◌, ℕ, List, le
 ghost use Rattle.ulfm_base.specs.declared.context.Context.{Context};
 ghost use Rattle.ulfm_script.specs.Deciding.{IsReadyToDecide};
 ghost use Rattle.ulfm_script.specs.inside.SoFar.{IsUndecided};
-ghost use Rattle.ulfm_job.specs.Job.{script_at};
+ghost use Rattle.ulfm_job.specs.Job.{script_at, decides_on};
 ghost use Rattle.ulfm_world.specs.World.{IsRunning, player_at, inbox_at};
 ghost use Rattle.ulfm_laws.specs.Lawful.{IsLawful};
 ghost use Rattle.ulfm_world.specs.inside.Rounds.{Moves, Follows, IsPushStuck, IsStuck};
@@ -16,7 +16,7 @@ use ulfm_script::{Hands, Job, RankReport, RunFault, Step, turn};
 
 /// The job, round by round. One inbox holds `capacity` items for each rank. In a round the ranks come upwards, and each
 /// pushes to each destination upwards, itself too, while its outbox isn't empty and the inbox has room; then, where it
-/// runs, it takes one item and polls its next step once, which decides an open shrink that has a proposal. A step that
+/// runs, it takes one item and polls its next step once, which decides an open shrink or agreement that has a proposal. A step that
 /// its last poll left open is given up. The rounds end after the first one in which nothing was pushed, taken or polled.
 ///
 /// No clause tells of this order of events. The reports are those of some schedule that ends at rest. They are lawful, and at
@@ -155,7 +155,7 @@ fn turn_of(job: &Job, rounds: &mut Rounds<'_>, r: u8) -> Result<bool, RunFault>
     Ok(moved)
 }
 
-/// One poll of the step that comes next, if there is one: an open shrink that has a proposal is decided.
+/// One poll of the step that comes next, if there is one: an open shrink or agreement that has a proposal is decided.
 fn poll(job: &Job, world: &mut World, r: u8) -> Result<bool, RunFault>
     requires inside { r < length world.old.players }
     requires scripts { job.now.ranks ≡ length world.old.players }
@@ -176,19 +176,19 @@ fn poll(job: &Job, world: &mut World, r: u8) -> Result<bool, RunFault>
     Ok(true)
 }
 
-/// The decision of a step that is an open shrink and has a proposal.
+/// The decision of a step that stands open and has a proposal: a shrink or an agreement.
 fn decide(job: &Job, world: &mut World, r: u8, step: &Step) -> bool
     requires inside { r < length world.old.players }
     requires running { IsRunning world.old r }
     requires follows { Follows job.now world.old }
     ensures moves { Moves job.now world.old world.new result }
-    ensures undecided { result ≡ false → (comm : Context) → step.now ≡ Step.Shrink comm → ¬ IsReadyToDecide (player_at world.old r) comm }
+    ensures undecided { result ≡ false → (comm : Context) → decides_on step.now ≡ Some comm → ¬ IsReadyToDecide (player_at world.old r) comm }
 {
     let _ = job;
-    let Step::Shrink { comm } = step else {
+    let Some(comm) = step.decides_on() else {
         return false;
     };
-    match world.apply(Event::Decide(r, *comm)) {
+    match world.apply(Event::Decide(r, comm)) {
         Ok(_) => true,
         Err(Refused::NotReady) => false,
         Err(_) => unreachable!(),

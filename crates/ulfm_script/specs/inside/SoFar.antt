@@ -1,6 +1,5 @@
 -- A player whose answers are right so far.
-use Rattle.std.specs.Prelude.{◌≡◌, ℕ, true, List, [], ◌++◌, ◌<◌, ◌≤◌, length, All, Option, Some, None}
-use Rattle.ulfm_base.specs.Topic.{shrink_topic}
+use Rattle.std.specs.Prelude.{◌≡◌, ℕ, Bool, true, false, List, [], ◌++◌, ◌<◌, ◌≤◌, length, All, Option, Some, None}
 use Rattle.ulfm_base.specs.declared.topic.Topic.{Topic}
 use Rattle.ulfm_base.specs.declared.context.Context.{Context}
 use Rattle.ulfm_base.specs.declared.decision.Decision.{Decision}
@@ -11,15 +10,18 @@ use Rattle.ulfm_rank.specs.State.{State}
 use Rattle.ulfm_script.specs.declared.answer.StepAnswer.TheVariants.{Unfinished}
 use Rattle.ulfm_script.specs.declared.answer.StepReport.{StepReport}
 use Rattle.ulfm_job.specs.declared.step.Step.{Step}
-use Rattle.ulfm_job.specs.declared.step.Step.TheVariants.{Shrink}
 use Rattle.ulfm_script.specs.Deciding.{Known, IsReadyToDecide}
-use Rattle.ulfm_script.specs.Player.{Player, step_report}
+use Rattle.ulfm_script.specs.Player.{Player, is_joint, step_report}
 use Rattle.ulfm_script.specs.Answered.{IsTook, OnlyTook, EntersBetween, AnswerFollows, EachAnswerFollows, EndsAtStop}
 
--- what the log of a rank has since its last answered step, while this step stands open: an open shrink was entered
+-- from one place of its log to its end the rank took items, and entered a topic where ranks decide the step together
+abbrev pub EntersSince : Bool → State → Step → ℕ → Type 0
+EntersSince true rank asked from = (topic : Topic) × EntersBetween rank asked topic from (length rank.log)
+EntersSince false rank asked from = OnlyTook rank.log from (length rank.log)
+
+-- what the log of a rank has since its last answered step, while this step stands open
 abbrev pub Since : State → ℕ → Step → Type 0
-Since rank from (Shrink comm) = EntersBetween rank comm from (length rank.log)
-Since rank from _ = OnlyTook rank.log from (length rank.log)
+Since rank from asked = EntersSince (is_joint asked) rank asked from
 
 -- A step stands open: its last poll left it so, and the rank only took since then.
 pub record StandsOpen (known : Known) (rank : State) (before : List StepReport) (from : ℕ) (asked : Step)
@@ -42,15 +44,15 @@ pub record AnswersFollowSoFar (known : Known) (p : Player) : Type 0 where
   pub stands : Stands known p.rank p.done place p.current p.at p.polls
   pub stop : is_stopped p.rank.log ≡ true → EndsAtStop p.rank.log
 
--- no open shrink has a proposal
+-- no open step that ranks decide together has a proposal
 abbrev pub IsUndecided : Player → Type 0
 IsUndecided p = (comm : Context) → IsReadyToDecide p comm → ⊥
 
--- what is known stays known, and of shrinks that the rank entered and left up to this place nothing more becomes known
+-- what is known stays known, and on topics that steps of the rank entered and left up to this place nothing more becomes known
 pub record Learns (rank : State) (to : ℕ) (old new : Known) : Type 0 where
   pub keeps : (topic : Topic) (d : Decision) → known_at old topic ≡ Some d → known_at new topic ≡ Some d
-  pub same : (comm : Context) (from at : ℕ) → EntersBetween rank comm from at → at ≤ to
-      → known_at new (shrink_topic comm) ≡ known_at old (shrink_topic comm)
+  pub same : (asked : Step) (topic : Topic) (from at : ℕ) → EntersBetween rank asked topic from at → at ≤ to
+      → known_at new topic ≡ known_at old topic
 
 -- the log has more entries, all taken, and none after a stop
 pub record OnlyTakes (old new : List Entry) : Type 0 where

@@ -1,5 +1,6 @@
 use Rattle.std.proofs.Common.{arith, ap, sym, ◌∙◌, subst, length, slice_get}
 use Rattle.ulfm_run.proofs.Common.{FollowsSoFar, is_stopped, IsState, Player, script_at}
+use Rattle.ulfm_script.specs.inside.SoFar.{AnswersFollowSoFar, IsUndecided}
 use Rattle.ulfm_run.proofs.Polled.{polls-after}
 use Rattle.ulfm_run.proofs.polling.poll.Goals as goal
 
@@ -14,3 +15,10 @@ call-requires g c = record {
 
 pub returns-clause-polls : goal.returns-clause-polls
 returns-clause-polls g c = polls-after c.args.player.now (c.decide.ensures.unchanged c.if-decide.false) c.decide.ensures.room c.call.ensures.polls
+
+pub returns-clause-honest : goal.returns-clause-honest
+returns-clause-honest g c h =
+    let same = c.decide.ensures.unchanged c.if-decide.false in
+    c.call.ensures.honest (g.D.Decider.known c.decide.new.decider)
+    (subst (AnswersFollowSoFar (g.D.Decider.known c.decide.new.decider)) (sym same) (subst (λ known. AnswersFollowSoFar known c.args.player.now.player) (sym (c.decide.ensures.known_stay c.if-decide.false)) h))
+    (subst IsUndecided (sym same) (c.decide.ensures.undecided c.if-decide.false))

@@ -1,5 +1,6 @@
 use Rattle.std.proofs.Common.{◌≡◌, length, Bool, Some, refl, ap, sym, subst, ◌∙◌, arith, slice_get}
-use Rattle.ulfm_world.proofs.Common.{script_at, World, player_at, IsRunning, Shrink, Moves, next_open, IsUndecided}
+use Rattle.ulfm_world.proofs.Common.{script_at, World, player_at, IsRunning, Moves, next_open, IsUndecided}
+use Rattle.ulfm_job.specs.Job.{decides_on}
 use Rattle.ulfm_world.proofs.Moves.{moves-on}
 use Rattle.ulfm_world.proofs.rounds.poll.Goals as goal
 
@@ -19,5 +20,5 @@ call-requires c =
       follows = c.decide.ensures.moves.follows c.requires.follows;
       next = subst N (sym same) next;
       undecided = subst (λ (w : World). IsUndecided (player_at w c.args.r)) (sym same) (λ comm ready. c.decide.ensures.undecided c.if-decide.false comm
-          (next_open (script_at c.args.job.now c.args.r) c.args.job.now.turns (player_at c.args.world.now c.args.r) c.in-Some.step (Shrink comm) (c.requires.follows c.args.r c.requires.inside) next ready.waits) ready);
+          (ap decides_on (next_open (script_at c.args.job.now c.args.r) c.args.job.now.turns (player_at c.args.world.now c.args.r) c.in-Some.step ready.asked (c.requires.follows c.args.r c.requires.inside) next ready.waits) ∙ ready.on) ready);
     }

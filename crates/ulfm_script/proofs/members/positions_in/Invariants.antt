@@ -1,6 +1,6 @@
 use Rattle.std.proofs.Common.{◌≡◌, ◌≤◌, ℕ, take, length, filter_map}
 use Rattle.ulfm_script.proofs.Common.{rank_in}
-use Rattle.ulfm_script.proofs.poll.positions_in.Given as goal
+use Rattle.ulfm_script.proofs.members.positions_in.Given as goal
 
 abbrev pub invariant-loop-k : goal.invariant-loop-k
 invariant-loop-k l = record {

@@ -1,7 +1,7 @@
 use Rattle.std.proofs.Common.{◌≡◌, ℕ, ◌∙◌, ap, sym, None, List}
 use Rattle.ulfm_script.proofs.Common.{rank_in, shrink_topic, State}
 use Rattle.ulfm_script.proofs.Adopting.{member_found, adopter_is_member}
-use Rattle.ulfm_script.proofs.shrinking.adopt.Goals as goal
+use Rattle.ulfm_script.proofs.joint.adopt_shrink.Goals as goal
 
 pub unreachable-requires : goal.unreachable-requires
 unreachable-requires c =
