@@ -4,7 +4,7 @@ use crate::deciding::Decision;
 use crate::items::Answer;
 use crate::job::{Context, Place};
 use crate::rank::Rank;
-use crate::topics::Round;
+use crate::topics::{Round, Topic};
 
 impl Decision {
     /// The bits that the flags of all listed members have in common, also of those that are excluded.
@@ -24,6 +24,12 @@ impl Rank {
     /// How many agreements on a communicator were adopted here.
     pub fn agreed_on(&self, comm: Context) -> Round {
         self.agreed.get(&comm).copied().unwrap_or(0)
+    }
+
+    /// The agreement on a communicator that the next step there enters, or that was entered and not adopted. None is entered
+    /// before the last one was adopted, so as many were entered before it as were adopted.
+    pub fn agreement_on(&self, comm: Context) -> Topic {
+        Topic::agreement(comm, self.agreed_on(comm))
     }
 
     /// Takes the value over. The next agreement on the communicator may be entered from now on.

@@ -3,6 +3,7 @@
 use crate::items::Item;
 use crate::job::{Context, Job, Place, Step};
 use crate::rank::{Fate, Source};
+use crate::topics::{Purpose, Topic};
 use crate::world::World;
 
 impl World {
@@ -63,6 +64,16 @@ impl World {
             *fate == Fate::Waiting && pattern.context == context && matches!(pattern.source, Source::Any(_))
         });
         waits || self.steps_ahead(job, rank).iter().any(|step| step.asks_any(context))
+    }
+
+    /// Whether a rank may still enter an agreement, or ask what was decided there. It is that of the next step that agrees on
+    /// the communicator, or one of those behind. About shrinks this says nothing: their entries are asked for again and again.
+    pub fn may_ask_about(&self, job: &Job, rank: usize, topic: Topic) -> bool {
+        let Purpose::Agree(round) = topic.purpose else { return true };
+        let is_one = |step: &&Step| matches!(step, Step::Agree { comm, .. } if *comm == topic.context);
+        let ahead = self.steps_ahead(job, rank).iter().filter(is_one).count();
+        let next = self.ranks[rank].agreed_on(topic.context);
+        (next as usize..next as usize + ahead).contains(&(round as usize))
     }
 
     /// Whether a rank may still cancel a receive.

@@ -4,6 +4,7 @@ use crate::deciding::Decisions;
 use crate::items::{Answer, Item, Refusal};
 use crate::job::{Job, Place, Step};
 use crate::rank::Rank;
+use crate::topics::Topic;
 
 /// What a poll does to its step.
 #[derive(Clone, Debug, PartialEq, Eq, Hash)]
@@ -21,7 +22,7 @@ impl Rank {
         let poll = match step {
             Step::Wait { req } => self.wait(job, req).map_or(Poll::Open, Poll::Answered),
             Step::Probe { .. } => self.probe(job, step).map_or(Poll::Open, Poll::Answered),
-            Step::Shrink { comm } => self.poll_topic(self.shrink_of(comm), None, decisions),
+            Step::Shrink { comm } => self.poll_topic(Topic::shrink(comm), None, decisions),
             Step::Agree { flag, comm } => self.poll_topic(self.agreement_on(comm), Some(flag), decisions),
             _ => Poll::Answered(self.call(job, step).unwrap_or_else(Answer::Refused)),
         };
@@ -30,6 +31,17 @@ impl Rank {
             self.answered += 1;
         }
         poll
+    }
+
+    /// One poll of a shrink or an agreement. The first one enters, and the later ones ask for the decision.
+    fn poll_topic(&mut self, topic: Topic, flag: Option<u32>, decisions: &mut Decisions) -> Poll {
+        if self.is_open {
+            return self.decide(topic, decisions).map_or(Poll::Open, Poll::Answered);
+        }
+        match self.enter(topic, flag) {
+            Ok(()) => Poll::Entered,
+            Err(refusal) => Poll::Answered(Answer::Refused(refusal)),
+        }
     }
 
     /// A call that its first poll answers.
@@ -44,7 +56,7 @@ impl Rank {
             Step::Revoke { comm } => self.revoke(comm),
             Step::Dup { comm } => self.dup(comm),
             Step::Stop => Ok(self.stop()),
-            Step::Wait { .. } | Step::Probe { .. } | Step::Shrink { .. } => unreachable!(),
+            Step::Wait { .. } | Step::Probe { .. } | Step::Shrink { .. } | Step::Agree { .. } => unreachable!(),
         }
     }
 
@@ -54,7 +66,7 @@ impl Rank {
             Item::Letter(letter) => self.take_letter(letter),
             Item::Gone => self.take_notice(source),
             Item::Revoke(context) => self.take_revocation(context),
-            Item::Enter(comm, known) => self.take_entry(source, comm, known),
+            Item::Enter(topic, brought) => self.take_entry(source, topic, brought),
         }
     }
 }

@@ -4,7 +4,7 @@
 use crate::communicators::shrink_of;
 use crate::group::Group;
 use crate::items::{Answer, Item, Refusal};
-use crate::job::{Place, Step};
+use crate::job::Place;
 use crate::rank::Rank;
 use crate::topics::{Contribution, Purpose, Topic};
 use std::collections::BTreeMap;
@@ -22,21 +22,11 @@ pub struct Decision {
 pub type Decisions = BTreeMap<Topic, Decision>;
 
 impl Rank {
-    /// What a shrink or an agreement enters at its first poll, and asks about later: a communicator's shrink, or the first
-    /// agreement there that wasn't adopted here. Each agreement before that one was entered, and no later one.
-    pub fn topic_of(&self, step: Step) -> Option<Topic> {
-        match step {
-            Step::Shrink { comm } => Some(Topic { context: comm, purpose: Purpose::Shrink }),
-            Step::Agree { comm, .. } => Some(Topic { context: comm, purpose: Purpose::Agree(self.agreed_on(comm)) }),
-            _ => None,
-        }
-    }
-
     fn has_entered(&self, topic: Topic) -> bool {
         self.entries.contains_key(&(topic, self.me))
     }
 
-    /// Who is in the communicator of a topic that may be entered. It is refused 1 and 8, and a shrink 9, in this order.
+    /// The group of a topic that may be entered. It is refused 1, 8 and, for a shrink, 9, in this order.
     pub fn may_enter(&self, topic: Topic) -> Result<Group, Refusal> {
         let group = self.group(topic.context)?;
         if self.has_entered(topic) {

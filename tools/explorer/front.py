@@ -52,6 +52,8 @@ def words_of(step):
         return [op, step["req"], step.get("room", 1024)]
     if op == "ack":
         return [op, step["count"], comm]
+    if op == "agree":
+        return [op, step["flag"], comm]
     return [op] if op == "stop" else [op, comm]
 
 

@@ -2,6 +2,7 @@
 
 use crate::group::Group;
 use crate::job::{Body, Context, Place};
+use crate::topics::{Contribution, Topic};
 
 /// An envelope and a body (MPI 4.0, 3.2.3). The source is a rank of the world.
 #[derive(Clone, Copy, Debug, PartialEq, Eq, Hash)]
@@ -20,8 +21,8 @@ pub enum Item {
     Gone,
     /// The context was revoked.
     Revoke(Context),
-    /// The sender entered the shrink of the context, with these failures.
-    Enter(Context, Group),
+    /// The sender entered a shrink or an agreement, and brought this.
+    Enter(Topic, Contribution),
 }
 
 /// Why a call is refused, or a receive is over.
@@ -58,6 +59,8 @@ pub enum Answer {
     Made(Context),
     /// The new context, its group, and this rank's position there.
     Shrunk(Context, Group, Place),
+    /// The value, and the positions of the members that aren't listed.
+    Agreed(u32, Vec<Place>),
     Stopped,
     Refused(Refusal),
 }

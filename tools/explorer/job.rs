@@ -28,6 +28,7 @@ pub enum Step {
     Revoke { comm: Context },
     Dup { comm: Context },
     Shrink { comm: Context },
+    Agree { flag: u32, comm: Context },
     Stop,
 }
 
@@ -91,6 +92,7 @@ impl Job {
             "revoke" => Step::Revoke { comm: context(words)? },
             "dup" => Step::Dup { comm: context(words)? },
             "shrink" => Step::Shrink { comm: context(words)? },
+            "agree" => Step::Agree { flag: number(words)?, comm: context(words)? },
             "stop" => Step::Stop,
             _ => return None,
         })

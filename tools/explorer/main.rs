@@ -3,10 +3,12 @@
 //!
 //!     explorer [--carrier lanes|shared] [--reduce NAMES] [--limit N] [--capacity N] [--count]
 
+mod agree;
 mod ahead;
 mod calls;
 mod carriers;
 mod communicators;
+mod deciding;
 mod failures;
 mod first;
 mod group;
@@ -22,6 +24,7 @@ mod reductions;
 mod revocation;
 mod search;
 mod shrink;
+mod topics;
 mod words;
 mod world;
 

@@ -3,6 +3,7 @@
 use crate::group::Group;
 use crate::items::{Item, Letter, Refusal};
 use crate::job::{Context, Place};
+use crate::topics::{Contribution, Round, Topic};
 use std::collections::{BTreeMap, VecDeque};
 use std::hash::{DefaultHasher, Hash, Hasher};
 
@@ -37,7 +38,7 @@ pub struct Rank {
     pub me: Place,
     /// How many of its steps are answered.
     pub answered: usize,
-    /// Whether the next step is a shrink that was entered.
+    /// Whether the next step is a shrink or an agreement that was entered.
     pub is_open: bool,
     pub stopped: bool,
     /// The communicators that were made here.
@@ -54,8 +55,10 @@ pub struct Rank {
     pub messages: BTreeMap<u16, (Pattern, Letter)>,
     /// The letters that came before a receive that admits them, in the order in which they came.
     pub kept: Vec<Letter>,
-    /// The entries into shrinks that are known here, by context and rank, the rank's own too.
-    pub entries: BTreeMap<(Context, Place), Group>,
+    /// The entries into shrinks and agreements that are known here, by topic and rank, the rank's own too.
+    pub entries: BTreeMap<(Topic, Place), Contribution>,
+    /// How many agreements on a communicator were adopted, where some were.
+    pub agreed: BTreeMap<Context, Round>,
     /// What the rank owes to each rank and hasn't pushed.
     pub outboxes: Vec<VecDeque<Item>>,
     /// What the rank did and took, in order. It stays 0 where states are told apart by what they hold.
@@ -78,6 +81,7 @@ impl Rank {
             messages: BTreeMap::new(),
             kept: vec![],
             entries: BTreeMap::new(),
+            agreed: BTreeMap::new(),
             outboxes: vec![VecDeque::new(); ranks],
             log: 0,
         }
@@ -106,5 +110,6 @@ impl Rank {
         self.messages.clear();
         self.kept.clear();
         self.entries.clear();
+        self.agreed.clear();
     }
 }

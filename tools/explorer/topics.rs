@@ -20,6 +20,16 @@ pub struct Topic {
     pub purpose: Purpose,
 }
 
+impl Topic {
+    pub fn shrink(context: Context) -> Topic {
+        Topic { context, purpose: Purpose::Shrink }
+    }
+
+    pub fn agreement(context: Context, round: Round) -> Topic {
+        Topic { context, purpose: Purpose::Agree(round) }
+    }
+}
+
 /// What a rank brings into a decision.
 #[derive(Clone, Copy, Debug, PartialEq, Eq, Hash)]
 pub struct Contribution {

@@ -19,6 +19,7 @@ pub fn step_words(step: &Step) -> String {
         Step::Revoke { comm } => format!("revoke comm {comm}"),
         Step::Dup { comm } => format!("dup comm {comm}"),
         Step::Shrink { comm } => format!("shrink comm {comm}"),
+        Step::Agree { flag, comm } => format!("agree {flag} comm {comm}"),
         Step::Stop => "stop".to_string(),
     }
 }
@@ -44,6 +45,7 @@ pub fn answer_words(job: &Job, answer: &Answer) -> String {
         Answer::Shrunk(context, group, me) => {
             format!("comm {context} ranks [{}] me {me}", parted(group.members()))
         }
+        Answer::Agreed(value, left_out) => format!("agreed {value} without [{}]", parted(left_out.iter())),
         Answer::Stopped => "stopped".to_string(),
         Answer::Refused(refusal) => format!("refused {}", refusal_words(*refusal)),
     }

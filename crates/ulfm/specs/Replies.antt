@@ -24,8 +24,8 @@ use Rattle.ulfm_replies.specs.Unfinished.{has_unfinished, played_status}
 use Rattle.ulfm_replies.specs.declared.failure.Failure.TheVariants as run
 
 -- The status and the text that `replay` gives for these bytes: with 0 the trace of the reports of a replay of the job, which are lawful for it, and whose running
--- ranks agree at its end on what failed and was revoked, and on each shrink. With `--strict` it comes with 6 exactly where a
--- step was left unfinished.
+-- ranks agree at its end on what failed and was revoked, on each shrink and on each agreement. With `--strict` it comes with 6
+-- exactly where a step was left unfinished.
 pub data IsReplayReply (is_strict : Bool) (bytes : List ℕ) : ℕ → List ℕ → Type 0 where
   traced : (job : Seen) (reports : List Report) → job_of_bytes bytes ≡ Ok (plan_of job) → IsReplayed job reports
       → IsLawful job reports → MadeAtRest job reports

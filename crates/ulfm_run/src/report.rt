@@ -12,6 +12,6 @@ pub struct Report<E, D> {
     pub residue: Residue,
     /// The ends of the carrier, which show what was pushed and taken.
     pub ends: Vec<E>,
-    /// The deciders, which know the decisions of shrinks.
+    /// The deciders, which know the decisions of shrinks and agreements.
     pub deciders: Vec<D>,
 }

@@ -13,8 +13,9 @@ use ulfm_carrier::Residue;
 use ulfm_script::RankReport;
 
 /// Whether nothing waits for any rank that goes on running: its inbox is empty, and so is each outbox towards it, also that
-/// of a rank that stopped. Of a report of `run_job` each such rank then knows each rank that stopped, all agree which
-/// contexts are revoked, and where all those of a communicator entered its shrink, each of them has a proposal.
+/// of a rank that stopped. Of a report of `run_job` each such rank then knows each rank that stopped, and all agree which
+/// contexts are revoked. Where all those of a communicator entered its shrink, or one agreement on it, each of them has a
+/// proposal there.
 pub fn at_rest<E, D>(report: &Report<E, D>) -> bool
     ensures { IsTrue result ↔ IsAtRest (contents report.now.residue.inboxes.items) report.now.ranks.items }
 {
