@@ -1,8 +1,9 @@
-"""Made-up jobs: small ones, with what schedules can turn: stops, full inboxes, revocations, shrinks, receives and probes from any
-source, cancels, duplicates and acknowledgements."""
+"""Made-up jobs: small ones, with what schedules can turn: stops, full inboxes, revocations, shrinks, agreements, receives and probes
+from any source, cancels, duplicates and acknowledgements."""
 
 MOST_STEPS = 12
 TURNS = 2000
+FLAGS = [0, 3, 5, 6, 7, 12, 4294967295]
 
 
 def job_text(ranks, capacity, steps):
@@ -60,6 +61,26 @@ CHOSEN = [
     ("probed_or_not", job_text(3, 1, [
         (0, "send", {"to": 1, "tag": 0, "body": "a"}), (0, "stop", {}), (1, "probe", {"from": 0}), (2, "revoke", {}),
     ]), "1 0 probe 0 tag any comm 0", *["found from 0 tag 0 length 1 | refused 5 ProcFailed | refused 6 Revoked"] * 2),
+    # All flags count, and no schedule makes a difference.
+    ("agreed_by_all", job_text(3, 1, [
+        (0, "agree", {"flag": 6}), (0, "shrink", {}), (1, "agree", {"flag": 3}), (1, "shrink", {}),
+        (2, "agree", {"flag": 7}), (2, "shrink", {}),
+    ]), "0 0 agree 6 comm 0", *["agreed 2 without []"] * 2),
+    # Who stopped before it entered is missing. A revocation is nothing to an agreement.
+    ("agreed_without_one", job_text(3, 1, [
+        (0, "agree", {"flag": 12}), (1, "stop", {}), (2, "revoke", {}), (2, "agree", {"flag": 10}),
+    ]), "0 0 agree 12 comm 0", *["agreed 8 without [1]"] * 2),
+    # Who stopped between two agreements counts in the first alone.
+    ("agreed_once_more", job_text(3, 1, [
+        (0, "agree", {"flag": 7}), (0, "agree", {"flag": 12}), (1, "agree", {"flag": 2}), (1, "stop", {}),
+        (2, "agree", {"flag": 3}), (2, "agree", {"flag": 6}),
+    ]), "0 1 agree 12 comm 0", *["agreed 4 without [1]"] * 2),
+    # Rank 1 enters where its duplicate was made before the revocation came; else it is missing.
+    ("entered_or_not", job_text(3, 1, [
+        (0, "dup", {}), (0, "agree", {"flag": 12, "comm": 1}),
+        (1, "dup", {}), (1, "agree", {"flag": 6, "comm": 1}), (1, "stop", {}),
+        (2, "dup", {}), (2, "revoke", {}), (2, "agree", {"flag": 14, "comm": 1}), (2, "stop", {}),
+    ]), "0 1 agree 12 comm 1", *["agreed 12 without [1] | agreed 4 without [] | refused 1 NoComm"] * 2),
 ]
 
 
@@ -160,6 +181,23 @@ class Maker:
                 self.add(rank, "shrink", comm=comm)
                 self.comms[rank].append(2 * comm + 2)
 
+    def agree(self):
+        """An agreement by all or by some, now and then on what was revoked just before, and another one on the same communicator,
+        before which a rank may stop."""
+        comm = self.comm(self.rank())
+        if self.chance.random() < 0.2:
+            self.add(self.rank(), "revoke", comm=comm)
+        self.agree_by_some(comm)
+        if self.chance.random() < 0.3:
+            if self.chance.random() < 0.4:
+                self.add(self.rank(), "stop")
+            self.agree_by_some(comm)
+
+    def agree_by_some(self, comm):
+        for rank in range(self.ranks):
+            if self.chance.random() < 0.9:
+                self.add(rank, "agree", flag=self.chance.choice(FLAGS), comm=comm)
+
     def dup(self):
         comm = self.comm(self.rank())
         for rank in range(self.ranks):
@@ -186,7 +224,7 @@ class Maker:
     def piece(self):
         """One more piece of the job."""
         pieces = [
-            (8, self.letter), (3, self.send), (3, self.receive), (2, self.wait_again), (3, self.shrink), (1, self.dup),
+            (8, self.letter), (3, self.send), (3, self.receive), (2, self.wait_again), (3, self.shrink), (3, self.agree), (1, self.dup),
             (2, lambda: self.of_comm("revoke")), (1, lambda: self.of_comm("failed")),
             (2, lambda: self.of_comm("ack", count=self.chance.randrange(1, 3))), (3, lambda: self.add(self.rank(), "stop")),
             (4, self.late_letter), (4, self.probe), (3, self.cancel),
