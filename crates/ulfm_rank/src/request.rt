@@ -6,7 +6,7 @@ ghost use Rattle.ulfm_rank.specs.inside.Table.{is_found};
 use ulfm_base::{Context, Letter, Pattern, WorldRank};
 
 /// What became of a receive, or the letter of a message that a probe found.
-#[derive(Clone, Copy)]
+#[derive(Drop)]
 pub(crate) enum Fate {
     Waiting,
     Paired(Letter),
@@ -16,7 +16,7 @@ pub(crate) enum Fate {
 }
 
 /// A receive or a message that isn't released.
-#[derive(Clone, Copy)]
+#[derive(Drop)]
 pub(crate) struct Request {
     pub(crate) pattern: Pattern,
     pub(crate) fate: Fate,
@@ -37,7 +37,8 @@ pub(crate) fn fate_of(letter: Option<Letter>, gone: bool) -> Fate
     }
 }
 
-fn is_waiting(fate: &Fate) -> bool
+/// Whether it is a receive that waits.
+pub(crate) fn is_waiting(fate: &Fate) -> bool
     ensures { result ≡ is_waiting fate.now }
 {
     matches!(fate, Fate::Waiting)
@@ -64,27 +65,19 @@ pub(crate) fn given_room(message: Request, room: u16) -> Request
 }
 
 /// What becomes of a request when a rank fails.
-pub(crate) fn over_named(request: Request, rank: WorldRank) -> Request
-    ensures { result ≡ over_named rank.number request }
+pub(crate) fn over_named(request: &mut Request, rank: WorldRank)
+    ensures { request.new ≡ over_named rank.number request.old }
 {
     if is_waiting(&request.fate) && request.pattern.source.names(rank) {
-        return Request {
-            pattern: request.pattern,
-            fate: Fate::Failed,
-        };
+        request.fate = Fate::Failed;
     }
-    request
 }
 
 /// What becomes of a request when a context is revoked.
-pub(crate) fn over_context(request: Request, context: Context) -> Request
-    ensures { result ≡ over_context context.number request }
+pub(crate) fn over_context(request: &mut Request, context: Context)
+    ensures { request.new ≡ over_context context.number request.old }
 {
     if is_waiting(&request.fate) && request.pattern.context.number == context.number {
-        return Request {
-            pattern: request.pattern,
-            fate: Fate::Cleared,
-        };
+        request.fate = Fate::Cleared;
     }
-    request
 }

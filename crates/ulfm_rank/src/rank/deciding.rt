@@ -39,17 +39,18 @@ impl Rank {
         self.log.reserve(self.requests.len() + 2)?;
         self.outboxes.reserve()?;
         let known = self.faults.known();
+        let entrance = Entrance {
+            topic,
+            contribution: Contribution { known, flag },
+        };
         announce(
             &mut self.outboxes,
             self.me.number,
             known,
             members,
-            self.log.len(),
+            entrance,
         );
-        self.log.push_reserved(Entry::Entered(Entrance {
-            topic,
-            contribution: Contribution { known, flag },
-        }));
+        self.log.push_reserved(Entry::Entered(entrance));
         Ok(())
     }
 

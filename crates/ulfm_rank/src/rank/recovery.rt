@@ -101,7 +101,6 @@ impl Rank {
             self.me.number,
             known,
             comm.context,
-            self.log.len(),
         );
         let _ = self.faults.revoke(comm.context);
         clear(&mut self.matcher, &mut self.requests, comm.context);
