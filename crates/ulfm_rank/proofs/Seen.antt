@@ -1,7 +1,8 @@
 -- What contracts see of a rank whose log or outboxes changed.
-use Rattle.std.proofs.Common.{◌≡◌, ◌≢◌, ℕ, zero, suc, ◌+◌, ◌-◌, ◌<◌, ◌≤◌, Bool, true, false, List, [], ◌∷◌, ◌++◌, length, map, set, refl, ap, sym, subst, ◌∙◌, arith, inl, inr, length-set, get_or-set_same, get_or-set_other, Option, Some, None, slice_get, drop, IfSome, IfNone}
+use Rattle.std.proofs.Common.{◌≡◌, ◌≢◌, ℕ, zero, suc, ◌+◌, ◌-◌, ◌<◌, ◌≤◌, Bool, true, false, cond, eqb, List, [], ◌∷◌, ◌++◌, length, map, set, refl, ap, sym, subst, ◌∙◌, arith, inl, inr, length-set, get_or-set_same, get_or-set_other, Option, Some, None, slice_get, drop, IfSome, IfNone}
 use Rattle.std.proofs.lemmas.List.{map-set, length-map}
-use Rattle.ulfm_rank.proofs.Common.{Item, Gone, Entry, is_stopped, owed, cases_eq, Mark, State, logged, with_marks, mark_at, outbox, taken_out, returned, unmarked, marked, GoesOut, slice_get_within, Box, Boxes, empty_box, box_at, mark_of, with_first_out, with_item_back, with_notice_out, HasOutboxes, stop_places, get_or-map}
+use Rattle.ulfm_rank.proofs.Common.{Item, Gone, Entry, is_stopped, owed, cases_eq, Mark, State, logged, with_marks, no_mark, mark_at, outbox, taken_out, returned, unmarked, marked, GoesOut, MayReturn, slice_get_within, Box, Boxes, empty_box, box_at, mark_of, with_first_out, with_item_back, with_notice_out, HasOutboxes, stop_places, get_or-map}
+use Rattle.std.proofs.Math.Seq.{drop-nil}
 use Rattle.ulfm_rank.proofs.States.{leaves-running, leaves-stopped}
 
 abbrev pub seen_of : ℕ → ℕ → List Entry → List Box → State
@@ -62,6 +63,21 @@ module _ {me n : ℕ} {log : List Entry} (boxes : List Box) {r : State} (d : ℕ
     pub left : is_stopped log ≡ false → outbox r d ≡ (box_at boxes d).items
     left running = subst (λ (r : State). outbox r d ≡ drop (box_at boxes d).items_out (owed n me log d)) seen (rw (running, mark_read me n log boxes d) refl) ∙ sym (h.held d inside)
 
+    one_back : is_stopped log ≡ false → (mark_at (returned (seen_of me n log boxes) d) d).items_out ≡ (box_at boxes d).items_out - 1
+    one_back running =
+        let s = seen_of me n log boxes in
+        let here = get_or-set_same s.marks d (unmarked s (mark_at s d)) no_mark (omega (arith, inside, length-map boxes mark_of)) in
+        ap (λ (m : Mark). m.items_out) here ∙ rw running (ap (λ (m : Mark). m.items_out - 1) (mark_read me n log boxes d))
+
+    front : is_stopped log ≡ false → outbox (returned (seen_of me n log boxes) d) d ≡ drop (mark_at (returned (seen_of me n log boxes) d) d).items_out (owed n me log d)
+    front running = ap (λ b. cond b (cond (eqb me d) [] (cond (mark_at (returned (seen_of me n log boxes) d) d).notice_out [] (Gone ∷ []))) (drop (mark_at (returned (seen_of me n log boxes) d) d).items_out (owed n me log d))) running
+
+    -- the item that went out last is the one before those that wait
+    pub outbox_back : is_stopped log ≡ false → {item : Item} → MayReturn r d item → item ∷ (box_at boxes d).items ≡ drop ((box_at boxes d).items_out - 1) (owed n me log d)
+    outbox_back running {item} may =
+        let back = subst (λ (r : State). outbox (returned r d) d ≡ drop ((box_at boxes d).items_out - 1) (owed n me log d)) seen (front running ∙ ap (λ k. drop k (owed n me log d)) (one_back running)) in
+        ap (λ xs. item ∷ xs) (sym (left running)) ∙ sym may.front ∙ back
+
     pub all_out : is_stopped log ≡ false → (box_at boxes d).items ≡ [] → outbox r d ≡ []
     all_out running out = left running ∙ out
 
@@ -70,9 +86,9 @@ module _ {me n : ℕ} {log : List Entry} (boxes : List Box) {r : State} (d : ℕ
 
 drop_one : (owed : List Item) (k : ℕ) → drop 1 (drop k owed) ≡ drop (k + 1) owed
 drop_one [] zero = refl
-drop_one [] (suc k) = refl
+drop_one [] (suc k) = sym (drop-nil (suc k + 1))
 drop_one (x ∷ owed) zero = refl
-drop_one (x ∷ owed) (suc k) = drop_one owed k
+drop_one (x ∷ owed) (suc k) = drop_one owed k ∙ ap (λ j. drop j (x ∷ owed)) (let e : suc (k + 1) ≡ suc k + 1 = omega arith in e)
 
 -- outboxes of which one has another mark
 pub outboxes-marked : {n me : ℕ} {log : List Entry} {boxes : List Box} (d : ℕ) (b : Box) → HasOutboxes n me log boxes → d < length boxes → b.items ≡ drop b.items_out (owed n me log d) → b.items_out ≤ length (owed n me log d) → (is_stopped log ≡ false → b.notice_out ≡ false) → (me ≡ d → b.notice_out ≡ false) → HasOutboxes n me log (set boxes d b)

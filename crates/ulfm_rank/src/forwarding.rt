@@ -54,13 +54,7 @@ pub(crate) fn announce(
 }
 
 /// Puts what a taken item makes its taker owe into the outboxes. `revoked` says whether its context was revoked before.
-pub(crate) fn pass_on(
-    outboxes: &mut Outboxes,
-    me: u8,
-    known: RankSet,
-    revoked: bool,
-    item: &Item,
-)
+pub(crate) fn pass_on(outboxes: &mut Outboxes, me: u8, known: RankSet, revoked: bool, item: &Item)
     requires small { length outboxes.old.boxes < 9 }
     requires room { IsTrue outboxes.old.room }
     ensures { (log : List Entry) → Knows log known → revoked ≡ revoked_before log item.now → AllGrow outboxes.old.boxes outboxes.new.boxes (λ d. owed_by_item me log d item.now) }

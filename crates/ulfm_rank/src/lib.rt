@@ -22,7 +22,7 @@ mod sources;
 mod word;
 
 pub use entry::{Cancel, Comm, Entry, Probed, Status, TestAnswer};
-pub use noted_answer::NotedAnswer;
 pub use law::own_affairs_alone;
 pub use message::MessageId;
+pub use noted_answer::NotedAnswer;
 pub use rank::Rank;

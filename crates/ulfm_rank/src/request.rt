@@ -1,7 +1,8 @@
 //! Receives and messages that aren't released, and what became of them.
 ghost use Rattle.std.specs.Prelude.{◌≡◌};
-ghost use Rattle.ulfm_rank.specs.inside.Requests.{fate_of, given_room, is_waiting, over_named, over_context};
+ghost use Rattle.ulfm_rank.specs.inside.Requests.{fate_of, is_waiting, over_named, over_context};
 ghost use Rattle.ulfm_rank.specs.inside.Table.{is_found};
+ghost use Rattle.ulfm_rank.specs.Messages.{with_room};
 
 use ulfm_base::{Context, Letter, Pattern, WorldRank};
 
@@ -51,17 +52,11 @@ pub(crate) fn is_found(fate: &Fate) -> bool
     matches!(fate, Fate::Found(_))
 }
 
-/// A message that is to be received with room for so many bytes.
-pub(crate) fn given_room(message: Request, room: u16) -> Request
-    ensures { result ≡ given_room room message }
+/// What a receive asks for, with room for so many bytes.
+pub(crate) fn with_room(pattern: &Pattern, room: u16) -> Pattern
+    ensures { result ≡ with_room pattern.now room }
 {
-    Request {
-        pattern: Pattern {
-            room,
-            ..message.pattern
-        },
-        fate: message.fate,
-    }
+    Pattern { room, ..*pattern }
 }
 
 /// What becomes of a request when a rank fails.

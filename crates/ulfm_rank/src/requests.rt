@@ -12,11 +12,7 @@ use ulfm_base::{Context, Item, Letter, Pattern, WorldRank};
 use ulfm_match::{Arrived, Matcher, RequestId};
 
 /// The message of a number where `found`, else the request of it, if it isn't released.
-pub(crate) fn find(
-    requests: &IndexMap<u64, Request>,
-    number: u64,
-    found: bool,
-) -> Option<&Request>
+pub(crate) fn find(requests: &IndexMap<u64, Request>, number: u64, found: bool) -> Option<&Request>
     ensures there { IfSome result (λ request. (get nat_eq requests.now number ≡ Some request.now) × (is_found request.now.fate ≡ found)) }
     ensures none { IfNone result ((request : Request) → get nat_eq requests.now number ≡ Some request → is_found request.fate ≡ not found) }
 {

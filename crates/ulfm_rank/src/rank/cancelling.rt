@@ -40,10 +40,11 @@ impl Rank {
         if self.stopped {
             return Err(CallError::Stopped);
         }
-        let waits = match find(&self.requests, id.number, false) {
-            Some(request) => is_waiting(&request.fate),
+        let found = match find(&self.requests, id.number, false) {
+            Some(request) => request,
             None => return Err(CallError::NoRequest),
         };
+        let waits = is_waiting(&found.fate);
         let request = self.requests.shift_remove(&id.number).unwrap();
         if waits {
             let _ = self.matcher.withdraw(id);

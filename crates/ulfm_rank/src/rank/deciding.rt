@@ -43,13 +43,7 @@ impl Rank {
             topic,
             contribution: Contribution { known, flag },
         };
-        announce(
-            &mut self.outboxes,
-            self.me.number,
-            known,
-            members,
-            entrance,
-        );
+        announce(&mut self.outboxes, self.me.number, known, members, entrance);
         self.log.push_reserved(Entry::Entered(entrance));
         Ok(())
     }

@@ -14,7 +14,7 @@ use crate::entry::{Comm, Entry, Probed, TestAnswer};
 use crate::failures::names_known;
 use crate::message::MessageId;
 use crate::noted_answer::NotedAnswer;
-use crate::request::{Fate, Request, given_room};
+use crate::request::{Fate, Request, with_room};
 use crate::requests::find;
 use ulfm_base::{CallError, Tag};
 
@@ -95,12 +95,13 @@ impl Rank {
         if self.stopped {
             return Err(CallError::Stopped);
         }
-        match find(&self.requests, id.number, true) {
-            Some(_) => {}
+        let found = match find(&self.requests, id.number, true) {
+            Some(message) => message,
             None => return Err(CallError::NoRequest),
-        }
-        let message = self.requests.shift_remove(&id.number).unwrap();
-        let request = given_room(message, room);
+        };
+        let pattern = with_room(&found.pattern, room);
+        let Request { fate, .. } = self.requests.shift_remove(&id.number).unwrap();
+        let request = Request { pattern, fate };
         let answer = answer_in(&self.communicators, &self.faults, request);
         let noted = NotedAnswer::of(&answer);
         self.log.push_reserved(Entry::Received(id, noted));
