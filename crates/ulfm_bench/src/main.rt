@@ -12,8 +12,8 @@ mod trip;
 mod way;
 
 use crate::matching::each_case;
-use crate::pairs::{letter, over_lanes, over_queues, over_rings, over_shared};
-use crate::trip::{one_way, there_and_back};
+use crate::pairs::{over_lanes, over_queues, over_rings, over_shared};
+use crate::trip::{Load, one_way, there_and_back};
 use crate::way::Way;
 use std::alloc::Global;
 use std::env;
@@ -61,8 +61,12 @@ fn trips<R: Runtime + Threads + Wait + Copy + Send + 'static>(
         if only.unwrap_or(bytes) != bytes {
             continue;
         }
-        there_each(rt, alloc, bytes as usize, count)?;
-        and_back_each(rt, alloc, bytes as usize, count)?;
+        let load = Load {
+            alloc,
+            bytes: bytes as usize,
+        };
+        there_each(rt, load, count)?;
+        and_back_each(rt, load, count)?;
     }
     Some(())
 }
@@ -77,18 +81,17 @@ fn number(rt: &HostRuntime, place: usize) -> Option<u32> {
 /// failed.
 fn there_each<R: Runtime + Threads + Wait + Copy + Send + 'static>(
     rt: &R,
-    alloc: Global,
-    bytes: usize,
+    load: Load,
     count: u32,
 ) -> Option<()> {
-    let (zero, one) = over_lanes(alloc).ok()?;
-    there(rt, "lane", zero, one, bytes, count)?;
-    let (zero, one) = over_rings(alloc).ok()?;
-    there(rt, "ring", zero, one, bytes, count)?;
-    let (zero, one) = over_shared(alloc).ok()?;
-    there(rt, "shared", zero, one, bytes, count)?;
-    let (zero, one) = over_queues(alloc).ok()?;
-    there(rt, "queue", zero, one, bytes, count)?;
+    let (zero, one) = over_lanes(load.alloc).ok()?;
+    there(rt, "lane", zero, one, load, count)?;
+    let (zero, one) = over_rings(load.alloc).ok()?;
+    there(rt, "ring", zero, one, load, count)?;
+    let (zero, one) = over_shared(load.alloc).ok()?;
+    there(rt, "shared", zero, one, load, count)?;
+    let (zero, one) = over_queues(load.alloc).ok()?;
+    there(rt, "queue", zero, one, load, count)?;
     Some(())
 }
 
@@ -96,18 +99,17 @@ fn there_each<R: Runtime + Threads + Wait + Copy + Send + 'static>(
 /// failed.
 fn and_back_each<R: Runtime + Threads + Wait + Copy + Send + 'static>(
     rt: &R,
-    alloc: Global,
-    bytes: usize,
+    load: Load,
     count: u32,
 ) -> Option<()> {
-    let (zero, one) = over_lanes(alloc).ok()?;
-    and_back(rt, "lane", zero, one, bytes, count)?;
-    let (zero, one) = over_rings(alloc).ok()?;
-    and_back(rt, "ring", zero, one, bytes, count)?;
-    let (zero, one) = over_shared(alloc).ok()?;
-    and_back(rt, "shared", zero, one, bytes, count)?;
-    let (zero, one) = over_queues(alloc).ok()?;
-    and_back(rt, "queue", zero, one, bytes, count)?;
+    let (zero, one) = over_lanes(load.alloc).ok()?;
+    and_back(rt, "lane", zero, one, load, count)?;
+    let (zero, one) = over_rings(load.alloc).ok()?;
+    and_back(rt, "ring", zero, one, load, count)?;
+    let (zero, one) = over_shared(load.alloc).ok()?;
+    and_back(rt, "shared", zero, one, load, count)?;
+    let (zero, one) = over_queues(load.alloc).ok()?;
+    and_back(rt, "queue", zero, one, load, count)?;
     Some(())
 }
 
@@ -117,12 +119,11 @@ fn there<R: Runtime + Threads + Wait + Copy + Send + 'static, W: Way + Send + 's
     over: &str,
     zero: W,
     one: W,
-    bytes: usize,
+    load: Load,
     count: u32,
 ) -> Option<()> {
-    let item = letter(zero.me(), bytes).ok()?;
-    let time = one_way(rt, zero, one, item, count).ok()??;
-    tell(rt, over, "one way", bytes, count, time)
+    let time = one_way(rt, zero, one, load, count).ok()??;
+    tell(rt, over, "one way", load.bytes, count, time)
 }
 
 /// Tells how long the letters took to the other thread and back, one after the other.
@@ -131,13 +132,11 @@ fn and_back<R: Runtime + Threads + Wait + Copy + Send + 'static, W: Way + Send +
     over: &str,
     zero: W,
     one: W,
-    bytes: usize,
+    load: Load,
     count: u32,
 ) -> Option<()> {
-    let question = letter(zero.me(), bytes).ok()?;
-    let answer = letter(one.me(), bytes).ok()?;
-    let time = there_and_back(rt, zero, one, question, answer, count).ok()??;
-    tell(rt, over, "there and back", bytes, count, time)
+    let time = there_and_back(rt, zero, one, load, count).ok()??;
+    tell(rt, over, "there and back", load.bytes, count, time)
 }
 
 /// Prints what a trip's time says, in letters a second.

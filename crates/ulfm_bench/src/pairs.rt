@@ -18,10 +18,10 @@ const CAPACITY: u8 = 64;
 ///
 /// # Errors
 ///
-/// `TooLong` where there are more.
-pub fn letter(source: WorldRank, bytes: usize) -> Result<Item, CallError> {
+/// `TooLong` where there are more, `OutOfMemory` where a growth was refused.
+pub fn letter(alloc: Global, source: WorldRank, bytes: usize) -> Result<Item, CallError> {
     let filled = [b'x'; 1024];
-    let body = Body::from_bytes(filled.get(..bytes).ok_or(CallError::TooLong)?)?;
+    let body = Body::from_bytes(alloc, filled.get(..bytes).ok_or(CallError::TooLong)?)?;
     let envelope = Envelope {
         context: Context::WORLD,
         source,

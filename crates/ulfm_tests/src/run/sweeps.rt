@@ -10,7 +10,7 @@ use std::alloc::Global;
 use std::sync::Wait;
 use std::test::Fail;
 use std::thread::Threads;
-use ulfm_base::{Context, Entrance, Item, Purpose, RankSet, WorldRank};
+use ulfm_base::{Context, Entrance, ItemKind, Purpose, RankSet, WorldRank};
 use ulfm_board::{Decider, seats};
 use ulfm_carrier::{Ends, lanes, shared};
 use ulfm_rank::Entry;
@@ -19,16 +19,20 @@ use ulfm_script::{Job, RankReport};
 
 /// Whether a rank took the notice of a stop.
 fn knows(told: &RankReport, stopped: WorldRank) -> bool {
-    told.log().iter().any(
-        |entry| matches!(entry, Entry::Took(source, Item::Gone) if *source == stopped),
-    )
+    told.log().iter().any(|entry| match entry {
+        Entry::Took(source, item) => *source == stopped && matches!(item.kind(), ItemKind::Gone),
+        _ => false,
+    })
 }
 
 /// The context that an entry of a log revokes, if it does: by the rank's own call, or by a revocation that it took.
 fn revoked_by(entry: &Entry) -> Option<Context> {
     match entry {
         Entry::Revoked(own) => Some(*own),
-        Entry::Took(_, Item::Revoke(taken)) => Some(*taken),
+        Entry::Took(_, item) => match item.kind() {
+            ItemKind::Revoke(taken) => Some(*taken),
+            _ => None,
+        },
         _ => None,
     }
 }
@@ -55,9 +59,10 @@ fn shrinks_with(entrance: &Entrance) -> Option<RankSet> {
 fn listed(told: &RankReport, member: WorldRank) -> Option<RankSet> {
     told.log().iter().find_map(|entry| match entry {
         Entry::Entered(entrance) if told.me() == member => shrinks_with(entrance),
-        Entry::Took(source, Item::Enter(entrance)) if *source == member && told.me() != member => {
-            shrinks_with(entrance)
-        }
+        Entry::Took(source, item) if *source == member && told.me() != member => match item.kind() {
+            ItemKind::Enter(entrance) => shrinks_with(entrance),
+            _ => None,
+        },
         _ => None,
     })
 }
