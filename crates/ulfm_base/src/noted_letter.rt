@@ -1,16 +1,14 @@
 //! Letters as a log keeps them.
 ghost use Rattle.std.specs.Prelude.{◌≡◌};
 
-use crate::body::Body;
-use crate::envelope::{Envelope, Letter};
+use crate::envelope::Letter;
 use std::marker::Model;
 use std::snapshot::Snapshot;
 
-/// A letter in a log, without the bytes of its body. Contracts see the whole letter.
+/// A letter in a log. Contracts see it, and nothing is kept of it when it runs.
 #[derive(Drop)]
 pub struct NotedLetter {
-    envelope: Envelope,
-    body: Snapshot<Body>,
+    letter: Snapshot<Letter>,
 }
 
 impl Model for NotedLetter {
@@ -18,7 +16,7 @@ impl Model for NotedLetter {
 
     ghost Value = { Letter };
 
-    ghost view = { λ n. record { envelope = n.envelope; body = n.body.value } };
+    ghost view = { λ n. n.letter.value };
 }
 
 impl NotedLetter {
@@ -27,15 +25,7 @@ impl NotedLetter {
         ensures { result ≡ letter.now }
     {
         NotedLetter {
-            envelope: letter.envelope,
-            body: Snapshot::of(&letter.body),
+            letter: Snapshot::of(letter),
         }
-    }
-
-    /// Its envelope.
-    pub fn envelope(&self) -> Envelope
-        ensures { result ≡ self.now.envelope }
-    {
-        self.envelope
     }
 }

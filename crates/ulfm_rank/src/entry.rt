@@ -59,6 +59,16 @@ pub enum Cancel {
 /// An accepted call that changed something, or an item that was taken. Of letters it keeps no bytes; contracts see them.
 #[derive(Drop)]
 pub enum Entry {
+    /// A communicator was duplicated.
+    Duplicated(Context),
+    /// A shrink or an agreement was entered.
+    Entered(Entrance),
+    /// The decision of a shrink or of an agreement was adopted.
+    Adopted(Decision),
+    /// The failures acknowledged of a communicator rose to this total.
+    Acknowledged(Context, u8),
+    /// A context was revoked by the rank's own call.
+    Revoked(Context),
     /// A letter for a rank was accepted.
     Sent(WorldRank, NotedLetter),
     /// A receive was posted.
@@ -71,16 +81,6 @@ pub enum Entry {
     Received(MessageId, NotedAnswer),
     /// A request was withdrawn.
     Cancelled(RequestId),
-    /// The failures acknowledged of a communicator rose to this total.
-    Acknowledged(Context, u8),
-    /// A context was revoked by the rank's own call.
-    Revoked(Context),
-    /// A communicator was duplicated.
-    Duplicated(Context),
-    /// A shrink or an agreement was entered.
-    Entered(Entrance),
-    /// The decision of a shrink or of an agreement was adopted.
-    Adopted(Decision),
     /// The rank stopped.
     Stopped,
     /// An item was taken that came from a rank.

@@ -119,7 +119,12 @@ fn letters_across_threads(rt: HostRuntime) -> Result<(), Fail> {
     let child = thread::spawn(&rt, move || {
         let mut sender = sender;
         matches!(
-            delivers_all(&theirs, theirs.alloc(), &mut sender, b"a letter for each byte"),
+            delivers_all(
+                &theirs,
+                theirs.alloc(),
+                &mut sender,
+                b"a letter for each byte"
+            ),
             Ok(true)
         )
     });
@@ -140,7 +145,12 @@ fn two_senders_across_threads(rt: HostRuntime) -> Result<(), Fail> {
     let first = thread::spawn(&rt, move || {
         let mut zero = zero;
         matches!(
-            delivers_all(&theirs, theirs.alloc(), &mut zero, b"a letter for each byte"),
+            delivers_all(
+                &theirs,
+                theirs.alloc(),
+                &mut zero,
+                b"a letter for each byte"
+            ),
             Ok(true)
         )
     });
