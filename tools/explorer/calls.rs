@@ -56,7 +56,9 @@ impl Rank {
             Step::Revoke { comm } => self.revoke(comm),
             Step::Dup { comm } => self.dup(comm),
             Step::Stop => Ok(self.stop()),
-            Step::Wait { .. } | Step::Probe { .. } | Step::Shrink { .. } | Step::Agree { .. } => unreachable!(),
+            Step::Wait { .. } | Step::Probe { .. } | Step::Shrink { .. } | Step::Agree { .. } => {
+                unreachable!()
+            }
         }
     }
 

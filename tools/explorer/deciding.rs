@@ -27,7 +27,7 @@ impl Rank {
     }
 
     /// The group of a topic that may be entered. It is refused 1, 8 and, for a shrink, 9, in this order.
-    pub fn may_enter(&self, topic: Topic) -> Result<Group, Refusal> {
+    pub fn group_to_enter(&self, topic: Topic) -> Result<Group, Refusal> {
         let group = self.group(topic.context)?;
         if self.has_entered(topic) {
             return Err(Refusal::AlreadyMade);
@@ -41,7 +41,7 @@ impl Rank {
     /// The first poll. It records what the rank brings, the failures that are known with it, and tells each other member that
     /// isn't known to have failed.
     pub fn enter(&mut self, topic: Topic, flag: Option<u32>) -> Result<(), Refusal> {
-        let group = self.may_enter(topic)?;
+        let group = self.group_to_enter(topic)?;
         let known = self.known_set();
         let brought = Contribution { known, flag };
         self.entries.insert((topic, self.me), brought);
