@@ -42,7 +42,7 @@ module _ (known : Known) (r : State) where
   answered_few done old report new a = elim (answers_plain done old report.step report.answer new a) [ inl same ↦ inl same.0 | inr one ↦ inr (one.0, one.2) ]
 
   opened_few : (done : List StepReport) (old : State) (asked : Step) (new : State) → LeavesOpen done old asked new → AddsFew old new
-  opened_few done old asked new o = elim (opens_adds done old asked new o) [ inl same ↦ inl same | inr entry ↦ inr (Entered entry.2.enters.entrance, entry.2.enters.only) ]
+  opened_few done old asked new o = elim (opens_adds done old asked new o) [ inl same ↦ inl same | inr entry ↦ inr (Entered entry.1.enters.entrance, entry.1.enters.only) ]
 
   adopted : (n : ℕ) (old new : State) (done : List StepReport) (report : StepReport) (topic : Topic) (held : Decision) → StoodAt r n old → AnswersAdoption old report.step topic held report.answer new → IsBorne done old.log → IsBorne (done ++ report ∷ []) new.log
   adopted n old new done report topic held stood a borne =
@@ -54,7 +54,7 @@ module _ (known : Known) (r : State) where
     answers = λ n old new done report stood a k.
         changed old new done (done ++ report ∷ []) stood (answered_few done old report new a) (λ h. true-answers old h report.at report.polls new report.step report.answer a) k;
     opens = λ n old new done asked stood o k. changed old new done done stood (opened_few done old asked new o) (λ h. true-open old asked new h o) k;
-    adopts = λ n old new done report topic held stood knows a k. adopted n old new done report topic held stood a k;
+    adopts = λ n old new done report topic held stood about knows a k. adopted n old new done report topic held stood a k;
     ends = λ log done report how k all. ended log done report how (k all);
   }
 

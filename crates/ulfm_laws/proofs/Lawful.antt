@@ -4,6 +4,7 @@ use Rattle.ulfm_laws.proofs.Common.{at, Report, Inboxes, IsAtRest, slice_get_wit
 use Rattle.ulfm_board.specs.Known.{BothAgree, known_at}
 use Rattle.ulfm_job.specs.Job.{Seen}
 use Rattle.ulfm_laws.specs.Lawful.{AreProduced, KnowAtRest, LawfulReport}
+use Rattle.ulfm_laws.proofs.Agreeing.{agreement}
 use Rattle.ulfm_laws.proofs.Arrivals.{read_at, come_as_sent, all_come}
 use Rattle.ulfm_laws.proofs.AtRest.{knows-stopped, agrees-revoked}
 use Rattle.ulfm_laws.proofs.Borne.{borne_out}
@@ -88,6 +89,7 @@ module _ (job : Seen) (inboxes : Inboxes) (knows : List Known) (reports : List R
     decisions = h.decisions;
     one_decision = adopt_one;
     one_group = one_group reports adopt_one counted;
+    agreements = agreement reports (λ r told here. let x = known_of r here in (x.0, h.answers r told x.0 here x.1)) h.decisions all_keep h.order adopt_one;
     scripts = h.scripts;
     order = h.order;
     reader = faithful reports (honest_reports flowing honest);

@@ -31,3 +31,5 @@ pub mod Borne
 pub mod Arrivals
 pub mod Lawful
 pub mod Outgoing
+pub mod Turns
+pub mod Agreeing

@@ -4,6 +4,7 @@ use Rattle.ulfm_base.specs.Lists.{InPlace}
 use Rattle.ulfm_script.specs.Deciding.{Known}
 use Rattle.ulfm_job.specs.Job.{Seen}
 use Rattle.ulfm_script.specs.Report.{Report}
+use Rattle.ulfm_laws.specs.Agreement.{AgreementsAreTrue}
 use Rattle.ulfm_laws.specs.Answers.{AllFollowScripts, AllAnswersFollow, AllAgree}
 use Rattle.ulfm_laws.specs.Causes.{GoneHaveStopped, RevokedByARank}
 use Rattle.ulfm_laws.specs.Flow.{Inboxes, Flows}
@@ -38,9 +39,10 @@ pub record AreProduced (job : Seen) (inboxes : Inboxes) (knows : List Known) (re
 -- The headline. What a rank took from each sender is, once and in order, a beginning of what that sender sent. Its receives
 -- are paired with letters by the one lawful pairing; after a revocation no receive there is paired; wildcards pend exactly at
 -- unacknowledged known failures. Who is known to have failed has stopped, and what is revoked some rank's own call revoked.
--- Ranks enter each shrink and each agreement once. Those that decided on one topic hold one decision, survivors in order, and have one group. Each rank went
--- through its script, and the reports stand in rank order. What they tell of letters is true of what was sent. At rest all
--- running ranks know what happened.
+-- Ranks enter each shrink and each agreement once. Those that decided on one topic hold one decision, survivors in order, and
+-- have one group. Those told of one round of agreement are told one value, the AND of the flags of all members but those missing,
+-- who stopped. Each rank went through its script, and the reports stand in rank order. What they tell of letters is true of what
+-- was sent. At rest all running ranks know what happened.
 pub record LawfulReport (job : Seen) (inboxes : Inboxes) (knows : List Known) (reports : List Report) : Type 0 where
   pub each : IsEach job reports
   pub flow : Flows inboxes reports
@@ -54,6 +56,7 @@ pub record LawfulReport (job : Seen) (inboxes : Inboxes) (knows : List Known) (r
   pub decisions : AreTrue reports
   pub one_decision : AdoptOne reports
   pub one_group : HasOneGroup reports
+  pub agreements : AgreementsAreTrue reports
   pub scripts : AllFollowScripts job reports
   pub order : InPlace (λ (report : Report). report.rank.me) reports
   pub reader : IsFaithful reports

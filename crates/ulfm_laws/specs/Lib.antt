@@ -6,3 +6,4 @@ pub mod Rest
 pub mod Reader
 pub mod Lawful
 pub mod Causes
+pub mod Agreement

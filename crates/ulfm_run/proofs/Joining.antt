@@ -1,5 +1,6 @@
 -- A rank and its end stay together while items go from one to the other.
-use Rattle.std.proofs.Common.{◌≡◌, ◌≢◌, ℕ, ◌<◌, Bool, true, false, cond, List, [], ◌∷◌, ◌++◌, refl, ap, sym, subst, ◌∙◌, arith, inl, inr, append-nil, All, ◌||◌}
+use Rattle.std.proofs.Common.{◌≡◌, ◌≢◌, ℕ, ◌<◌, false, cond, List, [], ◌∷◌, ◌++◌, refl, ap, sym, subst, ◌∙◌, arith, inl, inr, append-nil, All}
+use Rattle.std.proofs.Math.Bool.{or-false}
 use Rattle.ulfm_rank.specs.Facts.{took, is_stopped, IsSigned}
 use Rattle.ulfm_rank.proofs.Logs.{took-push, stopped-push}
 use Rattle.ulfm_rank.proofs.Quiet.{calm-took, out_other}
@@ -106,12 +107,8 @@ module _ {E N : Type 0} {name : E → N} {place count : E → ℕ} {pushed taken
         });
         me = ap (λ (p : Player). p.rank.me) same;
         ranks = ap (λ (p : Player). p.rank.ranks) same;
-        stops = ap (λ (p : Player). is_stopped p.rank.log) same ∙ stopped-push v.player.rank.log (Took source item) ∙ or_none (is_stopped v.player.rank.log);
+        stops = ap (λ (p : Player). is_stopped p.rank.log) same ∙ stopped-push v.player.rank.log (Took source item) ∙ or-false (is_stopped v.player.rank.log);
         only = subst (λ (p : Player). p ≡ with_rank v.player p.rank) (sym same) refl;
         room = room;
         takes = takes-one v.player.rank.log w.player.rank.log source item running (ap (λ (p : Player). p.rank.log) same);
       }
-    where
-      or_none : (b : Bool) → (b || false) ≡ b
-      or_none true = refl
-      or_none false = refl

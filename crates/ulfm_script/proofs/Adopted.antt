@@ -61,7 +61,7 @@ honest-decided board known later p comm q h running d =
     let g : Grew p.rank d.rank = grew-adds p.rank false d.rank adds in
     let was : StandsOpen known p.rank p.done h.place d.asked p.at p.polls = rw d.waits at h.stands in
     let since : EntersSince true p.rank d.asked h.place = subst (λ joint. EntersSince joint p.rank d.asked h.place) (ap is_some d.on) was.since in
-    let topic : since.0 ≡ d.decision.topic = same_Some _ _ (sym (entered-topic p.rank d.asked since.0 h.place since.1) ∙ d.decision.about) in
+    let topic : since.0 ≡ d.decision.topic = same_Some _ _ (sym (entered-topic p.rank p.rank d.asked since.0 h.place (length p.rank.log) (stood-now p.rank) since.1) ∙ d.decision.about) in
     let entered : EntersBetween p.rank d.asked d.decision.topic h.place (length p.rank.log) = subst (λ t. EntersBetween p.rank d.asked t h.place (length p.rank.log)) topic since.1 in
     rw d.only (honest-closed known later p d.rank (step_report d.asked d.answer (length p.rank.log) p.polls) h (learns-decided board known later p.rank h.place (length p.rank.log) d.asked d.answer d.rank d.decision entered) g
     (record {

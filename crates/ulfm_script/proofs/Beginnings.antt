@@ -1,5 +1,6 @@
 -- What a log's beginnings keep while the log grows.
-use Rattle.std.proofs.Common.{◌≡◌, ℕ, ◌+◌, ◌≤◌, List, [], ◌∷◌, ◌++◌, length, refl, ap, sym, ◌∙◌, arith, append-nil, append_assoc, length-append, All}
+use Rattle.std.proofs.Common.{◌≡◌, ℕ, ◌+◌, ◌≤◌, List, [], ◌∷◌, ◌++◌, length, refl, ap, sym, ◌∙◌, arith, append-nil, append_assoc, length-append, take, All}
+use Rattle.std.proofs.Math.Seq.{take-append_seam}
 use Rattle.ulfm_script.proofs.Common.{EntersBetween, Step, Topic, Entry, IsTook, OnlyTook, State, StoodAt, All-nil, All-append}
 
 -- the same rank with a longer log
@@ -8,6 +9,18 @@ pub record Grew (old new : State) : Type 0 where
   pub ranks : new.ranks ≡ old.ranks
   pub more : List Entry
   pub log : new.log ≡ old.log ++ more
+
+-- a beginning of a log
+pub front_is : (log front rest : List Entry) (n : ℕ) → front ++ rest ≡ log → length front ≡ n → take n log ≡ front
+front_is log front rest n whole size = rw size at (ap (take (length front)) (sym whole) ∙ take-append_seam front rest)
+
+pub stood_is : (r : State) (n : ℕ) (s : State) → StoodAt r n s → take n r.log ≡ s.log
+stood_is r n s h = front_is r.log s.log h.rest n h.beginning h.entries
+
+-- a log up to the end of what was taken
+pub took_is : (log : List Entry) (from to : ℕ) (h : OnlyTook log from to) → take to log ≡ h.front ++ h.between
+took_is log from to h =
+    front_is log (h.front ++ h.between) h.rest to (append_assoc h.front h.between h.rest ∙ h.whole) (omega (arith, length-append h.front h.between, h.begins, h.ends))
 
 pub stood-grew : (r s : State) (n : ℕ) (t : State) → Grew r s → StoodAt r n t → StoodAt s n t
 stood-grew r s n t g h = record {

@@ -96,7 +96,7 @@ stands-waiting known r before from asked topic polls joint entered none later = 
 stands-again : (joint : Bool) (known : Known) (p : Player) (asked : Step) (s : State) (from at : ℕ) → is_joint asked ≡ joint → EntersSince joint p.rank asked from → 0 < p.polls → ((topic : Topic) → topic_of p.rank.log asked ≡ Some topic → HasProposal p.rank topic → ⊥) → StaysOpen joint p.done p.rank asked s →
     StandsOpen known s p.done from asked (length p.rank.log) (min (p.polls + 1) (2 ^ 32 - 1))
 stands-again true known p asked s from at is since polled u o =
-    rw o (stands-waiting known p.rank p.done from asked since.0 (min (p.polls + 1) (2 ^ 32 - 1)) is since.1 (u since.0 (entered-topic p.rank asked since.0 from since.1)) (omega (arith, polled)))
+    rw o (stands-waiting known p.rank p.done from asked since.0 (min (p.polls + 1) (2 ^ 32 - 1)) is since.1 (u since.0 (entered-topic p.rank p.rank asked since.0 from (length p.rank.log) (stood-now p.rank) since.1)) (omega (arith, polled)))
 stands-again false known p asked s from at is since polled u o =
     stands-opened known p.rank s p.done from asked (min (p.polls + 1) (2 ^ 32 - 1)) (grew-adds p.rank false s (opens_add false p.done p.rank asked s o)) since o (omega arith)
     (λ joint. absurd (false≢true (sym is ∙ joint)))

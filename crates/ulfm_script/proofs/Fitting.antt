@@ -77,5 +77,5 @@ fits_entered r asked topic new counted h =
 pub opens_add : (done : List StepReport) (r : State) (asked : Step) (new : State) → RoundsCounted r.log → LeavesOpen done r asked new → Adds r new
 opens_add done r asked new counted h = elim (opens_adds done r asked new h) [
   | inl same ↦ adds_same r new same
-  | inr entry ↦ adds_one r new (Entered entry.2.enters.entrance) (fits_entered r entry.0 entry.1 new counted entry.2) tt entry.2.enters.only
+  | inr entry ↦ adds_one r new (Entered entry.1.enters.entrance) (fits_entered r asked entry.0 new counted entry.1) tt entry.1.enters.only
 ]

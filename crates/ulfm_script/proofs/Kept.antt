@@ -12,7 +12,7 @@ use Rattle.ulfm_script.proofs.Says.{IsApart}
 use Rattle.ulfm_script.proofs.Walked.{KeepsAll, reported}
 
 -- a decision that no check refuses fits
-fits_adopted : (old : State) (topic : Topic) (held : Decision) → Passes (adopt_checks old topic held) → Fits old.ranks old.me old.log (Adopted held)
+pub fits_adopted : (old : State) (topic : Topic) (held : Decision) → Passes (adopt_checks old topic held) → Fits old.ranks old.me old.log (Adopted held)
 fits_adopted old topic held passes =
     let all = all_pass (adopt_checks old topic held) passes in
     let own = own_from old.me (group_at old topic.context.number) old.log topic held all.1.1.1.1.0 in
@@ -67,9 +67,9 @@ module _ (known : Known) (r : State) (K : List Entry → Type 0) (step : (log : 
     ];
     opens = λ n old new done asked stood o k. elim (opens_adds done old asked new o) [
       | inl same ↦ rw same k
-      | inr entry ↦ push n old new (Entered entry.2.enters.entrance) stood (fits_entered old entry.0 entry.1 new k.0 entry.2) tt tt entry.2.enters.only k
+      | inr entry ↦ push n old new (Entered entry.1.enters.entrance) stood (fits_entered old asked entry.0 new k.0 entry.1) tt tt entry.1.enters.only k
     ];
-    adopts = λ n old new done report topic held stood knows a k. elim (adoption_adds old report.step topic held report.answer new a) [
+    adopts = λ n old new done report topic held stood about knows a k. elim (adoption_adds old report.step topic held report.answer new a) [
       | inl same ↦ rw same k
       | inr one ↦ push n old new (Adopted held) stood (fits_adopted old topic held one.0) tt (record { place = n; old = old; topic = topic; stood = stood; knows = knows; passes = one.0 }) one.1 k
     ];

@@ -20,3 +20,4 @@ pub mod Takes
 pub mod Fitting
 pub mod Walked
 pub mod Kept
+pub mod Entrances

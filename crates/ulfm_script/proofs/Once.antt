@@ -30,7 +30,8 @@ is_second : (o x : Option Contribution) → is_some x ≡ true → is_some (or_e
 is_second None x h = h
 is_second (Some set) x h = refl
 
-entered-here : (log : List Entry) (entrance : Entrance) → has_entered (log ++ Entered entrance ∷ []) entrance.topic ≡ true
+-- an entrance enters its topic
+pub entered-here : (log : List Entry) (entrance : Entrance) → has_entered (log ++ Entered entrance ∷ []) entrance.topic ≡ true
 entered-here [] entrance = ap (λ b. is_some (or_else (cond b (Some entrance.contribution) None) None)) (topic_itself entrance.topic)
 entered-here (e ∷ log) entrance = is_second (entry_of entrance.topic e) (first_given (entry_of entrance.topic) (log ++ Entered entrance ∷ [])) (entered-here log entrance)
 

@@ -77,14 +77,14 @@ answers_add done r asked answer new running h = elim (answers_plain done r asked
 ]
 
 -- nothing is added, or a step enters its topic
-abbrev pub Opens : State → State → Type 0
-Opens old new = (new ≡ old) ⊎ ((asked : Step) × (topic : Topic) × EntersBy old asked topic new)
+abbrev pub Opens : State → Step → State → Type 0
+Opens old asked new = (new ≡ old) ⊎ ((topic : Topic) × EntersBy old asked topic new)
 
-pub opens_adds : (done : List StepReport) (r : State) (asked : Step) (new : State) → LeavesOpen done r asked new → Opens r new
+pub opens_adds : (done : List StepReport) (r : State) (asked : Step) (new : State) → LeavesOpen done r asked new → Opens r asked new
 opens_adds done r (Wait req) new h = inl h.only
 opens_adds done r (Probe source tag comm) new h = inl h.2
-opens_adds done r (Shrink comm) new h = inr (Shrink comm, h.0, h.1)
-opens_adds done r (Agree flag comm) new h = inr (Agree flag comm, h.0, h.1)
+opens_adds done r (Shrink comm) new h = inr h
+opens_adds done r (Agree flag comm) new h = inr h
 opens_adds done r _ new h = absurd h
 
 -- a step that its first poll may leave open is no stop
@@ -98,7 +98,7 @@ opens_go_on done r _ new h = absurd h
 adds_open : (done : List StepReport) (r : State) (asked : Step) (new : State) → LeavesOpen done r asked new → Adds r false new
 adds_open done r asked new h = elim (opens_adds done r asked new h) [
   | inl same ↦ adds_same r new same
-  | inr entry ↦ adds_one r new (Entered entry.2.enters.entrance) false (record { signed = tt; takes_none = λ s. refl }) refl entry.2.enters.only
+  | inr entry ↦ adds_one r new (Entered entry.1.enters.entrance) false (record { signed = tt; takes_none = λ s. refl }) refl entry.1.enters.only
 ]
 
 -- a poll that leaves a step open adds its entrance at most

@@ -1,12 +1,11 @@
 -- How many agreements a log has entered, and which one it entered last.
-use Rattle.std.proofs.Common.{◌≡◌, ℕ, ◌+◌, ◌-◌, cond, false, List, [], ◌∷◌, ◌++◌, length, filter, take, refl, ap, sym, ◌∙◌, arith, append-nil, length-append, All, Some}
-use Rattle.std.proofs.Math.Seq.{take-append_seam}
+use Rattle.std.proofs.Common.{◌≡◌, ℕ, ◌+◌, ◌-◌, cond, false, List, [], ◌∷◌, ◌++◌, length, filter, take, refl, ap, sym, ◌∙◌, arith, All, Some}
 use Rattle.ulfm_base.specs.declared.topic.Purpose.{Purpose}
 use Rattle.ulfm_base.specs.declared.topic.Purpose.TheVariants.{Shrink as ToShrink, Agree as ToAgree}
 use Rattle.ulfm_job.specs.Job.{decides_on}
 use Rattle.ulfm_rank.proofs.Entering.{agreements-more, counts}
-use Rattle.ulfm_script.proofs.Common.{Agree, agreement_topic, agreements, All-cons, All-head, All-nil, All-tail, Entered, EntersBetween, EntersBy, enters_agreement, Entry, IsTook, none-some, OnlyTook, same_Some, Shrink, State, Step, Topic, topic_of, Took}
-use Rattle.ulfm_script.proofs.Beginnings.{none_after}
+use Rattle.ulfm_script.proofs.Common.{Agree, agreement_topic, agreements, All-cons, All-head, All-nil, All-tail, Entered, EntersBetween, EntersBy, enters_agreement, Entry, IsTook, none-some, OnlyTook, same_Some, Shrink, State, Step, StoodAt, Topic, topic_of, Took}
+use Rattle.ulfm_script.proofs.Beginnings.{front_is, stood_is, took_is}
 
 -- the number of an agreement
 round_of : Purpose → ℕ
@@ -29,15 +28,11 @@ took_enter_none (e ∷ es) c h =
     ap (λ b. length (cond b (e ∷ filter (enters_agreement c) es) (filter (enters_agreement c) es))) (took_enters e c (All-head IsTook e es h))
     ∙ took_enter_none es c (All-tail IsTook e es h)
 
--- what was taken up to the end of a log enters none
-took_last : (log : List Entry) (n c : ℕ) → OnlyTook log n (length log) → agreements log c ≡ agreements (take n log) c
-took_last log n c h =
-    let size : length log ≡ length h.front + (length h.between + length h.rest) = omega (arith, ap length h.whole, length-append h.front (h.between ++ h.rest), length-append h.between h.rest) in
-    let none : h.rest ≡ [] = none_after h.rest (omega (arith, size, h.begins, h.ends)) in
-    let front : take n log ≡ h.front = rw h.begins at (ap (take (length h.front)) (sym h.whole) ∙ take-append_seam h.front (h.between ++ h.rest)) in
-    let whole : h.front ++ h.between ≡ log = ap (λ (l : List Entry). h.front ++ l) (sym (append-nil h.between) ∙ ap (λ (l : List Entry). h.between ++ l) (sym none)) ∙ h.whole in
+-- items that are taken from one place of a log up to another enter none
+took_last : (log : List Entry) (from to c : ℕ) → OnlyTook log from to → agreements (take to log) c ≡ agreements (take from log) c
+took_last log from to c h =
     let more : agreements (h.front ++ h.between) c ≡ agreements h.front c = omega (arith, agreements-more h.front h.between c, took_enter_none h.between c h.took) in
-    ap (λ (l : List Entry). agreements l c) (sym whole) ∙ more ∙ ap (λ (l : List Entry). agreements l c) (sym front)
+    ap (λ (l : List Entry). agreements l c) (took_is log from to h) ∙ more ∙ ap (λ (l : List Entry). agreements l c) (sym (front_is log h.front (h.between ++ h.rest) from h.whole h.begins))
 
 -- a step that entered its topic is decided on it
 pub entered-now : (old : State) (asked : Step) (topic : Topic) (new : State) → EntersBy old asked topic new → topic_of new.log asked ≡ Some topic
@@ -61,10 +56,13 @@ pub topic-took : (log : List Entry) (e : Entry) (asked : Step) → IsTook e → 
 topic-took log e asked took = topic-same log (log ++ e ∷ []) asked (λ c. omega (arith, agreements-more log (e ∷ []) c, took_enter_none (e ∷ []) c (All-cons IsTook e [] took (All-nil IsTook))))
 
 -- once a step entered its topic and items alone were taken, it is decided on that topic
-pub entered-topic : (r : State) (asked : Step) (topic : Topic) (from : ℕ) → EntersBetween r asked topic from (length r.log) → topic_of r.log asked ≡ Some topic
-entered-topic r asked topic from h =
-    let front : take (h.place + 1) r.log ≡ h.new.log = rw h.stood_next.entries at (ap (take (length h.new.log)) (sym h.stood_next.beginning) ∙ take-append_seam h.new.log h.stood_next.rest) in
-    topic-same h.new.log r.log asked (λ c. took_last r.log (h.place + 1) c h.took_after ∙ ap (λ (l : List Entry). agreements l c) front) ∙ entered-now h.old asked topic h.new h.enters
+pub entered-topic : (r old : State) (asked : Step) (topic : Topic) (from n : ℕ) → StoodAt r n old → EntersBetween r asked topic from n → topic_of old.log asked ≡ Some topic
+entered-topic r old asked topic from n stood h =
+    topic-same h.new.log old.log asked (λ c.
+    ap (λ (l : List Entry). agreements l c) (sym (stood_is r n old stood))
+    ∙ took_last r.log (h.place + 1) n c h.took_after
+    ∙ ap (λ (l : List Entry). agreements l c) (stood_is r (h.place + 1) h.new h.stood_next))
+    ∙ entered-now h.old asked topic h.new h.enters
 
 -- a topic that a step is decided on is about the step's communicator
 pub on_topic : (log : List Entry) (asked : Step) (topic : Topic) → topic_of log asked ≡ Some topic → decides_on asked ≡ Some topic.context

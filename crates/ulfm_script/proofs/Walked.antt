@@ -1,8 +1,10 @@
 -- What each thing that happens to a rank keeps, all that happened to it keeps, where its answers are right.
-use Rattle.std.proofs.Common.{◌≡◌, ℕ, ◌+◌, Bool, true, false, List, [], ◌∷◌, ◌++◌, length, take, refl, ap, sym, subst, ◌∙◌, arith, inl, inr, ◌⊎◌, append-nil, append_assoc, length-append, Option, Some, None, All}
-use Rattle.std.proofs.Math.Seq.{take-append_seam, take-length}
-use Rattle.ulfm_script.proofs.Common.{AnswersAdoption, AnswersFollowSoFar, AnswersStep, EntersBy, Topic, Decision, Entry, is_joint, Known, known_at, LeavesOpen, Player, Refused, Report, Shrink, Agree, Stands, State, Step, StepReport, Unfinished, OutOfMemory, All-head, All-tail, none-some}
+use Rattle.std.proofs.Common.{◌≡◌, ℕ, ◌+◌, Bool, true, false, List, [], ◌∷◌, ◌++◌, length, take, refl, sym, subst, inl, inr, ◌⊎◌, append-nil, append_assoc, Option, Some, None, All}
+use Rattle.std.proofs.Math.Seq.{take-length}
+use Rattle.ulfm_script.proofs.Common.{AnswersAdoption, AnswersFollowSoFar, AnswersStep, EntersBy, Topic, Decision, Entry, is_joint, Known, known_at, LeavesOpen, Player, Refused, Report, Shrink, Agree, Stands, State, Step, StepReport, topic_of, Unfinished, OutOfMemory, All-head, All-tail, none-some}
 use Rattle.ulfm_script.specs.inside.SoFar.{EntersSince}
+use Rattle.ulfm_script.proofs.Beginnings.{front_is, stood_is, took_is}
+use Rattle.ulfm_script.proofs.Rounds.{entered-topic}
 use Rattle.ulfm_script.specs.Answered.{StoodAt, IsTook, OnlyTook, EntersBetween, AnsweredByDecision, by_call, left_by_call, by_decision, left_undecided, AnswerFollows, EachAnswerFollows, AnswersFollow}
 
 -- a step that enters its topic is left open
@@ -17,26 +19,19 @@ pub record KeepsAll (known : Known) (r : State) (K : List StepReport → List En
   pub takes : (done : List StepReport) (log : List Entry) (e : Entry) → IsTook e → K done log → K done (log ++ e ∷ [])
   pub answers : (n : ℕ) (old new : State) (done : List StepReport) (report : StepReport) → StoodAt r n old → AnswersStep done old report.step report.answer new → K done old.log → K (done ++ report ∷ []) new.log
   pub opens : (n : ℕ) (old new : State) (done : List StepReport) (asked : Step) → StoodAt r n old → LeavesOpen done old asked new → K done old.log → K done new.log
-  pub adopts : (n : ℕ) (old new : State) (done : List StepReport) (report : StepReport) (topic : Topic) (held : Decision) → StoodAt r n old → known_at known topic ≡ Some held → AnswersAdoption old report.step topic held report.answer new → K done old.log → K (done ++ report ∷ []) new.log
+  pub adopts : (n : ℕ) (old new : State) (done : List StepReport) (report : StepReport) (topic : Topic) (held : Decision) → StoodAt r n old → topic_of old.log report.step ≡ Some topic → known_at known topic ≡ Some held → AnswersAdoption old report.step topic held report.answer new → K done old.log → K (done ++ report ∷ []) new.log
   pub ends : (log : List Entry) (done : List StepReport) (report : StepReport) → (report.answer ≡ Unfinished) ⊎ (report.answer ≡ Refused OutOfMemory) → K done log → K (done ++ report ∷ []) log
 
 module _ (known : Known) (r : State) (K : List StepReport → List Entry → Type 0) (keeps : KeepsAll known r K) where
   abbrev Good : List StepReport → ℕ → Type 0
   Good done n = K done (take n r.log)
 
-  -- a beginning of the log
-  front_is : (front rest : List Entry) (n : ℕ) → front ++ rest ≡ r.log → length front ≡ n → take n r.log ≡ front
-  front_is front rest n whole size = rw size at (ap (take (length front)) (sym whole) ∙ take-append_seam front rest)
-
-  stood_is : (n : ℕ) (s : State) → StoodAt r n s → take n r.log ≡ s.log
-  stood_is n s h = front_is s.log h.rest n h.beginning h.entries
-
   -- from a place to the rank that stood there, and back
   to_stood : (done : List StepReport) (n : ℕ) (s : State) → StoodAt r n s → Good done n → K done s.log
-  to_stood done n s h good = subst (K done) (stood_is n s h) good
+  to_stood done n s h good = subst (K done) (stood_is r n s h) good
 
   from_stood : (done : List StepReport) (n : ℕ) (s : State) → StoodAt r n s → K done s.log → Good done n
-  from_stood done n s h k = subst (K done) (sym (stood_is n s h)) k
+  from_stood done n s h k = subst (K done) (sym (stood_is r n s h)) k
 
   good_more : (done : List StepReport) (log es : List Entry) → All IsTook es → K done log → K done (log ++ es)
   good_more done log [] h good = subst (K done) (sym (append-nil log)) good
@@ -45,10 +40,8 @@ module _ (known : Known) (r : State) (K : List StepReport → List Entry → Typ
 
   good_took : (done : List StepReport) (from to : ℕ) → OnlyTook r.log from to → Good done from → Good done to
   good_took done from to h good =
-      let front : K done h.front = subst (K done) (front_is h.front (h.between ++ h.rest) from h.whole h.begins) good in
-      let whole : (h.front ++ h.between) ++ h.rest ≡ r.log = append_assoc h.front h.between h.rest ∙ h.whole in
-      let size : length (h.front ++ h.between) ≡ to = omega (arith, length-append h.front h.between, h.begins, h.ends) in
-      subst (K done) (sym (front_is (h.front ++ h.between) h.rest to whole size)) (good_more done h.front h.between h.took front)
+      let front : K done h.front = subst (K done) (front_is r.log h.front (h.between ++ h.rest) from h.whole h.begins) good in
+      subst (K done) (sym (took_is r.log from to h)) (good_more done h.front h.between h.took front)
 
   good_enters : (done : List StepReport) (asked : Step) (topic : Topic) (from to : ℕ) → EntersBetween r asked topic from to → Good done from → Good done to
   good_enters done asked topic from to h good =
@@ -60,7 +53,7 @@ module _ (known : Known) (r : State) (K : List StepReport → List Entry → Typ
   good_decided done from n report old new here stood h good =
       let now : K done old.log = to_stood done n old stood (subst (Good done) (sym here) (good_enters done report.step h.topic from report.at h.entered good)) in
       elim h.outcome [
-        | inl a ↦ keeps.adopts n old new done report h.topic a.held stood a.knows a.adoption now
+        | inl a ↦ keeps.adopts n old new done report h.topic a.held stood (entered-topic r old report.step h.topic from n stood (rw here h.entered)) a.knows a.adoption now
         | inr w ↦ keeps.ends new.log done report (inr w.refused) (subst (λ (s : State). K done s.log) (sym w.only) now)
       ]
 
@@ -83,6 +76,10 @@ module _ (known : Known) (r : State) (K : List StepReport → List Entry → Typ
   good_stands : (done : List StepReport) (from : ℕ) (current : Option Step) (at polls : ℕ) → Stands known r done from current at polls → Good done from → Good done (length r.log)
   good_stands done from None at polls h good = good_took done from (length r.log) h good
   good_stands done from (Some asked) at polls h good = good_since (is_joint asked) done from asked h.since good
+
+  -- what holds at the start holds of the rank as it stood after these answers and what it took then
+  pub walked_to : (done : List StepReport) (from n : ℕ) (old : State) → EachAnswerFollows known r [] 0 done from → OnlyTook r.log from n → StoodAt r n old → K [] [] → K done old.log
+  walked_to done from n old answers took stood start = to_stood done n old stood (good_took done from n took (good_all [] 0 done from answers start))
 
 -- what holds at the start, and is kept by all that may happen, holds of a player with right answers
 pub walked : (known : Known) (p : Player) (K : List StepReport → List Entry → Type 0) → KeepsAll known p.rank K → K [] [] → AnswersFollowSoFar known p → K p.done p.rank.log
