@@ -54,7 +54,12 @@ impl Inbox {
     /// # Errors
     ///
     /// `InboxFull` where it holds so many, else `OutOfMemory` where the growth is refused; nothing is changed then.
-    pub fn offer(&mut self, capacity: u8, source: WorldRank, item: Item) -> Result<(), (Refused, Item)>
+    pub fn offer(
+        &mut self,
+        capacity: u8,
+        source: WorldRank,
+        item: Item,
+    ) -> Result<(), (Refused, Item)>
         ensures room { OnOk result (length self.old < capacity) }
         ensures added { OnOk result (self.new ≡ self.old ++ (source, item) ∷ []) }
         ensures refused { IfErr result (λ back. IsUnfit self.old capacity back.0) }
