@@ -67,7 +67,7 @@ fn over<R: Runtime, P: Pairing>(
 }
 
 /// A letter of a case, with 1,024 bytes.
-fn letter_of(alloc: Global, case: Case, number: u32) -> Result<Letter, CallError> {
+fn letter_of(alloc: Global, case: Case, number: u16) -> Result<Letter, CallError> {
     Ok(Letter {
         envelope: case.envelope(number),
         body: Body::from_bytes(alloc, &[b'x'; 1024])?,
