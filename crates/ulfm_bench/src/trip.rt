@@ -1,134 +1,161 @@
-//! Trips of letters between two threads, and the time that they took.
-use crate::pairs::letter;
-use crate::way::Way;
+//! Trips of letters, and the time that they took.
+use crate::post::Post;
+use crate::seat::{Tested, rank_of_two, start_receive, start_send, take_in, test_into};
 use std::alloc::Global;
+use std::rt::Runtime;
 use std::sync::Wait;
 use std::thread::Threads;
-use std::time::{Clock, Duration, Instant};
+use std::time::{Clock, CpuClock, Duration, Instant};
 use std::{io, thread};
+use ulfm_base::WorldRank;
+use ulfm_rank::Rank;
 
-/// How often an end tries again where there is no room, or nothing to pop.
-const TRIES: u64 = 1_000_000_000;
-
-/// A body of so many bytes, at most 1,024, and where its memory comes from.
+/// So many letters of so many bytes, at most 1,024.
 #[derive(Clone, Copy)]
 pub struct Load {
-    pub alloc: Global,
     pub bytes: usize,
+    pub count: u32,
 }
 
-/// Pushes a letter that is made for it, as often as it takes: whether it went out.
-fn push_one<R: Wait, W: Way>(rt: &R, way: &mut W, load: Load) -> bool {
-    let Ok(mut item) = letter(load.alloc, way.me(), load.bytes) else {
-        return false;
-    };
-    for _ in 0..TRIES {
-        match way.push(rt, item) {
-            Ok(()) => return true,
-            Err(back) => item = back,
-        }
-        thread::yield_now();
-    }
-    false
-}
+/// What the letters are made of: the bytes of each are its first.
+const FILLED: [u8; 1024] = [b'x'; 1024];
 
-/// Pops an item, as often as it takes: whether one came.
-fn pop_one<R: Wait, W: Way>(rt: &R, way: &mut W) -> bool {
-    for _ in 0..TRIES {
-        if way.pop(rt).is_some() {
-            return true;
-        }
-        thread::yield_now();
-    }
-    false
-}
-
-/// Pushes so many letters: whether each went out.
-fn push_all<R: Wait, W: Way>(rt: &R, way: &mut W, load: Load, count: u32) -> bool {
-    for _ in 0..count {
-        if !push_one(rt, way, load) {
+/// Sends the letters: whether each went out.
+fn send_all<R: Wait, P: Post>(rt: &R, post: &mut P, load: Load) -> bool {
+    let filled = FILLED;
+    let bytes = filled.get(..load.bytes).unwrap_or(&[]);
+    for _ in 0..load.count {
+        if !post.send(rt, bytes) {
             return false;
         }
     }
     true
 }
 
-/// Pops so many items: whether each came.
-fn pop_all<R: Wait, W: Way>(rt: &R, way: &mut W, count: u32) -> bool {
-    for _ in 0..count {
-        if !pop_one(rt, way) {
+/// Receives the letters: whether each came whole.
+fn receive_all<R: Wait, P: Post>(rt: &R, post: &mut P, load: Load) -> bool {
+    let mut room = [0; 1024];
+    for _ in 0..load.count {
+        if post.receive(rt, &mut room) != Some(load.bytes) {
+            return false;
+        }
+    }
+    room.get(..load.bytes) == FILLED.get(..load.bytes)
+}
+
+/// Sends the letters, each after the answer to the one before: whether each came back whole.
+fn ask_all<R: Wait, P: Post>(rt: &R, post: &mut P, load: Load) -> bool {
+    let filled = FILLED;
+    let bytes = filled.get(..load.bytes).unwrap_or(&[]);
+    let mut room = [0; 1024];
+    for _ in 0..load.count {
+        if !post.send(rt, bytes) || post.receive(rt, &mut room) != Some(load.bytes) {
+            return false;
+        }
+    }
+    room.get(..load.bytes) == FILLED.get(..load.bytes)
+}
+
+/// Answers the letters with what they brought: whether each answer went back.
+fn answer_all<R: Wait, P: Post>(rt: &R, post: &mut P, load: Load) -> bool {
+    let mut room = [0; 1024];
+    for _ in 0..load.count {
+        if post.receive(rt, &mut room) != Some(load.bytes)
+            || !post.send(rt, room.get(..load.bytes).unwrap_or(&[]))
+        {
             return false;
         }
     }
     true
 }
 
-/// Sends so many letters, each after the answer to the one before: whether each came back.
-fn ask_all<R: Wait, W: Way>(rt: &R, way: &mut W, load: Load, count: u32) -> bool {
-    for _ in 0..count {
-        if !push_one(rt, way, load) || !pop_one(rt, way) {
-            return false;
-        }
-    }
-    true
-}
-
-/// Answers so many letters: whether each answer went back.
-fn answer_all<R: Wait, W: Way>(rt: &R, way: &mut W, load: Load, count: u32) -> bool {
-    for _ in 0..count {
-        if !pop_one(rt, way) || !push_one(rt, way, load) {
-            return false;
-        }
-    }
-    true
-}
-
-/// How long so many items took from one thread to another, if all came.
+/// How long the letters took from one thread to another, if all came.
 ///
 /// # Errors
 ///
 /// Those of the clock, and of a thread that can't be started.
-pub fn one_way<R: Threads + Wait + Clock + Copy + Send + 'static, W: Way + Send + 'static>(
+pub fn one_way<R: Threads + Wait + Clock + Copy + Send + 'static, P: Post + Send + 'static>(
     rt: &R,
-    sender: W,
-    receiver: W,
+    sender: P,
+    receiver: P,
     load: Load,
-    count: u32,
 ) -> io::Result<Option<Duration>> {
     let mut receiver = receiver;
     let theirs = *rt;
     let start = Instant::now(rt)?;
     let child = thread::spawn(rt, move || {
         let mut sender = sender;
-        push_all(&theirs, &mut sender, load, count)
+        send_all(&theirs, &mut sender, load)
     })?;
-    let came = pop_all(rt, &mut receiver, count);
+    let came = receive_all(rt, &mut receiver, load);
     let went = child.join(rt);
     let time = start.elapsed(rt)?;
     Ok(if came && went { Some(time) } else { None })
 }
 
-/// How long so many items took there and back, each after the one before, if all came back.
+/// How long the letters took there and back, each after the one before, if all came back.
 ///
 /// # Errors
 ///
 /// Those of the clock, and of a thread that can't be started.
-pub fn there_and_back<R: Threads + Wait + Clock + Copy + Send + 'static, W: Way + Send + 'static>(
+pub fn there_and_back<R: Threads + Wait + Clock + Copy + Send + 'static, P: Post + Send + 'static>(
     rt: &R,
-    asker: W,
-    answerer: W,
+    asker: P,
+    answerer: P,
     load: Load,
-    count: u32,
 ) -> io::Result<Option<Duration>> {
     let mut asker = asker;
     let theirs = *rt;
     let start = Instant::now(rt)?;
     let child = thread::spawn(rt, move || {
         let mut answerer = answerer;
-        answer_all(&theirs, &mut answerer, load, count)
+        answer_all(&theirs, &mut answerer, load)
     })?;
-    let came = ask_all(rt, &mut asker, load, count);
+    let came = ask_all(rt, &mut asker, load);
     let went = child.join(rt);
     let time = start.elapsed(rt)?;
     Ok(if came && went { Some(time) } else { None })
+}
+
+/// How much processor time the letters took from one rank to another in one thread, if all came.
+///
+/// # Errors
+///
+/// Those of the clock.
+pub fn in_one_thread<R: Runtime + CpuClock>(
+    rt: &R,
+    alloc: Global,
+    load: Load,
+) -> io::Result<Option<Duration>> {
+    let (Some(mut zero), Some(mut one)) = (rank_of_two(alloc, 0), rank_of_two(alloc, 1)) else {
+        return Ok(None);
+    };
+    let filled = FILLED;
+    let bytes = filled.get(..load.bytes).unwrap_or(&[]);
+    let mut room = [0; 1024];
+    let start = rt.thread_cpu_time()?;
+    for _ in 0..load.count {
+        if carry(&mut zero, &mut one, bytes, &mut room) != Some(load.bytes) {
+            return Ok(None);
+        }
+    }
+    let end = rt.thread_cpu_time()?;
+    Ok(Some(end.saturating_sub(start)))
+}
+
+/// A whole letter from rank 0 to rank 1 of two: how many bytes came.
+fn carry(zero: &mut Rank, one: &mut Rank, bytes: &[u8], room: &mut [u8]) -> Option<usize> {
+    let (source, dest) = (WorldRank { number: 0 }, WorldRank { number: 1 });
+    let id = start_receive(one, source)?;
+    if dest.number >= zero.ranks() || !start_send(zero, dest, bytes) {
+        return None;
+    }
+    let item = zero.take_out(dest.number)?;
+    if !take_in(one, source, item) {
+        return None;
+    }
+    match test_into(one, id, room) {
+        Tested::Done(length) => Some(length),
+        Tested::NotYet | Tested::Failed => None,
+    }
 }

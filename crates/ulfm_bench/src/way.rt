@@ -1,5 +1,5 @@
 //! Ways for items from one thread to another and back.
-ghost use Rattle.std.specs.Prelude.{◌<◌, vec_len, IsTrue};
+ghost use Rattle.std.specs.Prelude.{◌≡◌, ◌<◌, vec_len, IsTrue, IfErr};
 ghost use Rattle.ulfm_base.specs.Items.{ComesFrom};
 ghost use Rattle.ulfm_carrier.specs.Lanes.{IsReady};
 ghost use Rattle.ulfm_carrier.specs.Shared.{IsReady as IsReadyShared};
@@ -16,7 +16,8 @@ pub trait Way: Drop {
     fn me(&self) -> WorldRank;
 
     /// Pushes an item of this rank. It comes back where there was no room.
-    fn push<R: Wait>(&mut self, rt: &R, item: Item) -> Result<(), Item>;
+    fn push<R: Wait>(&mut self, rt: &R, item: Item) -> Result<(), Item>
+        ensures { IfErr result (λ back. back ≡ item) };
 
     /// Pops an item, if one was there.
     fn pop<R: Wait>(&mut self, rt: &R) -> Option<Item>;
@@ -144,7 +145,7 @@ impl Way for Queues {
 }
 
 /// Whether an item is one that this rank may push.
-fn is_of(item: &Item, rank: WorldRank) -> bool
+pub fn is_of(item: &Item, rank: WorldRank) -> bool
     ensures { IsTrue result → ComesFrom rank.number item.now }
 {
     match item {
