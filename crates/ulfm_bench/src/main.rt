@@ -6,6 +6,7 @@
 //! `match`, the matcher is measured beside plain lists; the second is then the most letters that a case has.
 #![tactic(auto)]
 
+mod both;
 mod case;
 mod matching;
 mod pairing;

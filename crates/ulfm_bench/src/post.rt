@@ -46,7 +46,7 @@ impl<W: Way> Post for Bare<W> {
         for _ in 0..TRIES {
             if let Some(item) = self.way.pop(rt) {
                 return match item {
-                    Item::Letter(letter) => put(room, letter.body),
+                    Item::Letter(letter) => put(room, &letter.body),
                     _ => None,
                 };
             }
@@ -56,8 +56,8 @@ impl<W: Way> Post for Bare<W> {
     }
 }
 
-/// Copies a body into a room, and frees it: how many bytes it has, if the room is long enough.
-pub fn put(room: &mut [u8], body: Body) -> Option<usize> {
+/// Copies a body into a room: how many bytes it has, if the room is long enough.
+pub fn put(room: &mut [u8], body: &Body) -> Option<usize> {
     let bytes = body.as_bytes();
     room.get_mut(..bytes.len())?.copy_from_slice(bytes);
     Some(bytes.len())

@@ -1,6 +1,7 @@
 //! A rank at its end of a way: whole letters, with their calls, turns and matching.
-ghost use Rattle.std.specs.Prelude.{◌≡◌, IsTrue};
+ghost use Rattle.std.specs.Prelude.{◌≡◌, ◌<◌, IsTrue, IfSome};
 ghost use Rattle.ulfm_rank.specs.Calls.{IsFrom};
+ghost use Rattle.ulfm_rank.specs.State.{MayReturn};
 
 use crate::post::{Post, TRIES, put};
 use crate::way::Way;
@@ -50,6 +51,17 @@ pub fn start_receive(rank: &mut Rank, other: WorldRank) -> Option<RequestId> {
     rank.irecv(world, Some(other.number), Some(TAG), ROOM).ok()
 }
 
+/// The first item that waits for a rank goes out, if there is one.
+pub fn take_out(rank: &mut Rank, dest: u8) -> Option<Item>
+    ensures inside { IfSome result (λ item. dest < rank.new.state.ranks) }
+    ensures returns { IfSome result (MayReturn rank.new.state dest) }
+{
+    if dest >= rank.ranks() {
+        return None;
+    }
+    rank.take_out(dest)
+}
+
 /// Takes an item that came from the other rank: whether it could.
 pub fn take_in(rank: &mut Rank, other: WorldRank, item: Item) -> bool {
     if rank.prepare().is_err()
@@ -66,7 +78,7 @@ pub fn take_in(rank: &mut Rank, other: WorldRank, item: Item) -> bool {
 /// Tests a receive, and copies the letter that it got into a room.
 pub fn test_into(rank: &mut Rank, id: RequestId, room: &mut [u8]) -> Tested {
     match rank.test(id) {
-        Ok(TestAnswer::Done(_, body)) => match put(room, body) {
+        Ok(TestAnswer::Done(_, body)) => match put(room, &body) {
             Some(length) => Tested::Done(length),
             None => Tested::Failed,
         },
@@ -88,10 +100,7 @@ fn is_from(item: &Item, source: WorldRank) -> bool
 impl<W: Way> Seat<W> {
     /// The first item for a rank goes out, if there is one and room for it. Whether one went.
     fn push_one<R: Wait>(&mut self, rt: &R, dest: u8) -> bool {
-        if dest >= self.rank.ranks() {
-            return false;
-        }
-        let Some(item) = self.rank.take_out(dest) else {
+        let Some(item) = take_out(&mut self.rank, dest) else {
             return false;
         };
         match self.way.push(rt, item) {

@@ -1,4 +1,5 @@
 //! The trips that are made, and what is told of them.
+use crate::both::Both;
 use crate::pairs::{over_lanes, over_queues, over_rings, over_shared};
 use crate::post::{Bare, Post};
 use crate::seat::{Seat, rank_of_two};
@@ -47,7 +48,12 @@ pub fn of_ranks<R: Runtime + Threads + Wait + CpuClock + Copy + Send + 'static>(
         seated(over_shared(alloc), alloc),
         load,
     )?;
-    let time = in_one_thread(rt, alloc, load).ok()??;
+    let both = Both {
+        zero: rank_of_two(alloc, 0)?,
+        one: rank_of_two(alloc, 1)?,
+        posted: None,
+    };
+    let time = in_one_thread(rt, both, load).ok()??;
     tell(rt, "rank", "in one thread", load, time)
 }
 

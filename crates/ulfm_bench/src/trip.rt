@@ -1,14 +1,9 @@
 //! Trips of letters, and the time that they took.
 use crate::post::Post;
-use crate::seat::{Tested, rank_of_two, start_receive, start_send, take_in, test_into};
-use std::alloc::Global;
-use std::rt::Runtime;
 use std::sync::Wait;
 use std::thread::Threads;
 use std::time::{Clock, CpuClock, Duration, Instant};
 use std::{io, thread};
-use ulfm_base::WorldRank;
-use ulfm_rank::Rank;
 
 /// So many letters of so many bytes, at most 1,024.
 #[derive(Clone, Copy)]
@@ -117,45 +112,23 @@ pub fn there_and_back<R: Threads + Wait + Clock + Copy + Send + 'static, P: Post
     Ok(if came && went { Some(time) } else { None })
 }
 
-/// How much processor time the letters took from one rank to another in one thread, if all came.
+/// How much processor time the letters took where one thread sends and receives each, if all came.
 ///
 /// # Errors
 ///
 /// Those of the clock.
-pub fn in_one_thread<R: Runtime + CpuClock>(
+pub fn in_one_thread<R: Wait + CpuClock, P: Post>(
     rt: &R,
-    alloc: Global,
+    both: P,
     load: Load,
 ) -> io::Result<Option<Duration>> {
-    let (Some(mut zero), Some(mut one)) = (rank_of_two(alloc, 0), rank_of_two(alloc, 1)) else {
-        return Ok(None);
-    };
-    let filled = FILLED;
-    let bytes = filled.get(..load.bytes).unwrap_or(&[]);
-    let mut room = [0; 1024];
+    let mut both = both;
     let start = rt.thread_cpu_time()?;
-    for _ in 0..load.count {
-        if carry(&mut zero, &mut one, bytes, &mut room) != Some(load.bytes) {
-            return Ok(None);
-        }
-    }
+    let came = ask_all(rt, &mut both, load);
     let end = rt.thread_cpu_time()?;
-    Ok(Some(end.saturating_sub(start)))
-}
-
-/// A whole letter from rank 0 to rank 1 of two: how many bytes came.
-fn carry(zero: &mut Rank, one: &mut Rank, bytes: &[u8], room: &mut [u8]) -> Option<usize> {
-    let (source, dest) = (WorldRank { number: 0 }, WorldRank { number: 1 });
-    let id = start_receive(one, source)?;
-    if dest.number >= zero.ranks() || !start_send(zero, dest, bytes) {
-        return None;
-    }
-    let item = zero.take_out(dest.number)?;
-    if !take_in(one, source, item) {
-        return None;
-    }
-    match test_into(one, id, room) {
-        Tested::Done(length) => Some(length),
-        Tested::NotYet | Tested::Failed => None,
-    }
+    Ok(if came {
+        Some(end.saturating_sub(start))
+    } else {
+        None
+    })
 }
