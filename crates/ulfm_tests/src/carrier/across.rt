@@ -116,15 +116,11 @@ fn letters_across_threads(rt: HostRuntime) -> Result<(), Fail> {
     let mut receiver = last(&mut ends).ok_or("no end")?;
     let sender = last(&mut ends).ok_or("no end")?;
     let theirs = rt;
+    let alloc = rt.alloc();
     let child = thread::spawn(&rt, move || {
         let mut sender = sender;
         matches!(
-            delivers_all(
-                &theirs,
-                theirs.alloc(),
-                &mut sender,
-                b"a letter for each byte"
-            ),
+            delivers_all(&theirs, alloc, &mut sender, b"a letter for each byte"),
             Ok(true)
         )
     });
@@ -142,22 +138,18 @@ fn two_senders_across_threads(rt: HostRuntime) -> Result<(), Fail> {
     let mut one = last(&mut ends).ok_or("no end")?;
     let zero = last(&mut ends).ok_or("no end")?;
     let theirs = rt;
+    let alloc = rt.alloc();
     let first = thread::spawn(&rt, move || {
         let mut zero = zero;
         matches!(
-            delivers_all(
-                &theirs,
-                theirs.alloc(),
-                &mut zero,
-                b"a letter for each byte"
-            ),
+            delivers_all(&theirs, alloc, &mut zero, b"a letter for each byte"),
             Ok(true)
         )
     });
     let second = thread::spawn(&rt, move || {
         let mut two = two;
         matches!(
-            delivers_all(&theirs, theirs.alloc(), &mut two, b"a letter for each byte"),
+            delivers_all(&theirs, alloc, &mut two, b"a letter for each byte"),
             Ok(true)
         )
     });
