@@ -1,11 +1,13 @@
 //! The reply of `run`.
-ghost use Rattle.std.specs.Prelude.{length, map, ℕ, ◌≡◌, ◌<◌, ◌≢◌, IfErr, IfOk, string_bytes, vec_len};
+ghost use Rattle.std.specs.Prelude.{All, length, map, ℕ, ◌≡◌, ◌<◌, ◌≢◌, IfErr, IfOk, string_bytes, vec_len};
 ghost use Rattle.ulfm_carrier.specs.declared.lane_ends.LaneEnds.{LaneEnds as Lanes};
 ghost use Rattle.ulfm_carrier.specs.declared.shared_ends.SharedEnds.{SharedEnds as Shared};
 ghost use Rattle.ulfm_carrier.specs.Family.{AllFresh};
 ghost use Rattle.ulfm_base.specs.Lists.{InPlace, at};
 ghost use Rattle.ulfm_carrier.specs.Lanes.{known_room, lane_name, lane_pushed, lane_taken, IsReady as IsReadyLane, OneCall as OneWiring};
 ghost use Rattle.ulfm_carrier.specs.Shared.{inbox_capacity, shared_name, shared_pushed, shared_taken, IsReady as IsReadyShared, OneCall as OneSeating};
+ghost use Rattle.ulfm_board.specs.Known.{OneBoard, nothing_known};
+ghost use Rattle.ulfm.specs.inside.Cells.{AreEnough};
 ghost use Rattle.ulfm.specs.Replies.{with_options, IsRunReply};
 ghost use Rattle.ulfm.specs.inside.Writing.{IsShown};
 ghost use Rattle.ulfm_replies.specs.Words.{AreInRange};
@@ -16,7 +18,7 @@ use std::alloc::{AllocError, Global};
 use std::sync::Wait;
 use std::thread::Threads;
 use ulfm_base::CallError;
-use ulfm_board::seats;
+use ulfm_board::{Decider, Seat, seats};
 use ulfm_carrier::{Ends, LaneEnds, SharedEnds, lanes, shared};
 use ulfm_replies::{Carrier, Failure, Reply, RunOptions, failed, failure_of, refusal, trace_reply};
 use ulfm_run::{Report, run_job};
@@ -142,7 +144,7 @@ fn run_by<E: Ends + Send, R: Threads + Wait + Sync>(
     ensures lawful { IfOk result (λ reports. IsLawful job.now reports.items) }
     ensures shown { IfErr result (λ failure. IsShown job.now failure) }
 {
-    let deciders = match seats(alloc, job.ranks(), job.rounds()) {
+    let deciders = match seats_of(alloc, job) {
         Ok(deciders) => deciders,
         Err(_) => return Err(Failure::OutOfMemory),
     };
@@ -153,4 +155,13 @@ fn run_by<E: Ends + Send, R: Threads + Wait + Sync>(
             None => unreachable!(),
         },
     }
+}
+
+/// The seats of a job's ranks at one board. It has a cell for each agreement that a rank can come to, as for each shrink.
+fn seats_of(alloc: Global, job: &Job) -> Result<Vec<Seat>, CallError>
+    ensures each { IfOk result (λ seats. vec_len seats ≡ job.now.ranks) }
+    ensures one_board { IfOk result (λ seats. OneBoard ⟦<Seat as Decider>⟧.board seats.items) }
+    ensures cells { IfOk result (λ seats. (rounds : ℕ) × AreEnough job.now rounds × All (λ seat. ⟦<Seat as Decider>⟧.known seat ≡ nothing_known rounds) seats.items) }
+{
+    seats(alloc, job.ranks(), job.rounds())
 }

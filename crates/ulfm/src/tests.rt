@@ -1,6 +1,7 @@
 //! Command lines and jobs from end to end, in memory.
 ghost use Rattle.std.specs.Prelude.{◌≤◌};
 
+mod agreements;
 mod broken;
 mod notes;
 mod options;

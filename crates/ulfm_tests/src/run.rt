@@ -1,5 +1,6 @@
 //! Jobs that threads run.
 
+mod agreements;
 mod gallery;
 mod laid;
 mod meeting;

@@ -30,29 +30,39 @@ step = [
 ]
 "#;
 
-/// The trace of a job over these ends.
-fn trace_over<E, R>(rt: &R, alloc: Global, job: &Job, ends: Vec<E>) -> Result<String, Fail>
+/// The trace of a job over these ends, on a board with cells for so many rounds of agreements.
+fn trace_over<E, R>(
+    rt: &R,
+    alloc: Global,
+    job: &Job,
+    ends: Vec<E>,
+    rounds: u16,
+) -> Result<String, Fail>
 where
     E: Ends + Send,
     R: Threads + Wait + Sync,
     requires one_call { E.one_call (map E.name ends.items) }
     requires fresh { AllFresh E.count E.pushed E.taken E.ready ends.items }
 {
-    let deciders = seats(alloc, job.ranks(), 0)?;
+    let deciders = seats(alloc, job.ranks(), rounds)?;
     let report = run_job(rt, alloc, job, ends, deciders)?;
     Ok(trace_text(alloc, &report.ranks)?)
 }
 
-/// The traces of a job, over lanes and over shared inboxes.
-fn traces_of<R>(rt: &R, alloc: Global, text: &str) -> Result<(String, String), Fail>
+/// The traces of a job, over lanes and over shared inboxes, on boards with cells for so many rounds of agreements.
+pub(super) fn traces_of<R>(
+    rt: &R,
+    alloc: Global,
+    job: &Job,
+    rounds: u16,
+) -> Result<(String, String), Fail>
 where
     R: Threads + Wait + Sync,
 {
-    let job = Job::read(alloc, text.as_bytes())?;
     let ends = lanes(alloc, job.ranks(), job.capacity())?;
-    let over_lanes = trace_over(rt, alloc, &job, ends)?;
+    let over_lanes = trace_over(rt, alloc, job, ends, rounds)?;
     let ends = shared(alloc, job.ranks(), job.capacity())?;
-    let over_shared = trace_over(rt, alloc, &job, ends)?;
+    let over_shared = trace_over(rt, alloc, job, ends, rounds)?;
     Ok((over_lanes, over_shared))
 }
 
@@ -96,7 +106,8 @@ fn are_answered(alloc: Global, over_lanes: &str, over_shared: &str) -> Result<bo
 #[test]
 fn sends_and_stops(rt: HostRuntime) -> Result<(), Fail> {
     let alloc = rt.alloc();
-    let (over_lanes, over_shared) = traces_of(&rt, alloc, SENDS_AND_STOPS)?;
+    let job = Job::read(alloc, SENDS_AND_STOPS.as_bytes())?;
+    let (over_lanes, over_shared) = traces_of(&rt, alloc, &job, 0)?;
     let answered = are_answered(alloc, over_lanes.as_str(), over_shared.as_str())?;
     assert!(rt; answered);
     Ok(())

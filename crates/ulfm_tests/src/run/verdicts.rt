@@ -1,5 +1,5 @@
 //! Runs at rest and not at rest, and decisions that nobody proposed.
-ghost use Rattle.std.specs.Prelude.{◌≡◌, ◌++◌, ℕ, All, IfOk, OnErr, map, vec_len};
+ghost use Rattle.std.specs.Prelude.{◌≡◌, ◌<◌, ◌++◌, ℕ, All, IfOk, OnErr, Some, length, map, slice_set, vec_len};
 ghost use Rattle.ulfm_board.specs.Known.{nothing_known, OneBoard};
 
 use std::alloc::Global;
@@ -54,6 +54,18 @@ step = [
 ]
 "#;
 
+/// A rank stops, and the others agree.
+const AGREEMENT_OF_FOUR: &str = r#"ranks = 4
+capacity = 4
+turns = 1000000
+step = [
+    {rank = 0, op = "agree", flag = 7},
+    {rank = 1, op = "stop"},
+    {rank = 2, op = "agree", flag = 7},
+    {rank = 3, op = "agree", flag = 7},
+]
+"#;
+
 /// Whether a job of two ranks that was read comes to rest over lanes.
 fn rests_as_read<R>(rt: &R, alloc: Global, job: &Job) -> Result<bool, Fail>
 where
@@ -89,6 +101,8 @@ enum Invention {
     Stop,
     /// That rank 1 entered the shrink, with no failures known to it.
     Entry,
+    /// That rank 1 entered the agreement, with the flag 0.
+    Flag,
 }
 
 /// A seat that hands in, for each decision, one with an invention.
@@ -146,6 +160,43 @@ fn with_entry(decision: &Decision) -> Decision
     }
 }
 
+/// The entries with another one of rank 1.
+fn with_second(
+    entries: &[Option<Contribution>; 8],
+    brought: Contribution,
+) -> [Option<Contribution>; 8]
+    ensures changed { result ≡ slice_set entries.now 1 (Some brought) }
+    ensures inside { 1 < length entries.now }
+{
+    let mut changed = *entries;
+    changed[1] = Some(brought);
+    changed
+}
+
+/// The decision of an agreement, where rank 1 is a member with rank 1 listed with the flag 0, so that the value is 0.
+fn with_flag(decision: &Decision) -> Decision
+    ensures { result.topic ≡ decision.now.topic }
+{
+    if !decision.old.contains(WorldRank { number: 1 }) {
+        return decision.copied();
+    }
+    let Purpose::Agree { .. } = decision.topic.purpose else {
+        return decision.copied();
+    };
+    let zero = Contribution {
+        known: RankSet::new(),
+        flag: Some(0),
+    };
+    Decision {
+        topic: decision.topic,
+        old: decision.old.copied(),
+        entries: with_second(&decision.entries, zero),
+        excluded: decision.excluded,
+        fresh: decision.fresh.copied(),
+        value: Some(0),
+    }
+}
+
 /// The decision with an invention.
 fn invented(decision: &Decision, invention: Invention) -> Decision
     ensures { result.topic ≡ decision.now.topic }
@@ -153,6 +204,7 @@ fn invented(decision: &Decision, invention: Invention) -> Decision
     match invention {
         Invention::Stop => with_stop(decision),
         Invention::Entry => with_entry(decision),
+        Invention::Flag => with_flag(decision),
     }
 }
 
@@ -170,13 +222,13 @@ impl Decider for Inventor {
     }
 }
 
-/// Four inventors on one board.
+/// Four inventors on one board, with cells for one round of agreements.
 fn inventors(alloc: Global, invention: Invention) -> Result<Vec<Inventor>, CallError>
     ensures one_board { IfOk result (λ all. OneBoard ⟦<Inventor as Decider>⟧.board all.items) }
-    ensures nothing_known { IfOk result (λ all. All (λ i. ⟦<Inventor as Decider>⟧.known i ≡ nothing_known 0) all.items) }
+    ensures nothing_known { IfOk result (λ all. All (λ i. ⟦<Inventor as Decider>⟧.known i ≡ nothing_known 1) all.items) }
 {
     let mut all = Vec::new(alloc);
-    for seat in seats(alloc, 4, 0)? {
+    for seat in seats(alloc, 4, 1)? {
         all.push(Inventor { seat, invention })?;
     }
     Ok(all)
@@ -202,24 +254,34 @@ where
 }
 
 /// How many reports show that an invention was adopted over lanes, 0 where none do.
-fn caught<R>(rt: &R, alloc: Global, invention: Invention) -> Result<usize, Fail>
+fn caught<R>(rt: &R, alloc: Global, text: &str, invention: Invention) -> Result<usize, Fail>
 where
     R: Threads + Wait + Sync,
 {
-    let job = Job::read(alloc, SHRINK_OF_FOUR.as_bytes())?;
+    let job = Job::read(alloc, text.as_bytes())?;
     caught_as_read(rt, alloc, &job, invention)
 }
 
 #[test]
 fn an_invented_stop_is_caught(rt: HostRuntime) -> Result<(), Fail> {
     let alloc = rt.alloc();
-    assert_eq!(rt; caught(&rt, alloc, Invention::Stop)?, 4);
+    let found = caught(&rt, alloc, SHRINK_OF_FOUR, Invention::Stop)?;
+    assert_eq!(rt; found, 4);
     Ok(())
 }
 
 #[test]
 fn an_invented_entry_is_caught(rt: HostRuntime) -> Result<(), Fail> {
     let alloc = rt.alloc();
-    assert_eq!(rt; caught(&rt, alloc, Invention::Entry)?, 4);
+    let found = caught(&rt, alloc, SHRINK_OF_FOUR, Invention::Entry)?;
+    assert_eq!(rt; found, 4);
+    Ok(())
+}
+
+#[test]
+fn an_invented_flag_is_caught(rt: HostRuntime) -> Result<(), Fail> {
+    let alloc = rt.alloc();
+    let found = caught(&rt, alloc, AGREEMENT_OF_FOUR, Invention::Flag)?;
+    assert_eq!(rt; found, 4);
     Ok(())
 }

@@ -24,5 +24,5 @@ returns-clause-nothing_known c =
     let inventor : Seat → Inventor = λ s. record { seat = s; invention = c.args.invention } in
     let none : into_iter_items c.loop-seat.seat-iterator ≡ [] = nil_from_length (into_iter_items c.loop-seat.seat-iterator) (omega (arith, c.in-None.ensures.steps.0, c.loop-seat.seat-iterator.rest.ok)) in
     let made = all_made inventor c.loop-seat.all.items (into_iter_items c.loop-seat.seat-iterator) (into_iter_items c.into_iter-seat-iterator.result) c.in_ok-seat-items.seat-items.items none c.loop-seat.invariant c.into_iter-seat-iterator.ensures.into_iter_gives.0 in
-    let KnowsNothing : Inventor → Type 0 = λ i. notes_known i.seat.notes.items ≡ nothing_known 0 in
+    let KnowsNothing : Inventor → Type 0 = λ i. notes_known i.seat.notes.items ≡ nothing_known 1 in
     subst (All KnowsNothing) (sym made) (All-map KnowsNothing inventor c.in_ok-seat-items.seat-items.items c.in_ok-seat-items.ensures.nothing_known)
