@@ -8,7 +8,7 @@ ghost use Rattle.ulfm_rank.specs.Paired.{IsPaired};
 ghost use Rattle.ulfm_rank.specs.State.{IsState, logged, outbox, returned, GoesOut, MayReturn};
 ghost use Rattle.ulfm_rank.specs.Checks.{Passes, FailsOrStarves, start_checks};
 ghost use Rattle.ulfm_rank.specs.Calls.{IsFrom};
-ghost use Rattle.ulfm_script.specs.Player.{start_player, with_rank, answered, polled, IsFree, Polls, IsCalled, IfAnswered, GivesUpStep, awaits_decision};
+ghost use Rattle.ulfm_script.specs.Player.{start_player, with_rank, answered, polled, polled_on, IsFree, Polls, IsCalled, IfAnswered, GivesUpStep, awaits_decision};
 
 use crate::answer::{Called, StepAnswer, StepReport};
 use crate::poll::poll;
@@ -217,6 +217,18 @@ impl Player {
         self.current = Some(step);
         self.at = at;
         self.polls = self.polls.saturating_add(1);
+    }
+
+    /// So many more polls of the open step at once, where the next one is in vain: then they all are. It never answers out of
+    /// memory.
+    pub fn poll_on(&mut self, times: u32)
+        requires { IsSome self.old.player.current }
+        ensures player { self.new.player ≡ polled_on self.old.player times }
+        ensures room { self.new.room ≡ self.old.room }
+        ensures prepared { self.new.prepared ≡ self.old.prepared }
+    {
+        self.at = self.rank.log().len();
+        self.polls = self.polls.saturating_add(times);
     }
 
     /// Makes room for one `take` of its rank, or for one poll.
