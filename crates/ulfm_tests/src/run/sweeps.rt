@@ -17,6 +17,9 @@ use ulfm_rank::Entry;
 use ulfm_run::{Report, at_rest, run_job};
 use ulfm_script::{Job, RankReport};
 
+/// The most polls of a step, and of turns after a rank's last one.
+const TURNS: u32 = 4_000;
+
 /// Whether a rank took the notice of a stop.
 fn knows(told: &RankReport, stopped: WorldRank) -> bool {
     told.log().iter().any(
@@ -162,7 +165,7 @@ where
 
 /// Whether the runs of a job, with a stop before each step of each rank and after its last one in turn, keep the facts of rest
 /// wherever they come to rest, and some come to rest over each carrier.
-fn settles<R>(rt: &R, alloc: Global, recovery: &Recovery) -> Result<bool, Fail>
+pub fn settles<R>(rt: &R, alloc: Global, recovery: &Recovery) -> Result<bool, Fail>
 where
     R: Threads + Wait + Sync,
 {
@@ -183,6 +186,7 @@ fn stops_in_revoke_shrink_go_on(rt: HostRuntime) -> Result<(), Fail> {
     let recovery = Recovery {
         ranks: 4,
         capacity: 4,
+        turns: TURNS,
         steps: &REVOKE_SHRINK_GO_ON,
     };
     assert!(rt; settles(&rt, rt.alloc(), &recovery)?);
@@ -194,6 +198,7 @@ fn stops_in_revoked_and_shrunk(rt: HostRuntime) -> Result<(), Fail> {
     let recovery = Recovery {
         ranks: 3,
         capacity: 1,
+        turns: TURNS,
         steps: &REVOKED_AND_SHRUNK,
     };
     assert!(rt; settles(&rt, rt.alloc(), &recovery)?);
@@ -205,6 +210,7 @@ fn stops_in_stopped_after_entering(rt: HostRuntime) -> Result<(), Fail> {
     let recovery = Recovery {
         ranks: 3,
         capacity: 4,
+        turns: TURNS,
         steps: &STOPPED_AFTER_ENTERING,
     };
     assert!(rt; settles(&rt, rt.alloc(), &recovery)?);
@@ -216,6 +222,7 @@ fn stops_in_shrink_again(rt: HostRuntime) -> Result<(), Fail> {
     let recovery = Recovery {
         ranks: 4,
         capacity: 4,
+        turns: TURNS,
         steps: &SHRINK_AGAIN,
     };
     assert!(rt; settles(&rt, rt.alloc(), &recovery)?);
@@ -227,6 +234,7 @@ fn stops_in_shrunk_but_revoked(rt: HostRuntime) -> Result<(), Fail> {
     let recovery = Recovery {
         ranks: 4,
         capacity: 1,
+        turns: TURNS,
         steps: &SHRUNK_BUT_REVOKED,
     };
     assert!(rt; settles(&rt, rt.alloc(), &recovery)?);
