@@ -146,9 +146,9 @@ outcome_of new _ = Moved
 
 -- so many polls of a step by the player r, one after another, each of which leaves it open
 abbrev pub CallsInVain : ℕ → World → ℕ → Step → World → Type 0
-CallsInVain zero old r step new = new ≡ old
-CallsInVain (suc n) old r step new =
-    (mid : World) × Happens old (Call r step) mid × (outcome_of mid (Call r step) ≡ NotYet) × CallsInVain n mid r step new
+CallsInVain zero old r asked new = new ≡ old
+CallsInVain (suc n) old r asked new =
+    (mid : World) × Happens old (Call r asked) mid × (outcome_of mid (Call r asked) ≡ NotYet) × CallsInVain n mid r asked new
 
 -- the rank r is one of the world
 abbrev pub IsInside : World → ℕ → Type 0
