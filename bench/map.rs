@@ -17,13 +17,10 @@ struct Key {
     tag: u16,
 }
 
-/// As large as a letter of the matcher; its bytes are moved, and not read.
-#[allow(dead_code)]
-#[derive(Clone, Copy)]
+/// As a letter of the matcher: its bytes stand in one block of the heap, and are moved, and not read.
 struct Letter {
     key: Key,
-    bytes: [u8; 1024],
-    used: usize,
+    bytes: Vec<u8>,
 }
 
 /// A case: whether all letters come from one source, whether they have one tag, whether the sources take turns, and whether the
@@ -80,55 +77,51 @@ struct Map {
 }
 
 impl Map {
-    fn arrive(&mut self, letter: &Letter, place: &mut Letter) -> bool {
+    /// The letter, where a receive waited for it.
+    fn arrive(&mut self, letter: Letter) -> Option<Letter> {
         self.count += 1;
         if self.waiting.take(letter.key).is_some() {
-            *place = *letter;
-            return true;
+            return Some(letter);
         }
-        self.kept.put(letter.key, *letter);
-        false
+        self.kept.put(letter.key, letter);
+        None
     }
 
-    fn post(&mut self, key: Key, place: &mut Letter) -> bool {
+    /// The letter that the receive gets.
+    fn post(&mut self, key: Key) -> Option<Letter> {
         self.count += 1;
-        if let Some(letter) = self.kept.take(key) {
-            *place = letter;
-            return true;
+        let letter = self.kept.take(key);
+        if letter.is_none() {
+            self.waiting.put(key, self.count);
         }
-        self.waiting.put(key, self.count);
-        false
+        letter
     }
 }
 
-fn step(map: &mut Map, arrives: bool, letter: &mut Letter, place: &mut Letter, key: Key) -> bool {
+/// Whether a letter and a receive found one another.
+fn step(map: &mut Map, arrives: bool, key: Key) -> bool {
     let found = if arrives {
-        letter.key = key;
-        map.arrive(letter, place)
+        map.arrive(Letter { key, bytes: [b'x'; 1024].to_vec() })
     } else {
-        map.post(key, place)
+        map.post(key)
     };
-    black_box(&*place);
-    found
+    found.is_some_and(|letter| black_box(&letter.bytes).len() == 1024)
 }
 
-fn round(map: &mut Map, case: Case, count: u16, letter: &mut Letter) {
-    let mut place = *letter;
+fn round(map: &mut Map, case: Case, count: u16) {
     for k in 0..count {
-        assert!(!step(map, case.kept, letter, &mut place, key(case, count, k)));
+        assert!(!step(map, case.kept, key(case, count, k)));
     }
     for k in (0..count).rev() {
-        assert!(step(map, !case.kept, letter, &mut place, key(case, count, k)));
+        assert!(step(map, !case.kept, key(case, count, k)));
     }
 }
 
 fn measure(case: Case, count: u16) {
     let mut map = Map { kept: Queues(HashMap::new()), waiting: Queues(HashMap::new()), count: 0 };
-    let mut letter = Letter { key: key(case, count, 0), bytes: [b'x'; 1024], used: 1024 };
-    black_box(letter.used);
     for number in 0..LETTERS / count + 2 {
         let start = Instant::now();
-        round(&mut map, case, count, &mut letter);
+        round(&mut map, case, count);
         let time = start.elapsed().as_nanos() / u128::from(count);
         if number > 0 {
             eprintln!("map, {}, {count}: {time} ns a letter", case.name);

@@ -3,6 +3,7 @@ pub mod Group
 pub mod Context
 pub mod Pattern
 pub mod Items
+pub mod Noted
 pub mod Topic
 pub mod Decision
 pub mod Error

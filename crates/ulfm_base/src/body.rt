@@ -1,29 +1,32 @@
 //! The bytes of a message.
-ghost use Rattle.std.specs.Prelude.{◌≡◌, ◌==◌, ◌<◌, ◌≤◌, length, MatchResult, OnOk};
+ghost use Rattle.std.specs.Prelude.{◌≡◌, ◌==◌, ◌≤◌, length, IfOk, IsOk};
 
-use crate::error::CallError;
+use crate::error::OutOfMemory;
+use std::alloc::Global;
 use std::marker::Model;
 
-/// What a message carries: 0 to 1,024 bytes, which stand inline. Contracts see the list of them.
-#[derive(Clone, Copy)]
+/// What a message carries: bytes. Up to 30 stand inline, more in one block of the heap. Contracts see the list of them.
+#[derive(Drop)]
 pub struct Body {
-    bytes: [u8; 1024],
-    used: usize,
+    bytes: Bytes,
+}
+
+/// Where the bytes of a body stand.
+#[derive(Drop)]
+pub(crate) enum Bytes {
+    Inline(u8, [u8; 30]),
+    Block(Vec<u8>),
 }
 
 impl Model for Body {
-    ghost use Rattle.std.specs.Prelude.{ℕ, List, take, replicate, length, ◌-◌, ◌++◌};
-    ghost use Rattle.ulfm_base.specs.inside.Body.{IsPadded, back_again};
+    ghost use Rattle.std.specs.Prelude.{ℕ, List};
+    ghost use Rattle.ulfm_base.specs.inside.Body.{bytes_of, Fits};
 
     ghost Value = { List ℕ };
 
-    ghost view = { λ b. take b.used b.bytes };
+    ghost view = { λ b. bytes_of b.bytes };
 
-    ghost invariant = { λ b. IsPadded b.used b.bytes };
-
-    ghost inverse = { λ xs. record { bytes = xs ++ replicate (1024 - length xs) 0; used = length xs } };
-
-    ghost inverse_ok = { λ b h. back_again b h };
+    ghost invariant = { λ b. Fits b.bytes };
 }
 
 impl Body {
@@ -31,19 +34,20 @@ impl Body {
     ///
     /// # Errors
     ///
-    /// `TooLong` where they are more than 1,024.
-    pub fn from_bytes(bytes: &[u8]) -> Result<Body, CallError>
-        ensures bytes { MatchResult result (λ body. body ≡ bytes.now) (λ error. (error ≡ CallError.TooLong) × (1024 < length bytes.now)) }
-        ensures accepted { OnOk result (length bytes.now ≤ 1024) }
+    /// `OutOfMemory` where they are more than 30 and a growth was refused.
+    pub fn from_bytes(alloc: Global, bytes: &[u8]) -> Result<Body, OutOfMemory>
+        ensures bytes { IfOk result (λ body. body ≡ bytes.now) }
+        ensures short { length bytes.now ≤ 30 → IsOk result }
     {
-        if bytes.len() > 1024 {
-            return Err(CallError::TooLong);
+        if bytes.len() > 30 {
+            return Ok(Body {
+                bytes: Bytes::Block(Vec::from_slice(alloc, bytes)?),
+            });
         }
-        let mut inline = [0; 1024];
+        let mut inline = [0; 30];
         inline[..bytes.len()].copy_from_slice(bytes);
         Ok(Body {
-            bytes: inline,
-            used: bytes.len(),
+            bytes: Bytes::Inline(bytes.len() as u8, inline),
         })
     }
 
@@ -51,21 +55,23 @@ impl Body {
     pub fn as_bytes(&self) -> &[u8]
         ensures { result.now ≡ self.now }
     {
-        &self.bytes[..self.used]
+        match &self.bytes {
+            Bytes::Inline(used, bytes) => &bytes[..*used as usize],
+            Bytes::Block(block) => block.as_slice(),
+        }
     }
 
-    /// How many bytes there are, 0 to 1,024.
+    /// How many bytes there are.
     pub fn len(&self) -> usize
-        ensures len { result ≡ length self.now }
-        ensures small { result ≤ 1024 }
+        ensures { result ≡ length self.now }
     {
-        self.used
+        self.as_bytes().len()
     }
 
     /// Whether there are none.
     pub fn is_empty(&self) -> bool
         ensures { result ≡ (length self.now == 0) }
     {
-        self.used == 0
+        self.len() == 0
     }
 }

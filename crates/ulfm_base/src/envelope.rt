@@ -16,11 +16,11 @@ pub struct Envelope {
     pub tag: Tag,
 }
 
-/// A message with its envelope. It is copied without memory.
-#[derive(Clone, Copy)]
+/// A message with its envelope.
+#[derive(Drop)]
 pub struct Letter {
     /// What matching looks at.
     pub envelope: Envelope,
-    /// What is carried, 0 to 1,024 bytes.
+    /// What is carried.
     pub body: Body,
 }

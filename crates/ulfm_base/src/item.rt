@@ -4,8 +4,8 @@ use crate::context::Context;
 use crate::entrance::Entrance;
 use crate::envelope::Letter;
 
-/// What stands in an outbox and in an inbox. It is copied without memory.
-#[derive(Clone, Copy)]
+/// What stands in an outbox and in an inbox.
+#[derive(Drop)]
 pub enum Item {
     /// A message.
     Letter(Letter),
@@ -16,3 +16,5 @@ pub enum Item {
     /// That its sender entered a shrink or an agreement.
     Enter(Entrance),
 }
+
+const _: () = prove!(size_of::<Item>() <= 48);

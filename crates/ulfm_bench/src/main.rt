@@ -1,70 +1,62 @@
-//! How fast letters go over the two carriers, beside the kit's rings and queues alone: on standard error, in letters a second.
-//! The first word, if there is one, is the number of letters of each trip; the second the bytes of the letters, 8 or 1024, where
-//! the trips of one size alone are made. Where the first word is `match`, the matcher is measured beside plain lists; the second
-//! is then the most letters that a case has.
+//! How fast letters go: on standard error, in nanoseconds a letter. Over the two carriers, beside the kit's rings and queues
+//! alone, each with letters that their sender makes, and that their receiver copies into a room and frees.
+//! The first word, if there is one, is the number of letters of each trip; the second the bytes of the letters, 8, 64 or 1024,
+//! where the trips of one size alone are made. Where a word `rank` stands before these, the letters are whole ones, of ranks with
+//! their matching, over both carriers between two threads, and in one thread by its processor time. Where the first word is
+//! `match`, the matcher is measured beside plain lists; the second is then the most letters that a case has.
 #![tactic(auto)]
 
+mod both;
 mod case;
 mod matching;
 mod pairing;
 mod pairs;
+mod post;
+mod seat;
+mod telling;
 mod trip;
 mod way;
 
 use crate::matching::each_case;
-use crate::pairs::{letter, over_lanes, over_queues, over_rings, over_shared};
-use crate::trip::{one_way, there_and_back};
-use crate::way::Way;
+use crate::telling::{of_ranks, of_ways};
+use crate::trip::Load;
 use std::alloc::Global;
 use std::env;
 use std::process::ExitCode;
 use std::rt::Runtime;
 use std::sync::Wait;
 use std::thread::Threads;
-use std::time::{Clock, Duration};
+use std::time::CpuClock;
 
 /// How many letters each trip has, where no word says it.
 const LETTERS: u32 = 20_000;
 
 /// The bytes of the letters.
-const SIZES: [u32; 2] = [8, 1024];
+const SIZES: [u32; 3] = [8, 64, 1024];
 
 /// The most letters that a case of the matcher has, where no word says it.
 const MOST: u32 = 10_000;
 
 fn main(rt: HostRuntime) -> ExitCode {
-    let measured = if is_match(&rt) {
-        each_case(&rt, rt.alloc(), number(&rt, 2).unwrap_or(MOST))
+    let alloc = rt.alloc();
+    let measured = if is_first(&rt, "match") {
+        each_case(&rt, alloc, number(&rt, 2).unwrap_or(MOST))
+    } else if is_first(&rt, "rank") {
+        let count = number(&rt, 2).unwrap_or(LETTERS);
+        each_size(&rt, alloc, number(&rt, 3), count, true)
     } else {
         let count = number(&rt, 1).unwrap_or(LETTERS);
-        trips(&rt, rt.alloc(), number(&rt, 2), count)
+        each_size(&rt, alloc, number(&rt, 2), count, false)
     };
     ExitCode::from(measured.is_none() as u8)
 }
 
-/// Whether the first word asks for the matcher.
-fn is_match(rt: &HostRuntime) -> bool {
+/// Whether the first word after the program's name is this one.
+fn is_first(rt: &HostRuntime, word: &str) -> bool {
     match env::args(rt) {
-        Ok(mut words) => words.nth(1).is_some_and(|word| word.as_str() == "match"),
+        Ok(mut words) => words.nth(1).is_some_and(|first| first.as_str() == word),
         Err(_) => false,
     }
-}
-
-/// The trips with letters of each size, or of this one alone. Nothing where one of them failed.
-fn trips<R: Runtime + Threads + Wait + Copy + Send + 'static>(
-    rt: &R,
-    alloc: Global,
-    only: Option<u32>,
-    count: u32,
-) -> Option<()> {
-    for bytes in SIZES {
-        if only.unwrap_or(bytes) != bytes {
-            continue;
-        }
-        there_each(rt, alloc, bytes as usize, count)?;
-        and_back_each(rt, alloc, bytes as usize, count)?;
-    }
-    Some(())
 }
 
 /// The number that a word has, by its place after the program's name, if it has one.
@@ -73,83 +65,28 @@ fn number(rt: &HostRuntime, place: usize) -> Option<u32> {
     words.nth(place)?.parse().ok()
 }
 
-/// The trip one way over each carrier and each ring or queue alone, with letters of so many bytes. Nothing where one of them
+/// The trips with letters of each size, or of this one alone: those of ranks, or those over ways alone. Nothing where one of them
 /// failed.
-fn there_each<R: Runtime + Threads + Wait + Copy + Send + 'static>(
+fn each_size<R: Runtime + Threads + Wait + CpuClock + Copy + Send + 'static>(
     rt: &R,
     alloc: Global,
-    bytes: usize,
+    only: Option<u32>,
     count: u32,
+    whole: bool,
 ) -> Option<()> {
-    let (zero, one) = over_lanes(alloc).ok()?;
-    there(rt, "lane", zero, one, bytes, count)?;
-    let (zero, one) = over_rings(alloc).ok()?;
-    there(rt, "ring", zero, one, bytes, count)?;
-    let (zero, one) = over_shared(alloc).ok()?;
-    there(rt, "shared", zero, one, bytes, count)?;
-    let (zero, one) = over_queues(alloc).ok()?;
-    there(rt, "queue", zero, one, bytes, count)?;
+    for bytes in SIZES {
+        if only.unwrap_or(bytes) != bytes {
+            continue;
+        }
+        let load = Load {
+            bytes: bytes as usize,
+            count,
+        };
+        if whole {
+            of_ranks(rt, alloc, load)?;
+        } else {
+            of_ways(rt, alloc, load)?;
+        }
+    }
     Some(())
-}
-
-/// The trip there and back over each of them, with letters of so many bytes. Nothing where one of them
-/// failed.
-fn and_back_each<R: Runtime + Threads + Wait + Copy + Send + 'static>(
-    rt: &R,
-    alloc: Global,
-    bytes: usize,
-    count: u32,
-) -> Option<()> {
-    let (zero, one) = over_lanes(alloc).ok()?;
-    and_back(rt, "lane", zero, one, bytes, count)?;
-    let (zero, one) = over_rings(alloc).ok()?;
-    and_back(rt, "ring", zero, one, bytes, count)?;
-    let (zero, one) = over_shared(alloc).ok()?;
-    and_back(rt, "shared", zero, one, bytes, count)?;
-    let (zero, one) = over_queues(alloc).ok()?;
-    and_back(rt, "queue", zero, one, bytes, count)?;
-    Some(())
-}
-
-/// Tells how long the letters took from one thread to the other.
-fn there<R: Runtime + Threads + Wait + Copy + Send + 'static, W: Way + Send + 'static>(
-    rt: &R,
-    over: &str,
-    zero: W,
-    one: W,
-    bytes: usize,
-    count: u32,
-) -> Option<()> {
-    let item = letter(zero.me(), bytes).ok()?;
-    let time = one_way(rt, zero, one, item, count).ok()??;
-    tell(rt, over, "one way", bytes, count, time)
-}
-
-/// Tells how long the letters took to the other thread and back, one after the other.
-fn and_back<R: Runtime + Threads + Wait + Copy + Send + 'static, W: Way + Send + 'static>(
-    rt: &R,
-    over: &str,
-    zero: W,
-    one: W,
-    bytes: usize,
-    count: u32,
-) -> Option<()> {
-    let question = letter(zero.me(), bytes).ok()?;
-    let answer = letter(one.me(), bytes).ok()?;
-    let time = there_and_back(rt, zero, one, question, answer, count).ok()??;
-    tell(rt, over, "there and back", bytes, count, time)
-}
-
-/// Prints what a trip's time says, in letters a second.
-fn tell<R: Runtime>(
-    rt: &R,
-    over: &str,
-    trip: &str,
-    bytes: usize,
-    count: u32,
-    time: Duration,
-) -> Option<()> {
-    let nanoseconds = time.as_nanos().max(1);
-    let rate = count as u128 * 1_000_000_000 / nanoseconds;
-    eprintln!(rt; "{over}, {trip}, {bytes} bytes: {rate} letters a second").ok()
 }

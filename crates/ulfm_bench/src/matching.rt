@@ -35,21 +35,26 @@ fn over_both<R: Runtime>(rt: &R, alloc: Global, case: Case) -> Option<()> {
     let indexed = Indexed {
         matcher: Matcher::new(alloc),
     };
-    over(rt, "matcher", indexed, case)?;
+    over(rt, "matcher", alloc, indexed, case)?;
     let lists = Lists {
         plain: Plain::new(alloc),
     };
-    over(rt, "lists", lists, case)
+    over(rt, "lists", alloc, lists, case)
 }
 
 /// Measures a case over one of them: tells for each round the time of a letter, but for a first round that isn't told.
-fn over<R: Runtime, P: Pairing>(rt: &R, name: &str, pairing: P, case: Case) -> Option<()> {
+fn over<R: Runtime, P: Pairing>(
+    rt: &R,
+    name: &str,
+    alloc: Global,
+    pairing: P,
+    case: Case,
+) -> Option<()> {
     let mut pairing = pairing;
-    let letter = letter_of(case).ok()?;
     let (what, count) = (case.name(), case.count);
     for round in 0..LETTERS / count.max(1) + 2 {
         let start = Instant::now(rt).ok()?;
-        let is_whole = make_round(&mut pairing, case, &letter);
+        let is_whole = make_round(&mut pairing, alloc, case);
         let time = start.elapsed(rt).ok()?.as_nanos() / (count as u128).max(1);
         if !is_whole {
             return None;
@@ -62,46 +67,49 @@ fn over<R: Runtime, P: Pairing>(rt: &R, name: &str, pairing: P, case: Case) -> O
 }
 
 /// A letter of a case, with 1,024 bytes.
-fn letter_of(case: Case) -> Result<Letter, CallError> {
+fn letter_of(alloc: Global, case: Case, number: u16) -> Result<Letter, CallError> {
     Ok(Letter {
-        envelope: case.envelope(0),
-        body: Body::from_bytes(&[b'x'; 1024])?,
+        envelope: case.envelope(number),
+        body: Body::from_bytes(alloc, &[b'x'; 1024])?,
     })
 }
 
 /// One round: all letters come and then all receives, or the other way round, the second of them in reverse order. Whether each
 /// of the second found its fellow, and none of the first.
-fn make_round<P: Pairing>(pairing: &mut P, case: Case, letter: &Letter) -> bool {
+fn make_round<P: Pairing>(pairing: &mut P, alloc: Global, case: Case) -> bool {
     if case.kept {
-        let is_kept = arrivals(pairing, case, letter, false);
-        posts(pairing, case, letter, true) && is_kept
+        let is_kept = arrivals(pairing, alloc, case, false);
+        posts(pairing, case, true) && is_kept
     } else {
-        let is_waiting = posts(pairing, case, letter, false);
-        arrivals(pairing, case, letter, true) && is_waiting
+        let is_waiting = posts(pairing, case, false);
+        arrivals(pairing, alloc, case, true) && is_waiting
     }
 }
 
 /// Hands on the letters, from the first or from the last on: whether a receive got each, or none of them.
-fn arrivals<P: Pairing>(pairing: &mut P, case: Case, letter: &Letter, backwards: bool) -> bool {
-    let mut letter = *letter;
-    let mut place = letter;
+fn arrivals<P: Pairing>(pairing: &mut P, alloc: Global, case: Case, backwards: bool) -> bool {
     let mut is_so = true;
     for k in 0..case.count {
-        letter.envelope = case.envelope(if backwards { case.count - 1 - k } else { k });
-        let found = pairing.arrive(&letter, &mut place);
-        is_so = is_so && found == backwards && (!found || place.envelope == letter.envelope);
+        let number = if backwards { case.count - 1 - k } else { k };
+        let Ok(letter) = letter_of(alloc, case, number) else {
+            return false;
+        };
+        let found = pairing.arrive(letter);
+        is_so = is_so && found == backwards;
     }
     is_so
 }
 
 /// Posts the receives, from the first or from the last on: whether each got a letter that it admits, or none of them did.
-fn posts<P: Pairing>(pairing: &mut P, case: Case, letter: &Letter, backwards: bool) -> bool {
-    let mut place = *letter;
+fn posts<P: Pairing>(pairing: &mut P, case: Case, backwards: bool) -> bool {
     let mut is_so = true;
     for k in 0..case.count {
         let pattern = case.pattern(if backwards { case.count - 1 - k } else { k });
-        let found = pairing.post(pattern, &mut place);
-        is_so = is_so && found == backwards && (!found || pattern.admits(&place.envelope));
+        let is_right = match pairing.post(pattern) {
+            Some(letter) => backwards && pattern.admits(&letter.envelope),
+            None => !backwards,
+        };
+        is_so = is_so && is_right;
     }
     is_so
 }

@@ -8,11 +8,11 @@ use ulfm_plain::Plain;
 
 /// What pairs letters with receives.
 pub trait Pairing: Drop {
-    /// Posts a receive. The letter that it gets is copied into the place: whether there was one.
-    fn post(&mut self, pattern: Pattern, place: &mut Letter) -> bool;
+    /// Posts a receive: the letter that it gets.
+    fn post(&mut self, pattern: Pattern) -> Option<Letter>;
 
-    /// Hands on a letter. Where a receive gets it, it is copied into the place: whether one did.
-    fn arrive(&mut self, letter: &Letter, place: &mut Letter) -> bool;
+    /// Hands on a letter: whether a receive got it.
+    fn arrive(&mut self, letter: Letter) -> bool;
 }
 
 /// Whether the matcher can be handed something of a context.
@@ -29,26 +29,21 @@ pub struct Indexed {
 }
 
 impl Pairing for Indexed {
-    fn post(&mut self, pattern: Pattern, place: &mut Letter) -> bool {
+    fn post(&mut self, pattern: Pattern) -> Option<Letter> {
         if self.matcher.prepare().is_err() || !is_open(&self.matcher, pattern.context) {
-            return false;
+            return None;
         }
-        let (_, Some(letter)) = self.matcher.post(pattern) else {
-            return false;
-        };
-        *place = letter;
-        true
+        self.matcher.post(pattern).1
     }
 
-    fn arrive(&mut self, letter: &Letter, place: &mut Letter) -> bool {
+    fn arrive(&mut self, letter: Letter) -> bool {
         if self.matcher.prepare().is_err() || !is_open(&self.matcher, letter.envelope.context) {
             return false;
         }
-        let Arrived::Paired(_, letter) = self.matcher.arrive(*letter) else {
-            return false;
-        };
-        *place = letter;
-        true
+        match self.matcher.arrive(letter) {
+            Arrived::Paired(_, _) => true,
+            Arrived::Kept => false,
+        }
     }
 }
 
@@ -59,19 +54,17 @@ pub struct Lists {
 }
 
 impl Pairing for Lists {
-    fn post(&mut self, pattern: Pattern, place: &mut Letter) -> bool {
-        let Ok((_, Some(letter))) = self.plain.post(pattern) else {
-            return false;
-        };
-        *place = letter;
-        true
+    fn post(&mut self, pattern: Pattern) -> Option<Letter> {
+        match self.plain.post(pattern) {
+            Ok((_, letter)) => letter,
+            Err(_) => None,
+        }
     }
 
-    fn arrive(&mut self, letter: &Letter, place: &mut Letter) -> bool {
-        let Ok(Some(_)) = self.plain.arrive(*letter) else {
-            return false;
-        };
-        *place = *letter;
-        true
+    fn arrive(&mut self, letter: Letter) -> bool {
+        match self.plain.arrive(letter) {
+            Ok(paired) => paired.is_some(),
+            Err(_) => false,
+        }
     }
 }

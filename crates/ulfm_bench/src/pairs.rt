@@ -14,14 +14,13 @@ use ulfm_carrier::{Ends, lanes, shared};
 /// The places of each ring.
 const CAPACITY: u8 = 64;
 
-/// A letter of a rank with so many bytes, at most 1,024.
+/// A letter of a rank with these bytes.
 ///
 /// # Errors
 ///
-/// `TooLong` where there are more.
-pub fn letter(source: WorldRank, bytes: usize) -> Result<Item, CallError> {
-    let filled = [b'x'; 1024];
-    let body = Body::from_bytes(filled.get(..bytes).ok_or(CallError::TooLong)?)?;
+/// `OutOfMemory` where a growth was refused.
+pub fn letter(alloc: Global, source: WorldRank, bytes: &[u8]) -> Result<Item, CallError> {
+    let body = Body::from_bytes(alloc, bytes)?;
     let envelope = Envelope {
         context: Context::WORLD,
         source,

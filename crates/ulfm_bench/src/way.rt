@@ -1,11 +1,11 @@
 //! Ways for items from one thread to another and back.
-ghost use Rattle.std.specs.Prelude.{◌<◌, vec_len, IsTrue};
+ghost use Rattle.std.specs.Prelude.{◌≡◌, ◌<◌, vec_len, IsTrue, IfErr};
 ghost use Rattle.ulfm_base.specs.Items.{ComesFrom};
 ghost use Rattle.ulfm_carrier.specs.Lanes.{IsReady};
 ghost use Rattle.ulfm_carrier.specs.Shared.{IsReady as IsReadyShared};
 
 use crossbeam_queue::ArrayQueue;
-use rtrb::{Consumer, Producer};
+use rtrb::{Consumer, Producer, PushError};
 use std::sync::{Arc, Wait};
 use ulfm_base::{Item, WorldRank};
 use ulfm_carrier::{Ends, LaneEnds, SharedEnds};
@@ -15,11 +15,12 @@ pub trait Way: Drop {
     /// The rank whose letters this end pushes.
     fn me(&self) -> WorldRank;
 
-    /// Pushes a copy of an item of this rank: whether there was room.
-    fn push<R: Wait>(&mut self, rt: &R, item: &Item) -> bool;
+    /// Pushes an item of this rank. It comes back where there was no room.
+    fn push<R: Wait>(&mut self, rt: &R, item: Item) -> Result<(), Item>
+        ensures { IfErr result (λ back. back ≡ item) };
 
-    /// Pops an item into the place of another: whether one was there.
-    fn pop<R: Wait>(&mut self, rt: &R, place: &mut Item) -> bool;
+    /// Pops an item, if one was there.
+    fn pop<R: Wait>(&mut self, rt: &R) -> Option<Item>;
 }
 
 /// A rank's end of lanes of two ranks.
@@ -46,16 +47,16 @@ impl Way for Lane {
         self.end.me()
     }
 
-    fn push<R: Wait>(&mut self, rt: &R, item: &Item) -> bool {
-        is_of(item, self.end.me()) && self.end.push(rt, self.other, *item).is_ok()
+    fn push<R: Wait>(&mut self, rt: &R, item: Item) -> Result<(), Item> {
+        if !is_of(&item, self.end.me()) {
+            return Err(item);
+        }
+        self.end.push(rt, self.other, item)
     }
 
-    fn pop<R: Wait>(&mut self, rt: &R, place: &mut Item) -> bool {
-        let Some((_, item)) = self.end.pop(rt) else {
-            return false;
-        };
-        *place = item;
-        true
+    fn pop<R: Wait>(&mut self, rt: &R) -> Option<Item> {
+        let (_, item) = self.end.pop(rt)?;
+        Some(item)
     }
 }
 
@@ -83,16 +84,16 @@ impl Way for Shared {
         self.end.me()
     }
 
-    fn push<R: Wait>(&mut self, rt: &R, item: &Item) -> bool {
-        is_of(item, self.end.me()) && self.end.push(rt, self.other, *item).is_ok()
+    fn push<R: Wait>(&mut self, rt: &R, item: Item) -> Result<(), Item> {
+        if !is_of(&item, self.end.me()) {
+            return Err(item);
+        }
+        self.end.push(rt, self.other, item)
     }
 
-    fn pop<R: Wait>(&mut self, rt: &R, place: &mut Item) -> bool {
-        let Some((_, item)) = self.end.pop(rt) else {
-            return false;
-        };
-        *place = item;
-        true
+    fn pop<R: Wait>(&mut self, rt: &R) -> Option<Item> {
+        let (_, item) = self.end.pop(rt)?;
+        Some(item)
     }
 }
 
@@ -109,16 +110,15 @@ impl Way for Rings {
         self.me
     }
 
-    fn push<R: Wait>(&mut self, _rt: &R, item: &Item) -> bool {
-        self.out.push(*item).is_ok()
+    fn push<R: Wait>(&mut self, _rt: &R, item: Item) -> Result<(), Item> {
+        match self.out.push(item) {
+            Ok(()) => Ok(()),
+            Err(PushError::Full(back)) => Err(back),
+        }
     }
 
-    fn pop<R: Wait>(&mut self, _rt: &R, place: &mut Item) -> bool {
-        let Ok(item) = self.inlet.pop() else {
-            return false;
-        };
-        *place = item;
-        true
+    fn pop<R: Wait>(&mut self, _rt: &R) -> Option<Item> {
+        self.inlet.pop().ok()
     }
 }
 
@@ -135,21 +135,17 @@ impl Way for Queues {
         self.me
     }
 
-    fn push<R: Wait>(&mut self, rt: &R, item: &Item) -> bool {
-        self.out.push(rt, *item).is_ok()
+    fn push<R: Wait>(&mut self, rt: &R, item: Item) -> Result<(), Item> {
+        self.out.push(rt, item)
     }
 
-    fn pop<R: Wait>(&mut self, rt: &R, place: &mut Item) -> bool {
-        let Some(item) = self.inlet.pop(rt) else {
-            return false;
-        };
-        *place = item;
-        true
+    fn pop<R: Wait>(&mut self, rt: &R) -> Option<Item> {
+        self.inlet.pop(rt)
     }
 }
 
 /// Whether an item is one that this rank may push.
-fn is_of(item: &Item, rank: WorldRank) -> bool
+pub fn is_of(item: &Item, rank: WorldRank) -> bool
     ensures { IsTrue result → ComesFrom rank.number item.now }
 {
     match item {

@@ -8,7 +8,7 @@ use ulfm_base::{Item, WorldRank};
 const BLANK: WorldRank = WorldRank { number: 0 };
 
 /// What a ring carries: an item whose source is blank, since it is the rank at the ring's other end.
-#[derive(Clone, Copy)]
+#[derive(Drop)]
 pub struct Carried {
     pub(crate) item: Item,
 }

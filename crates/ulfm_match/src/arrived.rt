@@ -4,7 +4,7 @@ use crate::request::RequestId;
 use ulfm_base::Letter;
 
 /// What became of a letter that arrived.
-#[derive(Clone, Copy)]
+#[derive(Drop)]
 pub enum Arrived {
     /// A waiting receive got it.
     Paired(RequestId, Letter),

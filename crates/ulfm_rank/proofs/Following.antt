@@ -1,5 +1,5 @@
 -- The parts of a rank follow its log through one more entry.
-use Rattle.std.proofs.Common.{◌≡◌, ℕ, Bool, true, false, cond, eqb, List, [], ◌∷◌, ◌++◌, length, refl, ap, sym, ◌∙◌, Option, Some, append-nil, ◌||◌}
+use Rattle.std.proofs.Common.{◌≡◌, ℕ, Bool, true, false, cond, eqb, List, [], ◌∷◌, ◌++◌, refl, ap, sym, ◌∙◌, Option, Some, append-nil, ◌||◌}
 use Rattle.ulfm_rank.proofs.Common.{Context, Letter, WorldRank, Entrance, Decision, dup_of, decided_comm, Entry, Sent, Acknowledged, Revoked, Duplicated, Entered, Adopted, Stopped, Request, find_group, is_stop, is_stopped, is_revoked, Follows, Box, for_each, AllGrow, Matching, TracksRevocation, or-false, passed_on, entry_told, FaultState, acknowledged_in, is_revoked_in}
 use Rattle.ulfm_base.specs.declared.item.Item.TheVariants.{Letter as Mail}
 use Rattle.ulfm_rank.proofs.Adoptable.{communicators-adopted}
@@ -18,7 +18,7 @@ module _ {n me : ℕ} {log : List Entry} {stopped : Bool} {m : Matching} {find :
   runs_on x h = f.halted ∙ sym (any-push is_stop log x ∙ (ap (λ b. is_stopped log || b) h ∙ or-false (is_stopped log)))
 
   -- a letter was accepted
-  pub follows_sent : (to : WorldRank) (letter : Letter) (boxes' : List Box) → AllGrow boxes boxes' (length log) (for_each (eqb to.number) (Mail letter)) → Follows n me (log ++ Sent to letter ∷ []) stopped m find facts comms boxes'
+  pub follows_sent : (to : WorldRank) (letter : Letter) (boxes' : List Box) → AllGrow boxes boxes' (for_each (eqb to.number) (Mail letter)) → Follows n me (log ++ Sent to letter ∷ []) stopped m find facts comms boxes'
   follows_sent to letter boxes' grows = record {
     small = f.small;
     halted = runs_on (Sent to letter) refl;
@@ -29,7 +29,7 @@ module _ {n me : ℕ} {log : List Entry} {stopped : Bool} {m : Matching} {find :
   }
 
   -- a topic was entered
-  pub follows_entered : (entrance : Entrance) (boxes' : List Box) → AllGrow boxes boxes' (length log) (entry_told n me log entrance) → Follows n me (log ++ Entered entrance ∷ []) stopped m find facts comms boxes'
+  pub follows_entered : (entrance : Entrance) (boxes' : List Box) → AllGrow boxes boxes' (entry_told n me log entrance) → Follows n me (log ++ Entered entrance ∷ []) stopped m find facts comms boxes'
   follows_entered entrance boxes' grows = record {
     small = f.small;
     halted = runs_on (Entered entrance) refl;
@@ -81,7 +81,7 @@ module _ {n me : ℕ} {log : List Entry} {stopped : Bool} {m : Matching} {find :
   -- a context was revoked for the first time by the rank itself
   pub follows_revoked : (context : Context) (m' : Matching) (find' : ℕ → Option Request) (facts' : FaultState) (boxes' : List Box) → is_revoked log context.number ≡ false → TracksRevocation context.number m find m' find'
       → ((c : ℕ) → is_revoked_in facts' c ≡ cond (eqb context.number c) true (is_revoked_in facts c)) → facts'.known ≡ facts.known → facts'.acknowledged ≡ facts.acknowledged
-      → AllGrow boxes boxes' (length log) (passed_on me log context) → Follows n me (log ++ Revoked context ∷ []) stopped m' find' facts' comms boxes'
+      → AllGrow boxes boxes' (passed_on me log context) → Follows n me (log ++ Revoked context ∷ []) stopped m' find' facts' comms boxes'
   follows_revoked context m' find' facts' boxes' first tracks marks k a grows = record {
     small = f.small;
     halted = runs_on (Revoked context) refl;

@@ -1,7 +1,8 @@
 -- What contracts see of a rank whose log or outboxes changed.
-use Rattle.std.proofs.Common.{◌≡◌, ◌≢◌, ℕ, zero, suc, ◌+◌, ◌-◌, ◌<◌, ◌≤◌, Bool, true, false, List, [], ◌∷◌, ◌++◌, length, map, set, refl, ap, sym, subst, ◌∙◌, arith, inl, inr, length-set, get_or-set_same, get_or-set_other, Option, Some, None, slice_get, drop, IfSome, IfNone}
-use Rattle.std.proofs.lemmas.List.{map-set, length-map, length-drop, drop_all}
-use Rattle.ulfm_rank.proofs.Common.{Item, Gone, Entry, is_stopped, owed, cases_eq, Mark, State, logged, with_marks, mark_at, outbox, taken_out, returned, unmarked, marked, GoesOut, slice_get_within, Box, Boxes, empty_box, box_at, mark_of, with_items_out, with_notice_out, item_at, HasOutboxes, stop_places, get_or-map}
+use Rattle.std.proofs.Common.{◌≡◌, ◌≢◌, ℕ, zero, suc, ◌+◌, ◌-◌, ◌<◌, ◌≤◌, Bool, true, false, cond, eqb, List, [], ◌∷◌, ◌++◌, length, map, set, refl, ap, sym, subst, ◌∙◌, arith, inl, inr, length-set, get_or-set_same, get_or-set_other, Option, Some, None, slice_get, drop, IfSome, IfNone}
+use Rattle.std.proofs.lemmas.List.{map-set, length-map}
+use Rattle.ulfm_rank.proofs.Common.{Item, Gone, Entry, is_stopped, owed, cases_eq, Mark, State, logged, with_marks, no_mark, mark_at, outbox, taken_out, returned, unmarked, marked, GoesOut, MayReturn, slice_get_within, Box, Boxes, empty_box, box_at, mark_of, with_first_out, with_item_back, with_notice_out, HasOutboxes, stop_places, get_or-map}
+use Rattle.std.proofs.Math.Seq.{drop-nil}
 use Rattle.ulfm_rank.proofs.States.{leaves-running, leaves-stopped}
 
 abbrev pub seen_of : ℕ → ℕ → List Entry → List Box → State
@@ -19,9 +20,12 @@ state_logged {me} {n} {log} {log'} boxes boxes' {r} e seen longer same = rw (lon
 pub mark_read : (me n : ℕ) (log : List Entry) (boxes : List Box) (d : ℕ) → mark_at (seen_of me n log boxes) d ≡ mark_of (box_at boxes d)
 mark_read me n log boxes d = get_or-map mark_of boxes d empty_box
 
--- an outbox has a place for each item that is owed
-whole : {n me : ℕ} {log : List Entry} {boxes : List Box} (d : ℕ) → HasOutboxes n me log boxes → d < length boxes → length (box_at boxes d).places ≡ length (owed n me log d)
-whole {n} {me} {log} {boxes} d h inside = sym (length-map (box_at boxes d).places (item_at log)) ∙ ap length (h.owed d inside) ∙ length-map (owed n me log d) Some
+-- what goes out next is the next item that is owed
+pub next_owed : (owed : List Item) (k : ℕ) (item : Item) (rest : List Item) → drop k owed ≡ item ∷ rest → slice_get owed k ≡ Some item
+next_owed [] zero item rest h = cc
+next_owed [] (suc k) item rest h = cc
+next_owed (x ∷ owed) zero item rest h = cc
+next_owed (x ∷ owed) (suc k) item rest h = next_owed owed k item rest h
 
 module _ {me n : ℕ} {log : List Entry} (boxes : List Box) {r : State} (d : ℕ) (seen : seen_of me n log boxes ≡ r) where
   -- the rank with another mark of one outbox
@@ -32,20 +36,20 @@ module _ {me n : ℕ} {log : List Entry} (boxes : List Box) {r : State} (d : ℕ
       (ap (with_marks s) (map-set mark_of boxes d b ∙ ap (set (map mark_of boxes) d) (same ∙ ap (change s) (sym (mark_read me n log boxes d)))))
 
   -- an item or the notice comes back
-  pub returns_item : is_stopped log ≡ false → seen_of me n log (set boxes d (with_items_out (box_at boxes d) ((box_at boxes d).items_out - 1))) ≡ returned r d
-  returns_item running = remarked (with_items_out (box_at boxes d) ((box_at boxes d).items_out - 1)) unmarked (rw running refl)
+  pub returns_item : (item : Item) → is_stopped log ≡ false → seen_of me n log (set boxes d (with_item_back (box_at boxes d) item)) ≡ returned r d
+  returns_item item running = remarked (with_item_back (box_at boxes d) item) unmarked (rw running refl)
 
   pub returns_notice : is_stopped log ≡ true → seen_of me n log (set boxes d (with_notice_out (box_at boxes d) false)) ≡ returned r d
   returns_notice stopped = remarked (with_notice_out (box_at boxes d) false) unmarked (rw stopped refl)
 
   module _ (h : HasOutboxes n me log boxes) (inside : d < length boxes) where
     -- the next item of a running rank, or the notice, leaves
-    pub leaves_next : {item : Item} → is_stopped log ≡ false → slice_get (owed n me log d) (box_at boxes d).items_out ≡ Some item → GoesOut r (seen_of me n log (set boxes d (with_items_out (box_at boxes d) ((box_at boxes d).items_out + 1)))) d item
+    pub leaves_next : {item : Item} → is_stopped log ≡ false → (box_at boxes d).items ≡ item ∷ drop 1 (box_at boxes d).items → GoesOut r (seen_of me n log (set boxes d (with_first_out (box_at boxes d)))) d item
     leaves_next {item} running next =
         let s = seen_of me n log boxes in
         let no_notice : (mark_at s d).notice_out ≡ false = ap (λ (m : Mark). m.notice_out) (mark_read me n log boxes d) ∙ h.no_notice running d inside in
-        let next' : slice_get (owed n me log d) (mark_at s d).items_out ≡ Some item = rw (mark_read me n log boxes d) next in
-        subst (λ (t : State). GoesOut r t d item) (sym (remarked (with_items_out (box_at boxes d) ((box_at boxes d).items_out + 1)) marked (rw running refl)))
+        let next' : slice_get (owed n me log d) (mark_at s d).items_out ≡ Some item = rw (mark_read me n log boxes d) (next_owed (owed n me log d) (box_at boxes d).items_out item _ (sym (h.held d inside) ∙ next)) in
+        subst (λ (t : State). GoesOut r t d item) (sym (remarked (with_first_out (box_at boxes d)) marked (rw running refl)))
         (subst (λ (r : State). GoesOut r (taken_out r d) d item) seen (leaves-running s d item (omega (arith, inside, length-map boxes mark_of)) running no_notice next'))
 
     pub leaves_notice : is_stopped log ≡ true → (box_at boxes d).notice_out ≡ false → me ≢ d → GoesOut r (seen_of me n log (set boxes d (with_notice_out (box_at boxes d) true))) d Gone
@@ -55,45 +59,52 @@ module _ {me n : ℕ} {log : List Entry} (boxes : List Box) {r : State} (d : ℕ
         subst (λ (t : State). GoesOut r t d Gone) (sym (remarked (with_notice_out (box_at boxes d) true) marked (rw stopped refl)))
         (subst (λ (r : State). GoesOut r (taken_out r d) d Gone) seen (leaves-stopped s d (omega (arith, inside, length-map boxes mark_of)) (omega (arith, inside, h.size)) stopped no_notice' other))
 
-    -- an outbox of a running rank holds nothing exactly where all went out
-    left : is_stopped log ≡ false → outbox r d ≡ drop (box_at boxes d).items_out (owed n me log d)
-    left running = subst (λ (r : State). outbox r d ≡ drop (box_at boxes d).items_out (owed n me log d)) seen (rw (running, mark_read me n log boxes d) refl)
+    -- an outbox of a running rank, which holds nothing exactly where all went out
+    pub left : is_stopped log ≡ false → outbox r d ≡ (box_at boxes d).items
+    left running = subst (λ (r : State). outbox r d ≡ drop (box_at boxes d).items_out (owed n me log d)) seen (rw (running, mark_read me n log boxes d) refl) ∙ sym (h.held d inside)
 
-    pub all_out : is_stopped log ≡ false → (box_at boxes d).items_out ≡ length (box_at boxes d).places → outbox r d ≡ []
-    all_out running out = left running ∙ drop_all (box_at boxes d).items_out (owed n me log d) (omega (arith, out, whole d h inside))
+    one_back : is_stopped log ≡ false → (mark_at (returned (seen_of me n log boxes) d) d).items_out ≡ (box_at boxes d).items_out - 1
+    one_back running =
+        let s = seen_of me n log boxes in
+        let here = get_or-set_same s.marks d (unmarked s (mark_at s d)) no_mark (omega (arith, inside, length-map boxes mark_of)) in
+        ap (λ (m : Mark). m.items_out) here ∙ rw running (ap (λ (m : Mark). m.items_out - 1) (mark_read me n log boxes d))
 
-    pub none_left : is_stopped log ≡ false → outbox r d ≡ [] → (box_at boxes d).items_out ≡ length (box_at boxes d).places
-    none_left running none =
-        let gone : length (owed n me log d) - (box_at boxes d).items_out ≡ 0 = sym (length-drop (box_at boxes d).items_out (owed n me log d)) ∙ ap length (sym (left running) ∙ none) in
-        omega (arith, whole d h inside, gone, h.within d inside)
+    front : is_stopped log ≡ false → outbox (returned (seen_of me n log boxes) d) d ≡ drop (mark_at (returned (seen_of me n log boxes) d) d).items_out (owed n me log d)
+    front running = ap (λ b. cond b (cond (eqb me d) [] (cond (mark_at (returned (seen_of me n log boxes) d) d).notice_out [] (Gone ∷ []))) (drop (mark_at (returned (seen_of me n log boxes) d) d).items_out (owed n me log d))) running
 
--- the item of the next place
-pub next_item : (log : List Entry) (places : List ℕ) (items : List Item) (k place : ℕ) → map (item_at log) places ≡ map Some items → slice_get places k ≡ Some place → (item : Item) × (item_at log place ≡ Some item) × (slice_get items k ≡ Some item)
-next_item log [] items k place h at = cc
-next_item log (p ∷ places) [] k place h at = cc
-next_item log (p ∷ places) (item ∷ items) zero place h at =
-    let same : p ≡ place = cc in
-    let first : item_at log p ≡ Some item = cc in
-    (item, ap (item_at log) (sym same) ∙ first, refl)
-next_item log (p ∷ places) (item ∷ items) (suc k) place h at =
-    let rest : map (item_at log) places ≡ map Some items = cc in
-    next_item log places items k place rest at
+    -- the item that went out last is the one before those that wait
+    pub outbox_back : is_stopped log ≡ false → {item : Item} → MayReturn r d item → item ∷ (box_at boxes d).items ≡ drop ((box_at boxes d).items_out - 1) (owed n me log d)
+    outbox_back running {item} may =
+        let back = subst (λ (r : State). outbox (returned r d) d ≡ drop ((box_at boxes d).items_out - 1) (owed n me log d)) seen (front running ∙ ap (λ k. drop k (owed n me log d)) (one_back running)) in
+        ap (λ xs. item ∷ xs) (sym (left running)) ∙ sym may.front ∙ back
+
+    pub all_out : is_stopped log ≡ false → (box_at boxes d).items ≡ [] → outbox r d ≡ []
+    all_out running out = left running ∙ out
+
+    pub none_left : is_stopped log ≡ false → outbox r d ≡ [] → (box_at boxes d).items ≡ []
+    none_left running none = sym (left running) ∙ none
+
+drop_one : (owed : List Item) (k : ℕ) → drop 1 (drop k owed) ≡ drop (k + 1) owed
+drop_one [] zero = refl
+drop_one [] (suc k) = sym (drop-nil (suc k + 1))
+drop_one (x ∷ owed) zero = refl
+drop_one (x ∷ owed) (suc k) = drop_one owed k ∙ ap (λ j. drop j (x ∷ owed)) (let e : suc (k + 1) ≡ suc k + 1 = omega arith in e)
 
 -- outboxes of which one has another mark
-pub outboxes-marked : {n me : ℕ} {log : List Entry} {boxes : List Box} (d : ℕ) (b : Box) → HasOutboxes n me log boxes → d < length boxes → b.places ≡ (box_at boxes d).places → b.items_out ≤ length b.places → (is_stopped log ≡ false → b.notice_out ≡ false) → (me ≡ d → b.notice_out ≡ false) → HasOutboxes n me log (set boxes d b)
-outboxes-marked {n} {me} {log} {boxes} d b h inside same within no_notice self =
+pub outboxes-marked : {n me : ℕ} {log : List Entry} {boxes : List Box} (d : ℕ) (b : Box) → HasOutboxes n me log boxes → d < length boxes → b.items ≡ drop b.items_out (owed n me log d) → b.items_out ≤ length (owed n me log d) → (is_stopped log ≡ false → b.notice_out ≡ false) → (me ≡ d → b.notice_out ≡ false) → HasOutboxes n me log (set boxes d b)
+outboxes-marked {n} {me} {log} {boxes} d b h inside held within no_notice self =
     let size = length-set boxes d b in
     let here : (k : ℕ) → k ≡ d → box_at (set boxes d b) k ≡ b = λ k e. ap (box_at (set boxes d b)) e ∙ get_or-set_same boxes d b empty_box inside in
     let other : (k : ℕ) → k ≢ d → box_at (set boxes d b) k ≡ box_at boxes k = λ k e. get_or-set_other boxes d k b empty_box e in
     record {
       inside = h.inside;
       size = size ∙ h.size;
-      owed = λ k i. elim (cases_eq k d) [
-        | inl e ↦ rw (here k e, same) (ap (λ j. map (item_at log) (box_at boxes j).places) (sym e) ∙ h.owed k (omega (arith, i, size)))
-        | inr e ↦ rw (other k e) (h.owed k (omega (arith, i, size)))
+      held = λ k i. elim (cases_eq k d) [
+        | inl e ↦ rw (here k e) (held ∙ ap (λ j. drop b.items_out (owed n me log j)) (sym e))
+        | inr e ↦ rw (other k e) (h.held k (omega (arith, i, size)))
       ];
       within = λ k i. elim (cases_eq k d) [
-        | inl e ↦ rw (here k e) within
+        | inl e ↦ rw (here k e) (subst (λ j. b.items_out ≤ length (owed n me log j)) (sym e) within)
         | inr e ↦ rw (other k e) (h.within k (omega (arith, i, size)))
       ];
       no_notice = λ s k i. elim (cases_eq k d) [
@@ -107,13 +118,15 @@ outboxes-marked {n} {me} {log} {boxes} d b h inside same within no_notice self =
     }
 
 -- outboxes of which the next item went out, if there was one
-pub outboxes-taken : {n me : ℕ} {log : List Entry} (old new : Boxes) (d : ℕ) (o : Option Item) → HasOutboxes n me log old.boxes → d < length old.boxes → IfSome o (λ item. slice_get (owed n me log d) (box_at old.boxes d).items_out ≡ Some item) →
-    IfSome o (λ item. new.boxes ≡ set old.boxes d (with_items_out (box_at old.boxes d) ((box_at old.boxes d).items_out + 1))) → IfNone o (new ≡ old) → HasOutboxes n me log new.boxes
+pub outboxes-taken : {n me : ℕ} {log : List Entry} (old new : Boxes) (d : ℕ) (o : Option Item) → HasOutboxes n me log old.boxes → d < length old.boxes → IfSome o (λ item. (box_at old.boxes d).items ≡ item ∷ drop 1 (box_at old.boxes d).items) →
+    IfSome o (λ item. new.boxes ≡ set old.boxes d (with_first_out (box_at old.boxes d))) → IfNone o (new ≡ old) → HasOutboxes n me log new.boxes
 outboxes-taken {n} {me} {log} old new d None h inside next change same = rw same h
 outboxes-taken {n} {me} {log} old new d (Some item) h inside next change same =
     let b = box_at old.boxes d in
-    let below = slice_get_within (owed n me log d) b.items_out item next in
-    rw change (outboxes-marked d (with_items_out b (b.items_out + 1)) h inside refl (omega (arith, whole d h inside, below)) (λ s. h.no_notice s d inside) (λ e. ap (λ k. (box_at old.boxes k).notice_out) (sym e) ∙ h.no_own_notice))
+    let here = sym (h.held d inside) ∙ next in
+    let below = slice_get_within (owed n me log d) b.items_out item (next_owed (owed n me log d) b.items_out item _ here) in
+    let rest : drop 1 b.items ≡ drop (b.items_out + 1) (owed n me log d) = ap (drop 1) (h.held d inside) ∙ drop_one (owed n me log d) b.items_out in
+    rw change (outboxes-marked d (with_first_out b) h inside rest (omega (arith, below)) (λ s. h.no_notice s d inside) (λ e. ap (λ k. (box_at old.boxes k).notice_out) (sym e) ∙ h.no_own_notice))
 
 pub IfSome_both : {X : Type 0} {P Q R : X → Type 0} (o : Option X) → IfSome o P → IfSome o Q → ((x : X) → P x → Q x → R x) → IfSome o R
 IfSome_both None p q f = tt

@@ -1,6 +1,6 @@
 -- What a change of one outbox changes of the list of all of them.
 use Rattle.std.proofs.Common.{◌≡◌, ◌≢◌, ℕ, suc, ◌+◌, ◌<◌, ◌≤◌, Bool, true, false, eqb, List, [], ◌∷◌, length, map, get_or, set, refl, ap, sym, ◌∙◌, arith, inl, inr, ◌⊎◌, append-nil}
-use Rattle.ulfm_rank.proofs.Common.{cases_eq, false≢true, list_all, nat_tests, Box, Slot, contents_of, has_room, empty_box, box_at, with_place, for_each, Grows, AllGrow, list_all-map, list_all_at, get_or-map}
+use Rattle.ulfm_rank.proofs.Common.{cases_eq, false≢true, list_all, nat_tests, Box, Slot, contents_of, has_room, empty_box, box_at, with_item, for_each, Grows, AllGrow, list_all-map, list_all_at, get_or-map}
 use Rattle.std.proofs.Math.Seq.{map-set_same}
 use Rattle.std.proofs.lemmas.List.{map-set, length-map, length-set, get_or_read, get_or-set_same, get_or-set_other}
 use Rattle.ulfm_base.specs.declared.item.Item.{Item}
@@ -54,10 +54,10 @@ pub room_all : (slots : List Slot) → ((d : ℕ) → d < length slots → (slot
 room_all [] each = refl
 room_all (s ∷ slots) each = rw (each 0 (omega arith)) (room_all slots (λ d h. each (suc d) (omega (arith, h))))
 
--- the boxes after a place was left in one of them
-pub grow_one : (boxes : List Box) (to place : ℕ) (item : Item) → to < length boxes → AllGrow boxes (set boxes to (with_place (box_at boxes to) place)) place (for_each (eqb to) item)
-grow_one boxes to place item inside =
-    let b = with_place (box_at boxes to) place in
+-- the boxes after an item was put into one of them
+pub grow_one : (boxes : List Box) (to : ℕ) (item : Item) → to < length boxes → AllGrow boxes (set boxes to (with_item (box_at boxes to) item)) (for_each (eqb to) item)
+grow_one boxes to item inside =
+    let b = with_item (box_at boxes to) item in
     record {
       size = length-set boxes to b;
       each = λ d h. elim (cases_eq d to) [
@@ -65,11 +65,11 @@ grow_one boxes to place item inside =
             let t : eqb to d ≡ true = grind (arith, nat_tests) in
             let here : box_at (set boxes to b) d ≡ b = ap (box_at (set boxes to b)) same ∙ get_or-set_same boxes to b empty_box inside in
             let was : box_at boxes d ≡ box_at boxes to = ap (box_at boxes) same in
-            rw (here, was, t) (record { places = refl; items_out = refl; notice_out = refl })
+            rw (here, was, t) (record { grown = refl; items_out = refl; notice_out = refl })
         | inr other ↦
             let t : eqb to d ≡ false = grind (arith, nat_tests) in
             let here = get_or-set_other boxes to d b empty_box other in
-            rw (here, t) (record { places = sym (append-nil (box_at boxes d).places); items_out = refl; notice_out = refl })
+            rw (here, t) (record { grown = sym (append-nil (box_at boxes d).items); items_out = refl; notice_out = refl })
       ];
     }
 
@@ -110,49 +110,49 @@ reserving-fails {was} {now} {d} {s} so_far inside is lacks =
     let there : slot_at was d ≡ s = sym (so_far.rest d (omega arith)) ∙ sym (get_or_read now d s inside is empty_slot) in
     list_all_at has_room was d empty_slot (omega (arith, inside, so_far.size)) (ap has_room there ∙ lacks)
 
--- a place was left in each outbox below d whose destination is one of `to`, and no more changed
-pub record Leaving (was now : List Slot) (d place : ℕ) (to : ℕ → Bool) : Type 0 where
+-- an item was put into each outbox below d whose destination is one of `to`, and no more changed
+pub record Leaving (was now : List Slot) (d : ℕ) (item : Item) (to : ℕ → Bool) : Type 0 where
   pub size : length now ≡ length was
-  pub done : (k : ℕ) → k < d → (item : Item) → Grows (slot_at was k).contents (slot_at now k).contents place (for_each to item k)
+  pub done : (k : ℕ) → k < d → Grows (slot_at was k).contents (slot_at now k).contents (for_each to item k)
   pub rest : (k : ℕ) → d ≤ k → slot_at now k ≡ slot_at was k
 
-pub leaving-start : {slots : List Slot} {place : ℕ} {to : ℕ → Bool} → Leaving slots slots 0 place to
-leaving-start {slots} {place} {to} = record { size = refl; done = λ k h. absurd (omega (arith, h)); rest = λ k h. refl }
+pub leaving-start : {slots : List Slot} {item : Item} {to : ℕ → Bool} → Leaving slots slots 0 item to
+leaving-start {slots} {item} {to} = record { size = refl; done = λ k h. absurd (omega (arith, h)); rest = λ k h. refl }
 
-pub leaving-room : {was now : List Slot} {d place : ℕ} {to : ℕ → Bool} {s : Slot} → Leaving was now d place to → list_all has_room was ≡ true → d < length now → s ≡ get_or now d s → s.room ≡ true
-leaving-room {was} {now} {d} {place} {to} {s} so_far all inside is =
+pub leaving-room : {was now : List Slot} {d : ℕ} {item : Item} {to : ℕ → Bool} {s : Slot} → Leaving was now d item to → list_all has_room was ≡ true → d < length now → s ≡ get_or now d s → s.room ≡ true
+leaving-room {was} {now} {d} {item} {to} {s} so_far all inside is =
     ap has_room (get_or_read now d s inside is empty_slot ∙ so_far.rest d (omega arith)) ∙ room_at was d all (omega (arith, inside, so_far.size))
 
-pub leaving-passed : {was now : List Slot} {d place : ℕ} {to : ℕ → Bool} → Leaving was now d place to → to d ≡ false → Leaving was now (d + 1) place to
-leaving-passed {was} {now} {d} {place} {to} so_far outside = record {
+pub leaving-passed : {was now : List Slot} {d : ℕ} {item : Item} {to : ℕ → Bool} → Leaving was now d item to → to d ≡ false → Leaving was now (d + 1) item to
+leaving-passed {was} {now} {d} {item} {to} so_far outside = record {
   size = so_far.size;
-  done = λ k h item. elim (cases_eq k d) [
+  done = λ k h. elim (cases_eq k d) [
     | inl here ↦
         let t : to k ≡ false = ap to here ∙ outside in
         let same = so_far.rest k (omega (arith, here)) in
-        rw (t, same) (record { places = sym (append-nil (slot_at was k).contents.places); items_out = refl; notice_out = refl })
-    | inr other ↦ so_far.done k (omega (arith, h, other)) item
+        rw (t, same) (record { grown = sym (append-nil (slot_at was k).contents.items); items_out = refl; notice_out = refl })
+    | inr other ↦ so_far.done k (omega (arith, h, other))
   ];
   rest = λ k h. so_far.rest k (omega (arith, h));
 }
 
-pub leaving-step : {was now : List Slot} {d place : ℕ} {to : ℕ → Bool} {s : Slot} (s' : Slot) → Leaving was now d place to → to d ≡ true → d < length now → s ≡ get_or now d s → s'.contents ≡ with_place s.contents place → Leaving was (set now d s') (d + 1) place to
-leaving-step {was} {now} {d} {place} {to} {s} s' so_far member inside is left = record {
+pub leaving-step : {was now : List Slot} {d : ℕ} {item : Item} {to : ℕ → Bool} {s : Slot} (s' : Slot) → Leaving was now d item to → to d ≡ true → d < length now → s ≡ get_or now d s → s'.contents ≡ with_item s.contents item → Leaving was (set now d s') (d + 1) item to
+leaving-step {was} {now} {d} {item} {to} {s} s' so_far member inside is left = record {
   size = length-set now d s' ∙ so_far.size;
-  done = λ k h item. elim (cases_eq k d) [
+  done = λ k h. elim (cases_eq k d) [
     | inl here ↦
         let t : to k ≡ true = ap to here ∙ member in
         let was_there : (slot_at was k).contents ≡ s.contents = ap (λ i. (slot_at was i).contents) here ∙ ap contents_of (sym (so_far.rest d (omega arith)) ∙ sym (get_or_read now d s inside is empty_slot)) in
-        let now_there : (slot_at (set now d s') k).contents ≡ with_place s.contents place = ap contents_of (set_here now d k s' here inside) ∙ left in
-        rw (t, was_there, now_there) (record { places = refl; items_out = refl; notice_out = refl })
-    | inr other ↦ rw (set_else now d k s' other) (so_far.done k (omega (arith, h, other)) item)
+        let now_there : (slot_at (set now d s') k).contents ≡ with_item s.contents item = ap contents_of (set_here now d k s' here inside) ∙ left in
+        rw (t, was_there, now_there) (record { grown = refl; items_out = refl; notice_out = refl })
+    | inr other ↦ rw (set_else now d k s' other) (so_far.done k (omega (arith, h, other)))
   ];
   rest = λ k h. set_else now d k s' (omega (arith, h)) ∙ so_far.rest k (omega (arith, h));
 }
 
-pub leaving-end : {was now : List Slot} {boxes : List Box} {d place : ℕ} {to : ℕ → Bool} → map contents_of was ≡ boxes → Leaving was now d place to → length now ≤ d → (item : Item) → AllGrow boxes (map contents_of now) place (for_each to item)
-leaving-end {was} {now} {boxes} {d} {place} {to} seen so_far whole item =
+pub leaving-end : {was now : List Slot} {boxes : List Box} {d : ℕ} {item : Item} {to : ℕ → Bool} → map contents_of was ≡ boxes → Leaving was now d item to → length now ≤ d → AllGrow boxes (map contents_of now) (for_each to item)
+leaving-end {was} {now} {boxes} {d} {item} {to} seen so_far whole =
     rw (← seen) (record {
       size = length-map now contents_of ∙ so_far.size ∙ sym (length-map was contents_of);
-      each = λ k h. rw (box-slot was k, box-slot now k) (so_far.done k (omega (arith, h, whole, length-map now contents_of)) item);
+      each = λ k h. rw (box-slot was k, box-slot now k) (so_far.done k (omega (arith, h, whole, length-map now contents_of)));
     })

@@ -76,7 +76,7 @@ module _ {n me : ℕ} {log : List Entry} {stopped : Bool} {matcher : Matching} {
   follows_released x is id release quiet request found find' removes = follows_requests x is (in_step_released held.in_step x id release quiet request found find' removes)
 
   -- an item is taken
-  pub follows_took : (s : WorldRank) (item : Item) (matcher' : Matching) (find' : ℕ → Option Request) (facts' : FaultState) (boxes' : List Box) → TracksItem (was_revoked_in facts item) s.number item matcher find matcher' find' → HasFaults (log ++ Took s item ∷ []) facts' → AllGrow boxes boxes' (length log) (λ d. owed_by_item me log d item)
+  pub follows_took : (s : WorldRank) (item : Item) (matcher' : Matching) (find' : ℕ → Option Request) (facts' : FaultState) (boxes' : List Box) → TracksItem (was_revoked_in facts item) s.number item matcher find matcher' find' → HasFaults (log ++ Took s item ∷ []) facts' → AllGrow boxes boxes' (λ d. owed_by_item me log d item)
       → Follows n me (log ++ Took s item ∷ []) stopped matcher' find' facts' comms boxes'
   follows_took s item matcher' find' facts' boxes' tracks knows grows = record {
     small = held.small;

@@ -1,7 +1,6 @@
 //! What a test of a request answers.
 ghost use Rattle.std.specs.Prelude.{◌≡◌, IsSome};
 ghost use Rattle.ulfm_base.specs.Group.{rank_in};
-ghost use Rattle.ulfm_rank.specs.Answer.{is_release};
 ghost use Rattle.ulfm_rank.specs.Communicators.{find_group, or_empty};
 ghost use Rattle.ulfm_rank.specs.inside.Fields.{pends_by};
 ghost use Rattle.ulfm_rank.specs.inside.Table.{IsDelivered, GivesAnswer, HasSender};
@@ -47,19 +46,20 @@ fn delivered(pattern: &Pattern, letter: Letter, group: &Group) -> TestAnswer
 }
 
 /// The answer for a request of a communicator of this group. `pending` says whether it pends while it waits.
-pub(crate) fn answer_of(request: &Request, group: &Group, pending: bool) -> TestAnswer
-    requires { HasSender group.now request.now.fate }
-    ensures { GivesAnswer group.now pending request.now.pattern request.now.fate result }
+pub(crate) fn answer_of(request: Request, group: &Group, pending: bool) -> TestAnswer
+    requires { HasSender group.now request.fate }
+    ensures { GivesAnswer group.now pending request.pattern request.fate result }
 {
-    match request.fate {
+    let Request { pattern, fate } = request;
+    match fate {
         Fate::Waiting => {
             if pending {
                 return TestAnswer::Pending;
             }
             TestAnswer::NotYet
         }
-        Fate::Paired(letter) => delivered(&request.pattern, letter, group),
-        Fate::Found(letter) => delivered(&request.pattern, letter, group),
+        Fate::Paired(letter) => delivered(&pattern, letter, group),
+        Fate::Found(letter) => delivered(&pattern, letter, group),
         Fate::Failed => TestAnswer::Over(CallError::ProcFailed),
         Fate::Cleared => TestAnswer::Over(CallError::Revoked),
     }
@@ -69,19 +69,13 @@ pub(crate) fn answer_of(request: &Request, group: &Group, pending: bool) -> Test
 pub(crate) fn answer_in(
     communicators: &Communicators,
     faults: &Faults,
-    request: &Request,
+    request: Request,
 ) -> TestAnswer
-    requires made { IsSome (find_group request.now.pattern.context.number communicators.now) }
-    requires sender { HasSender (or_empty (find_group request.now.pattern.context.number communicators.now)) request.now.fate }
-    ensures { let group = or_empty (find_group request.now.pattern.context.number communicators.now) in GivesAnswer group (pends_by faults.now group request.now.pattern) request.now.pattern request.now.fate result }
+    requires made { IsSome (find_group request.pattern.context.number communicators.now) }
+    requires sender { HasSender (or_empty (find_group request.pattern.context.number communicators.now)) request.fate }
+    ensures { let group = or_empty (find_group request.pattern.context.number communicators.now) in GivesAnswer group (pends_by faults.now group request.pattern) request.pattern request.fate result }
 {
     let group = communicators.group_of(request.pattern.context).unwrap();
-    answer_of(request, group, pends(faults, group, &request.pattern))
-}
-
-/// Whether an answer releases its request.
-pub(crate) fn is_release(answer: &TestAnswer) -> bool
-    ensures { result ≡ is_release answer.now }
-{
-    matches!(answer, TestAnswer::Done(_, _) | TestAnswer::Over(_))
+    let pending = pends(faults, group, &request.pattern);
+    answer_of(request, group, pending)
 }

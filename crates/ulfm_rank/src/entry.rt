@@ -1,8 +1,9 @@
 //! What a rank writes into its log, and what its calls answer.
 
 use crate::message::MessageId;
+use crate::noted_answer::NotedAnswer;
 use ulfm_base::{
-    Body, CallError, Context, Decision, Entrance, Item, Letter, Pattern, Tag, WorldRank,
+    Body, CallError, Context, Decision, Entrance, NotedItem, NotedLetter, Pattern, Tag, WorldRank,
 };
 use ulfm_match::RequestId;
 
@@ -25,7 +26,7 @@ pub struct Status {
 }
 
 /// What a test of a request tells (MPI 4.0, 3.7.3). The first two release it.
-#[derive(Clone, Copy)]
+#[derive(Drop)]
 pub enum TestAnswer {
     /// The receive got this letter.
     Done(Status, Body),
@@ -47,7 +48,7 @@ pub enum Probed {
 }
 
 /// What becomes of a request that is to be cancelled (MPI 4.0, 3.8.4).
-#[derive(Clone, Copy)]
+#[derive(Drop)]
 pub enum Cancel {
     /// The receive was withdrawn, and gets no letter.
     Cancelled,
@@ -55,33 +56,33 @@ pub enum Cancel {
     Late(TestAnswer),
 }
 
-/// An accepted call that changed something, or an item that was taken.
+/// An accepted call that changed something, or an item that was taken. Of letters it keeps no bytes; contracts see them.
 #[derive(Drop)]
 pub enum Entry {
-    /// A letter for a rank was accepted.
-    Sent(WorldRank, Letter),
-    /// A receive was posted.
-    Posted(Pattern),
-    /// A request was released with this answer.
-    Released(RequestId, TestAnswer),
-    /// A probe found a letter for a receive that asks for this, and the letter became this message.
-    Probed(MessageId, Pattern),
-    /// A message was received with this answer.
-    Received(MessageId, TestAnswer),
-    /// A request was withdrawn.
-    Cancelled(RequestId),
-    /// The failures acknowledged of a communicator rose to this total.
-    Acknowledged(Context, u8),
-    /// A context was revoked by the rank's own call.
-    Revoked(Context),
     /// A communicator was duplicated.
     Duplicated(Context),
     /// A shrink or an agreement was entered.
     Entered(Entrance),
     /// The decision of a shrink or of an agreement was adopted.
     Adopted(Decision),
+    /// The failures acknowledged of a communicator rose to this total.
+    Acknowledged(Context, u8),
+    /// A context was revoked by the rank's own call.
+    Revoked(Context),
+    /// A letter for a rank was accepted.
+    Sent(WorldRank, NotedLetter),
+    /// A receive was posted.
+    Posted(Pattern),
+    /// A request was released with this answer.
+    Released(RequestId, NotedAnswer),
+    /// A probe found a letter for a receive that asks for this, and the letter became this message.
+    Probed(MessageId, Pattern),
+    /// A message was received with this answer.
+    Received(MessageId, NotedAnswer),
+    /// A request was withdrawn.
+    Cancelled(RequestId),
     /// The rank stopped.
     Stopped,
     /// An item was taken that came from a rank.
-    Took(WorldRank, Item),
+    Took(WorldRank, NotedItem),
 }

@@ -1,6 +1,5 @@
 //! What a rank passes on to the other ranks.
 ghost use Rattle.std.specs.Prelude.{◌≡◌, ◌==◌, ◌<◌, ◌&&◌, ℕ, List, length, not, IsTrue, false};
-ghost use Rattle.ulfm_base.specs.declared.entrance.Entrance.{Entrance};
 ghost use Rattle.ulfm_base.specs.Group.{is_member};
 ghost use Rattle.ulfm_base.specs.RankSet.{has};
 ghost use Rattle.ulfm_rank.specs.declared.entry.Entry.{Entry};
@@ -11,7 +10,8 @@ ghost use Rattle.ulfm_rank.specs.Owed.{passed_on, owed_by_item, entry_told};
 
 use crate::members::members_of_both;
 use crate::outboxes::Outboxes;
-use ulfm_base::{Context, Item, RankSet, WorldRank};
+use crate::word::Word;
+use ulfm_base::{Context, Entrance, Item, RankSet, WorldRank};
 
 /// The ranks that something is told to: not the rank itself, nor those that are known to have failed.
 pub(crate) fn addressees(me: u8, known: RankSet) -> RankSet
@@ -28,58 +28,43 @@ pub(crate) fn addressees(me: u8, known: RankSet) -> RankSet
     addressees
 }
 
-/// Puts the first revocation of a context, whose entry stands at this place of the log, into the outbox of each rank
-/// that it is told to.
-pub(crate) fn forward(
-    outboxes: &mut Outboxes,
-    me: u8,
-    known: RankSet,
-    context: Context,
-    place: usize,
-)
+/// Puts the first revocation of a context into the outbox of each rank that it is told to.
+pub(crate) fn forward(outboxes: &mut Outboxes, me: u8, known: RankSet, context: Context)
     requires small { length outboxes.old.boxes < 9 }
     requires room { IsTrue outboxes.old.room }
-    ensures { (log : List Entry) → Knows log known → is_revoked log context.number ≡ false → AllGrow outboxes.old.boxes outboxes.new.boxes place (passed_on me log context) }
+    ensures { (log : List Entry) → Knows log known → is_revoked log context.number ≡ false → AllGrow outboxes.old.boxes outboxes.new.boxes (passed_on me log context) }
 {
-    let _ = context;
-    outboxes.put_each(addressees(me, known), place);
+    outboxes.put_each(addressees(me, known), Word::Revoke(context));
 }
 
-/// Puts an entrance, which stands at this place of the log, into the outbox of each member that it is told to.
+/// Puts an entrance into the outbox of each member that it is told to.
 pub(crate) fn announce(
     outboxes: &mut Outboxes,
     me: u8,
     known: RankSet,
     members: RankSet,
-    place: usize,
+    entrance: Entrance,
 )
     requires small { length outboxes.old.boxes < 9 }
     requires room { IsTrue outboxes.old.room }
-    ensures { (n : ℕ) (log : List Entry) (entrance : Entrance) → Knows log known → ((r : ℕ) → has members r ≡ is_member (members_of n log entrance.topic.context.number) r) → AllGrow outboxes.old.boxes outboxes.new.boxes place (entry_told n me log entrance) }
+    ensures { (n : ℕ) (log : List Entry) → Knows log known → ((r : ℕ) → has members r ≡ is_member (members_of n log entrance.topic.context.number) r) → AllGrow outboxes.old.boxes outboxes.new.boxes (entry_told n me log entrance) }
 {
-    outboxes.put_each(members_of_both(members, addressees(me, known)), place);
+    let addressees = addressees(me, known);
+    outboxes.put_each(members_of_both(members, addressees), Word::Enter(entrance));
 }
 
-/// Puts what a taken item, whose entry stands at this place of the log, makes its taker owe into the outboxes. `revoked`
-/// says whether its context was revoked before.
-pub(crate) fn pass_on(
-    outboxes: &mut Outboxes,
-    me: u8,
-    known: RankSet,
-    revoked: bool,
-    item: &Item,
-    place: usize,
-)
+/// Puts what a taken item makes its taker owe into the outboxes. `revoked` says whether its context was revoked before.
+pub(crate) fn pass_on(outboxes: &mut Outboxes, me: u8, known: RankSet, revoked: bool, item: &Item)
     requires small { length outboxes.old.boxes < 9 }
     requires room { IsTrue outboxes.old.room }
-    ensures { (log : List Entry) → Knows log known → revoked ≡ revoked_before log item.now → AllGrow outboxes.old.boxes outboxes.new.boxes place (λ d. owed_by_item me log d item.now) }
+    ensures { (log : List Entry) → Knows log known → revoked ≡ revoked_before log item.now → AllGrow outboxes.old.boxes outboxes.new.boxes (λ d. owed_by_item me log d item.now) }
 {
     match item {
         Item::Revoke(context) => {
             if revoked {
                 return;
             }
-            forward(outboxes, me, known, *context, place);
+            forward(outboxes, me, known, *context);
         }
         _ => {}
     }

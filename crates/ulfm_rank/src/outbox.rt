@@ -1,48 +1,50 @@
 //! What waits to go out to one rank.
-ghost use Rattle.std.specs.Prelude.{◌↔◌, ◌≡◌, ◌<◌, ◌+◌, ◌-◌, [], length, IsTrue, IfNone, IfSome, OnOk, OnErr, false, slice_get};
+ghost use Rattle.std.specs.Prelude.{◌↔◌, ◌≡◌, ◌<◌, ◌∷◌, [], drop, IsTrue, IfNone, IfSome, OnOk, OnErr, false};
 
 use std::alloc::Global;
+use std::collections::VecDeque;
 use std::marker::Model;
-use ulfm_base::OutOfMemory;
+use ulfm_base::{Item, OutOfMemory};
 
-/// The places of a rank's log whose entries owe an item to one destination, in order, and how many of these items went
-/// out. Of the notice of a stop it has only whether it went out.
+/// The items for one destination that didn't go out, in order, and how many did. Each of these may come back, so each
+/// keeps its place. Of the notice of a stop it has only whether it went out.
 #[derive(Drop)]
 pub struct Outbox {
-    places: Vec<usize>,
+    items: VecDeque<Item>,
     items_out: usize,
     notice_out: bool,
 }
 
 impl Model for Outbox {
-    ghost use Rattle.std.specs.Prelude.{◌≤◌, length, vec_len, vec_capacity, nat_lt};
+    ghost use Rattle.std.specs.Prelude.{◌+◌, ◌≤◌, nat_lt};
+    ghost use Rattle.std.specs.VecDeque.{deque_len, deque_capacity};
     ghost use Rattle.ulfm_rank.specs.inside.Outboxes.{Slot};
 
     ghost Value = { Slot };
 
     ghost view = { λ o. record {
-      contents = record { places = o.places.items; items_out = o.items_out; notice_out = o.notice_out };
-      room = nat_lt (vec_len o.places) (vec_capacity o.places);
+      contents = record { items = o.items.items; items_out = o.items_out; notice_out = o.notice_out };
+      room = nat_lt (deque_len o.items + o.items_out) (deque_capacity o.items);
     } };
 
-    ghost invariant = { λ o. o.items_out ≤ length o.places.items };
+    ghost invariant = { λ o. deque_len o.items + o.items_out ≤ deque_capacity o.items };
 }
 
 impl Outbox {
-    ghost use Rattle.ulfm_rank.specs.inside.Outboxes.{empty_box, with_place, with_items_out, with_notice_out};
+    ghost use Rattle.ulfm_rank.specs.inside.Outboxes.{empty_box, with_item, with_first_out, with_item_back, with_notice_out};
 
     /// The empty outbox.
     pub fn new(alloc: Global) -> Self
         ensures { result.contents ≡ empty_box }
     {
         Outbox {
-            places: Vec::new(alloc),
+            items: VecDeque::new(alloc),
             items_out: 0,
             notice_out: false,
         }
     }
 
-    /// Makes room for one place.
+    /// Makes room for one item.
     ///
     /// # Errors
     ///
@@ -53,55 +55,52 @@ impl Outbox {
         ensures room_lacked { OnErr result (self.old.room ≡ false) }
         ensures stays { IsTrue self.old.room → IsTrue self.new.room }
     {
-        self.places.reserve(1)
+        self.items.reserve(self.items_out + 1)
     }
 
-    /// Whether there is room for one place.
+    /// Whether there is room for one item.
     pub fn has_room(&self) -> bool
         ensures { result ≡ self.now.room }
     {
-        self.places.len() < self.places.capacity()
+        self.items.len() + self.items_out < self.items.capacity()
     }
 
-    /// Notes a place of the log behind the others.
-    pub fn put(&mut self, place: usize)
+    /// Puts an item behind the others.
+    pub fn put(&mut self, item: Item)
         requires { IsTrue self.old.room }
-        ensures { self.new.contents ≡ with_place self.old.contents place }
+        ensures { self.new.contents ≡ with_item self.old.contents item }
     {
-        self.places.push_reserved(place);
+        self.items.push_back_reserved(item);
     }
 
-    /// The next item goes out, if there is one: answers the place of its entry.
-    pub fn take_next(&mut self) -> Option<usize>
-        ensures place { IfSome result (λ place. slice_get self.old.contents.places self.old.contents.items_out ≡ Some place) }
-        ensures taken { IfSome result (λ place. self.new.contents ≡ with_items_out self.old.contents (self.old.contents.items_out + 1)) }
-        ensures none { IfNone result (self.old.contents.items_out ≡ length self.old.contents.places) }
+    /// The next item goes out, if there is one.
+    pub fn take_next(&mut self) -> Option<Item>
+        ensures first { IfSome result (λ item. self.old.contents.items ≡ item ∷ drop 1 self.old.contents.items) }
+        ensures taken { IfSome result (λ item. self.new.contents ≡ with_first_out self.old.contents) }
+        ensures none { IfNone result (self.old.contents.items ≡ []) }
         ensures unchanged { IfNone result (self.new ≡ self.old) }
         ensures room { self.new.room ≡ self.old.room }
     {
-        if self.items_out < self.places.len() {
-            let place = self.places[self.items_out];
-            self.items_out += 1;
-            Some(place)
-        } else {
-            None
-        }
+        let item = self.items.pop_front()?;
+        self.items_out += 1;
+        Some(item)
     }
 
     /// The item that went out last comes back.
-    pub fn put_back(&mut self)
+    pub fn put_back(&mut self, item: Item)
         requires { 0 < self.old.contents.items_out }
-        ensures contents { self.new.contents ≡ with_items_out self.old.contents (self.old.contents.items_out - 1) }
+        ensures contents { self.new.contents ≡ with_item_back self.old.contents item }
         ensures room { self.new.room ≡ self.old.room }
     {
+        self.items.push_front_reserved(item);
         self.items_out -= 1;
     }
 
     /// Whether each of its items went out.
     pub fn is_drained(&self) -> bool
-        ensures { IsTrue result ↔ (self.now.contents.items_out ≡ length self.now.contents.places) }
+        ensures { IsTrue result ↔ (self.now.contents.items ≡ []) }
     {
-        self.items_out == self.places.len()
+        self.items.is_empty()
     }
 
     /// Whether the notice went out.

@@ -1,13 +1,13 @@
 //! What waits to go out to each rank.
-ghost use Rattle.std.specs.Prelude.{◌≡◌, ◌==◌, ◌<◌, ◌+◌, ◌-◌, ℕ, [], length, replicate, slice_get, slice_set, IsTrue, ◌↔◌, IfNone, IfOk, IfSome, OnOk, OnErr, false};
+ghost use Rattle.std.specs.Prelude.{◌≡◌, ◌==◌, ◌<◌, ◌∷◌, ℕ, [], drop, length, replicate, slice_set, IsTrue, ◌↔◌, IfNone, IfOk, IfSome, OnOk, OnErr, false};
 ghost use Rattle.ulfm_base.specs.RankSet.{has};
-ghost use Rattle.ulfm_base.specs.declared.item.Item.{Item};
-ghost use Rattle.ulfm_rank.specs.inside.Outboxes.{empty_box, box_at, with_place, with_items_out, with_notice_out, for_each, AllGrow};
+ghost use Rattle.ulfm_rank.specs.inside.Outboxes.{empty_box, box_at, with_first_out, with_item_back, with_notice_out, for_each, item_of, AllGrow};
 
 use crate::outbox::Outbox;
+use crate::word::Word;
 use std::alloc::Global;
 use std::marker::Model;
-use ulfm_base::{OutOfMemory, RankSet, WorldRank};
+use ulfm_base::{Item, OutOfMemory, RankSet, WorldRank};
 
 /// An outbox for each rank of the world.
 #[derive(Drop)]
@@ -45,7 +45,7 @@ impl Outboxes {
         Ok(Outboxes { slots })
     }
 
-    /// Makes room for one place in each outbox.
+    /// Makes room for one item in each outbox.
     ///
     /// # Errors
     ///
@@ -62,7 +62,7 @@ impl Outboxes {
         Ok(())
     }
 
-    /// Whether there is room for one place in each outbox.
+    /// Whether there is room for one item in each outbox.
     pub fn has_room(&self) -> bool
         ensures { result ≡ self.now.room }
     {
@@ -74,46 +74,46 @@ impl Outboxes {
         true
     }
 
-    /// Notes a place of the log in the outbox towards a rank.
-    pub fn put(&mut self, dest: WorldRank, place: usize)
+    /// Puts an item into the outbox towards a rank.
+    pub fn put(&mut self, dest: WorldRank, item: Item)
         requires inside { dest.number < length self.old.boxes }
         requires room { IsTrue self.old.room }
-        ensures { (item : Item) → AllGrow self.old.boxes self.new.boxes place (for_each (λ d. dest.number == d) item) }
+        ensures { AllGrow self.old.boxes self.new.boxes (for_each (λ d. dest.number == d) item) }
     {
         let outbox = &mut self.slots[dest.number as usize];
-        outbox.put(place);
+        outbox.put(item);
     }
 
-    /// Notes a place of the log in the outbox towards each rank of a set.
-    pub fn put_each(&mut self, to: RankSet, place: usize)
+    /// Puts word into the outbox towards each rank of a set.
+    pub fn put_each(&mut self, to: RankSet, word: Word)
         requires small { length self.old.boxes < 9 }
         requires room { IsTrue self.old.room }
-        ensures { (item : Item) → AllGrow self.old.boxes self.new.boxes place (for_each (has to) item) }
+        ensures { AllGrow self.old.boxes self.new.boxes (for_each (has to) (item_of word)) }
     {
         for d in 0..self.slots.len() {
             if !to.contains(WorldRank { number: d as u8 }) {
                 continue;
             }
             let outbox = &mut self.slots[d];
-            outbox.put(place);
+            outbox.put(word.item());
         }
     }
 
     /// Whether each item of the outbox towards a rank went out.
     pub fn is_drained(&self, dest: u8) -> bool
         requires { dest < length self.now.boxes }
-        ensures { IsTrue result ↔ ((box_at self.now.boxes dest).items_out ≡ length (box_at self.now.boxes dest).places) }
+        ensures { IsTrue result ↔ ((box_at self.now.boxes dest).items ≡ []) }
     {
         let outbox = &self.slots[dest as usize];
         outbox.is_drained()
     }
 
-    /// The next item towards a rank goes out, if there is one: answers the place of its entry.
-    pub fn take_next(&mut self, dest: u8) -> Option<usize>
+    /// The next item towards a rank goes out, if there is one.
+    pub fn take_next(&mut self, dest: u8) -> Option<Item>
         requires { dest < length self.old.boxes }
-        ensures place { IfSome result (λ place. slice_get (box_at self.old.boxes dest).places (box_at self.old.boxes dest).items_out ≡ Some place) }
-        ensures taken { IfSome result (λ place. self.new.boxes ≡ slice_set self.old.boxes dest (with_items_out (box_at self.old.boxes dest) ((box_at self.old.boxes dest).items_out + 1))) }
-        ensures none { IfNone result ((box_at self.old.boxes dest).items_out ≡ length (box_at self.old.boxes dest).places) }
+        ensures first { IfSome result (λ item. (box_at self.old.boxes dest).items ≡ item ∷ drop 1 (box_at self.old.boxes dest).items) }
+        ensures taken { IfSome result (λ item. self.new.boxes ≡ slice_set self.old.boxes dest (with_first_out (box_at self.old.boxes dest))) }
+        ensures none { IfNone result ((box_at self.old.boxes dest).items ≡ []) }
         ensures unchanged { IfNone result (self.new ≡ self.old) }
         ensures room { self.new.room ≡ self.old.room }
     {
@@ -122,14 +122,14 @@ impl Outboxes {
     }
 
     /// The item towards a rank that went out last comes back.
-    pub fn put_back(&mut self, dest: u8)
+    pub fn put_back(&mut self, dest: u8, item: Item)
         requires inside { dest < length self.old.boxes }
         requires taken { 0 < (box_at self.old.boxes dest).items_out }
-        ensures boxes { self.new.boxes ≡ slice_set self.old.boxes dest (with_items_out (box_at self.old.boxes dest) ((box_at self.old.boxes dest).items_out - 1)) }
+        ensures boxes { self.new.boxes ≡ slice_set self.old.boxes dest (with_item_back (box_at self.old.boxes dest) item) }
         ensures room { self.new.room ≡ self.old.room }
     {
         let outbox = &mut self.slots[dest as usize];
-        outbox.put_back();
+        outbox.put_back(item);
     }
 
     /// Whether the notice towards a rank went out.

@@ -34,6 +34,7 @@ use ulfm_match::Matcher;
 /// whether there is room for one `take` or one call, and for one more request; all its other parts follow from the log.
 #[derive(Drop)]
 pub struct Rank {
+    log: Vec<Entry>,
     me: WorldRank,
     ranks: u8,
     stopped: bool,
@@ -42,7 +43,6 @@ pub struct Rank {
     requests: IndexMap<u64, Request>,
     communicators: Communicators,
     outboxes: Outboxes,
-    log: Vec<Entry>,
 }
 
 impl Model for Rank {

@@ -1,12 +1,13 @@
 //! Receives and messages that aren't released, and what became of them.
 ghost use Rattle.std.specs.Prelude.{◌≡◌};
-ghost use Rattle.ulfm_rank.specs.inside.Requests.{fate_of, given_room, is_waiting, over_named, over_context};
+ghost use Rattle.ulfm_rank.specs.inside.Requests.{fate_of, is_waiting, over_named, over_context};
 ghost use Rattle.ulfm_rank.specs.inside.Table.{is_found};
+ghost use Rattle.ulfm_rank.specs.Messages.{with_room};
 
 use ulfm_base::{Context, Letter, Pattern, WorldRank};
 
 /// What became of a receive, or the letter of a message that a probe found.
-#[derive(Clone, Copy)]
+#[derive(Drop)]
 pub(crate) enum Fate {
     Waiting,
     Paired(Letter),
@@ -16,7 +17,7 @@ pub(crate) enum Fate {
 }
 
 /// A receive or a message that isn't released.
-#[derive(Clone, Copy)]
+#[derive(Drop)]
 pub(crate) struct Request {
     pub(crate) pattern: Pattern,
     pub(crate) fate: Fate,
@@ -37,7 +38,8 @@ pub(crate) fn fate_of(letter: Option<Letter>, gone: bool) -> Fate
     }
 }
 
-fn is_waiting(fate: &Fate) -> bool
+/// Whether it is a receive that waits.
+pub(crate) fn is_waiting(fate: &Fate) -> bool
     ensures { result ≡ is_waiting fate.now }
 {
     matches!(fate, Fate::Waiting)
@@ -50,41 +52,27 @@ pub(crate) fn is_found(fate: &Fate) -> bool
     matches!(fate, Fate::Found(_))
 }
 
-/// A message that is to be received with room for so many bytes.
-pub(crate) fn given_room(message: Request, room: u16) -> Request
-    ensures { result ≡ given_room room message }
+/// What a receive asks for, with room for so many bytes.
+pub(crate) fn with_room(pattern: &Pattern, room: u16) -> Pattern
+    ensures { result ≡ with_room pattern.now room }
 {
-    Request {
-        pattern: Pattern {
-            room,
-            ..message.pattern
-        },
-        fate: message.fate,
-    }
+    Pattern { room, ..*pattern }
 }
 
 /// What becomes of a request when a rank fails.
-pub(crate) fn over_named(request: Request, rank: WorldRank) -> Request
-    ensures { result ≡ over_named rank.number request }
+pub(crate) fn over_named(request: &mut Request, rank: WorldRank)
+    ensures { request.new ≡ over_named rank.number request.old }
 {
     if is_waiting(&request.fate) && request.pattern.source.names(rank) {
-        return Request {
-            pattern: request.pattern,
-            fate: Fate::Failed,
-        };
+        request.fate = Fate::Failed;
     }
-    request
 }
 
 /// What becomes of a request when a context is revoked.
-pub(crate) fn over_context(request: Request, context: Context) -> Request
-    ensures { result ≡ over_context context.number request }
+pub(crate) fn over_context(request: &mut Request, context: Context)
+    ensures { request.new ≡ over_context context.number request.old }
 {
     if is_waiting(&request.fate) && request.pattern.context.number == context.number {
-        return Request {
-            pattern: request.pattern,
-            fate: Fate::Cleared,
-        };
+        request.fate = Fate::Cleared;
     }
-    request
 }

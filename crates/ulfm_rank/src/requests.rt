@@ -12,11 +12,11 @@ use ulfm_base::{Context, Item, Letter, Pattern, WorldRank};
 use ulfm_match::{Arrived, Matcher, RequestId};
 
 /// The message of a number where `found`, else the request of it, if it isn't released.
-pub(crate) fn find(requests: &IndexMap<u64, Request>, number: u64, found: bool) -> Option<Request>
-    ensures there { IfSome result (λ request. (get nat_eq requests.now number ≡ Some request) × (is_found request.fate ≡ found)) }
+pub(crate) fn find(requests: &IndexMap<u64, Request>, number: u64, found: bool) -> Option<&Request>
+    ensures there { IfSome result (λ request. (get nat_eq requests.now number ≡ Some request.now) × (is_found request.now.fate ≡ found)) }
     ensures none { IfNone result ((request : Request) → get nat_eq requests.now number ≡ Some request → is_found request.fate ≡ not found) }
 {
-    let request = *requests.get(&number)?;
+    let request = requests.get(&number)?;
     if is_found(&request.fate) == found {
         return Some(request);
     }
@@ -69,7 +69,7 @@ fn fail_named(requests: &mut IndexMap<u64, Request>, rank: WorldRank)
 {
     for i in 0..requests.len() {
         if let Some(request) = requests.get_index_mut(i) {
-            *request = over_named(*request, rank);
+            over_named(request, rank);
         }
     }
 }
@@ -81,7 +81,7 @@ fn fail_context(requests: &mut IndexMap<u64, Request>, context: Context)
 {
     for i in 0..requests.len() {
         if let Some(request) = requests.get_index_mut(i) {
-            *request = over_context(*request, context);
+            over_context(request, context);
         }
     }
 }
@@ -103,20 +103,20 @@ pub(crate) fn settle(
     requests: &mut IndexMap<u64, Request>,
     revoked: bool,
     source: WorldRank,
-    item: &Item,
+    item: Item,
 )
     requires prepared { IsTrue matcher.old.prepared }
     requires countable { matcher.old.count + 1 < 2 ^ 64 }
-    requires open { IsOpenFor revoked matcher.old item.now }
+    requires open { IsOpenFor revoked matcher.old item }
     ensures len { index_map_len requests.new ≡ index_map_len requests.old }
-    ensures tracks { TracksItem revoked source.number item.now matcher.old (get nat_eq requests.old) matcher.new (get nat_eq requests.new) }
+    ensures tracks { TracksItem revoked source.number item matcher.old (get nat_eq requests.old) matcher.new (get nat_eq requests.new) }
 {
     match item {
         Item::Letter(letter) => {
             if revoked {
                 return;
             }
-            deliver(matcher, requests, *letter);
+            deliver(matcher, requests, letter);
         }
         Item::Gone => {
             matcher.end_named(source);
@@ -126,7 +126,7 @@ pub(crate) fn settle(
             if revoked {
                 return;
             }
-            clear(matcher, requests, *context);
+            clear(matcher, requests, context);
         }
         Item::Enter { .. } => {}
     }

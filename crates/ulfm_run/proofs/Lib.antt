@@ -10,3 +10,4 @@ pub mod Reporting
 pub mod Paired
 pub mod Served
 pub mod Causes
+pub mod Crossing

@@ -7,7 +7,7 @@ ghost use Rattle.ulfm_laws.specs.Decisions.{AreTrue};
 ghost use Rattle.ulfm_run.specs.Caused.{HaveCauses, HasCause, IsCaused};
 
 use crate::adopted::are_true;
-use ulfm_base::{Context, Item};
+use ulfm_base::{Context, ItemKind, NotedItem};
 use ulfm_rank::Entry;
 use ulfm_script::RankReport;
 
@@ -55,11 +55,11 @@ fn has_cause(reports: &[RankReport], entry: &Entry) -> bool
 }
 
 /// Whether the revocation that an item is a notice of, if it is one, was made by some rank's own call.
-fn is_caused(reports: &[RankReport], item: &Item) -> bool
+fn is_caused(reports: &[RankReport], item: &NotedItem) -> bool
     ensures { IsTrue result ↔ IsCaused reports.now item.now }
 {
-    match item {
-        Item::Revoke(context) => is_revoked_by_call(reports, *context),
+    match item.kind() {
+        ItemKind::Revoke(context) => is_revoked_by_call(reports, *context),
         _ => true,
     }
 }

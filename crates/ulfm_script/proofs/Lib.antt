@@ -21,3 +21,4 @@ pub mod Fitting
 pub mod Walked
 pub mod Kept
 pub mod Entrances
+pub mod Vain

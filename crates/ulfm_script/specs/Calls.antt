@@ -1,5 +1,5 @@
 -- What the answer of a step says of its rank, and what it does to it.
-use Rattle.std.specs.Prelude.{◌≡◌, ℕ, ⊤, false, List, [], ◌<◌, length, filter_map, Option, Some, None, slice_get, if◌then◌else◌}
+use Rattle.std.specs.Prelude.{◌≡◌, ℕ, ⊤, false, List, [], ◌<◌, ◌≤◌, length, filter_map, Option, Some, None, slice_get, if◌then◌else◌}
 use Rattle.ulfm_base.specs.Topic.{shrink_topic}
 use Rattle.ulfm_base.specs.declared.topic.Topic.{Topic}
 use Rattle.ulfm_base.specs.declared.context.Context.{Context}
@@ -31,6 +31,11 @@ use Rattle.ulfm_job.specs.declared.step.Step.TheVariants.{Send, Recv, Wait, Prob
 use Rattle.ulfm_script.specs.declared.answer.StepAnswer.{StepAnswer}
 use Rattle.ulfm_script.specs.declared.answer.StepAnswer.TheVariants.{Sent, Posted, Done, Over, Pending, Found, Cancelled, Ranks, Acked, Revoked, Made, Stopped, Refused}
 use Rattle.ulfm_script.specs.declared.answer.StepReport.{StepReport}
+
+-- the step sends no body that takes memory of its own
+abbrev pub IsShort : Step → Type 0
+IsShort (Send to tag body comm) = length body ≤ 30
+IsShort _ = ⊤
 
 -- the communicator of a context
 abbrev pub comm_of : Context → Comm

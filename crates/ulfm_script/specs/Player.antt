@@ -90,6 +90,15 @@ IsCalled old step new = PollAnswers old step new ⊎ PollOpens old step new
 abbrev pub IfAnswered : Player → Player → (StepAnswer → Type 0) → Type 0
 IfAnswered old new P = (report : StepReport) → new.done ≡ old.done ++ report ∷ [] → P report.answer
 
+-- a step stands open, and one more poll of it leaves it so and changes nothing at the rank
+pub record IsPolledInVain (p : Player) (asked : Step) : Type 0 where
+  pub waits : p.current ≡ Some asked
+  pub stays : StaysOpen (awaits_decision p.current) p.done p.rank asked p.rank
+
+-- so many more polls in vain of the open step, begun at this length of the log
+abbrev pub polled_on : Player → ℕ → Player
+polled_on p times = record { rank = p.rank; done = p.done; current = p.current; at = length p.rank.log; polls = min (p.polls + times) (2 ^ 32 - 1) }
+
 -- the open step gets the answer `unfinished`, with the place and the polls of its last poll
 pub record GivesUpStep (old new : Player) : Type 0 where
   pub step : Step

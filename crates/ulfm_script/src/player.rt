@@ -8,7 +8,8 @@ ghost use Rattle.ulfm_rank.specs.Paired.{IsPaired};
 ghost use Rattle.ulfm_rank.specs.State.{IsState, logged, outbox, returned, GoesOut, MayReturn};
 ghost use Rattle.ulfm_rank.specs.Checks.{Passes, FailsOrStarves, start_checks};
 ghost use Rattle.ulfm_rank.specs.Calls.{IsFrom};
-ghost use Rattle.ulfm_script.specs.Player.{start_player, with_rank, answered, polled, IsFree, Polls, IsCalled, IfAnswered, GivesUpStep, awaits_decision};
+ghost use Rattle.ulfm_script.specs.Calls.{IsShort};
+ghost use Rattle.ulfm_script.specs.Player.{start_player, with_rank, answered, polled, polled_on, IsFree, Polls, IsCalled, IfAnswered, GivesUpStep, awaits_decision};
 
 use crate::answer::{Called, StepAnswer, StepReport};
 use crate::poll::poll;
@@ -142,7 +143,7 @@ impl Player {
     }
 
     /// One poll of a step, and whether it answered it. Where the step is open already, this is a further poll of it. A
-    /// player that was prepared isn't answered out of memory.
+    /// player that was prepared isn't answered out of memory, but for the send of a body of more than 30 bytes.
     pub fn call(&mut self, step: &Step) -> Called
         requires running { is_stopped self.old.player.rank.log ≡ false }
         requires free { IsFree self.old.player step.now }
@@ -150,7 +151,7 @@ impl Player {
         ensures polls { Polls result self.old.player step.now self.new.player }
         ensures called { IsCalled self.old.player step.now self.new.player }
         ensures room { self.new.room + length self.new.player.done ≡ self.old.room + length self.old.player.done }
-        ensures room_lacked { IfAnswered self.old.player self.new.player (λ answer. answer ≡ StepAnswer.Refused CallError.OutOfMemory → self.old.prepared ≡ false) }
+        ensures room_lacked { IsShort step.now → IfAnswered self.old.player self.new.player (λ answer. answer ≡ StepAnswer.Refused CallError.OutOfMemory → self.old.prepared ≡ false) }
         ensures stays_prepared { self.new.player.rank ≡ self.old.player.rank → IsTrue self.old.prepared → IsTrue self.new.prepared }
     {
         let at = self.rank.log().len();
@@ -217,6 +218,18 @@ impl Player {
         self.current = Some(step);
         self.at = at;
         self.polls = self.polls.saturating_add(1);
+    }
+
+    /// So many more polls of the open step at once, where the next one is in vain: then they all are. It never answers out of
+    /// memory.
+    pub fn poll_on(&mut self, times: u32)
+        requires { IsSome self.old.player.current }
+        ensures player { self.new.player ≡ polled_on self.old.player times }
+        ensures room { self.new.room ≡ self.old.room }
+        ensures prepared { self.new.prepared ≡ self.old.prepared }
+    {
+        self.at = self.rank.log().len();
+        self.polls = self.polls.saturating_add(times);
     }
 
     /// Makes room for one `take` of its rank, or for one poll.

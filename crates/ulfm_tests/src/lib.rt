@@ -14,6 +14,8 @@ mod matchers;
 #[cfg(test)]
 mod matching;
 #[cfg(test)]
+mod patient;
+#[cfg(test)]
 mod run;
 #[cfg(test)]
 mod world;

@@ -73,17 +73,25 @@ fn pattern(draws: &mut Pcg32) -> Pattern {
 }
 
 /// Draws a letter, whose body is the number of the call by which it comes.
-fn letter(draws: &mut Pcg32, call: u32) -> Letter {
+fn letter(alloc: Global, draws: &mut Pcg32, call: u32) -> Letter {
     let envelope = Envelope {
         context: context(draws),
         source: rank(draws),
         tag: tag(draws),
     };
-    let body = match Body::from_bytes(&call.to_be_bytes()) {
+    let body = match Body::from_bytes(alloc, &call.to_be_bytes()) {
         Ok(body) => body,
         Err(_) => unreachable!(),
     };
     Letter { envelope, body }
+}
+
+/// The same letter once more.
+fn copied(alloc: Global, letter: &Letter) -> Result<Letter, OutOfMemory> {
+    Ok(Letter {
+        envelope: letter.envelope,
+        body: Body::from_bytes(alloc, letter.body.as_bytes())?,
+    })
 }
 
 /// Whether two letters carry the same, or there is none of either.
@@ -126,7 +134,13 @@ fn probes(matcher: &mut Matcher, plain: &mut Plain, pattern: &Pattern) -> bool {
 }
 
 /// Hands a letter to both: whether they answer the same.
-fn arrives(matcher: &mut Matcher, plain: &mut Plain, letter: Letter) -> Result<bool, OutOfMemory> {
+fn arrives(
+    alloc: Global,
+    matcher: &mut Matcher,
+    plain: &mut Plain,
+    letter: Letter,
+) -> Result<bool, OutOfMemory> {
+    let other = copied(alloc, &letter)?;
     matcher.prepare()?;
     if !is_open(matcher, letter.envelope.context) {
         return Ok(plain.is_cleared(letter.envelope.context));
@@ -135,7 +149,7 @@ fn arrives(matcher: &mut Matcher, plain: &mut Plain, letter: Letter) -> Result<b
         Arrived::Paired(id, _) => Some(id.number),
         Arrived::Kept => None,
     };
-    Ok(paired == plain.arrive(letter)?)
+    Ok(paired == plain.arrive(other)?)
 }
 
 /// Ends something of both: whether they answer the same.
@@ -160,6 +174,7 @@ fn ends(matcher: &mut Matcher, plain: &mut Plain, draws: &mut Pcg32) -> bool {
 
 /// Draws one call to both: whether they answer the same.
 fn call(
+    alloc: Global,
     matcher: &mut Matcher,
     plain: &mut Plain,
     draws: &mut Pcg32,
@@ -167,7 +182,7 @@ fn call(
 ) -> Result<bool, OutOfMemory> {
     match below(draws, 13) {
         0..5 => posts(matcher, plain, pattern(draws)),
-        5..10 => arrives(matcher, plain, letter(draws, call)),
+        5..10 => arrives(alloc, matcher, plain, letter(alloc, draws, call)),
         10 => Ok(ends(matcher, plain, draws)),
         11 => Ok(probes(matcher, plain, &pattern(draws))),
         _ => {
@@ -184,12 +199,13 @@ fn call(
 
 /// Draws a list of calls to both: the first call that they answer otherwise.
 fn first_apart(
+    alloc: Global,
     matcher: &mut Matcher,
     plain: &mut Plain,
     draws: &mut Pcg32,
 ) -> Result<Option<u32>, OutOfMemory> {
     for k in 0..CALLS {
-        if !call(matcher, plain, draws, k)? {
+        if !call(alloc, matcher, plain, draws, k)? {
             return Ok(Some(k));
         }
     }
@@ -200,7 +216,7 @@ fn first_apart(
 fn first_apart_of_new(alloc: Global, draws: &mut Pcg32) -> Result<Option<u32>, OutOfMemory> {
     let mut matcher = Matcher::new(alloc);
     let mut plain = Plain::new(alloc);
-    first_apart(&mut matcher, &mut plain, draws)
+    first_apart(alloc, &mut matcher, &mut plain, draws)
 }
 
 #[test]

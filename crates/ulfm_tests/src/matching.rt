@@ -18,21 +18,21 @@ const FIVE: Tag = Tag { number: 5 };
 
 const SIX: Tag = Tag { number: 6 };
 
-fn letter_in(context: Context, source: WorldRank, tag: Tag, byte: u8) -> Letter {
+fn letter_in(alloc: Global, context: Context, source: WorldRank, tag: Tag, byte: u8) -> Letter {
     let envelope = Envelope {
         context,
         source,
         tag,
     };
-    let body = match Body::from_bytes(&[byte]) {
+    let body = match Body::from_bytes(alloc, &[byte]) {
         Ok(body) => body,
         Err(_) => unreachable!(),
     };
     Letter { envelope, body }
 }
 
-fn letter(source: WorldRank, tag: Tag, byte: u8) -> Letter {
-    letter_in(Context::WORLD, source, tag, byte)
+fn letter(alloc: Global, source: WorldRank, tag: Tag, byte: u8) -> Letter {
+    letter_in(alloc, Context::WORLD, source, tag, byte)
 }
 
 fn receive_in(context: Context, source: Source, tag: Option<Tag>) -> Pattern {
@@ -95,11 +95,11 @@ fn arrived(matcher: &mut Matcher, letter: Letter) -> Result<Option<RequestId>, F
 }
 
 /// Letters come, and are received in their order.
-fn keeps_their_order(matcher: &mut Matcher) -> Result<bool, Fail>
+fn keeps_their_order(alloc: Global, matcher: &mut Matcher) -> Result<bool, Fail>
     requires { matcher.old.count + 8 < 2 ^ 64 }
 {
-    let first = arrived(matcher, letter(ZERO, FIVE, b'a'))?;
-    let second = arrived(matcher, letter(ZERO, FIVE, b'b'))?;
+    let first = arrived(matcher, letter(alloc, ZERO, FIVE, b'a'))?;
+    let second = arrived(matcher, letter(alloc, ZERO, FIVE, b'b'))?;
     let kept = matcher.keeps_match(&receive(ZERO, None));
     let other = matcher.keeps_match(&receive(ONE, None));
     let (_, byte) = posted(matcher, receive(ZERO, None))?;
@@ -111,7 +111,7 @@ fn keeps_their_order(matcher: &mut Matcher) -> Result<bool, Fail>
 }
 
 /// A receive that ended gets nothing, and one that leaves the tag open goes before a later one that names it.
-fn gives_to_the_wildcard(matcher: &mut Matcher) -> Result<bool, Fail>
+fn gives_to_the_wildcard(alloc: Global, matcher: &mut Matcher) -> Result<bool, Fail>
     requires { matcher.old.count + 8 < 2 ^ 64 }
 {
     let ended = posted(matcher, receive(ZERO, Some(FIVE)))?.0;
@@ -119,34 +119,34 @@ fn gives_to_the_wildcard(matcher: &mut Matcher) -> Result<bool, Fail>
     let named = posted(matcher, receive(ZERO, Some(FIVE)))?.0;
     let once = matcher.withdraw(ended);
     let twice = matcher.withdraw(ended);
-    let first = arrived(matcher, letter(ZERO, FIVE, b'x'))?;
+    let first = arrived(matcher, letter(alloc, ZERO, FIVE, b'x'))?;
     let paired = !matcher.is_waiting(wildcard) && matcher.is_waiting(named);
-    let second = arrived(matcher, letter(ZERO, FIVE, b'y'))?;
+    let second = arrived(matcher, letter(alloc, ZERO, FIVE, b'y'))?;
     Ok(once && !twice && paired && first == Some(wildcard) && second == Some(named))
 }
 
 /// Receives of any source get letters of their sources alone, the earliest first.
-fn receives_of_any(matcher: &mut Matcher) -> Result<bool, Fail>
+fn receives_of_any(alloc: Global, matcher: &mut Matcher) -> Result<bool, Fail>
     requires { matcher.old.count + 9 < 2 ^ 64 }
 {
     let any = receive_in(Context::WORLD, zero_or_two(), None);
-    let _ = arrived(matcher, letter(ONE, FIVE, b'a'))?;
-    let _ = arrived(matcher, letter(TWO, SIX, b'b'))?;
-    let _ = arrived(matcher, letter(ZERO, FIVE, b'c'))?;
+    let _ = arrived(matcher, letter(alloc, ONE, FIVE, b'a'))?;
+    let _ = arrived(matcher, letter(alloc, TWO, SIX, b'b'))?;
+    let _ = arrived(matcher, letter(alloc, ZERO, FIVE, b'c'))?;
     let first = posted(matcher, any)?.1;
     let second = posted(matcher, any)?.1;
     let (third, byte) = posted(matcher, any)?;
-    let none = arrived(matcher, letter(ONE, FIVE, b'd'))?;
-    let last = arrived(matcher, letter(TWO, FIVE, b'e'))?;
+    let none = arrived(matcher, letter(alloc, ONE, FIVE, b'd'))?;
+    let last = arrived(matcher, letter(alloc, TWO, FIVE, b'e'))?;
     let taken = first == b'b' && second == b'c' && byte == 0;
     Ok(taken && none.is_none() && last == Some(third))
 }
 
 /// A failure ends the receives that name the rank. A letter that came before it is still received.
-fn ends_the_named(matcher: &mut Matcher) -> Result<bool, Fail>
+fn ends_the_named(alloc: Global, matcher: &mut Matcher) -> Result<bool, Fail>
     requires { matcher.old.count + 8 < 2 ^ 64 }
 {
-    let _ = arrived(matcher, letter(ZERO, SIX, b'b'))?;
+    let _ = arrived(matcher, letter(alloc, ZERO, SIX, b'b'))?;
     let named = posted(matcher, receive(ZERO, Some(FIVE)))?.0;
     let other = posted(matcher, receive(TWO, Some(FIVE)))?.0;
     let any = receive_in(Context::WORLD, zero_or_two(), Some(FIVE));
@@ -159,13 +159,13 @@ fn ends_the_named(matcher: &mut Matcher) -> Result<bool, Fail>
 }
 
 /// A context is cleared, and what is of another stays.
-fn clears_one(matcher: &mut Matcher) -> Result<bool, Fail>
+fn clears_one(alloc: Global, matcher: &mut Matcher) -> Result<bool, Fail>
     requires { matcher.old.count + 8 < 2 ^ 64 }
 {
     let cleared = posted(matcher, receive_in(DUP, Source::One(ZERO), None))?.0;
     let stays = posted(matcher, receive(ZERO, None))?.0;
-    let _ = arrived(matcher, letter_in(DUP, ONE, FIVE, b'a'))?;
-    let _ = arrived(matcher, letter(ONE, FIVE, b'b'))?;
+    let _ = arrived(matcher, letter_in(alloc, DUP, ONE, FIVE, b'a'))?;
+    let _ = arrived(matcher, letter(alloc, ONE, FIVE, b'b'))?;
     matcher.prepare()?;
     let before = matcher.is_cleared(DUP);
     matcher.clear(DUP);
@@ -187,22 +187,22 @@ enum Asked {
 }
 
 /// Whether a matcher does what is asked.
-fn answers(matcher: &mut Matcher, asked: Asked) -> Result<bool, Fail>
+fn answers(alloc: Global, matcher: &mut Matcher, asked: Asked) -> Result<bool, Fail>
     requires { matcher.old.count + 9 < 2 ^ 64 }
 {
     match asked {
-        Asked::KeptInOrder => keeps_their_order(matcher),
-        Asked::WildcardFirst => gives_to_the_wildcard(matcher),
-        Asked::AnySource => receives_of_any(matcher),
-        Asked::NamedEnded => ends_the_named(matcher),
-        Asked::OneCleared => clears_one(matcher),
+        Asked::KeptInOrder => keeps_their_order(alloc, matcher),
+        Asked::WildcardFirst => gives_to_the_wildcard(alloc, matcher),
+        Asked::AnySource => receives_of_any(alloc, matcher),
+        Asked::NamedEnded => ends_the_named(alloc, matcher),
+        Asked::OneCleared => clears_one(alloc, matcher),
     }
 }
 
 /// Whether a new matcher does.
 fn new_answers(alloc: Global, asked: Asked) -> Result<bool, Fail> {
     let mut matcher = Matcher::new(alloc);
-    answers(&mut matcher, asked)
+    answers(alloc, &mut matcher, asked)
 }
 
 #[test]

@@ -1,11 +1,11 @@
 //! Jobs that threads run.
 
 mod agreements;
-mod gallery;
+pub(crate) mod gallery;
 mod laid;
 mod meeting;
 mod misfits;
 mod polls;
-mod sweeps;
+pub(crate) mod sweeps;
 mod traces;
 mod verdicts;

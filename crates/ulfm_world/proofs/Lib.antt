@@ -33,3 +33,4 @@ pub mod Caused
 pub mod Made
 pub mod Lawful
 pub mod Swept
+pub mod Often

@@ -144,6 +144,12 @@ outcome_of new (Call r _) = if is_none (player_at new r).current then Answered e
 outcome_of new (Decide r _) = Answered
 outcome_of new _ = Moved
 
+-- so many polls of a step by the player r, one after another, each of which leaves it open
+abbrev pub CallsInVain : ℕ → World → ℕ → Step → World → Type 0
+CallsInVain zero old r asked new = new ≡ old
+CallsInVain (suc n) old r asked new =
+    (mid : World) × Happens old (Call r asked) mid × (outcome_of mid (Call r asked) ≡ NotYet) × CallsInVain n mid r asked new
+
 -- the rank r is one of the world
 abbrev pub IsInside : World → ℕ → Type 0
 IsInside w r = r < length w.players

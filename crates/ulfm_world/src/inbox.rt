@@ -49,40 +49,38 @@ impl Inbox {
         self.items.is_empty()
     }
 
-    /// Adds a copy of an item at the end, where the inbox holds fewer than `capacity`.
+    /// Adds an item at the end, where the inbox holds fewer than `capacity`. Else the item comes back.
     ///
     /// # Errors
     ///
     /// `InboxFull` where it holds so many, else `OutOfMemory` where the growth is refused; nothing is changed then.
-    pub fn offer(&mut self, capacity: u8, source: WorldRank, item: &Item) -> Result<(), Refused>
+    pub fn offer(
+        &mut self,
+        capacity: u8,
+        source: WorldRank,
+        item: Item,
+    ) -> Result<(), (Refused, Item)>
         ensures room { OnOk result (length self.old < capacity) }
-        ensures added { OnOk result (self.new ≡ self.old ++ (source, item.now) ∷ []) }
-        ensures refused { IfErr result (λ why. IsUnfit self.old capacity why) }
+        ensures added { OnOk result (self.new ≡ self.old ++ (source, item) ∷ []) }
+        ensures refused { IfErr result (λ back. IsUnfit self.old capacity back.0) }
+        ensures returned { IfErr result (λ back. back.1 ≡ item) }
         ensures unchanged { OnErr result (self.new ≡ self.old) }
     {
         if self.items.len() >= capacity as usize {
-            return Err(Refused::InboxFull);
+            return Err((Refused::InboxFull, item));
         }
-        match self.items.push_back((source, *item)) {
-            Ok(()) => Ok(()),
-            Err(_) => Err(Refused::OutOfMemory),
+        if self.items.reserve(1).is_err() {
+            return Err((Refused::OutOfMemory, item));
         }
+        self.items.push_back_reserved((source, item));
+        Ok(())
     }
 
-    /// The first item with its sender, which stays.
-    pub fn first(&self) -> Option<(WorldRank, Item)>
-        ensures { MatchOption result (self.now ≡ []) (λ x. self.now ≡ x ∷ drop 1 self.now) }
+    /// Takes the first item out, with its sender.
+    pub fn take_first(&mut self) -> Option<(WorldRank, Item)>
+        ensures first { MatchOption result (self.old ≡ []) (λ x. self.old ≡ x ∷ drop 1 self.old) }
+        ensures rest { self.new ≡ drop 1 self.old }
     {
-        if self.items.is_empty() {
-            return None;
-        }
-        Some(self.items[0])
-    }
-
-    /// Removes the first item.
-    pub fn remove_first(&mut self)
-        ensures { self.new ≡ drop 1 self.old }
-    {
-        let _ = self.items.pop_front();
+        self.items.pop_front()
     }
 }

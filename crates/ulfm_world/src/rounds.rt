@@ -1,5 +1,5 @@
 //! A job from its first round to rest.
-ghost use Rattle.std.specs.Prelude.{◌≡◌, ◌<◌, ◌≤◌, ℕ, List, length, false, true, [], IfErr, IfOk, OnOk, Some, slice_get};
+ghost use Rattle.std.specs.Prelude.{◌≡◌, ◌<◌, ◌≤◌, ◌+◌, ℕ, List, length, false, true, [], IfErr, IfOk, OnOk, Some, slice_get};
 ghost use Rattle.ulfm_base.specs.declared.context.Context.{Context};
 ghost use Rattle.ulfm_script.specs.Deciding.{IsReadyToDecide};
 ghost use Rattle.ulfm_script.specs.inside.SoFar.{IsUndecided};
@@ -18,6 +18,9 @@ use ulfm_script::{Hands, Job, RankReport, RunFault, Step, turn};
 /// pushes to each destination upwards, itself too, while its outbox isn't empty and the inbox has room; then, where it
 /// runs, it takes one item and polls its next step once, which decides an open shrink or agreement that has a proposal. A step that
 /// its last poll left open is given up. The rounds end after the first one in which nothing was pushed, taken or polled.
+///
+/// Where a round did nothing but poll open steps in vain, so would each further one, up to the last poll of a step. Those rounds
+/// are taken at once. So the time doesn't grow with the job's `turns`.
 ///
 /// No clause tells of this order of events. The reports are those of some schedule that ends at rest. They are lawful, and at
 /// the end all running ranks know each stopped one and agree on revocations.
@@ -39,17 +42,40 @@ pub fn replay(alloc: Global, job: &Job) -> Result<Vec<RankReport>, RunFault>
         job,
         world,
         rank: 0,
+        most: 1,
+        is_idle: false,
     };
-    while round(job, &mut rounds)? {}
+    while round(job, &mut rounds)? {
+        rounds.most = rounds.polls_each();
+    }
     rounds.world.into_reports(alloc)
 }
 
-/// A world on its way through a job, and the rank whose turn it is.
+/// A world on its way through a job, the rank whose turn it is, how many polls an open step may get in one turn, and whether all that
+/// happened in this round were polls of open steps that left them open.
 #[derive(Drop)]
 struct Rounds<'a> {
     job: &'a Job,
     world: World,
     rank: u8,
+    most: u32,
+    is_idle: bool,
+}
+
+impl Rounds<'_> {
+    /// How many polls each open step gets in the next round: one. After an idle round it is as many as leave each a last one.
+    fn polls_each(&self) -> u32 {
+        if !self.is_idle {
+            return 1;
+        }
+        let mut least = u32::MAX;
+        for r in 0..self.world.size() {
+            if self.world.polls(r) > 0 {
+                least = least.min(self.job.turns().saturating_sub(self.world.polls(r)));
+            }
+        }
+        least.saturating_sub(1).max(1)
+    }
 }
 
 impl Hands for Rounds<'_> {
@@ -94,7 +120,10 @@ impl Hands for Rounds<'_> {
 
     fn push_one(&mut self, dest: u8) -> Result<bool, RunFault> {
         match self.world.apply(Event::Push(self.rank, dest)) {
-            Ok(_) => Ok(true),
+            Ok(_) => {
+                self.is_idle = false;
+                Ok(true)
+            }
             Err(Refused::OutOfMemory) => Err(RunFault::OutOfMemory),
             Err(_) => Ok(false),
         }
@@ -102,14 +131,22 @@ impl Hands for Rounds<'_> {
 
     fn take_one(&mut self) -> Result<bool, RunFault> {
         match self.world.apply(Event::Take(self.rank)) {
-            Ok(_) => Ok(true),
+            Ok(_) => {
+                self.is_idle = false;
+                Ok(true)
+            }
             Err(Refused::OutOfMemory) => Err(RunFault::OutOfMemory),
             Err(_) => Ok(false),
         }
     }
 
     fn poll(&mut self) -> Result<bool, RunFault> {
-        poll(self.job, &mut self.world, self.rank)
+        let before = self.world.polls(self.rank);
+        let polled = poll(self.job, &mut self.world, self.rank, self.most)?;
+        if polled && (before == 0 || self.world.polls(self.rank) == 0) {
+            self.is_idle = false;
+        }
+        Ok(polled)
     }
 }
 
@@ -124,6 +161,7 @@ fn round(job: &Job, rounds: &mut Rounds<'_>) -> Result<bool, RunFault>
     ensures stuck { IfOk result (λ moved. moved ≡ false → (r : ℕ) → r < length rounds.new.world.players → IsStuck job.now rounds.new.world r) }
     ensures refused { IfErr result (λ fault. fault ≡ RunFault.OutOfMemory) }
 {
+    rounds.is_idle = true;
     let mut moved = false;
     for r in 0..rounds.world.size() {
         if turn_of(job, rounds, r)? {
@@ -155,8 +193,9 @@ fn turn_of(job: &Job, rounds: &mut Rounds<'_>, r: u8) -> Result<bool, RunFault>
     Ok(moved)
 }
 
-/// One poll of the step that comes next, if there is one: an open shrink or agreement that has a proposal is decided.
-fn poll(job: &Job, world: &mut World, r: u8) -> Result<bool, RunFault>
+/// The poll of the step that comes next, if there is one: an open shrink or agreement that has a proposal is decided. An open step may
+/// get as many polls at once as `most`.
+fn poll(job: &Job, world: &mut World, r: u8, most: u32) -> Result<bool, RunFault>
     requires inside { r < length world.old.players }
     requires scripts { job.now.ranks ≡ length world.old.players }
     requires follows { Follows job.now world.old }
@@ -172,8 +211,46 @@ fn poll(job: &Job, world: &mut World, r: u8) -> Result<bool, RunFault>
     if decide(job, world, r, &step) {
         return Ok(true);
     }
-    call(job, world, r, &step)?;
+    call(job, world, r, &step, most)?;
     Ok(true)
+}
+
+/// One poll of a step; or as many at once as `most`, where it stands open and none of them is its last.
+fn call(job: &Job, world: &mut World, r: u8, step: &Step, most: u32) -> Result<(), RunFault>
+    requires inside { r < length world.old.players }
+    requires running { IsRunning world.old r }
+    requires follows { Follows job.now world.old }
+    requires next { slice_get (script_at job.now r) (length (player_at world.old r).done) ≡ Some step.now }
+    requires undecided { IsUndecided (player_at world.old r) }
+    ensures { OnOk result (Moves job.now world.old world.new true) }
+{
+    let polls = world.polls(r);
+    let times = most.min(job.turns().saturating_sub(1).saturating_sub(polls));
+    if polls > 0 && times > 1 {
+        return call_often(job, world, r, step, times);
+    }
+    call_once(job, world, r, step)
+}
+
+/// So many polls of the open step at once, of which none is its last.
+#[tactic(auto, using(crate::proofs::Refusals::refusals))]
+fn call_often(job: &Job, world: &mut World, r: u8, step: &Step, times: u32) -> Result<(), RunFault>
+    requires inside { r < length world.old.players }
+    requires running { IsRunning world.old r }
+    requires follows { Follows job.now world.old }
+    requires next { slice_get (script_at job.now r) (length (player_at world.old r).done) ≡ Some step.now }
+    requires undecided { IsUndecided (player_at world.old r) }
+    requires open { 0 < (player_at world.old r).polls }
+    requires some { 0 < times }
+    requires spare { (player_at world.old r).polls + times < job.now.turns }
+    ensures { OnOk result (Moves job.now world.old world.new true) }
+{
+    let _ = job.turns();
+    match world.call_often(r, step, times) {
+        Ok(_) => Ok(()),
+        Err(Refused::OutOfMemory) => Err(RunFault::OutOfMemory),
+        Err(_) => unreachable!(),
+    }
 }
 
 /// The decision of a step that stands open and has a proposal: a shrink or an agreement.
@@ -197,7 +274,7 @@ fn decide(job: &Job, world: &mut World, r: u8, step: &Step) -> bool
 
 /// One poll of a step by `call`; it is given up where this was the last poll and left it open.
 #[tactic(auto, using(crate::proofs::Refusals::refusals))]
-fn call(job: &Job, world: &mut World, r: u8, step: &Step) -> Result<(), RunFault>
+fn call_once(job: &Job, world: &mut World, r: u8, step: &Step) -> Result<(), RunFault>
     requires inside { r < length world.old.players }
     requires running { IsRunning world.old r }
     requires follows { Follows job.now world.old }

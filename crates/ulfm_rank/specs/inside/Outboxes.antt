@@ -1,26 +1,26 @@
--- The outboxes of a rank: places of its log, how many of their items went out, and what they hold of what the log owes.
-use Rattle.std.specs.Prelude.{◌≡◌, ℕ, Bool, false, List, [], ◌∷◌, ◌++◌, ◌<◌, ◌≤◌, length, map, slice_index_or, slice_get, Option, Some, None, if◌then◌else◌}
+-- The outboxes of a rank: the items that wait, how many went out, and that these are what the log owes.
+use Rattle.std.specs.Prelude.{◌≡◌, ℕ, Bool, false, List, [], ◌∷◌, ◌++◌, ◌+◌, ◌-◌, ◌<◌, ◌≤◌, length, drop, slice_index_or, if◌then◌else◌}
 use Rattle.ulfm_base.specs.declared.item.Item.{Item}
-use Rattle.ulfm_base.specs.declared.item.Item.TheVariants.{Letter as Mail, Revoke, Enter}
+use Rattle.ulfm_base.specs.declared.item.Item.TheVariants.{Revoke, Enter}
 use Rattle.ulfm_rank.specs.declared.entry.Entry.{Entry}
-use Rattle.ulfm_rank.specs.declared.entry.Entry.TheVariants.{Sent, Revoked, Entered, Took}
+use Rattle.ulfm_rank.specs.declared.word.Word.{Word}
+use Rattle.ulfm_rank.specs.declared.word.Word.TheVariants.{Revoke as WordOfRevoke, Enter as WordOfEnter}
 use Rattle.ulfm_rank.specs.Facts.{is_stopped}
 use Rattle.ulfm_rank.specs.Owed.{owed}
 use Rattle.ulfm_rank.specs.State.{Mark}
 
--- One outbox: the places of the log whose entries owe an item to its destination, how many of these items went out, and
--- whether the notice of the stop did.
+-- one outbox: the items that wait, how many went out before them, and whether the notice of the stop did
 pub record Box : Type 0 where
-  pub places : List ℕ
+  pub items : List Item
   pub items_out : ℕ
   pub notice_out : Bool
 
--- an outbox, and whether there is room for one place more
+-- an outbox, and whether there is room for one item more
 pub record Slot : Type 0 where
   pub contents : Box
   pub room : Bool
 
--- the outboxes by their destinations, and whether there is room for one place more in each
+-- the outboxes by their destinations, and whether there is room for one item more in each
 pub record Boxes : Type 0 where
   pub boxes : List Box
   pub room : Bool
@@ -29,13 +29,13 @@ pub record Boxes : Type 0 where
 abbrev pub contents_of : Slot → Box
 contents_of slot = slot.contents
 
--- an outbox has room for one more place
+-- an outbox has room for one more item
 abbrev pub has_room : Slot → Bool
 has_room slot = slot.room
 
 -- the outbox of a rank that starts
 abbrev pub empty_box : Box
-empty_box = record { places = []; items_out = 0; notice_out = false }
+empty_box = record { items = []; items_out = 0; notice_out = false }
 
 -- the outbox towards d
 abbrev pub box_at : List Box → ℕ → Box
@@ -45,60 +45,47 @@ box_at boxes d = slice_index_or boxes d empty_box
 abbrev pub mark_of : Box → Mark
 mark_of b = record { items_out = b.items_out; notice_out = b.notice_out }
 
--- an outbox with one place more
-abbrev pub with_place : Box → ℕ → Box
-with_place b place = record { places = b.places ++ place ∷ []; items_out = b.items_out; notice_out = b.notice_out }
+-- an outbox with one item more
+abbrev pub with_item : Box → Item → Box
+with_item b item = record { items = b.items ++ item ∷ []; items_out = b.items_out; notice_out = b.notice_out }
 
--- an outbox of which so many items went out
-abbrev pub with_items_out : Box → ℕ → Box
-with_items_out b items_out = record { places = b.places; items_out = items_out; notice_out = b.notice_out }
+-- an outbox whose first item went out
+abbrev pub with_first_out : Box → Box
+with_first_out b = record { items = drop 1 b.items; items_out = b.items_out + 1; notice_out = b.notice_out }
+
+-- an outbox with the item that went out last back at its front
+abbrev pub with_item_back : Box → Item → Box
+with_item_back b item = record { items = item ∷ b.items; items_out = b.items_out - 1; notice_out = b.notice_out }
 
 -- an outbox whose notice went out or did not
 abbrev pub with_notice_out : Box → Bool → Box
-with_notice_out b notice_out = record { places = b.places; items_out = b.items_out; notice_out = notice_out }
+with_notice_out b notice_out = record { items = b.items; items_out = b.items_out; notice_out = notice_out }
 
--- the item that is passed on where this one is taken
-abbrev pub passed_item : Item → Option Item
-passed_item (Revoke context) = Some (Revoke context)
-passed_item _ = None
-
--- the item of an entry, the same for each rank that it is owed to
-abbrev pub item_of_entry : Entry → Option Item
-item_of_entry (Sent to letter) = Some (Mail letter)
-item_of_entry (Revoked context) = Some (Revoke context)
-item_of_entry (Entered entrance) = Some (Enter entrance)
-item_of_entry (Took from item) = passed_item item
-item_of_entry _ = None
-
--- the item of an entry that may be missing
-abbrev pub item_if_entry : Option Entry → Option Item
-item_if_entry None = None
-item_if_entry (Some e) = item_of_entry e
-
--- the item of the entry at this place of the log
-abbrev pub item_at : List Entry → ℕ → Option Item
-item_at log place = item_if_entry (slice_get log place)
+-- the item that brings this word
+abbrev pub item_of : Word → Item
+item_of (WordOfRevoke context) = Revoke context
+item_of (WordOfEnter entrance) = Enter entrance
 
 -- an item for each rank of which the test holds
 abbrev pub for_each : (ℕ → Bool) → Item → ℕ → List Item
 for_each to item d = if to d then item ∷ [] else []
 
--- the same outbox, with this place at its end once for each of these items
-pub record Grows (old new : Box) (place : ℕ) (items : List Item) : Type 0 where
-  pub places : new.places ≡ old.places ++ map (λ _. place) items
+-- the same outbox, with these items at its end
+pub record Grows (old new : Box) (items : List Item) : Type 0 where
+  pub grown : new.items ≡ old.items ++ items
   pub items_out : new.items_out ≡ old.items_out
   pub notice_out : new.notice_out ≡ old.notice_out
 
 -- every outbox grew by what is owed to its destination
-pub record AllGrow (old new : List Box) (place : ℕ) (items : ℕ → List Item) : Type 0 where
+pub record AllGrow (old new : List Box) (items : ℕ → List Item) : Type 0 where
   pub size : length new ≡ length old
-  pub each : (d : ℕ) → d < length new → Grows (box_at old d) (box_at new d) place (items d)
+  pub each : (d : ℕ) → d < length new → Grows (box_at old d) (box_at new d) (items d)
 
--- the outboxes of the rank `me` of n hold what its log owes
+-- the outboxes of the rank `me` of n hold what its log owes and didn't go out
 pub record HasOutboxes (n me : ℕ) (log : List Entry) (boxes : List Box) : Type 0 where
   pub inside : me < n
   pub size : length boxes ≡ n
-  pub owed : (d : ℕ) → d < length boxes → map (item_at log) (box_at boxes d).places ≡ map Some (owed n me log d)
-  pub within : (d : ℕ) → d < length boxes → (box_at boxes d).items_out ≤ length (box_at boxes d).places
+  pub held : (d : ℕ) → d < length boxes → (box_at boxes d).items ≡ drop (box_at boxes d).items_out (owed n me log d)
+  pub within : (d : ℕ) → d < length boxes → (box_at boxes d).items_out ≤ length (owed n me log d)
   pub no_notice : is_stopped log ≡ false → (d : ℕ) → d < length boxes → (box_at boxes d).notice_out ≡ false
   pub no_own_notice : (box_at boxes me).notice_out ≡ false

@@ -14,7 +14,6 @@ use Rattle.ulfm_rank.specs.declared.request.Fate.{Fate}
 use Rattle.ulfm_rank.specs.declared.request.Fate.TheVariants.{Waiting, Paired, Failed, Cleared}
 use Rattle.ulfm_rank.specs.declared.request.Request.{Request}
 use Rattle.ulfm_rank.specs.History.{post_events, item_events}
-use Rattle.ulfm_rank.specs.Messages.{with_room}
 use Rattle.ulfm_rank.specs.inside.Table.{IsOfGroup, IsTable}
 
 -- what becomes of a receive at its post
@@ -26,10 +25,6 @@ fate_of None gone = if gone then Failed else Waiting
 abbrev pub is_waiting : Fate → Bool
 is_waiting Waiting = true
 is_waiting _ = false
-
--- a message that is to be received with this room
-abbrev pub given_room : ℕ → Request → Request
-given_room room message = record { pattern = with_room message.pattern room; fate = message.fate }
 
 -- a receive that waits for a rank that failed is over
 abbrev pub over_named : ℕ → Request → Request

@@ -10,8 +10,10 @@ ghost use Rattle.ulfm_rank.specs.History.{history_of};
 ghost use Rattle.ulfm_rank.specs.State.{logged};
 
 use super::Rank;
-use crate::answer::{answer_in, is_release};
-use crate::entry::{Cancel, Entry, TestAnswer};
+use crate::answer::answer_in;
+use crate::entry::{Cancel, Entry};
+use crate::noted_answer::NotedAnswer;
+use crate::request::is_waiting;
 use crate::requests::find;
 use ulfm_base::CallError;
 use ulfm_match::RequestId;
@@ -38,25 +40,20 @@ impl Rank {
         if self.stopped {
             return Err(CallError::Stopped);
         }
-        let request = match find(&self.requests, id.number, false) {
+        let found = match find(&self.requests, id.number, false) {
             Some(request) => request,
             None => return Err(CallError::NoRequest),
         };
-        let answer = answer_in(&self.communicators, &self.faults, &request);
-        let _ = self.requests.shift_remove(&id.number);
-        if is_release(&answer) {
-            self.log.push_reserved(released(id, &answer));
-            return Ok(Cancel::Late(answer));
+        let waits = is_waiting(&found.fate);
+        let request = self.requests.shift_remove(&id.number).unwrap();
+        if waits {
+            let _ = self.matcher.withdraw(id);
+            self.log.push_reserved(Entry::Cancelled(id));
+            return Ok(Cancel::Cancelled);
         }
-        let _ = self.matcher.withdraw(id);
-        self.log.push_reserved(Entry::Cancelled(id));
-        Ok(Cancel::Cancelled)
+        let answer = answer_in(&self.communicators, &self.faults, request);
+        let noted = NotedAnswer::of(&answer);
+        self.log.push_reserved(Entry::Released(id, noted));
+        Ok(Cancel::Late(answer))
     }
-}
-
-/// The entry of a request that is released.
-fn released(id: RequestId, answer: &TestAnswer) -> Entry
-    ensures { result ≡ Entry.Released id answer.now }
-{
-    Entry::Released(id, *answer)
 }

@@ -39,17 +39,12 @@ impl Rank {
         self.log.reserve(self.requests.len() + 2)?;
         self.outboxes.reserve()?;
         let known = self.faults.known();
-        announce(
-            &mut self.outboxes,
-            self.me.number,
-            known,
-            members,
-            self.log.len(),
-        );
-        self.log.push_reserved(Entry::Entered(Entrance {
+        let entrance = Entrance {
             topic,
             contribution: Contribution { known, flag },
-        }));
+        };
+        announce(&mut self.outboxes, self.me.number, known, members, entrance);
+        self.log.push_reserved(Entry::Entered(entrance));
         Ok(())
     }
 

@@ -3,7 +3,6 @@ ghost use Rattle.std.specs.Prelude.{◌≡◌, ◌<◌, ◌↔◌, [], IsTrue, I
 ghost use Rattle.ulfm_rank.specs.State.{outbox, returned, GoesOut, MayReturn};
 
 use super::Rank;
-use crate::owed::take_next;
 use ulfm_base::Item;
 
 impl Rank {
@@ -28,7 +27,7 @@ impl Rank {
         ensures place { self.new.has_place ≡ self.old.has_place }
     {
         if !self.stopped {
-            return take_next(&mut self.outboxes, &self.log, dest);
+            return self.outboxes.take_next(dest);
         }
         if dest == self.me.number || self.outboxes.is_notice_out(dest) {
             return None;
@@ -47,11 +46,10 @@ impl Rank {
         ensures prepared { self.new.prepared ≡ self.old.prepared }
         ensures place { self.new.has_place ≡ self.old.has_place }
     {
-        let _ = item;
         if self.stopped {
             self.outboxes.set_notice_out(dest, false);
             return;
         }
-        self.outboxes.put_back(dest);
+        self.outboxes.put_back(dest, item);
     }
 }

@@ -13,7 +13,8 @@ use crate::answer::{answer_in, status_in};
 use crate::entry::{Comm, Entry, Probed, TestAnswer};
 use crate::failures::names_known;
 use crate::message::MessageId;
-use crate::request::{Fate, Request, given_room};
+use crate::noted_answer::NotedAnswer;
+use crate::request::{Fate, Request, with_room};
 use crate::requests::find;
 use ulfm_base::{CallError, Tag};
 
@@ -94,21 +95,16 @@ impl Rank {
         if self.stopped {
             return Err(CallError::Stopped);
         }
-        let message = match find(&self.requests, id.number, true) {
+        let found = match find(&self.requests, id.number, true) {
             Some(message) => message,
             None => return Err(CallError::NoRequest),
         };
-        let request = given_room(message, room);
-        let answer = answer_in(&self.communicators, &self.faults, &request);
-        let _ = self.requests.shift_remove(&id.number);
-        self.log.push_reserved(received(id, &answer));
+        let pattern = with_room(&found.pattern, room);
+        let Request { fate, .. } = self.requests.shift_remove(&id.number).unwrap();
+        let request = Request { pattern, fate };
+        let answer = answer_in(&self.communicators, &self.faults, request);
+        let noted = NotedAnswer::of(&answer);
+        self.log.push_reserved(Entry::Received(id, noted));
         Ok(answer)
     }
-}
-
-/// The entry of a message that is received.
-fn received(id: MessageId, answer: &TestAnswer) -> Entry
-    ensures { result ≡ Entry.Received id answer.now }
-{
-    Entry::Received(id, *answer)
 }

@@ -12,10 +12,11 @@ ghost use Rattle.ulfm_rank.specs.State.{is_ready, logged};
 ghost use Rattle.ulfm_rank.specs.inside.Table.{IsOfGroup};
 
 use super::Rank;
-use crate::answer::{answer_in, is_release};
+use crate::answer::answer_in;
 use crate::entry::{Comm, Entry, TestAnswer};
 use crate::failures::names_known;
-use crate::request::Request;
+use crate::noted_answer::NotedAnswer;
+use crate::request::{Fate, Request, is_waiting};
 use crate::requests::{admit, find};
 use crate::sources::source_of;
 use ulfm_base::{CallError, Pattern, Tag};
@@ -110,15 +111,21 @@ impl Rank {
         if self.stopped {
             return Err(CallError::Stopped);
         }
-        let request = match find(&self.requests, id.number, false) {
+        let found = match find(&self.requests, id.number, false) {
             Some(request) => request,
             None => return Err(CallError::NoRequest),
         };
-        let answer = answer_in(&self.communicators, &self.faults, &request);
-        if is_release(&answer) {
-            let _ = self.requests.shift_remove(&id.number);
-            self.log.push_reserved(Entry::Released(id, answer));
+        if is_waiting(&found.fate) {
+            let request = Request {
+                pattern: found.pattern,
+                fate: Fate::Waiting,
+            };
+            return Ok(answer_in(&self.communicators, &self.faults, request));
         }
+        let request = self.requests.shift_remove(&id.number).unwrap();
+        let answer = answer_in(&self.communicators, &self.faults, request);
+        let noted = NotedAnswer::of(&answer);
+        self.log.push_reserved(Entry::Released(id, noted));
         Ok(answer)
     }
 }

@@ -96,13 +96,7 @@ impl Rank {
         self.log.reserve(self.requests.len() + 2)?;
         self.outboxes.reserve()?;
         let known = self.faults.known();
-        forward(
-            &mut self.outboxes,
-            self.me.number,
-            known,
-            comm.context,
-            self.log.len(),
-        );
+        forward(&mut self.outboxes, self.me.number, known, comm.context);
         let _ = self.faults.revoke(comm.context);
         clear(&mut self.matcher, &mut self.requests, comm.context);
         self.log.push_reserved(Entry::Revoked(comm.context));

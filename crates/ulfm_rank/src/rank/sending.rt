@@ -1,5 +1,5 @@
 //! Sends and communicators (MPI 4.0, chapters 3 and 7).
-ghost use Rattle.std.specs.Prelude.{◌≡◌, ◌<◌, [], ◌∷◌, false, length, slice_get, IfOk, IfErr, IsTrue, OnOk, OnErr, Some, None};
+ghost use Rattle.std.specs.Prelude.{◌≡◌, ◌<◌, ◌≤◌, [], ◌∷◌, false, length, slice_get, IfOk, IfErr, IsTrue, OnOk, OnErr, Some, None};
 ghost use Rattle.ulfm_base.specs.Context.{dup_of};
 ghost use Rattle.ulfm_rank.specs.Calls.{Sends};
 ghost use Rattle.ulfm_rank.specs.Checks.{Passes, Fails, FailsOrStarves, group_at, send_checks, dup_checks};
@@ -8,7 +8,9 @@ ghost use Rattle.ulfm_rank.specs.State.{logged};
 
 use super::Rank;
 use crate::entry::{Comm, Entry};
-use ulfm_base::{Body, CallError, Context, Envelope, Group, Letter, Tag, WorldRank};
+use ulfm_base::{
+    Body, CallError, Context, Envelope, Group, Item, Letter, NotedLetter, Tag, WorldRank,
+};
 
 impl Rank {
     /// The group of a communicator (MPI 4.0, 7.3.2, `MPI_Comm_group`). It never answers out of memory.
@@ -27,7 +29,7 @@ impl Rank {
     }
 
     /// Starts the send of a letter to the member at a position of a communicator (MPI 4.0, 3.7.2, `MPI_Isend`). It is
-    /// buffered: the call is done when it returns.
+    /// buffered: the call is done when it returns. A body of more than 30 bytes takes memory of its own.
     ///
     /// # Errors
     ///
@@ -40,7 +42,7 @@ impl Rank {
         ensures sends { OnOk result (Sends self.old.state comm dest tag body.now self.new.state) }
         ensures refused { IfErr result (FailsOrStarves (send_checks self.old.state comm.context.number dest (length body.now))) }
         ensures unchanged { OnErr result (self.new.state ≡ self.old.state) }
-        ensures room_lacked { IfErr result (λ e. e ≡ CallError.OutOfMemory → self.old.prepared ≡ false) }
+        ensures room_lacked { length body.now ≤ 30 → IfErr result (λ e. e ≡ CallError.OutOfMemory → self.old.prepared ≡ false) }
         ensures stays_prepared { OnErr result (IsTrue self.old.prepared → IsTrue self.new.prepared) }
         ensures place { self.new.has_place ≡ self.old.has_place }
     {
@@ -50,12 +52,13 @@ impl Rank {
             source: self.me,
             tag,
         };
-        let body = Body::from_bytes(body)?;
+        let body = Body::from_bytes(*self.log.allocator(), body)?;
         self.log.reserve(self.requests.len() + 2)?;
         self.outboxes.reserve()?;
-        self.outboxes.put(to, self.log.len());
-        self.log
-            .push_reserved(Entry::Sent(to, Letter { envelope, body }));
+        let letter = Letter { envelope, body };
+        let noted = NotedLetter::of(&letter);
+        self.outboxes.put(to, Item::Letter(letter));
+        self.log.push_reserved(Entry::Sent(to, noted));
         Ok(())
     }
 

@@ -9,7 +9,7 @@ use crate::entry::Entry;
 use crate::failures::{is_late, learn};
 use crate::forwarding::pass_on;
 use crate::requests::settle;
-use ulfm_base::{Item, OutOfMemory, WorldRank};
+use ulfm_base::{Item, NotedItem, OutOfMemory, WorldRank};
 
 impl Rank {
     /// Makes room for one `take` or one call.
@@ -56,16 +56,16 @@ impl Rank {
         ensures { self.new.state ≡ logged self.old.state (Entry.Took source item) }
     {
         let late = is_late(&self.faults, &item);
-        settle(&mut self.matcher, &mut self.requests, late, source, &item);
         pass_on(
             &mut self.outboxes,
             self.me.number,
             self.faults.known(),
             late,
             &item,
-            self.log.len(),
         );
         learn(&mut self.faults, source, &item);
-        self.log.push_reserved(Entry::Took(source, item));
+        let noted = NotedItem::of(&item);
+        settle(&mut self.matcher, &mut self.requests, late, source, item);
+        self.log.push_reserved(Entry::Took(source, noted));
     }
 }

@@ -3,6 +3,7 @@ ghost use Rattle.std.specs.Prelude.{◌<◌, ℕ, IfSome};
 ghost use Rattle.ulfm_base.specs.Lists.{at};
 
 use super::letters::{byte_of, letter};
+use std::alloc::Global;
 use std::sync::Wait;
 use std::test::Fail;
 use std::thread;
@@ -22,14 +23,19 @@ fn last<E: Ends>(ends: &mut Vec<E>) -> Option<E>
 }
 
 // A rank pushes a letter to rank 1, as often as it takes: whether it was accepted.
-fn delivers<E: Ends, R: Wait>(rt: &R, end: &mut E, byte: u8) -> Result<bool, CallError>
+fn delivers<E: Ends, R: Wait>(
+    rt: &R,
+    alloc: Global,
+    end: &mut E,
+    byte: u8,
+) -> Result<bool, CallError>
     requires ready { E.ready end.old }
     requires dest { 1 < E.count end.old }
     ensures ready { E.ready end.new }
     ensures dest { 1 < E.count end.new }
 {
     for _ in 0..LOOKS {
-        let item = letter(end.me().number, byte)?;
+        let item = letter(alloc, end.me().number, byte)?;
         if end.push(rt, 1, item).is_ok() {
             return Ok(true);
         }
@@ -39,12 +45,17 @@ fn delivers<E: Ends, R: Wait>(rt: &R, end: &mut E, byte: u8) -> Result<bool, Cal
 }
 
 // The same with letter after letter: whether each was accepted.
-fn delivers_all<E: Ends, R: Wait>(rt: &R, end: &mut E, bytes: &[u8]) -> Result<bool, CallError>
+fn delivers_all<E: Ends, R: Wait>(
+    rt: &R,
+    alloc: Global,
+    end: &mut E,
+    bytes: &[u8],
+) -> Result<bool, CallError>
     requires ready { E.ready end.old }
     requires dest { 1 < E.count end.old }
 {
     for byte in bytes {
-        if !delivers(rt, end, *byte)? {
+        if !delivers(rt, alloc, end, *byte)? {
             return Ok(false);
         }
     }
@@ -105,10 +116,11 @@ fn letters_across_threads(rt: HostRuntime) -> Result<(), Fail> {
     let mut receiver = last(&mut ends).ok_or("no end")?;
     let sender = last(&mut ends).ok_or("no end")?;
     let theirs = rt;
+    let alloc = rt.alloc();
     let child = thread::spawn(&rt, move || {
         let mut sender = sender;
         matches!(
-            delivers_all(&theirs, &mut sender, b"a letter for each byte"),
+            delivers_all(&theirs, alloc, &mut sender, b"a letter for each byte"),
             Ok(true)
         )
     });
@@ -126,17 +138,18 @@ fn two_senders_across_threads(rt: HostRuntime) -> Result<(), Fail> {
     let mut one = last(&mut ends).ok_or("no end")?;
     let zero = last(&mut ends).ok_or("no end")?;
     let theirs = rt;
+    let alloc = rt.alloc();
     let first = thread::spawn(&rt, move || {
         let mut zero = zero;
         matches!(
-            delivers_all(&theirs, &mut zero, b"a letter for each byte"),
+            delivers_all(&theirs, alloc, &mut zero, b"a letter for each byte"),
             Ok(true)
         )
     });
     let second = thread::spawn(&rt, move || {
         let mut two = two;
         matches!(
-            delivers_all(&theirs, &mut two, b"a letter for each byte"),
+            delivers_all(&theirs, alloc, &mut two, b"a letter for each byte"),
             Ok(true)
         )
     });

@@ -22,7 +22,7 @@ fn push(ends: &mut Vec<LaneEnds>, from: u8, byte: u8) -> Result<Option<u8>, Call
     if from as usize >= ends.len() {
         return Err(CallError::BadRank);
     }
-    let item = letter(from, byte)?;
+    let item = letter(*ends.allocator(), from, byte)?;
     let end = &mut ends[from as usize];
     match end.push_now(1, item) {
         Ok(()) => Ok(None),
@@ -95,6 +95,7 @@ fn room_of(ends: &mut Vec<LaneEnds>) -> Result<u8, CallError>
 // A rank sends a letter to itself: the sender's number and the letter's byte, as it pops them.
 fn to_itself<E: Ends, R: Wait>(
     rt: &R,
+    alloc: Global,
     end: &mut E,
     byte: u8,
 ) -> Result<Option<(u8, Option<u8>)>, CallError>
@@ -102,7 +103,7 @@ fn to_itself<E: Ends, R: Wait>(
     requires inside { E.place end.old < E.count end.old }
 {
     let me = end.me();
-    let item = letter(me.number, byte)?;
+    let item = letter(alloc, me.number, byte)?;
     if end.push(rt, me.number, item).is_err() {
         return Ok(None);
     }
@@ -263,7 +264,7 @@ fn ends_for_threads(rt: HostRuntime) -> Result<(), Fail> {
     let Some(mut end) = ends.pop() else {
         return Err(Fail::new("no end"));
     };
-    let found = to_itself(&rt, &mut end, b'A')?;
+    let found = to_itself(&rt, rt.alloc(), &mut end, b'A')?;
     crosses(end);
     assert_eq!(rt; found, Some((0, Some(b'A'))));
     Ok(())

@@ -3,12 +3,13 @@ ghost use Rattle.std.specs.Prelude.{ℕ, map, IfOk};
 ghost use Rattle.ulfm_base.specs.Items.{ComesFrom};
 ghost use Rattle.ulfm_base.specs.Lists.{at};
 
+use std::alloc::Global;
 use std::sync::Wait;
 use ulfm_base::{Body, CallError, Context, Envelope, Item, Letter, Tag, WorldRank};
 use ulfm_carrier::{Ends, Residue};
 
 // A letter of one byte.
-pub(crate) fn letter(source: u8, byte: u8) -> Result<Item, CallError>
+pub(crate) fn letter(alloc: Global, source: u8, byte: u8) -> Result<Item, CallError>
     ensures { IfOk result (λ item. ComesFrom source item) }
 {
     if source >= 8 {
@@ -19,7 +20,7 @@ pub(crate) fn letter(source: u8, byte: u8) -> Result<Item, CallError>
         source: WorldRank { number: source },
         tag: Tag::new(5)?,
     };
-    let body = Body::from_bytes(&[byte])?;
+    let body = Body::from_bytes(alloc, &[byte])?;
     Ok(Item::Letter(Letter { envelope, body }))
 }
 

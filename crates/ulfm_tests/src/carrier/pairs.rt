@@ -22,8 +22,9 @@ fn push<E: Ends, R: Wait>(
     ensures eight { vec_len ends.new ≡ 8 }
     ensures ready { (k : ℕ) (e : E) → at ends.new.items k e → E.ready e × (E.count e ≡ 8) }
 {
+    let alloc = *ends.allocator();
     let end = &mut ends[from as usize];
-    let item = letter(end.me().number, byte)?;
+    let item = letter(alloc, end.me().number, byte)?;
     match end.push(rt, to, item) {
         Ok(()) => Ok(None),
         Err(back) => Ok(byte_of(&back)),

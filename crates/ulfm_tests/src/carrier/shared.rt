@@ -27,7 +27,7 @@ fn push<R: Wait>(
     if from as usize >= ends.len() {
         return Err(CallError::BadRank);
     }
-    let item = letter(from, byte)?;
+    let item = letter(*ends.allocator(), from, byte)?;
     let end = &mut ends[from as usize];
     match end.push(rt, 1, item) {
         Ok(()) => Ok(None),

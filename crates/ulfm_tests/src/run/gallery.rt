@@ -3,11 +3,13 @@
 use std::alloc::Global;
 use std::test::Fail;
 
-/// A job of the gallery, but for its turns.
+/// A job of the gallery, with turns for threads. The turns of the gallery are for `replay`; there are more here, as no thread waits
+/// for the others' turns.
 #[derive(Drop)]
 pub struct Recovery<'a> {
     pub ranks: u8,
     pub capacity: u8,
+    pub turns: u32,
     /// Each step with its rank, in the order of the job's file.
     pub steps: &'a [(u8, &'a str)],
 }
@@ -18,12 +20,11 @@ impl Recovery<'_> {
         self.steps.iter().filter(|step| step.0 == rank).count()
     }
 
-    /// The text of the job with a stop before one step of a rank, or after its last one. The turns of the gallery are for
-    /// `replay`; there are more here, as no thread waits for the others' turns.
+    /// The text of the job with a stop before one step of a rank, or after its last one.
     pub fn with_stop(&self, alloc: Global, rank: u8, at: usize) -> Result<String, Fail> {
-        let (ranks, capacity) = (self.ranks, self.capacity);
+        let (ranks, capacity, turns) = (self.ranks, self.capacity, self.turns);
         let mut text = format!(in alloc;
-            "ranks = {ranks}\ncapacity = {capacity}\nturns = 4000\nstep = [\n"
+            "ranks = {ranks}\ncapacity = {capacity}\nturns = {turns}\nstep = [\n"
         )?;
         let mut left = at;
         let mut stops = false;

@@ -10,25 +10,32 @@ use std::alloc::Global;
 use std::sync::Wait;
 use std::test::Fail;
 use std::thread::Threads;
-use ulfm_base::{Context, Entrance, Item, Purpose, RankSet, WorldRank};
+use ulfm_base::{Context, Entrance, ItemKind, Purpose, RankSet, WorldRank};
 use ulfm_board::{Decider, seats};
 use ulfm_carrier::{Ends, lanes, shared};
 use ulfm_rank::Entry;
 use ulfm_run::{Report, at_rest, run_job};
 use ulfm_script::{Job, RankReport};
 
+/// The most polls of a step, and of turns after a rank's last one.
+const TURNS: u32 = 4_000;
+
 /// Whether a rank took the notice of a stop.
 fn knows(told: &RankReport, stopped: WorldRank) -> bool {
-    told.log().iter().any(
-        |entry| matches!(entry, Entry::Took(source, Item::Gone) if *source == stopped),
-    )
+    told.log().iter().any(|entry| match entry {
+        Entry::Took(source, item) => *source == stopped && matches!(item.kind(), ItemKind::Gone),
+        _ => false,
+    })
 }
 
 /// The context that an entry of a log revokes, if it does: by the rank's own call, or by a revocation that it took.
 fn revoked_by(entry: &Entry) -> Option<Context> {
     match entry {
         Entry::Revoked(own) => Some(*own),
-        Entry::Took(_, Item::Revoke(taken)) => Some(*taken),
+        Entry::Took(_, item) => match item.kind() {
+            ItemKind::Revoke(taken) => Some(*taken),
+            _ => None,
+        },
         _ => None,
     }
 }
@@ -55,9 +62,10 @@ fn shrinks_with(entrance: &Entrance) -> Option<RankSet> {
 fn listed(told: &RankReport, member: WorldRank) -> Option<RankSet> {
     told.log().iter().find_map(|entry| match entry {
         Entry::Entered(entrance) if told.me() == member => shrinks_with(entrance),
-        Entry::Took(source, Item::Enter(entrance)) if *source == member && told.me() != member => {
-            shrinks_with(entrance)
-        }
+        Entry::Took(source, item) if *source == member && told.me() != member => match item.kind() {
+            ItemKind::Enter(entrance) => shrinks_with(entrance),
+            _ => None,
+        },
         _ => None,
     })
 }
@@ -162,7 +170,7 @@ where
 
 /// Whether the runs of a job, with a stop before each step of each rank and after its last one in turn, keep the facts of rest
 /// wherever they come to rest, and some come to rest over each carrier.
-fn settles<R>(rt: &R, alloc: Global, recovery: &Recovery) -> Result<bool, Fail>
+pub fn settles<R>(rt: &R, alloc: Global, recovery: &Recovery) -> Result<bool, Fail>
 where
     R: Threads + Wait + Sync,
 {
@@ -183,6 +191,7 @@ fn stops_in_revoke_shrink_go_on(rt: HostRuntime) -> Result<(), Fail> {
     let recovery = Recovery {
         ranks: 4,
         capacity: 4,
+        turns: TURNS,
         steps: &REVOKE_SHRINK_GO_ON,
     };
     assert!(rt; settles(&rt, rt.alloc(), &recovery)?);
@@ -194,6 +203,7 @@ fn stops_in_revoked_and_shrunk(rt: HostRuntime) -> Result<(), Fail> {
     let recovery = Recovery {
         ranks: 3,
         capacity: 1,
+        turns: TURNS,
         steps: &REVOKED_AND_SHRUNK,
     };
     assert!(rt; settles(&rt, rt.alloc(), &recovery)?);
@@ -205,6 +215,7 @@ fn stops_in_stopped_after_entering(rt: HostRuntime) -> Result<(), Fail> {
     let recovery = Recovery {
         ranks: 3,
         capacity: 4,
+        turns: TURNS,
         steps: &STOPPED_AFTER_ENTERING,
     };
     assert!(rt; settles(&rt, rt.alloc(), &recovery)?);
@@ -216,6 +227,7 @@ fn stops_in_shrink_again(rt: HostRuntime) -> Result<(), Fail> {
     let recovery = Recovery {
         ranks: 4,
         capacity: 4,
+        turns: TURNS,
         steps: &SHRINK_AGAIN,
     };
     assert!(rt; settles(&rt, rt.alloc(), &recovery)?);
@@ -227,6 +239,7 @@ fn stops_in_shrunk_but_revoked(rt: HostRuntime) -> Result<(), Fail> {
     let recovery = Recovery {
         ranks: 4,
         capacity: 1,
+        turns: TURNS,
         steps: &SHRUNK_BUT_REVOKED,
     };
     assert!(rt; settles(&rt, rt.alloc(), &recovery)?);

@@ -14,7 +14,7 @@ loop-i-preserved c =
     elim c.match-get_index_mut.branch [
       | in-Some w ↦
           rw w.requests-is
-          (ap (λ xs. set_value_at xs i w.over_named.result) inv
+          (ap (λ xs. set_value_at xs i w.over_named.new.request) inv
           ∙ (ap (set_value_at (changed_below f i es) i) w.over_named.ensures
           ∙ (changed_more f i es w.in-Some.request.now (ap (λ xs. slice_get (map (λ (e : ℕ × Request). e.1) xs) i) (sym inv) ∙ sym w.in-Some.ensures.value)
           ∙ ap (λ n. changed_below f n es) more)))

@@ -9,7 +9,7 @@ deliver-requires-clause-open c = c.requires.open c.in-Letter.letter c.in-Letter.
 
 pub returns-in-Enter-clause-tracks : goal.returns-in-Enter-clause-tracks
 returns-in-Enter-clause-tracks c =
-    nothing_happens c.args.revoked c.args.source.number c.args.item.now c.args.matcher.now (get nat_eq c.args.requests.now)
+    nothing_happens c.args.revoked c.args.source.number c.args.item c.args.matcher.now (get nat_eq c.args.requests.now)
     (λ h. ap (item_events c.args.revoked h c.args.source.number) c.in-Enter.is)
 
 pub returns-in-Gone-clause-tracks : goal.returns-in-Gone-clause-tracks
@@ -22,12 +22,12 @@ returns-in-Gone-clause-tracks c n entries h r t table =
 
 pub returns-then-revoked-clause-tracks : goal.returns-then-revoked-clause-tracks
 returns-then-revoked-clause-tracks c =
-    nothing_happens c.args.revoked c.args.source.number c.args.item.now c.args.matcher.now (get nat_eq c.args.requests.now)
+    nothing_happens c.args.revoked c.args.source.number c.args.item c.args.matcher.now (get nat_eq c.args.requests.now)
     (λ h. ap (item_events c.args.revoked h c.args.source.number) c.in-Letter.is ∙ ap (λ b. cond b [] (Come c.in-Letter.letter ∷ [])) c.if-revoked.true)
 
 pub returns-then-revoked-2-clause-tracks : goal.returns-then-revoked-2-clause-tracks
 returns-then-revoked-2-clause-tracks c =
-    nothing_happens c.args.revoked c.args.source.number c.args.item.now c.args.matcher.now (get nat_eq c.args.requests.now)
+    nothing_happens c.args.revoked c.args.source.number c.args.item c.args.matcher.now (get nat_eq c.args.requests.now)
     (λ h. ap (item_events c.args.revoked h c.args.source.number) c.in-Revoke.is ∙ ap (λ b. cond b [] (Clear c.in-Revoke.context.number ∷ [])) c.if-revoked-2.true)
 
 pub returns-else-revoked-2-clause-tracks : goal.returns-else-revoked-2-clause-tracks
@@ -36,5 +36,5 @@ returns-else-revoked-2-clause-tracks c n entries h r t table =
     let x = c.in-Revoke.context.number in
     let find' = get nat_eq c.clear.new.requests in
     let done = c.clear.ensures.tracks n entries h r t table in
-    let events : item_events c.args.revoked h s c.args.item.now ≡ Clear x ∷ [] = ap (item_events c.args.revoked h s) c.in-Revoke.is ∙ ap (λ b. cond b [] (Clear x ∷ [])) c.if-revoked-2.false in
+    let events : item_events c.args.revoked h s c.args.item ≡ Clear x ∷ [] = ap (item_events c.args.revoked h s) c.in-Revoke.is ∙ ap (λ b. cond b [] (Clear x ∷ [])) c.if-revoked-2.false in
     subst (λ xs. (r' : Pairing) × Tracks (h ++ xs) r' c.clear.new.matcher × IsTable n entries (h ++ xs) r' find') (sym events) (r, done.0, done.1)

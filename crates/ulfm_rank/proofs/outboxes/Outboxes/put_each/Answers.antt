@@ -1,5 +1,5 @@
 use Rattle.std.proofs.Common.{rules, ap, sym, ◌∙◌, arith}
-use Rattle.ulfm_rank.proofs.Common.{Boxes}
+use Rattle.ulfm_rank.proofs.Common.{Boxes, with_item}
 use Rattle.ulfm_rank.proofs.Slots.{leaving-start, leaving-room, leaving-passed, leaving-step, leaving-end}
 use Rattle.ulfm_rank.proofs.outboxes.Outboxes.put_each.Goals as goal
 
@@ -10,7 +10,7 @@ pub put-requires : goal.put-requires
 put-requires c = leaving-room c.loop-d.invariant (ap (λ (v : Boxes). v.room) c.self.view_is ∙ c.requires.room) (search rules) c.index_mut-outbox.ensures.value
 
 pub loop-d-preserved : goal.loop-d-preserved
-loop-d-preserved c = leaving-step c.put.new.self c.loop-d.invariant (sym c.contains.ensures ∙ c.if-not-contains.false) (search rules) c.index_mut-outbox.ensures.value c.put.ensures
+loop-d-preserved c = leaving-step c.put.new.self c.loop-d.invariant (sym c.contains.ensures ∙ c.if-not-contains.false) (search rules) c.index_mut-outbox.ensures.value (c.put.ensures ∙ ap (with_item c.index_mut-outbox.result.now.contents) c.item.ensures)
 
 pub returns : goal.returns
 returns c = leaving-end (ap (λ (v : Boxes). v.boxes) c.self.view_is) c.loop-d.invariant (omega (arith, c.loop-d-test.false))

@@ -1,4 +1,4 @@
-use Rattle.std.proofs.Common.{rules, ◌≡◌, ◌++◌, ◌∷◌, [], length, refl, ap, sym, subst, ◌∙◌, arith}
+use Rattle.std.proofs.Common.{◌≡◌, ◌++◌, ◌∷◌, [], refl, ap, sym, subst, ◌∙◌, arith}
 use Rattle.ulfm_rank.proofs.Common.{is_member, Entrance, Entered, state_of, Knows, AllGrow, deciders, State, View, entry_told}
 use Rattle.ulfm_rank.proofs.Following.{follows_entered}
 use Rattle.ulfm_rank.proofs.Held.{marks-grown}
@@ -11,7 +11,7 @@ seen : (c : After-push_reserved) → state_of c.self.inside ≡ c.args.self.now.
 seen c = ap (λ (v : View). v.state) c.self.view_is
 
 abbrev entrance : After-push_reserved → Entrance
-entrance c = record { topic = c.args.topic; contribution = record { known = c.known-known.result; flag = c.args.flag }; fits = c.push_reserved-arg-2-1.given.0; has_shrink = c.push_reserved-arg-2-1.given.1.0 }
+entrance c = record { topic = c.args.topic; contribution = record { known = c.known-known.result; flag = c.args.flag }; fits = c.entrance-1.given.0; has_shrink = c.entrance-1.given.1.0 }
 
 longer : (c : After-push_reserved) → c.push_reserved.new.self.items ≡ c.self.inside.log.items ++ Entered (entrance c) ∷ []
 longer c = c.push_reserved.ensures.items ∙ ap (λ l. l ++ Entered (entrance c) ∷ []) c.reserve.ensures.items
@@ -19,12 +19,11 @@ longer c = c.push_reserved.ensures.items ∙ ap (λ l. l ++ Entered (entrance c)
 knows : (c : After-push_reserved) → Knows c.self.inside.log.items c.known-known.result
 knows c = λ r. c.known-known.ensures r ∙ knows_gone c.self.invariant.follows.faults r
 
-grows : (c : After-push_reserved) → AllGrow c.self.inside.outboxes.boxes c.announce.new.outboxes.boxes (length c.self.inside.log.items) (entry_told c.self.inside.ranks c.self.inside.me.number c.self.inside.log.items (entrance c))
+grows : (c : After-push_reserved) → AllGrow c.self.inside.outboxes.boxes c.announce.new.outboxes.boxes (entry_told c.self.inside.ranks c.self.inside.me.number c.self.inside.log.items (entrance c))
 grows c =
     let a = c.self.inside in
-    let place : c.len-2.result ≡ length a.log.items = search rules in
-    rw (place, c.in_ok-reserve-2.ensures.boxes) at
-    (c.announce.ensures a.ranks a.log.items (entrance c) (knows c) (λ r. c.requires.members r ∙ ap (λ (s : State). is_member (deciders s.ranks s.log c.args.topic) r) (sym (seen c))))
+    rw c.in_ok-reserve-2.ensures.boxes at
+    (c.announce.ensures a.ranks a.log.items (knows c) (λ r. c.requires.members r ∙ ap (λ (s : State). is_member (deciders s.ranks s.log c.args.topic) r) (sym (seen c))))
 
 pub invariant_of-self-2 : goal.invariant_of-self-2
 invariant_of-self-2 c =

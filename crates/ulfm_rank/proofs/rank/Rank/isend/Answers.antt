@@ -1,5 +1,4 @@
-use Rattle.std.proofs.Common.{rules, ◌≡◌, ◌++◌, ◌∷◌, [], length, refl, ap, ◌∙◌, arith}
-use Rattle.ulfm_base.specs.declared.item.Item.TheVariants.{Letter as Mail}
+use Rattle.std.proofs.Common.{◌++◌, ◌∷◌, [], refl, ap, ◌∙◌, arith}
 use Rattle.ulfm_rank.proofs.Common.{Letter, Sent, State, View}
 use Rattle.ulfm_rank.proofs.Held.{marks-grown}
 use Rattle.ulfm_rank.proofs.Following.{follows_sent}
@@ -10,9 +9,8 @@ pub invariant_of-self-2 : goal.invariant_of-self-2
 invariant_of-self-2 c =
     let a = c.self.inside in
     let letter : Letter = record { envelope = record { context = c.args.comm.context; source = a.me; tag = c.args.tag }; body = c.in_ok-body.body } in
-    let now_log = c.push_reserved.ensures.items ∙ ap (λ l. l ++ (Sent c.in_ok-to.to letter) ∷ []) c.reserve.ensures.items in
-    let place : c.len-2.result ≡ length a.log.items = search rules in
-    let grows = rw (place, c.in_ok-reserve-2.ensures.boxes) at (c.put.ensures (Mail letter)) in
+    let now_log = c.push_reserved.ensures.items ∙ ap (λ l. l ++ Sent c.in_ok-to.to c.of-noted.result ∷ []) c.reserve.ensures.items ∙ ap (λ x. a.log.items ++ Sent c.in_ok-to.to x ∷ []) c.of-noted.ensures in
+    let grows = rw c.in_ok-reserve-2.ensures.boxes at c.put.ensures in
     record {
       follows = rw now_log (follows_sent c.self.invariant.follows c.in_ok-to.to letter c.put.new.self.boxes grows);
       places = omega (arith, c.in_ok-reserve.ensures.ok, c.push_reserved.ensures.len, c.push_reserved.ensures.capacity, c.len.ensures.len, stop_places_few a.stopped);
@@ -23,9 +21,8 @@ returns-clause-sends c =
     let a = c.self.inside in
     let seen = ap (λ (v : View). v.state) c.self.view_is in
     let letter : Letter = record { envelope = record { context = c.args.comm.context; source = a.me; tag = c.args.tag }; body = c.in_ok-body.body } in
-    let now_log = c.push_reserved.ensures.items ∙ ap (λ l. l ++ (Sent c.in_ok-to.to letter) ∷ []) c.reserve.ensures.items in
-    let place : c.len-2.result ≡ length a.log.items = search rules in
-    let grows = rw (place, c.in_ok-reserve-2.ensures.boxes) at (c.put.ensures (Mail letter)) in
+    let now_log = c.push_reserved.ensures.items ∙ ap (λ l. l ++ Sent c.in_ok-to.to c.of-noted.result ∷ []) c.reserve.ensures.items ∙ ap (λ x. a.log.items ++ Sent c.in_ok-to.to x ∷ []) c.of-noted.ensures in
+    let grows = rw c.in_ok-reserve-2.ensures.boxes at c.put.ensures in
     record {
       to = c.in_ok-to.to;
       letter = letter;

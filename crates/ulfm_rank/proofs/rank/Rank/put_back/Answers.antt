@@ -1,6 +1,6 @@
-use Rattle.std.proofs.Common.{◌≡◌, ◌<◌, ◌-◌, true, false, length, set, refl, ap, sym, ◌∙◌, arith}
-use Rattle.ulfm_rank.proofs.Common.{is_stopped, State, View, box_at, with_items_out, HasOutboxes}
-use Rattle.ulfm_rank.proofs.Seen.{returns_item, returns_notice, outboxes-marked}
+use Rattle.std.proofs.Common.{◌≡◌, ◌<◌, true, false, length, set, ap, sym, ◌∙◌, arith}
+use Rattle.ulfm_rank.proofs.Common.{is_stopped, State, View, box_at, with_item_back, HasOutboxes}
+use Rattle.ulfm_rank.proofs.Seen.{returns_item, returns_notice, outbox_back, outboxes-marked}
 use Rattle.ulfm_rank.proofs.rank.Rank.put_back.Goals as goal
 
 pub returns-then-self-clause-state : goal.returns-then-self-clause-state
@@ -18,8 +18,10 @@ invariant_of-self-2 c =
     let inside : c.args.dest < length boxes = omega (arith, c.requires.inside, held.size, ap (λ (s : State). s.ranks) seen) in
     let b = box_at boxes c.args.dest in
     let w = held.within c.args.dest inside in
-    let marked : HasOutboxes a.ranks a.me.number a.log.items (set boxes c.args.dest (with_items_out b (b.items_out - 1))) =
-    outboxes-marked c.args.dest (with_items_out b (b.items_out - 1)) held inside refl (omega (arith, w)) (λ s. held.no_notice s c.args.dest inside) (λ e. ap (λ k. (box_at boxes k).notice_out) (sym e) ∙ held.no_own_notice) in
+    let running : is_stopped a.log.items ≡ false = sym c.self.invariant.follows.halted ∙ c.if-self.false in
+    let back = outbox_back boxes c.args.dest seen held inside running c.requires.taken in
+    let marked : HasOutboxes a.ranks a.me.number a.log.items (set boxes c.args.dest (with_item_back b c.args.item)) =
+    outboxes-marked c.args.dest (with_item_back b c.args.item) held inside back (omega (arith, w)) (λ s. held.no_notice s c.args.dest inside) (λ e. ap (λ k. (box_at boxes k).notice_out) (sym e) ∙ held.no_own_notice) in
     record {
       follows = record {
         small = c.self.invariant.follows.small;
@@ -36,4 +38,4 @@ pub returns-clause-state : goal.returns-clause-state
 returns-clause-state c =
     let seen = ap (λ (v : View). v.state) c.self.view_is in
     let running : is_stopped c.self.inside.log.items ≡ false = sym c.self.invariant.follows.halted ∙ c.if-self.false in
-    rw c.put_back.ensures.boxes (returns_item c.self.inside.outboxes.boxes c.args.dest seen running)
+    rw c.put_back.ensures.boxes (returns_item c.self.inside.outboxes.boxes c.args.dest seen c.args.item running)

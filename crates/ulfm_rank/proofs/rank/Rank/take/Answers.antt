@@ -1,4 +1,4 @@
-use Rattle.std.proofs.Common.{◌+◌, length, ap, sym, subst, arith, ◌∙◌, nat_eq, IsTrue, vec_len, vec_capacity}
+use Rattle.std.proofs.Common.{◌≡◌, ◌+◌, [], ◌∷◌, ◌++◌, ap, sym, subst, arith, ◌∙◌, nat_eq, IsTrue, vec_len, vec_capacity}
 use Rattle.ulfm_rank.proofs.Common.{Took, AllGrow, View, owed_by_item, get, index_map_len, stop_places, revoked_before}
 use Rattle.ulfm_rank.proofs.Held.{marks-grown}
 use Rattle.ulfm_rank.proofs.InStep.{count_small, in_step_open}
@@ -20,12 +20,14 @@ settle-requires-clause-open c l is late =
     in_step_open c.self.invariant.follows.in_step l.envelope.context.number
     (ap (revoked_before a.log.items) (sym is) ∙ (sym (marked_before c.self.invariant.follows.faults c.args.item) ∙ (sym c.is_late-late.ensures ∙ late)))
 
-grows : (c : After-push_reserved) → AllGrow c.self.inside.outboxes.boxes c.pass_on.new.outboxes.boxes (length c.self.inside.log.items) (λ d. owed_by_item c.self.inside.me.number c.self.inside.log.items d c.args.item)
+grows : (c : After-push_reserved) → AllGrow c.self.inside.outboxes.boxes c.pass_on.new.outboxes.boxes (λ d. owed_by_item c.self.inside.me.number c.self.inside.log.items d c.args.item)
 grows c =
     let a = c.self.inside in
     let faults = c.self.invariant.follows.faults in
-    rw (c.len.ensures ∙ a.log.ok.0) at
-    (c.pass_on.ensures a.log.items (λ r. c.known.ensures r ∙ knows_gone faults r) (c.is_late-late.ensures ∙ marked_before faults c.args.item))
+    c.pass_on.ensures a.log.items (λ r. c.known.ensures r ∙ knows_gone faults r) (c.is_late-late.ensures ∙ marked_before faults c.args.item)
+
+longer : (c : After-push_reserved) → c.push_reserved.new.self.items ≡ c.self.inside.log.items ++ Took c.args.source c.args.item ∷ []
+longer c = c.push_reserved.ensures.items ∙ ap (λ x. c.self.inside.log.items ++ Took c.args.source x ∷ []) c.of-noted.ensures
 
 pub invariant_of-self : goal.invariant_of-self
 invariant_of-self c =
@@ -33,7 +35,7 @@ invariant_of-self c =
     let room = room_of a.matcher.prepared (vec_len a.log + (index_map_len a.requests + stop_places a.stopped)) (vec_capacity a.log) a.outboxes.room (subst (λ (v : View). IsTrue v.prepared) (sym c.self.view_is) c.requires.prepared) in
     let tracks = rw c.is_late-late.ensures at c.settle.ensures.tracks in
     record {
-      follows = rw c.push_reserved.ensures.items
+      follows = rw (longer c)
           (follows_took c.self.invariant.follows c.args.source c.args.item c.settle.new.matcher (get nat_eq c.settle.new.requests) c.learn.new.faults c.pass_on.new.outboxes.boxes tracks (c.learn.ensures a.log.items c.self.invariant.follows.faults) (grows c));
       places = omega (arith, room, c.settle.ensures.len, c.push_reserved.ensures.len, c.push_reserved.ensures.capacity);
     }
@@ -41,4 +43,4 @@ invariant_of-self c =
 pub returns : goal.returns
 returns c =
     let a = c.self.inside in
-    state_logged c.self.inside.outboxes.boxes c.pass_on.new.outboxes.boxes (Took c.args.source c.args.item) (ap (λ (v : View). v.state) c.self.view_is) c.push_reserved.ensures.items (marks-grown (grows c))
+    state_logged c.self.inside.outboxes.boxes c.pass_on.new.outboxes.boxes (Took c.args.source c.args.item) (ap (λ (v : View). v.state) c.self.view_is) (longer c) (marks-grown (grows c))

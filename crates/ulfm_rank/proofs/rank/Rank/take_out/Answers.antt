@@ -10,9 +10,6 @@ invariant_of-self c =
     let boxes = a.outboxes.boxes in
     let held = c.self.invariant.follows.outboxes in
     let inside : c.args.dest < length boxes = omega (arith, c.requires, held.size, ap (λ (s : State). s.ranks) seen) in
-    let log = c.deref.ensures.value in
-    let next = rw log at (c.take_next.ensures.next a.ranks a.me.number) in
-    let same = rw log at (c.take_next.ensures.unchanged a.ranks a.me.number) in
     record {
       follows = record {
         small = c.self.invariant.follows.small;
@@ -20,7 +17,7 @@ invariant_of-self c =
         in_step = c.self.invariant.follows.in_step;
         faults = c.self.invariant.follows.faults;
         communicators = c.self.invariant.follows.communicators;
-        outboxes = outboxes-taken a.outboxes c.take_next.new.outboxes c.args.dest c.take_next.result held inside (next held) c.take_next.ensures.taken (same held);
+        outboxes = outboxes-taken a.outboxes c.take_next.new.self c.args.dest c.take_next.result held inside c.take_next.ensures.first c.take_next.ensures.taken c.take_next.ensures.unchanged;
       };
       places = c.self.invariant.places;
     }
@@ -33,9 +30,7 @@ returns-then-not-self-clause-leaves c =
     let held = c.self.invariant.follows.outboxes in
     let inside : c.args.dest < length boxes = omega (arith, c.requires, held.size, ap (λ (s : State). s.ranks) seen) in
     let running : is_stopped a.log.items ≡ false = sym c.self.invariant.follows.halted ∙ c.if-not-self.true in
-    let log = c.deref.ensures.value in
-    let next = rw log at (c.take_next.ensures.next a.ranks a.me.number) in
-    IfSome_both c.take_next.result (next held) c.take_next.ensures.taken (λ item found change.
+    IfSome_both c.take_next.result c.take_next.ensures.first c.take_next.ensures.taken (λ item found change.
     rw change (leaves_next boxes c.args.dest seen held inside running found))
 
 pub returns-then-not-self-clause-none : goal.returns-then-not-self-clause-none
@@ -46,9 +41,7 @@ returns-then-not-self-clause-none c =
     let held = c.self.invariant.follows.outboxes in
     let inside : c.args.dest < length boxes = omega (arith, c.requires, held.size, ap (λ (s : State). s.ranks) seen) in
     let running : is_stopped a.log.items ≡ false = sym c.self.invariant.follows.halted ∙ c.if-not-self.true in
-    let log = c.deref.ensures.value in
-    let none = rw log at (c.take_next.ensures.none a.ranks a.me.number) in
-    IfNone_weaker c.take_next.result (none held) (all_out boxes c.args.dest seen held inside running)
+    IfNone_weaker c.take_next.result c.take_next.ensures.none (all_out boxes c.args.dest seen held inside running)
 
 pub returns-clause-leaves : goal.returns-clause-leaves
 returns-clause-leaves c =
