@@ -1,5 +1,5 @@
 -- The names that most proofs of matching cite, passed on from one place. Declares nothing.
-pub use Rattle.indexmap.specs.IndexMap.{IsUnique, get, spare}
+pub use Rattle.indexmap.specs.IndexMap.{IsUnique, get}
 pub use Rattle.std.proofs.lemmas.Bool.Decides.{nat_tests}
 pub use Rattle.std.proofs.lemmas.List.Elements.{Contains-append_cases, Contains-append_left, Contains-append_right, Contains-push, Contains-push_cases}
 pub use Rattle.std.proofs.lemmas.Option.{slice_get_within}
@@ -10,9 +10,11 @@ pub use Rattle.ulfm_match.specs.Calls.{ArrivalGoesTo, EndsNamed, PostGets}
 pub use Rattle.ulfm_match.specs.History.{Clear, Come, ComeAt, End, Event, IsLiveLetter, IsLiveReceive, IsWellFormed, Post, PostAt, StandsBetween, count_before, counts_as}
 pub use Rattle.ulfm_match.specs.Pairing.{IsKept, IsMatch, IsWaiting, LawfulPairing, Pairing, Pairs, pairs_below}
 pub use Rattle.ulfm_match.specs.State.{IsAscending, IsUncleared, Keeps, Lists, Matching, Tracks, is_cleared}
-pub use Rattle.ulfm_match.specs.inside.Buckets.{Buckets, Entries, FindsLeast, Grows, IsIndexed, IsLesser, IsWhole, Passes, Rises, Sweeps, SweepsFor, TakesEarliest, TakesOut, numbers_at, numbers_of}
+pub use Rattle.ulfm_match.specs.inside.Buckets.{Buckets, Entries, FindsLeast, Grows, IsIndexed, IsLesser, NonePass, Passes, Rises, Sweeps, SweepsFor, TakesEarliest, TakesOut, numbers_at, numbers_of}
 pub use Rattle.ulfm_match.specs.inside.Key.{IsKeyOf, IsKeyOfReceive, key_at, key_number, key_of, source_at, source_of, tag_at, tag_of}
 pub use Rattle.ulfm_match.specs.inside.Order.{in_order, place}
+pub use Rattle.ulfm_match.specs.inside.Pools.{FindsFirst, HasPlace, IsFirstAt, IsPool, IsWhole, NoneOf, TakesFirst, TakesLeast, all_of}
+pub use Rattle.ulfm_match.specs.declared.pool.Pool.{Pool}
 pub use Rattle.indexmap.proofs.CallerLemmas.{filter-RetainsPairs}
 pub use Rattle.std.proofs.lemmas.Map.Views.{exact_unsigned_eq, hash_map_get_iff}
 pub use Rattle.ulfm_base.proofs.Places.{get_or-blank}

@@ -1,5 +1,7 @@
 -- Entries and their buckets, from one state to the next.
-use Rattle.std.proofs.Common.{◌≡◌, ℕ, ◌+◌, ◌⊎◌, inl, inr, refl, ap, sym, ◌∙◌, subst, arith, Bool, true, false, cond, Contains, Option, Some, None, is_some, nat_eq}
+use Rattle.std.proofs.Common.{◌≡◌, ℕ, ◌+◌, ◌≤◌, ◌⊎◌, inl, inr, refl, List, [], ◌∷◌, length, ap, sym, ◌∙◌, subst, arith, Bool, true, false, cond, Contains, Option, Some, None, is_some, nat_eq}
+use Rattle.std.specs.Map.{lookup}
+use Rattle.ulfm_match.proofs.Bucketed.{sweeps_none}
 use Rattle.ulfm_match.proofs.Common.{Pattern, Admits, AdmitsSource, AdmitsTag, Letter, Entries, Buckets, numbers_at, SweepsFor, Grows, TakesOut, IsIndexed, Passes, get, IsUnique, key_number, key_of, source_of, tag_of, source_at, tag_at, key_at, IsKeyOf, IsKeyOfReceive, WorldRank, Tag, Source, One, Any, exact_unsigned_eq}
 
 source_key : (source : Source) (rank : WorldRank) → AdmitsSource source rank → (b : Bool) × (source_of source ≡ source_at b rank)
@@ -22,13 +24,13 @@ admits_key p l a =
           ∙ (ap (λ n. key_number l.envelope.context.number n (tag_of p.tag)) s.1 ∙ ap (λ n. key_number l.envelope.context.number (source_at s.0 l.envelope.source) n) t.1);
     }
 
--- a kept letter that a pattern admits stands in the bucket of its key, or is fresh
-pub kept_found : {p : Pattern} {fresh : Option ℕ} {top : ℕ} {es : Entries Letter} {bs : Buckets} → IsIndexed IsKeyOf fresh top es bs → (m : ℕ) → Passes (λ (l : Letter). Admits p l.envelope) es m → Contains (numbers_at bs (key_of p)) m ⊎ (fresh ≡ Some m)
-kept_found {p} i m q = elim (i.held m q.entry (key_of p) q.found (admits_key p q.entry q.passes)) [ inl e ↦ inr e | inr c ↦ inl c ]
+-- a letter in buckets that a pattern admits stands in the bucket of its key
+pub kept_found : {p : Pattern} {top : ℕ} {es : Entries Letter} {bs : Buckets} → IsIndexed IsKeyOf top es bs → (m : ℕ) → Passes (λ (l : Letter). Admits p l.envelope) es m → Contains (numbers_at bs (key_of p)) m
+kept_found {p} i m q = i.held m q.entry (key_of p) q.found (admits_key p q.entry q.passes)
 
--- a receive that admits a letter stands in the bucket of one of its keys
-pub waiting_found : (l : Letter) (count : ℕ) (es : Entries Pattern) (bs : Buckets) → IsIndexed IsKeyOfReceive None count es bs → (m : ℕ) → Passes (λ (p : Pattern). Admits p l.envelope) es m → (k : ℕ) × IsKeyOf l k × Contains (numbers_at bs k) m
-waiting_found l count es bs i m q = (key_of q.entry, admits_key q.entry l q.passes, elim (i.held m q.entry (key_of q.entry) q.found refl) [ inl e ↦ absurd cc | inr c ↦ c ])
+-- a receive in buckets that admits a letter stands in the bucket of one of its keys
+pub waiting_found : (l : Letter) (top : ℕ) (es : Entries Pattern) (bs : Buckets) → IsIndexed IsKeyOfReceive top es bs → (m : ℕ) → Passes (λ (p : Pattern). Admits p l.envelope) es m → (k : ℕ) × IsKeyOf l k × Contains (numbers_at bs k) m
+waiting_found l top es bs i m q = (key_of q.entry, admits_key q.entry l q.passes, i.held m q.entry (key_of q.entry) q.found refl)
 
 four_cases : (l : Letter) (M : ℕ → Type 0) (k1 k2 k3 k4 k : ℕ) → k1 ≡ key_at false false l.envelope → k2 ≡ key_at false true l.envelope → k3 ≡ key_at true false l.envelope → k4 ≡ key_at true true l.envelope → (a b : Bool) → k ≡ key_at a b l.envelope → M k → (M k1 ⊎ M k2) ⊎ (M k3 ⊎ M k4)
 four_cases l M k1 k2 k3 k4 k e1 e2 e3 e4 false false is m = inl (inl (subst M (is ∙ sym e1) m))
@@ -43,75 +45,62 @@ one_of_four l M k1 k2 k3 k4 e1 e2 e3 e4 k is m = four_cases l M k1 k2 k3 k4 k e1
 pub some_same : {X : Type 0} {o : Option X} {x y : X} → o ≡ Some x → o ≡ Some y → x ≡ y
 some_same e f = cc
 
-module _ {X : Type 0} {K : X → ℕ → Type 0} where
-  module _ {fresh : Option ℕ} {count : ℕ} {es : Entries X} {bs : Buckets} (i : IsIndexed K fresh count es bs) where
-    -- entries go
-    pub less_indexed : {es' : Entries X} {bs' : Buckets} → IsUnique nat_eq es' → ((n : ℕ) (x : X) → get nat_eq es' n ≡ Some x → get nat_eq es n ≡ Some x) → ((k : ℕ) → SweepsFor es' (numbers_at bs k) (numbers_at bs' k)) → IsIndexed K fresh count es' bs'
-    less_indexed u sub s = record {
+-- among no entries none passes
+pub none_of_none : {X : Type 0} (P : X → Type 0) (es : Entries X) → length es.entries ≡ 0 → (n : ℕ) → Passes P es n → ⊥
+none_of_none {X} P es e n q = by es.entries e q.found
+  where
+    by : (xs : List (ℕ × X)) → length xs ≡ 0 → lookup (nat_eq n) xs ≡ Some q.entry → ⊥
+    by [] e f = cc
+    by (x ∷ xs) e f = absurd (omega (arith, e))
+
+module _ {X : Type 0} {K : X → ℕ → Type 0} {top : ℕ} {es : Entries X} {bs : Buckets} (i : IsIndexed K top es bs) where
+  -- entries go
+  pub less_indexed : {es' : Entries X} {bs' : Buckets} → IsUnique nat_eq es' → ((n : ℕ) (x : X) → get nat_eq es' n ≡ Some x → get nat_eq es n ≡ Some x) → ((k : ℕ) → SweepsFor es' (numbers_at bs k) (numbers_at bs' k)) → IsIndexed K top es' bs'
+  less_indexed u sub s = record {
+    unique = u;
+    below = λ n x f. i.below n x (sub n x f);
+    held = λ n x k f q. (s k).keeps n (i.held n x k (sub n x f) q) (ap is_some f);
+    rises = λ k. (s k).rises (i.rises k);
+    within = λ k n c. i.within k n ((s k).from n c);
+  }
+
+  pub out_indexed : {n : ℕ} {es' : Entries X} {bs' : Buckets} → TakesOut n es es' bs bs' → IsIndexed K top es' bs'
+  out_indexed {n} t = less_indexed t.unique (λ m x f. by m x (nat_eq n m) (sym (t.updates m) ∙ f)) t.sweeps
+    where
+      by : (m : ℕ) (x : X) (b : Bool) → cond b None (get nat_eq es m) ≡ Some x → get nat_eq es m ≡ Some x
+      by m x true e = cc
+      by m x false e = e
+
+  -- the same entries, with more room
+  pub same_indexed : {es' : Entries X} → es'.entries ≡ es.entries → IsUnique nat_eq es' → IsIndexed K top es' bs
+  same_indexed e u = less_indexed u (λ n x f. subst (λ xs. lookup (nat_eq n) xs ≡ Some x) e f) (λ k. sweeps_none _ (numbers_at bs k))
+
+  module _ (n : ℕ) (above : top ≤ n) {bs' : Buckets} (g : (k : ℕ) → Grows n (numbers_at bs k) (numbers_at bs' k)) where
+    -- the number of an entry that isn't there is put into some buckets
+    pub grown_indexed : IsIndexed K n es bs'
+    grown_indexed = record {
+      unique = i.unique;
+      below = λ m x f. let l = i.below m x f in omega (arith, l, above);
+      held = λ m x k f q. (g k).keeps m (i.held m x k f q);
+      rises = λ k. (g k).rises (i.rises k) (λ m c. let l = i.within k m c in omega (arith, l, above));
+      within = λ k m c. elim ((g k).from m c) [ inl d ↦ (let l = i.within k m d in omega (arith, l, above)) | inr e ↦ (let q : m ≡ n = e in omega (arith, q)) ];
+    }
+
+    -- it is put into all of its buckets, and comes
+    pub more_indexed : {es' : Entries X} (x : X) → IsUnique nat_eq es' → ((m : ℕ) → get nat_eq es' m ≡ cond (nat_eq n m) (Some x) (get nat_eq es m)) → ((k : ℕ) → K x k → Contains (numbers_at bs' k) n) → IsIndexed K (n + 1) es' bs'
+    more_indexed {es'} x u is put = record {
       unique = u;
-      below = λ n x f. i.below n x (sub n x f);
-      held = λ n x k f q. elim (i.held n x k (sub n x f) q) [ inl e ↦ inl e | inr c ↦ inr ((s k).keeps n c (ap is_some f)) ];
-      rises = λ k. (s k).rises (i.rises k);
-      within = λ k n c. i.within k n ((s k).from n c);
-    }
-
-    pub out_indexed : {n : ℕ} {es' : Entries X} {bs' : Buckets} → TakesOut n es es' bs bs' → IsIndexed K fresh count es' bs'
-    out_indexed {n} t = less_indexed t.unique (λ m x f. by m x (nat_eq n m) (sym (t.updates m) ∙ f)) t.sweeps
-      where
-        by : (m : ℕ) (x : X) (b : Bool) → cond b None (get nat_eq es m) ≡ Some x → get nat_eq es m ≡ Some x
-        by m x true e = cc
-        by m x false e = e
-
-    -- the fresh entry is put into its buckets, or into some of them
-    pub grown_indexed : (n : ℕ) {bs' : Buckets} → count ≡ n + 1 → ((k : ℕ) → Grows n (numbers_at bs k) (numbers_at bs' k)) → IsIndexed K fresh count es bs'
-    grown_indexed n last g = record {
-      unique = i.unique;
-      below = i.below;
-      held = λ m x k f q. elim (i.held m x k f q) [ inl e ↦ inl e | inr c ↦ inr ((g k).keeps m c) ];
-      rises = λ k. (g k).rises (i.rises k) (λ m c. let l = i.within k m c in omega (arith, l, last));
-      within = λ k m c. elim ((g k).from m c) [ inl d ↦ i.within k m d | inr e ↦ (let q : m ≡ n = e in omega (arith, q, last)) ];
-    }
-
-  module _ {count : ℕ} {es : Entries X} {bs : Buckets} where
-    -- it is in all of them
-    pub put_indexed : {n : ℕ} → IsIndexed K (Some n) count es bs → ((x : X) (k : ℕ) → get nat_eq es n ≡ Some x → K x k → Contains (numbers_at bs k) n) → IsIndexed K None count es bs
-    put_indexed {n} i put = record {
-      unique = i.unique;
-      below = i.below;
-      held = λ m x k f q. elim (i.held m x k f q) [
-        | inl e ↦ (let same : n ≡ m = cc in inr (rw (sym same) (put x k (ap (λ j. get nat_eq es j) same ∙ f) q)))
-        | inr c ↦ inr c
+      below = λ m y f. elim (old_or_new m y f) [ inl e ↦ (let q : n ≡ m = e.0 in omega (arith, q)) | inr o ↦ (let l = i.below m y o in omega (arith, l, above)) ];
+      held = λ m y k f q. elim (old_or_new m y f) [
+        | inl e ↦ subst (λ j. Contains (numbers_at bs' k) j) e.0 (put k (subst (λ z. K z k) (sym e.1) q))
+        | inr o ↦ (g k).keeps m (i.held m y k o q)
       ];
-      rises = i.rises;
-      within = i.within;
-    }
-
-    module _ (i : IsIndexed K None count es bs) where
-      -- something else comes
-      pub later_indexed : IsIndexed K (Some count) (count + 1) es bs
-      later_indexed = record {
-        unique = i.unique;
-        below = λ n x f. let l = i.below n x f in omega (arith, l);
-        held = λ n x k f q. elim (i.held n x k f q) [ inl e ↦ absurd cc | inr c ↦ inr c ];
-        rises = i.rises;
-        within = λ k n c. let l = i.within k n c in omega (arith, l);
-      }
-
-      -- an entry comes
-      pub more_indexed : {es' : Entries X} (x : X) → IsUnique nat_eq es' → ((n : ℕ) → get nat_eq es' n ≡ cond (nat_eq count n) (Some x) (get nat_eq es n)) → IsIndexed K (Some count) (count + 1) es' bs
-      more_indexed {es'} x u is = record {
-        unique = u;
-        below = λ n y f. elim (old_or_new n y f) [ inl e ↦ (let q : count ≡ n = e in omega (arith, q)) | inr o ↦ (let l = i.below n y o in omega (arith, l)) ];
-        held = λ n y k f q. elim (old_or_new n y f) [
-          | inl e ↦ inl (ap (λ j. Some j) e)
-          | inr o ↦ elim (i.held n y k o q) [ inl e ↦ absurd cc | inr c ↦ inr c ]
-        ];
-        rises = i.rises;
-        within = λ k n c. let l = i.within k n c in omega (arith, l);
-      } where
-        old_or_new : (n : ℕ) (y : X) → get nat_eq es' n ≡ Some y → (count ≡ n) ⊎ (get nat_eq es n ≡ Some y)
-        old_or_new n y f = by (nat_eq count n) refl (sym (is n) ∙ f)
-          where
-            by : (b : Bool) → nat_eq count n ≡ b → cond b (Some x) (get nat_eq es n) ≡ Some y → (count ≡ n) ⊎ (get nat_eq es n ≡ Some y)
-            by true e f = inl (exact_unsigned_eq count n e)
-            by false e f = inr f
+      rises = grown_indexed.rises;
+      within = λ k m c. let l = grown_indexed.within k m c in omega (arith, l);
+    } where
+      old_or_new : (m : ℕ) (y : X) → get nat_eq es' m ≡ Some y → ((n ≡ m) × (x ≡ y)) ⊎ (get nat_eq es m ≡ Some y)
+      old_or_new m y f = by (nat_eq n m) refl (sym (is m) ∙ f)
+        where
+          by : (b : Bool) → nat_eq n m ≡ b → cond b (Some x) (get nat_eq es m) ≡ Some y → ((n ≡ m) × (x ≡ y)) ⊎ (get nat_eq es m ≡ Some y)
+          by true e f = inl (exact_unsigned_eq n m e, some_same refl f)
+          by false e f = inr f

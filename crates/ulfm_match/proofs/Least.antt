@@ -5,15 +5,7 @@ use Rattle.ulfm_match.proofs.Decide.{Either, Contains-none, Contains-cons_cases,
 use Rattle.ulfm_match.proofs.EndSteps.{other_context, passes_context}
 use Rattle.ulfm_match.proofs.Members.{all_of, Contains-filter, filter-Contains}
 use Rattle.ulfm_match.proofs.Ascending.{ascending_filter}
-
--- z was taken out, the one of the least number of which P holds: what a matcher has to find, however it keeps its entries
-pub record TakesLeast {X : Type 0} (P : ℕ × X → Type 0) (old new : List (ℕ × X)) (z : ℕ × X) : Type 0 where
-  pub there : Contains old z
-  pub passes : P z
-  pub least : (y : ℕ × X) → Contains old y → P y → z.0 ≤ y.0
-  pub ascending : IsAscending new
-  pub left_to : (y : ℕ × X) → Contains new y → Contains old y × (y.0 ≢ z.0)
-  pub left_back : (y : ℕ × X) → Contains old y → y.0 ≢ z.0 → Contains new y
+pub use Rattle.ulfm_match.specs.inside.Pools.{TakesLeast}
 
 module _ {X : Type 0} (P : ℕ × X → Type 0) (d : (y : ℕ × X) → Either (P y)) where
   least_of : (xs : List (ℕ × X)) → IsAscending xs → ((z : ℕ × X) × Contains xs z × P z × ((y : ℕ × X) → Contains xs y → P y → z.0 ≤ y.0)) ⊎ ((y : ℕ × X) → Contains xs y → P y → ⊥)

@@ -12,6 +12,8 @@ pub mod Extend
 pub mod Histories
 pub mod Indexed
 pub mod Inserted
+pub mod First
+pub mod Pooled
 pub mod Least
 pub mod Listed
 pub mod Lists
@@ -23,7 +25,6 @@ pub mod Probed
 pub mod Rising
 pub mod Steps
 pub mod Unique
-pub mod Whole
 pub mod Places
 pub mod Admitted
 pub mod Exists

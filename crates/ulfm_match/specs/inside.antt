@@ -1,3 +1,4 @@
 pub mod Buckets
 pub mod Key
 pub mod Order
+pub mod Pools

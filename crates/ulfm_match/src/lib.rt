@@ -6,12 +6,14 @@ mod arrived;
 mod bucket;
 mod buckets;
 mod key;
+mod late;
 mod law;
 mod matcher;
-mod placing;
+mod pool;
 mod removal;
 mod request;
 mod search;
+mod settling;
 mod taking;
 
 pub use arrived::Arrived;

@@ -6,28 +6,23 @@ ghost use Rattle.ulfm_match.specs.Calls.{TracksPost, TracksProbe, TracksArrival,
 ghost use Rattle.ulfm_match.specs.State.{is_cleared, Tracks, Keeps};
 
 use crate::arrived::Arrived;
-use crate::buckets::{Buckets, forget_gone};
-use crate::placing::{put_kept, put_receive};
-use crate::removal::{clear_kept, clear_waiting, end_waiting};
+use crate::pool::Pool;
+use crate::removal::{clear_letters, clear_receives, end_receives};
 use crate::request::RequestId;
-use crate::search::first_kept;
-use crate::taking::{take_kept, take_numbered, take_waiting};
-use indexmap::IndexMap;
+use crate::settling::{prepare_letter, prepare_receive};
+use crate::taking::{end_numbered, has_letter, is_there, take_letter, take_receive};
 use std::alloc::Global;
 use std::marker::Model;
 use ulfm_base::{Context, Letter, OutOfMemory, Pattern, WorldRank};
 
-/// The receives of one rank that wait, and the letters that it keeps, each by number, and the numbers in buckets by what
-/// they are searched for. Contracts see both as lists in order of their numbers, how many posts and arrivals there were,
-/// which contexts were cleared, and whether there is room for one more post and one more arrival.
+/// The receives of one rank that wait, and the letters that it keeps, each by number: the last few in a list, the others in
+/// buckets by what they are searched for. Contracts see both as lists in order of their numbers, how many posts and arrivals
+/// there were, which contexts were cleared, and whether there is room for one more post and one more arrival.
 #[derive(Drop)]
 pub struct Matcher {
     alloc: Global,
-    waiting: IndexMap<u64, Pattern>,
-    posted: Buckets,
-    kept: IndexMap<u64, Letter>,
-    came: Buckets,
-    fresh: Option<u64>,
+    waiting: Pool<Pattern>,
+    kept: Pool<Letter>,
     ready: bool,
     count: u64,
     cleared: [bool; 63],
@@ -35,20 +30,19 @@ pub struct Matcher {
 
 impl Model for Matcher {
     ghost use Rattle.ulfm_match.specs.State.{Matching};
-    ghost use Rattle.ulfm_match.specs.inside.Order.{in_order};
-    ghost use Rattle.ulfm_match.specs.inside.Buckets.{IsWhole};
+    ghost use Rattle.ulfm_match.specs.inside.Pools.{all_of, IsWhole};
 
     ghost Value = { Matching };
 
     ghost view = { λ m. record {
-      waiting = in_order m.waiting.entries;
-      kept = in_order m.kept.entries;
+      waiting = all_of m.waiting;
+      kept = all_of m.kept;
       count = m.count;
       cleared = m.cleared;
       prepared = m.ready;
     } };
 
-    ghost invariant = { λ m. IsWhole m.waiting m.posted m.kept m.came m.fresh m.count m.ready };
+    ghost invariant = { λ m. IsWhole m.waiting m.kept m.count m.ready };
 }
 
 impl Matcher {
@@ -58,11 +52,8 @@ impl Matcher {
     {
         Matcher {
             alloc,
-            waiting: IndexMap::new(alloc),
-            posted: IndexMap::new(alloc),
-            kept: IndexMap::new(alloc),
-            came: IndexMap::new(alloc),
-            fresh: None,
+            waiting: Pool::new(alloc),
+            kept: Pool::new(alloc),
             ready: false,
             count: 0,
             cleared: [false; 63],
@@ -87,21 +78,10 @@ impl Matcher {
         if self.ready {
             return Ok(());
         }
-        self.waiting.reserve(1)?;
-        self.kept.reserve(1)?;
-        match self.fresh {
-            Some(number) => {
-                put_receive(&self.waiting, &mut self.posted, self.alloc, number)?;
-                put_kept(&self.kept, &mut self.came, self.alloc, number)?;
-                self.fresh = None;
-                self.ready = true;
-                Ok(())
-            }
-            None => {
-                self.ready = true;
-                Ok(())
-            }
-        }
+        prepare_receive(&mut self.waiting, self.alloc)?;
+        prepare_letter(&mut self.kept, self.alloc)?;
+        self.ready = true;
+        Ok(())
     }
 
     /// Whether there is room for one post and one arrival.
@@ -140,11 +120,10 @@ impl Matcher {
     {
         let number = self.count;
         self.count += 1;
-        match take_kept(&mut self.kept, &mut self.came, self.fresh, &pattern) {
+        match take_letter(&mut self.kept, &pattern) {
             Some(letter) => (RequestId { number }, Some(letter)),
             None => {
-                let _ = self.waiting.insert(number, pattern);
-                self.fresh = Some(number);
+                self.waiting.late.push_back_reserved((number, pattern));
                 self.ready = false;
                 (RequestId { number }, None)
             }
@@ -166,7 +145,7 @@ impl Matcher {
         ensures prepared { self.new.prepared ≡ self.old.prepared }
         ensures tracks { TracksProbe pattern.now self.old result self.new }
     {
-        let letter = take_kept(&mut self.kept, &mut self.came, self.fresh, pattern)?;
+        let letter = take_letter(&mut self.kept, pattern)?;
         self.count += 1;
         Some(letter)
     }
@@ -186,11 +165,10 @@ impl Matcher {
     {
         let number = self.count;
         self.count += 1;
-        match take_waiting(&mut self.waiting, &mut self.posted, &letter) {
+        match take_receive(&mut self.waiting, &letter) {
             Some(request) => Arrived::Paired(RequestId { number: request }, letter),
             None => {
-                let _ = self.kept.insert(number, letter);
-                self.fresh = Some(number);
+                self.kept.late.push_back_reserved((number, letter));
                 self.ready = false;
                 Arrived::Kept
             }
@@ -207,10 +185,10 @@ impl Matcher {
         ensures prepared { self.new.prepared ≡ self.old.prepared }
         ensures tracks { TracksEnd id.number self.old self.new }
     {
-        if !self.waiting.contains_key(&id.number) {
+        if !is_there(&self.waiting, id.number) {
             return false;
         }
-        take_numbered(&mut self.waiting, &mut self.posted, id.number);
+        end_numbered(&mut self.waiting, id.number);
         true
     }
 
@@ -225,10 +203,8 @@ impl Matcher {
         ensures prepared { IsTrue self.old.prepared → IsTrue self.new.prepared }
         ensures tracks { TracksClear context.number self.old self.new }
     {
-        clear_waiting(&mut self.waiting, context);
-        forget_gone(&mut self.posted, &self.waiting);
-        clear_kept(&mut self.kept, context);
-        forget_gone(&mut self.came, &self.kept);
+        clear_receives(&mut self.waiting, context);
+        clear_letters(&mut self.kept, context);
         self.cleared[context.number as usize] = true;
     }
 
@@ -242,21 +218,20 @@ impl Matcher {
         ensures prepared { IsTrue self.old.prepared → IsTrue self.new.prepared }
         ensures tracks { TracksNamed rank.number self.old self.new }
     {
-        end_waiting(&mut self.waiting, rank);
-        forget_gone(&mut self.posted, &self.waiting);
+        end_receives(&mut self.waiting, rank);
     }
 
     /// Whether the receive of this number waits: it was posted, has no letter, and didn't end.
     pub fn is_waiting(&self, id: RequestId) -> bool
         ensures { IsTrue result ↔ ((pattern : Pattern) × Contains self.now.waiting (id.number, pattern)) }
     {
-        self.waiting.contains_key(&id.number)
+        is_there(&self.waiting, id.number)
     }
 
     /// Whether a letter is kept that a receive with this pattern admits.
     pub fn keeps_match(&self, pattern: &Pattern) -> bool
         ensures { IsTrue result ↔ ((entry : ℕ × Letter) × Contains self.now.kept entry × Admits pattern.now entry.1.envelope) }
     {
-        first_kept(&self.came, &self.kept, self.fresh, pattern).is_some()
+        has_letter(&self.kept, pattern)
     }
 }

@@ -1,16 +1,20 @@
-//! What leaves the entries by a clear or by the failure of a source.
-ghost use Rattle.std.specs.Prelude.{◌≡◌, ◌==◌, ◌≤◌, ℕ, filter, not, nat_eq};
-ghost use Rattle.indexmap.specs.IndexMap.{IsUnique, KeepsRoom};
+//! What leaves by a clear or by the failure of a source.
+ghost use Rattle.std.specs.Prelude.{◌≡◌, ◌==◌, ℕ, filter, not, nat_eq};
+ghost use Rattle.indexmap.specs.IndexMap.{IsUnique};
 ghost use Rattle.ulfm_base.specs.Pattern.{names};
+ghost use Rattle.ulfm_match.specs.inside.Key.{IsKeyOf, IsKeyOfReceive};
+ghost use Rattle.ulfm_match.specs.inside.Pools.{all_of, HasPlace, IsPool};
 
+use crate::buckets::forget_gone;
+use crate::late::{drop_letters, drop_named, drop_receives};
+use crate::pool::Pool;
 use indexmap::IndexMap;
 use ulfm_base::{Context, Letter, Pattern, WorldRank};
 
-/// Drops the receives of a context.
-pub(crate) fn clear_waiting(waiting: &mut IndexMap<u64, Pattern>, context: Context)
+/// Drops the early receives of a context.
+fn clear_waiting(waiting: &mut IndexMap<u64, Pattern>, context: Context)
     ensures left { waiting.new.entries ≡ filter (λ (y : ℕ × Pattern). not (y.1.context.number == context.number)) waiting.old.entries }
     ensures unique { IsUnique nat_eq waiting.new }
-    ensures room { KeepsRoom waiting.old waiting.new }
 {
     waiting.retain(
         |_number: &u64, pattern: &mut Pattern| -> bool
@@ -19,11 +23,10 @@ pub(crate) fn clear_waiting(waiting: &mut IndexMap<u64, Pattern>, context: Conte
     );
 }
 
-/// Drops the letters of a context.
-pub(crate) fn clear_kept(kept: &mut IndexMap<u64, Letter>, context: Context)
+/// Drops the early letters of a context.
+fn clear_kept(kept: &mut IndexMap<u64, Letter>, context: Context)
     ensures left { kept.new.entries ≡ filter (λ (y : ℕ × Letter). not (y.1.envelope.context.number == context.number)) kept.old.entries }
     ensures unique { IsUnique nat_eq kept.new }
-    ensures room { KeepsRoom kept.old kept.new }
 {
     kept.retain(
         |_number: &u64, letter: &mut Letter| -> bool
@@ -32,15 +35,50 @@ pub(crate) fn clear_kept(kept: &mut IndexMap<u64, Letter>, context: Context)
     );
 }
 
-/// Drops the receives that name a rank as their source.
-pub(crate) fn end_waiting(waiting: &mut IndexMap<u64, Pattern>, rank: WorldRank)
+/// Drops the early receives that name a rank as their source.
+fn end_waiting(waiting: &mut IndexMap<u64, Pattern>, rank: WorldRank)
     ensures left { waiting.new.entries ≡ filter (λ (y : ℕ × Pattern). not (names y.1.source rank.number)) waiting.old.entries }
     ensures unique { IsUnique nat_eq waiting.new }
-    ensures room { KeepsRoom waiting.old waiting.new }
 {
     waiting.retain(
         |_number: &u64, pattern: &mut Pattern| -> bool
             ensures { (result ≡ not (names pattern.old.source rank.number)) × (pattern.new ≡ pattern.old) }
         { !pattern.source.names(rank) },
     );
+}
+
+/// Drops the receives of a context.
+pub(crate) fn clear_receives(pool: &mut Pool<Pattern>, context: Context)
+    requires { (count : ℕ) × IsPool IsKeyOfReceive count pool.old }
+    ensures left { all_of pool.new ≡ filter (λ (y : ℕ × Pattern). not (y.1.context.number == context.number)) (all_of pool.old) }
+    ensures pool { (count : ℕ) → IsPool IsKeyOfReceive count pool.old → IsPool IsKeyOfReceive count pool.new }
+    ensures place { HasPlace pool.old → HasPlace pool.new }
+{
+    clear_waiting(&mut pool.early, context);
+    forget_gone(&mut pool.buckets, &pool.early);
+    drop_receives(&mut pool.late, context);
+}
+
+/// Drops the letters of a context.
+pub(crate) fn clear_letters(pool: &mut Pool<Letter>, context: Context)
+    requires { (count : ℕ) × IsPool IsKeyOf count pool.old }
+    ensures left { all_of pool.new ≡ filter (λ (y : ℕ × Letter). not (y.1.envelope.context.number == context.number)) (all_of pool.old) }
+    ensures pool { (count : ℕ) → IsPool IsKeyOf count pool.old → IsPool IsKeyOf count pool.new }
+    ensures place { HasPlace pool.old → HasPlace pool.new }
+{
+    clear_kept(&mut pool.early, context);
+    forget_gone(&mut pool.buckets, &pool.early);
+    drop_letters(&mut pool.late, context);
+}
+
+/// Drops the receives that name a rank as their source.
+pub(crate) fn end_receives(pool: &mut Pool<Pattern>, rank: WorldRank)
+    requires { (count : ℕ) × IsPool IsKeyOfReceive count pool.old }
+    ensures left { all_of pool.new ≡ filter (λ (y : ℕ × Pattern). not (names y.1.source rank.number)) (all_of pool.old) }
+    ensures pool { (count : ℕ) → IsPool IsKeyOfReceive count pool.old → IsPool IsKeyOfReceive count pool.new }
+    ensures place { HasPlace pool.old → HasPlace pool.new }
+{
+    end_waiting(&mut pool.early, rank);
+    forget_gone(&mut pool.buckets, &pool.early);
+    drop_named(&mut pool.late, rank);
 }

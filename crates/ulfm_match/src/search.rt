@@ -1,5 +1,5 @@
 //! Searches of the waiting receives and of the kept letters for the least number.
-ghost use Rattle.std.specs.Prelude.{◌≡◌, ◌⊎◌, ℕ, Some, Contains};
+ghost use Rattle.std.specs.Prelude.{ℕ, Contains};
 ghost use Rattle.ulfm_match.specs.inside.Buckets.{Rises, Passes, FindsLeast, IsLesser, MayGet, MayGoTo, StandsFor, numbers_at};
 ghost use Rattle.ulfm_match.specs.inside.Key.{key_of};
 
@@ -9,7 +9,7 @@ use indexmap::IndexMap;
 use ulfm_base::{Letter, Pattern};
 
 /// The earliest letter in the bucket of a pattern that it admits.
-fn first_in_bucket(
+pub(crate) fn first_kept(
     buckets: &Buckets,
     kept: &IndexMap<u64, Letter>,
     pattern: &Pattern,
@@ -28,35 +28,6 @@ fn first_in_bucket(
         }
     }
     None
-}
-
-/// The fresh letter, if it is kept and the pattern admits it.
-fn first_fresh(kept: &IndexMap<u64, Letter>, fresh: Option<u64>, pattern: &Pattern) -> Option<u64>
-    ensures { FindsLeast (λ n. fresh ≡ Some n) (Passes (MayGet pattern.now) kept.now) result }
-{
-    let number = fresh?;
-    let letter = kept.get(&number)?;
-    if pattern.admits(&letter.envelope) {
-        Some(number)
-    } else {
-        None
-    }
-}
-
-/// The earliest kept letter that the pattern admits. The fresh one may be in no bucket yet.
-pub(crate) fn first_kept(
-    buckets: &Buckets,
-    kept: &IndexMap<u64, Letter>,
-    fresh: Option<u64>,
-    pattern: &Pattern,
-) -> Option<u64>
-    requires { Rises (numbers_at buckets.now (key_of pattern.now)) }
-    ensures { FindsLeast (λ n. Contains (numbers_at buckets.now (key_of pattern.now)) n ⊎ (fresh ≡ Some n)) (Passes (MayGet pattern.now) kept.now) result }
-{
-    lesser(
-        first_in_bucket(buckets, kept, pattern),
-        first_fresh(kept, fresh, pattern),
-    )
 }
 
 /// The earliest waiting receive of a key that admits the letter.

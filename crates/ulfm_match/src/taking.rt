@@ -1,26 +1,32 @@
 //! Entries that are taken out, and their numbers with them.
-ghost use Rattle.std.specs.Prelude.{◌≡◌, ℕ, None, MatchOption, IfNone};
+ghost use Rattle.std.specs.Prelude.{◌≡◌, ◌≢◌, ◌↔◌, ℕ, None, Contains, IsTrue, MatchOption, IfNone};
+ghost use Rattle.ulfm_base.specs.Pattern.{Admits};
 ghost use Rattle.ulfm_match.specs.inside.Buckets.{IsIndexed, MayGet, MayGoTo, NonePass, TakesOut, GivesLetter, GivesReceive};
 ghost use Rattle.ulfm_match.specs.inside.Key.{IsKeyOf, IsKeyOfReceive};
+ghost use Rattle.ulfm_match.specs.inside.Pools.{all_of, HasPlace, IsPool, NoneOf, TakesLeast};
 
 use crate::buckets::{Buckets, forget, forget_letter};
 use crate::key::key_of;
+use crate::late::{drop_numbered, first_letter, is_late, take_late_letter, take_late_receive};
+use crate::pool::Pool;
 use crate::search::{first_kept, first_waiting};
 use indexmap::IndexMap;
 use ulfm_base::{Letter, Pattern};
 
-/// Takes the earliest kept letter that the pattern admits.
-pub(crate) fn take_kept(
+/// Takes the earliest of the letters in buckets that the pattern admits.
+fn take_kept(
     kept: &mut IndexMap<u64, Letter>,
     buckets: &mut Buckets,
-    fresh: Option<u64>,
     pattern: &Pattern,
 ) -> Option<Letter>
-    requires { (top : ℕ) × IsIndexed IsKeyOf fresh top kept.old buckets.old }
+    requires { (top : ℕ) × IsIndexed IsKeyOf top kept.old buckets.old }
     ensures taken { MatchOption result (NonePass (MayGet pattern.now) kept.old) (GivesLetter pattern.now kept.old kept.new buckets.old buckets.new) }
     ensures idle { IfNone result ((kept.new ≡ kept.old) × (buckets.new ≡ buckets.old)) }
 {
-    match first_kept(buckets, kept, fresh, pattern) {
+    if kept.is_empty() {
+        return None;
+    }
+    match first_kept(buckets, kept, pattern) {
         Some(number) => {
             let letter = kept.swap_remove(&number)?;
             forget_letter(buckets, &letter.envelope, kept);
@@ -30,16 +36,19 @@ pub(crate) fn take_kept(
     }
 }
 
-/// Takes the earliest waiting receive that admits the letter. Answers its number.
-pub(crate) fn take_waiting(
+/// Takes the earliest of the receives in buckets that admits the letter. Answers its number.
+fn take_waiting(
     waiting: &mut IndexMap<u64, Pattern>,
     buckets: &mut Buckets,
     letter: &Letter,
 ) -> Option<u64>
-    requires { (top : ℕ) × IsIndexed IsKeyOfReceive None top waiting.old buckets.old }
+    requires { (top : ℕ) × IsIndexed IsKeyOfReceive top waiting.old buckets.old }
     ensures taken { MatchOption result (NonePass (MayGoTo letter.now) waiting.old) (GivesReceive letter.now waiting.old waiting.new buckets.old buckets.new) }
     ensures idle { IfNone result ((waiting.new ≡ waiting.old) × (buckets.new ≡ buckets.old)) }
 {
+    if waiting.is_empty() {
+        return None;
+    }
     match first_waiting(buckets, waiting, letter) {
         Some(number) => {
             take_numbered(waiting, buckets, number);
@@ -50,14 +59,77 @@ pub(crate) fn take_waiting(
 }
 
 /// Takes the receive of a number out.
-pub(crate) fn take_numbered(
-    waiting: &mut IndexMap<u64, Pattern>,
-    buckets: &mut Buckets,
-    number: u64,
-)
+fn take_numbered(waiting: &mut IndexMap<u64, Pattern>, buckets: &mut Buckets, number: u64)
     ensures { TakesOut number waiting.old waiting.new buckets.old buckets.new }
 {
     if let Some(pattern) = waiting.swap_remove(&number) {
         forget(buckets, key_of(&pattern), waiting);
     }
+}
+
+/// Takes the earliest letter that the pattern admits.
+pub(crate) fn take_letter(pool: &mut Pool<Letter>, pattern: &Pattern) -> Option<Letter>
+    requires { (count : ℕ) × IsPool IsKeyOf count pool.old }
+    ensures taken { MatchOption result (NoneOf (λ (y : ℕ × Letter). MayGet pattern.now y.1) (all_of pool.old)) (λ letter. (n : ℕ) × TakesLeast (λ (y : ℕ × Letter). MayGet pattern.now y.1) (all_of pool.old) (all_of pool.new) (n, letter)) }
+    ensures idle { IfNone result (pool.new ≡ pool.old) }
+    ensures pool { (count : ℕ) → IsPool IsKeyOf count pool.old → IsPool IsKeyOf count pool.new }
+    ensures place { HasPlace pool.old → HasPlace pool.new }
+{
+    match take_kept(&mut pool.early, &mut pool.buckets, pattern) {
+        Some(letter) => Some(letter),
+        None => match take_late_letter(&mut pool.late, pattern) {
+            Some((_, letter)) => Some(letter),
+            None => None,
+        },
+    }
+}
+
+/// Takes the earliest receive that admits the letter. Answers its number.
+pub(crate) fn take_receive(pool: &mut Pool<Pattern>, letter: &Letter) -> Option<u64>
+    requires { (count : ℕ) × IsPool IsKeyOfReceive count pool.old }
+    ensures taken { MatchOption result (NoneOf (λ (y : ℕ × Pattern). MayGoTo letter.now y.1) (all_of pool.old)) (λ n. (pattern : Pattern) × TakesLeast (λ (y : ℕ × Pattern). MayGoTo letter.now y.1) (all_of pool.old) (all_of pool.new) (n, pattern)) }
+    ensures idle { IfNone result (pool.new ≡ pool.old) }
+    ensures pool { (count : ℕ) → IsPool IsKeyOfReceive count pool.old → IsPool IsKeyOfReceive count pool.new }
+    ensures place { HasPlace pool.old → HasPlace pool.new }
+{
+    match take_waiting(&mut pool.early, &mut pool.buckets, letter) {
+        Some(number) => Some(number),
+        None => match take_late_receive(&mut pool.late, letter) {
+            Some((number, _)) => Some(number),
+            None => None,
+        },
+    }
+}
+
+/// Whether the receive of a number is there.
+pub(crate) fn is_there(pool: &Pool<Pattern>, number: u64) -> bool
+    requires { (count : ℕ) × IsPool IsKeyOfReceive count pool.now }
+    ensures { IsTrue result ↔ ((pattern : Pattern) × Contains (all_of pool.now) (number, pattern)) }
+{
+    if pool.early.contains_key(&number) {
+        return true;
+    }
+    is_late(&pool.late, number)
+}
+
+/// Takes the receive of a number out, if it is there.
+pub(crate) fn end_numbered(pool: &mut Pool<Pattern>, number: u64)
+    requires { (count : ℕ) × IsPool IsKeyOfReceive count pool.old }
+    ensures left { (y : ℕ × Pattern) → Contains (all_of pool.new) y ↔ (Contains (all_of pool.old) y × (y.0 ≢ number)) }
+    ensures pool { (count : ℕ) → IsPool IsKeyOfReceive count pool.old → IsPool IsKeyOfReceive count pool.new }
+    ensures place { HasPlace pool.old → HasPlace pool.new }
+{
+    take_numbered(&mut pool.early, &mut pool.buckets, number);
+    drop_numbered(&mut pool.late, number);
+}
+
+/// Whether a letter is there that the pattern admits.
+pub(crate) fn has_letter(pool: &Pool<Letter>, pattern: &Pattern) -> bool
+    requires { (count : ℕ) × IsPool IsKeyOf count pool.now }
+    ensures { IsTrue result ↔ ((y : ℕ × Letter) × Contains (all_of pool.now) y × Admits pattern.now y.1.envelope) }
+{
+    if first_kept(&pool.buckets, &pool.early, pattern).is_some() {
+        return true;
+    }
+    first_letter(&pool.late, pattern).is_some()
 }

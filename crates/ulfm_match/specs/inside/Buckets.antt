@@ -81,7 +81,6 @@ IsLesser (Some m) (Some n) result = ((result ≡ Some m) × (m ≤ n)) ⊎ ((res
 pub record TakesOut {X : Type 0} (n : ℕ) (old new : Entries X) (from to : Buckets) : Type 0 where
   pub updates : (m : ℕ) → get nat_eq new m ≡ cond (nat_eq n m) None (get nat_eq old m)
   pub unique : IsUnique nat_eq new
-  pub room : spare old ≤ spare new
   pub sweeps : (k : ℕ) → SweepsFor new (numbers_at from k) (numbers_at to k)
 
 -- of the entries for which P holds, that of the least number, which is n, is taken out
@@ -107,21 +106,10 @@ NonePass {X} P entries = (n : ℕ) → Passes P entries n → ⊥
 abbrev pub StandsFor : Letter → Buckets → ℕ → Type 0
 StandsFor letter buckets n = (k : ℕ) × IsKeyOf letter k × Contains (numbers_at buckets k) n
 
--- each entry stands in the buckets of its keys, by rising numbers below the top, but for the one that came last and may be in no bucket yet
-pub record IsIndexed {X : Type 0} (IsKey : X → ℕ → Type 0) (fresh : Option ℕ) (top : ℕ) (entries : Entries X) (buckets : Buckets) : Type 0 where
+-- each entry stands in the buckets of its keys, by rising numbers; entries have numbers below the top, and buckets at most the top
+pub record IsIndexed {X : Type 0} (IsKey : X → ℕ → Type 0) (top : ℕ) (entries : Entries X) (buckets : Buckets) : Type 0 where
   pub unique : IsUnique nat_eq entries
   pub below : (n : ℕ) (x : X) → get nat_eq entries n ≡ Some x → n < top
-  pub held : (n : ℕ) (x : X) (k : ℕ) → get nat_eq entries n ≡ Some x → IsKey x k
-      → (fresh ≡ Some n) ⊎ Contains (numbers_at buckets k) n
+  pub held : (n : ℕ) (x : X) (k : ℕ) → get nat_eq entries n ≡ Some x → IsKey x k → Contains (numbers_at buckets k) n
   pub rises : (k : ℕ) → Rises (numbers_at buckets k)
-  pub within : (k n : ℕ) → Contains (numbers_at buckets k) n → n < top
-
--- what a matcher holds: the receives that wait and the letters that are kept, both in buckets; the fresh one came last of them
-pub record IsWhole (waiting : Entries Pattern) (posted : Buckets) (kept : Entries Letter) (came : Buckets) (fresh : Option ℕ) (count : ℕ) (ready : Bool) : Type 0 where
-  pub top : ℕ
-  pub counted : top ≤ count
-  pub of_waiting : IsIndexed IsKeyOfReceive fresh top waiting posted
-  pub of_kept : IsIndexed IsKeyOf fresh top kept came
-  pub last : (n : ℕ) → fresh ≡ Some n → top ≡ n + 1
-  -- room was made for one entry more, and no entry is fresh
-  pub room : ready ≡ true → (fresh ≡ None) × (0 < spare waiting) × (0 < spare kept)
+  pub within : (k n : ℕ) → Contains (numbers_at buckets k) n → n ≤ top

@@ -1,4 +1,5 @@
-use Rattle.ulfm_match.proofs.Indexed.{waiting_found}
+use Rattle.ulfm_match.proofs.Common.{Admits, Pattern}
+use Rattle.ulfm_match.proofs.Indexed.{none_of_none, waiting_found}
 use Rattle.ulfm_match.proofs.taking.take_waiting.Goals as goal
 
 pub returns-in-Some-clause-taken : goal.returns-in-Some-clause-taken
@@ -15,3 +16,6 @@ returns-in-Some-clause-taken c =
 
 pub returns-in-None-clause-taken : goal.returns-in-None-clause-taken
 returns-in-None-clause-taken c m q = c.in-None.ensures m (waiting_found c.args.letter.now c.requires.0 c.args.waiting.now c.args.buckets.now c.requires.1 m q) q
+
+pub returns-then-is_empty-clause-taken : goal.returns-then-is_empty-clause-taken
+returns-then-is_empty-clause-taken c = none_of_none (λ (p : Pattern). Admits p c.args.letter.now.envelope) c.args.waiting.now (c.is_empty.ensures.0 c.if-is_empty.true)

@@ -1,17 +1,17 @@
-use Rattle.std.proofs.Common.{false, ap, refl, arith, rules}
+use Rattle.std.proofs.Common.{◌≡◌, ◌++◌, false, ap, refl, ◌∙◌, arith, rules}
 use Rattle.ulfm_match.proofs.Common.{in_order, get_or-blank}
 use Rattle.ulfm_match.proofs.Exists.{tracks_none}
+use Rattle.ulfm_match.proofs.Pooled.{empty_pool}
 use Rattle.ulfm_match.proofs.matcher.Matcher.new.Goals as goal
 
 pub returns : goal.returns
-returns c = tracks_none _ (ap in_order c.new.ensures.empty) (ap in_order c.new-3.ensures.empty) refl (λ k. get_or-blank 63 k false)
+returns c =
+    tracks_none _ (ap (λ ys. in_order ys ++ c.new.result.late.items) c.new.ensures.early ∙ c.new.ensures.late)
+    (ap (λ ys. in_order ys ++ c.new-2.result.late.items) c.new-2.ensures.early ∙ c.new-2.ensures.late) refl (λ k. get_or-blank 63 k false)
 
 pub invariant_of-result : goal.invariant_of-result
 invariant_of-result c = record {
-  top = 0;
-  counted = omega arith;
-  of_waiting = search rules;
-  of_kept = search rules;
-  last = λ n e. cc;
+  of_waiting = empty_pool _ c.new.ensures.unique c.new.ensures.early c.new.ensures.buckets c.new.ensures.late;
+  of_kept = empty_pool _ c.new-2.ensures.unique c.new-2.ensures.early c.new-2.ensures.buckets c.new-2.ensures.late;
   room = λ e. cc;
 }

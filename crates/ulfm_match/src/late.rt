@@ -1,0 +1,141 @@
+//! The entries that came last, in a short list.
+ghost use Rattle.std.specs.Prelude.{◌≡◌, ◌≤◌, ◌==◌, ◌↔◌, ℕ, Contains, IsTrue, IfNone, MatchOption, filter, not};
+ghost use Rattle.std.specs.VecDeque.{deque_len, deque_capacity};
+ghost use Rattle.ulfm_base.specs.Pattern.{names};
+ghost use Rattle.ulfm_match.specs.inside.Buckets.{MayGet, MayGoTo};
+ghost use Rattle.ulfm_match.specs.inside.Pools.{FindsFirst, NoneOf, TakesFirst};
+
+use std::collections::VecDeque;
+use ulfm_base::{Context, Letter, Pattern, WorldRank};
+
+/// Where the first letter of some stands that the pattern admits.
+fn first_letter_in(letters: &[(u64, Letter)], pattern: &Pattern) -> Option<usize>
+    ensures { FindsFirst (λ (y : ℕ × Letter). MayGet pattern.now y.1) letters.now result }
+{
+    for k in 0..letters.len() {
+        if pattern.admits(&letters[k].1.envelope) {
+            return Some(k);
+        }
+    }
+    None
+}
+
+/// Where the first receive of some stands that admits the letter.
+fn first_receive_in(receives: &[(u64, Pattern)], letter: &Letter) -> Option<usize>
+    ensures { FindsFirst (λ (y : ℕ × Pattern). MayGoTo letter.now y.1) receives.now result }
+{
+    for k in 0..receives.len() {
+        if receives[k].1.admits(&letter.envelope) {
+            return Some(k);
+        }
+    }
+    None
+}
+
+/// Where the first letter stands that the pattern admits.
+pub(crate) fn first_letter(late: &VecDeque<(u64, Letter)>, pattern: &Pattern) -> Option<usize>
+    ensures { FindsFirst (λ (y : ℕ × Letter). MayGet pattern.now y.1) late.now.items result }
+{
+    let (front, back) = late.as_slices();
+    match first_letter_in(front, pattern) {
+        Some(k) => Some(k),
+        None => match first_letter_in(back, pattern) {
+            Some(k) => Some(front.len() + k),
+            None => None,
+        },
+    }
+}
+
+/// Where the first receive stands that admits the letter.
+fn first_receive(late: &VecDeque<(u64, Pattern)>, letter: &Letter) -> Option<usize>
+    ensures { FindsFirst (λ (y : ℕ × Pattern). MayGoTo letter.now y.1) late.now.items result }
+{
+    let (front, back) = late.as_slices();
+    match first_receive_in(front, letter) {
+        Some(k) => Some(k),
+        None => match first_receive_in(back, letter) {
+            Some(k) => Some(front.len() + k),
+            None => None,
+        },
+    }
+}
+
+/// Takes the first letter that the pattern admits, with its number.
+pub(crate) fn take_late_letter(
+    late: &mut VecDeque<(u64, Letter)>,
+    pattern: &Pattern,
+) -> Option<(u64, Letter)>
+    ensures taken { MatchOption result (NoneOf (λ (y : ℕ × Letter). MayGet pattern.now y.1) late.old.items) (TakesFirst (λ (y : ℕ × Letter). MayGet pattern.now y.1) late.old.items late.new.items) }
+    ensures idle { IfNone result (late.new ≡ late.old) }
+    ensures shorter { deque_len late.new ≤ deque_len late.old }
+    ensures room { deque_capacity late.new ≡ deque_capacity late.old }
+{
+    match first_letter(late, pattern) {
+        Some(k) => late.remove(k),
+        None => None,
+    }
+}
+
+/// Takes the first receive that admits the letter, with its number.
+pub(crate) fn take_late_receive(
+    late: &mut VecDeque<(u64, Pattern)>,
+    letter: &Letter,
+) -> Option<(u64, Pattern)>
+    ensures taken { MatchOption result (NoneOf (λ (y : ℕ × Pattern). MayGoTo letter.now y.1) late.old.items) (TakesFirst (λ (y : ℕ × Pattern). MayGoTo letter.now y.1) late.old.items late.new.items) }
+    ensures idle { IfNone result (late.new ≡ late.old) }
+    ensures shorter { deque_len late.new ≤ deque_len late.old }
+    ensures room { deque_capacity late.new ≡ deque_capacity late.old }
+{
+    match first_receive(late, letter) {
+        Some(k) => late.remove(k),
+        None => None,
+    }
+}
+
+/// Whether the receive of a number is among these.
+pub(crate) fn is_late(late: &VecDeque<(u64, Pattern)>, number: u64) -> bool
+    ensures { IsTrue result ↔ ((pattern : Pattern) × Contains late.now.items (number, pattern)) }
+{
+    for k in 0..late.len() {
+        if late[k].0 == number {
+            return true;
+        }
+    }
+    false
+}
+
+/// Drops the receive of a number.
+pub(crate) fn drop_numbered(late: &mut VecDeque<(u64, Pattern)>, number: u64)
+    ensures left { late.new.items ≡ filter (λ (y : ℕ × Pattern). not (y.0 == number)) late.old.items }
+    ensures shorter { deque_len late.new ≤ deque_len late.old }
+    ensures room { deque_capacity late.new ≡ deque_capacity late.old }
+{
+    late.retain(|entry| entry.0 != number);
+}
+
+/// Drops the receives of a context.
+pub(crate) fn drop_receives(late: &mut VecDeque<(u64, Pattern)>, context: Context)
+    ensures left { late.new.items ≡ filter (λ (y : ℕ × Pattern). not (y.1.context.number == context.number)) late.old.items }
+    ensures shorter { deque_len late.new ≤ deque_len late.old }
+    ensures room { deque_capacity late.new ≡ deque_capacity late.old }
+{
+    late.retain(|entry| entry.1.context.number != context.number);
+}
+
+/// Drops the letters of a context.
+pub(crate) fn drop_letters(late: &mut VecDeque<(u64, Letter)>, context: Context)
+    ensures left { late.new.items ≡ filter (λ (y : ℕ × Letter). not (y.1.envelope.context.number == context.number)) late.old.items }
+    ensures shorter { deque_len late.new ≤ deque_len late.old }
+    ensures room { deque_capacity late.new ≡ deque_capacity late.old }
+{
+    late.retain(|entry| entry.1.envelope.context.number != context.number);
+}
+
+/// Drops the receives that name a rank as their source.
+pub(crate) fn drop_named(late: &mut VecDeque<(u64, Pattern)>, rank: WorldRank)
+    ensures left { late.new.items ≡ filter (λ (y : ℕ × Pattern). not (names y.1.source rank.number)) late.old.items }
+    ensures shorter { deque_len late.new ≤ deque_len late.old }
+    ensures room { deque_capacity late.new ≡ deque_capacity late.old }
+{
+    late.retain(|entry| !entry.1.source.names(rank));
+}

@@ -1,0 +1,33 @@
+//! Entries by number.
+ghost use Rattle.std.specs.Prelude.{◌≡◌, [], nat_eq};
+ghost use Rattle.indexmap.specs.IndexMap.{IsUnique};
+
+use crate::buckets::Buckets;
+use indexmap::IndexMap;
+use std::alloc::Global;
+use std::collections::VecDeque;
+
+/// Entries by number. The last that came stand in a short list, which is searched from the front, and those that came before
+/// them by number, with their numbers in buckets.
+#[derive(Drop)]
+pub(crate) struct Pool<X> {
+    pub(crate) early: IndexMap<u64, X>,
+    pub(crate) buckets: Buckets,
+    pub(crate) late: VecDeque<(u64, X)>,
+}
+
+impl<X> Pool<X> {
+    /// No entries.
+    pub(crate) fn new(alloc: Global) -> Pool<X>
+        ensures early { result.early.entries ≡ [] }
+        ensures unique { IsUnique nat_eq result.early }
+        ensures buckets { result.buckets.entries ≡ [] }
+        ensures late { result.late.items ≡ [] }
+    {
+        Pool {
+            early: IndexMap::new(alloc),
+            buckets: IndexMap::new(alloc),
+            late: VecDeque::new(alloc),
+        }
+    }
+}

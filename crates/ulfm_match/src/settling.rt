@@ -1,0 +1,92 @@
+//! A place for one entry more: where many are late, the first of them is put into its buckets.
+ghost use Rattle.std.specs.Prelude.{◌≡◌, ◌≤◌, ℕ, OnOk};
+ghost use Rattle.std.specs.VecDeque.{deque_len, deque_capacity};
+ghost use Rattle.ulfm_match.specs.inside.Key.{IsKeyOf, IsKeyOfReceive};
+ghost use Rattle.ulfm_match.specs.inside.Pools.{all_of, IsPool, HasPlace};
+
+use crate::buckets::{forget, forget_letter, put, put_letter};
+use crate::key::key_of;
+use crate::pool::Pool;
+use std::alloc::Global;
+use ulfm_base::{Letter, OutOfMemory, Pattern};
+
+/// How many entries are late at most. A search among so few takes no longer than one by buckets.
+const FEW: usize = 128;
+
+/// Puts the first of the late receives among the early ones.
+fn settle_receive(pool: &mut Pool<Pattern>, alloc: Global) -> Result<(), OutOfMemory>
+    requires { (count : ℕ) × IsPool IsKeyOfReceive count pool.old }
+    ensures all { all_of pool.new ≡ all_of pool.old }
+    ensures pool { (count : ℕ) → IsPool IsKeyOfReceive count pool.old → IsPool IsKeyOfReceive count pool.new }
+    ensures shorter { deque_len pool.new.late ≤ deque_len pool.old.late }
+    ensures room { deque_capacity pool.new.late ≡ deque_capacity pool.old.late }
+{
+    pool.early.reserve(1)?;
+    let Some((number, pattern)) = pool.late.pop_front() else {
+        return Ok(());
+    };
+    match put(&mut pool.buckets, alloc, key_of(&pattern), number) {
+        Ok(()) => {
+            let _ = pool.early.insert(number, pattern);
+            Ok(())
+        }
+        Err(error) => {
+            forget(&mut pool.buckets, key_of(&pattern), &pool.early);
+            pool.late.push_front_reserved((number, pattern));
+            Err(error)
+        }
+    }
+}
+
+/// Puts the first of the late letters among the early ones.
+fn settle_letter(pool: &mut Pool<Letter>, alloc: Global) -> Result<(), OutOfMemory>
+    requires { (count : ℕ) × IsPool IsKeyOf count pool.old }
+    ensures all { all_of pool.new ≡ all_of pool.old }
+    ensures pool { (count : ℕ) → IsPool IsKeyOf count pool.old → IsPool IsKeyOf count pool.new }
+    ensures shorter { deque_len pool.new.late ≤ deque_len pool.old.late }
+    ensures room { deque_capacity pool.new.late ≡ deque_capacity pool.old.late }
+{
+    pool.early.reserve(1)?;
+    let Some((number, letter)) = pool.late.pop_front() else {
+        return Ok(());
+    };
+    match put_letter(&mut pool.buckets, alloc, &letter.envelope, number) {
+        Ok(()) => {
+            let _ = pool.early.insert(number, letter);
+            Ok(())
+        }
+        Err(error) => {
+            forget_letter(&mut pool.buckets, &letter.envelope, &pool.early);
+            pool.late.push_front_reserved((number, letter));
+            Err(error)
+        }
+    }
+}
+
+/// Makes room for one receive more.
+pub(crate) fn prepare_receive(pool: &mut Pool<Pattern>, alloc: Global) -> Result<(), OutOfMemory>
+    requires { (count : ℕ) × IsPool IsKeyOfReceive count pool.old }
+    ensures all { all_of pool.new ≡ all_of pool.old }
+    ensures pool { (count : ℕ) → IsPool IsKeyOfReceive count pool.old → IsPool IsKeyOfReceive count pool.new }
+    ensures place { OnOk result (HasPlace pool.new) }
+{
+    pool.late.reserve(1)?;
+    if pool.late.len() < FEW {
+        return Ok(());
+    }
+    settle_receive(pool, alloc)
+}
+
+/// Makes room for one letter more.
+pub(crate) fn prepare_letter(pool: &mut Pool<Letter>, alloc: Global) -> Result<(), OutOfMemory>
+    requires { (count : ℕ) × IsPool IsKeyOf count pool.old }
+    ensures all { all_of pool.new ≡ all_of pool.old }
+    ensures pool { (count : ℕ) → IsPool IsKeyOf count pool.old → IsPool IsKeyOf count pool.new }
+    ensures place { OnOk result (HasPlace pool.new) }
+{
+    pool.late.reserve(1)?;
+    if pool.late.len() < FEW {
+        return Ok(());
+    }
+    settle_letter(pool, alloc)
+}
