@@ -11,25 +11,26 @@ use ulfm_base::OutOfMemory;
 pub(crate) struct Bucket {
     /// The numbers.
     pub(crate) numbers: VecDeque<u64>,
-    /// How many entries went since all that are gone were dropped.
+    /// How many of the numbers are of entries that are gone, where not many entries went at once.
     pub(crate) gone: usize,
 }
 
-/// Drops numbers of entries that are gone from the front.
-fn trim<X>(numbers: &mut VecDeque<u64>, live: &IndexMap<u64, X>)
+/// Drops numbers of entries that are gone from the front, at most so many. Answers how many it dropped.
+fn trim<X>(numbers: &mut VecDeque<u64>, live: &IndexMap<u64, X>, most: usize) -> usize
     ensures { SweepsFor live.now numbers.old.items numbers.new.items }
 {
-    for _ in 0..numbers.len() {
+    for k in 0..most {
         match numbers.front() {
             Some(number) => {
                 if live.contains_key(number) {
-                    return;
+                    return k;
                 }
             }
-            None => return,
+            None => return k,
         }
         let _ = numbers.pop_front();
     }
+    most
 }
 
 /// Drops all numbers of entries that are gone.
@@ -57,13 +58,15 @@ impl Bucket {
         push(&mut self.numbers, number)
     }
 
-    /// Notes that one of the entries went. Its number goes at once from the front, and else once half of all are gone.
-    pub(crate) fn sweep<X>(&mut self, live: &IndexMap<u64, X>)
+    /// Notes that one of the entries went, or many. Its number goes at once from the front, and else once half of all are gone;
+    /// those of many go at once.
+    pub(crate) fn sweep<X>(&mut self, live: &IndexMap<u64, X>, many: bool)
         ensures { SweepsFor live.now self.old.numbers.items self.new.numbers.items }
     {
-        trim(&mut self.numbers, live);
-        self.gone = self.gone.saturating_add(1);
-        if self.gone > self.numbers.len() / 2 {
+        let gone = self.gone.saturating_add(1);
+        let dropped = trim(&mut self.numbers, live, gone);
+        self.gone = gone.saturating_sub(dropped);
+        if many || self.gone > self.numbers.len() / 2 {
             drop_gone(&mut self.numbers, live);
             self.gone = 0;
         }

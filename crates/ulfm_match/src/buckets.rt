@@ -52,12 +52,12 @@ pub(crate) fn put_letter(
     Ok(())
 }
 
-/// Notes that an entry of a key went. A bucket that has none left goes too.
-pub(crate) fn forget<X>(buckets: &mut Buckets, key: u64, live: &IndexMap<u64, X>)
+/// Notes that an entry of a key went, or many. A bucket that has none left goes too.
+pub(crate) fn forget<X>(buckets: &mut Buckets, key: u64, live: &IndexMap<u64, X>, many: bool)
     ensures { (k : ℕ) → SweepsFor live.now (numbers_at buckets.old k) (numbers_at buckets.new k) }
 {
     if let Some(bucket) = buckets.get_mut(&key) {
-        bucket.sweep(live);
+        bucket.sweep(live, many);
         if !bucket.numbers.is_empty() {
             return;
         }
@@ -75,7 +75,7 @@ pub(crate) fn forget_gone<X>(buckets: &mut Buckets, live: &IndexMap<u64, X>)
     for i in 0..len {
         if let Some((key, _)) = buckets.get_index(len - 1 - i) {
             let key = *key;
-            forget(buckets, key, live);
+            forget(buckets, key, live, true);
         }
     }
 }
@@ -84,8 +84,8 @@ pub(crate) fn forget_gone<X>(buckets: &mut Buckets, live: &IndexMap<u64, X>)
 pub(crate) fn forget_letter<X>(buckets: &mut Buckets, envelope: &Envelope, live: &IndexMap<u64, X>)
     ensures { (k : ℕ) → SweepsFor live.now (numbers_at buckets.old k) (numbers_at buckets.new k) }
 {
-    forget(buckets, key_at(envelope, false, false), live);
-    forget(buckets, key_at(envelope, false, true), live);
-    forget(buckets, key_at(envelope, true, false), live);
-    forget(buckets, key_at(envelope, true, true), live);
+    forget(buckets, key_at(envelope, false, false), live, false);
+    forget(buckets, key_at(envelope, false, true), live, false);
+    forget(buckets, key_at(envelope, true, false), live, false);
+    forget(buckets, key_at(envelope, true, true), live, false);
 }

@@ -31,7 +31,7 @@ fn settle_receive(pool: &mut Pool<Pattern>, alloc: Global) -> Result<(), OutOfMe
             Ok(())
         }
         Err(error) => {
-            forget(&mut pool.buckets, key_of(&pattern), &pool.early);
+            forget(&mut pool.buckets, key_of(&pattern), &pool.early, false);
             pool.late.push_front_reserved((number, pattern));
             Err(error)
         }

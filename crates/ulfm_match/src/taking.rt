@@ -63,7 +63,7 @@ fn take_numbered(waiting: &mut IndexMap<u64, Pattern>, buckets: &mut Buckets, nu
     ensures { TakesOut number waiting.old waiting.new buckets.old buckets.new }
 {
     if let Some(pattern) = waiting.swap_remove(&number) {
-        forget(buckets, key_of(&pattern), waiting);
+        forget(buckets, key_of(&pattern), waiting, false);
     }
 }
 

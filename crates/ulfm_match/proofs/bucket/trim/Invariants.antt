@@ -1,5 +1,5 @@
 use Rattle.ulfm_match.proofs.Common.{SweepsFor}
 use Rattle.ulfm_match.proofs.bucket.trim.Given as goal
 
-abbrev pub invariant-loop : goal.invariant-loop
-invariant-loop g l = SweepsFor l.live l.fn.numbers.items l.numbers.items
+abbrev pub invariant-loop-k : goal.invariant-loop-k
+invariant-loop-k g l = SweepsFor l.live l.fn.numbers.items l.numbers.items
