@@ -207,7 +207,7 @@ module _ {X : Type 0} {K : X → ℕ → Type 0} {count : ℕ} {pool : Pool X} (
     pub filtered_all : all_of new ≡ filter test (all_of pool)
     filtered_all =
         ap (λ ys. ys ++ new.late.items) (listed_filter pool.early new.early i.indexed.unique u test is)
-            ∙ (ap (λ ys. filter test (in_order pool.early.entries) ++ ys) late ∙ sym (filter-append test (in_order pool.early.entries) pool.late.items))
+        ∙ (ap (λ ys. filter test (in_order pool.early.entries) ++ ys) late ∙ sym (filter-append test (in_order pool.early.entries) pool.late.items))
 
     pub filtered_pool : ((k : ℕ) → SweepsFor new.early (numbers_at pool.buckets k) (numbers_at new.buckets k)) → IsPool K count new
     filtered_pool s =

@@ -1,15 +1,64 @@
 //! The entries that came last, in a short list.
-ghost use Rattle.std.specs.Prelude.{◌≡◌, ◌≤◌, ◌==◌, ◌↔◌, ℕ, Contains, IsTrue, IfNone, MatchOption, filter, not};
+ghost use Rattle.std.specs.Prelude.{◌≡◌, ◌≤◌, ◌==◌, ◌↔◌, ℕ, Some, Contains, IsTrue, IfNone, MatchOption, filter, not};
 ghost use Rattle.std.specs.VecDeque.{deque_len, deque_capacity};
-ghost use Rattle.ulfm_base.specs.Pattern.{names};
+ghost use Rattle.ulfm_base.specs.Pattern.{Admits, names};
+ghost use Rattle.ulfm_base.specs.declared.pattern.Source.TheVariants.{One};
 ghost use Rattle.ulfm_match.specs.inside.Buckets.{MayGet, MayGoTo};
 ghost use Rattle.ulfm_match.specs.inside.Pools.{FindsFirst, NoneOf, TakesFirst};
 
 use std::collections::VecDeque;
-use ulfm_base::{Context, Letter, Pattern, WorldRank};
+use ulfm_base::{Context, Envelope, Letter, Pattern, Source, Tag, WorldRank};
 
-/// Where the first letter of some stands that the pattern admits.
-fn first_letter_in(letters: &[(u64, Letter)], pattern: &Pattern) -> Option<usize>
+/// Whether the pattern, which asks for this tag, admits the envelope. The tag tells it of most that it doesn't admit.
+fn admits_tagged(pattern: &Pattern, tag: Tag, envelope: &Envelope) -> bool
+    requires { pattern.now.tag ≡ Some tag }
+    ensures { IsTrue result ↔ Admits pattern.now envelope.now }
+{
+    if envelope.tag.number != tag.number {
+        return false;
+    }
+    pattern.admits(envelope)
+}
+
+/// Whether the pattern, which asks for this source, admits the envelope. The source tells it of most that it doesn't admit.
+fn admits_from(pattern: &Pattern, rank: WorldRank, envelope: &Envelope) -> bool
+    requires { pattern.now.source ≡ One rank }
+    ensures { IsTrue result ↔ Admits pattern.now envelope.now }
+{
+    if envelope.source.number != rank.number {
+        return false;
+    }
+    pattern.admits(envelope)
+}
+
+/// Where the first letter of some stands that the pattern admits, which asks for this tag.
+fn first_tagged(letters: &[(u64, Letter)], pattern: &Pattern, tag: Tag) -> Option<usize>
+    requires { pattern.now.tag ≡ Some tag }
+    ensures { FindsFirst (λ (y : ℕ × Letter). MayGet pattern.now y.1) letters.now result }
+{
+    for k in 0..letters.len() {
+        if admits_tagged(pattern, tag, &letters[k].1.envelope) {
+            return Some(k);
+        }
+    }
+    None
+}
+
+/// Where the first letter of some stands that the pattern admits, which asks for this source.
+fn first_from(letters: &[(u64, Letter)], pattern: &Pattern, rank: WorldRank) -> Option<usize>
+    requires { pattern.now.source ≡ One rank }
+    ensures { FindsFirst (λ (y : ℕ × Letter). MayGet pattern.now y.1) letters.now result }
+{
+    for k in 0..letters.len() {
+        if admits_from(pattern, rank, &letters[k].1.envelope) {
+            return Some(k);
+        }
+    }
+    None
+}
+
+/// Where the first letter of some stands that the pattern admits, whatever it asks for.
+fn first_admitted(letters: &[(u64, Letter)], pattern: &Pattern) -> Option<usize>
     ensures { FindsFirst (λ (y : ℕ × Letter). MayGet pattern.now y.1) letters.now result }
 {
     for k in 0..letters.len() {
@@ -18,6 +67,19 @@ fn first_letter_in(letters: &[(u64, Letter)], pattern: &Pattern) -> Option<usize
         }
     }
     None
+}
+
+/// Where the first letter of some stands that the pattern admits.
+fn first_letter_in(letters: &[(u64, Letter)], pattern: &Pattern) -> Option<usize>
+    ensures { FindsFirst (λ (y : ℕ × Letter). MayGet pattern.now y.1) letters.now result }
+{
+    if let Some(tag) = pattern.tag {
+        return first_tagged(letters, pattern, tag);
+    }
+    if let Source::One(rank) = pattern.source {
+        return first_from(letters, pattern, rank);
+    }
+    first_admitted(letters, pattern)
 }
 
 /// Where the first receive of some stands that admits the letter.

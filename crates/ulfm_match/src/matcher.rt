@@ -9,7 +9,7 @@ use crate::arrived::Arrived;
 use crate::pool::Pool;
 use crate::removal::{clear_letters, clear_receives, end_receives};
 use crate::request::RequestId;
-use crate::settling::{prepare_letter, prepare_receive};
+use crate::settling::{add, prepare_letter, prepare_receive};
 use crate::taking::{end_numbered, has_letter, is_there, take_letter, take_receive};
 use std::alloc::Global;
 use std::marker::Model;
@@ -106,7 +106,7 @@ impl Matcher {
     }
 
     /// Posts a receive (MPI 4.0, 3.7.2). It gets the earliest kept letter that it admits; where there is none it waits.
-    /// Answers its number, and the letter. The room that `prepare` made is used up.
+    /// Answers its number, and the letter. The room that `prepare` made may be used up.
     ///
     /// It is the caller's fault to post a receive of a context that was cleared; `is_cleared` says which those are.
     pub fn post(&mut self, pattern: Pattern) -> (RequestId, Option<Letter>)
@@ -123,8 +123,8 @@ impl Matcher {
         match take_letter(&mut self.kept, &pattern) {
             Some(letter) => (RequestId { number }, Some(letter)),
             None => {
-                self.waiting.late.push_back_reserved((number, pattern));
-                self.ready = false;
+                let ready = add(&mut self.waiting, number, pattern);
+                self.ready = ready;
                 (RequestId { number }, None)
             }
         }
@@ -151,7 +151,7 @@ impl Matcher {
     }
 
     /// Takes a letter that came. The earliest waiting receive that admits it gets it; where there is none it is kept.
-    /// The room that `prepare` made is used up.
+    /// The room that `prepare` made may be used up.
     ///
     /// It is the caller's fault to hand on a letter of a context that was cleared; `is_cleared` says which those are.
     pub fn arrive(&mut self, letter: Letter) -> Arrived
@@ -168,8 +168,8 @@ impl Matcher {
         match take_receive(&mut self.waiting, &letter) {
             Some(request) => Arrived::Paired(RequestId { number: request }, letter),
             None => {
-                self.kept.late.push_back_reserved((number, letter));
-                self.ready = false;
+                let ready = add(&mut self.kept, number, letter);
+                self.ready = ready;
                 Arrived::Kept
             }
         }

@@ -1,5 +1,5 @@
 //! A place for one entry more: where many are late, the first of them is put into its buckets.
-ghost use Rattle.std.specs.Prelude.{◌≡◌, ◌≤◌, ℕ, OnOk};
+ghost use Rattle.std.specs.Prelude.{◌≡◌, ◌≤◌, ◌∷◌, ◌++◌, ℕ, [], IsTrue, OnOk};
 ghost use Rattle.std.specs.VecDeque.{deque_len, deque_capacity};
 ghost use Rattle.ulfm_match.specs.inside.Key.{IsKeyOf, IsKeyOfReceive};
 ghost use Rattle.ulfm_match.specs.inside.Pools.{all_of, IsPool, HasPlace};
@@ -61,6 +61,19 @@ fn settle_letter(pool: &mut Pool<Letter>, alloc: Global) -> Result<(), OutOfMemo
             Err(error)
         }
     }
+}
+
+/// Adds an entry, which comes last. Answers whether one more may come before more room is made.
+pub(crate) fn add<X>(pool: &mut Pool<X>, number: u64, entry: X) -> bool
+    requires { HasPlace pool.old }
+    ensures early { pool.new.early ≡ pool.old.early }
+    ensures buckets { pool.new.buckets ≡ pool.old.buckets }
+    ensures late { pool.new.late.items ≡ pool.old.late.items ++ (number, entry) ∷ [] }
+    ensures all { all_of pool.new ≡ all_of pool.old ++ (number, entry) ∷ [] }
+    ensures place { IsTrue result → HasPlace pool.new }
+{
+    pool.late.push_back_reserved((number, entry));
+    pool.late.len() < pool.late.capacity().min(FEW)
 }
 
 /// Makes room for one receive more.

@@ -44,3 +44,4 @@ pub mod Signed
 pub mod Formed
 pub mod Stays
 pub mod Quiet
+pub mod Crossing

@@ -10,20 +10,12 @@ use denote.Param.Send.{IsSend, IsSync, shr_send, sendable}
 use Rattle.std.proofs.Crossing.{crosses}
 use Rattle.ulfm_job.specs.contracts.job.Job as job
 use Rattle.ulfm_job.proofs.job.Job.TheSendSync as shared_job
-use Rattle.ulfm_match.proofs.matcher.Matcher.TheSendSync as matcher
-use Rattle.ulfm_rank.specs.contracts.entry.Entry as entry
-use Rattle.ulfm_rank.specs.contracts.rank.Rank as rank
+use Rattle.ulfm_rank.proofs.Crossing.{rank_send}
 use Rattle.ulfm_script.specs.contracts.player.Player as player
 use Rattle.ulfm_script.specs.contracts.report.RankReport as report
 use Rattle.ulfm_script.proofs.answer.StepReport.TheSendSync as answered
 use Rattle.ulfm_run.specs.contracts.worker.Ran as ran
 use Rattle.ulfm_run.specs.contracts.worker.Worker as worker
-
-entry_send : IsSend entry.the_row
-entry_send = search (sendable, crosses) depth 40 fits 20000
-
-rank_send : IsSend rank.the_row
-rank_send = search (entry_send, matcher.the_send, sendable, crosses) depth 100 fits 20000
 
 player_send : IsSend player.the_row
 player_send = search (rank_send, answered.the_send, sendable, crosses) depth 40 fits 20000

@@ -16,7 +16,7 @@ returns-in-Ok-clause-all c =
     let i : IsPool IsKeyOfReceive c.requires.0 roomy = roomy_pool c.requires.1 roomy c.reserve.ensures.entries c.reserve.ensures.unique refl refl in
     let room = on_ok c.insert.result (c.insert.ensures.succeeds (omega (arith, c.in_ok-reserve.ensures.ok))) in
     settled_all i c.in-Some.number c.in-Some.pattern c.pop_front.new.self.items c.in-Some.ensures.items c.insert.new.self c.insert.ensures.unique (room c.insert.ensures.updates).0
-        ∙ ap (λ es. in_order es ++ c.args.pool.now.late.items) c.reserve.ensures.entries
+    ∙ ap (λ es. in_order es ++ c.args.pool.now.late.items) c.reserve.ensures.entries
 
 pub returns-in-Ok-clause-pool : goal.returns-in-Ok-clause-pool
 returns-in-Ok-clause-pool c count i =

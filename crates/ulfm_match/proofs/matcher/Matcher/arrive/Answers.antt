@@ -1,5 +1,5 @@
-use Rattle.std.proofs.Common.{◌++◌, ap, subst, refl, sym, ◌∙◌, append_assoc}
-use Rattle.ulfm_match.proofs.Common.{Matching, Tracks, all_of, in_order}
+use Rattle.std.proofs.Common.{ap, subst, refl, sym, ◌∙◌}
+use Rattle.ulfm_match.proofs.Common.{Matching, Tracks, all_of}
 use Rattle.ulfm_match.proofs.ArriveKeeps.{arrive_keeps}
 use Rattle.ulfm_match.proofs.ArriveTakes.{arrive_takes}
 use Rattle.ulfm_match.proofs.Pooled.{higher_pool, pushed_pool}
@@ -15,8 +15,8 @@ invariant_of-self c = record {
 pub invariant_of-self-in-None : goal.invariant_of-self-in-None
 invariant_of-self-in-None c = record {
   of_waiting = higher_pool (c.take_receive.ensures.pool _ c.self.invariant.of_waiting);
-  of_kept = pushed_pool c.self.invariant.of_kept _ c.args.letter refl refl c.push_back_reserved.ensures.items;
-  room = λ r. cc;
+  of_kept = pushed_pool c.self.invariant.of_kept _ c.args.letter c.add-ready.ensures.early c.add-ready.ensures.buckets c.add-ready.ensures.late;
+  room = λ r. let m = c.self.invariant.room (ap (λ (s : Matching). s.prepared) c.self.view_is ∙ c.requires.prepared) in (c.take_receive.ensures.place m.0, c.add-ready.ensures.place r);
 }
 
 pub returns-in-Some-clause-tracks : goal.returns-in-Some-clause-tracks
@@ -27,9 +27,8 @@ returns-in-Some-clause-tracks c h r t =
 
 pub returns-in-None-clause-tracks : goal.returns-in-None-clause-tracks
 returns-in-None-clause-tracks c h r t =
-    let i = c.self.inside in
     arrive_keeps h r _ c.args.letter (subst (Tracks h r) (sym c.self.view_is) t) ((t.remains.cleared _).0 c.requires.open)
     c.in-None.ensures.taken
     _ refl
     (ap all_of c.in-None.ensures.idle)
-    (ap (λ ys. in_order i.kept.early.entries ++ ys) c.push_back_reserved.ensures.items ∙ sym (append_assoc (in_order i.kept.early.entries) i.kept.late.items _)) refl
+    c.add-ready.ensures.all refl

@@ -1,5 +1,5 @@
-use Rattle.std.proofs.Common.{◌++◌, ap, subst, refl, sym, ◌∙◌, append_assoc}
-use Rattle.ulfm_match.proofs.Common.{Matching, Tracks, all_of, in_order}
+use Rattle.std.proofs.Common.{ap, subst, refl, sym, ◌∙◌}
+use Rattle.ulfm_match.proofs.Common.{Matching, Tracks, all_of}
 use Rattle.ulfm_match.proofs.PostWaits.{post_waits}
 use Rattle.ulfm_match.proofs.PostTakes.{post_takes}
 use Rattle.ulfm_match.proofs.Pooled.{higher_pool, pushed_pool}
@@ -14,9 +14,9 @@ invariant_of-self c = record {
 
 pub invariant_of-self-in-None : goal.invariant_of-self-in-None
 invariant_of-self-in-None c = record {
-  of_waiting = pushed_pool c.self.invariant.of_waiting _ c.args.pattern refl refl c.push_back_reserved.ensures.items;
+  of_waiting = pushed_pool c.self.invariant.of_waiting _ c.args.pattern c.add-ready.ensures.early c.add-ready.ensures.buckets c.add-ready.ensures.late;
   of_kept = higher_pool (c.take_letter.ensures.pool _ c.self.invariant.of_kept);
-  room = λ r. cc;
+  room = λ r. let m = c.self.invariant.room (ap (λ (s : Matching). s.prepared) c.self.view_is ∙ c.requires.prepared) in (c.add-ready.ensures.place r, c.take_letter.ensures.place m.1);
 }
 
 pub returns-in-Some-clause-tracks : goal.returns-in-Some-clause-tracks
@@ -27,9 +27,8 @@ returns-in-Some-clause-tracks c h r t =
 
 pub returns-in-None-clause-tracks : goal.returns-in-None-clause-tracks
 returns-in-None-clause-tracks c h r t =
-    let i = c.self.inside in
     post_waits h r _ c.args.pattern (subst (Tracks h r) (sym c.self.view_is) t) ((t.remains.cleared _).0 c.requires.open)
     c.in-None.ensures.taken
     _ refl
-    (ap (λ ys. in_order i.waiting.early.entries ++ ys) c.push_back_reserved.ensures.items ∙ sym (append_assoc (in_order i.waiting.early.entries) i.waiting.late.items _))
+    c.add-ready.ensures.all
     (ap all_of c.in-None.ensures.idle) refl
