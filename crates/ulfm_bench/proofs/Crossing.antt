@@ -2,23 +2,15 @@
 use denote.RattleType.{RattleType}
 use denote.Param.Send.{IsSend, sendable}
 use Rattle.std.proofs.Crossing.{crosses}
-use Rattle.ulfm_match.proofs.matcher.Matcher.TheSendSync as matcher
-use Rattle.ulfm_rank.specs.contracts.entry.Entry as entry
-use Rattle.ulfm_rank.specs.contracts.rank.Rank as rank
+use Rattle.ulfm_rank.proofs.Crossing.{rank_send}
 use Rattle.ulfm_bench.specs.contracts.seat.Seat as seat
 use Rattle.ulfm_bench.specs.contracts.way.Lane as lane
 use Rattle.ulfm_bench.specs.contracts.way.Shared as shared
 use Rattle.ulfm_bench.proofs.way.Lane.TheSendSync as crossing_lane
 use Rattle.ulfm_bench.proofs.way.Shared.TheSendSync as crossing_shared
 
-noted_send : IsSend entry.the_row
-noted_send = search (sendable, crosses) depth 40 fits 20000
-
-ranks_send : IsSend rank.the_row
-ranks_send = search (noted_send, matcher.the_send, sendable, crosses) depth 100 fits 20000
-
 seat_send : (W : RattleType) → IsSend W → IsSend (seat.the_row W)
-seat_send W w = search (ranks_send, sendable, crosses) depth 40 fits 20000
+seat_send W w = search (rank_send, sendable, crosses) depth 40 fits 20000
 
 pub lanes_send : IsSend (seat.the_row lane.the_row)
 lanes_send = seat_send lane.the_row crossing_lane.the_send
