@@ -3,6 +3,7 @@
 mod adopting;
 mod agreeing;
 mod recovery;
+mod rings;
 
 use std::test::Fail;
 use ulfm_base::{CallError, Context, Tag};

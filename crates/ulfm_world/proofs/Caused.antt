@@ -1,10 +1,12 @@
 -- In every schedule each revocation was made by some rank's own call.
-use Rattle.std.proofs.Common.{◌≡◌, ℕ, ◌<◌, Bool, true, false, cond, List, [], ◌∷◌, ◌++◌, length, set, refl, ap, sym, subst, ◌∙◌, arith, inl, inr, ◌⊎◌, length-set, None, All}
+use Rattle.std.proofs.Common.{◌≡◌, ℕ, ◌<◌, Bool, true, false, cond, List, [], ◌∷◌, ◌++◌, length, set, refl, ap, sym, subst, ◌∙◌, arith, inl, inr, ◌⊎◌, length-set, None}
 use Rattle.std.proofs.lemmas.List.Folds.{list_any-append}
-use Rattle.ulfm_world.proofs.Common.{WorldRank, Item, items_from, Entry, Took, State, logged, Player, with_rank, Event, Call, Push, Take, Decide, Leave, World, player_in, player_at, rank_at, inbox_at, start_world, Happens, Takes, report_of, reports_in, IsPosted, IsWorld, false≢true, eq-eqb, or_cases, or_left, or_right, All-head, Adds, answers_add, opens_add, took, is_revoked, revokes, item_revokes, is_stopped, list_any, any-push, IsCalled, awaits_decision, Revoked, Own, Step, decision_adds, is_call_to_revoke, RevokedByCall, RevokedByARank, Flow}
+use Rattle.ulfm_world.proofs.Common.{WorldRank, Item, items_from, Entry, Took, State, logged, Player, with_rank, Event, Call, Push, Take, Decide, Leave, World, player_in, player_at, rank_at, inbox_at, start_world, Happens, Takes, report_of, reports_in, IsWorld, false≢true, eq-eqb, or_cases, or_left, or_right, Adds, answers_add, opens_add, took, is_revoked, revokes, item_revokes, is_stopped, list_any, any-push, IsCalled, awaits_decision, Revoked, Own, Step, decision_adds, is_call_to_revoke, RevokedByCall, RevokedByARank, Flow, Room, TakeFrom}
 use Rattle.ulfm_laws.proofs.Notices.{revoked_arrived}
 use Rattle.ulfm_world.specs.Each.{InEachWorld}
 use Rattle.ulfm_world.proofs.Changed.{player-same, each_player}
+use Rattle.ulfm_world.proofs.KeepsCalls.{posted-taken}
+use Rattle.ulfm_world.proofs.Senders.{from-passed}
 use Rattle.ulfm_world.proofs.Read.{report_there, each_report, flowing-world}
 use Rattle.ulfm_world.proofs.Runs.{each_run}
 use Rattle.ulfm_world.proofs.Starts.{player-start, length-start, world-start}
@@ -85,19 +87,25 @@ grows-called players {old} asked running (inr o) =
     subst (λ (p : Player). Grows players old.rank.log p.rank.log) (sym o.only) (grows-own players (opens_add (awaits_decision old.current) old.done old.rank asked o.rank o.stays))
 
 -- a notice that is taken is of a revocation that its sender's log tells of
-taken_caused : (w : World) (r : ℕ) {w' : World} → IsWorld w → HaveCauses w.players → (t : Takes w r w') → (c : ℕ) → item_revokes c t.item ≡ true → IsCaused w.players c
-taken_caused w r h all t c told =
+taken_caused : (w : World) (r : ℕ) (passed : List (WorldRank × Item)) {w' : World} → IsWorld w → HaveCauses w.players → (t : Takes w r passed w') → (c : ℕ) → item_revokes c t.item ≡ true → IsCaused w.players c
+taken_caused w r passed h all t c told =
     let s = t.source.number in
-    let posted : IsPosted (length w.players) (t.source, t.item) = All-head (IsPosted (length w.players)) (t.source, t.item) t.rest (let X : List (WorldRank × Item) → Type 0 = λ (xs : List (WorldRank × Item)). All (IsPosted (length w.players)) xs in subst X t.front (h.posted r t.inside)) in
+    let posted = posted-taken w r passed h t in
     let mine = took (rank_at w r).log s in
     let flow : Flow (rank_at w s) s r (mine ++ items_from s (inbox_at w r)) =
     (flowing-world h).flow s r (report_of (player_at w s)) (report_of (player_at w r)) (report_there w s posted.0) (report_there w r t.inside) in
     let waits : list_any (item_revokes c) (items_from s (inbox_at w r)) ≡ true =
-    ap (λ (xs : List (WorldRank × Item)). list_any (item_revokes c) (items_from s xs)) t.front
-    ∙ ap (λ (b : Bool). list_any (item_revokes c) (cond b (t.item ∷ []) [] ++ items_from s t.rest)) (eq-eqb s s refl)
-    ∙ or_left (item_revokes c t.item) (list_any (item_revokes c) (items_from s t.rest)) told in
+    ap (λ (xs : List (WorldRank × Item)). list_any (item_revokes c) (items_from s xs)) t.found
+    ∙ ap (λ (xs : List Item). list_any (item_revokes c) xs) (sym (from-passed s passed (t.source, t.item) t.rest t.of_others))
+    ∙ ap (λ (b : Bool). list_any (item_revokes c) (cond b (t.item ∷ []) [] ++ items_from s (passed ++ t.rest))) (eq-eqb s s refl)
+    ∙ or_left (item_revokes c t.item) (list_any (item_revokes c) (items_from s (passed ++ t.rest))) told in
     all s posted.0 c (revoked_arrived s r c flow
     (list_any-append (item_revokes c) mine (items_from s (inbox_at w r)) ∙ or_right (list_any (item_revokes c) mine) (list_any (item_revokes c) (items_from s (inbox_at w r))) waits))
+
+caused-takes : (w : World) (r : ℕ) (passed : List (WorldRank × Item)) {w' : World} → IsWorld w → HaveCauses w.players → Takes w r passed w' → HaveCauses w'.players
+caused-takes w r passed h all k =
+    subst (λ (ps : List Player). HaveCauses ps) (sym (ap (λ (x : World). x.players) k.only))
+    (caused-set w.players r (with_rank (player_at w r) (logged (rank_at w r) (Took k.source k.item))) k.inside (inr (Took k.source k.item, refl, λ c told. inr (taken_caused w r passed h all k c told))) all)
 
 caused-happens : (w : World) (event : Event) (w' : World) → IsWorld w → HaveCauses w.players → Happens w event w' → HaveCauses w'.players
 caused-happens w (Call r asked) w' h all k =
@@ -105,9 +113,8 @@ caused-happens w (Call r asked) w' h all k =
     subst H (sym (ap (λ (x : World). x.players) k.2 ∙ k.1.only)) (caused-set w.players r k.1.after k.1.inside (grows-called w.players asked k.1.running k.1.called) all)
 caused-happens w (Push s d) w' h all k =
     subst (λ (ps : List Player). HaveCauses ps) (sym (ap (λ (x : World). x.players) k.only)) (caused-set w.players s (with_rank (player_at w s) k.after) k.inside_s (inl (ap (λ (x : State). x.log) k.leaves.marked)) all)
-caused-happens w (Take r) w' h all k =
-    subst (λ (ps : List Player). HaveCauses ps) (sym (ap (λ (x : World). x.players) k.only))
-    (caused-set w.players r (with_rank (player_at w r) (logged (rank_at w r) (Took k.source k.item))) k.inside (inr (Took k.source k.item, refl, λ c told. inr (taken_caused w r h all k c told))) all)
+caused-happens w (Take r) w' h all k = caused-takes w r [] h all k
+caused-happens w (TakeFrom r s) w' h all k = caused-takes w r k.passed h all k.takes
 caused-happens w (Decide r comm) w' h all k =
     let H : List Player → Type 0 = λ (ps : List Player). HaveCauses ps in
     let d = k.2.decided in
@@ -117,13 +124,13 @@ caused-happens w (Decide r comm) w' h all k =
 caused-happens w (Leave r) w' h all k =
     subst (λ (ps : List Player). HaveCauses ps) (sym (ap (λ (x : World). x.players) k.2 ∙ k.1.only)) (caused-set w.players r k.1.after k.1.inside (inl (ap (λ (p : Player). p.rank.log) k.1.left.only)) all)
 
-caused-start : (n capacity : ℕ) → HaveCauses (start_world n capacity).players
-caused-start n capacity d i c revoked = absurd (false≢true (subst (λ (p : Player). is_revoked p.rank.log c ≡ true) (player-start n n d (omega (arith, i, length-start n n))) revoked))
+caused-start : (n : ℕ) (room : Room) → HaveCauses (start_world n room).players
+caused-start n room d i c revoked = absurd (false≢true (subst (λ (p : Player). is_revoked p.rank.log c ≡ true) (player-start n n d (omega (arith, i, length-start n n))) revoked))
 
 -- in each world that a schedule leads to
 pub revoked_by_a_rank : InEachWorld RevokedByARank
-revoked_by_a_rank n capacity w small h d c told here revoked =
-    let all : HaveCauses w.players = each_run (λ x. HaveCauses x.players) (λ u event u' kept caused happens. caused-happens u event u' kept caused happens) h.0 w (world-start n capacity small) (caused-start n capacity) h.1 in
+revoked_by_a_rank n room w small h d c told here revoked =
+    let all : HaveCauses w.players = each_run (λ x. HaveCauses x.players) (λ u event u' kept caused happens. caused-happens u event u' kept caused happens) h.0 w (world-start n room small) (caused-start n room) h.1 in
     each_report (λ x report. is_revoked report.rank.log c ≡ true → RevokedByCall (reports_in w) c) w (λ x i now.
     let k = all x i c now in
     record { rank = k.0; told = report_of (player_at w k.0); reported = report_there w k.0 k.1; called = k.2 }) d told here revoked

@@ -26,9 +26,12 @@ pub use Rattle.ulfm_job.specs.declared.step.Step.TheVariants.{Shrink, Agree}
 pub use Rattle.ulfm_world.specs.Parts.{players_of, the_player, parts}
 pub use Rattle.ulfm_world.specs.Flow.{IsWorld, IsPosted, arrived}
 pub use Rattle.ulfm_world.specs.Rest.{IsAtRest}
-pub use Rattle.ulfm_world.specs.World.{World, rank_at, player_at, player_in, inbox_at, reports_in, start_world, report_of, with_player, IsReached, Pushes, Reaches, Takes, with_inbox, Happens, IsRunning, no_player, Applied, Calls, DecidesStep, GivesUp, HasStopped, IsRefused, Run, outcome_of, start_players, with_decided, with_players}
+pub use Rattle.ulfm_world.specs.World.{World, TakesFrom, rank_at, player_at, player_in, inbox_at, reports_in, start_world, report_of, with_player, IsReached, Pushes, Reaches, Takes, with_inbox, Happens, IsRunning, no_player, Applied, Calls, DecidesStep, GivesUp, HasStopped, IsRefused, Run, outcome_of, start_players, with_decided, with_players}
 pub use Rattle.ulfm_world.specs.declared.event.Event.{Event}
-pub use Rattle.ulfm_world.specs.declared.event.Event.TheVariants.{Call, Leave, Decide, Push, Take}
+pub use Rattle.ulfm_world.specs.declared.event.Event.TheVariants.{Call, Leave, Decide, Push, Take, TakeFrom}
+pub use Rattle.ulfm_world.specs.declared.room.Room.{Room}
+pub use Rattle.ulfm_world.specs.declared.room.Room.TheVariants.{PerInbox, PerPair}
+pub use Rattle.ulfm_world.specs.Room.{HasRoom, IsFull, places, taken_places}
 pub use Rattle.std.proofs.lemmas.Bool.{and_parts, cases_Bool, cases_eq, cases_lt, cond-true, eq-eqb, false_from_ne_true, false≢true, le-ltb, lt-leb, ne_eqb, or_cases, or_from, or_left, or_right}
 pub use Rattle.std.proofs.lemmas.List.{drop-append-le, drop_all, get_or-map, get_or-replicate, get_or_append_left, get_or_at, get_or_default, get_or_past, get_or_push, length-map, length-replicate, map-id, map-set, map_push, nil_from_length, set-get_or, take_more}
 pub use Rattle.std.proofs.lemmas.List.Elements.{All-head, All-nil, All-push, All-rest, All-weaker}

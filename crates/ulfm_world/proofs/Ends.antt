@@ -1,40 +1,45 @@
 -- A replay from its start to rest.
 use Rattle.std.proofs.Common.{◌≡◌, ℕ, ◌<◌, ◌≤◌, Bool, false, List, [], ◌++◌, length, map, refl, ap, sym, subst, ◌∙◌, arith, inl, inr, append-nil, length-append, Option, Some, None, MatchOption, slice_get}
-use Rattle.ulfm_world.proofs.Common.{WorldRank, Item, is_stopped, Step, Player, Report, World, player_at, rank_at, inbox_at, start_world, report_of, IsAtRest, cases_Bool, slice_get_within, length-map, nil_from_length, Seen, script_at, through_stop, Follows, Moves, IsStuck, IsUnderway, AllHaveFinished, IsReplayed, FollowsSoFar, through-none, follows-start}
+use Rattle.ulfm_world.proofs.Common.{WorldRank, Item, is_stopped, Step, Player, Report, World, player_at, rank_at, inbox_at, start_world, report_of, IsAtRest, cases_Bool, slice_get_within, length-map, nil_from_length, Seen, script_at, through_stop, Follows, Moves, IsStuck, IsUnderway, AllHaveFinished, IsReplayed, FollowsSoFar, through-none, follows-start, PerInbox, PerPair, Room, places, taken_places}
 use Rattle.ulfm_script.specs.Script.{steps_done, reported_step}
 use Rattle.ulfm_world.proofs.Starts.{player-start, length-start}
 use Rattle.ulfm_world.proofs.Runs.{reaches-then}
 use Rattle.ulfm_world.proofs.Rightly.{rightly-start}
 
-pub came-start : (j : Seen) (w : World) → w ≡ start_world j.ranks j.capacity → IsUnderway j w
+pub came-start : (j : Seen) (w : World) → w ≡ start_world j.ranks (PerInbox j.capacity) → IsUnderway j w
 came-start j w is =
     let n = j.ranks in
     subst (λ (x : World). IsUnderway j x) (sym is) (record {
       reaches = ([], refl);
       size = length-start n n;
-      capacity = refl;
+      room = refl;
       follows = λ r k.
           subst (λ (p : Player). FollowsSoFar (script_at j r) j.turns p) (sym (player-start n n r (omega (arith, k, length-start n n)))) (follows-start (script_at j r) j.turns r n);
-      answers = rightly-start n j.capacity;
+      answers = rightly-start n (PerInbox j.capacity);
     })
 
 pub came-moves : (j : Seen) (v w : World) (a : Bool) → IsUnderway j v → Moves j v w a → IsUnderway j w
 came-moves j v w a h k = record {
   reaches = reaches-then _ v w h.reaches k.reaches;
   size = k.size ∙ h.size;
-  capacity = k.capacity ∙ h.capacity;
+  room = k.room ∙ h.room;
   follows = k.follows h.follows;
   answers = k.answers h.follows h.answers;
 }
 
-stuck-rest : (j : Seen) (w : World) → 0 < w.capacity → ((r : ℕ) → r < length w.players → IsStuck j w r) → IsAtRest w
+-- an empty inbox has all its places
+taken-none : (room : Room) (s : ℕ) → taken_places room s [] ≡ 0
+taken-none (PerInbox n) s = refl
+taken-none (PerPair n) s = refl
+
+stuck-rest : (j : Seen) (w : World) → 0 < places w.room → ((r : ℕ) → r < length w.players → IsStuck j w r) → IsAtRest w
 stuck-rest j w roomy h = record {
   served = λ d k running. record {
     inbox = (h d k).takes running;
     outboxes = λ s i. elim ((h s i).pushes d k) [
       | inl empty ↦ empty
       | inr full ↦
-          let none : length (inbox_at w d) ≡ 0 = ap (λ (xs : List (WorldRank × Item)). length xs) ((h d k).takes running) in
+          let none : taken_places w.room s (inbox_at w d) ≡ 0 = ap (λ (xs : List (WorldRank × Item)). taken_places w.room s xs) ((h d k).takes running) ∙ taken-none w.room s in
           absurd (omega (arith, full, none, roomy))
     ];
   };
@@ -70,7 +75,7 @@ pub replayed : {j : Seen} {w : World} {reports : List Report} → 0 < j.capacity
 replayed {j} {w} roomy came stuck is = record {
   world = w;
   reaches = came.reaches;
-  rests = stuck-rest j w (omega (arith, came.capacity, roomy)) stuck;
+  rests = stuck-rest j w (rw came.room roomy) stuck;
   answered = stuck-answered j w came.follows stuck;
   reported = is;
 }

@@ -6,7 +6,7 @@ use Rattle.ulfm_world.proofs.Read.{world-reached}
 use Rattle.ulfm_world.proofs.Runs.{reaches-either}
 
 pub world_of : {w : World} → IsReached w → IsWorld w
-world_of {w} h = world-reached h.ranks h.capacity w h.few h.schedule
+world_of {w} h = world-reached h.ranks h.room w h.few h.schedule
 
 pub kept-reached : (w : World) → IsReached w → IsKeptWorld w
 kept-reached w h = record { world = world_of h; reached = h }

@@ -1,6 +1,6 @@
 -- The reports of a replay are lawful.
 use Rattle.std.proofs.Common.{◌≡◌, ℕ, ◌<◌, true, List, [], length, refl, ap, sym, subst, ◌∙◌, arith, Option, Some, None, is_some}
-use Rattle.ulfm_world.proofs.Common.{Topic, Decision, is_member, at, Entry, Adopted, Report, World, player_at, rank_at, report_of, reports_in, IsWorld, same_Some, slice_get_within, get_or_from_slice_get, Known, IsTrueOf, AdoptsTruly, Seen, IsJob, known_for, IsStuck, IsUnderway, AllHaveFinished, AreProduced, IsLawful}
+use Rattle.ulfm_world.proofs.Common.{Topic, Decision, is_member, at, Entry, Adopted, Report, World, player_at, rank_at, report_of, reports_in, IsWorld, same_Some, slice_get_within, get_or_from_slice_get, Known, IsTrueOf, AdoptsTruly, Seen, IsJob, known_for, IsStuck, IsUnderway, AllHaveFinished, AreProduced, IsLawful, PerInbox}
 use Rattle.ulfm_board.specs.Known.{BothAgree, known_at}
 use Rattle.ulfm_match.proofs.Exists.{some_pairing}
 use Rattle.ulfm_rank.specs.History.{history_of}
@@ -27,16 +27,16 @@ both_agree (Some d) (Some e) c f g = same_Some e d (sym (g e refl) ∙ f d refl)
 
 module _ (j : Seen) (w : World) (job : IsJob j) (came : IsUnderway j w) (stuck : (r : ℕ) → r < length w.players → IsStuck j w r) where
   world : IsWorld w
-  world = world-reached j.ranks j.capacity w job.few_ranks came.reaches
+  world = world-reached j.ranks (PerInbox j.capacity) w job.few_ranks came.reaches
 
   settled : Settled j.ranks w
-  settled = settled-reached j.ranks j.capacity w job.few_ranks came.reaches
+  settled = settled-reached j.ranks (PerInbox j.capacity) w job.few_ranks came.reaches
 
   answered : AllHaveFinished j w
   answered = stuck-answered j w came.follows stuck
 
   on_log : (r : ℕ) → r < length w.players → TrueOfLog (rank_at w r) (player_at w r).done
-  on_log r i = true-reached j.ranks j.capacity w job.few_ranks came.reaches r i
+  on_log r i = true-reached j.ranks (PerInbox j.capacity) w job.few_ranks came.reaches r i
 
   played : (r : ℕ) → r < length w.players → FollowsScript j r (report_of (player_at w r))
   played r i = record {
@@ -91,7 +91,7 @@ module _ (j : Seen) (w : World) (job : IsJob j) (came : IsUnderway j w) (stuck :
     answers = has_answers;
     agreed = λ r s one other here there c. both_agree (known_at one c) (known_at other c) (known_at w.decided c) (λ d e. known_held r c d here e) (λ d e. known_held s c d there e);
     decisions = each_report (λ s told. (k : ℕ) (entry : Entry) → at told.rank.log k entry → AdoptsTruly (reports_in w) entry) w adopts_truly;
-    revoked = revoked_by_a_rank j.ranks j.capacity w job.few_ranks came.reaches;
+    revoked = revoked_by_a_rank j.ranks (PerInbox j.capacity) w job.few_ranks came.reaches;
   }
 
   pub lawful-replay : {reports : List Report} → reports ≡ reports_in w → IsLawful j reports

@@ -1,5 +1,6 @@
 pub mod Common
 pub mod Changed
+pub mod Senders
 pub mod KeepsCalls
 pub mod KeepsPush
 pub mod Starts
@@ -34,3 +35,4 @@ pub mod Made
 pub mod Lawful
 pub mod Swept
 pub mod Often
+pub mod Rings

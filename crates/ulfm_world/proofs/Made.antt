@@ -1,6 +1,6 @@
 -- In every run each decision is made once, and each rank that it excludes had stopped then.
 use Rattle.std.proofs.Common.{◌≡◌, ℕ, ◌≤◌, List, [], ◌∷◌, refl, ap, sym, ◌∙◌, inl, inr, Option, Some, None}
-use Rattle.ulfm_world.proofs.Common.{Context, Topic, Decision, known_at, Event, Call, Push, Take, Decide, Leave, World, start_world, Happens, IsWorld, none-some, same_Some, Applied, Run, get_or-blank}
+use Rattle.ulfm_world.proofs.Common.{Context, Topic, Decision, known_at, Event, Call, Push, Take, Decide, Leave, World, start_world, Happens, IsWorld, none-some, same_Some, Applied, Run, get_or-blank, Room, TakeFrom}
 use Rattle.ulfm_board.specs.Known.{cell_of}
 use Rattle.ulfm_world.specs.Safe.{decided_at}
 use Rattle.ulfm_world.specs.Made.{WasMadeSafely, MadeSafely}
@@ -21,6 +21,7 @@ held-happens : (w : World) (event : Event) (w' : World) → Happens w event w' �
 held-happens w (Call r asked) w' k = same_held w w' (ap (λ (x : World). x.decided) k.2)
 held-happens w (Push s d) w' k = same_held w w' (ap (λ (x : World). x.decided) k.only)
 held-happens w (Take r) w' k = same_held w w' (ap (λ (x : World). x.decided) k.only)
+held-happens w (TakeFrom r s) w' k = same_held w w' (ap (λ (x : World). x.decided) k.takes.only)
 held-happens w (Decide r comm) w' k = λ c d known. ap (λ (x : World). known_at x.decided c) k.3 ∙ elim (k.2.decided.decision.outcome) [
   | inl a ↦ still_known w.decided k.1 k.2.decided.decision.proposal a.held a.board_answers c d known
   | inr b ↦ ap (λ (ks : List (Option Decision)). known_at ks c) b.known_stay ∙ known
@@ -49,6 +50,7 @@ decides-happens : (w : World) (event : Event) (w' : World) (c : Topic) (d : Deci
 decides-happens w (Call r asked) w' c d k none known = absurd (undecided_still w w' c (ap (λ (x : World). x.decided) k.2) none known)
 decides-happens w (Push s r) w' c d k none known = absurd (undecided_still w w' c (ap (λ (x : World). x.decided) k.only) none known)
 decides-happens w (Take r) w' c d k none known = absurd (undecided_still w w' c (ap (λ (x : World). x.decided) k.only) none known)
+decides-happens w (TakeFrom r s) w' c d k none known = absurd (undecided_still w w' c (ap (λ (x : World). x.decided) k.takes.only) none known)
 decides-happens w (Decide r comm) w' c d k none known =
     record {
       rank = r;
@@ -114,5 +116,5 @@ module _ (n : ℕ) (c : Topic) (d : Decision) where
       step event events v k.0 w h settled k.1 k.2 none held (λ still. made-run events w (keeps-applied event h k.1) (each_applied (Settled n) (λ u x u' i held happens. settled-happens n u i held x u' happens) v event h settled k.1) k.2 still held)
 
 -- in each run from the start
-pub made-safely : (n capacity : ℕ) (events : List Event) (w : World) → n ≤ 8 → Run (start_world n capacity) events w → MadeSafely (start_world n capacity) events w
-made-safely n capacity events w small k c d held = made-run n c d events w (world-start n capacity small) (settled-start n capacity) k (get_or-blank 63 (cell_of c) None) held
+pub made-safely : (n : ℕ) (room : Room) (events : List Event) (w : World) → n ≤ 8 → Run (start_world n room) events w → MadeSafely (start_world n room) events w
+made-safely n room events w small k c d held = made-run n c d events w (world-start n room small) (settled-start n room) k (get_or-blank 63 (cell_of c) None) held

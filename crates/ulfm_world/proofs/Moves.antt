@@ -5,7 +5,7 @@ use Rattle.ulfm_world.specs.inside.Turns.{Onward}
 use Rattle.ulfm_world.proofs.Runs.{reaches-then}
 
 pub moves-none : (j : Seen) (w : World) → Moves j w w false
-moves-none j w = record { reaches = ([], refl); size = refl; capacity = refl; follows = λ f. f; answers = λ f h. h; falls = λ e. absurd (false≢true e); stays = λ e. refl }
+moves-none j w = record { reaches = ([], refl); size = refl; room = refl; follows = λ f. f; answers = λ f h. h; falls = λ e. absurd (false≢true e); stays = λ e. refl }
 
 never_more : (j : Seen) (a : Bool) (u : World) {v : World} → Moves j u v a → Follows j u → measure j v ≤ measure j u
 never_more j true u h f = omega (arith, h.falls refl f)
@@ -16,7 +16,7 @@ pub moves-on : (j : Seen) (a : Bool) (u v w : World) → Moves j u v a → Moves
 moves-on j a u v w h k = record {
   reaches = reaches-then u v w h.reaches k.reaches;
   size = k.size ∙ h.size;
-  capacity = k.capacity ∙ h.capacity;
+  room = k.room ∙ h.room;
   follows = λ f. k.follows (h.follows f);
   answers = λ f right. k.answers (h.follows f) (h.answers f right);
   falls = λ _ f. omega (arith, k.falls refl (h.follows f), never_more j a u h f);

@@ -20,7 +20,7 @@ moves-player j w r {p} decided i h running f a rightly reaches =
     record {
       reaches = reaches;
       size = l;
-      capacity = refl;
+      room = refl;
       follows = λ _ x k. follows_on x (omega (arith, k, l));
       answers = λ _ right. rightly right;
       falls = λ _ _. measure-player j w r p i (weight-advances p (h.sound r i) (sym (h.counted r i)) running a);

@@ -36,7 +36,7 @@ moves-push j w s d h t =
     rw t.only (record {
       reaches = reaches-one w (Push s d) made (rw t.only at t);
       size = same_size;
-      capacity = refl;
+      room = refl;
       follows = follows-set j w made s t.after t.inside_s refl stop;
       answers = λ _ right. rightly-pushes w s d made (rw t.only at t) right;
       falls = λ _ f. omega (arith, measure-at j n made same_size, measure-at j n w refl, parts, boxes, lighter, fresh, one);
@@ -46,7 +46,7 @@ moves-push j w s d h t =
 stopped_took : (r : State) (source : WorldRank) (item : Item) → is_stopped (logged r (Took source item)).log ≡ is_stopped r.log
 stopped_took r source item = stopped-push r.log (Took source item) ∙ or-false (is_stopped r.log)
 
-pub moves-take : (j : Seen) (w : World) (r : ℕ) (w' : World) → IsWorld w → Takes w r w' → Moves j w w' true
+pub moves-take : (j : Seen) (w : World) (r : ℕ) (w' : World) → IsWorld w → Takes w r [] w' → Moves j w w' true
 moves-take j w r w' h t =
     let n = length w.players in
     let after = logged (rank_at w r) (Took t.source t.item) in
@@ -56,13 +56,13 @@ moves-take j w r w' h t =
     let parts = players_part-set j n w r p refl t.inside in
     let boxes = inboxes_part-set n w made r t.rest (sym h.as_many) t.inside refl in
     let lighter = out-took n t.source t.item (h.sound r t.inside) (sym (h.counted r t.inside)) t.running in
-    let one : length (inbox_at w r) ≡ length t.rest + 1 = omega (arith, ap (λ (ys : List (WorldRank × Item)). length ys) t.front) in
+    let one : length (inbox_at w r) ≡ length t.rest + 1 = omega (arith, ap (λ (ys : List (WorldRank × Item)). length ys) t.found) in
     rw t.only (record {
       reaches = reaches-one w (Take r) made (rw t.only at t);
       size = same_size;
-      capacity = refl;
+      room = refl;
       follows = follows-set j w made r after t.inside refl (stopped_took (rank_at w r) t.source t.item);
-      answers = λ _ right. rightly-takes w r made (rw t.only at t) right;
+      answers = λ _ right. rightly-takes w r [] made (rw t.only at t) right;
       falls = λ _ f. omega (arith, measure-at j n made same_size, measure-at j n w refl, parts, boxes, lighter, one);
       stays = λ e. absurd (false≢true (sym e));
     })

@@ -1,6 +1,6 @@
 -- What each event leaves of a world's topics.
 use Rattle.std.proofs.Common.{◌≡◌, ℕ, ◌<◌, Bool, true, false, List, [], ◌∷◌, ◌++◌, length, set, refl, ap, sym, ◌∙◌, arith, inl, inr, Option, Some, None, All}
-use Rattle.ulfm_world.proofs.Common.{Context, Topic, topic_of, RoundsCounted, Decision, known_at, Entry, Took, has_adopted, State, logged, Step, Event, Call, Push, Take, Decide, Leave, IsWorld, false≢true, none-some, same_Some, AdoptsEntered, World, player_at, rank_at, inbox_at, with_players, with_player, with_inbox, with_decided, Calls, DecidesStep, GivesUp, Pushes, Takes, Happens, Run, Player, with_rank, answered, polled, IsFree, StaysOpen, awaits_decision, IsCalled}
+use Rattle.ulfm_world.proofs.Common.{Context, WorldRank, Item, Topic, topic_of, RoundsCounted, Decision, known_at, Entry, Took, has_adopted, State, logged, Step, Event, Call, Push, Take, Decide, Leave, IsWorld, false≢true, none-some, same_Some, AdoptsEntered, World, player_at, rank_at, inbox_at, with_players, with_player, with_inbox, with_decided, Calls, DecidesStep, GivesUp, Pushes, Takes, Happens, Run, Player, with_rank, answered, polled, IsFree, StaysOpen, awaits_decision, IsCalled, TakeFrom}
 use Rattle.ulfm_world.proofs.Agreed.{HasNotAdopted, IsAdopted, Settled}
 use Rattle.ulfm_world.proofs.Grown.{Grows, Moved, settled-moved}
 use Rattle.ulfm_script.proofs.Fitting.{AddsPlain, Adds, answers_add, opens_add}
@@ -53,12 +53,12 @@ module _ (n : ℕ) (w : World) (h : IsWorld w) (settled : Settled n w) where
       let same : c.after.rank.log ≡ (rank_at w r).log = ap (λ (p : Player). p.rank.log) c.left.only in
       rw c.only (settled-moved w (with_players w (set w.players r c.after)) settled i refl (λ c d k. k) settled.held (moved-plain n w.decided r (player_at w r) c.after (inl same) (settled.adopted r i) (closed_open c.after (ap (λ (p : Player). p.current) c.left.only))))
 
-  settled-takes : (r : ℕ) {w' : World} → Takes w r w' → Settled n w'
-  settled-takes r t =
+  settled-takes : (r : ℕ) (passed : List (WorldRank × Item)) {w' : World} → Takes w r passed w' → Settled n w'
+  settled-takes r passed t =
       let i = below r t.inside in
       let p = with_rank (player_at w r) (logged (rank_at w r) (Took t.source t.item)) in
       let adds = inr (Took t.source t.item, tt, tt, refl) in
-      rw t.only (settled-moved w (with_inbox (with_player w r p) r t.rest) settled i refl (λ c d k. k) settled.held (moved-plain n w.decided r (player_at w r) p adds (settled.adopted r i) (λ asked topic e about. adopted-plain n r topic adds (settled.unadopted r i asked topic e (sym (topic-took (rank_at w r).log (Took t.source t.item) asked tt) ∙ about)))))
+      rw t.only (settled-moved w (with_inbox (with_player w r p) r (passed ++ t.rest)) settled i refl (λ c d k. k) settled.held (moved-plain n w.decided r (player_at w r) p adds (settled.adopted r i) (λ asked topic e about. adopted-plain n r topic adds (settled.unadopted r i asked topic e (sym (topic-took (rank_at w r).log (Took t.source t.item) asked tt) ∙ about)))))
 
   settled-pushes : (s d : ℕ) {w' : World} → Pushes w s d w' → Settled n w'
   settled-pushes s d t =
@@ -93,7 +93,8 @@ module _ (n : ℕ) (w : World) (h : IsWorld w) (settled : Settled n w) where
   pub settled-happens : (event : Event) (w' : World) → Happens w event w' → Settled n w'
   settled-happens (Call r asked) w' k = rw k.2 (settled-calls r asked k.0 k.1)
   settled-happens (Push s d) w' k = settled-pushes s d k
-  settled-happens (Take r) w' k = settled-takes r k
+  settled-happens (Take r) w' k = settled-takes r [] k
+  settled-happens (TakeFrom r s) w' k = settled-takes r k.passed k.takes
   settled-happens (Decide r comm) w' k = rw k.3 (settled-settles r comm k.0 k.1 k.2)
   settled-happens (Leave r) w' k = rw k.2 (settled-gives_up r k.0 k.1)
 

@@ -12,7 +12,7 @@ use Rattle.ulfm_world.proofs.Lists.{players-set, seen_player}
 use Rattle.ulfm_world.proofs.Moves.{moves-on}
 use Rattle.ulfm_world.proofs.MovesCall.{moves-call}
 use Rattle.ulfm_world.proofs.Runs.{keeps-happens, reaches-one, reaches-then}
-use Rattle.ulfm_world.proofs.Common.{Answered, awaits_decision, Call, Decision, Follows, FollowsSoFar, Happens, IsCalled, is_stopped, IsJob, IsRunning, IsUndecided, IsWorld, Item, length-map, Moves, NotYet, opens_add, outcome_of, Player, player_at, player_in, polled, PollOpens, Reaches, script_at, Seen, Step, stopped-adds, View, with_player, with_players, World, WorldRank}
+use Rattle.ulfm_world.proofs.Common.{Answered, awaits_decision, Call, Decision, Follows, FollowsSoFar, Happens, IsCalled, is_stopped, IsJob, IsRunning, IsUndecided, IsWorld, Item, length-map, Moves, NotYet, opens_add, outcome_of, Player, player_at, player_in, polled, PollOpens, Reaches, script_at, Seen, Step, stopped-adds, View, with_player, with_players, World, WorldRank, Room}
 
 -- the player r after one poll in vain
 abbrev after : World → ℕ → Step → Player
@@ -46,11 +46,11 @@ often (suc n) w r asked inside running h =
     )
 
 -- the same of players with their places
-pub often_parts : (views : List View) (inboxes : List (List (WorldRank × Item))) (capacity : ℕ) (decided : List (Option Decision)) (r n : ℕ) {old : View} (new : View) (asked : Step) → r < length views → old ≡ get_or views r old → new.player ≡ polled_on old.player n → 0 < n
-    → IsRunning (parts views inboxes capacity decided) r → IsPolledInVain (player_at (parts views inboxes capacity decided) r) asked → CallsInVain n (parts views inboxes capacity decided) r asked (parts (set views r new) inboxes capacity decided)
-often_parts views inboxes capacity decided r zero new asked inside same is some running h = absurd (omega (arith, some))
-often_parts views inboxes capacity decided r (suc n) {old} new asked inside same is some running h =
-    let w = parts views inboxes capacity decided in
+pub often_parts : (views : List View) (inboxes : List (List (WorldRank × Item))) (room : Room) (decided : List (Option Decision)) (r n : ℕ) {old : View} (new : View) (asked : Step) → r < length views → old ≡ get_or views r old → new.player ≡ polled_on old.player n → 0 < n
+    → IsRunning (parts views inboxes room decided) r → IsPolledInVain (player_at (parts views inboxes room decided) r) asked → CallsInVain n (parts views inboxes room decided) r asked (parts (set views r new) inboxes room decided)
+often_parts views inboxes room decided r zero new asked inside same is some running h = absurd (omega (arith, some))
+often_parts views inboxes room decided r (suc n) {old} new asked inside same is some running h =
+    let w = parts views inboxes room decided in
     let read : player_in (players_of views) r ≡ old.player = seen_player views r inside same in
     let made : players_of (set views r new) ≡ set (players_of views) r (polled_on (player_in (players_of views) r) (suc n)) =
     players-set views r new ∙ ap (set (players_of views) r) (is ∙ ap (λ (p : Player). polled_on p (suc n)) (sym read)) in
@@ -65,7 +65,7 @@ often-reaches (suc n) w r asked w' h = reaches-then w h.0 w' (reaches-one w (Cal
 pub kept-often : (n : ℕ) (w : World) (r : ℕ) (asked : Step) (w' : World) → IsKeptWorld w → CallsInVain n w r asked w' → IsKeptWorld w'
 kept-often n w r asked w' h calls =
     let was = h.reached in
-    kept-reached w' (record { ranks = was.ranks; capacity = was.capacity; few = was.few; schedule = reaches-then _ w w' was.schedule (often-reaches n w r asked w' calls) })
+    kept-reached w' (record { ranks = was.ranks; room = was.room; few = was.few; schedule = reaches-then _ w w' was.schedule (often-reaches n w r asked w' calls) })
 
 -- one poll and those after it
 pub calls_first : (n : ℕ) (w mid w' : World) (r : ℕ) (asked : Step) → 1 < n → Happens w (Call r asked) mid → outcome_of mid (Call r asked) ≡ NotYet → CallsInVain (n - 1) mid r asked w' → CallsInVain n w r asked w'

@@ -1,6 +1,6 @@
 -- The reports of the ranks of a world, and the flow between them.
 use Rattle.std.proofs.Common.{◌≡◌, ℕ, ◌<◌, ◌≤◌, ◌++◌, length, sym, ap, ◌∙◌, subst, arith, Some}
-use Rattle.ulfm_world.proofs.Common.{items_from, at, outbox, Report, World, player_at, rank_at, inbox_at, no_player, report_of, reports_in, start_world, Reaches, IsWorld, IsAtRest, get_or_from_slice_get, slice_get-get_or, slice_get_within, took, get_or-map, length-map, AreFlowing, Flow, Flows}
+use Rattle.ulfm_world.proofs.Common.{items_from, at, outbox, Report, World, player_at, rank_at, inbox_at, no_player, report_of, reports_in, start_world, Reaches, IsWorld, IsAtRest, get_or_from_slice_get, slice_get-get_or, slice_get_within, took, get_or-map, length-map, AreFlowing, Flow, Flows, Room}
 use Rattle.ulfm_laws.specs.Reports.{report_at, no_report}
 use Rattle.ulfm_laws.specs.Rest.{IsAtRest as IsRest}
 use Rattle.ulfm_laws.proofs.Outgoing.{flow_of}
@@ -44,8 +44,8 @@ pub flows-world : (w : World) → IsWorld w → Flows w.inboxes (reports_in w)
 flows-world w h = (flowing-world h).flow
 
 -- every world that a schedule leads to is one
-pub world-reached : (n capacity : ℕ) (w : World) → n ≤ 8 → Reaches (start_world n capacity) w → IsWorld w
-world-reached n capacity w small h = keeps-reaches w (world-start n capacity small) h
+pub world-reached : (n : ℕ) (room : Room) (w : World) → n ≤ 8 → Reaches (start_world n room) w → IsWorld w
+world-reached n room w small h = keeps-reaches w (world-start n room small) h
 
 -- the reports of a world at rest are at rest
 pub rest-world : {w : World} → IsAtRest w → IsRest w.inboxes (reports_in w)

@@ -1,6 +1,6 @@
 -- Each player's answers stay right, whatever a replay does next.
 use Rattle.std.proofs.Common.{◌≡◌, ◌≢◌, ℕ, ◌<◌, List, [], length, set, refl, ap, sym, ◌∙◌, arith, inl, inr, length-set, get_or-set_same, get_or-set_other, Option, Some, None, slice_get, replicate}
-use Rattle.ulfm_world.proofs.Common.{Context, Topic, Decision, none-some, Took, is_stopped, State, logged, Step, Seen, script_at, Player, with_rank, Call, Decide, Leave, World, player_in, player_at, rank_at, start_world, Happens, Pushes, Takes, cases_eq, Known, IsDecided, get_or-replicate, length-replicate, known_for, AllAnswersFollowSoFar, Follows, stopped-push, AnswersFollowSoFar, IsUndecided, or-false}
+use Rattle.ulfm_world.proofs.Common.{Context, WorldRank, Item, Topic, Decision, none-some, Took, is_stopped, State, logged, Step, Seen, script_at, Player, with_rank, Call, Decide, Leave, World, player_in, player_at, rank_at, start_world, Happens, Pushes, Takes, cases_eq, Known, IsDecided, get_or-replicate, length-replicate, known_for, AllAnswersFollowSoFar, Follows, stopped-push, AnswersFollowSoFar, IsUndecided, or-false, Room}
 use Rattle.ulfm_board.specs.Known.{Answers as BoardAnswers, Agrees, cell_of, known_at, with_known, nothing_known}
 use Rattle.ulfm_board.proofs.Apart.{cells_apart}
 use Rattle.ulfm_board.proofs.Topics.{known_other, known_with}
@@ -36,8 +36,8 @@ rightly-pushes w s d w' t h =
     rightly-set w w' s p t.inside_s (ap (λ (x : World). x.players) t.only) (ap (λ (x : World). x.decided) t.only)
     (λ known q. honest-moved known (player_at w s) p q refl (ap (λ (r : State). r.me) t.leaves.marked) (ap (λ (r : State). r.ranks) t.leaves.marked) (ap is_stopped same) (takes-none (rank_at w s).log t.after.log same)) h
 
-pub rightly-takes : (w : World) (r : ℕ) (w' : World) → Takes w r w' → AllAnswersFollowSoFar w → AllAnswersFollowSoFar w'
-rightly-takes w r w' t h =
+pub rightly-takes : (w : World) (r : ℕ) (passed : List (WorldRank × Item)) (w' : World) → Takes w r passed w' → AllAnswersFollowSoFar w → AllAnswersFollowSoFar w'
+rightly-takes w r passed w' t h =
     let after = logged (rank_at w r) (Took t.source t.item) in
     let p = with_rank (player_at w r) after in
     rightly-set w w' r p t.inside (ap (λ (x : World). x.players) t.only) (ap (λ (x : World). x.decided) t.only)
@@ -163,8 +163,8 @@ rightly-decides w r comm w' t h =
     ]
 
 -- ranks that start
-pub rightly-start : (n capacity : ℕ) → AllAnswersFollowSoFar (start_world n capacity)
-rightly-start n capacity = record {
+pub rightly-start : (n : ℕ) (room : Room) → AllAnswersFollowSoFar (start_world n room)
+rightly-start n room = record {
   knows = replicate n (nothing_known 0);
   many = length-replicate n (nothing_known 0) ∙ sym (length-start n n);
   held = λ r c d i e. ap (λ (k : Known). known_at k c) (sym (none_known r (omega (arith, i, length-start n n)))) ∙ e;

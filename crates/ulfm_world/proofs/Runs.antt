@@ -1,6 +1,6 @@
 -- Every schedule keeps what every world keeps.
 use Rattle.std.proofs.Common.{◌≡◌, ℕ, ◌+◌, ◌<◌, List, [], ◌∷◌, ◌++◌, length, take, get_or, refl, inl, inr, Result, Ok, Err, OnOk, OnErr, IfErr, Option, None}
-use Rattle.ulfm_world.proofs.Common.{Context, Decision, Event, Call, Push, Take, Decide, Leave, IsWorld, Player, Step, quiet-called, quiet-left, World, with_players, with_decided, Calls, DecidesStep, GivesUp, Happens, IsRefused, Applied, Run, Reaches, IsReached, take_more, quiet-decided}
+use Rattle.ulfm_world.proofs.Common.{Context, Decision, Event, Call, Push, Take, Decide, Leave, IsWorld, Player, Step, quiet-called, quiet-left, World, with_players, with_decided, Calls, DecidesStep, GivesUp, Happens, IsRefused, Applied, Run, Reaches, IsReached, take_more, quiet-decided, TakeFrom}
 use Rattle.ulfm_world.specs.declared.event.Refused.{Refused}
 use Rattle.ulfm_world.proofs.KeepsCalls.{keeps-quiet, keeps-takes}
 use Rattle.ulfm_world.proofs.KeepsPush.{keeps-pushes}
@@ -31,7 +31,8 @@ keeps-settles w r comm later h c =
 pub keeps-happens : (w : World) (event : Event) (w' : World) → IsWorld w → Happens w event w' → IsWorld w'
 keeps-happens w (Call r asked) w' h k = rw k.2 (keeps-calls w r asked h k.1)
 keeps-happens w (Push s d) w' h k = keeps-pushes w s d h k
-keeps-happens w (Take r) w' h k = keeps-takes w r h k
+keeps-happens w (Take r) w' h k = keeps-takes w r [] h k
+keeps-happens w (TakeFrom r s) w' h k = keeps-takes w r k.passed h k.takes
 keeps-happens w (Decide r comm) w' h k = rw k.3 (keeps-settles w r comm k.1 h k.2)
 keeps-happens w (Leave r) w' h k = rw k.2 (keeps-gives_up w r h k.1)
 
@@ -82,5 +83,5 @@ reaches-then u v w h k = (h.0 ++ k.0, run-append h.0 k.0 u v w h.1 k.1)
 
 -- a world after an event that happened or was refused
 pub reaches-either : {A E : Type 0} (r : Result A E) (w w' : World) (event : Event) → IsReached w → OnOk r (Happens w event w') → OnErr r (w' ≡ w) → IsReached w'
-reaches-either (Ok x) w w' event h k e = record { ranks = h.ranks; capacity = h.capacity; few = h.few; schedule = reaches-then _ _ _ h.schedule (reaches-one w event w' k) }
+reaches-either (Ok x) w w' event h k e = record { ranks = h.ranks; room = h.room; few = h.few; schedule = reaches-then _ _ _ h.schedule (reaches-one w event w' k) }
 reaches-either (Err x) w w' event h k e = rw e h

@@ -1,6 +1,6 @@
 -- The laws of decisions, from what every world keeps.
 use Rattle.std.proofs.Common.{◌≡◌, ℕ, ◌<◌, ◌≤◌, List, length, ap, sym, subst, ◌∙◌, arith, inl, inr, Option, Some, None, All}
-use Rattle.ulfm_world.proofs.Common.{Decision, Contribution, Topic, is_member, Entry, Adopted, Player, World, rank_at, start_world, Reaches, false≢true, or_cases, none-some, same_Some, slice_get_within, get_or_from_slice_get, All-nil, Keeps, keeps-start, has, EntersEachOnce, entry_at, is_listed, in_entry, some_from, get_or-blank}
+use Rattle.ulfm_world.proofs.Common.{Decision, Contribution, Topic, is_member, Entry, Adopted, Player, World, rank_at, start_world, Reaches, false≢true, or_cases, none-some, same_Some, slice_get_within, get_or_from_slice_get, All-nil, Keeps, keeps-start, has, EntersEachOnce, entry_at, is_listed, in_entry, some_from, get_or-blank, Room}
 use Rattle.ulfm_board.specs.Known.{cell_of, nothing_known}
 use Rattle.ulfm_world.specs.Safe.{entry_at_rank, EntersOnce, IsSafe, DecidesSafely, AdoptsHeld}
 use Rattle.ulfm_laws.proofs.Once.{once-start}
@@ -10,8 +10,8 @@ use Rattle.ulfm_world.proofs.Moving.{settled-run}
 use Rattle.ulfm_world.proofs.Read.{each_report}
 use Rattle.ulfm_world.proofs.Starts.{length-start, player-start, world-start}
 
-pub settled-start : (n capacity : ℕ) → Settled n (start_world n capacity)
-settled-start n capacity = record {
+pub settled-start : (n : ℕ) (room : Room) → Settled n (start_world n room)
+settled-start n room = record {
   size = length-start n n;
   keeps = λ r i. subst (λ (p : Player). Keeps n r p.rank.log) (sym (player-start n n r i)) (keeps-start n r i);
   once = λ r i. subst (λ (p : Player). EntersEachOnce p.rank.log) (sym (player-start n n r i)) once-start;
@@ -21,8 +21,8 @@ settled-start n capacity = record {
 }
 
 -- every world that a schedule leads to is settled
-pub settled-reached : (n capacity : ℕ) (w : World) → n ≤ 8 → Reaches (start_world n capacity) w → Settled n w
-settled-reached n capacity w small k = settled-run n k.0 w (world-start n capacity small) (settled-start n capacity) k.1
+pub settled-reached : (n : ℕ) (room : Room) (w : World) → n ≤ 8 → Reaches (start_world n room) w → Settled n w
+settled-reached n room w small k = settled-run n k.0 w (world-start n room small) (settled-start n room) k.1
 
 module _ (n : ℕ) (w : World) (settled : Settled n w) where
   inside : (r : ℕ) → r < length w.players → r < n

@@ -1,6 +1,6 @@
 -- What the ranks know at the rest that a replay ends at.
 use Rattle.std.proofs.Common.{List, sym, subst}
-use Rattle.ulfm_world.proofs.Common.{Report, IsReached, reports_in, Seen, IsJob, IsReplayed, MadeAtRest, KnowAtRest, knows-stopped, agrees-revoked}
+use Rattle.ulfm_world.proofs.Common.{Report, IsReached, reports_in, Seen, IsJob, IsReplayed, MadeAtRest, KnowAtRest, knows-stopped, agrees-revoked, PerInbox}
 use Rattle.ulfm_world.proofs.Kept.{world_of}
 use Rattle.ulfm_world.proofs.Made.{made-safely}
 use Rattle.ulfm_world.proofs.Read.{flowing-world, rest-world}
@@ -9,7 +9,7 @@ use Rattle.ulfm_world.proofs.Shrunk.{keeps-decisions, all-proposed}
 
 pub settled : {j : Seen} {reports : List Report} → IsJob j → IsReplayed j reports → MadeAtRest j reports
 settled {j} job h =
-    let reached : IsReached h.world = record { ranks = j.ranks; capacity = j.capacity; few = job.few_ranks; schedule = h.reaches } in
+    let reached : IsReached h.world = record { ranks = j.ranks; room = PerInbox j.capacity; few = job.few_ranks; schedule = h.reaches } in
     let flowing = flowing-world (world_of reached) in
     record {
       replayed = h;
@@ -17,8 +17,8 @@ settled {j} job h =
         known = knows-stopped h.world.inboxes (reports_in h.world) flowing (rest-world h.rests);
         agreed = agrees-revoked h.world.inboxes (reports_in h.world) flowing (rest-world h.rests);
         proposed = all-proposed reached h.rests;
-        come = rest_world j.ranks j.capacity h.world job.few_ranks h.reaches h.rests;
+        come = rest_world j.ranks (PerInbox j.capacity) h.world job.few_ranks h.reaches h.rests;
       });
       safe = keeps-decisions reached;
-      made = made-safely j.ranks j.capacity h.reaches.0 h.world job.few_ranks h.reaches.1;
+      made = made-safely j.ranks (PerInbox j.capacity) h.reaches.0 h.world job.few_ranks h.reaches.1;
     }

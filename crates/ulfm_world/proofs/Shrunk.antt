@@ -17,7 +17,7 @@ pub proposes-each : {n : ℕ} (w : World) → IsWorld w → Settled n w → IsAt
 proposes-each {n} w h settled rest = proposes_each w.inboxes (reports_in w) (flowing-world h) (adopt-one settled) (all_keep n w settled) (rest-world rest)
 
 settled_of : {w : World} (h : IsReached w) → Settled h.ranks w
-settled_of {w} h = settled-reached h.ranks h.capacity w h.few h.schedule
+settled_of {w} h = settled-reached h.ranks h.room w h.few h.schedule
 
 pub keeps-decisions : {w : World} → IsReached w → KeepsDecisions w
 keeps-decisions {w} h = record {

@@ -1,6 +1,6 @@
 -- The world that starts.
 use Rattle.std.proofs.Common.{◌≡◌, ℕ, zero, suc, ◌+◌, ◌<◌, ◌≤◌, List, [], ◌∷◌, ◌++◌, length, get_or, replicate, refl, ap, sym, subst, ◌∙◌, arith, inl, inr, length-append, Option, Some, None, All}
-use Rattle.ulfm_world.proofs.Common.{WorldRank, Decision, Item, the_player, players_of, parts, IsPosted, IsWorld, items_from, cases_lt, le-ltb, lt-leb, All-nil, CallError, OutOfMemory, took, IsSigned, World, player_in, no_player, inbox_at, start_players, start_world, Player, View, start_player, length-replicate, get_or_append_left, get_or_at, map_push, IsState, went_out, no_mark, start_state, get_or-blank}
+use Rattle.ulfm_world.proofs.Common.{WorldRank, Decision, Item, the_player, players_of, parts, IsPosted, IsWorld, items_from, cases_lt, le-ltb, lt-leb, All-nil, CallError, OutOfMemory, took, IsSigned, World, player_in, no_player, inbox_at, start_players, start_world, Player, View, start_player, length-replicate, get_or_append_left, get_or_at, map_push, IsState, went_out, no_mark, start_state, get_or-blank, Room}
 use Rattle.ulfm_board.specs.Known.{nothing_known}
 use Rattle.ulfm_rank.specs.Checks.{Passes, FailsOrStarves, start_checks}
 
@@ -32,8 +32,8 @@ sound-start me n h small = record {
   no_own_notice = rw (get_or-blank n me no_mark) refl;
 }
 
-pub world-start : (n capacity : ℕ) → n ≤ 8 → IsWorld (start_world n capacity)
-world-start n capacity small = record {
+pub world-start : (n : ℕ) (room : Room) → n ≤ 8 → IsWorld (start_world n room)
+world-start n room small = record {
   small = omega (arith, length-start n n);
   as_many = length-replicate n [] ∙ sym (length-start n n);
   named = λ r k. ap (λ (p : Player). p.rank.me) (player-start n n r (omega (arith, k, length-start n n)));
@@ -47,15 +47,15 @@ world-start n capacity small = record {
   passed_on = λ s d i j.
       ap (λ (p : Player). went_out p.rank d) (player-start n n s (omega (arith, i, length-start n n)))
       ∙ rw (get_or-blank n d no_mark) (ap (λ (xs : List (WorldRank × Item)). items_from s xs) (sym (inbox-start n d)))
-      ∙ ap (λ (p : Player). took p.rank.log s ++ items_from s (inbox_at (start_world n capacity) d)) (sym (player-start n n d (omega (arith, j, length-start n n))));
+      ∙ ap (λ (p : Player). took p.rank.log s ++ items_from s (inbox_at (start_world n room) d)) (sym (player-start n n d (omega (arith, j, length-start n n))));
 }
 
 -- what a loop over the ranks made
-pub new_world : (views : List View) {inboxes : List (List (WorldRank × Item))} {r : ℕ} (n capacity : ℕ) (decided : List (Option Decision)) → players_of views ≡ start_players n r → inboxes ≡ replicate r [] → r ≡ n → decided ≡ nothing_known 0 → parts views inboxes capacity decided ≡ start_world n capacity
-new_world views {inboxes} n capacity decided p q e none =
-    ap (λ (ps : List Player). let w : World = record { players = ps; inboxes = inboxes; capacity = capacity; decided = decided } in w) (p ∙ ap (start_players n) e)
-    ∙ ap (λ (is : List (List (WorldRank × Item))). let w : World = record { players = start_players n n; inboxes = is; capacity = capacity; decided = decided } in w) (q ∙ ap (λ k. replicate k ([])) e)
-    ∙ ap (λ (ds : List (Option Decision)). let w : World = record { players = start_players n n; inboxes = replicate n []; capacity = capacity; decided = ds } in w) none
+pub new_world : (views : List View) {inboxes : List (List (WorldRank × Item))} {r : ℕ} (n : ℕ) (room : Room) (decided : List (Option Decision)) → players_of views ≡ start_players n r → inboxes ≡ replicate r [] → r ≡ n → decided ≡ nothing_known 0 → parts views inboxes room decided ≡ start_world n room
+new_world views {inboxes} n room decided p q e none =
+    ap (λ (ps : List Player). let w : World = record { players = ps; inboxes = inboxes; room = room; decided = decided } in w) (p ∙ ap (start_players n) e)
+    ∙ ap (λ (is : List (List (WorldRank × Item))). let w : World = record { players = start_players n n; inboxes = is; room = room; decided = decided } in w) (q ∙ ap (λ k. replicate k ([])) e)
+    ∙ ap (λ (ds : List (Option Decision)). let w : World = record { players = start_players n n; inboxes = replicate n []; room = room; decided = ds } in w) none
 
 -- a player of one of 1 to 8 ranks is refused by out of memory alone
 pub starts_or_starves : (me n : ℕ) (e : CallError) → me < n → n ≤ 8 → FailsOrStarves (start_checks me n) e → e ≡ OutOfMemory

@@ -1,9 +1,11 @@
+pub mod Room
 pub mod World
 pub mod Parts
 pub mod Flow
 pub mod Rest
 pub mod Safe
 pub mod Replay
+pub mod Rings
 pub mod Each
 pub mod inside
 pub mod Made

@@ -3,6 +3,7 @@ use Rattle.std.specs.Prelude.{◌≡◌, ℕ, List, ◌<◌, length}
 use Rattle.ulfm_script.specs.Report.{Report}
 use Rattle.ulfm_script.specs.Script.{HasFinished}
 use Rattle.ulfm_job.specs.Job.{Seen, script_at}
+use Rattle.ulfm_world.specs.declared.room.Room.TheVariants.{PerInbox}
 use Rattle.ulfm_world.specs.World.{World, player_at, Reaches, start_world, reports_in}
 use Rattle.ulfm_laws.specs.Lawful.{KnowAtRest}
 use Rattle.ulfm_world.specs.Rest.{IsAtRest}
@@ -13,10 +14,10 @@ use Rattle.ulfm_world.specs.Safe.{KeepsDecisions}
 abbrev pub AllHaveFinished : Seen → World → Type 0
 AllHaveFinished j w = (r : ℕ) → r < length w.players → HasFinished (script_at j r) j.turns (player_at w r)
 
--- The reports of a world at rest, to which some schedule of the job's ranks leads, in which each answered its script.
+-- The reports of a world at rest, to which some schedule of the job's ranks and inboxes leads, in which each answered its script.
 pub record IsReplayed (j : Seen) (reports : List Report) : Type 0 where
   pub world : World
-  pub reaches : Reaches (start_world j.ranks j.capacity) world
+  pub reaches : Reaches (start_world j.ranks (PerInbox j.capacity)) world
   pub rests : IsAtRest world
   pub answered : AllHaveFinished j world
   pub reported : reports ≡ reports_in world
@@ -29,4 +30,4 @@ pub record MadeAtRest (j : Seen) (reports : List Report) : Type 0 where
   pub replayed : IsReplayed j reports
   pub known : KnowAtRest reports
   pub safe : KeepsDecisions replayed.world
-  pub made : MadeSafely (start_world j.ranks j.capacity) replayed.reaches.0 replayed.world
+  pub made : MadeSafely (start_world j.ranks (PerInbox j.capacity)) replayed.reaches.0 replayed.world

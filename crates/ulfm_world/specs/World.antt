@@ -4,6 +4,7 @@ use Rattle.ulfm_base.specs.declared.rank.WorldRank.{WorldRank}
 use Rattle.ulfm_base.specs.declared.context.Context.{Context}
 use Rattle.ulfm_base.specs.declared.decision.Decision.{Decision}
 use Rattle.ulfm_base.specs.declared.item.Item.{Item}
+use Rattle.ulfm_base.specs.Items.{items_from}
 use Rattle.ulfm_board.specs.Known.{nothing_known}
 use Rattle.ulfm_rank.specs.declared.entry.Entry.TheVariants.{Took}
 use Rattle.ulfm_rank.specs.Facts.{is_stopped}
@@ -13,17 +14,19 @@ use Rattle.ulfm_script.specs.Player.{Player, start_player, with_rank, IsFree, Is
 use Rattle.ulfm_script.specs.Deciding.{IsReadyToDecide, IsDecided}
 use Rattle.ulfm_script.specs.Report.{Report}
 use Rattle.ulfm_world.specs.declared.event.Event.{Event}
-use Rattle.ulfm_world.specs.declared.event.Event.TheVariants.{Call, Push, Take, Decide, Leave}
+use Rattle.ulfm_world.specs.declared.event.Event.TheVariants.{Call, Push, Take, TakeFrom, Decide, Leave}
 use Rattle.ulfm_world.specs.declared.event.Outcome.{Outcome}
 use Rattle.ulfm_world.specs.declared.event.Outcome.TheVariants.{Answered, NotYet, Moved}
 use Rattle.ulfm_world.specs.declared.event.Refused.{Refused}
 use Rattle.ulfm_world.specs.declared.event.Refused.TheVariants.{NothingToPush, InboxFull, InboxEmpty, NotReady, Stopped, OutOfMemory, NoSuchRank}
+use Rattle.ulfm_world.specs.declared.room.Room.{Room}
+use Rattle.ulfm_world.specs.Room.{HasRoom, IsFull}
 
--- The players, an inbox for each with the senders of its items, the room of an inbox, and by the cells of topics what is decided.
+-- The players, an inbox for each with the senders of its items, the room for them, and by the cells of topics what is decided.
 pub record World : Type 0 where
   pub players : List Player
   pub inboxes : List (List (WorldRank × Item))
-  pub capacity : ℕ
+  pub room : Room
   pub decided : List (Option Decision)
 
 -- a player where there is none
@@ -56,7 +59,7 @@ HasStopped w r = is_stopped (rank_at w r).log ≡ true
 
 -- the world with other players
 abbrev pub with_players : World → List Player → World
-with_players w players = record { players = players; inboxes = w.inboxes; capacity = w.capacity; decided = w.decided }
+with_players w players = record { players = players; inboxes = w.inboxes; room = w.room; decided = w.decided }
 
 -- the world with another player r
 abbrev pub with_player : World → ℕ → Player → World
@@ -64,20 +67,20 @@ with_player w r player = with_players w (slice_set w.players r player)
 
 -- the world with another inbox of d
 abbrev pub with_inbox : World → ℕ → List (WorldRank × Item) → World
-with_inbox w d items = record { players = w.players; inboxes = slice_set w.inboxes d items; capacity = w.capacity; decided = w.decided }
+with_inbox w d items = record { players = w.players; inboxes = slice_set w.inboxes d items; room = w.room; decided = w.decided }
 
 -- the world with other decisions
 abbrev pub with_decided : World → List (Option Decision) → World
-with_decided w decided = record { players = w.players; inboxes = w.inboxes; capacity = w.capacity; decided = decided }
+with_decided w decided = record { players = w.players; inboxes = w.inboxes; room = w.room; decided = decided }
 
 -- the first k of n players that start
 abbrev pub start_players : ℕ → ℕ → List Player
 start_players n zero = []
 start_players n (suc k) = start_players n k ++ start_player k n ∷ []
 
--- n ranks that start, with empty inboxes, and nothing decided
-abbrev pub start_world : ℕ → ℕ → World
-start_world n capacity = record { players = start_players n n; inboxes = replicate n []; capacity = capacity; decided = nothing_known 0 }
+-- n ranks that start, with empty inboxes of this room, and nothing decided
+abbrev pub start_world : ℕ → Room → World
+start_world n room = record { players = start_players n n; inboxes = replicate n []; room = room; decided = nothing_known 0 }
 
 -- one poll of a step by the player r, where no other step stands open
 pub record Calls (old : List Player) (r : ℕ) (step : Step) (new : List Player) : Type 0 where
@@ -110,7 +113,7 @@ pub record GivesUp (old : List Player) (r : ℕ) (new : List Player) : Type 0 wh
 pub record Pushes (old : World) (s d : ℕ) (new : World) : Type 0 where
   pub inside_s : s < length old.players
   pub inside_d : d < length old.players
-  pub room : length (inbox_at old d) < old.capacity
+  pub room : HasRoom old.room s (inbox_at old d)
   pub sender : WorldRank
   pub is_sender : sender.number ≡ s
   pub item : Item
@@ -118,21 +121,30 @@ pub record Pushes (old : World) (s d : ℕ) (new : World) : Type 0 where
   pub leaves : GoesOut (rank_at old s) after d item
   pub only : new ≡ with_inbox (with_player old s (with_rank (player_at old s) after)) d (inbox_at old d ++ (sender, item) ∷ [])
 
--- the first item of the inbox of r goes to its log
-pub record Takes (old : World) (r : ℕ) (new : World) : Type 0 where
+-- an item of the inbox of r goes to its log, past those before it, none of which is of its sender
+pub record Takes (old : World) (r : ℕ) (passed : List (WorldRank × Item)) (new : World) : Type 0 where
   pub inside : r < length old.players
   pub running : IsRunning old r
   pub source : WorldRank
   pub item : Item
   pub rest : List (WorldRank × Item)
-  pub front : inbox_at old r ≡ (source, item) ∷ rest
-  pub only : new ≡ with_inbox (with_player old r (with_rank (player_at old r) (logged (rank_at old r) (Took source item)))) r rest
+  pub found : inbox_at old r ≡ passed ++ (source, item) ∷ rest
+  pub of_others : items_from source.number passed ≡ []
+  pub only : new ≡ with_inbox (with_player old r (with_rank (player_at old r) (logged (rank_at old r) (Took source item)))) r (passed ++ rest)
+
+-- the first item of the sender s in the inbox of r goes to its log
+pub record TakesFrom (old : World) (r s : ℕ) (new : World) : Type 0 where
+  pub inside_s : s < length old.players
+  pub passed : List (WorldRank × Item)
+  pub takes : Takes old r passed new
+  pub is_source : takes.source.number ≡ s
 
 -- one step of the world
 abbrev pub Happens : World → Event → World → Type 0
 Happens old (Call r step) new = (players : List Player) × Calls old.players r step players × (new ≡ with_players old players)
 Happens old (Push s d) new = Pushes old s d new
-Happens old (Take r) new = Takes old r new
+Happens old (Take r) new = Takes old r [] new
+Happens old (TakeFrom r s) new = TakesFrom old r s new
 Happens old (Decide r comm) new =
     (players : List Player) × (later : List (Option Decision)) × DecidesStep old.players old.decided r comm players later
     × (new ≡ with_decided (with_players old players) later)
@@ -167,12 +179,16 @@ IsRefused w (Call r asked) NotReady = IsLive w r × (IsFree (player_at w r) aske
 IsRefused w (Call r asked) OutOfMemory = IsLive w r × ((player_at w r).current ≡ None)
 IsRefused w (Push s d) NoSuchRank = (length w.players ≤ s) ⊎ (length w.players ≤ d)
 IsRefused w (Push s d) NothingToPush = IsInside w s × IsInside w d × (outbox (rank_at w s) d ≡ [])
-IsRefused w (Push s d) InboxFull = IsInside w s × IsInside w d × (outbox (rank_at w s) d ≢ []) × (w.capacity ≤ length (inbox_at w d))
-IsRefused w (Push s d) OutOfMemory = IsInside w s × IsInside w d × (outbox (rank_at w s) d ≢ []) × (length (inbox_at w d) < w.capacity)
+IsRefused w (Push s d) InboxFull = IsInside w s × IsInside w d × (outbox (rank_at w s) d ≢ []) × IsFull w.room s (inbox_at w d)
+IsRefused w (Push s d) OutOfMemory = IsInside w s × IsInside w d × (outbox (rank_at w s) d ≢ []) × HasRoom w.room s (inbox_at w d)
 IsRefused w (Take r) NoSuchRank = length w.players ≤ r
 IsRefused w (Take r) Stopped = IsInside w r × HasStopped w r
 IsRefused w (Take r) InboxEmpty = IsLive w r × (inbox_at w r ≡ [])
 IsRefused w (Take r) OutOfMemory = IsLive w r × (inbox_at w r ≢ [])
+IsRefused w (TakeFrom r s) NoSuchRank = (length w.players ≤ r) ⊎ (length w.players ≤ s)
+IsRefused w (TakeFrom r s) Stopped = IsInside w r × IsInside w s × HasStopped w r
+IsRefused w (TakeFrom r s) InboxEmpty = IsLive w r × IsInside w s × (items_from s (inbox_at w r) ≡ [])
+IsRefused w (TakeFrom r s) OutOfMemory = IsLive w r × IsInside w s × (items_from s (inbox_at w r) ≢ [])
 IsRefused w (Decide r comm) NoSuchRank = length w.players ≤ r
 IsRefused w (Decide r comm) Stopped = IsInside w r × HasStopped w r
 IsRefused w (Decide r comm) NotReady = IsLive w r × (IsReadyToDecide (player_at w r) comm → ⊥)
@@ -197,9 +213,9 @@ Reaches old new = (events : List Event) × Run old events new
 -- a world that some schedule of at most 8 ranks leads to
 pub record IsReached (w : World) : Type 0 where
   pub ranks : ℕ
-  pub capacity : ℕ
+  pub room : Room
   pub few : ranks ≤ 8
-  pub schedule : Reaches (start_world ranks capacity) w
+  pub schedule : Reaches (start_world ranks room) w
 
 -- what a player reports where each of its turns had room for an item
 abbrev pub report_of : Player → Report

@@ -1,4 +1,4 @@
-//! Laws over every schedule, without threads: what holds of each world that a list of events leads to.
+//! Laws over every schedule, without threads: what holds of each world that a list of events leads to, whatever room inboxes have.
 ghost use Rattle.std.specs.Prelude.{ℕ, ◌≤◌, List};
 ghost use Rattle.ulfm_laws.specs.Causes.{GoneHaveStopped, RevokedByARank};
 ghost use Rattle.ulfm_laws.specs.Flow.{Flows};
@@ -6,27 +6,31 @@ ghost use Rattle.ulfm_laws.specs.Reader.{AllHasCome, ComeAsSent, DoneIsGiven, Do
 ghost use Rattle.ulfm_laws.specs.Rest.{KnowsStopped, AgreesOnRevoked};
 ghost use Rattle.ulfm_laws.specs.Decisions.{AdoptOne, HasOneGroup, ProposesEach};
 ghost use Rattle.ulfm_world.specs.declared.event.Event.{Event};
+ghost use Rattle.ulfm_world.specs.declared.room.Room.{Room};
+ghost use Rattle.ulfm_world.specs.declared.room.Room.TheVariants.{PerInbox};
 ghost use Rattle.ulfm_world.specs.Each.{InEachReplay, InEachWorld};
 ghost use Rattle.ulfm_world.specs.Made.{MadeSafely};
+ghost use Rattle.ulfm_world.specs.Flow.{IsWorld};
 ghost use Rattle.ulfm_world.specs.Rest.{IsAtRest};
+ghost use Rattle.ulfm_world.specs.Rings.{HappensOnRings, IsRunOnRings};
 ghost use Rattle.ulfm_world.specs.Safe.{EntersOnce, DecidesSafely, SettlesSafely, AdoptsHeld, StarvesAlone};
-ghost use Rattle.ulfm_world.specs.World.{World, start_world, Reaches, Run, reports_in};
+ghost use Rattle.ulfm_world.specs.World.{World, start_world, Happens, Reaches, Run, reports_in};
 
 /// Whatever events come, between each ordered pair of ranks nothing is made, doubled or overtaken, and nothing is lost but what a
 /// stop leaves in an outbox (MPI 4.0, 3.5).
 pub fn flows()
-    ensures { (n capacity : ℕ) (w : World) → n ≤ 8 → Reaches (start_world n capacity) w → Flows w.inboxes (reports_in w) }
+    ensures { (n : ℕ) (room : Room) (w : World) → n ≤ 8 → Reaches (start_world n room) w → Flows w.inboxes (reports_in w) }
 {}
 
 /// Whatever events come, at rest each running rank knows each rank that stopped (ULFM, failure notification).
 pub fn known_at_rest()
-    ensures { (n capacity : ℕ) (w : World) → n ≤ 8 → Reaches (start_world n capacity) w → IsAtRest w → KnowsStopped (reports_in w) }
+    ensures { (n : ℕ) (room : Room) (w : World) → n ≤ 8 → Reaches (start_world n room) w → IsAtRest w → KnowsStopped (reports_in w) }
 {}
 
 /// Whatever events come, at rest all running ranks agree whether a context is revoked, also where the revoker stopped
 /// half way (ULFM, revocation).
 pub fn agreed_at_rest()
-    ensures { (n capacity : ℕ) (w : World) → n ≤ 8 → Reaches (start_world n capacity) w → IsAtRest w → AgreesOnRevoked (reports_in w) }
+    ensures { (n : ℕ) (room : Room) (w : World) → n ≤ 8 → Reaches (start_world n room) w → IsAtRest w → AgreesOnRevoked (reports_in w) }
 {}
 
 /// Whatever events come, who is known to have failed has stopped: a failure is never suspected wrongly (ULFM, failure
@@ -107,7 +111,7 @@ pub fn no_match_is_missed()
 /// Whatever events come, at rest all has come that one running rank sent to another on a communicator that isn't revoked
 /// there (MPI 4.0, 3.5).
 pub fn all_come_at_rest()
-    ensures worlds { (n capacity : ℕ) (w : World) → n ≤ 8 → Reaches (start_world n capacity) w → IsAtRest w → AllHasCome (reports_in w) }
+    ensures worlds { (n : ℕ) (room : Room) (w : World) → n ≤ 8 → Reaches (start_world n room) w → IsAtRest w → AllHasCome (reports_in w) }
     ensures replays { InEachReplay AllHasCome }
 {}
 
@@ -120,49 +124,56 @@ pub fn reports_are_faithful()
 /// Whatever events come, a rank enters the shrink of a communicator once, and each agreement on it, with the failures that it
 /// knows then: two entrances into one topic are one (ULFM, shrink and agree).
 pub fn entered_once()
-    ensures { (n capacity : ℕ) (w : World) → n ≤ 8 → Reaches (start_world n capacity) w → EntersOnce w }
+    ensures { (n : ℕ) (room : Room) (w : World) → n ≤ 8 → Reaches (start_world n room) w → EntersOnce w }
 {}
 
 /// Whatever events come, each decision lists its ranks with what their own entrances brought, excludes ranks alone that have
 /// stopped, and excludes each member whose failure a member of the new group knew at its entrance (ULFM, shrink and agree).
 pub fn decided_safely()
-    ensures { (n capacity : ℕ) (w : World) → n ≤ 8 → Reaches (start_world n capacity) w → DecidesSafely w }
+    ensures { (n : ℕ) (room : Room) (w : World) → n ≤ 8 → Reaches (start_world n room) w → DecidesSafely w }
 {}
 
 /// Whatever events come, a decision was as safe before it was made: each excluded rank had stopped (ULFM, shrink and agree).
 pub fn settled_safely()
-    ensures { (n capacity : ℕ) (w : World) → n ≤ 8 → Reaches (start_world n capacity) w → SettlesSafely w }
+    ensures { (n : ℕ) (room : Room) (w : World) → n ≤ 8 → Reaches (start_world n room) w → SettlesSafely w }
 {}
 
 /// Whatever events come, each decision that is held was made by one of them, and each rank that it excludes had stopped before
 /// that event (ULFM, shrink and agree).
 pub fn made_safely()
-    ensures { (n capacity : ℕ) (events : List Event) (w : World) → n ≤ 8 → Run (start_world n capacity) events w → MadeSafely (start_world n capacity) events w }
+    ensures { (n : ℕ) (room : Room) (events : List Event) (w : World) → n ≤ 8 → Run (start_world n room) events w → MadeSafely (start_world n room) events w }
 {}
 
 /// Whatever events come, a rank that adopted a decision is in its new group, and it is the one that the board holds (ULFM,
 /// shrink and agree).
 pub fn adopted_as_held()
-    ensures { (n capacity : ℕ) (w : World) → n ≤ 8 → Reaches (start_world n capacity) w → AdoptsHeld w }
+    ensures { (n : ℕ) (room : Room) (w : World) → n ≤ 8 → Reaches (start_world n room) w → AdoptsHeld w }
 {}
 
 /// Whatever events come, a shrink or an agreement that is decided is refused by out of memory alone (ULFM, shrink and agree).
 pub fn adoption_starves_alone()
-    ensures { (n capacity : ℕ) (w : World) → n ≤ 8 → Reaches (start_world n capacity) w → StarvesAlone w }
+    ensures { (n : ℕ) (room : Room) (w : World) → n ≤ 8 → Reaches (start_world n room) w → StarvesAlone w }
 {}
 
 /// Whatever events come, decisions that ranks adopted on one topic are equal (ULFM, shrink and agree).
 pub fn one_decision()
-    ensures { (n capacity : ℕ) (w : World) → n ≤ 8 → Reaches (start_world n capacity) w → AdoptOne (reports_in w) }
+    ensures { (n : ℕ) (room : Room) (w : World) → n ≤ 8 → Reaches (start_world n room) w → AdoptOne (reports_in w) }
 {}
 
 /// Whatever events come, two ranks that made the communicator of a context have the same group for it (MPI 4.0, 7.4).
 pub fn one_group()
-    ensures { (n capacity : ℕ) (w : World) → n ≤ 8 → Reaches (start_world n capacity) w → HasOneGroup (reports_in w) }
+    ensures { (n : ℕ) (room : Room) (w : World) → n ≤ 8 → Reaches (start_world n room) w → HasOneGroup (reports_in w) }
 {}
 
 /// Whatever events come, at rest, where all running members of a communicator entered its shrink, or one agreement on it, each
 /// of them has a proposal there (ULFM, shrink and agree).
 pub fn proposed_at_rest()
-    ensures { (n capacity : ℕ) (w : World) → n ≤ 8 → Reaches (start_world n capacity) w → IsAtRest w → ProposesEach (reports_in w) }
+    ensures { (n : ℕ) (room : Room) (w : World) → n ≤ 8 → Reaches (start_world n room) w → IsAtRest w → ProposesEach (reports_in w) }
+{}
+
+/// Rings give all that inboxes give. What happens where senders share the places of an inbox happens too where each has as many places
+/// of its own. So each schedule leads to the same players there, with the same answers: who explores rings alone misses nothing.
+pub fn rings_give_all()
+    ensures each { (w : World) (event : Event) (new : World) → IsWorld w → Happens w event new → HappensOnRings w event new }
+    ensures schedules { (n capacity : ℕ) (events : List Event) (w : World) → n ≤ 8 → Run (start_world n (PerInbox capacity)) events w → IsRunOnRings n capacity events w }
 {}

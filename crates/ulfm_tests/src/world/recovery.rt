@@ -19,7 +19,7 @@ fn send() -> Step {
 }
 
 /// A receive from a rank, or from any, of a tag, or of any.
-fn receive(from: Option<u8>, tag: Option<Tag>) -> Step {
+pub(super) fn receive(from: Option<u8>, tag: Option<Tag>) -> Step {
     Step::Recv {
         from,
         tag,
@@ -34,7 +34,7 @@ fn tagged(tag: Tag) -> Step {
 }
 
 /// A wait for the step of this number.
-fn wait(req: u16) -> Step {
+pub(super) fn wait(req: u16) -> Step {
     Step::Wait { req }
 }
 
@@ -46,17 +46,17 @@ fn revoke() -> Step {
 }
 
 /// Whether a poll answers a step.
-fn answers(world: &mut World, r: u8, step: Step) -> bool {
+pub(super) fn answers(world: &mut World, r: u8, step: Step) -> bool {
     tells(world, Event::Call(r, step), Ok(Outcome::Answered))
 }
 
 /// Whether a poll leaves a step open.
-fn waits(world: &mut World, r: u8, step: Step) -> bool {
+pub(super) fn waits(world: &mut World, r: u8, step: Step) -> bool {
     tells(world, Event::Call(r, step), Ok(Outcome::NotYet))
 }
 
 /// Whether a rank pushes an item to another.
-fn pushes(world: &mut World, s: u8, d: u8) -> bool {
+pub(super) fn pushes(world: &mut World, s: u8, d: u8) -> bool {
     tells(world, Event::Push(s, d), Ok(Outcome::Moved))
 }
 
@@ -66,7 +66,7 @@ fn has_nothing(world: &mut World, s: u8, d: u8) -> bool {
 }
 
 /// Whether a rank takes an item.
-fn takes(world: &mut World, r: u8) -> bool {
+pub(super) fn takes(world: &mut World, r: u8) -> bool {
     tells(world, Event::Take(r), Ok(Outcome::Moved))
 }
 
@@ -161,7 +161,7 @@ const TRACE: &str = "0 0 send 2 tag 5 comm 0: sent\n\
 2 end: done\n";
 
 /// Whether the ranks of a world answered so.
-fn has_trace(world: World, alloc: Global, text: &str) -> bool {
+pub(super) fn has_trace(world: World, alloc: Global, text: &str) -> bool {
     let Ok(reports) = world.into_reports(alloc) else {
         return false;
     };

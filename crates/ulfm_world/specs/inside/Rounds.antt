@@ -6,6 +6,8 @@ use Rattle.ulfm_job.specs.declared.step.Step.{Step}
 use Rattle.ulfm_script.specs.Player.{Player}
 use Rattle.ulfm_script.specs.inside.Underway.{FollowsSoFar, polls_left}
 use Rattle.ulfm_job.specs.Job.{Seen, script_at}
+use Rattle.ulfm_world.specs.declared.room.Room.TheVariants.{PerInbox}
+use Rattle.ulfm_world.specs.Room.{IsFull}
 use Rattle.ulfm_world.specs.World.{World, player_at, rank_at, inbox_at, IsRunning, Reaches, start_world}
 use Rattle.ulfm_base.specs.declared.decision.Decision.{Decision}
 use Rattle.ulfm_base.specs.declared.topic.Topic.{Topic}
@@ -65,7 +67,7 @@ pub record AllAnswersFollowSoFar (w : World) : Type 0 where
 pub record Moves (j : Seen) (old new : World) (moved : Bool) : Type 0 where
   pub reaches : Reaches old new
   pub size : length new.players ≡ length old.players
-  pub capacity : new.capacity ≡ old.capacity
+  pub room : new.room ≡ old.room
   pub follows : Follows j old → Follows j new
   pub answers : Follows j old → AllAnswersFollowSoFar old → AllAnswersFollowSoFar new
   pub falls : moved ≡ true → Follows j old → measure j new < measure j old
@@ -73,7 +75,7 @@ pub record Moves (j : Seen) (old new : World) (moved : Bool) : Type 0 where
 
 -- nothing of s can go to d
 abbrev pub IsPushStuck : World → ℕ → ℕ → Type 0
-IsPushStuck w s d = (outbox (rank_at w s) d ≡ []) ⊎ (w.capacity ≤ length (inbox_at w d))
+IsPushStuck w s d = (outbox (rank_at w s) d ≡ []) ⊎ IsFull w.room s (inbox_at w d)
 
 -- nothing of r can go to the rank d; with none, r can take nothing
 abbrev pub IsStuckAt : World → ℕ → Option ℕ → Type 0
@@ -88,8 +90,8 @@ pub record IsStuck (j : Seen) (w : World) (r : ℕ) : Type 0 where
 
 -- a world on the way of a replay
 pub record IsUnderway (j : Seen) (w : World) : Type 0 where
-  pub reaches : Reaches (start_world j.ranks j.capacity) w
+  pub reaches : Reaches (start_world j.ranks (PerInbox j.capacity)) w
   pub size : length w.players ≡ j.ranks
-  pub capacity : w.capacity ≡ j.capacity
+  pub room : w.room ≡ PerInbox j.capacity
   pub follows : Follows j w
   pub answers : AllAnswersFollowSoFar w

@@ -4,4 +4,4 @@ use Rattle.ulfm_world.proofs.Decided.{starves-alone}
 use Rattle.ulfm_world.proofs.laws.adoption_starves_alone.Goals as goal
 
 pub returns : goal.returns
-returns c = λ n capacity w small h. starves-alone w (world-reached n capacity w small h) (settled-reached n capacity w small h)
+returns c = λ n room w small h. starves-alone w (world-reached n room w small h) (settled-reached n room w small h)

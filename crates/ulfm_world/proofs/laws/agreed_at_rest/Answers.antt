@@ -3,4 +3,4 @@ use Rattle.ulfm_world.proofs.Read.{world-reached, flowing-world, rest-world}
 use Rattle.ulfm_world.proofs.laws.agreed_at_rest.Goals as goal
 
 pub returns : goal.returns
-returns c = λ n capacity w small h rest. agrees-revoked w.inboxes (reports_in w) (flowing-world (world-reached n capacity w small h)) (rest-world rest)
+returns c = λ n room w small h rest. agrees-revoked w.inboxes (reports_in w) (flowing-world (world-reached n room w small h)) (rest-world rest)

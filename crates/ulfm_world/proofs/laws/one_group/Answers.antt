@@ -4,4 +4,4 @@ use Rattle.ulfm_world.proofs.Shrunk.{has-one_group}
 use Rattle.ulfm_world.proofs.laws.one_group.Goals as goal
 
 pub returns : goal.returns
-returns c = λ n capacity w small h. has-one_group w (settled-reached n capacity w small h) (world-reached n capacity w small h)
+returns c = λ n room w small h. has-one_group w (settled-reached n room w small h) (world-reached n room w small h)

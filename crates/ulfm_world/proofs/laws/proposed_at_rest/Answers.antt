@@ -4,4 +4,4 @@ use Rattle.ulfm_world.proofs.Shrunk.{proposes-each}
 use Rattle.ulfm_world.proofs.laws.proposed_at_rest.Goals as goal
 
 pub returns : goal.returns
-returns c = λ n capacity w small h rest. proposes-each w (world-reached n capacity w small h) (settled-reached n capacity w small h) rest
+returns c = λ n room w small h rest. proposes-each w (world-reached n room w small h) (settled-reached n room w small h) rest

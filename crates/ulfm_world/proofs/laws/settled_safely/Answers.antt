@@ -4,4 +4,4 @@ use Rattle.ulfm_world.proofs.Decided.{settles-safely}
 use Rattle.ulfm_world.proofs.laws.settled_safely.Goals as goal
 
 pub returns : goal.returns
-returns c = λ n capacity w small h. settles-safely w (world-reached n capacity w small h) (settled-reached n capacity w small h)
+returns c = λ n room w small h. settles-safely w (world-reached n room w small h) (settled-reached n room w small h)

@@ -1,5 +1,5 @@
 use Rattle.std.proofs.Common.{refl, ap, ◌∙◌}
-use Rattle.ulfm_world.proofs.Common.{start_world, IfOk-weaker}
+use Rattle.ulfm_world.proofs.Common.{PerInbox, start_world, IfOk-weaker}
 use Rattle.ulfm_world.proofs.Ends.{came-start, came-moves, replayed}
 use Rattle.ulfm_world.proofs.Lawful.{lawful-replay}
 use Rattle.ulfm_world.proofs.Settled.{settled}
@@ -7,7 +7,7 @@ use Rattle.ulfm_world.proofs.rounds.replay.Goals as goal
 
 pub loop-rounds-init : goal.loop-rounds-init
 loop-rounds-init c =
-    (refl, came-start c.args.job.now c.in-Ok.world (c.in-Ok.ensures.ok ∙ ap (λ n. start_world n c.capacity.result) c.ranks.ensures.exact ∙ ap (start_world c.args.job.now.ranks) c.capacity.ensures.exact))
+    (refl, came-start c.args.job.now c.in-Ok.world (c.in-Ok.ensures.ok ∙ ap (λ n. start_world n (PerInbox c.capacity.result)) c.ranks.ensures.exact ∙ ap (λ k. start_world c.args.job.now.ranks (PerInbox k)) c.capacity.ensures.exact))
 
 pub loop-rounds-preserved : goal.loop-rounds-preserved
 loop-rounds-preserved c = (c.in_ok-round.ensures.same_job, came-moves _ _ _ _ c.loop-rounds.invariant.1 c.in_ok-round.ensures.moves)

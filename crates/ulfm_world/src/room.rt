@@ -1,0 +1,23 @@
+//! What an inbox has room for.
+ghost use Rattle.std.specs.Prelude.{◌≡◌};
+ghost use Rattle.ulfm_world.specs.Room.{places};
+
+/// How many items an inbox has places for, and whose items they are.
+#[derive(Clone, Copy, Debug, PartialEq, Eq)]
+pub enum Room {
+    /// So many places for the items of all senders: one inbox for each rank.
+    PerInbox(u8),
+    /// So many places for the items of each sender: a ring for each ordered pair of ranks.
+    PerPair(u8),
+}
+
+impl Room {
+    /// How many places there are.
+    pub fn places(self) -> u8
+        ensures { result ≡ places self }
+    {
+        match self {
+            Room::PerInbox(places) | Room::PerPair(places) => places,
+        }
+    }
+}
