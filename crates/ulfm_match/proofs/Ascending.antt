@@ -1,7 +1,7 @@
 -- Lists by rising numbers, as they grow, are filtered, follow one another or lose an entry.
-use Rattle.std.proofs.Common.{◌≡◌, ◌≢◌, ℕ, ◌<◌, ◌≤◌, inl, inr, List, [], ◌∷◌, ◌++◌, ap, sym, subst, arith, Bool, true, false, cond, Contains, filter}
+use Rattle.std.proofs.Common.{◌≡◌, ◌≢◌, ℕ, ◌<◌, inl, inr, List, [], ◌∷◌, ◌++◌, ap, sym, subst, arith, Bool, true, false, cond, Contains, filter}
 use Rattle.ulfm_match.proofs.Common.{IsAscending, Contains-append_cases, Contains-append_left, Contains-append_right, Contains-push_cases}
-use Rattle.ulfm_match.proofs.Decide.{lt_or_ge, Contains-none, Contains-cons_cases, Contains-head, Contains-tail}
+use Rattle.ulfm_match.proofs.Decide.{Contains-none, Contains-cons_cases, Contains-head, Contains-tail}
 use Rattle.ulfm_match.proofs.Members.{all_of, all_from, Contains-filter}
 
 module _ {X : Type 0} where

@@ -4,7 +4,3 @@ use Rattle.std.proofs.Common.{Result, Ok, Err, IsOk, OnOk}
 pub on_ok : {A E P : Type 0} (r : Result A E) → IsOk r → OnOk r P → P
 on_ok (Ok a) i p = p
 on_ok (Err e) i p = cc
-
-pub on_ok_too : {A E P Q : Type 0} (r : Result A E) → (P → Q) → OnOk r P → OnOk r Q
-on_ok_too (Ok a) f p = f p
-on_ok_too (Err e) f p = tt

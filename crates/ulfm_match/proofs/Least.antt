@@ -1,5 +1,5 @@
 -- The entry of the least number that passes.
-use Rattle.std.proofs.Common.{◌≡◌, ◌≢◌, ℕ, ◌<◌, ◌≤◌, ◌⊎◌, inl, inr, List, [], ◌∷◌, ap, sym, subst, arith, Contains, filter, not, ◌==◌, Bool}
+use Rattle.std.proofs.Common.{◌≡◌, ℕ, ◌<◌, ◌≤◌, ◌⊎◌, inl, inr, List, [], ◌∷◌, ap, sym, subst, arith, Contains, filter, not, ◌==◌, Bool}
 use Rattle.ulfm_match.proofs.Common.{IsAscending}
 use Rattle.ulfm_match.proofs.Decide.{Either, Contains-none, Contains-cons_cases, Contains-head, Contains-tail}
 use Rattle.ulfm_match.proofs.EndSteps.{other_context, passes_context}

@@ -1,5 +1,5 @@
 -- Early entries and late ones, from one state to the next.
-use Rattle.std.proofs.Common.{◌≡◌, ◌≢◌, ℕ, ◌+◌, ◌<◌, ◌≤◌, inl, inr, List, [], ◌∷◌, ◌++◌, refl, ap, sym, ◌∙◌, subst, arith, append_assoc, Bool, true, false, cond, Contains, Option, Some, None, nat_eq, filter, not, ◌==◌, ◌↔◌}
+use Rattle.std.proofs.Common.{◌≡◌, ◌≢◌, ℕ, ◌+◌, ◌<◌, ◌≤◌, inl, inr, List, [], ◌∷◌, ◌++◌, ap, sym, ◌∙◌, subst, arith, append_assoc, Bool, cond, Contains, Some, None, nat_eq, filter, not, ◌==◌, ◌↔◌}
 use Rattle.std.proofs.lemmas.List.Elements.{filter-append}
 use Rattle.std.specs.Map.{lookup}
 use Rattle.ulfm_match.proofs.Common.{Contains-append_cases, Contains-append_left, Contains-append_right, Contains-push_cases, Entries, Buckets, Grows, SweepsFor, IsAscending, IsIndexed, IsPool, NonePass, NoneOf, Pool, TakesEarliest, TakesFirst, TakesLeast, TakesOut, all_of, get, in_order, IsUnique, numbers_at, numbers_of}

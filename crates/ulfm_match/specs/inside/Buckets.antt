@@ -1,14 +1,14 @@
 -- Entries by number, buckets of their numbers, and how both change.
-use Rattle.std.specs.Prelude.{◌≡◌, ℕ, ◌+◌, ◌<◌, ◌≤◌, ◌⊎◌, ⊤, List, [], ◌∷◌, Bool, true, cond, Contains, Option, Some, None, MatchOption, IsSome, nat_eq}
+use Rattle.std.specs.Prelude.{◌≡◌, ℕ, ◌<◌, ◌≤◌, ◌⊎◌, ⊤, List, [], ◌∷◌, cond, Contains, Option, Some, None, MatchOption, IsSome, nat_eq}
 use Rattle.std.specs.List.{AllByRecursion}
-use Rattle.indexmap.specs.IndexMap.{IndexMap, get, spare, IsUnique}
+use Rattle.indexmap.specs.IndexMap.{IndexMap, get, IsUnique}
 use Rattle.std.specs.declared.hash.FoldHasher.{FoldHasher}
 use Rattle.std.specs.declared.hash.BuildHasherDefault.{BuildHasherDefault}
 use Rattle.ulfm_base.specs.declared.pattern.Pattern.{Pattern}
 use Rattle.ulfm_base.specs.declared.envelope.Letter.{Letter}
 use Rattle.ulfm_base.specs.Pattern.{Admits}
 use Rattle.ulfm_match.specs.declared.bucket.Bucket.{Bucket}
-use Rattle.ulfm_match.specs.inside.Key.{IsKeyOf, IsKeyOfReceive}
+use Rattle.ulfm_match.specs.inside.Key.{IsKeyOf}
 
 -- entries by number
 abbrev pub Entries : Type 0 → Type 0

@@ -1,5 +1,5 @@
 -- Entries by number: the early ones in buckets, and after them the late ones in a short list.
-use Rattle.std.specs.Prelude.{◌≡◌, ◌≢◌, ℕ, ◌+◌, ◌<◌, ◌≤◌, List, ◌∷◌, ◌++◌, Bool, true, Contains, take, length, Option, MatchOption}
+use Rattle.std.specs.Prelude.{◌≡◌, ◌≢◌, ℕ, ◌<◌, ◌≤◌, List, ◌∷◌, ◌++◌, Bool, true, Contains, take, length, Option, MatchOption}
 use Rattle.std.specs.VecDeque.{deque_len, deque_capacity}
 use Rattle.std.specs.List.{HoldsAt}
 use Rattle.ulfm_base.specs.declared.pattern.Pattern.{Pattern}

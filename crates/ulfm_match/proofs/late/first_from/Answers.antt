@@ -1,4 +1,4 @@
-use Rattle.std.proofs.Common.{◌≡◌, ℕ, arith, subst, sym}
+use Rattle.std.proofs.Common.{ℕ, arith, subst, sym}
 use Rattle.ulfm_match.proofs.Common.{Letter, Admits}
 use Rattle.ulfm_match.proofs.First.{first_at}
 use Rattle.ulfm_match.proofs.Rising.{none_more, none_all}

@@ -1,4 +1,4 @@
-use Rattle.std.proofs.Common.{◌≡◌, ◌++◌, ◌∷◌, ℕ, List, [], refl, ap, sym, ◌∙◌, subst, arith, Contains}
+use Rattle.std.proofs.Common.{◌++◌, refl, ap, sym, ◌∙◌, subst, arith, Contains}
 use Rattle.ulfm_match.proofs.Common.{IsPool, IsKeyOfReceive, Pattern, Pool, in_order, numbers_at}
 use Rattle.ulfm_match.proofs.Inserted.{on_ok}
 use Rattle.ulfm_match.proofs.Pooled.{roomy_pool, settled_all, settled_pool, unsettled_pool}

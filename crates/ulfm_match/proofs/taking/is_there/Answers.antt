@@ -1,5 +1,5 @@
 use Rattle.std.proofs.Common.{refl, inl, inr}
-use Rattle.ulfm_match.proofs.Common.{Contains-append_cases, Contains-append_left, Contains-append_right, in_order, nat_tests}
+use Rattle.ulfm_match.proofs.Common.{Contains-append_cases, Contains-append_left, Contains-append_right, in_order}
 use Rattle.ulfm_match.proofs.Listed.{listed_is}
 use Rattle.ulfm_match.proofs.taking.is_there.Goals as goal
 

@@ -1,4 +1,4 @@
-use Rattle.std.proofs.Common.{◌≡◌, ◌++◌, false, ap, refl, ◌∙◌, arith, rules}
+use Rattle.std.proofs.Common.{◌++◌, false, ap, refl, ◌∙◌}
 use Rattle.ulfm_match.proofs.Common.{in_order, get_or-blank}
 use Rattle.ulfm_match.proofs.Exists.{tracks_none}
 use Rattle.ulfm_match.proofs.Pooled.{empty_pool}

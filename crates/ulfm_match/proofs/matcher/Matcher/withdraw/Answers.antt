@@ -1,5 +1,5 @@
 use Rattle.std.proofs.Common.{arith, subst, refl, sym}
-use Rattle.ulfm_match.proofs.Common.{Matching, Tracks, nat_tests}
+use Rattle.ulfm_match.proofs.Common.{Tracks, nat_tests}
 use Rattle.ulfm_match.proofs.EndSteps.{end_taken, end_idle}
 use Rattle.ulfm_match.proofs.Pooled.{all_ascending}
 use Rattle.ulfm_match.proofs.matcher.Matcher.withdraw.Goals as goal
