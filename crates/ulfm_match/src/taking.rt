@@ -29,7 +29,7 @@ fn take_kept(
     match first_kept(buckets, kept, pattern) {
         Some(number) => {
             let letter = kept.swap_remove(&number)?;
-            forget_letter(buckets, &letter.envelope, kept);
+            forget_letter(buckets, &letter.envelope, kept, number);
             Some(letter)
         }
         None => None,
@@ -63,7 +63,7 @@ fn take_numbered(waiting: &mut IndexMap<u64, Pattern>, buckets: &mut Buckets, nu
     ensures { TakesOut number waiting.old waiting.new buckets.old buckets.new }
 {
     if let Some(pattern) = waiting.swap_remove(&number) {
-        forget(buckets, key_of(&pattern), waiting, false);
+        forget(buckets, key_of(&pattern), waiting, Some(number));
     }
 }
 
