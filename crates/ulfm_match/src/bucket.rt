@@ -20,6 +20,7 @@ pub(crate) struct Bucket {
 }
 
 /// Drops numbers of entries that are gone from the front, at most so many. Answers how many it dropped.
+#[inline(always)]
 fn trim<X>(numbers: &mut VecDeque<u64>, live: &IndexMap<u64, X>, most: usize) -> usize
     ensures { SweepsFor live.now numbers.old.items numbers.new.items }
 {
