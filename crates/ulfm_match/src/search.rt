@@ -10,7 +10,6 @@ use std::collections::VecDeque;
 use ulfm_base::{Letter, Pattern};
 
 /// Whether the letter of a number is there, and the pattern admits it.
-#[inline(always)]
 fn is_admitted(kept: &IndexMap<u64, Letter>, number: u64, pattern: &Pattern) -> bool
     ensures { IsTrue result ↔ Passes (MayGet pattern.now) kept.now number }
 {
@@ -21,7 +20,6 @@ fn is_admitted(kept: &IndexMap<u64, Letter>, number: u64, pattern: &Pattern) -> 
 }
 
 /// Whether the receive of a number is there, and admits the letter.
-#[inline(always)]
 fn admits(waiting: &IndexMap<u64, Pattern>, number: u64, letter: &Letter) -> bool
     ensures { IsTrue result ↔ Passes (MayGoTo letter.now) waiting.now number }
 {
