@@ -1,6 +1,7 @@
 //! The entries of one key.
-ghost use Rattle.std.specs.Prelude.{◌≡◌, ◌↔◌, ◌∷◌, [], Contains, IsTrue, OnOk};
-ghost use Rattle.ulfm_match.specs.inside.Buckets.{SweepsFor, Grows, numbers_in};
+ghost use Rattle.std.specs.Prelude.{◌≡◌, ◌≢◌, ◌↔◌, ◌∷◌, [], Contains, IfSome, IsTrue, None, OnOk, nat_eq};
+ghost use Rattle.indexmap.specs.IndexMap.{get};
+ghost use Rattle.ulfm_match.specs.inside.Buckets.{Sweeps, SweepsFor, Grows, numbers_in};
 
 use indexmap::IndexMap;
 use std::alloc::Global;
@@ -36,6 +37,22 @@ fn trim<X>(numbers: &mut VecDeque<u64>, live: &IndexMap<u64, X>, most: usize) ->
         let _ = numbers.pop_front();
     }
     most
+}
+
+/// Drops a number from the front, where it stands there. Answers whether it does.
+fn pop_where(numbers: &mut VecDeque<u64>, number: u64) -> bool
+    ensures { Sweeps (λ n. n ≢ number) numbers.old.items numbers.new.items }
+{
+    match numbers.front() {
+        Some(front) => {
+            if *front != number {
+                return false;
+            }
+        }
+        None => return false,
+    }
+    let _ = numbers.pop_front();
+    true
 }
 
 /// Drops all numbers of entries that are gone.
@@ -85,15 +102,18 @@ impl Bucket {
         push(&mut self.rest, number)
     }
 
-    /// Whether the first of the numbers there is this one. So it is where none is given.
-    fn begins_with(&self, number: Option<u64>) -> bool {
-        let Some(number) = number else {
-            return true;
+    /// Drops a number from the front, where it stands there. Answers whether it does.
+    fn pop_where(&mut self, number: u64) -> bool
+        ensures { Sweeps (λ n. n ≢ number) (numbers_in self.old) (numbers_in self.new) }
+    {
+        let Some(first) = self.first else {
+            return pop_where(&mut self.rest, number);
         };
-        match self.first {
-            Some(first) => first == number,
-            None => self.rest.front().is_some_and(|front| *front == number),
+        if first != number {
+            return false;
         }
+        self.first = None;
+        true
     }
 
     /// Drops numbers of entries that are gone from the front, at most so many. Answers how many it dropped.
@@ -110,22 +130,30 @@ impl Bucket {
         trim(&mut self.rest, live, most.saturating_sub(1)).saturating_add(1)
     }
 
-    /// Notes that the entry of a number went, or many. What is gone goes from the front where the number stands there.
+    /// Notes that the entry of a number went, or many. The number goes where it stands at the front, and with it those after it that
+    /// are gone.
     fn trim_where<X>(&mut self, live: &IndexMap<u64, X>, went: Option<u64>)
+        requires { IfSome went (λ n. get nat_eq live.now n ≡ None) }
         ensures { SweepsFor live.now (numbers_in self.old) (numbers_in self.new) }
     {
-        let gone = self.gone.saturating_add(1);
-        if !self.begins_with(went) {
-            self.gone = gone;
+        let Some(number) = went else {
+            let _ = self.trim(live, 1);
+            return;
+        };
+        if !self.pop_where(number) {
+            self.gone = self.gone.saturating_add(1);
             return;
         }
-        let dropped = self.trim(live, gone);
-        self.gone = gone.saturating_sub(dropped);
+        if self.gone > 0 {
+            let dropped = self.trim(live, self.gone);
+            self.gone = self.gone.saturating_sub(dropped);
+        }
     }
 
     /// Notes that the entry of a number went, or many. The number goes at once from the front, and else once half of all are gone;
     /// those of many go at once.
     pub(crate) fn sweep<X>(&mut self, live: &IndexMap<u64, X>, went: Option<u64>)
+        requires { IfSome went (λ n. get nat_eq live.now n ≡ None) }
         ensures { SweepsFor live.now (numbers_in self.old) (numbers_in self.new) }
     {
         self.trim_where(live, went);

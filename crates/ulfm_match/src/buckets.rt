@@ -1,5 +1,6 @@
 //! The buckets of all keys.
-ghost use Rattle.std.specs.Prelude.{Bool, OnOk, Contains, ℕ};
+ghost use Rattle.std.specs.Prelude.{◌≡◌, ℕ, Bool, Contains, IfSome, None, OnOk, nat_eq};
+ghost use Rattle.indexmap.specs.IndexMap.{get};
 ghost use Rattle.ulfm_match.specs.inside.Buckets.{SweepsFor, Grows, numbers_at};
 ghost use Rattle.ulfm_match.specs.inside.Key.{key_at};
 
@@ -48,6 +49,7 @@ pub(crate) fn put_letter(
 
 /// Notes that the entry of a number went, which has this key, or many. A bucket that has none left goes too.
 pub(crate) fn forget<X>(buckets: &mut Buckets, key: u64, live: &IndexMap<u64, X>, went: Option<u64>)
+    requires { IfSome went (λ n. get nat_eq live.now n ≡ None) }
     ensures { (k : ℕ) → SweepsFor live.now (numbers_at buckets.old k) (numbers_at buckets.new k) }
 {
     if let Some(bucket) = buckets.get_mut(&key) {
@@ -81,6 +83,7 @@ pub(crate) fn forget_letter<X>(
     live: &IndexMap<u64, X>,
     number: u64,
 )
+    requires { get nat_eq live.now number ≡ None }
     ensures { (k : ℕ) → SweepsFor live.now (numbers_at buckets.old k) (numbers_at buckets.new k) }
 {
     let went = Some(number);
