@@ -1,6 +1,6 @@
 -- What becomes of the numbers in buckets.
-use Rattle.std.proofs.Common.{◌≡◌, ◌≢◌, ℕ, ◌≤◌, ◌⊎◌, inl, inr, List, [], ◌∷◌, ◌++◌, length, refl, ap, sym, ◌∙◌, subst, arith, Bool, true, false, cond, filter, Contains, Option, Some, None, Result, Ok, Err, OnOk, IsSome, is_some, nat_eq}
-use Rattle.ulfm_match.proofs.Common.{Contains-append_left, Contains-append_right, Contains-push_cases, Entries, get, Sweeps, Grows, FindsLeast, IsLesser, Rises, numbers_of, exact_unsigned_eq, Bucket}
+use Rattle.std.proofs.Common.{◌≡◌, ℕ, ◌≤◌, ◌⊎◌, inl, inr, List, [], ◌∷◌, ◌++◌, refl, ap, sym, ◌∙◌, subst, arith, Bool, true, false, cond, filter, Contains, Option, Some, None, Result, Ok, Err, OnOk, is_some, nat_eq}
+use Rattle.ulfm_match.proofs.Common.{Contains-append_left, Contains-append_right, Contains-push_cases, Sweeps, Grows, FindsLeast, IsLesser, Rises, numbers_of, exact_unsigned_eq, Bucket}
 use Rattle.std.specs.Option.{option_to_list}
 use Rattle.ulfm_match.proofs.Decide.{Contains-cons_cases, Contains-head, Contains-tail}
 use Rattle.ulfm_match.proofs.Members.{all_of, all_from, Contains-filter, filter-Contains}
@@ -12,10 +12,6 @@ module _ (L : ℕ → Type 0) where
 
   pub sweeps_both : (a b d : List ℕ) → Sweeps L a b → Sweeps L b d → Sweeps L a d
   sweeps_both a b d s t = record { keeps = λ n c l. t.keeps n (s.keeps n c l) l; from = λ n c. s.from n (t.from n c); rises = λ r. t.rises (s.rises r) }
-
-  pub sweeps_empty : (ns : List ℕ) → length ns ≡ 0 → Sweeps L ns []
-  sweeps_empty [] e = sweeps_none []
-  sweeps_empty (n ∷ ns) e = absurd (omega (arith, e))
 
   pub sweeps_filter : (test : ℕ → Bool) (ns : List ℕ) → ((n : ℕ) → L n → test n ≡ true) → Sweeps L ns (filter test ns)
   sweeps_filter test ns lives = record {
@@ -40,14 +36,6 @@ module _ (L : ℕ → Type 0) where
     from = λ m c. elim (Contains-cons_cases n ms m c) [ inl e ↦ subst (λ j. Contains (n ∷ ns) j) e (Contains-head n ns) | inr d ↦ Contains-tail n ns m (s.from m d) ];
     rises = λ r. (all_from (λ m. n ≤ m) ms (λ m c. all_of (λ m. n ≤ m) ns m r.0 (s.from m c)), s.rises r.1);
   }
-
--- fewer live
-pub sweeps_less : (L M : ℕ → Type 0) → ((n : ℕ) → L n → M n) → (ns ms : List ℕ) → Sweeps M ns ms → Sweeps L ns ms
-sweeps_less L M less ns ms s = record { keeps = λ n c l. s.keeps n c (less n l); from = s.from; rises = s.rises }
-
--- what lives isn't what is gone
-pub lives_not : {X : Type 0} (live : Entries X) (number : ℕ) → get nat_eq live number ≡ None → (n : ℕ) → IsSome (get nat_eq live n) → n ≢ number
-lives_not live number gone n l e = let s : IsSome (get nat_eq live number) = subst (λ j. IsSome (get nat_eq live j)) e l in cc
 
 module _ (n : ℕ) where
   -- the numbers after the first grow
