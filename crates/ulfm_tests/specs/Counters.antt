@@ -9,10 +9,10 @@ pub record Counts : Type 0 where
   pub counted : Bool
 
 -- one counter goes up by one, where it isn't at 2, and the other stays
-pub record CountsOn (old other new other_after : ℕ) (counted : Bool) : Type 0 where
-  pub new : new ≡ (if nat_lt old 2 then old + 1 else old)
-  pub other : other_after ≡ other
-  pub counted : counted ≡ nat_lt old 2
+pub record CountsOn (old other new other_after : ℕ) (did : Bool) : Type 0 where
+  pub goes_up : new ≡ (if nat_lt old 2 then old + 1 else old)
+  pub stays : other_after ≡ other
+  pub counted : did ≡ nat_lt old 2
 
 -- event 0 counts the first, and event 1 the second
 abbrev pub Leads : Counts → ℕ → Counts → Type 0
@@ -29,7 +29,7 @@ pub record IsAlike (s t : Counts) : Type 0 where
 pub record Tells (e : ℕ) (s : Counts) (row : List ℕ) : Type 0 where
   pub number : e < 2
   pub counted : IsTrue s.counted
-  pub row : row ≡ e ∷ s.first ∷ s.second ∷ []
+  pub is : row ≡ e ∷ s.first ∷ s.second ∷ []
 
 -- the whole: the counters are the key, and a final state tells 9
 abbrev pub counting : Graph Counts
