@@ -95,14 +95,19 @@ earlier step (Some order) = Ok (step, order)
 abbrev pub earlier_in : Asker → Reference → Result (ℕ × Order) Fault
 earlier_in asker reference = req_in asker.names asker.rank reference >>= (λ step. earlier step (slice_get asker.script step))
 
--- the conditions of one table: a step, and the words with which its answer may begin
-unfoldable pub conditions_of : Asker → List Clause → Members → Result (List Clause) Fault
-conditions_of asker before ms = do
+-- what one table of an `if` asks for: an earlier step, with its number, and words
+unfoldable pub asked_in : Asker → Members → Result ((ℕ × Order) × Items) Fault
+asked_in asker ms = do
   step_key ← required_reference (codes "step") ms
   words ← required as_array (get_member (codes "is") ms)
   keys ← only_keys (codes "step" ∷ codes "is" ∷ []) ms
   found ← earlier_in asker step_key
-  few_clauses (may_ask found.1) asker.rank asker.at found.0 before words
+  Ok (found, words)
+
+-- the conditions of one table: its step's answer may begin with one of its words
+abbrev pub conditions_of : Asker → List Clause → Members → Result (List Clause) Fault
+conditions_of asker before ms =
+    asked_in asker ms >>= (λ asked. few_clauses (may_ask asked.0.1) asker.rank asker.at asked.0.0 before asked.1)
 
 -- the conditions of what may be no table
 abbrev pub conditions_at : Asker → List Clause → Option Members → Result (List Clause) Fault

@@ -45,12 +45,14 @@ fn ends_word(text: &[u8]) -> bool
 pub fn begins(text: &[u8], words: &[u8]) -> bool
     ensures { result ≡ begins text.now words.now }
 {
-    for at in 0..words.len() {
-        if at >= text.len() || text[at] != words[at] {
-            return false;
+    let mut left = text;
+    for word in words {
+        match left.split_first() {
+            Some((byte, rest)) if *byte == *word => left = rest,
+            _ => return false,
         }
     }
-    ends_word(&text[words.len()..])
+    ends_word(left)
 }
 
 /// Whether one of two texts begins with the other.
@@ -60,13 +62,25 @@ fn begin_alike(text: &[u8], words: &[u8]) -> bool
     begins(text, words) || begins(words, text)
 }
 
+/// Whether the words and a text begin alike.
+fn is_alike_to(text: &str, words: &str) -> bool
+    ensures { result ≡ begin_alike text.now words.now }
+{
+    begin_alike(text.as_bytes(), words.as_bytes())
+}
+
+/// Whether the words and one of these texts begin alike.
+fn is_alike_to_one(texts: &[&str], words: &str) -> bool
+    ensures { result ≡ list_any (λ text. begin_alike text.now words.now) texts.now }
+{
+    texts.iter().any(|text| is_alike_to(text, words))
+}
+
 /// Whether the words and one of these texts begin alike.
 fn is_alike(texts: &[&str], words: &str) -> bool
     ensures { result ≡ is_alike (map (λ s. s.now) texts.now) words.now }
 {
-    texts
-        .iter()
-        .any(|text| begin_alike(text.as_bytes(), words.as_bytes()))
+    is_alike_to_one(texts, words)
 }
 
 /// Whether the words begin as an answer of the step does that isn't refused, where no receive is told over.

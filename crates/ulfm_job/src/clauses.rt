@@ -5,8 +5,8 @@ ghost use Rattle.toml.specs.View.{view, table_view, items_view};
 ghost use Rattle.ulfm_job.specs.JobText.{Gives, in_step};
 ghost use Rattle.ulfm_job.specs.Keys.{required};
 ghost use Rattle.ulfm_job.specs.Plan.{order_of};
-ghost use Rattle.ulfm_job.specs.inside.Reading.{map_ok, asked_in, asker_view, may_begin};
-ghost use Rattle.ulfm_job.specs.Reacting.{are_few, clauses_onto, few_clauses, earlier_in, conditions_of, conditions_onto, conditions_in, expected_in, words_in};
+ghost use Rattle.ulfm_job.specs.inside.Reading.{map_ok, asker_view, may_begin};
+ghost use Rattle.ulfm_job.specs.Reacting.{are_few, clauses_onto, few_clauses, earlier_in, asked_in, conditions_of, conditions_onto, conditions_in, expected_in, words_in};
 
 use crate::asker::Asker;
 use crate::begins::{may_ask, may_expect};
@@ -132,6 +132,7 @@ fn required_array<'a>(table: &'a Table, key: &str) -> Result<&'a [Value], Fault>
 }
 
 /// What one table of an `if` asks for.
+#[tactic(auto, unfolding(crate::specs::Reacting::asked_in))]
 fn asked_in<'a>(asker: &Asker<'_>, table: &'a Table) -> Result<(Earlier, &'a [Value]), Fault>
     ensures { map_ok (λ asked. ((asked.0.number, order_of asked.0.step), items_view asked.1.now)) result ≡ asked_in (asker_view asker.now) (table_view table.now) }
 {
@@ -143,7 +144,6 @@ fn asked_in<'a>(asker: &Asker<'_>, table: &'a Table) -> Result<(Earlier, &'a [Va
 }
 
 /// The conditions of one table, behind those that are there.
-#[tactic(auto, unfolding(crate::specs::Reacting::conditions_of))]
 fn push_table(clauses: &mut Vec<Clause>, asker: &Asker<'_>, table: &Table) -> Result<(), JobFault>
     ensures { Gives (λ _. clauses.new.items) result (in_step asker.now.place (conditions_of (asker_view asker.now) clauses.old.items (table_view table.now))) }
 {

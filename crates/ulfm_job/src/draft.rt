@@ -1,5 +1,5 @@
 //! What was read of the steps.
-ghost use Rattle.std.specs.Prelude.{◌≡◌, ◌+◌, ◌<◌, ◌≤◌, [], IfErr, IfOk, OnOk, codes, length, replicate};
+ghost use Rattle.std.specs.Prelude.{◌≡◌, ◌+◌, ◌<◌, ◌≤◌, [], ◌∷◌, ◌++◌, IfErr, IfOk, OnOk, codes, length, replicate, slice_index_or, slice_set};
 ghost use Rattle.toml.specs.Data.{get_member};
 ghost use Rattle.toml.specs.View.{view, table_view};
 ghost use Rattle.ulfm_job.specs.Job.{lists_of, step_count};
@@ -75,27 +75,48 @@ impl Draft {
         ensures counted { OnOk result (step_count (lists_of self.new.scripts.items) ≡ step_count (lists_of self.old.scripts.items) + 1) }
     {
         let rank = placed.rank;
-        let script = &self.scripts[rank as usize];
+        let script = self.scripts[rank as usize].as_slice();
+        let names = self.names.as_slice();
         let at = script.len() as u16;
-        let name = match name_at(self.names.as_slice(), rank, at, table) {
+        let name = match name_at(names, rank, at, table) {
             Ok(name) => name,
             Err(fault) => return Err(JobFault::InStep(fault, place)),
         };
         let asker = Asker {
             rank,
             at,
-            script: script.as_slice(),
-            names: self.names.as_slice(),
+            script,
+            names,
             place,
         };
         push_conditions(&mut self.conditions, &asker, table)?;
         push_expected(&mut self.expected, &asker, &placed.step, table)?;
-        if let Some(name) = name {
-            self.names.push(name)?;
-        }
-        self.scripts[rank as usize].push(placed.step)?;
+        push_name(&mut self.names, name)?;
+        push_step(&mut self.scripts, rank, &placed.step)?;
         Ok(())
     }
+}
+
+/// Names, and behind them one more where there is one.
+fn push_name(names: &mut Vec<Name>, name: Option<Name>) -> Result<(), JobFault>
+    ensures pushed { OnOk result (names.new.items ≡ name_behind names.old.items name) }
+    ensures memory { IfErr result (λ error. error ≡ JobFault.OutOfMemory) }
+{
+    if let Some(name) = name {
+        names.push(name)?;
+    }
+    Ok(())
+}
+
+/// One more step comes last in the script of its rank.
+fn push_step(scripts: &mut Vec<Vec<Step>>, rank: u8, step: &Step) -> Result<(), JobFault>
+    requires { rank < length scripts.old.items }
+    ensures pushed { OnOk result (lists_of scripts.new.items ≡ slice_set (lists_of scripts.old.items) rank (slice_index_or (lists_of scripts.old.items) rank [] ++ step.now ∷ [])) }
+    ensures each { OnOk result (length scripts.new.items ≡ length scripts.old.items) }
+    ensures memory { IfErr result (λ error. error ≡ JobFault.OutOfMemory) }
+{
+    scripts[rank as usize].push(*step)?;
+    Ok(())
 }
 
 /// The name of the step `at` of a rank, where it has one.

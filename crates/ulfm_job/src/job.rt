@@ -87,8 +87,9 @@ impl Job {
             return Err(JobFault::TooLarge);
         }
         let alloc = *self.scripts.allocator();
-        let len = self.script(rank).len();
-        let steps = stopped_at(alloc, self.script(rank), at)?;
+        let script = self.script(rank);
+        let len = script.len();
+        let steps = stopped_at(alloc, script, at)?;
         let conditions = moved_clauses(alloc, self.conditions.as_slice(), rank, at, len)?;
         let expected = moved_clauses(alloc, self.expected.as_slice(), rank, at, len)?;
         let Ok(mut scripts) = self.scripts.clone() else {

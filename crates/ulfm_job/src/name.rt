@@ -1,5 +1,6 @@
 //! Names of steps.
-ghost use Rattle.std.specs.Prelude.{◌≡◌, IfOk, MatchOption};
+ghost use Rattle.std.specs.Prelude.{◌≡◌};
+ghost use Rattle.std.specs.List.{list_all};
 ghost use Rattle.ulfm_job.specs.Reacting.{is_name, is_name_byte, named, is_called, name_in};
 
 use crate::fault::Fault;
@@ -47,7 +48,17 @@ fn is_name(text: &str) -> bool
     ensures { result ≡ is_name text.now }
 {
     let bytes = text.as_bytes();
-    0 < bytes.len() && bytes.len() <= MOST_NAME && bytes.iter().all(|byte| is_name_byte(*byte))
+    if bytes.is_empty() || bytes.len() > MOST_NAME {
+        return false;
+    }
+    are_name_bytes(bytes)
+}
+
+/// Whether each byte may stand in a name.
+fn are_name_bytes(bytes: &[u8]) -> bool
+    ensures { result ≡ list_all is_name_byte bytes.now }
+{
+    bytes.iter().all(|byte| is_name_byte(*byte))
 }
 
 /// The name of the step `at` of a rank, which no earlier one of that rank has.

@@ -1,20 +1,17 @@
 -- What is read of a job's text, without the form that it has in memory.
-use Rattle.std.specs.Prelude.{ℕ, Bool, List, [], ◌∷◌, ◌++◌, Option, Some, None, Result, Ok, Err, ◌<◌, ◌≤◌, map, codes, if◌then◌else◌}
-use Rattle.toml.specs.Data.{Items, Members, get_member, as_array}
+use Rattle.std.specs.Prelude.{ℕ, Bool, List, [], ◌∷◌, ◌++◌, Option, Some, None, Result, Ok, Err, ◌<◌, ◌≤◌, map, if◌then◌else◌}
 use Rattle.toml.specs.View.{items_view}
 use Rattle.ulfm_job.specs.declared.head.Head.{Head as Coded}
 use Rattle.ulfm_job.specs.JobText.{Head, Draft}
 use Rattle.ulfm_job.specs.Begins.{may_ask, may_expect}
 use Rattle.ulfm_job.specs.Job.{lists_of}
-use Rattle.ulfm_job.specs.Keys.{◌>>=◌, required, only_keys}
-use Rattle.ulfm_job.specs.Reacting.{Asker, earlier_in, required_reference}
+use Rattle.ulfm_job.specs.Reacting.{Asker}
 use Rattle.ulfm_job.specs.declared.asker.Asker.{Asker as CodedAsker}
 use Rattle.ulfm_job.specs.declared.draft.Draft.{Draft as CodedDraft}
-use Rattle.ulfm_job.specs.declared.fault.Fault.{Fault}
 use Rattle.ulfm_job.specs.declared.name.Name.{Name}
 use Rattle.ulfm_job.specs.declared.step.Step.{Step}
 use Rattle.ulfm_job.specs.declared.placed.Placed.{Placed}
-use Rattle.ulfm_job.specs.Plan.{Order, PlannedStep, order_of}
+use Rattle.ulfm_job.specs.Plan.{PlannedStep, order_of}
 
 -- a result, its value seen by view
 abbrev pub map_ok : {X Y E : Type 0} → (X → Y) → Result X E → Result Y E
@@ -45,15 +42,6 @@ asker_view a = record { rank = a.rank; at = a.at; script = map order_of a.script
 -- words fit an answer of a step, of a condition or of what is expected
 abbrev pub may_begin : Bool → Step → List ℕ → Bool
 may_begin is_condition asked = if is_condition then may_ask (order_of asked) else may_expect (order_of asked)
-
--- what one table of an `if` asks for
-unfoldable pub asked_in : Asker → Members → Result ((ℕ × Order) × Items) Fault
-asked_in asker ms = do
-  step_key ← required_reference (codes "step") ms
-  words ← required as_array (get_member (codes "is") ms)
-  keys ← only_keys (codes "step" ∷ codes "is" ∷ []) ms
-  found ← earlier_in asker step_key
-  Ok (found, words)
 
 -- what was read of the steps, as it is kept
 abbrev pub draft_view : CodedDraft → Draft
