@@ -1,9 +1,9 @@
 -- The conditions and the expectations of a step, one after the other, and its name.
-use Rattle.std.proofs.Common.{◌≡◌, ℕ, zero, suc, ◌+◌, ◌<◌, ◌≤◌, ◌==◌, List, [], ◌∷◌, ◌++◌, length, map, get_or, drop, replicate, ltb, leb, Bool, true, false, ◌&&◌, Option, Some, None, Result, Ok, Err, refl, sym, ap, ◌∙◌, arith}
+use Rattle.std.proofs.Common.{◌≡◌, ℕ, zero, suc, ◌+◌, ◌<◌, ◌≤◌, ◌==◌, List, [], ◌∷◌, ◌++◌, length, map, get_or, drop, replicate, ltb, leb, Bool, true, false, ◌&&◌, Some, None, Result, Ok, Err, refl, ap, ◌∙◌, arith}
 use Rattle.std.proofs.lemmas.List.{drop_all, at_drop_more}
 use Rattle.toml.specs.Data.{Members, as_str, as_table}
 use Rattle.toml.proofs.Views.{items_view-drop}
-use Rattle.ulfm_job.proofs.Common.{Clause, JobFault, Step, Value, view, items_view, list_all, lists_of, nat_tests, order_of, ◌>>=◌}
+use Rattle.ulfm_job.proofs.Common.{Clause, JobFault, Value, view, items_view, list_all, lists_of, nat_tests, order_of, ◌>>=◌}
 use Rattle.ulfm_job.proofs.Scripts.{orders-empty}
 use Rattle.ulfm_job.specs.Begins.{begins}
 use Rattle.ulfm_job.specs.JobText.{blank, in_step}

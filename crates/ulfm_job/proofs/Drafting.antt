@@ -1,13 +1,13 @@
 -- One more step of a draft.
-use Rattle.std.proofs.Common.{◌≡◌, ℕ, ◌+◌, ◌<◌, ◌≤◌, List, [], ◌∷◌, ◌++◌, length, map, set, get_or, slice_index_or, Result, Ok, Err, Vec, Global, refl, sym, ap, ◌∙◌, arith}
+use Rattle.std.proofs.Common.{◌≡◌, ℕ, ◌+◌, ◌<◌, ◌≤◌, List, [], ◌∷◌, ◌++◌, length, map, set, get_or, slice_index_or, Ok, Err, Vec, Global, refl, sym, ap, ◌∙◌, arith}
 use Rattle.std.proofs.lemmas.List.{length-map, length_push, get_or-map}
 use Rattle.toml.specs.Data.{Members, get_member}
 use Rattle.std.specs.Prelude.{codes}
 use Rattle.ulfm_job.proofs.Asking.{in_step-err}
-use Rattle.ulfm_job.proofs.Common.{Clause, Draft, JobFault, Name, Order, Step, lists_of, order_of, step_count}
+use Rattle.ulfm_job.proofs.Common.{Clause, JobFault, Name, Order, Step, lists_of, order_of, step_count}
 use Rattle.ulfm_job.proofs.Rounds.{one_of_all}
 use Rattle.ulfm_job.proofs.Scripts.{orders-put, step_count-set}
-use Rattle.ulfm_job.specs.JobText.{drafted, in_step, placed_in}
+use Rattle.ulfm_job.specs.JobText.{drafted, in_step}
 use Rattle.ulfm_job.specs.Reacting.{conditions_in, expected_in, names_in}
 use Rattle.ulfm_job.specs.declared.draft.Draft.{Draft as CodedDraft}
 use Rattle.ulfm_job.specs.declared.fault.Fault.{Fault}
@@ -75,7 +75,7 @@ unfolding drafted
 one-more d new r at script names more conditions expected x ms h inside named asked wanted grown n c e =
     let long : length (lists_of d.scripts.items) ≡ length d.scripts.items = length-map d.scripts.items (λ (v : Vec Step Global). v.items) in
     let put : map (map order_of) (lists_of new.scripts.items) ≡ set (map (map order_of) (lists_of d.scripts.items)) r (slice_index_or (map (map order_of) (lists_of d.scripts.items)) r [] ++ order_of x ∷ []) =
-      ap (map (map order_of)) grown ∙ orders-put (lists_of d.scripts.items) r x (omega (arith, inside, long)) in
+    ap (map (map order_of)) grown ∙ orders-put (lists_of d.scripts.items) r x (omega (arith, inside, long)) in
     rw (put, n, c, e, h.orders, length-map script order_of, ← h.number, ← h.known, ← named, asked, wanted) refl
 
 -- how many steps there are then

@@ -1,7 +1,7 @@
 -- The steps of an array, one after the other.
 use Rattle.std.proofs.Common.{◌≡◌, ℕ, ◌+◌, ◌<◌, ◌≤◌, List, [], ◌∷◌, length, get_or, drop, Bool, cond, ◌&&◌, Option, Some, is_some, Result, Ok, Err, refl, sym, ap, ◌∙◌, arith}
 use Rattle.std.proofs.lemmas.List.{drop_all}
-use Rattle.ulfm_job.proofs.Common.{Value, view, items_view, JobFault, Draft, items_len, ◌>>=◌, list_all}
+use Rattle.ulfm_job.proofs.Common.{Value, view, items_view, JobFault, Draft, items_len, list_all}
 use Rattle.toml.specs.Data.{Data, as_table, as_array}
 use Rattle.toml.proofs.Views.{items_view-drop}
 use Rattle.ulfm_job.specs.declared.fault.Fault.TheVariants.{BadKey}

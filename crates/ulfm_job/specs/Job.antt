@@ -102,8 +102,3 @@ is_agreement_step _ = false
 -- how many steps of a script are agreements
 abbrev pub agreements_in : List Step → ℕ
 agreements_in script = length (filter is_agreement_step script)
-
--- a script up to and with its first stop, or the whole of it
-abbrev pub through_stop : List Step → List Step
-through_stop [] = []
-through_stop (x ∷ xs) = if is_stop_step x then x ∷ [] else x ∷ through_stop xs

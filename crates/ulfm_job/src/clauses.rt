@@ -148,7 +148,14 @@ fn push_table(clauses: &mut Vec<Clause>, asker: &Asker<'_>, table: &Table) -> Re
     ensures { Gives (λ _. clauses.new.items) result (in_step asker.now.place (conditions_of (asker_view asker.now) clauses.old.items (table_view table.now))) }
 {
     match asked_in(asker, table) {
-        Ok((earlier, words)) => push_few(clauses, true, &earlier.step, asker, earlier.number, words),
+        Ok((earlier, words)) => push_few(
+            clauses,
+            true,
+            &earlier.step,
+            asker,
+            earlier.number,
+            words,
+        ),
         Err(fault) => Err(JobFault::InStep(fault, asker.place)),
     }
 }

@@ -61,13 +61,14 @@ impl Job {
         requires most { turns ≤ 10000000 }
         ensures { result ≡ with_turns turns self }
     {
-        Job::new(
-            self.capacity,
-            turns,
-            self.scripts,
-            self.conditions,
-            self.expected,
-        )
+        let Job {
+            capacity,
+            turns: _,
+            scripts,
+            conditions,
+            expected,
+        } = self;
+        Job::new(capacity, turns, scripts, conditions, expected)
     }
 
     /// The job with one more step, a stop, before the step `at` of a rank, or after its last one. Later steps have a number more,
@@ -96,13 +97,7 @@ impl Job {
             return Err(JobFault::OutOfMemory);
         };
         scripts[rank as usize] = steps;
-        Ok(Job::new(
-            self.capacity,
-            self.turns,
-            scripts,
-            conditions,
-            expected,
-        ))
+        Ok(Job::new(self.capacity, self.turns, scripts, conditions, expected))
     }
 
     /// How many ranks there are, 1 to 8. Each has a script.

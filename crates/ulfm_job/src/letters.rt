@@ -28,7 +28,12 @@ pub fn send_of(ranks: u8, table: &Table) -> Result<Placed, Fault>
     let tag = required_number(table, "tag")?;
     let body = required_text(table, "body")?;
     let comm = optional_number(table, "comm")?;
-    only_keys(table, &["op", "rank", "name", "if", "expect", "to", "tag", "body", "comm"])?;
+    only_keys(
+        table,
+        &[
+            "op", "rank", "name", "if", "expect", "to", "tag", "body", "comm",
+        ],
+    )?;
     let rank = rank_in(ranks, rank)?;
     let to = to_in(to)?;
     let tag = tag_in(tag)?;
@@ -57,7 +62,12 @@ pub fn recv_of(ranks: u8, table: &Table) -> Result<Placed, Fault>
     let tag = optional_number(table, "tag")?;
     let room = optional_number(table, "room")?;
     let comm = optional_number(table, "comm")?;
-    only_keys(table, &["op", "rank", "name", "if", "expect", "from", "tag", "room", "comm"])?;
+    only_keys(
+        table,
+        &[
+            "op", "rank", "name", "if", "expect", "from", "tag", "room", "comm",
+        ],
+    )?;
     let rank = rank_in(ranks, rank)?;
     let from = from_if_some(from)?;
     let tag = tag_if_some(tag)?;
@@ -103,7 +113,10 @@ pub fn probe_of(ranks: u8, table: &Table) -> Result<Placed, Fault>
     let from = optional_number(table, "from")?;
     let tag = optional_number(table, "tag")?;
     let comm = optional_number(table, "comm")?;
-    only_keys(table, &["op", "rank", "name", "if", "expect", "from", "tag", "comm"])?;
+    only_keys(
+        table,
+        &["op", "rank", "name", "if", "expect", "from", "tag", "comm"],
+    )?;
     let rank = rank_in(ranks, rank)?;
     let from = from_if_some(from)?;
     let tag = tag_if_some(tag)?;
@@ -124,7 +137,10 @@ pub fn mrecv_of(ranks: u8, names: &[Name], table: &Table) -> Result<Placed, Faul
     let rank = required_number(table, "rank")?;
     let req = required_reference(table, "req")?;
     let room = optional_number(table, "room")?;
-    only_keys(table, &["op", "rank", "name", "if", "expect", "req", "room"])?;
+    only_keys(
+        table,
+        &["op", "rank", "name", "if", "expect", "req", "room"],
+    )?;
     let rank = rank_in(ranks, rank)?;
     let req = req_in(names, rank, &req)?;
     let room = room_in(room)?;

@@ -40,7 +40,10 @@ fn ack_of(ranks: u8, table: &Table) -> Result<Placed, Fault>
     let rank = required_number(table, "rank")?;
     let count = required_number(table, "count")?;
     let comm = optional_number(table, "comm")?;
-    only_keys(table, &["op", "rank", "name", "if", "expect", "count", "comm"])?;
+    only_keys(
+        table,
+        &["op", "rank", "name", "if", "expect", "count", "comm"],
+    )?;
     let rank = rank_in(ranks, rank)?;
     let count = in_range(count, 0, 8)? as u8;
     let comm = comm_in(comm)?;
@@ -110,7 +113,10 @@ fn agree_of(ranks: u8, table: &Table) -> Result<Placed, Fault>
     let rank = required_number(table, "rank")?;
     let flag = required_number(table, "flag")?;
     let comm = optional_number(table, "comm")?;
-    only_keys(table, &["op", "rank", "name", "if", "expect", "flag", "comm"])?;
+    only_keys(
+        table,
+        &["op", "rank", "name", "if", "expect", "flag", "comm"],
+    )?;
     let rank = rank_in(ranks, rank)?;
     let flag = flag_in(flag)?;
     let comm = comm_in(comm)?;

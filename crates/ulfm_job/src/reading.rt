@@ -69,13 +69,7 @@ fn job_of(alloc: Global, table: &Table) -> Result<Job, JobFault>
         conditions,
         expected,
     } = draft;
-    Ok(Job::new(
-        head.capacity,
-        head.turns,
-        scripts,
-        conditions,
-        expected,
-    ))
+    Ok(Job::new(head.capacity, head.turns, scripts, conditions, expected))
 }
 
 /// What the steps are, in the order of the file.

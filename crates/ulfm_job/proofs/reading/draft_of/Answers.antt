@@ -1,4 +1,4 @@
-use Rattle.std.proofs.Common.{◌+◌, sym, ap, ◌∙◌}
+use Rattle.std.proofs.Common.{◌+◌, ap, ◌∙◌}
 use Rattle.std.proofs.lemmas.Result.{err_from_is_err_and}
 use Rattle.ulfm_job.proofs.Steps.{goes_on, ends, is_done}
 use Rattle.ulfm_job.specs.inside.Reading.{draft_view}
@@ -11,10 +11,10 @@ returns-in_err-read-clause-exact c =
 
 pub loop-place-preserved : goal.loop-place-preserved
 loop-place-preserved c = (
-    goes_on c.args.ranks c.loop-place.place (draft_view c.loop-place.draft) _ c.args.values.now _ _ c.loop-place-test.true c.index-values-place.is c.in_ok-read.ensures.exact c.loop-place.invariant.0,
-    c.in_ok-read.ensures.each,
-    c.in_ok-read.ensures.counted ∙ ap (λ n. n + 1) c.loop-place.invariant.2,
-  )
+  goes_on c.args.ranks c.loop-place.place (draft_view c.loop-place.draft) _ c.args.values.now _ _ c.loop-place-test.true c.index-values-place.is c.in_ok-read.ensures.exact c.loop-place.invariant.0,
+  c.in_ok-read.ensures.each,
+  c.in_ok-read.ensures.counted ∙ ap (λ n. n + 1) c.loop-place.invariant.2,
+)
 
 pub returns-clause-exact : goal.returns-clause-exact
 returns-clause-exact c = is_done c.args.ranks c.loop-place.place (draft_view c.loop-place.draft) c.args.values.now _ c.loop-place-test.false c.loop-place.invariant.0
