@@ -1,9 +1,9 @@
 -- What a poll moves at a player, and what falls with it.
 use Rattle.std.proofs.Common.{◌≡◌, ℕ, ◌^◌, ◌<◌, ◌≤◌, Bool, false, List, length, refl, ap, sym, ◌∙◌, arith, inl, inr, ◌⊎◌, Option, Some, None, MatchOption, slice_get}
 use Rattle.ulfm_job.specs.Job.{Seen, IsJob, script_at, is_stop_step}
-use Rattle.ulfm_script.proofs.Common.{is_stopped, Shrink, Agree, State, Step, StepAnswer, StepReport, Unfinished, Skipped, SkipsStep, Wait, Player, AnswersStep, StaysOpen, awaits_decision, IsCalled, GivesUpStep, PollAnswers, PollOpens, with_rank, answered, polled, step_report, FollowsSoFar, polls_left, same_Some, slice_get_within}
-use Rattle.ulfm_script.specs.Script.{plays_stop, IsPolled, IsPatient}
-use Rattle.ulfm_script.proofs.Polls.{Adds, adds_same, answers_add, opens_add, opens_go_on, stopped-adds}
+use Rattle.ulfm_script.proofs.Common.{is_stopped, Shrink, Agree, State, Step, StepAnswer, StepReport, Unfinished, Wait, Player, AnswersStep, StaysOpen, awaits_decision, IsCalled, GivesUpStep, PollAnswers, PollOpens, with_rank, answered, polled, step_report, FollowsSoFar, polls_left, same_Some, slice_get_within}
+use Rattle.ulfm_script.specs.Script.{IsPolled, IsPatient}
+use Rattle.ulfm_script.proofs.Polls.{Adds, answers_add, opens_add, opens_go_on, stopped-adds}
 use Rattle.ulfm_script.proofs.Progress.{closed, follows-closed, follows-polled, left-closed, left_polled, polls_small}
 
 -- what a player has before a poll of its next step
@@ -32,26 +32,13 @@ pub record Advances (script : List Step) (turns : ℕ) (old new : Player) : Type
   pub adds : Adds old.rank stops new.rank
 
 -- an answered step
-pub advance-closed : (script : List Step) (turns : ℕ) (old : Player) (r : State) (x : StepReport) → Ready script turns old x.step → Adds old.rank (plays_stop x) r → IsPatient turns x → Advances script turns old (closed old r x)
+pub advance-closed : (script : List Step) (turns : ℕ) (old : Player) (r : State) (x : StepReport) → Ready script turns old x.step → Adds old.rank (is_stop_step x.step) r → IsPatient turns x → Advances script turns old (closed old r x)
 advance-closed script turns old r x h adds patient = record {
-  follows = follows-closed script turns old r x h.follows h.running h.next (stopped-adds old.rank (plays_stop x) r h.running adds) patient;
+  follows = follows-closed script turns old r x h.follows h.running h.next (stopped-adds old.rank (is_stop_step x.step) r h.running adds) patient;
   falls = left-closed script turns old r x h.few h.inside;
-  stops = plays_stop x;
+  stops = is_stop_step x.step;
   adds = adds;
 }
-
--- a step that wasn't skipped is a stop that was played where it is a stop
-pub played-stop : (asked : Step) (answer : StepAnswer) (at polls : ℕ) → (answer ≡ Skipped → ⊥) → plays_stop (step_report asked answer at polls) ≡ is_stop_step asked
-played-stop asked Skipped at polls h = absurd (h refl)
-played-stop asked _ at polls h = and-true (is_stop_step asked)
-
--- a poll doesn't skip its step
-not_skipped : (done : List StepReport) (r : State) (asked : Step) (answer : StepAnswer) (new : State) → AnswersStep done r asked answer new → answer ≡ Skipped → ⊥
-not_skipped done r asked answer new h e = none asked (rw e at h)
-  where
-    none : (s : Step) → AnswersStep done r s Skipped new → ⊥
-    none (Wait req) h = h
-    none _ h = h
 
 -- a poll doesn't give its step up
 not_given_up : (done : List StepReport) (r : State) (asked : Step) (answer : StepAnswer) (new : State) → AnswersStep done r asked answer new → answer ≡ Unfinished → ⊥
@@ -61,14 +48,13 @@ not_given_up done r asked answer new h e = none asked (rw e at h)
     none (Wait req) h = h
     none _ h = h
 
-pub polled_in_time : (turns polls : ℕ) (answer : StepAnswer) → (answer ≡ Unfinished → ⊥) → (answer ≡ Skipped → ⊥) → polls < turns → IsPolled turns answer polls
-polled_in_time turns polls Unfinished h k few = absurd (h refl)
-polled_in_time turns polls Skipped h k few = absurd (k refl)
-polled_in_time turns polls _ h k few = few
+pub polled_in_time : (turns polls : ℕ) (answer : StepAnswer) → (answer ≡ Unfinished → ⊥) → polls < turns → IsPolled turns answer polls
+polled_in_time turns polls Unfinished h few = absurd (h refl)
+polled_in_time turns polls _ h few = few
 
 advance-answers : (script : List Step) (turns : ℕ) (old : Player) (asked : Step) (new : Player) → Ready script turns old asked → PollAnswers old asked new → Advances script turns old new
 advance-answers script turns old asked new h a =
-    rw a.only (advance-closed script turns old a.rank (step_report asked a.answer (length old.rank.log) old.polls) h (rw (played-stop asked a.answer (length old.rank.log) old.polls (not_skipped old.done old.rank asked a.answer a.rank a.answers)) (answers_add old.done old.rank asked a.answer a.rank h.running a.answers)) (polled_in_time turns old.polls a.answer (not_given_up old.done old.rank asked a.answer a.rank a.answers) (not_skipped old.done old.rank asked a.answer a.rank a.answers) h.few))
+    rw a.only (advance-closed script turns old a.rank (step_report asked a.answer (length old.rank.log) old.polls) h (answers_add old.done old.rank asked a.answer a.rank h.running a.answers) (polled_in_time turns old.polls a.answer (not_given_up old.done old.rank asked a.answer a.rank a.answers) h.few))
 
 advance-polled : (script : List Step) (turns : ℕ) (old : Player) (r : State) (asked : Step) (at : ℕ) → turns < 2 ^ 32 → Ready script turns old asked → Adds old.rank false r → (polled (with_rank old r) asked at).polls < turns → Advances script turns old (polled (with_rank old r) asked at)
 advance-polled script turns old r asked at counted h adds few = record {
@@ -77,12 +63,6 @@ advance-polled script turns old r asked at counted h adds few = record {
   stops = false;
   adds = adds;
 }
-
--- a step that is skipped
-pub advance-skipped : (script : List Step) (turns : ℕ) (old : Player) (asked : Step) (new : Player) → Ready script turns old asked → SkipsStep old asked new → Advances script turns old new
-advance-skipped script turns old asked new h s =
-    let none : old.polls ≡ 0 = rw s.none_open at h.follows.current in
-    rw s.only (advance-closed script turns old old.rank (step_report asked Skipped (length old.rank.log) old.polls) h (rw (and-false (is_stop_step asked)) (adds_same old.rank old.rank refl)) none)
 
 -- one poll that is answered, or leaves the step open with polls to spare
 pub advance-called : (script : List Step) (turns : ℕ) (old : Player) (asked : Step) (new : Player) → turns < 2 ^ 32 → Ready script turns old asked → IsCalled old asked new → (new.current ≡ None) ⊎ (new.polls < turns) → Advances script turns old new
@@ -105,7 +85,7 @@ advance-opens script turns old asked mid new counted h o left last =
     let all : (polled (with_rank old o.rank) asked (length old.rank.log)).polls ≡ turns = omega (arith, last, ap (λ (p : Player). p.polls) o.only, h.few, counted) in
     let adds : Adds old.rank false o.rank = opens_add (awaits_decision old.current) old.done old.rank asked o.rank o.stays in
     let goes : is_stop_step asked ≡ false = goes_on script turns (length old.done) old.polls old.current old.done old.rank asked o.rank h.follows.current h.next o.stays in
-    rw now (advance-closed script turns old o.rank (step_report asked Unfinished (length old.rank.log) (polled (with_rank old o.rank) asked (length old.rank.log)).polls) h (rw (played-stop asked Unfinished (length old.rank.log) (polled (with_rank old o.rank) asked (length old.rank.log)).polls (λ e. cc), goes) adds) all)
+    rw now (advance-closed script turns old o.rank (step_report asked Unfinished (length old.rank.log) (polled (with_rank old o.rank) asked (length old.rank.log)).polls) h (rw goes adds) all)
 
 -- a poll that leaves the step open, which is then given up
 pub advance-left : (script : List Step) (turns : ℕ) (old : Player) (asked : Step) (mid new : Player) (s : Step) → turns < 2 ^ 32 → Ready script turns old asked → IsCalled old asked mid → mid.current ≡ Some s → GivesUpStep mid new → turns ≤ mid.polls → Advances script turns old new

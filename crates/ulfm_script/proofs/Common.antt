@@ -22,10 +22,10 @@ pub use Rattle.ulfm_rank.specs.declared.entry.Entry.TheVariants.{Adopted, Entere
 pub use Rattle.ulfm_script.specs.Answered.{AnswersFollow, EntersBetween, IsTook, OnlyTook, StoodAt}
 pub use Rattle.ulfm_script.specs.Deciding.{AnswersAdoption, Known, topic_of}
 pub use Rattle.ulfm_script.specs.Calls.{AnswersProbe, Cancels, Receives, AnswersStep, LeavesOpen, Tests, AnswersRecv, AnswersWait, AnswersCancel, AnswersMrecv, comm_of, entered_by, entry_checks, EntersBy, request_at, tested}
-pub use Rattle.ulfm_script.specs.Player.{Player, step_report, GivesUpStep, SkipsStep, IsCalled, IsFree, PollAnswers, PollOpens, StaysOpen, View, answered, awaits_decision, is_joint, polled, start_player, with_rank}
+pub use Rattle.ulfm_script.specs.Player.{Player, step_report, GivesUpStep, IsCalled, IsFree, PollAnswers, PollOpens, StaysOpen, View, answered, awaits_decision, is_joint, polled, start_player, with_rank}
 pub use Rattle.ulfm_script.specs.Report.{Report}
 pub use Rattle.ulfm_script.specs.declared.answer.StepAnswer.{StepAnswer}
-pub use Rattle.ulfm_script.specs.declared.answer.StepAnswer.TheVariants.{Refused, Skipped, Unfinished}
+pub use Rattle.ulfm_script.specs.declared.answer.StepAnswer.TheVariants.{Refused, Unfinished}
 pub use Rattle.ulfm_script.specs.declared.answer.StepReport.{StepReport}
 pub use Rattle.ulfm_script.specs.inside.SoFar.{AnswersFollowSoFar, Learns, Since, Stands, StandsOpen}
 pub use Rattle.std.proofs.lemmas.Bool.{cases_eq, eq-eqb, false≢true, not-false}

@@ -2,10 +2,10 @@
 use Rattle.std.proofs.Common.{◌≡◌, ℕ, ◌<◌, false, List, length, refl, sym, ◌∙◌, inl, inr, Option, Some, slice_get}
 use Rattle.ulfm_rank.specs.State.{State, IsState}
 use Rattle.ulfm_job.specs.Job.{decides_on}
-use Rattle.ulfm_script.proofs.Common.{Adopted, Context, Topic, Decision, is_stop_step, is_stopped, Player, Refused, Shrink, Agree, Step, step_report, StepAnswer, Skipped, Unfinished, FollowsSoFar, OutOfMemory, slice_get_within, Quiet, none-some}
+use Rattle.ulfm_script.proofs.Common.{Adopted, Context, Topic, Decision, is_stop_step, is_stopped, Player, Refused, Shrink, Agree, Step, step_report, StepAnswer, Unfinished, FollowsSoFar, OutOfMemory, slice_get_within, Quiet, none-some}
 use Rattle.ulfm_script.specs.Deciding.{Known, AnswersAdoption, AnswersDecision, IsDecided}
 use Rattle.ulfm_script.proofs.Polls.{Adds, adds_same, adds_one, adoption_adds, quiet-adds}
-use Rattle.ulfm_script.proofs.Advance.{Ready, Advances, advance-closed, played-stop, polled_in_time}
+use Rattle.ulfm_script.proofs.Advance.{Ready, Advances, advance-closed, polled_in_time}
 
 -- a decision adds its adoption at most
 pub decision_adds : (board : Option (List ℕ)) (known later : Known) (r : State) (asked : Step) (answer : StepAnswer) (new : State) → AnswersDecision board known later r asked answer new → Adds r false new
@@ -38,23 +38,6 @@ decision_ends board known later r asked answer new h e = elim h.outcome [
       bad
 ]
 
--- nor skip it
-adoption_plays : (r : State) (asked : Step) (topic : Topic) (held : Decision) (answer : StepAnswer) (new : State) → AnswersAdoption r asked topic held answer new → answer ≡ Skipped → ⊥
-adoption_plays r asked topic held answer new h e = none asked (rw e at h)
-  where
-    none : (s : Step) → AnswersAdoption r s topic held Skipped new → ⊥
-    none (Shrink comm) h = h
-    none _ h = h
-
-decision_plays : (board : Option (List ℕ)) (known later : Known) (r : State) (asked : Step) (answer : StepAnswer) (new : State) → AnswersDecision board known later r asked answer new → answer ≡ Skipped → ⊥
-decision_plays board known later r asked answer new h e = elim h.outcome [
-  | inl adopts ↦ adoption_plays r asked h.topic adopts.held answer new adopts.adoption e
-  | inr starves ↦
-      let both : Refused OutOfMemory ≡ Skipped = sym starves.refused ∙ e in
-      let bad : ⊥ = cc in
-      bad
-]
-
 -- the step that stands open comes next, and has a poll to spare
 pub ready-decided : (script : List Step) (turns : ℕ) (p : Player) (asked : Step) → FollowsSoFar script turns p → is_stopped p.rank.log ≡ false → p.current ≡ Some asked → Ready script turns p asked
 ready-decided script turns p asked h running current =
@@ -71,7 +54,7 @@ ready-decided script turns p asked h running current =
 pub advance-decided : (script : List Step) (turns : ℕ) (old : Player) (comm : Context) (board : Option (List ℕ)) (known later : Known) (new : Player) → ((asked : Step) → old.current ≡ Some asked → Ready script turns old asked) → IsDecided old comm board known new later → Advances script turns old new
 advance-decided script turns old comm board known later new h d =
     let ready : Ready script turns old d.asked = h d.asked d.waits in
-    rw d.only (advance-closed script turns old d.rank (step_report d.asked d.answer (length old.rank.log) old.polls) ready (rw (played-stop d.asked d.answer (length old.rank.log) old.polls (decision_plays board known later old.rank d.asked d.answer d.rank d.decision)) (joint-adds d.asked comm d.on (decision_adds board known later old.rank d.asked d.answer d.rank d.decision))) (polled_in_time turns old.polls d.answer (decision_ends board known later old.rank d.asked d.answer d.rank d.decision) (decision_plays board known later old.rank d.asked d.answer d.rank d.decision) ready.few))
+    rw d.only (advance-closed script turns old d.rank (step_report d.asked d.answer (length old.rank.log) old.polls) ready (joint-adds d.asked comm d.on (decision_adds board known later old.rank d.asked d.answer d.rank d.decision)) (polled_in_time turns old.polls d.answer (decision_ends board known later old.rank d.asked d.answer d.rank d.decision) ready.few))
   where
     joint-adds : (asked : Step) (on : Context) → decides_on asked ≡ Some on → Adds old.rank false d.rank → Adds old.rank (is_stop_step asked) d.rank
     joint-adds (Shrink comm) on h adds = adds

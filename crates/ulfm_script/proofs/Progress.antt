@@ -1,8 +1,9 @@
 -- A player that goes on through its script.
 use Rattle.std.proofs.Common.{◌≡◌, ℕ, ◌+◌, ◌-◌, ◌*◌, ◌^◌, ◌<◌, ◌≤◌, min, Bool, true, false, cond, List, [], ◌∷◌, ◌++◌, length, map, refl, ap, sym, ◌∙◌, arith, append_assoc, length-append, inl, inr, ◌⊎◌, Option, Some, None, MatchOption, slice_get}
 use Rattle.std.proofs.lemmas.List.{map_push, length-map}
+use Rattle.ulfm_job.specs.Job.{is_stop_step, through_stop}
 use Rattle.ulfm_script.proofs.Common.{All-nil, All-push, is_stopped, same_Some, State, Step, StepReport, false≢true, Player, with_rank, polled, IsFree, start_player, has_stop, FollowsSoFar, polls_left}
-use Rattle.ulfm_script.specs.Script.{plays_stop, reported_step, steps_done, through_stop, IsPatient}
+use Rattle.ulfm_script.specs.Script.{reported_step, steps_done, IsPatient}
 
 split_next : (xs rest script : List Step) (s : Step) → xs ++ rest ≡ script → slice_get script (length xs) ≡ Some s → (more : List Step) × (rest ≡ s ∷ more)
 split_next xs rest script s e h = next xs rest s (rw e h)
@@ -16,23 +17,22 @@ stop_one : (b c d : Bool) → (c ≡ false → d ≡ false) → cond b true c �
 stop_one true c d f e = e
 stop_one false c d f e = f e
 
-has_stop-push : (xs : List StepReport) (x : StepReport) → has_stop xs ≡ false → plays_stop x ≡ false → has_stop (xs ++ x ∷ []) ≡ false
-has_stop-push [] x h k = rw k refl
-has_stop-push (y ∷ xs) x h k = stop_one (plays_stop y) (has_stop xs) (has_stop (xs ++ x ∷ [])) (λ e. has_stop-push xs x e k) h
+has_stop-push : (xs : List Step) (s : Step) → has_stop xs ≡ false → is_stop_step s ≡ false → has_stop (xs ++ s ∷ []) ≡ false
+has_stop-push [] s h k = rw k refl
+has_stop-push (x ∷ xs) s h k = stop_one (is_stop_step x) (has_stop xs) (has_stop (xs ++ s ∷ [])) (λ e. has_stop-push xs s e k) h
 
 through_one : (b c : Bool) (ys zs ws : List Step) → (c ≡ false → zs ≡ ws) → cond b true c ≡ false → cond b ys zs ≡ ws
 through_one true c ys zs ws f e = absurd (false≢true (sym e))
 through_one false c ys zs ws f e = f e
 
-through-stop : (xs : List StepReport) (x : StepReport) (rest : List Step) → has_stop xs ≡ false → plays_stop x ≡ true → through_stop (xs ++ x ∷ []) (map reported_step xs ++ x.step ∷ rest) ≡ map reported_step xs ++ x.step ∷ []
-through-stop [] x rest h k = rw k refl
-through-stop (y ∷ xs) x rest h k =
-    through_one (plays_stop y) (has_stop xs) (y.step ∷ []) (y.step ∷ through_stop (xs ++ x ∷ []) (map reported_step xs ++ x.step ∷ rest)) (y.step ∷ (map reported_step xs ++ x.step ∷ [])) (λ e. ap (λ (ys : List Step). y.step ∷ ys) (through-stop xs x rest e k)) h
+through-stop : (xs : List Step) (s : Step) (rest : List Step) → has_stop xs ≡ false → is_stop_step s ≡ true → through_stop (xs ++ s ∷ rest) ≡ xs ++ s ∷ []
+through-stop [] s rest h k = rw k refl
+through-stop (x ∷ xs) s rest h k = through_one (is_stop_step x) (has_stop xs) (x ∷ []) (x ∷ through_stop (xs ++ s ∷ rest)) (x ∷ (xs ++ s ∷ [])) (λ e. ap (λ (ys : List Step). x ∷ ys) (through-stop xs s rest e k)) h
 
--- a script of which no stop was played is its own beginning
-pub through-none : (xs : List StepReport) → has_stop xs ≡ false → through_stop xs (map reported_step xs) ≡ map reported_step xs
+-- a script without a stop is its own beginning
+pub through-none : (xs : List Step) → has_stop xs ≡ false → through_stop xs ≡ xs
 through-none [] h = refl
-through-none (x ∷ xs) h = through_one (plays_stop x) (has_stop xs) (x.step ∷ []) (x.step ∷ through_stop xs (map reported_step xs)) (x.step ∷ map reported_step xs) (λ e. ap (λ (ys : List Step). x.step ∷ ys) (through-none xs e)) h
+through-none (x ∷ xs) h = through_one (is_stop_step x) (has_stop xs) (x ∷ []) (x ∷ through_stop xs) (x ∷ xs) (λ e. ap (λ (ys : List Step). x ∷ ys) (through-none xs e)) h
 
 polls_below : (o : Option Step) (p t : ℕ) (P : Step → Type 0) → MatchOption o (p ≡ 0) (λ s. P s × (p < t)) → 0 < t → p < t
 polls_below None p t P h k = omega (arith, h, k)
@@ -46,7 +46,7 @@ abbrev pub closed : Player → State → StepReport → Player
 closed p r x = record { rank = r; done = p.done ++ x ∷ []; current = None; at = 0; polls = 0 }
 
 -- an answered step
-pub follows-closed : (script : List Step) (turns : ℕ) (old : Player) (r : State) (x : StepReport) → FollowsSoFar script turns old → is_stopped old.rank.log ≡ false → slice_get script (length old.done) ≡ Some x.step → is_stopped r.log ≡ plays_stop x → IsPatient turns x → FollowsSoFar script turns (closed old r x)
+pub follows-closed : (script : List Step) (turns : ℕ) (old : Player) (r : State) (x : StepReport) → FollowsSoFar script turns old → is_stopped old.rank.log ≡ false → slice_get script (length old.done) ≡ Some x.step → is_stopped r.log ≡ is_stop_step x.step → IsPatient turns x → FollowsSoFar script turns (closed old r x)
 follows-closed script turns old r x h running next stop patient =
     let xs : List Step = steps_done old in
     let l : length xs ≡ length old.done = length-map old.done reported_step in
@@ -58,8 +58,8 @@ follows-closed script turns old r x h running next stop patient =
       split = ap (λ (ys : List Step). ys ++ following.0) grown ∙ append_assoc xs (x.step ∷ []) following.0 ∙ whole;
       patient = All-push (IsPatient turns) old.done x h.patient patient;
       current = refl;
-      running = λ k. has_stop-push old.done x (h.running running) (sym stop ∙ k);
-      stopped = λ k. (grown ∙ sym (through-stop old.done x following.0 (h.running running) (sym stop ∙ k)) ∙ ap (through_stop (old.done ++ x ∷ [])) whole, refl);
+      running = λ k. ap has_stop grown ∙ has_stop-push xs x.step (h.running running) (sym stop ∙ k);
+      stopped = λ k. (grown ∙ sym (through-stop xs x.step following.0 (h.running running) (sym stop ∙ k)) ∙ ap through_stop whole, refl);
     }
 
 -- a step that stays open

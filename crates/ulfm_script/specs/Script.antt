@@ -1,12 +1,11 @@
 -- How a player goes through its script, with at most so many polls of a step.
-use Rattle.std.specs.Prelude.{◌≡◌, ℕ, Bool, not, ◌&&◌, List, [], ◌∷◌, ◌<◌, map, All, None, if◌then◌else◌}
+use Rattle.std.specs.Prelude.{◌≡◌, ℕ, List, ◌<◌, map, All, None}
 use Rattle.ulfm_job.specs.declared.step.Step.{Step}
 use Rattle.ulfm_script.specs.declared.answer.StepAnswer.{StepAnswer}
 use Rattle.ulfm_script.specs.declared.answer.StepAnswer.TheVariants.{Unfinished, Skipped}
 use Rattle.ulfm_script.specs.declared.answer.StepReport.{StepReport}
 use Rattle.ulfm_script.specs.Player.{Player}
-use Rattle.ulfm_job.specs.Job.{Seen, script_at, is_stop_step}
-use Rattle.ulfm_script.specs.Report.{is_skipped}
+use Rattle.ulfm_job.specs.Job.{Seen, script_at, through_stop}
 use Rattle.ulfm_script.specs.Reacting.{SkipsRightly}
 
 -- the step of a report
@@ -16,16 +15,6 @@ reported_step report = report.step
 -- the steps that have their answers
 abbrev pub steps_done : Player → List Step
 steps_done p = map reported_step p.done
-
--- an answered step is a stop that was played
-abbrev pub plays_stop : StepReport → Bool
-plays_stop report = is_stop_step report.step && not (is_skipped report.answer)
-
--- a script up to and with the first stop that was played, by its answered steps, or the whole of it
-abbrev pub through_stop : List StepReport → List Step → List Step
-through_stop [] script = script
-through_stop (x ∷ done) [] = []
-through_stop (x ∷ done) (s ∷ script) = if plays_stop x then s ∷ [] else s ∷ through_stop done script
 
 -- so many polls left a step with this answer open: all that a job grants where it was given up, none where it was skipped, else fewer
 abbrev pub IsPolled : ℕ → StepAnswer → ℕ → Type 0
@@ -37,9 +26,9 @@ IsPolled turns _ polls = polls < turns
 abbrev pub IsPatient : ℕ → StepReport → Type 0
 IsPatient turns report = IsPolled turns report.answer report.polls
 
--- a player answered the script of the rank r up to and with the first stop that it played, or the whole of it, and has no step open
+-- a player answered the script of the rank r up to and with its first stop, or the whole of it, and has no step open
 pub record HasFinished (j : Seen) (r : ℕ) (p : Player) : Type 0 where
-  pub steps : steps_done p ≡ through_stop p.done (script_at j r)
+  pub steps : steps_done p ≡ through_stop (script_at j r)
   pub patient : All (IsPatient j.turns) p.done
   pub skips : SkipsRightly j.conditions r p.done
   pub closed : p.current ≡ None
