@@ -1,6 +1,8 @@
 //! What is wrong with a job's text, and where: for people, beside the program's own line.
 #![tactic(auto)]
 
+mod answers;
+mod asking;
 mod cause;
 mod check;
 mod doom;
@@ -12,6 +14,7 @@ mod marks;
 mod nearest;
 mod place;
 mod rules;
+mod script;
 mod shown;
 mod steps;
 mod walk;
