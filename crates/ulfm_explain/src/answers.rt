@@ -45,7 +45,7 @@ fn own_answers(op: &str) -> &'static [&'static str] {
 }
 
 /// Whether a text begins, by whole words, with these words.
-fn begins(text: &str, words: &str) -> bool {
+pub fn begins(text: &str, words: &str) -> bool {
     match text.strip_prefix(words) {
         Some(rest) => rest.is_empty() || rest.starts_with(' '),
         None => false,

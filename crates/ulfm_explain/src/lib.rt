@@ -17,6 +17,7 @@ mod rules;
 mod script;
 mod shown;
 mod steps;
+mod unmet;
 mod walk;
 mod warning;
 
@@ -27,4 +28,5 @@ pub use explanation::{Explanation, StepPlace};
 pub use place::Place;
 pub use rules::{Key, Kind, Rules};
 pub use shown::Shown;
+pub use unmet::unmet_answers;
 pub use warning::warnings;
