@@ -22,3 +22,4 @@ pub mod Walked
 pub mod Kept
 pub mod Entrances
 pub mod Vain
+pub mod Reacting

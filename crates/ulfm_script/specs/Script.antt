@@ -1,11 +1,12 @@
 -- How a player goes through its script, with at most so many polls of a step.
-use Rattle.std.specs.Prelude.{◌≡◌, ℕ, List, ◌<◌, map, All, None}
+use Rattle.std.specs.Prelude.{◌≡◌, ℕ, Bool, false, List, [], ◌∷◌, ◌<◌, map, All, None, if◌then◌else◌}
 use Rattle.ulfm_job.specs.declared.step.Step.{Step}
 use Rattle.ulfm_script.specs.declared.answer.StepAnswer.{StepAnswer}
 use Rattle.ulfm_script.specs.declared.answer.StepAnswer.TheVariants.{Unfinished, Skipped}
 use Rattle.ulfm_script.specs.declared.answer.StepReport.{StepReport}
 use Rattle.ulfm_script.specs.Player.{Player}
-use Rattle.ulfm_job.specs.Job.{Seen, script_at, through_stop}
+use Rattle.ulfm_job.specs.Job.{Seen, script_at, is_stop_step}
+use Rattle.ulfm_script.specs.Report.{is_skipped}
 use Rattle.ulfm_script.specs.Reacting.{SkipsRightly}
 
 -- the step of a report
@@ -26,9 +27,19 @@ IsPolled turns _ polls = polls < turns
 abbrev pub IsPatient : ℕ → StepReport → Type 0
 IsPatient turns report = IsPolled turns report.answer report.polls
 
--- a player answered the script of the rank r up to and with its first stop, or the whole of it, and has no step open
+-- a stop that was played
+abbrev pub is_played_stop : StepReport → Bool
+is_played_stop report = if is_skipped report.answer then false else is_stop_step report.step
+
+-- a script up to and with the first stop that is played by these reports of its steps, or the whole of it
+abbrev pub through_stop : List StepReport → List Step → List Step
+through_stop [] script = script
+through_stop (report ∷ reports) [] = []
+through_stop (report ∷ reports) (x ∷ xs) = if is_played_stop report then x ∷ [] else x ∷ through_stop reports xs
+
+-- a player answered the script of the rank r up to and with the first stop that it played, or the whole of it, and has no step open
 pub record HasFinished (j : Seen) (r : ℕ) (p : Player) : Type 0 where
-  pub steps : steps_done p ≡ through_stop (script_at j r)
+  pub steps : steps_done p ≡ through_stop p.done (script_at j r)
   pub patient : All (IsPatient j.turns) p.done
   pub skips : SkipsRightly j.conditions r p.done
   pub closed : p.current ≡ None

@@ -27,13 +27,7 @@ fn holds_of(alloc: Global, done: &[StepReport], clause: &Clause) -> bool
 }
 
 /// Whether the step `k` of a rank asks for a clause that holds of these answered steps of the rank.
-fn is_of_and_holds(
-    alloc: Global,
-    rank: u8,
-    k: usize,
-    done: &[StepReport],
-    clause: &Clause,
-) -> bool
+fn is_of_and_holds(alloc: Global, rank: u8, k: usize, done: &[StepReport], clause: &Clause) -> bool
     ensures { result ≡ (is_of rank k clause.now && holds_of done.now clause.now) }
 {
     is_of(rank, k, clause) && holds_of(alloc, done, clause)

@@ -25,7 +25,7 @@ const DIGITS: &[u8] = b"0123456789abcdef";
 
 /// After one more byte of the text.
 fn after_byte(words: Words<'_>, byte: u8) -> Words<'_>
-    ensures { (text : List ℕ) → goes_on result text ≡ goes_on words (byte ∷ text) }
+    ensures { (text : List ℕ) → goes_on result text ≡ goes_on words.entry (byte ∷ text) }
 {
     match words {
         Words::Known(_) => words,
@@ -44,7 +44,7 @@ fn after_byte(words: Words<'_>, byte: u8) -> Words<'_>
 
 /// After more of the text.
 fn after<'a>(words: Words<'a>, text: &[u8]) -> Words<'a>
-    ensures { (more : List ℕ) → goes_on result more ≡ goes_on words (text.now ++ more) }
+    ensures { (more : List ℕ) → goes_on result more ≡ goes_on words.entry (text.now ++ more) }
 {
     let mut words = words;
     for byte in text {
@@ -55,7 +55,7 @@ fn after<'a>(words: Words<'a>, text: &[u8]) -> Words<'a>
 
 /// After a number.
 fn after_number(words: Words<'_>, number: u64) -> Words<'_>
-    ensures { (more : List ℕ) → goes_on result more ≡ goes_on words (decimal number ++ more) }
+    ensures { (more : List ℕ) → goes_on result more ≡ goes_on words.entry (decimal number ++ more) }
 {
     let mut buffer = Buffer::new();
     after(words, buffer.format(number).as_bytes())
@@ -63,7 +63,7 @@ fn after_number(words: Words<'_>, number: u64) -> Words<'_>
 
 /// After numbers, each after a space.
 fn after_spaced<'a>(words: Words<'a>, numbers: &[u8]) -> Words<'a>
-    ensures { (more : List ℕ) → goes_on result more ≡ goes_on words (spaced numbers.now ++ more) }
+    ensures { (more : List ℕ) → goes_on result more ≡ goes_on words.entry (spaced numbers.now ++ more) }
 {
     let mut words = words;
     for number in numbers {
@@ -74,7 +74,7 @@ fn after_spaced<'a>(words: Words<'a>, numbers: &[u8]) -> Words<'a>
 
 /// After numbers, parted by one space.
 fn after_parted<'a>(words: Words<'a>, numbers: &[u8]) -> Words<'a>
-    ensures { (more : List ℕ) → goes_on result more ≡ goes_on words (parted numbers.now ++ more) }
+    ensures { (more : List ℕ) → goes_on result more ≡ goes_on words.entry (parted numbers.now ++ more) }
 {
     match numbers.split_first() {
         Some((first, rest)) => after_spaced(after_number(words, u64::from(*first)), rest),
@@ -84,7 +84,7 @@ fn after_parted<'a>(words: Words<'a>, numbers: &[u8]) -> Words<'a>
 
 /// After a body: two digits a byte, and a dash where it is empty.
 fn after_body<'a>(words: Words<'a>, body: &[u8]) -> Words<'a>
-    ensures { (more : List ℕ) → goes_on result more ≡ goes_on words (body_text body.now ++ more) }
+    ensures { (more : List ℕ) → goes_on result more ≡ goes_on words.entry (body_text body.now ++ more) }
 {
     if body.is_empty() {
         return after_byte(words, b'-');
@@ -94,7 +94,7 @@ fn after_body<'a>(words: Words<'a>, body: &[u8]) -> Words<'a>
 
 /// After two digits a byte.
 fn after_digits<'a>(words: Words<'a>, body: &[u8]) -> Words<'a>
-    ensures { (more : List ℕ) → goes_on result more ≡ goes_on words (encode_lower body.now ++ more) }
+    ensures { (more : List ℕ) → goes_on result more ≡ goes_on words.entry (encode_lower body.now ++ more) }
 {
     let mut words = words;
     for byte in body {
@@ -129,21 +129,21 @@ fn name_of(error: CallError) -> &'static str
 
 /// After a word and the refusal behind it.
 fn after_error<'a>(words: Words<'a>, word: &[u8], error: CallError) -> Words<'a>
-    ensures { (more : List ℕ) → goes_on result more ≡ goes_on words (word.now ++ error_text error ++ more) }
+    ensures { (more : List ℕ) → goes_on result more ≡ goes_on words.entry (word.now ++ error_text error ++ more) }
 {
     after(after(words, word), name_of(error).as_bytes())
 }
 
 /// After a word and a number behind it.
 fn after_both<'a>(words: Words<'a>, word: &[u8], number: u64) -> Words<'a>
-    ensures { (more : List ℕ) → goes_on result more ≡ goes_on words (word.now ++ decimal number ++ more) }
+    ensures { (more : List ℕ) → goes_on result more ≡ goes_on words.entry (word.now ++ decimal number ++ more) }
 {
     after_number(after(words, word), number)
 }
 
 /// After a status: where a letter came from, and its tag.
 fn after_status<'a>(words: Words<'a>, word: &[u8], status: &Status) -> Words<'a>
-    ensures { (more : List ℕ) → goes_on result more ≡ goes_on words (word.now ++ decimal status.now.source ++ codes " tag " ++ decimal status.now.tag.number ++ more) }
+    ensures { (more : List ℕ) → goes_on result more ≡ goes_on words.entry (word.now ++ decimal status.now.source ++ codes " tag " ++ decimal status.now.tag.number ++ more) }
 {
     let words = after_both(words, word, u64::from(status.source));
     after_both(words, b" tag ", u64::from(status.tag.number))
@@ -151,7 +151,7 @@ fn after_status<'a>(words: Words<'a>, word: &[u8], status: &Status) -> Words<'a>
 
 /// After the group of a shrink, and the position there.
 fn after_group<'a>(alloc: Global, words: Words<'a>, group: &Group, me: u8) -> Words<'a>
-    ensures { (more : List ℕ) → goes_on result more ≡ goes_on words (codes " ranks [" ++ parted group.now ++ codes "] me " ++ decimal me ++ more) }
+    ensures { (more : List ℕ) → goes_on result more ≡ goes_on words.entry (codes " ranks [" ++ parted group.now ++ codes "] me " ++ decimal me ++ more) }
 {
     let members = numbers_of(alloc, group);
     let words = after_parted(after(words, b" ranks ["), members.as_slice());
@@ -160,14 +160,14 @@ fn after_group<'a>(alloc: Global, words: Words<'a>, group: &Group, me: u8) -> Wo
 
 /// After numbers between a word and a bracket.
 fn after_list<'a>(words: Words<'a>, word: &[u8], numbers: &[u8]) -> Words<'a>
-    ensures { (more : List ℕ) → goes_on result more ≡ goes_on words (word.now ++ parted numbers.now ++ codes "]" ++ more) }
+    ensures { (more : List ℕ) → goes_on result more ≡ goes_on words.entry (word.now ++ parted numbers.now ++ codes "]" ++ more) }
 {
     after(after_parted(after(words, word), numbers), b"]")
 }
 
 /// After the text of an answer.
 fn after_answer<'a>(alloc: Global, words: Words<'a>, answer: &StepAnswer) -> Words<'a>
-    ensures { (more : List ℕ) → goes_on result more ≡ goes_on words (answer_text answer.now ++ more) }
+    ensures { (more : List ℕ) → goes_on result more ≡ goes_on words.entry (answer_text answer.now ++ more) }
 {
     match answer {
         StepAnswer::Sent => after(words, b"sent"),
@@ -204,7 +204,7 @@ fn after_answer<'a>(alloc: Global, words: Words<'a>, answer: &StepAnswer) -> Wor
 
 /// What comes of it where the text ends.
 fn at_end(words: Words<'_>) -> bool
-    ensures { result ≡ goes_on words [] }
+    ensures { result ≡ goes_on words.entry [] }
 {
     match words {
         Words::Left(left) => left.is_empty(),

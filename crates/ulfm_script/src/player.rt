@@ -198,7 +198,13 @@ impl Player {
         ensures { result ≡ is_played conditions.now self.now.player.rank.me self.now.player.done }
     {
         let done = self.done.as_slice();
-        one_holds(*self.done.allocator(), conditions, self.rank.me().number, done.len(), done)
+        one_holds(
+            *self.done.allocator(),
+            conditions,
+            self.rank.me().number,
+            done.len(),
+            done,
+        )
     }
 
     /// Gives the next step the answer `skipped`, without a poll. It never answers out of memory.
