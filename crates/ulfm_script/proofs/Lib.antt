@@ -23,3 +23,4 @@ pub mod Kept
 pub mod Entrances
 pub mod Vain
 pub mod Reacting
+pub mod Following

@@ -1,8 +1,7 @@
 -- A player that plays a step exactly where it is to be played.
-use Rattle.std.proofs.Common.{◌≡◌, ℕ, ◌≤◌, Bool, true, false, not, List, [], ◌∷◌, ◌++◌, length, take, refl, ap, sym, subst, ◌∙◌, arith, inl, inr, MatchOption, Option, Some, None, slice_get}
+use Rattle.std.proofs.Common.{◌≡◌, ℕ, ◌≤◌, true, false, not, List, [], ◌∷◌, ◌++◌, length, take, refl, ap, sym, subst, ◌∙◌, arith, inl, inr, MatchOption, Option, Some, None}
 use Rattle.std.proofs.lemmas.List.{take-append-le}
 use Rattle.std.proofs.Math.Seq.{take-append_seam}
-use Rattle.ulfm_board.specs.Known.{known_at}
 use Rattle.ulfm_job.specs.Job.{Seen, script_at}
 use Rattle.ulfm_job.specs.declared.clause.Clause.{Clause}
 use Rattle.ulfm_match.proofs.Histories.{get_cases}
@@ -11,7 +10,6 @@ use Rattle.ulfm_script.specs.Deciding.{IsDecided}
 use Rattle.ulfm_script.specs.Reacting.{is_played, SkipsRightly}
 use Rattle.ulfm_script.specs.Report.{is_skipped}
 use Rattle.ulfm_script.specs.Script.{HasFinished}
-use Rattle.ulfm_script.specs.inside.Underway.{IsPlaying}
 use Rattle.ulfm_script.proofs.Advance.{given_by_poll, not_skipped}
 use Rattle.ulfm_script.proofs.Decisions.{given_by_decision}
 use Rattle.ulfm_script.proofs.Progress.{answered_running, follows-rank, follows-start, none_open}

@@ -1,10 +1,9 @@
 -- On what conditions a step is played, and what is expected of its answer.
-use Rattle.std.specs.Prelude.{◌≡◌, ◌==◌, ◌+◌, ◌<◌, ℕ, Bool, true, false, not, ◌&&◌, ◌||◌, List, [], ◌∷◌, length, take, Option, Some, None, slice_get}
+use Rattle.std.specs.Prelude.{◌≡◌, ◌==◌, ◌+◌, ℕ, Bool, true, false, not, ◌&&◌, ◌||◌, List, [], ◌∷◌, length, take, Option, Some, None, slice_get}
 use Rattle.std.specs.List.{list_all, list_any}
 use Rattle.ulfm_job.specs.Begins.{begins}
 use Rattle.ulfm_job.specs.Job.{Seen}
 use Rattle.ulfm_job.specs.declared.clause.Clause.{Clause}
-use Rattle.ulfm_script.specs.declared.answer.StepAnswer.{StepAnswer}
 use Rattle.ulfm_script.specs.declared.answer.StepReport.{StepReport}
 use Rattle.ulfm_script.specs.Report.{Report, is_skipped}
 use Rattle.ulfm_script.specs.Trace.{answer_text}
