@@ -230,7 +230,7 @@ fn skip(job: &Job, world: &mut World, r: u8, step: &Step) -> Result<(), RunFault
     requires skipped { is_played job.now.conditions r (player_at world.old r).done ≡ false }
     ensures { OnOk result (Moves job.now world.old world.new true) }
 {
-    let _ = job;
+    let _ = job.turns();
     match world.apply(Event::Skip(r, *step)) {
         Ok(_) => Ok(()),
         Err(Refused::OutOfMemory) => Err(RunFault::OutOfMemory),

@@ -1,5 +1,5 @@
-use Rattle.std.proofs.Common.{◌≡◌, length, Bool, Some, refl, ap, sym, subst, ◌∙◌, arith, slice_get}
-use Rattle.ulfm_world.proofs.Common.{script_at, World, player_at, IsRunning, Moves, next_open, IsUndecided}
+use Rattle.std.proofs.Common.{rules, ◌≡◌, length, Bool, true, Some, refl, ap, sym, subst, ◌∙◌, arith, slice_get}
+use Rattle.ulfm_world.proofs.Common.{script_at, World, player_at, is_played, IsRunning, Moves, next_open, IsUndecided}
 use Rattle.ulfm_job.specs.Job.{decides_on}
 use Rattle.ulfm_world.proofs.Moves.{moves-on}
 use Rattle.ulfm_world.proofs.rounds.poll.Goals as goal
@@ -14,11 +14,13 @@ pub call-requires : goal.call-requires
 call-requires c =
     let same = (subst (λ (x : Bool). Moves c.args.job.now c.args.world.now c.decide.new.world x) c.if-decide.false c.decide.ensures.moves).stays refl in
     let next : slice_get (script_at c.args.job.now c.args.r) (length (player_at c.args.world.now c.args.r).done) ≡ Some c.in-Some.step = ap (slice_get (script_at c.args.job.now c.args.r)) (sym c.answered.ensures) ∙ sym c.in-Some.ensures in
+    let played : is_played c.args.job.now.conditions c.args.r (player_at c.args.world.now c.args.r).done ≡ true = search rules in
     let N : World → Type 0 = λ (w : World). slice_get (script_at c.args.job.now c.args.r) (length (player_at w c.args.r).done) ≡ Some c.in-Some.step in record {
       inside = omega (arith, c.requires.inside, c.decide.ensures.moves.size);
       running = subst (λ (w : World). IsRunning w c.args.r) (sym same) (sym c.is_stopped.ensures ∙ c.if-is_stopped.false);
       follows = c.decide.ensures.moves.follows c.requires.follows;
       next = subst N (sym same) next;
+      played = subst (λ (w : World). is_played c.args.job.now.conditions c.args.r (player_at w c.args.r).done ≡ true) (sym same) played;
       undecided = subst (λ (w : World). IsUndecided (player_at w c.args.r)) (sym same) (λ comm ready. c.decide.ensures.undecided c.if-decide.false comm
-          (ap decides_on (next_open (script_at c.args.job.now c.args.r) c.args.job.now.turns (player_at c.args.world.now c.args.r) c.in-Some.step ready.asked (c.requires.follows c.args.r c.requires.inside) next ready.waits) ∙ ready.on) ready);
+          (ap decides_on (next_open (script_at c.args.job.now c.args.r) c.args.job.now.turns (player_at c.args.world.now c.args.r) c.in-Some.step ready.asked (c.requires.follows c.args.r c.requires.inside).follows next ready.waits) ∙ ready.on) ready);
     }
