@@ -3,11 +3,11 @@ use Rattle.std.proofs.Common.{◌≡◌, ℕ, zero, suc, ◌+◌, ◌<◌, ◌�
 use Rattle.std.proofs.lemmas.List.{drop_all, at_drop_more}
 use Rattle.toml.specs.Data.{Members, as_str, as_table}
 use Rattle.toml.proofs.Views.{items_view-drop}
-use Rattle.ulfm_job.proofs.Common.{Clause, JobFault, Value, view, items_view, list_all, lists_of, nat_tests, order_of, ◌>>=◌}
+use Rattle.ulfm_job.proofs.Common.{Clause, JobFault, Value, view, items_view, lists_of, nat_tests, order_of, ◌>>=◌}
 use Rattle.ulfm_job.proofs.Scripts.{orders-empty}
 use Rattle.ulfm_job.specs.Begins.{begins}
 use Rattle.ulfm_job.specs.JobText.{blank, in_step}
-use Rattle.ulfm_job.specs.Reacting.{Asker, clause, clauses_onto, conditions_at, conditions_of, conditions_onto, is_name, is_name_byte, words_in}
+use Rattle.ulfm_job.specs.Reacting.{Asker, clause, clauses_onto, conditions_at, conditions_of, conditions_onto, words_in}
 use Rattle.ulfm_job.specs.declared.draft.Draft.{Draft as CodedDraft}
 use Rattle.ulfm_job.specs.declared.fault.Fault.{Fault}
 use Rattle.ulfm_job.specs.declared.fault.Fault.TheVariants.{BadKey}
@@ -19,21 +19,10 @@ pub few : (n : ℕ) → (n == 0) ≡ false → leb n 16 ≡ (ltb 0 n && leb n 16
 few zero e = absurd cc
 few (suc n) e = let first : ltb 0 (suc n) ≡ true = grind (arith, nat_tests) in rw first refl
 
--- a text of a name's length is a name where its bytes are such
-pub name_of_length : (text : List ℕ) → 0 < length text → length text ≤ 32 → is_name text ≡ list_all is_name_byte text
-name_of_length text some most =
-    let first : ltb 0 (length text) ≡ true = grind (arith, nat_tests) in
-    let second : leb (length text) 32 ≡ true = grind (arith, nat_tests) in
-    rw (first, second) refl
-
 -- a text that ends doesn't begin with words that are left
 pub ends-early : (words text : List ℕ) (i : ℕ) → i < length words → length text ≡ 0 → begins text (drop i words) ≡ false
 ends-early words [] i lt e = at_drop_more (begins []) words i 0 lt
 ends-early words (c ∷ text) i lt e = absurd (omega (arith, e))
-
--- a text doesn't begin with words from which it differs
-pub differs : (words text : List ℕ) (i b w : ℕ) → i < length words → w ≡ get_or words i w → (b == w) ≡ false → begins (b ∷ text) (drop i words) ≡ false
-differs words text i b w lt here other = at_drop_more (begins (b ∷ text)) words i w lt ∙ rw (← here, other) refl
 
 module _ (is_good : List ℕ → Bool) (rank at step : ℕ) where
   pub clauses-on : (before : List Clause) (vs : List Value) (v : Value) (words : List ℕ) (i : ℕ) → i < length vs → v ≡ get_or vs i v → Ok words ≡ words_in is_good (as_str (view v))

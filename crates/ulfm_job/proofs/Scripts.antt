@@ -2,7 +2,6 @@
 use Rattle.std.proofs.Common.{◌≡◌, ℕ, zero, suc, ◌+◌, ◌<◌, List, [], ◌∷◌, ◌++◌, length, map, set, get_or, replicate, slice_index_or, Vec, Global, refl, sym, ap, ◌∙◌, arith}
 use Rattle.ulfm_job.proofs.Common.{Step, lists_of, step_count, Order, order_of}
 use Rattle.std.proofs.lemmas.List.{map_push, map-set, get_or-map, replicate_more}
-use Rattle.std.proofs.lemmas.List.Folds.{sum_by-replicate}
 use Rattle.std.proofs.lemmas.List.Sums.{sum_by-set}
 
 -- one more rank, with no steps yet
@@ -35,6 +34,3 @@ orders-put scripts r x inside =
 pub orders-empty : (n : ℕ) → map (map order_of) (replicate n []) ≡ replicate n []
 orders-empty zero = refl
 orders-empty (suc n) = ap (λ (xs : List (List Order)). [] ∷ xs) (orders-empty n)
-
-pub step_count-empty : (n : ℕ) → step_count (replicate n []) ≡ 0
-step_count-empty n = sum_by-replicate length n [] ∙ omega arith

@@ -1,5 +1,5 @@
 -- A job with one more stop.
-use Rattle.std.proofs.Common.{◌≡◌, ◌≢◌, ℕ, ◌+◌, ◌<◌, ◌≤◌, List, [], ◌∷◌, length, map, set, Vec, Global, refl, sym, ap, ◌∙◌, arith, vec_len}
+use Rattle.std.proofs.Common.{◌≡◌, ◌≢◌, ℕ, ◌+◌, ◌<◌, ◌≤◌, List, [], ◌∷◌, length, map, set, Vec, Global, refl, sym, ap, ap₂, ◌∙◌, arith, vec_len}
 use Rattle.ulfm_job.proofs.Common.{Clause, Step, Seen, IsJob, seen_of, lists_of, step_count, script_at, moved_on, stopped_at, with_stop, AllZip, each_same}
 use Rattle.std.proofs.lemmas.List.{length-map, length-set, map-set}
 use Rattle.std.proofs.lemmas.List.Edits.{length-insert}
@@ -46,7 +46,4 @@ is_job-stopped j r at h lt le room =
 -- the clauses of a copy
 pub moved-as : (j : Seen) (r at : ℕ) (script : List Step) (clauses kept moved : List Clause) → script ≡ script_at j r → clauses ≡ kept → moved ≡ map (moved_clause r at (length script)) clauses
     → moved ≡ map (moved_clause r at (length (script_at j r))) kept
-moved-as j r at script clauses kept moved is same h = h ∙ ap (λ (p : List Step × List Clause). map (moved_clause r at (length p.0)) p.1) (pair script (script_at j r) clauses kept is same)
-  where
-    pair : (x y : List Step) (a b : List Clause) → x ≡ y → a ≡ b → ◌≡◌ {A = List Step × List Clause} (x, a) (y, b)
-    pair x y a b p q = cc
+moved-as j r at script clauses kept moved is same h = h ∙ ap₂ (λ (steps : List Step) (cs : List Clause). map (moved_clause r at (length steps)) cs) is same

@@ -1,5 +1,5 @@
 -- What contracts see of a job.
-use Rattle.std.specs.Prelude.{◌≡◌, ◌==◌, ◌<◌, ◌≤◌, ◌+◌, ◌&&◌, ℕ, Bool, true, false, List, [], ◌∷◌, Option, Some, None, length, map, sum_by, filter, slice_index_or, slice_set, nat_le, nat_lt, Vec, if◌then◌else◌}
+use Rattle.std.specs.Prelude.{◌≡◌, ◌==◌, ◌<◌, ◌≤◌, ◌+◌, ◌&&◌, ℕ, Bool, true, false, List, [], Option, Some, None, length, map, sum_by, filter, slice_index_or, slice_set, nat_le, nat_lt, Vec, if◌then◌else◌}
 use Rattle.std.specs.List.{insert}
 use Rattle.std.specs.declared.alloc.Global.{Global}
 use Rattle.ulfm_job.specs.declared.clause.Clause.{Clause}
