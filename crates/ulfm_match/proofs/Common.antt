@@ -13,7 +13,7 @@ pub use Rattle.ulfm_match.specs.State.{IsAscending, IsUncleared, Keeps, Lists, M
 pub use Rattle.ulfm_match.specs.inside.Buckets.{Buckets, Entries, FindsLeast, Grows, IsIndexed, IsLesser, NonePass, Passes, Rises, Sweeps, SweepsFor, TakesEarliest, TakesOut, numbers_at, numbers_of}
 pub use Rattle.ulfm_match.specs.inside.Key.{IsKeyOf, IsKeyOfReceive, key_at, key_number, key_of, source_at, source_of, tag_at, tag_of}
 pub use Rattle.ulfm_match.specs.inside.Order.{in_order, place}
-pub use Rattle.ulfm_match.specs.inside.Pools.{FindsFirst, HasPlace, IsFirstAt, IsPool, IsWhole, NoneOf, TakesFirst, TakesLeast, all_of}
+pub use Rattle.ulfm_match.specs.inside.Pools.{FindsFirst, HasPlace, IsFirstAt, IsPool, IsWhole, NoneOf, TakesFirst, TakesLeast, all_of, few}
 pub use Rattle.ulfm_match.specs.declared.pool.Pool.{Pool}
 pub use Rattle.indexmap.proofs.CallerLemmas.{filter-RetainsPairs}
 pub use Rattle.std.proofs.lemmas.Map.Views.{exact_unsigned_eq, hash_map_get_iff}

@@ -1,8 +1,9 @@
 -- Early entries and late ones, from one state to the next.
-use Rattle.std.proofs.Common.{◌≡◌, ◌≢◌, ℕ, ◌+◌, ◌<◌, ◌≤◌, inl, inr, List, [], ◌∷◌, ◌++◌, ap, sym, ◌∙◌, subst, arith, append_assoc, Bool, cond, Contains, Some, None, nat_eq, filter, not, ◌==◌, ◌↔◌}
+use Rattle.std.proofs.Common.{◌≡◌, ◌≢◌, ℕ, suc, ◌+◌, ◌<◌, ◌≤◌, inl, inr, List, [], ◌∷◌, ◌++◌, ap, sym, ◌∙◌, subst, arith, append_assoc, Bool, cond, length, length-append, Contains, Some, None, nat_eq, filter, not, ◌==◌, ◌↔◌}
 use Rattle.std.proofs.lemmas.List.Elements.{filter-append}
 use Rattle.std.specs.Map.{lookup}
-use Rattle.ulfm_match.proofs.Common.{Contains-append_cases, Contains-append_left, Contains-append_right, Contains-push_cases, Entries, Buckets, Grows, SweepsFor, IsAscending, IsIndexed, IsPool, NonePass, NoneOf, Pool, TakesEarliest, TakesFirst, TakesLeast, TakesOut, all_of, get, in_order, IsUnique, numbers_at, numbers_of}
+use Rattle.std.specs.VecDeque.{deque_len}
+use Rattle.ulfm_match.proofs.Common.{Contains-append_cases, Contains-append_left, Contains-append_right, Contains-push_cases, Entries, Buckets, Grows, SweepsFor, IsAscending, IsIndexed, IsPool, NonePass, NoneOf, Pool, TakesEarliest, TakesFirst, TakesLeast, TakesOut, all_of, few, get, in_order, IsUnique, numbers_at, numbers_of}
 use Rattle.ulfm_match.proofs.Ascending.{ascending_both, ascending_filter, ascending_push}
 use Rattle.ulfm_match.proofs.Decide.{Contains-none, Contains-head, Contains-tail}
 use Rattle.ulfm_match.proofs.EndSteps.{other_context, passes_context}
@@ -40,7 +41,14 @@ module _ {X : Type 0} (P : ℕ × X → Type 0) (front back : List (ℕ × X)) (
     left_back = λ y c n. elim (Contains-append_cases front back y c) [ inl d ↦ Contains-append_left front new y d | inr d ↦ Contains-append_right front new y (t.left_back y d n) ];
   }
 
+-- as many are late, where they are the same
+same_len : {X : Type 0} (old new : Pool X) → new.late.items ≡ old.late.items → deque_len new.late ≤ deque_len old.late
+same_len old new e = let q : deque_len new.late ≡ deque_len old.late = new.late.ok.0 ∙ (ap length e ∙ sym old.late.ok.0) in omega (arith, q)
+
 module _ {X : Type 0} {K : X → ℕ → Type 0} {count : ℕ} {pool : Pool X} (i : IsPool K count pool) where
+  still_few : (new : Pool X) → deque_len new.late ≤ deque_len pool.late → deque_len new.late ≤ few
+  still_few new l = let s = i.short in omega (arith, l, s)
+
   early_below : (y z : ℕ × X) → Contains (in_order pool.early.entries) y → Contains pool.late.items z → y.0 < z.0
   early_below y z c d = let l = i.indexed.below y.0 y.1 (unlisted pool.early i.indexed.unique y c) in let m = i.from z d in omega (arith, l, m)
 
@@ -64,14 +72,15 @@ module _ {X : Type 0} {K : X → ℕ → Type 0} {count : ℕ} {pool : Pool X} (
   none_pool {P} none late y c p = elim (Contains-append_cases (in_order pool.early.entries) pool.late.items y c) [ inl d ↦ none_early none y d p | inr d ↦ late y d p ]
 
   -- other early entries and late ones, of those that were there
-  pub less_pool : (new : Pool X) → IsUnique nat_eq new.early → ((n : ℕ) (x : X) → get nat_eq new.early n ≡ Some x → get nat_eq pool.early n ≡ Some x) → ((k : ℕ) → SweepsFor new.early (numbers_at pool.buckets k) (numbers_at new.buckets k)) → IsAscending new.late.items → ((y : ℕ × X) → Contains new.late.items y → Contains pool.late.items y) → IsPool K count new
-  less_pool new u sub s a late = record {
+  pub less_pool : (new : Pool X) → IsUnique nat_eq new.early → ((n : ℕ) (x : X) → get nat_eq new.early n ≡ Some x → get nat_eq pool.early n ≡ Some x) → ((k : ℕ) → SweepsFor new.early (numbers_at pool.buckets k) (numbers_at new.buckets k)) → IsAscending new.late.items → ((y : ℕ × X) → Contains new.late.items y → Contains pool.late.items y) → deque_len new.late ≤ deque_len pool.late → IsPool K count new
+  less_pool new u sub s a late l = record {
     top = i.top;
     indexed = less_indexed i.indexed u sub s;
     ascending = a;
     from = λ y c. i.from y (late y c);
     below = λ y c. i.below y (late y c);
     counted = i.counted;
+    short = still_few new l;
   }
 
   pub out_pool : {n : ℕ} (new : Pool X) → TakesOut n pool.early new.early pool.buckets new.buckets → new.late.items ≡ pool.late.items → IsPool K count new
@@ -82,25 +91,27 @@ module _ {X : Type 0} {K : X → ℕ → Type 0} {count : ℕ} {pool : Pool X} (
     from = λ y c. i.from y (rw (sym e) c);
     below = λ y c. i.below y (rw (sym e) c);
     counted = i.counted;
+    short = still_few new (same_len pool new e);
   }
 
   -- the late ones are others, of those that were there
-  pub later_pool : (new : Pool X) → new.early ≡ pool.early → new.buckets ≡ pool.buckets → IsAscending new.late.items → ((y : ℕ × X) → Contains new.late.items y → Contains pool.late.items y) → IsPool K count new
-  later_pool new e f a late = record {
+  pub later_pool : (new : Pool X) → new.early ≡ pool.early → new.buckets ≡ pool.buckets → IsAscending new.late.items → ((y : ℕ × X) → Contains new.late.items y → Contains pool.late.items y) → deque_len new.late ≤ deque_len pool.late → IsPool K count new
+  later_pool new e f a late l = record {
     top = i.top;
     indexed = rw e (rw f i.indexed);
     ascending = a;
     from = λ y c. i.from y (late y c);
     below = λ y c. i.below y (late y c);
     counted = i.counted;
+    short = still_few new l;
   }
 
   -- one of the late ones is taken out
-  pub taken_late : (P : X → Type 0) {z : ℕ × X} (new : Pool X) → new.early ≡ pool.early → new.buckets ≡ pool.buckets → TakesFirst (λ (y : ℕ × X). P y.1) pool.late.items new.late.items z → IsPool K count new
-  taken_late P {z} new e f t = let l = first_is_least (λ y. P y.1) pool.late.items new.late.items z i.ascending t in later_pool new e f l.ascending (λ y c. (l.left_to y c).0)
+  pub taken_late : (P : X → Type 0) {z : ℕ × X} (new : Pool X) → new.early ≡ pool.early → new.buckets ≡ pool.buckets → TakesFirst (λ (y : ℕ × X). P y.1) pool.late.items new.late.items z → deque_len new.late ≤ deque_len pool.late → IsPool K count new
+  taken_late P {z} new e f t s = let l = first_is_least (λ y. P y.1) pool.late.items new.late.items z i.ascending t in later_pool new e f l.ascending (λ y c. (l.left_to y c).0) s
 
   pub same_pool : (new : Pool X) → new.early ≡ pool.early → new.buckets ≡ pool.buckets → new.late.items ≡ pool.late.items → IsPool K count new
-  same_pool new e f g = later_pool new e f (rw g i.ascending) (λ y c. rw (sym g) c)
+  same_pool new e f g = later_pool new e f (rw g i.ascending) (λ y c. rw (sym g) c) (same_len pool new g)
 
   -- the early ones have more room
   pub roomy_pool : (new : Pool X) → new.early.entries ≡ pool.early.entries → IsUnique nat_eq new.early → new.buckets ≡ pool.buckets → new.late.items ≡ pool.late.items → IsPool K count new
@@ -111,6 +122,7 @@ module _ {X : Type 0} {K : X → ℕ → Type 0} {count : ℕ} {pool : Pool X} (
     from = λ y c. i.from y (rw (sym g) c);
     below = λ y c. i.below y (rw (sym g) c);
     counted = i.counted;
+    short = still_few new (same_len pool new g);
   }
 
   pub higher_pool : IsPool K (count + 1) pool
@@ -121,17 +133,19 @@ module _ {X : Type 0} {K : X → ℕ → Type 0} {count : ℕ} {pool : Pool X} (
     from = i.from;
     below = λ y c. let l = i.below y c in omega (arith, l);
     counted = let l = i.counted in omega (arith, l);
+    short = i.short;
   }
 
   -- an entry comes
-  pub pushed_pool : (new : Pool X) (x : X) → new.early ≡ pool.early → new.buckets ≡ pool.buckets → new.late.items ≡ pool.late.items ++ (count, x) ∷ [] → IsPool K (count + 1) new
-  pushed_pool new x e f g = record {
+  pub pushed_pool : (new : Pool X) (x : X) → new.early ≡ pool.early → new.buckets ≡ pool.buckets → new.late.items ≡ pool.late.items ++ (count, x) ∷ [] → deque_len pool.late < few → IsPool K (count + 1) new
+  pushed_pool new x e f g l = record {
     top = i.top;
     indexed = rw e (rw f i.indexed);
     ascending = rw g (ascending_push pool.late.items (count, x) i.ascending i.below);
     from = λ y c. elim (Contains-push_cases pool.late.items (count, x) y (rw (sym g) c)) [ inl d ↦ i.from y d | inr q ↦ rw (sym q) i.counted ];
     below = λ y c. elim (Contains-push_cases pool.late.items (count, x) y (rw (sym g) c)) [ inl d ↦ (let l = i.below y d in omega (arith, l)) | inr q ↦ rw (sym q) (let l : count < count + 1 = omega arith in l) ];
     counted = let l = i.counted in omega (arith, l);
+    short = let q : deque_len new.late ≡ length pool.late.items + 1 = new.late.ok.0 ∙ (ap length g ∙ length-append pool.late.items ((count, x) ∷ [])) in let w = pool.late.ok.0 in omega (arith, l, q, w);
   }
 
   -- the first of the late ones becomes an early one
@@ -155,6 +169,7 @@ module _ {X : Type 0} {K : X → ℕ → Type 0} {count : ℕ} {pool : Pool X} (
       from = λ y c. let l = later y (rw (sym e) c) in omega (arith, l);
       below = λ y c. i.below y (rw first (Contains-tail (n, x) rest y (rw (sym e) c)));
       counted = let l = i.below (n, x) (rw first (Contains-head (n, x) rest)) in omega (arith, l);
+      short = let q : deque_len new.late ≡ length rest = new.late.ok.0 ∙ ap length e in let w : deque_len pool.late ≡ suc (length rest) = pool.late.ok.0 ∙ ap length first in still_few new (omega (arith, q, w));
     }
 
     -- it stays where it was, though some buckets had its number
@@ -169,6 +184,7 @@ module _ {X : Type 0} {K : X → ℕ → Type 0} {count : ℕ} {pool : Pool X} (
       from = λ y c. by y (subst (λ (ys : List (ℕ × X)). Contains ys y) (e ∙ first) c);
       below = λ y c. i.below y (rw (sym e) c);
       counted = let l = i.below (n, x) (rw first (Contains-head (n, x) rest)) in omega (arith, l);
+      short = still_few new (same_len pool new e);
     } where
       by : (y : ℕ × X) → Contains ((n, x) ∷ rest) y → n ≤ y.0
       by y c = elim (Contains-append_cases ((n, x) ∷ []) rest y c) [
@@ -190,14 +206,15 @@ module _ {X : Type 0} {K : X → ℕ → Type 0} {count : ℕ} {pool : Pool X} (
       ],
     )
 
-    pub ended_pool : IsPool K count new
-    ended_pool = record {
+    pub ended_pool : deque_len new.late ≤ deque_len pool.late → IsPool K count new
+    ended_pool l = record {
       top = i.top;
       indexed = out_indexed i.indexed out;
       ascending = rw late (ascending_filter (λ (y : ℕ × X). not (y.0 == n)) pool.late.items i.ascending);
       from = λ y c. i.from y (was y c);
       below = λ y c. i.below y (was y c);
       counted = i.counted;
+      short = still_few new l;
     } where
       was : (y : ℕ × X) → Contains new.late.items y → Contains pool.late.items y
       was y c = (Contains-filter (λ (y : ℕ × X). not (y.0 == n)) pool.late.items y (rw (sym late) c)).0
@@ -209,10 +226,10 @@ module _ {X : Type 0} {K : X → ℕ → Type 0} {count : ℕ} {pool : Pool X} (
         ap (λ ys. ys ++ new.late.items) (listed_filter pool.early new.early i.indexed.unique u test is)
         ∙ (ap (λ ys. filter test (in_order pool.early.entries) ++ ys) late ∙ sym (filter-append test (in_order pool.early.entries) pool.late.items))
 
-    pub filtered_pool : ((k : ℕ) → SweepsFor new.early (numbers_at pool.buckets k) (numbers_at new.buckets k)) → IsPool K count new
-    filtered_pool s =
+    pub filtered_pool : ((k : ℕ) → SweepsFor new.early (numbers_at pool.buckets k) (numbers_at new.buckets k)) → deque_len new.late ≤ deque_len pool.late → IsPool K count new
+    filtered_pool s l =
         less_pool new u (filter_less pool.early new.early i.indexed.unique u test is) s (rw late (ascending_filter test pool.late.items i.ascending))
-        (λ y c. (Contains-filter test pool.late.items y (rw (sym late) c)).0)
+        (λ y c. (Contains-filter test pool.late.items y (rw (sym late) c)).0) l
 
 -- no entries
 pub empty_pool : {X : Type 0} {K : X → ℕ → Type 0} (pool : Pool X) → IsUnique nat_eq pool.early → pool.early.entries ≡ [] → pool.buckets.entries ≡ [] → pool.late.items ≡ [] → IsPool K 0 pool
@@ -229,6 +246,7 @@ empty_pool {X} {K} pool u e b l = record {
   from = λ y c. absurd (Contains-none y (subst (λ ys. Contains ys y) l c));
   below = λ y c. absurd (Contains-none y (subst (λ ys. Contains ys y) l c));
   counted = omega arith;
+  short = let q : deque_len pool.late ≡ 0 = pool.late.ok.0 ∙ ap length l in omega (arith, q);
 } where
   no_entry : (n : ℕ) → get nat_eq pool.early n ≡ None
   no_entry n = ap (λ es. lookup (nat_eq n) es) e

@@ -1,8 +1,8 @@
 //! A place for one entry more: where many are late, the first of them is put into its buckets.
-ghost use Rattle.std.specs.Prelude.{◌≡◌, ◌≤◌, ◌∷◌, ◌++◌, ℕ, [], IsTrue, OnOk};
+ghost use Rattle.std.specs.Prelude.{◌≡◌, ◌<◌, ◌≤◌, ◌∷◌, ◌++◌, ℕ, [], IsTrue, OnOk};
 ghost use Rattle.std.specs.VecDeque.{deque_len, deque_capacity};
 ghost use Rattle.ulfm_match.specs.inside.Key.{IsKeyOf, IsKeyOfReceive};
-ghost use Rattle.ulfm_match.specs.inside.Pools.{all_of, IsPool, HasPlace};
+ghost use Rattle.ulfm_match.specs.inside.Pools.{all_of, few, IsPool, HasPlace};
 
 use crate::buckets::{forget, forget_letter, put, put_letter};
 use crate::key::key_of;
@@ -18,6 +18,7 @@ fn settle_receive(pool: &mut Pool<Pattern>, alloc: Global) -> Result<(), OutOfMe
     requires { (count : ℕ) × IsPool IsKeyOfReceive count pool.old }
     ensures all { all_of pool.new ≡ all_of pool.old }
     ensures pool { (count : ℕ) → IsPool IsKeyOfReceive count pool.old → IsPool IsKeyOfReceive count pool.new }
+    ensures settled { OnOk result (deque_len pool.new.late < few) }
     ensures shorter { deque_len pool.new.late ≤ deque_len pool.old.late }
     ensures room { deque_capacity pool.new.late ≡ deque_capacity pool.old.late }
 {
@@ -43,6 +44,7 @@ fn settle_letter(pool: &mut Pool<Letter>, alloc: Global) -> Result<(), OutOfMemo
     requires { (count : ℕ) × IsPool IsKeyOf count pool.old }
     ensures all { all_of pool.new ≡ all_of pool.old }
     ensures pool { (count : ℕ) → IsPool IsKeyOf count pool.old → IsPool IsKeyOf count pool.new }
+    ensures settled { OnOk result (deque_len pool.new.late < few) }
     ensures shorter { deque_len pool.new.late ≤ deque_len pool.old.late }
     ensures room { deque_capacity pool.new.late ≡ deque_capacity pool.old.late }
 {

@@ -46,7 +46,11 @@ pub record TakesLeast {X : Type 0} (P : ℕ × X → Type 0) (old new : List (�
 abbrev pub all_of : {X : Type 0} → Pool X → List (ℕ × X)
 all_of {X} pool = in_order pool.early.entries ++ pool.late.items
 
--- the early entries stand in the buckets of their keys; the late ones follow by rising numbers, from the top on and below the count
+-- so many entries are late at most
+abbrev pub few : ℕ
+few = 128
+
+-- the early entries stand in the buckets of their keys; the late ones are few, and follow by rising numbers, from the top on and below the count
 pub record IsPool {X : Type 0} (IsKey : X → ℕ → Type 0) (count : ℕ) (pool : Pool X) : Type 0 where
   pub top : ℕ
   pub indexed : IsIndexed IsKey top pool.early pool.buckets
@@ -54,10 +58,11 @@ pub record IsPool {X : Type 0} (IsKey : X → ℕ → Type 0) (count : ℕ) (poo
   pub from : (y : ℕ × X) → Contains pool.late.items y → top ≤ y.0
   pub below : (y : ℕ × X) → Contains pool.late.items y → y.0 < count
   pub counted : top ≤ count
+  pub short : deque_len pool.late ≤ few
 
--- there is a place for one late entry more
+-- there is a place for one late entry more, and with it they are few still
 abbrev pub HasPlace : {X : Type 0} → Pool X → Type 0
-HasPlace {X} pool = deque_len pool.late < deque_capacity pool.late
+HasPlace {X} pool = (deque_len pool.late < deque_capacity pool.late) × (deque_len pool.late < few)
 
 -- what a matcher holds: the receives that wait and the letters that are kept, both in buckets but for the late ones
 pub record IsWhole (waiting : Pool Pattern) (kept : Pool Letter) (count : ℕ) (ready : Bool) : Type 0 where
