@@ -5,7 +5,7 @@ use Rattle.std.proofs.Math.Seq.{take-append_seam}
 use Rattle.ulfm_job.specs.Job.{Seen, script_at}
 use Rattle.ulfm_job.specs.declared.clause.Clause.{Clause}
 use Rattle.ulfm_match.proofs.Histories.{get_cases}
-use Rattle.ulfm_script.proofs.Common.{⊤, Context, FollowsSoFar, GivesUpStep, GoesThrough, IsCalled, is_stopped, Known, Player, slice_get_within, SkipsStep, start_player, State, Step, StepReport, with_rank}
+use Rattle.ulfm_script.proofs.Common.{⊤, Context, FollowsSoFar, GoesThrough, IsCalled, is_stopped, Known, Player, slice_get_within, SkipsStep, start_player, State, Step, StepReport, with_rank}
 use Rattle.ulfm_script.specs.Deciding.{IsDecided}
 use Rattle.ulfm_script.specs.Reacting.{is_played, SkipsRightly}
 use Rattle.ulfm_script.specs.Report.{is_skipped}
@@ -61,10 +61,6 @@ pub goes-called : {j : Seen} {r : ℕ} {old : Player} {asked : Step} {new : Play
 goes-called {old} {asked} follows h played (inl a) =
     goes-played _ follows h (ap (λ (p : Player). p.done) a.only) (ap (λ (p : Player). p.current) a.only) (not_skipped a.answer (given_by_poll old.done old.rank asked a.answer a.rank a.answers).1) played
 goes-called follows h played (inr o) = goes-open follows h (ap (λ (p : Player). p.done) o.only) played
-
--- an open step is given up
-pub goes-left : {j : Seen} {r : ℕ} {old new : Player} → FollowsSoFar (script_at j r) j.turns new → GoesThrough j r old → GivesUpStep old new → GoesThrough j r new
-goes-left follows h g = goes-played _ follows h (ap (λ (p : Player). p.done) g.only) (ap (λ (p : Player). p.current) g.only) refl (open_played h g.was_open)
 
 -- an open step is decided
 pub goes-decided : {j : Seen} {r : ℕ} {old : Player} {comm : Context} {board : Option (List ℕ)} {known later : Known} {new : Player} → FollowsSoFar (script_at j r) j.turns new → GoesThrough j r old → IsDecided old comm board known new later → GoesThrough j r new
