@@ -17,8 +17,9 @@ use ulfm_script::{Hands, Job, RankReport, RunFault, Step, turn};
 
 /// The job, round by round. One inbox holds `capacity` items for each rank. In a round the ranks come upwards, and each
 /// pushes to each destination upwards, itself too, while its outbox isn't empty and the inbox has room; then, where it
-/// runs, it takes one item and polls its next step once, which decides an open shrink or agreement that has a proposal. A step whose
-/// conditions don't hold is skipped in place of this poll. A step that its last poll left open is given up. The rounds end after the first one in which nothing was pushed, taken or polled.
+/// runs, it takes one item and polls its next step once, which decides an open shrink or agreement that has a proposal. Steps whose
+/// conditions don't hold are skipped before this poll, and take none. A step that its last poll left open is given up. The rounds end
+/// after the first one in which nothing was pushed, taken, skipped or polled.
 ///
 /// Where a round did nothing but poll open steps in vain, so would each further one, up to the last poll of a step. Those rounds
 /// are taken at once. So the time doesn't grow with the job's `turns`.
@@ -194,8 +195,8 @@ fn turn_of(job: &Job, rounds: &mut Rounds<'_>, r: u8) -> Result<bool, RunFault>
     Ok(moved)
 }
 
-/// The poll of the step that comes next, if there is one: an open shrink or agreement that has a proposal is decided. An open step may
-/// get as many polls at once as `most`.
+/// The poll of the next step that is to be played, if there is one: an open shrink or agreement that has a proposal is decided. Those
+/// before it are skipped, and take no poll. An open step may get as many polls at once as `most`.
 fn poll(job: &Job, world: &mut World, r: u8, most: u32) -> Result<bool, RunFault>
     requires inside { r < length world.old.players }
     requires scripts { job.now.ranks ≡ length world.old.players }
@@ -211,6 +212,7 @@ fn poll(job: &Job, world: &mut World, r: u8, most: u32) -> Result<bool, RunFault
     };
     if !world.is_next_played(r, job.conditions()) {
         skip(job, world, r, &step)?;
+        poll(job, world, r, most)?;
         return Ok(true);
     }
     if decide(job, world, r, &step) {
