@@ -76,8 +76,8 @@ polls-decide job me v w comm board known later sound follows running d room =
     record { quiet = quiet-decided v.player comm board known later w.player sound d; follows = goes-decided a.follows follows d; room = room; falls = a.falls }
 
 -- what a player tells of its next step holds of the step of its rank
-pub asked_played : {job : Seen} (me : ℕ) (p : Player) {conditions : List Clause} {told : Bool} → p.rank.me ≡ me → conditions ≡ job.conditions → told ≡ is_played conditions p.rank.me p.done → is_played job.conditions me p.done ≡ told
-asked_played {job} me p mine same told = ap (λ r. is_played job.conditions r p.done) (sym mine) ∙ ap (λ (xs : List Clause). is_played xs p.rank.me p.done) (sym same) ∙ sym told
+pub asked_played : (job : Seen) (me : ℕ) (p : Player) {conditions : List Clause} {told : Bool} → p.rank.me ≡ me → conditions ≡ job.conditions → told ≡ is_played conditions p.rank.me p.done → is_played job.conditions me p.done ≡ told
+asked_played job me p mine same told = ap (λ r. is_played job.conditions r p.done) (sym mine) ∙ ap (λ (xs : List Clause). is_played xs p.rank.me p.done) (sym same) ∙ sym told
 
 -- a step that isn't to be played is skipped
 pub polls-skip : {job : Seen} (me : ℕ) (v w : View) {asked : Step} → IsJob job → IsState v.player.rank → GoesThrough job me v.player → is_stopped v.player.rank.log ≡ false → slice_get (script_at job me) (length v.player.done) ≡ Some asked → is_played job.conditions me v.player.done ≡ false →

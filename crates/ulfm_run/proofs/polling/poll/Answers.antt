@@ -6,7 +6,7 @@ use Rattle.ulfm_run.proofs.Polled.{polls-after, asked_played}
 use Rattle.ulfm_run.proofs.polling.poll.Goals as goal
 
 pub skip-requires-clause-skipped : goal.skip-requires-clause-skipped
-skip-requires-clause-skipped g c = asked_played c.args.me c.args.player.now.player c.requires.mine c.conditions.ensures c.is_next_played.ensures ∙ c.if-not-is_next_played.true
+skip-requires-clause-skipped g c = asked_played c.args.job.now c.args.me c.args.player.now.player c.requires.mine c.conditions.ensures c.is_next_played.ensures ∙ c.if-not-is_next_played.true
 
 pub call-requires : goal.call-requires
 call-requires g c =
@@ -17,7 +17,7 @@ call-requires g c =
       room = omega (arith, c.requires.room, c.decide.ensures.room);
       running = ap (λ (p : Player). is_stopped p.rank.log) same ∙ c.requires.running;
       next = ap (λ (p : Player). slice_get (script_at c.args.job.now c.args.me) (length p.done)) same ∙ c.requires.next;
-      played = ap (λ (p : Player). is_played c.args.job.now.conditions c.args.me p.done) same ∙ asked_played c.args.me c.args.player.now.player c.requires.mine c.conditions.ensures c.is_next_played.ensures ∙ c.if-not-is_next_played.false;
+      played = ap (λ (p : Player). is_played c.args.job.now.conditions c.args.me p.done) same ∙ asked_played c.args.job.now c.args.me c.args.player.now.player c.requires.mine c.conditions.ensures c.is_next_played.ensures ∙ c.if-not-is_next_played.false;
     }
 
 pub returns-clause-polls : goal.returns-clause-polls
