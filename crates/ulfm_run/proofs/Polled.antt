@@ -1,26 +1,20 @@
 -- One poll of a rank's next step.
-use Rattle.std.proofs.Common.{◌≡◌, ℕ, ◌+◌, ◌<◌, ◌≤◌, true, false, not, Bool, List, [], ◌∷◌, ◌++◌, length, take, refl, ap, sym, subst, ◌∙◌, arith, inl, inr, ◌⊎◌, Option, Some, None, slice_get}
-use Rattle.std.proofs.lemmas.List.{take-append-le}
-use Rattle.std.proofs.Math.Seq.{take-append_seam}
+use Rattle.std.proofs.Common.{◌≡◌, ℕ, ◌+◌, ◌<◌, ◌≤◌, true, false, Bool, List, length, ap, sym, subst, ◌∙◌, arith, ◌⊎◌, Option, Some, None, slice_get}
 use Rattle.ulfm_base.specs.declared.context.Context.{Context}
 use Rattle.ulfm_script.specs.declared.answer.Called.{Called}
 use Rattle.ulfm_script.specs.declared.answer.Called.TheVariants.{Answered, NotYet}
 use Rattle.ulfm_script.specs.Deciding.{Known, IsDecided}
-use Rattle.ulfm_script.specs.Player.{Polls as PollsBy, Player, View, IsCalled, GivesUpStep, SkipsStep, step_report}
+use Rattle.ulfm_script.specs.Player.{Polls as PollsBy, Player, View, IsCalled, GivesUpStep, SkipsStep}
 use Rattle.ulfm_job.specs.declared.clause.Clause.{Clause}
-use Rattle.ulfm_match.proofs.Histories.{get_cases}
 use Rattle.ulfm_rank.specs.inside.Quiet.{Quiet}
 use Rattle.ulfm_rank.proofs.Quiet.{quiet-same}
-use Rattle.ulfm_script.specs.Reacting.{is_played, SkipsRightly}
-use Rattle.ulfm_script.specs.Report.{is_skipped}
-use Rattle.ulfm_script.specs.declared.answer.StepAnswer.TheVariants.{Unfinished}
-use Rattle.ulfm_script.specs.declared.answer.StepReport.{StepReport}
-use Rattle.ulfm_script.specs.inside.Underway.{FollowsSoFar}
+use Rattle.ulfm_script.specs.Reacting.{is_played}
 use Rattle.ulfm_script.proofs.Polls.{quiet-called}
 use Rattle.ulfm_script.proofs.Advance.{ready-at, advance-called, advance-left, advance-skipped}
 use Rattle.ulfm_script.proofs.Reacting.{goes-called, goes-decided, goes-skipped}
+use Rattle.ulfm_laws.proofs.Spent.{goes-spent}
 use Rattle.ulfm_script.proofs.Decisions.{ready-decided, advance-decided, quiet-decided}
-use Rattle.ulfm_run.proofs.Common.{GoesThrough, is_stopped, IsState, polls_left, State, Polls, Step, Seen, IsJob, script_at, none-some, slice_get_within}
+use Rattle.ulfm_run.proofs.Common.{GoesThrough, is_stopped, IsState, polls_left, State, Polls, Step, Seen, IsJob, script_at}
 
 -- one call that is answered, or leaves the step open with polls to spare
 pub polls-call : {job : Seen} (me : ℕ) (v w : View) {asked : Step} → IsJob job → IsState v.player.rank → GoesThrough job me v.player → is_stopped v.player.rank.log ≡ false → slice_get (script_at job me) (length v.player.done) ≡ Some asked → is_played job.conditions me v.player.done ≡ true →
@@ -33,31 +27,6 @@ polls-call {job} me v w {asked} is_job sound follows running next played called 
 pub answered_none : (told : Called) (old : Player) (asked : Step) (new : Player) → told ≡ Answered → PollsBy told old asked new → new.current ≡ None
 answered_none Answered old asked new e h = ap (λ (p : Player). p.current) h.only
 answered_none NotYet old asked new e h = absurd (cc)
-
--- the same answers, and then a step given up that was to be played
-spent : (conditions : List Clause) (r : ℕ) (done : List StepReport) (x : StepReport) → SkipsRightly conditions r done → is_played conditions r done ≡ true → is_skipped x.answer ≡ false → SkipsRightly conditions r (done ++ x ∷ [])
-spent conditions r done x h played given k report g = elim (get_cases done x k report g) [
-  | inl before ↦
-      let same : take k (done ++ x ∷ []) ≡ take k done = take-append-le k done (x ∷ []) (omega (arith, slice_get_within done k report before)) in
-      h k report before ∙ ap (λ (reports : List StepReport). not (is_played conditions r reports)) (sym same)
-  | inr last ↦
-      let same : take k (done ++ x ∷ []) ≡ done = ap (λ n. take n (done ++ x ∷ [])) last.0 ∙ take-append_seam done (x ∷ []) in
-      ap (λ (y : StepReport). is_skipped y.answer) (sym last.1) ∙ given ∙ sym (ap not played) ∙ ap (λ (reports : List StepReport). not (is_played conditions r reports)) (sym same)
-]
-
--- a step that its last poll left open is given up as one that was to be played
-goes-spent : {j : Seen} {r : ℕ} {old mid new : Player} {asked : Step} → FollowsSoFar (script_at j r) j.turns new → GoesThrough j r old → is_played j.conditions r old.done ≡ true → IsCalled old asked mid → GivesUpStep mid new → GoesThrough j r new
-goes-spent follows h played (inl a) left =
-    let none : None ≡ Some left.step = sym (ap (λ (p : Player). p.current) a.only) ∙ left.was_open in
-    absurd (none-some left.step none)
-goes-spent {j} {r} {old} {mid} {new} follows h played (inr o) left =
-    let x = step_report left.step Unfinished mid.at mid.polls in
-    let done : new.done ≡ old.done ++ x ∷ [] = ap (λ (p : Player). p.done) left.only ∙ ap (λ (p : Player). p.done ++ x ∷ []) o.only in
-    record {
-      follows = follows;
-      skips = subst (SkipsRightly j.conditions r) (sym done) (spent j.conditions r old.done x h.skips played refl);
-      playing = rw (ap (λ (p : Player). p.current) left.only) tt;
-    }
 
 -- one call that leaves its step open, which is then given up
 pub polls-leave : {job : Seen} (me : ℕ) (v u w : View) {asked : Step} → IsJob job → IsState v.player.rank → GoesThrough job me v.player → is_stopped v.player.rank.log ≡ false → slice_get (script_at job me) (length v.player.done) ≡ Some asked → is_played job.conditions me v.player.done ≡ true →

@@ -1,10 +1,10 @@
 -- A rank at work.
-use Rattle.std.proofs.Common.{◌≡◌, ℕ, ◌≤◌, true, false, List, [], ◌++◌, length, map, refl, ap, sym, subst, ◌∙◌, arith, Bool, inl, inr, ◌⊎◌, append-nil, length-append, ◌<◌, Option, Some, None, MatchOption, slice_get, All}
+use Rattle.std.proofs.Common.{◌≡◌, ℕ, true, false, List, length, map, refl, ap, sym, subst, ◌∙◌, arith, Bool, inl, inr, ◌⊎◌, Some, slice_get, All}
 use Rattle.ulfm_script.specs.declared.answer.StepReport.{StepReport}
 use Rattle.ulfm_script.specs.Script.{reported_step, through_stop, IsPatient, HasFinished}
 use Rattle.ulfm_script.specs.Reacting.{SkipsRightly}
 use Rattle.ulfm_script.proofs.Reacting.{finished-running, finished-stopped, goes-rank}
-use Rattle.ulfm_run.proofs.Common.{GoesThrough, is_stopped, IsPlayed, IsSigned, Item, Known, length-map, Player, polls_left, Report, slice_get_within, State, View, with_rank, false≢true, IsJoined, Moves, Polls, IsAtWork, honest-moved, Step, Seen, script_at, AnswersFollowSoFar}
+use Rattle.ulfm_run.proofs.Common.{GoesThrough, is_stopped, IsPlayed, IsSigned, Item, Known, Player, polls_left, Report, slice_get_within, State, View, with_rank, false≢true, IsJoined, Moves, Polls, IsAtWork, honest-moved, Step, Seen, script_at, AnswersFollowSoFar}
 use Rattle.ulfm_run.specs.inside.Turns.{IsOver, WentOn, IsAsFar, Keeps, Carries, keeps-then}
 
 -- a player that stopped, or has no step left, answered its script

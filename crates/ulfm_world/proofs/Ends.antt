@@ -1,6 +1,6 @@
 -- A replay from its start to rest.
 use Rattle.std.proofs.Common.{◌≡◌, ℕ, ◌<◌, Bool, List, [], length, map, refl, ap, sym, subst, ◌∙◌, arith, inl, inr}
-use Rattle.ulfm_world.proofs.Common.{WorldRank, Item, is_stopped, Player, Report, World, player_at, rank_at, inbox_at, start_world, report_of, IsAtRest, cases_Bool, Seen, Follows, Moves, IsStuck, IsUnderway, AllHaveFinished, IsReplayed, GoesThrough, PerInbox, PerPair, Room, places, taken_places}
+use Rattle.ulfm_world.proofs.Common.{WorldRank, Item, is_stopped, Player, Report, World, rank_at, inbox_at, start_world, report_of, IsAtRest, cases_Bool, Seen, Follows, Moves, IsStuck, IsUnderway, AllHaveFinished, IsReplayed, GoesThrough, PerInbox, PerPair, Room, places, taken_places}
 use Rattle.ulfm_script.proofs.Reacting.{finished-running, finished-stopped, goes-start}
 use Rattle.ulfm_world.proofs.Starts.{player-start, length-start}
 use Rattle.ulfm_world.proofs.Runs.{reaches-then}

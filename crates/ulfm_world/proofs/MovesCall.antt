@@ -1,15 +1,11 @@
 -- What a poll moves, and a step that is given up or skipped.
-use Rattle.std.proofs.Common.{◌≡◌, ℕ, ◌<◌, ◌≤◌, true, false, not, cond, List, [], ◌∷◌, ◌++◌, length, take, set, refl, ap, sym, subst, ◌∙◌, arith, inl, inr, ◌⊎◌, length-set, Option, Some, None, is_none, set-set}
-use Rattle.ulfm_world.proofs.Common.{Context, Decision, Step, Call, Decide, Leave, Skip, IsWorld, is_stopped, false≢true, cases_eq, World, player_in, player_at, with_players, with_player, with_decided, Happens, Reaches, IsRunning, Player, GivesUpStep, IsCalled, Seen, IsJob, script_at, AllAnswersFollowSoFar, Follows, Moves, weight_of, FollowsSoFar, GoesThrough, is_played, none-some, slice_get_within, step_report, StepReport, Unfinished, ready-decided, advance-decided, IsState, Answered, NotYet, IsUndecided}
+use Rattle.std.proofs.Common.{◌≡◌, ℕ, ◌<◌, ◌≤◌, true, false, cond, List, [], ◌∷◌, length, set, refl, ap, sym, subst, ◌∙◌, arith, inl, inr, ◌⊎◌, length-set, Option, Some, None, is_none, set-set}
+use Rattle.ulfm_world.proofs.Common.{Context, Decision, Step, Call, Decide, Leave, Skip, IsWorld, is_stopped, false≢true, cases_eq, World, player_in, player_at, with_players, with_player, with_decided, Happens, Reaches, IsRunning, Player, GivesUpStep, Seen, IsJob, script_at, AllAnswersFollowSoFar, Follows, Moves, weight_of, GoesThrough, is_played, ready-decided, advance-decided, IsState, Answered, NotYet, IsUndecided}
 use Rattle.ulfm_world.specs.declared.event.Outcome.{Outcome}
 use Rattle.ulfm_world.proofs.Changed.{player-same, player-other}
-use Rattle.std.proofs.lemmas.List.{take-append-le}
-use Rattle.std.proofs.Math.Seq.{take-append_seam}
-use Rattle.ulfm_match.proofs.Histories.{get_cases}
-use Rattle.ulfm_script.specs.Reacting.{SkipsRightly}
-use Rattle.ulfm_script.specs.Report.{is_skipped}
 use Rattle.ulfm_script.proofs.Advance.{Ready, Advances, advance-called, advance-left, advance-skipped}
 use Rattle.ulfm_script.proofs.Reacting.{goes-called, goes-decided, goes-skipped}
+use Rattle.ulfm_laws.proofs.Spent.{goes-spent}
 use Rattle.ulfm_world.proofs.Measures.{measure-player}
 use Rattle.ulfm_world.proofs.Weights.{adds_weight}
 use Rattle.ulfm_world.proofs.Runs.{reaches-one}
@@ -56,33 +52,6 @@ moves-call {j} {w} r {asked} w' job h i f ready played undecided t few =
 pub none_open : (o : Option Step) {outcome : Outcome} → outcome ≡ cond (is_none o) Answered NotYet → outcome ≡ Answered → o ≡ None
 none_open None e f = refl
 none_open (Some asked) e f = absurd (cc)
-
--- a step that its last poll left open keeps its answers, and is given up as one that was to be played
-goes-spent : {j : Seen} {r : ℕ} {old mid new : Player} {asked : Step} → FollowsSoFar (script_at j r) j.turns new → GoesThrough j r old → is_played j.conditions r old.done ≡ true → IsCalled old asked mid → GivesUpStep mid new → GoesThrough j r new
-goes-spent follows h played (inl a) left =
-    let none : None ≡ Some left.step = sym (ap (λ (p : Player). p.current) a.only) ∙ left.was_open in
-    absurd (none-some left.step none)
-goes-spent {j} {r} {old} {mid} {new} follows h played (inr o) left = record {
-  follows = follows;
-  skips = rw done skips;
-  playing = rw (ap (λ (p : Player). p.current) left.only) tt;
-}
-  where
-    x : StepReport
-    x = step_report left.step Unfinished mid.at mid.polls
-
-    done : new.done ≡ old.done ++ x ∷ []
-    done = ap (λ (p : Player). p.done) left.only ∙ ap (λ (p : Player). p.done ++ x ∷ []) o.only
-
-    skips : SkipsRightly j.conditions r (old.done ++ x ∷ [])
-    skips k report g = elim (get_cases old.done x k report g) [
-      | inl before ↦
-          let same : take k (old.done ++ x ∷ []) ≡ take k old.done = take-append-le k old.done (x ∷ []) (omega (arith, slice_get_within old.done k report before)) in
-          h.skips k report before ∙ ap (λ (reports : List StepReport). not (is_played j.conditions r reports)) (sym same)
-      | inr last ↦
-          let same : take k (old.done ++ x ∷ []) ≡ old.done = ap (λ n. take n (old.done ++ x ∷ [])) last.0 ∙ take-append_seam old.done (x ∷ []) in
-          ap (λ (y : StepReport). is_skipped y.answer) (sym last.1) ∙ sym (ap not played) ∙ ap (λ (reports : List StepReport). not (is_played j.conditions r reports)) (sym same)
-    ]
 
 -- one call that leaves its step open, which is then given up
 pub moves-leave : {j : Seen} {w : World} (r : ℕ) {asked : Step} (mid w' : World) → IsJob j → IsWorld w → r < length w.players → Follows j w → Ready (script_at j r) j.turns (player_at w r) asked → is_played j.conditions r (player_at w r).done ≡ true → IsUndecided (player_at w r) → Happens w (Call r asked) mid → Happens mid (Leave r) w' → j.turns ≤ (player_at mid r).polls → Moves j w w' true

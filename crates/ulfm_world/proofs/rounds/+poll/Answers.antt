@@ -1,4 +1,4 @@
-use Rattle.std.proofs.Common.{rules, ◌≡◌, length, Bool, Some, refl, ap, sym, subst, ◌∙◌, slice_get}
+use Rattle.std.proofs.Common.{◌≡◌, length, Bool, Some, refl, ap, sym, subst, ◌∙◌, slice_get}
 use Rattle.ulfm_world.proofs.Common.{script_at, World, player_at, Moves, next_open, IsUndecided}
 use Rattle.ulfm_job.specs.Job.{decides_on}
 use Rattle.ulfm_world.proofs.Moves.{moves-first}
