@@ -82,7 +82,8 @@ fn steps_react_to_earlier_answers(rt: HostRuntime) {
 
 #[test]
 fn an_answer_that_is_not_expected_ends_with_nine(rt: HostRuntime) {
-    let job = "ranks = 1\ncapacity = 1\nturns = 2\nstep = [{rank = 0, op = \"probe\", expect = [\"found\"]}]\n";
+    let job =
+        "ranks = 1\ncapacity = 1\nturns = 2\nstep = [{rank = 0, op = \"probe\", expect = [\"found\"]}]\n";
     let answer = reply(&rt, &["ulfm", "replay", "--strict"], job);
     let follows = is_reply(
         &answer,
