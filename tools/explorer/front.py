@@ -32,7 +32,7 @@ def build():
     newest = max(source.stat().st_mtime for source in sources)
     if not PROGRAM.exists() or PROGRAM.stat().st_mtime < newest:
         PROGRAM.parent.mkdir(exist_ok=True)
-        fresh = PROGRAM.with_suffix(f".{os.getpid()}")
+        fresh = PROGRAM.with_name(f"explorer-{os.getpid()}")
         subprocess.run([compiler(), "-O", "--edition", "2021", "-o", fresh, FOLDER / "main.rs"], check=True)
         fresh.replace(PROGRAM)
     return PROGRAM

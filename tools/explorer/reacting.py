@@ -18,6 +18,9 @@ WORDS = {
     "stop": ["stopped"],
 }
 
+# How much more often than another step one of these is asked about: schedules turn their answers.
+WEIGHTS = {"wait": 8, "probe": 8, "cancel": 6, "mrecv": 4, "send": 3, "recv": 3, "failed": 3, "ack": 3}
+
 
 class Reactions:
     """Gives reactions to the steps of a job, out of a source of chance."""
@@ -36,9 +39,9 @@ class Reactions:
         return name if name and self.chance.random() < 0.7 else number
 
     def condition(self, rank):
-        """A condition, more often about one of the last three steps."""
-        earlier = range(len(self.before[rank]))
-        number = self.chance.choice(earlier[-3:] if self.chance.random() < 0.7 else earlier)
+        """A condition about an earlier step."""
+        weights = [WEIGHTS.get(op, 1) for op, _ in self.before[rank]]
+        number = self.chance.choices(range(len(weights)), weights)[0]
         return {"step": self.reference(rank, number), "is": self.words(self.before[rank][number][0], ["skipped"])}
 
     def react(self, rank, op, keys):
@@ -46,7 +49,7 @@ class Reactions:
         keys = dict(keys)
         if "req" in keys:
             keys["req"] = self.reference(rank, keys["req"])
-        if self.before[rank] and self.chance.random() < (0.7 if op == "stop" else 0.35):
+        if self.before[rank] and self.chance.random() < (0.8 if op == "stop" else 0.45):
             conditions = [self.condition(rank) for _ in range(self.chance.choice([1, 1, 2]))]
             keys["if"] = conditions[0] if len(conditions) == 1 else conditions
         if self.chance.random() < 0.3:
