@@ -7,9 +7,9 @@ use crate::topics::{Purpose, Topic};
 use crate::world::World;
 
 impl World {
-    /// Whether a rank runs and has a stop ahead.
+    /// Whether a rank runs and may stop. A stop that may be skipped counts too.
     pub fn has_stop_ahead(&self, job: &Job, rank: usize) -> bool {
-        self.steps_ahead(job, rank).last() == Some(&Step::Stop)
+        self.steps_ahead(job, rank).any(|step| *step == Step::Stop)
     }
 
     /// Whether a rank runs now and will never stop.
@@ -63,7 +63,7 @@ impl World {
         let waits = self.ranks[rank].requests.values().any(|(pattern, fate)| {
             *fate == Fate::Waiting && pattern.context == context && matches!(pattern.source, Source::Any(_))
         });
-        waits || self.steps_ahead(job, rank).iter().any(|step| step.asks_any(context))
+        waits || self.steps_ahead(job, rank).any(|step| step.asks_any(context))
     }
 
     /// Whether a rank may still enter an agreement, or ask what was decided there. It is that of the next step that agrees on
@@ -71,13 +71,13 @@ impl World {
     pub fn may_ask_about(&self, job: &Job, rank: usize, topic: Topic) -> bool {
         let Purpose::Agree(round) = topic.purpose else { return true };
         let is_one = |step: &&Step| matches!(step, Step::Agree { comm, .. } if *comm == topic.context);
-        let ahead = self.steps_ahead(job, rank).iter().filter(is_one).count();
+        let ahead = self.steps_ahead(job, rank).filter(is_one).count();
         let next = self.ranks[rank].agreed_on(topic.context);
         (next as usize..next as usize + ahead).contains(&(round as usize))
     }
 
     /// Whether a rank may still cancel a receive.
     pub fn may_cancel(&self, job: &Job, rank: usize) -> bool {
-        self.steps_ahead(job, rank).iter().any(|step| matches!(step, Step::Cancel { .. }))
+        self.steps_ahead(job, rank).any(|step| matches!(step, Step::Cancel { .. }))
     }
 }

@@ -27,8 +27,8 @@ impl Rank {
             _ => Poll::Answered(self.call(job, step).unwrap_or_else(Answer::Refused)),
         };
         self.is_open = poll == Poll::Entered;
-        if let Poll::Answered(_) = poll {
-            self.answered += 1;
+        if let Poll::Answered(answer) = &poll {
+            self.go_on(job, answer);
         }
         poll
     }

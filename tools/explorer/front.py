@@ -1,4 +1,6 @@
-"""Builds the explorer of all outcomes, and hands jobs over to it in their plain form: `<ranks> <capacity>`, then a line a step."""
+"""Builds the explorer of all outcomes, and hands jobs over to it in their plain form: `<ranks> <capacity>`, then a line a step. In it
+steps are named by numbers alone, and a step ends with its conditions: `<step> <words>` for each, in hexadecimal digits."""
+import collections
 import os
 import pathlib
 import shutil
@@ -30,13 +32,13 @@ def build():
     newest = max(source.stat().st_mtime for source in sources)
     if not PROGRAM.exists() or PROGRAM.stat().st_mtime < newest:
         PROGRAM.parent.mkdir(exist_ok=True)
-        fresh = PROGRAM.with_suffix(f".{os.getpid()}")
+        fresh = PROGRAM.with_name(f"explorer-{os.getpid()}")
         subprocess.run([compiler(), "-O", "--edition", "2021", "-o", fresh, FOLDER / "main.rs"], check=True)
         fresh.replace(PROGRAM)
     return PROGRAM
 
 
-def words_of(step):
+def words_of(step, number_of):
     """The words of a step, in the plain form."""
     op, comm = step["op"], step.get("comm", 0)
     if op == "send":
@@ -47,14 +49,55 @@ def words_of(step):
     if op == "probe":
         return [op, step.get("from", "any"), step.get("tag", "any"), comm]
     if op in ("wait", "cancel"):
-        return [op, step["req"]]
+        return [op, number_of(step["req"])]
     if op == "mrecv":
-        return [op, step["req"], step.get("room", 1024)]
+        return [op, number_of(step["req"]), step.get("room", 1024)]
     if op == "ack":
         return [op, step["count"], comm]
     if op == "agree":
         return [op, step["flag"], comm]
     return [op] if op == "stop" else [op, comm]
+
+
+def conditions_of(step, number_of):
+    """Each answer that a step asks for, and of which step, in the plain form."""
+    tables = step.get("if", [])
+    found = []
+    for table in [tables] if isinstance(tables, dict) else tables:
+        for words in table["is"]:
+            found += [number_of(table["step"]), words.encode().hex()]
+    return found
+
+
+def numbered(job):
+    """The steps of a job with their numbers of their rank, and for each the number of an earlier step by its number or its name."""
+    counts, names = collections.Counter(), collections.defaultdict(dict)
+    for step in job.get("step", []):
+        rank = step["rank"]
+        before = dict(names[rank])
+        yield step, counts[rank], lambda of, before=before: before[of] if isinstance(of, str) else of
+        if "name" in step:
+            names[rank][step["name"]] = counts[rank]
+        counts[rank] += 1
+
+
+def begins(answer, words):
+    """Whether an answer begins, by whole words, with these."""
+    return answer == words or answer.startswith(words + " ")
+
+
+def expected(text):
+    """What each step of a job's text expects of its answer, where it expects anything, by rank and number."""
+    import tomllib
+
+    return {(step["rank"], number): step["expect"] for step, number, _ in numbered(tomllib.loads(text)) if "expect" in step}
+
+
+def is_met(expectations, head, answer):
+    """Whether an answer is one that its step expects, by the words before the colon. A skipped step is asked nothing."""
+    rank, number = map(int, head.split()[:2])
+    words = expectations.get((rank, number))
+    return words is None or answer == "skipped" or any(begins(answer, one) for one in words)
 
 
 def plain(text):
@@ -63,7 +106,8 @@ def plain(text):
 
     job = tomllib.loads(text)
     lines = [[job["ranks"], job["capacity"]]]
-    lines += [[step["rank"], *words_of(step)] for step in job.get("step", [])]
+    for step, _, number_of in numbered(job):
+        lines.append([step["rank"], *words_of(step, number_of), *conditions_of(step, number_of)])
     return "\n".join(" ".join(map(str, line)) for line in lines) + "\n"
 
 

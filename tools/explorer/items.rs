@@ -62,5 +62,7 @@ pub enum Answer {
     /// The value, and the positions of the members that aren't listed.
     Agreed(u32, Vec<Place>),
     Stopped,
+    /// None of its conditions holds, so it isn't played.
+    Skipped,
     Refused(Refusal),
 }

@@ -1,5 +1,6 @@
 //! A job: what each rank calls, step by step, in the plain form that `front.py` makes of the TOML text.
 
+use crate::reacting::Condition;
 use std::str::SplitWhitespace;
 
 /// The number of a context: 0 is the world's.
@@ -37,6 +38,8 @@ pub struct Job {
     pub capacity: usize,
     /// The steps of each rank, those behind its `stop` too.
     pub steps: Vec<Vec<Step>>,
+    /// The conditions of each of these. One of them has to hold, where there are any.
+    pub conditions: Vec<Vec<Vec<Condition>>>,
     /// Each body once, in lower case hexadecimal digits.
     pub bodies: Vec<String>,
 }
@@ -52,19 +55,22 @@ impl Step {
 }
 
 impl Job {
-    /// Reads the plain form: a line `<ranks> <capacity>`, then a line `<rank> <op> <words>` for each step.
+    /// Reads the plain form: a line `<ranks> <capacity>`, then a line `<rank> <op> <words>` for each step. Behind these stands
+    /// `<step> <words>` for each of its conditions, the words in hexadecimal digits.
     pub fn read(text: &str) -> Result<Job, String> {
         let mut lines = text.lines();
         let head = lines.next().unwrap_or("");
         let mut words = head.split_whitespace();
         let ranks: usize = number(&mut words).filter(|ranks| (1..=8).contains(ranks)).ok_or(head)?;
         let capacity = number(&mut words).ok_or(head)?;
-        let mut job = Job { capacity, steps: vec![vec![]; ranks], bodies: vec![] };
+        let conditions = (0..ranks).map(|_| vec![]).collect();
+        let mut job = Job { capacity, steps: vec![vec![]; ranks], conditions, bodies: vec![] };
         for line in lines {
             let mut words = line.split_whitespace();
             let rank: usize = number(&mut words).filter(|rank| *rank < ranks).ok_or(line)?;
             let step = job.step(&mut words).ok_or(line)?;
             job.steps[rank].push(step);
+            job.conditions[rank].push(conditions_in(&mut words).ok_or(line)?);
         }
         Ok(job)
     }
@@ -117,12 +123,22 @@ impl Job {
         self.bodies[body as usize].len() / 2
     }
 
-    /// The steps of a rank that are run: those up to its `stop`.
-    pub fn script(&self, rank: usize) -> &[Step] {
-        let steps = &self.steps[rank];
-        let stop = steps.iter().position(|step| *step == Step::Stop);
-        &steps[..stop.map_or(steps.len(), |at| at + 1)]
+}
+
+/// The conditions in which a line ends.
+fn conditions_in(words: &mut SplitWhitespace) -> Option<Vec<Condition>> {
+    let mut found = vec![];
+    while let Some(step) = words.next() {
+        found.push(Condition { step: step.parse().ok()?, words: text(words.next()?)? });
     }
+    Some(found)
+}
+
+/// The text of which these are the bytes, in hexadecimal digits.
+fn text(digits: &str) -> Option<String> {
+    let byte = |at: usize| u8::from_str_radix(digits.get(at..at + 2)?, 16).ok();
+    let bytes: Option<Vec<u8>> = (0..digits.len()).step_by(2).map(byte).collect();
+    String::from_utf8(bytes?).ok()
 }
 
 fn number<N: std::str::FromStr>(words: &mut SplitWhitespace) -> Option<N> {

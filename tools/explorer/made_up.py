@@ -1,9 +1,20 @@
 """Made-up jobs: small ones, with what schedules can turn: stops, full inboxes, revocations, shrinks, agreements, receives and probes
 from any source, cancels, duplicates and acknowledgements."""
 
+import reacting
+
 MOST_STEPS = 12
 TURNS = 2000
 FLAGS = [0, 3, 5, 6, 7, 12, 4294967295]
+
+
+def toml(value):
+    """A value as TOML."""
+    if isinstance(value, dict):
+        return "{ " + ", ".join(f"{key} = {toml(one)}" for key, one in value.items()) + " }"
+    if isinstance(value, list):
+        return "[" + ", ".join(map(toml, value)) + "]"
+    return f'"{value}"' if isinstance(value, str) else str(value)
 
 
 def job_text(ranks, capacity, steps):
@@ -11,7 +22,7 @@ def job_text(ranks, capacity, steps):
     lines = [f"ranks = {ranks}", f"capacity = {capacity}", f"turns = {TURNS}"]
     for rank, op, keys in steps:
         lines += ["[[step]]", f"rank = {rank}", f'op = "{op}"']
-        lines += [f'{key} = "{value}"' if isinstance(value, str) else f"{key} = {value}" for key, value in keys.items()]
+        lines += [f"{key} = {toml(value)}" for key, value in keys.items()]
     return "\n".join(lines) + "\n"
 
 
@@ -81,6 +92,26 @@ CHOSEN = [
         (1, "dup", {}), (1, "agree", {"flag": 6, "comm": 1}), (1, "stop", {}),
         (2, "dup", {}), (2, "revoke", {}), (2, "agree", {"flag": 14, "comm": 1}), (2, "stop", {}),
     ]), "0 1 agree 12 comm 1", *["agreed 12 without [1] | agreed 4 without [] | refused 1 NoComm"] * 2),
+    # The second stop is reached only where the first one is skipped, and the send only where the second one is skipped.
+    ("skipped_stop", job_text(3, 1, [
+        (0, "send", {"to": 1, "tag": 0, "body": "a"}), (0, "stop", {}),
+        (1, "recv", {"from": 0, "name": "letter"}), (1, "wait", {"req": "letter", "name": "got"}),
+        (1, "stop", {"if": {"step": "got", "is": ["done"]}, "name": "first"}),
+        (1, "send", {"to": 2, "tag": 0, "body": "b", "if": [{"step": "got", "is": ["pending"]}, {"step": "first", "is": ["skipped"]}]}),
+        (2, "recv", {"from": 1}), (2, "wait", {"req": 0}),
+    ]), "2 1 wait 0", *["done from 1 tag 0 62 | over 5 ProcFailed"] * 2),
+    # What was answered long ago decides, and nothing else that the rank holds tells of it.
+    ("told_apart_by_answers", job_text(2, 1, [
+        (0, "send", {"to": 1, "tag": 0, "body": "a"}), (0, "stop", {}),
+        (1, "recv", {"from": 0}), (1, "wait", {"req": 0, "name": "got"}), (1, "recv", {"from": 0}), (1, "wait", {"req": 2}),
+        (1, "revoke", {"if": {"step": "got", "is": ["over 5"]}}), (1, "dup", {}),
+    ]), "1 5 dup comm 0", *["comm 1 | refused 6 Revoked"] * 2),
+    # A step is played where one of its conditions holds, and by whole words.
+    ("whole_words", job_text(2, 1, [
+        (0, "dup", {}), (0, "failed", {"if": {"step": 0, "is": ["com"]}}),
+        (0, "failed", {"if": [{"step": 0, "is": ["comm 12"]}, {"step": 1, "is": ["ranks", "skipped"]}]}),
+        (0, "failed", {"if": {"step": 2, "is": ["ranks []"]}}),
+    ]), "0 3 failed comm 0", *["ranks []"] * 2),
 ]
 
 
@@ -236,7 +267,14 @@ class Maker:
             self.piece()
         return job_text(self.ranks, self.capacity, self.steps[:MOST_STEPS])
 
+    def text_of_reacting(self, chance):
+        """The same job with names, conditions and expectations."""
+        self.text()
+        self.steps = reacting.reacting(chance, self.steps[:MOST_STEPS])
+        return job_text(self.ranks, self.capacity, self.steps)
 
-def made_up(chance):
-    """The text of a made-up job."""
-    return Maker(chance).text()
+
+def made_up(chance, of_reactions=None):
+    """The text of a made-up job: one that reacts, where there is a source of chance for that."""
+    maker = Maker(chance)
+    return maker.text_of_reacting(of_reactions) if of_reactions else maker.text()

@@ -20,6 +20,7 @@ mod matching;
 mod messages;
 mod part;
 mod rank;
+mod reacting;
 mod reductions;
 mod revocation;
 mod search;

@@ -4,7 +4,7 @@ use crate::group::Group;
 use crate::items::{Item, Letter, Refusal};
 use crate::job::{Context, Place};
 use crate::topics::{Contribution, Round, Topic};
-use std::collections::{BTreeMap, VecDeque};
+use std::collections::{BTreeMap, BTreeSet, VecDeque};
 use std::hash::{DefaultHasher, Hash, Hasher};
 
 /// The sources that a receive asks for, as ranks of the world.
@@ -38,6 +38,8 @@ pub struct Rank {
     pub me: Place,
     /// How many of its steps are answered.
     pub answered: usize,
+    /// The later steps with conditions of which one holds of the answers so far.
+    pub chosen: BTreeSet<usize>,
     /// Whether the next step is a shrink or an agreement that was entered.
     pub is_open: bool,
     pub stopped: bool,
@@ -71,6 +73,7 @@ impl Rank {
         Rank {
             me,
             answered: 0,
+            chosen: BTreeSet::new(),
             is_open: false,
             stopped: false,
             groups: BTreeMap::from([(0, Group::world(ranks))]),
@@ -103,6 +106,7 @@ impl Rank {
 
     /// The rank with nothing of what only its own calls would ask for. What it owes stays, and which contexts are revoked.
     pub fn forget(&mut self) {
+        self.chosen.clear();
         self.groups.clear();
         self.known.clear();
         self.acknowledged.clear();

@@ -1,10 +1,12 @@
 -- Counting one more trace, row by row, and one more run.
-use Rattle.std.proofs.Common.{◌≡◌, ◌<◌, ℕ, ◌+◌, ◌||◌, List, [], ◌∷◌, ◌++◌, true, take, drop, set, get_or, length, take-append-drop, map, bytes_eq, string_bytes, append_assoc, drop-set-lt, arith, sym, ap, ap₂, subst, ◌∙◌, if◌then◌else◌}
-use Rattle.std.specs.List.{list_any}
-use Rattle.std.proofs.Math.Bool.{or-false}
+use Rattle.std.proofs.Common.{◌≡◌, ◌<◌, ℕ, ◌+◌, ◌&&◌, ◌||◌, List, [], ◌∷◌, ◌++◌, true, take, drop, set, get_or, length, take-append-drop, map, bytes_eq, string_bytes, append_assoc, drop-set-lt, arith, sym, ap, ap₂, subst, ◌∙◌, if◌then◌else◌}
+use Rattle.std.specs.List.{list_all, list_any}
+use Rattle.std.proofs.Math.Bool.{and-true, or-false}
 use Rattle.std.proofs.lemmas.List.{drop_more, get_or_default, map-append, take_more_set}
-use Rattle.std.proofs.lemmas.List.Folds.{list_any-append}
+use Rattle.std.proofs.lemmas.List.Folds.{list_all-append, list_any-append}
 use Rattle.std.proofs.lemmas.List.Sums.{fold-append}
+use Rattle.ulfm_job.specs.Job.{Seen}
+use Rattle.ulfm_script.specs.Reacting.{all_met}
 use Rattle.ulfm_script.specs.Report.{Report}
 use Rattle.ulfm_script.specs.Trace.{trace_of}
 use Rattle.ulfm.specs.declared.tally.Counted.{Counted}
@@ -43,3 +45,7 @@ one_more runs reports = ap tally (map-append trace_of runs (reports ∷ [])) ∙
 -- and may be the one that left a step unfinished
 pub some_more : (runs : List (List Report)) (reports : List Report) → list_any has_unfinished (runs ++ reports ∷ []) ≡ (list_any has_unfinished runs || has_unfinished reports)
 some_more runs reports = list_any-append has_unfinished runs (reports ∷ []) ∙ ap (λ b. list_any has_unfinished runs || b) (or-false (has_unfinished reports))
+
+-- and may be the one whose answers aren't as expected
+pub all_more : (job : Seen) (runs : List (List Report)) (reports : List Report) → list_all (all_met job) (runs ++ reports ∷ []) ≡ (list_all (all_met job) runs && all_met job reports)
+all_more job runs reports = list_all-append (all_met job) runs (reports ∷ []) ∙ ap (λ b. list_all (all_met job) runs && b) (and-true (all_met job reports))

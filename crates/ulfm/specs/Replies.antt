@@ -1,6 +1,6 @@
 -- What the program writes for a job.
 use Rattle.std.specs.Prelude.{◌≡◌, ◌≢◌, ℕ, Bool, List, length, map, take, Option, Some, None, Ok, Err, All}
-use Rattle.std.specs.List.{list_any}
+use Rattle.std.specs.List.{list_all, list_any}
 use Rattle.std.specs.Option.{option_map_or}
 use Rattle.std.specs.Io.KnownBytes.{Appends}
 use Rattle.ulfm_job.specs.declared.fault.JobFault.{JobFault}
@@ -8,6 +8,7 @@ use Rattle.ulfm_job.specs.declared.fault.JobFault.TheVariants.{OutOfMemory}
 use Rattle.ulfm_job.specs.Job.{Seen, with_turns}
 use Rattle.ulfm_job.specs.Plan.{plan_of}
 use Rattle.ulfm_job.specs.JobText.{job_of_bytes}
+use Rattle.ulfm_script.specs.Reacting.{all_met}
 use Rattle.ulfm_script.specs.Report.{Report}
 use Rattle.ulfm_script.specs.Trace.{trace_of}
 use Rattle.ulfm_laws.specs.Lawful.{IsLawful}
@@ -29,7 +30,7 @@ use Rattle.ulfm_replies.specs.declared.failure.Failure.TheVariants as run
 pub data IsReplayReply (is_strict : Bool) (bytes : List ℕ) : ℕ → List ℕ → Type 0 where
   traced : (job : Seen) (reports : List Report) → job_of_bytes bytes ≡ Ok (plan_of job) → IsReplayed job reports
       → IsLawful job reports → MadeAtRest job reports
-      → IsReplayReply is_strict bytes (played_status is_strict (has_unfinished reports)) (trace_of reports)
+      → IsReplayReply is_strict bytes (played_status is_strict (all_met job reports) (has_unfinished reports)) (trace_of reports)
   not_a_job : (f : JobFault) → job_of_bytes bytes ≡ Err f → IsReplayReply is_strict bytes 1 (refused_text f)
   no_room : IsReplayReply is_strict bytes 1 (refused_text OutOfMemory)
   failed : IsReplayReply is_strict bytes 3 out_of_memory_text
@@ -38,16 +39,16 @@ pub data IsReplayReply (is_strict : Bool) (bytes : List ℕ) : ℕ → List ℕ 
 abbrev pub with_options : RunOptions → Seen → Seen
 with_options options job = option_map_or (λ turns. with_turns turns job) options.turns job
 
--- The same for `run`: with 0, or 6, the trace of reports that are lawful for the job, whichever thread went when; with 3 the
+-- The same for `run`: with 0, 6 or 9, the trace of reports that are lawful for the job, whichever thread went when; with 3 the
 -- line of what failed. F2 comes for a good job alone, and F4 only with reports of the job's ranks that
 -- show it. With `--repeat` each distinct trace of so many runs, each lawful, comes once with its count.
 pub data IsRunReply (options : RunOptions) (bytes : List ℕ) : ℕ → List ℕ → Type 0 where
   ran : (job : Seen) (reports : List Report) → options.repeat ≡ None → job_of_bytes bytes ≡ Ok (plan_of job)
       → IsLawful (with_options options job) reports
-      → IsRunReply options bytes (played_status options.is_strict (has_unfinished reports)) (trace_of reports)
+      → IsRunReply options bytes (played_status options.is_strict (all_met (with_options options job) reports) (has_unfinished reports)) (trace_of reports)
   repeated : (job : Seen) (runs : List (List Report)) → options.repeat ≡ Some (length runs) → job_of_bytes bytes ≡ Ok (plan_of job)
       → All (IsLawful (with_options options job)) runs
-      → IsRunReply options bytes (played_status options.is_strict (list_any has_unfinished runs)) (tally_text (length runs) (tally (map trace_of runs)))
+      → IsRunReply options bytes (played_status options.is_strict (list_all (all_met (with_options options job)) runs) (list_any has_unfinished runs)) (tally_text (length runs) (tally (map trace_of runs)))
   no_such_job : (f : JobFault) → job_of_bytes bytes ≡ Err f → IsRunReply options bytes 1 (refused_text f)
   no_place : IsRunReply options bytes 1 (refused_text OutOfMemory)
   no_thread : (job : Seen) → job_of_bytes bytes ≡ Ok (plan_of job) → IsRunReply options bytes 3 (failed_text run.NoThread)

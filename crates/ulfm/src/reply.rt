@@ -21,7 +21,7 @@ fn replay_reply(alloc: Global, is_strict: bool, bytes: &[u8]) -> Result<Reply, A
         Err(fault) => return refusal(alloc, fault),
     };
     match replay(alloc, &job) {
-        Ok(reports) => trace_reply(alloc, is_strict, reports.as_slice()),
+        Ok(reports) => trace_reply(alloc, is_strict, &job, reports.as_slice()),
         Err(_) => Err(AllocError),
     }
 }

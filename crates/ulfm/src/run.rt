@@ -46,7 +46,7 @@ pub fn run_reply<R: Threads + Wait + Sync>(
     }
     let ran = run_by_carrier(rt, alloc, options.carrier, &job);
     match ran {
-        Ok(reports) => trace_reply(alloc, options.is_strict, reports.as_slice()),
+        Ok(reports) => trace_reply(alloc, options.is_strict, &job, reports.as_slice()),
         Err(failure) => failed(alloc, failure),
     }
 }

@@ -1,7 +1,8 @@
 //! The reply of `run --repeat`: the traces of its runs, counted.
-ghost use Rattle.std.specs.Prelude.{◌≡◌, ◌++◌, ◌||◌, ◌+◌, ◌<◌, ◌≤◌, ℕ, All, List, length, map, IfErr, IfOk, OnOk, string_bytes};
-ghost use Rattle.std.specs.List.{list_any};
+ghost use Rattle.std.specs.Prelude.{◌≡◌, ◌++◌, ◌&&◌, ◌||◌, ◌+◌, ◌<◌, ◌≤◌, ℕ, All, List, length, map, IfErr, IfOk, OnOk, string_bytes};
+ghost use Rattle.std.specs.List.{list_all, list_any};
 ghost use Rattle.ulfm_laws.specs.Lawful.{IsLawful};
+ghost use Rattle.ulfm_script.specs.Reacting.{all_met};
 ghost use Rattle.ulfm_script.specs.Report.{Report};
 ghost use Rattle.ulfm_script.specs.Trace.{trace_of};
 ghost use Rattle.ulfm.specs.declared.tally.Counted.{Counted as Kept};
@@ -15,7 +16,7 @@ use std::alloc::{AllocError, Global};
 use std::sync::Wait;
 use std::thread::Threads;
 use ulfm_replies::{Carrier, Failure, Reply, has_unfinished, played_status};
-use ulfm_script::{Job, trace_text};
+use ulfm_script::{Job, all_met, trace_text};
 
 /// A trace, and how many runs gave it.
 #[derive(Drop)]
@@ -24,11 +25,13 @@ pub struct Counted {
     pub count: u32,
 }
 
-/// The distinct traces of runs, in the order in which they first came, and whether some run left a step unfinished.
+/// The distinct traces of runs, in the order in which they first came, whether some run left a step unfinished, and whether in all of
+/// them the answers are as expected.
 #[derive(Drop)]
 pub struct Tally {
     pub rows: Vec<Counted>,
     pub is_unfinished: bool,
+    pub is_met: bool,
 }
 
 /// Runs a job so many times, and counts the traces.
@@ -44,12 +47,13 @@ pub fn tally_of<R: Threads + Wait + Sync>(
     job: &Job,
 ) -> Result<Tally, Failure>
     ensures runs { IfOk result (λ t. (runs : List (List Report)) × (length runs ≡ times) × All (IsLawful job.now) runs
-        × (t.is_unfinished ≡ list_any has_unfinished runs) × (rows_of t.rows.items ≡ tally (map trace_of runs))) }
+        × (t.is_unfinished ≡ list_any has_unfinished runs) × (t.is_met ≡ list_all (all_met job.now) runs) × (rows_of t.rows.items ≡ tally (map trace_of runs))) }
     ensures shown { IfErr result (λ failure. IsShown job.now failure) }
 {
     let mut tally = Tally {
         rows: Vec::new(alloc),
         is_unfinished: false,
+        is_met: true,
     };
     let mut done = 0;
     while done < times {
@@ -72,13 +76,16 @@ fn run_once<R: Threads + Wait + Sync>(
     requires room { done < 4294967295 }
     ensures ran { OnOk result ((reports : List Report) × IsLawful job.now reports
         × (tally.new.is_unfinished ≡ (tally.old.is_unfinished || has_unfinished reports))
+        × (tally.new.is_met ≡ (tally.old.is_met && all_met job.now reports))
         × (rows_of tally.new.rows.items ≡ counted (rows_of tally.old.rows.items) (trace_of reports))) }
     ensures few { OnOk result (All (λ (row : Kept). row.count ≤ done + 1) tally.new.rows.items) }
     ensures shown { IfErr result (λ failure. IsShown job.now failure) }
 {
     let reports = run_by_carrier(rt, alloc, carrier, job)?;
     let hangs = has_unfinished(reports.as_slice());
+    let is_met = all_met(alloc, job, reports.as_slice());
     tally.is_unfinished = tally.is_unfinished | hangs;
+    tally.is_met = tally.is_met & is_met;
     match trace_text(alloc, reports.as_slice()) {
         Ok(trace) => match count_trace(&mut tally.rows, trace, done) {
             Ok(()) => Ok(()),
@@ -112,14 +119,14 @@ pub fn tally_reply(
     times: u32,
     tally: &Tally,
 ) -> Result<Reply, AllocError>
-    ensures { IfOk result (λ r. (r.status ≡ played_status is_strict tally.now.is_unfinished) × (string_bytes r.text ≡ tally_text times (rows_of tally.now.rows.items))) }
+    ensures { IfOk result (λ r. (r.status ≡ played_status is_strict tally.now.is_met tally.now.is_unfinished) × (string_bytes r.text ≡ tally_text times (rows_of tally.now.rows.items))) }
 {
     let mut text = String::new(alloc);
     for row in &tally.rows {
         push_row(&mut text, times, row)?;
     }
     Ok(Reply {
-        status: played_status(is_strict, tally.is_unfinished),
+        status: played_status(is_strict, tally.is_met, tally.is_unfinished),
         text,
     })
 }

@@ -6,6 +6,7 @@ mod broken;
 mod notes;
 mod options;
 mod probes;
+mod reacting;
 mod refused;
 mod rows;
 mod runs;

@@ -33,6 +33,20 @@ pub enum Cause {
     OutOfRange(Key, i64, Kind),
     /// An op that there isn't, and the nearest one.
     UnknownOp(Shown, Option<&'static str>),
+    /// A text that can't be a name.
+    NoName(Shown),
+    /// A name that the step of its rank with this number has.
+    NameTaken(Shown, usize),
+    /// A name that no earlier step of its rank has.
+    NotNamed(Key, Shown),
+    /// A number that is none of an earlier step of its rank.
+    NotEarlier(i64),
+    /// A list of so many, where 1 to 16 may be.
+    Count(Key, usize),
+    /// Words with which no answer of this op begins.
+    NoAnswer(Key, Shown, &'static str),
+    /// Words of so many bytes, where 1024 are the most.
+    LongWords(Key, usize),
     /// The step can be read, and will be refused when it runs.
     Doomed(Doom),
 }
@@ -122,6 +136,32 @@ impl fmt::Display for Cause {
                 let meant = Meant(*nearest);
                 write!(f, "op '{word}' is unknown{meant} the ops are {AllOps}")
             }
+            Cause::NoName(text) => write!(
+                f,
+                "name '{text}' has to be 1 to 32 letters, digits, '_' and '-'"
+            ),
+            Cause::NameTaken(text, step) => {
+                write!(f, "name '{text}' is that of step {step} of its rank too")
+            }
+            Cause::NotNamed(key, text) => write!(
+                f,
+                "key '{key}' is '{text}', and no earlier step of its rank has this name"
+            ),
+            Cause::NotEarlier(number) => write!(
+                f,
+                "key 'if' names step {number}, and that is no earlier step of its rank"
+            ),
+            Cause::Count(key, count) => {
+                write!(f, "key '{key}' has {count} items, and has to have 1 to 16")
+            }
+            Cause::NoAnswer(key, words, op) => write!(
+                f,
+                "key '{key}' has '{words}', and no answer of '{op}' begins so"
+            ),
+            Cause::LongWords(key, count) => write!(
+                f,
+                "key '{key}' has a text of {count} bytes, and 1024 are the most"
+            ),
             Cause::Doomed(doom) => write!(f, "{doom}: this step will be refused"),
         }
     }

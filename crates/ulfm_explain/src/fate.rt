@@ -2,7 +2,8 @@
 
 use crate::doom::Doom;
 use crate::keys::{integer_at, text_at};
-use crate::rules::{Key, OPS};
+use crate::rules::Key;
+use crate::script::{Script, has_condition, op_of};
 use crate::steps::rank_of;
 use toml::Value;
 
@@ -24,23 +25,12 @@ pub struct Placed<'a> {
     pub step: &'a Value,
 }
 
-/// The op of a step, if it is known.
-fn op_of(step: &Value) -> Option<&'static str> {
-    let op = text_at(step.as_table()?, Key::Op)?;
-    OPS.iter().copied().find(|known| *known == op)
-}
-
 /// The communicator of a step: the world where it names none.
 fn comm_of(step: &Value) -> i64 {
     match step.as_table() {
         Some(table) => integer_at(table, Key::Comm).unwrap_or(0),
         None => 0,
     }
-}
-
-/// The step that a step names.
-fn req_of(step: &Value) -> Option<i64> {
-    integer_at(step.as_table()?, Key::Req)
 }
 
 /// Whether a step makes this communicator, if it isn't refused.
@@ -54,16 +44,26 @@ fn makes(step: &Value, comm: i64) -> bool {
 }
 
 impl<'a> Placed<'a> {
-    /// The step of its rank with this number.
-    fn sibling(&self, number: usize) -> Option<&'a Value> {
-        let mut of_rank = self
-            .steps
-            .iter()
-            .filter(|step| rank_of(*step) == Some(self.rank));
-        of_rank.nth(number)
+    /// The steps of its rank.
+    fn script(&self) -> Script<'a> {
+        Script {
+            steps: self.steps,
+            rank: self.rank,
+        }
     }
 
-    /// Whether its rank stops before it.
+    /// The step of its rank with this number.
+    fn sibling(&self, number: usize) -> Option<&'a Value> {
+        self.script().step(number)
+    }
+
+    /// The number of the step that a step of its rank names.
+    fn req_of(&self, step: &Value) -> Option<i64> {
+        let value = step.as_table()?.get("req")?;
+        self.script().number_of(value, self.number)
+    }
+
+    /// Whether its rank stops before it, whatever happens.
     pub fn is_after_stop(&self) -> bool {
         let mut of_rank = self
             .steps
@@ -72,7 +72,7 @@ impl<'a> Placed<'a> {
         of_rank
             .by_ref()
             .take(self.number)
-            .any(|step| op_of(step) == Some("stop"))
+            .any(|step| op_of(step) == Some("stop") && !has_condition(step))
     }
 
     /// Why it will be refused, if it surely will.
@@ -120,7 +120,7 @@ impl<'a> Placed<'a> {
     }
 
     /// A communicator that isn't made, is revoked, or has its one duplicate or shrink. Where a step that makes it stands between,
-    /// earlier calls on it say nothing.
+    /// earlier calls on it say nothing, and neither does one that may be skipped.
     fn doom_of_comm(&self, op: &'static str) -> Option<Doom> {
         let comm = comm_of(self.step);
         let is_making = op == "dup" || op == "shrink";
@@ -134,7 +134,7 @@ impl<'a> Placed<'a> {
                 revoked = None;
                 again = None;
             }
-            if comm_of(earlier) == comm {
+            if comm_of(earlier) == comm && !has_condition(earlier) {
                 let other = op_of(earlier);
                 if other == Some("revoke") {
                     revoked = Some(Doom::Revoked(comm, number));
@@ -159,7 +159,7 @@ impl<'a> Placed<'a> {
     /// A `req` that names no step with the wanted op, none that comes earlier, one that will be refused, or one of which
     /// an earlier step with the last op leaves nothing.
     fn doom_of_req(&self, wanted: &'static str, last: &'static str) -> Option<Doom> {
-        let req = integer_at(self.step.as_table()?, Key::Req)?;
+        let req = self.req_of(self.step)?;
         let Ok(number) = usize::try_from(req) else {
             return None;
         };
@@ -192,7 +192,10 @@ impl<'a> Placed<'a> {
     fn used_up_by(&self, req: i64, named: usize, op: &'static str) -> Option<usize> {
         for number in named..self.number {
             let earlier = self.sibling(number)?;
-            if op_of(earlier) == Some(op) && req_of(earlier) == Some(req) {
+            if op_of(earlier) == Some(op)
+                && !has_condition(earlier)
+                && self.req_of(earlier) == Some(req)
+            {
                 return Some(number);
             }
         }

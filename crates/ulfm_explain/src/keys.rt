@@ -17,12 +17,22 @@ pub struct Sheet<'a> {
     /// The step that the table is; none for the job.
     pub step: Option<StepPlace>,
     pub ranks: u8,
+    /// The key of the step in which the table stands; none where it is the step, or the job.
+    pub within: Option<Key>,
 }
 
 impl Sheet<'_> {
     /// The number of its step in the file.
     fn in_file(&self) -> Option<usize> {
         self.step.map(|step| step.in_file)
+    }
+
+    /// Where a key begins, or the key within which the table stands.
+    fn place_of(&self, findings: &Findings<'_>, key: &str) -> Option<usize> {
+        match self.within {
+            Some(within) => findings.place_of(self.in_file(), within.name()),
+            None => findings.place_of(self.in_file(), key),
+        }
     }
 
     /// Tells what is missing or of a wrong kind, then what is unknown, then what is out of range.
@@ -55,12 +65,15 @@ impl Sheet<'_> {
                 return findings.tell(Some(at), None, Cause::InStep(key));
             }
         }
-        let at = findings.place_of_step(self.in_file());
+        let at = match self.within {
+            Some(within) => findings.place_of(self.in_file(), within.name()),
+            None => findings.place_of_step(self.in_file()),
+        };
         findings.tell(at, self.step, Cause::Missing(key, key.kind(self.ranks)))
     }
 
     /// Tells of a value that isn't of its key's kind.
-    fn explain_kind(
+    pub fn explain_kind(
         &self,
         findings: &mut Findings<'_>,
         key: Key,
@@ -73,7 +86,7 @@ impl Sheet<'_> {
         if is_of_kind(value, wanted) {
             return Ok(());
         }
-        let at = findings.place_of(self.in_file(), key.name());
+        let at = self.place_of(findings, key.name());
         if wanted == Kind::Tables && value.is_table() {
             return findings.tell(at, self.step, Cause::OneTable);
         }
@@ -82,12 +95,12 @@ impl Sheet<'_> {
     }
 
     /// Tells of keys that the table doesn't have.
-    fn explain_unknown(&self, findings: &mut Findings<'_>) -> Result<(), AllocError> {
+    pub fn explain_unknown(&self, findings: &mut Findings<'_>) -> Result<(), AllocError> {
         for name in self.table.keys() {
             if self.rules.find(name.as_str()).is_none() && !findings.is_full() {
                 let word = Shown::new(findings.alloc, name.as_str())?;
                 let nearest = nearest_key(findings.alloc, name.as_str(), &self.rules)?;
-                let at = findings.place_of(self.in_file(), name.as_str());
+                let at = self.place_of(findings, name.as_str());
                 findings.tell(at, self.step, Cause::UnknownKey(word, nearest, self.rules))?;
             }
         }
@@ -100,7 +113,7 @@ impl Sheet<'_> {
             let wanted = key.kind(self.ranks);
             if let Some(number) = integer_at(self.table, *key) {
                 if is_outside(number, wanted) {
-                    let at = findings.place_of(self.in_file(), key.name());
+                    let at = self.place_of(findings, key.name());
                     findings.tell(at, self.step, Cause::OutOfRange(*key, number, wanted))?;
                 }
             }
@@ -144,7 +157,10 @@ pub fn text_at(table: &Table, key: Key) -> Option<&str> {
 fn is_of_kind(value: &Value, kind: Kind) -> bool {
     match kind {
         Kind::Integer(_, _) | Kind::OrAny(_, _) => value.is_integer(),
-        Kind::Text => value.is_str(),
+        Kind::Text | Kind::Name => value.is_str(),
+        Kind::Reference(_, _) => value.is_integer() || value.is_str(),
+        Kind::Conditions => value.is_table() || value.is_array(),
+        Kind::Words => value.is_array(),
         Kind::Tables => false,
     }
 }
@@ -154,6 +170,7 @@ fn is_outside(number: i64, kind: Kind) -> bool {
     match kind {
         Kind::Integer(least, most) => number < least || most < number,
         Kind::OrAny(least, most) => number < least || most < number,
-        Kind::Text | Kind::Tables => false,
+        Kind::Reference(least, most) => number < least || most < number,
+        _ => false,
     }
 }

@@ -1,6 +1,8 @@
 //! What is wrong with a job's text, and where: for people, beside the program's own line.
 #![tactic(auto)]
 
+mod answers;
+mod asking;
 mod cause;
 mod check;
 mod doom;
@@ -12,8 +14,10 @@ mod marks;
 mod nearest;
 mod place;
 mod rules;
+mod script;
 mod shown;
 mod steps;
+mod unmet;
 mod walk;
 mod warning;
 
@@ -24,4 +28,5 @@ pub use explanation::{Explanation, StepPlace};
 pub use place::Place;
 pub use rules::{Key, Kind, Rules};
 pub use shown::Shown;
+pub use unmet::unmet_answers;
 pub use warning::warnings;

@@ -26,7 +26,8 @@ fn edits(alloc: Global, from: &str, to: &str) -> Result<Option<usize>, AllocErro
 pub fn nearest_key(alloc: Global, word: &str, rules: &Rules) -> Result<Option<Key>, AllocError> {
     let mut nearest = None;
     let mut least = usize::MAX;
-    for key in rules.required.iter().chain(rules.optional.iter()) {
+    let own = rules.required.iter().chain(rules.optional.iter());
+    for key in own.chain(rules.asking.iter()) {
         if let Some(count) = edits(alloc, word, key.name())? {
             if count < least {
                 least = count;

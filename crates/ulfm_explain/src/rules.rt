@@ -13,6 +13,14 @@ pub enum Kind {
     Text,
     /// An array of tables.
     Tables,
+    /// An integer from the first to the second, or the name of an earlier step.
+    Reference(i64, i64),
+    /// A name.
+    Name,
+    /// A table, or an array of 1 to 16.
+    Conditions,
+    /// An array of 1 to 16 texts.
+    Words,
 }
 
 /// A key of a job or of a step.
@@ -35,6 +43,12 @@ pub enum Key {
     Count,
     Flag,
     Comm,
+    Name,
+    If,
+    Expect,
+    /// The step that a condition names.
+    Earlier,
+    Is,
 }
 
 impl Key {
@@ -44,7 +58,7 @@ impl Key {
             Key::Ranks => "ranks",
             Key::Capacity => "capacity",
             Key::Turns => "turns",
-            Key::Step => "step",
+            Key::Step | Key::Earlier => "step",
             Key::Op => "op",
             Key::Rank => "rank",
             Key::To => "to",
@@ -56,6 +70,10 @@ impl Key {
             Key::Count => "count",
             Key::Flag => "flag",
             Key::Comm => "comm",
+            Key::Name => "name",
+            Key::If => "if",
+            Key::Expect => "expect",
+            Key::Is => "is",
         }
     }
 
@@ -73,10 +91,13 @@ impl Key {
             Key::Tag => Kind::Integer(0, 32767),
             Key::TagOrAny => Kind::OrAny(0, 32767),
             Key::Room => Kind::Integer(0, 1024),
-            Key::Req => Kind::Integer(0, 255),
+            Key::Req | Key::Earlier => Kind::Reference(0, 255),
             Key::Count => Kind::Integer(0, 8),
             Key::Flag => Kind::Integer(0, 4_294_967_295),
             Key::Comm => Kind::Integer(0, 62),
+            Key::Name => Kind::Name,
+            Key::If => Kind::Conditions,
+            Key::Expect | Key::Is => Kind::Words,
         }
     }
 }
@@ -88,7 +109,12 @@ pub struct Rules {
     pub owner: &'static str,
     pub required: &'static [Key],
     pub optional: &'static [Key],
+    /// Keys that each step may have, and which are looked at last.
+    pub asking: &'static [Key],
 }
+
+/// The keys that each step may have, and which are looked at last.
+const ASKING: &[Key] = &[Key::Name, Key::If, Key::Expect];
 
 /// The ops of steps.
 pub const OPS: [&str; 13] = [
@@ -102,6 +128,17 @@ pub fn job_rules() -> Rules {
         owner: "a job",
         required: &[Key::Ranks, Key::Capacity, Key::Turns],
         optional: &[Key::Step],
+        asking: &[],
+    }
+}
+
+/// The keys of one condition.
+pub fn condition_rules() -> Rules {
+    Rules {
+        owner: "an if",
+        required: &[Key::Earlier, Key::Is],
+        optional: &[],
+        asking: &[],
     }
 }
 
@@ -121,6 +158,7 @@ pub fn any_step_rules() -> Rules {
             Key::Flag,
             Key::Comm,
         ],
+        asking: ASKING,
     }
 }
 
@@ -158,13 +196,15 @@ pub fn rules_of(op: &str) -> Option<Rules> {
         owner,
         required,
         optional,
+        asking: ASKING,
     })
 }
 
 impl Rules {
     /// The key that is written like this, if the table has it.
     pub fn find(&self, name: &str) -> Option<Key> {
-        for key in self.required.iter().chain(self.optional.iter()) {
+        let own = self.required.iter().chain(self.optional.iter());
+        for key in own.chain(self.asking.iter()) {
             if key.name() == name {
                 return Some(*key);
             }
@@ -182,6 +222,15 @@ impl fmt::Display for Kind {
             }
             Kind::Text => f.write_str("a text in quotes"),
             Kind::Tables => f.write_str("an array of tables"),
+            Kind::Reference(least, most) => {
+                write!(
+                    f,
+                    "an integer from {least} to {most}, or the name of an earlier step in quotes"
+                )
+            }
+            Kind::Name => f.write_str("a text of 1 to 32 letters, digits, '_' and '-'"),
+            Kind::Conditions => f.write_str("a table with 'step' and 'is', or a list of 1 to 16"),
+            Kind::Words => f.write_str("a list of 1 to 16 texts in quotes"),
         }
     }
 }
@@ -201,6 +250,9 @@ impl fmt::Display for Rules {
                 f.write_str(",")?;
             }
             write!(f, " {key}")?;
+        }
+        for key in self.asking {
+            write!(f, ", {key}")?;
         }
         Ok(())
     }

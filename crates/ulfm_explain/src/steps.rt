@@ -1,5 +1,6 @@
 //! What is wrong with a job and with its steps.
 
+use crate::asking::explain_asking;
 use crate::cause::Cause;
 use crate::explanation::StepPlace;
 use crate::findings::Findings;
@@ -21,6 +22,7 @@ pub fn explain_job(findings: &mut Findings<'_>, table: &Table) -> Result<(), All
         rules: job_rules(),
         step: None,
         ranks,
+        within: None,
     };
     sheet.explain(findings)?;
     let steps = steps_of(table);
@@ -33,7 +35,8 @@ pub fn explain_job(findings: &mut Findings<'_>, table: &Table) -> Result<(), All
             return Ok(());
         }
         if let Some(step) = value.as_table() {
-            explain_step(findings, ranks, place_of(ranks, steps, in_file), step)?;
+            let place = place_of(ranks, steps, in_file);
+            explain_step(findings, ranks, steps, place, step)?;
         }
     }
     Ok(())
@@ -86,6 +89,7 @@ fn steps_before(steps: &[Value], in_file: usize, rank: i64) -> usize {
 fn explain_step(
     findings: &mut Findings<'_>,
     ranks: u8,
+    steps: &[Value],
     place: StepPlace,
     table: &Table,
 ) -> Result<(), AllocError> {
@@ -96,8 +100,10 @@ fn explain_step(
                 rules,
                 step: Some(place),
                 ranks,
+                within: None,
             };
-            return sheet.explain(findings);
+            sheet.explain(findings)?;
+            return explain_asking(findings, steps, place, &sheet);
         }
     }
     if let Some(op) = text_at(table, Key::Op) {
@@ -111,6 +117,7 @@ fn explain_step(
         rules: any_step_rules(),
         step: Some(place),
         ranks,
+        within: None,
     };
     sheet.explain(findings)
 }

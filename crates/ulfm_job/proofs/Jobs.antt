@@ -1,29 +1,26 @@
 -- The job of a table and of bytes, case by case.
 use Rattle.std.proofs.Common.{◌≡◌, ℕ, ◌<◌, ◌≤◌, List, length, ltb, true, false, Option, Result, Ok, Err, refl, ap, ◌∙◌, arith}
-use Rattle.ulfm_job.proofs.Common.{JobFault, map_ok, Order, Plan, scripts_of, nat_tests, IsUtf8, is_utf8, parse_document, ◌>>=◌}
+use Rattle.ulfm_job.proofs.Common.{Draft, JobFault, map_ok, items_len, nat_tests, IsUtf8, is_utf8, parse_document, ◌>>=◌}
 use Rattle.std.proofs.lemmas.Str.{is_utf8-from_IsUtf8, IsUtf8-from_is_utf8}
 use Rattle.std.proofs.lemmas.Bool.{false_from_ne_true}
 use Rattle.toml.specs.Data.{Members}
 use Rattle.ulfm_job.specs.declared.fault.JobFault.TheVariants as refused
-use Rattle.ulfm_job.specs.JobText.{Head, head_of, items_len, steps_of, job_of, job_of_document, job_of_bytes}
+use Rattle.ulfm_job.specs.JobText.{Head, blank, head_of, planned_as, steps_of, job_of, job_of_document, job_of_bytes}
 
 pub too_many : (ms : Members) (h : Head) → Ok h ≡ head_of ms → 256 < items_len h.steps → job_of ms ≡ Err refused.TooLarge
 unfolding job_of
 too_many ms h read many = let test : ltb 256 (items_len h.steps) ≡ true = grind (arith, nat_tests) in rw (← read, test) refl
 
-abbrev pub plan_with : Head → List (List Order) → Plan
-plan_with h scripts = record { ranks = h.ranks; capacity = h.capacity; turns = h.turns; scripts = scripts }
+later : {A B : Type 0} (f : A → B) (r : Result A JobFault) → (r >>= (λ x. Ok (f x))) ≡ map_ok f r
+later f (Ok x) = refl
+later f (Err e) = refl
 
-later : {A B C : Type 0} (g : A → B) (f : B → C) (r : Result A JobFault) → (r >>= (λ x. Ok (f (g x)))) ≡ map_ok f (map_ok g r)
-later g f (Ok x) = refl
-later g f (Err e) = refl
-
-pub steps_read : (ms : Members) (h : Head) (r : Result (List (List Order)) JobFault) → Ok h ≡ head_of ms → items_len h.steps ≤ 256 → map_ok (scripts_of h.ranks) (steps_of h.ranks 0 h.steps) ≡ r
-    → job_of ms ≡ map_ok (plan_with h) r
+pub steps_read : (ms : Members) (h : Head) (r : Result Draft JobFault) → Ok h ≡ head_of ms → items_len h.steps ≤ 256 → steps_of h.ranks 0 (blank h.ranks) h.steps ≡ r
+    → job_of ms ≡ map_ok (planned_as h) r
 unfolding job_of
-steps_read ms h r read few scripts =
+steps_read ms h r read few steps =
     let test : ltb 256 (items_len h.steps) ≡ false = grind (arith, nat_tests) in
-    rw (← read, test) (later (scripts_of h.ranks) (plan_with h) (steps_of h.ranks 0 h.steps) ∙ ap (map_ok (plan_with h)) scripts)
+    rw (← read, test) (later (planned_as h) (steps_of h.ranks 0 (blank h.ranks) h.steps) ∙ ap (map_ok (planned_as h)) steps)
 
 pub no_text : (bytes : List ℕ) → length bytes ≤ 1048576 → (IsUtf8 bytes → ⊥) → job_of_bytes bytes ≡ Err refused.NotToml
 unfolding job_of_bytes

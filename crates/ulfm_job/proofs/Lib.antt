@@ -1,5 +1,4 @@
 pub mod Common
-pub mod Filled
 pub mod Jobs
 pub mod Keys
 pub mod NoToml
@@ -8,3 +7,5 @@ pub mod Steps
 pub mod Padded
 pub mod WithStop
 pub mod Rounds
+pub mod Asking
+pub mod Drafting

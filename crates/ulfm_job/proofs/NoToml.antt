@@ -1,13 +1,12 @@
 -- Which bytes are refused as no TOML.
 use Rattle.std.proofs.Common.{◌≡◌, ◌≢◌, ℕ, ◌+◌, List, length, ltb, cond, Bool, true, false, Option, Some, None, Result, Ok, Err, ◌⊎◌, inl, inr, refl, sym, ◌∙◌, arith}
 use Rattle.std.proofs.lemmas.Bool.{false≢true, ltb-false}
-use Rattle.ulfm_job.proofs.Common.{JobFault, Plan, nat_tests, is_utf8, parse_document, ◌>>=◌}
+use Rattle.ulfm_job.proofs.Common.{Draft, JobFault, Plan, nat_tests, is_utf8, parse_document, ◌>>=◌}
 use Rattle.std.proofs.lemmas.Str.{is_utf8-from_IsUtf8}
 use Rattle.toml.specs.Data.{Items, no_items, item, Members, as_table}
 use Rattle.ulfm_job.specs.declared.fault.Fault.{Fault}
 use Rattle.ulfm_job.specs.declared.fault.JobFault.TheVariants.{NotToml, TooLarge}
-use Rattle.ulfm_job.specs.JobText.{in_job, in_step, step_in, steps_of, head_of, job_of, job_of_document, job_of_bytes, IsNoDocument}
-use Rattle.ulfm_job.specs.StepText.{step_of}
+use Rattle.ulfm_job.specs.JobText.{blank, draft_of, in_job, in_step, step_in, steps_of, head_of, job_of, job_of_document, job_of_bytes, IsNoDocument}
 use Rattle.ulfm_job.proofs.Jobs.{no_text}
 
 in_job_not : {A : Type 0} (r : Result A Fault) → in_job r ≢ Err NotToml
@@ -26,14 +25,14 @@ cond_not : {A : Type 0} (b : Bool) (x y : Result A JobFault) → x ≢ Err NotTo
 cond_not true x y h k = h
 cond_not false x y h k = k
 
-step_not : (ranks k : ℕ) (found : Option Members) → step_in ranks k found ≢ Err NotToml
-step_not ranks k None = λ e. cc
-step_not ranks k (Some ms) = in_step_not k (step_of ranks ms)
+step_not : (ranks k : ℕ) (draft : Draft) (found : Option Members) → step_in ranks k draft found ≢ Err NotToml
+step_not ranks k draft None = λ e. cc
+step_not ranks k draft (Some ms) = in_step_not k (draft_of ranks draft ms)
 
-steps_not : (ranks k : ℕ) (ds : Items) → steps_of ranks k ds ≢ Err NotToml
+steps_not : (ranks k : ℕ) (draft : Draft) (ds : Items) → steps_of ranks k draft ds ≢ Err NotToml
 unfolding steps_of
-steps_not ranks k no_items = λ e. cc
-steps_not ranks k (item d ds) = then_not _ _ (step_not ranks k (as_table d)) (λ first. then_not _ _ (steps_not ranks (k + 1) ds) (λ others e. cc))
+steps_not ranks k draft no_items = λ e. cc
+steps_not ranks k draft (item d ds) = then_not _ _ (step_not ranks k draft (as_table d)) (λ more. steps_not ranks (k + 1) more ds)
 
 too_large : {A : Type 0} → (r : Result A JobFault) → r ≡ Err TooLarge → r ≢ Err NotToml
 too_large (Ok x) e = absurd cc
@@ -41,7 +40,7 @@ too_large (Err f) e = λ q. cc
 
 job_not : (ms : Members) → job_of ms ≢ Err NotToml
 unfolding job_of
-job_not ms = then_not _ _ (in_job_not (head_of ms)) (λ h. cond_not _ _ _ (too_large _ refl) (then_not _ _ (steps_not h.ranks 0 h.steps) (λ steps e. cc)))
+job_not ms = then_not _ _ (in_job_not (head_of ms)) (λ h. cond_not _ _ _ (too_large _ refl) (then_not _ _ (steps_not h.ranks 0 (blank h.ranks) h.steps) (λ draft e. cc)))
 
 answer_to : Bool → Bool → Option Members → Result Plan JobFault
 answer_to long text document = cond long (Err TooLarge) (cond text (job_of_document document) (Err NotToml))

@@ -5,7 +5,7 @@ use Rattle.ulfm_job.proofs.Common.{Seen, IsJob, Step, script_at, step_count}
 use Rattle.ulfm_job.specs.Job.{agreements_in, is_agreement_step}
 
 -- a script has at most as many steps as there are in all
-one_of_all : (scripts : List (List Step)) (r : ℕ) → length (slice_index_or scripts r []) ≤ step_count scripts
+pub one_of_all : (scripts : List (List Step)) (r : ℕ) → length (slice_index_or scripts r []) ≤ step_count scripts
 one_of_all [] zero = omega arith
 one_of_all [] (suc r) = omega arith
 one_of_all (s ∷ scripts) zero = omega (arith, sum_by-cons length s scripts)

@@ -1,17 +1,21 @@
 -- What contracts see of a job.
-use Rattle.std.specs.Prelude.{◌≡◌, ◌<◌, ◌≤◌, ◌+◌, ◌&&◌, ℕ, Bool, true, false, List, [], ◌∷◌, Option, Some, None, length, map, sum_by, filter, slice_index_or, slice_set, nat_le, nat_lt, Vec, if◌then◌else◌}
+use Rattle.std.specs.Prelude.{◌≡◌, ◌==◌, ◌<◌, ◌≤◌, ◌+◌, ◌&&◌, ℕ, Bool, true, false, List, [], Option, Some, None, length, map, sum_by, filter, slice_index_or, slice_set, nat_le, nat_lt, Vec, if◌then◌else◌}
 use Rattle.std.specs.List.{insert}
 use Rattle.std.specs.declared.alloc.Global.{Global}
+use Rattle.ulfm_job.specs.declared.clause.Clause.{Clause}
 use Rattle.ulfm_job.specs.declared.step.Step.{Step}
 use Rattle.ulfm_base.specs.declared.context.Context.{Context}
 use Rattle.ulfm_job.specs.declared.step.Step.TheVariants.{Wait, Mrecv, Cancel, Shrink, Agree, Stop}
 
--- how many ranks there are, the room of an inbox, the most polls of one step, and the steps of each rank
+-- how many ranks there are, the room of an inbox, the most polls of one step, the steps of each rank, on what conditions some are
+-- played, and what some expect of their answers
 pub record Seen : Type 0 where
   pub ranks : ℕ
   pub capacity : ℕ
   pub turns : ℕ
   pub scripts : List (List Step)
+  pub conditions : List Clause
+  pub expected : List Clause
 
 -- how many steps there are in all
 abbrev pub step_count : List (List Step) → ℕ
@@ -22,8 +26,15 @@ abbrev pub lists_of : List (Vec Step Global) → List (List Step)
 lists_of scripts = map (λ script. script.items) scripts
 
 -- a job by its parts
-abbrev pub seen_of : ℕ → ℕ → List (Vec Step Global) → Seen
-seen_of capacity turns scripts = record { ranks = length scripts; capacity = capacity; turns = turns; scripts = lists_of scripts }
+abbrev pub seen_of : ℕ → ℕ → List (Vec Step Global) → List Clause → List Clause → Seen
+seen_of capacity turns scripts conditions expected = record {
+  ranks = length scripts;
+  capacity = capacity;
+  turns = turns;
+  scripts = lists_of scripts;
+  conditions = conditions;
+  expected = expected;
+}
 
 -- a job with another number of turns
 abbrev pub with_turns : ℕ → Seen → Seen
@@ -48,9 +59,18 @@ moved_on at n step = step
 abbrev pub stopped_at : ℕ → List Step → List Step
 stopped_at at script = insert (map (moved_on at (length script)) script) at Stop
 
+-- a clause, once a rank whose script has n steps has one more before its step `at`
+abbrev pub moved_clause : ℕ → ℕ → ℕ → Clause → Clause
+moved_clause r at n c =
+    if c.rank == r then record c { at = moved_number at n c.at; step = moved_number at n c.step } else c
+
 -- a job with one more step, a stop before the step `at` of the rank r
 abbrev pub with_stop : ℕ → ℕ → Seen → Seen
-with_stop r at j = record j { scripts = slice_set j.scripts r (stopped_at at (script_at j r)) }
+with_stop r at j = record j {
+  scripts = slice_set j.scripts r (stopped_at at (script_at j r));
+  conditions = map (moved_clause r at (length (script_at j r))) j.conditions;
+  expected = map (moved_clause r at (length (script_at j r))) j.expected;
+}
 
 -- the ranges of a job
 pub record IsJob (j : Seen) : Type 0 where
@@ -82,8 +102,3 @@ is_agreement_step _ = false
 -- how many steps of a script are agreements
 abbrev pub agreements_in : List Step → ℕ
 agreements_in script = length (filter is_agreement_step script)
-
--- a script up to and with its first stop, or the whole of it
-abbrev pub through_stop : List Step → List Step
-through_stop [] = []
-through_stop (x ∷ xs) = if is_stop_step x then x ∷ [] else x ∷ through_stop xs

@@ -1,5 +1,5 @@
 -- The job of a text, by cases in the order of the checks.
-use Rattle.std.specs.Prelude.{◌≡◌, ◌≢◌, ◌≤◌, ◌⊎◌, ℕ, ◌+◌, List, [], ◌∷◌, length, Bool, true, ◌&&◌, Option, Some, None, Result, Ok, Err, is_some, if◌then◌else◌, nat_lt, codes}
+use Rattle.std.specs.Prelude.{◌≡◌, ◌≢◌, ◌≤◌, ◌⊎◌, ℕ, ◌+◌, List, [], ◌∷◌, ◌++◌, length, replicate, slice_index_or, slice_set, Bool, true, ◌&&◌, Option, Some, None, Result, Ok, Err, is_some, if◌then◌else◌, nat_lt, codes}
 use Rattle.std.specs.Str.{is_utf8, IsUtf8}
 use Rattle.toml.specs.Data.{Data, Items, no_items, item, Members, get_member, as_array, as_table}
 use Rattle.toml.specs.Parse.{parse_document}
@@ -7,8 +7,11 @@ use Rattle.ulfm_job.specs.declared.fault.Fault.{Fault}
 use Rattle.ulfm_job.specs.declared.fault.Fault.TheVariants.{BadKey}
 use Rattle.ulfm_job.specs.declared.fault.JobFault.{JobFault}
 use Rattle.ulfm_job.specs.declared.fault.JobFault.TheVariants as refused
-use Rattle.ulfm_job.specs.Keys.{◌>>=◌, required_number, only_keys, in_range}
-use Rattle.ulfm_job.specs.Plan.{PlannedStep, Plan, scripts_of}
+use Rattle.ulfm_job.specs.Keys.{◌>>=◌, items_len, required_number, only_keys, in_range}
+use Rattle.ulfm_job.specs.declared.clause.Clause.{Clause}
+use Rattle.ulfm_job.specs.declared.name.Name.{Name}
+use Rattle.ulfm_job.specs.Plan.{Order, PlannedStep, Plan}
+use Rattle.ulfm_job.specs.Reacting.{names_in, conditions_in, expected_in}
 use Rattle.ulfm_job.specs.StepText.{step_of}
 
 -- a fault of the job's own keys
@@ -21,29 +24,51 @@ abbrev pub in_step : {A : Type 0} → ℕ → Result A Fault → Result A JobFau
 in_step k (Ok x) = Ok x
 in_step k (Err f) = Err (refused.InStep f k)
 
+-- what was read of the steps: those of each rank, their names, their conditions, and what they expect
+pub record Draft : Type 0 where
+  pub scripts : List (List Order)
+  pub names : List Name
+  pub conditions : List Clause
+  pub expected : List Clause
+
+-- nothing was read of so many ranks
+abbrev pub blank : ℕ → Draft
+blank ranks = record { scripts = replicate ranks []; names = []; conditions = []; expected = [] }
+
+-- one more step comes last in the script of its rank
+abbrev pub placed_in : List (List Order) → PlannedStep → List (List Order)
+placed_in scripts s = slice_set scripts s.rank (slice_index_or scripts s.rank [] ++ s.order ∷ [])
+
+-- a draft with one more step: its name, then its conditions, and then what it expects
+unfoldable pub drafted : Draft → Members → PlannedStep → Result Draft Fault
+drafted draft ms s = do
+  names ← names_in draft.names s.rank (length (slice_index_or draft.scripts s.rank [])) (get_member (codes "name") ms)
+  conditions ← conditions_in (record { rank = s.rank; at = length (slice_index_or draft.scripts s.rank []); script = slice_index_or draft.scripts s.rank []; names = draft.names }) draft.conditions (get_member (codes "if") ms)
+  expected ← expected_in s.rank (length (slice_index_or draft.scripts s.rank [])) s.order draft.expected (get_member (codes "expect") ms)
+  Ok (record { scripts = placed_in draft.scripts s; names = names; conditions = conditions; expected = expected })
+
+-- a draft with the step of a table
+abbrev pub draft_of : ℕ → Draft → Members → Result Draft Fault
+draft_of ranks draft ms = step_of ranks draft.names ms >>= drafted draft ms
+
 -- a step that may be no table
-abbrev pub step_in : ℕ → ℕ → Option Members → Result PlannedStep JobFault
-step_in ranks k None = Err (refused.InStep BadKey k)
-step_in ranks k (Some ms) = in_step k (step_of ranks ms)
+abbrev pub step_in : ℕ → ℕ → Draft → Option Members → Result Draft JobFault
+step_in ranks k draft None = Err (refused.InStep BadKey k)
+step_in ranks k draft (Some ms) = in_step k (draft_of ranks draft ms)
 
--- the step at a place of the file, or its fault with the place
-abbrev pub step_at : ℕ → ℕ → Data → Result PlannedStep JobFault
-step_at ranks k d = step_in ranks k (as_table d)
+-- a draft with the step at a place of the file, or its fault with the place
+abbrev pub step_at : ℕ → ℕ → Draft → Data → Result Draft JobFault
+step_at ranks k draft d = step_in ranks k draft (as_table d)
 
--- the steps in the order of the file, the first of them at place k
-unfoldable pub steps_of : ℕ → ℕ → Items → Result (List PlannedStep) JobFault
-steps_of ranks k no_items = Ok []
-steps_of ranks k (item d ds) = step_at ranks k d >>= (λ first. steps_of ranks (k + 1) ds >>= (λ others. Ok (first ∷ others)))
+-- a draft with these steps, in the order of the file, the first of them at place k
+unfoldable pub steps_of : ℕ → ℕ → Draft → Items → Result Draft JobFault
+steps_of ranks k draft no_items = Ok draft
+steps_of ranks k draft (item d ds) = step_at ranks k draft d >>= (λ more. steps_of ranks (k + 1) more ds)
 
 -- tables alone
 abbrev pub are_tables : Items → Bool
 are_tables no_items = true
 are_tables (item d ds) = is_some (as_table d) && are_tables ds
-
--- how many items an array has
-abbrev pub items_len : Items → ℕ
-items_len no_items = 0
-items_len (item d ds) = items_len ds + 1
 
 -- the array of tables at the key `step`, or no steps
 abbrev pub tables_in : Option Items → Result Items Fault
@@ -79,11 +104,22 @@ head_of ms = do
   turns ← in_range 1 10000000 turns_key
   Ok (record { ranks = ranks; capacity = capacity; turns = turns; steps = steps })
 
+-- the plan of the job's own keys, and of what was read of its steps
+abbrev pub planned_as : Head → Draft → Plan
+planned_as h draft = record {
+  ranks = h.ranks;
+  capacity = h.capacity;
+  turns = h.turns;
+  scripts = draft.scripts;
+  conditions = draft.conditions;
+  expected = draft.expected;
+}
+
 -- the job of a table: its own keys, how many steps there are, and then the steps
 unfoldable pub job_of : Members → Result Plan JobFault
 job_of ms = in_job (head_of ms) >>= (λ h.
     if nat_lt 256 (items_len h.steps) then Err refused.TooLarge
-    else steps_of h.ranks 0 h.steps >>= (λ steps. Ok (record { ranks = h.ranks; capacity = h.capacity; turns = h.turns; scripts = scripts_of h.ranks steps })))
+    else steps_of h.ranks 0 (blank h.ranks) h.steps >>= (λ draft. Ok (planned_as h draft)))
 
 -- the job of a text that may be no document
 abbrev pub job_of_document : Option Members → Result Plan JobFault

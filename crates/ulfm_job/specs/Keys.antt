@@ -1,9 +1,9 @@
 -- What the keys of a TOML table hold, and what is wrong with them.
-use Rattle.std.specs.Prelude.{ℕ, ℤ, pos, negsuc, List, [], ◌∷◌, Bool, ◌&&◌, nat_le, Option, Some, None, Result, Ok, Err, if◌then◌else◌}
+use Rattle.std.specs.Prelude.{ℕ, ◌+◌, ℤ, pos, negsuc, List, [], ◌∷◌, Bool, ◌&&◌, nat_le, Option, Some, None, Result, Ok, Err, if◌then◌else◌}
 use Rattle.std.specs.List.{list_any, list_all}
 use Rattle.std.specs.Option.{ok_or}
 use Rattle.std.specs.Str.{bytes_eq}
-use Rattle.toml.specs.Data.{Data, Members, no_members, member, get_member, as_integer, as_str}
+use Rattle.toml.specs.Data.{Data, Items, no_items, item, Members, no_members, member, get_member, as_integer, as_str}
 use Rattle.ulfm_job.specs.declared.fault.Fault.{Fault}
 use Rattle.ulfm_job.specs.declared.fault.Fault.TheVariants.{BadKey, UnknownKey, OutOfRange}
 
@@ -40,6 +40,11 @@ optional_number key ms = optional as_integer (get_member key ms)
 -- the text of a key that must be there
 abbrev pub required_text : List ℕ → Members → Result (List ℕ) Fault
 required_text key ms = required as_str (get_member key ms)
+
+-- how many items an array has
+abbrev pub items_len : Items → ℕ
+items_len no_items = 0
+items_len (item d ds) = items_len ds + 1
 
 -- the keys of a table, in its order
 abbrev pub keys_of : Members → List (List ℕ)

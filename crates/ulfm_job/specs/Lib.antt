@@ -1,6 +1,8 @@
 pub mod Job
 pub mod Plan
 pub mod Keys
+pub mod Begins
+pub mod Reacting
 pub mod StepText
 pub mod JobText
 pub mod Words

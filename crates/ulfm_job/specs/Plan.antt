@@ -1,6 +1,6 @@
 -- What the text of a job asks for, without the form that a job has in memory.
-use Rattle.std.specs.Prelude.{◌==◌, ℕ, List, Option, map, option_map, filter}
-use Rattle.std.specs.List.{range_with_len}
+use Rattle.std.specs.Prelude.{ℕ, List, Option, map, option_map}
+use Rattle.ulfm_job.specs.declared.clause.Clause.{Clause}
 use Rattle.ulfm_job.specs.declared.step.Step.{Step}
 use Rattle.ulfm_job.specs.declared.step.Step.TheVariants.{Send, Recv, Wait, Probe, Mrecv, Cancel, Failed, Ack, Revoke, Dup, Shrink, Agree, Stop}
 use Rattle.ulfm_job.specs.Job.{Seen}
@@ -26,20 +26,14 @@ pub record PlannedStep : Type 0 where
   pub rank : ℕ
   pub order : Order
 
--- ranks, room of an inbox, most polls of a step, and the steps of each rank
+-- ranks, room of an inbox, most polls of a step, the steps of each rank, and what steps ask of answers
 pub record Plan : Type 0 where
   pub ranks : ℕ
   pub capacity : ℕ
   pub turns : ℕ
   pub scripts : List (List Order)
-
--- the steps of the rank r, in the order of the file
-abbrev pub script_of : List PlannedStep → ℕ → List Order
-script_of steps r = map (λ s. s.order) (filter (λ s. s.rank == r) steps)
-
--- the steps of each rank
-abbrev pub scripts_of : ℕ → List PlannedStep → List (List Order)
-scripts_of ranks steps = map (script_of steps) (range_with_len 0 ranks)
+  pub conditions : List Clause
+  pub expected : List Clause
 
 -- a step as the order that it keeps
 abbrev pub order_of : Step → Order
@@ -59,4 +53,4 @@ order_of Stop = stop
 
 -- the plan of a job
 abbrev pub plan_of : Seen → Plan
-plan_of j = record { ranks = j.ranks; capacity = j.capacity; turns = j.turns; scripts = map (map order_of) j.scripts }
+plan_of j = record { ranks = j.ranks; capacity = j.capacity; turns = j.turns; scripts = map (map order_of) j.scripts; conditions = j.conditions; expected = j.expected }

@@ -5,6 +5,8 @@ use Rattle.toml.specs.Data.{Members}
 use Rattle.ulfm_job.specs.declared.fault.Fault.{Fault}
 use Rattle.ulfm_job.specs.declared.fault.Fault.TheVariants.{UnknownOp}
 use Rattle.ulfm_job.specs.Keys.{◌>>=◌, required_number, optional_number, required_text, only_keys, in_range, in_range_if_some}
+use Rattle.ulfm_job.specs.declared.name.Name.{Name}
+use Rattle.ulfm_job.specs.Reacting.{required_reference, req_in}
 use Rattle.ulfm_job.specs.Plan.{Order, PlannedStep, send, recv, wait, probe, mrecv, cancel, failed, ack, revoke, dup, shrink, agree, stop}
 
 -- the step of a `send`
@@ -15,7 +17,7 @@ send_step ranks ms = do
   tag_key ← required_number (codes "tag") ms
   body ← required_text (codes "body") ms
   comm_key ← optional_number (codes "comm") ms
-  keys ← only_keys (codes "op" ∷ codes "rank" ∷ codes "to" ∷ codes "tag" ∷ codes "body" ∷ codes "comm" ∷ []) ms
+  keys ← only_keys (codes "op" ∷ codes "rank" ∷ codes "name" ∷ codes "if" ∷ codes "expect" ∷ codes "to" ∷ codes "tag" ∷ codes "body" ∷ codes "comm" ∷ []) ms
   rank ← in_range 0 (ranks - 1) rank_key
   to ← in_range 0 7 to_key
   tag ← in_range 0 32767 tag_key
@@ -30,7 +32,7 @@ recv_step ranks ms = do
   tag_key ← optional_number (codes "tag") ms
   room_key ← optional_number (codes "room") ms
   comm_key ← optional_number (codes "comm") ms
-  keys ← only_keys (codes "op" ∷ codes "rank" ∷ codes "from" ∷ codes "tag" ∷ codes "room" ∷ codes "comm" ∷ []) ms
+  keys ← only_keys (codes "op" ∷ codes "rank" ∷ codes "name" ∷ codes "if" ∷ codes "expect" ∷ codes "from" ∷ codes "tag" ∷ codes "room" ∷ codes "comm" ∷ []) ms
   rank ← in_range 0 (ranks - 1) rank_key
   from ← in_range_if_some 7 from_key
   tag ← in_range_if_some 32767 tag_key
@@ -38,14 +40,14 @@ recv_step ranks ms = do
   comm ← in_range 0 62 (unwrap_or comm_key (pos 0))
   Ok (record { rank = rank; order = recv from tag room comm })
 
--- the step of an op that names an earlier step of its rank, and nothing else
-unfoldable pub step_on_req : (ℕ → Order) → ℕ → Members → Result PlannedStep Fault
-step_on_req order_on ranks ms = do
+-- the step of an op that names an earlier step of its rank, by its number or its name, and nothing else
+unfoldable pub step_on_req : (ℕ → Order) → ℕ → List Name → Members → Result PlannedStep Fault
+step_on_req order_on ranks names ms = do
   rank_key ← required_number (codes "rank") ms
-  req_key ← required_number (codes "req") ms
-  keys ← only_keys (codes "op" ∷ codes "rank" ∷ codes "req" ∷ []) ms
+  req_key ← required_reference (codes "req") ms
+  keys ← only_keys (codes "op" ∷ codes "rank" ∷ codes "name" ∷ codes "if" ∷ codes "expect" ∷ codes "req" ∷ []) ms
   rank ← in_range 0 (ranks - 1) rank_key
-  req ← in_range 0 255 req_key
+  req ← req_in names rank req_key
   Ok (record { rank = rank; order = order_on req })
 
 -- the step of a `probe`
@@ -55,7 +57,7 @@ probe_step ranks ms = do
   from_key ← optional_number (codes "from") ms
   tag_key ← optional_number (codes "tag") ms
   comm_key ← optional_number (codes "comm") ms
-  keys ← only_keys (codes "op" ∷ codes "rank" ∷ codes "from" ∷ codes "tag" ∷ codes "comm" ∷ []) ms
+  keys ← only_keys (codes "op" ∷ codes "rank" ∷ codes "name" ∷ codes "if" ∷ codes "expect" ∷ codes "from" ∷ codes "tag" ∷ codes "comm" ∷ []) ms
   rank ← in_range 0 (ranks - 1) rank_key
   from ← in_range_if_some 7 from_key
   tag ← in_range_if_some 32767 tag_key
@@ -63,14 +65,14 @@ probe_step ranks ms = do
   Ok (record { rank = rank; order = probe from tag comm })
 
 -- the step of an `mrecv`
-unfoldable pub mrecv_step : ℕ → Members → Result PlannedStep Fault
-mrecv_step ranks ms = do
+unfoldable pub mrecv_step : ℕ → List Name → Members → Result PlannedStep Fault
+mrecv_step ranks names ms = do
   rank_key ← required_number (codes "rank") ms
-  req_key ← required_number (codes "req") ms
+  req_key ← required_reference (codes "req") ms
   room_key ← optional_number (codes "room") ms
-  keys ← only_keys (codes "op" ∷ codes "rank" ∷ codes "req" ∷ codes "room" ∷ []) ms
+  keys ← only_keys (codes "op" ∷ codes "rank" ∷ codes "name" ∷ codes "if" ∷ codes "expect" ∷ codes "req" ∷ codes "room" ∷ []) ms
   rank ← in_range 0 (ranks - 1) rank_key
-  req ← in_range 0 255 req_key
+  req ← req_in names rank req_key
   room ← in_range 0 1024 (unwrap_or room_key (pos 1024))
   Ok (record { rank = rank; order = mrecv req room })
 
@@ -79,7 +81,7 @@ unfoldable pub step_on_comm : (ℕ → Order) → ℕ → Members → Result Pla
 step_on_comm order_on ranks ms = do
   rank_key ← required_number (codes "rank") ms
   comm_key ← optional_number (codes "comm") ms
-  keys ← only_keys (codes "op" ∷ codes "rank" ∷ codes "comm" ∷ []) ms
+  keys ← only_keys (codes "op" ∷ codes "rank" ∷ codes "name" ∷ codes "if" ∷ codes "expect" ∷ codes "comm" ∷ []) ms
   rank ← in_range 0 (ranks - 1) rank_key
   comm ← in_range 0 62 (unwrap_or comm_key (pos 0))
   Ok (record { rank = rank; order = order_on comm })
@@ -90,7 +92,7 @@ ack_step ranks ms = do
   rank_key ← required_number (codes "rank") ms
   count_key ← required_number (codes "count") ms
   comm_key ← optional_number (codes "comm") ms
-  keys ← only_keys (codes "op" ∷ codes "rank" ∷ codes "count" ∷ codes "comm" ∷ []) ms
+  keys ← only_keys (codes "op" ∷ codes "rank" ∷ codes "name" ∷ codes "if" ∷ codes "expect" ∷ codes "count" ∷ codes "comm" ∷ []) ms
   rank ← in_range 0 (ranks - 1) rank_key
   count ← in_range 0 8 count_key
   comm ← in_range 0 62 (unwrap_or comm_key (pos 0))
@@ -102,7 +104,7 @@ agree_step ranks ms = do
   rank_key ← required_number (codes "rank") ms
   flag_key ← required_number (codes "flag") ms
   comm_key ← optional_number (codes "comm") ms
-  keys ← only_keys (codes "op" ∷ codes "rank" ∷ codes "flag" ∷ codes "comm" ∷ []) ms
+  keys ← only_keys (codes "op" ∷ codes "rank" ∷ codes "name" ∷ codes "if" ∷ codes "expect" ∷ codes "flag" ∷ codes "comm" ∷ []) ms
   rank ← in_range 0 (ranks - 1) rank_key
   flag ← in_range 0 4294967295 flag_key
   comm ← in_range 0 62 (unwrap_or comm_key (pos 0))
@@ -112,19 +114,19 @@ agree_step ranks ms = do
 unfoldable pub stop_step : ℕ → Members → Result PlannedStep Fault
 stop_step ranks ms = do
   rank_key ← required_number (codes "rank") ms
-  keys ← only_keys (codes "op" ∷ codes "rank" ∷ []) ms
+  keys ← only_keys (codes "op" ∷ codes "rank" ∷ codes "name" ∷ codes "if" ∷ codes "expect" ∷ []) ms
   rank ← in_range 0 (ranks - 1) rank_key
   Ok (record { rank = rank; order = stop })
 
 -- the step of an op by its name
-unfoldable pub step_of_op : ℕ → List ℕ → Members → Result PlannedStep Fault
-step_of_op ranks op ms =
+unfoldable pub step_of_op : ℕ → List Name → List ℕ → Members → Result PlannedStep Fault
+step_of_op ranks names op ms =
     if bytes_eq op (codes "send") then send_step ranks ms
     else if bytes_eq op (codes "recv") then recv_step ranks ms
-    else if bytes_eq op (codes "wait") then step_on_req wait ranks ms
+    else if bytes_eq op (codes "wait") then step_on_req wait ranks names ms
     else if bytes_eq op (codes "probe") then probe_step ranks ms
-    else if bytes_eq op (codes "mrecv") then mrecv_step ranks ms
-    else if bytes_eq op (codes "cancel") then step_on_req cancel ranks ms
+    else if bytes_eq op (codes "mrecv") then mrecv_step ranks names ms
+    else if bytes_eq op (codes "cancel") then step_on_req cancel ranks names ms
     else if bytes_eq op (codes "failed") then step_on_comm failed ranks ms
     else if bytes_eq op (codes "ack") then ack_step ranks ms
     else if bytes_eq op (codes "revoke") then step_on_comm revoke ranks ms
@@ -135,5 +137,5 @@ step_of_op ranks op ms =
     else Err UnknownOp
 
 -- the step of a table; its op comes before its other keys
-unfoldable pub step_of : ℕ → Members → Result PlannedStep Fault
-step_of ranks ms = required_text (codes "op") ms >>= (λ op. step_of_op ranks op ms)
+unfoldable pub step_of : ℕ → List Name → Members → Result PlannedStep Fault
+step_of ranks names ms = required_text (codes "op") ms >>= (λ op. step_of_op ranks names op ms)

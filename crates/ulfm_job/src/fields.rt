@@ -1,5 +1,5 @@
 //! The keys of a table, one by one.
-ghost use Rattle.std.specs.Prelude.{◌≡◌, ◌≤◌, map, option_map, IfOk, IfSome, Ok, string_bytes};
+ghost use Rattle.std.specs.Prelude.{◌≡◌, ◌≤◌, map, option_map, IfOk, IfSome, Ok, Some, string_bytes};
 ghost use Rattle.std.specs.BTreeMap.{keys};
 ghost use Rattle.std.specs.List.{list_any, list_all};
 ghost use Rattle.std.specs.Str.{bytes_eq};
@@ -7,8 +7,11 @@ ghost use Rattle.toml.specs.Data.{get_member};
 ghost use Rattle.toml.specs.View.{view, table_view};
 ghost use Rattle.ulfm_job.specs.inside.Reading.{map_ok};
 ghost use Rattle.ulfm_job.specs.Keys.{required_number, optional_number, required_text, only_keys, in_range, in_range_if_some};
+ghost use Rattle.ulfm_job.specs.Reacting.{reference_in, required_reference};
 
 use crate::fault::Fault;
+use crate::reference::Reference;
+use crate::text::Text;
 use toml::{Table, Value};
 
 /// The value at a key.
@@ -50,6 +53,29 @@ pub fn required_text<'a>(table: &'a Table, key: &str) -> Result<&'a str, Fault>
             Some(text) => Ok(text),
             None => Err(Fault::BadKey),
         },
+        None => Err(Fault::BadKey),
+    }
+}
+
+/// What names a step, by its number or its name, at a key that has to be there.
+pub fn required_reference(table: &Table, key: &str) -> Result<Reference, Fault>
+    ensures { result ≡ required_reference key.now (table_view table.now) }
+{
+    match value_at(table, key) {
+        Some(value) => reference_in(value),
+        None => Err(Fault::BadKey),
+    }
+}
+
+/// What names a step, by its number or its name.
+fn reference_in(value: &Value) -> Result<Reference, Fault>
+    ensures { result ≡ reference_in (Some (view value.now)) }
+{
+    if let Some(number) = value.as_integer() {
+        return Ok(Reference::Number(number));
+    }
+    match value.as_str() {
+        Some(text) => Ok(Reference::Name(Text::new(text))),
         None => Err(Fault::BadKey),
     }
 }

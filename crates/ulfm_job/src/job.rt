@@ -2,21 +2,24 @@
 ghost use Rattle.std.specs.Prelude.{◌≡◌, ◌≢◌, ◌<◌, ◌≤◌, IfErr, IfOk, Err, slice_get, length, ℕ, ◌⊎◌};
 ghost use Rattle.ulfm_job.specs.Job.{IsJob, step_count, script_at, agreements_in};
 
+use crate::clause::Clause;
 use crate::fault::JobFault;
 use crate::step::Step;
-use crate::stopped::stopped_at;
+use crate::stopped::{moved_clauses, stopped_at};
 use std::marker::Model;
 
 /// The most steps of a job.
 pub const MOST_STEPS: usize = 256;
 
 /// What 1 to 8 ranks are to do: the room of an inbox (1 to 64 items), the most polls of one step (1 to 10,000,000),
-/// and the steps of each rank, 256 at most in all.
+/// the steps of each rank, 256 at most in all, on what conditions some are played, and what some expect of their answers.
 #[derive(Drop)]
 pub struct Job {
     capacity: u8,
     turns: u32,
     scripts: Vec<Vec<Step>>,
+    conditions: Vec<Clause>,
+    expected: Vec<Clause>,
 }
 
 impl Model for Job {
@@ -24,23 +27,31 @@ impl Model for Job {
 
     ghost Value = { Seen };
 
-    ghost view = { λ j. seen_of j.capacity j.turns j.scripts.items };
+    ghost view = { λ j. seen_of j.capacity j.turns j.scripts.items j.conditions.items j.expected.items };
 
-    ghost invariant = { λ j. IsJob (seen_of j.capacity j.turns j.scripts.items) };
+    ghost invariant = { λ j. IsJob (seen_of j.capacity j.turns j.scripts.items j.conditions.items j.expected.items) };
 }
 
 impl Job {
     ghost use Rattle.ulfm_job.specs.Job.{seen_of, with_stop, with_turns};
 
     /// The job of these scripts, one for each rank.
-    pub(crate) fn new(capacity: u8, turns: u32, scripts: Vec<Vec<Step>>) -> Job
-        requires { IsJob (seen_of capacity turns scripts.items) }
-        ensures { result ≡ seen_of capacity turns scripts.items }
+    pub(crate) fn new(
+        capacity: u8,
+        turns: u32,
+        scripts: Vec<Vec<Step>>,
+        conditions: Vec<Clause>,
+        expected: Vec<Clause>,
+    ) -> Job
+        requires { IsJob (seen_of capacity turns scripts.items conditions.items expected.items) }
+        ensures { result ≡ seen_of capacity turns scripts.items conditions.items expected.items }
     {
         Job {
             capacity,
             turns,
             scripts,
+            conditions,
+            expected,
         }
     }
 
@@ -50,11 +61,18 @@ impl Job {
         requires most { turns ≤ 10000000 }
         ensures { result ≡ with_turns turns self }
     {
-        Job::new(self.capacity, turns, self.scripts)
+        let Job {
+            capacity,
+            turns: _,
+            scripts,
+            conditions,
+            expected,
+        } = self;
+        Job::new(capacity, turns, scripts, conditions, expected)
     }
 
     /// The job with one more step, a stop, before the step `at` of a rank, or after its last one. Later steps have a number more,
-    /// by which its waits, receives of probed letters and cancels then name them. The job itself stays as it is.
+    /// by which its waits, receives of probed letters, cancels and conditions then name them. The job itself stays as it is.
     ///
     /// # Errors
     ///
@@ -69,12 +87,17 @@ impl Job {
         if self.len() == MOST_STEPS {
             return Err(JobFault::TooLarge);
         }
-        let steps = stopped_at(*self.scripts.allocator(), self.script(rank), at)?;
+        let alloc = *self.scripts.allocator();
+        let script = self.script(rank);
+        let len = script.len();
+        let steps = stopped_at(alloc, script, at)?;
+        let conditions = moved_clauses(alloc, self.conditions.as_slice(), rank, at, len)?;
+        let expected = moved_clauses(alloc, self.expected.as_slice(), rank, at, len)?;
         let Ok(mut scripts) = self.scripts.clone() else {
             return Err(JobFault::OutOfMemory);
         };
         scripts[rank as usize] = steps;
-        Ok(Job::new(self.capacity, self.turns, scripts))
+        Ok(Job::new(self.capacity, self.turns, scripts, conditions, expected))
     }
 
     /// How many ranks there are, 1 to 8. Each has a script.
@@ -126,6 +149,20 @@ impl Job {
     {
         let _ = &self.scripts;
         self.script(rank).len()
+    }
+
+    /// On what conditions steps are played: one of a step's own has to hold. A step that has none is played.
+    pub fn conditions(&self) -> &[Clause]
+        ensures { result.now ≡ self.now.conditions }
+    {
+        &self.conditions
+    }
+
+    /// What steps expect of their own answers: one of a step's own has to hold.
+    pub fn expected(&self) -> &[Clause]
+        ensures { result.now ≡ self.now.expected }
+    {
+        &self.expected
     }
 
     /// How many of a rank's steps are agreements, 0 to 256: none where there is no such rank.

@@ -6,7 +6,10 @@ ghost use Rattle.ulfm_job.specs.Plan.{wait, cancel};
 ghost use Rattle.ulfm_job.specs.StepText.{send_step, recv_step, step_on_req, probe_step, mrecv_step};
 
 use crate::fault::Fault;
-use crate::fields::{only_keys, optional_number, required_number, required_text};
+use crate::fields::{
+    only_keys, optional_number, required_number, required_reference, required_text,
+};
+use crate::name::Name;
 use crate::placed::Placed;
 use crate::ranges::{comm_in, from_if_some, rank_in, req_in, room_in, tag_if_some, tag_in, to_in};
 use crate::step::Step;
@@ -25,7 +28,12 @@ pub fn send_of(ranks: u8, table: &Table) -> Result<Placed, Fault>
     let tag = required_number(table, "tag")?;
     let body = required_text(table, "body")?;
     let comm = optional_number(table, "comm")?;
-    only_keys(table, &["op", "rank", "to", "tag", "body", "comm"])?;
+    only_keys(
+        table,
+        &[
+            "op", "rank", "name", "if", "expect", "to", "tag", "body", "comm",
+        ],
+    )?;
     let rank = rank_in(ranks, rank)?;
     let to = to_in(to)?;
     let tag = tag_in(tag)?;
@@ -54,7 +62,12 @@ pub fn recv_of(ranks: u8, table: &Table) -> Result<Placed, Fault>
     let tag = optional_number(table, "tag")?;
     let room = optional_number(table, "room")?;
     let comm = optional_number(table, "comm")?;
-    only_keys(table, &["op", "rank", "from", "tag", "room", "comm"])?;
+    only_keys(
+        table,
+        &[
+            "op", "rank", "name", "if", "expect", "from", "tag", "room", "comm",
+        ],
+    )?;
     let rank = rank_in(ranks, rank)?;
     let from = from_if_some(from)?;
     let tag = tag_if_some(tag)?;
@@ -73,16 +86,16 @@ pub fn recv_of(ranks: u8, table: &Table) -> Result<Placed, Fault>
 
 /// A `wait`.
 #[tactic(auto, unfolding(crate::specs::StepText::step_on_req))]
-pub fn wait_of(ranks: u8, table: &Table) -> Result<Placed, Fault>
+pub fn wait_of(ranks: u8, names: &[Name], table: &Table) -> Result<Placed, Fault>
     requires { 0 < ranks }
-    ensures exact { map_ok planned result ≡ step_on_req wait ranks (table_view table.now) }
+    ensures exact { map_ok planned result ≡ step_on_req wait ranks names.now (table_view table.now) }
     ensures below { IfOk result (λ placed. placed.rank < ranks) }
 {
     let rank = required_number(table, "rank")?;
-    let req = required_number(table, "req")?;
-    only_keys(table, &["op", "rank", "req"])?;
+    let req = required_reference(table, "req")?;
+    only_keys(table, &["op", "rank", "name", "if", "expect", "req"])?;
     let rank = rank_in(ranks, rank)?;
-    let req = req_in(req)?;
+    let req = req_in(names, rank, &req)?;
     Ok(Placed {
         rank,
         step: Step::Wait { req },
@@ -100,7 +113,10 @@ pub fn probe_of(ranks: u8, table: &Table) -> Result<Placed, Fault>
     let from = optional_number(table, "from")?;
     let tag = optional_number(table, "tag")?;
     let comm = optional_number(table, "comm")?;
-    only_keys(table, &["op", "rank", "from", "tag", "comm"])?;
+    only_keys(
+        table,
+        &["op", "rank", "name", "if", "expect", "from", "tag", "comm"],
+    )?;
     let rank = rank_in(ranks, rank)?;
     let from = from_if_some(from)?;
     let tag = tag_if_some(tag)?;
@@ -113,17 +129,20 @@ pub fn probe_of(ranks: u8, table: &Table) -> Result<Placed, Fault>
 
 /// An `mrecv`.
 #[tactic(auto, unfolding(crate::specs::StepText::mrecv_step))]
-pub fn mrecv_of(ranks: u8, table: &Table) -> Result<Placed, Fault>
+pub fn mrecv_of(ranks: u8, names: &[Name], table: &Table) -> Result<Placed, Fault>
     requires { 0 < ranks }
-    ensures exact { map_ok planned result ≡ mrecv_step ranks (table_view table.now) }
+    ensures exact { map_ok planned result ≡ mrecv_step ranks names.now (table_view table.now) }
     ensures below { IfOk result (λ placed. placed.rank < ranks) }
 {
     let rank = required_number(table, "rank")?;
-    let req = required_number(table, "req")?;
+    let req = required_reference(table, "req")?;
     let room = optional_number(table, "room")?;
-    only_keys(table, &["op", "rank", "req", "room"])?;
+    only_keys(
+        table,
+        &["op", "rank", "name", "if", "expect", "req", "room"],
+    )?;
     let rank = rank_in(ranks, rank)?;
-    let req = req_in(req)?;
+    let req = req_in(names, rank, &req)?;
     let room = room_in(room)?;
     Ok(Placed {
         rank,
@@ -133,16 +152,16 @@ pub fn mrecv_of(ranks: u8, table: &Table) -> Result<Placed, Fault>
 
 /// A `cancel`.
 #[tactic(auto, unfolding(crate::specs::StepText::step_on_req))]
-pub fn cancel_of(ranks: u8, table: &Table) -> Result<Placed, Fault>
+pub fn cancel_of(ranks: u8, names: &[Name], table: &Table) -> Result<Placed, Fault>
     requires { 0 < ranks }
-    ensures exact { map_ok planned result ≡ step_on_req cancel ranks (table_view table.now) }
+    ensures exact { map_ok planned result ≡ step_on_req cancel ranks names.now (table_view table.now) }
     ensures below { IfOk result (λ placed. placed.rank < ranks) }
 {
     let rank = required_number(table, "rank")?;
-    let req = required_number(table, "req")?;
-    only_keys(table, &["op", "rank", "req"])?;
+    let req = required_reference(table, "req")?;
+    only_keys(table, &["op", "rank", "name", "if", "expect", "req"])?;
     let rank = rank_in(ranks, rank)?;
-    let req = req_in(req)?;
+    let req = req_in(names, rank, &req)?;
     Ok(Placed {
         rank,
         step: Step::Cancel { req },

@@ -8,6 +8,7 @@ ghost use Rattle.ulfm_job.specs.StepText.{step_on_comm, ack_step, agree_step, st
 use crate::fault::Fault;
 use crate::fields::{in_range, only_keys, optional_number, required_number, required_text};
 use crate::letters::{cancel_of, mrecv_of, probe_of, recv_of, send_of, wait_of};
+use crate::name::Name;
 use crate::placed::Placed;
 use crate::ranges::{comm_in, flag_in, rank_in};
 use crate::step::Step;
@@ -21,7 +22,7 @@ fn failed_of(ranks: u8, table: &Table) -> Result<Placed, Fault>
 {
     let rank = required_number(table, "rank")?;
     let comm = optional_number(table, "comm")?;
-    only_keys(table, &["op", "rank", "comm"])?;
+    only_keys(table, &["op", "rank", "name", "if", "expect", "comm"])?;
     let rank = rank_in(ranks, rank)?;
     let comm = comm_in(comm)?;
     Ok(Placed {
@@ -39,7 +40,10 @@ fn ack_of(ranks: u8, table: &Table) -> Result<Placed, Fault>
     let rank = required_number(table, "rank")?;
     let count = required_number(table, "count")?;
     let comm = optional_number(table, "comm")?;
-    only_keys(table, &["op", "rank", "count", "comm"])?;
+    only_keys(
+        table,
+        &["op", "rank", "name", "if", "expect", "count", "comm"],
+    )?;
     let rank = rank_in(ranks, rank)?;
     let count = in_range(count, 0, 8)? as u8;
     let comm = comm_in(comm)?;
@@ -57,7 +61,7 @@ fn revoke_of(ranks: u8, table: &Table) -> Result<Placed, Fault>
 {
     let rank = required_number(table, "rank")?;
     let comm = optional_number(table, "comm")?;
-    only_keys(table, &["op", "rank", "comm"])?;
+    only_keys(table, &["op", "rank", "name", "if", "expect", "comm"])?;
     let rank = rank_in(ranks, rank)?;
     let comm = comm_in(comm)?;
     Ok(Placed {
@@ -74,7 +78,7 @@ fn dup_of(ranks: u8, table: &Table) -> Result<Placed, Fault>
 {
     let rank = required_number(table, "rank")?;
     let comm = optional_number(table, "comm")?;
-    only_keys(table, &["op", "rank", "comm"])?;
+    only_keys(table, &["op", "rank", "name", "if", "expect", "comm"])?;
     let rank = rank_in(ranks, rank)?;
     let comm = comm_in(comm)?;
     Ok(Placed {
@@ -91,7 +95,7 @@ fn shrink_of(ranks: u8, table: &Table) -> Result<Placed, Fault>
 {
     let rank = required_number(table, "rank")?;
     let comm = optional_number(table, "comm")?;
-    only_keys(table, &["op", "rank", "comm"])?;
+    only_keys(table, &["op", "rank", "name", "if", "expect", "comm"])?;
     let rank = rank_in(ranks, rank)?;
     let comm = comm_in(comm)?;
     Ok(Placed {
@@ -109,7 +113,10 @@ fn agree_of(ranks: u8, table: &Table) -> Result<Placed, Fault>
     let rank = required_number(table, "rank")?;
     let flag = required_number(table, "flag")?;
     let comm = optional_number(table, "comm")?;
-    only_keys(table, &["op", "rank", "flag", "comm"])?;
+    only_keys(
+        table,
+        &["op", "rank", "name", "if", "expect", "flag", "comm"],
+    )?;
     let rank = rank_in(ranks, rank)?;
     let flag = flag_in(flag)?;
     let comm = comm_in(comm)?;
@@ -126,7 +133,7 @@ fn stop_of(ranks: u8, table: &Table) -> Result<Placed, Fault>
     ensures below { IfOk result (λ placed. placed.rank < ranks) }
 {
     let rank = required_number(table, "rank")?;
-    only_keys(table, &["op", "rank"])?;
+    only_keys(table, &["op", "rank", "name", "if", "expect"])?;
     let rank = rank_in(ranks, rank)?;
     Ok(Placed {
         rank,
@@ -141,18 +148,18 @@ fn stop_of(ranks: u8, table: &Table) -> Result<Placed, Fault>
 /// `BadKey` where `op` is missing or no text, then `UnknownOp`, then the faults of the op's own keys: `BadKey` where one
 /// is missing or of another kind, `UnknownKey`, and `OutOfRange`, in this order.
 #[tactic(auto, unfolding(crate::specs::StepText::step_of, crate::specs::StepText::step_of_op))]
-pub fn step_of(ranks: u8, table: &Table) -> Result<Placed, Fault>
+pub fn step_of(ranks: u8, names: &[Name], table: &Table) -> Result<Placed, Fault>
     requires { 0 < ranks }
-    ensures exact { map_ok planned result ≡ step_of ranks (table_view table.now) }
+    ensures exact { map_ok planned result ≡ step_of ranks names.now (table_view table.now) }
     ensures below { IfOk result (λ placed. placed.rank < ranks) }
 {
     match required_text(table, "op")? {
         "send" => send_of(ranks, table),
         "recv" => recv_of(ranks, table),
-        "wait" => wait_of(ranks, table),
+        "wait" => wait_of(ranks, names, table),
         "probe" => probe_of(ranks, table),
-        "mrecv" => mrecv_of(ranks, table),
-        "cancel" => cancel_of(ranks, table),
+        "mrecv" => mrecv_of(ranks, names, table),
+        "cancel" => cancel_of(ranks, names, table),
         "failed" => failed_of(ranks, table),
         "ack" => ack_of(ranks, table),
         "revoke" => revoke_of(ranks, table),

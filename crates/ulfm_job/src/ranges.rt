@@ -2,9 +2,12 @@
 ghost use Rattle.std.specs.Prelude.{◌≡◌, ◌<◌, ◌-◌, pos, option_map, unwrap_or, IfOk};
 ghost use Rattle.ulfm_job.specs.inside.Reading.{map_ok};
 ghost use Rattle.ulfm_job.specs.Keys.{in_range, in_range_if_some};
+ghost use Rattle.ulfm_job.specs.Reacting.{req_in};
 
 use crate::fault::Fault;
 use crate::fields::{in_range, in_range_if_some};
+use crate::name::{Name, named};
+use crate::reference::Reference;
 use ulfm_base::{Context, Tag};
 
 /// The greatest rank, tag, context, room, step number and flag.
@@ -80,11 +83,14 @@ pub fn room_in(number: Option<i64>) -> Result<u16, Fault>
     Ok(in_range(number.unwrap_or(1024), 0, MOST_ROOM)? as u16)
 }
 
-/// The number of another step of the rank.
-pub fn req_in(number: i64) -> Result<u16, Fault>
-    ensures { result ≡ in_range 0 255 number }
+/// The number of a step of the rank that is named: any number of a step, or that of an earlier one by its name.
+pub fn req_in(names: &[Name], rank: u8, reference: &Reference) -> Result<u16, Fault>
+    ensures { result ≡ req_in names.now rank reference.now }
 {
-    Ok(in_range(number, 0, LAST_STEP)? as u16)
+    match reference {
+        Reference::Number(number) => Ok(in_range(*number, 0, LAST_STEP)? as u16),
+        Reference::Name(text) => named(names, rank, text).ok_or(Fault::OutOfRange),
+    }
 }
 
 /// A flag of 32 bits.

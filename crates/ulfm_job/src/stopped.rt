@@ -1,7 +1,8 @@
 //! A script with one more stop.
-ghost use Rattle.std.specs.Prelude.{◌≡◌, ◌≤◌, IfErr, IfOk, length};
-ghost use Rattle.ulfm_job.specs.Job.{moved_number, moved_on, stopped_at};
+ghost use Rattle.std.specs.Prelude.{◌≡◌, ◌≤◌, IfErr, IfOk, length, map};
+ghost use Rattle.ulfm_job.specs.Job.{moved_clause, moved_number, moved_on, stopped_at};
 
+use crate::clause::Clause;
 use crate::fault::JobFault;
 use crate::step::Step;
 use std::alloc::Global;
@@ -50,5 +51,40 @@ fn moved_number(req: u16, at: u16, len: usize) -> u16
         req + 1
     } else {
         req
+    }
+}
+
+/// Clauses, once a rank whose script had `len` steps has one more before the step `at`.
+pub(crate) fn moved_clauses(
+    alloc: Global,
+    clauses: &[Clause],
+    rank: u8,
+    at: u16,
+    len: usize,
+) -> Result<Vec<Clause>, JobFault>
+    requires { len ≤ 256 }
+    ensures exact { IfOk result (λ moved. moved.items ≡ map (moved_clause rank at len) clauses.now) }
+    ensures memory { IfErr result (λ fault. fault ≡ JobFault.OutOfMemory) }
+{
+    let mut moved = Vec::new(alloc);
+    for clause in clauses {
+        moved.push(moved_clause(clause, rank, at, len))?;
+    }
+    Ok(moved)
+}
+
+/// A clause, once a rank whose script had `len` steps has one more before the step `at`.
+fn moved_clause(clause: &Clause, rank: u8, at: u16, len: usize) -> Clause
+    requires { len ≤ 256 }
+    ensures { result ≡ moved_clause rank at len clause.now }
+{
+    if clause.rank != rank {
+        return *clause;
+    }
+    Clause {
+        rank,
+        at: moved_number(clause.at, at, len),
+        step: moved_number(clause.step, at, len),
+        words: clause.words,
     }
 }

@@ -15,7 +15,7 @@ use Rattle.ulfm_rank.specs.Proposal.{agreements, entry_of, next_agreement}
 use Rattle.ulfm_rank.specs.declared.entry.Entry.TheVariants.{Adopted, Entered}
 use Rattle.ulfm_rank.proofs.Belonging.{own_from}
 use Rattle.ulfm_rank.proofs.Entering.{entry_parts}
-use Rattle.ulfm_script.specs.Answered.{AnswerFollows, EntersBetween, by_call, left_by_call, by_decision, left_undecided}
+use Rattle.ulfm_script.specs.Answered.{AnswerFollows, EntersBetween, by_call, left_by_call, by_decision, left_undecided, by_skip}
 use Rattle.ulfm_script.specs.Calls.{EntersBy}
 use Rattle.ulfm_script.specs.Deciding.{missing_in}
 use Rattle.ulfm_script.proofs.Entrances.{added_at, entered_by_step, EntersAt, IsAnswered, nth_answered}
@@ -73,6 +73,7 @@ decided_by known r done from to flag comm value missing place polls (Agreed v ms
     | inr w ↦ absurd (let g = w.refused in let bad : ⊥ = cc in bad)
   ]
   | left_undecided u ↦ absurd (let g = u.given_up in let bad : ⊥ = cc in bad)
+  | by_skip k ↦ absurd (let g = k.skipped in let bad : ⊥ = cc in bad)
 ]
 decided_by known r done from to flag comm value missing place polls _ tells h = absurd tells
 

@@ -1,6 +1,6 @@
 -- Reports whose answers are right are true of their logs.
 use Rattle.std.proofs.Common.{◌≡◌, ℕ, List, [], ◌∷◌, ◌++◌, refl, ap, subst, ◌∙◌, inl, inr, ◌⊎◌, All}
-use Rattle.ulfm_laws.proofs.Common.{Topic, Decision, Entry, State, logged, StepReport, Step, Report, Unfinished, Refused, AnswersStep, LeavesOpen, OutOfMemory, all_front, all_last, Known, AnswersAdoption, StoodAt, IsTook, AnswersFollow}
+use Rattle.ulfm_laws.proofs.Common.{Topic, Decision, Entry, State, logged, StepReport, Step, Report, Unfinished, Skipped, Refused, AnswersStep, LeavesOpen, OutOfMemory, all_front, all_last, Known, AnswersAdoption, StoodAt, IsTook, AnswersFollow}
 use Rattle.ulfm_rank.specs.declared.entry.Entry.TheVariants.{Took, Entered, Adopted}
 use Rattle.ulfm_script.proofs.Polls.{answers_plain, opens_adds, adoption_adds}
 use Rattle.ulfm_script.proofs.Walked.{KeepsAll, reported}
@@ -35,8 +35,8 @@ module _ (known : Known) (r : State) where
   changed : {n : ℕ} (old new : State) (done later : List StepReport) → StoodAt r n old → AddsFew old new → (IsTrueOf old done → IsTrueOf new later) → IsBorne done old.log → IsBorne later new.log
   changed old new done later stood few keeps borne all = rw (same_ranks few ∙ stood.ranks) at (keeps (rw stood.ranks (borne (before_few (IsTakenFrom r.ranks) few all))))
 
-  ended : (log : List Entry) (done : List StepReport) (report : StepReport) → (report.answer ≡ Unfinished) ⊎ (report.answer ≡ Refused OutOfMemory) → IsHonest r.ranks log done → IsHonest r.ranks log (done ++ report ∷ [])
-  ended log done report how h = honest-plain r.ranks log done report.step report.answer report.at report.polls h (elim how [ inl is ↦ rw is tt | inr is ↦ rw is tt ])
+  ended : (log : List Entry) (done : List StepReport) (report : StepReport) → (report.answer ≡ Unfinished) ⊎ ((report.answer ≡ Skipped) ⊎ (report.answer ≡ Refused OutOfMemory)) → IsHonest r.ranks log done → IsHonest r.ranks log (done ++ report ∷ [])
+  ended log done report how h = honest-plain r.ranks log done report.step report.answer report.at report.polls h (elim how [ inl is ↦ rw is tt | inr (inl is) ↦ rw is tt | inr (inr is) ↦ rw is tt ])
 
   answered_few : (done : List StepReport) (old : State) (report : StepReport) (new : State) → AnswersStep done old report.step report.answer new → AddsFew old new
   answered_few done old report new a = elim (answers_plain done old report.step report.answer new a) [ inl same ↦ inl same.0 | inr one ↦ inr (one.0, one.2) ]

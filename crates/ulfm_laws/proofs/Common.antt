@@ -24,7 +24,7 @@ pub use Rattle.ulfm_script.specs.Calls.{AnswersProbe, AnswersStep, Cancels, Leav
 pub use Rattle.ulfm_script.specs.Player.{step_report, Player, StaysOpen}
 pub use Rattle.ulfm_script.specs.Report.{Report}
 pub use Rattle.ulfm_script.specs.declared.answer.StepAnswer.{StepAnswer}
-pub use Rattle.ulfm_script.specs.declared.answer.StepAnswer.TheVariants.{Sent, Done, Over, Posted, Found, Cancelled, Refused, Shrunk, Agreed, Unfinished}
+pub use Rattle.ulfm_script.specs.declared.answer.StepAnswer.TheVariants.{Sent, Done, Over, Posted, Found, Cancelled, Refused, Shrunk, Agreed, Unfinished, Skipped}
 pub use Rattle.ulfm_script.specs.declared.answer.StepReport.{StepReport}
 pub use Rattle.ulfm_job.specs.declared.step.Step.{Step}
 pub use Rattle.ulfm_job.specs.declared.step.Step.TheVariants.{Send, Recv, Wait, Probe, Mrecv, Cancel, Shrink, Agree}

@@ -33,3 +33,4 @@ pub mod Lawful
 pub mod Outgoing
 pub mod Turns
 pub mod Agreeing
+pub mod Spent

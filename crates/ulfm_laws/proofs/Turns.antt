@@ -22,7 +22,7 @@ use Rattle.ulfm_script.proofs.Polls.{answers_plain, opens_adds, refused_adoption
 use Rattle.ulfm_script.proofs.Says.{IsApart}
 use Rattle.ulfm_script.proofs.Walked.{KeepsAll, walked_to}
 use Rattle.ulfm_laws.specs.Agreement.{ends_round_in, ends_round_by}
-use Rattle.ulfm_laws.proofs.Common.{all_pass, any-push, AnswersAdoption, AnswersStep, cases_Bool, cases_eq, Agree, Agreed, Context, Contribution, Decision, Entrance, Entry, eq-eqb, false≢true, first_given, Fits, group_at, is_topic, IsTook, Known, ne_eqb, none-some, not-false, or_none, or_right, OutOfMemory, Refused, same_context, same_Some, Shrink, shrink_topic, Shrunk, State, Step, step_report, StepAnswer, StepReport, StoodAt, Topic, Unfinished}
+use Rattle.ulfm_laws.proofs.Common.{all_pass, any-push, AnswersAdoption, AnswersStep, cases_Bool, cases_eq, Agree, Agreed, Context, Contribution, Decision, Entrance, Entry, eq-eqb, false≢true, first_given, Fits, group_at, is_topic, IsTook, Known, ne_eqb, none-some, not-false, or_none, or_right, OutOfMemory, Refused, same_context, same_Some, Shrink, shrink_topic, Shrunk, Skipped, State, Step, step_report, StepAnswer, StepReport, StoodAt, Topic, Unfinished}
 
 -- one while an agreement that was entered isn't adopted, else none
 abbrev open_rounds : Bool → ℕ
@@ -131,8 +131,8 @@ called_silent : (comm : Context) (done : List StepReport) (r : State) (asked : S
 called_silent comm done r (Agree flag on) (Agreed value missing) new a = absurd a
 called_silent comm done r _ _ new a = refl
 
-ended_silent : (comm : Context) (asked : Step) (answer : StepAnswer) → (answer ≡ Unfinished) ⊎ (answer ≡ Refused OutOfMemory) → ends_round_by comm asked answer ≡ false
-ended_silent comm (Agree flag on) answer h = elim h [ inl is ↦ ap (ends_round_by comm (Agree flag on)) is | inr is ↦ ap (ends_round_by comm (Agree flag on)) is ]
+ended_silent : (comm : Context) (asked : Step) (answer : StepAnswer) → (answer ≡ Unfinished) ⊎ ((answer ≡ Skipped) ⊎ (answer ≡ Refused OutOfMemory)) → ends_round_by comm asked answer ≡ false
+ended_silent comm (Agree flag on) answer h = elim h [ inl is ↦ ap (ends_round_by comm (Agree flag on)) is | inr (inl is) ↦ ap (ends_round_by comm (Agree flag on)) is | inr (inr is) ↦ ap (ends_round_by comm (Agree flag on)) is ]
 ended_silent comm _ answer h = refl
 
 apart_idle : (comm : Context) (e : Entry) → IsApart e → IsIdleOn comm e

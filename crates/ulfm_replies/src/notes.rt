@@ -1,11 +1,11 @@
 //! What standard error says beside a reply: for people, and none of it is promised.
 
 use crate::command::Wanted;
-use crate::reply::{DONE, JOB_REFUSED, Reply, UNFINISHED};
+use crate::reply::{DONE, JOB_REFUSED, NOT_EXPECTED, Reply, UNFINISHED};
 use crate::stream::write_whole;
 use std::alloc::{AllocError, Global};
 use std::io::Write;
-use ulfm_explain::{Explanation, explain, warnings};
+use ulfm_explain::{Explanation, explain, unmet_answers, warnings};
 
 /// Why a good job can't be swept.
 const NO_PLACE: &str =
@@ -30,7 +30,8 @@ pub fn write_notes<E: Write>(
     }
 }
 
-/// What is said of a reply: why a job is refused or can't be swept, what of a good one will be refused, or which steps hang.
+/// What is said of a reply: why a job is refused or can't be swept, what of a good one will be refused, which answers
+/// aren't as expected, or which steps hang.
 fn notes_on(
     alloc: Global,
     wanted: Wanted,
@@ -40,6 +41,12 @@ fn notes_on(
     match (reply.status, wanted) {
         (JOB_REFUSED, _) => refused_lines(alloc, &explain(alloc, bytes)?, reply.text.as_str()),
         (DONE, Wanted::Check) => lines_of(alloc, "warning: ", &warnings(alloc, bytes)?),
+        (NOT_EXPECTED, _) => {
+            let mut notes = unmet_answers(alloc, bytes, reply.text.as_str())?;
+            let hangs = hangs_in(alloc, reply.text.as_str())?;
+            notes.push_str(hangs.as_str())?;
+            Ok(notes)
+        }
         (DONE | UNFINISHED, _) => hangs_in(alloc, reply.text.as_str()),
         _ => Ok(String::new(alloc)),
     }

@@ -27,6 +27,9 @@ pub const INPUT_FAILED: u8 = 5;
 /// What was played to its end left a step unfinished, and the words ask for this status then.
 pub const UNFINISHED: u8 = 6;
 
+/// What was played to its end has an answer that its step doesn't expect.
+pub const NOT_EXPECTED: u8 = 9;
+
 /// A status, and the text that is written with it.
 #[derive(Drop)]
 pub struct Reply {

@@ -1,31 +1,36 @@
 //! The reply that a trace is.
 ghost use Rattle.std.specs.Prelude.{◌≡◌, IfOk, string_bytes};
+ghost use Rattle.ulfm_script.specs.Reacting.{all_met};
 ghost use Rattle.ulfm_script.specs.Report.{is_unfinished};
 ghost use Rattle.ulfm_script.specs.Trace.{trace_of};
 ghost use Rattle.ulfm_replies.specs.Unfinished.{has_unfinished, leaves_unfinished, played_status};
 
-use crate::reply::{DONE, Reply, UNFINISHED};
+use crate::reply::{DONE, NOT_EXPECTED, Reply, UNFINISHED};
 use std::alloc::{AllocError, Global};
-use ulfm_script::{RankReport, StepAnswer, StepReport, trace_text};
+use ulfm_script::{Job, RankReport, StepAnswer, StepReport, all_met, trace_text};
 
-/// The trace of the ranks' reports, with its status.
+/// The trace of the reports of a job's ranks, with its status.
 pub fn trace_reply(
     alloc: Global,
     is_strict: bool,
+    job: &Job,
     reports: &[RankReport],
 ) -> Result<Reply, AllocError>
-    ensures { IfOk result (λ r. (r.status ≡ played_status is_strict (has_unfinished reports.now)) × (string_bytes r.text ≡ trace_of reports.now)) }
+    ensures { IfOk result (λ r. (r.status ≡ played_status is_strict (all_met job.now reports.now) (has_unfinished reports.now)) × (string_bytes r.text ≡ trace_of reports.now)) }
 {
-    let status = played_status(is_strict, has_unfinished(reports));
+    let is_met = all_met(alloc, job, reports);
+    let status = played_status(is_strict, is_met, has_unfinished(reports));
     let text = trace_text(alloc, reports)?;
     Ok(Reply { status, text })
 }
 
-/// The status of what was played to its end.
-pub fn played_status(is_strict: bool, is_unfinished: bool) -> u8
-    ensures { result ≡ played_status is_strict is_unfinished }
+/// The status of what was played to its end, by whether the answers are as expected, and whether a step was left unfinished.
+pub fn played_status(is_strict: bool, is_met: bool, is_unfinished: bool) -> u8
+    ensures { result ≡ played_status is_strict is_met is_unfinished }
 {
-    if is_strict && is_unfinished {
+    if !is_met {
+        NOT_EXPECTED
+    } else if is_strict && is_unfinished {
         UNFINISHED
     } else {
         DONE

@@ -1,29 +1,22 @@
 -- A rank at work.
-use Rattle.std.proofs.Common.{◌≡◌, ℕ, ◌≤◌, true, false, List, [], ◌++◌, length, map, refl, ap, sym, subst, ◌∙◌, arith, Bool, inl, inr, ◌⊎◌, append-nil, length-append, ◌<◌, Option, Some, None, MatchOption, slice_get, All}
-use Rattle.std.proofs.lemmas.List.{nil_from_length}
+use Rattle.std.proofs.Common.{◌≡◌, ℕ, true, false, List, length, map, refl, ap, sym, subst, ◌∙◌, arith, Bool, inl, inr, ◌⊎◌, Some, slice_get, All}
 use Rattle.ulfm_script.specs.declared.answer.StepReport.{StepReport}
-use Rattle.ulfm_script.specs.Script.{reported_step, steps_done, IsPatient, HasFinished}
-use Rattle.ulfm_run.proofs.Common.{FollowsSoFar, is_stopped, IsPlayed, IsSigned, Item, Known, length-map, Player, polls_left, Report, slice_get_within, State, View, with_rank, false≢true, IsJoined, Moves, Polls, IsAtWork, honest-moved, Step, Seen, script_at, through_stop, follows-rank, through-none, AnswersFollowSoFar}
+use Rattle.ulfm_script.specs.Script.{reported_step, through_stop, IsPatient, HasFinished}
+use Rattle.ulfm_script.specs.Reacting.{SkipsRightly}
+use Rattle.ulfm_script.proofs.Reacting.{finished-running, finished-stopped, goes-rank}
+use Rattle.ulfm_run.proofs.Common.{GoesThrough, is_stopped, IsPlayed, IsSigned, Item, Known, Player, polls_left, Report, slice_get_within, State, View, with_rank, false≢true, IsJoined, Moves, Polls, IsAtWork, honest-moved, Step, Seen, script_at, AnswersFollowSoFar}
 use Rattle.ulfm_run.specs.inside.Turns.{IsOver, WentOn, IsAsFar, Keeps, Carries, keeps-then}
 
 -- a player that stopped, or has no step left, answered its script
-pub has-answered : {script : List Step} {turns : ℕ} {p : Player} → FollowsSoFar script turns p → IsOver script p → HasFinished script turns p
-has-answered {script} {turns} {p} h over = elim (stops (is_stopped p.rank.log) refl) [
-  | inl stopped ↦ record { steps = (h.stopped stopped).0; patient = h.patient; closed = (h.stopped stopped).1 }
-  | inr running ↦
-      let all : length script ≤ length p.done = elim over [ inl stopped ↦ absurd (false≢true (sym running ∙ stopped)) | inr k ↦ k ] in
-      let none : h.rest ≡ [] = nil_from_length h.rest (omega (arith, all, ap length h.split, length-append (steps_done p) h.rest, length-map p.done reported_step)) in
-      let whole : steps_done p ≡ script = sym (append-nil (steps_done p)) ∙ ap (λ (ys : List Step). steps_done p ++ ys) (sym none) ∙ h.split in
-      record { steps = whole ∙ sym (ap through_stop (sym whole) ∙ through-none (steps_done p) (h.running running) ∙ whole); patient = h.patient; closed = none_open p.current h.current all }
+pub has-answered : {job : Seen} {me : ℕ} {p : Player} → GoesThrough job me p → IsOver (script_at job me) p → HasFinished job me p
+has-answered {p} h over = elim (stops (is_stopped p.rank.log) refl) [
+  | inl stopped ↦ finished-stopped h stopped
+  | inr running ↦ finished-running h running (elim over [ inl stopped ↦ absurd (false≢true (sym running ∙ stopped)) | inr k ↦ k ])
 ]
   where
     stops : (b : Bool) → is_stopped p.rank.log ≡ b → (is_stopped p.rank.log ≡ true) ⊎ (is_stopped p.rank.log ≡ false)
     stops true e = inl e
     stops false e = inr e
-
-    none_open : (o : Option Step) → MatchOption o (p.polls ≡ 0) (λ s. (slice_get script (length p.done) ≡ Some s) × (p.polls < turns)) → length script ≤ length p.done → o ≡ None
-    none_open None k all = refl
-    none_open (Some s) k all = absurd (omega (arith, all, slice_get_within script (length p.done) s k.0))
 
 -- what a rank took and what went out leaves as many polls
 as-far : (script : List Step) (turns : ℕ) (u v : Player) → v ≡ with_rank u v.rank → is_stopped v.rank.log ≡ is_stopped u.rank.log → IsAsFar script turns u v
@@ -77,7 +70,7 @@ module _ {E N : Type 0} {name : E → N} {place count : E → ℕ} {pushed taken
         joined = m.joined;
         named = m.me ∙ h.named;
         counted = m.ranks ∙ h.counted;
-        follows = subst (λ (p : Player). FollowsSoFar (script_at job me) job.turns p) (sym m.only) (follows-rank (script_at job me) job.turns v.player w.player.rank m.stops h.follows);
+        follows = subst (GoesThrough job me) (sym m.only) (goes-rank w.player.rank m.stops h.follows);
         room = omega (arith, h.room, m.room, ap (λ (p : Player). length p.done) m.only);
       }
 
@@ -101,13 +94,14 @@ module _ {E N : Type 0} {name : E → N} {place count : E → ℕ} {pushed taken
   turned s {w = w} p at_job at_rank h polls went = went-after p w.player h.as_far (goes-on p at_job at_rank h.keeps polls went).1
 
   -- what was played is reported
-  pub played : (v : View) (first : E) {e : E} (report : Report) → place first ≡ me → name e ≡ name first → IsAtWork place count pushed taken ready job me v e → HasFinished (script_at job me) job.turns v.player → report.rank ≡ v.player.rank → report.steps ≡ v.player.done → IsPlayed name place count pushed taken ready job first report e
+  pub played : (v : View) (first : E) {e : E} (report : Report) → place first ≡ me → name e ≡ name first → IsAtWork place count pushed taken ready job me v e → HasFinished job me v.player → report.rank ≡ v.player.rank → report.steps ≡ v.player.done → IsPlayed name place count pushed taken ready job first report e
   played v first {e} report at same h answered rank steps =
       record {
         same_end = same;
         joined = subst (λ (r : State). IsJoined place count pushed taken ready r e) (sym rank) h.joined;
         named = ap (λ (r : State). r.me) rank ∙ h.named ∙ sym at;
         counted = ap (λ (r : State). r.ranks) rank ∙ h.counted;
-        steps = ap (map reported_step) steps ∙ answered.steps ∙ ap (λ i. through_stop (script_at job i)) (sym at);
+        steps = ap (map reported_step) steps ∙ answered.steps ∙ ap (λ (xs : List StepReport). through_stop xs (script_at job me)) (sym steps) ∙ ap (λ i. through_stop report.steps (script_at job i)) (sym at);
         patient = subst (λ (xs : List StepReport). All (IsPatient job.turns) xs) (sym steps) answered.patient;
+        skips = subst (λ i. SkipsRightly job.conditions i report.steps) (sym at) (subst (SkipsRightly job.conditions me) (sym steps) answered.skips);
       }

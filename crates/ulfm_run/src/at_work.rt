@@ -120,7 +120,7 @@ impl<R: Wait, E: Ends, D: Decider> AtWork<'_, R, E, D> {
     pub(crate) fn go_through(&mut self)
         requires at_work { IsAtWork E.place E.count E.pushed E.taken E.ready self.old.job.now self.old.me self.old.worker.player self.old.worker.end }
         ensures keeps { Keeps E.name E.place E.count E.pushed E.taken E.ready D.board D.known self.old.job.now self.old.me self.old.worker.player self.old.worker.end self.old.worker.decider self.new.worker.player self.new.worker.end self.new.worker.decider }
-        ensures done { HasFinished (script_at self.old.job.now self.old.me) self.old.job.now.turns self.new.worker.player.player }
+        ensures done { HasFinished self.old.job.now self.old.me self.new.worker.player.player }
     {
         let mut left = self.job.turns();
         while left > 0 {

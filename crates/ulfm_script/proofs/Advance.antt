@@ -1,8 +1,9 @@
 -- What a poll moves at a player, and what falls with it.
-use Rattle.std.proofs.Common.{◌≡◌, ℕ, ◌^◌, ◌<◌, ◌≤◌, Bool, false, List, length, refl, ap, sym, ◌∙◌, arith, inl, inr, ◌⊎◌, Option, Some, None, MatchOption, slice_get}
+use Rattle.std.proofs.Common.{◌≡◌, ℕ, ◌^◌, ◌<◌, ◌≤◌, Bool, false, List, length, refl, ap, sym, subst, ◌∙◌, arith, inl, inr, ◌⊎◌, Option, Some, None, MatchOption, slice_get}
 use Rattle.ulfm_job.specs.Job.{Seen, IsJob, script_at, is_stop_step}
-use Rattle.ulfm_script.proofs.Common.{is_stopped, Shrink, Agree, State, Step, StepAnswer, StepReport, Unfinished, Wait, Player, AnswersStep, StaysOpen, awaits_decision, IsCalled, GivesUpStep, PollAnswers, PollOpens, with_rank, answered, polled, step_report, FollowsSoFar, polls_left, same_Some, slice_get_within}
-use Rattle.ulfm_script.specs.Script.{IsPolled, IsPatient}
+use Rattle.ulfm_script.proofs.Common.{is_stopped, Shrink, Agree, State, SkipsStep, Step, StepAnswer, StepReport, Skipped, Unfinished, Wait, Player, AnswersStep, StaysOpen, awaits_decision, IsCalled, GivesUpStep, PollAnswers, PollOpens, with_rank, answered, polled, step_report, FollowsSoFar, polls_left, same_Some, slice_get_within}
+use Rattle.ulfm_script.specs.Report.{is_skipped}
+use Rattle.ulfm_script.specs.Script.{IsPolled, IsPatient, is_played_stop}
 use Rattle.ulfm_script.proofs.Polls.{Adds, answers_add, opens_add, opens_go_on, stopped-adds}
 use Rattle.ulfm_script.proofs.Progress.{closed, follows-closed, follows-polled, left-closed, left_polled, polls_small}
 
@@ -32,29 +33,52 @@ pub record Advances (script : List Step) (turns : ℕ) (old new : Player) : Type
   pub adds : Adds old.rank stops new.rank
 
 -- an answered step
-pub advance-closed : (script : List Step) (turns : ℕ) (old : Player) (r : State) (x : StepReport) → Ready script turns old x.step → Adds old.rank (is_stop_step x.step) r → IsPatient turns x → Advances script turns old (closed old r x)
+pub advance-closed : (script : List Step) (turns : ℕ) (old : Player) (r : State) (x : StepReport) → Ready script turns old x.step → Adds old.rank (is_played_stop x) r → IsPatient turns x → Advances script turns old (closed old r x)
 advance-closed script turns old r x h adds patient = record {
-  follows = follows-closed script turns old r x h.follows h.running h.next (stopped-adds old.rank (is_stop_step x.step) r h.running adds) patient;
+  follows = follows-closed script turns old r x h.follows h.running h.next (stopped-adds old.rank (is_played_stop x) r h.running adds) patient;
   falls = left-closed script turns old r x h.few h.inside;
-  stops = is_stop_step x.step;
+  stops = is_played_stop x;
   adds = adds;
 }
 
--- a poll doesn't give its step up
-not_given_up : (done : List StepReport) (r : State) (asked : Step) (answer : StepAnswer) (new : State) → AnswersStep done r asked answer new → answer ≡ Unfinished → ⊥
-not_given_up done r asked answer new h e = none asked (rw e at h)
-  where
-    none : (s : Step) → AnswersStep done r s Unfinished new → ⊥
-    none (Wait req) h = h
-    none _ h = h
+-- the answer gives no step up and skips none
+abbrev pub IsGiven : StepAnswer → Type 0
+IsGiven answer = (answer ≡ Unfinished → ⊥) × (answer ≡ Skipped → ⊥)
 
-pub polled_in_time : (turns polls : ℕ) (answer : StepAnswer) → (answer ≡ Unfinished → ⊥) → polls < turns → IsPolled turns answer polls
-polled_in_time turns polls Unfinished h few = absurd (h refl)
+-- so is each answer of a poll
+pub given_by_poll : (done : List StepReport) (r : State) (asked : Step) (answer : StepAnswer) (new : State) → AnswersStep done r asked answer new → IsGiven answer
+given_by_poll done r asked answer new h = (λ e. left asked (rw e at h), λ e. skips asked (rw e at h))
+  where
+    left : (s : Step) → AnswersStep done r s Unfinished new → ⊥
+    left (Wait req) h = h
+    left _ h = h
+
+    skips : (s : Step) → AnswersStep done r s Skipped new → ⊥
+    skips (Wait req) h = h
+    skips _ h = h
+
+pub not_skipped : (answer : StepAnswer) → (answer ≡ Skipped → ⊥) → is_skipped answer ≡ false
+not_skipped Skipped h = absurd (h refl)
+not_skipped _ h = refl
+
+-- a stop that isn't skipped is played
+pub plays : (x : StepReport) → is_skipped x.answer ≡ false → is_played_stop x ≡ is_stop_step x.step
+plays x h = rw h refl
+
+pub polled_in_time : (turns polls : ℕ) (answer : StepAnswer) → IsGiven answer → polls < turns → IsPolled turns answer polls
+polled_in_time turns polls Unfinished h few = absurd (h.0 refl)
+polled_in_time turns polls Skipped h few = absurd (h.1 refl)
 polled_in_time turns polls _ h few = few
+
+-- a step that a poll or a decision answers
+pub advance-given : (script : List Step) (turns : ℕ) (old : Player) (r : State) (asked : Step) (answer : StepAnswer) → Ready script turns old asked → Adds old.rank (is_stop_step asked) r → IsGiven answer → Advances script turns old (closed old r (step_report asked answer (length old.rank.log) old.polls))
+advance-given script turns old r asked answer h adds given =
+    let x = step_report asked answer (length old.rank.log) old.polls in
+    advance-closed script turns old r x h (subst (λ b. Adds old.rank b r) (sym (plays x (not_skipped answer given.1))) adds) (polled_in_time turns old.polls answer given h.few)
 
 advance-answers : (script : List Step) (turns : ℕ) (old : Player) (asked : Step) (new : Player) → Ready script turns old asked → PollAnswers old asked new → Advances script turns old new
 advance-answers script turns old asked new h a =
-    rw a.only (advance-closed script turns old a.rank (step_report asked a.answer (length old.rank.log) old.polls) h (answers_add old.done old.rank asked a.answer a.rank h.running a.answers) (polled_in_time turns old.polls a.answer (not_given_up old.done old.rank asked a.answer a.rank a.answers) h.few))
+    rw a.only (advance-given script turns old a.rank asked a.answer h (answers_add old.done old.rank asked a.answer a.rank h.running a.answers) (given_by_poll old.done old.rank asked a.answer a.rank a.answers))
 
 advance-polled : (script : List Step) (turns : ℕ) (old : Player) (r : State) (asked : Step) (at : ℕ) → turns < 2 ^ 32 → Ready script turns old asked → Adds old.rank false r → (polled (with_rank old r) asked at).polls < turns → Advances script turns old (polled (with_rank old r) asked at)
 advance-polled script turns old r asked at counted h adds few = record {
@@ -94,3 +118,9 @@ advance-left script turns old asked mid new s counted h (inl a) e left last =
     let none : None ≡ Some s = rw a.only at e in
     let bad : ⊥ = cc in
     absurd bad
+
+-- a step that is skipped
+pub advance-skipped : (script : List Step) (turns : ℕ) (old : Player) (asked : Step) (new : Player) → Ready script turns old asked → SkipsStep old asked new → Advances script turns old new
+advance-skipped script turns old asked new h s =
+    let none : old.polls ≡ 0 = rw s.none_open at h.follows.current in
+    rw s.only (advance-closed script turns old old.rank (step_report asked Skipped (length old.rank.log) old.polls) h (inl (refl, refl)) none)

@@ -1,7 +1,7 @@
 -- Right answers stay right while the log grows and more is known.
 use Rattle.std.proofs.Common.{ℕ, ◌+◌, ◌≤◌, List, [], ◌∷◌, ◌++◌, refl, ◌∙◌, arith, inl, inr, append-nil, append_assoc}
 use Rattle.ulfm_script.proofs.Common.{Step, Topic, Entry, Known, Learns, State, StepReport}
-use Rattle.ulfm_script.specs.Answered.{OnlyTook, EntersBetween, How, by_call, left_by_call, by_decision, left_undecided, AnswerFollows, EachAnswerFollows}
+use Rattle.ulfm_script.specs.Answered.{OnlyTook, EntersBetween, How, by_call, left_by_call, by_decision, left_undecided, by_skip, AnswerFollows, EachAnswerFollows}
 use Rattle.ulfm_script.proofs.Beginnings.{Grew, stood-grew, took-grew, enters-grew}
 
 pub took-forth : (log : List Entry) (from to : ℕ) → OnlyTook log from to → from ≤ to
@@ -17,6 +17,7 @@ how-forth known r before from report old new (by_call h) = took-forth r.log from
 how-forth known r before from report old new (left_by_call h) = took-forth r.log from report.at h.took
 how-forth known r before from report old new (by_decision h) = enters-forth r report.step h.topic from report.at h.entered
 how-forth known r before from report old new (left_undecided h) = enters-forth r report.step h.topic from report.at h.entered
+how-forth known r before from report old new (by_skip h) = took-forth r.log from report.at h.took
 
 pub all-forth : (known : Known) (r : State) (before : List StepReport) (from : ℕ) (reports : List StepReport) (to : ℕ) → EachAnswerFollows known r before from reports to → from ≤ to
 all-forth known r before from [] to h = omega (arith, h)
@@ -48,6 +49,7 @@ how-grew known later r s to before from report old new k up g (left_undecided h)
       undecided = h.undecided;
       only = h.only;
     })
+how-grew known later r s to before from report old new k up g (by_skip h) = by_skip (record { took = took-grew r.log s.log g.more from report.at g.log h.took; skipped = h.skipped; only = h.only })
 
 pub answered-grew : (known later : Known) (r s : State) (limit : ℕ) (before : List StepReport) (from : ℕ) (report : StepReport) (to : ℕ) → Learns r limit known later → report.at ≤ limit → Grew r s → AnswerFollows known r before from report to → AnswerFollows later s before from report to
 answered-grew known later r s limit before from report to k up g h = record {

@@ -2,10 +2,10 @@
 use Rattle.std.proofs.Common.{◌≡◌, ℕ, ◌<◌, false, List, length, refl, sym, ◌∙◌, inl, inr, Option, Some, slice_get}
 use Rattle.ulfm_rank.specs.State.{State, IsState}
 use Rattle.ulfm_job.specs.Job.{decides_on}
-use Rattle.ulfm_script.proofs.Common.{Adopted, Context, Topic, Decision, is_stop_step, is_stopped, Player, Refused, Shrink, Agree, Step, step_report, StepAnswer, Unfinished, FollowsSoFar, OutOfMemory, slice_get_within, Quiet, none-some}
+use Rattle.ulfm_script.proofs.Common.{Adopted, Context, Topic, Decision, is_stop_step, is_stopped, Player, Refused, Shrink, Agree, Step, StepAnswer, Skipped, Unfinished, FollowsSoFar, OutOfMemory, slice_get_within, Quiet, none-some}
 use Rattle.ulfm_script.specs.Deciding.{Known, AnswersAdoption, AnswersDecision, IsDecided}
 use Rattle.ulfm_script.proofs.Polls.{Adds, adds_same, adds_one, adoption_adds, quiet-adds}
-use Rattle.ulfm_script.proofs.Advance.{Ready, Advances, advance-closed, polled_in_time}
+use Rattle.ulfm_script.proofs.Advance.{Ready, Advances, IsGiven, advance-given}
 
 -- a decision adds its adoption at most
 pub decision_adds : (board : Option (List ℕ)) (known later : Known) (r : State) (asked : Step) (answer : StepAnswer) (new : State) → AnswersDecision board known later r asked answer new → Adds r false new
@@ -21,21 +21,31 @@ decision_adds board known later r asked answer new h = elim h.outcome [
 pub quiet-decided : (old : Player) (comm : Context) (board : Option (List ℕ)) (known later : Known) (new : Player) → IsState old.rank → IsDecided old comm board known new later → Quiet old.rank new.rank
 quiet-decided old comm board known later new h d = rw d.only (quiet-adds old.rank false d.rank h (decision_adds board known later old.rank d.asked d.answer d.rank d.decision))
 
--- a decision doesn't give its step up
-adoption_ends : (r : State) (asked : Step) (topic : Topic) (held : Decision) (answer : StepAnswer) (new : State) → AnswersAdoption r asked topic held answer new → answer ≡ Unfinished → ⊥
-adoption_ends r asked topic held answer new h e = none asked (rw e at h)
+-- a decision gives its step's answer
+given_by_adoption : (r : State) (asked : Step) (topic : Topic) (held : Decision) (answer : StepAnswer) (new : State) → AnswersAdoption r asked topic held answer new → IsGiven answer
+given_by_adoption r asked topic held answer new h = (λ e. left asked (rw e at h), λ e. skips asked (rw e at h))
   where
-    none : (s : Step) → AnswersAdoption r s topic held Unfinished new → ⊥
-    none (Shrink comm) h = h
-    none _ h = h
+    left : (s : Step) → AnswersAdoption r s topic held Unfinished new → ⊥
+    left (Shrink comm) h = h
+    left _ h = h
 
-decision_ends : (board : Option (List ℕ)) (known later : Known) (r : State) (asked : Step) (answer : StepAnswer) (new : State) → AnswersDecision board known later r asked answer new → answer ≡ Unfinished → ⊥
-decision_ends board known later r asked answer new h e = elim h.outcome [
-  | inl adopts ↦ adoption_ends r asked h.topic adopts.held answer new adopts.adoption e
-  | inr starves ↦
-      let both : Refused OutOfMemory ≡ Unfinished = sym starves.refused ∙ e in
-      let bad : ⊥ = cc in
-      bad
+    skips : (s : Step) → AnswersAdoption r s topic held Skipped new → ⊥
+    skips (Shrink comm) h = h
+    skips _ h = h
+
+given_by_starving : (answer : StepAnswer) → answer ≡ Refused OutOfMemory → IsGiven answer
+given_by_starving answer e = (λ f. other (sym e ∙ f), λ f. skips (sym e ∙ f))
+  where
+    other : Refused OutOfMemory ≡ Unfinished → ⊥
+    other both = let bad : ⊥ = cc in bad
+
+    skips : Refused OutOfMemory ≡ Skipped → ⊥
+    skips both = let bad : ⊥ = cc in bad
+
+pub given_by_decision : (board : Option (List ℕ)) (known later : Known) (r : State) (asked : Step) (answer : StepAnswer) (new : State) → AnswersDecision board known later r asked answer new → IsGiven answer
+given_by_decision board known later r asked answer new h = elim h.outcome [
+  | inl adopts ↦ given_by_adoption r asked h.topic adopts.held answer new adopts.adoption
+  | inr starves ↦ given_by_starving answer starves.refused
 ]
 
 -- the step that stands open comes next, and has a poll to spare
@@ -54,7 +64,7 @@ ready-decided script turns p asked h running current =
 pub advance-decided : (script : List Step) (turns : ℕ) (old : Player) (comm : Context) (board : Option (List ℕ)) (known later : Known) (new : Player) → ((asked : Step) → old.current ≡ Some asked → Ready script turns old asked) → IsDecided old comm board known new later → Advances script turns old new
 advance-decided script turns old comm board known later new h d =
     let ready : Ready script turns old d.asked = h d.asked d.waits in
-    rw d.only (advance-closed script turns old d.rank (step_report d.asked d.answer (length old.rank.log) old.polls) ready (joint-adds d.asked comm d.on (decision_adds board known later old.rank d.asked d.answer d.rank d.decision)) (polled_in_time turns old.polls d.answer (decision_ends board known later old.rank d.asked d.answer d.rank d.decision) ready.few))
+    rw d.only (advance-given script turns old d.rank d.asked d.answer ready (joint-adds d.asked comm d.on (decision_adds board known later old.rank d.asked d.answer d.rank d.decision)) (given_by_decision board known later old.rank d.asked d.answer d.rank d.decision))
   where
     joint-adds : (asked : Step) (on : Context) → decides_on asked ≡ Some on → Adds old.rank false d.rank → Adds old.rank (is_stop_step asked) d.rank
     joint-adds (Shrink comm) on h adds = adds

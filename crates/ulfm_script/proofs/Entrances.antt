@@ -3,7 +3,7 @@ use Rattle.std.proofs.Common.{◌≡◌, ℕ, zero, suc, ◌+◌, ◌<◌, ◌�
 use Rattle.ulfm_base.specs.Lists.{at}
 use Rattle.ulfm_match.proofs.Decide.{lt_or_ge}
 use Rattle.ulfm_match.proofs.Histories.{get_here}
-use Rattle.ulfm_script.specs.Answered.{AnsweredByCall, AnsweredByDecision, AnswerFollows, EachAnswerFollows, LeftByCall, LeftUndecided, by_call, left_by_call, by_decision, left_undecided}
+use Rattle.ulfm_script.specs.Answered.{AnsweredByCall, AnsweredByDecision, AnswerFollows, EachAnswerFollows, LeftByCall, LeftUndecided, WasSkipped, by_call, left_by_call, by_decision, left_undecided, by_skip}
 use Rattle.ulfm_script.proofs.Answers.{answers-push}
 use Rattle.ulfm_script.proofs.Common.{Adopted, All-head, All-tail, AnswersFollow, Entered, EntersBetween, EntersBy, Entrance, Entry, IsTook, Known, logged, OnlyTook, Report, same_Some, slice_get_within, State, Step, StepReport, StoodAt, Topic, ⊤}
 use Rattle.ulfm_script.proofs.Polls.{answers_plain, opens_adds, adoption_adds}
@@ -124,12 +124,19 @@ module _ (r : State) where
         | inr past ↦ absurd (omega (arith, same_to x.at to old new stood next h.only, past, high))
       ]
 
+      skipped : WasSkipped r from x old new → EntersAt r from p x.step e
+      skipped h = elim (lt_or_ge p x.at) [
+        | inl early ↦ absurd (took_only r.log from x.at p (Entered e) h.took low early g)
+        | inr past ↦ absurd (omega (arith, same_to x.at to old new stood next h.only, past, high))
+      ]
+
     entered_in : AnswerFollows known r done from x to → EntersAt r from p x.step e
     entered_in h = elim h.how [
       | by_call a ↦ called h.old h.new h.stood h.stood_next a
       | left_by_call a ↦ opened h.old h.new h.stood h.stood_next a
       | by_decision a ↦ decided h.old h.new h.stood h.stood_next a
       | left_undecided a ↦ undecided h.old h.new h.stood h.stood_next a
+      | by_skip a ↦ skipped h.old h.new h.stood h.stood_next a
     ]
 
 module _ (known : Known) (r : State) where

@@ -1,10 +1,10 @@
 -- A player's answers stay right while its rank takes items, and with each answer more.
 use Rattle.std.proofs.Common.{◌≡◌, ℕ, Bool, true, false, List, [], ◌++◌, length, refl, ap, sym, subst, ◌∙◌, arith, append-nil, All, Option, Some, None}
 use Rattle.ulfm_rank.specs.Paired.{IsPaired}
-use Rattle.ulfm_script.proofs.Common.{Entry, is_stopped, Known, Report, State, Step, StepReport, false≢true, Player, GivesUpStep, with_rank, is_joint, start_player}
-use Rattle.ulfm_script.specs.Answered.{IsTook, OnlyTook, AnswerFollows, EndsAtStop, AnswersFollow}
+use Rattle.ulfm_script.proofs.Common.{Entry, is_stopped, Known, Report, State, Step, StepReport, false≢true, Player, GivesUpStep, SkipsStep, Skipped, step_report, with_rank, is_joint, start_player}
+use Rattle.ulfm_script.specs.Answered.{IsTook, OnlyTook, by_skip, AnswerFollows, EndsAtStop, AnswersFollow}
 use Rattle.ulfm_script.specs.inside.SoFar.{EntersSince, Stands, StandsOpen, AnswersFollowSoFar, Learns, OnlyTakes}
-use Rattle.ulfm_script.proofs.Beginnings.{Grew, took-on, took-none, enters-on}
+use Rattle.ulfm_script.proofs.Beginnings.{Grew, stood-now, took-on, took-none, enters-on}
 use Rattle.ulfm_script.proofs.Answers.{answered-grew, all-grew, answers-push}
 use Rattle.ulfm_script.proofs.Progress.{closed}
 
@@ -59,6 +59,24 @@ honest-left known p q h l =
       place = was.next;
       answers = answers-push known p.rank p.done h.place _ was.next h.answers was.left;
       stands = was.took;
+      stop = h.stop;
+    })
+
+-- a step is skipped
+pub honest-skipped : (known : Known) (p : Player) (asked : Step) (q : Player) → AnswersFollowSoFar known p → SkipsStep p asked q → AnswersFollowSoFar known q
+honest-skipped known p asked q h s =
+    let took : OnlyTook p.rank.log h.place (length p.rank.log) = rw s.none_open at h.stands in
+    rw s.only (record {
+      place = length p.rank.log;
+      answers = answers-push known p.rank p.done h.place (step_report asked Skipped (length p.rank.log) p.polls) (length p.rank.log) h.answers (record {
+        old = p.rank;
+        new = p.rank;
+        stood = stood-now p.rank;
+        stood_next = stood-now p.rank;
+        onward = omega arith;
+        how = by_skip (record { took = took; skipped = refl; only = refl });
+      });
+      stands = took-none p.rank.log;
       stop = h.stop;
     })
 

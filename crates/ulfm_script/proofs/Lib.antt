@@ -22,3 +22,5 @@ pub mod Walked
 pub mod Kept
 pub mod Entrances
 pub mod Vain
+pub mod Reacting
+pub mod Following

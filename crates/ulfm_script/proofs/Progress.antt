@@ -1,9 +1,8 @@
 -- A player that goes on through its script.
-use Rattle.std.proofs.Common.{◌≡◌, ℕ, ◌+◌, ◌-◌, ◌*◌, ◌^◌, ◌<◌, ◌≤◌, min, Bool, true, false, cond, List, [], ◌∷◌, ◌++◌, length, map, refl, ap, sym, ◌∙◌, arith, append_assoc, length-append, inl, inr, ◌⊎◌, Option, Some, None, MatchOption, slice_get}
-use Rattle.std.proofs.lemmas.List.{map_push, length-map}
-use Rattle.ulfm_job.specs.Job.{is_stop_step, through_stop}
-use Rattle.ulfm_script.proofs.Common.{All-nil, All-push, is_stopped, same_Some, State, Step, StepReport, false≢true, Player, with_rank, polled, IsFree, start_player, has_stop, FollowsSoFar, polls_left}
-use Rattle.ulfm_script.specs.Script.{reported_step, steps_done, IsPatient}
+use Rattle.std.proofs.Common.{◌≡◌, ℕ, ◌+◌, ◌-◌, ◌*◌, ◌^◌, ◌<◌, ◌≤◌, min, Bool, true, false, cond, List, [], ◌∷◌, ◌++◌, length, map, refl, ap, sym, ◌∙◌, arith, append-nil, append_assoc, length-append, inl, inr, ◌⊎◌, Option, Some, None, MatchOption, slice_get}
+use Rattle.std.proofs.lemmas.List.{map_push, length-map, nil_from_length}
+use Rattle.ulfm_script.proofs.Common.{All-nil, All-push, is_stopped, same_Some, slice_get_within, State, Step, StepReport, false≢true, Player, with_rank, polled, IsFree, start_player, has_stop, FollowsSoFar, polls_left}
+use Rattle.ulfm_script.specs.Script.{reported_step, steps_done, is_played_stop, through_stop, IsPatient}
 
 split_next : (xs rest script : List Step) (s : Step) → xs ++ rest ≡ script → slice_get script (length xs) ≡ Some s → (more : List Step) × (rest ≡ s ∷ more)
 split_next xs rest script s e h = next xs rest s (rw e h)
@@ -17,22 +16,22 @@ stop_one : (b c d : Bool) → (c ≡ false → d ≡ false) → cond b true c �
 stop_one true c d f e = e
 stop_one false c d f e = f e
 
-has_stop-push : (xs : List Step) (s : Step) → has_stop xs ≡ false → is_stop_step s ≡ false → has_stop (xs ++ s ∷ []) ≡ false
+has_stop-push : (xs : List StepReport) (s : StepReport) → has_stop xs ≡ false → is_played_stop s ≡ false → has_stop (xs ++ s ∷ []) ≡ false
 has_stop-push [] s h k = rw k refl
-has_stop-push (x ∷ xs) s h k = stop_one (is_stop_step x) (has_stop xs) (has_stop (xs ++ s ∷ [])) (λ e. has_stop-push xs s e k) h
+has_stop-push (x ∷ xs) s h k = stop_one (is_played_stop x) (has_stop xs) (has_stop (xs ++ s ∷ [])) (λ e. has_stop-push xs s e k) h
 
 through_one : (b c : Bool) (ys zs ws : List Step) → (c ≡ false → zs ≡ ws) → cond b true c ≡ false → cond b ys zs ≡ ws
 through_one true c ys zs ws f e = absurd (false≢true (sym e))
 through_one false c ys zs ws f e = f e
 
-through-stop : (xs : List Step) (s : Step) (rest : List Step) → has_stop xs ≡ false → is_stop_step s ≡ true → through_stop (xs ++ s ∷ rest) ≡ xs ++ s ∷ []
+through-stop : (xs : List StepReport) (s : StepReport) (rest : List Step) → has_stop xs ≡ false → is_played_stop s ≡ true → through_stop (xs ++ s ∷ []) (map reported_step xs ++ s.step ∷ rest) ≡ map reported_step xs ++ s.step ∷ []
 through-stop [] s rest h k = rw k refl
-through-stop (x ∷ xs) s rest h k = through_one (is_stop_step x) (has_stop xs) (x ∷ []) (x ∷ through_stop (xs ++ s ∷ rest)) (x ∷ (xs ++ s ∷ [])) (λ e. ap (λ (ys : List Step). x ∷ ys) (through-stop xs s rest e k)) h
+through-stop (x ∷ xs) s rest h k = through_one (is_played_stop x) (has_stop xs) (x.step ∷ []) (x.step ∷ through_stop (xs ++ s ∷ []) (map reported_step xs ++ s.step ∷ rest)) (x.step ∷ (map reported_step xs ++ s.step ∷ [])) (λ e. ap (λ (ys : List Step). x.step ∷ ys) (through-stop xs s rest e k)) h
 
--- a script without a stop is its own beginning
-pub through-none : (xs : List Step) → has_stop xs ≡ false → through_stop xs ≡ xs
-through-none [] h = refl
-through-none (x ∷ xs) h = through_one (is_stop_step x) (has_stop xs) (x ∷ []) (x ∷ through_stop xs) (x ∷ xs) (λ e. ap (λ (ys : List Step). x ∷ ys) (through-none xs e)) h
+-- a script that was answered without a stop is gone through as a whole
+pub through-none : (xs : List StepReport) (rest : List Step) → has_stop xs ≡ false → through_stop xs (map reported_step xs ++ rest) ≡ map reported_step xs ++ rest
+through-none [] rest h = refl
+through-none (x ∷ xs) rest h = through_one (is_played_stop x) (has_stop xs) (x.step ∷ []) (x.step ∷ through_stop xs (map reported_step xs ++ rest)) (x.step ∷ (map reported_step xs ++ rest)) (λ e. ap (λ (ys : List Step). x.step ∷ ys) (through-none xs rest e)) h
 
 polls_below : (o : Option Step) (p t : ℕ) (P : Step → Type 0) → MatchOption o (p ≡ 0) (λ s. P s × (p < t)) → 0 < t → p < t
 polls_below None p t P h k = omega (arith, h, k)
@@ -46,7 +45,7 @@ abbrev pub closed : Player → State → StepReport → Player
 closed p r x = record { rank = r; done = p.done ++ x ∷ []; current = None; at = 0; polls = 0 }
 
 -- an answered step
-pub follows-closed : (script : List Step) (turns : ℕ) (old : Player) (r : State) (x : StepReport) → FollowsSoFar script turns old → is_stopped old.rank.log ≡ false → slice_get script (length old.done) ≡ Some x.step → is_stopped r.log ≡ is_stop_step x.step → IsPatient turns x → FollowsSoFar script turns (closed old r x)
+pub follows-closed : (script : List Step) (turns : ℕ) (old : Player) (r : State) (x : StepReport) → FollowsSoFar script turns old → is_stopped old.rank.log ≡ false → slice_get script (length old.done) ≡ Some x.step → is_stopped r.log ≡ is_played_stop x → IsPatient turns x → FollowsSoFar script turns (closed old r x)
 follows-closed script turns old r x h running next stop patient =
     let xs : List Step = steps_done old in
     let l : length xs ≡ length old.done = length-map old.done reported_step in
@@ -58,8 +57,8 @@ follows-closed script turns old r x h running next stop patient =
       split = ap (λ (ys : List Step). ys ++ following.0) grown ∙ append_assoc xs (x.step ∷ []) following.0 ∙ whole;
       patient = All-push (IsPatient turns) old.done x h.patient patient;
       current = refl;
-      running = λ k. ap has_stop grown ∙ has_stop-push xs x.step (h.running running) (sym stop ∙ k);
-      stopped = λ k. (grown ∙ sym (through-stop xs x.step following.0 (h.running running) (sym stop ∙ k)) ∙ ap through_stop whole, refl);
+      running = λ k. has_stop-push old.done x (h.running running) (sym stop ∙ k);
+      stopped = λ k. (grown ∙ sym (through-stop old.done x following.0 (h.running running) (sym stop ∙ k)) ∙ ap (through_stop (old.done ++ x ∷ [])) whole, refl);
     }
 
 -- a step that stays open
@@ -115,6 +114,21 @@ pub next_open : (script : List Step) (turns : ℕ) (p : Player) (asked open_step
 next_open script turns p asked open_step h next current =
     let here : (slice_get script (length p.done) ≡ Some open_step) × (p.polls < turns) = rw current at h.current in
     same_Some asked open_step (sym next ∙ here.0)
+
+-- a running player that has no step left went through its whole script
+pub answered_running : (script : List Step) (turns : ℕ) (p : Player) → FollowsSoFar script turns p → is_stopped p.rank.log ≡ false → length script ≤ length p.done → steps_done p ≡ through_stop p.done script
+answered_running script turns p h running all =
+    let none : h.rest ≡ [] = nil_from_length h.rest (omega (arith, all, ap length h.split, length-append (steps_done p) h.rest, length-map p.done reported_step)) in
+    let whole : steps_done p ≡ script = sym (append-nil (steps_done p)) ∙ ap (λ (xs : List Step). steps_done p ++ xs) (sym none) ∙ h.split in
+    whole ∙ sym h.split ∙ sym (through-none p.done h.rest (h.running running)) ∙ ap (through_stop p.done) h.split
+
+-- past the end of a script no step stands open
+pub none_open : (script : List Step) (turns : ℕ) (p : Player) → FollowsSoFar script turns p → length script ≤ length p.done → p.current ≡ None
+none_open script turns p h all = none p.current h.current
+  where
+    none : (o : Option Step) → MatchOption o (p.polls ≡ 0) (λ s. (slice_get script (length p.done) ≡ Some s) × (p.polls < turns)) → o ≡ None
+    none None k = refl
+    none (Some s) k = absurd (omega (arith, all, slice_get_within script (length p.done) s k.0))
 
 -- a player that starts
 pub follows-start : (script : List Step) (turns me n : ℕ) → FollowsSoFar script turns (start_player me n)

@@ -1,11 +1,11 @@
 -- What each thing that happens to a rank keeps, all that happened to it keeps, where its answers are right.
 use Rattle.std.proofs.Common.{◌≡◌, ℕ, ◌+◌, Bool, true, false, List, [], ◌∷◌, ◌++◌, length, take, refl, sym, subst, inl, inr, ◌⊎◌, append-nil, append_assoc, Option, Some, None, All}
 use Rattle.std.proofs.Math.Seq.{take-length}
-use Rattle.ulfm_script.proofs.Common.{AnswersAdoption, AnswersFollowSoFar, AnswersStep, EntersBy, Topic, Decision, Entry, is_joint, Known, known_at, LeavesOpen, Player, Refused, Report, Shrink, Agree, Stands, State, Step, StepReport, topic_of, Unfinished, OutOfMemory, All-head, All-tail, none-some}
+use Rattle.ulfm_script.proofs.Common.{AnswersAdoption, AnswersFollowSoFar, AnswersStep, EntersBy, Topic, Decision, Entry, is_joint, Known, known_at, LeavesOpen, Player, Refused, Report, Shrink, Agree, Stands, State, Step, StepReport, topic_of, Skipped, Unfinished, OutOfMemory, All-head, All-tail, none-some}
 use Rattle.ulfm_script.specs.inside.SoFar.{EntersSince}
 use Rattle.ulfm_script.proofs.Beginnings.{front_is, stood_is, took_is}
 use Rattle.ulfm_script.proofs.Rounds.{entered-topic}
-use Rattle.ulfm_script.specs.Answered.{StoodAt, IsTook, OnlyTook, EntersBetween, AnsweredByDecision, by_call, left_by_call, by_decision, left_undecided, AnswerFollows, EachAnswerFollows, AnswersFollow}
+use Rattle.ulfm_script.specs.Answered.{StoodAt, IsTook, OnlyTook, EntersBetween, AnsweredByDecision, by_call, left_by_call, by_decision, left_undecided, by_skip, AnswerFollows, EachAnswerFollows, AnswersFollow}
 
 -- a step that enters its topic is left open
 opens_by : (done : List StepReport) (old : State) (asked : Step) (topic : Topic) (new : State) → EntersBy old asked topic new → LeavesOpen done old asked new
@@ -14,13 +14,14 @@ opens_by done old (Agree flag comm) topic new h = (topic, h)
 opens_by done old _ topic new h = absurd (none-some topic h.about)
 
 -- K holds of the answered steps and the log after each thing that may happen to the rank r, if it held before: an item is
--- taken, a step is answered by a call, left open by one, answered by a decision, or ended without either
+-- taken, a step is answered by a call, left open by one, answered by a decision, or ended without either: given up, skipped, or
+-- out of memory
 pub record KeepsAll (known : Known) (r : State) (K : List StepReport → List Entry → Type 0) : Type 0 where
   pub takes : (done : List StepReport) (log : List Entry) (e : Entry) → IsTook e → K done log → K done (log ++ e ∷ [])
   pub answers : (n : ℕ) (old new : State) (done : List StepReport) (report : StepReport) → StoodAt r n old → AnswersStep done old report.step report.answer new → K done old.log → K (done ++ report ∷ []) new.log
   pub opens : (n : ℕ) (old new : State) (done : List StepReport) (asked : Step) → StoodAt r n old → LeavesOpen done old asked new → K done old.log → K done new.log
   pub adopts : (n : ℕ) (old new : State) (done : List StepReport) (report : StepReport) (topic : Topic) (held : Decision) → StoodAt r n old → topic_of old.log report.step ≡ Some topic → known_at known topic ≡ Some held → AnswersAdoption old report.step topic held report.answer new → K done old.log → K (done ++ report ∷ []) new.log
-  pub ends : (log : List Entry) (done : List StepReport) (report : StepReport) → (report.answer ≡ Unfinished) ⊎ (report.answer ≡ Refused OutOfMemory) → K done log → K (done ++ report ∷ []) log
+  pub ends : (log : List Entry) (done : List StepReport) (report : StepReport) → (report.answer ≡ Unfinished) ⊎ ((report.answer ≡ Skipped) ⊎ (report.answer ≡ Refused OutOfMemory)) → K done log → K (done ++ report ∷ []) log
 
 module _ (known : Known) (r : State) (K : List StepReport → List Entry → Type 0) (keeps : KeepsAll known r K) where
   abbrev Good : List StepReport → ℕ → Type 0
@@ -54,7 +55,7 @@ module _ (known : Known) (r : State) (K : List StepReport → List Entry → Typ
       let now : K done old.log = to_stood done n old stood (subst (Good done) (sym here) (good_enters done report.step h.topic from report.at h.entered good)) in
       elim h.outcome [
         | inl a ↦ keeps.adopts n old new done report h.topic a.held stood (entered-topic r old report.step h.topic from n stood (rw here h.entered)) a.knows a.adoption now
-        | inr w ↦ keeps.ends new.log done report (inr w.refused) (subst (λ (s : State). K done s.log) (sym w.only) now)
+        | inr w ↦ keeps.ends new.log done report (inr (inr w.refused)) (subst (λ (s : State). K done s.log) (sym w.only) now)
       ]
 
   good_answered : (done : List StepReport) (from : ℕ) (report : StepReport) (to : ℕ) → AnswerFollows known r done from report to → Good done from → Good (done ++ report ∷ []) to
@@ -63,6 +64,7 @@ module _ (known : Known) (r : State) (K : List StepReport → List Entry → Typ
     | left_by_call l ↦ keeps.ends h.new.log done report (inl l.given_up) (keeps.opens report.at h.old h.new done report.step h.stood l.opens (to_stood done report.at h.old h.stood (good_took done from report.at l.took good)))
     | by_decision d ↦ good_decided done from report.at report h.old h.new refl h.stood d good
     | left_undecided u ↦ keeps.ends h.new.log done report (inl u.given_up) (subst (λ (s : State). K done s.log) (sym u.only) (to_stood done report.at h.old h.stood (good_enters done report.step u.topic from report.at u.entered good)))
+    | by_skip s ↦ keeps.ends h.new.log done report (inr (inl s.skipped)) (subst (λ (t : State). K done t.log) (sym s.only) (to_stood done report.at h.old h.stood (good_took done from report.at s.took good)))
   ])
 
   good_all : (done : List StepReport) (from : ℕ) (reports : List StepReport) (to : ℕ) → EachAnswerFollows known r done from reports to → Good done from → Good (done ++ reports) to

@@ -10,7 +10,7 @@ use Rattle.ulfm_rank.specs.Facts.{is_stopped}
 use Rattle.ulfm_rank.specs.Paired.{IsPaired}
 use Rattle.ulfm_rank.specs.State.{State}
 use Rattle.ulfm_script.specs.declared.answer.StepAnswer.{StepAnswer}
-use Rattle.ulfm_script.specs.declared.answer.StepAnswer.TheVariants.{Unfinished, Refused}
+use Rattle.ulfm_script.specs.declared.answer.StepAnswer.TheVariants.{Unfinished, Skipped, Refused}
 use Rattle.ulfm_script.specs.declared.answer.StepReport.{StepReport}
 use Rattle.ulfm_job.specs.declared.step.Step.{Step}
 use Rattle.ulfm_script.specs.Deciding.{Known, AnswersAdoption, HasProposal}
@@ -95,14 +95,21 @@ pub record LeftUndecided (rank : State) (from : ℕ) (report : StepReport) (old 
   pub undecided : HasProposal old topic → ⊥
   pub only : new ≡ old
 
--- How an answer came about: the call of the step gave it or left the step open, the ranks' decision gave it, or there was no
--- decision to be had.
+-- The rank only took since the step before, and this one was skipped, which nothing of the log tells of.
+pub record WasSkipped (rank : State) (from : ℕ) (report : StepReport) (old new : State) : Type 0 where
+  pub took : OnlyTook rank.log from report.at
+  pub skipped : report.answer ≡ Skipped
+  pub only : new ≡ old
+
+-- How an answer came about: the call of the step gave it or left the step open, the ranks' decision gave it, there was no
+-- decision to be had, or the step was skipped.
 pub data How (known : Known) (rank : State) (before : List StepReport) (from : ℕ) (report : StepReport)
     (old new : State) : Type 0 where
   by_call : AnsweredByCall rank before from report old new → How known rank before from report old new
   left_by_call : LeftByCall rank before from report old new → How known rank before from report old new
   by_decision : AnsweredByDecision known rank from report old new → How known rank before from report old new
   left_undecided : LeftUndecided rank from report old new → How known rank before from report old new
+  by_skip : WasSkipped rank from report old new → How known rank before from report old new
 
 -- The step's answer is right for the rank as it stood at the report's place, after these answered steps, of which the last
 -- one's entries end at the place `from`; what the answer adds to the log comes next, and ends at the place `to`.

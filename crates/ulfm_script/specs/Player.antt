@@ -4,7 +4,7 @@ use Rattle.ulfm_rank.specs.State.{State, start_state}
 use Rattle.ulfm_job.specs.declared.step.Step.{Step}
 use Rattle.ulfm_job.specs.Job.{decides_on}
 use Rattle.ulfm_script.specs.declared.answer.StepAnswer.{StepAnswer}
-use Rattle.ulfm_script.specs.declared.answer.StepAnswer.TheVariants.{Unfinished}
+use Rattle.ulfm_script.specs.declared.answer.StepAnswer.TheVariants.{Unfinished, Skipped}
 use Rattle.ulfm_script.specs.declared.answer.StepReport.{StepReport}
 use Rattle.ulfm_script.specs.declared.answer.Called.{Called}
 use Rattle.ulfm_script.specs.declared.answer.Called.TheVariants.{Answered, NotYet}
@@ -104,3 +104,8 @@ pub record GivesUpStep (old new : Player) : Type 0 where
   pub step : Step
   pub was_open : old.current ≡ Some step
   pub only : new ≡ answered old step Unfinished old.at
+
+-- the step gets the answer `skipped` without a poll, where no step stands open
+pub record SkipsStep (old : Player) (step : Step) (new : Player) : Type 0 where
+  pub none_open : old.current ≡ None
+  pub only : new ≡ answered old step Skipped (length old.rank.log)

@@ -1,11 +1,13 @@
 -- How a player goes through its script, with at most so many polls of a step.
-use Rattle.std.specs.Prelude.{◌≡◌, ℕ, List, ◌<◌, map, All, None}
+use Rattle.std.specs.Prelude.{◌≡◌, ℕ, Bool, false, List, [], ◌∷◌, ◌<◌, map, All, None, if◌then◌else◌}
 use Rattle.ulfm_job.specs.declared.step.Step.{Step}
 use Rattle.ulfm_script.specs.declared.answer.StepAnswer.{StepAnswer}
-use Rattle.ulfm_script.specs.declared.answer.StepAnswer.TheVariants.{Unfinished}
+use Rattle.ulfm_script.specs.declared.answer.StepAnswer.TheVariants.{Unfinished, Skipped}
 use Rattle.ulfm_script.specs.declared.answer.StepReport.{StepReport}
 use Rattle.ulfm_script.specs.Player.{Player}
-use Rattle.ulfm_job.specs.Job.{through_stop}
+use Rattle.ulfm_job.specs.Job.{Seen, script_at, is_stop_step}
+use Rattle.ulfm_script.specs.Report.{is_skipped}
+use Rattle.ulfm_script.specs.Reacting.{SkipsRightly}
 
 -- the step of a report
 abbrev pub reported_step : StepReport → Step
@@ -15,17 +17,29 @@ reported_step report = report.step
 abbrev pub steps_done : Player → List Step
 steps_done p = map reported_step p.done
 
--- so many polls left a step with this answer open: all that a job grants where it was given up, else fewer
+-- so many polls left a step with this answer open: all that a job grants where it was given up, none where it was skipped, else fewer
 abbrev pub IsPolled : ℕ → StepAnswer → ℕ → Type 0
 IsPolled turns Unfinished polls = polls ≡ turns
+IsPolled turns Skipped polls = polls ≡ 0
 IsPolled turns _ polls = polls < turns
 
--- a step was given up after its last poll, or answered by one
+-- a step was given up after its last poll, answered by one, or skipped without any
 abbrev pub IsPatient : ℕ → StepReport → Type 0
 IsPatient turns report = IsPolled turns report.answer report.polls
 
--- a player answered its script up to and with its first stop, or the whole of it, and has no step open
-pub record HasFinished (script : List Step) (turns : ℕ) (p : Player) : Type 0 where
-  pub steps : steps_done p ≡ through_stop script
-  pub patient : All (IsPatient turns) p.done
+-- a stop that was played
+abbrev pub is_played_stop : StepReport → Bool
+is_played_stop report = if is_skipped report.answer then false else is_stop_step report.step
+
+-- a script up to and with the first stop that is played by these reports of its steps, or the whole of it
+abbrev pub through_stop : List StepReport → List Step → List Step
+through_stop [] script = script
+through_stop (report ∷ reports) [] = []
+through_stop (report ∷ reports) (x ∷ xs) = if is_played_stop report then x ∷ [] else x ∷ through_stop reports xs
+
+-- a player answered the script of the rank r up to and with the first stop that it played, or the whole of it, and has no step open
+pub record HasFinished (j : Seen) (r : ℕ) (p : Player) : Type 0 where
+  pub steps : steps_done p ≡ through_stop p.done (script_at j r)
+  pub patient : All (IsPatient j.turns) p.done
+  pub skips : SkipsRightly j.conditions r p.done
   pub closed : p.current ≡ None

@@ -39,6 +39,8 @@ pub enum StepAnswer {
     Stopped,
     /// The last poll that the job grants left the step open.
     Unfinished,
+    /// The step wasn't played, since none of its conditions held.
+    Skipped,
     /// The call was refused.
     Refused(CallError),
 }

@@ -2,7 +2,9 @@
 #![tactic(auto)]
 
 mod answer;
+mod clauses;
 mod fault;
+mod follow;
 mod hands;
 mod joint;
 mod members;
@@ -13,9 +15,10 @@ mod report;
 mod trace;
 
 pub use answer::{Called, Decided, StepAnswer, StepReport};
+pub use clauses::all_met;
 pub use fault::RunFault;
 pub use hands::{Hands, turn};
 pub use player::Player;
 pub use report::RankReport;
 pub use trace::trace_text;
-pub use ulfm_job::{Fault, Job, JobFault, Step, Text, no_toml};
+pub use ulfm_job::{Clause, Fault, Job, JobFault, Step, Text, no_toml};

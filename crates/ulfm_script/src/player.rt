@@ -9,15 +9,17 @@ ghost use Rattle.ulfm_rank.specs.State.{IsState, logged, outbox, returned, GoesO
 ghost use Rattle.ulfm_rank.specs.Checks.{Passes, FailsOrStarves, start_checks};
 ghost use Rattle.ulfm_rank.specs.Calls.{IsFrom};
 ghost use Rattle.ulfm_script.specs.Calls.{IsShort};
-ghost use Rattle.ulfm_script.specs.Player.{start_player, with_rank, answered, polled, polled_on, IsFree, Polls, IsCalled, IfAnswered, GivesUpStep, awaits_decision};
+ghost use Rattle.ulfm_script.specs.Player.{start_player, with_rank, answered, polled, polled_on, IsFree, Polls, IsCalled, IfAnswered, GivesUpStep, SkipsStep, awaits_decision};
+ghost use Rattle.ulfm_script.specs.Reacting.{is_played};
 
 use crate::answer::{Called, StepAnswer, StepReport};
+use crate::clauses::one_holds;
 use crate::poll::poll;
 use crate::report::RankReport;
 use std::alloc::Global;
 use std::marker::Model;
 use ulfm_base::{CallError, Item, OutOfMemory, WorldRank};
-use ulfm_job::Step;
+use ulfm_job::{Clause, Step};
 use ulfm_rank::{Entry, Rank};
 
 /// A rank, the answers of its steps, and the step that stands open.
@@ -188,6 +190,33 @@ impl Player {
         if let Some(step) = self.current {
             self.answer(step, StepAnswer::Unfinished, self.at);
         }
+    }
+
+    /// Whether the next step is to be played, on these conditions: it has none, or one of them holds of the answers so far. It never
+    /// answers out of memory.
+    pub fn is_next_played(&self, conditions: &[Clause]) -> bool
+        ensures { result ≡ is_played conditions.now self.now.player.rank.me self.now.player.done }
+    {
+        let done = self.done.as_slice();
+        one_holds(
+            *self.done.allocator(),
+            conditions,
+            self.rank.me().number,
+            done.len(),
+            done,
+        )
+    }
+
+    /// Gives the next step the answer `skipped`, without a poll. It never answers out of memory.
+    pub fn skip(&mut self, step: &Step)
+        requires none_open { self.old.player.current ≡ None }
+        requires room { 0 < self.old.room }
+        ensures skipped { SkipsStep self.old.player step.now self.new.player }
+        ensures room { self.new.room + length self.new.player.done ≡ self.old.room + length self.old.player.done }
+        ensures prepared { self.new.prepared ≡ self.old.prepared }
+    {
+        let at = self.rank.log().len();
+        self.answer(*step, StepAnswer::Skipped, at);
     }
 
     /// The step has its answer, and none stands open.

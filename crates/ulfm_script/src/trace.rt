@@ -45,7 +45,7 @@ fn push_parted(text: &mut String, numbers: &[u8]) -> Result<(), AllocError>
 }
 
 /// The ranks of the world in a group, in order. It never answers out of memory.
-fn numbers_of(alloc: Global, group: &Group) -> SmallVec<u8, 8>
+pub(crate) fn numbers_of(alloc: Global, group: &Group) -> SmallVec<u8, 8>
     ensures { result.items ≡ group.now }
 {
     let mut numbers = SmallVec::new(alloc);
@@ -101,6 +101,7 @@ fn push_answer(text: &mut String, answer: &StepAnswer) -> Result<(), AllocError>
         }
         StepAnswer::Stopped => text.push_str("stopped"),
         StepAnswer::Unfinished => text.push_str("unfinished"),
+        StepAnswer::Skipped => text.push_str("skipped"),
         StepAnswer::Refused(error) => write!(text, "refused {error}"),
     }
 }

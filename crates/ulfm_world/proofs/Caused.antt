@@ -1,7 +1,7 @@
 -- In every schedule each revocation was made by some rank's own call.
 use Rattle.std.proofs.Common.{◌≡◌, ℕ, ◌<◌, Bool, true, false, cond, List, [], ◌∷◌, ◌++◌, length, set, refl, ap, sym, subst, ◌∙◌, arith, inl, inr, ◌⊎◌, length-set, None}
 use Rattle.std.proofs.lemmas.List.Folds.{list_any-append}
-use Rattle.ulfm_world.proofs.Common.{WorldRank, Item, items_from, Entry, Took, State, logged, Player, with_rank, Event, Call, Push, Take, Decide, Leave, World, player_in, player_at, rank_at, inbox_at, start_world, Happens, Takes, report_of, reports_in, IsWorld, false≢true, eq-eqb, or_cases, or_left, or_right, Adds, answers_add, opens_add, took, is_revoked, revokes, item_revokes, is_stopped, list_any, any-push, IsCalled, awaits_decision, Revoked, Own, Step, decision_adds, is_call_to_revoke, RevokedByCall, RevokedByARank, Flow, Room, TakeFrom}
+use Rattle.ulfm_world.proofs.Common.{WorldRank, Item, items_from, Entry, Took, State, logged, Player, with_rank, Event, Call, Push, Take, Decide, Leave, Skip, World, player_in, player_at, rank_at, inbox_at, start_world, Happens, Takes, report_of, reports_in, IsWorld, false≢true, eq-eqb, or_cases, or_left, or_right, Adds, answers_add, opens_add, took, is_revoked, revokes, item_revokes, is_stopped, list_any, any-push, IsCalled, awaits_decision, Revoked, Own, Step, decision_adds, is_call_to_revoke, RevokedByCall, RevokedByARank, Flow, Room, TakeFrom}
 use Rattle.ulfm_laws.proofs.Notices.{revoked_arrived}
 use Rattle.ulfm_world.specs.Each.{InEachWorld}
 use Rattle.ulfm_world.proofs.Changed.{player-same, each_player}
@@ -123,6 +123,8 @@ caused-happens w (Decide r comm) w' h all k =
     (caused-set w.players r k.2.after k.2.inside (subst G (sym d.only) (grows-own w.players (decision_adds None w.decided k.1 (rank_at w r) d.asked d.answer d.rank d.decision))) all)
 caused-happens w (Leave r) w' h all k =
     subst (λ (ps : List Player). HaveCauses ps) (sym (ap (λ (x : World). x.players) k.2 ∙ k.1.only)) (caused-set w.players r k.1.after k.1.inside (inl (ap (λ (p : Player). p.rank.log) k.1.left.only)) all)
+caused-happens w (Skip r asked) w' h all k =
+    subst (λ (ps : List Player). HaveCauses ps) (sym (ap (λ (x : World). x.players) k.2 ∙ k.1.only)) (caused-set w.players r k.1.after k.1.inside (inl (ap (λ (p : Player). p.rank.log) k.1.skipped.only)) all)
 
 caused-start : (n : ℕ) (room : Room) → HaveCauses (start_world n room).players
 caused-start n room d i c revoked = absurd (false≢true (subst (λ (p : Player). is_revoked p.rank.log c ≡ true) (player-start n n d (omega (arith, i, length-start n n))) revoked))

@@ -16,19 +16,19 @@ pub use Rattle.ulfm_rank.specs.State.{State, logged, outbox, GoesOut, IsState, m
 pub use Rattle.ulfm_rank.specs.declared.entry.Entry.{Entry}
 pub use Rattle.ulfm_rank.specs.declared.entry.Entry.TheVariants.{Took, Adopted, Revoked}
 pub use Rattle.ulfm_board.specs.Known.{known_at}
-pub use Rattle.ulfm_job.specs.Job.{Seen, script_at, IsJob, is_stop_step, through_stop}
+pub use Rattle.ulfm_job.specs.Job.{Seen, script_at, IsJob}
 pub use Rattle.ulfm_script.specs.Calls.{EntersBy, LeavesOpen}
 pub use Rattle.ulfm_script.specs.Deciding.{topic_of}
-pub use Rattle.ulfm_script.specs.Player.{Player, with_rank, GivesUpStep, IsCalled, IsFree, PollAnswers, PollOpens, StaysOpen, View, answered, awaits_decision, polled, start_player, step_report}
+pub use Rattle.ulfm_script.specs.Player.{Player, with_rank, GivesUpStep, IsCalled, IsFree, PollAnswers, PollOpens, SkipsStep, StaysOpen, View, answered, awaits_decision, polled, start_player, step_report}
 pub use Rattle.ulfm_script.specs.Report.{Report}
 pub use Rattle.ulfm_job.specs.declared.step.Step.{Step}
 pub use Rattle.ulfm_job.specs.declared.step.Step.TheVariants.{Shrink, Agree}
 pub use Rattle.ulfm_world.specs.Parts.{players_of, the_player, parts}
 pub use Rattle.ulfm_world.specs.Flow.{IsWorld, IsPosted, arrived}
 pub use Rattle.ulfm_world.specs.Rest.{IsAtRest}
-pub use Rattle.ulfm_world.specs.World.{World, TakesFrom, rank_at, player_at, player_in, inbox_at, reports_in, start_world, report_of, with_player, IsReached, Pushes, Reaches, Takes, with_inbox, Happens, IsRunning, no_player, Applied, Calls, DecidesStep, GivesUp, HasStopped, IsRefused, Run, outcome_of, start_players, with_decided, with_players}
+pub use Rattle.ulfm_world.specs.World.{World, TakesFrom, rank_at, player_at, player_in, inbox_at, reports_in, start_world, report_of, with_player, IsReached, Pushes, Reaches, Takes, with_inbox, Happens, IsRunning, no_player, Applied, Calls, DecidesStep, GivesUp, Skips, HasStopped, IsRefused, Run, outcome_of, start_players, with_decided, with_players}
 pub use Rattle.ulfm_world.specs.declared.event.Event.{Event}
-pub use Rattle.ulfm_world.specs.declared.event.Event.TheVariants.{Call, Leave, Decide, Push, Take, TakeFrom}
+pub use Rattle.ulfm_world.specs.declared.event.Event.TheVariants.{Call, Leave, Decide, Push, Skip, Take, TakeFrom}
 pub use Rattle.ulfm_world.specs.declared.room.Room.{Room}
 pub use Rattle.ulfm_world.specs.declared.room.Room.TheVariants.{PerInbox, PerPair}
 pub use Rattle.ulfm_world.specs.Room.{HasRoom, IsFull, places, taken_places}
@@ -52,7 +52,8 @@ pub use Rattle.ulfm_script.proofs.Polls.{Adds, adoption_adds, answers_add, opens
 pub use Rattle.ulfm_script.specs.Deciding.{AnswersAdoption, IsDecided, Known}
 pub use Rattle.ulfm_script.specs.declared.answer.StepAnswer.{StepAnswer}
 pub use Rattle.ulfm_script.specs.declared.answer.StepReport.{StepReport}
-pub use Rattle.ulfm_script.specs.inside.Underway.{FollowsSoFar}
+pub use Rattle.ulfm_script.specs.Reacting.{is_played}
+pub use Rattle.ulfm_script.specs.inside.Underway.{FollowsSoFar, GoesThrough}
 pub use Rattle.ulfm_world.specs.Replay.{AllHaveFinished, IsReplayed, MadeAtRest}
 pub use Rattle.ulfm_world.specs.Sweep.{IsSwept, answers_of, place_of, places_in}
 pub use Rattle.ulfm_world.specs.inside.Rounds.{AllAnswersFollowSoFar, Follows, IsStuck, IsStuckAt, IsUnderway, Moves, fresh_at, inbox_weight, known_for, measure, out_at, sum_below, weight_of}
@@ -68,7 +69,7 @@ pub use Rattle.ulfm_rank.proofs.Firsts.{some_from}
 pub use Rattle.ulfm_rank.proofs.Logs.{owed_by_few, owes-logged, stopped-push, took-push}
 pub use Rattle.ulfm_rank.proofs.Quiet.{Own, calm-same, calm-took, out_other, quiet-same}
 pub use Rattle.ulfm_script.proofs.Decisions.{advance-decided, decision_adds, quiet-decided, ready-decided}
-pub use Rattle.ulfm_script.proofs.Progress.{follows-rank, follows-start, next-free, next_open, through-none}
-pub use Rattle.ulfm_script.specs.declared.answer.StepAnswer.TheVariants.{Refused, Unfinished}
+pub use Rattle.ulfm_script.proofs.Progress.{next-free, next_open}
+pub use Rattle.ulfm_script.specs.declared.answer.StepAnswer.TheVariants.{Refused, Skipped, Unfinished}
 pub use Rattle.ulfm_script.specs.inside.SoFar.{AnswersFollowSoFar, IsUndecided}
 pub use Rattle.ulfm_world.specs.declared.event.Outcome.TheVariants.{Answered, NotYet}

@@ -1,7 +1,7 @@
 -- A replay from its start to rest.
-use Rattle.std.proofs.Common.{◌≡◌, ℕ, ◌<◌, ◌≤◌, Bool, false, List, [], ◌++◌, length, map, refl, ap, sym, subst, ◌∙◌, arith, inl, inr, append-nil, length-append, Option, Some, None, MatchOption, slice_get}
-use Rattle.ulfm_world.proofs.Common.{WorldRank, Item, is_stopped, Step, Player, Report, World, player_at, rank_at, inbox_at, start_world, report_of, IsAtRest, cases_Bool, slice_get_within, length-map, nil_from_length, Seen, script_at, through_stop, Follows, Moves, IsStuck, IsUnderway, AllHaveFinished, IsReplayed, FollowsSoFar, through-none, follows-start, PerInbox, PerPair, Room, places, taken_places}
-use Rattle.ulfm_script.specs.Script.{steps_done, reported_step}
+use Rattle.std.proofs.Common.{◌≡◌, ℕ, ◌<◌, Bool, List, [], length, map, refl, ap, sym, subst, ◌∙◌, arith, inl, inr}
+use Rattle.ulfm_world.proofs.Common.{WorldRank, Item, is_stopped, Player, Report, World, rank_at, inbox_at, start_world, report_of, IsAtRest, cases_Bool, Seen, Follows, Moves, IsStuck, IsUnderway, AllHaveFinished, IsReplayed, GoesThrough, PerInbox, PerPair, Room, places, taken_places}
+use Rattle.ulfm_script.proofs.Reacting.{finished-running, finished-stopped, goes-start}
 use Rattle.ulfm_world.proofs.Starts.{player-start, length-start}
 use Rattle.ulfm_world.proofs.Runs.{reaches-then}
 use Rattle.ulfm_world.proofs.Rightly.{rightly-start}
@@ -14,7 +14,7 @@ came-start j w is =
       size = length-start n n;
       room = refl;
       follows = λ r k.
-          subst (λ (p : Player). FollowsSoFar (script_at j r) j.turns p) (sym (player-start n n r (omega (arith, k, length-start n n)))) (follows-start (script_at j r) j.turns r n);
+          subst (λ (p : Player). GoesThrough j r p) (sym (player-start n n r (omega (arith, k, length-start n n)))) (goes-start j r r n);
       answers = rightly-start n (PerInbox j.capacity);
     })
 
@@ -45,29 +45,10 @@ stuck-rest j w roomy h = record {
   };
 }
 
-answered_running : {script : List Step} {turns : ℕ} {p : Player} → FollowsSoFar script turns p → is_stopped p.rank.log ≡ false → length script ≤ length p.done → steps_done p ≡ through_stop script
-answered_running {script} {p} h running all =
-    let none : h.rest ≡ [] = nil_from_length h.rest (omega (arith, all, ap (λ (xs : List Step). length xs) h.split, length-append (steps_done p) h.rest, length-map p.done reported_step)) in
-    let whole : steps_done p ≡ script = sym (append-nil (steps_done p)) ∙ ap (λ (xs : List Step). steps_done p ++ xs) (sym none) ∙ h.split in
-    sym (through-none (steps_done p) (h.running running)) ∙ ap through_stop whole
-
--- past the end of a script no step stands open
-none_open : (o : Option Step) (script : List Step) (k polls turns : ℕ) → length script ≤ k → MatchOption o (polls ≡ 0) (λ asked. (slice_get script k ≡ Some asked) × (polls < turns)) → o ≡ None
-none_open None script k polls turns all h = refl
-none_open (Some asked) script k polls turns all h = absurd (omega (arith, all, slice_get_within script k asked h.0))
-
 pub stuck-answered : (j : Seen) (w : World) → Follows j w → ((r : ℕ) → r < length w.players → IsStuck j w r) → AllHaveFinished j w
 stuck-answered j w f h r k = elim (cases_Bool (is_stopped (rank_at w r).log)) [
-  | inl stopped ↦
-      let all = (f r k).stopped stopped in
-      record { steps = all.0; closed = all.1; patient = (f r k).patient }
-  | inr running ↦
-      let all : length (script_at j r) ≤ length (player_at w r).done = (h r k).polls running in
-      record {
-        steps = answered_running (f r k) running all;
-        closed = none_open (player_at w r).current (script_at j r) (length (player_at w r).done) (player_at w r).polls j.turns all (f r k).current;
-        patient = (f r k).patient;
-      }
+  | inl stopped ↦ finished-stopped (f r k) stopped
+  | inr running ↦ finished-running (f r k) running ((h r k).polls running)
 ]
 
 -- the reports of a world that came to rest

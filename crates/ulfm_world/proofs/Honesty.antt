@@ -1,6 +1,6 @@
 -- In every schedule the answered steps of each rank are true of its log.
 use Rattle.std.proofs.Common.{ℕ, ◌<◌, ◌≤◌, List, [], length, set, refl, arith, inl, inr, length-set, None}
-use Rattle.ulfm_world.proofs.Common.{WorldRank, Item, Took, State, GoesOut, logged, Step, Event, Call, Push, Take, Decide, Leave, IsWorld, Takes, World, player_in, player_at, rank_at, start_world, Happens, Reaches, Player, IsCalled, GivesUpStep, awaits_decision, with_rank, start_player, Unfinished, Room, TakeFrom}
+use Rattle.ulfm_world.proofs.Common.{WorldRank, Item, Took, State, GoesOut, logged, Step, Event, Call, Push, Take, Decide, Leave, Skip, IsWorld, Takes, World, player_in, player_at, rank_at, start_world, Happens, Reaches, Player, IsCalled, GivesUpStep, SkipsStep, awaits_decision, with_rank, start_player, Skipped, Unfinished, Room, TakeFrom}
 use Rattle.ulfm_laws.proofs.Answering.{true-same, true-answers}
 use Rattle.ulfm_world.proofs.Changed.{each_player}
 use Rattle.ulfm_world.proofs.KeepsCalls.{posted-taken}
@@ -26,6 +26,9 @@ true-called {old} asked h (inr o) = rw o.only (true-opens (awaits_decision old.c
 true-left : {old new : Player} → IsTrueOf old.rank old.done → GivesUpStep old new → IsTrueOf new.rank new.done
 true-left {old} h left = rw left.only (true-same old.rank old.done left.step Unfinished old.at old.polls old.rank h tt refl)
 
+true-skipped : {old : Player} (asked : Step) {new : Player} → IsTrueOf old.rank old.done → SkipsStep old asked new → IsTrueOf new.rank new.done
+true-skipped {old} asked h skipped = rw skipped.only (true-same old.rank old.done asked Skipped (length old.rank.log) old.polls old.rank h tt refl)
+
 -- what left an outbox changes no log
 true-leaves : (p : Player) {after : State} (d : ℕ) {item : Item} → IsTrueOf p.rank p.done → GoesOut p.rank after d item → IsTrueOf after p.done
 true-leaves p d h leaves = rw leaves.marked h
@@ -45,6 +48,7 @@ true-happens w (Take r) w' h t k = true-takes w r [] h t k
 true-happens w (TakeFrom r s) w' h t k = true-takes w r k.passed h t k.takes
 true-happens w (Decide r comm) w' h t k = rw k.3 (rw k.2.only (true-set w.players r k.2.after k.2.inside (true-decided comm None k.1 (t r k.2.inside) k.2.decided) t))
 true-happens w (Leave r) w' h t k = rw k.2 (rw k.1.only (true-set w.players r k.1.after k.1.inside (true-left (t r k.1.inside) k.1.left) t))
+true-happens w (Skip r asked) w' h t k = rw k.2 (rw k.1.only (true-set w.players r k.1.after k.1.inside (true-skipped asked (t r k.1.inside) k.1.skipped) t))
 
 true-start : (n r : ℕ) → IsTrueOf (start_player r n).rank (start_player r n).done
 true-start n r = honest-start n

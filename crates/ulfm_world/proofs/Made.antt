@@ -1,6 +1,6 @@
 -- In every run each decision is made once, and each rank that it excludes had stopped then.
 use Rattle.std.proofs.Common.{◌≡◌, ℕ, ◌≤◌, List, [], ◌∷◌, refl, ap, sym, ◌∙◌, inl, inr, Option, Some, None}
-use Rattle.ulfm_world.proofs.Common.{Context, Topic, Decision, known_at, Event, Call, Push, Take, Decide, Leave, World, start_world, Happens, IsWorld, none-some, same_Some, Applied, Run, get_or-blank, Room, TakeFrom}
+use Rattle.ulfm_world.proofs.Common.{Context, Topic, Decision, known_at, Event, Call, Push, Take, Decide, Leave, Skip, World, start_world, Happens, IsWorld, none-some, same_Some, Applied, Run, get_or-blank, Room, TakeFrom}
 use Rattle.ulfm_board.specs.Known.{cell_of}
 use Rattle.ulfm_world.specs.Safe.{decided_at}
 use Rattle.ulfm_world.specs.Made.{WasMadeSafely, MadeSafely}
@@ -27,6 +27,7 @@ held-happens w (Decide r comm) w' k = λ c d known. ap (λ (x : World). known_at
   | inr b ↦ ap (λ (ks : List (Option Decision)). known_at ks c) b.known_stay ∙ known
 ]
 held-happens w (Leave r) w' k = same_held w w' (ap (λ (x : World). x.decided) k.2)
+held-happens w (Skip r asked) w' k = same_held w w' (ap (λ (x : World). x.decided) k.2)
 
 held-applied : (w : World) (event : Event) (w' : World) → Applied w event w' → StillHeld w.decided w'.decided
 held-applied w event w' (inl k) = held-happens w event w' k
@@ -59,6 +60,7 @@ decides-happens w (Decide r comm) w' c d k none known =
       decides = k;
     }
 decides-happens w (Leave r) w' c d k none known = absurd (undecided_still w w' c (ap (λ (x : World). x.decided) k.2) none known)
+decides-happens w (Skip r asked) w' c d k none known = absurd (undecided_still w w' c (ap (λ (x : World). x.decided) k.2) none known)
 
 decides-applied : (w : World) (event : Event) (w' : World) (c : Topic) (d : Decision) → Applied w event w' → decided_at w c ≡ None → decided_at w' c ≡ Some d → DecidedBy w event w' c
 decides-applied w event w' c d (inl k) none known = decides-happens w event w' c d k none known

@@ -27,6 +27,11 @@ moves-on j a u v w h k = record {
 pub moves-not : (j : Seen) (a : Bool) (u v w : World) → Moves j u v a → Moves j v w false → Moves j u w a
 moves-not j a u v w h k = subst (λ (x : World). Moves j u x a) (sym (k.stays refl)) h
 
+-- something moved in the first part
+pub moves-first : (j : Seen) (b : Bool) (u v w : World) → Moves j u v true → Moves j v w b → Moves j u w true
+moves-first j true u v w h k = moves-on j true u v w h k
+moves-first j false u v w h k = moves-not j true u v w h k
+
 -- what moves, moves on
 pub onward : (j : Seen) (m : Bool) (u v : World) → Moves j u v m → Onward j u v m
 onward j true u v h = record { size = h.size; follows = h.follows; stays = h.stays; leads = λ first any x. moves-on j any first u v x h }

@@ -1,6 +1,7 @@
 -- What a push and a take move.
 use Rattle.std.proofs.Common.{◌≡◌, ℕ, ◌+◌, ◌<◌, true, List, [], ◌∷◌, ◌++◌, length, set, refl, ap, sym, subst, ◌∙◌, arith, length-append, length-set, inl, inr}
-use Rattle.ulfm_world.proofs.Common.{WorldRank, Item, Took, is_stopped, State, logged, Player, with_rank, Seen, script_at, Push, Take, World, player_in, player_at, rank_at, inbox_at, with_player, with_inbox, Pushes, Takes, IsWorld, false≢true, cases_eq, Follows, Moves, FollowsSoFar, follows-rank, stopped-push, or-false}
+use Rattle.ulfm_world.proofs.Common.{WorldRank, Item, Took, is_stopped, State, logged, Player, with_rank, Seen, Push, Take, World, player_in, player_at, rank_at, inbox_at, with_player, with_inbox, Pushes, Takes, IsWorld, false≢true, cases_eq, Follows, Moves, GoesThrough, stopped-push, or-false}
+use Rattle.ulfm_script.proofs.Reacting.{goes-rank}
 use Rattle.ulfm_world.proofs.Weights.{out-took}
 use Rattle.ulfm_world.proofs.Changed.{player-same, player-other}
 use Rattle.ulfm_world.proofs.Measures.{measure-at, players_part-set, inboxes_part-set, leaves_weight, leaves_fresh}
@@ -11,12 +12,12 @@ use Rattle.ulfm_world.proofs.Rightly.{rightly-pushes, rightly-takes}
 pub follows-set : (j : Seen) (w w' : World) (r : ℕ) (after : State) → r < length w.players → w'.players ≡ set w.players r (with_rank (player_at w r) after) → is_stopped after.log ≡ is_stopped (rank_at w r).log → Follows j w → Follows j w'
 follows-set j w w' r after inside is stop f x k =
     let p = with_rank (player_at w r) after in
-    let F : Player → Type 0 = λ (q : Player). FollowsSoFar (script_at j x) j.turns q in
+    let F : Player → Type 0 = λ (q : Player). GoesThrough j x q in
     let l : length w'.players ≡ length w.players = ap (λ (ps : List Player). length ps) is ∙ length-set w.players r p in
     let at : player_at w' x ≡ player_in (set w.players r p) x = ap (λ (ps : List Player). player_in ps x) is in
     subst F (sym at) (elim (cases_eq x r) [
       | inl same ↦
-          subst F (sym (player-same w.players r x p same inside)) (subst (λ (y : ℕ). FollowsSoFar (script_at j y) j.turns p) (sym same) (follows-rank (script_at j r) j.turns (player_at w r) after stop (f r inside)))
+          subst F (sym (player-same w.players r x p same inside)) (subst (λ (y : ℕ). GoesThrough j y p) (sym same) (goes-rank after stop (f r inside)))
       | inr other ↦ subst F (sym (player-other w.players r x p other)) (f x (omega (arith, k, l)))
     ])
 

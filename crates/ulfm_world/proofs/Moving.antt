@@ -1,6 +1,6 @@
 -- What each event leaves of a world's topics.
 use Rattle.std.proofs.Common.{◌≡◌, ℕ, ◌<◌, Bool, true, false, List, [], ◌∷◌, ◌++◌, length, set, refl, ap, sym, ◌∙◌, arith, inl, inr, Option, Some, None, All}
-use Rattle.ulfm_world.proofs.Common.{Context, WorldRank, Item, Topic, topic_of, RoundsCounted, Decision, known_at, Entry, Took, has_adopted, State, logged, Step, Event, Call, Push, Take, Decide, Leave, IsWorld, false≢true, none-some, same_Some, AdoptsEntered, World, player_at, rank_at, inbox_at, with_players, with_player, with_inbox, with_decided, Calls, DecidesStep, GivesUp, Pushes, Takes, Happens, Run, Player, with_rank, answered, polled, IsFree, StaysOpen, awaits_decision, IsCalled, TakeFrom}
+use Rattle.ulfm_world.proofs.Common.{Context, WorldRank, Item, Topic, topic_of, RoundsCounted, Decision, known_at, Entry, Took, has_adopted, State, logged, Step, Event, Call, Push, Take, Decide, Leave, Skip, IsWorld, false≢true, none-some, same_Some, AdoptsEntered, World, player_at, rank_at, inbox_at, with_players, with_player, with_inbox, with_decided, Calls, DecidesStep, GivesUp, Skips, Pushes, Takes, Happens, Run, Player, with_rank, answered, polled, IsFree, StaysOpen, awaits_decision, IsCalled, TakeFrom}
 use Rattle.ulfm_world.proofs.Agreed.{HasNotAdopted, IsAdopted, Settled}
 use Rattle.ulfm_world.proofs.Grown.{Grows, Moved, settled-moved}
 use Rattle.ulfm_script.proofs.Fitting.{AddsPlain, Adds, answers_add, opens_add}
@@ -53,6 +53,12 @@ module _ (n : ℕ) (w : World) (h : IsWorld w) (settled : Settled n w) where
       let same : c.after.rank.log ≡ (rank_at w r).log = ap (λ (p : Player). p.rank.log) c.left.only in
       rw c.only (settled-moved w (with_players w (set w.players r c.after)) settled i refl (λ c d k. k) settled.held (moved-plain n w.decided r (player_at w r) c.after (inl same) (settled.adopted r i) (closed_open c.after (ap (λ (p : Player). p.current) c.left.only))))
 
+  settled-skips : (r : ℕ) (asked : Step) (players : List Player) → Skips w.players r asked players → Settled n (with_players w players)
+  settled-skips r asked players c =
+      let i = below r c.inside in
+      let same : c.after.rank.log ≡ (rank_at w r).log = ap (λ (p : Player). p.rank.log) c.skipped.only in
+      rw c.only (settled-moved w (with_players w (set w.players r c.after)) settled i refl (λ c d k. k) settled.held (moved-plain n w.decided r (player_at w r) c.after (inl same) (settled.adopted r i) (closed_open c.after (ap (λ (p : Player). p.current) c.skipped.only))))
+
   settled-takes : (r : ℕ) (passed : List (WorldRank × Item)) {w' : World} → Takes w r passed w' → Settled n w'
   settled-takes r passed t =
       let i = below r t.inside in
@@ -97,6 +103,7 @@ module _ (n : ℕ) (w : World) (h : IsWorld w) (settled : Settled n w) where
   settled-happens (TakeFrom r s) w' k = settled-takes r k.passed k.takes
   settled-happens (Decide r comm) w' k = rw k.3 (settled-settles r comm k.0 k.1 k.2)
   settled-happens (Leave r) w' k = rw k.2 (settled-gives_up r k.0 k.1)
+  settled-happens (Skip r asked) w' k = rw k.2 (settled-skips r asked k.0 k.1)
 
 pub settled-run : (n : ℕ) (events : List Event) {w : World} (w' : World) → IsWorld w → Settled n w → Run w events w' → Settled n w'
 settled-run n events {w} w' h settled k = each_run (Settled n) (λ u event u' i held happens. settled-happens n u i held event u' happens) events w' h settled k

@@ -2,6 +2,7 @@
 use Rattle.std.proofs.Common.{◌≡◌, ℕ, zero, suc, ◌+◌, ◌-◌, ◌<◌, true, false, cond, List, [], length, get_or, set, refl, ap, sym, subst, ◌∙◌, arith, inl, inr, length-set, set-set, Option, Some, None, is_none, slice_get, MatchOption}
 use Rattle.ulfm_script.specs.Player.{IsPolledInVain, polled_on}
 use Rattle.ulfm_script.proofs.Advance.{ready-at}
+use Rattle.ulfm_script.proofs.Reacting.{open_played}
 use Rattle.ulfm_script.proofs.Vain.{vain-after, vain-again, vain-more, vain-next, vain-one, vain-opens}
 use Rattle.ulfm_world.specs.World.{CallsInVain}
 use Rattle.ulfm_world.specs.inside.Steps.{IsKeptWorld}
@@ -110,8 +111,8 @@ module _ {j : Seen} (job : IsJob j) (r : ℕ) (asked : Step) where
       let opens : PollOpens p asked c.after = left_open p asked c.after c.called (ap (λ (x : Player). cond (is_none x.current) Answered NotYet) (sym mid_at) ∙ told) in
       let now : player_at mid r ≡ polled p asked (length p.rank.log) = mid_at ∙ vain-again p asked c.after waits opens in
       let few : (player_at mid r).polls < j.turns = omega (arith, ap (λ (x : Player). x.polls) now, spare, job.most_turns) in
-      let next : slice_get (script_at j r) (length p.done) ≡ Some asked = (subst (λ (o : Option Step). MatchOption o (p.polls ≡ 0) (λ (s : Step). (slice_get (script_at j r) (length p.done) ≡ Some s) × (p.polls < j.turns))) waits (f r inside).current).0 in
-      (moves-call r mid job h inside f (ready-at j r p asked job (f r inside) running next) undecided happens (inr few), now)
+      let next : slice_get (script_at j r) (length p.done) ≡ Some asked = (subst (λ (o : Option Step). MatchOption o (p.polls ≡ 0) (λ (s : Step). (slice_get (script_at j r) (length p.done) ≡ Some s) × (p.polls < j.turns))) waits (f r inside).follows.current).0 in
+      (moves-call r mid job h inside f (ready-at j r p asked job (f r inside).follows running next) (open_played (f r inside) waits) undecided happens (inr few), now)
 
   -- several do
   moves-often : (n : ℕ) (w w' : World) → IsWorld w → r < length w.players → Follows j w → IsRunning w r → (player_at w r).current ≡ Some asked → IsUndecided (player_at w r) → (player_at w r).polls + suc n < j.turns → CallsInVain (suc n) w r asked w' → Moves j w w' true

@@ -1,12 +1,12 @@
 -- Each player's answers stay right, whatever a replay does next.
 use Rattle.std.proofs.Common.{◌≡◌, ◌≢◌, ℕ, ◌<◌, List, [], length, set, refl, ap, sym, ◌∙◌, arith, inl, inr, length-set, get_or-set_same, get_or-set_other, Option, Some, None, slice_get, replicate}
-use Rattle.ulfm_world.proofs.Common.{Context, WorldRank, Item, Topic, Decision, none-some, Took, is_stopped, State, logged, Step, Seen, script_at, Player, with_rank, Call, Decide, Leave, World, player_in, player_at, rank_at, start_world, Happens, Pushes, Takes, cases_eq, Known, IsDecided, get_or-replicate, length-replicate, known_for, AllAnswersFollowSoFar, Follows, stopped-push, AnswersFollowSoFar, IsUndecided, or-false, Room}
+use Rattle.ulfm_world.proofs.Common.{Context, WorldRank, Item, Topic, Decision, none-some, Took, is_stopped, State, logged, Step, Seen, script_at, Player, with_rank, Call, Decide, Leave, Skip, World, player_in, player_at, rank_at, start_world, Happens, Pushes, Takes, cases_eq, Known, IsDecided, get_or-replicate, length-replicate, known_for, AllAnswersFollowSoFar, Follows, stopped-push, AnswersFollowSoFar, IsUndecided, or-false, Room}
 use Rattle.ulfm_board.specs.Known.{Answers as BoardAnswers, Agrees, cell_of, known_at, with_known, nothing_known}
 use Rattle.ulfm_board.proofs.Apart.{cells_apart}
 use Rattle.ulfm_board.proofs.Topics.{known_other, known_with}
 use Rattle.ulfm_script.proofs.Adopted.{agreed, keeps-answered, honest-decided}
 use Rattle.ulfm_script.proofs.Calling.{honest-called}
-use Rattle.ulfm_script.proofs.Honestly.{honest-moved, honest-left, honest-start}
+use Rattle.ulfm_script.proofs.Honestly.{honest-moved, honest-left, honest-skipped, honest-start}
 use Rattle.ulfm_script.proofs.Takes.{takes-none, takes-one}
 use Rattle.ulfm_world.proofs.Changed.{player-same, player-other}
 use Rattle.ulfm_world.proofs.Starts.{player-start, length-start}
@@ -47,12 +47,17 @@ pub rightly-calls : (j : Seen) (w : World) (r : ℕ) {asked : Step} (w' : World)
 rightly-calls j w r {asked} w' f next undecided t h =
     let c = t.1 in
     rightly-set w w' r c.after c.inside (ap (λ (x : World). x.players) t.2 ∙ c.only) (ap (λ (x : World). x.decided) t.2)
-    (λ known q. honest-called known (script_at j r) j.turns (player_at w r) asked c.after q c.running (f r c.inside).current next undecided c.called) h
+    (λ known q. honest-called known (script_at j r) j.turns (player_at w r) asked c.after q c.running (f r c.inside).follows.current next undecided c.called) h
 
 pub rightly-leaves : (w : World) (r : ℕ) (w' : World) → Happens w (Leave r) w' → AllAnswersFollowSoFar w → AllAnswersFollowSoFar w'
 rightly-leaves w r w' t h =
     let g = t.1 in
     rightly-set w w' r g.after g.inside (ap (λ (x : World). x.players) t.2 ∙ g.only) (ap (λ (x : World). x.decided) t.2) (λ known q. honest-left known (player_at w r) g.after q g.left) h
+
+pub rightly-skips : (w : World) (r : ℕ) (asked : Step) (w' : World) → Happens w (Skip r asked) w' → AllAnswersFollowSoFar w → AllAnswersFollowSoFar w'
+rightly-skips w r asked w' t h =
+    let s = t.1 in
+    rightly-set w w' r s.after s.inside (ap (λ (x : World). x.players) t.2 ∙ s.only) (ap (λ (x : World). x.decided) t.2) (λ known q. honest-skipped known (player_at w r) asked s.after q s.skipped) h
 
 agrees_with : (o : Option Decision) (held : Decision) → ((d : Decision) → o ≡ Some d → d ≡ held) → Agrees o held
 agrees_with None held same = tt

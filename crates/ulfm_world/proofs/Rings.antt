@@ -1,6 +1,6 @@
 -- What happens to a world happens to it on rings too.
 use Rattle.std.proofs.Common.{ℕ, ◌≤◌, List, [], ◌∷◌, refl, ap, subst, arith, inl, inr}
-use Rattle.ulfm_world.proofs.Common.{WorldRank, Item, Event, Call, Push, Take, TakeFrom, Decide, Leave, Room, PerInbox, PerPair, places, HasRoom, World, start_world, Happens, Takes, Applied, Run, IsWorld}
+use Rattle.ulfm_world.proofs.Common.{WorldRank, Item, Event, Call, Push, Take, TakeFrom, Decide, Leave, Skip, Room, PerInbox, PerPair, places, HasRoom, World, start_world, Happens, Takes, Applied, Run, IsWorld}
 use Rattle.ulfm_world.specs.Rings.{on_rings, AreOnRings, HappensOnRings, IsRunOnRings}
 use Rattle.ulfm_world.proofs.KeepsCalls.{posted-taken}
 use Rattle.ulfm_world.proofs.Runs.{keeps-applied}
@@ -54,6 +54,7 @@ rings-happens w (TakeFrom r s) w' h k = record {
 }
 rings-happens w (Decide r comm) w' h k = record { same = Decide r comm; is_same = refl; happens = (k.0, k.1, k.2, ap on_rings k.3) }
 rings-happens w (Leave r) w' h k = record { same = Leave r; is_same = refl; happens = (k.0, k.1, ap on_rings k.2) }
+rings-happens w (Skip r asked) w' h k = record { same = Skip r asked; is_same = refl; happens = (k.0, k.1, ap on_rings k.2) }
 
 -- the same schedule on rings, from any world
 abbrev OnRings : World → List Event → World → Type 0

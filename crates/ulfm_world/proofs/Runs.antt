@@ -1,6 +1,6 @@
 -- Every schedule keeps what every world keeps.
-use Rattle.std.proofs.Common.{◌≡◌, ℕ, ◌+◌, ◌<◌, List, [], ◌∷◌, ◌++◌, length, take, get_or, refl, inl, inr, Result, Ok, Err, OnOk, OnErr, IfErr, Option, None}
-use Rattle.ulfm_world.proofs.Common.{Context, Decision, Event, Call, Push, Take, Decide, Leave, IsWorld, Player, Step, quiet-called, quiet-left, World, with_players, with_decided, Calls, DecidesStep, GivesUp, Happens, IsRefused, Applied, Run, Reaches, IsReached, take_more, quiet-decided, TakeFrom}
+use Rattle.std.proofs.Common.{◌≡◌, ℕ, ◌+◌, ◌<◌, List, [], ◌∷◌, ◌++◌, length, take, get_or, refl, ap, inl, inr, Result, Ok, Err, OnOk, OnErr, IfErr, Option, None}
+use Rattle.ulfm_world.proofs.Common.{Context, Decision, Event, Call, Push, Take, Decide, Leave, Skip, IsWorld, Player, Step, quiet-called, quiet-left, quiet-same, World, rank_at, with_players, with_decided, Calls, DecidesStep, GivesUp, Skips, Happens, IsRefused, Applied, Run, Reaches, IsReached, take_more, quiet-decided, TakeFrom}
 use Rattle.ulfm_world.specs.declared.event.Refused.{Refused}
 use Rattle.ulfm_world.proofs.KeepsCalls.{keeps-quiet, keeps-takes}
 use Rattle.ulfm_world.proofs.KeepsPush.{keeps-pushes}
@@ -10,6 +10,11 @@ keeps-calls w r asked h c = rw c.only (keeps-quiet w r c.after h c.inside (quiet
 
 keeps-gives_up : (w : World) (r : ℕ) {players : List Player} → IsWorld w → GivesUp w.players r players → IsWorld (with_players w players)
 keeps-gives_up w r h c = rw c.only (keeps-quiet w r c.after h c.inside (quiet-left _ c.after (h.sound r c.inside) c.left))
+
+keeps-skips : (w : World) (r : ℕ) (asked : Step) {players : List Player} → IsWorld w → Skips w.players r asked players → IsWorld (with_players w players)
+keeps-skips w r asked h c =
+    let same : c.after.rank ≡ (rank_at w r) = ap (λ (p : Player). p.rank) c.skipped.only in
+    rw c.only (keeps-quiet w r c.after h c.inside (rw same (quiet-same (rank_at w r) (h.sound r c.inside))))
 
 keeps-settles : (w : World) (r : ℕ) (comm : Context) {players : List Player} (later : List (Option Decision)) → IsWorld w → DecidesStep w.players w.decided r comm players later → IsWorld (with_decided (with_players w players) later)
 keeps-settles w r comm later h c =
@@ -35,6 +40,7 @@ keeps-happens w (Take r) w' h k = keeps-takes w r [] h k
 keeps-happens w (TakeFrom r s) w' h k = keeps-takes w r k.passed h k.takes
 keeps-happens w (Decide r comm) w' h k = rw k.3 (keeps-settles w r comm k.1 h k.2)
 keeps-happens w (Leave r) w' h k = rw k.2 (keeps-gives_up w r h k.1)
+keeps-happens w (Skip r asked) w' h k = rw k.2 (keeps-skips w r asked h k.1)
 
 pub keeps-applied : {w : World} (event : Event) {w' : World} → IsWorld w → Applied w event w' → IsWorld w'
 keeps-applied {w} event {w'} h (inl k) = keeps-happens w event w' h k

@@ -1,17 +1,18 @@
 -- What a sweep counts, and in which order.
 use Rattle.std.proofs.Common.{◌≡◌, ℕ, ◌+◌, ◌<◌, ◌≤◌, List, [], ◌∷◌, ◌++◌, append_assoc, length, map, get_or, All, Bool, true, false, cond, sym, ap, ◌∙◌, arith}
-use Rattle.ulfm_world.proofs.Common.{slice_get-get_or, StepAnswer, flat_map, range_with_len, sum_by, length-map, map-id, map_push, StepReport, Seen, IsJob, is_stop_step, script_at, through_stop, IsLawful, answers_of, place_of, places_in, Step}
+use Rattle.ulfm_world.proofs.Common.{slice_get-get_or, StepAnswer, flat_map, range_with_len, sum_by, length-map, map-id, map_push, StepReport, Seen, IsJob, script_at, IsLawful, answers_of, place_of, places_in, Step}
 use Rattle.std.proofs.lemmas.List.FromFn.{map-range_with_len_more}
 use Rattle.std.proofs.lemmas.List.Sums.{count_by-le-length, get_or-le-sum_by, sum_by-le, sum_by-le-sum_by}
 use Rattle.ulfm_base.specs.Lists.{at}
 use Rattle.ulfm_laws.proofs.Mail.{flat-push}
 use Rattle.ulfm_script.specs.Report.{Report}
-use Rattle.ulfm_script.specs.Script.{reported_step}
+use Rattle.ulfm_script.specs.Script.{is_played_stop, reported_step, through_stop}
 use Rattle.ulfm_world.specs.declared.line.SweepLine.{SweepLine}
 
-length-through_stop : (xs : List Step) → length (through_stop xs) ≤ length xs
-length-through_stop [] = omega arith
-length-through_stop (x ∷ xs) = one (is_stop_step x) x (through_stop xs) xs (length-through_stop xs)
+length-through_stop : (reports : List StepReport) (xs : List Step) → length (through_stop reports xs) ≤ length xs
+length-through_stop [] xs = omega arith
+length-through_stop (report ∷ reports) [] = omega arith
+length-through_stop (report ∷ reports) (x ∷ xs) = one (is_played_stop report) x (through_stop reports xs) xs (length-through_stop reports xs)
   where
     one : (b : Bool) (x : Step) (ys zs : List Step) → length ys ≤ length zs → length (cond b (x ∷ []) (x ∷ ys)) ≤ length (x ∷ zs)
     one true x ys zs le = omega arith
@@ -30,8 +31,8 @@ steps_few j reports is h =
     few : (k : ℕ) (report : Report) → k < length reports → at reports k report → length report.steps ≤ 256
     few k report lt here =
         let follows = h.lawful.scripts k report here in
-        let same : length report.steps ≡ length (through_stop (script_at j k)) = sym (length-map report.steps reported_step) ∙ ap length follows.steps in
-        omega (arith, same, length-through_stop (script_at j k), script_few j k is (omega (arith, h.lawful.each, lt)))
+        let same : length report.steps ≡ length (through_stop report.steps (script_at j k)) = sym (length-map report.steps reported_step) ∙ ap length follows.steps in
+        omega (arith, same, length-through_stop report.steps (script_at j k), script_few j k is (omega (arith, h.lawful.each, lt)))
 
 -- the places of one more rank
 pub next_rank : (j : Seen) (n : ℕ) → flat_map (places_in j) (range_with_len 0 (n + 1)) ≡ flat_map (places_in j) (range_with_len 0 n) ++ places_in j n

@@ -2,7 +2,7 @@
 use Rattle.std.specs.Prelude.{◌≡◌, ℕ, List, ◌<◌, length}
 use Rattle.ulfm_script.specs.Report.{Report}
 use Rattle.ulfm_script.specs.Script.{HasFinished}
-use Rattle.ulfm_job.specs.Job.{Seen, script_at}
+use Rattle.ulfm_job.specs.Job.{Seen}
 use Rattle.ulfm_world.specs.declared.room.Room.TheVariants.{PerInbox}
 use Rattle.ulfm_world.specs.World.{World, player_at, Reaches, start_world, reports_in}
 use Rattle.ulfm_laws.specs.Lawful.{KnowAtRest}
@@ -12,7 +12,7 @@ use Rattle.ulfm_world.specs.Safe.{KeepsDecisions}
 
 -- each player answered its script
 abbrev pub AllHaveFinished : Seen → World → Type 0
-AllHaveFinished j w = (r : ℕ) → r < length w.players → HasFinished (script_at j r) j.turns (player_at w r)
+AllHaveFinished j w = (r : ℕ) → r < length w.players → HasFinished j r (player_at w r)
 
 -- The reports of a world at rest, to which some schedule of the job's ranks and inboxes leads, in which each answered its script.
 pub record IsReplayed (j : Seen) (reports : List Report) : Type 0 where

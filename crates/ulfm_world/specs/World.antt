@@ -10,11 +10,11 @@ use Rattle.ulfm_rank.specs.declared.entry.Entry.TheVariants.{Took}
 use Rattle.ulfm_rank.specs.Facts.{is_stopped}
 use Rattle.ulfm_rank.specs.State.{State, logged, outbox, GoesOut}
 use Rattle.ulfm_job.specs.declared.step.Step.{Step}
-use Rattle.ulfm_script.specs.Player.{Player, start_player, with_rank, IsFree, IsCalled, GivesUpStep}
+use Rattle.ulfm_script.specs.Player.{Player, start_player, with_rank, IsFree, IsCalled, GivesUpStep, SkipsStep}
 use Rattle.ulfm_script.specs.Deciding.{IsReadyToDecide, IsDecided}
 use Rattle.ulfm_script.specs.Report.{Report}
 use Rattle.ulfm_world.specs.declared.event.Event.{Event}
-use Rattle.ulfm_world.specs.declared.event.Event.TheVariants.{Call, Push, Take, TakeFrom, Decide, Leave}
+use Rattle.ulfm_world.specs.declared.event.Event.TheVariants.{Call, Push, Take, TakeFrom, Decide, Leave, Skip}
 use Rattle.ulfm_world.specs.declared.event.Outcome.{Outcome}
 use Rattle.ulfm_world.specs.declared.event.Outcome.TheVariants.{Answered, NotYet, Moved}
 use Rattle.ulfm_world.specs.declared.event.Refused.{Refused}
@@ -109,6 +109,14 @@ pub record GivesUp (old : List Player) (r : ℕ) (new : List Player) : Type 0 wh
   pub left : GivesUpStep (player_in old r) after
   pub only : new ≡ slice_set old r after
 
+-- the player r skips a step, where none stands open
+pub record Skips (old : List Player) (r : ℕ) (step : Step) (new : List Player) : Type 0 where
+  pub inside : r < length old
+  pub running : is_stopped (player_in old r).rank.log ≡ false
+  pub after : Player
+  pub skipped : SkipsStep (player_in old r) step after
+  pub only : new ≡ slice_set old r after
+
 -- the first item of the outbox of s towards d goes to the end of the inbox of d
 pub record Pushes (old : World) (s d : ℕ) (new : World) : Type 0 where
   pub inside_s : s < length old.players
@@ -149,6 +157,7 @@ Happens old (Decide r comm) new =
     (players : List Player) × (later : List (Option Decision)) × DecidesStep old.players old.decided r comm players later
     × (new ≡ with_decided (with_players old players) later)
 Happens old (Leave r) new = (players : List Player) × GivesUp old.players r players × (new ≡ with_players old players)
+Happens old (Skip r step) new = (players : List Player) × Skips old.players r step players × (new ≡ with_players old players)
 
 -- what is told of an event that happened, by the world after it
 abbrev pub outcome_of : World → Event → Outcome
@@ -195,6 +204,10 @@ IsRefused w (Decide r comm) NotReady = IsLive w r × (IsReadyToDecide (player_at
 IsRefused w (Leave r) NoSuchRank = length w.players ≤ r
 IsRefused w (Leave r) Stopped = IsInside w r × HasStopped w r
 IsRefused w (Leave r) NotReady = IsLive w r × ((player_at w r).current ≡ None)
+IsRefused w (Skip r asked) NoSuchRank = length w.players ≤ r
+IsRefused w (Skip r asked) Stopped = IsInside w r × HasStopped w r
+IsRefused w (Skip r asked) NotReady = IsLive w r × ((player_at w r).current ≢ None)
+IsRefused w (Skip r asked) OutOfMemory = IsLive w r
 IsRefused w _ _ = ⊥
 
 -- an event happens, or is refused for a cause and changes nothing

@@ -4,6 +4,7 @@ ghost use Rattle.ulfm_base.specs.declared.context.Context.{Context};
 ghost use Rattle.ulfm_script.specs.Deciding.{IsReadyToDecide};
 ghost use Rattle.ulfm_script.specs.inside.SoFar.{IsUndecided};
 ghost use Rattle.ulfm_job.specs.Job.{script_at, decides_on};
+ghost use Rattle.ulfm_script.specs.Reacting.{is_played};
 ghost use Rattle.ulfm_world.specs.World.{IsRunning, player_at, inbox_at};
 ghost use Rattle.ulfm_laws.specs.Lawful.{IsLawful};
 ghost use Rattle.ulfm_world.specs.inside.Rounds.{Moves, Follows, IsPushStuck, IsStuck};
@@ -16,8 +17,9 @@ use ulfm_script::{Hands, Job, RankReport, RunFault, Step, turn};
 
 /// The job, round by round. One inbox holds `capacity` items for each rank. In a round the ranks come upwards, and each
 /// pushes to each destination upwards, itself too, while its outbox isn't empty and the inbox has room; then, where it
-/// runs, it takes one item and polls its next step once, which decides an open shrink or agreement that has a proposal. A step that
-/// its last poll left open is given up. The rounds end after the first one in which nothing was pushed, taken or polled.
+/// runs, it takes one item and polls its next step once, which decides an open shrink or agreement that has a proposal. Steps whose
+/// conditions don't hold are skipped before this poll, and take none. A step that its last poll left open is given up. The rounds end
+/// after the first one in which nothing was pushed, taken, skipped or polled.
 ///
 /// Where a round did nothing but poll open steps in vain, so would each further one, up to the last poll of a step. Those rounds
 /// are taken at once. So the time doesn't grow with the job's `turns`.
@@ -193,8 +195,8 @@ fn turn_of(job: &Job, rounds: &mut Rounds<'_>, r: u8) -> Result<bool, RunFault>
     Ok(moved)
 }
 
-/// The poll of the step that comes next, if there is one: an open shrink or agreement that has a proposal is decided. An open step may
-/// get as many polls at once as `most`.
+/// The poll of the next step that is to be played, if there is one: an open shrink or agreement that has a proposal is decided. Those
+/// before it are skipped, and take no poll. An open step may get as many polls at once as `most`.
 fn poll(job: &Job, world: &mut World, r: u8, most: u32) -> Result<bool, RunFault>
     requires inside { r < length world.old.players }
     requires scripts { job.now.ranks ≡ length world.old.players }
@@ -208,11 +210,34 @@ fn poll(job: &Job, world: &mut World, r: u8, most: u32) -> Result<bool, RunFault
     let Some(step) = job.step(r, world.answered(r)) else {
         return Ok(false);
     };
+    if !world.is_next_played(r, job.conditions()) {
+        skip(job, world, r, &step)?;
+        poll(job, world, r, most)?;
+        return Ok(true);
+    }
     if decide(job, world, r, &step) {
         return Ok(true);
     }
     call(job, world, r, &step, most)?;
     Ok(true)
+}
+
+/// The step isn't played, since none of its conditions holds.
+#[tactic(auto, using(crate::proofs::Refusals::refusals))]
+fn skip(job: &Job, world: &mut World, r: u8, step: &Step) -> Result<(), RunFault>
+    requires inside { r < length world.old.players }
+    requires running { IsRunning world.old r }
+    requires follows { Follows job.now world.old }
+    requires next { slice_get (script_at job.now r) (length (player_at world.old r).done) ≡ Some step.now }
+    requires skipped { is_played job.now.conditions r (player_at world.old r).done ≡ false }
+    ensures { OnOk result (Moves job.now world.old world.new true) }
+{
+    let _ = job.turns();
+    match world.apply(Event::Skip(r, *step)) {
+        Ok(_) => Ok(()),
+        Err(Refused::OutOfMemory) => Err(RunFault::OutOfMemory),
+        Err(_) => unreachable!(),
+    }
 }
 
 /// One poll of a step; or as many at once as `most`, where it stands open and none of them is its last.
@@ -221,6 +246,7 @@ fn call(job: &Job, world: &mut World, r: u8, step: &Step, most: u32) -> Result<(
     requires running { IsRunning world.old r }
     requires follows { Follows job.now world.old }
     requires next { slice_get (script_at job.now r) (length (player_at world.old r).done) ≡ Some step.now }
+    requires played { is_played job.now.conditions r (player_at world.old r).done ≡ true }
     requires undecided { IsUndecided (player_at world.old r) }
     ensures { OnOk result (Moves job.now world.old world.new true) }
 {
@@ -239,6 +265,7 @@ fn call_often(job: &Job, world: &mut World, r: u8, step: &Step, times: u32) -> R
     requires running { IsRunning world.old r }
     requires follows { Follows job.now world.old }
     requires next { slice_get (script_at job.now r) (length (player_at world.old r).done) ≡ Some step.now }
+    requires played { is_played job.now.conditions r (player_at world.old r).done ≡ true }
     requires undecided { IsUndecided (player_at world.old r) }
     requires open { 0 < (player_at world.old r).polls }
     requires some { 0 < times }
@@ -279,6 +306,7 @@ fn call_once(job: &Job, world: &mut World, r: u8, step: &Step) -> Result<(), Run
     requires running { IsRunning world.old r }
     requires follows { Follows job.now world.old }
     requires next { slice_get (script_at job.now r) (length (player_at world.old r).done) ≡ Some step.now }
+    requires played { is_played job.now.conditions r (player_at world.old r).done ≡ true }
     requires undecided { IsUndecided (player_at world.old r) }
     ensures { OnOk result (Moves job.now world.old world.new true) }
 {

@@ -1,8 +1,15 @@
 -- What is read of a job's text, without the form that it has in memory.
-use Rattle.std.specs.Prelude.{Result, Ok, Err, ◌<◌, ◌≤◌}
+use Rattle.std.specs.Prelude.{ℕ, Bool, List, [], ◌∷◌, ◌++◌, Option, Some, None, Result, Ok, Err, ◌<◌, ◌≤◌, map, if◌then◌else◌}
 use Rattle.toml.specs.View.{items_view}
 use Rattle.ulfm_job.specs.declared.head.Head.{Head as Coded}
-use Rattle.ulfm_job.specs.JobText.{Head}
+use Rattle.ulfm_job.specs.JobText.{Head, Draft}
+use Rattle.ulfm_job.specs.Begins.{may_ask, may_expect}
+use Rattle.ulfm_job.specs.Job.{lists_of}
+use Rattle.ulfm_job.specs.Reacting.{Asker}
+use Rattle.ulfm_job.specs.declared.asker.Asker.{Asker as CodedAsker}
+use Rattle.ulfm_job.specs.declared.draft.Draft.{Draft as CodedDraft}
+use Rattle.ulfm_job.specs.declared.name.Name.{Name}
+use Rattle.ulfm_job.specs.declared.step.Step.{Step}
 use Rattle.ulfm_job.specs.declared.placed.Placed.{Placed}
 use Rattle.ulfm_job.specs.Plan.{PlannedStep, order_of}
 
@@ -27,3 +34,25 @@ pub record IsHead (h : Head) : Type 0 where
 -- a step as it was planned
 abbrev pub planned : Placed → PlannedStep
 planned p = record { rank = p.rank; order = order_of p.step }
+
+-- what the clauses of a step are read with, as it is kept
+abbrev pub asker_view : CodedAsker → Asker
+asker_view a = record { rank = a.rank; at = a.at; script = map order_of a.script.now; names = a.names.now }
+
+-- words fit an answer of a step, of a condition or of what is expected
+abbrev pub may_begin : Bool → Step → List ℕ → Bool
+may_begin is_condition asked = if is_condition then may_ask (order_of asked) else may_expect (order_of asked)
+
+-- what was read of the steps, as it is kept
+abbrev pub draft_view : CodedDraft → Draft
+draft_view d = record {
+  scripts = map (map order_of) (lists_of d.scripts.items);
+  names = d.names.items;
+  conditions = d.conditions.items;
+  expected = d.expected.items;
+}
+
+-- names, and behind them one more where there is one
+abbrev pub name_behind : List Name → Option Name → List Name
+name_behind names None = names
+name_behind names (Some name) = names ++ name ∷ []

@@ -5,7 +5,7 @@ use Rattle.ulfm_rank.specs.Facts.{took, is_stopped, IsSigned}
 use Rattle.ulfm_rank.specs.State.{State, IsState, went_out}
 use Rattle.ulfm_job.specs.Job.{Seen, script_at}
 use Rattle.ulfm_script.specs.Player.{View, with_rank}
-use Rattle.ulfm_script.specs.inside.Underway.{FollowsSoFar, polls_left}
+use Rattle.ulfm_script.specs.inside.Underway.{GoesThrough, polls_left}
 use Rattle.ulfm_script.specs.inside.SoFar.{OnlyTakes}
 use Rattle.ulfm_rank.specs.inside.Quiet.{Quiet}
 
@@ -35,7 +35,7 @@ pub record Moves {E N : Type 0} (name : E → N) (place count : E → ℕ) (push
 -- One poll of the next step: nothing goes from or to the player, and fewer polls are left.
 pub record Polls (job : Seen) (me : ℕ) (old new : View) : Type 0 where
   pub quiet : Quiet old.player.rank new.player.rank
-  pub follows : FollowsSoFar (script_at job me) job.turns new.player
+  pub follows : GoesThrough job me new.player
   pub room : new.room + length new.player.done ≡ old.room + length old.player.done
   pub falls : polls_left (script_at job me) job.turns new.player < polls_left (script_at job me) job.turns old.player
 
@@ -44,5 +44,5 @@ pub record IsAtWork {E : Type 0} (place count : E → ℕ) (pushed taken : E →
   pub joined : IsJoined place count pushed taken ready v.player.rank end
   pub named : v.player.rank.me ≡ me
   pub counted : v.player.rank.ranks ≡ job.ranks
-  pub follows : FollowsSoFar (script_at job me) job.turns v.player
+  pub follows : GoesThrough job me v.player
   pub room : length (script_at job me) ≤ v.room + length v.player.done

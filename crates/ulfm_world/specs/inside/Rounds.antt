@@ -4,7 +4,7 @@ use Rattle.ulfm_rank.specs.Facts.{is_revoked}
 use Rattle.ulfm_rank.specs.State.{State, outbox}
 use Rattle.ulfm_job.specs.declared.step.Step.{Step}
 use Rattle.ulfm_script.specs.Player.{Player}
-use Rattle.ulfm_script.specs.inside.Underway.{FollowsSoFar, polls_left}
+use Rattle.ulfm_script.specs.inside.Underway.{GoesThrough, polls_left}
 use Rattle.ulfm_job.specs.Job.{Seen, script_at}
 use Rattle.ulfm_world.specs.declared.room.Room.TheVariants.{PerInbox}
 use Rattle.ulfm_world.specs.Room.{IsFull}
@@ -17,7 +17,7 @@ use Rattle.ulfm_script.specs.inside.SoFar.{AnswersFollowSoFar}
 
 -- each player goes through its script
 abbrev pub Follows : Seen → World → Type 0
-Follows j w = (r : ℕ) → r < length w.players → FollowsSoFar (script_at j r) j.turns (player_at w r)
+Follows j w = (r : ℕ) → r < length w.players → GoesThrough j r (player_at w r)
 
 -- f 0 + f 1 + .., below n
 abbrev pub sum_below : ℕ → (ℕ → ℕ) → ℕ

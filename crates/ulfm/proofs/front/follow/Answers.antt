@@ -1,4 +1,6 @@
+use Rattle.std.proofs.Common.{◌≤◌, ◌≡◌, ◌⊎◌, ℕ, arith, inl, inr, subst, sym}
 use Rattle.ulfm.proofs.Refused.{starved_gets, starved_begins}
+use Rattle.ulfm.proofs.Statuses.{known_status}
 use Rattle.ulfm.proofs.front.follow.Goals as goal
 
 pub returns-in-Err-OutOfMemory-clause-replies : goal.returns-in-Err-OutOfMemory-clause-replies
@@ -12,3 +14,12 @@ returns-clause-replies g c = starved_gets c.args.wanted 1048577 _ _ _ _ c.write_
 
 pub returns-clause-cut_off : goal.returns-clause-cut_off
 returns-clause-cut_off g c = starved_begins c.args.wanted 1048577 _ _ _ _ c.write_reply-in-Err.ensures.failed
+
+pub write_reply-status-requires : goal.write_reply-status-requires
+write_reply-status-requires g c = (known_status _ _ _ _ c.in-Ok-reply_to.ensures).whole
+
+pub returns-in-Ok-reply_to-clause-known : goal.returns-in-Ok-reply_to-clause-known
+returns-in-Ok-reply_to-clause-known g c = elim c.write_reply-status.ensures.known [
+  | inl same ↦ subst (λ (k : ℕ). (k ≤ 6) ⊎ (k ≡ 9)) (sym same) (known_status _ _ _ _ c.in-Ok-reply_to.ensures).few
+  | inr four ↦ inl (omega (arith, four))
+]

@@ -1,6 +1,8 @@
 use Rattle.std.proofs.Common.{◌∙◌, All, Some, ap, ap₂, subst, sym}
 use Rattle.std.proofs.lemmas.Result.{IfOk-weaker}
+use Rattle.std.specs.List.{list_all}
 use Rattle.ulfm_job.specs.Job.{Seen}
+use Rattle.ulfm_script.specs.Reacting.{all_met}
 use Rattle.ulfm_laws.specs.Lawful.{IsLawful}
 use Rattle.ulfm.specs.Replies.{ran, repeated, with_options}
 use Rattle.ulfm.specs.Tally.{tally_text}
@@ -20,7 +22,7 @@ returns-in-Some g c =
       | in-Ok-tally_of w ↦
           let runs = w.in-Ok-tally_of.ensures.runs in
           rw w.result-is (IfOk-weaker w.tally_reply.result _ _ (λ r h.
-          rw (h.0 ∙ ap (played_status c.args.options.is_strict) runs.3, h.1 ∙ ap₂ tally_text (sym runs.1) runs.4)
+          rw (h.0 ∙ ap₂ (played_status c.args.options.is_strict) (runs.4 ∙ ap (λ (j : Seen). list_all (all_met j) runs.0) job) runs.3, h.1 ∙ ap₂ tally_text (sym runs.1) runs.5)
           (repeated c.in-Ok.job runs.0 (c.in-Some.is ∙ ap Some (sym runs.1)) c.in-Ok.ensures (subst (λ (j : Seen). All (IsLawful j) runs.0) job runs.2))) w.tally_reply.ensures)
       | in-Err-tally_of w ↦
           rw w.result-is (IfOk-weaker w.failed.result _ _ (λ r h.
@@ -31,7 +33,7 @@ pub returns-in-Ok-ran : goal.returns-in-Ok-ran
 returns-in-Ok-ran g c =
     let reports = c.in-Ok-ran.reports.items in
     let lawful : IsLawful (with_options c.args.options c.in-Ok.job) reports = subst (λ (j : Seen). IsLawful j reports) c.with_options-job.ensures c.in-Ok-ran.ensures.lawful in
-    IfOk-weaker c.trace_reply.result _ _ (λ r h. rw (h.0, h.1, c.as_slice.ensures.value) (ran c.in-Ok.job reports (without_repeat c.args.options.repeat c.in_default.not-Some) c.in-Ok.ensures lawful)) c.trace_reply.ensures
+    IfOk-weaker c.trace_reply.result _ _ (λ r h. rw (h.0, h.1, c.as_slice.ensures.value, c.with_options-job.ensures) (ran c.in-Ok.job reports (without_repeat c.args.options.repeat c.in_default.not-Some) c.in-Ok.ensures lawful)) c.trace_reply.ensures
 
 pub returns : goal.returns
 returns g c =

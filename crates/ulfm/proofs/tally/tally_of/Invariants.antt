@@ -1,6 +1,7 @@
 use Rattle.std.proofs.Common.{◌≡◌, ◌≤◌, ◌-◌, All, List, length, map}
-use Rattle.std.specs.List.{list_any}
+use Rattle.std.specs.List.{list_all, list_any}
 use Rattle.ulfm_laws.specs.Lawful.{IsLawful}
+use Rattle.ulfm_script.specs.Reacting.{all_met}
 use Rattle.ulfm_script.specs.Report.{Report}
 use Rattle.ulfm_script.specs.Trace.{trace_of}
 use Rattle.ulfm.specs.declared.tally.Counted.{Counted}
@@ -15,4 +16,4 @@ decreases-loop-done g l = l.times - l.done
 abbrev pub invariant-loop-done : goal.invariant-loop-done
 invariant-loop-done g l = (l.done ≤ l.times) × All (λ (row : Counted). row.count ≤ l.done) l.tally.rows.items
     × ((runs : List (List Report)) × (length runs ≡ l.done) × All (IsLawful l.job) runs
-    × (l.tally.is_unfinished ≡ list_any has_unfinished runs) × (rows_of l.tally.rows.items ≡ tally (map trace_of runs)))
+    × (l.tally.is_unfinished ≡ list_any has_unfinished runs) × (l.tally.is_met ≡ list_all (all_met l.job) runs) × (rows_of l.tally.rows.items ≡ tally (map trace_of runs)))

@@ -8,10 +8,10 @@ use Rattle.ulfm_job.proofs.reading.job_of.Goals as goal
 pub returns-then-head-gt-MOST_STEPS : goal.returns-then-head-gt-MOST_STEPS
 returns-then-head-gt-MOST_STEPS c = λ _. too_many _ (head_view c.in-Ok.head) c.in-Ok.ensures.exact (omega (arith, items_len-view c.in-Ok.head.steps.now, c.if-head-gt-MOST_STEPS.true))
 
-pub returns-in_err-scripts : goal.returns-in_err-scripts
-returns-in_err-scripts c =
+pub returns-in_err-draft : goal.returns-in_err-draft
+returns-in_err-draft c =
     let p = err_from_is_err_and c.from_residual.result c.from_residual.ensures.1 in
-    rw (p.1, p.2) (λ no_memory. steps_read _ (head_view c.in-Ok.head) _ c.in-Ok.ensures.exact (omega (arith, items_len-view c.in-Ok.head.steps.now, c.if-head-gt-MOST_STEPS.false)) (c.in_err-scripts.ensures.exact no_memory))
+    rw (p.1, p.2) (λ no_memory. steps_read _ (head_view c.in-Ok.head) _ c.in-Ok.ensures.exact (omega (arith, items_len-view c.in-Ok.head.steps.now, c.if-head-gt-MOST_STEPS.false)) (c.in_err-draft.ensures.exact no_memory))
 
 pub returns : goal.returns
-returns c = rw (c.new.ensures, c.in_ok-scripts.ensures.each) (steps_read _ (head_view c.in-Ok.head) _ c.in-Ok.ensures.exact (omega (arith, items_len-view c.in-Ok.head.steps.now, c.if-head-gt-MOST_STEPS.false)) c.in_ok-scripts.ensures.exact)
+returns c = rw (c.new.ensures, c.in_ok-draft.ensures.each) (steps_read _ (head_view c.in-Ok.head) _ c.in-Ok.ensures.exact (omega (arith, items_len-view c.in-Ok.head.steps.now, c.if-head-gt-MOST_STEPS.false)) c.in_ok-draft.ensures.exact)

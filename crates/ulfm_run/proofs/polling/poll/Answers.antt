@@ -1,17 +1,24 @@
 use Rattle.std.proofs.Common.{arith, ap, sym, ◌∙◌, subst, length, slice_get}
-use Rattle.ulfm_run.proofs.Common.{FollowsSoFar, is_stopped, IsState, Player, script_at}
+use Rattle.ulfm_run.proofs.Common.{GoesThrough, is_stopped, IsState, Player, script_at}
+use Rattle.ulfm_script.specs.Reacting.{is_played}
 use Rattle.ulfm_script.specs.inside.SoFar.{AnswersFollowSoFar, IsUndecided}
-use Rattle.ulfm_run.proofs.Polled.{polls-after}
+use Rattle.ulfm_run.proofs.Polled.{polls-after, asked_played}
 use Rattle.ulfm_run.proofs.polling.poll.Goals as goal
 
+pub skip-requires-clause-skipped : goal.skip-requires-clause-skipped
+skip-requires-clause-skipped g c = asked_played c.args.job.now c.args.me c.args.player.now.player c.requires.mine c.conditions.ensures c.is_next_played.ensures ∙ c.if-not-is_next_played.true
+
 pub call-requires : goal.call-requires
-call-requires g c = record {
-  sound = subst (λ (p : Player). IsState p.rank) (sym (c.decide.ensures.unchanged c.if-decide.false)) c.requires.sound;
-  follows = subst (λ (p : Player). FollowsSoFar (script_at c.args.job.now c.args.me) c.args.job.now.turns p) (sym (c.decide.ensures.unchanged c.if-decide.false)) c.requires.follows;
-  room = omega (arith, c.requires.room, c.decide.ensures.room);
-  running = ap (λ (p : Player). is_stopped p.rank.log) (c.decide.ensures.unchanged c.if-decide.false) ∙ c.requires.running;
-  next = ap (λ (p : Player). slice_get (script_at c.args.job.now c.args.me) (length p.done)) (c.decide.ensures.unchanged c.if-decide.false) ∙ c.requires.next;
-}
+call-requires g c =
+    let same = c.decide.ensures.unchanged c.if-decide.false in
+    record {
+      sound = subst (λ (p : Player). IsState p.rank) (sym same) c.requires.sound;
+      follows = subst (GoesThrough c.args.job.now c.args.me) (sym same) c.requires.follows;
+      room = omega (arith, c.requires.room, c.decide.ensures.room);
+      running = ap (λ (p : Player). is_stopped p.rank.log) same ∙ c.requires.running;
+      next = ap (λ (p : Player). slice_get (script_at c.args.job.now c.args.me) (length p.done)) same ∙ c.requires.next;
+      played = ap (λ (p : Player). is_played c.args.job.now.conditions c.args.me p.done) same ∙ asked_played c.args.job.now c.args.me c.args.player.now.player c.requires.mine c.conditions.ensures c.is_next_played.ensures ∙ c.if-not-is_next_played.false;
+    }
 
 pub returns-clause-polls : goal.returns-clause-polls
 returns-clause-polls g c = polls-after c.args.player.now (c.decide.ensures.unchanged c.if-decide.false) c.decide.ensures.room c.call.ensures.polls

@@ -1,0 +1,63 @@
+//! The steps of one rank.
+
+use crate::keys::text_at;
+use crate::rules::{Key, OPS};
+use crate::steps::rank_of;
+use toml::Value;
+
+/// The steps of one rank, among those of the file.
+#[derive(Clone, Copy)]
+pub struct Script<'a> {
+    pub steps: &'a [Value],
+    pub rank: i64,
+}
+
+impl<'a> Script<'a> {
+    /// The step of this number.
+    pub fn step(&self, number: usize) -> Option<&'a Value> {
+        let mut of_rank = self
+            .steps
+            .iter()
+            .filter(|step| rank_of(*step) == Some(self.rank));
+        of_rank.nth(number)
+    }
+
+    /// The number of the first step with this name among so many.
+    pub fn named(&self, name: &str, many: usize) -> Option<usize> {
+        for number in 0..many {
+            let step = self.step(number)?;
+            if name_of(step) == Some(name) {
+                return Some(number);
+            }
+        }
+        None
+    }
+
+    /// The number of the step that a value names, by a number, or by the name of one of so many.
+    pub fn number_of(&self, value: &Value, many: usize) -> Option<i64> {
+        if let Some(number) = value.as_integer() {
+            return Some(number);
+        }
+        let number = self.named(value.as_str()?, many)?;
+        i64::try_from(number).ok()
+    }
+}
+
+/// The name of a step, where it has one.
+fn name_of(step: &Value) -> Option<&str> {
+    text_at(step.as_table()?, Key::Name)
+}
+
+/// The op of a step, if it is known.
+pub fn op_of(step: &Value) -> Option<&'static str> {
+    let op = text_at(step.as_table()?, Key::Op)?;
+    OPS.iter().copied().find(|known| *known == op)
+}
+
+/// Whether a step has a condition.
+pub fn has_condition(step: &Value) -> bool {
+    match step.as_table() {
+        Some(table) => table.get("if").is_some(),
+        None => false,
+    }
+}

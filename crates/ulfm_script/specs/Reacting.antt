@@ -1,0 +1,53 @@
+-- On what conditions a step is played, and what is expected of its answer.
+use Rattle.std.specs.Prelude.{◌≡◌, ◌==◌, ◌+◌, ℕ, Bool, true, false, not, ◌&&◌, ◌||◌, List, [], ◌∷◌, length, take, Option, Some, None, slice_get}
+use Rattle.std.specs.List.{list_all, list_any}
+use Rattle.ulfm_job.specs.Begins.{begins}
+use Rattle.ulfm_job.specs.Job.{Seen}
+use Rattle.ulfm_job.specs.declared.clause.Clause.{Clause}
+use Rattle.ulfm_script.specs.declared.answer.StepReport.{StepReport}
+use Rattle.ulfm_script.specs.Report.{Report, is_skipped}
+use Rattle.ulfm_script.specs.Trace.{answer_text}
+
+-- the answer of an answered step, where there is one, begins with words
+abbrev pub begins_in : Option StepReport → List ℕ → Bool
+begins_in None words = false
+begins_in (Some report) words = begins (answer_text report.answer) words
+
+-- a clause holds of these answered steps of its rank
+abbrev pub holds_of : List StepReport → Clause → Bool
+holds_of done c = begins_in (slice_get done c.step) c.words
+
+-- the step k of the rank r asks for a clause
+abbrev pub is_of : ℕ → ℕ → Clause → Bool
+is_of r k c = (c.rank == r) && (c.at == k)
+
+-- a step that asks for none of these clauses, or for one that holds of these answered steps
+abbrev pub one_holds : List Clause → ℕ → ℕ → List StepReport → Bool
+one_holds clauses r k done = not (list_any (is_of r k) clauses) || list_any (λ (c : Clause). is_of r k c && holds_of done c) clauses
+
+-- The rule of reacting jobs: the next step of the rank r is played where it has no condition, or one of them holds of the answers so far.
+abbrev pub is_played : List Clause → ℕ → List StepReport → Bool
+is_played conditions r done = one_holds conditions r (length done) done
+
+-- each step of the rank r is skipped exactly where it isn't to be played, by the answers before it
+abbrev pub SkipsRightly : List Clause → ℕ → List StepReport → Type 0
+SkipsRightly conditions r done =
+    (k : ℕ) (report : StepReport) → slice_get done k ≡ Some report
+    → is_skipped report.answer ≡ not (is_played conditions r (take k done))
+
+-- an answered step of the rank r was skipped, or its answer is one that it expects, if it expects any
+abbrev pub is_met : List Clause → ℕ → ℕ → List StepReport → StepReport → Bool
+is_met expected r k done report = is_skipped report.answer || one_holds expected r k done
+
+-- the same of each of these steps of a rank, of which the first is numbered k
+abbrev pub each_met : List Clause → ℕ → ℕ → List StepReport → List StepReport → Bool
+each_met expected r k done [] = true
+each_met expected r k done (report ∷ reports) = is_met expected r k done report && each_met expected r (k + 1) done reports
+
+-- the answers of a rank are as its steps expect
+abbrev pub meets_expected : List Clause → Report → Bool
+meets_expected expected report = each_met expected report.rank.me 0 report.steps report.steps
+
+-- the answers of all ranks are as their steps expect
+abbrev pub all_met : Seen → List Report → Bool
+all_met job reports = list_all (meets_expected job.expected) reports

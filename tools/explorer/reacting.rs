@@ -1,0 +1,88 @@
+//! Conditions of steps. Whether a step is played depends on earlier answers of its rank alone, and a skip changes nothing but what
+//! is next. So a rank skips right behind the answer before, and its next step is always one that it plays.
+
+use crate::items::Answer;
+use crate::job::{Job, Step};
+use crate::rank::Rank;
+use crate::words::answer_words;
+use crate::world::World;
+
+/// What a step may ask for: that the answer of an earlier step of its rank begins, by whole words, with these.
+pub struct Condition {
+    pub step: usize,
+    pub words: String,
+}
+
+impl Condition {
+    fn holds_of(&self, answer: &str) -> bool {
+        answer.strip_prefix(self.words.as_str()).is_some_and(|rest| rest.is_empty() || rest.starts_with(' '))
+    }
+}
+
+impl Rank {
+    /// The next step has its answer. Unless it stopped the rank, the steps behind it are skipped up to one that is played.
+    pub fn go_on(&mut self, job: &Job, answer: &Answer) {
+        self.pass(job, answer);
+        while !self.stopped && self.answered < self.steps(job).len() && !self.is_chosen(job, self.answered) {
+            self.pass(job, &Answer::Skipped);
+        }
+    }
+
+    /// Goes behind the next step. Of its answer is kept which later steps are played because of it.
+    fn pass(&mut self, job: &Job, answer: &Answer) {
+        let passed = self.answered;
+        let words = answer_words(job, answer);
+        for (later, conditions) in self.conditions(job).iter().enumerate().skip(passed + 1) {
+            if conditions.iter().any(|condition| condition.step == passed && condition.holds_of(&words)) {
+                self.chosen.insert(later);
+            }
+        }
+        self.chosen.remove(&passed);
+        self.answered += 1;
+    }
+
+    /// Whether a step that is ahead will be played, whatever is answered till then, unless the rank stops or hangs before.
+    fn is_chosen(&self, job: &Job, step: usize) -> bool {
+        self.conditions(job)[step].is_empty() || self.chosen.contains(&step)
+    }
+
+    /// Whether a step that is ahead may be played: some condition of it holds, or is about an answer that isn't given.
+    fn may_play(&self, job: &Job, step: usize) -> bool {
+        self.is_chosen(job, step) || self.conditions(job)[step].iter().any(|condition| condition.step >= self.answered)
+    }
+
+    fn steps<'a>(&self, job: &'a Job) -> &'a [Step] {
+        &job.steps[self.me as usize]
+    }
+
+    fn conditions<'a>(&self, job: &'a Job) -> &'a [Vec<Condition>] {
+        &job.conditions[self.me as usize]
+    }
+}
+
+impl World {
+    /// The next step of a rank that runs, if it has one left.
+    pub fn next_step(&self, job: &Job, rank: usize) -> Option<Step> {
+        let at = &self.ranks[rank];
+        if at.stopped {
+            return None;
+        }
+        at.steps(job).get(at.answered).copied()
+    }
+
+    /// The steps of a rank that runs which aren't answered and may be played: up to the first `stop` that surely is, and none that
+    /// surely is skipped. Later on they are some of those of now, whatever happens.
+    pub fn steps_ahead<'a>(&'a self, job: &'a Job, rank: usize) -> impl Iterator<Item = &'a Step> {
+        let at = &*self.ranks[rank];
+        let steps = at.steps(job);
+        let open = if at.stopped { steps.len()..steps.len() } else { at.answered..steps.len() };
+        let stops = |number: &usize| steps[*number] == Step::Stop && at.is_chosen(job, *number);
+        let last = open.clone().find(stops).map_or(open.end, |stop| stop + 1);
+        (open.start..last).filter(|number| at.may_play(job, *number)).map(|number| &steps[number])
+    }
+
+    /// Whether no step of a rank is played any more.
+    pub fn has_ended(&self, job: &Job, rank: usize) -> bool {
+        self.steps_ahead(job, rank).next().is_none()
+    }
+}
