@@ -1,8 +1,8 @@
-use Rattle.std.proofs.Common.{◌≡◌, arith, length, ap, sym, ◌∙◌, inl, inr, slice_get}
+use Rattle.std.proofs.Common.{arith, length, ap, sym, ◌∙◌, inl, inr, slice_get}
 use Rattle.std.proofs.lemmas.Option.{slice_get_cases}
 use Rattle.ulfm_script.proofs.Honestly.{honest-skipped}
 use Rattle.ulfm_script.proofs.Reacting.{idle_none}
-use Rattle.ulfm_run.proofs.Common.{is_stopped, none-some, script_at, slice_get_within, State}
+use Rattle.ulfm_run.proofs.Common.{none-some, script_at, slice_get_within, State}
 use Rattle.ulfm_run.proofs.Polled.{asked_played, skips-none, skips-one}
 use Rattle.ulfm_run.proofs.polling.next_played.Goals as goal
 
