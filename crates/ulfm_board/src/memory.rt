@@ -42,6 +42,13 @@ impl MemoryBoard {
         }
         Ok(MemoryBoard { cells })
     }
+
+    /// The decision of each cell, or none.
+    pub fn cells(&self) -> &[Option<Decision>]
+        ensures { result.now ≡ self.now }
+    {
+        &self.cells
+    }
 }
 
 /// The place of a topic's cell. Where there is none yet, empty cells are put in up to it, all in one growth.

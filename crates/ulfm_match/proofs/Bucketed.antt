@@ -1,7 +1,9 @@
 -- What becomes of the numbers in buckets.
-use Rattle.std.proofs.Common.{◌≡◌, ℕ, ◌⊎◌, inl, inr, List, [], ◌∷◌, ◌++◌, length, refl, ap, sym, ◌∙◌, arith, Bool, true, false, cond, filter, Option, Some, None, is_some, nat_eq}
-use Rattle.ulfm_match.proofs.Common.{Contains-append_left, Contains-push_cases, Sweeps, Grows, FindsLeast, IsLesser, numbers_of, exact_unsigned_eq, Bucket}
-use Rattle.ulfm_match.proofs.Members.{Contains-filter, filter-Contains}
+use Rattle.std.proofs.Common.{◌≡◌, ℕ, ◌≤◌, ◌⊎◌, inl, inr, List, [], ◌∷◌, ◌++◌, refl, ap, sym, ◌∙◌, subst, arith, Bool, true, false, cond, filter, Contains, Option, Some, None, Result, Ok, Err, OnOk, is_some, nat_eq}
+use Rattle.ulfm_match.proofs.Common.{Contains-append_left, Contains-append_right, Contains-push_cases, Sweeps, Grows, FindsLeast, IsLesser, Rises, numbers_of, exact_unsigned_eq, Bucket}
+use Rattle.std.specs.Option.{option_to_list}
+use Rattle.ulfm_match.proofs.Decide.{Contains-cons_cases, Contains-head, Contains-tail}
+use Rattle.ulfm_match.proofs.Members.{all_of, all_from, Contains-filter, filter-Contains}
 use Rattle.ulfm_match.proofs.Rising.{rises_push, rises_filter}
 
 module _ (L : ℕ → Type 0) where
@@ -11,10 +13,6 @@ module _ (L : ℕ → Type 0) where
   pub sweeps_both : (a b d : List ℕ) → Sweeps L a b → Sweeps L b d → Sweeps L a d
   sweeps_both a b d s t = record { keeps = λ n c l. t.keeps n (s.keeps n c l) l; from = λ n c. s.from n (t.from n c); rises = λ r. t.rises (s.rises r) }
 
-  pub sweeps_empty : (ns : List ℕ) → length ns ≡ 0 → Sweeps L ns []
-  sweeps_empty [] e = sweeps_none []
-  sweeps_empty (n ∷ ns) e = absurd (omega (arith, e))
-
   pub sweeps_filter : (test : ℕ → Bool) (ns : List ℕ) → ((n : ℕ) → L n → test n ≡ true) → Sweeps L ns (filter test ns)
   sweeps_filter test ns lives = record {
     keeps = λ n c l. filter-Contains test ns n c (lives n l);
@@ -22,7 +20,44 @@ module _ (L : ℕ → Type 0) where
     rises = rises_filter test ns;
   }
 
+  -- a first number that is gone goes
+  pub sweeps_first : (n : ℕ) (ns : List ℕ) → (L n → ⊥) → Sweeps L (n ∷ ns) ns
+  sweeps_first n ns gone = record {
+    keeps = λ m c l. elim (Contains-cons_cases n ns m c) [ inl e ↦ absurd (gone (subst L (sym e) l)) | inr d ↦ d ];
+    from = λ m c. Contains-tail n ns m c;
+    rises = λ r. r.1;
+  }
+
+  -- the numbers after the first are swept
+  pub sweeps_rest : (first : Option ℕ) (ns ms : List ℕ) → Sweeps L ns ms → Sweeps L (option_to_list first ++ ns) (option_to_list first ++ ms)
+  sweeps_rest None ns ms s = s
+  sweeps_rest (Some n) ns ms s = record {
+    keeps = λ m c l. elim (Contains-cons_cases n ns m c) [ inl e ↦ subst (λ j. Contains (n ∷ ms) j) e (Contains-head n ms) | inr d ↦ Contains-tail n ms m (s.keeps m d l) ];
+    from = λ m c. elim (Contains-cons_cases n ms m c) [ inl e ↦ subst (λ j. Contains (n ∷ ns) j) e (Contains-head n ns) | inr d ↦ Contains-tail n ns m (s.from m d) ];
+    rises = λ r. (all_from (λ m. n ≤ m) ms (λ m c. all_of (λ m. n ≤ m) ns m r.0 (s.from m c)), s.rises r.1);
+  }
+
 module _ (n : ℕ) where
+  -- the numbers after the first grow
+  pub grows_rest : (first : Option ℕ) (ns ms : List ℕ) → Grows n ns ms → Grows n (option_to_list first ++ ns) (option_to_list first ++ ms)
+  grows_rest None ns ms g = g
+  grows_rest (Some k) ns ms g = record {
+    keeps = λ m c. elim (Contains-cons_cases k ns m c) [ inl e ↦ subst (λ j. Contains (k ∷ ms) j) e (Contains-head k ms) | inr d ↦ Contains-tail k ms m (g.keeps m d) ];
+    from = λ m c. elim (Contains-cons_cases k ms m c) [
+      | inl e ↦ inl (subst (λ j. Contains (k ∷ ns) j) e (Contains-head k ns))
+      | inr d ↦ elim (g.from m d) [ inl b ↦ inl (Contains-tail k ns m b) | inr q ↦ inr q ]
+    ];
+    rises = λ r f. (
+      all_from (λ m. k ≤ m) ms (λ m c. elim (g.from m c) [ inl b ↦ all_of (λ m. k ≤ m) ns m r.0 b | inr q ↦ subst (λ j. k ≤ j) (sym q) (f k (Contains-head k ns)) ]),
+      g.rises r.1 (λ m c. f m (Contains-tail k ns m c)),
+    );
+  }
+
+  -- it stands after the first
+  pub put_rest : {A E : Type 0} (first : Option ℕ) (ns : List ℕ) (r : Result A E) → OnOk r (Contains ns n) → OnOk r (Contains (option_to_list first ++ ns) n)
+  put_rest first ns (Ok a) c = Contains-append_right (option_to_list first) ns n c
+  put_rest first ns (Err e) c = tt
+
   pub grows_none : (ns : List ℕ) → Grows n ns ns
   grows_none ns = record { keeps = λ m c. c; from = λ m c. inl c; rises = λ r f. r }
 
@@ -65,6 +100,17 @@ lesser_finds M N Q (Some m) (Some n) c is f g = elim is [
 pub finds_all : (M N Q : ℕ → Type 0) (a : Option ℕ) → ((n : ℕ) → N n → Q n → M n) → FindsLeast M Q a → FindsLeast N Q a
 finds_all M N Q None to f = λ m n q. f m (to m n q) q
 finds_all M N Q (Some k) to f = record { is = f.is; least = λ m n q. f.least m (to m n q) q }
+
+-- the first of all that rise passes
+pub first_finds : (n : ℕ) (ns : List ℕ) (Q : ℕ → Type 0) → Rises (n ∷ ns) → Q n → FindsLeast (Contains (n ∷ ns)) Q (Some n)
+first_finds n ns Q r q = record {
+  is = q;
+  least = λ m c p. elim (Contains-cons_cases n ns m c) [ inl e ↦ (let w : n ≡ m = e in omega (arith, w)) | inr d ↦ all_of (λ m. n ≤ m) ns m r.0 d ];
+}
+
+-- it doesn't, and the others are searched
+pub rest_finds : (n : ℕ) (ns : List ℕ) (Q : ℕ → Type 0) (a : Option ℕ) → (Q n → ⊥) → FindsLeast (Contains ns) Q a → FindsLeast (Contains (n ∷ ns)) Q a
+rest_finds n ns Q a fails f = finds_all (Contains ns) (Contains (n ∷ ns)) Q a (λ m c q. elim (Contains-cons_cases n ns m c) [ inl e ↦ absurd (fails (subst Q (sym e) q)) | inr d ↦ d ]) f
 
 pub finds_is : (M Q : ℕ → Type 0) (a : Option ℕ) → FindsLeast M Q a → is_some a ≡ true → (n : ℕ) × Q n
 finds_is M Q None f t = cc

@@ -1,5 +1,5 @@
 -- Early entries and late ones, from one state to the next.
-use Rattle.std.proofs.Common.{◌≡◌, ◌≢◌, ℕ, suc, ◌+◌, ◌<◌, ◌≤◌, inl, inr, List, [], ◌∷◌, ◌++◌, ap, sym, ◌∙◌, subst, arith, append_assoc, Bool, cond, length, length-append, Contains, Some, None, nat_eq, filter, not, ◌==◌, ◌↔◌}
+use Rattle.std.proofs.Common.{◌≡◌, ◌≢◌, ℕ, suc, ◌+◌, ◌<◌, ◌≤◌, inl, inr, List, [], ◌∷◌, ◌++◌, ap, sym, ◌∙◌, subst, arith, append_assoc, Bool, cond, length, length-append, Contains, Option, Some, None, refl, nat_eq, filter, not, ◌==◌, ◌↔◌}
 use Rattle.std.proofs.lemmas.List.Elements.{filter-append}
 use Rattle.std.specs.Map.{lookup}
 use Rattle.std.specs.VecDeque.{deque_len}
@@ -155,6 +155,14 @@ module _ {X : Type 0} {K : X → ℕ → Type 0} {count : ℕ} {pool : Pool X} (
 
     later : (y : ℕ × X) → Contains rest y → n < y.0
     later y c = let a : IsAscending ((n, x) ∷ rest) = subst (λ (ys : List (ℕ × X)). IsAscending ys) first i.ascending in each_of (λ (w : ℕ × X). n < w.0) rest y a.0 c
+
+    -- no early one has its number
+    pub settled_absent : (early : Entries X) → early.entries ≡ pool.early.entries → get nat_eq early n ≡ None
+    settled_absent early e = ap (λ es. lookup (nat_eq n) es) e ∙ by (get nat_eq pool.early n) refl
+      where
+        by : (o : Option X) → get nat_eq pool.early n ≡ o → get nat_eq pool.early n ≡ None
+        by None q = q
+        by (Some y) q = absurd (let l = i.indexed.below n y q in let a = above in omega (arith, l, a))
 
     pub settled_all : (early : Entries X) → IsUnique nat_eq early → ((m : ℕ) → get nat_eq early m ≡ cond (nat_eq n m) (Some x) (get nat_eq pool.early m)) → in_order early.entries ++ rest ≡ all_of pool
     settled_all early u is =

@@ -1,21 +1,27 @@
 //! The entries of one key.
-ghost use Rattle.std.specs.Prelude.{Contains, OnOk};
-ghost use Rattle.ulfm_match.specs.inside.Buckets.{SweepsFor, Grows};
+ghost use Rattle.std.specs.Prelude.{◌≡◌, ◌≢◌, ◌↔◌, ◌∷◌, [], Contains, IfSome, IsTrue, None, OnOk, nat_eq};
+ghost use Rattle.indexmap.specs.IndexMap.{get};
+ghost use Rattle.ulfm_match.specs.inside.Buckets.{Sweeps, SweepsFor, Grows, numbers_in};
 
 use indexmap::IndexMap;
+use std::alloc::Global;
 use std::collections::VecDeque;
 use ulfm_base::OutOfMemory;
 
-/// The numbers of the entries of one key, in rising order. Some may be of entries that are gone.
+/// The numbers of the entries of one key, in rising order. Some may be of entries that are gone. Most keys have one entry, whose
+/// number takes no block of the heap.
 #[derive(Drop)]
 pub(crate) struct Bucket {
-    /// The numbers.
-    pub(crate) numbers: VecDeque<u64>,
+    /// The first number.
+    pub(crate) first: Option<u64>,
+    /// The numbers after it.
+    pub(crate) rest: VecDeque<u64>,
     /// How many of the numbers are of entries that are gone, where not many entries went at once.
     pub(crate) gone: usize,
 }
 
 /// Drops numbers of entries that are gone from the front, at most so many. Answers how many it dropped.
+#[inline(always)]
 fn trim<X>(numbers: &mut VecDeque<u64>, live: &IndexMap<u64, X>, most: usize) -> usize
     ensures { SweepsFor live.now numbers.old.items numbers.new.items }
 {
@@ -31,6 +37,22 @@ fn trim<X>(numbers: &mut VecDeque<u64>, live: &IndexMap<u64, X>, most: usize) ->
         let _ = numbers.pop_front();
     }
     most
+}
+
+/// Drops a number from the front, where it stands there. Answers whether it does.
+fn pop_where(numbers: &mut VecDeque<u64>, number: u64) -> bool
+    ensures { Sweeps (λ n. n ≢ number) numbers.old.items numbers.new.items }
+{
+    match numbers.front() {
+        Some(front) => {
+            if *front != number {
+                return false;
+            }
+        }
+        None => return false,
+    }
+    let _ = numbers.pop_front();
+    true
 }
 
 /// Drops all numbers of entries that are gone.
@@ -50,24 +72,93 @@ fn push(numbers: &mut VecDeque<u64>, number: u64) -> Result<(), OutOfMemory>
 }
 
 impl Bucket {
-    /// Puts a number last.
-    pub(crate) fn push(&mut self, number: u64) -> Result<(), OutOfMemory>
-        ensures put { OnOk result (Contains self.new.numbers.items number) }
-        ensures grows { Grows number self.old.numbers.items self.new.numbers.items }
+    /// A bucket of one number.
+    pub(crate) fn of(alloc: Global, number: u64) -> Bucket
+        ensures { numbers_in result ≡ number ∷ [] }
     {
-        push(&mut self.numbers, number)
+        Bucket {
+            first: Some(number),
+            rest: VecDeque::new(alloc),
+            gone: 0,
+        }
     }
 
-    /// Notes that one of the entries went, or many. Its number goes at once from the front, and else once half of all are gone;
-    /// those of many go at once.
-    pub(crate) fn sweep<X>(&mut self, live: &IndexMap<u64, X>, many: bool)
-        ensures { SweepsFor live.now self.old.numbers.items self.new.numbers.items }
+    /// Whether there is no number.
+    pub(crate) fn is_empty(&self) -> bool
+        ensures { IsTrue result ↔ (numbers_in self.now ≡ []) }
     {
-        let gone = self.gone.saturating_add(1);
-        let dropped = trim(&mut self.numbers, live, gone);
-        self.gone = gone.saturating_sub(dropped);
-        if many || self.gone > self.numbers.len() / 2 {
-            drop_gone(&mut self.numbers, live);
+        self.first.is_none() && self.rest.is_empty()
+    }
+
+    /// Puts a number last.
+    pub(crate) fn push(&mut self, number: u64) -> Result<(), OutOfMemory>
+        ensures put { OnOk result (Contains (numbers_in self.new) number) }
+        ensures grows { Grows number (numbers_in self.old) (numbers_in self.new) }
+    {
+        if self.is_empty() {
+            self.first = Some(number);
+            return Ok(());
+        }
+        push(&mut self.rest, number)
+    }
+
+    /// Drops a number from the front, where it stands there. Answers whether it does.
+    fn pop_where(&mut self, number: u64) -> bool
+        ensures { Sweeps (λ n. n ≢ number) (numbers_in self.old) (numbers_in self.new) }
+    {
+        let Some(first) = self.first else {
+            return pop_where(&mut self.rest, number);
+        };
+        if first != number {
+            return false;
+        }
+        self.first = None;
+        true
+    }
+
+    /// Drops numbers of entries that are gone from the front, at most so many. Answers how many it dropped.
+    fn trim<X>(&mut self, live: &IndexMap<u64, X>, most: usize) -> usize
+        ensures { SweepsFor live.now (numbers_in self.old) (numbers_in self.new) }
+    {
+        let Some(first) = self.first else {
+            return trim(&mut self.rest, live, most);
+        };
+        if live.contains_key(&first) {
+            return 0;
+        }
+        self.first = None;
+        trim(&mut self.rest, live, most.saturating_sub(1)).saturating_add(1)
+    }
+
+    /// Notes that the entry of a number went, or many. The number goes where it stands at the front, and with it those after it that
+    /// are gone.
+    fn trim_where<X>(&mut self, live: &IndexMap<u64, X>, went: Option<u64>)
+        requires { IfSome went (λ n. get nat_eq live.now n ≡ None) }
+        ensures { SweepsFor live.now (numbers_in self.old) (numbers_in self.new) }
+    {
+        let Some(number) = went else {
+            let _ = self.trim(live, 1);
+            return;
+        };
+        if !self.pop_where(number) {
+            self.gone = self.gone.saturating_add(1);
+            return;
+        }
+        if self.gone > 0 {
+            let dropped = self.trim(live, self.gone);
+            self.gone = self.gone.saturating_sub(dropped);
+        }
+    }
+
+    /// Notes that the entry of a number went, or many. The number goes at once from the front, and else once half of all are gone;
+    /// those of many go at once.
+    pub(crate) fn sweep<X>(&mut self, live: &IndexMap<u64, X>, went: Option<u64>)
+        requires { IfSome went (λ n. get nat_eq live.now n ≡ None) }
+        ensures { SweepsFor live.now (numbers_in self.old) (numbers_in self.new) }
+    {
+        self.trim_where(live, went);
+        if went.is_none() || self.gone > self.rest.len() / 2 {
+            drop_gone(&mut self.rest, live);
             self.gone = 0;
         }
     }

@@ -1,5 +1,6 @@
 //! The buckets of all keys.
-ghost use Rattle.std.specs.Prelude.{Bool, OnOk, Contains, ℕ};
+ghost use Rattle.std.specs.Prelude.{◌≡◌, ℕ, Bool, Contains, IfSome, None, OnOk, nat_eq};
+ghost use Rattle.indexmap.specs.IndexMap.{get};
 ghost use Rattle.ulfm_match.specs.inside.Buckets.{SweepsFor, Grows, numbers_at};
 ghost use Rattle.ulfm_match.specs.inside.Key.{key_at};
 
@@ -7,7 +8,6 @@ use crate::bucket::Bucket;
 use crate::key::key_at;
 use indexmap::IndexMap;
 use std::alloc::Global;
-use std::collections::VecDeque;
 use ulfm_base::{Envelope, OutOfMemory};
 
 /// The bucket of each key that has entries.
@@ -26,12 +26,7 @@ pub(crate) fn put(
     if let Some(bucket) = buckets.get_mut(&key) {
         return bucket.push(number);
     }
-    let mut bucket = Bucket {
-        numbers: VecDeque::new(alloc),
-        gone: 0,
-    };
-    bucket.push(number)?;
-    buckets.insert(key, bucket)?;
+    buckets.insert(key, Bucket::of(alloc, number))?;
     Ok(())
 }
 
@@ -52,13 +47,14 @@ pub(crate) fn put_letter(
     Ok(())
 }
 
-/// Notes that an entry of a key went, or many. A bucket that has none left goes too.
-pub(crate) fn forget<X>(buckets: &mut Buckets, key: u64, live: &IndexMap<u64, X>, many: bool)
+/// Notes that the entry of a number went, which has this key, or many. A bucket that has none left goes too.
+pub(crate) fn forget<X>(buckets: &mut Buckets, key: u64, live: &IndexMap<u64, X>, went: Option<u64>)
+    requires { IfSome went (λ n. get nat_eq live.now n ≡ None) }
     ensures { (k : ℕ) → SweepsFor live.now (numbers_at buckets.old k) (numbers_at buckets.new k) }
 {
     if let Some(bucket) = buckets.get_mut(&key) {
-        bucket.sweep(live, many);
-        if !bucket.numbers.is_empty() {
+        bucket.sweep(live, went);
+        if !bucket.is_empty() {
             return;
         }
     } else {
@@ -75,17 +71,24 @@ pub(crate) fn forget_gone<X>(buckets: &mut Buckets, live: &IndexMap<u64, X>)
     for i in 0..len {
         if let Some((key, _)) = buckets.get_index(len - 1 - i) {
             let key = *key;
-            forget(buckets, key, live, true);
+            forget(buckets, key, live, None);
         }
     }
 }
 
-/// Notes that a letter went.
-pub(crate) fn forget_letter<X>(buckets: &mut Buckets, envelope: &Envelope, live: &IndexMap<u64, X>)
+/// Notes that a letter went, which had this number.
+pub(crate) fn forget_letter<X>(
+    buckets: &mut Buckets,
+    envelope: &Envelope,
+    live: &IndexMap<u64, X>,
+    number: u64,
+)
+    requires { get nat_eq live.now number ≡ None }
     ensures { (k : ℕ) → SweepsFor live.now (numbers_at buckets.old k) (numbers_at buckets.new k) }
 {
-    forget(buckets, key_at(envelope, false, false), live, false);
-    forget(buckets, key_at(envelope, false, true), live, false);
-    forget(buckets, key_at(envelope, true, false), live, false);
-    forget(buckets, key_at(envelope, true, true), live, false);
+    let went = Some(number);
+    forget(buckets, key_at(envelope, false, false), live, went);
+    forget(buckets, key_at(envelope, false, true), live, went);
+    forget(buckets, key_at(envelope, true, false), live, went);
+    forget(buckets, key_at(envelope, true, true), live, went);
 }

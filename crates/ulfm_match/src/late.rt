@@ -166,6 +166,18 @@ pub(crate) fn is_late(late: &VecDeque<(u64, Pattern)>, number: u64) -> bool
     false
 }
 
+/// The letter of a number, if it is among these.
+pub(crate) fn late_numbered(late: &VecDeque<(u64, Letter)>, number: u64) -> Option<&Letter>
+    ensures { MatchOption result (NoneOf (λ (y : ℕ × Letter). y.0 ≡ number) late.now.items) (λ letter. Contains late.now.items (number, letter.now)) }
+{
+    for k in 0..late.len() {
+        if late[k].0 == number {
+            return Some(&late[k].1);
+        }
+    }
+    None
+}
+
 /// Drops the receive of a number.
 pub(crate) fn drop_numbered(late: &mut VecDeque<(u64, Pattern)>, number: u64)
     ensures left { late.new.items ≡ filter (λ (y : ℕ × Pattern). not (y.0 == number)) late.old.items }

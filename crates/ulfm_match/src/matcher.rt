@@ -1,5 +1,5 @@
 //! The receives that wait and the letters that are kept.
-ghost use Rattle.std.specs.Prelude.{◌≡◌, ◌≢◌, ◌+◌, ◌<◌, ◌^◌, ◌↔◌, ℕ, [], IsTrue, Contains, OnOk, OnErr, IfNone, IfSome, false};
+ghost use Rattle.std.specs.Prelude.{◌≡◌, ◌≢◌, ◌+◌, ◌<◌, ◌^◌, ◌↔◌, ℕ, [], IsTrue, Contains, OnOk, OnErr, IfNone, IfSome, MatchOption, false};
 ghost use Rattle.ulfm_base.specs.Pattern.{Admits, names};
 ghost use Rattle.ulfm_match.specs.Arrived.{answered, HandsOn};
 ghost use Rattle.ulfm_match.specs.Calls.{TracksPost, TracksProbe, TracksArrival, TracksEnd, TracksClear, TracksNamed};
@@ -10,7 +10,7 @@ use crate::pool::Pool;
 use crate::removal::{clear_letters, clear_receives, end_receives};
 use crate::request::RequestId;
 use crate::settling::{add, prepare_letter, prepare_receive};
-use crate::taking::{end_numbered, has_letter, is_there, take_letter, take_receive};
+use crate::taking::{end_numbered, has_letter, is_there, numbered, take_letter, take_receive};
 use std::alloc::Global;
 use std::marker::Model;
 use ulfm_base::{Context, Letter, OutOfMemory, Pattern, WorldRank};
@@ -226,6 +226,13 @@ impl Matcher {
         ensures { IsTrue result ↔ ((pattern : Pattern) × Contains self.now.waiting (id.number, pattern)) }
     {
         is_there(&self.waiting, id.number)
+    }
+
+    /// The kept letter of this number, if one is kept.
+    pub fn letter(&self, number: u64) -> Option<&Letter>
+        ensures { MatchOption result ((letter : Letter) → Contains self.now.kept (number, letter) → ⊥) (λ letter. Contains self.now.kept (number, letter.now)) }
+    {
+        numbered(&self.kept, number)
     }
 
     /// Whether a letter is kept that a receive with this pattern admits.

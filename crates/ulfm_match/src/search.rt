@@ -1,12 +1,69 @@
 //! Searches of the waiting receives and of the kept letters for the least number.
-ghost use Rattle.std.specs.Prelude.{ℕ, Contains};
+ghost use Rattle.std.specs.Prelude.{◌↔◌, ℕ, Contains, IsTrue};
 ghost use Rattle.ulfm_match.specs.inside.Buckets.{Rises, Passes, FindsLeast, IsLesser, MayGet, MayGoTo, StandsFor, numbers_at};
 ghost use Rattle.ulfm_match.specs.inside.Key.{key_of};
 
 use crate::buckets::Buckets;
 use crate::key::{key_at, key_of};
 use indexmap::IndexMap;
+use std::collections::VecDeque;
 use ulfm_base::{Letter, Pattern};
+
+/// Whether the letter of a number is there, and the pattern admits it.
+fn is_admitted(kept: &IndexMap<u64, Letter>, number: u64, pattern: &Pattern) -> bool
+    ensures { IsTrue result ↔ Passes (MayGet pattern.now) kept.now number }
+{
+    match kept.get(&number) {
+        Some(letter) => pattern.admits(&letter.envelope),
+        None => false,
+    }
+}
+
+/// Whether the receive of a number is there, and admits the letter.
+fn admits(waiting: &IndexMap<u64, Pattern>, number: u64, letter: &Letter) -> bool
+    ensures { IsTrue result ↔ Passes (MayGoTo letter.now) waiting.now number }
+{
+    match waiting.get(&number) {
+        Some(pattern) => pattern.admits(&letter.envelope),
+        None => false,
+    }
+}
+
+/// The first of some numbers whose letter the pattern admits.
+fn first_letter(
+    numbers: &VecDeque<u64>,
+    kept: &IndexMap<u64, Letter>,
+    pattern: &Pattern,
+) -> Option<u64>
+    requires { Rises numbers.now.items }
+    ensures { FindsLeast (Contains numbers.now.items) (Passes (MayGet pattern.now) kept.now) result }
+{
+    for k in 0..numbers.len() {
+        let number = numbers[k];
+        if is_admitted(kept, number, pattern) {
+            return Some(number);
+        }
+    }
+    None
+}
+
+/// The first of some numbers whose receive admits the letter.
+fn first_receive(
+    numbers: &VecDeque<u64>,
+    waiting: &IndexMap<u64, Pattern>,
+    letter: &Letter,
+) -> Option<u64>
+    requires { Rises numbers.now.items }
+    ensures { FindsLeast (Contains numbers.now.items) (Passes (MayGoTo letter.now) waiting.now) result }
+{
+    for k in 0..numbers.len() {
+        let number = numbers[k];
+        if admits(waiting, number, letter) {
+            return Some(number);
+        }
+    }
+    None
+}
 
 /// The earliest letter in the bucket of a pattern that it admits.
 pub(crate) fn first_kept(
@@ -17,17 +74,15 @@ pub(crate) fn first_kept(
     requires { Rises (numbers_at buckets.now (key_of pattern.now)) }
     ensures { FindsLeast (Contains (numbers_at buckets.now (key_of pattern.now))) (Passes (MayGet pattern.now) kept.now) result }
 {
-    if let Some(bucket) = buckets.get(&key_of(pattern)) {
-        for k in 0..bucket.numbers.len() {
-            let number = bucket.numbers[k];
-            if let Some(letter) = kept.get(&number) {
-                if pattern.admits(&letter.envelope) {
-                    return Some(number);
-                }
-            }
+    let Some(bucket) = buckets.get(&key_of(pattern)) else {
+        return None;
+    };
+    if let Some(first) = bucket.first {
+        if is_admitted(kept, first, pattern) {
+            return Some(first);
         }
     }
-    None
+    first_letter(&bucket.rest, kept, pattern)
 }
 
 /// The earliest waiting receive of a key that admits the letter.
@@ -40,17 +95,15 @@ fn first_of_key(
     requires { Rises (numbers_at buckets.now key) }
     ensures { FindsLeast (Contains (numbers_at buckets.now key)) (Passes (MayGoTo letter.now) waiting.now) result }
 {
-    if let Some(bucket) = buckets.get(&key) {
-        for k in 0..bucket.numbers.len() {
-            let number = bucket.numbers[k];
-            if let Some(pattern) = waiting.get(&number) {
-                if pattern.admits(&letter.envelope) {
-                    return Some(number);
-                }
-            }
+    let Some(bucket) = buckets.get(&key) else {
+        return None;
+    };
+    if let Some(first) = bucket.first {
+        if admits(waiting, first, letter) {
+            return Some(first);
         }
     }
-    None
+    first_receive(&bucket.rest, waiting, letter)
 }
 
 /// The lesser of two numbers, where there are two.

@@ -32,7 +32,12 @@ fn settle_receive(pool: &mut Pool<Pattern>, alloc: Global) -> Result<(), OutOfMe
             Ok(())
         }
         Err(error) => {
-            forget(&mut pool.buckets, key_of(&pattern), &pool.early, false);
+            forget(
+                &mut pool.buckets,
+                key_of(&pattern),
+                &pool.early,
+                Some(number),
+            );
             pool.late.push_front_reserved((number, pattern));
             Err(error)
         }
@@ -58,7 +63,7 @@ fn settle_letter(pool: &mut Pool<Letter>, alloc: Global) -> Result<(), OutOfMemo
             Ok(())
         }
         Err(error) => {
-            forget_letter(&mut pool.buckets, &letter.envelope, &pool.early);
+            forget_letter(&mut pool.buckets, &letter.envelope, &pool.early, number);
             pool.late.push_front_reserved((number, letter));
             Err(error)
         }

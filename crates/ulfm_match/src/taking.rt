@@ -7,7 +7,9 @@ ghost use Rattle.ulfm_match.specs.inside.Pools.{all_of, HasPlace, IsPool, NoneOf
 
 use crate::buckets::{Buckets, forget, forget_letter};
 use crate::key::key_of;
-use crate::late::{drop_numbered, first_letter, is_late, take_late_letter, take_late_receive};
+use crate::late::{
+    drop_numbered, first_letter, is_late, late_numbered, take_late_letter, take_late_receive,
+};
 use crate::pool::Pool;
 use crate::search::{first_kept, first_waiting};
 use indexmap::IndexMap;
@@ -29,7 +31,7 @@ fn take_kept(
     match first_kept(buckets, kept, pattern) {
         Some(number) => {
             let letter = kept.swap_remove(&number)?;
-            forget_letter(buckets, &letter.envelope, kept);
+            forget_letter(buckets, &letter.envelope, kept, number);
             Some(letter)
         }
         None => None,
@@ -63,7 +65,7 @@ fn take_numbered(waiting: &mut IndexMap<u64, Pattern>, buckets: &mut Buckets, nu
     ensures { TakesOut number waiting.old waiting.new buckets.old buckets.new }
 {
     if let Some(pattern) = waiting.swap_remove(&number) {
-        forget(buckets, key_of(&pattern), waiting, false);
+        forget(buckets, key_of(&pattern), waiting, Some(number));
     }
 }
 
@@ -110,6 +112,17 @@ pub(crate) fn is_there(pool: &Pool<Pattern>, number: u64) -> bool
         return true;
     }
     is_late(&pool.late, number)
+}
+
+/// The letter of a number, if it is there.
+pub(crate) fn numbered(pool: &Pool<Letter>, number: u64) -> Option<&Letter>
+    requires { (count : ℕ) × IsPool IsKeyOf count pool.now }
+    ensures { MatchOption result ((letter : Letter) → Contains (all_of pool.now) (number, letter) → ⊥) (λ letter. Contains (all_of pool.now) (number, letter.now)) }
+{
+    match pool.early.get(&number) {
+        Some(letter) => Some(letter),
+        None => late_numbered(&pool.late, number),
+    }
 }
 
 /// Takes the receive of a number out, if it is there.

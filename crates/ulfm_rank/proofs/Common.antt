@@ -33,7 +33,8 @@ pub use Rattle.ulfm_rank.specs.Facts.{Knows, IsSigned, acknowledged_by, acknowle
 pub use Rattle.ulfm_rank.specs.Owed.{owed, owed_by, passed_on, entry_told, is_told, owed_by_item}
 pub use Rattle.ulfm_rank.specs.Proposal.{brought_to, has_entered, is_foreign, IsOwnAffair, IsProposal, adopts, agreements, contradicts, deciders, differ, enters_agreement, entry_of, has_adopted, has_proposal, heard_of, is_agreeing, is_out, item_entry, last_agreement, listed_of, next_agreement}
 pub use Rattle.ulfm_rank.specs.State.{View, GoesOut, IsState, MayReturn, Mark, State, logged, mark_at, marked, no_mark, notice, outbox, owes, returned, start_state, taken_out, unmarked, went_out, with_marks}
-pub use Rattle.ulfm_rank.specs.inside.Table.{IsOfGroup, Became, GivesAnswer, HasSender, IsDelivered, IsInStep, IsSourceIn, IsStanding, IsTable, is_found}
+pub use Rattle.ulfm_rank.specs.Standing.{IsOfGroup, Became, IsInStep, IsSourceIn, IsStanding, IsTable, is_found}
+pub use Rattle.ulfm_rank.specs.inside.Answers.{GivesAnswer, HasSender, IsDelivered}
 pub use Rattle.ulfm_rank.specs.declared.entry.Entry.{Entry}
 pub use Rattle.ulfm_rank.specs.declared.entry.Entry.TheVariants.{Took, Revoked, Entered, Adopted, Duplicated, Posted, Probed, Received, Cancelled, Sent, Released, Acknowledged, Stopped}
 pub use Rattle.ulfm_rank.specs.declared.entry.TestAnswer.{TestAnswer}

@@ -11,4 +11,5 @@ pub mod Messages
 pub mod Cancel
 pub mod State
 pub mod Paired
+pub mod Standing
 pub mod inside

@@ -1,4 +1,4 @@
-pub mod Table
+pub mod Answers
 pub mod Requests
 pub mod Outboxes
 pub mod Fields

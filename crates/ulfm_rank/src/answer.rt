@@ -3,7 +3,7 @@ ghost use Rattle.std.specs.Prelude.{◌≡◌, IsSome};
 ghost use Rattle.ulfm_base.specs.Group.{rank_in};
 ghost use Rattle.ulfm_rank.specs.Communicators.{find_group, or_empty};
 ghost use Rattle.ulfm_rank.specs.inside.Fields.{pends_by};
-ghost use Rattle.ulfm_rank.specs.inside.Table.{IsDelivered, GivesAnswer, HasSender};
+ghost use Rattle.ulfm_rank.specs.inside.Answers.{IsDelivered, GivesAnswer, HasSender};
 ghost use Rattle.ulfm_rank.specs.Messages.{TellsOf};
 
 use crate::communicators::Communicators;

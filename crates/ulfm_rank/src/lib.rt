@@ -26,3 +26,4 @@ pub use law::own_affairs_alone;
 pub use message::MessageId;
 pub use noted_answer::NotedAnswer;
 pub use rank::Rank;
+pub use request::{Fate, Request};

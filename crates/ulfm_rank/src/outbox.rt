@@ -44,6 +44,13 @@ impl Outbox {
         }
     }
 
+    /// The items that didn't go out.
+    pub fn items(&self) -> &VecDeque<Item>
+        ensures { result.now.items ≡ self.now.contents.items }
+    {
+        &self.items
+    }
+
     /// Makes room for one item.
     ///
     /// # Errors

@@ -6,6 +6,7 @@ ghost use Rattle.ulfm_rank.specs.inside.Outboxes.{empty_box, box_at, with_first_
 use crate::outbox::Outbox;
 use crate::word::Word;
 use std::alloc::Global;
+use std::collections::VecDeque;
 use std::marker::Model;
 use ulfm_base::{Item, OutOfMemory, RankSet, WorldRank};
 
@@ -97,6 +98,15 @@ impl Outboxes {
             let outbox = &mut self.slots[d];
             outbox.put(word.item());
         }
+    }
+
+    /// The items towards a rank that didn't go out.
+    pub fn items(&self, dest: u8) -> &VecDeque<Item>
+        requires { dest < length self.now.boxes }
+        ensures { result.now.items ≡ (box_at self.now.boxes dest).items }
+    {
+        let outbox = &self.slots[dest as usize];
+        outbox.items()
     }
 
     /// Whether each item of the outbox towards a rank went out.

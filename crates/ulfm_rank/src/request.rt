@@ -1,26 +1,33 @@
 //! Receives and messages that aren't released, and what became of them.
 ghost use Rattle.std.specs.Prelude.{◌≡◌};
 ghost use Rattle.ulfm_rank.specs.inside.Requests.{fate_of, is_waiting, over_named, over_context};
-ghost use Rattle.ulfm_rank.specs.inside.Table.{is_found};
+ghost use Rattle.ulfm_rank.specs.Standing.{is_found};
 ghost use Rattle.ulfm_rank.specs.Messages.{with_room};
 
 use ulfm_base::{Context, Letter, Pattern, WorldRank};
 
 /// What became of a receive, or the letter of a message that a probe found.
 #[derive(Drop)]
-pub(crate) enum Fate {
+pub enum Fate {
+    /// The receive waits.
     Waiting,
+    /// The receive got this letter.
     Paired(Letter),
+    /// It is a message, and this is its letter.
     Found(Letter),
+    /// The receive is over, since its source failed.
     Failed,
+    /// The receive is over, since its communicator was revoked.
     Cleared,
 }
 
 /// A receive or a message that isn't released.
 #[derive(Drop)]
-pub(crate) struct Request {
-    pub(crate) pattern: Pattern,
-    pub(crate) fate: Fate,
+pub struct Request {
+    /// What the receive asks for.
+    pub pattern: Pattern,
+    /// What became of it.
+    pub fate: Fate,
 }
 
 /// What becomes of a receive at its post, where its source is known to have failed or isn't.

@@ -1,7 +1,7 @@
 //! The sources that a receive asks for (MPI 4.0, 3.2.4).
 ghost use Rattle.std.specs.Prelude.{◌≡◌, ℕ, Some, ◌≤◌, length, IfOk, IfErr};
 ghost use Rattle.ulfm_rank.specs.Calls.{IsSourceOf};
-ghost use Rattle.ulfm_rank.specs.inside.Table.{IsSourceIn};
+ghost use Rattle.ulfm_rank.specs.Standing.{IsSourceIn};
 
 use ulfm_base::{CallError, Group, Source};
 

@@ -1,5 +1,5 @@
 -- One poll of a rank's next step.
-use Rattle.std.proofs.Common.{◌≡◌, ℕ, ◌+◌, ◌<◌, ◌≤◌, true, false, Bool, List, length, ap, sym, subst, ◌∙◌, arith, ◌⊎◌, Option, Some, None, slice_get}
+use Rattle.std.proofs.Common.{◌≡◌, ℕ, ◌+◌, ◌<◌, ◌≤◌, true, false, Bool, List, length, refl, ap, sym, subst, ◌∙◌, arith, ◌⊎◌, Option, Some, None, slice_get}
 use Rattle.ulfm_base.specs.declared.context.Context.{Context}
 use Rattle.ulfm_script.specs.declared.answer.Called.{Called}
 use Rattle.ulfm_script.specs.declared.answer.Called.TheVariants.{Answered, NotYet}
@@ -7,14 +7,13 @@ use Rattle.ulfm_script.specs.Deciding.{Known, IsDecided}
 use Rattle.ulfm_script.specs.Player.{Polls as PollsBy, Player, View, IsCalled, GivesUpStep, SkipsStep}
 use Rattle.ulfm_job.specs.declared.clause.Clause.{Clause}
 use Rattle.ulfm_rank.specs.inside.Quiet.{Quiet}
-use Rattle.ulfm_rank.proofs.Quiet.{quiet-same}
 use Rattle.ulfm_script.specs.Reacting.{is_played}
 use Rattle.ulfm_script.proofs.Polls.{quiet-called}
 use Rattle.ulfm_script.proofs.Advance.{ready-at, advance-called, advance-left, advance-skipped}
 use Rattle.ulfm_script.proofs.Reacting.{goes-called, goes-decided, goes-skipped}
 use Rattle.ulfm_laws.proofs.Spent.{goes-spent}
 use Rattle.ulfm_script.proofs.Decisions.{ready-decided, advance-decided, quiet-decided}
-use Rattle.ulfm_run.proofs.Common.{GoesThrough, is_stopped, IsState, polls_left, State, Polls, Step, Seen, IsJob, script_at}
+use Rattle.ulfm_run.proofs.Common.{GoesThrough, is_stopped, IsState, polls_left, SkipsOn, State, Polls, Step, Seen, IsJob, script_at}
 
 -- one call that is answered, or leaves the step open with polls to spare
 pub polls-call : {job : Seen} (me : ℕ) (v w : View) {asked : Step} → IsJob job → IsState v.player.rank → GoesThrough job me v.player → is_stopped v.player.rank.log ≡ false → slice_get (script_at job me) (length v.player.done) ≡ Some asked → is_played job.conditions me v.player.done ≡ true →
@@ -48,13 +47,23 @@ polls-decide job me v w comm board known later sound follows running d room =
 pub asked_played : (job : Seen) (me : ℕ) (p : Player) {conditions : List Clause} {told : Bool} → p.rank.me ≡ me → conditions ≡ job.conditions → told ≡ is_played conditions p.rank.me p.done → is_played job.conditions me p.done ≡ told
 asked_played job me p mine same told = ap (λ r. is_played job.conditions r p.done) (sym mine) ∙ ap (λ (xs : List Clause). is_played xs p.rank.me p.done) (sym same) ∙ sym told
 
--- a step that isn't to be played is skipped
-pub polls-skip : {job : Seen} (me : ℕ) (v w : View) {asked : Step} → IsJob job → IsState v.player.rank → GoesThrough job me v.player → is_stopped v.player.rank.log ≡ false → slice_get (script_at job me) (length v.player.done) ≡ Some asked → is_played job.conditions me v.player.done ≡ false →
-    SkipsStep v.player asked w.player → w.room + length w.player.done ≡ v.room + length v.player.done → Polls job me v w
-polls-skip {job} me v w {asked} is_job sound follows running next idle skipped room =
-    let a = advance-skipped (script_at job me) job.turns v.player asked w.player (ready-at job me v.player asked is_job follows.follows running next) skipped in
-    let same : w.player.rank ≡ v.player.rank = ap (λ (p : Player). p.rank) skipped.only in
-    record { quiet = subst (Quiet v.player.rank) (sym same) (quiet-same v.player.rank sound); follows = goes-skipped a.follows follows idle skipped; room = room; falls = a.falls }
+-- no step is skipped yet
+pub skips-none : {job : Seen} {me : ℕ} (v : View) → GoesThrough job me v.player → SkipsOn job me v v
+skips-none v follows = record { same_rank = refl; follows = follows; room = refl; left = omega arith }
+
+-- one step more is skipped
+pub skips-one : {job : Seen} (me : ℕ) (u v w : View) {asked : Step} → IsJob job → SkipsOn job me u v → is_stopped u.player.rank.log ≡ false → slice_get (script_at job me) (length v.player.done) ≡ Some asked → is_played job.conditions me v.player.done ≡ false →
+    SkipsStep v.player asked w.player → w.room + length w.player.done ≡ v.room + length v.player.done → SkipsOn job me u w × (polls_left (script_at job me) job.turns w.player < polls_left (script_at job me) job.turns v.player)
+skips-one {job} me u v w {asked} is_job h running next idle skipped room =
+    let runs : is_stopped v.player.rank.log ≡ false = ap (λ (r : State). is_stopped r.log) h.same_rank ∙ running in
+    let a = advance-skipped (script_at job me) job.turns v.player asked w.player (ready-at job me v.player asked is_job h.follows.follows runs next) skipped in
+    let on : SkipsOn job me u w = record {
+      same_rank = ap (λ (p : Player). p.rank) skipped.only ∙ h.same_rank;
+      follows = goes-skipped a.follows h.follows idle skipped;
+      room = room ∙ h.room;
+      left = omega (arith, a.falls, h.left);
+    } in
+    (on, a.falls)
 
 -- a poll after one that found nothing to decide
 pub polls-after : {job : Seen} {me : ℕ} (v : View) {u w : View} → u.player ≡ v.player → u.room + length u.player.done ≡ v.room + length v.player.done → Polls job me u w → Polls job me v w

@@ -1,10 +1,12 @@
 -- A rank at work.
-use Rattle.std.proofs.Common.{◌≡◌, ℕ, true, false, List, length, map, refl, ap, sym, subst, ◌∙◌, arith, Bool, inl, inr, ◌⊎◌, Some, slice_get, All}
+use Rattle.std.proofs.Common.{◌≡◌, ℕ, ◌+◌, ◌-◌, ◌<◌, true, false, List, length, map, refl, ap, sym, subst, ◌∙◌, arith, Bool, inl, inr, ◌⊎◌, All}
 use Rattle.ulfm_script.specs.declared.answer.StepReport.{StepReport}
 use Rattle.ulfm_script.specs.Script.{reported_step, through_stop, IsPatient, HasFinished}
+use Rattle.ulfm_rank.specs.inside.Quiet.{Quiet}
+use Rattle.ulfm_rank.proofs.Quiet.{quiet-same}
 use Rattle.ulfm_script.specs.Reacting.{SkipsRightly}
 use Rattle.ulfm_script.proofs.Reacting.{finished-running, finished-stopped, goes-rank}
-use Rattle.ulfm_run.proofs.Common.{GoesThrough, is_stopped, IsPlayed, IsSigned, Item, Known, Player, polls_left, Report, slice_get_within, State, View, with_rank, false≢true, IsJoined, Moves, Polls, IsAtWork, honest-moved, Step, Seen, script_at, AnswersFollowSoFar}
+use Rattle.ulfm_run.proofs.Common.{GoesThrough, is_stopped, IsPlayed, IsSigned, Item, Known, Player, polls_left, Report, State, View, with_rank, false≢true, IsJoined, Moves, Polls, SkipsOn, IsAtWork, honest-moved, Step, Seen, script_at, AnswersFollowSoFar}
 use Rattle.ulfm_run.specs.inside.Turns.{IsOver, WentOn, IsAsFar, Keeps, Carries, keeps-then}
 
 -- a player that stopped, or has no step left, answered its script
@@ -31,20 +33,24 @@ as-far script turns u v only stops =
 -- and a poll after it goes as one before
 pub went-after : {script : List Step} {turns : ℕ} (b : Bool) {u v : Player} (w : Player) → IsAsFar script turns u v → WentOn script turns v w b → WentOn script turns u w b
 went-after true w far h = (λ over. h.0 (far.over over), omega (arith, h.1, far.left))
-went-after false w far h = (h.0, h.1 ∙ far.left)
+went-after false w far h = (h.0, omega (arith, h.1, far.left))
 
--- a rank that runs and has a step left isn't over
-pub not-over : (script : List Step) (p : Player) {asked : Step} → is_stopped p.rank.log ≡ false → slice_get script (length p.done) ≡ Some asked → ¬ IsOver script p
-not-over script p {asked} running next over = elim over [ inl e ↦ false≢true (sym running ∙ e) | inr k ↦ omega (arith, k, slice_get_within script (length p.done) asked next) ]
+-- a rank that runs and has a poll left isn't over
+pub not-over : (script : List Step) (turns : ℕ) (p : Player) {n : ℕ} → is_stopped p.rank.log ≡ false → n < polls_left script turns p → ¬ IsOver script p
+not-over script turns p running falls over = elim over [
+  | inl e ↦ false≢true (sym running ∙ e)
+  | inr k ↦
+      let none : length script - length p.done ≡ 0 = omega (arith, k) in
+      omega (arith, rw none at falls)
+]
 
 -- what moves leaves the answers right
 pub honest-went : {E N : Type 0} {name : E → N} {place count : E → ℕ} {pushed taken : E → ℕ → List Item} {ready : E → Type 0} (known : Known) (v w : View) (e f : E) → Moves name place count pushed taken ready v e w f → AnswersFollowSoFar known v.player → AnswersFollowSoFar known w.player
 honest-went known v w e f m h = honest-moved known v.player w.player h m.only m.me m.ranks m.stops m.takes
 
--- a poll keeps the rank at work
-pub at-work-polled : {E : Type 0} {place count : E → ℕ} {pushed taken : E → ℕ → List Item} {ready : E → Type 0} {job : Seen} {me : ℕ} {v w : View} {e : E} → IsAtWork place count pushed taken ready job me v e → Polls job me v w → IsAtWork place count pushed taken ready job me w e
-at-work-polled {w} h p =
-    let q = p.quiet in
+-- what takes nothing, and lets nothing go out, keeps the rank at work
+at-work-quiet : {E : Type 0} {place count : E → ℕ} {pushed taken : E → ℕ → List Item} {ready : E → Type 0} {job : Seen} {me : ℕ} {v w : View} {e : E} → IsAtWork place count pushed taken ready job me v e → Quiet v.player.rank w.player.rank → GoesThrough job me w.player → w.room + length w.player.done ≡ v.room + length v.player.done → IsAtWork place count pushed taken ready job me w e
+at-work-quiet {w} h q follows room =
     record {
       joined = record {
         is_ready = h.joined.is_ready;
@@ -58,9 +64,17 @@ at-work-polled {w} h p =
       };
       named = q.calm.me ∙ h.named;
       counted = q.calm.ranks ∙ h.counted;
-      follows = p.follows;
-      room = omega (arith, h.room, p.room);
+      follows = follows;
+      room = omega (arith, h.room, room);
     }
+
+-- so a poll does
+pub at-work-polled : {E : Type 0} {place count : E → ℕ} {pushed taken : E → ℕ → List Item} {ready : E → Type 0} {job : Seen} {me : ℕ} {v w : View} {e : E} → IsAtWork place count pushed taken ready job me v e → Polls job me v w → IsAtWork place count pushed taken ready job me w e
+at-work-polled h p = at-work-quiet h p.quiet p.follows p.room
+
+-- and so do steps that are skipped
+pub at-work-skipped : {E : Type 0} {place count : E → ℕ} {pushed taken : E → ℕ → List Item} {ready : E → Type 0} {job : Seen} {me : ℕ} {v w : View} {e : E} → IsAtWork place count pushed taken ready job me v e → SkipsOn job me v w → IsAtWork place count pushed taken ready job me w e
+at-work-skipped {v} h s = at-work-quiet h (subst (Quiet v.player.rank) (sym s.same_rank) (quiet-same v.player.rank h.joined.sound)) s.follows s.room
 
 module _ {E N : Type 0} {name : E → N} {place count : E → ℕ} {pushed taken : E → ℕ → List Item} {ready : E → Type 0} {job : Seen} {me : ℕ} where
   -- what moves between a player and its end keeps the rank at work

@@ -6,7 +6,7 @@ ghost use Rattle.ulfm_script.specs.Script.{HasFinished};
 ghost use Rattle.ulfm_run.specs.inside.Joined.{IsAtWork};
 ghost use Rattle.ulfm_run.specs.inside.Turns.{Keeps, WentOn};
 
-use crate::polling::poll;
+use crate::polling::{next_played, poll};
 use crate::worker::Worker;
 use std::convert::Infallible;
 use std::sync::Wait;
@@ -100,7 +100,7 @@ impl<R: Wait, E: Ends, D: Decider> Hands for AtWork<'_, R, E, D> {
         if worker.player.is_stopped() {
             return Ok(None);
         }
-        let Some(step) = self.job.step(self.me, worker.player.answered()) else {
+        let Some(step) = next_played(self.job, self.me, &mut worker.player) else {
             return Ok(None);
         };
         let answered = poll(

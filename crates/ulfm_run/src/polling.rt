@@ -1,20 +1,43 @@
 //! The polls of a rank's steps.
-ghost use Rattle.std.specs.Prelude.{◌≡◌, ◌<◌, ◌≤◌, ◌+◌, length, slice_get, Some, true, false};
+ghost use Rattle.std.specs.Prelude.{◌≡◌, ◌<◌, ◌≤◌, ◌+◌, length, slice_get, Some, true, false, IfSome, IfNone};
 ghost use Rattle.std.specs.Bool.{OnTrue};
 ghost use Rattle.ulfm_rank.specs.Facts.{is_stopped};
 ghost use Rattle.ulfm_rank.specs.State.{IsState};
 ghost use Rattle.ulfm_script.specs.Deciding.{Known};
 ghost use Rattle.ulfm_job.specs.Job.{script_at};
 ghost use Rattle.ulfm_script.specs.inside.SoFar.{AnswersFollowSoFar, IsUndecided};
-ghost use Rattle.ulfm_run.specs.inside.Joined.{Polls};
+ghost use Rattle.ulfm_run.specs.inside.Joined.{Polls, SkipsOn};
 ghost use Rattle.ulfm_script.specs.inside.Underway.{GoesThrough};
 ghost use Rattle.ulfm_script.specs.Reacting.{is_played};
 
 use ulfm_board::Decider;
 use ulfm_script::{Called, Decided, Job, Player, Step};
 
-/// One poll of a rank's next step, which is skipped where none of its conditions holds: an open shrink or agreement that has a proposal is decided, another step is called, and given
-/// up where its last poll left it open. Whether the step has its answer now.
+/// The next step of a rank that is to be played. The steps before it are skipped, since none of their conditions holds: they take no
+/// poll. It never answers out of memory.
+pub(crate) fn next_played(job: &Job, me: u8, player: &mut Player) -> Option<Step>
+    requires mine { player.old.player.rank.me ≡ me }
+    requires follows { GoesThrough job.now me player.old.player }
+    requires room { length (script_at job.now me) ≤ player.old.room + length player.old.player.done }
+    requires running { is_stopped player.old.player.rank.log ≡ false }
+    ensures skips { SkipsOn job.now me player.old player.new }
+    ensures next { IfSome result (λ step. slice_get (script_at job.now me) (length player.new.player.done) ≡ Some step) }
+    ensures played { IfSome result (λ _. is_played job.now.conditions me player.new.player.done ≡ true) }
+    ensures none { IfNone result (length (script_at job.now me) ≤ length player.new.player.done) }
+    ensures honest { (known : Known) → AnswersFollowSoFar known player.old.player → AnswersFollowSoFar known player.new.player }
+{
+    let _ = job.turns();
+    while let Some(step) = job.step(me, player.answered()) {
+        if player.is_next_played(job.conditions()) {
+            return Some(step);
+        }
+        player.skip(&step);
+    }
+    None
+}
+
+/// One poll of a rank's next step, which is to be played: an open shrink or agreement that has a proposal is decided, another step is
+/// called, and given up where its last poll left it open. Whether the step has its answer now.
 pub(crate) fn poll<D: Decider>(
     job: &Job,
     me: u8,
@@ -22,40 +45,20 @@ pub(crate) fn poll<D: Decider>(
     decider: &mut D,
     step: &Step,
 ) -> bool
-    requires mine { player.old.player.rank.me ≡ me }
     requires sound { IsState player.old.player.rank }
     requires follows { GoesThrough job.now me player.old.player }
     requires room { length (script_at job.now me) ≤ player.old.room + length player.old.player.done }
     requires running { is_stopped player.old.player.rank.log ≡ false }
     requires next { slice_get (script_at job.now me) (length player.old.player.done) ≡ Some step.now }
+    requires played { is_played job.now.conditions me player.old.player.done ≡ true }
     ensures polls { Polls job.now me player.old player.new }
     ensures honest { AnswersFollowSoFar (D.known decider.old) player.old.player → AnswersFollowSoFar (D.known decider.new) player.new.player }
     ensures board { D.board decider.new ≡ D.board decider.old }
 {
-    if !player.is_next_played(job.conditions()) {
-        skip(job, me, player, step);
-        return true;
-    }
     if decide(job, me, player, decider, step) {
         return true;
     }
     call(job, me, player, step)
-}
-
-/// The step isn't played, since none of its conditions holds.
-fn skip(job: &Job, me: u8, player: &mut Player, step: &Step)
-    requires sound { IsState player.old.player.rank }
-    requires follows { GoesThrough job.now me player.old.player }
-    requires room { length (script_at job.now me) ≤ player.old.room + length player.old.player.done }
-    requires running { is_stopped player.old.player.rank.log ≡ false }
-    requires next { slice_get (script_at job.now me) (length player.old.player.done) ≡ Some step.now }
-    requires skipped { is_played job.now.conditions me player.old.player.done ≡ false }
-    ensures polls { Polls job.now me player.old player.new }
-    ensures honest { (known : Known) → AnswersFollowSoFar known player.old.player → AnswersFollowSoFar known player.new.player }
-{
-    let _ = job.turns();
-    let _ = me;
-    player.skip(step);
 }
 
 /// The decision of a step that stands open and has a proposal: a shrink or an agreement. Whether it was decided.

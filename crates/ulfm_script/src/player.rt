@@ -83,6 +83,20 @@ impl Player {
         self.rank.me()
     }
 
+    /// The rank, with its log and its outboxes.
+    pub fn rank(&self) -> &Rank
+        ensures { result.now.state ≡ self.now.player.rank }
+    {
+        &self.rank
+    }
+
+    /// The answers of its steps so far, in their order.
+    pub fn done(&self) -> &[StepReport]
+        ensures { result.now ≡ self.now.player.done }
+    {
+        &self.done
+    }
+
     /// Whether the rank stopped.
     pub fn is_stopped(&self) -> bool
         ensures { result ≡ is_stopped self.now.player.rank.log }

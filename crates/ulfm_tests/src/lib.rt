@@ -16,6 +16,8 @@ mod matching;
 #[cfg(test)]
 mod patient;
 #[cfg(test)]
+mod reach;
+#[cfg(test)]
 mod run;
 #[cfg(test)]
 mod world;

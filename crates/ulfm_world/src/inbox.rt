@@ -38,6 +38,13 @@ impl Inbox {
         }
     }
 
+    /// The items with their senders.
+    pub fn items(&self) -> &VecDeque<(WorldRank, Item)>
+        ensures { result.now.items ≡ self.now }
+    {
+        &self.items
+    }
+
     /// How many items there are.
     pub fn len(&self) -> usize
         ensures { result ≡ length self.now }

@@ -1,6 +1,7 @@
 -- Entries by number, buckets of their numbers, and how both change.
-use Rattle.std.specs.Prelude.{◌≡◌, ℕ, ◌<◌, ◌≤◌, ◌⊎◌, ⊤, List, [], ◌∷◌, cond, Contains, Option, Some, None, MatchOption, IsSome, nat_eq}
+use Rattle.std.specs.Prelude.{◌≡◌, ℕ, ◌<◌, ◌≤◌, ◌⊎◌, ⊤, List, [], ◌∷◌, ◌++◌, cond, Contains, Option, Some, None, MatchOption, IsSome, nat_eq}
 use Rattle.std.specs.List.{AllByRecursion}
+use Rattle.std.specs.Option.{option_to_list}
 use Rattle.indexmap.specs.IndexMap.{IndexMap, get, IsUnique}
 use Rattle.std.specs.declared.hash.FoldHasher.{FoldHasher}
 use Rattle.std.specs.declared.hash.BuildHasherDefault.{BuildHasherDefault}
@@ -23,10 +24,14 @@ abbrev pub Rises : List ℕ → Type 0
 Rises [] = ⊤
 Rises (n ∷ ns) = AllByRecursion (λ m. n ≤ m) ns × Rises ns
 
+-- the numbers in a bucket, the first before the others
+abbrev pub numbers_in : Bucket → List ℕ
+numbers_in bucket = option_to_list bucket.first ++ bucket.rest.items
+
 -- the numbers of a bucket, if there is one
 abbrev pub numbers_of : Option Bucket → List ℕ
 numbers_of None = []
-numbers_of (Some bucket) = bucket.numbers.items
+numbers_of (Some bucket) = numbers_in bucket
 
 -- the numbers in the bucket of a key
 abbrev pub numbers_at : Buckets → ℕ → List ℕ

@@ -10,7 +10,7 @@ use Rattle.ulfm_rank.specs.inside.Fields.{HasCommunicators, HasFaults}
 use Rattle.ulfm_rank.specs.Facts.{is_stopped}
 use Rattle.ulfm_rank.specs.inside.Outboxes.{Box, mark_of, HasOutboxes}
 use Rattle.ulfm_rank.specs.State.{State, View}
-use Rattle.ulfm_rank.specs.inside.Table.{IsInStep}
+use Rattle.ulfm_rank.specs.Standing.{IsInStep}
 
 -- how many places of the log are kept for the stop
 abbrev pub stop_places : Bool → ℕ

@@ -14,7 +14,7 @@ use Rattle.ulfm_rank.specs.declared.request.Fate.{Fate}
 use Rattle.ulfm_rank.specs.declared.request.Fate.TheVariants.{Waiting, Paired, Failed, Cleared}
 use Rattle.ulfm_rank.specs.declared.request.Request.{Request}
 use Rattle.ulfm_rank.specs.History.{post_events, item_events}
-use Rattle.ulfm_rank.specs.inside.Table.{IsOfGroup, IsTable}
+use Rattle.ulfm_rank.specs.Standing.{IsOfGroup, IsTable}
 
 -- what becomes of a receive at its post
 abbrev pub fate_of : Option Letter → Bool → Fate

@@ -1,11 +1,23 @@
 //! What goes out to the other ranks.
-ghost use Rattle.std.specs.Prelude.{◌≡◌, ◌<◌, ◌↔◌, [], IsTrue, IfNone, IfSome};
+ghost use Rattle.std.specs.Prelude.{◌≡◌, ◌<◌, ◌↔◌, [], false, IsTrue, IfNone, IfSome};
+ghost use Rattle.ulfm_rank.specs.Facts.{is_stopped};
 ghost use Rattle.ulfm_rank.specs.State.{outbox, returned, GoesOut, MayReturn};
 
 use super::Rank;
+use std::collections::VecDeque;
 use ulfm_base::Item;
 
 impl Rank {
+    /// The items towards a rank that wait in its outbox, where this rank goes on running. Of one that stopped the outbox holds a
+    /// notice at most, and `is_outbox_empty` tells of that.
+    pub fn items_to(&self, dest: u8) -> &VecDeque<Item>
+        requires inside { dest < self.now.state.ranks }
+        requires running { is_stopped self.now.state.log ≡ false }
+        ensures { result.now.items ≡ outbox self.now.state dest }
+    {
+        self.outboxes.items(dest)
+    }
+
     /// Whether the outbox towards a rank holds nothing.
     pub fn is_outbox_empty(&self, dest: u8) -> bool
         requires { dest < self.now.state.ranks }

@@ -1,5 +1,6 @@
 //! Receives and their tests (MPI 4.0, 3.7).
-ghost use Rattle.std.specs.Prelude.{◌≡◌, ℕ, length, true, false, IfOk, IfErr, IsTrue, OnOk, OnErr};
+ghost use Rattle.std.specs.Prelude.{◌≡◌, ℕ, length, nat_eq, true, false, IfOk, IfErr, IsTrue, OnOk, OnErr};
+ghost use Rattle.indexmap.specs.IndexMap.{get};
 ghost use Rattle.ulfm_base.specs.declared.pattern.Pattern.{Pattern};
 ghost use Rattle.ulfm_match.specs.History.{count_before};
 ghost use Rattle.ulfm_match.specs.Pairing.{Pairing, LawfulPairing};
@@ -9,7 +10,7 @@ ghost use Rattle.ulfm_rank.specs.Checks.{Passes, Fails, FailsOrStarves, IsTestRe
 ghost use Rattle.ulfm_rank.specs.Facts.{is_stopped};
 ghost use Rattle.ulfm_rank.specs.History.{history_of};
 ghost use Rattle.ulfm_rank.specs.State.{is_ready, logged};
-ghost use Rattle.ulfm_rank.specs.inside.Table.{IsOfGroup};
+ghost use Rattle.ulfm_rank.specs.Standing.{IsInStep, IsOfGroup};
 
 use super::Rank;
 use crate::answer::answer_in;
@@ -19,10 +20,19 @@ use crate::noted_answer::NotedAnswer;
 use crate::request::{Fate, Request, is_waiting};
 use crate::requests::{admit, find};
 use crate::sources::source_of;
+use indexmap::IndexMap;
 use ulfm_base::{CallError, Pattern, Tag};
-use ulfm_match::RequestId;
+use ulfm_match::{Matcher, RequestId};
 
 impl Rank {
+    /// The matcher of its receives and letters, and the receives and messages that aren't released, by number. Some lawful
+    /// pairing of what the log tells leaves both.
+    pub fn receives(&self) -> (&Matcher, &IndexMap<u64, Request>)
+        ensures { IsInStep self.now.state.ranks self.now.state.log result.0.now (get nat_eq result.1.now) }
+    {
+        (&self.matcher, &self.requests)
+    }
+
     /// What a receive with these arguments asks for, where it may be posted.
     pub(super) fn pattern_of(
         &self,

@@ -39,6 +39,13 @@ pub record Polls (job : Seen) (me : ℕ) (old new : View) : Type 0 where
   pub room : new.room + length new.player.done ≡ old.room + length old.player.done
   pub falls : polls_left (script_at job me) job.turns new.player < polls_left (script_at job me) job.turns old.player
 
+-- The next steps were skipped, as far as they aren't to be played: the rank is the same, and no more polls are left.
+pub record SkipsOn (job : Seen) (me : ℕ) (old new : View) : Type 0 where
+  pub same_rank : new.player.rank ≡ old.player.rank
+  pub follows : GoesThrough job me new.player
+  pub room : new.room + length new.player.done ≡ old.room + length old.player.done
+  pub left : polls_left (script_at job me) job.turns new.player ≤ polls_left (script_at job me) job.turns old.player
+
 -- the rank `me` of a job on its way through its script, with its end
 pub record IsAtWork {E : Type 0} (place count : E → ℕ) (pushed taken : E → ℕ → List Item) (ready : E → Type 0) (job : Seen) (me : ℕ) (v : View) (end : E) : Type 0 where
   pub joined : IsJoined place count pushed taken ready v.player.rank end

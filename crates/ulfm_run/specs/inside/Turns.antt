@@ -15,10 +15,10 @@ use Rattle.ulfm_run.specs.inside.Joined.{IsAtWork}
 abbrev pub IsOver : List Step → Player → Type 0
 IsOver script p = (is_stopped p.rank.log ≡ true) ⊎ (length script ≤ length p.done)
 
--- a step was polled, and fewer polls are left; or none was left
+-- a step was polled, and fewer polls are left; or none was left to be played, and no more polls are left
 abbrev pub WentOn : List Step → ℕ → Player → Player → Bool → Type 0
 WentOn script turns old new true = (¬ IsOver script old) × (polls_left script turns new < polls_left script turns old)
-WentOn script turns old new false = IsOver script new × (polls_left script turns new ≡ polls_left script turns old)
+WentOn script turns old new false = IsOver script new × (polls_left script turns new ≤ polls_left script turns old)
 
 -- as many polls are left, and a step is left where one was
 pub record IsAsFar (script : List Step) (turns : ℕ) (old new : Player) : Type 0 where

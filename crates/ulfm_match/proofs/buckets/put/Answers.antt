@@ -1,6 +1,6 @@
-use Rattle.std.proofs.Common.{ap, sym, ◌∙◌, cond, nat_eq, is_some, Some, None}
+use Rattle.std.proofs.Common.{[], ap, subst, sym, ◌∙◌, cond, nat_eq, is_some, Some, None}
 use Rattle.ulfm_match.proofs.Common.{Buckets, Grows, get}
-use Rattle.ulfm_match.proofs.Bucketed.{grows_none, at_key}
+use Rattle.ulfm_match.proofs.Bucketed.{grows_none, grows_push, at_key}
 use Rattle.ulfm_match.proofs.buckets.put.Goals as goal
 
 pub returns-in-Some-clause-put : goal.returns-in-Some-clause-put
@@ -16,7 +16,7 @@ returns-in-Some-clause-grows c =
 
 pub returns-clause-grows : goal.returns-clause-grows
 returns-clause-grows c =
-    at_key (Grows c.args.number) (grows_none c.args.number) (get nat_eq c.args.buckets.now) (get nat_eq c.insert.new.self) c.args.key None (Some c.push-2.new.self)
+    at_key (Grows c.args.number) (grows_none c.args.number) (get nat_eq c.args.buckets.now) (get nat_eq c.insert.new.self) c.args.key None (Some c.of.result)
     (sym c.in_default.ensures.value)
-    (λ q. c.in_ok-insert.ensures.updates.0 q ∙ ap (λ (m : Buckets). cond (nat_eq c.args.key q) (Some c.push-2.new.self) (get nat_eq m q)) c.get_mut.follows.holds-at-none)
-    (rw (sym c.new.ensures.items) c.push-2.ensures.grows)
+    (λ q. c.in_ok-insert.ensures.updates.0 q ∙ ap (λ (m : Buckets). cond (nat_eq c.args.key q) (Some c.of.result) (get nat_eq m q)) c.get_mut.follows.holds-at-none)
+    (subst (Grows c.args.number []) (sym c.of.ensures) (grows_push c.args.number []))

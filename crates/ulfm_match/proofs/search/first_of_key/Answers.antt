@@ -1,30 +1,28 @@
-use Rattle.std.proofs.Common.{◌≡◌, ℕ, ap, sym, subst, arith, Contains}
-use Rattle.ulfm_match.proofs.Common.{Pattern, Admits, Rises, Passes, numbers_of}
-use Rattle.ulfm_match.proofs.Rising.{no_less, none_more, none_all}
+use Rattle.std.proofs.Common.{ℕ, List, ◌++◌, ap, subst, sym, ◌∙◌, arith, Some, Contains}
+use Rattle.std.specs.Option.{option_to_list}
+use Rattle.ulfm_match.proofs.Common.{Pattern, Admits, FindsLeast, Rises, Passes, nat_tests, numbers_of}
+use Rattle.ulfm_match.proofs.Bucketed.{first_finds, rest_finds}
 use Rattle.ulfm_match.proofs.search.first_of_key.Goals as goal
-use Rattle.ulfm_match.proofs.search.first_of_key.Goals.{in-Some-get+else-admits, in_default-get}
+use Rattle.ulfm_match.proofs.search.first_of_key.Goals.{in-Some-first+else-admits, in_default-first}
 
 pub returns-then-admits : goal.returns-then-admits
 returns-then-admits c =
-    let ns = c.in-Some.bucket.now.numbers.items in
-    let same = ap numbers_of (sym c.in-Some.ensures.value) in
-    record {
-      is = record { entry = c.in-Some-get.pattern.now; found = sym c.in-Some-get.ensures.value; passes = c.admits.ensures.0 c.if-admits.true };
-      least = λ m d q. no_less ns c.loop-k.k c.index.result.now (subst Rises same c.requires) (omega (arith, c.loop-k-test.true, c.len-k-end.ensures, c.in-Some.bucket.now.numbers.ok.0)) c.index.ensures m (subst (λ xs. Contains xs m) same d) (λ t. c.loop-k.invariant m t q);
-    }
+    let Q : ℕ → Type 0 = Passes (λ (p : Pattern). Admits p c.args.letter.now.envelope) c.args.waiting.now in
+    let rest = c.in-Some.bucket.now.rest.items in
+    let n = c.in-Some-first.first in
+    let is = ap numbers_of (sym c.in-Some.ensures.value) ∙ ap (λ o. option_to_list o ++ rest) c.in-Some-first.is in
+    subst (λ (ns : List ℕ). FindsLeast (Contains ns) Q (Some n)) (sym is) (first_finds n rest Q (subst Rises is c.requires) (c.admits.ensures.0 c.if-admits.true))
 
-pub loop-k-preserved : goal.loop-k-preserved
-loop-k-preserved c =
-    let ns = c.in-Some.bucket.now.numbers.items in
-    let Q : ℕ → Type 0 = Passes (λ (pattern : Pattern). Admits pattern c.args.letter.now.envelope) c.args.waiting.now in
-    none_more Q ns c.loop-k.k c.index.result.now (omega (arith, c.loop-k-test.true, c.len-k-end.ensures, c.in-Some.bucket.now.numbers.ok.0)) c.index.ensures c.loop-k.invariant
-    (λ q. let f = q.found in elim c.match-get-2.branch [
-      | in-Some-get+else-admits w ↦ (let same : q.entry ≡ w.in-Some-get.pattern.now = (let e = w.in-Some-get.ensures.value in cc) in let t = w.admits.ensures.1 (subst (λ (p : Pattern). Admits p c.args.letter.now.envelope) same q.passes) in let u = w.if-admits.false in cc)
-      | in_default-get w ↦ (let e = w.in_default-get.ensures.value in cc)
-    ])
-
-pub returns-after-loop-k : goal.returns-after-loop-k
-returns-after-loop-k c m d q =
-    let ns = c.in-Some.bucket.now.numbers.items in
-    let same = ap numbers_of (sym c.in-Some.ensures.value) in
-    none_all (Passes (λ (pattern : Pattern). Admits pattern c.args.letter.now.envelope) c.args.waiting.now) ns c.loop-k.k (omega (arith, c.loop-k-test.false, c.len-k-end.ensures, c.in-Some.bucket.now.numbers.ok.0)) c.loop-k.invariant m (subst (λ xs. Contains xs m) same d) q
+pub returns : goal.returns
+returns c =
+    let Q : ℕ → Type 0 = Passes (λ (p : Pattern). Admits p c.args.letter.now.envelope) c.args.waiting.now in
+    let rest = c.in-Some.bucket.now.rest.items in
+    elim c.match-bucket.branch [
+      | in-Some-first+else-admits w ↦
+          let is = ap numbers_of (sym c.in-Some.ensures.value) ∙ ap (λ o. option_to_list o ++ rest) w.in-Some-first.is in
+          subst (λ (ns : List ℕ). FindsLeast (Contains ns) Q c.first_receive.result) (sym is)
+          (rest_finds w.in-Some-first.first rest Q c.first_receive.result (λ q. let t = w.admits.ensures.1 q in let f = w.if-admits.false in grind (arith, nat_tests, t, f)) c.first_receive.ensures)
+      | in_default-first w ↦
+          let is = ap numbers_of (sym c.in-Some.ensures.value) ∙ ap (λ o. option_to_list o ++ rest) w.in_default-first.is in
+          subst (λ (ns : List ℕ). FindsLeast (Contains ns) Q c.first_receive.result) (sym is) c.first_receive.ensures
+    ]

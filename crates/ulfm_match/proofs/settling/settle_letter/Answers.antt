@@ -1,7 +1,7 @@
 use Rattle.std.proofs.Common.{◌++◌, refl, ap, sym, ◌∙◌, subst, arith, Contains}
 use Rattle.ulfm_match.proofs.Common.{IsPool, IsKeyOf, Letter, Pool, in_order, numbers_at}
 use Rattle.ulfm_match.proofs.Inserted.{on_ok}
-use Rattle.ulfm_match.proofs.Pooled.{roomy_pool, settled_all, settled_pool, unsettled_pool}
+use Rattle.ulfm_match.proofs.Pooled.{roomy_pool, settled_absent, settled_all, settled_pool, unsettled_pool}
 use Rattle.ulfm_match.proofs.settling.settle_letter.Goals as goal
 
 pub returns-in_err-reserve-clause-pool : goal.returns-in_err-reserve-clause-pool
@@ -31,3 +31,6 @@ pub returns-in-Err-clause-pool : goal.returns-in-Err-clause-pool
 returns-in-Err-clause-pool c count i =
     unsettled_pool i c.in-Some.number c.in-Some.letter c.pop_front.new.self.items c.in-Some.ensures.items _ c.put_letter.new.buckets c.reserve.ensures.entries c.reserve.ensures.unique c.put_letter.ensures.grows c.forget_letter.ensures
     (c.push_front_reserved.ensures.items ∙ sym c.in-Some.ensures.items)
+
+pub forget_letter-requires : goal.forget_letter-requires
+forget_letter-requires c = settled_absent c.requires.1 c.in-Some.number c.in-Some.letter c.pop_front.new.self.items c.in-Some.ensures.items c.reserve.new.self c.reserve.ensures.entries

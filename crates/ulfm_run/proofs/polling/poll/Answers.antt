@@ -2,11 +2,8 @@ use Rattle.std.proofs.Common.{arith, ap, sym, ◌∙◌, subst, length, slice_ge
 use Rattle.ulfm_run.proofs.Common.{GoesThrough, is_stopped, IsState, Player, script_at}
 use Rattle.ulfm_script.specs.Reacting.{is_played}
 use Rattle.ulfm_script.specs.inside.SoFar.{AnswersFollowSoFar, IsUndecided}
-use Rattle.ulfm_run.proofs.Polled.{polls-after, asked_played}
+use Rattle.ulfm_run.proofs.Polled.{polls-after}
 use Rattle.ulfm_run.proofs.polling.poll.Goals as goal
-
-pub skip-requires-clause-skipped : goal.skip-requires-clause-skipped
-skip-requires-clause-skipped g c = asked_played c.args.job.now c.args.me c.args.player.now.player c.requires.mine c.conditions.ensures c.is_next_played.ensures ∙ c.if-not-is_next_played.true
 
 pub call-requires : goal.call-requires
 call-requires g c =
@@ -17,7 +14,7 @@ call-requires g c =
       room = omega (arith, c.requires.room, c.decide.ensures.room);
       running = ap (λ (p : Player). is_stopped p.rank.log) same ∙ c.requires.running;
       next = ap (λ (p : Player). slice_get (script_at c.args.job.now c.args.me) (length p.done)) same ∙ c.requires.next;
-      played = ap (λ (p : Player). is_played c.args.job.now.conditions c.args.me p.done) same ∙ asked_played c.args.job.now c.args.me c.args.player.now.player c.requires.mine c.conditions.ensures c.is_next_played.ensures ∙ c.if-not-is_next_played.false;
+      played = ap (λ (p : Player). is_played c.args.job.now.conditions c.args.me p.done) same ∙ c.requires.played;
     }
 
 pub returns-clause-polls : goal.returns-clause-polls
