@@ -15,7 +15,7 @@ mod report;
 mod trace;
 
 pub use answer::{Called, Decided, StepAnswer, StepReport};
-pub use clauses::all_met;
+pub use clauses::{all_met, holds_of};
 pub use fault::RunFault;
 pub use hands::{Hands, turn};
 pub use player::Player;
