@@ -20,5 +20,5 @@ pub use fault::RunFault;
 pub use hands::{Hands, turn};
 pub use player::Player;
 pub use report::RankReport;
-pub use trace::trace_text;
+pub use trace::{push_answer, trace_text};
 pub use ulfm_job::{Clause, Fault, Job, JobFault, Step, Text, no_toml};
