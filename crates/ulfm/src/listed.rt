@@ -19,10 +19,8 @@ pub fn outcomes_reply(alloc: Global, limit: u32, bytes: &[u8]) -> Result<Reply, 
         Err(fault) => return refusal(alloc, fault),
     };
     let most = limit as usize;
-    match outcomes(alloc, &job, most) {
-        Ok(reach) => list_reply(alloc, &job, &reach, most),
-        Err(_) => Err(AllocError),
-    }
+    let reach = outcomes(alloc, &job, most)?;
+    list_reply(alloc, &job, &reach, most)
 }
 
 /// The list of all outcomes as a reply.
@@ -39,8 +37,6 @@ fn list_reply(
         Reach::All(_) => DONE,
         Reach::More => PAST_LIMIT,
     };
-    match list_text(alloc, job, reach, limit) {
-        Ok(text) => Ok(Reply { status, text }),
-        Err(_) => Err(AllocError),
-    }
+    let text = list_text(alloc, job, reach, limit)?;
+    Ok(Reply { status, text })
 }

@@ -68,8 +68,8 @@ const CASES: [Case; 7] = [
         status: 0,
         begins: "0 0 send 1 tag 0 comm 0: sent
 0 1 stop: stopped
-1 0 recv 0 tag any comm 0: posted | refused 5 ProcFailed
-1 1 wait 0: done from 0 tag 0 - | over 5 ProcFailed | refused 7 NoRequest
+1 0 recv 0 tag any comm 0: posted
+1 1 wait 0: done from 0 tag 0 - | over 5 ProcFailed
 1 2 revoke comm 0: revoked | skipped
 ",
         ends: " states, every step ends in every schedule\n",

@@ -6,5 +6,5 @@ use Rattle.ulfm.proofs.listed.outcomes_reply.Goals as goal
 pub returns-in-Err : goal.returns-in-Err
 returns-in-Err c = IfOk-weaker c.refusal.result _ _ (λ r h. rw (h.0, h.1) (list_refused c.in-Err.fault _ c.in-Err.ensures)) c.refusal.ensures
 
-pub returns-in-Ok-outcomes : goal.returns-in-Ok-outcomes
-returns-in-Ok-outcomes c = IfOk-weaker c.list_reply.result _ _ (λ r h. rw (h.0, h.1) (listed c.in-Ok.job c.in-Ok-outcomes.reach c.in-Ok.ensures c.in-Ok-outcomes.ensures)) c.list_reply.ensures
+pub returns : goal.returns
+returns c = IfOk-weaker c.list_reply.result _ _ (λ r h. rw (h.0, h.1) (listed c.in-Ok.job c.in_ok-reach.reach c.in-Ok.ensures c.in_ok-reach.ensures)) c.list_reply.ensures
