@@ -1,4 +1,4 @@
--- The replies to a job that has no list, and that a list can be written.
+-- The replies to a job that has no list.
 use Rattle.std.proofs.Common.{◌≡◌, ◌≢◌, ℕ, List, Err}
 use Rattle.ulfm_job.specs.declared.fault.JobFault.{JobFault}
 use Rattle.ulfm_job.specs.declared.fault.JobFault.TheVariants.{NotToml, InJob, InStep, TooLarge, OutOfMemory}

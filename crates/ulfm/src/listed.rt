@@ -24,6 +24,7 @@ pub fn outcomes_reply(alloc: Global, limit: u32, bytes: &[u8]) -> Result<Reply, 
 }
 
 /// The list of all outcomes as a reply.
+#[tactic(auto, using(crate::proofs::Writable::writable))]
 fn list_reply(
     alloc: Global,
     job: &Job,
