@@ -179,7 +179,9 @@ fn outcomes_command<'a>(alloc: Global) -> Result<Command<'a>, AllocError>
     ensures local { IfOk result (λ command. (out-Command command).has_globals ≡ false) }
 {
     Command::new(alloc, "outcomes")
-        .about("Lists what each step of the job on standard input may be answered, over every schedule")
+        .about(
+            "Lists what each step of the job on standard input may be answered, over every schedule",
+        )
         .after_help("Example: ulfm outcomes --limit 100000 < jobs/one_letter.toml")
         .arg(number_option(
             alloc,
