@@ -24,7 +24,6 @@ pub fn outcomes_reply(alloc: Global, limit: u32, bytes: &[u8]) -> Result<Reply, 
 }
 
 /// The list of all outcomes as a reply.
-#[tactic(auto, using(crate::proofs::Writable::writable))]
 fn list_reply(alloc: Global, job: &Job, reach: &Reach, limit: usize) -> Result<Reply, AllocError>
     requires { IsList job.now limit reach.now }
     ensures { IfOk result (λ r. (r.status ≡ list_status reach.now) × (string_bytes r.text ≡ text_of job.now reach.now limit)) }
