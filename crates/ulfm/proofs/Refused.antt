@@ -14,12 +14,13 @@ use Rattle.ulfm_script.specs.declared.fault.RunFault.{RunFault}
 use Rattle.ulfm_script.specs.declared.fault.RunFault.TheVariants as faults
 use Rattle.ulfm_replies.specs.declared.command.RunOptions.{RunOptions}
 use Rattle.ulfm_replies.specs.declared.command.Wanted.{Wanted}
-use Rattle.ulfm_replies.specs.declared.command.Wanted.TheVariants.{Check, Replay, Run, Sweep}
+use Rattle.ulfm_replies.specs.declared.command.Wanted.TheVariants.{Check, Replay, Run, Sweep, Outcomes}
 use Rattle.ulfm_replies.specs.Failure.{failed_text, failure_of, out_of_memory_text}
 use Rattle.ulfm_replies.specs.Replies.{refused_text, starved}
 use Rattle.ulfm_replies.specs.declared.failure.Failure.{Failure}
 use Rattle.ulfm_replies.specs.declared.failure.Failure.TheVariants as run
 use Rattle.ulfm.specs.Replies.{IsReplayReply, IsRunReply, IsReplyTo, IsWhole, GetsReply, GetsBeginning, not_a_job, no_room, failed, no_such_job, no_place, no_thread, untrue, fell, with_options}
+use Rattle.ulfm.specs.Outcomes.{unlisted}
 use Rattle.ulfm.specs.Sweep.{unswept}
 use Rattle.ulfm.specs.inside.Writing.{GetsFrontOf, IsShown}
 
@@ -57,6 +58,7 @@ starved_reply Check bytes = starved
 starved_reply (Replay is_strict) bytes = failed
 starved_reply (Run options) bytes = fell
 starved_reply Sweep bytes = unswept
+starved_reply (Outcomes limit) bytes = unlisted
 
 pub starved_gets : (wanted : Wanted) (most : ℕ) (rest old new : Option (List ℕ)) (status : ℕ) → (status ≢ 4 → (status ≡ 3) × Appends old new out_of_memory_text) → IsWhole status → IfSome rest (λ bytes. GetsReply (IsReplyTo wanted (take most bytes)) old new status)
 starved_gets wanted most None old new status h l = tt

@@ -6,13 +6,15 @@ use Rattle.ulfm_script.specs.Reacting.{all_met}
 use Rattle.ulfm_replies.specs.Unfinished.{has_unfinished, played_status}
 use Rattle.ulfm_replies.specs.declared.command.RunOptions.{RunOptions}
 use Rattle.ulfm_replies.specs.declared.command.Wanted.{Wanted}
-use Rattle.ulfm_replies.specs.declared.command.Wanted.TheVariants.{Check, Replay, Run, Sweep}
+use Rattle.ulfm_replies.specs.declared.command.Wanted.TheVariants.{Check, Replay, Run, Sweep, Outcomes}
 use Rattle.ulfm.specs.Replies.{IsReplayReply, IsRunReply, IsReplyTo, IsWhole, traced, not_a_job, no_room, failed, ran, repeated, no_such_job, no_place, no_thread, untrue, fell, with_options}
 use Rattle.ulfm.specs.Sweep.{IsSweepReply, swept, unread, full, unmade, unswept}
+use Rattle.ulfm.specs.Outcomes.{IsOutcomesReply, listed, not_listed, no_memory_to_read, unlisted}
+use Rattle.ulfm_reach.specs.declared.reach.Reach.TheVariants.{All, More}
 
--- a status of a reply that was written whole is at most 6, or 9
+-- a status of a reply that was written whole is at most 7, or 9
 pub record IsKnown (status : ℕ) : Type 0 where
-  pub few : (status ≤ 6) ⊎ (status ≡ 9)
+  pub few : (status ≤ 7) ⊎ (status ≡ 9)
   pub whole : IsWhole status
 
 good_job : IsKnown 0
@@ -58,8 +60,16 @@ sweep_known bytes status text (full job is many) = no_job
 sweep_known bytes status text unmade = no_job
 sweep_known bytes status text unswept = run_fails
 
+list_known : (limit : ℕ) (bytes : List ℕ) (status : ℕ) (text : List ℕ) → IsOutcomesReply limit bytes status text → IsKnown status
+list_known limit bytes status text (listed job (All reached) is all) = good_job
+list_known limit bytes status text (listed job More is many) = record { few = inl (omega arith); whole = ((λ e. omega (arith, e)), (λ e. omega (arith, e))) }
+list_known limit bytes status text (not_listed f is) = no_job
+list_known limit bytes status text no_memory_to_read = no_job
+list_known limit bytes status text unlisted = run_fails
+
 pub known_status : (wanted : Wanted) (bytes : List ℕ) (status : ℕ) (text : List ℕ) → IsReplyTo wanted bytes status text → IsKnown status
 known_status Check bytes status text h = checked bytes status text h
 known_status (Replay is_strict) bytes status text h = replayed is_strict bytes status text h
 known_status (Run options) bytes status text h = run_known options bytes status text h
 known_status Sweep bytes status text h = sweep_known bytes status text h
+known_status (Outcomes limit) bytes status text h = list_known limit bytes status text h

@@ -14,11 +14,12 @@ use Rattle.ulfm_script.specs.Trace.{trace_of}
 use Rattle.ulfm_laws.specs.Lawful.{IsLawful}
 use Rattle.ulfm_run.specs.Fault.{ShowUntrue}
 use Rattle.ulfm_world.specs.Replay.{IsReplayed, MadeAtRest}
+use Rattle.ulfm.specs.Outcomes.{IsOutcomesReply}
 use Rattle.ulfm.specs.Sweep.{IsSweepReply}
 use Rattle.ulfm.specs.Tally.{tally, tally_text}
 use Rattle.ulfm_replies.specs.declared.command.RunOptions.{RunOptions}
 use Rattle.ulfm_replies.specs.declared.command.Wanted.{Wanted}
-use Rattle.ulfm_replies.specs.declared.command.Wanted.TheVariants.{Check, Replay, Run, Sweep}
+use Rattle.ulfm_replies.specs.declared.command.Wanted.TheVariants.{Check, Replay, Run, Sweep, Outcomes}
 use Rattle.ulfm_replies.specs.Failure.{failed_text, out_of_memory_text}
 use Rattle.ulfm_replies.specs.Replies.{refused_text, IsCheckReply}
 use Rattle.ulfm_replies.specs.Unfinished.{has_unfinished, played_status}
@@ -63,6 +64,7 @@ IsReplyTo Check bytes status text = IsCheckReply bytes status text
 IsReplyTo (Replay is_strict) bytes status text = IsReplayReply is_strict bytes status text
 IsReplyTo (Run options) bytes status text = IsRunReply options bytes status text
 IsReplyTo Sweep bytes status text = IsSweepReply bytes status text
+IsReplyTo (Outcomes limit) bytes status text = IsOutcomesReply limit bytes status text
 
 -- the status of a reply that was written whole: the output didn't fail, and neither did the input
 abbrev pub IsWhole : ℕ → Type 0

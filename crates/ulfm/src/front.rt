@@ -45,7 +45,7 @@ where
     ensures input_failed { result ≡ 5 → Keeps (W.contents output.old) (W.contents output.new) }
     ensures words_first { result ≡ 2 → R.remaining input.new ≡ R.remaining input.old }
     ensures not_followed { faults (map S.text words.now) ≢ [] → (R.remaining input.new ≡ R.remaining input.old) × IsWordsStatus (faults (map S.text words.now)) result }
-    ensures known { (result ≤ 6) ⊎ (result ≡ 9) }
+    ensures known { (result ≤ 7) ⊎ (result ≡ 9) }
 {
     match asked_for(alloc, words) {
         Ok(wanted) => follow(rt, alloc, wanted, input, output, errors),
@@ -89,7 +89,7 @@ where
     ensures output_failed { result ≡ 4 → GetsFront (W.contents output.old) (W.contents output.new) }
     ensures input_failed { result ≡ 5 → Keeps (W.contents output.old) (W.contents output.new) }
     ensures no_usage { result ≢ 2 }
-    ensures known { (result ≤ 6) ⊎ (result ≡ 9) }
+    ensures known { (result ≤ 7) ⊎ (result ≡ 9) }
 {
     let bytes = match read_front(alloc, input) {
         Ok(bytes) => bytes,

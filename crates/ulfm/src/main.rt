@@ -2,6 +2,7 @@
 #![tactic(auto)]
 
 mod front;
+mod listed;
 mod reply;
 mod run;
 mod swept;

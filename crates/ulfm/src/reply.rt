@@ -3,6 +3,7 @@ ghost use Rattle.std.specs.Prelude.{◌≡◌, IfOk, string_bytes};
 ghost use Rattle.ulfm.specs.Replies.{IsReplayReply, IsReplyTo};
 ghost use Rattle.ulfm_replies.specs.Words.{HasRanges};
 
+use crate::listed::outcomes_reply;
 use crate::run::run_reply;
 use crate::swept::sweep_reply;
 use std::alloc::{AllocError, Global};
@@ -41,5 +42,6 @@ pub fn reply_to<R: Threads + Wait + Sync>(
         Wanted::Replay { is_strict } => replay_reply(alloc, is_strict, bytes),
         Wanted::Run(options) => run_reply(rt, alloc, options, bytes),
         Wanted::Sweep => sweep_reply(alloc, bytes),
+        Wanted::Outcomes { limit } => outcomes_reply(alloc, limit, bytes),
     }
 }

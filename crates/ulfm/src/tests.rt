@@ -5,6 +5,7 @@ mod agreements;
 mod broken;
 mod notes;
 mod options;
+mod outcomes;
 mod probes;
 mod reacting;
 mod refused;

@@ -1,5 +1,5 @@
 -- What the words of a command line ask for.
-use Rattle.std.specs.Prelude.{◌≡◌, ◌<◌, ◌≤◌, ◌⊎◌, ⊤, ℕ, Bool, List, [], ◌∷◌, Option, Some, None, option_map, codes, true, false, IfSome, if◌then◌else◌}
+use Rattle.std.specs.Prelude.{◌≡◌, ◌<◌, ◌≤◌, ◌⊎◌, ⊤, ℕ, Bool, List, [], ◌∷◌, Option, Some, None, option_map, codes, true, false, IfSome, unwrap_or, if◌then◌else◌}
 use Rattle.std.specs.Option.{option_map_or}
 use Rattle.std.specs.Str.{bytes_eq}
 use Rattle.std.specs.Str.Parse.{digits_value, without_leading_plus}
@@ -7,7 +7,7 @@ use Rattle.ulfm_replies.specs.declared.command.Carrier.{Carrier}
 use Rattle.ulfm_replies.specs.declared.command.Carrier.TheVariants.{Lanes, Shared}
 use Rattle.ulfm_replies.specs.declared.command.RunOptions.{RunOptions}
 use Rattle.ulfm_replies.specs.declared.command.Wanted.{Wanted}
-use Rattle.ulfm_replies.specs.declared.command.Wanted.TheVariants.{Check, Replay, Run, Sweep}
+use Rattle.ulfm_replies.specs.declared.command.Wanted.TheVariants.{Check, Replay, Run, Sweep, Outcomes}
 use Rattle.clap.specs.ValueTests.{accepts}
 use Rattle.clap.specs.declared.builder.action.ArgAction.TheVariants.{SetTrue}
 use Rattle.clap.specs.declared.builder.value_parser.ValueParser.TheVariants.{Unsigned}
@@ -60,9 +60,21 @@ run_app = with_rule (with_rule (with_rule (with_rule (new_app (codes "run")) car
 abbrev pub sweep_app : App
 sweep_app = new_app (codes "sweep")
 
+-- the most states that `--limit` can allow
+abbrev pub most_states : ℕ
+most_states = 100000000
+
+-- the most states that are looked at where there is no `--limit`
+abbrev pub usual_states : ℕ
+usual_states = 1000000
+
+-- the command `outcomes` with its option
+abbrev pub outcomes_app : App
+outcomes_app = with_rule (new_app (codes "outcomes")) (number_rule (codes "limit") most_states)
+
 -- the whole command line
 abbrev pub tool_app : App
-tool_app = with_subcommand (with_subcommand (with_subcommand (with_subcommand demanding_app check_app.top) replay_app.top) run_app.top) sweep_app.top
+tool_app = with_subcommand (with_subcommand (with_subcommand (with_subcommand (with_subcommand demanding_app check_app.top) replay_app.top) run_app.top) sweep_app.top) outcomes_app.top
 
 -- the subcommand that the words name, and what was met of its options
 unfoldable pub asked : List Text → Option (Text × List Row)
@@ -90,9 +102,13 @@ options_by rows carrier = record { carrier = carrier; is_strict = is_strict rows
 abbrev pub run_options : List Row → Option RunOptions
 run_options rows = option_map (options_by rows) (carrier_named (first_of (codes "carrier") rows))
 
+-- the most states that are looked at: those of `--limit`, where it is given
+abbrev pub limit_in : List Row → ℕ
+limit_in rows = unwrap_or (number_given most_states (first_of (codes "limit") rows)) usual_states
+
 -- the command of a name, with its options
 abbrev pub named : Text → List Row → Option Wanted
-named name rows = if bytes_eq name (codes "check") then Some Check else (if bytes_eq name (codes "replay") then Some (Replay (is_strict rows)) else (if bytes_eq name (codes "run") then option_map Run (run_options rows) else (if bytes_eq name (codes "sweep") then Some Sweep else None)))
+named name rows = if bytes_eq name (codes "check") then Some Check else (if bytes_eq name (codes "replay") then Some (Replay (is_strict rows)) else (if bytes_eq name (codes "run") then option_map Run (run_options rows) else (if bytes_eq name (codes "sweep") then Some Sweep else (if bytes_eq name (codes "outcomes") then Some (Outcomes (limit_in rows)) else None))))
 
 -- what a subcommand and its options mean
 abbrev pub meant : Option (Text × List Row) → Option Wanted
@@ -117,9 +133,14 @@ AsksFor wanted words = (faults words ≡ []) × (meant (asked words) ≡ Some wa
 abbrev pub AreInRange : RunOptions → Type 0
 AreInRange options = IfSome options.turns (λ n. (0 < n) × (n ≤ most_turns)) × IfSome options.repeat (λ n. (0 < n) × (n ≤ most_runs))
 
+-- the limit of `outcomes` is in its range
+abbrev pub IsLimit : ℕ → Type 0
+IsLimit limit = (0 < limit) × (limit ≤ most_states)
+
 -- the numbers of what the words ask for are in their ranges
 abbrev pub HasRanges : Wanted → Type 0
 HasRanges (Run options) = AreInRange options
+HasRanges (Outcomes limit) = IsLimit limit
 HasRanges _ = ⊤
 
 -- the status of a kind of fault: help is no failure

@@ -2,13 +2,15 @@
 ghost use Rattle.std.specs.Prelude.{◌≡◌, false, Some, map, option_map, IfOk, IfSome};
 ghost use Rattle.clap.specs.declared.builder.command.Command.TheViews.{out-Command};
 ghost use Rattle.clap.specs.Words.{FailsBy, app_of, first_of, found_of, kind_of, rows_of, rule_of, subcommand_rows_of, with_subcommand};
-ghost use Rattle.ulfm_replies.specs.Words.{AreInRange, HasRanges, asked, carrier_named, carrier_rule, check_app, demanding_app, faults, is_strict, meant, named, number_rule, replay_app, run_app, run_options, strict_rule, sweep_app, tool_app};
+ghost use Rattle.ulfm_replies.specs.Words.{AreInRange, HasRanges, asked, carrier_named, IsLimit, check_app, demanding_app, faults, is_strict, limit_in, meant, named, outcomes_app, replay_app, run_app, run_options, sweep_app, tool_app};
 
 use crate::help::HELP;
 use crate::number::number_given;
-use clap::builder::ValueParser;
+use crate::options::{
+    MOST_RUNS, MOST_STATES, MOST_TURNS, USUAL_STATES, carrier_option, number_option, strict_flag,
+};
 use clap::error::ErrorKind;
-use clap::{Arg, ArgAction, ArgMatches, Command, Error};
+use clap::{ArgMatches, Command, Error};
 use std::alloc::{AllocError, Global};
 use std::convert::AsStr;
 
@@ -48,13 +50,12 @@ pub enum Wanted {
     Run(RunOptions),
     /// A line for each place of a stop.
     Sweep,
+    /// A line for each step, with all that it may be answered.
+    Outcomes {
+        /// The most states that are looked at, 1 to 100,000,000.
+        limit: u32,
+    },
 }
-
-/// The most turns that `--turns` can give a job.
-const MOST_TURNS: u32 = 10_000_000;
-
-/// The most runs that `--repeat` can ask for.
-const MOST_RUNS: u32 = 10_000;
 
 /// What the words ask for. An error is a wrong command line, or help that is asked for.
 pub fn wanted_of<S: AsStr>(alloc: Global, words: &[S]) -> Result<Wanted, Error>
@@ -95,7 +96,8 @@ fn command_line<'a>(alloc: Global) -> Result<Command<'a>, AllocError>
     let command = bare_command(alloc).subcommand(check_command(alloc))?;
     let command = command.subcommand(replay_command(alloc)?)?;
     let command = command.subcommand(run_command(alloc)?)?;
-    command.subcommand(sweep_command(alloc))
+    let command = command.subcommand(sweep_command(alloc))?;
+    command.subcommand(outcomes_command(alloc)?)
 }
 
 /// The command `ulfm` without its commands.
@@ -171,39 +173,22 @@ fn sweep_command<'a>(alloc: Global) -> Command<'a>
         .after_help("Example: ulfm sweep < jobs/recovery_of_three.toml")
 }
 
-/// The option `--carrier`.
-fn carrier_option<'a>(alloc: Global) -> Arg<'a>
-    ensures rule { rule_of result ≡ carrier_rule }
-    ensures local { result.global ≡ false }
+/// The command `outcomes` with its option.
+fn outcomes_command<'a>(alloc: Global) -> Result<Command<'a>, AllocError>
+    ensures app { IfOk result (λ command. app_of command ≡ outcomes_app) }
+    ensures local { IfOk result (λ command. (out-Command command).has_globals ≡ false) }
 {
-    Arg::new(alloc, "carrier")
-        .long("carrier")
-        .value_name("CARRIER")
-        .help("What takes items from rank to rank [possible values: lanes, shared]")
-        .required(true)
-}
-
-/// The flag `--strict`.
-fn strict_flag<'a>(alloc: Global) -> Arg<'a>
-    ensures rule { rule_of result ≡ strict_rule }
-    ensures local { result.global ≡ false }
-{
-    Arg::new(alloc, "strict")
-        .long("strict")
-        .help("Ends with status 6 in place of 0 where a step is unfinished")
-        .action(ArgAction::SetTrue)
-}
-
-/// An option whose value is a number, from 1 to the most.
-fn number_option<'a>(alloc: Global, name: &'a str, most: u32, help: &'a str) -> Arg<'a>
-    ensures rule { rule_of result ≡ number_rule name.entry.now most }
-    ensures local { result.global ≡ false }
-{
-    Arg::new(alloc, name)
-        .long(name)
-        .value_name("N")
-        .help(help)
-        .value_parser(ValueParser::Unsigned(1, u64::from(most)))
+    Command::new(alloc, "outcomes")
+        .about(
+            "Lists what each step of the job on standard input may be answered, over every schedule",
+        )
+        .after_help("Example: ulfm outcomes --limit 100000 < jobs/one_letter.toml")
+        .arg(number_option(
+            alloc,
+            "limit",
+            MOST_STATES,
+            "Gives up past so many states [1 to 100000000; 1000000 if left out]",
+        ))
 }
 
 /// What the words ask for, by what was found in them.
@@ -230,6 +215,9 @@ fn named(name: &str, options: &ArgMatches<'_>) -> Option<Wanted>
             None => None,
         },
         "sweep" => Some(Wanted::Sweep),
+        "outcomes" => Some(Wanted::Outcomes {
+            limit: limit_in(options),
+        }),
         _ => None,
     }
 }
@@ -248,6 +236,14 @@ fn run_options(options: &ArgMatches<'_>) -> Option<RunOptions>
         }),
         None => None,
     }
+}
+
+/// The most states that are looked at: those of `--limit`, where it is given.
+fn limit_in(options: &ArgMatches<'_>) -> u32
+    ensures exact { result ≡ limit_in (rows_of (found_of options.now)) }
+    ensures range { IsLimit result }
+{
+    number_given(value_of(options, "limit"), MOST_STATES).unwrap_or(USUAL_STATES)
 }
 
 /// The first value that was found of an option, by its name.

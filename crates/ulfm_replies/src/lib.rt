@@ -7,6 +7,7 @@ mod failure;
 mod help;
 mod notes;
 mod number;
+mod options;
 mod reply;
 mod stream;
 mod trace;
@@ -16,8 +17,8 @@ pub use command::{Carrier, RunOptions, Wanted};
 pub use failure::{Failure, failed, failure_of};
 pub use notes::write_notes;
 pub use reply::{
-    DONE, INPUT_FAILED, JOB_REFUSED, NOT_EXPECTED, OUTPUT_FAILED, RUN_FAILED, Reply, UNFINISHED,
-    USAGE, check_reply, refusal,
+    DONE, INPUT_FAILED, JOB_REFUSED, NOT_EXPECTED, OUTPUT_FAILED, PAST_LIMIT, RUN_FAILED, Reply,
+    UNFINISHED, USAGE, check_reply, refusal,
 };
 pub use stream::{InputFault, read_front, write_whole};
 pub use trace::{has_unfinished, played_status, trace_reply};

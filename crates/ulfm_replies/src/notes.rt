@@ -1,7 +1,7 @@
 //! What standard error says beside a reply: for people, and none of it is promised.
 
 use crate::command::Wanted;
-use crate::reply::{DONE, JOB_REFUSED, NOT_EXPECTED, Reply, UNFINISHED};
+use crate::reply::{DONE, JOB_REFUSED, NOT_EXPECTED, PAST_LIMIT, Reply, UNFINISHED};
 use crate::stream::write_whole;
 use std::alloc::{AllocError, Global};
 use std::io::Write;
@@ -10,6 +10,10 @@ use ulfm_explain::{Explanation, explain, unmet_answers, warnings};
 /// Why a good job can't be swept.
 const NO_PLACE: &str =
     "the job has 256 steps, which are the most: with a stop put in, as sweep does, there are too many\n";
+
+/// What to do where a list is past its limit.
+const MANY_STATES: &str =
+    "--limit allows up to 100000000 states; fewer ranks, steps or wildcards make fewer of them\n";
 
 /// The line for a job that is too large.
 const TOO_LARGE: &str = "job refused: J6\n";
@@ -47,6 +51,7 @@ fn notes_on(
             notes.push_str(hangs.as_str())?;
             Ok(notes)
         }
+        (PAST_LIMIT, _) => String::from_str(alloc, MANY_STATES),
         (DONE | UNFINISHED, _) => hangs_in(alloc, reply.text.as_str()),
         _ => Ok(String::new(alloc)),
     }

@@ -27,6 +27,9 @@ pub const INPUT_FAILED: u8 = 5;
 /// What was played to its end left a step unfinished, and the words ask for this status then.
 pub const UNFINISHED: u8 = 6;
 
+/// A job comes to more states than the limit that the words set.
+pub const PAST_LIMIT: u8 = 7;
+
 /// What was played to its end has an answer that its step doesn't expect.
 pub const NOT_EXPECTED: u8 = 9;
 

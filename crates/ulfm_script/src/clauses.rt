@@ -19,7 +19,7 @@ fn is_of(rank: u8, k: usize, clause: &Clause) -> bool
 }
 
 /// Whether a clause holds of these answered steps of its rank.
-fn holds_of(alloc: Global, done: &[StepReport], clause: &Clause) -> bool
+pub fn holds_of(alloc: Global, done: &[StepReport], clause: &Clause) -> bool
     ensures { result ≡ holds_of done.now clause.now }
 {
     match done.get(clause.step as usize) {

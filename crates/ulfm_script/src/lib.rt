@@ -15,10 +15,10 @@ mod report;
 mod trace;
 
 pub use answer::{Called, Decided, StepAnswer, StepReport};
-pub use clauses::all_met;
+pub use clauses::{all_met, holds_of};
 pub use fault::RunFault;
 pub use hands::{Hands, turn};
 pub use player::Player;
 pub use report::RankReport;
-pub use trace::trace_text;
+pub use trace::{push_answer, trace_text};
 pub use ulfm_job::{Clause, Fault, Job, JobFault, Step, Text, no_toml};

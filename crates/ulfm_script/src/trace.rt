@@ -58,7 +58,7 @@ pub(crate) fn numbers_of(alloc: Global, group: &Group) -> SmallVec<u8, 8>
     numbers
 }
 
-fn push_answer(text: &mut String, answer: &StepAnswer) -> Result<(), AllocError>
+pub fn push_answer(text: &mut String, answer: &StepAnswer) -> Result<(), AllocError>
     ensures { OnOk result (string_bytes text.new ≡ string_bytes text.old ++ answer_text answer.now) }
 {
     match answer {

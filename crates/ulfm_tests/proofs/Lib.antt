@@ -1,1 +1,2 @@
 pub mod Invented
+pub mod Counting

@@ -7,6 +7,7 @@ use std::test::Fail;
 use ulfm_reach::{Reach, Reached, Rows, explore};
 
 /// All that two counters reach, if that isn't more than so many states.
+#[tactic(auto, using(crate::proofs::Counting::lawful))]
 fn reached(rt: &HostRuntime, limit: usize) -> Result<Option<Reached>, Fail> {
     let system = TwoCounters { alloc: rt.alloc() };
     match explore(rt.alloc(), &system, limit)? {

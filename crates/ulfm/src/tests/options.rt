@@ -168,6 +168,10 @@ fn the_help_of_each_command_has_an_example(rt: HostRuntime) {
             "Example: ulfm run --carrier lanes --turns 1000000 --repeat 20 < jobs/one_letter.toml",
         ),
         ("sweep", "Example: ulfm sweep < jobs/recovery_of_three.toml"),
+        (
+            "outcomes",
+            "Example: ulfm outcomes --limit 100000 < jobs/one_letter.toml",
+        ),
     ] {
         let (status, kept) = reply(&rt, &["ulfm", command, "--help"], "");
         let has_example = kept.bytes[..kept.len]

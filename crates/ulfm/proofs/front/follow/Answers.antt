@@ -20,6 +20,6 @@ write_reply-status-requires g c = (known_status _ _ _ _ c.in-Ok-reply_to.ensures
 
 pub returns-in-Ok-reply_to-clause-known : goal.returns-in-Ok-reply_to-clause-known
 returns-in-Ok-reply_to-clause-known g c = elim c.write_reply-status.ensures.known [
-  | inl same ↦ subst (λ (k : ℕ). (k ≤ 6) ⊎ (k ≡ 9)) (sym same) (known_status _ _ _ _ c.in-Ok-reply_to.ensures).few
+  | inl same ↦ subst (λ (k : ℕ). (k ≤ 7) ⊎ (k ≡ 9)) (sym same) (known_status _ _ _ _ c.in-Ok-reply_to.ensures).few
   | inr four ↦ inl (omega (arith, four))
 ]

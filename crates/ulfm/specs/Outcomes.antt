@@ -1,0 +1,28 @@
+-- What `outcomes` writes for a job.
+use Rattle.std.specs.Prelude.{◌≡◌, ℕ, List, Ok, Err}
+use Rattle.ulfm_job.specs.declared.fault.JobFault.{JobFault}
+use Rattle.ulfm_job.specs.declared.fault.JobFault.TheVariants.{OutOfMemory}
+use Rattle.ulfm_job.specs.Job.{Seen}
+use Rattle.ulfm_job.specs.JobText.{job_of_bytes}
+use Rattle.ulfm_job.specs.Plan.{plan_of}
+use Rattle.ulfm_reach.specs.declared.reach.Reach.{Reach}
+use Rattle.ulfm_reach.specs.declared.reach.Reach.TheVariants.{All, More}
+use Rattle.ulfm_outcomes.specs.Outcomes.{IsList}
+use Rattle.ulfm_outcomes.specs.Text.{text_of}
+use Rattle.ulfm_replies.specs.Failure.{out_of_memory_text}
+use Rattle.ulfm_replies.specs.Replies.{refused_text}
+
+-- the status of a list: 7 where more states than the limit are reached
+abbrev pub list_status : Reach → ℕ
+list_status (All reached) = 0
+list_status More = 7
+
+-- The status and the text that `outcomes` gives for these bytes: with 0 the list of all that the steps of their job may be answered, over
+-- every schedule, and of those that may be left open for ever; with 7 the line that more states than the limit are reached; with 1 the
+-- line of the job's refusal, which may be J7; with 3 the line that memory ran out.
+pub data IsOutcomesReply (limit : ℕ) (bytes : List ℕ) : ℕ → List ℕ → Type 0 where
+  listed : (job : Seen) (reach : Reach) → job_of_bytes bytes ≡ Ok (plan_of job) → IsList job limit reach
+      → IsOutcomesReply limit bytes (list_status reach) (text_of job reach limit)
+  not_listed : (f : JobFault) → job_of_bytes bytes ≡ Err f → IsOutcomesReply limit bytes 1 (refused_text f)
+  no_memory_to_read : IsOutcomesReply limit bytes 1 (refused_text OutOfMemory)
+  unlisted : IsOutcomesReply limit bytes 3 out_of_memory_text

@@ -1,0 +1,9 @@
+use Rattle.std.proofs.Common.{rules, ap₂, codes, ◌≡◌, ◌∙◌}
+use Rattle.std.proofs.lemmas.Result.{IfOk-weaker}
+use Rattle.clap.specs.Words.{app_of, new_app, with_rule}
+use Rattle.ulfm_replies.proofs.command.outcomes_command.Goals as goal
+
+pub returns-clause-app : goal.returns-clause-app
+returns-clause-app c =
+    let about_is : app_of c.after_help.result ≡ new_app (codes "outcomes") = search rules in
+    IfOk-weaker c.arg.result _ _ (λ r h. h.shape c.number_option.ensures.local ∙ ap₂ with_rule about_is c.number_option.ensures.rule) c.arg.ensures

@@ -1,0 +1,55 @@
+//! The options of the commands.
+ghost use Rattle.std.specs.Prelude.{◌≡◌, false};
+ghost use Rattle.clap.specs.Words.{rule_of};
+ghost use Rattle.ulfm_replies.specs.Words.{carrier_rule, number_rule, strict_rule};
+
+use clap::builder::ValueParser;
+use clap::{Arg, ArgAction};
+use std::alloc::Global;
+
+/// The most turns that `--turns` can give a job.
+pub const MOST_TURNS: u32 = 10_000_000;
+
+/// The most runs that `--repeat` can ask for.
+pub const MOST_RUNS: u32 = 10_000;
+
+/// The most states that `--limit` can allow.
+pub const MOST_STATES: u32 = 100_000_000;
+
+/// The most states that are looked at where there is no `--limit`.
+pub const USUAL_STATES: u32 = 1_000_000;
+
+/// The option `--carrier`.
+pub fn carrier_option<'a>(alloc: Global) -> Arg<'a>
+    ensures rule { rule_of result ≡ carrier_rule }
+    ensures local { result.global ≡ false }
+{
+    Arg::new(alloc, "carrier")
+        .long("carrier")
+        .value_name("CARRIER")
+        .help("What takes items from rank to rank [possible values: lanes, shared]")
+        .required(true)
+}
+
+/// The flag `--strict`.
+pub fn strict_flag<'a>(alloc: Global) -> Arg<'a>
+    ensures rule { rule_of result ≡ strict_rule }
+    ensures local { result.global ≡ false }
+{
+    Arg::new(alloc, "strict")
+        .long("strict")
+        .help("Ends with status 6 in place of 0 where a step is unfinished")
+        .action(ArgAction::SetTrue)
+}
+
+/// An option whose value is a number, from 1 to the most.
+pub fn number_option<'a>(alloc: Global, name: &'a str, most: u32, help: &'a str) -> Arg<'a>
+    ensures rule { rule_of result ≡ number_rule name.entry.now most }
+    ensures local { result.global ≡ false }
+{
+    Arg::new(alloc, name)
+        .long(name)
+        .value_name("N")
+        .help(help)
+        .value_parser(ValueParser::Unsigned(1, u64::from(most)))
+}
