@@ -58,7 +58,7 @@ starved_reply Check bytes = starved
 starved_reply (Replay is_strict) bytes = failed
 starved_reply (Run options) bytes = fell
 starved_reply Sweep bytes = unswept
-starved_reply (Outcomes limit) bytes = unlisted
+starved_reply (Outcomes limit is_told) bytes = unlisted
 
 pub starved_gets : (wanted : Wanted) (most : ℕ) (rest old new : Option (List ℕ)) (status : ℕ) → (status ≢ 4 → (status ≡ 3) × Appends old new out_of_memory_text) → IsWhole status → IfSome rest (λ bytes. GetsReply (IsReplyTo wanted (take most bytes)) old new status)
 starved_gets wanted most None old new status h l = tt

@@ -64,7 +64,7 @@ IsReplyTo Check bytes status text = IsCheckReply bytes status text
 IsReplyTo (Replay is_strict) bytes status text = IsReplayReply is_strict bytes status text
 IsReplyTo (Run options) bytes status text = IsRunReply options bytes status text
 IsReplyTo Sweep bytes status text = IsSweepReply bytes status text
-IsReplyTo (Outcomes limit) bytes status text = IsOutcomesReply limit bytes status text
+IsReplyTo (Outcomes limit is_told) bytes status text = IsOutcomesReply limit bytes status text
 
 -- the status of a reply that was written whole: the output didn't fail, and neither did the input
 abbrev pub IsWhole : ℕ → Type 0

@@ -7,6 +7,7 @@ ghost use Rattle.ulfm_replies.specs.declared.command.Wanted.{Wanted};
 ghost use Rattle.ulfm_replies.specs.Words.{AsksFor, HasRanges, faults, IsWordsStatus};
 ghost use Rattle.ulfm_replies.specs.Failure.{out_of_memory_text};
 
+use crate::progress::Progress;
 use crate::reply::reply_to;
 use std::alloc::Global;
 use std::convert::AsStr;
@@ -96,7 +97,10 @@ where
         Err(InputFault::Failed) => return INPUT_FAILED,
         Err(InputFault::OutOfMemory) => return write_reply(output, RUN_FAILED, STARVED),
     };
-    match reply_to(rt, alloc, wanted, bytes.as_slice()) {
+    let mut progress = Progress::new(alloc, &mut *errors, wanted);
+    let told = reply_to(rt, alloc, wanted, bytes.as_slice(), &mut progress);
+    progress.end();
+    match told {
         Ok(reply) => {
             let status = write_reply(output, reply.status, reply.text.as_bytes());
             write_notes(alloc, wanted, bytes.as_slice(), &reply, errors);

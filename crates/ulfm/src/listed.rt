@@ -6,12 +6,17 @@ ghost use Rattle.ulfm_outcomes.specs.Text.{text_of};
 
 use std::alloc::{AllocError, Global};
 use ulfm_outcomes::{list_text, outcomes};
-use ulfm_reach::Reach;
+use ulfm_reach::{Reach, Watch};
 use ulfm_replies::{DONE, PAST_LIMIT, Reply, refusal};
 use ulfm_script::Job;
 
-/// The reply of `outcomes`, which looks at so many states at most.
-pub fn outcomes_reply(alloc: Global, limit: u32, bytes: &[u8]) -> Result<Reply, AllocError>
+/// The reply of `outcomes`, which looks at so many states at most, and tells `watch` how far it is.
+pub fn outcomes_reply<W: Watch>(
+    alloc: Global,
+    limit: u32,
+    bytes: &[u8],
+    watch: &mut W,
+) -> Result<Reply, AllocError>
     ensures { IfOk result (λ r. IsOutcomesReply limit bytes.now r.status (string_bytes r.text)) }
 {
     let job = match Job::read(alloc, bytes) {
@@ -19,7 +24,7 @@ pub fn outcomes_reply(alloc: Global, limit: u32, bytes: &[u8]) -> Result<Reply, 
         Err(fault) => return refusal(alloc, fault),
     };
     let most = limit as usize;
-    let reach = outcomes(alloc, &job, most)?;
+    let reach = outcomes(alloc, &job, most, watch)?;
     list_reply(alloc, &job, &reach, most)
 }
 

@@ -3,6 +3,7 @@
 
 mod front;
 mod listed;
+mod progress;
 mod reply;
 mod run;
 mod swept;

@@ -9,6 +9,7 @@ use crate::swept::sweep_reply;
 use std::alloc::{AllocError, Global};
 use std::sync::Wait;
 use std::thread::Threads;
+use ulfm_reach::Watch;
 use ulfm_replies::{Reply, Wanted, check_reply, refusal, trace_reply};
 use ulfm_script::Job;
 use ulfm_world::replay;
@@ -27,13 +28,17 @@ fn replay_reply(alloc: Global, is_strict: bool, bytes: &[u8]) -> Result<Reply, A
     }
 }
 
-/// The reply to what the words ask for.
-pub fn reply_to<R: Threads + Wait + Sync>(
+/// The reply to what the words ask for. `watch` is told how far a list of outcomes is.
+pub fn reply_to<R, P>(
     rt: &R,
     alloc: Global,
     wanted: Wanted,
     bytes: &[u8],
+    watch: &mut P,
 ) -> Result<Reply, AllocError>
+where
+    R: Threads + Wait + Sync,
+    P: Watch,
     requires { HasRanges wanted }
     ensures { IfOk result (λ r. IsReplyTo wanted bytes.now r.status (string_bytes r.text)) }
 {
@@ -42,6 +47,6 @@ pub fn reply_to<R: Threads + Wait + Sync>(
         Wanted::Replay { is_strict } => replay_reply(alloc, is_strict, bytes),
         Wanted::Run(options) => run_reply(rt, alloc, options, bytes),
         Wanted::Sweep => sweep_reply(alloc, bytes),
-        Wanted::Outcomes { limit } => outcomes_reply(alloc, limit, bytes),
+        Wanted::Outcomes { limit, .. } => outcomes_reply(alloc, limit, bytes, watch),
     }
 }

@@ -68,9 +68,13 @@ most_states = 100000000
 abbrev pub usual_states : ℕ
 usual_states = 1000000
 
--- the command `outcomes` with its option
+-- the flag `--progress`
+abbrev pub progress_rule : Rule
+progress_rule = record (new_rule (codes "progress")) { long = Some (codes "progress"); action = Some SetTrue }
+
+-- the command `outcomes` with its options
 abbrev pub outcomes_app : App
-outcomes_app = with_rule (new_app (codes "outcomes")) (number_rule (codes "limit") most_states)
+outcomes_app = with_rule (with_rule (new_app (codes "outcomes")) (number_rule (codes "limit") most_states)) progress_rule
 
 -- the whole command line
 abbrev pub tool_app : App
@@ -85,9 +89,17 @@ abbrev pub carrier_named : Option Text → Option Carrier
 carrier_named None = None
 carrier_named (Some name) = if bytes_eq name (codes "lanes") then Some Lanes else (if bytes_eq name (codes "shared") then Some Shared else None)
 
+-- the flag of this name was given
+abbrev pub is_flagged : Text → List Row → Bool
+is_flagged name rows = option_map_or (λ text. bytes_eq text (codes "true")) (first_of name rows) false
+
 -- the flag `--strict` was given
 abbrev pub is_strict : List Row → Bool
-is_strict rows = option_map_or (λ text. bytes_eq text (codes "true")) (first_of (codes "strict") rows) false
+is_strict rows = is_flagged (codes "strict") rows
+
+-- the flag `--progress` was given
+abbrev pub is_told : List Row → Bool
+is_told rows = is_flagged (codes "progress") rows
 
 -- the number that an option was given: the rule of the option refuses all others
 abbrev pub number_given : ℕ → Option Text → Option ℕ
@@ -108,7 +120,7 @@ limit_in rows = unwrap_or (number_given most_states (first_of (codes "limit") ro
 
 -- the command of a name, with its options
 abbrev pub named : Text → List Row → Option Wanted
-named name rows = if bytes_eq name (codes "check") then Some Check else (if bytes_eq name (codes "replay") then Some (Replay (is_strict rows)) else (if bytes_eq name (codes "run") then option_map Run (run_options rows) else (if bytes_eq name (codes "sweep") then Some Sweep else (if bytes_eq name (codes "outcomes") then Some (Outcomes (limit_in rows)) else None))))
+named name rows = if bytes_eq name (codes "check") then Some Check else (if bytes_eq name (codes "replay") then Some (Replay (is_strict rows)) else (if bytes_eq name (codes "run") then option_map Run (run_options rows) else (if bytes_eq name (codes "sweep") then Some Sweep else (if bytes_eq name (codes "outcomes") then Some (Outcomes (limit_in rows) (is_told rows)) else None))))
 
 -- what a subcommand and its options mean
 abbrev pub meant : Option (Text × List Row) → Option Wanted
@@ -140,7 +152,7 @@ IsLimit limit = (0 < limit) × (limit ≤ most_states)
 -- the numbers of what the words ask for are in their ranges
 abbrev pub HasRanges : Wanted → Type 0
 HasRanges (Run options) = AreInRange options
-HasRanges (Outcomes limit) = IsLimit limit
+HasRanges (Outcomes limit is_told) = IsLimit limit
 HasRanges _ = ⊤
 
 -- the status of a kind of fault: help is no failure

@@ -2,12 +2,13 @@
 ghost use Rattle.std.specs.Prelude.{◌≡◌, false, Some, map, option_map, IfOk, IfSome};
 ghost use Rattle.clap.specs.declared.builder.command.Command.TheViews.{out-Command};
 ghost use Rattle.clap.specs.Words.{FailsBy, app_of, first_of, found_of, kind_of, rows_of, rule_of, subcommand_rows_of, with_subcommand};
-ghost use Rattle.ulfm_replies.specs.Words.{AreInRange, HasRanges, asked, carrier_named, IsLimit, check_app, demanding_app, faults, is_strict, limit_in, meant, named, outcomes_app, replay_app, run_app, run_options, sweep_app, tool_app};
+ghost use Rattle.ulfm_replies.specs.Words.{AreInRange, HasRanges, asked, carrier_named, IsLimit, check_app, demanding_app, faults, is_flagged, is_strict, is_told, limit_in, meant, named, outcomes_app, replay_app, run_app, run_options, sweep_app, tool_app};
 
 use crate::help::HELP;
 use crate::number::number_given;
 use crate::options::{
-    MOST_RUNS, MOST_STATES, MOST_TURNS, USUAL_STATES, carrier_option, number_option, strict_flag,
+    MOST_RUNS, MOST_STATES, MOST_TURNS, USUAL_STATES, carrier_option, number_option, progress_flag,
+    strict_flag,
 };
 use clap::error::ErrorKind;
 use clap::{ArgMatches, Command, Error};
@@ -54,6 +55,8 @@ pub enum Wanted {
     Outcomes {
         /// The most states that are looked at, 1 to 100,000,000.
         limit: u32,
+        /// Whether standard error tells how far it is.
+        is_told: bool,
     },
 }
 
@@ -173,12 +176,12 @@ fn sweep_command<'a>(alloc: Global) -> Command<'a>
         .after_help("Example: ulfm sweep < jobs/recovery_of_three.toml")
 }
 
-/// The command `outcomes` with its option.
+/// The command `outcomes` with its options.
 fn outcomes_command<'a>(alloc: Global) -> Result<Command<'a>, AllocError>
     ensures app { IfOk result (λ command. app_of command ≡ outcomes_app) }
     ensures local { IfOk result (λ command. (out-Command command).has_globals ≡ false) }
 {
-    Command::new(alloc, "outcomes")
+    let command = Command::new(alloc, "outcomes")
         .about(
             "Lists what each step of the job on standard input may be answered, over every schedule",
         )
@@ -188,7 +191,8 @@ fn outcomes_command<'a>(alloc: Global) -> Result<Command<'a>, AllocError>
             "limit",
             MOST_STATES,
             "Gives up past so many states [1 to 100000000; 1000000 if left out]",
-        ))
+        ))?;
+    command.arg(progress_flag(alloc))
 }
 
 /// What the words ask for, by what was found in them.
@@ -217,6 +221,7 @@ fn named(name: &str, options: &ArgMatches<'_>) -> Option<Wanted>
         "sweep" => Some(Wanted::Sweep),
         "outcomes" => Some(Wanted::Outcomes {
             limit: limit_in(options),
+            is_told: is_told(options),
         }),
         _ => None,
     }
@@ -268,7 +273,21 @@ fn carrier_named(name: Option<&str>) -> Option<Carrier>
 fn is_strict(options: &ArgMatches<'_>) -> bool
     ensures { result ≡ is_strict (rows_of (found_of options.now)) }
 {
-    match value_of(options, "strict") {
+    is_flagged(options, "strict")
+}
+
+/// Whether the flag `--progress` was given.
+fn is_told(options: &ArgMatches<'_>) -> bool
+    ensures { result ≡ is_told (rows_of (found_of options.now)) }
+{
+    is_flagged(options, "progress")
+}
+
+/// Whether a flag was given, by its name.
+fn is_flagged(options: &ArgMatches<'_>, name: &str) -> bool
+    ensures { result ≡ is_flagged name.now (rows_of (found_of options.now)) }
+{
+    match value_of(options, name) {
         Some(text) => text == "true",
         None => false,
     }

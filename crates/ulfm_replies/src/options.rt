@@ -1,7 +1,7 @@
 //! The options of the commands.
 ghost use Rattle.std.specs.Prelude.{◌≡◌, false};
 ghost use Rattle.clap.specs.Words.{rule_of};
-ghost use Rattle.ulfm_replies.specs.Words.{carrier_rule, number_rule, strict_rule};
+ghost use Rattle.ulfm_replies.specs.Words.{carrier_rule, number_rule, progress_rule, strict_rule};
 
 use clap::builder::ValueParser;
 use clap::{Arg, ArgAction};
@@ -39,6 +39,17 @@ pub fn strict_flag<'a>(alloc: Global) -> Arg<'a>
     Arg::new(alloc, "strict")
         .long("strict")
         .help("Ends with status 6 in place of 0 where a step is unfinished")
+        .action(ArgAction::SetTrue)
+}
+
+/// The flag `--progress`.
+pub fn progress_flag<'a>(alloc: Global) -> Arg<'a>
+    ensures rule { rule_of result ≡ progress_rule }
+    ensures local { result.global ≡ false }
+{
+    Arg::new(alloc, "progress")
+        .long("progress")
+        .help("Tells standard error how far it is, as ./ulfm asks where that is a terminal")
         .action(ArgAction::SetTrue)
 }
 

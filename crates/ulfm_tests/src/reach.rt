@@ -4,16 +4,39 @@ mod counters;
 
 use crate::reach::counters::TwoCounters;
 use std::test::Fail;
-use ulfm_reach::{Reach, Reached, Rows, explore};
+use ulfm_reach::{Reach, Reached, Rows, Watch, explore};
+
+/// What was told last.
+struct Told {
+    looked_at: usize,
+    found: usize,
+}
+
+impl Watch for Told {
+    fn see(&mut self, looked_at: usize, found: usize) {
+        self.looked_at = looked_at;
+        self.found = found;
+    }
+}
+
+/// All that two counters reach, if that isn't more than so many states, and how many states were told of last.
+#[tactic(auto, using(crate::proofs::Counting::lawful))]
+fn explored(rt: &HostRuntime, limit: usize) -> Result<(Option<Reached>, Told), Fail> {
+    let system = TwoCounters { alloc: rt.alloc() };
+    let mut told = Told {
+        looked_at: 0,
+        found: 0,
+    };
+    match explore(rt.alloc(), &system, limit, &mut told)? {
+        Reach::All(reached) => Ok((Some(reached), told)),
+        Reach::More => Ok((None, told)),
+    }
+}
 
 /// All that two counters reach, if that isn't more than so many states.
-#[tactic(auto, using(crate::proofs::Counting::lawful))]
 fn reached(rt: &HostRuntime, limit: usize) -> Result<Option<Reached>, Fail> {
-    let system = TwoCounters { alloc: rt.alloc() };
-    match explore(rt.alloc(), &system, limit)? {
-        Reach::All(reached) => Ok(Some(reached)),
-        Reach::More => Ok(None),
-    }
+    let (reached, _) = explored(rt, limit)?;
+    Ok(reached)
 }
 
 /// Whether the first row is this one.
@@ -39,6 +62,14 @@ fn twelve_events_and_one_final_state(rt: HostRuntime) -> Result<(), Fail> {
     assert!(rt; reached.found.contains(&[1, 0, 1]));
     assert!(rt; !reached.found.contains(&[1, 0, 0]));
     assert!(rt; reached.found.contains(&[9]));
+    Ok(())
+}
+
+#[test]
+fn each_state_is_told_of(rt: HostRuntime) -> Result<(), Fail> {
+    let (_, told) = explored(&rt, 9)?;
+    assert_eq!(rt; told.looked_at, 9);
+    assert_eq!(rt; told.found, 9);
     Ok(())
 }
 

@@ -6,4 +6,5 @@ use Rattle.ulfm_replies.proofs.command.outcomes_command.Goals as goal
 pub returns-clause-app : goal.returns-clause-app
 returns-clause-app c =
     let about_is : app_of c.after_help.result ≡ new_app (codes "outcomes") = search rules in
-    IfOk-weaker c.arg.result _ _ (λ r h. h.shape c.number_option.ensures.local ∙ ap₂ with_rule about_is c.number_option.ensures.rule) c.arg.ensures
+    let first = c.in_ok-command.ensures.shape c.number_option.ensures.local ∙ ap₂ with_rule about_is c.number_option.ensures.rule in
+    IfOk-weaker c.arg-2.result _ _ (λ r h. h.shape c.progress_flag.ensures.local ∙ ap₂ with_rule first c.progress_flag.ensures.rule) c.arg-2.ensures
