@@ -19,6 +19,18 @@ const HANG: &str =
 const LOST: &str =
     "ranks = 2\ncapacity = 1\nturns = 3\nstep = [\n{rank = 0, op = \"send\", to = 1, tag = 0, body = \"\"},\n{rank = 0, op = \"stop\"},\n{rank = 1, op = \"recv\", from = 0},\n{rank = 1, op = \"wait\", req = 0, name = \"end\"},\n{rank = 1, op = \"revoke\", if = {step = \"end\", is = [\"over\"]}},\n]\n";
 
+/// A duplicate, a probe with its receive, an agreement, an acknowledgement and a cancel.
+const EACH_CALL: &str =
+    "ranks = 2\ncapacity = 2\nturns = 9\nstep = [\n{rank = 0, op = \"dup\"},\n{rank = 0, op = \"send\", to = 1, tag = 4, body = \"hi\", comm = 1},\n{rank = 0, op = \"agree\", flag = 6},\n{rank = 0, op = \"recv\"},\n{rank = 0, op = \"wait\", req = 3},\n{rank = 0, op = \"failed\"},\n{rank = 0, op = \"ack\", count = 1},\n{rank = 0, op = \"cancel\", req = 3},\n{rank = 1, op = \"dup\"},\n{rank = 1, op = \"probe\", comm = 1},\n{rank = 1, op = \"mrecv\", req = 1},\n{rank = 1, op = \"agree\", flag = 3},\n{rank = 1, op = \"stop\"},\n]\n";
+
+/// On rings of one place rank 1 may get the letter of rank 2 first, though rank 0 stopped before it was sent.
+const SMALL_RINGS: &str =
+    "ranks = 3\ncapacity = 1\nturns = 9\nstep = [\n{rank = 0, op = \"send\", to = 1, tag = 0, body = \"a\"},\n{rank = 0, op = \"stop\"},\n{rank = 1, op = \"recv\"},\n{rank = 1, op = \"recv\"},\n{rank = 1, op = \"wait\", req = 0},\n{rank = 1, op = \"wait\", req = 1},\n{rank = 2, op = \"recv\", from = 0},\n{rank = 2, op = \"wait\", req = 0},\n{rank = 2, op = \"send\", to = 1, tag = 0, body = \"b\"},\n]\n";
+
+/// A recovery by revoke and shrink.
+const RECOVERY: &str =
+    "ranks = 3\ncapacity = 4\nturns = 20\nstep = [\n    { rank = 0, op = \"recv\", from = 1, tag = 7 },\n    { rank = 0, op = \"wait\", req = 0 },\n    { rank = 0, op = \"shrink\" },\n    { rank = 0, op = \"recv\", from = 1, tag = 7, comm = 2 },\n    { rank = 0, op = \"wait\", req = 3 },\n    { rank = 1, op = \"recv\", from = 2, tag = 7 },\n    { rank = 1, op = \"wait\", req = 0 },\n    { rank = 1, op = \"revoke\" },\n    { rank = 1, op = \"shrink\" },\n    { rank = 1, op = \"send\", to = 0, tag = 7, comm = 2, body = \"on\" },\n    { rank = 2, op = \"stop\" },\n]\n";
+
 /// A command line with its job, and the status, the beginning and the end of the text that it gives.
 #[derive(Clone, Copy)]
 struct Case {
@@ -29,7 +41,7 @@ struct Case {
     ends: &'static str,
 }
 
-const CASES: [Case; 7] = [
+const CASES: [Case; 10] = [
     Case {
         words: "outcomes",
         job: ONE_LETTER,
@@ -71,6 +83,60 @@ const CASES: [Case; 7] = [
 1 0 recv 0 tag any comm 0: posted
 1 1 wait 0: done from 0 tag 0 - | over 5 ProcFailed
 1 2 revoke comm 0: revoked | skipped
+",
+        ends: " states, every step ends in every schedule\n",
+    },
+    Case {
+        words: "outcomes",
+        job: EACH_CALL,
+        status: 0,
+        begins: "0 0 dup comm 0: comm 1
+0 1 send 1 tag 4 comm 1: sent
+0 2 agree 6 comm 0: agreed 2 without []
+0 3 recv any tag any comm 0: posted
+0 4 wait 3: pending
+0 5 failed comm 0: ranks [1]
+0 6 ack 1 comm 0: acked 1
+0 7 cancel 3: cancelled
+1 0 dup comm 0: comm 1
+1 1 probe any tag any comm 1: found from 0 tag 4 length 2
+1 2 mrecv 1: done from 0 tag 4 6869
+1 3 agree 3 comm 0: agreed 2 without []
+1 4 stop: stopped
+",
+        ends: " states, every step ends in every schedule\n",
+    },
+    Case {
+        words: "outcomes",
+        job: SMALL_RINGS,
+        status: 0,
+        begins: "0 0 send 1 tag 0 comm 0: sent
+0 1 stop: stopped
+1 0 recv any tag any comm 0: posted
+1 1 recv any tag any comm 0: posted
+1 2 wait 0: done from 0 tag 0 61 | done from 2 tag 0 62 | pending
+1 3 wait 1: done from 0 tag 0 61 | done from 2 tag 0 62 | pending
+2 0 recv 0 tag any comm 0: posted
+2 1 wait 0: over 5 ProcFailed
+2 2 send 1 tag 0 comm 0: sent
+",
+        ends: " states, every step ends in every schedule\n",
+    },
+    Case {
+        words: "outcomes",
+        job: RECOVERY,
+        status: 0,
+        begins: "0 0 recv 1 tag 7 comm 0: posted | refused 6 Revoked
+0 1 wait 0: over 6 Revoked | refused 7 NoRequest
+0 2 shrink comm 0: comm 2 ranks [0 1] me 0
+0 3 recv 1 tag 7 comm 2: posted
+0 4 wait 3: done from 1 tag 7 6f6e
+1 0 recv 2 tag 7 comm 0: posted
+1 1 wait 0: over 5 ProcFailed
+1 2 revoke comm 0: revoked
+1 3 shrink comm 0: comm 2 ranks [0 1] me 1
+1 4 send 0 tag 7 comm 2: sent
+2 0 stop: stopped
 ",
         ends: " states, every step ends in every schedule\n",
     },
