@@ -40,7 +40,7 @@ fn reached(rt: &HostRuntime, limit: usize) -> Result<Option<Reached>, Fail> {
 }
 
 /// Whether the first row is this one.
-fn begins_with(rows: &Rows, row: &[u32]) -> bool {
+fn begins_with(rows: &Rows, row: &[u8]) -> bool {
     rows.row(0) == Some(row)
 }
 
