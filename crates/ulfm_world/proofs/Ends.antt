@@ -28,7 +28,7 @@ came-moves j v w a h k = record {
 }
 
 -- an empty inbox has all its places
-taken-none : (room : Room) (s : ℕ) → taken_places room s [] ≡ 0
+pub taken-none : (room : Room) (s : ℕ) → taken_places room s [] ≡ 0
 taken-none (PerInbox n) s = refl
 taken-none (PerPair n) s = refl
 
