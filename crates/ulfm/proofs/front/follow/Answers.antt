@@ -16,10 +16,10 @@ pub returns-clause-cut_off : goal.returns-clause-cut_off
 returns-clause-cut_off g c = starved_begins c.args.wanted 1048577 _ _ _ _ c.write_reply-in-Err.ensures.failed
 
 pub write_reply-status-requires : goal.write_reply-status-requires
-write_reply-status-requires g c = (known_status _ _ _ _ c.in-Ok-reply_to.ensures).whole
+write_reply-status-requires g c = (known_status _ _ _ _ c.in-Ok-told.ensures).whole
 
-pub returns-in-Ok-reply_to-clause-known : goal.returns-in-Ok-reply_to-clause-known
-returns-in-Ok-reply_to-clause-known g c = elim c.write_reply-status.ensures.known [
-  | inl same ↦ subst (λ (k : ℕ). (k ≤ 7) ⊎ (k ≡ 9)) (sym same) (known_status _ _ _ _ c.in-Ok-reply_to.ensures).few
+pub returns-in-Ok-told-clause-known : goal.returns-in-Ok-told-clause-known
+returns-in-Ok-told-clause-known g c = elim c.write_reply-status.ensures.known [
+  | inl same ↦ subst (λ (k : ℕ). (k ≤ 7) ⊎ (k ≡ 9)) (sym same) (known_status _ _ _ _ c.in-Ok-told.ensures).few
   | inr four ↦ inl (omega (arith, four))
 ]

@@ -4,7 +4,7 @@ use Rattle.ulfm.proofs.Unlisted.{list_refused}
 use Rattle.ulfm.proofs.listed.outcomes_reply.Goals as goal
 
 pub returns-in-Err : goal.returns-in-Err
-returns-in-Err c = IfOk-weaker c.refusal.result _ _ (λ r h. rw (h.0, h.1) (list_refused c.in-Err.fault _ c.in-Err.ensures)) c.refusal.ensures
+returns-in-Err g c = IfOk-weaker c.refusal.result _ _ (λ r h. rw (h.0, h.1) (list_refused c.in-Err.fault _ c.in-Err.ensures)) c.refusal.ensures
 
 pub returns : goal.returns
-returns c = IfOk-weaker c.list_reply.result _ _ (λ r h. rw (h.0, h.1) (listed c.in-Ok.job c.in_ok-reach.reach c.in-Ok.ensures c.in_ok-reach.ensures)) c.list_reply.ensures
+returns g c = IfOk-weaker c.list_reply.result _ _ (λ r h. rw (h.0, h.1) (listed c.in-Ok.job c.in_ok-reach.reach c.in-Ok.ensures c.in_ok-reach.ensures)) c.list_reply.ensures
