@@ -4,6 +4,7 @@ pub use Rattle.std.proofs.lemmas.Bool.Decides.{nat_tests}
 pub use Rattle.std.proofs.lemmas.List.Elements.{Contains-append_cases, Contains-append_left, Contains-append_right, Contains-push, Contains-push_cases}
 pub use Rattle.std.proofs.lemmas.Option.{slice_get_within}
 pub use Rattle.ulfm_base.specs.Pattern.{Admits, AdmitsSource, AdmitsTag, names}
+pub use Rattle.ulfm_base.specs.declared.envelope.Envelope.{Envelope}
 pub use Rattle.ulfm_base.specs.declared.envelope.Letter.{Letter}
 pub use Rattle.ulfm_base.specs.declared.pattern.Pattern.{Pattern}
 pub use Rattle.ulfm_match.specs.Calls.{ArrivalGoesTo, EndsNamed, PostGets}
@@ -11,7 +12,7 @@ pub use Rattle.ulfm_match.specs.History.{Clear, Come, ComeAt, End, Event, IsLive
 pub use Rattle.ulfm_match.specs.Pairing.{IsKept, IsMatch, IsWaiting, LawfulPairing, Pairing, Pairs, pairs_below}
 pub use Rattle.ulfm_match.specs.State.{IsAscending, IsUncleared, Keeps, Lists, Matching, Tracks, is_cleared}
 pub use Rattle.ulfm_match.specs.inside.Buckets.{Buckets, Entries, FindsLeast, Grows, IsIndexed, IsLesser, NonePass, Passes, Rises, Sweeps, SweepsFor, TakesEarliest, TakesOut, numbers_at, numbers_of}
-pub use Rattle.ulfm_match.specs.inside.Key.{IsKeyOf, IsKeyOfReceive, key_at, key_number, key_of, source_at, source_of, tag_at, tag_of}
+pub use Rattle.ulfm_match.specs.inside.Key.{IsKeyAt, IsKeyOf, IsKeyOfReceive, key_at, key_number, key_of, source_at, source_of, tag_at, tag_of}
 pub use Rattle.ulfm_match.specs.inside.Order.{in_order, place}
 pub use Rattle.ulfm_match.specs.inside.Pools.{FindsFirst, HasPlace, IsFirstAt, IsPool, IsWhole, NoneOf, TakesFirst, TakesLeast, all_of, few}
 pub use Rattle.ulfm_match.specs.declared.pool.Pool.{Pool}

@@ -77,6 +77,7 @@ pub(crate) fn forget_gone<X>(buckets: &mut Buckets, live: &IndexMap<u64, X>)
 }
 
 /// Notes that a letter went, which had this number.
+#[inline(never)]
 pub(crate) fn forget_letter<X>(
     buckets: &mut Buckets,
     envelope: &Envelope,

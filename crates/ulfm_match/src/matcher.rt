@@ -120,7 +120,8 @@ impl Matcher {
     {
         let number = self.count;
         self.count += 1;
-        match take_letter(&mut self.kept, &pattern) {
+        let asked = pattern;
+        match take_letter(&mut self.kept, &asked) {
             Some(letter) => (RequestId { number }, Some(letter)),
             None => {
                 let ready = add(&mut self.waiting, number, pattern);
@@ -165,7 +166,8 @@ impl Matcher {
     {
         let number = self.count;
         self.count += 1;
-        match take_receive(&mut self.waiting, &letter) {
+        let envelope = letter.envelope;
+        match take_receive(&mut self.waiting, &envelope) {
             Some(request) => Arrived::Paired(RequestId { number: request }, letter),
             None => {
                 let ready = add(&mut self.kept, number, letter);

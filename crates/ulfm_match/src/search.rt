@@ -7,7 +7,7 @@ use crate::buckets::Buckets;
 use crate::key::{key_at, key_of};
 use indexmap::IndexMap;
 use std::collections::VecDeque;
-use ulfm_base::{Letter, Pattern};
+use ulfm_base::{Envelope, Letter, Pattern};
 
 /// Whether the letter of a number is there, and the pattern admits it.
 fn is_admitted(kept: &IndexMap<u64, Letter>, number: u64, pattern: &Pattern) -> bool
@@ -19,12 +19,12 @@ fn is_admitted(kept: &IndexMap<u64, Letter>, number: u64, pattern: &Pattern) -> 
     }
 }
 
-/// Whether the receive of a number is there, and admits the letter.
-fn admits(waiting: &IndexMap<u64, Pattern>, number: u64, letter: &Letter) -> bool
-    ensures { IsTrue result ↔ Passes (MayGoTo letter.now) waiting.now number }
+/// Whether the receive of a number is there, and admits the envelope.
+fn admits(waiting: &IndexMap<u64, Pattern>, number: u64, envelope: &Envelope) -> bool
+    ensures { IsTrue result ↔ Passes (MayGoTo envelope.now) waiting.now number }
 {
     match waiting.get(&number) {
-        Some(pattern) => pattern.admits(&letter.envelope),
+        Some(pattern) => pattern.admits(envelope),
         None => false,
     }
 }
@@ -47,18 +47,18 @@ fn first_letter(
     None
 }
 
-/// The first of some numbers whose receive admits the letter.
+/// The first of some numbers whose receive admits the envelope.
 fn first_receive(
     numbers: &VecDeque<u64>,
     waiting: &IndexMap<u64, Pattern>,
-    letter: &Letter,
+    envelope: &Envelope,
 ) -> Option<u64>
     requires { Rises numbers.now.items }
-    ensures { FindsLeast (Contains numbers.now.items) (Passes (MayGoTo letter.now) waiting.now) result }
+    ensures { FindsLeast (Contains numbers.now.items) (Passes (MayGoTo envelope.now) waiting.now) result }
 {
     for k in 0..numbers.len() {
         let number = numbers[k];
-        if admits(waiting, number, letter) {
+        if admits(waiting, number, envelope) {
             return Some(number);
         }
     }
@@ -66,6 +66,7 @@ fn first_receive(
 }
 
 /// The earliest letter in the bucket of a pattern that it admits.
+#[inline(never)]
 pub(crate) fn first_kept(
     buckets: &Buckets,
     kept: &IndexMap<u64, Letter>,
@@ -85,25 +86,25 @@ pub(crate) fn first_kept(
     first_letter(&bucket.rest, kept, pattern)
 }
 
-/// The earliest waiting receive of a key that admits the letter.
+/// The earliest waiting receive of a key that admits the envelope.
 fn first_of_key(
     buckets: &Buckets,
     waiting: &IndexMap<u64, Pattern>,
     key: u64,
-    letter: &Letter,
+    envelope: &Envelope,
 ) -> Option<u64>
     requires { Rises (numbers_at buckets.now key) }
-    ensures { FindsLeast (Contains (numbers_at buckets.now key)) (Passes (MayGoTo letter.now) waiting.now) result }
+    ensures { FindsLeast (Contains (numbers_at buckets.now key)) (Passes (MayGoTo envelope.now) waiting.now) result }
 {
     let Some(bucket) = buckets.get(&key) else {
         return None;
     };
     if let Some(first) = bucket.first {
-        if admits(waiting, first, letter) {
+        if admits(waiting, first, envelope) {
             return Some(first);
         }
     }
-    first_receive(&bucket.rest, waiting, letter)
+    first_receive(&bucket.rest, waiting, envelope)
 }
 
 /// The lesser of two numbers, where there are two.
@@ -117,19 +118,19 @@ fn lesser(one: Option<u64>, other: Option<u64>) -> Option<u64>
     }
 }
 
-/// The earliest waiting receive that admits the letter.
+/// The earliest waiting receive that admits the envelope.
+#[inline(never)]
 pub(crate) fn first_waiting(
     buckets: &Buckets,
     waiting: &IndexMap<u64, Pattern>,
-    letter: &Letter,
+    envelope: &Envelope,
 ) -> Option<u64>
     requires { (k : ℕ) → Rises (numbers_at buckets.now k) }
-    ensures { FindsLeast (StandsFor letter.now buckets.now) (Passes (MayGoTo letter.now) waiting.now) result }
+    ensures { FindsLeast (StandsFor envelope.now buckets.now) (Passes (MayGoTo envelope.now) waiting.now) result }
 {
-    let envelope = &letter.envelope;
-    let named = first_of_key(buckets, waiting, key_at(envelope, false, false), letter);
-    let named_any = first_of_key(buckets, waiting, key_at(envelope, false, true), letter);
-    let any_named = first_of_key(buckets, waiting, key_at(envelope, true, false), letter);
-    let any = first_of_key(buckets, waiting, key_at(envelope, true, true), letter);
+    let named = first_of_key(buckets, waiting, key_at(envelope, false, false), envelope);
+    let named_any = first_of_key(buckets, waiting, key_at(envelope, false, true), envelope);
+    let any_named = first_of_key(buckets, waiting, key_at(envelope, true, false), envelope);
+    let any = first_of_key(buckets, waiting, key_at(envelope, true, true), envelope);
     lesser(lesser(named, named_any), lesser(any_named, any))
 }

@@ -38,11 +38,15 @@ tag_at any_tag tag = cond any_tag 32768 tag.number
 abbrev pub key_at : Bool → Bool → Envelope → ℕ
 key_at any_source any_tag envelope = key_number envelope.context.number (source_at any_source envelope.source) (tag_at any_tag envelope.tag)
 
--- a kept letter stands in the buckets of four keys
-pub record IsKeyOf (letter : Letter) (k : ℕ) : Type 0 where
+-- receives that admit the envelope have one of four keys
+pub record IsKeyAt (envelope : Envelope) (k : ℕ) : Type 0 where
   pub any_source : Bool
   pub any_tag : Bool
-  pub is : k ≡ key_at any_source any_tag letter.envelope
+  pub is : k ≡ key_at any_source any_tag envelope
+
+-- a kept letter stands in the buckets of these
+abbrev pub IsKeyOf : Letter → ℕ → Type 0
+IsKeyOf letter k = IsKeyAt letter.envelope k
 
 -- a receive that waits stands in the bucket of its own
 abbrev pub IsKeyOfReceive : Pattern → ℕ → Type 0

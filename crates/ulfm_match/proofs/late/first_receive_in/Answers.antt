@@ -6,13 +6,13 @@ use Rattle.ulfm_match.proofs.late.first_receive_in.Goals as goal
 
 pub returns-then-admits : goal.returns-then-admits
 returns-then-admits c =
-    first_at (λ (y : ℕ × Pattern). Admits y.1 c.args.letter.now.envelope) c.args.receives.now c.loop-k.k c.index-receives-k.result (omega (arith, c.loop-k-test.true)) c.index-receives-k.is c.loop-k.invariant
-    (subst (λ (y : ℕ × Pattern). Admits y.1 c.args.letter.now.envelope) (sym c.index-receives-k.is) (c.admits.ensures.0 c.if-admits.true))
+    first_at (λ (y : ℕ × Pattern). Admits y.1 c.args.envelope.now) c.args.receives.now c.loop-k.k c.index-receives-k.result (omega (arith, c.loop-k-test.true)) c.index-receives-k.is c.loop-k.invariant
+    (subst (λ (y : ℕ × Pattern). Admits y.1 c.args.envelope.now) (sym c.index-receives-k.is) (c.admits.ensures.0 c.if-admits.true))
 
 pub loop-k-preserved : goal.loop-k-preserved
 loop-k-preserved c =
-    none_more (λ (y : ℕ × Pattern). Admits y.1 c.args.letter.now.envelope) c.args.receives.now c.loop-k.k c.index-receives-k.result (omega (arith, c.loop-k-test.true)) c.index-receives-k.is c.loop-k.invariant
-    (λ p. let t = c.admits.ensures.1 (subst (λ (y : ℕ × Pattern). Admits y.1 c.args.letter.now.envelope) c.index-receives-k.is p) in let u = c.if-admits.false in cc)
+    none_more (λ (y : ℕ × Pattern). Admits y.1 c.args.envelope.now) c.args.receives.now c.loop-k.k c.index-receives-k.result (omega (arith, c.loop-k-test.true)) c.index-receives-k.is c.loop-k.invariant
+    (λ p. let t = c.admits.ensures.1 (subst (λ (y : ℕ × Pattern). Admits y.1 c.args.envelope.now) c.index-receives-k.is p) in let u = c.if-admits.false in cc)
 
 pub returns : goal.returns
-returns c = none_all (λ (y : ℕ × Pattern). Admits y.1 c.args.letter.now.envelope) c.args.receives.now c.loop-k.k (omega (arith, c.loop-k-test.false)) c.loop-k.invariant
+returns c = none_all (λ (y : ℕ × Pattern). Admits y.1 c.args.envelope.now) c.args.receives.now c.loop-k.k (omega (arith, c.loop-k-test.false)) c.loop-k.invariant

@@ -3,4 +3,4 @@ use Rattle.ulfm_match.proofs.Common.{Pattern, Admits, NoneOf}
 use Rattle.ulfm_match.proofs.late.first_receive_in.Given as goal
 
 abbrev pub invariant-loop-k : goal.invariant-loop-k
-invariant-loop-k l = NoneOf (λ (y : ℕ × Pattern). Admits y.1 l.letter.envelope) (take l.k l.receives)
+invariant-loop-k l = NoneOf (λ (y : ℕ × Pattern). Admits y.1 l.envelope) (take l.k l.receives)
