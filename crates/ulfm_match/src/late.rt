@@ -1,110 +1,53 @@
 //! The entries that came last, in a short list.
-ghost use Rattle.std.specs.Prelude.{◌≡◌, ◌≤◌, ◌==◌, ◌+◌, ◌*◌, ◌↔◌, ℕ, Some, Contains, IsTrue, IfNone, MatchOption, filter, not};
+ghost use Rattle.std.specs.Prelude.{◌≡◌, ◌≤◌, ◌==◌, ◌+◌, ◌↔◌, ℕ, Contains, IsTrue, IfNone, MatchOption, filter, not, take, length, false};
 ghost use Rattle.std.specs.VecDeque.{deque_len, deque_capacity};
 ghost use Rattle.ulfm_base.specs.Pattern.{Admits, names};
-ghost use Rattle.ulfm_base.specs.declared.pattern.Source.TheVariants.{One};
+ghost use Rattle.ulfm_base.specs.declared.envelope.Envelope.{Envelope};
 ghost use Rattle.ulfm_match.specs.inside.Buckets.{MayGet, MayGoTo};
+ghost use Rattle.ulfm_match.specs.inside.Glance.{Suits};
 ghost use Rattle.ulfm_match.specs.inside.Pools.{FindsFirst, NoneOf, TakesFirst};
 
+use crate::glance::{Glance, word};
 use std::collections::VecDeque;
-use ulfm_base::{Context, Envelope, Letter, Pattern, Source, Tag, WorldRank};
+use ulfm_base::{Context, Envelope, Letter, Pattern, Source, WorldRank};
 
-/// A context, a source and a tag in one word.
-fn word(context: u8, source: u8, tag: u16) -> u32
-    ensures { result ≡ context + source * 256 + tag * 65536 }
+/// How many letters from the front are passed over, four at a time, since none of them has what is looked for.
+#[inline(always)]
+fn pass_over(letters: &[(u64, Letter)], glance: Glance) -> usize
+    ensures within { result ≤ length letters.now }
+    ensures none { NoneOf (λ (y : ℕ × Letter). Suits glance y.1.envelope) (take result letters.now) }
 {
-    u32::from(context) + u32::from(source) * 256 + u32::from(tag) * 65536
-}
-
-/// Whether the pattern admits the envelope. It's called for those alone of which a glance doesn't tell that it doesn't.
-#[inline(never)]
-fn admits_seen(pattern: &Pattern, envelope: &Envelope) -> bool
-    ensures { IsTrue result ↔ Admits pattern.now envelope.now }
-{
-    pattern.admits(envelope)
-}
-
-/// Whether the pattern, which asks for this source and this tag, admits the envelope. One comparison tells it of all that it
-/// doesn't admit.
-fn admits_named(pattern: &Pattern, rank: WorldRank, tag: Tag, envelope: &Envelope) -> bool
-    requires { (pattern.now.source ≡ One rank) × (pattern.now.tag ≡ Some tag) }
-    ensures { IsTrue result ↔ Admits pattern.now envelope.now }
-{
-    let asked = word(pattern.context.number, rank.number, tag.number);
-    let found = word(
-        envelope.context.number,
-        envelope.source.number,
-        envelope.tag.number,
-    );
-    if found != asked {
-        return false;
-    }
-    admits_seen(pattern, envelope)
-}
-
-/// Whether the pattern, which asks for this tag, admits the envelope. The tag tells it of most that it doesn't admit.
-fn admits_tagged(pattern: &Pattern, tag: Tag, envelope: &Envelope) -> bool
-    requires { pattern.now.tag ≡ Some tag }
-    ensures { IsTrue result ↔ Admits pattern.now envelope.now }
-{
-    if envelope.tag.number != tag.number {
-        return false;
-    }
-    admits_seen(pattern, envelope)
-}
-
-/// Whether the pattern, which asks for this source, admits the envelope. The source tells it of most that it doesn't admit.
-fn admits_from(pattern: &Pattern, rank: WorldRank, envelope: &Envelope) -> bool
-    requires { pattern.now.source ≡ One rank }
-    ensures { IsTrue result ↔ Admits pattern.now envelope.now }
-{
-    if envelope.source.number != rank.number {
-        return false;
-    }
-    admits_seen(pattern, envelope)
-}
-
-/// Where the first letter of some stands that the pattern admits, which asks for this source and this tag.
-#[inline(never)]
-fn first_named(
-    letters: &[(u64, Letter)],
-    pattern: &Pattern,
-    rank: WorldRank,
-    tag: Tag,
-) -> Option<usize>
-    requires { (pattern.now.source ≡ One rank) × (pattern.now.tag ≡ Some tag) }
-    ensures { FindsFirst (λ (y : ℕ × Letter). MayGet pattern.now y.1) letters.now result }
-{
-    for k in 0..letters.len() {
-        if admits_named(pattern, rank, tag, &letters[k].1.envelope) {
-            return Some(k);
+    let fours = letters.len() / 4;
+    for i in 0..fours {
+        if is_among_four(letters, i * 4, glance) {
+            return i * 4;
         }
     }
-    None
+    fours * 4
 }
 
-/// Where the first letter of some stands that the pattern admits, which asks for this tag.
-#[inline(never)]
-fn first_tagged(letters: &[(u64, Letter)], pattern: &Pattern, tag: Tag) -> Option<usize>
-    requires { pattern.now.tag ≡ Some tag }
-    ensures { FindsFirst (λ (y : ℕ × Letter). MayGet pattern.now y.1) letters.now result }
+/// Whether one of four letters has what is looked for, the first of which stands here.
+#[inline(always)]
+fn is_among_four(letters: &[(u64, Letter)], start: usize, glance: Glance) -> bool
+    requires { start + 4 ≤ length letters.now }
+    ensures { result ≡ false → NoneOf (λ (y : ℕ × Letter). Suits glance y.1.envelope) (take start letters.now) → NoneOf (λ (y : ℕ × Letter). Suits glance y.1.envelope) (take (start + 4) letters.now) }
 {
-    for k in 0..letters.len() {
-        if admits_tagged(pattern, tag, &letters[k].1.envelope) {
-            return Some(k);
-        }
-    }
-    None
+    let first = glance.suits(&letters[start].1.envelope);
+    let second = glance.suits(&letters[start + 1].1.envelope);
+    let third = glance.suits(&letters[start + 2].1.envelope);
+    let fourth = glance.suits(&letters[start + 3].1.envelope);
+    first | second | third | fourth
 }
 
-/// Where the first letter of some stands that the pattern admits, which asks for this source.
-#[inline(never)]
-fn first_from(letters: &[(u64, Letter)], pattern: &Pattern, rank: WorldRank) -> Option<usize>
-    requires { pattern.now.source ≡ One rank }
+/// Where the first letter of some stands that the pattern admits, which asks for what is looked for.
+#[inline(always)]
+fn first_suited(letters: &[(u64, Letter)], pattern: &Pattern, glance: Glance) -> Option<usize>
+    requires { (e : Envelope) → Admits pattern.now e → Suits glance e }
     ensures { FindsFirst (λ (y : ℕ × Letter). MayGet pattern.now y.1) letters.now result }
 {
-    for k in 0..letters.len() {
-        if admits_from(pattern, rank, &letters[k].1.envelope) {
+    let start = pass_over(letters, glance);
+    for k in start..letters.len() {
+        if pattern.admits(&letters[k].1.envelope) {
             return Some(k);
         }
     }
@@ -112,7 +55,6 @@ fn first_from(letters: &[(u64, Letter)], pattern: &Pattern, rank: WorldRank) -> 
 }
 
 /// Where the first letter of some stands that the pattern admits, whatever it asks for.
-#[inline(never)]
 fn first_admitted(letters: &[(u64, Letter)], pattern: &Pattern) -> Option<usize>
     ensures { FindsFirst (λ (y : ℕ × Letter). MayGet pattern.now y.1) letters.now result }
 {
@@ -129,9 +71,12 @@ fn first_letter_in(letters: &[(u64, Letter)], pattern: &Pattern) -> Option<usize
     ensures { FindsFirst (λ (y : ℕ × Letter). MayGet pattern.now y.1) letters.now result }
 {
     match (pattern.source, pattern.tag) {
-        (Source::One(rank), Some(tag)) => first_named(letters, pattern, rank, tag),
-        (Source::One(rank), None) => first_from(letters, pattern, rank),
-        (Source::Any(_), Some(tag)) => first_tagged(letters, pattern, tag),
+        (Source::One(rank), Some(tag)) => {
+            let word = word(pattern.context.number, rank.number, tag.number);
+            first_suited(letters, pattern, Glance::Named(word))
+        }
+        (Source::One(rank), None) => first_suited(letters, pattern, Glance::From(rank.number)),
+        (Source::Any(_), Some(tag)) => first_suited(letters, pattern, Glance::Tagged(tag.number)),
         (Source::Any(_), None) => first_admitted(letters, pattern),
     }
 }
@@ -151,11 +96,10 @@ fn admits(pattern: &Pattern, envelope: &Envelope) -> bool
             return false;
         }
     }
-    admits_seen(pattern, envelope)
+    pattern.admits(envelope)
 }
 
 /// Where the first receive of some stands that admits the envelope.
-#[inline(never)]
 fn first_receive_in(receives: &[(u64, Pattern)], envelope: &Envelope) -> Option<usize>
     ensures { FindsFirst (λ (y : ℕ × Pattern). MayGoTo envelope.now y.1) receives.now result }
 {
