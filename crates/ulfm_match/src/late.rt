@@ -19,7 +19,7 @@ fn pass_over(letters: &[(u64, Letter)], glance: Glance) -> usize
 {
     let fours = letters.len() / 4;
     for i in 0..fours {
-        if is_among_four(letters, i * 4, glance) {
+        if is_one_of_four(letters, i * 4, glance) {
             return i * 4;
         }
     }
@@ -28,7 +28,7 @@ fn pass_over(letters: &[(u64, Letter)], glance: Glance) -> usize
 
 /// Whether one of four letters has what is looked for, the first of which stands here.
 #[inline(always)]
-fn is_among_four(letters: &[(u64, Letter)], start: usize, glance: Glance) -> bool
+fn is_one_of_four(letters: &[(u64, Letter)], start: usize, glance: Glance) -> bool
     requires { start + 4 ≤ length letters.now }
     ensures { result ≡ false → NoneOf (λ (y : ℕ × Letter). Suits glance y.1.envelope) (take start letters.now) → NoneOf (λ (y : ℕ × Letter). Suits glance y.1.envelope) (take (start + 4) letters.now) }
 {
@@ -81,34 +81,78 @@ fn first_letter_in(letters: &[(u64, Letter)], pattern: &Pattern) -> Option<usize
     }
 }
 
-/// Whether the pattern admits the envelope. The source that it names, or the tag, tells it of most that it doesn't admit.
+/// Whether the pattern may admit the envelope: it names no other source, and no other tag.
 #[inline(always)]
-fn admits(pattern: &Pattern, envelope: &Envelope) -> bool
-    ensures { IsTrue result ↔ Admits pattern.now envelope.now }
+fn may_admit(pattern: &Pattern, envelope: &Envelope) -> bool
+    ensures { Admits pattern.now envelope.now → IsTrue result }
 {
     if let Source::One(rank) = pattern.source {
         if rank.number != envelope.source.number {
             return false;
         }
     }
-    if let Some(tag) = pattern.tag {
-        if tag.number != envelope.tag.number {
-            return false;
-        }
+    match pattern.tag {
+        Some(tag) => tag.number == envelope.tag.number,
+        None => true,
     }
-    pattern.admits(envelope)
 }
 
-/// Where the first receive of some stands that admits the envelope.
-fn first_receive_in(receives: &[(u64, Pattern)], envelope: &Envelope) -> Option<usize>
+/// Whether one of four receives may admit the envelope, the first of which stands here.
+#[inline(always)]
+fn may_one_of_four(receives: &[(u64, Pattern)], start: usize, envelope: &Envelope) -> bool
+    requires { start + 4 ≤ length receives.now }
+    ensures { result ≡ false → NoneOf (λ (y : ℕ × Pattern). MayGoTo envelope.now y.1) (take start receives.now) → NoneOf (λ (y : ℕ × Pattern). MayGoTo envelope.now y.1) (take (start + 4) receives.now) }
+{
+    if may_admit(&receives[start].1, envelope) {
+        return true;
+    }
+    if may_admit(&receives[start + 1].1, envelope) {
+        return true;
+    }
+    if may_admit(&receives[start + 2].1, envelope) {
+        return true;
+    }
+    may_admit(&receives[start + 3].1, envelope)
+}
+
+/// How many receives from the front are passed over, four at a time, since none of them admits the envelope.
+#[inline(always)]
+fn pass_over_receives(receives: &[(u64, Pattern)], envelope: &Envelope) -> usize
+    ensures within { result ≤ length receives.now }
+    ensures none { NoneOf (λ (y : ℕ × Pattern). MayGoTo envelope.now y.1) (take result receives.now) }
+{
+    let fours = receives.len() / 4;
+    for i in 0..fours {
+        if may_one_of_four(receives, i * 4, envelope) {
+            return i * 4;
+        }
+    }
+    fours * 4
+}
+
+/// Where the first receive of some stands that admits the envelope, where there are some.
+#[inline(never)]
+fn first_receive_among(receives: &[(u64, Pattern)], envelope: &Envelope) -> Option<usize>
     ensures { FindsFirst (λ (y : ℕ × Pattern). MayGoTo envelope.now y.1) receives.now result }
 {
-    for k in 0..receives.len() {
-        if admits(&receives[k].1, envelope) {
+    let start = pass_over_receives(receives, envelope);
+    for k in start..receives.len() {
+        if receives[k].1.admits(envelope) {
             return Some(k);
         }
     }
     None
+}
+
+/// Where the first receive of some stands that admits the envelope.
+#[inline(always)]
+fn first_receive_in(receives: &[(u64, Pattern)], envelope: &Envelope) -> Option<usize>
+    ensures { FindsFirst (λ (y : ℕ × Pattern). MayGoTo envelope.now y.1) receives.now result }
+{
+    if receives.is_empty() {
+        return None;
+    }
+    first_receive_among(receives, envelope)
 }
 
 /// Where the first letter stands that the pattern admits.

@@ -2,7 +2,7 @@ use Rattle.std.proofs.Common.{ℕ, arith, subst, sym}
 use Rattle.ulfm_match.proofs.Common.{Pattern, Admits}
 use Rattle.ulfm_match.proofs.First.{first_at}
 use Rattle.ulfm_match.proofs.Rising.{none_more, none_all}
-use Rattle.ulfm_match.proofs.late.first_receive_in.Goals as goal
+use Rattle.ulfm_match.proofs.late.first_receive_among.Goals as goal
 
 pub returns-then-admits : goal.returns-then-admits
 returns-then-admits c =
