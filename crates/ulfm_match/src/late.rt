@@ -66,8 +66,9 @@ fn first_admitted(letters: &[(u64, Letter)], pattern: &Pattern) -> Option<usize>
     None
 }
 
-/// Where the first letter of some stands that the pattern admits.
-fn first_letter_in(letters: &[(u64, Letter)], pattern: &Pattern) -> Option<usize>
+/// Where the first letter of some stands that the pattern admits, where there are some.
+#[inline(never)]
+fn first_letter_among(letters: &[(u64, Letter)], pattern: &Pattern) -> Option<usize>
     ensures { FindsFirst (λ (y : ℕ × Letter). MayGet pattern.now y.1) letters.now result }
 {
     match (pattern.source, pattern.tag) {
@@ -79,6 +80,17 @@ fn first_letter_in(letters: &[(u64, Letter)], pattern: &Pattern) -> Option<usize
         (Source::Any(_), Some(tag)) => first_suited(letters, pattern, Glance::Tagged(tag.number)),
         (Source::Any(_), None) => first_admitted(letters, pattern),
     }
+}
+
+/// Where the first letter of some stands that the pattern admits.
+#[inline(always)]
+fn first_letter_in(letters: &[(u64, Letter)], pattern: &Pattern) -> Option<usize>
+    ensures { FindsFirst (λ (y : ℕ × Letter). MayGet pattern.now y.1) letters.now result }
+{
+    if letters.is_empty() {
+        return None;
+    }
+    first_letter_among(letters, pattern)
 }
 
 /// Whether the pattern may admit the envelope: it names no other source, and no other tag.

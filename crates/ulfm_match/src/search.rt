@@ -10,6 +10,7 @@ use std::collections::VecDeque;
 use ulfm_base::{Envelope, Letter, Pattern};
 
 /// Whether the letter of a number is there, and the pattern admits it.
+#[inline(always)]
 fn is_admitted(kept: &IndexMap<u64, Letter>, number: u64, pattern: &Pattern) -> bool
     ensures { IsTrue result ↔ Passes (MayGet pattern.now) kept.now number }
 {
@@ -20,6 +21,7 @@ fn is_admitted(kept: &IndexMap<u64, Letter>, number: u64, pattern: &Pattern) -> 
 }
 
 /// Whether the receive of a number is there, and admits the envelope.
+#[inline(always)]
 fn admits(waiting: &IndexMap<u64, Pattern>, number: u64, envelope: &Envelope) -> bool
     ensures { IsTrue result ↔ Passes (MayGoTo envelope.now) waiting.now number }
 {
