@@ -120,6 +120,7 @@ impl Matcher {
     {
         let number = self.count;
         self.count += 1;
+        // A reference to the pattern itself would keep it out of registers, and a move of it would wait for its parts.
         let asked = pattern;
         match take_letter(&mut self.kept, &asked) {
             Some(letter) => (RequestId { number }, Some(letter)),
@@ -166,6 +167,7 @@ impl Matcher {
     {
         let number = self.count;
         self.count += 1;
+        // As in `post`: no reference to the letter itself.
         let envelope = letter.envelope;
         match take_receive(&mut self.waiting, &envelope) {
             Some(request) => Arrived::Paired(RequestId { number: request }, letter),
