@@ -1,10 +1,14 @@
 -- What becomes of the numbers in buckets.
-use Rattle.std.proofs.Common.{◌≡◌, ℕ, ◌≤◌, ◌⊎◌, inl, inr, List, [], ◌∷◌, ◌++◌, refl, ap, sym, ◌∙◌, subst, arith, Bool, true, false, cond, filter, Contains, Option, Some, None, Result, Ok, Err, OnOk, is_some, nat_eq}
+use Rattle.std.proofs.Common.{◌≡◌, ◌≢◌, ℕ, ◌≤◌, ◌⊎◌, inl, inr, List, [], ◌∷◌, ◌++◌, refl, ap, sym, ◌∙◌, subst, arith, Bool, true, false, cond, filter, Contains, Option, Some, None, Result, Ok, Err, OnOk, IsSome, is_some, nat_eq}
 use Rattle.ulfm_match.proofs.Common.{Contains-append_left, Contains-append_right, Contains-push_cases, Sweeps, Grows, FindsLeast, IsLesser, Rises, numbers_of, exact_unsigned_eq, Bucket}
 use Rattle.std.specs.Option.{option_to_list}
 use Rattle.ulfm_match.proofs.Decide.{Contains-cons_cases, Contains-head, Contains-tail}
 use Rattle.ulfm_match.proofs.Members.{all_of, all_from, Contains-filter, filter-Contains}
-use Rattle.ulfm_match.proofs.Rising.{rises_push, rises_filter}
+use Rattle.ulfm_match.proofs.Rising.{rises_push, rises_filter, rises_front}
+
+-- what is there is another than one that isn't
+pub gone_other : {X : Type 0} (look : ℕ → Option X) (n : ℕ) → look n ≡ None → (m : ℕ) → IsSome (look m) → m ≢ n
+gone_other look n absent m l e = let at : is_some (look n) ≡ true = subst (λ k. is_some (look k) ≡ true) e l in cc
 
 module _ (L : ℕ → Type 0) where
   pub sweeps_none : (ns : List ℕ) → Sweeps L ns ns
@@ -12,6 +16,9 @@ module _ (L : ℕ → Type 0) where
 
   pub sweeps_both : (a b d : List ℕ) → Sweeps L a b → Sweeps L b d → Sweeps L a d
   sweeps_both a b d s t = record { keeps = λ n c l. t.keeps n (s.keeps n c l) l; from = λ n c. s.from n (t.from n c); rises = λ r. t.rises (s.rises r) }
+
+  pub sweeps_more : (M : ℕ → Type 0) (a b : List ℕ) → ((n : ℕ) → L n → M n) → Sweeps M a b → Sweeps L a b
+  sweeps_more M a b lives s = record { keeps = λ n c l. s.keeps n c (lives n l); from = s.from; rises = s.rises }
 
   pub sweeps_filter : (test : ℕ → Bool) (ns : List ℕ) → ((n : ℕ) → L n → test n ≡ true) → Sweeps L ns (filter test ns)
   sweeps_filter test ns lives = record {
@@ -27,6 +34,18 @@ module _ (L : ℕ → Type 0) where
     from = λ m c. Contains-tail n ns m c;
     rises = λ r. r.1;
   }
+
+  -- a last number that is gone goes
+  pub sweeps_last : (n : ℕ) (ns : List ℕ) → (L n → ⊥) → Sweeps L (ns ++ n ∷ []) ns
+  sweeps_last n ns gone = record {
+    keeps = λ m c l. elim (Contains-push_cases ns n m c) [ inl d ↦ d | inr e ↦ absurd (gone (subst L (sym e) l)) ];
+    from = λ m c. Contains-append_left ns (n ∷ []) m c;
+    rises = rises_front ns (n ∷ []);
+  }
+
+  -- one that was taken from the end was gone
+  pub sweeps_popped : (n : ℕ) (old new : List ℕ) (r : Option ℕ) → old ≡ new ++ option_to_list r → r ≡ Some n → (L n → ⊥) → Sweeps L old new
+  sweeps_popped n old new r is e gone = subst (λ ns. Sweeps L ns new) (sym (is ∙ ap (λ o. new ++ option_to_list o) e)) (sweeps_last n new gone)
 
   -- the numbers after the first are swept
   pub sweeps_rest : (first : Option ℕ) (ns ms : List ℕ) → Sweeps L ns ms → Sweeps L (option_to_list first ++ ns) (option_to_list first ++ ms)

@@ -1,6 +1,6 @@
 -- Numbers in rising order, as they grow or are filtered, and a search that found none so far.
 use Rattle.std.proofs.Common.{◌≡◌, ℕ, suc, ◌+◌, ◌≤◌, ◌<◌, inl, inr, List, [], ◌∷◌, ◌++◌, length, take, drop, get_or, ap, sym, ◌∙◌, subst, arith, Bool, true, false, cond, Contains, filter}
-use Rattle.ulfm_match.proofs.Common.{Contains-append_cases, Contains-push_cases, Rises}
+use Rattle.ulfm_match.proofs.Common.{Contains-append_cases, Contains-append_left, Contains-push_cases, Rises}
 use Rattle.std.proofs.lemmas.List.{take_more, take_all, take-append-drop}
 use Rattle.std.proofs.Math.Seq.{drop-cons}
 use Rattle.ulfm_match.proofs.Decide.{Contains-cons_cases, Contains-head, Contains-tail}
@@ -24,6 +24,13 @@ rises_filter test (k ∷ ns) r =
 rises_back : (front back : List ℕ) → Rises (front ++ back) → Rises back
 rises_back [] back r = r
 rises_back (k ∷ front) back r = rises_back front back r.1
+
+pub rises_front : (front back : List ℕ) → Rises (front ++ back) → Rises front
+rises_front [] back r = tt
+rises_front (k ∷ front) back r = (
+  all_from (λ m. k ≤ m) front (λ m c. all_of (λ m. k ≤ m) (front ++ back) m r.0 (Contains-append_left front back m c)),
+  rises_front front back r.1,
+)
 
 -- what doesn't stand before a number is no less
 pub no_less : (ns : List ℕ) (k n : ℕ) → Rises ns → k < length ns → n ≡ get_or ns k n → (m : ℕ) → Contains ns m → (Contains (take k ns) m → ⊥) → n ≤ m
