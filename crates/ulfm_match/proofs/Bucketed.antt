@@ -1,8 +1,8 @@
 -- What becomes of the numbers in buckets.
-use Rattle.std.proofs.Common.{◌≡◌, ◌≢◌, ℕ, ◌≤◌, ◌⊎◌, inl, inr, List, [], ◌∷◌, ◌++◌, refl, ap, sym, ◌∙◌, subst, arith, Bool, true, false, cond, filter, Contains, Option, Some, None, Result, Ok, Err, OnOk, IsSome, is_some, nat_eq}
+use Rattle.std.proofs.Common.{◌≡◌, ◌≢◌, ℕ, ◌+◌, ◌<◌, ◌≤◌, ◌⊎◌, inl, inr, List, [], ◌∷◌, ◌++◌, refl, ap, sym, ◌∙◌, subst, arith, Bool, true, false, cond, filter, Contains, Option, Some, None, Result, Ok, Err, OnOk, IsSome, is_some, nat_eq}
 use Rattle.ulfm_match.proofs.Common.{Contains-append_left, Contains-append_right, Contains-push_cases, Sweeps, Grows, FindsLeast, IsLesser, Rises, numbers_of, exact_unsigned_eq, Bucket}
 use Rattle.std.specs.Option.{option_to_list}
-use Rattle.ulfm_match.proofs.Decide.{Contains-cons_cases, Contains-head, Contains-tail}
+use Rattle.ulfm_match.proofs.Decide.{Contains-cons_cases, Contains-head, Contains-tail, lt_or_ge}
 use Rattle.ulfm_match.proofs.Members.{all_of, all_from, Contains-filter, filter-Contains}
 use Rattle.ulfm_match.proofs.Rising.{rises_push, rises_filter, rises_front}
 
@@ -119,6 +119,16 @@ lesser_finds M N Q (Some m) (Some n) c is f g = elim is [
 pub finds_all : (M N Q : ℕ → Type 0) (a : Option ℕ) → ((n : ℕ) → N n → Q n → M n) → FindsLeast M Q a → FindsLeast N Q a
 finds_all M N Q None to f = λ m n q. f m (to m n q) q
 finds_all M N Q (Some k) to f = record { is = f.is; least = λ m n q. f.least m (to m n q) q }
+
+-- one source more is searched
+pub finds_next : (A : ℕ → ℕ → Type 0) (Q : ℕ → Type 0) (k : ℕ) (a b c : Option ℕ) → IsLesser a b c → FindsLeast (λ n. (s : ℕ) × (s < k) × A s n) Q a → FindsLeast (A k) Q b → FindsLeast (λ n. (s : ℕ) × (s < k + 1) × A s n) Q c
+finds_next A Q k a b c is f g =
+    finds_all (λ n. ((s : ℕ) × (s < k) × A s n) ⊎ A k n) (λ n. (s : ℕ) × (s < k + 1) × A s n) Q c
+    (λ n m q. elim (lt_or_ge m.0 k) [
+      | inl l ↦ inl (m.0, l, m.2)
+      | inr h ↦ let same : m.0 ≡ k = (let w = m.1 in omega (arith, h, w)) in inr (subst (λ s. A s n) same m.2)
+    ])
+    (lesser_finds (λ n. (s : ℕ) × (s < k) × A s n) (A k) Q a b c is f g)
 
 -- the first of all that rise passes
 pub first_finds : (n : ℕ) (ns : List ℕ) (Q : ℕ → Type 0) → Rises (n ∷ ns) → Q n → FindsLeast (Contains (n ∷ ns)) Q (Some n)

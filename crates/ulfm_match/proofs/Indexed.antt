@@ -2,7 +2,7 @@
 use Rattle.std.proofs.Common.{◌≡◌, ℕ, ◌+◌, ◌≤◌, ◌⊎◌, inl, inr, refl, List, [], ◌∷◌, length, ap, sym, ◌∙◌, subst, arith, Bool, true, false, cond, Contains, Option, Some, None, is_some, nat_eq}
 use Rattle.std.specs.Map.{lookup}
 use Rattle.ulfm_match.proofs.Bucketed.{sweeps_none}
-use Rattle.ulfm_match.proofs.Common.{Pattern, Admits, AdmitsSource, AdmitsTag, Envelope, Letter, Entries, Buckets, numbers_at, SweepsFor, Grows, TakesOut, IsIndexed, Passes, get, IsUnique, key_number, key_of, source_of, tag_of, source_at, tag_at, key_at, IsKeyAt, IsKeyOf, IsKeyOfReceive, WorldRank, Tag, Source, One, Any, exact_unsigned_eq}
+use Rattle.ulfm_match.proofs.Common.{Pattern, Admits, AdmitsSource, AdmitsTag, Envelope, Letter, Entries, Buckets, numbers_at, SweepsFor, Grows, TakesOut, IsIndexed, Passes, get, IsUnique, key_number, key_of, source_of, tag_of, source_at, tag_at, key_at, key_from, AsksOf, StandsFrom, IsKeyAt, IsKeyOf, IsKeyOfReceive, WorldRank, Tag, Source, One, Any, exact_unsigned_eq}
 
 source_key : (source : Source) (rank : WorldRank) → AdmitsSource source rank → (b : Bool) × (source_of source ≡ source_at b rank)
 source_key (One named) rank a = (false, ap (λ (r : WorldRank). r.number) (sym a))
@@ -24,9 +24,18 @@ admits_key p e a =
           ∙ (ap (λ n. key_number e.context.number n (tag_of p.tag)) s.1 ∙ ap (λ n. key_number e.context.number (source_at s.0 e.source) n) t.1);
     }
 
--- a letter in buckets that a pattern admits stands in the bucket of its key
-pub kept_found : {p : Pattern} {top : ℕ} {es : Entries Letter} {bs : Buckets} → IsIndexed IsKeyOf top es bs → (m : ℕ) → Passes (λ (l : Letter). Admits p l.envelope) es m → Contains (numbers_at bs (key_of p)) m
-kept_found {p} i m q = i.held m q.entry (key_of p) q.found (admits_key p q.entry.envelope q.passes)
+asked : (source : Source) (rank : WorldRank) → AdmitsSource source rank → AsksOf source rank.number
+asked (One named) rank a = ap (λ (r : WorldRank). r.number) a
+asked (Any members) rank a = (rank.in_range, a)
+
+-- a letter in buckets that a pattern admits stands in the bucket of its source
+pub kept_found : {p : Pattern} {top : ℕ} {es : Entries Letter} {bs : Buckets} → IsIndexed IsKeyOf top es bs → (m : ℕ) → Passes (λ (l : Letter). Admits p l.envelope) es m → StandsFrom p bs m
+kept_found {p} i m q =
+    let e = q.entry.envelope in
+    let t = tag_key p.tag e.tag q.passes.tag in
+    let is : key_from e.source.number p ≡ key_at false t.0 e =
+    ap (λ n. key_number n e.source.number (tag_of p.tag)) (sym q.passes.context) ∙ ap (λ n. key_number e.context.number e.source.number n) t.1 in
+    (e.source.number, asked p.source e.source q.passes.source, i.held m q.entry (key_from e.source.number p) q.found (t.0, is))
 
 -- a receive in buckets that admits a letter stands in the bucket of one of its keys
 pub waiting_found : (e : Envelope) (top : ℕ) (es : Entries Pattern) (bs : Buckets) → IsIndexed IsKeyOfReceive top es bs → (m : ℕ) → Passes (λ (p : Pattern). Admits p e) es m → (k : ℕ) × IsKeyAt e k × Contains (numbers_at bs k) m

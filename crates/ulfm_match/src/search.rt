@@ -1,13 +1,14 @@
 //! Searches of the waiting receives and of the kept letters for the least number.
-ghost use Rattle.std.specs.Prelude.{◌↔◌, ℕ, Contains, IsTrue};
-ghost use Rattle.ulfm_match.specs.inside.Buckets.{Rises, Passes, FindsLeast, IsLesser, MayGet, MayGoTo, StandsFor, numbers_at};
-ghost use Rattle.ulfm_match.specs.inside.Key.{key_of};
+ghost use Rattle.std.specs.Prelude.{◌≡◌, ◌<◌, ◌↔◌, ℕ, Contains, IsTrue, true};
+ghost use Rattle.ulfm_base.specs.RankSet.{has};
+ghost use Rattle.ulfm_match.specs.inside.Buckets.{Rises, Passes, FindsLeast, IsLesser, MayGet, MayGoTo, StandsFor, StandsFrom, numbers_at};
+ghost use Rattle.ulfm_match.specs.inside.Key.{key_from};
 
 use crate::buckets::Buckets;
-use crate::key::{key_at, key_of};
+use crate::key::{key_at, key_from};
 use indexmap::IndexMap;
 use std::collections::VecDeque;
-use ulfm_base::{Envelope, Letter, Pattern};
+use ulfm_base::{Envelope, Letter, Pattern, RankSet, Source, WorldRank};
 
 /// Whether the letter of a number is there, and the pattern admits it.
 #[inline(always)]
@@ -67,17 +68,17 @@ fn first_receive(
     None
 }
 
-/// The earliest letter in the bucket of a pattern that it admits.
-#[inline(never)]
-pub(crate) fn first_kept(
+/// The earliest letter from a source that the pattern admits.
+fn first_kept_from(
     buckets: &Buckets,
     kept: &IndexMap<u64, Letter>,
+    source: WorldRank,
     pattern: &Pattern,
 ) -> Option<u64>
-    requires { Rises (numbers_at buckets.now (key_of pattern.now)) }
-    ensures { FindsLeast (Contains (numbers_at buckets.now (key_of pattern.now))) (Passes (MayGet pattern.now) kept.now) result }
+    requires { Rises (numbers_at buckets.now (key_from source.number pattern.now)) }
+    ensures { FindsLeast (Contains (numbers_at buckets.now (key_from source.number pattern.now))) (Passes (MayGet pattern.now) kept.now) result }
 {
-    let Some(bucket) = buckets.get(&key_of(pattern)) else {
+    let Some(bucket) = buckets.get(&key_from(source, pattern)) else {
         return None;
     };
     if let Some(first) = bucket.first {
@@ -86,6 +87,60 @@ pub(crate) fn first_kept(
         }
     }
     first_letter(&bucket.rest, kept, pattern)
+}
+
+/// The earliest letter that the pattern admits, from a source if it is among these.
+fn first_kept_among(
+    buckets: &Buckets,
+    kept: &IndexMap<u64, Letter>,
+    members: RankSet,
+    source: WorldRank,
+    pattern: &Pattern,
+) -> Option<u64>
+    requires { (k : ℕ) → Rises (numbers_at buckets.now k) }
+    ensures { FindsLeast (λ n. (has members source.number ≡ true) × Contains (numbers_at buckets.now (key_from source.number pattern.now)) n) (Passes (MayGet pattern.now) kept.now) result }
+{
+    if !members.contains(source) {
+        return None;
+    }
+    first_kept_from(buckets, kept, source, pattern)
+}
+
+/// The earliest letter that the pattern admits, from these sources.
+fn first_kept_of_any(
+    buckets: &Buckets,
+    kept: &IndexMap<u64, Letter>,
+    members: RankSet,
+    pattern: &Pattern,
+) -> Option<u64>
+    requires { (k : ℕ) → Rises (numbers_at buckets.now k) }
+    ensures { FindsLeast (λ n. (s : ℕ) × (s < 8) × (has members s ≡ true) × Contains (numbers_at buckets.now (key_from s pattern.now)) n) (Passes (MayGet pattern.now) kept.now) result }
+{
+    let mut found = None;
+    for number in 0..8 {
+        let source = WorldRank { number };
+        found = lesser(
+            found,
+            first_kept_among(buckets, kept, members, source, pattern),
+        );
+    }
+    found
+}
+
+/// The earliest letter that the pattern admits.
+#[inline(never)]
+pub(crate) fn first_kept(
+    buckets: &Buckets,
+    kept: &IndexMap<u64, Letter>,
+    pattern: &Pattern,
+) -> Option<u64>
+    requires { (k : ℕ) → Rises (numbers_at buckets.now k) }
+    ensures { FindsLeast (StandsFrom pattern.now buckets.now) (Passes (MayGet pattern.now) kept.now) result }
+{
+    match pattern.source {
+        Source::One(rank) => first_kept_from(buckets, kept, rank, pattern),
+        Source::Any(members) => first_kept_of_any(buckets, kept, members, pattern),
+    }
 }
 
 /// The earliest waiting receive of a key that admits the envelope.

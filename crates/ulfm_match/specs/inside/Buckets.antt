@@ -10,7 +10,7 @@ use Rattle.ulfm_base.specs.declared.envelope.Letter.{Letter}
 use Rattle.ulfm_base.specs.declared.envelope.Envelope.{Envelope}
 use Rattle.ulfm_base.specs.Pattern.{Admits}
 use Rattle.ulfm_match.specs.declared.bucket.Bucket.{Bucket}
-use Rattle.ulfm_match.specs.inside.Key.{IsKeyAt}
+use Rattle.ulfm_match.specs.inside.Key.{IsKeyAt, AsksOf, key_from}
 
 -- entries by number
 abbrev pub Entries : Type 0 → Type 0
@@ -111,6 +111,10 @@ NonePass {X} P entries = (n : ℕ) → Passes P entries n → ⊥
 -- this number stands in a bucket of a key of the envelope
 abbrev pub StandsFor : Envelope → Buckets → ℕ → Type 0
 StandsFor envelope buckets n = (k : ℕ) × IsKeyAt envelope k × Contains (numbers_at buckets k) n
+
+-- this number stands in the bucket of a source that the receive asks of
+abbrev pub StandsFrom : Pattern → Buckets → ℕ → Type 0
+StandsFrom pattern buckets n = (s : ℕ) × AsksOf pattern.source s × Contains (numbers_at buckets (key_from s pattern)) n
 
 -- each entry stands in the buckets of its keys, by rising numbers; entries have numbers below the top, and buckets at most the top
 pub record IsIndexed {X : Type 0} (IsKey : X → ℕ → Type 0) (top : ℕ) (entries : Entries X) (buckets : Buckets) : Type 0 where
