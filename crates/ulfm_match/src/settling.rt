@@ -84,6 +84,7 @@ pub(crate) fn add<X>(pool: &mut Pool<X>, number: u64, entry: X) -> bool
 }
 
 /// Makes room for one receive more.
+#[inline(never)]
 pub(crate) fn prepare_receive(pool: &mut Pool<Pattern>, alloc: Global) -> Result<(), OutOfMemory>
     requires { (count : ℕ) × IsPool IsKeyOfReceive count pool.old }
     ensures all { all_of pool.new ≡ all_of pool.old }
@@ -98,6 +99,7 @@ pub(crate) fn prepare_receive(pool: &mut Pool<Pattern>, alloc: Global) -> Result
 }
 
 /// Makes room for one letter more.
+#[inline(never)]
 pub(crate) fn prepare_letter(pool: &mut Pool<Letter>, alloc: Global) -> Result<(), OutOfMemory>
     requires { (count : ℕ) × IsPool IsKeyOf count pool.old }
     ensures all { all_of pool.new ≡ all_of pool.old }

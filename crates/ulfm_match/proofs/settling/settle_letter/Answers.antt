@@ -24,7 +24,7 @@ returns-in-Ok-clause-pool c count i =
     let i' : IsPool IsKeyOf count roomy = roomy_pool i roomy c.reserve.ensures.entries c.reserve.ensures.unique refl refl in
     let room = on_ok c.insert.result (c.insert.ensures.succeeds (omega (arith, c.in_ok-reserve.ensures.ok))) in
     settled_pool i' c.in-Some.number c.in-Some.letter c.pop_front.new.self.items c.in-Some.ensures.items _ c.insert.ensures.unique (room c.insert.ensures.updates).0 c.put_letter.ensures.grows
-    (λ k own. subst (λ j. Contains (numbers_at c.put_letter.new.buckets j) c.in-Some.number) (sym own.is) (c.in-Ok.ensures.put own.any_source own.any_tag))
+    (λ k own. subst (λ j. Contains (numbers_at c.put_letter.new.buckets j) c.in-Some.number) (sym own.1) (c.in-Ok.ensures.put own.0))
     refl
 
 pub returns-in-Err-clause-pool : goal.returns-in-Err-clause-pool

@@ -17,7 +17,7 @@ returns-in-Some-take_late_receive-clause-taken c =
     rw c.in-None.ensures.idle.0 (_, late_taken c.requires.1 c.in-None.ensures.taken c.in-Some-take_late_receive.ensures.taken)
 
 pub returns-in-Some-take_late_receive-clause-pool : goal.returns-in-Some-take_late_receive-clause-pool
-returns-in-Some-take_late_receive-clause-pool c count i = taken_late i (λ (p : Pattern). Admits p c.args.letter.now.envelope) _ c.in-None.ensures.idle.0 c.in-None.ensures.idle.1 c.in-Some-take_late_receive.ensures.taken c.take_late_receive.ensures.shorter
+returns-in-Some-take_late_receive-clause-pool c count i = taken_late i (λ (p : Pattern). Admits p c.args.envelope.now) _ c.in-None.ensures.idle.0 c.in-None.ensures.idle.1 c.in-Some-take_late_receive.ensures.taken c.take_late_receive.ensures.shorter
 
 pub returns-in-None-take_late_receive-clause-taken : goal.returns-in-None-take_late_receive-clause-taken
 returns-in-None-take_late_receive-clause-taken c = none_pool c.requires.1 c.in-None.ensures.taken c.in-None-take_late_receive.ensures.taken
