@@ -39,12 +39,6 @@ front d r at w script names inside here is number known =
       known = known;
     }
 
--- the fault of a name
-pub name-fault : (d : CodedDraft) (r at : ℕ) (script : List Step) (names : List Name) (o : Order) (ms : Members) (f : Fault) → IsFront d r at script names
-    → Err f ≡ names_in names r at (get_member (codes "name") ms) → drafted (draft_view d) ms (record { rank = r; order = o }) ≡ Err f
-unfolding drafted
-name-fault d r at script names o ms f h read = rw (h.orders, length-map script order_of, ← h.number, ← h.known, ← read) refl
-
 -- the fault of a condition
 pub conditions-fault : (d : CodedDraft) (r at k : ℕ) (script : List Step) (names more : List Name) (o : Order) (ms : Members) (e : JobFault) → IsFront d r at script names
     → Ok more ≡ names_in names r at (get_member (codes "name") ms)
@@ -77,11 +71,3 @@ one-more d new r at script names more conditions expected x ms h inside named as
     let put : map (map order_of) (lists_of new.scripts.items) ≡ set (map (map order_of) (lists_of d.scripts.items)) r (slice_index_or (map (map order_of) (lists_of d.scripts.items)) r [] ++ order_of x ∷ []) =
     ap (map (map order_of)) grown ∙ orders-put (lists_of d.scripts.items) r x (omega (arith, inside, long)) in
     rw (put, n, c, e, h.orders, length-map script order_of, ← h.number, ← h.known, ← named, asked, wanted) refl
-
--- how many steps there are then
-pub counted-on : (d new : CodedDraft) (r : ℕ) (x : Step) → r < length d.scripts.items
-    → lists_of new.scripts.items ≡ set (lists_of d.scripts.items) r (slice_index_or (lists_of d.scripts.items) r [] ++ x ∷ [])
-    → step_count (lists_of new.scripts.items) ≡ step_count (lists_of d.scripts.items) + 1
-counted-on d new r x inside grown =
-    let long : length (lists_of d.scripts.items) ≡ length d.scripts.items = length-map d.scripts.items (λ (v : Vec Step Global). v.items) in
-    ap step_count grown ∙ step_count-set (lists_of d.scripts.items) r _ (omega (arith, inside, long)) (length_push _ x)

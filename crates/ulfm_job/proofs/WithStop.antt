@@ -1,5 +1,5 @@
 -- A job with one more stop.
-use Rattle.std.proofs.Common.{◌≡◌, ◌≢◌, ℕ, ◌+◌, ◌<◌, ◌≤◌, List, [], ◌∷◌, length, map, set, Vec, Global, refl, sym, ap, ap₂, ◌∙◌, arith}
+use Rattle.std.proofs.Common.{◌≡◌, ◌≢◌, ℕ, ◌+◌, ◌<◌, ◌≤◌, List, length, map, set, Vec, Global, sym, ap, ap₂, ◌∙◌, arith}
 use Rattle.ulfm_job.proofs.Common.{Clause, Step, Seen, IsJob, seen_of, lists_of, step_count, script_at, moved_on, stopped_at, with_stop}
 use Rattle.std.proofs.lemmas.List.{length-map, length-set, map-set}
 use Rattle.std.proofs.lemmas.List.Edits.{length-insert}
