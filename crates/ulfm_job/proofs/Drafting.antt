@@ -1,16 +1,15 @@
 -- One more step of a draft.
-use Rattle.std.proofs.Common.{◌≡◌, ℕ, ◌+◌, ◌<◌, ◌≤◌, List, [], ◌∷◌, ◌++◌, length, map, set, get_or, slice_index_or, Ok, Err, Vec, Global, refl, sym, ap, ◌∙◌, arith}
-use Rattle.std.proofs.lemmas.List.{length-map, length_push, get_or-map}
+use Rattle.std.proofs.Common.{◌≡◌, ℕ, ◌<◌, ◌≤◌, List, [], ◌∷◌, ◌++◌, length, map, set, get_or, slice_index_or, Ok, Err, Vec, Global, refl, sym, ap, ◌∙◌, arith}
+use Rattle.std.proofs.lemmas.List.{length-map, get_or-map}
 use Rattle.toml.specs.Data.{Members, get_member}
 use Rattle.std.specs.Prelude.{codes}
 use Rattle.ulfm_job.proofs.Asking.{in_step-err}
 use Rattle.ulfm_job.proofs.Common.{Clause, JobFault, Name, Order, Step, lists_of, order_of, step_count}
 use Rattle.ulfm_job.proofs.Rounds.{one_of_all}
-use Rattle.ulfm_job.proofs.Scripts.{orders-put, step_count-set}
+use Rattle.ulfm_job.proofs.Scripts.{orders-put}
 use Rattle.ulfm_job.specs.JobText.{drafted, in_step}
 use Rattle.ulfm_job.specs.Reacting.{conditions_in, expected_in, names_in}
 use Rattle.ulfm_job.specs.declared.draft.Draft.{Draft as CodedDraft}
-use Rattle.ulfm_job.specs.declared.fault.Fault.{Fault}
 use Rattle.ulfm_job.specs.inside.Reading.{draft_view}
 
 -- a rank's script and the names so far, as a draft has them, and the number of the rank's next step
