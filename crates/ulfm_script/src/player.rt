@@ -2,7 +2,8 @@
 
 mod deciding;
 
-ghost use Rattle.std.specs.Prelude.{◌≡◌, ◌≢◌, ◌<◌, ◌≤◌, ◌+◌, ◌↔◌, length, false, IsTrue, IsSome, IfOk, IfErr, IfSome, IfNone, OnOk, OnErr, None, [], nat_lt};
+ghost use Rattle.std.specs.Prelude.{◌≡◌, ◌≢◌, ◌<◌, ◌≤◌, ◌+◌, ◌↔◌, length, false, IsTrue, IsSome, IfOk, IfErr, IfSome, IfNone, OnOk, OnErr, Some, None, [], nat_lt, option_map};
+ghost use Rattle.ulfm_job.specs.Job.{bodiless};
 ghost use Rattle.ulfm_rank.specs.Facts.{is_stopped};
 ghost use Rattle.ulfm_rank.specs.Paired.{IsPaired};
 ghost use Rattle.ulfm_rank.specs.State.{IsState, logged, outbox, returned, GoesOut, MayReturn};
@@ -19,7 +20,7 @@ use crate::report::RankReport;
 use std::alloc::Global;
 use std::marker::Model;
 use ulfm_base::{CallError, Item, OutOfMemory, WorldRank};
-use ulfm_job::{Clause, Step};
+use ulfm_job::{Clause, NotedStep, Step};
 use ulfm_rank::{Entry, Rank};
 
 /// A rank, the answers of its steps, and the step that stands open.
@@ -112,10 +113,10 @@ impl Player {
     }
 
     /// The step that stands open.
-    pub fn unfinished(&self) -> Option<Step>
-        ensures { result ≡ self.now.player.current }
+    pub fn unfinished(&self) -> Option<&Step>
+        ensures { option_map (λ step. step.now) result ≡ self.now.player.current }
     {
-        self.current
+        self.current.as_ref()
     }
 
     /// How many polls left the open step open, staying at its greatest value. It is 0 where none stands open.
@@ -129,7 +130,7 @@ impl Player {
     pub fn is_free(&self, step: &Step) -> bool
         ensures { IsTrue result ↔ IsFree self.now.player step.now }
     {
-        match self.current {
+        match &self.current {
             Some(open) => open.is_same(step),
             None => true,
         }
@@ -172,16 +173,16 @@ impl Player {
     {
         let at = self.rank.log().len();
         if self.awaits_decision() {
-            self.stay_open(*step, at);
+            self.stay_open(step, at);
             return Called::NotYet;
         }
         match poll(&mut self.rank, &self.done, step) {
             Some(answer) => {
-                self.answer(*step, answer, at);
+                self.answer(step, answer, at);
                 Called::Answered
             }
             None => {
-                self.stay_open(*step, at);
+                self.stay_open(step, at);
                 Called::NotYet
             }
         }
@@ -191,7 +192,10 @@ impl Player {
     fn awaits_decision(&self) -> bool
         ensures { result ≡ awaits_decision self.now.player.current }
     {
-        matches!(self.current, Some(Step::Shrink { .. } | Step::Agree { .. }))
+        matches!(
+            &self.current,
+            Some(Step::Shrink { .. } | Step::Agree { .. })
+        )
     }
 
     /// Gives the open step the answer `unfinished`. It never answers out of memory.
@@ -201,8 +205,8 @@ impl Player {
         ensures room { self.new.room + length self.new.player.done ≡ self.old.room + length self.old.player.done }
         ensures prepared { self.new.prepared ≡ self.old.prepared }
     {
-        if let Some(step) = self.current {
-            self.answer(step, StepAnswer::Unfinished, self.at);
+        if let Some(step) = self.current.take() {
+            self.answer(&step, StepAnswer::Unfinished, self.at);
         }
     }
 
@@ -230,18 +234,18 @@ impl Player {
         ensures prepared { self.new.prepared ≡ self.old.prepared }
     {
         let at = self.rank.log().len();
-        self.answer(*step, StepAnswer::Skipped, at);
+        self.answer(step, StepAnswer::Skipped, at);
     }
 
     /// The step has its answer, and none stands open.
-    fn answer(&mut self, step: Step, answer: StepAnswer, at: usize)
+    fn answer(&mut self, step: &Step, answer: StepAnswer, at: usize)
         requires { 0 < self.old.room }
-        ensures player { self.new.player ≡ answered self.old.player step answer at }
+        ensures player { self.new.player ≡ answered self.old.player step.now answer at }
         ensures room { self.new.room + length self.new.player.done ≡ self.old.room + length self.old.player.done }
         ensures prepared { self.new.prepared ≡ self.old.prepared }
     {
         self.done.push_reserved(StepReport {
-            step,
+            step: NotedStep::of(step),
             answer,
             at,
             polls: self.polls,
@@ -252,13 +256,14 @@ impl Player {
     }
 
     /// One more poll, begun at this length of the log, left the step open.
-    fn stay_open(&mut self, step: Step, at: usize)
-        requires { 0 < self.old.room }
-        ensures player { self.new.player ≡ polled self.old.player step at }
+    fn stay_open(&mut self, step: &Step, at: usize)
+        requires room { 0 < self.old.room }
+        requires bodiless { bodiless step.now ≡ Some step.now }
+        ensures player { self.new.player ≡ polled self.old.player step.now at }
         ensures room { self.new.room ≡ self.old.room }
         ensures prepared { self.new.prepared ≡ self.old.prepared }
     {
-        self.current = Some(step);
+        self.current = step.bodiless();
         self.at = at;
         self.polls = self.polls.saturating_add(1);
     }

@@ -10,6 +10,7 @@ ghost use Rattle.ulfm_laws.specs.Lawful.{IsLawful};
 ghost use Rattle.ulfm_world.specs.inside.Rounds.{Moves, Follows, IsPushStuck, IsStuck};
 ghost use Rattle.ulfm_world.specs.Replay.{IsReplayed, MadeAtRest};
 
+use crate::asked::Asked;
 use crate::event::{Event, Outcome, Refused};
 use crate::world::World;
 use std::alloc::Global;
@@ -211,14 +212,14 @@ fn poll(job: &Job, world: &mut World, r: u8, most: u32) -> Result<bool, RunFault
         return Ok(false);
     };
     if !world.is_next_played(r, job.conditions()) {
-        skip(job, world, r, &step)?;
+        skip(job, world, r, step)?;
         poll(job, world, r, most)?;
         return Ok(true);
     }
-    if decide(job, world, r, &step) {
+    if decide(job, world, r, step) {
         return Ok(true);
     }
-    call(job, world, r, &step, most)?;
+    call(job, world, r, step, most)?;
     Ok(true)
 }
 
@@ -233,7 +234,7 @@ fn skip(job: &Job, world: &mut World, r: u8, step: &Step) -> Result<(), RunFault
     ensures { OnOk result (Moves job.now world.old world.new true) }
 {
     let _ = job.turns();
-    match world.apply(Event::Skip(r, *step)) {
+    match world.apply(Event::Skip(r, Asked::of(step))) {
         Ok(_) => Ok(()),
         Err(Refused::OutOfMemory) => Err(RunFault::OutOfMemory),
         Err(_) => unreachable!(),
@@ -311,7 +312,7 @@ fn call_once(job: &Job, world: &mut World, r: u8, step: &Step) -> Result<(), Run
     ensures { OnOk result (Moves job.now world.old world.new true) }
 {
     let turns = job.turns();
-    match world.apply(Event::Call(r, *step)) {
+    match world.apply(Event::Call(r, Asked::of(step))) {
         Ok(Outcome::Answered) => return Ok(()),
         Ok(_) => {}
         Err(Refused::OutOfMemory) => return Err(RunFault::OutOfMemory),
