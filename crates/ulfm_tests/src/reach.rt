@@ -7,6 +7,7 @@ use std::test::Fail;
 use ulfm_reach::{Reach, Reached, Rows, Watch, explore};
 
 /// What was told last.
+#[derive(Drop)]
 struct Told {
     looked_at: usize,
     found: usize,
