@@ -23,7 +23,8 @@ use ulfm_replies::{
 const STARVED: &[u8] = b"run failed: F3\n";
 
 /// Follows the words: looks at them first, then reads the input whole, then its job, then runs it, and writes the whole
-/// reply. Then standard error gets what a person wants to know beside it. Answers the status (docs/JOBS.md).
+/// reply. Standard error gets how far a list of outcomes is, where that is asked for, and then what a person wants to know beside
+/// the reply. Answers the status (docs/JOBS.md).
 pub fn run_on<T, S, R, W, E>(
     rt: &T,
     alloc: Global,
