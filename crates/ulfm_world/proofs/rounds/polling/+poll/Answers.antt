@@ -2,7 +2,7 @@ use Rattle.std.proofs.Common.{◌≡◌, length, Bool, Some, refl, ap, sym, subs
 use Rattle.ulfm_world.proofs.Common.{script_at, World, player_at, Moves, next_open, IsUndecided}
 use Rattle.ulfm_job.specs.Job.{decides_on}
 use Rattle.ulfm_world.proofs.Moves.{moves-first}
-use Rattle.ulfm_world.proofs.rounds.+poll.Goals as goal
+use Rattle.ulfm_world.proofs.rounds.polling.+poll.Goals as goal
 
 pub returns-then-not-is_next_played-clause-moves : goal.returns-then-not-is_next_played-clause-moves
 returns-then-not-is_next_played-clause-moves t c = moves-first _ _ _ _ _ c.in_ok-skip.ensures c.in_ok-poll.ensures.moves

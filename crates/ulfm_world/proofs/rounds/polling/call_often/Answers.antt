@@ -3,7 +3,7 @@ use Rattle.ulfm_script.proofs.Advance.{ready-at}
 use Rattle.ulfm_world.proofs.Common.{player_at}
 use Rattle.ulfm_world.proofs.MovesCall.{moves-call}
 use Rattle.ulfm_world.proofs.Often.{moves-many, open_now}
-use Rattle.ulfm_world.proofs.rounds.call_often.Goals as goal
+use Rattle.ulfm_world.proofs.rounds.polling.call_often.Goals as goal
 
 pub returns-in-Ok : goal.returns-in-Ok
 returns-in-Ok c =

@@ -3,7 +3,7 @@ use Rattle.ulfm_world.proofs.MovesCall.{moves-call, moves-leave, none_open}
 use Rattle.ulfm_script.proofs.Advance.{ready-at}
 use Rattle.ulfm_world.proofs.Common.{player_at}
 use Rattle.ulfm_world.proofs.Refusals.{leave-goes}
-use Rattle.ulfm_world.proofs.rounds.call_once.Goals as goal
+use Rattle.ulfm_world.proofs.rounds.polling.call_once.Goals as goal
 
 pub returns-in-Ok-Answered : goal.returns-in-Ok-Answered
 returns-in-Ok-Answered c =

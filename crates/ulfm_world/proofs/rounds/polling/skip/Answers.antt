@@ -1,7 +1,7 @@
 use Rattle.ulfm_script.proofs.Advance.{ready-at}
 use Rattle.ulfm_world.proofs.Common.{player_at}
 use Rattle.ulfm_world.proofs.MovesCall.{moves-skip}
-use Rattle.ulfm_world.proofs.rounds.skip.Goals as goal
+use Rattle.ulfm_world.proofs.rounds.polling.skip.Goals as goal
 
 pub returns-in-Ok : goal.returns-in-Ok
 returns-in-Ok c =
