@@ -1,8 +1,8 @@
 //! Searches of the waiting receives and of the kept letters for the least number.
-ghost use Rattle.std.specs.Prelude.{◌≡◌, ◌<◌, ◌↔◌, ℕ, Contains, IsTrue, true};
+ghost use Rattle.std.specs.Prelude.{◌≡◌, ◌<◌, ◌↔◌, ℕ, ⊤, Contains, IsTrue, true, false};
 ghost use Rattle.ulfm_base.specs.RankSet.{has};
-ghost use Rattle.ulfm_match.specs.inside.Buckets.{Rises, Passes, FindsLeast, IsLesser, MayGet, MayGoTo, StandsFor, StandsFrom, numbers_at};
-ghost use Rattle.ulfm_match.specs.inside.Key.{key_from};
+ghost use Rattle.ulfm_match.specs.inside.Buckets.{Rises, Passes, FindsLeast, IsIndexed, IsLesser, MayGet, MayGoTo, NoneIsWild, StandsFrom, numbers_at};
+ghost use Rattle.ulfm_match.specs.inside.Key.{key_from, IsKeyOfReceive};
 
 use crate::buckets::Buckets;
 use crate::key::{key_at, key_from};
@@ -144,6 +144,7 @@ pub(crate) fn first_kept(
 }
 
 /// The earliest waiting receive of a key that admits the envelope.
+#[inline(always)]
 fn first_of_key(
     buckets: &Buckets,
     waiting: &IndexMap<u64, Pattern>,
@@ -175,17 +176,22 @@ fn lesser(one: Option<u64>, other: Option<u64>) -> Option<u64>
     }
 }
 
-/// The earliest waiting receive that admits the envelope.
+/// The earliest waiting receive that admits the envelope. Where none is wild, it is sought by its source and tag alone.
 #[inline(never)]
 pub(crate) fn first_waiting(
     buckets: &Buckets,
     waiting: &IndexMap<u64, Pattern>,
+    wild: bool,
     envelope: &Envelope,
 ) -> Option<u64>
-    requires { (k : ℕ) → Rises (numbers_at buckets.now k) }
-    ensures { FindsLeast (StandsFor envelope.now buckets.now) (Passes (MayGoTo envelope.now) waiting.now) result }
+    requires indexed { (top : ℕ) × IsIndexed IsKeyOfReceive top waiting.now buckets.now }
+    requires none_wild { wild ≡ false → NoneIsWild IsKeyOfReceive waiting.now }
+    ensures { FindsLeast (λ _. ⊤) (Passes (MayGoTo envelope.now) waiting.now) result }
 {
     let named = first_of_key(buckets, waiting, key_at(envelope, false, false), envelope);
+    if !wild {
+        return named;
+    }
     let named_any = first_of_key(buckets, waiting, key_at(envelope, false, true), envelope);
     let any_named = first_of_key(buckets, waiting, key_at(envelope, true, false), envelope);
     let any = first_of_key(buckets, waiting, key_at(envelope, true, true), envelope);

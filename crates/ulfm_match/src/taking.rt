@@ -1,7 +1,7 @@
 //! Entries that are taken out, and their numbers with them.
-ghost use Rattle.std.specs.Prelude.{◌≡◌, ◌≢◌, ◌↔◌, ℕ, None, Contains, IsTrue, MatchOption, IfNone};
+ghost use Rattle.std.specs.Prelude.{◌≡◌, ◌≢◌, ◌↔◌, ℕ, None, Contains, IsTrue, MatchOption, IfNone, false};
 ghost use Rattle.ulfm_base.specs.Pattern.{Admits};
-ghost use Rattle.ulfm_match.specs.inside.Buckets.{IsIndexed, MayGet, MayGoTo, NonePass, TakesOut, GivesLetter, GivesReceive};
+ghost use Rattle.ulfm_match.specs.inside.Buckets.{IsIndexed, MayGet, MayGoTo, NoneIsWild, NonePass, TakesOut, GivesLetter, GivesReceive};
 ghost use Rattle.ulfm_match.specs.inside.Key.{IsKeyOf, IsKeyOfReceive};
 ghost use Rattle.ulfm_match.specs.inside.Pools.{all_of, HasPlace, IsPool, NoneOf, TakesLeast};
 
@@ -42,16 +42,18 @@ fn take_kept(
 fn take_waiting(
     waiting: &mut IndexMap<u64, Pattern>,
     buckets: &mut Buckets,
+    wild: bool,
     envelope: &Envelope,
 ) -> Option<u64>
-    requires { (top : ℕ) × IsIndexed IsKeyOfReceive top waiting.old buckets.old }
+    requires indexed { (top : ℕ) × IsIndexed IsKeyOfReceive top waiting.old buckets.old }
+    requires none_wild { wild ≡ false → NoneIsWild IsKeyOfReceive waiting.old }
     ensures taken { MatchOption result (NonePass (MayGoTo envelope.now) waiting.old) (GivesReceive envelope.now waiting.old waiting.new buckets.old buckets.new) }
     ensures idle { IfNone result ((waiting.new ≡ waiting.old) × (buckets.new ≡ buckets.old)) }
 {
     if waiting.is_empty() {
         return None;
     }
-    match first_waiting(buckets, waiting, envelope) {
+    match first_waiting(buckets, waiting, wild, envelope) {
         Some(number) => {
             take_numbered(waiting, buckets, number);
             Some(number)
@@ -95,7 +97,7 @@ pub(crate) fn take_receive(pool: &mut Pool<Pattern>, envelope: &Envelope) -> Opt
     ensures pool { (count : ℕ) → IsPool IsKeyOfReceive count pool.old → IsPool IsKeyOfReceive count pool.new }
     ensures place { HasPlace pool.old → HasPlace pool.new }
 {
-    match take_waiting(&mut pool.early, &mut pool.buckets, envelope) {
+    match take_waiting(&mut pool.early, &mut pool.buckets, pool.wild, envelope) {
         Some(number) => Some(number),
         None => match take_late_receive(&mut pool.late, envelope) {
             Some((number, _)) => Some(number),

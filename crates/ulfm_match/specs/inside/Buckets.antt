@@ -10,7 +10,7 @@ use Rattle.ulfm_base.specs.declared.envelope.Letter.{Letter}
 use Rattle.ulfm_base.specs.declared.envelope.Envelope.{Envelope}
 use Rattle.ulfm_base.specs.Pattern.{Admits}
 use Rattle.ulfm_match.specs.declared.bucket.Bucket.{Bucket}
-use Rattle.ulfm_match.specs.inside.Key.{IsKeyAt, AsksOf, key_from}
+use Rattle.ulfm_match.specs.inside.Key.{IsWild, AsksOf, key_from}
 
 -- entries by number
 abbrev pub Entries : Type 0 → Type 0
@@ -108,10 +108,6 @@ GivesReceive envelope old new from to n = (pattern : Pattern) × TakesEarliest (
 abbrev pub NonePass : {X : Type 0} → (X → Type 0) → Entries X → Type 0
 NonePass {X} P entries = (n : ℕ) → Passes P entries n → ⊥
 
--- this number stands in a bucket of a key of the envelope
-abbrev pub StandsFor : Envelope → Buckets → ℕ → Type 0
-StandsFor envelope buckets n = (k : ℕ) × IsKeyAt envelope k × Contains (numbers_at buckets k) n
-
 -- this number stands in the bucket of a source that the receive asks of
 abbrev pub StandsFrom : Pattern → Buckets → ℕ → Type 0
 StandsFrom pattern buckets n = (s : ℕ) × AsksOf pattern.source s × Contains (numbers_at buckets (key_from s pattern)) n
@@ -123,3 +119,7 @@ pub record IsIndexed {X : Type 0} (IsKey : X → ℕ → Type 0) (top : ℕ) (en
   pub held : (n : ℕ) (x : X) (k : ℕ) → get nat_eq entries n ≡ Some x → IsKey x k → Contains (numbers_at buckets k) n
   pub rises : (k : ℕ) → Rises (numbers_at buckets k)
   pub within : (k n : ℕ) → Contains (numbers_at buckets k) n → n ≤ top
+
+-- no entry has a key of any source or of any tag
+abbrev pub NoneIsWild : {X : Type 0} → (X → ℕ → Type 0) → Entries X → Type 0
+NoneIsWild {X} IsKey entries = (n : ℕ) (x : X) (k : ℕ) → get nat_eq entries n ≡ Some x → IsKey x k → IsWild k → ⊥

@@ -1,5 +1,5 @@
 -- The keys of buckets.
-use Rattle.std.specs.Prelude.{◌≡◌, ℕ, ◌+◌, ◌*◌, ◌<◌, Bool, true, false, Option, Some, None, cond}
+use Rattle.std.specs.Prelude.{◌≡◌, ℕ, ◌+◌, ◌*◌, ◌<◌, ◌⊎◌, Bool, true, false, Option, Some, None, cond}
 use Rattle.ulfm_base.specs.RankSet.{has}
 use Rattle.ulfm_base.specs.declared.pattern.Pattern.{Pattern}
 use Rattle.ulfm_base.specs.declared.pattern.Source.{Source}
@@ -38,6 +38,14 @@ tag_at any_tag tag = cond any_tag 32768 tag.number
 -- the key of the receives that name the letter's source or any, and its tag or any
 abbrev pub key_at : Bool → Bool → Envelope → ℕ
 key_at any_source any_tag envelope = key_number envelope.context.number (source_at any_source envelope.source) (tag_at any_tag envelope.tag)
+
+-- a key of any source or of any tag
+pub record IsWild (k : ℕ) : Type 0 where
+  pub envelope : Envelope
+  pub any_source : Bool
+  pub any_tag : Bool
+  pub is_wild : (any_source ≡ true) ⊎ (any_tag ≡ true)
+  pub is : k ≡ key_at any_source any_tag envelope
 
 -- receives that admit the envelope have one of four keys
 pub record IsKeyAt (envelope : Envelope) (k : ℕ) : Type 0 where

@@ -44,7 +44,7 @@ impl Player {
     }
 
     /// Whether a shrink or an agreement that was entered stands open.
-    fn awaits_decision(&self) -> bool
+    pub fn awaits_decision(&self) -> bool
         ensures { result ≡ awaits_decision self.now.player.current }
     {
         matches!(
