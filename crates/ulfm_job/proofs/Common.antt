@@ -1,6 +1,6 @@
 -- The names that most proofs of jobs cite, passed on from one place. Declares nothing.
 pub use Rattle.std.proofs.lemmas.Bool.Decides.{nat_tests}
-pub use Rattle.std.specs.List.{AllZip, each_same, list_all, list_any}
+pub use Rattle.std.specs.List.{list_all, list_any}
 pub use Rattle.std.specs.Str.{IsUtf8, bytes_eq, is_utf8}
 pub use Rattle.toml.specs.Parse.{parse_document}
 pub use Rattle.toml.specs.View.{items_view, members_view, table_view, view}

@@ -1,16 +1,15 @@
 -- One more step of a draft.
-use Rattle.std.proofs.Common.{◌≡◌, ℕ, ◌+◌, ◌<◌, ◌≤◌, List, [], ◌∷◌, ◌++◌, length, map, set, get_or, slice_index_or, Ok, Err, Vec, Global, refl, sym, ap, ◌∙◌, arith}
-use Rattle.std.proofs.lemmas.List.{length-map, length_push, get_or-map}
+use Rattle.std.proofs.Common.{◌≡◌, ℕ, ◌<◌, ◌≤◌, List, [], ◌∷◌, ◌++◌, length, map, set, get_or, slice_index_or, Ok, Err, Vec, Global, refl, sym, ap, ◌∙◌, arith}
+use Rattle.std.proofs.lemmas.List.{length-map, get_or-map}
 use Rattle.toml.specs.Data.{Members, get_member}
 use Rattle.std.specs.Prelude.{codes}
 use Rattle.ulfm_job.proofs.Asking.{in_step-err}
 use Rattle.ulfm_job.proofs.Common.{Clause, JobFault, Name, Order, Step, lists_of, order_of, step_count}
 use Rattle.ulfm_job.proofs.Rounds.{one_of_all}
-use Rattle.ulfm_job.proofs.Scripts.{orders-put, step_count-set}
+use Rattle.ulfm_job.proofs.Scripts.{orders-put}
 use Rattle.ulfm_job.specs.JobText.{drafted, in_step}
 use Rattle.ulfm_job.specs.Reacting.{conditions_in, expected_in, names_in}
 use Rattle.ulfm_job.specs.declared.draft.Draft.{Draft as CodedDraft}
-use Rattle.ulfm_job.specs.declared.fault.Fault.{Fault}
 use Rattle.ulfm_job.specs.inside.Reading.{draft_view}
 
 -- a rank's script and the names so far, as a draft has them, and the number of the rank's next step
@@ -38,12 +37,6 @@ front d r at w script names inside here is number known =
       number = number;
       known = known;
     }
-
--- the fault of a name
-pub name-fault : (d : CodedDraft) (r at : ℕ) (script : List Step) (names : List Name) (o : Order) (ms : Members) (f : Fault) → IsFront d r at script names
-    → Err f ≡ names_in names r at (get_member (codes "name") ms) → drafted (draft_view d) ms (record { rank = r; order = o }) ≡ Err f
-unfolding drafted
-name-fault d r at script names o ms f h read = rw (h.orders, length-map script order_of, ← h.number, ← h.known, ← read) refl
 
 -- the fault of a condition
 pub conditions-fault : (d : CodedDraft) (r at k : ℕ) (script : List Step) (names more : List Name) (o : Order) (ms : Members) (e : JobFault) → IsFront d r at script names
@@ -77,11 +70,3 @@ one-more d new r at script names more conditions expected x ms h inside named as
     let put : map (map order_of) (lists_of new.scripts.items) ≡ set (map (map order_of) (lists_of d.scripts.items)) r (slice_index_or (map (map order_of) (lists_of d.scripts.items)) r [] ++ order_of x ∷ []) =
     ap (map (map order_of)) grown ∙ orders-put (lists_of d.scripts.items) r x (omega (arith, inside, long)) in
     rw (put, n, c, e, h.orders, length-map script order_of, ← h.number, ← h.known, ← named, asked, wanted) refl
-
--- how many steps there are then
-pub counted-on : (d new : CodedDraft) (r : ℕ) (x : Step) → r < length d.scripts.items
-    → lists_of new.scripts.items ≡ set (lists_of d.scripts.items) r (slice_index_or (lists_of d.scripts.items) r [] ++ x ∷ [])
-    → step_count (lists_of new.scripts.items) ≡ step_count (lists_of d.scripts.items) + 1
-counted-on d new r x inside grown =
-    let long : length (lists_of d.scripts.items) ≡ length d.scripts.items = length-map d.scripts.items (λ (v : Vec Step Global). v.items) in
-    ap step_count grown ∙ step_count-set (lists_of d.scripts.items) r _ (omega (arith, inside, long)) (length_push _ x)

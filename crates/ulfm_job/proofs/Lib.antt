@@ -4,7 +4,6 @@ pub mod Keys
 pub mod NoToml
 pub mod Scripts
 pub mod Steps
-pub mod Padded
 pub mod WithStop
 pub mod Rounds
 pub mod Asking

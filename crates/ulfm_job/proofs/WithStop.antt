@@ -1,28 +1,20 @@
 -- A job with one more stop.
-use Rattle.std.proofs.Common.{◌≡◌, ◌≢◌, ℕ, ◌+◌, ◌<◌, ◌≤◌, List, [], ◌∷◌, length, map, set, Vec, Global, refl, sym, ap, ap₂, ◌∙◌, arith, vec_len}
-use Rattle.ulfm_job.proofs.Common.{Clause, Step, Seen, IsJob, seen_of, lists_of, step_count, script_at, moved_on, stopped_at, with_stop, AllZip, each_same}
+use Rattle.std.proofs.Common.{◌≡◌, ◌≢◌, ℕ, ◌+◌, ◌<◌, ◌≤◌, List, length, map, set, Vec, Global, sym, ap, ap₂, ◌∙◌, arith}
+use Rattle.ulfm_job.proofs.Common.{Clause, Step, Seen, IsJob, seen_of, lists_of, step_count, script_at, moved_on, stopped_at, with_stop}
 use Rattle.std.proofs.lemmas.List.{length-map, length-set, map-set}
 use Rattle.std.proofs.lemmas.List.Edits.{length-insert}
 use Rattle.ulfm_job.specs.Job.{moved_clause}
 use Rattle.ulfm_job.specs.declared.step.Step.TheVariants.{Stop}
 use Rattle.ulfm_job.proofs.Scripts.{step_count-set}
 
--- copies hold the same steps
-lists_of-clones : (vs ws : List (Vec Step Global)) → AllZip (λ v w. AllZip (λ x y. y ≡ x) v.items w.items × (vec_len w ≡ vec_len v)) vs ws → lists_of ws ≡ lists_of vs
-lists_of-clones [] [] h = refl
-lists_of-clones [] (w ∷ ws) h = elim h [ ]
-lists_of-clones (v ∷ vs) [] h = elim h [ ]
-lists_of-clones (v ∷ vs) (w ∷ ws) h = cc (each_same v.items w.items h.0.0, lists_of-clones vs ws h.1)
-
 -- a copy in which one script has the stop
 pub seen-stopped : (j : Seen) (capacity turns r at : ℕ) (vs ws : List (Vec Step Global)) (v : Vec Step Global) (conditions expected asked wanted : List Clause) → j ≡ seen_of capacity turns vs conditions expected
-    → AllZip (λ v w. AllZip (λ x y. y ≡ x) v.items w.items × (vec_len w ≡ vec_len v)) vs ws → v.items ≡ stopped_at at (script_at j r)
+    → lists_of ws ≡ lists_of vs → v.items ≡ stopped_at at (script_at j r)
     → asked ≡ map (moved_clause r at (length (script_at j r))) conditions → wanted ≡ map (moved_clause r at (length (script_at j r))) expected
     → seen_of capacity turns (set ws r v) asked wanted ≡ with_stop r at j
 seen-stopped j capacity turns r at vs ws v conditions expected asked wanted is copies stopped moved kept =
     let items = λ (u : Vec Step Global). u.items in
-    let same = lists_of-clones vs ws copies in
-    let scripts : lists_of (set ws r v) ≡ set (lists_of vs) r (stopped_at at (script_at j r)) = map-set items ws r v ∙ cc (same, stopped) in
+    let scripts : lists_of (set ws r v) ≡ set (lists_of vs) r (stopped_at at (script_at j r)) = map-set items ws r v ∙ cc (copies, stopped) in
     let long : length (set ws r v) ≡ length vs = sym (length-map (set ws r v) items) ∙ ap length scripts ∙ length-set (lists_of vs) r _ ∙ length-map vs items in
     cc (scripts, long, is, moved, kept)
 

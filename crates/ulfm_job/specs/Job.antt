@@ -5,7 +5,7 @@ use Rattle.std.specs.declared.alloc.Global.{Global}
 use Rattle.ulfm_job.specs.declared.clause.Clause.{Clause}
 use Rattle.ulfm_job.specs.declared.step.Step.{Step}
 use Rattle.ulfm_base.specs.declared.context.Context.{Context}
-use Rattle.ulfm_job.specs.declared.step.Step.TheVariants.{Wait, Mrecv, Cancel, Shrink, Agree, Stop}
+use Rattle.ulfm_job.specs.declared.step.Step.TheVariants.{Send, Wait, Mrecv, Cancel, Shrink, Agree, Stop}
 
 -- how many ranks there are, the room of an inbox, the most polls of one step, the steps of each rank, on what conditions some are
 -- played, and what some expect of their answers
@@ -87,6 +87,11 @@ pub record IsJob (j : Seen) : Type 0 where
 abbrev pub is_stop_step : Step → Bool
 is_stop_step Stop = true
 is_stop_step _ = false
+
+-- a step that has no body to carry
+abbrev pub bodiless : Step → Option Step
+bodiless (Send to tag body comm) = None
+bodiless step = Some step
 
 -- the communicator about which ranks decide together by a step: they shrink it, or agree on it
 abbrev pub decides_on : Step → Option Context

@@ -1,5 +1,5 @@
 -- The names of steps, their conditions, and what they expect, by cases in the order of the checks.
-use Rattle.std.specs.Prelude.{ℕ, ℤ, ◌==◌, nat_lt, nat_le, Bool, ◌&&◌, ◌||◌, List, [], ◌∷◌, ◌++◌, take, length, Option, Some, None, option_map, is_some, find, Result, Ok, Err, slice_get, if◌then◌else◌, codes}
+use Rattle.std.specs.Prelude.{ℕ, ℤ, ◌==◌, nat_lt, nat_le, Bool, ◌&&◌, ◌||◌, List, [], ◌∷◌, ◌++◌, length, Option, Some, None, option_map, is_none, find, Result, Ok, Err, slice_get, if◌then◌else◌, codes}
 use Rattle.std.specs.List.{list_all}
 use Rattle.std.specs.Option.{ok_or}
 use Rattle.std.specs.Str.{bytes_eq}
@@ -8,8 +8,6 @@ use Rattle.ulfm_job.specs.declared.clause.Clause.{Clause}
 use Rattle.ulfm_job.specs.declared.fault.Fault.{Fault}
 use Rattle.ulfm_job.specs.declared.fault.Fault.TheVariants.{BadKey, OutOfRange}
 use Rattle.ulfm_job.specs.declared.name.Name.{Name}
-use Rattle.ulfm_job.specs.declared.reference.Reference.{Reference}
-use Rattle.ulfm_job.specs.declared.reference.Reference.TheVariants as by
 use Rattle.ulfm_job.specs.Begins.{may_ask, may_expect}
 use Rattle.ulfm_job.specs.Keys.{◌>>=◌, items_len, required, only_keys, in_range}
 use Rattle.ulfm_job.specs.Plan.{Order}
@@ -30,16 +28,23 @@ is_called rank text name = (name.rank == rank) && bytes_eq name.text text
 abbrev pub named : List Name → ℕ → List ℕ → Option ℕ
 named names rank text = option_map (λ (name : Name). name.at) (find (is_called rank text) names)
 
+-- a name that no earlier step of the rank has
+abbrev pub is_new_name : List Name → ℕ → List ℕ → Bool
+is_new_name names rank text = is_name text && is_none (named names rank text)
+
 -- the name of the step `at` of a rank, which no earlier one of that rank has
 abbrev pub name_in : List Name → ℕ → ℕ → List ℕ → Result Name Fault
-name_in names rank at text =
-    if is_name text then (if is_some (named names rank (take 1025 text)) then Err OutOfRange else Ok (record { rank = rank; at = at; text = take 1025 text }))
-    else Err OutOfRange
+name_in names rank at text = if is_new_name names rank text then Ok (record { rank = rank; at = at; text = text }) else Err OutOfRange
+
+-- what names a step: its number, or its name
+pub data Reference : Type 0 where
+  by_number : ℤ → Reference
+  by_name : List ℕ → Reference
 
 -- a number or a text, as what names a step
 abbrev pub reference_or : Option ℤ → Option (List ℕ) → Result Reference Fault
-reference_or (Some number) text = Ok (by.Number number)
-reference_or None (Some text) = Ok (by.Name (take 1025 text))
+reference_or (Some number) text = Ok (by_number number)
+reference_or None (Some text) = Ok (by_name text)
 reference_or None None = Err BadKey
 
 -- what names a step, where it is there
@@ -53,8 +58,8 @@ required_reference key ms = reference_in (get_member key ms)
 
 -- the number of a step that is named: any number of a step, or that of an earlier one by its name
 abbrev pub req_in : List Name → ℕ → Reference → Result ℕ Fault
-req_in names rank (by.Number number) = in_range 0 255 number
-req_in names rank (by.Name text) = ok_or (named names rank text) OutOfRange
+req_in names rank (by_number number) = in_range 0 255 number
+req_in names rank (by_name text) = ok_or (named names rank text) OutOfRange
 
 -- 1 to 16 items
 abbrev pub are_few : Items → Bool
@@ -63,7 +68,7 @@ are_few ds = nat_lt 0 (items_len ds) && nat_le (items_len ds) 16
 -- words that pass a test
 abbrev pub words_in : (List ℕ → Bool) → Option (List ℕ) → Result (List ℕ) Fault
 words_in is_good None = Err BadKey
-words_in is_good (Some words) = if is_good words then Ok (take 1025 words) else Err OutOfRange
+words_in is_good (Some words) = if is_good words then Ok words else Err OutOfRange
 
 -- a clause by its parts
 abbrev pub clause : ℕ → ℕ → ℕ → List ℕ → Clause

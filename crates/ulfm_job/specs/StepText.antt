@@ -1,5 +1,5 @@
 -- The step of a table, for each op, by cases in the order of the checks: keys and their kinds, unknown keys, ranges.
-use Rattle.std.specs.Prelude.{ℕ, pos, ◌-◌, List, [], ◌∷◌, take, Result, Ok, Err, unwrap_or, if◌then◌else◌, codes}
+use Rattle.std.specs.Prelude.{ℕ, pos, ◌-◌, List, [], ◌∷◌, Result, Ok, Err, unwrap_or, if◌then◌else◌, codes}
 use Rattle.std.specs.Str.{bytes_eq}
 use Rattle.toml.specs.Data.{Members}
 use Rattle.ulfm_job.specs.declared.fault.Fault.{Fault}
@@ -22,7 +22,7 @@ send_step ranks ms = do
   to ← in_range 0 7 to_key
   tag ← in_range 0 32767 tag_key
   comm ← in_range 0 62 (unwrap_or comm_key (pos 0))
-  Ok (record { rank = rank; order = send to tag (take 1025 body) comm })
+  Ok (record { rank = rank; order = send to tag body comm })
 
 -- the step of a `recv`
 unfoldable pub recv_step : ℕ → Members → Result PlannedStep Fault

@@ -1,3 +1,3 @@
 -- What invariants, private functions and proofs cite of jobs.
 pub mod Reading
-pub mod Text
+pub mod Noted

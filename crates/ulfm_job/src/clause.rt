@@ -1,10 +1,12 @@
 //! What is asked of an answer.
 
 use crate::text::Text;
+use std::alloc::Global;
+use ulfm_base::OutOfMemory;
 
 /// That the answer of the step `step` of a rank begins with these words, by whole words. The step `at` of the same rank asks for it:
 /// as a condition, of an earlier step; as an expectation, of itself.
-#[derive(Clone, Copy)]
+#[derive(Drop)]
 pub struct Clause {
     /// The rank.
     pub rank: u8,
@@ -14,4 +16,21 @@ pub struct Clause {
     pub step: u16,
     /// The words.
     pub words: Text,
+}
+
+impl Clause {
+    ghost use Rattle.std.specs.Prelude.{◌≡◌, IfOk};
+
+    /// The same clause once more.
+    pub(crate) fn copy(&self, alloc: Global) -> Result<Clause, OutOfMemory>
+        ensures { IfOk result (λ clause. clause ≡ self.now) }
+    {
+        let words = self.words.copy(alloc)?;
+        Ok(Clause {
+            rank: self.rank,
+            at: self.at,
+            step: self.step,
+            words,
+        })
+    }
 }

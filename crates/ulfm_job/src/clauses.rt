@@ -5,7 +5,7 @@ ghost use Rattle.toml.specs.View.{view, table_view, items_view};
 ghost use Rattle.ulfm_job.specs.JobText.{Gives, in_step};
 ghost use Rattle.ulfm_job.specs.Keys.{required};
 ghost use Rattle.ulfm_job.specs.Plan.{order_of};
-ghost use Rattle.ulfm_job.specs.inside.Reading.{map_ok, asker_view, may_begin};
+ghost use Rattle.ulfm_job.specs.inside.Reading.{map_ok, asker_view, may_begin, reference_view};
 ghost use Rattle.ulfm_job.specs.Reacting.{are_few, clauses_onto, few_clauses, earlier_in, asked_in, conditions_of, conditions_onto, conditions_in, expected_in, words_in};
 
 use crate::asker::Asker;
@@ -34,14 +34,14 @@ fn may_begin(is_condition: bool, asked: &Step, words: &str) -> bool
 }
 
 /// The words of a value, where they fit.
-fn words_in(is_condition: bool, asked: &Step, value: &Value) -> Result<Text, Fault>
-    ensures { result ≡ words_in (may_begin is_condition asked.now) (as_str (view value.now)) }
+fn words_in<'a>(is_condition: bool, asked: &Step, value: &'a Value) -> Result<&'a str, Fault>
+    ensures { map_ok (λ s. s.now) result ≡ words_in (may_begin is_condition asked.now) (as_str (view value.now)) }
 {
     let Some(words) = value.as_str() else {
         return Err(Fault::BadKey);
     };
     if may_begin(is_condition, asked, words) {
-        Ok(Text::new(words))
+        Ok(words)
     } else {
         Err(Fault::OutOfRange)
     }
@@ -63,6 +63,7 @@ fn push_clauses(
             Ok(words) => words,
             Err(fault) => return Err(JobFault::InStep(fault, asker.place)),
         };
+        let words = Text::new(*clauses.allocator(), words)?;
         clauses.push(Clause {
             rank: asker.rank,
             at: asker.at,
@@ -99,21 +100,18 @@ fn push_few(
 
 /// An earlier step with its number.
 #[derive(Clone, Copy)]
-struct Earlier {
+struct Earlier<'a> {
     number: u16,
-    step: Step,
+    step: &'a Step,
 }
 
 /// The earlier step that a condition names.
-fn earlier_in(asker: &Asker<'_>, reference: &Reference) -> Result<Earlier, Fault>
-    ensures { map_ok (λ found. (found.number, order_of found.step)) result ≡ earlier_in (asker_view asker.now) reference.now }
+fn earlier_in<'a>(asker: &Asker<'a>, reference: &Reference<'_>) -> Result<Earlier<'a>, Fault>
+    ensures { map_ok (λ found. (found.number, order_of found.step.now)) result ≡ earlier_in (asker_view asker.now) (reference_view reference.now) }
 {
     let number = req_in(asker.names, asker.rank, reference)?;
     match asker.script.get(number as usize) {
-        Some(step) => Ok(Earlier {
-            number,
-            step: *step,
-        }),
+        Some(step) => Ok(Earlier { number, step }),
         None => Err(Fault::OutOfRange),
     }
 }
@@ -133,8 +131,8 @@ fn required_array<'a>(table: &'a Table, key: &str) -> Result<&'a [Value], Fault>
 
 /// What one table of an `if` asks for.
 #[tactic(auto, unfolding(crate::specs::Reacting::asked_in))]
-fn asked_in<'a>(asker: &Asker<'_>, table: &'a Table) -> Result<(Earlier, &'a [Value]), Fault>
-    ensures { map_ok (λ asked. ((asked.0.number, order_of asked.0.step), items_view asked.1.now)) result ≡ asked_in (asker_view asker.now) (table_view table.now) }
+fn asked_in<'a>(asker: &Asker<'a>, table: &'a Table) -> Result<(Earlier<'a>, &'a [Value]), Fault>
+    ensures { map_ok (λ asked. ((asked.0.number, order_of asked.0.step.now), items_view asked.1.now)) result ≡ asked_in (asker_view asker.now) (table_view table.now) }
 {
     let reference = required_reference(table, "step")?;
     let words = required_array(table, "is")?;
@@ -148,14 +146,7 @@ fn push_table(clauses: &mut Vec<Clause>, asker: &Asker<'_>, table: &Table) -> Re
     ensures { Gives (λ _. clauses.new.items) result (in_step asker.now.place (conditions_of (asker_view asker.now) clauses.old.items (table_view table.now))) }
 {
     match asked_in(asker, table) {
-        Ok((earlier, words)) => push_few(
-            clauses,
-            true,
-            &earlier.step,
-            asker,
-            earlier.number,
-            words,
-        ),
+        Ok((earlier, words)) => push_few(clauses, true, earlier.step, asker, earlier.number, words),
         Err(fault) => Err(JobFault::InStep(fault, asker.place)),
     }
 }

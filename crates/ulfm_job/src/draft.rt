@@ -1,5 +1,5 @@
 //! What was read of the steps.
-ghost use Rattle.std.specs.Prelude.{◌≡◌, ◌+◌, ◌<◌, ◌≤◌, [], ◌∷◌, ◌++◌, IfErr, IfOk, OnOk, codes, length, replicate, slice_index_or, slice_set};
+ghost use Rattle.std.specs.Prelude.{◌≡◌, ◌+◌, ◌<◌, ◌≤◌, ℕ, [], ◌∷◌, ◌++◌, IfErr, IfOk, OnOk, codes, length, replicate, slice_index_or, slice_set};
 ghost use Rattle.toml.specs.Data.{get_member};
 ghost use Rattle.toml.specs.View.{view, table_view};
 ghost use Rattle.ulfm_job.specs.Job.{lists_of, step_count};
@@ -12,10 +12,11 @@ use crate::clause::Clause;
 use crate::clauses::{push_conditions, push_expected};
 use crate::fault::{Fault, JobFault};
 use crate::fields::value_at;
-use crate::name::{Name, name_in};
+use crate::name::{Name, is_new_name};
 use crate::ops::step_of;
 use crate::placed::Placed;
 use crate::step::Step;
+use crate::text::Text;
 use std::alloc::Global;
 use toml::{Table, Value};
 
@@ -60,25 +61,26 @@ impl Draft {
             return Err(JobFault::InStep(Fault::BadKey, place));
         };
         match step_of(ranks, self.names.as_slice(), table) {
-            Ok(placed) => self.put(place, &placed, table),
+            Ok(placed) => self.put(place, placed, table),
             Err(fault) => Err(JobFault::InStep(fault, place)),
         }
     }
 
     /// Puts a step at the end of its rank's script, with its name, its conditions, and what it expects.
     #[tactic(auto, unfolding(crate::specs::JobText::drafted))]
-    fn put(&mut self, place: u16, placed: &Placed, table: &Table) -> Result<(), JobFault>
-        requires inside { placed.now.rank < length self.old.scripts.items }
+    fn put(&mut self, place: u16, placed: Placed<'_>, table: &Table) -> Result<(), JobFault>
+        requires inside { placed.rank < length self.old.scripts.items }
         requires few { step_count (lists_of self.old.scripts.items) ≤ 255 }
-        ensures exact { Gives (λ _. draft_view self.new) result (in_step place (drafted (draft_view self.old) (table_view table.now) (planned placed.now))) }
+        ensures exact { Gives (λ _. draft_view self.new) result (in_step place (drafted (draft_view self.old) (table_view table.now) (planned placed.entry))) }
         ensures each { OnOk result (length self.new.scripts.items ≡ length self.old.scripts.items) }
         ensures counted { OnOk result (step_count (lists_of self.new.scripts.items) ≡ step_count (lists_of self.old.scripts.items) + 1) }
     {
-        let rank = placed.rank;
+        let Placed { rank, step } = placed;
+        let step = step.kept(*self.names.allocator())?;
         let script = self.scripts[rank as usize].as_slice();
         let names = self.names.as_slice();
         let at = script.len() as u16;
-        let name = match name_at(names, rank, at, table) {
+        let name = match name_at(names, rank, table) {
             Ok(name) => name,
             Err(fault) => return Err(JobFault::InStep(fault, place)),
         };
@@ -90,44 +92,46 @@ impl Draft {
             place,
         };
         push_conditions(&mut self.conditions, &asker, table)?;
-        push_expected(&mut self.expected, &asker, &placed.step, table)?;
-        push_name(&mut self.names, name)?;
-        push_step(&mut self.scripts, rank, &placed.step)?;
+        push_expected(&mut self.expected, &asker, &step, table)?;
+        push_name(&mut self.names, rank, at, name)?;
+        push_step(&mut self.scripts, rank, step)?;
         Ok(())
     }
 }
 
 /// Names, and behind them one more where there is one.
-fn push_name(names: &mut Vec<Name>, name: Option<Name>) -> Result<(), JobFault>
-    ensures pushed { OnOk result (names.new.items ≡ name_behind names.old.items name) }
+fn push_name(names: &mut Vec<Name>, rank: u8, at: u16, name: Option<&str>) -> Result<(), JobFault>
+    ensures pushed { OnOk result (names.new.items ≡ name_behind names.old.items rank at name.entry) }
     ensures memory { IfErr result (λ error. error ≡ JobFault.OutOfMemory) }
 {
-    if let Some(name) = name {
-        names.push(name)?;
+    if let Some(text) = name {
+        let text = Text::new(*names.allocator(), text)?;
+        names.push(Name { rank, at, text })?;
     }
     Ok(())
 }
 
 /// One more step comes last in the script of its rank.
-fn push_step(scripts: &mut Vec<Vec<Step>>, rank: u8, step: &Step) -> Result<(), JobFault>
+fn push_step(scripts: &mut Vec<Vec<Step>>, rank: u8, step: Step) -> Result<(), JobFault>
     requires { rank < length scripts.old.items }
-    ensures pushed { OnOk result (lists_of scripts.new.items ≡ slice_set (lists_of scripts.old.items) rank (slice_index_or (lists_of scripts.old.items) rank [] ++ step.now ∷ [])) }
+    ensures pushed { OnOk result (lists_of scripts.new.items ≡ slice_set (lists_of scripts.old.items) rank (slice_index_or (lists_of scripts.old.items) rank [] ++ step ∷ [])) }
     ensures each { OnOk result (length scripts.new.items ≡ length scripts.old.items) }
     ensures memory { IfErr result (λ error. error ≡ JobFault.OutOfMemory) }
 {
-    scripts[rank as usize].push(*step)?;
+    scripts[rank as usize].push(step)?;
     Ok(())
 }
 
-/// The name of the step `at` of a rank, where it has one.
-fn name_at(names: &[Name], rank: u8, at: u16, table: &Table) -> Result<Option<Name>, Fault>
-    ensures { map_ok (name_behind names.now) result ≡ names_in names.now rank at (get_member (codes "name") (table_view table.now)) }
+/// The name of a step of a rank, where it has one.
+fn name_at<'a>(names: &[Name], rank: u8, table: &'a Table) -> Result<Option<&'a str>, Fault>
+    ensures { (at : ℕ) → map_ok (name_behind names.now rank at) result ≡ names_in names.now rank at (get_member (codes "name") (table_view table.now)) }
 {
     let Some(value) = value_at(table, "name") else {
         return Ok(None);
     };
     match value.as_str() {
-        Some(text) => Ok(Some(name_in(names, rank, at, text)?)),
+        Some(text) if is_new_name(names, rank, text) => Ok(Some(text)),
+        Some(_) => Err(Fault::OutOfRange),
         None => Err(Fault::BadKey),
     }
 }

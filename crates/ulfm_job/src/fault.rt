@@ -1,7 +1,7 @@
 //! Why a job is refused.
 ghost use Rattle.std.specs.Prelude.{◌≡◌};
 
-use std::alloc::AllocFailed;
+use std::alloc::{AllocError, AllocFailed};
 use thiserror::Error;
 
 /// What is wrong with a table of keys.
@@ -48,6 +48,17 @@ impl<T: Drop> From<AllocFailed<T>> for JobFault {
     ghost from_gives = { λ _ e. e ≡ refused.OutOfMemory };
 
     fn from(_failed: AllocFailed<T>) -> JobFault {
+        JobFault::OutOfMemory
+    }
+}
+
+impl From<AllocError> for JobFault {
+    ghost use Rattle.std.specs.Prelude.{◌≡◌};
+    ghost use Rattle.ulfm_job.specs.declared.fault.JobFault.TheVariants as refused;
+
+    ghost from_gives = { λ _ e. e ≡ refused.OutOfMemory };
+
+    fn from(_error: AllocError) -> JobFault {
         JobFault::OutOfMemory
     }
 }

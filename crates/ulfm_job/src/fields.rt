@@ -5,13 +5,12 @@ ghost use Rattle.std.specs.List.{list_any, list_all};
 ghost use Rattle.std.specs.Str.{bytes_eq};
 ghost use Rattle.toml.specs.Data.{get_member};
 ghost use Rattle.toml.specs.View.{view, table_view};
-ghost use Rattle.ulfm_job.specs.inside.Reading.{map_ok};
+ghost use Rattle.ulfm_job.specs.inside.Reading.{map_ok, reference_view};
 ghost use Rattle.ulfm_job.specs.Keys.{required_number, optional_number, required_text, only_keys, in_range, in_range_if_some};
 ghost use Rattle.ulfm_job.specs.Reacting.{reference_in, required_reference};
 
 use crate::fault::Fault;
 use crate::reference::Reference;
-use crate::text::Text;
 use toml::{Table, Value};
 
 /// The value at a key.
@@ -58,8 +57,8 @@ pub fn required_text<'a>(table: &'a Table, key: &str) -> Result<&'a str, Fault>
 }
 
 /// What names a step, by its number or its name, at a key that has to be there.
-pub fn required_reference(table: &Table, key: &str) -> Result<Reference, Fault>
-    ensures { result ≡ required_reference key.now (table_view table.now) }
+pub fn required_reference<'a>(table: &'a Table, key: &str) -> Result<Reference<'a>, Fault>
+    ensures { map_ok reference_view result ≡ required_reference key.now (table_view table.now) }
 {
     match value_at(table, key) {
         Some(value) => reference_in(value),
@@ -68,14 +67,14 @@ pub fn required_reference(table: &Table, key: &str) -> Result<Reference, Fault>
 }
 
 /// What names a step, by its number or its name.
-fn reference_in(value: &Value) -> Result<Reference, Fault>
-    ensures { result ≡ reference_in (Some (view value.now)) }
+fn reference_in(value: &Value) -> Result<Reference<'_>, Fault>
+    ensures { map_ok reference_view result ≡ reference_in (Some (view value.now)) }
 {
     if let Some(number) = value.as_integer() {
         return Ok(Reference::Number(number));
     }
     match value.as_str() {
-        Some(text) => Ok(Reference::Name(Text::new(text))),
+        Some(text) => Ok(Reference::Name(text)),
         None => Err(Fault::BadKey),
     }
 }

@@ -1,11 +1,11 @@
 //! A job.
-ghost use Rattle.std.specs.Prelude.{◌≡◌, ◌≢◌, ◌<◌, ◌≤◌, IfErr, IfOk, Err, slice_get, length, ℕ, ◌⊎◌};
+ghost use Rattle.std.specs.Prelude.{◌≡◌, ◌≢◌, ◌<◌, ◌≤◌, IfErr, IfOk, Err, option_map, slice_get, length, ℕ, ◌⊎◌};
 ghost use Rattle.ulfm_job.specs.Job.{IsJob, step_count, script_at, agreements_in};
 
 use crate::clause::Clause;
 use crate::fault::JobFault;
 use crate::step::Step;
-use crate::stopped::{moved_clauses, stopped_at};
+use crate::stopped::{copied_scripts, moved_clauses, stopped_at};
 use std::marker::Model;
 
 /// The most steps of a job.
@@ -93,9 +93,7 @@ impl Job {
         let steps = stopped_at(alloc, script, at)?;
         let conditions = moved_clauses(alloc, self.conditions.as_slice(), rank, at, len)?;
         let expected = moved_clauses(alloc, self.expected.as_slice(), rank, at, len)?;
-        let Ok(mut scripts) = self.scripts.clone() else {
-            return Err(JobFault::OutOfMemory);
-        };
+        let mut scripts = copied_scripts(alloc, self.scripts.as_slice())?;
         scripts[rank as usize] = steps;
         Ok(Job::new(self.capacity, self.turns, scripts, conditions, expected))
     }
@@ -190,10 +188,10 @@ impl Job {
     }
 
     /// The step at a place, from 0, of a rank's script, where there is one. It never answers out of memory.
-    pub fn step(&self, rank: u8, place: usize) -> Option<Step>
-        ensures { result ≡ slice_get (script_at self.now rank) place }
+    pub fn step(&self, rank: u8, place: usize) -> Option<&Step>
+        ensures { option_map (λ step. step.now) result ≡ slice_get (script_at self.now rank) place }
     {
-        self.script(rank).get(place).copied()
+        self.script(rank).get(place)
     }
 }
 

@@ -10,15 +10,14 @@ use crate::fields::{
     only_keys, optional_number, required_number, required_reference, required_text,
 };
 use crate::name::Name;
-use crate::placed::Placed;
+use crate::placed::{Placed, ReadStep};
 use crate::ranges::{comm_in, from_if_some, rank_in, req_in, room_in, tag_if_some, tag_in, to_in};
 use crate::step::Step;
-use crate::text::Text;
 use toml::Table;
 
 /// A `send`.
 #[tactic(auto, unfolding(crate::specs::StepText::send_step))]
-pub fn send_of(ranks: u8, table: &Table) -> Result<Placed, Fault>
+pub fn send_of(ranks: u8, table: &Table) -> Result<Placed<'_>, Fault>
     requires { 0 < ranks }
     ensures exact { map_ok planned result ≡ send_step ranks (table_view table.now) }
     ensures below { IfOk result (λ placed. placed.rank < ranks) }
@@ -38,10 +37,9 @@ pub fn send_of(ranks: u8, table: &Table) -> Result<Placed, Fault>
     let to = to_in(to)?;
     let tag = tag_in(tag)?;
     let comm = comm_in(comm)?;
-    let body = Text::new(body);
     Ok(Placed {
         rank,
-        step: Step::Send {
+        step: ReadStep::Send {
             to,
             tag,
             body,
@@ -52,7 +50,7 @@ pub fn send_of(ranks: u8, table: &Table) -> Result<Placed, Fault>
 
 /// A `recv`.
 #[tactic(auto, unfolding(crate::specs::StepText::recv_step))]
-pub fn recv_of(ranks: u8, table: &Table) -> Result<Placed, Fault>
+pub fn recv_of(ranks: u8, table: &Table) -> Result<Placed<'_>, Fault>
     requires { 0 < ranks }
     ensures exact { map_ok planned result ≡ recv_step ranks (table_view table.now) }
     ensures below { IfOk result (λ placed. placed.rank < ranks) }
@@ -75,18 +73,18 @@ pub fn recv_of(ranks: u8, table: &Table) -> Result<Placed, Fault>
     let comm = comm_in(comm)?;
     Ok(Placed {
         rank,
-        step: Step::Recv {
+        step: ReadStep::Other(Step::Recv {
             from,
             tag,
             room,
             comm,
-        },
+        }),
     })
 }
 
 /// A `wait`.
 #[tactic(auto, unfolding(crate::specs::StepText::step_on_req))]
-pub fn wait_of(ranks: u8, names: &[Name], table: &Table) -> Result<Placed, Fault>
+pub fn wait_of<'a>(ranks: u8, names: &[Name], table: &'a Table) -> Result<Placed<'a>, Fault>
     requires { 0 < ranks }
     ensures exact { map_ok planned result ≡ step_on_req wait ranks names.now (table_view table.now) }
     ensures below { IfOk result (λ placed. placed.rank < ranks) }
@@ -98,13 +96,13 @@ pub fn wait_of(ranks: u8, names: &[Name], table: &Table) -> Result<Placed, Fault
     let req = req_in(names, rank, &req)?;
     Ok(Placed {
         rank,
-        step: Step::Wait { req },
+        step: ReadStep::Other(Step::Wait { req }),
     })
 }
 
 /// A `probe`.
 #[tactic(auto, unfolding(crate::specs::StepText::probe_step))]
-pub fn probe_of(ranks: u8, table: &Table) -> Result<Placed, Fault>
+pub fn probe_of(ranks: u8, table: &Table) -> Result<Placed<'_>, Fault>
     requires { 0 < ranks }
     ensures exact { map_ok planned result ≡ probe_step ranks (table_view table.now) }
     ensures below { IfOk result (λ placed. placed.rank < ranks) }
@@ -123,13 +121,13 @@ pub fn probe_of(ranks: u8, table: &Table) -> Result<Placed, Fault>
     let comm = comm_in(comm)?;
     Ok(Placed {
         rank,
-        step: Step::Probe { from, tag, comm },
+        step: ReadStep::Other(Step::Probe { from, tag, comm }),
     })
 }
 
 /// An `mrecv`.
 #[tactic(auto, unfolding(crate::specs::StepText::mrecv_step))]
-pub fn mrecv_of(ranks: u8, names: &[Name], table: &Table) -> Result<Placed, Fault>
+pub fn mrecv_of<'a>(ranks: u8, names: &[Name], table: &'a Table) -> Result<Placed<'a>, Fault>
     requires { 0 < ranks }
     ensures exact { map_ok planned result ≡ mrecv_step ranks names.now (table_view table.now) }
     ensures below { IfOk result (λ placed. placed.rank < ranks) }
@@ -146,13 +144,13 @@ pub fn mrecv_of(ranks: u8, names: &[Name], table: &Table) -> Result<Placed, Faul
     let room = room_in(room)?;
     Ok(Placed {
         rank,
-        step: Step::Mrecv { req, room },
+        step: ReadStep::Other(Step::Mrecv { req, room }),
     })
 }
 
 /// A `cancel`.
 #[tactic(auto, unfolding(crate::specs::StepText::step_on_req))]
-pub fn cancel_of(ranks: u8, names: &[Name], table: &Table) -> Result<Placed, Fault>
+pub fn cancel_of<'a>(ranks: u8, names: &[Name], table: &'a Table) -> Result<Placed<'a>, Fault>
     requires { 0 < ranks }
     ensures exact { map_ok planned result ≡ step_on_req cancel ranks names.now (table_view table.now) }
     ensures below { IfOk result (λ placed. placed.rank < ranks) }
@@ -164,6 +162,6 @@ pub fn cancel_of(ranks: u8, names: &[Name], table: &Table) -> Result<Placed, Fau
     let req = req_in(names, rank, &req)?;
     Ok(Placed {
         rank,
-        step: Step::Cancel { req },
+        step: ReadStep::Other(Step::Cancel { req }),
     })
 }

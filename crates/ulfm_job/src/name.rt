@@ -1,16 +1,15 @@
 //! Names of steps.
 ghost use Rattle.std.specs.Prelude.{◌≡◌};
 ghost use Rattle.std.specs.List.{list_all};
-ghost use Rattle.ulfm_job.specs.Reacting.{is_name, is_name_byte, named, is_called, name_in};
+ghost use Rattle.ulfm_job.specs.Reacting.{is_name, is_name_byte, named, is_called, is_new_name};
 
-use crate::fault::Fault;
 use crate::text::Text;
 
 /// The most bytes of a name.
 const MOST_NAME: usize = 32;
 
 /// The name of a step: its rank, its number there, and the text.
-#[derive(Clone, Copy)]
+#[derive(Drop)]
 pub struct Name {
     pub rank: u8,
     pub at: u16,
@@ -18,14 +17,14 @@ pub struct Name {
 }
 
 /// Whether a step of this rank has this name.
-fn is_called(rank: u8, text: &Text, name: &Name) -> bool
+fn is_called(rank: u8, text: &str, name: &Name) -> bool
     ensures { result ≡ is_called rank text.now name.now }
 {
     name.rank == rank && name.text.as_bytes() == text.as_bytes()
 }
 
 /// The number of the step of a rank with this name.
-pub fn named(names: &[Name], rank: u8, text: &Text) -> Option<u16>
+pub fn named(names: &[Name], rank: u8, text: &str) -> Option<u16>
     ensures { result ≡ named names.now rank text.now }
 {
     let found = names.iter().find(|name| is_called(rank, text, name))?;
@@ -61,16 +60,9 @@ fn are_name_bytes(bytes: &[u8]) -> bool
     bytes.iter().all(|byte| is_name_byte(*byte))
 }
 
-/// The name of the step `at` of a rank, which no earlier one of that rank has.
-pub fn name_in(names: &[Name], rank: u8, at: u16, text: &str) -> Result<Name, Fault>
-    ensures { result ≡ name_in names.now rank at text.now }
+/// Whether a text is a name that no earlier step of the rank has.
+pub fn is_new_name(names: &[Name], rank: u8, text: &str) -> bool
+    ensures { result ≡ is_new_name names.now rank text.now }
 {
-    if !is_name(text) {
-        return Err(Fault::OutOfRange);
-    }
-    let text = Text::new(text);
-    if named(names, rank, &text).is_some() {
-        return Err(Fault::OutOfRange);
-    }
-    Ok(Name { rank, at, text })
+    is_name(text) && named(names, rank, text).is_none()
 }

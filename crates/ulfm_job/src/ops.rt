@@ -9,13 +9,13 @@ use crate::fault::Fault;
 use crate::fields::{in_range, only_keys, optional_number, required_number, required_text};
 use crate::letters::{cancel_of, mrecv_of, probe_of, recv_of, send_of, wait_of};
 use crate::name::Name;
-use crate::placed::Placed;
+use crate::placed::{Placed, ReadStep};
 use crate::ranges::{comm_in, flag_in, rank_in};
 use crate::step::Step;
 use toml::Table;
 
 #[tactic(auto, unfolding(crate::specs::StepText::step_on_comm))]
-fn failed_of(ranks: u8, table: &Table) -> Result<Placed, Fault>
+fn failed_of(ranks: u8, table: &Table) -> Result<Placed<'_>, Fault>
     requires { 0 < ranks }
     ensures exact { map_ok planned result ≡ step_on_comm failed ranks (table_view table.now) }
     ensures below { IfOk result (λ placed. placed.rank < ranks) }
@@ -27,12 +27,12 @@ fn failed_of(ranks: u8, table: &Table) -> Result<Placed, Fault>
     let comm = comm_in(comm)?;
     Ok(Placed {
         rank,
-        step: Step::Failed { comm },
+        step: ReadStep::Other(Step::Failed { comm }),
     })
 }
 
 #[tactic(auto, unfolding(crate::specs::StepText::ack_step))]
-fn ack_of(ranks: u8, table: &Table) -> Result<Placed, Fault>
+fn ack_of(ranks: u8, table: &Table) -> Result<Placed<'_>, Fault>
     requires { 0 < ranks }
     ensures exact { map_ok planned result ≡ ack_step ranks (table_view table.now) }
     ensures below { IfOk result (λ placed. placed.rank < ranks) }
@@ -49,12 +49,12 @@ fn ack_of(ranks: u8, table: &Table) -> Result<Placed, Fault>
     let comm = comm_in(comm)?;
     Ok(Placed {
         rank,
-        step: Step::Ack { count, comm },
+        step: ReadStep::Other(Step::Ack { count, comm }),
     })
 }
 
 #[tactic(auto, unfolding(crate::specs::StepText::step_on_comm))]
-fn revoke_of(ranks: u8, table: &Table) -> Result<Placed, Fault>
+fn revoke_of(ranks: u8, table: &Table) -> Result<Placed<'_>, Fault>
     requires { 0 < ranks }
     ensures exact { map_ok planned result ≡ step_on_comm revoke ranks (table_view table.now) }
     ensures below { IfOk result (λ placed. placed.rank < ranks) }
@@ -66,12 +66,12 @@ fn revoke_of(ranks: u8, table: &Table) -> Result<Placed, Fault>
     let comm = comm_in(comm)?;
     Ok(Placed {
         rank,
-        step: Step::Revoke { comm },
+        step: ReadStep::Other(Step::Revoke { comm }),
     })
 }
 
 #[tactic(auto, unfolding(crate::specs::StepText::step_on_comm))]
-fn dup_of(ranks: u8, table: &Table) -> Result<Placed, Fault>
+fn dup_of(ranks: u8, table: &Table) -> Result<Placed<'_>, Fault>
     requires { 0 < ranks }
     ensures exact { map_ok planned result ≡ step_on_comm dup ranks (table_view table.now) }
     ensures below { IfOk result (λ placed. placed.rank < ranks) }
@@ -83,12 +83,12 @@ fn dup_of(ranks: u8, table: &Table) -> Result<Placed, Fault>
     let comm = comm_in(comm)?;
     Ok(Placed {
         rank,
-        step: Step::Dup { comm },
+        step: ReadStep::Other(Step::Dup { comm }),
     })
 }
 
 #[tactic(auto, unfolding(crate::specs::StepText::step_on_comm))]
-fn shrink_of(ranks: u8, table: &Table) -> Result<Placed, Fault>
+fn shrink_of(ranks: u8, table: &Table) -> Result<Placed<'_>, Fault>
     requires { 0 < ranks }
     ensures exact { map_ok planned result ≡ step_on_comm shrink ranks (table_view table.now) }
     ensures below { IfOk result (λ placed. placed.rank < ranks) }
@@ -100,12 +100,12 @@ fn shrink_of(ranks: u8, table: &Table) -> Result<Placed, Fault>
     let comm = comm_in(comm)?;
     Ok(Placed {
         rank,
-        step: Step::Shrink { comm },
+        step: ReadStep::Other(Step::Shrink { comm }),
     })
 }
 
 #[tactic(auto, unfolding(crate::specs::StepText::agree_step))]
-fn agree_of(ranks: u8, table: &Table) -> Result<Placed, Fault>
+fn agree_of(ranks: u8, table: &Table) -> Result<Placed<'_>, Fault>
     requires { 0 < ranks }
     ensures exact { map_ok planned result ≡ agree_step ranks (table_view table.now) }
     ensures below { IfOk result (λ placed. placed.rank < ranks) }
@@ -122,12 +122,12 @@ fn agree_of(ranks: u8, table: &Table) -> Result<Placed, Fault>
     let comm = comm_in(comm)?;
     Ok(Placed {
         rank,
-        step: Step::Agree { flag, comm },
+        step: ReadStep::Other(Step::Agree { flag, comm }),
     })
 }
 
 #[tactic(auto, unfolding(crate::specs::StepText::stop_step))]
-fn stop_of(ranks: u8, table: &Table) -> Result<Placed, Fault>
+fn stop_of(ranks: u8, table: &Table) -> Result<Placed<'_>, Fault>
     requires { 0 < ranks }
     ensures exact { map_ok planned result ≡ stop_step ranks (table_view table.now) }
     ensures below { IfOk result (λ placed. placed.rank < ranks) }
@@ -137,7 +137,7 @@ fn stop_of(ranks: u8, table: &Table) -> Result<Placed, Fault>
     let rank = rank_in(ranks, rank)?;
     Ok(Placed {
         rank,
-        step: Step::Stop,
+        step: ReadStep::Other(Step::Stop),
     })
 }
 
@@ -148,7 +148,7 @@ fn stop_of(ranks: u8, table: &Table) -> Result<Placed, Fault>
 /// `BadKey` where `op` is missing or no text, then `UnknownOp`, then the faults of the op's own keys: `BadKey` where one
 /// is missing or of another kind, `UnknownKey`, and `OutOfRange`, in this order.
 #[tactic(auto, unfolding(crate::specs::StepText::step_of, crate::specs::StepText::step_of_op))]
-pub fn step_of(ranks: u8, names: &[Name], table: &Table) -> Result<Placed, Fault>
+pub fn step_of<'a>(ranks: u8, names: &[Name], table: &'a Table) -> Result<Placed<'a>, Fault>
     requires { 0 < ranks }
     ensures exact { map_ok planned result ≡ step_of ranks names.now (table_view table.now) }
     ensures below { IfOk result (λ placed. placed.rank < ranks) }

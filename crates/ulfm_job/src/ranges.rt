@@ -1,6 +1,6 @@
 //! Numbers of a step, each within its range.
 ghost use Rattle.std.specs.Prelude.{◌≡◌, ◌<◌, ◌-◌, pos, option_map, unwrap_or, IfOk};
-ghost use Rattle.ulfm_job.specs.inside.Reading.{map_ok};
+ghost use Rattle.ulfm_job.specs.inside.Reading.{map_ok, reference_view};
 ghost use Rattle.ulfm_job.specs.Keys.{in_range, in_range_if_some};
 ghost use Rattle.ulfm_job.specs.Reacting.{req_in};
 
@@ -84,8 +84,8 @@ pub fn room_in(number: Option<i64>) -> Result<u16, Fault>
 }
 
 /// The number of a step of the rank that is named: any number of a step, or that of an earlier one by its name.
-pub fn req_in(names: &[Name], rank: u8, reference: &Reference) -> Result<u16, Fault>
-    ensures { result ≡ req_in names.now rank reference.now }
+pub fn req_in(names: &[Name], rank: u8, reference: &Reference<'_>) -> Result<u16, Fault>
+    ensures { result ≡ req_in names.now rank (reference_view reference.now) }
 {
     match reference {
         Reference::Number(number) => Ok(in_range(*number, 0, LAST_STEP)? as u16),

@@ -4,9 +4,9 @@ ghost use Rattle.std.specs.Prelude.{◌≡◌, ◌↔◌, IsTrue, Some};
 use crate::text::Text;
 use ulfm_base::{Context, Tag};
 
-/// One step of one rank. It is copied without memory. A rank (`to`, `from`) is one of the communicator `comm`, which is
+/// One step of one rank. A rank (`to`, `from`) is one of the communicator `comm`, which is
 /// named by its context; `req` is the number of the step, of the same rank, that posted the receive or probed.
-#[derive(Clone, Copy)]
+#[derive(Drop)]
 pub enum Step {
     /// Sends a letter to a position of a communicator.
     Send {
@@ -70,6 +70,8 @@ pub enum Step {
     /// The rank stops.
     Stop,
 }
+
+const _: () = prove!(size_of::<Step>() <= 48);
 
 impl Step {
     ghost use Rattle.ulfm_job.specs.Job.{decides_on, is_agreement_step};

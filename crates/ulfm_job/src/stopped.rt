@@ -1,11 +1,12 @@
 //! A script with one more stop.
 ghost use Rattle.std.specs.Prelude.{◌≡◌, ◌≤◌, IfErr, IfOk, length, map};
-ghost use Rattle.ulfm_job.specs.Job.{moved_clause, moved_number, moved_on, stopped_at};
+ghost use Rattle.ulfm_job.specs.Job.{lists_of, moved_clause, moved_number, moved_on, stopped_at};
 
 use crate::clause::Clause;
 use crate::fault::JobFault;
 use crate::step::Step;
 use std::alloc::Global;
+use ulfm_base::OutOfMemory;
 
 /// A script with a stop before its step `at`, or after its last one.
 pub(crate) fn stopped_at(alloc: Global, script: &[Step], at: u16) -> Result<Vec<Step>, JobFault>
@@ -16,29 +17,29 @@ pub(crate) fn stopped_at(alloc: Global, script: &[Step], at: u16) -> Result<Vec<
 {
     let mut steps = Vec::new(alloc);
     for step in script {
-        steps.push(moved_on(*step, at, script.len()))?;
+        steps.push(moved_on(alloc, step, at, script.len())?)?;
     }
     steps.insert(at as usize, Step::Stop)?;
     Ok(steps)
 }
 
 /// A step of a script that had `len` steps, once there is one more before the step `at`.
-fn moved_on(step: Step, at: u16, len: usize) -> Step
+fn moved_on(alloc: Global, step: &Step, at: u16, len: usize) -> Result<Step, OutOfMemory>
     requires { len ≤ 256 }
-    ensures { result ≡ moved_on at len step }
+    ensures { IfOk result (λ moved. moved ≡ moved_on at len step.now) }
 {
     match step {
-        Step::Wait { req } => Step::Wait {
-            req: moved_number(req, at, len),
-        },
-        Step::Mrecv { req, room } => Step::Mrecv {
-            req: moved_number(req, at, len),
-            room,
-        },
-        Step::Cancel { req } => Step::Cancel {
-            req: moved_number(req, at, len),
-        },
-        _ => step,
+        Step::Wait { req } => Ok(Step::Wait {
+            req: moved_number(*req, at, len),
+        }),
+        Step::Mrecv { req, room } => Ok(Step::Mrecv {
+            req: moved_number(*req, at, len),
+            room: *room,
+        }),
+        Step::Cancel { req } => Ok(Step::Cancel {
+            req: moved_number(*req, at, len),
+        }),
+        _ => step.copy(alloc),
     }
 }
 
@@ -68,23 +69,53 @@ pub(crate) fn moved_clauses(
 {
     let mut moved = Vec::new(alloc);
     for clause in clauses {
-        moved.push(moved_clause(clause, rank, at, len))?;
+        moved.push(moved_clause(alloc, clause, rank, at, len)?)?;
     }
     Ok(moved)
 }
 
 /// A clause, once a rank whose script had `len` steps has one more before the step `at`.
-fn moved_clause(clause: &Clause, rank: u8, at: u16, len: usize) -> Clause
+fn moved_clause(
+    alloc: Global,
+    clause: &Clause,
+    rank: u8,
+    at: u16,
+    len: usize,
+) -> Result<Clause, OutOfMemory>
     requires { len ≤ 256 }
-    ensures { result ≡ moved_clause rank at len clause.now }
+    ensures { IfOk result (λ moved. moved ≡ moved_clause rank at len clause.now) }
 {
-    if clause.rank != rank {
-        return *clause;
+    let mut moved = clause.copy(alloc)?;
+    if moved.rank == rank {
+        moved.at = moved_number(moved.at, at, len);
+        moved.step = moved_number(moved.step, at, len);
     }
-    Clause {
-        rank,
-        at: moved_number(clause.at, at, len),
-        step: moved_number(clause.step, at, len),
-        words: clause.words,
+    Ok(moved)
+}
+
+/// The same scripts once more.
+pub(crate) fn copied_scripts(
+    alloc: Global,
+    scripts: &[Vec<Step>],
+) -> Result<Vec<Vec<Step>>, JobFault>
+    ensures exact { IfOk result (λ copies. lists_of copies.items ≡ lists_of scripts.now) }
+    ensures memory { IfErr result (λ fault. fault ≡ JobFault.OutOfMemory) }
+{
+    let mut copies = Vec::new(alloc);
+    for script in scripts {
+        copies.push(copied_script(alloc, script.as_slice())?)?;
     }
+    Ok(copies)
+}
+
+/// The same script once more.
+fn copied_script(alloc: Global, script: &[Step]) -> Result<Vec<Step>, JobFault>
+    ensures exact { IfOk result (λ copy. copy.items ≡ script.now) }
+    ensures memory { IfErr result (λ fault. fault ≡ JobFault.OutOfMemory) }
+{
+    let mut steps = Vec::new(alloc);
+    for step in script {
+        steps.push(step.copy(alloc)?)?;
+    }
+    Ok(steps)
 }

@@ -1,49 +1,56 @@
-//! The beginning of a text.
-ghost use Rattle.std.specs.Prelude.{◌≡◌, ◌↔◌, take, IsTrue};
+//! A text of a job.
+ghost use Rattle.std.specs.Prelude.{◌≡◌, ◌≤◌, ◌↔◌, length, IfOk, IsOk, IsTrue};
 
+use std::alloc::Global;
 use std::marker::Model;
+use ulfm_base::{Body, OutOfMemory};
 
-/// How many bytes of a text are kept.
-const ROOM: usize = 1025;
-
-/// The first 1,025 bytes of a text, which stand inline: one more than a body may have. Contracts see the list of them.
-#[derive(Clone, Copy)]
+/// A text of a job, whole. Up to 30 bytes stand inline, more in one block of the heap. Contracts see the list of them.
+#[derive(Drop)]
 pub struct Text {
-    bytes: [u8; 1025],
-    used: usize,
+    bytes: Body,
 }
 
 impl Model for Text {
-    ghost use Rattle.std.specs.Prelude.{ℕ, List, take, replicate, length, ◌-◌, ◌++◌};
-    ghost use Rattle.ulfm_job.specs.inside.Text.{IsPadded, back_again};
+    ghost use Rattle.std.specs.Prelude.{ℕ, List};
 
     ghost Value = { List ℕ };
 
-    ghost view = { λ t. take t.used t.bytes };
-
-    ghost invariant = { λ t. IsPadded t.used t.bytes };
-
-    ghost inverse = { λ xs. record { bytes = xs ++ replicate (1025 - length xs) 0; used = length xs } };
-
-    ghost inverse_ok = { λ t h. back_again t h };
+    ghost view = { λ t. t.bytes };
 }
 
 impl Text {
-    /// The first 1,025 bytes of a text.
-    pub fn new(text: &str) -> Text
-        ensures { result ≡ take 1025 text.now }
+    /// The bytes of a text.
+    ///
+    /// # Errors
+    ///
+    /// `OutOfMemory` where they are more than 30 and a growth was refused.
+    pub fn new(alloc: Global, text: &str) -> Result<Text, OutOfMemory>
+        ensures whole { IfOk result (λ t. t ≡ text.now) }
+        ensures short { length text.now ≤ 30 → IsOk result }
     {
-        let used = ROOM.min(text.len());
-        let mut bytes = [0; 1025];
-        bytes[..used].copy_from_slice(&text.as_bytes()[..used]);
-        Text { bytes, used }
+        let bytes = Body::from_bytes(alloc, text.as_bytes())?;
+        Ok(Text { bytes })
+    }
+
+    /// The same text once more.
+    ///
+    /// # Errors
+    ///
+    /// `OutOfMemory` where it has more than 30 bytes and a growth was refused.
+    pub fn copy(&self, alloc: Global) -> Result<Text, OutOfMemory>
+        ensures same { IfOk result (λ t. t ≡ self.now) }
+        ensures short { length self.now ≤ 30 → IsOk result }
+    {
+        let bytes = Body::from_bytes(alloc, self.as_bytes())?;
+        Ok(Text { bytes })
     }
 
     /// The bytes.
     pub fn as_bytes(&self) -> &[u8]
         ensures { result.now ≡ self.now }
     {
-        &self.bytes[..self.used]
+        self.bytes.as_bytes()
     }
 
     /// Whether two texts have the same bytes.

@@ -1,10 +1,14 @@
 -- What becomes of the numbers in buckets.
-use Rattle.std.proofs.Common.{◌≡◌, ℕ, ◌≤◌, ◌⊎◌, inl, inr, List, [], ◌∷◌, ◌++◌, refl, ap, sym, ◌∙◌, subst, arith, Bool, true, false, cond, filter, Contains, Option, Some, None, Result, Ok, Err, OnOk, is_some, nat_eq}
+use Rattle.std.proofs.Common.{◌≡◌, ◌≢◌, ℕ, ◌+◌, ◌<◌, ◌≤◌, ◌⊎◌, inl, inr, List, [], ◌∷◌, ◌++◌, refl, ap, sym, ◌∙◌, subst, arith, Bool, true, false, cond, filter, Contains, Option, Some, None, Result, Ok, Err, OnOk, IsSome, is_some, nat_eq}
 use Rattle.ulfm_match.proofs.Common.{Contains-append_left, Contains-append_right, Contains-push_cases, Sweeps, Grows, FindsLeast, IsLesser, Rises, numbers_of, exact_unsigned_eq, Bucket}
 use Rattle.std.specs.Option.{option_to_list}
-use Rattle.ulfm_match.proofs.Decide.{Contains-cons_cases, Contains-head, Contains-tail}
+use Rattle.ulfm_match.proofs.Decide.{Contains-cons_cases, Contains-head, Contains-tail, lt_or_ge}
 use Rattle.ulfm_match.proofs.Members.{all_of, all_from, Contains-filter, filter-Contains}
-use Rattle.ulfm_match.proofs.Rising.{rises_push, rises_filter}
+use Rattle.ulfm_match.proofs.Rising.{rises_push, rises_filter, rises_front}
+
+-- what is there is another than one that isn't
+pub gone_other : {X : Type 0} (look : ℕ → Option X) (n : ℕ) → look n ≡ None → (m : ℕ) → IsSome (look m) → m ≢ n
+gone_other look n absent m l e = let at : is_some (look n) ≡ true = subst (λ k. is_some (look k) ≡ true) e l in cc
 
 module _ (L : ℕ → Type 0) where
   pub sweeps_none : (ns : List ℕ) → Sweeps L ns ns
@@ -12,6 +16,9 @@ module _ (L : ℕ → Type 0) where
 
   pub sweeps_both : (a b d : List ℕ) → Sweeps L a b → Sweeps L b d → Sweeps L a d
   sweeps_both a b d s t = record { keeps = λ n c l. t.keeps n (s.keeps n c l) l; from = λ n c. s.from n (t.from n c); rises = λ r. t.rises (s.rises r) }
+
+  pub sweeps_more : (M : ℕ → Type 0) (a b : List ℕ) → ((n : ℕ) → L n → M n) → Sweeps M a b → Sweeps L a b
+  sweeps_more M a b lives s = record { keeps = λ n c l. s.keeps n c (lives n l); from = s.from; rises = s.rises }
 
   pub sweeps_filter : (test : ℕ → Bool) (ns : List ℕ) → ((n : ℕ) → L n → test n ≡ true) → Sweeps L ns (filter test ns)
   sweeps_filter test ns lives = record {
@@ -27,6 +34,18 @@ module _ (L : ℕ → Type 0) where
     from = λ m c. Contains-tail n ns m c;
     rises = λ r. r.1;
   }
+
+  -- a last number that is gone goes
+  pub sweeps_last : (n : ℕ) (ns : List ℕ) → (L n → ⊥) → Sweeps L (ns ++ n ∷ []) ns
+  sweeps_last n ns gone = record {
+    keeps = λ m c l. elim (Contains-push_cases ns n m c) [ inl d ↦ d | inr e ↦ absurd (gone (subst L (sym e) l)) ];
+    from = λ m c. Contains-append_left ns (n ∷ []) m c;
+    rises = rises_front ns (n ∷ []);
+  }
+
+  -- one that was taken from the end was gone
+  pub sweeps_popped : (n : ℕ) (old new : List ℕ) (r : Option ℕ) → old ≡ new ++ option_to_list r → r ≡ Some n → (L n → ⊥) → Sweeps L old new
+  sweeps_popped n old new r is e gone = subst (λ ns. Sweeps L ns new) (sym (is ∙ ap (λ o. new ++ option_to_list o) e)) (sweeps_last n new gone)
 
   -- the numbers after the first are swept
   pub sweeps_rest : (first : Option ℕ) (ns ms : List ℕ) → Sweeps L ns ms → Sweeps L (option_to_list first ++ ns) (option_to_list first ++ ms)
@@ -100,6 +119,16 @@ lesser_finds M N Q (Some m) (Some n) c is f g = elim is [
 pub finds_all : (M N Q : ℕ → Type 0) (a : Option ℕ) → ((n : ℕ) → N n → Q n → M n) → FindsLeast M Q a → FindsLeast N Q a
 finds_all M N Q None to f = λ m n q. f m (to m n q) q
 finds_all M N Q (Some k) to f = record { is = f.is; least = λ m n q. f.least m (to m n q) q }
+
+-- one source more is searched
+pub finds_next : (A : ℕ → ℕ → Type 0) (Q : ℕ → Type 0) (k : ℕ) (a b c : Option ℕ) → IsLesser a b c → FindsLeast (λ n. (s : ℕ) × (s < k) × A s n) Q a → FindsLeast (A k) Q b → FindsLeast (λ n. (s : ℕ) × (s < k + 1) × A s n) Q c
+finds_next A Q k a b c is f g =
+    finds_all (λ n. ((s : ℕ) × (s < k) × A s n) ⊎ A k n) (λ n. (s : ℕ) × (s < k + 1) × A s n) Q c
+    (λ n m q. elim (lt_or_ge m.0 k) [
+      | inl l ↦ inl (m.0, l, m.2)
+      | inr h ↦ let same : m.0 ≡ k = (let w = m.1 in omega (arith, h, w)) in inr (subst (λ s. A s n) same m.2)
+    ])
+    (lesser_finds (λ n. (s : ℕ) × (s < k) × A s n) (A k) Q a b c is f g)
 
 -- the first of all that rise passes
 pub first_finds : (n : ℕ) (ns : List ℕ) (Q : ℕ → Type 0) → Rises (n ∷ ns) → Q n → FindsLeast (Contains (n ∷ ns)) Q (Some n)

@@ -1,14 +1,14 @@
 -- Early entries and late ones, from one state to the next.
-use Rattle.std.proofs.Common.{◌≡◌, ◌≢◌, ℕ, suc, ◌+◌, ◌<◌, ◌≤◌, inl, inr, List, [], ◌∷◌, ◌++◌, ap, sym, ◌∙◌, subst, arith, append_assoc, Bool, cond, length, length-append, Contains, Option, Some, None, refl, nat_eq, filter, not, ◌==◌, ◌↔◌}
+use Rattle.std.proofs.Common.{◌≡◌, ◌≢◌, ℕ, suc, ◌+◌, ◌<◌, ◌≤◌, inl, inr, List, [], ◌∷◌, ◌++◌, ap, sym, ◌∙◌, subst, arith, append_assoc, Bool, false, cond, length, length-append, Contains, Option, Some, None, refl, nat_eq, filter, not, ◌==◌, ◌↔◌}
 use Rattle.std.proofs.lemmas.List.Elements.{filter-append}
 use Rattle.std.specs.Map.{lookup}
 use Rattle.std.specs.VecDeque.{deque_len}
-use Rattle.ulfm_match.proofs.Common.{Contains-append_cases, Contains-append_left, Contains-append_right, Contains-push_cases, Entries, Buckets, Grows, SweepsFor, IsAscending, IsIndexed, IsPool, NonePass, NoneOf, Pool, TakesEarliest, TakesFirst, TakesLeast, TakesOut, all_of, few, get, in_order, IsUnique, numbers_at, numbers_of}
+use Rattle.ulfm_match.proofs.Common.{Contains-append_cases, Contains-append_left, Contains-append_right, Contains-push_cases, Entries, Buckets, Grows, SweepsFor, IsAscending, IsIndexed, IsPool, NoneIsWild, NonePass, NoneOf, Pool, TakesEarliest, TakesFirst, TakesLeast, TakesOut, all_of, few, get, in_order, IsUnique, numbers_at, numbers_of}
 use Rattle.ulfm_match.proofs.Ascending.{ascending_both, ascending_filter, ascending_push}
 use Rattle.ulfm_match.proofs.Decide.{Contains-none, Contains-head, Contains-tail}
 use Rattle.ulfm_match.proofs.EndSteps.{other_context, passes_context}
 use Rattle.ulfm_match.proofs.First.{first_is_least}
-use Rattle.ulfm_match.proofs.Indexed.{grown_indexed, less_indexed, more_indexed, out_indexed, same_indexed}
+use Rattle.ulfm_match.proofs.Indexed.{grown_indexed, less_indexed, more_indexed, out_indexed, out_less, same_indexed}
 use Rattle.ulfm_match.proofs.Listed.{filter_less, listed_ascending, listed_filter, listed_push, listed_takes, out_back, out_to, unlisted}
 use Rattle.ulfm_match.proofs.Members.{all_of as each_of, Contains-filter, filter-Contains}
 
@@ -72,8 +72,8 @@ module _ {X : Type 0} {K : X → ℕ → Type 0} {count : ℕ} {pool : Pool X} (
   none_pool {P} none late y c p = elim (Contains-append_cases (in_order pool.early.entries) pool.late.items y c) [ inl d ↦ none_early none y d p | inr d ↦ late y d p ]
 
   -- other early entries and late ones, of those that were there
-  pub less_pool : (new : Pool X) → IsUnique nat_eq new.early → ((n : ℕ) (x : X) → get nat_eq new.early n ≡ Some x → get nat_eq pool.early n ≡ Some x) → ((k : ℕ) → SweepsFor new.early (numbers_at pool.buckets k) (numbers_at new.buckets k)) → IsAscending new.late.items → ((y : ℕ × X) → Contains new.late.items y → Contains pool.late.items y) → deque_len new.late ≤ deque_len pool.late → IsPool K count new
-  less_pool new u sub s a late l = record {
+  pub less_pool : (new : Pool X) → new.wild ≡ pool.wild → IsUnique nat_eq new.early → ((n : ℕ) (x : X) → get nat_eq new.early n ≡ Some x → get nat_eq pool.early n ≡ Some x) → ((k : ℕ) → SweepsFor new.early (numbers_at pool.buckets k) (numbers_at new.buckets k)) → IsAscending new.late.items → ((y : ℕ × X) → Contains new.late.items y → Contains pool.late.items y) → deque_len new.late ≤ deque_len pool.late → IsPool K count new
+  less_pool new w u sub s a late l = record {
     top = i.top;
     indexed = less_indexed i.indexed u sub s;
     ascending = a;
@@ -81,10 +81,11 @@ module _ {X : Type 0} {K : X → ℕ → Type 0} {count : ℕ} {pool : Pool X} (
     below = λ y c. i.below y (late y c);
     counted = i.counted;
     short = still_few new l;
+    none_wild = λ d n x k f. i.none_wild (sym w ∙ d) n x k (sub n x f);
   }
 
-  pub out_pool : {n : ℕ} (new : Pool X) → TakesOut n pool.early new.early pool.buckets new.buckets → new.late.items ≡ pool.late.items → IsPool K count new
-  out_pool new t e = record {
+  pub out_pool : {n : ℕ} (new : Pool X) → new.wild ≡ pool.wild → TakesOut n pool.early new.early pool.buckets new.buckets → new.late.items ≡ pool.late.items → IsPool K count new
+  out_pool new w t e = record {
     top = i.top;
     indexed = out_indexed i.indexed t;
     ascending = rw e i.ascending;
@@ -92,11 +93,12 @@ module _ {X : Type 0} {K : X → ℕ → Type 0} {count : ℕ} {pool : Pool X} (
     below = λ y c. i.below y (rw (sym e) c);
     counted = i.counted;
     short = still_few new (same_len pool new e);
+    none_wild = λ d m x k f. i.none_wild (sym w ∙ d) m x k (out_less i.indexed t m x f);
   }
 
   -- the late ones are others, of those that were there
-  pub later_pool : (new : Pool X) → new.early ≡ pool.early → new.buckets ≡ pool.buckets → IsAscending new.late.items → ((y : ℕ × X) → Contains new.late.items y → Contains pool.late.items y) → deque_len new.late ≤ deque_len pool.late → IsPool K count new
-  later_pool new e f a late l = record {
+  pub later_pool : (new : Pool X) → new.wild ≡ pool.wild → new.early ≡ pool.early → new.buckets ≡ pool.buckets → IsAscending new.late.items → ((y : ℕ × X) → Contains new.late.items y → Contains pool.late.items y) → deque_len new.late ≤ deque_len pool.late → IsPool K count new
+  later_pool new w e f a late l = record {
     top = i.top;
     indexed = rw e (rw f i.indexed);
     ascending = a;
@@ -104,18 +106,19 @@ module _ {X : Type 0} {K : X → ℕ → Type 0} {count : ℕ} {pool : Pool X} (
     below = λ y c. i.below y (late y c);
     counted = i.counted;
     short = still_few new l;
+    none_wild = λ d. rw e (i.none_wild (sym w ∙ d));
   }
 
   -- one of the late ones is taken out
-  pub taken_late : (P : X → Type 0) {z : ℕ × X} (new : Pool X) → new.early ≡ pool.early → new.buckets ≡ pool.buckets → TakesFirst (λ (y : ℕ × X). P y.1) pool.late.items new.late.items z → deque_len new.late ≤ deque_len pool.late → IsPool K count new
-  taken_late P {z} new e f t s = let l = first_is_least (λ y. P y.1) pool.late.items new.late.items z i.ascending t in later_pool new e f l.ascending (λ y c. (l.left_to y c).0) s
+  pub taken_late : (P : X → Type 0) {z : ℕ × X} (new : Pool X) → new.wild ≡ pool.wild → new.early ≡ pool.early → new.buckets ≡ pool.buckets → TakesFirst (λ (y : ℕ × X). P y.1) pool.late.items new.late.items z → deque_len new.late ≤ deque_len pool.late → IsPool K count new
+  taken_late P {z} new w e f t s = let l = first_is_least (λ y. P y.1) pool.late.items new.late.items z i.ascending t in later_pool new w e f l.ascending (λ y c. (l.left_to y c).0) s
 
-  pub same_pool : (new : Pool X) → new.early ≡ pool.early → new.buckets ≡ pool.buckets → new.late.items ≡ pool.late.items → IsPool K count new
-  same_pool new e f g = later_pool new e f (rw g i.ascending) (λ y c. rw (sym g) c) (same_len pool new g)
+  pub same_pool : (new : Pool X) → new.wild ≡ pool.wild → new.early ≡ pool.early → new.buckets ≡ pool.buckets → new.late.items ≡ pool.late.items → IsPool K count new
+  same_pool new w e f g = later_pool new w e f (rw g i.ascending) (λ y c. rw (sym g) c) (same_len pool new g)
 
   -- the early ones have more room
-  pub roomy_pool : (new : Pool X) → new.early.entries ≡ pool.early.entries → IsUnique nat_eq new.early → new.buckets ≡ pool.buckets → new.late.items ≡ pool.late.items → IsPool K count new
-  roomy_pool new e u f g = record {
+  pub roomy_pool : (new : Pool X) → new.wild ≡ pool.wild → new.early.entries ≡ pool.early.entries → IsUnique nat_eq new.early → new.buckets ≡ pool.buckets → new.late.items ≡ pool.late.items → IsPool K count new
+  roomy_pool new w e u f g = record {
     top = i.top;
     indexed = rw f (same_indexed i.indexed e u);
     ascending = rw g i.ascending;
@@ -123,6 +126,7 @@ module _ {X : Type 0} {K : X → ℕ → Type 0} {count : ℕ} {pool : Pool X} (
     below = λ y c. i.below y (rw (sym g) c);
     counted = i.counted;
     short = still_few new (same_len pool new g);
+    none_wild = λ d n x k h. i.none_wild (sym w ∙ d) n x k (subst (λ xs. lookup (nat_eq n) xs ≡ Some x) e h);
   }
 
   pub higher_pool : IsPool K (count + 1) pool
@@ -134,11 +138,12 @@ module _ {X : Type 0} {K : X → ℕ → Type 0} {count : ℕ} {pool : Pool X} (
     below = λ y c. let l = i.below y c in omega (arith, l);
     counted = let l = i.counted in omega (arith, l);
     short = i.short;
+    none_wild = i.none_wild;
   }
 
   -- an entry comes
-  pub pushed_pool : (new : Pool X) (x : X) → new.early ≡ pool.early → new.buckets ≡ pool.buckets → new.late.items ≡ pool.late.items ++ (count, x) ∷ [] → deque_len pool.late < few → IsPool K (count + 1) new
-  pushed_pool new x e f g l = record {
+  pub pushed_pool : (new : Pool X) (x : X) → new.wild ≡ pool.wild → new.early ≡ pool.early → new.buckets ≡ pool.buckets → new.late.items ≡ pool.late.items ++ (count, x) ∷ [] → deque_len pool.late < few → IsPool K (count + 1) new
+  pushed_pool new x o e f g l = record {
     top = i.top;
     indexed = rw e (rw f i.indexed);
     ascending = rw g (ascending_push pool.late.items (count, x) i.ascending i.below);
@@ -146,6 +151,7 @@ module _ {X : Type 0} {K : X → ℕ → Type 0} {count : ℕ} {pool : Pool X} (
     below = λ y c. elim (Contains-push_cases pool.late.items (count, x) y (rw (sym g) c)) [ inl d ↦ (let l = i.below y d in omega (arith, l)) | inr q ↦ rw (sym q) (let l : count < count + 1 = omega arith in l) ];
     counted = let l = i.counted in omega (arith, l);
     short = let q : deque_len new.late ≡ length pool.late.items + 1 = new.late.ok.0 ∙ (ap length g ∙ length-append pool.late.items ((count, x) ∷ [])) in let w = pool.late.ok.0 in omega (arith, l, q, w);
+    none_wild = λ d. rw e (i.none_wild (sym o ∙ d));
   }
 
   -- the first of the late ones becomes an early one
@@ -169,8 +175,8 @@ module _ {X : Type 0} {K : X → ℕ → Type 0} {count : ℕ} {pool : Pool X} (
         let pushed = listed_push pool.early early i.indexed.unique u n x is (λ m y f. let l = i.indexed.below m y f in let a = above in omega (arith, l, a)) in
         ap (λ ys. ys ++ rest) pushed ∙ (append_assoc (in_order pool.early.entries) ((n, x) ∷ []) rest ∙ ap (λ ys. in_order pool.early.entries ++ ys) (sym first))
 
-    pub settled_pool : (new : Pool X) → IsUnique nat_eq new.early → ((m : ℕ) → get nat_eq new.early m ≡ cond (nat_eq n m) (Some x) (get nat_eq pool.early m)) → ((k : ℕ) → Grows n (numbers_at pool.buckets k) (numbers_at new.buckets k)) → ((k : ℕ) → K x k → Contains (numbers_at new.buckets k) n) → new.late.items ≡ rest → IsPool K count new
-    settled_pool new u is g put e = record {
+    pub settled_pool : (new : Pool X) → (new.wild ≡ false → NoneIsWild K new.early) → IsUnique nat_eq new.early → ((m : ℕ) → get nat_eq new.early m ≡ cond (nat_eq n m) (Some x) (get nat_eq pool.early m)) → ((k : ℕ) → Grows n (numbers_at pool.buckets k) (numbers_at new.buckets k)) → ((k : ℕ) → K x k → Contains (numbers_at new.buckets k) n) → new.late.items ≡ rest → IsPool K count new
+    settled_pool new none u is g put e = record {
       top = n + 1;
       indexed = more_indexed i.indexed n above g x u is put;
       ascending = rw e (let a : IsAscending ((n, x) ∷ rest) = subst (λ (ys : List (ℕ × X)). IsAscending ys) first i.ascending in a.1);
@@ -178,11 +184,12 @@ module _ {X : Type 0} {K : X → ℕ → Type 0} {count : ℕ} {pool : Pool X} (
       below = λ y c. i.below y (rw first (Contains-tail (n, x) rest y (rw (sym e) c)));
       counted = let l = i.below (n, x) (rw first (Contains-head (n, x) rest)) in omega (arith, l);
       short = let q : deque_len new.late ≡ length rest = new.late.ok.0 ∙ ap length e in let w : deque_len pool.late ≡ suc (length rest) = pool.late.ok.0 ∙ ap length first in still_few new (omega (arith, q, w));
+      none_wild = none;
     }
 
     -- it stays where it was, though some buckets had its number
-    pub unsettled_pool : (new : Pool X) (between : Buckets) → new.early.entries ≡ pool.early.entries → IsUnique nat_eq new.early → ((k : ℕ) → Grows n (numbers_at pool.buckets k) (numbers_at between k)) → ((k : ℕ) → SweepsFor new.early (numbers_at between k) (numbers_at new.buckets k)) → new.late.items ≡ pool.late.items → IsPool K count new
-    unsettled_pool new between same u g s e = record {
+    pub unsettled_pool : (new : Pool X) (between : Buckets) → new.wild ≡ pool.wild → new.early.entries ≡ pool.early.entries → IsUnique nat_eq new.early → ((k : ℕ) → Grows n (numbers_at pool.buckets k) (numbers_at between k)) → ((k : ℕ) → SweepsFor new.early (numbers_at between k) (numbers_at new.buckets k)) → new.late.items ≡ pool.late.items → IsPool K count new
+    unsettled_pool new between w same u g s e = record {
       top = n;
       indexed =
           let grown : IsIndexed K n pool.early between = grown_indexed i.indexed n above g in
@@ -193,6 +200,7 @@ module _ {X : Type 0} {K : X → ℕ → Type 0} {count : ℕ} {pool : Pool X} (
       below = λ y c. i.below y (rw (sym e) c);
       counted = let l = i.below (n, x) (rw first (Contains-head (n, x) rest)) in omega (arith, l);
       short = still_few new (same_len pool new e);
+      none_wild = λ d m z k h. i.none_wild (sym w ∙ d) m z k (subst (λ xs. lookup (nat_eq m) xs ≡ Some z) same h);
     } where
       by : (y : ℕ × X) → Contains ((n, x) ∷ rest) y → n ≤ y.0
       by y c = elim (Contains-append_cases ((n, x) ∷ []) rest y c) [
@@ -214,8 +222,8 @@ module _ {X : Type 0} {K : X → ℕ → Type 0} {count : ℕ} {pool : Pool X} (
       ],
     )
 
-    pub ended_pool : deque_len new.late ≤ deque_len pool.late → IsPool K count new
-    ended_pool l = record {
+    pub ended_pool : new.wild ≡ pool.wild → deque_len new.late ≤ deque_len pool.late → IsPool K count new
+    ended_pool w l = record {
       top = i.top;
       indexed = out_indexed i.indexed out;
       ascending = rw late (ascending_filter (λ (y : ℕ × X). not (y.0 == n)) pool.late.items i.ascending);
@@ -223,6 +231,7 @@ module _ {X : Type 0} {K : X → ℕ → Type 0} {count : ℕ} {pool : Pool X} (
       below = λ y c. i.below y (was y c);
       counted = i.counted;
       short = still_few new l;
+      none_wild = λ d m x k f. i.none_wild (sym w ∙ d) m x k (out_less i.indexed out m x f);
     } where
       was : (y : ℕ × X) → Contains new.late.items y → Contains pool.late.items y
       was y c = (Contains-filter (λ (y : ℕ × X). not (y.0 == n)) pool.late.items y (rw (sym late) c)).0
@@ -234,9 +243,9 @@ module _ {X : Type 0} {K : X → ℕ → Type 0} {count : ℕ} {pool : Pool X} (
         ap (λ ys. ys ++ new.late.items) (listed_filter pool.early new.early i.indexed.unique u test is)
         ∙ (ap (λ ys. filter test (in_order pool.early.entries) ++ ys) late ∙ sym (filter-append test (in_order pool.early.entries) pool.late.items))
 
-    pub filtered_pool : ((k : ℕ) → SweepsFor new.early (numbers_at pool.buckets k) (numbers_at new.buckets k)) → deque_len new.late ≤ deque_len pool.late → IsPool K count new
-    filtered_pool s l =
-        less_pool new u (filter_less pool.early new.early i.indexed.unique u test is) s (rw late (ascending_filter test pool.late.items i.ascending))
+    pub filtered_pool : new.wild ≡ pool.wild → ((k : ℕ) → SweepsFor new.early (numbers_at pool.buckets k) (numbers_at new.buckets k)) → deque_len new.late ≤ deque_len pool.late → IsPool K count new
+    filtered_pool w s l =
+        less_pool new w u (filter_less pool.early new.early i.indexed.unique u test is) s (rw late (ascending_filter test pool.late.items i.ascending))
         (λ y c. (Contains-filter test pool.late.items y (rw (sym late) c)).0) l
 
 -- no entries
@@ -255,6 +264,7 @@ empty_pool {X} {K} pool u e b l = record {
   below = λ y c. absurd (Contains-none y (subst (λ ys. Contains ys y) l c));
   counted = omega arith;
   short = let q : deque_len pool.late ≡ 0 = pool.late.ok.0 ∙ ap length l in omega (arith, q);
+  none_wild = λ d n x k f. absurd (let g : get nat_eq pool.early n ≡ None = no_entry n in cc);
 } where
   no_entry : (n : ℕ) → get nat_eq pool.early n ≡ None
   no_entry n = ap (λ es. lookup (nat_eq n) es) e

@@ -1,4 +1,5 @@
 pub mod Buckets
+pub mod Glance
 pub mod Key
 pub mod Order
 pub mod Pools

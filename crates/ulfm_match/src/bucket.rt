@@ -55,6 +55,41 @@ fn pop_where(numbers: &mut VecDeque<u64>, number: u64) -> bool
     true
 }
 
+/// Drops a number from the back, where it stands there. Answers whether it does.
+fn pop_back_where(numbers: &mut VecDeque<u64>, number: u64) -> bool
+    ensures { Sweeps (λ n. n ≢ number) numbers.old.items numbers.new.items }
+{
+    match numbers.back() {
+        Some(back) => {
+            if *back != number {
+                return false;
+            }
+        }
+        None => return false,
+    }
+    let _ = numbers.pop_back();
+    true
+}
+
+/// Drops numbers of entries that are gone from the back, at most so many. Answers how many it dropped.
+#[inline(always)]
+fn trim_back<X>(numbers: &mut VecDeque<u64>, live: &IndexMap<u64, X>, most: usize) -> usize
+    ensures { SweepsFor live.now numbers.old.items numbers.new.items }
+{
+    for k in 0..most {
+        match numbers.back() {
+            Some(number) => {
+                if live.contains_key(number) {
+                    return k;
+                }
+            }
+            None => return k,
+        }
+        let _ = numbers.pop_back();
+    }
+    most
+}
+
 /// Drops all numbers of entries that are gone.
 fn drop_gone<X>(numbers: &mut VecDeque<u64>, live: &IndexMap<u64, X>)
     ensures { SweepsFor live.now numbers.old.items numbers.new.items }
@@ -130,7 +165,23 @@ impl Bucket {
         trim(&mut self.rest, live, most.saturating_sub(1)).saturating_add(1)
     }
 
-    /// Notes that the entry of a number went, or many. The number goes where it stands at the front, and with it those after it that
+    /// Drops a number whose entry went from the back, where it stands there, and with it those before it that are gone. Answers
+    /// whether it does.
+    fn drop_last<X>(&mut self, live: &IndexMap<u64, X>, number: u64) -> bool
+        requires { get nat_eq live.now number ≡ None }
+        ensures { SweepsFor live.now (numbers_in self.old) (numbers_in self.new) }
+    {
+        if !pop_back_where(&mut self.rest, number) {
+            return false;
+        }
+        if self.gone > 0 {
+            let dropped = trim_back(&mut self.rest, live, self.gone);
+            self.gone = self.gone.saturating_sub(dropped);
+        }
+        true
+    }
+
+    /// Notes that the entry of a number went, or many. The number goes where it stands at an end, and with it those next to it that
     /// are gone.
     fn trim_where<X>(&mut self, live: &IndexMap<u64, X>, went: Option<u64>)
         requires { IfSome went (λ n. get nat_eq live.now n ≡ None) }
@@ -141,7 +192,9 @@ impl Bucket {
             return;
         };
         if !self.pop_where(number) {
-            self.gone = self.gone.saturating_add(1);
+            if !self.drop_last(live, number) {
+                self.gone = self.gone.saturating_add(1);
+            }
             return;
         }
         if self.gone > 0 {
@@ -150,7 +203,7 @@ impl Bucket {
         }
     }
 
-    /// Notes that the entry of a number went, or many. The number goes at once from the front, and else once half of all are gone;
+    /// Notes that the entry of a number went, or many. The number goes at once from an end, and else once half of all are gone;
     /// those of many go at once.
     pub(crate) fn sweep<X>(&mut self, live: &IndexMap<u64, X>, went: Option<u64>)
         requires { IfSome went (λ n. get nat_eq live.now n ≡ None) }

@@ -1,5 +1,5 @@
 //! The buckets of all keys.
-ghost use Rattle.std.specs.Prelude.{◌≡◌, ℕ, Bool, Contains, IfSome, None, OnOk, nat_eq};
+ghost use Rattle.std.specs.Prelude.{◌≡◌, ℕ, Bool, Contains, IfSome, None, OnOk, false, nat_eq};
 ghost use Rattle.indexmap.specs.IndexMap.{get};
 ghost use Rattle.ulfm_match.specs.inside.Buckets.{SweepsFor, Grows, numbers_at};
 ghost use Rattle.ulfm_match.specs.inside.Key.{key_at};
@@ -30,20 +30,18 @@ pub(crate) fn put(
     Ok(())
 }
 
-/// Puts a number into the buckets of a letter's keys.
+/// Puts a number into the buckets of a letter: those of its source, by its tag and by any.
 pub(crate) fn put_letter(
     buckets: &mut Buckets,
     alloc: Global,
     envelope: &Envelope,
     number: u64,
 ) -> Result<(), OutOfMemory>
-    ensures put { OnOk result ((any_source any_tag : Bool) → Contains (numbers_at buckets.new (key_at any_source any_tag envelope.now)) number) }
+    ensures put { OnOk result ((any_tag : Bool) → Contains (numbers_at buckets.new (key_at false any_tag envelope.now)) number) }
     ensures grows { (k : ℕ) → Grows number (numbers_at buckets.old k) (numbers_at buckets.new k) }
 {
     put(buckets, alloc, key_at(envelope, false, false), number)?;
     put(buckets, alloc, key_at(envelope, false, true), number)?;
-    put(buckets, alloc, key_at(envelope, true, false), number)?;
-    put(buckets, alloc, key_at(envelope, true, true), number)?;
     Ok(())
 }
 
@@ -77,6 +75,7 @@ pub(crate) fn forget_gone<X>(buckets: &mut Buckets, live: &IndexMap<u64, X>)
 }
 
 /// Notes that a letter went, which had this number.
+#[inline(never)]
 pub(crate) fn forget_letter<X>(
     buckets: &mut Buckets,
     envelope: &Envelope,
@@ -89,6 +88,4 @@ pub(crate) fn forget_letter<X>(
     let went = Some(number);
     forget(buckets, key_at(envelope, false, false), live, went);
     forget(buckets, key_at(envelope, false, true), live, went);
-    forget(buckets, key_at(envelope, true, false), live, went);
-    forget(buckets, key_at(envelope, true, true), live, went);
 }

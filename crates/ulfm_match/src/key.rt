@@ -1,8 +1,8 @@
 //! What the entries of a bucket have in common: a context, one source or any, one tag or any. Each such has one number.
-ghost use Rattle.std.specs.Prelude.{◌≡◌};
-ghost use Rattle.ulfm_match.specs.inside.Key.{key_number, key_of, key_at};
+ghost use Rattle.std.specs.Prelude.{◌≡◌, false};
+ghost use Rattle.ulfm_match.specs.inside.Key.{key_number, key_of, key_from, key_at, IsWild};
 
-use ulfm_base::{Envelope, Pattern, Source};
+use ulfm_base::{Envelope, Pattern, Source, WorldRank};
 
 fn key(context: u8, source: u8, tag: u16) -> u64
     ensures { result ≡ key_number context source tag }
@@ -23,6 +23,27 @@ pub(crate) fn key_of(pattern: &Pattern) -> u64
         None => 32768,
     };
     key(pattern.context.number, source, tag)
+}
+
+/// Whether a receive leaves its source or its tag open.
+pub(crate) fn is_wild(pattern: &Pattern) -> bool
+    ensures { result ≡ false → IsWild (key_of pattern.now) → ⊥ }
+{
+    match (pattern.source, pattern.tag) {
+        (Source::One(_), Some(_)) => false,
+        _ => true,
+    }
+}
+
+/// The key of the letters from a source that a receive may get.
+pub(crate) fn key_from(source: WorldRank, pattern: &Pattern) -> u64
+    ensures { result ≡ key_from source.number pattern.now }
+{
+    let tag = match pattern.tag {
+        Some(tag) => tag.number,
+        None => 32768,
+    };
+    key(pattern.context.number, source.number, tag)
 }
 
 /// The key of the receives that name the source of a letter or any, and its tag or any.

@@ -1,56 +1,53 @@
 //! The entries that came last, in a short list.
-ghost use Rattle.std.specs.Prelude.{◌≡◌, ◌≤◌, ◌==◌, ◌↔◌, ℕ, Some, Contains, IsTrue, IfNone, MatchOption, filter, not};
+ghost use Rattle.std.specs.Prelude.{◌≡◌, ◌≤◌, ◌==◌, ◌+◌, ◌↔◌, ℕ, Contains, IsTrue, IfNone, MatchOption, filter, not, take, length, false};
 ghost use Rattle.std.specs.VecDeque.{deque_len, deque_capacity};
 ghost use Rattle.ulfm_base.specs.Pattern.{Admits, names};
-ghost use Rattle.ulfm_base.specs.declared.pattern.Source.TheVariants.{One};
+ghost use Rattle.ulfm_base.specs.declared.envelope.Envelope.{Envelope};
 ghost use Rattle.ulfm_match.specs.inside.Buckets.{MayGet, MayGoTo};
+ghost use Rattle.ulfm_match.specs.inside.Glance.{Suits};
 ghost use Rattle.ulfm_match.specs.inside.Pools.{FindsFirst, NoneOf, TakesFirst};
 
+use crate::glance::{Glance, word};
 use std::collections::VecDeque;
-use ulfm_base::{Context, Envelope, Letter, Pattern, Source, Tag, WorldRank};
+use ulfm_base::{Context, Envelope, Letter, Pattern, Source, WorldRank};
 
-/// Whether the pattern, which asks for this tag, admits the envelope. The tag tells it of most that it doesn't admit.
-fn admits_tagged(pattern: &Pattern, tag: Tag, envelope: &Envelope) -> bool
-    requires { pattern.now.tag ≡ Some tag }
-    ensures { IsTrue result ↔ Admits pattern.now envelope.now }
+/// How many letters from the front are passed over, four at a time, since none of them has what is looked for.
+#[inline(always)]
+fn pass_over(letters: &[(u64, Letter)], glance: Glance) -> usize
+    ensures within { result ≤ length letters.now }
+    ensures none { NoneOf (λ (y : ℕ × Letter). Suits glance y.1.envelope) (take result letters.now) }
 {
-    if envelope.tag.number != tag.number {
-        return false;
-    }
-    pattern.admits(envelope)
-}
-
-/// Whether the pattern, which asks for this source, admits the envelope. The source tells it of most that it doesn't admit.
-fn admits_from(pattern: &Pattern, rank: WorldRank, envelope: &Envelope) -> bool
-    requires { pattern.now.source ≡ One rank }
-    ensures { IsTrue result ↔ Admits pattern.now envelope.now }
-{
-    if envelope.source.number != rank.number {
-        return false;
-    }
-    pattern.admits(envelope)
-}
-
-/// Where the first letter of some stands that the pattern admits, which asks for this tag.
-fn first_tagged(letters: &[(u64, Letter)], pattern: &Pattern, tag: Tag) -> Option<usize>
-    requires { pattern.now.tag ≡ Some tag }
-    ensures { FindsFirst (λ (y : ℕ × Letter). MayGet pattern.now y.1) letters.now result }
-{
-    for k in 0..letters.len() {
-        if admits_tagged(pattern, tag, &letters[k].1.envelope) {
-            return Some(k);
+    let fours = letters.len() / 4;
+    for i in 0..fours {
+        if is_one_of_four(letters, i * 4, glance) {
+            return i * 4;
         }
     }
-    None
+    fours * 4
 }
 
-/// Where the first letter of some stands that the pattern admits, which asks for this source.
-fn first_from(letters: &[(u64, Letter)], pattern: &Pattern, rank: WorldRank) -> Option<usize>
-    requires { pattern.now.source ≡ One rank }
+/// Whether one of four letters has what is looked for, the first of which stands here.
+#[inline(always)]
+fn is_one_of_four(letters: &[(u64, Letter)], start: usize, glance: Glance) -> bool
+    requires { start + 4 ≤ length letters.now }
+    ensures { result ≡ false → NoneOf (λ (y : ℕ × Letter). Suits glance y.1.envelope) (take start letters.now) → NoneOf (λ (y : ℕ × Letter). Suits glance y.1.envelope) (take (start + 4) letters.now) }
+{
+    let first = glance.suits(&letters[start].1.envelope);
+    let second = glance.suits(&letters[start + 1].1.envelope);
+    let third = glance.suits(&letters[start + 2].1.envelope);
+    let fourth = glance.suits(&letters[start + 3].1.envelope);
+    first | second | third | fourth
+}
+
+/// Where the first letter of some stands that the pattern admits, which asks for what is looked for.
+#[inline(always)]
+fn first_suited(letters: &[(u64, Letter)], pattern: &Pattern, glance: Glance) -> Option<usize>
+    requires { (e : Envelope) → Admits pattern.now e → Suits glance e }
     ensures { FindsFirst (λ (y : ℕ × Letter). MayGet pattern.now y.1) letters.now result }
 {
-    for k in 0..letters.len() {
-        if admits_from(pattern, rank, &letters[k].1.envelope) {
+    let start = pass_over(letters, glance);
+    for k in start..letters.len() {
+        if pattern.admits(&letters[k].1.envelope) {
             return Some(k);
         }
     }
@@ -69,29 +66,105 @@ fn first_admitted(letters: &[(u64, Letter)], pattern: &Pattern) -> Option<usize>
     None
 }
 
+/// Where the first letter of some stands that the pattern admits, where there are some.
+#[inline(never)]
+fn first_letter_among(letters: &[(u64, Letter)], pattern: &Pattern) -> Option<usize>
+    ensures { FindsFirst (λ (y : ℕ × Letter). MayGet pattern.now y.1) letters.now result }
+{
+    match (pattern.source, pattern.tag) {
+        (Source::One(rank), Some(tag)) => {
+            let word = word(pattern.context.number, rank.number, tag.number);
+            first_suited(letters, pattern, Glance::Named(word))
+        }
+        (Source::One(rank), None) => first_suited(letters, pattern, Glance::From(rank.number)),
+        (Source::Any(_), Some(tag)) => first_suited(letters, pattern, Glance::Tagged(tag.number)),
+        (Source::Any(_), None) => first_admitted(letters, pattern),
+    }
+}
+
 /// Where the first letter of some stands that the pattern admits.
+#[inline(always)]
 fn first_letter_in(letters: &[(u64, Letter)], pattern: &Pattern) -> Option<usize>
     ensures { FindsFirst (λ (y : ℕ × Letter). MayGet pattern.now y.1) letters.now result }
 {
-    if let Some(tag) = pattern.tag {
-        return first_tagged(letters, pattern, tag);
+    if letters.is_empty() {
+        return None;
     }
-    if let Source::One(rank) = pattern.source {
-        return first_from(letters, pattern, rank);
-    }
-    first_admitted(letters, pattern)
+    first_letter_among(letters, pattern)
 }
 
-/// Where the first receive of some stands that admits the letter.
-fn first_receive_in(receives: &[(u64, Pattern)], letter: &Letter) -> Option<usize>
-    ensures { FindsFirst (λ (y : ℕ × Pattern). MayGoTo letter.now y.1) receives.now result }
+/// Whether the pattern may admit the envelope: it names no other source, and no other tag.
+#[inline(always)]
+fn may_admit(pattern: &Pattern, envelope: &Envelope) -> bool
+    ensures { Admits pattern.now envelope.now → IsTrue result }
 {
-    for k in 0..receives.len() {
-        if receives[k].1.admits(&letter.envelope) {
+    if let Source::One(rank) = pattern.source {
+        if rank.number != envelope.source.number {
+            return false;
+        }
+    }
+    match pattern.tag {
+        Some(tag) => tag.number == envelope.tag.number,
+        None => true,
+    }
+}
+
+/// Whether one of four receives may admit the envelope, the first of which stands here.
+#[inline(always)]
+fn may_one_of_four(receives: &[(u64, Pattern)], start: usize, envelope: &Envelope) -> bool
+    requires { start + 4 ≤ length receives.now }
+    ensures { result ≡ false → NoneOf (λ (y : ℕ × Pattern). MayGoTo envelope.now y.1) (take start receives.now) → NoneOf (λ (y : ℕ × Pattern). MayGoTo envelope.now y.1) (take (start + 4) receives.now) }
+{
+    if may_admit(&receives[start].1, envelope) {
+        return true;
+    }
+    if may_admit(&receives[start + 1].1, envelope) {
+        return true;
+    }
+    if may_admit(&receives[start + 2].1, envelope) {
+        return true;
+    }
+    may_admit(&receives[start + 3].1, envelope)
+}
+
+/// How many receives from the front are passed over, four at a time, since none of them admits the envelope.
+#[inline(always)]
+fn pass_over_receives(receives: &[(u64, Pattern)], envelope: &Envelope) -> usize
+    ensures within { result ≤ length receives.now }
+    ensures none { NoneOf (λ (y : ℕ × Pattern). MayGoTo envelope.now y.1) (take result receives.now) }
+{
+    let fours = receives.len() / 4;
+    for i in 0..fours {
+        if may_one_of_four(receives, i * 4, envelope) {
+            return i * 4;
+        }
+    }
+    fours * 4
+}
+
+/// Where the first receive of some stands that admits the envelope, where there are some.
+#[inline(never)]
+fn first_receive_among(receives: &[(u64, Pattern)], envelope: &Envelope) -> Option<usize>
+    ensures { FindsFirst (λ (y : ℕ × Pattern). MayGoTo envelope.now y.1) receives.now result }
+{
+    let start = pass_over_receives(receives, envelope);
+    for k in start..receives.len() {
+        if receives[k].1.admits(envelope) {
             return Some(k);
         }
     }
     None
+}
+
+/// Where the first receive of some stands that admits the envelope.
+#[inline(always)]
+fn first_receive_in(receives: &[(u64, Pattern)], envelope: &Envelope) -> Option<usize>
+    ensures { FindsFirst (λ (y : ℕ × Pattern). MayGoTo envelope.now y.1) receives.now result }
+{
+    if receives.is_empty() {
+        return None;
+    }
+    first_receive_among(receives, envelope)
 }
 
 /// Where the first letter stands that the pattern admits.
@@ -108,14 +181,14 @@ pub(crate) fn first_letter(late: &VecDeque<(u64, Letter)>, pattern: &Pattern) ->
     }
 }
 
-/// Where the first receive stands that admits the letter.
-fn first_receive(late: &VecDeque<(u64, Pattern)>, letter: &Letter) -> Option<usize>
-    ensures { FindsFirst (λ (y : ℕ × Pattern). MayGoTo letter.now y.1) late.now.items result }
+/// Where the first receive stands that admits the envelope.
+fn first_receive(late: &VecDeque<(u64, Pattern)>, envelope: &Envelope) -> Option<usize>
+    ensures { FindsFirst (λ (y : ℕ × Pattern). MayGoTo envelope.now y.1) late.now.items result }
 {
     let (front, back) = late.as_slices();
-    match first_receive_in(front, letter) {
+    match first_receive_in(front, envelope) {
         Some(k) => Some(k),
-        None => match first_receive_in(back, letter) {
+        None => match first_receive_in(back, envelope) {
             Some(k) => Some(front.len() + k),
             None => None,
         },
@@ -138,17 +211,17 @@ pub(crate) fn take_late_letter(
     }
 }
 
-/// Takes the first receive that admits the letter, with its number.
+/// Takes the first receive that admits the envelope, with its number.
 pub(crate) fn take_late_receive(
     late: &mut VecDeque<(u64, Pattern)>,
-    letter: &Letter,
+    envelope: &Envelope,
 ) -> Option<(u64, Pattern)>
-    ensures taken { MatchOption result (NoneOf (λ (y : ℕ × Pattern). MayGoTo letter.now y.1) late.old.items) (TakesFirst (λ (y : ℕ × Pattern). MayGoTo letter.now y.1) late.old.items late.new.items) }
+    ensures taken { MatchOption result (NoneOf (λ (y : ℕ × Pattern). MayGoTo envelope.now y.1) late.old.items) (TakesFirst (λ (y : ℕ × Pattern). MayGoTo envelope.now y.1) late.old.items late.new.items) }
     ensures idle { IfNone result (late.new ≡ late.old) }
     ensures shorter { deque_len late.new ≤ deque_len late.old }
     ensures room { deque_capacity late.new ≡ deque_capacity late.old }
 {
-    match first_receive(late, letter) {
+    match first_receive(late, envelope) {
         Some(k) => late.remove(k),
         None => None,
     }

@@ -5,6 +5,7 @@
 mod arrived;
 mod bucket;
 mod buckets;
+mod glance;
 mod key;
 mod late;
 mod law;

@@ -120,7 +120,9 @@ impl Matcher {
     {
         let number = self.count;
         self.count += 1;
-        match take_letter(&mut self.kept, &pattern) {
+        // A reference to the pattern itself would keep it out of registers, and a move of it would wait for its parts.
+        let asked = pattern;
+        match take_letter(&mut self.kept, &asked) {
             Some(letter) => (RequestId { number }, Some(letter)),
             None => {
                 let ready = add(&mut self.waiting, number, pattern);
@@ -165,7 +167,9 @@ impl Matcher {
     {
         let number = self.count;
         self.count += 1;
-        match take_receive(&mut self.waiting, &letter) {
+        // As in `post`: no reference to the letter itself.
+        let envelope = letter.envelope;
+        match take_receive(&mut self.waiting, &envelope) {
             Some(request) => Arrived::Paired(RequestId { number: request }, letter),
             None => {
                 let ready = add(&mut self.kept, number, letter);

@@ -14,6 +14,8 @@ pub(crate) struct Pool<X> {
     pub(crate) early: IndexMap<u64, X>,
     pub(crate) buckets: Buckets,
     pub(crate) late: VecDeque<(u64, X)>,
+    /// Whether an early entry may stand in a bucket of any source or of any tag.
+    pub(crate) wild: bool,
 }
 
 impl<X> Pool<X> {
@@ -28,6 +30,7 @@ impl<X> Pool<X> {
             early: IndexMap::new(alloc),
             buckets: IndexMap::new(alloc),
             late: VecDeque::new(alloc),
+            wild: false,
         }
     }
 }

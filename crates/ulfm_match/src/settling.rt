@@ -1,17 +1,33 @@
 //! A place for one entry more: where many are late, the first of them is put into its buckets.
-ghost use Rattle.std.specs.Prelude.{◌≡◌, ◌<◌, ◌≤◌, ◌∷◌, ◌++◌, ℕ, [], IsTrue, OnOk};
+ghost use Rattle.std.specs.Prelude.{◌≡◌, ◌<◌, ◌≤◌, ◌∷◌, ◌++◌, ℕ, [], IsTrue, OnOk, false};
 ghost use Rattle.std.specs.VecDeque.{deque_len, deque_capacity};
-ghost use Rattle.ulfm_match.specs.inside.Key.{IsKeyOf, IsKeyOfReceive};
+ghost use Rattle.ulfm_match.specs.inside.Key.{IsKeyOf, IsKeyOfReceive, IsWild, key_of};
+ghost use Rattle.ulfm_match.specs.inside.Buckets.{NoneIsWild};
 ghost use Rattle.ulfm_match.specs.inside.Pools.{all_of, few, IsPool, HasPlace};
 
 use crate::buckets::{forget, forget_letter, put, put_letter};
-use crate::key::key_of;
+use crate::key::{is_wild, key_of};
 use crate::pool::Pool;
 use std::alloc::Global;
 use ulfm_base::{Letter, OutOfMemory, Pattern};
 
 /// How many entries are late at most. A search among so few takes no longer than one by buckets.
 const FEW: usize = 128;
+
+/// Whether an early receive may be wild once this one is early too.
+fn may_be_wild(pool: &Pool<Pattern>, pattern: &Pattern) -> bool
+    requires { pool.now.wild ≡ false → NoneIsWild IsKeyOfReceive pool.now.early }
+    ensures early { result ≡ false → NoneIsWild IsKeyOfReceive pool.now.early }
+    ensures other { result ≡ false → IsWild (key_of pattern.now) → ⊥ }
+{
+    if is_wild(pattern) {
+        return true;
+    }
+    if pool.early.is_empty() {
+        return false;
+    }
+    pool.wild
+}
 
 /// Puts the first of the late receives among the early ones.
 fn settle_receive(pool: &mut Pool<Pattern>, alloc: Global) -> Result<(), OutOfMemory>
@@ -28,6 +44,7 @@ fn settle_receive(pool: &mut Pool<Pattern>, alloc: Global) -> Result<(), OutOfMe
     };
     match put(&mut pool.buckets, alloc, key_of(&pattern), number) {
         Ok(()) => {
+            pool.wild = may_be_wild(pool, &pattern);
             let _ = pool.early.insert(number, pattern);
             Ok(())
         }
@@ -59,6 +76,8 @@ fn settle_letter(pool: &mut Pool<Letter>, alloc: Global) -> Result<(), OutOfMemo
     };
     match put_letter(&mut pool.buckets, alloc, &letter.envelope, number) {
         Ok(()) => {
+            // A letter stands in a bucket of any tag too.
+            pool.wild = true;
             let _ = pool.early.insert(number, letter);
             Ok(())
         }
@@ -75,6 +94,7 @@ pub(crate) fn add<X>(pool: &mut Pool<X>, number: u64, entry: X) -> bool
     requires { HasPlace pool.old }
     ensures early { pool.new.early ≡ pool.old.early }
     ensures buckets { pool.new.buckets ≡ pool.old.buckets }
+    ensures wild { pool.new.wild ≡ pool.old.wild }
     ensures late { pool.new.late.items ≡ pool.old.late.items ++ (number, entry) ∷ [] }
     ensures all { all_of pool.new ≡ all_of pool.old ++ (number, entry) ∷ [] }
     ensures place { IsTrue result → HasPlace pool.new }
@@ -84,6 +104,7 @@ pub(crate) fn add<X>(pool: &mut Pool<X>, number: u64, entry: X) -> bool
 }
 
 /// Makes room for one receive more.
+#[inline(never)]
 pub(crate) fn prepare_receive(pool: &mut Pool<Pattern>, alloc: Global) -> Result<(), OutOfMemory>
     requires { (count : ℕ) × IsPool IsKeyOfReceive count pool.old }
     ensures all { all_of pool.new ≡ all_of pool.old }
@@ -98,6 +119,7 @@ pub(crate) fn prepare_receive(pool: &mut Pool<Pattern>, alloc: Global) -> Result
 }
 
 /// Makes room for one letter more.
+#[inline(never)]
 pub(crate) fn prepare_letter(pool: &mut Pool<Letter>, alloc: Global) -> Result<(), OutOfMemory>
     requires { (count : ℕ) × IsPool IsKeyOf count pool.old }
     ensures all { all_of pool.new ≡ all_of pool.old }

@@ -1,7 +1,7 @@
 //! Entries that are taken out, and their numbers with them.
-ghost use Rattle.std.specs.Prelude.{◌≡◌, ◌≢◌, ◌↔◌, ℕ, None, Contains, IsTrue, MatchOption, IfNone};
+ghost use Rattle.std.specs.Prelude.{◌≡◌, ◌≢◌, ◌↔◌, ℕ, None, Contains, IsTrue, MatchOption, IfNone, false};
 ghost use Rattle.ulfm_base.specs.Pattern.{Admits};
-ghost use Rattle.ulfm_match.specs.inside.Buckets.{IsIndexed, MayGet, MayGoTo, NonePass, TakesOut, GivesLetter, GivesReceive};
+ghost use Rattle.ulfm_match.specs.inside.Buckets.{IsIndexed, MayGet, MayGoTo, NoneIsWild, NonePass, TakesOut, GivesLetter, GivesReceive};
 ghost use Rattle.ulfm_match.specs.inside.Key.{IsKeyOf, IsKeyOfReceive};
 ghost use Rattle.ulfm_match.specs.inside.Pools.{all_of, HasPlace, IsPool, NoneOf, TakesLeast};
 
@@ -13,7 +13,7 @@ use crate::late::{
 use crate::pool::Pool;
 use crate::search::{first_kept, first_waiting};
 use indexmap::IndexMap;
-use ulfm_base::{Letter, Pattern};
+use ulfm_base::{Envelope, Letter, Pattern};
 
 /// Takes the earliest of the letters in buckets that the pattern admits.
 fn take_kept(
@@ -38,20 +38,22 @@ fn take_kept(
     }
 }
 
-/// Takes the earliest of the receives in buckets that admits the letter. Answers its number.
+/// Takes the earliest of the receives in buckets that admits the envelope. Answers its number.
 fn take_waiting(
     waiting: &mut IndexMap<u64, Pattern>,
     buckets: &mut Buckets,
-    letter: &Letter,
+    wild: bool,
+    envelope: &Envelope,
 ) -> Option<u64>
-    requires { (top : ℕ) × IsIndexed IsKeyOfReceive top waiting.old buckets.old }
-    ensures taken { MatchOption result (NonePass (MayGoTo letter.now) waiting.old) (GivesReceive letter.now waiting.old waiting.new buckets.old buckets.new) }
+    requires indexed { (top : ℕ) × IsIndexed IsKeyOfReceive top waiting.old buckets.old }
+    requires none_wild { wild ≡ false → NoneIsWild IsKeyOfReceive waiting.old }
+    ensures taken { MatchOption result (NonePass (MayGoTo envelope.now) waiting.old) (GivesReceive envelope.now waiting.old waiting.new buckets.old buckets.new) }
     ensures idle { IfNone result ((waiting.new ≡ waiting.old) × (buckets.new ≡ buckets.old)) }
 {
     if waiting.is_empty() {
         return None;
     }
-    match first_waiting(buckets, waiting, letter) {
+    match first_waiting(buckets, waiting, wild, envelope) {
         Some(number) => {
             take_numbered(waiting, buckets, number);
             Some(number)
@@ -61,6 +63,7 @@ fn take_waiting(
 }
 
 /// Takes the receive of a number out.
+#[inline(never)]
 fn take_numbered(waiting: &mut IndexMap<u64, Pattern>, buckets: &mut Buckets, number: u64)
     ensures { TakesOut number waiting.old waiting.new buckets.old buckets.new }
 {
@@ -86,17 +89,17 @@ pub(crate) fn take_letter(pool: &mut Pool<Letter>, pattern: &Pattern) -> Option<
     }
 }
 
-/// Takes the earliest receive that admits the letter. Answers its number.
-pub(crate) fn take_receive(pool: &mut Pool<Pattern>, letter: &Letter) -> Option<u64>
+/// Takes the earliest receive that admits the envelope. Answers its number.
+pub(crate) fn take_receive(pool: &mut Pool<Pattern>, envelope: &Envelope) -> Option<u64>
     requires { (count : ℕ) × IsPool IsKeyOfReceive count pool.old }
-    ensures taken { MatchOption result (NoneOf (λ (y : ℕ × Pattern). MayGoTo letter.now y.1) (all_of pool.old)) (λ n. (pattern : Pattern) × TakesLeast (λ (y : ℕ × Pattern). MayGoTo letter.now y.1) (all_of pool.old) (all_of pool.new) (n, pattern)) }
+    ensures taken { MatchOption result (NoneOf (λ (y : ℕ × Pattern). MayGoTo envelope.now y.1) (all_of pool.old)) (λ n. (pattern : Pattern) × TakesLeast (λ (y : ℕ × Pattern). MayGoTo envelope.now y.1) (all_of pool.old) (all_of pool.new) (n, pattern)) }
     ensures idle { IfNone result (pool.new ≡ pool.old) }
     ensures pool { (count : ℕ) → IsPool IsKeyOfReceive count pool.old → IsPool IsKeyOfReceive count pool.new }
     ensures place { HasPlace pool.old → HasPlace pool.new }
 {
-    match take_waiting(&mut pool.early, &mut pool.buckets, letter) {
+    match take_waiting(&mut pool.early, &mut pool.buckets, pool.wild, envelope) {
         Some(number) => Some(number),
-        None => match take_late_receive(&mut pool.late, letter) {
+        None => match take_late_receive(&mut pool.late, envelope) {
             Some((number, _)) => Some(number),
             None => None,
         },

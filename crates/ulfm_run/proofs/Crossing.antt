@@ -13,18 +13,18 @@ use Rattle.ulfm_job.proofs.job.Job.TheSendSync as shared_job
 use Rattle.ulfm_rank.proofs.Crossing.{rank_send}
 use Rattle.ulfm_script.specs.contracts.player.Player as player
 use Rattle.ulfm_script.specs.contracts.report.RankReport as report
-use Rattle.ulfm_script.proofs.answer.StepReport.TheSendSync as answered
+use Rattle.ulfm_script.proofs.Crossing.{answered_send}
 use Rattle.ulfm_run.specs.contracts.worker.Ran as ran
 use Rattle.ulfm_run.specs.contracts.worker.Worker as worker
 
 player_send : IsSend player.the_row
-player_send = search (rank_send, answered.the_send, sendable, crosses) depth 40 fits 20000
+player_send = search (rank_send, answered_send, sendable, crosses) depth 40 fits 20000
 
 worker_send : (E D : RattleType) → IsSend E → IsSend D → IsSend (worker.the_row E D)
 worker_send E D e d = search (player_send, sendable, crosses) depth 40 fits 20000
 
 report_send : IsSend report.the_row
-report_send = search (rank_send, answered.the_send, sendable, crosses) depth 40 fits 20000
+report_send = search (rank_send, answered_send, sendable, crosses) depth 40 fits 20000
 
 pub ran_send : (E D : RattleType) → IsSend E → IsSend D → IsSend (ran.the_row E D)
 ran_send E D e d = search (report_send, sendable, crosses) depth 40 fits 20000

@@ -108,7 +108,7 @@ impl<R: Wait, E: Ends, D: Decider> Hands for AtWork<'_, R, E, D> {
             self.me,
             &mut worker.player,
             &mut worker.decider,
-            &step,
+            step,
         );
         Ok(Some(answered))
     }

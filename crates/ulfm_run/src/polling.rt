@@ -15,13 +15,13 @@ use ulfm_script::{Called, Decided, Job, Player, Step};
 
 /// The next step of a rank that is to be played. The steps before it are skipped, since none of their conditions holds: they take no
 /// poll. It never answers out of memory.
-pub(crate) fn next_played(job: &Job, me: u8, player: &mut Player) -> Option<Step>
+pub(crate) fn next_played<'a>(job: &'a Job, me: u8, player: &mut Player) -> Option<&'a Step>
     requires mine { player.old.player.rank.me ≡ me }
     requires follows { GoesThrough job.now me player.old.player }
     requires room { length (script_at job.now me) ≤ player.old.room + length player.old.player.done }
     requires running { is_stopped player.old.player.rank.log ≡ false }
     ensures skips { SkipsOn job.now me player.old player.new }
-    ensures next { IfSome result (λ step. slice_get (script_at job.now me) (length player.new.player.done) ≡ Some step) }
+    ensures next { IfSome result (λ step. slice_get (script_at job.now me) (length player.new.player.done) ≡ Some step.now) }
     ensures played { IfSome result (λ _. is_played job.now.conditions me player.new.player.done ≡ true) }
     ensures none { IfNone result (length (script_at job.now me) ≤ length player.new.player.done) }
     ensures honest { (known : Known) → AnswersFollowSoFar known player.old.player → AnswersFollowSoFar known player.new.player }
@@ -31,7 +31,7 @@ pub(crate) fn next_played(job: &Job, me: u8, player: &mut Player) -> Option<Step
         if player.is_next_played(job.conditions()) {
             return Some(step);
         }
-        player.skip(&step);
+        player.skip(step);
     }
     None
 }

@@ -24,3 +24,4 @@ pub mod Entrances
 pub mod Vain
 pub mod Reacting
 pub mod Following
+pub mod Crossing

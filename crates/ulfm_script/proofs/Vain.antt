@@ -54,3 +54,10 @@ pub vain-again : (p : Player) (asked : Step) (new : Player) → p.current ≡ So
 vain-again p asked new waits o =
     let same : o.rank ≡ p.rank = same_rank p.done p.rank asked o.rank (subst (λ (c : Option Step). StaysOpen (awaits_decision c) p.done p.rank asked o.rank) waits o.stays) in
     o.only ∙ ap (λ (s : State). polled (with_rank p s) asked (length p.rank.log)) same
+
+-- so does a first poll that leaves open what no ranks decide together
+pub first-again : (p : Player) (asked : Step) (new : Player) → p.current ≡ None → is_joint asked ≡ false → PollOpens p asked new → new ≡ polled p asked (length p.rank.log)
+first-again p asked new none lone o =
+    let stays : StaysOpen false p.done p.rank asked o.rank = subst (λ (c : Option Step). StaysOpen (awaits_decision c) p.done p.rank asked o.rank) none o.stays in
+    let same : o.rank ≡ p.rank = same_rank p.done p.rank asked o.rank (subst (λ (b : Bool). StaysOpen b p.done p.rank asked o.rank) (sym lone) stays) in
+    o.only ∙ ap (λ (s : State). polled (with_rank p s) asked (length p.rank.log)) same

@@ -2,7 +2,7 @@
 
 use smallvec::SmallVec;
 use ulfm_base::{Body, CallError, Group};
-use ulfm_job::Step;
+use ulfm_job::NotedStep;
 use ulfm_match::RequestId;
 use ulfm_rank::{Comm, MessageId, Status};
 
@@ -67,7 +67,7 @@ pub enum Decided {
 #[derive(Drop)]
 pub struct StepReport {
     /// What was to be done.
-    pub step: Step,
+    pub step: NotedStep,
     /// What came of it.
     pub answer: StepAnswer,
     /// The log's length when the step's last poll began.

@@ -5,19 +5,20 @@ mod agreeing;
 mod recovery;
 mod rings;
 
+use std::alloc::Global;
 use std::test::Fail;
-use ulfm_base::{CallError, Context, Tag};
+use ulfm_base::{CallError, Context, OutOfMemory, Tag};
 use ulfm_script::{Step, Text};
-use ulfm_world::{Event, Outcome, Refused, World};
+use ulfm_world::{Asked, Event, Outcome, Refused, World};
 
-/// A send of the letter `a` to rank 1.
-fn send() -> Step {
-    Step::Send {
-        to: 1,
+/// A send of a letter to a rank.
+fn send(alloc: Global, to: u8, letter: &str) -> Result<Step, OutOfMemory> {
+    Ok(Step::Send {
+        to,
         tag: Tag { number: 5 },
-        body: Text::new("a"),
+        body: Text::new(alloc, letter)?,
         comm: Context::WORLD,
-    }
+    })
 }
 
 /// A receive of any letter.
@@ -36,7 +37,7 @@ fn wait() -> Step {
 }
 
 /// Whether a world tells this of an event.
-fn tells(world: &mut World, event: Event, told: Result<Outcome, Refused>) -> bool {
+fn tells(world: &mut World, event: Event<'_>, told: Result<Outcome, Refused>) -> bool {
     match (world.apply(event), told) {
         (Ok(outcome), Ok(wanted)) => outcome == wanted,
         (Err(why), Err(wanted)) => why == wanted,
@@ -44,15 +45,20 @@ fn tells(world: &mut World, event: Event, told: Result<Outcome, Refused>) -> boo
     }
 }
 
+/// Whether a world tells this of one poll of a step.
+fn polls(world: &mut World, r: u8, step: &Step, told: Result<Outcome, Refused>) -> bool {
+    tells(world, Event::Call(r, Asked::of(step)), told)
+}
+
 /// Whether two ranks with inboxes for one item refuse what can't happen, and a full inbox holds a push back.
-fn holds_back(world: &mut World) -> bool {
+fn holds_back(world: &mut World, letter: &Step) -> bool {
     tells(world, Event::Push(0, 1), Err(Refused::NothingToPush))
         && tells(world, Event::Take(1), Err(Refused::InboxEmpty))
         && tells(world, Event::Leave(0), Err(Refused::NotReady))
         && tells(world, Event::Push(0, 2), Err(Refused::NoSuchRank))
-        && tells(world, Event::Call(0, send()), Ok(Outcome::Answered))
+        && polls(world, 0, letter, Ok(Outcome::Answered))
         && tells(world, Event::Push(0, 1), Ok(Outcome::Moved))
-        && tells(world, Event::Call(0, send()), Ok(Outcome::Answered))
+        && polls(world, 0, letter, Ok(Outcome::Answered))
         && tells(world, Event::Push(0, 1), Err(Refused::InboxFull))
         && tells(world, Event::Take(1), Ok(Outcome::Moved))
         && tells(world, Event::Push(0, 1), Ok(Outcome::Moved))
@@ -61,7 +67,8 @@ fn holds_back(world: &mut World) -> bool {
 #[test]
 fn a_full_inbox_holds_a_push_back(rt: HostRuntime) -> Result<(), Fail> {
     let mut world = World::new(rt.alloc(), 2, 1)?;
-    assert!(rt; holds_back(&mut world));
+    let letter = send(rt.alloc(), 1, "a")?;
+    assert!(rt; holds_back(&mut world, &letter));
     assert!(rt; !world.is_at_rest());
     assert!(rt; tells(&mut world, Event::Take(1), Ok(Outcome::Moved)));
     assert!(rt; world.is_at_rest());
@@ -70,18 +77,18 @@ fn a_full_inbox_holds_a_push_back(rt: HostRuntime) -> Result<(), Fail> {
 
 /// Whether a step that stands open keeps others away until it is given up.
 fn gives_up(world: &mut World) -> bool {
-    tells(world, Event::Call(0, receive()), Ok(Outcome::Answered))
-        && tells(world, Event::Call(0, wait()), Ok(Outcome::NotYet))
-        && tells(world, Event::Call(0, Step::Stop), Err(Refused::NotReady))
-        && tells(world, Event::Call(0, wait()), Ok(Outcome::NotYet))
+    polls(world, 0, &receive(), Ok(Outcome::Answered))
+        && polls(world, 0, &wait(), Ok(Outcome::NotYet))
+        && polls(world, 0, &Step::Stop, Err(Refused::NotReady))
+        && polls(world, 0, &wait(), Ok(Outcome::NotYet))
         && tells(world, Event::Leave(0), Ok(Outcome::Moved))
         && tells(world, Event::Leave(0), Err(Refused::NotReady))
 }
 
 /// Whether a rank that stopped does nothing more but push its notices.
 fn stands_still(world: &mut World) -> bool {
-    tells(world, Event::Call(0, Step::Stop), Ok(Outcome::Answered))
-        && tells(world, Event::Call(0, Step::Stop), Err(Refused::Stopped))
+    polls(world, 0, &Step::Stop, Ok(Outcome::Answered))
+        && polls(world, 0, &Step::Stop, Err(Refused::Stopped))
         && tells(world, Event::Take(0), Err(Refused::Stopped))
         && tells(world, Event::Leave(0), Err(Refused::Stopped))
         && tells(world, Event::Push(0, 0), Err(Refused::NothingToPush))
@@ -106,19 +113,19 @@ fn shrink() -> Step {
 }
 
 /// The decision of a rank's shrink of the world.
-fn decide(r: u8) -> Event {
+fn decide<'a>(r: u8) -> Event<'a> {
     Event::Decide(r, Context::WORLD)
 }
 
 /// Whether a shrink is decided once each of two ranks entered it, and not by a poll.
 fn decides(world: &mut World) -> bool {
     tells(world, decide(0), Err(Refused::NotReady))
-        && tells(world, Event::Call(0, shrink()), Ok(Outcome::NotYet))
+        && polls(world, 0, &shrink(), Ok(Outcome::NotYet))
         && tells(world, decide(0), Err(Refused::NotReady))
-        && tells(world, Event::Call(1, shrink()), Ok(Outcome::NotYet))
+        && polls(world, 1, &shrink(), Ok(Outcome::NotYet))
         && tells(world, Event::Push(1, 0), Ok(Outcome::Moved))
         && tells(world, Event::Take(0), Ok(Outcome::Moved))
-        && tells(world, Event::Call(0, shrink()), Ok(Outcome::NotYet))
+        && polls(world, 0, &shrink(), Ok(Outcome::NotYet))
         && tells(world, decide(0), Ok(Outcome::Answered))
         && tells(world, decide(0), Err(Refused::NotReady))
 }
@@ -128,7 +135,7 @@ fn adopts(world: &mut World) -> bool {
     tells(world, Event::Push(0, 1), Ok(Outcome::Moved))
         && tells(world, Event::Take(1), Ok(Outcome::Moved))
         && tells(world, decide(1), Ok(Outcome::Answered))
-        && tells(world, Event::Call(1, Step::Stop), Ok(Outcome::Answered))
+        && polls(world, 1, &Step::Stop, Ok(Outcome::Answered))
         && tells(world, decide(1), Err(Refused::Stopped))
         && tells(world, decide(2), Err(Refused::NoSuchRank))
 }

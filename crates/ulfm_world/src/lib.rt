@@ -1,6 +1,7 @@
 //! All ranks with their inboxes, in every schedule, and the replay of a job, also with one more stop at each place in turn.
 #![tactic(auto)]
 
+mod asked;
 mod event;
 mod fault;
 mod inbox;
@@ -14,6 +15,7 @@ mod steps;
 mod sweeps;
 mod world;
 
+pub use asked::Asked;
 pub use event::{Event, Outcome, Refused};
 pub use fault::SweepFault;
 pub use inbox::Inbox;

@@ -1,17 +1,22 @@
 -- What is read of a job's text, without the form that it has in memory.
 use Rattle.std.specs.Prelude.{ℕ, Bool, List, [], ◌∷◌, ◌++◌, Option, Some, None, Result, Ok, Err, ◌<◌, ◌≤◌, map, if◌then◌else◌}
+use Rattle.std.specs.Borrow.{Bor}
 use Rattle.toml.specs.View.{items_view}
 use Rattle.ulfm_job.specs.declared.head.Head.{Head as Coded}
 use Rattle.ulfm_job.specs.JobText.{Head, Draft}
 use Rattle.ulfm_job.specs.Begins.{may_ask, may_expect}
 use Rattle.ulfm_job.specs.Job.{lists_of}
-use Rattle.ulfm_job.specs.Reacting.{Asker}
+use Rattle.ulfm_job.specs.Reacting.{Asker, Reference, by_number, by_name}
 use Rattle.ulfm_job.specs.declared.asker.Asker.{Asker as CodedAsker}
 use Rattle.ulfm_job.specs.declared.draft.Draft.{Draft as CodedDraft}
 use Rattle.ulfm_job.specs.declared.name.Name.{Name}
 use Rattle.ulfm_job.specs.declared.step.Step.{Step}
 use Rattle.ulfm_job.specs.declared.placed.Placed.{Placed}
-use Rattle.ulfm_job.specs.Plan.{PlannedStep, order_of}
+use Rattle.ulfm_job.specs.declared.placed.ReadStep.{ReadStep}
+use Rattle.ulfm_job.specs.declared.placed.ReadStep.TheVariants.{Send, Other}
+use Rattle.ulfm_job.specs.declared.reference.Reference.{Reference as CodedReference}
+use Rattle.ulfm_job.specs.declared.reference.Reference.TheVariants as by
+use Rattle.ulfm_job.specs.Plan.{Order, PlannedStep, order_of, send}
 
 -- a result, its value seen by view
 abbrev pub map_ok : {X Y E : Type 0} → (X → Y) → Result X E → Result Y E
@@ -31,9 +36,19 @@ pub record IsHead (h : Head) : Type 0 where
   pub some_turn : 0 < h.turns
   pub most_turns : h.turns ≤ 10000000
 
+-- what a step asks for, as it is read
+abbrev pub order_read : ReadStep → Order
+order_read (Send to tag body comm) = send to tag.number body.now comm.number
+order_read (Other step) = order_of step
+
 -- a step as it was planned
 abbrev pub planned : Placed → PlannedStep
-planned p = record { rank = p.rank; order = order_of p.step }
+planned p = record { rank = p.rank; order = order_read p.step }
+
+-- what names a step, as it is read
+abbrev pub reference_view : CodedReference → Reference
+reference_view (by.Number number) = by_number number
+reference_view (by.Name text) = by_name text.now
 
 -- what the clauses of a step are read with, as it is kept
 abbrev pub asker_view : CodedAsker → Asker
@@ -53,6 +68,6 @@ draft_view d = record {
 }
 
 -- names, and behind them one more where there is one
-abbrev pub name_behind : List Name → Option Name → List Name
-name_behind names None = names
-name_behind names (Some name) = names ++ name ∷ []
+abbrev pub name_behind : List Name → ℕ → ℕ → Option (Bor (List ℕ)) → List Name
+name_behind names rank at None = names
+name_behind names rank at (Some text) = names ++ record { rank = rank; at = at; text = text.now } ∷ []

@@ -7,9 +7,10 @@ use Rattle.std.specs.declared.hash.FoldHasher.{FoldHasher}
 use Rattle.std.specs.declared.hash.BuildHasherDefault.{BuildHasherDefault}
 use Rattle.ulfm_base.specs.declared.pattern.Pattern.{Pattern}
 use Rattle.ulfm_base.specs.declared.envelope.Letter.{Letter}
+use Rattle.ulfm_base.specs.declared.envelope.Envelope.{Envelope}
 use Rattle.ulfm_base.specs.Pattern.{Admits}
 use Rattle.ulfm_match.specs.declared.bucket.Bucket.{Bucket}
-use Rattle.ulfm_match.specs.inside.Key.{IsKeyOf}
+use Rattle.ulfm_match.specs.inside.Key.{IsWild, AsksOf, key_from}
 
 -- entries by number
 abbrev pub Entries : Type 0 → Type 0
@@ -63,9 +64,9 @@ pub record Passes {X : Type 0} (P : X → Type 0) (entries : Entries X) (n : ℕ
 abbrev pub MayGet : Pattern → Letter → Type 0
 MayGet pattern letter = Admits pattern letter.envelope
 
--- the letter may go to a receive with this pattern
-abbrev pub MayGoTo : Letter → Pattern → Type 0
-MayGoTo letter pattern = Admits pattern letter.envelope
+-- a letter of this envelope may go to a receive with this pattern
+abbrev pub MayGoTo : Envelope → Pattern → Type 0
+MayGoTo envelope pattern = Admits pattern envelope
 
 -- n is the least number among those of M for which Q holds
 pub record IsLeastOf (M Q : ℕ → Type 0) (n : ℕ) : Type 0 where
@@ -99,17 +100,17 @@ pub record TakesEarliest {X : Type 0} (P : X → Type 0) (old new : Entries X) (
 abbrev pub GivesLetter : Pattern → Entries Letter → Entries Letter → Buckets → Buckets → Letter → Type 0
 GivesLetter pattern old new from to letter = (n : ℕ) × TakesEarliest (MayGet pattern) old new from to n letter
 
--- the receive of this number is the earliest that may get the letter, and is taken out
-abbrev pub GivesReceive : Letter → Entries Pattern → Entries Pattern → Buckets → Buckets → ℕ → Type 0
-GivesReceive letter old new from to n = (pattern : Pattern) × TakesEarliest (MayGoTo letter) old new from to n pattern
+-- the receive of this number is the earliest that may get a letter of this envelope, and is taken out
+abbrev pub GivesReceive : Envelope → Entries Pattern → Entries Pattern → Buckets → Buckets → ℕ → Type 0
+GivesReceive envelope old new from to n = (pattern : Pattern) × TakesEarliest (MayGoTo envelope) old new from to n pattern
 
 -- no entry passes
 abbrev pub NonePass : {X : Type 0} → (X → Type 0) → Entries X → Type 0
 NonePass {X} P entries = (n : ℕ) → Passes P entries n → ⊥
 
--- this number stands in a bucket of a key of the letter
-abbrev pub StandsFor : Letter → Buckets → ℕ → Type 0
-StandsFor letter buckets n = (k : ℕ) × IsKeyOf letter k × Contains (numbers_at buckets k) n
+-- this number stands in the bucket of a source that the receive asks of
+abbrev pub StandsFrom : Pattern → Buckets → ℕ → Type 0
+StandsFrom pattern buckets n = (s : ℕ) × AsksOf pattern.source s × Contains (numbers_at buckets (key_from s pattern)) n
 
 -- each entry stands in the buckets of its keys, by rising numbers; entries have numbers below the top, and buckets at most the top
 pub record IsIndexed {X : Type 0} (IsKey : X → ℕ → Type 0) (top : ℕ) (entries : Entries X) (buckets : Buckets) : Type 0 where
@@ -118,3 +119,7 @@ pub record IsIndexed {X : Type 0} (IsKey : X → ℕ → Type 0) (top : ℕ) (en
   pub held : (n : ℕ) (x : X) (k : ℕ) → get nat_eq entries n ≡ Some x → IsKey x k → Contains (numbers_at buckets k) n
   pub rises : (k : ℕ) → Rises (numbers_at buckets k)
   pub within : (k n : ℕ) → Contains (numbers_at buckets k) n → n ≤ top
+
+-- no entry has a key of any source or of any tag
+abbrev pub NoneIsWild : {X : Type 0} → (X → ℕ → Type 0) → Entries X → Type 0
+NoneIsWild {X} IsKey entries = (n : ℕ) (x : X) (k : ℕ) → get nat_eq entries n ≡ Some x → IsKey x k → IsWild k → ⊥

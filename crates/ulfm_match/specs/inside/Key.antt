@@ -1,5 +1,6 @@
 -- The keys of buckets.
-use Rattle.std.specs.Prelude.{◌≡◌, ℕ, ◌+◌, ◌*◌, Bool, Option, Some, None, cond}
+use Rattle.std.specs.Prelude.{◌≡◌, ℕ, ◌+◌, ◌*◌, ◌<◌, ◌⊎◌, Bool, true, false, Option, Some, None, cond}
+use Rattle.ulfm_base.specs.RankSet.{has}
 use Rattle.ulfm_base.specs.declared.pattern.Pattern.{Pattern}
 use Rattle.ulfm_base.specs.declared.pattern.Source.{Source}
 use Rattle.ulfm_base.specs.declared.pattern.Source.TheVariants.{One, Any}
@@ -38,11 +39,32 @@ tag_at any_tag tag = cond any_tag 32768 tag.number
 abbrev pub key_at : Bool → Bool → Envelope → ℕ
 key_at any_source any_tag envelope = key_number envelope.context.number (source_at any_source envelope.source) (tag_at any_tag envelope.tag)
 
--- a kept letter stands in the buckets of four keys
-pub record IsKeyOf (letter : Letter) (k : ℕ) : Type 0 where
+-- a key of any source or of any tag
+pub record IsWild (k : ℕ) : Type 0 where
+  pub envelope : Envelope
   pub any_source : Bool
   pub any_tag : Bool
-  pub is : k ≡ key_at any_source any_tag letter.envelope
+  pub is_wild : (any_source ≡ true) ⊎ (any_tag ≡ true)
+  pub is : k ≡ key_at any_source any_tag envelope
+
+-- receives that admit the envelope have one of four keys
+pub record IsKeyAt (envelope : Envelope) (k : ℕ) : Type 0 where
+  pub any_source : Bool
+  pub any_tag : Bool
+  pub is : k ≡ key_at any_source any_tag envelope
+
+-- a kept letter stands in the buckets of its source, of its tag or of any
+abbrev pub IsKeyOf : Letter → ℕ → Type 0
+IsKeyOf letter k = (any_tag : Bool) × (k ≡ key_at false any_tag letter.envelope)
+
+-- s is a source of which a receive asks
+abbrev pub AsksOf : Source → ℕ → Type 0
+AsksOf (One rank) s = s ≡ rank.number
+AsksOf (Any members) s = (s < 8) × (has members s ≡ true)
+
+-- the key of the letters from source s that a receive may get
+abbrev pub key_from : ℕ → Pattern → ℕ
+key_from s pattern = key_number pattern.context.number s (tag_of pattern.tag)
 
 -- a receive that waits stands in the bucket of its own
 abbrev pub IsKeyOfReceive : Pattern → ℕ → Type 0

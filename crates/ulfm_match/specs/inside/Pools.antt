@@ -1,12 +1,12 @@
 -- Entries by number: the early ones in buckets, and after them the late ones in a short list.
-use Rattle.std.specs.Prelude.{◌≡◌, ◌≢◌, ℕ, ◌<◌, ◌≤◌, List, ◌∷◌, ◌++◌, Bool, true, Contains, take, length, Option, MatchOption}
+use Rattle.std.specs.Prelude.{◌≡◌, ◌≢◌, ℕ, ◌<◌, ◌≤◌, List, ◌∷◌, ◌++◌, Bool, true, false, Contains, take, length, Option, MatchOption}
 use Rattle.std.specs.VecDeque.{deque_len, deque_capacity}
 use Rattle.std.specs.List.{HoldsAt}
 use Rattle.ulfm_base.specs.declared.pattern.Pattern.{Pattern}
 use Rattle.ulfm_base.specs.declared.envelope.Letter.{Letter}
 use Rattle.ulfm_match.specs.declared.pool.Pool.{Pool}
 use Rattle.ulfm_match.specs.State.{IsAscending}
-use Rattle.ulfm_match.specs.inside.Buckets.{IsIndexed}
+use Rattle.ulfm_match.specs.inside.Buckets.{IsIndexed, NoneIsWild}
 use Rattle.ulfm_match.specs.inside.Key.{IsKeyOf, IsKeyOfReceive}
 use Rattle.ulfm_match.specs.inside.Order.{in_order}
 
@@ -59,6 +59,8 @@ pub record IsPool {X : Type 0} (IsKey : X → ℕ → Type 0) (count : ℕ) (poo
   pub below : (y : ℕ × X) → Contains pool.late.items y → y.0 < count
   pub counted : top ≤ count
   pub short : deque_len pool.late ≤ few
+  -- the early ones may have a key of any source or of any tag only where the pool says so
+  pub none_wild : pool.wild ≡ false → NoneIsWild IsKey pool.early
 
 -- there is a place for one late entry more, and with it they are few still
 abbrev pub HasPlace : {X : Type 0} → Pool X → Type 0

@@ -31,7 +31,7 @@ impl Player {
         let at = self.rank.log().len();
         match decide(alloc, &mut self.rank, &step, board) {
             Some(answer) => {
-                self.answer(step, answer, at);
+                self.answer(&step, answer, at);
                 Decided::Answered
             }
             None => Decided::NotReady,
@@ -43,9 +43,9 @@ impl Player {
         ensures found { IfSome result (λ step. (self.now.player.current ≡ Some step) × (decides_on step ≡ Some context)) }
         ensures none { IfNone result ((asked : Asked) → self.now.player.current ≡ Some asked → decides_on asked ≡ Some context → ⊥) }
     {
-        let step = self.current?;
+        let step = self.current.as_ref()?;
         if step.is_decided_on(context) {
-            Some(step)
+            step.bodiless()
         } else {
             None
         }

@@ -1,22 +1,12 @@
 //! A recovery round by round, with inboxes for one item: a rank revokes the world and stops half way, and the others
 //! shrink it.
 
-use super::{decide, shrink, tells};
+use super::{decide, polls, send, shrink, tells};
 use std::alloc::Global;
 use std::test::Fail;
 use ulfm_base::{Context, Tag};
-use ulfm_script::{Step, Text, trace_text};
+use ulfm_script::{Step, trace_text};
 use ulfm_world::{Event, Outcome, Refused, World};
-
-/// A send of the letter `a` to rank 2.
-fn send() -> Step {
-    Step::Send {
-        to: 2,
-        tag: Tag { number: 5 },
-        body: Text::new("a"),
-        comm: Context::WORLD,
-    }
-}
 
 /// A receive from a rank, or from any, of a tag, or of any.
 pub(super) fn receive(from: Option<u8>, tag: Option<Tag>) -> Step {
@@ -47,12 +37,12 @@ fn revoke() -> Step {
 
 /// Whether a poll answers a step.
 pub(super) fn answers(world: &mut World, r: u8, step: Step) -> bool {
-    tells(world, Event::Call(r, step), Ok(Outcome::Answered))
+    polls(world, r, &step, Ok(Outcome::Answered))
 }
 
 /// Whether a poll leaves a step open.
 pub(super) fn waits(world: &mut World, r: u8, step: Step) -> bool {
-    tells(world, Event::Call(r, step), Ok(Outcome::NotYet))
+    polls(world, r, &step, Ok(Outcome::NotYet))
 }
 
 /// Whether a rank pushes an item to another.
@@ -81,8 +71,8 @@ fn proposes_nothing(world: &mut World, r: u8) -> bool {
 }
 
 /// Rank 0 sends, rank 1 revokes, rank 2 posts. The full inbox of rank 2 holds the revocation back.
-fn revokes(world: &mut World) -> bool {
-    answers(world, 0, send())
+fn revokes(world: &mut World, letter: &Step) -> bool {
+    polls(world, 0, letter, Ok(Outcome::Answered))
         && answers(world, 1, revoke())
         && answers(world, 2, tagged(Tag { number: 5 }))
         && pushes(world, 0, 2)
@@ -174,7 +164,8 @@ pub(super) fn has_trace(world: World, alloc: Global, text: &str) -> bool {
 #[test]
 fn survivors_of_a_revoked_world_shrink_it(rt: HostRuntime) -> Result<(), Fail> {
     let mut world = World::new(rt.alloc(), 3, 1)?;
-    assert!(rt; revokes(&mut world));
+    let letter = send(rt.alloc(), 2, "a")?;
+    assert!(rt; revokes(&mut world, &letter));
     assert!(rt; passes_on(&mut world));
     assert!(rt; waits_for_the_other(&mut world));
     assert!(rt; shrinks(&mut world));

@@ -1,21 +1,10 @@
 //! What rings allow and one inbox doesn't: three ranks with one place, where the letter of rank 2 overtakes that of rank 0.
 
 use super::recovery::{answers, has_trace, pushes, receive, takes, wait, waits};
-use super::{send, tells};
+use super::{polls, send, tells};
 use std::test::Fail;
-use ulfm_base::{Context, Tag};
-use ulfm_script::{Step, Text};
+use ulfm_script::Step;
 use ulfm_world::{Event, Outcome, Refused, World};
-
-/// A send of the letter `b` to rank 1.
-fn send_b() -> Step {
-    Step::Send {
-        to: 1,
-        tag: Tag { number: 5 },
-        body: Text::new("b"),
-        comm: Context::WORLD,
-    }
-}
 
 /// Whether a rank takes the first item of another.
 fn takes_from(world: &mut World, r: u8, s: u8) -> bool {
@@ -23,8 +12,8 @@ fn takes_from(world: &mut World, r: u8, s: u8) -> bool {
 }
 
 /// Rank 0 sends `a` and stops; rank 2 waits for it in vain, and then sends `b`. Rank 1 wants two letters.
-fn both_send(world: &mut World) -> bool {
-    answers(world, 0, send())
+fn both_send(world: &mut World, a: &Step, b: &Step) -> bool {
+    polls(world, 0, a, Ok(Outcome::Answered))
         && pushes(world, 0, 1)
         && answers(world, 0, Step::Stop)
         && answers(world, 1, receive(None, None))
@@ -34,7 +23,7 @@ fn both_send(world: &mut World) -> bool {
         && pushes(world, 0, 2)
         && takes(world, 2)
         && answers(world, 2, wait(0))
-        && answers(world, 2, send_b())
+        && polls(world, 2, b, Ok(Outcome::Answered))
 }
 
 /// Whether a take from a rank is refused where nothing of it is there, outside the world, and after a stop.
@@ -62,7 +51,9 @@ const B_FIRST: &str = "0 0 send 1 tag 5 comm 0: sent\n\
 #[test]
 fn on_rings_a_later_letter_may_come_first(rt: HostRuntime) -> Result<(), Fail> {
     let mut world = World::with_rings(rt.alloc(), 3, 1)?;
-    assert!(rt; both_send(&mut world));
+    let a = send(rt.alloc(), 1, "a")?;
+    let b = send(rt.alloc(), 1, "b")?;
+    assert!(rt; both_send(&mut world, &a, &b));
     assert!(rt; refuses(&mut world));
     assert!(rt; tells(&mut world, Event::Push(0, 1), Err(Refused::InboxFull)));
     assert!(rt; pushes(&mut world, 2, 1));
@@ -77,7 +68,9 @@ fn on_rings_a_later_letter_may_come_first(rt: HostRuntime) -> Result<(), Fail> {
 #[test]
 fn one_place_for_all_keeps_their_order(rt: HostRuntime) -> Result<(), Fail> {
     let mut world = World::new(rt.alloc(), 3, 1)?;
-    assert!(rt; both_send(&mut world));
+    let a = send(rt.alloc(), 1, "a")?;
+    let b = send(rt.alloc(), 1, "b")?;
+    assert!(rt; both_send(&mut world, &a, &b));
     assert!(rt; refuses(&mut world));
     assert!(rt; tells(&mut world, Event::Push(2, 1), Err(Refused::InboxFull)));
     assert!(rt; takes_from(&mut world, 1, 0));

@@ -6,4 +6,4 @@ use Rattle.ulfm_match.proofs.buckets.forget_letter.Goals as goal
 pub returns : goal.returns
 returns g c k =
     let L : ℕ → Type 0 = λ n. IsSome (get nat_eq c.args.live.now n) in
-    sweeps_both L _ _ _ (sweeps_both L _ _ _ (sweeps_both L _ _ _ (c.forget.ensures k) (c.forget-2.ensures k)) (c.forget-3.ensures k)) (c.forget-4.ensures k)
+    sweeps_both L _ _ _ (c.forget.ensures k) (c.forget-2.ensures k)

@@ -6,7 +6,7 @@ use Rattle.ulfm_match.proofs.late.take_late_receive.Goals as goal
 
 pub returns-in-Some-clause-taken : goal.returns-in-Some-clause-taken
 returns-in-Some-clause-taken c =
-    taken (λ (y : ℕ × Pattern). Admits y.1 c.args.letter.now.envelope) c.args.late.now.items c.remove.new.self.items c.in-Some.k c.remove.result c.in-Some.ensures
+    taken (λ (y : ℕ × Pattern). Admits y.1 c.args.envelope.now) c.args.late.now.items c.remove.new.self.items c.in-Some.k c.remove.result c.in-Some.ensures
     (c.remove.ensures.variant.1 (let l = c.in-Some.ensures.within in omega (arith, l, c.args.late.now.ok.0))) c.remove.ensures.value c.remove.ensures.items
 
 pub returns-in-Some-clause-shorter : goal.returns-in-Some-clause-shorter

@@ -1,28 +1,21 @@
-use Rattle.std.proofs.Common.{ℕ, List, ◌++◌, ap, subst, sym, ◌∙◌, arith, nat_eq, Some, Contains}
-use Rattle.std.specs.Option.{option_to_list}
-use Rattle.ulfm_match.proofs.Common.{Letter, Admits, FindsLeast, Rises, Passes, get, nat_tests, numbers_of}
-use Rattle.ulfm_match.proofs.Bucketed.{first_finds, rest_finds}
+use Rattle.std.proofs.Common.{◌≡◌, ℕ, ◌<◌, subst, true, Contains}
+use Rattle.ulfm_base.specs.RankSet.{has}
+use Rattle.ulfm_match.proofs.Common.{Admits, Any, AsksOf, Letter, Passes, Source, StandsFrom, key_from, numbers_at}
+use Rattle.ulfm_match.proofs.Bucketed.{finds_all}
 use Rattle.ulfm_match.proofs.search.first_kept.Goals as goal
-use Rattle.ulfm_match.proofs.search.first_kept.Goals.{in-Some-first+else-is_admitted, in_default-first}
 
-pub returns-then-is_admitted : goal.returns-then-is_admitted
-returns-then-is_admitted c =
-    let Q : ℕ → Type 0 = Passes (λ (l : Letter). Admits c.args.pattern.now l.envelope) c.args.kept.now in
-    let rest = c.in-Some.bucket.now.rest.items in
-    let n = c.in-Some-first.first in
-    let is = ap (λ k. numbers_of (get nat_eq c.args.buckets.now k)) (sym c.key_of.ensures) ∙ ap numbers_of (sym c.in-Some.ensures.value) ∙ ap (λ o. option_to_list o ++ rest) c.in-Some-first.is in
-    subst (λ (ns : List ℕ). FindsLeast (Contains ns) Q (Some n)) (sym is) (first_finds n rest Q (subst Rises is c.requires) (c.is_admitted.ensures.0 c.if-is_admitted.true))
+pub returns-in-One : goal.returns-in-One
+returns-in-One c =
+    let M : ℕ → ℕ → Type 0 = λ s n. Contains (numbers_at c.args.buckets.now (key_from s c.args.pattern.now)) n in
+    let Q : ℕ → Type 0 = Passes (λ (letter : Letter). Admits c.args.pattern.now letter.envelope) c.args.kept.now in
+    finds_all (M c.in-One.rank.number) (StandsFrom c.args.pattern.now c.args.buckets.now) Q c.first_kept_from.result
+    (λ n m q. let own : m.0 ≡ c.in-One.rank.number = subst (λ (source : Source). AsksOf source m.0) c.in-One.is m.1 in subst (λ s. M s n) own m.2)
+    c.first_kept_from.ensures
 
-pub returns : goal.returns
-returns c =
-    let Q : ℕ → Type 0 = Passes (λ (l : Letter). Admits c.args.pattern.now l.envelope) c.args.kept.now in
-    let rest = c.in-Some.bucket.now.rest.items in
-    elim c.match-bucket.branch [
-      | in-Some-first+else-is_admitted w ↦
-          let is = ap (λ k. numbers_of (get nat_eq c.args.buckets.now k)) (sym c.key_of.ensures) ∙ ap numbers_of (sym c.in-Some.ensures.value) ∙ ap (λ o. option_to_list o ++ rest) w.in-Some-first.is in
-          subst (λ (ns : List ℕ). FindsLeast (Contains ns) Q c.first_letter.result) (sym is)
-          (rest_finds w.in-Some-first.first rest Q c.first_letter.result (λ q. let t = w.is_admitted.ensures.1 q in let f = w.if-is_admitted.false in grind (arith, nat_tests, t, f)) c.first_letter.ensures)
-      | in_default-first w ↦
-          let is = ap (λ k. numbers_of (get nat_eq c.args.buckets.now k)) (sym c.key_of.ensures) ∙ ap numbers_of (sym c.in-Some.ensures.value) ∙ ap (λ o. option_to_list o ++ rest) w.in_default-first.is in
-          subst (λ (ns : List ℕ). FindsLeast (Contains ns) Q c.first_letter.result) (sym is) c.first_letter.ensures
-    ]
+pub returns-in-Any : goal.returns-in-Any
+returns-in-Any c =
+    let M : ℕ → ℕ → Type 0 = λ s n. Contains (numbers_at c.args.buckets.now (key_from s c.args.pattern.now)) n in
+    let Q : ℕ → Type 0 = Passes (λ (letter : Letter). Admits c.args.pattern.now letter.envelope) c.args.kept.now in
+    finds_all (λ n. (s : ℕ) × (s < 8) × (has c.in-Any.members s ≡ true) × M s n) (StandsFrom c.args.pattern.now c.args.buckets.now) Q c.first_kept_of_any.result
+    (λ n m q. let own : AsksOf (Any c.in-Any.members) m.0 = subst (λ (source : Source). AsksOf source m.0) c.in-Any.is m.1 in (m.0, own.0, own.1, m.2))
+    c.first_kept_of_any.ensures

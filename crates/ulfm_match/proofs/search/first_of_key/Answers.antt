@@ -7,7 +7,7 @@ use Rattle.ulfm_match.proofs.search.first_of_key.Goals.{in-Some-first+else-admit
 
 pub returns-then-admits : goal.returns-then-admits
 returns-then-admits c =
-    let Q : ℕ → Type 0 = Passes (λ (p : Pattern). Admits p c.args.letter.now.envelope) c.args.waiting.now in
+    let Q : ℕ → Type 0 = Passes (λ (p : Pattern). Admits p c.args.envelope.now) c.args.waiting.now in
     let rest = c.in-Some.bucket.now.rest.items in
     let n = c.in-Some-first.first in
     let is = ap numbers_of (sym c.in-Some.ensures.value) ∙ ap (λ o. option_to_list o ++ rest) c.in-Some-first.is in
@@ -15,7 +15,7 @@ returns-then-admits c =
 
 pub returns : goal.returns
 returns c =
-    let Q : ℕ → Type 0 = Passes (λ (p : Pattern). Admits p c.args.letter.now.envelope) c.args.waiting.now in
+    let Q : ℕ → Type 0 = Passes (λ (p : Pattern). Admits p c.args.envelope.now) c.args.waiting.now in
     let rest = c.in-Some.bucket.now.rest.items in
     elim c.match-bucket.branch [
       | in-Some-first+else-admits w ↦

@@ -1,5 +1,5 @@
-use Rattle.std.proofs.Common.{ℕ, refl, sym, ◌∙◌, inl, inr, Contains}
-use Rattle.ulfm_match.proofs.Common.{Admits, Contains-append_cases, Contains-append_left, Contains-append_right, Letter, Passes, in_order, key_of, numbers_at}
+use Rattle.std.proofs.Common.{ℕ, refl, sym, ◌∙◌, inl, inr}
+use Rattle.ulfm_match.proofs.Common.{Admits, Contains-append_cases, Contains-append_left, Contains-append_right, Letter, Passes, StandsFrom, in_order}
 use Rattle.ulfm_match.proofs.Bucketed.{finds_is, finds_some}
 use Rattle.ulfm_match.proofs.First.{found_is, found_some}
 use Rattle.ulfm_match.proofs.Indexed.{kept_found}
@@ -7,14 +7,14 @@ use Rattle.ulfm_match.proofs.Listed.{listed, unlisted}
 use Rattle.ulfm_match.proofs.taking.has_letter.Goals as goal
 
 pub first_kept-requires : goal.first_kept-requires
-first_kept-requires c = c.requires.1.indexed.rises _
+first_kept-requires c = c.requires.1.indexed.rises
 
 pub returns-then-is_some : goal.returns-then-is_some
 returns-then-is_some c =
     let pool = c.args.pool.now in
     let p = c.args.pattern.now in
     let Q : ℕ → Type 0 = Passes (λ (l : Letter). Admits p l.envelope) pool.early in
-    let M : ℕ → Type 0 = λ n. Contains (numbers_at pool.buckets (key_of p)) n in (
+    let M : ℕ → Type 0 = StandsFrom p pool.buckets in (
       λ t.
           let x = finds_is M Q c.first_kept.result c.first_kept.ensures (sym c.is_some.ensures ∙ c.if-is_some.true) in
           ((x.0, x.1.entry), Contains-append_left (in_order pool.early.entries) pool.late.items _ (listed pool.early c.requires.1.indexed.unique x.0 x.1.entry x.1.found), x.1.passes),
@@ -27,7 +27,7 @@ returns c =
     let p = c.args.pattern.now in
     let i = c.requires.1.indexed in
     let Q : ℕ → Type 0 = Passes (λ (l : Letter). Admits p l.envelope) pool.early in
-    let M : ℕ → Type 0 = λ n. Contains (numbers_at pool.buckets (key_of p)) n in (
+    let M : ℕ → Type 0 = StandsFrom p pool.buckets in (
       λ t. let x = found_is (λ (y : ℕ × Letter). Admits p y.1.envelope) pool.late.items c.first_letter.result c.first_letter.ensures (sym c.is_some-2.ensures ∙ t) in (x.0, Contains-append_right (in_order pool.early.entries) pool.late.items _ x.1, x.2),
       λ e. elim (Contains-append_cases (in_order pool.early.entries) pool.late.items e.0 e.1) [
         | inl d ↦

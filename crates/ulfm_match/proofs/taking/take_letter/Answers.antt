@@ -10,14 +10,14 @@ pub returns-in-Some-clause-taken : goal.returns-in-Some-clause-taken
 returns-in-Some-clause-taken c = let x = c.in-Some.ensures.taken in (x.0, early_taken c.requires.1 x.1)
 
 pub returns-in-Some-clause-pool : goal.returns-in-Some-clause-pool
-returns-in-Some-clause-pool c count i = out_pool i _ c.in-Some.ensures.taken.1.out refl
+returns-in-Some-clause-pool c count i = out_pool i _ refl c.in-Some.ensures.taken.1.out refl
 
 pub returns-in-Some-take_late_letter-clause-taken : goal.returns-in-Some-take_late_letter-clause-taken
 returns-in-Some-take_late_letter-clause-taken c =
     rw c.in-None.ensures.idle.0 (_, late_taken c.requires.1 c.in-None.ensures.taken c.in-Some-take_late_letter.ensures.taken)
 
 pub returns-in-Some-take_late_letter-clause-pool : goal.returns-in-Some-take_late_letter-clause-pool
-returns-in-Some-take_late_letter-clause-pool c count i = taken_late i (λ (l : Letter). Admits c.args.pattern.now l.envelope) _ c.in-None.ensures.idle.0 c.in-None.ensures.idle.1 c.in-Some-take_late_letter.ensures.taken c.take_late_letter.ensures.shorter
+returns-in-Some-take_late_letter-clause-pool c count i = taken_late i (λ (l : Letter). Admits c.args.pattern.now l.envelope) _ refl c.in-None.ensures.idle.0 c.in-None.ensures.idle.1 c.in-Some-take_late_letter.ensures.taken c.take_late_letter.ensures.shorter
 
 pub returns-in-None-take_late_letter-clause-taken : goal.returns-in-None-take_late_letter-clause-taken
 returns-in-None-take_late_letter-clause-taken c = none_pool c.requires.1 c.in-None.ensures.taken c.in-None-take_late_letter.ensures.taken

@@ -1,0 +1,10 @@
+-- Steps as a report keeps them.
+use Rattle.ulfm_job.specs.declared.noted_step.Kept.{Kept}
+use Rattle.ulfm_job.specs.declared.noted_step.Kept.TheVariants.{Send, Other}
+use Rattle.ulfm_job.specs.declared.step.Step.{Step}
+use Rattle.ulfm_job.specs.declared.step.Step.TheVariants as step
+
+-- the step of which this is kept
+abbrev pub step_of : Kept → Step
+step_of (Send to tag body comm) = step.Send to tag body.value comm
+step_of (Other asked) = asked

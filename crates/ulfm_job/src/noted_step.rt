@@ -1,0 +1,83 @@
+//! Steps as a report keeps them.
+ghost use Rattle.std.specs.Prelude.{◌≡◌, Some};
+ghost use Rattle.ulfm_job.specs.Words.{step_text};
+
+use crate::step::Step;
+use crate::text::Text;
+use std::fmt;
+use std::marker::Model;
+use std::snapshot::Snapshot;
+use ulfm_base::{Context, Tag};
+
+/// A step in a report, without the bytes of the body that it sends. Contracts see the whole step.
+#[derive(Drop)]
+pub struct NotedStep {
+    kept: Kept,
+}
+
+/// What is kept of a step.
+#[derive(Drop)]
+pub(crate) enum Kept {
+    /// A send. Contracts alone see its body.
+    Send {
+        to: u8,
+        tag: Tag,
+        body: Snapshot<Text>,
+        comm: Context,
+    },
+    /// Any other step.
+    Other(Step),
+}
+
+impl Model for NotedStep {
+    ghost use Rattle.ulfm_job.specs.declared.step.Step.{Step as Seen};
+    ghost use Rattle.ulfm_job.specs.inside.Noted.{step_of};
+
+    ghost Value = { Seen };
+
+    ghost view = { λ n. step_of n.kept };
+}
+
+impl NotedStep {
+    /// What a report keeps of a step. It takes no memory.
+    pub fn of(step: &Step) -> NotedStep
+        ensures { result ≡ step.now }
+    {
+        if let Step::Send {
+            to,
+            tag,
+            body,
+            comm,
+        } = step
+        {
+            return NotedStep {
+                kept: Kept::Send {
+                    to: *to,
+                    tag: *tag,
+                    body: Snapshot::of(body),
+                    comm: *comm,
+                },
+            };
+        }
+        match step.bodiless() {
+            Some(step) => NotedStep {
+                kept: Kept::Other(step),
+            },
+            None => unreachable!(),
+        }
+    }
+}
+
+/// The words of the step.
+impl fmt::Display for NotedStep {
+    ghost output = { λ step. Some (step_text step) };
+
+    fn fmt<W: fmt::Write>(&self, f: &mut fmt::Formatter<W>) -> fmt::Result {
+        match &self.kept {
+            Kept::Send { to, tag, comm, .. } => {
+                write!(f, "send {to} tag {} comm {}", tag.number, comm.number)
+            }
+            Kept::Other(step) => write!(f, "{step}"),
+        }
+    }
+}
