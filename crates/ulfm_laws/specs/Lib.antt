@@ -1,9 +1,9 @@
 pub mod Reports
 pub mod Flow
 pub mod Answers
+pub mod Causes
 pub mod Decisions
+pub mod Agreement
 pub mod Rest
 pub mod Reader
 pub mod Lawful
-pub mod Causes
-pub mod Agreement

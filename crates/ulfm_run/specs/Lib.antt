@@ -1,4 +1,4 @@
 pub mod Flow
+pub mod Caused
 pub mod Fault
 pub mod inside
-pub mod Caused

@@ -3,10 +3,10 @@ pub mod World
 pub mod Parts
 pub mod Flow
 pub mod Rest
+pub mod Made
 pub mod Safe
-pub mod Replay
 pub mod Rings
 pub mod Each
-pub mod inside
-pub mod Made
+pub mod Replay
 pub mod Sweep
+pub mod inside
