@@ -109,6 +109,7 @@ impl Matcher {
     /// Answers its number, and the letter. The room that `prepare` made may be used up.
     ///
     /// It is the caller's fault to post a receive of a context that was cleared; `is_cleared` says which those are.
+    #[inline(always)]
     pub fn post(&mut self, pattern: Pattern) -> (RequestId, Option<Letter>)
         requires prepared { IsTrue self.old.prepared }
         requires countable { self.old.count + 1 < 2 ^ 64 }
@@ -156,6 +157,7 @@ impl Matcher {
     /// The room that `prepare` made may be used up.
     ///
     /// It is the caller's fault to hand on a letter of a context that was cleared; `is_cleared` says which those are.
+    #[inline(always)]
     pub fn arrive(&mut self, letter: Letter) -> Arrived
         requires prepared { IsTrue self.old.prepared }
         requires countable { self.old.count + 1 < 2 ^ 64 }

@@ -15,7 +15,29 @@ use crate::search::{first_kept, first_waiting};
 use indexmap::IndexMap;
 use ulfm_base::{Envelope, Letter, Pattern};
 
+/// Takes the earliest of the letters in buckets that the pattern admits, where there are some.
+#[inline(never)]
+fn take_kept_among(
+    kept: &mut IndexMap<u64, Letter>,
+    buckets: &mut Buckets,
+    pattern: &Pattern,
+) -> Option<Letter>
+    requires { (top : ℕ) × IsIndexed IsKeyOf top kept.old buckets.old }
+    ensures taken { MatchOption result (NonePass (MayGet pattern.now) kept.old) (GivesLetter pattern.now kept.old kept.new buckets.old buckets.new) }
+    ensures idle { IfNone result ((kept.new ≡ kept.old) × (buckets.new ≡ buckets.old)) }
+{
+    match first_kept(buckets, kept, pattern) {
+        Some(number) => {
+            let letter = kept.swap_remove(&number)?;
+            forget_letter(buckets, &letter.envelope, kept, number);
+            Some(letter)
+        }
+        None => None,
+    }
+}
+
 /// Takes the earliest of the letters in buckets that the pattern admits.
+#[inline(always)]
 fn take_kept(
     kept: &mut IndexMap<u64, Letter>,
     buckets: &mut Buckets,
@@ -28,17 +50,33 @@ fn take_kept(
     if kept.is_empty() {
         return None;
     }
-    match first_kept(buckets, kept, pattern) {
+    take_kept_among(kept, buckets, pattern)
+}
+
+/// Takes the earliest of the receives in buckets that admits the envelope, where there are some. Answers its number.
+#[inline(never)]
+fn take_waiting_among(
+    waiting: &mut IndexMap<u64, Pattern>,
+    buckets: &mut Buckets,
+    wild: bool,
+    envelope: &Envelope,
+) -> Option<u64>
+    requires indexed { (top : ℕ) × IsIndexed IsKeyOfReceive top waiting.old buckets.old }
+    requires none_wild { wild ≡ false → NoneIsWild IsKeyOfReceive waiting.old }
+    ensures taken { MatchOption result (NonePass (MayGoTo envelope.now) waiting.old) (GivesReceive envelope.now waiting.old waiting.new buckets.old buckets.new) }
+    ensures idle { IfNone result ((waiting.new ≡ waiting.old) × (buckets.new ≡ buckets.old)) }
+{
+    match first_waiting(buckets, waiting, wild, envelope) {
         Some(number) => {
-            let letter = kept.swap_remove(&number)?;
-            forget_letter(buckets, &letter.envelope, kept, number);
-            Some(letter)
+            take_numbered(waiting, buckets, number);
+            Some(number)
         }
         None => None,
     }
 }
 
 /// Takes the earliest of the receives in buckets that admits the envelope. Answers its number.
+#[inline(always)]
 fn take_waiting(
     waiting: &mut IndexMap<u64, Pattern>,
     buckets: &mut Buckets,
@@ -53,13 +91,7 @@ fn take_waiting(
     if waiting.is_empty() {
         return None;
     }
-    match first_waiting(buckets, waiting, wild, envelope) {
-        Some(number) => {
-            take_numbered(waiting, buckets, number);
-            Some(number)
-        }
-        None => None,
-    }
+    take_waiting_among(waiting, buckets, wild, envelope)
 }
 
 /// Takes the receive of a number out.
@@ -73,6 +105,7 @@ fn take_numbered(waiting: &mut IndexMap<u64, Pattern>, buckets: &mut Buckets, nu
 }
 
 /// Takes the earliest letter that the pattern admits.
+#[inline(always)]
 pub(crate) fn take_letter(pool: &mut Pool<Letter>, pattern: &Pattern) -> Option<Letter>
     requires { (count : ℕ) × IsPool IsKeyOf count pool.old }
     ensures taken { MatchOption result (NoneOf (λ (y : ℕ × Letter). MayGet pattern.now y.1) (all_of pool.old)) (λ letter. (n : ℕ) × TakesLeast (λ (y : ℕ × Letter). MayGet pattern.now y.1) (all_of pool.old) (all_of pool.new) (n, letter)) }
@@ -90,6 +123,7 @@ pub(crate) fn take_letter(pool: &mut Pool<Letter>, pattern: &Pattern) -> Option<
 }
 
 /// Takes the earliest receive that admits the envelope. Answers its number.
+#[inline(always)]
 pub(crate) fn take_receive(pool: &mut Pool<Pattern>, envelope: &Envelope) -> Option<u64>
     requires { (count : ℕ) × IsPool IsKeyOfReceive count pool.old }
     ensures taken { MatchOption result (NoneOf (λ (y : ℕ × Pattern). MayGoTo envelope.now y.1) (all_of pool.old)) (λ n. (pattern : Pattern) × TakesLeast (λ (y : ℕ × Pattern). MayGoTo envelope.now y.1) (all_of pool.old) (all_of pool.new) (n, pattern)) }
