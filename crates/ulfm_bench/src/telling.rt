@@ -48,26 +48,13 @@ pub fn of_ranks<R: Runtime + Threads + Wait + CpuClock + Copy + Send + 'static>(
         seated(over_shared(alloc), alloc),
         load,
     )?;
-    by_one_thread(rt, alloc, "in one thread", load)?;
-    by_one_thread(rt, alloc, "in one thread again", load)?;
-    by_one_thread(rt, alloc, "in one thread once more", load)
-}
-
-/// Tells how much processor time the letters of two new ranks took that one thread has. The first time their logs grow into
-/// pages that the system has to give.
-fn by_one_thread<R: Runtime + Wait + CpuClock>(
-    rt: &R,
-    alloc: Global,
-    trip: &str,
-    load: Load,
-) -> Option<()> {
     let both = Both {
         zero: rank_of_two(alloc, 0)?,
         one: rank_of_two(alloc, 1)?,
         posted: None,
     };
     let time = in_one_thread(rt, both, load).ok()??;
-    tell(rt, "rank", trip, load, time)
+    tell(rt, "rank", "in one thread", load, time)
 }
 
 /// Two ends with no rank round them.
