@@ -3,7 +3,7 @@ ghost use Rattle.std.specs.Prelude.{◌≡◌, ◌≢◌, ◌↔◌, ◌∷◌, 
 ghost use Rattle.indexmap.specs.IndexMap.{get};
 ghost use Rattle.ulfm_match.specs.inside.Buckets.{Sweeps, SweepsFor, Grows, numbers_in};
 
-use indexmap::IndexMap;
+use crate::pool::Numbered;
 use std::alloc::Global;
 use std::collections::VecDeque;
 use ulfm_base::OutOfMemory;
@@ -22,7 +22,7 @@ pub(crate) struct Bucket {
 
 /// Drops numbers of entries that are gone from the front, at most so many. Answers how many it dropped.
 #[inline(always)]
-fn trim<X>(numbers: &mut VecDeque<u64>, live: &IndexMap<u64, X>, most: usize) -> usize
+fn trim<X>(numbers: &mut VecDeque<u64>, live: &Numbered<X>, most: usize) -> usize
     ensures { SweepsFor live.now numbers.old.items numbers.new.items }
 {
     for k in 0..most {
@@ -40,6 +40,7 @@ fn trim<X>(numbers: &mut VecDeque<u64>, live: &IndexMap<u64, X>, most: usize) ->
 }
 
 /// Drops a number from the front, where it stands there. Answers whether it does.
+#[inline(always)]
 fn pop_where(numbers: &mut VecDeque<u64>, number: u64) -> bool
     ensures { Sweeps (λ n. n ≢ number) numbers.old.items numbers.new.items }
 {
@@ -73,7 +74,7 @@ fn pop_back_where(numbers: &mut VecDeque<u64>, number: u64) -> bool
 
 /// Drops numbers of entries that are gone from the back, at most so many. Answers how many it dropped.
 #[inline(always)]
-fn trim_back<X>(numbers: &mut VecDeque<u64>, live: &IndexMap<u64, X>, most: usize) -> usize
+fn trim_back<X>(numbers: &mut VecDeque<u64>, live: &Numbered<X>, most: usize) -> usize
     ensures { SweepsFor live.now numbers.old.items numbers.new.items }
 {
     for k in 0..most {
@@ -91,13 +92,14 @@ fn trim_back<X>(numbers: &mut VecDeque<u64>, live: &IndexMap<u64, X>, most: usiz
 }
 
 /// Drops all numbers of entries that are gone.
-fn drop_gone<X>(numbers: &mut VecDeque<u64>, live: &IndexMap<u64, X>)
+fn drop_gone<X>(numbers: &mut VecDeque<u64>, live: &Numbered<X>)
     ensures { SweepsFor live.now numbers.old.items numbers.new.items }
 {
     numbers.retain(|number| live.contains_key(number));
 }
 
 /// Puts a number last.
+#[inline(always)]
 fn push(numbers: &mut VecDeque<u64>, number: u64) -> Result<(), OutOfMemory>
     ensures put { OnOk result (Contains numbers.new.items number) }
     ensures grows { Grows number numbers.old.items numbers.new.items }
@@ -126,6 +128,7 @@ impl Bucket {
     }
 
     /// Puts a number last.
+    #[inline(always)]
     pub(crate) fn push(&mut self, number: u64) -> Result<(), OutOfMemory>
         ensures put { OnOk result (Contains (numbers_in self.new) number) }
         ensures grows { Grows number (numbers_in self.old) (numbers_in self.new) }
@@ -138,6 +141,7 @@ impl Bucket {
     }
 
     /// Drops a number from the front, where it stands there. Answers whether it does.
+    #[inline(always)]
     fn pop_where(&mut self, number: u64) -> bool
         ensures { Sweeps (λ n. n ≢ number) (numbers_in self.old) (numbers_in self.new) }
     {
@@ -152,7 +156,7 @@ impl Bucket {
     }
 
     /// Drops numbers of entries that are gone from the front, at most so many. Answers how many it dropped.
-    fn trim<X>(&mut self, live: &IndexMap<u64, X>, most: usize) -> usize
+    fn trim<X>(&mut self, live: &Numbered<X>, most: usize) -> usize
         ensures { SweepsFor live.now (numbers_in self.old) (numbers_in self.new) }
     {
         let Some(first) = self.first else {
@@ -167,7 +171,7 @@ impl Bucket {
 
     /// Drops a number whose entry went from the back, where it stands there, and with it those before it that are gone. Answers
     /// whether it does.
-    fn drop_last<X>(&mut self, live: &IndexMap<u64, X>, number: u64) -> bool
+    fn drop_last<X>(&mut self, live: &Numbered<X>, number: u64) -> bool
         requires { get nat_eq live.now number ≡ None }
         ensures { SweepsFor live.now (numbers_in self.old) (numbers_in self.new) }
     {
@@ -183,7 +187,8 @@ impl Bucket {
 
     /// Notes that the entry of a number went, or many. The number goes where it stands at an end, and with it those next to it that
     /// are gone.
-    fn trim_where<X>(&mut self, live: &IndexMap<u64, X>, went: Option<u64>)
+    #[inline(always)]
+    fn trim_where<X>(&mut self, live: &Numbered<X>, went: Option<u64>)
         requires { IfSome went (λ n. get nat_eq live.now n ≡ None) }
         ensures { SweepsFor live.now (numbers_in self.old) (numbers_in self.new) }
     {
@@ -205,7 +210,8 @@ impl Bucket {
 
     /// Notes that the entry of a number went, or many. The number goes at once from an end, and else once half of all are gone;
     /// those of many go at once.
-    pub(crate) fn sweep<X>(&mut self, live: &IndexMap<u64, X>, went: Option<u64>)
+    #[inline(always)]
+    pub(crate) fn sweep<X>(&mut self, live: &Numbered<X>, went: Option<u64>)
         requires { IfSome went (λ n. get nat_eq live.now n ≡ None) }
         ensures { SweepsFor live.now (numbers_in self.old) (numbers_in self.new) }
     {

@@ -6,14 +6,15 @@ ghost use Rattle.ulfm_match.specs.inside.Key.{key_at};
 
 use crate::bucket::Bucket;
 use crate::key::key_at;
-use indexmap::IndexMap;
+use crate::pool::Numbered;
 use std::alloc::Global;
 use ulfm_base::{Envelope, OutOfMemory};
 
 /// The bucket of each key that has entries.
-pub(crate) type Buckets = IndexMap<u64, Bucket>;
+pub(crate) type Buckets = Numbered<Bucket>;
 
 /// Puts a number into the bucket of a key.
+#[inline(always)]
 pub(crate) fn put(
     buckets: &mut Buckets,
     alloc: Global,
@@ -46,7 +47,8 @@ pub(crate) fn put_letter(
 }
 
 /// Notes that the entry of a number went, which has this key, or many. A bucket that has none left goes too.
-pub(crate) fn forget<X>(buckets: &mut Buckets, key: u64, live: &IndexMap<u64, X>, went: Option<u64>)
+#[inline(always)]
+pub(crate) fn forget<X>(buckets: &mut Buckets, key: u64, live: &Numbered<X>, went: Option<u64>)
     requires { IfSome went (λ n. get nat_eq live.now n ≡ None) }
     ensures { (k : ℕ) → SweepsFor live.now (numbers_at buckets.old k) (numbers_at buckets.new k) }
 {
@@ -62,7 +64,7 @@ pub(crate) fn forget<X>(buckets: &mut Buckets, key: u64, live: &IndexMap<u64, X>
 }
 
 /// Drops the numbers of many entries that went, and the buckets that have none left.
-pub(crate) fn forget_gone<X>(buckets: &mut Buckets, live: &IndexMap<u64, X>)
+pub(crate) fn forget_gone<X>(buckets: &mut Buckets, live: &Numbered<X>)
     ensures { (k : ℕ) → SweepsFor live.now (numbers_at buckets.old k) (numbers_at buckets.new k) }
 {
     let len = buckets.len();
@@ -75,11 +77,11 @@ pub(crate) fn forget_gone<X>(buckets: &mut Buckets, live: &IndexMap<u64, X>)
 }
 
 /// Notes that a letter went, which had this number.
-#[inline(never)]
+#[inline(always)]
 pub(crate) fn forget_letter<X>(
     buckets: &mut Buckets,
     envelope: &Envelope,
-    live: &IndexMap<u64, X>,
+    live: &Numbered<X>,
     number: u64,
 )
     requires { get nat_eq live.now number ≡ None }

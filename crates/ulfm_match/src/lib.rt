@@ -10,6 +10,7 @@ mod key;
 mod late;
 mod law;
 mod matcher;
+mod near;
 mod pool;
 mod removal;
 mod request;

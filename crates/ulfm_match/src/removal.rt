@@ -7,12 +7,11 @@ ghost use Rattle.ulfm_match.specs.inside.Pools.{all_of, HasPlace, IsPool};
 
 use crate::buckets::forget_gone;
 use crate::late::{drop_letters, drop_named, drop_receives};
-use crate::pool::Pool;
-use indexmap::IndexMap;
+use crate::pool::{Numbered, Pool};
 use ulfm_base::{Context, Letter, Pattern, WorldRank};
 
 /// Drops the early receives of a context.
-fn clear_waiting(waiting: &mut IndexMap<u64, Pattern>, context: Context)
+fn clear_waiting(waiting: &mut Numbered<Pattern>, context: Context)
     ensures left { waiting.new.entries ≡ filter (λ (y : ℕ × Pattern). not (y.1.context.number == context.number)) waiting.old.entries }
     ensures unique { IsUnique nat_eq waiting.new }
 {
@@ -24,7 +23,7 @@ fn clear_waiting(waiting: &mut IndexMap<u64, Pattern>, context: Context)
 }
 
 /// Drops the early letters of a context.
-fn clear_kept(kept: &mut IndexMap<u64, Letter>, context: Context)
+fn clear_kept(kept: &mut Numbered<Letter>, context: Context)
     ensures left { kept.new.entries ≡ filter (λ (y : ℕ × Letter). not (y.1.envelope.context.number == context.number)) kept.old.entries }
     ensures unique { IsUnique nat_eq kept.new }
 {
@@ -36,7 +35,7 @@ fn clear_kept(kept: &mut IndexMap<u64, Letter>, context: Context)
 }
 
 /// Drops the early receives that name a rank as their source.
-fn end_waiting(waiting: &mut IndexMap<u64, Pattern>, rank: WorldRank)
+fn end_waiting(waiting: &mut Numbered<Pattern>, rank: WorldRank)
     ensures left { waiting.new.entries ≡ filter (λ (y : ℕ × Pattern). not (names y.1.source rank.number)) waiting.old.entries }
     ensures unique { IsUnique nat_eq waiting.new }
 {

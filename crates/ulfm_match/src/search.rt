@@ -6,13 +6,13 @@ ghost use Rattle.ulfm_match.specs.inside.Key.{key_from, IsKeyOfReceive};
 
 use crate::buckets::Buckets;
 use crate::key::{key_at, key_from};
-use indexmap::IndexMap;
+use crate::pool::Numbered;
 use std::collections::VecDeque;
 use ulfm_base::{Envelope, Letter, Pattern, RankSet, Source, WorldRank};
 
 /// Whether the letter of a number is there, and the pattern admits it.
 #[inline(always)]
-fn is_admitted(kept: &IndexMap<u64, Letter>, number: u64, pattern: &Pattern) -> bool
+fn is_admitted(kept: &Numbered<Letter>, number: u64, pattern: &Pattern) -> bool
     ensures { IsTrue result ↔ Passes (MayGet pattern.now) kept.now number }
 {
     match kept.get(&number) {
@@ -23,7 +23,7 @@ fn is_admitted(kept: &IndexMap<u64, Letter>, number: u64, pattern: &Pattern) -> 
 
 /// Whether the receive of a number is there, and admits the envelope.
 #[inline(always)]
-fn admits(waiting: &IndexMap<u64, Pattern>, number: u64, envelope: &Envelope) -> bool
+fn admits(waiting: &Numbered<Pattern>, number: u64, envelope: &Envelope) -> bool
     ensures { IsTrue result ↔ Passes (MayGoTo envelope.now) waiting.now number }
 {
     match waiting.get(&number) {
@@ -33,11 +33,8 @@ fn admits(waiting: &IndexMap<u64, Pattern>, number: u64, envelope: &Envelope) ->
 }
 
 /// The first of some numbers whose letter the pattern admits.
-fn first_letter(
-    numbers: &VecDeque<u64>,
-    kept: &IndexMap<u64, Letter>,
-    pattern: &Pattern,
-) -> Option<u64>
+#[inline(always)]
+fn first_letter(numbers: &VecDeque<u64>, kept: &Numbered<Letter>, pattern: &Pattern) -> Option<u64>
     requires { Rises numbers.now.items }
     ensures { FindsLeast (Contains numbers.now.items) (Passes (MayGet pattern.now) kept.now) result }
 {
@@ -53,7 +50,7 @@ fn first_letter(
 /// The first of some numbers whose receive admits the envelope.
 fn first_receive(
     numbers: &VecDeque<u64>,
-    waiting: &IndexMap<u64, Pattern>,
+    waiting: &Numbered<Pattern>,
     envelope: &Envelope,
 ) -> Option<u64>
     requires { Rises numbers.now.items }
@@ -69,9 +66,10 @@ fn first_receive(
 }
 
 /// The earliest letter from a source that the pattern admits.
+#[inline(always)]
 fn first_kept_from(
     buckets: &Buckets,
-    kept: &IndexMap<u64, Letter>,
+    kept: &Numbered<Letter>,
     source: WorldRank,
     pattern: &Pattern,
 ) -> Option<u64>
@@ -92,7 +90,7 @@ fn first_kept_from(
 /// The earliest letter that the pattern admits, from a source if it is among these.
 fn first_kept_among(
     buckets: &Buckets,
-    kept: &IndexMap<u64, Letter>,
+    kept: &Numbered<Letter>,
     members: RankSet,
     source: WorldRank,
     pattern: &Pattern,
@@ -109,7 +107,7 @@ fn first_kept_among(
 /// The earliest letter that the pattern admits, from these sources.
 fn first_kept_of_any(
     buckets: &Buckets,
-    kept: &IndexMap<u64, Letter>,
+    kept: &Numbered<Letter>,
     members: RankSet,
     pattern: &Pattern,
 ) -> Option<u64>
@@ -128,10 +126,10 @@ fn first_kept_of_any(
 }
 
 /// The earliest letter that the pattern admits.
-#[inline(never)]
+#[inline(always)]
 pub(crate) fn first_kept(
     buckets: &Buckets,
-    kept: &IndexMap<u64, Letter>,
+    kept: &Numbered<Letter>,
     pattern: &Pattern,
 ) -> Option<u64>
     requires { (k : ℕ) → Rises (numbers_at buckets.now k) }
@@ -147,7 +145,7 @@ pub(crate) fn first_kept(
 #[inline(always)]
 fn first_of_key(
     buckets: &Buckets,
-    waiting: &IndexMap<u64, Pattern>,
+    waiting: &Numbered<Pattern>,
     key: u64,
     envelope: &Envelope,
 ) -> Option<u64>
@@ -180,7 +178,7 @@ fn lesser(one: Option<u64>, other: Option<u64>) -> Option<u64>
 #[inline(never)]
 pub(crate) fn first_waiting(
     buckets: &Buckets,
-    waiting: &IndexMap<u64, Pattern>,
+    waiting: &Numbered<Pattern>,
     wild: bool,
     envelope: &Envelope,
 ) -> Option<u64>

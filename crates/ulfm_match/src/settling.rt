@@ -30,6 +30,7 @@ fn may_be_wild(pool: &Pool<Pattern>, pattern: &Pattern) -> bool
 }
 
 /// Puts the first of the late receives among the early ones.
+#[inline(never)]
 fn settle_receive(pool: &mut Pool<Pattern>, alloc: Global) -> Result<(), OutOfMemory>
     requires { (count : ℕ) × IsPool IsKeyOfReceive count pool.old }
     ensures all { all_of pool.new ≡ all_of pool.old }
@@ -74,7 +75,8 @@ fn settle_letter(pool: &mut Pool<Letter>, alloc: Global) -> Result<(), OutOfMemo
     let Some((number, letter)) = pool.late.pop_front() else {
         return Ok(());
     };
-    match put_letter(&mut pool.buckets, alloc, &letter.envelope, number) {
+    let envelope = letter.envelope;
+    match put_letter(&mut pool.buckets, alloc, &envelope, number) {
         Ok(()) => {
             // A letter stands in a bucket of any tag too.
             pool.wild = true;
@@ -82,7 +84,7 @@ fn settle_letter(pool: &mut Pool<Letter>, alloc: Global) -> Result<(), OutOfMemo
             Ok(())
         }
         Err(error) => {
-            forget_letter(&mut pool.buckets, &letter.envelope, &pool.early, number);
+            forget_letter(&mut pool.buckets, &envelope, &pool.early, number);
             pool.late.push_front_reserved((number, letter));
             Err(error)
         }
@@ -104,7 +106,7 @@ pub(crate) fn add<X>(pool: &mut Pool<X>, number: u64, entry: X) -> bool
 }
 
 /// Makes room for one receive more.
-#[inline(never)]
+#[inline(always)]
 pub(crate) fn prepare_receive(pool: &mut Pool<Pattern>, alloc: Global) -> Result<(), OutOfMemory>
     requires { (count : ℕ) × IsPool IsKeyOfReceive count pool.old }
     ensures all { all_of pool.new ≡ all_of pool.old }

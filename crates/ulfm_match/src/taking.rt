@@ -10,15 +10,14 @@ use crate::key::key_of;
 use crate::late::{
     drop_numbered, first_letter, is_late, late_numbered, take_late_letter, take_late_receive,
 };
-use crate::pool::Pool;
+use crate::pool::{Numbered, Pool};
 use crate::search::{first_kept, first_waiting};
-use indexmap::IndexMap;
 use ulfm_base::{Envelope, Letter, Pattern};
 
 /// Takes the earliest of the letters in buckets that the pattern admits, where there are some.
 #[inline(never)]
 fn take_kept_among(
-    kept: &mut IndexMap<u64, Letter>,
+    kept: &mut Numbered<Letter>,
     buckets: &mut Buckets,
     pattern: &Pattern,
 ) -> Option<Letter>
@@ -29,7 +28,8 @@ fn take_kept_among(
     match first_kept(buckets, kept, pattern) {
         Some(number) => {
             let letter = kept.swap_remove(&number)?;
-            forget_letter(buckets, &letter.envelope, kept, number);
+            let envelope = letter.envelope;
+            forget_letter(buckets, &envelope, kept, number);
             Some(letter)
         }
         None => None,
@@ -39,7 +39,7 @@ fn take_kept_among(
 /// Takes the earliest of the letters in buckets that the pattern admits.
 #[inline(always)]
 fn take_kept(
-    kept: &mut IndexMap<u64, Letter>,
+    kept: &mut Numbered<Letter>,
     buckets: &mut Buckets,
     pattern: &Pattern,
 ) -> Option<Letter>
@@ -56,7 +56,7 @@ fn take_kept(
 /// Takes the earliest of the receives in buckets that admits the envelope, where there are some. Answers its number.
 #[inline(never)]
 fn take_waiting_among(
-    waiting: &mut IndexMap<u64, Pattern>,
+    waiting: &mut Numbered<Pattern>,
     buckets: &mut Buckets,
     wild: bool,
     envelope: &Envelope,
@@ -78,7 +78,7 @@ fn take_waiting_among(
 /// Takes the earliest of the receives in buckets that admits the envelope. Answers its number.
 #[inline(always)]
 fn take_waiting(
-    waiting: &mut IndexMap<u64, Pattern>,
+    waiting: &mut Numbered<Pattern>,
     buckets: &mut Buckets,
     wild: bool,
     envelope: &Envelope,
@@ -96,7 +96,7 @@ fn take_waiting(
 
 /// Takes the receive of a number out.
 #[inline(never)]
-fn take_numbered(waiting: &mut IndexMap<u64, Pattern>, buckets: &mut Buckets, number: u64)
+fn take_numbered(waiting: &mut Numbered<Pattern>, buckets: &mut Buckets, number: u64)
     ensures { TakesOut number waiting.old waiting.new buckets.old buckets.new }
 {
     if let Some(pattern) = waiting.swap_remove(&number) {

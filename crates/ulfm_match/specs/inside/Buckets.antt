@@ -3,22 +3,21 @@ use Rattle.std.specs.Prelude.{◌≡◌, ℕ, ◌<◌, ◌≤◌, ◌⊎◌, ⊤
 use Rattle.std.specs.List.{AllByRecursion}
 use Rattle.std.specs.Option.{option_to_list}
 use Rattle.indexmap.specs.IndexMap.{IndexMap, get, IsUnique}
-use Rattle.std.specs.declared.hash.FoldHasher.{FoldHasher}
-use Rattle.std.specs.declared.hash.BuildHasherDefault.{BuildHasherDefault}
 use Rattle.ulfm_base.specs.declared.pattern.Pattern.{Pattern}
 use Rattle.ulfm_base.specs.declared.envelope.Letter.{Letter}
 use Rattle.ulfm_base.specs.declared.envelope.Envelope.{Envelope}
 use Rattle.ulfm_base.specs.Pattern.{Admits}
 use Rattle.ulfm_match.specs.declared.bucket.Bucket.{Bucket}
+use Rattle.ulfm_match.specs.declared.near.Near.{Near}
 use Rattle.ulfm_match.specs.inside.Key.{IsWild, AsksOf, key_from}
 
 -- entries by number
 abbrev pub Entries : Type 0 → Type 0
-Entries X = IndexMap ℕ X (BuildHasherDefault FoldHasher)
+Entries X = IndexMap ℕ X Near
 
 -- buckets by key
 abbrev pub Buckets : Type 0
-Buckets = IndexMap ℕ Bucket (BuildHasherDefault FoldHasher)
+Buckets = IndexMap ℕ Bucket Near
 
 -- no number is less than one before it
 abbrev pub Rises : List ℕ → Type 0
