@@ -16,7 +16,7 @@ fn hash_of_number(number: u64) -> u64
 
 /// Hashes one number, by its eight bytes.
 #[derive(Clone, Copy)]
-pub struct NearHasher {
+pub(crate) struct NearHasher {
     number: u64,
 }
 
@@ -42,7 +42,7 @@ impl Hasher for NearHasher {
 
 /// Makes a hasher for each number.
 #[derive(Clone, Copy)]
-pub struct Near;
+pub(crate) struct Near;
 
 impl BuildHasher for Near {
     type Hasher = NearHasher;

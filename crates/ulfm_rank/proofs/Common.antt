@@ -56,7 +56,8 @@ pub use Rattle.ulfm_match.proofs.Extend.{letter_within, receive_within}
 pub use Rattle.ulfm_match.proofs.Histories.{count_below, count_front, count_old, count_rises, get_cases, get_here, get_new, get_old, length_more, same_number, stands_back}
 pub use Rattle.ulfm_match.proofs.Unique.{one_pairing, same_letter, same_pattern}
 pub use Rattle.ulfm_match.specs.State.{IsUncleared, Lists, Matching, Tracks, is_cleared}
-pub use Rattle.ulfm_rank.specs.inside.Requests.{Adds, Changes, Removes, TracksAdmit, TracksItem, TracksRevocation, changed, fate_of, is_waiting, over_context, over_named}
+pub use Rattle.ulfm_rank.specs.Fates.{fate_of, is_waiting, over_context, over_named}
+pub use Rattle.ulfm_rank.specs.inside.Requests.{Adds, Changes, Removes, TracksAdmit, TracksItem, TracksRevocation, changed}
 pub use Rattle.std.proofs.Math.ListN.{get_or-map}
 pub use Rattle.ulfm_base.specs.declared.error.CallError.{CallError}
 pub use Rattle.ulfm_base.specs.declared.pattern.Source.{Source}

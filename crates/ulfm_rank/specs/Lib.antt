@@ -11,5 +11,6 @@ pub mod Messages
 pub mod Cancel
 pub mod State
 pub mod Paired
+pub mod Fates
 pub mod Standing
 pub mod inside

@@ -1,6 +1,6 @@
 //! Receives and messages that aren't released, and what became of them.
 ghost use Rattle.std.specs.Prelude.{◌≡◌};
-ghost use Rattle.ulfm_rank.specs.inside.Requests.{fate_of, is_waiting, over_named, over_context};
+ghost use Rattle.ulfm_rank.specs.Fates.{fate_of, is_waiting, over_named, over_context};
 ghost use Rattle.ulfm_rank.specs.Standing.{is_found};
 ghost use Rattle.ulfm_rank.specs.Messages.{with_room};
 

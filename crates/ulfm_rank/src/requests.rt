@@ -3,7 +3,8 @@ ghost use Rattle.std.specs.Prelude.{◌≡◌, ◌+◌, ◌<◌, ◌^◌, IsTrue
 ghost use Rattle.indexmap.specs.IndexMap.{get, index_map_len};
 ghost use Rattle.ulfm_match.specs.State.{is_cleared};
 ghost use Rattle.ulfm_rank.specs.declared.request.Request.{Request};
-ghost use Rattle.ulfm_rank.specs.inside.Requests.{changed, Changes, IsOpenFor, TracksAdmit, TracksDelivery, TracksRevocation, TracksItem, over_named, over_context};
+ghost use Rattle.ulfm_rank.specs.Fates.{over_named, over_context};
+ghost use Rattle.ulfm_rank.specs.inside.Requests.{changed, Changes, IsOpenFor, TracksAdmit, TracksDelivery, TracksRevocation, TracksItem};
 ghost use Rattle.ulfm_rank.specs.Standing.{is_found};
 
 use crate::request::{Fate, Request, fate_of, is_found, over_context, over_named};

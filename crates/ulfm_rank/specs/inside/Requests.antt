@@ -1,7 +1,6 @@
 -- What posts, letters and notices do to a tracked history and to the table of requests and messages beside it.
-use Rattle.std.specs.Prelude.{◌≡◌, ℕ, Bool, true, false, List, [], ◌∷◌, ◌++◌, length, Option, Some, None, if◌then◌else◌, nat_eq, ◌==◌, ◌&&◌}
+use Rattle.std.specs.Prelude.{◌≡◌, ℕ, Bool, false, List, [], ◌∷◌, ◌++◌, length, Option, Some, None, if◌then◌else◌, nat_eq}
 use Rattle.std.specs.Option.{option_map}
-use Rattle.ulfm_base.specs.Pattern.{names}
 use Rattle.ulfm_base.specs.declared.envelope.Letter.{Letter}
 use Rattle.ulfm_base.specs.declared.item.Item.{Item}
 use Rattle.ulfm_base.specs.declared.item.Item.TheVariants.{Letter as Mail}
@@ -11,28 +10,9 @@ use Rattle.ulfm_match.specs.Pairing.{Pairing}
 use Rattle.ulfm_match.specs.State.{Matching, is_cleared, Tracks}
 use Rattle.ulfm_rank.specs.declared.entry.Entry.{Entry}
 use Rattle.ulfm_rank.specs.declared.request.Fate.{Fate}
-use Rattle.ulfm_rank.specs.declared.request.Fate.TheVariants.{Waiting, Paired, Failed, Cleared}
 use Rattle.ulfm_rank.specs.declared.request.Request.{Request}
 use Rattle.ulfm_rank.specs.History.{post_events, item_events}
 use Rattle.ulfm_rank.specs.Standing.{IsOfGroup, IsTable}
-
--- what becomes of a receive at its post
-abbrev pub fate_of : Option Letter → Bool → Fate
-fate_of (Some letter) gone = Paired letter
-fate_of None gone = if gone then Failed else Waiting
-
--- the receive still waits
-abbrev pub is_waiting : Fate → Bool
-is_waiting Waiting = true
-is_waiting _ = false
-
--- a receive that waits for a rank that failed is over
-abbrev pub over_named : ℕ → Request → Request
-over_named s request = if is_waiting request.fate && names request.pattern.source s then record { pattern = request.pattern; fate = Failed } else request
-
--- a receive that waits on a revoked context is over
-abbrev pub over_context : ℕ → Request → Request
-over_context c request = if is_waiting request.fate && (request.pattern.context.number == c) then record { pattern = request.pattern; fate = Cleared } else request
 
 -- the table with one more request
 abbrev pub Adds : ℕ → Request → (ℕ → Option Request) → (ℕ → Option Request) → Type 0
