@@ -18,6 +18,12 @@ const LISTS: u32 = 1000;
 /// How many calls each list has.
 const CALLS: u32 = 200;
 
+/// How many lists have letters and then receives, or receives and then letters.
+const LONG_LISTS: u32 = 50;
+
+/// How many letters and how many receives each of these has: more than a matcher keeps in its short list.
+const MANY: u32 = 400;
+
 /// Draws a number below this one.
 fn below(draws: &mut Pcg32, bound: u32) -> u32
     requires { 0 < bound }
@@ -224,6 +230,37 @@ fn the_matcher_answers_as_plain_lists_do(rt: HostRuntime) -> Result<(), Fail> {
     let mut draws = Pcg32::new(42, 54);
     for list in 0..LISTS {
         let apart = first_apart_of_new(rt.alloc(), &mut draws)?;
+        assert_eq!(rt; apart, None, "list {list}");
+    }
+    Ok(())
+}
+
+/// Draws many letters and then many receives, or receives first, for both: the first of them that they answer otherwise.
+fn first_apart_of_many(
+    alloc: Global,
+    draws: &mut Pcg32,
+    letters_first: bool,
+) -> Result<Option<u32>, OutOfMemory> {
+    let mut matcher = Matcher::new(alloc);
+    let mut plain = Plain::new(alloc);
+    for k in 0..2 * MANY {
+        let is_same = if (k < MANY) == letters_first {
+            arrives(alloc, &mut matcher, &mut plain, letter(alloc, draws, k))?
+        } else {
+            posts(&mut matcher, &mut plain, pattern(draws))?
+        };
+        if !is_same {
+            return Ok(Some(k));
+        }
+    }
+    Ok(None)
+}
+
+#[test]
+fn the_matcher_answers_as_plain_lists_do_where_many_wait(rt: HostRuntime) -> Result<(), Fail> {
+    let mut draws = Pcg32::new(42, 54);
+    for list in 0..LONG_LISTS {
+        let apart = first_apart_of_many(rt.alloc(), &mut draws, list % 2 == 0)?;
         assert_eq!(rt; apart, None, "list {list}");
     }
     Ok(())
