@@ -114,6 +114,17 @@ CHOSEN = [
     ]), "0 3 failed comm 0", *["ranks []"] * 2),
 ]
 
+# Jobs of as many steps as there can be, and of few states.
+LONG = [
+    # A rank looks for failures all along, while another one stops.
+    ("long_look", job_text(2, 1, [(1, "stop", {})] + [(0, "failed", {})] * 255)),
+    # A rank sends to itself, again and again.
+    ("long_talk", job_text(1, 2, [
+        step for turn in range(85) for step in (
+            (0, "send", {"to": 0, "tag": turn, "body": f"letter {turn}"}), (0, "recv", {}), (0, "wait", {"req": 3 * turn + 1}))
+    ] + [(0, "stop", {})])),
+]
+
 
 class Maker:
     """Makes one job, piece by piece, out of a source of chance."""
