@@ -5,7 +5,7 @@ use Rattle.std.specs.declared.alloc.Global.{Global}
 use Rattle.std.specs.declared.vec.Vec.{Vec}
 use Rattle.ulfm_job.specs.declared.fault.JobFault.{JobFault}
 use Rattle.ulfm_job.specs.declared.fault.JobFault.TheVariants.{NotToml, InJob, InStep, TooLarge, OutOfMemory}
-use Rattle.ulfm_job.specs.Job.{Seen}
+use Rattle.ulfm_job.specs.Job.{JobView}
 use Rattle.ulfm_job.specs.JobText.{job_of_bytes}
 use Rattle.ulfm_job.specs.Plan.{plan_of}
 use Rattle.ulfm_run.specs.Fault.{ShowUntrue}
@@ -38,13 +38,13 @@ run_refused (InStep f k) bytes h = no_such_job _ (h (λ e. cc))
 run_refused TooLarge bytes h = no_such_job _ (h (λ e. cc))
 run_refused OutOfMemory bytes h = no_place
 
-pub run_failed : {options : RunOptions} (job : Seen) (f : Failure) (bytes : List ℕ) → job_of_bytes bytes ≡ Ok (plan_of job) → IsShown (with_options options job) f → IsRunReply options bytes 3 (failed_text f)
+pub run_failed : {options : RunOptions} (job : JobView) (f : Failure) (bytes : List ℕ) → job_of_bytes bytes ≡ Ok (plan_of job) → IsShown (with_options options job) f → IsRunReply options bytes 3 (failed_text f)
 run_failed job run.NoThread bytes h s = no_thread job h
 run_failed job run.OutOfMemory bytes h s = fell
 run_failed job run.Untrue bytes h s = untrue job s.0 h s.1
 
 -- the reports of a fault show the failure that it is
-pub shown : (job : Seen) (fault : RunFault) (f : Failure) → ((reports : Vec Report Global) → fault ≡ faults.Untrue reports → ShowUntrue job reports.items) → failure_of fault ≡ Some f → IsShown job f
+pub shown : (job : JobView) (fault : RunFault) (f : Failure) → ((reports : Vec Report Global) → fault ≡ faults.Untrue reports → ShowUntrue job reports.items) → failure_of fault ≡ Some f → IsShown job f
 shown job fault run.NoThread h e = tt
 shown job fault run.OutOfMemory h e = tt
 shown job (faults.Untrue reports) run.Untrue h e = (reports.items, h reports refl)
@@ -58,7 +58,7 @@ starved_reply Check bytes = starved
 starved_reply (Replay is_strict) bytes = failed
 starved_reply (Run options) bytes = fell
 starved_reply Sweep bytes = unswept
-starved_reply (Outcomes limit is_told) bytes = unlisted
+starved_reply (Outcomes limit wants_progress) bytes = unlisted
 
 pub starved_gets : (wanted : Wanted) (most : ℕ) (rest old new : Option (List ℕ)) (status : ℕ) → (status ≢ 4 → (status ≡ 3) × Appends old new out_of_memory_text) → IsWhole status → IfSome rest (λ bytes. GetsReply (IsReplyTo wanted (take most bytes)) old new status)
 starved_gets wanted most None old new status h l = tt

@@ -72,4 +72,4 @@ known_status Check bytes status text h = checked bytes status text h
 known_status (Replay is_strict) bytes status text h = replayed is_strict bytes status text h
 known_status (Run options) bytes status text h = run_known options bytes status text h
 known_status Sweep bytes status text h = sweep_known bytes status text h
-known_status (Outcomes limit is_told) bytes status text h = list_known limit bytes status text h
+known_status (Outcomes limit wants_progress) bytes status text h = list_known limit bytes status text h

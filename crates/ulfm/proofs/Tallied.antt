@@ -5,7 +5,7 @@ use Rattle.std.proofs.Math.Bool.{and-true, or-false}
 use Rattle.std.proofs.lemmas.List.{drop_more, get_or_default, map-append, take_more_set}
 use Rattle.std.proofs.lemmas.List.Folds.{list_all-append, list_any-append}
 use Rattle.std.proofs.lemmas.List.Sums.{fold-append}
-use Rattle.ulfm_job.specs.Job.{Seen}
+use Rattle.ulfm_job.specs.Job.{JobView}
 use Rattle.ulfm_script.specs.Reacting.{all_met}
 use Rattle.ulfm_script.specs.Report.{Report}
 use Rattle.ulfm_script.specs.Trace.{trace_of}
@@ -47,5 +47,5 @@ pub some_more : (runs : List (List Report)) (reports : List Report) → list_any
 some_more runs reports = list_any-append has_unfinished runs (reports ∷ []) ∙ ap (λ b. list_any has_unfinished runs || b) (or-false (has_unfinished reports))
 
 -- and may be the one whose answers aren't as expected
-pub all_more : (job : Seen) (runs : List (List Report)) (reports : List Report) → list_all (all_met job) (runs ++ reports ∷ []) ≡ (list_all (all_met job) runs && all_met job reports)
+pub all_more : (job : JobView) (runs : List (List Report)) (reports : List Report) → list_all (all_met job) (runs ++ reports ∷ []) ≡ (list_all (all_met job) runs && all_met job reports)
 all_more job runs reports = list_all-append (all_met job) runs (reports ∷ []) ∙ ap (λ b. list_all (all_met job) runs && b) (and-true (all_met job reports))

@@ -3,7 +3,7 @@ use Rattle.std.proofs.Common.{◌≡◌, ◌≢◌, ◌∙◌, ℕ, List, Result
 use Rattle.std.proofs.lemmas.Bool.{cases_eq}
 use Rattle.ulfm_job.specs.declared.fault.JobFault.{JobFault}
 use Rattle.ulfm_job.specs.declared.fault.JobFault.TheVariants.{NotToml, InJob, InStep, TooLarge, OutOfMemory}
-use Rattle.ulfm_job.specs.Job.{Seen, step_count}
+use Rattle.ulfm_job.specs.Job.{JobView, step_count}
 use Rattle.ulfm_job.specs.JobText.{job_of_bytes}
 use Rattle.ulfm_job.specs.Plan.{plan_of}
 use Rattle.ulfm_world.specs.Sweep.{IsStarved}
@@ -26,7 +26,7 @@ only_memory f (inl e) = cc
 only_memory f (inr e) = absurd cc
 
 -- a good job that has too many steps, or whose stops find no memory
-pub sweep_unmade : {A : Type 0} (job : Seen) (f : JobFault) (x : SweepFault) (r : Result A SweepFault) (bytes : List ℕ) → job_of_bytes bytes ≡ Ok (plan_of job) → r ≡ Err x → x ≡ Job f
+pub sweep_unmade : {A : Type 0} (job : JobView) (f : JobFault) (x : SweepFault) (r : Result A SweepFault) (bytes : List ℕ) → job_of_bytes bytes ≡ Ok (plan_of job) → r ≡ Err x → x ≡ Job f
     → (step_count job.scripts ≡ 256 → r ≡ Err (Job TooLarge)) → (step_count job.scripts ≢ 256 → IsStarved x)
     → IsSweepReply bytes 1 (refused_text f)
 sweep_unmade job f x r bytes h fails is many starved = elim (cases_eq (step_count job.scripts) 256) [

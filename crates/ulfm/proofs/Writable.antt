@@ -1,10 +1,10 @@
 -- A list that is right can be written: what is told of answers is ASCII.
 use Rattle.std.proofs.Common.{ℕ}
-use Rattle.ulfm_job.specs.Job.{Seen}
+use Rattle.ulfm_job.specs.Job.{JobView}
 use Rattle.ulfm_reach.specs.declared.reach.Reach.{Reach}
 use Rattle.ulfm_outcomes.specs.Outcomes.{IsList}
 use Rattle.ulfm_outcomes.specs.Text.{IsWritable}
 use Rattle.ulfm_outcomes.proofs.Writable.{list-writable}
 
-pub writable : (j : Seen) (limit : ℕ) (reach : Reach) → IsList j limit reach → IsWritable reach
+pub writable : (j : JobView) (limit : ℕ) (reach : Reach) → IsList j limit reach → IsWritable reach
 writable j limit reach list = list-writable _ j limit reach list

@@ -2,7 +2,7 @@
 use Rattle.std.specs.Prelude.{◌≡◌, ℕ, List, Ok, Err}
 use Rattle.ulfm_job.specs.declared.fault.JobFault.{JobFault}
 use Rattle.ulfm_job.specs.declared.fault.JobFault.TheVariants.{OutOfMemory}
-use Rattle.ulfm_job.specs.Job.{Seen}
+use Rattle.ulfm_job.specs.Job.{JobView}
 use Rattle.ulfm_job.specs.JobText.{job_of_bytes}
 use Rattle.ulfm_job.specs.Plan.{plan_of}
 use Rattle.ulfm_reach.specs.declared.reach.Reach.{Reach}
@@ -21,7 +21,7 @@ list_status More = 7
 -- every schedule, and of those that may be left open for ever; with 7 the line that more states than the limit are reached; with 1 the
 -- line of the job's refusal, which may be J7; with 3 the line that memory ran out.
 pub data IsOutcomesReply (limit : ℕ) (bytes : List ℕ) : ℕ → List ℕ → Type 0 where
-  listed : (job : Seen) (reach : Reach) → job_of_bytes bytes ≡ Ok (plan_of job) → IsList job limit reach
+  listed : (job : JobView) (reach : Reach) → job_of_bytes bytes ≡ Ok (plan_of job) → IsList job limit reach
       → IsOutcomesReply limit bytes (list_status reach) (text_of job reach limit)
   not_listed : (f : JobFault) → job_of_bytes bytes ≡ Err f → IsOutcomesReply limit bytes 1 (refused_text f)
   no_memory_to_read : IsOutcomesReply limit bytes 1 (refused_text OutOfMemory)

@@ -4,7 +4,7 @@ use Rattle.std.specs.Fmt.{decimal}
 use Rattle.std.specs.List.{flat_map}
 use Rattle.ulfm_job.specs.declared.fault.JobFault.{JobFault}
 use Rattle.ulfm_job.specs.declared.fault.JobFault.TheVariants.{OutOfMemory, TooLarge}
-use Rattle.ulfm_job.specs.Job.{Seen, step_count}
+use Rattle.ulfm_job.specs.Job.{JobView, step_count}
 use Rattle.ulfm_job.specs.JobText.{job_of_bytes}
 use Rattle.ulfm_job.specs.Plan.{plan_of}
 use Rattle.ulfm_world.specs.Sweep.{IsSwept, place_of, places_of}
@@ -25,10 +25,10 @@ sweep_text lines = flat_map sweep_line lines
 -- the answers of a replay with that stop; with 1 the line of the job's refusal, which is J6 too where it has 256 steps, or J7; with 3 the
 -- line that memory ran out.
 pub data IsSweepReply (bytes : List ℕ) : ℕ → List ℕ → Type 0 where
-  swept : (job : Seen) (lines : List SweepLine) → job_of_bytes bytes ≡ Ok (plan_of job) → step_count job.scripts ≢ 256
+  swept : (job : JobView) (lines : List SweepLine) → job_of_bytes bytes ≡ Ok (plan_of job) → step_count job.scripts ≢ 256
       → map place_of lines ≡ places_of job → All (IsSwept job) lines
       → IsSweepReply bytes 0 (sweep_text lines)
   unread : (f : JobFault) → job_of_bytes bytes ≡ Err f → IsSweepReply bytes 1 (refused_text f)
-  full : (job : Seen) → job_of_bytes bytes ≡ Ok (plan_of job) → step_count job.scripts ≡ 256 → IsSweepReply bytes 1 (refused_text TooLarge)
+  full : (job : JobView) → job_of_bytes bytes ≡ Ok (plan_of job) → step_count job.scripts ≡ 256 → IsSweepReply bytes 1 (refused_text TooLarge)
   unmade : IsSweepReply bytes 1 (refused_text OutOfMemory)
   unswept : IsSweepReply bytes 3 out_of_memory_text

@@ -1,7 +1,7 @@
 //! The program: words and a job in, a trace out.
 #![tactic(auto)]
 
-mod front;
+mod app;
 mod listed;
 mod progress;
 mod reply;
@@ -16,7 +16,7 @@ use std::process::ExitCode;
 fn main(rt: HostRuntime) -> ExitCode {
     let mut output = rt.stdout();
     let status = match words_of(&rt) {
-        Ok(words) => front::run_on(
+        Ok(words) => app::run_on(
             &rt,
             rt.alloc(),
             words.as_slice(),
@@ -24,7 +24,7 @@ fn main(rt: HostRuntime) -> ExitCode {
             &mut output,
             &mut rt.stderr(),
         ),
-        Err(kind) => front::without_words(kind == ErrorKind::OutOfMemory, &mut output),
+        Err(kind) => app::without_words(kind == ErrorKind::OutOfMemory, &mut output),
     };
     ExitCode::from(status)
 }

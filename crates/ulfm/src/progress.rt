@@ -25,7 +25,13 @@ impl<E: Write + Drop> Progress<E> {
         Progress {
             alloc,
             errors,
-            is_wanted: matches!(wanted, Wanted::Outcomes { is_told: true, .. }),
+            is_wanted: matches!(
+                wanted,
+                Wanted::Outcomes {
+                    wants_progress: true,
+                    ..
+                }
+            ),
         }
     }
 

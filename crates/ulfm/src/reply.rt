@@ -1,7 +1,7 @@
 //! The reply to a job's bytes.
 ghost use Rattle.std.specs.Prelude.{◌≡◌, IfOk, string_bytes};
 ghost use Rattle.ulfm.specs.Replies.{IsReplayReply, IsReplyTo};
-ghost use Rattle.ulfm_replies.specs.Words.{HasRanges};
+ghost use Rattle.ulfm_replies.specs.CommandLine.{HasRanges};
 
 use crate::listed::outcomes_reply;
 use crate::run::run_reply;

@@ -4,13 +4,13 @@ ghost use Rattle.ulfm_carrier.specs.declared.lane_ends.LaneEnds.{LaneEnds as Lan
 ghost use Rattle.ulfm_carrier.specs.declared.shared_ends.SharedEnds.{SharedEnds as Shared};
 ghost use Rattle.ulfm_carrier.specs.Family.{AllFresh};
 ghost use Rattle.ulfm_base.specs.Lists.{InPlace, at};
-ghost use Rattle.ulfm_carrier.specs.Lanes.{known_room, lane_name, lane_pushed, lane_taken, IsReady as IsReadyLane, OneCall as OneWiring};
-ghost use Rattle.ulfm_carrier.specs.Shared.{inbox_capacity, shared_name, shared_pushed, shared_taken, IsReady as IsReadyShared, OneCall as OneSeating};
+ghost use Rattle.ulfm_carrier.specs.Lanes.{known_room, lane_name, lane_pushed, lane_taken, IsReady as IsReadyLane, OneCall as OneLanesCall};
+ghost use Rattle.ulfm_carrier.specs.Shared.{inbox_capacity, shared_name, shared_pushed, shared_taken, IsReady as IsReadyShared, OneCall as OneSharedCall};
 ghost use Rattle.ulfm_board.specs.Known.{OneBoard, nothing_known};
 ghost use Rattle.ulfm.specs.inside.Cells.{AreEnough};
 ghost use Rattle.ulfm.specs.Replies.{with_options, IsRunReply};
 ghost use Rattle.ulfm.specs.inside.Writing.{IsShown};
-ghost use Rattle.ulfm_replies.specs.Words.{AreInRange};
+ghost use Rattle.ulfm_replies.specs.CommandLine.{AreInRange};
 ghost use Rattle.ulfm_laws.specs.Lawful.{IsLawful};
 
 use crate::tally::{tally_of, tally_reply};
@@ -96,7 +96,7 @@ fn run_by_lanes<R: Threads + Wait + Sync>(
 /// The ends of a job's ranks by rings, each of which has as many places as the job says.
 fn lanes_of(alloc: Global, job: &Job) -> Result<Vec<LaneEnds>, CallError>
     ensures each { IfOk result (λ ends. vec_len ends ≡ job.now.ranks) }
-    ensures family { IfOk result (λ ends. OneWiring (map lane_name ends.items)) }
+    ensures family { IfOk result (λ ends. OneLanesCall (map lane_name ends.items)) }
     ensures places { IfOk result (λ ends. InPlace (λ (e : Lanes). e.me.number) ends.items) }
     ensures fresh { IfOk result (λ ends. AllFresh (λ (e : Lanes). vec_len e.outs) lane_pushed lane_taken IsReadyLane ends.items) }
     ensures room { IfOk result (λ ends. (k d : ℕ) (e : Lanes) → at ends.items k e → d < job.now.ranks → known_room e d ≡ job.now.capacity) }
@@ -122,7 +122,7 @@ fn run_by_shared<R: Threads + Wait + Sync>(
 /// The ends of a job's ranks by shared inboxes, each of which has as many places as the job says.
 fn shared_of(alloc: Global, job: &Job) -> Result<Vec<SharedEnds>, CallError>
     ensures each { IfOk result (λ ends. vec_len ends ≡ job.now.ranks) }
-    ensures family { IfOk result (λ ends. OneSeating (map shared_name ends.items)) }
+    ensures family { IfOk result (λ ends. OneSharedCall (map shared_name ends.items)) }
     ensures places { IfOk result (λ ends. InPlace (λ (e : Shared). e.me.number) ends.items) }
     ensures fresh { IfOk result (λ ends. AllFresh (λ (e : Shared). vec_len e.outs) shared_pushed shared_taken IsReadyShared ends.items) }
     ensures capacities { IfOk result (λ ends. (k d : ℕ) (e : Shared) → at ends.items k e → d < job.now.ranks → inbox_capacity e d ≡ job.now.capacity) }

@@ -16,7 +16,7 @@ mod schedule_turns;
 mod streams;
 mod sweeps;
 
-use crate::front::run_on;
+use crate::app::run_on;
 use std::io;
 use std::io::Write;
 use std::sync::Wait;

@@ -1,7 +1,7 @@
 //! Two ranks in one thread, and nothing between them.
 
 use crate::post::Post;
-use crate::seat::{Tested, start_receive, start_send, take_in, take_out, test_into};
+use crate::side::{Tested, start_receive, start_send, take_in, take_out, test_into};
 use std::sync::Wait;
 use ulfm_base::WorldRank;
 use ulfm_match::RequestId;

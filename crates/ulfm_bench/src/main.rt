@@ -12,7 +12,7 @@ mod matching;
 mod pairing;
 mod pairs;
 mod post;
-mod seat;
+mod side;
 mod telling;
 mod trip;
 mod way;

@@ -2,7 +2,7 @@
 use crate::both::Both;
 use crate::pairs::{over_lanes, over_queues, over_rings, over_shared};
 use crate::post::{Bare, Post};
-use crate::seat::{Seat, rank_of_two};
+use crate::side::{Side, rank_of_two};
 use crate::trip::{Load, in_one_thread, one_way, there_and_back};
 use crate::way::Way;
 use std::alloc::Global;
@@ -34,20 +34,10 @@ pub fn of_ranks<R: Runtime + Threads + Wait + CpuClock + Copy + Send + 'static>(
     alloc: Global,
     load: Load,
 ) -> Option<()> {
-    there(rt, "rank by lanes", seated(over_lanes(alloc), alloc), load)?;
-    there(
-        rt,
-        "rank by shared",
-        seated(over_shared(alloc), alloc),
-        load,
-    )?;
-    and_back(rt, "rank by lanes", seated(over_lanes(alloc), alloc), load)?;
-    and_back(
-        rt,
-        "rank by shared",
-        seated(over_shared(alloc), alloc),
-        load,
-    )?;
+    there(rt, "rank by lanes", sides(over_lanes(alloc), alloc), load)?;
+    there(rt, "rank by shared", sides(over_shared(alloc), alloc), load)?;
+    and_back(rt, "rank by lanes", sides(over_lanes(alloc), alloc), load)?;
+    and_back(rt, "rank by shared", sides(over_shared(alloc), alloc), load)?;
     let both = Both {
         zero: rank_of_two(alloc, 0)?,
         one: rank_of_two(alloc, 1)?,
@@ -64,15 +54,15 @@ fn bare<W: Way>(ways: Result<(W, W), CallError>, alloc: Global) -> Option<(Bare<
 }
 
 /// Two ends with their ranks.
-fn seated<W: Way>(ways: Result<(W, W), CallError>, alloc: Global) -> Option<(Seat<W>, Seat<W>)> {
+fn sides<W: Way>(ways: Result<(W, W), CallError>, alloc: Global) -> Option<(Side<W>, Side<W>)> {
     let (zero, one) = ways.ok()?;
     Some((
-        Seat {
+        Side {
             rank: rank_of_two(alloc, 0)?,
             way: zero,
             other: WorldRank { number: 1 },
         },
-        Seat {
+        Side {
             rank: rank_of_two(alloc, 1)?,
             way: one,
             other: WorldRank { number: 0 },

@@ -16,19 +16,19 @@ pub use Rattle.ulfm_base.specs.Items.{ComesFrom, items_from}
 pub use Rattle.ulfm_base.specs.Lists.{at}
 pub use Rattle.ulfm_base.specs.declared.item.Item.{Item}
 pub use Rattle.ulfm_base.specs.declared.rank.WorldRank.{WorldRank}
-pub use Rattle.ulfm_carrier.specs.Carried.{item_of}
+pub use Rattle.ulfm_carrier.specs.Carried.{item_from}
 pub use Rattle.ulfm_carrier.specs.Family.{AllFresh, Keeps, shown}
 pub use Rattle.ulfm_carrier.specs.Inbox.{InboxPass, InboxRule, KnowsTruly, ReceiptsAreTakenAndHeld, Receives, Signed, spent}
 pub use Rattle.ulfm_carrier.specs.Lanes.{HasRings, inlet_capacity, inlet_name, IsOpenRing, lane_name, lane_pushed, lane_taken, Outlet, outlet_name, pushed_into, seen_from, seen_in, taken_by}
 pub use Rattle.ulfm_carrier.specs.Shared.{IsReady, OneCall, pass_name, pushed_with, shared_name, shared_pushed, shared_taken, HasPasses, IsReceiver, MayReceive, MaySend, OwnIsTakenAndHeldAt, inbox_capacity}
 pub use Rattle.ulfm_carrier.specs.declared.carried.Carried.{Carried}
-pub use Rattle.ulfm_carrier.specs.declared.inbox.View.{View}
+pub use Rattle.ulfm_carrier.specs.declared.inbox.PassView.{PassView}
 pub use Rattle.ulfm_carrier.specs.declared.inlet.Inlet.{Inlet}
 pub use Rattle.ulfm_carrier.specs.declared.lane_ends.LaneEnds.{LaneEnds}
 pub use Rattle.ulfm_carrier.specs.declared.lane_ends.RingName.{RingName}
 pub use Rattle.ulfm_carrier.specs.declared.shared_ends.SharedEnds.{SharedEnds}
 pub use Rattle.ulfm_carrier.specs.inside.Emptying.{AllBelow, AreOpenFrom, HasAllReceipts, IsOpenFrom}
-pub use Rattle.ulfm_carrier.specs.inside.Seating.{AreInboxes, AreInlets, AreNextOuts, Queue, AreMade, AreOpenInlets, AreOuts, AreRows, HaveMadeOneMore, IsMade, receiver_of}
+pub use Rattle.ulfm_carrier.specs.inside.SharedWiring.{AreInboxes, AreInlets, AreNextOuts, Queue, AreMade, AreOpenInlets, AreOuts, AreRows, HaveMadeOneMore, IsMade, receiver_of}
 pub use Rattle.ulfm_carrier.specs.inside.Tagged.{signed, with_sender}
 pub use Rattle.ulfm_carrier.specs.inside.Wiring.{AreWired, IsWired}
 pub use Rattle.crossbeam_queue.specs.Fifo.{Forks, Held, Learns, Merges, Pops, Pushes}

@@ -1,9 +1,9 @@
 -- What contracts see of ends, once one of them has its rings back.
 use Rattle.std.proofs.Common.{◌≡◌, ◌≢◌, ◌<◌, ℕ, List, [], length, map, set, get_or, sum, vec_capacity, ap, sym, ◌∙◌, arith, subst}
 use Rattle.std.proofs.lemmas.List.{length-map, map-set, set-set, set-get_or, length-set}
-use Rattle.ulfm_carrier.proofs.Common.{at, HasRings, inlet_capacity, inlet_name, Item, item_of, Keeps, lane_name, lane_pushed, lane_taken, LaneEnds, map-map, outlet_name, sent, taken_by, LaneName}
+use Rattle.ulfm_carrier.proofs.Common.{at, HasRings, inlet_capacity, inlet_name, Item, item_from, Keeps, lane_name, lane_pushed, lane_taken, LaneEnds, map-map, outlet_name, sent, taken_by, LaneName}
 use Rattle.ulfm_carrier.proofs.Places.{at_read, at_here, at_other}
-use Rattle.ulfm_carrier.proofs.Views.{View, view, of_views, same_at, as_many}
+use Rattle.ulfm_carrier.proofs.Views.{EndView, view, of_views, same_at, as_many}
 
 -- what contracts see of a view
 pub record Face : Type 0 where
@@ -11,14 +11,14 @@ pub record Face : Type 0 where
   pub pushed : List (List Item)
   pub taken : List (List Item)
 
-abbrev pub face_of : View → Face
-face_of v = record { name = record { place = v.me.number; outs = v.outs; ins = map inlet_name v.ins.items }; pushed = map (map (item_of v.me)) v.sents; taken = map taken_by v.ins.items }
+abbrev pub face_of : EndView → Face
+face_of v = record { name = record { place = v.me.number; outs = v.outs; ins = map inlet_name v.ins.items }; pushed = map (map (item_from v.me)) v.sents; taken = map taken_by v.ins.items }
 
 abbrev pub face : LaneEnds → Face
 face e = face_of (view e)
 
 pub face-pushed : (e : LaneEnds) (d : ℕ) → lane_pushed e d ≡ get_or (face e).pushed d []
-face-pushed e d = ap (λ l. get_or l d []) (sym (map-map (map (item_of e.me)) sent e.outs.items))
+face-pushed e d = ap (λ l. get_or l d []) (sym (map-map (map (item_from e.me)) sent e.outs.items))
 
 -- one end gets back what was taken out of it
 pub faces_back : (ends now : List LaneEnds) (k : ℕ) (e out f : LaneEnds) → e ≡ get_or ends k e → map view now ≡ map view (set ends k out) → face f ≡ face e → map face (set now k f) ≡ map face ends
@@ -35,7 +35,7 @@ face_back e out emptied last ends now k low same here me outs me' outs' names ta
     let is_me = me' ∙ ap (λ w. w.me) v ∙ me in
     let is_outs = ap (λ l. map outlet_name l.items) outs' ∙ ap (λ w. w.outs) v ∙ ap (λ l. map outlet_name l.items) outs in
     let is_sents = ap (λ l. map sent l.items) outs' ∙ ap (λ w. w.sents) v ∙ ap (λ l. map sent l.items) outs in
-    λ i. record { name = record { place = (is_me i).number; outs = is_outs i; ins = names i }; pushed = map (map (item_of (is_me i))) (is_sents i); taken = taken i }
+    λ i. record { name = record { place = (is_me i).number; outs = is_outs i; ins = names i }; pushed = map (map (item_from (is_me i))) (is_sents i); taken = taken i }
 
 pub keeps_faces : (ends now : List LaneEnds) → map face now ≡ map face ends → Keeps lane_name lane_pushed lane_taken ends now
 keeps_faces ends now same = record {

@@ -1,6 +1,6 @@
 -- End by end, all close to one of them.
 use Rattle.std.proofs.Common.{◌≡◌, ◌≢◌, ◌<◌, ◌≤◌, ◌+◌, ℕ, zero, suc, List, [], ◌∷◌, ◌++◌, length, map, set, get_or, refl, ap, sym, ◌∙◌, arith, subst, slice_get}
-use Rattle.ulfm_carrier.proofs.Common.{at, IsSamePass, Item, pass_name, pushed_with, shared_pushed, SharedEnds, View, view, after_receipt}
+use Rattle.ulfm_carrier.proofs.Common.{at, IsSamePass, Item, pass_name, pushed_with, shared_pushed, SharedEnds, PassView, view, after_receipt}
 use Rattle.ulfm_carrier.specs.inside.Emptying.{with_outs, with_inlet}
 use Rattle.ulfm_carrier.proofs.Places.{at_read, each_set}
 use Rattle.ulfm_carrier.proofs.Frames.{SameFrame, frame_twice, frame_with, same_inlet}
@@ -11,7 +11,7 @@ told_by all place zero = []
 told_by all place (suc n) = told_by all place n ++ (n, get_or (map (λ e. shared_pushed e place) all) n []) ∷ []
 
 -- the receiver's view, with what closed senders told
-abbrev pub told_view : View → List (ℕ × List Item) → View
+abbrev pub told_view : PassView → List (ℕ × List Item) → PassView
 told_view v receipts = record v { receipts = receipts }
 
 -- The end k before, and after the ends below `closed` closed to the rank `place`, which heard those below `heard`.
@@ -58,7 +58,7 @@ module _ (all now : List SharedEnds) (place from : ℕ) where
       )
 
   -- and the receiver hears of it
-  pub hears_more : {r r' : SharedEnds} (u : View) → place < length now → r ≡ get_or now place r → r' ≡ with_inlet r r'.inlet → IsSamePass r.inlet r'.inlet → view r'.inlet ≡ after_receipt (view r.inlet) u
+  pub hears_more : {r r' : SharedEnds} (u : PassView) → place < length now → r ≡ get_or now place r → r' ≡ with_inlet r r'.inlet → IsSamePass r.inlet r'.inlet → view r'.inlet ≡ after_receipt (view r.inlet) u
       → u.from ≡ from → u.pushed ≡ get_or (map (λ e. shared_pushed e place) all) from [] → AllHear all place (from + 1) from now → AllHear all place (from + 1) (from + 1) (set now place r')
   hears_more {r} {r'} u low here rest pass receipts number pushed was =
       let old = was place r (at_read now place low here) in

@@ -1,10 +1,10 @@
 -- The ends of one call, looked up while one of them is emptied.
 use Rattle.std.proofs.Common.{◌≡◌, ◌<◌, ℕ, List, [], length, map, set, get_or, ap, sym, ◌∙◌, arith, slice_get}
 use Rattle.rtrb.specs.Ring.{sent, IsPair}
-use Rattle.ulfm_carrier.proofs.Common.{at, at_view, Carried, Inlet, item_of, LaneEnds, length-map, map-map, map-set_same, RingName, same_rank, slice_get_within, there, WorldRank}
+use Rattle.ulfm_carrier.proofs.Common.{at, at_view, Carried, Inlet, item_from, LaneEnds, length-map, map-map, map-set_same, RingName, same_rank, slice_get_within, there, WorldRank}
 use Rattle.ulfm_carrier.specs.Lanes.{Outlet, outlet_name, inlet_name, lane_name, lane_pushed, pushed_into, OneCall}
 use Rattle.ulfm_carrier.proofs.Places.{at_read, view_or}
-use Rattle.ulfm_carrier.proofs.Views.{View, view, of_views, same_at, as_many, pushed_at}
+use Rattle.ulfm_carrier.proofs.Views.{EndView, view, of_views, same_at, as_many, pushed_at}
 use Rattle.ulfm_carrier.proofs.Faces.{face-pushed}
 use Rattle.ulfm_carrier.proofs.Rings.{is_pair}
 
@@ -14,7 +14,7 @@ pub record Outline : Type 0 where
   pub outs : List RingName
   pub sents : List (List Carried)
 
-abbrev pub outline_of : View → Outline
+abbrev pub outline_of : EndView → Outline
 outline_of v = record { me = v.me; outs = v.outs; sents = v.sents }
 
 abbrev pub outline : LaneEnds → Outline
@@ -82,6 +82,6 @@ module _ {ends : List LaneEnds} {place : ℕ} {receiver : LaneEnds} {now : List 
       let d = was k e here in
       let v = same_at outline now ends k w.same here d.1 in
       let me : d.0.me ≡ source = same_rank d.0.me source (number ends w.one k d.1 ∙ sym is) in
-      view_or (λ e. lane_pushed e place) ends k [] d.1 ∙ face-pushed d.0 place ∙ ap (λ o. get_or (map (map (item_of d.0.me)) o.sents) place []) (sym v)
-      ∙ ap (λ r. get_or (map (map (item_of r)) (map sent e.outs.items)) place []) me ∙ ap (λ l. get_or l place []) (map-map (map (item_of source)) sent e.outs.items)
+      view_or (λ e. lane_pushed e place) ends k [] d.1 ∙ face-pushed d.0 place ∙ ap (λ o. get_or (map (map (item_from d.0.me)) o.sents) place []) (sym v)
+      ∙ ap (λ r. get_or (map (map (item_from r)) (map sent e.outs.items)) place []) me ∙ ap (λ l. get_or l place []) (map-map (map (item_from source)) sent e.outs.items)
       ∙ view_or (pushed_into source) e.outs.items place [] out

@@ -21,8 +21,8 @@ pub mod Ready
 pub mod Rings
 pub mod Roles
 pub mod Rule
-pub mod Seated
-pub mod Seats
+pub mod SharedWired
+pub mod SharedWires
 pub mod Senders
 pub mod Settling
 pub mod Steps

@@ -2,7 +2,7 @@
 use Rattle.std.proofs.Common.{◌≡◌, ◌<◌, ℕ, None, List, [], ◌∷◌, ◌++◌, length, map, set, get_or, sum, vec_capacity, refl, ap, sym, ◌∙◌, arith, subst, Some, slice_get}
 use Rattle.rtrb.specs.Ring.{sent, IsPair, SameProducer}
 use Rattle.ulfm_carrier.proofs.Common.{at, at_view, ComesFrom, Global, Inlet, Item, LaneEnds, map-append, map-set_same, Vec, WorldRank}
-use Rattle.ulfm_carrier.specs.Carried.{carried_of, item_of}
+use Rattle.ulfm_carrier.specs.Carried.{carried_of, item_from}
 use Rattle.ulfm_carrier.specs.Lanes.{Outlet, outlet_name, inlet_name, inlet_capacity, pushed_into, taken_by, lane_name, IsReady, IsOpenRing}
 use Rattle.ulfm_carrier.proofs.Places.{at_read, each_set, view_or, view_here}
 use Rattle.ulfm_carrier.proofs.Views.{as_many}
@@ -23,11 +23,11 @@ inlet_names ins k i j here same = map-set_same inlet_name ins k j i (same ∙ ap
 pub sent_more : (me : WorldRank) (k : ℕ) (outs : List Outlet) (p q : Outlet) (x : Item) → k < length outs → p ≡ get_or outs k p → ComesFrom me.number x → sent q ≡ sent p ++ carried_of x ∷ []
     → get_or (map (pushed_into me) (set outs k q)) k [] ≡ get_or (map (pushed_into me) outs) k [] ++ x ∷ []
 sent_more me k outs p q x low here from more =
-    view_here (pushed_into me) outs k q [] low ∙ ap (map (item_of me)) more ∙ map-append (item_of me) (sent p) (carried_of x ∷ []) ∙ ap (λ y. pushed_into me p ++ y ∷ []) (source_back me x from)
+    view_here (pushed_into me) outs k q [] low ∙ ap (map (item_from me)) more ∙ map-append (item_from me) (sent p) (carried_of x ∷ []) ∙ ap (λ y. pushed_into me p ++ y ∷ []) (source_back me x from)
     ∙ ap (λ l. l ++ x ∷ []) (sym (view_or (pushed_into me) outs k [] (at_read outs k low here)))
 
 pub sent_same : (me : WorldRank) (k : ℕ) (outs : List Outlet) (p q : Outlet) → p ≡ get_or outs k p → sent q ≡ sent p → map (pushed_into me) (set outs k q) ≡ map (pushed_into me) outs
-sent_same me k outs p q here same = map-set_same (pushed_into me) outs k q p (ap (map (item_of me)) same ∙ ap (pushed_into me) here)
+sent_same me k outs p q here same = map-set_same (pushed_into me) outs k q p (ap (map (item_from me)) same ∙ ap (pushed_into me) here)
 
 -- two ends of one name are those of one ring
 pub is_pair : (p : Outlet) (i : Inlet) → Some (outlet_name p) ≡ Some (inlet_name i) → IsPair p i.ring

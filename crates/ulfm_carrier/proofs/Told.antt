@@ -1,6 +1,6 @@
 -- What the ends tell of which one of them hears.
 use Rattle.std.proofs.Common.{◌≡◌, ◌<◌, inl, inr, ℕ, zero, suc, List, [], ◌∷◌, length, map, get_or, refl, ap, sym, ◌∙◌, arith, subst}
-use Rattle.ulfm_carrier.proofs.Common.{at, cases_eq, HasAllReceipts, Item, length_push, shared_pushed, SharedEnds, View}
+use Rattle.ulfm_carrier.proofs.Common.{at, cases_eq, HasAllReceipts, Item, length_push, shared_pushed, SharedEnds, PassView}
 use Rattle.ulfm_carrier.proofs.Last.{at_middle, at_front}
 use Rattle.ulfm_carrier.proofs.Places.{at_push}
 use Rattle.ulfm_carrier.proofs.Heard.{told_by, told_view}
@@ -29,5 +29,5 @@ module _ (all : List SharedEnds) (place : ℕ) where
     | inr h ↦ ap (λ y. y.0) h.1 ∙ sym (h.0 ∙ told-many n)
   ]
 
-  pub told_of_all : {n : ℕ} (v : View) {w : View} → w ≡ told_view v (told_by all place n) → v.made ≡ n → HasAllReceipts w
+  pub told_of_all : {n : ℕ} (v : PassView) {w : PassView} → w ≡ told_view v (told_by all place n) → v.made ≡ n → HasAllReceipts w
   told_of_all {n} v is made = subst HasAllReceipts (sym is) (told-many n ∙ sym made, told-number n)

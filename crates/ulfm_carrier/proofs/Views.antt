@@ -3,14 +3,14 @@ use Rattle.std.proofs.Common.{◌≡◌, ℕ, List, [], length, map, set, get_or
 use Rattle.ulfm_carrier.proofs.Common.{at, at_view, Carried, Global, Inlet, Item, lane_pushed, LaneEnds, length-map, map-map, map-set_same, Outlet, outlet_name, RingName, sent, Vec, WorldRank}
 
 -- what an end is, but for what it knows of its outgoing rings
-pub record View : Type 0 where
+pub record EndView : Type 0 where
   pub me : WorldRank
   pub outs : List RingName
   pub sents : List (List Carried)
   pub ins : Vec Inlet Global
   pub left : Vec (WorldRank × Item) Global
 
-abbrev pub view : LaneEnds → View
+abbrev pub view : LaneEnds → EndView
 view e = record { me = e.me; outs = map outlet_name e.outs.items; sents = map sent e.outs.items; ins = e.ins; left = e.left }
 
 -- one ring of one end was looked at
@@ -19,11 +19,11 @@ view_looked e f k {p} q me ins left outs here name kept =
     let sents : map sent f.outs.items ≡ map sent e.outs.items = ap (map sent) outs ∙ map-set_same sent e.outs.items k q p (kept ∙ ap sent here) in
     λ i. record { me = me i; outs = (ap (map outlet_name) outs ∙ map-set_same outlet_name e.outs.items k q p (name ∙ ap outlet_name here)) i; sents = sents i; ins = ins i; left = left i }
 
-pub views_looked : (now : List LaneEnds) {all : List View} (k : ℕ) (e f : LaneEnds) → e ≡ get_or now k e → view f ≡ view e → map view now ≡ all → map view (set now k f) ≡ all
+pub views_looked : (now : List LaneEnds) {all : List EndView} (k : ℕ) (e f : LaneEnds) → e ≡ get_or now k e → view f ≡ view e → map view now ≡ all → map view (set now k f) ≡ all
 views_looked now k e f here same was = map-set_same view now k f e (same ∙ ap view here) ∙ was
 
 -- what follows from a view
-pub of_views : {Y : Type 0} (h : View → Y) (now was : List LaneEnds) → map view now ≡ map view was → map (λ e. h (view e)) now ≡ map (λ e. h (view e)) was
+pub of_views : {Y : Type 0} (h : EndView → Y) (now was : List LaneEnds) → map view now ≡ map view was → map (λ e. h (view e)) now ≡ map (λ e. h (view e)) was
 of_views h now was same = sym (map-map h view now) ∙ ap (map h) same ∙ map-map h view was
 
 -- where two lists show the same, they show the same at each place

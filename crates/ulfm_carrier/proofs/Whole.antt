@@ -1,7 +1,7 @@
 -- With all rings made, the ends are those of one call, and nothing was done with them.
 use Rattle.std.proofs.Common.{◌≡◌, ◌<◌, ◌≤◌, ◌*◌, ℕ, zero, suc, List, [], ◌∷◌, length, map, get_or, sum, vec_len, refl, ap, sym, ◌∙◌, arith, subst, slice_get}
 use Rattle.std.proofs.lemmas.List.Sums.{sum_by-cons}
-use Rattle.ulfm_carrier.proofs.Common.{AllFresh, AreWired, at, item_of, known_free, LaneEnds, length-map, slice_get_within}
+use Rattle.ulfm_carrier.proofs.Common.{AllFresh, AreWired, at, item_from, known_free, LaneEnds, length-map, slice_get_within}
 use Rattle.ulfm_carrier.specs.Lanes.{outlet_name, inlet_name, inlet_capacity, pushed_into, taken_by, lane_name, lane_pushed, lane_taken, known_room, IsReady, OneCall}
 
 pub at_map : {X Y : Type 0} (f : X → Y) (xs : List X) (k : ℕ) {y : Y} → at (map f xs) k y → (x : X) × at xs k x × (y ≡ f x)
@@ -75,7 +75,7 @@ module _ (n capacity : ℕ) (ends : List LaneEnds) (w : AreWired n capacity n 0 
       let v = w.each k e here in record {
         is_ready = ready few k e here;
         counted = omega (arith, outs_all k here, e.outs.ok, w.as_many);
-        nothing_pushed = all_empty (pushed_into e.me) e.outs.items (λ j p there. ap (map (item_of e.me)) (v.new_outs j p there).0);
+        nothing_pushed = all_empty (pushed_into e.me) e.outs.items (λ j p there. ap (map (item_from e.me)) (v.new_outs j p there).0);
         nothing_taken = all_empty taken_by e.ins.items (λ j i there. (v.new_ins j i there).1);
       }
 

@@ -21,5 +21,5 @@ abbrev pub carried_of : Item → Carried
 carried_of item = record { item = signed_by blank item }
 
 -- the item that came from this rank
-abbrev pub item_of : WorldRank → Carried → Item
-item_of source carried = signed_by source carried.item
+abbrev pub item_from : WorldRank → Carried → Item
+item_from source carried = signed_by source carried.item

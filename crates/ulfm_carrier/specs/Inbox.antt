@@ -5,7 +5,7 @@ use lib.ListN.{get_elem?}
 use Rattle.crossbeam_queue.specs.Passes.{Pass}
 use Rattle.ulfm_base.specs.declared.rank.WorldRank.{WorldRank}
 use Rattle.ulfm_base.specs.declared.item.Item.{Item}
-use Rattle.ulfm_carrier.specs.declared.inbox.View.{View}
+use Rattle.ulfm_carrier.specs.declared.inbox.PassView.{PassView}
 use Rattle.ulfm_base.specs.Items.{items_from, ComesFrom}
 use Rattle.ulfm_base.specs.Lists.{at}
 use Rattle.ulfm_carrier.specs.declared.inbox.Role.TheVariants as role
@@ -16,57 +16,57 @@ Signed = WorldRank × Item
 
 -- a pass of an inbox
 abbrev pub InboxPass : Type 0
-InboxPass = Pass Signed View
+InboxPass = Pass Signed PassView
 
 -- the receiver, before any sender is made
-abbrev pub receiver : View
+abbrev pub receiver : PassView
 receiver = record { role = role.Receiver; from = 0; pushed = []; made = 0; taken = []; receipts = [] }
 
 -- a spent view
-abbrev pub spent : View
+abbrev pub spent : PassView
 spent = record { role = role.Spent; from = 0; pushed = []; made = 0; taken = []; receipts = [] }
 
 -- of each sender: it wasn't made, it has closed, or the number of its pass
-abbrev pub Seats : Type 0
-Seats = ℕ → Option (Option ℕ)
+abbrev pub SenderPasses : Type 0
+SenderPasses = ℕ → Option (Option ℕ)
 
 -- what is told of closed senders is what they pushed
-abbrev pub AreClosed : Seats → (ℕ → List Item) → List (ℕ × List Item) → Type 0
-AreClosed seat pushed receipts = (k p : ℕ) (l : List Item) → at receipts k (p, l) → (seat p ≡ Some None) × (l ≡ pushed p)
+abbrev pub AreClosed : SenderPasses → (ℕ → List Item) → List (ℕ × List Item) → Type 0
+AreClosed pass_of pushed receipts = (k p : ℕ) (l : List Item) → at receipts k (p, l) → (pass_of p ≡ Some None) × (l ≡ pushed p)
 
 -- what a sender knows, whose pass has this number
-abbrev pub Sends : Seats → (ℕ → List Item) → ℕ → View → Type 0
-Sends seat pushed pass v = (seat v.from ≡ Some (Some pass)) × (v.pushed ≡ pushed v.from)
+abbrev pub Sends : SenderPasses → (ℕ → List Item) → ℕ → PassView → Type 0
+Sends pass_of pushed pass v = (pass_of v.from ≡ Some (Some pass)) × (v.pushed ≡ pushed v.from)
 
 -- what the receiver, which is one pass, knows: what was taken, which senders were made, and what closed ones pushed
-abbrev pub Receives : ℕ → Seats → (ℕ → List Item) → List Signed → ℕ → View → Type 0
-Receives reader seat pushed taken pass v = (pass ≡ reader) × (v.taken ≡ taken) × ((p : ℕ) → v.made ≤ p → (seat p ≡ None) × (pushed p ≡ [])) × AreClosed seat pushed v.receipts
+abbrev pub Receives : ℕ → SenderPasses → (ℕ → List Item) → List Signed → ℕ → PassView → Type 0
+Receives reader pass_of pushed taken pass v = (pass ≡ reader) × (v.taken ≡ taken) × ((p : ℕ) → v.made ≤ p → (pass_of p ≡ None) × (pushed p ≡ [])) × AreClosed pass_of pushed v.receipts
 
 -- What the pass of this number knows is so: a sender and its receipt what it pushed; the receiver what it took; an
 -- owner both. Of a spent view nothing is asked.
-pub record KnowsTruly (reader : ℕ) (seat : Seats) (pushed : ℕ → List Item) (taken : List Signed) (pass : ℕ) (v : View) : Type 0 where
-  pub sends : v.role ≡ role.Sender → Sends seat pushed pass v
-  pub tells : v.role ≡ role.Receipt → (seat v.from ≡ Some None) × (v.pushed ≡ pushed v.from)
-  pub receives : v.role ≡ role.Receiver → Receives reader seat pushed taken pass v
-  pub owns : v.role ≡ role.Owner → Sends seat pushed pass v × Receives reader seat pushed taken pass v
+pub record KnowsTruly (reader : ℕ) (pass_of : SenderPasses) (pushed : ℕ → List Item) (taken : List Signed) (pass : ℕ) (v : PassView) : Type 0 where
+  pub sends : v.role ≡ role.Sender → Sends pass_of pushed pass v
+  pub tells : v.role ≡ role.Receipt → (pass_of v.from ≡ Some None) × (v.pushed ≡ pushed v.from)
+  pub receives : v.role ≡ role.Receiver → Receives reader pass_of pushed taken pass v
+  pub owns : v.role ≡ role.Owner → Sends pass_of pushed pass v × Receives reader pass_of pushed taken pass v
 
 -- What each sender pushed is, in order, what was taken of it and then what is held of it. A letter's source is the
 -- sender that it is held with.
-pub record InboxRule (held : List Signed) (views : List View) : Type 0 where
+pub record InboxRule (held : List Signed) (views : List PassView) : Type 0 where
   pub reader : ℕ
-  pub seat : Seats
+  pub pass_of : SenderPasses
   pub pushed : ℕ → List Item
   pub taken : List Signed
   pub flows : (p : ℕ) → pushed p ≡ items_from p (taken ++ held)
   pub sources : (k : ℕ) (x : Signed) → at held k x → ComesFrom x.0.number x.1
-  pub fits : (pass : ℕ) (v : View) → get_elem? views pass ≡ some v → KnowsTruly reader seat pushed taken pass v
+  pub fits : (pass : ℕ) (v : PassView) → get_elem? views pass ≡ some v → KnowsTruly reader pass_of pushed taken pass v
 
 -- What an owner pushed is what it took of itself and then what is held of it. Nothing was taken or is held of a sender
 -- that it didn't make.
-pub record OwnIsTakenAndHeld (v : View) (held : List Signed) : Type 0 where
+pub record OwnIsTakenAndHeld (v : PassView) (held : List Signed) : Type 0 where
   pub own : v.pushed ≡ items_from v.from (v.taken ++ held)
   pub no_others : (p : ℕ) → v.made ≤ p → items_from p (v.taken ++ held) ≡ []
 
 -- what each closed sender pushed is what was taken of it and then what is held of it
-abbrev pub ReceiptsAreTakenAndHeld : View → List Signed → Type 0
+abbrev pub ReceiptsAreTakenAndHeld : PassView → List Signed → Type 0
 ReceiptsAreTakenAndHeld v held = (k p : ℕ) (l : List Item) → at v.receipts k (p, l) → l ≡ items_from p (v.taken ++ held)

@@ -12,7 +12,7 @@ use Rattle.ulfm_carrier.specs.declared.inlet.Inlet.{Inlet}
 use Rattle.ulfm_carrier.specs.declared.lane_ends.RingName.{RingName}
 use Rattle.ulfm_carrier.specs.declared.lane_ends.LaneName.{LaneName}
 use Rattle.ulfm_carrier.specs.declared.lane_ends.LaneEnds.{LaneEnds}
-use Rattle.ulfm_carrier.specs.Carried.{item_of}
+use Rattle.ulfm_carrier.specs.Carried.{item_from}
 use Rattle.ulfm_carrier.specs.Family.{shown}
 use Rattle.ulfm_base.specs.Lists.{at}
 
@@ -38,11 +38,11 @@ inlet_name i = reader_name i.ring
 
 -- what a rank pushed into a ring
 abbrev pub pushed_into : WorldRank → Outlet → List Item
-pushed_into me outlet = map (item_of me) (sent outlet)
+pushed_into me outlet = map (item_from me) (sent outlet)
 
 -- what was popped from a ring
 abbrev pub taken_by : Inlet → List Item
-taken_by i = map (item_of i.source) (shown i.gathered (received i.ring))
+taken_by i = map (item_from i.source) (shown i.gathered (received i.ring))
 
 -- how many items the ring has room for
 abbrev pub inlet_capacity : Inlet → ℕ

@@ -1,6 +1,6 @@
 -- What invariants, private functions and proofs cite of ends.
 pub mod Wiring
 pub mod Tagged
-pub mod Seating
+pub mod SharedWiring
 pub mod Passes
 pub mod Emptying

@@ -1,6 +1,6 @@
 //! Items without their source.
 ghost use Rattle.std.specs.Prelude.{◌≡◌};
-ghost use Rattle.ulfm_carrier.specs.Carried.{signed_by, carried_of, item_of};
+ghost use Rattle.ulfm_carrier.specs.Carried.{signed_by, carried_of, item_from};
 
 use ulfm_base::{Item, WorldRank};
 
@@ -25,7 +25,7 @@ impl Carried {
 
     /// The item that this is, where it came from a rank.
     pub fn from(self, source: WorldRank) -> Item
-        ensures { result ≡ item_of source self }
+        ensures { result ≡ item_from source self }
     {
         let mut item = self.item;
         sign(&mut item, source);

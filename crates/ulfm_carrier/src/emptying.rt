@@ -13,7 +13,7 @@ ghost use Rattle.ulfm_carrier.specs.inside.Passes.{in_role, after_receipt};
 ghost use Rattle.ulfm_carrier.specs.inside.Emptying.{HasAllReceipts, with_outs, with_inlet, AreOpenFrom};
 ghost use Rattle.ulfm_carrier.specs.Shared.{pass_name, pushed_with, shared_name, shared_pushed, shared_taken, HasPasses, MaySend, IsReceiver, IsReady, OneCall};
 
-use crate::inbox::{Inbox, InboxPass, close, hear, take_all};
+use crate::inbox::{InboxPass, SharedInbox, close, hear, take_all};
 use crate::residue::Residue;
 use crate::shared_ends::SharedEnds;
 use std::mem;
@@ -73,7 +73,7 @@ impl SharedEnds {
         ensures queue { (out : Pass) → at self.old.outs.items dest out → (result.table_id ≡ out.table_id) × (result.me.1 ≡ []) }
         ensures receipt { ((view result).role ≡ role.Receipt) × ((view result).from ≡ self.old.me.number) × ((view result).pushed ≡ shared_pushed self.old dest) }
     {
-        let inbox: &Inbox = &self.inboxes[dest];
+        let inbox: &SharedInbox = &self.inboxes[dest];
         close(inbox, &mut self.outs[dest])
     }
 
@@ -86,7 +86,7 @@ impl SharedEnds {
         ensures inlet { IsSamePass self.old.inlet self.new.inlet }
         ensures receipts { view self.new.inlet ≡ after_receipt (view self.old.inlet) (view receipt) }
     {
-        let inbox: &Inbox = &self.inboxes[self.me.number as usize];
+        let inbox: &SharedInbox = &self.inboxes[self.me.number as usize];
         hear(inbox, &mut self.inlet, receipt);
     }
 
@@ -103,7 +103,7 @@ impl SharedEnds {
     {
         let alloc = *self.left.allocator();
         let mut left = mem::replace(&mut self.left, Vec::new(alloc));
-        let inbox: &Inbox = &self.inboxes[self.me.number as usize];
+        let inbox: &SharedInbox = &self.inboxes[self.me.number as usize];
         take_all(rt, inbox, &mut self.inlet, &mut left);
         self.gathered = Some(left.len());
         left

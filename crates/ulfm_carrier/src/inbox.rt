@@ -27,7 +27,7 @@ pub enum Role {
 }
 
 /// What a pass of an inbox knows. No value of it is made.
-pub struct View {
+pub struct PassView {
     pub role: Role,
     /// A sender's number.
     pub from: u8,
@@ -44,7 +44,7 @@ pub struct View {
 /// The rule of an inbox: what a sender pushed is what was taken of it and then what is held of it.
 pub struct InOrder;
 
-impl Protocol<(WorldRank, Item), View> for InOrder {
+impl Protocol<(WorldRank, Item), PassView> for InOrder {
     ghost use Rattle.ulfm_carrier.specs.Inbox.{InboxRule, receiver};
 
     ghost holds = { InboxRule };
@@ -53,21 +53,21 @@ impl Protocol<(WorldRank, Item), View> for InOrder {
 }
 
 /// An inbox under its rule.
-pub type Inbox = RuledArrayQueue<(WorldRank, Item), View, InOrder>;
+pub type SharedInbox = RuledArrayQueue<(WorldRank, Item), PassView, InOrder>;
 
 /// A pass of an inbox, of a sender or of the receiver. It has no bytes.
-pub type InboxPass = Pass<(WorldRank, Item), View>;
+pub type InboxPass = Pass<(WorldRank, Item), PassView>;
 
 struct Pushes;
 
-impl Outcome<(WorldRank, Item), View> for Pushes {
+impl Outcome<(WorldRank, Item), PassView> for Pushes {
     ghost use Rattle.ulfm_carrier.specs.inside.Passes.{after_push};
 
     ghost then = { λ v x w. w ≡ after_push v x.1 };
 }
 
 // A sender alone learns nothing of what the inbox holds.
-impl Lesson<(WorldRank, Item), View> for Pushes {
+impl Lesson<(WorldRank, Item), PassView> for Pushes {
     ghost use Rattle.std.specs.Prelude.{⊤};
 
     ghost fact = { λ v held. ⊤ };
@@ -75,13 +75,13 @@ impl Lesson<(WorldRank, Item), View> for Pushes {
 
 struct Takes;
 
-impl Outcome<(WorldRank, Item), View> for Takes {
+impl Outcome<(WorldRank, Item), PassView> for Takes {
     ghost use Rattle.ulfm_carrier.specs.inside.Passes.{TakesOne};
 
     ghost then = { TakesOne };
 }
 
-impl Lesson<(WorldRank, Item), View> for Takes {
+impl Lesson<(WorldRank, Item), PassView> for Takes {
     ghost use Rattle.ulfm_carrier.specs.Inbox.{ReceiptsAreTakenAndHeld};
 
     ghost fact = { ReceiptsAreTakenAndHeld };
@@ -89,7 +89,7 @@ impl Lesson<(WorldRank, Item), View> for Takes {
 
 struct Makes;
 
-impl Split<View> for Makes {
+impl Split<PassView> for Makes {
     ghost use Rattle.ulfm_carrier.specs.inside.Passes.{one_more, sender};
 
     ghost left = { one_more };
@@ -99,7 +99,7 @@ impl Split<View> for Makes {
 
 struct Closes;
 
-impl Split<View> for Closes {
+impl Split<PassView> for Closes {
     ghost use Rattle.ulfm_carrier.specs.inside.Passes.{in_role};
     ghost use Rattle.ulfm_carrier.specs.declared.inbox.Role.TheVariants as role;
 
@@ -110,7 +110,7 @@ impl Split<View> for Closes {
 
 struct Tells;
 
-impl Join<View> for Tells {
+impl Join<PassView> for Tells {
     ghost use Rattle.ulfm_carrier.specs.inside.Passes.{after_receipt};
     ghost use Rattle.ulfm_carrier.specs.Inbox.{spent};
 
@@ -120,15 +120,18 @@ impl Join<View> for Tells {
 }
 
 /// An empty inbox, and the pass of its receiver.
-pub(crate) fn new_inbox(alloc: Global, capacity: usize) -> Result<(Inbox, InboxPass), AllocError>
+pub(crate) fn new_inbox(
+    alloc: Global,
+    capacity: usize,
+) -> Result<(SharedInbox, InboxPass), AllocError>
     requires { 0 < capacity }
     ensures { IfOk result (λ made. (ruled_capacity made.0 ≡ capacity) × IsPassOf made.0 made.1 × (view made.1 ≡ receiver)) }
 {
-    Inbox::ruled(alloc, capacity)
+    SharedInbox::ruled(alloc, capacity)
 }
 
 /// The pass of the next sender.
-pub(crate) fn next_sender(inbox: &Inbox, inlet: &mut InboxPass) -> InboxPass
+pub(crate) fn next_sender(inbox: &SharedInbox, inlet: &mut InboxPass) -> InboxPass
     requires { IsPassOf inbox.now inlet.old × ((view inlet.old).role ≡ role.Receiver) }
     ensures inlet { IsSamePass inlet.old inlet.new × (view inlet.new ≡ one_more (view inlet.old)) }
     ensures out { IsPassOf inbox.now result × (view result ≡ sender (view inlet.old).made) }
@@ -139,7 +142,7 @@ pub(crate) fn next_sender(inbox: &Inbox, inlet: &mut InboxPass) -> InboxPass
 /// Pushes an item.
 pub(crate) fn send<R: Wait>(
     rt: &R,
-    inbox: &Inbox,
+    inbox: &SharedInbox,
     out: &mut InboxPass,
     source: WorldRank,
     item: Item,
@@ -158,7 +161,7 @@ pub(crate) fn send<R: Wait>(
 
 /// Takes the oldest item. None is found only where at one step of the call the inbox was empty, so that all that closed
 /// senders pushed was taken.
-fn receive<R: Wait>(rt: &R, inbox: &Inbox, inlet: &mut InboxPass) -> Option<(WorldRank, Item)>
+fn receive<R: Wait>(rt: &R, inbox: &SharedInbox, inlet: &mut InboxPass) -> Option<(WorldRank, Item)>
     requires { IsPassOf inbox.now inlet.old × ((view inlet.old).role ≡ role.Receiver) }
     ensures inlet { IsSamePass inlet.old inlet.new }
     ensures taken { MatchOption result ((view inlet.new ≡ view inlet.old) × Held 0 (ReceiptsAreTakenAndHeld (view inlet.old)))
@@ -168,7 +171,7 @@ fn receive<R: Wait>(rt: &R, inbox: &Inbox, inlet: &mut InboxPass) -> Option<(Wor
 }
 
 /// A sender closes: what is left of it.
-pub(crate) fn close(inbox: &Inbox, out: &mut InboxPass) -> InboxPass
+pub(crate) fn close(inbox: &SharedInbox, out: &mut InboxPass) -> InboxPass
     requires { IsPassOf inbox.now out.old × ((view out.old).role ≡ role.Sender) }
     ensures out { IsSamePass out.old out.new × (view out.new ≡ in_role role.Spent (view out.old)) }
     ensures receipt { IsPassOf inbox.now result × (view result ≡ in_role role.Receipt (view out.old)) }
@@ -177,7 +180,7 @@ pub(crate) fn close(inbox: &Inbox, out: &mut InboxPass) -> InboxPass
 }
 
 /// The receiver is told what a closed sender pushed.
-pub(crate) fn hear(inbox: &Inbox, inlet: &mut InboxPass, receipt: InboxPass)
+pub(crate) fn hear(inbox: &SharedInbox, inlet: &mut InboxPass, receipt: InboxPass)
     requires inlet { IsPassOf inbox.now inlet.old × ((view inlet.old).role ≡ role.Receiver) }
     requires receipt { IsPassOf inbox.now receipt × ((view receipt).role ≡ role.Receipt) }
     ensures inlet { IsSamePass inlet.old inlet.new }
@@ -189,7 +192,7 @@ pub(crate) fn hear(inbox: &Inbox, inlet: &mut InboxPass, receipt: InboxPass)
 /// Takes all that the inbox holds, once all its senders have closed.
 pub(crate) fn take_all<R: Wait>(
     rt: &R,
-    inbox: &Inbox,
+    inbox: &SharedInbox,
     inlet: &mut InboxPass,
     left: &mut Vec<(WorldRank, Item)>,
 )

@@ -18,7 +18,7 @@ pub(crate) struct Inlet {
 
 impl Inlet {
     ghost use Rattle.ulfm_base.specs.Items.{ComesFrom};
-    ghost use Rattle.ulfm_carrier.specs.Carried.{item_of};
+    ghost use Rattle.ulfm_carrier.specs.Carried.{item_from};
     ghost use Rattle.ulfm_carrier.specs.Lanes.{inlet_name, reader_name, outlet_name, inlet_capacity, taken_by, pushed_into, seen_in};
     ghost use Rattle.ulfm_carrier.specs.inside.Tagged.{with_sender};
 
@@ -52,7 +52,7 @@ impl Inlet {
         ensures same { (self.new.source ≡ self.old.source) × (self.new.gathered ≡ None) × (taken_by self.new ≡ taken_by self.old) }
         ensures out { (outlet_name out.new ≡ outlet_name out.old) × (sent out.new ≡ sent out.old) × (known_free out.old ≤ known_free out.new) }
         ensures found { IsTrue result ↔ (0 < length (seen_in self.new)) }
-        ensures all { pushed_into self.old.source out.old ≡ taken_by self.old ++ map (item_of self.old.source) (seen_in self.new) }
+        ensures all { pushed_into self.old.source out.old ≡ taken_by self.old ++ map (item_from self.old.source) (seen_in self.new) }
     {
         self.ring.slots_beside(out) > 0
     }

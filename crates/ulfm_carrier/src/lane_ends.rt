@@ -46,7 +46,7 @@ pub struct LaneEnds {
 
 impl LaneEnds {
     ghost use Rattle.ulfm_base.specs.Items.{ComesFrom};
-    ghost use Rattle.ulfm_carrier.specs.Carried.{item_of};
+    ghost use Rattle.ulfm_carrier.specs.Carried.{item_from};
     ghost use Rattle.ulfm_carrier.specs.Lanes.{lane_name, lane_pushed, lane_taken, known_room, seen_from, IsReady, IsFoundInTurn};
 
     /// `push` without an `rt`, so it waits for nobody.
@@ -115,7 +115,7 @@ impl LaneEnds {
         ensures name { (lane_name self.new ≡ lane_name self.old) × (self.new.me ≡ self.old.me) × (vec_len self.new.outs ≡ vec_len self.old.outs) × IsReady self.new }
         ensures next { self.new.next ≡ self.old.next }
         ensures found { IsTrue result ↔ (0 < length (seen_from self.new peer)) }
-        ensures own { peer ≡ self.old.me.number → lane_pushed self.new peer ≡ lane_taken self.new peer ++ map (item_of self.old.me) (seen_from self.new peer) }
+        ensures own { peer ≡ self.old.me.number → lane_pushed self.new peer ≡ lane_taken self.new peer ++ map (item_from self.old.me) (seen_from self.new peer) }
         ensures others_seen { (p : ℕ) → p ≢ peer → seen_from self.new p ≡ seen_from self.old p }
         ensures taken { (p : ℕ) → lane_taken self.new p ≡ lane_taken self.old p }
         ensures pushed { (p : ℕ) → lane_pushed self.new p ≡ lane_pushed self.old p }
@@ -135,7 +135,7 @@ impl LaneEnds {
         ensures name { (lane_name self.new ≡ lane_name self.old) × (self.new.me ≡ self.old.me) × (vec_len self.new.outs ≡ vec_len self.old.outs) × IsReady self.new }
         ensures next { self.new.next ≡ self.old.next }
         ensures found { IsTrue result ↔ (0 < length (seen_from self.new self.old.me.number)) }
-        ensures own { lane_pushed self.new self.old.me.number ≡ lane_taken self.new self.old.me.number ++ map (item_of self.old.me) (seen_from self.new self.old.me.number) }
+        ensures own { lane_pushed self.new self.old.me.number ≡ lane_taken self.new self.old.me.number ++ map (item_from self.old.me) (seen_from self.new self.old.me.number) }
         ensures others_seen { (p : ℕ) → p ≢ self.old.me.number → seen_from self.new p ≡ seen_from self.old p }
         ensures taken { (p : ℕ) → lane_taken self.new p ≡ lane_taken self.old p }
         ensures pushed { (p : ℕ) → lane_pushed self.new p ≡ lane_pushed self.old p }

@@ -11,15 +11,15 @@ mod inlet;
 mod lane_ends;
 mod own_inbox;
 mod residue;
-mod seating;
 mod shared_ends;
+mod shared_wiring;
 mod wiring;
 
 pub use carried::Carried;
 pub use ends::Ends;
-pub use inbox::{InOrder, Inbox, InboxPass, Role, View};
+pub use inbox::{InOrder, InboxPass, PassView, Role, SharedInbox};
 pub use lane_ends::{LaneEnds, LaneName, RingName};
 pub use residue::Residue;
-pub use seating::shared;
 pub use shared_ends::{SharedEnds, SharedName};
+pub use shared_wiring::shared;
 pub use wiring::lanes;

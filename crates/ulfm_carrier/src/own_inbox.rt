@@ -7,20 +7,20 @@ ghost use Rattle.ulfm_carrier.specs.inside.Passes.{in_role, owner, returned, Tak
 ghost use Rattle.ulfm_carrier.specs.Inbox.{OwnIsTakenAndHeld};
 ghost use Rattle.ulfm_carrier.specs.declared.inbox.Role.TheVariants as role;
 
-use crate::inbox::{Inbox, InboxPass, View};
+use crate::inbox::{InboxPass, PassView, SharedInbox};
 use crossbeam_queue::protocol::{Join, Lesson, Outcome, Split};
 use std::sync::Wait;
 use ulfm_base::{Item, WorldRank};
 
 struct PushesOwn;
 
-impl Outcome<(WorldRank, Item), View> for PushesOwn {
+impl Outcome<(WorldRank, Item), PassView> for PushesOwn {
     ghost use Rattle.ulfm_carrier.specs.inside.Passes.{after_push};
 
     ghost then = { λ v x w. w ≡ after_push v x.1 };
 }
 
-impl Lesson<(WorldRank, Item), View> for PushesOwn {
+impl Lesson<(WorldRank, Item), PassView> for PushesOwn {
     ghost use Rattle.ulfm_carrier.specs.Inbox.{OwnIsTakenAndHeld};
 
     ghost fact = { OwnIsTakenAndHeld };
@@ -28,13 +28,13 @@ impl Lesson<(WorldRank, Item), View> for PushesOwn {
 
 struct TakesOwn;
 
-impl Outcome<(WorldRank, Item), View> for TakesOwn {
+impl Outcome<(WorldRank, Item), PassView> for TakesOwn {
     ghost use Rattle.ulfm_carrier.specs.inside.Passes.{TakesOne};
 
     ghost then = { TakesOne };
 }
 
-impl Lesson<(WorldRank, Item), View> for TakesOwn {
+impl Lesson<(WorldRank, Item), PassView> for TakesOwn {
     ghost use Rattle.ulfm_carrier.specs.Inbox.{OwnIsTakenAndHeld};
 
     ghost fact = { OwnIsTakenAndHeld };
@@ -42,7 +42,7 @@ impl Lesson<(WorldRank, Item), View> for TakesOwn {
 
 struct Lends;
 
-impl Split<View> for Lends {
+impl Split<PassView> for Lends {
     ghost use Rattle.ulfm_carrier.specs.inside.Passes.{in_role};
     ghost use Rattle.ulfm_carrier.specs.declared.inbox.Role.TheVariants as role;
 
@@ -53,7 +53,7 @@ impl Split<View> for Lends {
 
 struct Owns;
 
-impl Join<View> for Owns {
+impl Join<PassView> for Owns {
     ghost use Rattle.ulfm_carrier.specs.inside.Passes.{owner};
     ghost use Rattle.ulfm_carrier.specs.Inbox.{spent};
 
@@ -64,7 +64,7 @@ impl Join<View> for Owns {
 
 struct Parts;
 
-impl Split<View> for Parts {
+impl Split<PassView> for Parts {
     ghost use Rattle.ulfm_carrier.specs.inside.Passes.{in_role};
     ghost use Rattle.ulfm_carrier.specs.declared.inbox.Role.TheVariants as role;
 
@@ -75,7 +75,7 @@ impl Split<View> for Parts {
 
 struct Returns;
 
-impl Join<View> for Returns {
+impl Join<PassView> for Returns {
     ghost use Rattle.ulfm_carrier.specs.inside.Passes.{returned};
     ghost use Rattle.ulfm_carrier.specs.Inbox.{spent};
 
@@ -85,7 +85,7 @@ impl Join<View> for Returns {
 }
 
 /// A rank's own sender has the receiver's pass too.
-fn unite(inbox: &Inbox, own: &mut InboxPass, inlet: &mut InboxPass)
+fn unite(inbox: &SharedInbox, own: &mut InboxPass, inlet: &mut InboxPass)
     requires own { IsPassOf inbox.now own.old × ((view own.old).role ≡ role.Sender) }
     requires inlet { IsPassOf inbox.now inlet.old × ((view inlet.old).role ≡ role.Receiver) }
     ensures own { IsSamePass own.old own.new × (view own.new ≡ owner (view own.old) (view inlet.old)) }
@@ -96,7 +96,7 @@ fn unite(inbox: &Inbox, own: &mut InboxPass, inlet: &mut InboxPass)
 }
 
 /// A rank's own sender gives the receiver's pass back.
-fn divide(inbox: &Inbox, own: &mut InboxPass, inlet: &mut InboxPass)
+fn divide(inbox: &SharedInbox, own: &mut InboxPass, inlet: &mut InboxPass)
     requires own { IsPassOf inbox.now own.old × ((view own.old).role ≡ role.Owner) }
     requires inlet { IsPassOf inbox.now inlet.old × ((view inlet.old).role ≡ role.Spent) }
     ensures own { IsSamePass own.old own.new × (view own.new ≡ in_role role.Sender (view own.old)) }
@@ -110,7 +110,7 @@ fn divide(inbox: &Inbox, own: &mut InboxPass, inlet: &mut InboxPass)
 /// of other ranks, can fill the inbox.
 pub(crate) fn send_own<R: Wait>(
     rt: &R,
-    inbox: &Inbox,
+    inbox: &SharedInbox,
     own: &mut InboxPass,
     inlet: &mut InboxPass,
     source: WorldRank,
@@ -136,7 +136,7 @@ pub(crate) fn send_own<R: Wait>(
 /// Takes the oldest item out of the rank's own inbox. None is found only where all that it had pushed to itself was taken.
 pub(crate) fn receive_own<R: Wait>(
     rt: &R,
-    inbox: &Inbox,
+    inbox: &SharedInbox,
     own: &mut InboxPass,
     inlet: &mut InboxPass,
 ) -> Option<(WorldRank, Item)>

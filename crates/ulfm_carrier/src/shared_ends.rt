@@ -3,7 +3,7 @@ ghost use Rattle.std.specs.Prelude.{◌≡◌};
 
 use crate::emptying::gather_shared;
 use crate::ends::Ends;
-use crate::inbox::{Inbox, InboxPass, send};
+use crate::inbox::{InboxPass, SharedInbox, send};
 use crate::own_inbox::{receive_own, send_own};
 use crate::residue::Residue;
 use std::collections::LinkedList;
@@ -24,7 +24,7 @@ pub struct SharedName {
 #[derive(Drop)]
 pub struct SharedEnds {
     pub(crate) me: WorldRank,
-    pub(crate) inboxes: Arc<Vec<Inbox>>,
+    pub(crate) inboxes: Arc<Vec<SharedInbox>>,
     /// The sender's pass of each inbox.
     pub(crate) outs: Vec<InboxPass>,
     /// The receiver's pass of the rank's own inbox.
@@ -79,7 +79,7 @@ impl Ends for SharedEnds {
         ensures own { OnErr result (dest ≡ self.old.me.number → Held (inbox_capacity self.old dest) (OwnIsTakenAndHeldAt self.old)) }
         ensures inboxes { self.new.inboxes ≡ self.old.inboxes }
     {
-        let inbox: &Inbox = &self.inboxes[dest as usize];
+        let inbox: &SharedInbox = &self.inboxes[dest as usize];
         let out = &mut self.outs[dest as usize];
         if dest == self.me.number {
             return send_own(rt, inbox, out, &mut self.inlet, self.me, item);
@@ -100,7 +100,7 @@ impl Ends for SharedEnds {
         ensures no_others { IfNone result ((p : ℕ) → vec_len self.old.outs ≤ p → shared_taken self.old p ≡ []) }
         ensures inboxes { self.new.inboxes ≡ self.old.inboxes }
     {
-        let inbox: &Inbox = &self.inboxes[self.me.number as usize];
+        let inbox: &SharedInbox = &self.inboxes[self.me.number as usize];
         let own = &mut self.outs[self.me.number as usize];
         receive_own(rt, inbox, own, &mut self.inlet)
     }

@@ -4,7 +4,7 @@ use crate::rules::Key;
 use std::fmt;
 
 /// Why a step will be refused.
-#[derive(Clone, Copy, Debug)]
+#[derive(Clone, Copy)]
 pub enum Doom {
     /// A rank past those of the world, which has so many.
     PastRanks(Key, i64, u8),

@@ -65,14 +65,20 @@ impl<'a> Placed<'a> {
 
     /// Whether its rank stops before it, whatever happens.
     pub fn is_after_stop(&self) -> bool {
-        let mut of_rank = self
-            .steps
-            .iter()
-            .filter(|step| rank_of(*step) == Some(self.rank));
-        of_rank
-            .by_ref()
-            .take(self.number)
-            .any(|step| op_of(step) == Some("stop") && !has_condition(step))
+        let mut left = self.number;
+        for step in self.steps {
+            if rank_of(step) != Some(self.rank) {
+                continue;
+            }
+            if left == 0 {
+                return false;
+            }
+            left -= 1;
+            if is_sure_stop(step) {
+                return true;
+            }
+        }
+        false
     }
 
     /// Why it will be refused, if it surely will.
@@ -201,4 +207,9 @@ impl<'a> Placed<'a> {
         }
         None
     }
+}
+
+/// Whether a step is a stop that is never skipped.
+fn is_sure_stop(step: &Value) -> bool {
+    op_of(step) == Some("stop") && !has_condition(step)
 }

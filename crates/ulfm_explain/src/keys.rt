@@ -29,10 +29,11 @@ impl Sheet<'_> {
 
     /// Where a key begins, or the key within which the table stands.
     fn place_of(&self, findings: &Findings<'_>, key: &str) -> Option<usize> {
-        match self.within {
-            Some(within) => findings.place_of(self.in_file(), within.name()),
-            None => findings.place_of(self.in_file(), key),
-        }
+        let name = match self.within {
+            Some(within) => within.name(),
+            None => key,
+        };
+        findings.place_of(self.in_file(), name)
     }
 
     /// Tells what is missing or of a wrong kind, then what is unknown, then what is out of range.

@@ -51,7 +51,12 @@ fn name_of(step: &Value) -> Option<&str> {
 /// The op of a step, if it is known.
 pub fn op_of(step: &Value) -> Option<&'static str> {
     let op = text_at(step.as_table()?, Key::Op)?;
-    OPS.iter().copied().find(|known| *known == op)
+    for known in &OPS {
+        if *known == op {
+            return Some(*known);
+        }
+    }
+    None
 }
 
 /// Whether a step has a condition.

@@ -51,20 +51,35 @@ fn unmet_of(alloc: Global, table: &Table, trace: &str) -> Result<String, AllocEr
 /// What the step of a line expects, where its answer isn't that.
 fn expected_of<'a>(steps: &'a [Value], line: &str) -> Option<&'a [Value]> {
     let (words, answer) = line.split_once(": ")?;
-    let mut words = words.split(' ');
-    let rank: i64 = words.next()?.parse().ok()?;
-    let number: usize = words.next()?.parse().ok()?;
-    let script = Script { steps, rank };
-    let expected = script
-        .step(number)?
-        .as_table()?
-        .get("expect")?
-        .as_array()?
-        .as_slice();
-    if answer == "skipped" || expected.iter().any(|words| is_begun(answer, words)) {
+    let expected = expectation_of(step_of(steps, words)?)?;
+    if answer == "skipped" || is_met(answer, expected) {
         return None;
     }
     Some(expected)
+}
+
+/// The step that the words before an answer name: its rank, and its number there.
+fn step_of<'a>(steps: &'a [Value], words: &str) -> Option<&'a Value> {
+    let mut words = words.split(' ');
+    let rank: i64 = words.next()?.parse().ok()?;
+    let number: usize = words.next()?.parse().ok()?;
+    Script { steps, rank }.step(number)
+}
+
+/// The words one of which a step's answer has to begin with.
+fn expectation_of(step: &Value) -> Option<&[Value]> {
+    let expected = step.as_table()?.get("expect")?.as_array()?;
+    Some(expected.as_slice())
+}
+
+/// Whether an answer begins with one of these words.
+fn is_met(answer: &str, expected: &[Value]) -> bool {
+    for words in expected {
+        if is_begun(answer, words) {
+            return true;
+        }
+    }
+    false
 }
 
 /// Whether an answer begins with the words of a value.
@@ -77,16 +92,27 @@ fn is_begun(answer: &str, words: &Value) -> bool {
 
 /// The line on an answer that isn't as expected, by its line in a trace.
 fn note_on(alloc: Global, line: &str, expected: &[Value]) -> Result<String, AllocError> {
-    let (step, answer) = line.split_once(": ").unwrap_or((line, ""));
-    let (rank, rest) = step.split_once(' ').unwrap_or((step, ""));
-    let (number, words) = rest.split_once(' ').unwrap_or((rest, ""));
+    let (step, answer) = halves(line, ": ");
+    let (rank, rest) = halves(step, " ");
+    let (number, words) = halves(rest, " ");
     let mut note = format!(in alloc; "rank {rank} step {number}: {words}: expected")?;
+    push_expected(&mut note, expected)?;
+    write!(note, ", and its answer is '{answer}'\n")?;
+    Ok(note)
+}
+
+/// What stands before a mark, and what behind it; nothing behind it where it isn't there.
+fn halves<'a>(text: &'a str, mark: &str) -> (&'a str, &'a str) {
+    text.split_once(mark).unwrap_or((text, ""))
+}
+
+/// Adds the words one of which an answer has to begin with.
+fn push_expected(note: &mut String, expected: &[Value]) -> Result<(), AllocError> {
     let mut mark = "";
     for value in expected {
         let text = value.as_str().unwrap_or("");
         write!(note, "{mark} '{text}'")?;
         mark = " or";
     }
-    write!(note, ", and its answer is '{answer}'\n")?;
-    Ok(note)
+    Ok(())
 }

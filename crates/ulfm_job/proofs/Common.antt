@@ -5,7 +5,7 @@ pub use Rattle.std.specs.Str.{IsUtf8, bytes_eq, is_utf8}
 pub use Rattle.toml.specs.Parse.{parse_document}
 pub use Rattle.toml.specs.View.{items_view, members_view, table_view, view}
 pub use Rattle.toml.specs.declared.value.Value.{Value}
-pub use Rattle.ulfm_job.specs.Job.{IsJob, Seen, lists_of, moved_on, script_at, seen_of, step_count, stopped_at, with_stop}
+pub use Rattle.ulfm_job.specs.Job.{IsJob, JobView, lists_of, moved_on, script_at, job_view, step_count, stopped_at, with_stop}
 pub use Rattle.ulfm_job.specs.Keys.{is_among, items_len, keys_of, ◌>>=◌}
 pub use Rattle.ulfm_job.specs.Plan.{Order, Plan, PlannedStep, order_of}
 pub use Rattle.ulfm_job.specs.declared.fault.JobFault.{JobFault}

@@ -1,6 +1,6 @@
 -- A job with one more stop.
 use Rattle.std.proofs.Common.{◌≡◌, ◌≢◌, ℕ, ◌+◌, ◌<◌, ◌≤◌, List, length, map, set, Vec, Global, sym, ap, ap₂, ◌∙◌, arith}
-use Rattle.ulfm_job.proofs.Common.{Clause, Step, Seen, IsJob, seen_of, lists_of, step_count, script_at, moved_on, stopped_at, with_stop}
+use Rattle.ulfm_job.proofs.Common.{Clause, Step, JobView, IsJob, job_view, lists_of, step_count, script_at, moved_on, stopped_at, with_stop}
 use Rattle.std.proofs.lemmas.List.{length-map, length-set, map-set}
 use Rattle.std.proofs.lemmas.List.Edits.{length-insert}
 use Rattle.ulfm_job.specs.Job.{moved_clause}
@@ -8,10 +8,10 @@ use Rattle.ulfm_job.specs.declared.step.Step.TheVariants.{Stop}
 use Rattle.ulfm_job.proofs.Scripts.{step_count-set}
 
 -- a copy in which one script has the stop
-pub seen-stopped : (j : Seen) (capacity turns r at : ℕ) (vs ws : List (Vec Step Global)) (v : Vec Step Global) (conditions expected asked wanted : List Clause) → j ≡ seen_of capacity turns vs conditions expected
+pub seen-stopped : (j : JobView) (capacity turns r at : ℕ) (vs ws : List (Vec Step Global)) (v : Vec Step Global) (conditions expected asked wanted : List Clause) → j ≡ job_view capacity turns vs conditions expected
     → lists_of ws ≡ lists_of vs → v.items ≡ stopped_at at (script_at j r)
     → asked ≡ map (moved_clause r at (length (script_at j r))) conditions → wanted ≡ map (moved_clause r at (length (script_at j r))) expected
-    → seen_of capacity turns (set ws r v) asked wanted ≡ with_stop r at j
+    → job_view capacity turns (set ws r v) asked wanted ≡ with_stop r at j
 seen-stopped j capacity turns r at vs ws v conditions expected asked wanted is copies stopped moved kept =
     let items = λ (u : Vec Step Global). u.items in
     let scripts : lists_of (set ws r v) ≡ set (lists_of vs) r (stopped_at at (script_at j r)) = map-set items ws r v ∙ cc (copies, stopped) in
@@ -21,7 +21,7 @@ seen-stopped j capacity turns r at vs ws v conditions expected asked wanted is c
 length-stopped_at : (at : ℕ) (xs : List Step) → at ≤ length xs → length (stopped_at at xs) ≡ length xs + 1
 length-stopped_at at xs le = let l = length-map xs (moved_on at (length xs)) in length-insert _ at Stop (omega (arith, l, le)) ∙ ap (λ n. n + 1) l
 
-pub is_job-stopped : (j : Seen) (r at : ℕ) → IsJob j → r < j.ranks → at ≤ length (script_at j r) → step_count j.scripts ≢ 256 → IsJob (with_stop r at j)
+pub is_job-stopped : (j : JobView) (r at : ℕ) → IsJob j → r < j.ranks → at ≤ length (script_at j r) → step_count j.scripts ≢ 256 → IsJob (with_stop r at j)
 is_job-stopped j r at h lt le room =
     let one = step_count-set j.scripts r (stopped_at at (script_at j r)) (omega (arith, h.script_each, lt)) (length-stopped_at at (script_at j r) le) in
     record {
@@ -36,6 +36,6 @@ is_job-stopped j r at h lt le room =
     }
 
 -- the clauses of a copy
-pub moved-as : (j : Seen) (r at : ℕ) (script : List Step) (clauses kept moved : List Clause) → script ≡ script_at j r → clauses ≡ kept → moved ≡ map (moved_clause r at (length script)) clauses
+pub moved-as : (j : JobView) (r at : ℕ) (script : List Step) (clauses kept moved : List Clause) → script ≡ script_at j r → clauses ≡ kept → moved ≡ map (moved_clause r at (length script)) clauses
     → moved ≡ map (moved_clause r at (length (script_at j r))) kept
 moved-as j r at script clauses kept moved is same h = h ∙ ap₂ (λ (steps : List Step) (cs : List Clause). map (moved_clause r at (length steps)) cs) is same

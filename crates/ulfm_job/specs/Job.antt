@@ -9,7 +9,7 @@ use Rattle.ulfm_job.specs.declared.step.Step.TheVariants.{Send, Wait, Mrecv, Can
 
 -- how many ranks there are, the room of an inbox, the most polls of one step, the steps of each rank, on what conditions some are
 -- played, and what some expect of their answers
-pub record Seen : Type 0 where
+pub record JobView : Type 0 where
   pub ranks : ℕ
   pub capacity : ℕ
   pub turns : ℕ
@@ -26,8 +26,8 @@ abbrev pub lists_of : List (Vec Step Global) → List (List Step)
 lists_of scripts = map (λ script. script.items) scripts
 
 -- a job by its parts
-abbrev pub seen_of : ℕ → ℕ → List (Vec Step Global) → List Clause → List Clause → Seen
-seen_of capacity turns scripts conditions expected = record {
+abbrev pub job_view : ℕ → ℕ → List (Vec Step Global) → List Clause → List Clause → JobView
+job_view capacity turns scripts conditions expected = record {
   ranks = length scripts;
   capacity = capacity;
   turns = turns;
@@ -37,11 +37,11 @@ seen_of capacity turns scripts conditions expected = record {
 }
 
 -- a job with another number of turns
-abbrev pub with_turns : ℕ → Seen → Seen
+abbrev pub with_turns : ℕ → JobView → JobView
 with_turns turns j = record j { turns = turns }
 
 -- the steps of the rank r
-abbrev pub script_at : Seen → ℕ → List Step
+abbrev pub script_at : JobView → ℕ → List Step
 script_at j r = slice_index_or j.scripts r []
 
 -- the number of a step of a script of n steps, once there is one more before the step `at`
@@ -65,7 +65,7 @@ moved_clause r at n c =
     if c.rank == r then record c { at = moved_number at n c.at; step = moved_number at n c.step } else c
 
 -- a job with one more step, a stop before the step `at` of the rank r
-abbrev pub with_stop : ℕ → ℕ → Seen → Seen
+abbrev pub with_stop : ℕ → ℕ → JobView → JobView
 with_stop r at j = record j {
   scripts = slice_set j.scripts r (stopped_at at (script_at j r));
   conditions = map (moved_clause r at (length (script_at j r))) j.conditions;
@@ -73,7 +73,7 @@ with_stop r at j = record j {
 }
 
 -- the ranges of a job
-pub record IsJob (j : Seen) : Type 0 where
+pub record IsJob (j : JobView) : Type 0 where
   pub script_each : length j.scripts ≡ j.ranks
   pub some_rank : 0 < j.ranks
   pub few_ranks : j.ranks ≤ 8

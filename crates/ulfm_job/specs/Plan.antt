@@ -3,7 +3,7 @@ use Rattle.std.specs.Prelude.{ℕ, List, Option, map, option_map}
 use Rattle.ulfm_job.specs.declared.clause.Clause.{Clause}
 use Rattle.ulfm_job.specs.declared.step.Step.{Step}
 use Rattle.ulfm_job.specs.declared.step.Step.TheVariants.{Send, Recv, Wait, Probe, Mrecv, Cancel, Failed, Ack, Revoke, Dup, Shrink, Agree, Stop}
-use Rattle.ulfm_job.specs.Job.{Seen}
+use Rattle.ulfm_job.specs.Job.{JobView}
 
 -- what a step asks for; communicators and tags are numbers, and a receive or a probe names a source and a tag or leaves them open
 pub data Order : Type 0 where
@@ -52,5 +52,5 @@ order_of (Agree flag comm) = agree flag comm.number
 order_of Stop = stop
 
 -- the plan of a job
-abbrev pub plan_of : Seen → Plan
+abbrev pub plan_of : JobView → Plan
 plan_of j = record { ranks = j.ranks; capacity = j.capacity; turns = j.turns; scripts = map (map order_of) j.scripts; conditions = j.conditions; expected = j.expected }

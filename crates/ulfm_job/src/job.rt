@@ -23,17 +23,17 @@ pub struct Job {
 }
 
 impl Model for Job {
-    ghost use Rattle.ulfm_job.specs.Job.{Seen, IsJob, seen_of};
+    ghost use Rattle.ulfm_job.specs.Job.{JobView, IsJob, job_view};
 
-    ghost Value = { Seen };
+    ghost Value = { JobView };
 
-    ghost view = { λ j. seen_of j.capacity j.turns j.scripts.items j.conditions.items j.expected.items };
+    ghost view = { λ j. job_view j.capacity j.turns j.scripts.items j.conditions.items j.expected.items };
 
-    ghost invariant = { λ j. IsJob (seen_of j.capacity j.turns j.scripts.items j.conditions.items j.expected.items) };
+    ghost invariant = { λ j. IsJob (job_view j.capacity j.turns j.scripts.items j.conditions.items j.expected.items) };
 }
 
 impl Job {
-    ghost use Rattle.ulfm_job.specs.Job.{seen_of, with_stop, with_turns};
+    ghost use Rattle.ulfm_job.specs.Job.{job_view, with_stop, with_turns};
 
     /// The job of these scripts, one for each rank.
     pub(crate) fn new(
@@ -43,8 +43,8 @@ impl Job {
         conditions: Vec<Clause>,
         expected: Vec<Clause>,
     ) -> Job
-        requires { IsJob (seen_of capacity turns scripts.items conditions.items expected.items) }
-        ensures { result ≡ seen_of capacity turns scripts.items conditions.items expected.items }
+        requires { IsJob (job_view capacity turns scripts.items conditions.items expected.items) }
+        ensures { result ≡ job_view capacity turns scripts.items conditions.items expected.items }
     {
         Job {
             capacity,

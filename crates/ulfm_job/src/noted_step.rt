@@ -30,10 +30,10 @@ pub(crate) enum Kept {
 }
 
 impl Model for NotedStep {
-    ghost use Rattle.ulfm_job.specs.declared.step.Step.{Step as Seen};
+    ghost use Rattle.ulfm_job.specs.declared.step.Step.{Step as SeenStep};
     ghost use Rattle.ulfm_job.specs.inside.Noted.{step_of};
 
-    ghost Value = { Seen };
+    ghost Value = { SeenStep };
 
     ghost view = { λ n. step_of n.kept };
 }

@@ -1,6 +1,6 @@
 -- The letters that came by the history of a log are a beginning of those that it took.
 use Rattle.std.proofs.Common.{◌≡◌, ℕ, Bool, true, false, cond, eqb, List, [], ◌∷◌, ◌++◌, length, refl, ap, sym, ◌∙◌, append-nil, append_assoc, inl, inr, suc, All}
-use Rattle.ulfm_laws.proofs.Common.{WorldRank, Letter, Pattern, Item, count_before, ◌==◌, Entry, Content, come_in, letters_come, false≢true, or_left, cases_Bool, eqb-true, took, took_by, is_revoked, revokes, all_front, all_last, gathered_all, any-push, names, Event, Post, Come, End, Clear, flat_map-append, history_of, events_by, ends_from, end_at, names_gone}
+use Rattle.ulfm_laws.proofs.Common.{WorldRank, Letter, Pattern, Item, count_before, ◌==◌, Entry, Content, come_in, letters_come, false≢true, or_left, cases_Bool, eqb-true, took, took_by, is_revoked, revokes, all_front, all_last, gathered_all, any-push, names, MatchEvent, Post, Come, End, Clear, flat_map-append, history_of, events_by, ends_from, end_at, names_gone}
 use Rattle.ulfm_base.specs.declared.item.Item.TheVariants.{Letter as Mail, Gone, Revoke, Enter}
 use Rattle.ulfm_rank.specs.declared.entry.Entry.TheVariants.{Posted, Cancelled, Revoked, Took}
 use Rattle.ulfm_rank.proofs.Logs.{took-push}
@@ -10,11 +10,11 @@ come_pick : (s c k : ℕ) (b : Bool) → letters_come s c (cond b (End k ∷ [])
 come_pick s c k true = refl
 come_pick s c k false = refl
 
-come_end : (s c : ℕ) (test : ℕ → Pattern → Bool) (k : ℕ) (e : Event) → letters_come s c (end_at test k e) ≡ []
+come_end : (s c : ℕ) (test : ℕ → Pattern → Bool) (k : ℕ) (e : MatchEvent) → letters_come s c (end_at test k e) ≡ []
 come_end s c test k (Post pattern) = come_pick s c k (test k pattern)
 come_end s c test k _ = refl
 
-come_ends : (s c : ℕ) (test : ℕ → Pattern → Bool) (k : ℕ) (history : List Event) → letters_come s c (ends_from test k history) ≡ []
+come_ends : (s c : ℕ) (test : ℕ → Pattern → Bool) (k : ℕ) (history : List MatchEvent) → letters_come s c (ends_from test k history) ≡ []
 come_ends s c test k [] = refl
 come_ends s c test k (e ∷ history) =
     flat_map-append (come_in s c) (end_at test k e) (ends_from test (suc k) history)
@@ -26,11 +26,11 @@ come_clear s c d true = refl
 come_clear s c d false = refl
 
 -- the letter that an entry gives came where its context isn't revoked, and else none
-record IsCome (s c : ℕ) (before : List Entry) (events : List Event) (items : List Item) : Type 0 where
+record IsCome (s c : ℕ) (before : List Entry) (events : List MatchEvent) (items : List Item) : Type 0 where
   pub fresh : is_revoked before c ≡ false → letters_come s c events ≡ mail c items
   pub late : is_revoked before c ≡ true → letters_come s c events ≡ []
 
-come_none : {s c : ℕ} {before : List Entry} {events : List Event} {items : List Item} → letters_come s c events ≡ [] → mail c items ≡ [] → IsCome s c before events items
+come_none : {s c : ℕ} {before : List Entry} {events : List MatchEvent} {items : List Item} → letters_come s c events ≡ [] → mail c items ≡ [] → IsCome s c before events items
 come_none none empty = record { fresh = λ h. none ∙ sym empty; late = λ h. none }
 
 come_letter : (s c : ℕ) (before : List Entry) (source : WorldRank) (letter : Letter) → letter.envelope.source ≡ source → IsCome s c before (cond (is_revoked before letter.envelope.context.number) [] (Come letter ∷ [])) (cond (eqb source.number s) (Mail letter ∷ []) [])
@@ -52,7 +52,7 @@ come_letter s c before source letter same = record {
   late false true g e = absurd (false≢true (g refl))
   late false false g e = rw e refl
 
-come_entry : (n s c : ℕ) (before : List Entry) (found : List Event) (e : Entry) → IsTakenFrom n e → IsCome s c before (events_by before found e) (took_by s e)
+come_entry : (n s c : ℕ) (before : List Entry) (found : List MatchEvent) (e : Entry) → IsTakenFrom n e → IsCome s c before (events_by before found e) (took_by s e)
 come_entry n s c before found (Posted pattern) h = come_none (come_pick s c (length found) (names_gone before pattern.source)) refl
 come_entry n s c before found (Cancelled id) h = come_none (come_ends s c (λ k _. count_before found k == id.number) 0 found) refl
 come_entry n s c before found (Revoked context) h = come_none (come_clear s c context.number (is_revoked before context.number)) refl
@@ -63,12 +63,12 @@ come_entry n s c before found (Took source (Enter entrance)) h = come_none refl 
 come_entry n s c before found _ h = come_none refl refl
 
 -- what came is a beginning of what was taken, and all of it where the context isn't revoked
-pub record IsTakenMail (s c : ℕ) (before : List Entry) (found : List Event) : Type 0 where
+pub record IsTakenMail (s c : ℕ) (before : List Entry) (found : List MatchEvent) : Type 0 where
   pub rest : List Content
   pub all : letters_come s c found ++ rest ≡ mail c (took before s)
   pub none : is_revoked before c ≡ false → rest ≡ []
 
-taken_more : (n s c : ℕ) (before : List Entry) (found : List Event) (e : Entry) → IsTakenMail s c before found → IsTakenFrom n e → IsTakenMail s c (before ++ e ∷ []) (found ++ events_by before found e)
+taken_more : (n s c : ℕ) (before : List Entry) (found : List MatchEvent) (e : Entry) → IsTakenMail s c before found → IsTakenFrom n e → IsTakenMail s c (before ++ e ∷ []) (found ++ events_by before found e)
 taken_more n s c before found e h own =
     let k = come_entry n s c before found e own in
     let came = flat_map-append (come_in s c) found (events_by before found e) in
@@ -96,6 +96,6 @@ taken_more n s c before found e h own =
 -- what came by the history of a log
 pub all_taken : (n s c : ℕ) (log : List Entry) → All (IsTakenFrom n) log → IsTakenMail s c log (history_of log)
 all_taken n s c log =
-    gathered_all {X = Event} events_by (λ (before : List Entry) (found : List Event). All (IsTakenFrom n) before → IsTakenMail s c before found)
+    gathered_all {X = MatchEvent} events_by (λ (before : List Entry) (found : List MatchEvent). All (IsTakenFrom n) before → IsTakenMail s c before found)
     (λ before found e h all. taken_more n s c before found e (h (all_front (IsTakenFrom n) before e all)) (all_last (IsTakenFrom n) before e all))
     [] (λ all. record { rest = []; all = refl; none = λ f. refl }) log

@@ -9,7 +9,7 @@ pub use Rattle.ulfm_base.specs.declared.item.Item.TheVariants.{Gone}
 pub use Rattle.ulfm_base.specs.declared.pattern.Pattern.{Pattern}
 pub use Rattle.ulfm_base.specs.declared.rank.WorldRank.{WorldRank}
 pub use Rattle.ulfm_base.specs.declared.tag.Tag.{Tag}
-pub use Rattle.ulfm_match.specs.History.{Event, count_before, History, Post, PostAt, Clear, Come, ComeAt, End, IsWellFormed}
+pub use Rattle.ulfm_match.specs.History.{MatchEvent, count_before, History, Post, PostAt, Clear, Come, ComeAt, End, IsWellFormed}
 pub use Rattle.ulfm_match.specs.declared.request.RequestId.{RequestId}
 pub use Rattle.ulfm_rank.specs.Checks.{group_at}
 pub use Rattle.ulfm_rank.specs.Communicators.{members_of, group_of}
@@ -48,7 +48,7 @@ pub use Rattle.ulfm_rank.proofs.Gather.{any-push, gathered_all, history-push}
 pub use Rattle.ulfm_rank.proofs.Grouped.{group_stays, members_found}
 pub use Rattle.ulfm_rank.proofs.Signed.{all_front, all_last, from_signed, owed_signed}
 pub use Rattle.ulfm_rank.specs.Calls.{IsFrom, IsSourceOf, Posts, Sends}
-pub use Rattle.ulfm_rank.specs.Owed.{is_told, owed, owed_by, passed_on}
+pub use Rattle.ulfm_rank.specs.Owed.{is_addressed, owed, owed_by, passed_on}
 pub use Rattle.ulfm_script.specs.Deciding.{AnswersAdoption, AnswersDecision, IsDecided, Known}
 pub use Rattle.std.proofs.lemmas.Grind.{flat_map-append}
 pub use Rattle.std.specs.Prelude.{All, if◌then◌else◌, nat_eq, not, slice_get, ⊤, ◌&&◌, ◌==◌}

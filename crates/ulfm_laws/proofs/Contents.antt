@@ -1,6 +1,6 @@
 -- What a step sent, and what an event brought, is one letter or none.
 use Rattle.std.proofs.Common.{◌≡◌, ℕ, ◌⊎◌, inl, inr, Bool, true, false, cond, eqb, List, [], ◌∷◌, refl, ap, Option, Some, None, ◌&&◌, slice_get}
-use Rattle.ulfm_laws.proofs.Common.{Context, Letter, Tag, Step, Send, StepAnswer, Sent, Content, content, is_rank, sent_by, sent_in, come_in, false≢true, eq-eqb, eqb-true, Event, Come}
+use Rattle.ulfm_laws.proofs.Common.{Context, Letter, Tag, Step, Send, StepAnswer, Sent, Content, content, is_rank, sent_by, sent_in, come_in, false≢true, eq-eqb, eqb-true, MatchEvent, Come}
 use Rattle.ulfm_match.proofs.Places.{GivesFew}
 
 few : (b : Bool) (x : Content) → (cond b (x ∷ []) [] ≡ []) ⊎ ((y : Content) × (cond b (x ∷ []) [] ≡ y ∷ []))
@@ -57,14 +57,14 @@ pub sent_one : (group : List ℕ) (d to : ℕ) (tag : Tag) (body : List ℕ) (co
 sent_one group d to tag body comm at = rw (eq-eqb comm.number comm.number refl, at, eq-eqb d d refl) refl
 
 -- an event that brought this from s on the communicator c
-pub record IsLetter (s c : ℕ) (event : Event) (y : Content) : Type 0 where
+pub record IsLetter (s c : ℕ) (event : MatchEvent) (y : Content) : Type 0 where
   pub letter : Letter
   pub came : event ≡ Come letter
   pub context : letter.envelope.context.number ≡ c
   pub source : letter.envelope.source.number ≡ s
   pub carries : content letter.envelope.tag letter.body ≡ y
 
-pub come_is : (s c : ℕ) (event : Event) {y : Content} → come_in s c event ≡ y ∷ [] → IsLetter s c event y
+pub come_is : (s c : ℕ) (event : MatchEvent) {y : Content} → come_in s c event ≡ y ∷ [] → IsLetter s c event y
 come_is s c (Come letter) {y} e =
     let k = one_is (eqb letter.envelope.context.number c && eqb letter.envelope.source.number s) (content letter.envelope.tag letter.body) y e in
     let both = both_true (eqb letter.envelope.context.number c) (eqb letter.envelope.source.number s) k.0 in

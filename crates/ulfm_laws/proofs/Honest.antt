@@ -1,6 +1,6 @@
 -- What the answered steps of a rank sent and posted is what its log has.
 use Rattle.std.proofs.Common.{◌≡◌, ℕ, zero, suc, ◌≤◌, inl, inr, List, [], ◌∷◌, ◌++◌, length, refl, ap, sym, ◌∙◌, subst, arith, append-nil, Some, None, All, slice_get}
-use Rattle.ulfm_laws.proofs.Common.{Pattern, Entry, members_of, history_of, events_by, StepReport, sent_in, closes, flat_map, All-nil, All-push, history-push, Event, Post, PostAt, IsWellFormed, count_before, lt_or_ge, count_front, PostsNone, HasNoPost, none-events, formed-logged, get_in_front}
+use Rattle.ulfm_laws.proofs.Common.{Pattern, Entry, members_of, history_of, events_by, StepReport, sent_in, closes, flat_map, All-nil, All-push, history-push, MatchEvent, Post, PostAt, IsWellFormed, count_before, lt_or_ge, count_front, PostsNone, HasNoPost, none-events, formed-logged, get_in_front}
 use Rattle.ulfm_laws.proofs.Orderly.{IsOrderly, orderly-logged, orderly-answered}
 use Rattle.ulfm_laws.proofs.Mail.{mail_sent, sent_entry, IsTakenFrom, flat-push}
 use Rattle.ulfm_laws.proofs.Numbers.{number_at, number_of, number_front}
@@ -30,7 +30,7 @@ sends-logged {n} {log} e {done} c d h =
     ∙ sym (flat-push (sent_entry c d) log e)
 
 -- past a beginning stands what comes after it
-pub late : (xs ys : List Event) (k : ℕ) (p : Pattern) → HasNoPost ys → length xs ≤ k → slice_get (xs ++ ys) k ≡ Some (Post p) → ⊥
+pub late : (xs ys : List MatchEvent) (k : ℕ) (p : Pattern) → HasNoPost ys → length xs ≤ k → slice_get (xs ++ ys) k ≡ Some (Post p) → ⊥
 late [] ys k p free l g = free k p g
 late (x ∷ xs) ys zero p free l g = absurd (omega (arith, l))
 late (x ∷ xs) ys (suc k) p free l g = late xs ys k p free (omega (arith, l)) g

@@ -1,6 +1,6 @@
 -- What receives got, and the answers that released them, stay as the log grows.
 use Rattle.std.proofs.Common.{◌≡◌, ℕ, true, List, ◌∷◌, ◌++◌, length, [], refl, sym, subst}
-use Rattle.ulfm_laws.proofs.Common.{Come, Entry, Event, Letter, Pattern, PostAt, TestAnswer, history_of, events_by, history-push, get_front, Truncated}
+use Rattle.ulfm_laws.proofs.Common.{Come, Entry, MatchEvent, Letter, Pattern, PostAt, TestAnswer, history_of, events_by, history-push, get_front, Truncated}
 use Rattle.ulfm_match.proofs.Cut.{cut, inside_to}
 use Rattle.ulfm_match.specs.Pairing.{Pairing, LawfulPairing, pairs_below}
 use Rattle.ulfm_rank.specs.Answer.{Got, IsAnswerBy, is_release}
@@ -9,7 +9,7 @@ use Rattle.ulfm_rank.specs.declared.entry.TestAnswer.TheVariants.{Done as TestDo
 use Rattle.ulfm_rank.proofs.Stays.{answer_stays, receipt_stays}
 
 -- a letter that each lawful pairing of a beginning gives
-pub got_longer : (h xs : List Event) (r : Pairing) → LawfulPairing (h ++ xs) r → (i : ℕ) {letter : Letter} → Got h (pairs_below (length h) r) i letter → Got (h ++ xs) r i letter
+pub got_longer : (h xs : List MatchEvent) (r : Pairing) → LawfulPairing (h ++ xs) r → (i : ℕ) {letter : Letter} → Got h (pairs_below (length h) r) i letter → Got (h ++ xs) r i letter
 got_longer h xs r law i {letter} g = record { place = g.place; pairs = (inside_to (length h) r i g.place g.pairs).0; came = get_front h xs g.place (Come letter) g.came }
 
 -- and of a beginning of a log

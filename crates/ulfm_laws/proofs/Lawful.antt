@@ -2,7 +2,7 @@
 use Rattle.std.proofs.Common.{◌≡◌, ℕ, List, length, ap, sym, subst, ◌∙◌, arith, Some, All}
 use Rattle.ulfm_laws.proofs.Common.{at, Report, Inboxes, IsAtRest, slice_get_within, IsSigned, there, Known, keeps_of, signed_of, AdoptOwn, AdoptOne, EnterOnce}
 use Rattle.ulfm_board.specs.Known.{BothAgree, known_at}
-use Rattle.ulfm_job.specs.Job.{Seen}
+use Rattle.ulfm_job.specs.Job.{JobView}
 use Rattle.ulfm_laws.specs.Lawful.{AreProduced, KnowAtRest, LawfulReport}
 use Rattle.ulfm_laws.proofs.Agreeing.{agreement}
 use Rattle.ulfm_laws.proofs.Arrivals.{read_at, come_as_sent, all_come}
@@ -26,7 +26,7 @@ honest_reports {inboxes} {reports} h honest = record {
   sent = come_as_sent inboxes reports h honest;
 }
 
-module _ (job : Seen) (inboxes : Inboxes) (knows : List Known) (reports : List Report) (h : AreProduced job inboxes knows reports) where
+module _ (job : JobView) (inboxes : Inboxes) (knows : List Known) (reports : List Report) (h : AreProduced job inboxes knows reports) where
   counted : (k : ℕ) (told : Report) → at reports k told → told.rank.ranks ≡ length reports
   counted k told here = (h.scripts k told here).counted ∙ sym h.each
 

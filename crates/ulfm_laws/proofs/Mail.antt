@@ -1,8 +1,9 @@
 -- The letters of one communicator among items, and those that a log sent.
 use Rattle.std.proofs.Common.{◌≡◌, ℕ, ◌<◌, Bool, true, false, cond, eqb, List, [], ◌∷◌, ◌++◌, refl, ap, sym, ◌∙◌, append-nil}
-use Rattle.ulfm_laws.proofs.Common.{Item, Entry, members_of, is_revoked, Content, content, flat_map, IsFrom, gathered_all, owed, owed_by, is_told, is_member, flat_map-append, ⊤, ◌&&◌, ◌==◌, if◌then◌else◌}
+use Rattle.ulfm_laws.proofs.Common.{Item, Entry, members_of, is_revoked, Content, content, flat_map, IsFrom, gathered_all, owed, owed_by, is_addressed, is_member, flat_map-append, ⊤, ◌&&◌, ◌==◌, if◌then◌else◌}
 use Rattle.ulfm_base.specs.declared.item.Item.TheVariants.{Letter as Mail, Gone, Revoke, Enter}
 use Rattle.ulfm_rank.specs.declared.entry.Entry.TheVariants.{Sent, Revoked, Entered, Took}
+use Rattle.ulfm_rank.specs.Log.{by_before}
 
 abbrev pub mail_on : ℕ → Item → List Content
 mail_on c (Mail letter) = if letter.envelope.context.number == c then content letter.envelope.tag letter.body ∷ [] else []
@@ -38,28 +39,28 @@ unsent c true b item e = refl
 unsent c false b item e = no_mail c b item e
 
 -- of what an entry owes the letters are those that it sent
-owed_entry : (n me c d : ℕ) (before : List Entry) (found : List Item) (e : Entry) → mail c (owed_by n me d before found e) ≡ sent_entry c d e
-owed_entry n me c d before found (Sent to letter) = one (eqb letter.envelope.context.number c) (eqb to.number d) refl
+owed_entry : (n me c d : ℕ) (before : List Entry) (e : Entry) → mail c (owed_by n me d before e) ≡ sent_entry c d e
+owed_entry n me c d before (Sent to letter) = one (eqb letter.envelope.context.number c) (eqb to.number d) refl
   where
     one : (a b : Bool) → eqb letter.envelope.context.number c ≡ a → mail c (cond b (Mail letter ∷ []) []) ≡ cond (a && b) (content letter.envelope.tag letter.body ∷ []) []
     one true true e = rw e refl
     one true false e = refl
     one false true e = rw e refl
     one false false e = refl
-owed_entry n me c d before found (Revoked context) = unsent c (is_revoked before context.number) (is_told me before d) (Revoke context) refl
-owed_entry n me c d before found (Entered entrance) = no_mail c (is_member (members_of n before entrance.topic.context.number) d && is_told me before d) (Enter entrance) refl
-owed_entry n me c d before found (Took source (Revoke context)) = unsent c (is_revoked before context.number) (is_told me before d) (Revoke context) refl
-owed_entry n me c d before found (Took source (Mail letter)) = refl
-owed_entry n me c d before found (Took source Gone) = refl
-owed_entry n me c d before found (Took source (Enter entrance)) = refl
-owed_entry n me c d before found _ = refl
+owed_entry n me c d before (Revoked context) = unsent c (is_revoked before context.number) (is_addressed me before d) (Revoke context) refl
+owed_entry n me c d before (Entered entrance) = no_mail c (is_member (members_of n before entrance.topic.context.number) d && is_addressed me before d) (Enter entrance) refl
+owed_entry n me c d before (Took source (Revoke context)) = unsent c (is_revoked before context.number) (is_addressed me before d) (Revoke context) refl
+owed_entry n me c d before (Took source (Mail letter)) = refl
+owed_entry n me c d before (Took source Gone) = refl
+owed_entry n me c d before (Took source (Enter entrance)) = refl
+owed_entry n me c d before _ = refl
 
 pub mail_owed : (n me c d : ℕ) (log : List Entry) → mail c (owed n me log d) ≡ mail_sent c d log
 mail_owed n me c d log =
-    gathered_all {X = Item} (owed_by n me d) (λ (before : List Entry) (found : List Item). mail c found ≡ mail_sent c d before)
+    gathered_all {X = Item} (by_before (owed_by n me d)) (λ (before : List Entry) (found : List Item). mail c found ≡ mail_sent c d before)
     (λ before found e h.
-    flat_map-append (mail_on c) found (owed_by n me d before found e)
-    ∙ ap (λ xs. xs ++ mail c (owed_by n me d before found e)) h
-    ∙ ap (λ xs. mail_sent c d before ++ xs) (owed_entry n me c d before found e)
+    flat_map-append (mail_on c) found (owed_by n me d before e)
+    ∙ ap (λ xs. xs ++ mail c (owed_by n me d before e)) h
+    ∙ ap (λ xs. mail_sent c d before ++ xs) (owed_entry n me c d before e)
     ∙ sym (flat-push (sent_entry c d) before e))
     [] refl log

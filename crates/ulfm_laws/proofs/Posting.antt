@@ -1,7 +1,7 @@
 -- A receive that is posted, by a step of its own or by a probe, keeps the steps of a rank true of its log.
 use Rattle.std.proofs.Common.{◌≡◌, ℕ, ◌<◌, inl, inr, Bool, true, false, cond, List, [], ◌∷◌, ◌++◌, length, refl, ap, sym, ◌∙◌, subst, arith, append_assoc, length-append, Option, Some, None, slice_get}
 use Rattle.std.specs.Option.{is_some}
-use Rattle.ulfm_laws.proofs.Common.{Context, Pattern, Tag, MessageId, RequestId, Status, Entry, group_of, members_of, is_revoked, State, logged, Recv, Probe, Posted, Found, StepReport, AnswersProbe, comm_of, step_report, sent_in, closes, flat_map, not-false, same_Some, slice_get_within, All-push, Posts, IsSourceOf, history-push, Event, Post, End, PostAt, IsWellFormed, count_before, compared, count_below, count_front, get_here, group_stays, members_found, HasNoPost, none-nil, none-one, formed-posted, formed-probed, history_of, names_gone, some_from, get_in_front, all_pass}
+use Rattle.ulfm_laws.proofs.Common.{Context, Pattern, Tag, MessageId, RequestId, Status, Entry, group_of, members_of, is_revoked, State, logged, Recv, Probe, Posted, Found, StepReport, AnswersProbe, comm_of, step_report, sent_in, closes, flat_map, not-false, same_Some, slice_get_within, All-push, Posts, IsSourceOf, history-push, MatchEvent, Post, End, PostAt, IsWellFormed, count_before, compared, count_below, count_front, get_here, group_stays, members_found, HasNoPost, none-nil, none-one, formed-posted, formed-probed, history_of, names_gone, some_from, get_in_front, all_pass}
 use Rattle.ulfm_rank.specs.declared.entry.Entry.TheVariants.{Posted as PostedEntry, Probed}
 use Rattle.ulfm_match.proofs.Cut.{cut}
 use Rattle.ulfm_match.specs.Pairing.{LawfulPairing, pairs_below}
@@ -34,7 +34,7 @@ pub record IsPosting (r : State) (source : Option ℕ) (tag : Option Tag) (room 
   pub pattern : Pattern
   pub receive : IsReceive r (comm_of comm) source tag room pattern
   pub numbered : number ≡ count_before (history_of r.log) (length (history_of r.log))
-  pub tail : List Event
+  pub tail : List MatchEvent
   pub longer : history_of (r.log ++ e ∷ []) ≡ history_of r.log ++ Post pattern ∷ tail
   pub no_more : HasNoPost tail
   pub formed : IsWellFormed (history_of r.log) → IsWellFormed (history_of (r.log ++ e ∷ []))
@@ -45,10 +45,10 @@ module _ (r : State) (done : List StepReport) (source : Option ℕ) (tag : Optio
   abbrev log : List Entry
   log = r.log
 
-  abbrev old : List Event
+  abbrev old : List MatchEvent
   old = history_of r.log
 
-  abbrev now : List Event
+  abbrev now : List MatchEvent
   now = old ++ Post s.pattern ∷ s.tail
 
   here : slice_get now (length old) ≡ Some (Post s.pattern)

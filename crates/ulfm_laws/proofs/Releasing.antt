@@ -1,7 +1,7 @@
 -- The steps that release the receive of another one: waits and cancels that are done or over, receives of what a probe found, and
 -- cancels.
 use Rattle.std.proofs.Common.{◌≡◌, ℕ, ◌<◌, true, false, List, [], ◌∷◌, ◌++◌, length, length-append, refl, ap, sym, ◌∙◌, subst, arith, inl, inr, Some, slice_get}
-use Rattle.ulfm_laws.proofs.Common.{MessageId, RequestId, Status, Posted, Found, Clear, Come, ComeAt, End, Entry, Event, Pattern, Post, PostAt, State, Step, StepReport, TestAnswer, Tests, Receives, Cancels, Cancel, history_of, room_of, eq-eqb, history-push, slice_get_within, lt_or_ge, get_here, get_in_front, ProcFailed}
+use Rattle.ulfm_laws.proofs.Common.{MessageId, RequestId, Status, Posted, Found, Clear, Come, ComeAt, End, Entry, MatchEvent, Pattern, Post, PostAt, State, Step, StepReport, TestAnswer, Tests, Receives, Cancels, Cancel, history_of, room_of, eq-eqb, history-push, slice_get_within, lt_or_ge, get_here, get_in_front, ProcFailed}
 use Rattle.ulfm_rank.specs.declared.entry.Entry.TheVariants.{Released, Received, Cancelled}
 use Rattle.ulfm_rank.specs.declared.entry.TestAnswer.TheVariants.{Done as TestDone, Over as TestOver, Pending, NotYet}
 use Rattle.ulfm_match.proofs.Cut.{cut, inside_back}
@@ -70,7 +70,7 @@ waits_by n log r i p (TestDone status body) k a = absurd (cc)
 waits_by n log r i p (TestOver reason) k a = absurd (cc)
 
 -- a receive that waited, and is ended, is as one that was ended by a failure
-ended_over : (h : List Event) (i : ℕ) (p : Pattern) → PostAt h i p → (r : Pairing) → LawfulPairing (h ++ End i ∷ []) r → IsUnpaired (pairs_below (length h) r) i → IsOpenReceive h i p → IsOver (h ++ End i ∷ []) r i p ProcFailed
+ended_over : (h : List MatchEvent) (i : ℕ) (p : Pattern) → PostAt h i p → (r : Pairing) → LawfulPairing (h ++ End i ∷ []) r → IsUnpaired (pairs_below (length h) r) i → IsOpenReceive h i p → IsOver (h ++ End i ∷ []) r i p ProcFailed
 ended_over h i p posted r law free still_open =
     let xs = End i ∷ [] in
     let li : i < length h = slice_get_within h i (Post p) posted in

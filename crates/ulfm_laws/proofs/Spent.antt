@@ -3,7 +3,7 @@ use Rattle.std.proofs.Common.{◌≡◌, ℕ, true, false, not, List, [], ◌∷
 use Rattle.std.proofs.lemmas.List.{take-append-le}
 use Rattle.std.proofs.Math.Seq.{take-append_seam}
 use Rattle.ulfm_match.proofs.Histories.{get_cases}
-use Rattle.ulfm_job.specs.Job.{Seen, script_at}
+use Rattle.ulfm_job.specs.Job.{JobView, script_at}
 use Rattle.ulfm_job.specs.declared.clause.Clause.{Clause}
 use Rattle.ulfm_job.specs.declared.step.Step.{Step}
 use Rattle.ulfm_script.specs.Player.{Player, IsCalled, GivesUpStep, step_report}
@@ -26,7 +26,7 @@ spent conditions r done x h played given k report g = elim (get_cases done x k r
 ]
 
 -- a step that its last poll left open is given up as one that was to be played
-pub goes-spent : {j : Seen} {r : ℕ} {old mid new : Player} {asked : Step} → FollowsSoFar (script_at j r) j.turns new → GoesThrough j r old → is_played j.conditions r old.done ≡ true → IsCalled old asked mid → GivesUpStep mid new → GoesThrough j r new
+pub goes-spent : {j : JobView} {r : ℕ} {old mid new : Player} {asked : Step} → FollowsSoFar (script_at j r) j.turns new → GoesThrough j r old → is_played j.conditions r old.done ≡ true → IsCalled old asked mid → GivesUpStep mid new → GoesThrough j r new
 goes-spent follows h played (inl a) left =
     let none : None ≡ Some left.step = sym (ap (λ (p : Player). p.current) a.only) ∙ left.was_open in
     absurd (none-some left.step none)

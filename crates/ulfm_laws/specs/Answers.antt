@@ -5,12 +5,12 @@ use Rattle.ulfm_base.specs.declared.topic.Topic.{Topic}
 use Rattle.ulfm_board.specs.Known.{BothAgree, known_at}
 use Rattle.ulfm_script.specs.Answered.{AnswersFollow}
 use Rattle.ulfm_script.specs.Deciding.{Known}
-use Rattle.ulfm_job.specs.Job.{Seen}
+use Rattle.ulfm_job.specs.Job.{JobView}
 use Rattle.ulfm_script.specs.Played.{FollowsScript}
 use Rattle.ulfm_script.specs.Report.{Report}
 
 -- each rank went through its script
-abbrev pub AllFollowScripts : Seen → List Report → Type 0
+abbrev pub AllFollowScripts : JobView → List Report → Type 0
 AllFollowScripts job reports = (k : ℕ) (report : Report) → at reports k report → FollowsScript job k report
 
 -- each answer of each rank is its step's answer on the log's beginning up to its place, by the one lawful pairing and by the

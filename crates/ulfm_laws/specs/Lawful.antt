@@ -2,7 +2,7 @@
 use Rattle.std.specs.Prelude.{List}
 use Rattle.ulfm_base.specs.Lists.{InPlace}
 use Rattle.ulfm_script.specs.Deciding.{Known}
-use Rattle.ulfm_job.specs.Job.{Seen}
+use Rattle.ulfm_job.specs.Job.{JobView}
 use Rattle.ulfm_script.specs.Report.{Report}
 use Rattle.ulfm_laws.specs.Agreement.{AgreementsAreTrue}
 use Rattle.ulfm_laws.specs.Answers.{AllFollowScripts, AllAnswersFollow, AllAgree}
@@ -25,7 +25,7 @@ pub record KnowAtRest (reports : List Report) : Type 0 where
 -- ordered pair of ranks; each answer is its step's answer by the one lawful pairing of the rank's log, where a decision is the
 -- one that is known for this rank; no two decisions on one topic are known, and those adopted are true of what ranks did;
 -- and each revocation was made by some rank's own call.
-pub record AreProduced (job : Seen) (inboxes : Inboxes) (knows : List Known) (reports : List Report) : Type 0 where
+pub record AreProduced (job : JobView) (inboxes : Inboxes) (knows : List Known) (reports : List Report) : Type 0 where
   pub each : IsEach job reports
   pub known_each : IsEach job knows
   pub order : InPlace (λ (report : Report). report.rank.me) reports
@@ -43,7 +43,7 @@ pub record AreProduced (job : Seen) (inboxes : Inboxes) (knows : List Known) (re
 -- have one group. Those told of one round of agreement are told one value, the AND of the flags of all members but those missing,
 -- who stopped. Each rank went through its script, and the reports stand in rank order. What they tell of letters is true of what
 -- was sent. At rest all running ranks know what happened.
-pub record LawfulReport (job : Seen) (inboxes : Inboxes) (knows : List Known) (reports : List Report) : Type 0 where
+pub record LawfulReport (job : JobView) (inboxes : Inboxes) (knows : List Known) (reports : List Report) : Type 0 where
   pub each : IsEach job reports
   pub flow : Flows inboxes reports
   pub known_each : IsEach job knows
@@ -63,7 +63,7 @@ pub record LawfulReport (job : Seen) (inboxes : Inboxes) (knows : List Known) (r
   pub rest : IsAtRest inboxes reports → KnowAtRest reports
 
 -- The reports are lawful, with something left in inboxes and some decisions known for each rank.
-pub record IsLawful (job : Seen) (reports : List Report) : Type 0 where
+pub record IsLawful (job : JobView) (reports : List Report) : Type 0 where
   pub inboxes : Inboxes
   pub knows : List Known
   pub lawful : LawfulReport job inboxes knows reports

@@ -8,7 +8,7 @@ use Rattle.ulfm_base.specs.declared.pattern.Pattern.{Pattern}
 use Rattle.ulfm_base.specs.declared.error.CallError.TheVariants.{ProcFailed, Revoked, Truncated}
 use Rattle.ulfm_base.specs.Group.{rank_in}
 use Rattle.ulfm_base.specs.Pattern.{Admits}
-use Rattle.ulfm_match.specs.History.{Event, History, Come, End, PostAt, ComeAt, StandsBetween, IsLiveReceive, IsLiveLetter, count_before}
+use Rattle.ulfm_match.specs.History.{MatchEvent, History, Come, End, PostAt, ComeAt, StandsBetween, IsLiveReceive, IsLiveLetter, count_before}
 use Rattle.ulfm_match.specs.Pairing.{Pairing, Pairs, LawfulPairing}
 use Rattle.ulfm_rank.specs.declared.entry.Status.{Status}
 use Rattle.ulfm_rank.specs.declared.message.MessageId.{MessageId}
@@ -64,7 +64,7 @@ abbrev pub letters_sent : State → ℕ → ℕ → List StepReport → List Con
 letters_sent rank c d steps = flat_map (sent_in (group_at rank c) c d) steps
 
 -- the letter of the communicator c that came from the rank s
-abbrev pub come_in : ℕ → ℕ → Event → List Content
+abbrev pub come_in : ℕ → ℕ → MatchEvent → List Content
 come_in s c (Come letter) = if letter.envelope.context.number == c && letter.envelope.source.number == s then content letter.envelope.tag letter.body ∷ [] else []
 come_in s c _ = []
 

@@ -6,7 +6,7 @@ use Rattle.ulfm_rank.specs.declared.entry.Entry.TheVariants.{Adopted}
 use Rattle.ulfm_rank.specs.Communicators.{is_made}
 use Rattle.ulfm_rank.specs.Facts.{is_stopped}
 use Rattle.ulfm_rank.specs.State.{start_state}
-use Rattle.ulfm_job.specs.Job.{Seen}
+use Rattle.ulfm_job.specs.Job.{JobView}
 use Rattle.ulfm_script.specs.Report.{Report}
 
 -- a report where there is none
@@ -18,7 +18,7 @@ abbrev pub report_at : List Report → ℕ → Report
 report_at reports r = slice_index_or reports r no_report
 
 -- for each rank of a job there is one of these
-abbrev pub IsEach : {X : Type 0} → Seen → List X → Type 0
+abbrev pub IsEach : {X : Type 0} → JobView → List X → Type 0
 IsEach job xs = length xs ≡ job.ranks
 
 -- the rank runs

@@ -1,7 +1,7 @@
 //! The laws of reports, whichever engine produced them.
 ghost use Rattle.std.specs.Prelude.{List, ◌≤◌};
 ghost use Rattle.ulfm_script.specs.Deciding.{Known};
-ghost use Rattle.ulfm_job.specs.Job.{Seen};
+ghost use Rattle.ulfm_job.specs.Job.{JobView};
 ghost use Rattle.ulfm_script.specs.Report.{Report};
 ghost use Rattle.ulfm_laws.specs.Flow.{Inboxes};
 ghost use Rattle.ulfm_laws.specs.Lawful.{AreProduced, LawfulReport};
@@ -9,5 +9,5 @@ ghost use Rattle.ulfm_laws.specs.Lawful.{AreProduced, LawfulReport};
 /// Reports that an engine produces are lawful: what is true of each rank, and the flow between ranks, give the rest of the
 /// headline (MPI 4.0, 3.5; ULFM).
 pub fn produced_is_lawful()
-    ensures { (job : Seen) (inboxes : Inboxes) (knows : List Known) (reports : List Report) → AreProduced job inboxes knows reports → LawfulReport job inboxes knows reports }
+    ensures { (job : JobView) (inboxes : Inboxes) (knows : List Known) (reports : List Report) → AreProduced job inboxes knows reports → LawfulReport job inboxes knows reports }
 {}

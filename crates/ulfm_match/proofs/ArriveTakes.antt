@@ -1,6 +1,6 @@
 -- A letter comes, and a waiting receive gets it.
 use Rattle.std.proofs.Common.{◌≡◌, ◌≢◌, ℕ, ◌+◌, ◌<◌, inl, inr, List, [], ◌∷◌, ◌++◌, length, refl, ap, sym, ◌∙◌, arith, max}
-use Rattle.ulfm_match.proofs.Common.{Pattern, Admits, Letter, Event, Post, Come, PostAt, ComeAt, count_before, Pairing, Pairs, IsWaiting, LawfulPairing, Matching, IsUncleared, Tracks, Contains-push, ArrivalGoesTo}
+use Rattle.ulfm_match.proofs.Common.{Pattern, Admits, Letter, MatchEvent, Post, Come, PostAt, ComeAt, count_before, Pairing, Pairs, IsWaiting, LawfulPairing, Matching, IsUncleared, Tracks, Contains-push, ArrivalGoesTo}
 use Rattle.ulfm_match.proofs.Decide.{lt_or_ge, compared}
 use Rattle.ulfm_match.proofs.Histories.{below_last, get_new, get_below, stands_old, receive_more, stands_wider, count_below, same_number}
 use Rattle.ulfm_match.proofs.Least.{TakesLeast}
@@ -8,7 +8,7 @@ use Rattle.ulfm_match.proofs.Lists.{lists_sub, lists_same}
 use Rattle.ulfm_match.proofs.Extend.{IsNew, letter_within, none_missed_below, extend}
 use Rattle.ulfm_match.proofs.Steps.{come_more, come_here, pair_cases, pair_old, stands_nowhere, cleared_same, tracks, waiting_to, waiting_back, kept_to, kept_back, waiting_number, kept_number, kept_or_paired, waits_or_paired}
 
-module _ (h : List Event) (r : Pairing) (s : Matching) (l : Letter) (t : Tracks h r s) (open' : IsUncleared h l.envelope.context.number) where
+module _ (h : List MatchEvent) (r : Pairing) (s : Matching) (l : Letter) (t : Tracks h r s) (open' : IsUncleared h l.envelope.context.number) where
   -- the first waiting receive that admits the letter is answered
   module _ (waiting' : List (ℕ × Pattern)) (z : ℕ × Pattern) (taken : TakesLeast (λ (y : ℕ × Pattern). Admits y.1 l.envelope) s.waiting waiting' z) where
     found : (i : ℕ) × (count_before h i ≡ z.0) × IsWaiting h r i z.1 (length h)

@@ -8,7 +8,7 @@ pub use Rattle.ulfm_base.specs.declared.envelope.Envelope.{Envelope}
 pub use Rattle.ulfm_base.specs.declared.envelope.Letter.{Letter}
 pub use Rattle.ulfm_base.specs.declared.pattern.Pattern.{Pattern}
 pub use Rattle.ulfm_match.specs.Calls.{ArrivalGoesTo, EndsNamed, PostGets}
-pub use Rattle.ulfm_match.specs.History.{Clear, Come, ComeAt, End, Event, IsLiveLetter, IsLiveReceive, IsWellFormed, Post, PostAt, StandsBetween, count_before, counts_as}
+pub use Rattle.ulfm_match.specs.History.{Clear, Come, ComeAt, End, MatchEvent, IsLiveLetter, IsLiveReceive, IsWellFormed, Post, PostAt, StandsBetween, count_before, counts_as}
 pub use Rattle.ulfm_match.specs.Pairing.{IsKept, IsMatch, IsWaiting, LawfulPairing, Pairing, Pairs, pairs_below}
 pub use Rattle.ulfm_match.specs.State.{IsAscending, IsUncleared, Keeps, Lists, Matching, Tracks, is_cleared}
 pub use Rattle.ulfm_match.specs.inside.Buckets.{Buckets, Entries, FindsLeast, Grows, IsIndexed, IsLesser, NoneIsWild, NonePass, Passes, Rises, Sweeps, SweepsFor, TakesEarliest, TakesOut, StandsFrom, numbers_at, numbers_of}

@@ -1,6 +1,6 @@
 -- A lawful pairing, cut to a beginning of its history, is lawful there.
 use Rattle.std.proofs.Common.{◌≡◌, ℕ, zero, suc, ◌+◌, ◌<◌, ◌≤◌, List, [], ◌∷◌, ◌++◌, length, Some, arith, true, length-append, slice_get, max, nat_lt, ◌&&◌}
-use Rattle.ulfm_match.proofs.Common.{Pattern, Letter, Event, Post, Come, StandsBetween, IsLiveReceive, IsLiveLetter, Pairing, Pairs, pairs_below, LawfulPairing, nat_tests}
+use Rattle.ulfm_match.proofs.Common.{Pattern, Letter, MatchEvent, Post, Come, StandsBetween, IsLiveReceive, IsLiveLetter, Pairing, Pairs, pairs_below, LawfulPairing, nat_tests}
 use Rattle.ulfm_match.proofs.Members.{Contains-filter, filter-Contains}
 
 module _ {X : Type 0} where
@@ -29,11 +29,11 @@ inside_back n r i b li lb q = filter-Contains (λ (pair : ℕ × ℕ). nat_lt pa
     tests : (n i b : ℕ) → i < n → b < n → nat_lt i n && nat_lt b n ≡ true
     tests n i b l m = grind (arith, nat_tests)
 
-module _ (h xs : List Event) where
-  stands_on : {e : Event} {i n : ℕ} → StandsBetween h e i n → StandsBetween (h ++ xs) e i n
+module _ (h xs : List MatchEvent) where
+  stands_on : {e : MatchEvent} {i n : ℕ} → StandsBetween h e i n → StandsBetween (h ++ xs) e i n
   stands_on {e} {i} {n} s = record { place = s.place; after = s.after; before = s.before; is = get_front h xs s.place e s.is }
 
-  stands_off : {e : Event} {i n : ℕ} → n ≤ length h → StandsBetween (h ++ xs) e i n → StandsBetween h e i n
+  stands_off : {e : MatchEvent} {i n : ℕ} → n ≤ length h → StandsBetween (h ++ xs) e i n → StandsBetween h e i n
   stands_off {e} {i} {n} l s =
       let b = s.before in
       record { place = s.place; after = s.after; before = s.before; is = get_in_front h xs s.place e (omega arith) s.is }

@@ -1,6 +1,6 @@
 -- A post and an arrival have one answer.
 use Rattle.std.proofs.Common.{◌≡◌, ℕ, inl, inr, List, [], ◌∷◌, ◌++◌, length, refl, ap, sym, ◌∙◌, arith, Option, Some, None, MatchOption}
-use Rattle.ulfm_match.proofs.Common.{Pattern, Letter, Event, Post, Come, count_before, Pairing, LawfulPairing, Matching, Tracks, Contains-push, PostGets, ArrivalGoesTo}
+use Rattle.ulfm_match.proofs.Common.{Pattern, Letter, MatchEvent, Post, Come, count_before, Pairing, LawfulPairing, Matching, Tracks, Contains-push, PostGets, ArrivalGoesTo}
 use Rattle.ulfm_match.specs.Calls.{ProbeGets, KeepsNone}
 use Rattle.ulfm_match.proofs.Extend.{receive_within, letter_within}
 use Rattle.ulfm_match.proofs.Steps.{pair_cases}
@@ -8,10 +8,10 @@ use Rattle.ulfm_match.proofs.Probed.{posted_with, probe_gives, probe_leaves}
 use Rattle.ulfm_match.proofs.Unique.{one_pairing, same_letter}
 
 -- what a post says of its answer
-abbrev pub Posts : List Event → Pairing → Pattern → Matching → Option Letter → Type 0
+abbrev pub Posts : List MatchEvent → Pairing → Pattern → Matching → Option Letter → Type 0
 Posts h r p s o = MatchOption o (Tracks (h ++ Post p ∷ []) r s) (λ letter. PostGets h r p letter s)
 
-module _ (h : List Event) (r : Pairing) (law : LawfulPairing h r) (p : Pattern) where
+module _ (h : List MatchEvent) (r : Pairing) (law : LawfulPairing h r) (p : Pattern) where
   -- no pairing in which the receive is unpaired is lawful beside one in which it is paired
   never : (s s' : Matching) (l : Letter) → Posts h r p s None → Posts h r p s' (Some l) → ⊥
   never s s' l t t' =
@@ -31,10 +31,10 @@ module _ (h : List Event) (r : Pairing) (law : LawfulPairing h r) (p : Pattern) 
       ]
 
 -- what a probe says of its answer
-abbrev Probes : List Event → Pairing → Pattern → Matching → Option Letter → Type 0
+abbrev Probes : List MatchEvent → Pairing → Pattern → Matching → Option Letter → Type 0
 Probes h r p s o = MatchOption o (KeepsNone h r p) (λ letter. ProbeGets h r p letter s)
 
-module _ (h : List Event) (r : Pairing) (law : LawfulPairing h r) (p : Pattern) where
+module _ (h : List MatchEvent) (r : Pairing) (law : LawfulPairing h r) (p : Pattern) where
   never_found : (s' : Matching) (l : Letter) → KeepsNone h r p → ProbeGets h r p l s' → ⊥
   never_found s' l none g = let f = posted_with g in probe_leaves h r p law none f.pairing f.lawful g.place f.pairs
 
@@ -47,10 +47,10 @@ module _ (h : List Event) (r : Pairing) (law : LawfulPairing h r) (p : Pattern) 
       let e : t.place ≡ t'.place = f.lawful.one_letter (length h) t.place t'.place f.pairs (probe_gives t' f.pairing f.lawful) in
       ap Some (same_letter h t.place l k t.came (rw e t'.came))
 
-abbrev Arrives : List Event → Pairing → Letter → Matching → Option ℕ → Type 0
+abbrev Arrives : List MatchEvent → Pairing → Letter → Matching → Option ℕ → Type 0
 Arrives h r l s o = MatchOption o (Tracks (h ++ Come l ∷ []) r s) (λ id. ArrivalGoesTo h r l id s)
 
-module _ (h : List Event) (r : Pairing) (law : LawfulPairing h r) (l : Letter) where
+module _ (h : List MatchEvent) (r : Pairing) (law : LawfulPairing h r) (l : Letter) where
   never_kept : (s s' : Matching) (id : ℕ) → Arrives h r l s None → Arrives h r l s' (Some id) → ⊥
   never_kept s s' id t t' =
       let q = one_pairing (h ++ Come l ∷ []) (r ++ (t'.place, length h) ∷ []) r t'.tracks.lawful t.lawful t'.place (length h) (Contains-push r (t'.place, length h)) in

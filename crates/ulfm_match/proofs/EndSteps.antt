@@ -1,6 +1,6 @@
 -- A receive ends, or a context is cleared: an event that makes no pair.
 use Rattle.std.proofs.Common.{◌≡◌, ◌≢◌, ℕ, ◌+◌, ◌<◌, inl, List, [], ◌∷◌, ◌++◌, length, refl, ap, sym, ◌∙◌, Some, arith, Contains, filter, not, ◌==◌, Bool, true, false, ◌↔◌}
-use Rattle.ulfm_match.proofs.Common.{Pattern, Letter, Event, Post, Come, End, Clear, PostAt, ComeAt, IsWellFormed, counts_as, count_before, Pairing, IsWaiting, IsKept, LawfulPairing, Matching, is_cleared, IsAscending, IsUncleared, Tracks, nat_tests, slice_get_within}
+use Rattle.ulfm_match.proofs.Common.{Pattern, Letter, MatchEvent, Post, Come, End, Clear, PostAt, ComeAt, IsWellFormed, counts_as, count_before, Pairing, IsWaiting, IsKept, LawfulPairing, Matching, is_cleared, IsAscending, IsUncleared, Tracks, nat_tests, slice_get_within}
 use Rattle.ulfm_match.proofs.Histories.{below_last, get_new, same_number}
 use Rattle.ulfm_match.proofs.Members.{Contains-filter, filter-Contains}
 use Rattle.ulfm_match.proofs.Ascending.{ascending_filter}
@@ -9,7 +9,7 @@ use Rattle.ulfm_match.proofs.Extend.{none_missed_below, extend}
 use Rattle.ulfm_match.proofs.Steps.{history_more, cleared_same, cleared_also, tracks, waiting_to, waiting_back, kept_to, kept_back, waiting_number, kept_number}
 
 -- an event that is no post and no arrival makes no pair
-module _ (h : List Event) (r : Pairing) (s : Matching) (x : Event) (t : Tracks h r s) (light : counts_as x ≡ 0) where
+module _ (h : List MatchEvent) (r : Pairing) (s : Matching) (x : MatchEvent) (t : Tracks h r s) (light : counts_as x ≡ 0) where
   no_post : (i : ℕ) (p : Pattern) → PostAt (h ++ x ∷ []) i p → i < length h
   no_post i p posted = below_last h x i (Post p) posted (λ e. let one : counts_as x ≡ 1 = ap counts_as e in absurd (omega arith))
 
@@ -42,7 +42,7 @@ module _ (h : List Event) (r : Pairing) (s : Matching) (x : Event) (t : Tracks h
       (λ b l k y. kept_to h x r r t.lawful (λ i b q. q) b l (keeps b l k y) (λ i q. q) k)
       (λ b l k. let k' = kept_back h x r r t.lawful (λ i b q. q) b l (no_letter b l k.live.came) k in (k', keeps_back b l k' k)))
 
-module _ (h : List Event) (r : Pairing) (s : Matching) (t : Tracks h r s) where
+module _ (h : List MatchEvent) (r : Pairing) (s : Matching) (t : Tracks h r s) where
   -- the receive posted at i0 ends; it may have been paired or ended before
   module _ (i0 : ℕ) (p0 : Pattern) (posted : PostAt h i0 p0) where
     pub end_step : (s' : Matching) → s'.cleared ≡ s.cleared → s'.count ≡ s.count → IsAscending s'.waiting → ((y : ℕ × Pattern) → Contains s'.waiting y → Contains s.waiting y × (y.0 ≢ count_before h i0)) → ((y : ℕ × Pattern) → Contains s.waiting y → y.0 ≢ count_before h i0 → Contains s'.waiting y) → s'.kept ≡ s.kept → Tracks (h ++ End i0 ∷ []) r s'
@@ -77,7 +77,7 @@ module _ (h : List Event) (r : Pairing) (s : Matching) (t : Tracks h r s) where
       (λ b l k n e. n (let q : l.envelope.context.number ≡ c = cc in q))
       (λ b l k k' e. k'.live.not_cleared (record { place = length h; after = k.live.before; before = omega arith; is = get_new h (Clear c) ∙ ap (λ (k : ℕ). Some (Clear k)) (sym e) }))
 
-module _ (h : List Event) (r : Pairing) (s : Matching) (t : Tracks h r s) where
+module _ (h : List MatchEvent) (r : Pairing) (s : Matching) (t : Tracks h r s) where
   -- the receive at i0 was waiting, and is taken out
   pub end_taken : (i0 : ℕ) (p0 : Pattern) → PostAt h i0 p0 → (id : ℕ) → count_before h i0 ≡ id → (s' : Matching) → s'.cleared ≡ s.cleared → s'.count ≡ s.count → IsAscending s'.waiting → ((y : ℕ × Pattern) → Contains s'.waiting y → Contains s.waiting y × (y.0 ≢ id)) → ((y : ℕ × Pattern) → Contains s.waiting y → y.0 ≢ id → Contains s'.waiting y) → s'.kept ≡ s.kept → Tracks (h ++ End i0 ∷ []) r s'
   end_taken i0 p0 posted id n s' em ec asc to back ek =
@@ -95,7 +95,7 @@ pub passes_context : (a c : ℕ) → a ≢ c → not (a == c) ≡ true
 passes_context a c n = grind (arith, nat_tests)
 
 -- what isn't of the context stays
-pub clear_filtered : (h : List Event) (r : Pairing) (s : Matching) → Tracks h r s → (c : ℕ) (s' : Matching) → is_cleared s' c ≡ true → ((d : ℕ) → d ≢ c → is_cleared s' d ≡ is_cleared s d) → s'.count ≡ s.count → s'.waiting ≡ filter (λ (y : ℕ × Pattern). not (y.1.context.number == c)) s.waiting → s'.kept ≡ filter (λ (y : ℕ × Letter). not (y.1.envelope.context.number == c)) s.kept → Tracks (h ++ Clear c ∷ []) r s'
+pub clear_filtered : (h : List MatchEvent) (r : Pairing) (s : Matching) → Tracks h r s → (c : ℕ) (s' : Matching) → is_cleared s' c ≡ true → ((d : ℕ) → d ≢ c → is_cleared s' d ≡ is_cleared s d) → s'.count ≡ s.count → s'.waiting ≡ filter (λ (y : ℕ × Pattern). not (y.1.context.number == c)) s.waiting → s'.kept ≡ filter (λ (y : ℕ × Letter). not (y.1.envelope.context.number == c)) s.kept → Tracks (h ++ Clear c ∷ []) r s'
 clear_filtered h r s t c s' em others ec ew ek =
     let W : ℕ × Pattern → Bool = λ y. not (y.1.context.number == c) in
     let K : ℕ × Letter → Bool = λ y. not (y.1.envelope.context.number == c) in

@@ -1,6 +1,6 @@
 -- Several receives end.
 use Rattle.std.proofs.Common.{◌≡◌, ◌≢◌, ℕ, inl, inr, Bool, true, false, List, [], ◌∷◌, ◌++◌, refl, ap, sym, ◌∙◌, subst, arith, append-nil, append_assoc, Contains, filter, not, ◌==◌}
-use Rattle.ulfm_match.proofs.Common.{Pattern, names, Event, Post, End, PostAt, count_before, Pairing, Matching, IsAscending, Tracks, EndsNamed, slice_get_within}
+use Rattle.ulfm_match.proofs.Common.{Pattern, names, MatchEvent, Post, End, PostAt, count_before, Pairing, Matching, IsAscending, Tracks, EndsNamed, slice_get_within}
 use Rattle.ulfm_match.proofs.Decide.{Contains-head, Contains-tail, Contains-cons_cases, Contains-none}
 use Rattle.ulfm_match.proofs.Histories.{get_old, count_old, same_number}
 use Rattle.ulfm_match.proofs.Members.{Contains-filter, filter-Contains}
@@ -10,15 +10,15 @@ use Rattle.ulfm_match.proofs.EndSteps.{end_step, other_context, passes_context}
 use Rattle.ulfm_match.proofs.Unique.{same_pattern}
 
 -- each of the events ends a receive of the history
-abbrev pub AreEnds : List Event → List Event → Type 0
-AreEnds h es = (x : Event) → Contains es x → (i : ℕ) × (p : Pattern) × (x ≡ End i) × PostAt h i p
+abbrev pub AreEnds : List MatchEvent → List MatchEvent → Type 0
+AreEnds h es = (x : MatchEvent) → Contains es x → (i : ℕ) × (p : Pattern) × (x ≡ End i) × PostAt h i p
 
 -- the entry's receive isn't ended by them
-abbrev pub IsSpared : List Event → List Event → ℕ → Type 0
+abbrev pub IsSpared : List MatchEvent → List MatchEvent → ℕ → Type 0
 IsSpared h es k = (i : ℕ) → Contains es (End i) → k ≢ count_before h i
 
 -- the waiting receives that are spared stay, and no others
-pub ends_tracks : (es h : List Event) (r : Pairing) (s s' : Matching) → Tracks h r s → AreEnds h es → s'.cleared ≡ s.cleared → s'.count ≡ s.count → s'.kept ≡ s.kept → IsAscending s'.waiting
+pub ends_tracks : (es h : List MatchEvent) (r : Pairing) (s s' : Matching) → Tracks h r s → AreEnds h es → s'.cleared ≡ s.cleared → s'.count ≡ s.count → s'.kept ≡ s.kept → IsAscending s'.waiting
     → ((y : ℕ × Pattern) → Contains s'.waiting y → Contains s.waiting y × IsSpared h es y.0)
     → ((y : ℕ × Pattern) → Contains s.waiting y → IsSpared h es y.0 → Contains s'.waiting y)
     → Tracks (h ++ es) r s'
@@ -82,7 +82,7 @@ is_spared true h = cc
 is_spared false h = refl
 
 -- the receives that name s are taken out
-pub named_filtered : (n : ℕ) (h : List Event) (r : Pairing) (es : List Event) (s s' : Matching) → EndsNamed h n es → Tracks h r s → s'.cleared ≡ s.cleared → s'.count ≡ s.count → s'.kept ≡ s.kept → s'.waiting ≡ filter (λ (y : ℕ × Pattern). not (names y.1.source n)) s.waiting → Tracks (h ++ es) r s'
+pub named_filtered : (n : ℕ) (h : List MatchEvent) (r : Pairing) (es : List MatchEvent) (s s' : Matching) → EndsNamed h n es → Tracks h r s → s'.cleared ≡ s.cleared → s'.count ≡ s.count → s'.kept ≡ s.kept → s'.waiting ≡ filter (λ (y : ℕ × Pattern). not (names y.1.source n)) s.waiting → Tracks (h ++ es) r s'
 named_filtered n h r es s s' ends t em ec ek ew =
     let W : ℕ × Pattern → Bool = λ y. not (names y.1.source n) in
     ends_tracks es h r s s' t (λ x c. let e = ends.sound x c in (e.0, e.1, e.2, e.3)) em ec ek

@@ -1,7 +1,7 @@
 -- Each history that can happen has a lawful pairing.
 use Rattle.std.proofs.Common.{◌≡◌, ℕ, zero, suc, ◌+◌, inl, inr, Bool, true, false, List, [], ◌∷◌, ◌++◌, length, refl, sym, subst, append-nil, append_assoc, filter, not, get_or, set, replicate, ◌==◌, ◌∙◌, arith, length-append}
 use Rattle.std.proofs.lemmas.List.{length-replicate, get_or-set_same, get_or-set_other}
-use Rattle.ulfm_match.proofs.Common.{Pattern, Admits, Letter, Event, Post, Come, End, Clear, PostAt, IsWellFormed, count_before, Pairing, LawfulPairing, Matching, is_cleared, Tracks, IsUncleared, slice_get_within, get_or-blank}
+use Rattle.ulfm_match.proofs.Common.{Pattern, Admits, Letter, MatchEvent, Post, Come, End, Clear, PostAt, IsWellFormed, count_before, Pairing, LawfulPairing, Matching, is_cleared, Tracks, IsUncleared, slice_get_within, get_or-blank}
 use Rattle.ulfm_match.proofs.ArriveKeeps.{arrive_keeps}
 use Rattle.ulfm_match.proofs.ArriveTakes.{arrive_takes}
 use Rattle.ulfm_match.proofs.Ascending.{ascending_filter}
@@ -16,7 +16,7 @@ use Rattle.ulfm_match.proofs.Admitted.{admits_either}
 use Rattle.ulfm_match.proofs.Histories.{get_here}
 
 -- a history with a lawful pairing and its remains
-record IsPaired (h : List Event) : Type 0 where
+record IsPaired (h : List MatchEvent) : Type 0 where
   pub pairing : Pairing
   pub state : Matching
   pub tracks : Tracks h pairing state
@@ -30,7 +30,7 @@ blanks n [] d = get_or-blank n d false
 blanks n (b ∷ bs) zero = refl
 blanks n (b ∷ bs) (suc d) = blanks n bs d
 
-module _ (h : List Event) (t : IsPaired h) where
+module _ (h : List MatchEvent) (t : IsPaired h) where
   paired-post : (p : Pattern) → IsUncleared h p.context.number → IsPaired (h ++ Post p ∷ [])
   paired-post p open' =
       let s = t.state in
@@ -82,13 +82,13 @@ module _ (h : List Event) (t : IsPaired h) where
       record { pairing = t.pairing; state = new; tracks = clear_filtered h t.pairing s t.tracks c new (get_or-set_same longer c true false (omega (arith, length-append s.cleared (replicate (c + 1) false), length-replicate (c + 1) false))) (λ d n. get_or-set_other longer c d true false n ∙ blanks (c + 1) s.cleared d) refl refl refl }
 
 -- one more event of a history that can happen
-paired-next : (h : List Event) (e : Event) (rest : List Event) → IsPaired h → IsWellFormed (h ++ e ∷ rest) → IsPaired (h ++ e ∷ [])
+paired-next : (h : List MatchEvent) (e : MatchEvent) (rest : List MatchEvent) → IsPaired h → IsWellFormed (h ++ e ∷ rest) → IsPaired (h ++ e ∷ [])
 paired-next h (Post p) rest t wf = paired-post h t p (λ k c. wf.no_posts k (length h) p (slice_get_within h k (Clear p.context.number) c) (get_here h (Post p) rest) (get_front h (Post p ∷ rest) k (Clear p.context.number) c))
 paired-next h (Come l) rest t wf = paired-come h t l (λ k c. wf.no_letters k (length h) l (slice_get_within h k (Clear l.envelope.context.number) c) (get_here h (Come l) rest) (get_front h (Come l ∷ rest) k (Clear l.envelope.context.number) c))
 paired-next h (End i) rest t wf = let e = wf.ends i (length h) (get_here h (End i) rest) in paired-end h t i e.0 (get_in_front h (End i ∷ rest) i (Post e.0) e.1 e.2)
 paired-next h (Clear c) rest t wf = paired-clear h t c
 
-paired-all : (rest h : List Event) → IsPaired h → IsWellFormed (h ++ rest) → IsPaired (h ++ rest)
+paired-all : (rest h : List MatchEvent) → IsPaired h → IsWellFormed (h ++ rest) → IsPaired (h ++ rest)
 paired-all [] h t wf = subst IsPaired (sym (append-nil h)) t
 paired-all (e ∷ rest) h t wf =
     let same = append_assoc h (e ∷ []) rest in
@@ -115,7 +115,7 @@ tracks_none s ew ek ec open' = record {
 }
 
 -- a history that can happen has a lawful pairing
-pub some_pairing : (h : List Event) → IsWellFormed h → (r : Pairing) × LawfulPairing h r
+pub some_pairing : (h : List MatchEvent) → IsWellFormed h → (r : Pairing) × LawfulPairing h r
 some_pairing h wf =
     let t = paired-all h [] (record { pairing = []; state = a_state [] [] 0 []; tracks = tracks_none (a_state [] [] 0 []) refl refl refl (λ c. refl) }) wf in
     (t.pairing, t.tracks.lawful)

@@ -1,25 +1,25 @@
 -- A history longer by one event, with one new pair at most, has a lawful pairing.
 use Rattle.std.proofs.Common.{◌≡◌, ℕ, ◌+◌, ◌<◌, ◌≤◌, ◌⊎◌, inl, inr, List, [], ◌∷◌, ◌++◌, length, sym, ◌∙◌, subst, arith, max}
-use Rattle.ulfm_match.proofs.Common.{Pattern, Admits, Letter, Event, Post, Come, End, PostAt, ComeAt, StandsBetween, Pairing, Pairs, IsWaiting, IsKept, IsMatch, LawfulPairing, slice_get_within}
+use Rattle.ulfm_match.proofs.Common.{Pattern, Admits, Letter, MatchEvent, Post, Come, End, PostAt, ComeAt, StandsBetween, Pairing, Pairs, IsWaiting, IsKept, IsMatch, LawfulPairing, slice_get_within}
 use Rattle.ulfm_match.proofs.Decide.{lt_or_ge}
 use Rattle.ulfm_match.proofs.Histories.{get_below, length_more, stands_old, receive_old, receive_back, receive_less, letter_old, letter_back, letter_less}
 
 -- a pair that the event x makes
-pub record IsNew (h : List Event) (x : Event) (r : Pairing) (i b : ℕ) : Type 0 where
+pub record IsNew (h : List MatchEvent) (x : MatchEvent) (r : Pairing) (i b : ℕ) : Type 0 where
   pub match : IsMatch (h ++ x ∷ []) i b
   pub free_receive : (d : ℕ) → Pairs r i d → ⊥
   pub free_letter : (j : ℕ) → Pairs r j b → ⊥
   pub earlier_letters : (a : ℕ) (p : Pattern) (l : Letter) → PostAt (h ++ x ∷ []) i p → a < b → ComeAt (h ++ x ∷ []) a l → Admits p l.envelope → (j : ℕ) × (j < i) × Pairs r j a
   pub earlier_receives : (j : ℕ) (p : Pattern) (l : Letter) → ComeAt (h ++ x ∷ []) b l → j < i → PostAt (h ++ x ∷ []) j p → (StandsBetween (h ++ x ∷ []) (End j) j (max i b) → ⊥) → Admits p l.envelope → (a : ℕ) × (a < b) × Pairs r j a
 
-module _ (h : List Event) (r : Pairing) (law : LawfulPairing h r) where
+module _ (h : List MatchEvent) (r : Pairing) (law : LawfulPairing h r) where
   pub receive_within : (i b : ℕ) → Pairs r i b → i < length h
   receive_within i b q = slice_get_within h i _ (law.matched i b q).receive_live.posted
 
   pub letter_within : (i b : ℕ) → Pairs r i b → b < length h
   letter_within i b q = slice_get_within h b _ (law.matched i b q).letter_live.came
 
-  module _ (x : Event) where
+  module _ (x : MatchEvent) where
     pub match_old : (i b : ℕ) → Pairs r i b → IsMatch (h ++ x ∷ []) i b
     match_old i b q =
         let k = law.matched i b q in

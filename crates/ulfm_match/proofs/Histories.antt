@@ -1,6 +1,6 @@
 -- A history longer by one event: what is at each place, what is live, and the numbers.
 use Rattle.std.proofs.Common.{◌≡◌, ◌≢◌, ℕ, zero, suc, ◌+◌, ◌<◌, ◌≤◌, ◌⊎◌, inl, inr, List, [], ◌∷◌, ◌++◌, length, refl, ap, ◌∙◌, Some, arith, length-append, slice_get}
-use Rattle.ulfm_match.proofs.Common.{Pattern, Letter, Event, Post, Come, End, Clear, StandsBetween, IsLiveReceive, IsLiveLetter, counts_as, count_before, slice_get_within}
+use Rattle.ulfm_match.proofs.Common.{Pattern, Letter, MatchEvent, Post, Come, End, Clear, StandsBetween, IsLiveReceive, IsLiveLetter, counts_as, count_before, slice_get_within}
 use Rattle.ulfm_match.proofs.Decide.{compared}
 
 module _ {X : Type 0} where
@@ -36,20 +36,20 @@ module _ {X : Type 0} where
   pub length_more : (xs : List X) (e : X) → length (xs ++ e ∷ []) ≡ length xs + 1
   length_more xs e = length-append xs (e ∷ [])
 
-pub stands_wider : {h : List Event} {e : Event} {i n : ℕ} (m : ℕ) → n ≤ m → StandsBetween h e i n → StandsBetween h e i m
+pub stands_wider : {h : List MatchEvent} {e : MatchEvent} {i n : ℕ} (m : ℕ) → n ≤ m → StandsBetween h e i n → StandsBetween h e i m
 stands_wider m l s = record { place = s.place; after = s.after; before = let a : s.place < _ = s.before in omega (arith, l, a); is = s.is }
 
-module _ (h : List Event) (x : Event) where
-  pub stands_old : {e : Event} {i n : ℕ} → StandsBetween h e i n → StandsBetween (h ++ x ∷ []) e i n
+module _ (h : List MatchEvent) (x : MatchEvent) where
+  pub stands_old : {e : MatchEvent} {i n : ℕ} → StandsBetween h e i n → StandsBetween (h ++ x ∷ []) e i n
   stands_old {e} {i} {n} s = record { place = s.place; after = s.after; before = s.before; is = get_old h x s.place e s.is }
 
-  pub stands_back : {e : Event} {i n : ℕ} → n ≤ length h → StandsBetween (h ++ x ∷ []) e i n → StandsBetween h e i n
+  pub stands_back : {e : MatchEvent} {i n : ℕ} → n ≤ length h → StandsBetween (h ++ x ∷ []) e i n → StandsBetween h e i n
   stands_back {e} {i} {n} l s =
       let b : s.place < n = s.before in
       record { place = s.place; after = s.after; before = s.before; is = get_below h x s.place e (omega arith) s.is }
 
   -- what stands before the moment after x is x, or stands before x
-  pub stands_last : {e : Event} {i : ℕ} → StandsBetween (h ++ x ∷ []) e i (length h + 1) → StandsBetween h e i (length h) ⊎ (x ≡ e)
+  pub stands_last : {e : MatchEvent} {i : ℕ} → StandsBetween (h ++ x ∷ []) e i (length h + 1) → StandsBetween h e i (length h) ⊎ (x ≡ e)
   stands_last {e} {i} s =
       elim (get_cases h x s.place e s.is) [
         | inl p ↦ inl (record { place = s.place; after = s.after; before = slice_get_within h s.place e p; is = p })
@@ -92,17 +92,17 @@ module _ (h : List Event) (x : Event) where
     letter_less c v = record { came = get_below h x b (Come l) c v.came; before = c; not_cleared = λ s. v.not_cleared (stands_wider (length h + 1) (omega arith) (stands_old s)) }
 
 -- numbers
-pub count_old : (h : List Event) (x : Event) (i : ℕ) → i ≤ length h → count_before (h ++ x ∷ []) i ≡ count_before h i
+pub count_old : (h : List MatchEvent) (x : MatchEvent) (i : ℕ) → i ≤ length h → count_before (h ++ x ∷ []) i ≡ count_before h i
 count_old [] x zero l = refl
 count_old [] x (suc i) l = absurd (omega arith)
 count_old (e ∷ h) x zero l = refl
 count_old (e ∷ h) x (suc i) l = ap (λ n. counts_as e + n) (count_old h x i (omega arith))
 
-pub count_new : (h : List Event) (x : Event) → count_before (h ++ x ∷ []) (suc (length h)) ≡ count_before h (length h) + counts_as x
+pub count_new : (h : List MatchEvent) (x : MatchEvent) → count_before (h ++ x ∷ []) (suc (length h)) ≡ count_before h (length h) + counts_as x
 count_new [] x = omega arith
 count_new (e ∷ h) x = let k = count_new h x in omega (arith, k)
 
-pub count_below : (h : List Event) (i n : ℕ) (e : Event) → slice_get h i ≡ Some e → counts_as e ≡ 1 → i < n → count_before h i < count_before h n
+pub count_below : (h : List MatchEvent) (i n : ℕ) (e : MatchEvent) → slice_get h i ≡ Some e → counts_as e ≡ 1 → i < n → count_before h i < count_before h n
 count_below [] i n e g w l = cc
 count_below (y ∷ h) zero zero e g w l = absurd (omega arith)
 count_below (y ∷ h) zero (suc n) e g w l =
@@ -112,20 +112,20 @@ count_below (y ∷ h) zero (suc n) e g w l =
 count_below (y ∷ h) (suc i) zero e g w l = absurd (omega arith)
 count_below (y ∷ h) (suc i) (suc n) e g w l = let k = count_below h i n e g w (omega arith) in omega (arith, k)
 
-pub same_number : (h : List Event) (i j : ℕ) (d e : Event) → slice_get h i ≡ Some d → counts_as d ≡ 1 → slice_get h j ≡ Some e → counts_as e ≡ 1 → count_before h i ≡ count_before h j → i ≡ j
+pub same_number : (h : List MatchEvent) (i j : ℕ) (d e : MatchEvent) → slice_get h i ≡ Some d → counts_as d ≡ 1 → slice_get h j ≡ Some e → counts_as e ≡ 1 → count_before h i ≡ count_before h j → i ≡ j
 same_number h i j d e gi wi gj wj q =
     elim (compared i j) [
       | inl l ↦ absurd (omega (arith, count_below h i j d gi wi l))
       | inr o ↦ elim o [ inl s ↦ s | inr l ↦ absurd (omega (arith, count_below h j i e gj wj l)) ]
     ]
 
-pub count_front : (h es : List Event) (i : ℕ) → i ≤ length h → count_before (h ++ es) i ≡ count_before h i
+pub count_front : (h es : List MatchEvent) (i : ℕ) → i ≤ length h → count_before (h ++ es) i ≡ count_before h i
 count_front [] [] zero l = refl
 count_front [] (e ∷ es) zero l = refl
 count_front [] es (suc i) l = absurd (omega (arith, l))
 count_front (e ∷ h) es zero l = refl
 count_front (e ∷ h) es (suc i) l = ap (λ n. counts_as e + n) (count_front h es i (omega (arith, l)))
 
-pub count_rises : (h es : List Event) → count_before h (length h) ≤ count_before (h ++ es) (length (h ++ es))
+pub count_rises : (h es : List MatchEvent) → count_before h (length h) ≤ count_before (h ++ es) (length (h ++ es))
 count_rises [] es = omega arith
 count_rises (e ∷ h) es = let r = count_rises h es in omega (arith, r)

@@ -1,9 +1,9 @@
 -- How the list of what is live goes from one history to the next.
 use Rattle.std.proofs.Common.{◌≡◌, ℕ, ◌<◌, ◌⊎◌, inl, inr, List, [], ◌∷◌, ◌++◌, ap, sym, ◌∙◌, subst, Contains}
-use Rattle.ulfm_match.proofs.Common.{Event, count_before, IsAscending, Lists, Contains-append_left, Contains-push, Contains-push_cases}
+use Rattle.ulfm_match.proofs.Common.{MatchEvent, count_before, IsAscending, Lists, Contains-append_left, Contains-push, Contains-push_cases}
 use Rattle.ulfm_match.proofs.Ascending.{ascending_push}
 
-module _ {X : Type 0} {h h' : List Event} {P P' : ℕ → X → Type 0} {xs : List (ℕ × X)} (l : Lists h P xs) (num : (i : ℕ) (x : X) → P i x → count_before h' i ≡ count_before h i) where
+module _ {X : Type 0} {h h' : List MatchEvent} {P P' : ℕ → X → Type 0} {xs : List (ℕ × X)} (l : Lists h P xs) (num : (i : ℕ) (x : X) → P i x → count_before h' i ≡ count_before h i) where
   pub lists_sub : {ys : List (ℕ × X)} (Q : ℕ × X → Type 0) → IsAscending ys → ((y : ℕ × X) → Contains ys y → Contains xs y × Q y) → ((y : ℕ × X) → Contains xs y → Q y → Contains ys y) → ((i : ℕ) (x : X) → P i x → Q (count_before h i, x) → P' i x) → ((i : ℕ) (x : X) → P' i x → P i x × Q (count_before h i, x)) → Lists h' P' ys
   lists_sub {ys} Q a mem_to mem_back to back = record {
     ascending = a;

@@ -1,6 +1,6 @@
 -- A receive is posted, and gets a kept letter.
 use Rattle.std.proofs.Common.{◌≡◌, ◌≢◌, ℕ, ◌+◌, ◌<◌, inl, inr, List, [], ◌∷◌, ◌++◌, length, refl, ap, sym, ◌∙◌, arith, max}
-use Rattle.ulfm_match.proofs.Common.{Pattern, Admits, Letter, Event, Post, Come, PostAt, ComeAt, count_before, Pairing, Pairs, IsKept, LawfulPairing, Matching, IsUncleared, Tracks, Contains-push, PostGets}
+use Rattle.ulfm_match.proofs.Common.{Pattern, Admits, Letter, MatchEvent, Post, Come, PostAt, ComeAt, count_before, Pairing, Pairs, IsKept, LawfulPairing, Matching, IsUncleared, Tracks, Contains-push, PostGets}
 use Rattle.ulfm_match.proofs.Decide.{lt_or_ge, compared}
 use Rattle.ulfm_match.proofs.Histories.{below_last, get_new, get_below, stands_old, letter_more, count_below, same_number}
 use Rattle.ulfm_match.proofs.Least.{TakesLeast}
@@ -8,7 +8,7 @@ use Rattle.ulfm_match.proofs.Lists.{lists_sub, lists_same}
 use Rattle.ulfm_match.proofs.Extend.{IsNew, receive_within, none_missed_below, extend}
 use Rattle.ulfm_match.proofs.Steps.{posted_more, posted_here, pair_cases, pair_old, stands_nowhere, cleared_same, tracks, waiting_to, waiting_back, kept_to, kept_back, waiting_number, kept_number, kept_or_paired, waits_or_paired}
 
-module _ (h : List Event) (r : Pairing) (s : Matching) (p : Pattern) (t : Tracks h r s) (open' : IsUncleared h p.context.number) where
+module _ (h : List MatchEvent) (r : Pairing) (s : Matching) (p : Pattern) (t : Tracks h r s) (open' : IsUncleared h p.context.number) where
   -- the first kept letter that fits is taken
   module _ (kept' : List (ℕ × Letter)) (z : ℕ × Letter) (taken : TakesLeast (λ (y : ℕ × Letter). Admits p y.1.envelope) s.kept kept' z) where
     found : (b : ℕ) × (count_before h b ≡ z.0) × IsKept h r b z.1 (length h)

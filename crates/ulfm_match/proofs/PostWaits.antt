@@ -1,13 +1,13 @@
 -- A receive is posted, and waits.
 use Rattle.std.proofs.Common.{◌≡◌, ℕ, ◌+◌, ◌<◌, inl, inr, List, [], ◌∷◌, ◌++◌, length, refl, ap, sym, ◌∙◌, arith, Contains}
-use Rattle.ulfm_match.proofs.Common.{Pattern, Admits, Letter, Event, Come, Post, count_before, Pairing, LawfulPairing, Matching, IsUncleared, Tracks}
+use Rattle.ulfm_match.proofs.Common.{Pattern, Admits, Letter, MatchEvent, Come, Post, count_before, Pairing, LawfulPairing, Matching, IsUncleared, Tracks}
 use Rattle.ulfm_match.proofs.Decide.{lt_or_ge}
 use Rattle.ulfm_match.proofs.Histories.{below_last, get_new, count_old, count_below}
 use Rattle.ulfm_match.proofs.Lists.{lists_same, lists_push}
 use Rattle.ulfm_match.proofs.Extend.{receive_within, none_missed_below, extend}
 use Rattle.ulfm_match.proofs.Steps.{posted_more, posted_here, stands_nowhere, cleared_same, tracks, waiting_to, waiting_back, kept_to, kept_back, waiting_number, kept_number}
 
-module _ (h : List Event) (r : Pairing) (s : Matching) (p : Pattern) (t : Tracks h r s) (open' : IsUncleared h p.context.number) where
+module _ (h : List MatchEvent) (r : Pairing) (s : Matching) (p : Pattern) (t : Tracks h r s) (open' : IsUncleared h p.context.number) where
   -- no kept letter fits: the receive waits
   module _ (none : (y : ℕ × Letter) → Contains s.kept y → Admits p y.1.envelope → ⊥) where
     pub post_lawful : LawfulPairing (h ++ Post p ∷ []) r

@@ -1,7 +1,7 @@
 -- A letter is taken out by a receive that ends at once.
 use Rattle.std.proofs.Common.{◌≡◌, ℕ, ◌+◌, ◌<◌, List, [], ◌∷◌, ◌++◌, length, refl, sym, ◌∙◌, subst, append_assoc, arith, max, Contains}
 use Rattle.ulfm_match.specs.Calls.{ProbeGets, KeepsNone}
-use Rattle.ulfm_match.proofs.Common.{Pattern, Admits, Letter, Event, Post, Come, End, PostAt, IsLiveLetter, count_before, Pairing, Pairs, LawfulPairing, pairs_below, Matching, IsUncleared, Tracks, Contains-push, slice_get_within}
+use Rattle.ulfm_match.proofs.Common.{Pattern, Admits, Letter, MatchEvent, Post, Come, End, PostAt, IsLiveLetter, count_before, Pairing, Pairs, LawfulPairing, pairs_below, Matching, IsUncleared, Tracks, Contains-push, slice_get_within}
 use Rattle.ulfm_match.proofs.Cut.{cut, inside_to, inside_back}
 use Rattle.ulfm_match.proofs.EndSteps.{end_idle}
 use Rattle.ulfm_match.proofs.Extend.{letter_within}
@@ -12,7 +12,7 @@ use Rattle.ulfm_match.proofs.Steps.{posted_here}
 use Rattle.ulfm_match.proofs.Unique.{one_pairing}
 
 -- a receive that has a letter ends
-pub paired_ends : (h : List Event) (r : Pairing) (s : Matching) (i b : ℕ) (p : Pattern) → Tracks h r s → PostAt h i p → Pairs r i b → Tracks (h ++ End i ∷ []) r s
+pub paired_ends : (h : List MatchEvent) (r : Pairing) (s : Matching) (i b : ℕ) (p : Pattern) → Tracks h r s → PostAt h i p → Pairs r i b → Tracks (h ++ End i ∷ []) r s
 paired_ends h r s i b p t posted q =
     end_idle h r s t i p posted (count_before h i) refl
     (λ y m e.
@@ -20,7 +20,7 @@ paired_ends h r s i b p t posted q =
     let same : w.0 ≡ i = same_number h w.0 i (Post y.1) (Post p) w.2.live.posted refl posted refl (w.1 ∙ e) in
     w.2.unpaired b (letter_within h r t.lawful i b q) (rw same q))
 
-module _ (h : List Event) (r : Pairing) (s : Matching) (p : Pattern) (t : Tracks h r s) where
+module _ (h : List MatchEvent) (r : Pairing) (s : Matching) (p : Pattern) (t : Tracks h r s) where
   -- the first kept letter that fits is taken
   pub probe_takes : IsUncleared h p.context.number → (kept' : List (ℕ × Letter)) (z : ℕ × Letter) → TakesLeast (λ (y : ℕ × Letter). Admits p y.1.envelope) s.kept kept' z → (s' : Matching) → s'.count ≡ s.count + 1 → s'.waiting ≡ s.waiting → s'.kept ≡ kept' → s'.cleared ≡ s.cleared → ProbeGets h r p z.1 s'
   probe_takes open' kept' z taken s' ec ew ek em =
@@ -38,16 +38,16 @@ module _ (h : List Event) (r : Pairing) (s : Matching) (p : Pattern) (t : Tracks
   probe_misses none b l k = none (count_before h b, l) (t.remains.kept.complete b l k)
 
 -- a lawful pairing once the receive is posted, in which it has this letter
-pub record IsPostedWith (h : List Event) (p : Pattern) (place : ℕ) : Type 0 where
+pub record IsPostedWith (h : List MatchEvent) (p : Pattern) (place : ℕ) : Type 0 where
   pub pairing : Pairing
   pub lawful : LawfulPairing (h ++ Post p ∷ []) pairing
   pub pairs : Pairs pairing (length h) place
 
-module _ {h : List Event} {r : Pairing} {p : Pattern} {l : Letter} {s : Matching} (g : ProbeGets h r p l s) where
+module _ {h : List MatchEvent} {r : Pairing} {p : Pattern} {l : Letter} {s : Matching} (g : ProbeGets h r p l s) where
   -- before its end the receive had the letter
   pub posted_with : IsPostedWith h p g.place
   posted_with =
-      let h' : List Event = h ++ Post p ∷ [] in
+      let h' : List MatchEvent = h ++ Post p ∷ [] in
       let r' : Pairing = r ++ (length h, g.place) ∷ [] in
       let more = length_more h (Post p) in
       let low = slice_get_within h g.place (Come l) g.came in
@@ -62,7 +62,7 @@ module _ {h : List Event} {r : Pairing} {p : Pattern} {l : Letter} {s : Matching
   probe_gives other law = one_pairing (h ++ Post p ∷ []) posted_with.pairing other posted_with.lawful law (length h) g.place posted_with.pairs
 
 -- where no kept letter fits, a receive that is posted then has none
-pub probe_leaves : (h : List Event) (r : Pairing) (p : Pattern) → LawfulPairing h r → KeepsNone h r p → (other : Pairing) → LawfulPairing (h ++ Post p ∷ []) other → (b : ℕ) → Pairs other (length h) b → ⊥
+pub probe_leaves : (h : List MatchEvent) (r : Pairing) (p : Pattern) → LawfulPairing h r → KeepsNone h r p → (other : Pairing) → LawfulPairing (h ++ Post p ∷ []) other → (b : ℕ) → Pairs other (length h) b → ⊥
 probe_leaves h r p law none other law' b q =
     let m = law'.matched (length h) b q in
     let lb : b < length h = below_last h (Post p) b (Come m.letter) m.letter_live.came (λ e. cc) in

@@ -1,12 +1,12 @@
 -- A history longer by one event: what waits and what is kept.
 use Rattle.std.proofs.Common.{◌≡◌, ◌≢◌, ℕ, ◌+◌, ◌<◌, ◌⊎◌, inl, inr, List, [], ◌∷◌, ◌++◌, length, ap, sym, ◌∙◌, Some, arith, add-one, slice_get, true, false, ◌↔◌}
-use Rattle.ulfm_match.proofs.Common.{Pattern, Letter, Event, Post, Come, End, Clear, PostAt, ComeAt, StandsBetween, IsWellFormed, counts_as, count_before, Pairing, Pairs, IsWaiting, IsKept, LawfulPairing, Matching, is_cleared, Lists, IsUncleared, Tracks, Contains-append_left, Contains-push_cases, slice_get_within}
+use Rattle.ulfm_match.proofs.Common.{Pattern, Letter, MatchEvent, Post, Come, End, Clear, PostAt, ComeAt, StandsBetween, IsWellFormed, counts_as, count_before, Pairing, Pairs, IsWaiting, IsKept, LawfulPairing, Matching, is_cleared, Lists, IsUncleared, Tracks, Contains-append_left, Contains-push_cases, slice_get_within}
 use Rattle.ulfm_match.proofs.Decide.{eq_either, paired_receive, paired_letter}
 use Rattle.ulfm_match.proofs.Histories.{get_old, get_new, get_cases, get_below, get_last, length_more, receive_more, receive_less, letter_more, letter_less, count_old, count_new}
 use Rattle.ulfm_match.proofs.Extend.{receive_within, letter_within}
 
 -- the longer history is one
-pub history_more : (h : List Event) (x : Event) → IsWellFormed h → ((i : ℕ) → x ≡ End i → (p : Pattern) × (i < length h) × PostAt h i p) → ((p : Pattern) → x ≡ Post p → IsUncleared h p.context.number) → ((l : Letter) → x ≡ Come l → IsUncleared h l.envelope.context.number) → IsWellFormed (h ++ x ∷ [])
+pub history_more : (h : List MatchEvent) (x : MatchEvent) → IsWellFormed h → ((i : ℕ) → x ≡ End i → (p : Pattern) × (i < length h) × PostAt h i p) → ((p : Pattern) → x ≡ Post p → IsUncleared h p.context.number) → ((l : Letter) → x ≡ Come l → IsUncleared h l.envelope.context.number) → IsWellFormed (h ++ x ∷ [])
 history_more h x wf ends posts letters = record {
   ends = λ i k g.
       elim (get_cases h x k (End i) g) [
@@ -32,11 +32,11 @@ history_more h x wf ends posts letters = record {
             letters l n.1 k (get_below h x k (Clear l.envelope.context.number) (omega arith) cleared)
       ];
 } where
-  within : (k : ℕ) (e : Event) → slice_get h k ≡ Some e → k < length h
+  within : (k : ℕ) (e : MatchEvent) → slice_get h k ≡ Some e → k < length h
   within = slice_get_within h
 
 -- a receive is posted in an open context
-module _ (h : List Event) (p : Pattern) where
+module _ (h : List MatchEvent) (p : Pattern) where
   pub posted_more : IsWellFormed h → IsUncleared h p.context.number → IsWellFormed (h ++ Post p ∷ [])
   posted_more wf open' = history_more h (Post p) wf (λ i e. cc) (λ q e. let f : q ≡ p = cc in rw f open') (λ l e. cc)
 
@@ -44,7 +44,7 @@ module _ (h : List Event) (p : Pattern) where
   posted_here q i e posted = let g = get_last h (Post p) (Post q) (rw (sym e) posted) in cc
 
 -- a letter comes in an open context
-module _ (h : List Event) (l : Letter) where
+module _ (h : List MatchEvent) (l : Letter) where
   pub come_more : IsWellFormed h → IsUncleared h l.envelope.context.number → IsWellFormed (h ++ Come l ∷ [])
   come_more wf open' = history_more h (Come l) wf (λ i e. cc) (λ q e. cc) (λ m e. let f : m ≡ l = cc in rw f open')
 
@@ -61,11 +61,11 @@ pair_cases r i0 b0 i b p =
 pub pair_old : (r : Pairing) (i0 b0 i b : ℕ) → Pairs r i b → Pairs (r ++ (i0, b0) ∷ []) i b
 pair_old r i0 b0 i b p = Contains-append_left r ((i0, b0) ∷ []) (i, b) p
 
-pub stands_nowhere : {h : List Event} {e : Event} {n : ℕ} → StandsBetween h e n (n + 1) → ⊥
+pub stands_nowhere : {h : List MatchEvent} {e : MatchEvent} {n : ℕ} → StandsBetween h e n (n + 1) → ⊥
 stands_nowhere {h} {e} {n} s = let a : n < s.place = s.after in let b : s.place < n + 1 = s.before in absurd (omega arith)
 
 -- what counts as cleared after one more event
-module _ (h : List Event) (x : Event) (s s' : Matching) (held : (c : ℕ) → (is_cleared s c ≡ false) ↔ IsUncleared h c) where
+module _ (h : List MatchEvent) (x : MatchEvent) (s s' : Matching) (held : (c : ℕ) → (is_cleared s c ≡ false) ↔ IsUncleared h c) where
   less : (c : ℕ) → IsUncleared (h ++ x ∷ []) c → is_cleared s c ≡ false
   less c u = (held c).1 (λ k g. u k (get_old h x k (Clear c) g))
 
@@ -78,11 +78,11 @@ module _ (h : List Event) (x : Event) (s s' : Matching) (held : (c : ℕ) → (i
   pub cleared_also : (d : ℕ) → x ≡ Clear d → is_cleared s' d ≡ true → ((c : ℕ) → c ≢ d → is_cleared s' c ≡ is_cleared s c) → (c : ℕ) → (is_cleared s' c ≡ false) ↔ IsUncleared (h ++ x ∷ []) c
   cleared_also d is here there c =
       elim (eq_either c d) [
-        | inl e ↦ (λ o. (let y = here in cc), λ u. absurd (u (length h) (get_new h x ∙ ap (λ (y : Event). Some y) (is ∙ ap (λ (n : ℕ). Clear n) (sym e)))))
+        | inl e ↦ (λ o. (let y = here in cc), λ u. absurd (u (length h) (get_new h x ∙ ap (λ (y : MatchEvent). Some y) (is ∙ ap (λ (n : ℕ). Clear n) (sym e)))))
         | inr n ↦ (λ o. more c (sym (there c n) ∙ o) (λ g. let same : d ≡ c = cc in n (sym same)), λ u. there c n ∙ less c u)
       ]
 
-pub tracks : (h : List Event) (x : Event) (r : Pairing) (s : Matching) → IsWellFormed (h ++ x ∷ []) → LawfulPairing (h ++ x ∷ []) r → ((c : ℕ) → (is_cleared s c ≡ false) ↔ IsUncleared (h ++ x ∷ []) c) → s.count ≡ count_before h (length h) + counts_as x → Lists (h ++ x ∷ []) (λ i p. IsWaiting (h ++ x ∷ []) r i p (length h + 1)) s.waiting → Lists (h ++ x ∷ []) (λ b l. IsKept (h ++ x ∷ []) r b l (length h + 1)) s.kept → Tracks (h ++ x ∷ []) r s
+pub tracks : (h : List MatchEvent) (x : MatchEvent) (r : Pairing) (s : Matching) → IsWellFormed (h ++ x ∷ []) → LawfulPairing (h ++ x ∷ []) r → ((c : ℕ) → (is_cleared s c ≡ false) ↔ IsUncleared (h ++ x ∷ []) c) → s.count ≡ count_before h (length h) + counts_as x → Lists (h ++ x ∷ []) (λ i p. IsWaiting (h ++ x ∷ []) r i p (length h + 1)) s.waiting → Lists (h ++ x ∷ []) (λ b l. IsKept (h ++ x ∷ []) r b l (length h + 1)) s.kept → Tracks (h ++ x ∷ []) r s
 tracks h x r s wf law m c w k =
     let e = sym (length_more h x) in
     record {
@@ -96,7 +96,7 @@ tracks h x r s wf law m c w k =
       };
     }
 
-module _ (h : List Event) (x : Event) (r r' : Pairing) (law : LawfulPairing h r) (keep : (i b : ℕ) → Pairs r i b → Pairs r' i b) where
+module _ (h : List MatchEvent) (x : MatchEvent) (r r' : Pairing) (law : LawfulPairing h r) (keep : (i b : ℕ) → Pairs r i b → Pairs r' i b) where
   pub waiting_to : (i : ℕ) (p : Pattern) → x ≢ End i → x ≢ Clear p.context.number → ((b : ℕ) → Pairs r' i b → Pairs r i b) → IsWaiting h r i p (length h) → IsWaiting (h ++ x ∷ []) r' i p (length h + 1)
   waiting_to i p ne nc old w = record {
     live = receive_more h x ne nc w.live;
@@ -115,7 +115,7 @@ module _ (h : List Event) (x : Event) (r r' : Pairing) (law : LawfulPairing h r)
   pub kept_back : (b : ℕ) (l : Letter) → b < length h → IsKept (h ++ x ∷ []) r' b l (length h + 1) → IsKept h r b l (length h)
   kept_back b l lb k = record { live = letter_less h x lb k.live; unpaired = λ i li q. k.unpaired i (omega arith) (keep i b q) }
 
-module _ (h : List Event) (x : Event) (r : Pairing) where
+module _ (h : List MatchEvent) (x : MatchEvent) (r : Pairing) where
   pub waiting_number : (i : ℕ) (p : Pattern) → IsWaiting h r i p (length h) → count_before (h ++ x ∷ []) i ≡ count_before h i
   waiting_number i p w = let l : i < length h = w.live.before in count_old h x i (omega arith)
 
@@ -123,7 +123,7 @@ module _ (h : List Event) (x : Event) (r : Pairing) where
   kept_number b l k = let m : b < length h = k.live.before in count_old h x b (omega arith)
 
 -- in an open context what is unpaired is live
-module _ (h : List Event) (r : Pairing) (c : ℕ) (open' : IsUncleared h c) where
+module _ (h : List MatchEvent) (r : Pairing) (c : ℕ) (open' : IsUncleared h c) where
   pub kept_or_paired : (b : ℕ) (l : Letter) → b < length h → ComeAt h b l → l.envelope.context.number ≡ c → ((j : ℕ) × (j < length h) × Pairs r j b) ⊎ IsKept h r b l (length h)
   kept_or_paired b l lb came e =
       elim (paired_letter r b (length h)) [

@@ -1,6 +1,6 @@
 -- A history has one lawful pairing at most.
 use Rattle.std.proofs.Common.{◌≡◌, ℕ, zero, suc, ◌+◌, ◌<◌, inl, inr, List, length, sym, subst, arith, max}
-use Rattle.ulfm_match.proofs.Common.{Pattern, Letter, Event, PostAt, ComeAt, IsLiveReceive, IsLiveLetter, Pairing, Pairs, LawfulPairing, slice_get_within}
+use Rattle.ulfm_match.proofs.Common.{Pattern, Letter, MatchEvent, PostAt, ComeAt, IsLiveReceive, IsLiveLetter, Pairing, Pairs, LawfulPairing, slice_get_within}
 use Rattle.ulfm_match.proofs.Histories.{stands_wider}
 use Rattle.ulfm_match.proofs.Decide.{lt_or_ge, compared, paired_receive, paired_letter}
 
@@ -8,17 +8,17 @@ use Rattle.ulfm_match.proofs.Decide.{lt_or_ge, compared, paired_receive, paired_
 abbrev pub Within : Pairing → Pairing → ℕ → Type 0
 Within r s m = (i b : ℕ) → i < m → b < m → Pairs r i b → Pairs s i b
 
-pub same_pattern : (h : List Event) (i : ℕ) (p q : Pattern) → PostAt h i p → PostAt h i q → p ≡ q
+pub same_pattern : (h : List MatchEvent) (i : ℕ) (p q : Pattern) → PostAt h i p → PostAt h i q → p ≡ q
 same_pattern h i p q a b = cc
 
-pub same_letter : (h : List Event) (i : ℕ) (l k : Letter) → ComeAt h i l → ComeAt h i k → l ≡ k
+pub same_letter : (h : List MatchEvent) (i : ℕ) (l k : Letter) → ComeAt h i l → ComeAt h i k → l ≡ k
 same_letter h i l k a b = cc
 
 -- no place is that of a receive and of a letter
-pub no_both : (h : List Event) (i : ℕ) (p : Pattern) (l : Letter) → PostAt h i p → ComeAt h i l → ⊥
+pub no_both : (h : List MatchEvent) (i : ℕ) (p : Pattern) (l : Letter) → PostAt h i p → ComeAt h i l → ⊥
 no_both h i p l a b = cc
 
-module _ (h : List Event) (r s : Pairing) (lr : LawfulPairing h r) (ls : LawfulPairing h s) (m : ℕ) (rs : Within r s m) (sr : Within s r m) where
+module _ (h : List MatchEvent) (r s : Pairing) (lr : LawfulPairing h r) (ls : LawfulPairing h s) (m : ℕ) (rs : Within r s m) (sr : Within s r m) where
   -- a receive posted at m has the same letter in both
   pub at_receive : (b : ℕ) → b < m → Pairs r m b → Pairs s m b
   at_receive b bm p =
@@ -127,14 +127,14 @@ module _ (h : List Event) (r s : Pairing) (lr : LawfulPairing h r) (ls : LawfulP
       ]
 
 -- at each moment two lawful pairings have the same pairs
-pub within_both : (h : List Event) (r s : Pairing) → LawfulPairing h r → LawfulPairing h s → (m : ℕ) → Within r s m × Within s r m
+pub within_both : (h : List MatchEvent) (r s : Pairing) → LawfulPairing h r → LawfulPairing h s → (m : ℕ) → Within r s m × Within s r m
 within_both h r s lr ls zero = (λ i b il bl p. absurd (omega arith), λ i b il bl p. absurd (omega arith))
 within_both h r s lr ls (suc m) =
     let w = within_both h r s lr ls m in
     (within_more h r s lr ls m w.0 w.1, within_more h s r ls lr m w.1 w.0)
 
 -- two lawful pairings of a history have the same pairs
-pub one_pairing : (h : List Event) (r s : Pairing) → LawfulPairing h r → LawfulPairing h s → (i b : ℕ) → Pairs r i b → Pairs s i b
+pub one_pairing : (h : List MatchEvent) (r s : Pairing) → LawfulPairing h r → LawfulPairing h s → (i b : ℕ) → Pairs r i b → Pairs s i b
 one_pairing h r s lr ls i b p =
     let k = lr.matched i b p in
     let li = slice_get_within h i _ k.receive_live.posted in

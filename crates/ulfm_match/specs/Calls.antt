@@ -4,7 +4,7 @@ use Rattle.std.specs.Prelude.{◌≡◌, ℕ, true, List, [], ◌∷◌, ◌++�
 use Rattle.ulfm_base.specs.declared.pattern.Pattern.{Pattern}
 use Rattle.ulfm_base.specs.declared.envelope.Letter.{Letter}
 use Rattle.ulfm_base.specs.Pattern.{names, Admits}
-use Rattle.ulfm_match.specs.History.{Event, History, Post, Come, End, Clear, PostAt, ComeAt, count_before}
+use Rattle.ulfm_match.specs.History.{MatchEvent, History, Post, Come, End, Clear, PostAt, ComeAt, count_before}
 use Rattle.ulfm_match.specs.Pairing.{Pairing, IsKept}
 use Rattle.ulfm_match.specs.State.{Matching, Tracks}
 
@@ -62,12 +62,12 @@ TracksClear context old new =
     (history : History) (pairing : Pairing) → Tracks history pairing old → Tracks (history ++ Clear context ∷ []) pairing new
 
 -- these events end the receives posted so far that name rank s, and no others
-pub record EndsNamed (history : History) (s : ℕ) (ends : List Event) : Type 0 where
-  pub sound : (x : Event) → Contains ends x → (i : ℕ) × (pattern : Pattern) × (x ≡ End i) × PostAt history i pattern × (names pattern.source s ≡ true)
+pub record EndsNamed (history : History) (s : ℕ) (ends : List MatchEvent) : Type 0 where
+  pub sound : (x : MatchEvent) → Contains ends x → (i : ℕ) × (pattern : Pattern) × (x ≡ End i) × PostAt history i pattern × (names pattern.source s ≡ true)
   pub complete : (i : ℕ) (pattern : Pattern) → PostAt history i pattern → names pattern.source s ≡ true → Contains ends (End i)
 
 -- the receives that name rank s ended
 abbrev pub TracksNamed : ℕ → Matching → Matching → Type 0
 TracksNamed s old new =
-    (history : History) (pairing : Pairing) (ends : List Event) → EndsNamed history s ends →
+    (history : History) (pairing : Pairing) (ends : List MatchEvent) → EndsNamed history s ends →
     Tracks history pairing old → Tracks (history ++ ends) pairing new

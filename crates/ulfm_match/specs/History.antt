@@ -5,15 +5,15 @@ use Rattle.ulfm_base.specs.declared.envelope.Letter.{Letter}
 
 -- A receive is posted. A letter comes. The receive that was posted at a place ends, whether it has a letter or not.
 -- All receives and letters of a context end.
-pub data Event : Type 0 where
-  Post : (pattern : Pattern) → Event
-  Come : (letter : Letter) → Event
-  End : (place : ℕ) → Event
-  Clear : (context : ℕ) → Event
+pub data MatchEvent : Type 0 where
+  Post : (pattern : Pattern) → MatchEvent
+  Come : (letter : Letter) → MatchEvent
+  End : (place : ℕ) → MatchEvent
+  Clear : (context : ℕ) → MatchEvent
 
 -- what happened so far, in order; the first event is at place 0
 abbrev pub History : Type 0
-History = List Event
+History = List MatchEvent
 
 -- a receive that asks for this was posted at place i
 abbrev pub PostAt : History → ℕ → Pattern → Type 0
@@ -24,7 +24,7 @@ abbrev pub ComeAt : History → ℕ → Letter → Type 0
 ComeAt history b letter = slice_get history b ≡ Some (Come letter)
 
 -- this event stands after place i and before place n
-pub record StandsBetween (history : History) (event : Event) (i n : ℕ) : Type 0 where
+pub record StandsBetween (history : History) (event : MatchEvent) (i n : ℕ) : Type 0 where
   pub place : ℕ
   pub after : i < place
   pub before : place < n
@@ -54,7 +54,7 @@ pub record IsLiveLetter (history : History) (b : ℕ) (letter : Letter) (n : ℕ
   pub not_cleared : StandsBetween history (Clear letter.envelope.context.number) b n → ⊥
 
 -- posts and arrivals are counted, ends and clears aren't
-abbrev pub counts_as : Event → ℕ
+abbrev pub counts_as : MatchEvent → ℕ
 counts_as (Post pattern) = 1
 counts_as (Come letter) = 1
 counts_as (End place) = 0

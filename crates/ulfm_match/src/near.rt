@@ -1,6 +1,7 @@
 //! A hash by which numbers that are near one another stand near one another.
 ghost use Rattle.std.specs.Prelude.{◌≡◌, if◌then◌else◌, length, nat_eq};
-ghost use Rattle.ulfm_match.specs.inside.Near.{hash_of_number, number_of};
+ghost use Rattle.std.specs.Int.{from_le_bytes, w64};
+ghost use Rattle.ulfm_match.specs.inside.Near.{hash_of_number};
 
 use std::hash::{BuildHasher, Hasher};
 
@@ -21,7 +22,7 @@ pub(crate) struct NearHasher {
 }
 
 impl Hasher for NearHasher {
-    ghost write = { λ h bytes. record { number = if nat_eq (length bytes) 8 then number_of bytes else h.number } };
+    ghost write = { λ h bytes. record { number = if nat_eq (length bytes) 8 then from_le_bytes w64 bytes else h.number } };
 
     ghost finish = { λ h. hash_of_number h.number };
 

@@ -7,6 +7,7 @@ use Rattle.ulfm_base.specs.declared.error.CallError.TheVariants.{NoComm, Already
 use Rattle.ulfm_rank.specs.Checks.{Fails}
 use Rattle.ulfm_rank.proofs.Gather.{gathered_all, any-push}
 use Rattle.ulfm_rank.proofs.Made.{comms-push, found_of_world, All-one}
+use Rattle.ulfm_rank.specs.Log.{by_found}
 
 -- an adoption that a check refuses isn't refused for lack of memory
 pub never_starved : (a b d e f : Bool) → Fails ((a, Stopped) ∷ (b, NoComm) ∷ (d, AlreadyMade) ∷ (e, NotEntered) ∷ (f, NotMember) ∷ []) OutOfMemory → ⊥
@@ -54,18 +55,18 @@ decided_shrunk context Shrink d fresh = pick (shrink_of d == shrink_of context.n
 decided_shrunk context (Agree round) d fresh = sym (and-false (d == context.number))
 
 -- what an entry makes is the communicator of a shrink exactly where it adopts its decision
-made_shrunk : (context : Context) (before : List Entry) (comms : List (ℕ × List ℕ)) (e : Entry) → is_some (find_group (shrink_of context.number) (made_by before comms e)) ≡ adopts (shrink_topic context) e
-made_shrunk context before comms (Duplicated parent) = none_copied context.number parent.number comms
-made_shrunk context before comms (Adopted decision) = decided_shrunk context decision.topic.purpose decision.topic.context.number decision.fresh
-made_shrunk context before comms e = refl
+made_shrunk : (context : Context) (comms : List (ℕ × List ℕ)) (e : Entry) → is_some (find_group (shrink_of context.number) (made_by comms e)) ≡ adopts (shrink_topic context) e
+made_shrunk context comms (Duplicated parent) = none_copied context.number parent.number comms
+made_shrunk context comms (Adopted decision) = decided_shrunk context decision.topic.purpose decision.topic.context.number decision.fresh
+made_shrunk context comms e = refl
 
 -- the communicator of a shrink was made exactly where its decision was adopted
 pub made_adopted : (n : ℕ) (log : List Entry) (context : Context) → is_some (group_of n log (shrink_of context.number)) ≡ has_adopted log (shrink_topic context)
 made_adopted n log context =
     let c = context.number in
     let t = shrink_topic context in
-    gathered_all made_by (λ l found. is_some (find_group (shrink_of c) found) ≡ has_adopted l t)
-    (λ l found e h. found-append (shrink_of c) found (made_by l found e) ∙ ap (λ b. b || is_some (find_group (shrink_of c) (made_by l found e))) h ∙ ap (λ b. has_adopted l t || b) (made_shrunk context l found e) ∙ sym (any-push (adopts t) l e))
+    gathered_all (by_found made_by) (λ l found. is_some (find_group (shrink_of c) found) ≡ has_adopted l t)
+    (λ l found e h. found-append (shrink_of c) found (made_by found e) ∙ ap (λ b. b || is_some (find_group (shrink_of c) (made_by found e))) h ∙ ap (λ b. has_adopted l t || b) (made_shrunk context found e) ∙ sym (any-push (adopts t) l e))
     ((0, numbers_from 0 n) ∷ []) (ap (λ b. is_some (cond b (Some (numbers_from 0 n)) None)) (ne_eqb 0 (shrink_of c) (λ e. omega (arith, e)))) log
 
 -- an agreement makes no communicator

@@ -1,6 +1,6 @@
 -- A receive is cancelled: it ends, and its request is released.
 use Rattle.std.proofs.Common.{◌≡◌, ℕ, cond, List, [], ◌∷◌, ◌++◌, refl, ap, sym, ◌∙◌, subst, Option, Some, None}
-use Rattle.ulfm_rank.proofs.Common.{Event, End, count_before, Entry, Cancelled, Request, RequestId, history_of, eq-eqb, Pairing, LawfulPairing, Matching, Tracks, TracksEnd, IsTable, IsInStep, Removes}
+use Rattle.ulfm_rank.proofs.Common.{MatchEvent, End, count_before, Entry, Cancelled, Request, RequestId, history_of, eq-eqb, Pairing, LawfulPairing, Matching, Tracks, TracksEnd, IsTable, IsInStep, Removes}
 use Rattle.ulfm_rank.proofs.Endings.{one_number}
 use Rattle.ulfm_rank.proofs.Gather.{history-push}
 use Rattle.ulfm_rank.proofs.Release.{table_released}
@@ -8,7 +8,7 @@ use Rattle.ulfm_rank.proofs.Steps.{map_same}
 use Rattle.ulfm_rank.proofs.Tables.{became_keeps, no_post, table_change}
 
 -- a receive ends that the table doesn't have
-table_ended : {n : ℕ} {log : List Entry} {h : List Event} {r : Pairing} {find : ℕ → Option Request} → LawfulPairing h r → IsTable n log h r find → (i : ℕ) → find (count_before h i) ≡ None → IsTable n log (h ++ End i ∷ []) r find
+table_ended : {n : ℕ} {log : List Entry} {h : List MatchEvent} {r : Pairing} {find : ℕ → Option Request} → LawfulPairing h r → IsTable n log h r find → (i : ℕ) → find (count_before h i) ≡ None → IsTable n log (h ++ End i ∷ []) r find
 table_ended {n} {log} {h} {r} {find} law t i none =
     table_change n log h (End i ∷ []) r r find find t (no_post h (End i) (λ q e. cc)) (λ k q. q) (λ k. sym (map_same (find k) (λ q. q) (λ q. refl))) (λ k q. refl)
     (λ k q f s.

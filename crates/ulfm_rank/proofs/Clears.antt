@@ -1,9 +1,9 @@
 -- The table after a revocation.
 use Rattle.std.proofs.Common.{◌≡◌, ◌≢◌, ℕ, ◌≤◌, Bool, true, false, cond, List, [], ◌∷◌, ◌++◌, length, refl, ap, sym, ◌∙◌, Option, Some, arith, ◌&&◌, ◌==◌, eqb-true}
-use Rattle.ulfm_rank.proofs.Common.{Pattern, Event, Clear, Pairing, LawfulPairing, Entry, Fate, Waiting, Paired, Found, Failed, Cleared, Request, and_parts, eq-eqb, false≢true, letter_within, Became, IsTable, get_new, stands_back, is_waiting, over_context, Changes}
+use Rattle.ulfm_rank.proofs.Common.{Pattern, MatchEvent, Clear, Pairing, LawfulPairing, Entry, Fate, Waiting, Paired, Found, Failed, Cleared, Request, and_parts, eq-eqb, false≢true, letter_within, Became, IsTable, get_new, stands_back, is_waiting, over_context, Changes}
 use Rattle.ulfm_rank.proofs.Tables.{became_keeps, no_post, refated, same_kind, table_change, waiting_receive}
 
-module _ (n c : ℕ) (log : List Entry) (h : List Event) (r : Pairing) (law : LawfulPairing h r) where
+module _ (n c : ℕ) (log : List Entry) (h : List MatchEvent) (r : Pairing) (law : LawfulPairing h r) where
   still : (i : ℕ) (p : Pattern) (o : Fate) → (o ≡ Waiting → p.context.number ≢ c) → Became h r i p o → Became (h ++ Clear c ∷ []) r i p o
   still i p o ne b = became_keeps h (Clear c) r r law (λ i b q. q) i p o (λ b q. q) (λ e. (λ g. cc, λ g. ne e (let f : p.context.number ≡ c = cc in f))) b
 

@@ -1,6 +1,6 @@
 -- The parts of a rank follow its log through one more entry.
 use Rattle.std.proofs.Common.{◌≡◌, ℕ, Bool, true, false, cond, eqb, List, [], ◌∷◌, ◌++◌, refl, ap, sym, ◌∙◌, Option, Some, append-nil, ◌||◌}
-use Rattle.ulfm_rank.proofs.Common.{Context, Letter, WorldRank, Entrance, Decision, dup_of, decided_comm, Entry, Sent, Acknowledged, Revoked, Duplicated, Entered, Adopted, Stopped, Request, find_group, is_stop, is_stopped, is_revoked, Follows, Box, for_each, AllGrow, Matching, TracksRevocation, or-false, passed_on, entry_told, FaultState, acknowledged_in, is_revoked_in}
+use Rattle.ulfm_rank.proofs.Common.{Context, Letter, WorldRank, Entrance, Decision, dup_of, decided_comm, Entry, Sent, Acknowledged, Revoked, Duplicated, Entered, Adopted, Stopped, Request, find_group, is_stop, is_stopped, is_revoked, Follows, Box, for_each, AllGrow, Matching, TracksRevocation, or-false, passed_on, announced, FaultState, acknowledged_in, is_revoked_in}
 use Rattle.ulfm_base.specs.declared.item.Item.TheVariants.{Letter as Mail}
 use Rattle.ulfm_rank.proofs.Adoptable.{communicators-adopted}
 use Rattle.ulfm_rank.proofs.Gather.{any-push}
@@ -23,19 +23,19 @@ module _ {n me : ℕ} {log : List Entry} {stopped : Bool} {m : Matching} {find :
     small = f.small;
     halted = runs_on (Sent to letter) refl;
     in_step = in_step_quiet f.in_step (Sent to letter) refl (λ k. refl);
-    faults = faults_quiet (Sent to letter) f.faults (λ b k. refl) (λ c k. refl) (λ c. refl);
-    communicators = communicators-quiet (Sent to letter) f.communicators (λ b k. refl);
+    faults = faults_quiet (Sent to letter) f.faults (λ k. refl) (λ c k. refl) (λ c. refl);
+    communicators = communicators-quiet (Sent to letter) f.communicators (λ k. refl);
     outboxes = outboxes-grown (Sent to letter) f.outboxes grows;
   }
 
   -- a topic was entered
-  pub follows_entered : (entrance : Entrance) (boxes' : List Box) → AllGrow boxes boxes' (entry_told n me log entrance) → Follows n me (log ++ Entered entrance ∷ []) stopped m find facts comms boxes'
+  pub follows_entered : (entrance : Entrance) (boxes' : List Box) → AllGrow boxes boxes' (announced n me log entrance) → Follows n me (log ++ Entered entrance ∷ []) stopped m find facts comms boxes'
   follows_entered entrance boxes' grows = record {
     small = f.small;
     halted = runs_on (Entered entrance) refl;
     in_step = in_step_quiet f.in_step (Entered entrance) refl (λ k. refl);
-    faults = faults_quiet (Entered entrance) f.faults (λ b k. refl) (λ c k. refl) (λ c. refl);
-    communicators = communicators-quiet (Entered entrance) f.communicators (λ b k. refl);
+    faults = faults_quiet (Entered entrance) f.faults (λ k. refl) (λ c k. refl) (λ c. refl);
+    communicators = communicators-quiet (Entered entrance) f.communicators (λ k. refl);
     outboxes = outboxes-grown (Entered entrance) f.outboxes grows;
   }
 
@@ -45,7 +45,7 @@ module _ {n me : ℕ} {log : List Entry} {stopped : Bool} {m : Matching} {find :
     small = f.small;
     halted = runs_on (Duplicated context) refl;
     in_step = in_step_quiet f.in_step (Duplicated context) refl (λ k. refl);
-    faults = faults_quiet (Duplicated context) f.faults (λ b k. refl) (λ c k. refl) (λ c. refl);
+    faults = faults_quiet (Duplicated context) f.faults (λ k. refl) (λ c k. refl) (λ c. refl);
     communicators = communicators-duplicated context group f.communicators found;
     outboxes = outboxes-quiet (Duplicated context) f.outboxes (λ d. refl);
   }
@@ -56,7 +56,7 @@ module _ {n me : ℕ} {log : List Entry} {stopped : Bool} {m : Matching} {find :
     small = f.small;
     halted = runs_on (Adopted d) refl;
     in_step = in_step_quiet f.in_step (Adopted d) refl (λ k. refl);
-    faults = faults_quiet (Adopted d) f.faults (λ b k. refl) (λ c k. refl) (λ c. refl);
+    faults = faults_quiet (Adopted d) f.faults (λ k. refl) (λ c k. refl) (λ c. refl);
     communicators = communicators-adopted d f.communicators found;
     outboxes = outboxes-quiet (Adopted d) f.outboxes (λ d. refl);
   }
@@ -74,7 +74,7 @@ module _ {n me : ℕ} {log : List Entry} {stopped : Bool} {m : Matching} {find :
           acknowledges = λ c. a c ∙ (ap (cond (eqb context.number c) total) (quiet.acknowledges c) ∙ sym (acknowledged-push c log (Acknowledged context total)));
           marks = λ c. ap (λ xs. is_revoked_in (record facts { revoked = xs }) c) r ∙ (quiet.marks c ∙ sym (any-push _ log (Acknowledged context total) ∙ or-false (is_revoked log c)));
         };
-    communicators = communicators-quiet (Acknowledged context total) f.communicators (λ b k. refl);
+    communicators = communicators-quiet (Acknowledged context total) f.communicators (λ k. refl);
     outboxes = outboxes-quiet (Acknowledged context total) f.outboxes (λ d. refl);
   }
 
@@ -86,8 +86,8 @@ module _ {n me : ℕ} {log : List Entry} {stopped : Bool} {m : Matching} {find :
     small = f.small;
     halted = runs_on (Revoked context) refl;
     in_step = in_step_revoked f.in_step context first m' find' tracks;
-    faults = faults_revoked facts' (Revoked context) context.number f.faults (λ b k. refl) (λ c k. refl) (λ c. refl) marks k a;
-    communicators = communicators-quiet (Revoked context) f.communicators (λ b k. refl);
+    faults = faults_revoked facts' (Revoked context) context.number f.faults (λ k. refl) (λ c k. refl) (λ c. refl) marks k a;
+    communicators = communicators-quiet (Revoked context) f.communicators (λ k. refl);
     outboxes = outboxes-grown (Revoked context) f.outboxes grows;
   }
 
@@ -97,7 +97,7 @@ module _ {n me : ℕ} {log : List Entry} {stopped : Bool} {m : Matching} {find :
     small = f.small;
     halted = sym (any-push is_stop log Stopped ∙ or_true (is_stopped log));
     in_step = in_step_quiet f.in_step Stopped refl (λ k. refl);
-    faults = faults_quiet Stopped f.faults (λ b k. refl) (λ c k. refl) (λ c. refl);
-    communicators = communicators-quiet Stopped f.communicators (λ b k. refl);
+    faults = faults_quiet Stopped f.faults (λ k. refl) (λ c k. refl) (λ c. refl);
+    communicators = communicators-quiet Stopped f.communicators (λ k. refl);
     outboxes = outboxes-quiet Stopped f.outboxes (λ d. refl);
   }

@@ -1,6 +1,6 @@
 -- The letter that a probe found is a message of the log and of the table.
 use Rattle.std.proofs.Common.{◌≡◌, ℕ, ◌<◌, ◌⊎◌, inl, inr, Bool, true, false, cond, eqb, List, [], ◌∷◌, ◌++◌, length, refl, ap, sym, ◌∙◌, subst, Option, Some, arith, append_assoc, ◌||◌, eqb-true}
-use Rattle.ulfm_rank.proofs.Common.{Pattern, Letter, MessageId, Event, Post, Come, End, count_before, Entry, Probed, Paired, Found, Request, Pairing, Pairs, LawfulPairing, IsWaiting, pairs_below, Matching, Tracks, IsOfGroup, IsStanding, IsTable, IsInStep, Became, is_found, is_released, is_probed, releases, probes, history_of, Adds, Contains-push, same_Some, slice_get_within, get_old, length_more, count_below, receive_within, letter_within, cut, inside_to, inside_back, eq-eqb, or_right, IsMessage}
+use Rattle.ulfm_rank.proofs.Common.{Pattern, Letter, MessageId, MatchEvent, Post, Come, End, count_before, Entry, Probed, Paired, Found, Request, Pairing, Pairs, LawfulPairing, IsWaiting, pairs_below, Matching, Tracks, IsOfGroup, IsStanding, IsTable, IsInStep, Became, is_found, is_released, is_probed, releases, probes, history_of, Adds, Contains-push, same_Some, slice_get_within, get_old, length_more, count_below, receive_within, letter_within, cut, inside_to, inside_back, eq-eqb, or_right, IsMessage}
 use Rattle.ulfm_match.proofs.Steps.{pair_cases, pair_old}
 use Rattle.ulfm_match.specs.Calls.{ProbeGets, TracksProbe}
 use Rattle.ulfm_rank.proofs.Gather.{history-push, any-push}
@@ -10,11 +10,11 @@ use Rattle.ulfm_rank.proofs.Steps.{map_same}
 use Rattle.ulfm_rank.proofs.Tables.{became_keeps, no_post, table_change, table_post}
 
 -- a receive was posted, got a letter and ended at once
-module _ (h : List Event) (r : Pairing) (p : Pattern) (l : Letter) (m : Matching) (law : LawfulPairing h r) (g : ProbeGets h r p l m) where
+module _ (h : List MatchEvent) (r : Pairing) (p : Pattern) (l : Letter) (m : Matching) (law : LawfulPairing h r) (g : ProbeGets h r p l m) where
   abbrev after : Pairing
   after = r ++ (length h, g.place) ∷ []
 
-  abbrev post : List Event
+  abbrev post : List MatchEvent
   post = h ++ Post p ∷ []
 
   abbrev short : Pairing
@@ -59,7 +59,7 @@ module _ (h : List Event) (r : Pairing) (p : Pattern) (l : Letter) (m : Matching
       still i q e w = w.unpaired g.place (omega (arith, length_more h (Post p), slice_get_within h g.place (Come l) g.came)) (subst (λ k. Pairs short k g.place) e paired_here)
 
 -- the receive that got the letter is that of a message
-module _ {n : ℕ} {log : List Entry} {h : List Event} {r : Pairing} (id : MessageId) (p : Pattern) (l : Letter) (find find1 find' : ℕ → Option Request) (t : IsTable n log h r find1)
+module _ {n : ℕ} {log : List Entry} {h : List MatchEvent} {r : Pairing} (id : MessageId) (p : Pattern) (l : Letter) (find find1 find' : ℕ → Option Request) (t : IsTable n log h r find1)
     (before : Adds id.number (record { pattern = p; fate = Paired l }) find find1) (now : Adds id.number (record { pattern = p; fate = Found l }) find find') where
   abbrev entry : Entry
   entry = Probed id p

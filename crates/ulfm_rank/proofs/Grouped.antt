@@ -3,6 +3,7 @@ use Rattle.std.proofs.Common.{◌≡◌, ℕ, Bool, true, false, cond, eqb, List
 use Rattle.ulfm_rank.proofs.Common.{Context, Purpose, Shrink, Agree, Decision, decided_comm, dup_of, shrink_of, numbers_from, Entry, Duplicated, Adopted, or_else, find_group, copy_of, made_by, comms_of, group_of, members_of, or_empty, none-some, same_Some}
 use Rattle.ulfm_rank.proofs.Gather.{gathered-push}
 use Rattle.ulfm_rank.proofs.Firsts.{or_else_cases, or_else_first}
+use Rattle.ulfm_rank.specs.Log.{by_found}
 
 pub find-append : (c : ℕ) (xs ys : List (ℕ × List ℕ)) → find_group c (xs ++ ys) ≡ or_else (find_group c xs) (find_group c ys)
 find-append c [] ys = refl
@@ -12,10 +13,10 @@ find-append c (x ∷ xs) ys = pick (eqb x.0 c) (find-append c xs ys)
     pick true h = refl
     pick false h = h
 
-pub group-push : (n : ℕ) (log : List Entry) (e : Entry) (c : ℕ) → group_of n (log ++ e ∷ []) c ≡ or_else (group_of n log c) (find_group c (made_by log (comms_of n log) e))
+pub group-push : (n : ℕ) (log : List Entry) (e : Entry) (c : ℕ) → group_of n (log ++ e ∷ []) c ≡ or_else (group_of n log c) (find_group c (made_by (comms_of n log) e))
 group-push n log e c =
-    ap (find_group c) (gathered-push made_by ((0, numbers_from 0 n) ∷ []) log e)
-    ∙ find-append c (comms_of n log) (made_by log (comms_of n log) e)
+    ap (find_group c) (gathered-push (by_found made_by) ((0, numbers_from 0 n) ∷ []) log e)
+    ∙ find-append c (comms_of n log) (made_by (comms_of n log) e)
 
 -- the group of a communicator that was made stays
 pub group_stays : (n : ℕ) (log : List Entry) (e : Entry) (c : ℕ) (g : List ℕ) → group_of n log c ≡ Some g → group_of n (log ++ e ∷ []) c ≡ Some g
@@ -60,26 +61,26 @@ shrunk : (c : ℕ) (purpose : Purpose) (d : ℕ) (fresh g : List ℕ) → find_g
 shrunk c Shrink d fresh g h = let found = found_one c (shrink_of d) fresh g h in (refl, found.0, found.1)
 shrunk c (Agree round) d fresh g h = absurd (none-some g h)
 
-pub made_cases : (before : List Entry) (comms : List (ℕ × List ℕ)) (e : Entry) (c : ℕ) (g : List ℕ) → find_group c (made_by before comms e) ≡ Some g → Duplicates comms e c g ⊎ Adopts e c g
-made_cases before comms (Duplicated parent) c g h =
+pub made_cases : (comms : List (ℕ × List ℕ)) (e : Entry) (c : ℕ) (g : List ℕ) → find_group c (made_by comms e) ≡ Some g → Duplicates comms e c g ⊎ Adopts e c g
+made_cases comms (Duplicated parent) c g h =
     let found = found_copy c parent.number (dup_of parent.number) comms g h in
     inl (record { parent = parent; entry = refl; child = found.0; group = found.1 })
-made_cases before comms (Adopted decision) c g h =
+made_cases comms (Adopted decision) c g h =
     let made = shrunk c decision.topic.purpose decision.topic.context.number decision.fresh g h in
     inr (record { decision = decision; entry = refl; shrinks = made.0; child = made.1; group = made.2 })
-made_cases before comms _ c g h = absurd (none-some g h)
+made_cases comms _ c g h = absurd (none-some g h)
 
 -- the group of a context: it was there, or the last entry made it
 pub group_cases : (n : ℕ) (log : List Entry) (e : Entry) (c : ℕ) (g : List ℕ) → group_of n (log ++ e ∷ []) c ≡ Some g → (group_of n log c ≡ Some g) ⊎ (Duplicates (comms_of n log) e c g ⊎ Adopts e c g)
-group_cases n log e c g h = elim (or_else_cases (group_of n log c) (find_group c (made_by log (comms_of n log) e)) g (sym (group-push n log e c) ∙ h)) [
+group_cases n log e c g h = elim (or_else_cases (group_of n log c) (find_group c (made_by (comms_of n log) e)) g (sym (group-push n log e c) ∙ h)) [
   | inl was ↦ inl was
-  | inr now ↦ inr (made_cases log (comms_of n log) e c g now.1)
+  | inr now ↦ inr (made_cases (comms_of n log) e c g now.1)
 ]
 
-pub found_cases : (before : List Entry) (found : List (ℕ × List ℕ)) (e : Entry) (c : ℕ) (g : List ℕ) → find_group c (found ++ made_by before found e) ≡ Some g → (find_group c found ≡ Some g) ⊎ (Duplicates found e c g ⊎ Adopts e c g)
-found_cases before found e c g h = elim (or_else_cases (find_group c found) (find_group c (made_by before found e)) g (sym (find-append c found (made_by before found e)) ∙ h)) [
+pub found_cases : (found : List (ℕ × List ℕ)) (e : Entry) (c : ℕ) (g : List ℕ) → find_group c (found ++ made_by found e) ≡ Some g → (find_group c found ≡ Some g) ⊎ (Duplicates found e c g ⊎ Adopts e c g)
+found_cases found e c g h = elim (or_else_cases (find_group c found) (find_group c (made_by found e)) g (sym (find-append c found (made_by found e)) ∙ h)) [
   | inl was ↦ inl was
-  | inr now ↦ inr (made_cases before found e c g now.1)
+  | inr now ↦ inr (made_cases found e c g now.1)
 ]
 
 pub still_found : (c : ℕ) (found more : List (ℕ × List ℕ)) (g : List ℕ) → find_group c found ≡ Some g → find_group c (found ++ more) ≡ Some g

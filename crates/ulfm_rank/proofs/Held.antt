@@ -13,10 +13,10 @@ stopped_stays log e h = first (is_stopped log) (is_stop e) (sym (any-push is_sto
     first true b h = h
     first false b h = refl
 
-pub outboxes-grown : {n me : ℕ} {log : List Entry} (e : Entry) {old new : List Box} → HasOutboxes n me log old → AllGrow old new (λ d. owed_by n me d log (owed n me log d) e) → HasOutboxes n me (log ++ e ∷ []) new
+pub outboxes-grown : {n me : ℕ} {log : List Entry} (e : Entry) {old new : List Box} → HasOutboxes n me log old → AllGrow old new (λ d. owed_by n me d log e) → HasOutboxes n me (log ++ e ∷ []) new
 outboxes-grown {n} {me} {log} e {old} {new} h grows =
     let old_of : (d : ℕ) → d < length new → d < length old = λ d k. omega (arith, k, grows.size) in
-    let gained : ℕ → List Item = λ d. owed_by n me d log (owed n me log d) e in
+    let gained : ℕ → List Item = λ d. owed_by n me d log e in
     record {
       inside = h.inside;
       size = grows.size ∙ h.size;
@@ -46,7 +46,7 @@ grows_alike {old} {new} {items} items' grows alike = record {
   each = λ d h. rw (← alike d h) (grows.each d h);
 }
 
-pub outboxes-quiet : {n me : ℕ} {log : List Entry} (e : Entry) {boxes : List Box} → HasOutboxes n me log boxes → ((d : ℕ) → owed_by n me d log (owed n me log d) e ≡ []) → HasOutboxes n me (log ++ e ∷ []) boxes
+pub outboxes-quiet : {n me : ℕ} {log : List Entry} (e : Entry) {boxes : List Box} → HasOutboxes n me log boxes → ((d : ℕ) → owed_by n me d log e ≡ []) → HasOutboxes n me (log ++ e ∷ []) boxes
 outboxes-quiet {n} {me} {log} e {boxes} h quiet = outboxes-grown e h (none_grow boxes _ quiet)
 
 -- no item left outboxes that grew

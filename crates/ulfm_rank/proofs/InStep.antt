@@ -1,12 +1,12 @@
 -- The matcher and the table stay in step with the log.
 use Rattle.std.proofs.Common.{◌≡◌, ℕ, ◌+◌, ◌≤◌, Bool, false, cond, List, [], ◌∷◌, ◌++◌, length, refl, ap, sym, ◌∙◌, subst, Option, None, arith, append-nil, slice_get, ◌||◌}
-use Rattle.ulfm_rank.proofs.Common.{Pattern, Context, Item, WorldRank, Entry, Posted, Revoked, Took, Fate, Request, IsRequest, Pairing, IsWaiting, IsKept, Matching, is_cleared, Lists, Tracks, IsOfGroup, IsTable, IsInStep, get_here, Adds, TracksAdmit, TracksRevocation, TracksItem, or-false, Event, Post, Clear, counts_as, count_before, history_of, events_by, item_events, names_gone, post_events, is_revoked, revoked_before, is_released, is_probed, releases, probes, list_any, or_parts, false_from_ne_true, PostAt}
+use Rattle.ulfm_rank.proofs.Common.{Pattern, Context, Item, WorldRank, Entry, Posted, Revoked, Took, Fate, Request, IsRequest, Pairing, IsWaiting, IsKept, Matching, is_cleared, Lists, Tracks, IsOfGroup, IsTable, IsInStep, get_here, Adds, TracksAdmit, TracksRevocation, TracksItem, or-false, MatchEvent, Post, Clear, counts_as, count_before, history_of, events_by, item_events, names_gone, post_events, is_revoked, revoked_before, is_released, is_probed, releases, probes, list_any, or_parts, false_from_ne_true, PostAt}
 use Rattle.ulfm_rank.proofs.Gather.{history-push, any-push}
 use Rattle.ulfm_rank.proofs.Groups.{of_group_stays}
 use Rattle.ulfm_rank.proofs.Opens.{unrevoked_open, few_numbered}
 
 -- room plays no part
-pub tracks_same : (h : List Event) (r : Pairing) (s s' : Matching) → Tracks h r s → s'.waiting ≡ s.waiting → s'.kept ≡ s.kept → s'.count ≡ s.count → s'.cleared ≡ s.cleared → Tracks h r s'
+pub tracks_same : (h : List MatchEvent) (r : Pairing) (s s' : Matching) → Tracks h r s → s'.waiting ≡ s.waiting → s'.kept ≡ s.kept → s'.count ≡ s.count → s'.cleared ≡ s.cleared → Tracks h r s'
 tracks_same h r s s' t ew ek ec em = record {
   well_formed = t.well_formed;
   lawful = t.lawful;
@@ -18,7 +18,7 @@ tracks_same h r s s' t ew ek ec em = record {
   };
 }
 
-pub table_same : (n : ℕ) (log : List Entry) (h : List Event) (r : Pairing) (find find' : ℕ → Option Request) → IsTable n log h r find → ((k : ℕ) → find' k ≡ find k) → IsTable n log h r find'
+pub table_same : (n : ℕ) (log : List Entry) (h : List MatchEvent) (r : Pairing) (find find' : ℕ → Option Request) → IsTable n log h r find → ((k : ℕ) → find' k ≡ find k) → IsTable n log h r find'
 table_same n log h r find find' t e = record {
   standing = λ id q f. t.standing id q (sym (e id) ∙ f);
   of_group = λ id q f. t.of_group id q (sym (e id) ∙ f);
@@ -34,11 +34,11 @@ pub untouched : (test : ℕ → Entry → Bool) (log : List Entry) (x : Entry) (
 untouched test log x k none = any-push (test k) log x ∙ (ap (λ b. list_any (test k) log || b) none ∙ or-false (list_any (test k) log))
 
 -- a number that no receive has is neither released nor that of a message
-pub fresh_number : {n : ℕ} {log : List Entry} {h : List Event} {r : Pairing} {find : ℕ → Option Request} → IsTable n log h r find → (is_released log (count_before h (length h)) ≡ false) × (is_probed log (count_before h (length h)) ≡ false)
+pub fresh_number : {n : ℕ} {log : List Entry} {h : List MatchEvent} {r : Pairing} {find : ℕ → Option Request} → IsTable n log h r find → (is_released log (count_before h (length h)) ≡ false) × (is_probed log (count_before h (length h)) ≡ false)
 fresh_number t = (false_from_ne_true _ (λ g. omega (arith, t.released_below _ g)), false_from_ne_true _ (λ g. omega (arith, t.probed_below _ g)))
 
 -- an entry that releases nothing and is no probe
-table_logged : (n : ℕ) (log : List Entry) (x : Entry) (h : List Event) (r : Pairing) (find : ℕ → Option Request) → ((k : ℕ) → releases k x || probes k x ≡ false) → IsTable n log h r find → IsTable n (log ++ x ∷ []) h r find
+table_logged : (n : ℕ) (log : List Entry) (x : Entry) (h : List MatchEvent) (r : Pairing) (find : ℕ → Option Request) → ((k : ℕ) → releases k x || probes k x ≡ false) → IsTable n log h r find → IsTable n (log ++ x ∷ []) h r find
 table_logged n log x h r find none t =
     let same : (k : ℕ) → is_released (log ++ x ∷ []) k ≡ is_released log k = λ k. untouched releases log x k (or_parts (releases k x) (probes k x) (none k)).0 in
     let alike : (k : ℕ) → is_probed (log ++ x ∷ []) k ≡ is_probed log k = λ k. untouched probes log x k (or_parts (releases k x) (probes k x) (none k)).1 in
@@ -53,7 +53,7 @@ table_logged n log x h r find none t =
     }
 
 -- the history of one more entry
-stepped : (n : ℕ) (log : List Entry) (x : Entry) (m : Matching) (find : ℕ → Option Request) (xs : List Event) → events_by log (history_of log) x ≡ xs → ((k : ℕ) → releases k x || probes k x ≡ false)
+stepped : (n : ℕ) (log : List Entry) (x : Entry) (m : Matching) (find : ℕ → Option Request) (xs : List MatchEvent) → events_by log (history_of log) x ≡ xs → ((k : ℕ) → releases k x || probes k x ≡ false)
     → (r : Pairing) → Tracks (history_of log ++ xs) r m → IsTable n log (history_of log ++ xs) r find → IsInStep n (log ++ x ∷ []) m find
 stepped n log x m find xs e none r t table =
     let long : history_of log ++ xs ≡ history_of (log ++ x ∷ []) = ap (λ ys. history_of log ++ ys) (sym e) ∙ sym (history-push log x) in
@@ -123,14 +123,14 @@ module _ {n : ℕ} {log : List Entry} {m : Matching} {find : ℕ → Option Requ
       stepped n log (Took s item) m' find' (item_events (revoked_before log item) h s.number item) refl (λ k. refl) a.0 a.1 a.2
 
 -- an entry that posts a receive puts it at the end of the history before
-pub posted_last : (log : List Entry) (x : Entry) (p : Pattern) (es : List Event) → events_by log (history_of log) x ≡ Post p ∷ es
+pub posted_last : (log : List Entry) (x : Entry) (p : Pattern) (es : List MatchEvent) → events_by log (history_of log) x ≡ Post p ∷ es
     → PostAt (history_of (log ++ x ∷ [])) (length (history_of log)) p × (count_before (history_of (log ++ x ∷ [])) (length (history_of log)) ≡ count_before (history_of log) (length (history_of log)))
 posted_last log x p es is =
     let h = history_of log in
     let long : history_of (log ++ x ∷ []) ≡ h ++ Post p ∷ es = history-push log x ∙ ap (λ ys. h ++ ys) is in
     (ap (λ g. slice_get g (length h)) long ∙ get_here h (Post p) es, ap (λ g. count_before g (length h)) long ∙ count_at h (Post p ∷ es))
   where
-    count_at : (h ys : List Event) → count_before (h ++ ys) (length h) ≡ count_before h (length h)
+    count_at : (h ys : List MatchEvent) → count_before (h ++ ys) (length h) ≡ count_before h (length h)
     count_at [] [] = refl
     count_at [] (y ∷ ys) = refl
     count_at (y ∷ h) ys = ap (λ n. counts_as y + n) (count_at h ys)

@@ -3,9 +3,10 @@ use Rattle.std.proofs.Common.{◌≡◌, ℕ, Bool, true, false, cond, List, [],
 use Rattle.ulfm_rank.proofs.Common.{Context, Pattern, WorldRank, Item, Entry, Took, members_of, HasFaults, names_known, pends_by, was_revoked_in, is_any, pends, list_any, or-false, names_gone, list_any-append, Source, One, Any, is_member, including, intersection, is_gone, tells_gone, known_of, newly_known, acknowledged_of, acknowledged_from, acknowledged_by, is_revoked, revoked_before, revokes, FaultState, acknowledged_in, is_revoked_in, has_unacked}
 use Rattle.ulfm_base.specs.declared.item.Item.TheVariants.{Letter as Mail, Gone, Revoke, Enter}
 use Rattle.ulfm_rank.proofs.Gather.{gathered-push, gathered_all, any-push}
+use Rattle.ulfm_rank.specs.Log.{by_found}
 
-pub known-push : (log : List Entry) (x : Entry) → known_of (log ++ x ∷ []) ≡ known_of log ++ newly_known log (known_of log) x
-known-push log x = gathered-push newly_known [] log x
+pub known-push : (log : List Entry) (x : Entry) → known_of (log ++ x ∷ []) ≡ known_of log ++ newly_known (known_of log) x
+known-push log x = gathered-push (by_found newly_known) [] log x
 
 acknowledged_from-push : (c k : ℕ) (log : List Entry) (x : Entry) → acknowledged_from c k (log ++ x ∷ []) ≡ acknowledged_by c (acknowledged_from c k log) x
 acknowledged_from-push c k [] x = refl
@@ -18,9 +19,9 @@ pub faults_start : (facts : FaultState) → facts.known ≡ [] → ((c : ℕ) �
 faults_start facts k a m = record { knows = k; acknowledges = a; marks = m }
 
 -- an entry that tells nothing of failures, acknowledgements and revocations
-pub faults_quiet : {log : List Entry} {facts : FaultState} (x : Entry) → HasFaults log facts → ((before : List Entry) (known : List ℕ) → newly_known before known x ≡ []) → ((c k : ℕ) → acknowledged_by c k x ≡ k) → ((c : ℕ) → revokes c x ≡ false) → HasFaults (log ++ x ∷ []) facts
+pub faults_quiet : {log : List Entry} {facts : FaultState} (x : Entry) → HasFaults log facts → ((known : List ℕ) → newly_known known x ≡ []) → ((c k : ℕ) → acknowledged_by c k x ≡ k) → ((c : ℕ) → revokes c x ≡ false) → HasFaults (log ++ x ∷ []) facts
 faults_quiet {log} {facts} x held k a m = record {
-  knows = held.knows ∙ sym (known-push log x ∙ (ap (λ ys. known_of log ++ ys) (k log (known_of log)) ∙ append-nil (known_of log)));
+  knows = held.knows ∙ sym (known-push log x ∙ (ap (λ ys. known_of log ++ ys) (k (known_of log)) ∙ append-nil (known_of log)));
   acknowledges = λ c. held.acknowledges c ∙ sym (acknowledged-push c log x ∙ a c (acknowledged_of log c));
   marks = λ c. held.marks c ∙ sym (any-push (revokes c) log x ∙ (ap (λ b. is_revoked log c || b) (m c) ∙ or-false (is_revoked log c)));
 }
@@ -34,10 +35,10 @@ faults_learned {log} {old} new s held k a m = record {
 }
 
 -- a revocation, by an entry that gives nothing else
-pub faults_revoked : {log : List Entry} {old : FaultState} (new : FaultState) (x : Entry) (d : ℕ) → HasFaults log old → ((before : List Entry) (known : List ℕ) → newly_known before known x ≡ []) → ((c k : ℕ) → acknowledged_by c k x ≡ k) → ((c : ℕ) → revokes c x ≡ (d == c))
+pub faults_revoked : {log : List Entry} {old : FaultState} (new : FaultState) (x : Entry) (d : ℕ) → HasFaults log old → ((known : List ℕ) → newly_known known x ≡ []) → ((c k : ℕ) → acknowledged_by c k x ≡ k) → ((c : ℕ) → revokes c x ≡ (d == c))
     → ((c : ℕ) → is_revoked_in new c ≡ cond (d == c) true (is_revoked_in old c)) → new.known ≡ old.known → new.acknowledged ≡ old.acknowledged → HasFaults (log ++ x ∷ []) new
 faults_revoked {log} {old} new x d held none same is m k a = record {
-  knows = k ∙ (held.knows ∙ sym (known-push log x ∙ (ap (λ ys. known_of log ++ ys) (none log (known_of log)) ∙ append-nil (known_of log))));
+  knows = k ∙ (held.knows ∙ sym (known-push log x ∙ (ap (λ ys. known_of log ++ ys) (none (known_of log)) ∙ append-nil (known_of log))));
   acknowledges = λ c. ap (λ xs. slice_index_or xs c 0) a ∙ (held.acknowledges c ∙ sym (acknowledged-push c log x ∙ same c (acknowledged_of log c)));
   marks = λ c. m c ∙ (pick (d == c) (is_revoked_in old c) ∙ (ap (λ b. b || (d == c)) (held.marks c) ∙ sym (any-push (revokes c) log x ∙ ap (λ b. is_revoked log c || b) (is c))));
 }
@@ -51,8 +52,8 @@ faults_revoked {log} {old} new x d held none same is m k a = record {
 -- a rank is known to have failed exactly where a notice came from it
 pub known_gone : (log : List Entry) (s : ℕ) → is_member (known_of log) s ≡ is_gone log s
 known_gone log s =
-    gathered_all newly_known (λ l known. is_member known s ≡ is_gone l s)
-    (λ l known x p. list_any-append (λ m. m == s) known (newly_known l known x) ∙ (step l known x p ∙ sym (any-push (tells_gone s) l x)))
+    gathered_all (by_found newly_known) (λ l known. is_member known s ≡ is_gone l s)
+    (λ l known x p. list_any-append (λ m. m == s) known (newly_known known x) ∙ (step l known x p ∙ sym (any-push (tells_gone s) l x)))
     [] refl log
   where
     or_true : (b : Bool) → true ≡ b || true
@@ -69,7 +70,7 @@ known_gone log s =
     unnoticed a b f p true = ap (λ b. b || false) p
     unnoticed a b f p false = ap (λ b. b || false) p
 
-    step : (l : List Entry) (known : List ℕ) (x : Entry) → is_member known s ≡ is_gone l s → is_member known s || list_any (λ m. m == s) (newly_known l known x) ≡ is_gone l s || tells_gone s x
+    step : (l : List Entry) (known : List ℕ) (x : Entry) → is_member known s ≡ is_gone l s → is_member known s || list_any (λ m. m == s) (newly_known known x) ≡ is_gone l s || tells_gone s x
     step l known (Took f Gone) p = noticed known (is_gone l s) f.number p (is_member known f.number) refl (f.number == s) refl
     step l known (Took f item) p = unnoticed (is_member known s) (is_gone l s) f.number p (f.number == s)
     step l known x p = ap (λ b. b || false) p
@@ -95,10 +96,10 @@ marked_before {log} {facts} held item = refl
 
 -- letters and entrances
 pub faults_taken : {log : List Entry} {facts : FaultState} (s : WorldRank) (item : Item) → (item ≡ Gone → ⊥) → ((c : Context) → item ≡ Revoke c → ⊥) → HasFaults log facts → HasFaults (log ++ Took s item ∷ []) facts
-faults_taken {log} {facts} s (Mail letter) gone revoke held = faults_quiet (Took s (Mail letter)) held (λ b k. refl) (λ c k. refl) (λ c. refl)
+faults_taken {log} {facts} s (Mail letter) gone revoke held = faults_quiet (Took s (Mail letter)) held (λ k. refl) (λ c k. refl) (λ c. refl)
 faults_taken {log} {facts} s Gone gone revoke held = absurd (gone refl)
 faults_taken {log} {facts} s (Revoke context) gone revoke held = absurd (revoke context refl)
-faults_taken {log} {facts} s (Enter entrance) gone revoke held = faults_quiet (Took s (Enter entrance)) held (λ b k. refl) (λ c k. refl) (λ c. refl)
+faults_taken {log} {facts} s (Enter entrance) gone revoke held = faults_quiet (Took s (Enter entrance)) held (λ k. refl) (λ c k. refl) (λ c. refl)
 
 pub knows_gone : {log : List Entry} {facts : FaultState} → HasFaults log facts → (r : ℕ) → is_member facts.known r ≡ is_gone log r
 knows_gone {log} {facts} held r = ap (λ known. is_member known r) held.knows ∙ known_gone log r

@@ -2,14 +2,15 @@
 use Rattle.std.proofs.Common.{◌≡◌, ℕ, zero, suc, ◌+◌, ◌<◌, ◌≤◌, Bool, true, false, cond, eqb, List, [], ◌∷◌, ◌++◌, refl, ap, sym, ◌∙◌, arith, append-nil, Some, All, slice_get}
 use Rattle.ulfm_rank.proofs.Common.{Context, dup_of, numbers_from, Entry, Duplicated, All-append, find_group, copy_of, made_by, comms_of, group_of, AreOfWorld, HasCommunicators, slice_get_within, get_or_from_slice_get}
 use Rattle.ulfm_rank.proofs.Gather.{gathered-push}
+use Rattle.ulfm_rank.specs.Log.{by_found}
 
-pub comms-push : (n : ℕ) (log : List Entry) (e : Entry) → comms_of n (log ++ e ∷ []) ≡ comms_of n log ++ made_by log (comms_of n log) e
-comms-push n log e = gathered-push made_by ((0, numbers_from 0 n) ∷ []) log e
+pub comms-push : (n : ℕ) (log : List Entry) (e : Entry) → comms_of n (log ++ e ∷ []) ≡ comms_of n log ++ made_by (comms_of n log) e
+comms-push n log e = gathered-push (by_found made_by) ((0, numbers_from 0 n) ∷ []) log e
 
 -- an entry that makes nothing
-pub communicators-quiet : {n : ℕ} {log : List Entry} (e : Entry) {comms : List (ℕ × List ℕ)} → HasCommunicators n log comms → ((before : List Entry) (found : List (ℕ × List ℕ)) → made_by before found e ≡ []) → HasCommunicators n (log ++ e ∷ []) comms
+pub communicators-quiet : {n : ℕ} {log : List Entry} (e : Entry) {comms : List (ℕ × List ℕ)} → HasCommunicators n log comms → ((found : List (ℕ × List ℕ)) → made_by found e ≡ []) → HasCommunicators n (log ++ e ∷ []) comms
 communicators-quiet {n} {log} e {comms} h none = record {
-  made = h.made ∙ sym (comms-push n log e ∙ (ap (λ more. comms_of n log ++ more) (none log (comms_of n log)) ∙ append-nil (comms_of n log)));
+  made = h.made ∙ sym (comms-push n log e ∙ (ap (λ more. comms_of n log ++ more) (none (comms_of n log)) ∙ append-nil (comms_of n log)));
   of_world = h.of_world;
 }
 

@@ -16,7 +16,7 @@ sound-logged r e h = record {
   small = h.small;
   me = h.me;
   sized = h.sized;
-  within = λ d k. omega (arith, h.within d k, ap length (owes-logged r e d), length-append (owes r d) (owed_by r.ranks r.me d r.log (owes r d) e));
+  within = λ d k. omega (arith, h.within d k, ap length (owes-logged r e d), length-append (owes r d) (owed_by r.ranks r.me d r.log e));
   no_notice = λ s d k. h.no_notice (or_parts (is_stopped r.log) (is_stop e) (sym (stopped-push r.log e) ∙ s)).0 d k;
   no_own_notice = h.no_own_notice;
 }
@@ -25,7 +25,7 @@ out-logged : (r : State) (e : Entry) (d : ℕ) → (mark_at r d).items_out ≤ l
 out-logged r e d within =
     ap (λ xs. take (mark_at r d).items_out xs ++ notice (mark_at r d).notice_out)
     (owes-logged r e d)
-    ∙ ap (λ xs. xs ++ notice (mark_at r d).notice_out) (take-append-le (mark_at r d).items_out (owes r d) (owed_by r.ranks r.me d r.log (owes r d) e) within)
+    ∙ ap (λ xs. xs ++ notice (mark_at r d).notice_out) (take-append-le (mark_at r d).items_out (owes r d) (owed_by r.ranks r.me d r.log e) within)
 
 pub calm-logged : (r : State) (e : Entry) → IsState r → IsSigned r.me e → Calm r (logged r e)
 calm-logged r e h signed = record {

@@ -1,6 +1,6 @@
 -- A request or a message is released.
 use Rattle.std.proofs.Common.{◌≡◌, ℕ, ◌<◌, Bool, true, false, cond, eqb, List, [], ◌∷◌, ◌++◌, length, refl, ap, sym, ◌∙◌, subst, Option, Some, None, arith, append-nil, ◌||◌}
-use Rattle.ulfm_rank.proofs.Common.{Event, Post, count_before, Entry, Request, Pairing, events_by, history_of, eqb-true, or_parts, Matching, Tracks, IsTable, IsInStep, slice_get_within, count_below, Removes, is_released, releases, probes}
+use Rattle.ulfm_rank.proofs.Common.{MatchEvent, Post, count_before, Entry, Request, Pairing, events_by, history_of, eqb-true, or_parts, Matching, Tracks, IsTable, IsInStep, slice_get_within, count_below, Removes, is_released, releases, probes}
 use Rattle.ulfm_rank.proofs.Gather.{history-push, any-push}
 use Rattle.ulfm_rank.proofs.Groups.{of_group_stays}
 use Rattle.ulfm_rank.proofs.InStep.{untouched}
@@ -11,7 +11,7 @@ pub record IsRelease (id : ℕ) (x : Entry) : Type 0 where
   pub probes_none : (k : ℕ) → probes k x ≡ false
 
 -- the table without what the entry releases
-pub table_released : {n : ℕ} {log : List Entry} {h : List Event} {r : Pairing} {find : ℕ → Option Request} → IsTable n log h r find → (x : Entry) (id : ℕ) → IsRelease id x → (q : Request) → find id ≡ Some q → (find' : ℕ → Option Request) → Removes id find find' → IsTable n (log ++ x ∷ []) h r find'
+pub table_released : {n : ℕ} {log : List Entry} {h : List MatchEvent} {r : Pairing} {find : ℕ → Option Request} → IsTable n log h r find → (x : Entry) (id : ℕ) → IsRelease id x → (q : Request) → find id ≡ Some q → (find' : ℕ → Option Request) → Removes id find find' → IsTable n (log ++ x ∷ []) h r find'
 table_released {n} {log} {h} {r} {find} t x id release q f find' gone = record {
   standing = λ k w g. t.standing k w (left k w g).1;
   of_group = λ k w g. of_group_stays x (t.of_group k w (left k w g).1);

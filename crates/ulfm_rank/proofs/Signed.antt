@@ -7,6 +7,7 @@ use Rattle.ulfm_base.proofs.Numbers.{same_rank}
 use Rattle.ulfm_rank.proofs.Gather.{gathered_all}
 use Rattle.ulfm_rank.proofs.Logs.{owed_by_cases}
 use Rattle.ulfm_base.specs.Items.{ComesFrom}
+use Rattle.ulfm_rank.specs.Log.{by_before}
 
 pub all_front : {X : Type 0} (P : X → Type 0) (xs : List X) (x : X) → All P (xs ++ x ∷ []) → All P xs
 all_front P xs x all k d h = let Q = P in subst Q (get_or_append_left xs (x ∷ []) d k h) (all k d (omega (arith, length-append xs (x ∷ []), h)))
@@ -14,17 +15,17 @@ all_front P xs x all k d h = let Q = P in subst Q (get_or_append_left xs (x ∷ 
 pub all_last : {X : Type 0} (P : X → Type 0) (xs : List X) (x : X) → All P (xs ++ x ∷ []) → P x
 all_last P xs x all = subst P (get_or_at xs x [] x (length xs) refl) (all (length xs) x (omega (arith, length-append xs (x ∷ []))))
 
-signed_step : (n me d : ℕ) (before : List Entry) (found : List Item) (e : Entry) → (All (IsSigned me) before → All (ComesFrom me) found) → All (IsSigned me) (before ++ e ∷ []) → All (ComesFrom me) (found ++ owed_by n me d before found e)
+signed_step : (n me d : ℕ) (before : List Entry) (found : List Item) (e : Entry) → (All (IsSigned me) before → All (ComesFrom me) found) → All (IsSigned me) (before ++ e ∷ []) → All (ComesFrom me) (found ++ owed_by n me d before e)
 signed_step n me d before found e h all =
     let own = all_last (IsSigned me) before e all in
     let one : (item : Item) → ComesFrom me item → All (ComesFrom me) (item ∷ []) = λ item k. All-push (ComesFrom me) [] item (All-nil (ComesFrom me)) k in
-    All-append (ComesFrom me) found (owed_by n me d before found e) (h (all_front (IsSigned me) before e all))
-    (owed_by_cases (λ (xs : List Item). All (ComesFrom me) xs) n me d before found e (All-nil (ComesFrom me)) (λ to letter is. one (Mail letter) (let S = IsSigned me in subst S is own)) (λ context. one (Revoke context) tt) (λ entrance. one (Enter entrance) tt))
+    All-append (ComesFrom me) found (owed_by n me d before e) (h (all_front (IsSigned me) before e all))
+    (owed_by_cases (λ (xs : List Item). All (ComesFrom me) xs) n me d before e (All-nil (ComesFrom me)) (λ to letter is. one (Mail letter) (let S = IsSigned me in subst S is own)) (λ context. one (Revoke context) tt) (λ entrance. one (Enter entrance) tt))
 
 pub owed_signed : (n me d : ℕ) (log : List Entry) → All (IsSigned me) log → All (ComesFrom me) (owed n me log d)
 owed_signed n me d log =
     let P = λ (before : List Entry) (found : List Item). All (IsSigned me) before → All (ComesFrom me) found in
-    gathered_all {X = Item} (owed_by n me d) P (signed_step n me d) [] (λ k. All-nil (ComesFrom me)) log
+    gathered_all {X = Item} (by_before (owed_by n me d)) P (signed_step n me d) [] (λ k. All-nil (ComesFrom me)) log
 
 after_stop : (me : ℕ) (a b : Bool) → All (ComesFrom me) (cond a [] (cond b [] (Gone ∷ [])))
 after_stop me true b = All-nil (ComesFrom me)

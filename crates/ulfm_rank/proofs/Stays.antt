@@ -1,6 +1,6 @@
 -- What is told of a receive stays as the log grows.
 use Rattle.std.proofs.Common.{◌≡◌, ℕ, ◌+◌, ◌<◌, ◌⊎◌, inl, inr, true, List, [], ◌∷◌, ◌++◌, length, refl, ap, sym, ◌∙◌, subst, arith, Option, Some, None, slice_get, max}
-use Rattle.ulfm_rank.proofs.Common.{Letter, Pattern, Event, Post, Come, End, Clear, PostAt, Entry, TestAnswer, group_of, members_of, or_empty, history_of, events_by, Pairing, LawfulPairing, pairs_below, same_pattern, Got, IsUnpaired, IsOver, IsReceived, IsAnswerBy, is_receipt, is_release, slice_get_within, Done, Over, Pending, NotYet, cut, get_front, inside_to, inside_back, CallError}
+use Rattle.ulfm_rank.proofs.Common.{Letter, Pattern, MatchEvent, Post, Come, End, Clear, PostAt, Entry, TestAnswer, group_of, members_of, or_empty, history_of, events_by, Pairing, LawfulPairing, pairs_below, same_pattern, Got, IsUnpaired, IsOver, IsReceived, IsAnswerBy, is_receipt, is_release, slice_get_within, Done, Over, Pending, NotYet, cut, get_front, inside_to, inside_back, CallError}
 use Rattle.ulfm_base.specs.declared.error.CallError.TheVariants.{ProcFailed, Revoked, Truncated}
 use Rattle.ulfm_match.proofs.Decide.{lt_or_ge}
 use Rattle.ulfm_rank.proofs.Tables.{first_on}
@@ -15,12 +15,12 @@ members_stay n log e c P none p = pick (group_of n log c) refl p
     pick None q p = absurd (none p)
     pick (Some g) q p = subst P (sym (members_found n (log ++ e ∷ []) c g (group_stays n log e c g q))) p
 
-module _ (h xs : List Event) (r : Pairing) (law : LawfulPairing (h ++ xs) r) where
+module _ (h xs : List MatchEvent) (r : Pairing) (law : LawfulPairing (h ++ xs) r) where
   got_on : (i : ℕ) (letter : Letter) → Got h (pairs_below (length h) r) i letter → Got (h ++ xs) r i letter
   got_on i letter g = record { place = g.place; pairs = (inside_to (length h) r i g.place g.pairs).0; came = get_front h xs g.place (Come letter) g.came }
 
   -- a receive that was over and unpaired isn't paired later
-  unpaired_on : (i place : ℕ) (p : Pattern) (e : Event) → PostAt h i p → IsUnpaired (pairs_below (length h) r) i → i < place → slice_get h place ≡ Some e → (e ≡ End i) ⊎ (e ≡ Clear p.context.number) → IsUnpaired r i
+  unpaired_on : (i place : ℕ) (p : Pattern) (e : MatchEvent) → PostAt h i p → IsUnpaired (pairs_below (length h) r) i → i < place → slice_get h place ≡ Some e → (e ≡ End i) ⊎ (e ≡ Clear p.context.number) → IsUnpaired r i
   unpaired_on i place p e posted free after is why b q =
       let li = slice_get_within h i (Post p) posted in
       let lp = slice_get_within h place e is in
@@ -45,10 +45,10 @@ module _ (h xs : List Event) (r : Pairing) (law : LawfulPairing (h ++ xs) r) whe
 
 -- what a pairing of the longer log says of the beginning
 module _ (n : ℕ) (log : List Entry) (e : Entry) (i : ℕ) (p : Pattern) (r : Pairing) (law : LawfulPairing (history_of (log ++ e ∷ [])) r) where
-  abbrev h : List Event
+  abbrev h : List MatchEvent
   h = history_of log
 
-  abbrev xs : List Event
+  abbrev xs : List MatchEvent
   xs = events_by log h e
 
   long : history_of (log ++ e ∷ []) ≡ h ++ xs

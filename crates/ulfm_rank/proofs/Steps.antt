@@ -1,12 +1,12 @@
 -- A post and an arrival, with the table beside them.
 use Rattle.std.proofs.Common.{◌≡◌, ◌≢◌, ℕ, ◌+◌, ◌<◌, inl, inr, Bool, true, false, cond, eqb, List, [], ◌∷◌, ◌++◌, length, refl, ap, sym, ◌∙◌, subst, Option, Some, None, arith, append_assoc, append-nil, eqb-true}
-use Rattle.ulfm_rank.proofs.Common.{Pattern, Letter, Entry, Fate, Paired, Found, Request, Item, Contains-push, same_Some, Pairing, Pairs, LawfulPairing, Matching, Tracks, receive_within, IsUnpaired, IsOfGroup, Became, IsStanding, IsTable, is_found, letter_within, get_old, get_new, length_more, count_old, same_number, fate_of, changed, Adds, Changes, TracksItem, option_map, nat_tests, Event, Post, Come, End, Clear, PostAt, StandsBetween, count_before, post_events, item_events, TracksEnd}
+use Rattle.ulfm_rank.proofs.Common.{Pattern, Letter, Entry, Fate, Paired, Found, Request, Item, Contains-push, same_Some, Pairing, Pairs, LawfulPairing, Matching, Tracks, receive_within, IsUnpaired, IsOfGroup, Became, IsStanding, IsTable, is_found, letter_within, get_old, get_new, length_more, count_old, same_number, fate_of, changed, Adds, Changes, TracksItem, option_map, nat_tests, MatchEvent, Post, Come, End, Clear, PostAt, StandsBetween, count_before, post_events, item_events, TracksEnd}
 use Rattle.ulfm_match.proofs.Steps.{pair_cases, pair_old, stands_nowhere}
 use Rattle.ulfm_rank.proofs.Tables.{became_keeps, no_post, refated, same_kind, table_change, table_post}
 use Rattle.ulfm_match.proofs.Determined.{Posts}
 
 -- the pairing after a post
-pub record IsPosted (h : List Event) (r : Pairing) (p : Pattern) (s : Matching) (o : Option Letter) : Type 0 where
+pub record IsPosted (h : List MatchEvent) (r : Pairing) (p : Pattern) (s : Matching) (o : Option Letter) : Type 0 where
   pub pairing : Pairing
   pub tracks : Tracks (h ++ Post p ∷ []) pairing s
   pub keep : (i b : ℕ) → Pairs r i b → Pairs pairing i b
@@ -14,7 +14,7 @@ pub record IsPosted (h : List Event) (r : Pairing) (p : Pattern) (s : Matching) 
   pub became : Became (h ++ Post p ∷ []) pairing (length h) p (fate_of o false)
   pub unpaired : o ≡ None → IsUnpaired pairing (length h)
 
-pub posted : (h : List Event) (r : Pairing) (law : LawfulPairing h r) (p : Pattern) (s : Matching) (o : Option Letter) → Posts h r p s o → IsPosted h r p s o
+pub posted : (h : List MatchEvent) (r : Pairing) (law : LawfulPairing h r) (p : Pattern) (s : Matching) (o : Option Letter) → Posts h r p s o → IsPosted h r p s o
 posted h r law p s None t =
     let free : IsUnpaired r (length h) = λ b q. let l = receive_within h r law (length h) b q in absurd (omega arith) in
     record {
@@ -52,17 +52,17 @@ differ : (a b : ℕ) → eqb a b ≡ false → a ≢ b
 differ a b e f = grind (arith, nat_tests)
 
 -- the number of a request is that of one place
-pub same_place : (h : List Event) (r : Pairing) (id : ℕ) (q : Request) (s : IsStanding h r id q) (i : ℕ) (p : Pattern) → PostAt h i p → count_before h i ≡ id → s.place ≡ i
+pub same_place : (h : List MatchEvent) (r : Pairing) (id : ℕ) (q : Request) (s : IsStanding h r id q) (i : ℕ) (p : Pattern) → PostAt h i p → count_before h i ≡ id → s.place ≡ i
 same_place h r id q s i p here e = same_number h s.place i (Post q.pattern) (Post p) s.posted refl here refl (s.numbered ∙ sym e)
 
 -- what a post leads to
-abbrev pub AdmitsTo : Bool → Pattern → List Event → Pairing → Matching → Fate → Type 0
+abbrev pub AdmitsTo : Bool → Pattern → List MatchEvent → Pairing → Matching → Fate → Type 0
 AdmitsTo gone p h r s o =
     (r' : Pairing) × Tracks (h ++ post_events gone h p) r' s
     × ((n : ℕ) (entries : List Entry) (find find' : ℕ → Option Request) → IsOfGroup n entries p → IsTable n entries h r find → Adds (count_before h (length h)) (record { pattern = p; fate = o }) find find' → IsTable n entries (h ++ post_events gone h p) r' find')
 
 -- a post that isn't over at once
-pub admitted : (p : Pattern) (h : List Event) (r : Pairing) (law : LawfulPairing h r) (s : Matching) (o : Option Letter) → Posts h r p s o → AdmitsTo false p h r s (fate_of o false)
+pub admitted : (p : Pattern) (h : List MatchEvent) (r : Pairing) (law : LawfulPairing h r) (s : Matching) (o : Option Letter) → Posts h r p s o → AdmitsTo false p h r s (fate_of o false)
 admitted p h r law s o t =
     let d = posted h r law p s o t in (
       d.pairing,
@@ -83,7 +83,7 @@ ended_table id p a b find find' adds k = adds k ∙ pick (eqb id k) refl
     pick false e = sym (map_same (find k) (changed id b k) (λ q. ap (λ c. cond c (record { pattern = q.pattern; fate = b }) q) e))
 
 -- by cases whether the request is the one that changes
-changed_became : (h : List Event) (r : Pairing) (id : ℕ) (o : Fate) (k : ℕ) (q : Request) (i : ℕ) → (id ≡ k → Became h r i q.pattern o) → (id ≢ k → Became h r i q.pattern q.fate) → Became h r i q.pattern (changed id o k q).fate
+changed_became : (h : List MatchEvent) (r : Pairing) (id : ℕ) (o : Fate) (k : ℕ) (q : Request) (i : ℕ) → (id ≡ k → Became h r i q.pattern o) → (id ≢ k → Became h r i q.pattern q.fate) → Became h r i q.pattern (changed id o k q).fate
 changed_became h r id o k q i here there = pick (eqb id k) refl
   where
     pick : (c : Bool) → eqb id k ≡ c → Became h r i q.pattern (cond c (record { pattern = q.pattern; fate = o }) q).fate
@@ -91,7 +91,7 @@ changed_became h r id o k q i here there = pick (eqb id k) refl
     pick false e = there (differ id k e)
 
 -- the receive at the last place ends: it keeps its letter, or is over
-over : (h1 : List Event) (r : Pairing) (i : ℕ) (p q : Pattern) (o : Option Letter) → length h1 ≡ i + 1 → Became h1 r i p (fate_of o false) → (o ≡ None → IsUnpaired r i) → Became (h1 ++ End i ∷ []) r i q (fate_of o true)
+over : (h1 : List MatchEvent) (r : Pairing) (i : ℕ) (p q : Pattern) (o : Option Letter) → length h1 ≡ i + 1 → Became h1 r i p (fate_of o false) → (o ≡ None → IsUnpaired r i) → Became (h1 ++ End i ∷ []) r i q (fate_of o true)
 over h1 r i p q None l b u = (
   u refl,
   record {
@@ -104,11 +104,11 @@ over h1 r i p q None l b u = (
 over h1 r i p q (Some letter) l b u = record { place = b.place; pairs = b.pairs; came = get_old h1 (End i) b.place (Come letter) b.came }
 
 -- a post that is over at once
-pub admitted_over : (p : Pattern) (h : List Event) (r : Pairing) (law : LawfulPairing h r) (s s' : Matching) (o : Option Letter) → Posts h r p s o → TracksEnd (count_before h (length h)) s s' → AdmitsTo true p h r s' (fate_of o true)
+pub admitted_over : (p : Pattern) (h : List MatchEvent) (r : Pairing) (law : LawfulPairing h r) (s s' : Matching) (o : Option Letter) → Posts h r p s o → TracksEnd (count_before h (length h)) s s' → AdmitsTo true p h r s' (fate_of o true)
 admitted_over p h r law s s' o t ends =
     let d = posted h r law p s o t in
     let h1 = h ++ Post p ∷ [] in
-    let F = λ (g : List Event). (r' : Pairing) × Tracks g r' s' × ((n : ℕ) (entries : List Entry) (find find' : ℕ → Option Request) → IsOfGroup n entries p → IsTable n entries h r find → Adds (count_before h (length h)) (record { pattern = p; fate = fate_of o true }) find find' → IsTable n entries g r' find') in
+    let F = λ (g : List MatchEvent). (r' : Pairing) × Tracks g r' s' × ((n : ℕ) (entries : List Entry) (find find' : ℕ → Option Request) → IsOfGroup n entries p → IsTable n entries h r find → Adds (count_before h (length h)) (record { pattern = p; fate = fate_of o true }) find find' → IsTable n entries g r' find') in
     let long = append_assoc h (Post p ∷ []) (End (length h) ∷ []) in
     subst F long (
       d.pairing,
@@ -136,7 +136,7 @@ admitted_over p h r law s s' o t ends =
         let here : Some (record { pattern = p; fate = fate_of o false }) ≡ Some q = sym (ap (λ b. cond b (Some (record { pattern = p; fate = fate_of o false })) old) e) ∙ f in
         ap (λ (w : Request). is_found w.fate) (sym (same_Some _ q here)) ∙ fate_receive o false
 
-module _ (n : ℕ) (entries : List Entry) (h : List Event) (r : Pairing) (law : LawfulPairing h r) (l : Letter) (find : ℕ → Option Request) (t : IsTable n entries h r find) where
+module _ (n : ℕ) (entries : List Entry) (h : List MatchEvent) (r : Pairing) (law : LawfulPairing h r) (l : Letter) (find : ℕ → Option Request) (t : IsTable n entries h r find) where
   -- a letter that is kept changes no request
   pub come_kept : IsTable n entries (h ++ Come l ∷ []) r find
   come_kept =
@@ -174,6 +174,6 @@ module _ (n : ℕ) (entries : List Entry) (h : List Event) (r : Pairing) (law : 
       unpaired_receive i p _ free g = refl
 
 -- an item that gives no event
-pub nothing_happens : (revoked : Bool) (s : ℕ) (item : Item) (m : Matching) (find : ℕ → Option Request) → ((h : List Event) → item_events revoked h s item ≡ []) → TracksItem revoked s item m find m find
+pub nothing_happens : (revoked : Bool) (s : ℕ) (item : Item) (m : Matching) (find : ℕ → Option Request) → ((h : List MatchEvent) → item_events revoked h s item ≡ []) → TracksItem revoked s item m find m find
 nothing_happens revoked s item m find none n entries h r t table =
     subst (λ g. (r' : Pairing) × Tracks g r' m × IsTable n entries g r' find) (sym (ap (λ xs. h ++ xs) (none h) ∙ append-nil h)) (r, t, table)

@@ -1,10 +1,10 @@
 -- The table of requests when the history grows by one event.
 use Rattle.std.proofs.Common.{◌≡◌, ◌≢◌, ℕ, ◌<◌, ◌⊎◌, inl, inr, Bool, true, false, cond, eqb, List, [], ◌∷◌, ◌++◌, length, refl, ap, sym, ◌∙◌, subst, Option, Some, None, arith, eqb-true}
-use Rattle.ulfm_rank.proofs.Common.{Pattern, Event, Post, Come, End, Clear, PostAt, count_before, Entry, Fate, Waiting, Paired, Found, Failed, Cleared, Request, is_released, is_probed, is_found, is_waiting, eq-eqb, ne_eqb, false_from_ne_true, Pairing, Pairs, IsWaiting, LawfulPairing, StandsFirst, IsOfGroup, Became, IsStanding, IsTable, slice_get_within, get_old, get_new, get_cases, length_more, count_old, count_below, count_front, count_rises, Adds, Changes, option_map, get_front, get_in_front}
+use Rattle.ulfm_rank.proofs.Common.{Pattern, MatchEvent, Post, Come, End, Clear, PostAt, count_before, Entry, Fate, Waiting, Paired, Found, Failed, Cleared, Request, is_released, is_probed, is_found, is_waiting, eq-eqb, ne_eqb, false_from_ne_true, Pairing, Pairs, IsWaiting, LawfulPairing, StandsFirst, IsOfGroup, Became, IsStanding, IsTable, slice_get_within, get_old, get_new, get_cases, length_more, count_old, count_below, count_front, count_rises, Adds, Changes, option_map, get_front, get_in_front}
 use Rattle.ulfm_match.proofs.Steps.{waiting_to}
 
 -- what stands first goes on standing first
-pub first_on : (h xs : List Event) (i : ℕ) (e o : Event) → StandsFirst h i e o → StandsFirst (h ++ xs) i e o
+pub first_on : (h xs : List MatchEvent) (i : ℕ) (e o : MatchEvent) → StandsFirst h i e o → StandsFirst (h ++ xs) i e o
 first_on h xs i e o f =
     let l = slice_get_within h f.place e f.is in
     record {
@@ -14,7 +14,7 @@ first_on h xs i e o f =
       first = λ s. f.first (record { place = s.place; after = s.after; before = s.before; is = get_in_front h xs s.place o (let b = s.before in omega (arith, b, l)) s.is });
     }
 
-module _ (h : List Event) (x : Event) (r r' : Pairing) (law : LawfulPairing h r) (keep : (i b : ℕ) → Pairs r i b → Pairs r' i b) where
+module _ (h : List MatchEvent) (x : MatchEvent) (r r' : Pairing) (law : LawfulPairing h r) (keep : (i b : ℕ) → Pairs r i b → Pairs r' i b) where
   -- an fate that the event doesn't touch stays
   pub became_keeps : (i : ℕ) (p : Pattern) (o : Fate) → ((b : ℕ) → Pairs r' i b → Pairs r i b) → (o ≡ Waiting → (x ≢ End i) × (x ≢ Clear p.context.number)) → Became h r i p o → Became (h ++ x ∷ []) r' i p o
   became_keeps i p Waiting only still w =
@@ -44,10 +44,10 @@ waiting_receive Failed e = cc
 waiting_receive Cleared e = cc
 
 -- a history with one more event that is no post has no more posts
-pub no_post : (h : List Event) (x : Event) → ((p : Pattern) → x ≢ Post p) → (i : ℕ) (p : Pattern) → PostAt (h ++ x ∷ []) i p → PostAt h i p
+pub no_post : (h : List MatchEvent) (x : MatchEvent) → ((p : Pattern) → x ≢ Post p) → (i : ℕ) (p : Pattern) → PostAt (h ++ x ∷ []) i p → PostAt h i p
 no_post h x never i p at = elim (get_cases h x i (Post p) at) [ inl old ↦ old | inr new ↦ absurd (never p new.1) ]
 
-module _ (n : ℕ) (log : List Entry) (h es : List Event) (r r' : Pairing) (find find' : ℕ → Option Request) (t : IsTable n log h r find) where
+module _ (n : ℕ) (log : List Entry) (h es : List MatchEvent) (r r' : Pairing) (find find' : ℕ → Option Request) (t : IsTable n log h r find) where
   -- events with no post, by which requests change their outcomes alone
   pub table_change : ((i : ℕ) (p : Pattern) → PostAt (h ++ es) i p → PostAt h i p) → (change : ℕ → Request → Request) → Changes change find find'
       → ((id : ℕ) (q : Request) → (change id q).pattern ≡ q.pattern)
@@ -84,7 +84,7 @@ module _ (n : ℕ) (log : List Entry) (h es : List Event) (r r' : Pairing) (find
       was id None q e = cc
       was id (Some w) q e = (w, refl, let f : change id w ≡ q = cc in f)
 
-module _ (n : ℕ) (log : List Entry) (h : List Event) (r r' : Pairing) (find find' : ℕ → Option Request) (t : IsTable n log h r find) (p : Pattern) (o : Fate) where
+module _ (n : ℕ) (log : List Entry) (h : List MatchEvent) (r r' : Pairing) (find find' : ℕ → Option Request) (t : IsTable n log h r find) (p : Pattern) (o : Fate) where
   -- a post adds one request
   pub table_post : is_found o ≡ false → IsOfGroup n log p → LawfulPairing h r → ((i b : ℕ) → Pairs r i b → Pairs r' i b) → ((i b : ℕ) → i < length h → Pairs r' i b → Pairs r i b)
       → Became (h ++ Post p ∷ []) r' (length h) p o → Adds (count_before h (length h)) (record { pattern = p; fate = o }) find find' → IsTable n log (h ++ Post p ∷ []) r' find'

@@ -1,6 +1,6 @@
 -- All parts of a rank follow the log, call by call.
 use Rattle.std.proofs.Common.{◌≡◌, ℕ, ◌+◌, ◌<◌, ◌≤◌, Bool, true, false, cond, List, [], ◌∷◌, ◌++◌, length, map, replicate, refl, ap, sym, ◌∙◌, Option, Some, None, arith, ◌&&◌, nat_lt, nat_eq, vec_len, vec_capacity, IsTrue}
-use Rattle.ulfm_rank.proofs.Common.{Item, Pattern, WorldRank, numbers_from, Entry, Posted, Released, Probed, Received, Cancelled, Took, Fate, Request, Follows, IsInStep, IsOfGroup, events_by, history_of, is_stop, newly_known, acknowledged_by, revokes, made_by, owed, owed_by, false≢true, HasFaults, names_known, was_revoked_in, State, start_state, no_mark, Matching, Tracks, Adds, Removes, TracksAdmit, TracksItem, nat_tests, owed_by_item, Box, empty_box, mark_of, AllGrow, lookup, get, index_map_len, Holds, FaultState, acknowledged_in, is_revoked_in}
+use Rattle.ulfm_rank.proofs.Common.{Item, Pattern, WorldRank, numbers_from, Entry, Posted, Released, Probed, Received, Cancelled, Took, Fate, Request, Follows, IsInStep, IsOfGroup, events_by, history_of, is_stop, newly_known, acknowledged_by, revokes, made_by, owed_by, false≢true, HasFaults, names_known, was_revoked_in, State, start_state, no_mark, Matching, Tracks, Adds, Removes, TracksAdmit, TracksItem, nat_tests, owed_by_item, Box, empty_box, mark_of, AllGrow, lookup, get, index_map_len, Holds, FaultState, acknowledged_in, is_revoked_in}
 use Rattle.ulfm_rank.specs.declared.rank.Rank.TheInside.{Inside}
 use Rattle.ulfm_rank.proofs.Following.{runs_on}
 use Rattle.ulfm_rank.proofs.Held.{outboxes-grown, outboxes-quiet, outboxes-start, marks-start}
@@ -45,8 +45,8 @@ module _ {n me : ℕ} {log : List Entry} {stopped : Bool} {matcher : Matching} {
     outboxes = rw eb held.outboxes;
   }
 
-  follows_quiet : (x : Entry) → is_stop x ≡ false → ((before : List Entry) (known : List ℕ) → newly_known before known x ≡ []) → ((c k : ℕ) → acknowledged_by c k x ≡ k) → ((c : ℕ) → revokes c x ≡ false)
-      → ((before : List Entry) (found : List (ℕ × List ℕ)) → made_by before found x ≡ []) → ((d : ℕ) → owed_by n me d log (owed n me log d) x ≡ [])
+  follows_quiet : (x : Entry) → is_stop x ≡ false → ((known : List ℕ) → newly_known known x ≡ []) → ((c k : ℕ) → acknowledged_by c k x ≡ k) → ((c : ℕ) → revokes c x ≡ false)
+      → ((found : List (ℕ × List ℕ)) → made_by found x ≡ []) → ((d : ℕ) → owed_by n me d log x ≡ [])
       → {matcher' : Matching} {find' : ℕ → Option Request} → IsInStep n (log ++ x ∷ []) matcher' find' → Follows n me (log ++ x ∷ []) stopped matcher' find' facts comms boxes
   follows_quiet x runs knows acknowledges marks makes owes step = record {
     small = held.small;
@@ -59,11 +59,11 @@ module _ {n me : ℕ} {log : List Entry} {stopped : Bool} {matcher : Matching} {
 
   -- an entry about receives and messages alone
   pub follows_requests : (x : Entry) → is_of_requests x ≡ true → {matcher' : Matching} {find' : ℕ → Option Request} → IsInStep n (log ++ x ∷ []) matcher' find' → Follows n me (log ++ x ∷ []) stopped matcher' find' facts comms boxes
-  follows_requests (Posted p) is step = follows_quiet (Posted p) refl (λ b k. refl) (λ c k. refl) (λ c. refl) (λ b f. refl) (λ d. refl) step
-  follows_requests (Released id a) is step = follows_quiet (Released id a) refl (λ b k. refl) (λ c k. refl) (λ c. refl) (λ b f. refl) (λ d. refl) step
-  follows_requests (Probed id p) is step = follows_quiet (Probed id p) refl (λ b k. refl) (λ c k. refl) (λ c. refl) (λ b f. refl) (λ d. refl) step
-  follows_requests (Received id a) is step = follows_quiet (Received id a) refl (λ b k. refl) (λ c k. refl) (λ c. refl) (λ b f. refl) (λ d. refl) step
-  follows_requests (Cancelled id) is step = follows_quiet (Cancelled id) refl (λ b k. refl) (λ c k. refl) (λ c. refl) (λ b f. refl) (λ d. refl) step
+  follows_requests (Posted p) is step = follows_quiet (Posted p) refl (λ k. refl) (λ c k. refl) (λ c. refl) (λ f. refl) (λ d. refl) step
+  follows_requests (Released id a) is step = follows_quiet (Released id a) refl (λ k. refl) (λ c k. refl) (λ c. refl) (λ f. refl) (λ d. refl) step
+  follows_requests (Probed id p) is step = follows_quiet (Probed id p) refl (λ k. refl) (λ c k. refl) (λ c. refl) (λ f. refl) (λ d. refl) step
+  follows_requests (Received id a) is step = follows_quiet (Received id a) refl (λ k. refl) (λ c k. refl) (λ c. refl) (λ f. refl) (λ d. refl) step
+  follows_requests (Cancelled id) is step = follows_quiet (Cancelled id) refl (λ k. refl) (λ c k. refl) (λ c. refl) (λ f. refl) (λ d. refl) step
   follows_requests _ is step = absurd (false≢true is)
 
   -- a receive is posted
@@ -83,7 +83,7 @@ module _ {n me : ℕ} {log : List Entry} {stopped : Bool} {matcher : Matching} {
     halted = runs_on held (Took s item) refl;
     in_step = in_step_took held.in_step s item matcher' find' (rw (sym (marked_before held.faults item)) tracks);
     faults = knows;
-    communicators = communicators-quiet (Took s item) held.communicators (λ b f. refl);
+    communicators = communicators-quiet (Took s item) held.communicators (λ f. refl);
     outboxes = outboxes-grown (Took s item) held.outboxes grows;
   }
 

@@ -6,7 +6,7 @@ use Rattle.ulfm_base.specs.Pattern.{is_any}
 use Rattle.ulfm_base.specs.declared.error.CallError.{CallError}
 use Rattle.ulfm_base.specs.declared.error.CallError.TheVariants.{ProcFailed, Revoked, Truncated}
 use Rattle.ulfm_base.specs.Group.{rank_in}
-use Rattle.ulfm_match.specs.History.{Event, End, Clear, PostAt, ComeAt, StandsBetween, count_before}
+use Rattle.ulfm_match.specs.History.{MatchEvent, End, Clear, PostAt, ComeAt, StandsBetween, count_before}
 use Rattle.ulfm_match.specs.Pairing.{Pairing, Pairs, LawfulPairing}
 use Rattle.ulfm_rank.specs.declared.entry.Entry.{Entry}
 use Rattle.ulfm_rank.specs.declared.entry.Status.{Status}
@@ -29,7 +29,7 @@ pends n log pattern =
     && has_unacked n log pattern.context.number)
 
 -- the receive at place i got this letter
-pub record Got (history : List Event) (pairing : Pairing) (i : ℕ) (letter : Letter) : Type 0 where
+pub record Got (history : List MatchEvent) (pairing : Pairing) (i : ℕ) (letter : Letter) : Type 0 where
   pub place : ℕ
   pub pairs : Pairs pairing i place
   pub came : ComeAt history place letter
@@ -39,19 +39,19 @@ abbrev pub IsUnpaired : Pairing → ℕ → Type 0
 IsUnpaired pairing i = (b : ℕ) → Pairs pairing i b → ⊥
 
 -- after place i the first of the two events stands, and the second doesn't stand before it
-pub record StandsFirst (history : List Event) (i : ℕ) (event other : Event) : Type 0 where
+pub record StandsFirst (history : List MatchEvent) (i : ℕ) (event other : MatchEvent) : Type 0 where
   pub place : ℕ
   pub after : i < place
   pub is : slice_get history place ≡ Some event
   pub first : StandsBetween history other i place → ⊥
 
 -- a receive of this pattern at place i didn't end
-pub record IsOpenReceive (history : List Event) (i : ℕ) (pattern : Pattern) : Type 0 where
+pub record IsOpenReceive (history : List MatchEvent) (i : ℕ) (pattern : Pattern) : Type 0 where
   pub not_ended : StandsBetween history (End i) i (length history) → ⊥
   pub not_cleared : StandsBetween history (Clear pattern.context.number) i (length history) → ⊥
 
 -- why the receive at place i is over
-abbrev pub IsOver : List Event → Pairing → ℕ → Pattern → CallError → Type 0
+abbrev pub IsOver : List MatchEvent → Pairing → ℕ → Pattern → CallError → Type 0
 IsOver history pairing i pattern ProcFailed = IsUnpaired pairing i × StandsFirst history i (End i) (Clear pattern.context.number)
 IsOver history pairing i pattern Revoked = IsUnpaired pairing i × StandsFirst history i (Clear pattern.context.number) (End i)
 IsOver history pairing i pattern Truncated = (letter : Letter) × Got history pairing i letter × (pattern.room < length letter.body)

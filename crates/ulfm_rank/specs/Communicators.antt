@@ -6,7 +6,7 @@ use Rattle.ulfm_base.specs.declared.topic.Purpose.{Purpose}
 use Rattle.ulfm_base.specs.declared.topic.Purpose.TheVariants.{Shrink, Agree}
 use Rattle.ulfm_rank.specs.declared.entry.Entry.{Entry}
 use Rattle.ulfm_rank.specs.declared.entry.Entry.TheVariants.{Duplicated, Adopted}
-use Rattle.ulfm_rank.specs.Log.{gathered}
+use Rattle.ulfm_rank.specs.Log.{gathered, by_found}
 
 -- the group that stands under a context
 abbrev pub find_group : ℕ → List (ℕ × List ℕ) → Option (List ℕ)
@@ -24,14 +24,14 @@ decided_comm Shrink c fresh = (shrink_of c, fresh) ∷ []
 decided_comm (Agree round) c fresh = []
 
 -- the communicator that an entry makes: a duplicate with its parent's group, or the new group of a shrink
-abbrev pub made_by : List Entry → List (ℕ × List ℕ) → Entry → List (ℕ × List ℕ)
-made_by _ comms (Duplicated context) = copy_of context.number (dup_of context.number) comms
-made_by _ _ (Adopted decision) = decided_comm decision.topic.purpose decision.topic.context.number decision.fresh
-made_by _ _ _ = []
+abbrev pub made_by : List (ℕ × List ℕ) → Entry → List (ℕ × List ℕ)
+made_by comms (Duplicated context) = copy_of context.number (dup_of context.number) comms
+made_by _ (Adopted decision) = decided_comm decision.topic.purpose decision.topic.context.number decision.fresh
+made_by _ _ = []
 
 -- the communicators at a rank of n with their groups, in the order in which they were made: the world's is the first
 abbrev pub comms_of : ℕ → List Entry → List (ℕ × List ℕ)
-comms_of n log = gathered ((0, numbers_from 0 n) ∷ []) made_by log
+comms_of n log = gathered ((0, numbers_from 0 n) ∷ []) (by_found made_by) log
 
 -- the group of a context, if its communicator was made
 abbrev pub group_of : ℕ → List Entry → ℕ → Option (List ℕ)

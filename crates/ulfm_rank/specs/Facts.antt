@@ -9,7 +9,7 @@ use Rattle.ulfm_base.specs.declared.item.Item.TheVariants.{Letter as Mail, Gone,
 use Rattle.ulfm_base.specs.Group.{is_member, intersection}
 use Rattle.ulfm_rank.specs.declared.entry.Entry.{Entry}
 use Rattle.ulfm_rank.specs.declared.entry.Entry.TheVariants.{Sent, Released, Probed, Received, Cancelled, Acknowledged, Revoked, Stopped, Took}
-use Rattle.ulfm_rank.specs.Log.{gathered}
+use Rattle.ulfm_rank.specs.Log.{gathered, by_found}
 use Rattle.ulfm_base.specs.declared.rank_set.RankSet.{RankSet}
 use Rattle.ulfm_base.specs.RankSet.{has}
 
@@ -28,13 +28,13 @@ abbrev pub is_gone : List Entry → ℕ → Bool
 is_gone log s = list_any (tells_gone s) log
 
 -- the sender of a notice, where it isn't among those that were known
-abbrev pub newly_known : List Entry → List ℕ → Entry → List ℕ
-newly_known _ known (Took from item) = if is_gone_item item then (if is_member known from.number then [] else from.number ∷ []) else []
-newly_known _ _ _ = []
+abbrev pub newly_known : List ℕ → Entry → List ℕ
+newly_known known (Took from item) = if is_gone_item item then (if is_member known from.number then [] else from.number ∷ []) else []
+newly_known _ _ = []
 
 -- the ranks that are known to have failed, in the order of the first notice from each
 abbrev pub known_of : List Entry → List ℕ
-known_of log = gathered [] newly_known log
+known_of log = gathered [] (by_found newly_known) log
 
 -- those of them that are members of a group, in the same order
 abbrev pub known_in : List Entry → List ℕ → List ℕ

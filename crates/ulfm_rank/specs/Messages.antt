@@ -7,7 +7,7 @@ use Rattle.ulfm_base.specs.declared.error.CallError.TheVariants.{ProcFailed, Tru
 use Rattle.ulfm_base.specs.declared.pattern.Pattern.{Pattern}
 use Rattle.ulfm_base.specs.declared.tag.Tag.{Tag}
 use Rattle.ulfm_base.specs.Group.{rank_in}
-use Rattle.ulfm_match.specs.History.{Event, Post, PostAt, count_before}
+use Rattle.ulfm_match.specs.History.{MatchEvent, Post, PostAt, count_before}
 use Rattle.ulfm_match.specs.Pairing.{Pairing, LawfulPairing}
 use Rattle.ulfm_rank.specs.declared.entry.Comm.{Comm}
 use Rattle.ulfm_rank.specs.declared.entry.Entry.{Entry}
@@ -26,7 +26,7 @@ use Rattle.ulfm_rank.specs.History.{history_of, names_gone}
 use Rattle.ulfm_rank.specs.State.{State, logged}
 
 -- the history that goes on with a receive of this pattern
-abbrev pub posting : List Entry → Pattern → List Event
+abbrev pub posting : List Entry → Pattern → List MatchEvent
 posting log pattern = history_of log ++ Post pattern ∷ []
 
 -- A receive of this pattern that is posted now gets this letter: it does so by each lawful pairing, and there is one.

@@ -6,7 +6,7 @@ use Rattle.ulfm_base.specs.declared.pattern.Source.TheVariants.{One, Any}
 use Rattle.ulfm_base.specs.declared.error.CallError.TheVariants.{ProcFailed, Revoked}
 use Rattle.ulfm_base.specs.Group.{is_member}
 use Rattle.ulfm_base.specs.RankSet.{has}
-use Rattle.ulfm_match.specs.History.{Event, PostAt, count_before}
+use Rattle.ulfm_match.specs.History.{MatchEvent, PostAt, count_before}
 use Rattle.ulfm_match.specs.Pairing.{Pairing, IsWaiting}
 use Rattle.ulfm_match.specs.State.{Matching, Tracks}
 use Rattle.ulfm_rank.specs.declared.entry.Entry.{Entry}
@@ -35,7 +35,7 @@ is_found (Found letter) = true
 is_found _ = false
 
 -- what became of the receive of this pattern at place i, which is that of a message where its letter was found
-abbrev pub Became : List Event → Pairing → ℕ → Pattern → Fate → Type 0
+abbrev pub Became : List MatchEvent → Pairing → ℕ → Pattern → Fate → Type 0
 Became history pairing i pattern Waiting = IsWaiting history pairing i pattern (length history)
 Became history pairing i pattern (Paired letter) = Got history pairing i letter
 Became history pairing i pattern (Found letter) = Got history pairing i letter
@@ -43,14 +43,14 @@ Became history pairing i pattern Failed = IsOver history pairing i pattern ProcF
 Became history pairing i pattern Cleared = IsOver history pairing i pattern Revoked
 
 -- the request of this number is a receive of the history, and its fate is what became of it
-pub record IsStanding (history : List Event) (pairing : Pairing) (id : ℕ) (request : Request) : Type 0 where
+pub record IsStanding (history : List MatchEvent) (pairing : Pairing) (id : ℕ) (request : Request) : Type 0 where
   pub place : ℕ
   pub posted : PostAt history place request.pattern
   pub numbered : count_before history place ≡ id
   pub fate : Became history pairing place request.pattern request.fate
 
 -- the table has the receives that aren't released, those of messages too; `find` looks a number up
-pub record IsTable (n : ℕ) (log : List Entry) (history : List Event) (pairing : Pairing) (find : ℕ → Option Request) : Type 0 where
+pub record IsTable (n : ℕ) (log : List Entry) (history : List MatchEvent) (pairing : Pairing) (find : ℕ → Option Request) : Type 0 where
   pub standing : (id : ℕ) (request : Request) → find id ≡ Some request → IsStanding history pairing id request
   pub of_group : (id : ℕ) (request : Request) → find id ≡ Some request → IsOfGroup n log request.pattern
   pub unreleased : (id : ℕ) (request : Request) → find id ≡ Some request → is_released log id ≡ false

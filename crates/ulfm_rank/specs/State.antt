@@ -24,13 +24,13 @@ pub record State : Type 0 where
 
 -- A rank, whether there is room for one `take` or one call, and whether the table of requests has a place for one more, as
 -- a receive, or a probe that finds a letter, needs it. Of both 'unchanged' doesn't speak.
-pub record View : Type 0 where
+pub record RankView : Type 0 where
   pub state : State
   pub prepared : Bool
   pub has_place : Bool
 
 -- there is room for one `take` or one call, whichever it is
-abbrev pub is_ready : View → Bool
+abbrev pub is_ready : RankView → Bool
 is_ready rank = rank.prepared && rank.has_place
 
 -- the rank that starts
@@ -103,6 +103,3 @@ pub record GoesOut (old new : State) (d : ℕ) (item : Item) : Type 0 where
   pub marked : new ≡ taken_out old d
   pub front : outbox old d ≡ item ∷ outbox new d
   pub may_return : MayReturn new d item
-  pub comes_back : returned new d ≡ old
-  pub out : went_out new d ≡ went_out old d ++ item ∷ []
-  pub keeps : IsState old → IsState new

@@ -6,7 +6,7 @@ ghost use Rattle.ulfm_rank.specs.declared.entry.Entry.{Entry};
 ghost use Rattle.ulfm_rank.specs.Communicators.{members_of};
 ghost use Rattle.ulfm_rank.specs.Facts.{is_revoked, revoked_before, Knows};
 ghost use Rattle.ulfm_rank.specs.inside.Outboxes.{AllGrow};
-ghost use Rattle.ulfm_rank.specs.Owed.{passed_on, owed_by_item, entry_told};
+ghost use Rattle.ulfm_rank.specs.Owed.{passed_on, owed_by_item, announced};
 
 use crate::members::members_of_both;
 use crate::outboxes::Outboxes;
@@ -47,7 +47,7 @@ pub(crate) fn announce(
 )
     requires small { length outboxes.old.boxes < 9 }
     requires room { IsTrue outboxes.old.room }
-    ensures { (n : ℕ) (log : List Entry) → Knows log known → ((r : ℕ) → has members r ≡ is_member (members_of n log entrance.topic.context.number) r) → AllGrow outboxes.old.boxes outboxes.new.boxes (entry_told n me log entrance) }
+    ensures { (n : ℕ) (log : List Entry) → Knows log known → ((r : ℕ) → has members r ≡ is_member (members_of n log entrance.topic.context.number) r) → AllGrow outboxes.old.boxes outboxes.new.boxes (announced n me log entrance) }
 {
     let addressees = addressees(me, known);
     outboxes.put_each(members_of_both(members, addressees), Word::Enter(entrance));

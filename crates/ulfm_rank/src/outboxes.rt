@@ -1,7 +1,7 @@
 //! What waits to go out to each rank.
 ghost use Rattle.std.specs.Prelude.{◌≡◌, ◌==◌, ◌<◌, ◌∷◌, ℕ, [], drop, length, replicate, slice_set, IsTrue, ◌↔◌, IfNone, IfOk, IfSome, OnOk, OnErr, false};
 ghost use Rattle.ulfm_base.specs.RankSet.{has};
-ghost use Rattle.ulfm_rank.specs.inside.Outboxes.{empty_box, box_at, with_first_out, with_item_back, with_notice_out, for_each, item_of, AllGrow};
+ghost use Rattle.ulfm_rank.specs.inside.Outboxes.{empty_box, box_at, with_first_out, with_item_back, with_notice_out, for_each, item_of_word, AllGrow};
 
 use crate::outbox::Outbox;
 use crate::word::Word;
@@ -89,7 +89,7 @@ impl Outboxes {
     pub fn put_each(&mut self, to: RankSet, word: Word)
         requires small { length self.old.boxes < 9 }
         requires room { IsTrue self.old.room }
-        ensures { AllGrow self.old.boxes self.new.boxes (for_each (has to) (item_of word)) }
+        ensures { AllGrow self.old.boxes self.new.boxes (for_each (has to) (item_of_word word)) }
     {
         for d in 0..self.slots.len() {
             if !to.contains(WorldRank { number: d as u8 }) {

@@ -46,10 +46,10 @@ pub struct Rank {
 }
 
 impl Model for Rank {
-    ghost use Rattle.ulfm_rank.specs.State.{View};
+    ghost use Rattle.ulfm_rank.specs.State.{RankView};
     ghost use Rattle.ulfm_rank.specs.inside.Rank.{view_of, Holds};
 
-    ghost Value = { View };
+    ghost Value = { RankView };
 
     ghost view = { view_of };
 

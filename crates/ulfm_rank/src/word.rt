@@ -1,6 +1,6 @@
 //! What a rank tells many others.
 ghost use Rattle.std.specs.Prelude.{◌≡◌};
-ghost use Rattle.ulfm_rank.specs.inside.Outboxes.{item_of};
+ghost use Rattle.ulfm_rank.specs.inside.Outboxes.{item_of_word};
 
 use ulfm_base::{Context, Entrance, Item};
 
@@ -14,7 +14,7 @@ pub(crate) enum Word {
 impl Word {
     /// The item that brings it.
     pub(crate) fn item(self) -> Item
-        ensures { result ≡ item_of self }
+        ensures { result ≡ item_of_word self }
     {
         match self {
             Word::Revoke(context) => Item::Revoke(context),

@@ -4,7 +4,7 @@ use Rattle.std.specs.Str.Parse.{IsNumeral, digits_value, without_leading_plus}
 use Rattle.clap.specs.ValueTests.{accepts}
 use Rattle.clap.specs.declared.builder.value_parser.ValueParser.TheVariants.{Unsigned}
 use Rattle.clap.proofs.ValueTestLemmas.{Accepts-accepts, accepts-Accepts}
-use Rattle.ulfm_replies.specs.Words.{number_given}
+use Rattle.ulfm_replies.specs.CommandLine.{number_given}
 
 -- the text is a number that `u32` holds
 abbrev pub IsWord : List ℕ → Type 0

@@ -2,7 +2,7 @@
 use Rattle.std.specs.Prelude.{◌≡◌, ⊤}
 use Rattle.clap.specs.declared.error.kind.ErrorKind.{ErrorKind}
 use Rattle.clap.specs.Words.{Kinds, IsAmong}
-use Rattle.ulfm_replies.specs.Words.{status_of}
+use Rattle.ulfm_replies.specs.CommandLine.{status_of}
 use Rattle.ulfm_replies.specs.declared.asked.Unfollowed.{Unfollowed}
 use Rattle.ulfm_replies.specs.declared.asked.Unfollowed.TheVariants.{OutOfMemory, Help, Usage}
 

@@ -1,4 +1,4 @@
-pub mod Words
+pub mod CommandLine
 pub mod Asked
 pub mod Failure
 pub mod Replies

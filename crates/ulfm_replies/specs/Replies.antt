@@ -5,7 +5,7 @@ use Rattle.ulfm_job.specs.declared.fault.Fault.{Fault}
 use Rattle.ulfm_job.specs.declared.fault.Fault.TheVariants.{BadKey, UnknownKey, OutOfRange, UnknownOp}
 use Rattle.ulfm_job.specs.declared.fault.JobFault.{JobFault}
 use Rattle.ulfm_job.specs.declared.fault.JobFault.TheVariants.{NotToml, InJob, InStep, TooLarge, OutOfMemory}
-use Rattle.ulfm_job.specs.Job.{Seen, step_count}
+use Rattle.ulfm_job.specs.Job.{JobView, step_count}
 use Rattle.ulfm_job.specs.JobText.{job_of_bytes}
 use Rattle.ulfm_job.specs.Plan.{plan_of}
 use Rattle.ulfm_replies.specs.Failure.{out_of_memory_text}
@@ -36,7 +36,7 @@ good_line ranks steps = codes "job ok: " ++ decimal ranks ++ codes " ranks " ++ 
 -- The status and the text that `check` gives for these bytes: the line of their job with 0, of its refusal with 1,
 -- which may be J7, or with 3 the line that memory ran out.
 pub data IsCheckReply (bytes : List ℕ) : ℕ → List ℕ → Type 0 where
-  good : (job : Seen) → job_of_bytes bytes ≡ Ok (plan_of job) → IsCheckReply bytes 0 (good_line job.ranks (step_count job.scripts))
+  good : (job : JobView) → job_of_bytes bytes ≡ Ok (plan_of job) → IsCheckReply bytes 0 (good_line job.ranks (step_count job.scripts))
   refused : (f : JobFault) → job_of_bytes bytes ≡ Err f → IsCheckReply bytes 1 (refused_text f)
   no_memory : IsCheckReply bytes 1 (refused_text OutOfMemory)
   starved : IsCheckReply bytes 3 out_of_memory_text

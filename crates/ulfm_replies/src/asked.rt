@@ -2,7 +2,7 @@
 ghost use Rattle.std.specs.Prelude.{◌≡◌, [], Some, map, IfErr, IfOk, OnOk};
 ghost use Rattle.clap.specs.Words.{kind_of};
 ghost use Rattle.ulfm_replies.specs.Asked.{IsTold, IsToldAs};
-ghost use Rattle.ulfm_replies.specs.Words.{HasRanges, asked, faults, meant};
+ghost use Rattle.ulfm_replies.specs.CommandLine.{HasRanges, asked, faults, meant};
 
 use crate::command::{Wanted, wanted_of};
 use clap::Error;

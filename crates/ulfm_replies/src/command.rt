@@ -2,7 +2,7 @@
 ghost use Rattle.std.specs.Prelude.{◌≡◌, false, Some, map, option_map, IfOk, IfSome};
 ghost use Rattle.clap.specs.declared.builder.command.Command.TheViews.{out-Command};
 ghost use Rattle.clap.specs.Words.{FailsBy, app_of, first_of, found_of, kind_of, rows_of, rule_of, subcommand_rows_of, with_subcommand};
-ghost use Rattle.ulfm_replies.specs.Words.{AreInRange, HasRanges, asked, carrier_named, IsLimit, check_app, demanding_app, faults, is_flagged, is_strict, is_told, limit_in, meant, named, outcomes_app, replay_app, run_app, run_options, sweep_app, tool_app};
+ghost use Rattle.ulfm_replies.specs.CommandLine.{AreInRange, HasRanges, asked, carrier_named, IsLimit, check_app, demanding_app, faults, is_flagged, is_strict, wants_progress, limit_in, meant, named, outcomes_app, replay_app, run_app, run_options, sweep_app, tool_app};
 
 use crate::help::HELP;
 use crate::number::number_given;
@@ -56,7 +56,7 @@ pub enum Wanted {
         /// The most states that are looked at, 1 to 100,000,000.
         limit: u32,
         /// Whether standard error tells how far it is.
-        is_told: bool,
+        wants_progress: bool,
     },
 }
 
@@ -221,7 +221,7 @@ fn named(name: &str, options: &ArgMatches<'_>) -> Option<Wanted>
         "sweep" => Some(Wanted::Sweep),
         "outcomes" => Some(Wanted::Outcomes {
             limit: limit_in(options),
-            is_told: is_told(options),
+            wants_progress: wants_progress(options),
         }),
         _ => None,
     }
@@ -277,8 +277,8 @@ fn is_strict(options: &ArgMatches<'_>) -> bool
 }
 
 /// Whether the flag `--progress` was given.
-fn is_told(options: &ArgMatches<'_>) -> bool
-    ensures { result ≡ is_told (rows_of (found_of options.now)) }
+fn wants_progress(options: &ArgMatches<'_>) -> bool
+    ensures { result ≡ wants_progress (rows_of (found_of options.now)) }
 {
     is_flagged(options, "progress")
 }

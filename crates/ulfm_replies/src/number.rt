@@ -1,6 +1,6 @@
 //! Numbers that options are given.
 ghost use Rattle.std.specs.Prelude.{◌≡◌, ◌<◌, ◌≤◌, Some, option_map, IfSome};
-ghost use Rattle.ulfm_replies.specs.Words.{number_given};
+ghost use Rattle.ulfm_replies.specs.CommandLine.{number_given};
 
 /// The number that an option was given. The command line refuses all others.
 pub fn number_given(text: Option<&str>, most: u32) -> Option<u32>

@@ -1,7 +1,7 @@
 //! The options of the commands.
 ghost use Rattle.std.specs.Prelude.{◌≡◌, false};
 ghost use Rattle.clap.specs.Words.{rule_of};
-ghost use Rattle.ulfm_replies.specs.Words.{carrier_rule, number_rule, progress_rule, strict_rule};
+ghost use Rattle.ulfm_replies.specs.CommandLine.{carrier_rule, number_rule, progress_rule, strict_rule};
 
 use clap::builder::ValueParser;
 use clap::{Arg, ArgAction};

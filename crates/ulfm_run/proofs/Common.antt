@@ -9,7 +9,7 @@ pub use Rattle.ulfm_base.specs.Lists.{at, InPlace}
 pub use Rattle.ulfm_base.specs.declared.item.Item.{Item}
 pub use Rattle.ulfm_base.specs.declared.rank.WorldRank.{WorldRank}
 pub use Rattle.ulfm_carrier.specs.Family.{IsFresh, IsGathered, Keeps}
-pub use Rattle.ulfm_job.specs.Job.{script_at, Seen, IsJob}
+pub use Rattle.ulfm_job.specs.Job.{script_at, JobView, IsJob}
 pub use Rattle.ulfm_laws.specs.Answers.{AgreeAt, AllAgree}
 pub use Rattle.ulfm_laws.specs.Causes.{is_call_to_revoke, RevokedByARank}
 pub use Rattle.ulfm_rank.specs.Facts.{is_stopped, IsSigned}
@@ -17,7 +17,7 @@ pub use Rattle.ulfm_rank.specs.State.{IsState, State, GoesOut, logged, no_mark, 
 pub use Rattle.ulfm_rank.specs.declared.entry.Entry.{Entry}
 pub use Rattle.ulfm_rank.specs.declared.entry.Entry.TheVariants.{Took}
 pub use Rattle.ulfm_script.specs.Deciding.{Known}
-pub use Rattle.ulfm_script.specs.Player.{Player, View, with_rank}
+pub use Rattle.ulfm_script.specs.Player.{Player, PlayerView, with_rank}
 pub use Rattle.ulfm_script.specs.Report.{Report}
 pub use Rattle.ulfm_script.specs.inside.Underway.{GoesThrough, polls_left}
 pub use Rattle.ulfm_run.specs.Caused.{HasCause}

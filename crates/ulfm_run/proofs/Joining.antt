@@ -4,12 +4,13 @@ use Rattle.std.proofs.Math.Bool.{or-false}
 use Rattle.ulfm_rank.specs.Facts.{took, is_stopped, IsSigned}
 use Rattle.ulfm_rank.proofs.Logs.{took-push, stopped-push}
 use Rattle.ulfm_rank.proofs.Quiet.{calm-took, out_other}
+use Rattle.ulfm_rank.proofs.States.{leaves-by}
 use Rattle.ulfm_script.proofs.Takes.{takes-none, takes-one}
-use Rattle.ulfm_run.proofs.Common.{Entry, Item, Player, Took, View, with_rank, WorldRank, cases_eq, eq-eqb, ne_eqb, State, logged, went_out, GoesOut, IsJoined, Moves}
+use Rattle.ulfm_run.proofs.Common.{Entry, Item, Player, Took, PlayerView, with_rank, WorldRank, cases_eq, eq-eqb, ne_eqb, State, logged, went_out, GoesOut, IsJoined, Moves}
 
 module _ {E N : Type 0} {name : E → N} {place count : E → ℕ} {pushed taken : E → ℕ → List Item} {ready : E → Type 0} where
   -- nothing moved
-  pub moves-none : (v w : View) (e : E) → IsJoined place count pushed taken ready v.player.rank e → w.player ≡ v.player → w.room ≡ v.room → Moves name place count pushed taken ready v e w e
+  pub moves-none : (v w : PlayerView) (e : E) → IsJoined place count pushed taken ready v.player.rank e → w.player ≡ v.player → w.room ≡ v.room → Moves name place count pushed taken ready v e w e
   moves-none v w e h same room = record {
     same_end = refl;
     joined = subst (λ (p : Player). IsJoined place count pushed taken ready p.rank e) (sym same) h;
@@ -22,9 +23,10 @@ module _ {E N : Type 0} {name : E → N} {place count : E → ℕ} {pushed taken
   }
 
   -- the end pushed what left the outbox
-  pub moves-pushed : (v w : View) {e : E} (f : E) {d : ℕ} {item : Item} → IsJoined place count pushed taken ready v.player.rank e → d < v.player.rank.ranks → GoesOut v.player.rank w.player.rank d item → w.player ≡ with_rank v.player w.player.rank → w.room ≡ v.room →
+  pub moves-pushed : (v w : PlayerView) {e : E} (f : E) {d : ℕ} {item : Item} → IsJoined place count pushed taken ready v.player.rank e → d < v.player.rank.ranks → GoesOut v.player.rank w.player.rank d item → w.player ≡ with_rank v.player w.player.rank → w.room ≡ v.room →
       name f ≡ name e → place f ≡ place e → count f ≡ count e → ready f → ((p : ℕ) → taken f p ≡ taken e p) → ((p : ℕ) → p ≢ d → pushed f p ≡ pushed e p) → pushed f d ≡ pushed e d ++ item ∷ [] → Moves name place count pushed taken ready v e w f
   moves-pushed v w f {d} {item} h inside leaves only room name_same place_same count_same is_ready taken_same others here =
+      let went = leaves-by h.sound inside leaves in
       let me : w.player.rank.me ≡ v.player.rank.me = ap (λ (s : State). s.me) leaves.marked in
       let ranks : w.player.rank.ranks ≡ v.player.rank.ranks = ap (λ (s : State). s.ranks) leaves.marked in
       let log : w.player.rank.log ≡ v.player.rank.log = ap (λ (s : State). s.log) leaves.marked in
@@ -35,10 +37,10 @@ module _ {E N : Type 0} {name : E → N} {place count : E → ℕ} {pushed taken
           is_ready = is_ready;
           placed = place_same ∙ h.placed ∙ sym me;
           counted = count_same ∙ h.counted ∙ sym ranks;
-          sound = leaves.keeps h.sound;
+          sound = went.keeps h.sound;
           signed = subst (λ m. S m w.player.rank.log) (sym me) (subst (λ (l : List Entry). S v.player.rank.me l) (sym log) h.signed);
           sent = λ x k. elim (cases_eq x d) [
-            | inl same ↦ ap (pushed f) same ∙ here ∙ ap (λ (xs : List Item). xs ++ item ∷ []) (h.sent d inside) ∙ sym leaves.out ∙ ap (went_out w.player.rank) (sym same)
+            | inl same ↦ ap (pushed f) same ∙ here ∙ ap (λ (xs : List Item). xs ++ item ∷ []) (h.sent d inside) ∙ sym went.out ∙ ap (went_out w.player.rank) (sym same)
             | inr other ↦ others x other ∙ h.sent x (omega (arith, k, ranks)) ∙ sym (out_other v.player.rank w.player.rank d x item leaves other)
           ];
           took = λ s. taken_same s ∙ h.took s ∙ ap (λ (l : List Entry). took l s) (sym log);
@@ -53,7 +55,7 @@ module _ {E N : Type 0} {name : E → N} {place count : E → ℕ} {pushed taken
       }
 
   -- the end refused what left the outbox, and it is back there
-  pub moves-returned : (v w : View) {e : E} (f : E) (d : ℕ) → IsJoined place count pushed taken ready v.player.rank e → w.player ≡ v.player → w.room ≡ v.room → name f ≡ name e → place f ≡ place e → count f ≡ count e → ready f →
+  pub moves-returned : (v w : PlayerView) {e : E} (f : E) (d : ℕ) → IsJoined place count pushed taken ready v.player.rank e → w.player ≡ v.player → w.room ≡ v.room → name f ≡ name e → place f ≡ place e → count f ≡ count e → ready f →
       ((p : ℕ) → taken f p ≡ taken e p) → ((p : ℕ) → p ≢ d → pushed f p ≡ pushed e p) → pushed f d ≡ pushed e d → Moves name place count pushed taken ready v e w f
   moves-returned v w {e} f d h same room name_same place_same count_same is_ready taken_same others here =
       let still : IsJoined place count pushed taken ready v.player.rank f = record {
@@ -73,7 +75,7 @@ module _ {E N : Type 0} {name : E → N} {place count : E → ℕ} {pushed taken
       record { same_end = name_same; joined = n.joined; me = n.me; ranks = n.ranks; stops = n.stops; only = n.only; room = n.room; takes = n.takes }
 
   -- the log took what the end popped
-  pub moves-taken : (v w : View) {e : E} (f : E) (source : WorldRank) (item : Item) → is_stopped v.player.rank.log ≡ false → source.number < v.player.rank.ranks → IsJoined place count pushed taken ready v.player.rank e → w.player ≡ with_rank v.player (logged v.player.rank (Took source item)) → w.room ≡ v.room →
+  pub moves-taken : (v w : PlayerView) {e : E} (f : E) (source : WorldRank) (item : Item) → is_stopped v.player.rank.log ≡ false → source.number < v.player.rank.ranks → IsJoined place count pushed taken ready v.player.rank e → w.player ≡ with_rank v.player (logged v.player.rank (Took source item)) → w.room ≡ v.room →
       name f ≡ name e → place f ≡ place e → count f ≡ count e → ready f → ((p : ℕ) → pushed f p ≡ pushed e p) → taken f source.number ≡ taken e source.number ++ item ∷ [] → ((p : ℕ) → p ≢ source.number → taken f p ≡ taken e p) → Moves name place count pushed taken ready v e w f
   moves-taken v w f source item running below h same room name_same place_same count_same is_ready pushed_same here others =
       let calm = calm-took v.player.rank source item h.sound in

@@ -4,7 +4,7 @@ use Rattle.ulfm_base.specs.declared.context.Context.{Context}
 use Rattle.ulfm_script.specs.declared.answer.Called.{Called}
 use Rattle.ulfm_script.specs.declared.answer.Called.TheVariants.{Answered, NotYet}
 use Rattle.ulfm_script.specs.Deciding.{Known, IsDecided}
-use Rattle.ulfm_script.specs.Player.{Polls as PollsBy, Player, View, IsCalled, GivesUpStep, SkipsStep}
+use Rattle.ulfm_script.specs.Player.{Polls as PollsBy, Player, PlayerView, IsCalled, GivesUpStep, SkipsStep}
 use Rattle.ulfm_job.specs.declared.clause.Clause.{Clause}
 use Rattle.ulfm_rank.specs.inside.Quiet.{Quiet}
 use Rattle.ulfm_script.specs.Reacting.{is_played}
@@ -13,10 +13,10 @@ use Rattle.ulfm_script.proofs.Advance.{ready-at, advance-called, advance-left, a
 use Rattle.ulfm_script.proofs.Reacting.{goes-called, goes-decided, goes-skipped}
 use Rattle.ulfm_laws.proofs.Spent.{goes-spent}
 use Rattle.ulfm_script.proofs.Decisions.{ready-decided, advance-decided, quiet-decided}
-use Rattle.ulfm_run.proofs.Common.{GoesThrough, is_stopped, IsState, polls_left, SkipsOn, State, Polls, Step, Seen, IsJob, script_at}
+use Rattle.ulfm_run.proofs.Common.{GoesThrough, is_stopped, IsState, polls_left, SkipsOn, State, Polls, Step, JobView, IsJob, script_at}
 
 -- one call that is answered, or leaves the step open with polls to spare
-pub polls-call : {job : Seen} (me : ℕ) (v w : View) {asked : Step} → IsJob job → IsState v.player.rank → GoesThrough job me v.player → is_stopped v.player.rank.log ≡ false → slice_get (script_at job me) (length v.player.done) ≡ Some asked → is_played job.conditions me v.player.done ≡ true →
+pub polls-call : {job : JobView} (me : ℕ) (v w : PlayerView) {asked : Step} → IsJob job → IsState v.player.rank → GoesThrough job me v.player → is_stopped v.player.rank.log ≡ false → slice_get (script_at job me) (length v.player.done) ≡ Some asked → is_played job.conditions me v.player.done ≡ true →
     IsCalled v.player asked w.player → (w.player.current ≡ None) ⊎ (w.player.polls < job.turns) → w.room + length w.player.done ≡ v.room + length v.player.done → Polls job me v w
 polls-call {job} me v w {asked} is_job sound follows running next played called few room =
     let a = advance-called (script_at job me) job.turns v.player asked w.player (omega (arith, is_job.most_turns)) (ready-at job me v.player asked is_job follows.follows running next) called few in
@@ -28,7 +28,7 @@ answered_none Answered old asked new e h = ap (λ (p : Player). p.current) h.onl
 answered_none NotYet old asked new e h = absurd (cc)
 
 -- one call that leaves its step open, which is then given up
-pub polls-leave : {job : Seen} (me : ℕ) (v u w : View) {asked : Step} → IsJob job → IsState v.player.rank → GoesThrough job me v.player → is_stopped v.player.rank.log ≡ false → slice_get (script_at job me) (length v.player.done) ≡ Some asked → is_played job.conditions me v.player.done ≡ true →
+pub polls-leave : {job : JobView} (me : ℕ) (v u w : PlayerView) {asked : Step} → IsJob job → IsState v.player.rank → GoesThrough job me v.player → is_stopped v.player.rank.log ≡ false → slice_get (script_at job me) (length v.player.done) ≡ Some asked → is_played job.conditions me v.player.done ≡ true →
     IsCalled v.player asked u.player → GivesUpStep u.player w.player → job.turns ≤ u.player.polls → w.room + length w.player.done ≡ v.room + length v.player.done → Polls job me v w
 polls-leave {job} me v u w {asked} is_job sound follows running next played called left last room =
     let a = advance-left (script_at job me) job.turns v.player asked u.player w.player left.step (omega (arith, is_job.most_turns)) (ready-at job me v.player asked is_job follows.follows running next) called left.was_open left last in
@@ -37,22 +37,22 @@ polls-leave {job} me v u w {asked} is_job sound follows running next played call
     record { quiet = subst Q (sym same) (quiet-called v.player asked u.player sound running called); follows = goes-spent a.follows follows played called left; room = room; falls = a.falls }
 
 -- an open step that is decided
-pub polls-decide : (job : Seen) (me : ℕ) (v w : View) (comm : Context) (board : Option (List ℕ)) (known later : Known) → IsState v.player.rank → GoesThrough job me v.player → is_stopped v.player.rank.log ≡ false →
+pub polls-decide : (job : JobView) (me : ℕ) (v w : PlayerView) (comm : Context) (board : Option (List ℕ)) (known later : Known) → IsState v.player.rank → GoesThrough job me v.player → is_stopped v.player.rank.log ≡ false →
     IsDecided v.player comm board known w.player later → w.room + length w.player.done ≡ v.room + length v.player.done → Polls job me v w
 polls-decide job me v w comm board known later sound follows running d room =
     let a = advance-decided (script_at job me) job.turns v.player comm board known later w.player (λ asked waits. ready-decided (script_at job me) job.turns v.player asked follows.follows running waits) d in
     record { quiet = quiet-decided v.player comm board known later w.player sound d; follows = goes-decided a.follows follows d; room = room; falls = a.falls }
 
 -- what a player tells of its next step holds of the step of its rank
-pub asked_played : (job : Seen) (me : ℕ) (p : Player) {conditions : List Clause} {told : Bool} → p.rank.me ≡ me → conditions ≡ job.conditions → told ≡ is_played conditions p.rank.me p.done → is_played job.conditions me p.done ≡ told
+pub asked_played : (job : JobView) (me : ℕ) (p : Player) {conditions : List Clause} {told : Bool} → p.rank.me ≡ me → conditions ≡ job.conditions → told ≡ is_played conditions p.rank.me p.done → is_played job.conditions me p.done ≡ told
 asked_played job me p mine same told = ap (λ r. is_played job.conditions r p.done) (sym mine) ∙ ap (λ (xs : List Clause). is_played xs p.rank.me p.done) (sym same) ∙ sym told
 
 -- no step is skipped yet
-pub skips-none : {job : Seen} {me : ℕ} (v : View) → GoesThrough job me v.player → SkipsOn job me v v
+pub skips-none : {job : JobView} {me : ℕ} (v : PlayerView) → GoesThrough job me v.player → SkipsOn job me v v
 skips-none v follows = record { same_rank = refl; follows = follows; room = refl; left = omega arith }
 
 -- one step more is skipped
-pub skips-one : {job : Seen} (me : ℕ) (u v w : View) {asked : Step} → IsJob job → SkipsOn job me u v → is_stopped u.player.rank.log ≡ false → slice_get (script_at job me) (length v.player.done) ≡ Some asked → is_played job.conditions me v.player.done ≡ false →
+pub skips-one : {job : JobView} (me : ℕ) (u v w : PlayerView) {asked : Step} → IsJob job → SkipsOn job me u v → is_stopped u.player.rank.log ≡ false → slice_get (script_at job me) (length v.player.done) ≡ Some asked → is_played job.conditions me v.player.done ≡ false →
     SkipsStep v.player asked w.player → w.room + length w.player.done ≡ v.room + length v.player.done → SkipsOn job me u w × (polls_left (script_at job me) job.turns w.player < polls_left (script_at job me) job.turns v.player)
 skips-one {job} me u v w {asked} is_job h running next idle skipped room =
     let runs : is_stopped v.player.rank.log ≡ false = ap (λ (r : State). is_stopped r.log) h.same_rank ∙ running in
@@ -66,7 +66,7 @@ skips-one {job} me u v w {asked} is_job h running next idle skipped room =
     (on, a.falls)
 
 -- a poll after one that found nothing to decide
-pub polls-after : {job : Seen} {me : ℕ} (v : View) {u w : View} → u.player ≡ v.player → u.room + length u.player.done ≡ v.room + length v.player.done → Polls job me u w → Polls job me v w
+pub polls-after : {job : JobView} {me : ℕ} (v : PlayerView) {u w : PlayerView} → u.player ≡ v.player → u.room + length u.player.done ≡ v.room + length v.player.done → Polls job me u w → Polls job me v w
 polls-after {job} {me} v {w} same room h =
     let Q : Player → Type 0 = λ (p : Player). Quiet p.rank w.player.rank in
     let L : Player → Type 0 = λ (p : Player). polls_left (script_at job me) job.turns w.player < polls_left (script_at job me) job.turns p in

@@ -6,14 +6,14 @@ use Rattle.ulfm_script.specs.Reacting.{SkipsRightly}
 use Rattle.ulfm_script.specs.Script.{through_stop}
 use Rattle.ulfm_laws.specs.Answers.{AllAgree, AllFollowScripts}
 use Rattle.ulfm_laws.specs.Lawful.{AreProduced}
-use Rattle.ulfm_run.proofs.Common.{at, Global, InPlace, IsGathered, IsPlayed, Item, Keeps, Known, length-map, Report, RevokedByARank, slice_get_within, Vec, WorldRank, items_from, Flows, there, AreTrue, Ran, NameOneBoard, report_in, end_in, decider_in, WerePlayed, GaveAnswers, Seen, script_at}
+use Rattle.ulfm_run.proofs.Common.{at, Global, InPlace, IsGathered, IsPlayed, Item, Keeps, Known, length-map, Report, RevokedByARank, slice_get_within, Vec, WorldRank, items_from, Flows, there, AreTrue, Ran, NameOneBoard, report_in, end_in, decider_in, WerePlayed, GaveAnswers, JobView, script_at}
 use Rattle.ulfm_run.specs.Fault.{ShowUntrue, Fits}
 use Rattle.ulfm_run.specs.Flow.{EndsMatchLogs, contents}
 use Rattle.ulfm_run.proofs.Paired.{one_board_names}
 use Rattle.ulfm_run.proofs.Flowing.{AllPlayed, carried, flowed, ordered}
 use Rattle.ulfm_run.proofs.Handed.{from_map, same_maps, answers_all}
 
-module _ {E D N : Type 0} {name : E → N} {place count : E → ℕ} {pushed taken : E → ℕ → List Item} {ready : E → Type 0} {board : D → Option (List ℕ)} {job : Seen} {ends : List E} {deciders : List D} {ran : List (Ran E D)} (h : WerePlayed name place count pushed taken ready board job ends deciders ran) where
+module _ {E D N : Type 0} {name : E → N} {place count : E → ℕ} {pushed taken : E → ℕ → List Item} {ready : E → Type 0} {board : D → Option (List ℕ)} {job : JobView} {ends : List E} {deciders : List D} {ran : List (Ran E D)} (h : WerePlayed name place count pushed taken ready board job ends deciders ran) where
   -- the ends that came back have the names of those that were given
   pub same_names : map name (map end_in ran) ≡ map name ends
   same_names =

@@ -1,14 +1,14 @@
 -- A rank that starts.
 use Rattle.std.proofs.Common.{◌≡◌, ℕ, ◌≤◌, List, [], length, refl, ap, sym, subst, ◌∙◌, arith}
-use Rattle.ulfm_script.specs.Player.{Player, View, start_player}
-use Rattle.ulfm_run.proofs.Common.{GoesThrough, IsFresh, IsSigned, Item, script_at, Seen, get_or-blank, All-nil, IsState, went_out, no_mark, start_state, IsJoined, IsAtWork}
+use Rattle.ulfm_script.specs.Player.{Player, PlayerView, start_player}
+use Rattle.ulfm_run.proofs.Common.{GoesThrough, IsFresh, IsSigned, Item, script_at, JobView, get_or-blank, All-nil, IsState, went_out, no_mark, start_state, IsJoined, IsAtWork}
 use Rattle.ulfm_script.proofs.Reacting.{goes-start}
 
 out-start : (me n d : ℕ) → went_out (start_state me n) d ≡ []
 out-start me n d = rw (get_or-blank n d no_mark) refl
 
 -- the rank of a fresh end goes to work
-pub at-work-start : {E : Type 0} (place count : E → ℕ) (pushed taken : E → ℕ → List Item) (ready : E → Type 0) (job : Seen) (me : ℕ) (v : View) {end : E} → IsFresh count pushed taken ready job.ranks end → place end ≡ me → v.player ≡ start_player me job.ranks → IsState v.player.rank → length (script_at job me) ≤ v.room → IsAtWork place count pushed taken ready job me v end
+pub at-work-start : {E : Type 0} (place count : E → ℕ) (pushed taken : E → ℕ → List Item) (ready : E → Type 0) (job : JobView) (me : ℕ) (v : PlayerView) {end : E} → IsFresh count pushed taken ready job.ranks end → place end ≡ me → v.player ≡ start_player me job.ranks → IsState v.player.rank → length (script_at job me) ≤ v.room → IsAtWork place count pushed taken ready job me v end
 at-work-start place count pushed taken ready job me v {end} fresh at starts sound room =
     let J : Player → Type 0 = λ (p : Player). IsJoined place count pushed taken ready p.rank end in
     record {

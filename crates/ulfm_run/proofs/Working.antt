@@ -6,11 +6,11 @@ use Rattle.ulfm_rank.specs.inside.Quiet.{Quiet}
 use Rattle.ulfm_rank.proofs.Quiet.{quiet-same}
 use Rattle.ulfm_script.specs.Reacting.{SkipsRightly}
 use Rattle.ulfm_script.proofs.Reacting.{finished-running, finished-stopped, goes-rank}
-use Rattle.ulfm_run.proofs.Common.{GoesThrough, is_stopped, IsPlayed, IsSigned, Item, Known, Player, polls_left, Report, State, View, with_rank, false≢true, IsJoined, Moves, Polls, SkipsOn, IsAtWork, honest-moved, Step, Seen, script_at, AnswersFollowSoFar}
+use Rattle.ulfm_run.proofs.Common.{GoesThrough, is_stopped, IsPlayed, IsSigned, Item, Known, Player, polls_left, Report, State, PlayerView, with_rank, false≢true, IsJoined, Moves, Polls, SkipsOn, IsAtWork, honest-moved, Step, JobView, script_at, AnswersFollowSoFar}
 use Rattle.ulfm_run.specs.inside.Turns.{IsOver, WentOn, IsAsFar, Keeps, Carries, keeps-then}
 
 -- a player that stopped, or has no step left, answered its script
-pub has-answered : {job : Seen} {me : ℕ} {p : Player} → GoesThrough job me p → IsOver (script_at job me) p → HasFinished job me p
+pub has-answered : {job : JobView} {me : ℕ} {p : Player} → GoesThrough job me p → IsOver (script_at job me) p → HasFinished job me p
 has-answered {p} h over = elim (stops (is_stopped p.rank.log) refl) [
   | inl stopped ↦ finished-stopped h stopped
   | inr running ↦ finished-running h running (elim over [ inl stopped ↦ absurd (false≢true (sym running ∙ stopped)) | inr k ↦ k ])
@@ -45,11 +45,11 @@ not-over script turns p running falls over = elim over [
 ]
 
 -- what moves leaves the answers right
-pub honest-went : {E N : Type 0} {name : E → N} {place count : E → ℕ} {pushed taken : E → ℕ → List Item} {ready : E → Type 0} (known : Known) (v w : View) (e f : E) → Moves name place count pushed taken ready v e w f → AnswersFollowSoFar known v.player → AnswersFollowSoFar known w.player
+pub honest-went : {E N : Type 0} {name : E → N} {place count : E → ℕ} {pushed taken : E → ℕ → List Item} {ready : E → Type 0} (known : Known) (v w : PlayerView) (e f : E) → Moves name place count pushed taken ready v e w f → AnswersFollowSoFar known v.player → AnswersFollowSoFar known w.player
 honest-went known v w e f m h = honest-moved known v.player w.player h m.only m.me m.ranks m.stops m.takes
 
 -- what takes nothing, and lets nothing go out, keeps the rank at work
-at-work-quiet : {E : Type 0} {place count : E → ℕ} {pushed taken : E → ℕ → List Item} {ready : E → Type 0} {job : Seen} {me : ℕ} {v w : View} {e : E} → IsAtWork place count pushed taken ready job me v e → Quiet v.player.rank w.player.rank → GoesThrough job me w.player → w.room + length w.player.done ≡ v.room + length v.player.done → IsAtWork place count pushed taken ready job me w e
+at-work-quiet : {E : Type 0} {place count : E → ℕ} {pushed taken : E → ℕ → List Item} {ready : E → Type 0} {job : JobView} {me : ℕ} {v w : PlayerView} {e : E} → IsAtWork place count pushed taken ready job me v e → Quiet v.player.rank w.player.rank → GoesThrough job me w.player → w.room + length w.player.done ≡ v.room + length v.player.done → IsAtWork place count pushed taken ready job me w e
 at-work-quiet {w} h q follows room =
     record {
       joined = record {
@@ -69,16 +69,16 @@ at-work-quiet {w} h q follows room =
     }
 
 -- so a poll does
-pub at-work-polled : {E : Type 0} {place count : E → ℕ} {pushed taken : E → ℕ → List Item} {ready : E → Type 0} {job : Seen} {me : ℕ} {v w : View} {e : E} → IsAtWork place count pushed taken ready job me v e → Polls job me v w → IsAtWork place count pushed taken ready job me w e
+pub at-work-polled : {E : Type 0} {place count : E → ℕ} {pushed taken : E → ℕ → List Item} {ready : E → Type 0} {job : JobView} {me : ℕ} {v w : PlayerView} {e : E} → IsAtWork place count pushed taken ready job me v e → Polls job me v w → IsAtWork place count pushed taken ready job me w e
 at-work-polled h p = at-work-quiet h p.quiet p.follows p.room
 
 -- and so do steps that are skipped
-pub at-work-skipped : {E : Type 0} {place count : E → ℕ} {pushed taken : E → ℕ → List Item} {ready : E → Type 0} {job : Seen} {me : ℕ} {v w : View} {e : E} → IsAtWork place count pushed taken ready job me v e → SkipsOn job me v w → IsAtWork place count pushed taken ready job me w e
+pub at-work-skipped : {E : Type 0} {place count : E → ℕ} {pushed taken : E → ℕ → List Item} {ready : E → Type 0} {job : JobView} {me : ℕ} {v w : PlayerView} {e : E} → IsAtWork place count pushed taken ready job me v e → SkipsOn job me v w → IsAtWork place count pushed taken ready job me w e
 at-work-skipped {v} h s = at-work-quiet h (subst (Quiet v.player.rank) (sym s.same_rank) (quiet-same v.player.rank h.joined.sound)) s.follows s.room
 
-module _ {E N : Type 0} {name : E → N} {place count : E → ℕ} {pushed taken : E → ℕ → List Item} {ready : E → Type 0} {job : Seen} {me : ℕ} where
+module _ {E N : Type 0} {name : E → N} {place count : E → ℕ} {pushed taken : E → ℕ → List Item} {ready : E → Type 0} {job : JobView} {me : ℕ} where
   -- what moves between a player and its end keeps the rank at work
-  pub at-work-moved : (v w : View) (e f : E) → IsAtWork place count pushed taken ready job me v e → Moves name place count pushed taken ready v e w f → IsAtWork place count pushed taken ready job me w f
+  pub at-work-moved : (v w : PlayerView) (e f : E) → IsAtWork place count pushed taken ready job me v e → Moves name place count pushed taken ready v e w f → IsAtWork place count pushed taken ready job me w f
   at-work-moved v w e f h m =
       record {
         joined = m.joined;
@@ -89,26 +89,26 @@ module _ {E N : Type 0} {name : E → N} {place count : E → ℕ} {pushed taken
       }
 
   -- so items that move are carried
-  pub carried : {D B : Type 0} {board : D → B} {known : D → Known} {v w : View} {e f : E} {d : D} → Moves name place count pushed taken ready v e w f → Carries name place count pushed taken ready board known job me v e d w f d
+  pub carried : {D B : Type 0} {board : D → B} {known : D → Known} {v w : PlayerView} {e f : E} {d : D} → Moves name place count pushed taken ready v e w f → Carries name place count pushed taken ready board known job me v e d w f d
   carried {known = known} {v} {w} {e} {f} {d} m = record {
     keeps = record { at_work = λ h. at-work-moved v w e f h m; same_end = m.same_end; same_board = refl; honest = honest-went (known d) v w e f m };
     as_far = as-far (script_at job me) job.turns v.player w.player m.only m.stops;
   }
 
   -- what keeps the rank at work is followed by what does so too
-  pub goes-on : {D B : Type 0} {board : D → B} {known : D → Known} {i : Seen} {s : ℕ} {u v w : View} {e f g : E} {c d b : D} (p : Bool) → i ≡ job → s ≡ me → Keeps name place count pushed taken ready board known job me u e c v f d → Keeps name place count pushed taken ready board known i s v f d w g b → WentOn (script_at i s) i.turns v.player w.player p →
+  pub goes-on : {D B : Type 0} {board : D → B} {known : D → Known} {i : JobView} {s : ℕ} {u v w : PlayerView} {e f g : E} {c d b : D} (p : Bool) → i ≡ job → s ≡ me → Keeps name place count pushed taken ready board known job me u e c v f d → Keeps name place count pushed taken ready board known i s v f d w g b → WentOn (script_at i s) i.turns v.player w.player p →
       Keeps name place count pushed taken ready board known job me u e c w g b × WentOn (script_at job me) job.turns v.player w.player p
   goes-on {board = board} {known = known} {i} {u} {v} {w} {e} {f} {g} {c} {d} {b} p at_job at_rank h polls went =
-      let K : Seen → ℕ → Type 0 = λ (j : Seen) r. Keeps name place count pushed taken ready board known j r v f d w g b × WentOn (script_at j r) j.turns v.player w.player p in
-      let k = subst (λ (j : Seen). K j me) at_job (subst (λ r. K i r) at_rank (polls, went)) in
+      let K : JobView → ℕ → Type 0 = λ (j : JobView) r. Keeps name place count pushed taken ready board known j r v f d w g b × WentOn (script_at j r) j.turns v.player w.player p in
+      let k = subst (λ (j : JobView). K j me) at_job (subst (λ r. K i r) at_rank (polls, went)) in
       (keeps-then name place count pushed taken ready board known job me u v w e f g c d b h k.0, k.1)
 
   -- a turn: its parts before the poll, and the poll
-  pub turned : {D B : Type 0} {board : D → B} {known : D → Known} {i : Seen} (s : ℕ) {u v w : View} {e f g : E} {c d b : D} (p : Bool) → i ≡ job → s ≡ me → Carries name place count pushed taken ready board known job me u e c v f d → Keeps name place count pushed taken ready board known i s v f d w g b → WentOn (script_at i s) i.turns v.player w.player p → WentOn (script_at job me) job.turns u.player w.player p
+  pub turned : {D B : Type 0} {board : D → B} {known : D → Known} {i : JobView} (s : ℕ) {u v w : PlayerView} {e f g : E} {c d b : D} (p : Bool) → i ≡ job → s ≡ me → Carries name place count pushed taken ready board known job me u e c v f d → Keeps name place count pushed taken ready board known i s v f d w g b → WentOn (script_at i s) i.turns v.player w.player p → WentOn (script_at job me) job.turns u.player w.player p
   turned s {w = w} p at_job at_rank h polls went = went-after p w.player h.as_far (goes-on p at_job at_rank h.keeps polls went).1
 
   -- what was played is reported
-  pub played : (v : View) (first : E) {e : E} (report : Report) → place first ≡ me → name e ≡ name first → IsAtWork place count pushed taken ready job me v e → HasFinished job me v.player → report.rank ≡ v.player.rank → report.steps ≡ v.player.done → IsPlayed name place count pushed taken ready job first report e
+  pub played : (v : PlayerView) (first : E) {e : E} (report : Report) → place first ≡ me → name e ≡ name first → IsAtWork place count pushed taken ready job me v e → HasFinished job me v.player → report.rank ≡ v.player.rank → report.steps ≡ v.player.done → IsPlayed name place count pushed taken ready job first report e
   played v first {e} report at same h answered rank steps =
       record {
         same_end = same;

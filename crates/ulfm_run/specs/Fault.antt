@@ -1,7 +1,7 @@
 -- Ends that don't fit a job, and decisions that aren't true of what its ranks report (ULFM, shrink and agree).
 use Rattle.std.specs.Prelude.{◌≡◌, ℕ, List, length}
 use Rattle.ulfm_base.specs.Lists.{InPlace}
-use Rattle.ulfm_job.specs.Job.{Seen}
+use Rattle.ulfm_job.specs.Job.{JobView}
 use Rattle.ulfm_script.specs.Deciding.{Known}
 use Rattle.ulfm_script.specs.Report.{Report}
 use Rattle.ulfm_laws.specs.Answers.{AllFollowScripts, AllAnswersFollow}
@@ -10,14 +10,14 @@ use Rattle.ulfm_laws.specs.Reports.{IsEach}
 use Rattle.ulfm_laws.specs.Decisions.{AreTrue}
 
 -- there is an end and a decider for each rank, and the ends stand at the places of their numbers
-pub record Fits {E D : Type 0} (place : E → ℕ) (job : Seen) (ends : List E) (deciders : List D) : Type 0 where
+pub record Fits {E D : Type 0} (place : E → ℕ) (job : JobView) (ends : List E) (deciders : List D) : Type 0 where
   pub end_each : length ends ≡ job.ranks
   pub decider_each : length deciders ≡ job.ranks
   pub placed : InPlace place ends
 
 -- What all the ranks of a job report, by their numbers, shows a decision that isn't true, or a revocation that no rank's own
 -- call made. With some decisions known for each rank, each answer is right.
-pub record ShowUntrue (job : Seen) (reports : List Report) : Type 0 where
+pub record ShowUntrue (job : JobView) (reports : List Report) : Type 0 where
   pub each : IsEach job reports
   pub order : InPlace (λ report. report.rank.me) reports
   pub scripts : AllFollowScripts job reports

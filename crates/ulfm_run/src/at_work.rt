@@ -28,7 +28,7 @@ impl<R: Wait, E: Ends, D: Decider> Hands for AtWork<'_, R, E, D> {
     ghost use Rattle.std.specs.Prelude.{⊤, ◌≡◌, length, is_some};
     ghost use Rattle.std.proofs.Common.{refl, ap, sym, subst, ◌∙◌};
     ghost use Rattle.ulfm_rank.specs.State.{outbox};
-    ghost use Rattle.ulfm_job.specs.Job.{Seen, script_at};
+    ghost use Rattle.ulfm_job.specs.Job.{JobView, script_at};
     ghost use Rattle.ulfm_run.specs.inside.Joined.{IsAtWork};
     ghost use Rattle.ulfm_run.specs.inside.Turns.{Keeps, Carries, WentOn, carries-none, carries-then};
 
@@ -51,13 +51,13 @@ impl<R: Wait, E: Ends, D: Decider> Hands for AtWork<'_, R, E, D> {
 
     ghost none = { λ w f. (refl, refl, carries-none E.name E.place E.count E.pushed E.taken E.ready D.board D.known w.job.now w.me w.worker.player w.worker.end w.worker.decider) };
 
-    ghost more = { λ a b c m h k. (k.0 ∙ h.0, k.1 ∙ h.1, carries-then E.name E.place E.count E.pushed E.taken E.ready D.board D.known a.job.now a.me a.worker.player b.worker.player c.worker.player a.worker.end b.worker.end c.worker.end a.worker.decider b.worker.decider c.worker.decider h.2 (subst (λ (j : Seen). Carries E.name E.place E.count E.pushed E.taken E.ready D.board D.known j a.me b.worker.player b.worker.end b.worker.decider c.worker.player c.worker.end c.worker.decider) h.0 (subst (λ r. Carries E.name E.place E.count E.pushed E.taken E.ready D.board D.known b.job.now r b.worker.player b.worker.end b.worker.decider c.worker.player c.worker.end c.worker.decider) h.1 k.2))) };
+    ghost more = { λ a b c m h k. (k.0 ∙ h.0, k.1 ∙ h.1, carries-then E.name E.place E.count E.pushed E.taken E.ready D.board D.known a.job.now a.me a.worker.player b.worker.player c.worker.player a.worker.end b.worker.end c.worker.end a.worker.decider b.worker.decider c.worker.decider h.2 (subst (λ (j : JobView). Carries E.name E.place E.count E.pushed E.taken E.ready D.board D.known j a.me b.worker.player b.worker.end b.worker.decider c.worker.player c.worker.end c.worker.decider) h.0 (subst (λ r. Carries E.name E.place E.count E.pushed E.taken E.ready D.board D.known b.job.now r b.worker.player b.worker.end b.worker.decider c.worker.player c.worker.end c.worker.decider) h.1 k.2))) };
 
-    ghost same = { λ a b c m h k. (k.0 ∙ h.0, k.1 ∙ h.1, carries-then E.name E.place E.count E.pushed E.taken E.ready D.board D.known a.job.now a.me a.worker.player b.worker.player c.worker.player a.worker.end b.worker.end c.worker.end a.worker.decider b.worker.decider c.worker.decider h.2 (subst (λ (j : Seen). Carries E.name E.place E.count E.pushed E.taken E.ready D.board D.known j a.me b.worker.player b.worker.end b.worker.decider c.worker.player c.worker.end c.worker.decider) h.0 (subst (λ r. Carries E.name E.place E.count E.pushed E.taken E.ready D.board D.known b.job.now r b.worker.player b.worker.end b.worker.decider c.worker.player c.worker.end c.worker.decider) h.1 k.2))) };
+    ghost same = { λ a b c m h k. (k.0 ∙ h.0, k.1 ∙ h.1, carries-then E.name E.place E.count E.pushed E.taken E.ready D.board D.known a.job.now a.me a.worker.player b.worker.player c.worker.player a.worker.end b.worker.end c.worker.end a.worker.decider b.worker.decider c.worker.decider h.2 (subst (λ (j : JobView). Carries E.name E.place E.count E.pushed E.taken E.ready D.board D.known j a.me b.worker.player b.worker.end b.worker.decider c.worker.player c.worker.end c.worker.decider) h.0 (subst (λ r. Carries E.name E.place E.count E.pushed E.taken E.ready D.board D.known b.job.now r b.worker.player b.worker.end b.worker.decider c.worker.player c.worker.end c.worker.decider) h.1 k.2))) };
 
-    ghost keeps = { λ a b m f h. subst (λ (j : Seen). IsAtWork E.place E.count E.pushed E.taken E.ready j b.me b.worker.player b.worker.end) (sym h.0) (subst (λ r. IsAtWork E.place E.count E.pushed E.taken E.ready a.job.now r b.worker.player b.worker.end) (sym h.1) (h.2.keeps.at_work f)) };
+    ghost keeps = { λ a b m f h. subst (λ (j : JobView). IsAtWork E.place E.count E.pushed E.taken E.ready j b.me b.worker.player b.worker.end) (sym h.0) (subst (λ r. IsAtWork E.place E.count E.pushed E.taken E.ready a.job.now r b.worker.player b.worker.end) (sym h.1) (h.2.keeps.at_work f)) };
 
-    ghost sized = { λ a b m h. ap (λ (j : Seen). j.ranks) h.0 };
+    ghost sized = { λ a b m h. ap (λ (j : JobView). j.ranks) h.0 };
 
     ghost still = { λ a b at h k. tt };
 

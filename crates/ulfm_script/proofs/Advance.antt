@@ -1,6 +1,6 @@
 -- What a poll moves at a player, and what falls with it.
 use Rattle.std.proofs.Common.{◌≡◌, ℕ, ◌^◌, ◌<◌, ◌≤◌, Bool, false, List, length, refl, ap, sym, subst, ◌∙◌, arith, inl, inr, ◌⊎◌, Option, Some, None, MatchOption, slice_get}
-use Rattle.ulfm_job.specs.Job.{Seen, IsJob, script_at, is_stop_step}
+use Rattle.ulfm_job.specs.Job.{JobView, IsJob, script_at, is_stop_step}
 use Rattle.ulfm_script.proofs.Common.{is_stopped, Shrink, Agree, State, SkipsStep, Step, StepAnswer, StepReport, Skipped, Unfinished, Wait, Player, AnswersStep, StaysOpen, awaits_decision, IsCalled, GivesUpStep, PollAnswers, PollOpens, with_rank, answered, polled, step_report, FollowsSoFar, polls_left, same_Some, slice_get_within}
 use Rattle.ulfm_script.specs.Report.{is_skipped}
 use Rattle.ulfm_script.specs.Script.{IsPolled, IsPatient, is_played_stop}
@@ -16,7 +16,7 @@ pub record Ready (script : List Step) (turns : ℕ) (p : Player) (asked : Step) 
   pub inside : length p.done < length script
 
 -- a running player that has a step left is ready for its next poll
-pub ready-at : (job : Seen) (me : ℕ) (p : Player) (asked : Step) → IsJob job → FollowsSoFar (script_at job me) job.turns p → is_stopped p.rank.log ≡ false → slice_get (script_at job me) (length p.done) ≡ Some asked → Ready (script_at job me) job.turns p asked
+pub ready-at : (job : JobView) (me : ℕ) (p : Player) (asked : Step) → IsJob job → FollowsSoFar (script_at job me) job.turns p → is_stopped p.rank.log ≡ false → slice_get (script_at job me) (length p.done) ≡ Some asked → Ready (script_at job me) job.turns p asked
 ready-at job me p asked is_job h running next = record {
   follows = h;
   running = running;

@@ -22,7 +22,7 @@ pub use Rattle.ulfm_rank.specs.declared.entry.Entry.TheVariants.{Adopted, Entere
 pub use Rattle.ulfm_script.specs.Answered.{AnswersFollow, EntersBetween, IsTook, OnlyTook, StoodAt}
 pub use Rattle.ulfm_script.specs.Deciding.{AnswersAdoption, Known, topic_of}
 pub use Rattle.ulfm_script.specs.Calls.{AnswersProbe, Cancels, Receives, AnswersStep, LeavesOpen, Tests, AnswersRecv, AnswersWait, AnswersCancel, AnswersMrecv, comm_of, entered_by, entry_checks, EntersBy, request_at, tested}
-pub use Rattle.ulfm_script.specs.Player.{Player, step_report, GivesUpStep, IsCalled, IsFree, PollAnswers, PollOpens, SkipsStep, StaysOpen, View, answered, awaits_decision, is_joint, polled, start_player, with_rank}
+pub use Rattle.ulfm_script.specs.Player.{Player, step_report, GivesUpStep, IsCalled, IsFree, PollAnswers, PollOpens, SkipsStep, StaysOpen, PlayerView, answered, awaits_decision, is_joint, polled, start_player, with_rank}
 pub use Rattle.ulfm_script.specs.Report.{Report}
 pub use Rattle.ulfm_script.specs.declared.answer.StepAnswer.{StepAnswer}
 pub use Rattle.ulfm_script.specs.declared.answer.StepAnswer.TheVariants.{Refused, Skipped, Unfinished}

@@ -2,7 +2,7 @@
 use Rattle.std.proofs.Common.{◌≡◌, ℕ, ◌≤◌, true, false, not, List, [], ◌∷◌, ◌++◌, length, take, refl, ap, sym, subst, ◌∙◌, arith, inl, inr, MatchOption, Option, Some, None}
 use Rattle.std.proofs.lemmas.List.{take-append-le}
 use Rattle.std.proofs.Math.Seq.{take-append_seam}
-use Rattle.ulfm_job.specs.Job.{Seen, script_at}
+use Rattle.ulfm_job.specs.Job.{JobView, script_at}
 use Rattle.ulfm_job.specs.declared.clause.Clause.{Clause}
 use Rattle.ulfm_match.proofs.Histories.{get_cases}
 use Rattle.ulfm_script.proofs.Common.{⊤, Context, FollowsSoFar, GoesThrough, IsCalled, is_stopped, Known, Player, slice_get_within, SkipsStep, start_player, State, Step, StepReport, with_rank}
@@ -26,7 +26,7 @@ skips-push conditions r done x h e k report g = elim (get_cases done x k report 
 ]
 
 -- the same of a player that has one more answer, and no step open
-goes-closed : {j : Seen} {r : ℕ} {old new : Player} (x : StepReport) → FollowsSoFar (script_at j r) j.turns new → GoesThrough j r old → new.done ≡ old.done ++ x ∷ [] → new.current ≡ None → is_skipped x.answer ≡ not (is_played j.conditions r old.done) → GoesThrough j r new
+goes-closed : {j : JobView} {r : ℕ} {old new : Player} (x : StepReport) → FollowsSoFar (script_at j r) j.turns new → GoesThrough j r old → new.done ≡ old.done ++ x ∷ [] → new.current ≡ None → is_skipped x.answer ≡ not (is_played j.conditions r old.done) → GoesThrough j r new
 goes-closed {j} {r} {old} {new} x follows h done none e = record {
   follows = follows;
   skips = subst (SkipsRightly j.conditions r) (sym done) (skips-push j.conditions r old.done x h.skips e);
@@ -34,11 +34,11 @@ goes-closed {j} {r} {old} {new} x follows h done none e = record {
 }
 
 -- a step is played where one is to be
-goes-played : {j : Seen} {r : ℕ} {old new : Player} (x : StepReport) → FollowsSoFar (script_at j r) j.turns new → GoesThrough j r old → new.done ≡ old.done ++ x ∷ [] → new.current ≡ None → is_skipped x.answer ≡ false → is_played j.conditions r old.done ≡ true → GoesThrough j r new
+goes-played : {j : JobView} {r : ℕ} {old new : Player} (x : StepReport) → FollowsSoFar (script_at j r) j.turns new → GoesThrough j r old → new.done ≡ old.done ++ x ∷ [] → new.current ≡ None → is_skipped x.answer ≡ false → is_played j.conditions r old.done ≡ true → GoesThrough j r new
 goes-played x follows h done none given played = goes-closed x follows h done none (given ∙ sym (ap not played))
 
 -- a player that goes on, with the same answers and the same step open, or one that is to be played
-pub goes-open : {j : Seen} {r : ℕ} {old new : Player} → FollowsSoFar (script_at j r) j.turns new → GoesThrough j r old → new.done ≡ old.done → is_played j.conditions r old.done ≡ true → GoesThrough j r new
+pub goes-open : {j : JobView} {r : ℕ} {old new : Player} → FollowsSoFar (script_at j r) j.turns new → GoesThrough j r old → new.done ≡ old.done → is_played j.conditions r old.done ≡ true → GoesThrough j r new
 goes-open {j} {r} {old} {new} follows h done played = record {
   follows = follows;
   skips = subst (SkipsRightly j.conditions r) (sym done) h.skips;
@@ -53,26 +53,26 @@ goes-open {j} {r} {old} {new} follows h done played = record {
     plays (Some asked) = now
 
 -- an open step is to be played
-pub open_played : {j : Seen} {r : ℕ} {p : Player} {asked : Step} → GoesThrough j r p → p.current ≡ Some asked → is_played j.conditions r p.done ≡ true
+pub open_played : {j : JobView} {r : ℕ} {p : Player} {asked : Step} → GoesThrough j r p → p.current ≡ Some asked → is_played j.conditions r p.done ≡ true
 open_played {asked} h e = rw e at h.playing
 
 -- a poll by a call of a step that is to be played
-pub goes-called : {j : Seen} {r : ℕ} {old : Player} {asked : Step} {new : Player} → FollowsSoFar (script_at j r) j.turns new → GoesThrough j r old → is_played j.conditions r old.done ≡ true → IsCalled old asked new → GoesThrough j r new
+pub goes-called : {j : JobView} {r : ℕ} {old : Player} {asked : Step} {new : Player} → FollowsSoFar (script_at j r) j.turns new → GoesThrough j r old → is_played j.conditions r old.done ≡ true → IsCalled old asked new → GoesThrough j r new
 goes-called {old} {asked} follows h played (inl a) =
     goes-played _ follows h (ap (λ (p : Player). p.done) a.only) (ap (λ (p : Player). p.current) a.only) (not_skipped a.answer (given_by_poll old.done old.rank asked a.answer a.rank a.answers).1) played
 goes-called follows h played (inr o) = goes-open follows h (ap (λ (p : Player). p.done) o.only) played
 
 -- an open step is decided
-pub goes-decided : {j : Seen} {r : ℕ} {old : Player} {comm : Context} {board : Option (List ℕ)} {known later : Known} {new : Player} → FollowsSoFar (script_at j r) j.turns new → GoesThrough j r old → IsDecided old comm board known new later → GoesThrough j r new
+pub goes-decided : {j : JobView} {r : ℕ} {old : Player} {comm : Context} {board : Option (List ℕ)} {known later : Known} {new : Player} → FollowsSoFar (script_at j r) j.turns new → GoesThrough j r old → IsDecided old comm board known new later → GoesThrough j r new
 goes-decided {old} {board} {known} {later} follows h d =
     goes-played _ follows h (ap (λ (p : Player). p.done) d.only) (ap (λ (p : Player). p.current) d.only) (not_skipped d.answer (given_by_decision board known later old.rank d.asked d.answer d.rank d.decision).1) (open_played h d.waits)
 
 -- a step that isn't to be played is skipped
-pub goes-skipped : {j : Seen} {r : ℕ} {old : Player} {asked : Step} {new : Player} → FollowsSoFar (script_at j r) j.turns new → GoesThrough j r old → is_played j.conditions r old.done ≡ false → SkipsStep old asked new → GoesThrough j r new
+pub goes-skipped : {j : JobView} {r : ℕ} {old : Player} {asked : Step} {new : Player} → FollowsSoFar (script_at j r) j.turns new → GoesThrough j r old → is_played j.conditions r old.done ≡ false → SkipsStep old asked new → GoesThrough j r new
 goes-skipped follows h idle s = goes-closed _ follows h (ap (λ (p : Player). p.done) s.only) (ap (λ (p : Player). p.current) s.only) (sym (ap not idle))
 
 -- no step stands open where the next one isn't to be played
-pub idle_none : {j : Seen} {r : ℕ} {p : Player} → GoesThrough j r p → is_played j.conditions r p.done ≡ false → p.current ≡ None
+pub idle_none : {j : JobView} {r : ℕ} {p : Player} → GoesThrough j r p → is_played j.conditions r p.done ≡ false → p.current ≡ None
 idle_none {j} {r} {p} h idle = none p.current h.playing
   where
     none : (o : Option Step) → MatchOption o ⊤ (λ asked. is_played j.conditions r p.done ≡ true) → o ≡ None
@@ -80,19 +80,19 @@ idle_none {j} {r} {p} h idle = none p.current h.playing
     none (Some asked) k = let bad : true ≡ false = sym k ∙ idle in absurd (cc)
 
 -- a player whose rank alone changed, and runs or has stopped as before
-pub goes-rank : {j : Seen} {r : ℕ} {p : Player} (s : State) → is_stopped s.log ≡ is_stopped p.rank.log → GoesThrough j r p → GoesThrough j r (with_rank p s)
+pub goes-rank : {j : JobView} {r : ℕ} {p : Player} (s : State) → is_stopped s.log ≡ is_stopped p.rank.log → GoesThrough j r p → GoesThrough j r (with_rank p s)
 goes-rank {j} {r} {p} s stop h = record { follows = follows-rank (script_at j r) j.turns p s stop h.follows; skips = h.skips; playing = h.playing }
 
 -- a player that starts
-pub goes-start : (j : Seen) (r me n : ℕ) → GoesThrough j r (start_player me n)
+pub goes-start : (j : JobView) (r me n : ℕ) → GoesThrough j r (start_player me n)
 goes-start j r me n = record { follows = follows-start (script_at j r) j.turns me n; skips = λ k report g. absurd (let low = slice_get_within [] k report g in omega arith); playing = tt }
 
 -- a player that stopped finished its script
-pub finished-stopped : {j : Seen} {r : ℕ} {p : Player} → GoesThrough j r p → is_stopped p.rank.log ≡ true → HasFinished j r p
+pub finished-stopped : {j : JobView} {r : ℕ} {p : Player} → GoesThrough j r p → is_stopped p.rank.log ≡ true → HasFinished j r p
 finished-stopped h stopped = record { steps = (h.follows.stopped stopped).0; patient = h.follows.patient; skips = h.skips; closed = (h.follows.stopped stopped).1 }
 
 -- so did one that runs and has no step left
-pub finished-running : {j : Seen} {r : ℕ} {p : Player} → GoesThrough j r p → is_stopped p.rank.log ≡ false → length (script_at j r) ≤ length p.done → HasFinished j r p
+pub finished-running : {j : JobView} {r : ℕ} {p : Player} → GoesThrough j r p → is_stopped p.rank.log ≡ false → length (script_at j r) ≤ length p.done → HasFinished j r p
 finished-running {j} {r} {p} h running all = record {
   steps = answered_running (script_at j r) j.turns p h.follows running all;
   patient = h.follows.patient;

@@ -2,7 +2,7 @@
 use Rattle.std.proofs.Common.{◌≡◌, ℕ, Bool, true, false, cond, List, refl, inl, inr, ◌⊎◌, Option}
 use Rattle.ulfm_base.specs.declared.error.CallError.{CallError}
 use Rattle.ulfm_base.specs.declared.tag.Tag.{Tag}
-use Rattle.ulfm_rank.specs.declared.entry.Entry.TheVariants.{Sent as SentEntry, Posted as PostedEntry, Acknowledged, Revoked as RevokedEntry, Duplicated, Entered, Adopted, Stopped as StopEntry, Took, Probed}
+use Rattle.ulfm_rank.specs.declared.entry.Entry.TheVariants.{Sent as SentEntry, Posted as PostedEntry, Acknowledged, Revoked as RevokedEntry, Duplicated, Entered, Adopted, Stopped as StopEntry, Took, Probed, Released, Received, Cancelled as CancelEntry}
 use Rattle.ulfm_rank.specs.declared.entry.Status.{Status}
 use Rattle.ulfm_rank.specs.declared.entry.TestAnswer.TheVariants.{Done as TestDone, Over as TestOver}
 use Rattle.ulfm_job.specs.declared.step.Step.TheVariants.{Send, Recv, Wait, Probe, Mrecv, Cancel, Failed, Ack, Revoke, Dup, Shrink, Agree, Stop}
@@ -19,11 +19,14 @@ IsSilent (Found id status) = ⊥
 IsSilent Cancelled = ⊥
 IsSilent _ = ⊤
 
--- an entry sends, posts and takes nothing
+-- an entry sends, posts, finds, releases and takes nothing
 abbrev pub IsIdle : Entry → Type 0
 IsIdle (SentEntry to letter) = ⊥
 IsIdle (PostedEntry pattern) = ⊥
 IsIdle (Probed id pattern) = ⊥
+IsIdle (Released id answer) = ⊥
+IsIdle (Received id answer) = ⊥
+IsIdle (CancelEntry id) = ⊥
 IsIdle (Took source item) = ⊥
 IsIdle _ = ⊤
 

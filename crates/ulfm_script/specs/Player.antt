@@ -20,7 +20,7 @@ pub record Player : Type 0 where
   pub polls : ℕ
 
 -- a player, its places for further answers, and whether its rank is prepared for one `take` or one poll
-pub record View : Type 0 where
+pub record PlayerView : Type 0 where
   pub player : Player
   pub room : ℕ
   pub prepared : Bool

@@ -2,7 +2,7 @@
 use Rattle.std.specs.Prelude.{◌≡◌, ◌==◌, ◌+◌, ℕ, Bool, true, false, not, ◌&&◌, ◌||◌, List, [], ◌∷◌, length, take, Option, Some, None, slice_get}
 use Rattle.std.specs.List.{list_all, list_any}
 use Rattle.ulfm_job.specs.Begins.{begins}
-use Rattle.ulfm_job.specs.Job.{Seen}
+use Rattle.ulfm_job.specs.Job.{JobView}
 use Rattle.ulfm_job.specs.declared.clause.Clause.{Clause}
 use Rattle.ulfm_script.specs.declared.answer.StepReport.{StepReport}
 use Rattle.ulfm_script.specs.Report.{Report, is_skipped}
@@ -49,5 +49,5 @@ abbrev pub meets_expected : List Clause → Report → Bool
 meets_expected expected report = each_met expected report.rank.me 0 report.steps report.steps
 
 -- the answers of all ranks are as their steps expect
-abbrev pub all_met : Seen → List Report → Bool
+abbrev pub all_met : JobView → List Report → Bool
 all_met job reports = list_all (meets_expected job.expected) reports

@@ -5,7 +5,7 @@ use Rattle.ulfm_script.specs.declared.answer.StepAnswer.{StepAnswer}
 use Rattle.ulfm_script.specs.declared.answer.StepAnswer.TheVariants.{Unfinished, Skipped}
 use Rattle.ulfm_script.specs.declared.answer.StepReport.{StepReport}
 use Rattle.ulfm_script.specs.Player.{Player}
-use Rattle.ulfm_job.specs.Job.{Seen, script_at, is_stop_step}
+use Rattle.ulfm_job.specs.Job.{JobView, script_at, is_stop_step}
 use Rattle.ulfm_script.specs.Report.{is_skipped}
 use Rattle.ulfm_script.specs.Reacting.{SkipsRightly}
 
@@ -38,7 +38,7 @@ through_stop (report ∷ reports) [] = []
 through_stop (report ∷ reports) (x ∷ xs) = if is_played_stop report then x ∷ [] else x ∷ through_stop reports xs
 
 -- a player answered the script of the rank r up to and with the first stop that it played, or the whole of it, and has no step open
-pub record HasFinished (j : Seen) (r : ℕ) (p : Player) : Type 0 where
+pub record HasFinished (j : JobView) (r : ℕ) (p : Player) : Type 0 where
   pub steps : steps_done p ≡ through_stop p.done (script_at j r)
   pub patient : All (IsPatient j.turns) p.done
   pub skips : SkipsRightly j.conditions r p.done

@@ -32,9 +32,9 @@ pub struct Player {
 impl Model for Player {
     ghost use Rattle.std.specs.Prelude.{◌-◌, ◌<◌, ◌≢◌, vec_len, vec_capacity, None};
     ghost use Rattle.ulfm_rank.specs.State.{is_ready};
-    ghost use Rattle.ulfm_script.specs.Player.{View};
+    ghost use Rattle.ulfm_script.specs.Player.{PlayerView};
 
-    ghost Value = { View };
+    ghost Value = { PlayerView };
 
     ghost view = { λ p. record {
       player = record { rank = p.rank.state; done = p.done.items; current = p.current; at = p.at; polls = p.polls };

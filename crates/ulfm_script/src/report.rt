@@ -1,7 +1,7 @@
 //! What a rank did.
 ghost use Rattle.std.specs.Prelude.{◌≡◌, ◌<◌, ◌↔◌, [], IsTrue, IfSome, IfNone};
 ghost use Rattle.ulfm_rank.specs.Facts.{is_stopped};
-ghost use Rattle.ulfm_rank.specs.State.{outbox, GoesOut};
+ghost use Rattle.ulfm_rank.specs.State.{outbox, GoesOut, IsState};
 
 use crate::answer::StepReport;
 use std::fmt;
@@ -42,7 +42,8 @@ impl RankReport {
 
     /// The rank.
     pub fn me(&self) -> WorldRank
-        ensures { result.number ≡ self.now.rank.me }
+        ensures number { result.number ≡ self.now.rank.me }
+        ensures sound { IsState self.now.rank }
     {
         self.rank.me()
     }

@@ -35,5 +35,5 @@ lawful = record {
   onward = onward;
   one_key = λ s t key a b. let same : s.first ∷ s.second ∷ [] ≡ t.first ∷ t.second ∷ [] = sym a ∙ b in record { first = cc; second = cc };
   idle = idle;
-  left = λ s t row alike final also leaves. leaves;
+  final_alike = λ s t row alike final also tells. tells;
 }

@@ -46,5 +46,5 @@ counting = record {
   alike = IsAlike;
   has_key = λ s key. key ≡ s.first ∷ s.second ∷ [];
   tells = Tells;
-  leaves = λ s row. row ≡ 9 ∷ [];
+  tells_final = λ s row. row ≡ 9 ∷ [];
 }

@@ -16,10 +16,10 @@ pub use Rattle.ulfm_rank.specs.State.{State, logged, outbox, GoesOut, IsState, m
 pub use Rattle.ulfm_rank.specs.declared.entry.Entry.{Entry}
 pub use Rattle.ulfm_rank.specs.declared.entry.Entry.TheVariants.{Took, Adopted, Revoked}
 pub use Rattle.ulfm_board.specs.Known.{known_at}
-pub use Rattle.ulfm_job.specs.Job.{Seen, script_at, IsJob}
+pub use Rattle.ulfm_job.specs.Job.{JobView, script_at, IsJob}
 pub use Rattle.ulfm_script.specs.Calls.{EntersBy, LeavesOpen}
 pub use Rattle.ulfm_script.specs.Deciding.{topic_of}
-pub use Rattle.ulfm_script.specs.Player.{Player, with_rank, GivesUpStep, IsCalled, IsFree, PollAnswers, PollOpens, SkipsStep, StaysOpen, View, answered, awaits_decision, polled, start_player, step_report}
+pub use Rattle.ulfm_script.specs.Player.{Player, with_rank, GivesUpStep, IsCalled, IsFree, PollAnswers, PollOpens, SkipsStep, StaysOpen, PlayerView, answered, awaits_decision, polled, start_player, step_report}
 pub use Rattle.ulfm_script.specs.Report.{Report}
 pub use Rattle.ulfm_job.specs.declared.step.Step.{Step}
 pub use Rattle.ulfm_job.specs.declared.step.Step.TheVariants.{Shrink, Agree}

@@ -1,12 +1,12 @@
 -- A replay from its start to rest.
 use Rattle.std.proofs.Common.{◌≡◌, ℕ, ◌<◌, Bool, List, [], length, map, refl, ap, sym, subst, ◌∙◌, arith, inl, inr}
-use Rattle.ulfm_world.proofs.Common.{WorldRank, Item, is_stopped, Player, Report, World, rank_at, inbox_at, start_world, report_of, IsAtRest, cases_Bool, Seen, Follows, Moves, IsStuck, IsUnderway, AllHaveFinished, IsReplayed, GoesThrough, PerInbox, PerPair, Room, places, taken_places}
+use Rattle.ulfm_world.proofs.Common.{WorldRank, Item, is_stopped, Player, Report, World, rank_at, inbox_at, start_world, report_of, IsAtRest, cases_Bool, JobView, Follows, Moves, IsStuck, IsUnderway, AllHaveFinished, IsReplayed, GoesThrough, PerInbox, PerPair, Room, places, taken_places}
 use Rattle.ulfm_script.proofs.Reacting.{finished-running, finished-stopped, goes-start}
 use Rattle.ulfm_world.proofs.Starts.{player-start, length-start}
 use Rattle.ulfm_world.proofs.Runs.{reaches-then}
 use Rattle.ulfm_world.proofs.Rightly.{rightly-start}
 
-pub came-start : (j : Seen) (w : World) → w ≡ start_world j.ranks (PerInbox j.capacity) → IsUnderway j w
+pub came-start : (j : JobView) (w : World) → w ≡ start_world j.ranks (PerInbox j.capacity) → IsUnderway j w
 came-start j w is =
     let n = j.ranks in
     subst (λ (x : World). IsUnderway j x) (sym is) (record {
@@ -18,7 +18,7 @@ came-start j w is =
       answers = rightly-start n (PerInbox j.capacity);
     })
 
-pub came-moves : (j : Seen) (v w : World) (a : Bool) → IsUnderway j v → Moves j v w a → IsUnderway j w
+pub came-moves : (j : JobView) (v w : World) (a : Bool) → IsUnderway j v → Moves j v w a → IsUnderway j w
 came-moves j v w a h k = record {
   reaches = reaches-then _ v w h.reaches k.reaches;
   size = k.size ∙ h.size;
@@ -32,7 +32,7 @@ pub taken-none : (room : Room) (s : ℕ) → taken_places room s [] ≡ 0
 taken-none (PerInbox n) s = refl
 taken-none (PerPair n) s = refl
 
-stuck-rest : (j : Seen) (w : World) → 0 < places w.room → ((r : ℕ) → r < length w.players → IsStuck j w r) → IsAtRest w
+stuck-rest : (j : JobView) (w : World) → 0 < places w.room → ((r : ℕ) → r < length w.players → IsStuck j w r) → IsAtRest w
 stuck-rest j w roomy h = record {
   served = λ d k running. record {
     inbox = (h d k).takes running;
@@ -45,14 +45,14 @@ stuck-rest j w roomy h = record {
   };
 }
 
-pub stuck-answered : (j : Seen) (w : World) → Follows j w → ((r : ℕ) → r < length w.players → IsStuck j w r) → AllHaveFinished j w
+pub stuck-answered : (j : JobView) (w : World) → Follows j w → ((r : ℕ) → r < length w.players → IsStuck j w r) → AllHaveFinished j w
 stuck-answered j w f h r k = elim (cases_Bool (is_stopped (rank_at w r).log)) [
   | inl stopped ↦ finished-stopped (f r k) stopped
   | inr running ↦ finished-running (f r k) running ((h r k).polls running)
 ]
 
 -- the reports of a world that came to rest
-pub replayed : {j : Seen} {w : World} {reports : List Report} → 0 < j.capacity → IsUnderway j w → ((r : ℕ) → r < length w.players → IsStuck j w r) → reports ≡ map report_of w.players → IsReplayed j reports
+pub replayed : {j : JobView} {w : World} {reports : List Report} → 0 < j.capacity → IsUnderway j w → ((r : ℕ) → r < length w.players → IsStuck j w r) → reports ≡ map report_of w.players → IsReplayed j reports
 replayed {j} {w} roomy came stuck is = record {
   world = w;
   reaches = came.reaches;

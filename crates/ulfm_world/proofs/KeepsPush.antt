@@ -4,6 +4,7 @@ use Rattle.std.proofs.lemmas.Grind.{flat_map-append}
 use Rattle.ulfm_world.proofs.Common.{WorldRank, Item, Entry, Player, with_rank, World, player_in, player_at, rank_at, inbox_at, with_player, with_inbox, Pushes, cases_eq, eq-eqb, ne_eqb, All-push, took, out_other, arrived, IsPosted, IsWorld, State, IsState, went_out, GoesOut}
 use Rattle.ulfm_base.specs.Items.{ComesFrom, items_from, item_if_from}
 use Rattle.ulfm_rank.proofs.Signed.{front_signed, from_signed}
+use Rattle.ulfm_rank.proofs.States.{leaves-by}
 use Rattle.ulfm_world.proofs.Changed.{player-same, player-other, each_player, inbox-same, inbox-other, each_inbox}
 
 -- a push keeps the logs
@@ -16,12 +17,12 @@ record Pushed (old new : State) : Type 0 where
 pushed-same : (r : State) → Pushed r r
 pushed-same r = record { me = refl; ranks = refl; log = refl; sound = λ h. h }
 
-pushed-leaves : {old new : State} {d : ℕ} {item : Item} → GoesOut old new d item → Pushed old new
-pushed-leaves k = record {
+pushed-leaves : {old new : State} {d : ℕ} {item : Item} → d < old.ranks → GoesOut old new d item → Pushed old new
+pushed-leaves inside k = record {
   me = ap (λ (s : State). s.me) k.marked;
   ranks = ap (λ (s : State). s.ranks) k.marked;
   log = ap (λ (s : State). s.log) k.marked;
-  sound = k.keeps;
+  sound = λ h. (leaves-by h inside k).keeps h;
 }
 
 from-push : (s : ℕ) (xs : List (WorldRank × Item)) (source : WorldRank) (item : Item) → items_from s (xs ++ (source, item) ∷ []) ≡ items_from s xs ++ cond (eqb source.number s) (item ∷ []) []
@@ -44,15 +45,16 @@ pushed_on : (w : World) (s d a b : ℕ) (sender : WorldRank) (item : Item) {afte
 pushed_on w s d a b sender item {after} h inside_s inside_d is_sender leaves i j =
     let p = with_rank (player_at w s) after in
     let xs = inbox_at w d ++ (sender, item) ∷ [] in
+    let towards : d < (rank_at w s).ranks = omega (arith, h.counted s inside_s, inside_d) in
     let logs : (player_in (set w.players s p) b).rank.log ≡ (rank_at w b).log =
-    (each_player w.players s p (λ (x y : Player). Pushed x.rank y.rank) inside_s (pushed-leaves leaves) (λ x k. pushed-same (rank_at w x)) b j).log in
+    (each_player w.players s p (λ (x y : Player). Pushed x.rank y.rank) inside_s (pushed-leaves towards leaves) (λ x k. pushed-same (rank_at w x)) b j).log in
     let was = h.passed_on a b i j in
     let many : d < length w.inboxes = omega (arith, inside_d, h.as_many) in
     elim (cases_eq a s) [
       | inl from_s ↦ elim (cases_eq b d) [
         | inl to_d ↦
             flow_at a b (player-same w.players s a p from_s inside_s) logs (inbox-same w.inboxes d b xs to_d many)
-            (ap (went_out after) to_d ∙ leaves.out
+            (ap (went_out after) to_d ∙ (leaves-by (h.sound s inside_s) towards leaves).out
             ∙ ap (λ i. went_out (rank_at w i) d ++ item ∷ []) (sym from_s)
             ∙ ap (λ i. went_out (rank_at w a) i ++ item ∷ []) (sym to_d)
             ∙ ap (λ (ys : List Item). ys ++ item ∷ []) was
@@ -87,7 +89,7 @@ keeps-pushes w s d h t =
     let l = length-set w.players s p in
     let m = length-set w.inboxes d xs in
     let all : (x : ℕ) → x < length w.players → Pushed (rank_at w x) (player_in (set w.players s p) x).rank =
-    each_player w.players s p (λ (a b : Player). Pushed a.rank b.rank) t.inside_s (pushed-leaves t.leaves) (λ x k. pushed-same (rank_at w x)) in
+    each_player w.players s p (λ (a b : Player). Pushed a.rank b.rank) t.inside_s (pushed-leaves (omega (arith, h.counted s t.inside_s, t.inside_d)) t.leaves) (λ x k. pushed-same (rank_at w x)) in
     rw t.only (record {
       small = omega (arith, h.small, l);
       as_many = m ∙ h.as_many ∙ sym l;

@@ -1,6 +1,6 @@
 -- The reports of a replay are lawful.
 use Rattle.std.proofs.Common.{◌≡◌, ℕ, ◌<◌, true, List, [], length, refl, ap, sym, subst, ◌∙◌, arith, Option, Some, None, is_some}
-use Rattle.ulfm_world.proofs.Common.{Topic, Decision, is_member, at, Entry, Adopted, Report, World, player_at, rank_at, report_of, reports_in, IsWorld, same_Some, slice_get_within, get_or_from_slice_get, Known, IsTrueOf, AdoptsTruly, Seen, IsJob, known_for, IsStuck, IsUnderway, AllHaveFinished, AreProduced, IsLawful, PerInbox}
+use Rattle.ulfm_world.proofs.Common.{Topic, Decision, is_member, at, Entry, Adopted, Report, World, player_at, rank_at, report_of, reports_in, IsWorld, same_Some, slice_get_within, get_or_from_slice_get, Known, IsTrueOf, AdoptsTruly, JobView, IsJob, known_for, IsStuck, IsUnderway, AllHaveFinished, AreProduced, IsLawful, PerInbox}
 use Rattle.ulfm_board.specs.Known.{BothAgree, known_at}
 use Rattle.ulfm_match.proofs.Exists.{some_pairing}
 use Rattle.ulfm_rank.specs.History.{history_of}
@@ -25,7 +25,7 @@ both_agree None b c f g = tt
 both_agree (Some d) None c f g = tt
 both_agree (Some d) (Some e) c f g = same_Some e d (sym (g e refl) ∙ f d refl)
 
-module _ (j : Seen) (w : World) (job : IsJob j) (came : IsUnderway j w) (stuck : (r : ℕ) → r < length w.players → IsStuck j w r) where
+module _ (j : JobView) (w : World) (job : IsJob j) (came : IsUnderway j w) (stuck : (r : ℕ) → r < length w.players → IsStuck j w r) where
   world : IsWorld w
   world = world-reached j.ranks (PerInbox j.capacity) w job.few_ranks came.reaches
 

@@ -1,20 +1,20 @@
 -- The measure of a world after a change of one player or of one inbox.
 use Rattle.std.proofs.Common.{◌≡◌, ◌≢◌, ℕ, ◌+◌, ◌*◌, ◌<◌, List, [], length, set, get_or, refl, ap, ◌∙◌, arith, length-set, get_or-set_other}
 use Rattle.ulfm_world.specs.inside.Rounds.{fresh_of}
-use Rattle.ulfm_world.proofs.Common.{WorldRank, Item, Player, Seen, script_at, World, player_in, player_at, inbox_at, with_player, sum_below, out_at, weight_of, inbox_weight, measure, State, outbox, mark_at, marked, no_mark, GoesOut}
+use Rattle.ulfm_world.proofs.Common.{WorldRank, Item, Player, JobView, script_at, World, player_in, player_at, inbox_at, with_player, sum_below, out_at, weight_of, inbox_weight, measure, State, outbox, mark_at, marked, no_mark, GoesOut}
 use Rattle.ulfm_world.proofs.Sums.{sum-at}
 use Rattle.ulfm_world.proofs.Changed.{player-same, player-other, inbox-same, inbox-other}
 
 -- the players' part of a measure of n ranks
-abbrev pub players_part : Seen → ℕ → World → ℕ
+abbrev pub players_part : JobView → ℕ → World → ℕ
 players_part j n w = sum_below n (λ x. weight_of (script_at j x) j.turns n (player_at w x))
 
 -- the measure of a world of n ranks
-pub measure-at : (j : Seen) (n : ℕ) (w : World) → length w.players ≡ n → measure j w ≡ players_part j n w + sum_below n (inbox_weight w)
+pub measure-at : (j : JobView) (n : ℕ) (w : World) → length w.players ≡ n → measure j w ≡ players_part j n w + sum_below n (inbox_weight w)
 measure-at j n w e = ap (λ m. sum_below m (λ x. weight_of (script_at j x) j.turns m (player_at w x)) + sum_below m (inbox_weight w)) e
 
 -- a change of one player, whatever the inboxes are
-pub players_part-set : (j : Seen) (n : ℕ) (w : World) (r : ℕ) (p : Player) → n ≡ length w.players → r < n →
+pub players_part-set : (j : JobView) (n : ℕ) (w : World) (r : ℕ) (p : Player) → n ≡ length w.players → r < n →
     players_part j n (with_player w r p) + weight_of (script_at j r) j.turns n (player_at w r) ≡ players_part j n w + weight_of (script_at j r) j.turns n p
 players_part-set j n w r p size inside =
     let W : ℕ → Player → ℕ = λ (x : ℕ) (q : Player). weight_of (script_at j x) j.turns n q in
@@ -30,7 +30,7 @@ inboxes_part-set n w w' d items size inside is =
     ∙ ap (λ (ys : List (WorldRank × Item)). sum_below n (inbox_weight w) + length ys) (at d ∙ inbox-same w.inboxes d d items refl (omega (arith, inside, size)))
 
 -- a player that gets lighter makes the world lighter
-pub measure-player : (j : Seen) (w : World) (r : ℕ) (p : Player) → r < length w.players → weight_of (script_at j r) j.turns (length w.players) p < weight_of (script_at j r) j.turns (length w.players) (player_at w r) → measure j (with_player w r p) < measure j w
+pub measure-player : (j : JobView) (w : World) (r : ℕ) (p : Player) → r < length w.players → weight_of (script_at j r) j.turns (length w.players) p < weight_of (script_at j r) j.turns (length w.players) (player_at w r) → measure j (with_player w r p) < measure j w
 measure-player j w r p inside lighter =
     let n = length w.players in
     omega (arith, measure-at j n (with_player w r p) (length-set w.players r p), measure-at j n w refl, players_part-set j n w r p refl inside, lighter)

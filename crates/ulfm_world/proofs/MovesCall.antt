@@ -1,6 +1,6 @@
 -- What a poll moves, and a step that is given up or skipped.
 use Rattle.std.proofs.Common.{◌≡◌, ℕ, ◌<◌, ◌≤◌, true, false, cond, List, [], ◌∷◌, length, set, refl, ap, sym, subst, ◌∙◌, arith, inl, inr, ◌⊎◌, length-set, Option, Some, None, is_none, set-set}
-use Rattle.ulfm_world.proofs.Common.{Context, Decision, Step, Call, Decide, Leave, Skip, IsWorld, is_stopped, false≢true, cases_eq, World, player_in, player_at, with_players, with_player, with_decided, Happens, Reaches, IsRunning, Player, GivesUpStep, Seen, IsJob, script_at, AllAnswersFollowSoFar, Follows, Moves, weight_of, GoesThrough, is_played, ready-decided, advance-decided, IsState, Answered, NotYet, IsUndecided}
+use Rattle.ulfm_world.proofs.Common.{Context, Decision, Step, Call, Decide, Leave, Skip, IsWorld, is_stopped, false≢true, cases_eq, World, player_in, player_at, with_players, with_player, with_decided, Happens, Reaches, IsRunning, Player, GivesUpStep, JobView, IsJob, script_at, AllAnswersFollowSoFar, Follows, Moves, weight_of, GoesThrough, is_played, ready-decided, advance-decided, IsState, Answered, NotYet, IsUndecided}
 use Rattle.ulfm_world.specs.declared.event.Outcome.{Outcome}
 use Rattle.ulfm_world.proofs.Changed.{player-same, player-other}
 use Rattle.ulfm_script.proofs.Advance.{Ready, Advances, advance-called, advance-left, advance-skipped}
@@ -16,7 +16,7 @@ pub weight-advances : {script : List Step} {turns n : ℕ} {old : Player} (new :
 weight-advances {n} {old} new sound size running a = omega (arith, a.falls, adds_weight n sound size running a.adds)
 
 -- what a player moves, the world moves, whatever is decided then
-pub moves-player : (j : Seen) (w : World) (r : ℕ) {p : Player} (decided : List (Option Decision)) → r < length w.players → IsWorld w → IsRunning w r → Follows j w → Advances (script_at j r) j.turns (player_at w r) p → GoesThrough j r p → (AllAnswersFollowSoFar w → AllAnswersFollowSoFar (with_decided (with_player w r p) decided)) → Reaches w (with_decided (with_player w r p) decided) → Moves j w (with_decided (with_player w r p) decided) true
+pub moves-player : (j : JobView) (w : World) (r : ℕ) {p : Player} (decided : List (Option Decision)) → r < length w.players → IsWorld w → IsRunning w r → Follows j w → Advances (script_at j r) j.turns (player_at w r) p → GoesThrough j r p → (AllAnswersFollowSoFar w → AllAnswersFollowSoFar (with_decided (with_player w r p) decided)) → Reaches w (with_decided (with_player w r p) decided) → Moves j w (with_decided (with_player w r p) decided) true
 moves-player j w r {p} decided i h running f a goes rightly reaches =
     let l = length-set w.players r p in
     record {
@@ -38,7 +38,7 @@ moves-player j w r {p} decided i h running f a goes rightly reaches =
         ]
 
 -- one call that is answered, or leaves the step open with polls to spare
-pub moves-call : {j : Seen} {w : World} (r : ℕ) {asked : Step} (w' : World) → IsJob j → IsWorld w → r < length w.players → Follows j w → Ready (script_at j r) j.turns (player_at w r) asked → is_played j.conditions r (player_at w r).done ≡ true → IsUndecided (player_at w r) → Happens w (Call r asked) w' → ((player_at w' r).current ≡ None) ⊎ ((player_at w' r).polls < j.turns) → Moves j w w' true
+pub moves-call : {j : JobView} {w : World} (r : ℕ) {asked : Step} (w' : World) → IsJob j → IsWorld w → r < length w.players → Follows j w → Ready (script_at j r) j.turns (player_at w r) asked → is_played j.conditions r (player_at w r).done ≡ true → IsUndecided (player_at w r) → Happens w (Call r asked) w' → ((player_at w' r).current ≡ None) ⊎ ((player_at w' r).polls < j.turns) → Moves j w w' true
 moves-call {j} {w} r {asked} w' job h i f ready played undecided t few =
     let c = t.1 in
     let made = with_player w r c.after in
@@ -54,7 +54,7 @@ none_open None e f = refl
 none_open (Some asked) e f = absurd (cc)
 
 -- one call that leaves its step open, which is then given up
-pub moves-leave : {j : Seen} {w : World} (r : ℕ) {asked : Step} (mid w' : World) → IsJob j → IsWorld w → r < length w.players → Follows j w → Ready (script_at j r) j.turns (player_at w r) asked → is_played j.conditions r (player_at w r).done ≡ true → IsUndecided (player_at w r) → Happens w (Call r asked) mid → Happens mid (Leave r) w' → j.turns ≤ (player_at mid r).polls → Moves j w w' true
+pub moves-leave : {j : JobView} {w : World} (r : ℕ) {asked : Step} (mid w' : World) → IsJob j → IsWorld w → r < length w.players → Follows j w → Ready (script_at j r) j.turns (player_at w r) asked → is_played j.conditions r (player_at w r).done ≡ true → IsUndecided (player_at w r) → Happens w (Call r asked) mid → Happens mid (Leave r) w' → j.turns ≤ (player_at mid r).polls → Moves j w w' true
 moves-leave {j} {w} r {asked} mid w' job h i f ready played undecided t u last =
     let c = t.1 in let g = u.1 in
     let mid_is : mid ≡ with_player w r c.after = t.2 ∙ ap (with_players w) c.only in
@@ -70,7 +70,7 @@ moves-leave {j} {w} r {asked} mid w' job h i f ready played undecided t u last =
     rw is (moves-player j w r w.decided i h ready.running f a (goes-spent a.follows (f r i) played c.called left) (λ right. rw is at (rightly-leaves mid r w' u (rightly-calls j w r mid f ready.next undecided t right))) (subst (λ (x : World). Reaches w x) is (Call r asked ∷ Leave r ∷ [], (mid, inl t, (w', inl u, refl)))))
 
 -- a step that is skipped, since it isn't to be played
-pub moves-skip : {j : Seen} {w : World} (r : ℕ) {asked : Step} (w' : World) → IsWorld w → r < length w.players → Follows j w → Ready (script_at j r) j.turns (player_at w r) asked → is_played j.conditions r (player_at w r).done ≡ false → Happens w (Skip r asked) w' → Moves j w w' true
+pub moves-skip : {j : JobView} {w : World} (r : ℕ) {asked : Step} (w' : World) → IsWorld w → r < length w.players → Follows j w → Ready (script_at j r) j.turns (player_at w r) asked → is_played j.conditions r (player_at w r).done ≡ false → Happens w (Skip r asked) w' → Moves j w w' true
 moves-skip {j} {w} r {asked} w' h i f ready idle t =
     let s = t.1 in
     let is : w' ≡ with_player w r s.after = t.2 ∙ ap (with_players w) s.only in
@@ -78,7 +78,7 @@ moves-skip {j} {w} r {asked} w' h i f ready idle t =
     rw is (moves-player j w r w.decided i h ready.running f a (goes-skipped a.follows (f r i) idle s.skipped) (λ right. rw is at (rightly-skips w r asked w' t right)) (rw is at (reaches-one w (Skip r asked) w' t)))
 
 -- a step that is decided
-pub moves-decide : (j : Seen) (w : World) (r : ℕ) (comm : Context) (w' : World) → IsWorld w → Follows j w → Happens w (Decide r comm) w' → Moves j w w' true
+pub moves-decide : (j : JobView) (w : World) (r : ℕ) (comm : Context) (w' : World) → IsWorld w → Follows j w → Happens w (Decide r comm) w' → Moves j w w' true
 moves-decide j w r comm w' h f t =
     let s = t.2 in
     let is : w' ≡ with_decided (with_player w r s.after) t.1 = t.3 ∙ ap (λ (ps : List Player). with_decided (with_players w ps) t.1) s.only in

@@ -1,6 +1,6 @@
 -- What a push and a take move.
 use Rattle.std.proofs.Common.{◌≡◌, ℕ, ◌+◌, ◌<◌, true, List, [], ◌∷◌, ◌++◌, length, set, refl, ap, sym, subst, ◌∙◌, arith, length-append, length-set, inl, inr}
-use Rattle.ulfm_world.proofs.Common.{WorldRank, Item, Took, is_stopped, State, logged, Player, with_rank, Seen, Push, Take, World, player_in, player_at, rank_at, inbox_at, with_player, with_inbox, Pushes, Takes, IsWorld, false≢true, cases_eq, Follows, Moves, GoesThrough, stopped-push, or-false}
+use Rattle.ulfm_world.proofs.Common.{WorldRank, Item, Took, is_stopped, State, logged, Player, with_rank, JobView, Push, Take, World, player_in, player_at, rank_at, inbox_at, with_player, with_inbox, Pushes, Takes, IsWorld, false≢true, cases_eq, Follows, Moves, GoesThrough, stopped-push, or-false}
 use Rattle.ulfm_script.proofs.Reacting.{goes-rank}
 use Rattle.ulfm_world.proofs.Weights.{out-took}
 use Rattle.ulfm_world.proofs.Changed.{player-same, player-other}
@@ -9,7 +9,7 @@ use Rattle.ulfm_world.proofs.Runs.{reaches-one}
 use Rattle.ulfm_world.proofs.Rightly.{rightly-pushes, rightly-takes}
 
 -- a change of one player's rank that keeps whether it stopped
-pub follows-set : (j : Seen) (w w' : World) (r : ℕ) (after : State) → r < length w.players → w'.players ≡ set w.players r (with_rank (player_at w r) after) → is_stopped after.log ≡ is_stopped (rank_at w r).log → Follows j w → Follows j w'
+pub follows-set : (j : JobView) (w w' : World) (r : ℕ) (after : State) → r < length w.players → w'.players ≡ set w.players r (with_rank (player_at w r) after) → is_stopped after.log ≡ is_stopped (rank_at w r).log → Follows j w → Follows j w'
 follows-set j w w' r after inside is stop f x k =
     let p = with_rank (player_at w r) after in
     let F : Player → Type 0 = λ (q : Player). GoesThrough j x q in
@@ -21,7 +21,7 @@ follows-set j w w' r after inside is stop f x k =
       | inr other ↦ subst F (sym (player-other w.players r x p other)) (f x (omega (arith, k, l)))
     ])
 
-pub moves-push : (j : Seen) (w : World) (s d : ℕ) {w' : World} → IsWorld w → Pushes w s d w' → Moves j w w' true
+pub moves-push : (j : JobView) (w : World) (s d : ℕ) {w' : World} → IsWorld w → Pushes w s d w' → Moves j w w' true
 moves-push j w s d h t =
     let n = length w.players in
     let p = with_rank (player_at w s) t.after in
@@ -47,7 +47,7 @@ moves-push j w s d h t =
 stopped_took : (r : State) (source : WorldRank) (item : Item) → is_stopped (logged r (Took source item)).log ≡ is_stopped r.log
 stopped_took r source item = stopped-push r.log (Took source item) ∙ or-false (is_stopped r.log)
 
-pub moves-take : (j : Seen) (w : World) (r : ℕ) (w' : World) → IsWorld w → Takes w r [] w' → Moves j w w' true
+pub moves-take : (j : JobView) (w : World) (r : ℕ) (w' : World) → IsWorld w → Takes w r [] w' → Moves j w w' true
 moves-take j w r w' h t =
     let n = length w.players in
     let after = logged (rank_at w r) (Took t.source t.item) in

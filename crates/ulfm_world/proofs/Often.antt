@@ -13,7 +13,7 @@ use Rattle.ulfm_world.proofs.Lists.{players-set, seen_player}
 use Rattle.ulfm_world.proofs.Moves.{moves-on}
 use Rattle.ulfm_world.proofs.MovesCall.{moves-call}
 use Rattle.ulfm_world.proofs.Runs.{keeps-happens, reaches-one, reaches-then}
-use Rattle.ulfm_world.proofs.Common.{Answered, awaits_decision, Call, Decision, Follows, FollowsSoFar, Happens, IsCalled, is_stopped, IsJob, IsRunning, IsUndecided, IsWorld, Item, length-map, Moves, NotYet, opens_add, outcome_of, Player, player_at, player_in, polled, PollOpens, Reaches, script_at, Seen, Step, stopped-adds, View, with_player, with_players, World, WorldRank, Room}
+use Rattle.ulfm_world.proofs.Common.{Answered, awaits_decision, Call, Decision, Follows, FollowsSoFar, Happens, IsCalled, is_stopped, IsJob, IsRunning, IsUndecided, IsWorld, Item, length-map, Moves, NotYet, opens_add, outcome_of, Player, player_at, player_in, polled, PollOpens, Reaches, script_at, JobView, Step, stopped-adds, PlayerView, with_player, with_players, World, WorldRank, Room}
 
 -- the player r after one poll in vain
 abbrev after : World → ℕ → Step → Player
@@ -47,7 +47,7 @@ often (suc n) w r asked inside running h =
     )
 
 -- the same of players with their places
-pub often_parts : (views : List View) (inboxes : List (List (WorldRank × Item))) (room : Room) (decided : List (Option Decision)) (r n : ℕ) {old : View} (new : View) (asked : Step) → r < length views → old ≡ get_or views r old → new.player ≡ polled_on old.player n → 0 < n
+pub often_parts : (views : List PlayerView) (inboxes : List (List (WorldRank × Item))) (room : Room) (decided : List (Option Decision)) (r n : ℕ) {old : PlayerView} (new : PlayerView) (asked : Step) → r < length views → old ≡ get_or views r old → new.player ≡ polled_on old.player n → 0 < n
     → IsRunning (parts views inboxes room decided) r → IsPolledInVain (player_at (parts views inboxes room decided) r) asked → CallsInVain n (parts views inboxes room decided) r asked (parts (set views r new) inboxes room decided)
 often_parts views inboxes room decided r zero new asked inside same is some running h = absurd (omega (arith, some))
 often_parts views inboxes room decided r (suc n) {old} new asked inside same is some running h =
@@ -100,7 +100,7 @@ vain-called w mid r asked happens told =
 undecided_still : (p : Player) (asked : Step) → p.current ≡ Some asked → IsUndecided p → IsUndecided (polled p asked (length p.rank.log))
 undecided_still p asked waits u comm ready = u comm (record { asked = ready.asked; waits = waits ∙ ready.waits; on = ready.on; ready = ready.ready })
 
-module _ {j : Seen} (job : IsJob j) (r : ℕ) (asked : Step) where
+module _ {j : JobView} (job : IsJob j) (r : ℕ) (asked : Step) where
   -- one poll that leaves an open step open moves on, and changes its polls alone
   moves_once : (w mid : World) → IsWorld w → r < length w.players → Follows j w → IsRunning w r → (player_at w r).current ≡ Some asked → IsUndecided (player_at w r) → (player_at w r).polls + 1 < j.turns → Happens w (Call r asked) mid → outcome_of mid (Call r asked) ≡ NotYet
       → Moves j w mid true × (player_at mid r ≡ polled (player_at w r) asked (length (player_at w r).rank.log))
@@ -132,7 +132,7 @@ module _ {j : Seen} (job : IsJob j) (r : ℕ) (asked : Step) where
   moves-many (suc n) w w' h inside f running waits undecided some spare calls = moves-often n w w' h inside f running waits undecided spare calls
 
 -- a step that was polled stands open
-pub open_now : (j : Seen) (r : ℕ) (p : Player) (asked : Step) → FollowsSoFar (script_at j r) j.turns p → slice_get (script_at j r) (length p.done) ≡ Some asked → 0 < p.polls → p.current ≡ Some asked
+pub open_now : (j : JobView) (r : ℕ) (p : Player) (asked : Step) → FollowsSoFar (script_at j r) j.turns p → slice_get (script_at j r) (length p.done) ≡ Some asked → 0 < p.polls → p.current ≡ Some asked
 open_now j r p asked f next spent = pick p.current f.current
   where
     pick : (o : Option Step) → MatchOption o (p.polls ≡ 0) (λ (s : Step). (slice_get (script_at j r) (length p.done) ≡ Some s) × (p.polls < j.turns)) → o ≡ Some asked

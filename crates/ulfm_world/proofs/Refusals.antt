@@ -1,13 +1,13 @@
 -- Why a poll of a replay can be refused.
 use Rattle.std.proofs.Common.{◌≡◌, ℕ, ◌<◌, false, length, refl, ap, sym, ◌∙◌, arith, inl, inr, length-set, Some, None, slice_get}
-use Rattle.ulfm_world.proofs.Common.{is_stopped, Step, Seen, script_at, Call, Leave, Skip, false≢true, opens_add, stopped-adds, World, player_at, with_players, with_player, Happens, IsRunning, IsRefused, Player, IsCalled, awaits_decision, Follows, is_played, next-free}
+use Rattle.ulfm_world.proofs.Common.{is_stopped, Step, JobView, script_at, Call, Leave, Skip, false≢true, opens_add, stopped-adds, World, player_at, with_players, with_player, Happens, IsRunning, IsRefused, Player, IsCalled, awaits_decision, Follows, is_played, next-free}
 use Rattle.ulfm_world.specs.declared.event.Refused.{Refused}
 use Rattle.ulfm_world.specs.declared.event.Refused.TheVariants.{NotReady, Stopped, OutOfMemory, NoSuchRank}
 use Rattle.ulfm_script.proofs.Reacting.{idle_none}
 use Rattle.ulfm_world.proofs.Changed.{player-same}
 
 -- the next step of a running player is refused by out of memory alone
-pub refused-starves : (j : Seen) (w : World) (r : ℕ) (asked : Step) (why : Refused) → r < length w.players → Follows j w → IsRunning w r → slice_get (script_at j r) (length (player_at w r).done) ≡ Some asked → IsRefused w (Call r asked) why → why ≡ OutOfMemory
+pub refused-starves : (j : JobView) (w : World) (r : ℕ) (asked : Step) (why : Refused) → r < length w.players → Follows j w → IsRunning w r → slice_get (script_at j r) (length (player_at w r).done) ≡ Some asked → IsRefused w (Call r asked) why → why ≡ OutOfMemory
 refused-starves j w r asked NoSuchRank i f running next k = absurd (omega (arith, i, k))
 refused-starves j w r asked Stopped i f running next k = absurd (false≢true (sym running ∙ k.1))
 refused-starves j w r asked NotReady i f running next k = absurd (k.1 (next-free (script_at j r) j.turns (player_at w r) asked (f r i).follows next))
@@ -15,7 +15,7 @@ refused-starves j w r asked OutOfMemory i f running next k = refl
 refused-starves j w r asked _ i f running next k = absurd k
 
 -- so is the skip of a step that isn't to be played
-pub skip-starves : (j : Seen) (w : World) (r : ℕ) (asked : Step) (why : Refused) → r < length w.players → Follows j w → IsRunning w r → is_played j.conditions r (player_at w r).done ≡ false → IsRefused w (Skip r asked) why → why ≡ OutOfMemory
+pub skip-starves : (j : JobView) (w : World) (r : ℕ) (asked : Step) (why : Refused) → r < length w.players → Follows j w → IsRunning w r → is_played j.conditions r (player_at w r).done ≡ false → IsRefused w (Skip r asked) why → why ≡ OutOfMemory
 skip-starves j w r asked NoSuchRank i f running idle k = absurd (omega (arith, i, k))
 skip-starves j w r asked Stopped i f running idle k = absurd (false≢true (sym running ∙ k.1))
 skip-starves j w r asked NotReady i f running idle k = absurd (k.1 (idle_none (f r i) idle))

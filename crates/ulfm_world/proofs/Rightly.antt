@@ -1,6 +1,6 @@
 -- Each player's answers stay right, whatever a replay does next.
 use Rattle.std.proofs.Common.{◌≡◌, ◌≢◌, ℕ, ◌<◌, List, [], length, set, refl, ap, sym, ◌∙◌, arith, inl, inr, length-set, get_or-set_same, get_or-set_other, Option, Some, None, slice_get, replicate}
-use Rattle.ulfm_world.proofs.Common.{Context, WorldRank, Item, Topic, Decision, none-some, Took, is_stopped, State, logged, Step, Seen, script_at, Player, with_rank, Call, Decide, Leave, Skip, World, player_in, player_at, rank_at, start_world, Happens, Pushes, Takes, cases_eq, Known, IsDecided, get_or-replicate, length-replicate, known_for, AllAnswersFollowSoFar, Follows, stopped-push, AnswersFollowSoFar, IsUndecided, or-false, Room}
+use Rattle.ulfm_world.proofs.Common.{Context, WorldRank, Item, Topic, Decision, none-some, Took, is_stopped, State, logged, Step, JobView, script_at, Player, with_rank, Call, Decide, Leave, Skip, World, player_in, player_at, rank_at, start_world, Happens, Pushes, Takes, cases_eq, Known, IsDecided, get_or-replicate, length-replicate, known_for, AllAnswersFollowSoFar, Follows, stopped-push, AnswersFollowSoFar, IsUndecided, or-false, Room}
 use Rattle.ulfm_board.specs.Known.{Answers as BoardAnswers, Agrees, cell_of, known_at, with_known, nothing_known}
 use Rattle.ulfm_board.proofs.Apart.{cells_apart}
 use Rattle.ulfm_board.proofs.Topics.{known_other, known_with}
@@ -43,7 +43,7 @@ rightly-takes w r passed w' t h =
     rightly-set w w' r p t.inside (ap (λ (x : World). x.players) t.only) (ap (λ (x : World). x.decided) t.only)
     (λ known q. honest-moved known (player_at w r) p q refl refl refl (stopped-push (rank_at w r).log (Took t.source t.item) ∙ or-false (is_stopped (rank_at w r).log)) (takes-one (rank_at w r).log after.log t.source t.item t.running refl)) h
 
-pub rightly-calls : (j : Seen) (w : World) (r : ℕ) {asked : Step} (w' : World) → Follows j w → slice_get (script_at j r) (length (player_at w r).done) ≡ Some asked → IsUndecided (player_at w r) → Happens w (Call r asked) w' → AllAnswersFollowSoFar w → AllAnswersFollowSoFar w'
+pub rightly-calls : (j : JobView) (w : World) (r : ℕ) {asked : Step} (w' : World) → Follows j w → slice_get (script_at j r) (length (player_at w r).done) ≡ Some asked → IsUndecided (player_at w r) → Happens w (Call r asked) w' → AllAnswersFollowSoFar w → AllAnswersFollowSoFar w'
 rightly-calls j w r {asked} w' f next undecided t h =
     let c = t.1 in
     rightly-set w w' r c.after c.inside (ap (λ (x : World). x.players) t.2 ∙ c.only) (ap (λ (x : World). x.decided) t.2)

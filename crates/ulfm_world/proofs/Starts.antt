@@ -1,6 +1,6 @@
 -- The world that starts.
 use Rattle.std.proofs.Common.{◌≡◌, ℕ, zero, suc, ◌+◌, ◌<◌, ◌≤◌, List, [], ◌∷◌, ◌++◌, length, get_or, replicate, refl, ap, sym, subst, ◌∙◌, arith, inl, inr, length-append, Option, Some, None, All}
-use Rattle.ulfm_world.proofs.Common.{WorldRank, Decision, Item, the_player, players_of, parts, IsPosted, IsWorld, items_from, cases_lt, le-ltb, lt-leb, All-nil, CallError, OutOfMemory, took, IsSigned, World, player_in, no_player, inbox_at, start_players, start_world, Player, View, start_player, length-replicate, get_or_append_left, get_or_at, map_push, IsState, went_out, no_mark, start_state, get_or-blank, Room}
+use Rattle.ulfm_world.proofs.Common.{WorldRank, Decision, Item, the_player, players_of, parts, IsPosted, IsWorld, items_from, cases_lt, le-ltb, lt-leb, All-nil, CallError, OutOfMemory, took, IsSigned, World, player_in, no_player, inbox_at, start_players, start_world, Player, PlayerView, start_player, length-replicate, get_or_append_left, get_or_at, map_push, IsState, went_out, no_mark, start_state, get_or-blank, Room}
 use Rattle.ulfm_board.specs.Known.{nothing_known}
 use Rattle.ulfm_rank.specs.Checks.{Passes, FailsOrStarves, start_checks}
 
@@ -51,7 +51,7 @@ world-start n room small = record {
 }
 
 -- what a loop over the ranks made
-pub new_world : (views : List View) {inboxes : List (List (WorldRank × Item))} {r : ℕ} (n : ℕ) (room : Room) (decided : List (Option Decision)) → players_of views ≡ start_players n r → inboxes ≡ replicate r [] → r ≡ n → decided ≡ nothing_known 0 → parts views inboxes room decided ≡ start_world n room
+pub new_world : (views : List PlayerView) {inboxes : List (List (WorldRank × Item))} {r : ℕ} (n : ℕ) (room : Room) (decided : List (Option Decision)) → players_of views ≡ start_players n r → inboxes ≡ replicate r [] → r ≡ n → decided ≡ nothing_known 0 → parts views inboxes room decided ≡ start_world n room
 new_world views {inboxes} n room decided p q e none =
     ap (λ (ps : List Player). let w : World = record { players = ps; inboxes = inboxes; room = room; decided = decided } in w) (p ∙ ap (start_players n) e)
     ∙ ap (λ (is : List (List (WorldRank × Item))). let w : World = record { players = start_players n n; inboxes = is; room = room; decided = decided } in w) (q ∙ ap (λ k. replicate k ([])) e)
@@ -73,7 +73,7 @@ replicate-push zero = refl
 replicate-push (suc n) = ap (λ (is : List (List (WorldRank × Item))). [] ∷ is) (replicate-push n)
 
 -- one rank more
-pub more_players : (views views' : List View) (v : View) (n r : ℕ) → players_of views ≡ start_players n r → views' ≡ views ++ v ∷ [] → v.player ≡ start_player r n → players_of views' ≡ start_players n (r + 1)
+pub more_players : (views views' : List PlayerView) (v : PlayerView) (n r : ℕ) → players_of views ≡ start_players n r → views' ≡ views ++ v ∷ [] → v.player ≡ start_player r n → players_of views' ≡ start_players n (r + 1)
 more_players views views' v n r were longer starts =
     let next : suc r ≡ r + 1 = omega arith in
     ap players_of longer ∙ map_push the_player views v

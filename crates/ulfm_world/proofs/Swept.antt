@@ -1,6 +1,6 @@
 -- What a sweep counts, and in which order.
 use Rattle.std.proofs.Common.{◌≡◌, ℕ, ◌+◌, ◌<◌, ◌≤◌, List, [], ◌∷◌, ◌++◌, append_assoc, length, map, get_or, All, Bool, true, false, cond, sym, ap, ◌∙◌, arith}
-use Rattle.ulfm_world.proofs.Common.{slice_get-get_or, StepAnswer, flat_map, range_with_len, sum_by, length-map, map-id, map_push, StepReport, Seen, IsJob, script_at, IsLawful, answers_of, place_of, places_in, Step}
+use Rattle.ulfm_world.proofs.Common.{slice_get-get_or, StepAnswer, flat_map, range_with_len, sum_by, length-map, map-id, map_push, StepReport, JobView, IsJob, script_at, IsLawful, answers_of, place_of, places_in, Step}
 use Rattle.std.proofs.lemmas.List.FromFn.{map-range_with_len_more}
 use Rattle.std.proofs.lemmas.List.Sums.{count_by-le-length, get_or-le-sum_by, sum_by-le, sum_by-le-sum_by}
 use Rattle.ulfm_base.specs.Lists.{at}
@@ -18,11 +18,11 @@ length-through_stop (report ∷ reports) (x ∷ xs) = one (is_played_stop report
     one true x ys zs le = omega arith
     one false x ys zs le = omega (arith, le)
 
-script_few : (j : Seen) (r : ℕ) → IsJob j → r < j.ranks → length (script_at j r) ≤ 256
+script_few : (j : JobView) (r : ℕ) → IsJob j → r < j.ranks → length (script_at j r) ≤ 256
 script_few j r is lt = let le = get_or-le-sum_by length j.scripts r [] (omega (arith, is.script_each, lt)) in omega (arith, le, is.most_steps)
 
 -- the ranks of a job answer few steps
-pub steps_few : (j : Seen) (reports : List Report) → IsJob j → IsLawful j reports → sum_by (λ (report : Report). length report.steps) reports ≤ 65535
+pub steps_few : (j : JobView) (reports : List Report) → IsJob j → IsLawful j reports → sum_by (λ (report : Report). length report.steps) reports ≤ 65535
 steps_few j reports is h =
     let each : All (λ (report : Report). length report.steps ≤ 256) reports = λ k d lt. few k (get_or reports k d) lt (slice_get-get_or reports k d lt) in
     let most = sum_by-le (λ (report : Report). length report.steps) 256 reports each in
@@ -35,7 +35,7 @@ steps_few j reports is h =
         omega (arith, same, length-through_stop report.steps (script_at j k), script_few j k is (omega (arith, h.lawful.each, lt)))
 
 -- the places of one more rank
-pub next_rank : (j : Seen) (n : ℕ) → flat_map (places_in j) (range_with_len 0 (n + 1)) ≡ flat_map (places_in j) (range_with_len 0 n) ++ places_in j n
+pub next_rank : (j : JobView) (n : ℕ) → flat_map (places_in j) (range_with_len 0 (n + 1)) ≡ flat_map (places_in j) (range_with_len 0 n) ++ places_in j n
 next_rank j n =
     let more : range_with_len 0 (n + 1) ≡ range_with_len 0 n ++ n ∷ [] = sym (map-id _) ∙ map-range_with_len_more (λ k. k) 0 n n (omega arith) ∙ ap (λ (ks : List ℕ). ks ++ n ∷ []) (map-id _) in
     ap (flat_map (places_in j)) more ∙ flat-push (places_in j) (range_with_len 0 n) n

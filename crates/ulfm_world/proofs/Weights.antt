@@ -19,9 +19,9 @@ outbox_more r e d h inside running = elim (cases_Bool (is_stop e)) [
       rw stops (omega (arith, after_stop (eqb r.me d) (mark_at r d).notice_out))
   | inr go ↦
       let runs : is_stopped (r.log ++ e ∷ []) ≡ false = stopped-push r.log e ∙ ap (λ b. b || is_stop e) running ∙ go in
-      let more : drop (mark_at r d).items_out (owes (logged r e) d) ≡ drop (mark_at r d).items_out (owes r d) ++ owed_by r.ranks r.me d r.log (owes r d) e =
-      ap (drop (mark_at r d).items_out) (owes-logged r e d) ∙ drop-append-le (mark_at r d).items_out (owes r d) (owed_by r.ranks r.me d r.log (owes r d) e) (h.within d inside) in
-      rw (runs, running) (omega (arith, ap (λ (xs : List Item). length xs) more, length-append (drop (mark_at r d).items_out (owes r d)) (owed_by r.ranks r.me d r.log (owes r d) e), owed_by_few r.ranks r.me d r.log (owes r d) e))
+      let more : drop (mark_at r d).items_out (owes (logged r e) d) ≡ drop (mark_at r d).items_out (owes r d) ++ owed_by r.ranks r.me d r.log e =
+      ap (drop (mark_at r d).items_out) (owes-logged r e d) ∙ drop-append-le (mark_at r d).items_out (owes r d) (owed_by r.ranks r.me d r.log e) (h.within d inside) in
+      rw (runs, running) (omega (arith, ap (λ (xs : List Item). length xs) more, length-append (drop (mark_at r d).items_out (owes r d)) (owed_by r.ranks r.me d r.log e), owed_by_few r.ranks r.me d r.log e))
 ]
 
 out-logged : (n : ℕ) (r : State) (e : Entry) → IsState r → n ≡ r.ranks → is_stopped r.log ≡ false → out_at n (logged r e) ≤ out_at n r + 16
@@ -48,7 +48,7 @@ fresh_falls r e c inside fresh now =
     sum-falls 63 c 17 (fresh_at (logged r e)) (fresh_at r) inside (λ x k. fresh_more r e x) (rw (revoked, fresh) (omega arith))
 
 -- an entry that owes nothing
-out_same : (n : ℕ) (r : State) (e : Entry) → is_stop e ≡ false → ((d : ℕ) → owed_by r.ranks r.me d r.log (owes r d) e ≡ []) → out_at n (logged r e) ≤ out_at n r
+out_same : (n : ℕ) (r : State) (e : Entry) → is_stop e ≡ false → ((d : ℕ) → owed_by r.ranks r.me d r.log e ≡ []) → out_at n (logged r e) ≤ out_at n r
 out_same n r e go none =
     sum-le n (λ d. 2 * length (outbox (logged r e) d)) (λ d. 2 * length (outbox r d))
     (λ d k.
@@ -56,7 +56,7 @@ out_same n r e go none =
     let same : owes (logged r e) d ≡ owes r d = owes-logged r e d ∙ ap (λ (xs : List Item). owes r d ++ xs) (none d) ∙ append-nil (owes r d) in
     rw (stop, same) (omega arith))
 
-took_light : (n : ℕ) (r : State) (source : WorldRank) (item : Item) → ((d : ℕ) → owed_by r.ranks r.me d r.log (owes r d) (Took source item) ≡ []) → out_at n (logged r (Took source item)) + fresh_of (logged r (Took source item)) ≤ out_at n r + fresh_of r
+took_light : (n : ℕ) (r : State) (source : WorldRank) (item : Item) → ((d : ℕ) → owed_by r.ranks r.me d r.log (Took source item) ≡ []) → out_at n (logged r (Took source item)) + fresh_of (logged r (Took source item)) ≤ out_at n r + fresh_of r
 took_light n r source item none = omega (arith, out_same n r (Took source item) refl none, fresh-logged r (Took source item))
 
 took_revoke : (b : Bool) (n : ℕ) (r : State) (source : WorldRank) (context : Context) → IsState r → n ≡ r.ranks → is_stopped r.log ≡ false → is_revoked r.log context.number ≡ b → out_at n (logged r (Took source (Revoke context))) + fresh_of (logged r (Took source (Revoke context))) ≤ out_at n r + fresh_of r

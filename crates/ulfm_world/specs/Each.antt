@@ -1,6 +1,6 @@
 -- What holds of reports in every schedule.
 use Rattle.std.specs.Prelude.{ℕ, ◌≤◌, List}
-use Rattle.ulfm_job.specs.Job.{Seen, IsJob}
+use Rattle.ulfm_job.specs.Job.{JobView, IsJob}
 use Rattle.ulfm_script.specs.Report.{Report}
 use Rattle.ulfm_world.specs.declared.room.Room.{Room}
 use Rattle.ulfm_world.specs.Replay.{IsReplayed}
@@ -12,4 +12,4 @@ InEachWorld P = (n : ℕ) (room : Room) (w : World) → n ≤ 8 → Reaches (sta
 
 -- P holds of all reports that a replay of a job may give
 abbrev pub InEachReplay : (List Report → Type 0) → Type 0
-InEachReplay P = (j : Seen) (reports : List Report) → IsJob j → IsReplayed j reports → P reports
+InEachReplay P = (j : JobView) (reports : List Report) → IsJob j → IsReplayed j reports → P reports

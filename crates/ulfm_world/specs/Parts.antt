@@ -4,7 +4,7 @@ use Rattle.ulfm_base.specs.declared.rank.WorldRank.{WorldRank}
 use Rattle.ulfm_base.specs.declared.decision.Decision.{Decision}
 use Rattle.ulfm_base.specs.declared.item.Item.{Item}
 use Rattle.ulfm_base.specs.Items.{items_from}
-use Rattle.ulfm_script.specs.Player.{Player, View}
+use Rattle.ulfm_script.specs.Player.{Player, PlayerView}
 use Rattle.ulfm_world.specs.declared.event.Refused.{Refused}
 use Rattle.ulfm_world.specs.declared.event.Refused.TheVariants.{InboxFull, OutOfMemory}
 use Rattle.ulfm_world.specs.declared.room.Room.{Room}
@@ -12,15 +12,15 @@ use Rattle.ulfm_world.specs.Room.{HasRoom, IsFull}
 use Rattle.ulfm_world.specs.World.{World}
 
 -- a player without its places
-abbrev pub the_player : View → Player
+abbrev pub the_player : PlayerView → Player
 the_player v = v.player
 
 -- players without their places
-abbrev pub players_of : List View → List Player
+abbrev pub players_of : List PlayerView → List Player
 players_of views = map the_player views
 
 -- the world of these parts
-abbrev pub parts : List View → List (List (WorldRank × Item)) → Room → List (Option Decision) → World
+abbrev pub parts : List PlayerView → List (List (WorldRank × Item)) → Room → List (Option Decision) → World
 parts views inboxes room decided = record { players = players_of views; inboxes = inboxes; room = room; decided = decided }
 
 -- why an inbox takes no further item of s

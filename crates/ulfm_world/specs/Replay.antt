@@ -2,7 +2,7 @@
 use Rattle.std.specs.Prelude.{◌≡◌, ℕ, List, ◌<◌, length}
 use Rattle.ulfm_script.specs.Report.{Report}
 use Rattle.ulfm_script.specs.Script.{HasFinished}
-use Rattle.ulfm_job.specs.Job.{Seen}
+use Rattle.ulfm_job.specs.Job.{JobView}
 use Rattle.ulfm_world.specs.declared.room.Room.TheVariants.{PerInbox}
 use Rattle.ulfm_world.specs.World.{World, player_at, Reaches, start_world, reports_in}
 use Rattle.ulfm_laws.specs.Lawful.{KnowAtRest}
@@ -11,11 +11,11 @@ use Rattle.ulfm_world.specs.Made.{MadeSafely}
 use Rattle.ulfm_world.specs.Safe.{KeepsDecisions}
 
 -- each player answered its script
-abbrev pub AllHaveFinished : Seen → World → Type 0
+abbrev pub AllHaveFinished : JobView → World → Type 0
 AllHaveFinished j w = (r : ℕ) → r < length w.players → HasFinished j r (player_at w r)
 
 -- The reports of a world at rest, to which some schedule of the job's ranks and inboxes leads, in which each answered its script.
-pub record IsReplayed (j : Seen) (reports : List Report) : Type 0 where
+pub record IsReplayed (j : JobView) (reports : List Report) : Type 0 where
   pub world : World
   pub reaches : Reaches (start_world j.ranks (PerInbox j.capacity)) world
   pub rests : IsAtRest world
@@ -26,7 +26,7 @@ pub record IsReplayed (j : Seen) (reports : List Report) : Type 0 where
 -- agree on revocations, and running members of a communicator whose shrink all of them entered have proposals; and since a
 -- decision is seen when it is made: in the world that it ended in shrinks were safe, and each decision held there was safe when its
 -- schedule made it. A run of threads may end before rest, and shows its decisions in reports alone.
-pub record MadeAtRest (j : Seen) (reports : List Report) : Type 0 where
+pub record MadeAtRest (j : JobView) (reports : List Report) : Type 0 where
   pub replayed : IsReplayed j reports
   pub known : KnowAtRest reports
   pub safe : KeepsDecisions replayed.world

@@ -2,7 +2,7 @@
 use Rattle.std.specs.Prelude.{◌≡◌, ◌⊎◌, ℕ, ◌+◌, Bool, true, false, List, length, map, sum_by}
 use Rattle.std.specs.List.{count_by, flat_map, range_with_len}
 use Rattle.ulfm_job.specs.declared.fault.JobFault.TheVariants as refused
-use Rattle.ulfm_job.specs.Job.{Seen, script_at, with_stop}
+use Rattle.ulfm_job.specs.Job.{JobView, script_at, with_stop}
 use Rattle.ulfm_script.specs.declared.answer.StepAnswer.{StepAnswer}
 use Rattle.ulfm_script.specs.declared.answer.StepAnswer.TheVariants.{Done, Over, Pending, Refused}
 use Rattle.ulfm_script.specs.declared.answer.StepReport.{StepReport}
@@ -51,11 +51,11 @@ line_of r at reports = record {
 }
 
 -- the places of a stop in the script of the rank r: before each of its steps, and after the last one
-abbrev pub places_in : Seen → ℕ → List (ℕ × ℕ)
+abbrev pub places_in : JobView → ℕ → List (ℕ × ℕ)
 places_in j r = map (λ at. (r, at)) (range_with_len 0 (length (script_at j r) + 1))
 
 -- those of each rank, in the order of the ranks
-abbrev pub places_of : Seen → List (ℕ × ℕ)
+abbrev pub places_of : JobView → List (ℕ × ℕ)
 places_of j = flat_map (places_in j) (range_with_len 0 j.ranks)
 
 -- the place of a line's stop
@@ -63,7 +63,7 @@ abbrev pub place_of : SweepLine → ℕ × ℕ
 place_of line = (line.rank, line.at)
 
 -- a line counts the answers in reports that a replay of the job with its stop gives
-pub record IsSwept (j : Seen) (line : SweepLine) : Type 0 where
+pub record IsSwept (j : JobView) (line : SweepLine) : Type 0 where
   pub reports : List Report
   pub replayed : IsReplayed (with_stop line.rank line.at j) reports
   pub lawful : IsLawful (with_stop line.rank line.at j) reports

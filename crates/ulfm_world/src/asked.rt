@@ -11,9 +11,9 @@ pub struct Asked<'a> {
 }
 
 impl<'a> Model for Asked<'a> {
-    ghost use Rattle.ulfm_job.specs.declared.step.Step.{Step as Seen};
+    ghost use Rattle.ulfm_job.specs.declared.step.Step.{Step as SeenStep};
 
-    ghost Value = { Seen };
+    ghost Value = { SeenStep };
 
     ghost view = { λ a. a.step.now };
 }

@@ -80,7 +80,7 @@ impl Rounds<'_> {
 impl Hands for Rounds<'_> {
     ghost use Rattle.std.specs.Prelude.{◌≡◌, ◌<◌, ◌≤◌, ℕ, length, true, false};
     ghost use Rattle.std.proofs.Common.{refl, sym, subst, ◌∙◌};
-    ghost use Rattle.ulfm_job.specs.Job.{Seen, script_at};
+    ghost use Rattle.ulfm_job.specs.Job.{JobView, script_at};
     ghost use Rattle.ulfm_world.specs.World.{World as SeenWorld, IsRunning, player_at};
     ghost use Rattle.ulfm_world.specs.inside.Rounds.{Moves, Follows, IsStuckAt, measure};
     ghost use Rattle.ulfm_world.specs.inside.Turns.{Onward, onward-none, onward-on, onward-not};
@@ -103,11 +103,11 @@ impl Hands for Rounds<'_> {
 
     ghost none = { λ t f. (refl, refl, onward-none t.job.now t.world) };
 
-    ghost more = { λ a b c m h k. (k.0 ∙ h.0, k.1 ∙ h.1, onward-on a.job.now m a.world b.world c.world h.2 (subst (λ (j : Seen). Onward j b.world c.world true) h.1 k.2)) };
+    ghost more = { λ a b c m h k. (k.0 ∙ h.0, k.1 ∙ h.1, onward-on a.job.now m a.world b.world c.world h.2 (subst (λ (j : JobView). Onward j b.world c.world true) h.1 k.2)) };
 
-    ghost same = { λ a b c m h k. (k.0 ∙ h.0, k.1 ∙ h.1, onward-not a.job.now m a.world b.world c.world h.2 (subst (λ (j : Seen). Onward j b.world c.world false) h.1 k.2)) };
+    ghost same = { λ a b c m h k. (k.0 ∙ h.0, k.1 ∙ h.1, onward-not a.job.now m a.world b.world c.world h.2 (subst (λ (j : JobView). Onward j b.world c.world false) h.1 k.2)) };
 
-    ghost keeps = { λ a b m f h. (subst (λ n. n < length b.world.players) (sym h.0) (subst (λ n. a.rank < n) (sym h.2.size) f.0), subst (λ (j : Seen). j.ranks ≡ length b.world.players) (sym h.1) (f.1 ∙ sym h.2.size), subst (λ (j : Seen). Follows j b.world) (sym h.1) (h.2.follows f.2)) };
+    ghost keeps = { λ a b m f h. (subst (λ n. n < length b.world.players) (sym h.0) (subst (λ n. a.rank < n) (sym h.2.size) f.0), subst (λ (j : JobView). j.ranks ≡ length b.world.players) (sym h.1) (f.1 ∙ sym h.2.size), subst (λ (j : JobView). Follows j b.world) (sym h.1) (h.2.follows f.2)) };
 
     ghost sized = { λ a b m h. h.2.size };
 

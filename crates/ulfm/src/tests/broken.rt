@@ -1,6 +1,6 @@
 //! A job's text that breaks off anywhere, and an output that fails with an error.
 
-use crate::front::run_on;
+use crate::app::run_on;
 use std::io;
 use std::io::{ErrorKind, Write};
 

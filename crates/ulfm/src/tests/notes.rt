@@ -1,7 +1,7 @@
 //! What standard error gets beside a reply.
 
 use super::Kept;
-use crate::front::run_on;
+use crate::app::run_on;
 use std::alloc::{AllocError, Global};
 use std::sync::Wait;
 use std::test::Fail;

@@ -1,7 +1,7 @@
 //! Beginnings of a job's text. Jobs that are refused stand in `tools/bad-jobs` and `tools/check-schema`.
 
 use super::Kept;
-use crate::front::run_on;
+use crate::app::run_on;
 use std::io;
 use std::sync::Wait;
 use std::thread::Threads;

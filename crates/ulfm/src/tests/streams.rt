@@ -2,7 +2,7 @@
 //! followed.
 
 use super::{Kept, is_reply, reply};
-use crate::front::run_on;
+use crate::app::run_on;
 use std::alloc::{AllocError, Global};
 use std::io;
 use std::io::{ErrorKind, Read, Write};

@@ -1,7 +1,7 @@
 //! The command `sweep`: its lines, and jobs that it refuses.
 
 use super::{Kept, is_reply, reply};
-use crate::front::run_on;
+use crate::app::run_on;
 use std::alloc::{AllocError, Global};
 use std::io;
 use std::test::Fail;

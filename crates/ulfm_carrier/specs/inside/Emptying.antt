@@ -1,7 +1,7 @@
 -- Ends of shared inboxes while they are gathered.
 use Rattle.std.specs.Prelude.{◌≡◌, ℕ, ◌<◌, List, length, ◌≤◌}
 use Rattle.ulfm_base.specs.declared.item.Item.{Item}
-use Rattle.ulfm_carrier.specs.declared.inbox.View.{View}
+use Rattle.ulfm_carrier.specs.declared.inbox.PassView.{PassView}
 use Rattle.ulfm_base.specs.Items.{items_from}
 use Rattle.ulfm_base.specs.Lists.{at}
 use Rattle.ulfm_carrier.specs.Inbox.{Signed, InboxPass}
@@ -11,11 +11,11 @@ use Rattle.ulfm_carrier.specs.declared.shared_ends.SharedEnds.{SharedEnds}
 use Rattle.ulfm_carrier.specs.Shared.{IsReady, MaySend, MayReceive, HasPasses}
 
 -- all that closed senders pushed was taken
-abbrev pub ReceiptsAreTaken : View → Type 0
+abbrev pub ReceiptsAreTaken : PassView → Type 0
 ReceiptsAreTaken v = (k p : ℕ) (l : List Item) → at v.receipts k (p, l) → l ≡ items_from p v.taken
 
 -- the receiver was told of each sender that was made, in their order
-abbrev pub HasAllReceipts : View → Type 0
+abbrev pub HasAllReceipts : PassView → Type 0
 HasAllReceipts v = (length v.receipts ≡ v.made) × ((k : ℕ) (x : ℕ × List Item) → at v.receipts k x → x.0 ≡ k)
 
 -- the senders of these items have numbers below n

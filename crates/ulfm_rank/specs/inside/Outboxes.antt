@@ -62,9 +62,9 @@ abbrev pub with_notice_out : Box → Bool → Box
 with_notice_out b notice_out = record { items = b.items; items_out = b.items_out; notice_out = notice_out }
 
 -- the item that brings this word
-abbrev pub item_of : Word → Item
-item_of (WordOfRevoke context) = Revoke context
-item_of (WordOfEnter entrance) = Enter entrance
+abbrev pub item_of_word : Word → Item
+item_of_word (WordOfRevoke context) = Revoke context
+item_of_word (WordOfEnter entrance) = Enter entrance
 
 -- an item for each rank of which the test holds
 abbrev pub for_each : (ℕ → Bool) → Item → ℕ → List Item

@@ -9,7 +9,7 @@ use Rattle.ulfm_rank.specs.declared.rank.Rank.TheInside.{Inside}
 use Rattle.ulfm_rank.specs.inside.Fields.{HasCommunicators, HasFaults}
 use Rattle.ulfm_rank.specs.Facts.{is_stopped}
 use Rattle.ulfm_rank.specs.inside.Outboxes.{Box, mark_of, HasOutboxes}
-use Rattle.ulfm_rank.specs.State.{State, View}
+use Rattle.ulfm_rank.specs.State.{State, RankView}
 use Rattle.ulfm_rank.specs.Standing.{IsInStep}
 
 -- how many places of the log are kept for the stop
@@ -44,5 +44,5 @@ abbrev pub has_place : Inside → Bool
 has_place a = nat_lt (index_map_len a.requests) (index_map_len a.requests + spare a.requests)
 
 -- what contracts see of the fields of a rank
-abbrev pub view_of : Inside → View
+abbrev pub view_of : Inside → RankView
 view_of a = record { state = state_of a; prepared = is_prepared a; has_place = has_place a }

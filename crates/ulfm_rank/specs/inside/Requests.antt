@@ -5,7 +5,7 @@ use Rattle.ulfm_base.specs.declared.envelope.Letter.{Letter}
 use Rattle.ulfm_base.specs.declared.item.Item.{Item}
 use Rattle.ulfm_base.specs.declared.item.Item.TheVariants.{Letter as Mail}
 use Rattle.ulfm_base.specs.declared.pattern.Pattern.{Pattern}
-use Rattle.ulfm_match.specs.History.{Event, Come, Clear, count_before}
+use Rattle.ulfm_match.specs.History.{MatchEvent, Come, Clear, count_before}
 use Rattle.ulfm_match.specs.Pairing.{Pairing}
 use Rattle.ulfm_match.specs.State.{Matching, is_cleared, Tracks}
 use Rattle.ulfm_rank.specs.declared.entry.Entry.{Entry}
@@ -33,7 +33,7 @@ Changes change find find' = (k : ℕ) → find' k ≡ option_map (change k) (fin
 -- a receive was posted
 abbrev pub TracksAdmit : Bool → Pattern → Matching → Fate → Matching → Type 0
 TracksAdmit gone pattern old fate new =
-    (history : List Event) (pairing : Pairing) → Tracks history pairing old →
+    (history : List MatchEvent) (pairing : Pairing) → Tracks history pairing old →
     (pairing' : Pairing) × Tracks (history ++ post_events gone history pattern) pairing' new
     × ((n : ℕ) (entries : List Entry) (find find' : ℕ → Option Request) → IsOfGroup n entries pattern → IsTable n entries history pairing find → Adds (count_before history (length history)) (record { pattern = pattern; fate = fate }) find find' →
     IsTable n entries (history ++ post_events gone history pattern) pairing' find')
@@ -41,13 +41,13 @@ TracksAdmit gone pattern old fate new =
 -- a letter came
 abbrev pub TracksDelivery : Letter → Matching → (ℕ → Option Request) → Matching → (ℕ → Option Request) → Type 0
 TracksDelivery letter old find new find' =
-    (n : ℕ) (entries : List Entry) (history : List Event) (pairing : Pairing) → Tracks history pairing old → IsTable n entries history pairing find →
+    (n : ℕ) (entries : List Entry) (history : List MatchEvent) (pairing : Pairing) → Tracks history pairing old → IsTable n entries history pairing find →
     (pairing' : Pairing) × Tracks (history ++ Come letter ∷ []) pairing' new × IsTable n entries (history ++ Come letter ∷ []) pairing' find'
 
 -- the context c was revoked for the first time
 abbrev pub TracksRevocation : ℕ → Matching → (ℕ → Option Request) → Matching → (ℕ → Option Request) → Type 0
 TracksRevocation c old find new find' =
-    (n : ℕ) (entries : List Entry) (history : List Event) (pairing : Pairing) → Tracks history pairing old → IsTable n entries history pairing find →
+    (n : ℕ) (entries : List Entry) (history : List MatchEvent) (pairing : Pairing) → Tracks history pairing old → IsTable n entries history pairing find →
     Tracks (history ++ Clear c ∷ []) pairing new × IsTable n entries (history ++ Clear c ∷ []) pairing find'
 
 -- the context of a letter wasn't cleared, unless it was revoked before
@@ -57,5 +57,5 @@ IsOpenFor revoked matcher item = (letter : Letter) → item ≡ Mail letter → 
 -- an item was taken from the rank s
 abbrev pub TracksItem : Bool → ℕ → Item → Matching → (ℕ → Option Request) → Matching → (ℕ → Option Request) → Type 0
 TracksItem revoked s item old find new find' =
-    (n : ℕ) (entries : List Entry) (history : List Event) (pairing : Pairing) → Tracks history pairing old → IsTable n entries history pairing find →
+    (n : ℕ) (entries : List Entry) (history : List MatchEvent) (pairing : Pairing) → Tracks history pairing old → IsTable n entries history pairing find →
     (pairing' : Pairing) × Tracks (history ++ item_events revoked history s item) pairing' new × IsTable n entries (history ++ item_events revoked history s item) pairing' find'

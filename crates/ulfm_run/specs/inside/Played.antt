@@ -1,7 +1,7 @@
 -- What a rank's thread gives back.
 use Rattle.std.specs.Prelude.{◌≡◌, ℕ, List, map, All}
 use Rattle.ulfm_base.specs.declared.item.Item.{Item}
-use Rattle.ulfm_job.specs.Job.{Seen, script_at}
+use Rattle.ulfm_job.specs.Job.{JobView, script_at}
 use Rattle.ulfm_script.specs.Report.{Report}
 use Rattle.ulfm_script.specs.Reacting.{SkipsRightly}
 use Rattle.ulfm_script.specs.Script.{reported_step, through_stop, IsPatient}
@@ -9,7 +9,7 @@ use Rattle.ulfm_run.specs.inside.Joined.{IsJoined}
 
 -- A rank's script was played, up to and with the first stop that it played, or the whole of it; its steps were skipped exactly where none of
 -- their conditions held. It is the same end that comes back: what left the outboxes of the rank is what it pushed, and what the log took is what it took.
-pub record IsPlayed {E N : Type 0} (name : E → N) (place count : E → ℕ) (pushed taken : E → ℕ → List Item) (ready : E → Type 0) (job : Seen) (before : E) (report : Report) (after : E) : Type 0 where
+pub record IsPlayed {E N : Type 0} (name : E → N) (place count : E → ℕ) (pushed taken : E → ℕ → List Item) (ready : E → Type 0) (job : JobView) (before : E) (report : Report) (after : E) : Type 0 where
   pub same_end : name after ≡ name before
   pub joined : IsJoined place count pushed taken ready report.rank after
   pub named : report.rank.me ≡ place before

@@ -4,7 +4,7 @@ use Rattle.std.specs.declared.thread.PromisedHandle.{PromisedHandle}
 use Rattle.ulfm_base.specs.declared.item.Item.{Item}
 use Rattle.ulfm_carrier.specs.Family.{IsFresh}
 use Rattle.ulfm_base.specs.Lists.{at}
-use Rattle.ulfm_job.specs.Job.{Seen}
+use Rattle.ulfm_job.specs.Job.{JobView}
 use Rattle.ulfm_script.specs.Report.{Report}
 use Rattle.ulfm_run.specs.declared.worker.Ran.{Ran}
 use Rattle.ulfm_run.specs.declared.threads.Begun.{Begun}
@@ -27,7 +27,7 @@ abbrev pub begun_deciders : {E D : Type 0} → List (PromisedHandle (Ran E D) (B
 begun_deciders hs = map begun_decider hs
 
 -- the thread plays a rank of this job
-abbrev pub IsOfJob : {E D : Type 0} → Seen → PromisedHandle (Ran E D) (Begun E D) → Type 0
+abbrev pub IsOfJob : {E D : Type 0} → JobView → PromisedHandle (Ran E D) (Begun E D) → Type 0
 IsOfJob job h = h.promise.job.value ≡ job
 
 -- what a rank's thread reports
@@ -51,7 +51,7 @@ abbrev pub EachFresh : {E : Type 0} → (E → ℕ) → (E → ℕ → List Item
 EachFresh {E} count pushed taken ready n ends = (k : ℕ) (e : E) → at ends k e → IsFresh count pushed taken ready n e
 
 -- each rank was played by the end at its place
-pub record WerePlayed {E D N : Type 0} (name : E → N) (place count : E → ℕ) (pushed taken : E → ℕ → List Item) (ready : E → Type 0) (board : D → Option (List ℕ)) (job : Seen) (ends : List E) (deciders : List D) (ran : List (Ran E D)) : Type 0 where
+pub record WerePlayed {E D N : Type 0} (name : E → N) (place count : E → ℕ) (pushed taken : E → ℕ → List Item) (ready : E → Type 0) (board : D → Option (List ℕ)) (job : JobView) (ends : List E) (deciders : List D) (ran : List (Ran E D)) : Type 0 where
   pub as_many : length ran ≡ length ends
   pub played : (k : ℕ) (e : E) (r : Ran E D) → at ends k e → at ran k r → IsPlayed name place count pushed taken ready job e r.report r.end
   pub seated : (k : ℕ) (d : D) (r : Ran E D) → at deciders k d → at ran k r → board r.decider ≡ board d

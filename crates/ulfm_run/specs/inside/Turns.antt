@@ -6,8 +6,8 @@ use Rattle.ulfm_rank.specs.Facts.{is_stopped}
 use Rattle.ulfm_job.specs.declared.step.Step.{Step}
 use Rattle.ulfm_script.specs.Deciding.{Known}
 use Rattle.ulfm_script.specs.inside.SoFar.{AnswersFollowSoFar}
-use Rattle.ulfm_job.specs.Job.{Seen, script_at}
-use Rattle.ulfm_script.specs.Player.{Player, View}
+use Rattle.ulfm_job.specs.Job.{JobView, script_at}
+use Rattle.ulfm_script.specs.Player.{Player, PlayerView}
 use Rattle.ulfm_script.specs.inside.Underway.{polls_left}
 use Rattle.ulfm_run.specs.inside.Joined.{IsAtWork}
 
@@ -27,28 +27,28 @@ pub record IsAsFar (script : List Step) (turns : ℕ) (old new : Player) : Type 
   pub was_over : IsOver script new → IsOver script old
 
 -- A rank at its job stays there: its end and its board are the same, and its answers stay right.
-pub record Keeps {E N D B : Type 0} (name : E → N) (place count : E → ℕ) (pushed taken : E → ℕ → List Item) (ready : E → Type 0) (board : D → B) (known : D → Known) (job : Seen) (me : ℕ) (v : View) (e : E) (d : D) (w : View) (f : E) (g : D) : Type 0 where
+pub record Keeps {E N D B : Type 0} (name : E → N) (place count : E → ℕ) (pushed taken : E → ℕ → List Item) (ready : E → Type 0) (board : D → B) (known : D → Known) (job : JobView) (me : ℕ) (v : PlayerView) (e : E) (d : D) (w : PlayerView) (f : E) (g : D) : Type 0 where
   pub at_work : IsAtWork place count pushed taken ready job me v e → IsAtWork place count pushed taken ready job me w f
   pub same_end : name f ≡ name e
   pub same_board : board g ≡ board d
   pub honest : AnswersFollowSoFar (known d) v.player → AnswersFollowSoFar (known g) w.player
 
-module _ {E N D B : Type 0} (name : E → N) (place count : E → ℕ) (pushed taken : E → ℕ → List Item) (ready : E → Type 0) (board : D → B) (known : D → Known) (job : Seen) (me : ℕ) where
+module _ {E N D B : Type 0} (name : E → N) (place count : E → ℕ) (pushed taken : E → ℕ → List Item) (ready : E → Type 0) (board : D → B) (known : D → Known) (job : JobView) (me : ℕ) where
   -- items moved, or none did
-  pub record Carries (v : View) (e : E) (d : D) (w : View) (f : E) (g : D) : Type 0 where
+  pub record Carries (v : PlayerView) (e : E) (d : D) (w : PlayerView) (f : E) (g : D) : Type 0 where
     pub keeps : Keeps name place count pushed taken ready board known job me v e d w f g
     pub as_far : IsAsFar (script_at job me) job.turns v.player w.player
 
-  pub carries-none : (v : View) (e : E) (d : D) → Carries v e d v e d
+  pub carries-none : (v : PlayerView) (e : E) (d : D) → Carries v e d v e d
   carries-none v e d = record {
     keeps = record { at_work = λ h. h; same_end = refl; same_board = refl; honest = λ h. h };
     as_far = record { left = refl; over = λ o. o; was_over = λ o. o };
   }
 
-  pub keeps-then : (u v w : View) (e f g : E) (c d b : D) → Keeps name place count pushed taken ready board known job me u e c v f d → Keeps name place count pushed taken ready board known job me v f d w g b → Keeps name place count pushed taken ready board known job me u e c w g b
+  pub keeps-then : (u v w : PlayerView) (e f g : E) (c d b : D) → Keeps name place count pushed taken ready board known job me u e c v f d → Keeps name place count pushed taken ready board known job me v f d w g b → Keeps name place count pushed taken ready board known job me u e c w g b
   keeps-then u v w e f g c d b h k = record { at_work = λ x. k.at_work (h.at_work x); same_end = k.same_end ∙ h.same_end; same_board = k.same_board ∙ h.same_board; honest = λ x. k.honest (h.honest x) }
 
-  pub carries-then : (u v w : View) (e f g : E) (c d b : D) → Carries u e c v f d → Carries v f d w g b → Carries u e c w g b
+  pub carries-then : (u v w : PlayerView) (e f g : E) (c d b : D) → Carries u e c v f d → Carries v f d w g b → Carries u e c w g b
   carries-then u v w e f g c d b h k = record {
     keeps = keeps-then u v w e f g c d b h.keeps k.keeps;
     as_far = record { left = k.as_far.left ∙ h.as_far.left; over = λ o. k.as_far.over (h.as_far.over o); was_over = λ o. h.as_far.was_over (k.as_far.was_over o) };

@@ -3,7 +3,7 @@ use Rattle.std.specs.Prelude.{◌≡◌, ⊤, ℕ, true, false, List, ◌++◌, 
 use Rattle.ulfm_rank.specs.Facts.{is_stopped}
 use Rattle.ulfm_job.specs.declared.step.Step.{Step}
 use Rattle.ulfm_script.specs.Player.{Player}
-use Rattle.ulfm_job.specs.Job.{Seen, script_at}
+use Rattle.ulfm_job.specs.Job.{JobView, script_at}
 use Rattle.ulfm_script.specs.declared.answer.StepReport.{StepReport}
 use Rattle.ulfm_job.specs.declared.clause.Clause.{Clause}
 use Rattle.ulfm_script.specs.Reacting.{SkipsRightly, is_played}
@@ -36,7 +36,7 @@ abbrev pub IsPlaying : List Clause → ℕ → Player → Type 0
 IsPlaying conditions r p = MatchOption p.current ⊤ (λ asked. is_played conditions r p.done ≡ true)
 
 -- a player that goes through the script of the rank r of a job, and plays a step exactly where it is to be played
-pub record GoesThrough (j : Seen) (r : ℕ) (p : Player) : Type 0 where
+pub record GoesThrough (j : JobView) (r : ℕ) (p : Player) : Type 0 where
   pub follows : FollowsSoFar (script_at j r) j.turns p
   pub skips : SkipsRightly j.conditions r p.done
   pub playing : IsPlaying j.conditions r p

@@ -5,7 +5,7 @@ use Rattle.ulfm_rank.specs.State.{State, outbox}
 use Rattle.ulfm_job.specs.declared.step.Step.{Step}
 use Rattle.ulfm_script.specs.Player.{Player}
 use Rattle.ulfm_script.specs.inside.Underway.{GoesThrough, polls_left}
-use Rattle.ulfm_job.specs.Job.{Seen, script_at}
+use Rattle.ulfm_job.specs.Job.{JobView, script_at}
 use Rattle.ulfm_world.specs.declared.room.Room.TheVariants.{PerInbox}
 use Rattle.ulfm_world.specs.Room.{IsFull}
 use Rattle.ulfm_world.specs.World.{World, player_at, rank_at, inbox_at, IsRunning, Reaches, start_world}
@@ -16,7 +16,7 @@ use Rattle.ulfm_script.specs.Deciding.{Known}
 use Rattle.ulfm_script.specs.inside.SoFar.{AnswersFollowSoFar}
 
 -- each player goes through its script
-abbrev pub Follows : Seen → World → Type 0
+abbrev pub Follows : JobView → World → Type 0
 Follows j w = (r : ℕ) → r < length w.players → GoesThrough j r (player_at w r)
 
 -- f 0 + f 1 + .., below n
@@ -41,7 +41,7 @@ abbrev pub weight_of : List Step → ℕ → ℕ → Player → ℕ
 weight_of script turns n p = 17 * polls_left script turns p + (out_at n p.rank + fresh_of p.rank)
 
 -- what falls with each event, of the player r
-abbrev pub weight_at : Seen → World → ℕ → ℕ
+abbrev pub weight_at : JobView → World → ℕ → ℕ
 weight_at j w r = weight_of (script_at j r) j.turns (length w.players) (player_at w r)
 
 -- what an inbox holds
@@ -49,7 +49,7 @@ abbrev pub inbox_weight : World → ℕ → ℕ
 inbox_weight w d = length (inbox_at w d)
 
 -- and of a world
-abbrev pub measure : Seen → World → ℕ
+abbrev pub measure : JobView → World → ℕ
 measure j w = sum_below (length w.players) (weight_at j w) + sum_below (length w.players) (inbox_weight w)
 
 -- what is known for the rank r
@@ -64,7 +64,7 @@ pub record AllAnswersFollowSoFar (w : World) : Type 0 where
   pub honest : (r : ℕ) → r < length w.players → AnswersFollowSoFar (known_for knows r) (player_at w r)
 
 -- from old to new, where something moved or nothing did
-pub record Moves (j : Seen) (old new : World) (moved : Bool) : Type 0 where
+pub record Moves (j : JobView) (old new : World) (moved : Bool) : Type 0 where
   pub reaches : Reaches old new
   pub size : length new.players ≡ length old.players
   pub room : new.room ≡ old.room
@@ -83,13 +83,13 @@ IsStuckAt w r (Some d) = IsPushStuck w r d
 IsStuckAt w r None = IsRunning w r → inbox_at w r ≡ []
 
 -- the player r can do nothing
-pub record IsStuck (j : Seen) (w : World) (r : ℕ) : Type 0 where
+pub record IsStuck (j : JobView) (w : World) (r : ℕ) : Type 0 where
   pub pushes : (d : ℕ) → d < length w.players → IsPushStuck w r d
   pub takes : IsRunning w r → inbox_at w r ≡ []
   pub polls : IsRunning w r → length (script_at j r) ≤ length (player_at w r).done
 
 -- a world on the way of a replay
-pub record IsUnderway (j : Seen) (w : World) : Type 0 where
+pub record IsUnderway (j : JobView) (w : World) : Type 0 where
   pub reaches : Reaches (start_world j.ranks (PerInbox j.capacity)) w
   pub size : length w.players ≡ j.ranks
   pub room : w.room ≡ PerInbox j.capacity

@@ -1,6 +1,6 @@
 use Rattle.std.proofs.Common.{◌≡◌, ◌<◌, length, map, ap, sym, ◌∙◌, arith, length-set}
 use Rattle.rtrb.specs.Ring.{received, consumer_capacity}
-use Rattle.ulfm_carrier.proofs.Common.{item_of, LaneEnds, shown}
+use Rattle.ulfm_carrier.proofs.Common.{item_from, LaneEnds, shown}
 use Rattle.ulfm_carrier.specs.Lanes.{outlet_name, inlet_name, reader_name}
 use Rattle.ulfm_carrier.specs.inside.Wiring.{IsNewInlet}
 use Rattle.ulfm_carrier.proofs.Wires.{adds}
@@ -19,7 +19,7 @@ returns-clause-wired c =
     let low_d : d < length all = omega (arith, c.requires.dest, c.args.ends.now.ok) in
     let is_new : IsNewInlet c.args.capacity s inlet = (
       (ap (λ r. r.number) new.source, new.live),
-      ap (λ g. map (item_of inlet.source) (shown g (received inlet.ring))) new.live ∙ ap (λ r. map (item_of inlet.source) (received r)) new.ring ∙ ap (map (item_of inlet.source)) made.consumer.0,
+      ap (λ g. map (item_from inlet.source) (shown g (received inlet.ring))) new.live ∙ ap (λ r. map (item_from inlet.source) (received r)) new.ring ∙ ap (map (item_from inlet.source)) made.consumer.0,
       ap (λ r. consumer_capacity r) new.ring ∙ made.consumer.2,
     ) in
     let pair : outlet_name out ≡ inlet_name inlet = (λ i. record { words = sym made.pair.0 i; slots = sym made.pair.1 i; names = sym made.pair.2 i; heap = sym made.pair.3 i }) ∙ ap (λ r. reader_name r) (sym new.ring) in

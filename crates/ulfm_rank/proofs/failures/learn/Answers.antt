@@ -11,7 +11,7 @@ returns-in-Gone c log held =
 pub returns-in-Revoke : goal.returns-in-Revoke
 returns-in-Revoke c log held =
     subst (λ i. HasFaults (log ++ Took c.args.source i ∷ []) c.revoke.new.self) (sym c.in-Revoke.is)
-    (faults_revoked c.revoke.new.self (Took c.args.source _) c.in-Revoke.context.number held (λ b k. refl) (λ d k. refl) (λ d. refl)
+    (faults_revoked c.revoke.new.self (Took c.args.source _) c.in-Revoke.context.number held (λ k. refl) (λ d k. refl) (λ d. refl)
     c.revoke.ensures.marks_this_context_alone c.revoke.ensures.known_stay c.revoke.ensures.totals_stay)
 
 pub returns-in_default : goal.returns-in_default

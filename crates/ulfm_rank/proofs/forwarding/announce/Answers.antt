@@ -1,5 +1,5 @@
 use Rattle.std.proofs.Common.{◌≡◌, ◌<◌, eqb, refl, ap, arith, ◌∙◌, ◌&&◌, not}
-use Rattle.ulfm_rank.proofs.Common.{is_member, has, members_of, is_gone, entry_told}
+use Rattle.ulfm_rank.proofs.Common.{is_member, has, members_of, is_gone, announced}
 use Rattle.ulfm_rank.proofs.Held.{grows_alike}
 use Rattle.ulfm_rank.proofs.forwarding.announce.Goals as goal
 
@@ -8,7 +8,7 @@ returns c = λ n log knows members.
     let entrance = c.args.entrance in
     let told = c.put_each.ensures in
     let to = has c.members_of_both.result in
-    grows_alike (entry_told n c.args.me log entrance) told
+    grows_alike (announced n c.args.me log entrance) told
     (λ d h.
     let small : d < 8 = omega (arith, h, told.size, c.requires.small) in
     let same : to d ≡ (is_member (members_of n log entrance.topic.context.number) d && (not (eqb c.args.me d) && not (is_gone log d))) =

@@ -1,6 +1,6 @@
 use Rattle.std.proofs.Common.{◌∙◌, ap, sym}
 use Rattle.clap.specs.Words.{found_of, rows_of}
-use Rattle.ulfm_replies.specs.Words.{meant}
+use Rattle.ulfm_replies.specs.CommandLine.{meant}
 use Rattle.ulfm_replies.proofs.Parsed.{rows_met}
 use Rattle.ulfm_replies.proofs.command.wanted_in.Goals as goal
 

@@ -1,5 +1,5 @@
 use Rattle.std.proofs.Common.{sym, ap, ◌∙◌}
-use Rattle.ulfm_rank.specs.State.{View}
+use Rattle.ulfm_rank.specs.State.{RankView}
 use Rattle.ulfm_script.proofs.Common.{Tests}
 use Rattle.ulfm_script.proofs.Waits.{only_tested, answers_wait, stays_open, tests_by}
 use Rattle.ulfm_script.proofs.receiving.wait.Goals.{After-answer_of}
@@ -8,7 +8,7 @@ use Rattle.ulfm_script.proofs.receiving.wait.Goals as goal
 told : (c : After-answer_of) → Tests c.args.done.now c.args.rank.now.state c.args.req c.in-Ok.answer c.test.new.self.state
 told c =
     let x = c.in-Ok.ensures in
-    tests_by (sym c.request_at.ensures ∙ c.in-Some.is) x.request x.pairing x.answer (only_tested _ _ _ _ x.released (λ e. ap (λ (v : View). v.state) (x.stays e)))
+    tests_by (sym c.request_at.ensures ∙ c.in-Some.is) x.request x.pairing x.answer (only_tested _ _ _ _ x.released (λ e. ap (λ (v : RankView). v.state) (x.stays e)))
 
 pub returns-in-Ok-clause-answers : goal.returns-in-Ok-clause-answers
 returns-in-Ok-clause-answers c = rw c.answer_of.ensures (answers_wait _ _ _ _ _ (told c))

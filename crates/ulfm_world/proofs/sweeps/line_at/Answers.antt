@@ -1,5 +1,5 @@
 use Rattle.std.proofs.Common.{refl, subst}
-use Rattle.ulfm_world.proofs.Common.{IsJob, Seen, IsReplayed, MadeAtRest, IsLawful}
+use Rattle.ulfm_world.proofs.Common.{IsJob, JobView, IsReplayed, MadeAtRest, IsLawful}
 use Rattle.ulfm_world.proofs.Swept.{steps_few}
 use Rattle.ulfm_world.proofs.sweeps.line_at.Goals as goal
 
@@ -11,8 +11,8 @@ returns-clause-swept c =
     let reports = c.in-Ok-replay.reports.items in
     rw (c.of.ensures, c.as_slice.ensures.value) (record {
       reports = reports;
-      replayed = subst (λ (j : Seen). IsReplayed j reports) c.in-Ok.ensures.exact c.in-Ok-replay.ensures.replayed;
-      lawful = subst (λ (j : Seen). IsLawful j reports) c.in-Ok.ensures.exact c.in-Ok-replay.ensures.lawful;
-      settled = subst (λ (j : Seen). MadeAtRest j reports) c.in-Ok.ensures.exact c.in-Ok-replay.ensures.settled;
+      replayed = subst (λ (j : JobView). IsReplayed j reports) c.in-Ok.ensures.exact c.in-Ok-replay.ensures.replayed;
+      lawful = subst (λ (j : JobView). IsLawful j reports) c.in-Ok.ensures.exact c.in-Ok-replay.ensures.lawful;
+      settled = subst (λ (j : JobView). MadeAtRest j reports) c.in-Ok.ensures.exact c.in-Ok-replay.ensures.settled;
       counted = refl;
     })

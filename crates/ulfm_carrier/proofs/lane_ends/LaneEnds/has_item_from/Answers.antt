@@ -1,5 +1,5 @@
 use Rattle.std.proofs.Common.{◌≡◌, ◌<◌, ◌↔◌, ◌++◌, [], length, map, get_or, ap, sym, ◌∙◌, refl, arith, subst, IsTrue}
-use Rattle.ulfm_carrier.proofs.Common.{item_of, lane_pushed, lane_taken, map-set_same, outlet_name, seen_from, seen_in, taken_by}
+use Rattle.ulfm_carrier.proofs.Common.{item_from, lane_pushed, lane_taken, map-set_same, outlet_name, seen_from, seen_in, taken_by}
 use Rattle.ulfm_carrier.proofs.Places.{at_read, view_here, view_other}
 use Rattle.ulfm_carrier.proofs.Rings.{inlet_names, ready_both}
 use Rattle.ulfm_carrier.proofs.lane_ends.LaneEnds.has_item_from.Goals as goal
@@ -13,7 +13,7 @@ returns-then-peer-self-clause-found c =
 pub returns-then-peer-self-clause-own : goal.returns-then-peer-self-clause-own
 returns-then-peer-self-clause-own c = λ _.
     let now = c.has_item_of_its_own.new.self in
-    subst (λ k. lane_pushed now k ≡ lane_taken now k ++ map (item_of c.args.self.now.me) (seen_from now k)) (sym c.if-peer-self.true) c.has_item_of_its_own.ensures.own
+    subst (λ k. lane_pushed now k ≡ lane_taken now k ++ map (item_from c.args.self.now.me) (seen_from now k)) (sym c.if-peer-self.true) c.has_item_of_its_own.ensures.own
 
 pub returns-then-peer-self-clause-others_seen : goal.returns-then-peer-self-clause-others_seen
 returns-then-peer-self-clause-others_seen c = λ p apart. c.has_item_of_its_own.ensures.others_seen p (λ is. apart (is ∙ sym c.if-peer-self.true))

@@ -1,6 +1,6 @@
 use Rattle.std.proofs.Common.{◌≡◌, ◌<◌, ◌+◌, ◌%◌, ◌++◌, ◌∷◌, inl, inr, [], get_or, map, set, length, refl, ap, sym, ◌∙◌, arith, subst, append-nil}
 use Rattle.std.proofs.lemmas.Nat.{mod_below}
-use Rattle.ulfm_carrier.proofs.Common.{cases_lt, ComesFrom, IsOpenRing, item_of, lane_pushed, lane_taken, nil_from_length, seen_from, seen_in, taken_by}
+use Rattle.ulfm_carrier.proofs.Common.{cases_lt, ComesFrom, IsOpenRing, item_from, lane_pushed, lane_taken, nil_from_length, seen_from, seen_in, taken_by}
 use Rattle.ulfm_carrier.proofs.Places.{at_read, view_other}
 use Rattle.ulfm_carrier.proofs.Rings.{taken_from, taken_more}
 use Rattle.ulfm_carrier.proofs.Turns.{turns_apart, turn_of, none_seen, not_found}
@@ -86,7 +86,7 @@ loop-step-preserved c =
             let last : j ≡ c.loop-step.step = omega (arith, late, low) in
             let here : place ≡ me = ap (λ i. (e.next + i) % count) (sym last) ∙ is in
             let mine = found.own (here ∙ sym before_me) in
-            let all : lane_pushed now place ≡ lane_taken now place = mine ∙ ap (λ l. lane_taken now place ++ map (item_of before.me) l) none ∙ append-nil (lane_taken now place) in
+            let all : lane_pushed now place ≡ lane_taken now place = mine ∙ ap (λ l. lane_taken now place ++ map (item_from before.me) l) none ∙ append-nil (lane_taken now place) in
             subst (λ i. lane_pushed now i ≡ lane_taken now i) here all
       ];
       taken = λ p. found.taken p ∙ was.taken p;

@@ -1,5 +1,5 @@
 use Rattle.std.proofs.Common.{◌≡◌, ◌++◌, ◌∷◌, [], ap, sym, subst, ◌∙◌, arith, Some}
-use Rattle.ulfm_rank.proofs.Common.{Topic, decided_comm, shrink_of, shrink_topic, Adopted, find_group, group_of, state_of, State, View, is_some}
+use Rattle.ulfm_rank.proofs.Common.{Topic, decided_comm, shrink_of, shrink_topic, Adopted, find_group, group_of, state_of, State, RankView, is_some}
 use Rattle.std.proofs.lemmas.Result.{err_from_is_err_and}
 use Rattle.ulfm_rank.specs.Checks.{adopt_checks, Fails, Passes}
 use Rattle.ulfm_rank.proofs.Adoptable.{made_adopted, never_starved}
@@ -18,7 +18,7 @@ pub add-requires : goal.add-requires
 add-requires c =
     let a = c.self.inside in
     let t = shrink_topic c.args.comm.context in
-    let passes = all_pass (adopt_checks (state_of a) t c.args.decision) (subst (λ (v : View). Passes (adopt_checks v.state t c.args.decision)) (sym c.self.view_is) c.in_ok-check_adoption.ensures.accepted) in
+    let passes = all_pass (adopt_checks (state_of a) t c.args.decision) (subst (λ (v : RankView). Passes (adopt_checks v.state t c.args.decision)) (sym c.self.view_is) c.in_ok-check_adoption.ensures.accepted) in
     ap is_some (found_group (shrink_of c.args.comm.context.number) c.self.invariant.follows.communicators)
     ∙ made_adopted a.ranks a.log.items c.args.comm.context
     ∙ passes.1.1.0
@@ -27,7 +27,7 @@ pub invariant_of-self-2 : goal.invariant_of-self-2
 invariant_of-self-2 c =
     let a = c.self.inside in
     let d = c.args.decision in
-    let seen = ap (λ (v : View). v.state) c.self.view_is in
+    let seen = ap (λ (v : RankView). v.state) c.self.view_is in
     let about = c.in_ok-check_adoption.ensures.about in
     let longer = c.push_reserved.ensures.items ∙ ap (λ l. l ++ Adopted c.args.decision ∷ []) c.reserve.ensures.items in
     let found : find_group c.args.decision.topic.context.number c.self.inside.communicators ≡ Some c.args.decision.old =

@@ -1,5 +1,5 @@
 use Rattle.std.proofs.Common.{◌≡◌, ◌++◌, ◌∷◌, [], append-nil, ap, sym, subst, ◌∙◌, arith, Some}
-use Rattle.ulfm_rank.proofs.Common.{Topic, is_agreement, decided_comm, Adopted, find_group, group_of, State, View}
+use Rattle.ulfm_rank.proofs.Common.{Topic, is_agreement, decided_comm, Adopted, find_group, group_of, State, RankView}
 use Rattle.std.proofs.lemmas.Result.{err_from_is_err_and}
 use Rattle.ulfm_rank.specs.Checks.{adopt_checks, Fails}
 use Rattle.ulfm_rank.proofs.Adoptable.{never_starved, none_agreed}
@@ -17,7 +17,7 @@ pub invariant_of-self-2 : goal.invariant_of-self-2
 invariant_of-self-2 c =
     let a = c.self.inside in
     let d = c.args.decision in
-    let seen = ap (λ (v : View). v.state) c.self.view_is in
+    let seen = ap (λ (v : RankView). v.state) c.self.view_is in
     let about = c.in_ok-check_adoption.ensures.about in
     let longer = c.push_reserved.ensures.items ∙ ap (λ l. l ++ Adopted c.args.decision ∷ []) c.reserve.ensures.items in
     let found : find_group c.args.decision.topic.context.number c.self.inside.communicators ≡ Some c.args.decision.old =

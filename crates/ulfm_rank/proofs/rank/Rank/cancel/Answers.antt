@@ -1,5 +1,5 @@
 use Rattle.std.proofs.Common.{◌≡◌, ℕ, [], ◌∷◌, ◌++◌, false, refl, ap, sym, subst, arith, ◌∙◌, Some, nat_eq}
-use Rattle.ulfm_rank.proofs.Common.{Pattern, Request, TestAnswer, View, Released, Cancelled, IsTestAnswer, IsRequest, IsNoRequest, is_some, is_release, is_stopped, is_waiting, get, index_map_len}
+use Rattle.ulfm_rank.proofs.Common.{Pattern, Request, TestAnswer, RankView, Released, Cancelled, IsTestAnswer, IsRequest, IsNoRequest, is_some, is_release, is_stopped, is_waiting, get, index_map_len}
 use Rattle.ulfm_rank.proofs.Answered.{is_request, no_request}
 use Rattle.ulfm_rank.proofs.Cancelled.{in_step_cancelled}
 use Rattle.ulfm_rank.proofs.Requested.{has_group, sender_found, answered, ended, unanswered}
@@ -8,7 +8,7 @@ use Rattle.ulfm_rank.proofs.rank.Rank.cancel.Goals as goal
 
 pub returns-in-None-clause-refused : goal.returns-in-None-clause-refused
 returns-in-None-clause-refused c =
-    subst (λ (v : View). (is_stopped v.state.log ≡ false) × IsNoRequest v.state.log c.args.id.number) c.self.view_is
+    subst (λ (v : RankView). (is_stopped v.state.log ≡ false) × IsNoRequest v.state.log c.args.id.number) c.self.view_is
     (sym c.self.invariant.follows.halted ∙ c.if-self.false, no_request c.self.invariant.follows.in_step c.args.id.number c.in-None.ensures.none)
 
 pub invariant_of-self : goal.invariant_of-self
@@ -25,12 +25,12 @@ invariant_of-self c =
 
 pub returns-then-waits-clause-answer : goal.returns-then-waits-clause-answer
 returns-then-waits-clause-answer c =
-    subst (λ (v : View). (answer : TestAnswer) × (is_release answer ≡ false) × IsTestAnswer v.state.ranks v.state.log c.args.id.number answer) c.self.view_is
+    subst (λ (v : RankView). (answer : TestAnswer) × (is_release answer ≡ false) × IsTestAnswer v.state.ranks v.state.log c.args.id.number answer) c.self.view_is
     (unanswered c.self.invariant.follows c.args.id.number c.in-Some.request.now c.in-Some.ensures.there.0 (sym c.is_waiting-waits.ensures ∙ c.if-waits.true))
 
 pub returns-then-waits-clause-request : goal.returns-then-waits-clause-request
 returns-then-waits-clause-request c =
-    subst (λ (v : View). (i : ℕ) × (p : Pattern) × IsRequest v.state.log c.args.id.number i p) c.self.view_is
+    subst (λ (v : RankView). (i : ℕ) × (p : Pattern) × IsRequest v.state.log c.args.id.number i p) c.self.view_is
     (is_request c.self.invariant.follows.in_step c.args.id.number c.in-Some.request.now c.in-Some.ensures.there.0 c.in-Some.ensures.there.1)
 
 pub answer_in-answer-requires-clause-made : goal.answer_in-answer-requires-clause-made
@@ -59,11 +59,11 @@ returns-clause-answer c =
     let same : c.in-Some.request.now ≡ r = cc in
     let over : is_waiting r.fate ≡ false = ap (λ (x : Request). is_waiting x.fate) (sym same) ∙ sym c.is_waiting-waits.ensures ∙ c.if-waits.false in (
       ended _ _ r.pattern r.fate c.answer_in-answer.result over c.answer_in-answer.ensures,
-      subst (λ (v : View). IsTestAnswer v.state.ranks v.state.log c.args.id.number c.answer_in-answer.result) c.self.view_is
+      subst (λ (v : RankView). IsTestAnswer v.state.ranks v.state.log c.args.id.number c.answer_in-answer.result) c.self.view_is
           (answered c.self.invariant.follows c.args.id.number r found c.answer_in-answer.result c.answer_in-answer.ensures),
     )
 
 pub returns-clause-request : goal.returns-clause-request
 returns-clause-request c =
-    subst (λ (v : View). (i : ℕ) × (p : Pattern) × IsRequest v.state.log c.args.id.number i p) c.self.view_is
+    subst (λ (v : RankView). (i : ℕ) × (p : Pattern) × IsRequest v.state.log c.args.id.number i p) c.self.view_is
     (is_request c.self.invariant.follows.in_step c.args.id.number c.in-Some.request.now c.in-Some.ensures.there.0 c.in-Some.ensures.there.1)

@@ -1,5 +1,5 @@
 use Rattle.std.proofs.Common.{rules, ◌≡◌, ◌++◌, ◌∷◌, [], ap, ◌∙◌, arith, Some}
-use Rattle.ulfm_rank.proofs.Common.{Duplicated, dup_of, find_group, group_of, State, View}
+use Rattle.ulfm_rank.proofs.Common.{Duplicated, dup_of, find_group, group_of, State, RankView}
 use Rattle.ulfm_rank.proofs.Following.{follows_duplicated}
 use Rattle.ulfm_rank.proofs.Seen.{stop_places_few}
 use Rattle.ulfm_rank.proofs.Made.{found_group}
@@ -8,7 +8,7 @@ use Rattle.ulfm_rank.proofs.rank.Rank.dup.Goals as goal
 pub invariant_of-self-2 : goal.invariant_of-self-2
 invariant_of-self-2 c =
     let a = c.self.inside in
-    let seen = ap (λ (v : View). v.state) c.self.view_is in
+    let seen = ap (λ (v : RankView). v.state) c.self.view_is in
     let now_log = c.push_reserved.ensures.items ∙ ap (λ l. l ++ Duplicated c.args.comm.context ∷ []) c.reserve.ensures.items in
     let comms = c.self.invariant.follows.communicators in
     let group = c.in_ok-running_group.field-0.now in

@@ -1,5 +1,5 @@
 use Rattle.std.proofs.Common.{◌≡◌, ◌++◌, ◌∷◌, [], refl, ap, sym, subst, ◌∙◌, arith}
-use Rattle.ulfm_rank.proofs.Common.{is_member, Entrance, Entered, state_of, Knows, AllGrow, deciders, State, View, entry_told}
+use Rattle.ulfm_rank.proofs.Common.{is_member, Entrance, Entered, state_of, Knows, AllGrow, deciders, State, RankView, announced}
 use Rattle.ulfm_rank.proofs.Following.{follows_entered}
 use Rattle.ulfm_rank.proofs.Held.{marks-grown}
 use Rattle.ulfm_rank.proofs.Known.{knows_gone}
@@ -8,7 +8,7 @@ use Rattle.ulfm_rank.proofs.rank.Rank.enter.Goals as goal
 use Rattle.ulfm_rank.proofs.rank.Rank.enter.Goals.{After-push_reserved}
 
 seen : (c : After-push_reserved) → state_of c.self.inside ≡ c.args.self.now.state
-seen c = ap (λ (v : View). v.state) c.self.view_is
+seen c = ap (λ (v : RankView). v.state) c.self.view_is
 
 abbrev entrance : After-push_reserved → Entrance
 entrance c = record { topic = c.args.topic; contribution = record { known = c.known-known.result; flag = c.args.flag }; fits = c.entrance-1.given.0; has_shrink = c.entrance-1.given.1.0 }
@@ -19,7 +19,7 @@ longer c = c.push_reserved.ensures.items ∙ ap (λ l. l ++ Entered (entrance c)
 knows : (c : After-push_reserved) → Knows c.self.inside.log.items c.known-known.result
 knows c = λ r. c.known-known.ensures r ∙ knows_gone c.self.invariant.follows.faults r
 
-grows : (c : After-push_reserved) → AllGrow c.self.inside.outboxes.boxes c.announce.new.outboxes.boxes (entry_told c.self.inside.ranks c.self.inside.me.number c.self.inside.log.items (entrance c))
+grows : (c : After-push_reserved) → AllGrow c.self.inside.outboxes.boxes c.announce.new.outboxes.boxes (announced c.self.inside.ranks c.self.inside.me.number c.self.inside.log.items (entrance c))
 grows c =
     let a = c.self.inside in
     rw c.in_ok-reserve-2.ensures.boxes at

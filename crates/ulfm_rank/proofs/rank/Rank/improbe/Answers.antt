@@ -1,7 +1,7 @@
 use Rattle.std.proofs.Common.{◌≡◌, ℕ, false, true, [], ◌∷◌, ◌++◌, length, ap, sym, subst, arith, refl, ◌∙◌, Option, Some, nat_eq, inr, cond, eqb, Contains}
 use Rattle.std.proofs.lemmas.Result.{err_from_is_err_and}
 use Rattle.ulfm_base.specs.Pattern.{Admits}
-use Rattle.ulfm_rank.proofs.Common.{Context, Letter, Pattern, MessageId, Probed, Found, Request, IsMessage, TellsOf, WouldGet, is_revoked, group_at, members_of, or_empty, find_group, Follows, IsOfGroup, View, State, eq-eqb, is_some, lookup, get, index_map_len, false≢true, history_of, count_before}
+use Rattle.ulfm_rank.proofs.Common.{Context, Letter, Pattern, MessageId, Probed, Found, Request, IsMessage, TellsOf, WouldGet, is_revoked, group_at, members_of, or_empty, find_group, Follows, IsOfGroup, RankView, State, eq-eqb, is_some, lookup, get, index_map_len, false≢true, history_of, count_before}
 use Rattle.ulfm_rank.proofs.InStep.{count_small, in_step_open}
 use Rattle.ulfm_rank.proofs.Made.{found_group}
 use Rattle.ulfm_rank.proofs.Probing.{finds_none, never_none, gets, may_starve, unrevoked}
@@ -16,20 +16,20 @@ pub returns-then-names_known-clause-refused : goal.returns-then-names_known-clau
 returns-then-names_known-clause-refused c =
     let k = c.in_ok-pattern.ensures in
     let none : (y : ℕ × Letter) → Contains c.self.inside.matcher.kept y → Admits c.in_ok-pattern.pattern y.1.envelope → ⊥ = λ y there fits. false≢true (sym c.if-not-keeps_match.true ∙ c.keeps_match.ensures.1 (y, there, fits)) in
-    inr (k.accepted, finds_none c.self.invariant.follows c.args.self.now.state (ap (λ (v : View). v.state.log) c.self.view_is) c.args.comm c.args.source c.args.tag c.in_ok-pattern.pattern k.accepted k.asks_for none true (sym c.names_known.ensures ∙ c.if-names_known.true))
+    inr (k.accepted, finds_none c.self.invariant.follows c.args.self.now.state (ap (λ (v : RankView). v.state.log) c.self.view_is) c.args.comm c.args.source c.args.tag c.in_ok-pattern.pattern k.accepted k.asks_for none true (sym c.names_known.ensures ∙ c.if-names_known.true))
 
 pub returns-then-not-keeps_match-clause-answer : goal.returns-then-not-keeps_match-clause-answer
 returns-then-not-keeps_match-clause-answer c =
     let k = c.in_ok-pattern.ensures in
     let none : (y : ℕ × Letter) → Contains c.self.inside.matcher.kept y → Admits c.in_ok-pattern.pattern y.1.envelope → ⊥ = λ y there fits. false≢true (sym c.if-not-keeps_match.true ∙ c.keeps_match.ensures.1 (y, there, fits)) in
-    (finds_none c.self.invariant.follows c.args.self.now.state (ap (λ (v : View). v.state.log) c.self.view_is) c.args.comm c.args.source c.args.tag c.in_ok-pattern.pattern k.accepted k.asks_for none false (sym c.names_known.ensures ∙ c.if-names_known.false), refl)
+    (finds_none c.self.invariant.follows c.args.self.now.state (ap (λ (v : RankView). v.state.log) c.self.view_is) c.args.comm c.args.source c.args.tag c.in_ok-pattern.pattern k.accepted k.asks_for none false (sym c.names_known.ensures ∙ c.if-names_known.false), refl)
 
 pub returns-in_err-reserve-clause-refused : goal.returns-in_err-reserve-clause-refused
 returns-in_err-reserve-clause-refused c =
     let k = c.in_ok-pattern.ensures in
     let there = c.keeps_match.ensures.0 c.if-not-keeps_match.false in
     let e = err_from_is_err_and c.from_residual-in_err-reserve.result c.from_residual-in_err-reserve.ensures.1 in
-    rw (e.1, e.2) (inr (k.accepted, may_starve c.self.invariant.follows c.args.self.now.state (ap (λ (v : View). v.state.log) c.self.view_is) c.args.comm c.args.source c.args.tag c.in_ok-pattern.pattern k.accepted k.asks_for there.0 there.1 there.2))
+    rw (e.1, e.2) (inr (k.accepted, may_starve c.self.invariant.follows c.args.self.now.state (ap (λ (v : RankView). v.state.log) c.self.view_is) c.args.comm c.args.source c.args.tag c.in_ok-pattern.pattern k.accepted k.asks_for there.0 there.1 there.2))
 
 pub invariant_of-self-in_err-reserve-2 : goal.invariant_of-self-in_err-reserve-2
 invariant_of-self-in_err-reserve-2 c = holds_same c.self.inside c.self.invariant refl refl refl refl refl refl refl refl refl c.reserve-2.ensures.entries refl c.reserve.ensures.items c.reserve.ensures.len c.reserve.ensures.capacity
@@ -39,7 +39,7 @@ returns-in_err-reserve-2-clause-refused c =
     let k = c.in_ok-pattern.ensures in
     let there = c.keeps_match.ensures.0 c.if-not-keeps_match.false in
     let e = err_from_is_err_and c.from_residual-in_err-reserve-2.result c.from_residual-in_err-reserve-2.ensures.1 in
-    rw (e.1, e.2) (inr (k.accepted, may_starve c.self.invariant.follows c.args.self.now.state (ap (λ (v : View). v.state.log) c.self.view_is) c.args.comm c.args.source c.args.tag c.in_ok-pattern.pattern k.accepted k.asks_for there.0 there.1 there.2))
+    rw (e.1, e.2) (inr (k.accepted, may_starve c.self.invariant.follows c.args.self.now.state (ap (λ (v : RankView). v.state.log) c.self.view_is) c.args.comm c.args.source c.args.tag c.in_ok-pattern.pattern k.accepted k.asks_for there.0 there.1 there.2))
 
 pub probe-requires-clause-countable : goal.probe-requires-clause-countable
 probe-requires-clause-countable c =
@@ -51,7 +51,7 @@ probe-requires-clause-open c =
     let k = c.in_ok-pattern.ensures in
     let p = c.in_ok-pattern.pattern in
     let fresh = unrevoked c.args.self.now.state c.args.comm c.args.source c.args.tag 1024 p k.accepted k.asks_for in
-    in_step_open c.self.invariant.follows.in_step p.context.number (ap (λ (v : View). is_revoked v.state.log p.context.number) c.self.view_is ∙ fresh)
+    in_step_open c.self.invariant.follows.in_step p.context.number (ap (λ (v : RankView). is_revoked v.state.log p.context.number) c.self.view_is ∙ fresh)
 
 pub unreachable-requires : goal.unreachable-requires
 unreachable-requires c =
@@ -63,7 +63,7 @@ status_in-status-requires-clause-sender c =
     let a = c.self.inside in
     let p = c.in_ok-pattern.pattern in
     let held = c.self.invariant.follows in
-    let of_group : IsOfGroup a.ranks a.log.items p = subst (λ (v : View). IsOfGroup v.state.ranks v.state.log p) (sym c.self.view_is) c.in_ok-pattern.ensures.of_group in
+    let of_group : IsOfGroup a.ranks a.log.items p = subst (λ (v : RankView). IsOfGroup v.state.ranks v.state.log p) (sym c.self.view_is) c.in_ok-pattern.ensures.of_group in
     let id : MessageId = record { number = c.count.result } in
     let message : Request = record { pattern = p; fate = Found c.in-Some.letter } in
     let find' : ℕ → Option Request = λ k. cond (eqb c.count.result k) (Some message) (get nat_eq a.requests k) in
@@ -86,7 +86,7 @@ module _ (c : After-push_reserved) where
   done : Follows c.self.inside.ranks c.self.inside.me.number (c.self.inside.log.items ++ Probed id pattern ∷ []) c.self.inside.stopped c.probe.new.self (get nat_eq c.insert.new.self) c.self.inside.faults c.self.inside.communicators c.self.inside.outboxes.boxes
   done =
       let a = c.self.inside in
-      let of_group : IsOfGroup a.ranks a.log.items pattern = subst (λ (v : View). IsOfGroup v.state.ranks v.state.log pattern) (sym c.self.view_is) c.in_ok-pattern.ensures.of_group in
+      let of_group : IsOfGroup a.ranks a.log.items pattern = subst (λ (v : RankView). IsOfGroup v.state.ranks v.state.log pattern) (sym c.self.view_is) c.in_ok-pattern.ensures.of_group in
       follows_requests ready (Probed id pattern) refl (in_step_probed ready.in_step id c.count.ensures pattern of_group c.in-Some.letter c.probe.new.self c.in-Some.ensures.tracks (get nat_eq c.insert.new.self) c.in-Ok.ensures.updates.0)
 
 pub invariant_of-self-2 : goal.invariant_of-self-2
@@ -105,7 +105,7 @@ pub returns-clause-answer : goal.returns-clause-answer
 returns-clause-answer c =
     let a = c.self.inside in
     let p = pattern c in
-    let seen = ap (λ (v : View). v.state) c.self.view_is in
+    let seen = ap (λ (v : RankView). v.state) c.self.view_is in
     let receive = c.in_ok-pattern.ensures.asks_for in
     let members : or_empty (find_group p.context.number a.communicators) ≡ group_at c.args.self.now.state c.args.comm.context.number =
     ap or_empty (found_group p.context.number c.self.invariant.follows.communicators) ∙ ap (λ (d : Context). members_of a.ranks a.log.items d.number) receive.context ∙ ap (λ (s : State). group_at s c.args.comm.context.number) seen in

@@ -1,5 +1,5 @@
 use Rattle.std.proofs.Common.{◌≡◌, false, [], ◌∷◌, ◌++◌, length, ap, sym, subst, arith, refl, ◌∙◌, nat_eq}
-use Rattle.ulfm_rank.proofs.Common.{Context, Pattern, Posted, Request, IsRequest, is_revoked, Follows, state_of, IsOfGroup, View, Adds, is_some, lookup, get, index_map_len, IsReceive}
+use Rattle.ulfm_rank.proofs.Common.{Context, Pattern, Posted, Request, IsRequest, is_revoked, Follows, state_of, IsOfGroup, RankView, Adds, is_some, lookup, get, index_map_len, IsReceive}
 use Rattle.ulfm_rank.specs.Checks.{receive_checks, Passes}
 use Rattle.ulfm_rank.proofs.InStep.{count_small, in_step_open, posted_request}
 use Rattle.ulfm_rank.proofs.Refusals.{all_pass}
@@ -25,7 +25,7 @@ admit-fate-requires-clause-open c =
     let a = c.self.inside in
     let s = state_of a in
     let x = c.args.comm.context.number in
-    let passes : Passes (receive_checks s x c.args.source) = subst (λ (v : View). Passes (receive_checks v.state x c.args.source)) (sym c.self.view_is) c.in_ok-pattern.ensures.accepted in
+    let passes : Passes (receive_checks s x c.args.source) = subst (λ (v : RankView). Passes (receive_checks v.state x c.args.source)) (sym c.self.view_is) c.in_ok-pattern.ensures.accepted in
     let fresh : is_revoked a.log.items c.in_ok-pattern.pattern.context.number ≡ false = ap (λ (d : Context). is_revoked a.log.items d.number) c.in_ok-pattern.ensures.asks_for.context ∙ (all_pass (receive_checks s x c.args.source) passes).1.1.0 in
     rw c.prepare.ensures.cleared (in_step_open c.self.invariant.follows.in_step c.in_ok-pattern.pattern.context.number fresh)
 
@@ -54,7 +54,7 @@ module _ (c : After-push_reserved) where
   done : Follows c.self.inside.ranks c.self.inside.me.number (c.self.inside.log.items ++ Posted pattern ∷ []) c.self.inside.stopped c.admit-fate.new.matcher (get nat_eq c.insert.new.self) c.self.inside.faults c.self.inside.communicators c.self.inside.outboxes.boxes
   done =
       let a = c.self.inside in
-      let of_group : IsOfGroup a.ranks a.log.items pattern = subst (λ (v : View). IsOfGroup v.state.ranks v.state.log pattern) (sym c.self.view_is) c.in_ok-pattern.ensures.of_group in
+      let of_group : IsOfGroup a.ranks a.log.items pattern = subst (λ (v : RankView). IsOfGroup v.state.ranks v.state.log pattern) (sym c.self.view_is) c.in_ok-pattern.ensures.of_group in
       follows_posted ready pattern of_group c.admit-fate.result.1 c.admit-fate.new.matcher (get nat_eq c.insert.new.self)
       (rw (sym c.names_known-gone.ensures) c.admit-fate.ensures.tracks) adds
 
@@ -76,7 +76,7 @@ returns-clause-posts c =
     record {
       pattern = pattern c;
       receive = receive c;
-      only = state_logged a.outboxes.boxes a.outboxes.boxes (Posted (pattern c)) (ap (λ (v : View). v.state) c.self.view_is) (longer c) refl;
+      only = state_logged a.outboxes.boxes a.outboxes.boxes (Posted (pattern c)) (ap (λ (v : RankView). v.state) c.self.view_is) (longer c) refl;
     }
 
 pub returns-clause-request : goal.returns-clause-request

@@ -1,11 +1,11 @@
 use Rattle.std.proofs.Common.{◌≡◌, ◌<◌, false, length, ap, sym, ◌∙◌, arith}
-use Rattle.ulfm_rank.proofs.Common.{is_stopped, State, View}
+use Rattle.ulfm_rank.proofs.Common.{is_stopped, State, RankView}
 use Rattle.ulfm_rank.proofs.Seen.{all_out, none_left}
 use Rattle.ulfm_rank.proofs.rank.Rank.is_outbox_empty.Goals as goal
 
 pub returns-then-not-self : goal.returns-then-not-self
 returns-then-not-self c =
-    let seen = ap (λ (v : View). v.state) c.self.view_is in
+    let seen = ap (λ (v : RankView). v.state) c.self.view_is in
     let boxes = c.self.inside.outboxes.boxes in
     let held = c.self.invariant.follows.outboxes in
     let inside : c.args.dest < length boxes = omega (arith, c.requires, held.size, ap (λ (s : State). s.ranks) seen) in

@@ -1,5 +1,5 @@
 use Rattle.std.proofs.Common.{◌++◌, ◌∷◌, [], refl, ap, ◌∙◌, arith}
-use Rattle.ulfm_rank.proofs.Common.{Letter, Sent, State, View}
+use Rattle.ulfm_rank.proofs.Common.{Letter, Sent, State, RankView}
 use Rattle.ulfm_rank.proofs.Held.{marks-grown}
 use Rattle.ulfm_rank.proofs.Following.{follows_sent}
 use Rattle.ulfm_rank.proofs.Seen.{stop_places_few, state_logged}
@@ -19,7 +19,7 @@ invariant_of-self-2 c =
 pub returns-clause-sends : goal.returns-clause-sends
 returns-clause-sends c =
     let a = c.self.inside in
-    let seen = ap (λ (v : View). v.state) c.self.view_is in
+    let seen = ap (λ (v : RankView). v.state) c.self.view_is in
     let letter : Letter = record { envelope = record { context = c.args.comm.context; source = a.me; tag = c.args.tag }; body = c.in_ok-body.body } in
     let now_log = c.push_reserved.ensures.items ∙ ap (λ l. l ++ Sent c.in_ok-to.to c.of-noted.result ∷ []) c.reserve.ensures.items ∙ ap (λ x. a.log.items ++ Sent c.in_ok-to.to x ∷ []) c.of-noted.ensures in
     let grows = rw c.in_ok-reserve-2.ensures.boxes at c.put.ensures in

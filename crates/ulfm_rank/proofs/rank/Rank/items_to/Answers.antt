@@ -1,14 +1,14 @@
 use Rattle.std.proofs.Common.{◌≡◌, ◌<◌, false, length, ap, sym, ◌∙◌, arith}
-use Rattle.ulfm_rank.proofs.Common.{is_stopped, State, View}
+use Rattle.ulfm_rank.proofs.Common.{is_stopped, State, RankView}
 use Rattle.ulfm_rank.proofs.Seen.{left}
 use Rattle.ulfm_rank.proofs.rank.Rank.items_to.Goals as goal
 
 pub items-requires : goal.items-requires
-items-requires c = omega (arith, c.requires.inside, c.self.invariant.follows.outboxes.size, ap (λ (v : View). v.state.ranks) c.self.view_is)
+items-requires c = omega (arith, c.requires.inside, c.self.invariant.follows.outboxes.size, ap (λ (v : RankView). v.state.ranks) c.self.view_is)
 
 pub returns : goal.returns
 returns c =
-    let seen = ap (λ (v : View). v.state) c.self.view_is in
+    let seen = ap (λ (v : RankView). v.state) c.self.view_is in
     let boxes = c.self.inside.outboxes.boxes in
     let held = c.self.invariant.follows.outboxes in
     let inside : c.args.dest < length boxes = omega (arith, c.requires.inside, held.size, ap (λ (s : State). s.ranks) seen) in

@@ -1,5 +1,5 @@
 use Rattle.std.proofs.Common.{◌≡◌, ℕ, [], ◌∷◌, ◌++◌, refl, ap, sym, subst, arith, ◌∙◌, false, nat_eq, Some}
-use Rattle.ulfm_rank.proofs.Common.{Pattern, Request, View, Received, IsMessage, IsMessageAnswer, IsNoMessage, is_some, is_stopped, get, index_map_len}
+use Rattle.ulfm_rank.proofs.Common.{Pattern, Request, RankView, Received, IsMessage, IsMessageAnswer, IsNoMessage, is_some, is_stopped, get, index_map_len}
 use Rattle.ulfm_rank.proofs.Answered.{is_message, no_message}
 use Rattle.ulfm_rank.proofs.Requested.{has_group, sender_found, answered_message}
 use Rattle.ulfm_rank.proofs.Whole.{follows_released, one_less}
@@ -7,7 +7,7 @@ use Rattle.ulfm_rank.proofs.rank.Rank.mrecv.Goals as goal
 
 pub returns-in-None-clause-refused : goal.returns-in-None-clause-refused
 returns-in-None-clause-refused c =
-    subst (λ (v : View). (is_stopped v.state.log ≡ false) × IsNoMessage v.state.log c.args.id.number) c.self.view_is
+    subst (λ (v : RankView). (is_stopped v.state.log ≡ false) × IsNoMessage v.state.log c.args.id.number) c.self.view_is
     (sym c.self.invariant.follows.halted ∙ c.if-self.false, no_message c.self.invariant.follows.in_step c.args.id.number c.in-None.ensures.none)
 
 pub answer_in-answer-requires-clause-made : goal.answer_in-answer-requires-clause-made
@@ -38,10 +38,10 @@ returns-clause-answer c =
     let both : Some q ≡ Some c.unwrap-fate.result = sym c.in-Some.ensures.there.0 ∙ sym c.shift_remove.ensures.value ∙ c.unwrap-fate.ensures in
     let same : c.unwrap-fate.result ≡ q = cc in
     let fate : c.unwrap-fate.result.fate ≡ q.fate = ap (λ (x : Request). x.fate) same in
-    subst (λ (v : View). IsMessageAnswer v.state.ranks v.state.log c.args.id.number c.args.room c.answer_in-answer.result) c.self.view_is
+    subst (λ (v : RankView). IsMessageAnswer v.state.ranks v.state.log c.args.id.number c.args.room c.answer_in-answer.result) c.self.view_is
     (answered_message c.self.invariant.follows c.args.id.number c.in-Some.message.now c.in-Some.ensures.there.0 c.in-Some.ensures.there.1 c.args.room _ c.answer_in-answer.result (rw (c.with_room-pattern.ensures, fate) at c.answer_in-answer.ensures))
 
 pub returns-clause-message : goal.returns-clause-message
 returns-clause-message c =
-    subst (λ (v : View). (i : ℕ) × (p : Pattern) × IsMessage v.state.log c.args.id.number i p) c.self.view_is
+    subst (λ (v : RankView). (i : ℕ) × (p : Pattern) × IsMessage v.state.log c.args.id.number i p) c.self.view_is
     (is_message c.self.invariant.follows.in_step c.args.id.number c.in-Some.message.now c.in-Some.ensures.there.0 c.in-Some.ensures.there.1)

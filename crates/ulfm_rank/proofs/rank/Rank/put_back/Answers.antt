@@ -1,18 +1,18 @@
 use Rattle.std.proofs.Common.{◌≡◌, ◌<◌, true, false, length, set, ap, sym, ◌∙◌, arith}
-use Rattle.ulfm_rank.proofs.Common.{is_stopped, State, View, box_at, with_item_back, HasOutboxes}
+use Rattle.ulfm_rank.proofs.Common.{is_stopped, State, RankView, box_at, with_item_back, HasOutboxes}
 use Rattle.ulfm_rank.proofs.Seen.{returns_item, returns_notice, outbox_back, outboxes-marked}
 use Rattle.ulfm_rank.proofs.rank.Rank.put_back.Goals as goal
 
 pub returns-then-self-clause-state : goal.returns-then-self-clause-state
 returns-then-self-clause-state c =
-    let seen = ap (λ (v : View). v.state) c.self.view_is in
+    let seen = ap (λ (v : RankView). v.state) c.self.view_is in
     let stopped : is_stopped c.self.inside.log.items ≡ true = sym c.self.invariant.follows.halted ∙ c.if-self.true in
     rw c.set_notice_out.ensures.boxes (returns_notice c.self.inside.outboxes.boxes c.args.dest seen stopped)
 
 pub invariant_of-self-2 : goal.invariant_of-self-2
 invariant_of-self-2 c =
     let a = c.self.inside in
-    let seen = ap (λ (v : View). v.state) c.self.view_is in
+    let seen = ap (λ (v : RankView). v.state) c.self.view_is in
     let boxes = a.outboxes.boxes in
     let held = c.self.invariant.follows.outboxes in
     let inside : c.args.dest < length boxes = omega (arith, c.requires.inside, held.size, ap (λ (s : State). s.ranks) seen) in
@@ -36,6 +36,6 @@ invariant_of-self-2 c =
 
 pub returns-clause-state : goal.returns-clause-state
 returns-clause-state c =
-    let seen = ap (λ (v : View). v.state) c.self.view_is in
+    let seen = ap (λ (v : RankView). v.state) c.self.view_is in
     let running : is_stopped c.self.inside.log.items ≡ false = sym c.self.invariant.follows.halted ∙ c.if-self.false in
     rw c.put_back.ensures.boxes (returns_item c.self.inside.outboxes.boxes c.args.dest seen c.args.item running)

@@ -1,5 +1,5 @@
 use Rattle.std.proofs.Common.{◌≡◌, ◌++◌, ◌∷◌, [], ℕ, false, ap, sym, ◌∙◌, arith, nat_eq}
-use Rattle.ulfm_rank.proofs.Common.{Revoked, is_revoked, is_gone, has, State, View, get}
+use Rattle.ulfm_rank.proofs.Common.{Revoked, is_revoked, is_gone, has, State, RankView, get}
 use Rattle.ulfm_rank.proofs.Held.{marks-grown}
 use Rattle.ulfm_rank.proofs.Following.{follows_revoked}
 use Rattle.ulfm_rank.proofs.Seen.{stop_places_few, state_logged}
@@ -22,7 +22,7 @@ invariant_of-self-2 c =
 pub returns-clause-state : goal.returns-clause-state
 returns-clause-state c =
     let a = c.self.inside in
-    let seen = ap (λ (v : View). v.state) c.self.view_is in
+    let seen = ap (λ (v : RankView). v.state) c.self.view_is in
     let now_log = c.push_reserved.ensures.items ∙ ap (λ l. l ++ Revoked c.args.comm.context ∷ []) c.reserve.ensures.items in
     let faults = c.self.invariant.follows.faults in
     let first : is_revoked a.log.items c.args.comm.context.number ≡ false = sym (faults.marks c.args.comm.context.number) ∙ sym c.is_revoked.ensures ∙ c.if-is_revoked.false in

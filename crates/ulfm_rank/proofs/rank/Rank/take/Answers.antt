@@ -1,5 +1,5 @@
 use Rattle.std.proofs.Common.{◌≡◌, ◌+◌, [], ◌∷◌, ◌++◌, ap, sym, subst, arith, ◌∙◌, nat_eq, IsTrue, vec_len, vec_capacity}
-use Rattle.ulfm_rank.proofs.Common.{Took, AllGrow, View, owed_by_item, get, index_map_len, stop_places, revoked_before}
+use Rattle.ulfm_rank.proofs.Common.{Took, AllGrow, RankView, owed_by_item, get, index_map_len, stop_places, revoked_before}
 use Rattle.ulfm_rank.proofs.Held.{marks-grown}
 use Rattle.ulfm_rank.proofs.InStep.{count_small, in_step_open}
 use Rattle.ulfm_rank.proofs.Known.{marked_before, knows_gone}
@@ -32,7 +32,7 @@ longer c = c.push_reserved.ensures.items ∙ ap (λ x. c.self.inside.log.items +
 pub invariant_of-self : goal.invariant_of-self
 invariant_of-self c =
     let a = c.self.inside in
-    let room = room_of a.matcher.prepared (vec_len a.log + (index_map_len a.requests + stop_places a.stopped)) (vec_capacity a.log) a.outboxes.room (subst (λ (v : View). IsTrue v.prepared) (sym c.self.view_is) c.requires.prepared) in
+    let room = room_of a.matcher.prepared (vec_len a.log + (index_map_len a.requests + stop_places a.stopped)) (vec_capacity a.log) a.outboxes.room (subst (λ (v : RankView). IsTrue v.prepared) (sym c.self.view_is) c.requires.prepared) in
     let tracks = rw c.is_late-late.ensures at c.settle.ensures.tracks in
     record {
       follows = rw (longer c)
@@ -43,4 +43,4 @@ invariant_of-self c =
 pub returns : goal.returns
 returns c =
     let a = c.self.inside in
-    state_logged c.self.inside.outboxes.boxes c.pass_on.new.outboxes.boxes (Took c.args.source c.args.item) (ap (λ (v : View). v.state) c.self.view_is) (longer c) (marks-grown (grows c))
+    state_logged c.self.inside.outboxes.boxes c.pass_on.new.outboxes.boxes (Took c.args.source c.args.item) (ap (λ (v : RankView). v.state) c.self.view_is) (longer c) (marks-grown (grows c))

@@ -1,5 +1,5 @@
 use Rattle.std.proofs.Common.{◌≡◌, ℕ, true, false, refl, ap, sym, subst, arith, ◌∙◌, [], ◌∷◌, ◌++◌, nat_eq}
-use Rattle.ulfm_rank.proofs.Common.{Pattern, View, Released, IsTestAnswer, IsRequest, IsNoRequest, is_some, is_stopped, is_waiting, get, index_map_len}
+use Rattle.ulfm_rank.proofs.Common.{Pattern, RankView, Released, IsTestAnswer, IsRequest, IsNoRequest, is_some, is_stopped, is_waiting, get, index_map_len}
 use Rattle.ulfm_rank.proofs.Answered.{is_request, no_request}
 use Rattle.ulfm_rank.proofs.Requested.{has_group, sender_found, answered, waiting}
 use Rattle.ulfm_rank.proofs.Whole.{follows_released, one_less}
@@ -7,7 +7,7 @@ use Rattle.ulfm_rank.proofs.rank.Rank.test.Goals as goal
 
 pub returns-in-None-clause-refused : goal.returns-in-None-clause-refused
 returns-in-None-clause-refused c =
-    subst (λ (v : View). (is_stopped v.state.log ≡ false) × IsNoRequest v.state.log c.args.id.number) c.self.view_is
+    subst (λ (v : RankView). (is_stopped v.state.log ≡ false) × IsNoRequest v.state.log c.args.id.number) c.self.view_is
     (sym c.self.invariant.follows.halted ∙ c.if-self.false, no_request c.self.invariant.follows.in_step c.args.id.number c.in-None.ensures.none)
 
 pub answer_in-requires-clause-made : goal.answer_in-requires-clause-made
@@ -17,12 +17,12 @@ pub returns-then-is_waiting-clause-answer : goal.returns-then-is_waiting-clause-
 returns-then-is_waiting-clause-answer c =
     let q = c.in-Some.request.now in
     let waits : is_waiting q.fate ≡ true = sym c.is_waiting.ensures ∙ c.if-is_waiting.true in
-    subst (λ (v : View). IsTestAnswer v.state.ranks v.state.log c.args.id.number c.answer_in.result) c.self.view_is
+    subst (λ (v : RankView). IsTestAnswer v.state.ranks v.state.log c.args.id.number c.answer_in.result) c.self.view_is
     (answered c.self.invariant.follows c.args.id.number q c.in-Some.ensures.there.0 c.answer_in.result (rw (waiting q.fate waits) c.answer_in.ensures))
 
 pub returns-then-is_waiting-clause-request : goal.returns-then-is_waiting-clause-request
 returns-then-is_waiting-clause-request c =
-    subst (λ (v : View). (i : ℕ) × (p : Pattern) × IsRequest v.state.log c.args.id.number i p) c.self.view_is
+    subst (λ (v : RankView). (i : ℕ) × (p : Pattern) × IsRequest v.state.log c.args.id.number i p) c.self.view_is
     (is_request c.self.invariant.follows.in_step c.args.id.number c.in-Some.request.now c.in-Some.ensures.there.0 c.in-Some.ensures.there.1)
 
 pub answer_in-answer-requires-clause-made : goal.answer_in-answer-requires-clause-made
@@ -45,10 +45,10 @@ invariant_of-self c =
 
 pub returns-clause-answer : goal.returns-clause-answer
 returns-clause-answer c =
-    subst (λ (v : View). IsTestAnswer v.state.ranks v.state.log c.args.id.number c.answer_in-answer.result) c.self.view_is
+    subst (λ (v : RankView). IsTestAnswer v.state.ranks v.state.log c.args.id.number c.answer_in-answer.result) c.self.view_is
     (answered c.self.invariant.follows c.args.id.number c.unwrap-request.result (sym c.shift_remove.ensures.value ∙ c.unwrap-request.ensures) c.answer_in-answer.result c.answer_in-answer.ensures)
 
 pub returns-clause-request : goal.returns-clause-request
 returns-clause-request c =
-    subst (λ (v : View). (i : ℕ) × (p : Pattern) × IsRequest v.state.log c.args.id.number i p) c.self.view_is
+    subst (λ (v : RankView). (i : ℕ) × (p : Pattern) × IsRequest v.state.log c.args.id.number i p) c.self.view_is
     (is_request c.self.invariant.follows.in_step c.args.id.number c.in-Some.request.now c.in-Some.ensures.there.0 c.in-Some.ensures.there.1)

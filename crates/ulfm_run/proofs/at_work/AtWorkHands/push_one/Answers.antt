@@ -1,5 +1,6 @@
 use Rattle.std.proofs.Common.{◌≡◌, ℕ, arith, refl, ap, sym, subst, ◌∙◌}
 use Rattle.ulfm_rank.proofs.Signed.{front_signed}
+use Rattle.ulfm_rank.proofs.States.{comes-back}
 use Rattle.ulfm_run.proofs.Common.{Player, with_rank, ComesFrom, State, returned}
 use Rattle.ulfm_run.proofs.Working.{carried}
 use Rattle.ulfm_run.proofs.Joining.{moves-pushed, moves-returned}
@@ -26,7 +27,7 @@ returns-in-Err-clause-moves g c =
     let same : c.put_back.new.self.player ≡ v =
     c.put_back.ensures.player
     ∙ ap (λ (p : Player). with_rank p (returned c.take_out.new.self.player.rank c.args.dest)) c.in-Some.ensures.only
-    ∙ ap (λ (r : State). with_rank v r) c.in-Some.ensures.leaves.comes_back in (
+    ∙ ap (λ (r : State). with_rank v r) (comes-back v.rank c.take_out.new.self.player.rank c.args.dest c.in-Some.item c.in-Some.ensures.leaves) in (
       refl,
       refl,
       carried

@@ -1,7 +1,7 @@
 use Rattle.std.proofs.Common.{◌≡◌, ◌≤◌, ◌+◌, ◌++◌, ℕ, length, map, slice_get}
 use Rattle.std.specs.Vec.Iter.{into_iter_items, into_iter_len}
 use Rattle.ulfm_carrier.proofs.Common.{arc_value, at, SharedEnds, IsMade}
-use Rattle.ulfm_carrier.proofs.seating.seated.Given as goal
+use Rattle.ulfm_carrier.proofs.shared_wiring.wired.Given as goal
 
 abbrev pub invariant-loop-inlet : goal.invariant-loop-inlet
 invariant-loop-inlet l = record {

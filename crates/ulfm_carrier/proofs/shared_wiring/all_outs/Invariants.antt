@@ -1,6 +1,6 @@
 use Rattle.std.proofs.Common.{◌≡◌, length}
 use Rattle.ulfm_carrier.proofs.Common.{AreInlets, AreRows}
-use Rattle.ulfm_carrier.proofs.seating.all_outs.Given as goal
+use Rattle.ulfm_carrier.proofs.shared_wiring.all_outs.Given as goal
 
 abbrev pub invariant-loop : goal.invariant-loop
 invariant-loop l = record {

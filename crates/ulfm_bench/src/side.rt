@@ -28,7 +28,7 @@ pub enum Tested {
 
 /// One of two ranks, with its end of the way between them.
 #[derive(Drop)]
-pub struct Seat<W: Way> {
+pub struct Side<W: Way> {
     pub rank: Rank,
     pub way: W,
     pub other: WorldRank,
@@ -97,7 +97,7 @@ fn is_from(item: &Item, source: WorldRank) -> bool
     }
 }
 
-impl<W: Way> Seat<W> {
+impl<W: Way> Side<W> {
     /// The first item for a rank goes out, if there is one and room for it. Whether one went.
     fn push_one<R: Wait>(&mut self, rt: &R, dest: u8) -> bool {
         let Some(item) = take_out(&mut self.rank, dest) else {
@@ -140,7 +140,7 @@ impl<W: Way> Seat<W> {
     }
 }
 
-impl<W: Way> Post for Seat<W> {
+impl<W: Way> Post for Side<W> {
     fn send<R: Wait>(&mut self, rt: &R, bytes: &[u8]) -> bool {
         if !start_send(&mut self.rank, self.other, bytes) {
             return false;

@@ -1,8 +1,8 @@
 use Rattle.std.proofs.Common.{◌≡◌, ◌+◌, ℕ, length, ap, sym, ◌∙◌, arith, subst}
 use Rattle.ulfm_carrier.proofs.Common.{at, Global, InboxPass, length_push, Vec, AreInlets, AreOuts, AreRows}
 use Rattle.ulfm_carrier.proofs.Places.{each_push, none_at}
-use Rattle.ulfm_carrier.proofs.Seats.{open_inlets, more_inlets, new_outs}
-use Rattle.ulfm_carrier.proofs.seating.all_outs.Goals as goal
+use Rattle.ulfm_carrier.proofs.SharedWires.{open_inlets, more_inlets, new_outs}
+use Rattle.ulfm_carrier.proofs.shared_wiring.all_outs.Goals as goal
 
 pub loop-init : goal.loop-init
 loop-init c =

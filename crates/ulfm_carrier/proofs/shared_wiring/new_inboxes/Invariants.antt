@@ -1,6 +1,6 @@
 use Rattle.std.proofs.Common.{◌≡◌, length}
 use Rattle.ulfm_carrier.proofs.Common.{AreInboxes, AreInlets}
-use Rattle.ulfm_carrier.proofs.seating.new_inboxes.Given as goal
+use Rattle.ulfm_carrier.proofs.shared_wiring.new_inboxes.Given as goal
 
 abbrev pub invariant-loop : goal.invariant-loop
 invariant-loop l = record {

@@ -1,6 +1,6 @@
 use Rattle.std.proofs.Common.{◌≡◌, ◌≤◌, ◌<◌, ℕ, length, slice_get}
 use Rattle.ulfm_carrier.proofs.Common.{AreNextOuts, at, InboxPass, IsSamePass, view, one_more}
-use Rattle.ulfm_carrier.proofs.seating.next_outs.Given as goal
+use Rattle.ulfm_carrier.proofs.shared_wiring.next_outs.Given as goal
 
 abbrev pub invariant-loop-dest : goal.invariant-loop-dest
 invariant-loop-dest l = record {

@@ -8,7 +8,7 @@ use Rattle.crossbeam_queue.specs.declared.array_queue.Slotted.{Slotted}
 use Rattle.crossbeam_queue.specs.declared.array_queue.Turns.{Turns}
 use Rattle.crossbeam_queue.specs.Passes.{view, IsPassOf, IsSamePass, ruled_capacity}
 use Rattle.ulfm_carrier.specs.declared.inbox.InOrder.{InOrder}
-use Rattle.ulfm_carrier.specs.declared.inbox.View.{View}
+use Rattle.ulfm_carrier.specs.declared.inbox.PassView.{PassView}
 use Rattle.ulfm_carrier.specs.declared.shared_ends.SharedEnds.{SharedEnds}
 use Rattle.ulfm_base.specs.Lists.{at}
 use Rattle.ulfm_carrier.specs.Inbox.{Signed, InboxPass, receiver}
@@ -17,10 +17,10 @@ use Rattle.ulfm_carrier.specs.declared.inbox.Role.TheVariants as role
 
 -- an inbox under its rule
 abbrev pub Queue : Type 0
-Queue = Slotted (Option Signed) (Doing Signed View) (Turns InOrder) Global
+Queue = Slotted (Option Signed) (Doing Signed PassView) (Turns InOrder) Global
 
 -- the receiver that made this many senders, and did nothing else
-abbrev pub receiver_of : ℕ → View
+abbrev pub receiver_of : ℕ → PassView
 receiver_of m = record receiver { made = m }
 
 -- inboxes of this many places

@@ -4,7 +4,7 @@ ghost use Rattle.std.specs.Io.KnownBytes.{Keeps, Appends};
 ghost use Rattle.ulfm.specs.Replies.{IsReplyTo, IsWhole, GetsReply, GetsBeginning, GetsFront};
 ghost use Rattle.ulfm.specs.inside.Writing.{GetsFrontOf, not_text};
 ghost use Rattle.ulfm_replies.specs.declared.command.Wanted.{Wanted};
-ghost use Rattle.ulfm_replies.specs.Words.{AsksFor, HasRanges, faults, IsWordsStatus};
+ghost use Rattle.ulfm_replies.specs.CommandLine.{AsksFor, HasRanges, faults, IsWordsStatus};
 ghost use Rattle.ulfm_replies.specs.Failure.{out_of_memory_text};
 
 use crate::progress::Progress;

@@ -1,7 +1,7 @@
 use Rattle.std.proofs.Common.{◌≤◌, ◌≡◌, ◌⊎◌, ℕ, arith, inl, inr, subst, sym}
 use Rattle.ulfm.proofs.Refused.{starved_gets, starved_begins}
 use Rattle.ulfm.proofs.Statuses.{known_status}
-use Rattle.ulfm.proofs.front.follow.Goals as goal
+use Rattle.ulfm.proofs.app.follow.Goals as goal
 
 pub returns-in-Err-OutOfMemory-clause-replies : goal.returns-in-Err-OutOfMemory-clause-replies
 returns-in-Err-OutOfMemory-clause-replies g c = starved_gets c.args.wanted 1048577 _ _ _ _ c.write_reply.ensures.written

@@ -98,8 +98,8 @@ abbrev pub is_strict : List Row → Bool
 is_strict rows = is_flagged (codes "strict") rows
 
 -- the flag `--progress` was given
-abbrev pub is_told : List Row → Bool
-is_told rows = is_flagged (codes "progress") rows
+abbrev pub wants_progress : List Row → Bool
+wants_progress rows = is_flagged (codes "progress") rows
 
 -- the number that an option was given: the rule of the option refuses all others
 abbrev pub number_given : ℕ → Option Text → Option ℕ
@@ -108,7 +108,12 @@ number_given most (Some text) = if accepts false (Unsigned 1 most) text then Som
 
 -- the options of `run` with a carrier
 abbrev pub options_by : List Row → Carrier → RunOptions
-options_by rows carrier = record { carrier = carrier; is_strict = is_strict rows; turns = number_given most_turns (first_of (codes "turns") rows); repeat = number_given most_runs (first_of (codes "repeat") rows) }
+options_by rows carrier = record {
+  carrier = carrier;
+  is_strict = is_strict rows;
+  turns = number_given most_turns (first_of (codes "turns") rows);
+  repeat = number_given most_runs (first_of (codes "repeat") rows);
+}
 
 -- what the options of `run` ask for, where there is a carrier of that name
 abbrev pub run_options : List Row → Option RunOptions
@@ -120,7 +125,13 @@ limit_in rows = unwrap_or (number_given most_states (first_of (codes "limit") ro
 
 -- the command of a name, with its options
 abbrev pub named : Text → List Row → Option Wanted
-named name rows = if bytes_eq name (codes "check") then Some Check else (if bytes_eq name (codes "replay") then Some (Replay (is_strict rows)) else (if bytes_eq name (codes "run") then option_map Run (run_options rows) else (if bytes_eq name (codes "sweep") then Some Sweep else (if bytes_eq name (codes "outcomes") then Some (Outcomes (limit_in rows) (is_told rows)) else None))))
+named name rows =
+    if bytes_eq name (codes "check") then Some Check
+    else (if bytes_eq name (codes "replay") then Some (Replay (is_strict rows))
+    else (if bytes_eq name (codes "run") then option_map Run (run_options rows)
+    else (if bytes_eq name (codes "sweep") then Some Sweep
+    else (if bytes_eq name (codes "outcomes") then Some (Outcomes (limit_in rows) (wants_progress rows))
+    else None))))
 
 -- what a subcommand and its options mean
 abbrev pub meant : Option (Text × List Row) → Option Wanted
@@ -152,7 +163,7 @@ IsLimit limit = (0 < limit) × (limit ≤ most_states)
 -- the numbers of what the words ask for are in their ranges
 abbrev pub HasRanges : Wanted → Type 0
 HasRanges (Run options) = AreInRange options
-HasRanges (Outcomes limit is_told) = IsLimit limit
+HasRanges (Outcomes limit wants_progress) = IsLimit limit
 HasRanges _ = ⊤
 
 -- the status of a kind of fault: help is no failure

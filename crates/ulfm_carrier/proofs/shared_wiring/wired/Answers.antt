@@ -2,8 +2,8 @@ use Rattle.std.proofs.Common.{◌≡◌, ◌<◌, ◌≤◌, ◌++◌, length, m
 use Rattle.std.specs.Vec.Iter.{into_iter_items}
 use Rattle.ulfm_carrier.proofs.Common.{arc_value, at, length-set, length_push, AreOuts, IsMade}
 use Rattle.ulfm_carrier.proofs.Places.{at_read, at_other, each_push, none_at}
-use Rattle.ulfm_carrier.proofs.Seats.{inlet_next, inlets_next}
-use Rattle.ulfm_carrier.proofs.seating.seated.Goals as goal
+use Rattle.ulfm_carrier.proofs.SharedWires.{inlet_next, inlets_next}
+use Rattle.ulfm_carrier.proofs.shared_wiring.wired.Goals as goal
 
 pub loop-inlet-init : goal.loop-inlet-init
 loop-inlet-init c =

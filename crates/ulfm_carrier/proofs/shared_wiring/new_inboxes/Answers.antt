@@ -1,8 +1,8 @@
 use Rattle.std.proofs.Common.{◌≡◌, ◌+◌, ◌∷◌, [], ◌++◌, ℕ, List, length, ap, sym, ◌∙◌, subst}
 use Rattle.ulfm_carrier.proofs.Common.{InboxPass, IsPassOf, length_push, ruled_capacity, view, Queue, receiver_of, AreInboxes, AreInlets}
 use Rattle.ulfm_carrier.proofs.Places.{each_push}
-use Rattle.ulfm_carrier.proofs.Seats.{each_pair}
-use Rattle.ulfm_carrier.proofs.seating.new_inboxes.Goals as goal
+use Rattle.ulfm_carrier.proofs.SharedWires.{each_pair}
+use Rattle.ulfm_carrier.proofs.shared_wiring.new_inboxes.Goals as goal
 
 pub loop-preserved : goal.loop-preserved
 loop-preserved c =

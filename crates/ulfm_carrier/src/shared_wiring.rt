@@ -4,10 +4,10 @@ ghost use Rattle.std.specs.Arc.{arc_value};
 ghost use Rattle.ulfm_carrier.specs.declared.shared_ends.SharedEnds.{SharedEnds as Shared};
 ghost use Rattle.ulfm_carrier.specs.Family.{AllFresh};
 ghost use Rattle.ulfm_base.specs.Lists.{InPlace, at};
-ghost use Rattle.ulfm_carrier.specs.inside.Seating.{AreInboxes, AreInlets, AreNextOuts, AreRows, AreOpenInlets, HaveMadeOneMore, AreMade};
+ghost use Rattle.ulfm_carrier.specs.inside.SharedWiring.{AreInboxes, AreInlets, AreNextOuts, AreRows, AreOpenInlets, HaveMadeOneMore, AreMade};
 ghost use Rattle.ulfm_carrier.specs.Shared.{shared_name, shared_pushed, shared_taken, inbox_capacity, IsReady, OneCall};
 
-use crate::inbox::{Inbox, InboxPass, new_inbox, next_sender};
+use crate::inbox::{InboxPass, SharedInbox, new_inbox, next_sender};
 use crate::shared_ends::SharedEnds;
 use std::alloc::Global;
 use std::mem;
@@ -35,7 +35,7 @@ pub fn shared(alloc: Global, n: u8, capacity: u8) -> Result<Vec<SharedEnds>, Cal
     let (inboxes, mut inlets) = new_inboxes(alloc, n, capacity)?;
     let mut rows = all_outs(alloc, n, &inboxes, &mut inlets)?;
     let inboxes = Arc::new(alloc, inboxes)?;
-    seated(alloc, capacity, &inboxes, &mut rows, inlets)
+    wired(alloc, capacity, &inboxes, &mut rows, inlets)
 }
 
 /// An empty inbox for each rank, and the passes of the receivers, which made no sender yet.
@@ -43,7 +43,7 @@ fn new_inboxes(
     alloc: Global,
     n: u8,
     capacity: u8,
-) -> Result<(Vec<Inbox>, Vec<InboxPass>), CallError>
+) -> Result<(Vec<SharedInbox>, Vec<InboxPass>), CallError>
     requires { 1 ≤ capacity }
     ensures len { IfOk result (λ made. (length made.0.items ≡ n) × (length made.1.items ≡ n)) }
     ensures inboxes { IfOk result (λ made. AreInboxes capacity made.0.items) }
@@ -64,7 +64,7 @@ fn new_inboxes(
 fn all_outs(
     alloc: Global,
     n: u8,
-    inboxes: &Vec<Inbox>,
+    inboxes: &Vec<SharedInbox>,
     inlets: &mut Vec<InboxPass>,
 ) -> Result<Vec<Vec<InboxPass>>, CallError>
     requires len { (length inboxes.now.items ≡ n) × (length inlets.old.items ≡ n) }
@@ -85,7 +85,7 @@ fn all_outs(
 /// The passes by which the next rank sends.
 fn next_outs(
     alloc: Global,
-    inboxes: &Vec<Inbox>,
+    inboxes: &Vec<SharedInbox>,
     inlets: &mut Vec<InboxPass>,
 ) -> Result<Vec<InboxPass>, CallError>
     requires len { length inlets.old.items ≡ length inboxes.now.items }
@@ -104,10 +104,10 @@ fn next_outs(
 }
 
 /// The ends that have these passes, with room for what will be left.
-fn seated(
+fn wired(
     alloc: Global,
     capacity: u8,
-    inboxes: &Arc<Vec<Inbox>>,
+    inboxes: &Arc<Vec<SharedInbox>>,
     rows: &mut Vec<Vec<InboxPass>>,
     inlets: Vec<InboxPass>,
 ) -> Result<Vec<SharedEnds>, CallError>

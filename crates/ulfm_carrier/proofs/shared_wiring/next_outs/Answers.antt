@@ -1,8 +1,8 @@
 use Rattle.std.proofs.Common.{◌<◌, ◌+◌, length, refl, ap, sym, ◌∙◌, arith, subst}
 use Rattle.ulfm_carrier.proofs.Common.{AreNextOuts, length-set, length_push, slice_get_within}
 use Rattle.ulfm_carrier.proofs.Places.{at_read, none_at}
-use Rattle.ulfm_carrier.proofs.Seats.{made_next, waiting_next, outs_next}
-use Rattle.ulfm_carrier.proofs.seating.next_outs.Goals as goal
+use Rattle.ulfm_carrier.proofs.SharedWires.{made_next, waiting_next, outs_next}
+use Rattle.ulfm_carrier.proofs.shared_wiring.next_outs.Goals as goal
 
 pub loop-dest-init : goal.loop-dest-init
 loop-dest-init c =
