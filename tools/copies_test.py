@@ -126,6 +126,12 @@ EXAMPLES = [
     ("a dead lemma is found, and what only it cites", {
         "crates/a/proofs/One.antt": PRELUDE + LEMMA + "pub one : (b : Bool) → b ≡ b || false\none b = sym (or_false b)\n",
     }, ["only dead names cite `or_false`", "nothing cites `one`"]),
+    ("a library that a crate lists is named by its code", {
+        "crates.txt": "# crate: libraries\nb:\na: b c d\n",
+        "crates/a/src/lib.rt": "// c is named in a comment alone\nuse b::x;\n",
+        "crates/a/proofs/One.antt": "use Rattle.d.specs.D.{x}\npub use Rattle.d.specs.D.{x}\n",
+        "crates/b/src/lib.rt": "use c::x;\n",
+    }, ["no file of `a` names `c`"]),
     ("an operator's parts are uses of it, a field's name isn't one", {
         "crates/a/proofs/One.antt": PRELUDE + "use Rattle.std.specs.Prelude.{if◌then◌else◌, ◌++◌, at}\n"
         "pub one : (b : Bool) (xs : List ℕ) → (if b || false then xs.at else (3 ∷ [])) ≡ xs\none b xs = length refl\n",
