@@ -155,5 +155,5 @@ def run(check, allowed, findings_of):
     if any("copy" in line for line in lines) or not any("`no_such` matches nothing" in line for line in lines):
         failed += 1
         print(f"exceptions: found {lines}")
-    print(f"{len(EXAMPLES) + 1} examples, {failed} failed")
+    print(f"check-copies: {len(EXAMPLES) + 1 - failed} passed, {failed} failed")
     return 1 if failed else 0
