@@ -1,22 +1,15 @@
 //! The program: words and a job in, a trace out.
 #![tactic(auto)]
 
-mod app;
-mod listed;
-mod progress;
-mod reply;
-mod run;
-mod swept;
-mod tally;
-
 use std::env;
 use std::io::ErrorKind;
 use std::process::ExitCode;
+use ulfm_program::{run_on, without_words};
 
 fn main(rt: HostRuntime) -> ExitCode {
     let mut output = rt.stdout();
     let status = match words_of(&rt) {
-        Ok(words) => app::run_on(
+        Ok(words) => run_on(
             &rt,
             rt.alloc(),
             words.as_slice(),
@@ -24,7 +17,7 @@ fn main(rt: HostRuntime) -> ExitCode {
             &mut output,
             &mut rt.stderr(),
         ),
-        Err(kind) => app::without_words(kind == ErrorKind::OutOfMemory, &mut output),
+        Err(kind) => without_words(kind == ErrorKind::OutOfMemory, &mut output),
     };
     ExitCode::from(status)
 }
@@ -36,6 +29,3 @@ fn words_of(rt: &HostRuntime) -> Result<Vec<String>, ErrorKind> {
         .collect(rt.alloc())
         .map_err(|_| ErrorKind::OutOfMemory)
 }
-
-#[cfg(test)]
-mod tests;

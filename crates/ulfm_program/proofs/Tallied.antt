@@ -1,0 +1,51 @@
+-- Counting one more trace, row by row, and one more run.
+use Rattle.std.proofs.Common.{◌≡◌, ◌<◌, ℕ, ◌+◌, ◌&&◌, ◌||◌, List, [], ◌∷◌, ◌++◌, true, take, drop, set, get_or, length, take-append-drop, map, bytes_eq, string_bytes, append_assoc, drop-set-lt, arith, sym, ap, ap₂, subst, ◌∙◌, if◌then◌else◌}
+use Rattle.std.specs.List.{list_all, list_any}
+use Rattle.std.proofs.Math.Bool.{and-true, or-false}
+use Rattle.std.proofs.lemmas.List.{drop_more, get_or_default, map-append, take_more_set}
+use Rattle.std.proofs.lemmas.List.Folds.{list_all-append, list_any-append}
+use Rattle.std.proofs.lemmas.List.Sums.{fold-append}
+use Rattle.ulfm_job.specs.Job.{JobView}
+use Rattle.ulfm_script.specs.Reacting.{all_met}
+use Rattle.ulfm_script.specs.Report.{Report}
+use Rattle.ulfm_script.specs.Trace.{trace_of}
+use Rattle.ulfm_program.specs.declared.tally.Counted.{Counted}
+use Rattle.ulfm_program.specs.inside.Tallied.{row_of, rows_of}
+use Rattle.ulfm_program.specs.Tally.{Row, counted, tally}
+use Rattle.ulfm_replies.specs.Unfinished.{has_unfinished}
+
+-- the first i rows, and then the others with one more trace
+abbrev pub counted_from : List Counted → List ℕ → ℕ → List Row
+counted_from rows t i = rows_of (take i rows) ++ counted (rows_of (drop i rows)) t
+
+same : (row : Counted) (rest : List Counted) (t : List ℕ) → bytes_eq (string_bytes row.trace) t ≡ true → counted (rows_of (row ∷ rest)) t ≡ (string_bytes row.trace, row.count + 1) ∷ rows_of rest
+same row rest t is = ap (λ b. if b then (string_bytes row.trace, row.count + 1) ∷ rows_of rest else row_of row ∷ counted (rows_of rest) t) is
+
+joined : (front : List Counted) (row : Counted) (rest : List Row) → rows_of (front ++ row ∷ []) ++ rest ≡ rows_of front ++ row_of row ∷ rest
+joined front row rest = ap (λ rows. rows ++ rest) (map-append row_of front (row ∷ [])) ∙ append_assoc (rows_of front) (row_of row ∷ []) rest
+
+-- the count of a row of this trace rises by one; the row was read twice
+pub found : (rows : List Counted) (t : List ℕ) (i : ℕ) (q p new : Counted) → i < length rows → q ≡ get_or rows i q → p ≡ get_or rows i p
+    → bytes_eq (string_bytes q.trace) t ≡ true → new.trace ≡ p.trace → new.count ≡ p.count + 1 → rows_of (set rows i new) ≡ counted_from rows t i
+found rows t i q p new lt read again is text count =
+    let rest = drop (i + 1) rows in
+    let row = get_or rows i q in
+    let both : p ≡ row = again ∙ get_or_default rows i p q lt in
+    let parts : set rows i new ≡ (take i rows ++ new ∷ []) ++ rest =
+    sym (take-append-drop (i + 1) (set rows i new)) ∙ ap₂ (λ xs ys. xs ++ ys) (take_more_set rows i new lt) (drop-set-lt (i + 1) rows i new (omega arith)) in
+    ap rows_of parts ∙ map-append row_of (take i rows ++ new ∷ []) rest ∙ joined (take i rows) new (rows_of rest)
+    ∙ ap₂ (λ a n. rows_of (take i rows) ++ (string_bytes a, n) ∷ rows_of rest) (text ∙ ap (λ (r : Counted). r.trace) both) (count ∙ ap (λ (r : Counted). r.count + 1) both)
+    ∙ sym (ap (λ ys. rows_of (take i rows) ++ ys) (same row rest t (subst (λ (r : Counted). bytes_eq (string_bytes r.trace) t ≡ true) read is)))
+    ∙ sym (ap (λ xs. rows_of (take i rows) ++ counted (rows_of xs) t) (drop_more rows i q lt))
+
+-- one more run is one more trace
+pub one_more : (runs : List (List Report)) (reports : List Report) → tally (map trace_of (runs ++ reports ∷ [])) ≡ counted (tally (map trace_of runs)) (trace_of reports)
+one_more runs reports = ap tally (map-append trace_of runs (reports ∷ [])) ∙ fold-append counted [] (map trace_of runs) (trace_of reports ∷ [])
+
+-- and may be the one that left a step unfinished
+pub some_more : (runs : List (List Report)) (reports : List Report) → list_any has_unfinished (runs ++ reports ∷ []) ≡ (list_any has_unfinished runs || has_unfinished reports)
+some_more runs reports = list_any-append has_unfinished runs (reports ∷ []) ∙ ap (λ b. list_any has_unfinished runs || b) (or-false (has_unfinished reports))
+
+-- and may be the one whose answers aren't as expected
+pub all_more : (job : JobView) (runs : List (List Report)) (reports : List Report) → list_all (all_met job) (runs ++ reports ∷ []) ≡ (list_all (all_met job) runs && all_met job reports)
+all_more job runs reports = list_all-append (all_met job) runs (reports ∷ []) ∙ ap (λ b. list_all (all_met job) runs && b) (and-true (all_met job reports))

@@ -1,0 +1,42 @@
+use Rattle.std.proofs.Common.{◌∙◌, All, Some, ap, ap₂, subst, sym}
+use Rattle.std.proofs.lemmas.Result.{IfOk-weaker}
+use Rattle.std.specs.List.{list_all}
+use Rattle.ulfm_job.specs.Job.{JobView}
+use Rattle.ulfm_script.specs.Reacting.{all_met}
+use Rattle.ulfm_laws.specs.Lawful.{IsLawful}
+use Rattle.ulfm_program.specs.Replies.{ran, repeated, with_options}
+use Rattle.ulfm_program.specs.Tally.{tally_text}
+use Rattle.ulfm_replies.specs.Unfinished.{played_status}
+use Rattle.ulfm_program.specs.inside.Writing.{IsShown}
+use Rattle.ulfm_program.proofs.Refused.{run_refused, run_failed, without_repeat}
+use Rattle.ulfm_program.proofs.run.run_reply.Goals as goal
+use Rattle.ulfm_program.proofs.run.run_reply.Goals.{in-Ok-tally_of, in-Err-tally_of}
+
+pub returns-in-Err : goal.returns-in-Err
+returns-in-Err g c = IfOk-weaker c.refusal.result _ _ (λ r h. rw (h.0, h.1) (run_refused c.in-Err.fault _ c.in-Err.ensures)) c.refusal.ensures
+
+pub returns-in-Some : goal.returns-in-Some
+returns-in-Some g c =
+    let job = c.with_options-job.ensures in
+    elim c.match-tally_of.branch [
+      | in-Ok-tally_of w ↦
+          let runs = w.in-Ok-tally_of.ensures.runs in
+          rw w.result-is (IfOk-weaker w.tally_reply.result _ _ (λ r h.
+          rw (h.0 ∙ ap₂ (played_status c.args.options.is_strict) (runs.4 ∙ ap (λ (j : JobView). list_all (all_met j) runs.0) job) runs.3, h.1 ∙ ap₂ tally_text (sym runs.1) runs.5)
+          (repeated c.in-Ok.job runs.0 (c.in-Some.is ∙ ap Some (sym runs.1)) c.in-Ok.ensures (subst (λ (j : JobView). All (IsLawful j) runs.0) job runs.2))) w.tally_reply.ensures)
+      | in-Err-tally_of w ↦
+          rw w.result-is (IfOk-weaker w.failed.result _ _ (λ r h.
+          rw (h.0, h.1) (run_failed c.in-Ok.job w.in-Err-tally_of.failure _ c.in-Ok.ensures (subst (λ (j : JobView). IsShown j w.in-Err-tally_of.failure) job w.in-Err-tally_of.ensures.shown))) w.failed.ensures)
+    ]
+
+pub returns-in-Ok-ran : goal.returns-in-Ok-ran
+returns-in-Ok-ran g c =
+    let reports = c.in-Ok-ran.reports.items in
+    let lawful : IsLawful (with_options c.args.options c.in-Ok.job) reports = subst (λ (j : JobView). IsLawful j reports) c.with_options-job.ensures c.in-Ok-ran.ensures.lawful in
+    IfOk-weaker c.trace_reply.result _ _ (λ r h. rw (h.0, h.1, c.as_slice.ensures.value, c.with_options-job.ensures) (ran c.in-Ok.job reports (without_repeat c.args.options.repeat c.in_default.not-Some) c.in-Ok.ensures lawful)) c.trace_reply.ensures
+
+pub returns : goal.returns
+returns g c =
+    let f = c.in-Err-ran.failure in
+    let shown : IsShown (with_options c.args.options c.in-Ok.job) f = subst (λ (j : JobView). IsShown j f) c.with_options-job.ensures c.in-Err-ran.ensures.shown in
+    IfOk-weaker c.failed-in-Err-ran.result _ _ (λ r h. rw (h.0, h.1) (run_failed c.in-Ok.job f _ c.in-Ok.ensures shown)) c.failed-in-Err-ran.ensures

@@ -1,0 +1,87 @@
+-- What the program writes for a job.
+use Rattle.std.specs.Prelude.{◌≡◌, ◌≢◌, ℕ, Bool, List, length, map, take, Option, Some, None, Ok, Err, All, codes}
+use Rattle.std.specs.List.{list_all, list_any}
+use Rattle.std.specs.Option.{option_map_or}
+use Rattle.std.specs.Io.KnownBytes.{Appends}
+use Rattle.ulfm_job.specs.declared.fault.JobFault.{JobFault}
+use Rattle.ulfm_job.specs.declared.fault.JobFault.TheVariants.{OutOfMemory}
+use Rattle.ulfm_job.specs.Job.{JobView, with_turns}
+use Rattle.ulfm_job.specs.Plan.{plan_of}
+use Rattle.ulfm_job.specs.JobText.{job_of_bytes}
+use Rattle.ulfm_script.specs.Reacting.{all_met}
+use Rattle.ulfm_script.specs.Report.{Report}
+use Rattle.ulfm_script.specs.Trace.{trace_of}
+use Rattle.ulfm_laws.specs.Lawful.{IsLawful}
+use Rattle.ulfm_run.specs.Fault.{ShowUntrue}
+use Rattle.ulfm_world.specs.Replay.{IsReplayed, MadeAtRest}
+use Rattle.ulfm_program.specs.Outcomes.{IsOutcomesReply}
+use Rattle.ulfm_program.specs.Sweep.{IsSweepReply}
+use Rattle.ulfm_program.specs.Tally.{tally, tally_text}
+use Rattle.ulfm_replies.specs.declared.command.RunOptions.{RunOptions}
+use Rattle.ulfm_replies.specs.declared.command.Wanted.{Wanted}
+use Rattle.ulfm_replies.specs.declared.command.Wanted.TheVariants.{Check, Replay, Run, Sweep, Outcomes}
+use Rattle.ulfm_replies.specs.Failure.{failed_text, out_of_memory_text}
+use Rattle.ulfm_replies.specs.Replies.{refused_text, IsCheckReply}
+use Rattle.ulfm_replies.specs.Unfinished.{has_unfinished, played_status}
+use Rattle.ulfm_replies.specs.declared.failure.Failure.TheVariants as run
+
+-- The status and the text that `replay` gives for these bytes: with 0 the trace of the reports of a replay of the job, which are lawful for it, and whose running
+-- ranks agree at its end on what failed and was revoked, on each shrink and on each agreement. With `--strict` it comes with 6
+-- exactly where a step was left unfinished.
+pub data IsReplayReply (is_strict : Bool) (bytes : List ℕ) : ℕ → List ℕ → Type 0 where
+  traced : (job : JobView) (reports : List Report) → job_of_bytes bytes ≡ Ok (plan_of job) → IsReplayed job reports
+      → IsLawful job reports → MadeAtRest job reports
+      → IsReplayReply is_strict bytes (played_status is_strict (all_met job reports) (has_unfinished reports)) (trace_of reports)
+  not_a_job : (f : JobFault) → job_of_bytes bytes ≡ Err f → IsReplayReply is_strict bytes 1 (refused_text f)
+  no_room : IsReplayReply is_strict bytes 1 (refused_text OutOfMemory)
+  failed : IsReplayReply is_strict bytes 3 out_of_memory_text
+
+-- the job that the options of `run` make of one: with their number of turns, where they have one
+abbrev pub with_options : RunOptions → JobView → JobView
+with_options options job = option_map_or (λ turns. with_turns turns job) options.turns job
+
+-- The same for `run`: with 0, 6 or 9, the trace of reports that are lawful for the job, whichever thread went when; with 3 the
+-- line of what failed. F2 comes for a good job alone, and F4 only with reports of the job's ranks that
+-- show it. With `--repeat` each distinct trace of so many runs, each lawful, comes once with its count.
+pub data IsRunReply (options : RunOptions) (bytes : List ℕ) : ℕ → List ℕ → Type 0 where
+  ran : (job : JobView) (reports : List Report) → options.repeat ≡ None → job_of_bytes bytes ≡ Ok (plan_of job)
+      → IsLawful (with_options options job) reports
+      → IsRunReply options bytes (played_status options.is_strict (all_met (with_options options job) reports) (has_unfinished reports)) (trace_of reports)
+  repeated : (job : JobView) (runs : List (List Report)) → options.repeat ≡ Some (length runs) → job_of_bytes bytes ≡ Ok (plan_of job)
+      → All (IsLawful (with_options options job)) runs
+      → IsRunReply options bytes (played_status options.is_strict (list_all (all_met (with_options options job)) runs) (list_any has_unfinished runs)) (tally_text (length runs) (tally (map trace_of runs)))
+  no_such_job : (f : JobFault) → job_of_bytes bytes ≡ Err f → IsRunReply options bytes 1 (refused_text f)
+  no_place : IsRunReply options bytes 1 (refused_text OutOfMemory)
+  no_thread : (job : JobView) → job_of_bytes bytes ≡ Ok (plan_of job) → IsRunReply options bytes 3 (failed_text run.NoThread)
+  untrue : (job : JobView) (reports : List Report) → job_of_bytes bytes ≡ Ok (plan_of job)
+      → ShowUntrue (with_options options job) reports
+      → IsRunReply options bytes 3 (failed_text run.Untrue)
+  fell : IsRunReply options bytes 3 out_of_memory_text
+
+-- the reply to what the words ask for
+abbrev pub IsReplyTo : Wanted → List ℕ → ℕ → List ℕ → Type 0
+IsReplyTo Check bytes status text = IsCheckReply bytes status text
+IsReplyTo (Replay is_strict) bytes status text = IsReplayReply is_strict bytes status text
+IsReplyTo (Run options) bytes status text = IsRunReply options bytes status text
+IsReplyTo Sweep bytes status text = IsSweepReply bytes status text
+IsReplyTo (Outcomes limit wants_progress) bytes status text = IsOutcomesReply limit bytes status text
+
+-- the line for words that can't be read
+abbrev pub not_text : List ℕ
+not_text = codes "a word of the command line isn't UTF-8\n"
+
+-- the status of a reply that was written whole: the output didn't fail, and neither did the input
+abbrev pub IsWhole : ℕ → Type 0
+IsWhole status = (status ≢ 4) × (status ≢ 5)
+
+-- the writer got a text that is the reply to the bytes
+abbrev pub GetsReply : (ℕ → List ℕ → Type 0) → Option (List ℕ) → Option (List ℕ) → ℕ → Type 0
+GetsReply IsReply old new status = (text : List ℕ) × IsReply status text × Appends old new text
+
+-- the writer got a beginning of a text that is a reply to the bytes
+abbrev pub GetsBeginning : (ℕ → List ℕ → Type 0) → Option (List ℕ) → Option (List ℕ) → Type 0
+GetsBeginning IsReply old new = (status : ℕ) × (text : List ℕ) × IsReply status text × (n : ℕ) × Appends old new (take n text)
+
+-- the writer got a beginning of some text
+abbrev pub GetsFront : Option (List ℕ) → Option (List ℕ) → Type 0
+GetsFront old new = (text : List ℕ) × (n : ℕ) × Appends old new (take n text)

@@ -1,0 +1,126 @@
+//! From words and bytes to a status and bytes.
+ghost use Rattle.std.specs.Prelude.{◌≢◌, ◌≡◌, ◌≤◌, ◌⊎◌, [], false, map, take, IfSome, IsTrue};
+ghost use Rattle.std.specs.Io.KnownBytes.{Keeps, Appends};
+ghost use Rattle.ulfm_program.specs.Replies.{IsReplyTo, IsWhole, GetsReply, GetsBeginning, GetsFront, not_text};
+ghost use Rattle.ulfm_program.specs.inside.Writing.{GetsFrontOf};
+ghost use Rattle.ulfm_replies.specs.declared.command.Wanted.{Wanted};
+ghost use Rattle.ulfm_replies.specs.CommandLine.{AsksFor, HasRanges, faults, IsWordsStatus};
+ghost use Rattle.ulfm_replies.specs.Failure.{out_of_memory_text};
+
+use crate::progress::Progress;
+use crate::reply::reply_to;
+use std::alloc::Global;
+use std::convert::AsStr;
+use std::io::{Read, Write};
+use std::sync::Wait;
+use std::thread::Threads;
+use ulfm_replies::{
+    DONE, INPUT_FAILED, InputFault, OUTPUT_FAILED, RUN_FAILED, USAGE, Unfollowed, Wanted,
+    asked_for, read_front, write_notes, write_whole,
+};
+
+/// What is written where memory runs out outside the reading of a job.
+const STARVED: &[u8] = b"run failed: F3\n";
+
+/// Follows the words: looks at them first, then reads the input whole, then its job, then runs it, and writes the whole
+/// reply. Standard error gets how far a list of outcomes is, where that is asked for, and then what a person wants to know beside
+/// the reply. Answers the status (docs/JOBS.md).
+pub fn run_on<T, S, R, W, E>(
+    rt: &T,
+    alloc: Global,
+    words: &[S],
+    input: &mut R,
+    output: &mut W,
+    errors: &mut E,
+) -> u8
+where
+    T: Threads + Wait + Sync,
+    S: AsStr,
+    R: Read,
+    W: Write,
+    E: Write,
+    ensures replies { (wanted : Wanted) → AsksFor wanted (map S.text words.now) → IsWhole result → IfSome (R.remaining input.old) (λ bytes.
+        GetsReply (IsReplyTo wanted (take 1048577 bytes)) (W.contents output.old) (W.contents output.new) result) }
+    ensures cut_off { (wanted : Wanted) → AsksFor wanted (map S.text words.now) → result ≡ 4 → IfSome (R.remaining input.old) (λ bytes.
+        GetsBeginning (IsReplyTo wanted (take 1048577 bytes)) (W.contents output.old) (W.contents output.new)) }
+    ensures output_failed { result ≡ 4 → GetsFront (W.contents output.old) (W.contents output.new) }
+    ensures input_failed { result ≡ 5 → Keeps (W.contents output.old) (W.contents output.new) }
+    ensures words_first { result ≡ 2 → R.remaining input.new ≡ R.remaining input.old }
+    ensures not_followed { faults (map S.text words.now) ≢ [] → (R.remaining input.new ≡ R.remaining input.old) × IsWordsStatus (faults (map S.text words.now)) result }
+    ensures known { (result ≤ 7) ⊎ (result ≡ 9) }
+{
+    match asked_for(alloc, words) {
+        Ok(wanted) => follow(rt, alloc, wanted, input, output, errors),
+        Err(Unfollowed::Help(text)) => write_reply(output, DONE, text.as_bytes()),
+        Err(Unfollowed::Usage(text)) => write_reply(output, USAGE, text.as_bytes()),
+        Err(Unfollowed::OutOfMemory) => write_reply(output, RUN_FAILED, STARVED),
+    }
+}
+
+/// The reply where the words can't be had: they find no memory, or aren't UTF-8. Answers the status.
+pub fn without_words<W: Write>(is_starved: bool, output: &mut W) -> u8
+    ensures starved { IsTrue is_starved → result ≢ 4 → (result ≡ 3) × Appends (W.contents output.old) (W.contents output.new) out_of_memory_text }
+    ensures not_text { is_starved ≡ false → result ≢ 4 → (result ≡ 2) × Appends (W.contents output.old) (W.contents output.new) not_text }
+    ensures known { result ≤ 4 }
+{
+    if is_starved {
+        return write_reply(output, RUN_FAILED, STARVED);
+    }
+    write_reply(output, USAGE, b"a word of the command line isn't UTF-8\n")
+}
+
+/// Reads the input, and writes the reply to it, and then the notes on it.
+fn follow<T, R, W, E>(
+    rt: &T,
+    alloc: Global,
+    wanted: Wanted,
+    input: &mut R,
+    output: &mut W,
+    errors: &mut E,
+) -> u8
+where
+    T: Threads + Wait + Sync,
+    R: Read,
+    W: Write,
+    E: Write,
+    requires { HasRanges wanted }
+    ensures replies { IsWhole result → IfSome (R.remaining input.old) (λ bytes.
+        GetsReply (IsReplyTo wanted (take 1048577 bytes)) (W.contents output.old) (W.contents output.new) result) }
+    ensures cut_off { result ≡ 4 → IfSome (R.remaining input.old) (λ bytes.
+        GetsBeginning (IsReplyTo wanted (take 1048577 bytes)) (W.contents output.old) (W.contents output.new)) }
+    ensures output_failed { result ≡ 4 → GetsFront (W.contents output.old) (W.contents output.new) }
+    ensures input_failed { result ≡ 5 → Keeps (W.contents output.old) (W.contents output.new) }
+    ensures no_usage { result ≢ 2 }
+    ensures known { (result ≤ 7) ⊎ (result ≡ 9) }
+{
+    let bytes = match read_front(alloc, input) {
+        Ok(bytes) => bytes,
+        Err(InputFault::Failed) => return INPUT_FAILED,
+        Err(InputFault::OutOfMemory) => return write_reply(output, RUN_FAILED, STARVED),
+    };
+    let mut progress = Progress::new(alloc, &mut *errors, wanted);
+    let told = reply_to(rt, alloc, wanted, bytes.as_slice(), &mut progress);
+    progress.end();
+    match told {
+        Ok(reply) => {
+            let status = write_reply(output, reply.status, reply.text.as_bytes());
+            write_notes(alloc, wanted, bytes.as_slice(), &reply, errors);
+            status
+        }
+        Err(_) => write_reply(output, RUN_FAILED, STARVED),
+    }
+}
+
+/// Writes a text, and answers the status of what it says, or of output that failed.
+fn write_reply<W: Write>(output: &mut W, status: u8, text: &[u8]) -> u8
+    requires { IsWhole status }
+    ensures written { result ≢ 4 → (result ≡ status) × Appends (W.contents output.old) (W.contents output.new) text.now }
+    ensures failed { result ≡ 4 → GetsFrontOf (W.contents output.old) (W.contents output.new) text.now }
+    ensures known { (result ≡ status) ⊎ (result ≡ 4) }
+{
+    if write_whole(output, text) {
+        status
+    } else {
+        OUTPUT_FAILED
+    }
+}

@@ -1,0 +1,52 @@
+//! The reply to a job's bytes.
+ghost use Rattle.std.specs.Prelude.{◌≡◌, IfOk, string_bytes};
+ghost use Rattle.ulfm_program.specs.Replies.{IsReplayReply, IsReplyTo};
+ghost use Rattle.ulfm_replies.specs.CommandLine.{HasRanges};
+
+use crate::listed::outcomes_reply;
+use crate::run::run_reply;
+use crate::swept::sweep_reply;
+use std::alloc::{AllocError, Global};
+use std::sync::Wait;
+use std::thread::Threads;
+use ulfm_reach::Watch;
+use ulfm_replies::{Reply, Wanted, check_reply, refusal, trace_reply};
+use ulfm_script::Job;
+use ulfm_world::replay;
+
+/// The reply of `replay`.
+fn replay_reply(alloc: Global, is_strict: bool, bytes: &[u8]) -> Result<Reply, AllocError>
+    ensures { IfOk result (λ r. IsReplayReply is_strict bytes.now r.status (string_bytes r.text)) }
+{
+    let job = match Job::read(alloc, bytes) {
+        Ok(job) => job,
+        Err(fault) => return refusal(alloc, fault),
+    };
+    match replay(alloc, &job) {
+        Ok(reports) => trace_reply(alloc, is_strict, &job, reports.as_slice()),
+        Err(_) => Err(AllocError),
+    }
+}
+
+/// The reply to what the words ask for. `watch` is told how far a list of outcomes is.
+pub fn reply_to<R, P>(
+    rt: &R,
+    alloc: Global,
+    wanted: Wanted,
+    bytes: &[u8],
+    watch: &mut P,
+) -> Result<Reply, AllocError>
+where
+    R: Threads + Wait + Sync,
+    P: Watch,
+    requires { HasRanges wanted }
+    ensures { IfOk result (λ r. IsReplyTo wanted bytes.now r.status (string_bytes r.text)) }
+{
+    match wanted {
+        Wanted::Check => check_reply(alloc, bytes),
+        Wanted::Replay { is_strict } => replay_reply(alloc, is_strict, bytes),
+        Wanted::Run(options) => run_reply(rt, alloc, options, bytes),
+        Wanted::Sweep => sweep_reply(alloc, bytes),
+        Wanted::Outcomes { limit, .. } => outcomes_reply(alloc, limit, bytes, watch),
+    }
+}

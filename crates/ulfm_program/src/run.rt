@@ -1,0 +1,167 @@
+//! The reply of `run`.
+ghost use Rattle.std.specs.Prelude.{All, length, map, ℕ, ◌≡◌, ◌<◌, ◌≢◌, IfErr, IfOk, string_bytes, vec_len};
+ghost use Rattle.ulfm_carrier.specs.declared.lane_ends.LaneEnds.{LaneEnds as Lanes};
+ghost use Rattle.ulfm_carrier.specs.declared.shared_ends.SharedEnds.{SharedEnds as Shared};
+ghost use Rattle.ulfm_carrier.specs.Family.{AllFresh};
+ghost use Rattle.ulfm_base.specs.Lists.{InPlace, at};
+ghost use Rattle.ulfm_carrier.specs.Lanes.{known_room, lane_name, lane_pushed, lane_taken, IsReady as IsReadyLane, OneCall as OneLanesCall};
+ghost use Rattle.ulfm_carrier.specs.Shared.{inbox_capacity, shared_name, shared_pushed, shared_taken, IsReady as IsReadyShared, OneCall as OneSharedCall};
+ghost use Rattle.ulfm_board.specs.Known.{OneBoard, nothing_known};
+ghost use Rattle.ulfm_program.specs.inside.Cells.{AreEnough};
+ghost use Rattle.ulfm_program.specs.Replies.{with_options, IsRunReply};
+ghost use Rattle.ulfm_program.specs.inside.Writing.{IsShown};
+ghost use Rattle.ulfm_replies.specs.CommandLine.{AreInRange};
+ghost use Rattle.ulfm_laws.specs.Lawful.{IsLawful};
+
+use crate::tally::{tally_of, tally_reply};
+use std::alloc::{AllocError, Global};
+use std::sync::Wait;
+use std::thread::Threads;
+use ulfm_base::CallError;
+use ulfm_board::{Decider, Seat, seats};
+use ulfm_carrier::{Ends, LaneEnds, SharedEnds, lanes, shared};
+use ulfm_replies::{Carrier, Failure, Reply, RunOptions, failed, failure_of, refusal, trace_reply};
+use ulfm_run::{Report, run_job};
+use ulfm_script::{Job, RankReport};
+
+/// The reply of `run` with these options.
+pub fn run_reply<R: Threads + Wait + Sync>(
+    rt: &R,
+    alloc: Global,
+    options: RunOptions,
+    bytes: &[u8],
+) -> Result<Reply, AllocError>
+    requires { AreInRange options }
+    ensures { IfOk result (λ r. IsRunReply options bytes.now r.status (string_bytes r.text)) }
+{
+    let job = match Job::read(alloc, bytes) {
+        Ok(job) => with_options(job, options),
+        Err(fault) => return refusal(alloc, fault),
+    };
+    if let Some(times) = options.repeat {
+        return match tally_of(rt, alloc, options.carrier, times, &job) {
+            Ok(tally) => tally_reply(alloc, options.is_strict, times, &tally),
+            Err(failure) => failed(alloc, failure),
+        };
+    }
+    let ran = run_by_carrier(rt, alloc, options.carrier, &job);
+    match ran {
+        Ok(reports) => trace_reply(alloc, options.is_strict, &job, reports.as_slice()),
+        Err(failure) => failed(alloc, failure),
+    }
+}
+
+/// The job that the options make of one: with their number of turns, where they have one.
+fn with_options(job: Job, options: RunOptions) -> Job
+    requires { AreInRange options }
+    ensures { result ≡ with_options options job }
+{
+    match options.turns {
+        Some(turns) => job.with_turns(turns),
+        None => job,
+    }
+}
+
+/// What the ranks of a job did, by this carrier.
+pub fn run_by_carrier<R: Threads + Wait + Sync>(
+    rt: &R,
+    alloc: Global,
+    carrier: Carrier,
+    job: &Job,
+) -> Result<Vec<RankReport>, Failure>
+    ensures lawful { IfOk result (λ reports. IsLawful job.now reports.items) }
+    ensures shown { IfErr result (λ failure. IsShown job.now failure) }
+{
+    match carrier {
+        Carrier::Lanes => run_by_lanes(rt, alloc, job),
+        Carrier::Shared => run_by_shared(rt, alloc, job),
+    }
+}
+
+/// What the ranks of a job did, with a ring for each ordered pair.
+fn run_by_lanes<R: Threads + Wait + Sync>(
+    rt: &R,
+    alloc: Global,
+    job: &Job,
+) -> Result<Vec<RankReport>, Failure>
+    ensures lawful { IfOk result (λ reports. IsLawful job.now reports.items) }
+    ensures shown { IfErr result (λ failure. IsShown job.now failure) }
+{
+    match lanes_of(alloc, job) {
+        Ok(ends) => run_by(rt, alloc, job, ends),
+        Err(_) => Err(Failure::OutOfMemory),
+    }
+}
+
+/// The ends of a job's ranks by rings, each of which has as many places as the job says.
+fn lanes_of(alloc: Global, job: &Job) -> Result<Vec<LaneEnds>, CallError>
+    ensures each { IfOk result (λ ends. vec_len ends ≡ job.now.ranks) }
+    ensures family { IfOk result (λ ends. OneLanesCall (map lane_name ends.items)) }
+    ensures places { IfOk result (λ ends. InPlace (λ (e : Lanes). e.me.number) ends.items) }
+    ensures fresh { IfOk result (λ ends. AllFresh (λ (e : Lanes). vec_len e.outs) lane_pushed lane_taken IsReadyLane ends.items) }
+    ensures room { IfOk result (λ ends. (k d : ℕ) (e : Lanes) → at ends.items k e → d < job.now.ranks → known_room e d ≡ job.now.capacity) }
+{
+    lanes(alloc, job.ranks(), job.capacity())
+}
+
+/// What the ranks of a job did, with one inbox for each rank.
+fn run_by_shared<R: Threads + Wait + Sync>(
+    rt: &R,
+    alloc: Global,
+    job: &Job,
+) -> Result<Vec<RankReport>, Failure>
+    ensures lawful { IfOk result (λ reports. IsLawful job.now reports.items) }
+    ensures shown { IfErr result (λ failure. IsShown job.now failure) }
+{
+    match shared_of(alloc, job) {
+        Ok(ends) => run_by(rt, alloc, job, ends),
+        Err(_) => Err(Failure::OutOfMemory),
+    }
+}
+
+/// The ends of a job's ranks by shared inboxes, each of which has as many places as the job says.
+fn shared_of(alloc: Global, job: &Job) -> Result<Vec<SharedEnds>, CallError>
+    ensures each { IfOk result (λ ends. vec_len ends ≡ job.now.ranks) }
+    ensures family { IfOk result (λ ends. OneSharedCall (map shared_name ends.items)) }
+    ensures places { IfOk result (λ ends. InPlace (λ (e : Shared). e.me.number) ends.items) }
+    ensures fresh { IfOk result (λ ends. AllFresh (λ (e : Shared). vec_len e.outs) shared_pushed shared_taken IsReadyShared ends.items) }
+    ensures capacities { IfOk result (λ ends. (k d : ℕ) (e : Shared) → at ends.items k e → d < job.now.ranks → inbox_capacity e d ≡ job.now.capacity) }
+{
+    shared(alloc, job.ranks(), job.capacity())
+}
+
+/// What the ranks of a job did, each in a thread of its own with its end of a carrier.
+fn run_by<E: Ends + Send, R: Threads + Wait + Sync>(
+    rt: &R,
+    alloc: Global,
+    job: &Job,
+    ends: Vec<E>,
+) -> Result<Vec<RankReport>, Failure>
+    requires each { length ends.items ≡ job.now.ranks }
+    requires family { E.one_call (map E.name ends.items) }
+    requires places { InPlace E.place ends.items }
+    requires fresh { AllFresh E.count E.pushed E.taken E.ready ends.items }
+    ensures lawful { IfOk result (λ reports. IsLawful job.now reports.items) }
+    ensures shown { IfErr result (λ failure. IsShown job.now failure) }
+{
+    let deciders = match seats_of(alloc, job) {
+        Ok(deciders) => deciders,
+        Err(_) => return Err(Failure::OutOfMemory),
+    };
+    match run_job(rt, alloc, job, ends, deciders) {
+        Ok(report) => Ok(report.ranks),
+        Err(fault) => match failure_of(fault) {
+            Some(failure) => Err(failure),
+            None => unreachable!(),
+        },
+    }
+}
+
+/// The seats of a job's ranks at one board. It has a cell for each agreement that a rank can come to, as for each shrink.
+fn seats_of(alloc: Global, job: &Job) -> Result<Vec<Seat>, CallError>
+    ensures each { IfOk result (λ seats. vec_len seats ≡ job.now.ranks) }
+    ensures one_board { IfOk result (λ seats. OneBoard ⟦<Seat as Decider>⟧.board seats.items) }
+    ensures cells { IfOk result (λ seats. (rounds : ℕ) × AreEnough job.now rounds × All (λ seat. ⟦<Seat as Decider>⟧.known seat ≡ nothing_known rounds) seats.items) }
+{
+    seats(alloc, job.ranks(), job.rounds())
+}

@@ -1,0 +1,139 @@
+//! The reply of `run --repeat`: the traces of its runs, counted.
+ghost use Rattle.std.specs.Prelude.{◌≡◌, ◌++◌, ◌&&◌, ◌||◌, ◌+◌, ◌<◌, ◌≤◌, ℕ, All, List, length, map, IfErr, IfOk, OnOk, string_bytes};
+ghost use Rattle.std.specs.List.{list_all, list_any};
+ghost use Rattle.ulfm_laws.specs.Lawful.{IsLawful};
+ghost use Rattle.ulfm_script.specs.Reacting.{all_met};
+ghost use Rattle.ulfm_script.specs.Report.{Report};
+ghost use Rattle.ulfm_script.specs.Trace.{trace_of};
+ghost use Rattle.ulfm_program.specs.declared.tally.Counted.{Counted as Kept};
+ghost use Rattle.ulfm_program.specs.inside.Tallied.{row_of, rows_of};
+ghost use Rattle.ulfm_program.specs.inside.Writing.{IsShown};
+ghost use Rattle.ulfm_program.specs.Tally.{counted, row_text, tally, tally_text};
+ghost use Rattle.ulfm_replies.specs.Unfinished.{has_unfinished, played_status};
+
+use crate::run::run_by_carrier;
+use std::alloc::{AllocError, Global};
+use std::sync::Wait;
+use std::thread::Threads;
+use ulfm_replies::{Carrier, Failure, Reply, has_unfinished, played_status};
+use ulfm_script::{Job, all_met, trace_text};
+
+/// A trace, and how many runs gave it.
+#[derive(Drop)]
+pub struct Counted {
+    pub trace: String,
+    pub count: u32,
+}
+
+/// The distinct traces of runs, in the order in which they first came, whether some run left a step unfinished, and whether in all of
+/// them the answers are as expected.
+#[derive(Drop)]
+pub struct Tally {
+    pub rows: Vec<Counted>,
+    pub is_unfinished: bool,
+    pub is_met: bool,
+}
+
+/// Runs a job so many times, and counts the traces.
+///
+/// # Errors
+///
+/// The failure of the first run that fails; `OutOfMemory` also where a trace finds no room.
+pub fn tally_of<R: Threads + Wait + Sync>(
+    rt: &R,
+    alloc: Global,
+    carrier: Carrier,
+    times: u32,
+    job: &Job,
+) -> Result<Tally, Failure>
+    ensures runs { IfOk result (λ t. (runs : List (List Report)) × (length runs ≡ times) × All (IsLawful job.now) runs
+        × (t.is_unfinished ≡ list_any has_unfinished runs) × (t.is_met ≡ list_all (all_met job.now) runs) × (rows_of t.rows.items ≡ tally (map trace_of runs))) }
+    ensures shown { IfErr result (λ failure. IsShown job.now failure) }
+{
+    let mut tally = Tally {
+        rows: Vec::new(alloc),
+        is_unfinished: false,
+        is_met: true,
+    };
+    let mut done = 0;
+    while done < times {
+        run_once(rt, alloc, carrier, job, &mut tally, done)?;
+        done += 1;
+    }
+    Ok(tally)
+}
+
+/// Runs a job once more, after so many runs, and counts its trace.
+fn run_once<R: Threads + Wait + Sync>(
+    rt: &R,
+    alloc: Global,
+    carrier: Carrier,
+    job: &Job,
+    tally: &mut Tally,
+    done: u32,
+) -> Result<(), Failure>
+    requires few { All (λ (row : Kept). row.count ≤ done) tally.old.rows.items }
+    requires room { done < 4294967295 }
+    ensures ran { OnOk result ((reports : List Report) × IsLawful job.now reports
+        × (tally.new.is_unfinished ≡ (tally.old.is_unfinished || has_unfinished reports))
+        × (tally.new.is_met ≡ (tally.old.is_met && all_met job.now reports))
+        × (rows_of tally.new.rows.items ≡ counted (rows_of tally.old.rows.items) (trace_of reports))) }
+    ensures few { OnOk result (All (λ (row : Kept). row.count ≤ done + 1) tally.new.rows.items) }
+    ensures shown { IfErr result (λ failure. IsShown job.now failure) }
+{
+    let reports = run_by_carrier(rt, alloc, carrier, job)?;
+    let hangs = has_unfinished(reports.as_slice());
+    let is_met = all_met(alloc, job, reports.as_slice());
+    tally.is_unfinished = tally.is_unfinished | hangs;
+    tally.is_met = tally.is_met & is_met;
+    match trace_text(alloc, reports.as_slice()) {
+        Ok(trace) => match count_trace(&mut tally.rows, trace, done) {
+            Ok(()) => Ok(()),
+            Err(_) => Err(Failure::OutOfMemory),
+        },
+        Err(_) => Err(Failure::OutOfMemory),
+    }
+}
+
+/// Counts one more trace, after so many.
+fn count_trace(rows: &mut Vec<Counted>, trace: String, done: u32) -> Result<(), AllocError>
+    requires few { All (λ (row : Kept). row.count ≤ done) rows.old.items }
+    requires room { done < 4294967295 }
+    ensures counted { OnOk result (rows_of rows.new.items ≡ counted (rows_of rows.old.items) (string_bytes trace)) }
+    ensures few { OnOk result (All (λ (row : Kept). row.count ≤ done + 1) rows.new.items) }
+{
+    for place in 0..rows.len() {
+        if rows[place].trace == trace {
+            rows[place].count += 1;
+            return Ok(());
+        }
+    }
+    rows.push(Counted { trace, count: 1 })?;
+    Ok(())
+}
+
+/// The counted traces as a reply, with its status.
+pub fn tally_reply(
+    alloc: Global,
+    is_strict: bool,
+    times: u32,
+    tally: &Tally,
+) -> Result<Reply, AllocError>
+    ensures { IfOk result (λ r. (r.status ≡ played_status is_strict tally.now.is_met tally.now.is_unfinished) × (string_bytes r.text ≡ tally_text times (rows_of tally.now.rows.items))) }
+{
+    let mut text = String::new(alloc);
+    for row in &tally.rows {
+        push_row(&mut text, times, row)?;
+    }
+    Ok(Reply {
+        status: played_status(is_strict, tally.is_met, tally.is_unfinished),
+        text,
+    })
+}
+
+/// A count and its trace.
+fn push_row(text: &mut String, times: u32, row: &Counted) -> Result<(), AllocError>
+    ensures { OnOk result (string_bytes text.new ≡ string_bytes text.old ++ row_text times (row_of row.now)) }
+{
+    write!(text, "{} of {times} runs:\n{}", row.count, row.trace)
+}

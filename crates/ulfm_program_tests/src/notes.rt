@@ -1,0 +1,76 @@
+//! What standard error gets beside a reply.
+
+use crate::kept::Kept;
+use std::alloc::{AllocError, Global};
+use std::sync::Wait;
+use std::test::Fail;
+use std::thread::Threads;
+use ulfm_program::run_on;
+
+/// A job of two ranks, by its steps.
+fn job_of(alloc: Global, steps: &str) -> Result<String, AllocError> {
+    format!(in alloc; "ranks = 2\ncapacity = 4\nturns = 10\nstep = [{steps}]\n")
+}
+
+/// The status of a command on a job of these steps, and what standard error got.
+fn noted<R: AllocGlobal + Threads + Wait + Sync>(
+    rt: &R,
+    command: &str,
+    steps: &str,
+) -> Result<(u8, Vec<u8>), AllocError> {
+    let job = job_of(rt.alloc(), steps)?;
+    let mut input = job.as_bytes();
+    let mut output = Kept {
+        bytes: [0; 4096],
+        len: 0,
+    };
+    let mut errors = Vec::new(rt.alloc());
+    let status = run_on(
+        rt,
+        rt.alloc(),
+        &["ulfm", command],
+        &mut input,
+        &mut output,
+        &mut errors,
+    );
+    let Kept { bytes: _, len: _ } = output;
+    Ok((status, errors))
+}
+
+#[test]
+fn standard_error_says_more(rt: HostRuntime) -> Result<(), Fail> {
+    let rows = [
+        (
+            "check",
+            "{rank = 0, op = \"recv\", form = 1}",
+            1,
+            "line 4, column 33: rank 0 step 0 (step 0 of the file): key 'form' is unknown; did you mean 'from'? recv has op, rank, from, tag, room, comm, name, if, expect\n",
+        ),
+        (
+            "check",
+            "{rank = 0, op = \"wait\", req = 0}",
+            0,
+            "warning: line 4, column 33: rank 0 step 0 (step 0 of the file): key 'req' is 0, and that is this step itself; req counts the steps of one rank, from 0: this step will be refused\n",
+        ),
+        (
+            "replay",
+            "{rank = 0, op = \"dup\", expect = [\"comm 3\", \"refused\"]}, {rank = 1, op = \"stop\", expect = [\"stopped\"]}",
+            9,
+            "answers that their steps don't expect: 1\nrank 0 step 0: dup comm 0: expected 'comm 3' or 'refused', and its answer is 'comm 1'\n",
+        ),
+        ("check", "{rank = 0, op = \"recv\"}", 0, ""),
+        ("replay", "{rank = 0, op = \"recv\"}", 0, ""),
+        (
+            "replay",
+            "{rank = 0, op = \"recv\"}, {rank = 0, op = \"wait\", req = 0}, {rank = 1, op = \"shrink\"}",
+            0,
+            "unfinished steps, where MPI would hang: 2\nrank 0 step 1: wait 0\nrank 1 step 0: shrink comm 0\n",
+        ),
+    ];
+    for (command, steps, status, said) in rows {
+        let (ended, errors) = noted(&rt, command, steps)?;
+        assert_eq!(rt; ended, status, "{command} {steps}");
+        assert_eq!(rt; errors.as_slice(), said.as_bytes(), "{command} {steps}");
+    }
+    Ok(())
+}
