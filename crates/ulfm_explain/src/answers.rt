@@ -30,18 +30,37 @@ fn own_answers(op: &str) -> &'static [&'static str] {
     match op {
         "send" => &["sent"],
         "recv" => &["posted"],
-        "wait" => &["done from", "pending", "unfinished"],
-        "probe" => &["found from", "unfinished"],
+        "wait" => &["done from", "pending"],
+        "probe" => &["found from"],
         "mrecv" => &["done from"],
         "cancel" => &["done from", "cancelled"],
         "failed" => &["ranks"],
         "ack" => &["acked"],
         "revoke" => &["revoked"],
-        "dup" => &["comm"],
-        "shrink" => &["comm", "unfinished"],
-        "agree" => &["agreed", "unfinished"],
+        "dup" | "shrink" => &["comm"],
+        "agree" => &["agreed"],
         _ => &["stopped"],
     }
+}
+
+/// The answers of a step that isn't played, or not to its end. A condition may ask for them of each op, what is expected of those that
+/// poll alone.
+fn unplayed_answers(op: &str, is_condition: bool) -> &'static [&'static str] {
+    match op {
+        _ if is_condition => &["unfinished", "skipped"],
+        "wait" | "probe" | "shrink" | "agree" => &["unfinished"],
+        _ => &[],
+    }
+}
+
+/// How an answer of an op may begin, in three lists: by a word of its own, as one that isn't played to its end, or by something in the way.
+pub fn beginnings(op: &str, is_condition: bool) -> [&'static [&'static str]; 3] {
+    let refusals = if op == "stop" { &[] } else { REFUSALS };
+    [
+        own_answers(op),
+        unplayed_answers(op, is_condition),
+        refusals,
+    ]
 }
 
 /// Whether a text begins, by whole words, with these words.
@@ -61,8 +80,7 @@ fn is_alike(texts: &[&str], words: &str) -> bool {
 
 /// Whether an answer of an op may begin with these words; a condition may also ask whether its step was skipped or is unfinished.
 pub fn may_begin(op: &str, is_condition: bool, words: &str) -> bool {
-    if is_condition && is_alike(&["skipped", "unfinished"], words) {
-        return true;
-    }
-    is_alike(own_answers(op), words) || (op != "stop" && is_alike(REFUSALS, words))
+    beginnings(op, is_condition)
+        .iter()
+        .any(|texts| is_alike(*texts, words))
 }

@@ -1,5 +1,6 @@
 //! What is wrong with a job.
 
+use crate::answers::beginnings;
 use crate::doom::Doom;
 use crate::rules::{Key, Kind, OPS, Rules};
 use crate::shown::Shown;
@@ -82,16 +83,39 @@ impl fmt::Display for Broken<'_> {
     }
 }
 
-/// The names of all ops, parted by commas.
+/// Words, parted by commas.
 #[derive(Clone, Copy)]
-struct AllOps;
+struct Listed<'a>(&'a [&'static str]);
 
-impl fmt::Display for AllOps {
+impl fmt::Display for Listed<'_> {
     fn fmt<W: fmt::Write>(&self, f: &mut fmt::Formatter<W>) -> fmt::Result {
         let mut mark = "";
-        for op in OPS {
-            write!(f, "{mark}{op}")?;
+        for word in self.0 {
+            write!(f, "{mark}{word}")?;
             mark = ", ";
+        }
+        Ok(())
+    }
+}
+
+/// The ops, as a message lists them.
+const ALL_OPS: Listed<'static> = Listed(&OPS);
+
+/// How an answer of a step with this op may begin, where it is a condition that asks for it or not.
+#[derive(Clone, Copy)]
+struct Beginnings {
+    op: &'static str,
+    is_condition: bool,
+}
+
+impl fmt::Display for Beginnings {
+    fn fmt<W: fmt::Write>(&self, f: &mut fmt::Formatter<W>) -> fmt::Result {
+        let mut mark = "";
+        for words in beginnings(self.op, self.is_condition) {
+            if !words.is_empty() {
+                write!(f, "{mark}{}", Listed(words))?;
+                mark = ", ";
+            }
         }
         Ok(())
     }
@@ -108,7 +132,7 @@ impl fmt::Display for Cause {
             Cause::TooManySteps(count) => {
                 write!(f, "there are {count} steps, and 256 are the most")
             }
-            Cause::Missing(Key::Op, _) => write!(f, "key 'op' is missing; the ops are {AllOps}"),
+            Cause::Missing(Key::Op, _) => write!(f, "key 'op' is missing; the ops are {ALL_OPS}"),
             Cause::Missing(key, wanted) => {
                 write!(f, "key '{key}' is missing; it has to be {wanted}")
             }
@@ -134,7 +158,7 @@ impl fmt::Display for Cause {
             }
             Cause::UnknownOp(word, nearest) => {
                 let meant = Meant(*nearest);
-                write!(f, "op '{word}' is unknown{meant} the ops are {AllOps}")
+                write!(f, "op '{word}' is unknown{meant} the ops are {ALL_OPS}")
             }
             Cause::NoName(text) => write!(
                 f,
@@ -154,10 +178,16 @@ impl fmt::Display for Cause {
             Cause::Count(key, count) => {
                 write!(f, "key '{key}' has {count} items, and has to have 1 to 16")
             }
-            Cause::NoAnswer(key, words, op) => write!(
-                f,
-                "key '{key}' has '{words}', and no answer of '{op}' begins so"
-            ),
+            Cause::NoAnswer(key, words, op) => {
+                let beginnings = Beginnings {
+                    op: *op,
+                    is_condition: *key == Key::Is,
+                };
+                write!(
+                    f,
+                    "key '{key}' has '{words}', and no answer of '{op}' begins so; its answers begin with {beginnings}"
+                )
+            }
             Cause::LongWords(key, count) => write!(
                 f,
                 "key '{key}' has a text of {count} bytes, and 1024 are the most"

@@ -11,6 +11,7 @@ mod fate;
 mod findings;
 mod keys;
 mod marks;
+mod mpi;
 mod nearest;
 mod place;
 mod rules;

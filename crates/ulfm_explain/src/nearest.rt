@@ -1,5 +1,6 @@
-//! The nearest word to a misspelt one.
+//! The nearest word to a misspelt one, or to one of MPI's own.
 
+use crate::mpi::{bare, says};
 use crate::rules::{Key, OPS, Rules};
 use std::alloc::{AllocError, Global};
 use strsim::osa_distance;
@@ -9,8 +10,13 @@ const MOST_LETTERS: usize = 20;
 
 const MOST_EDITS: usize = 2;
 
-/// How many edits lead from one word to another, where it is few: fewer than the letters of either word.
-fn edits(alloc: Global, from: &str, to: &str) -> Result<Option<usize>, AllocError> {
+/// How many edits lead from a word to one of a job, where it is few: fewer than the letters of either word. None are from a word of MPI
+/// to that which says it.
+fn edits(alloc: Global, word: &str, to: &str) -> Result<Option<usize>, AllocError> {
+    let from = bare(word);
+    if says(to, from) {
+        return Ok(Some(0));
+    }
     if from.len() > MOST_LETTERS {
         return Ok(None);
     }

@@ -7,6 +7,8 @@ mod agreements;
 #[cfg(test)]
 mod broken;
 #[cfg(test)]
+mod explanations;
+#[cfg(test)]
 mod kept;
 #[cfg(test)]
 mod notes;

@@ -13,7 +13,7 @@ fn job_of(alloc: Global, steps: &str) -> Result<String, AllocError> {
 }
 
 /// The status of a command on a job of these steps, and what standard error got.
-fn noted<R: AllocGlobal + Threads + Wait + Sync>(
+pub fn noted<R: AllocGlobal + Threads + Wait + Sync>(
     rt: &R,
     command: &str,
     steps: &str,
