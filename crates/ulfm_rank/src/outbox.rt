@@ -62,7 +62,11 @@ impl Outbox {
         ensures room_lacked { OnErr result (self.old.room ≡ false) }
         ensures stays { IsTrue self.old.room → IsTrue self.new.room }
     {
-        self.items.reserve(self.items_out + 1)
+        if self.has_room() {
+            return Ok(());
+        }
+        // Each item that went out keeps its place, so a growth by one item alone would come at each send.
+        self.items.reserve(2 * self.items_out + 1)
     }
 
     /// Whether there is room for one item.
