@@ -1,16 +1,4 @@
 -- The names that most proofs of jobs cite, passed on from one place. Declares nothing.
-pub use Rattle.std.proofs.lemmas.Bool.Decides.{nat_tests}
-pub use Rattle.std.specs.List.{list_all, list_any}
-pub use Rattle.std.specs.Str.{IsUtf8, bytes_eq, is_utf8}
-pub use Rattle.toml.specs.Parse.{parse_document}
-pub use Rattle.toml.specs.View.{items_view, members_view, table_view, view}
-pub use Rattle.toml.specs.declared.value.Value.{Value}
 pub use Rattle.ulfm_job.specs.Job.{IsJob, JobView, lists_of, moved_on, script_at, job_view, step_count, stopped_at, with_stop}
-pub use Rattle.ulfm_job.specs.Keys.{is_among, items_len, keys_of, ◌>>=◌}
-pub use Rattle.ulfm_job.specs.Plan.{Order, Plan, PlannedStep, order_of}
-pub use Rattle.ulfm_job.specs.declared.fault.JobFault.{JobFault}
 pub use Rattle.ulfm_job.specs.declared.step.Step.{Step}
-pub use Rattle.ulfm_job.specs.inside.Reading.{head_view, map_ok}
-pub use Rattle.ulfm_job.specs.JobText.{Draft}
 pub use Rattle.ulfm_job.specs.declared.clause.Clause.{Clause}
-pub use Rattle.ulfm_job.specs.declared.name.Name.{Name}

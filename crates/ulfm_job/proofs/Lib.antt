@@ -1,10 +1,4 @@
 pub mod Common
-pub mod Jobs
-pub mod Keys
-pub mod NoToml
 pub mod Scripts
-pub mod Steps
 pub mod WithStop
 pub mod Rounds
-pub mod Asking
-pub mod Drafting

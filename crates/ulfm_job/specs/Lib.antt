@@ -1,9 +1,4 @@
 pub mod Job
-pub mod Plan
-pub mod Keys
 pub mod Begins
-pub mod Reacting
-pub mod StepText
-pub mod JobText
 pub mod Words
 pub mod inside

@@ -1,3 +1,2 @@
 -- What invariants, private functions and proofs cite of jobs.
-pub mod Reading
 pub mod Noted

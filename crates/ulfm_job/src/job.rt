@@ -35,8 +35,8 @@ impl Model for Job {
 impl Job {
     ghost use Rattle.ulfm_job.specs.Job.{job_view, with_stop, with_turns};
 
-    /// The job of these scripts, one for each rank.
-    pub(crate) fn new(
+    /// The job of these scripts, one for each rank, of these conditions and of what is expected. All of them keep the limits of a job.
+    pub fn new(
         capacity: u8,
         turns: u32,
         scripts: Vec<Vec<Step>>,

@@ -6,8 +6,8 @@ use Rattle.std.specs.declared.vec.Vec.{Vec}
 use Rattle.ulfm_job.specs.declared.fault.JobFault.{JobFault}
 use Rattle.ulfm_job.specs.declared.fault.JobFault.TheVariants.{NotToml, InJob, InStep, TooLarge, OutOfMemory}
 use Rattle.ulfm_job.specs.Job.{JobView}
-use Rattle.ulfm_job.specs.JobText.{job_of_bytes}
-use Rattle.ulfm_job.specs.Plan.{plan_of}
+use Rattle.ulfm_reader.specs.JobText.{job_of_bytes}
+use Rattle.ulfm_reader.specs.Plan.{plan_of}
 use Rattle.ulfm_run.specs.Fault.{ShowUntrue}
 use Rattle.ulfm_script.specs.Report.{Report}
 use Rattle.ulfm_script.specs.declared.fault.RunFault.{RunFault}

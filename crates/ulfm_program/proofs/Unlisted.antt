@@ -2,7 +2,7 @@
 use Rattle.std.proofs.Common.{◌≡◌, ◌≢◌, ℕ, List, Err}
 use Rattle.ulfm_job.specs.declared.fault.JobFault.{JobFault}
 use Rattle.ulfm_job.specs.declared.fault.JobFault.TheVariants.{NotToml, InJob, InStep, TooLarge, OutOfMemory}
-use Rattle.ulfm_job.specs.JobText.{job_of_bytes}
+use Rattle.ulfm_reader.specs.JobText.{job_of_bytes}
 use Rattle.ulfm_replies.specs.Replies.{refused_text}
 use Rattle.ulfm_program.specs.Outcomes.{IsOutcomesReply, not_listed, no_memory_to_read}
 

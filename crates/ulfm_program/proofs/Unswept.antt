@@ -4,8 +4,8 @@ use Rattle.std.proofs.lemmas.Bool.{cases_eq}
 use Rattle.ulfm_job.specs.declared.fault.JobFault.{JobFault}
 use Rattle.ulfm_job.specs.declared.fault.JobFault.TheVariants.{NotToml, InJob, InStep, TooLarge, OutOfMemory}
 use Rattle.ulfm_job.specs.Job.{JobView, step_count}
-use Rattle.ulfm_job.specs.JobText.{job_of_bytes}
-use Rattle.ulfm_job.specs.Plan.{plan_of}
+use Rattle.ulfm_reader.specs.JobText.{job_of_bytes}
+use Rattle.ulfm_reader.specs.Plan.{plan_of}
 use Rattle.ulfm_world.specs.Sweep.{IsStarved}
 use Rattle.ulfm_world.specs.declared.fault.SweepFault.{SweepFault}
 use Rattle.ulfm_world.specs.declared.fault.SweepFault.TheVariants.{Job}

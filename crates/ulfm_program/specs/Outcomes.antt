@@ -3,8 +3,8 @@ use Rattle.std.specs.Prelude.{◌≡◌, ℕ, List, Ok, Err}
 use Rattle.ulfm_job.specs.declared.fault.JobFault.{JobFault}
 use Rattle.ulfm_job.specs.declared.fault.JobFault.TheVariants.{OutOfMemory}
 use Rattle.ulfm_job.specs.Job.{JobView}
-use Rattle.ulfm_job.specs.JobText.{job_of_bytes}
-use Rattle.ulfm_job.specs.Plan.{plan_of}
+use Rattle.ulfm_reader.specs.JobText.{job_of_bytes}
+use Rattle.ulfm_reader.specs.Plan.{plan_of}
 use Rattle.ulfm_reach.specs.declared.reach.Reach.{Reach}
 use Rattle.ulfm_reach.specs.declared.reach.Reach.TheVariants.{All, More}
 use Rattle.ulfm_outcomes.specs.Outcomes.{IsList}

@@ -5,8 +5,8 @@ use Rattle.std.specs.List.{flat_map}
 use Rattle.ulfm_job.specs.declared.fault.JobFault.{JobFault}
 use Rattle.ulfm_job.specs.declared.fault.JobFault.TheVariants.{OutOfMemory, TooLarge}
 use Rattle.ulfm_job.specs.Job.{JobView, step_count}
-use Rattle.ulfm_job.specs.JobText.{job_of_bytes}
-use Rattle.ulfm_job.specs.Plan.{plan_of}
+use Rattle.ulfm_reader.specs.JobText.{job_of_bytes}
+use Rattle.ulfm_reader.specs.Plan.{plan_of}
 use Rattle.ulfm_world.specs.Sweep.{IsSwept, place_of, places_of}
 use Rattle.ulfm_world.specs.declared.line.SweepLine.{SweepLine}
 use Rattle.ulfm_replies.specs.Failure.{out_of_memory_text}

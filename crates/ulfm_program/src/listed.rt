@@ -7,6 +7,7 @@ ghost use Rattle.ulfm_outcomes.specs.Text.{text_of};
 use std::alloc::{AllocError, Global};
 use ulfm_outcomes::{list_text, outcomes};
 use ulfm_reach::{Reach, Watch};
+use ulfm_reader::ReadJob;
 use ulfm_replies::{DONE, PAST_LIMIT, Reply, refusal};
 use ulfm_script::Job;
 

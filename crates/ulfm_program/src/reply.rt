@@ -10,6 +10,7 @@ use std::alloc::{AllocError, Global};
 use std::sync::Wait;
 use std::thread::Threads;
 use ulfm_reach::Watch;
+use ulfm_reader::ReadJob;
 use ulfm_replies::{Reply, Wanted, check_reply, refusal, trace_reply};
 use ulfm_script::Job;
 use ulfm_world::replay;

@@ -20,6 +20,7 @@ use std::thread::Threads;
 use ulfm_base::CallError;
 use ulfm_board::{Decider, Seat, seats};
 use ulfm_carrier::{Ends, LaneEnds, SharedEnds, lanes, shared};
+use ulfm_reader::ReadJob;
 use ulfm_replies::{Carrier, Failure, Reply, RunOptions, failed, failure_of, refusal, trace_reply};
 use ulfm_run::{Report, run_job};
 use ulfm_script::{Job, RankReport};

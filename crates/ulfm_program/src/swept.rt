@@ -3,6 +3,7 @@ ghost use Rattle.std.specs.Prelude.{◌≡◌, ◌++◌, IfOk, OnOk, string_byte
 ghost use Rattle.ulfm_program.specs.Sweep.{IsSweepReply, sweep_line, sweep_text};
 
 use std::alloc::{AllocError, Global};
+use ulfm_reader::ReadJob;
 use ulfm_replies::{DONE, Reply, refusal};
 use ulfm_script::Job;
 use ulfm_world::{SweepFault, SweepLine, sweep};

@@ -2,7 +2,7 @@
 use Rattle.std.proofs.Common.{◌≡◌, ◌≢◌, ℕ, List, Err}
 use Rattle.ulfm_job.specs.declared.fault.JobFault.{JobFault}
 use Rattle.ulfm_job.specs.declared.fault.JobFault.TheVariants.{NotToml, InJob, InStep, TooLarge, OutOfMemory}
-use Rattle.ulfm_job.specs.JobText.{job_of_bytes}
+use Rattle.ulfm_reader.specs.JobText.{job_of_bytes}
 use Rattle.ulfm_replies.specs.Replies.{IsCheckReply, refused, no_memory, refused_text}
 
 pub check_refused : (f : JobFault) (bytes : List ℕ) → (f ≢ OutOfMemory → job_of_bytes bytes ≡ Err f) → IsCheckReply bytes 1 (refused_text f)

@@ -6,8 +6,8 @@ use Rattle.ulfm_job.specs.declared.fault.Fault.TheVariants.{BadKey, UnknownKey, 
 use Rattle.ulfm_job.specs.declared.fault.JobFault.{JobFault}
 use Rattle.ulfm_job.specs.declared.fault.JobFault.TheVariants.{NotToml, InJob, InStep, TooLarge, OutOfMemory}
 use Rattle.ulfm_job.specs.Job.{JobView, step_count}
-use Rattle.ulfm_job.specs.JobText.{job_of_bytes}
-use Rattle.ulfm_job.specs.Plan.{plan_of}
+use Rattle.ulfm_reader.specs.JobText.{job_of_bytes}
+use Rattle.ulfm_reader.specs.Plan.{plan_of}
 use Rattle.ulfm_replies.specs.Failure.{out_of_memory_text}
 
 -- how a fault of a table of keys is printed

@@ -4,6 +4,7 @@ ghost use Rattle.ulfm_replies.specs.Replies.{fault_text, job_fault_text, refused
 
 use std::alloc::{AllocError, Global};
 use std::fmt;
+use ulfm_reader::ReadJob;
 use ulfm_script::{Fault, Job, JobFault};
 
 /// The statuses (docs/JOBS.md).

@@ -21,4 +21,4 @@ pub use hands::{Hands, turn};
 pub use player::Player;
 pub use report::RankReport;
 pub use trace::{push_answer, trace_text};
-pub use ulfm_job::{Clause, Fault, Job, JobFault, NotedStep, Step, Text, no_toml};
+pub use ulfm_job::{Clause, Fault, Job, JobFault, NotedStep, Step, Text};

@@ -5,6 +5,7 @@ use std::alloc::Global;
 use std::sync::Wait;
 use std::test::Fail;
 use std::thread::Threads;
+use ulfm_reader::ReadJob;
 use ulfm_script::{Job, trace_text};
 use ulfm_world::replay;
 

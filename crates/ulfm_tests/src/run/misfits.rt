@@ -11,6 +11,7 @@ use std::test::Fail;
 use std::thread::Threads;
 use ulfm_board::{Seat, seats};
 use ulfm_carrier::{LaneEnds, lanes};
+use ulfm_reader::ReadJob;
 use ulfm_run::{Report, run_job};
 use ulfm_script::{Job, RunFault};
 

@@ -6,6 +6,7 @@ use std::sync::Wait;
 use std::test::Fail;
 use std::thread::Threads;
 use ulfm_carrier::lanes;
+use ulfm_reader::ReadJob;
 use ulfm_script::{Job, trace_text};
 
 /// A rank sends a letter to itself and waits for it.

@@ -14,6 +14,7 @@ use ulfm_base::{Context, Entrance, ItemKind, Purpose, RankSet, WorldRank};
 use ulfm_board::{Decider, seats};
 use ulfm_carrier::{Ends, lanes, shared};
 use ulfm_rank::Entry;
+use ulfm_reader::ReadJob;
 use ulfm_run::{Report, at_rest, run_job};
 use ulfm_script::{Job, RankReport};
 

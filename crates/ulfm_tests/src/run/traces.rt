@@ -8,6 +8,7 @@ use std::test::Fail;
 use std::thread::Threads;
 use ulfm_board::seats;
 use ulfm_carrier::{Ends, lanes, shared};
+use ulfm_reader::ReadJob;
 use ulfm_run::run_job;
 use ulfm_script::{Job, trace_text};
 

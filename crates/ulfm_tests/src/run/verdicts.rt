@@ -9,6 +9,7 @@ use std::thread::Threads;
 use ulfm_base::{CallError, Contribution, Decision, OutOfMemory, Purpose, RankSet, WorldRank};
 use ulfm_board::{Decider, Seat, seats};
 use ulfm_carrier::{LaneEnds, lanes};
+use ulfm_reader::ReadJob;
 use ulfm_run::{Report, at_rest, run_job};
 use ulfm_script::{Job, RunFault};
 

@@ -1,5 +1,0 @@
-use Rattle.ulfm_job.proofs.Scripts.{one_more}
-use Rattle.ulfm_job.proofs.draft.empty_scripts.Goals as goal
-
-pub loop-preserved : goal.loop-preserved
-loop-preserved c = rw c.in_ok-push.ensures.items (one_more c.loop.scripts.items c.new.result c.loop.counter c.new.ensures.items c.loop.invariant)

@@ -1,0 +1,143 @@
+-- The job of a text, by cases in the order of the checks.
+use Rattle.std.specs.Prelude.{◌≡◌, ◌≢◌, ◌≤◌, ◌⊎◌, ℕ, ◌+◌, List, [], ◌∷◌, ◌++◌, length, replicate, slice_index_or, slice_set, Bool, true, ◌&&◌, Option, Some, None, Result, Ok, Err, is_some, if◌then◌else◌, nat_lt, codes}
+use Rattle.std.specs.Str.{is_utf8, IsUtf8}
+use Rattle.toml.specs.Data.{Data, Items, no_items, item, Members, get_member, as_array, as_table}
+use Rattle.toml.specs.Parse.{parse_document}
+use Rattle.ulfm_job.specs.declared.fault.Fault.{Fault}
+use Rattle.ulfm_job.specs.declared.fault.Fault.TheVariants.{BadKey}
+use Rattle.ulfm_job.specs.declared.fault.JobFault.{JobFault}
+use Rattle.ulfm_job.specs.declared.fault.JobFault.TheVariants as refused
+use Rattle.ulfm_reader.specs.Keys.{◌>>=◌, items_len, required_number, only_keys, in_range}
+use Rattle.ulfm_job.specs.declared.clause.Clause.{Clause}
+use Rattle.ulfm_reader.specs.declared.name.Name.{Name}
+use Rattle.ulfm_reader.specs.Plan.{Order, PlannedStep, Plan}
+use Rattle.ulfm_reader.specs.Reacting.{names_in, conditions_in, expected_in}
+use Rattle.ulfm_reader.specs.StepText.{step_of}
+
+-- a fault of the job's own keys
+abbrev pub in_job : {A : Type 0} → Result A Fault → Result A JobFault
+in_job (Ok x) = Ok x
+in_job (Err f) = Err (refused.InJob f)
+
+-- a fault of the step at place k of the file
+abbrev pub in_step : {A : Type 0} → ℕ → Result A Fault → Result A JobFault
+in_step k (Ok x) = Ok x
+in_step k (Err f) = Err (refused.InStep f k)
+
+-- what was read of the steps: those of each rank, their names, their conditions, and what they expect
+pub record Draft : Type 0 where
+  pub scripts : List (List Order)
+  pub names : List Name
+  pub conditions : List Clause
+  pub expected : List Clause
+
+-- nothing was read of so many ranks
+abbrev pub blank : ℕ → Draft
+blank ranks = record { scripts = replicate ranks []; names = []; conditions = []; expected = [] }
+
+-- one more step comes last in the script of its rank
+abbrev pub placed_in : List (List Order) → PlannedStep → List (List Order)
+placed_in scripts s = slice_set scripts s.rank (slice_index_or scripts s.rank [] ++ s.order ∷ [])
+
+-- a draft with one more step: its name, then its conditions, and then what it expects
+unfoldable pub drafted : Draft → Members → PlannedStep → Result Draft Fault
+drafted draft ms s = do
+  names ← names_in draft.names s.rank (length (slice_index_or draft.scripts s.rank [])) (get_member (codes "name") ms)
+  conditions ← conditions_in (record { rank = s.rank; at = length (slice_index_or draft.scripts s.rank []); script = slice_index_or draft.scripts s.rank []; names = draft.names }) draft.conditions (get_member (codes "if") ms)
+  expected ← expected_in s.rank (length (slice_index_or draft.scripts s.rank [])) s.order draft.expected (get_member (codes "expect") ms)
+  Ok (record { scripts = placed_in draft.scripts s; names = names; conditions = conditions; expected = expected })
+
+-- a draft with the step of a table
+abbrev pub draft_of : ℕ → Draft → Members → Result Draft Fault
+draft_of ranks draft ms = step_of ranks draft.names ms >>= drafted draft ms
+
+-- a step that may be no table
+abbrev pub step_in : ℕ → ℕ → Draft → Option Members → Result Draft JobFault
+step_in ranks k draft None = Err (refused.InStep BadKey k)
+step_in ranks k draft (Some ms) = in_step k (draft_of ranks draft ms)
+
+-- a draft with the step at a place of the file, or its fault with the place
+abbrev pub step_at : ℕ → ℕ → Draft → Data → Result Draft JobFault
+step_at ranks k draft d = step_in ranks k draft (as_table d)
+
+-- a draft with these steps, in the order of the file, the first of them at place k
+unfoldable pub steps_of : ℕ → ℕ → Draft → Items → Result Draft JobFault
+steps_of ranks k draft no_items = Ok draft
+steps_of ranks k draft (item d ds) = step_at ranks k draft d >>= (λ more. steps_of ranks (k + 1) more ds)
+
+-- tables alone
+abbrev pub are_tables : Items → Bool
+are_tables no_items = true
+are_tables (item d ds) = is_some (as_table d) && are_tables ds
+
+-- the array of tables at the key `step`, or no steps
+abbrev pub tables_in : Option Items → Result Items Fault
+tables_in None = Err BadKey
+tables_in (Some ds) = if are_tables ds then Ok ds else Err BadKey
+
+-- the items of the key `step`, where it is there
+abbrev pub step_items_in : Option Data → Result Items Fault
+step_items_in None = Ok no_items
+step_items_in (Some d) = tables_in (as_array d)
+
+-- the items of the steps of a table
+abbrev pub step_items : Members → Result Items Fault
+step_items ms = step_items_in (get_member (codes "step") ms)
+
+-- the job's own keys
+pub record Head : Type 0 where
+  pub ranks : ℕ
+  pub capacity : ℕ
+  pub turns : ℕ
+  pub steps : Items
+
+-- the numbers of the top keys, in range
+unfoldable pub head_of : Members → Result Head Fault
+head_of ms = do
+  ranks_key ← required_number (codes "ranks") ms
+  capacity_key ← required_number (codes "capacity") ms
+  turns_key ← required_number (codes "turns") ms
+  steps ← step_items ms
+  keys ← only_keys (codes "ranks" ∷ codes "capacity" ∷ codes "turns" ∷ codes "step" ∷ []) ms
+  ranks ← in_range 1 8 ranks_key
+  capacity ← in_range 1 64 capacity_key
+  turns ← in_range 1 10000000 turns_key
+  Ok (record { ranks = ranks; capacity = capacity; turns = turns; steps = steps })
+
+-- the plan of the job's own keys, and of what was read of its steps
+abbrev pub planned_as : Head → Draft → Plan
+planned_as h draft = record {
+  ranks = h.ranks;
+  capacity = h.capacity;
+  turns = h.turns;
+  scripts = draft.scripts;
+  conditions = draft.conditions;
+  expected = draft.expected;
+}
+
+-- the job of a table: its own keys, how many steps there are, and then the steps
+unfoldable pub job_of : Members → Result Plan JobFault
+job_of ms = in_job (head_of ms) >>= (λ h.
+    if nat_lt 256 (items_len h.steps) then Err refused.TooLarge
+    else steps_of h.ranks 0 (blank h.ranks) h.steps >>= (λ draft. Ok (planned_as h draft)))
+
+-- the job of a text that may be no document
+abbrev pub job_of_document : Option Members → Result Plan JobFault
+job_of_document None = Err refused.NotToml
+job_of_document (Some ms) = job_of ms
+
+-- the job of any bytes
+unfoldable pub job_of_bytes : List ℕ → Result Plan JobFault
+job_of_bytes bytes =
+    if nat_lt 1048576 (length bytes) then Err refused.TooLarge
+    else if is_utf8 bytes then job_of_document (parse_document bytes)
+    else Err refused.NotToml
+
+-- what a function answered is the stated answer, unless memory ran out
+abbrev pub Gives : {X Y : Type 0} → (X → Y) → Result X JobFault → Result Y JobFault → Type 0
+Gives view (Ok x) stated = stated ≡ Ok (view x)
+Gives view (Err e) stated = e ≢ refused.OutOfMemory → stated ≡ Err e
+
+-- the bytes are no more than may be read, and no text or no document
+abbrev pub IsNoDocument : List ℕ → Type 0
+IsNoDocument bytes = (length bytes ≤ 1048576) × (¬ IsUtf8 bytes ⊎ (parse_document bytes ≡ None))

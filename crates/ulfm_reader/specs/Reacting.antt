@@ -1,0 +1,160 @@
+-- The names of steps, their conditions, and what they expect, by cases in the order of the checks.
+use Rattle.std.specs.Prelude.{ℕ, ℤ, ◌==◌, nat_lt, nat_le, Bool, ◌&&◌, ◌||◌, List, [], ◌∷◌, ◌++◌, length, Option, Some, None, option_map, is_none, find, Result, Ok, Err, slice_get, if◌then◌else◌, codes}
+use Rattle.std.specs.List.{list_all}
+use Rattle.std.specs.Option.{ok_or}
+use Rattle.std.specs.Str.{bytes_eq}
+use Rattle.toml.specs.Data.{Data, Items, no_items, item, Members, get_member, as_array, as_integer, as_str, as_table}
+use Rattle.ulfm_job.specs.declared.clause.Clause.{Clause}
+use Rattle.ulfm_job.specs.declared.fault.Fault.{Fault}
+use Rattle.ulfm_job.specs.declared.fault.Fault.TheVariants.{BadKey, OutOfRange}
+use Rattle.ulfm_reader.specs.declared.name.Name.{Name}
+use Rattle.ulfm_reader.specs.Beginnings.{may_ask, may_expect}
+use Rattle.ulfm_reader.specs.Keys.{◌>>=◌, items_len, required, only_keys, in_range}
+use Rattle.ulfm_reader.specs.Plan.{Order}
+
+-- a letter, a digit, `_` or `-`
+abbrev pub is_name_byte : ℕ → Bool
+is_name_byte b = (nat_le 97 b && nat_le b 122) || (nat_le 65 b && nat_le b 90) || (nat_le 48 b && nat_le b 57) || b == 95 || b == 45
+
+-- a name: 1 to 32 of them
+abbrev pub is_name : List ℕ → Bool
+is_name text = nat_lt 0 (length text) && nat_le (length text) 32 && list_all is_name_byte text
+
+-- a step of this rank has this name
+abbrev pub is_called : ℕ → List ℕ → Name → Bool
+is_called rank text name = (name.rank == rank) && bytes_eq name.text text
+
+-- the number of the step of a rank with this name
+abbrev pub named : List Name → ℕ → List ℕ → Option ℕ
+named names rank text = option_map (λ (name : Name). name.at) (find (is_called rank text) names)
+
+-- a name that no earlier step of the rank has
+abbrev pub is_new_name : List Name → ℕ → List ℕ → Bool
+is_new_name names rank text = is_name text && is_none (named names rank text)
+
+-- the name of the step `at` of a rank, which no earlier one of that rank has
+abbrev pub name_in : List Name → ℕ → ℕ → List ℕ → Result Name Fault
+name_in names rank at text = if is_new_name names rank text then Ok (record { rank = rank; at = at; text = text }) else Err OutOfRange
+
+-- what names a step: its number, or its name
+pub data Reference : Type 0 where
+  by_number : ℤ → Reference
+  by_name : List ℕ → Reference
+
+-- a number or a text, as what names a step
+abbrev pub reference_or : Option ℤ → Option (List ℕ) → Result Reference Fault
+reference_or (Some number) text = Ok (by_number number)
+reference_or None (Some text) = Ok (by_name text)
+reference_or None None = Err BadKey
+
+-- what names a step, where it is there
+abbrev pub reference_in : Option Data → Result Reference Fault
+reference_in None = Err BadKey
+reference_in (Some d) = reference_or (as_integer d) (as_str d)
+
+-- what names a step by a key that has to be there
+abbrev pub required_reference : List ℕ → Members → Result Reference Fault
+required_reference key ms = reference_in (get_member key ms)
+
+-- the number of a step that is named: any number of a step, or that of an earlier one by its name
+abbrev pub req_in : List Name → ℕ → Reference → Result ℕ Fault
+req_in names rank (by_number number) = in_range 0 255 number
+req_in names rank (by_name text) = ok_or (named names rank text) OutOfRange
+
+-- 1 to 16 items
+abbrev pub are_few : Items → Bool
+are_few ds = nat_lt 0 (items_len ds) && nat_le (items_len ds) 16
+
+-- words that pass a test
+abbrev pub words_in : (List ℕ → Bool) → Option (List ℕ) → Result (List ℕ) Fault
+words_in is_good None = Err BadKey
+words_in is_good (Some words) = if is_good words then Ok words else Err OutOfRange
+
+-- a clause by its parts
+abbrev pub clause : ℕ → ℕ → ℕ → List ℕ → Clause
+clause rank at step words = record { rank = rank; at = at; step = step; words = words }
+
+-- clauses, and behind them one for each of these words
+unfoldable pub clauses_onto : (List ℕ → Bool) → ℕ → ℕ → ℕ → List Clause → Items → Result (List Clause) Fault
+clauses_onto is_good rank at step before no_items = Ok before
+clauses_onto is_good rank at step before (item d ds) =
+    words_in is_good (as_str d) >>= (λ words. clauses_onto is_good rank at step (before ++ clause rank at step words ∷ []) ds)
+
+-- the same, where there are 1 to 16 of them
+abbrev pub few_clauses : (List ℕ → Bool) → ℕ → ℕ → ℕ → List Clause → Items → Result (List Clause) Fault
+few_clauses is_good rank at step before ds = if are_few ds then clauses_onto is_good rank at step before ds else Err OutOfRange
+
+-- what a step is, with what it is asked by: the rank, its number there, and the steps and names that were read before it
+pub record Asker : Type 0 where
+  pub rank : ℕ
+  pub at : ℕ
+  pub script : List Order
+  pub names : List Name
+
+-- an earlier step of the script, with its number
+abbrev pub earlier : ℕ → Option Order → Result (ℕ × Order) Fault
+earlier step None = Err OutOfRange
+earlier step (Some order) = Ok (step, order)
+
+-- the earlier step that a condition names
+abbrev pub earlier_in : Asker → Reference → Result (ℕ × Order) Fault
+earlier_in asker reference = req_in asker.names asker.rank reference >>= (λ step. earlier step (slice_get asker.script step))
+
+-- what one table of an `if` asks for: an earlier step, with its number, and words
+unfoldable pub asked_in : Asker → Members → Result ((ℕ × Order) × Items) Fault
+asked_in asker ms = do
+  step_key ← required_reference (codes "step") ms
+  words ← required as_array (get_member (codes "is") ms)
+  keys ← only_keys (codes "step" ∷ codes "is" ∷ []) ms
+  found ← earlier_in asker step_key
+  Ok (found, words)
+
+-- the conditions of one table: its step's answer may begin with one of its words
+abbrev pub conditions_of : Asker → List Clause → Members → Result (List Clause) Fault
+conditions_of asker before ms =
+    asked_in asker ms >>= (λ asked. few_clauses (may_ask asked.0.1) asker.rank asker.at asked.0.0 before asked.1)
+
+-- the conditions of what may be no table
+abbrev pub conditions_at : Asker → List Clause → Option Members → Result (List Clause) Fault
+conditions_at asker before None = Err BadKey
+conditions_at asker before (Some ms) = conditions_of asker before ms
+
+-- those of some tables
+unfoldable pub conditions_onto : Asker → List Clause → Items → Result (List Clause) Fault
+conditions_onto asker before no_items = Ok before
+conditions_onto asker before (item d ds) = conditions_at asker before (as_table d) >>= (λ more. conditions_onto asker more ds)
+
+-- those of a list of 1 to 16 tables
+abbrev pub listed_conditions : Asker → List Clause → Option Items → Result (List Clause) Fault
+listed_conditions asker before None = Err BadKey
+listed_conditions asker before (Some ds) = if are_few ds then conditions_onto asker before ds else Err OutOfRange
+
+-- those of one table, or of a list
+abbrev pub any_conditions : Asker → List Clause → Option Members → Option Items → Result (List Clause) Fault
+any_conditions asker before (Some ms) list = conditions_of asker before ms
+any_conditions asker before None list = listed_conditions asker before list
+
+-- those of the key `if`, where it is there
+abbrev pub conditions_in : Asker → List Clause → Option Data → Result (List Clause) Fault
+conditions_in asker before None = Ok before
+conditions_in asker before (Some d) = any_conditions asker before (as_table d) (as_array d)
+
+-- what a step expects of its own answer, by a list of words
+abbrev pub listed_expected : ℕ → ℕ → Order → List Clause → Option Items → Result (List Clause) Fault
+listed_expected rank at order before None = Err BadKey
+listed_expected rank at order before (Some ds) = few_clauses (may_expect order) rank at at before ds
+
+-- by the key `expect`, where it is there
+abbrev pub expected_in : ℕ → ℕ → Order → List Clause → Option Data → Result (List Clause) Fault
+expected_in rank at order before None = Ok before
+expected_in rank at order before (Some d) = listed_expected rank at order before (as_array d)
+
+-- names, and behind them that of a text
+abbrev pub name_onto : List Name → ℕ → ℕ → Option (List ℕ) → Result (List Name) Fault
+name_onto names rank at None = Err BadKey
+name_onto names rank at (Some text) = name_in names rank at text >>= (λ name. Ok (names ++ name ∷ []))
+
+-- by the key `name`, where it is there
+abbrev pub names_in : List Name → ℕ → ℕ → Option Data → Result (List Name) Fault
+names_in names rank at None = Ok names
+names_in names rank at (Some d) = name_onto names rank at (as_str d)

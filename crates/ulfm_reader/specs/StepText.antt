@@ -1,0 +1,141 @@
+-- The step of a table, for each op, by cases in the order of the checks: keys and their kinds, unknown keys, ranges.
+use Rattle.std.specs.Prelude.{ℕ, pos, ◌-◌, List, [], ◌∷◌, Result, Ok, Err, unwrap_or, if◌then◌else◌, codes}
+use Rattle.std.specs.Str.{bytes_eq}
+use Rattle.toml.specs.Data.{Members}
+use Rattle.ulfm_job.specs.declared.fault.Fault.{Fault}
+use Rattle.ulfm_job.specs.declared.fault.Fault.TheVariants.{UnknownOp}
+use Rattle.ulfm_reader.specs.Keys.{◌>>=◌, required_number, optional_number, required_text, only_keys, in_range, in_range_if_some}
+use Rattle.ulfm_reader.specs.declared.name.Name.{Name}
+use Rattle.ulfm_reader.specs.Reacting.{required_reference, req_in}
+use Rattle.ulfm_reader.specs.Plan.{Order, PlannedStep, send, recv, wait, probe, mrecv, cancel, failed, ack, revoke, dup, shrink, agree, stop}
+
+-- the step of a `send`
+unfoldable pub send_step : ℕ → Members → Result PlannedStep Fault
+send_step ranks ms = do
+  rank_key ← required_number (codes "rank") ms
+  to_key ← required_number (codes "to") ms
+  tag_key ← required_number (codes "tag") ms
+  body ← required_text (codes "body") ms
+  comm_key ← optional_number (codes "comm") ms
+  keys ← only_keys (codes "op" ∷ codes "rank" ∷ codes "name" ∷ codes "if" ∷ codes "expect" ∷ codes "to" ∷ codes "tag" ∷ codes "body" ∷ codes "comm" ∷ []) ms
+  rank ← in_range 0 (ranks - 1) rank_key
+  to ← in_range 0 7 to_key
+  tag ← in_range 0 32767 tag_key
+  comm ← in_range 0 62 (unwrap_or comm_key (pos 0))
+  Ok (record { rank = rank; order = send to tag body comm })
+
+-- the step of a `recv`
+unfoldable pub recv_step : ℕ → Members → Result PlannedStep Fault
+recv_step ranks ms = do
+  rank_key ← required_number (codes "rank") ms
+  from_key ← optional_number (codes "from") ms
+  tag_key ← optional_number (codes "tag") ms
+  room_key ← optional_number (codes "room") ms
+  comm_key ← optional_number (codes "comm") ms
+  keys ← only_keys (codes "op" ∷ codes "rank" ∷ codes "name" ∷ codes "if" ∷ codes "expect" ∷ codes "from" ∷ codes "tag" ∷ codes "room" ∷ codes "comm" ∷ []) ms
+  rank ← in_range 0 (ranks - 1) rank_key
+  from ← in_range_if_some 7 from_key
+  tag ← in_range_if_some 32767 tag_key
+  room ← in_range 0 1024 (unwrap_or room_key (pos 1024))
+  comm ← in_range 0 62 (unwrap_or comm_key (pos 0))
+  Ok (record { rank = rank; order = recv from tag room comm })
+
+-- the step of an op that names an earlier step of its rank, by its number or its name, and nothing else
+unfoldable pub step_on_req : (ℕ → Order) → ℕ → List Name → Members → Result PlannedStep Fault
+step_on_req order_on ranks names ms = do
+  rank_key ← required_number (codes "rank") ms
+  req_key ← required_reference (codes "req") ms
+  keys ← only_keys (codes "op" ∷ codes "rank" ∷ codes "name" ∷ codes "if" ∷ codes "expect" ∷ codes "req" ∷ []) ms
+  rank ← in_range 0 (ranks - 1) rank_key
+  req ← req_in names rank req_key
+  Ok (record { rank = rank; order = order_on req })
+
+-- the step of a `probe`
+unfoldable pub probe_step : ℕ → Members → Result PlannedStep Fault
+probe_step ranks ms = do
+  rank_key ← required_number (codes "rank") ms
+  from_key ← optional_number (codes "from") ms
+  tag_key ← optional_number (codes "tag") ms
+  comm_key ← optional_number (codes "comm") ms
+  keys ← only_keys (codes "op" ∷ codes "rank" ∷ codes "name" ∷ codes "if" ∷ codes "expect" ∷ codes "from" ∷ codes "tag" ∷ codes "comm" ∷ []) ms
+  rank ← in_range 0 (ranks - 1) rank_key
+  from ← in_range_if_some 7 from_key
+  tag ← in_range_if_some 32767 tag_key
+  comm ← in_range 0 62 (unwrap_or comm_key (pos 0))
+  Ok (record { rank = rank; order = probe from tag comm })
+
+-- the step of an `mrecv`
+unfoldable pub mrecv_step : ℕ → List Name → Members → Result PlannedStep Fault
+mrecv_step ranks names ms = do
+  rank_key ← required_number (codes "rank") ms
+  req_key ← required_reference (codes "req") ms
+  room_key ← optional_number (codes "room") ms
+  keys ← only_keys (codes "op" ∷ codes "rank" ∷ codes "name" ∷ codes "if" ∷ codes "expect" ∷ codes "req" ∷ codes "room" ∷ []) ms
+  rank ← in_range 0 (ranks - 1) rank_key
+  req ← req_in names rank req_key
+  room ← in_range 0 1024 (unwrap_or room_key (pos 1024))
+  Ok (record { rank = rank; order = mrecv req room })
+
+-- the step of an op that names a communicator, the world's where it is left out, and nothing else
+unfoldable pub step_on_comm : (ℕ → Order) → ℕ → Members → Result PlannedStep Fault
+step_on_comm order_on ranks ms = do
+  rank_key ← required_number (codes "rank") ms
+  comm_key ← optional_number (codes "comm") ms
+  keys ← only_keys (codes "op" ∷ codes "rank" ∷ codes "name" ∷ codes "if" ∷ codes "expect" ∷ codes "comm" ∷ []) ms
+  rank ← in_range 0 (ranks - 1) rank_key
+  comm ← in_range 0 62 (unwrap_or comm_key (pos 0))
+  Ok (record { rank = rank; order = order_on comm })
+
+-- the step of an `ack`
+unfoldable pub ack_step : ℕ → Members → Result PlannedStep Fault
+ack_step ranks ms = do
+  rank_key ← required_number (codes "rank") ms
+  count_key ← required_number (codes "count") ms
+  comm_key ← optional_number (codes "comm") ms
+  keys ← only_keys (codes "op" ∷ codes "rank" ∷ codes "name" ∷ codes "if" ∷ codes "expect" ∷ codes "count" ∷ codes "comm" ∷ []) ms
+  rank ← in_range 0 (ranks - 1) rank_key
+  count ← in_range 0 8 count_key
+  comm ← in_range 0 62 (unwrap_or comm_key (pos 0))
+  Ok (record { rank = rank; order = ack count comm })
+
+-- the step of an `agree`
+unfoldable pub agree_step : ℕ → Members → Result PlannedStep Fault
+agree_step ranks ms = do
+  rank_key ← required_number (codes "rank") ms
+  flag_key ← required_number (codes "flag") ms
+  comm_key ← optional_number (codes "comm") ms
+  keys ← only_keys (codes "op" ∷ codes "rank" ∷ codes "name" ∷ codes "if" ∷ codes "expect" ∷ codes "flag" ∷ codes "comm" ∷ []) ms
+  rank ← in_range 0 (ranks - 1) rank_key
+  flag ← in_range 0 4294967295 flag_key
+  comm ← in_range 0 62 (unwrap_or comm_key (pos 0))
+  Ok (record { rank = rank; order = agree flag comm })
+
+-- the step of a `stop`
+unfoldable pub stop_step : ℕ → Members → Result PlannedStep Fault
+stop_step ranks ms = do
+  rank_key ← required_number (codes "rank") ms
+  keys ← only_keys (codes "op" ∷ codes "rank" ∷ codes "name" ∷ codes "if" ∷ codes "expect" ∷ []) ms
+  rank ← in_range 0 (ranks - 1) rank_key
+  Ok (record { rank = rank; order = stop })
+
+-- the step of an op by its name
+unfoldable pub step_of_op : ℕ → List Name → List ℕ → Members → Result PlannedStep Fault
+step_of_op ranks names op ms =
+    if bytes_eq op (codes "send") then send_step ranks ms
+    else if bytes_eq op (codes "recv") then recv_step ranks ms
+    else if bytes_eq op (codes "wait") then step_on_req wait ranks names ms
+    else if bytes_eq op (codes "probe") then probe_step ranks ms
+    else if bytes_eq op (codes "mrecv") then mrecv_step ranks names ms
+    else if bytes_eq op (codes "cancel") then step_on_req cancel ranks names ms
+    else if bytes_eq op (codes "failed") then step_on_comm failed ranks ms
+    else if bytes_eq op (codes "ack") then ack_step ranks ms
+    else if bytes_eq op (codes "revoke") then step_on_comm revoke ranks ms
+    else if bytes_eq op (codes "dup") then step_on_comm dup ranks ms
+    else if bytes_eq op (codes "shrink") then step_on_comm shrink ranks ms
+    else if bytes_eq op (codes "agree") then agree_step ranks ms
+    else if bytes_eq op (codes "stop") then stop_step ranks ms
+    else Err UnknownOp
+
+-- the step of a table; its op comes before its other keys
+unfoldable pub step_of : ℕ → List Name → Members → Result PlannedStep Fault
+step_of ranks names ms = required_text (codes "op") ms >>= (λ op. step_of_op ranks names op ms)

@@ -1,0 +1,2 @@
+-- What private functions and proofs cite of what is read.
+pub mod Reading

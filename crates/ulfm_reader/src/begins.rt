@@ -1,0 +1,139 @@
+//! When a text begins with words, and what words the answer of a step may begin with.
+ghost use Rattle.std.specs.Prelude.{◌≡◌, map};
+ghost use Rattle.std.specs.List.{list_any};
+ghost use Rattle.ulfm_job.specs.Begins.{begins, ends_word};
+ghost use Rattle.ulfm_reader.specs.Beginnings.{begin_alike, is_alike, may_ask, may_expect, not_answered, own_answers, refusals};
+ghost use Rattle.ulfm_reader.specs.Plan.{order_of};
+
+use ulfm_job::Step;
+
+/// The most bytes of words.
+const MOST_WORDS: usize = 1024;
+
+/// The answers that tell of something in the way.
+const REFUSALS: &[&str] = &[
+    "over 5 ProcFailed",
+    "over 6 Revoked",
+    "over 15 Truncated",
+    "refused 1 NoComm",
+    "refused 2 BadRank",
+    "refused 3 BadTag",
+    "refused 4 TooLong",
+    "refused 5 ProcFailed",
+    "refused 6 Revoked",
+    "refused 7 NoRequest",
+    "refused 8 AlreadyMade",
+    "refused 9 NoContext",
+    "refused 10 Stopped",
+    "refused 11 NotMember",
+    "refused 12 OutOfMemory",
+    "refused 13 BadSize",
+    "refused 14 NotEntered",
+    "refused 15 Truncated",
+];
+
+/// Whether a text ends, or goes on with a space.
+fn ends_word(text: &[u8]) -> bool
+    ensures { result ≡ ends_word text.now }
+{
+    match text.first() {
+        Some(byte) => *byte == b' ',
+        None => true,
+    }
+}
+
+/// Whether a text begins, by whole words, with these words.
+pub fn begins(text: &[u8], words: &[u8]) -> bool
+    ensures { result ≡ begins text.now words.now }
+{
+    let mut left = text;
+    for word in words {
+        match left.split_first() {
+            Some((byte, rest)) if *byte == *word => left = rest,
+            _ => return false,
+        }
+    }
+    ends_word(left)
+}
+
+/// Whether one of two texts begins with the other.
+fn begin_alike(text: &[u8], words: &[u8]) -> bool
+    ensures { result ≡ begin_alike text.now words.now }
+{
+    begins(text, words) || begins(words, text)
+}
+
+/// Whether the words and a text begin alike.
+fn is_alike_to(text: &str, words: &str) -> bool
+    ensures { result ≡ begin_alike text.now words.now }
+{
+    begin_alike(text.as_bytes(), words.as_bytes())
+}
+
+/// Whether the words and one of these texts begin alike.
+fn is_alike_to_one(texts: &[&str], words: &str) -> bool
+    ensures { result ≡ list_any (λ text. begin_alike text.now words.now) texts.now }
+{
+    texts.iter().any(|text| is_alike_to(text, words))
+}
+
+/// Whether the words and one of these texts begin alike.
+fn is_alike(texts: &[&str], words: &str) -> bool
+    ensures { result ≡ is_alike (map (λ s. s.now) texts.now) words.now }
+{
+    is_alike_to_one(texts, words)
+}
+
+/// Whether the words begin as an answer of the step does that isn't refused, where no receive is told over.
+fn is_own(step: &Step, words: &str) -> bool
+    ensures { result ≡ is_alike (own_answers (order_of step.now)) words.now }
+{
+    match step {
+        Step::Send { .. } => is_alike(&["sent"], words),
+        Step::Recv { .. } => is_alike(&["posted"], words),
+        Step::Wait { .. } => is_alike(&["done from", "pending", "unfinished"], words),
+        Step::Probe { .. } => is_alike(&["found from", "unfinished"], words),
+        Step::Mrecv { .. } => is_alike(&["done from"], words),
+        Step::Cancel { .. } => is_alike(&["done from", "cancelled"], words),
+        Step::Failed { .. } => is_alike(&["ranks"], words),
+        Step::Ack { .. } => is_alike(&["acked"], words),
+        Step::Revoke { .. } => is_alike(&["revoked"], words),
+        Step::Dup { .. } => is_alike(&["comm"], words),
+        Step::Shrink { .. } => is_alike(&["comm", "unfinished"], words),
+        Step::Agree { .. } => is_alike(&["agreed", "unfinished"], words),
+        Step::Stop => is_alike(&["stopped"], words),
+    }
+}
+
+/// Whether the words begin as a refusal.
+fn is_refusal(words: &str) -> bool
+    ensures { result ≡ is_alike refusals words.now }
+{
+    is_alike(REFUSALS, words)
+}
+
+/// Whether an answer of the step may begin with these words, of at most 1,024 bytes. A stop is never refused.
+pub fn may_expect(step: &Step, words: &str) -> bool
+    ensures { result ≡ may_expect (order_of step.now) words.now }
+{
+    if words.len() > MOST_WORDS {
+        return false;
+    }
+    if is_own(step, words) {
+        return true;
+    }
+    match step {
+        Step::Stop => false,
+        _ => is_refusal(words),
+    }
+}
+
+/// The same for a condition, which may also ask whether the step was skipped or is unfinished.
+pub fn may_ask(step: &Step, words: &str) -> bool
+    ensures { result ≡ may_ask (order_of step.now) words.now }
+{
+    if is_alike(&["skipped", "unfinished"], words) {
+        return true;
+    }
+    may_expect(step, words)
+}

@@ -1,0 +1,166 @@
+//! The steps of a table that send, receive, probe, or name such a step.
+ghost use Rattle.std.specs.Prelude.{◌≡◌, ◌<◌, IfOk};
+ghost use Rattle.toml.specs.View.{table_view};
+ghost use Rattle.ulfm_reader.specs.inside.Reading.{map_ok, planned};
+ghost use Rattle.ulfm_reader.specs.Plan.{wait, cancel};
+ghost use Rattle.ulfm_reader.specs.StepText.{send_step, recv_step, step_on_req, probe_step, mrecv_step};
+
+use crate::fields::{
+    only_keys, optional_number, required_number, required_reference, required_text,
+};
+use crate::name::Name;
+use crate::placed::{Placed, ReadStep};
+use crate::ranges::{comm_in, from_if_some, rank_in, req_in, room_in, tag_if_some, tag_in, to_in};
+use toml::Table;
+use ulfm_job::{Fault, Step};
+
+/// A `send`.
+#[tactic(auto, unfolding(crate::specs::StepText::send_step))]
+pub fn send_of(ranks: u8, table: &Table) -> Result<Placed<'_>, Fault>
+    requires { 0 < ranks }
+    ensures exact { map_ok planned result ≡ send_step ranks (table_view table.now) }
+    ensures below { IfOk result (λ placed. placed.rank < ranks) }
+{
+    let rank = required_number(table, "rank")?;
+    let to = required_number(table, "to")?;
+    let tag = required_number(table, "tag")?;
+    let body = required_text(table, "body")?;
+    let comm = optional_number(table, "comm")?;
+    only_keys(
+        table,
+        &[
+            "op", "rank", "name", "if", "expect", "to", "tag", "body", "comm",
+        ],
+    )?;
+    let rank = rank_in(ranks, rank)?;
+    let to = to_in(to)?;
+    let tag = tag_in(tag)?;
+    let comm = comm_in(comm)?;
+    Ok(Placed {
+        rank,
+        step: ReadStep::Send {
+            to,
+            tag,
+            body,
+            comm,
+        },
+    })
+}
+
+/// A `recv`.
+#[tactic(auto, unfolding(crate::specs::StepText::recv_step))]
+pub fn recv_of(ranks: u8, table: &Table) -> Result<Placed<'_>, Fault>
+    requires { 0 < ranks }
+    ensures exact { map_ok planned result ≡ recv_step ranks (table_view table.now) }
+    ensures below { IfOk result (λ placed. placed.rank < ranks) }
+{
+    let rank = required_number(table, "rank")?;
+    let from = optional_number(table, "from")?;
+    let tag = optional_number(table, "tag")?;
+    let room = optional_number(table, "room")?;
+    let comm = optional_number(table, "comm")?;
+    only_keys(
+        table,
+        &[
+            "op", "rank", "name", "if", "expect", "from", "tag", "room", "comm",
+        ],
+    )?;
+    let rank = rank_in(ranks, rank)?;
+    let from = from_if_some(from)?;
+    let tag = tag_if_some(tag)?;
+    let room = room_in(room)?;
+    let comm = comm_in(comm)?;
+    Ok(Placed {
+        rank,
+        step: ReadStep::Other(Step::Recv {
+            from,
+            tag,
+            room,
+            comm,
+        }),
+    })
+}
+
+/// A `wait`.
+#[tactic(auto, unfolding(crate::specs::StepText::step_on_req))]
+pub fn wait_of<'a>(ranks: u8, names: &[Name], table: &'a Table) -> Result<Placed<'a>, Fault>
+    requires { 0 < ranks }
+    ensures exact { map_ok planned result ≡ step_on_req wait ranks names.now (table_view table.now) }
+    ensures below { IfOk result (λ placed. placed.rank < ranks) }
+{
+    let rank = required_number(table, "rank")?;
+    let req = required_reference(table, "req")?;
+    only_keys(table, &["op", "rank", "name", "if", "expect", "req"])?;
+    let rank = rank_in(ranks, rank)?;
+    let req = req_in(names, rank, &req)?;
+    Ok(Placed {
+        rank,
+        step: ReadStep::Other(Step::Wait { req }),
+    })
+}
+
+/// A `probe`.
+#[tactic(auto, unfolding(crate::specs::StepText::probe_step))]
+pub fn probe_of(ranks: u8, table: &Table) -> Result<Placed<'_>, Fault>
+    requires { 0 < ranks }
+    ensures exact { map_ok planned result ≡ probe_step ranks (table_view table.now) }
+    ensures below { IfOk result (λ placed. placed.rank < ranks) }
+{
+    let rank = required_number(table, "rank")?;
+    let from = optional_number(table, "from")?;
+    let tag = optional_number(table, "tag")?;
+    let comm = optional_number(table, "comm")?;
+    only_keys(
+        table,
+        &["op", "rank", "name", "if", "expect", "from", "tag", "comm"],
+    )?;
+    let rank = rank_in(ranks, rank)?;
+    let from = from_if_some(from)?;
+    let tag = tag_if_some(tag)?;
+    let comm = comm_in(comm)?;
+    Ok(Placed {
+        rank,
+        step: ReadStep::Other(Step::Probe { from, tag, comm }),
+    })
+}
+
+/// An `mrecv`.
+#[tactic(auto, unfolding(crate::specs::StepText::mrecv_step))]
+pub fn mrecv_of<'a>(ranks: u8, names: &[Name], table: &'a Table) -> Result<Placed<'a>, Fault>
+    requires { 0 < ranks }
+    ensures exact { map_ok planned result ≡ mrecv_step ranks names.now (table_view table.now) }
+    ensures below { IfOk result (λ placed. placed.rank < ranks) }
+{
+    let rank = required_number(table, "rank")?;
+    let req = required_reference(table, "req")?;
+    let room = optional_number(table, "room")?;
+    only_keys(
+        table,
+        &["op", "rank", "name", "if", "expect", "req", "room"],
+    )?;
+    let rank = rank_in(ranks, rank)?;
+    let req = req_in(names, rank, &req)?;
+    let room = room_in(room)?;
+    Ok(Placed {
+        rank,
+        step: ReadStep::Other(Step::Mrecv { req, room }),
+    })
+}
+
+/// A `cancel`.
+#[tactic(auto, unfolding(crate::specs::StepText::step_on_req))]
+pub fn cancel_of<'a>(ranks: u8, names: &[Name], table: &'a Table) -> Result<Placed<'a>, Fault>
+    requires { 0 < ranks }
+    ensures exact { map_ok planned result ≡ step_on_req cancel ranks names.now (table_view table.now) }
+    ensures below { IfOk result (λ placed. placed.rank < ranks) }
+{
+    let rank = required_number(table, "rank")?;
+    let req = required_reference(table, "req")?;
+    only_keys(table, &["op", "rank", "name", "if", "expect", "req"])?;
+    let rank = rank_in(ranks, rank)?;
+    let req = req_in(names, rank, &req)?;
+    Ok(Placed {
+        rank,
+        step: ReadStep::Other(Step::Cancel { req }),
+    })
+}
