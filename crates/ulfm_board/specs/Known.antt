@@ -1,5 +1,5 @@
 -- What a decider knows of the decisions of shrinks and agreements, by the cells of their topics.
-use Rattle.std.specs.Prelude.{◌≡◌, ℕ, suc, ◌+◌, ◌*◌, ◌-◌, ◌++◌, List, length, Option, Some, None, IfSome, IsSome, IsTrue, ◌⊎◌, replicate, slice_index_or, slice_set, All}
+use Rattle.std.specs.Prelude.{◌≡◌, ◌≤◌, ℕ, suc, ◌+◌, ◌*◌, ◌-◌, ◌++◌, List, length, Option, Some, None, IfSome, IsSome, IsTrue, ◌⊎◌, replicate, slice_index_or, slice_set, All}
 use Rattle.ulfm_base.specs.declared.decision.Decision.{Decision}
 use Rattle.ulfm_base.specs.declared.topic.Purpose.{Purpose}
 use Rattle.ulfm_base.specs.declared.topic.Purpose.TheVariants.{Shrink, Agree}
@@ -47,9 +47,9 @@ pub record Answers (board : Option (List ℕ)) (old : List (Option Decision)) (d
   pub known_now : known_at new d.topic ≡ Some held
   pub others_stay : new ≡ with_known old d.topic held
 
--- out of memory: where nothing is known on a topic, for a cell that is shared, or for one of an agreement
+-- out of memory: where nothing is known on a topic, for a cell that is shared, or for one of an agreement that isn't there yet
 pub record Starves (board : Option (List ℕ)) (known : List (Option Decision)) (topic : Topic) : Type 0 where
-  pub may_grow : IsSome board ⊎ IsTrue (is_agreement topic.purpose)
+  pub may_grow : IsSome board ⊎ (IsTrue (is_agreement topic.purpose) × (length known ≤ cell_of topic))
   pub unknown : known_at known topic ≡ None
 
 -- all are seats of one board

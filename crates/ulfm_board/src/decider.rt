@@ -20,8 +20,8 @@ pub trait Decider: Drop {
     ///
     /// # Errors
     ///
-    /// `OutOfMemory` where it knew no decision on this topic, its cells are shared or it is an agreement, and a growth was
-    /// refused or the board has no cell for its round.
+    /// `OutOfMemory` where it knew no decision on this topic, its cells are shared or it is an agreement whose cell isn't there
+    /// yet, and a growth was refused or the board has no cell for its round.
     fn decide(&mut self, decision: Decision) -> Result<Decision, OutOfMemory>
         ensures board { board self.new ≡ board self.old }
         ensures answers { IfOk result (λ held. Answers (board self.old) (known self.old) decision held (known self.new)) }

@@ -58,6 +58,11 @@ pub(crate) fn numbers_of(alloc: Global, group: &Group) -> SmallVec<u8, 8>
     numbers
 }
 
+/// Puts the text of an answer behind another text.
+///
+/// # Errors
+///
+/// A growth was refused: a part of the answer may stand in the text then.
 pub fn push_answer(text: &mut String, answer: &StepAnswer) -> Result<(), AllocError>
     ensures { OnOk result (string_bytes text.new ≡ string_bytes text.old ++ answer_text answer.now) }
 {
