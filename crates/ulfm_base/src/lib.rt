@@ -1,5 +1,12 @@
 //! Ranks, groups, contexts, tags, bodies, envelopes and the patterns that admit them: the words of MPI's chapters 3
 //! and 7 that all crates above speak in.
+//!
+//! - An [`Item`] goes from rank to rank: a letter, a notice of a stop or of a revocation, or an entrance into a shrink or an agreement.
+//! - A [`Pattern`] says which envelopes a receive or a probe admits (`Admits`, specs/Pattern.antt).
+//! - A [`Decision`] is what the members of a communicator agree on (`IsLawfulDecision`, specs/Decision.antt).
+//! - A [`CallError`] is a refusal: its number and its name are those of traces.
+//!
+//! A context names a communicator: 0 is the world's, and that of number c has its duplicate at 2c + 1 and its shrink at 2c + 2.
 #![tactic(auto)]
 
 mod body;

@@ -1,5 +1,11 @@
 //! One decision for each shrink and each agreement (ULFM, shrink and agree): a decider answers always what it answered
 //! first, and two of one board know no two. No call takes an `rt`, so none waits.
+//!
+//! [`seats`] makes a board that threads share, a [`Seat`] for each rank. A [`MemoryBoard`] has one owner. Both are a [`Decider`]:
+//!
+//!     let held = decider.decide(decision)?;
+//!
+//! The definitions are in specs/Known.antt.
 #![tactic(auto)]
 
 mod cells;

@@ -1,5 +1,11 @@
 //! How items go from rank to rank: each rank has an end, by which it pushes to the inbox of each rank and pops from
 //! its own.
+//!
+//! [`lanes`] makes ends with a ring for each ordered pair of ranks, [`shared`] ends with one inbox for each rank. Both are [`Ends`]:
+//!
+//!     let ends = lanes(alloc, ranks, capacity)?;
+//!
+//! The definitions are in specs/Lanes.antt and Shared.antt; Family.antt says that ends were made together.
 #![tactic(auto)]
 
 mod carried;

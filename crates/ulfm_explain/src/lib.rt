@@ -1,4 +1,9 @@
 //! What is wrong with a job's text, and where: for people, beside the program's own line.
+//!
+//!     for explanation in explain(alloc, bytes)? { .. }
+//!
+//! [`explain`] tells why a job is refused, [`warnings`] what of a good one will be refused, [`unmet_answers`] which answers of a trace
+//! aren't as their steps expect: ten of each at most.
 #![tactic(auto)]
 
 mod answers;

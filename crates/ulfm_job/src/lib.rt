@@ -1,4 +1,7 @@
 //! Jobs: what the ranks are to do.
+//!
+//! A [`Job`] has 1 to 8 ranks and 1 to 256 steps in all, or none. A [`Step`] is one call of a rank. A [`Clause`] is a condition of a
+//! step, or what it expects of its answer. `ulfm_reader` reads a job from its text. The definitions are in specs/Job.antt.
 #![tactic(auto)]
 
 mod clause;

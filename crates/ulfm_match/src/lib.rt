@@ -1,5 +1,14 @@
 //! Pairs the receives that a rank posts with the letters that come to it, by MPI's rules of matching (MPI 4.0, 3.5):
 //! an earlier letter and an earlier receive go first.
+//!
+//! A [`Matcher`] keeps the receives that wait and the letters that were kept: MPI libraries call them the posted and the
+//! unexpected queue.
+//!
+//!     matcher.prepare()?;
+//!     let (request, letter) = matcher.post(pattern);
+//!
+//! `post` and `probe` answer the earliest kept letter that is admitted, `arrive` the earliest receive that waits for the letter. The rules
+//! stand in specs/Pairing.antt, one a field of `LawfulPairing`; that a history has one lawful pairing at most is a law of this crate.
 #![tactic(auto)]
 
 mod arrived;

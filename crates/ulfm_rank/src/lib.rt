@@ -1,4 +1,15 @@
 //! One rank: its log, what follows from it, and how far each outbox went out.
+//!
+//! A [`Rank`] has MPI's calls (`isend`, `irecv`, `test`, `improbe`, `mrecv`, `cancel`, `dup`) and ULFM's (`revoke`, `get_failed`,
+//! `ack_failed`, `enter_shrink`, `enter_agree`). It moves nothing by itself: who runs it takes items out of its outboxes and hands it
+//! those that came.
+//!
+//!     let request = rank.irecv(comm, Some(1), None, 64)?;
+//!     while let Some(item) = sender.take_out(0) { rank.prepare()?; rank.take(sender.me(), item); }
+//!     let answer = rank.test(request)?;
+//!
+//! Every answer follows from the rank's log. Read specs/Log.antt first, then Answer.antt (what a test answers) and Checks.antt (which
+//! refusals come, in which order).
 #![tactic(auto)]
 
 mod adopting;

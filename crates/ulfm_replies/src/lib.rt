@@ -1,4 +1,7 @@
 //! What is said without an engine: of the words of a command line, of a job's text, and beside a reply.
+//!
+//! [`asked_for`] reads the words, [`write_notes`] says on standard error what a reply doesn't. The statuses of the program are constants
+//! of this crate. Read specs/CommandLine.antt.
 #![tactic(auto)]
 
 mod asked;

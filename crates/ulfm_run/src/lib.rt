@@ -1,5 +1,9 @@
 //! Rank threads: each rank of a job goes through its steps in a thread of its own, by its end of a carrier and its seat
 //! of a board.
+//!
+//!     let report = run_job(rt, alloc, &job, ends, deciders)?;
+//!
+//! A report that is returned is lawful (`LawfulReport` of `ulfm_laws`). [`at_rest`] tells whether the run came to rest.
 #![tactic(auto)]
 
 mod adopted;

@@ -1,4 +1,11 @@
 //! The player of a rank's steps, and the trace of what came of them; jobs are passed on.
+//!
+//! A [`Player`] is a rank with a script. It polls the next step, and answers it or leaves it open:
+//!
+//!     let called = player.call(&step);
+//!
+//! [`turn`] is one turn of a rank over the hands of whoever runs it: items go out, one comes in, a step is polled. [`trace_text`]
+//! prints what all ranks report. Read specs/Calls.antt (what a poll says), then Answered.antt (what a report owes) and Trace.antt.
 #![tactic(auto)]
 
 mod answer;

@@ -1,4 +1,12 @@
 //! All ranks with their inboxes, in every schedule, and the replay of a job, also with one more stop at each place in turn.
+//!
+//! A [`World`] changes by one [`Event`] at a time: a rank calls, an item is pushed, an item is taken. A list of events is a schedule.
+//!
+//!     let reports = replay(alloc, &job)?;
+//!     let lines = sweep(alloc, &job)?;
+//!
+//! Read specs/World.antt: `Happens` says what an event does, `IsRefused` why one is refused. The laws of all schedules are in laws.rt,
+//! one function a law.
 #![tactic(auto)]
 
 mod asked;
