@@ -2,8 +2,8 @@
 //!
 //!     for explanation in explain(alloc, bytes)? { .. }
 //!
-//! [`explain`] tells why a job is refused, [`warnings`] what of a good one will be refused, [`unmet_answers`] which answers of a trace
-//! aren't as their steps expect: ten of each at most.
+//! [`explain`] tells why a job is refused, [`warnings`] what of a good one will be refused: ten of each at most. [`unmet_answers`] tells
+//! which answers of a trace aren't as their steps expect, [`unfinished_steps`] which of its steps are unfinished.
 #![tactic(auto)]
 
 mod answers;
@@ -23,6 +23,8 @@ mod rules;
 mod script;
 mod shown;
 mod steps;
+mod told;
+mod unfinished;
 mod unmet;
 mod walk;
 mod warning;
@@ -34,5 +36,6 @@ pub use explanation::{Explanation, StepPlace};
 pub use place::Place;
 pub use rules::{Key, Kind, Rules};
 pub use shown::Shown;
+pub use unfinished::unfinished_steps;
 pub use unmet::unmet_answers;
 pub use warning::warnings;

@@ -54,17 +54,17 @@ fn standard_error_says_more(rt: HostRuntime) -> Result<(), Fail> {
         ),
         (
             "replay",
-            "{rank = 0, op = \"dup\", expect = [\"comm 3\", \"refused\"]}, {rank = 1, op = \"stop\", expect = [\"stopped\"]}",
+            "{rank = 0, op = \"dup\", name = \"copy\", expect = [\"comm 3\", \"refused\"]}, {rank = 1, op = \"stop\", expect = [\"stopped\"]}",
             9,
-            "answers that their steps don't expect: 1\nrank 0 step 0: dup comm 0: expected 'comm 3' or 'refused', and its answer is 'comm 1'\n",
+            "answers that their steps don't expect: 1\nrank 0 step 0 'copy': dup comm 0: expected 'comm 3' or 'refused', and its answer is 'comm 1'\n",
         ),
         ("check", "{rank = 0, op = \"recv\"}", 0, ""),
         ("replay", "{rank = 0, op = \"recv\"}", 0, ""),
         (
             "replay",
-            "{rank = 0, op = \"recv\"}, {rank = 0, op = \"wait\", req = 0}, {rank = 1, op = \"shrink\"}",
+            "{rank = 0, op = \"recv\"}, {rank = 0, op = \"wait\", req = 0, name = \"commit\"}, {rank = 1, op = \"shrink\"}",
             0,
-            "unfinished steps, where MPI would hang: 2\nrank 0 step 1: wait 0\nrank 1 step 0: shrink comm 0\n",
+            "unfinished steps, where MPI would hang: 2\nrank 0 step 1 'commit': wait 0\nrank 1 step 0: shrink comm 0\n",
         ),
     ];
     for (command, steps, status, said) in rows {

@@ -5,7 +5,7 @@ use crate::reply::{DONE, JOB_REFUSED, NOT_EXPECTED, PAST_LIMIT, Reply, UNFINISHE
 use crate::stream::write_whole;
 use std::alloc::{AllocError, Global};
 use std::io::Write;
-use ulfm_explain::{Explanation, explain, unmet_answers, warnings};
+use ulfm_explain::{Explanation, explain, unfinished_steps, unmet_answers, warnings};
 
 /// Why a good job can't be swept.
 const NO_PLACE: &str =
@@ -17,9 +17,6 @@ const MANY_STATES: &str =
 
 /// The line for a job that is too large.
 const TOO_LARGE: &str = "job refused: J6\n";
-
-/// How the line of an unfinished step ends.
-const END_OF_UNFINISHED: &str = ": unfinished";
 
 /// Says what a reply to these bytes doesn't. Where it can't be said, nothing is.
 pub fn write_notes<E: Write>(
@@ -47,12 +44,12 @@ fn notes_on(
         (DONE, Wanted::Check) => lines_of(alloc, "warning: ", &warnings(alloc, bytes)?),
         (NOT_EXPECTED, _) => {
             let mut notes = unmet_answers(alloc, bytes, reply.text.as_str())?;
-            let hangs = hangs_in(alloc, reply.text.as_str())?;
+            let hangs = unfinished_steps(alloc, bytes, reply.text.as_str())?;
             notes.push_str(hangs.as_str())?;
             Ok(notes)
         }
         (PAST_LIMIT, _) => String::from_str(alloc, MANY_STATES),
-        (DONE | UNFINISHED, _) => hangs_in(alloc, reply.text.as_str()),
+        (DONE | UNFINISHED, _) => unfinished_steps(alloc, bytes, reply.text.as_str()),
         _ => Ok(String::new(alloc)),
     }
 }
@@ -72,30 +69,4 @@ fn lines_of(alloc: Global, word: &str, found: &[Explanation]) -> Result<String, 
         write!(notes, "{word}{explanation}\n")?;
     }
     Ok(notes)
-}
-
-/// How many steps of the traces in a text are unfinished, and which, each once.
-fn hangs_in(alloc: Global, text: &str) -> Result<String, AllocError> {
-    let mut steps = String::new(alloc);
-    let mut count = 0_usize;
-    for line in text.lines() {
-        if let Some(step) = line.strip_suffix(END_OF_UNFINISHED) {
-            let note = note_on(alloc, step)?;
-            if !steps.contains(note.as_str()) {
-                steps.push_str(note.as_str())?;
-                count = count.saturating_add(1);
-            }
-        }
-    }
-    if count == 0 {
-        return Ok(steps);
-    }
-    format!(in alloc; "unfinished steps, where MPI would hang: {count}\n{steps}")
-}
-
-/// The line on a step, by the beginning of its line in a trace: its rank, its number and its words.
-fn note_on(alloc: Global, line: &str) -> Result<String, AllocError> {
-    let (rank, rest) = line.split_once(' ').unwrap_or((line, ""));
-    let (number, words) = rest.split_once(' ').unwrap_or((rest, ""));
-    format!(in alloc; "rank {rank} step {number}: {words}\n")
 }

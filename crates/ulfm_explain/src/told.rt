@@ -1,0 +1,53 @@
+//! How a step of a trace is told of.
+
+use crate::keys::text_at;
+use crate::rules::Key;
+use crate::script::Script;
+use std::alloc::{AllocError, Global};
+use toml::{Table, Value};
+
+/// The table of a job's text, where it is TOML.
+pub fn table_of(alloc: Global, bytes: &[u8]) -> Result<Option<Table>, AllocError> {
+    let Ok(text) = str::from_utf8(bytes) else {
+        return Ok(None);
+    };
+    match toml::table_from_str(alloc, text) {
+        Ok(table) => Ok(Some(table)),
+        Err(error) => {
+            if error.is_memory() {
+                Err(AllocError)
+            } else {
+                Ok(None)
+            }
+        }
+    }
+}
+
+/// The step that the words before an answer name: its rank, and its number there.
+pub fn step_of<'a>(steps: &'a [Value], words: &str) -> Option<&'a Value> {
+    let mut words = words.split(' ');
+    let rank: i64 = words.next()?.parse().ok()?;
+    let number: usize = words.next()?.parse().ok()?;
+    Script { steps, rank }.step(number)
+}
+
+/// What stands before a mark, and what behind it; nothing behind it where it isn't there.
+pub fn halves<'a>(text: &'a str, mark: &str) -> (&'a str, &'a str) {
+    text.split_once(mark).unwrap_or((text, ""))
+}
+
+/// Adds a step, by the words before its answer: its rank, its number, its name, where it has one, and its call.
+pub fn push_step(note: &mut String, steps: &[Value], words: &str) -> Result<(), AllocError> {
+    let (rank, rest) = halves(words, " ");
+    let (number, call) = halves(rest, " ");
+    write!(note, "rank {rank} step {number}")?;
+    if let Some(name) = name_of(steps, words) {
+        write!(note, " '{name}'")?;
+    }
+    write!(note, ": {call}")
+}
+
+/// The name of the step that the words before an answer name.
+fn name_of<'a>(steps: &'a [Value], words: &str) -> Option<&'a str> {
+    text_at(step_of(steps, words)?.as_table()?, Key::Name)
+}
