@@ -72,7 +72,9 @@ def cited_by_source(text, crate, repository):
     for match in CRATE_PATH.finditer(text):
         start = crate if match.group(1) == "crate" else "Rattle." + match.group(1)
         names = [name.strip() for name in match.group(3).split(",")] if match.group(3) else [""]
-        found |= {prefix for name in names for prefix in prefixes(".".join([start] + match.group(2).split("::") + [name]).strip("."))}
+        for path in (".".join([start] + match.group(2).split("::") + [name]).strip(".") for name in names):
+            module, _, name = path.rpartition(".")
+            found |= {repository.origin(module, name), *prefixes(path)}
     return found | {prefix for match in DOTTED_PATH.finditer(text) for prefix in prefixes(match.group())}
 
 

@@ -126,6 +126,10 @@ EXAMPLES = [
     ("a dead lemma is found, and what only it cites", {
         "crates/a/proofs/One.antt": PRELUDE + LEMMA + "pub one : (b : Bool) → b ≡ b || false\none b = sym (or_false b)\n",
     }, ["only dead names cite `or_false`", "nothing cites `one`"]),
+    ("a lemma that another module passes on is used where it is cited there", {
+        "crates/a/proofs/One.antt": PRELUDE + "pub " + LEMMA,
+        "crates/a/proofs/Two.antt": "pub use Rattle.a.proofs.One.{or_false}\n",
+    } | using("Two::or_false"), []),
     ("a library that a crate lists is named by its code", {
         "crates.txt": "# crate: libraries\nb:\na: b c d\n",
         "crates/a/src/lib.rt": "// c is named in a comment alone\nuse b::x;\n",

@@ -1,2 +1,3 @@
-pub mod Invented
 pub mod Counting
+pub mod Invented
+pub mod Used

@@ -14,8 +14,6 @@ mod matchers;
 #[cfg(test)]
 mod matching;
 #[cfg(test)]
-mod patient;
-#[cfg(test)]
 mod reach;
 #[cfg(test)]
 mod run;

@@ -1,43 +1,50 @@
 //! Events one by one.
 
 mod adopting;
-mod agreeing;
 mod recovery;
-mod rings;
+mod rows;
 
+use self::recovery::RECOVERY;
+use self::rows::{ROWS, Row, Told};
 use std::alloc::Global;
 use std::test::Fail;
-use ulfm_base::{CallError, Context, OutOfMemory, Tag};
-use ulfm_script::{Step, Text};
-use ulfm_world::{Asked, Event, Outcome, Refused, World};
+use ulfm_base::Context;
+use ulfm_reader::ReadJob;
+use ulfm_script::{Job, trace_text};
+use ulfm_world::{Asked, Event, World};
 
-/// A send of a letter to a rank.
-fn send(alloc: Global, to: u8, letter: &str) -> Result<Step, OutOfMemory> {
-    Ok(Step::Send {
-        to,
-        tag: Tag { number: 5 },
-        body: Text::new(alloc, letter)?,
-        comm: Context::WORLD,
-    })
+/// What happens to a world next.
+#[derive(Clone, Copy)]
+enum Deed {
+    /// A rank polls its step with this number in the job.
+    Poll(u8, usize),
+    /// An item of the first rank goes to the inbox of the second.
+    Push(u8, u8),
+    /// A rank takes the first item of its inbox.
+    Take(u8),
+    /// A rank takes the first item of another.
+    TakeFrom(u8, u8),
+    /// The shrink of the world by a rank is decided.
+    Decide(u8),
+    /// A rank gives its open step up.
+    Leave(u8),
 }
 
-/// A receive of any letter.
-fn receive() -> Step {
-    Step::Recv {
-        from: None,
-        tag: None,
-        room: 1,
-        comm: Context::WORLD,
-    }
-}
-
-/// A wait for the rank's first step.
-fn wait() -> Step {
-    Step::Wait { req: 0 }
+/// The event of a deed. Nothing: the job has no such step.
+fn event_of(job: &Job, deed: Deed) -> Option<Event<'_>> {
+    let event = match deed {
+        Deed::Poll(r, number) => Event::Call(r, Asked::of(job.step(r, number)?)),
+        Deed::Push(s, d) => Event::Push(s, d),
+        Deed::Take(r) => Event::Take(r),
+        Deed::TakeFrom(r, s) => Event::TakeFrom(r, s),
+        Deed::Decide(r) => Event::Decide(r, Context::WORLD),
+        Deed::Leave(r) => Event::Leave(r),
+    };
+    Some(event)
 }
 
 /// Whether a world tells this of an event.
-fn tells(world: &mut World, event: Event<'_>, told: Result<Outcome, Refused>) -> bool {
+fn tells(world: &mut World, event: Event<'_>, told: Told) -> bool {
     match (world.apply(event), told) {
         (Ok(outcome), Ok(wanted)) => outcome == wanted,
         (Err(why), Err(wanted)) => why == wanted,
@@ -45,122 +52,52 @@ fn tells(world: &mut World, event: Event<'_>, told: Result<Outcome, Refused>) ->
     }
 }
 
-/// Whether a world tells this of one poll of a step.
-fn polls(world: &mut World, r: u8, step: &Step, told: Result<Outcome, Refused>) -> bool {
-    tells(world, Event::Call(r, Asked::of(step)), told)
+/// The place of the first deed of which a world tells something else.
+fn first_other(world: &mut World, job: &Job, deeds: &[(Deed, Told)]) -> Option<usize> {
+    for (place, (deed, told)) in deeds.iter().enumerate() {
+        let is_told = match event_of(job, *deed) {
+            Some(event) => tells(world, event, *told),
+            None => false,
+        };
+        if !is_told {
+            return Some(place);
+        }
+    }
+    None
 }
 
-/// Whether two ranks with inboxes for one item refuse what can't happen, and a full inbox holds a push back.
-fn holds_back(world: &mut World, letter: &Step) -> bool {
-    tells(world, Event::Push(0, 1), Err(Refused::NothingToPush))
-        && tells(world, Event::Take(1), Err(Refused::InboxEmpty))
-        && tells(world, Event::Leave(0), Err(Refused::NotReady))
-        && tells(world, Event::Push(0, 2), Err(Refused::NoSuchRank))
-        && polls(world, 0, letter, Ok(Outcome::Answered))
-        && tells(world, Event::Push(0, 1), Ok(Outcome::Moved))
-        && polls(world, 0, letter, Ok(Outcome::Answered))
-        && tells(world, Event::Push(0, 1), Err(Refused::InboxFull))
-        && tells(world, Event::Take(1), Ok(Outcome::Moved))
-        && tells(world, Event::Push(0, 1), Ok(Outcome::Moved))
-}
-
-#[test]
-fn a_full_inbox_holds_a_push_back(rt: HostRuntime) -> Result<(), Fail> {
-    let mut world = World::new(rt.alloc(), 2, 1)?;
-    let letter = send(rt.alloc(), 1, "a")?;
-    assert!(rt; holds_back(&mut world, &letter));
-    assert!(rt; !world.is_at_rest());
-    assert!(rt; tells(&mut world, Event::Take(1), Ok(Outcome::Moved)));
-    assert!(rt; world.is_at_rest());
-    Ok(())
-}
-
-/// Whether a step that stands open keeps others away until it is given up.
-fn gives_up(world: &mut World) -> bool {
-    polls(world, 0, &receive(), Ok(Outcome::Answered))
-        && polls(world, 0, &wait(), Ok(Outcome::NotYet))
-        && polls(world, 0, &Step::Stop, Err(Refused::NotReady))
-        && polls(world, 0, &wait(), Ok(Outcome::NotYet))
-        && tells(world, Event::Leave(0), Ok(Outcome::Moved))
-        && tells(world, Event::Leave(0), Err(Refused::NotReady))
-}
-
-/// Whether a rank that stopped does nothing more but push its notices.
-fn stands_still(world: &mut World) -> bool {
-    polls(world, 0, &Step::Stop, Ok(Outcome::Answered))
-        && polls(world, 0, &Step::Stop, Err(Refused::Stopped))
-        && tells(world, Event::Take(0), Err(Refused::Stopped))
-        && tells(world, Event::Leave(0), Err(Refused::Stopped))
-        && tells(world, Event::Push(0, 0), Err(Refused::NothingToPush))
-        && tells(world, Event::Push(0, 1), Ok(Outcome::Moved))
-        && tells(world, Event::Take(1), Ok(Outcome::Moved))
-}
-
-#[test]
-fn an_open_step_is_given_up_and_a_stop_is_told(rt: HostRuntime) -> Result<(), Fail> {
-    let mut world = World::new(rt.alloc(), 2, 1)?;
-    assert!(rt; gives_up(&mut world));
-    assert!(rt; stands_still(&mut world));
-    assert!(rt; world.is_at_rest());
-    Ok(())
-}
-
-/// A shrink of the world.
-fn shrink() -> Step {
-    Step::Shrink {
-        comm: Context::WORLD,
+/// A new world of a job, with room for one item.
+fn world_of(alloc: Global, job: &Job, has_rings: bool) -> Result<World, Fail> {
+    if has_rings {
+        Ok(World::with_rings(alloc, job.ranks(), 1)?)
+    } else {
+        Ok(World::new(alloc, job.ranks(), 1)?)
     }
 }
 
-/// The decision of a rank's shrink of the world.
-fn decide<'a>(r: u8) -> Event<'a> {
-    Event::Decide(r, Context::WORLD)
-}
-
-/// Whether a shrink is decided once each of two ranks entered it, and not by a poll.
-fn decides(world: &mut World) -> bool {
-    tells(world, decide(0), Err(Refused::NotReady))
-        && polls(world, 0, &shrink(), Ok(Outcome::NotYet))
-        && tells(world, decide(0), Err(Refused::NotReady))
-        && polls(world, 1, &shrink(), Ok(Outcome::NotYet))
-        && tells(world, Event::Push(1, 0), Ok(Outcome::Moved))
-        && tells(world, Event::Take(0), Ok(Outcome::Moved))
-        && polls(world, 0, &shrink(), Ok(Outcome::NotYet))
-        && tells(world, decide(0), Ok(Outcome::Answered))
-        && tells(world, decide(0), Err(Refused::NotReady))
-}
-
-/// Whether the other rank adopts what was decided, and none decides after its stop or outside the world.
-fn adopts(world: &mut World) -> bool {
-    tells(world, Event::Push(0, 1), Ok(Outcome::Moved))
-        && tells(world, Event::Take(1), Ok(Outcome::Moved))
-        && tells(world, decide(1), Ok(Outcome::Answered))
-        && polls(world, 1, &Step::Stop, Ok(Outcome::Answered))
-        && tells(world, decide(1), Err(Refused::Stopped))
-        && tells(world, decide(2), Err(Refused::NoSuchRank))
-}
-
-#[test]
-fn a_shrink_is_decided_and_adopted(rt: HostRuntime) -> Result<(), Fail> {
-    let mut world = World::new(rt.alloc(), 2, 1)?;
-    assert!(rt; decides(&mut world));
-    assert!(rt; adopts(&mut world));
-    Ok(())
-}
-
-/// Why there is no world of so many ranks with inboxes of this room, if there is none.
-fn refusal(rt: &HostRuntime, n: u8, capacity: u8) -> Option<CallError> {
-    match World::new(rt.alloc(), n, capacity) {
-        Ok(_) => None,
-        Err(error) => Some(error),
+/// What of a row isn't so, if anything.
+fn fault_of(alloc: Global, row: &Row) -> Result<Option<&'static str>, Fail> {
+    let job = Job::read(alloc, row.job.as_bytes())?;
+    let mut world = world_of(alloc, &job, row.has_rings)?;
+    if first_other(&mut world, &job, row.deeds).is_some() {
+        return Ok(Some("a deed"));
     }
+    if world.is_at_rest() != row.is_at_rest {
+        return Ok(Some("the rest"));
+    }
+    let reports = world.into_reports(alloc)?;
+    let trace = trace_text(alloc, reports.as_slice())?;
+    Ok(if trace.as_str() == row.trace {
+        None
+    } else {
+        Some("the trace")
+    })
 }
 
 #[test]
-fn sizes_out_of_range_are_refused(rt: HostRuntime) {
-    assert_eq!(rt; refusal(&rt, 0, 1), Some(CallError::BadSize));
-    assert_eq!(rt; refusal(&rt, 9, 1), Some(CallError::BadSize));
-    assert_eq!(rt; refusal(&rt, 1, 0), Some(CallError::BadSize));
-    assert_eq!(rt; refusal(&rt, 1, 65), Some(CallError::BadSize));
-    assert_eq!(rt; refusal(&rt, 8, 64), None);
+fn events_one_by_one(rt: HostRuntime) -> Result<(), Fail> {
+    for row in ROWS.iter().chain(RECOVERY) {
+        assert_eq!(rt; fault_of(rt.alloc(), row)?, None, "{}", row.name);
+    }
+    Ok(())
 }

@@ -8,7 +8,7 @@ use Rattle.ulfm_carrier.specs.Inbox.{Signed, InboxPass}
 use Rattle.std.specs.declared.alloc.Global.{Global}
 use Rattle.std.specs.declared.vec.Vec.{Vec}
 use Rattle.ulfm_carrier.specs.declared.shared_ends.SharedEnds.{SharedEnds}
-use Rattle.ulfm_carrier.specs.Shared.{IsReady, MaySend, MayReceive, HasPasses}
+use Rattle.ulfm_carrier.specs.Shared.{MaySend, MayReceive, HasPasses}
 
 -- all that closed senders pushed was taken
 abbrev pub ReceiptsAreTaken : PassView → Type 0
@@ -21,10 +21,6 @@ HasAllReceipts v = (length v.receipts ≡ v.made) × ((k : ℕ) (x : ℕ × List
 -- the senders of these items have numbers below n
 abbrev pub AllBelow : ℕ → List Signed → Type 0
 AllBelow n xs = (k : ℕ) (x : Signed) → at xs k x → x.0.number < n
-
--- none of these ends was gathered yet
-abbrev pub AllReady : List SharedEnds → Type 0
-AllReady ends = (k : ℕ) (e : SharedEnds) → at ends k e → IsReady e
 
 -- the inboxes below d are gathered, and no others
 pub record IsOpenFrom (d k : ℕ) (e : SharedEnds) : Type 0 where

@@ -4,7 +4,7 @@ use Rattle.rtrb.specs.Ring.{sent, known_free}
 use Rattle.ulfm_carrier.specs.declared.inlet.Inlet.{Inlet}
 use Rattle.ulfm_carrier.specs.declared.lane_ends.LaneEnds.{LaneEnds}
 use Rattle.ulfm_base.specs.Lists.{at}
-use Rattle.ulfm_carrier.specs.Lanes.{Outlet, outlet_name, inlet_name, inlet_capacity, taken_by, IsOpenRing, IsReady}
+use Rattle.ulfm_carrier.specs.Lanes.{Outlet, outlet_name, inlet_name, inlet_capacity, taken_by, IsOpenRing}
 
 -- an outgoing ring of this capacity, as it is made
 abbrev pub IsNewOutlet : ℕ → Outlet → Type 0
@@ -35,7 +35,3 @@ pub record AreWired (n capacity s d : ℕ) (ends : List LaneEnds) : Type 0 where
   pub as_many : length ends ≡ n
   pub each : (k : ℕ) (e : LaneEnds) → at ends k e → IsWired n capacity s d k e
   pub joined : (i j : ℕ) (x y : LaneEnds) → at ends i x → at ends j y → slice_get (map outlet_name x.outs.items) j ≡ slice_get (map inlet_name y.ins.items) i
-
--- none of these ends was gathered yet
-abbrev pub AllReady : List LaneEnds → Type 0
-AllReady ends = (k : ℕ) (e : LaneEnds) → at ends k e → IsReady e

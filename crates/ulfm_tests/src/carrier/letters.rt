@@ -1,12 +1,10 @@
 //! Letters of one byte, and what a gathering gives of them.
-ghost use Rattle.std.specs.Prelude.{ℕ, map, IfOk};
+ghost use Rattle.std.specs.Prelude.{IfOk};
 ghost use Rattle.ulfm_base.specs.Items.{ComesFrom};
-ghost use Rattle.ulfm_base.specs.Lists.{at};
 
 use std::alloc::Global;
-use std::sync::Wait;
 use ulfm_base::{Body, CallError, Context, Envelope, Item, Letter, Tag, WorldRank};
-use ulfm_carrier::{Ends, Residue};
+use ulfm_carrier::Residue;
 
 // A letter of one byte.
 pub(crate) fn letter(alloc: Global, source: u8, byte: u8) -> Result<Item, CallError>
@@ -24,11 +22,11 @@ pub(crate) fn letter(alloc: Global, source: u8, byte: u8) -> Result<Item, CallEr
     Ok(Item::Letter(Letter { envelope, body }))
 }
 
-// The byte of a letter of one byte.
-pub(crate) fn byte_of(item: &Item) -> Option<u8> {
+// The byte of a letter of one byte, 0 of anything else.
+pub(crate) fn byte_of(item: &Item) -> u8 {
     match item {
-        Item::Letter(letter) => letter.body.as_bytes().first().copied(),
-        _ => None,
+        Item::Letter(letter) => letter.body.as_bytes().first().copied().unwrap_or(0),
+        _ => 0,
     }
 }
 
@@ -51,18 +49,9 @@ fn are_letters(inbox: &[(WorldRank, Item)], wants: &[(u8, u8)]) -> bool {
         return false;
     }
     for ((source, item), (number, byte)) in inbox.iter().zip(wants) {
-        if source.number != *number || byte_of(item) != Some(*byte) {
+        if source.number != *number || byte_of(item) != *byte {
             return false;
         }
     }
     true
-}
-
-// All ends are gathered.
-pub(crate) fn left_of<E: Ends, R: Wait>(rt: &R, ends: Vec<E>) -> Residue
-    requires family { E.one_call (map E.name ends.items) }
-    requires ready { (k : ℕ) (e : E) → at ends.items k e → E.ready e }
-{
-    let (residue, _ends) = E::gather(rt, ends);
-    residue
 }

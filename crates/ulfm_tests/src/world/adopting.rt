@@ -8,12 +8,12 @@ use ulfm_rank::Rank;
 
 const FIRST: WorldRank = WorldRank { number: 0 };
 
-pub(super) const SECOND: WorldRank = WorldRank { number: 1 };
+const SECOND: WorldRank = WorldRank { number: 1 };
 
-pub(super) const THIRD: WorldRank = WorldRank { number: 2 };
+const THIRD: WorldRank = WorldRank { number: 2 };
 
 /// Takes a notice from another rank. It answers whether it could be taken.
-pub(super) fn take(rank: &mut Rank, source: WorldRank, item: Item) -> bool {
+fn take(rank: &mut Rank, source: WorldRank, item: Item) -> bool {
     let letter = matches!(item, Item::Letter(_));
     if letter || rank.is_stopped() || source.number >= rank.ranks() || rank.prepare().is_err() {
         return false;

@@ -1,4 +1,0 @@
-use Rattle.ulfm_tests.proofs.carrier.across.awaits_both.Given as goal
-
-abbrev pub invariant-loop : goal.invariant-loop
-invariant-loop g l = g.E.Ends.ready l.receiver
