@@ -25,22 +25,31 @@ const REFUSALS: &[&str] = &[
     "refused 15 Truncated",
 ];
 
+/// How an answer of each op begins that isn't refused.
+const OWN_ANSWERS: &[(&str, &[&str])] = &[
+    ("send", &["sent"]),
+    ("recv", &["posted"]),
+    ("wait", &["done from", "pending"]),
+    ("probe", &["found from"]),
+    ("mrecv", &["done from"]),
+    ("cancel", &["done from", "cancelled"]),
+    ("failed", &["ranks"]),
+    ("ack", &["acked"]),
+    ("revoke", &["revoked"]),
+    ("dup", &["comm"]),
+    ("shrink", &["comm"]),
+    ("agree", &["agreed"]),
+    ("stop", &["stopped"]),
+];
+
 /// How an answer of an op begins that isn't refused.
 fn own_answers(op: &str) -> &'static [&'static str] {
-    match op {
-        "send" => &["sent"],
-        "recv" => &["posted"],
-        "wait" => &["done from", "pending"],
-        "probe" => &["found from"],
-        "mrecv" => &["done from"],
-        "cancel" => &["done from", "cancelled"],
-        "failed" => &["ranks"],
-        "ack" => &["acked"],
-        "revoke" => &["revoked"],
-        "dup" | "shrink" => &["comm"],
-        "agree" => &["agreed"],
-        _ => &["stopped"],
+    for (own, answers) in OWN_ANSWERS {
+        if *own == op {
+            return *answers;
+        }
     }
+    &[]
 }
 
 /// The answers of a step that isn't played, or not to its end. A condition may ask for them of each op, what is expected of those that

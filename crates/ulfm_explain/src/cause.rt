@@ -2,7 +2,8 @@
 
 use crate::answers::beginnings;
 use crate::doom::Doom;
-use crate::rules::{Key, Kind, OPS, Rules};
+use crate::ops::OPS;
+use crate::rules::{Key, Kind, Rules};
 use crate::shown::Shown;
 use std::fmt;
 use toml::de::Error;

@@ -69,11 +69,9 @@ struct An(&'static str);
 impl fmt::Display for An {
     fn fmt<W: fmt::Write>(&self, f: &mut fmt::Formatter<W>) -> fmt::Result {
         let op = self.0;
-        if op == "ack" || op == "agree" || op == "mrecv" {
-            write!(f, "an {op}")
-        } else {
-            write!(f, "a {op}")
-        }
+        let has_vowel = op.starts_with('a') || op == "mrecv";
+        let article = if has_vowel { "an" } else { "a" };
+        write!(f, "{article} {op}")
     }
 }
 

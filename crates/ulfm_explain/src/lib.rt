@@ -18,6 +18,7 @@ mod keys;
 mod marks;
 mod mpi;
 mod nearest;
+mod ops;
 mod place;
 mod rules;
 mod script;

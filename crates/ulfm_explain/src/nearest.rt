@@ -1,7 +1,8 @@
 //! The nearest word to a misspelt one, or to one of MPI's own.
 
 use crate::mpi::{bare, says};
-use crate::rules::{Key, OPS, Rules};
+use crate::ops::OPS;
+use crate::rules::{Key, Rules};
 use std::alloc::{AllocError, Global};
 use strsim::osa_distance;
 

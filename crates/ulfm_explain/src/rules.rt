@@ -114,13 +114,7 @@ pub struct Rules {
 }
 
 /// The keys that each step may have, and which are looked at last.
-const ASKING: &[Key] = &[Key::Name, Key::If, Key::Expect];
-
-/// The ops of steps.
-pub const OPS: [&str; 13] = [
-    "send", "recv", "wait", "probe", "mrecv", "cancel", "failed", "ack", "revoke", "dup", "shrink",
-    "agree", "stop",
-];
+pub const ASKING: &[Key] = &[Key::Name, Key::If, Key::Expect];
 
 /// The keys of a job.
 pub fn job_rules() -> Rules {
@@ -160,44 +154,6 @@ pub fn any_step_rules() -> Rules {
         ],
         asking: ASKING,
     }
-}
-
-/// The keys of a step with this op.
-pub fn rules_of(op: &str) -> Option<Rules> {
-    let (owner, required, optional): (&'static str, &'static [Key], &'static [Key]) = match op {
-        "send" => (
-            "send",
-            &[Key::Op, Key::Rank, Key::To, Key::Tag, Key::Body],
-            &[Key::Comm],
-        ),
-        "recv" => (
-            "recv",
-            &[Key::Op, Key::Rank],
-            &[Key::From, Key::TagOrAny, Key::Room, Key::Comm],
-        ),
-        "wait" => ("wait", &[Key::Op, Key::Rank, Key::Req], &[]),
-        "probe" => (
-            "probe",
-            &[Key::Op, Key::Rank],
-            &[Key::From, Key::TagOrAny, Key::Comm],
-        ),
-        "mrecv" => ("mrecv", &[Key::Op, Key::Rank, Key::Req], &[Key::Room]),
-        "cancel" => ("cancel", &[Key::Op, Key::Rank, Key::Req], &[]),
-        "failed" => ("failed", &[Key::Op, Key::Rank], &[Key::Comm]),
-        "ack" => ("ack", &[Key::Op, Key::Rank, Key::Count], &[Key::Comm]),
-        "revoke" => ("revoke", &[Key::Op, Key::Rank], &[Key::Comm]),
-        "dup" => ("dup", &[Key::Op, Key::Rank], &[Key::Comm]),
-        "shrink" => ("shrink", &[Key::Op, Key::Rank], &[Key::Comm]),
-        "agree" => ("agree", &[Key::Op, Key::Rank, Key::Flag], &[Key::Comm]),
-        "stop" => ("stop", &[Key::Op, Key::Rank], &[]),
-        _ => return None,
-    };
-    Some(Rules {
-        owner,
-        required,
-        optional,
-        asking: ASKING,
-    })
 }
 
 impl Rules {

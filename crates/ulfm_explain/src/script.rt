@@ -1,7 +1,8 @@
 //! The steps of one rank.
 
 use crate::keys::text_at;
-use crate::rules::{Key, OPS};
+use crate::ops::rules_of;
+use crate::rules::Key;
 use crate::steps::rank_of;
 use toml::Value;
 
@@ -50,13 +51,8 @@ fn name_of(step: &Value) -> Option<&str> {
 
 /// The op of a step, if it is known.
 pub fn op_of(step: &Value) -> Option<&'static str> {
-    let op = text_at(step.as_table()?, Key::Op)?;
-    for known in &OPS {
-        if *known == op {
-            return Some(*known);
-        }
-    }
-    None
+    let rules = rules_of(text_at(step.as_table()?, Key::Op)?)?;
+    Some(rules.owner)
 }
 
 /// Whether a step has a condition.
