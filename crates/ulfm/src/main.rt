@@ -17,7 +17,12 @@ fn main(rt: HostRuntime) -> ExitCode {
             &mut output,
             &mut rt.stderr(),
         ),
-        Err(kind) => without_words(kind == ErrorKind::OutOfMemory, &mut output),
+        Err(kind) => without_words(
+            rt.alloc(),
+            kind == ErrorKind::OutOfMemory,
+            &mut output,
+            &mut rt.stderr(),
+        ),
     };
     ExitCode::from(status)
 }

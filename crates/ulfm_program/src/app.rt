@@ -16,11 +16,14 @@ use std::sync::Wait;
 use std::thread::Threads;
 use ulfm_replies::{
     DONE, INPUT_FAILED, InputFault, OUTPUT_FAILED, RUN_FAILED, USAGE, Unfollowed, Wanted,
-    asked_for, read_front, write_notes, write_whole,
+    asked_for, read_front, write_fault, write_notes, write_whole,
 };
 
 /// What is written where memory runs out outside the reading of a job.
 const STARVED: &[u8] = b"run failed: F3\n";
+
+/// What is written where a word can't be read.
+const NOT_TEXT: &str = "a word of the command line isn't UTF-8\n";
 
 /// Follows the words: looks at them first, then reads the input whole, then its job, then runs it, and writes the whole
 /// reply. Standard error gets how far a list of outcomes is, where that is asked for, and then what a person wants to know beside
@@ -52,13 +55,22 @@ where
     match asked_for(alloc, words) {
         Ok(wanted) => follow(rt, alloc, wanted, input, output, errors),
         Err(Unfollowed::Help(text)) => write_reply(output, DONE, text.as_bytes()),
-        Err(Unfollowed::Usage(text)) => write_reply(output, USAGE, text.as_bytes()),
+        Err(Unfollowed::Usage(text)) => {
+            let status = write_reply(output, USAGE, text.as_bytes());
+            write_fault(alloc, text.as_str(), errors);
+            status
+        }
         Err(Unfollowed::OutOfMemory) => write_reply(output, RUN_FAILED, STARVED),
     }
 }
 
 /// The reply where the words can't be had: they find no memory, or aren't UTF-8. Answers the status.
-pub fn without_words<W: Write>(is_starved: bool, output: &mut W) -> u8
+pub fn without_words<W: Write, E: Write>(
+    alloc: Global,
+    is_starved: bool,
+    output: &mut W,
+    errors: &mut E,
+) -> u8
     ensures starved { IsTrue is_starved → result ≢ 4 → (result ≡ 3) × Appends (W.contents output.old) (W.contents output.new) out_of_memory_text }
     ensures not_text { is_starved ≡ false → result ≢ 4 → (result ≡ 2) × Appends (W.contents output.old) (W.contents output.new) not_text }
     ensures known { result ≤ 4 }
@@ -66,7 +78,9 @@ pub fn without_words<W: Write>(is_starved: bool, output: &mut W) -> u8
     if is_starved {
         return write_reply(output, RUN_FAILED, STARVED);
     }
-    write_reply(output, USAGE, b"a word of the command line isn't UTF-8\n")
+    let status = write_reply(output, USAGE, NOT_TEXT.as_bytes());
+    write_fault(alloc, NOT_TEXT, errors);
+    status
 }
 
 /// Reads the input, and writes the reply to it, and then the notes on it.

@@ -2,6 +2,7 @@
 
 use crate::kept::Kept;
 use std::alloc::{AllocError, Global};
+use std::io;
 use std::sync::Wait;
 use std::test::Fail;
 use std::thread::Threads;
@@ -73,4 +74,57 @@ fn standard_error_says_more(rt: HostRuntime) -> Result<(), Fail> {
         assert_eq!(rt; errors.as_slice(), said.as_bytes(), "{command} {steps}");
     }
     Ok(())
+}
+
+/// Words that can't be followed, and the line on standard error.
+const USAGE: [(&[&str], &str); 4] = [
+    (
+        &["ulfm"],
+        "ulfm: 'ulfm' requires a subcommand but one was not provided [subcommands: check, replay, run, sweep, outcomes, help]\n",
+    ),
+    (
+        &["ulfm", "replay", "--x"],
+        "ulfm: unexpected argument '--x' found\n",
+    ),
+    (
+        &["ulfm", "run"],
+        "ulfm: the following required arguments were not provided: --carrier <CARRIER>\n",
+    ),
+    (&["ulfm", "--help"], ""),
+];
+
+#[test]
+fn a_wrong_command_line_is_told_in_a_line(rt: HostRuntime) {
+    for (words, said) in USAGE {
+        let mut errors = Vec::new(rt.alloc());
+        let _status = run_on(
+            &rt,
+            rt.alloc(),
+            words,
+            &mut "".as_bytes(),
+            &mut io::sink(),
+            &mut errors,
+        );
+        assert_eq!(rt; errors.as_slice(), said.as_bytes(), "{said}");
+    }
+}
+
+#[test]
+fn an_empty_job_is_told_where_it_is_read(rt: HostRuntime) {
+    for job in ["", "\n \t\n"] {
+        let mut errors = Vec::new(rt.alloc());
+        let status = run_on(
+            &rt,
+            rt.alloc(),
+            &["ulfm", "replay"],
+            &mut job.as_bytes(),
+            &mut io::sink(),
+            &mut errors,
+        );
+        assert_eq!(rt; status, 1);
+        assert_eq!(rt;
+            errors.as_slice(),
+            b"the job is empty; where no file is named, as in 'ulfm replay job.toml', it is read from standard input\n".as_slice()
+        );
+    }
 }

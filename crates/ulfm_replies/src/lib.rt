@@ -18,7 +18,7 @@ mod trace;
 pub use asked::{Unfollowed, asked_for};
 pub use command::{Carrier, RunOptions, Wanted};
 pub use failure::{Failure, failed, failure_of};
-pub use notes::write_notes;
+pub use notes::{write_fault, write_notes};
 pub use reply::{
     DONE, INPUT_FAILED, JOB_REFUSED, NOT_EXPECTED, OUTPUT_FAILED, PAST_LIMIT, RUN_FAILED, Reply,
     UNFINISHED, USAGE, check_reply, refusal,

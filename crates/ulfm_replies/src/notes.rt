@@ -11,6 +11,10 @@ use ulfm_explain::{Explanation, explain, unfinished_steps, unmet_answers, warnin
 const NO_PLACE: &str =
     "the job has 256 steps, which are the most: with a stop put in, as sweep does, there are too many\n";
 
+/// Why a job is empty, most of the time.
+const EMPTY: &str =
+    "the job is empty; where no file is named, as in 'ulfm replay job.toml', it is read from standard input\n";
+
 /// What to do where a list is past its limit.
 const MANY_STATES: &str =
     "--limit allows up to 100000000 states; fewer ranks, steps or wildcards make fewer of them\n";
@@ -31,6 +35,25 @@ pub fn write_notes<E: Write>(
     }
 }
 
+/// Tells in one line what is wrong with the words that a usage text is about. Where that finds no memory, nothing is told.
+pub fn write_fault<E: Write>(alloc: Global, usage: &str, errors: &mut E) {
+    if let Ok(line) = fault_line(alloc, usage) {
+        let _is_written = write_whole(errors, line.as_bytes());
+    }
+}
+
+/// The first paragraph of a usage text, as one line.
+fn fault_line(alloc: Global, usage: &str) -> Result<String, AllocError> {
+    let mut line = String::from_str(alloc, "ulfm:")?;
+    for part in usage.lines().take_while(|part| !part.is_empty()) {
+        let part = part.trim_ascii();
+        let part = part.strip_prefix("error: ").unwrap_or(part);
+        write!(line, " {part}")?;
+    }
+    line.push_str("\n")?;
+    Ok(line)
+}
+
 /// What is said of a reply: why a job is refused or can't be swept, what of a good one will be refused, which answers
 /// aren't as expected, or which steps hang.
 fn notes_on(
@@ -40,6 +63,7 @@ fn notes_on(
     reply: &Reply,
 ) -> Result<String, AllocError> {
     match (reply.status, wanted) {
+        (JOB_REFUSED, _) if bytes.trim_ascii().is_empty() => String::from_str(alloc, EMPTY),
         (JOB_REFUSED, _) => refused_lines(alloc, &explain(alloc, bytes)?, reply.text.as_str()),
         (DONE, Wanted::Check) => lines_of(alloc, "warning: ", &warnings(alloc, bytes)?),
         (NOT_EXPECTED, _) => {
