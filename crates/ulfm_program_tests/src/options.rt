@@ -156,6 +156,16 @@ fn runs_are_repeated_and_counted(rt: HostRuntime) -> Result<(), Fail> {
 }
 
 #[test]
+fn the_version_has_the_kit(rt: HostRuntime) -> Result<(), Fail> {
+    let cases = [
+        gives("--version", "", 0, "ulfm 0.1.0 (rattle-kit-13f)\n"),
+        gives("-V", "", 0, "ulfm 0.1.0 (rattle-kit-13f)\n"),
+    ];
+    assert_eq!(rt; first_wrong(&rt, cases.as_slice())?, None);
+    Ok(())
+}
+
+#[test]
 fn the_help_of_each_command_has_an_example(rt: HostRuntime) {
     for (command, example) in [
         ("check", "Example: ulfm check < jobs/one_letter.toml"),

@@ -32,9 +32,9 @@ replay_app = with_rule (new_app (codes "replay")) strict_rule
 abbrev pub plain_app : App
 plain_app = new_app (codes "ulfm")
 
--- the command `ulfm`, which wants a subcommand
+-- the command `ulfm`, which tells its version, and wants a subcommand
 abbrev pub demanding_app : App
-demanding_app = record plain_app { top = record (plain_app.top) { subcommand_required = true } }
+demanding_app = record plain_app { top = record (plain_app.top) { has_version = true; subcommand_required = true } }
 
 -- the option `--carrier` with one value, which has to be there
 abbrev pub carrier_rule : Rule

@@ -10,6 +10,7 @@ use crate::options::{
     MOST_RUNS, MOST_STATES, MOST_TURNS, USUAL_STATES, carrier_option, number_option, progress_flag,
     strict_flag,
 };
+use crate::version::VERSION;
 use clap::error::ErrorKind;
 use clap::{ArgMatches, Command, Error};
 use std::alloc::{AllocError, Global};
@@ -60,7 +61,7 @@ pub enum Wanted {
     },
 }
 
-/// What the words ask for. An error is a wrong command line, or help that is asked for.
+/// What the words ask for. An error is a wrong command line, or help or the version that is asked for.
 pub fn wanted_of<S: AsStr>(alloc: Global, words: &[S]) -> Result<Wanted, Error>
     ensures ok { IfOk result (λ wanted. meant (asked (map S.text words.now)) ≡ Some wanted) }
     ensures ranges { IfOk result HasRanges }
@@ -110,6 +111,7 @@ fn bare_command<'a>(alloc: Global) -> Command<'a>
     Command::new(alloc, "ulfm")
         .about("MPI messages with ULFM recovery among the ranks of one program")
         .after_help(HELP)
+        .version(VERSION)
         .subcommand_required(true)
 }
 

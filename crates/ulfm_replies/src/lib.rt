@@ -14,6 +14,7 @@ mod options;
 mod reply;
 mod stream;
 mod trace;
+mod version;
 
 pub use asked::{Unfollowed, asked_for};
 pub use command::{Carrier, RunOptions, Wanted};
