@@ -19,12 +19,12 @@ use Rattle.ulfm_replies.specs.Failure.{failed_text, failure_of, out_of_memory_te
 use Rattle.ulfm_replies.specs.Replies.{refused_text, starved}
 use Rattle.ulfm_replies.specs.declared.failure.Failure.{Failure}
 use Rattle.ulfm_replies.specs.declared.failure.Failure.TheVariants as run
-use Rattle.ulfm_program.specs.Replies.{IsReplayReply, IsRunReply, IsReplyTo, IsWhole, GetsReply, GetsBeginning, not_a_job, no_room, failed, no_such_job, no_place, no_thread, untrue, fell, with_options}
+use Rattle.ulfm_program.specs.Replies.{IsReplayReply, IsRunReply, IsReplyTo, IsWhole, GetsReply, GetsBeginning, not_a_job, no_room, failed, no_such_job, no_place, no_thread, untrue, fell, given_turns}
 use Rattle.ulfm_program.specs.Outcomes.{unlisted}
 use Rattle.ulfm_program.specs.Sweep.{unswept}
 use Rattle.ulfm_program.specs.inside.Writing.{GetsFrontOf, IsShown}
 
-pub replay_refused : {is_strict : Bool} (f : JobFault) (bytes : List ℕ) → (f ≢ OutOfMemory → job_of_bytes bytes ≡ Err f) → IsReplayReply is_strict bytes 1 (refused_text f)
+pub replay_refused : {is_strict : Bool} {turns : Option ℕ} (f : JobFault) (bytes : List ℕ) → (f ≢ OutOfMemory → job_of_bytes bytes ≡ Err f) → IsReplayReply is_strict turns bytes 1 (refused_text f)
 replay_refused NotToml bytes h = not_a_job _ (h (λ e. cc))
 replay_refused (InJob f) bytes h = not_a_job _ (h (λ e. cc))
 replay_refused (InStep f k) bytes h = not_a_job _ (h (λ e. cc))
@@ -38,7 +38,7 @@ run_refused (InStep f k) bytes h = no_such_job _ (h (λ e. cc))
 run_refused TooLarge bytes h = no_such_job _ (h (λ e. cc))
 run_refused OutOfMemory bytes h = no_place
 
-pub run_failed : {options : RunOptions} (job : JobView) (f : Failure) (bytes : List ℕ) → job_of_bytes bytes ≡ Ok (plan_of job) → IsShown (with_options options job) f → IsRunReply options bytes 3 (failed_text f)
+pub run_failed : {options : RunOptions} (job : JobView) (f : Failure) (bytes : List ℕ) → job_of_bytes bytes ≡ Ok (plan_of job) → IsShown (given_turns options.turns job) f → IsRunReply options bytes 3 (failed_text f)
 run_failed job run.NoThread bytes h s = no_thread job h
 run_failed job run.OutOfMemory bytes h s = fell
 run_failed job run.Untrue bytes h s = untrue job s.0 h s.1
@@ -55,7 +55,7 @@ shown job faults.BadEnds run.Untrue h e = absurd cc
 -- out of memory is a reply to any words
 starved_reply : (wanted : Wanted) (bytes : List ℕ) → IsReplyTo wanted bytes 3 out_of_memory_text
 starved_reply Check bytes = starved
-starved_reply (Replay is_strict) bytes = failed
+starved_reply (Replay is_strict turns) bytes = failed
 starved_reply (Run options) bytes = fell
 starved_reply Sweep bytes = unswept
 starved_reply (Outcomes limit wants_progress) bytes = unlisted

@@ -1,5 +1,5 @@
 -- The statuses that replies have.
-use Rattle.std.proofs.Common.{◌≡◌, ◌≤◌, ◌⊎◌, ℕ, Bool, true, false, List, arith, inl, inr, refl}
+use Rattle.std.proofs.Common.{◌≡◌, ◌≤◌, ◌⊎◌, ℕ, Bool, true, false, List, Option, arith, inl, inr, refl}
 use Rattle.ulfm_replies.specs.Replies.{IsCheckReply, good, refused, no_memory, starved}
 use Rattle.std.specs.List.{list_all, list_any}
 use Rattle.ulfm_script.specs.Reacting.{all_met}
@@ -7,7 +7,7 @@ use Rattle.ulfm_replies.specs.Unfinished.{has_unfinished, played_status}
 use Rattle.ulfm_replies.specs.declared.command.RunOptions.{RunOptions}
 use Rattle.ulfm_replies.specs.declared.command.Wanted.{Wanted}
 use Rattle.ulfm_replies.specs.declared.command.Wanted.TheVariants.{Check, Replay, Run, Sweep, Outcomes}
-use Rattle.ulfm_program.specs.Replies.{IsReplayReply, IsRunReply, IsReplyTo, IsWhole, traced, not_a_job, no_room, failed, ran, repeated, no_such_job, no_place, no_thread, untrue, fell, with_options}
+use Rattle.ulfm_program.specs.Replies.{IsReplayReply, IsRunReply, IsReplyTo, IsWhole, traced, not_a_job, no_room, failed, ran, repeated, no_such_job, no_place, no_thread, untrue, fell, given_turns}
 use Rattle.ulfm_program.specs.Sweep.{IsSweepReply, swept, unread, full, unmade, unswept}
 use Rattle.ulfm_program.specs.Outcomes.{IsOutcomesReply, listed, not_listed, no_memory_to_read, unlisted}
 use Rattle.ulfm_reach.specs.declared.reach.Reach.TheVariants.{All, More}
@@ -38,15 +38,15 @@ checked bytes status text (refused f is) = no_job
 checked bytes status text no_memory = no_job
 checked bytes status text starved = run_fails
 
-replayed : (is_strict : Bool) (bytes : List ℕ) (status : ℕ) (text : List ℕ) → IsReplayReply is_strict bytes status text → IsKnown status
-replayed is_strict bytes status text (traced job reports is played_so lawful rest) = played is_strict (all_met job reports) (has_unfinished reports)
-replayed is_strict bytes status text (not_a_job f is) = no_job
-replayed is_strict bytes status text no_room = no_job
-replayed is_strict bytes status text failed = run_fails
+replayed : (is_strict : Bool) (turns : Option ℕ) (bytes : List ℕ) (status : ℕ) (text : List ℕ) → IsReplayReply is_strict turns bytes status text → IsKnown status
+replayed is_strict turns bytes status text (traced job reports is played_so lawful rest) = played is_strict (all_met (given_turns turns job) reports) (has_unfinished reports)
+replayed is_strict turns bytes status text (not_a_job f is) = no_job
+replayed is_strict turns bytes status text no_room = no_job
+replayed is_strict turns bytes status text failed = run_fails
 
 run_known : (options : RunOptions) (bytes : List ℕ) (status : ℕ) (text : List ℕ) → IsRunReply options bytes status text → IsKnown status
-run_known options bytes status text (ran job reports once is lawful) = played options.is_strict (all_met (with_options options job) reports) (has_unfinished reports)
-run_known options bytes status text (repeated job runs times is lawful) = played options.is_strict (list_all (all_met (with_options options job)) runs) (list_any has_unfinished runs)
+run_known options bytes status text (ran job reports once is lawful) = played options.is_strict (all_met (given_turns options.turns job) reports) (has_unfinished reports)
+run_known options bytes status text (repeated job runs times is lawful) = played options.is_strict (list_all (all_met (given_turns options.turns job)) runs) (list_any has_unfinished runs)
 run_known options bytes status text (no_such_job f is) = no_job
 run_known options bytes status text no_place = no_job
 run_known options bytes status text (no_thread job is) = run_fails
@@ -69,7 +69,7 @@ list_known limit bytes status text unlisted = run_fails
 
 pub known_status : (wanted : Wanted) (bytes : List ℕ) (status : ℕ) (text : List ℕ) → IsReplyTo wanted bytes status text → IsKnown status
 known_status Check bytes status text h = checked bytes status text h
-known_status (Replay is_strict) bytes status text h = replayed is_strict bytes status text h
+known_status (Replay is_strict turns) bytes status text h = replayed is_strict turns bytes status text h
 known_status (Run options) bytes status text h = run_known options bytes status text h
 known_status Sweep bytes status text h = sweep_known bytes status text h
 known_status (Outcomes limit wants_progress) bytes status text h = list_known limit bytes status text h

@@ -25,43 +25,43 @@ use Rattle.ulfm_replies.specs.Replies.{refused_text, IsCheckReply}
 use Rattle.ulfm_replies.specs.Unfinished.{has_unfinished, played_status}
 use Rattle.ulfm_replies.specs.declared.failure.Failure.TheVariants as run
 
+-- the job with the turns of the command line, where they are given
+abbrev pub given_turns : Option ℕ → JobView → JobView
+given_turns turns job = option_map_or (λ n. with_turns n job) turns job
+
 -- The status and the text that `replay` gives for these bytes: with 0 the trace of the reports of a replay of the job, which are lawful for it, and whose running
 -- ranks agree at its end on what failed and was revoked, on each shrink and on each agreement. With `--strict` it comes with 6
--- exactly where a step was left unfinished.
-pub data IsReplayReply (is_strict : Bool) (bytes : List ℕ) : ℕ → List ℕ → Type 0 where
-  traced : (job : JobView) (reports : List Report) → job_of_bytes bytes ≡ Ok (plan_of job) → IsReplayed job reports
-      → IsLawful job reports → MadeAtRest job reports
-      → IsReplayReply is_strict bytes (played_status is_strict (all_met job reports) (has_unfinished reports)) (trace_of reports)
-  not_a_job : (f : JobFault) → job_of_bytes bytes ≡ Err f → IsReplayReply is_strict bytes 1 (refused_text f)
-  no_room : IsReplayReply is_strict bytes 1 (refused_text OutOfMemory)
-  failed : IsReplayReply is_strict bytes 3 out_of_memory_text
-
--- the job that the options of `run` make of one: with their number of turns, where they have one
-abbrev pub with_options : RunOptions → JobView → JobView
-with_options options job = option_map_or (λ turns. with_turns turns job) options.turns job
+-- exactly where a step was left unfinished. With `--turns` the job has that number of turns.
+pub data IsReplayReply (is_strict : Bool) (turns : Option ℕ) (bytes : List ℕ) : ℕ → List ℕ → Type 0 where
+  traced : (job : JobView) (reports : List Report) → job_of_bytes bytes ≡ Ok (plan_of job) → IsReplayed (given_turns turns job) reports
+      → IsLawful (given_turns turns job) reports → MadeAtRest (given_turns turns job) reports
+      → IsReplayReply is_strict turns bytes (played_status is_strict (all_met (given_turns turns job) reports) (has_unfinished reports)) (trace_of reports)
+  not_a_job : (f : JobFault) → job_of_bytes bytes ≡ Err f → IsReplayReply is_strict turns bytes 1 (refused_text f)
+  no_room : IsReplayReply is_strict turns bytes 1 (refused_text OutOfMemory)
+  failed : IsReplayReply is_strict turns bytes 3 out_of_memory_text
 
 -- The same for `run`: with 0, 6 or 9, the trace of reports that are lawful for the job, whichever thread went when; with 3 the
 -- line of what failed. F2 comes for a good job alone, and F4 only with reports of the job's ranks that
 -- show it. With `--repeat` each distinct trace of so many runs, each lawful, comes once with its count.
 pub data IsRunReply (options : RunOptions) (bytes : List ℕ) : ℕ → List ℕ → Type 0 where
   ran : (job : JobView) (reports : List Report) → options.repeat ≡ None → job_of_bytes bytes ≡ Ok (plan_of job)
-      → IsLawful (with_options options job) reports
-      → IsRunReply options bytes (played_status options.is_strict (all_met (with_options options job) reports) (has_unfinished reports)) (trace_of reports)
+      → IsLawful (given_turns options.turns job) reports
+      → IsRunReply options bytes (played_status options.is_strict (all_met (given_turns options.turns job) reports) (has_unfinished reports)) (trace_of reports)
   repeated : (job : JobView) (runs : List (List Report)) → options.repeat ≡ Some (length runs) → job_of_bytes bytes ≡ Ok (plan_of job)
-      → All (IsLawful (with_options options job)) runs
-      → IsRunReply options bytes (played_status options.is_strict (list_all (all_met (with_options options job)) runs) (list_any has_unfinished runs)) (tally_text (length runs) (tally (map trace_of runs)))
+      → All (IsLawful (given_turns options.turns job)) runs
+      → IsRunReply options bytes (played_status options.is_strict (list_all (all_met (given_turns options.turns job)) runs) (list_any has_unfinished runs)) (tally_text (length runs) (tally (map trace_of runs)))
   no_such_job : (f : JobFault) → job_of_bytes bytes ≡ Err f → IsRunReply options bytes 1 (refused_text f)
   no_place : IsRunReply options bytes 1 (refused_text OutOfMemory)
   no_thread : (job : JobView) → job_of_bytes bytes ≡ Ok (plan_of job) → IsRunReply options bytes 3 (failed_text run.NoThread)
   untrue : (job : JobView) (reports : List Report) → job_of_bytes bytes ≡ Ok (plan_of job)
-      → ShowUntrue (with_options options job) reports
+      → ShowUntrue (given_turns options.turns job) reports
       → IsRunReply options bytes 3 (failed_text run.Untrue)
   fell : IsRunReply options bytes 3 out_of_memory_text
 
 -- the reply to what the words ask for
 abbrev pub IsReplyTo : Wanted → List ℕ → ℕ → List ℕ → Type 0
 IsReplyTo Check bytes status text = IsCheckReply bytes status text
-IsReplyTo (Replay is_strict) bytes status text = IsReplayReply is_strict bytes status text
+IsReplyTo (Replay is_strict turns) bytes status text = IsReplayReply is_strict turns bytes status text
 IsReplyTo (Run options) bytes status text = IsRunReply options bytes status text
 IsReplyTo Sweep bytes status text = IsSweepReply bytes status text
 IsReplyTo (Outcomes limit wants_progress) bytes status text = IsOutcomesReply limit bytes status text

@@ -12,5 +12,6 @@ mod reply;
 mod run;
 mod swept;
 mod tally;
+mod turns;
 
 pub use app::{run_on, without_words};

@@ -1,11 +1,12 @@
 //! The reply to a job's bytes.
 ghost use Rattle.std.specs.Prelude.{◌≡◌, IfOk, string_bytes};
 ghost use Rattle.ulfm_program.specs.Replies.{IsReplayReply, IsReplyTo};
-ghost use Rattle.ulfm_replies.specs.CommandLine.{HasRanges};
+ghost use Rattle.ulfm_replies.specs.CommandLine.{AreTurns, HasRanges};
 
 use crate::listed::outcomes_reply;
 use crate::run::run_reply;
 use crate::swept::sweep_reply;
+use crate::turns::given_turns;
 use std::alloc::{AllocError, Global};
 use std::sync::Wait;
 use std::thread::Threads;
@@ -16,11 +17,17 @@ use ulfm_script::Job;
 use ulfm_world::replay;
 
 /// The reply of `replay`.
-fn replay_reply(alloc: Global, is_strict: bool, bytes: &[u8]) -> Result<Reply, AllocError>
-    ensures { IfOk result (λ r. IsReplayReply is_strict bytes.now r.status (string_bytes r.text)) }
+fn replay_reply(
+    alloc: Global,
+    is_strict: bool,
+    turns: Option<u32>,
+    bytes: &[u8],
+) -> Result<Reply, AllocError>
+    requires { AreTurns turns }
+    ensures { IfOk result (λ r. IsReplayReply is_strict turns bytes.now r.status (string_bytes r.text)) }
 {
     let job = match Job::read(alloc, bytes) {
-        Ok(job) => job,
+        Ok(job) => given_turns(job, turns),
         Err(fault) => return refusal(alloc, fault),
     };
     match replay(alloc, &job) {
@@ -45,7 +52,7 @@ where
 {
     match wanted {
         Wanted::Check => check_reply(alloc, bytes),
-        Wanted::Replay { is_strict } => replay_reply(alloc, is_strict, bytes),
+        Wanted::Replay { is_strict, turns } => replay_reply(alloc, is_strict, turns, bytes),
         Wanted::Run(options) => run_reply(rt, alloc, options, bytes),
         Wanted::Sweep => sweep_reply(alloc, bytes),
         Wanted::Outcomes { limit, .. } => outcomes_reply(alloc, limit, bytes, watch),

@@ -8,12 +8,13 @@ ghost use Rattle.ulfm_carrier.specs.Lanes.{known_room, lane_name, lane_pushed, l
 ghost use Rattle.ulfm_carrier.specs.Shared.{inbox_capacity, shared_name, shared_pushed, shared_taken, IsReady as IsReadyShared, OneCall as OneSharedCall};
 ghost use Rattle.ulfm_board.specs.Known.{OneBoard, nothing_known};
 ghost use Rattle.ulfm_program.specs.inside.Cells.{AreEnough};
-ghost use Rattle.ulfm_program.specs.Replies.{with_options, IsRunReply};
+ghost use Rattle.ulfm_program.specs.Replies.{IsRunReply};
 ghost use Rattle.ulfm_program.specs.inside.Writing.{IsShown};
 ghost use Rattle.ulfm_replies.specs.CommandLine.{AreInRange};
 ghost use Rattle.ulfm_laws.specs.Lawful.{IsLawful};
 
 use crate::tally::{tally_of, tally_reply};
+use crate::turns::given_turns;
 use std::alloc::{AllocError, Global};
 use std::sync::Wait;
 use std::thread::Threads;
@@ -36,7 +37,7 @@ pub fn run_reply<R: Threads + Wait + Sync>(
     ensures { IfOk result (λ r. IsRunReply options bytes.now r.status (string_bytes r.text)) }
 {
     let job = match Job::read(alloc, bytes) {
-        Ok(job) => with_options(job, options),
+        Ok(job) => given_turns(job, options.turns),
         Err(fault) => return refusal(alloc, fault),
     };
     if let Some(times) = options.repeat {
@@ -49,17 +50,6 @@ pub fn run_reply<R: Threads + Wait + Sync>(
     match ran {
         Ok(reports) => trace_reply(alloc, options.is_strict, &job, reports.as_slice()),
         Err(failure) => failed(alloc, failure),
-    }
-}
-
-/// The job that the options make of one: with their number of turns, where they have one.
-fn with_options(job: Job, options: RunOptions) -> Job
-    requires { AreInRange options }
-    ensures { result ≡ with_options options job }
-{
-    match options.turns {
-        Some(turns) => job.with_turns(turns),
-        None => job,
     }
 }
 

@@ -96,6 +96,15 @@ fn an_unfinished_step_has_a_status_where_it_is_asked_for(rt: HostRuntime) -> Res
 #[test]
 fn turns_of_the_command_line_are_the_jobs(rt: HostRuntime) -> Result<(), Fail> {
     let cases = [
+        gives("replay", SHRINK, 0, ENTERED),
+        gives("replay --turns 9", SHRINK, 0, SHRUNK),
+        gives("replay --strict --turns 1", SHRINK, 6, ENTERED),
+        gives(
+            "replay --turns 0",
+            SHRINK,
+            2,
+            "error: invalid value '0' for '--turns <N>': 0 is not in 1..=10000000\n",
+        ),
         gives("run --carrier lanes", SHRINK, 0, ENTERED),
         gives("run --carrier lanes --turns 9", SHRINK, 0, SHRUNK),
         gives("run --carrier shared --turns=+1", SHRINK, 0, ENTERED),

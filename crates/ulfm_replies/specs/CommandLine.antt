@@ -24,10 +24,6 @@ check_app = new_app (codes "check")
 abbrev pub strict_rule : Rule
 strict_rule = record (new_rule (codes "strict")) { long = Some (codes "strict"); action = Some SetTrue }
 
--- the command `replay` with its flag
-abbrev pub replay_app : App
-replay_app = with_rule (new_app (codes "replay")) strict_rule
-
 -- the command `ulfm`, to which its subcommands come
 abbrev pub plain_app : App
 plain_app = new_app (codes "ulfm")
@@ -52,9 +48,17 @@ most_runs = 10000
 abbrev pub number_rule : Text → ℕ → Rule
 number_rule name most = record (new_rule name) { long = Some name; value_names = 1; parser = Some (Unsigned 1 most) }
 
+-- the option `--turns`
+abbrev pub turns_rule : Rule
+turns_rule = number_rule (codes "turns") most_turns
+
+-- the command `replay` with its options
+abbrev pub replay_app : App
+replay_app = with_rule (with_rule (new_app (codes "replay")) strict_rule) turns_rule
+
 -- the command `run` with its options
 abbrev pub run_app : App
-run_app = with_rule (with_rule (with_rule (with_rule (new_app (codes "run")) carrier_rule) strict_rule) (number_rule (codes "turns") most_turns)) (number_rule (codes "repeat") most_runs)
+run_app = with_rule (with_rule (with_rule (with_rule (new_app (codes "run")) carrier_rule) strict_rule) turns_rule) (number_rule (codes "repeat") most_runs)
 
 -- the command `sweep`
 abbrev pub sweep_app : App
@@ -106,12 +110,16 @@ abbrev pub number_given : ℕ → Option Text → Option ℕ
 number_given most None = None
 number_given most (Some text) = if accepts false (Unsigned 1 most) text then Some (digits_value 10 (without_leading_plus text)) else None
 
+-- the turns that `--turns` gives the job, where it is given
+abbrev pub turns_in : List Row → Option ℕ
+turns_in rows = number_given most_turns (first_of (codes "turns") rows)
+
 -- the options of `run` with a carrier
 abbrev pub options_by : List Row → Carrier → RunOptions
 options_by rows carrier = record {
   carrier = carrier;
   is_strict = is_strict rows;
-  turns = number_given most_turns (first_of (codes "turns") rows);
+  turns = turns_in rows;
   repeat = number_given most_runs (first_of (codes "repeat") rows);
 }
 
@@ -127,7 +135,7 @@ limit_in rows = unwrap_or (number_given most_states (first_of (codes "limit") ro
 abbrev pub named : Text → List Row → Option Wanted
 named name rows =
     if bytes_eq name (codes "check") then Some Check
-    else (if bytes_eq name (codes "replay") then Some (Replay (is_strict rows))
+    else (if bytes_eq name (codes "replay") then Some (Replay (is_strict rows) (turns_in rows))
     else (if bytes_eq name (codes "run") then option_map Run (run_options rows)
     else (if bytes_eq name (codes "sweep") then Some Sweep
     else (if bytes_eq name (codes "outcomes") then Some (Outcomes (limit_in rows) (wants_progress rows))
@@ -152,9 +160,13 @@ faults words = or_else (fault_of tool_app words) (unmeant (meant (asked words)))
 abbrev pub AsksFor : Wanted → List Text → Type 0
 AsksFor wanted words = (faults words ≡ []) × (meant (asked words) ≡ Some wanted)
 
+-- the turns that `--turns` gives are those that a job can have
+abbrev pub AreTurns : Option ℕ → Type 0
+AreTurns turns = IfSome turns (λ n. (0 < n) × (n ≤ most_turns))
+
 -- the numbers of the options of `run` are in their ranges
 abbrev pub AreInRange : RunOptions → Type 0
-AreInRange options = IfSome options.turns (λ n. (0 < n) × (n ≤ most_turns)) × IfSome options.repeat (λ n. (0 < n) × (n ≤ most_runs))
+AreInRange options = AreTurns options.turns × IfSome options.repeat (λ n. (0 < n) × (n ≤ most_runs))
 
 -- the limit of `outcomes` is in its range
 abbrev pub IsLimit : ℕ → Type 0
@@ -162,6 +174,7 @@ IsLimit limit = (0 < limit) × (limit ≤ most_states)
 
 -- the numbers of what the words ask for are in their ranges
 abbrev pub HasRanges : Wanted → Type 0
+HasRanges (Replay is_strict turns) = AreTurns turns
 HasRanges (Run options) = AreInRange options
 HasRanges (Outcomes limit wants_progress) = IsLimit limit
 HasRanges _ = ⊤

@@ -2,13 +2,13 @@
 ghost use Rattle.std.specs.Prelude.{◌≡◌, false, Some, map, option_map, IfOk, IfSome};
 ghost use Rattle.clap.specs.declared.builder.command.Command.TheViews.{out-Command};
 ghost use Rattle.clap.specs.Words.{FailsBy, app_of, first_of, found_of, kind_of, rows_of, rule_of, subcommand_rows_of, with_subcommand};
-ghost use Rattle.ulfm_replies.specs.CommandLine.{AreInRange, HasRanges, asked, carrier_named, IsLimit, check_app, demanding_app, faults, is_flagged, is_strict, wants_progress, limit_in, meant, named, outcomes_app, replay_app, run_app, run_options, sweep_app, tool_app};
+ghost use Rattle.ulfm_replies.specs.CommandLine.{AreInRange, HasRanges, asked, carrier_named, IsLimit, check_app, demanding_app, faults, is_flagged, is_strict, AreTurns, wants_progress, limit_in, meant, named, outcomes_app, replay_app, run_app, run_options, sweep_app, tool_app, turns_in};
 
 use crate::help::HELP;
 use crate::number::number_given;
 use crate::options::{
     MOST_RUNS, MOST_STATES, MOST_TURNS, USUAL_STATES, carrier_option, number_option, progress_flag,
-    strict_flag,
+    strict_flag, turns_option,
 };
 use crate::version::VERSION;
 use clap::error::ErrorKind;
@@ -47,6 +47,8 @@ pub enum Wanted {
     Replay {
         /// Whether an unfinished step has a status of its own.
         is_strict: bool,
+        /// The turns of the job, in place of its own, 1 to 10,000,000.
+        turns: Option<u32>,
     },
     /// The trace of a run.
     Run(RunOptions),
@@ -125,15 +127,16 @@ fn check_command<'a>(alloc: Global) -> Command<'a>
         .after_help("Example: ulfm check < jobs/one_letter.toml")
 }
 
-/// The command `replay` with its flag.
+/// The command `replay` with its options.
 fn replay_command<'a>(alloc: Global) -> Result<Command<'a>, AllocError>
     ensures app { IfOk result (λ command. app_of command ≡ replay_app) }
     ensures local { IfOk result (λ command. (out-Command command).has_globals ≡ false) }
 {
-    Command::new(alloc, "replay")
+    let command = Command::new(alloc, "replay")
         .about("Plays the job on standard input round by round and prints its trace")
         .after_help("Example: ulfm replay --strict < jobs/one_letter.toml")
-        .arg(strict_flag(alloc))
+        .arg(strict_flag(alloc))?;
+    command.arg(turns_option(alloc))
 }
 
 /// The command `run` with its options.
@@ -150,13 +153,7 @@ fn run_command<'a>(alloc: Global) -> Result<Command<'a>, AllocError>
         )
         .arg(carrier_option(alloc))?;
     let command = command.arg(strict_flag(alloc))?;
-    let turns = number_option(
-        alloc,
-        "turns",
-        MOST_TURNS,
-        "Runs the job with this number of turns in place of its own [1 to 10000000]",
-    );
-    let command = command.arg(turns)?;
+    let command = command.arg(turns_option(alloc))?;
     let repeat = number_option(
         alloc,
         "repeat",
@@ -215,6 +212,7 @@ fn named(name: &str, options: &ArgMatches<'_>) -> Option<Wanted>
         "check" => Some(Wanted::Check),
         "replay" => Some(Wanted::Replay {
             is_strict: is_strict(options),
+            turns: turns_in(options),
         }),
         "run" => match run_options(options) {
             Some(options) => Some(Wanted::Run(options)),
@@ -238,11 +236,19 @@ fn run_options(options: &ArgMatches<'_>) -> Option<RunOptions>
         Some(carrier) => Some(RunOptions {
             carrier,
             is_strict: is_strict(options),
-            turns: number_given(value_of(options, "turns"), MOST_TURNS),
+            turns: turns_in(options),
             repeat: number_given(value_of(options, "repeat"), MOST_RUNS),
         }),
         None => None,
     }
+}
+
+/// The turns that `--turns` gives the job, where it is given.
+fn turns_in(options: &ArgMatches<'_>) -> Option<u32>
+    ensures exact { result ≡ turns_in (rows_of (found_of options.now)) }
+    ensures range { AreTurns result }
+{
+    number_given(value_of(options, "turns"), MOST_TURNS)
 }
 
 /// The most states that are looked at: those of `--limit`, where it is given.

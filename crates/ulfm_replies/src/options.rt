@@ -1,7 +1,7 @@
 //! The options of the commands.
 ghost use Rattle.std.specs.Prelude.{◌≡◌, false};
 ghost use Rattle.clap.specs.Words.{rule_of};
-ghost use Rattle.ulfm_replies.specs.CommandLine.{carrier_rule, number_rule, progress_rule, strict_rule};
+ghost use Rattle.ulfm_replies.specs.CommandLine.{carrier_rule, number_rule, progress_rule, strict_rule, turns_rule};
 
 use clap::builder::ValueParser;
 use clap::{Arg, ArgAction};
@@ -18,6 +18,19 @@ pub const MOST_STATES: u32 = 100_000_000;
 
 /// The most states that are looked at where there is no `--limit`.
 pub const USUAL_STATES: u32 = 1_000_000;
+
+/// The option `--turns`.
+pub fn turns_option<'a>(alloc: Global) -> Arg<'a>
+    ensures rule { rule_of result ≡ turns_rule }
+    ensures local { result.global ≡ false }
+{
+    number_option(
+        alloc,
+        "turns",
+        MOST_TURNS,
+        "Gives the job this number of turns in place of its own [1 to 10000000]",
+    )
+}
 
 /// The option `--carrier`.
 pub fn carrier_option<'a>(alloc: Global) -> Arg<'a>

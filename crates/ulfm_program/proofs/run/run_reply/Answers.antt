@@ -4,7 +4,7 @@ use Rattle.std.specs.List.{list_all}
 use Rattle.ulfm_job.specs.Job.{JobView}
 use Rattle.ulfm_script.specs.Reacting.{all_met}
 use Rattle.ulfm_laws.specs.Lawful.{IsLawful}
-use Rattle.ulfm_program.specs.Replies.{ran, repeated, with_options}
+use Rattle.ulfm_program.specs.Replies.{ran, repeated, given_turns}
 use Rattle.ulfm_program.specs.Tally.{tally_text}
 use Rattle.ulfm_replies.specs.Unfinished.{played_status}
 use Rattle.ulfm_program.specs.inside.Writing.{IsShown}
@@ -17,7 +17,7 @@ returns-in-Err g c = IfOk-weaker c.refusal.result _ _ (λ r h. rw (h.0, h.1) (ru
 
 pub returns-in-Some : goal.returns-in-Some
 returns-in-Some g c =
-    let job = c.with_options-job.ensures in
+    let job = c.given_turns-job.ensures in
     elim c.match-tally_of.branch [
       | in-Ok-tally_of w ↦
           let runs = w.in-Ok-tally_of.ensures.runs in
@@ -32,11 +32,11 @@ returns-in-Some g c =
 pub returns-in-Ok-ran : goal.returns-in-Ok-ran
 returns-in-Ok-ran g c =
     let reports = c.in-Ok-ran.reports.items in
-    let lawful : IsLawful (with_options c.args.options c.in-Ok.job) reports = subst (λ (j : JobView). IsLawful j reports) c.with_options-job.ensures c.in-Ok-ran.ensures.lawful in
-    IfOk-weaker c.trace_reply.result _ _ (λ r h. rw (h.0, h.1, c.as_slice.ensures.value, c.with_options-job.ensures) (ran c.in-Ok.job reports (without_repeat c.args.options.repeat c.in_default.not-Some) c.in-Ok.ensures lawful)) c.trace_reply.ensures
+    let lawful : IsLawful (given_turns c.args.options.turns c.in-Ok.job) reports = subst (λ (j : JobView). IsLawful j reports) c.given_turns-job.ensures c.in-Ok-ran.ensures.lawful in
+    IfOk-weaker c.trace_reply.result _ _ (λ r h. rw (h.0, h.1, c.as_slice.ensures.value, c.given_turns-job.ensures) (ran c.in-Ok.job reports (without_repeat c.args.options.repeat c.in_default.not-Some) c.in-Ok.ensures lawful)) c.trace_reply.ensures
 
 pub returns : goal.returns
 returns g c =
     let f = c.in-Err-ran.failure in
-    let shown : IsShown (with_options c.args.options c.in-Ok.job) f = subst (λ (j : JobView). IsShown j f) c.with_options-job.ensures c.in-Err-ran.ensures.shown in
+    let shown : IsShown (given_turns c.args.options.turns c.in-Ok.job) f = subst (λ (j : JobView). IsShown j f) c.given_turns-job.ensures c.in-Err-ran.ensures.shown in
     IfOk-weaker c.failed-in-Err-ran.result _ _ (λ r h. rw (h.0, h.1) (run_failed c.in-Ok.job f _ c.in-Ok.ensures shown)) c.failed-in-Err-ran.ensures
