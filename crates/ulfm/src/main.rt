@@ -4,12 +4,12 @@
 use std::env;
 use std::io::ErrorKind;
 use std::process::ExitCode;
-use ulfm_program::{run_on, without_words};
+use ulfm_program::{run_each, without_words};
 
 fn main(rt: HostRuntime) -> ExitCode {
     let mut output = rt.stdout();
     let status = match words_of(&rt) {
-        Ok(words) => run_on(
+        Ok(words) => run_each(
             &rt,
             rt.alloc(),
             words.as_slice(),

@@ -53,7 +53,7 @@ where
     ensures known { (result ≤ 7) ⊎ (result ≡ 9) }
 {
     match asked_for(alloc, words) {
-        Ok(wanted) => follow(rt, alloc, wanted, input, output, errors),
+        Ok(asked) => follow(rt, alloc, asked.wanted, input, output, errors),
         Err(Unfollowed::Help(text)) => write_reply(output, DONE, text.as_bytes()),
         Err(Unfollowed::Usage(text)) => {
             let status = write_reply(output, USAGE, text.as_bytes());

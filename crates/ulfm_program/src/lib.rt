@@ -1,11 +1,13 @@
 //! The program without its `main`: words and a job's bytes in, a status and a trace out.
 //!
-//!     let status = run_on(&rt, alloc, words, &mut input, &mut output, &mut errors);
+//!     let status = run_each(&rt, alloc, words, &mut input, &mut output, &mut errors);
 //!
-//! What it writes is `IsReplyTo` of specs/Replies.antt: the reply to a job, for each of its commands.
+//! It calls [`run_on`] for each file that the words name, or for `input` where they name none. What that writes is `IsReplyTo` of
+//! specs/Replies.antt: the reply to a job, for each of the commands.
 #![tactic(auto)]
 
 mod app;
+mod files;
 mod listed;
 mod progress;
 mod reply;
@@ -15,3 +17,4 @@ mod tally;
 mod turns;
 
 pub use app::{run_on, without_words};
+pub use files::run_each;

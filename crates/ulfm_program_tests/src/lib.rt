@@ -9,6 +9,8 @@ mod broken;
 #[cfg(test)]
 mod explanations;
 #[cfg(test)]
+mod files;
+#[cfg(test)]
 mod kept;
 #[cfg(test)]
 mod notes;

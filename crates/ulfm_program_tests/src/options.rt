@@ -177,19 +177,19 @@ fn the_version_has_the_kit(rt: HostRuntime) -> Result<(), Fail> {
 #[test]
 fn the_help_of_each_command_has_an_example(rt: HostRuntime) {
     for (command, example) in [
-        ("check", "Example: ulfm check < jobs/one_letter.toml"),
+        ("check", "Example: ulfm check jobs/one_letter.toml"),
         (
             "replay",
-            "Example: ulfm replay --strict < jobs/one_letter.toml",
+            "Example: ulfm replay --strict jobs/one_letter.toml",
         ),
         (
             "run",
-            "Example: ulfm run --carrier lanes --turns 1000000 --repeat 20 < jobs/one_letter.toml",
+            "Example: ulfm run --carrier lanes --turns 1000000 --repeat 20 jobs/one_letter.toml",
         ),
-        ("sweep", "Example: ulfm sweep < jobs/recovery_of_three.toml"),
+        ("sweep", "Example: ulfm sweep jobs/recovery_of_three.toml"),
         (
             "outcomes",
-            "Example: ulfm outcomes --limit 100000 < jobs/one_letter.toml",
+            "Example: ulfm outcomes --limit 100000 jobs/one_letter.toml",
         ),
     ] {
         let (status, kept) = reply(&rt, &["ulfm", command, "--help"], "");

@@ -61,7 +61,7 @@ fn a_carrier_has_to_be_named(rt: HostRuntime) {
             &["ulfm", "run", "--help"],
             NO_STEPS,
             0,
-            "Runs the job on standard input, each rank in a thread of its own, and prints its trace\n\nUsage: ulfm run [OPTIONS] --carrier <CARRIER>\n"
+            "Runs a job, each rank in a thread of its own, and prints its trace\n\nUsage: ulfm run [OPTIONS] --carrier <CARRIER> [FILE]...\n"
         )
     );
 }

@@ -233,9 +233,9 @@ const WORDS: [(&[&str], u8, &str); 6] = [
         "error: unrecognized subcommand 'bogus'\n\nUsage: ulfm <COMMAND>\n",
     ),
     (
-        &["ulfm", "check", "x"],
+        &["ulfm", "check", "--x"],
         2,
-        "error: unexpected argument 'x' found\n",
+        "error: unexpected argument '--x' found\n",
     ),
     (
         &["ulfm", "help"],
@@ -250,7 +250,7 @@ const WORDS: [(&[&str], u8, &str); 6] = [
     (
         &["ulfm", "check", "--help"],
         0,
-        "Says whether the job on standard input can be run\n\nUsage: ulfm check\n",
+        "Says whether a job can be run\n\nUsage: ulfm check [FILE]...\n",
     ),
 ];
 

@@ -9,16 +9,20 @@ use Rattle.ulfm_replies.specs.declared.command.RunOptions.{RunOptions}
 use Rattle.ulfm_replies.specs.declared.command.Wanted.{Wanted}
 use Rattle.ulfm_replies.specs.declared.command.Wanted.TheVariants.{Check, Replay, Run, Sweep, Outcomes}
 use Rattle.clap.specs.ValueTests.{accepts}
-use Rattle.clap.specs.declared.builder.action.ArgAction.TheVariants.{SetTrue}
+use Rattle.clap.specs.declared.builder.action.ArgAction.TheVariants.{Append, SetTrue}
 use Rattle.clap.specs.declared.builder.value_parser.ValueParser.TheVariants.{Unsigned}
 use Rattle.clap.specs.declared.error.kind.ErrorKind.{ErrorKind}
 use Rattle.clap.specs.declared.error.kind.ErrorKind.TheVariants.{DisplayHelp, DisplayVersion, InvalidValue}
 use Rattle.clap.specs.Kinds.{or_else}
-use Rattle.clap.specs.Words.{App, Row, Rule, Text, Kinds, IsAmong, first_of, new_app, new_rule, subcommand_of, fault_of, with_rule, with_subcommand}
+use Rattle.clap.specs.Words.{App, Row, Rule, Text, Kinds, IsAmong, all_of, first_of, new_app, new_rule, subcommand_of, fault_of, with_rule, with_subcommand}
+
+-- the words that name files, as many as there are
+abbrev pub file_rule : Rule
+file_rule = record (new_rule (codes "file")) { value_names = 1; action = Some Append }
 
 -- the command `check`
 abbrev pub check_app : App
-check_app = new_app (codes "check")
+check_app = with_rule (new_app (codes "check")) file_rule
 
 -- the flag `--strict`
 abbrev pub strict_rule : Rule
@@ -54,15 +58,15 @@ turns_rule = number_rule (codes "turns") most_turns
 
 -- the command `replay` with its options
 abbrev pub replay_app : App
-replay_app = with_rule (with_rule (new_app (codes "replay")) strict_rule) turns_rule
+replay_app = with_rule (with_rule (with_rule (new_app (codes "replay")) strict_rule) turns_rule) file_rule
 
 -- the command `run` with its options
 abbrev pub run_app : App
-run_app = with_rule (with_rule (with_rule (with_rule (new_app (codes "run")) carrier_rule) strict_rule) turns_rule) (number_rule (codes "repeat") most_runs)
+run_app = with_rule (with_rule (with_rule (with_rule (with_rule (new_app (codes "run")) carrier_rule) strict_rule) turns_rule) (number_rule (codes "repeat") most_runs)) file_rule
 
 -- the command `sweep`
 abbrev pub sweep_app : App
-sweep_app = new_app (codes "sweep")
+sweep_app = with_rule (new_app (codes "sweep")) file_rule
 
 -- the most states that `--limit` can allow
 abbrev pub most_states : ℕ
@@ -78,7 +82,7 @@ progress_rule = record (new_rule (codes "progress")) { long = Some (codes "progr
 
 -- the command `outcomes` with its options
 abbrev pub outcomes_app : App
-outcomes_app = with_rule (with_rule (new_app (codes "outcomes")) (number_rule (codes "limit") most_states)) progress_rule
+outcomes_app = with_rule (with_rule (with_rule (new_app (codes "outcomes")) (number_rule (codes "limit") most_states)) progress_rule) file_rule
 
 -- the whole command line
 abbrev pub tool_app : App
@@ -145,6 +149,11 @@ named name rows =
 abbrev pub meant : Option (Text × List Row) → Option Wanted
 meant None = None
 meant (Some p) = named p.0 p.1
+
+-- the files that the words name, in their order
+abbrev pub files_in : Option (Text × List Row) → List Text
+files_in None = []
+files_in (Some p) = unwrap_or (all_of (codes "file") p.1) []
 
 -- the fault of words that mean no command, as where there is no carrier of that name
 abbrev pub unmeant : Option Wanted → Kinds

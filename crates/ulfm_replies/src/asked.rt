@@ -2,9 +2,9 @@
 ghost use Rattle.std.specs.Prelude.{◌≡◌, [], Some, map, IfErr, IfOk, OnOk};
 ghost use Rattle.clap.specs.Words.{kind_of};
 ghost use Rattle.ulfm_replies.specs.Asked.{IsTold, IsToldAs};
-ghost use Rattle.ulfm_replies.specs.CommandLine.{HasRanges, asked, faults, meant};
+ghost use Rattle.ulfm_replies.specs.CommandLine.{HasRanges, asked, faults, files_in, meant};
 
-use crate::command::{Wanted, wanted_of};
+use crate::command::{Asked, asked_of};
 use clap::Error;
 use clap::error::ErrorKind;
 use std::alloc::{AllocError, Global};
@@ -26,14 +26,15 @@ pub enum Unfollowed {
 /// # Errors
 ///
 /// What to write in place of a reply: help that is asked for, or what is wrong with the words. Or memory ran out.
-pub fn asked_for<S: AsStr>(alloc: Global, words: &[S]) -> Result<Wanted, Unfollowed>
-    ensures ok { IfOk result (λ wanted. meant (asked (map S.text words.now)) ≡ Some wanted) }
-    ensures ranges { IfOk result HasRanges }
+pub fn asked_for<'a, S: AsStr>(alloc: Global, words: &'a [S]) -> Result<Asked<'a>, Unfollowed>
+    ensures ok { IfOk result (λ a. meant (asked (map S.text words.now)) ≡ Some a.wanted) }
+    ensures files { IfOk result (λ a. map (λ f. f.now) a.files.items ≡ files_in (asked (map S.text words.now))) }
+    ensures ranges { IfOk result (λ a. HasRanges a.wanted) }
     ensures no_fault { OnOk result (faults (map S.text words.now) ≡ []) }
     ensures told { IfErr result (IsTold (faults (map S.text words.now))) }
 {
-    match wanted_of(alloc, words) {
-        Ok(wanted) => Ok(wanted),
+    match asked_of(alloc, words) {
+        Ok(asked) => Ok(asked),
         Err(error) => {
             if error.kind() == ErrorKind::OutOfMemory {
                 return Err(Unfollowed::OutOfMemory);

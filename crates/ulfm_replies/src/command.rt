@@ -1,14 +1,14 @@
 //! The command line.
-ghost use Rattle.std.specs.Prelude.{◌≡◌, false, Some, map, option_map, IfOk, IfSome};
+ghost use Rattle.std.specs.Prelude.{◌≡◌, [], codes, false, Some, map, option_map, unwrap_or, IfOk, IfSome};
 ghost use Rattle.clap.specs.declared.builder.command.Command.TheViews.{out-Command};
-ghost use Rattle.clap.specs.Words.{FailsBy, app_of, first_of, found_of, kind_of, rows_of, rule_of, subcommand_rows_of, with_subcommand};
-ghost use Rattle.ulfm_replies.specs.CommandLine.{AreInRange, HasRanges, asked, carrier_named, IsLimit, check_app, demanding_app, faults, is_flagged, is_strict, AreTurns, wants_progress, limit_in, meant, named, outcomes_app, replay_app, run_app, run_options, sweep_app, tool_app, turns_in};
+ghost use Rattle.clap.specs.Words.{FailsBy, all_of, app_of, first_of, found_of, kind_of, rows_of, rule_of, subcommand_rows_of, with_subcommand};
+ghost use Rattle.ulfm_replies.specs.CommandLine.{AreInRange, HasRanges, asked, carrier_named, IsLimit, check_app, demanding_app, faults, is_flagged, is_strict, AreTurns, wants_progress, files_in, limit_in, meant, named, outcomes_app, replay_app, run_app, run_options, sweep_app, tool_app, turns_in};
 
 use crate::help::HELP;
 use crate::number::number_given;
 use crate::options::{
-    MOST_RUNS, MOST_STATES, MOST_TURNS, USUAL_STATES, carrier_option, number_option, progress_flag,
-    strict_flag, turns_option,
+    MOST_RUNS, MOST_STATES, MOST_TURNS, USUAL_STATES, carrier_option, files, number_option,
+    progress_flag, strict_flag, turns_option,
 };
 use crate::version::VERSION;
 use clap::error::ErrorKind;
@@ -63,16 +63,29 @@ pub enum Wanted {
     },
 }
 
+/// What the words ask for, and of which files.
+#[derive(Drop)]
+pub struct Asked<'a> {
+    /// What they ask for, of each job.
+    pub wanted: Wanted,
+    /// The files that they name, in their order. Where there are none, the job comes on standard input.
+    pub files: Vec<&'a str>,
+}
+
 /// What the words ask for. An error is a wrong command line, or help or the version that is asked for.
-pub fn wanted_of<S: AsStr>(alloc: Global, words: &[S]) -> Result<Wanted, Error>
-    ensures ok { IfOk result (λ wanted. meant (asked (map S.text words.now)) ≡ Some wanted) }
-    ensures ranges { IfOk result HasRanges }
+pub fn asked_of<'a, S: AsStr>(alloc: Global, words: &'a [S]) -> Result<Asked<'a>, Error>
+    ensures wanted { IfOk result (λ a. meant (asked (map S.text words.now)) ≡ Some a.wanted) }
+    ensures files { IfOk result (λ a. map (λ f. f.now) a.files.items ≡ files_in (asked (map S.text words.now))) }
+    ensures ranges { IfOk result (λ a. HasRanges a.wanted) }
     ensures kinds { FailsBy (faults (map S.text words.now)) result }
 {
     let mut command = command_line(alloc)?;
     let matches = command.try_get_matches_from_mut(words)?;
     match wanted_in(&matches) {
-        Some(wanted) => Ok(wanted),
+        Some(wanted) => Ok(Asked {
+            wanted,
+            files: files_in(alloc, &matches)?,
+        }),
         None => Err(unknown_carrier(alloc, &mut command, &matches)?),
     }
 }
@@ -99,10 +112,10 @@ fn unknown_carrier(
 fn command_line<'a>(alloc: Global) -> Result<Command<'a>, AllocError>
     ensures { IfOk result (λ command. app_of command ≡ tool_app) }
 {
-    let command = bare_command(alloc).subcommand(check_command(alloc))?;
+    let command = bare_command(alloc).subcommand(check_command(alloc)?)?;
     let command = command.subcommand(replay_command(alloc)?)?;
     let command = command.subcommand(run_command(alloc)?)?;
-    let command = command.subcommand(sweep_command(alloc))?;
+    let command = command.subcommand(sweep_command(alloc)?)?;
     command.subcommand(outcomes_command(alloc)?)
 }
 
@@ -118,13 +131,14 @@ fn bare_command<'a>(alloc: Global) -> Command<'a>
 }
 
 /// The command `check`.
-fn check_command<'a>(alloc: Global) -> Command<'a>
-    ensures app { app_of result ≡ check_app }
-    ensures local { (out-Command result).has_globals ≡ false }
+fn check_command<'a>(alloc: Global) -> Result<Command<'a>, AllocError>
+    ensures app { IfOk result (λ command. app_of command ≡ check_app) }
+    ensures local { IfOk result (λ command. (out-Command command).has_globals ≡ false) }
 {
     Command::new(alloc, "check")
-        .about("Says whether the job on standard input can be run")
-        .after_help("Example: ulfm check < jobs/one_letter.toml")
+        .about("Says whether a job can be run")
+        .after_help("Example: ulfm check jobs/one_letter.toml")
+        .arg(files(alloc))
 }
 
 /// The command `replay` with its options.
@@ -133,10 +147,11 @@ fn replay_command<'a>(alloc: Global) -> Result<Command<'a>, AllocError>
     ensures local { IfOk result (λ command. (out-Command command).has_globals ≡ false) }
 {
     let command = Command::new(alloc, "replay")
-        .about("Plays the job on standard input round by round and prints its trace")
-        .after_help("Example: ulfm replay --strict < jobs/one_letter.toml")
+        .about("Plays a job round by round and prints its trace")
+        .after_help("Example: ulfm replay --strict jobs/one_letter.toml")
         .arg(strict_flag(alloc))?;
-    command.arg(turns_option(alloc))
+    let command = command.arg(turns_option(alloc))?;
+    command.arg(files(alloc))
 }
 
 /// The command `run` with its options.
@@ -145,11 +160,9 @@ fn run_command<'a>(alloc: Global) -> Result<Command<'a>, AllocError>
     ensures local { IfOk result (λ command. (out-Command command).has_globals ≡ false) }
 {
     let command = Command::new(alloc, "run")
-        .about(
-            "Runs the job on standard input, each rank in a thread of its own, and prints its trace",
-        )
+        .about("Runs a job, each rank in a thread of its own, and prints its trace")
         .after_help(
-            "Example: ulfm run --carrier lanes --turns 1000000 --repeat 20 < jobs/one_letter.toml",
+            "Example: ulfm run --carrier lanes --turns 1000000 --repeat 20 jobs/one_letter.toml",
         )
         .arg(carrier_option(alloc))?;
     let command = command.arg(strict_flag(alloc))?;
@@ -160,19 +173,19 @@ fn run_command<'a>(alloc: Global) -> Result<Command<'a>, AllocError>
         MOST_RUNS,
         "Runs the job so many times and prints each distinct trace once, with its count [1 to 10000]",
     );
-    command.arg(repeat)
+    let command = command.arg(repeat)?;
+    command.arg(files(alloc))
 }
 
 /// The command `sweep`.
-fn sweep_command<'a>(alloc: Global) -> Command<'a>
-    ensures app { app_of result ≡ sweep_app }
-    ensures local { (out-Command result).has_globals ≡ false }
+fn sweep_command<'a>(alloc: Global) -> Result<Command<'a>, AllocError>
+    ensures app { IfOk result (λ command. app_of command ≡ sweep_app) }
+    ensures local { IfOk result (λ command. (out-Command command).has_globals ≡ false) }
 {
     Command::new(alloc, "sweep")
-        .about(
-            "Replays the job on standard input with a stop at each place in turn and counts the answers",
-        )
-        .after_help("Example: ulfm sweep < jobs/recovery_of_three.toml")
+        .about("Replays a job with a stop at each place in turn and counts the answers")
+        .after_help("Example: ulfm sweep jobs/recovery_of_three.toml")
+        .arg(files(alloc))
 }
 
 /// The command `outcomes` with its options.
@@ -181,17 +194,16 @@ fn outcomes_command<'a>(alloc: Global) -> Result<Command<'a>, AllocError>
     ensures local { IfOk result (λ command. (out-Command command).has_globals ≡ false) }
 {
     let command = Command::new(alloc, "outcomes")
-        .about(
-            "Lists what each step of the job on standard input may be answered, over every schedule",
-        )
-        .after_help("Example: ulfm outcomes --limit 100000 < jobs/one_letter.toml")
+        .about("Lists what each step of a job may be answered, over every schedule")
+        .after_help("Example: ulfm outcomes --limit 100000 jobs/one_letter.toml")
         .arg(number_option(
             alloc,
             "limit",
             MOST_STATES,
             "Gives up past so many states [1 to 100000000; 1000000 if left out]",
         ))?;
-    command.arg(progress_flag(alloc))
+    let command = command.arg(progress_flag(alloc))?;
+    command.arg(files(alloc))
 }
 
 /// What the words ask for, by what was found in them.
@@ -249,6 +261,26 @@ fn turns_in(options: &ArgMatches<'_>) -> Option<u32>
     ensures range { AreTurns result }
 {
     number_given(value_of(options, "turns"), MOST_TURNS)
+}
+
+/// The files that the words name, by what was found in them.
+fn files_in<'a>(alloc: Global, matches: &ArgMatches<'a>) -> Result<Vec<&'a str>, AllocError>
+    ensures { IfOk result (λ files. map (λ f. f.now) files.items ≡ files_in (subcommand_rows_of matches.now)) }
+{
+    match matches.subcommand() {
+        Some((_, options)) => files_of(alloc, options),
+        None => Ok(Vec::new(alloc)),
+    }
+}
+
+/// The files among what was found of a command's options.
+fn files_of<'a>(alloc: Global, options: &ArgMatches<'a>) -> Result<Vec<&'a str>, AllocError>
+    ensures { IfOk result (λ files. map (λ f. f.now) files.items ≡ unwrap_or (all_of (codes "file") (rows_of (found_of options.now))) []) }
+{
+    match options.get_strs("file") {
+        Some(names) => Vec::from_slice(alloc, names),
+        None => Ok(Vec::new(alloc)),
+    }
 }
 
 /// The most states that are looked at: those of `--limit`, where it is given.

@@ -1,7 +1,8 @@
 //! What help says beside the commands and their options.
 
 /// What is shown below the commands.
-pub const HELP: &str = "A job is a TOML text on standard input:
+pub const HELP: &str =
+    "A job is a TOML text, in the files that are named, or else on standard input:
 
   ranks = 2
   capacity = 4

@@ -17,7 +17,7 @@ mod trace;
 mod version;
 
 pub use asked::{Unfollowed, asked_for};
-pub use command::{Carrier, RunOptions, Wanted};
+pub use command::{Asked, Carrier, RunOptions, Wanted};
 pub use failure::{Failure, failed, failure_of};
 pub use notes::{write_fault, write_notes};
 pub use reply::{

@@ -1,7 +1,7 @@
 //! The options of the commands.
 ghost use Rattle.std.specs.Prelude.{◌≡◌, false};
 ghost use Rattle.clap.specs.Words.{rule_of};
-ghost use Rattle.ulfm_replies.specs.CommandLine.{carrier_rule, number_rule, progress_rule, strict_rule, turns_rule};
+ghost use Rattle.ulfm_replies.specs.CommandLine.{carrier_rule, file_rule, number_rule, progress_rule, strict_rule, turns_rule};
 
 use clap::builder::ValueParser;
 use clap::{Arg, ArgAction};
@@ -18,6 +18,17 @@ pub const MOST_STATES: u32 = 100_000_000;
 
 /// The most states that are looked at where there is no `--limit`.
 pub const USUAL_STATES: u32 = 1_000_000;
+
+/// The files of jobs, as many as there are.
+pub fn files<'a>(alloc: Global) -> Arg<'a>
+    ensures rule { rule_of result ≡ file_rule }
+    ensures local { result.global ≡ false }
+{
+    Arg::new(alloc, "file")
+        .value_name("FILE")
+        .help("Jobs, each answered in turn; standard input where none is named")
+        .action(ArgAction::Append)
+}
 
 /// The option `--turns`.
 pub fn turns_option<'a>(alloc: Global) -> Arg<'a>

@@ -8,8 +8,8 @@ join a b = with_subcommand a b.top
 
 pub returns : goal.returns
 returns c =
-    let first = c.in_ok-command.ensures.shape c.check_command.ensures.local ∙ ap₂ join c.bare_command.ensures c.check_command.ensures.app in
+    let first = c.in_ok-command.ensures.shape c.in_ok-check_command.ensures.local ∙ ap₂ join c.bare_command.ensures c.in_ok-check_command.ensures.app in
     let second = c.in_ok-command-2.ensures.shape c.in_ok-replay_command.ensures.local ∙ ap₂ join first c.in_ok-replay_command.ensures.app in
     let third = c.in_ok-command-3.ensures.shape c.in_ok-run_command.ensures.local ∙ ap₂ join second c.in_ok-run_command.ensures.app in
-    let fourth = c.in_ok-command-4.ensures.shape c.sweep_command.ensures.local ∙ ap₂ join third c.sweep_command.ensures.app in
+    let fourth = c.in_ok-command-4.ensures.shape c.in_ok-sweep_command.ensures.local ∙ ap₂ join third c.in_ok-sweep_command.ensures.app in
     IfOk-weaker c.subcommand-5.result _ _ (λ r h. h.shape c.in_ok-outcomes_command.ensures.local ∙ ap₂ join fourth c.in_ok-outcomes_command.ensures.app) c.subcommand-5.ensures

@@ -7,4 +7,5 @@ pub returns-clause-app : goal.returns-clause-app
 returns-clause-app c =
     let about_is : app_of c.after_help.result ≡ new_app (codes "outcomes") = search rules in
     let first = c.in_ok-command.ensures.shape c.number_option.ensures.local ∙ ap₂ with_rule about_is c.number_option.ensures.rule in
-    IfOk-weaker c.arg-2.result _ _ (λ r h. h.shape c.progress_flag.ensures.local ∙ ap₂ with_rule first c.progress_flag.ensures.rule) c.arg-2.ensures
+    let second = c.in_ok-command-2.ensures.shape c.progress_flag.ensures.local ∙ ap₂ with_rule first c.progress_flag.ensures.rule in
+    IfOk-weaker c.arg-3.result _ _ (λ r h. h.shape c.files.ensures.local ∙ ap₂ with_rule second c.files.ensures.rule) c.arg-3.ensures

@@ -4,9 +4,9 @@ use Rattle.clap.specs.declared.error.kind.ErrorKind.TheVariants.{OutOfMemory}
 use Rattle.clap.specs.Kinds.{HasKind, or_else}
 use Rattle.clap.specs.Words.{App, Kinds, IsAmong, fault_of, is_simple, is_simple_and_free, subcommand_of}
 use Rattle.clap.proofs.OnLiterals.{clap_on_literals}
-use Rattle.ulfm_replies.specs.CommandLine.{tool_app, asked, faults, meant, unmeant}
+use Rattle.ulfm_replies.specs.CommandLine.{tool_app, asked, faults, files_in, meant, unmeant}
 use Rattle.ulfm_replies.proofs.Parsed.{among_first}
-use Rattle.ulfm_replies.proofs.command.wanted_of.Goals as goal
+use Rattle.ulfm_replies.proofs.command.asked_of.Goals as goal
 
 simple : is_simple tool_app ≡ true
 unfolding clap_on_literals
@@ -24,12 +24,19 @@ returns-in_err-matches-clause-kinds g c =
     let H : App → Type 0 = λ (a : App). (p.0.kind ≡ OutOfMemory) ⊎ IsAmong p.0.kind (fault_of a words) in
     rw (p.1) (among_first _ _ _ (subst H c.in_ok-command.ensures (rw (p.2) (c.in_err-matches.ensures.kinds (ap is_simple_and_free c.in_ok-command.ensures ∙ free)))))
 
-pub returns-in-Some-clause-ok : goal.returns-in-Some-clause-ok
+pub returns-in-Some-clause-wanted : goal.returns-in-Some-clause-wanted
 unfolding asked
-returns-in-Some-clause-ok g c =
+returns-in-Some-clause-wanted g c =
     let words = map g.S.AsStr.text c.args.words.now in
     let matched = c.in_ok-matches.ensures.ok.2 (ap is_simple c.in_ok-command.ensures ∙ simple) in
     sym (c.in-Some.ensures.exact ∙ ap meant (matched.1 ∙ ap (λ (a : App). subcommand_of a words) c.in_ok-command.ensures))
+
+pub returns-in-Some-clause-files : goal.returns-in-Some-clause-files
+unfolding asked
+returns-in-Some-clause-files g c =
+    let words = map g.S.AsStr.text c.args.words.now in
+    let matched = c.in_ok-matches.ensures.ok.2 (ap is_simple c.in_ok-command.ensures ∙ simple) in
+    c.in_ok-files_in-in-Some.ensures ∙ ap files_in (matched.1 ∙ ap (λ (a : App). subcommand_of a words) c.in_ok-command.ensures)
 
 pub returns-in-Some-clause-kinds : goal.returns-in-Some-clause-kinds
 unfolding faults asked

@@ -1,0 +1,134 @@
+//! Jobs by file.
+ghost use Rattle.std.specs.Prelude.{◌≢◌, ◌≡◌, ◌≤◌, ◌⊎◌, [], map, take, IfSome};
+ghost use Rattle.std.specs.Io.KnownBytes.{Keeps};
+ghost use Rattle.ulfm_program.specs.Replies.{IsReplyTo, IsWhole, GetsReply, GetsBeginning, GetsFront};
+ghost use Rattle.ulfm_replies.specs.declared.command.Wanted.{Wanted};
+ghost use Rattle.ulfm_replies.specs.CommandLine.{AsksFor, asked, files_in};
+
+use crate::app::run_on;
+use std::alloc::Global;
+use std::convert::AsStr;
+use std::fmt;
+use std::fs::File;
+use std::io::{Read, Write};
+use std::rt::Files;
+use std::sync::Wait;
+use std::thread::Threads;
+use ulfm_replies::{DONE, INPUT_FAILED, OUTPUT_FAILED, asked_for, write_whole};
+
+/// Follows the words for each file that they name, in turn, as `run_on` follows them with that file's bytes as its input, or for `input`
+/// where they name none. Above the answers of several files stands a line with each one's name. A file that can't be read has the status
+/// of an input that fails, and standard error names it. Answers the greatest status (docs/JOBS.md).
+pub fn run_each<T, S, R, W, E>(
+    rt: &T,
+    alloc: Global,
+    words: &[S],
+    input: &mut R,
+    output: &mut W,
+    errors: &mut E,
+) -> u8
+where
+    T: Files + Threads + Wait + Sync,
+    S: AsStr,
+    R: Read,
+    W: Write,
+    E: Write,
+    ensures replies { files_in (asked (map S.text words.now)) ≡ [] → (wanted : Wanted) → AsksFor wanted (map S.text words.now) → IsWhole result → IfSome (R.remaining input.old) (λ bytes.
+        GetsReply (IsReplyTo wanted (take 1048577 bytes)) (W.contents output.old) (W.contents output.new) result) }
+    ensures cut_off { files_in (asked (map S.text words.now)) ≡ [] → (wanted : Wanted) → AsksFor wanted (map S.text words.now) → result ≡ 4 → IfSome (R.remaining input.old) (λ bytes.
+        GetsBeginning (IsReplyTo wanted (take 1048577 bytes)) (W.contents output.old) (W.contents output.new)) }
+    ensures output_failed { files_in (asked (map S.text words.now)) ≡ [] → result ≡ 4 → GetsFront (W.contents output.old) (W.contents output.new) }
+    ensures input_failed { files_in (asked (map S.text words.now)) ≡ [] → result ≡ 5 → Keeps (W.contents output.old) (W.contents output.new) }
+    ensures known { (result ≤ 7) ⊎ (result ≡ 9) }
+{
+    if let Ok(asked) = asked_for(alloc, words) {
+        if !asked.files.is_empty() {
+            return run_files(rt, alloc, words, asked.files.as_slice(), output, errors);
+        }
+    }
+    run_on(rt, alloc, words, input, output, errors)
+}
+
+/// Follows the words for each of these files, and answers the greatest status.
+fn run_files<T, S, W, E>(
+    rt: &T,
+    alloc: Global,
+    words: &[S],
+    files: &[&str],
+    output: &mut W,
+    errors: &mut E,
+) -> u8
+where
+    T: Files + Threads + Wait + Sync,
+    S: AsStr,
+    W: Write,
+    E: Write,
+    ensures { (result ≤ 7) ⊎ (result ≡ 9) }
+{
+    let mut greatest = DONE;
+    for file in files {
+        let has_head = files.len() > 1;
+        let status = run_file(rt, alloc, words, file, has_head, output, errors);
+        if greatest < status {
+            greatest = status;
+        }
+        if status == OUTPUT_FAILED {
+            return greatest;
+        }
+    }
+    greatest
+}
+
+/// Follows the words for a file, below a line with its name where that is wanted, and answers the status.
+fn run_file<T, S, W, E>(
+    rt: &T,
+    alloc: Global,
+    words: &[S],
+    file: &str,
+    has_head: bool,
+    output: &mut W,
+    errors: &mut E,
+) -> u8
+where
+    T: Files + Threads + Wait + Sync,
+    S: AsStr,
+    W: Write,
+    E: Write,
+    ensures { (result ≤ 7) ⊎ (result ≡ 9) }
+{
+    if has_head && !write_head(file, output) {
+        return OUTPUT_FAILED;
+    }
+    match File::open(rt, file) {
+        Ok(mut opened) => {
+            let status = run_on(rt, alloc, words, &mut opened, output, errors);
+            if status == INPUT_FAILED {
+                write_unread(alloc, file, "the read failed", errors);
+            }
+            status
+        }
+        Err(error) => {
+            write_unread(alloc, file, error, errors);
+            INPUT_FAILED
+        }
+    }
+}
+
+/// Writes the line above the answer of a file, or a beginning of it.
+fn write_head<W: Write>(file: &str, output: &mut W) -> bool {
+    write_whole(output, b"== ")
+        && write_whole(output, file.as_bytes())
+        && write_whole(output, b"\n")
+}
+
+/// Tells that a file can't be read, and why. Where that finds no memory, nothing is told.
+fn write_unread<C: fmt::Display + Drop, E: Write>(
+    alloc: Global,
+    file: &str,
+    why: C,
+    errors: &mut E,
+) {
+    if let Ok(line) = format!(in alloc; "ulfm: '{file}' can't be read: {why}\n") {
+        let _is_written = write_whole(errors, line.as_bytes());
+    }
+}
