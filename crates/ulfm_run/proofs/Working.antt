@@ -35,6 +35,11 @@ pub went-after : {script : List Step} {turns : ℕ} (b : Bool) {u v : Player} (w
 went-after true w far h = (λ over. h.0 (far.over over), omega (arith, h.1, far.left))
 went-after false w far h = (h.0, omega (arith, h.1, far.left))
 
+-- what is over stays so
+pub stays-over : (script : List Step) (turns : ℕ) (b : Bool) (u v : Player) → IsOver script u → WentOn script turns u v b → IsOver script v
+stays-over script turns true u v over h = absurd (h.0 over)
+stays-over script turns false u v over h = h.0
+
 -- a rank that runs and has a poll left isn't over
 pub not-over : (script : List Step) (turns : ℕ) (p : Player) {n : ℕ} → is_stopped p.rank.log ≡ false → n < polls_left script turns p → ¬ IsOver script p
 not-over script turns p running falls over = elim over [
@@ -95,17 +100,23 @@ module _ {E N : Type 0} {name : E → N} {place count : E → ℕ} {pushed taken
     as_far = as-far (script_at job me) job.turns v.player w.player m.only m.stops;
   }
 
-  -- what keeps the rank at work is followed by what does so too
-  pub goes-on : {D B : Type 0} {board : D → B} {known : D → Known} {i : JobView} {s : ℕ} {u v w : PlayerView} {e f g : E} {c d b : D} (p : Bool) → i ≡ job → s ≡ me → Keeps name place count pushed taken ready board known job me u e c v f d → Keeps name place count pushed taken ready board known i s v f d w g b → WentOn (script_at i s) i.turns v.player w.player p →
-      Keeps name place count pushed taken ready board known job me u e c w g b × WentOn (script_at job me) job.turns v.player w.player p
-  goes-on {board = board} {known = known} {i} {u} {v} {w} {e} {f} {g} {c} {d} {b} p at_job at_rank h polls went =
-      let K : JobView → ℕ → Type 0 = λ (j : JobView) r. Keeps name place count pushed taken ready board known j r v f d w g b × WentOn (script_at j r) j.turns v.player w.player p in
-      let k = subst (λ (j : JobView). K j me) at_job (subst (λ r. K i r) at_rank (polls, went)) in
+  -- what keeps the rank at work is followed by what does so too, and what holds at a job and a number holds at equal ones
+  pub goes-on : {D B : Type 0} {board : D → B} {known : D → Known} {i : JobView} {s : ℕ} {u v w : PlayerView} {e f g : E} {c d b : D} (P : JobView → ℕ → Type 0) → i ≡ job → s ≡ me → Keeps name place count pushed taken ready board known job me u e c v f d → Keeps name place count pushed taken ready board known i s v f d w g b → P i s →
+      Keeps name place count pushed taken ready board known job me u e c w g b × P job me
+  goes-on {board = board} {known = known} {i} {u} {v} {w} {e} {f} {g} {c} {d} {b} P at_job at_rank h keeps holds =
+      let K : JobView → ℕ → Type 0 = λ (j : JobView) r. Keeps name place count pushed taken ready board known j r v f d w g b × P j r in
+      let k = subst (λ (j : JobView). K j me) at_job (subst (λ r. K i r) at_rank (keeps, holds)) in
       (keeps-then name place count pushed taken ready board known job me u v w e f g c d b h k.0, k.1)
+
+  -- what keeps the rank at work leaves it at work, at an equal job and number
+  pub works-on : {D B : Type 0} {board : D → B} {known : D → Known} {i : JobView} {s : ℕ} {v w : PlayerView} {e f : E} {d b : D} → i ≡ job → s ≡ me → Keeps name place count pushed taken ready board known job me v e d w f b → IsAtWork place count pushed taken ready job me v e → IsAtWork place count pushed taken ready i s w f
+  works-on {i = i} {w = w} {f = f} at_job at_rank keeps h =
+      let W : JobView → ℕ → Type 0 = λ (j : JobView) r. IsAtWork place count pushed taken ready j r w f in
+      subst (λ r. W i r) (sym at_rank) (subst (λ (j : JobView). W j me) (sym at_job) (keeps.at_work h))
 
   -- a turn: its parts before the poll, and the poll
   pub turned : {D B : Type 0} {board : D → B} {known : D → Known} {i : JobView} (s : ℕ) {u v w : PlayerView} {e f g : E} {c d b : D} (p : Bool) → i ≡ job → s ≡ me → Carries name place count pushed taken ready board known job me u e c v f d → Keeps name place count pushed taken ready board known i s v f d w g b → WentOn (script_at i s) i.turns v.player w.player p → WentOn (script_at job me) job.turns u.player w.player p
-  turned s {w = w} p at_job at_rank h polls went = went-after p w.player h.as_far (goes-on p at_job at_rank h.keeps polls went).1
+  turned s {v = v} {w} p at_job at_rank h polls went = went-after p w.player h.as_far (goes-on (λ (j : JobView) r. WentOn (script_at j r) j.turns v.player w.player p) at_job at_rank h.keeps polls went).1
 
   -- what was played is reported
   pub played : (v : PlayerView) (first : E) {e : E} (report : Report) → place first ≡ me → name e ≡ name first → IsAtWork place count pushed taken ready job me v e → HasFinished job me v.player → report.rank ≡ v.player.rank → report.steps ≡ v.player.done → IsPlayed name place count pushed taken ready job first report e

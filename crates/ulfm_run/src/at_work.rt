@@ -4,22 +4,28 @@ ghost use Rattle.ulfm_rank.specs.State.{outbox};
 ghost use Rattle.ulfm_job.specs.Job.{script_at};
 ghost use Rattle.ulfm_script.specs.Script.{HasFinished};
 ghost use Rattle.ulfm_run.specs.inside.Joined.{IsAtWork};
-ghost use Rattle.ulfm_run.specs.inside.Turns.{Keeps, WentOn};
+ghost use Rattle.ulfm_run.specs.inside.Turns.{IsOver, Keeps, WentOn};
 
+use crate::finished::Finished;
 use crate::polling::{next_played, poll};
 use crate::worker::Worker;
 use std::convert::Infallible;
 use std::sync::Wait;
+use std::sync::atomic::Ordering;
 use std::thread;
 use ulfm_board::Decider;
 use ulfm_carrier::Ends;
 use ulfm_script::{Hands, Job, turn};
+
+/// Once all ranks have finished, each ends after so many of its turns in a row that moved nothing.
+const STILL_TURNS: u32 = 100;
 
 /// The worker of the rank `me` at its job, with what it waits by.
 #[derive(Drop)]
 pub(crate) struct AtWork<'a, R, E, D> {
     pub(crate) rt: &'a R,
     pub(crate) job: &'a Job,
+    pub(crate) finished: &'a Finished,
     pub(crate) me: u8,
     pub(crate) worker: Worker<E, D>,
 }
@@ -115,36 +121,55 @@ impl<R: Wait, E: Ends, D: Decider> Hands for AtWork<'_, R, E, D> {
 }
 
 impl<R: Wait, E: Ends, D: Decider> AtWork<'_, R, E, D> {
-    /// Turn by turn, until so many of them found no step left as a step has polls. A rank that stopped goes on only until
-    /// nothing is left to go out.
+    /// Turn by turn through the steps, and then on for the others.
     pub(crate) fn go_through(&mut self)
         requires at_work { IsAtWork E.place E.count E.pushed E.taken E.ready self.old.job.now self.old.me self.old.worker.player self.old.worker.end }
         ensures keeps { Keeps E.name E.place E.count E.pushed E.taken E.ready D.board D.known self.old.job.now self.old.me self.old.worker.player self.old.worker.end self.old.worker.decider self.new.worker.player self.new.worker.end self.new.worker.decider }
         ensures done { HasFinished self.old.job.now self.old.me self.new.worker.player.player }
     {
-        let mut left = self.job.turns();
-        while left > 0 {
+        while let (_, true) = self.go_on() {}
+        self.finished.count.fetch_add(1, Ordering::SeqCst);
+        self.serve();
+    }
+
+    /// Turns without a step, for the others: until all ranks have finished and then `STILL_TURNS` in a row moved nothing. With the one
+    /// that found no step left they are at most as many as a step has polls. A rank that stopped goes on only until nothing is left to go
+    /// out.
+    fn serve(&mut self)
+        requires at_work { IsAtWork E.place E.count E.pushed E.taken E.ready self.old.job.now self.old.me self.old.worker.player self.old.worker.end }
+        requires over { IsOver (script_at self.old.job.now self.old.me) self.old.worker.player.player }
+        ensures keeps { Keeps E.name E.place E.count E.pushed E.taken E.ready D.board D.known self.old.job.now self.old.me self.old.worker.player self.old.worker.end self.old.worker.decider self.new.worker.player self.new.worker.end self.new.worker.decider }
+        ensures over { IsOver (script_at self.old.job.now self.old.me) self.new.worker.player.player }
+    {
+        let mut left = self.job.turns() - 1;
+        let mut still = 0;
+        while left > 0 && still < STILL_TURNS {
             if self.worker.player.is_stopped() && self.has_pushed_all() {
                 return;
             }
-            if !self.go_on() {
-                left -= 1;
-            }
+            let have_finished = self.finished.count.load(Ordering::SeqCst) >= self.job.ranks();
+            let (moved, _) = self.go_on();
+            still = if have_finished && !moved {
+                still + 1
+            } else {
+                0
+            };
+            left -= 1;
         }
     }
 
-    /// A turn. Whether a step was left to poll.
-    fn go_on(&mut self) -> bool
+    /// A turn. Whether items moved, and whether a step was left to poll.
+    fn go_on(&mut self) -> (bool, bool)
         requires at_work { IsAtWork E.place E.count E.pushed E.taken E.ready self.old.job.now self.old.me self.old.worker.player self.old.worker.end }
         ensures same_job { (self.new.job.now ≡ self.old.job.now) × (self.new.me ≡ self.old.me) }
         ensures keeps { Keeps E.name E.place E.count E.pushed E.taken E.ready D.board D.known self.old.job.now self.old.me self.old.worker.player self.old.worker.end self.old.worker.decider self.new.worker.player self.new.worker.end self.new.worker.decider }
-        ensures polls { WentOn (script_at self.old.job.now self.old.me) self.old.job.now.turns self.old.worker.player.player self.new.worker.player.player result }
+        ensures polls { WentOn (script_at self.old.job.now self.old.me) self.old.job.now.turns self.old.worker.player.player self.new.worker.player.player result.1 }
     {
         let Ok((moved, polled)) = turn(self);
         if !moved && !polled.unwrap_or(false) {
             thread::yield_now();
         }
-        polled.is_some()
+        (moved, polled.is_some())
     }
 
     /// Whether the outboxes towards all ranks hold nothing.

@@ -29,11 +29,12 @@ use ulfm_script::{Job, RankReport, RunFault};
 
 /// Runs a job: each rank goes through its script in a thread of its own, by the end and the decider at the place of its
 /// number. In a turn a rank pushes all that its outboxes hold and the inboxes have room for, takes one item, and polls its
-/// step once; a step that the job's last poll for it left open is given up. After its last step it goes on for as many
-/// turns without polls; where it stopped, it pushes alone, until nothing is left to go out. Then the decisions that ranks
-/// adopted, and the revocations that they took notice of, are held against what the ranks report. What is left in the inboxes
-/// is gathered, and the deciders are compared: no two know two decisions on one topic. No clause tells of threads, nor of the
-/// order in a turn (docs/LIMITS.md).
+/// step once; a step that the job's last poll for it left open is given up. After its last step it goes on for at most as many
+/// turns without polls, until all ranks have finished and then 100 turns in a row moved nothing; where it stopped, it pushes
+/// alone, until nothing is left to go out. Then the decisions that ranks adopted, and the revocations that they took notice of,
+/// are held against what the ranks report. What is left in the inboxes is gathered, and the deciders are compared: no two know
+/// two decisions on one topic. No clause tells of threads, nor of the order in a turn, nor how many turns there are
+/// (docs/LIMITS.md).
 ///
 /// # Errors
 ///

@@ -10,6 +10,7 @@ mod adopted;
 mod at_work;
 mod caused;
 mod comparing;
+mod finished;
 mod job;
 mod polling;
 mod report;

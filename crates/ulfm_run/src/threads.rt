@@ -6,10 +6,12 @@ ghost use Rattle.ulfm_run.specs.Fault.{Fits};
 ghost use Rattle.ulfm_run.specs.inside.Joined.{IsAtWork};
 ghost use Rattle.ulfm_run.specs.inside.Threads.{begun_ends, begun_deciders, IsOfJob, EachFresh, WerePlayed, GaveAnswers};
 
+use crate::finished::Finished;
 use crate::worker::{Ran, Worker};
 use std::alloc::Global;
 use std::snapshot::Snapshot;
 use std::sync::Wait;
+use std::sync::atomic::AtomicU8;
 use std::thread;
 use std::thread::{Promise, PromisedHandle, Scope, Threads};
 use ulfm_board::Decider;
@@ -73,6 +75,7 @@ fn start<'s, X: 's, E, D, R>(
     scope: &Scope<'s, X>,
     rt: &'s R,
     job: &'s Job,
+    finished: &'s Finished,
     me: u8,
     worker: Worker<E, D>,
 ) -> Option<PromisedHandle<Ran<E, D>, Begun<E, D>>>
@@ -91,7 +94,7 @@ where
         decider: Snapshot::of(&worker.decider),
     };
     scope
-        .spawn_with(begun, move || worker.play(rt, job, me))
+        .spawn_with(begun, move || worker.play(rt, job, finished, me))
         .ok()
 }
 
@@ -101,6 +104,7 @@ fn start_rank<'s, X: 's, E, D, R>(
     rt: &'s R,
     alloc: Global,
     job: &'s Job,
+    finished: &'s Finished,
     end: E,
     decider: D,
 ) -> Result<PromisedHandle<Ran<E, D>, Begun<E, D>>, Unplayed>
@@ -113,7 +117,7 @@ where
 {
     let me = end.me().number;
     let worker = new_worker(alloc, job, end, decider)?;
-    match start(scope, rt, job, me, worker) {
+    match start(scope, rt, job, finished, me, worker) {
         Some(handle) => Ok(handle),
         None => Err(Unplayed::NoThread),
     }
@@ -125,6 +129,7 @@ fn start_all<'s, X: 's, E, D, R>(
     rt: &'s R,
     alloc: Global,
     job: &'s Job,
+    finished: &'s Finished,
     ends: Vec<E>,
     deciders: Vec<D>,
     handles: Vec<PromisedHandle<Ran<E, D>, Begun<E, D>>>,
@@ -149,7 +154,7 @@ where
         let Some(decider) = deciders.next() else {
             unreachable!();
         };
-        match start_rank(scope, rt, alloc, job, end, decider) {
+        match start_rank(scope, rt, alloc, job, finished, end, decider) {
             Ok(handle) => handles.push_reserved(handle),
             Err(fault) => return (handles, Err(fault)),
         }
@@ -163,6 +168,7 @@ fn run_in<'s, X: 's, E, D, R>(
     rt: &'s R,
     alloc: Global,
     job: &'s Job,
+    finished: &'s Finished,
     ends: Vec<E>,
     deciders: Vec<D>,
 ) -> Result<Vec<Ran<E, D>>, Unplayed>
@@ -178,7 +184,7 @@ where
     let Ok(handles) = Vec::with_capacity(alloc, ends.len()) else {
         return Err(Unplayed::OutOfMemory);
     };
-    let (handles, started) = start_all(scope, rt, alloc, job, ends, deciders, handles);
+    let (handles, started) = start_all(scope, rt, alloc, job, finished, ends, deciders, handles);
     match thread::join_promised(rt, handles) {
         Ok(ran) => match started {
             Ok(()) => Ok(ran),
@@ -218,6 +224,10 @@ where
     ensures played { IfOk result (λ ran. WerePlayed E.name E.place E.count E.pushed E.taken E.ready D.board job.now ends.items deciders.items ran.items) }
     ensures answers { IfOk result (λ ran. All (GaveAnswers D.known) ran.items) }
 {
+    let none = Finished {
+        count: AtomicU8::new(0),
+    };
+    let finished = &none;
     thread::scope(
         thread::scope_env(),
         rt,
@@ -226,6 +236,6 @@ where
             requires fresh { EachFresh E.count E.pushed E.taken E.ready job.now.ranks ends.items }
             ensures played { IfOk result (λ ran. WerePlayed E.name E.place E.count E.pushed E.taken E.ready D.board job.entry.now ends.items deciders.items ran.items) }
             ensures answers { IfOk result (λ ran. All (GaveAnswers D.known) ran.items) }
-        { run_in(scope, rt, alloc, job, ends, deciders) },
+        { run_in(scope, rt, alloc, job, finished, ends, deciders) },
     )
 }

@@ -6,6 +6,7 @@ ghost use Rattle.ulfm_run.specs.inside.Joined.{IsAtWork};
 ghost use Rattle.ulfm_run.specs.inside.Played.{IsPlayed};
 
 use crate::at_work::AtWork;
+use crate::finished::Finished;
 use std::sync::Wait;
 use ulfm_board::Decider;
 use ulfm_carrier::Ends;
@@ -30,8 +31,9 @@ pub(crate) struct Ran<E, D> {
 }
 
 impl<E: Ends, D: Decider> Worker<E, D> {
-    /// Plays the script of the rank `me`, and what it still has to push and to take after it.
-    pub(crate) fn play<R: Wait>(self, rt: &R, job: &Job, me: u8) -> Ran<E, D>
+    /// Plays the script of the rank `me`, and what it still has to push and to take after it. `finished` counts the ranks of this run
+    /// that have finished their scripts.
+    pub(crate) fn play<R: Wait>(self, rt: &R, job: &Job, finished: &Finished, me: u8) -> Ran<E, D>
         requires place { E.place self.end ≡ me }
         requires at_work { IsAtWork E.place E.count E.pushed E.taken E.ready job.now me self.player self.end }
         requires honest { AnswersFollowSoFar (D.known self.decider) self.player.player }
@@ -42,6 +44,7 @@ impl<E: Ends, D: Decider> Worker<E, D> {
         let mut work = AtWork {
             rt,
             job,
+            finished,
             me,
             worker: self,
         };

@@ -11,7 +11,7 @@ closure = 117 ∷ 108 ∷ 102 ∷ 109 ∷ 95 ∷ 114 ∷ 117 ∷ 110 ∷ 58 ∷ 
 
 pub spawn_with-requires-send-F : goal.spawn_with-requires-send-F
 spawn_with-requires-send-F g c κs within =
-    param_send 2 _ (arg_send _ no _ (begun_send closure (named 6) (named 7) _ _ _ _ _ c.type_bounds.send-E c.type_bounds.send-D c.type_bounds.sync-R))
+    param_send 2 _ (arg_send _ no _ (begun_send closure (named 6) (named 7) (named 8) _ _ _ _ _ _ c.type_bounds.send-E c.type_bounds.send-D c.type_bounds.sync-R))
 
 pub spawn_with-requires-send-T : goal.spawn_with-requires-send-T
 spawn_with-requires-send-T g c κs within = param_send 3 _ (arg_send _ no _ (ran_send _ _ c.type_bounds.send-E c.type_bounds.send-D))

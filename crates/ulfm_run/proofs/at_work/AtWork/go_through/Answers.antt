@@ -1,21 +1,38 @@
-use Rattle.std.proofs.Common.{rules, ◌≡◌, Bool, false, arith, subst, ◌∙◌}
-use Rattle.ulfm_run.proofs.Common.{script_at, WentOn}
-use Rattle.ulfm_run.proofs.Working.{goes-on, has-answered}
+use Rattle.std.specs.Prelude.{⊤}
+use Rattle.std.proofs.Common.{rules, ◌≡◌, ℕ, Bool, true, subst, ◌∙◌}
+use Rattle.ulfm_run.proofs.Common.{JobView, script_at, WentOn}
+use Rattle.ulfm_run.proofs.Working.{goes-on, has-answered, works-on}
+use Rattle.ulfm_run.specs.inside.Turns.{IsOver}
 use Rattle.ulfm_run.proofs.at_work.AtWork.go_through.Goals as goal
 
-pub loop-left-preserved-then-not-go_on : goal.loop-left-preserved-then-not-go_on
-loop-left-preserved-then-not-go_on g c =
-    let over : c.go_on.result ≡ false = search rules in
-    let same = c.loop-left.invariant.same_job in
-    let W : Bool → Type 0 = λ (b : Bool). WentOn (script_at c.args.self.now.job.now c.args.self.now.me) c.args.self.now.job.now.turns c.loop-left.self.worker.player.player c.go_on.new.self.worker.player.player b in
-    let on = goes-on c.go_on.result same.0 same.1 c.loop-left.invariant.keeps c.go_on.ensures.keeps c.go_on.ensures.polls in
+pub loop-smaller : goal.loop-smaller
+loop-smaller g c =
+    let polled : c.go_on.result.1 ≡ true = search rules in
+    let same = c.loop.invariant.same_job in
+    let W : JobView → ℕ → Bool → Type 0 = λ (j : JobView) r b. WentOn (script_at j r) j.turns c.loop.self.worker.player.player c.go_on.new.self.worker.player.player b in
+    (subst (W c.args.self.now.job.now c.args.self.now.me) polled (goes-on (λ (j : JobView) r. W j r c.go_on.result.1) same.0 same.1 c.loop.invariant.keeps c.go_on.ensures.keeps c.go_on.ensures.polls).1).1
+
+pub loop-preserved : goal.loop-preserved
+loop-preserved g c =
+    let same = c.loop.invariant.same_job in
+    let on = goes-on (λ (j : JobView) r. ⊤) same.0 same.1 c.loop.invariant.keeps c.go_on.ensures.keeps tt in
     record {
       same_job = (c.go_on.ensures.same_job.0 ∙ same.0, c.go_on.ensures.same_job.1 ∙ same.1);
       keeps = on.0;
-      over = λ _. (subst W over on.1).0;
     }
 
-pub returns-clause-done : goal.returns-clause-done
-returns-clause-done g c =
-    has-answered (c.loop-left.invariant.keeps.at_work c.requires.at_work).follows
-    (c.loop-left.invariant.over (omega (arith, c.loop-left-test.false, c.turns-left.ensures.ranges.some_turn)))
+pub serve-requires-clause-at_work : goal.serve-requires-clause-at_work
+serve-requires-clause-at_work g c =
+    let same = c.loop.invariant.same_job in
+    let on = goes-on (λ (j : JobView) r. ⊤) same.0 same.1 c.loop.invariant.keeps c.go_on.ensures.keeps tt in
+    works-on (c.go_on.ensures.same_job.0 ∙ same.0) (c.go_on.ensures.same_job.1 ∙ same.1) on.0 c.requires.at_work
+
+pub returns : goal.returns
+returns g c =
+    let same = c.loop.invariant.same_job in
+    let on = goes-on (λ (j : JobView) r. ⊤) same.0 same.1 c.loop.invariant.keeps c.go_on.ensures.keeps tt in
+    let ends = goes-on (λ (j : JobView) r. IsOver (script_at j r) c.serve.new.self.worker.player.player) (c.go_on.ensures.same_job.0 ∙ same.0) (c.go_on.ensures.same_job.1 ∙ same.1) on.0 c.serve.ensures.keeps c.serve.ensures.over in
+    record {
+      keeps = ends.0;
+      done = has-answered (ends.0.at_work c.requires.at_work).follows ends.1;
+    }
