@@ -3,7 +3,8 @@
 //!     for explanation in explain(alloc, bytes)? { .. }
 //!
 //! [`explain`] tells why a job is refused, [`warnings`] what of a good one will be refused: ten of each at most. [`unmet_answers`] tells
-//! which answers of a trace aren't as their steps expect, [`unfinished_steps`] which of its steps are unfinished.
+//! which answers of a trace aren't as their steps expect, [`unfinished_steps`] which of its steps are unfinished,
+//! [`skipped_steps`] which steps of a list every schedule skips.
 #![tactic(auto)]
 
 mod answers;
@@ -37,6 +38,6 @@ pub use explanation::{Explanation, StepPlace};
 pub use place::Place;
 pub use rules::{Key, Kind, Rules};
 pub use shown::Shown;
-pub use unfinished::unfinished_steps;
+pub use unfinished::{skipped_steps, unfinished_steps};
 pub use unmet::unmet_answers;
 pub use warning::warnings;

@@ -1,12 +1,9 @@
-//! Which steps of a trace are unfinished.
+//! Which steps of a trace are unfinished, and which of a list every schedule skips.
 
 use crate::steps::steps_of;
 use crate::told::{push_step, table_of};
 use std::alloc::{AllocError, Global};
 use toml::Value;
-
-/// How the line of an unfinished step ends.
-const END: &str = ": unfinished";
 
 /// How many steps of a trace, or of several, are unfinished, and which, each once. Nothing where none is.
 ///
@@ -14,21 +11,49 @@ const END: &str = ": unfinished";
 ///
 /// `AllocError` where a growth was refused.
 pub fn unfinished_steps(alloc: Global, bytes: &[u8], trace: &str) -> Result<String, AllocError> {
-    if !trace.contains(END) {
+    let head = "unfinished steps, where MPI would hang";
+    steps_told(alloc, bytes, trace, ": unfinished", head)
+}
+
+/// How many steps of a list of outcomes every schedule skips, and which: branches that are never taken. Nothing where none is.
+///
+/// # Errors
+///
+/// `AllocError` where a growth was refused.
+pub fn skipped_steps(alloc: Global, bytes: &[u8], list: &str) -> Result<String, AllocError> {
+    let head = "steps that every schedule skips, so that their conditions never hold";
+    steps_told(alloc, bytes, list, ": skipped", head)
+}
+
+/// How many steps have a line with this end, behind a head, and which, each once.
+fn steps_told(
+    alloc: Global,
+    bytes: &[u8],
+    text: &str,
+    end: &str,
+    head: &str,
+) -> Result<String, AllocError> {
+    if !text.contains(end) {
         return Ok(String::new(alloc));
     }
     match table_of(alloc, bytes)? {
-        Some(table) => unfinished_of(alloc, steps_of(&table), trace),
+        Some(table) => lines_told(alloc, steps_of(&table), text, end, head),
         None => Ok(String::new(alloc)),
     }
 }
 
-/// The lines on the unfinished steps among these.
-fn unfinished_of(alloc: Global, steps: &[Value], trace: &str) -> Result<String, AllocError> {
+/// The lines on those among these steps whose line has this end.
+fn lines_told(
+    alloc: Global,
+    steps: &[Value],
+    text: &str,
+    end: &str,
+    head: &str,
+) -> Result<String, AllocError> {
     let mut notes = String::new(alloc);
     let mut count = 0_usize;
-    for line in trace.lines() {
-        if let Some(words) = line.strip_suffix(END) {
+    for line in text.lines() {
+        if let Some(words) = line.strip_suffix(end) {
             let mut note = String::new(alloc);
             push_step(&mut note, steps, words)?;
             note.push_str("\n")?;
@@ -41,5 +66,5 @@ fn unfinished_of(alloc: Global, steps: &[Value], trace: &str) -> Result<String, 
     if count == 0 {
         return Ok(notes);
     }
-    format!(in alloc; "unfinished steps, where MPI would hang: {count}\n{notes}")
+    format!(in alloc; "{head}: {count}\n{notes}")
 }

@@ -67,6 +67,12 @@ fn standard_error_says_more(rt: HostRuntime) -> Result<(), Fail> {
             0,
             "unfinished steps, where MPI would hang: 2\nrank 0 step 1 'commit': wait 0\nrank 1 step 0: shrink comm 0\n",
         ),
+        (
+            "outcomes",
+            "{rank = 0, op = \"ack\", count = 0}, {rank = 0, op = \"dup\", name = \"never\", if = {step = 0, is = [\"refused\"]}}",
+            0,
+            "steps that every schedule skips, so that their conditions never hold: 1\nrank 0 step 1 'never': dup comm 0\n",
+        ),
     ];
     for (command, steps, status, said) in rows {
         let (ended, errors) = noted(&rt, command, steps)?;

@@ -5,7 +5,9 @@ use crate::reply::{DONE, JOB_REFUSED, NOT_EXPECTED, PAST_LIMIT, Reply, UNFINISHE
 use crate::stream::write_whole;
 use std::alloc::{AllocError, Global};
 use std::io::Write;
-use ulfm_explain::{Explanation, explain, unfinished_steps, unmet_answers, warnings};
+use ulfm_explain::{
+    Explanation, explain, skipped_steps, unfinished_steps, unmet_answers, warnings,
+};
 
 /// Why a good job can't be swept.
 const NO_PLACE: &str =
@@ -73,6 +75,7 @@ fn notes_on(
             Ok(notes)
         }
         (PAST_LIMIT, _) => String::from_str(alloc, MANY_STATES),
+        (DONE, Wanted::Outcomes { .. }) => skipped_steps(alloc, bytes, reply.text.as_str()),
         (DONE | UNFINISHED, _) => unfinished_steps(alloc, bytes, reply.text.as_str()),
         _ => Ok(String::new(alloc)),
     }
