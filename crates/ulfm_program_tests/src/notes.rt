@@ -20,6 +20,10 @@ pub fn noted<R: AllocGlobal + Threads + Wait + Sync>(
     steps: &str,
 ) -> Result<(u8, Vec<u8>), AllocError> {
     let job = job_of(rt.alloc(), steps)?;
+    let mut words = vec![in rt.alloc(); "ulfm"]?;
+    for word in command.split(' ') {
+        words.push(word)?;
+    }
     let mut input = job.as_bytes();
     let mut output = Kept {
         bytes: [0; 4096],
@@ -29,7 +33,7 @@ pub fn noted<R: AllocGlobal + Threads + Wait + Sync>(
     let status = run_on(
         rt,
         rt.alloc(),
-        &["ulfm", command],
+        words.as_slice(),
         &mut input,
         &mut output,
         &mut errors,
@@ -72,6 +76,18 @@ fn standard_error_says_more(rt: HostRuntime) -> Result<(), Fail> {
             "{rank = 0, op = \"ack\", count = 0}, {rank = 0, op = \"dup\", name = \"never\", if = {step = 0, is = [\"refused\"]}}",
             0,
             "steps that every schedule skips, so that their conditions never hold: 1\nrank 0 step 1 'never': dup comm 0\n",
+        ),
+        (
+            "run --carrier lanes",
+            "{rank = 0, op = \"recv\"}, {rank = 0, op = \"wait\", req = 0}",
+            0,
+            "unfinished steps, where MPI would hang: 1\nrank 0 step 1: wait 0\nthreads poll fast, so the job's turns may be too few for a run: add --turns 1000000\n",
+        ),
+        (
+            "run --carrier shared --turns 20",
+            "{rank = 0, op = \"recv\"}, {rank = 0, op = \"wait\", req = 0}",
+            0,
+            "unfinished steps, where MPI would hang: 1\nrank 0 step 1: wait 0\n",
         ),
     ];
     for (command, steps, status, said) in rows {

@@ -1,6 +1,6 @@
 //! What standard error says beside a reply: for people, and none of it is promised.
 
-use crate::command::Wanted;
+use crate::command::{RunOptions, Wanted};
 use crate::reply::{DONE, JOB_REFUSED, NOT_EXPECTED, PAST_LIMIT, Reply, UNFINISHED};
 use crate::stream::write_whole;
 use std::alloc::{AllocError, Global};
@@ -20,6 +20,10 @@ const EMPTY: &str =
 /// What to do where a list is past its limit.
 const MANY_STATES: &str =
     "--limit allows up to 100000000 states; fewer ranks, steps or wildcards make fewer of them\n";
+
+/// What to do where a run with the turns of its job leaves steps unfinished.
+const FEW_TURNS: &str =
+    "threads poll fast, so the job's turns may be too few for a run: add --turns 1000000\n";
 
 /// The line for a job that is too large.
 const TOO_LARGE: &str = "job refused: J6\n";
@@ -70,13 +74,13 @@ fn notes_on(
         (DONE, Wanted::Check) => lines_of(alloc, "warning: ", &warnings(alloc, bytes)?),
         (NOT_EXPECTED, _) => {
             let mut notes = unmet_answers(alloc, bytes, reply.text.as_str())?;
-            let hangs = unfinished_steps(alloc, bytes, reply.text.as_str())?;
+            let hangs = hangs_in(alloc, wanted, bytes, reply.text.as_str())?;
             notes.push_str(hangs.as_str())?;
             Ok(notes)
         }
         (PAST_LIMIT, _) => String::from_str(alloc, MANY_STATES),
         (DONE, Wanted::Outcomes { .. }) => skipped_steps(alloc, bytes, reply.text.as_str()),
-        (DONE | UNFINISHED, _) => unfinished_steps(alloc, bytes, reply.text.as_str()),
+        (DONE | UNFINISHED, _) => hangs_in(alloc, wanted, bytes, reply.text.as_str()),
         _ => Ok(String::new(alloc)),
     }
 }
@@ -96,4 +100,13 @@ fn lines_of(alloc: Global, word: &str, found: &[Explanation]) -> Result<String, 
         write!(notes, "{word}{explanation}\n")?;
     }
     Ok(notes)
+}
+
+/// Which steps of the traces in a text are unfinished, and what to do about it in a run with the turns of its job.
+fn hangs_in(alloc: Global, wanted: Wanted, bytes: &[u8], text: &str) -> Result<String, AllocError> {
+    let mut hangs = unfinished_steps(alloc, bytes, text)?;
+    if !hangs.is_empty() && matches!(wanted, Wanted::Run(RunOptions { turns: None, .. })) {
+        hangs.push_str(FEW_TURNS)?;
+    }
+    Ok(hangs)
 }
