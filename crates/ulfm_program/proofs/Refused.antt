@@ -12,11 +12,12 @@ use Rattle.ulfm_run.specs.Fault.{ShowUntrue}
 use Rattle.ulfm_script.specs.Report.{Report}
 use Rattle.ulfm_script.specs.declared.fault.RunFault.{RunFault}
 use Rattle.ulfm_script.specs.declared.fault.RunFault.TheVariants as faults
+use Rattle.ulfm_json.specs.declared.form.Form.{Form}
 use Rattle.ulfm_replies.specs.declared.command.RunOptions.{RunOptions}
 use Rattle.ulfm_replies.specs.declared.command.Wanted.{Wanted}
 use Rattle.ulfm_replies.specs.declared.command.Wanted.TheVariants.{Check, Replay, Run, Sweep, Outcomes}
-use Rattle.ulfm_replies.specs.Failure.{failed_text, failure_of, out_of_memory_text}
-use Rattle.ulfm_replies.specs.Replies.{refused_text, starved}
+use Rattle.ulfm_replies.specs.Failure.{failed_in, failure_of, out_of_memory_in}
+use Rattle.ulfm_replies.specs.Replies.{refused_in, starved}
 use Rattle.ulfm_replies.specs.declared.failure.Failure.{Failure}
 use Rattle.ulfm_replies.specs.declared.failure.Failure.TheVariants as run
 use Rattle.ulfm_program.specs.Replies.{IsReplayReply, IsRunReply, IsReplyTo, IsWhole, GetsReply, GetsBeginning, not_a_job, no_room, failed, no_such_job, no_place, no_thread, untrue, fell, given_turns}
@@ -24,24 +25,24 @@ use Rattle.ulfm_program.specs.Outcomes.{unlisted}
 use Rattle.ulfm_program.specs.Sweep.{unswept}
 use Rattle.ulfm_program.specs.inside.Writing.{GetsFrontOf, IsShown}
 
-pub replay_refused : {is_strict : Bool} {turns : Option ℕ} (f : JobFault) (bytes : List ℕ) → (f ≢ OutOfMemory → job_of_bytes bytes ≡ Err f) → IsReplayReply is_strict turns bytes 1 (refused_text f)
+pub replay_refused : {form : Form} {is_strict : Bool} {turns : Option ℕ} (f : JobFault) (bytes : List ℕ) → (f ≢ OutOfMemory → job_of_bytes bytes ≡ Err f) → IsReplayReply form is_strict turns bytes 1 (refused_in form f)
 replay_refused NotToml bytes h = not_a_job _ (h (λ e. cc))
 replay_refused (InJob f) bytes h = not_a_job _ (h (λ e. cc))
 replay_refused (InStep f k) bytes h = not_a_job _ (h (λ e. cc))
 replay_refused TooLarge bytes h = not_a_job _ (h (λ e. cc))
 replay_refused OutOfMemory bytes h = no_room
 
-pub run_refused : {options : RunOptions} (f : JobFault) (bytes : List ℕ) → (f ≢ OutOfMemory → job_of_bytes bytes ≡ Err f) → IsRunReply options bytes 1 (refused_text f)
+pub run_refused : {form : Form} {options : RunOptions} (f : JobFault) (bytes : List ℕ) → (f ≢ OutOfMemory → job_of_bytes bytes ≡ Err f) → IsRunReply form options bytes 1 (refused_in form f)
 run_refused NotToml bytes h = no_such_job _ (h (λ e. cc))
 run_refused (InJob f) bytes h = no_such_job _ (h (λ e. cc))
 run_refused (InStep f k) bytes h = no_such_job _ (h (λ e. cc))
 run_refused TooLarge bytes h = no_such_job _ (h (λ e. cc))
 run_refused OutOfMemory bytes h = no_place
 
-pub run_failed : {options : RunOptions} (job : JobView) (f : Failure) (bytes : List ℕ) → job_of_bytes bytes ≡ Ok (plan_of job) → IsShown (given_turns options.turns job) f → IsRunReply options bytes 3 (failed_text f)
-run_failed job run.NoThread bytes h s = no_thread job h
-run_failed job run.OutOfMemory bytes h s = fell
-run_failed job run.Untrue bytes h s = untrue job s.0 h s.1
+pub run_failed : (form : Form) {options : RunOptions} (job : JobView) (f : Failure) (bytes : List ℕ) → job_of_bytes bytes ≡ Ok (plan_of job) → IsShown (given_turns options.turns job) f → IsRunReply form options bytes 3 (failed_in form f)
+run_failed form job run.NoThread bytes h s = no_thread job h
+run_failed form job run.OutOfMemory bytes h s = fell form
+run_failed form job run.Untrue bytes h s = untrue job s.0 h s.1
 
 -- the reports of a fault show the failure that it is
 pub shown : (job : JobView) (fault : RunFault) (f : Failure) → ((reports : Vec Report Global) → fault ≡ faults.Untrue reports → ShowUntrue job reports.items) → failure_of fault ≡ Some f → IsShown job f
@@ -53,22 +54,25 @@ shown job faults.OutOfMemory run.Untrue h e = absurd cc
 shown job faults.BadEnds run.Untrue h e = absurd cc
 
 -- out of memory is a reply to any words
-starved_reply : (wanted : Wanted) (bytes : List ℕ) → IsReplyTo wanted bytes 3 out_of_memory_text
-starved_reply Check bytes = starved
-starved_reply (Replay is_strict turns) bytes = failed
-starved_reply (Run options) bytes = fell
-starved_reply Sweep bytes = unswept
-starved_reply (Outcomes limit wants_progress) bytes = unlisted
+starved_reply : (told form : Form) (wanted : Wanted) (bytes : List ℕ) → IsReplyTo form wanted bytes 3 (out_of_memory_in told)
+starved_reply told form Check bytes = starved told
+starved_reply told form (Replay is_strict turns) bytes = failed told
+starved_reply told form (Run options) bytes = fell told
+starved_reply told form Sweep bytes = unswept told
+starved_reply told form (Outcomes limit wants_progress) bytes = unlisted told
 
-pub starved_gets : (wanted : Wanted) (most : ℕ) (rest old new : Option (List ℕ)) (status : ℕ) → (status ≢ 4 → (status ≡ 3) × Appends old new out_of_memory_text) → IsWhole status → IfSome rest (λ bytes. GetsReply (IsReplyTo wanted (take most bytes)) old new status)
-starved_gets wanted most None old new status h l = tt
-starved_gets wanted most (Some bytes) old new status h l =
-    let w = h l.0 in
-    (out_of_memory_text, subst (λ (k : ℕ). IsReplyTo wanted (take most bytes) k out_of_memory_text) (sym w.0) (starved_reply wanted (take most bytes)), w.1)
+pub starved_gets : (told form : Form) (wanted : Wanted) (most : ℕ) (rest old new : Option (List ℕ)) (status : ℕ) → (status ≢ 4 → (status ≡ 3) × Appends old new (out_of_memory_in told)) → IsWhole status → IfSome rest (λ bytes. GetsReply (IsReplyTo form wanted (take most bytes)) old new status)
+starved_gets told form wanted most None old new status h l = tt
+starved_gets told form wanted most (Some bytes) old new status h l =
+    let w = h l.0 in (
+      out_of_memory_in told,
+      subst (λ (k : ℕ). IsReplyTo form wanted (take most bytes) k (out_of_memory_in told)) (sym w.0) (starved_reply told form wanted (take most bytes)),
+      w.1,
+    )
 
-pub starved_begins : (wanted : Wanted) (most : ℕ) (rest old new : Option (List ℕ)) (status : ℕ) → (status ≡ 4 → GetsFrontOf old new out_of_memory_text) → status ≡ 4 → IfSome rest (λ bytes. GetsBeginning (IsReplyTo wanted (take most bytes)) old new)
-starved_begins wanted most None old new status h e = tt
-starved_begins wanted most (Some bytes) old new status h e = let f = h e in (3, out_of_memory_text, starved_reply wanted (take most bytes), f.0, f.1)
+pub starved_begins : (told form : Form) (wanted : Wanted) (most : ℕ) (rest old new : Option (List ℕ)) (status : ℕ) → (status ≡ 4 → GetsFrontOf old new (out_of_memory_in told)) → status ≡ 4 → IfSome rest (λ bytes. GetsBeginning (IsReplyTo form wanted (take most bytes)) old new)
+starved_begins told form wanted most None old new status h e = tt
+starved_begins told form wanted most (Some bytes) old new status h e = let f = h e in (3, out_of_memory_in told, starved_reply told form wanted (take most bytes), f.0, f.1)
 
 -- no number is given
 pub without_repeat : (o : Option ℕ) → ((n : ℕ) → o ≡ Some n → ⊥) → o ≡ None

@@ -8,7 +8,6 @@ use Rattle.std.proofs.lemmas.List.Sums.{fold-append}
 use Rattle.ulfm_job.specs.Job.{JobView}
 use Rattle.ulfm_script.specs.Reacting.{all_met}
 use Rattle.ulfm_script.specs.Report.{Report}
-use Rattle.ulfm_script.specs.Trace.{trace_of}
 use Rattle.ulfm_program.specs.declared.tally.Counted.{Counted}
 use Rattle.ulfm_program.specs.inside.Tallied.{row_of, rows_of}
 use Rattle.ulfm_program.specs.Tally.{Row, counted, tally}
@@ -39,8 +38,8 @@ found rows t i q p new lt read again is text count =
     ∙ sym (ap (λ xs. rows_of (take i rows) ++ counted (rows_of xs) t) (drop_more rows i q lt))
 
 -- one more run is one more trace
-pub one_more : (runs : List (List Report)) (reports : List Report) → tally (map trace_of (runs ++ reports ∷ [])) ≡ counted (tally (map trace_of runs)) (trace_of reports)
-one_more runs reports = ap tally (map-append trace_of runs (reports ∷ [])) ∙ fold-append counted [] (map trace_of runs) (trace_of reports ∷ [])
+pub one_more : (told : List Report → List ℕ) (runs : List (List Report)) (reports : List Report) → tally (map told (runs ++ reports ∷ [])) ≡ counted (tally (map told runs)) (told reports)
+one_more told runs reports = ap tally (map-append told runs (reports ∷ [])) ∙ fold-append counted [] (map told runs) (told reports ∷ [])
 
 -- and may be the one that left a step unfinished
 pub some_more : (runs : List (List Report)) (reports : List Report) → list_any has_unfinished (runs ++ reports ∷ []) ≡ (list_any has_unfinished runs || has_unfinished reports)

@@ -3,10 +3,11 @@ use Rattle.std.proofs.Common.{◌≡◌, ◌≢◌, ℕ, List, Err}
 use Rattle.ulfm_job.specs.declared.fault.JobFault.{JobFault}
 use Rattle.ulfm_job.specs.declared.fault.JobFault.TheVariants.{NotToml, InJob, InStep, TooLarge, OutOfMemory}
 use Rattle.ulfm_reader.specs.JobText.{job_of_bytes}
-use Rattle.ulfm_replies.specs.Replies.{refused_text}
+use Rattle.ulfm_json.specs.declared.form.Form.{Form}
+use Rattle.ulfm_replies.specs.Replies.{refused_in}
 use Rattle.ulfm_program.specs.Outcomes.{IsOutcomesReply, not_listed, no_memory_to_read}
 
-pub list_refused : {limit : ℕ} (f : JobFault) (bytes : List ℕ) → (f ≢ OutOfMemory → job_of_bytes bytes ≡ Err f) → IsOutcomesReply limit bytes 1 (refused_text f)
+pub list_refused : {form : Form} {limit : ℕ} (f : JobFault) (bytes : List ℕ) → (f ≢ OutOfMemory → job_of_bytes bytes ≡ Err f) → IsOutcomesReply form limit bytes 1 (refused_in form f)
 list_refused NotToml bytes h = not_listed _ (h (λ e. cc))
 list_refused (InJob f) bytes h = not_listed _ (h (λ e. cc))
 list_refused (InStep f k) bytes h = not_listed _ (h (λ e. cc))

@@ -9,11 +9,12 @@ use Rattle.ulfm_reader.specs.Plan.{plan_of}
 use Rattle.ulfm_world.specs.Sweep.{IsStarved}
 use Rattle.ulfm_world.specs.declared.fault.SweepFault.{SweepFault}
 use Rattle.ulfm_world.specs.declared.fault.SweepFault.TheVariants.{Job}
-use Rattle.ulfm_replies.specs.Replies.{refused_text}
+use Rattle.ulfm_json.specs.declared.form.Form.{Form}
+use Rattle.ulfm_replies.specs.Replies.{refused_in}
 use Rattle.ulfm_program.specs.Sweep.{IsSweepReply, unread, full, unmade}
 
 -- a text that is refused
-pub sweep_refused : (f : JobFault) (bytes : List ℕ) → (f ≢ OutOfMemory → job_of_bytes bytes ≡ Err f) → IsSweepReply bytes 1 (refused_text f)
+pub sweep_refused : {form : Form} (f : JobFault) (bytes : List ℕ) → (f ≢ OutOfMemory → job_of_bytes bytes ≡ Err f) → IsSweepReply form bytes 1 (refused_in form f)
 sweep_refused NotToml bytes h = unread _ (h (λ e. cc))
 sweep_refused (InJob f) bytes h = unread _ (h (λ e. cc))
 sweep_refused (InStep f k) bytes h = unread _ (h (λ e. cc))
@@ -26,9 +27,9 @@ only_memory f (inl e) = cc
 only_memory f (inr e) = absurd cc
 
 -- a good job that has too many steps, or whose stops find no memory
-pub sweep_unmade : {A : Type 0} (job : JobView) (f : JobFault) (x : SweepFault) (r : Result A SweepFault) (bytes : List ℕ) → job_of_bytes bytes ≡ Ok (plan_of job) → r ≡ Err x → x ≡ Job f
+pub sweep_unmade : {form : Form} {A : Type 0} (job : JobView) (f : JobFault) (x : SweepFault) (r : Result A SweepFault) (bytes : List ℕ) → job_of_bytes bytes ≡ Ok (plan_of job) → r ≡ Err x → x ≡ Job f
     → (step_count job.scripts ≡ 256 → r ≡ Err (Job TooLarge)) → (step_count job.scripts ≢ 256 → IsStarved x)
-    → IsSweepReply bytes 1 (refused_text f)
+    → IsSweepReply form bytes 1 (refused_in form f)
 sweep_unmade job f x r bytes h fails is many starved = elim (cases_eq (step_count job.scripts) 256) [
   | inl all ↦ let same : f ≡ TooLarge = cc (fails, is, many all) in rw same (full job h all)
   | inr few ↦ rw (only_memory f (rw is at (starved few))) unmade

@@ -10,18 +10,19 @@ use Rattle.ulfm_reader.specs.Plan.{plan_of}
 use Rattle.ulfm_reader.specs.JobText.{job_of_bytes}
 use Rattle.ulfm_script.specs.Reacting.{all_met}
 use Rattle.ulfm_script.specs.Report.{Report}
-use Rattle.ulfm_script.specs.Trace.{trace_of}
+use Rattle.ulfm_json.specs.Form.{trace_in}
+use Rattle.ulfm_json.specs.declared.form.Form.{Form}
 use Rattle.ulfm_laws.specs.Lawful.{IsLawful}
 use Rattle.ulfm_run.specs.Fault.{ShowUntrue}
 use Rattle.ulfm_world.specs.Replay.{IsReplayed, MadeAtRest}
 use Rattle.ulfm_program.specs.Outcomes.{IsOutcomesReply}
 use Rattle.ulfm_program.specs.Sweep.{IsSweepReply}
-use Rattle.ulfm_program.specs.Tally.{tally, tally_text}
+use Rattle.ulfm_program.specs.Tally.{tally, tally_in}
 use Rattle.ulfm_replies.specs.declared.command.RunOptions.{RunOptions}
 use Rattle.ulfm_replies.specs.declared.command.Wanted.{Wanted}
 use Rattle.ulfm_replies.specs.declared.command.Wanted.TheVariants.{Check, Replay, Run, Sweep, Outcomes}
-use Rattle.ulfm_replies.specs.Failure.{failed_text, out_of_memory_text}
-use Rattle.ulfm_replies.specs.Replies.{refused_text, IsCheckReply}
+use Rattle.ulfm_replies.specs.Failure.{failed_in, out_of_memory_in}
+use Rattle.ulfm_replies.specs.Replies.{refused_in, IsCheckReply}
 use Rattle.ulfm_replies.specs.Unfinished.{has_unfinished, played_status}
 use Rattle.ulfm_replies.specs.declared.failure.Failure.TheVariants as run
 
@@ -29,42 +30,42 @@ use Rattle.ulfm_replies.specs.declared.failure.Failure.TheVariants as run
 abbrev pub given_turns : Option ℕ → JobView → JobView
 given_turns turns job = option_map_or (λ n. with_turns n job) turns job
 
--- The status and the text that `replay` gives for these bytes: with 0 the trace of the reports of a replay of the job, which are lawful for it, and whose running
+-- The status and the text, in this form, that `replay` gives for these bytes: with 0 the trace of the reports of a replay of the job, which are lawful for it, and whose running
 -- ranks agree at its end on what failed and was revoked, on each shrink and on each agreement. With `--strict` it comes with 6
 -- exactly where a step was left unfinished. With `--turns` the job has that number of turns.
-pub data IsReplayReply (is_strict : Bool) (turns : Option ℕ) (bytes : List ℕ) : ℕ → List ℕ → Type 0 where
+pub data IsReplayReply (form : Form) (is_strict : Bool) (turns : Option ℕ) (bytes : List ℕ) : ℕ → List ℕ → Type 0 where
   traced : (job : JobView) (reports : List Report) → job_of_bytes bytes ≡ Ok (plan_of job) → IsReplayed (given_turns turns job) reports
       → IsLawful (given_turns turns job) reports → MadeAtRest (given_turns turns job) reports
-      → IsReplayReply is_strict turns bytes (played_status is_strict (all_met (given_turns turns job) reports) (has_unfinished reports)) (trace_of reports)
-  not_a_job : (f : JobFault) → job_of_bytes bytes ≡ Err f → IsReplayReply is_strict turns bytes 1 (refused_text f)
-  no_room : IsReplayReply is_strict turns bytes 1 (refused_text OutOfMemory)
-  failed : IsReplayReply is_strict turns bytes 3 out_of_memory_text
+      → IsReplayReply form is_strict turns bytes (played_status is_strict (all_met (given_turns turns job) reports) (has_unfinished reports)) (trace_in form bytes (given_turns turns job) reports)
+  not_a_job : (f : JobFault) → job_of_bytes bytes ≡ Err f → IsReplayReply form is_strict turns bytes 1 (refused_in form f)
+  no_room : IsReplayReply form is_strict turns bytes 1 (refused_in form OutOfMemory)
+  failed : (told : Form) → IsReplayReply form is_strict turns bytes 3 (out_of_memory_in told)
 
 -- The same for `run`: with 0, 6 or 9, the trace of reports that are lawful for the job, whichever thread went when; with 3 the
 -- line of what failed. F2 comes for a good job alone, and F4 only with reports of the job's ranks that
 -- show it. With `--repeat` each distinct trace of so many runs, each lawful, comes once with its count.
-pub data IsRunReply (options : RunOptions) (bytes : List ℕ) : ℕ → List ℕ → Type 0 where
+pub data IsRunReply (form : Form) (options : RunOptions) (bytes : List ℕ) : ℕ → List ℕ → Type 0 where
   ran : (job : JobView) (reports : List Report) → options.repeat ≡ None → job_of_bytes bytes ≡ Ok (plan_of job)
       → IsLawful (given_turns options.turns job) reports
-      → IsRunReply options bytes (played_status options.is_strict (all_met (given_turns options.turns job) reports) (has_unfinished reports)) (trace_of reports)
+      → IsRunReply form options bytes (played_status options.is_strict (all_met (given_turns options.turns job) reports) (has_unfinished reports)) (trace_in form bytes (given_turns options.turns job) reports)
   repeated : (job : JobView) (runs : List (List Report)) → options.repeat ≡ Some (length runs) → job_of_bytes bytes ≡ Ok (plan_of job)
       → All (IsLawful (given_turns options.turns job)) runs
-      → IsRunReply options bytes (played_status options.is_strict (list_all (all_met (given_turns options.turns job)) runs) (list_any has_unfinished runs)) (tally_text (length runs) (tally (map trace_of runs)))
-  no_such_job : (f : JobFault) → job_of_bytes bytes ≡ Err f → IsRunReply options bytes 1 (refused_text f)
-  no_place : IsRunReply options bytes 1 (refused_text OutOfMemory)
-  no_thread : (job : JobView) → job_of_bytes bytes ≡ Ok (plan_of job) → IsRunReply options bytes 3 (failed_text run.NoThread)
+      → IsRunReply form options bytes (played_status options.is_strict (list_all (all_met (given_turns options.turns job)) runs) (list_any has_unfinished runs)) (tally_in form (length runs) (tally (map (trace_in form bytes (given_turns options.turns job)) runs)))
+  no_such_job : (f : JobFault) → job_of_bytes bytes ≡ Err f → IsRunReply form options bytes 1 (refused_in form f)
+  no_place : IsRunReply form options bytes 1 (refused_in form OutOfMemory)
+  no_thread : (job : JobView) → job_of_bytes bytes ≡ Ok (plan_of job) → IsRunReply form options bytes 3 (failed_in form run.NoThread)
   untrue : (job : JobView) (reports : List Report) → job_of_bytes bytes ≡ Ok (plan_of job)
       → ShowUntrue (given_turns options.turns job) reports
-      → IsRunReply options bytes 3 (failed_text run.Untrue)
-  fell : IsRunReply options bytes 3 out_of_memory_text
+      → IsRunReply form options bytes 3 (failed_in form run.Untrue)
+  fell : (told : Form) → IsRunReply form options bytes 3 (out_of_memory_in told)
 
--- the reply to what the words ask for
-abbrev pub IsReplyTo : Wanted → List ℕ → ℕ → List ℕ → Type 0
-IsReplyTo Check bytes status text = IsCheckReply bytes status text
-IsReplyTo (Replay is_strict turns) bytes status text = IsReplayReply is_strict turns bytes status text
-IsReplyTo (Run options) bytes status text = IsRunReply options bytes status text
-IsReplyTo Sweep bytes status text = IsSweepReply bytes status text
-IsReplyTo (Outcomes limit wants_progress) bytes status text = IsOutcomesReply limit bytes status text
+-- The reply in this form to what the words ask for. Where memory runs out before the form is known, the line is in words.
+abbrev pub IsReplyTo : Form → Wanted → List ℕ → ℕ → List ℕ → Type 0
+IsReplyTo form Check bytes status text = IsCheckReply form bytes status text
+IsReplyTo form (Replay is_strict turns) bytes status text = IsReplayReply form is_strict turns bytes status text
+IsReplyTo form (Run options) bytes status text = IsRunReply form options bytes status text
+IsReplyTo form Sweep bytes status text = IsSweepReply form bytes status text
+IsReplyTo form (Outcomes limit wants_progress) bytes status text = IsOutcomesReply form limit bytes status text
 
 -- the line for words that can't be read
 abbrev pub not_text : List ℕ

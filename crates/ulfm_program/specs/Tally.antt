@@ -3,6 +3,8 @@ use Rattle.std.specs.Prelude.{ℕ, ◌+◌, List, [], ◌∷◌, ◌++◌, codes
 use Rattle.std.specs.Fmt.{decimal}
 use Rattle.std.specs.List.{flat_map}
 use Rattle.std.specs.Str.{bytes_eq}
+use Rattle.ulfm_json.specs.declared.form.Form.{Form}
+use Rattle.ulfm_json.specs.declared.form.Form.TheVariants.{Words, Json}
 
 -- a trace, and how many runs gave it
 abbrev pub Row : Type 0
@@ -21,6 +23,15 @@ tally traces = fold counted [] traces
 abbrev pub row_text : ℕ → Row → List ℕ
 row_text times row = decimal row.1 ++ codes " of " ++ decimal times ++ codes " runs:\n" ++ row.0
 
+-- the same, where the count is an object
+abbrev pub row_json : ℕ → Row → List ℕ
+row_json times row = codes "{\"count\":" ++ decimal row.1 ++ codes ",\"runs\":" ++ decimal times ++ codes "}\n" ++ row.0
+
+-- either, in this form
+abbrev pub row_in : Form → ℕ → Row → List ℕ
+row_in Words times row = row_text times row
+row_in Json times row = row_json times row
+
 -- all counts with their traces
-abbrev pub tally_text : ℕ → List Row → List ℕ
-tally_text times rows = flat_map (row_text times) rows
+abbrev pub tally_in : Form → ℕ → List Row → List ℕ
+tally_in form times rows = flat_map (row_in form times) rows

@@ -4,8 +4,8 @@ ghost use Rattle.std.specs.Io.KnownBytes.{Keeps, Appends};
 ghost use Rattle.ulfm_program.specs.Replies.{IsReplyTo, IsWhole, GetsReply, GetsBeginning, GetsFront, not_text};
 ghost use Rattle.ulfm_program.specs.inside.Writing.{GetsFrontOf};
 ghost use Rattle.ulfm_replies.specs.declared.command.Wanted.{Wanted};
-ghost use Rattle.ulfm_replies.specs.CommandLine.{AsksFor, HasRanges, faults, IsWordsStatus};
-ghost use Rattle.ulfm_replies.specs.Failure.{out_of_memory_text};
+ghost use Rattle.ulfm_replies.specs.CommandLine.{AsksFor, HasRanges, faults, form_asked, IsWordsStatus};
+ghost use Rattle.ulfm_replies.specs.Failure.{out_of_memory_in, out_of_memory_text};
 
 use crate::progress::Progress;
 use crate::reply::reply_to;
@@ -14,13 +14,11 @@ use std::convert::AsStr;
 use std::io::{Read, Write};
 use std::sync::Wait;
 use std::thread::Threads;
+use ulfm_json::Form;
 use ulfm_replies::{
-    DONE, INPUT_FAILED, InputFault, OUTPUT_FAILED, RUN_FAILED, USAGE, Unfollowed, Wanted,
-    asked_for, read_front, write_fault, write_notes, write_whole,
+    DONE, Failure, INPUT_FAILED, InputFault, OUTPUT_FAILED, RUN_FAILED, USAGE, Unfollowed, Wanted,
+    asked_for, failed_line, read_front, write_fault, write_notes, write_whole,
 };
-
-/// What is written where memory runs out outside the reading of a job.
-const STARVED: &[u8] = b"run failed: F3\n";
 
 /// What is written where a word can't be read.
 const NOT_TEXT: &str = "a word of the command line isn't UTF-8\n";
@@ -43,9 +41,9 @@ where
     W: Write,
     E: Write,
     ensures replies { (wanted : Wanted) → AsksFor wanted (map S.text words.now) → IsWhole result → IfSome (R.remaining input.old) (λ bytes.
-        GetsReply (IsReplyTo wanted (take 1048577 bytes)) (W.contents output.old) (W.contents output.new) result) }
+        GetsReply (IsReplyTo (form_asked (map S.text words.now)) wanted (take 1048577 bytes)) (W.contents output.old) (W.contents output.new) result) }
     ensures cut_off { (wanted : Wanted) → AsksFor wanted (map S.text words.now) → result ≡ 4 → IfSome (R.remaining input.old) (λ bytes.
-        GetsBeginning (IsReplyTo wanted (take 1048577 bytes)) (W.contents output.old) (W.contents output.new)) }
+        GetsBeginning (IsReplyTo (form_asked (map S.text words.now)) wanted (take 1048577 bytes)) (W.contents output.old) (W.contents output.new)) }
     ensures output_failed { result ≡ 4 → GetsFront (W.contents output.old) (W.contents output.new) }
     ensures input_failed { result ≡ 5 → Keeps (W.contents output.old) (W.contents output.new) }
     ensures words_first { result ≡ 2 → R.remaining input.new ≡ R.remaining input.old }
@@ -53,14 +51,14 @@ where
     ensures known { (result ≤ 7) ⊎ (result ≡ 9) }
 {
     match asked_for(alloc, words) {
-        Ok(asked) => follow(rt, alloc, asked.wanted, input, output, errors),
+        Ok(asked) => follow(rt, alloc, asked.form, asked.wanted, input, output, errors),
         Err(Unfollowed::Help(text)) => write_reply(output, DONE, text.as_bytes()),
         Err(Unfollowed::Usage(text)) => {
             let status = write_reply(output, USAGE, text.as_bytes());
             write_fault(alloc, text.as_str(), errors);
             status
         }
-        Err(Unfollowed::OutOfMemory) => write_reply(output, RUN_FAILED, STARVED),
+        Err(Unfollowed::OutOfMemory) => write_starved(output, Form::Words),
     }
 }
 
@@ -76,7 +74,7 @@ pub fn without_words<W: Write, E: Write>(
     ensures known { result ≤ 4 }
 {
     if is_starved {
-        return write_reply(output, RUN_FAILED, STARVED);
+        return write_starved(output, Form::Words);
     }
     let status = write_reply(output, USAGE, NOT_TEXT.as_bytes());
     write_fault(alloc, NOT_TEXT, errors);
@@ -87,6 +85,7 @@ pub fn without_words<W: Write, E: Write>(
 fn follow<T, R, W, E>(
     rt: &T,
     alloc: Global,
+    form: Form,
     wanted: Wanted,
     input: &mut R,
     output: &mut W,
@@ -99,9 +98,9 @@ where
     E: Write,
     requires { HasRanges wanted }
     ensures replies { IsWhole result → IfSome (R.remaining input.old) (λ bytes.
-        GetsReply (IsReplyTo wanted (take 1048577 bytes)) (W.contents output.old) (W.contents output.new) result) }
+        GetsReply (IsReplyTo form wanted (take 1048577 bytes)) (W.contents output.old) (W.contents output.new) result) }
     ensures cut_off { result ≡ 4 → IfSome (R.remaining input.old) (λ bytes.
-        GetsBeginning (IsReplyTo wanted (take 1048577 bytes)) (W.contents output.old) (W.contents output.new)) }
+        GetsBeginning (IsReplyTo form wanted (take 1048577 bytes)) (W.contents output.old) (W.contents output.new)) }
     ensures output_failed { result ≡ 4 → GetsFront (W.contents output.old) (W.contents output.new) }
     ensures input_failed { result ≡ 5 → Keeps (W.contents output.old) (W.contents output.new) }
     ensures no_usage { result ≢ 2 }
@@ -110,19 +109,29 @@ where
     let bytes = match read_front(alloc, input) {
         Ok(bytes) => bytes,
         Err(InputFault::Failed) => return INPUT_FAILED,
-        Err(InputFault::OutOfMemory) => return write_reply(output, RUN_FAILED, STARVED),
+        Err(InputFault::OutOfMemory) => return write_starved(output, form),
     };
     let mut progress = Progress::new(alloc, &mut *errors, wanted);
-    let told = reply_to(rt, alloc, wanted, bytes.as_slice(), &mut progress);
+    let told = reply_to(rt, alloc, form, wanted, bytes.as_slice(), &mut progress);
     progress.end();
     match told {
         Ok(reply) => {
             let status = write_reply(output, reply.status, reply.text.as_bytes());
-            write_notes(alloc, wanted, bytes.as_slice(), &reply, errors);
+            write_notes(alloc, form, wanted, bytes.as_slice(), &reply, errors);
             status
         }
-        Err(_) => write_reply(output, RUN_FAILED, STARVED),
+        Err(_) => write_starved(output, form),
     }
+}
+
+/// Writes that memory ran out, in this form, and answers the status of that, or of output that failed.
+fn write_starved<W: Write>(output: &mut W, form: Form) -> u8
+    ensures written { result ≢ 4 → (result ≡ 3) × Appends (W.contents output.old) (W.contents output.new) (out_of_memory_in form) }
+    ensures failed { result ≡ 4 → GetsFrontOf (W.contents output.old) (W.contents output.new) (out_of_memory_in form) }
+    ensures known { (result ≡ 3) ⊎ (result ≡ 4) }
+{
+    let line = failed_line(form, Failure::OutOfMemory);
+    write_reply(output, RUN_FAILED, line.as_bytes())
 }
 
 /// Writes a text, and answers the status of what it says, or of output that failed.

@@ -3,7 +3,7 @@ ghost use Rattle.std.specs.Prelude.{◌≢◌, ◌≡◌, ◌≤◌, ◌⊎◌, 
 ghost use Rattle.std.specs.Io.KnownBytes.{Keeps};
 ghost use Rattle.ulfm_program.specs.Replies.{IsReplyTo, IsWhole, GetsReply, GetsBeginning, GetsFront};
 ghost use Rattle.ulfm_replies.specs.declared.command.Wanted.{Wanted};
-ghost use Rattle.ulfm_replies.specs.CommandLine.{AsksFor, asked, files_in};
+ghost use Rattle.ulfm_replies.specs.CommandLine.{AsksFor, asked, files_in, form_asked};
 
 use crate::app::run_on;
 use std::alloc::Global;
@@ -34,9 +34,9 @@ where
     W: Write,
     E: Write,
     ensures replies { files_in (asked (map S.text words.now)) ≡ [] → (wanted : Wanted) → AsksFor wanted (map S.text words.now) → IsWhole result → IfSome (R.remaining input.old) (λ bytes.
-        GetsReply (IsReplyTo wanted (take 1048577 bytes)) (W.contents output.old) (W.contents output.new) result) }
+        GetsReply (IsReplyTo (form_asked (map S.text words.now)) wanted (take 1048577 bytes)) (W.contents output.old) (W.contents output.new) result) }
     ensures cut_off { files_in (asked (map S.text words.now)) ≡ [] → (wanted : Wanted) → AsksFor wanted (map S.text words.now) → result ≡ 4 → IfSome (R.remaining input.old) (λ bytes.
-        GetsBeginning (IsReplyTo wanted (take 1048577 bytes)) (W.contents output.old) (W.contents output.new)) }
+        GetsBeginning (IsReplyTo (form_asked (map S.text words.now)) wanted (take 1048577 bytes)) (W.contents output.old) (W.contents output.new)) }
     ensures output_failed { files_in (asked (map S.text words.now)) ≡ [] → result ≡ 4 → GetsFront (W.contents output.old) (W.contents output.new) }
     ensures input_failed { files_in (asked (map S.text words.now)) ≡ [] → result ≡ 5 → Keeps (W.contents output.old) (W.contents output.new) }
     ensures known { (result ≤ 7) ⊎ (result ≡ 9) }

@@ -10,6 +10,7 @@ use crate::turns::given_turns;
 use std::alloc::{AllocError, Global};
 use std::sync::Wait;
 use std::thread::Threads;
+use ulfm_json::Form;
 use ulfm_reach::Watch;
 use ulfm_reader::ReadJob;
 use ulfm_replies::{Reply, Wanted, check_reply, refusal, trace_reply};
@@ -19,27 +20,29 @@ use ulfm_world::replay;
 /// The reply of `replay`.
 fn replay_reply(
     alloc: Global,
+    form: Form,
     is_strict: bool,
     turns: Option<u32>,
     bytes: &[u8],
 ) -> Result<Reply, AllocError>
     requires { AreTurns turns }
-    ensures { IfOk result (λ r. IsReplayReply is_strict turns bytes.now r.status (string_bytes r.text)) }
+    ensures { IfOk result (λ r. IsReplayReply form is_strict turns bytes.now r.status (string_bytes r.text)) }
 {
     let job = match Job::read(alloc, bytes) {
         Ok(job) => given_turns(job, turns),
-        Err(fault) => return refusal(alloc, fault),
+        Err(fault) => return refusal(alloc, form, fault),
     };
     match replay(alloc, &job) {
-        Ok(reports) => trace_reply(alloc, is_strict, &job, reports.as_slice()),
+        Ok(reports) => trace_reply(alloc, form, is_strict, bytes, &job, reports.as_slice()),
         Err(_) => Err(AllocError),
     }
 }
 
-/// The reply to what the words ask for. `watch` is told how far a list of outcomes is.
+/// The reply to what the words ask for, in this form. `watch` is told how far a list of outcomes is.
 pub fn reply_to<R, P>(
     rt: &R,
     alloc: Global,
+    form: Form,
     wanted: Wanted,
     bytes: &[u8],
     watch: &mut P,
@@ -48,13 +51,13 @@ where
     R: Threads + Wait + Sync,
     P: Watch,
     requires { HasRanges wanted }
-    ensures { IfOk result (λ r. IsReplyTo wanted bytes.now r.status (string_bytes r.text)) }
+    ensures { IfOk result (λ r. IsReplyTo form wanted bytes.now r.status (string_bytes r.text)) }
 {
     match wanted {
-        Wanted::Check => check_reply(alloc, bytes),
-        Wanted::Replay { is_strict, turns } => replay_reply(alloc, is_strict, turns, bytes),
-        Wanted::Run(options) => run_reply(rt, alloc, options, bytes),
-        Wanted::Sweep => sweep_reply(alloc, bytes),
-        Wanted::Outcomes { limit, .. } => outcomes_reply(alloc, limit, bytes, watch),
+        Wanted::Check => check_reply(alloc, form, bytes),
+        Wanted::Replay { is_strict, turns } => replay_reply(alloc, form, is_strict, turns, bytes),
+        Wanted::Run(options) => run_reply(rt, alloc, form, options, bytes),
+        Wanted::Sweep => sweep_reply(alloc, form, bytes),
+        Wanted::Outcomes { limit, .. } => outcomes_reply(alloc, form, limit, bytes, watch),
     }
 }

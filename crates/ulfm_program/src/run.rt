@@ -21,35 +21,44 @@ use std::thread::Threads;
 use ulfm_base::CallError;
 use ulfm_board::{Decider, Seat, seats};
 use ulfm_carrier::{Ends, LaneEnds, SharedEnds, lanes, shared};
+use ulfm_json::Form;
 use ulfm_reader::ReadJob;
 use ulfm_replies::{Carrier, Failure, Reply, RunOptions, failed, failure_of, refusal, trace_reply};
 use ulfm_run::{Report, run_job};
 use ulfm_script::{Job, RankReport};
 
-/// The reply of `run` with these options.
+/// The reply of `run` with these options, in this form.
 pub fn run_reply<R: Threads + Wait + Sync>(
     rt: &R,
     alloc: Global,
+    form: Form,
     options: RunOptions,
     bytes: &[u8],
 ) -> Result<Reply, AllocError>
     requires { AreInRange options }
-    ensures { IfOk result (λ r. IsRunReply options bytes.now r.status (string_bytes r.text)) }
+    ensures { IfOk result (λ r. IsRunReply form options bytes.now r.status (string_bytes r.text)) }
 {
     let job = match Job::read(alloc, bytes) {
         Ok(job) => given_turns(job, options.turns),
-        Err(fault) => return refusal(alloc, fault),
+        Err(fault) => return refusal(alloc, form, fault),
     };
     if let Some(times) = options.repeat {
-        return match tally_of(rt, alloc, options.carrier, times, &job) {
-            Ok(tally) => tally_reply(alloc, options.is_strict, times, &tally),
-            Err(failure) => failed(alloc, failure),
+        return match tally_of(rt, alloc, options.carrier, form, bytes, times, &job) {
+            Ok(tally) => tally_reply(alloc, form, options.is_strict, times, &tally),
+            Err(failure) => failed(alloc, form, failure),
         };
     }
     let ran = run_by_carrier(rt, alloc, options.carrier, &job);
     match ran {
-        Ok(reports) => trace_reply(alloc, options.is_strict, &job, reports.as_slice()),
-        Err(failure) => failed(alloc, failure),
+        Ok(reports) => trace_reply(
+            alloc,
+            form,
+            options.is_strict,
+            bytes,
+            &job,
+            reports.as_slice(),
+        ),
+        Err(failure) => failed(alloc, form, failure),
     }
 }
 

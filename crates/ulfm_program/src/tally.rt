@@ -4,19 +4,20 @@ ghost use Rattle.std.specs.List.{list_all, list_any};
 ghost use Rattle.ulfm_laws.specs.Lawful.{IsLawful};
 ghost use Rattle.ulfm_script.specs.Reacting.{all_met};
 ghost use Rattle.ulfm_script.specs.Report.{Report};
-ghost use Rattle.ulfm_script.specs.Trace.{trace_of};
+ghost use Rattle.ulfm_json.specs.Form.{trace_in};
 ghost use Rattle.ulfm_program.specs.declared.tally.Counted.{Counted as Kept};
 ghost use Rattle.ulfm_program.specs.inside.Tallied.{row_of, rows_of};
 ghost use Rattle.ulfm_program.specs.inside.Writing.{IsShown};
-ghost use Rattle.ulfm_program.specs.Tally.{counted, row_text, tally, tally_text};
+ghost use Rattle.ulfm_program.specs.Tally.{counted, row_in, row_json, row_text, tally, tally_in};
 ghost use Rattle.ulfm_replies.specs.Unfinished.{has_unfinished, played_status};
 
 use crate::run::run_by_carrier;
 use std::alloc::{AllocError, Global};
 use std::sync::Wait;
 use std::thread::Threads;
+use ulfm_json::{Form, trace_in};
 use ulfm_replies::{Carrier, Failure, Reply, has_unfinished, played_status};
-use ulfm_script::{Job, all_met, trace_text};
+use ulfm_script::{Job, all_met};
 
 /// A trace, and how many runs gave it.
 #[derive(Drop)]
@@ -34,7 +35,7 @@ pub struct Tally {
     pub is_met: bool,
 }
 
-/// Runs a job so many times, and counts the traces.
+/// Runs a job so many times, and counts the traces in this form. The bytes are the job's text.
 ///
 /// # Errors
 ///
@@ -43,11 +44,13 @@ pub fn tally_of<R: Threads + Wait + Sync>(
     rt: &R,
     alloc: Global,
     carrier: Carrier,
+    form: Form,
+    bytes: &[u8],
     times: u32,
     job: &Job,
 ) -> Result<Tally, Failure>
     ensures runs { IfOk result (λ t. (runs : List (List Report)) × (length runs ≡ times) × All (IsLawful job.now) runs
-        × (t.is_unfinished ≡ list_any has_unfinished runs) × (t.is_met ≡ list_all (all_met job.now) runs) × (rows_of t.rows.items ≡ tally (map trace_of runs))) }
+        × (t.is_unfinished ≡ list_any has_unfinished runs) × (t.is_met ≡ list_all (all_met job.now) runs) × (rows_of t.rows.items ≡ tally (map (trace_in form bytes.now job.now) runs))) }
     ensures shown { IfErr result (λ failure. IsShown job.now failure) }
 {
     let mut tally = Tally {
@@ -57,7 +60,7 @@ pub fn tally_of<R: Threads + Wait + Sync>(
     };
     let mut done = 0;
     while done < times {
-        run_once(rt, alloc, carrier, job, &mut tally, done)?;
+        run_once(rt, alloc, carrier, form, bytes, job, &mut tally, done)?;
         done += 1;
     }
     Ok(tally)
@@ -68,6 +71,8 @@ fn run_once<R: Threads + Wait + Sync>(
     rt: &R,
     alloc: Global,
     carrier: Carrier,
+    form: Form,
+    bytes: &[u8],
     job: &Job,
     tally: &mut Tally,
     done: u32,
@@ -77,7 +82,7 @@ fn run_once<R: Threads + Wait + Sync>(
     ensures ran { OnOk result ((reports : List Report) × IsLawful job.now reports
         × (tally.new.is_unfinished ≡ (tally.old.is_unfinished || has_unfinished reports))
         × (tally.new.is_met ≡ (tally.old.is_met && all_met job.now reports))
-        × (rows_of tally.new.rows.items ≡ counted (rows_of tally.old.rows.items) (trace_of reports))) }
+        × (rows_of tally.new.rows.items ≡ counted (rows_of tally.old.rows.items) (trace_in form bytes.now job.now reports))) }
     ensures few { OnOk result (All (λ (row : Kept). row.count ≤ done + 1) tally.new.rows.items) }
     ensures shown { IfErr result (λ failure. IsShown job.now failure) }
 {
@@ -86,7 +91,7 @@ fn run_once<R: Threads + Wait + Sync>(
     let is_met = all_met(alloc, job, reports.as_slice());
     tally.is_unfinished = tally.is_unfinished | hangs;
     tally.is_met = tally.is_met & is_met;
-    match trace_text(alloc, reports.as_slice()) {
+    match trace_in(alloc, form, bytes, job, reports.as_slice()) {
         Ok(trace) => match count_trace(&mut tally.rows, trace, done) {
             Ok(()) => Ok(()),
             Err(_) => Err(Failure::OutOfMemory),
@@ -115,15 +120,16 @@ fn count_trace(rows: &mut Vec<Counted>, trace: String, done: u32) -> Result<(), 
 /// The counted traces as a reply, with its status.
 pub fn tally_reply(
     alloc: Global,
+    form: Form,
     is_strict: bool,
     times: u32,
     tally: &Tally,
 ) -> Result<Reply, AllocError>
-    ensures { IfOk result (λ r. (r.status ≡ played_status is_strict tally.now.is_met tally.now.is_unfinished) × (string_bytes r.text ≡ tally_text times (rows_of tally.now.rows.items))) }
+    ensures { IfOk result (λ r. (r.status ≡ played_status is_strict tally.now.is_met tally.now.is_unfinished) × (string_bytes r.text ≡ tally_in form times (rows_of tally.now.rows.items))) }
 {
     let mut text = String::new(alloc);
     for row in &tally.rows {
-        push_row(&mut text, times, row)?;
+        push_row(&mut text, form, times, row)?;
     }
     Ok(Reply {
         status: played_status(is_strict, tally.is_met, tally.is_unfinished),
@@ -131,9 +137,30 @@ pub fn tally_reply(
     })
 }
 
-/// A count and its trace.
-fn push_row(text: &mut String, times: u32, row: &Counted) -> Result<(), AllocError>
+/// A count and its trace, in this form.
+fn push_row(text: &mut String, form: Form, times: u32, row: &Counted) -> Result<(), AllocError>
+    ensures { OnOk result (string_bytes text.new ≡ string_bytes text.old ++ row_in form times (row_of row.now)) }
+{
+    match form {
+        Form::Words => push_words(text, times, row),
+        Form::Json => push_object(text, times, row),
+    }
+}
+
+/// A count in words, and its trace.
+fn push_words(text: &mut String, times: u32, row: &Counted) -> Result<(), AllocError>
     ensures { OnOk result (string_bytes text.new ≡ string_bytes text.old ++ row_text times (row_of row.now)) }
 {
     write!(text, "{} of {times} runs:\n{}", row.count, row.trace)
+}
+
+/// A count as an object, and its trace.
+fn push_object(text: &mut String, times: u32, row: &Counted) -> Result<(), AllocError>
+    ensures { OnOk result (string_bytes text.new ≡ string_bytes text.old ++ row_json times (row_of row.now)) }
+{
+    write!(
+        text,
+        "{{\"count\":{},\"runs\":{times}}}\n{}",
+        row.count, row.trace
+    )
 }

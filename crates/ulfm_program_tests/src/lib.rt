@@ -11,6 +11,8 @@ mod explanations;
 #[cfg(test)]
 mod files;
 #[cfg(test)]
+mod json;
+#[cfg(test)]
 mod kept;
 #[cfg(test)]
 mod notes;

@@ -8,6 +8,8 @@ use Rattle.ulfm_replies.specs.declared.command.Carrier.TheVariants.{Lanes, Share
 use Rattle.ulfm_replies.specs.declared.command.RunOptions.{RunOptions}
 use Rattle.ulfm_replies.specs.declared.command.Wanted.{Wanted}
 use Rattle.ulfm_replies.specs.declared.command.Wanted.TheVariants.{Check, Replay, Run, Sweep, Outcomes}
+use Rattle.ulfm_json.specs.declared.form.Form.{Form}
+use Rattle.ulfm_json.specs.declared.form.Form.TheVariants.{Words, Json}
 use Rattle.clap.specs.ValueTests.{accepts}
 use Rattle.clap.specs.declared.builder.action.ArgAction.TheVariants.{Append, SetTrue}
 use Rattle.clap.specs.declared.builder.value_parser.ValueParser.TheVariants.{Unsigned}
@@ -20,9 +22,17 @@ use Rattle.clap.specs.Words.{App, Row, Rule, Text, Kinds, IsAmong, all_of, first
 abbrev pub file_rule : Rule
 file_rule = record (new_rule (codes "file")) { value_names = 1; action = Some Append }
 
+-- the flag `--json`
+abbrev pub json_rule : Rule
+json_rule = record (new_rule (codes "json")) { long = Some (codes "json"); action = Some SetTrue }
+
+-- a command with what each of them has: the flag `--json`, and files
+abbrev pub of_jobs : App → App
+of_jobs app = with_rule (with_rule app json_rule) file_rule
+
 -- the command `check`
 abbrev pub check_app : App
-check_app = with_rule (new_app (codes "check")) file_rule
+check_app = of_jobs (new_app (codes "check"))
 
 -- the flag `--strict`
 abbrev pub strict_rule : Rule
@@ -58,15 +68,15 @@ turns_rule = number_rule (codes "turns") most_turns
 
 -- the command `replay` with its options
 abbrev pub replay_app : App
-replay_app = with_rule (with_rule (with_rule (new_app (codes "replay")) strict_rule) turns_rule) file_rule
+replay_app = of_jobs (with_rule (with_rule (new_app (codes "replay")) strict_rule) turns_rule)
 
 -- the command `run` with its options
 abbrev pub run_app : App
-run_app = with_rule (with_rule (with_rule (with_rule (with_rule (new_app (codes "run")) carrier_rule) strict_rule) turns_rule) (number_rule (codes "repeat") most_runs)) file_rule
+run_app = of_jobs (with_rule (with_rule (with_rule (with_rule (new_app (codes "run")) carrier_rule) strict_rule) turns_rule) (number_rule (codes "repeat") most_runs))
 
 -- the command `sweep`
 abbrev pub sweep_app : App
-sweep_app = with_rule (new_app (codes "sweep")) file_rule
+sweep_app = of_jobs (new_app (codes "sweep"))
 
 -- the most states that `--limit` can allow
 abbrev pub most_states : ℕ
@@ -82,7 +92,7 @@ progress_rule = record (new_rule (codes "progress")) { long = Some (codes "progr
 
 -- the command `outcomes` with its options
 abbrev pub outcomes_app : App
-outcomes_app = with_rule (with_rule (with_rule (new_app (codes "outcomes")) (number_rule (codes "limit") most_states)) progress_rule) file_rule
+outcomes_app = of_jobs (with_rule (with_rule (new_app (codes "outcomes")) (number_rule (codes "limit") most_states)) progress_rule)
 
 -- the whole command line
 abbrev pub tool_app : App
@@ -154,6 +164,19 @@ meant (Some p) = named p.0 p.1
 abbrev pub files_in : Option (Text × List Row) → List Text
 files_in None = []
 files_in (Some p) = unwrap_or (all_of (codes "file") p.1) []
+
+-- the form that a command's options ask for
+abbrev pub form_of : List Row → Form
+form_of rows = if is_flagged (codes "json") rows then Json else Words
+
+-- the form that the subcommand's options ask for
+abbrev pub form_in : Option (Text × List Row) → Form
+form_in None = Words
+form_in (Some p) = form_of p.1
+
+-- the form in which the words want what came of a job
+abbrev pub form_asked : List Text → Form
+form_asked words = form_in (asked words)
 
 -- the fault of words that mean no command, as where there is no carrier of that name
 abbrev pub unmeant : Option Wanted → Kinds

@@ -6,9 +6,11 @@ use Rattle.ulfm_job.specs.declared.fault.Fault.TheVariants.{BadKey, UnknownKey, 
 use Rattle.ulfm_job.specs.declared.fault.JobFault.{JobFault}
 use Rattle.ulfm_job.specs.declared.fault.JobFault.TheVariants.{NotToml, InJob, InStep, TooLarge, OutOfMemory}
 use Rattle.ulfm_job.specs.Job.{JobView, step_count}
-use Rattle.ulfm_reader.specs.JobText.{job_of_bytes}
 use Rattle.ulfm_reader.specs.Plan.{plan_of}
-use Rattle.ulfm_replies.specs.Failure.{out_of_memory_text}
+use Rattle.ulfm_reader.specs.JobText.{job_of_bytes}
+use Rattle.ulfm_json.specs.declared.form.Form.{Form}
+use Rattle.ulfm_json.specs.declared.form.Form.TheVariants.{Words, Json}
+use Rattle.ulfm_replies.specs.Failure.{out_of_memory_in}
 
 -- how a fault of a table of keys is printed
 abbrev pub fault_text : Fault → List ℕ
@@ -29,14 +31,40 @@ job_fault_text OutOfMemory = codes "J7"
 abbrev pub refused_text : JobFault → List ℕ
 refused_text f = codes "job refused: " ++ job_fault_text f ++ codes "\n"
 
+-- the keys of a refusal of a job
+abbrev pub job_fault_json : JobFault → List ℕ
+job_fault_json NotToml = codes "\"J1\""
+job_fault_json (InJob f) = codes "\"" ++ fault_text f ++ codes "\""
+job_fault_json (InStep f k) = codes "\"" ++ fault_text f ++ codes "\",\"step\":" ++ decimal k
+job_fault_json TooLarge = codes "\"J6\""
+job_fault_json OutOfMemory = codes "\"J7\""
+
+-- the object for a job that is refused
+abbrev pub refused_json : JobFault → List ℕ
+refused_json f = codes "{\"refused\":" ++ job_fault_json f ++ codes "}\n"
+
+-- either, in this form
+abbrev pub refused_in : Form → JobFault → List ℕ
+refused_in Words f = refused_text f
+refused_in Json f = refused_json f
+
 -- the line for a good job
 unfoldable pub good_line : ℕ → ℕ → List ℕ
 good_line ranks steps = codes "job ok: " ++ decimal ranks ++ codes " ranks " ++ decimal steps ++ codes " steps\n"
 
--- The status and the text that `check` gives for these bytes: the line of their job with 0, of its refusal with 1,
+-- the object for a good job
+unfoldable pub good_json : ℕ → ℕ → List ℕ
+good_json ranks steps = codes "{\"job\":\"ok\",\"ranks\":" ++ decimal ranks ++ codes ",\"steps\":" ++ decimal steps ++ codes "}\n"
+
+-- either, in this form
+abbrev pub good_in : Form → ℕ → ℕ → List ℕ
+good_in Words ranks steps = good_line ranks steps
+good_in Json ranks steps = good_json ranks steps
+
+-- The status and the text, in this form, that `check` gives for these bytes: the line of their job with 0, of its refusal with 1,
 -- which may be J7, or with 3 the line that memory ran out.
-pub data IsCheckReply (bytes : List ℕ) : ℕ → List ℕ → Type 0 where
-  good : (job : JobView) → job_of_bytes bytes ≡ Ok (plan_of job) → IsCheckReply bytes 0 (good_line job.ranks (step_count job.scripts))
-  refused : (f : JobFault) → job_of_bytes bytes ≡ Err f → IsCheckReply bytes 1 (refused_text f)
-  no_memory : IsCheckReply bytes 1 (refused_text OutOfMemory)
-  starved : IsCheckReply bytes 3 out_of_memory_text
+pub data IsCheckReply (form : Form) (bytes : List ℕ) : ℕ → List ℕ → Type 0 where
+  good : (job : JobView) → job_of_bytes bytes ≡ Ok (plan_of job) → IsCheckReply form bytes 0 (good_in form job.ranks (step_count job.scripts))
+  refused : (f : JobFault) → job_of_bytes bytes ≡ Err f → IsCheckReply form bytes 1 (refused_in form f)
+  no_memory : IsCheckReply form bytes 1 (refused_in form OutOfMemory)
+  starved : (told : Form) → IsCheckReply form bytes 3 (out_of_memory_in told)

@@ -2,7 +2,7 @@
 ghost use Rattle.std.specs.Prelude.{◌≡◌, [], Some, map, IfErr, IfOk, OnOk};
 ghost use Rattle.clap.specs.Words.{kind_of};
 ghost use Rattle.ulfm_replies.specs.Asked.{IsTold, IsToldAs};
-ghost use Rattle.ulfm_replies.specs.CommandLine.{HasRanges, asked, faults, files_in, meant};
+ghost use Rattle.ulfm_replies.specs.CommandLine.{HasRanges, asked, faults, files_in, form_asked, meant};
 
 use crate::command::{Asked, asked_of};
 use clap::Error;
@@ -28,6 +28,7 @@ pub enum Unfollowed {
 /// What to write in place of a reply: help that is asked for, or what is wrong with the words. Or memory ran out.
 pub fn asked_for<'a, S: AsStr>(alloc: Global, words: &'a [S]) -> Result<Asked<'a>, Unfollowed>
     ensures ok { IfOk result (λ a. meant (asked (map S.text words.now)) ≡ Some a.wanted) }
+    ensures form { IfOk result (λ a. a.form ≡ form_asked (map S.text words.now)) }
     ensures files { IfOk result (λ a. map (λ f. f.now) a.files.items ≡ files_in (asked (map S.text words.now))) }
     ensures ranges { IfOk result (λ a. HasRanges a.wanted) }
     ensures no_fault { OnOk result (faults (map S.text words.now) ≡ []) }

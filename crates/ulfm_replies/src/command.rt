@@ -2,19 +2,20 @@
 ghost use Rattle.std.specs.Prelude.{◌≡◌, [], codes, false, Some, map, option_map, unwrap_or, IfOk, IfSome};
 ghost use Rattle.clap.specs.declared.builder.command.Command.TheViews.{out-Command};
 ghost use Rattle.clap.specs.Words.{FailsBy, all_of, app_of, first_of, found_of, kind_of, rows_of, rule_of, subcommand_rows_of, with_subcommand};
-ghost use Rattle.ulfm_replies.specs.CommandLine.{AreInRange, HasRanges, asked, carrier_named, IsLimit, check_app, demanding_app, faults, is_flagged, is_strict, AreTurns, wants_progress, files_in, limit_in, meant, named, outcomes_app, replay_app, run_app, run_options, sweep_app, tool_app, turns_in};
+ghost use Rattle.ulfm_replies.specs.CommandLine.{AreInRange, HasRanges, asked, carrier_named, IsLimit, check_app, demanding_app, faults, form_asked, form_in, form_of, is_flagged, is_strict, AreTurns, wants_progress, files_in, limit_in, meant, named, of_jobs, outcomes_app, replay_app, run_app, run_options, sweep_app, tool_app, turns_in};
 
 use crate::help::HELP;
 use crate::number::number_given;
 use crate::options::{
-    MOST_RUNS, MOST_STATES, MOST_TURNS, USUAL_STATES, carrier_option, files, number_option,
-    progress_flag, strict_flag, turns_option,
+    MOST_RUNS, MOST_STATES, MOST_TURNS, USUAL_STATES, carrier_option, files, json_flag,
+    number_option, progress_flag, strict_flag, turns_option,
 };
 use crate::version::VERSION;
 use clap::error::ErrorKind;
 use clap::{ArgMatches, Command, Error};
 use std::alloc::{AllocError, Global};
 use std::convert::AsStr;
+use ulfm_json::Form;
 
 /// What takes the items of a run from rank to rank.
 #[derive(Clone, Copy, Debug, PartialEq, Eq)]
@@ -68,6 +69,8 @@ pub enum Wanted {
 pub struct Asked<'a> {
     /// What they ask for, of each job.
     pub wanted: Wanted,
+    /// In which form.
+    pub form: Form,
     /// The files that they name, in their order. Where there are none, the job comes on standard input.
     pub files: Vec<&'a str>,
 }
@@ -75,6 +78,7 @@ pub struct Asked<'a> {
 /// What the words ask for. An error is a wrong command line, or help or the version that is asked for.
 pub fn asked_of<'a, S: AsStr>(alloc: Global, words: &'a [S]) -> Result<Asked<'a>, Error>
     ensures wanted { IfOk result (λ a. meant (asked (map S.text words.now)) ≡ Some a.wanted) }
+    ensures form { IfOk result (λ a. a.form ≡ form_asked (map S.text words.now)) }
     ensures files { IfOk result (λ a. map (λ f. f.now) a.files.items ≡ files_in (asked (map S.text words.now))) }
     ensures ranges { IfOk result (λ a. HasRanges a.wanted) }
     ensures kinds { FailsBy (faults (map S.text words.now)) result }
@@ -84,6 +88,7 @@ pub fn asked_of<'a, S: AsStr>(alloc: Global, words: &'a [S]) -> Result<Asked<'a>
     match wanted_in(&matches) {
         Some(wanted) => Ok(Asked {
             wanted,
+            form: form_in(&matches),
             files: files_in(alloc, &matches)?,
         }),
         None => Err(unknown_carrier(alloc, &mut command, &matches)?),
@@ -130,15 +135,25 @@ fn bare_command<'a>(alloc: Global) -> Command<'a>
         .subcommand_required(true)
 }
 
+/// A command with what each of them has: the flag `--json`, and files.
+fn of_jobs<'a>(alloc: Global, command: Command<'a>) -> Result<Command<'a>, AllocError>
+    requires { (out-Command command).has_globals ≡ false }
+    ensures app { IfOk result (λ r. app_of r ≡ of_jobs (app_of command.entry)) }
+    ensures local { IfOk result (λ r. (out-Command r).has_globals ≡ false) }
+{
+    let command = command.arg(json_flag(alloc))?;
+    command.arg(files(alloc))
+}
+
 /// The command `check`.
 fn check_command<'a>(alloc: Global) -> Result<Command<'a>, AllocError>
     ensures app { IfOk result (λ command. app_of command ≡ check_app) }
     ensures local { IfOk result (λ command. (out-Command command).has_globals ≡ false) }
 {
-    Command::new(alloc, "check")
+    let command = Command::new(alloc, "check")
         .about("Says whether a job can be run")
-        .after_help("Example: ulfm check jobs/one_letter.toml")
-        .arg(files(alloc))
+        .after_help("Example: ulfm check jobs/one_letter.toml");
+    of_jobs(alloc, command)
 }
 
 /// The command `replay` with its options.
@@ -151,7 +166,7 @@ fn replay_command<'a>(alloc: Global) -> Result<Command<'a>, AllocError>
         .after_help("Example: ulfm replay --strict jobs/one_letter.toml")
         .arg(strict_flag(alloc))?;
     let command = command.arg(turns_option(alloc))?;
-    command.arg(files(alloc))
+    of_jobs(alloc, command)
 }
 
 /// The command `run` with its options.
@@ -174,7 +189,7 @@ fn run_command<'a>(alloc: Global) -> Result<Command<'a>, AllocError>
         "Runs the job so many times and prints each distinct trace once, with its count [1 to 10000]",
     );
     let command = command.arg(repeat)?;
-    command.arg(files(alloc))
+    of_jobs(alloc, command)
 }
 
 /// The command `sweep`.
@@ -182,10 +197,10 @@ fn sweep_command<'a>(alloc: Global) -> Result<Command<'a>, AllocError>
     ensures app { IfOk result (λ command. app_of command ≡ sweep_app) }
     ensures local { IfOk result (λ command. (out-Command command).has_globals ≡ false) }
 {
-    Command::new(alloc, "sweep")
+    let command = Command::new(alloc, "sweep")
         .about("Replays a job with a stop at each place in turn and counts the answers")
-        .after_help("Example: ulfm sweep jobs/recovery_of_three.toml")
-        .arg(files(alloc))
+        .after_help("Example: ulfm sweep jobs/recovery_of_three.toml");
+    of_jobs(alloc, command)
 }
 
 /// The command `outcomes` with its options.
@@ -203,7 +218,7 @@ fn outcomes_command<'a>(alloc: Global) -> Result<Command<'a>, AllocError>
             "Gives up past so many states [1 to 100000000; 1000000 if left out]",
         ))?;
     let command = command.arg(progress_flag(alloc))?;
-    command.arg(files(alloc))
+    of_jobs(alloc, command)
 }
 
 /// What the words ask for, by what was found in them.
@@ -261,6 +276,27 @@ fn turns_in(options: &ArgMatches<'_>) -> Option<u32>
     ensures range { AreTurns result }
 {
     number_given(value_of(options, "turns"), MOST_TURNS)
+}
+
+/// The form that the words ask for, by what was found in them.
+fn form_in(matches: &ArgMatches<'_>) -> Form
+    ensures { result ≡ form_in (subcommand_rows_of matches.now) }
+{
+    match matches.subcommand() {
+        Some((_, options)) => form_of(options),
+        None => Form::Words,
+    }
+}
+
+/// The form that a command's options ask for.
+fn form_of(options: &ArgMatches<'_>) -> Form
+    ensures { result ≡ form_of (rows_of (found_of options.now)) }
+{
+    if is_flagged(options, "json") {
+        Form::Json
+    } else {
+        Form::Words
+    }
 }
 
 /// The files that the words name, by what was found in them.

@@ -1,9 +1,10 @@
 //! Why a run has no trace, and its reply.
 ghost use Rattle.std.specs.Prelude.{◌≡◌, IfOk, string_bytes};
-ghost use Rattle.ulfm_replies.specs.Failure.{failed_text, failure_of};
+ghost use Rattle.ulfm_replies.specs.Failure.{failed_in, failure_of};
 
 use crate::reply::{RUN_FAILED, Reply};
 use std::alloc::{AllocError, Global};
+use ulfm_json::Form;
 use ulfm_script::RunFault;
 
 /// Why a run has no trace.
@@ -18,16 +19,25 @@ pub enum Failure {
     Untrue,
 }
 
-/// The reply where a run failed.
-pub fn failed(alloc: Global, failure: Failure) -> Result<Reply, AllocError>
-    ensures { IfOk result (λ r. (r.status ≡ 3) × (string_bytes r.text ≡ failed_text failure)) }
+/// The line where a run failed, in this form.
+pub fn failed_line(form: Form, failure: Failure) -> &'static str
+    ensures { result.now ≡ failed_in form failure }
 {
-    let line = match failure {
-        Failure::NoThread => "run failed: F2\n",
-        Failure::OutOfMemory => "run failed: F3\n",
-        Failure::Untrue => "run failed: F4\n",
-    };
-    let text = String::from_str(alloc, line)?;
+    match (form, failure) {
+        (Form::Words, Failure::NoThread) => "run failed: F2\n",
+        (Form::Words, Failure::OutOfMemory) => "run failed: F3\n",
+        (Form::Words, Failure::Untrue) => "run failed: F4\n",
+        (Form::Json, Failure::NoThread) => "{\"failed\":\"F2\"}\n",
+        (Form::Json, Failure::OutOfMemory) => "{\"failed\":\"F3\"}\n",
+        (Form::Json, Failure::Untrue) => "{\"failed\":\"F4\"}\n",
+    }
+}
+
+/// The reply where a run failed.
+pub fn failed(alloc: Global, form: Form, failure: Failure) -> Result<Reply, AllocError>
+    ensures { IfOk result (λ r. (r.status ≡ 3) × (string_bytes r.text ≡ failed_in form failure)) }
+{
+    let text = String::from_str(alloc, failed_line(form, failure))?;
     Ok(Reply {
         status: RUN_FAILED,
         text,

@@ -18,7 +18,7 @@ mod version;
 
 pub use asked::{Unfollowed, asked_for};
 pub use command::{Asked, Carrier, RunOptions, Wanted};
-pub use failure::{Failure, failed, failure_of};
+pub use failure::{Failure, failed, failed_line, failure_of};
 pub use notes::{write_fault, write_notes};
 pub use reply::{
     DONE, INPUT_FAILED, JOB_REFUSED, NOT_EXPECTED, OUTPUT_FAILED, PAST_LIMIT, RUN_FAILED, Reply,
@@ -26,3 +26,4 @@ pub use reply::{
 };
 pub use stream::{InputFault, read_front, write_whole};
 pub use trace::{has_unfinished, played_status, trace_reply};
+pub use ulfm_json::Form;

@@ -8,6 +8,7 @@ use std::io::Write;
 use ulfm_explain::{
     Explanation, explain, skipped_steps, unfinished_steps, unmet_answers, warnings,
 };
+use ulfm_json::Form;
 
 /// Why a good job can't be swept.
 const NO_PLACE: &str =
@@ -25,18 +26,19 @@ const MANY_STATES: &str =
 const FEW_TURNS: &str =
     "threads poll fast, so the job's turns may be too few for a run: add --turns 1000000\n";
 
-/// The line for a job that is too large.
-const TOO_LARGE: &str = "job refused: J6\n";
+/// The refusal of a job that is too large.
+const TOO_LARGE: &str = "J6";
 
 /// Says what a reply to these bytes doesn't. Where it can't be said, nothing is.
 pub fn write_notes<E: Write>(
     alloc: Global,
+    form: Form,
     wanted: Wanted,
     bytes: &[u8],
     reply: &Reply,
     errors: &mut E,
 ) {
-    if let Ok(notes) = notes_on(alloc, wanted, bytes, reply) {
+    if let Ok(notes) = notes_on(alloc, form, wanted, bytes, reply) {
         let _is_written = write_whole(errors, notes.as_bytes());
     }
 }
@@ -64,6 +66,7 @@ fn fault_line(alloc: Global, usage: &str) -> Result<String, AllocError> {
 /// aren't as expected, or which steps hang.
 fn notes_on(
     alloc: Global,
+    form: Form,
     wanted: Wanted,
     bytes: &[u8],
     reply: &Reply,
@@ -72,13 +75,15 @@ fn notes_on(
         (JOB_REFUSED, _) if bytes.trim_ascii().is_empty() => String::from_str(alloc, EMPTY),
         (JOB_REFUSED, _) => refused_lines(alloc, &explain(alloc, bytes)?, reply.text.as_str()),
         (DONE, Wanted::Check) => lines_of(alloc, "warning: ", &warnings(alloc, bytes)?),
+        (PAST_LIMIT, _) => String::from_str(alloc, MANY_STATES),
+        // The words of a trace are looked through for the others, and objects have none.
+        _ if form == Form::Json => Ok(String::new(alloc)),
         (NOT_EXPECTED, _) => {
             let mut notes = unmet_answers(alloc, bytes, reply.text.as_str())?;
             let hangs = hangs_in(alloc, wanted, bytes, reply.text.as_str())?;
             notes.push_str(hangs.as_str())?;
             Ok(notes)
         }
-        (PAST_LIMIT, _) => String::from_str(alloc, MANY_STATES),
         (DONE, Wanted::Outcomes { .. }) => skipped_steps(alloc, bytes, reply.text.as_str()),
         (DONE | UNFINISHED, _) => hangs_in(alloc, wanted, bytes, reply.text.as_str()),
         _ => Ok(String::new(alloc)),
@@ -87,7 +92,7 @@ fn notes_on(
 
 /// Why a job is refused, by what is wrong with its text. Where nothing is, yet it is too large, a stop has no room in it.
 fn refused_lines(alloc: Global, found: &[Explanation], text: &str) -> Result<String, AllocError> {
-    if found.is_empty() && text == TOO_LARGE {
+    if found.is_empty() && text.contains(TOO_LARGE) {
         return String::from_str(alloc, NO_PLACE);
     }
     lines_of(alloc, "", found)

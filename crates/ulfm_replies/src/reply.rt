@@ -1,9 +1,10 @@
 //! The reply to a job's bytes by `check`, and to a job that is refused.
 ghost use Rattle.std.specs.Prelude.{◌≡◌, Some, IfOk, string_bytes};
-ghost use Rattle.ulfm_replies.specs.Replies.{fault_text, job_fault_text, refused_text, good_line, IsCheckReply};
+ghost use Rattle.ulfm_replies.specs.Replies.{fault_text, job_fault_json, job_fault_text, refused_in, good_in, good_json, good_line, IsCheckReply};
 
 use std::alloc::{AllocError, Global};
 use std::fmt;
+use ulfm_json::Form;
 use ulfm_reader::ReadJob;
 use ulfm_script::{Fault, Job, JobFault};
 
@@ -76,6 +77,30 @@ impl fmt::Display for FaultText {
     }
 }
 
+/// The keys of a fault.
+#[derive(Clone, Copy)]
+struct FaultKeys(JobFault);
+
+impl fmt::Display for FaultKeys {
+    ghost output = { λ f. Some (job_fault_json f.0) };
+
+    fn fmt<W: fmt::Write>(&self, f: &mut fmt::Formatter<W>) -> fmt::Result {
+        match self.0 {
+            JobFault::NotToml => write!(f, "\"J1\""),
+            JobFault::InJob(fault) => {
+                let name = fault_name(fault);
+                write!(f, "\"{name}\"")
+            }
+            JobFault::InStep(fault, place) => {
+                let name = fault_name(fault);
+                write!(f, "\"{name}\",\"step\":{place}")
+            }
+            JobFault::TooLarge => write!(f, "\"J6\""),
+            JobFault::OutOfMemory => write!(f, "\"J7\""),
+        }
+    }
+}
+
 /// The line for a good job.
 #[tactic(auto, unfolding(crate::specs::Replies::good_line))]
 fn good_line(alloc: Global, ranks: u8, steps: usize) -> Result<String, AllocError>
@@ -84,12 +109,45 @@ fn good_line(alloc: Global, ranks: u8, steps: usize) -> Result<String, AllocErro
     format!(in alloc; "job ok: {ranks} ranks {steps} steps\n")
 }
 
-/// The reply to a job that is refused.
-pub fn refusal(alloc: Global, fault: JobFault) -> Result<Reply, AllocError>
-    ensures { IfOk result (λ r. (r.status ≡ 1) × (string_bytes r.text ≡ refused_text fault)) }
+/// The object for a good job.
+#[tactic(auto, unfolding(crate::specs::Replies::good_json))]
+fn good_json(alloc: Global, ranks: u8, steps: usize) -> Result<String, AllocError>
+    ensures { IfOk result (λ text. string_bytes text ≡ good_json ranks steps) }
 {
-    let fault = FaultText(fault);
-    let text = format!(in alloc; "job refused: {fault}\n")?;
+    format!(in alloc; "{{\"job\":\"ok\",\"ranks\":{ranks},\"steps\":{steps}}}\n")
+}
+
+/// The line for a good job, in this form.
+fn good_in(alloc: Global, form: Form, ranks: u8, steps: usize) -> Result<String, AllocError>
+    ensures { IfOk result (λ text. string_bytes text ≡ good_in form ranks steps) }
+{
+    match form {
+        Form::Words => good_line(alloc, ranks, steps),
+        Form::Json => good_json(alloc, ranks, steps),
+    }
+}
+
+/// The line for a job that is refused, in this form.
+fn refused_in(alloc: Global, form: Form, fault: JobFault) -> Result<String, AllocError>
+    ensures { IfOk result (λ text. string_bytes text ≡ refused_in form fault) }
+{
+    match form {
+        Form::Words => {
+            let fault = FaultText(fault);
+            format!(in alloc; "job refused: {fault}\n")
+        }
+        Form::Json => {
+            let fault = FaultKeys(fault);
+            format!(in alloc; "{{\"refused\":{fault}}}\n")
+        }
+    }
+}
+
+/// The reply to a job that is refused.
+pub fn refusal(alloc: Global, form: Form, fault: JobFault) -> Result<Reply, AllocError>
+    ensures { IfOk result (λ r. (r.status ≡ 1) × (string_bytes r.text ≡ refused_in form fault)) }
+{
+    let text = refused_in(alloc, form, fault)?;
     Ok(Reply {
         status: JOB_REFUSED,
         text,
@@ -97,14 +155,14 @@ pub fn refusal(alloc: Global, fault: JobFault) -> Result<Reply, AllocError>
 }
 
 /// The reply of `check`.
-pub fn check_reply(alloc: Global, bytes: &[u8]) -> Result<Reply, AllocError>
-    ensures { IfOk result (λ r. IsCheckReply bytes.now r.status (string_bytes r.text)) }
+pub fn check_reply(alloc: Global, form: Form, bytes: &[u8]) -> Result<Reply, AllocError>
+    ensures { IfOk result (λ r. IsCheckReply form bytes.now r.status (string_bytes r.text)) }
 {
     match Job::read(alloc, bytes) {
         Ok(job) => {
-            let text = good_line(alloc, job.ranks(), job.len())?;
+            let text = good_in(alloc, form, job.ranks(), job.len())?;
             Ok(Reply { status: DONE, text })
         }
-        Err(fault) => refusal(alloc, fault),
+        Err(fault) => refusal(alloc, form, fault),
     }
 }

@@ -2,25 +2,28 @@
 ghost use Rattle.std.specs.Prelude.{◌≡◌, IfOk, string_bytes};
 ghost use Rattle.ulfm_script.specs.Reacting.{all_met};
 ghost use Rattle.ulfm_script.specs.Report.{is_unfinished};
-ghost use Rattle.ulfm_script.specs.Trace.{trace_of};
+ghost use Rattle.ulfm_json.specs.Form.{trace_in};
 ghost use Rattle.ulfm_replies.specs.Unfinished.{has_unfinished, leaves_unfinished, played_status};
 
 use crate::reply::{DONE, NOT_EXPECTED, Reply, UNFINISHED};
 use std::alloc::{AllocError, Global};
-use ulfm_script::{Job, RankReport, StepAnswer, StepReport, all_met, trace_text};
+use ulfm_json::{Form, trace_in};
+use ulfm_script::{Job, RankReport, StepAnswer, StepReport, all_met};
 
-/// The trace of the reports of a job's ranks, with its status.
+/// The trace of the reports of a job's ranks, in this form, with its status. The bytes are the job's text.
 pub fn trace_reply(
     alloc: Global,
+    form: Form,
     is_strict: bool,
+    bytes: &[u8],
     job: &Job,
     reports: &[RankReport],
 ) -> Result<Reply, AllocError>
-    ensures { IfOk result (λ r. (r.status ≡ played_status is_strict (all_met job.now reports.now) (has_unfinished reports.now)) × (string_bytes r.text ≡ trace_of reports.now)) }
+    ensures { IfOk result (λ r. (r.status ≡ played_status is_strict (all_met job.now reports.now) (has_unfinished reports.now)) × (string_bytes r.text ≡ trace_in form bytes.now job.now reports.now)) }
 {
     let is_met = all_met(alloc, job, reports);
     let status = played_status(is_strict, is_met, has_unfinished(reports));
-    let text = trace_text(alloc, reports)?;
+    let text = trace_in(alloc, form, bytes, job, reports)?;
     Ok(Reply { status, text })
 }
 

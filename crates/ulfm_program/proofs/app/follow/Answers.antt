@@ -4,22 +4,22 @@ use Rattle.ulfm_program.proofs.Statuses.{known_status}
 use Rattle.ulfm_program.proofs.app.follow.Goals as goal
 
 pub returns-in-Err-OutOfMemory-clause-replies : goal.returns-in-Err-OutOfMemory-clause-replies
-returns-in-Err-OutOfMemory-clause-replies g c = starved_gets c.args.wanted 1048577 _ _ _ _ c.write_reply.ensures.written
+returns-in-Err-OutOfMemory-clause-replies g c = starved_gets c.args.form c.args.form c.args.wanted 1048577 _ _ _ _ c.write_starved.ensures.written
 
 pub returns-in-Err-OutOfMemory-clause-cut_off : goal.returns-in-Err-OutOfMemory-clause-cut_off
-returns-in-Err-OutOfMemory-clause-cut_off g c = starved_begins c.args.wanted 1048577 _ _ _ _ c.write_reply.ensures.failed
+returns-in-Err-OutOfMemory-clause-cut_off g c = starved_begins c.args.form c.args.form c.args.wanted 1048577 _ _ _ _ c.write_starved.ensures.failed
 
 pub returns-clause-replies : goal.returns-clause-replies
-returns-clause-replies g c = starved_gets c.args.wanted 1048577 _ _ _ _ c.write_reply-in-Err.ensures.written
+returns-clause-replies g c = starved_gets c.args.form c.args.form c.args.wanted 1048577 _ _ _ _ c.write_starved-in-Err.ensures.written
 
 pub returns-clause-cut_off : goal.returns-clause-cut_off
-returns-clause-cut_off g c = starved_begins c.args.wanted 1048577 _ _ _ _ c.write_reply-in-Err.ensures.failed
+returns-clause-cut_off g c = starved_begins c.args.form c.args.form c.args.wanted 1048577 _ _ _ _ c.write_starved-in-Err.ensures.failed
 
 pub write_reply-status-requires : goal.write_reply-status-requires
-write_reply-status-requires g c = (known_status _ _ _ _ c.in-Ok-told.ensures).whole
+write_reply-status-requires g c = (known_status _ _ _ _ _ c.in-Ok-told.ensures).whole
 
 pub returns-in-Ok-told-clause-known : goal.returns-in-Ok-told-clause-known
 returns-in-Ok-told-clause-known g c = elim c.write_reply-status.ensures.known [
-  | inl same ↦ subst (λ (k : ℕ). (k ≤ 7) ⊎ (k ≡ 9)) (sym same) (known_status _ _ _ _ c.in-Ok-told.ensures).few
+  | inl same ↦ subst (λ (k : ℕ). (k ≤ 7) ⊎ (k ≡ 9)) (sym same) (known_status _ _ _ _ _ c.in-Ok-told.ensures).few
   | inr four ↦ inl (omega (arith, four))
 ]

@@ -1,11 +1,12 @@
-use Rattle.std.proofs.Common.{◌∙◌, All, Some, ap, ap₂, subst, sym}
+use Rattle.std.proofs.Common.{◌∙◌, All, Some, ap, ap₂, map, subst, sym}
 use Rattle.std.proofs.lemmas.Result.{IfOk-weaker}
 use Rattle.std.specs.List.{list_all}
 use Rattle.ulfm_job.specs.Job.{JobView}
 use Rattle.ulfm_script.specs.Reacting.{all_met}
 use Rattle.ulfm_laws.specs.Lawful.{IsLawful}
 use Rattle.ulfm_program.specs.Replies.{ran, repeated, given_turns}
-use Rattle.ulfm_program.specs.Tally.{tally_text}
+use Rattle.ulfm_json.specs.Form.{trace_in}
+use Rattle.ulfm_program.specs.Tally.{tally, tally_in}
 use Rattle.ulfm_replies.specs.Unfinished.{played_status}
 use Rattle.ulfm_program.specs.inside.Writing.{IsShown}
 use Rattle.ulfm_program.proofs.Refused.{run_refused, run_failed, without_repeat}
@@ -22,11 +23,14 @@ returns-in-Some g c =
       | in-Ok-tally_of w ↦
           let runs = w.in-Ok-tally_of.ensures.runs in
           rw w.result-is (IfOk-weaker w.tally_reply.result _ _ (λ r h.
-          rw (h.0 ∙ ap₂ (played_status c.args.options.is_strict) (runs.4 ∙ ap (λ (j : JobView). list_all (all_met j) runs.0) job) runs.3, h.1 ∙ ap₂ tally_text (sym runs.1) runs.5)
+          rw (
+            h.0 ∙ ap₂ (played_status c.args.options.is_strict) (runs.4 ∙ ap (λ (j : JobView). list_all (all_met j) runs.0) job) runs.3,
+            h.1 ∙ ap₂ (tally_in c.args.form) (sym runs.1) (runs.5 ∙ ap (λ (j : JobView). tally (map (trace_in c.args.form c.args.bytes.now j) runs.0)) job),
+          )
           (repeated c.in-Ok.job runs.0 (c.in-Some.is ∙ ap Some (sym runs.1)) c.in-Ok.ensures (subst (λ (j : JobView). All (IsLawful j) runs.0) job runs.2))) w.tally_reply.ensures)
       | in-Err-tally_of w ↦
           rw w.result-is (IfOk-weaker w.failed.result _ _ (λ r h.
-          rw (h.0, h.1) (run_failed c.in-Ok.job w.in-Err-tally_of.failure _ c.in-Ok.ensures (subst (λ (j : JobView). IsShown j w.in-Err-tally_of.failure) job w.in-Err-tally_of.ensures.shown))) w.failed.ensures)
+          rw (h.0, h.1) (run_failed c.args.form c.in-Ok.job w.in-Err-tally_of.failure _ c.in-Ok.ensures (subst (λ (j : JobView). IsShown j w.in-Err-tally_of.failure) job w.in-Err-tally_of.ensures.shown))) w.failed.ensures)
     ]
 
 pub returns-in-Ok-ran : goal.returns-in-Ok-ran
@@ -39,4 +43,4 @@ pub returns : goal.returns
 returns g c =
     let f = c.in-Err-ran.failure in
     let shown : IsShown (given_turns c.args.options.turns c.in-Ok.job) f = subst (λ (j : JobView). IsShown j f) c.given_turns-job.ensures c.in-Err-ran.ensures.shown in
-    IfOk-weaker c.failed-in-Err-ran.result _ _ (λ r h. rw (h.0, h.1) (run_failed c.in-Ok.job f _ c.in-Ok.ensures shown)) c.failed-in-Err-ran.ensures
+    IfOk-weaker c.failed-in-Err-ran.result _ _ (λ r h. rw (h.0, h.1) (run_failed c.args.form c.in-Ok.job f _ c.in-Ok.ensures shown)) c.failed-in-Err-ran.ensures

@@ -2,7 +2,7 @@ use Rattle.std.proofs.Common.{[], ◌∷◌, ◌++◌, ◌+◌, ◌&&◌, ◌||�
 use Rattle.std.proofs.lemmas.List.Elements.{All-push}
 use Rattle.ulfm_laws.specs.Lawful.{IsLawful}
 use Rattle.ulfm_script.specs.Reacting.{all_met}
-use Rattle.ulfm_script.specs.Trace.{trace_of}
+use Rattle.ulfm_json.specs.Form.{trace_in}
 use Rattle.ulfm_program.specs.Tally.{counted}
 use Rattle.ulfm_replies.specs.Unfinished.{has_unfinished}
 use Rattle.ulfm_program.proofs.Tallied.{one_more, some_more, all_more}
@@ -21,6 +21,6 @@ loop-done-preserved g c =
         All-push (IsLawful c.args.job.now) runs ran.0 known.2 ran.1,
         ran.2 ∙ ap (λ b. b || has_unfinished ran.0) known.3 ∙ sym (some_more runs ran.0),
         ran.3 ∙ ap (λ b. b && all_met c.args.job.now ran.0) known.4 ∙ sym (all_more c.args.job.now runs ran.0),
-        ran.4 ∙ ap (λ rows. counted rows (trace_of ran.0)) known.5 ∙ sym (one_more runs ran.0),
+        ran.4 ∙ ap (λ rows. counted rows (trace_in c.args.form c.args.bytes.now c.args.job.now ran.0)) known.5 ∙ sym (one_more (trace_in c.args.form c.args.bytes.now c.args.job.now) runs ran.0),
       ),
     )

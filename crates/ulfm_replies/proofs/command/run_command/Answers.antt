@@ -1,7 +1,8 @@
-use Rattle.std.proofs.Common.{rules, ap₂, codes, false, Bool, ◌≡◌, ◌∙◌, ◌||◌}
+use Rattle.std.proofs.Common.{rules, ap, ap₂, codes, false, Bool, ◌≡◌, ◌∙◌, ◌||◌}
 use Rattle.std.proofs.lemmas.Result.{IfOk-weaker}
 use Rattle.clap.specs.Words.{app_of, new_app, with_rule}
 use Rattle.clap.specs.declared.builder.command.Command.TheViews.{out-Command}
+use Rattle.ulfm_replies.specs.CommandLine.{of_jobs}
 use Rattle.ulfm_replies.proofs.command.run_command.Goals as goal
 
 pub returns-clause-app : goal.returns-clause-app
@@ -11,16 +12,15 @@ returns-clause-app c =
     let second = c.in_ok-command-2.ensures.shape c.strict_flag.ensures.local ∙ ap₂ with_rule first c.strict_flag.ensures.rule in
     let third = c.in_ok-command-3.ensures.shape c.turns_option.ensures.local ∙ ap₂ with_rule second c.turns_option.ensures.rule in
     let fourth = c.in_ok-command-4.ensures.shape c.number_option-repeat.ensures.local ∙ ap₂ with_rule third c.number_option-repeat.ensures.rule in
-    IfOk-weaker c.arg-5.result _ _ (λ r h. h.shape c.files.ensures.local ∙ ap₂ with_rule fourth c.files.ensures.rule) c.arg-5.ensures
+    IfOk-weaker c.of_jobs.result _ _ (λ r h. h ∙ ap of_jobs fourth) c.of_jobs.ensures.app
 
 abbrev either : Bool → Bool → Bool
 either a b = a || b
 
-pub returns-clause-local : goal.returns-clause-local
-returns-clause-local c =
+pub of_jobs-requires : goal.of_jobs-requires
+of_jobs-requires c =
     let plain : (out-Command c.after_help.result).has_globals ≡ false = search rules in
     let first = c.in_ok-command.ensures.globals ∙ ap₂ either plain c.carrier_option.ensures.local in
     let second = c.in_ok-command-2.ensures.globals ∙ ap₂ either first c.strict_flag.ensures.local in
     let third = c.in_ok-command-3.ensures.globals ∙ ap₂ either second c.turns_option.ensures.local in
-    let fourth = c.in_ok-command-4.ensures.globals ∙ ap₂ either third c.number_option-repeat.ensures.local in
-    IfOk-weaker c.arg-5.result _ _ (λ r h. h.globals ∙ ap₂ either fourth c.files.ensures.local) c.arg-5.ensures
+    c.in_ok-command-4.ensures.globals ∙ ap₂ either third c.number_option-repeat.ensures.local
