@@ -250,7 +250,7 @@ const WORDS: [(&[&str], u8, &str); 6] = [
     (
         &["ulfm", "check", "--help"],
         0,
-        "Says whether a job can be run\n\nUsage: ulfm check [FILE]...\n",
+        "Says whether a job can be run\n\nUsage: ulfm check [OPTIONS] [FILE]...\n",
     ),
 ];
 
