@@ -1,7 +1,7 @@
 //! Worked examples.
 
 use std::test::Fail;
-use ulfm_base::{CallError, Group, RankSet, Tag, WorldRank};
+use ulfm_base::{CallError, Group, RankSet, WorldRank};
 
 // The world of four ranks, and the same without rank 1.
 fn four_and_three(rt: &HostRuntime) -> Result<(Group, Group), CallError> {
@@ -10,22 +10,6 @@ fn four_and_three(rt: &HostRuntime) -> Result<(Group, Group), CallError> {
     failed.insert(WorldRank { number: 1 });
     let rest = world.excluding(failed);
     Ok((world, rest))
-}
-
-// Whether a rank of the world stands at a position of a group.
-fn stands(group: &Group, position: u8, rank: WorldRank) -> bool {
-    group.world_of(position) == Some(rank) && group.rank_of(rank) == Some(position)
-}
-
-#[test]
-fn positions_of_a_group_without_a_member(rt: HostRuntime) -> Result<(), Fail> {
-    let (_world, rest) = four_and_three(&rt)?;
-    assert_eq!(rt; rest.size(), 3);
-    assert!(rt; stands(&rest, 0, WorldRank { number: 0 }));
-    assert!(rt; stands(&rest, 1, WorldRank { number: 2 }));
-    assert!(rt; stands(&rest, 2, WorldRank { number: 3 }));
-    assert_eq!(rt; rest.rank_of(WorldRank { number: 1 }), None);
-    Ok(())
 }
 
 // Whether positions of a group are these of another.
@@ -59,22 +43,6 @@ fn translates_between_a_group_and_the_rest_of_it(rt: HostRuntime) -> Result<(), 
     let both = translates_both_ways(&world, &rest)?;
     assert!(rt; both);
     Ok(())
-}
-
-// Why there is no world of so many ranks, if there is none.
-fn refusal(rt: &HostRuntime, n: u8) -> Option<CallError> {
-    match Group::world(rt.alloc(), n) {
-        Ok(_) => None,
-        Err(error) => Some(error),
-    }
-}
-
-#[test]
-fn numbers_out_of_range(rt: HostRuntime) {
-    assert_eq!(rt; refusal(&rt, 0), Some(CallError::BadSize));
-    assert_eq!(rt; refusal(&rt, 9), Some(CallError::BadSize));
-    assert!(rt; matches!(Tag::new(32768), Err(CallError::BadTag)));
-    assert!(rt; Tag::new(32767).is_ok());
 }
 
 // All refusals, in the order of their numbers.

@@ -8,8 +8,6 @@ mod board;
 #[cfg(test)]
 mod carrier;
 #[cfg(test)]
-mod fault;
-#[cfg(test)]
 mod matchers;
 #[cfg(test)]
 mod matching;
