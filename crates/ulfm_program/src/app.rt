@@ -14,10 +14,11 @@ use std::convert::AsStr;
 use std::io::{Read, Write};
 use std::sync::Wait;
 use std::thread::Threads;
+use ulfm_findings::{InputFault, read_front, write_whole};
 use ulfm_json::Form;
 use ulfm_replies::{
-    DONE, Failure, INPUT_FAILED, InputFault, OUTPUT_FAILED, RUN_FAILED, USAGE, Unfollowed, Wanted,
-    asked_for, failed_line, read_front, write_fault, write_notes, write_whole,
+    DONE, Failure, INPUT_FAILED, OUTPUT_FAILED, RUN_FAILED, USAGE, Unfollowed, Wanted, asked_for,
+    failed_line, write_fault, write_notes,
 };
 
 /// What is written where a word can't be read.

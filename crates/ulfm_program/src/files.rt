@@ -14,7 +14,8 @@ use std::io::{Read, Write};
 use std::rt::Files;
 use std::sync::Wait;
 use std::thread::Threads;
-use ulfm_replies::{DONE, INPUT_FAILED, OUTPUT_FAILED, asked_for, write_whole};
+use ulfm_findings::write_whole;
+use ulfm_replies::{DONE, INPUT_FAILED, OUTPUT_FAILED, asked_for};
 
 /// Follows the words for each file that they name, in turn, as `run_on` follows them with that file's bytes as its input, or for `input`
 /// where they name none. Above the answers of several files stands a line with each one's name. A file that can't be read has the status

@@ -2,8 +2,9 @@
 
 use std::alloc::Global;
 use std::io::Write;
+use ulfm_findings::write_whole;
 use ulfm_reach::Watch;
-use ulfm_replies::{Wanted, write_whole};
+use ulfm_replies::Wanted;
 
 /// After how many states it is told.
 const STRIDE: usize = 1000;

@@ -1,4 +1,3 @@
 pub mod Parsed
 pub mod Numbers
 pub mod Refused
-pub mod Written

@@ -12,7 +12,6 @@ mod notes;
 mod number;
 mod options;
 mod reply;
-mod stream;
 mod trace;
 mod version;
 
@@ -24,6 +23,5 @@ pub use reply::{
     DONE, INPUT_FAILED, JOB_REFUSED, NOT_EXPECTED, OUTPUT_FAILED, PAST_LIMIT, RUN_FAILED, Reply,
     UNFINISHED, USAGE, check_reply, refusal,
 };
-pub use stream::{InputFault, read_front, write_whole};
 pub use trace::{has_unfinished, played_status, trace_reply};
 pub use ulfm_json::Form;

@@ -2,12 +2,12 @@
 
 use crate::command::{RunOptions, Wanted};
 use crate::reply::{DONE, JOB_REFUSED, NOT_EXPECTED, PAST_LIMIT, Reply, UNFINISHED};
-use crate::stream::write_whole;
 use std::alloc::{AllocError, Global};
 use std::io::Write;
 use ulfm_explain::{
     Explanation, explain, skipped_steps, unfinished_steps, unmet_answers, warnings,
 };
+use ulfm_findings::write_whole;
 use ulfm_json::Form;
 
 /// Why a good job can't be swept.
