@@ -1,16 +1,11 @@
 //! The command line.
-ghost use Rattle.std.specs.Prelude.{◌≡◌, [], codes, false, Some, map, option_map, unwrap_or, IfOk, IfSome};
-ghost use Rattle.clap.specs.declared.builder.command.Command.TheViews.{out-Command};
-ghost use Rattle.clap.specs.Words.{FailsBy, all_of, app_of, first_of, found_of, kind_of, rows_of, rule_of, subcommand_rows_of, with_subcommand};
-ghost use Rattle.ulfm_replies.specs.CommandLine.{AreInRange, HasRanges, asked, carrier_named, IsLimit, check_app, demanding_app, faults, form_asked, form_in, form_of, is_flagged, is_strict, AreTurns, wants_progress, files_in, limit_in, meant, named, of_jobs, outcomes_app, replay_app, run_app, run_options, sweep_app, tool_app, turns_in};
+ghost use Rattle.std.specs.Prelude.{◌≡◌, [], codes, Some, map, option_map, unwrap_or, IfOk, IfSome};
+ghost use Rattle.clap.specs.Words.{FailsBy, all_of, first_of, found_of, kind_of, rows_of, subcommand_rows_of};
+ghost use Rattle.ulfm_replies.specs.CommandLine.{AreInRange, HasRanges, asked, carrier_named, IsLimit, faults, form_asked, form_in, form_of, is_flagged, is_strict, AreTurns, wants_progress, files_in, limit_in, meant, named, run_options, turns_in};
 
-use crate::help::HELP;
 use crate::number::number_given;
-use crate::options::{
-    MOST_RUNS, MOST_STATES, MOST_TURNS, USUAL_STATES, carrier_option, files, json_flag,
-    number_option, progress_flag, strict_flag, turns_option,
-};
-use crate::version::VERSION;
+use crate::options::{MOST_RUNS, MOST_STATES, MOST_TURNS, USUAL_STATES};
+use crate::subcommands::command_line;
 use clap::error::ErrorKind;
 use clap::{ArgMatches, Command, Error};
 use std::alloc::{AllocError, Global};
@@ -111,114 +106,6 @@ fn unknown_carrier(
         "invalid value '{value}' for '--carrier <CARRIER>'\n  [possible values: lanes, shared]"
     )?;
     command.error(ErrorKind::InvalidValue, message.as_str())
-}
-
-/// The command line that is followed.
-fn command_line<'a>(alloc: Global) -> Result<Command<'a>, AllocError>
-    ensures { IfOk result (λ command. app_of command ≡ tool_app) }
-{
-    let command = bare_command(alloc).subcommand(check_command(alloc)?)?;
-    let command = command.subcommand(replay_command(alloc)?)?;
-    let command = command.subcommand(run_command(alloc)?)?;
-    let command = command.subcommand(sweep_command(alloc)?)?;
-    command.subcommand(outcomes_command(alloc)?)
-}
-
-/// The command `ulfm` without its commands.
-fn bare_command<'a>(alloc: Global) -> Command<'a>
-    ensures { app_of result ≡ demanding_app }
-{
-    Command::new(alloc, "ulfm")
-        .about("MPI messages with ULFM recovery among the ranks of one program")
-        .after_help(HELP)
-        .version(VERSION)
-        .subcommand_required(true)
-}
-
-/// A command with what each of them has: the flag `--json`, and files.
-fn of_jobs<'a>(alloc: Global, command: Command<'a>) -> Result<Command<'a>, AllocError>
-    requires { (out-Command command).has_globals ≡ false }
-    ensures app { IfOk result (λ r. app_of r ≡ of_jobs (app_of command.entry)) }
-    ensures local { IfOk result (λ r. (out-Command r).has_globals ≡ false) }
-{
-    let command = command.arg(json_flag(alloc))?;
-    command.arg(files(alloc))
-}
-
-/// The command `check`.
-fn check_command<'a>(alloc: Global) -> Result<Command<'a>, AllocError>
-    ensures app { IfOk result (λ command. app_of command ≡ check_app) }
-    ensures local { IfOk result (λ command. (out-Command command).has_globals ≡ false) }
-{
-    let command = Command::new(alloc, "check")
-        .about("Says whether a job can be run")
-        .after_help("Example: ulfm check jobs/one_letter.toml");
-    of_jobs(alloc, command)
-}
-
-/// The command `replay` with its options.
-fn replay_command<'a>(alloc: Global) -> Result<Command<'a>, AllocError>
-    ensures app { IfOk result (λ command. app_of command ≡ replay_app) }
-    ensures local { IfOk result (λ command. (out-Command command).has_globals ≡ false) }
-{
-    let command = Command::new(alloc, "replay")
-        .about("Plays a job round by round and prints its trace")
-        .after_help("Example: ulfm replay --strict jobs/one_letter.toml")
-        .arg(strict_flag(alloc))?;
-    let command = command.arg(turns_option(alloc))?;
-    of_jobs(alloc, command)
-}
-
-/// The command `run` with its options.
-fn run_command<'a>(alloc: Global) -> Result<Command<'a>, AllocError>
-    ensures app { IfOk result (λ command. app_of command ≡ run_app) }
-    ensures local { IfOk result (λ command. (out-Command command).has_globals ≡ false) }
-{
-    let command = Command::new(alloc, "run")
-        .about("Runs a job, each rank in a thread of its own, and prints its trace")
-        .after_help(
-            "Example: ulfm run --carrier lanes --turns 1000000 --repeat 20 jobs/one_letter.toml",
-        )
-        .arg(carrier_option(alloc))?;
-    let command = command.arg(strict_flag(alloc))?;
-    let command = command.arg(turns_option(alloc))?;
-    let repeat = number_option(
-        alloc,
-        "repeat",
-        MOST_RUNS,
-        "Runs the job so many times and prints each distinct trace once, with its count [1 to 10000]",
-    );
-    let command = command.arg(repeat)?;
-    of_jobs(alloc, command)
-}
-
-/// The command `sweep`.
-fn sweep_command<'a>(alloc: Global) -> Result<Command<'a>, AllocError>
-    ensures app { IfOk result (λ command. app_of command ≡ sweep_app) }
-    ensures local { IfOk result (λ command. (out-Command command).has_globals ≡ false) }
-{
-    let command = Command::new(alloc, "sweep")
-        .about("Replays a job with a stop at each place in turn and counts the answers")
-        .after_help("Example: ulfm sweep jobs/recovery_of_three.toml");
-    of_jobs(alloc, command)
-}
-
-/// The command `outcomes` with its options.
-fn outcomes_command<'a>(alloc: Global) -> Result<Command<'a>, AllocError>
-    ensures app { IfOk result (λ command. app_of command ≡ outcomes_app) }
-    ensures local { IfOk result (λ command. (out-Command command).has_globals ≡ false) }
-{
-    let command = Command::new(alloc, "outcomes")
-        .about("Lists what each step of a job may be answered, over every schedule")
-        .after_help("Example: ulfm outcomes --limit 100000 jobs/one_letter.toml")
-        .arg(number_option(
-            alloc,
-            "limit",
-            MOST_STATES,
-            "Gives up past so many states [1 to 100000000; 1000000 if left out]",
-        ))?;
-    let command = command.arg(progress_flag(alloc))?;
-    of_jobs(alloc, command)
 }
 
 /// What the words ask for, by what was found in them.

@@ -12,6 +12,7 @@ mod notes;
 mod number;
 mod options;
 mod reply;
+mod subcommands;
 mod trace;
 mod version;
 

@@ -1,7 +1,7 @@
 use Rattle.std.proofs.Common.{ap₂, ◌∙◌}
 use Rattle.std.proofs.lemmas.Result.{IfOk-weaker}
 use Rattle.clap.specs.Words.{App, with_subcommand}
-use Rattle.ulfm_replies.proofs.command.command_line.Goals as goal
+use Rattle.ulfm_replies.proofs.subcommands.command_line.Goals as goal
 
 abbrev join : App → App → App
 join a b = with_subcommand a b.top

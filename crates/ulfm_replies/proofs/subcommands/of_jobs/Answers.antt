@@ -1,7 +1,7 @@
 use Rattle.std.proofs.Common.{ap, ap₂, ◌∙◌}
 use Rattle.std.proofs.lemmas.Result.{IfOk-weaker}
 use Rattle.clap.specs.Words.{Rule, app_of, with_rule}
-use Rattle.ulfm_replies.proofs.command.of_jobs.Goals as goal
+use Rattle.ulfm_replies.proofs.subcommands.of_jobs.Goals as goal
 
 pub returns-clause-app : goal.returns-clause-app
 returns-clause-app c =

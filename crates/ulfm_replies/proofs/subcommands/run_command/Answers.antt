@@ -3,7 +3,7 @@ use Rattle.std.proofs.lemmas.Result.{IfOk-weaker}
 use Rattle.clap.specs.Words.{app_of, new_app, with_rule}
 use Rattle.clap.specs.declared.builder.command.Command.TheViews.{out-Command}
 use Rattle.ulfm_replies.specs.CommandLine.{of_jobs}
-use Rattle.ulfm_replies.proofs.command.run_command.Goals as goal
+use Rattle.ulfm_replies.proofs.subcommands.run_command.Goals as goal
 
 pub returns-clause-app : goal.returns-clause-app
 returns-clause-app c =
