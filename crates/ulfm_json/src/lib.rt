@@ -1,4 +1,10 @@
 //! What came of a job as JSON: an object a line, for programs. Its keys are in `docs/JOBS.md` and in `jobs/output.schema.json`.
+//!
+//!     let text = trace_in(alloc, Form::Json, bytes, &job, reports.as_slice())?;
+//!
+//! Its text is `trace_json` of specs/Trace.antt, which has an object for each line of `trace_of` of `ulfm_script`. A job keeps no names of
+//! steps, so they are read from its text once more: `name_at` of specs/Names.antt. What the lists of `outcomes` share with traces stands
+//! here too: [`push_head`] begins the object of a step.
 #![tactic(auto)]
 
 mod answer;
