@@ -1,5 +1,7 @@
 //! With what words answers begin (docs/JOBS.md).
 
+use crate::rules::Key;
+
 /// The most bytes of words.
 pub const MOST_WORDS: usize = 1024;
 
@@ -52,24 +54,23 @@ fn own_answers(op: &str) -> &'static [&'static str] {
     &[]
 }
 
-/// The answers of a step that isn't played, or not to its end. A condition may ask for them of each op, what is expected of those that
-/// poll alone.
-fn unplayed_answers(op: &str, is_condition: bool) -> &'static [&'static str] {
-    match op {
-        _ if is_condition => &["unfinished", "skipped"],
-        "wait" | "probe" | "shrink" | "agree" => &["unfinished"],
+/// The answers of a step that isn't played, or not to its end, for which words at a key may ask. A condition may ask for both of each
+/// op, a row for `unfinished` of those that poll alone, and what is expected too, but never for `skipped`.
+fn unplayed_answers(op: &str, key: Key) -> &'static [&'static str] {
+    let polls = matches!(op, "wait" | "probe" | "shrink" | "agree");
+    match key {
+        Key::Is => &["unfinished", "skipped"],
+        Key::Never if polls => &["unfinished", "skipped"],
+        Key::Never => &["skipped"],
+        _ if polls => &["unfinished"],
         _ => &[],
     }
 }
 
 /// How an answer of an op may begin, in three lists: by a word of its own, as one that isn't played to its end, or by something in the way.
-pub fn beginnings(op: &str, is_condition: bool) -> [&'static [&'static str]; 3] {
+pub fn beginnings(op: &str, key: Key) -> [&'static [&'static str]; 3] {
     let refusals = if op == "stop" { &[] } else { REFUSALS };
-    [
-        own_answers(op),
-        unplayed_answers(op, is_condition),
-        refusals,
-    ]
+    [own_answers(op), unplayed_answers(op, key), refusals]
 }
 
 /// Whether a text begins, by whole words, with these words.
@@ -87,9 +88,9 @@ fn is_alike(texts: &[&str], words: &str) -> bool {
         .any(|text| begins(text, words) || begins(words, text))
 }
 
-/// Whether an answer of an op may begin with these words; a condition may also ask whether its step was skipped or is unfinished.
-pub fn may_begin(op: &str, is_condition: bool, words: &str) -> bool {
-    beginnings(op, is_condition)
+/// Whether an answer of an op for which words at a key may ask may begin with these.
+pub fn may_begin(op: &str, key: Key, words: &str) -> bool {
+    beginnings(op, key)
         .iter()
         .any(|texts| is_alike(*texts, words))
 }

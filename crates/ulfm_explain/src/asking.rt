@@ -202,7 +202,7 @@ impl Asker<'_> {
                     self.tell(findings, at, Cause::LongWords(key, words.len()))?;
                 }
                 Some(words) => {
-                    if !may_begin(op, key == Key::Is, words) {
+                    if !may_begin(op, key, words) {
                         let shown = Shown::new(findings.alloc, words)?;
                         self.tell(findings, at, Cause::NoAnswer(key, shown, op))?;
                     }

@@ -47,6 +47,14 @@ pub enum Cause {
     Count(Key, usize),
     /// Words with which no answer of this op begins.
     NoAnswer(Key, Shown, &'static str),
+    /// So many rows of `never`, where 1 to 32 may be.
+    Rows(usize),
+    /// A row of this number has so many texts, where 2 to 8 may be.
+    RowLength(usize, usize),
+    /// A text of a row that isn't written as one.
+    NoPlace(Shown),
+    /// A text of a row whose step there isn't.
+    NoStep(Shown),
     /// Words of so many bytes, where 1024 are the most.
     LongWords(Key, usize),
     /// The step can be read, and will be refused when it runs.
@@ -102,17 +110,17 @@ impl fmt::Display for Listed<'_> {
 /// The ops, as a message lists them.
 const ALL_OPS: Listed<'static> = Listed(&OPS);
 
-/// How an answer of a step with this op may begin, where it is a condition that asks for it or not.
+/// How an answer of a step with this op may begin, for which words at this key ask.
 #[derive(Clone, Copy)]
 struct Beginnings {
     op: &'static str,
-    is_condition: bool,
+    key: Key,
 }
 
 impl fmt::Display for Beginnings {
     fn fmt<W: fmt::Write>(&self, f: &mut fmt::Formatter<W>) -> fmt::Result {
         let mut mark = "";
-        for words in beginnings(self.op, self.is_condition) {
+        for words in beginnings(self.op, self.key) {
             if !words.is_empty() {
                 write!(f, "{mark}{}", Listed(words))?;
                 mark = ", ";
@@ -180,14 +188,25 @@ impl fmt::Display for Cause {
                 write!(f, "key '{key}' has {count} items, and has to have 1 to 16")
             }
             Cause::NoAnswer(key, words, op) => {
-                let beginnings = Beginnings {
-                    op: *op,
-                    is_condition: *key == Key::Is,
-                };
+                let beginnings = Beginnings { op: *op, key: *key };
                 write!(
                     f,
                     "key '{key}' has '{words}', and no answer of '{op}' begins so; its answers begin with {beginnings}"
                 )
+            }
+            Cause::Rows(count) => {
+                write!(f, "key 'never' has {count} rows, and has to have 1 to 32")
+            }
+            Cause::RowLength(row, count) => write!(
+                f,
+                "row {row} of key 'never' has {count} texts, and has to have 2 to 8"
+            ),
+            Cause::NoPlace(text) => write!(
+                f,
+                "key 'never' has '{text}', and each text has to be a rank, a dot, a step of it, a space, and how its answer begins"
+            ),
+            Cause::NoStep(text) => {
+                write!(f, "key 'never' has '{text}', and there is no such step")
             }
             Cause::LongWords(key, count) => write!(
                 f,

@@ -162,7 +162,24 @@ fn is_of_kind(value: &Value, kind: Kind) -> bool {
         Kind::Reference(_, _) => value.is_integer() || value.is_str(),
         Kind::Conditions => value.is_table() || value.is_array(),
         Kind::Words => value.is_array(),
+        Kind::Rows => are_rows(value),
         Kind::Tables => false,
+    }
+}
+
+/// Whether a value is an array, each of whose values is a row of texts.
+fn are_rows(value: &Value) -> bool {
+    match value.as_array() {
+        Some(rows) => rows.iter().all(|row| are_texts(row)),
+        None => false,
+    }
+}
+
+/// Whether a value is an array of texts.
+fn are_texts(value: &Value) -> bool {
+    match value.as_array() {
+        Some(texts) => texts.iter().all(|text| text.is_str()),
+        None => false,
     }
 }
 

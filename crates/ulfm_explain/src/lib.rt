@@ -3,7 +3,7 @@
 //!     for explanation in explain(alloc, bytes)? { .. }
 //!
 //! [`explain`] tells why a job is refused, [`warnings`] what of a good one will be refused: ten of each at most. [`unmet_answers`] tells
-//! which answers of a trace aren't as their steps expect, [`unfinished_steps`] which of its steps are unfinished,
+//! which answers of a trace aren't as their steps expect, [`rows_that_came`] which rows of `never` it has whole, [`unfinished_steps`] which of its steps are unfinished,
 //! [`skipped_steps`] which steps of a list every schedule skips.
 #![tactic(auto)]
 
@@ -11,6 +11,7 @@ mod answers;
 mod asking;
 mod cause;
 mod check;
+mod claim;
 mod doom;
 mod explanation;
 mod fate;
@@ -19,6 +20,7 @@ mod keys;
 mod marks;
 mod mpi;
 mod nearest;
+mod never;
 mod ops;
 mod place;
 mod rules;
@@ -35,6 +37,7 @@ pub use cause::Cause;
 pub use check::explain;
 pub use doom::Doom;
 pub use explanation::{Explanation, StepPlace};
+pub use never::rows_that_came;
 pub use place::Place;
 pub use rules::{Key, Kind, Rules};
 pub use shown::Shown;

@@ -21,6 +21,8 @@ pub enum Kind {
     Conditions,
     /// An array of 1 to 16 texts.
     Words,
+    /// An array of arrays of texts.
+    Rows,
 }
 
 /// A key of a job or of a step.
@@ -30,6 +32,7 @@ pub enum Key {
     Capacity,
     Turns,
     Step,
+    Never,
     Op,
     Rank,
     To,
@@ -59,6 +62,7 @@ impl Key {
             Key::Capacity => "capacity",
             Key::Turns => "turns",
             Key::Step | Key::Earlier => "step",
+            Key::Never => "never",
             Key::Op => "op",
             Key::Rank => "rank",
             Key::To => "to",
@@ -84,6 +88,7 @@ impl Key {
             Key::Capacity => Kind::Integer(1, 64),
             Key::Turns => Kind::Integer(1, 10_000_000),
             Key::Step => Kind::Tables,
+            Key::Never => Kind::Rows,
             Key::Op | Key::Body => Kind::Text,
             Key::Rank => Kind::Integer(0, i64::from(ranks.saturating_sub(1))),
             Key::To => Kind::Integer(0, 7),
@@ -121,7 +126,7 @@ pub fn job_rules() -> Rules {
     Rules {
         owner: "a job",
         required: &[Key::Ranks, Key::Capacity, Key::Turns],
-        optional: &[Key::Step],
+        optional: &[Key::Step, Key::Never],
         asking: &[],
     }
 }
@@ -187,6 +192,7 @@ impl fmt::Display for Kind {
             Kind::Name => f.write_str("a text of 1 to 32 letters, digits, '_' and '-'"),
             Kind::Conditions => f.write_str("a table with 'step' and 'is', or a list of 1 to 16"),
             Kind::Words => f.write_str("a list of 1 to 16 texts in quotes"),
+            Kind::Rows => f.write_str("a list of lists of texts in quotes"),
         }
     }
 }

@@ -6,6 +6,7 @@ use crate::explanation::StepPlace;
 use crate::findings::Findings;
 use crate::keys::{Sheet, integer_at, text_at};
 use crate::nearest::nearest_op;
+use crate::never::explain_never;
 use crate::ops::rules_of;
 use crate::rules::{Key, any_step_rules, job_rules};
 use crate::shown::Shown;
@@ -15,7 +16,8 @@ use toml::{Table, Value};
 /// The most steps of a job.
 const MOST_STEPS: usize = 256;
 
-/// Tells what is wrong with a job: first with its own keys, then with each step, in the order of the file.
+/// Tells what is wrong with a job: first with its own keys, then with each step, in the order of the file, then with its
+/// rows.
 pub fn explain_job(findings: &mut Findings<'_>, table: &Table) -> Result<(), AllocError> {
     let ranks = ranks_of(table);
     let sheet = Sheet {
@@ -40,7 +42,7 @@ pub fn explain_job(findings: &mut Findings<'_>, table: &Table) -> Result<(), All
             explain_step(findings, ranks, steps, place, step)?;
         }
     }
-    Ok(())
+    explain_never(findings, steps, table)
 }
 
 /// How many ranks a job has: eight where that can't be read.

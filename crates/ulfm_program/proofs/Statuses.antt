@@ -2,7 +2,8 @@
 use Rattle.std.proofs.Common.{◌≡◌, ◌≤◌, ◌⊎◌, ℕ, Bool, true, false, List, Option, arith, inl, inr, refl}
 use Rattle.ulfm_replies.specs.Replies.{IsCheckReply, good, refused, no_memory, starved}
 use Rattle.std.specs.List.{list_all, list_any}
-use Rattle.ulfm_script.specs.Reacting.{all_met}
+use Rattle.ulfm_reader.specs.JobText.{never_of_bytes}
+use Rattle.ulfm_replies.specs.Asking.{as_asked}
 use Rattle.ulfm_replies.specs.Unfinished.{has_unfinished, played_status}
 use Rattle.ulfm_json.specs.declared.form.Form.{Form}
 use Rattle.ulfm_replies.specs.declared.command.RunOptions.{RunOptions}
@@ -40,14 +41,14 @@ checked form bytes status text no_memory = no_job
 checked form bytes status text (starved told) = run_fails
 
 replayed : (form : Form) (is_strict : Bool) (turns : Option ℕ) (bytes : List ℕ) (status : ℕ) (text : List ℕ) → IsReplayReply form is_strict turns bytes status text → IsKnown status
-replayed form is_strict turns bytes status text (traced job reports is played_so lawful rest) = played is_strict (all_met (given_turns turns job) reports) (has_unfinished reports)
+replayed form is_strict turns bytes status text (traced job reports is played_so lawful rest) = played is_strict (as_asked (never_of_bytes bytes) (given_turns turns job) reports) (has_unfinished reports)
 replayed form is_strict turns bytes status text (not_a_job f is) = no_job
 replayed form is_strict turns bytes status text no_room = no_job
 replayed form is_strict turns bytes status text (failed told) = run_fails
 
 run_known : (form : Form) (options : RunOptions) (bytes : List ℕ) (status : ℕ) (text : List ℕ) → IsRunReply form options bytes status text → IsKnown status
-run_known form options bytes status text (ran job reports once is lawful) = played options.is_strict (all_met (given_turns options.turns job) reports) (has_unfinished reports)
-run_known form options bytes status text (repeated job runs times is lawful) = played options.is_strict (list_all (all_met (given_turns options.turns job)) runs) (list_any has_unfinished runs)
+run_known form options bytes status text (ran job reports once is lawful) = played options.is_strict (as_asked (never_of_bytes bytes) (given_turns options.turns job) reports) (has_unfinished reports)
+run_known form options bytes status text (repeated job runs times is lawful) = played options.is_strict (list_all (as_asked (never_of_bytes bytes) (given_turns options.turns job)) runs) (list_any has_unfinished runs)
 run_known form options bytes status text (no_such_job f is) = no_job
 run_known form options bytes status text no_place = no_job
 run_known form options bytes status text (no_thread job is) = run_fails

@@ -1,12 +1,10 @@
 -- Counting one more trace, row by row, and one more run.
-use Rattle.std.proofs.Common.{◌≡◌, ◌<◌, ℕ, ◌+◌, ◌&&◌, ◌||◌, List, [], ◌∷◌, ◌++◌, true, take, drop, set, get_or, length, take-append-drop, map, bytes_eq, string_bytes, append_assoc, drop-set-lt, arith, sym, ap, ap₂, subst, ◌∙◌, if◌then◌else◌}
+use Rattle.std.proofs.Common.{◌≡◌, ◌<◌, ℕ, Bool, ◌+◌, ◌&&◌, ◌||◌, List, [], ◌∷◌, ◌++◌, true, take, drop, set, get_or, length, take-append-drop, map, bytes_eq, string_bytes, append_assoc, drop-set-lt, arith, sym, ap, ap₂, subst, ◌∙◌, if◌then◌else◌}
 use Rattle.std.specs.List.{list_all, list_any}
 use Rattle.std.proofs.Math.Bool.{and-true, or-false}
 use Rattle.std.proofs.lemmas.List.{drop_more, get_or_default, map-append, take_more_set}
 use Rattle.std.proofs.lemmas.List.Folds.{list_all-append, list_any-append}
 use Rattle.std.proofs.lemmas.List.Sums.{fold-append}
-use Rattle.ulfm_job.specs.Job.{JobView}
-use Rattle.ulfm_script.specs.Reacting.{all_met}
 use Rattle.ulfm_script.specs.Report.{Report}
 use Rattle.ulfm_program.specs.declared.tally.Counted.{Counted}
 use Rattle.ulfm_program.specs.inside.Tallied.{row_of, rows_of}
@@ -45,6 +43,6 @@ one_more told runs reports = ap tally (map-append told runs (reports ∷ [])) �
 pub some_more : (runs : List (List Report)) (reports : List Report) → list_any has_unfinished (runs ++ reports ∷ []) ≡ (list_any has_unfinished runs || has_unfinished reports)
 some_more runs reports = list_any-append has_unfinished runs (reports ∷ []) ∙ ap (λ b. list_any has_unfinished runs || b) (or-false (has_unfinished reports))
 
--- and may be the one whose answers aren't as expected
-pub all_more : (job : JobView) (runs : List (List Report)) (reports : List Report) → list_all (all_met job) (runs ++ reports ∷ []) ≡ (list_all (all_met job) runs && all_met job reports)
-all_more job runs reports = list_all-append (all_met job) runs (reports ∷ []) ∙ ap (λ b. list_all (all_met job) runs && b) (and-true (all_met job reports))
+-- and may be the one whose answers aren't as the job asks
+pub all_more : (is_good : List Report → Bool) (runs : List (List Report)) (reports : List Report) → list_all is_good (runs ++ reports ∷ []) ≡ (list_all is_good runs && is_good reports)
+all_more is_good runs reports = list_all-append is_good runs (reports ∷ []) ∙ ap (λ b. list_all is_good runs && b) (and-true (is_good reports))

@@ -7,8 +7,7 @@ use Rattle.ulfm_job.specs.declared.fault.JobFault.{JobFault}
 use Rattle.ulfm_job.specs.declared.fault.JobFault.TheVariants.{OutOfMemory}
 use Rattle.ulfm_job.specs.Job.{JobView, with_turns}
 use Rattle.ulfm_reader.specs.Plan.{plan_of}
-use Rattle.ulfm_reader.specs.JobText.{job_of_bytes}
-use Rattle.ulfm_script.specs.Reacting.{all_met}
+use Rattle.ulfm_reader.specs.JobText.{job_of_bytes, never_of_bytes}
 use Rattle.ulfm_script.specs.Report.{Report}
 use Rattle.ulfm_json.specs.Form.{trace_in}
 use Rattle.ulfm_json.specs.declared.form.Form.{Form}
@@ -23,6 +22,7 @@ use Rattle.ulfm_replies.specs.declared.command.Wanted.{Wanted}
 use Rattle.ulfm_replies.specs.declared.command.Wanted.TheVariants.{Check, Replay, Run, Sweep, Outcomes}
 use Rattle.ulfm_replies.specs.Failure.{failed_in, out_of_memory_in}
 use Rattle.ulfm_replies.specs.Replies.{refused_in, IsCheckReply}
+use Rattle.ulfm_replies.specs.Asking.{as_asked}
 use Rattle.ulfm_replies.specs.Unfinished.{has_unfinished, played_status}
 use Rattle.ulfm_replies.specs.declared.failure.Failure.TheVariants as run
 
@@ -36,7 +36,7 @@ given_turns turns job = option_map_or (λ n. with_turns n job) turns job
 pub data IsReplayReply (form : Form) (is_strict : Bool) (turns : Option ℕ) (bytes : List ℕ) : ℕ → List ℕ → Type 0 where
   traced : (job : JobView) (reports : List Report) → job_of_bytes bytes ≡ Ok (plan_of job) → IsReplayed (given_turns turns job) reports
       → IsLawful (given_turns turns job) reports → MadeAtRest (given_turns turns job) reports
-      → IsReplayReply form is_strict turns bytes (played_status is_strict (all_met (given_turns turns job) reports) (has_unfinished reports)) (trace_in form bytes (given_turns turns job) reports)
+      → IsReplayReply form is_strict turns bytes (played_status is_strict (as_asked (never_of_bytes bytes) (given_turns turns job) reports) (has_unfinished reports)) (trace_in form bytes (given_turns turns job) reports)
   not_a_job : (f : JobFault) → job_of_bytes bytes ≡ Err f → IsReplayReply form is_strict turns bytes 1 (refused_in form f)
   no_room : IsReplayReply form is_strict turns bytes 1 (refused_in form OutOfMemory)
   failed : (told : Form) → IsReplayReply form is_strict turns bytes 3 (out_of_memory_in told)
@@ -47,10 +47,10 @@ pub data IsReplayReply (form : Form) (is_strict : Bool) (turns : Option ℕ) (by
 pub data IsRunReply (form : Form) (options : RunOptions) (bytes : List ℕ) : ℕ → List ℕ → Type 0 where
   ran : (job : JobView) (reports : List Report) → options.repeat ≡ None → job_of_bytes bytes ≡ Ok (plan_of job)
       → IsLawful (given_turns options.turns job) reports
-      → IsRunReply form options bytes (played_status options.is_strict (all_met (given_turns options.turns job) reports) (has_unfinished reports)) (trace_in form bytes (given_turns options.turns job) reports)
+      → IsRunReply form options bytes (played_status options.is_strict (as_asked (never_of_bytes bytes) (given_turns options.turns job) reports) (has_unfinished reports)) (trace_in form bytes (given_turns options.turns job) reports)
   repeated : (job : JobView) (runs : List (List Report)) → options.repeat ≡ Some (length runs) → job_of_bytes bytes ≡ Ok (plan_of job)
       → All (IsLawful (given_turns options.turns job)) runs
-      → IsRunReply form options bytes (played_status options.is_strict (list_all (all_met (given_turns options.turns job)) runs) (list_any has_unfinished runs)) (tally_in form (length runs) (tally (map (trace_in form bytes (given_turns options.turns job)) runs)))
+      → IsRunReply form options bytes (played_status options.is_strict (list_all (as_asked (never_of_bytes bytes) (given_turns options.turns job)) runs) (list_any has_unfinished runs)) (tally_in form (length runs) (tally (map (trace_in form bytes (given_turns options.turns job)) runs)))
   no_such_job : (f : JobFault) → job_of_bytes bytes ≡ Err f → IsRunReply form options bytes 1 (refused_in form f)
   no_place : IsRunReply form options bytes 1 (refused_in form OutOfMemory)
   no_thread : (job : JobView) → job_of_bytes bytes ≡ Ok (plan_of job) → IsRunReply form options bytes 3 (failed_in form run.NoThread)

@@ -12,9 +12,8 @@ use std::sync::Wait;
 use std::thread::Threads;
 use ulfm_json::Form;
 use ulfm_reach::Watch;
-use ulfm_reader::ReadJob;
+use ulfm_reader::{ReadJob, Reading};
 use ulfm_replies::{Reply, Wanted, check_reply, refusal, trace_reply};
-use ulfm_script::Job;
 use ulfm_world::replay;
 
 /// The reply of `replay`.
@@ -28,12 +27,12 @@ fn replay_reply(
     requires { AreTurns turns }
     ensures { IfOk result (λ r. IsReplayReply form is_strict turns bytes.now r.status (string_bytes r.text)) }
 {
-    let job = match Job::read(alloc, bytes) {
-        Ok(job) => given_turns(job, turns),
+    let asked = match Reading::read(alloc, bytes) {
+        Ok(asked) => given_turns(asked, turns),
         Err(fault) => return refusal(alloc, form, fault),
     };
-    match replay(alloc, &job) {
-        Ok(reports) => trace_reply(alloc, form, is_strict, bytes, &job, reports.as_slice()),
+    match replay(alloc, &asked.job) {
+        Ok(reports) => trace_reply(alloc, form, is_strict, bytes, &asked, reports.as_slice()),
         Err(_) => Err(AllocError),
     }
 }

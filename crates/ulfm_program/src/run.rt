@@ -22,7 +22,7 @@ use ulfm_base::CallError;
 use ulfm_board::{Decider, Seat, seats};
 use ulfm_carrier::{Ends, LaneEnds, SharedEnds, lanes, shared};
 use ulfm_json::Form;
-use ulfm_reader::ReadJob;
+use ulfm_reader::{ReadJob, Reading};
 use ulfm_replies::{Carrier, Failure, Reply, RunOptions, failed, failure_of, refusal, trace_reply};
 use ulfm_run::{Report, run_job};
 use ulfm_script::{Job, RankReport};
@@ -38,24 +38,24 @@ pub fn run_reply<R: Threads + Wait + Sync>(
     requires { AreInRange options }
     ensures { IfOk result (λ r. IsRunReply form options bytes.now r.status (string_bytes r.text)) }
 {
-    let job = match Job::read(alloc, bytes) {
-        Ok(job) => given_turns(job, options.turns),
+    let asked = match Reading::read(alloc, bytes) {
+        Ok(asked) => given_turns(asked, options.turns),
         Err(fault) => return refusal(alloc, form, fault),
     };
     if let Some(times) = options.repeat {
-        return match tally_of(rt, alloc, options.carrier, form, bytes, times, &job) {
+        return match tally_of(rt, alloc, options.carrier, form, bytes, times, &asked) {
             Ok(tally) => tally_reply(alloc, form, options.is_strict, times, &tally),
             Err(failure) => failed(alloc, form, failure),
         };
     }
-    let ran = run_by_carrier(rt, alloc, options.carrier, &job);
+    let ran = run_by_carrier(rt, alloc, options.carrier, &asked.job);
     match ran {
         Ok(reports) => trace_reply(
             alloc,
             form,
             options.is_strict,
             bytes,
-            &job,
+            &asked,
             reports.as_slice(),
         ),
         Err(failure) => failed(alloc, form, failure),

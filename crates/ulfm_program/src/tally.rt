@@ -2,13 +2,14 @@
 ghost use Rattle.std.specs.Prelude.{◌≡◌, ◌++◌, ◌&&◌, ◌||◌, ◌+◌, ◌<◌, ◌≤◌, ℕ, All, List, length, map, IfErr, IfOk, OnOk, string_bytes};
 ghost use Rattle.std.specs.List.{list_all, list_any};
 ghost use Rattle.ulfm_laws.specs.Lawful.{IsLawful};
-ghost use Rattle.ulfm_script.specs.Reacting.{all_met};
+ghost use Rattle.ulfm_reader.specs.JobText.{rows_of as rows_asked};
 ghost use Rattle.ulfm_script.specs.Report.{Report};
 ghost use Rattle.ulfm_json.specs.Form.{trace_in};
 ghost use Rattle.ulfm_program.specs.declared.tally.Counted.{Counted as Kept};
 ghost use Rattle.ulfm_program.specs.inside.Tallied.{row_of, rows_of};
 ghost use Rattle.ulfm_program.specs.inside.Writing.{IsShown};
 ghost use Rattle.ulfm_program.specs.Tally.{counted, row_in, row_json, row_text, tally, tally_in};
+ghost use Rattle.ulfm_replies.specs.Asking.{as_asked};
 ghost use Rattle.ulfm_replies.specs.Unfinished.{has_unfinished, played_status};
 
 use crate::run::run_by_carrier;
@@ -16,8 +17,8 @@ use std::alloc::{AllocError, Global};
 use std::sync::Wait;
 use std::thread::Threads;
 use ulfm_json::{Form, trace_in};
-use ulfm_replies::{Carrier, Failure, Reply, has_unfinished, played_status};
-use ulfm_script::{Job, all_met};
+use ulfm_reader::Reading;
+use ulfm_replies::{Carrier, Failure, Reply, as_asked, has_unfinished, played_status};
 
 /// A trace, and how many runs gave it.
 #[derive(Drop)]
@@ -27,7 +28,7 @@ pub struct Counted {
 }
 
 /// The distinct traces of runs, in the order in which they first came, whether some run left a step unfinished, and whether in all of
-/// them the answers are as expected.
+/// them the answers are as the job asks.
 #[derive(Drop)]
 pub struct Tally {
     pub rows: Vec<Counted>,
@@ -47,11 +48,11 @@ pub fn tally_of<R: Threads + Wait + Sync>(
     form: Form,
     bytes: &[u8],
     times: u32,
-    job: &Job,
+    asked: &Reading,
 ) -> Result<Tally, Failure>
-    ensures runs { IfOk result (λ t. (runs : List (List Report)) × (length runs ≡ times) × All (IsLawful job.now) runs
-        × (t.is_unfinished ≡ list_any has_unfinished runs) × (t.is_met ≡ list_all (all_met job.now) runs) × (rows_of t.rows.items ≡ tally (map (trace_in form bytes.now job.now) runs))) }
-    ensures shown { IfErr result (λ failure. IsShown job.now failure) }
+    ensures runs { IfOk result (λ t. (runs : List (List Report)) × (length runs ≡ times) × All (IsLawful asked.now.job) runs
+        × (t.is_unfinished ≡ list_any has_unfinished runs) × (t.is_met ≡ list_all (as_asked (rows_asked asked.now.never.items) asked.now.job) runs) × (rows_of t.rows.items ≡ tally (map (trace_in form bytes.now asked.now.job) runs))) }
+    ensures shown { IfErr result (λ failure. IsShown asked.now.job failure) }
 {
     let mut tally = Tally {
         rows: Vec::new(alloc),
@@ -60,7 +61,7 @@ pub fn tally_of<R: Threads + Wait + Sync>(
     };
     let mut done = 0;
     while done < times {
-        run_once(rt, alloc, carrier, form, bytes, job, &mut tally, done)?;
+        run_once(rt, alloc, carrier, form, bytes, asked, &mut tally, done)?;
         done += 1;
     }
     Ok(tally)
@@ -73,25 +74,25 @@ fn run_once<R: Threads + Wait + Sync>(
     carrier: Carrier,
     form: Form,
     bytes: &[u8],
-    job: &Job,
+    asked: &Reading,
     tally: &mut Tally,
     done: u32,
 ) -> Result<(), Failure>
     requires few { All (λ (row : Kept). row.count ≤ done) tally.old.rows.items }
     requires room { done < 4294967295 }
-    ensures ran { OnOk result ((reports : List Report) × IsLawful job.now reports
+    ensures ran { OnOk result ((reports : List Report) × IsLawful asked.now.job reports
         × (tally.new.is_unfinished ≡ (tally.old.is_unfinished || has_unfinished reports))
-        × (tally.new.is_met ≡ (tally.old.is_met && all_met job.now reports))
-        × (rows_of tally.new.rows.items ≡ counted (rows_of tally.old.rows.items) (trace_in form bytes.now job.now reports))) }
+        × (tally.new.is_met ≡ (tally.old.is_met && as_asked (rows_asked asked.now.never.items) asked.now.job reports))
+        × (rows_of tally.new.rows.items ≡ counted (rows_of tally.old.rows.items) (trace_in form bytes.now asked.now.job reports))) }
     ensures few { OnOk result (All (λ (row : Kept). row.count ≤ done + 1) tally.new.rows.items) }
-    ensures shown { IfErr result (λ failure. IsShown job.now failure) }
+    ensures shown { IfErr result (λ failure. IsShown asked.now.job failure) }
 {
-    let reports = run_by_carrier(rt, alloc, carrier, job)?;
+    let reports = run_by_carrier(rt, alloc, carrier, &asked.job)?;
     let hangs = has_unfinished(reports.as_slice());
-    let is_met = all_met(alloc, job, reports.as_slice());
+    let is_met = as_asked(alloc, asked, reports.as_slice());
     tally.is_unfinished = tally.is_unfinished | hangs;
     tally.is_met = tally.is_met & is_met;
-    match trace_in(alloc, form, bytes, job, reports.as_slice()) {
+    match trace_in(alloc, form, bytes, &asked.job, reports.as_slice()) {
         Ok(trace) => match count_trace(&mut tally.rows, trace, done) {
             Ok(()) => Ok(()),
             Err(_) => Err(Failure::OutOfMemory),

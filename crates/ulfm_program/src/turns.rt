@@ -3,15 +3,19 @@ ghost use Rattle.std.specs.Prelude.{◌≡◌};
 ghost use Rattle.ulfm_program.specs.Replies.{given_turns};
 ghost use Rattle.ulfm_replies.specs.CommandLine.{AreTurns};
 
-use ulfm_script::Job;
+use ulfm_reader::Reading;
 
-/// A job with the turns of the command line, where they are given.
-pub fn given_turns(job: Job, turns: Option<u32>) -> Job
+/// What a text asks for, its job with the turns of the command line, where they are given.
+pub fn given_turns(asked: Reading, turns: Option<u32>) -> Reading
     requires { AreTurns turns }
-    ensures { result ≡ given_turns turns job }
+    ensures { result ≡ record asked { job = given_turns turns asked.job } }
 {
     match turns {
-        Some(turns) => job.with_turns(turns),
-        None => job,
+        Some(turns) => {
+            let Reading { job, never } = asked;
+            let job = job.with_turns(turns);
+            Reading { job, never }
+        }
+        None => asked,
     }
 }

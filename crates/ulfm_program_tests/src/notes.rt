@@ -63,6 +63,12 @@ fn standard_error_says_more(rt: HostRuntime) -> Result<(), Fail> {
             9,
             "answers that their steps don't expect: 1\nrank 0 step 0 'copy': dup comm 0: expected 'comm 3' or 'refused', and its answer is 'comm 1'\n",
         ),
+        (
+            "replay",
+            "{rank = 0, op = \"dup\", name = \"copy\"}, {rank = 1, op = \"stop\"}]\nnever = [[\"0.copy comm 1\", \"1.0 skipped\"], [\"0.copy comm\", \"1.0 stopped\"]",
+            9,
+            "rows of 'never' whose answers all came: 1\nrow 1: '0.copy comm' and '1.0 stopped'\n",
+        ),
         ("check", "{rank = 0, op = \"recv\"}", 0, ""),
         ("replay", "{rank = 0, op = \"recv\"}", 0, ""),
         (

@@ -1,36 +1,36 @@
 -- The job of a table and of bytes, case by case.
-use Rattle.std.proofs.Common.{◌≡◌, ℕ, ◌<◌, ◌≤◌, List, length, ltb, true, false, Option, Result, Ok, Err, refl, ap, ◌∙◌, arith}
-use Rattle.ulfm_reader.proofs.Common.{Draft, JobFault, map_ok, items_len, nat_tests, IsUtf8, is_utf8, parse_document, ◌>>=◌}
+use Rattle.std.proofs.Common.{◌≡◌, ℕ, ◌<◌, ◌≤◌, List, length, ltb, true, false, Option, Result, Ok, Err, refl, ap, arith}
+use Rattle.ulfm_reader.proofs.Common.{Clause, Draft, JobFault, items_len, nat_tests, IsUtf8, is_utf8, parse_document, ◌>>=◌}
 use Rattle.std.proofs.lemmas.Str.{is_utf8-from_IsUtf8, IsUtf8-from_is_utf8}
 use Rattle.std.proofs.lemmas.Bool.{false_from_ne_true}
 use Rattle.toml.specs.Data.{Members}
 use Rattle.ulfm_job.specs.declared.fault.JobFault.TheVariants as refused
-use Rattle.ulfm_reader.specs.JobText.{Head, blank, head_of, planned_as, steps_of, job_of, job_of_document, job_of_bytes}
+use Rattle.ulfm_reader.specs.JobText.{Head, blank, head_of, in_job, never_of, read_as, steps_of, reading_of, reading_of_document, reading_of_bytes}
+use Rattle.ulfm_reader.specs.Never.{rows_in}
 
-pub too_many : (ms : Members) (h : Head) → Ok h ≡ head_of ms → 256 < items_len h.steps → job_of ms ≡ Err refused.TooLarge
-unfolding job_of
+pub too_many : (ms : Members) (h : Head) → Ok h ≡ head_of ms → 256 < items_len h.steps → reading_of ms ≡ Err refused.TooLarge
+unfolding reading_of
 too_many ms h read many = let test : ltb 256 (items_len h.steps) ≡ true = grind (arith, nat_tests) in rw (← read, test) refl
 
-later : {A B : Type 0} (f : A → B) (r : Result A JobFault) → (r >>= (λ x. Ok (f x))) ≡ map_ok f r
-later f (Ok x) = refl
-later f (Err e) = refl
-
 pub steps_read : (ms : Members) (h : Head) (r : Result Draft JobFault) → Ok h ≡ head_of ms → items_len h.steps ≤ 256 → steps_of h.ranks 0 (blank h.ranks) h.steps ≡ r
-    → job_of ms ≡ map_ok (planned_as h) r
-unfolding job_of
+    → reading_of ms ≡ (r >>= never_of h)
+unfolding reading_of
 steps_read ms h r read few steps =
     let test : ltb 256 (items_len h.steps) ≡ false = grind (arith, nat_tests) in
-    rw (← read, test) (later (planned_as h) (steps_of h.ranks 0 (blank h.ranks) h.steps) ∙ ap (map_ok (planned_as h)) steps)
+    rw (← read, test) (ap (λ (s : Result Draft JobFault). s >>= never_of h) steps)
 
-pub no_text : (bytes : List ℕ) → length bytes ≤ 1048576 → (IsUtf8 bytes → ⊥) → job_of_bytes bytes ≡ Err refused.NotToml
-unfolding job_of_bytes
+pub rows_read : (h : Head) (draft : Draft) (r : Result (List (List Clause)) JobFault) → in_job (rows_in draft.scripts draft.names h.never) ≡ r → never_of h draft ≡ (r >>= (λ never. Ok (read_as h draft never)))
+rows_read h draft r rows = ap (λ (s : Result (List (List Clause)) JobFault). s >>= (λ never. Ok (read_as h draft never))) rows
+
+pub no_text : (bytes : List ℕ) → length bytes ≤ 1048576 → (IsUtf8 bytes → ⊥) → reading_of_bytes bytes ≡ Err refused.NotToml
+unfolding reading_of_bytes
 no_text bytes short bad =
     let test : ltb 1048576 (length bytes) ≡ false = grind (arith, nat_tests) in
     let fails : is_utf8 bytes ≡ false = false_from_ne_true _ (λ is. bad (IsUtf8-from_is_utf8 bytes is)) in
     rw (test, fails) refl
 
-pub of_text : (bytes : List ℕ) (document : Option Members) → length bytes ≤ 1048576 → IsUtf8 bytes → parse_document bytes ≡ document → job_of_bytes bytes ≡ job_of_document document
-unfolding job_of_bytes
+pub of_text : (bytes : List ℕ) (document : Option Members) → length bytes ≤ 1048576 → IsUtf8 bytes → parse_document bytes ≡ document → reading_of_bytes bytes ≡ reading_of_document document
+unfolding reading_of_bytes
 of_text bytes document short good parsed =
     let test : ltb 1048576 (length bytes) ≡ false = grind (arith, nat_tests) in
     rw (test, is_utf8-from_IsUtf8 bytes good, parsed) refl

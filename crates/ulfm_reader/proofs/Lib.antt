@@ -5,4 +5,5 @@ pub mod NoToml
 pub mod Steps
 pub mod Scripts
 pub mod Asking
+pub mod Claims
 pub mod Drafting

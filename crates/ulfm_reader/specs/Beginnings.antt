@@ -54,3 +54,7 @@ may_expect order words =
 -- the same for a condition, which may also ask whether the step was skipped or is unfinished
 abbrev pub may_ask : Order → List ℕ → Bool
 may_ask order words = is_alike not_answered words || may_expect order words
+
+-- the same for an answer that must not go with others: the step may also be skipped
+abbrev pub may_answer : Order → List ℕ → Bool
+may_answer order words = is_alike (codes "skipped" ∷ []) words || may_expect order words

@@ -1,5 +1,5 @@
 -- The job of a text, by cases in the order of the checks.
-use Rattle.std.specs.Prelude.{◌≡◌, ◌≢◌, ◌≤◌, ◌⊎◌, ℕ, ◌+◌, List, [], ◌∷◌, ◌++◌, length, replicate, slice_index_or, slice_set, Bool, true, ◌&&◌, Option, Some, None, Result, Ok, Err, is_some, if◌then◌else◌, nat_lt, codes}
+use Rattle.std.specs.Prelude.{◌≡◌, ◌≢◌, ◌≤◌, ◌⊎◌, ℕ, ◌+◌, List, [], ◌∷◌, ◌++◌, length, replicate, slice_index_or, slice_set, Bool, true, ◌&&◌, Option, Some, None, Result, Ok, Err, is_some, map, Vec, if◌then◌else◌, nat_lt, codes}
 use Rattle.std.specs.Str.{is_utf8, IsUtf8}
 use Rattle.toml.specs.Data.{Data, Items, no_items, item, Members, get_member, as_array, as_table}
 use Rattle.toml.specs.Parse.{parse_document}
@@ -10,7 +10,10 @@ use Rattle.ulfm_job.specs.declared.fault.JobFault.TheVariants as refused
 use Rattle.ulfm_reader.specs.Keys.{◌>>=◌, items_len, required_number, only_keys, in_range}
 use Rattle.ulfm_job.specs.declared.clause.Clause.{Clause}
 use Rattle.ulfm_reader.specs.declared.name.Name.{Name}
-use Rattle.ulfm_reader.specs.Plan.{Order, PlannedStep, Plan}
+use Rattle.ulfm_reader.specs.declared.reading.Reading.{Reading as Kept}
+use Rattle.std.specs.declared.alloc.Global.{Global}
+use Rattle.ulfm_reader.specs.Never.{never_items, rows_in}
+use Rattle.ulfm_reader.specs.Plan.{Order, PlannedStep, Plan, plan_of}
 use Rattle.ulfm_reader.specs.Reacting.{names_in, conditions_in, expected_in}
 use Rattle.ulfm_reader.specs.StepText.{step_of}
 
@@ -90,6 +93,7 @@ pub record Head : Type 0 where
   pub capacity : ℕ
   pub turns : ℕ
   pub steps : Items
+  pub never : Option Items
 
 -- the numbers of the top keys, in range
 unfoldable pub head_of : Members → Result Head Fault
@@ -98,11 +102,12 @@ head_of ms = do
   capacity_key ← required_number (codes "capacity") ms
   turns_key ← required_number (codes "turns") ms
   steps ← step_items ms
-  keys ← only_keys (codes "ranks" ∷ codes "capacity" ∷ codes "turns" ∷ codes "step" ∷ []) ms
+  never ← never_items ms
+  keys ← only_keys (codes "ranks" ∷ codes "capacity" ∷ codes "turns" ∷ codes "step" ∷ codes "never" ∷ []) ms
   ranks ← in_range 1 8 ranks_key
   capacity ← in_range 1 64 capacity_key
   turns ← in_range 1 10000000 turns_key
-  Ok (record { ranks = ranks; capacity = capacity; turns = turns; steps = steps })
+  Ok (record { ranks = ranks; capacity = capacity; turns = turns; steps = steps; never = never })
 
 -- the plan of the job's own keys, and of what was read of its steps
 abbrev pub planned_as : Head → Draft → Plan
@@ -115,23 +120,62 @@ planned_as h draft = record {
   expected = draft.expected;
 }
 
--- the job of a table: its own keys, how many steps there are, and then the steps
-unfoldable pub job_of : Members → Result Plan JobFault
-job_of ms = in_job (head_of ms) >>= (λ h.
-    if nat_lt 256 (items_len h.steps) then Err refused.TooLarge
-    else steps_of h.ranks 0 (blank h.ranks) h.steps >>= (λ draft. Ok (planned_as h draft)))
+-- what a text asks for: the plan of its job, and the rows of answers of which no run may have all
+pub record Reading : Type 0 where
+  pub plan : Plan
+  pub never : List (List Clause)
 
--- the job of a text that may be no document
-abbrev pub job_of_document : Option Members → Result Plan JobFault
-job_of_document None = Err refused.NotToml
-job_of_document (Some ms) = job_of ms
+-- the rows that the lists in memory hold
+abbrev pub rows_of : List (Vec Clause Global) → List (List Clause)
+rows_of rows = map (λ row. row.items) rows
+
+-- what a text asks for, as it is kept
+abbrev pub reading_view : Kept → Reading
+reading_view r = record { plan = plan_of r.job; never = rows_of r.never.items }
+
+-- what was read of the job's own keys and of its steps, and its rows
+abbrev pub read_as : Head → Draft → List (List Clause) → Reading
+read_as h draft never = record { plan = planned_as h draft; never = never }
+
+-- the rows of a job, by its steps and their names
+abbrev pub never_of : Head → Draft → Result Reading JobFault
+never_of h draft = in_job (rows_in draft.scripts draft.names h.never) >>= (λ never. Ok (read_as h draft never))
+
+-- what a table asks for: its own keys, how many steps there are, then the steps, and then the rows
+unfoldable pub reading_of : Members → Result Reading JobFault
+reading_of ms = in_job (head_of ms) >>= (λ h.
+    if nat_lt 256 (items_len h.steps) then Err refused.TooLarge
+    else steps_of h.ranks 0 (blank h.ranks) h.steps >>= never_of h)
+
+-- what a text asks for that may be no document
+abbrev pub reading_of_document : Option Members → Result Reading JobFault
+reading_of_document None = Err refused.NotToml
+reading_of_document (Some ms) = reading_of ms
+
+-- what any bytes ask for
+unfoldable pub reading_of_bytes : List ℕ → Result Reading JobFault
+reading_of_bytes bytes =
+    if nat_lt 1048576 (length bytes) then Err refused.TooLarge
+    else if is_utf8 bytes then reading_of_document (parse_document bytes)
+    else Err refused.NotToml
+
+-- the job alone
+abbrev pub job_in : Result Reading JobFault → Result Plan JobFault
+job_in (Ok reading) = Ok reading.plan
+job_in (Err fault) = Err fault
 
 -- the job of any bytes
-unfoldable pub job_of_bytes : List ℕ → Result Plan JobFault
-job_of_bytes bytes =
-    if nat_lt 1048576 (length bytes) then Err refused.TooLarge
-    else if is_utf8 bytes then job_of_document (parse_document bytes)
-    else Err refused.NotToml
+abbrev pub job_of_bytes : List ℕ → Result Plan JobFault
+job_of_bytes bytes = job_in (reading_of_bytes bytes)
+
+-- the rows alone: none of what is refused
+abbrev pub rows_alone : Result Reading JobFault → List (List Clause)
+rows_alone (Ok reading) = reading.never
+rows_alone (Err fault) = []
+
+-- the rows of answers of which no run may have all, of any bytes
+abbrev pub never_of_bytes : List ℕ → List (List Clause)
+never_of_bytes bytes = rows_alone (reading_of_bytes bytes)
 
 -- what a function answered is the stated answer, unless memory ran out
 abbrev pub Gives : {X Y : Type 0} → (X → Y) → Result X JobFault → Result Y JobFault → Type 0

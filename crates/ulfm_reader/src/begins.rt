@@ -2,7 +2,7 @@
 ghost use Rattle.std.specs.Prelude.{◌≡◌, map};
 ghost use Rattle.std.specs.List.{list_any};
 ghost use Rattle.ulfm_job.specs.Begins.{begins, ends_word};
-ghost use Rattle.ulfm_reader.specs.Beginnings.{begin_alike, is_alike, may_ask, may_expect, not_answered, own_answers, refusals};
+ghost use Rattle.ulfm_reader.specs.Beginnings.{begin_alike, is_alike, may_answer, may_ask, may_expect, not_answered, own_answers, refusals};
 ghost use Rattle.ulfm_reader.specs.Plan.{order_of};
 
 use ulfm_job::Step;
@@ -133,6 +133,16 @@ pub fn may_ask(step: &Step, words: &str) -> bool
     ensures { result ≡ may_ask (order_of step.now) words.now }
 {
     if is_alike(&["skipped", "unfinished"], words) {
+        return true;
+    }
+    may_expect(step, words)
+}
+
+/// The same for an answer that must not go with others: the step may also be skipped.
+pub fn may_answer(step: &Step, words: &str) -> bool
+    ensures { result ≡ may_answer (order_of step.now) words.now }
+{
+    if is_alike(&["skipped"], words) {
         return true;
     }
     may_expect(step, words)

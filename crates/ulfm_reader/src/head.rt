@@ -7,6 +7,7 @@ ghost use Rattle.ulfm_reader.specs.inside.Reading.{map_ok, IsHead, head_view};
 ghost use Rattle.ulfm_reader.specs.JobText.{step_items, head_of};
 
 use crate::fields::{in_range, only_keys, required_number, value_at};
+use crate::rows::never_values;
 use toml::{Table, Value};
 use ulfm_job::Fault;
 
@@ -17,6 +18,7 @@ pub struct Head<'a> {
     pub capacity: u8,
     pub turns: u32,
     pub steps: &'a [Value],
+    pub never: Option<&'a [Value]>,
 }
 
 /// Reads the job's own keys.
@@ -33,7 +35,8 @@ pub fn head_of(table: &Table) -> Result<Head<'_>, Fault>
     let capacity = required_number(table, "capacity")?;
     let turns = required_number(table, "turns")?;
     let steps = step_values(table)?;
-    only_keys(table, &["ranks", "capacity", "turns", "step"])?;
+    let never = never_values(table)?;
+    only_keys(table, &["ranks", "capacity", "turns", "step", "never"])?;
     let ranks = in_range(ranks, 1, 8)?;
     let capacity = in_range(capacity, 1, 64)?;
     let turns = in_range(turns, 1, 10_000_000)?;
@@ -42,6 +45,7 @@ pub fn head_of(table: &Table) -> Result<Head<'_>, Fault>
         capacity: capacity as u8,
         turns,
         steps,
+        never,
     })
 }
 

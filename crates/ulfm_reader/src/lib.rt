@@ -2,12 +2,14 @@
 //!
 //!     let job = Job::read(alloc, bytes)?;
 //!
-//! [`ReadJob`] has that call: it answers the job of the text, or its first fault, in the order of docs/JOBS.md. Read specs/JobText.antt
-//! (a job), then StepText.antt (a step) and Reacting.antt (names, conditions, what is expected).
+//! [`ReadJob`] has that call: it answers the job of the text, or its first fault, in the order of docs/JOBS.md. A [`Reading`] also has
+//! the rows of answers of which no run may have all. Read specs/JobText.antt (a job), then StepText.antt (a step), Reacting.antt (names,
+//! conditions, what is expected) and Never.antt (rows).
 #![tactic(auto)]
 
 mod asker;
 mod begins;
+mod claim;
 mod clauses;
 mod draft;
 mod fields;
@@ -19,5 +21,6 @@ mod placed;
 mod ranges;
 mod reading;
 mod reference;
+mod rows;
 
-pub use reading::{ReadJob, no_toml};
+pub use reading::{ReadJob, Reading, no_toml};

@@ -1,19 +1,29 @@
 //! The job of a text.
 ghost use Rattle.std.specs.Prelude.{◌≡◌, ◌≤◌, ◌<◌, ℕ, List, Err, IfOk, length};
 ghost use Rattle.toml.specs.View.{table_view, items_view};
-ghost use Rattle.ulfm_reader.specs.inside.Reading.{draft_view};
+ghost use Rattle.ulfm_reader.specs.inside.Reading.{IsHead, draft_view, head_view};
 ghost use Rattle.ulfm_job.specs.Job.{lists_of, step_count};
-ghost use Rattle.ulfm_reader.specs.JobText.{Gives, blank, steps_of, job_of, job_of_bytes, IsNoDocument};
+ghost use Rattle.ulfm_reader.specs.JobText.{Gives, blank, steps_of, job_of_bytes, never_of, reading_of, reading_of_bytes, reading_view, IsNoDocument};
 ghost use Rattle.ulfm_reader.specs.Plan.{plan_of};
 
 use crate::draft::Draft;
-use crate::head::head_of;
+use crate::head::{Head, head_of};
+use crate::rows::rows_in;
 use std::alloc::Global;
 use toml::{Table, Value};
-use ulfm_job::{Job, JobFault, MOST_STEPS};
+use ulfm_job::{Clause, Job, JobFault, MOST_STEPS};
 
 /// The most bytes of a job.
 const MOST_BYTES: usize = 1_048_576;
+
+/// What a text asks for: its job, and the rows of answers of which no run may have all. In each clause of a row `at` is `step`.
+#[derive(Drop)]
+pub struct Reading {
+    /// The job.
+    pub job: Job,
+    /// The rows, none where the text has no `never`.
+    pub never: Vec<Vec<Clause>>,
+}
 
 /// What can be read from the text of a job.
 pub trait ReadJob: Sized {
@@ -25,15 +35,26 @@ pub trait ReadJob: Sized {
     /// document; `InJob` for the job's own keys, with `BadKey`, then `UnknownKey`, then `OutOfRange`; `TooLarge` where
     /// there are more than 256 steps; `InStep` with the place in the file of the first step that has a fault, and its
     /// first fault: `BadKey` for its `op`, `UnknownOp`, `BadKey`, `UnknownKey`, `OutOfRange`; then those of its `name`, its `if` and
-    /// its `expect`. `OutOfMemory` comes in
+    /// its `expect`; then `InJob` with `OutOfRange` for the rows of `never`. `OutOfMemory` comes in
     /// place of any answer, where a growth was refused.
     fn read(alloc: Global, bytes: &[u8]) -> Result<Self, JobFault>;
 }
 
 impl ReadJob for Job {
-    #[tactic(auto, unfolding(crate::specs::JobText::job_of_bytes))]
     fn read(alloc: Global, bytes: &[u8]) -> Result<Job, JobFault>
         ensures { Gives plan_of result (job_of_bytes bytes.now) }
+    {
+        match Reading::read(alloc, bytes) {
+            Ok(reading) => Ok(reading.job),
+            Err(fault) => Err(fault),
+        }
+    }
+}
+
+impl ReadJob for Reading {
+    #[tactic(auto, unfolding(crate::specs::JobText::reading_of_bytes))]
+    fn read(alloc: Global, bytes: &[u8]) -> Result<Reading, JobFault>
+        ensures { Gives reading_view result (reading_of_bytes bytes.now) }
     {
         if bytes.len() > MOST_BYTES {
             return Err(JobFault::TooLarge);
@@ -42,7 +63,7 @@ impl ReadJob for Job {
             return Err(JobFault::NotToml);
         };
         match toml::table_from_str(alloc, text) {
-            Ok(table) => job_of(alloc, &table),
+            Ok(table) => reading_of(alloc, &table),
             Err(error) => {
                 if error.is_memory() {
                     Err(JobFault::OutOfMemory)
@@ -54,10 +75,10 @@ impl ReadJob for Job {
     }
 }
 
-/// The job of a table.
-#[tactic(auto, unfolding(crate::specs::JobText::job_of))]
-fn job_of(alloc: Global, table: &Table) -> Result<Job, JobFault>
-    ensures { Gives plan_of result (job_of (table_view table.now)) }
+/// What a table asks for.
+#[tactic(auto, unfolding(crate::specs::JobText::reading_of))]
+fn reading_of(alloc: Global, table: &Table) -> Result<Reading, JobFault>
+    ensures { Gives reading_view result (reading_of (table_view table.now)) }
 {
     let head = match head_of(table) {
         Ok(head) => head,
@@ -67,13 +88,28 @@ fn job_of(alloc: Global, table: &Table) -> Result<Job, JobFault>
         return Err(JobFault::TooLarge);
     }
     let draft = draft_of(alloc, head.ranks, head.steps)?;
+    with_rows(alloc, &head, draft)
+}
+
+/// What the job's own keys and the steps ask for, and the rows.
+fn with_rows(alloc: Global, head: &Head<'_>, draft: Draft) -> Result<Reading, JobFault>
+    requires ranges { IsHead (head_view head.now) }
+    requires each { length draft.scripts.items ≡ head.now.ranks }
+    requires few { step_count (lists_of draft.scripts.items) ≤ 256 }
+    ensures { Gives reading_view result (never_of (head_view head.now) (draft_view draft)) }
+{
+    let never = match rows_in(alloc, &draft, head.never) {
+        Ok(never) => never,
+        Err(fault) => return Err(fault),
+    };
     let Draft {
         scripts,
         names: _,
         conditions,
         expected,
     } = draft;
-    Ok(Job::new(head.capacity, head.turns, scripts, conditions, expected))
+    let job = Job::new(head.capacity, head.turns, scripts, conditions, expected);
+    Ok(Reading { job, never })
 }
 
 /// What the steps are, in the order of the file.

@@ -1,3 +1,4 @@
 pub mod Parsed
 pub mod Numbers
 pub mod Refused
+pub mod Rows

@@ -1,5 +1,6 @@
 pub mod CommandLine
 pub mod Asked
+pub mod Asking
 pub mod Failure
 pub mod Replies
 pub mod Unfinished

@@ -12,7 +12,7 @@ leaves_unfinished report = list_any (λ (step : StepReport). is_unfinished step.
 abbrev pub has_unfinished : List Report → Bool
 has_unfinished reports = list_any leaves_unfinished reports
 
--- the status of what was played to its end: 9 where an answer isn't as its step expects, with `--strict` 6 where a step was left
+-- the status of what was played to its end: 9 where the answers aren't as the job asks, with `--strict` 6 where a step was left
 -- unfinished, else 0
 abbrev pub played_status : Bool → Bool → Bool → ℕ
 played_status is_strict is_met is_unfinished = if is_met then (if is_strict && is_unfinished then 6 else 0) else 9

@@ -5,6 +5,7 @@
 #![tactic(auto)]
 
 mod asked;
+mod asking;
 mod command;
 mod failure;
 mod help;
@@ -17,6 +18,7 @@ mod trace;
 mod version;
 
 pub use asked::{Unfollowed, asked_for};
+pub use asking::as_asked;
 pub use command::{Asked, Carrier, RunOptions, Wanted};
 pub use failure::{Failure, failed, failed_line, failure_of};
 pub use notes::{write_fault, write_notes};

@@ -5,7 +5,7 @@ use crate::reply::{DONE, JOB_REFUSED, NOT_EXPECTED, PAST_LIMIT, Reply, UNFINISHE
 use std::alloc::{AllocError, Global};
 use std::io::Write;
 use ulfm_explain::{
-    Explanation, explain, skipped_steps, unfinished_steps, unmet_answers, warnings,
+    Explanation, explain, rows_that_came, skipped_steps, unfinished_steps, unmet_answers, warnings,
 };
 use ulfm_findings::write_whole;
 use ulfm_json::Form;
@@ -63,7 +63,7 @@ fn fault_line(alloc: Global, usage: &str) -> Result<String, AllocError> {
 }
 
 /// What is said of a reply: why a job is refused or can't be swept, what of a good one will be refused, which answers
-/// aren't as expected, or which steps hang.
+/// aren't as the job asks, or which steps hang.
 fn notes_on(
     alloc: Global,
     form: Form,
@@ -80,6 +80,8 @@ fn notes_on(
         _ if form == Form::Json => Ok(String::new(alloc)),
         (NOT_EXPECTED, _) => {
             let mut notes = unmet_answers(alloc, bytes, reply.text.as_str())?;
+            let rows = rows_that_came(alloc, bytes, reply.text.as_str())?;
+            notes.push_str(rows.as_str())?;
             let hangs = hangs_in(alloc, wanted, bytes, reply.text.as_str())?;
             notes.push_str(hangs.as_str())?;
             Ok(notes)

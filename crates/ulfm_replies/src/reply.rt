@@ -32,7 +32,7 @@ pub const UNFINISHED: u8 = 6;
 /// A job comes to more states than the limit that the words set.
 pub const PAST_LIMIT: u8 = 7;
 
-/// What was played to its end has an answer that its step doesn't expect.
+/// What was played to its end has an answer that its step doesn't expect, or all answers of a row that must not go together.
 pub const NOT_EXPECTED: u8 = 9;
 
 /// A status, and the text that is written with it.

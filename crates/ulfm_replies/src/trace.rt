@@ -1,33 +1,36 @@
 //! The reply that a trace is.
 ghost use Rattle.std.specs.Prelude.{◌≡◌, IfOk, string_bytes};
-ghost use Rattle.ulfm_script.specs.Reacting.{all_met};
 ghost use Rattle.ulfm_script.specs.Report.{is_unfinished};
 ghost use Rattle.ulfm_json.specs.Form.{trace_in};
+ghost use Rattle.ulfm_reader.specs.JobText.{rows_of};
+ghost use Rattle.ulfm_replies.specs.Asking.{as_asked};
 ghost use Rattle.ulfm_replies.specs.Unfinished.{has_unfinished, leaves_unfinished, played_status};
 
+use crate::asking::as_asked;
 use crate::reply::{DONE, NOT_EXPECTED, Reply, UNFINISHED};
 use std::alloc::{AllocError, Global};
 use ulfm_json::{Form, trace_in};
-use ulfm_script::{Job, RankReport, StepAnswer, StepReport, all_met};
+use ulfm_reader::Reading;
+use ulfm_script::{RankReport, StepAnswer, StepReport};
 
-/// The trace of the reports of a job's ranks, in this form, with its status. The bytes are the job's text.
+/// The trace of the reports of a job's ranks, in this form, with its status. The bytes are the job's text, which asks for these answers.
 pub fn trace_reply(
     alloc: Global,
     form: Form,
     is_strict: bool,
     bytes: &[u8],
-    job: &Job,
+    asked: &Reading,
     reports: &[RankReport],
 ) -> Result<Reply, AllocError>
-    ensures { IfOk result (λ r. (r.status ≡ played_status is_strict (all_met job.now reports.now) (has_unfinished reports.now)) × (string_bytes r.text ≡ trace_in form bytes.now job.now reports.now)) }
+    ensures { IfOk result (λ r. (r.status ≡ played_status is_strict (as_asked (rows_of asked.now.never.items) asked.now.job reports.now) (has_unfinished reports.now)) × (string_bytes r.text ≡ trace_in form bytes.now asked.now.job reports.now)) }
 {
-    let is_met = all_met(alloc, job, reports);
+    let is_met = as_asked(alloc, asked, reports);
     let status = played_status(is_strict, is_met, has_unfinished(reports));
-    let text = trace_in(alloc, form, bytes, job, reports)?;
+    let text = trace_in(alloc, form, bytes, &asked.job, reports)?;
     Ok(Reply { status, text })
 }
 
-/// The status of what was played to its end, by whether the answers are as expected, and whether a step was left unfinished.
+/// The status of what was played to its end, by whether the answers are as the job asks, and whether a step was left unfinished.
 pub fn played_status(is_strict: bool, is_met: bool, is_unfinished: bool) -> u8
     ensures { result ≡ played_status is_strict is_met is_unfinished }
 {

@@ -1,12 +1,14 @@
 -- What is read of a job's text, without the form that it has in memory.
-use Rattle.std.specs.Prelude.{ℕ, Bool, List, [], ◌∷◌, ◌++◌, Option, Some, None, Result, Ok, Err, ◌<◌, ◌≤◌, map, if◌then◌else◌}
+use Rattle.std.specs.Prelude.{ℕ, Bool, List, [], ◌∷◌, ◌++◌, Option, Some, None, Result, Ok, Err, ◌<◌, ◌≤◌, map, option_map, if◌then◌else◌}
 use Rattle.std.specs.Borrow.{Bor}
 use Rattle.toml.specs.View.{items_view}
 use Rattle.ulfm_reader.specs.declared.head.Head.{Head as Coded}
 use Rattle.ulfm_reader.specs.JobText.{Head, Draft}
 use Rattle.ulfm_reader.specs.Beginnings.{may_ask, may_expect}
 use Rattle.ulfm_job.specs.Job.{lists_of}
-use Rattle.ulfm_reader.specs.Reacting.{Asker, Reference, by_number, by_name}
+use Rattle.ulfm_reader.specs.Reacting.{Asker, Reference, by_number, by_name, clause}
+use Rattle.ulfm_job.specs.declared.clause.Clause.{Clause}
+use Rattle.ulfm_reader.specs.declared.claim.Claim.{Claim as CodedClaim}
 use Rattle.ulfm_reader.specs.declared.asker.Asker.{Asker as CodedAsker}
 use Rattle.ulfm_reader.specs.declared.draft.Draft.{Draft as CodedDraft}
 use Rattle.ulfm_reader.specs.declared.name.Name.{Name}
@@ -25,7 +27,7 @@ map_ok view (Err e) = Err e
 
 -- the numbers of the top keys, as they are kept
 abbrev pub head_view : Coded → Head
-head_view h = record { ranks = h.ranks; capacity = h.capacity; turns = h.turns; steps = items_view h.steps.now }
+head_view h = record { ranks = h.ranks; capacity = h.capacity; turns = h.turns; steps = items_view h.steps.now; never = option_map (λ s. items_view s.now) h.never }
 
 -- the ranges of the job's own numbers
 pub record IsHead (h : Head) : Type 0 where
@@ -71,3 +73,7 @@ draft_view d = record {
 abbrev pub name_behind : List Name → ℕ → ℕ → Option (Bor (List ℕ)) → List Name
 name_behind names rank at None = names
 name_behind names rank at (Some text) = names ++ record { rank = rank; at = at; text = text.now } ∷ []
+
+-- the clause of an answer, as it is read
+abbrev pub claim_view : CodedClaim → Clause
+claim_view c = clause c.rank c.step c.step c.words.now

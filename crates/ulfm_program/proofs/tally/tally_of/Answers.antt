@@ -1,9 +1,10 @@
 use Rattle.std.proofs.Common.{[], ◌∷◌, ◌++◌, ◌+◌, ◌&&◌, ◌||◌, ◌∙◌, arith, ap, length-append, sym}
 use Rattle.std.proofs.lemmas.List.Elements.{All-push}
 use Rattle.ulfm_laws.specs.Lawful.{IsLawful}
-use Rattle.ulfm_script.specs.Reacting.{all_met}
+use Rattle.ulfm_reader.specs.JobText.{rows_of as rows_asked}
 use Rattle.ulfm_json.specs.Form.{trace_in}
 use Rattle.ulfm_program.specs.Tally.{counted}
+use Rattle.ulfm_replies.specs.Asking.{as_asked}
 use Rattle.ulfm_replies.specs.Unfinished.{has_unfinished}
 use Rattle.ulfm_program.proofs.Tallied.{one_more, some_more, all_more}
 use Rattle.ulfm_program.proofs.tally.tally_of.Goals as goal
@@ -11,6 +12,7 @@ use Rattle.ulfm_program.proofs.tally.tally_of.Goals as goal
 pub loop-done-preserved : goal.loop-done-preserved
 loop-done-preserved g c =
     let known = c.loop-done.invariant.2 in
+    let is_good = as_asked (rows_asked c.args.asked.now.never.items) c.args.asked.now.job in
     let runs = known.0 in
     let ran = c.in_ok-run_once.ensures.ran in (
       omega (arith, c.loop-done-test.true),
@@ -18,9 +20,9 @@ loop-done-preserved g c =
       (
         runs ++ ran.0 ∷ [],
         length-append runs (ran.0 ∷ []) ∙ ap (λ n. n + 1) known.1,
-        All-push (IsLawful c.args.job.now) runs ran.0 known.2 ran.1,
+        All-push (IsLawful c.args.asked.now.job) runs ran.0 known.2 ran.1,
         ran.2 ∙ ap (λ b. b || has_unfinished ran.0) known.3 ∙ sym (some_more runs ran.0),
-        ran.3 ∙ ap (λ b. b && all_met c.args.job.now ran.0) known.4 ∙ sym (all_more c.args.job.now runs ran.0),
-        ran.4 ∙ ap (λ rows. counted rows (trace_in c.args.form c.args.bytes.now c.args.job.now ran.0)) known.5 ∙ sym (one_more (trace_in c.args.form c.args.bytes.now c.args.job.now) runs ran.0),
+        ran.3 ∙ ap (λ b. b && is_good ran.0) known.4 ∙ sym (all_more is_good runs ran.0),
+        ran.4 ∙ ap (λ rows. counted rows (trace_in c.args.form c.args.bytes.now c.args.asked.now.job ran.0)) known.5 ∙ sym (one_more (trace_in c.args.form c.args.bytes.now c.args.asked.now.job) runs ran.0),
       ),
     )

@@ -1,0 +1,178 @@
+//! What is wrong with the rows of `never`, and which rows a trace has whole.
+
+use crate::answers::{MOST_WORDS, begins, may_begin};
+use crate::cause::Cause;
+use crate::claim::claim_of;
+use crate::findings::Findings;
+use crate::rules::Key;
+use crate::script::{Script, op_of};
+use crate::shown::Shown;
+use crate::steps::steps_of;
+use crate::told::{halves, table_of};
+use std::alloc::{AllocError, Global};
+use toml::{Table, Value};
+
+/// The most rows.
+const MOST_ROWS: usize = 32;
+
+/// The fewest texts of a row.
+const FEWEST: usize = 2;
+
+/// The most texts of a row.
+const MOST: usize = 8;
+
+/// The rows of a job; none where they aren't an array.
+fn rows_of(table: &Table) -> &[Value] {
+    match table.get("never") {
+        Some(value) => match value.as_array() {
+            Some(values) => values.as_slice(),
+            None => &[],
+        },
+        None => &[],
+    }
+}
+
+/// Tells how many rows there are, where there may not be so many, and then what is wrong with each, after all steps.
+pub fn explain_never(
+    findings: &mut Findings<'_>,
+    steps: &[Value],
+    table: &Table,
+) -> Result<(), AllocError> {
+    let rows = rows_of(table);
+    if rows.len() > MOST_ROWS || (rows.is_empty() && is_empty_at(table)) {
+        return tell(findings, Cause::Rows(rows.len()));
+    }
+    for (number, row) in rows.iter().enumerate() {
+        if let Some(texts) = row.as_array() {
+            explain_row(findings, steps, number, texts.as_slice())?;
+        }
+    }
+    Ok(())
+}
+
+/// Whether the rows of a job are an array without any.
+fn is_empty_at(table: &Table) -> bool {
+    match table.get("never") {
+        Some(value) => value.is_array(),
+        None => false,
+    }
+}
+
+/// Tells a cause, at the key `never`.
+fn tell(findings: &mut Findings<'_>, cause: Cause) -> Result<(), AllocError> {
+    let at = findings.place_of(None, "never");
+    findings.tell(at, None, cause)
+}
+
+/// Tells what is wrong with a row.
+fn explain_row(
+    findings: &mut Findings<'_>,
+    steps: &[Value],
+    number: usize,
+    texts: &[Value],
+) -> Result<(), AllocError> {
+    if texts.len() < FEWEST || texts.len() > MOST {
+        return tell(findings, Cause::RowLength(number, texts.len()));
+    }
+    for text in texts {
+        if let Some(text) = text.as_str() {
+            explain_text(findings, steps, text)?;
+        }
+    }
+    Ok(())
+}
+
+/// Tells what is wrong with a text of a row.
+fn explain_text(
+    findings: &mut Findings<'_>,
+    steps: &[Value],
+    text: &str,
+) -> Result<(), AllocError> {
+    let shown = Shown::new(findings.alloc, text)?;
+    let Some(claim) = claim_of(text) else {
+        return tell(findings, Cause::NoPlace(shown));
+    };
+    let rank = claim.rank;
+    let step = match claim.number(steps) {
+        Some(number) => Script { steps, rank }.step(number),
+        None => None,
+    };
+    let Some(step) = step else {
+        return tell(findings, Cause::NoStep(shown));
+    };
+    match op_of(step) {
+        Some(_) if claim.words.len() > MOST_WORDS => {
+            tell(findings, Cause::LongWords(Key::Never, claim.words.len()))
+        }
+        Some(op) if !may_begin(op, Key::Never, claim.words) => {
+            tell(findings, Cause::NoAnswer(Key::Never, shown, op))
+        }
+        _ => Ok(()),
+    }
+}
+
+/// The lines on the rows of a job that a trace, or one of several, has whole. A text that is no TOML has none.
+///
+/// # Errors
+///
+/// `AllocError` where a growth was refused.
+pub fn rows_that_came(alloc: Global, bytes: &[u8], trace: &str) -> Result<String, AllocError> {
+    let mut notes = String::new(alloc);
+    let Some(table) = table_of(alloc, bytes)? else {
+        return Ok(notes);
+    };
+    let mut count = 0_usize;
+    for (number, row) in rows_of(&table).iter().enumerate() {
+        let texts = row.as_array().map_or(&[][..], |texts| texts.as_slice());
+        if has_come(steps_of(&table), texts, trace) {
+            write!(notes, "row {number}:")?;
+            push_texts(&mut notes, texts)?;
+            count = count.saturating_add(1);
+        }
+    }
+    if count == 0 {
+        return Ok(notes);
+    }
+    format!(in alloc; "rows of 'never' whose answers all came: {count}\n{notes}")
+}
+
+/// Whether a trace, or one of several, has all answers of a row.
+fn has_come(steps: &[Value], texts: &[Value], trace: &str) -> bool {
+    trace
+        .split(" runs:\n")
+        .any(|one| texts.iter().all(|text| is_told(steps, text, one)))
+}
+
+/// Whether a trace has an answer.
+fn is_told(steps: &[Value], text: &Value, trace: &str) -> bool {
+    let Some(claim) = text.as_str().and_then(|text| claim_of(text)) else {
+        return false;
+    };
+    let number = claim.number(steps);
+    trace
+        .lines()
+        .any(|line| is_line_of(line, claim.rank, number, claim.words))
+}
+
+/// Whether a line of a trace is of this step, and its answer begins so.
+fn is_line_of(line: &str, rank: i64, number: Option<usize>, words: &str) -> bool {
+    let (place, answer) = halves(line, ": ");
+    let mut place = place.split(' ');
+    let told_rank: Option<i64> = place.next().and_then(|word| word.parse().ok());
+    let told_number: Option<usize> = place.next().and_then(|word| word.parse().ok());
+    told_number.is_some()
+        && told_rank == Some(rank)
+        && told_number == number
+        && begins(answer, words)
+}
+
+/// Adds the texts of a row.
+fn push_texts(note: &mut String, texts: &[Value]) -> Result<(), AllocError> {
+    let mut mark = "";
+    for value in texts {
+        let text = value.as_str().unwrap_or("");
+        write!(note, "{mark} '{text}'")?;
+        mark = " and";
+    }
+    note.push_str("\n")
+}

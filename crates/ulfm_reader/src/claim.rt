@@ -1,0 +1,121 @@
+//! An answer by its rank, its step, and the words with which it begins.
+ghost use Rattle.std.specs.Prelude.{◌≡◌, ◌<◌, [], option_map, slice_get, slice_index_or};
+ghost use Rattle.std.specs.Char.{is_ascii_digit};
+ghost use Rattle.std.specs.List.{list_all};
+ghost use Rattle.toml.specs.Data.{as_str};
+ghost use Rattle.toml.specs.View.{view};
+ghost use Rattle.ulfm_job.specs.Job.{lists_of};
+ghost use Rattle.ulfm_reader.specs.Never.{claim_at, claim_in, is_number, number_in, order_at, parted, step_in};
+ghost use Rattle.ulfm_reader.specs.Plan.{order_of};
+ghost use Rattle.ulfm_reader.specs.inside.Reading.{claim_view, draft_view, map_ok};
+
+use crate::begins::may_answer;
+use crate::draft::Draft;
+use crate::name::{Name, named};
+use toml::Value;
+use ulfm_job::{Fault, Step};
+
+/// That the answer of a step of a rank begins with these words, by whole words.
+#[derive(Clone, Copy)]
+pub struct Claim<'a> {
+    pub rank: u8,
+    pub step: u16,
+    pub words: &'a str,
+}
+
+/// What stands before the first such character of a text, and what behind it.
+fn parted(text: &str, at: char) -> Result<(&str, &str), Fault>
+    requires { at < 128 }
+    ensures { map_ok (λ parts. (parts.0.now, parts.1.now)) result ≡ parted at text.now }
+{
+    match text.split_once(at) {
+        Some(parts) => Ok(parts),
+        None => Err(Fault::OutOfRange),
+    }
+}
+
+/// Whether each of these bytes is a digit.
+fn are_digits(bytes: &[u8]) -> bool
+    ensures { result ≡ list_all is_ascii_digit bytes.now }
+{
+    bytes.iter().all(|byte| byte.is_ascii_digit())
+}
+
+/// Whether a text is a number: digits alone, of which there are some.
+fn is_number(text: &str) -> bool
+    ensures { result ≡ is_number text.now }
+{
+    !text.is_empty() && are_digits(text.as_bytes())
+}
+
+/// The number of a text of digits alone, 0 to 255.
+fn number_in(text: &str) -> Result<u8, Fault>
+    ensures { result ≡ number_in text.now }
+{
+    if !is_number(text) {
+        return Err(Fault::OutOfRange);
+    }
+    match text.parse::<u8>() {
+        Ok(number) => Ok(number),
+        Err(_) => Err(Fault::OutOfRange),
+    }
+}
+
+/// The number of a step of a rank, by its number or its name.
+fn step_in(names: &[Name], rank: u8, text: &str) -> Result<u16, Fault>
+    ensures { result ≡ step_in names.now rank text.now }
+{
+    if is_number(text) {
+        return Ok(u16::from(number_in(text)?));
+    }
+    named(names, rank, text).ok_or(Fault::OutOfRange)
+}
+
+/// A rank's steps: none where there is no such rank.
+fn script_at(draft: &Draft, rank: u8) -> &[Step]
+    ensures { result.now ≡ slice_index_or (lists_of draft.now.scripts.items) rank [] }
+{
+    match draft.scripts.get(rank as usize) {
+        Some(script) => script.as_slice(),
+        None => &[],
+    }
+}
+
+/// A step of a rank, where there is one.
+fn step_of(draft: &Draft, rank: u8, step: u16) -> Option<&Step>
+    ensures { option_map (λ s. s.now) result ≡ slice_get (slice_index_or (lists_of draft.now.scripts.items) rank []) step }
+{
+    script_at(draft, rank).get(step as usize)
+}
+
+/// A step of a rank, by what it asks for.
+fn step_at(draft: &Draft, rank: u8, step: u16) -> Option<&Step>
+    ensures { option_map (λ s. order_of s.now) result ≡ order_at (draft_view draft.now).scripts rank step }
+{
+    step_of(draft, rank, step)
+}
+
+/// The answer that a text names: a rank, a dot, a step by its number or its name, a space, and how an answer of that step may begin.
+#[tactic(auto, unfolding(crate::specs::Never::claim_in))]
+fn claim_in<'a>(draft: &Draft, text: &'a str) -> Result<Claim<'a>, Fault>
+    ensures { map_ok claim_view result ≡ claim_in (draft_view draft.now).scripts draft.now.names.items text.now }
+{
+    let (place, words) = parted(text, ' ')?;
+    let (rank, step) = parted(place, '.')?;
+    let rank = number_in(rank)?;
+    let step = step_in(draft.names.as_slice(), rank, step)?;
+    match step_at(draft, rank, step) {
+        Some(asked) if may_answer(asked, words) => Ok(Claim { rank, step, words }),
+        _ => Err(Fault::OutOfRange),
+    }
+}
+
+/// The answer that a value names, where it is a text.
+pub fn claim_at<'a>(draft: &Draft, value: &'a Value) -> Result<Claim<'a>, Fault>
+    ensures { map_ok claim_view result ≡ claim_at (draft_view draft.now).scripts draft.now.names.items (as_str (view value.now)) }
+{
+    match value.as_str() {
+        Some(text) => claim_in(draft, text),
+        None => Err(Fault::BadKey),
+    }
+}

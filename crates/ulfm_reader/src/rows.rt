@@ -1,0 +1,142 @@
+//! The rows of answers of which no run may have all.
+ghost use Rattle.std.specs.Prelude.{◌≡◌, [], is_some, option_map};
+ghost use Rattle.std.specs.List.{list_all};
+ghost use Rattle.toml.specs.Data.{as_array, as_str};
+ghost use Rattle.toml.specs.View.{view, table_view, items_view};
+ghost use Rattle.ulfm_reader.specs.JobText.{Gives, in_job, rows_of};
+ghost use Rattle.ulfm_reader.specs.Never.{claims_onto, is_row, is_within, never_items, row_in, rows_in, rows_onto};
+ghost use Rattle.ulfm_reader.specs.inside.Reading.{draft_view, map_ok};
+
+use crate::claim::claim_at;
+use crate::draft::Draft;
+use crate::fields::value_at;
+use std::alloc::Global;
+use toml::{Table, Value};
+use ulfm_job::{Clause, Fault, JobFault, Text};
+
+/// The most rows.
+const MOST_ROWS: usize = 32;
+
+/// The fewest answers of a row.
+const FEWEST: usize = 2;
+
+/// The most answers of a row.
+const MOST: usize = 8;
+
+/// Whether each value is a text.
+fn are_texts(values: &[Value]) -> bool
+    ensures { result ≡ list_all (λ v. is_some (as_str (view v))) values.now }
+{
+    values.iter().all(|value| value.is_str())
+}
+
+/// Whether a value is an array of texts.
+fn is_row(value: &Value) -> bool
+    ensures { result ≡ is_row (view value.now) }
+{
+    match value.as_array() {
+        Some(values) => {
+            let values = values.as_slice();
+            are_texts(values)
+        }
+        None => false,
+    }
+}
+
+/// Whether each value is an array of texts.
+fn are_rows(values: &[Value]) -> bool
+    ensures { result ≡ list_all (λ v. is_row (view v)) values.now }
+{
+    values.iter().all(|value| is_row(value))
+}
+
+/// The array of arrays of texts at the key `never`, where it is there.
+pub fn never_values(table: &Table) -> Result<Option<&[Value]>, Fault>
+    ensures { map_ok (option_map (λ s. items_view s.now)) result ≡ never_items (table_view table.now) }
+{
+    match value_at(table, "never") {
+        Some(value) => match value.as_array() {
+            Some(values) => {
+                let values = values.as_slice();
+                if are_rows(values) {
+                    Ok(Some(values))
+                } else {
+                    Err(Fault::BadKey)
+                }
+            }
+            None => Err(Fault::BadKey),
+        },
+        None => Ok(None),
+    }
+}
+
+/// Whether there are from the least to the most values.
+fn is_within(least: usize, most: usize, values: &[Value]) -> bool
+    ensures { result ≡ is_within least most (items_view values.now) }
+{
+    least <= values.len() && values.len() <= most
+}
+
+/// The answers that texts name.
+fn claims_of(alloc: Global, draft: &Draft, values: &[Value]) -> Result<Vec<Clause>, JobFault>
+    ensures { Gives (λ row. row.items) result (in_job (claims_onto (draft_view draft.now).scripts draft.now.names.items [] (items_view values.now))) }
+{
+    let mut row = Vec::new(alloc);
+    for value in values {
+        let claim = match claim_at(draft, value) {
+            Ok(claim) => claim,
+            Err(fault) => return Err(JobFault::InJob(fault)),
+        };
+        let words = Text::new(alloc, claim.words)?;
+        row.push(Clause {
+            rank: claim.rank,
+            at: claim.step,
+            step: claim.step,
+            words,
+        })?;
+    }
+    Ok(row)
+}
+
+/// The row of a value: an array of 2 to 8 texts.
+fn row_in(alloc: Global, draft: &Draft, value: &Value) -> Result<Vec<Clause>, JobFault>
+    ensures { Gives (λ row. row.items) result (in_job (row_in (draft_view draft.now).scripts draft.now.names.items (as_array (view value.now)))) }
+{
+    let Some(values) = value.as_array() else {
+        return Err(JobFault::InJob(Fault::BadKey));
+    };
+    if !is_within(FEWEST, MOST, values.as_slice()) {
+        return Err(JobFault::InJob(Fault::OutOfRange));
+    }
+    claims_of(alloc, draft, values.as_slice())
+}
+
+/// The rows of values.
+fn rows_of(alloc: Global, draft: &Draft, values: &[Value]) -> Result<Vec<Vec<Clause>>, JobFault>
+    ensures { Gives (λ rows. rows_of rows.items) result (in_job (rows_onto (draft_view draft.now).scripts draft.now.names.items [] (items_view values.now))) }
+{
+    let mut rows = Vec::new(alloc);
+    for value in values {
+        let row = match row_in(alloc, draft, value) {
+            Ok(row) => row,
+            Err(fault) => return Err(fault),
+        };
+        rows.push(row)?;
+    }
+    Ok(rows)
+}
+
+/// The rows of the key `never`, where it is there: 1 to 32.
+pub fn rows_in(
+    alloc: Global,
+    draft: &Draft,
+    values: Option<&[Value]>,
+) -> Result<Vec<Vec<Clause>>, JobFault>
+    ensures { Gives (λ rows. rows_of rows.items) result (in_job (rows_in (draft_view draft.now).scripts draft.now.names.items (option_map (λ s. items_view s.now) values.entry))) }
+{
+    match values {
+        Some(values) if is_within(1, MOST_ROWS, values) => rows_of(alloc, draft, values),
+        Some(_) => Err(JobFault::InJob(Fault::OutOfRange)),
+        None => Ok(Vec::new(alloc)),
+    }
+}
