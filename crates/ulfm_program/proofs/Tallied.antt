@@ -1,4 +1,4 @@
--- Counting one more trace, row by row, and one more run.
+-- Counting one more text, row by row, and one more run.
 use Rattle.std.proofs.Common.{◌≡◌, ◌<◌, ℕ, Bool, ◌+◌, ◌&&◌, ◌||◌, List, [], ◌∷◌, ◌++◌, true, take, drop, set, get_or, length, take-append-drop, map, bytes_eq, string_bytes, append_assoc, drop-set-lt, arith, sym, ap, ap₂, subst, ◌∙◌, if◌then◌else◌}
 use Rattle.std.specs.List.{list_all, list_any}
 use Rattle.std.proofs.Math.Bool.{and-true, or-false}
@@ -8,36 +8,36 @@ use Rattle.std.proofs.lemmas.List.Sums.{fold-append}
 use Rattle.ulfm_script.specs.Report.{Report}
 use Rattle.ulfm_program.specs.declared.tally.Counted.{Counted}
 use Rattle.ulfm_program.specs.inside.Tallied.{row_of, rows_of}
-use Rattle.ulfm_program.specs.Tally.{Row, counted, tally}
+use Rattle.ulfm_program.specs.Tally.{Row, counted, counted_once, tally}
 use Rattle.ulfm_replies.specs.Unfinished.{has_unfinished}
 
--- the first i rows, and then the others with one more trace
-abbrev pub counted_from : List Counted → List ℕ → ℕ → List Row
-counted_from rows t i = rows_of (take i rows) ++ counted (rows_of (drop i rows)) t
+-- the first i rows, and then the others with one more text
+abbrev pub counted_from : List Counted → Row → ℕ → List Row
+counted_from rows m i = rows_of (take i rows) ++ counted (rows_of (drop i rows)) m
 
-same : (row : Counted) (rest : List Counted) (t : List ℕ) → bytes_eq (string_bytes row.trace) t ≡ true → counted (rows_of (row ∷ rest)) t ≡ (string_bytes row.trace, row.count + 1) ∷ rows_of rest
-same row rest t is = ap (λ b. if b then (string_bytes row.trace, row.count + 1) ∷ rows_of rest else row_of row ∷ counted (rows_of rest) t) is
+same : (row : Counted) (rest : List Counted) (m : Row) → bytes_eq (string_bytes row.text) m.0 ≡ true → counted (rows_of (row ∷ rest)) m ≡ (string_bytes row.text, row.count + m.1) ∷ rows_of rest
+same row rest m is = ap (λ b. if b then (string_bytes row.text, row.count + m.1) ∷ rows_of rest else row_of row ∷ counted (rows_of rest) m) is
 
 joined : (front : List Counted) (row : Counted) (rest : List Row) → rows_of (front ++ row ∷ []) ++ rest ≡ rows_of front ++ row_of row ∷ rest
 joined front row rest = ap (λ rows. rows ++ rest) (map-append row_of front (row ∷ [])) ∙ append_assoc (rows_of front) (row_of row ∷ []) rest
 
--- the count of a row of this trace rises by one; the row was read twice
-pub found : (rows : List Counted) (t : List ℕ) (i : ℕ) (q p new : Counted) → i < length rows → q ≡ get_or rows i q → p ≡ get_or rows i p
-    → bytes_eq (string_bytes q.trace) t ≡ true → new.trace ≡ p.trace → new.count ≡ p.count + 1 → rows_of (set rows i new) ≡ counted_from rows t i
-found rows t i q p new lt read again is text count =
+-- the count of a row of this text rises; the row was read twice
+pub found : (rows : List Counted) (m : Row) (i : ℕ) (q p new : Counted) → i < length rows → q ≡ get_or rows i q → p ≡ get_or rows i p
+    → bytes_eq (string_bytes q.text) m.0 ≡ true → new.text ≡ p.text → new.count ≡ p.count + m.1 → rows_of (set rows i new) ≡ counted_from rows m i
+found rows m i q p new lt read again is text count =
     let rest = drop (i + 1) rows in
     let row = get_or rows i q in
     let both : p ≡ row = again ∙ get_or_default rows i p q lt in
     let parts : set rows i new ≡ (take i rows ++ new ∷ []) ++ rest =
     sym (take-append-drop (i + 1) (set rows i new)) ∙ ap₂ (λ xs ys. xs ++ ys) (take_more_set rows i new lt) (drop-set-lt (i + 1) rows i new (omega arith)) in
     ap rows_of parts ∙ map-append row_of (take i rows ++ new ∷ []) rest ∙ joined (take i rows) new (rows_of rest)
-    ∙ ap₂ (λ a n. rows_of (take i rows) ++ (string_bytes a, n) ∷ rows_of rest) (text ∙ ap (λ (r : Counted). r.trace) both) (count ∙ ap (λ (r : Counted). r.count + 1) both)
-    ∙ sym (ap (λ ys. rows_of (take i rows) ++ ys) (same row rest t (subst (λ (r : Counted). bytes_eq (string_bytes r.trace) t ≡ true) read is)))
-    ∙ sym (ap (λ xs. rows_of (take i rows) ++ counted (rows_of xs) t) (drop_more rows i q lt))
+    ∙ ap₂ (λ a n. rows_of (take i rows) ++ (string_bytes a, n) ∷ rows_of rest) (text ∙ ap (λ (r : Counted). r.text) both) (count ∙ ap (λ (r : Counted). r.count + m.1) both)
+    ∙ sym (ap (λ ys. rows_of (take i rows) ++ ys) (same row rest m (subst (λ (r : Counted). bytes_eq (string_bytes r.text) m.0 ≡ true) read is)))
+    ∙ sym (ap (λ xs. rows_of (take i rows) ++ counted (rows_of xs) m) (drop_more rows i q lt))
 
 -- one more run is one more trace
-pub one_more : (told : List Report → List ℕ) (runs : List (List Report)) (reports : List Report) → tally (map told (runs ++ reports ∷ [])) ≡ counted (tally (map told runs)) (told reports)
-one_more told runs reports = ap tally (map-append told runs (reports ∷ [])) ∙ fold-append counted [] (map told runs) (told reports ∷ [])
+pub one_more : (told : List Report → List ℕ) (runs : List (List Report)) (reports : List Report) → tally (map told (runs ++ reports ∷ [])) ≡ counted_once (tally (map told runs)) (told reports)
+one_more told runs reports = ap tally (map-append told runs (reports ∷ [])) ∙ fold-append counted_once [] (map told runs) (told reports ∷ [])
 
 -- and may be the one that left a step unfinished
 pub some_more : (runs : List (List Report)) (reports : List Report) → list_any has_unfinished (runs ++ reports ∷ []) ≡ (list_any has_unfinished runs || has_unfinished reports)

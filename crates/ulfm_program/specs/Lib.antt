@@ -1,4 +1,5 @@
 pub mod Tally
+pub mod Brief
 pub mod Sweep
 pub mod Outcomes
 pub mod Replies

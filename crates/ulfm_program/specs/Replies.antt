@@ -14,9 +14,10 @@ use Rattle.ulfm_json.specs.declared.form.Form.{Form}
 use Rattle.ulfm_laws.specs.Lawful.{IsLawful}
 use Rattle.ulfm_run.specs.Fault.{ShowUntrue}
 use Rattle.ulfm_world.specs.Replay.{IsReplayed, MadeAtRest}
+use Rattle.ulfm_program.specs.Brief.{repeats_in}
 use Rattle.ulfm_program.specs.Outcomes.{IsOutcomesReply}
 use Rattle.ulfm_program.specs.Sweep.{IsSweepReply}
-use Rattle.ulfm_program.specs.Tally.{tally, tally_in}
+use Rattle.ulfm_program.specs.Tally.{tally}
 use Rattle.ulfm_replies.specs.declared.command.RunOptions.{RunOptions}
 use Rattle.ulfm_replies.specs.declared.command.Wanted.{Wanted}
 use Rattle.ulfm_replies.specs.declared.command.Wanted.TheVariants.{Check, Replay, Run, Sweep, Outcomes}
@@ -43,14 +44,15 @@ pub data IsReplayReply (form : Form) (is_strict : Bool) (turns : Option ℕ) (by
 
 -- The same for `run`: with 0, 6 or 9, the trace of reports that are lawful for the job, whichever thread went when; with 3 the
 -- line of what failed. F2 comes for a good job alone, and F4 only with reports of the job's ranks that
--- show it. With `--repeat` each distinct trace of so many runs, each lawful, comes once with its count.
+-- show it. With `--repeat` each distinct trace of so many runs, each lawful, comes once with its count,
+-- and with `--brief` each distinct line.
 pub data IsRunReply (form : Form) (options : RunOptions) (bytes : List ℕ) : ℕ → List ℕ → Type 0 where
   ran : (job : JobView) (reports : List Report) → options.repeat ≡ None → job_of_bytes bytes ≡ Ok (plan_of job)
       → IsLawful (given_turns options.turns job) reports
       → IsRunReply form options bytes (played_status options.is_strict (as_asked (never_of_bytes bytes) (given_turns options.turns job) reports) (has_unfinished reports)) (trace_in form bytes (given_turns options.turns job) reports)
   repeated : (job : JobView) (runs : List (List Report)) → options.repeat ≡ Some (length runs) → job_of_bytes bytes ≡ Ok (plan_of job)
       → All (IsLawful (given_turns options.turns job)) runs
-      → IsRunReply form options bytes (played_status options.is_strict (list_all (as_asked (never_of_bytes bytes) (given_turns options.turns job)) runs) (list_any has_unfinished runs)) (tally_in form (length runs) (tally (map (trace_in form bytes (given_turns options.turns job)) runs)))
+      → IsRunReply form options bytes (played_status options.is_strict (list_all (as_asked (never_of_bytes bytes) (given_turns options.turns job)) runs) (list_any has_unfinished runs)) (repeats_in form options.is_brief (given_turns options.turns job) (length runs) (tally (map (trace_in form bytes (given_turns options.turns job)) runs)))
   no_such_job : (f : JobFault) → job_of_bytes bytes ≡ Err f → IsRunReply form options bytes 1 (refused_in form f)
   no_place : IsRunReply form options bytes 1 (refused_in form OutOfMemory)
   no_thread : (job : JobView) → job_of_bytes bytes ≡ Ok (plan_of job) → IsRunReply form options bytes 3 (failed_in form run.NoThread)

@@ -6,18 +6,22 @@ use Rattle.std.specs.Str.{bytes_eq}
 use Rattle.ulfm_json.specs.declared.form.Form.{Form}
 use Rattle.ulfm_json.specs.declared.form.Form.TheVariants.{Words, Json}
 
--- a trace, and how many runs gave it
+-- a text, as a trace, and how many runs gave it
 abbrev pub Row : Type 0
 Row = List ℕ × ℕ
 
--- one more trace: where it came before, its count rises by one, else it stands last, once
-abbrev pub counted : List Row → List ℕ → List Row
-counted [] trace = (trace, 1) ∷ []
-counted (row ∷ rows) trace = if bytes_eq row.0 trace then (row.0, row.1 + 1) ∷ rows else row ∷ counted rows trace
+-- a text of so many more runs: where it came before, its count rises by theirs, else it stands last
+abbrev pub counted : List Row → Row → List Row
+counted [] more = more ∷ []
+counted (row ∷ rows) more = if bytes_eq row.0 more.0 then (row.0, row.1 + more.1) ∷ rows else row ∷ counted rows more
+
+-- the trace of one more run
+abbrev pub counted_once : List Row → List ℕ → List Row
+counted_once rows trace = counted rows (trace, 1)
 
 -- each distinct trace once, in the order in which they first came, with its count
 abbrev pub tally : List (List ℕ) → List Row
-tally traces = fold counted [] traces
+tally traces = fold counted_once [] traces
 
 -- a count and its trace, of so many runs
 abbrev pub row_text : ℕ → Row → List ℕ

@@ -7,6 +7,7 @@
 #![tactic(auto)]
 
 mod app;
+mod brief;
 mod files;
 mod listed;
 mod progress;

@@ -44,7 +44,15 @@ pub fn run_reply<R: Threads + Wait + Sync>(
     };
     if let Some(times) = options.repeat {
         return match tally_of(rt, alloc, options.carrier, form, bytes, times, &asked) {
-            Ok(tally) => tally_reply(alloc, form, options.is_strict, times, &tally),
+            Ok(tally) => tally_reply(
+                alloc,
+                form,
+                options.is_strict,
+                options.is_brief,
+                &asked.job,
+                times,
+                &tally,
+            ),
             Err(failure) => failed(alloc, form, failure),
         };
     }

@@ -21,7 +21,7 @@ struct Case {
     end: &'static str,
 }
 
-const CASES: [Case; 11] = [
+const CASES: [Case; 12] = [
     Case {
         words: "check --json",
         job: HANG,
@@ -76,6 +76,16 @@ const CASES: [Case; 11] = [
         text: "{\"count\":2,\"runs\":2}
 {\"rank\":0,\"step\":0,\"op\":\"stop\",\"answer\":{\"is\":\"stopped\"}}
 {\"rank\":0,\"end\":\"stopped\",\"starved\":0}
+",
+        end: "",
+    },
+    Case {
+        words: "run --carrier shared --repeat 2 --brief --json",
+        job: "ranks = 1\ncapacity = 1\nturns = 9\nstep = [{rank = 0, op = \"revoke\", name = \"x\"}]\n",
+        status: 0,
+        text: "{\"count\":2,\"runs\":2}
+{\"rank\":0,\"step\":0,\"name\":\"x\",\"op\":\"revoke\",\"comm\":0,\"answer\":{\"is\":\"revoked\"}}
+{\"rank\":0,\"end\":\"done\",\"starved\":0}
 ",
         end: "",
     },

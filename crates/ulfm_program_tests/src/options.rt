@@ -1,4 +1,4 @@
-//! The options `--strict`, `--turns` and `--repeat`, and the help of each command.
+//! The options `--strict`, `--turns`, `--repeat` and `--brief`, and the help of each command.
 
 use crate::kept::{Kept, reply};
 use std::sync::Wait;
@@ -147,6 +147,13 @@ fn runs_are_repeated_and_counted(rt: HostRuntime) -> Result<(), Fail> {
             6,
             "20 of 20 runs:\n0 0 shrink comm 0: unfinished\n0 end: done\n",
         ),
+        gives(
+            "run --carrier lanes --turns 9 --repeat 3 --brief",
+            SHRINK,
+            0,
+            "3 of 3 runs:\n0 0 shrink comm 0: comm 2 ranks [0] me 0\n0 end: done\n",
+        ),
+        gives("run --carrier lanes --brief", SHRINK, 0, ENTERED),
         gives(
             "run --carrier shared --repeat 2",
             "",

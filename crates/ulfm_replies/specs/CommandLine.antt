@@ -70,9 +70,13 @@ turns_rule = number_rule (codes "turns") most_turns
 abbrev pub replay_app : App
 replay_app = of_jobs (with_rule (with_rule (new_app (codes "replay")) strict_rule) turns_rule)
 
+-- the flag `--brief`
+abbrev pub brief_rule : Rule
+brief_rule = record (new_rule (codes "brief")) { long = Some (codes "brief"); action = Some SetTrue }
+
 -- the command `run` with its options
 abbrev pub run_app : App
-run_app = of_jobs (with_rule (with_rule (with_rule (with_rule (new_app (codes "run")) carrier_rule) strict_rule) turns_rule) (number_rule (codes "repeat") most_runs))
+run_app = of_jobs (with_rule (with_rule (with_rule (with_rule (with_rule (new_app (codes "run")) carrier_rule) strict_rule) turns_rule) (number_rule (codes "repeat") most_runs)) brief_rule)
 
 -- the command `sweep`
 abbrev pub sweep_app : App
@@ -135,6 +139,7 @@ options_by rows carrier = record {
   is_strict = is_strict rows;
   turns = turns_in rows;
   repeat = number_given most_runs (first_of (codes "repeat") rows);
+  is_brief = is_flagged (codes "brief") rows;
 }
 
 -- what the options of `run` ask for, where there is a carrier of that name

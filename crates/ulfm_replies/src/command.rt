@@ -32,6 +32,8 @@ pub struct RunOptions {
     pub turns: Option<u32>,
     /// How many runs are counted, 1 to 10,000.
     pub repeat: Option<u32>,
+    /// Whether what all counted runs have is told once.
+    pub is_brief: bool,
 }
 
 /// What the words ask for.
@@ -152,6 +154,7 @@ fn run_options(options: &ArgMatches<'_>) -> Option<RunOptions>
             is_strict: is_strict(options),
             turns: turns_in(options),
             repeat: number_given(value_of(options, "repeat"), MOST_RUNS),
+            is_brief: is_flagged(options, "brief"),
         }),
         None => None,
     }

@@ -79,17 +79,36 @@ fn notes_on(
         // The words of a trace are looked through for the others, and objects have none.
         _ if form == Form::Json => Ok(String::new(alloc)),
         (NOT_EXPECTED, _) => {
-            let mut notes = unmet_answers(alloc, bytes, reply.text.as_str())?;
+            let lines = without_counts(alloc, reply.text.as_str())?;
+            let mut notes = unmet_answers(alloc, bytes, lines.as_str())?;
+            // In brief, lines of different runs stand together: a row is told where all runs have it.
             let rows = rows_that_came(alloc, bytes, reply.text.as_str())?;
             notes.push_str(rows.as_str())?;
-            let hangs = hangs_in(alloc, wanted, bytes, reply.text.as_str())?;
+            let hangs = hangs_in(alloc, wanted, bytes, lines.as_str())?;
             notes.push_str(hangs.as_str())?;
             Ok(notes)
         }
         (DONE, Wanted::Outcomes { .. }) => skipped_steps(alloc, bytes, reply.text.as_str()),
-        (DONE | UNFINISHED, _) => hangs_in(alloc, wanted, bytes, reply.text.as_str()),
+        (DONE | UNFINISHED, _) => {
+            let lines = without_counts(alloc, reply.text.as_str())?;
+            hangs_in(alloc, wanted, bytes, lines.as_str())
+        }
         _ => Ok(String::new(alloc)),
     }
+}
+
+/// The lines of traces in a text, without the count that stands before one where runs are told in brief.
+fn without_counts(alloc: Global, text: &str) -> Result<String, AllocError> {
+    let mut lines = String::new(alloc);
+    for line in text.lines() {
+        let line = match line.split_once(" of ") {
+            Some((_, rest)) => rest.split_once(": ").unwrap_or((rest, "")).1,
+            None => line,
+        };
+        lines.push_str(line)?;
+        lines.push_str("\n")?;
+    }
+    Ok(lines)
 }
 
 /// Why a job is refused, by what is wrong with its text. Where nothing is, yet it is too large, a stop has no room in it.

@@ -6,8 +6,8 @@ ghost use Rattle.ulfm_replies.specs.CommandLine.{check_app, demanding_app, of_jo
 
 use crate::help::HELP;
 use crate::options::{
-    MOST_RUNS, MOST_STATES, carrier_option, files, json_flag, number_option, progress_flag,
-    strict_flag, turns_option,
+    MOST_RUNS, MOST_STATES, brief_flag, carrier_option, files, json_flag, number_option,
+    progress_flag, strict_flag, turns_option,
 };
 use crate::version::VERSION;
 use clap::Command;
@@ -89,6 +89,7 @@ fn run_command<'a>(alloc: Global) -> Result<Command<'a>, AllocError>
         "Runs the job so many times and prints each distinct trace once, with its count [1 to 10000]",
     );
     let command = command.arg(repeat)?;
+    let command = command.arg(brief_flag(alloc))?;
     of_jobs(alloc, command)
 }
 

@@ -1,11 +1,11 @@
--- Counted traces without the form that they have in memory.
+-- Counted texts without the form that they have in memory.
 use Rattle.std.specs.Prelude.{List, map, string_bytes}
 use Rattle.ulfm_program.specs.declared.tally.Counted.{Counted}
 use Rattle.ulfm_program.specs.Tally.{Row}
 
--- a counted trace in memory, as its bytes and its count
+-- a counted text in memory, as its bytes and its count
 abbrev pub row_of : Counted → Row
-row_of row = (string_bytes row.trace, row.count)
+row_of row = (string_bytes row.text, row.count)
 
 -- all of them
 abbrev pub rows_of : List Counted → List Row

@@ -1,4 +1,5 @@
 use Rattle.std.proofs.Common.{◌≡◌, ◌∙◌, All, Some, ap, ap₂, map, subst, sym}
+use Rattle.std.proofs.lemmas.List.{length-map}
 use Rattle.std.proofs.lemmas.Result.{IfOk-weaker}
 use Rattle.std.specs.List.{list_all}
 use Rattle.ulfm_job.specs.Job.{JobView}
@@ -7,17 +8,23 @@ use Rattle.ulfm_reader.specs.declared.reading.Reading.{Reading}
 use Rattle.ulfm_laws.specs.Lawful.{IsLawful}
 use Rattle.ulfm_program.specs.Replies.{ran, repeated, given_turns}
 use Rattle.ulfm_json.specs.Form.{trace_in}
-use Rattle.ulfm_program.specs.Tally.{tally, tally_in}
+use Rattle.ulfm_program.specs.Brief.{repeats_in}
+use Rattle.ulfm_program.specs.Tally.{tally}
 use Rattle.ulfm_replies.specs.Asking.{as_asked}
 use Rattle.ulfm_replies.specs.Unfinished.{played_status}
 use Rattle.ulfm_program.specs.inside.Writing.{IsShown}
+use Rattle.ulfm_program.specs.inside.Tallied.{rows_of as rows_kept}
 use Rattle.ulfm_program.proofs.Asked.{job_asked, never_asked}
 use Rattle.ulfm_program.proofs.Refused.{run_refused, run_failed, without_repeat}
+use Rattle.ulfm_program.proofs.Totals.{kept_total-tally}
 use Rattle.ulfm_program.proofs.run.run_reply.Goals as goal
 use Rattle.ulfm_program.proofs.run.run_reply.Goals.{in-Ok-tally_of, in-Err-tally_of}
 
 pub returns-in-Err : goal.returns-in-Err
 returns-in-Err g c = IfOk-weaker c.refusal.result _ _ (λ r h. rw (h.0, h.1) (run_refused c.in-Err.fault _ (λ no_memory. ap job_in (c.in-Err.ensures no_memory)))) c.refusal.ensures
+
+pub tally_reply-requires : goal.tally_reply-requires
+tally_reply-requires g c = let runs = c.in-Ok-tally_of.ensures.runs in kept_total-tally c.in-Ok-tally_of.tally.rows.items _ runs.5 ∙ length-map runs.0 _ ∙ runs.1
 
 pub returns-in-Some : goal.returns-in-Some
 returns-in-Some g c =
@@ -31,7 +38,8 @@ returns-in-Some g c =
           rw (
             h.0 ∙ ap₂ (played_status c.args.options.is_strict) (runs.4 ∙ ap (λ (asked : Reading). list_all (as_asked (rows_of asked.never.items) asked.job) runs.0) given
                 ∙ ap (λ never. list_all (as_asked never (given_turns c.args.options.turns c.in-Ok.asked.job)) runs.0) (never_asked c.args.bytes.now c.in-Ok.asked c.in-Ok.ensures)) runs.3,
-            h.1 ∙ ap₂ (tally_in c.args.form) (sym runs.1) (runs.5 ∙ ap (λ (j : JobView). tally (map (trace_in c.args.form c.args.bytes.now j) runs.0)) job),
+            h.1 ∙ ap (λ (j : JobView). repeats_in c.args.form c.args.options.is_brief j c.in-Some.times (rows_kept w.in-Ok-tally_of.tally.rows.items)) job
+                ∙ ap₂ (repeats_in c.args.form c.args.options.is_brief (given_turns c.args.options.turns c.in-Ok.asked.job)) (sym runs.1) (runs.5 ∙ ap (λ (j : JobView). tally (map (trace_in c.args.form c.args.bytes.now j) runs.0)) job),
           )
           (repeated c.in-Ok.asked.job runs.0 (c.in-Some.is ∙ ap Some (sym runs.1)) read (subst (λ (j : JobView). All (IsLawful j) runs.0) job runs.2))) w.tally_reply.ensures)
       | in-Err-tally_of w ↦
