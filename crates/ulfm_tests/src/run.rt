@@ -1,5 +1,6 @@
 //! Jobs that threads run.
 
+mod closing;
 mod laid;
 mod meeting;
 mod misfits;
