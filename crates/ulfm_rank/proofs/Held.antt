@@ -80,8 +80,8 @@ marks-start zero = refl
 marks-start (suc n) = ap (λ ms. no_mark ∷ ms) (marks-start n)
 
 -- a rank with these outboxes is sound
-pub state-sound : (n me : ℕ) (log : List Entry) (boxes : List Box) → n ≤ 8 → HasOutboxes n me log boxes → (let r : State = record { me = me; ranks = n; log = log; marks = map mark_of boxes } in IsState r)
-state-sound n me log boxes small h =
+pub state-sound : (n me : ℕ) (log : List Entry) (boxes : List Box) (keeps : Bool) → n ≤ 8 → HasOutboxes n me log boxes → (let r : State = record { me = me; ranks = n; log = log; marks = map mark_of boxes; keeps = keeps } in IsState r)
+state-sound n me log boxes keeps small h =
     let inside : (d : ℕ) → d < n → d < length boxes = λ d k. omega (arith, k, h.size) in
     let mark : (d : ℕ) → d < n → get_or (map mark_of boxes) d no_mark ≡ mark_of (box_at boxes d) = λ d k. get_or-map mark_of boxes d empty_box no_mark (inside d k) in
     record {

@@ -45,3 +45,4 @@ pub mod Formed
 pub mod Stays
 pub mod Quiet
 pub mod Crossing
+pub mod Sifted

@@ -5,65 +5,65 @@ use Rattle.ulfm_rank.proofs.Common.{Item, Gone, Entry, is_stopped, owed, cases_e
 use Rattle.std.proofs.Math.Seq.{drop-nil}
 use Rattle.ulfm_rank.proofs.States.{leaves-running, leaves-stopped, next_owed}
 
-abbrev pub state_by_boxes : ℕ → ℕ → List Entry → List Box → State
-state_by_boxes me n log boxes = record { me = me; ranks = n; log = log; marks = map mark_of boxes }
+abbrev pub state_by_boxes : Bool → ℕ → ℕ → List Entry → List Box → State
+state_by_boxes keeps me n log boxes = record { me = me; ranks = n; log = log; marks = map mark_of boxes; keeps = keeps }
 
 pub stop_places_few : (b : Bool) → stop_places b ≤ 1
 stop_places_few true = omega arith
 stop_places_few false = omega arith
 
 -- one more entry, by which no item left
-pub state_logged : {me n : ℕ} {log log' : List Entry} (boxes boxes' : List Box) {r : State} (e : Entry) → state_by_boxes me n log boxes ≡ r → log' ≡ log ++ e ∷ [] → map mark_of boxes' ≡ map mark_of boxes → state_by_boxes me n log' boxes' ≡ logged r e
-state_logged {me} {n} {log} {log'} boxes boxes' {r} e seen longer same = rw (longer, same) (ap (λ s. logged s e) seen)
+pub state_logged : {me n : ℕ} {log log' : List Entry} {keeps keeps' : Bool} (boxes boxes' : List Box) {r : State} (e : Entry) → state_by_boxes keeps me n log boxes ≡ r → log' ≡ log ++ e ∷ [] → map mark_of boxes' ≡ map mark_of boxes → keeps' ≡ keeps → state_by_boxes keeps' me n log' boxes' ≡ logged r e
+state_logged {me} {n} {log} {log'} {keeps} {keeps'} boxes boxes' {r} e seen longer same kept = rw (longer, same, kept) (ap (λ s. logged s e) seen)
 
 -- the mark of an outbox
-pub mark_read : (me n : ℕ) (log : List Entry) (boxes : List Box) (d : ℕ) → mark_at (state_by_boxes me n log boxes) d ≡ mark_of (box_at boxes d)
-mark_read me n log boxes d = get_or-map mark_of boxes d empty_box
+pub mark_read : (keeps : Bool) (me n : ℕ) (log : List Entry) (boxes : List Box) (d : ℕ) → mark_at (state_by_boxes keeps me n log boxes) d ≡ mark_of (box_at boxes d)
+mark_read keeps me n log boxes d = get_or-map mark_of boxes d empty_box
 
-module _ {me n : ℕ} {log : List Entry} (boxes : List Box) {r : State} (d : ℕ) (seen : state_by_boxes me n log boxes ≡ r) where
+module _ {me n : ℕ} {log : List Entry} {keeps : Bool} (boxes : List Box) {r : State} (d : ℕ) (seen : state_by_boxes keeps me n log boxes ≡ r) where
   -- the rank with another mark of one outbox
-  remarked : (b : Box) (change : State → Mark → Mark) → mark_of b ≡ change (state_by_boxes me n log boxes) (mark_of (box_at boxes d)) → state_by_boxes me n log (set boxes d b) ≡ with_marks r (set r.marks d (change r (mark_at r d)))
+  remarked : (b : Box) (change : State → Mark → Mark) → mark_of b ≡ change (state_by_boxes keeps me n log boxes) (mark_of (box_at boxes d)) → state_by_boxes keeps me n log (set boxes d b) ≡ with_marks r (set r.marks d (change r (mark_at r d)))
   remarked b change same =
-      let s = state_by_boxes me n log boxes in
-      subst (λ (r : State). state_by_boxes me n log (set boxes d b) ≡ with_marks r (set r.marks d (change r (mark_at r d)))) seen
-      (ap (with_marks s) (map-set mark_of boxes d b ∙ ap (set (map mark_of boxes) d) (same ∙ ap (change s) (sym (mark_read me n log boxes d)))))
+      let s = state_by_boxes keeps me n log boxes in
+      subst (λ (r : State). state_by_boxes keeps me n log (set boxes d b) ≡ with_marks r (set r.marks d (change r (mark_at r d)))) seen
+      (ap (with_marks s) (map-set mark_of boxes d b ∙ ap (set (map mark_of boxes) d) (same ∙ ap (change s) (sym (mark_read keeps me n log boxes d)))))
 
   -- an item or the notice comes back
-  pub returns_item : (item : Item) → is_stopped log ≡ false → state_by_boxes me n log (set boxes d (with_item_back (box_at boxes d) item)) ≡ returned r d
+  pub returns_item : (item : Item) → is_stopped log ≡ false → state_by_boxes keeps me n log (set boxes d (with_item_back (box_at boxes d) item)) ≡ returned r d
   returns_item item running = remarked (with_item_back (box_at boxes d) item) unmarked (rw running refl)
 
-  pub returns_notice : is_stopped log ≡ true → state_by_boxes me n log (set boxes d (with_notice_out (box_at boxes d) false)) ≡ returned r d
+  pub returns_notice : is_stopped log ≡ true → state_by_boxes keeps me n log (set boxes d (with_notice_out (box_at boxes d) false)) ≡ returned r d
   returns_notice stopped = remarked (with_notice_out (box_at boxes d) false) unmarked (rw stopped refl)
 
   module _ (h : HasOutboxes n me log boxes) (inside : d < length boxes) where
     -- the next item of a running rank, or the notice, leaves
-    pub leaves_next : {item : Item} → is_stopped log ≡ false → (box_at boxes d).items ≡ item ∷ drop 1 (box_at boxes d).items → GoesOut r (state_by_boxes me n log (set boxes d (with_first_out (box_at boxes d)))) d item
+    pub leaves_next : {item : Item} → is_stopped log ≡ false → (box_at boxes d).items ≡ item ∷ drop 1 (box_at boxes d).items → GoesOut r (state_by_boxes keeps me n log (set boxes d (with_first_out (box_at boxes d)))) d item
     leaves_next {item} running next =
-        let s = state_by_boxes me n log boxes in
-        let no_notice : (mark_at s d).notice_out ≡ false = ap (λ (m : Mark). m.notice_out) (mark_read me n log boxes d) ∙ h.no_notice running d inside in
-        let next' : slice_get (owed n me log d) (mark_at s d).items_out ≡ Some item = rw (mark_read me n log boxes d) (next_owed (owed n me log d) (box_at boxes d).items_out item _ (sym (h.held d inside) ∙ next)) in
+        let s = state_by_boxes keeps me n log boxes in
+        let no_notice : (mark_at s d).notice_out ≡ false = ap (λ (m : Mark). m.notice_out) (mark_read keeps me n log boxes d) ∙ h.no_notice running d inside in
+        let next' : slice_get (owed n me log d) (mark_at s d).items_out ≡ Some item = rw (mark_read keeps me n log boxes d) (next_owed (owed n me log d) (box_at boxes d).items_out item _ (sym (h.held d inside) ∙ next)) in
         subst (λ (t : State). GoesOut r t d item) (sym (remarked (with_first_out (box_at boxes d)) marked (rw running refl)))
         (subst (λ (r : State). GoesOut r (taken_out r d) d item) seen (leaves-running s d item (omega (arith, inside, length-map boxes mark_of)) running no_notice next').goes)
 
-    pub leaves_notice : is_stopped log ≡ true → (box_at boxes d).notice_out ≡ false → me ≢ d → GoesOut r (state_by_boxes me n log (set boxes d (with_notice_out (box_at boxes d) true))) d Gone
+    pub leaves_notice : is_stopped log ≡ true → (box_at boxes d).notice_out ≡ false → me ≢ d → GoesOut r (state_by_boxes keeps me n log (set boxes d (with_notice_out (box_at boxes d) true))) d Gone
     leaves_notice stopped no_notice other =
-        let s = state_by_boxes me n log boxes in
-        let no_notice' : (mark_at s d).notice_out ≡ false = ap (λ (m : Mark). m.notice_out) (mark_read me n log boxes d) ∙ no_notice in
+        let s = state_by_boxes keeps me n log boxes in
+        let no_notice' : (mark_at s d).notice_out ≡ false = ap (λ (m : Mark). m.notice_out) (mark_read keeps me n log boxes d) ∙ no_notice in
         subst (λ (t : State). GoesOut r t d Gone) (sym (remarked (with_notice_out (box_at boxes d) true) marked (rw stopped refl)))
         (subst (λ (r : State). GoesOut r (taken_out r d) d Gone) seen (leaves-stopped s d (omega (arith, inside, length-map boxes mark_of)) (omega (arith, inside, h.size)) stopped no_notice' other).goes)
 
     -- an outbox of a running rank, which holds nothing exactly where all went out
     pub left : is_stopped log ≡ false → outbox r d ≡ (box_at boxes d).items
-    left running = subst (λ (r : State). outbox r d ≡ drop (box_at boxes d).items_out (owed n me log d)) seen (rw (running, mark_read me n log boxes d) refl) ∙ sym (h.held d inside)
+    left running = subst (λ (r : State). outbox r d ≡ drop (box_at boxes d).items_out (owed n me log d)) seen (rw (running, mark_read keeps me n log boxes d) refl) ∙ sym (h.held d inside)
 
-    one_back : is_stopped log ≡ false → (mark_at (returned (state_by_boxes me n log boxes) d) d).items_out ≡ (box_at boxes d).items_out - 1
+    one_back : is_stopped log ≡ false → (mark_at (returned (state_by_boxes keeps me n log boxes) d) d).items_out ≡ (box_at boxes d).items_out - 1
     one_back running =
-        let s = state_by_boxes me n log boxes in
+        let s = state_by_boxes keeps me n log boxes in
         let here = get_or-set_same s.marks d (unmarked s (mark_at s d)) no_mark (omega (arith, inside, length-map boxes mark_of)) in
-        ap (λ (m : Mark). m.items_out) here ∙ rw running (ap (λ (m : Mark). m.items_out - 1) (mark_read me n log boxes d))
+        ap (λ (m : Mark). m.items_out) here ∙ rw running (ap (λ (m : Mark). m.items_out - 1) (mark_read keeps me n log boxes d))
 
-    front : is_stopped log ≡ false → outbox (returned (state_by_boxes me n log boxes) d) d ≡ drop (mark_at (returned (state_by_boxes me n log boxes) d) d).items_out (owed n me log d)
-    front running = ap (λ b. cond b (cond (eqb me d) [] (cond (mark_at (returned (state_by_boxes me n log boxes) d) d).notice_out [] (Gone ∷ []))) (drop (mark_at (returned (state_by_boxes me n log boxes) d) d).items_out (owed n me log d))) running
+    front : is_stopped log ≡ false → outbox (returned (state_by_boxes keeps me n log boxes) d) d ≡ drop (mark_at (returned (state_by_boxes keeps me n log boxes) d) d).items_out (owed n me log d)
+    front running = ap (λ b. cond b (cond (eqb me d) [] (cond (mark_at (returned (state_by_boxes keeps me n log boxes) d) d).notice_out [] (Gone ∷ []))) (drop (mark_at (returned (state_by_boxes keeps me n log boxes) d) d).items_out (owed n me log d))) running
 
     -- the item that went out last is the one before those that wait
     pub outbox_back : is_stopped log ≡ false → {item : Item} → MayReturn r d item → item ∷ (box_at boxes d).items ≡ drop ((box_at boxes d).items_out - 1) (owed n me log d)

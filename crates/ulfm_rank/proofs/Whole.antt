@@ -1,7 +1,9 @@
 -- All parts of a rank follow the log, call by call.
-use Rattle.std.proofs.Common.{◌≡◌, ℕ, ◌+◌, ◌<◌, ◌≤◌, Bool, true, false, cond, List, [], ◌∷◌, ◌++◌, length, map, replicate, refl, ap, sym, ◌∙◌, Option, Some, None, arith, ◌&&◌, nat_lt, nat_eq, vec_len, vec_capacity, IsTrue}
-use Rattle.ulfm_rank.proofs.Common.{Item, Pattern, WorldRank, numbers_from, Entry, Posted, Released, Probed, Received, Cancelled, Took, Fate, Request, Follows, IsInStep, IsOfGroup, events_by, history_of, is_stop, newly_known, acknowledged_by, revokes, made_by, owed_by, false≢true, HasFaults, names_known, was_revoked_in, State, start_state, no_mark, Matching, Tracks, Adds, Removes, TracksAdmit, TracksItem, nat_tests, owed_by_item, Box, empty_box, mark_of, AllGrow, lookup, get, index_map_len, Holds, FaultState, acknowledged_in, is_revoked_in}
+use Rattle.std.proofs.Common.{◌≡◌, ℕ, ◌+◌, ◌<◌, ◌≤◌, Bool, true, false, cond, List, [], ◌∷◌, ◌++◌, length, map, replicate, refl, ap, sym, ◌∙◌, Option, Some, None, arith, ◌&&◌, nat_lt, nat_eq, ◌^◌, IsTrue, filter}
+use Rattle.ulfm_rank.specs.inside.Decisive.{tells}
+use Rattle.ulfm_rank.proofs.Common.{Item, Pattern, WorldRank, numbers_from, Entry, Posted, Released, Probed, Received, Cancelled, Took, Fate, Request, Follows, IsInStep, IsOfGroup, events_by, history_of, is_stop, newly_known, acknowledged_by, revokes, made_by, owed_by, false≢true, HasFaults, names_known, was_revoked_in, State, no_mark, Matching, Tracks, Adds, Removes, TracksAdmit, TracksItem, nat_tests, owed_by_item, Box, empty_box, mark_of, AllGrow, lookup, get, index_map_len, Holds, FaultState, acknowledged_in, is_revoked_in}
 use Rattle.ulfm_rank.specs.declared.rank.Rank.TheInside.{Inside}
+use Rattle.ulfm_rank.specs.State.{start_state_with}
 use Rattle.ulfm_rank.proofs.Following.{runs_on}
 use Rattle.ulfm_rank.proofs.Held.{outboxes-grown, outboxes-quiet, outboxes-start, marks-start}
 use Rattle.ulfm_rank.proofs.InStep.{in_step_start, in_step_same, in_step_posted, in_step_took}
@@ -30,8 +32,8 @@ follows_start n me matcher find facts comms boxes small inside tracks none known
   outboxes = rw bs (outboxes-start n me inside);
 }
 
-pub state_start : (n me : ℕ) (log : List Entry) (boxes : List Box) → log ≡ [] → boxes ≡ replicate n empty_box → ◌≡◌ {A = State} (record { me = me; ranks = n; log = log; marks = map mark_of boxes }) (start_state me n)
-state_start n me log boxes l b = let m : map mark_of boxes ≡ replicate n no_mark = ap (map mark_of) b ∙ marks-start n in cc
+pub state_start : (n me : ℕ) (log : List Entry) (boxes : List Box) (keeps wanted : Bool) → log ≡ [] → boxes ≡ replicate n empty_box → keeps ≡ wanted → ◌≡◌ {A = State} (record { me = me; ranks = n; log = log; marks = map mark_of boxes; keeps = keeps }) (start_state_with wanted me n)
+state_start n me log boxes keeps wanted l b k = let m : map mark_of boxes ≡ replicate n no_mark = ap (map mark_of) b ∙ marks-start n in cc
 
 module _ {n me : ℕ} {log : List Entry} {stopped : Bool} {matcher : Matching} {find : ℕ → Option Request} {facts : FaultState} {comms : List (ℕ × List ℕ)} {boxes : List Box} (held : Follows n me log stopped matcher find facts comms boxes) where
   -- room plays no part
@@ -90,12 +92,14 @@ module _ {n me : ℕ} {log : List Entry} {stopped : Bool} {matcher : Matching} {
 -- room plays no part
 pub holds_same : (a : Inside) {b : Inside} → Holds a → b.me ≡ a.me → b.ranks ≡ a.ranks → b.stopped ≡ a.stopped → b.faults ≡ a.faults → b.communicators ≡ a.communicators
     → b.matcher.waiting ≡ a.matcher.waiting → b.matcher.kept ≡ a.matcher.kept → b.matcher.count ≡ a.matcher.count → b.matcher.cleared ≡ a.matcher.cleared → b.requests.entries ≡ a.requests.entries → b.outboxes.boxes ≡ a.outboxes.boxes
-    → b.log.items ≡ a.log.items → vec_len b.log ≡ vec_len a.log → vec_capacity a.log ≤ vec_capacity b.log → Holds b
-holds_same a {b} h me ranks stopped faults comms waiting kept count cleared entries boxes items len room = record {
+    → b.log.items ≡ a.log.items → b.told.items ≡ a.told.items → a.log.capacity ≤ b.log.capacity → b.log.capacity < 2 ^ 63 → Holds b
+holds_same a {b} h me ranks stopped faults comms waiting kept count cleared entries boxes items told room countable = record {
   follows = rw (me, ranks, stopped, faults, comms, items) (follows_same h.follows b.matcher (get nat_eq b.requests) b.outboxes.boxes waiting kept count cleared (λ k. ap (lookup (nat_eq k)) entries) boxes);
+  tells = told ∙ h.tells ∙ ap (filter tells) (sym items);
+  countable = countable;
   places =
       let same : index_map_len b.requests ≡ index_map_len a.requests = ap length entries in
-      rw stopped (omega (arith, h.places, same, len, room));
+      rw stopped (omega (arith, h.places, same, ap length items, room));
 }
 
 -- how many requests are left where one was taken out

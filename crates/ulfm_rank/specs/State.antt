@@ -15,12 +15,14 @@ pub record Mark : Type 0 where
 abbrev pub no_mark : Mark
 no_mark = record { items_out = 0; notice_out = false }
 
--- a rank by its number, the number of ranks, its log, and how far each outbox went out
+-- A rank by its number, the number of ranks, its log, how far each outbox went out, and whether it keeps its log. One that
+-- doesn't keeps what its answers need, and nobody can look at its log, which contracts tell all the same.
 pub record State : Type 0 where
   pub me : ℕ
   pub ranks : ℕ
   pub log : List Entry
   pub marks : List Mark
+  pub keeps : Bool
 
 -- A rank, whether there is room for one `take` or one call, and whether the table of requests has a place for one more, as
 -- a receive, or a probe that finds a letter, needs it. Of both 'unchanged' doesn't speak.
@@ -33,17 +35,21 @@ pub record RankView : Type 0 where
 abbrev pub is_ready : RankView → Bool
 is_ready rank = rank.prepared && rank.has_place
 
--- the rank that starts
+-- the rank that starts, with a log that it keeps or doesn't
+abbrev pub start_state_with : Bool → ℕ → ℕ → State
+start_state_with keeps me n = record { me = me; ranks = n; log = []; marks = replicate n no_mark; keeps = keeps }
+
+-- the rank that starts, and keeps its log
 abbrev pub start_state : ℕ → ℕ → State
-start_state me n = record { me = me; ranks = n; log = []; marks = replicate n no_mark }
+start_state me n = start_state_with true me n
 
 -- the log with one more entry
 abbrev pub logged : State → Entry → State
-logged r e = record { me = r.me; ranks = r.ranks; log = r.log ++ e ∷ []; marks = r.marks }
+logged r e = record { me = r.me; ranks = r.ranks; log = r.log ++ e ∷ []; marks = r.marks; keeps = r.keeps }
 
 -- the rank with other marks
 abbrev pub with_marks : State → List Mark → State
-with_marks r marks = record { me = r.me; ranks = r.ranks; log = r.log; marks = marks }
+with_marks r marks = record { me = r.me; ranks = r.ranks; log = r.log; marks = marks; keeps = r.keeps }
 
 -- the mark of the outbox towards d
 abbrev pub mark_at : State → ℕ → Mark

@@ -4,3 +4,6 @@ pub mod Outboxes
 pub mod Fields
 pub mod Rank
 pub mod Quiet
+pub mod Chain
+pub mod KeptLog
+pub mod Decisive

@@ -15,11 +15,14 @@
 mod adopting;
 mod answer;
 mod communicators;
+mod decisive;
 mod entrances;
 mod entry;
 mod failures;
 mod forwarding;
+mod history;
 mod law;
+mod log;
 mod members;
 mod message;
 mod noted_answer;

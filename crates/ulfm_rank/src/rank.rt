@@ -11,16 +11,17 @@ mod sending;
 mod shrinking;
 mod taking;
 
-ghost use Rattle.std.specs.Prelude.{◌≡◌, [], IfOk, IfErr, OnOk, OnErr, Some};
+ghost use Rattle.std.specs.Prelude.{◌≡◌, [], IfOk, IfErr, IsTrue, OnOk, OnErr, Some};
 ghost use Rattle.ulfm_rank.specs.Checks.{Passes, Fails, FailsOrStarves, start_checks, comm_checks};
 ghost use Rattle.ulfm_rank.specs.Communicators.{group_of};
 ghost use Rattle.ulfm_rank.specs.Facts.{is_stopped};
 ghost use Rattle.ulfm_rank.specs.inside.Rank.{stop_places};
 ghost use Rattle.ulfm_rank.specs.Paired.{IsPaired};
-ghost use Rattle.ulfm_rank.specs.State.{start_state, IsState};
+ghost use Rattle.ulfm_rank.specs.State.{start_state, start_state_with, IsState};
 
 use crate::communicators::Communicators;
 use crate::entry::{Comm, Entry};
+use crate::log::Log;
 use crate::outboxes::Outboxes;
 use crate::request::Request;
 use indexmap::IndexMap;
@@ -30,11 +31,14 @@ use ulfm_base::{CallError, Context, Group, WorldRank};
 use ulfm_fault::Faults;
 use ulfm_match::Matcher;
 
-/// One rank of a world of 1 to 8. Contracts see its number, the number of ranks, its log, a mark for each outbox, and
-/// whether there is room for one `take` or one call, and for one more request; all its other parts follow from the log.
+/// One rank of a world of 1 to 8. Contracts see its number, the number of ranks, its log and whether it keeps it, a mark for
+/// each outbox, and whether there is room for one `take` or one call, and for one more request; all its other parts follow
+/// from the log.
 #[derive(Drop)]
 pub struct Rank {
-    log: Vec<Entry>,
+    log: Log,
+    // What the log tells of shrinks and agreements. Nothing of it is let go, so it grows with each agreement.
+    told: Vec<Entry>,
     me: WorldRank,
     ranks: u8,
     stopped: bool,
@@ -68,13 +72,27 @@ impl Rank {
         ensures accepted { OnOk result (Passes (start_checks me ranks)) }
         ensures refused { IfErr result (FailsOrStarves (start_checks me ranks)) }
     {
+        Rank::start_with(alloc, me, ranks, true)
+    }
+
+    /// The rank `me` of `ranks`, with an empty log, which is kept or isn't.
+    ///
+    /// # Errors
+    ///
+    /// `BadSize` where `ranks` isn't 1 to 8, else `BadRank` where `me` isn't below it, else `OutOfMemory` where a
+    /// growth was refused.
+    pub fn start_with(alloc: Global, me: u8, ranks: u8, keeps: bool) -> Result<Rank, CallError>
+        ensures started { IfOk result (λ rank. rank.state ≡ start_state_with keeps me ranks) }
+        ensures accepted { OnOk result (Passes (start_checks me ranks)) }
+        ensures refused { IfErr result (FailsOrStarves (start_checks me ranks)) }
+    {
         let world = Group::world(alloc, ranks)?;
         if me >= ranks {
             return Err(CallError::BadRank);
         }
         let communicators = Communicators::new(alloc, world)?;
         let outboxes = Outboxes::new(alloc, ranks)?;
-        let mut log = Vec::new(alloc);
+        let mut log = Log::new(alloc, keeps);
         log.reserve(1)?;
         Ok(Rank {
             me: WorldRank { number: me },
@@ -86,6 +104,7 @@ impl Rank {
             communicators,
             outboxes,
             log,
+            told: Vec::new(alloc),
         })
     }
 
@@ -112,11 +131,12 @@ impl Rank {
         self.stopped
     }
 
-    /// All that it did and took, in order.
+    /// All that it did and took, in order, where it keeps its log.
     pub fn log(&self) -> &[Entry]
+        requires { IsTrue self.now.state.keeps }
         ensures { result.now ≡ self.now.state.log }
     {
-        &self.log
+        self.log.entries()
     }
 
     /// The communicator of the world.

@@ -3,3 +3,4 @@ pub mod Underway
 pub mod SoFar
 pub mod Joint
 pub mod Follow
+pub mod Player

@@ -30,9 +30,10 @@ pub struct Player {
 }
 
 impl Model for Player {
-    ghost use Rattle.std.specs.Prelude.{◌-◌, ◌<◌, ◌≢◌, vec_len, vec_capacity, None};
+    ghost use Rattle.std.specs.Prelude.{◌-◌, vec_len, vec_capacity};
     ghost use Rattle.ulfm_rank.specs.State.{is_ready};
     ghost use Rattle.ulfm_script.specs.Player.{PlayerView};
+    ghost use Rattle.ulfm_script.specs.inside.Player.{IsPlayer};
 
     ghost Value = { PlayerView };
 
@@ -42,7 +43,7 @@ impl Model for Player {
       prepared = is_ready p.rank;
     } };
 
-    ghost invariant = { λ p. p.current ≢ None → vec_len p.done < vec_capacity p.done };
+    ghost invariant = { λ p. IsPlayer p.rank.state p.current (vec_len p.done) (vec_capacity p.done) };
 }
 
 impl Player {
@@ -82,7 +83,8 @@ impl Player {
 
     /// The rank, with its log and its outboxes.
     pub fn rank(&self) -> &Rank
-        ensures { result.now.state ≡ self.now.player.rank }
+        ensures state { result.now.state ≡ self.now.player.rank }
+        ensures keeps { IsTrue result.now.state.keeps }
     {
         &self.rank
     }

@@ -19,16 +19,20 @@ pub struct RankReport {
 }
 
 impl Model for RankReport {
+    ghost use Rattle.std.specs.Prelude.{IsTrue};
     ghost use Rattle.ulfm_script.specs.Report.{Report};
 
     ghost Value = { Report };
 
     ghost view = { λ r. record { rank = r.rank.state; steps = r.steps.items; starved = r.starved } };
+
+    ghost invariant = { λ r. IsTrue r.rank.state.keeps };
 }
 
 impl RankReport {
     /// The report of a rank, its answered steps, and the number of its turns that took nothing since no memory was found.
     pub(crate) fn new(rank: Rank, steps: Vec<StepReport>, starved: u32) -> RankReport
+        requires { IsTrue rank.state.keeps }
         ensures rank { result.rank ≡ rank.state }
         ensures steps { result.steps ≡ steps.items }
         ensures starved { result.starved ≡ starved }

@@ -1,5 +1,6 @@
 -- What holds of the fields of a rank, and what contracts see of them.
-use Rattle.std.specs.Prelude.{◌≡◌, ℕ, Bool, ◌≤◌, ◌+◌, List, map, Option, nat_eq, nat_lt, ◌&&◌, if◌then◌else◌, vec_len, vec_capacity}
+use Rattle.std.specs.Prelude.{◌≡◌, ℕ, Bool, ◌≤◌, ◌<◌, ◌^◌, ◌+◌, List, map, Option, nat_eq, nat_lt, ◌&&◌, if◌then◌else◌, length, filter, vec_len, vec_capacity}
+use Rattle.ulfm_rank.specs.inside.Decisive.{tells}
 use Rattle.indexmap.specs.IndexMap.{get, index_map_len, spare}
 use Rattle.ulfm_fault.specs.Facts.{FaultState}
 use Rattle.ulfm_match.specs.State.{Matching}
@@ -29,15 +30,17 @@ pub record Follows (n me : ℕ) (log : List Entry) (stopped : Bool) (matcher : M
 -- for the stop
 pub record Holds (a : Inside) : Type 0 where
   pub follows : Follows a.ranks a.me.number a.log.items a.stopped a.matcher (get nat_eq a.requests) a.faults a.communicators a.outboxes.boxes
-  pub places : vec_len a.log + (index_map_len a.requests + stop_places a.stopped) ≤ vec_capacity a.log
+  pub tells : a.told.items ≡ filter tells a.log.items
+  pub countable : a.log.capacity < 2 ^ 63
+  pub places : length a.log.items + (index_map_len a.requests + stop_places a.stopped) ≤ a.log.capacity
 
 -- the state that the fields of a rank are seen as
 abbrev pub state_of : Inside → State
-state_of a = record { me = a.me.number; ranks = a.ranks; log = a.log.items; marks = map mark_of a.outboxes.boxes }
+state_of a = record { me = a.me.number; ranks = a.ranks; log = a.log.items; marks = map mark_of a.outboxes.boxes; keeps = a.log.keeps }
 
 -- there is room for a post or an arrival, for one more entry and the release of one more request, and in each outbox
 abbrev pub is_prepared : Inside → Bool
-is_prepared a = a.matcher.prepared && (nat_lt (vec_len a.log + (index_map_len a.requests + stop_places a.stopped) + 1) (vec_capacity a.log) && a.outboxes.room)
+is_prepared a = a.matcher.prepared && (nat_lt (length a.log.items + (index_map_len a.requests + stop_places a.stopped) + 1) (a.log.capacity) && (a.outboxes.room && nat_lt (vec_len a.told) (vec_capacity a.told)))
 
 -- the table of requests has a place for one more
 abbrev pub has_place : Inside → Bool

@@ -7,6 +7,7 @@ ghost use Rattle.ulfm_rank.specs.Proposal.{is_agreeing, next_agreement, last_agr
 ghost use Rattle.ulfm_rank.specs.State.{logged};
 
 use super::Rank;
+use crate::decisive::{make_place, tell};
 use crate::entrances::agreements;
 use crate::entry::{Comm, Entry};
 use ulfm_base::{CallError, Context, Decision, Purpose, Topic};
@@ -91,7 +92,9 @@ impl Rank {
     {
         self.check_adoption(topic, &decision)?;
         self.log.reserve(self.requests.len() + 2)?;
+        make_place(&mut self.told)?;
         let value = decision.value;
+        tell(&mut self.told, Entry::Adopted(decision.copied()));
         self.log.push_reserved(Entry::Adopted(decision));
         match value {
             Some(value) => Ok(value),
@@ -114,7 +117,7 @@ impl Rank {
         Topic {
             context,
             purpose: Purpose::Agree {
-                round: agreements(&self.log, context),
+                round: agreements(&self.told, context),
             },
         }
     }
@@ -126,7 +129,7 @@ impl Rank {
         Topic {
             context,
             purpose: Purpose::Agree {
-                round: agreements(&self.log, context).saturating_sub(1),
+                round: agreements(&self.told, context).saturating_sub(1),
             },
         }
     }

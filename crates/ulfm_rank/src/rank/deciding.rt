@@ -13,6 +13,7 @@ ghost use Rattle.ulfm_rank.specs.Proposal.{deciders, has_entered, has_adopted, i
 
 use super::Rank;
 use crate::adopting::is_foreign;
+use crate::decisive::{make_place, tell};
 use crate::entrances::{has_adopted, listed};
 use crate::entry::{Comm, Entry};
 use crate::forwarding::announce;
@@ -38,12 +39,14 @@ impl Rank {
     {
         self.log.reserve(self.requests.len() + 2)?;
         self.outboxes.reserve()?;
+        make_place(&mut self.told)?;
         let known = self.faults.known();
         let entrance = Entrance {
             topic,
             contribution: Contribution { known, flag },
         };
         announce(&mut self.outboxes, self.me.number, known, members, entrance);
+        tell(&mut self.told, Entry::Entered(entrance));
         self.log.push_reserved(Entry::Entered(entrance));
         Ok(())
     }
@@ -97,7 +100,7 @@ impl Rank {
     pub(super) fn has_adopted(&self, topic: Topic) -> bool
         ensures { result ≡ has_adopted self.now.state.log topic }
     {
-        has_adopted(&self.log, topic)
+        has_adopted(&self.told, topic)
     }
 
     /// Whether the rank entered a topic.
@@ -112,6 +115,6 @@ impl Rank {
         ensures entries { HasEntries self.now.state.me self.now.state.log topic result }
         ensures flags { (r : ℕ) (brought : Brought) → entry_at result r ≡ Some brought → Fits topic.purpose brought.flag }
     {
-        listed(self.me, &self.log, topic)
+        listed(self.me, &self.told, topic)
     }
 }

@@ -7,6 +7,7 @@ ghost use Rattle.ulfm_rank.specs.Checks.{Passes, Fails, FailsOrStarves, shrink_c
 ghost use Rattle.ulfm_rank.specs.State.{logged};
 
 use super::Rank;
+use crate::decisive::{make_place, tell};
 use crate::entry::{Comm, Entry};
 use ulfm_base::{CallError, Context, Decision, Purpose, Topic};
 
@@ -88,10 +89,12 @@ impl Rank {
         };
         self.check_adoption(topic, &decision)?;
         self.log.reserve(self.requests.len() + 2)?;
+        make_place(&mut self.told)?;
         let context = Context {
             number: 2 * comm.context.number + 2,
         };
         self.communicators.add(context, decision.fresh.copied());
+        tell(&mut self.told, Entry::Adopted(decision.copied()));
         self.log.push_reserved(Entry::Adopted(decision));
         Ok(Comm { context })
     }

@@ -5,6 +5,7 @@ ghost use Rattle.ulfm_rank.specs.Facts.{is_stopped};
 ghost use Rattle.ulfm_rank.specs.State.{is_ready, logged};
 
 use super::{Rank, stop_places};
+use crate::decisive::{hear, make_place};
 use crate::entry::Entry;
 use crate::failures::{is_late, learn};
 use crate::forwarding::pass_on;
@@ -29,6 +30,7 @@ impl Rank {
         self.log.reserve(places)?;
         self.requests.reserve(1)?;
         self.matcher.prepare()?;
+        make_place(&mut self.told)?;
         self.outboxes.reserve()
     }
 
@@ -41,6 +43,7 @@ impl Rank {
             && places < self.log.capacity()
             && self.requests.len() < self.requests.capacity()
             && self.outboxes.has_room()
+            && self.told.len() < self.told.capacity()
     }
 
     /// Takes an item that came from a rank. A letter is handed to the earliest receive that takes it, or kept, or
@@ -64,6 +67,7 @@ impl Rank {
             &item,
         );
         learn(&mut self.faults, source, &item);
+        hear(&mut self.told, source, &item);
         let noted = NotedItem::of(&item);
         settle(&mut self.matcher, &mut self.requests, late, source, item);
         self.log.push_reserved(Entry::Took(source, noted));

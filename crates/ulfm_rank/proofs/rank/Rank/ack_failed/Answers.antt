@@ -1,3 +1,4 @@
+use Rattle.ulfm_rank.proofs.Sifted.{quiet, silent}
 use Rattle.std.proofs.Common.{◌++◌, ◌∷◌, [], ap, ◌∙◌, arith}
 use Rattle.ulfm_rank.proofs.Common.{Acknowledged}
 use Rattle.ulfm_rank.proofs.Following.{follows_acknowledged}
@@ -10,4 +11,6 @@ invariant_of-self-2 c =
     record {
       follows = rw now_log (follows_acknowledged c.self.invariant.follows c.args.comm.context c.ack-total.result c.ack-total.new.self c.ack-total.ensures.sets_this_total_alone c.ack-total.ensures.known_stay c.ack-total.ensures.marks_stay);
       places = omega (arith, c.in_ok-reserve.ensures.ok, c.push_reserved.ensures.len, c.push_reserved.ensures.capacity, c.len.ensures.len, stop_places_few c.self.inside.stopped);
+      tells = quiet _ _ _ _ now_log c.self.invariant.tells silent;
+      countable = omega (arith, c.push_reserved.ensures.capacity, c.reserve.ensures.countable);
     }

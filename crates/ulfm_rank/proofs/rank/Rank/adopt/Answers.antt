@@ -1,3 +1,4 @@
+use Rattle.ulfm_rank.proofs.Sifted.{told_more}
 use Rattle.std.proofs.Common.{◌≡◌, ◌++◌, ◌∷◌, [], ap, sym, subst, ◌∙◌, arith, Some}
 use Rattle.ulfm_rank.proofs.Common.{Topic, decided_comm, shrink_of, shrink_topic, Adopted, find_group, group_of, state_of, State, RankView, is_some}
 use Rattle.std.proofs.lemmas.Result.{err_from_is_err_and}
@@ -38,4 +39,6 @@ invariant_of-self-2 c =
     record {
       follows = rw (longer, added) (follows_adopted c.self.invariant.follows c.args.decision found);
       places = omega (arith, c.in_ok-reserve.ensures.ok, c.push_reserved.ensures.len, c.push_reserved.ensures.capacity, c.len.ensures.len, stop_places_few a.stopped);
+      tells = told_more _ _ _ _ _ longer c.self.invariant.tells (c.tell.ensures.items ∙ ap (λ l. l ++ Adopted c.copied-2.result ∷ []) c.make_place.ensures.items ∙ ap (λ d. a.told.items ++ Adopted d ∷ []) c.copied-2.ensures);
+      countable = omega (arith, c.push_reserved.ensures.capacity, c.reserve.ensures.countable);
     }

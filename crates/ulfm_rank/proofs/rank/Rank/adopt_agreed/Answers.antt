@@ -1,3 +1,4 @@
+use Rattle.ulfm_rank.proofs.Sifted.{told_more}
 use Rattle.std.proofs.Common.{◌≡◌, ◌++◌, ◌∷◌, [], append-nil, ap, sym, subst, ◌∙◌, arith, Some}
 use Rattle.ulfm_rank.proofs.Common.{Topic, is_agreement, decided_comm, Adopted, find_group, group_of, State, RankView}
 use Rattle.std.proofs.lemmas.Result.{err_from_is_err_and}
@@ -28,4 +29,6 @@ invariant_of-self-2 c =
     record {
       follows = rw (longer, same) (follows_adopted c.self.invariant.follows c.args.decision found);
       places = omega (arith, c.in_ok-reserve.ensures.ok, c.push_reserved.ensures.len, c.push_reserved.ensures.capacity, c.len.ensures.len, stop_places_few a.stopped);
+      tells = told_more _ _ _ _ _ longer c.self.invariant.tells (c.tell.ensures.items ∙ ap (λ l. l ++ Adopted c.copied.result ∷ []) c.make_place.ensures.items ∙ ap (λ d. a.told.items ++ Adopted d ∷ []) c.copied.ensures);
+      countable = omega (arith, c.push_reserved.ensures.capacity, c.reserve.ensures.countable);
     }

@@ -1,3 +1,4 @@
+use Rattle.ulfm_rank.proofs.Sifted.{quiet, silent}
 use Rattle.std.proofs.Common.{◌≡◌, ℕ, [], ◌∷◌, ◌++◌, false, refl, ap, sym, subst, arith, ◌∙◌, Some, nat_eq}
 use Rattle.ulfm_rank.proofs.Common.{Pattern, Request, TestAnswer, RankView, Released, Cancelled, IsTestAnswer, IsRequest, IsNoRequest, is_some, is_release, is_stopped, is_waiting, get, index_map_len}
 use Rattle.ulfm_rank.proofs.Answered.{is_request, no_request}
@@ -21,6 +22,8 @@ invariant_of-self c =
       follows = rw c.push_reserved.ensures.items
           (follows_requests c.self.invariant.follows (Cancelled c.args.id) refl (in_step_cancelled c.self.invariant.follows.in_step c.args.id q found c.withdraw.new.self c.withdraw.ensures.tracks (get nat_eq c.shift_remove.new.self) c.shift_remove.ensures.updates.0));
       places = omega (arith, c.self.invariant.places, less, c.push_reserved.ensures.len, c.push_reserved.ensures.capacity);
+      tells = quiet _ _ _ _ c.push_reserved.ensures.items c.self.invariant.tells silent;
+      countable = omega (arith, c.push_reserved.ensures.capacity, c.self.invariant.countable);
     }
 
 pub returns-then-waits-clause-answer : goal.returns-then-waits-clause-answer
@@ -49,6 +52,8 @@ invariant_of-self-2 c =
       follows = rw longer
           (follows_released c.self.invariant.follows (Released c.args.id c.answer_in-answer.result) refl c.args.id.number (record { releases_this = λ k. refl; probes_none = λ k. refl }) refl c.unwrap-request.result found (get nat_eq c.shift_remove.new.self) c.shift_remove.ensures.updates.0);
       places = omega (arith, c.self.invariant.places, less, c.push_reserved-2.ensures.len, c.push_reserved-2.ensures.capacity);
+      tells = quiet _ _ _ _ longer c.self.invariant.tells silent;
+      countable = omega (arith, c.push_reserved-2.ensures.capacity, c.self.invariant.countable);
     }
 
 pub returns-clause-answer : goal.returns-clause-answer

@@ -1,3 +1,4 @@
+use Rattle.ulfm_rank.proofs.Sifted.{quiet, silent}
 use Rattle.std.proofs.Common.{rules, ◌≡◌, ◌++◌, ◌∷◌, [], ap, ◌∙◌, arith, Some}
 use Rattle.ulfm_rank.proofs.Common.{Duplicated, dup_of, find_group, group_of, State, RankView}
 use Rattle.ulfm_rank.proofs.Following.{follows_duplicated}
@@ -19,4 +20,6 @@ invariant_of-self-2 c =
     record {
       follows = rw (now_log, added) (follows_duplicated c.self.invariant.follows c.args.comm.context group found);
       places = omega (arith, c.in_ok-reserve.ensures.ok, c.push_reserved.ensures.len, c.push_reserved.ensures.capacity, c.len.ensures.len, stop_places_few a.stopped);
+      tells = quiet _ _ _ _ now_log c.self.invariant.tells silent;
+      countable = omega (arith, c.push_reserved.ensures.capacity, c.reserve.ensures.countable);
     }

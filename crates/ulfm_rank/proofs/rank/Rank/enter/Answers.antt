@@ -1,3 +1,4 @@
+use Rattle.ulfm_rank.proofs.Sifted.{told_more}
 use Rattle.std.proofs.Common.{◌≡◌, ◌++◌, ◌∷◌, [], refl, ap, sym, subst, ◌∙◌, arith}
 use Rattle.ulfm_rank.proofs.Common.{is_member, Entrance, Entered, state_of, Knows, AllGrow, deciders, State, RankView, announced}
 use Rattle.ulfm_rank.proofs.Following.{follows_entered}
@@ -31,6 +32,8 @@ invariant_of-self-2 c =
     record {
       follows = rw (longer c) (follows_entered c.self.invariant.follows (entrance c) c.announce.new.outboxes.boxes (grows c));
       places = omega (arith, c.in_ok-reserve.ensures.ok, c.push_reserved.ensures.len, c.push_reserved.ensures.capacity, c.len.ensures.len, stop_places_few a.stopped);
+      tells = told_more _ _ _ _ _ (longer c) c.self.invariant.tells (c.tell.ensures.items ∙ ap (λ l. l ++ Entered (entrance c) ∷ []) c.make_place.ensures.items);
+      countable = omega (arith, c.push_reserved.ensures.capacity, c.reserve.ensures.countable);
     }
 
 pub returns-clause-enters : goal.returns-clause-enters
@@ -41,5 +44,5 @@ returns-clause-enters c =
       about = refl;
       knows = subst (λ (s : State). Knows s.log c.known-known.result) (seen c) (knows c);
       brings = refl;
-      only = state_logged a.outboxes.boxes c.announce.new.outboxes.boxes (Entered (entrance c)) (seen c) (longer c) (marks-grown (grows c));
+      only = state_logged a.outboxes.boxes c.announce.new.outboxes.boxes (Entered (entrance c)) (seen c) (longer c) (marks-grown (grows c)) (c.push_reserved.ensures.keeps ∙ c.reserve.ensures.keeps);
     }

@@ -1,3 +1,4 @@
+use Rattle.ulfm_rank.proofs.Sifted.{quiet, silent}
 use Rattle.std.proofs.Common.{◌≡◌, ℕ, false, true, [], ◌∷◌, ◌++◌, length, ap, sym, subst, arith, refl, ◌∙◌, Option, Some, nat_eq, inr, cond, eqb, Contains}
 use Rattle.std.proofs.lemmas.Result.{err_from_is_err_and}
 use Rattle.ulfm_base.specs.Pattern.{Admits}
@@ -32,7 +33,7 @@ returns-in_err-reserve-clause-refused c =
     rw (e.1, e.2) (inr (k.accepted, may_starve c.self.invariant.follows c.args.self.now.state (ap (λ (v : RankView). v.state.log) c.self.view_is) c.args.comm c.args.source c.args.tag c.in_ok-pattern.pattern k.accepted k.asks_for there.0 there.1 there.2))
 
 pub invariant_of-self-in_err-reserve-2 : goal.invariant_of-self-in_err-reserve-2
-invariant_of-self-in_err-reserve-2 c = holds_same c.self.inside c.self.invariant refl refl refl refl refl refl refl refl refl c.reserve-2.ensures.entries refl c.reserve.ensures.items c.reserve.ensures.len c.reserve.ensures.capacity
+invariant_of-self-in_err-reserve-2 c = holds_same c.self.inside c.self.invariant refl refl refl refl refl refl refl refl refl c.reserve-2.ensures.entries refl c.reserve.ensures.items refl c.reserve.ensures.capacity c.reserve.ensures.countable
 
 pub returns-in_err-reserve-2-clause-refused : goal.returns-in_err-reserve-2-clause-refused
 returns-in_err-reserve-2-clause-refused c =
@@ -44,7 +45,7 @@ returns-in_err-reserve-2-clause-refused c =
 pub probe-requires-clause-countable : goal.probe-requires-clause-countable
 probe-requires-clause-countable c =
     let a = c.self.inside in
-    omega (arith, count_small c.self.invariant.follows.in_step, a.log.small, a.log.ok.0, a.log.ok.1)
+    omega (arith, count_small c.self.invariant.follows.in_step, c.self.invariant.places, c.self.invariant.countable)
 
 pub probe-requires-clause-open : goal.probe-requires-clause-open
 probe-requires-clause-open c =
@@ -99,6 +100,8 @@ invariant_of-self-2 c =
           let one = at_most_one (is_some c.in-Ok.field-0) in
           let stop = stop_places_few a.stopped in
           omega (arith, c.in_ok-reserve.ensures.ok, c.push_reserved.ensures.len, c.push_reserved.ensures.capacity, c.in-Ok.ensures.len, one, stop, c.len-places.ensures.len, same, c.reserve.ensures.len);
+      tells = quiet _ _ _ _ (longer c) c.self.invariant.tells silent;
+      countable = omega (arith, c.push_reserved.ensures.capacity, c.reserve.ensures.countable);
     }
 
 pub returns-clause-answer : goal.returns-clause-answer
@@ -116,7 +119,7 @@ returns-clause-answer c =
       gets = subst (λ (s : State). WouldGet s.log p c.in-Some.letter) seen (gets c.self.invariant.follows.in_step p c.in-Some.letter c.probe.new.self c.in-Some.ensures.tracks);
       numbered = c.count.ensures ∙ c.self.invariant.follows.in_step.tracks.remains.count ∙ ap (λ (s : State). count_before (history_of s.log) (length (history_of s.log))) seen;
       told = subst (λ g. TellsOf g c.in-Some.letter c.status_in-status.result) members c.status_in-status.ensures;
-      only = state_logged a.outboxes.boxes a.outboxes.boxes (Probed (id c) p) seen (longer c) refl;
+      only = state_logged a.outboxes.boxes a.outboxes.boxes (Probed (id c) p) seen (longer c) refl (c.push_reserved.ensures.keeps ∙ c.reserve.ensures.keeps);
     }
 
 pub returns-clause-message : goal.returns-clause-message

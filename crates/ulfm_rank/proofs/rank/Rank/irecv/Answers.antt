@@ -1,3 +1,4 @@
+use Rattle.ulfm_rank.proofs.Sifted.{quiet, silent}
 use Rattle.std.proofs.Common.{◌≡◌, false, [], ◌∷◌, ◌++◌, length, ap, sym, subst, arith, refl, ◌∙◌, nat_eq}
 use Rattle.ulfm_rank.proofs.Common.{Context, Pattern, Posted, Request, IsRequest, is_revoked, Follows, state_of, IsOfGroup, RankView, Adds, is_some, lookup, get, index_map_len, IsReceive}
 use Rattle.ulfm_rank.specs.Checks.{receive_checks, Passes}
@@ -9,16 +10,16 @@ use Rattle.ulfm_rank.proofs.rank.Rank.irecv.Goals as goal
 use Rattle.ulfm_rank.proofs.rank.Rank.irecv.Goals.{After-push_reserved}
 
 pub invariant_of-self-in_err-reserve-2 : goal.invariant_of-self-in_err-reserve-2
-invariant_of-self-in_err-reserve-2 c = holds_same c.self.inside c.self.invariant refl refl refl refl refl refl refl refl refl c.reserve-2.ensures.entries refl c.reserve.ensures.items c.reserve.ensures.len c.reserve.ensures.capacity
+invariant_of-self-in_err-reserve-2 c = holds_same c.self.inside c.self.invariant refl refl refl refl refl refl refl refl refl c.reserve-2.ensures.entries refl c.reserve.ensures.items refl c.reserve.ensures.capacity c.reserve.ensures.countable
 
 pub invariant_of-self-in_err-prepare : goal.invariant_of-self-in_err-prepare
-invariant_of-self-in_err-prepare c = holds_same c.self.inside c.self.invariant refl refl refl refl refl c.prepare.ensures.waiting c.prepare.ensures.kept c.prepare.ensures.count c.prepare.ensures.cleared c.reserve-2.ensures.entries refl c.reserve.ensures.items c.reserve.ensures.len c.reserve.ensures.capacity
+invariant_of-self-in_err-prepare c = holds_same c.self.inside c.self.invariant refl refl refl refl refl c.prepare.ensures.waiting c.prepare.ensures.kept c.prepare.ensures.count c.prepare.ensures.cleared c.reserve-2.ensures.entries refl c.reserve.ensures.items refl c.reserve.ensures.capacity c.reserve.ensures.countable
 
 pub admit-fate-requires-clause-countable : goal.admit-fate-requires-clause-countable
 admit-fate-requires-clause-countable c =
     let a = c.self.inside in
     let small = count_small c.self.invariant.follows.in_step in
-    omega (arith, small, c.prepare.ensures.count, a.log.small, a.log.ok.0, a.log.ok.1)
+    omega (arith, small, c.prepare.ensures.count, c.self.invariant.places, c.self.invariant.countable)
 
 pub admit-fate-requires-clause-open : goal.admit-fate-requires-clause-open
 admit-fate-requires-clause-open c =
@@ -68,6 +69,8 @@ invariant_of-self-2 c =
           let one = at_most_one (is_some c.in-Ok.field-0) in
           let stop = stop_places_few a.stopped in
           omega (arith, c.in_ok-reserve.ensures.ok, c.push_reserved.ensures.len, c.push_reserved.ensures.capacity, c.in-Ok.ensures.len, one, stop, c.len-places.ensures.len, same, c.reserve.ensures.len);
+      tells = quiet _ _ _ _ (longer c) c.self.invariant.tells silent;
+      countable = omega (arith, c.push_reserved.ensures.capacity, c.reserve.ensures.countable);
     }
 
 pub returns-clause-posts : goal.returns-clause-posts
@@ -76,7 +79,7 @@ returns-clause-posts c =
     record {
       pattern = pattern c;
       receive = receive c;
-      only = state_logged a.outboxes.boxes a.outboxes.boxes (Posted (pattern c)) (ap (λ (v : RankView). v.state) c.self.view_is) (longer c) refl;
+      only = state_logged a.outboxes.boxes a.outboxes.boxes (Posted (pattern c)) (ap (λ (v : RankView). v.state) c.self.view_is) (longer c) refl (c.push_reserved.ensures.keeps ∙ c.reserve.ensures.keeps);
     }
 
 pub returns-clause-request : goal.returns-clause-request

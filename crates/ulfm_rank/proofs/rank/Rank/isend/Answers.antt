@@ -1,3 +1,4 @@
+use Rattle.ulfm_rank.proofs.Sifted.{quiet, silent}
 use Rattle.std.proofs.Common.{◌++◌, ◌∷◌, [], refl, ap, ◌∙◌, arith}
 use Rattle.ulfm_rank.proofs.Common.{Letter, Sent, State, RankView}
 use Rattle.ulfm_rank.proofs.Held.{marks-grown}
@@ -14,6 +15,8 @@ invariant_of-self-2 c =
     record {
       follows = rw now_log (follows_sent c.self.invariant.follows c.in_ok-to.to letter c.put.new.self.boxes grows);
       places = omega (arith, c.in_ok-reserve.ensures.ok, c.push_reserved.ensures.len, c.push_reserved.ensures.capacity, c.len.ensures.len, stop_places_few a.stopped);
+      tells = quiet _ _ _ _ now_log c.self.invariant.tells silent;
+      countable = omega (arith, c.push_reserved.ensures.capacity, c.reserve.ensures.countable);
     }
 
 pub returns-clause-sends : goal.returns-clause-sends
@@ -31,5 +34,5 @@ returns-clause-sends c =
       source = ap (λ (s : State). s.me) seen;
       has_tag = refl;
       carries = c.in_ok-body.ensures.bytes;
-      only = state_logged a.outboxes.boxes c.put.new.self.boxes (Sent c.in_ok-to.to letter) seen now_log (marks-grown grows);
+      only = state_logged a.outboxes.boxes c.put.new.self.boxes (Sent c.in_ok-to.to letter) seen now_log (marks-grown grows) (c.push_reserved.ensures.keeps ∙ c.reserve.ensures.keeps);
     }

@@ -7,7 +7,7 @@ use Rattle.ulfm_rank.proofs.rank.Rank.me.Goals as goal
 pub returns-clause-sound : goal.returns-clause-sound
 returns-clause-sound c =
     let a = c.self.inside in
-    subst (λ (v : RankView). IsState v.state) c.self.view_is (state-sound a.ranks a.me.number a.log.items a.outboxes.boxes c.self.invariant.follows.small c.self.invariant.follows.outboxes)
+    subst (λ (v : RankView). IsState v.state) c.self.view_is (state-sound a.ranks a.me.number a.log.items a.outboxes.boxes a.log.keeps c.self.invariant.follows.small c.self.invariant.follows.outboxes)
 
 pub returns-clause-paired : goal.returns-clause-paired
 returns-clause-paired c =

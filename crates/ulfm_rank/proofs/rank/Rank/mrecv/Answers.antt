@@ -1,3 +1,4 @@
+use Rattle.ulfm_rank.proofs.Sifted.{quiet, silent}
 use Rattle.std.proofs.Common.{◌≡◌, ℕ, [], ◌∷◌, ◌++◌, refl, ap, sym, subst, arith, ◌∙◌, false, nat_eq, Some}
 use Rattle.ulfm_rank.proofs.Common.{Pattern, Request, RankView, Received, IsMessage, IsMessageAnswer, IsNoMessage, is_some, is_stopped, get, index_map_len}
 use Rattle.ulfm_rank.proofs.Answered.{is_message, no_message}
@@ -30,6 +31,8 @@ invariant_of-self c =
       follows = rw longer
           (follows_released c.self.invariant.follows (Received c.args.id c.answer_in-answer.result) refl c.args.id.number (record { releases_this = λ k. refl; probes_none = λ k. refl }) refl c.in-Some.message.now c.in-Some.ensures.there.0 (get nat_eq c.shift_remove.new.self) c.shift_remove.ensures.updates.0);
       places = omega (arith, c.self.invariant.places, less, c.push_reserved.ensures.len, c.push_reserved.ensures.capacity);
+      tells = quiet _ _ _ _ longer c.self.invariant.tells silent;
+      countable = omega (arith, c.push_reserved.ensures.capacity, c.self.invariant.countable);
     }
 
 pub returns-clause-answer : goal.returns-clause-answer

@@ -32,6 +32,8 @@ invariant_of-self-2 c =
         outboxes = rw c.put_back.ensures.boxes marked;
       };
       places = c.self.invariant.places;
+      tells = c.self.invariant.tells;
+      countable = c.self.invariant.countable;
     }
 
 pub returns-clause-state : goal.returns-clause-state

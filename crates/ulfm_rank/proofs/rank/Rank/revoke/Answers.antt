@@ -1,3 +1,4 @@
+use Rattle.ulfm_rank.proofs.Sifted.{quiet, silent}
 use Rattle.std.proofs.Common.{◌≡◌, ◌++◌, ◌∷◌, [], ℕ, false, ap, sym, ◌∙◌, arith, nat_eq}
 use Rattle.ulfm_rank.proofs.Common.{Revoked, is_revoked, is_gone, has, State, RankView, get}
 use Rattle.ulfm_rank.proofs.Held.{marks-grown}
@@ -17,6 +18,8 @@ invariant_of-self-2 c =
     record {
       follows = rw now_log (follows_revoked c.self.invariant.follows c.args.comm.context c.clear.new.matcher (get nat_eq c.clear.new.requests) c.revoke.new.self c.forward.new.outboxes.boxes first c.clear.ensures.tracks c.revoke.ensures.marks_this_context_alone c.revoke.ensures.known_stay c.revoke.ensures.totals_stay grows);
       places = omega (arith, c.in_ok-reserve.ensures.ok, c.push_reserved.ensures.len, c.push_reserved.ensures.capacity, c.len.ensures.len, c.clear.ensures.len, stop_places_few a.stopped);
+      tells = quiet _ _ _ _ now_log c.self.invariant.tells silent;
+      countable = omega (arith, c.push_reserved.ensures.capacity, c.reserve.ensures.countable);
     }
 
 pub returns-clause-state : goal.returns-clause-state
@@ -29,4 +32,4 @@ returns-clause-state c =
     let knows : (r : ℕ) → has c.known-known.result r ≡ is_gone a.log.items r = λ r. c.known-known.ensures r ∙ knows_gone faults r in
     let grows = rw c.in_ok-reserve-2.ensures.boxes at (c.forward.ensures a.log.items knows first) in
     let first' : is_revoked c.args.self.now.state.log c.args.comm.context.number ≡ false = ap (λ (s : State). is_revoked s.log c.args.comm.context.number) (sym seen) ∙ first in
-    rw first' (state_logged a.outboxes.boxes c.forward.new.outboxes.boxes (Revoked c.args.comm.context) seen now_log (marks-grown grows))
+    rw first' (state_logged a.outboxes.boxes c.forward.new.outboxes.boxes (Revoked c.args.comm.context) seen now_log (marks-grown grows) (c.push_reserved.ensures.keeps ∙ c.reserve.ensures.keeps))

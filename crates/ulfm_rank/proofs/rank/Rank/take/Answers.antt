@@ -1,4 +1,5 @@
-use Rattle.std.proofs.Common.{◌≡◌, ◌+◌, [], ◌∷◌, ◌++◌, ap, sym, subst, arith, ◌∙◌, nat_eq, IsTrue, vec_len, vec_capacity}
+use Rattle.ulfm_rank.proofs.Sifted.{told_more}
+use Rattle.std.proofs.Common.{◌≡◌, ◌+◌, [], ◌∷◌, ◌++◌, ap, sym, subst, arith, ◌∙◌, nat_eq, IsTrue, length, nat_lt, ◌&&◌, vec_len, vec_capacity}
 use Rattle.ulfm_rank.proofs.Common.{Took, AllGrow, RankView, owed_by_item, get, index_map_len, stop_places, revoked_before}
 use Rattle.ulfm_rank.proofs.Held.{marks-grown}
 use Rattle.ulfm_rank.proofs.InStep.{count_small, in_step_open}
@@ -12,7 +13,7 @@ pub settle-requires-clause-countable : goal.settle-requires-clause-countable
 settle-requires-clause-countable c =
     let a = c.self.inside in
     let small = count_small c.self.invariant.follows.in_step in
-    omega (arith, small, a.log.small, a.log.ok.0, a.log.ok.1)
+    omega (arith, small, c.self.invariant.places, c.self.invariant.countable)
 
 pub settle-requires-clause-open : goal.settle-requires-clause-open
 settle-requires-clause-open c l is late =
@@ -32,15 +33,17 @@ longer c = c.push_reserved.ensures.items ∙ ap (λ x. c.self.inside.log.items +
 pub invariant_of-self : goal.invariant_of-self
 invariant_of-self c =
     let a = c.self.inside in
-    let room = room_of a.matcher.prepared (vec_len a.log + (index_map_len a.requests + stop_places a.stopped)) (vec_capacity a.log) a.outboxes.room (subst (λ (v : RankView). IsTrue v.prepared) (sym c.self.view_is) c.requires.prepared) in
+    let room = room_of a.matcher.prepared (length a.log.items + (index_map_len a.requests + stop_places a.stopped)) a.log.capacity (a.outboxes.room && nat_lt (vec_len a.told) (vec_capacity a.told)) (subst (λ (v : RankView). IsTrue v.prepared) (sym c.self.view_is) c.requires.prepared) in
     let tracks = rw c.is_late-late.ensures at c.settle.ensures.tracks in
     record {
       follows = rw (longer c)
           (follows_took c.self.invariant.follows c.args.source c.args.item c.settle.new.matcher (get nat_eq c.settle.new.requests) c.learn.new.faults c.pass_on.new.outboxes.boxes tracks (c.learn.ensures a.log.items c.self.invariant.follows.faults) (grows c));
       places = omega (arith, room, c.settle.ensures.len, c.push_reserved.ensures.len, c.push_reserved.ensures.capacity);
+      tells = told_more _ _ _ _ _ (longer c) c.self.invariant.tells c.hear.ensures.items;
+      countable = omega (arith, c.push_reserved.ensures.capacity, c.self.invariant.countable);
     }
 
 pub returns : goal.returns
 returns c =
     let a = c.self.inside in
-    state_logged c.self.inside.outboxes.boxes c.pass_on.new.outboxes.boxes (Took c.args.source c.args.item) (ap (λ (v : RankView). v.state) c.self.view_is) (longer c) (marks-grown (grows c))
+    state_logged c.self.inside.outboxes.boxes c.pass_on.new.outboxes.boxes (Took c.args.source c.args.item) (ap (λ (v : RankView). v.state) c.self.view_is) (longer c) (marks-grown (grows c)) c.push_reserved.ensures.keeps

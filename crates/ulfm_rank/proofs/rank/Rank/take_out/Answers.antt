@@ -20,6 +20,8 @@ invariant_of-self c =
         outboxes = outboxes-taken a.outboxes c.take_next.new.self c.args.dest c.take_next.result held inside c.take_next.ensures.first c.take_next.ensures.taken c.take_next.ensures.unchanged;
       };
       places = c.self.invariant.places;
+      tells = c.self.invariant.tells;
+      countable = c.self.invariant.countable;
     }
 
 pub returns-then-not-self-clause-leaves : goal.returns-then-not-self-clause-leaves

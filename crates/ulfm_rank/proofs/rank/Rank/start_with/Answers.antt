@@ -1,8 +1,9 @@
-use Rattle.std.proofs.Common.{◌≡◌, ℕ, [], ◌∷◌, ap, arith, ◌∙◌, None, nat_eq}
+use Rattle.std.proofs.Common.{◌≡◌, ℕ, [], ◌∷◌, ap, arith, ◌∙◌, None, nat_eq, sym, filter}
+use Rattle.ulfm_rank.specs.inside.Decisive.{tells}
 use Rattle.ulfm_rank.proofs.Common.{lookup, get}
 use Rattle.ulfm_rank.proofs.Whole.{follows_start, state_start}
-use Rattle.ulfm_rank.proofs.rank.Rank.start.Goals as goal
-use Rattle.ulfm_rank.proofs.rank.Rank.start.Goals.{After-result-1}
+use Rattle.ulfm_rank.proofs.rank.Rank.start_with.Goals as goal
+use Rattle.ulfm_rank.proofs.rank.Rank.start_with.Goals.{After-result-1}
 
 empty : (c : After-result-1) → c.reserve.new.self.items ≡ []
 empty c = c.reserve.ensures.items ∙ c.new-log.ensures.items
@@ -17,7 +18,9 @@ invariant_of-result-2 c =
           size.1 c.if-me-ranks.false c.new-3.ensures none c.new-4.ensures.none_known c.new-4.ensures.none_acknowledged c.new-4.ensures.none_revoked
           (c.in_ok-communicators.ensures ∙ ap (λ g. (0, g) ∷ []) size.2) c.in_ok-outboxes.ensures);
       places = omega (arith, c.in_ok-reserve.ensures.ok, c.reserve.ensures.len, c.new-log.ensures.len, c.new-5.ensures.len);
+      tells = c.new-6.ensures.items ∙ ap (filter tells) (sym (empty c));
+      countable = c.reserve.ensures.countable;
     }
 
 pub returns-clause-started : goal.returns-clause-started
-returns-clause-started c = state_start c.args.ranks c.args.me c.reserve.new.self.items c.in_ok-outboxes.outboxes.boxes (empty c) c.in_ok-outboxes.ensures
+returns-clause-started c = state_start c.args.ranks c.args.me c.reserve.new.self.items c.in_ok-outboxes.outboxes.boxes c.reserve.new.self.keeps c.args.keeps (empty c) c.in_ok-outboxes.ensures (c.reserve.ensures.keeps ∙ c.new-log.ensures.keeps)

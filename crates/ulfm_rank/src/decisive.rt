@@ -1,0 +1,41 @@
+//! The entries of a log that tell of shrinks and agreements (ULFM, shrink and agree).
+ghost use Rattle.std.specs.Prelude.{◌≡◌, ◌+◌, ◌<◌, ◌≤◌, [], ◌∷◌, ◌++◌, filter, vec_len, vec_capacity, OnOk, OnErr};
+ghost use Rattle.ulfm_rank.specs.inside.Decisive.{tells};
+ghost use Rattle.ulfm_rank.specs.declared.entry.Entry.TheVariants.{Took};
+
+use crate::entry::Entry;
+use ulfm_base::{Item, NotedItem, OutOfMemory, WorldRank};
+
+/// Makes room for one of them.
+///
+/// # Errors
+///
+/// `OutOfMemory` where there was no such room and a growth was refused.
+pub(crate) fn make_place(told: &mut Vec<Entry>) -> Result<(), OutOfMemory>
+    ensures items { told.new.items ≡ told.old.items }
+    ensures len { vec_len told.new ≡ vec_len told.old }
+    ensures ok { OnOk result (vec_len told.new < vec_capacity told.new) }
+    ensures capacity { vec_capacity told.old ≤ vec_capacity told.new }
+    ensures full { OnErr result (vec_capacity told.old ≤ vec_len told.old) }
+{
+    told.reserve(1)
+}
+
+/// One of them more.
+pub(crate) fn tell(told: &mut Vec<Entry>, entry: Entry)
+    requires { vec_len told.old < vec_capacity told.old }
+    ensures items { told.new.items ≡ told.old.items ++ entry ∷ [] }
+{
+    told.push_reserved(entry);
+}
+
+/// One of them more, where the item that was taken from a rank is such.
+pub(crate) fn hear(told: &mut Vec<Entry>, source: WorldRank, item: &Item)
+    requires { vec_len told.old < vec_capacity told.old }
+    ensures items { told.new.items ≡ told.old.items ++ filter tells (Took source item.now ∷ []) }
+{
+    match item {
+        Item::Enter(_) => told.push_reserved(Entry::Took(source, NotedItem::of(item))),
+        _ => {}
+    }
+}
