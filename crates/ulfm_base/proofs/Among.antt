@@ -4,6 +4,12 @@ use Rattle.std.specs.List.{list_any, list_all}
 use Rattle.std.proofs.lemmas.Bool.{false≢true, or_cases, or_left, or_right, and_parts, and_from, eqb-true, cases_eq}
 use Rattle.ulfm_base.specs.Group.{is_member, excluding, numbers_from}
 
+-- two tests that imply each other are one
+pub same_truth : (a b : Bool) → (a ≡ true → b ≡ true) → (b ≡ true → a ≡ true) → a ≡ b
+same_truth true b there back = sym (there refl)
+same_truth false true there back = back refl
+same_truth false false there back = refl
+
 first_member : (m : ℕ) (group : List ℕ) → is_member (m ∷ group) m ≡ true
 first_member m group = or_left (m == m) (is_member group m) (eq-eqb m m refl)
 

@@ -3,7 +3,7 @@ use Rattle.std.proofs.Common.{◌≡◌, ℕ, ◌+◌, ◌<◌, ◌≤◌, Bool,
 use Rattle.std.proofs.lemmas.List.{get_or_past}
 use Rattle.ulfm_rank.proofs.Common.{Decision, Contribution, Topic, RankSet, Entry, deciders, is_gone, Knows, cases_eq, cases_lt, false≢true, cond-true, false_from_ne_true, HasEntries, has_entered, listed_of, is_out, has_proposal, IsProposal, slice_get-get_or, list_any, list_any_at, entry_at, is_listed, in_entry, has, IsSubset, is_member, excluding}
 use Rattle.ulfm_base.specs.Decision.{and_entries, and_entry}
-use Rattle.ulfm_base.proofs.Among.{all_members, at_member, member_test, any_member, place_test, excluding_alike}
+use Rattle.ulfm_base.proofs.Among.{all_members, at_member, member_test, any_member, place_test, excluding_alike, same_truth}
 
 -- the places below k are filled, and no other
 abbrev pub IsFilled : {X : Type 0} → (ℕ → X) → X → List X → ℕ → Type 0
@@ -33,12 +33,6 @@ has_small set size r h = elim (cases_lt r 8) [
   | inl small ↦ small
   | inr large ↦ absurd (false≢true (sym (get_or_past set.members r false (omega (arith, size, large))) ∙ h))
 ]
-
--- both or none
-same_truth : (a b : Bool) → (a ≡ true → b ≡ true) → (b ≡ true → a ≡ true) → a ≡ b
-same_truth true b f g = sym (f refl)
-same_truth false true f g = g refl
-same_truth false false f g = refl
 
 module _ (me : ℕ) (log : List Entry) (c : Topic) {group : List ℕ} {known : RankSet} {entries listed : List (Option Contribution)} {failures members accounted : RankSet} (t : IsTally group known entries listed failures members accounted) (knows : Knows log known) (heard : HasEntries me log c entries) where
   below : (r : ℕ) → is_member group r ≡ true → r < 8
