@@ -1,4 +1,13 @@
-//! What was found in a text: the first ten of it. And streams: a text that is read whole, and one that is written whole.
+//! What was found in a text, and the streams that a program has. It stands on no other crate of this project: `ulfm_explain`, `ulfm_replies`
+//! and `ulfm_program` stand on it.
+//!
+//! A [`FirstTen`] keeps the first ten of what it is told, in its order. Contracts see the list of them:
+//!
+//!     let mut found = FirstTen::new(alloc);
+//!     found.tell(explanation)?;
+//!
+//! [`read_front`] reads all of an input, up to one byte more than a job may have. [`write_whole`] writes all of a text, and answers whether it
+//! could. Their contracts say which bytes were read and written, also where a stream fails half way.
 #![tactic(auto)]
 
 mod first_ten;

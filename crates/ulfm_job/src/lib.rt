@@ -1,7 +1,13 @@
 //! Jobs: what the ranks are to do.
 //!
 //! A [`Job`] has 1 to 8 ranks and 1 to 256 steps in all, or none. A [`Step`] is one call of a rank. A [`Clause`] is a condition of a
-//! step, or what it expects of its answer. `ulfm_reader` reads a job from its text. The definitions are in specs/Job.antt.
+//! step, or what it expects of its answer. `ulfm_reader` reads a job from its text, and all that plays one stands on this crate:
+//!
+//!     for step in job.script(rank) { .. }
+//!     let job = job.with_stop(rank, at)?;
+//!
+//! A job always keeps its limits: that is its invariant, `IsJob`. Read specs/Job.antt first (what a job is, and one with more stops or other
+//! turns), then Words.antt (a step in the words of traces) and Begins.antt (when an answer begins as a clause says).
 #![tactic(auto)]
 
 mod clause;

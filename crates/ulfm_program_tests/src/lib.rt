@@ -1,5 +1,13 @@
 //! Tests of the program, from words and a job to a status and texts: each stands here and not beside its code, so that the gate
-//! proves the program once.
+//! proves the program once. Nothing stands on it.
+//!
+//! - notes, explanations: what standard error says. No contract speaks of that.
+//! - options, files, streams, broken: command lines, files that are named, and inputs and outputs that fail.
+//! - json, outcomes, sweeps, runs: the texts of the commands, byte for byte.
+//! - schedule_turns, schedule_steps, probes, agreements, reacting: jobs whose traces tell one rule from another.
+//!
+//! kept and rows are what they share: a reply in memory, and a table of jobs with their traces. Begin with rows. The gallery is
+//! `ulfm_gallery`'s.
 #![tactic(auto)]
 
 #[cfg(test)]

@@ -1,7 +1,13 @@
-//! What is said without an engine: of the words of a command line, of a job's text, and beside a reply.
+//! What is said without an engine: of the words of a command line, of a job's text, and beside a reply. `ulfm_program` stands on it.
 //!
-//! [`asked_for`] reads the words, [`write_notes`] says on standard error what a reply doesn't. The statuses of the program are constants
-//! of this crate. Read specs/CommandLine.antt.
+//!     let asked = asked_for(alloc, words)?;
+//!     let reply = check_reply(alloc, asked.form, bytes)?;
+//!
+//! [`asked_for`] reads the words, and [`check_reply`] and [`trace_reply`] tell of a job and of what was played. [`write_notes`] says on
+//! standard error what a reply doesn't: that is for people, and no contract speaks of it. The statuses of the program are constants of this
+//! crate.
+//!
+//! Read specs/CommandLine.antt first (what words ask for), then Replies.antt, Asking.antt and Unfinished.antt (texts and statuses).
 #![tactic(auto)]
 
 mod asked;
