@@ -69,8 +69,8 @@ WARNED = [
         f"rank 0 step 2 .. key 'req' is 9, and its rank has no step 9; {COUNTED}",
     ]),
     ("a revocation that may be skipped", 'rank = 0, op = "failed"; rank = 0, op = "revoke", if = { step = 0, is = ["refused"] }; rank = 0, op = "recv"', []),
-    ("a wait by a name", 'rank = 1, op = "dup", name = "a"; rank = 1, op = "wait", req = "a"', [
-        f"rank 1 step 1 .. key 'req' is 0, and step 0 of its rank is no recv but a dup; {COUNTED}",
+    ("a wait by a name", 'rank = 1, op = "dup", name = "a"; rank = 1, op = "wait", req = "a", name = "b"', [
+        f"rank 1 step 1 'b' (step 1 of the file): key 'req' is 0, and step 0 'a' of its rank is no recv but a dup; {COUNTED}",
     ]),
     ("behind a stop", 'rank = 0, op = "stop"; rank = 0, op = "wait", req = 9; rank = 0, op = "recv", from = 7', []),
 ]

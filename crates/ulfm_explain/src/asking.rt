@@ -6,16 +6,13 @@ use crate::explanation::StepPlace;
 use crate::findings::Findings;
 use crate::keys::Sheet;
 use crate::rules::{Key, condition_rules};
-use crate::script::{Script, op_of};
+use crate::script::{Script, is_name, op_of};
 use crate::shown::{Shown, shown_value};
 use std::alloc::AllocError;
 use toml::{Table, Value};
 
 /// The most items of a list.
 const MOST_ITEMS: usize = 16;
-
-/// The most bytes of a name.
-const MOST_NAME: usize = 32;
 
 /// A step whose rank can be read, and where it stands.
 #[derive(Clone, Copy)]
@@ -211,14 +208,4 @@ impl Asker<'_> {
         }
         Ok(())
     }
-}
-
-/// Whether a text is a name.
-fn is_name(text: &str) -> bool {
-    !text.is_empty() && text.len() <= MOST_NAME && text.bytes().all(|byte| is_name_byte(byte))
-}
-
-/// Whether a byte may stand in a name.
-fn is_name_byte(byte: u8) -> bool {
-    byte.is_ascii_alphanumeric() || byte == b'_' || byte == b'-'
 }

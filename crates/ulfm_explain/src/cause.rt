@@ -1,7 +1,7 @@
 //! What is wrong with a job.
 
 use crate::answers::beginnings;
-use crate::doom::Doom;
+use crate::doom::{Doom, Doomed};
 use crate::ops::OPS;
 use crate::rules::{Key, Kind, Rules};
 use crate::shown::Shown;
@@ -57,8 +57,8 @@ pub enum Cause {
     NoStep(Shown),
     /// Words of so many bytes, where 1024 are the most.
     LongWords(Key, usize),
-    /// The step can be read, and will be refused when it runs.
-    Doomed(Doom),
+    /// The step can be read, and will be refused when it runs; the name of the other step of which that tells.
+    Doomed(Doom, Option<String>),
 }
 
 /// What to write in place of a word, where there is a word like it.
@@ -212,7 +212,14 @@ impl fmt::Display for Cause {
                 f,
                 "key '{key}' has a text of {count} bytes, and 1024 are the most"
             ),
-            Cause::Doomed(doom) => write!(f, "{doom}: this step will be refused"),
+            Cause::Doomed(doom, other) => {
+                let name = match other {
+                    Some(name) => Some(name.as_str()),
+                    None => None,
+                };
+                let why = Doomed(*doom, name);
+                write!(f, "{why}: this step will be refused")
+            }
         }
     }
 }

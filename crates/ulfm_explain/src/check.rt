@@ -6,7 +6,7 @@ use crate::explanation::Explanation;
 use crate::findings::Findings;
 use crate::place::{Place, place_at};
 use crate::shown::Shown;
-use crate::steps::explain_job;
+use crate::steps::{explain_job, steps_of};
 use std::alloc::{AllocError, Global};
 use toml::Table;
 
@@ -54,6 +54,7 @@ fn one(alloc: Global, place: Option<Place>, cause: Cause) -> Result<Vec<Explanat
     found.push(Explanation {
         place,
         step: None,
+        name: None,
         cause,
     })?;
     Ok(found)
@@ -63,7 +64,7 @@ fn one(alloc: Global, place: Option<Place>, cause: Cause) -> Result<Vec<Explanat
 fn explain_table(alloc: Global, text: &str, table: &Table) -> Result<Vec<Explanation>, AllocError>
     ensures few { IfOk result (λ found. vec_len found ≤ 10) }
 {
-    let mut findings = Findings::new(alloc, text)?;
+    let mut findings = Findings::new(alloc, text, steps_of(table))?;
     explain_job(&mut findings, table)?;
     Ok(findings.found.into_vec())
 }

@@ -1,6 +1,7 @@
 //! Why a step that can be read will be refused when it runs.
 
 use crate::rules::Key;
+use crate::told::Numbered;
 use std::fmt;
 
 /// Why a step will be refused.
@@ -23,11 +24,11 @@ pub enum Doom {
     /// A `req` that names its own step.
     Itself(i64),
     /// A `req` that names a later step.
-    Later(i64),
+    Later(usize),
     /// A `req` that has to name a step with the first op, and names one with the second.
-    AnotherOp(i64, &'static str, &'static str),
+    AnotherOp(usize, &'static str, &'static str),
     /// A `req` that names a step with this op, which will be refused itself.
-    RefusedStep(i64, &'static str),
+    RefusedStep(usize, &'static str),
     /// A `req` of which the earlier step with this op and number leaves nothing.
     UsedUp(i64, &'static str, usize),
 }
@@ -48,7 +49,24 @@ impl Doom {
             | Doom::UsedUp(_, _, _) => Key::Req,
         }
     }
+
+    /// The number of the other step of its rank of which it tells, if it tells of one.
+    pub fn other(&self) -> Option<usize> {
+        match self {
+            Doom::Revoked(_, step)
+            | Doom::Again(_, _, step)
+            | Doom::Later(step)
+            | Doom::AnotherOp(step, _, _)
+            | Doom::RefusedStep(step, _)
+            | Doom::UsedUp(_, _, step) => Some(*step),
+            _ => None,
+        }
+    }
 }
+
+/// Why a step will be refused, and the name of the other step of which that tells, where it has one.
+#[derive(Clone, Copy)]
+pub struct Doomed<'a>(pub Doom, pub Option<&'a str>);
 
 /// The op that makes a communicator, and from which.
 #[derive(Clone, Copy)]
@@ -78,9 +96,10 @@ impl fmt::Display for An {
 /// What a `req` names, for those who counted in another way.
 const COUNTED: &str = "req counts the steps of one rank, from 0";
 
-impl fmt::Display for Doom {
+impl fmt::Display for Doomed<'_> {
     fn fmt<W: fmt::Write>(&self, f: &mut fmt::Formatter<W>) -> fmt::Result {
-        match self {
+        let Doomed(doom, name) = *self;
+        match doom {
             Doom::PastRanks(key, value, ranks) => {
                 let last = ranks.saturating_sub(1);
                 write!(
@@ -92,14 +111,15 @@ impl fmt::Display for Doom {
                 write!(f, "key 'body' has {count} bytes, and 1024 are the most")
             }
             Doom::NotMade(comm) => {
-                let maker = Maker(*comm);
+                let maker = Maker(comm);
                 write!(
                     f,
                     "no earlier step of its rank makes communicator {comm} ({maker} does)"
                 )
             }
-            Doom::Revoked(comm, step) => {
-                write!(f, "step {step} of its rank revokes communicator {comm}")
+            Doom::Revoked(comm, number) => {
+                let step = Numbered { number, name };
+                write!(f, "{step} of its rank revokes communicator {comm}")
             }
             Doom::NoContext(comm, op) => {
                 write!(
@@ -107,10 +127,11 @@ impl fmt::Display for Doom {
                     "key 'comm' is {comm}, and 30 is the last of which there is a {op}"
                 )
             }
-            Doom::Again(comm, op, step) => {
+            Doom::Again(comm, op, number) => {
+                let step = Numbered { number, name };
                 write!(
                     f,
-                    "step {step} of its rank is a {op} of communicator {comm} too, and one is the most"
+                    "{step} of its rank is a {op} of communicator {comm} too, and one is the most"
                 )
             }
             Doom::NoSuchStep(req) => {
@@ -125,30 +146,34 @@ impl fmt::Display for Doom {
                     "key 'req' is {req}, and that is this step itself; {COUNTED}"
                 )
             }
-            Doom::Later(req) => {
+            Doom::Later(number) => {
+                let step = Numbered { number, name };
                 write!(
                     f,
-                    "key 'req' is {req}, and step {req} of its rank comes later; {COUNTED}"
+                    "key 'req' is {number}, and {step} of its rank comes later; {COUNTED}"
                 )
             }
-            Doom::AnotherOp(req, wanted, op) => {
-                let found = An(*op);
+            Doom::AnotherOp(number, wanted, op) => {
+                let step = Numbered { number, name };
+                let found = An(op);
                 write!(
                     f,
-                    "key 'req' is {req}, and step {req} of its rank is no {wanted} but {found}; {COUNTED}"
+                    "key 'req' is {number}, and {step} of its rank is no {wanted} but {found}; {COUNTED}"
                 )
             }
-            Doom::RefusedStep(req, op) => {
+            Doom::RefusedStep(number, op) => {
+                let step = Numbered { number, name };
                 write!(
                     f,
-                    "key 'req' is {req}, and the {op} that is step {req} of its rank will be refused"
+                    "key 'req' is {number}, and the {op} that is {step} of its rank will be refused"
                 )
             }
-            Doom::UsedUp(req, op, step) => {
-                let used = An(*op);
+            Doom::UsedUp(req, op, number) => {
+                let step = Numbered { number, name };
+                let used = An(op);
                 write!(
                     f,
-                    "key 'req' is {req}, and step {step} of its rank, {used}, uses up what that one left"
+                    "key 'req' is {req}, and {step} of its rank, {used}, uses up what that one left"
                 )
             }
         }

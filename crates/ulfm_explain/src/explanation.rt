@@ -2,6 +2,7 @@
 
 use crate::cause::Cause;
 use crate::place::Place;
+use crate::told::Numbered;
 use std::fmt;
 
 /// A step of the file.
@@ -20,20 +21,29 @@ pub struct Explanation {
     pub place: Option<Place>,
     /// The step that it is about, or none where it is about the whole job.
     pub step: Option<StepPlace>,
+    /// The name of that step, if it has one.
+    pub name: Option<String>,
     pub cause: Cause,
 }
 
-impl fmt::Display for StepPlace {
+/// A step of the file, and its name, where it has one.
+#[derive(Clone, Copy)]
+struct Named<'a>(StepPlace, Option<&'a str>);
+
+impl fmt::Display for Named<'_> {
     fn fmt<W: fmt::Write>(&self, f: &mut fmt::Formatter<W>) -> fmt::Result {
-        match self.of_rank {
+        let Named(place, name) = *self;
+        let in_file = place.in_file;
+        match place.of_rank {
             Some((rank, number)) => {
-                write!(
-                    f,
-                    "rank {rank} step {number} (step {} of the file)",
-                    self.in_file
-                )
+                let step = Numbered { number, name };
+                write!(f, "rank {rank} {step} (step {in_file} of the file)")
             }
-            None => write!(f, "step {} of the file", self.in_file),
+            None => {
+                let number = in_file;
+                let step = Numbered { number, name };
+                write!(f, "{step} of the file")
+            }
         }
     }
 }
@@ -44,7 +54,11 @@ impl fmt::Display for Explanation {
             write!(f, "line {}, column {}: ", place.line, place.column)?;
         }
         if let Some(step) = self.step {
-            write!(f, "{step}: ")?;
+            let name = match &self.name {
+                Some(name) => Some(name.as_str()),
+                None => None,
+            };
+            write!(f, "{}: ", Named(step, name))?;
         }
         write!(f, "{}", self.cause)
     }

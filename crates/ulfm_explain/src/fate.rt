@@ -53,7 +53,7 @@ impl<'a> Placed<'a> {
     }
 
     /// The step of its rank with this number.
-    fn sibling(&self, number: usize) -> Option<&'a Value> {
+    pub fn sibling(&self, number: usize) -> Option<&'a Value> {
         self.script().step(number)
     }
 
@@ -176,11 +176,11 @@ impl<'a> Placed<'a> {
             return Some(Doom::Itself(req));
         }
         if number > self.number {
-            return Some(Doom::Later(req));
+            return Some(Doom::Later(number));
         }
         let op = op_of(step)?;
         if op != wanted {
-            return Some(Doom::AnotherOp(req, wanted, op));
+            return Some(Doom::AnotherOp(number, wanted, op));
         }
         let asked = Placed {
             number,
@@ -188,7 +188,7 @@ impl<'a> Placed<'a> {
             ..*self
         };
         if asked.doom_of_call(op).is_some() {
-            return Some(Doom::RefusedStep(req, op));
+            return Some(Doom::RefusedStep(number, op));
         }
         let used = self.used_up_by(req, number, last)?;
         Some(Doom::UsedUp(req, last, used))

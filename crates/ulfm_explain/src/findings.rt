@@ -4,25 +4,33 @@ use crate::cause::Cause;
 use crate::explanation::{Explanation, StepPlace};
 use crate::marks::{Mark, marks_of};
 use crate::place::place_at;
+use crate::script::kept_name;
 use std::alloc::{AllocError, Global};
+use toml::Value;
 use ulfm_findings::FirstTen;
 
-/// What was found in a text: its first ten explanations.
+/// What was found in a text with these steps: its first ten explanations.
 #[derive(Drop)]
 pub struct Findings<'a> {
     pub alloc: Global,
     pub text: &'a str,
+    pub steps: &'a [Value],
     pub marks: Vec<Mark>,
     pub found: FirstTen<Explanation>,
 }
 
 impl<'a> Findings<'a> {
-    /// Nothing found yet, of a text with these marks.
-    pub fn new(alloc: Global, text: &'a str) -> Result<Findings<'a>, AllocError> {
+    /// Nothing found yet, in a text with these steps.
+    pub fn new(
+        alloc: Global,
+        text: &'a str,
+        steps: &'a [Value],
+    ) -> Result<Findings<'a>, AllocError> {
         let marks = marks_of(alloc, text)?;
         Ok(Findings {
             alloc,
             text,
+            steps,
             marks,
             found: FirstTen::new(alloc),
         })
@@ -44,7 +52,24 @@ impl<'a> Findings<'a> {
             return Ok(());
         }
         let place = at.map(|at| place_at(self.text.as_bytes(), at));
-        self.found.tell(Explanation { place, step, cause })
+        let name = self.name_of(step)?;
+        self.found.tell(Explanation {
+            place,
+            step,
+            name,
+            cause,
+        })
+    }
+
+    /// The name of a step, if it is one and has one.
+    fn name_of(&self, step: Option<StepPlace>) -> Result<Option<String>, AllocError> {
+        let Some(place) = step else {
+            return Ok(None);
+        };
+        match self.steps.get(place.in_file) {
+            Some(step) => kept_name(self.alloc, step),
+            None => Ok(None),
+        }
     }
 
     /// Where a key of the job or of a step begins; where it doesn't stand there, the step itself.

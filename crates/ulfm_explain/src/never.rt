@@ -125,7 +125,7 @@ pub fn rows_that_came(alloc: Global, bytes: &[u8], trace: &str) -> Result<String
     for (number, row) in rows_of(&table).iter().enumerate() {
         let texts = row.as_array().map_or(&[][..], |texts| texts.as_slice());
         if has_come(steps_of(&table), texts, trace) {
-            write!(notes, "row {number}:")?;
+            write!(notes, "never[{number}]:")?;
             push_texts(&mut notes, texts)?;
             count = count.saturating_add(1);
         }

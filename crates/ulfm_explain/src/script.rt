@@ -4,7 +4,11 @@ use crate::keys::text_at;
 use crate::ops::rules_of;
 use crate::rules::Key;
 use crate::steps::rank_of;
+use std::alloc::{AllocError, Global};
 use toml::Value;
+
+/// The most bytes of a name.
+const MOST_NAME: usize = 32;
 
 /// The steps of one rank, among those of the file.
 #[derive(Clone, Copy)]
@@ -45,8 +49,26 @@ impl<'a> Script<'a> {
 }
 
 /// The name of a step, where it has one.
-fn name_of(step: &Value) -> Option<&str> {
+pub fn name_of(step: &Value) -> Option<&str> {
     text_at(step.as_table()?, Key::Name)
+}
+
+/// A copy of the name of a step, where it has one that may be a name.
+pub fn kept_name(alloc: Global, step: &Value) -> Result<Option<String>, AllocError> {
+    match name_of(step) {
+        Some(name) if is_name(name) => Ok(Some(String::from_str(alloc, name)?)),
+        _ => Ok(None),
+    }
+}
+
+/// Whether a text may be a name.
+pub fn is_name(text: &str) -> bool {
+    !text.is_empty() && text.len() <= MOST_NAME && text.bytes().all(|byte| is_name_byte(byte))
+}
+
+/// Whether a byte may stand in a name.
+fn is_name_byte(byte: u8) -> bool {
+    byte.is_ascii_alphanumeric() || byte == b'_' || byte == b'-'
 }
 
 /// The op of a step, if it is known.

@@ -1,10 +1,26 @@
-//! How a step of a trace is told of.
+//! How a step is told of.
 
-use crate::keys::text_at;
-use crate::rules::Key;
-use crate::script::Script;
+use crate::script::{Script, name_of};
 use std::alloc::{AllocError, Global};
+use std::fmt;
 use toml::{Table, Value};
+
+/// A step by its number, as it is written, and its name, where it has one.
+#[derive(Clone, Copy)]
+pub struct Numbered<'a, N> {
+    pub number: N,
+    pub name: Option<&'a str>,
+}
+
+impl<N: fmt::Display> fmt::Display for Numbered<'_, N> {
+    fn fmt<W: fmt::Write>(&self, f: &mut fmt::Formatter<W>) -> fmt::Result {
+        write!(f, "step {}", self.number)?;
+        match self.name {
+            Some(name) => write!(f, " '{name}'"),
+            None => Ok(()),
+        }
+    }
+}
 
 /// The table of a job's text, where it is TOML.
 pub fn table_of(alloc: Global, bytes: &[u8]) -> Result<Option<Table>, AllocError> {
@@ -40,14 +56,10 @@ pub fn halves<'a>(text: &'a str, mark: &str) -> (&'a str, &'a str) {
 pub fn push_step(note: &mut String, steps: &[Value], words: &str) -> Result<(), AllocError> {
     let (rank, rest) = halves(words, " ");
     let (number, call) = halves(rest, " ");
-    write!(note, "rank {rank} step {number}")?;
-    if let Some(name) = name_of(steps, words) {
-        write!(note, " '{name}'")?;
-    }
-    write!(note, ": {call}")
-}
-
-/// The name of the step that the words before an answer name.
-fn name_of<'a>(steps: &'a [Value], words: &str) -> Option<&'a str> {
-    text_at(step_of(steps, words)?.as_table()?, Key::Name)
+    let name = match step_of(steps, words) {
+        Some(step) => name_of(step),
+        None => None,
+    };
+    let step = Numbered { number, name };
+    write!(note, "rank {rank} {step}: {call}")
 }

@@ -2,9 +2,11 @@
 ghost use Rattle.std.specs.Prelude.{◌≤◌, IfOk, vec_len};
 
 use crate::cause::Cause;
+use crate::doom::Doom;
 use crate::explanation::Explanation;
 use crate::fate::Placed;
 use crate::findings::Findings;
+use crate::script::kept_name;
 use crate::steps::{place_of, ranks_of, steps_of};
 use std::alloc::{AllocError, Global};
 use toml::Table;
@@ -37,9 +39,9 @@ pub fn warnings(alloc: Global, bytes: &[u8]) -> Result<Vec<Explanation>, AllocEr
 fn table_warnings(alloc: Global, text: &str, table: &Table) -> Result<Vec<Explanation>, AllocError>
     ensures few { IfOk result (λ found. vec_len found ≤ 10) }
 {
-    let mut findings = Findings::new(alloc, text)?;
     let ranks = ranks_of(table);
     let steps = steps_of(table);
+    let mut findings = Findings::new(alloc, text, steps)?;
     for (in_file, step) in steps.iter().enumerate() {
         let place = place_of(ranks, steps, in_file);
         if let Some((rank, number)) = place.of_rank {
@@ -53,10 +55,26 @@ fn table_warnings(alloc: Global, text: &str, table: &Table) -> Result<Vec<Explan
             if !placed.is_after_stop() {
                 if let Some(doom) = placed.doom() {
                     let at = findings.place_of(Some(in_file), doom.key().name());
-                    findings.tell(at, Some(place), Cause::Doomed(doom))?;
+                    let name = other_name(alloc, placed, &doom)?;
+                    findings.tell(at, Some(place), Cause::Doomed(doom, name))?;
                 }
             }
         }
     }
     Ok(findings.found.into_vec())
+}
+
+/// The name of the other step of its rank that a step's warning tells of, if it has one.
+fn other_name(
+    alloc: Global,
+    placed: Placed<'_>,
+    doom: &Doom,
+) -> Result<Option<String>, AllocError> {
+    let Some(number) = doom.other() else {
+        return Ok(None);
+    };
+    match placed.sibling(number) {
+        Some(step) => kept_name(alloc, step),
+        None => Ok(None),
+    }
 }

@@ -72,7 +72,7 @@ const EXPLAINED: &[Row] = &[
         "a name twice",
         1,
         "{rank = 0, op = \"dup\", name = \"a\"}, {rank = 0, op = \"stop\", name = \"a\"}",
-        "line 4, column 69: rank 0 step 1 (step 1 of the file): name 'a' is that of step 0 of its rank too\n",
+        "line 4, column 69: rank 0 step 1 'a' (step 1 of the file): name 'a' is that of step 0 of its rank too\n",
     ),
     (
         "a name that no step has",
@@ -125,14 +125,14 @@ const EXPLAINED: &[Row] = &[
     (
         "revoked before",
         0,
-        "{rank = 0, op = \"revoke\"}, {rank = 0, op = \"recv\", comm = 0}",
-        "warning: line 4, column 60: rank 0 step 1 (step 1 of the file): step 0 of its rank revokes communicator 0: this step will be refused\n",
+        "{rank = 0, op = \"revoke\"}, {rank = 0, op = \"recv\", comm = 0, name = \"b-2\"}",
+        "warning: line 4, column 60: rank 0 step 1 'b-2' (step 1 of the file): step 0 of its rank revokes communicator 0: this step will be refused\n",
     ),
     (
         "the same communicator again",
         0,
-        "{rank = 0, op = \"shrink\"}, {rank = 0, op = \"shrink\", comm = 0}",
-        "warning: line 4, column 62: rank 0 step 1 (step 1 of the file): step 0 of its rank is a shrink of communicator 0 too, and one is the most: this step will be refused\n",
+        "{rank = 0, op = \"shrink\", name = \"a\"}, {rank = 0, op = \"shrink\", comm = 0}",
+        "warning: line 4, column 74: rank 0 step 1 (step 1 of the file): step 0 'a' of its rank is a shrink of communicator 0 too, and one is the most: this step will be refused\n",
     ),
     (
         "no such step",

@@ -67,7 +67,7 @@ fn standard_error_says_more(rt: HostRuntime) -> Result<(), Fail> {
             "replay",
             "{rank = 0, op = \"dup\", name = \"copy\"}, {rank = 1, op = \"stop\"}]\nnever = [[\"0.copy comm 1\", \"1.0 skipped\"], [\"0.copy comm\", \"1.0 stopped\"]",
             9,
-            "rows of 'never' whose answers all came: 1\nrow 1: '0.copy comm' and '1.0 stopped'\n",
+            "rows of 'never' whose answers all came: 1\nnever[1]: '0.copy comm' and '1.0 stopped'\n",
         ),
         ("check", "{rank = 0, op = \"recv\"}", 0, ""),
         ("replay", "{rank = 0, op = \"recv\"}", 0, ""),
