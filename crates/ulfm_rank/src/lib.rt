@@ -35,6 +35,7 @@ mod requests;
 mod sources;
 mod word;
 
+pub use entrances::has_adopted;
 pub use entry::{Cancel, Comm, Entry, Probed, Status, TestAnswer};
 pub use law::own_affairs_alone;
 pub use message::MessageId;
