@@ -6,4 +6,5 @@ pub mod Steps
 pub mod Scripts
 pub mod Asking
 pub mod Claims
+pub mod Naming
 pub mod Drafting

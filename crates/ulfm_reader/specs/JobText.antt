@@ -120,10 +120,11 @@ planned_as h draft = record {
   expected = draft.expected;
 }
 
--- what a text asks for: the plan of its job, and the rows of answers of which no run may have all
+-- what a text asks for: the plan of its job, the rows of answers of which no run may have all, and the names of steps
 pub record Reading : Type 0 where
   pub plan : Plan
   pub never : List (List Clause)
+  pub names : List Name
 
 -- the rows that the lists in memory hold
 abbrev pub rows_of : List (Vec Clause Global) → List (List Clause)
@@ -131,11 +132,11 @@ rows_of rows = map (λ row. row.items) rows
 
 -- what a text asks for, as it is kept
 abbrev pub reading_view : Kept → Reading
-reading_view r = record { plan = plan_of r.job; never = rows_of r.never.items }
+reading_view r = record { plan = plan_of r.job; never = rows_of r.never.items; names = r.names.items }
 
 -- what was read of the job's own keys and of its steps, and its rows
 abbrev pub read_as : Head → Draft → List (List Clause) → Reading
-read_as h draft never = record { plan = planned_as h draft; never = never }
+read_as h draft never = record { plan = planned_as h draft; never = never; names = draft.names }
 
 -- the rows of a job, by its steps and their names
 abbrev pub never_of : Head → Draft → Result Reading JobFault

@@ -5,4 +5,5 @@ pub mod Reacting
 pub mod Never
 pub mod StepText
 pub mod JobText
+pub mod Goals
 pub mod inside

@@ -34,16 +34,28 @@ step_in names rank text = if is_number text then number_in text else ok_or (name
 abbrev pub order_at : List (List Order) → ℕ → ℕ → Option Order
 order_at scripts rank step = slice_get (slice_index_or scripts rank []) step
 
+-- a rank and the number of one of its steps: a rank, a dot, and the step by its number or its name
+unfoldable pub place_in : List Name → List ℕ → Result (ℕ × ℕ) Fault
+place_in names text = do
+  parts ← parted 46 text
+  rank ← number_in parts.0
+  step ← step_in names rank parts.1
+  Ok (rank, step)
+
+-- the clause of a step that may not be there, with words with which its answer may begin
+unfoldable pub claimed : Option Order → ℕ → ℕ → List ℕ → Result Clause Fault
+claimed found rank step text = do
+  order ← ok_or found OutOfRange
+  words ← words_in (may_answer order) (Some text)
+  Ok (clause rank step step words)
+
+-- the clause of a place and of words
+abbrev pub claim_of : List (List Order) → List Name → List ℕ → List ℕ → Result Clause Fault
+claim_of scripts names place words = place_in names place >>= (λ at. claimed (order_at scripts at.0 at.1) at.0 at.1 words)
+
 -- the clause of a text: a rank, a dot, a step by its number or its name, a space, and how an answer of that step may begin
 unfoldable pub claim_in : List (List Order) → List Name → List ℕ → Result Clause Fault
-claim_in scripts names text = do
-  parts ← parted 32 text
-  place ← parted 46 parts.0
-  rank ← number_in place.0
-  step ← step_in names rank place.1
-  order ← ok_or (order_at scripts rank step) OutOfRange
-  words ← words_in (may_answer order) (Some parts.1)
-  Ok (clause rank step step words)
+claim_in scripts names text = parted 32 text >>= (λ parts. claim_of scripts names parts.0 parts.1)
 
 -- the clause of what may be no text
 abbrev pub claim_at : List (List Order) → List Name → Option (List ℕ) → Result Clause Fault

@@ -5,15 +5,16 @@ ghost use Rattle.std.specs.List.{list_all};
 ghost use Rattle.toml.specs.Data.{as_str};
 ghost use Rattle.toml.specs.View.{view};
 ghost use Rattle.ulfm_job.specs.Job.{lists_of};
-ghost use Rattle.ulfm_reader.specs.Never.{claim_at, claim_in, is_number, number_in, order_at, parted, step_in};
-ghost use Rattle.ulfm_reader.specs.Plan.{order_of};
+ghost use Rattle.ulfm_reader.specs.Goals.{goal_in, trace_words};
+ghost use Rattle.ulfm_reader.specs.Never.{claim_at, claim_in, claimed, is_number, number_in, order_at, parted, place_in, step_in};
+ghost use Rattle.ulfm_reader.specs.Plan.{order_of, plan_of};
 ghost use Rattle.ulfm_reader.specs.inside.Reading.{claim_view, draft_view, map_ok};
 
 use crate::begins::may_answer;
 use crate::draft::Draft;
 use crate::name::{Name, named};
 use toml::Value;
-use ulfm_job::{Fault, Step};
+use ulfm_job::{Fault, Job, Step};
 
 /// That the answer of a step of a rank begins with these words, by whole words.
 #[derive(Clone, Copy)]
@@ -95,19 +96,69 @@ fn step_at(draft: &Draft, rank: u8, step: u16) -> Option<&Step>
     step_of(draft, rank, step)
 }
 
+/// A step of a job, by what it asks for.
+fn step_in_job(job: &Job, rank: u8, step: u16) -> Option<&Step>
+    ensures { option_map (λ s. order_of s.now) result ≡ order_at (plan_of job.now).scripts rank step }
+{
+    job.step(rank, step as usize)
+}
+
+/// A rank and the number of one of its steps: a rank, a dot, and the step by its number or its name.
+#[tactic(auto, unfolding(crate::specs::Never::place_in))]
+fn place_in(names: &[Name], text: &str) -> Result<(u8, u16), Fault>
+    ensures { result ≡ place_in names.now text.now }
+{
+    let (rank, step) = parted(text, '.')?;
+    let rank = number_in(rank)?;
+    let step = step_in(names, rank, step)?;
+    Ok((rank, step))
+}
+
+/// That the answer of a step, which may not be there, begins with words, if it may.
+#[tactic(auto, unfolding(crate::specs::Never::claimed))]
+fn claimed<'a>(
+    found: Option<&Step>,
+    rank: u8,
+    step: u16,
+    words: &'a str,
+) -> Result<Claim<'a>, Fault>
+    ensures { map_ok claim_view result ≡ claimed (option_map (λ s. order_of s.now) found.entry) rank step words.now }
+{
+    match found {
+        Some(asked) if may_answer(asked, words) => Ok(Claim { rank, step, words }),
+        _ => Err(Fault::OutOfRange),
+    }
+}
+
 /// The answer that a text names: a rank, a dot, a step by its number or its name, a space, and how an answer of that step may begin.
 #[tactic(auto, unfolding(crate::specs::Never::claim_in))]
 fn claim_in<'a>(draft: &Draft, text: &'a str) -> Result<Claim<'a>, Fault>
     ensures { map_ok claim_view result ≡ claim_in (draft_view draft.now).scripts draft.now.names.items text.now }
 {
     let (place, words) = parted(text, ' ')?;
-    let (rank, step) = parted(place, '.')?;
-    let rank = number_in(rank)?;
-    let step = step_in(draft.names.as_slice(), rank, step)?;
-    match step_at(draft, rank, step) {
-        Some(asked) if may_answer(asked, words) => Ok(Claim { rank, step, words }),
-        _ => Err(Fault::OutOfRange),
+    let (rank, step) = place_in(draft.names.as_slice(), place)?;
+    claimed(step_at(draft, rank, step), rank, step, words)
+}
+
+/// The words of a trace for a step: one that never ends is unfinished.
+fn trace_words(words: &str) -> &str
+    ensures { result.now ≡ trace_words words.now }
+{
+    if words == "never ends" {
+        "unfinished"
+    } else {
+        words
     }
+}
+
+/// The answer of a job's step that a text names, as one of a row; the step may also never end.
+#[tactic(auto, unfolding(crate::specs::Goals::goal_in))]
+pub fn goal_in<'a>(job: &Job, names: &[Name], text: &'a str) -> Result<Claim<'a>, Fault>
+    ensures { map_ok claim_view result ≡ goal_in (plan_of job.now).scripts names.now text.now }
+{
+    let (place, words) = parted(text, ' ')?;
+    let (rank, step) = place_in(names, place)?;
+    claimed(step_in_job(job, rank, step), rank, step, trace_words(words))
 }
 
 /// The answer that a value names, where it is a text.

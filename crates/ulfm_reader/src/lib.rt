@@ -3,8 +3,8 @@
 //!     let job = Job::read(alloc, bytes)?;
 //!
 //! [`ReadJob`] has that call: it answers the job of the text, or its first fault, in the order of docs/JOBS.md. A [`Reading`] also has
-//! the rows of answers of which no run may have all. Read specs/JobText.antt (a job), then StepText.antt (a step), Reacting.antt (names,
-//! conditions, what is expected) and Never.antt (rows).
+//! the rows of answers of which no run may have all, and reads the answers that a line of text names. Read specs/JobText.antt (a job), then
+//! StepText.antt (a step), Reacting.antt (names, conditions, what is expected), Never.antt (rows) and Goals.antt (such a line).
 #![tactic(auto)]
 
 mod asker;
@@ -13,6 +13,7 @@ mod claim;
 mod clauses;
 mod draft;
 mod fields;
+mod goals;
 mod head;
 mod letters;
 mod name;
@@ -23,4 +24,6 @@ mod reading;
 mod reference;
 mod rows;
 
+pub use begins::begins;
+pub use name::Name;
 pub use reading::{ReadJob, Reading, no_toml};

@@ -8,6 +8,7 @@ ghost use Rattle.ulfm_reader.specs.Plan.{plan_of};
 
 use crate::draft::Draft;
 use crate::head::{Head, head_of};
+use crate::name::Name;
 use crate::rows::rows_in;
 use std::alloc::Global;
 use toml::{Table, Value};
@@ -16,13 +17,16 @@ use ulfm_job::{Clause, Job, JobFault, MOST_STEPS};
 /// The most bytes of a job.
 const MOST_BYTES: usize = 1_048_576;
 
-/// What a text asks for: its job, and the rows of answers of which no run may have all. In each clause of a row `at` is `step`.
+/// What a text asks for: its job, the rows of answers of which no run may have all, and the names of its steps. In each clause of a row
+/// `at` is `step`.
 #[derive(Drop)]
 pub struct Reading {
     /// The job.
     pub job: Job,
     /// The rows, none where the text has no `never`.
     pub never: Vec<Vec<Clause>>,
+    /// The names of steps.
+    pub names: Vec<Name>,
 }
 
 /// What can be read from the text of a job.
@@ -104,12 +108,12 @@ fn with_rows(alloc: Global, head: &Head<'_>, draft: Draft) -> Result<Reading, Jo
     };
     let Draft {
         scripts,
-        names: _,
+        names,
         conditions,
         expected,
     } = draft;
     let job = Job::new(head.capacity, head.turns, scripts, conditions, expected);
-    Ok(Reading { job, never })
+    Ok(Reading { job, never, names })
 }
 
 /// What the steps are, in the order of the file.
