@@ -10,7 +10,7 @@ ghost use Rattle.ulfm_reader.specs.Never.{claim_at, claim_in, claimed, is_number
 ghost use Rattle.ulfm_reader.specs.Plan.{order_of, plan_of};
 ghost use Rattle.ulfm_reader.specs.inside.Reading.{claim_view, draft_view, map_ok};
 
-use crate::begins::may_answer;
+use crate::beginnings::may_answer;
 use crate::draft::Draft;
 use crate::name::{Name, named};
 use toml::Value;

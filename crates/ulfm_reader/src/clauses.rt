@@ -9,7 +9,7 @@ ghost use Rattle.ulfm_reader.specs.inside.Reading.{map_ok, asker_view, may_begin
 ghost use Rattle.ulfm_reader.specs.Reacting.{are_few, clauses_onto, few_clauses, earlier_in, asked_in, conditions_of, conditions_onto, conditions_in, expected_in, words_in};
 
 use crate::asker::Asker;
-use crate::begins::{may_ask, may_expect};
+use crate::beginnings::{may_ask, may_expect};
 use crate::fields::{only_keys, required_reference, value_at};
 use crate::ranges::req_in;
 use crate::reference::Reference;

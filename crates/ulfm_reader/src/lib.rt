@@ -8,7 +8,7 @@
 #![tactic(auto)]
 
 mod asker;
-mod begins;
+mod beginnings;
 mod claim;
 mod clauses;
 mod draft;
@@ -24,6 +24,6 @@ mod reading;
 mod reference;
 mod rows;
 
-pub use begins::begins;
+pub use beginnings::begins;
 pub use name::Name;
 pub use reading::{ReadJob, Reading, no_toml};

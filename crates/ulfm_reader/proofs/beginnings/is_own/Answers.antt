@@ -1,4 +1,4 @@
-use Rattle.ulfm_reader.proofs.begins.is_own.Goals as goal
+use Rattle.ulfm_reader.proofs.beginnings.is_own.Goals as goal
 
 pub returns-in-Wait : goal.returns-in-Wait
 returns-in-Wait c = rw c.in-Wait.is c.is_alike-in-Wait.ensures
