@@ -21,7 +21,7 @@ use Rattle.ulfm_replies.specs.Replies.{refused_in, starved}
 use Rattle.ulfm_replies.specs.declared.failure.Failure.{Failure}
 use Rattle.ulfm_replies.specs.declared.failure.Failure.TheVariants as run
 use Rattle.ulfm_program.specs.Replies.{IsReplayReply, IsRunReply, IsReplyTo, IsWhole, GetsReply, GetsBeginning, not_a_job, no_room, failed, no_such_job, no_place, no_thread, untrue, fell, given_turns}
-use Rattle.ulfm_program.specs.Outcomes.{unlisted}
+use Rattle.ulfm_program.specs.Outcomes.{unlisted, unshown}
 use Rattle.ulfm_program.specs.Sweep.{unswept}
 use Rattle.ulfm_program.specs.inside.Writing.{GetsFrontOf, IsShown}
 
@@ -54,25 +54,26 @@ shown job faults.OutOfMemory run.Untrue h e = absurd cc
 shown job faults.BadEnds run.Untrue h e = absurd cc
 
 -- out of memory is a reply to any words
-starved_reply : (told form : Form) (wanted : Wanted) (bytes : List ℕ) → IsReplyTo form wanted bytes 3 (out_of_memory_in told)
-starved_reply told form Check bytes = starved told
-starved_reply told form (Replay is_strict turns) bytes = failed told
-starved_reply told form (Run options) bytes = fell told
-starved_reply told form Sweep bytes = unswept told
-starved_reply told form (Outcomes limit wants_progress) bytes = unlisted told
+starved_reply : (told form : Form) (show : Option (List ℕ)) (wanted : Wanted) (bytes : List ℕ) → IsReplyTo form show wanted bytes 3 (out_of_memory_in told)
+starved_reply told form show Check bytes = starved told
+starved_reply told form show (Replay is_strict turns) bytes = failed told
+starved_reply told form show (Run options) bytes = fell told
+starved_reply told form show Sweep bytes = unswept told
+starved_reply told form None (Outcomes options) bytes = unlisted told
+starved_reply told form (Some goals) (Outcomes options) bytes = unshown told
 
-pub starved_gets : (told form : Form) (wanted : Wanted) (most : ℕ) (rest old new : Option (List ℕ)) (status : ℕ) → (status ≢ 4 → (status ≡ 3) × Appends old new (out_of_memory_in told)) → IsWhole status → IfSome rest (λ bytes. GetsReply (IsReplyTo form wanted (take most bytes)) old new status)
-starved_gets told form wanted most None old new status h l = tt
-starved_gets told form wanted most (Some bytes) old new status h l =
+pub starved_gets : (told form : Form) (show : Option (List ℕ)) (wanted : Wanted) (most : ℕ) (rest old new : Option (List ℕ)) (status : ℕ) → (status ≢ 4 → (status ≡ 3) × Appends old new (out_of_memory_in told)) → IsWhole status → IfSome rest (λ bytes. GetsReply (IsReplyTo form show wanted (take most bytes)) old new status)
+starved_gets told form show wanted most None old new status h l = tt
+starved_gets told form show wanted most (Some bytes) old new status h l =
     let w = h l.0 in (
       out_of_memory_in told,
-      subst (λ (k : ℕ). IsReplyTo form wanted (take most bytes) k (out_of_memory_in told)) (sym w.0) (starved_reply told form wanted (take most bytes)),
+      subst (λ (k : ℕ). IsReplyTo form show wanted (take most bytes) k (out_of_memory_in told)) (sym w.0) (starved_reply told form show wanted (take most bytes)),
       w.1,
     )
 
-pub starved_begins : (told form : Form) (wanted : Wanted) (most : ℕ) (rest old new : Option (List ℕ)) (status : ℕ) → (status ≡ 4 → GetsFrontOf old new (out_of_memory_in told)) → status ≡ 4 → IfSome rest (λ bytes. GetsBeginning (IsReplyTo form wanted (take most bytes)) old new)
-starved_begins told form wanted most None old new status h e = tt
-starved_begins told form wanted most (Some bytes) old new status h e = let f = h e in (3, out_of_memory_in told, starved_reply told form wanted (take most bytes), f.0, f.1)
+pub starved_begins : (told form : Form) (show : Option (List ℕ)) (wanted : Wanted) (most : ℕ) (rest old new : Option (List ℕ)) (status : ℕ) → (status ≡ 4 → GetsFrontOf old new (out_of_memory_in told)) → status ≡ 4 → IfSome rest (λ bytes. GetsBeginning (IsReplyTo form show wanted (take most bytes)) old new)
+starved_begins told form show wanted most None old new status h e = tt
+starved_begins told form show wanted most (Some bytes) old new status h e = let f = h e in (3, out_of_memory_in told, starved_reply told form show wanted (take most bytes), f.0, f.1)
 
 -- no number is given
 pub without_repeat : (o : Option ℕ) → ((n : ℕ) → o ≡ Some n → ⊥) → o ≡ None

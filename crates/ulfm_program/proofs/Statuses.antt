@@ -1,6 +1,9 @@
 -- The statuses that replies have.
-use Rattle.std.proofs.Common.{◌≡◌, ◌≤◌, ◌⊎◌, ℕ, Bool, true, false, List, Option, arith, inl, inr, refl}
-use Rattle.ulfm_replies.specs.Replies.{IsCheckReply, good, refused, no_memory, starved}
+use Rattle.std.proofs.Common.{◌≢◌, ◌≤◌, ℕ, Bool, true, false, List, Option, Some, None, arith}
+use Rattle.ulfm_job.specs.Job.{JobView}
+use Rattle.ulfm_job.specs.declared.clause.Clause.{Clause}
+use Rattle.ulfm_outcomes.specs.Text.{some_never_ends}
+use Rattle.ulfm_replies.specs.Replies.{IsCheckReply, good as good_checked, refused, no_memory, starved}
 use Rattle.std.specs.List.{list_all, list_any}
 use Rattle.ulfm_reader.specs.JobText.{never_of_bytes}
 use Rattle.ulfm_replies.specs.Asking.{as_asked}
@@ -11,31 +14,31 @@ use Rattle.ulfm_replies.specs.declared.command.Wanted.{Wanted}
 use Rattle.ulfm_replies.specs.declared.command.Wanted.TheVariants.{Check, Replay, Run, Sweep, Outcomes}
 use Rattle.ulfm_program.specs.Replies.{IsReplayReply, IsRunReply, IsReplyTo, IsWhole, traced, not_a_job, no_room, failed, ran, repeated, no_such_job, no_place, no_thread, untrue, fell, given_turns}
 use Rattle.ulfm_program.specs.Sweep.{IsSweepReply, swept, unread, full, unmade, unswept}
-use Rattle.ulfm_program.specs.Outcomes.{IsOutcomesReply, listed, not_listed, no_memory_to_read, unlisted}
-use Rattle.ulfm_reach.specs.declared.reach.Reach.TheVariants.{All, More}
+use Rattle.ulfm_program.specs.Outcomes.{IsJudged, IsOutcomesReply, IsShowReply, list_status, good, unmet, together, unsearched, listed, past_limit, not_listed, no_memory_to_read, unlisted, shown, nowhere, too_many, unnamed, not_shown, no_memory_to_show, unshown}
+use Rattle.ulfm_replies.specs.declared.command.ListOptions.{ListOptions}
 
--- a status of a reply that was written whole is at most 7, or 9
+-- a status of a reply that was written whole is at most 9
 pub record IsKnown (status : ℕ) : Type 0 where
-  pub few : (status ≤ 7) ⊎ (status ≡ 9)
+  pub few : status ≤ 9
   pub whole : IsWhole status
 
 good_job : IsKnown 0
-good_job = record { few = inl (omega arith); whole = ((λ e. omega (arith, e)), (λ e. omega (arith, e))) }
+good_job = record { few = omega arith; whole = ((λ e. omega (arith, e)), (λ e. omega (arith, e))) }
 
 no_job : IsKnown 1
-no_job = record { few = inl (omega arith); whole = ((λ e. omega (arith, e)), (λ e. omega (arith, e))) }
+no_job = record { few = omega arith; whole = ((λ e. omega (arith, e)), (λ e. omega (arith, e))) }
 
 run_fails : IsKnown 3
-run_fails = record { few = inl (omega arith); whole = ((λ e. omega (arith, e)), (λ e. omega (arith, e))) }
+run_fails = record { few = omega arith; whole = ((λ e. omega (arith, e)), (λ e. omega (arith, e))) }
 
 played : (is_strict is_met is_unfinished : Bool) → IsKnown (played_status is_strict is_met is_unfinished)
-played is_strict false is_unfinished = record { few = inr refl; whole = ((λ e. omega (arith, e)), (λ e. omega (arith, e))) }
-played true true true = record { few = inl (omega arith); whole = ((λ e. omega (arith, e)), (λ e. omega (arith, e))) }
+played is_strict false is_unfinished = record { few = omega arith; whole = ((λ e. omega (arith, e)), (λ e. omega (arith, e))) }
+played true true true = record { few = omega arith; whole = ((λ e. omega (arith, e)), (λ e. omega (arith, e))) }
 played true true false = good_job
 played false true is_unfinished = good_job
 
 checked : (form : Form) (bytes : List ℕ) (status : ℕ) (text : List ℕ) → IsCheckReply form bytes status text → IsKnown status
-checked form bytes status text (good job is) = good_job
+checked form bytes status text (good_checked job is) = good_job
 checked form bytes status text (refused f is) = no_job
 checked form bytes status text no_memory = no_job
 checked form bytes status text (starved told) = run_fails
@@ -52,7 +55,7 @@ run_known form options bytes status text (repeated job runs times is lawful) = p
 run_known form options bytes status text (no_such_job f is) = no_job
 run_known form options bytes status text no_place = no_job
 run_known form options bytes status text (no_thread job is) = run_fails
-run_known form options bytes status text (untrue job reports is shown) = run_fails
+run_known form options bytes status text (untrue job reports is shows) = run_fails
 run_known form options bytes status text (fell told) = run_fails
 
 sweep_known : (form : Form) (bytes : List ℕ) (status : ℕ) (text : List ℕ) → IsSweepReply form bytes status text → IsKnown status
@@ -62,16 +65,88 @@ sweep_known form bytes status text (full job is many) = no_job
 sweep_known form bytes status text unmade = no_job
 sweep_known form bytes status text (unswept told) = run_fails
 
-list_known : (form : Form) (limit : ℕ) (bytes : List ℕ) (status : ℕ) (text : List ℕ) → IsOutcomesReply form limit bytes status text → IsKnown status
-list_known form limit bytes status text (listed job (All reached) is all) = good_job
-list_known form limit bytes status text (listed job More is many) = record { few = inl (omega arith); whole = ((λ e. omega (arith, e)), (λ e. omega (arith, e))) }
-list_known form limit bytes status text (not_listed f is) = no_job
-list_known form limit bytes status text no_memory_to_read = no_job
-list_known form limit bytes status text (unlisted told) = run_fails
+past : IsKnown 7
+past = record { few = omega arith; whole = ((λ e. omega (arith, e)), (λ e. omega (arith, e))) }
 
-pub known_status : (form : Form) (wanted : Wanted) (bytes : List ℕ) (status : ℕ) (text : List ℕ) → IsReplyTo form wanted bytes status text → IsKnown status
-known_status form Check bytes status text h = checked form bytes status text h
-known_status form (Replay is_strict turns) bytes status text h = replayed form is_strict turns bytes status text h
-known_status form (Run options) bytes status text h = run_known form options bytes status text h
-known_status form Sweep bytes status text h = sweep_known form bytes status text h
-known_status form (Outcomes limit wants_progress) bytes status text h = list_known form limit bytes status text h
+not_wanted : IsKnown 9
+not_wanted = record { few = omega arith; whole = ((λ e. omega (arith, e)), (λ e. omega (arith, e))) }
+
+list_alone : (is_strict is_open : Bool) → IsKnown (list_status is_strict is_open)
+list_alone true true = record { few = omega arith; whole = ((λ e. omega (arith, e)), (λ e. omega (arith, e))) }
+list_alone true false = good_job
+list_alone false is_open = good_job
+
+judged_known : (form : Form) (options : ListOptions) (job : JobView) (rows : List (List Clause)) (found : List (List ℕ)) (list : List ℕ) (status : ℕ) (text : List ℕ) → IsJudged form options job rows found list status text → IsKnown status
+judged_known form options job rows found list status text (good meets none) = list_alone options.is_strict (some_never_ends found)
+judged_known form options job rows found list status text (unmet u goals told is shows) = not_wanted
+judged_known form options job rows found list status text (together number row goals words here are shows) = not_wanted
+judged_known form options job rows found list status text (unsearched number row goals here are shows) = past
+
+list_known : (form : Form) (options : ListOptions) (bytes : List ℕ) (status : ℕ) (text : List ℕ) → IsOutcomesReply form options bytes status text → IsKnown status
+list_known form options bytes status text (listed job reached k words is all judged) = judged_known form options job _ _ _ status text judged
+list_known form options bytes status text (past_limit job is many) = past
+list_known form options bytes status text (not_listed f is) = no_job
+list_known form options bytes status text no_memory_to_read = no_job
+list_known form options bytes status text (unlisted told) = run_fails
+
+show_known : (form : Form) (options : ListOptions) (show bytes : List ℕ) (status : ℕ) (text : List ℕ) → IsShowReply form options show bytes status text → IsKnown status
+show_known form options show bytes status text (shown job answers is named goals are words told) = good_job
+show_known form options show bytes status text (nowhere job answers is named goals are not) = record { few = omega arith; whole = ((λ e. omega (arith, e)), (λ e. omega (arith, e))) }
+show_known form options show bytes status text (too_many job answers is named goals are told) = past
+show_known form options show bytes status text (unnamed job part is named) = record { few = omega arith; whole = ((λ e. omega (arith, e)), (λ e. omega (arith, e))) }
+show_known form options show bytes status text (not_shown f is) = no_job
+show_known form options show bytes status text no_memory_to_show = no_job
+show_known form options show bytes status text (unshown told) = run_fails
+
+pub known_status : (form : Form) (show : Option (List ℕ)) (wanted : Wanted) (bytes : List ℕ) (status : ℕ) (text : List ℕ) → IsReplyTo form show wanted bytes status text → IsKnown status
+known_status form show Check bytes status text h = checked form bytes status text h
+known_status form show (Replay is_strict turns) bytes status text h = replayed form is_strict turns bytes status text h
+known_status form show (Run options) bytes status text h = run_known form options bytes status text h
+known_status form show Sweep bytes status text h = sweep_known form bytes status text h
+known_status form None (Outcomes options) bytes status text h = list_known form options bytes status text h
+known_status form (Some goals) (Outcomes options) bytes status text h = show_known form options goals bytes status text h
+
+-- where no answers are asked for, no status is 2
+not_usage : (is_strict is_met is_unfinished : Bool) → played_status is_strict is_met is_unfinished ≢ 2
+not_usage is_strict false is_unfinished = λ e. omega (arith, e)
+not_usage true true true = λ e. omega (arith, e)
+not_usage true true false = λ e. omega (arith, e)
+not_usage false true is_unfinished = λ e. omega (arith, e)
+
+list_not_usage : (is_strict is_open : Bool) → list_status is_strict is_open ≢ 2
+list_not_usage true true = λ e. omega (arith, e)
+list_not_usage true false = λ e. omega (arith, e)
+list_not_usage false is_open = λ e. omega (arith, e)
+
+judged_not_usage : (form : Form) (options : ListOptions) (job : JobView) (rows : List (List Clause)) (found : List (List ℕ)) (list : List ℕ) (status : ℕ) (text : List ℕ) → IsJudged form options job rows found list status text → status ≢ 2
+judged_not_usage form options job rows found list status text (good meets none) = list_not_usage options.is_strict (some_never_ends found)
+judged_not_usage form options job rows found list status text (unmet u goals told is shows) = λ e. omega (arith, e)
+judged_not_usage form options job rows found list status text (together number row goals words here are shows) = λ e. omega (arith, e)
+judged_not_usage form options job rows found list status text (unsearched number row goals here are shows) = λ e. omega (arith, e)
+
+pub no_usage : (form : Form) (wanted : Wanted) (bytes : List ℕ) (status : ℕ) (text : List ℕ) → IsReplyTo form None wanted bytes status text → status ≢ 2
+no_usage form Check bytes status text (good_checked job is) = λ e. omega (arith, e)
+no_usage form Check bytes status text (refused f is) = λ e. omega (arith, e)
+no_usage form Check bytes status text no_memory = λ e. omega (arith, e)
+no_usage form Check bytes status text (starved told) = λ e. omega (arith, e)
+no_usage form (Replay is_strict turns) bytes status text (traced job reports is played_so lawful rest) = not_usage is_strict (as_asked (never_of_bytes bytes) (given_turns turns job) reports) (has_unfinished reports)
+no_usage form (Replay is_strict turns) bytes status text (not_a_job f is) = λ e. omega (arith, e)
+no_usage form (Replay is_strict turns) bytes status text no_room = λ e. omega (arith, e)
+no_usage form (Replay is_strict turns) bytes status text (failed told) = λ e. omega (arith, e)
+no_usage form (Run options) bytes status text (ran job reports once is lawful) = not_usage options.is_strict (as_asked (never_of_bytes bytes) (given_turns options.turns job) reports) (has_unfinished reports)
+no_usage form (Run options) bytes status text (repeated job runs times is lawful) = not_usage options.is_strict (list_all (as_asked (never_of_bytes bytes) (given_turns options.turns job)) runs) (list_any has_unfinished runs)
+no_usage form (Run options) bytes status text (no_such_job f is) = λ e. omega (arith, e)
+no_usage form (Run options) bytes status text no_place = λ e. omega (arith, e)
+no_usage form (Run options) bytes status text (no_thread job is) = λ e. omega (arith, e)
+no_usage form (Run options) bytes status text (untrue job reports is shows) = λ e. omega (arith, e)
+no_usage form (Run options) bytes status text (fell told) = λ e. omega (arith, e)
+no_usage form Sweep bytes status text (swept job lines is few places each) = λ e. omega (arith, e)
+no_usage form Sweep bytes status text (unread f is) = λ e. omega (arith, e)
+no_usage form Sweep bytes status text (full job is many) = λ e. omega (arith, e)
+no_usage form Sweep bytes status text unmade = λ e. omega (arith, e)
+no_usage form Sweep bytes status text (unswept told) = λ e. omega (arith, e)
+no_usage form (Outcomes options) bytes status text (listed job reached k words is all judged) = judged_not_usage form options job _ _ _ status text judged
+no_usage form (Outcomes options) bytes status text (past_limit job is many) = λ e. omega (arith, e)
+no_usage form (Outcomes options) bytes status text (not_listed f is) = λ e. omega (arith, e)
+no_usage form (Outcomes options) bytes status text no_memory_to_read = λ e. omega (arith, e)
+no_usage form (Outcomes options) bytes status text (unlisted told) = λ e. omega (arith, e)

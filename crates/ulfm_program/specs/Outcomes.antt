@@ -1,29 +1,141 @@
 -- What `outcomes` writes for a job.
-use Rattle.std.specs.Prelude.{◌≡◌, ℕ, List, Ok, Err}
+use Rattle.std.specs.Prelude.{◌≡◌, ℕ, Bool, List, ◌++◌, Option, Some, None, Ok, Err, All as Each, codes, slice_get, if◌then◌else◌}
+use Rattle.std.specs.Fmt.{decimal}
+use Rattle.std.specs.Str.Lines.{lines}
+use Rattle.ulfm_job.specs.declared.clause.Clause.{Clause}
 use Rattle.ulfm_job.specs.declared.fault.JobFault.{JobFault}
 use Rattle.ulfm_job.specs.declared.fault.JobFault.TheVariants.{OutOfMemory}
 use Rattle.ulfm_job.specs.Job.{JobView}
-use Rattle.ulfm_reader.specs.JobText.{job_of_bytes}
+use Rattle.ulfm_reader.specs.Goals.{goals_of_bytes}
+use Rattle.ulfm_reader.specs.JobText.{job_of_bytes, never_of_bytes}
 use Rattle.ulfm_reader.specs.Plan.{plan_of}
-use Rattle.ulfm_reach.specs.declared.reach.Reach.{Reach}
+use Rattle.ulfm_world.specs.World.{World}
 use Rattle.ulfm_reach.specs.declared.reach.Reach.TheVariants.{All, More}
+use Rattle.ulfm_reach.specs.declared.reached.Reached.{Reached}
+use Rattle.ulfm_reach.specs.declared.sought.Sought.TheVariants as sought
+use Rattle.ulfm_outcomes.specs.Goals.{AreOfClauses, IsPossible, IsSchedule}
 use Rattle.ulfm_outcomes.specs.Outcomes.{IsList}
+use Rattle.ulfm_outcomes.specs.Schedule.{IsScheduleText}
+use Rattle.ulfm_outcomes.specs.Showing.{IsShowing}
+use Rattle.ulfm_outcomes.specs.Text.{some_never_ends}
+use Rattle.ulfm_outcomes.specs.Unmet.{IsUnmet, MeetsExpected}
+use Rattle.ulfm_outcomes.specs.declared.goals.Goals.{Goals}
+use Rattle.ulfm_outcomes.specs.declared.unmet.Unmet.{Unmet}
+use Rattle.ulfm_json.specs.Parts.{texts_json}
 use Rattle.ulfm_json.specs.declared.form.Form.{Form}
+use Rattle.ulfm_json.specs.declared.form.Form.TheVariants.{Words, Json}
 use Rattle.ulfm_outcomes.specs.Objects.{list_in}
 use Rattle.ulfm_replies.specs.Failure.{out_of_memory_in}
 use Rattle.ulfm_replies.specs.Replies.{refused_in}
+use Rattle.ulfm_replies.specs.declared.command.ListOptions.{ListOptions}
 
--- the status of a list: 7 where more states than the limit are reached
-abbrev pub list_status : Reach → ℕ
-list_status (All reached) = 0
-list_status More = 7
+-- what a search came to that may show a schedule: its text, or that there are more states than the limit
+pub data Told : Type 0 where
+  schedule : List ℕ → Told
+  many : ℕ → Told
 
--- The status and the text, in this form, that `outcomes` gives for these bytes: with 0 the list of all that the steps of their job may be answered, over
--- every schedule, and of those that may be left open for ever; with 7 the line that more states than the limit are reached; with 1 the
--- line of the job's refusal, which may be J7; with 3 the line that memory ran out.
-pub data IsOutcomesReply (form : Form) (limit : ℕ) (bytes : List ℕ) : ℕ → List ℕ → Type 0 where
-  listed : (job : JobView) (reach : Reach) → job_of_bytes bytes ≡ Ok (plan_of job) → IsList job limit reach
-      → IsOutcomesReply form limit bytes (list_status reach) (list_in form bytes job reach limit)
-  not_listed : (f : JobFault) → job_of_bytes bytes ≡ Err f → IsOutcomesReply form limit bytes 1 (refused_in form f)
-  no_memory_to_read : IsOutcomesReply form limit bytes 1 (refused_in form OutOfMemory)
-  unlisted : (told : Form) → IsOutcomesReply form limit bytes 3 (out_of_memory_in told)
+-- how that is printed
+abbrev pub told_words : Told → List ℕ
+told_words (schedule text) = text
+told_words (many limit) = codes "more than " ++ decimal limit ++ codes " states\n"
+
+-- its key in an object: the lines of a schedule, or the limit
+abbrev pub told_json : Told → List ℕ
+told_json (schedule text) = codes "\"schedule\":" ++ texts_json (lines text)
+told_json (many limit) = codes "\"more_states_than\":" ++ decimal limit
+
+-- either alone, in this form
+abbrev pub told_in : Form → Told → List ℕ
+told_in Words told = told_words told
+told_in Json told = codes "{" ++ told_json told ++ codes "}\n"
+
+-- what the words say that no schedule shows the answers, in this form
+abbrev pub nowhere_in : Form → List ℕ
+nowhere_in Words = codes "no schedule\n"
+nowhere_in Json = codes "{\"schedule\":null}\n"
+
+-- a step has an answer that it doesn't expect, in words
+abbrev pub unmet_words : Unmet → List ℕ
+unmet_words unmet = codes "not as expected: " ++ decimal unmet.rank ++ codes "." ++ decimal unmet.step ++ codes "\n"
+
+-- the step, as an object, and a comma
+abbrev pub place_json : Unmet → List ℕ
+place_json unmet = codes "{\"rank\":" ++ decimal unmet.rank ++ codes ",\"step\":" ++ decimal unmet.step ++ codes "},"
+
+-- that it has such an answer, as the first key of an object
+abbrev pub unmet_json : Unmet → List ℕ
+unmet_json unmet = codes "{\"not_as_expected\":" ++ place_json unmet
+
+-- that a step has such an answer, and what was told of it
+abbrev pub unmet_in : Form → Unmet → Told → List ℕ
+unmet_in Words unmet told = unmet_words unmet ++ told_words told
+unmet_in Json unmet told = unmet_json unmet ++ told_json told ++ codes "}\n"
+
+-- a row of `never` by its number, from 0, and what was told of it
+abbrev pub row_in : Form → ℕ → Told → List ℕ
+row_in Words number told = codes "row " ++ decimal number ++ codes " of never:\n" ++ told_words told
+row_in Json number told = codes "{\"never\":" ++ decimal number ++ codes "," ++ told_json told ++ codes "}\n"
+
+-- a schedule of the job shows these goals, and this is its text; or there are more states than the limit
+abbrev pub IsTold : JobView → Goals → ℕ → Told → Type 0
+IsTold job goals limit (schedule text) = (numbers : List ℕ) × (world : World) × IsSchedule job goals numbers world × IsScheduleText job goals numbers world text
+IsTold job goals limit (many most) = (most ≡ limit) × IsShowing job goals limit sought.More
+
+-- no schedule of the job has all answers of the row
+abbrev pub NeverComes : JobView → List Clause → Type 0
+NeverComes job row = (goals : Goals) × AreOfClauses row goals × ¬ IsPossible job goals
+
+-- none has those of one of these rows
+abbrev pub NoneComes : JobView → List (List Clause) → Type 0
+NoneComes job rows = Each (NeverComes job) rows
+
+-- the status of a list that has nothing else to tell: with `--strict` 6 where some step never ends
+abbrev pub list_status : Bool → Bool → ℕ
+list_status is_strict is_open = if is_strict then (if is_open then 6 else 0) else 0
+
+-- The status of a whole list, and the list with what is told below it. With 0, or with 6 by `--strict`, nothing is, and no schedule has an
+-- answer that its step doesn't expect, nor all answers of a row of `never`. With 9 a schedule that has is told, or in the first of these
+-- cases that more states than the limit would be looked at for it. With 7 the first row that can't be looked for within the limit.
+pub data IsJudged (form : Form) (options : ListOptions) (job : JobView) (rows : List (List Clause)) (found : List (List ℕ)) (list : List ℕ) : ℕ → List ℕ → Type 0 where
+  good : MeetsExpected job → NoneComes job rows → IsJudged form options job rows found list (list_status options.is_strict (some_never_ends found)) list
+  unmet : (unmet : Unmet) (goals : Goals) (told : Told) → IsUnmet job unmet goals → IsTold job goals options.limit told
+      → IsJudged form options job rows found list 9 (list ++ unmet_in form unmet told)
+  together : (number : ℕ) (row : List Clause) (goals : Goals) (text : List ℕ) → slice_get rows number ≡ Some row → AreOfClauses row goals → IsTold job goals options.limit (schedule text)
+      → IsJudged form options job rows found list 9 (list ++ row_in form number (schedule text))
+  unsearched : (number : ℕ) (row : List Clause) (goals : Goals) → slice_get rows number ≡ Some row → AreOfClauses row goals → IsTold job goals options.limit (many options.limit)
+      → IsJudged form options job rows found list 7 (list ++ row_in form number (many options.limit))
+
+-- The status and the text, in this form, that `outcomes` gives for these bytes: the list of all that the steps of their job may be
+-- answered, over every schedule, and of those that may be left open for ever, with what is told below it; with 7 also the line alone that
+-- more states than the limit are reached; with 1 the line of the job's refusal, which may be J7; with 3 the line that memory ran out.
+pub data IsOutcomesReply (form : Form) (options : ListOptions) (bytes : List ℕ) : ℕ → List ℕ → Type 0 where
+  listed : (job : JobView) (reached : Reached) (status : ℕ) (text : List ℕ) → job_of_bytes bytes ≡ Ok (plan_of job) → IsList job options.limit (All reached)
+      → IsJudged form options job (never_of_bytes bytes) reached.found (list_in form bytes job (All reached) options.limit) status text → IsOutcomesReply form options bytes status text
+  past_limit : (job : JobView) → job_of_bytes bytes ≡ Ok (plan_of job) → IsList job options.limit More
+      → IsOutcomesReply form options bytes 7 (list_in form bytes job More options.limit)
+  not_listed : (f : JobFault) → job_of_bytes bytes ≡ Err f → IsOutcomesReply form options bytes 1 (refused_in form f)
+  no_memory_to_read : IsOutcomesReply form options bytes 1 (refused_in form OutOfMemory)
+  unlisted : (told : Form) → IsOutcomesReply form options bytes 3 (out_of_memory_in told)
+
+-- the line for a goal that names no answer of the job
+abbrev pub no_goal : List ℕ → List ℕ
+no_goal text = codes "goal refused: " ++ text ++ codes "\n"
+
+-- The same by `--show`: with 0 a schedule of the job with all answers that the text names, with 8 that no schedule has them, with 7 that
+-- there are more states than the limit; with 2 the first part of the text that names no answer of the job.
+pub data IsShowReply (form : Form) (options : ListOptions) (show bytes : List ℕ) : ℕ → List ℕ → Type 0 where
+  shown : (job : JobView) (answers : List Clause) → job_of_bytes bytes ≡ Ok (plan_of job) → goals_of_bytes bytes show ≡ Ok answers → (goals : Goals) → AreOfClauses answers goals
+      → (text : List ℕ) → IsTold job goals options.limit (schedule text) → IsShowReply form options show bytes 0 (told_in form (schedule text))
+  nowhere : (job : JobView) (answers : List Clause) → job_of_bytes bytes ≡ Ok (plan_of job) → goals_of_bytes bytes show ≡ Ok answers → (goals : Goals) → AreOfClauses answers goals
+      → ¬ IsPossible job goals → IsShowReply form options show bytes 8 (nowhere_in form)
+  too_many : (job : JobView) (answers : List Clause) → job_of_bytes bytes ≡ Ok (plan_of job) → goals_of_bytes bytes show ≡ Ok answers → (goals : Goals) → AreOfClauses answers goals
+      → IsTold job goals options.limit (many options.limit) → IsShowReply form options show bytes 7 (told_in form (many options.limit))
+  unnamed : (job : JobView) (text : List ℕ) → job_of_bytes bytes ≡ Ok (plan_of job) → goals_of_bytes bytes show ≡ Err text → IsShowReply form options show bytes 2 (no_goal text)
+  not_shown : (f : JobFault) → job_of_bytes bytes ≡ Err f → IsShowReply form options show bytes 1 (refused_in form f)
+  no_memory_to_show : IsShowReply form options show bytes 1 (refused_in form OutOfMemory)
+  unshown : (told : Form) → IsShowReply form options show bytes 3 (out_of_memory_in told)
+
+-- the reply of `outcomes`, where `--show` may be given
+abbrev pub IsListReply : Form → Option (List ℕ) → ListOptions → List ℕ → ℕ → List ℕ → Type 0
+IsListReply form None options bytes status text = IsOutcomesReply form options bytes status text
+IsListReply form (Some show) options bytes status text = IsShowReply form options show bytes status text

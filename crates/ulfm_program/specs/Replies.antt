@@ -15,7 +15,7 @@ use Rattle.ulfm_laws.specs.Lawful.{IsLawful}
 use Rattle.ulfm_run.specs.Fault.{ShowUntrue}
 use Rattle.ulfm_world.specs.Replay.{IsReplayed, MadeAtRest}
 use Rattle.ulfm_program.specs.Brief.{repeats_in}
-use Rattle.ulfm_program.specs.Outcomes.{IsOutcomesReply}
+use Rattle.ulfm_program.specs.Outcomes.{IsListReply}
 use Rattle.ulfm_program.specs.Sweep.{IsSweepReply}
 use Rattle.ulfm_program.specs.Tally.{tally}
 use Rattle.ulfm_replies.specs.declared.command.RunOptions.{RunOptions}
@@ -61,13 +61,14 @@ pub data IsRunReply (form : Form) (options : RunOptions) (bytes : List ℕ) : �
       → IsRunReply form options bytes 3 (failed_in form run.Untrue)
   fell : (told : Form) → IsRunReply form options bytes 3 (out_of_memory_in told)
 
--- The reply in this form to what the words ask for. Where memory runs out before the form is known, the line is in words.
-abbrev pub IsReplyTo : Form → Wanted → List ℕ → ℕ → List ℕ → Type 0
-IsReplyTo form Check bytes status text = IsCheckReply form bytes status text
-IsReplyTo form (Replay is_strict turns) bytes status text = IsReplayReply form is_strict turns bytes status text
-IsReplyTo form (Run options) bytes status text = IsRunReply form options bytes status text
-IsReplyTo form Sweep bytes status text = IsSweepReply form bytes status text
-IsReplyTo form (Outcomes limit wants_progress) bytes status text = IsOutcomesReply form limit bytes status text
+-- The reply in this form to what the words ask for, with the answers that a schedule is to show. Where memory runs out before the form is
+-- known, the line is in words.
+abbrev pub IsReplyTo : Form → Option (List ℕ) → Wanted → List ℕ → ℕ → List ℕ → Type 0
+IsReplyTo form show Check bytes status text = IsCheckReply form bytes status text
+IsReplyTo form show (Replay is_strict turns) bytes status text = IsReplayReply form is_strict turns bytes status text
+IsReplyTo form show (Run options) bytes status text = IsRunReply form options bytes status text
+IsReplyTo form show Sweep bytes status text = IsSweepReply form bytes status text
+IsReplyTo form show (Outcomes options) bytes status text = IsListReply form show options bytes status text
 
 -- the line for words that can't be read
 abbrev pub not_text : List ℕ

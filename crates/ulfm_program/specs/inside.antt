@@ -2,3 +2,4 @@
 pub mod Writing
 pub mod Tallied
 pub mod Cells
+pub mod Looking

@@ -1,10 +1,10 @@
 //! From words and bytes to a status and bytes.
-ghost use Rattle.std.specs.Prelude.{◌≢◌, ◌≡◌, ◌≤◌, ◌⊎◌, [], false, map, take, IfSome, IsTrue};
+ghost use Rattle.std.specs.Prelude.{◌≢◌, ◌≡◌, ◌≤◌, ◌⊎◌, [], None, false, map, option_map, take, IfSome, IsTrue};
 ghost use Rattle.std.specs.Io.KnownBytes.{Keeps, Appends};
 ghost use Rattle.ulfm_program.specs.Replies.{IsReplyTo, IsWhole, GetsReply, GetsBeginning, GetsFront, not_text};
 ghost use Rattle.ulfm_program.specs.inside.Writing.{GetsFrontOf};
 ghost use Rattle.ulfm_replies.specs.declared.command.Wanted.{Wanted};
-ghost use Rattle.ulfm_replies.specs.CommandLine.{AsksFor, HasRanges, faults, form_asked, IsWordsStatus};
+ghost use Rattle.ulfm_replies.specs.CommandLine.{AsksFor, HasRanges, faults, form_asked, show_asked, IsWordsStatus};
 ghost use Rattle.ulfm_replies.specs.Failure.{out_of_memory_in, out_of_memory_text};
 
 use crate::progress::Progress;
@@ -17,8 +17,8 @@ use std::thread::Threads;
 use ulfm_findings::{InputFault, read_front, write_whole};
 use ulfm_json::Form;
 use ulfm_replies::{
-    DONE, Failure, INPUT_FAILED, OUTPUT_FAILED, RUN_FAILED, USAGE, Unfollowed, Wanted, asked_for,
-    failed_line, write_fault, write_notes,
+    Asked, DONE, Failure, INPUT_FAILED, NO_SCHEDULE, OUTPUT_FAILED, RUN_FAILED, USAGE, Unfollowed,
+    asked_for, failed_line, write_fault, write_notes,
 };
 
 /// What is written where a word can't be read.
@@ -26,7 +26,8 @@ const NOT_TEXT: &str = "a word of the command line isn't UTF-8\n";
 
 /// Follows the words: looks at them first, then reads the input whole, then its job, then runs it, and writes the whole
 /// reply. Standard error gets how far a list of outcomes is, where that is asked for, and then what a person wants to know beside
-/// the reply. Answers the status (docs/JOBS.md).
+/// the reply. Answers the status (docs/JOBS.md). With 2 the words were looked at alone, but where they ask for answers that the job
+/// hasn't.
 pub fn run_on<T, S, R, W, E>(
     rt: &T,
     alloc: Global,
@@ -42,17 +43,17 @@ where
     W: Write,
     E: Write,
     ensures replies { (wanted : Wanted) → AsksFor wanted (map S.text words.now) → IsWhole result → IfSome (R.remaining input.old) (λ bytes.
-        GetsReply (IsReplyTo (form_asked (map S.text words.now)) wanted (take 1048577 bytes)) (W.contents output.old) (W.contents output.new) result) }
+        GetsReply (IsReplyTo (form_asked (map S.text words.now)) (show_asked (map S.text words.now)) wanted (take 1048577 bytes)) (W.contents output.old) (W.contents output.new) result) }
     ensures cut_off { (wanted : Wanted) → AsksFor wanted (map S.text words.now) → result ≡ 4 → IfSome (R.remaining input.old) (λ bytes.
-        GetsBeginning (IsReplyTo (form_asked (map S.text words.now)) wanted (take 1048577 bytes)) (W.contents output.old) (W.contents output.new)) }
+        GetsBeginning (IsReplyTo (form_asked (map S.text words.now)) (show_asked (map S.text words.now)) wanted (take 1048577 bytes)) (W.contents output.old) (W.contents output.new)) }
     ensures output_failed { result ≡ 4 → GetsFront (W.contents output.old) (W.contents output.new) }
     ensures input_failed { result ≡ 5 → Keeps (W.contents output.old) (W.contents output.new) }
-    ensures words_first { result ≡ 2 → R.remaining input.new ≡ R.remaining input.old }
+    ensures words_first { result ≡ 2 → show_asked (map S.text words.now) ≡ None → R.remaining input.new ≡ R.remaining input.old }
     ensures not_followed { faults (map S.text words.now) ≢ [] → (R.remaining input.new ≡ R.remaining input.old) × IsWordsStatus (faults (map S.text words.now)) result }
-    ensures known { (result ≤ 7) ⊎ (result ≡ 9) }
+    ensures known { result ≤ 9 }
 {
     match asked_for(alloc, words) {
-        Ok(asked) => follow(rt, alloc, asked.form, asked.wanted, input, output, errors),
+        Ok(asked) => follow(rt, alloc, &asked, input, output, errors),
         Err(Unfollowed::Help(text)) => write_reply(output, DONE, text.as_bytes()),
         Err(Unfollowed::Usage(text)) => {
             let status = write_reply(output, USAGE, text.as_bytes());
@@ -86,8 +87,7 @@ pub fn without_words<W: Write, E: Write>(
 fn follow<T, R, W, E>(
     rt: &T,
     alloc: Global,
-    form: Form,
-    wanted: Wanted,
+    asked: &Asked<'_>,
     input: &mut R,
     output: &mut W,
     errors: &mut E,
@@ -97,28 +97,35 @@ where
     R: Read,
     W: Write,
     E: Write,
-    requires { HasRanges wanted }
+    requires { HasRanges asked.now.wanted }
     ensures replies { IsWhole result → IfSome (R.remaining input.old) (λ bytes.
-        GetsReply (IsReplyTo form wanted (take 1048577 bytes)) (W.contents output.old) (W.contents output.new) result) }
+        GetsReply (IsReplyTo asked.now.form (option_map (λ s. s.now) asked.now.show) asked.now.wanted (take 1048577 bytes)) (W.contents output.old) (W.contents output.new) result) }
     ensures cut_off { result ≡ 4 → IfSome (R.remaining input.old) (λ bytes.
-        GetsBeginning (IsReplyTo form wanted (take 1048577 bytes)) (W.contents output.old) (W.contents output.new)) }
+        GetsBeginning (IsReplyTo asked.now.form (option_map (λ s. s.now) asked.now.show) asked.now.wanted (take 1048577 bytes)) (W.contents output.old) (W.contents output.new)) }
     ensures output_failed { result ≡ 4 → GetsFront (W.contents output.old) (W.contents output.new) }
     ensures input_failed { result ≡ 5 → Keeps (W.contents output.old) (W.contents output.new) }
-    ensures no_usage { result ≢ 2 }
-    ensures known { (result ≤ 7) ⊎ (result ≡ 9) }
+    ensures usage { result ≡ 2 → option_map (λ s. s.now) asked.now.show ≢ None }
+    ensures known { result ≤ 9 }
 {
+    let form = asked.form;
+    let wanted = asked.wanted;
     let bytes = match read_front(alloc, input) {
         Ok(bytes) => bytes,
         Err(InputFault::Failed) => return INPUT_FAILED,
         Err(InputFault::OutOfMemory) => return write_starved(output, form),
     };
     let mut progress = Progress::new(alloc, &mut *errors, wanted);
-    let told = reply_to(rt, alloc, form, wanted, bytes.as_slice(), &mut progress);
+    let told = reply_to(rt, alloc, asked, bytes.as_slice(), &mut progress);
     progress.end();
     match told {
         Ok(reply) => {
             let status = write_reply(output, reply.status, reply.text.as_bytes());
-            write_notes(alloc, form, wanted, bytes.as_slice(), &reply, errors);
+            match reply.status {
+                USAGE => write_fault(alloc, reply.text.as_str(), errors),
+                // A schedule that was asked for speaks for itself.
+                DONE | NO_SCHEDULE if asked.show.is_some() => {}
+                _ => write_notes(alloc, form, wanted, bytes.as_slice(), &reply, errors),
+            }
             status
         }
         Err(_) => write_starved(output, form),

@@ -1,9 +1,9 @@
 //! Jobs by file.
-ghost use Rattle.std.specs.Prelude.{◌≢◌, ◌≡◌, ◌≤◌, ◌⊎◌, [], map, take, IfSome};
+ghost use Rattle.std.specs.Prelude.{◌≢◌, ◌≡◌, ◌≤◌, [], map, take, IfSome};
 ghost use Rattle.std.specs.Io.KnownBytes.{Keeps};
 ghost use Rattle.ulfm_program.specs.Replies.{IsReplyTo, IsWhole, GetsReply, GetsBeginning, GetsFront};
 ghost use Rattle.ulfm_replies.specs.declared.command.Wanted.{Wanted};
-ghost use Rattle.ulfm_replies.specs.CommandLine.{AsksFor, asked, files_in, form_asked};
+ghost use Rattle.ulfm_replies.specs.CommandLine.{AsksFor, asked, files_in, form_asked, show_asked};
 
 use crate::app::run_on;
 use std::alloc::Global;
@@ -35,12 +35,12 @@ where
     W: Write,
     E: Write,
     ensures replies { files_in (asked (map S.text words.now)) ≡ [] → (wanted : Wanted) → AsksFor wanted (map S.text words.now) → IsWhole result → IfSome (R.remaining input.old) (λ bytes.
-        GetsReply (IsReplyTo (form_asked (map S.text words.now)) wanted (take 1048577 bytes)) (W.contents output.old) (W.contents output.new) result) }
+        GetsReply (IsReplyTo (form_asked (map S.text words.now)) (show_asked (map S.text words.now)) wanted (take 1048577 bytes)) (W.contents output.old) (W.contents output.new) result) }
     ensures cut_off { files_in (asked (map S.text words.now)) ≡ [] → (wanted : Wanted) → AsksFor wanted (map S.text words.now) → result ≡ 4 → IfSome (R.remaining input.old) (λ bytes.
-        GetsBeginning (IsReplyTo (form_asked (map S.text words.now)) wanted (take 1048577 bytes)) (W.contents output.old) (W.contents output.new)) }
+        GetsBeginning (IsReplyTo (form_asked (map S.text words.now)) (show_asked (map S.text words.now)) wanted (take 1048577 bytes)) (W.contents output.old) (W.contents output.new)) }
     ensures output_failed { files_in (asked (map S.text words.now)) ≡ [] → result ≡ 4 → GetsFront (W.contents output.old) (W.contents output.new) }
     ensures input_failed { files_in (asked (map S.text words.now)) ≡ [] → result ≡ 5 → Keeps (W.contents output.old) (W.contents output.new) }
-    ensures known { (result ≤ 7) ⊎ (result ≡ 9) }
+    ensures known { result ≤ 9 }
 {
     if let Ok(asked) = asked_for(alloc, words) {
         if !asked.files.is_empty() {
@@ -64,7 +64,7 @@ where
     S: AsStr,
     W: Write,
     E: Write,
-    ensures { (result ≤ 7) ⊎ (result ≡ 9) }
+    ensures { result ≤ 9 }
 {
     let mut greatest = DONE;
     for file in files {
@@ -95,7 +95,7 @@ where
     S: AsStr,
     W: Write,
     E: Write,
-    ensures { (result ≤ 7) ⊎ (result ≡ 9) }
+    ensures { result ≤ 9 }
 {
     if has_head && !write_head(file, output) {
         return OUTPUT_FAILED;

@@ -10,11 +10,14 @@ mod app;
 mod brief;
 mod files;
 mod listed;
+mod looking;
 mod progress;
 mod reply;
 mod run;
+mod shown;
 mod swept;
 mod tally;
+mod told;
 mod turns;
 
 pub use app::{run_on, without_words};

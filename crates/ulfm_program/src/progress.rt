@@ -4,7 +4,7 @@ use std::alloc::Global;
 use std::io::Write;
 use ulfm_findings::write_whole;
 use ulfm_reach::Watch;
-use ulfm_replies::Wanted;
+use ulfm_replies::{ListOptions, Wanted};
 
 /// After how many states it is told.
 const STRIDE: usize = 1000;
@@ -28,10 +28,10 @@ impl<E: Write + Drop> Progress<E> {
             errors,
             is_wanted: matches!(
                 wanted,
-                Wanted::Outcomes {
+                Wanted::Outcomes(ListOptions {
                     wants_progress: true,
                     ..
-                }
+                })
             ),
         }
     }

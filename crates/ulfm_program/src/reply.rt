@@ -1,9 +1,9 @@
 //! The reply to a job's bytes.
-ghost use Rattle.std.specs.Prelude.{◌≡◌, IfOk, string_bytes};
+ghost use Rattle.std.specs.Prelude.{◌≡◌, IfOk, option_map, string_bytes};
 ghost use Rattle.ulfm_program.specs.Replies.{IsReplayReply, IsReplyTo};
 ghost use Rattle.ulfm_replies.specs.CommandLine.{AreTurns, HasRanges};
 
-use crate::listed::outcomes_reply;
+use crate::listed::list_reply;
 use crate::run::run_reply;
 use crate::swept::sweep_reply;
 use crate::turns::given_turns;
@@ -13,7 +13,7 @@ use std::thread::Threads;
 use ulfm_json::Form;
 use ulfm_reach::Watch;
 use ulfm_reader::{ReadJob, Reading};
-use ulfm_replies::{Reply, Wanted, check_reply, refusal, trace_reply};
+use ulfm_replies::{Asked, Reply, Wanted, check_reply, refusal, trace_reply};
 use ulfm_world::replay;
 
 /// The reply of `replay`.
@@ -37,26 +37,26 @@ fn replay_reply(
     }
 }
 
-/// The reply to what the words ask for, in this form. `watch` is told how far a list of outcomes is.
+/// The reply to what the words ask for. `watch` is told how far a list of outcomes is.
 pub fn reply_to<R, P>(
     rt: &R,
     alloc: Global,
-    form: Form,
-    wanted: Wanted,
+    asked: &Asked<'_>,
     bytes: &[u8],
     watch: &mut P,
 ) -> Result<Reply, AllocError>
 where
     R: Threads + Wait + Sync,
     P: Watch,
-    requires { HasRanges wanted }
-    ensures { IfOk result (λ r. IsReplyTo form wanted bytes.now r.status (string_bytes r.text)) }
+    requires { HasRanges asked.now.wanted }
+    ensures { IfOk result (λ r. IsReplyTo asked.now.form (option_map (λ s. s.now) asked.now.show) asked.now.wanted bytes.now r.status (string_bytes r.text)) }
 {
-    match wanted {
+    let form = asked.form;
+    match asked.wanted {
         Wanted::Check => check_reply(alloc, form, bytes),
         Wanted::Replay { is_strict, turns } => replay_reply(alloc, form, is_strict, turns, bytes),
         Wanted::Run(options) => run_reply(rt, alloc, form, options, bytes),
         Wanted::Sweep => sweep_reply(alloc, form, bytes),
-        Wanted::Outcomes { limit, .. } => outcomes_reply(alloc, form, limit, bytes, watch),
+        Wanted::Outcomes(options) => list_reply(alloc, form, asked.show, options, bytes, watch),
     }
 }

@@ -12,9 +12,9 @@ pub fn given_turns(asked: Reading, turns: Option<u32>) -> Reading
 {
     match turns {
         Some(turns) => {
-            let Reading { job, never } = asked;
+            let Reading { job, never, names } = asked;
             let job = job.with_turns(turns);
-            Reading { job, never }
+            Reading { job, never, names }
         }
         None => asked,
     }

@@ -43,6 +43,8 @@ mod schedule_steps;
 #[cfg(test)]
 mod schedule_turns;
 #[cfg(test)]
+mod shows;
+#[cfg(test)]
 mod streams;
 #[cfg(test)]
 mod sweeps;

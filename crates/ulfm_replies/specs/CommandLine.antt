@@ -5,6 +5,7 @@ use Rattle.std.specs.Str.{bytes_eq}
 use Rattle.std.specs.Str.Parse.{digits_value, without_leading_plus}
 use Rattle.ulfm_replies.specs.declared.command.Carrier.{Carrier}
 use Rattle.ulfm_replies.specs.declared.command.Carrier.TheVariants.{Lanes, Shared}
+use Rattle.ulfm_replies.specs.declared.command.ListOptions.{ListOptions}
 use Rattle.ulfm_replies.specs.declared.command.RunOptions.{RunOptions}
 use Rattle.ulfm_replies.specs.declared.command.Wanted.{Wanted}
 use Rattle.ulfm_replies.specs.declared.command.Wanted.TheVariants.{Check, Replay, Run, Sweep, Outcomes}
@@ -94,9 +95,13 @@ usual_states = 1000000
 abbrev pub progress_rule : Rule
 progress_rule = record (new_rule (codes "progress")) { long = Some (codes "progress"); action = Some SetTrue }
 
+-- the option `--show` with one value
+abbrev pub show_rule : Rule
+show_rule = record (new_rule (codes "show")) { long = Some (codes "show"); value_names = 1 }
+
 -- the command `outcomes` with its options
 abbrev pub outcomes_app : App
-outcomes_app = of_jobs (with_rule (with_rule (new_app (codes "outcomes")) (number_rule (codes "limit") most_states)) progress_rule)
+outcomes_app = of_jobs (with_rule (with_rule (with_rule (with_rule (new_app (codes "outcomes")) show_rule) strict_rule) (number_rule (codes "limit") most_states)) progress_rule)
 
 -- the whole command line
 abbrev pub tool_app : App
@@ -150,6 +155,14 @@ run_options rows = option_map (options_by rows) (carrier_named (first_of (codes 
 abbrev pub limit_in : List Row → ℕ
 limit_in rows = unwrap_or (number_given most_states (first_of (codes "limit") rows)) usual_states
 
+-- what the options of `outcomes` ask for
+abbrev pub list_options : List Row → ListOptions
+list_options rows = record {
+  limit = limit_in rows;
+  is_strict = is_strict rows;
+  wants_progress = wants_progress rows;
+}
+
 -- the command of a name, with its options
 abbrev pub named : Text → List Row → Option Wanted
 named name rows =
@@ -157,7 +170,7 @@ named name rows =
     else (if bytes_eq name (codes "replay") then Some (Replay (is_strict rows) (turns_in rows))
     else (if bytes_eq name (codes "run") then option_map Run (run_options rows)
     else (if bytes_eq name (codes "sweep") then Some Sweep
-    else (if bytes_eq name (codes "outcomes") then Some (Outcomes (limit_in rows) (wants_progress rows))
+    else (if bytes_eq name (codes "outcomes") then Some (Outcomes (list_options rows))
     else None))))
 
 -- what a subcommand and its options mean
@@ -169,6 +182,15 @@ meant (Some p) = named p.0 p.1
 abbrev pub files_in : Option (Text × List Row) → List Text
 files_in None = []
 files_in (Some p) = unwrap_or (all_of (codes "file") p.1) []
+
+-- the answers that a schedule is to show, where the words ask for one
+abbrev pub show_in : Option (Text × List Row) → Option Text
+show_in None = None
+show_in (Some p) = first_of (codes "show") p.1
+
+-- the same by the words
+abbrev pub show_asked : List Text → Option Text
+show_asked words = show_in (asked words)
 
 -- the form that a command's options ask for
 abbrev pub form_of : List Row → Form
@@ -213,7 +235,7 @@ IsLimit limit = (0 < limit) × (limit ≤ most_states)
 abbrev pub HasRanges : Wanted → Type 0
 HasRanges (Replay is_strict turns) = AreTurns turns
 HasRanges (Run options) = AreInRange options
-HasRanges (Outcomes limit wants_progress) = IsLimit limit
+HasRanges (Outcomes options) = IsLimit options.limit
 HasRanges _ = ⊤
 
 -- the status of a kind of fault: help is no failure

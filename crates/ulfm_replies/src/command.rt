@@ -1,7 +1,7 @@
 //! The command line.
 ghost use Rattle.std.specs.Prelude.{◌≡◌, [], codes, Some, map, option_map, unwrap_or, IfOk, IfSome};
 ghost use Rattle.clap.specs.Words.{FailsBy, all_of, first_of, found_of, kind_of, rows_of, subcommand_rows_of};
-ghost use Rattle.ulfm_replies.specs.CommandLine.{AreInRange, HasRanges, asked, carrier_named, IsLimit, faults, form_asked, form_in, form_of, is_flagged, is_strict, AreTurns, wants_progress, files_in, limit_in, meant, named, run_options, turns_in};
+ghost use Rattle.ulfm_replies.specs.CommandLine.{AreInRange, HasRanges, asked, carrier_named, IsLimit, faults, form_asked, form_in, form_of, is_flagged, is_strict, AreTurns, wants_progress, files_in, limit_in, list_options, meant, named, run_options, show_asked, show_in, turns_in};
 
 use crate::number::number_given;
 use crate::options::{MOST_RUNS, MOST_STATES, MOST_TURNS, USUAL_STATES};
@@ -36,6 +36,17 @@ pub struct RunOptions {
     pub is_brief: bool,
 }
 
+/// The options of `outcomes`.
+#[derive(Clone, Copy, Debug, PartialEq, Eq)]
+pub struct ListOptions {
+    /// The most states that are looked at, 1 to 100,000,000.
+    pub limit: u32,
+    /// Whether a step that never ends has a status of its own.
+    pub is_strict: bool,
+    /// Whether standard error tells how far it is.
+    pub wants_progress: bool,
+}
+
 /// What the words ask for.
 #[derive(Clone, Copy, Debug, PartialEq, Eq)]
 pub enum Wanted {
@@ -52,13 +63,8 @@ pub enum Wanted {
     Run(RunOptions),
     /// A line for each place of a stop.
     Sweep,
-    /// A line for each step, with all that it may be answered.
-    Outcomes {
-        /// The most states that are looked at, 1 to 100,000,000.
-        limit: u32,
-        /// Whether standard error tells how far it is.
-        wants_progress: bool,
-    },
+    /// A line for each step, with all that it may be answered, or a schedule that shows some of it.
+    Outcomes(ListOptions),
 }
 
 /// What the words ask for, and of which files.
@@ -68,6 +74,8 @@ pub struct Asked<'a> {
     pub wanted: Wanted,
     /// In which form.
     pub form: Form,
+    /// The answers that a schedule is to show, where they ask for one.
+    pub show: Option<&'a str>,
     /// The files that they name, in their order. Where there are none, the job comes on standard input.
     pub files: Vec<&'a str>,
 }
@@ -76,6 +84,7 @@ pub struct Asked<'a> {
 pub fn asked_of<'a, S: AsStr>(alloc: Global, words: &'a [S]) -> Result<Asked<'a>, Error>
     ensures wanted { IfOk result (λ a. meant (asked (map S.text words.now)) ≡ Some a.wanted) }
     ensures form { IfOk result (λ a. a.form ≡ form_asked (map S.text words.now)) }
+    ensures show { IfOk result (λ a. option_map (λ s. s.now) a.show ≡ show_asked (map S.text words.now)) }
     ensures files { IfOk result (λ a. map (λ f. f.now) a.files.items ≡ files_in (asked (map S.text words.now))) }
     ensures ranges { IfOk result (λ a. HasRanges a.wanted) }
     ensures kinds { FailsBy (faults (map S.text words.now)) result }
@@ -86,6 +95,7 @@ pub fn asked_of<'a, S: AsStr>(alloc: Global, words: &'a [S]) -> Result<Asked<'a>
         Some(wanted) => Ok(Asked {
             wanted,
             form: form_in(&matches),
+            show: show_in(&matches),
             files: files_in(alloc, &matches)?,
         }),
         None => Err(unknown_carrier(alloc, &mut command, &matches)?),
@@ -135,10 +145,7 @@ fn named(name: &str, options: &ArgMatches<'_>) -> Option<Wanted>
             None => None,
         },
         "sweep" => Some(Wanted::Sweep),
-        "outcomes" => Some(Wanted::Outcomes {
-            limit: limit_in(options),
-            wants_progress: wants_progress(options),
-        }),
+        "outcomes" => Some(Wanted::Outcomes(list_options(options))),
         _ => None,
     }
 }
@@ -157,6 +164,18 @@ fn run_options(options: &ArgMatches<'_>) -> Option<RunOptions>
             is_brief: is_flagged(options, "brief"),
         }),
         None => None,
+    }
+}
+
+/// What the options of `outcomes` ask for.
+fn list_options(options: &ArgMatches<'_>) -> ListOptions
+    ensures exact { result ≡ list_options (rows_of (found_of options.now)) }
+    ensures range { IsLimit result.limit }
+{
+    ListOptions {
+        limit: limit_in(options),
+        is_strict: is_strict(options),
+        wants_progress: wants_progress(options),
     }
 }
 
@@ -186,6 +205,16 @@ fn form_of(options: &ArgMatches<'_>) -> Form
         Form::Json
     } else {
         Form::Words
+    }
+}
+
+/// The answers that a schedule is to show, by what was found in the words.
+fn show_in<'a>(matches: &ArgMatches<'a>) -> Option<&'a str>
+    ensures { option_map (λ s. s.now) result ≡ show_in (subcommand_rows_of matches.now) }
+{
+    match matches.subcommand() {
+        Some((_, options)) => value_of(options, "show"),
+        None => None,
     }
 }
 

@@ -25,12 +25,12 @@ mod version;
 
 pub use asked::{Unfollowed, asked_for};
 pub use asking::as_asked;
-pub use command::{Asked, Carrier, RunOptions, Wanted};
+pub use command::{Asked, Carrier, ListOptions, RunOptions, Wanted};
 pub use failure::{Failure, failed, failed_line, failure_of};
 pub use notes::{write_fault, write_notes};
 pub use reply::{
-    DONE, INPUT_FAILED, JOB_REFUSED, NOT_EXPECTED, OUTPUT_FAILED, PAST_LIMIT, RUN_FAILED, Reply,
-    UNFINISHED, USAGE, check_reply, refusal,
+    DONE, INPUT_FAILED, JOB_REFUSED, NO_SCHEDULE, NOT_EXPECTED, OUTPUT_FAILED, PAST_LIMIT,
+    RUN_FAILED, Reply, UNFINISHED, USAGE, check_reply, refusal,
 };
 pub use trace::{has_unfinished, played_status, trace_reply};
 pub use ulfm_json::Form;

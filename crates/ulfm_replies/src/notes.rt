@@ -78,6 +78,13 @@ fn notes_on(
         (PAST_LIMIT, _) => String::from_str(alloc, MANY_STATES),
         // The words of a trace are looked through for the others, and objects have none.
         _ if form == Form::Json => Ok(String::new(alloc)),
+        (NOT_EXPECTED, Wanted::Outcomes(_)) => {
+            let trace = shown_trace(reply.text.as_str());
+            let mut notes = unmet_answers(alloc, bytes, trace)?;
+            let rows = rows_that_came(alloc, bytes, trace)?;
+            notes.push_str(rows.as_str())?;
+            Ok(notes)
+        }
         (NOT_EXPECTED, _) => {
             let lines = without_counts(alloc, reply.text.as_str())?;
             let mut notes = unmet_answers(alloc, bytes, lines.as_str())?;
@@ -88,12 +95,22 @@ fn notes_on(
             notes.push_str(hangs.as_str())?;
             Ok(notes)
         }
-        (DONE, Wanted::Outcomes { .. }) => skipped_steps(alloc, bytes, reply.text.as_str()),
+        (DONE | UNFINISHED, Wanted::Outcomes(_)) => {
+            skipped_steps(alloc, bytes, reply.text.as_str())
+        }
         (DONE | UNFINISHED, _) => {
             let lines = without_counts(alloc, reply.text.as_str())?;
             hangs_in(alloc, wanted, bytes, lines.as_str())
         }
         _ => Ok(String::new(alloc)),
+    }
+}
+
+/// The trace of the schedule that is shown below a list.
+fn shown_trace(text: &str) -> &str {
+    match text.split_once("\ntrace:\n") {
+        Some((_, trace)) => trace,
+        None => "",
     }
 }
 

@@ -1,7 +1,7 @@
 //! The options of the commands.
 ghost use Rattle.std.specs.Prelude.{◌≡◌, false};
 ghost use Rattle.clap.specs.Words.{rule_of};
-ghost use Rattle.ulfm_replies.specs.CommandLine.{brief_rule, carrier_rule, json_rule, file_rule, number_rule, progress_rule, strict_rule, turns_rule};
+ghost use Rattle.ulfm_replies.specs.CommandLine.{brief_rule, carrier_rule, json_rule, file_rule, number_rule, progress_rule, show_rule, strict_rule, turns_rule};
 
 use clap::builder::ValueParser;
 use clap::{Arg, ArgAction};
@@ -62,7 +62,7 @@ pub fn strict_flag<'a>(alloc: Global) -> Arg<'a>
 {
     Arg::new(alloc, "strict")
         .long("strict")
-        .help("Ends with status 6 in place of 0 where a step is unfinished")
+        .help("Ends with status 6 in place of 0 where a step is unfinished, or never ends")
         .action(ArgAction::SetTrue)
 }
 
@@ -75,6 +75,17 @@ pub fn brief_flag<'a>(alloc: Global) -> Arg<'a>
         .long("brief")
         .help("With --repeat prints the lines of all traces once, and the others with their counts")
         .action(ArgAction::SetTrue)
+}
+
+/// The option `--show`.
+pub fn show_option<'a>(alloc: Global) -> Arg<'a>
+    ensures rule { rule_of result ≡ show_rule }
+    ensures local { result.global ≡ false }
+{
+    Arg::new(alloc, "show")
+        .long("show")
+        .value_name("GOALS")
+        .help("Prints a schedule with these answers, as '0.commit agreed 1; 2.5 never ends'")
 }
 
 /// The flag `--json`.

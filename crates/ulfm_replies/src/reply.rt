@@ -32,6 +32,9 @@ pub const UNFINISHED: u8 = 6;
 /// A job comes to more states than the limit that the words set.
 pub const PAST_LIMIT: u8 = 7;
 
+/// No schedule of a job shows the answers that the words ask for.
+pub const NO_SCHEDULE: u8 = 8;
+
 /// What was played to its end has an answer that its step doesn't expect, or all answers of a row that must not go together.
 pub const NOT_EXPECTED: u8 = 9;
 

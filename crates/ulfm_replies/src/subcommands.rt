@@ -7,7 +7,7 @@ ghost use Rattle.ulfm_replies.specs.CommandLine.{check_app, demanding_app, of_jo
 use crate::help::HELP;
 use crate::options::{
     MOST_RUNS, MOST_STATES, brief_flag, carrier_option, files, json_flag, number_option,
-    progress_flag, strict_flag, turns_option,
+    progress_flag, show_option, strict_flag, turns_option,
 };
 use crate::version::VERSION;
 use clap::Command;
@@ -112,12 +112,15 @@ fn outcomes_command<'a>(alloc: Global) -> Result<Command<'a>, AllocError>
     let command = Command::new(alloc, "outcomes")
         .about("Lists what each step of a job may be answered, over every schedule")
         .after_help("Example: ulfm outcomes --limit 100000 jobs/one_letter.toml")
-        .arg(number_option(
-            alloc,
-            "limit",
-            MOST_STATES,
-            "Gives up past so many states [1 to 100000000; 1000000 if left out]",
-        ))?;
+        .arg(show_option(alloc))?;
+    let command = command.arg(strict_flag(alloc))?;
+    let limit = number_option(
+        alloc,
+        "limit",
+        MOST_STATES,
+        "Gives up past so many states [1 to 100000000; 1000000 if left out]",
+    );
+    let command = command.arg(limit)?;
     let command = command.arg(progress_flag(alloc))?;
     of_jobs(alloc, command)
 }

@@ -19,8 +19,6 @@ mod matchers;
 #[cfg(test)]
 mod matching;
 #[cfg(test)]
-mod ranks;
-#[cfg(test)]
 mod reach;
 #[cfg(test)]
 mod run;

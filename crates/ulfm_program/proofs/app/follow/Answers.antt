@@ -1,25 +1,38 @@
-use Rattle.std.proofs.Common.{◌≤◌, ◌≡◌, ◌⊎◌, ℕ, arith, inl, inr, subst, sym}
+use Rattle.std.proofs.Common.{◌≤◌, ℕ, List, Option, arith, inl, inr, option_map, string_bytes, subst, sym, ◌∙◌}
 use Rattle.ulfm_program.proofs.Refused.{starved_gets, starved_begins}
-use Rattle.ulfm_program.proofs.Statuses.{known_status}
+use Rattle.ulfm_program.specs.Replies.{IsReplyTo}
+use Rattle.ulfm_program.proofs.Statuses.{known_status, no_usage}
 use Rattle.ulfm_program.proofs.app.follow.Goals as goal
 
 pub returns-in-Err-OutOfMemory-clause-replies : goal.returns-in-Err-OutOfMemory-clause-replies
-returns-in-Err-OutOfMemory-clause-replies g c = starved_gets c.args.form c.args.form c.args.wanted 1048577 _ _ _ _ c.write_starved.ensures.written
+returns-in-Err-OutOfMemory-clause-replies g c = starved_gets c.args.asked.now.form c.args.asked.now.form (option_map (λ s. s.now) c.args.asked.now.show) c.args.asked.now.wanted 1048577 _ _ _ _ c.write_starved.ensures.written
 
 pub returns-in-Err-OutOfMemory-clause-cut_off : goal.returns-in-Err-OutOfMemory-clause-cut_off
-returns-in-Err-OutOfMemory-clause-cut_off g c = starved_begins c.args.form c.args.form c.args.wanted 1048577 _ _ _ _ c.write_starved.ensures.failed
+returns-in-Err-OutOfMemory-clause-cut_off g c = starved_begins c.args.asked.now.form c.args.asked.now.form (option_map (λ s. s.now) c.args.asked.now.show) c.args.asked.now.wanted 1048577 _ _ _ _ c.write_starved.ensures.failed
 
 pub returns-clause-replies : goal.returns-clause-replies
-returns-clause-replies g c = starved_gets c.args.form c.args.form c.args.wanted 1048577 _ _ _ _ c.write_starved-in-Err.ensures.written
+returns-clause-replies g c = starved_gets c.args.asked.now.form c.args.asked.now.form (option_map (λ s. s.now) c.args.asked.now.show) c.args.asked.now.wanted 1048577 _ _ _ _ c.write_starved-in-Err.ensures.written
 
 pub returns-clause-cut_off : goal.returns-clause-cut_off
-returns-clause-cut_off g c = starved_begins c.args.form c.args.form c.args.wanted 1048577 _ _ _ _ c.write_starved-in-Err.ensures.failed
+returns-clause-cut_off g c = starved_begins c.args.asked.now.form c.args.asked.now.form (option_map (λ s. s.now) c.args.asked.now.show) c.args.asked.now.wanted 1048577 _ _ _ _ c.write_starved-in-Err.ensures.failed
 
 pub write_reply-status-requires : goal.write_reply-status-requires
-write_reply-status-requires g c = (known_status _ _ _ _ _ c.in-Ok-told.ensures).whole
+write_reply-status-requires g c = (known_status _ _ _ _ _ _ c.in-Ok-told.ensures).whole
+
+pub returns-in-Ok-told-clause-input_failed : goal.returns-in-Ok-told-clause-input_failed
+returns-in-Ok-told-clause-input_failed g c = λ five. absurd (elim c.write_reply-status.ensures.known [
+  | inl same ↦ (known_status _ _ _ _ _ _ c.in-Ok-told.ensures).whole.1 (sym same ∙ five)
+  | inr four ↦ omega (arith, four, five)
+])
+
+pub returns-in-Ok-told-clause-usage : goal.returns-in-Ok-told-clause-usage
+returns-in-Ok-told-clause-usage g c = λ two none. elim c.write_reply-status.ensures.known [
+  | inl same ↦ no_usage c.args.asked.now.form c.args.asked.now.wanted c.as_slice.result.now c.in-Ok-told.reply.status (string_bytes c.in-Ok-told.reply.text) (subst (λ (show : Option (List ℕ)). IsReplyTo c.args.asked.now.form show c.args.asked.now.wanted c.as_slice.result.now c.in-Ok-told.reply.status (string_bytes c.in-Ok-told.reply.text)) none c.in-Ok-told.ensures) (sym same ∙ two)
+  | inr four ↦ omega (arith, four, two)
+]
 
 pub returns-in-Ok-told-clause-known : goal.returns-in-Ok-told-clause-known
 returns-in-Ok-told-clause-known g c = elim c.write_reply-status.ensures.known [
-  | inl same ↦ subst (λ (k : ℕ). (k ≤ 7) ⊎ (k ≡ 9)) (sym same) (known_status _ _ _ _ _ c.in-Ok-told.ensures).few
-  | inr four ↦ inl (omega (arith, four))
+  | inl same ↦ subst (λ (k : ℕ). k ≤ 9) (sym same) (known_status _ _ _ _ _ _ c.in-Ok-told.ensures).few
+  | inr four ↦ omega (arith, four)
 ]

@@ -1,0 +1,92 @@
+//! The reply of `outcomes --show`: a schedule that shows answers.
+ghost use Rattle.std.specs.Prelude.{◌≡◌, Some, IfOk, option_map, string_bytes};
+ghost use Rattle.ulfm_program.specs.Outcomes.{IsShowReply, no_goal, nowhere_in};
+ghost use Rattle.ulfm_program.specs.inside.Looking.{look_in, look_status, told_view};
+
+use crate::looking::look_for;
+use crate::told::{Told, push_told};
+use std::alloc::{AllocError, Global};
+use ulfm_json::Form;
+use ulfm_outcomes::Goals;
+use ulfm_reach::Watch;
+use ulfm_reader::{ReadJob, Reading};
+use ulfm_replies::{DONE, ListOptions, NO_SCHEDULE, PAST_LIMIT, Reply, USAGE, refusal};
+
+/// The reply of `outcomes --show`, with these answers. `watch` is told how far the search is.
+pub fn show_reply<W: Watch>(
+    alloc: Global,
+    form: Form,
+    options: ListOptions,
+    show: &str,
+    bytes: &[u8],
+    watch: &mut W,
+) -> Result<Reply, AllocError>
+    ensures { IfOk result (λ r. IsShowReply form options show.now bytes.now r.status (string_bytes r.text)) }
+{
+    let asked = match Reading::read(alloc, bytes) {
+        Ok(asked) => asked,
+        Err(fault) => return refusal(alloc, form, fault),
+    };
+    let answers = match asked.goals(alloc, show)? {
+        Ok(answers) => answers,
+        Err(text) => return no_goal(alloc, text),
+    };
+    let goals = Goals::of(alloc, answers.as_slice())?;
+    let limit = options.limit as usize;
+    let look = look_for(alloc, &asked.job, &goals, limit, watch)?;
+    look_reply(alloc, form, &look)
+}
+
+/// The reply to a goal that names no answer of the job.
+fn no_goal(alloc: Global, text: &str) -> Result<Reply, AllocError>
+    ensures { IfOk result (λ r. (r.status ≡ 2) × (string_bytes r.text ≡ no_goal text.now)) }
+{
+    let text = format!(in alloc; "goal refused: {text}\n")?;
+    Ok(Reply {
+        status: USAGE,
+        text,
+    })
+}
+
+/// The reply to what came of a search.
+fn look_reply(alloc: Global, form: Form, look: &Option<Told>) -> Result<Reply, AllocError>
+    ensures { IfOk result (λ r. (r.status ≡ look_status (option_map told_view look.now)) × (string_bytes r.text ≡ look_in form (option_map told_view look.now))) }
+{
+    match look {
+        Some(told) => {
+            let mut text = String::new(alloc);
+            push_told(&mut text, form, told)?;
+            Ok(Reply {
+                status: status_of(told),
+                text,
+            })
+        }
+        None => {
+            let text = String::from_str(alloc, nowhere(form))?;
+            Ok(Reply {
+                status: NO_SCHEDULE,
+                text,
+            })
+        }
+    }
+}
+
+/// The status of what is told.
+fn status_of(told: &Told) -> u8
+    ensures { result ≡ look_status (Some (told_view told.now)) }
+{
+    match told {
+        Told::Schedule(_) => DONE,
+        Told::Many(_) => PAST_LIMIT,
+    }
+}
+
+/// What is said where no schedule shows the answers, in this form.
+fn nowhere(form: Form) -> &'static str
+    ensures { result.now ≡ nowhere_in form }
+{
+    match form {
+        Form::Words => "no schedule\n",
+        Form::Json => "{\"schedule\":null}\n",
+    }
+}
