@@ -1,1 +1,2 @@
 pub mod Body
+pub mod Note

@@ -29,6 +29,18 @@ impl Model for Body {
     ghost invariant = { λ b. Fits b.bytes };
 }
 
+impl Clone for Body {
+    ghost is_clone = { λ x y. y ≡ x };
+
+    fn clone(&self) -> Result<Body, OutOfMemory> {
+        let bytes = match &self.bytes {
+            Bytes::Inline(used, bytes) => Bytes::Inline(*used, *bytes),
+            Bytes::Block(block) => Bytes::Block(block.clone()?),
+        };
+        Ok(Body { bytes })
+    }
+}
+
 impl Body {
     /// The body of these bytes.
     ///

@@ -4,6 +4,7 @@ ghost use Rattle.ulfm_base.specs.Decision.{IsLawfulDecision, IsLawfulDecision-pr
 ghost use Rattle.ulfm_base.specs.RankSet.{has};
 
 use crate::contribution::Contribution;
+use crate::error::OutOfMemory;
 use crate::group::Group;
 use crate::rank::WorldRank;
 use crate::rank_set::RankSet;
@@ -26,6 +27,14 @@ pub struct Decision {
     /// The AND of the listed flags, in an agreement.
     pub value: Option<u32>,
     pub ghost lawful: { IsLawfulDecision topic old entries excluded fresh value } by { IsLawfulDecision-prop topic old entries excluded fresh value },
+}
+
+impl Clone for Decision {
+    ghost is_clone = { λ x y. y ≡ x };
+
+    fn clone(&self) -> Result<Decision, OutOfMemory> {
+        Ok(self.copied())
+    }
 }
 
 impl Decision {

@@ -1,7 +1,10 @@
 //! Letters and their envelopes (MPI 4.0, 3.2.3).
 
+ghost use Rattle.std.specs.Prelude.{◌≡◌};
+
 use crate::body::Body;
 use crate::context::Context;
+use crate::error::OutOfMemory;
 use crate::rank::WorldRank;
 use crate::tag::Tag;
 
@@ -23,4 +26,15 @@ pub struct Letter {
     pub envelope: Envelope,
     /// What is carried.
     pub body: Body,
+}
+
+impl Clone for Letter {
+    ghost is_clone = { λ x y. y ≡ x };
+
+    fn clone(&self) -> Result<Letter, OutOfMemory> {
+        Ok(Letter {
+            envelope: self.envelope,
+            body: self.body.clone()?,
+        })
+    }
 }

@@ -1,7 +1,7 @@
 //! Groups of ranks (MPI 4.0, 7.3).
 ghost use Rattle.std.specs.Prelude.{◌≡◌, ◌≢◌, [], ℕ, ◌+◌, ◌<◌, ◌≤◌, length, map, slice_get, Some, IfOk, IfErr, OnOk, MatchOption, MatchResult, All, Any, IsTrue, ◌↔◌, ◌⊎◌};
 
-use crate::error::CallError;
+use crate::error::{CallError, OutOfMemory};
 use crate::rank::WorldRank;
 use crate::rank_set::RankSet;
 use smallvec::SmallVec;
@@ -23,6 +23,14 @@ impl Model for Group {
     ghost view = { λ g. g.members.items };
 
     ghost invariant = { λ g. (g.members.capacity ≡ 8) × (length g.members.items ≤ 8) × IsGroup g.members.items };
+}
+
+impl Clone for Group {
+    ghost is_clone = { λ x y. y ≡ x };
+
+    fn clone(&self) -> Result<Group, OutOfMemory> {
+        Ok(self.copied())
+    }
 }
 
 impl Group {

@@ -1,8 +1,11 @@
 //! What ranks hand to one another.
 
+ghost use Rattle.std.specs.Prelude.{◌≡◌};
+
 use crate::context::Context;
 use crate::entrance::Entrance;
 use crate::envelope::Letter;
+use crate::error::OutOfMemory;
 
 /// What stands in an outbox and in an inbox.
 #[derive(Drop)]
@@ -18,3 +21,16 @@ pub enum Item {
 }
 
 const _: () = prove!(size_of::<Item>() <= 48);
+
+impl Clone for Item {
+    ghost is_clone = { λ x y. y ≡ x };
+
+    fn clone(&self) -> Result<Item, OutOfMemory> {
+        match self {
+            Item::Letter(letter) => Ok(Item::Letter(letter.clone()?)),
+            Item::Gone => Ok(Item::Gone),
+            Item::Revoke(context) => Ok(Item::Revoke(*context)),
+            Item::Enter(entrance) => Ok(Item::Enter(*entrance)),
+        }
+    }
+}

@@ -1,6 +1,7 @@
 //! Items as a log keeps them.
 ghost use Rattle.std.specs.Prelude.{◌≡◌};
 
+use crate::error::OutOfMemory;
 use crate::item::Item;
 use crate::item_kind::ItemKind;
 use crate::noted_letter::NotedLetter;
@@ -19,6 +20,20 @@ impl Model for NotedItem {
     ghost Value = { Item };
 
     ghost view = { λ n. item_of n.kind };
+}
+
+impl Clone for NotedItem {
+    ghost is_clone = { λ x y. y ≡ x };
+
+    fn clone(&self) -> Result<NotedItem, OutOfMemory> {
+        let kind = match &self.kind {
+            ItemKind::Letter(letter) => ItemKind::Letter(letter.clone()?),
+            ItemKind::Gone => ItemKind::Gone,
+            ItemKind::Revoke(context) => ItemKind::Revoke(*context),
+            ItemKind::Enter(entrance) => ItemKind::Enter(*entrance),
+        };
+        Ok(NotedItem { kind })
+    }
 }
 
 impl NotedItem {
