@@ -3,7 +3,7 @@ ghost use Rattle.std.specs.Prelude.{◌≡◌, ◌==◌, ℕ, not, true, false, 
 
 use std::alloc::Global;
 use std::marker::Model;
-use ulfm_base::{Context, Group, RankSet, WorldRank};
+use ulfm_base::{Context, Group, OutOfMemory, RankSet, WorldRank};
 
 /// What one rank knows of failures and revocations. Contracts see it as `Facts`.
 #[derive(Drop)]
@@ -19,6 +19,18 @@ impl Model for Faults {
     ghost Value = { FaultState };
 
     ghost view = { λ f. record { known = f.known; acknowledged = f.acknowledged; revoked = f.revoked } };
+}
+
+impl Clone for Faults {
+    ghost is_clone = { λ x y. y ≡ x };
+
+    fn clone(&self) -> Result<Faults, OutOfMemory> {
+        Ok(Faults {
+            known: self.known.clone()?,
+            acknowledged: self.acknowledged,
+            revoked: self.revoked,
+        })
+    }
 }
 
 impl Faults {

@@ -1,10 +1,25 @@
 -- What becomes of the numbers in buckets.
 use Rattle.std.proofs.Common.{◌≡◌, ◌≢◌, ℕ, ◌+◌, ◌<◌, ◌≤◌, ◌⊎◌, inl, inr, List, [], ◌∷◌, ◌++◌, refl, ap, sym, ◌∙◌, subst, arith, Bool, true, false, cond, filter, Contains, Option, Some, None, Result, Ok, Err, OnOk, IsSome, is_some, nat_eq}
 use Rattle.ulfm_match.proofs.Common.{Contains-append_left, Contains-append_right, Contains-push_cases, Sweeps, Grows, FindsLeast, IsLesser, Rises, numbers_of, exact_unsigned_eq, Bucket}
+use Rattle.std.specs.List.{AllZip}
+use Rattle.std.specs.Map.{lookup}
 use Rattle.std.specs.Option.{option_to_list}
+use Rattle.ulfm_match.specs.inside.Buckets.{numbers_in}
 use Rattle.ulfm_match.proofs.Decide.{Contains-cons_cases, Contains-head, Contains-tail, lt_or_ge}
 use Rattle.ulfm_match.proofs.Members.{all_of, all_from, Contains-filter, filter-Contains}
 use Rattle.ulfm_match.proofs.Rising.{rises_push, rises_filter, rises_front}
+
+-- a bucket or those behind it
+same_cond : (b : Bool) (x y : Bucket) (xs ys : Option Bucket) → numbers_in y ≡ numbers_in x → numbers_of ys ≡ numbers_of xs → numbers_of (cond b (Some y) ys) ≡ numbers_of (cond b (Some x) xs)
+same_cond true x y xs ys one others = one
+same_cond false x y xs ys one others = others
+
+-- clones of buckets have the same numbers at each key
+pub same_numbers : (k : ℕ) (es fs : List (ℕ × Bucket)) → AllZip (λ e f. (f.0 ≡ e.0) × (numbers_in f.1 ≡ numbers_in e.1)) es fs → numbers_of (lookup (nat_eq k) fs) ≡ numbers_of (lookup (nat_eq k) es)
+same_numbers k [] [] z = refl
+same_numbers k [] (f ∷ fs) z = absurd z
+same_numbers k (e ∷ es) [] z = absurd z
+same_numbers k (e ∷ es) (f ∷ fs) z = subst (λ n. numbers_of (cond (nat_eq k n) (Some f.1) (lookup (nat_eq k) fs)) ≡ numbers_of (cond (nat_eq k e.0) (Some e.1) (lookup (nat_eq k) es))) (sym z.0.0) (same_cond (nat_eq k e.0) e.1 f.1 (lookup (nat_eq k) es) (lookup (nat_eq k) fs) z.0.1 (same_numbers k es fs z.1))
 
 -- what is there is another than one that isn't
 pub gone_other : {X : Type 0} (look : ℕ → Option X) (n : ℕ) → look n ≡ None → (m : ℕ) → IsSome (look m) → m ≢ n

@@ -1,14 +1,15 @@
 -- Early entries and late ones, from one state to the next.
 use Rattle.std.proofs.Common.{◌≡◌, ◌≢◌, ℕ, suc, ◌+◌, ◌<◌, ◌≤◌, inl, inr, List, [], ◌∷◌, ◌++◌, ap, sym, ◌∙◌, subst, arith, append_assoc, Bool, false, cond, length, length-append, Contains, Option, Some, None, refl, nat_eq, filter, not, ◌==◌, ◌↔◌}
 use Rattle.std.proofs.lemmas.List.Elements.{filter-append}
-use Rattle.std.specs.Map.{lookup}
+use Rattle.std.specs.List.{IsDistinct}
+use Rattle.std.specs.Map.{keys_of, lookup}
 use Rattle.std.specs.VecDeque.{deque_len}
-use Rattle.ulfm_match.proofs.Common.{Contains-append_cases, Contains-append_left, Contains-append_right, Contains-push_cases, Entries, Buckets, Grows, SweepsFor, IsAscending, IsIndexed, IsPool, NoneIsWild, NonePass, NoneOf, Pool, TakesEarliest, TakesFirst, TakesLeast, TakesOut, all_of, few, get, in_order, IsUnique, numbers_at, numbers_of}
+use Rattle.ulfm_match.proofs.Common.{Contains-append_cases, Contains-append_left, Contains-append_right, Contains-push_cases, Entries, Buckets, Grows, SweepsFor, IsAscending, IsIndexed, IsPool, IsSamePool, NoneIsWild, NonePass, NoneOf, Pool, TakesEarliest, TakesFirst, TakesLeast, TakesOut, all_of, few, get, in_order, IsUnique, numbers_at, numbers_of}
 use Rattle.ulfm_match.proofs.Ascending.{ascending_both, ascending_filter, ascending_push}
 use Rattle.ulfm_match.proofs.Decide.{Contains-none, Contains-head, Contains-tail}
 use Rattle.ulfm_match.proofs.EndSteps.{other_context, passes_context}
 use Rattle.ulfm_match.proofs.First.{first_is_least}
-use Rattle.ulfm_match.proofs.Indexed.{grown_indexed, less_indexed, more_indexed, out_indexed, out_less, same_indexed}
+use Rattle.ulfm_match.proofs.Indexed.{copied_indexed, grown_indexed, less_indexed, more_indexed, out_indexed, out_less}
 use Rattle.ulfm_match.proofs.Listed.{filter_less, listed_ascending, listed_filter, listed_push, listed_takes, out_back, out_to, unlisted}
 use Rattle.ulfm_match.proofs.Members.{all_of as each_of, Contains-filter, filter-Contains}
 
@@ -116,18 +117,22 @@ module _ {X : Type 0} {K : X → ℕ → Type 0} {count : ℕ} {pool : Pool X} (
   pub same_pool : (new : Pool X) → new.wild ≡ pool.wild → new.early ≡ pool.early → new.buckets ≡ pool.buckets → new.late.items ≡ pool.late.items → IsPool K count new
   same_pool new w e f g = later_pool new w e f (rw g i.ascending) (λ y c. rw (sym g) c) (same_len pool new g)
 
+  -- the same entries, in other tables
+  pub copied_pool : (new : Pool X) → IsSamePool pool new → IsPool K count new
+  copied_pool new s = record {
+    top = i.top;
+    indexed = copied_indexed i.indexed s.early (subst (λ es. IsDistinct nat_eq (keys_of es)) (sym s.early) i.indexed.unique) s.buckets;
+    ascending = rw s.late i.ascending;
+    from = λ y c. i.from y (rw (sym s.late) c);
+    below = λ y c. i.below y (rw (sym s.late) c);
+    counted = i.counted;
+    short = still_few new (same_len pool new s.late);
+    none_wild = λ d n x k h. i.none_wild (sym s.wild ∙ d) n x k (subst (λ xs. lookup (nat_eq n) xs ≡ Some x) s.early h);
+  }
+
   -- the early ones have more room
   pub roomy_pool : (new : Pool X) → new.wild ≡ pool.wild → new.early.entries ≡ pool.early.entries → IsUnique nat_eq new.early → new.buckets ≡ pool.buckets → new.late.items ≡ pool.late.items → IsPool K count new
-  roomy_pool new w e u f g = record {
-    top = i.top;
-    indexed = rw f (same_indexed i.indexed e u);
-    ascending = rw g i.ascending;
-    from = λ y c. i.from y (rw (sym g) c);
-    below = λ y c. i.below y (rw (sym g) c);
-    counted = i.counted;
-    short = still_few new (same_len pool new g);
-    none_wild = λ d n x k h. i.none_wild (sym w ∙ d) n x k (subst (λ xs. lookup (nat_eq n) xs ≡ Some x) e h);
-  }
+  roomy_pool new w e u f g = copied_pool new (record { early = e; buckets = λ k. ap (λ bs. numbers_at bs k) f; late = g; wild = w })
 
   pub higher_pool : IsPool K (count + 1) pool
   higher_pool = record {
@@ -193,7 +198,7 @@ module _ {X : Type 0} {K : X → ℕ → Type 0} {count : ℕ} {pool : Pool X} (
       top = n;
       indexed =
           let grown : IsIndexed K n pool.early between = grown_indexed i.indexed n above g in
-          let roomy : IsIndexed K n new.early between = same_indexed grown same u in
+          let roomy : IsIndexed K n new.early between = copied_indexed grown same u (λ k. refl) in
           less_indexed roomy u (λ m y f. f) s;
       ascending = rw e i.ascending;
       from = λ y c. by y (subst (λ (ys : List (ℕ × X)). Contains ys y) (e ∙ first) c);

@@ -15,6 +15,10 @@ pub record Matching : Type 0 where
   pub cleared : List Bool
   pub prepared : Bool
 
+-- the same, with no room made
+abbrev pub unprepared : Matching → Matching
+unprepared state = record { waiting = state.waiting; kept = state.kept; count = state.count; cleared = state.cleared; prepared = false }
+
 -- the context was cleared
 abbrev pub is_cleared : Matching → ℕ → Bool
 is_cleared state context = slice_index_or state.cleared context false

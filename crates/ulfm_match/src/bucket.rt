@@ -108,6 +108,18 @@ fn push(numbers: &mut VecDeque<u64>, number: u64) -> Result<(), OutOfMemory>
     Ok(())
 }
 
+impl Clone for Bucket {
+    ghost is_clone = { λ x y. numbers_in y ≡ numbers_in x };
+
+    fn clone(&self) -> Result<Bucket, OutOfMemory> {
+        Ok(Bucket {
+            first: self.first,
+            rest: self.rest.clone()?,
+            gone: self.gone,
+        })
+    }
+}
+
 impl Bucket {
     /// A bucket of one number.
     pub(crate) fn of(alloc: Global, number: u64) -> Bucket

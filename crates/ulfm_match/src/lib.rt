@@ -14,6 +14,7 @@
 mod arrived;
 mod bucket;
 mod buckets;
+mod copying;
 mod glance;
 mod key;
 mod late;

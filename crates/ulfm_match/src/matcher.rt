@@ -1,11 +1,12 @@
 //! The receives that wait and the letters that are kept.
-ghost use Rattle.std.specs.Prelude.{◌≡◌, ◌≢◌, ◌+◌, ◌<◌, ◌^◌, ◌↔◌, ℕ, [], IsTrue, Contains, OnOk, OnErr, IfNone, IfSome, MatchOption, false};
+ghost use Rattle.std.specs.Prelude.{◌≡◌, ◌≢◌, ◌+◌, ◌<◌, ◌^◌, ◌↔◌, ℕ, [], IsTrue, Contains, OnOk, OnErr, IfNone, IfOk, IfSome, MatchOption, false};
 ghost use Rattle.ulfm_base.specs.Pattern.{Admits, names};
 ghost use Rattle.ulfm_match.specs.Arrived.{answered, HandsOn};
 ghost use Rattle.ulfm_match.specs.Calls.{TracksPost, TracksProbe, TracksArrival, TracksEnd, TracksClear, TracksNamed};
-ghost use Rattle.ulfm_match.specs.State.{is_cleared, Tracks, Keeps};
+ghost use Rattle.ulfm_match.specs.State.{is_cleared, unprepared, Tracks, Keeps};
 
 use crate::arrived::Arrived;
+use crate::copying::copy_pool;
 use crate::pool::Pool;
 use crate::removal::{clear_letters, clear_receives, end_receives};
 use crate::request::RequestId;
@@ -58,6 +59,24 @@ impl Matcher {
             count: 0,
             cleared: [false; 63],
         }
+    }
+
+    /// The same matcher once more, for which `prepare` makes room anew.
+    ///
+    /// # Errors
+    ///
+    /// `OutOfMemory` where a growth was refused.
+    pub fn copy(&self) -> Result<Matcher, OutOfMemory>
+        ensures { IfOk result (λ copy. copy ≡ unprepared self.now) }
+    {
+        Ok(Matcher {
+            alloc: self.alloc,
+            waiting: copy_pool(&self.waiting)?,
+            kept: copy_pool(&self.kept)?,
+            ready: false,
+            count: self.count,
+            cleared: self.cleared,
+        })
     }
 
     /// Makes room for one post and one arrival.

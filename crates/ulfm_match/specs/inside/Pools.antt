@@ -6,7 +6,7 @@ use Rattle.ulfm_base.specs.declared.pattern.Pattern.{Pattern}
 use Rattle.ulfm_base.specs.declared.envelope.Letter.{Letter}
 use Rattle.ulfm_match.specs.declared.pool.Pool.{Pool}
 use Rattle.ulfm_match.specs.State.{IsAscending}
-use Rattle.ulfm_match.specs.inside.Buckets.{IsIndexed, NoneIsWild}
+use Rattle.ulfm_match.specs.inside.Buckets.{IsIndexed, NoneIsWild, numbers_at}
 use Rattle.ulfm_match.specs.inside.Key.{IsKeyOf, IsKeyOfReceive}
 use Rattle.ulfm_match.specs.inside.Order.{in_order}
 
@@ -61,6 +61,13 @@ pub record IsPool {X : Type 0} (IsKey : X → ℕ → Type 0) (count : ℕ) (poo
   pub short : deque_len pool.late ≤ few
   -- the early ones may have a key of any source or of any tag only where the pool says so
   pub none_wild : pool.wild ≡ false → NoneIsWild IsKey pool.early
+
+-- the same entries, and buckets of the same numbers
+pub record IsSamePool {X : Type 0} (old new : Pool X) : Type 0 where
+  pub early : new.early.entries ≡ old.early.entries
+  pub buckets : (k : ℕ) → numbers_at new.buckets k ≡ numbers_at old.buckets k
+  pub late : new.late.items ≡ old.late.items
+  pub wild : new.wild ≡ old.wild
 
 -- there is a place for one late entry more, and with it they are few still
 abbrev pub HasPlace : {X : Type 0} → Pool X → Type 0
