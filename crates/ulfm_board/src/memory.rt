@@ -27,6 +27,15 @@ impl Model for MemoryBoard {
     ghost invariant = { λ b. 63 ≤ length b.cells.items };
 }
 
+impl Clone for MemoryBoard {
+    ghost is_clone = { λ x y. y ≡ x };
+
+    fn clone(&self) -> Result<MemoryBoard, OutOfMemory> {
+        let cells = self.cells.clone()?;
+        Ok(MemoryBoard { cells })
+    }
+}
+
 impl MemoryBoard {
     /// A board on which nothing is decided, with room for the decision of every shrink.
     ///

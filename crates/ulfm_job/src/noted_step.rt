@@ -6,8 +6,7 @@ use crate::step::Step;
 use crate::text::Text;
 use std::fmt;
 use std::marker::Model;
-use std::snapshot::Snapshot;
-use ulfm_base::{Context, Tag};
+use ulfm_base::{Context, Noted, OutOfMemory, Tag};
 
 /// A step in a report, without the bytes of the body that it sends. Contracts see the whole step.
 #[derive(Drop)]
@@ -22,7 +21,7 @@ pub(crate) enum Kept {
     Send {
         to: u8,
         tag: Tag,
-        body: Snapshot<Text>,
+        body: Noted<Text>,
         comm: Context,
     },
     /// Any other step.
@@ -31,11 +30,13 @@ pub(crate) enum Kept {
 
 impl Model for NotedStep {
     ghost use Rattle.ulfm_job.specs.declared.step.Step.{Step as SeenStep};
-    ghost use Rattle.ulfm_job.specs.inside.Noted.{step_of};
+    ghost use Rattle.ulfm_job.specs.inside.Noted.{step_of, HasBodyNoted};
 
     ghost Value = { SeenStep };
 
     ghost view = { λ n. step_of n.kept };
+
+    ghost invariant = { λ n. HasBodyNoted n.kept };
 }
 
 impl NotedStep {
@@ -54,7 +55,7 @@ impl NotedStep {
                 kept: Kept::Send {
                     to: *to,
                     tag: *tag,
-                    body: Snapshot::of(body),
+                    body: Noted::of(body),
                     comm: *comm,
                 },
             };
@@ -65,6 +66,31 @@ impl NotedStep {
             },
             None => unreachable!(),
         }
+    }
+}
+
+impl Clone for NotedStep {
+    ghost is_clone = { λ x y. y ≡ x };
+
+    fn clone(&self) -> Result<NotedStep, OutOfMemory> {
+        let kept = match &self.kept {
+            Kept::Send {
+                to,
+                tag,
+                body,
+                comm,
+            } => Kept::Send {
+                to: *to,
+                tag: *tag,
+                body: body.clone()?,
+                comm: *comm,
+            },
+            Kept::Other(step) => match step.bodiless() {
+                Some(step) => Kept::Other(step),
+                None => unreachable!(),
+            },
+        };
+        Ok(NotedStep { kept })
     }
 }
 
