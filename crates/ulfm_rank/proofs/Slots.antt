@@ -1,6 +1,7 @@
 -- What a change of one outbox changes of the list of all of them.
-use Rattle.std.proofs.Common.{◌≡◌, ◌≢◌, ℕ, suc, ◌+◌, ◌<◌, ◌≤◌, Bool, true, false, eqb, List, [], ◌∷◌, length, map, get_or, set, refl, ap, sym, ◌∙◌, arith, inl, inr, ◌⊎◌, append-nil}
+use Rattle.std.proofs.Common.{◌≡◌, ◌≢◌, ℕ, suc, ◌+◌, ◌<◌, ◌≤◌, Bool, true, false, eqb, List, [], ◌∷◌, length, map, get_or, set, refl, ap, sym, subst, ◌∙◌, arith, inl, inr, ◌⊎◌, append-nil}
 use Rattle.ulfm_rank.proofs.Common.{cases_eq, false≢true, list_all, nat_tests, Box, Slot, contents_of, has_room, empty_box, box_at, with_item, for_each, Grows, AllGrow, list_all-map, list_all_at, get_or-map}
+use Rattle.std.specs.List.{AllZip}
 use Rattle.std.proofs.Math.Seq.{map-set_same}
 use Rattle.std.proofs.lemmas.List.{map-set, length-map, length-set, get_or_read, get_or-set_same, get_or-set_other}
 use Rattle.ulfm_base.specs.declared.item.Item.{Item}
@@ -20,6 +21,13 @@ box-slot slots d = get_or-map contents_of slots d empty_slot
 
 within : (slots : List Slot) (boxes : List Box) (d : ℕ) → map contents_of slots ≡ boxes → d < length boxes → d < length slots
 within slots boxes d seen inside = omega (arith, ap length seen, length-map slots contents_of)
+
+-- copies have the same contents
+pub same_contents : (xs ys : List Slot) → AllZip (λ x y. y.contents ≡ x.contents) xs ys → map contents_of ys ≡ map contents_of xs
+same_contents [] [] z = refl
+same_contents [] (y ∷ ys) z = absurd z
+same_contents (x ∷ xs) [] z = absurd z
+same_contents (x ∷ xs) (y ∷ ys) z = subst (λ b. b ∷ map contents_of ys ≡ x.contents ∷ map contents_of xs) (sym z.0) (ap (λ bs. x.contents ∷ bs) (same_contents xs ys z.1))
 
 -- the outbox that is read at a place
 pub read : (slots : List Slot) (boxes : List Box) (d : ℕ) (s : Slot) → map contents_of slots ≡ boxes → d < length boxes → s ≡ get_or slots d s → s.contents ≡ box_at boxes d

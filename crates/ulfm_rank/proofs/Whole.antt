@@ -89,18 +89,25 @@ module _ {n me : ℕ} {log : List Entry} {stopped : Bool} {matcher : Matching} {
     outboxes = outboxes-grown (Took s item) held.outboxes grows;
   }
 
--- room plays no part
-pub holds_same : (a : Inside) {b : Inside} → Holds a → b.me ≡ a.me → b.ranks ≡ a.ranks → b.stopped ≡ a.stopped → b.faults ≡ a.faults → b.communicators ≡ a.communicators
+-- other room that is enough plays no part
+pub holds_copied : (a : Inside) {b : Inside} → Holds a → b.me ≡ a.me → b.ranks ≡ a.ranks → b.stopped ≡ a.stopped → b.faults ≡ a.faults → b.communicators ≡ a.communicators
     → b.matcher.waiting ≡ a.matcher.waiting → b.matcher.kept ≡ a.matcher.kept → b.matcher.count ≡ a.matcher.count → b.matcher.cleared ≡ a.matcher.cleared → b.requests.entries ≡ a.requests.entries → b.outboxes.boxes ≡ a.outboxes.boxes
-    → b.log.items ≡ a.log.items → b.told.items ≡ a.told.items → a.log.capacity ≤ b.log.capacity → b.log.capacity < 2 ^ 63 → Holds b
-holds_same a {b} h me ranks stopped faults comms waiting kept count cleared entries boxes items told room countable = record {
+    → b.log.items ≡ a.log.items → b.told.items ≡ a.told.items → length a.log.items + (index_map_len a.requests + cond a.stopped 0 1) ≤ b.log.capacity → b.log.capacity < 2 ^ 63 → Holds b
+holds_copied a {b} h me ranks stopped faults comms waiting kept count cleared entries boxes items told room countable = record {
   follows = rw (me, ranks, stopped, faults, comms, items) (follows_same h.follows b.matcher (get nat_eq b.requests) b.outboxes.boxes waiting kept count cleared (λ k. ap (lookup (nat_eq k)) entries) boxes);
   tells = told ∙ h.tells ∙ ap (filter tells) (sym items);
   countable = countable;
   places =
       let same : index_map_len b.requests ≡ index_map_len a.requests = ap length entries in
-      rw stopped (omega (arith, h.places, same, ap length items, room));
+      rw stopped (omega (arith, same, ap length items, room));
 }
+
+-- more room plays no part
+pub holds_same : (a : Inside) {b : Inside} → Holds a → b.me ≡ a.me → b.ranks ≡ a.ranks → b.stopped ≡ a.stopped → b.faults ≡ a.faults → b.communicators ≡ a.communicators
+    → b.matcher.waiting ≡ a.matcher.waiting → b.matcher.kept ≡ a.matcher.kept → b.matcher.count ≡ a.matcher.count → b.matcher.cleared ≡ a.matcher.cleared → b.requests.entries ≡ a.requests.entries → b.outboxes.boxes ≡ a.outboxes.boxes
+    → b.log.items ≡ a.log.items → b.told.items ≡ a.told.items → a.log.capacity ≤ b.log.capacity → b.log.capacity < 2 ^ 63 → Holds b
+holds_same a h me ranks stopped faults comms waiting kept count cleared entries boxes items told room countable =
+    holds_copied a h me ranks stopped faults comms waiting kept count cleared entries boxes items told (omega (arith, h.places, room)) countable
 
 -- how many requests are left where one was taken out
 pub one_less : (b : Bool) (new old : ℕ) → new + cond b 1 0 ≡ old → b ≡ true → new + 1 ≡ old

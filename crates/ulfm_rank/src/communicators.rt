@@ -27,6 +27,16 @@ impl Model for Communicators {
     ghost invariant = { λ c. (63 ≤ vec_capacity c.made) × AreApart c.made.items };
 }
 
+impl Clone for Communicators {
+    ghost is_clone = { λ x y. y ≡ x };
+
+    fn clone(&self) -> Result<Communicators, OutOfMemory> {
+        let mut made = Vec::with_capacity(*self.made.allocator(), CONTEXTS)?;
+        made.extend_with_clones(self.made.as_slice())?;
+        Ok(Communicators { made })
+    }
+}
+
 impl Communicators {
     /// The communicator of the world alone, with this group.
     ///

@@ -1,9 +1,12 @@
 //! What a rank writes into its log, and what its calls answer.
 
+ghost use Rattle.std.specs.Prelude.{◌≡◌};
+
 use crate::message::MessageId;
 use crate::noted_answer::NotedAnswer;
 use ulfm_base::{
-    Body, CallError, Context, Decision, Entrance, NotedItem, NotedLetter, Pattern, Tag, WorldRank,
+    Body, CallError, Context, Decision, Entrance, NotedItem, NotedLetter, OutOfMemory, Pattern,
+    Tag, WorldRank,
 };
 use ulfm_match::RequestId;
 
@@ -85,4 +88,27 @@ pub enum Entry {
     Stopped,
     /// An item was taken that came from a rank.
     Took(WorldRank, NotedItem),
+}
+
+impl Clone for Entry {
+    ghost is_clone = { λ x y. y ≡ x };
+
+    fn clone(&self) -> Result<Entry, OutOfMemory> {
+        let entry = match self {
+            Entry::Duplicated(context) => Entry::Duplicated(*context),
+            Entry::Entered(entrance) => Entry::Entered(*entrance),
+            Entry::Adopted(decision) => Entry::Adopted(decision.clone()?),
+            Entry::Acknowledged(context, total) => Entry::Acknowledged(*context, *total),
+            Entry::Revoked(context) => Entry::Revoked(*context),
+            Entry::Sent(to, letter) => Entry::Sent(*to, letter.clone()?),
+            Entry::Posted(pattern) => Entry::Posted(*pattern),
+            Entry::Released(id, answer) => Entry::Released(*id, answer.clone()?),
+            Entry::Probed(id, pattern) => Entry::Probed(*id, *pattern),
+            Entry::Received(id, answer) => Entry::Received(*id, answer.clone()?),
+            Entry::Cancelled(id) => Entry::Cancelled(*id),
+            Entry::Stopped => Entry::Stopped,
+            Entry::Took(source, item) => Entry::Took(*source, item.clone()?),
+        };
+        Ok(entry)
+    }
 }

@@ -4,6 +4,7 @@ ghost use Rattle.std.specs.Prelude.{◌≡◌, [], ◌∷◌, ◌++◌};
 use crate::entry::Entry;
 use std::marker::Model;
 use std::snapshot::Snapshot;
+use ulfm_base::OutOfMemory;
 
 /// What happened, link by link. No link keeps what happened, or those before it: contracts alone see them.
 #[derive(Drop)]
@@ -12,6 +13,8 @@ pub(crate) enum Chain {
     Nothing,
     /// That, and then this.
     Then(Snapshot<Chain>, Snapshot<Entry>),
+    /// That, told once more.
+    Again(Snapshot<Chain>),
 }
 
 /// What happened, in order. It takes no memory. Contracts see the list.
@@ -46,5 +49,15 @@ impl History {
     {
         let before = Snapshot::of(&self.chain);
         self.chain = Chain::Then(before, Snapshot::of(entry));
+    }
+}
+
+impl Clone for History {
+    ghost is_clone = { λ x y. y ≡ x };
+
+    fn clone(&self) -> Result<History, OutOfMemory> {
+        Ok(History {
+            chain: Chain::Again(Snapshot::of(&self.chain)),
+        })
     }
 }

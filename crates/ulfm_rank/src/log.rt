@@ -1,5 +1,5 @@
 //! A log that is kept, or of which proofs alone know.
-ghost use Rattle.std.specs.Prelude.{◌≡◌, ◌+◌, ◌≤◌, ◌<◌, ◌^◌, [], ◌∷◌, ◌++◌, length, IsTrue, OnOk, OnErr, true, false};
+ghost use Rattle.std.specs.Prelude.{◌≡◌, ◌+◌, ◌≤◌, ◌<◌, ◌^◌, [], ◌∷◌, ◌++◌, length, IsTrue, IfOk, OnOk, OnErr, true, false, vec_capacity};
 
 use crate::entry::Entry;
 use crate::history::History;
@@ -41,6 +41,34 @@ impl Log {
             len: 0,
             history: History::new(),
         }
+    }
+
+    /// The same log once more, with room for so many entries more.
+    ///
+    /// # Errors
+    ///
+    /// `OutOfMemory` where a growth was refused, or there are too many entries to count.
+    pub fn copy(&self, more: usize) -> Result<Log, OutOfMemory>
+        ensures items { IfOk result (λ log. log.items ≡ self.now.items) }
+        ensures keeps { IfOk result (λ log. log.keeps ≡ self.now.keeps) }
+        ensures capacity { IfOk result (λ log. length self.now.items + more ≤ log.capacity) }
+        ensures countable { IfOk result (λ log. log.capacity < 2 ^ 63) }
+    {
+        let kept = match &self.kept {
+            Some(entries) => Some(copy_entries(self.alloc, entries, more)?),
+            None => {
+                if more > COUNTABLE - self.len {
+                    return Err(AllocError);
+                }
+                None
+            }
+        };
+        Ok(Log {
+            alloc: self.alloc,
+            kept,
+            len: self.len,
+            history: self.history.clone()?,
+        })
     }
 
     /// What memory comes from.
@@ -112,6 +140,21 @@ impl Log {
             entries.push_reserved(entry);
         }
     }
+}
+
+/// The same entries once more, with room for so many more.
+fn copy_entries(alloc: Global, entries: &Vec<Entry>, more: usize) -> Result<Vec<Entry>, OutOfMemory>
+    ensures items { IfOk result (λ copy. copy.items ≡ entries.now.items) }
+    ensures room { IfOk result (λ copy. length entries.now.items + more ≤ vec_capacity copy) }
+    ensures countable { IfOk result (λ copy. vec_capacity copy < 2 ^ 63) }
+{
+    let mut copy = Vec::new(alloc);
+    let Some(places) = entries.len().checked_add(more) else {
+        return Err(AllocError);
+    };
+    copy.reserve(places)?;
+    copy.extend_with_clones(entries.as_slice())?;
+    Ok(copy)
 }
 
 /// How many entries a log counts that isn't kept.

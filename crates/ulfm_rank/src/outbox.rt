@@ -30,6 +30,21 @@ impl Model for Outbox {
     ghost invariant = { λ o. deque_len o.items + o.items_out ≤ deque_capacity o.items };
 }
 
+/// A copy has the places of the items that went out.
+impl Clone for Outbox {
+    ghost is_clone = { λ x y. y.contents ≡ x.contents };
+
+    fn clone(&self) -> Result<Outbox, OutOfMemory> {
+        let mut items = self.items.clone()?;
+        items.reserve(self.items_out)?;
+        Ok(Outbox {
+            items,
+            items_out: self.items_out,
+            notice_out: self.notice_out,
+        })
+    }
+}
+
 impl Outbox {
     ghost use Rattle.ulfm_rank.specs.inside.Outboxes.{empty_box, with_item, with_first_out, with_item_back, with_notice_out};
 

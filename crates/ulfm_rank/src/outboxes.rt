@@ -46,6 +46,18 @@ impl Outboxes {
         Ok(Outboxes { slots })
     }
 
+    /// The same outboxes once more.
+    ///
+    /// # Errors
+    ///
+    /// `OutOfMemory` where a growth was refused.
+    pub fn copy(&self) -> Result<Outboxes, OutOfMemory>
+        ensures { IfOk result (λ outboxes. outboxes.boxes ≡ self.now.boxes) }
+    {
+        let slots = self.slots.clone()?;
+        Ok(Outboxes { slots })
+    }
+
     /// Makes room for one item in each outbox.
     ///
     /// # Errors

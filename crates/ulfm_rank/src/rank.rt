@@ -2,6 +2,7 @@
 
 mod agreeing;
 mod cancelling;
+mod copying;
 mod deciding;
 mod outgoing;
 mod probing;

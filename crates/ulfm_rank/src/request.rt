@@ -4,7 +4,7 @@ ghost use Rattle.ulfm_rank.specs.Fates.{fate_of, is_waiting, over_named, over_co
 ghost use Rattle.ulfm_rank.specs.Standing.{is_found};
 ghost use Rattle.ulfm_rank.specs.Messages.{with_room};
 
-use ulfm_base::{Context, Letter, Pattern, WorldRank};
+use ulfm_base::{Context, Letter, OutOfMemory, Pattern, WorldRank};
 
 /// What became of a receive, or the letter of a message that a probe found.
 #[derive(Drop)]
@@ -28,6 +28,31 @@ pub struct Request {
     pub pattern: Pattern,
     /// What became of it.
     pub fate: Fate,
+}
+
+impl Clone for Fate {
+    ghost is_clone = { λ x y. y ≡ x };
+
+    fn clone(&self) -> Result<Fate, OutOfMemory> {
+        match self {
+            Fate::Waiting => Ok(Fate::Waiting),
+            Fate::Paired(letter) => Ok(Fate::Paired(letter.clone()?)),
+            Fate::Found(letter) => Ok(Fate::Found(letter.clone()?)),
+            Fate::Failed => Ok(Fate::Failed),
+            Fate::Cleared => Ok(Fate::Cleared),
+        }
+    }
+}
+
+impl Clone for Request {
+    ghost is_clone = { λ x y. y ≡ x };
+
+    fn clone(&self) -> Result<Request, OutOfMemory> {
+        Ok(Request {
+            pattern: self.pattern,
+            fate: self.fate.clone()?,
+        })
+    }
 }
 
 /// What becomes of a receive at its post, where its source is known to have failed or isn't.

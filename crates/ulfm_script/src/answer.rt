@@ -1,7 +1,9 @@
 //! What comes of a step.
 
+ghost use Rattle.std.specs.Prelude.{◌≡◌, IfOk};
+
 use smallvec::SmallVec;
-use ulfm_base::{Body, CallError, Group};
+use ulfm_base::{Body, CallError, Group, OutOfMemory};
 use ulfm_job::NotedStep;
 use ulfm_match::RequestId;
 use ulfm_rank::{Comm, MessageId, Status};
@@ -74,4 +76,59 @@ pub struct StepReport {
     pub at: usize,
     /// How many uses of `call` left the step open, staying at its greatest value.
     pub polls: u32,
+}
+
+/// The same positions once more, with as many places.
+fn copy_positions(positions: &SmallVec<u8, 8>) -> Result<SmallVec<u8, 8>, OutOfMemory>
+    ensures { IfOk result (λ copy. copy ≡ positions.now) }
+{
+    // That it has at least its own places is said here alone.
+    let _ = positions.spilled();
+    let alloc = *positions.allocator();
+    let mut items = SmallVec::<u8, 8>::from_slice(alloc, positions.as_slice())?;
+    let mut copy = SmallVec::with_capacity(alloc, positions.capacity())?;
+    copy.append(&mut items)?;
+    Ok(copy)
+}
+
+impl Clone for StepAnswer {
+    ghost is_clone = { λ x y. y ≡ x };
+
+    fn clone(&self) -> Result<StepAnswer, OutOfMemory> {
+        let answer = match self {
+            StepAnswer::Sent => StepAnswer::Sent,
+            StepAnswer::Posted(id) => StepAnswer::Posted(*id),
+            StepAnswer::Done(status, body) => StepAnswer::Done(*status, body.clone()?),
+            StepAnswer::Over(error) => StepAnswer::Over(*error),
+            StepAnswer::Pending => StepAnswer::Pending,
+            StepAnswer::Found(id, status) => StepAnswer::Found(*id, *status),
+            StepAnswer::Cancelled => StepAnswer::Cancelled,
+            StepAnswer::Ranks(positions) => StepAnswer::Ranks(copy_positions(positions)?),
+            StepAnswer::Acked(total) => StepAnswer::Acked(*total),
+            StepAnswer::Revoked => StepAnswer::Revoked,
+            StepAnswer::Made(comm) => StepAnswer::Made(*comm),
+            StepAnswer::Shrunk(comm, group, me) => StepAnswer::Shrunk(*comm, group.clone()?, *me),
+            StepAnswer::Agreed(value, left_out) => {
+                StepAnswer::Agreed(*value, copy_positions(left_out)?)
+            }
+            StepAnswer::Stopped => StepAnswer::Stopped,
+            StepAnswer::Unfinished => StepAnswer::Unfinished,
+            StepAnswer::Skipped => StepAnswer::Skipped,
+            StepAnswer::Refused(error) => StepAnswer::Refused(*error),
+        };
+        Ok(answer)
+    }
+}
+
+impl Clone for StepReport {
+    ghost is_clone = { λ x y. y ≡ x };
+
+    fn clone(&self) -> Result<StepReport, OutOfMemory> {
+        Ok(StepReport {
+            step: self.step.clone()?,
+            answer: self.answer.clone()?,
+            at: self.at,
+            polls: self.polls,
+        })
+    }
 }

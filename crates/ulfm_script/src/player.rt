@@ -1,6 +1,7 @@
 //! A rank that goes through its steps.
 
 mod calling;
+mod copying;
 mod deciding;
 mod items;
 

@@ -6,7 +6,7 @@ use crate::room::Room;
 use std::alloc::Global;
 use std::collections::VecDeque;
 use std::marker::Model;
-use ulfm_base::{Item, WorldRank};
+use ulfm_base::{Item, OutOfMemory, WorldRank};
 
 /// Items with their senders, in the order in which they came.
 #[derive(Drop)]
@@ -22,6 +22,15 @@ impl Model for Inbox {
     ghost Value = { List (WorldRank × Item) };
 
     ghost view = { λ inbox. inbox.items.items };
+}
+
+impl Clone for Inbox {
+    ghost is_clone = { λ x y. y ≡ x };
+
+    fn clone(&self) -> Result<Inbox, OutOfMemory> {
+        let items = self.items.clone()?;
+        Ok(Inbox { items })
+    }
 }
 
 impl Inbox {

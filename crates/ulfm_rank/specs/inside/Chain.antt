@@ -8,6 +8,7 @@ use Rattle.ulfm_rank.specs.declared.history.Chain.TheOpen.{Chain-F}
 abbrev pub with_link : Chain-F (List Entry) → List Entry
 with_link Chain-F.Nothing = []
 with_link (Chain-F.Then before last) = before.value ++ last.value ∷ []
+with_link (Chain-F.Again before) = before.value
 
 -- its entries, in order
 abbrev pub items_of : Chain → List Entry
