@@ -14,7 +14,7 @@ pub use Rattle.ulfm_match.specs.State.{IsAscending, IsUncleared, Keeps, Lists, M
 pub use Rattle.ulfm_match.specs.inside.Buckets.{Buckets, Entries, FindsLeast, Grows, IsIndexed, IsLesser, NoneIsWild, NonePass, Passes, Rises, Sweeps, SweepsFor, TakesEarliest, TakesOut, StandsFrom, numbers_at, numbers_of}
 pub use Rattle.ulfm_match.specs.inside.Key.{AsksOf, IsKeyAt, IsKeyOf, IsKeyOfReceive, IsWild, key_at, key_from, key_number, key_of, source_at, source_of, tag_at, tag_of}
 pub use Rattle.ulfm_match.specs.inside.Order.{in_order, place}
-pub use Rattle.ulfm_match.specs.inside.Pools.{FindsFirst, HasPlace, IsFirstAt, IsPool, IsSamePool, IsWhole, NoneOf, TakesFirst, TakesLeast, all_of, few}
+pub use Rattle.ulfm_match.specs.inside.Pools.{FindsFirst, HasPlace, IsFirstAt, IsPool, IsSamePool, IsWhole, NoneOf, TakesFirst, TakesLeast, all_of, few, IsLeast}
 pub use Rattle.ulfm_match.specs.declared.pool.Pool.{Pool}
 pub use Rattle.indexmap.proofs.CallerLemmas.{filter-RetainsPairs}
 pub use Rattle.std.proofs.lemmas.Map.Views.{exact_unsigned_eq, hash_map_get_iff}

@@ -12,7 +12,7 @@ module _ {X : Type 0} (P : X → Type 0) where
   pub first_at : (xs : List X) (k : ℕ) (x : X) → k < length xs → x ≡ get_or xs k x → NoneOf P (take k xs) → P x → IsFirstAt P xs k
   first_at xs k x l is before here = record { within = l; passes = at_read xs P k x l is here; none_before = before }
 
-  taken_at : (xs ys : List X) (k : ℕ) (x : X) → IsFirstAt P xs k → x ≡ get_or xs k x → ys ≡ remove xs k → TakesFirst P xs ys x
+  pub taken_at : (xs ys : List X) (k : ℕ) (x : X) → IsFirstAt P xs k → x ≡ get_or xs k x → ys ≡ remove xs k → TakesFirst P xs ys x
   taken_at xs ys k x f is e = record {
     front = take k xs;
     back = drop (suc k) xs;

@@ -5,7 +5,23 @@ use Rattle.ulfm_match.proofs.Decide.{Either, Contains-none, Contains-cons_cases,
 use Rattle.ulfm_match.proofs.EndSteps.{other_context, passes_context}
 use Rattle.ulfm_match.proofs.Members.{all_of, Contains-filter, filter-Contains}
 use Rattle.ulfm_match.proofs.Ascending.{ascending_filter}
-pub use Rattle.ulfm_match.specs.inside.Pools.{TakesLeast}
+pub use Rattle.ulfm_match.specs.inside.Pools.{IsLeast, TakesLeast}
+
+module _ {X : Type 0} (P : ℕ × X → Type 0) where
+  -- the least one can be taken out
+  pub least_out : (xs : List (ℕ × X)) → IsAscending xs → (z : ℕ × X) → IsLeast P xs z → (ys : List (ℕ × X)) × TakesLeast P xs ys z
+  least_out xs a z l =
+      let W : ℕ × X → Bool = λ y. not (y.0 == z.0) in (
+        filter W xs,
+        record {
+          there = l.there;
+          passes = l.passes;
+          least = l.least;
+          ascending = ascending_filter W xs a;
+          left_to = λ y c. let k = Contains-filter W xs y c in (k.0, other_context y.0 z.0 k.1);
+          left_back = λ y c n. filter-Contains W xs y c (passes_context y.0 z.0 n);
+        },
+      )
 
 module _ {X : Type 0} (P : ℕ × X → Type 0) (d : (y : ℕ × X) → Either (P y)) where
   least_of : (xs : List (ℕ × X)) → IsAscending xs → ((z : ℕ × X) × Contains xs z × P z × ((y : ℕ × X) → Contains xs y → P y → z.0 ≤ y.0)) ⊎ ((y : ℕ × X) → Contains xs y → P y → ⊥)
@@ -30,18 +46,5 @@ module _ {X : Type 0} (P : ℕ × X → Type 0) (d : (y : ℕ × X) → Either (
   pub take_least : (xs : List (ℕ × X)) → IsAscending xs → ((ys : List (ℕ × X)) × (z : ℕ × X) × TakesLeast P xs ys z) ⊎ ((y : ℕ × X) → Contains xs y → P y → ⊥)
   take_least xs a = elim (least_of xs a) [
     | inr none ↦ inr none
-    | inl f ↦
-        let W : ℕ × X → Bool = λ y. not (y.0 == f.0.0) in
-        inl (
-          filter W xs,
-          f.0,
-          record {
-            there = f.1;
-            passes = f.2;
-            least = f.3;
-            ascending = ascending_filter W xs a;
-            left_to = λ y c. let k = Contains-filter W xs y c in (k.0, other_context y.0 f.0.0 k.1);
-            left_back = λ y c n. filter-Contains W xs y c (passes_context y.0 f.0.0 n);
-          },
-        )
+    | inl f ↦ let out = least_out P xs a f.0 (record { there = f.1; passes = f.2; least = f.3 }) in inl (out.0, f.0, out.1)
   ]

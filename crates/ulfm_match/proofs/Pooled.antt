@@ -1,16 +1,17 @@
 -- Early entries and late ones, from one state to the next.
-use Rattle.std.proofs.Common.{◌≡◌, ◌≢◌, ℕ, suc, ◌+◌, ◌<◌, ◌≤◌, inl, inr, List, [], ◌∷◌, ◌++◌, ap, sym, ◌∙◌, subst, arith, append_assoc, Bool, false, cond, length, length-append, Contains, Option, Some, None, refl, nat_eq, filter, not, ◌==◌, ◌↔◌}
+use Rattle.std.proofs.Common.{◌≡◌, ◌≢◌, ℕ, suc, ◌+◌, ◌<◌, ◌≤◌, inl, inr, List, [], ◌∷◌, ◌++◌, ap, sym, ◌∙◌, subst, arith, append_assoc, Bool, false, cond, length, length-append, Contains, Option, Some, None, refl, nat_eq, filter, not, ◌==◌, ◌↔◌, get_or}
+use Rattle.std.specs.Prelude.{remove}
 use Rattle.std.proofs.lemmas.List.Elements.{filter-append}
 use Rattle.std.specs.List.{IsDistinct}
 use Rattle.std.specs.Map.{keys_of, lookup}
 use Rattle.std.specs.VecDeque.{deque_len}
-use Rattle.ulfm_match.proofs.Common.{Contains-append_cases, Contains-append_left, Contains-append_right, Contains-push_cases, Entries, Buckets, Grows, SweepsFor, IsAscending, IsIndexed, IsPool, IsSamePool, NoneIsWild, NonePass, NoneOf, Pool, TakesEarliest, TakesFirst, TakesLeast, TakesOut, all_of, few, get, in_order, IsUnique, numbers_at, numbers_of}
+use Rattle.ulfm_match.proofs.Common.{Contains-append_cases, Contains-append_left, Contains-append_right, Contains-push_cases, Entries, Buckets, Grows, SweepsFor, IsAscending, IsIndexed, IsPool, IsSamePool, NoneIsWild, NonePass, NoneOf, Pool, TakesEarliest, TakesFirst, TakesLeast, TakesOut, all_of, few, get, in_order, IsUnique, numbers_at, numbers_of, IsFirstAt, IsLeast, Passes}
 use Rattle.ulfm_match.proofs.Ascending.{ascending_both, ascending_filter, ascending_push}
 use Rattle.ulfm_match.proofs.Decide.{Contains-none, Contains-head, Contains-tail}
 use Rattle.ulfm_match.proofs.EndSteps.{other_context, passes_context}
-use Rattle.ulfm_match.proofs.First.{first_is_least}
-use Rattle.ulfm_match.proofs.Indexed.{copied_indexed, grown_indexed, less_indexed, more_indexed, out_indexed, out_less}
-use Rattle.ulfm_match.proofs.Listed.{filter_less, listed_ascending, listed_filter, listed_push, listed_takes, out_back, out_to, unlisted}
+use Rattle.ulfm_match.proofs.First.{first_is_least, taken_at}
+use Rattle.ulfm_match.proofs.Indexed.{copied_indexed, grown_indexed, less_indexed, more_indexed, out_indexed, out_less, same_indexed}
+use Rattle.ulfm_match.proofs.Listed.{filter_less, listed_ascending, listed_filter, listed_push, listed_takes, out_back, out_to, unlisted, listed}
 use Rattle.ulfm_match.proofs.Members.{all_of as each_of, Contains-filter, filter-Contains}
 
 module _ {X : Type 0} (P : ℕ × X → Type 0) (front back : List (ℕ × X)) (below : (y z : ℕ × X) → Contains front y → Contains back z → y.0 < z.0) where
@@ -64,10 +65,29 @@ module _ {X : Type 0} {K : X → ℕ → Type 0} {count : ℕ} {pool : Pool X} (
       before_takes (λ y. P y.1) (in_order pool.early.entries) pool.late.items early_below (in_order new.entries) (n, x) i.ascending
       (listed_takes pool.early new i.indexed.unique t.out.unique t)
 
+  -- the least of the early ones is the least of all
+  pub early_least : {P : X → Type 0} (n : ℕ) (x : X) → get nat_eq pool.early n ≡ Some x → P x → ((m : ℕ) → Passes P pool.early m → n ≤ m) → IsLeast (λ (y : ℕ × X). P y.1) (all_of pool) (n, x)
+  early_least {P} n x found passes least =
+      let there = listed pool.early i.indexed.unique n x found in
+      record {
+        there = Contains-append_left (in_order pool.early.entries) pool.late.items (n, x) there;
+        passes = passes;
+        least = λ y c p. elim (Contains-append_cases (in_order pool.early.entries) pool.late.items y c) [
+          | inl d ↦ least y.0 (record { entry = y.1; found = unlisted pool.early i.indexed.unique y d; passes = p })
+          | inr d ↦ (let l = early_below (n, x) y there d in omega (arith, l))
+        ];
+      }
+
   pub late_taken : {P : X → Type 0} {new : List (ℕ × X)} {z : ℕ × X} → NonePass P pool.early → TakesFirst (λ (y : ℕ × X). P y.1) pool.late.items new z → TakesLeast (λ (y : ℕ × X). P y.1) (all_of pool) (in_order pool.early.entries ++ new) z
   late_taken {P} {new} {z} none t =
       after_takes (λ y. P y.1) (in_order pool.early.entries) pool.late.items early_below new z (listed_ascending pool.early i.indexed.unique) (none_early none)
       (first_is_least (λ y. P y.1) pool.late.items new z i.ascending t)
+
+  -- the first of the late ones is the least of all, where no early one passes
+  pub late_least : {P : X → Type 0} (k : ℕ) (z : ℕ × X) → NonePass P pool.early → IsFirstAt (λ (y : ℕ × X). P y.1) pool.late.items k → z ≡ get_or pool.late.items k z → IsLeast (λ (y : ℕ × X). P y.1) (all_of pool) z
+  late_least {P} k z none first is =
+      let t = late_taken none (taken_at (λ (y : ℕ × X). P y.1) pool.late.items (remove pool.late.items k) k z first is refl) in
+      record { there = t.there; passes = t.passes; least = t.least }
 
   pub none_pool : {P : X → Type 0} → NonePass P pool.early → NoneOf (λ (y : ℕ × X). P y.1) pool.late.items → NoneOf (λ (y : ℕ × X). P y.1) (all_of pool)
   none_pool {P} none late y c p = elim (Contains-append_cases (in_order pool.early.entries) pool.late.items y c) [ inl d ↦ none_early none y d p | inr d ↦ late y d p ]

@@ -1,12 +1,12 @@
 -- A letter is taken out by a receive that ends at once.
-use Rattle.std.proofs.Common.{◌≡◌, ℕ, ◌+◌, ◌<◌, List, [], ◌∷◌, ◌++◌, length, refl, sym, ◌∙◌, subst, append_assoc, arith, max, Contains}
-use Rattle.ulfm_match.specs.Calls.{ProbeGets, KeepsNone}
-use Rattle.ulfm_match.proofs.Common.{Pattern, Admits, Letter, MatchEvent, Post, Come, End, PostAt, IsLiveLetter, count_before, Pairing, Pairs, LawfulPairing, pairs_below, Matching, IsUncleared, Tracks, Contains-push, slice_get_within}
+use Rattle.std.proofs.Common.{◌≡◌, ℕ, ◌+◌, ◌<◌, List, [], ◌∷◌, ◌++◌, length, refl, sym, ◌∙◌, subst, append_assoc, arith, max, Contains, Some, false}
+use Rattle.ulfm_match.specs.Calls.{ProbeGets, KeepsNone, TracksProbe}
+use Rattle.ulfm_match.proofs.Common.{Pattern, Admits, Letter, MatchEvent, Post, Come, End, PostAt, IsLiveLetter, count_before, Pairing, Pairs, LawfulPairing, pairs_below, Matching, IsAscending, IsUncleared, is_cleared, Tracks, Contains-push, slice_get_within}
 use Rattle.ulfm_match.proofs.Cut.{cut, inside_to, inside_back}
 use Rattle.ulfm_match.proofs.EndSteps.{end_idle}
 use Rattle.ulfm_match.proofs.Extend.{letter_within}
 use Rattle.ulfm_match.proofs.Histories.{get_new, same_number, below_last, length_more, letter_less}
-use Rattle.ulfm_match.proofs.Least.{TakesLeast}
+use Rattle.ulfm_match.proofs.Least.{IsLeast, TakesLeast, least_out}
 use Rattle.ulfm_match.proofs.PostTakes.{post_takes}
 use Rattle.ulfm_match.proofs.Steps.{posted_here}
 use Rattle.ulfm_match.proofs.Unique.{one_pairing}
@@ -36,6 +36,13 @@ module _ (h : List MatchEvent) (r : Pairing) (s : Matching) (p : Pattern) (t : T
   -- no kept letter fits
   pub probe_misses : ((y : ℕ × Letter) → Contains s.kept y → Admits p y.1.envelope → ⊥) → KeepsNone h r p
   probe_misses none b l k = none (count_before h b, l) (t.remains.kept.complete b l k)
+
+-- the earliest kept letter that fits is the one that a probe takes
+pub would_take : (s : Matching) (p : Pattern) → is_cleared s p.context.number ≡ false → IsAscending s.kept → (z : ℕ × Letter) → IsLeast (λ (y : ℕ × Letter). Admits p y.1.envelope) s.kept z → (new : Matching) × TracksProbe p s (Some z.1) new
+would_take s p open' ascending z least =
+    let out = least_out (λ (y : ℕ × Letter). Admits p y.1.envelope) s.kept ascending z least in
+    let new : Matching = record { waiting = s.waiting; kept = out.0; count = s.count + 1; cleared = s.cleared; prepared = s.prepared } in
+    (new, λ h r t. probe_takes h r s p t ((t.remains.cleared p.context.number).0 open') out.0 z out.1 new refl refl refl refl)
 
 -- a lawful pairing once the receive is posted, in which it has this letter
 pub record IsPostedWith (h : List MatchEvent) (p : Pattern) (place : ℕ) : Type 0 where

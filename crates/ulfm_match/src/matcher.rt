@@ -1,9 +1,9 @@
 //! The receives that wait and the letters that are kept.
-ghost use Rattle.std.specs.Prelude.{◌≡◌, ◌≢◌, ◌+◌, ◌<◌, ◌^◌, ◌↔◌, ℕ, [], IsTrue, Contains, OnOk, OnErr, IfNone, IfOk, IfSome, MatchOption, false};
+ghost use Rattle.std.specs.Prelude.{◌≡◌, ◌≢◌, ◌+◌, ◌<◌, ◌^◌, ◌↔◌, ℕ, [], IsTrue, Contains, OnOk, OnErr, IfNone, IfOk, IfSome, MatchOption, false, Some};
 ghost use Rattle.ulfm_base.specs.Pattern.{Admits, names};
 ghost use Rattle.ulfm_match.specs.Arrived.{answered, HandsOn};
 ghost use Rattle.ulfm_match.specs.Calls.{TracksPost, TracksProbe, TracksArrival, TracksEnd, TracksClear, TracksNamed};
-ghost use Rattle.ulfm_match.specs.State.{is_cleared, unprepared, Tracks, Keeps};
+ghost use Rattle.ulfm_match.specs.State.{is_cleared, unprepared, Tracks, Keeps, Matching};
 
 use crate::arrived::Arrived;
 use crate::copying::copy_pool;
@@ -11,7 +11,9 @@ use crate::pool::Pool;
 use crate::removal::{clear_letters, clear_receives, end_receives};
 use crate::request::RequestId;
 use crate::settling::{add, prepare_letter, prepare_receive};
-use crate::taking::{end_numbered, has_letter, is_there, numbered, take_letter, take_receive};
+use crate::taking::{
+    earliest_letter, end_numbered, has_letter, is_there, numbered, take_letter, take_receive,
+};
 use std::alloc::Global;
 use std::marker::Model;
 use ulfm_base::{Context, Letter, OutOfMemory, Pattern, WorldRank};
@@ -258,6 +260,16 @@ impl Matcher {
         ensures { MatchOption result ((letter : Letter) → Contains self.now.kept (number, letter) → ⊥) (λ letter. Contains self.now.kept (number, letter.now)) }
     {
         numbered(&self.kept, number)
+    }
+
+    /// The earliest kept letter that the pattern admits, which `probe` would take (MPI 4.0, 3.8.1). It stays there.
+    ///
+    /// It is the caller's fault to name a context that was cleared; `is_cleared` says which those are.
+    pub fn earliest(&self, pattern: &Pattern) -> Option<&Letter>
+        requires open { is_cleared self.now pattern.now.context.number ≡ false }
+        ensures { MatchOption result ((entry : ℕ × Letter) → Contains self.now.kept entry → Admits pattern.now entry.1.envelope → ⊥) (λ letter. (new : Matching) × TracksProbe pattern.now self.now (Some letter.now) new) }
+    {
+        earliest_letter(&self.kept, pattern)
     }
 
     /// Whether a letter is kept that a receive with this pattern admits.

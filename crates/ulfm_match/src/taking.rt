@@ -3,7 +3,7 @@ ghost use Rattle.std.specs.Prelude.{◌≡◌, ◌≢◌, ◌↔◌, ℕ, None, 
 ghost use Rattle.ulfm_base.specs.Pattern.{Admits};
 ghost use Rattle.ulfm_match.specs.inside.Buckets.{IsIndexed, MayGet, MayGoTo, NoneIsWild, NonePass, TakesOut, GivesLetter, GivesReceive};
 ghost use Rattle.ulfm_match.specs.inside.Key.{IsKeyOf, IsKeyOfReceive};
-ghost use Rattle.ulfm_match.specs.inside.Pools.{all_of, HasPlace, IsPool, NoneOf, TakesLeast};
+ghost use Rattle.ulfm_match.specs.inside.Pools.{all_of, HasPlace, IsLeast, IsPool, NoneOf, TakesLeast};
 
 use crate::buckets::{Buckets, forget, forget_letter};
 use crate::key::key_of;
@@ -171,6 +171,23 @@ pub(crate) fn end_numbered(pool: &mut Pool<Pattern>, number: u64)
 {
     take_numbered(&mut pool.early, &mut pool.buckets, number);
     drop_numbered(&mut pool.late, number);
+}
+
+/// The earliest letter that the pattern admits. It stays there.
+pub(crate) fn earliest_letter<'a>(pool: &'a Pool<Letter>, pattern: &Pattern) -> Option<&'a Letter>
+    requires { (count : ℕ) × IsPool IsKeyOf count pool.now }
+    ensures { MatchOption result (NoneOf (λ (y : ℕ × Letter). MayGet pattern.now y.1) (all_of pool.now)) (λ letter. (n : ℕ) × IsLeast (λ (y : ℕ × Letter). MayGet pattern.now y.1) (all_of pool.now) (n, letter.now)) }
+{
+    match first_kept(&pool.buckets, &pool.early, pattern) {
+        Some(number) => {
+            let letter = pool.early.get(&number)?;
+            Some(letter)
+        }
+        None => match first_letter(&pool.late, pattern) {
+            Some(k) => Some(&pool.late[k].1),
+            None => None,
+        },
+    }
 }
 
 /// Whether a letter is there that the pattern admits.

@@ -33,6 +33,12 @@ pub record TakesFirst {X : Type 0} (P : X → Type 0) (old new : List X) (x : X)
   pub passes : P x
   pub first : NoneOf P front
 
+-- z is the one of the least number of which P holds
+pub record IsLeast {X : Type 0} (P : ℕ × X → Type 0) (xs : List (ℕ × X)) (z : ℕ × X) : Type 0 where
+  pub there : Contains xs z
+  pub passes : P z
+  pub least : (y : ℕ × X) → Contains xs y → P y → z.0 ≤ y.0
+
 -- z is taken out, the one of the least number of which P holds
 pub record TakesLeast {X : Type 0} (P : ℕ × X → Type 0) (old new : List (ℕ × X)) (z : ℕ × X) : Type 0 where
   pub there : Contains old z
