@@ -1,6 +1,6 @@
 -- Messages, which are letters that probes found: what a probe finds, and what the receive of a message answers (MPI 4.0,
 -- 3.8.2 and 3.8.3).
-use Rattle.std.specs.Prelude.{◌≡◌, ℕ, Bool, true, false, ⊤, List, [], ◌∷◌, ◌++◌, ◌⊎◌, length, Option, Some}
+use Rattle.std.specs.Prelude.{◌≡◌, ℕ, Bool, true, false, ⊤, List, [], ◌∷◌, ◌++◌, ◌⊎◌, length, Option, Some, None}
 use Rattle.ulfm_base.specs.declared.envelope.Letter.{Letter}
 use Rattle.ulfm_base.specs.declared.error.CallError.{CallError}
 use Rattle.ulfm_base.specs.declared.error.CallError.TheVariants.{ProcFailed, Truncated, NoRequest, Stopped, OutOfMemory}
@@ -80,6 +80,23 @@ IsLateRefusal rank comm source tag _ = ⊥
 -- why a probe is refused
 abbrev pub IsProbeRefusal : State → Comm → Option ℕ → Option Tag → CallError → Type 0
 IsProbeRefusal rank comm source tag e = Fails (receive_checks rank comm.context.number source) e ⊎ (Passes (receive_checks rank comm.context.number source) × IsLateRefusal rank comm source tag e)
+
+-- A look finds a letter: the one that a receive of this source and tag gets where it is posted now.
+pub record IsSeen (rank : State) (comm : Comm) (source : Option ℕ) (tag : Option Tag) (status : Status) : Type 0 where
+  pub pattern : Pattern
+  pub receive : IsReceive rank comm source tag 1024 pattern
+  pub letter : Letter
+  pub gets : WouldGet rank.log pattern letter
+  pub told : TellsOf (group_at rank comm.context.number) letter status
+
+-- what a look answers
+abbrev pub IsLookAnswer : State → Comm → Option ℕ → Option Tag → Option Status → Type 0
+IsLookAnswer rank comm source tag (Some status) = IsSeen rank comm source tag status
+IsLookAnswer rank comm source tag None = FindsNone rank comm source tag false
+
+-- why a look is refused
+abbrev pub IsLookRefusal : State → Comm → Option ℕ → Option Tag → CallError → Type 0
+IsLookRefusal rank comm source tag e = Fails (receive_checks rank comm.context.number source) e ⊎ (Passes (receive_checks rank comm.context.number source) × (e ≡ ProcFailed) × FindsNone rank comm source tag true)
 
 -- the receive at place i has this pattern and number, is that of a message, and the message isn't released
 pub record IsMessage (log : List Entry) (id i : ℕ) (pattern : Pattern) : Type 0 where

@@ -4,6 +4,7 @@ mod agreeing;
 mod cancelling;
 mod copying;
 mod deciding;
+mod looking;
 mod outgoing;
 mod probing;
 mod receiving;

@@ -71,6 +71,20 @@ impl Rank {
         Ok(total)
     }
 
+    /// Whether a communicator is known to be revoked (ULFM, `MPI_Comm_is_revoked`). It never answers out of memory.
+    ///
+    /// # Errors
+    ///
+    /// `Stopped` where the rank has stopped, else `NoComm` where the communicator wasn't made.
+    pub fn is_revoked(&self, comm: Comm) -> Result<bool, CallError>
+        ensures accepted { OnOk result (Passes (comm_checks self.now.state comm.context.number [])) }
+        ensures revoked { IfOk result (λ revoked. revoked ≡ is_revoked self.now.state.log comm.context.number) }
+        ensures refused { IfErr result (Fails (comm_checks self.now.state comm.context.number [])) }
+    {
+        let _ = self.running_group(comm)?;
+        Ok(self.faults.is_revoked(comm.context))
+    }
+
     /// Revokes a communicator and leaves the notice for each other rank that isn't known to have failed (ULFM,
     /// `MPI_Comm_revoke`). Where it is revoked already nothing changes.
     ///
