@@ -46,3 +46,4 @@ pub mod Stays
 pub mod Quiet
 pub mod Crossing
 pub mod Sifted
+pub mod Joining

@@ -13,4 +13,5 @@ pub mod State
 pub mod Paired
 pub mod Fates
 pub mod Standing
+pub mod Joined
 pub mod inside

@@ -30,7 +30,8 @@ pub use Rattle.std.proofs.lemmas.List.Elements.{All-get_or, All-nil, All-push}
 pub use Rattle.ulfm_base.specs.Items.{ComesFrom, items_from}
 pub use Rattle.ulfm_laws.specs.Flow.{Flows, inbox_of}
 pub use Rattle.ulfm_laws.specs.Decisions.{AdoptsTruly, AreTrue, EnteredWith, StoppedAt}
-pub use Rattle.ulfm_run.specs.inside.Joined.{IsAtWork, IsJoined, Moves, Polls, SkipsOn}
+pub use Rattle.ulfm_rank.specs.Joined.{IsJoined}
+pub use Rattle.ulfm_run.specs.inside.Joined.{IsAtWork, Moves, Polls, SkipsOn}
 pub use Rattle.ulfm_script.proofs.Honestly.{honest-answers, honest-left, honest-moved, honest-start}
 pub use Rattle.std.specs.Vec.Iter.{into_iter_items, into_iter_len}
 pub use Rattle.ulfm_job.specs.declared.step.Step.{Step}

@@ -3,10 +3,11 @@ use Rattle.std.proofs.Common.{◌≡◌, ℕ, ◌+◌, ◌-◌, ◌<◌, true, f
 use Rattle.ulfm_script.specs.declared.answer.StepReport.{StepReport}
 use Rattle.ulfm_script.specs.Script.{reported_step, through_stop, IsPatient, HasFinished}
 use Rattle.ulfm_rank.specs.inside.Quiet.{Quiet}
+use Rattle.ulfm_rank.proofs.Joining.{joined-quiet}
 use Rattle.ulfm_rank.proofs.Quiet.{quiet-same}
 use Rattle.ulfm_script.specs.Reacting.{SkipsRightly}
 use Rattle.ulfm_script.proofs.Reacting.{finished-running, finished-stopped, goes-rank}
-use Rattle.ulfm_run.proofs.Common.{GoesThrough, is_stopped, IsPlayed, IsSigned, Item, Known, Player, polls_left, Report, State, PlayerView, with_rank, false≢true, IsJoined, Moves, Polls, SkipsOn, IsAtWork, honest-moved, Step, JobView, script_at, AnswersFollowSoFar}
+use Rattle.ulfm_run.proofs.Common.{GoesThrough, is_stopped, IsPlayed, Item, Known, Player, polls_left, Report, State, PlayerView, with_rank, false≢true, IsJoined, Moves, Polls, SkipsOn, IsAtWork, honest-moved, Step, JobView, script_at, AnswersFollowSoFar}
 use Rattle.ulfm_run.specs.inside.Turns.{IsOver, WentOn, IsAsFar, Keeps, Carries, keeps-then}
 
 -- a player that stopped, or has no step left, answered its script
@@ -57,16 +58,7 @@ honest-went known v w e f m h = honest-moved known v.player w.player h m.only m.
 at-work-quiet : {E : Type 0} {place count : E → ℕ} {pushed taken : E → ℕ → List Item} {ready : E → Type 0} {job : JobView} {me : ℕ} {v w : PlayerView} {e : E} → IsAtWork place count pushed taken ready job me v e → Quiet v.player.rank w.player.rank → GoesThrough job me w.player → w.room + length w.player.done ≡ v.room + length v.player.done → IsAtWork place count pushed taken ready job me w e
 at-work-quiet {w} h q follows room =
     record {
-      joined = record {
-        is_ready = h.joined.is_ready;
-        placed = h.joined.placed ∙ sym q.calm.me;
-        counted = h.joined.counted ∙ sym q.calm.ranks;
-        sound = q.calm.sound;
-        signed = subst (λ (m : ℕ). All (IsSigned m) w.player.rank.log) (sym q.calm.me) (q.calm.signed h.joined.signed);
-        sent = λ d k. h.joined.sent d (omega (arith, k, q.calm.ranks)) ∙ sym (q.calm.out d (omega (arith, k, q.calm.ranks)));
-        took = λ s. h.joined.took s ∙ sym (q.took s);
-        within = λ s k. q.took s ∙ h.joined.within s (omega (arith, k, q.calm.ranks));
-      };
+      joined = joined-quiet w.player.rank h.joined q;
       named = q.calm.me ∙ h.named;
       counted = q.calm.ranks ∙ h.counted;
       follows = follows;

@@ -1,25 +1,13 @@
 -- A rank and its end of a carrier, which go together.
-use Rattle.std.specs.Prelude.{◌≡◌, ℕ, List, [], ◌<◌, ◌≤◌, ◌+◌, length, All}
+use Rattle.std.specs.Prelude.{◌≡◌, ℕ, List, ◌<◌, ◌≤◌, ◌+◌, length}
 use Rattle.ulfm_base.specs.declared.item.Item.{Item}
-use Rattle.ulfm_rank.specs.Facts.{took, is_stopped, IsSigned}
-use Rattle.ulfm_rank.specs.State.{State, IsState, went_out}
+use Rattle.ulfm_rank.specs.Facts.{is_stopped}
+use Rattle.ulfm_rank.specs.Joined.{IsJoined}
 use Rattle.ulfm_job.specs.Job.{JobView, script_at}
 use Rattle.ulfm_script.specs.Player.{PlayerView, with_rank}
 use Rattle.ulfm_script.specs.inside.Underway.{GoesThrough, polls_left}
 use Rattle.ulfm_script.specs.inside.SoFar.{OnlyTakes}
 use Rattle.ulfm_rank.specs.inside.Quiet.{Quiet}
-
--- What left the outboxes of the rank is what its end pushed, and what its log took of each rank is what its end took, and of
--- no other number it took anything.
-pub record IsJoined {E : Type 0} (place count : E → ℕ) (pushed taken : E → ℕ → List Item) (ready : E → Type 0) (r : State) (end : E) : Type 0 where
-  pub is_ready : ready end
-  pub placed : place end ≡ r.me
-  pub counted : count end ≡ r.ranks
-  pub sound : IsState r
-  pub signed : All (IsSigned r.me) r.log
-  pub sent : (d : ℕ) → d < r.ranks → pushed end d ≡ went_out r d
-  pub within : (s : ℕ) → r.ranks ≤ s → took r.log s ≡ []
-  pub took : (s : ℕ) → taken end s ≡ took r.log s
 
 -- Items went from a player to its end, or from the end to the player.
 pub record Moves {E N : Type 0} (name : E → N) (place count : E → ℕ) (pushed taken : E → ℕ → List Item) (ready : E → Type 0) (old : PlayerView) (before : E) (new : PlayerView) (after : E) : Type 0 where

@@ -5,7 +5,7 @@ use Rattle.ulfm_job.specs.Job.{JobView, script_at}
 use Rattle.ulfm_script.specs.Report.{Report}
 use Rattle.ulfm_script.specs.Reacting.{SkipsRightly}
 use Rattle.ulfm_script.specs.Script.{reported_step, through_stop, IsPatient}
-use Rattle.ulfm_run.specs.inside.Joined.{IsJoined}
+use Rattle.ulfm_rank.specs.Joined.{IsJoined}
 
 -- A rank's script was played, up to and with the first stop that it played, or the whole of it; its steps were skipped exactly where none of
 -- their conditions held. It is the same end that comes back: what left the outboxes of the rank is what it pushed, and what the log took is what it took.
