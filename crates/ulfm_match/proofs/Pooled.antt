@@ -10,7 +10,7 @@ use Rattle.ulfm_match.proofs.Ascending.{ascending_both, ascending_filter, ascend
 use Rattle.ulfm_match.proofs.Decide.{Contains-none, Contains-head, Contains-tail}
 use Rattle.ulfm_match.proofs.EndSteps.{other_context, passes_context}
 use Rattle.ulfm_match.proofs.First.{first_is_least, taken_at}
-use Rattle.ulfm_match.proofs.Indexed.{copied_indexed, grown_indexed, less_indexed, more_indexed, out_indexed, out_less, same_indexed}
+use Rattle.ulfm_match.proofs.Indexed.{copied_indexed, grown_indexed, less_indexed, more_indexed, out_indexed, out_less}
 use Rattle.ulfm_match.proofs.Listed.{filter_less, listed_ascending, listed_filter, listed_push, listed_takes, out_back, out_to, unlisted, listed}
 use Rattle.ulfm_match.proofs.Members.{all_of as each_of, Contains-filter, filter-Contains}
 
