@@ -22,7 +22,7 @@ use Rattle.ulfm_program.specs.inside.Looking.{IsFirstRow, IsLook, look_in, look_
 
 -- the reply to what came of a search
 pub show_as : (form : Form) (options : ListOptions) (show bytes : List ℕ) (job : JobView) (answers : List Clause) (goals : Goals) (look : Option Kept) → job_of_bytes bytes ≡ Ok (plan_of job) → goals_of_bytes bytes show ≡ Ok answers → AreOfClauses answers goals
-    → IsLook job goals options.limit look → IsShowReply form options show bytes (look_status (option_map told_view look)) (look_in form (option_map told_view look))
+    → IsLook job goals options.is_brief options.limit look → IsShowReply form options show bytes (look_status (option_map told_view look)) (look_in form (option_map told_view look))
 show_as form options show bytes job answers goals None read named are never = nowhere job answers read named goals are never
 show_as form options show bytes job answers goals (Some (kept.Schedule text)) read named are told = shown job answers read named goals are _ told
 show_as form options show bytes job answers goals (Some (kept.Many limit)) read named are told =
@@ -40,11 +40,11 @@ none_more job rows n row inside here before one =
     subst (λ (all : List (List Clause)). NoneComes job all) (sym (take_more rows n row inside ∙ ap (λ (x : List Clause). take n rows ++ x ∷ []) last)) (All-push (NeverComes job) (take n rows) row before one)
 
 -- a list with what came of the search for a row
-pub row_as : (form : Form) (options : ListOptions) (job : JobView) (rows : List (List Clause)) (found : List (List ℕ)) (list : List ℕ) (first : FirstRow) → IsFirstRow job rows options.limit (Some first)
+pub row_as : (form : Form) (options : ListOptions) (job : JobView) (rows : List (List Clause)) (found : List (List ℕ)) (list : List ℕ) (first : FirstRow) → IsFirstRow job rows options.is_brief options.limit (Some first)
     → IsJudged form options job rows found list (row_status (told_view first.told)) (list ++ row_in form first.number (told_view first.told))
 row_as form options job rows found list first is = by first.told is.2.2
   where
-    by : (told : Kept) → IsLook job is.2.0 options.limit (Some told) → IsJudged form options job rows found list (row_status (told_view told)) (list ++ row_in form first.number (told_view told))
+    by : (told : Kept) → IsLook job is.2.0 options.is_brief options.limit (Some told) → IsJudged form options job rows found list (row_status (told_view told)) (list ++ row_in form first.number (told_view told))
     by (kept.Schedule text) shows = together first.number is.0 is.2.0 _ is.1 is.2.1 shows
     by (kept.Many limit) shows =
         subst (λ (n : ℕ). IsJudged form options job rows found list 7 (list ++ row_in form first.number (many n))) (sym shows.0) (unsearched first.number is.0 is.2.0 is.1 is.2.1 (sym shows.0 ∙ shows.0, shows.1))

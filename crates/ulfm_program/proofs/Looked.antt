@@ -18,6 +18,7 @@ use Rattle.ulfm_outcomes.specs.Goals.{IsPossible, StandsOpen, is_answered, is_so
 use Rattle.ulfm_outcomes.specs.Outcomes.{IsWholeList}
 use Rattle.ulfm_outcomes.specs.declared.goals.Goals.{Goals}
 use Rattle.ulfm_outcomes.specs.declared.open_step.OpenStep.{OpenStep}
+use Rattle.ulfm_outcomes.proofs.Schedules.{some_there}
 use Rattle.ulfm_outcomes.proofs.Unlike.{any_here, any_on}
 use Rattle.ulfm_program.specs.inside.Looking.{has_each, tells, tells_open}
 
@@ -47,11 +48,6 @@ inside w c is = elim (cases_lt c.rank (length w.players)) [
 all_at : {X : Type 0} (p : X → Bool) (xs : List X) → ((x : X) → Contains xs x → p x ≡ true) → list_all p xs ≡ true
 all_at p [] each = refl
 all_at p (x ∷ xs) each = and_from (p x) (list_all p xs) (each x (0, omega arith, refl)) (all_at p xs (λ y there. each y (suc there.0, (let low = there.1 in omega (arith, low)), there.2)))
-
--- a list with an item isn't empty
-some_there : (os : List OpenStep) (o : OpenStep) → Contains os o → is_some_open os ≡ true
-some_there [] o there = let low = there.1 in absurd (omega (arith, low))
-some_there (x ∷ os) o there = refl
 
 module _ (j : JobView) (key : World → List ℕ) (limit : ℕ) (keys found : List (List ℕ)) (whole : IsWholeList key j limit keys found) (w : World) (comes : ComesTo j w) where
   here : (p : List ℕ → Bool) (row : List ℕ) → Contains found row → p row ≡ true → list_any p found ≡ true

@@ -93,7 +93,7 @@ show_known : (form : Form) (options : ListOptions) (show bytes : List ℕ) (stat
 show_known form options show bytes status text (shown job answers is named goals are words told) = good_job
 show_known form options show bytes status text (nowhere job answers is named goals are not) = record { few = omega arith; whole = ((λ e. omega (arith, e)), (λ e. omega (arith, e))) }
 show_known form options show bytes status text (too_many job answers is named goals are told) = past
-show_known form options show bytes status text (unnamed job part is named) = record { few = omega arith; whole = ((λ e. omega (arith, e)), (λ e. omega (arith, e))) }
+show_known form options show bytes status text (unnamed job part is named) = no_job
 show_known form options show bytes status text (not_shown f is) = no_job
 show_known form options show bytes status text no_memory_to_show = no_job
 show_known form options show bytes status text (unshown told) = run_fails
@@ -106,7 +106,7 @@ known_status form show Sweep bytes status text h = sweep_known form bytes status
 known_status form None (Outcomes options) bytes status text h = list_known form options bytes status text h
 known_status form (Some goals) (Outcomes options) bytes status text h = show_known form options goals bytes status text h
 
--- where no answers are asked for, no status is 2
+-- no status is 2
 not_usage : (is_strict is_met is_unfinished : Bool) → played_status is_strict is_met is_unfinished ≢ 2
 not_usage is_strict false is_unfinished = λ e. omega (arith, e)
 not_usage true true true = λ e. omega (arith, e)
@@ -124,29 +124,36 @@ judged_not_usage form options job rows found list status text (unmet u goals tol
 judged_not_usage form options job rows found list status text (together number row goals words here are shows) = λ e. omega (arith, e)
 judged_not_usage form options job rows found list status text (unsearched number row goals here are shows) = λ e. omega (arith, e)
 
-pub no_usage : (form : Form) (wanted : Wanted) (bytes : List ℕ) (status : ℕ) (text : List ℕ) → IsReplyTo form None wanted bytes status text → status ≢ 2
-no_usage form Check bytes status text (good_checked job is) = λ e. omega (arith, e)
-no_usage form Check bytes status text (refused f is) = λ e. omega (arith, e)
-no_usage form Check bytes status text no_memory = λ e. omega (arith, e)
-no_usage form Check bytes status text (starved told) = λ e. omega (arith, e)
-no_usage form (Replay is_strict turns) bytes status text (traced job reports is played_so lawful rest) = not_usage is_strict (as_asked (never_of_bytes bytes) (given_turns turns job) reports) (has_unfinished reports)
-no_usage form (Replay is_strict turns) bytes status text (not_a_job f is) = λ e. omega (arith, e)
-no_usage form (Replay is_strict turns) bytes status text no_room = λ e. omega (arith, e)
-no_usage form (Replay is_strict turns) bytes status text (failed told) = λ e. omega (arith, e)
-no_usage form (Run options) bytes status text (ran job reports once is lawful) = not_usage options.is_strict (as_asked (never_of_bytes bytes) (given_turns options.turns job) reports) (has_unfinished reports)
-no_usage form (Run options) bytes status text (repeated job runs times is lawful) = not_usage options.is_strict (list_all (as_asked (never_of_bytes bytes) (given_turns options.turns job)) runs) (list_any has_unfinished runs)
-no_usage form (Run options) bytes status text (no_such_job f is) = λ e. omega (arith, e)
-no_usage form (Run options) bytes status text no_place = λ e. omega (arith, e)
-no_usage form (Run options) bytes status text (no_thread job is) = λ e. omega (arith, e)
-no_usage form (Run options) bytes status text (untrue job reports is shows) = λ e. omega (arith, e)
-no_usage form (Run options) bytes status text (fell told) = λ e. omega (arith, e)
-no_usage form Sweep bytes status text (swept job lines is few places each) = λ e. omega (arith, e)
-no_usage form Sweep bytes status text (unread f is) = λ e. omega (arith, e)
-no_usage form Sweep bytes status text (full job is many) = λ e. omega (arith, e)
-no_usage form Sweep bytes status text unmade = λ e. omega (arith, e)
-no_usage form Sweep bytes status text (unswept told) = λ e. omega (arith, e)
-no_usage form (Outcomes options) bytes status text (listed job reached k words is all judged) = judged_not_usage form options job _ _ _ status text judged
-no_usage form (Outcomes options) bytes status text (past_limit job is many) = λ e. omega (arith, e)
-no_usage form (Outcomes options) bytes status text (not_listed f is) = λ e. omega (arith, e)
-no_usage form (Outcomes options) bytes status text no_memory_to_read = λ e. omega (arith, e)
-no_usage form (Outcomes options) bytes status text (unlisted told) = λ e. omega (arith, e)
+pub no_usage : (form : Form) (show : Option (List ℕ)) (wanted : Wanted) (bytes : List ℕ) (status : ℕ) (text : List ℕ) → IsReplyTo form show wanted bytes status text → status ≢ 2
+no_usage form show Check bytes status text (good_checked job is) = λ e. omega (arith, e)
+no_usage form show Check bytes status text (refused f is) = λ e. omega (arith, e)
+no_usage form show Check bytes status text no_memory = λ e. omega (arith, e)
+no_usage form show Check bytes status text (starved told) = λ e. omega (arith, e)
+no_usage form show (Replay is_strict turns) bytes status text (traced job reports is played_so lawful rest) = not_usage is_strict (as_asked (never_of_bytes bytes) (given_turns turns job) reports) (has_unfinished reports)
+no_usage form show (Replay is_strict turns) bytes status text (not_a_job f is) = λ e. omega (arith, e)
+no_usage form show (Replay is_strict turns) bytes status text no_room = λ e. omega (arith, e)
+no_usage form show (Replay is_strict turns) bytes status text (failed told) = λ e. omega (arith, e)
+no_usage form show (Run options) bytes status text (ran job reports once is lawful) = not_usage options.is_strict (as_asked (never_of_bytes bytes) (given_turns options.turns job) reports) (has_unfinished reports)
+no_usage form show (Run options) bytes status text (repeated job runs times is lawful) = not_usage options.is_strict (list_all (as_asked (never_of_bytes bytes) (given_turns options.turns job)) runs) (list_any has_unfinished runs)
+no_usage form show (Run options) bytes status text (no_such_job f is) = λ e. omega (arith, e)
+no_usage form show (Run options) bytes status text no_place = λ e. omega (arith, e)
+no_usage form show (Run options) bytes status text (no_thread job is) = λ e. omega (arith, e)
+no_usage form show (Run options) bytes status text (untrue job reports is shows) = λ e. omega (arith, e)
+no_usage form show (Run options) bytes status text (fell told) = λ e. omega (arith, e)
+no_usage form show Sweep bytes status text (swept job lines is few places each) = λ e. omega (arith, e)
+no_usage form show Sweep bytes status text (unread f is) = λ e. omega (arith, e)
+no_usage form show Sweep bytes status text (full job is many) = λ e. omega (arith, e)
+no_usage form show Sweep bytes status text unmade = λ e. omega (arith, e)
+no_usage form show Sweep bytes status text (unswept told) = λ e. omega (arith, e)
+no_usage form None (Outcomes options) bytes status text (listed job reached k words is all judged) = judged_not_usage form options job _ _ _ status text judged
+no_usage form None (Outcomes options) bytes status text (past_limit job is many) = λ e. omega (arith, e)
+no_usage form None (Outcomes options) bytes status text (not_listed f is) = λ e. omega (arith, e)
+no_usage form None (Outcomes options) bytes status text no_memory_to_read = λ e. omega (arith, e)
+no_usage form None (Outcomes options) bytes status text (unlisted told) = λ e. omega (arith, e)
+no_usage form (Some wished) (Outcomes options) bytes status text (shown job answers is named goals are words told) = λ e. omega (arith, e)
+no_usage form (Some wished) (Outcomes options) bytes status text (nowhere job answers is named goals are not) = λ e. omega (arith, e)
+no_usage form (Some wished) (Outcomes options) bytes status text (too_many job answers is named goals are told) = λ e. omega (arith, e)
+no_usage form (Some wished) (Outcomes options) bytes status text (unnamed job part is named) = λ e. omega (arith, e)
+no_usage form (Some wished) (Outcomes options) bytes status text (not_shown f is) = λ e. omega (arith, e)
+no_usage form (Some wished) (Outcomes options) bytes status text no_memory_to_show = λ e. omega (arith, e)
+no_usage form (Some wished) (Outcomes options) bytes status text (unshown told) = λ e. omega (arith, e)

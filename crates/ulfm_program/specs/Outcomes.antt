@@ -1,5 +1,5 @@
 -- What `outcomes` writes for a job.
-use Rattle.std.specs.Prelude.{◌≡◌, ℕ, Bool, List, ◌++◌, Option, Some, None, Ok, Err, All as Each, codes, slice_get, if◌then◌else◌}
+use Rattle.std.specs.Prelude.{◌≡◌, ℕ, Bool, true, List, ◌++◌, Option, Some, None, Ok, Err, All as Each, codes, slice_get, if◌then◌else◌}
 use Rattle.std.specs.Fmt.{decimal}
 use Rattle.std.specs.Str.Lines.{lines}
 use Rattle.ulfm_job.specs.declared.clause.Clause.{Clause}
@@ -16,7 +16,7 @@ use Rattle.ulfm_reach.specs.declared.sought.Sought.TheVariants as sought
 use Rattle.ulfm_outcomes.specs.Goals.{AreOfClauses, IsPossible, IsSchedule}
 use Rattle.ulfm_outcomes.specs.Outcomes.{IsList}
 use Rattle.ulfm_outcomes.specs.Schedule.{IsScheduleText}
-use Rattle.ulfm_outcomes.specs.Showing.{IsShowing}
+use Rattle.ulfm_outcomes.specs.Showing.{IsBriefSchedule, IsShowing}
 use Rattle.ulfm_outcomes.specs.Text.{some_never_ends}
 use Rattle.ulfm_outcomes.specs.Unmet.{IsUnmet, MeetsExpected}
 use Rattle.ulfm_outcomes.specs.declared.goals.Goals.{Goals}
@@ -73,13 +73,14 @@ unmet_in Json unmet told = unmet_json unmet ++ told_json told ++ codes "}\n"
 
 -- a row of `never` by its number, from 0, and what was told of it
 abbrev pub row_in : Form → ℕ → Told → List ℕ
-row_in Words number told = codes "row " ++ decimal number ++ codes " of never:\n" ++ told_words told
+row_in Words number told = codes "come together: never[" ++ decimal number ++ codes "]\n" ++ told_words told
 row_in Json number told = codes "{\"never\":" ++ decimal number ++ codes "," ++ told_json told ++ codes "}\n"
 
--- a schedule of the job shows these goals, and this is its text; or there are more states than the limit
-abbrev pub IsTold : JobView → Goals → ℕ → Told → Type 0
-IsTold job goals limit (schedule text) = (numbers : List ℕ) × (world : World) × IsSchedule job goals numbers world × IsScheduleText job goals numbers world text
-IsTold job goals limit (many most) = (most ≡ limit) × IsShowing job goals limit sought.More
+-- a schedule of the job shows these goals, in brief if it is to be, and this is its text; or there are more states than the limit
+abbrev pub IsTold : JobView → Goals → Bool → ℕ → Told → Type 0
+IsTold job goals is_brief limit (schedule text) = (numbers : List ℕ) × (world : World) × IsSchedule job goals numbers world
+    × (is_brief ≡ true → IsBriefSchedule job goals numbers) × IsScheduleText job goals numbers world text
+IsTold job goals is_brief limit (many most) = (most ≡ limit) × IsShowing job goals is_brief limit sought.More
 
 -- no schedule of the job has all answers of the row
 abbrev pub NeverComes : JobView → List Clause → Type 0
@@ -98,11 +99,11 @@ list_status is_strict is_open = if is_strict then (if is_open then 6 else 0) els
 -- cases that more states than the limit would be looked at for it. With 7 the first row that can't be looked for within the limit.
 pub data IsJudged (form : Form) (options : ListOptions) (job : JobView) (rows : List (List Clause)) (found : List (List ℕ)) (list : List ℕ) : ℕ → List ℕ → Type 0 where
   good : MeetsExpected job → NoneComes job rows → IsJudged form options job rows found list (list_status options.is_strict (some_never_ends found)) list
-  unmet : (unmet : Unmet) (goals : Goals) (told : Told) → IsUnmet job unmet goals → IsTold job goals options.limit told
+  unmet : (unmet : Unmet) (goals : Goals) (told : Told) → IsUnmet job unmet goals → IsTold job goals options.is_brief options.limit told
       → IsJudged form options job rows found list 9 (list ++ unmet_in form unmet told)
-  together : (number : ℕ) (row : List Clause) (goals : Goals) (text : List ℕ) → slice_get rows number ≡ Some row → AreOfClauses row goals → IsTold job goals options.limit (schedule text)
+  together : (number : ℕ) (row : List Clause) (goals : Goals) (text : List ℕ) → slice_get rows number ≡ Some row → AreOfClauses row goals → IsTold job goals options.is_brief options.limit (schedule text)
       → IsJudged form options job rows found list 9 (list ++ row_in form number (schedule text))
-  unsearched : (number : ℕ) (row : List Clause) (goals : Goals) → slice_get rows number ≡ Some row → AreOfClauses row goals → IsTold job goals options.limit (many options.limit)
+  unsearched : (number : ℕ) (row : List Clause) (goals : Goals) → slice_get rows number ≡ Some row → AreOfClauses row goals → IsTold job goals options.is_brief options.limit (many options.limit)
       → IsJudged form options job rows found list 7 (list ++ row_in form number (many options.limit))
 
 -- The status and the text, in this form, that `outcomes` gives for these bytes: the list of all that the steps of their job may be
@@ -122,15 +123,15 @@ abbrev pub no_goal : List ℕ → List ℕ
 no_goal text = codes "goal refused: " ++ text ++ codes "\n"
 
 -- The same by `--show`: with 0 a schedule of the job with all answers that the text names, with 8 that no schedule has them, with 7 that
--- there are more states than the limit; with 2 the first part of the text that names no answer of the job.
+-- there are more states than the limit; with 1 the first part of the text that names no answer of the job, or the line of the job's refusal.
 pub data IsShowReply (form : Form) (options : ListOptions) (show bytes : List ℕ) : ℕ → List ℕ → Type 0 where
   shown : (job : JobView) (answers : List Clause) → job_of_bytes bytes ≡ Ok (plan_of job) → goals_of_bytes bytes show ≡ Ok answers → (goals : Goals) → AreOfClauses answers goals
-      → (text : List ℕ) → IsTold job goals options.limit (schedule text) → IsShowReply form options show bytes 0 (told_in form (schedule text))
+      → (text : List ℕ) → IsTold job goals options.is_brief options.limit (schedule text) → IsShowReply form options show bytes 0 (told_in form (schedule text))
   nowhere : (job : JobView) (answers : List Clause) → job_of_bytes bytes ≡ Ok (plan_of job) → goals_of_bytes bytes show ≡ Ok answers → (goals : Goals) → AreOfClauses answers goals
       → ¬ IsPossible job goals → IsShowReply form options show bytes 8 (nowhere_in form)
   too_many : (job : JobView) (answers : List Clause) → job_of_bytes bytes ≡ Ok (plan_of job) → goals_of_bytes bytes show ≡ Ok answers → (goals : Goals) → AreOfClauses answers goals
-      → IsTold job goals options.limit (many options.limit) → IsShowReply form options show bytes 7 (told_in form (many options.limit))
-  unnamed : (job : JobView) (text : List ℕ) → job_of_bytes bytes ≡ Ok (plan_of job) → goals_of_bytes bytes show ≡ Err text → IsShowReply form options show bytes 2 (no_goal text)
+      → IsTold job goals options.is_brief options.limit (many options.limit) → IsShowReply form options show bytes 7 (told_in form (many options.limit))
+  unnamed : (job : JobView) (text : List ℕ) → job_of_bytes bytes ≡ Ok (plan_of job) → goals_of_bytes bytes show ≡ Err text → IsShowReply form options show bytes 1 (no_goal text)
   not_shown : (f : JobFault) → job_of_bytes bytes ≡ Err f → IsShowReply form options show bytes 1 (refused_in form f)
   no_memory_to_show : IsShowReply form options show bytes 1 (refused_in form OutOfMemory)
   unshown : (told : Form) → IsShowReply form options show bytes 3 (out_of_memory_in told)

@@ -9,15 +9,17 @@ ghost use Rattle.ulfm_replies.specs.Failure.{out_of_memory_in, out_of_memory_tex
 
 use crate::progress::Progress;
 use crate::reply::reply_to;
+use crate::shown::NO_GOAL;
 use std::alloc::Global;
 use std::convert::AsStr;
 use std::io::{Read, Write};
 use std::sync::Wait;
 use std::thread::Threads;
+use std::time::Clock;
 use ulfm_findings::{InputFault, read_front, write_whole};
 use ulfm_json::Form;
 use ulfm_replies::{
-    Asked, DONE, Failure, INPUT_FAILED, NO_SCHEDULE, OUTPUT_FAILED, RUN_FAILED, USAGE, Unfollowed,
+    Asked, DONE, Failure, INPUT_FAILED, JOB_REFUSED, NO_SCHEDULE, OUTPUT_FAILED, RUN_FAILED, USAGE, Unfollowed,
     asked_for, failed_line, write_fault, write_notes,
 };
 
@@ -26,8 +28,7 @@ const NOT_TEXT: &str = "a word of the command line isn't UTF-8\n";
 
 /// Follows the words: looks at them first, then reads the input whole, then its job, then runs it, and writes the whole
 /// reply. Standard error gets how far a list of outcomes is, where that is asked for, and then what a person wants to know beside
-/// the reply. Answers the status (docs/JOBS.md). With 2 the words were looked at alone, but where they ask for answers that the job
-/// hasn't.
+/// the reply. Answers the status (docs/JOBS.md). With 2 the words were looked at alone.
 pub fn run_on<T, S, R, W, E>(
     rt: &T,
     alloc: Global,
@@ -37,7 +38,7 @@ pub fn run_on<T, S, R, W, E>(
     errors: &mut E,
 ) -> u8
 where
-    T: Threads + Wait + Sync,
+    T: Threads + Wait + Clock + Sync,
     S: AsStr,
     R: Read,
     W: Write,
@@ -48,7 +49,7 @@ where
         GetsBeginning (IsReplyTo (form_asked (map S.text words.now)) (show_asked (map S.text words.now)) wanted (take 1048577 bytes)) (W.contents output.old) (W.contents output.new)) }
     ensures output_failed { result ≡ 4 → GetsFront (W.contents output.old) (W.contents output.new) }
     ensures input_failed { result ≡ 5 → Keeps (W.contents output.old) (W.contents output.new) }
-    ensures words_first { result ≡ 2 → show_asked (map S.text words.now) ≡ None → R.remaining input.new ≡ R.remaining input.old }
+    ensures words_first { result ≡ 2 → R.remaining input.new ≡ R.remaining input.old }
     ensures not_followed { faults (map S.text words.now) ≢ [] → (R.remaining input.new ≡ R.remaining input.old) × IsWordsStatus (faults (map S.text words.now)) result }
     ensures known { result ≤ 9 }
 {
@@ -93,7 +94,7 @@ fn follow<T, R, W, E>(
     errors: &mut E,
 ) -> u8
 where
-    T: Threads + Wait + Sync,
+    T: Threads + Wait + Clock + Sync,
     R: Read,
     W: Write,
     E: Write,
@@ -104,7 +105,7 @@ where
         GetsBeginning (IsReplyTo asked.now.form (option_map (λ s. s.now) asked.now.show) asked.now.wanted (take 1048577 bytes)) (W.contents output.old) (W.contents output.new)) }
     ensures output_failed { result ≡ 4 → GetsFront (W.contents output.old) (W.contents output.new) }
     ensures input_failed { result ≡ 5 → Keeps (W.contents output.old) (W.contents output.new) }
-    ensures usage { result ≡ 2 → option_map (λ s. s.now) asked.now.show ≢ None }
+    ensures no_usage { result ≢ 2 }
     ensures known { result ≤ 9 }
 {
     let form = asked.form;
@@ -114,14 +115,16 @@ where
         Err(InputFault::Failed) => return INPUT_FAILED,
         Err(InputFault::OutOfMemory) => return write_starved(output, form),
     };
-    let mut progress = Progress::new(alloc, &mut *errors, wanted);
+    let mut progress = Progress::new(rt, alloc, &mut *errors, wanted);
     let told = reply_to(rt, alloc, asked, bytes.as_slice(), &mut progress);
     progress.end();
     match told {
         Ok(reply) => {
             let status = write_reply(output, reply.status, reply.text.as_bytes());
             match reply.status {
-                USAGE => write_fault(alloc, reply.text.as_str(), errors),
+                JOB_REFUSED if reply.text.as_str().starts_with(NO_GOAL) => {
+                    write_fault(alloc, reply.text.as_str(), errors)
+                }
                 // A schedule that was asked for speaks for itself.
                 DONE | NO_SCHEDULE if asked.show.is_some() => {}
                 _ => write_notes(alloc, form, wanted, bytes.as_slice(), &reply, errors),

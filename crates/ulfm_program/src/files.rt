@@ -14,6 +14,7 @@ use std::io::{Read, Write};
 use std::rt::Files;
 use std::sync::Wait;
 use std::thread::Threads;
+use std::time::Clock;
 use ulfm_findings::write_whole;
 use ulfm_replies::{DONE, INPUT_FAILED, OUTPUT_FAILED, asked_for};
 
@@ -29,7 +30,7 @@ pub fn run_each<T, S, R, W, E>(
     errors: &mut E,
 ) -> u8
 where
-    T: Files + Threads + Wait + Sync,
+    T: Files + Threads + Wait + Clock + Sync,
     S: AsStr,
     R: Read,
     W: Write,
@@ -60,7 +61,7 @@ fn run_files<T, S, W, E>(
     errors: &mut E,
 ) -> u8
 where
-    T: Files + Threads + Wait + Sync,
+    T: Files + Threads + Wait + Clock + Sync,
     S: AsStr,
     W: Write,
     E: Write,
@@ -91,7 +92,7 @@ fn run_file<T, S, W, E>(
     errors: &mut E,
 ) -> u8
 where
-    T: Files + Threads + Wait + Sync,
+    T: Files + Threads + Wait + Clock + Sync,
     S: AsStr,
     W: Write,
     E: Write,

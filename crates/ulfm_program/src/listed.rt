@@ -77,12 +77,11 @@ fn judged<W: Watch>(
     requires { IsList asked.now.job options.limit (All reached.now) }
     ensures { IfOk result (λ r. IsJudged form options asked.now.job (rows_of asked.now.never.items) reached.now.found (string_bytes list) r.status (string_bytes r.text)) }
 {
-    let limit = options.limit as usize;
     if let Some(unmet) = first_unmet(&asked.job, &reached.found) {
         return unmet_reply(alloc, form, options, &asked.job, unmet, list, watch);
     }
     let rows = asked.never.as_slice();
-    match first_row(alloc, limit, &asked.job, reached, rows, watch)? {
+    match first_row(alloc, options, &asked.job, reached, rows, watch)? {
         Some(first) => row_reply(form, &first, list),
         None => Ok(Reply {
             status: list_status(options.is_strict, some_never_end(&reached.found)),
@@ -118,7 +117,7 @@ fn unmet_reply<W: Watch>(
     let limit = options.limit as usize;
     let goals = unmet.goals(alloc, job)?;
     let mut text = list;
-    match look_for(alloc, job, &goals, limit, watch)? {
+    match look_for(alloc, job, &goals, options.is_brief, limit, watch)? {
         Some(told) => {
             push_unmet(&mut text, form, unmet, &told)?;
             Ok(Reply {
@@ -140,17 +139,26 @@ struct FirstRow {
 /// The first row whose answers all come together, or that can't be looked for within the limit.
 fn first_row<W: Watch>(
     alloc: Global,
-    limit: usize,
+    options: ListOptions,
     job: &Job,
     reached: &Reached,
     rows: &[Vec<Clause>],
     watch: &mut W,
 ) -> Result<Option<FirstRow>, AllocError>
-    requires { IsList job.now limit (All reached.now) }
-    ensures { IfOk result (IsFirstRow job.now (rows_of rows.now) limit) }
+    requires { IsList job.now options.limit (All reached.now) }
+    ensures { IfOk result (IsFirstRow job.now (rows_of rows.now) options.is_brief options.limit) }
 {
+    let limit = options.limit as usize;
     for (number, row) in rows.iter().enumerate() {
-        if let Some(told) = look_for_row(alloc, job, reached, row.as_slice(), limit, watch)? {
+        if let Some(told) = look_for_row(
+            alloc,
+            job,
+            reached,
+            row.as_slice(),
+            options.is_brief,
+            limit,
+            watch,
+        )? {
             return Ok(Some(FirstRow { number, told }));
         }
     }

@@ -10,7 +10,7 @@ use ulfm_json::Form;
 use ulfm_outcomes::Goals;
 use ulfm_reach::Watch;
 use ulfm_reader::{ReadJob, Reading};
-use ulfm_replies::{DONE, ListOptions, NO_SCHEDULE, PAST_LIMIT, Reply, USAGE, refusal};
+use ulfm_replies::{DONE, JOB_REFUSED, ListOptions, NO_SCHEDULE, PAST_LIMIT, Reply, refusal};
 
 /// The reply of `outcomes --show`, with these answers. `watch` is told how far the search is.
 pub fn show_reply<W: Watch>(
@@ -33,17 +33,27 @@ pub fn show_reply<W: Watch>(
     };
     let goals = Goals::of(alloc, answers.as_slice())?;
     let limit = options.limit as usize;
-    let look = look_for(alloc, &asked.job, &goals, limit, watch)?;
+    let look = look_for(
+        alloc,
+        &asked.job,
+        &goals,
+        options.is_brief,
+        limit,
+        watch,
+    )?;
     look_reply(alloc, form, &look)
 }
 
+/// What stands before a goal that names no answer of the job.
+pub const NO_GOAL: &str = "goal refused: ";
+
 /// The reply to a goal that names no answer of the job.
 fn no_goal(alloc: Global, text: &str) -> Result<Reply, AllocError>
-    ensures { IfOk result (λ r. (r.status ≡ 2) × (string_bytes r.text ≡ no_goal text.now)) }
+    ensures { IfOk result (λ r. (r.status ≡ 1) × (string_bytes r.text ≡ no_goal text.now)) }
 {
-    let text = format!(in alloc; "goal refused: {text}\n")?;
+    let text = format!(in alloc; "{NO_GOAL}{text}\n")?;
     Ok(Reply {
-        status: USAGE,
+        status: JOB_REFUSED,
         text,
     })
 }

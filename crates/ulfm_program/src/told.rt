@@ -87,7 +87,7 @@ pub fn push_row(text: &mut String, form: Form, number: usize, told: &Told) -> Re
 {
     match form {
         Form::Words => {
-            write!(text, "row {number} of never:\n")?;
+            write!(text, "come together: never[{number}]\n")?;
             push_words(text, told)
         }
         Form::Json => {

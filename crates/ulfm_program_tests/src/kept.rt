@@ -5,6 +5,7 @@ use std::io;
 use std::io::Write;
 use std::sync::Wait;
 use std::thread::Threads;
+use std::time::Clock;
 use ulfm_program::run_on;
 
 /// How many bytes of a text are kept.
@@ -35,7 +36,7 @@ impl Write for Kept {
 }
 
 /// The reply to a command line and an input.
-pub fn reply<R: AllocGlobal + Threads + Wait + Sync>(
+pub fn reply<R: AllocGlobal + Threads + Wait + Clock + Sync>(
     rt: &R,
     words: &[&str],
     input: &str,

@@ -6,6 +6,7 @@ use std::io;
 use std::sync::Wait;
 use std::test::Fail;
 use std::thread::Threads;
+use std::time::Clock;
 use ulfm_program::run_on;
 
 /// A job of two ranks, by its steps.
@@ -14,7 +15,7 @@ fn job_of(alloc: Global, steps: &str) -> Result<String, AllocError> {
 }
 
 /// The status of a command on a job of these steps, and what standard error got.
-pub fn noted<R: AllocGlobal + Threads + Wait + Sync>(
+pub fn noted<R: AllocGlobal + Threads + Wait + Clock + Sync>(
     rt: &R,
     command: &str,
     steps: &str,

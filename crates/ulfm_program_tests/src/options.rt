@@ -4,6 +4,7 @@ use crate::kept::{Kept, reply};
 use std::sync::Wait;
 use std::test::Fail;
 use std::thread::Threads;
+use std::time::Clock;
 
 /// A shrink of one rank, whose second poll decides, with one poll alone.
 const SHRINK: &str = "ranks = 1\ncapacity = 1\nturns = 1\nstep = [{rank = 0, op = \"shrink\"}]\n";
@@ -31,7 +32,7 @@ struct Case {
 }
 
 /// The words of the first case that gives something else.
-fn first_wrong<R: AllocGlobal + Threads + Wait + Sync>(
+fn first_wrong<R: AllocGlobal + Threads + Wait + Clock + Sync>(
     rt: &R,
     cases: &[Case],
 ) -> Result<Option<&'static str>, Fail> {

@@ -4,6 +4,7 @@ use crate::kept::Kept;
 use std::io;
 use std::sync::Wait;
 use std::thread::Threads;
+use std::time::Clock;
 use ulfm_program::run_on;
 
 /// A job of one letter, whose text is cut after each of its bytes.
@@ -11,7 +12,7 @@ const ONE_LETTER: &str =
     "ranks = 2\ncapacity = 4\nturns = 10\n[[step]]\nrank = 0\nop = \"send\"\nto = 1\ntag = 5\nbody = \"abc\"\n[[step]]\nrank = 1\nop = \"recv\"\nfrom = 0\ntag = 5\n[[step]]\nrank = 1\nop = \"wait\"\nreq = 0\n";
 
 /// The status of `check` for these bytes.
-fn status_of<R: AllocGlobal + Threads + Wait + Sync>(rt: &R, job: &[u8]) -> u8 {
+fn status_of<R: AllocGlobal + Threads + Wait + Clock + Sync>(rt: &R, job: &[u8]) -> u8 {
     let mut input = job;
     let mut output = Kept {
         bytes: [0; 4096],

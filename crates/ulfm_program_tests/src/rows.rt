@@ -3,6 +3,7 @@
 use crate::kept::{Kept, is_reply, reply};
 use std::sync::Wait;
 use std::thread::Threads;
+use std::time::Clock;
 
 /// A job by what it shows, and its trace.
 pub struct Row {
@@ -12,7 +13,7 @@ pub struct Row {
 }
 
 /// The name of the first row whose job doesn't give its trace under `replay`.
-pub fn first_wrong<R: AllocGlobal + Threads + Wait + Sync>(
+pub fn first_wrong<R: AllocGlobal + Threads + Wait + Clock + Sync>(
     rt: &R,
     rows: &[Row],
 ) -> Option<&'static str> {
@@ -20,7 +21,7 @@ pub fn first_wrong<R: AllocGlobal + Threads + Wait + Sync>(
 }
 
 /// The name of the first row whose job doesn't give its trace by these words.
-pub fn first_wrong_by<R: AllocGlobal + Threads + Wait + Sync>(
+pub fn first_wrong_by<R: AllocGlobal + Threads + Wait + Clock + Sync>(
     rt: &R,
     words: &[&str],
     rows: &[Row],

@@ -4,12 +4,13 @@ use crate::kept::{Kept, is_reply, reply};
 use crate::rows::{Row, first_wrong_by};
 use std::sync::Wait;
 use std::thread::Threads;
+use std::time::Clock;
 
 /// A job that can be run.
 const NO_STEPS: &str = "ranks = 1\ncapacity = 1\nturns = 1\n";
 
 /// Whether the reply to these words and this job has this status and begins with this text.
-fn begins<R: AllocGlobal + Threads + Wait + Sync>(
+fn begins<R: AllocGlobal + Threads + Wait + Clock + Sync>(
     rt: &R,
     words: &[&str],
     job: &str,
@@ -210,7 +211,7 @@ const SENT_AND_STOPPED: [&str; 3] = [
 ];
 
 /// Whether the reply to these words and this job is one of these texts.
-fn is_one_of<R: AllocGlobal + Threads + Wait + Sync>(
+fn is_one_of<R: AllocGlobal + Threads + Wait + Clock + Sync>(
     rt: &R,
     words: &[&str],
     job: &str,
@@ -282,7 +283,7 @@ fn is_brief(text: &str) -> bool {
 }
 
 /// Whether the reply to these words is such a text.
-fn tells_briefly<R: AllocGlobal + Threads + Wait + Sync>(rt: &R, words: &[&str]) -> bool {
+fn tells_briefly<R: AllocGlobal + Threads + Wait + Clock + Sync>(rt: &R, words: &[&str]) -> bool {
     let (status, kept) = reply(rt, words, FEW_POLLS);
     let text = str::from_utf8(&kept.bytes[..kept.len]).unwrap_or("");
     let is_told = status == 0 && is_brief(text);

@@ -1,3 +1,4 @@
+pub mod Flags
 pub mod Parsed
 pub mod Numbers
 pub mod Refused

@@ -101,7 +101,7 @@ show_rule = record (new_rule (codes "show")) { long = Some (codes "show"); value
 
 -- the command `outcomes` with its options
 abbrev pub outcomes_app : App
-outcomes_app = of_jobs (with_rule (with_rule (with_rule (with_rule (new_app (codes "outcomes")) show_rule) strict_rule) (number_rule (codes "limit") most_states)) progress_rule)
+outcomes_app = of_jobs (with_rule (with_rule (with_rule (with_rule (with_rule (new_app (codes "outcomes")) show_rule) brief_rule) strict_rule) (number_rule (codes "limit") most_states)) progress_rule)
 
 -- the whole command line
 abbrev pub tool_app : App
@@ -161,6 +161,7 @@ list_options rows = record {
   limit = limit_in rows;
   is_strict = is_strict rows;
   wants_progress = wants_progress rows;
+  is_brief = is_flagged (codes "brief") rows;
 }
 
 -- the command of a name, with its options

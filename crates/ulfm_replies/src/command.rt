@@ -45,6 +45,8 @@ pub struct ListOptions {
     pub is_strict: bool,
     /// Whether standard error tells how far it is.
     pub wants_progress: bool,
+    /// Whether a schedule is told without the events that it can do without.
+    pub is_brief: bool,
 }
 
 /// What the words ask for.
@@ -176,6 +178,7 @@ fn list_options(options: &ArgMatches<'_>) -> ListOptions
         limit: limit_in(options),
         is_strict: is_strict(options),
         wants_progress: wants_progress(options),
+        is_brief: is_flagged(options, "brief"),
     }
 }
 

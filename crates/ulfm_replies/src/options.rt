@@ -66,14 +66,14 @@ pub fn strict_flag<'a>(alloc: Global) -> Arg<'a>
         .action(ArgAction::SetTrue)
 }
 
-/// The flag `--brief`.
-pub fn brief_flag<'a>(alloc: Global) -> Arg<'a>
+/// The flag `--brief`, with what it does to a command.
+pub fn brief_flag<'a>(alloc: Global, help: &'a str) -> Arg<'a>
     ensures rule { rule_of result ≡ brief_rule }
     ensures local { result.global ≡ false }
 {
     Arg::new(alloc, "brief")
         .long("brief")
-        .help("With --repeat prints the lines of all traces once, and the others with their counts")
+        .help(help)
         .action(ArgAction::SetTrue)
 }
 

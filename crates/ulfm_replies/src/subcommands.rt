@@ -89,7 +89,11 @@ fn run_command<'a>(alloc: Global) -> Result<Command<'a>, AllocError>
         "Runs the job so many times and prints each distinct trace once, with its count [1 to 10000]",
     );
     let command = command.arg(repeat)?;
-    let command = command.arg(brief_flag(alloc))?;
+    let brief = brief_flag(
+        alloc,
+        "With --repeat prints the lines of all traces once, and the others with their counts",
+    );
+    let command = command.arg(brief)?;
     of_jobs(alloc, command)
 }
 
@@ -113,6 +117,11 @@ fn outcomes_command<'a>(alloc: Global) -> Result<Command<'a>, AllocError>
         .about("Lists what each step of a job may be answered, over every schedule")
         .after_help("Example: ulfm outcomes --limit 100000 jobs/one_letter.toml")
         .arg(show_option(alloc))?;
+    let brief = brief_flag(
+        alloc,
+        "Prints a schedule without the events that it can do without",
+    );
+    let command = command.arg(brief)?;
     let command = command.arg(strict_flag(alloc))?;
     let limit = number_option(
         alloc,

@@ -19,13 +19,13 @@ told_view (kept.Schedule text) = schedule (string_bytes text)
 told_view (kept.Many limit) = many limit
 
 -- a search for these goals came to nothing, since no schedule shows them, or to what is told
-abbrev pub IsLook : JobView → Goals → ℕ → Option Kept → Type 0
-IsLook job goals limit None = ¬ IsPossible job goals
-IsLook job goals limit (Some told) = IsTold job goals limit (told_view told)
+abbrev pub IsLook : JobView → Goals → Bool → ℕ → Option Kept → Type 0
+IsLook job goals is_brief limit None = ¬ IsPossible job goals
+IsLook job goals is_brief limit (Some told) = IsTold job goals is_brief limit (told_view told)
 
 -- the same for the answers of a row
-abbrev pub IsLookForRow : JobView → List Clause → ℕ → Option Kept → Type 0
-IsLookForRow job row limit look = (goals : Goals) × AreOfClauses row goals × IsLook job goals limit look
+abbrev pub IsLookForRow : JobView → List Clause → Bool → ℕ → Option Kept → Type 0
+IsLookForRow job row is_brief limit look = (goals : Goals) × AreOfClauses row goals × IsLook job goals is_brief limit look
 
 -- the row of a list tells of an answer that begins as the clause says
 abbrev pub tells : Clause → List ℕ → Bool
@@ -42,9 +42,9 @@ abbrev pub has_each : List (List ℕ) → Goals → Bool
 has_each found goals = list_all (λ (c : Clause). list_any (tells c) found) goals.answers.items && list_all (λ (o : OpenStep). list_any (tells_open o) found) goals.left.items
 
 -- no row came together, or of the row of this number that is told
-abbrev pub IsFirstRow : JobView → List (List Clause) → ℕ → Option FirstRow → Type 0
-IsFirstRow job rows limit None = NoneComes job rows
-IsFirstRow job rows limit (Some first) = (row : List Clause) × (slice_get rows first.number ≡ Some row) × IsLookForRow job row limit (Some first.told)
+abbrev pub IsFirstRow : JobView → List (List Clause) → Bool → ℕ → Option FirstRow → Type 0
+IsFirstRow job rows is_brief limit None = NoneComes job rows
+IsFirstRow job rows is_brief limit (Some first) = (row : List Clause) × (slice_get rows first.number ≡ Some row) × IsLookForRow job row is_brief limit (Some first.told)
 
 -- the status of what came of a search for answers that the words name, or that no schedule shows them
 abbrev pub look_status : Option Told → ℕ

@@ -1,6 +1,5 @@
-use Rattle.std.proofs.Common.{◌≤◌, ℕ, List, Option, arith, inl, inr, option_map, string_bytes, subst, sym, ◌∙◌}
+use Rattle.std.proofs.Common.{◌≤◌, ℕ, arith, inl, inr, option_map, subst, sym, ◌∙◌}
 use Rattle.ulfm_program.proofs.Refused.{starved_gets, starved_begins}
-use Rattle.ulfm_program.specs.Replies.{IsReplyTo}
 use Rattle.ulfm_program.proofs.Statuses.{known_status, no_usage}
 use Rattle.ulfm_program.proofs.app.follow.Goals as goal
 
@@ -25,9 +24,9 @@ returns-in-Ok-told-clause-input_failed g c = λ five. absurd (elim c.write_reply
   | inr four ↦ omega (arith, four, five)
 ])
 
-pub returns-in-Ok-told-clause-usage : goal.returns-in-Ok-told-clause-usage
-returns-in-Ok-told-clause-usage g c = λ two none. elim c.write_reply-status.ensures.known [
-  | inl same ↦ no_usage c.args.asked.now.form c.args.asked.now.wanted c.as_slice.result.now c.in-Ok-told.reply.status (string_bytes c.in-Ok-told.reply.text) (subst (λ (show : Option (List ℕ)). IsReplyTo c.args.asked.now.form show c.args.asked.now.wanted c.as_slice.result.now c.in-Ok-told.reply.status (string_bytes c.in-Ok-told.reply.text)) none c.in-Ok-told.ensures) (sym same ∙ two)
+pub returns-in-Ok-told-clause-no_usage : goal.returns-in-Ok-told-clause-no_usage
+returns-in-Ok-told-clause-no_usage g c = λ two. elim c.write_reply-status.ensures.known [
+  | inl same ↦ no_usage _ _ _ _ _ _ c.in-Ok-told.ensures (sym same ∙ two)
   | inr four ↦ omega (arith, four, two)
 ]
 

@@ -16,8 +16,8 @@ pub returns-in-Some-2 : goal.returns-in-Some-2
 returns-in-Some-2 g c =
     let job = c.args.asked.now.job in
     let limit = c.args.options.limit in
-    let of_slice = subst (IsFirstRow job (rows_of c.as_slice-rows.result.now) limit) c.in-Some-2.is c.in_ok-first.ensures in
-    let first = subst (λ (rows : List (Vec Clause Global)). IsFirstRow job (rows_of rows) limit (Some c.in-Some-2.first)) c.as_slice-rows.ensures.value of_slice in
+    let of_slice = subst (IsFirstRow job (rows_of c.as_slice-rows.result.now) c.args.options.is_brief limit) c.in-Some-2.is c.in_ok-first.ensures in
+    let first = subst (λ (rows : List (Vec Clause Global)). IsFirstRow job (rows_of rows) c.args.options.is_brief limit (Some c.in-Some-2.first)) c.as_slice-rows.ensures.value of_slice in
     IfOk-weaker c.row_reply.result _ _ (λ r h. rw (h.0, h.1) (row_as c.args.form c.args.options job (rows_of c.args.asked.now.never.items) c.args.reached.now.found _ c.in-Some-2.first first)) c.row_reply.ensures
 
 pub returns-in-None : goal.returns-in-None
@@ -25,6 +25,6 @@ returns-in-None g c =
     let job = c.args.asked.now.job in
     let limit = c.args.options.limit in
     let meets = subst (Judges job) c.in_default.is (c.first_unmet.ensures.judges _ limit _ c.requires) in
-    let of_slice = subst (IsFirstRow job (rows_of c.as_slice-rows.result.now) limit) c.in-None.is c.in_ok-first.ensures in
-    let none = subst (λ (rows : List (Vec Clause Global)). IsFirstRow job (rows_of rows) limit None) c.as_slice-rows.ensures.value of_slice in
+    let of_slice = subst (IsFirstRow job (rows_of c.as_slice-rows.result.now) c.args.options.is_brief limit) c.in-None.is c.in_ok-first.ensures in
+    let none = subst (λ (rows : List (Vec Clause Global)). IsFirstRow job (rows_of rows) c.args.options.is_brief limit None) c.as_slice-rows.ensures.value of_slice in
     rw (c.list_status.ensures, c.some_never_end.ensures) (good meets none)

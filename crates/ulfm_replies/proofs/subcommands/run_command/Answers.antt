@@ -1,8 +1,9 @@
-use Rattle.std.proofs.Common.{rules, ap, ap₂, codes, false, Bool, ◌≡◌, ◌∙◌, ◌||◌}
+use Rattle.std.proofs.Common.{rules, ap, ap₂, codes, false, ◌≡◌, ◌∙◌}
 use Rattle.std.proofs.lemmas.Result.{IfOk-weaker}
 use Rattle.clap.specs.Words.{app_of, new_app, with_rule}
 use Rattle.clap.specs.declared.builder.command.Command.TheViews.{out-Command}
 use Rattle.ulfm_replies.specs.CommandLine.{of_jobs}
+use Rattle.ulfm_replies.proofs.Flags.{either}
 use Rattle.ulfm_replies.proofs.subcommands.run_command.Goals as goal
 
 pub returns-clause-app : goal.returns-clause-app
@@ -14,9 +15,6 @@ returns-clause-app c =
     let fourth = c.in_ok-command-4.ensures.shape c.number_option-repeat.ensures.local ∙ ap₂ with_rule third c.number_option-repeat.ensures.rule in
     let fifth = c.in_ok-command-5.ensures.shape c.brief_flag.ensures.local ∙ ap₂ with_rule fourth c.brief_flag.ensures.rule in
     IfOk-weaker c.of_jobs.result _ _ (λ r h. h ∙ ap of_jobs fifth) c.of_jobs.ensures.app
-
-abbrev either : Bool → Bool → Bool
-either a b = a || b
 
 pub of_jobs-requires : goal.of_jobs-requires
 of_jobs-requires c =
