@@ -1,5 +1,6 @@
 -- Positions that are found one by one.
-use Rattle.std.proofs.Common.{◌≡◌, ℕ, ◌+◌, ◌<◌, List, [], ◌∷◌, ◌++◌, Option, Some, None, length, take, filter_map, refl, get_or, ap, sym, ◌∙◌, append-nil, length-append, arith, ◌≤◌, MatchOption}
+use Rattle.std.proofs.Common.{◌≡◌, ℕ, ◌+◌, ◌<◌, List, [], ◌∷◌, ◌++◌, Option, Some, None, length, take, filter_map, refl, get_or, ap, sym, subst, ◌∙◌, append-nil, length-append, arith, ◌≤◌, MatchOption}
+use Rattle.smallvec.specs.SmallVec.{SmallVec}
 use Rattle.std.proofs.lemmas.List.{take_more}
 use Rattle.ulfm_script.proofs.Common.{slice_get-get_or, filter_map-append}
 use Rattle.ulfm_base.specs.Group.{rank_in, translated, position_in}
@@ -27,3 +28,9 @@ found_more group others k (Some p) old new inside is pushed so_far =
 pub few_more : (found : Option ℕ) (old new : List ℕ) (k : ℕ) → MatchOption found (new ≡ old) (λ (p : ℕ). new ≡ old ++ p ∷ []) → length old ≤ k → length new ≤ k + 1
 few_more None old new k pushed few = omega (arith, ap length pushed)
 few_more (Some p) old new k pushed few = omega (arith, simp length-append at (ap length pushed))
+
+-- the same positions with as many places
+pub same_positions : (v w : SmallVec ℕ) → w.items ≡ v.items → w.capacity ≡ v.capacity → w ≡ v
+same_positions v w items capacity =
+    let there : ◌≡◌ {A = SmallVec ℕ} w (record { items = w.items; capacity = v.capacity }) = subst (λ k. ◌≡◌ {A = SmallVec ℕ} w (record { items = w.items; capacity = k })) capacity refl in
+    subst (λ xs. ◌≡◌ {A = SmallVec ℕ} w (record { items = xs; capacity = v.capacity })) items there

@@ -82,8 +82,8 @@ pub struct StepReport {
 fn copy_positions(positions: &SmallVec<u8, 8>) -> Result<SmallVec<u8, 8>, OutOfMemory>
     ensures { IfOk result (λ copy. copy ≡ positions.now) }
 {
-    // That it has at least its own places is said here alone.
-    let _ = positions.spilled();
+    // Here alone it is said that they fit their places.
+    let _ = positions.len();
     let alloc = *positions.allocator();
     let mut items = SmallVec::<u8, 8>::from_slice(alloc, positions.as_slice())?;
     let mut copy = SmallVec::with_capacity(alloc, positions.capacity())?;
