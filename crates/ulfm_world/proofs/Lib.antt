@@ -1,4 +1,5 @@
 pub mod Common
+pub mod Copied
 pub mod Changed
 pub mod Senders
 pub mod KeepsCalls
