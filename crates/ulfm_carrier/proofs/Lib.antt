@@ -32,3 +32,4 @@ pub mod Views
 pub mod Whole
 pub mod Wired
 pub mod Wires
+pub mod Handed

@@ -11,12 +11,6 @@ fresh_first count pushed taken ready {x} fresh is = fresh 0 x (ap (λ l. slice_g
 pub fresh_rest : {E : Type 0} (count : E → ℕ) (pushed taken : E → ℕ → List Item) (ready : E → Type 0) {n : ℕ} {all rest : List E} {x : E} → EachFresh count pushed taken ready n all → all ≡ x ∷ rest → EachFresh count pushed taken ready n rest
 fresh_rest count pushed taken ready fresh is = λ k e here. fresh (suc k) e (ap (λ l. slice_get l (suc k)) is ∙ here)
 
--- the next of what is left goes to the end of what is done
-pub handed : {H X : Type 0} (f : H → X) (done : List H) {done' : List H} (h : H) {x : X} {left left' all : List X} → map f done ++ left ≡ all → left ≡ x ∷ left' → done' ≡ done ++ h ∷ [] → f h ≡ x → map f done' ++ left' ≡ all
-handed f done h {left'} was next more is =
-    ap (λ l. map f l ++ left') more ∙ ap (λ l. l ++ left') (map-append f done (h ∷ [])) ∙ append_assoc (map f done) (f h ∷ []) left' ∙ ap (λ y. map f done ++ y ∷ left') is
-    ∙ ap (λ l. map f done ++ l) (sym next) ∙ was
-
 -- what stands at a place of a mapped list comes from there
 pub from_map : {X Y : Type 0} (f : X → Y) (xs : List X) (k : ℕ) {y : Y} → at (map f xs) k y → (x : X) × at xs k x × (f x ≡ y)
 from_map f [] k h = absurd (cc)

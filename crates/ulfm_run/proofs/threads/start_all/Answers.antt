@@ -1,6 +1,7 @@
 use Rattle.std.proofs.Common.{arith, ap, ◌∙◌, sym, ◌++◌, length, subst, slice_get, All}
 use Rattle.ulfm_run.proofs.Common.{All-nil, All-push, begun_end, begun_decider, begun_ends, begun_deciders, IsOfJob, into_iter_items}
-use Rattle.ulfm_run.proofs.Handed.{fresh_first, fresh_rest, handed}
+use Rattle.ulfm_run.proofs.Handed.{fresh_first, fresh_rest}
+use Rattle.ulfm_carrier.proofs.Handed.{handed}
 use Rattle.ulfm_run.proofs.threads.start_all.Goals as goal
 
 pub loop-end-init : goal.loop-end-init
