@@ -1,0 +1,101 @@
+-- What the parts of a turn push, one after the other.
+use Rattle.std.proofs.Common.{◌≡◌, ◌≢◌, ◌↔◌, ℕ, ◌<◌, Bool, true, false, cond, List, [], ◌∷◌, ◌++◌, length, length-append, refl, ap, sym, subst, ◌∙◌, arith, inl, inr, ◌⊎◌, IsTrue, IsSome, is_some, Option, Some, None, get_or-set_other}
+use Rattle.std.proofs.lemmas.Bool.{cases_lt, false≢true}
+use Rattle.ulfm_base.specs.declared.item.Item.{Item}
+use Rattle.ulfm_rank.specs.State.{GoesOut, State, mark_at, marked, no_mark, outbox}
+use Rattle.ulfm_base.specs.declared.rank.WorldRank.{WorldRank}
+use Rattle.ulfm_process.specs.Turning.{GoOut, IsSameProcess, IsStuck, IsTurn, Takes, with_came}
+use Rattle.ulfm_process.specs.View.{ProcessView}
+use Rattle.ulfm_process.specs.inside.Pushing.{GoesOn, PushesOne, TakesNone}
+
+pub same-then : {a b c : ProcessView} → IsSameProcess a b → IsSameProcess b c → IsSameProcess a c
+same-then h k = record { end = k.end ∙ h.end; board = k.board ∙ h.board; known = k.known ∙ h.known }
+
+pub takes-none-then : {a b c : ProcessView} → TakesNone a b → TakesNone b c → TakesNone a c
+takes-none-then h k = record { seen = λ s. k.seen s ∙ h.seen s; same = same-then h.same k.same }
+
+pub go-then : (ds es : List ℕ) (a b c : State) → GoOut ds a b → GoOut es b c → GoOut (ds ++ es) a c
+go-then [] es a b c h k = subst (λ (r : State). GoOut es r c) h k
+go-then (d ∷ ds) es a b c h k = (h.0, h.1, h.2, h.3, go-then ds es h.0 b c h.4 k)
+
+pub go-ranks : (ds : List ℕ) (a b : State) → GoOut ds a b → b.ranks ≡ a.ranks
+go-ranks [] a b h = ap (λ (r : State). r.ranks) h
+go-ranks (d ∷ ds) a b h = go-ranks ds h.0 b h.4 ∙ ap (λ (r : State). r.ranks) h.3.marked
+
+-- what waits for another rank than that to which an item goes out
+pub outbox_other : (old new : State) (d x : ℕ) (item : Item) → GoesOut old new d item → x ≢ d → outbox new x ≡ outbox old x
+outbox_other old new d x item k other = rw k.marked (rw (get_or-set_other old.marks d x (marked old (mark_at old d)) no_mark other) refl)
+
+-- nothing goes out
+pub goes-none : (a : ProcessView) → GoesOn a a false
+goes-none a = record { went = []; out = refl; told = (λ t. absurd (false≢true t), λ l. absurd (omega (arith, l))); takes_none = record { seen = λ s. refl; same = record { end = refl; board = refl; known = refl } } }
+
+told-then : (n m : Bool) (ds es : List ℕ) → (IsTrue m ↔ (0 < length ds)) → (IsTrue n ↔ (0 < length es)) → IsTrue (cond n true m) ↔ (0 < length (ds ++ es))
+told-then true m ds es p q = (λ t. omega (arith, q.0 refl, length-append ds es), λ l. refl)
+told-then false true ds es p q = (λ t. omega (arith, p.0 refl, length-append ds es), λ l. refl)
+told-then false false ds es p q = (
+  λ t. absurd (false≢true t),
+  λ l. absurd (elim (cases_lt 0 (length ds)) [
+    | inl d ↦ false≢true (p.1 d)
+    | inr d ↦ false≢true (q.1 (omega (arith, l, d, length-append ds es)))
+  ]),
+)
+
+-- something goes out, and then something or nothing
+pub goes-then : {a b c : ProcessView} {m k : Bool} (n : Bool) → GoesOn a b m → GoesOn b c n → k ≡ cond n true m → GoesOn a c k
+goes-then {a} {b} {c} {m} n h g is = record {
+  went = h.went ++ g.went;
+  out = go-then h.went g.went a.rank b.rank c.rank h.out g.out;
+  told = subst (λ x. IsTrue x ↔ (0 < length (h.went ++ g.went))) (sym is) (told-then n m h.went g.went h.told g.told);
+  takes_none = takes-none-then h.takes_none g.takes_none;
+}
+
+-- one item goes out
+pub goes-one : {a b : ProcessView} {d : ℕ} → d < a.rank.ranks → PushesOne a b d true → GoesOn a b true
+goes-one {b = b} {d} inside h = let went = h.went refl in record {
+  went = d ∷ [];
+  out = (b.rank, went.0, inside, went.1, refl);
+  told = (λ t. omega arith, λ l. refl);
+  takes_none = h.takes_none;
+}
+
+-- none does
+pub goes-none-by : {a b : ProcessView} {d : ℕ} → PushesOne a b d false → GoesOn a b false
+goes-none-by h = record {
+  went = [];
+  out = h.stays refl;
+  told = (λ t. absurd (false≢true t), λ l. absurd (omega (arith, l)));
+  takes_none = h.takes_none;
+}
+
+-- what comes leaves the number of ranks
+pub came-ranks : (r : State) (came : Option (WorldRank × Item)) → (with_came r came).ranks ≡ r.ranks
+came-ranks r None = refl
+came-ranks r (Some x) = refl
+
+is-some : {X : Type 0} (o : Option X) → is_some o ≡ true → IsSome o
+is-some None e = absurd (false≢true e)
+is-some (Some x) e = e
+
+-- it is told whether one came or went
+told-turn : {X : Type 0} (took went : Bool) (came : Option X) (n : ℕ) → took ≡ is_some came → (IsTrue went ↔ (0 < n)) → {moved : Bool} → moved ≡ cond took true went → IsTrue moved ↔ (IsSome came ⊎ (0 < n))
+told-turn {X} took went came n is told {moved} told_is = subst (λ b. IsTrue b ↔ (IsSome came ⊎ (0 < n))) (sym (told_is ∙ ap (λ b. cond b true went) is)) (by came)
+  where
+    by : (o : Option X) → IsTrue (cond (is_some o) true went) ↔ (IsSome o ⊎ (0 < n))
+    by None = (λ t. inr (told.0 t), λ e. elim e [ inl none ↦ absurd (cc) | inr l ↦ told.1 l ])
+    by (Some x) = (λ t. inl refl, λ e. refl)
+
+-- a turn
+pub turn-of : {a b c : ProcessView} (took went : Bool) {moved : Bool} → Takes a b took → GoesOn b c went → ((d : ℕ) → d < b.rank.ranks → IsStuck c d) → moved ≡ cond took true went → IsTurn a c moved
+turn-of {a} {b} {c} took went h g stuck is =
+    let ranks : b.rank.ranks ≡ a.rank.ranks = ap (λ (r : State). r.ranks) h.only ∙ came-ranks a.rank h.came in
+    record {
+      came = h.came;
+      runs = h.runs;
+      none_seen = λ e. elim (h.none_seen e) [ inl stopped ↦ inl stopped | inr none ↦ inr (λ s. g.takes_none.seen s ∙ none s) ];
+      went = g.went;
+      only = subst (λ (r : State). GoOut g.went r c.rank) h.only g.out;
+      all_out = λ d l. stuck d (omega (arith, l, ranks));
+      told = told-turn took went h.came (length g.went) h.told g.told is;
+      same = same-then h.same g.takes_none.same;
+    }

@@ -1,0 +1,15 @@
+use Rattle.std.proofs.Common.{ap, subst}
+use Rattle.std.specs.Prelude.{IfOk}
+use Rattle.ulfm_rank.specs.Cancel.{IsCancelAnswer, cancelling}
+use Rattle.ulfm_rank.specs.State.{State}
+use Rattle.ulfm_process.specs.View.{ProcessView}
+use Rattle.ulfm_process.proofs.Keeping.{kept-if, own-cancel, quiet-one, state-same}
+use Rattle.ulfm_process.proofs.process.Process.cancel.Goals as goal
+
+pub invariant_of-self : goal.invariant_of-self
+invariant_of-self c =
+    let h = c.self.invariant in let new = c.cancel.new.self.state in
+    kept-if new h c.cancel.result c.cancel.ensures.released (state-same c.self.inside.rank c.cancel.new.self c.cancel.result c.cancel.ensures.unchanged) (λ answer s. quiet-one new (cancelling c.args.id answer) h.sound (own-cancel c.args.id answer) s)
+
+pub returns-clause-answer : goal.returns-clause-answer
+returns-clause-answer c = subst (λ (r : State). IfOk c.cancel.result (IsCancelAnswer r.ranks r.log c.args.id.number)) (ap (λ (v : ProcessView). v.rank) c.self.view_is) c.cancel.ensures.answer

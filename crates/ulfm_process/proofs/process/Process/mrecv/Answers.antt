@@ -1,0 +1,9 @@
+use Rattle.std.proofs.Common.{refl}
+use Rattle.ulfm_rank.specs.declared.entry.Entry.TheVariants.{Received}
+use Rattle.ulfm_process.proofs.Keeping.{kept-if, quiet-one, state-same}
+use Rattle.ulfm_process.proofs.process.Process.mrecv.Goals as goal
+
+pub invariant_of-self : goal.invariant_of-self
+invariant_of-self c =
+    let h = c.self.invariant in let new = c.mrecv.new.self.state in
+    kept-if new h c.mrecv.result c.mrecv.ensures.received (state-same c.self.inside.rank c.mrecv.new.self c.mrecv.result c.mrecv.ensures.unchanged) (λ answer s. quiet-one new (Received c.args.id answer) h.sound (record { signed = tt; takes_none = λ x. refl }) s)

@@ -1,0 +1,10 @@
+use Rattle.std.proofs.Common.{length}
+use Rattle.ulfm_rank.specs.State.{outbox}
+use Rattle.ulfm_process.specs.inside.Pushing.{GoesOn, OthersStayStuck}
+use Rattle.ulfm_process.proofs.process.Process.push_to.Given as goal
+
+abbrev pub invariant-loop-moved : goal.invariant-loop-moved
+invariant-loop-moved l = GoesOn l.fn.self l.self l.moved × OthersStayStuck l.fn.self l.self l.fn.dest
+
+abbrev pub decreases-loop-moved : goal.decreases-loop-moved
+decreases-loop-moved l = length (outbox l.self.rank l.fn.dest)

@@ -1,0 +1,5 @@
+pub mod View
+pub mod Deciding
+pub mod Turning
+pub mod Making
+pub mod inside

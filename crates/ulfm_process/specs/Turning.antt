@@ -1,0 +1,49 @@
+-- What a turn of a process moves.
+use Rattle.std.specs.Prelude.{◌≡◌, ℕ, ◌<◌, Bool, true, false, IsTrue, ◌↔◌, length, List, [], ◌∷◌, ◌⊎◌, Option, Some, None, IsSome, is_some}
+use Rattle.ulfm_base.specs.declared.item.Item.{Item}
+use Rattle.ulfm_base.specs.declared.rank.WorldRank.{WorldRank}
+use Rattle.ulfm_carrier.specs.Lanes.{known_room, lane_name, seen_from}
+use Rattle.ulfm_rank.specs.declared.entry.Entry.TheVariants.{Took}
+use Rattle.ulfm_rank.specs.Facts.{is_stopped}
+use Rattle.ulfm_rank.specs.State.{State, GoesOut, logged, outbox}
+use Rattle.ulfm_process.specs.View.{ProcessView}
+
+-- nothing can go out to the rank d: nothing waits for it, or the end knows of no free place in the ring to it
+abbrev pub IsStuck : ProcessView → ℕ → Type 0
+IsStuck p d = (outbox p.rank d ≡ []) ⊎ (known_room p.end d ≡ 0)
+
+-- items went out one after the other, to these ranks
+abbrev pub GoOut : List ℕ → State → State → Type 0
+GoOut [] old new = new ≡ old
+GoOut (d ∷ ds) old new = (mid : State) × (item : Item) × (d < old.ranks) × GoesOut old mid d item × GoOut ds mid new
+
+-- the rank after it took what came
+abbrev pub with_came : State → Option (WorldRank × Item) → State
+with_came r None = r
+with_came r (Some came) = logged r (Took came.0 came.1)
+
+-- it is the same end and the same seat
+pub record IsSameProcess (old new : ProcessView) : Type 0 where
+  pub end : lane_name new.end ≡ lane_name old.end
+  pub board : new.board ≡ old.board
+  pub known : new.known ≡ old.known
+
+-- A running rank takes what came, one item at most: none where none is seen in any ring.
+pub record Takes (old new : ProcessView) (took : Bool) : Type 0 where
+  pub came : Option (WorldRank × Item)
+  pub runs : IsSome came → is_stopped old.rank.log ≡ false
+  pub only : new.rank ≡ with_came old.rank came
+  pub none_seen : came ≡ None → (is_stopped old.rank.log ≡ true) ⊎ ((s : ℕ) → seen_from new.end s ≡ [])
+  pub told : took ≡ is_some came
+  pub same : IsSameProcess old new
+
+-- A turn: the rank takes what came, and then what waits goes out, until nothing can. It is told whether anything moved.
+pub record IsTurn (old new : ProcessView) (moved : Bool) : Type 0 where
+  pub came : Option (WorldRank × Item)
+  pub runs : IsSome came → is_stopped old.rank.log ≡ false
+  pub none_seen : came ≡ None → (is_stopped old.rank.log ≡ true) ⊎ ((s : ℕ) → seen_from new.end s ≡ [])
+  pub went : List ℕ
+  pub only : GoOut went (with_came old.rank came) new.rank
+  pub all_out : (d : ℕ) → d < old.rank.ranks → IsStuck new d
+  pub told : IsTrue moved ↔ (IsSome came ⊎ (0 < length went))
+  pub same : IsSameProcess old new

@@ -1,0 +1,16 @@
+//! One rank of a running program: a [`Rank`](ulfm_rank::Rank) that keeps no log, with its end of a carrier and its seat at a board.
+//!
+//! [`world`] makes the processes of a world. Each may go to a thread of its own:
+//!
+//!     let request = process.irecv(comm, None, None, 64)?;
+//!     while let TestAnswer::NotYet = process.test(request)? { process.turn()?; }
+//!
+//! No call waits. [`Process::turn`] moves what came in and what goes out. Contracts see a process as its rank's state, its end, and what
+//! its seat knows (`ProcessView`, specs/View.antt); of a process its end pushed what its rank let go out, and took what its rank took.
+#![tactic(auto)]
+
+mod making;
+mod process;
+
+pub use making::world;
+pub use process::Process;

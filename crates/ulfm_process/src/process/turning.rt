@@ -1,0 +1,102 @@
+//! What comes in, and what goes out.
+ghost use Rattle.std.specs.Prelude.{◌≡◌, ◌<◌, ◌↔◌, ℕ, [], true, false, IsTrue, IfOk, OnErr};
+ghost use Rattle.ulfm_base.specs.declared.item.Item.{Item as Sent};
+ghost use Rattle.ulfm_process.specs.Turning.{IsStuck, IsTurn, Takes};
+ghost use Rattle.ulfm_process.specs.inside.Pushing.{GoesOn, PushesOne, PushesTo};
+ghost use Rattle.ulfm_rank.specs.State.{outbox};
+
+use super::Process;
+use ulfm_base::OutOfMemory;
+
+impl Process {
+    /// Takes an item that came, if there is one, and pushes what waits to go out, to each rank as far as its ring has places.
+    /// Answers whether anything moved. Where nothing did, the rank has nothing to do until another one moves.
+    ///
+    /// # Errors
+    ///
+    /// `OutOfMemory` where a growth was refused. Then nothing changed.
+    pub fn turn(&mut self) -> Result<bool, OutOfMemory>
+        ensures turn { IfOk result (IsTurn self.old self.new) }
+        ensures unchanged { OnErr result (self.new ≡ self.old) }
+    {
+        let came = self.take_one()?;
+        let went = self.push_all();
+        if came {
+            return Ok(true);
+        }
+        Ok(went)
+    }
+
+    /// Whether nothing waits to go out, to any rank. Of a rank that stopped its notices alone go out.
+    pub fn has_pushed_all(&self) -> bool
+        ensures { IsTrue result ↔ ((dest : ℕ) → dest < self.now.rank.ranks → outbox self.now.rank dest ≡ []) }
+    {
+        for dest in 0..self.rank.ranks() {
+            if !self.rank.is_outbox_empty(dest) {
+                return false;
+            }
+        }
+        true
+    }
+
+    /// Takes an item that came, if there is one and the rank runs. Whether one was taken.
+    fn take_one(&mut self) -> Result<bool, OutOfMemory>
+        ensures takes { IfOk result (Takes self.old self.new) }
+        ensures unchanged { OnErr result (self.new ≡ self.old) }
+    {
+        if self.rank.is_stopped() {
+            return Ok(false);
+        }
+        self.rank.prepare()?;
+        match self.end.pop_now() {
+            Some((source, item)) => {
+                self.rank.take(source, item);
+                Ok(true)
+            }
+            None => Ok(false),
+        }
+    }
+
+    /// Pushes to each rank upwards, while there is something to push and a place for it. Whether anything went.
+    fn push_all(&mut self) -> bool
+        ensures goes_on { GoesOn self.old self.new result }
+        ensures stuck { (d : ℕ) → d < self.old.rank.ranks → IsStuck self.new d }
+    {
+        let mut moved = false;
+        for dest in 0..self.rank.ranks() {
+            if self.push_to(dest) {
+                moved = true;
+            }
+        }
+        moved
+    }
+
+    /// Pushes to one rank, while there is something to push and a place for it. Whether anything went.
+    fn push_to(&mut self, dest: u8) -> bool
+        requires { dest < self.old.rank.ranks }
+        ensures { PushesTo self.old self.new dest result }
+    {
+        let mut moved = false;
+        while self.push_one(dest) {
+            moved = true;
+        }
+        moved
+    }
+
+    /// The first item that waits for a rank goes there, if there is one and its ring has a place. Whether one went.
+    fn push_one(&mut self, dest: u8) -> bool
+        requires { dest < self.old.rank.ranks }
+        ensures { PushesOne self.old self.new dest result }
+    {
+        let Some(item) = self.rank.take_out(dest) else {
+            return false;
+        };
+        match self.end.push_now(dest, item) {
+            Ok(()) => true,
+            Err(back) => {
+                self.rank.put_back(dest, back);
+                false
+            }
+        }
+    }
+}
