@@ -1,6 +1,7 @@
 -- Two counters are a lawful system.
 use Rattle.std.proofs.Common.{◌≡◌, ℕ, zero, suc, ◌∷◌, [], Bool, false, nat_lt, sym, subst, ◌∙◌, refl, true≢false}
 use Rattle.ulfm_reach.specs.Graph.{IsIdle, IsLawful}
+use Rattle.ulfm_reach.proofs.FirstKinds.{none-first}
 use Rattle.ulfm_tests.specs.Counters.{Counts, CountsOn, IsAlike, IsBlocked, counting}
 
 -- what is alike is so both ways
@@ -36,4 +37,6 @@ lawful = record {
   one_key = λ s t key a b. let same : s.first ∷ s.second ∷ [] ≡ t.first ∷ t.second ∷ [] = sym a ∙ b in record { first = cc; second = cc };
   idle = idle;
   final_alike = λ s t row alike final also tells. tells;
+  one_weight = λ s t alike. refl;
+  first = none-first counting (λ s e. ⊥);
 }

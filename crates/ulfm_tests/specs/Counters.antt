@@ -37,7 +37,7 @@ pub record Tells (e : ℕ) (s : Counts) (row : List ℕ) : Type 0 where
   pub counted : IsTrue s.counted
   pub is : row ≡ e ∷ s.first ∷ s.second ∷ []
 
--- the whole: the counters are the key, and a final state tells 9
+-- the whole: the counters are the key, a final state tells 9, and no event goes first
 abbrev pub counting : Graph Counts
 counting = record {
   start = record { first = 0; second = 0; counted = false };
@@ -47,4 +47,6 @@ counting = record {
   has_key = λ s key. key ≡ s.first ∷ s.second ∷ [];
   tells = Tells;
   tells_final = λ s row. row ≡ 9 ∷ [];
+  first = λ s e. ⊥;
+  weight = λ s. 0;
 }
