@@ -1,0 +1,109 @@
+/* What collectives are made of: letters on the hidden context, each with the number of its collective in its tag. A rank waits for a letter of
+   another one until it comes, or that rank is known to have failed, or the program's communicator is known to be revoked. So a collective in which
+   a member failed ends at each member that makes it: at some by success, at others by MPIX_ERR_PROC_FAILED (ULFM). */
+#include "run.h"
+#include <stdlib.h>
+#include <string.h>
+
+enum { PLANES = 8, NUMBERS = 4096 };
+
+static int tag_of(const struct comm *comm) { return comm->plane % PLANES * NUMBERS + (int)(comm->begun % NUMBERS); }
+
+/* Begins a collective, with the next number. */
+int begin_collective(struct comm *comm) {
+    if (!comm) return MPI_ERR_COMM;
+    if (comm->size > 1 && (comm->hidden == NO_CONTEXT_LEFT || comm->plane >= PLANES)) return NO_COLLECTIVES;
+    comm->begun++;
+    progress();
+    return is_revoked(comm) ? MPIX_ERR_REVOKED : MPI_SUCCESS;
+}
+
+int collect_send(struct comm *comm, int to, const void *bytes, size_t length) {
+    int code = send_letter(comm->hidden, to, comm->members[to], tag_of(comm), bytes, length, 0);
+    plan_inside();
+    return code;
+}
+
+/* Posts the receive of a letter, or null where there is no memory. */
+struct request *collect_post(struct comm *comm, int from, void *bytes, size_t room) {
+    struct request *request = new_request(RECEIVE, comm, from, tag_of(comm));
+    if (!request) return 0;
+    request->context = comm->hidden;
+    start_receive(request, bytes, room);
+    return request;
+}
+
+static bool has_come(void *of) {
+    struct request *request = of;
+    look_at(request);
+    return request->over || is_revoked(request->comm);
+}
+
+/* Waits for a letter, and releases its request. */
+int collect_finish(struct request *request) {
+    if (!request) return MPI_ERR_NO_MEM;
+    me->place.waits_for = 1u << request->comm->members[request->peer];
+    if (!request->over) wait_until(has_come, request);
+    me->place.waits_for = 0;
+    if (!request->over) withdraw(request);
+    int code = request->status.cancelled ? MPIX_ERR_REVOKED : request->code;
+    free_request(request);
+    return code;
+}
+
+int collect_receive(struct comm *comm, int from, void *bytes, size_t room) { return collect_finish(collect_post(comm, from, bytes, room)); }
+
+/* Position 0 gets `length` bytes of each, by positions; the others send theirs. The first error, after all were asked. */
+int gather_all(struct comm *comm, const void *in, size_t length, void *all) {
+    if (comm->position) return collect_send(comm, 0, in, length);
+    int code = MPI_SUCCESS;
+    if (length && all != in) memcpy(all, in, length);
+    for (int k = 1; k < comm->size; k++) {
+        int one = collect_receive(comm, k, (char *)all + length * (size_t)k, length);
+        if (code == MPI_SUCCESS) code = one;
+    }
+    return code;
+}
+
+/* All get the root's bytes. The first error, after all were told. */
+int spread(struct comm *comm, void *bytes, size_t length, int root) {
+    if (comm->position != root) return collect_receive(comm, root, bytes, length);
+    int code = MPI_SUCCESS;
+    for (int k = 0; k < comm->size; k++) {
+        if (k == root) continue;
+        int one = collect_send(comm, k, bytes, length);
+        if (code == MPI_SUCCESS) code = one;
+    }
+    return code;
+}
+
+/* Position 0 tells all its code, and `length` bytes behind it: the buffer has room for both. What comes of it here. */
+int spread_verdict(struct comm *comm, int code, void *buffer, size_t length) {
+    int64_t verdict = code;
+    memcpy(buffer, &verdict, sizeof verdict);
+    int told = spread(comm, buffer, sizeof verdict + length, 0);
+    memcpy(&verdict, buffer, sizeof verdict);
+    if (comm->position == 0) return code != MPI_SUCCESS ? code : told;
+    return told != MPI_SUCCESS ? told : (int)verdict;
+}
+
+int MPI_Barrier(MPI_Comm comm) {
+    struct comm *of = comm_at(comm);
+    char verdict[VERDICT];
+    ENTER(of, MPI_UNDEFINED, MPI_UNDEFINED);
+    int code = begin_collective(of);
+    if (code != MPI_SUCCESS) return fail(of, code);
+    code = gather_all(of, 0, 0, 0);
+    return fail(of, spread_verdict(of, code, verdict, 0));
+}
+
+int MPI_Bcast(void *buf, int count, MPI_Datatype type, int root, MPI_Comm comm) {
+    struct comm *of = comm_at(comm);
+    size_t bytes = 0;
+    int code;
+    ENTER(of, MPI_UNDEFINED, MPI_UNDEFINED);
+    if (!of || !check_buffer(count, type, &bytes, &code)) return fail(of, of ? code : MPI_ERR_COMM);
+    if (root < 0 || root >= of->size) return fail(of, MPI_ERR_ROOT);
+    code = begin_collective(of);
+    return fail(of, code != MPI_SUCCESS ? code : spread(of, buf, bytes, root));
+}

@@ -1,0 +1,187 @@
+/* Communicators (MPI 4.0, 7.4). Each has a context of the engine for its messages; those of one group share a context for their collectives,
+   the first duplicate. A duplicate is taken from the end of the chain of duplicates, whose group is the same. */
+#include "run.h"
+#include <stdlib.h>
+#include <string.h>
+
+/* The communicator of a handle, or null: it isn't one, or not yet. */
+struct comm *comm_at(MPI_Comm handle) {
+    uintptr_t number = (uintptr_t)handle;
+    return me && number && number <= (uintptr_t)me->comm_count ? me->comms[number - 1] : 0;
+}
+
+MPI_Comm handle_of(const struct comm *comm) {
+    for (int k = 0; k < me->comm_count; k++)
+        if (me->comms[k] == comm) return (MPI_Comm)(uintptr_t)(k + 1);
+    return MPI_COMM_NULL;
+}
+
+/* The chain of a context, with its first duplicate, for collectives, where there is one left. */
+struct chain *new_chain(uint32_t context) {
+    struct chain *chain = calloc(1, sizeof *chain);
+    if (!chain) return 0;
+    uint32_t made;
+    chain->hidden = ulfm_dup(me->slot, context, &made) == ULFM_OK ? made : NO_CONTEXT_LEFT;
+    chain->last = chain->hidden;
+    chain->users = 0;
+    return chain;
+}
+
+/* A communicator on a context of a chain, or null where there is no memory. */
+struct comm *new_comm(uint32_t context, struct chain *chain, MPI_Errhandler handler) {
+    struct comm *comm = calloc(1, sizeof *comm);
+    ulfm_group group;
+    uint32_t position;
+    if (!comm || !grow(&me->comms, me->comm_count, sizeof *me->comms) || ulfm_group_of(me->slot, context, &group) != ULFM_OK ||
+        ulfm_position(me->slot, context, &position) != ULFM_OK) {
+        free(comm);
+        return 0;
+    }
+    comm->context = context;
+    comm->chain = chain;
+    comm->hidden = chain->hidden;
+    comm->plane = chain->planes++;
+    comm->size = (int)group.size;
+    comm->position = (int)position;
+    memcpy(comm->members, group.members, sizeof comm->members);
+    comm->handler = handler;
+    chain->users++;
+    me->comms[me->comm_count++] = comm;
+    return comm;
+}
+
+/* MPI_COMM_WORLD and MPI_COMM_SELF. The messages of the latter go through the world's hidden context, where nobody else sends to itself. */
+bool make_world(void) {
+    struct chain *chain = new_chain(0);
+    struct comm *world = chain ? new_comm(0, chain, MPI_ERRORS_ARE_FATAL) : 0;
+    struct comm *self = world ? calloc(1, sizeof *self) : 0;
+    if (!self || !grow(&me->comms, me->comm_count, sizeof *me->comms)) return false;
+    strcpy(world->name, "MPI_COMM_WORLD");
+    strcpy(self->name, "MPI_COMM_SELF");
+    self->context = self->hidden = chain->hidden;
+    self->chain = chain;
+    self->size = 1;
+    self->members[0] = (uint8_t)me->number;
+    self->handler = MPI_ERRORS_ARE_FATAL;
+    self->is_self = true;
+    chain->users++;
+    me->comms[me->comm_count++] = self;
+    return true;
+}
+
+static void free_comm(struct comm *comm) {
+    if (--comm->chain->users == 0) free(comm->chain);
+    free(comm);
+}
+
+void clear_comms(void) {
+    for (int k = 0; k < me->comm_count; k++)
+        if (me->comms[k]) free_comm(me->comms[k]);
+    for (int k = 0; k < me->old_comm_count; k++) free_comm(me->old_comms[k]);
+    free(me->comms);
+    free(me->old_comms);
+    me->comms = me->old_comms = 0;
+    me->comm_count = me->old_comm_count = 0;
+}
+
+int MPI_Comm_size(MPI_Comm comm, int *size) {
+    struct comm *of = comm_at(comm);
+    ENTER_LOOK(of, MPI_UNDEFINED, MPI_UNDEFINED);
+    if (!of) return fail(0, MPI_ERR_COMM);
+    *size = of->size;
+    return MPI_SUCCESS;
+}
+
+int MPI_Comm_rank(MPI_Comm comm, int *rank) {
+    struct comm *of = comm_at(comm);
+    ENTER_LOOK(of, MPI_UNDEFINED, MPI_UNDEFINED);
+    if (!of) return fail(0, MPI_ERR_COMM);
+    *rank = of->position;
+    return MPI_SUCCESS;
+}
+
+int MPI_Comm_compare(MPI_Comm a, MPI_Comm b, int *result) {
+    struct comm *one = comm_at(a), *other = comm_at(b);
+    ENTER_LOOK(one, MPI_UNDEFINED, MPI_UNDEFINED);
+    if (!one || !other) return fail(0, MPI_ERR_COMM);
+    struct group groups[2] = {{one->size, {0}}, {other->size, {0}}};
+    memcpy(groups[0].members, one->members, MAX_RANKS);
+    memcpy(groups[1].members, other->members, MAX_RANKS);
+    int same = compare_groups(&groups[0], &groups[1]);
+    *result = one == other ? MPI_IDENT : same == MPI_IDENT ? MPI_CONGRUENT : same;
+    return MPI_SUCCESS;
+}
+
+/* The number that all members give their next duplicate: the greatest of those that they would give. So those that missed one that others
+   made, since a failure met it, agree with them again. */
+static int agree_on_plane(struct comm *comm, int *plane) {
+    int all[MAX_RANKS] = {0}, code = begin_collective(comm), verdict;
+    if (code) return code;
+    code = gather_all(comm, &comm->chain->planes, sizeof *plane, all);
+    struct {
+        int plane, code;
+    } decided = {0, code};
+    for (int k = 0; k < comm->size; k++)
+        if (all[k] > decided.plane) decided.plane = all[k];
+    verdict = spread(comm, &decided, sizeof decided, 0);
+    *plane = decided.plane;
+    return verdict ? verdict : decided.code;
+}
+
+int MPI_Comm_dup(MPI_Comm comm, MPI_Comm *made) {
+    struct comm *of = comm_at(comm);
+    ENTER(of, MPI_UNDEFINED, MPI_UNDEFINED);
+    if (!of) return fail(0, MPI_ERR_COMM);
+    if (of->is_self) return fail(of, NOT_ON_SELF);
+    struct chain *chain = of->chain;
+    int plane = 0, code = agree_on_plane(of, &plane);
+    uint32_t context = chain->last;
+    while (code == MPI_SUCCESS && chain->planes <= plane) {
+        code = class_of(ulfm_dup(me->slot, chain->last, &context));
+        if (code != MPI_SUCCESS) break;
+        chain->last = context;
+        if (chain->planes++ < plane) continue;
+        chain->planes--;
+        struct comm *duplicate = new_comm(context, chain, of->handler);
+        if (!duplicate) return fail(of, MPI_ERR_NO_MEM);
+        *made = handle_of(duplicate);
+        return MPI_SUCCESS;
+    }
+    return fail(of, code ? code : MPI_ERR_INTERN);
+}
+
+/* The handle goes. Contexts aren't used again, and requests that are open go on (7.4.3). */
+int MPI_Comm_free(MPI_Comm *comm) {
+    struct comm *of = comm ? comm_at(*comm) : 0;
+    ENTER_LOOK(of, MPI_UNDEFINED, MPI_UNDEFINED);
+    if (!of || *comm == MPI_COMM_WORLD || *comm == MPI_COMM_SELF) return fail(0, MPI_ERR_COMM);
+    if (!grow(&me->old_comms, me->old_comm_count, sizeof *me->old_comms)) return fail(of, MPI_ERR_NO_MEM);
+    me->old_comms[me->old_comm_count++] = of;
+    me->comms[(uintptr_t)*comm - 1] = 0;
+    *comm = MPI_COMM_NULL;
+    return MPI_SUCCESS;
+}
+
+int MPI_Comm_set_name(MPI_Comm comm, const char *name) {
+    struct comm *of = comm_at(comm);
+    ENTER_LOOK(of, MPI_UNDEFINED, MPI_UNDEFINED);
+    if (!of) return fail(0, MPI_ERR_COMM);
+    snprintf(of->name, sizeof of->name, "%s", name);
+    return MPI_SUCCESS;
+}
+
+int MPI_Comm_get_name(MPI_Comm comm, char *name, int *length) {
+    struct comm *of = comm_at(comm);
+    ENTER_LOOK(of, MPI_UNDEFINED, MPI_UNDEFINED);
+    if (!of) return fail(0, MPI_ERR_COMM);
+    *length = snprintf(name, MPI_MAX_OBJECT_NAME, "%s", of->name);
+    return MPI_SUCCESS;
+}
+
+int MPI_Comm_test_inter(MPI_Comm comm, int *flag) {
+    struct comm *of = comm_at(comm);
+    ENTER_LOOK(of, MPI_UNDEFINED, MPI_UNDEFINED);
+    if (!of) return fail(0, MPI_ERR_COMM);
+    *flag = 0;
+    return MPI_SUCCESS;
+}

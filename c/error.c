@@ -1,0 +1,133 @@
+/* Errors: classes, texts, and handlers (MPI 4.0, 9.3 and 9.4). */
+#include "run.h"
+#include <stdlib.h>
+#include <string.h>
+
+struct errhandler {
+    MPI_Comm_errhandler_function *function;
+};
+enum { FIRST_OWN = 4 };
+
+static const struct {
+    int code;
+    const char *text;
+} texts[] = {
+    {MPI_SUCCESS, "MPI_SUCCESS: no error"},
+    {MPI_ERR_BUFFER, "MPI_ERR_BUFFER: a buffer is null"},
+    {MPI_ERR_COUNT, "MPI_ERR_COUNT: a count is negative, or too large"},
+    {MPI_ERR_TYPE, "MPI_ERR_TYPE: this is no datatype, or not one for this operation"},
+    {MPI_ERR_TAG, "MPI_ERR_TAG: a tag is 0 to 32767"},
+    {MPI_ERR_COMM, "MPI_ERR_COMM: this is no communicator"},
+    {MPI_ERR_RANK, "MPI_ERR_RANK: the communicator has no such rank"},
+    {MPI_ERR_ROOT, "MPI_ERR_ROOT: the communicator has no such root"},
+    {MPI_ERR_GROUP, "MPI_ERR_GROUP: this is no group"},
+    {MPI_ERR_OP, "MPI_ERR_OP: this is no operation"},
+    {MPI_ERR_ARG, "MPI_ERR_ARG: an argument isn't allowed"},
+    {MPI_ERR_TRUNCATE, "MPI_ERR_TRUNCATE: the message was longer than the receive's room"},
+    {MPI_ERR_OTHER, "MPI_ERR_OTHER: another error"},
+    {MPI_ERR_INTERN, "MPI_ERR_INTERN: the engine refused what it shouldn't"},
+    {MPI_ERR_IN_STATUS, "MPI_ERR_IN_STATUS: the statuses say which request has which error"},
+    {MPI_ERR_PENDING, "MPI_ERR_PENDING: the request isn't over"},
+    {MPI_ERR_REQUEST, "MPI_ERR_REQUEST: this is no request or message"},
+    {MPI_ERR_NO_MEM, "MPI_ERR_NO_MEM: no memory is left"},
+    {MPIX_ERR_PROC_FAILED, "MPIX_ERR_PROC_FAILED: a process failed"},
+    {MPIX_ERR_PROC_FAILED_PENDING, "MPIX_ERR_PROC_FAILED_PENDING: a process failed that might have sent the message"},
+    {MPIX_ERR_REVOKED, "MPIX_ERR_REVOKED: the communicator is revoked"},
+    {NO_CONTEXTS, "MPI_ERR_OTHER: no context is left for a new communicator (there are 63)"},
+    {NO_COLLECTIVES, "MPI_ERR_OTHER: no context is left for the collectives of this communicator"},
+    {TOO_MANY_ROUNDS, "MPI_ERR_OTHER: no memory, or no more agreements on this communicator: ulfm-mpirun --rounds"},
+    {NOT_ON_SELF, "MPI_ERR_COMM: MPI_COMM_SELF has no duplicate here"},
+    {TAKEN_FOR_FAILED, "MPI_ERR_OTHER: the other members took this rank for failed"},
+};
+
+int MPI_Error_class(int errorcode, int *errorclass) {
+    *errorclass = errorcode & 255;
+    return MPI_SUCCESS;
+}
+
+static const char *text_of(int code) {
+    for (size_t k = 0; k < sizeof texts / sizeof *texts; k++)
+        if (texts[k].code == code) return texts[k].text;
+    return code & ~255 ? text_of(code & 255) : "an unknown error";
+}
+
+int MPI_Error_string(int errorcode, char *string, int *length) {
+    *length = snprintf(string, MPI_MAX_ERROR_STRING, "%s", text_of(errorcode));
+    return MPI_SUCCESS;
+}
+
+static bool is_handler(MPI_Errhandler handler) {
+    uintptr_t number = (uintptr_t)handler;
+    return (number && number < FIRST_OWN) || (number >= FIRST_OWN && number - FIRST_OWN < (uintptr_t)me->handler_count);
+}
+
+/* An error is fatal: says where and which, and ends the run. */
+static void end_by(struct comm *comm, int code) {
+    const char *call = me->place.call;
+    fprintf(stderr, "ulfm-mpirun: rank %d: %s: %s; errors are fatal on %s: the run ends\n", me->number, call, text_of(code),
+            comm->name[0] ? comm->name : "this communicator");
+    if (me->out) fflush(me->out);
+    report("fatal %d %s %d\n", me->number, call, code & 255);
+    end_run(STATUS_FATAL);
+}
+
+/* Hands an error to the handler of its communicator, of MPI_COMM_WORLD where there is none (9.3), and returns it. */
+int fail(struct comm *comm, int code) {
+    if (code == MPI_SUCCESS) return code;
+    if (!comm) comm = comm_at(MPI_COMM_WORLD);
+    uintptr_t number = (uintptr_t)comm->handler;
+    if (number == (uintptr_t)MPI_ERRORS_RETURN) return code;
+    if (number < FIRST_OWN || !is_handler(comm->handler)) end_by(comm, code);
+    MPI_Comm handle = handle_of(comm);
+    int told = code;
+    me->handlers[number - FIRST_OWN].function(&handle, &told);
+    return code;
+}
+
+int MPI_Comm_create_errhandler(MPI_Comm_errhandler_function *function, MPI_Errhandler *handler) {
+    ENTER_LOOK(0, MPI_UNDEFINED, MPI_UNDEFINED);
+    if (!function || !handler) return fail(0, MPI_ERR_ARG);
+    if (!grow(&me->handlers, me->handler_count, sizeof *me->handlers)) return fail(0, MPI_ERR_NO_MEM);
+    me->handlers[me->handler_count].function = function;
+    *handler = (MPI_Errhandler)(uintptr_t)(FIRST_OWN + me->handler_count++);
+    return MPI_SUCCESS;
+}
+
+int MPI_Comm_set_errhandler(MPI_Comm comm, MPI_Errhandler handler) {
+    struct comm *of = comm_at(comm);
+    ENTER_LOOK(of, MPI_UNDEFINED, MPI_UNDEFINED);
+    if (!of) return fail(0, MPI_ERR_COMM);
+    if (!is_handler(handler)) return fail(of, MPI_ERR_ARG);
+    of->handler = handler;
+    return MPI_SUCCESS;
+}
+
+int MPI_Comm_get_errhandler(MPI_Comm comm, MPI_Errhandler *handler) {
+    struct comm *of = comm_at(comm);
+    ENTER_LOOK(of, MPI_UNDEFINED, MPI_UNDEFINED);
+    if (!of) return fail(0, MPI_ERR_COMM);
+    *handler = of->handler;
+    return MPI_SUCCESS;
+}
+
+int MPI_Comm_call_errhandler(MPI_Comm comm, int errorcode) {
+    struct comm *of = comm_at(comm);
+    ENTER_LOOK(of, MPI_UNDEFINED, MPI_UNDEFINED);
+    if (!of) return fail(0, MPI_ERR_COMM);
+    (void)fail(of, errorcode);
+    return MPI_SUCCESS;
+}
+
+/* The handle goes; communicators that have the handler keep it (9.3.4). */
+int MPI_Errhandler_free(MPI_Errhandler *handler) {
+    ENTER_LOOK(0, MPI_UNDEFINED, MPI_UNDEFINED);
+    if (!handler || !is_handler(*handler)) return fail(0, MPI_ERR_ARG);
+    *handler = MPI_ERRHANDLER_NULL;
+    return MPI_SUCCESS;
+}
+
+void clear_handlers(void) {
+    free(me->handlers);
+    me->handlers = 0;
+    me->handler_count = 0;
+}

@@ -1,0 +1,221 @@
+/* Collectives that move data (MPI 4.0, 6.5 to 6.8). */
+#include "run.h"
+#include <stdlib.h>
+#include <string.h>
+
+/* Where each position's part stands in a buffer: all alike, or by counts and displacements, in elements of `size` bytes. */
+struct layout {
+    char *at;
+    size_t size;
+    int count;                     /* of each, where counts is null */
+    const int *counts, *displs;
+};
+
+static char *part_at(const struct layout *layout, int k) {
+    ptrdiff_t element = layout->counts ? layout->displs[k] : (ptrdiff_t)layout->count * k;
+    return layout->at + element * (ptrdiff_t)layout->size;
+}
+
+static size_t length_at(const struct layout *layout, int k) {
+    return layout->size * (size_t)(layout->counts ? layout->counts[k] : layout->count);
+}
+
+/* Why a layout can't be, or MPI_SUCCESS; then it has the size of its elements. */
+static int check(struct layout *layout, MPI_Datatype type, const struct comm *comm) {
+    if (!size_of_type(type, &layout->size)) return MPI_ERR_TYPE;
+    if (!layout->counts) return layout->count < 0 ? MPI_ERR_COUNT : MPI_SUCCESS;
+    for (int k = 0; k < comm->size; k++)
+        if (layout->counts[k] < 0) return MPI_ERR_COUNT;
+    return MPI_SUCCESS;
+}
+
+/* Copies bytes to where there is room for so many. */
+static int copy(void *to, size_t room, const void *from, size_t length) {
+    if (length && to != from) memmove(to, from, length < room ? length : room);
+    return length > room ? MPI_ERR_TRUNCATE : MPI_SUCCESS;
+}
+
+/* The root's part of a gather: from each position to where it belongs. */
+static int gather_to(struct comm *comm, const void *own, size_t length, const struct layout *to) {
+    int code = own == MPI_IN_PLACE ? MPI_SUCCESS : copy(part_at(to, comm->position), length_at(to, comm->position), own, length);
+    for (int k = 0; k < comm->size; k++) {
+        int one = k == comm->position ? MPI_SUCCESS : collect_receive(comm, k, part_at(to, k), length_at(to, k));
+        if (code == MPI_SUCCESS) code = one;
+    }
+    return code;
+}
+
+static int gather(const void *sendbuf, int sendcount, MPI_Datatype sendtype, struct layout *to, MPI_Datatype recvtype, int root, struct comm *comm) {
+    size_t length = 0;
+    int code = MPI_SUCCESS;
+    if (!comm) return MPI_ERR_COMM;
+    if (root < 0 || root >= comm->size) return MPI_ERR_ROOT;
+    if (sendbuf != MPI_IN_PLACE && !check_buffer(sendcount, sendtype, &length, &code)) return code;
+    if (comm->position == root) code = check(to, recvtype, comm);
+    if (code == MPI_SUCCESS) code = begin_collective(comm);
+    if (code != MPI_SUCCESS) return code;
+    return comm->position == root ? gather_to(comm, sendbuf, length, to) : collect_send(comm, root, sendbuf, length);
+}
+
+int MPI_Gather(const void *sendbuf, int sendcount, MPI_Datatype sendtype, void *recvbuf, int recvcount, MPI_Datatype recvtype, int root,
+               MPI_Comm comm) {
+    struct comm *of = comm_at(comm);
+    struct layout to = {.at = recvbuf, .count = recvcount};
+    ENTER(of, MPI_UNDEFINED, MPI_UNDEFINED);
+    return fail(of, gather(sendbuf, sendcount, sendtype, &to, recvtype, root, of));
+}
+
+int MPI_Gatherv(const void *sendbuf, int sendcount, MPI_Datatype sendtype, void *recvbuf, const int recvcounts[], const int displs[],
+                MPI_Datatype recvtype, int root, MPI_Comm comm) {
+    struct comm *of = comm_at(comm);
+    struct layout to = {.at = recvbuf, .counts = recvcounts, .displs = displs};
+    ENTER(of, MPI_UNDEFINED, MPI_UNDEFINED);
+    return fail(of, gather(sendbuf, sendcount, sendtype, &to, recvtype, root, of));
+}
+
+static int scatter(const struct layout *from, void *recvbuf, size_t room, int root, struct comm *comm) {
+    if (comm->position != root) return collect_receive(comm, root, recvbuf, room);
+    int code = recvbuf == MPI_IN_PLACE ? MPI_SUCCESS : copy(recvbuf, room, part_at(from, root), length_at(from, root));
+    for (int k = 0; k < comm->size; k++) {
+        int one = k == root ? MPI_SUCCESS : collect_send(comm, k, part_at(from, k), length_at(from, k));
+        if (code == MPI_SUCCESS) code = one;
+    }
+    return code;
+}
+
+static int begin_scatter(struct layout *from, MPI_Datatype sendtype, void *recvbuf, int recvcount, MPI_Datatype recvtype, int root,
+                         struct comm *comm) {
+    size_t room = 0;
+    int code = MPI_SUCCESS;
+    if (!comm) return MPI_ERR_COMM;
+    if (root < 0 || root >= comm->size) return MPI_ERR_ROOT;
+    if (recvbuf != MPI_IN_PLACE && !check_buffer(recvcount, recvtype, &room, &code)) return code;
+    if (comm->position == root) code = check(from, sendtype, comm);
+    if (code == MPI_SUCCESS) code = begin_collective(comm);
+    return code != MPI_SUCCESS ? code : scatter(from, recvbuf, room, root, comm);
+}
+
+int MPI_Scatter(const void *sendbuf, int sendcount, MPI_Datatype sendtype, void *recvbuf, int recvcount, MPI_Datatype recvtype, int root,
+                MPI_Comm comm) {
+    struct comm *of = comm_at(comm);
+    struct layout from = {.at = (char *)(uintptr_t)sendbuf, .count = sendcount};
+    ENTER(of, MPI_UNDEFINED, MPI_UNDEFINED);
+    return fail(of, begin_scatter(&from, sendtype, recvbuf, recvcount, recvtype, root, of));
+}
+
+int MPI_Scatterv(const void *sendbuf, const int sendcounts[], const int displs[], MPI_Datatype sendtype, void *recvbuf, int recvcount,
+                 MPI_Datatype recvtype, int root, MPI_Comm comm) {
+    struct comm *of = comm_at(comm);
+    struct layout from = {.at = (char *)(uintptr_t)sendbuf, .counts = sendcounts, .displs = displs};
+    ENTER(of, MPI_UNDEFINED, MPI_UNDEFINED);
+    return fail(of, begin_scatter(&from, sendtype, recvbuf, recvcount, recvtype, root, of));
+}
+
+/* Lays the parts behind one another in a buffer, or takes them from there. */
+static void pack(const struct layout *layout, int size, char *packed, bool is_out) {
+    for (int k = 0; k < size; k++) {
+        size_t length = length_at(layout, k);
+        if (length && is_out) memcpy(packed, part_at(layout, k), length);
+        else if (length) memcpy(part_at(layout, k), packed, length);
+        packed += length;
+    }
+}
+
+/* Position 0 gathers, and tells all with its verdict. */
+static int allgather(const void *sendbuf, int sendcount, MPI_Datatype sendtype, struct layout *to, MPI_Datatype recvtype, struct comm *comm) {
+    size_t length = 0, total = 0;
+    int code;
+    if (!comm) return MPI_ERR_COMM;
+    if (sendbuf != MPI_IN_PLACE && !check_buffer(sendcount, sendtype, &length, &code)) return code;
+    code = check(to, recvtype, comm);
+    if (code == MPI_SUCCESS) code = begin_collective(comm);
+    if (code != MPI_SUCCESS) return code;
+    const void *own = sendbuf == MPI_IN_PLACE ? part_at(to, comm->position) : sendbuf;
+    if (sendbuf == MPI_IN_PLACE) length = length_at(to, comm->position);
+    for (int k = 0; k < comm->size; k++) total += length_at(to, k);
+    char *packed = malloc(VERDICT + total);
+    if (!packed) return MPI_ERR_NO_MEM;
+    code = comm->position ? collect_send(comm, 0, own, length) : gather_to(comm, own, length, to);
+    memset(packed, 0, VERDICT + total);
+    if (comm->position == 0 && code == MPI_SUCCESS) pack(to, comm->size, packed + VERDICT, true);
+    code = spread_verdict(comm, code, packed, total);
+    if (comm->position && code == MPI_SUCCESS) pack(to, comm->size, packed + VERDICT, false);
+    free(packed);
+    return code;
+}
+
+int MPI_Allgather(const void *sendbuf, int sendcount, MPI_Datatype sendtype, void *recvbuf, int recvcount, MPI_Datatype recvtype, MPI_Comm comm) {
+    struct comm *of = comm_at(comm);
+    struct layout to = {.at = recvbuf, .count = recvcount};
+    ENTER(of, MPI_UNDEFINED, MPI_UNDEFINED);
+    return fail(of, allgather(sendbuf, sendcount, sendtype, &to, recvtype, of));
+}
+
+int MPI_Allgatherv(const void *sendbuf, int sendcount, MPI_Datatype sendtype, void *recvbuf, const int recvcounts[], const int displs[],
+                   MPI_Datatype recvtype, MPI_Comm comm) {
+    struct comm *of = comm_at(comm);
+    struct layout to = {.at = recvbuf, .counts = recvcounts, .displs = displs};
+    ENTER(of, MPI_UNDEFINED, MPI_UNDEFINED);
+    return fail(of, allgather(sendbuf, sendcount, sendtype, &to, recvtype, of));
+}
+
+/* Each sends each its part. All receives are posted first, and all are waited for. */
+static int exchange_all(const struct layout *from, const struct layout *to, struct comm *comm) {
+    struct request *posted[MAX_RANKS];
+    int me_at = comm->position;
+    int code = copy(part_at(to, me_at), length_at(to, me_at), part_at(from, me_at), length_at(from, me_at));
+    for (int k = 0; k < comm->size; k++) posted[k] = k == me_at ? 0 : collect_post(comm, k, part_at(to, k), length_at(to, k));
+    for (int k = 0; k < comm->size; k++) {
+        int one = k == me_at ? MPI_SUCCESS : collect_send(comm, k, part_at(from, k), length_at(from, k));
+        if (code == MPI_SUCCESS) code = one;
+    }
+    for (int k = 0; k < comm->size; k++) {
+        int one = k == me_at ? MPI_SUCCESS : collect_finish(posted[k]);
+        if (code == MPI_SUCCESS) code = one;
+    }
+    return code;
+}
+
+/* The bytes that a layout of parts reaches. */
+static size_t reach_of(const struct layout *layout, int size) {
+    size_t reach = 0;
+    for (int k = 0; k < size; k++) {
+        size_t end = (size_t)(part_at(layout, k) - layout->at) + length_at(layout, k);
+        if (end > reach) reach = end;
+    }
+    return reach;
+}
+
+static int alltoall(struct layout *from, MPI_Datatype sendtype, struct layout *to, MPI_Datatype recvtype, struct comm *comm) {
+    bool is_in_place = from->at == MPI_IN_PLACE;
+    if (!comm) return MPI_ERR_COMM;
+    int code = check(to, recvtype, comm);
+    if (code == MPI_SUCCESS && !is_in_place) code = check(from, sendtype, comm);
+    if (code == MPI_SUCCESS) code = begin_collective(comm);
+    if (code != MPI_SUCCESS) return code;
+    if (!is_in_place) return exchange_all(from, to, comm);
+    size_t reach = reach_of(to, comm->size);
+    struct layout copied = *to;
+    copied.at = malloc(reach + 1);
+    if (!copied.at) return MPI_ERR_NO_MEM;
+    memcpy(copied.at, to->at, reach);
+    code = exchange_all(&copied, to, comm);
+    free(copied.at);
+    return code;
+}
+
+int MPI_Alltoall(const void *sendbuf, int sendcount, MPI_Datatype sendtype, void *recvbuf, int recvcount, MPI_Datatype recvtype, MPI_Comm comm) {
+    struct comm *of = comm_at(comm);
+    struct layout from = {.at = (char *)(uintptr_t)sendbuf, .count = sendcount}, to = {.at = recvbuf, .count = recvcount};
+    ENTER(of, MPI_UNDEFINED, MPI_UNDEFINED);
+    return fail(of, alltoall(&from, sendtype, &to, recvtype, of));
+}
+
+int MPI_Alltoallv(const void *sendbuf, const int sendcounts[], const int sdispls[], MPI_Datatype sendtype, void *recvbuf,
+                  const int recvcounts[], const int rdispls[], MPI_Datatype recvtype, MPI_Comm comm) {
+    struct comm *of = comm_at(comm);
+    struct layout from = {.at = (char *)(uintptr_t)sendbuf, .counts = sendcounts, .displs = sdispls};
+    struct layout to = {.at = recvbuf, .counts = recvcounts, .displs = rdispls};
+    ENTER(of, MPI_UNDEFINED, MPI_UNDEFINED);
+    return fail(of, alltoall(&from, sendtype, &to, recvtype, of));
+}

@@ -1,0 +1,193 @@
+/* Groups (MPI 4.0, 7.3): lists of world ranks. */
+#include "run.h"
+#include <stdlib.h>
+#include <string.h>
+
+static struct group none;
+
+struct group *group_at(MPI_Group handle) {
+    uintptr_t number = (uintptr_t)handle;
+    if (handle == MPI_GROUP_EMPTY) return &none;
+    return me && number > 1 && number - 2 < (uintptr_t)me->group_count ? me->groups[number - 2] : 0;
+}
+
+/* Makes a group of so many members; the group of none is MPI_GROUP_EMPTY. */
+int make_group(const uint8_t *members, int size, MPI_Group *made) {
+    int place = 0;
+    if (size == 0) {
+        *made = MPI_GROUP_EMPTY;
+        return MPI_SUCCESS;
+    }
+    while (place < me->group_count && me->groups[place]) place++;
+    if (place == me->group_count && !grow(&me->groups, me->group_count, sizeof *me->groups)) return MPI_ERR_NO_MEM;
+    struct group *group = calloc(1, sizeof *group);
+    if (!group) return MPI_ERR_NO_MEM;
+    group->size = size;
+    memcpy(group->members, members, (size_t)size);
+    if (place == me->group_count) me->group_count++;
+    me->groups[place] = group;
+    *made = (MPI_Group)(uintptr_t)(place + 2);
+    return MPI_SUCCESS;
+}
+
+void clear_groups(void) {
+    for (int k = 0; k < me->group_count; k++) free(me->groups[k]);
+    free(me->groups);
+    me->groups = 0;
+    me->group_count = 0;
+}
+
+/* Where a world rank stands in a group, or MPI_UNDEFINED. */
+static int position_in(const struct group *group, int member) {
+    for (int k = 0; k < group->size; k++)
+        if (group->members[k] == member) return k;
+    return MPI_UNDEFINED;
+}
+
+int compare_groups(const struct group *a, const struct group *b) {
+    if (a->size != b->size) return MPI_UNEQUAL;
+    if (!memcmp(a->members, b->members, (size_t)a->size)) return MPI_IDENT;
+    for (int k = 0; k < a->size; k++)
+        if (position_in(b, a->members[k]) == MPI_UNDEFINED) return MPI_UNEQUAL;
+    return MPI_SIMILAR;
+}
+
+/* Begins a call on a group, or on two. */
+#define GROUP(group) \
+    ENTER_LOOK(0, MPI_UNDEFINED, MPI_UNDEFINED); \
+    struct group *of = group_at(group); \
+    if (!of) return fail(0, MPI_ERR_GROUP)
+#define GROUPS(one, other) \
+    ENTER_LOOK(0, MPI_UNDEFINED, MPI_UNDEFINED); \
+    struct group *a = group_at(one), *b = group_at(other); \
+    if (!a || !b) return fail(0, MPI_ERR_GROUP)
+
+int MPI_Comm_group(MPI_Comm comm, MPI_Group *group) {
+    struct comm *of = comm_at(comm);
+    ENTER_LOOK(of, MPI_UNDEFINED, MPI_UNDEFINED);
+    if (!of) return fail(0, MPI_ERR_COMM);
+    return fail(of, make_group(of->members, of->size, group));
+}
+
+int MPI_Group_size(MPI_Group group, int *size) {
+    GROUP(group);
+    *size = of->size;
+    return MPI_SUCCESS;
+}
+
+int MPI_Group_rank(MPI_Group group, int *rank) {
+    GROUP(group);
+    *rank = position_in(of, me->number);
+    return MPI_SUCCESS;
+}
+
+int MPI_Group_translate_ranks(MPI_Group from, int count, const int members[], MPI_Group to, int result[]) {
+    GROUPS(from, to);
+    for (int k = 0; k < count; k++) {
+        if (members[k] != MPI_PROC_NULL && (members[k] < 0 || members[k] >= a->size)) return fail(0, MPI_ERR_RANK);
+        result[k] = members[k] == MPI_PROC_NULL ? MPI_PROC_NULL : position_in(b, a->members[members[k]]);
+    }
+    return MPI_SUCCESS;
+}
+
+int MPI_Group_compare(MPI_Group one, MPI_Group other, int *result) {
+    GROUPS(one, other);
+    *result = compare_groups(a, b);
+    return MPI_SUCCESS;
+}
+
+/* The members of a that are in b or not, as wanted. */
+static int sift(const struct group *a, const struct group *b, bool wanted, uint8_t *members) {
+    int size = 0;
+    for (int k = 0; k < a->size; k++)
+        if ((position_in(b, a->members[k]) != MPI_UNDEFINED) == wanted) members[size++] = a->members[k];
+    return size;
+}
+
+int MPI_Group_union(MPI_Group one, MPI_Group other, MPI_Group *made) {
+    GROUPS(one, other);
+    uint8_t members[2 * MAX_RANKS];
+    memcpy(members, a->members, (size_t)a->size);
+    int size = a->size + sift(b, a, false, members + a->size);
+    return fail(0, make_group(members, size, made));
+}
+
+int MPI_Group_intersection(MPI_Group one, MPI_Group other, MPI_Group *made) {
+    GROUPS(one, other);
+    uint8_t members[MAX_RANKS];
+    return fail(0, make_group(members, sift(a, b, true, members), made));
+}
+
+int MPI_Group_difference(MPI_Group one, MPI_Group other, MPI_Group *made) {
+    GROUPS(one, other);
+    uint8_t members[MAX_RANKS];
+    return fail(0, make_group(members, sift(a, b, false, members), made));
+}
+
+/* The group of the positions listed; each once (7.3.2). */
+static int pick(const struct group *from, int count, const int positions[], struct group *picked) {
+    *picked = (struct group){0};
+    for (int k = 0; k < count; k++) {
+        if (positions[k] < 0 || positions[k] >= from->size) return MPI_ERR_RANK;
+        if (position_in(picked, from->members[positions[k]]) != MPI_UNDEFINED) return MPI_ERR_RANK;
+        picked->members[picked->size++] = from->members[positions[k]];
+    }
+    return MPI_SUCCESS;
+}
+
+/* Makes the group of the positions listed, or of the others. */
+static int incl_or_excl(const struct group *from, int count, const int positions[], bool is_incl, MPI_Group *made) {
+    struct group picked;
+    uint8_t members[MAX_RANKS];
+    int code = count < 0 ? MPI_ERR_ARG : pick(from, count, positions, &picked);
+    if (code != MPI_SUCCESS) return fail(0, code);
+    if (is_incl) return fail(0, make_group(picked.members, picked.size, made));
+    return fail(0, make_group(members, sift(from, &picked, false, members), made));
+}
+
+int MPI_Group_incl(MPI_Group group, int count, const int positions[], MPI_Group *made) {
+    GROUP(group);
+    return incl_or_excl(of, count, positions, true, made);
+}
+
+int MPI_Group_excl(MPI_Group group, int count, const int positions[], MPI_Group *made) {
+    GROUP(group);
+    return incl_or_excl(of, count, positions, false, made);
+}
+
+/* The positions of ranges (first, last, stride), or -1: there are more than ranks, or a stride is 0. */
+static int positions_of(int count, int ranges[][3], int positions[MAX_RANKS]) {
+    int found = 0;
+    for (int k = 0; k < count; k++) {
+        int stride = ranges[k][2];
+        if (stride == 0) return -1;
+        for (int at = ranges[k][0]; stride > 0 ? at <= ranges[k][1] : at >= ranges[k][1]; at += stride) {
+            if (found == MAX_RANKS) return -1;
+            positions[found++] = at;
+        }
+    }
+    return found;
+}
+
+int MPI_Group_range_incl(MPI_Group group, int count, int ranges[][3], MPI_Group *made) {
+    GROUP(group);
+    int positions[MAX_RANKS];
+    return incl_or_excl(of, positions_of(count, ranges, positions), positions, true, made);
+}
+
+int MPI_Group_range_excl(MPI_Group group, int count, int ranges[][3], MPI_Group *made) {
+    GROUP(group);
+    int positions[MAX_RANKS];
+    return incl_or_excl(of, positions_of(count, ranges, positions), positions, false, made);
+}
+
+int MPI_Group_free(MPI_Group *group) {
+    ENTER_LOOK(0, MPI_UNDEFINED, MPI_UNDEFINED);
+    if (!group || !group_at(*group)) return fail(0, MPI_ERR_GROUP);
+    if (*group != MPI_GROUP_EMPTY) {
+        free(group_at(*group));
+        me->groups[(uintptr_t)*group - 2] = 0;
+    }
+    *group = MPI_GROUP_NULL;
+    return MPI_SUCCESS;
+}

@@ -1,0 +1,73 @@
+/* What is told where a run can't go on: what each rank waits for, and by `addr2line` where in the program. */
+#define _GNU_SOURCE
+#include "run.h"
+#include <dlfcn.h>
+#include <stdlib.h>
+#include <string.h>
+#include <unistd.h>
+
+/* The line of the program that made a call, or "". */
+static void line_of(const struct rank *rank, char *line, size_t room) {
+    Dl_info info;
+    *line = 0;
+    if (!rank->place.from || !dladdr(rank->place.from, &info)) return;
+    char command[512];
+    size_t offset = (const char *)rank->place.from - (const char *)info.dli_fbase;
+    snprintf(command, sizeof command, "addr2line -s -e '%s' 0x%zx 2>/dev/null", options.program, offset - 1);
+    FILE *said = popen(command, "r");
+    if (!said) return;
+    if (!fgets(line, (int)room, said) || line[0] == '?') *line = 0;
+    pclose(said);
+    line[strcspn(line, " \n")] = 0;
+    if (strstr(line, ":?") || strstr(line, ":0")) *line = 0;
+}
+
+static const char *name_of(const struct comm *comm, char *name, size_t room) {
+    if (!comm) return "";
+    if (comm->name[0]) snprintf(name, room, " on %s", comm->name);
+    else snprintf(name, room, " on a communicator of %d (context %u)", comm->size, comm->context);
+    return name;
+}
+
+static void tell_peer(const struct place *place, char *text, size_t room) {
+    size_t used = 0;
+    if (place->peer == MPI_ANY_SOURCE) used += snprintf(text + used, room - used, " from any source");
+    else if (place->peer == MPI_PROC_NULL) used += snprintf(text + used, room - used, " with nobody");
+    else if (place->peer >= 0) used += snprintf(text + used, room - used, " with %d", place->peer);
+    if (place->tag == MPI_ANY_TAG && place->peer != MPI_UNDEFINED) used += snprintf(text + used, room - used, " any tag");
+    else if (place->tag >= 0) used += snprintf(text + used, room - used, " tag %d", place->tag);
+    for (int k = 0; k < options.ranks; k++)
+        if (place->waits_for >> k & 1) used += snprintf(text + used, room - used, "%s %d", used ? "," : " for rank", k);
+}
+
+static void tell_place(const struct rank *rank) {
+    char line[256], name[128], peer[128] = "";
+    const struct place *place = &rank->place;
+    fprintf(stderr, "  rank %d: ", rank->number);
+    if (rank->has_stopped) {
+        fprintf(stderr, "stopped%s, at %s (call %d)\n", rank->is_planned ? " by plan" : "", place->call ? place->call : "its start", rank->calls);
+        return;
+    }
+    if (rank->has_finalized || !place->call) {
+        fprintf(stderr, "%s\n", rank->has_finalized ? "has finalized" : "has made no call");
+        return;
+    }
+    line_of(rank, line, sizeof line);
+    tell_peer(place, peer, sizeof peer);
+    fprintf(stderr, "%s %s%s%s%s%s (call %d)\n", rank->idle ? "waits in" : "runs, after", place->call, peer,
+            name_of(place->comm, name, sizeof name), line[0] ? " at " : "", line, rank->calls);
+}
+
+void tell_places(void) {
+    for (int k = 0; k < options.ranks; k++) tell_place(&ranks[k]);
+}
+
+/* Nobody can move: says so, and ends the run. */
+void tell_stuck(void) {
+    static pthread_mutex_t lock = PTHREAD_MUTEX_INITIALIZER;
+    pthread_mutex_lock(&lock);
+    fprintf(stderr, "ulfm-mpirun: nobody can move any more:\n");
+    tell_places();
+    report("stuck\n");
+    end_run(STATUS_STUCK);
+}

@@ -1,0 +1,170 @@
+/* The launcher's main, and the threads of the ranks. */
+#define _GNU_SOURCE
+#include "run.h"
+#include <errno.h>
+#include <signal.h>
+#include <stdarg.h>
+#include <stdlib.h>
+#include <string.h>
+#include <sys/resource.h>
+#include <time.h>
+#include <unistd.h>
+
+struct rank ranks[MAX_RANKS];
+ulfm_slot slots[MAX_RANKS];
+__thread struct rank *me;
+static pthread_mutex_t end_lock = PTHREAD_MUTEX_INITIALIZER;
+static pthread_cond_t end_came = PTHREAD_COND_INITIALIZER;
+static int ended;
+
+/* Room for one more in an array of `count`; it doubles. False where there is no memory. */
+bool grow(void *array, int count, size_t size) {
+    void **at = array;
+    if (count & (count - 1)) return true;
+    void *larger = realloc(*at, (count ? 2 * (size_t)count : 1) * size);
+    if (!larger) return false;
+    *at = larger;
+    return true;
+}
+
+/* A line for --every-stop. */
+void report(const char *format, ...) {
+    char line[160];
+    va_list words;
+    if (options.report < 0) return;
+    va_start(words, format);
+    int length = vsnprintf(line, sizeof line, format, words);
+    va_end(words);
+    if (write(options.report, line, (size_t)length) != length) options.report = -1;
+}
+
+/* A rank crashed: the process can't go on. */
+static void crashed(int number) {
+    char line[200];
+    const char *call = me && me->place.call ? me->place.call : "its start";
+    int length = snprintf(line, sizeof line, "ulfm-mpirun: rank %d crashed by signal %d (%s), in or after %s (call %d)\n", me ? me->number : -1,
+                          number, number == SIGSEGV ? "segmentation fault" : "see signal(7)", call, me ? me->calls : 0);
+    if (write(2, line, (size_t)length) < 0) length = 0;
+    report("crash %d %d\n", me ? me->number : -1, number);
+    remove_copies();
+    signal(number, SIG_DFL);
+    end_run(128 + number);
+}
+
+static void watch_crashes(void) {
+    static const int numbers[] = {SIGSEGV, SIGBUS, SIGFPE, SIGILL};
+    for (size_t k = 0; k < sizeof numbers / sizeof *numbers; k++) {
+        struct sigaction old, action = {.sa_handler = crashed, .sa_flags = SA_ONSTACK | SA_NODEFER};
+        if (sigaction(numbers[k], 0, &old) == 0 && !(old.sa_flags & SA_SIGINFO) && old.sa_handler == SIG_DFL) sigaction(numbers[k], &action, 0);
+    }
+}
+
+static void clear_rank(void) {
+    clear_requests();
+    clear_messages();
+    clear_comms();
+    clear_groups();
+    clear_handlers();
+    clear_types();
+    clear_ops();
+}
+
+static void *run_rank(void *of) {
+    static __thread char room[16384];
+    stack_t stack = {.ss_sp = room, .ss_size = sizeof room};
+    sigaltstack(&stack, 0);
+    me = of;
+    if (setjmp(me->bottom) == 0) {
+        int status = run_program(me);
+        if (!me->has_finalized) stop_here(status);
+        me->status = status;
+    }
+    if (me->has_finalized) report("end %d %d\n", me->number, me->status);
+    close_output(me);
+    clear_rank();
+    atomic_store(&me->is_ended, 1);
+    me = 0;
+    moved();
+    pthread_mutex_lock(&end_lock);
+    ended++;
+    pthread_cond_signal(&end_came);
+    pthread_mutex_unlock(&end_lock);
+    return 0;
+}
+
+static bool start_rank(struct rank *rank, int number) {
+    pthread_attr_t attributes;
+    rank->number = number;
+    rank->slot = &slots[number];
+    rank->random = options.seed * 0x9E3779B97F4A7C15u + (uint64_t)number * 0xBF58476D1CE4E5B9u + 1;
+    if (!open_output(rank)) return false;
+    pthread_attr_init(&attributes);
+    pthread_attr_setstacksize(&attributes, 32u << 20);
+    return pthread_create(&rank->thread, &attributes, run_rank, rank) == 0;
+}
+
+/* Waits until all threads have ended, or the time is over. */
+static void wait_for_ends(void) {
+    struct timespec until;
+    clock_gettime(CLOCK_REALTIME, &until);
+    double at = (double)until.tv_sec + 1e-9 * (double)until.tv_nsec + (options.timeout > 0 ? options.timeout : 1e9);
+    until.tv_sec = (time_t)at;
+    until.tv_nsec = (long)((at - (double)until.tv_sec) * 1e9);
+    pthread_mutex_lock(&end_lock);
+    while (ended < options.ranks)
+        if (pthread_cond_timedwait(&end_came, &end_lock, &until) == ETIMEDOUT) {
+            fprintf(stderr, "ulfm-mpirun: the time is over after %g seconds:\n", options.timeout);
+            tell_places();
+            report("late\n");
+            end_run(STATUS_LATE);
+        }
+    pthread_mutex_unlock(&end_lock);
+    for (int k = 0; k < options.ranks; k++) pthread_join(ranks[k].thread, 0);
+}
+
+/* The status of a run that ended: that of the first rank that ended with another one than 0 and wasn't stopped by plan. */
+static int status_of_run(void) {
+    int status = 0;
+    for (int k = options.ranks - 1; k >= 0; k--) {
+        if (ranks[k].has_stopped && !ranks[k].is_planned)
+            fprintf(stderr, "ulfm-mpirun: rank %d ended with status %d without MPI_Finalize: it failed\n", k, ranks[k].status);
+        if (!ranks[k].is_planned && ranks[k].status) status = ranks[k].status;
+    }
+    return status & 255;
+}
+
+static void tell_unmet_stops(void) {
+    for (int k = 0; k < options.stops; k++)
+        if (!ranks[options.stop[k].rank].is_planned)
+            fprintf(stderr, "ulfm-mpirun: rank %d ended before a stop of the plan: it made %d calls\n", options.stop[k].rank,
+                    ranks[options.stop[k].rank].calls);
+}
+
+int ulfm_mpirun(int count, char **words) {
+    int refused = read_words(count, words);
+    if (refused) return refused < 0 ? 0 : refused;
+    if (options.every_stop) return every_stop(words[0]);
+    if (!copy_programs()) {
+        fprintf(stderr, "ulfm-mpirun: %s can't be copied\n", options.program);
+        return STATUS_USAGE;
+    }
+    uint32_t code = ulfm_world(slots, (size_t)options.ranks, (uint8_t)options.capacity, (uint16_t)options.rounds);
+    if (code != ULFM_OK) {
+        fprintf(stderr, "ulfm-mpirun: no world of %d ranks: code %u\n", options.ranks, code);
+        return STATUS_USAGE;
+    }
+    watch_crashes();
+    for (int k = 0; k < options.ranks; k++)
+        if (!start_rank(&ranks[k], k)) {
+            fprintf(stderr, "ulfm-mpirun: no thread for rank %d\n", k);
+            end_run(STATUS_USAGE);
+        }
+    wait_for_ends();
+    for (int k = 0; k < options.ranks; k++) ulfm_end(&slots[k]);
+    free_parcels();
+    tell_unmet_stops();
+    int status = status_of_run();
+    remove_copies();
+    for (int k = 0; k < options.ranks; k++) free(ranks[k].path);
+    return status;
+}

@@ -1,0 +1,81 @@
+/* A program is a shared object. Each rank loads a copy of its own, so that it has globals of its own. The copies stand in a folder for
+   temporary files until the run ends, for debuggers. */
+#define _GNU_SOURCE
+#include "run.h"
+#include <dlfcn.h>
+#include <errno.h>
+#include <fcntl.h>
+#include <stdlib.h>
+#include <string.h>
+#include <sys/sendfile.h>
+#include <sys/stat.h>
+#include <unistd.h>
+
+static char folder[256];
+
+static bool make_folder(void) {
+    const char *place = getenv("TMPDIR");
+    snprintf(folder, sizeof folder, "%.200s/ulfm-mpirun-XXXXXX", place && *place ? place : "/tmp");
+    if (mkdtemp(folder)) return true;
+    folder[0] = 0;
+    return false;
+}
+
+/* Copies the program to a path. */
+static bool copy_program(const char *path) {
+    int from = open(options.program, O_RDONLY | O_CLOEXEC);
+    int to = open(path, O_WRONLY | O_CREAT | O_EXCL | O_CLOEXEC, 0700);
+    struct stat info;
+    bool is_well = from >= 0 && to >= 0 && fstat(from, &info) == 0;
+    for (off_t left = is_well ? info.st_size : 0; is_well && left > 0;) {
+        ssize_t count = sendfile(to, from, 0, (size_t)left);
+        is_well = count > 0;
+        left -= count;
+    }
+    if (from >= 0) close(from);
+    if (to >= 0) close(to);
+    return is_well;
+}
+
+/* Makes the copies for all ranks. */
+bool copy_programs(void) {
+    const char *name = strrchr(options.program, '/');
+    name = name ? name + 1 : options.program;
+    if (!make_folder()) return false;
+    for (int k = 0; k < options.ranks; k++) {
+        if (asprintf(&ranks[k].path, "%s/%s.rank%d", folder, name, k) < 0) return false;
+        if (!copy_program(ranks[k].path)) return false;
+    }
+    return true;
+}
+
+void remove_copies(void) {
+    for (int k = 0; k < options.ranks; k++)
+        if (ranks[k].path) unlink(ranks[k].path);
+    if (folder[0]) rmdir(folder);
+}
+
+/* Loads the copy of the rank that runs, and calls its main. Its status, or STATUS_USAGE where it can't be loaded. */
+int run_program(struct rank *rank) {
+    extern char **environ;
+    rank->program = dlopen(rank->path, RTLD_NOW | RTLD_LOCAL);
+    if (!rank->program) {
+        fprintf(stderr, "ulfm-mpirun: %s: %s\n", options.program, dlerror());
+        end_run(STATUS_USAGE);
+    }
+    typedef int starting(int, char **, char **);
+    starting **start = (starting **)dlsym(rank->program, "ulfm_program_entry");
+    if (!start) {
+        fprintf(stderr, "ulfm-mpirun: %s wasn't linked by ulfm-mpicc\n", options.program);
+        end_run(STATUS_USAGE);
+    }
+    int count = options.count + 1;
+    char **words = calloc((size_t)count + 1, sizeof *words);
+    if (!words) end_run(STATUS_USAGE);
+    words[0] = strdup(options.program);
+    for (int k = 1; k < count; k++) words[k] = strdup(options.words[k - 1]);
+    int status = (*start)(count, words, environ);
+    for (int k = 0; k < count; k++) free(words[k]);
+    free(words);
+    return status;
+}

@@ -1,0 +1,311 @@
+/* MPI for programs whose ranks are threads of one process: point to point, collectives, groups, and the recovery calls of ULFM.
+
+   Compile and link with `ulfm-mpicc`, run with `ulfm-mpirun -n 4 ./solver`. The calls are those of MPI 4.0 and of ULFM (`MPIX_`); what isn't
+   declared here isn't there. docs/C.md says how to use it, what differs from other libraries, and what is proved.
+
+   Each call returns MPI_SUCCESS or an error code. `MPI_Error_class` gives its class. Before it returns an error, the call hands it to the error
+   handler of its communicator, of MPI_COMM_WORLD where it has none: at first MPI_ERRORS_ARE_FATAL, which ends the run. */
+#ifndef ULFM_MPI_H
+#define ULFM_MPI_H
+
+#include <stddef.h>
+#include <stdint.h>
+
+#ifdef __cplusplus
+extern "C" {
+#endif
+
+#define MPI_VERSION 4
+#define MPI_SUBVERSION 0
+#define ULFM_MPI 1
+
+/* ---- Handles. Zero is the null handle of each kind. ---- */
+
+typedef struct ulfm_mpi_comm *MPI_Comm;
+typedef struct ulfm_mpi_group *MPI_Group;
+typedef struct ulfm_mpi_request *MPI_Request;
+typedef struct ulfm_mpi_message *MPI_Message;
+typedef struct ulfm_mpi_datatype *MPI_Datatype;
+typedef struct ulfm_mpi_op *MPI_Op;
+typedef struct ulfm_mpi_errhandler *MPI_Errhandler;
+typedef struct ulfm_mpi_info *MPI_Info;
+typedef ptrdiff_t MPI_Aint;
+typedef long long MPI_Count;
+typedef long long MPI_Offset;
+
+#define MPI_COMM_NULL ((MPI_Comm)0)
+#define MPI_COMM_WORLD ((MPI_Comm)1)
+#define MPI_COMM_SELF ((MPI_Comm)2)
+#define MPI_GROUP_NULL ((MPI_Group)0)
+#define MPI_GROUP_EMPTY ((MPI_Group)1)
+#define MPI_REQUEST_NULL ((MPI_Request)0)
+#define MPI_MESSAGE_NULL ((MPI_Message)0)
+#define MPI_MESSAGE_NO_PROC ((MPI_Message)1)
+#define MPI_ERRHANDLER_NULL ((MPI_Errhandler)0)
+#define MPI_ERRORS_ARE_FATAL ((MPI_Errhandler)1)
+#define MPI_ERRORS_RETURN ((MPI_Errhandler)2)
+#define MPI_ERRORS_ABORT ((MPI_Errhandler)3)
+#define MPI_INFO_NULL ((MPI_Info)0)
+
+/* What is told of a message (3.2.5). `bytes` and `cancelled` are for MPI_Get_count, MPI_Get_elements and MPI_Test_cancelled. */
+typedef struct {
+    int MPI_SOURCE, MPI_TAG, MPI_ERROR;
+    int cancelled;
+    size_t bytes;
+} MPI_Status;
+
+typedef void MPI_Comm_errhandler_function(MPI_Comm *, int *, ...);
+typedef MPI_Comm_errhandler_function MPI_Comm_errhandler_fn;
+typedef void MPI_User_function(void *, void *, int *, MPI_Datatype *);
+
+#define MPI_STATUS_IGNORE ((MPI_Status *)0)
+#define MPI_STATUSES_IGNORE ((MPI_Status *)0)
+#define MPI_IN_PLACE ((void *)-1)
+#define MPI_BOTTOM ((void *)0)
+
+enum {
+    MPI_ANY_SOURCE = -1,
+    MPI_ANY_TAG = -1,
+    MPI_PROC_NULL = -2,
+    MPI_ROOT = -3,
+    MPI_UNDEFINED = -32766,
+    MPI_TAG_UB_VALUE = 32767
+};
+enum { MPI_IDENT = 0, MPI_CONGRUENT = 1, MPI_SIMILAR = 2, MPI_UNEQUAL = 3 };
+enum { MPI_THREAD_SINGLE = 0, MPI_THREAD_FUNNELED = 1, MPI_THREAD_SERIALIZED = 2, MPI_THREAD_MULTIPLE = 3 };
+
+#define MPI_MAX_ERROR_STRING 256
+#define MPI_MAX_PROCESSOR_NAME 128
+#define MPI_MAX_OBJECT_NAME 64
+#define MPI_MAX_LIBRARY_VERSION_STRING 256
+
+/* ---- Error classes (9.4), and those of ULFM. ---- */
+
+enum {
+    MPI_SUCCESS = 0,
+    MPI_ERR_BUFFER = 1,
+    MPI_ERR_COUNT = 2,
+    MPI_ERR_TYPE = 3,
+    MPI_ERR_TAG = 4,
+    MPI_ERR_COMM = 5,
+    MPI_ERR_RANK = 6,
+    MPI_ERR_ROOT = 7,
+    MPI_ERR_GROUP = 8,
+    MPI_ERR_OP = 9,
+    MPI_ERR_TOPOLOGY = 10,
+    MPI_ERR_DIMS = 11,
+    MPI_ERR_ARG = 12,
+    MPI_ERR_UNKNOWN = 13,
+    MPI_ERR_TRUNCATE = 14,
+    MPI_ERR_OTHER = 15,
+    MPI_ERR_INTERN = 16,
+    MPI_ERR_IN_STATUS = 17,
+    MPI_ERR_PENDING = 18,
+    MPI_ERR_REQUEST = 19,
+    MPI_ERR_NO_MEM = 34,
+    MPIX_ERR_PROC_FAILED = 101,
+    MPIX_ERR_PROC_FAILED_PENDING = 102,
+    MPIX_ERR_REVOKED = 103,
+    MPI_ERR_LASTCODE = 255
+};
+
+/* ---- Datatypes (3.2.2, and 6.9.4 for the pairs). ---- */
+
+#define ULFM_MPI_TYPE(number) ((MPI_Datatype)(number))
+#define MPI_DATATYPE_NULL ULFM_MPI_TYPE(0)
+#define MPI_CHAR ULFM_MPI_TYPE(1)
+#define MPI_SIGNED_CHAR ULFM_MPI_TYPE(2)
+#define MPI_UNSIGNED_CHAR ULFM_MPI_TYPE(3)
+#define MPI_BYTE ULFM_MPI_TYPE(4)
+#define MPI_PACKED ULFM_MPI_TYPE(5)
+#define MPI_SHORT ULFM_MPI_TYPE(6)
+#define MPI_UNSIGNED_SHORT ULFM_MPI_TYPE(7)
+#define MPI_INT ULFM_MPI_TYPE(8)
+#define MPI_UNSIGNED ULFM_MPI_TYPE(9)
+#define MPI_LONG ULFM_MPI_TYPE(10)
+#define MPI_UNSIGNED_LONG ULFM_MPI_TYPE(11)
+#define MPI_LONG_LONG ULFM_MPI_TYPE(12)
+#define MPI_LONG_LONG_INT MPI_LONG_LONG
+#define MPI_UNSIGNED_LONG_LONG ULFM_MPI_TYPE(13)
+#define MPI_FLOAT ULFM_MPI_TYPE(14)
+#define MPI_DOUBLE ULFM_MPI_TYPE(15)
+#define MPI_LONG_DOUBLE ULFM_MPI_TYPE(16)
+#define MPI_WCHAR ULFM_MPI_TYPE(17)
+#define MPI_C_BOOL ULFM_MPI_TYPE(18)
+#define MPI_INT8_T ULFM_MPI_TYPE(19)
+#define MPI_INT16_T ULFM_MPI_TYPE(20)
+#define MPI_INT32_T ULFM_MPI_TYPE(21)
+#define MPI_INT64_T ULFM_MPI_TYPE(22)
+#define MPI_UINT8_T ULFM_MPI_TYPE(23)
+#define MPI_UINT16_T ULFM_MPI_TYPE(24)
+#define MPI_UINT32_T ULFM_MPI_TYPE(25)
+#define MPI_UINT64_T ULFM_MPI_TYPE(26)
+#define MPI_AINT ULFM_MPI_TYPE(27)
+#define MPI_OFFSET ULFM_MPI_TYPE(28)
+#define MPI_COUNT ULFM_MPI_TYPE(29)
+#define MPI_FLOAT_INT ULFM_MPI_TYPE(30)
+#define MPI_DOUBLE_INT ULFM_MPI_TYPE(31)
+#define MPI_LONG_INT ULFM_MPI_TYPE(32)
+#define MPI_2INT ULFM_MPI_TYPE(33)
+#define MPI_SHORT_INT ULFM_MPI_TYPE(34)
+#define MPI_LONG_DOUBLE_INT ULFM_MPI_TYPE(35)
+
+/* ---- Operations (6.9.2). ---- */
+
+#define MPI_OP_NULL ((MPI_Op)0)
+#define MPI_SUM ((MPI_Op)1)
+#define MPI_PROD ((MPI_Op)2)
+#define MPI_MAX ((MPI_Op)3)
+#define MPI_MIN ((MPI_Op)4)
+#define MPI_LAND ((MPI_Op)5)
+#define MPI_LOR ((MPI_Op)6)
+#define MPI_LXOR ((MPI_Op)7)
+#define MPI_BAND ((MPI_Op)8)
+#define MPI_BOR ((MPI_Op)9)
+#define MPI_BXOR ((MPI_Op)10)
+#define MPI_MAXLOC ((MPI_Op)11)
+#define MPI_MINLOC ((MPI_Op)12)
+#define MPI_REPLACE ((MPI_Op)13)
+#define MPI_NO_OP ((MPI_Op)14)
+
+/* ---- Start and end (11.2), and the environment (9). ---- */
+
+int MPI_Init(int *argc, char ***argv);
+int MPI_Init_thread(int *argc, char ***argv, int required, int *provided);
+int MPI_Query_thread(int *provided);
+int MPI_Is_thread_main(int *flag);
+int MPI_Initialized(int *flag);
+int MPI_Finalize(void);
+int MPI_Finalized(int *flag);
+int MPI_Abort(MPI_Comm comm, int errorcode);
+int MPI_Get_version(int *version, int *subversion);
+int MPI_Get_library_version(char *version, int *length);
+int MPI_Get_processor_name(char *name, int *length);
+double MPI_Wtime(void);
+double MPI_Wtick(void);
+int MPI_Alloc_mem(MPI_Aint size, MPI_Info info, void *base);
+int MPI_Free_mem(void *base);
+int MPI_Get_address(const void *location, MPI_Aint *address);
+
+/* ---- Errors (9.3, 9.4). ---- */
+
+int MPI_Comm_create_errhandler(MPI_Comm_errhandler_function *function, MPI_Errhandler *handler);
+int MPI_Comm_set_errhandler(MPI_Comm comm, MPI_Errhandler handler);
+int MPI_Comm_get_errhandler(MPI_Comm comm, MPI_Errhandler *handler);
+int MPI_Comm_call_errhandler(MPI_Comm comm, int errorcode);
+int MPI_Errhandler_free(MPI_Errhandler *handler);
+int MPI_Error_class(int errorcode, int *errorclass);
+int MPI_Error_string(int errorcode, char *string, int *length);
+
+/* ---- Point to point (3). ---- */
+
+int MPI_Send(const void *buf, int count, MPI_Datatype type, int dest, int tag, MPI_Comm comm);
+int MPI_Ssend(const void *buf, int count, MPI_Datatype type, int dest, int tag, MPI_Comm comm);
+int MPI_Rsend(const void *buf, int count, MPI_Datatype type, int dest, int tag, MPI_Comm comm);
+int MPI_Recv(void *buf, int count, MPI_Datatype type, int source, int tag, MPI_Comm comm, MPI_Status *status);
+int MPI_Isend(const void *buf, int count, MPI_Datatype type, int dest, int tag, MPI_Comm comm, MPI_Request *request);
+int MPI_Issend(const void *buf, int count, MPI_Datatype type, int dest, int tag, MPI_Comm comm, MPI_Request *request);
+int MPI_Irsend(const void *buf, int count, MPI_Datatype type, int dest, int tag, MPI_Comm comm, MPI_Request *request);
+int MPI_Irecv(void *buf, int count, MPI_Datatype type, int source, int tag, MPI_Comm comm, MPI_Request *request);
+int MPI_Sendrecv(const void *sendbuf, int sendcount, MPI_Datatype sendtype, int dest, int sendtag, void *recvbuf, int recvcount,
+                 MPI_Datatype recvtype, int source, int recvtag, MPI_Comm comm, MPI_Status *status);
+int MPI_Sendrecv_replace(void *buf, int count, MPI_Datatype type, int dest, int sendtag, int source, int recvtag, MPI_Comm comm,
+                         MPI_Status *status);
+int MPI_Wait(MPI_Request *request, MPI_Status *status);
+int MPI_Waitall(int count, MPI_Request requests[], MPI_Status statuses[]);
+int MPI_Waitany(int count, MPI_Request requests[], int *index, MPI_Status *status);
+int MPI_Waitsome(int incount, MPI_Request requests[], int *outcount, int indices[], MPI_Status statuses[]);
+int MPI_Test(MPI_Request *request, int *flag, MPI_Status *status);
+int MPI_Testall(int count, MPI_Request requests[], int *flag, MPI_Status statuses[]);
+int MPI_Testany(int count, MPI_Request requests[], int *index, int *flag, MPI_Status *status);
+int MPI_Testsome(int incount, MPI_Request requests[], int *outcount, int indices[], MPI_Status statuses[]);
+int MPI_Request_get_status(MPI_Request request, int *flag, MPI_Status *status);
+int MPI_Request_free(MPI_Request *request);
+int MPI_Cancel(MPI_Request *request);
+int MPI_Test_cancelled(const MPI_Status *status, int *flag);
+int MPI_Probe(int source, int tag, MPI_Comm comm, MPI_Status *status);
+int MPI_Iprobe(int source, int tag, MPI_Comm comm, int *flag, MPI_Status *status);
+int MPI_Mprobe(int source, int tag, MPI_Comm comm, MPI_Message *message, MPI_Status *status);
+int MPI_Improbe(int source, int tag, MPI_Comm comm, int *flag, MPI_Message *message, MPI_Status *status);
+int MPI_Mrecv(void *buf, int count, MPI_Datatype type, MPI_Message *message, MPI_Status *status);
+int MPI_Imrecv(void *buf, int count, MPI_Datatype type, MPI_Message *message, MPI_Request *request);
+int MPI_Get_count(const MPI_Status *status, MPI_Datatype type, int *count);
+int MPI_Get_elements(const MPI_Status *status, MPI_Datatype type, int *count);
+
+/* ---- Datatypes: basic ones, and several of one type in a row (5.1.2). ---- */
+
+int MPI_Type_size(MPI_Datatype type, int *size);
+int MPI_Type_get_extent(MPI_Datatype type, MPI_Aint *lower, MPI_Aint *extent);
+int MPI_Type_contiguous(int count, MPI_Datatype type, MPI_Datatype *made);
+int MPI_Type_dup(MPI_Datatype type, MPI_Datatype *made);
+int MPI_Type_commit(MPI_Datatype *type);
+int MPI_Type_free(MPI_Datatype *type);
+
+/* ---- Communicators and groups (7). ---- */
+
+int MPI_Comm_size(MPI_Comm comm, int *size);
+int MPI_Comm_rank(MPI_Comm comm, int *rank);
+int MPI_Comm_compare(MPI_Comm a, MPI_Comm b, int *result);
+int MPI_Comm_dup(MPI_Comm comm, MPI_Comm *made);
+int MPI_Comm_free(MPI_Comm *comm);
+int MPI_Comm_group(MPI_Comm comm, MPI_Group *group);
+int MPI_Comm_set_name(MPI_Comm comm, const char *name);
+int MPI_Comm_get_name(MPI_Comm comm, char *name, int *length);
+int MPI_Comm_test_inter(MPI_Comm comm, int *flag);
+int MPI_Group_size(MPI_Group group, int *size);
+int MPI_Group_rank(MPI_Group group, int *rank);
+int MPI_Group_translate_ranks(MPI_Group from, int count, const int ranks[], MPI_Group to, int result[]);
+int MPI_Group_compare(MPI_Group a, MPI_Group b, int *result);
+int MPI_Group_union(MPI_Group a, MPI_Group b, MPI_Group *made);
+int MPI_Group_intersection(MPI_Group a, MPI_Group b, MPI_Group *made);
+int MPI_Group_difference(MPI_Group a, MPI_Group b, MPI_Group *made);
+int MPI_Group_incl(MPI_Group group, int count, const int ranks[], MPI_Group *made);
+int MPI_Group_excl(MPI_Group group, int count, const int ranks[], MPI_Group *made);
+int MPI_Group_range_incl(MPI_Group group, int count, int ranges[][3], MPI_Group *made);
+int MPI_Group_range_excl(MPI_Group group, int count, int ranges[][3], MPI_Group *made);
+int MPI_Group_free(MPI_Group *group);
+
+/* ---- Collectives (6). ---- */
+
+int MPI_Barrier(MPI_Comm comm);
+int MPI_Bcast(void *buf, int count, MPI_Datatype type, int root, MPI_Comm comm);
+int MPI_Reduce(const void *sendbuf, void *recvbuf, int count, MPI_Datatype type, MPI_Op op, int root, MPI_Comm comm);
+int MPI_Allreduce(const void *sendbuf, void *recvbuf, int count, MPI_Datatype type, MPI_Op op, MPI_Comm comm);
+int MPI_Scan(const void *sendbuf, void *recvbuf, int count, MPI_Datatype type, MPI_Op op, MPI_Comm comm);
+int MPI_Exscan(const void *sendbuf, void *recvbuf, int count, MPI_Datatype type, MPI_Op op, MPI_Comm comm);
+int MPI_Gather(const void *sendbuf, int sendcount, MPI_Datatype sendtype, void *recvbuf, int recvcount, MPI_Datatype recvtype, int root,
+               MPI_Comm comm);
+int MPI_Gatherv(const void *sendbuf, int sendcount, MPI_Datatype sendtype, void *recvbuf, const int recvcounts[], const int displs[],
+                MPI_Datatype recvtype, int root, MPI_Comm comm);
+int MPI_Allgather(const void *sendbuf, int sendcount, MPI_Datatype sendtype, void *recvbuf, int recvcount, MPI_Datatype recvtype,
+                  MPI_Comm comm);
+int MPI_Allgatherv(const void *sendbuf, int sendcount, MPI_Datatype sendtype, void *recvbuf, const int recvcounts[], const int displs[],
+                   MPI_Datatype recvtype, MPI_Comm comm);
+int MPI_Scatter(const void *sendbuf, int sendcount, MPI_Datatype sendtype, void *recvbuf, int recvcount, MPI_Datatype recvtype, int root,
+                MPI_Comm comm);
+int MPI_Scatterv(const void *sendbuf, const int sendcounts[], const int displs[], MPI_Datatype sendtype, void *recvbuf, int recvcount,
+                 MPI_Datatype recvtype, int root, MPI_Comm comm);
+int MPI_Alltoall(const void *sendbuf, int sendcount, MPI_Datatype sendtype, void *recvbuf, int recvcount, MPI_Datatype recvtype,
+                 MPI_Comm comm);
+int MPI_Alltoallv(const void *sendbuf, const int sendcounts[], const int sdispls[], MPI_Datatype sendtype, void *recvbuf,
+                  const int recvcounts[], const int rdispls[], MPI_Datatype recvtype, MPI_Comm comm);
+int MPI_Op_create(MPI_User_function *function, int commutes, MPI_Op *op);
+int MPI_Op_free(MPI_Op *op);
+int MPI_Op_commutative(MPI_Op op, int *commutes);
+int MPI_Reduce_local(const void *inbuf, void *inoutbuf, int count, MPI_Datatype type, MPI_Op op);
+
+/* ---- Recovery (ULFM). ---- */
+
+int MPIX_Comm_revoke(MPI_Comm comm);
+int MPIX_Comm_is_revoked(MPI_Comm comm, int *flag);
+int MPIX_Comm_shrink(MPI_Comm comm, MPI_Comm *made);
+int MPIX_Comm_agree(MPI_Comm comm, int *flag);
+int MPIX_Comm_get_failed(MPI_Comm comm, MPI_Group *failed);
+int MPIX_Comm_ack_failed(MPI_Comm comm, int count, int *acknowledged);
+int MPIX_Comm_failure_ack(MPI_Comm comm);
+int MPIX_Comm_failure_get_acked(MPI_Comm comm, MPI_Group *failed);
+
+#ifdef __cplusplus
+}
+#endif
+#endif

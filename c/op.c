@@ -1,0 +1,145 @@
+/* Operations of reductions (MPI 4.0, 6.9). */
+#include "run.h"
+#include <stdlib.h>
+#include <string.h>
+#include <wchar.h>
+
+struct op {
+    MPI_User_function *function;
+    bool commutes;
+};
+enum { FIRST_OWN = 32, LAST_BASIC = 14 };
+
+static const struct op *own_at(MPI_Op op) {
+    uintptr_t number = (uintptr_t)op;
+    if (number < FIRST_OWN || number - FIRST_OWN >= (uintptr_t)me->op_count) return 0;
+    const struct op *own = &me->ops[number - FIRST_OWN];
+    return own->function ? own : 0;
+}
+
+bool is_op(MPI_Op op) { return ((uintptr_t)op && (uintptr_t)op <= LAST_BASIC) || own_at(op); }
+
+#define EACH(operation) \
+    for (int k = 0; k < count; k++) operation; \
+    return true
+
+/* The operations of numbers of one C type: b[k] becomes a[k] op b[k]. False where it isn't one for this type. */
+#define ARITHMETIC(T) \
+    case 1: EACH(b[k] = (T)(a[k] + b[k])); \
+    case 2: EACH(b[k] = (T)(a[k] * b[k])); \
+    case 3: EACH(if (a[k] > b[k]) b[k] = a[k]); \
+    case 4: EACH(if (a[k] < b[k]) b[k] = a[k]);
+#define LOGICAL(T) \
+    case 5: EACH(b[k] = (T)(a[k] && b[k])); \
+    case 6: EACH(b[k] = (T)(a[k] || b[k])); \
+    case 7: EACH(b[k] = (T)(!a[k] != !b[k]));
+#define BITWISE(T) \
+    case 8: EACH(b[k] = (T)(a[k] & b[k])); \
+    case 9: EACH(b[k] = (T)(a[k] | b[k])); \
+    case 10: EACH(b[k] = (T)(a[k] ^ b[k]));
+#define FOLD(name, T, operations) \
+    static bool name(const void *in, void *into, int count, int op) { \
+        const T *a = in; \
+        T *b = into; \
+        switch (op) { operations default: return false; } \
+    }
+#define INTEGER(name, T) FOLD(name, T, ARITHMETIC(T) LOGICAL(T) BITWISE(T))
+
+INTEGER(fold_char, signed char)
+INTEGER(fold_uchar, unsigned char)
+INTEGER(fold_short, short)
+INTEGER(fold_ushort, unsigned short)
+INTEGER(fold_int, int)
+INTEGER(fold_uint, unsigned)
+INTEGER(fold_long, long)
+INTEGER(fold_ulong, unsigned long)
+INTEGER(fold_llong, long long)
+INTEGER(fold_ullong, unsigned long long)
+FOLD(fold_float, float, ARITHMETIC(float))
+FOLD(fold_double, double, ARITHMETIC(double))
+FOLD(fold_ldouble, long double, ARITHMETIC(long double))
+FOLD(fold_bool, _Bool, LOGICAL(_Bool))
+FOLD(fold_byte, unsigned char, BITWISE(unsigned char))
+
+/* MAXLOC and MINLOC (6.9.4): the value, and the least of the places where it is. */
+#define LOCATE(name, T) \
+    static bool name(const void *in, void *into, int count, int op) { \
+        const struct { T value; int place; } *a = in; \
+        struct { T value; int place; } *b = into; \
+        if (op != 11 && op != 12) return false; \
+        for (int k = 0; k < count; k++) { \
+            bool wins = op == 11 ? a[k].value > b[k].value : a[k].value < b[k].value; \
+            if (wins || (a[k].value == b[k].value && a[k].place < b[k].place)) memcpy(&b[k], &a[k], sizeof b[k]); \
+        } \
+        return true; \
+    }
+
+LOCATE(locate_float, float)
+LOCATE(locate_double, double)
+LOCATE(locate_long, long)
+LOCATE(locate_int, int)
+LOCATE(locate_short, short)
+LOCATE(locate_ldouble, long double)
+
+typedef bool folding(const void *, void *, int, int);
+static folding *const foldings[] = {
+    0, 0, fold_char, fold_uchar, fold_byte, 0, fold_short, fold_ushort, fold_int, fold_uint, fold_long, fold_ulong, fold_llong,
+    fold_ullong, fold_float, fold_double, fold_ldouble, 0, fold_bool, fold_char, fold_short, fold_int, fold_long, fold_uchar,
+    fold_ushort, fold_uint, fold_ulong, fold_long, fold_llong, fold_llong, locate_float, locate_double, locate_long, locate_int,
+    locate_short, locate_ldouble,
+};
+
+/* into[k] becomes in[k] op into[k]. MPI_ERR_OP where the operation isn't one for this type. */
+int fold(const void *in, void *into, int count, MPI_Datatype type, MPI_Op op) {
+    int times, number = (int)(uintptr_t)op;
+    const struct op *own = own_at(op);
+    if (own) {
+        own->function((void *)(uintptr_t)in, into, &count, &type);
+        return MPI_SUCCESS;
+    }
+    uintptr_t base = (uintptr_t)base_of_type(type, &times);
+    size_t size;
+    if (!size_of_type(type, &size)) return MPI_ERR_TYPE;
+    if (op == MPI_NO_OP) return MPI_SUCCESS;
+    if (op == MPI_REPLACE) memcpy(into, in, size * (size_t)count);
+    if (op == MPI_REPLACE) return MPI_SUCCESS;
+    return foldings[base] && foldings[base](in, into, count * times, number) ? MPI_SUCCESS : MPI_ERR_OP;
+}
+
+int MPI_Op_create(MPI_User_function *function, int commutes, MPI_Op *op) {
+    ENTER_LOOK(0, MPI_UNDEFINED, MPI_UNDEFINED);
+    if (!function) return fail(0, MPI_ERR_ARG);
+    if (!grow(&me->ops, me->op_count, sizeof *me->ops)) return fail(0, MPI_ERR_NO_MEM);
+    me->ops[me->op_count] = (struct op){function, commutes != 0};
+    *op = (MPI_Op)(uintptr_t)(FIRST_OWN + me->op_count++);
+    return MPI_SUCCESS;
+}
+
+int MPI_Op_free(MPI_Op *op) {
+    ENTER_LOOK(0, MPI_UNDEFINED, MPI_UNDEFINED);
+    if (!op || !own_at(*op)) return fail(0, MPI_ERR_OP);
+    me->ops[(uintptr_t)*op - FIRST_OWN] = (struct op){0};
+    *op = MPI_OP_NULL;
+    return MPI_SUCCESS;
+}
+
+int MPI_Op_commutative(MPI_Op op, int *commutes) {
+    ENTER_LOOK(0, MPI_UNDEFINED, MPI_UNDEFINED);
+    if (!is_op(op)) return fail(0, MPI_ERR_OP);
+    *commutes = own_at(op) ? own_at(op)->commutes : op != MPI_REPLACE;
+    return MPI_SUCCESS;
+}
+
+int MPI_Reduce_local(const void *inbuf, void *inoutbuf, int count, MPI_Datatype type, MPI_Op op) {
+    ENTER_LOOK(0, MPI_UNDEFINED, MPI_UNDEFINED);
+    size_t bytes;
+    int code;
+    if (!check_buffer(count, type, &bytes, &code)) return fail(0, code);
+    return fail(0, is_op(op) ? fold(inbuf, inoutbuf, count, type, op) : MPI_ERR_OP);
+}
+
+void clear_ops(void) {
+    free(me->ops);
+    me->ops = 0;
+    me->op_count = 0;
+}

@@ -1,0 +1,118 @@
+/* Standard output of ranks. They share one process, so each rank has a stream of its own, which hands whole lines on to descriptor 1. What a
+   program writes to `stdout` by the calls below goes to the stream of its rank. */
+#define _GNU_SOURCE
+#include "run.h"
+#include <dlfcn.h>
+#include <stdarg.h>
+#include <stdlib.h>
+#include <string.h>
+#include <unistd.h>
+
+static pthread_mutex_t lock = PTHREAD_MUTEX_INITIALIZER;
+
+static void write_all(const char *bytes, size_t length) {
+    while (length) {
+        ssize_t count = write(1, bytes, length);
+        if (count <= 0) return;
+        bytes += count;
+        length -= count;
+    }
+}
+
+/* Writes the rank's line that is complete. */
+static void hand_on(struct rank *rank) {
+    char tag[16];
+    pthread_mutex_lock(&lock);
+    if (options.tag) write_all(tag, snprintf(tag, sizeof tag, "[%d] ", rank->number));
+    write_all(rank->line, rank->line_length);
+    pthread_mutex_unlock(&lock);
+    rank->line_length = 0;
+}
+
+static bool add(struct rank *rank, char byte) {
+    if (rank->line_length == rank->line_room) {
+        size_t room = rank->line_room ? 2 * rank->line_room : 256;
+        char *line = realloc(rank->line, room);
+        if (!line) return false;
+        rank->line = line;
+        rank->line_room = room;
+    }
+    rank->line[rank->line_length++] = byte;
+    return true;
+}
+
+static ssize_t take(void *of, const char *bytes, size_t length) {
+    struct rank *rank = of;
+    for (size_t k = 0; k < length; k++) {
+        if (!add(rank, bytes[k])) return 0;
+        if (bytes[k] == '\n') hand_on(rank);
+    }
+    return (ssize_t)length;
+}
+
+bool open_output(struct rank *rank) {
+    rank->out = fopencookie(rank, "w", (cookie_io_functions_t){.write = take});
+    return rank->out && setvbuf(rank->out, 0, _IOLBF, BUFSIZ) == 0;
+}
+
+/* Writes what is left, as a line. */
+void close_output(struct rank *rank) {
+    if (rank->out) fclose(rank->out);
+    rank->out = 0;
+    if (rank->line_length && add(rank, '\n')) hand_on(rank);
+    free(rank->line);
+    rank->line = 0;
+}
+
+static FILE *stream(FILE *file) { return me && file == stdout && me->out ? me->out : file; }
+
+#define REAL(name, ...) static __typeof__(name) *real_##name;  if (!real_##name) real_##name = (__typeof__(name) *)dlsym(RTLD_NEXT, #name)
+
+int vfprintf(FILE *file, const char *format, va_list words) {
+    REAL(vfprintf);
+    return real_vfprintf(stream(file), format, words);
+}
+
+size_t fwrite(const void *bytes, size_t size, size_t count, FILE *file) {
+    REAL(fwrite);
+    return real_fwrite(bytes, size, count, stream(file));
+}
+
+int fputs(const char *text, FILE *file) {
+    REAL(fputs);
+    return real_fputs(text, stream(file));
+}
+
+int fputc(int byte, FILE *file) {
+    REAL(fputc);
+    return real_fputc(byte, stream(file));
+}
+
+int fflush(FILE *file) {
+    REAL(fflush);
+    return real_fflush(stream(file));
+}
+
+int setvbuf(FILE *file, char *buffer, int mode, size_t size) {
+    REAL(setvbuf);
+    return me && file == stdout ? 0 : real_setvbuf(file, buffer, mode, size);
+}
+
+void setbuf(FILE *file, char *buffer) { setvbuf(file, buffer, buffer ? _IOFBF : _IONBF, BUFSIZ); }
+
+#define FORWARD(file) va_list words; va_start(words, format); int count = vfprintf(file, format, words); va_end(words); return count
+
+#undef putc
+#undef putchar
+int printf(const char *format, ...) { FORWARD(stdout); }
+int fprintf(FILE *file, const char *format, ...) { FORWARD(file); }
+int vprintf(const char *format, va_list words) { return vfprintf(stdout, format, words); }
+int __printf_chk(int flag, const char *format, ...) { (void)flag; FORWARD(stdout); }
+int __fprintf_chk(FILE *file, int flag, const char *format, ...) { (void)flag; FORWARD(file); }
+int __vprintf_chk(int flag, const char *format, va_list words) { (void)flag; return vfprintf(stdout, format, words); }
+int __vfprintf_chk(FILE *file, int flag, const char *format, va_list words) { (void)flag; return vfprintf(file, format, words); }
+int putc(int byte, FILE *file) { return fputc(byte, file); }
+int putchar(int byte) { return fputc(byte, stdout); }
+int putc_unlocked(int byte, FILE *file) { return fputc(byte, file); }
+int putchar_unlocked(int byte) { return fputc(byte, stdout); }
+int puts(const char *text) { return fputs(text, stdout) < 0 || fputc('\n', stdout) < 0 ? EOF : 1; }

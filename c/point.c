@@ -1,0 +1,162 @@
+/* Sends and receives (MPI 4.0, 3.2, 3.4, 3.7, 3.10). A failure or a revocation that a send or a receive which doesn't block meets is told where
+   its request ends; wrong arguments are told at once. A standard send is buffered; with --sends wait it ends at its match. */
+#include "run.h"
+#include <limits.h>
+#include <stdlib.h>
+#include <string.h>
+
+/* Why a message can't be sent or received, or MPI_SUCCESS, and its bytes. */
+static int check(const void *buf, int count, MPI_Datatype type, int peer, int tag, const struct comm *comm, bool is_receive, size_t *bytes) {
+    int code;
+    if (!comm) return MPI_ERR_COMM;
+    if (!check_buffer(count, type, bytes, &code)) return code;
+    bool is_any = is_receive && peer == MPI_ANY_SOURCE;
+    if (!is_any && peer != MPI_PROC_NULL && (peer < 0 || peer >= comm->size)) return MPI_ERR_RANK;
+    if (!(is_receive && tag == MPI_ANY_TAG) && (tag < 0 || tag > MPI_TAG_UB_VALUE)) return MPI_ERR_TAG;
+    if (!buf && *bytes) return MPI_ERR_BUFFER;
+    if (comm->is_self && comm->hidden == NO_CONTEXT_LEFT) return NO_COLLECTIVES;
+    return MPI_SUCCESS;
+}
+
+static int begin_send(const void *buf, int count, MPI_Datatype type, int dest, int tag, struct comm *comm, bool waits, struct request **made) {
+    size_t bytes = 0;
+    int code = check(buf, count, type, dest, tag, comm, false, &bytes);
+    if (code != MPI_SUCCESS) return code;
+    *made = new_request(SENT, comm, dest, tag);
+    if (!*made) return MPI_ERR_NO_MEM;
+    start_send(*made, buf, bytes, waits);
+    return MPI_SUCCESS;
+}
+
+static int begin_receive(void *buf, int count, MPI_Datatype type, int source, int tag, struct comm *comm, struct request **made) {
+    size_t bytes = 0;
+    int code = check(buf, count, type, source, tag, comm, true, &bytes);
+    if (code != MPI_SUCCESS) return code;
+    *made = new_request(RECEIVE, comm, source, tag);
+    if (!*made) return MPI_ERR_NO_MEM;
+    start_receive(*made, buf, bytes);
+    return MPI_SUCCESS;
+}
+
+/* Waits for a request of a call that blocks, and tells how it ended. A receive from any source that pends is withdrawn: the call is over. */
+static int finish(struct request *request, MPI_Status *status) {
+    int pends = wait_for(request), code;
+    if (pends) withdraw(request);
+    code = request->code;
+    if (pends && request->status.cancelled) {
+        code = request->status.MPI_ERROR = MPIX_ERR_PROC_FAILED;
+        request->status.cancelled = 0;
+    }
+    if (status) *status = request->status;
+    free_request(request);
+    return code;
+}
+
+static int send_and_wait(const void *buf, int count, MPI_Datatype type, int dest, int tag, struct comm *comm, bool waits) {
+    struct request *request;
+    int code = begin_send(buf, count, type, dest, tag, comm, waits, &request);
+    return code != MPI_SUCCESS ? fail(comm, code) : fail(comm, finish(request, 0));
+}
+
+int MPI_Send(const void *buf, int count, MPI_Datatype type, int dest, int tag, MPI_Comm comm) {
+    struct comm *of = comm_at(comm);
+    ENTER(of, dest, tag);
+    return send_and_wait(buf, count, type, dest, tag, of, options.sends_wait);
+}
+
+int MPI_Ssend(const void *buf, int count, MPI_Datatype type, int dest, int tag, MPI_Comm comm) {
+    struct comm *of = comm_at(comm);
+    ENTER(of, dest, tag);
+    return send_and_wait(buf, count, type, dest, tag, of, true);
+}
+
+int MPI_Rsend(const void *buf, int count, MPI_Datatype type, int dest, int tag, MPI_Comm comm) {
+    struct comm *of = comm_at(comm);
+    ENTER(of, dest, tag);
+    return send_and_wait(buf, count, type, dest, tag, of, options.sends_wait);
+}
+
+int MPI_Recv(void *buf, int count, MPI_Datatype type, int source, int tag, MPI_Comm comm, MPI_Status *status) {
+    struct comm *of = comm_at(comm);
+    struct request *request;
+    ENTER(of, source, tag);
+    int code = begin_receive(buf, count, type, source, tag, of, &request);
+    return code != MPI_SUCCESS ? fail(of, code) : fail(of, finish(request, status));
+}
+
+static int isend(const void *buf, int count, MPI_Datatype type, int dest, int tag, struct comm *comm, bool waits, MPI_Request *made) {
+    struct request *request;
+    *made = MPI_REQUEST_NULL;
+    int code = begin_send(buf, count, type, dest, tag, comm, waits, &request);
+    if (code != MPI_SUCCESS) return fail(comm, code);
+    *made = (MPI_Request)(uintptr_t)request->handle;
+    return MPI_SUCCESS;
+}
+
+int MPI_Isend(const void *buf, int count, MPI_Datatype type, int dest, int tag, MPI_Comm comm, MPI_Request *request) {
+    struct comm *of = comm_at(comm);
+    ENTER(of, dest, tag);
+    return isend(buf, count, type, dest, tag, of, options.sends_wait, request);
+}
+
+int MPI_Issend(const void *buf, int count, MPI_Datatype type, int dest, int tag, MPI_Comm comm, MPI_Request *request) {
+    struct comm *of = comm_at(comm);
+    ENTER(of, dest, tag);
+    return isend(buf, count, type, dest, tag, of, true, request);
+}
+
+int MPI_Irsend(const void *buf, int count, MPI_Datatype type, int dest, int tag, MPI_Comm comm, MPI_Request *request) {
+    struct comm *of = comm_at(comm);
+    ENTER(of, dest, tag);
+    return isend(buf, count, type, dest, tag, of, options.sends_wait, request);
+}
+
+int MPI_Irecv(void *buf, int count, MPI_Datatype type, int source, int tag, MPI_Comm comm, MPI_Request *request) {
+    struct comm *of = comm_at(comm);
+    struct request *begun;
+    ENTER(of, source, tag);
+    *request = MPI_REQUEST_NULL;
+    int code = begin_receive(buf, count, type, source, tag, of, &begun);
+    if (code != MPI_SUCCESS) return fail(of, code);
+    *request = (MPI_Request)(uintptr_t)begun->handle;
+    return MPI_SUCCESS;
+}
+
+/* Sends and receives at the same time; the receive is posted first. The receive's error is told before the send's. */
+static int exchange(const void *sendbuf, int sendcount, MPI_Datatype sendtype, int dest, int sendtag, void *recvbuf, int recvcount,
+                    MPI_Datatype recvtype, int source, int recvtag, struct comm *comm, MPI_Status *status) {
+    struct request *receive, *send;
+    int code = begin_receive(recvbuf, recvcount, recvtype, source, recvtag, comm, &receive);
+    if (code != MPI_SUCCESS) return code;
+    code = begin_send(sendbuf, sendcount, sendtype, dest, sendtag, comm, options.sends_wait, &send);
+    if (code != MPI_SUCCESS) {
+        withdraw(receive);
+        free_request(receive);
+        return code;
+    }
+    code = finish(receive, status);
+    int sent = finish(send, 0);
+    return code != MPI_SUCCESS ? code : sent;
+}
+
+int MPI_Sendrecv(const void *sendbuf, int sendcount, MPI_Datatype sendtype, int dest, int sendtag, void *recvbuf, int recvcount,
+                 MPI_Datatype recvtype, int source, int recvtag, MPI_Comm comm, MPI_Status *status) {
+    struct comm *of = comm_at(comm);
+    ENTER(of, source, recvtag);
+    return fail(of, exchange(sendbuf, sendcount, sendtype, dest, sendtag, recvbuf, recvcount, recvtype, source, recvtag, of, status));
+}
+
+int MPI_Sendrecv_replace(void *buf, int count, MPI_Datatype type, int dest, int sendtag, int source, int recvtag, MPI_Comm comm,
+                         MPI_Status *status) {
+    struct comm *of = comm_at(comm);
+    size_t bytes = 0;
+    ENTER(of, source, recvtag);
+    int code = check(buf, count, type, dest, sendtag, of, false, &bytes);
+    if (code != MPI_SUCCESS) return fail(of, code);
+    void *copy = malloc(bytes ? bytes : 1);
+    if (!copy) return fail(of, MPI_ERR_NO_MEM);
+    if (bytes) memcpy(copy, buf, bytes);
+    code = exchange(copy, count, type, dest, sendtag, buf, count, type, source, recvtag, of, status);
+    free(copy);
+    return fail(of, code);
+}

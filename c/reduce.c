@@ -1,0 +1,122 @@
+/* Reductions (MPI 4.0, 6.9 and 6.11): position 0 gets all parts and folds them in the order of positions, so that each run gives the same bits. */
+#include "run.h"
+#include <stdlib.h>
+#include <string.h>
+
+/* A reduction: its arguments, and room for all parts behind one another, then for a verdict and the result. */
+struct reduction {
+    struct comm *comm;
+    int count;
+    MPI_Datatype type;
+    MPI_Op op;
+    size_t bytes;
+    char *parts, *result;   /* result has a verdict before it */
+};
+
+/* Why a reduction can't be, or MPI_SUCCESS; then it has its room and its number. */
+static int begin(struct reduction *of, int count, MPI_Datatype type, MPI_Op op, struct comm *comm) {
+    int code;
+    *of = (struct reduction){.comm = comm, .count = count, .type = type, .op = op};
+    if (!comm) return MPI_ERR_COMM;
+    if (!check_buffer(count, type, &of->bytes, &code)) return code;
+    if (!is_op(op)) return MPI_ERR_OP;
+    code = begin_collective(comm);
+    if (code != MPI_SUCCESS) return code;
+    of->parts = malloc(of->bytes * (size_t)comm->size + 1);
+    of->result = malloc(VERDICT + of->bytes);
+    return of->parts && of->result ? MPI_SUCCESS : MPI_ERR_NO_MEM;
+}
+
+static int finish(struct reduction *of, int code) {
+    free(of->parts);
+    free(of->result);
+    return fail(of->comm, code);
+}
+
+/* Folds parts 0 to last into `into`, in order. */
+static int fold_parts(const struct reduction *of, int last, char *into) {
+    char *folded = malloc(of->bytes + 1);
+    int code = folded ? MPI_SUCCESS : MPI_ERR_NO_MEM;
+    if (!folded) return code;
+    memcpy(into, of->parts, of->bytes);
+    for (int k = 1; k <= last && code == MPI_SUCCESS; k++) {
+        memcpy(folded, of->parts + of->bytes * (size_t)k, of->bytes);
+        code = fold(into, folded, of->count, of->type, of->op);
+        memcpy(into, folded, of->bytes);
+    }
+    free(folded);
+    return code;
+}
+
+int MPI_Allreduce(const void *sendbuf, void *recvbuf, int count, MPI_Datatype type, MPI_Op op, MPI_Comm comm) {
+    struct reduction of;
+    struct comm *in = comm_at(comm);
+    ENTER(in, MPI_UNDEFINED, MPI_UNDEFINED);
+    int code = begin(&of, count, type, op, in);
+    if (code != MPI_SUCCESS) return finish(&of, code);
+    code = gather_all(in, sendbuf == MPI_IN_PLACE ? recvbuf : sendbuf, of.bytes, of.parts);
+    if (in->position == 0 && code == MPI_SUCCESS) code = fold_parts(&of, in->size - 1, of.result + VERDICT);
+    else memset(of.result + VERDICT, 0, of.bytes);
+    code = spread_verdict(in, code, of.result, of.bytes);
+    if (code == MPI_SUCCESS && of.bytes) memcpy(recvbuf, of.result + VERDICT, of.bytes);
+    return finish(&of, code);
+}
+
+/* The root gets the result; another one is through when its part is on its way. */
+int MPI_Reduce(const void *sendbuf, void *recvbuf, int count, MPI_Datatype type, MPI_Op op, int root, MPI_Comm comm) {
+    struct reduction of;
+    struct comm *in = comm_at(comm);
+    ENTER(in, MPI_UNDEFINED, MPI_UNDEFINED);
+    if (in && (root < 0 || root >= in->size)) return fail(in, MPI_ERR_ROOT);
+    int code = begin(&of, count, type, op, in);
+    if (code != MPI_SUCCESS) return finish(&of, code);
+    const void *own = sendbuf == MPI_IN_PLACE ? recvbuf : sendbuf;
+    if (in->position != root) return finish(&of, collect_send(in, root, own, of.bytes));
+    for (int k = 0; k < in->size; k++) {
+        char *part = of.parts + of.bytes * (size_t)k;
+        int one = MPI_SUCCESS;
+        if (k == root) memcpy(part, own, of.bytes);
+        else one = collect_receive(in, k, part, of.bytes);
+        if (code == MPI_SUCCESS) code = one;
+    }
+    if (code == MPI_SUCCESS) code = fold_parts(&of, in->size - 1, of.result);
+    if (code == MPI_SUCCESS && of.bytes) memcpy(recvbuf, of.result, of.bytes);
+    return finish(&of, code);
+}
+
+/* Position 0 gives each its prefix, up to its own part or to the one before. */
+static int scan(const void *sendbuf, void *recvbuf, struct reduction *of, bool is_exclusive) {
+    struct comm *in = of->comm;
+    const void *own = sendbuf == MPI_IN_PLACE ? recvbuf : sendbuf;
+    int code = gather_all(in, own, of->bytes, of->parts), told = MPI_SUCCESS;
+    int64_t verdict = code;
+    for (int k = in->size - 1; k >= 0 && in->position == 0; k--) {
+        bool has_none = is_exclusive && k == 0;
+        memset(of->result + VERDICT, 0, of->bytes);
+        if (verdict == MPI_SUCCESS && !has_none) verdict = fold_parts(of, is_exclusive ? k - 1 : k, of->result + VERDICT);
+        memcpy(of->result, &verdict, sizeof verdict);
+        if (k) told = collect_send(in, k, of->result, VERDICT + of->bytes);
+        if (told != MPI_SUCCESS && code == MPI_SUCCESS) code = told;
+    }
+    if (in->position) code = collect_receive(in, 0, of->result, VERDICT + of->bytes);
+    memcpy(&verdict, of->result, sizeof verdict);
+    if (code == MPI_SUCCESS) code = (int)verdict;
+    if (code == MPI_SUCCESS && of->bytes && !(is_exclusive && in->position == 0)) memcpy(recvbuf, of->result + VERDICT, of->bytes);
+    return code;
+}
+
+int MPI_Scan(const void *sendbuf, void *recvbuf, int count, MPI_Datatype type, MPI_Op op, MPI_Comm comm) {
+    struct reduction of;
+    struct comm *in = comm_at(comm);
+    ENTER(in, MPI_UNDEFINED, MPI_UNDEFINED);
+    int code = begin(&of, count, type, op, in);
+    return finish(&of, code != MPI_SUCCESS ? code : scan(sendbuf, recvbuf, &of, false));
+}
+
+int MPI_Exscan(const void *sendbuf, void *recvbuf, int count, MPI_Datatype type, MPI_Op op, MPI_Comm comm) {
+    struct reduction of;
+    struct comm *in = comm_at(comm);
+    ENTER(in, MPI_UNDEFINED, MPI_UNDEFINED);
+    int code = begin(&of, count, type, op, in);
+    return finish(&of, code != MPI_SUCCESS ? code : scan(sendbuf, recvbuf, &of, true));
+}

@@ -1,0 +1,170 @@
+/* Requests: what was begun and isn't over, and what is over and wasn't told. */
+#include "run.h"
+#include <stdlib.h>
+#include <string.h>
+
+struct request *request_at(MPI_Request handle) {
+    uintptr_t number = (uintptr_t)handle;
+    return number && number <= (uintptr_t)me->request_count ? me->requests[number - 1] : 0;
+}
+
+/* A place of the table that is free, or -1 where there is no memory. */
+static int free_place(void) {
+    while (me->first_free < me->request_count && me->requests[me->first_free]) me->first_free++;
+    if (me->first_free < me->request_count) return me->first_free;
+    if (!grow(&me->requests, me->request_count, sizeof *me->requests)) return -1;
+    me->requests[me->request_count] = 0;
+    return me->request_count++;
+}
+
+/* A request that isn't over, or null where there is no memory. */
+struct request *new_request(enum kind kind, struct comm *comm, int peer, int tag) {
+    struct request *request = calloc(1, sizeof *request);
+    if (!request) return 0;
+    int place = free_place();
+    if (place < 0) {
+        free(request);
+        return 0;
+    }
+    request->kind = kind;
+    request->comm = comm;
+    request->context = comm->is_self ? comm->hidden : comm->context;
+    request->peer = peer;
+    request->tag = tag;
+    request->handle = place + 1;
+    request->status = (MPI_Status){.MPI_SOURCE = peer, .MPI_TAG = tag};
+    me->requests[place] = request;
+    return request;
+}
+
+static void unlink_open(struct request *request) {
+    for (struct request **at = &me->open; *at; at = &(*at)->next)
+        if (*at == request) {
+            *at = request->next;
+            return;
+        }
+}
+
+void free_request(struct request *request) {
+    if (request->kind == RECEIVE && !request->over) unlink_open(request);
+    if (request->parcel) let_go(request->parcel);
+    me->requests[request->handle - 1] = 0;
+    if (request->handle - 1 < me->first_free) me->first_free = request->handle - 1;
+    free(request);
+}
+
+/* The request is over. One that the program freed before goes. */
+static void end_request(struct request *request, int code) {
+    if (request->kind == RECEIVE && !request->over) unlink_open(request);
+    request->over = true;
+    request->code = code;
+    request->status.MPI_ERROR = code;
+    if (request->freed) free_request(request);
+}
+
+/* Where a message goes or comes from nobody (3.10). */
+static void end_with_nobody(struct request *request) {
+    request->status = (MPI_Status){.MPI_SOURCE = MPI_PROC_NULL, .MPI_TAG = MPI_ANY_TAG};
+    request->kind = NOTHING;
+    request->over = true;
+}
+
+/* Posts the receive of a request. A refusal is told where the request ends. */
+void start_receive(struct request *request, void *buffer, size_t room) {
+    request->buffer = buffer;
+    request->room = room;
+    if (request->peer == MPI_PROC_NULL) {
+        end_with_nobody(request);
+        return;
+    }
+    uint32_t source = request->peer == MPI_ANY_SOURCE ? ULFM_ANY : (uint32_t)request->peer;
+    uint32_t tag = request->tag == MPI_ANY_TAG ? ULFM_ANY : (uint32_t)request->tag;
+    if (request->comm->is_self) source = (uint32_t)me->number;
+    uint32_t code = ulfm_irecv(me->slot, request->context, source, tag, BODY, &request->id);
+    if (code == ULFM_OK && request->comm->is_self && request->comm->self_revoked) code = ULFM_REVOKED;
+    request->next = me->open;
+    me->open = request;
+    if (code != ULFM_OK) end_request(request, class_of(code));
+    else look_at(request);
+}
+
+/* Starts the send of a request. A refusal is told where the request ends. */
+void start_send(struct request *request, const void *buffer, size_t length, bool is_synchronous) {
+    if (request->peer == MPI_PROC_NULL) {
+        end_with_nobody(request);
+        return;
+    }
+    struct comm *comm = request->comm;
+    int dest = comm->is_self ? me->number : request->peer, code = MPI_SUCCESS;
+    if (comm->self_revoked) code = MPIX_ERR_REVOKED;
+    else
+        code = send_letter(request->context, dest, comm->members[request->peer], request->tag, buffer, length,
+                           is_synchronous ? &request->parcel : 0);
+    request->kind = request->parcel ? SYNCHRONOUS : SENT;
+    request->status.bytes = length;
+    if (code != MPI_SUCCESS || !is_synchronous) end_request(request, code);
+}
+
+/* Looks whether a synchronous send was matched, or never can be. */
+static int look_at_send(struct request *request) {
+    if (atomic_load(&request->parcel->matched)) end_request(request, MPI_SUCCESS);
+    else if (is_revoked(request->comm)) end_request(request, MPIX_ERR_REVOKED);
+    else if (is_failed(request->comm, request->peer)) end_request(request, MPIX_ERR_PROC_FAILED);
+    return MPI_SUCCESS;
+}
+
+/* The engine answered that the receive is over: `told`, and its letter. */
+static void end_receive(struct request *request, const ulfm_status *told, const uint8_t *letter) {
+    int code = MPI_SUCCESS;
+    if (told->cancelled) request->status.cancelled = 1;
+    else if (told->error) code = class_of(told->error);
+    else {
+        take_letter(told, letter, request->buffer, request->room, &request->status, &code);
+        if (request->comm->is_self) request->status.MPI_SOURCE = 0;
+    }
+    end_request(request, code);
+}
+
+/* Looks at a request once. It may be over then. MPIX_ERR_PROC_FAILED_PENDING where it pends, else MPI_SUCCESS. */
+int look_at(struct request *request) {
+    if (request->over) return MPI_SUCCESS;
+    if (request->kind == SYNCHRONOUS) return look_at_send(request);
+    uint8_t letter[BODY];
+    ulfm_status told;
+    uint32_t code = ulfm_test(me->slot, request->id, &told, letter, sizeof letter);
+    if (code == ULFM_NOT_YET) return MPI_SUCCESS;
+    if (code == ULFM_PENDING) return MPIX_ERR_PROC_FAILED_PENDING;
+    if (code == ULFM_OK) end_receive(request, &told, letter);
+    else end_request(request, class_of(code));
+    return MPI_SUCCESS;
+}
+
+/* Looks at all receives that wait, so that senders that wait for a match are told. */
+void look_at_all(void) {
+    for (struct request *request = me->open, *next; request; request = next) {
+        next = request->next;
+        look_at(request);
+    }
+}
+
+/* Withdraws a receive that waits. Where a message came before, the request ends with it. */
+void withdraw(struct request *request) {
+    if (request->over || request->kind != RECEIVE) return;
+    uint8_t letter[BODY];
+    ulfm_status told;
+    uint32_t code = ulfm_cancel(me->slot, request->id, &told, letter, sizeof letter);
+    if (code == ULFM_OK) end_receive(request, &told, letter);
+    else end_request(request, class_of(code));
+}
+
+void clear_requests(void) {
+    for (int k = 0; k < me->request_count; k++) {
+        struct request *request = me->requests[k];
+        if (request && request->parcel) let_go(request->parcel);
+        free(request);
+    }
+    free(me->requests);
+    me->requests = 0;
+    me->request_count = 0;
+    me->open = 0;
+}

@@ -1,0 +1,256 @@
+/* What the files of the MPI layer share. A rank is a thread; `me` is the rank of the thread that runs, null outside of ranks. */
+#ifndef ULFM_MPI_RUN_H
+#define ULFM_MPI_RUN_H
+
+#include "mpi.h"
+#include "ulfm.h"
+#include <pthread.h>
+#include <setjmp.h>
+#include <stdatomic.h>
+#include <stdbool.h>
+#include <stdio.h>
+
+enum { MAX_RANKS = 8, CONTEXTS = 63, BODY = 1024, MAX_STOPS = 16, NO_CONTEXT_LEFT = 255 };
+
+/* Statuses of ulfm-mpirun besides those of programs. */
+enum { STATUS_USAGE = 2, STATUS_FATAL = 96, STATUS_STUCK = 98, STATUS_LATE = 99 };
+
+/* Error codes: the class, and a detail times 256, which MPI_Error_string tells. */
+enum {
+    NO_CONTEXTS = MPI_ERR_OTHER | 1 << 8,
+    NO_COLLECTIVES = MPI_ERR_OTHER | 2 << 8,
+    TOO_MANY_ROUNDS = MPI_ERR_OTHER | 3 << 8,
+    NOT_ON_SELF = MPI_ERR_COMM | 4 << 8,
+    TAKEN_FOR_FAILED = MPI_ERR_OTHER | 5 << 8,
+    NOT_INITIALIZED = MPI_ERR_OTHER | 6 << 8
+};
+
+/* The communicators of one group that were made by duplication: contexts `base`, its duplicate (for collectives), and that one's, and so on. */
+struct chain {
+    uint32_t hidden; /* the first duplicate, NO_CONTEXT_LEFT where there is none */
+    uint32_t last;   /* the last duplicate that was made here */
+    int planes;      /* how many communicators of a program were made on it */
+    int users;       /* how many of them are still there */
+};
+
+struct comm {
+    uint32_t context;      /* of its messages */
+    uint32_t hidden;       /* of its collectives, NO_CONTEXT_LEFT where there is none */
+    struct chain *chain;
+    int plane;             /* its number in the chain, in the tags of its collectives */
+    unsigned begun;        /* how many collectives began */
+    int size, position;
+    uint8_t members[MAX_RANKS];
+    MPI_Errhandler handler;
+    bool is_self, self_revoked;
+    uint32_t acknowledged; /* failures */
+    char name[MPI_MAX_OBJECT_NAME];
+};
+
+struct group {
+    int size;
+    uint8_t members[MAX_RANKS];
+};
+
+/* What goes beside a message: a long body, and where its sender waits for the match, the flag that tells it. In one list, so that those that
+   nobody received are freed at the end. */
+struct parcel {
+    struct parcel *next, *previous;
+    _Atomic int users;   /* message, sender */
+    _Atomic int matched;
+    bool is_waited_for;
+    int from, to;         /* world ranks */
+    uint32_t context;
+    int tag;
+    size_t length;        /* of the message */
+    unsigned char bytes[];
+};
+
+enum kind { SENT, SYNCHRONOUS, RECEIVE, NOTHING };
+
+struct request {
+    enum kind kind;
+    struct comm *comm;
+    uint32_t context;
+    int peer, tag;
+    void *buffer;
+    size_t room;
+    uint64_t id;            /* the engine's number of the receive */
+    struct parcel *parcel;  /* of a synchronous send */
+    bool over, freed;       /* its status is known; the program freed it */
+    int code;
+    MPI_Status status;
+    struct request *next;   /* open receives */
+    int handle;
+};
+
+/* What the rank's present call is, for reports. */
+struct place {
+    const char *call;
+    const void *from;        /* an address in the program */
+    struct comm *comm;
+    int peer, tag;           /* MPI_UNDEFINED: none */
+    uint32_t waits_for;      /* bits of world ranks, or 0 */
+};
+
+struct rank {
+    int number;
+    ulfm_slot *slot;
+    pthread_t thread;
+    jmp_buf bottom;
+    struct comm **comms, **old_comms;  /* those that the program freed too */
+    struct group **groups;
+    struct request **requests;
+    struct message **messages;
+    struct errhandler *handlers;
+    struct type *types;
+    struct op *ops;
+    int comm_count, old_comm_count, group_count, request_count, message_count, handler_count, type_count, op_count, first_free;
+    struct request *open;     /* receives that wait */
+    uint32_t shrunk[CONTEXTS];
+    bool has_begun, has_finalized, has_stopped;
+    bool is_planned;          /* it stopped by plan */
+    struct place place;
+    int calls, insides;       /* calls that count; places inside the last one */
+    int status;               /* of main */
+    uint64_t random;
+    FILE *out;
+    char *line;
+    size_t line_length, line_room;
+    void *program;
+    char *path;
+    _Atomic uint64_t idle;    /* the count of moves that its last look saw, and 1; 0: it runs */
+    _Atomic int is_gone;      /* it has finalized, or stopped */
+    _Atomic int is_ended;     /* its thread needs nothing more */
+    _Atomic int waited_for;   /* synchronous sends to it without a match */
+};
+
+struct stop {
+    int rank, call, inside;   /* call 0: by name */
+    char name[48];
+    int nth;
+};
+
+struct options {
+    int ranks, stops;
+    struct stop stop[MAX_STOPS];
+    uint64_t seed;
+    double timeout;
+    bool sends_wait, tag, every_stop, same_output, all;
+    int jobs, report, capacity, rounds;
+    const char *program;
+    char **words;
+    int count;
+};
+
+extern struct options options;
+extern struct rank ranks[MAX_RANKS];
+extern ulfm_slot slots[MAX_RANKS];
+extern __thread struct rank *me;
+
+/* launch.c, load.c, words.c */
+int read_words(int count, char **words);
+bool copy_programs(void);
+void remove_copies(void);
+int run_program(struct rank *rank);
+int every_stop(const char *launcher);
+int ulfm_mpirun(int count, char **words);
+void end_run(int status) __attribute__((noreturn));
+void report(const char *format, ...) __attribute__((format(printf, 1, 2)));
+
+/* output.c */
+bool open_output(struct rank *rank);
+void close_output(struct rank *rank);
+
+/* stop.c */
+void stop_here(int status) __attribute__((noreturn));
+void drain(void);
+
+/* progress.c */
+bool progress(void);
+void moved(void);
+void wait_until(bool (*is_done)(void *), void *of);
+bool all_are_gone(void *unused);
+extern _Atomic uint64_t moves;
+
+/* hang.c */
+void tell_places(void);
+void tell_stuck(void);
+
+/* plan.c */
+void plan_call(void);
+void plan_inside(void);
+void forget_plan_of(struct rank *rank);
+
+/* letter.c */
+int class_of(uint32_t code);
+int send_letter(uint32_t context, int dest, int world, int tag, const void *bytes, size_t length, struct parcel **parcel);
+void take_letter(const ulfm_status *told, const uint8_t *letter, void *buffer, size_t room, MPI_Status *status, int *code);
+size_t length_of_probed(const ulfm_status *told, uint32_t context, int from);
+size_t length_of_letter(const uint8_t *letter);
+void let_go(struct parcel *parcel);
+void free_parcels(void);
+bool is_revoked(const struct comm *comm);
+bool is_failed(const struct comm *comm, int position);
+
+/* request.c */
+struct request *new_request(enum kind kind, struct comm *comm, int peer, int tag);
+struct request *request_at(MPI_Request handle);
+void free_request(struct request *request);
+void start_receive(struct request *request, void *buffer, size_t room);
+void start_send(struct request *request, const void *buffer, size_t length, bool is_synchronous);
+int look_at(struct request *request);
+int wait_for(struct request *request);
+void look_at_all(void);
+void withdraw(struct request *request);
+extern const MPI_Status empty_status;
+void clear_requests(void);
+
+/* comm.c, group.c */
+struct comm *comm_at(MPI_Comm handle);
+MPI_Comm handle_of(const struct comm *comm);
+struct comm *new_comm(uint32_t context, struct chain *chain, MPI_Errhandler handler);
+struct chain *new_chain(uint32_t context);
+bool make_world(void);
+void clear_comms(void);
+struct group *group_at(MPI_Group handle);
+int compare_groups(const struct group *a, const struct group *b);
+int make_group(const uint8_t *members, int size, MPI_Group *made);
+void clear_groups(void);
+
+/* type.c, op.c */
+bool size_of_type(MPI_Datatype type, size_t *size);
+bool check_buffer(int count, MPI_Datatype type, size_t *bytes, int *code);
+MPI_Datatype base_of_type(MPI_Datatype type, int *count);
+int fold(const void *in, void *into, int count, MPI_Datatype type, MPI_Op op);
+bool is_op(MPI_Op op);
+void clear_types(void);
+void clear_ops(void);
+
+/* error.c */
+int fail(struct comm *comm, int code);
+void clear_handlers(void);
+
+/* probe.c */
+void clear_messages(void);
+
+/* collect.c */
+int begin_collective(struct comm *comm);
+int collect_send(struct comm *comm, int to, const void *bytes, size_t length);
+struct request *collect_post(struct comm *comm, int from, void *bytes, size_t room);
+int collect_finish(struct request *request);
+int collect_receive(struct comm *comm, int from, void *bytes, size_t room);
+int gather_all(struct comm *comm, const void *in, size_t length, void *all);
+int spread(struct comm *comm, void *bytes, size_t length, int root);
+int spread_verdict(struct comm *comm, int code, void *buffer, size_t length);
+enum { VERDICT = 8 };
+
+/* Begins a call that a program makes: `counts` where it begins something or waits. */
+void enter_call(const char *call, const void *from, struct comm *comm, int peer, int tag, bool counts);
+#define ENTER(comm, peer, tag) enter_call(__func__, __builtin_return_address(0), comm, peer, tag, true)
+#define ENTER_LOOK(comm, peer, tag) enter_call(__func__, __builtin_return_address(0), comm, peer, tag, false)
+
+/* Room for one more in an array; false where there is no memory. */
+bool grow(void *array, int count, size_t size);
+
+#endif

@@ -1,0 +1,117 @@
+/* Start and end of a rank's use of MPI (MPI 4.0, 11.2), and what it asks of its environment (9). */
+#define _GNU_SOURCE
+#include "run.h"
+#include <stdlib.h>
+#include <string.h>
+#include <time.h>
+#include <unistd.h>
+
+/* Says why a call can't be, where there is no communicator that could, and ends the run. */
+static void refuse(const char *call, const char *why) {
+    fprintf(stderr, "ulfm-mpirun: %s %s\n", call, why);
+    end_run(STATUS_FATAL);
+}
+
+void enter_call(const char *call, const void *from, struct comm *comm, int peer, int tag, bool counts) {
+    if (!me) refuse(call, "was called outside of a rank's first thread");
+    if (!me->has_begun) refuse(call, "was called before MPI_Init");
+    if (me->has_finalized) refuse(call, "was called after MPI_Finalize");
+    me->place = (struct place){.call = call, .from = from, .comm = comm, .peer = peer, .tag = tag};
+    if (counts) plan_call();
+}
+
+int MPI_Init_thread(int *argc, char ***argv, int required, int *provided) {
+    (void)argc;
+    (void)argv;
+    if (!me) refuse("MPI_Init", "was called outside of a rank's first thread");
+    if (me->has_begun) refuse("MPI_Init", "was called twice");
+    if (!make_world()) refuse("MPI_Init", "found no memory");
+    me->has_begun = true;
+    me->place = (struct place){.call = "MPI_Init", .from = __builtin_return_address(0), .peer = MPI_UNDEFINED, .tag = MPI_UNDEFINED};
+    if (provided) *provided = required < MPI_THREAD_FUNNELED ? MPI_THREAD_SINGLE : MPI_THREAD_FUNNELED;
+    return MPI_SUCCESS;
+}
+
+int MPI_Init(int *argc, char ***argv) { return MPI_Init_thread(argc, argv, MPI_THREAD_SINGLE, 0); }
+
+int MPI_Query_thread(int *provided) {
+    *provided = MPI_THREAD_FUNNELED;
+    return MPI_SUCCESS;
+}
+
+int MPI_Is_thread_main(int *flag) {
+    *flag = me != 0;
+    return MPI_SUCCESS;
+}
+
+int MPI_Initialized(int *flag) {
+    *flag = me && me->has_begun;
+    return MPI_SUCCESS;
+}
+
+int MPI_Finalized(int *flag) {
+    *flag = me && me->has_finalized;
+    return MPI_SUCCESS;
+}
+
+/* Waits for each rank that hasn't failed: what others sent may need this rank to be handed on (11.2.2). */
+int MPI_Finalize(void) {
+    ENTER(0, MPI_UNDEFINED, MPI_UNDEFINED);
+    drain();
+    me->has_finalized = true;
+    return MPI_SUCCESS;
+}
+
+int MPI_Abort(MPI_Comm comm, int errorcode) {
+    (void)comm;
+    if (me) {
+        fprintf(stderr, "ulfm-mpirun: rank %d called MPI_Abort with %d: the run ends\n", me->number, errorcode);
+        if (me->out) fflush(me->out);
+        report("abort %d %d\n", me->number, errorcode);
+    }
+    end_run((errorcode & 255) ? errorcode & 255 : 1);
+}
+
+int MPI_Get_version(int *version, int *subversion) {
+    *version = MPI_VERSION;
+    *subversion = MPI_SUBVERSION;
+    return MPI_SUCCESS;
+}
+
+int MPI_Get_library_version(char *version, int *length) {
+    *length = snprintf(version, MPI_MAX_LIBRARY_VERSION_STRING, "Cufandrize: MPI 4.0 calls over threads, with ULFM");
+    return MPI_SUCCESS;
+}
+
+int MPI_Get_processor_name(char *name, int *length) {
+    if (gethostname(name, MPI_MAX_PROCESSOR_NAME)) strcpy(name, "localhost");
+    name[MPI_MAX_PROCESSOR_NAME - 1] = 0;
+    *length = (int)strlen(name);
+    return MPI_SUCCESS;
+}
+
+double MPI_Wtime(void) {
+    struct timespec now;
+    clock_gettime(CLOCK_MONOTONIC, &now);
+    return (double)now.tv_sec + 1e-9 * (double)now.tv_nsec;
+}
+
+double MPI_Wtick(void) { return 1e-9; }
+
+int MPI_Alloc_mem(MPI_Aint size, MPI_Info info, void *base) {
+    (void)info;
+    void *made = malloc(size > 0 ? (size_t)size : 1);
+    if (!made) return fail(0, MPI_ERR_NO_MEM);
+    *(void **)base = made;
+    return MPI_SUCCESS;
+}
+
+int MPI_Free_mem(void *base) {
+    free(base);
+    return MPI_SUCCESS;
+}
+
+int MPI_Get_address(const void *location, MPI_Aint *address) {
+    *address = (MPI_Aint)location;
+    return MPI_SUCCESS;
+}

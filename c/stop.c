@@ -1,0 +1,86 @@
+/* The ends of a rank. A rank is a thread, so what ends a process elsewhere ends the rank here: `exit`, `_exit`, `abort`, `raise`,
+   `kill(getpid(), ..)`, a failed assertion, and a return from main without MPI_Finalize. Before MPI_Finalize that is its failure, as others see it. */
+#define _GNU_SOURCE
+#include "run.h"
+#include <dlfcn.h>
+#include <errno.h>
+#include <signal.h>
+#include <stdlib.h>
+#include <string.h>
+#include <unistd.h>
+
+/* The rank stops here; its thread goes on at its bottom. */
+void stop_here(int status) {
+    struct rank *rank = me;
+    rank->status = status;
+    if (!rank->has_finalized && !rank->has_stopped) {
+        rank->has_stopped = true;
+        if (!rank->is_planned) report("failed %d %d\n", rank->number, status);
+        ulfm_stop(rank->slot);
+        drain();
+    }
+    longjmp(rank->bottom, 1);
+}
+
+typedef void ending(int);
+
+/* What the C library has by a name. */
+static void *real(const char *name) { return dlsym(RTLD_NEXT, name); }
+
+void exit(int status) {
+    if (me) stop_here(status);
+    ending *end = (ending *)real("exit");
+    end(status);
+    __builtin_unreachable();
+}
+
+void _exit(int status) {
+    if (me) stop_here(status);
+    ending *end = (ending *)real("_exit");
+    end(status);
+    __builtin_unreachable();
+}
+
+void _Exit(int status) { _exit(status); }
+void quick_exit(int status) { _exit(status); }
+
+void abort(void) {
+    if (me) stop_here(128 + SIGABRT);
+    ending *end = (ending *)real("abort");
+    end(0);
+    __builtin_unreachable();
+}
+
+void __assert_fail(const char *what, const char *file, unsigned line, const char *function) {
+    fprintf(stderr, "%s:%u: %s: Assertion `%s' failed.\n", file, line, function, what);
+    abort();
+}
+
+/* What a signal to the own process does to a rank: it ends it, unless the program has a handler, or the signal does nothing. */
+static bool ends_by(int number) {
+    struct sigaction action;
+    if (number == SIGKILL) return true;
+    if (number == 0 || number == SIGCHLD || number == SIGCONT || number == SIGURG || number == SIGWINCH) return false;
+    if (sigaction(number, 0, &action)) return false;
+    return !(action.sa_flags & SA_SIGINFO) ? action.sa_handler == SIG_DFL : number == SIGSEGV || number == SIGBUS || number == SIGFPE || number == SIGILL;
+}
+
+int raise(int number) {
+    if (me && ends_by(number)) stop_here(128 + number);
+    int (*send)(int) = (int (*)(int))real("raise");
+    return send(number);
+}
+
+int kill(pid_t to, int number) {
+    if (me && to == getpid() && ends_by(number)) stop_here(128 + number);
+    int (*send)(pid_t, int) = (int (*)(pid_t, int))real("kill");
+    return send(to, number);
+}
+
+/* Ends the whole run, from any thread. */
+void end_run(int status) {
+    remove_copies();
+    ending *end = (ending *)real("_exit");
+    end(status);
+    __builtin_unreachable();
+}

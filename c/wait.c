@@ -1,0 +1,267 @@
+/* Waits and tests (MPI 4.0, 3.7.3 and 3.7.5). A request that is over is released, and its handle becomes MPI_REQUEST_NULL. A receive from any
+   source that pends stays open: MPIX_ERR_PROC_FAILED_PENDING. MPI_Waitall ends as soon as a request has an error; those that aren't over then
+   have MPI_ERR_PENDING. */
+#include "run.h"
+#include <stdlib.h>
+
+/* The status of no request (3.7.3). */
+const MPI_Status empty_status = {.MPI_SOURCE = MPI_ANY_SOURCE, .MPI_TAG = MPI_ANY_TAG};
+
+struct waiting {
+    struct request *request;
+    int pends;
+};
+
+static bool is_over(void *of) {
+    struct waiting *waiting = of;
+    waiting->pends = look_at(waiting->request);
+    return waiting->request->over || waiting->pends;
+}
+
+/* Waits until a request is over, or pends: then MPIX_ERR_PROC_FAILED_PENDING, else MPI_SUCCESS. */
+int wait_for(struct request *request) {
+    struct waiting waiting = {request, 0};
+    if (!request->over) wait_until(is_over, &waiting);
+    return request->over ? MPI_SUCCESS : waiting.pends;
+}
+
+/* Tells how a request ended, and releases it. Its error code. */
+static int release(MPI_Request *handle, struct request *request, MPI_Status *status) {
+    int code = request->code;
+    if (status) *status = request->status;
+    free_request(request);
+    *handle = MPI_REQUEST_NULL;
+    return code;
+}
+
+static int pending(struct request *request, MPI_Status *status) {
+    if (status) *status = request->status;
+    if (status) status->MPI_ERROR = MPIX_ERR_PROC_FAILED_PENDING;
+    return MPIX_ERR_PROC_FAILED_PENDING;
+}
+
+static void tell_place(const struct request *request) {
+    if (!request) return;
+    me->place.comm = request->comm;
+    me->place.peer = request->peer;
+    me->place.tag = request->tag;
+}
+
+int MPI_Wait(MPI_Request *handle, MPI_Status *status) {
+    struct request *request = request_at(*handle);
+    ENTER(0, MPI_UNDEFINED, MPI_UNDEFINED);
+    if (status) *status = empty_status;
+    if (*handle == MPI_REQUEST_NULL) return MPI_SUCCESS;
+    if (!request) return fail(0, MPI_ERR_REQUEST);
+    tell_place(request);
+    struct comm *comm = request->comm;
+    return fail(comm, wait_for(request) ? pending(request, status) : release(handle, request, status));
+}
+
+int MPI_Test(MPI_Request *handle, int *flag, MPI_Status *status) {
+    struct request *request = request_at(*handle);
+    ENTER_LOOK(0, MPI_UNDEFINED, MPI_UNDEFINED);
+    if (status) *status = empty_status;
+    *flag = 1;
+    if (*handle == MPI_REQUEST_NULL) return MPI_SUCCESS;
+    if (!request) return fail(0, MPI_ERR_REQUEST);
+    struct comm *comm = request->comm;
+    progress();
+    int pends = look_at(request);
+    *flag = request->over;
+    if (request->over || pends) plan_call();
+    if (request->over) return fail(comm, release(handle, request, status));
+    return pends ? fail(comm, pending(request, status)) : MPI_SUCCESS;
+}
+
+int MPI_Request_get_status(MPI_Request handle, int *flag, MPI_Status *status) {
+    struct request *request = request_at(handle);
+    ENTER_LOOK(0, MPI_UNDEFINED, MPI_UNDEFINED);
+    if (status) *status = empty_status;
+    *flag = 1;
+    if (handle == MPI_REQUEST_NULL) return MPI_SUCCESS;
+    if (!request) return fail(0, MPI_ERR_REQUEST);
+    progress();
+    look_at(request);
+    *flag = request->over;
+    if (request->over && status) *status = request->status;
+    return MPI_SUCCESS;
+}
+
+/* The request goes when it is over (3.7.3). */
+int MPI_Request_free(MPI_Request *handle) {
+    struct request *request = request_at(*handle);
+    ENTER_LOOK(0, MPI_UNDEFINED, MPI_UNDEFINED);
+    if (!request) return fail(0, MPI_ERR_REQUEST);
+    *handle = MPI_REQUEST_NULL;
+    if (request->over || request->kind == SYNCHRONOUS) free_request(request);
+    else {
+        request->freed = true;
+        atomic_fetch_add(&me->waited_for, 1);
+    }
+    return MPI_SUCCESS;
+}
+
+/* Cancels a receive that waits; a send is never cancelled (3.8.4). The request has to be waited for all the same. */
+int MPI_Cancel(MPI_Request *handle) {
+    struct request *request = request_at(*handle);
+    ENTER(0, MPI_UNDEFINED, MPI_UNDEFINED);
+    if (!request) return fail(0, MPI_ERR_REQUEST);
+    progress();
+    withdraw(request);
+    return MPI_SUCCESS;
+}
+
+int MPI_Test_cancelled(const MPI_Status *status, int *flag) {
+    *flag = status->cancelled;
+    return MPI_SUCCESS;
+}
+
+/* ---- Several requests ---- */
+
+struct several {
+    int count;
+    MPI_Request *handles;
+    int active, over, failed;  /* how many there are, are over, have an error or pend */
+    int first;                 /* the first one that is over or pends, or -1 */
+    bool wants_all;
+};
+
+static void look_at_several(struct several *several) {
+    several->active = several->over = several->failed = 0;
+    several->first = -1;
+    for (int k = 0; k < several->count; k++) {
+        struct request *request = request_at(several->handles[k]);
+        if (!request) continue;
+        several->active++;
+        int pends = look_at(request);
+        several->over += request->over;
+        several->failed += pends || (request->over && request->code != MPI_SUCCESS);
+        if (several->first < 0 && (request->over || pends)) several->first = k;
+    }
+}
+
+static bool are_done(void *of) {
+    struct several *several = of;
+    look_at_several(several);
+    if (several->failed || several->active == 0) return true;
+    return several->wants_all ? several->over == several->active : several->over > 0;
+}
+
+/* The communicator of the first request with an error, for its handler. */
+static struct comm *comm_of_error(const struct several *several) {
+    for (int k = 0; k < several->count; k++) {
+        struct request *request = request_at(several->handles[k]);
+        if (request && (!request->over || request->code != MPI_SUCCESS)) return request->comm;
+    }
+    return 0;
+}
+
+static bool are_requests(int count, const MPI_Request handles[]) {
+    for (int k = 0; k < count; k++)
+        if (handles[k] != MPI_REQUEST_NULL && !request_at(handles[k])) return false;
+    return true;
+}
+
+/* Tells how all requests ended, or stand, and releases those that are over. */
+static int release_all(struct several *several, MPI_Status statuses[]) {
+    struct comm *comm = comm_of_error(several);
+    int result = several->failed ? MPI_ERR_IN_STATUS : MPI_SUCCESS;
+    for (int k = 0; k < several->count; k++) {
+        struct request *request = request_at(several->handles[k]);
+        MPI_Status status = empty_status;
+        if (request && request->over) release(&several->handles[k], request, &status);
+        else if (request) {
+            status = request->status;
+            status.MPI_ERROR = look_at(request) ? MPIX_ERR_PROC_FAILED_PENDING : MPI_ERR_PENDING;
+            if (request->over) release(&several->handles[k], request, &status);
+        }
+        if (statuses) statuses[k] = status;
+    }
+    return fail(comm, result);
+}
+
+int MPI_Waitall(int count, MPI_Request handles[], MPI_Status statuses[]) {
+    struct several several = {.count = count, .handles = handles, .wants_all = true};
+    ENTER(0, MPI_UNDEFINED, MPI_UNDEFINED);
+    if (count < 0) return fail(0, MPI_ERR_ARG);
+    if (!are_requests(count, handles)) return fail(0, MPI_ERR_REQUEST);
+    for (int k = 0; k < count; k++)
+        if (request_at(handles[k]) && !request_at(handles[k])->over) tell_place(request_at(handles[k]));
+    wait_until(are_done, &several);
+    return release_all(&several, statuses);
+}
+
+int MPI_Testall(int count, MPI_Request handles[], int *flag, MPI_Status statuses[]) {
+    struct several several = {.count = count, .handles = handles, .wants_all = true};
+    ENTER_LOOK(0, MPI_UNDEFINED, MPI_UNDEFINED);
+    if (!are_requests(count, handles)) return fail(0, MPI_ERR_REQUEST);
+    progress();
+    *flag = are_done(&several);
+    if (!*flag) return MPI_SUCCESS;
+    if (several.active) plan_call();
+    return release_all(&several, statuses);
+}
+
+/* Tells of one that is over or pends. */
+static int release_one(struct several *several, int *index, MPI_Status *status) {
+    if (status) *status = empty_status;
+    *index = several->first < 0 ? MPI_UNDEFINED : several->first;
+    if (several->first < 0) return MPI_SUCCESS;
+    struct request *request = request_at(several->handles[several->first]);
+    struct comm *comm = request->comm;
+    return fail(comm, request->over ? release(&several->handles[several->first], request, status) : pending(request, status));
+}
+
+int MPI_Waitany(int count, MPI_Request handles[], int *index, MPI_Status *status) {
+    struct several several = {.count = count, .handles = handles};
+    ENTER(0, MPI_UNDEFINED, MPI_UNDEFINED);
+    if (!are_requests(count, handles)) return fail(0, MPI_ERR_REQUEST);
+    wait_until(are_done, &several);
+    return release_one(&several, index, status);
+}
+
+int MPI_Testany(int count, MPI_Request handles[], int *index, int *flag, MPI_Status *status) {
+    struct several several = {.count = count, .handles = handles};
+    ENTER_LOOK(0, MPI_UNDEFINED, MPI_UNDEFINED);
+    if (!are_requests(count, handles)) return fail(0, MPI_ERR_REQUEST);
+    progress();
+    *flag = are_done(&several);
+    if (*flag && several.active) plan_call();
+    return release_one(&several, index, status);
+}
+
+/* Tells of all that are over or pend. */
+static int release_some(struct several *several, int *outcount, int indices[], MPI_Status statuses[]) {
+    struct comm *comm = comm_of_error(several);
+    int found = 0;
+    *outcount = several->active ? 0 : MPI_UNDEFINED;
+    for (int k = 0; several->active && k < several->count; k++) {
+        struct request *request = request_at(several->handles[k]);
+        if (!request || (!request->over && !look_at(request))) continue;
+        MPI_Status status;
+        if (request->over) release(&several->handles[k], request, &status);
+        else pending(request, &status);
+        if (statuses) statuses[found] = status;
+        indices[found++] = k;
+    }
+    if (several->active) *outcount = found;
+    return fail(several->failed ? comm : 0, several->failed ? MPI_ERR_IN_STATUS : MPI_SUCCESS);
+}
+
+int MPI_Waitsome(int incount, MPI_Request handles[], int *outcount, int indices[], MPI_Status statuses[]) {
+    struct several several = {.count = incount, .handles = handles};
+    ENTER(0, MPI_UNDEFINED, MPI_UNDEFINED);
+    if (!are_requests(incount, handles)) return fail(0, MPI_ERR_REQUEST);
+    wait_until(are_done, &several);
+    return release_some(&several, outcount, indices, statuses);
+}
+
+int MPI_Testsome(int incount, MPI_Request handles[], int *outcount, int indices[], MPI_Status statuses[]) {
+    struct several several = {.count = incount, .handles = handles};
+    ENTER_LOOK(0, MPI_UNDEFINED, MPI_UNDEFINED);
+    if (!are_requests(incount, handles)) return fail(0, MPI_ERR_REQUEST);
+    progress();
+    if (are_done(&several) && several.active) plan_call();
+    return release_some(&several, outcount, indices, statuses);
+}

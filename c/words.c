@@ -1,0 +1,103 @@
+/* The words of ulfm-mpirun's command line. */
+#include "run.h"
+#include <stdlib.h>
+#include <string.h>
+#include <unistd.h>
+
+struct options options = {.ranks = 1, .report = -1, .capacity = 64, .rounds = 1024};
+
+static const char usage[] =
+    "ulfm-mpirun -n N [options] PROGRAM [ARGUMENT..]\n"
+    "\n"
+    "Runs N ranks, 1 to 8, of a program that ulfm-mpicc linked. Each rank is a thread with globals of its own.\n"
+    "\n"
+    "  -n N               so many ranks\n"
+    "  --stop R@K         rank R stops at its K-th call that begins something or waits\n"
+    "  --stop R@K.J       it stops inside that call, at the J-th place: behind a letter of a collective, or in a shrink or an agreement\n"
+    "  --stop R@NAME:K    it stops at its K-th call of NAME, for example 2@MPI_Allreduce:3; NAME:K.J too\n"
+    "  --seed S           yields at calls, by the number S, so that schedules differ\n"
+    "  --sends wait       MPI_Send and MPI_Isend end as MPI_Ssend and MPI_Issend do\n"
+    "  --timeout S        ends the run after S seconds\n"
+    "  --tag              each line of output begins with its rank\n"
+    "  --every-stop       runs the program once for each call of each rank, and stops that rank there\n"
+    "  --same-output      with --every-stop: what the run writes has to be the same lines too\n"
+    "  --jobs N           with --every-stop: N runs at the same time; if left out, as many as there are processors\n"
+    "  --all              with --every-stop: a line for each place, not only for those where something is wrong\n"
+    "  --rounds N         agreements that can be made on each communicator (1024)\n"
+    "\n"
+    "Its status is 0 where each rank that wasn't stopped by plan ended with 0, else that of the first rank that did not. MPI_Abort: its code.\n"
+    "96: an error was fatal. 98: nobody could move any more. 99: the time was over. 128 + S: a rank crashed by signal S. 2: a wrong command line.\n";
+
+static int refuse(const char *what, const char *word) {
+    fprintf(stderr, "ulfm-mpirun: %s '%s'; --help tells how it is used\n", what, word);
+    return STATUS_USAGE;
+}
+
+static bool read_number(const char *word, long least, long most, long *number) {
+    char *end;
+    *number = word ? strtol(word, &end, 10) : 0;
+    return word && *word && !*end && *number >= least && *number <= most;
+}
+
+/* R@K, R@K.J, R@NAME:K, R@NAME:K.J */
+static bool read_stop(const char *word) {
+    struct stop stop = {0};
+    int used = 0, length = (int)strlen(word);
+    if (options.stops == MAX_STOPS) return false;
+    bool is_known = (sscanf(word, "%d@%d%n", &stop.rank, &stop.call, &used) == 2 && stop.call > 0) ||
+                    (stop.call = 0, sscanf(word, "%d@%47[A-Za-z_]:%d%n", &stop.rank, stop.name, &stop.nth, &used) == 3);
+    if (!is_known || stop.rank < 0 || stop.rank >= MAX_RANKS) return false;
+    if (used < length) {
+        int more = 0;
+        if (sscanf(word + used, ".%d%n", &stop.inside, &more) != 1 || used + more != length) return false;
+    }
+    options.stop[options.stops++] = stop;
+    return true;
+}
+
+/* An option without a value; false where it isn't one. */
+static bool read_flag(const char *word) {
+    if (!strcmp(word, "--tag")) options.tag = true;
+    else if (!strcmp(word, "--every-stop")) options.every_stop = true;
+    else if (!strcmp(word, "--same-output")) options.same_output = true;
+    else if (!strcmp(word, "--all")) options.all = true;
+    else return false;
+    return true;
+}
+
+/* An option with its value; false where it isn't understood. */
+static bool read_value(const char *word, const char *value) {
+    long number = 0;
+    if (!value) return false;
+    if (!strcmp(word, "-n") || !strcmp(word, "-np")) return read_number(value, 1, MAX_RANKS, &number) && (options.ranks = (int)number);
+    if (!strcmp(word, "--stop")) return read_stop(value);
+    if (!strcmp(word, "--sends")) return (options.sends_wait = !strcmp(value, "wait")) || !strcmp(value, "buffer");
+    if (!strcmp(word, "--timeout")) return (options.timeout = atof(value)) > 0;
+    if (!strcmp(word, "--seed")) return read_number(value, 1, 2000000000, &number) && (options.seed = (uint64_t)number);
+    if (!strcmp(word, "--jobs")) return read_number(value, 1, 1024, &number) && (options.jobs = (int)number);
+    if (!strcmp(word, "--rounds")) return read_number(value, 1, 65535, &number) && (options.rounds = (int)number);
+    if (!strcmp(word, "--report")) return read_number(value, 0, 65535, &number) && (options.report = (int)number) >= 0;
+    return false;
+}
+
+/* Reads the command line into `options`. 0, or the status with which the launcher ends; -1: it ends with 0. */
+int read_words(int count, char **words) {
+    int k = 1;
+    for (; k < count && words[k][0] == '-'; k++) {
+        if (!strcmp(words[k], "--help") || !strcmp(words[k], "-h")) {
+            fputs(usage, stdout);
+            return -1;
+        }
+        if (read_flag(words[k])) continue;
+        if (!read_value(words[k], k + 1 < count ? words[k + 1] : 0)) return refuse("this isn't understood:", words[k]);
+        k++;
+    }
+    if (k == count) return refuse("a program is missing after", words[count - 1]);
+    for (int stop = 0; stop < options.stops; stop++)
+        if (options.stop[stop].rank >= options.ranks) return refuse("there is no rank for one of the stops with -n", "");
+    options.program = words[k];
+    options.words = words + k + 1;
+    options.count = count - k - 1;
+    if (access(options.program, R_OK)) return refuse("there is no program", options.program);
+    return 0;
+}
