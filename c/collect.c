@@ -5,14 +5,14 @@
 #include <stdlib.h>
 #include <string.h>
 
-enum { PLANES = 8, NUMBERS = 4096 };
+enum { NUMBERS = 4096 };
 
-static int tag_of(const struct comm *comm) { return comm->plane % PLANES * NUMBERS + (int)(comm->begun % NUMBERS); }
+static int tag_of(const struct comm *comm) { return comm->plane * NUMBERS + (int)(comm->begun % NUMBERS); }
 
 /* Begins a collective, with the next number. */
 int begin_collective(struct comm *comm) {
     if (!comm) return MPI_ERR_COMM;
-    if (comm->size > 1 && (comm->hidden == NO_CONTEXT_LEFT || comm->plane >= PLANES)) return NO_COLLECTIVES;
+    if (comm->size > 1 && comm->hidden == NO_CONTEXT_LEFT) return NO_COLLECTIVES;
     comm->begun++;
     progress();
     return is_revoked(comm) ? MPIX_ERR_REVOKED : MPI_SUCCESS;

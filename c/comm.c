@@ -1,5 +1,4 @@
-/* Communicators (MPI 4.0, 7.4). Each has a context of the engine for its messages; those of one group share a context for their collectives,
-   the first duplicate. A duplicate is taken from the end of the chain of duplicates, whose group is the same. */
+/* Communicators (MPI 4.0, 7.4). Each has a context of the engine for its messages. */
 #include "run.h"
 #include <stdlib.h>
 #include <string.h>
@@ -23,16 +22,20 @@ struct chain *new_chain(uint32_t context) {
     uint32_t made;
     chain->hidden = ulfm_dup(me->slot, context, &made) == ULFM_OK ? made : NO_CONTEXT_LEFT;
     chain->last = chain->hidden;
-    chain->users = 0;
+    chain->plane[0].context = context;
+    chain->planes = 1;
     return chain;
 }
 
-/* A communicator on a context of a chain, or null where there is no memory. */
-struct comm *new_comm(uint32_t context, struct chain *chain, MPI_Errhandler handler) {
+/* A communicator on a plane of a chain, or null where there is no memory. */
+struct comm *new_comm(struct chain *chain, int plane, MPI_Errhandler handler) {
     struct comm *comm = calloc(1, sizeof *comm);
+    uint32_t context = chain->plane[plane].context;
     ulfm_group group;
     uint32_t position;
-    if (!comm || !grow(&me->comms, me->comm_count, sizeof *me->comms) || ulfm_group_of(me->slot, context, &group) != ULFM_OK ||
+    int place = 0;
+    while (place < me->comm_count && me->comms[place]) place++;
+    if (!comm || (place == me->comm_count && !grow(&me->comms, place, sizeof *me->comms)) || ulfm_group_of(me->slot, context, &group) != ULFM_OK ||
         ulfm_position(me->slot, context, &position) != ULFM_OK) {
         free(comm);
         return 0;
@@ -40,20 +43,23 @@ struct comm *new_comm(uint32_t context, struct chain *chain, MPI_Errhandler hand
     comm->context = context;
     comm->chain = chain;
     comm->hidden = chain->hidden;
-    comm->plane = chain->planes++;
+    comm->plane = plane;
+    comm->begun = chain->plane[plane].begun;
+    chain->plane[plane].is_free = false;
     comm->size = (int)group.size;
     comm->position = (int)position;
     memcpy(comm->members, group.members, sizeof comm->members);
     comm->handler = handler;
     chain->users++;
-    me->comms[me->comm_count++] = comm;
+    me->comms[place] = comm;
+    if (place == me->comm_count) me->comm_count++;
     return comm;
 }
 
 /* MPI_COMM_WORLD and MPI_COMM_SELF. The messages of the latter go through the world's hidden context, where nobody else sends to itself. */
 bool make_world(void) {
     struct chain *chain = new_chain(0);
-    struct comm *world = chain ? new_comm(0, chain, MPI_ERRORS_ARE_FATAL) : 0;
+    struct comm *world = chain ? new_comm(chain, 0, MPI_ERRORS_ARE_FATAL) : 0;
     struct comm *self = world ? calloc(1, sizeof *self) : 0;
     if (!self || !grow(&me->comms, me->comm_count, sizeof *me->comms)) return false;
     strcpy(world->name, "MPI_COMM_WORLD");
@@ -69,7 +75,8 @@ bool make_world(void) {
     return true;
 }
 
-static void free_comm(struct comm *comm) {
+/* Takes a communicator away that nothing points to. */
+void free_comm(struct comm *comm) {
     if (--comm->chain->users == 0) free(comm->chain);
     free(comm);
 }
@@ -109,56 +116,6 @@ int MPI_Comm_compare(MPI_Comm a, MPI_Comm b, int *result) {
     memcpy(groups[1].members, other->members, MAX_RANKS);
     int same = compare_groups(&groups[0], &groups[1]);
     *result = one == other ? MPI_IDENT : same == MPI_IDENT ? MPI_CONGRUENT : same;
-    return MPI_SUCCESS;
-}
-
-/* The number that all members give their next duplicate: the greatest of those that they would give. So those that missed one that others
-   made, since a failure met it, agree with them again. */
-static int agree_on_plane(struct comm *comm, int *plane) {
-    int all[MAX_RANKS] = {0}, code = begin_collective(comm), verdict;
-    if (code) return code;
-    code = gather_all(comm, &comm->chain->planes, sizeof *plane, all);
-    struct {
-        int plane, code;
-    } decided = {0, code};
-    for (int k = 0; k < comm->size; k++)
-        if (all[k] > decided.plane) decided.plane = all[k];
-    verdict = spread(comm, &decided, sizeof decided, 0);
-    *plane = decided.plane;
-    return verdict ? verdict : decided.code;
-}
-
-int MPI_Comm_dup(MPI_Comm comm, MPI_Comm *made) {
-    struct comm *of = comm_at(comm);
-    ENTER(of, MPI_UNDEFINED, MPI_UNDEFINED);
-    if (!of) return fail(0, MPI_ERR_COMM);
-    if (of->is_self) return fail(of, NOT_ON_SELF);
-    struct chain *chain = of->chain;
-    int plane = 0, code = agree_on_plane(of, &plane);
-    uint32_t context = chain->last;
-    while (code == MPI_SUCCESS && chain->planes <= plane) {
-        code = class_of(ulfm_dup(me->slot, chain->last, &context));
-        if (code != MPI_SUCCESS) break;
-        chain->last = context;
-        if (chain->planes++ < plane) continue;
-        chain->planes--;
-        struct comm *duplicate = new_comm(context, chain, of->handler);
-        if (!duplicate) return fail(of, MPI_ERR_NO_MEM);
-        *made = handle_of(duplicate);
-        return MPI_SUCCESS;
-    }
-    return fail(of, code ? code : MPI_ERR_INTERN);
-}
-
-/* The handle goes. Contexts aren't used again, and requests that are open go on (7.4.3). */
-int MPI_Comm_free(MPI_Comm *comm) {
-    struct comm *of = comm ? comm_at(*comm) : 0;
-    ENTER_LOOK(of, MPI_UNDEFINED, MPI_UNDEFINED);
-    if (!of || *comm == MPI_COMM_WORLD || *comm == MPI_COMM_SELF) return fail(0, MPI_ERR_COMM);
-    if (!grow(&me->old_comms, me->old_comm_count, sizeof *me->old_comms)) return fail(of, MPI_ERR_NO_MEM);
-    me->old_comms[me->old_comm_count++] = of;
-    me->comms[(uintptr_t)*comm - 1] = 0;
-    *comm = MPI_COMM_NULL;
     return MPI_SUCCESS;
 }
 

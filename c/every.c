@@ -1,2 +1,111 @@
-#include "run.h"
-int every_stop(const char *launcher) { (void)launcher; return 2; }
+/* --every-stop: runs the program without a stop, to count the calls, and then once for each call of each rank and each place inside, with sends that
+   are buffered and with sends that wait; and prints what came out. */
+#define _GNU_SOURCE
+#include "every.h"
+#include <sched.h>
+#include <stdlib.h>
+#include <string.h>
+#include <sys/wait.h>
+#include <unistd.h>
+
+/* One kind of sends: the run without a stop, and its places. */
+struct kind_of_sends {
+    bool sends_wait;
+    struct result base;
+    struct spot *spots;
+    int count;
+};
+
+static struct job *jobs;
+static int job_count, counts[2][OUTCOMES];
+
+static int processors(void) {
+    cpu_set_t set;
+    return sched_getaffinity(0, sizeof set, &set) == 0 ? CPU_COUNT(&set) : 1;
+}
+
+/* Waits until a job ends. Its place in the table, or -1 where there is none. */
+static int wait_for_job(void) {
+    int status;
+    pid_t pid = waitpid(-1, &status, 0);
+    for (int k = 0; k < job_count; k++)
+        if (pid > 0 && jobs[k].pid == pid) return k;
+    return -1;
+}
+
+/* Runs the program once, alone, without a stop. False where it doesn't end well. */
+static bool run_base(struct kind_of_sends *kind, const char *launcher) {
+    struct job *job = &jobs[0];
+    *job = (struct job){.spot = -1, .sends_wait = kind->sends_wait};
+    if (!start_job(job, launcher, 0)) return false;
+    while (wait_for_job() != 0) {}
+    read_result(job, &kind->base);
+    kind->spots = read_spots(job, &kind->count);
+    bool is_well = kind->base.end == RIGHT && kind->count > 0;
+    for (int k = 0; k < options.ranks; k++) is_well = is_well && kind->base.fate[k] == ENDED;
+    if (!is_well) {
+        char *errors = read_all(job->files[1]);
+        printf("without a stop, %s: the run doesn't end well, so no places are tried:\n", kind->sends_wait ? "sends that wait" : "buffered sends");
+        fputs(errors ? errors : "", stdout);
+        tell_command(stdout, 0, kind->sends_wait);
+        free(errors);
+    }
+    close_job(job);
+    job->pid = 0;
+    return is_well;
+}
+
+static void end_job(struct job *job, const struct kind_of_sends *kind) {
+    struct result result;
+    char why[600];
+    read_result(job, &result);
+    enum outcome outcome = judge(&kind->base, &result, &kind->spots[job->spot], why, sizeof why);
+    counts[job->sends_wait][outcome]++;
+    tell_outcome(&kind->spots[job->spot], job->sends_wait, outcome, why);
+    free(result.output);
+    close_job(job);
+    job->pid = 0;
+}
+
+/* Runs the program for each place, `job_count` at the same time. */
+static bool run_spots(const struct kind_of_sends *kind, const char *launcher) {
+    int next = 0, running = 0;
+    while (next < kind->count || running > 0) {
+        int free_job = 0;
+        while (free_job < job_count && jobs[free_job].pid) free_job++;
+        if (next < kind->count && free_job < job_count) {
+            jobs[free_job] = (struct job){.spot = next, .sends_wait = kind->sends_wait};
+            if (!start_job(&jobs[free_job], launcher, &kind->spots[next])) return false;
+            next++;
+            running++;
+            continue;
+        }
+        int done = wait_for_job();
+        if (done < 0) continue;
+        end_job(&jobs[done], kind);
+        running--;
+    }
+    return true;
+}
+
+/* 0: each stop that was reached came out right. 1: not so. 2: it couldn't be tried. */
+int every_stop(const char *launcher) {
+    bool is_well = true;
+    job_count = options.jobs ? options.jobs : processors();
+    jobs = calloc((size_t)job_count, sizeof *jobs);
+    if (!jobs) return STATUS_USAGE;
+    printf("%-10s %-22s %-7s %s\n", "stop", "call", "sends", "what came out");
+    for (int k = 0; k < 2; k++) {
+        struct kind_of_sends kind = {.sends_wait = k};
+        if (!run_base(&kind, launcher)) is_well = false;
+        else if (!run_spots(&kind, launcher)) return STATUS_USAGE;
+        free(kind.spots);
+        free(kind.base.output);
+    }
+    tell_counts(counts);
+    for (int k = 0; k < 2; k++)
+        for (int outcome = OTHER_STATUS; outcome < OUTCOMES; outcome++) is_well = is_well && counts[k][outcome] == 0;
+    free(jobs);
+    fflush(stdout);
+    return is_well ? 0 : 1;
+}

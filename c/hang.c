@@ -29,15 +29,28 @@ static const char *name_of(const struct comm *comm, char *name, size_t room) {
     return name;
 }
 
+/* The members that a shrink or an agreement waits for: those that run and aren't in the same one. */
+static uint32_t missing_from(const struct place *place) {
+    uint32_t bits = 0;
+    if (!place->comm || (strcmp(place->call, "MPIX_Comm_shrink") && strcmp(place->call, "MPIX_Comm_agree"))) return 0;
+    for (int k = 0; k < place->comm->size; k++) {
+        const struct rank *rank = &ranks[place->comm->members[k]];
+        bool is_there = rank->place.call == place->call && rank->place.comm && rank->place.comm->context == place->comm->context;
+        if (!rank->has_stopped && !is_there) bits |= 1u << rank->number;
+    }
+    return bits;
+}
+
 static void tell_peer(const struct place *place, char *text, size_t room) {
     size_t used = 0;
+    uint32_t waits_for = place->waits_for | missing_from(place);
     if (place->peer == MPI_ANY_SOURCE) used += snprintf(text + used, room - used, " from any source");
     else if (place->peer == MPI_PROC_NULL) used += snprintf(text + used, room - used, " with nobody");
     else if (place->peer >= 0) used += snprintf(text + used, room - used, " with %d", place->peer);
     if (place->tag == MPI_ANY_TAG && place->peer != MPI_UNDEFINED) used += snprintf(text + used, room - used, " any tag");
     else if (place->tag >= 0) used += snprintf(text + used, room - used, " tag %d", place->tag);
     for (int k = 0; k < options.ranks; k++)
-        if (place->waits_for >> k & 1) used += snprintf(text + used, room - used, "%s %d", used ? "," : " for rank", k);
+        if (waits_for >> k & 1) used += snprintf(text + used, room - used, "%s %d", used ? "," : " for rank", k);
 }
 
 static void tell_place(const struct rank *rank) {
@@ -52,6 +65,7 @@ static void tell_place(const struct rank *rank) {
         fprintf(stderr, "%s\n", rank->has_finalized ? "has finalized" : "has made no call");
         return;
     }
+    report("at %d %s\n", rank->number, place->call);
     line_of(rank, line, sizeof line);
     tell_peer(place, peer, sizeof peer);
     fprintf(stderr, "%s %s%s%s%s%s (call %d)\n", rank->idle ? "waits in" : "runs, after", place->call, peer,

@@ -29,13 +29,16 @@ bool grow(void *array, int count, size_t size) {
 
 /* A line for --every-stop. */
 void report(const char *format, ...) {
+    static pthread_mutex_t lock = PTHREAD_MUTEX_INITIALIZER;
     char line[160];
     va_list words;
     if (options.report < 0) return;
     va_start(words, format);
     int length = vsnprintf(line, sizeof line, format, words);
     va_end(words);
+    pthread_mutex_lock(&lock);
     if (write(options.report, line, (size_t)length) != length) options.report = -1;
+    pthread_mutex_unlock(&lock);
 }
 
 /* A rank crashed: the process can't go on. */

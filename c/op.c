@@ -83,7 +83,7 @@ LOCATE(locate_ldouble, long double)
 
 typedef bool folding(const void *, void *, int, int);
 static folding *const foldings[] = {
-    0, 0, fold_char, fold_uchar, fold_byte, 0, fold_short, fold_ushort, fold_int, fold_uint, fold_long, fold_ulong, fold_llong,
+    0, fold_char, fold_char, fold_uchar, fold_byte, 0, fold_short, fold_ushort, fold_int, fold_uint, fold_long, fold_ulong, fold_llong,
     fold_ullong, fold_float, fold_double, fold_ldouble, 0, fold_bool, fold_char, fold_short, fold_int, fold_long, fold_uchar,
     fold_ushort, fold_uint, fold_ulong, fold_long, fold_llong, fold_llong, locate_float, locate_double, locate_long, locate_int,
     locate_short, locate_ldouble,

@@ -201,6 +201,13 @@ int MPI_Imrecv(void *buf, int count, MPI_Datatype type, MPI_Message *message, MP
     return MPI_SUCCESS;
 }
 
+/* Whether there are messages that were found and aren't received. */
+bool has_messages(void) {
+    for (int k = 0; k < me->message_count; k++)
+        if (me->messages[k]) return true;
+    return false;
+}
+
 void clear_messages(void) {
     for (int k = 0; k < me->message_count; k++) free(me->messages[k]);
     free(me->messages);

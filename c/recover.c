@@ -53,7 +53,7 @@ int MPIX_Comm_shrink(MPI_Comm comm, MPI_Comm *made) {
     me->shrunk[shrink.context] = shrink.made;
     plan_inside();
     struct chain *chain = new_chain(shrink.made);
-    struct comm *shrunk = chain ? new_comm(shrink.made, chain, of->handler) : 0;
+    struct comm *shrunk = chain ? new_comm(chain, 0, of->handler) : 0;
     if (!shrunk) return fail(of, MPI_ERR_NO_MEM);
     *made = handle_of(shrunk);
     return MPI_SUCCESS;

@@ -10,7 +10,7 @@
 #include <stdbool.h>
 #include <stdio.h>
 
-enum { MAX_RANKS = 8, CONTEXTS = 63, BODY = 1024, MAX_STOPS = 16, NO_CONTEXT_LEFT = 255 };
+enum { MAX_RANKS = 8, CONTEXTS = 63, BODY = 1024, PLANES = 8, MAX_STOPS = 16, NO_CONTEXT_LEFT = 255 };
 
 /* Statuses of ulfm-mpirun besides those of programs. */
 enum { STATUS_USAGE = 2, STATUS_FATAL = 96, STATUS_STUCK = 98, STATUS_LATE = 99 };
@@ -29,8 +29,13 @@ enum {
 struct chain {
     uint32_t hidden; /* the first duplicate, NO_CONTEXT_LEFT where there is none */
     uint32_t last;   /* the last duplicate that was made here */
-    int planes;      /* how many communicators of a program were made on it */
-    int users;       /* how many of them are still there */
+    int planes;      /* how many contexts of it a program has had */
+    int users;       /* the communicators here that point to it */
+    struct {
+        uint32_t context;
+        bool is_free;    /* the program freed its communicator */
+        unsigned begun;  /* the collectives that began on it before */
+    } plane[PLANES];
 };
 
 struct comm {
@@ -206,12 +211,13 @@ void withdraw(struct request *request);
 extern const MPI_Status empty_status;
 void clear_requests(void);
 
-/* comm.c, group.c */
+/* comm.c, dup.c, group.c */
 struct comm *comm_at(MPI_Comm handle);
 MPI_Comm handle_of(const struct comm *comm);
-struct comm *new_comm(uint32_t context, struct chain *chain, MPI_Errhandler handler);
+struct comm *new_comm(struct chain *chain, int plane, MPI_Errhandler handler);
 struct chain *new_chain(uint32_t context);
 bool make_world(void);
+void free_comm(struct comm *comm);
 void clear_comms(void);
 struct group *group_at(MPI_Group handle);
 int compare_groups(const struct group *a, const struct group *b);
@@ -232,6 +238,7 @@ int fail(struct comm *comm, int code);
 void clear_handlers(void);
 
 /* probe.c */
+bool has_messages(void);
 void clear_messages(void);
 
 /* collect.c */

@@ -1,0 +1,49 @@
+/* What the files of --every-stop share. */
+#ifndef ULFM_MPI_EVERY_H
+#define ULFM_MPI_EVERY_H
+
+#include "run.h"
+#include <sys/types.h>
+
+enum outcome { RIGHT, NOT_REACHED, OTHER_STATUS, OTHER_OUTPUT, FAILED, STUCK, LATE, FATAL, ABORTED, CRASHED, OUTCOMES };
+enum fate { NO_FATE, ENDED, STOPPED, FAILED_ITSELF };
+
+/* A place where a rank may stop: before a call, or inside it. */
+struct spot {
+    int rank, call, inside;
+    char name[40];
+};
+
+/* What came out of a run. */
+struct result {
+    enum fate fate[MAX_RANKS];
+    int status[MAX_RANKS];
+    enum outcome end;           /* RIGHT, or how the run ended else */
+    char detail[512];           /* who waits in what, or which error was fatal */
+    char *output;               /* its lines, sorted */
+};
+
+/* A run of the program. */
+struct job {
+    pid_t pid;                  /* 0: none */
+    int spot;                   /* its number, -1: no stop */
+    bool sends_wait;
+    int files[3];               /* what it writes to standard output, to standard error, and for the table */
+};
+
+/* jobs.c */
+bool start_job(struct job *job, const char *launcher, const struct spot *spot);
+void read_result(const struct job *job, struct result *result);
+void close_job(struct job *job);
+char *read_all(int file);
+
+/* spots.c */
+struct spot *read_spots(const struct job *job, int *count);
+
+/* table.c */
+void tell_command(FILE *to, const struct spot *spot, bool sends_wait);
+enum outcome judge(const struct result *base, const struct result *result, const struct spot *spot, char *why, size_t room);
+void tell_outcome(const struct spot *spot, bool sends_wait, enum outcome outcome, const char *why);
+void tell_counts(int counts[2][OUTCOMES]);
+
+#endif

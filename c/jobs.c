@@ -1,0 +1,136 @@
+/* The runs of --every-stop: processes of the launcher, which write to files without names. */
+#define _GNU_SOURCE
+#include "every.h"
+#include <fcntl.h>
+#include <stdlib.h>
+#include <string.h>
+#include <sys/mman.h>
+#include <unistd.h>
+
+enum { MOST_WORDS = 24, SECONDS = 60 };
+
+/* Fills in the words of a run, before those of the program: how many there are. */
+static int words_of(char *words[], const char *launcher, char texts[][64], const struct job *job, const struct spot *spot) {
+    int count = 0;
+    words[count++] = (char *)(uintptr_t)launcher;
+    words[count++] = "-n";
+    words[count++] = texts[0];
+    words[count++] = "--report";
+    words[count++] = texts[1];
+    words[count++] = "--timeout";
+    words[count++] = texts[2];
+    words[count++] = "--rounds";
+    words[count++] = texts[3];
+    snprintf(texts[0], 64, "%d", options.ranks);
+    snprintf(texts[1], 64, "%d", job->files[2]);
+    snprintf(texts[2], 64, "%g", options.timeout > 0 ? options.timeout : (double)SECONDS);
+    snprintf(texts[3], 64, "%d", options.rounds);
+    if (spot) {
+        words[count++] = "--stop";
+        words[count++] = texts[4];
+        snprintf(texts[4], 64, spot->inside ? "%d@%d.%d" : "%d@%d", spot->rank, spot->call, spot->inside);
+    }
+    if (options.seed) {
+        words[count++] = "--seed";
+        words[count++] = texts[5];
+        snprintf(texts[5], 64, "%llu", (unsigned long long)options.seed);
+    }
+    words[count++] = "--sends";
+    words[count++] = job->sends_wait ? "wait" : "buffer";
+    words[count++] = (char *)(uintptr_t)options.program;
+    return count;
+}
+
+/* In the process of a run: becomes the launcher. */
+static void become(const struct job *job, const char *launcher, const struct spot *spot) {
+    char texts[6][64];
+    char **words = calloc((size_t)(MOST_WORDS + options.count + 1), sizeof *words);
+    int none = open("/dev/null", O_RDONLY);
+    if (!words || none < 0) _exit(STATUS_USAGE);
+    int count = words_of(words, launcher, texts, job, spot);
+    for (int k = 0; k < options.count; k++) words[count++] = options.words[k];
+    dup2(none, 0);
+    dup2(job->files[0], 1);
+    dup2(job->files[1], 2);
+    execv("/proc/self/exe", words);
+    _exit(STATUS_USAGE);
+}
+
+/* Starts a run with a stop, or with none. False where no process can be had. */
+bool start_job(struct job *job, const char *launcher, const struct spot *spot) {
+    for (int k = 0; k < 3; k++) {
+        job->files[k] = memfd_create("ulfm-run", 0);
+        if (job->files[k] < 0) {
+            fprintf(stderr, "ulfm-mpirun: no file for a run\n");
+            return false;
+        }
+    }
+    fflush(stdout);
+    job->pid = fork();
+    if (job->pid == 0) become(job, launcher, spot);
+    if (job->pid < 0) fprintf(stderr, "ulfm-mpirun: no process for a run\n");
+    return job->pid > 0;
+}
+
+void close_job(struct job *job) {
+    for (int k = 0; k < 3; k++) close(job->files[k]);
+}
+
+/* All of a file, or null where there is no memory. */
+char *read_all(int file) {
+    off_t length = lseek(file, 0, SEEK_END);
+    char *text = malloc((size_t)length + 1);
+    if (!text) return 0;
+    ssize_t count = pread(file, text, (size_t)length, 0);
+    text[count > 0 ? count : 0] = 0;
+    return text;
+}
+
+static int compare_lines(const void *a, const void *b) { return strcmp(*(char *const *)a, *(char *const *)b); }
+
+/* The lines of a text in order of their letters, each with its end. */
+static char *sorted(char *text) {
+    size_t length = text ? strlen(text) : 0, count = 0, used = 0;
+    char **lines = calloc(length + 1, sizeof *lines), *result = malloc(length + 2), *rest;
+    if (!lines || !result || !text) return result;
+    for (char *line = strtok_r(text, "\n", &rest); line; line = strtok_r(0, "\n", &rest)) lines[count++] = line;
+    qsort(lines, count, sizeof *lines, compare_lines);
+    for (size_t k = 0; k < count; k++) used += (size_t)sprintf(result + used, "%s\n", lines[k]);
+    result[used] = 0;
+    free(lines);
+    return result;
+}
+
+/* Reads one line of a report. */
+static void read_line(const char *line, struct result *result) {
+    int rank, number;
+    char name[48];
+    size_t used = strlen(result->detail), room = sizeof result->detail - used;
+    if (sscanf(line, "stopped %d", &rank) == 1) result->fate[rank] = STOPPED;
+    else if (sscanf(line, "failed %d %d", &rank, &number) == 2) result->fate[rank] = FAILED_ITSELF;
+    else if (sscanf(line, "end %d %d", &rank, &number) == 2) result->fate[rank] = ENDED, result->status[rank] = number;
+    else if (sscanf(line, "at %d %47s", &rank, name) == 2) snprintf(result->detail + used, room, "%s %d in %s", used ? "," : "", rank, name);
+    else if (!strncmp(line, "stuck", 5)) result->end = STUCK;
+    else if (!strncmp(line, "late", 4)) result->end = LATE;
+    else if (result->end != RIGHT) return;
+    else if (sscanf(line, "fatal %d %47s %d", &rank, name, &number) == 3) {
+        result->end = FATAL;
+        snprintf(result->detail, sizeof result->detail, " %d in %s, class %d", rank, name, number);
+    } else if (sscanf(line, "abort %d %d", &rank, &number) == 2) {
+        result->end = ABORTED;
+        snprintf(result->detail, sizeof result->detail, " %d by MPI_Abort with %d", rank, number);
+    } else if (sscanf(line, "crash %d %d", &rank, &number) == 2) {
+        result->end = CRASHED;
+        snprintf(result->detail, sizeof result->detail, " %d by signal %d", rank, number);
+    }
+}
+
+void read_result(const struct job *job, struct result *result) {
+    char *text = read_all(job->files[2]), *rest;
+    *result = (struct result){.end = RIGHT};
+    for (char *line = text ? strtok_r(text, "\n", &rest) : 0; line; line = strtok_r(0, "\n", &rest)) read_line(line, result);
+    free(text);
+    text = read_all(job->files[0]);
+    result->output = sorted(text);
+    free(text);
+}

@@ -1,0 +1,76 @@
+/* The table of --every-stop: what came out of each run, and the command that repeats it. */
+#include "every.h"
+#include <string.h>
+
+static const char *const words_of_outcome[OUTCOMES] = {
+    "right", "not reached", "another status", "another output", "a rank failed that wasn't stopped", "nobody can move", "the time was over",
+    "an error was fatal", "the run was aborted", "a crash"};
+
+/* Writes the command that repeats a run. */
+void tell_command(FILE *to, const struct spot *spot, bool sends_wait) {
+    fprintf(to, "           ulfm-mpirun -n %d", options.ranks);
+    if (spot) fprintf(to, spot->inside ? " --stop %d@%d.%d" : " --stop %d@%d", spot->rank, spot->call, spot->inside);
+    if (sends_wait) fprintf(to, " --sends wait");
+    if (options.seed) fprintf(to, " --seed %llu", (unsigned long long)options.seed);
+    fprintf(to, " %s", options.program);
+    for (int k = 0; k < options.count; k++) fprintf(to, " %s", options.words[k]);
+    fputc('\n', to);
+}
+
+/* The first line of a text that isn't in the other one; both are sorted. */
+static void first_difference(const char *base, const char *output, char *why, size_t room) {
+    while (*base && *output) {
+        size_t one = strcspn(base, "\n"), other = strcspn(output, "\n");
+        if (one != other || strncmp(base, output, one)) break;
+        base += one + 1;
+        output += other + 1;
+    }
+    int extra = (int)strcspn(output, "\n"), missing = (int)strcspn(base, "\n");
+    if (*output && (!*base || strcmp(output, base) < 0)) snprintf(why, room, ": '%.*s' is new", extra, output);
+    else snprintf(why, room, ": '%.*s' is missing", missing, base);
+}
+
+/* How a run with a stop came out, compared with the one without, and why. */
+enum outcome judge(const struct result *base, const struct result *result, const struct spot *spot, char *why, size_t room) {
+    *why = 0;
+    if (result->end != RIGHT) {
+        snprintf(why, room, ":%s", result->detail);
+        return result->end;
+    }
+    if (result->fate[spot->rank] != STOPPED) return NOT_REACHED;
+    for (int k = 0; k < options.ranks; k++) {
+        if (k == spot->rank) continue;
+        if (result->fate[k] != ENDED) {
+            snprintf(why, room, ": rank %d", k);
+            return FAILED;
+        }
+        if (result->status[k] != base->status[k]) {
+            snprintf(why, room, ": rank %d ended with %d", k, result->status[k]);
+            return OTHER_STATUS;
+        }
+    }
+    if (!options.same_output || !strcmp(base->output, result->output)) return RIGHT;
+    first_difference(base->output, result->output, why, room);
+    return OTHER_OUTPUT;
+}
+
+/* A line for a run, where it didn't come out right or all are wanted, and the command below. */
+void tell_outcome(const struct spot *spot, bool sends_wait, enum outcome outcome, const char *why) {
+    char stop[32];
+    if (outcome == RIGHT && !options.all) return;
+    snprintf(stop, sizeof stop, spot->inside ? "%d@%d.%d" : "%d@%d", spot->rank, spot->call, spot->inside);
+    printf("%-10s %-22s %-7s %s%s\n", stop, spot->name, sends_wait ? "wait" : "buffer", words_of_outcome[outcome], why);
+    tell_command(stdout, spot, sends_wait);
+}
+
+/* How many places came out how. */
+void tell_counts(int counts[2][OUTCOMES]) {
+    for (int k = 0; k < 2; k++) {
+        int total = 0;
+        for (int outcome = 0; outcome < OUTCOMES; outcome++) total += counts[k][outcome];
+        printf("%s: %d of %d places right", k ? "sends that wait" : "buffered sends", counts[k][RIGHT], total);
+        for (int outcome = 1; outcome < OUTCOMES; outcome++)
+            if (counts[k][outcome]) printf(", %d: %s", counts[k][outcome], words_of_outcome[outcome]);
+        putchar('\n');
+    }
+}

@@ -1,0 +1,2 @@
+/* MPICH's test programs include one: what is there here stands in mpitest.h. */
+#include "mpitest.h"
