@@ -88,14 +88,15 @@ char *read_all(int file) {
 
 static int compare_lines(const void *a, const void *b) { return strcmp(*(char *const *)a, *(char *const *)b); }
 
-/* The lines of a text in order of their letters, each with its end. */
+/* The lines of a text in order of their letters, each once, and with its end. */
 static char *sorted(char *text) {
     size_t length = text ? strlen(text) : 0, count = 0, used = 0;
     char **lines = calloc(length + 1, sizeof *lines), *result = malloc(length + 2), *rest;
     if (!lines || !result || !text) return result;
     for (char *line = strtok_r(text, "\n", &rest); line; line = strtok_r(0, "\n", &rest)) lines[count++] = line;
     qsort(lines, count, sizeof *lines, compare_lines);
-    for (size_t k = 0; k < count; k++) used += (size_t)sprintf(result + used, "%s\n", lines[k]);
+    for (size_t k = 0; k < count; k++)
+        if (k == 0 || strcmp(lines[k - 1], lines[k])) used += (size_t)sprintf(result + used, "%s\n", lines[k]);
     result[used] = 0;
     free(lines);
     return result;

@@ -20,7 +20,7 @@ static const char usage[] =
     "  --timeout S        ends the run after S seconds\n"
     "  --tag              each line of output begins with its rank\n"
     "  --every-stop       runs the program once for each call of each rank, and stops that rank there\n"
-    "  --same-output      with --every-stop: what the run writes has to be the same lines too\n"
+    "  --same-output      with --every-stop: what the run writes has to be the same lines too, in any order, each at least once\n"
     "  --jobs N           with --every-stop: N runs at the same time; if left out, as many as there are processors\n"
     "  --all              with --every-stop: a line for each place, not only for those where something is wrong\n"
     "  --rounds N         agreements that can be made on each communicator (1024)\n"
