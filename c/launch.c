@@ -74,8 +74,8 @@ static void clear_rank(void) {
 
 static void *run_rank(void *of) {
     static __thread char room[16384];
-    stack_t stack = {.ss_sp = room, .ss_size = sizeof room};
-    sigaltstack(&stack, 0);
+    stack_t stack = {.ss_sp = room, .ss_size = sizeof room}, old;
+    if (sigaltstack(0, &old) == 0 && old.ss_flags & SS_DISABLE) sigaltstack(&stack, 0);   /* AddressSanitizer has one of its own */
     me = of;
     if (setjmp(me->bottom) == 0) {
         int status = run_program(me);
@@ -168,6 +168,9 @@ int ulfm_mpirun(int count, char **words) {
     tell_unmet_stops();
     int status = status_of_run();
     remove_copies();
-    for (int k = 0; k < options.ranks; k++) free(ranks[k].path);
+    for (int k = 0; k < options.ranks; k++) {
+        free(ranks[k].path);
+        free_words(&ranks[k]);
+    }
     return status;
 }

@@ -55,6 +55,18 @@ void remove_copies(void) {
     if (folder[0]) rmdir(folder);
 }
 
+/* The words that the rank's main gets: the program, and its arguments. False where there is no memory. */
+static bool copy_words(struct rank *rank) {
+    int count = options.count + 1;
+    rank->words = calloc((size_t)count + 1, sizeof *rank->words);
+    if (!rank->words) return false;
+    for (int k = 0; k < count; k++) {
+        rank->words[k] = strdup(k ? options.words[k - 1] : options.program);
+        if (!rank->words[k]) return false;
+    }
+    return true;
+}
+
 /* Loads the copy of the rank that runs, and calls its main. Its status, or STATUS_USAGE where it can't be loaded. */
 int run_program(struct rank *rank) {
     extern char **environ;
@@ -69,13 +81,11 @@ int run_program(struct rank *rank) {
         fprintf(stderr, "ulfm-mpirun: %s wasn't linked by ulfm-mpicc\n", options.program);
         end_run(STATUS_USAGE);
     }
-    int count = options.count + 1;
-    char **words = calloc((size_t)count + 1, sizeof *words);
-    if (!words) end_run(STATUS_USAGE);
-    words[0] = strdup(options.program);
-    for (int k = 1; k < count; k++) words[k] = strdup(options.words[k - 1]);
-    int status = (*start)(count, words, environ);
-    for (int k = 0; k < count; k++) free(words[k]);
-    free(words);
-    return status;
+    if (!copy_words(rank)) end_run(STATUS_USAGE);
+    return (*start)(options.count + 1, rank->words, environ);
+}
+
+void free_words(struct rank *rank) {
+    for (int k = 0; rank->words && rank->words[k]; k++) free(rank->words[k]);
+    free(rank->words);
 }

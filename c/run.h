@@ -123,7 +123,7 @@ struct rank {
     char *line;
     size_t line_length, line_room;
     void *program;
-    char *path;
+    char *path, **words;
     _Atomic uint64_t idle;    /* the count of moves that its last look saw, and 1; 0: it runs */
     _Atomic int is_gone;      /* it has finalized, or stopped */
     _Atomic int is_ended;     /* its thread needs nothing more */
@@ -158,6 +158,7 @@ int read_words(int count, char **words);
 bool copy_programs(void);
 void remove_copies(void);
 int run_program(struct rank *rank);
+void free_words(struct rank *rank);
 int every_stop(const char *launcher);
 int ulfm_mpirun(int count, char **words);
 void end_run(int status) __attribute__((noreturn));

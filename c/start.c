@@ -84,8 +84,9 @@ int MPI_Get_library_version(char *version, int *length) {
 }
 
 int MPI_Get_processor_name(char *name, int *length) {
-    if (gethostname(name, MPI_MAX_PROCESSOR_NAME)) strcpy(name, "localhost");
-    name[MPI_MAX_PROCESSOR_NAME - 1] = 0;
+    char host[MPI_MAX_PROCESSOR_NAME] = "localhost";
+    if (gethostname(host, sizeof host - 1)) strcpy(host, "localhost");
+    strcpy(name, host);
     *length = (int)strlen(name);
     return MPI_SUCCESS;
 }

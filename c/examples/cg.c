@@ -1,7 +1,9 @@
 /* Conjugate gradients for a tridiagonal system. A rank may stop anywhere: the others go on from the copies that neighbours keep.
 
    Half of the method are reductions: where a rank stops inside one, some have its sum and others an error. So nobody commits what it has, or leaves,
-   before all have agreed; and the result is told before that, since who would tell it may stop behind. With -DLEAVES_EARLY a rank leaves as soon as its own last reduction gave success: the classic bug, which --every-stop finds.
+   before all have agreed; and the result is told before that, since who would tell it may stop behind.
+
+   With -DLEAVES_EARLY a rank leaves as soon as its own last reduction gave success: the classic bug, which --every-stop finds.
 
      ulfm-mpicc -g cg.c -o cg -lm
      ulfm-mpirun -n 4 --every-stop --same-output ./cg
