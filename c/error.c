@@ -64,8 +64,9 @@ static bool is_handler(MPI_Errhandler handler) {
 /* An error is fatal: says where and which, and ends the run. */
 static void end_by(struct comm *comm, int code) {
     const char *call = me->place.call;
-    fprintf(stderr, "ulfm-mpirun: rank %d: %s: %s; errors are fatal on %s: the run ends\n", me->number, call, text_of(code),
-            comm->name[0] ? comm->name : "this communicator");
+    char line[256];
+    fprintf(stderr, "ulfm-mpirun: rank %d: %s%s: %s; errors are fatal on %s: the run ends\n", me->number, call,
+            line_of(me, line, sizeof line), text_of(code), comm->name[0] ? comm->name : "this communicator");
     if (me->out) fflush(me->out);
     report("fatal %d %s %d\n", me->number, call, code & 255);
     end_run(STATUS_FATAL);

@@ -6,20 +6,21 @@
 #include <string.h>
 #include <unistd.h>
 
-/* The line of the program that made a call, or "". */
-static void line_of(const struct rank *rank, char *line, size_t room) {
+/* " at FILE:LINE" of the program that made the rank's call, or "" where that isn't known. */
+char *line_of(const struct rank *rank, char *text, size_t room) {
+    char command[512], line[256] = "";
     Dl_info info;
-    *line = 0;
-    if (!rank->place.from || !dladdr(rank->place.from, &info)) return;
-    char command[512];
-    size_t offset = (const char *)rank->place.from - (const char *)info.dli_fbase;
+    *text = 0;
+    if (!rank->place.from || !dladdr(rank->place.from, &info)) return text;
+    size_t offset = (size_t)((const char *)rank->place.from - (const char *)info.dli_fbase);
     snprintf(command, sizeof command, "addr2line -s -e '%s' 0x%zx 2>/dev/null", options.program, offset - 1);
     FILE *said = popen(command, "r");
-    if (!said) return;
-    if (!fgets(line, (int)room, said) || line[0] == '?') *line = 0;
+    if (!said) return text;
+    if (!fgets(line, sizeof line, said)) *line = 0;
     pclose(said);
     line[strcspn(line, " \n")] = 0;
-    if (strstr(line, ":?") || strstr(line, ":0")) *line = 0;
+    if (*line && *line != '?' && !strstr(line, ":?") && !strstr(line, ":0")) snprintf(text, room, " at %s", line);
+    return text;
 }
 
 static const char *name_of(const struct comm *comm, char *name, size_t room) {
@@ -57,8 +58,10 @@ static void tell_place(const struct rank *rank) {
     char line[256], name[128], peer[128] = "";
     const struct place *place = &rank->place;
     fprintf(stderr, "  rank %d: ", rank->number);
+    line_of(rank, line, sizeof line);
     if (rank->has_stopped) {
-        fprintf(stderr, "stopped%s, at %s (call %d)\n", rank->is_planned ? " by plan" : "", place->call ? place->call : "its start", rank->calls);
+        fprintf(stderr, "stopped%s, %s %s%s (call %d)\n", rank->is_planned ? " by plan" : "", rank->is_planned ? "in" : "after",
+                place->call ? place->call : "its start", line, rank->calls);
         return;
     }
     if (rank->has_finalized || !place->call) {
@@ -66,10 +69,9 @@ static void tell_place(const struct rank *rank) {
         return;
     }
     report("at %d %s\n", rank->number, place->call);
-    line_of(rank, line, sizeof line);
     tell_peer(place, peer, sizeof peer);
-    fprintf(stderr, "%s %s%s%s%s%s (call %d)\n", rank->idle ? "waits in" : "runs, after", place->call, peer,
-            name_of(place->comm, name, sizeof name), line[0] ? " at " : "", line, rank->calls);
+    fprintf(stderr, "%s %s%s%s%s (call %d)\n", rank->idle ? "waits in" : "runs, after", place->call, peer,
+            name_of(place->comm, name, sizeof name), line, rank->calls);
 }
 
 void tell_places(void) {

@@ -180,6 +180,7 @@ bool all_are_gone(void *unused);
 extern _Atomic uint64_t moves;
 
 /* hang.c */
+char *line_of(const struct rank *rank, char *text, size_t room);
 void tell_places(void);
 void tell_stuck(void);
 

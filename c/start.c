@@ -65,7 +65,9 @@ int MPI_Finalize(void) {
 int MPI_Abort(MPI_Comm comm, int errorcode) {
     (void)comm;
     if (me) {
-        fprintf(stderr, "ulfm-mpirun: rank %d called MPI_Abort with %d: the run ends\n", me->number, errorcode);
+        char line[256];
+        me->place.from = __builtin_return_address(0);
+        fprintf(stderr, "ulfm-mpirun: rank %d called MPI_Abort with %d%s: the run ends\n", me->number, errorcode, line_of(me, line, sizeof line));
         if (me->out) fflush(me->out);
         report("abort %d %d\n", me->number, errorcode);
     }

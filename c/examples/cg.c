@@ -18,7 +18,7 @@
 #include <mpi-ext.h>
 #endif
 
-enum { ROWS = 12, ROUND = 4, MOST = 40 };   /* iterations a round, and at most */
+enum { ROWS = 8, ROUND = 3, MOST = 40 };   /* iterations a round, and at most */
 static const double small = 1e-12;
 
 /* The vectors; a rank keeps its own rows of them right. */

@@ -7,7 +7,7 @@
 #include <stdlib.h>
 #include <string.h>
 
-static int faults;
+static int faults __attribute__((unused));
 
 #define CHECK(fact) \
     do { \

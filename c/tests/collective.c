@@ -40,8 +40,8 @@ static void reductions(void) {
     MPI_Op_free(&op);
     MPI_Type_free(&matrix);
     MPI_Allreduce(MPI_IN_PLACE, &x, 1, MPI_INT, MPI_SUM, world);
-    if (rank == 0) printf("sum %d most %d bits %d maxloc %g at %d total %.1f in place %d matrix %ld %ld %ld %ld\n", sum, most, bits, out.value, out.place, total, x,
-                          result[0], result[1], result[2], result[3]);
+    if (rank == 0) printf("sum %d most %d bits %d maxloc %g at %d total %.1f in place %d", sum, most, bits, out.value, out.place, total, x);
+    if (rank == 0) printf(" matrix %ld %ld %ld %ld\n", result[0], result[1], result[2], result[3]);
 }
 
 static void moves(void) {
@@ -105,7 +105,7 @@ static void communicators(void) {
     MPI_Comm_compare(world, dup, &same);
     MPI_Comm_compare(world, world, &other);
     MPI_Comm_get_name(MPI_COMM_WORLD, name, &length);
-    if (rank == 0) printf("dup: %s, itself: %s, name %s\n", same == MPI_CONGRUENT ? "congruent" : "another", other == MPI_IDENT ? "identical" : "another", name);
+    if (rank == 0) printf("dup: %d, itself: %d, name %s\n", same == MPI_CONGRUENT, other == MPI_IDENT, name);
     MPI_Request request = MPI_REQUEST_NULL;
     if (rank == 0) MPI_Isend(&same, 1, MPI_INT, 1, 0, world, &request);
     if (rank == 0) x = 50, MPI_Send(&x, 1, MPI_INT, 1, 0, dup);

@@ -1,0 +1,40 @@
+/* The ends of a rank: each of these is its failure, as the others see it. The first word says which; the last rank makes it. */
+#include "check.h"
+#include <assert.h>
+#include <signal.h>
+#include <unistd.h>
+
+static volatile int handled;
+static void handle(int number) { handled = number; }
+
+static void end(const char *how) {
+    if (!strcmp(how, "exit")) exit(3);
+    if (!strcmp(how, "_exit")) _exit(3);
+    if (!strcmp(how, "abort")) abort();
+    if (!strcmp(how, "assert")) assert(how == 0);
+    if (!strcmp(how, "raise")) raise(SIGTERM);
+    if (!strcmp(how, "kill")) kill(getpid(), SIGKILL);
+    if (!strcmp(how, "crash")) *(volatile int *)8 = 0;
+    if (!strcmp(how, "MPI_Abort")) MPI_Abort(MPI_COMM_WORLD, 7);
+}
+
+int main(int argc, char **argv) {
+    int rank, size, x = 0;
+    MPI_Init(&argc, &argv);
+    MPI_Comm_rank(MPI_COMM_WORLD, &rank);
+    MPI_Comm_size(MPI_COMM_WORLD, &size);
+    MPI_Comm_set_errhandler(MPI_COMM_WORLD, MPI_ERRORS_RETURN);
+    if (rank == 0) {   /* handlers are the whole process', so one rank has one */
+        signal(SIGUSR1, handle);
+        raise(SIGUSR1);
+        CHECK(handled == SIGUSR1);
+    }
+    if (rank == size - 1) {
+        end(argv[1]);
+        return 0;   /* without MPI_Finalize */
+    }
+    CHECK(class_of(MPI_Recv(&x, 1, MPI_INT, size - 1, 0, MPI_COMM_WORLD, MPI_STATUS_IGNORE)) == MPIX_ERR_PROC_FAILED);
+    if (rank == 0) printf("seen\n");
+    MPI_Finalize();
+    return faults != 0;
+}
