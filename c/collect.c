@@ -19,7 +19,7 @@ int begin_collective(struct comm *comm) {
 }
 
 int collect_send(struct comm *comm, int to, const void *bytes, size_t length) {
-    int code = send_letter(comm->hidden, to, comm->members[to], tag_of(comm), bytes, length, 0);
+    int code = send_letter(comm->hidden, comm->place[to], comm->members[to], tag_of(comm), bytes, length, 0);
     plan_inside();
     return code;
 }

@@ -27,28 +27,52 @@ struct chain *new_chain(uint32_t context) {
     return chain;
 }
 
+/* The position of the member that stands at a place of the context's group. */
+int position_at(const struct comm *comm, uint32_t place) {
+    for (int k = 0; k < comm->size; k++)
+        if (comm->place[k] == place) return k;
+    return MPI_UNDEFINED;
+}
+
+void group_of(const struct comm *comm, struct group *group) {
+    group->size = comm->size;
+    memcpy(group->members, comm->members, sizeof group->members);
+}
+
+/* Fills in who the members are: those of a group that are in the context's, in the group's order, or all. */
+bool fill_comm(struct comm *comm, const struct group *group) {
+    ulfm_group all;
+    struct group whole = {0};
+    if (ulfm_group_of(me->slot, comm->context, &all) != ULFM_OK) return false;
+    whole.size = (int)all.size;
+    memcpy(whole.members, all.members, sizeof whole.members);
+    comm->size = 0;
+    for (int k = 0; k < (group ? group->size : whole.size); k++) {
+        int member = group ? group->members[k] : whole.members[k], place = position_in(&whole, member);
+        if (place == MPI_UNDEFINED) continue;
+        if (member == me->number) comm->position = comm->size;
+        comm->place[comm->size] = (uint8_t)place;
+        comm->members[comm->size++] = (uint8_t)member;
+    }
+    comm->is_part = comm->size < whole.size;
+    return true;
+}
+
 /* A communicator on a plane of a chain, or null where there is no memory. */
-struct comm *new_comm(struct chain *chain, int plane, MPI_Errhandler handler) {
+struct comm *new_comm(struct chain *chain, int plane, MPI_Errhandler handler, const struct group *group) {
     struct comm *comm = calloc(1, sizeof *comm);
-    uint32_t context = chain->plane[plane].context;
-    ulfm_group group;
-    uint32_t position;
     int place = 0;
     while (place < me->comm_count && me->comms[place]) place++;
-    if (!comm || (place == me->comm_count && !grow(&me->comms, place, sizeof *me->comms)) || ulfm_group_of(me->slot, context, &group) != ULFM_OK ||
-        ulfm_position(me->slot, context, &position) != ULFM_OK) {
+    if (comm) comm->context = chain->plane[plane].context;
+    if (!comm || (place == me->comm_count && !grow(&me->comms, place, sizeof *me->comms)) || !fill_comm(comm, group)) {
         free(comm);
         return 0;
     }
-    comm->context = context;
     comm->chain = chain;
     comm->hidden = chain->hidden;
     comm->plane = plane;
     comm->begun = chain->plane[plane].begun;
     chain->plane[plane].is_free = false;
-    comm->size = (int)group.size;
-    comm->position = (int)position;
-    memcpy(comm->members, group.members, sizeof comm->members);
     comm->handler = handler;
     chain->users++;
     me->comms[place] = comm;
@@ -59,17 +83,17 @@ struct comm *new_comm(struct chain *chain, int plane, MPI_Errhandler handler) {
 /* MPI_COMM_WORLD and MPI_COMM_SELF. The messages of the latter go through the world's hidden context, where nobody else sends to itself. */
 bool make_world(void) {
     struct chain *chain = new_chain(0);
-    struct comm *world = chain ? new_comm(chain, 0, MPI_ERRORS_ARE_FATAL) : 0;
+    struct comm *world = chain ? new_comm(chain, 0, MPI_ERRORS_ARE_FATAL, 0) : 0;
     struct comm *self = world ? calloc(1, sizeof *self) : 0;
     if (!self || !grow(&me->comms, me->comm_count, sizeof *me->comms)) return false;
     strcpy(world->name, "MPI_COMM_WORLD");
     strcpy(self->name, "MPI_COMM_SELF");
     self->context = self->hidden = chain->hidden;
     self->chain = chain;
-    self->size = 1;
-    self->members[0] = (uint8_t)me->number;
+    fill_comm(self, &(struct group){1, {(uint8_t)me->number}});
     self->handler = MPI_ERRORS_ARE_FATAL;
-    self->is_self = true;
+    self->is_self = self->is_part = true;
+    self->revoked = &me->self_revoked;
     chain->users++;
     me->comms[me->comm_count++] = self;
     return true;

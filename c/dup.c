@@ -7,9 +7,42 @@
 #include <string.h>
 
 struct wish {
-    int planes;      /* how many there are here: the next new one has this number */
-    unsigned freed;  /* those that can be used again, as bits */
+    unsigned free;           /* the planes that can be used, as bits */
+    unsigned begun[PLANES];  /* the collectives that began on each */
+    int color, key;          /* of MPI_Comm_split */
 };
+
+/* What position 0 tells all. */
+struct decided {
+    int plane;
+    struct plans plans;
+};
+
+/* Marks of revocation that parts share, in one list, so that they are freed at the end. */
+struct marks {
+    struct marks *next;
+    _Atomic int marks[MAX_RANKS];
+};
+static struct marks *all_marks;
+static pthread_mutex_t marks_lock = PTHREAD_MUTEX_INITIALIZER;
+
+static _Atomic int *new_marks(void) {
+    struct marks *marks = calloc(1, sizeof *marks);
+    if (!marks) return 0;
+    pthread_mutex_lock(&marks_lock);
+    marks->next = all_marks;
+    all_marks = marks;
+    pthread_mutex_unlock(&marks_lock);
+    return marks->marks;
+}
+
+void free_marks(void) {
+    while (all_marks) {
+        struct marks *next = all_marks->next;
+        free(all_marks);
+        all_marks = next;
+    }
+}
 
 static bool has_requests(uint32_t context) {
     for (int k = 0; k < me->request_count; k++)
@@ -17,33 +50,47 @@ static bool has_requests(uint32_t context) {
     return false;
 }
 
-/* The planes of a chain that this rank freed, where nothing is open, revoked or shrunk. */
-static unsigned freed_planes(const struct chain *chain) {
-    unsigned freed = 0;
-    for (int k = 0; k < chain->planes; k++) {
+/* The planes of a chain that this rank has not made yet, or freed, where nothing is open, revoked or shrunk. */
+static unsigned free_planes(const struct chain *chain) {
+    unsigned all = 0;
+    for (int k = 0; k < PLANES; k++) {
         uint32_t context = chain->plane[k].context, revoked = 0;
-        if (!chain->plane[k].is_free || has_requests(context) || me->shrunk[context]) continue;
-        if (ulfm_is_revoked(me->slot, context, &revoked) == ULFM_OK && !revoked) freed |= 1u << k;
+        if (k >= chain->planes) all |= 1u << k;
+        else if (!chain->plane[k].is_free || has_requests(context) || me->shrunk[context]) continue;
+        else if (ulfm_is_revoked(me->slot, context, &revoked) == ULFM_OK && !revoked) all |= 1u << k;
     }
-    return freed;
+    return all;
 }
 
-/* The plane that all members take. */
-static int agree_on_plane(struct comm *comm, int *plane) {
-    struct wish own = {comm->chain->planes, freed_planes(comm->chain)}, all[MAX_RANKS] = {{0}};
-    char verdict[VERDICT + sizeof own];
-    int code = begin_collective(comm);
-    if (code != MPI_SUCCESS) return code;
-    code = gather_all(comm, &own, sizeof own, all);
-    for (int k = 0; k < comm->size && comm->position == 0; k++) {
-        own.freed &= all[k].freed;
-        if (all[k].planes > own.planes) own.planes = all[k].planes;
+/* What comes of the wishes of all. */
+static void decide(const struct comm *team, const struct wish *all, struct decided *decided) {
+    unsigned common = all[0].free;
+    for (int k = 0; k < team->size; k++) {
+        common &= all[k].free;
+        decided->plans.colors[k] = all[k].color;
+        decided->plans.keys[k] = all[k].key;
     }
-    memcpy(verdict + VERDICT, &own, sizeof own);
-    code = spread_verdict(comm, code, verdict, sizeof own);
-    memcpy(&own, verdict + VERDICT, sizeof own);
-    *plane = own.freed ? __builtin_ctz(own.freed) : own.planes;
-    return code;
+    decided->plane = common ? __builtin_ctz(common) : PLANES;
+    for (int k = 0; k < team->size && decided->plane < PLANES; k++)
+        if (all[k].begun[decided->plane] > decided->plans.begun) decided->plans.begun = all[k].begun[decided->plane];
+    decided->plans.marks = new_marks();
+}
+
+/* The plane that all members of a team take, and what else they agree on. */
+int agree_on_plane(struct comm *team, int *plane, struct plans *plans) {
+    const struct chain *chain = team->chain;
+    struct wish own = {.free = free_planes(chain), .color = plans->colors[0], .key = plans->keys[0]}, all[MAX_RANKS];
+    for (int k = 0; k < chain->planes; k++) own.begun[k] = chain->plane[k].begun;
+    struct decided decided = {0};
+    char verdict[VERDICT + sizeof decided];
+    int code = gather_all(team, &own, sizeof own, all);
+    if (team->position == 0 && code == MPI_SUCCESS) decide(team, all, &decided);
+    memcpy(verdict + VERDICT, &decided, sizeof decided);
+    code = spread_verdict(team, code, verdict, sizeof decided);
+    memcpy(&decided, verdict + VERDICT, sizeof decided);
+    *plane = decided.plane;
+    *plans = decided.plans;
+    return code != MPI_SUCCESS || plans->marks ? code : MPI_ERR_NO_MEM;
 }
 
 /* Makes the chain so long that it has this plane. */
@@ -54,6 +101,7 @@ static int lengthen(struct chain *chain, int plane) {
         int code = class_of(ulfm_dup(me->slot, chain->last, &made));
         if (code != MPI_SUCCESS) return code;
         chain->last = made;
+        chain->plane[chain->planes].is_free = true;
         chain->plane[chain->planes++].context = made;
     }
     return MPI_SUCCESS;
@@ -68,19 +116,34 @@ static void drop_letters(uint32_t context) {
         if (ulfm_mrecv(me->slot, id, &told, letter, sizeof letter) != ULFM_OK) return;
 }
 
+/* Makes a communicator of a group on a plane of another one's chain. */
+int make_on_plane(struct comm *of, int plane, const struct group *group, const struct plans *plans, MPI_Comm *made) {
+    struct chain *chain = of->chain;
+    bool is_old = plane < chain->planes;
+    int code = lengthen(chain, plane);
+    if (code != MPI_SUCCESS) return code;
+    if (is_old) drop_letters(chain->plane[plane].context);
+    chain->plane[plane].begun = plans->begun;
+    struct comm *comm = new_comm(chain, plane, of->handler, group);
+    if (!comm) return MPI_ERR_NO_MEM;
+    comm->revoked = &plans->marks[comm->members[0]];
+    *made = handle_of(comm);
+    return MPI_SUCCESS;
+}
+
 int MPI_Comm_dup(MPI_Comm comm, MPI_Comm *made) {
     struct comm *of = comm_at(comm);
+    struct plans plans = {0};
+    struct group group;
+    int plane = 0;
     ENTER(of, MPI_UNDEFINED, MPI_UNDEFINED);
     if (!of) return fail(0, MPI_ERR_COMM);
     if (of->is_self) return fail(of, NOT_ON_SELF);
-    int plane = 0, code = agree_on_plane(of, &plane);
-    if (code == MPI_SUCCESS) code = lengthen(of->chain, plane);
-    if (code != MPI_SUCCESS) return fail(of, code);
-    if (of->chain->plane[plane].is_free) drop_letters(of->chain->plane[plane].context);
-    struct comm *duplicate = new_comm(of->chain, plane, of->handler);
-    if (!duplicate) return fail(of, MPI_ERR_NO_MEM);
-    *made = handle_of(duplicate);
-    return MPI_SUCCESS;
+    group_of(of, &group);
+    int code = begin_collective(of);
+    if (code == MPI_SUCCESS) code = agree_on_plane(of, &plane, &plans);
+    if (code == MPI_SUCCESS) code = make_on_plane(of, plane, &group, &plans, made);
+    return fail(of, code);
 }
 
 /* The handle goes; requests that are open go on (7.4.3). */

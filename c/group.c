@@ -38,7 +38,7 @@ void clear_groups(void) {
 }
 
 /* Where a world rank stands in a group, or MPI_UNDEFINED. */
-static int position_in(const struct group *group, int member) {
+int position_in(const struct group *group, int member) {
     for (int k = 0; k < group->size; k++)
         if (group->members[k] == member) return k;
     return MPI_UNDEFINED;

@@ -165,6 +165,7 @@ int ulfm_mpirun(int count, char **words) {
     wait_for_ends();
     for (int k = 0; k < options.ranks; k++) ulfm_end(&slots[k]);
     free_parcels();
+    free_marks();
     tell_unmet_stops();
     int status = status_of_run();
     remove_copies();

@@ -140,14 +140,31 @@ void take_letter(const ulfm_status *told, const uint8_t *letter, void *buffer, s
 /* Whether the program's communicator is known to be revoked. */
 bool is_revoked(const struct comm *comm) {
     uint32_t revoked = 0;
-    if (comm->is_self) return comm->self_revoked;
+    if (comm->is_part) return atomic_load(comm->revoked);
     return ulfm_is_revoked(me->slot, comm->context, &revoked) == ULFM_OK && revoked;
+}
+
+/* The members that are known to have failed, in the order in which this rank learned it. */
+int failed_of(const struct comm *comm, ulfm_group *failed) {
+    ulfm_group all;
+    int code = class_of(ulfm_get_failed(me->slot, comm->context, &all));
+    *failed = (ulfm_group){0};
+    for (uint32_t k = 0; code == MPI_SUCCESS && k < all.size; k++)
+        for (int at = 0; at < comm->size; at++)
+            if (comm->members[at] == all.members[k]) failed->members[failed->size++] = all.members[k];
+    return code;
+}
+
+/* Whether a member failed whose failure isn't acknowledged. */
+bool has_unacknowledged(const struct comm *comm) {
+    ulfm_group failed;
+    return failed_of(comm, &failed) == MPI_SUCCESS && failed.size > comm->acknowledged;
 }
 
 /* Whether the member at a position is known to have failed. */
 bool is_failed(const struct comm *comm, int position) {
     ulfm_group failed;
-    if (comm->is_self || ulfm_get_failed(me->slot, comm->context, &failed) != ULFM_OK) return false;
+    if (failed_of(comm, &failed) != MPI_SUCCESS) return false;
     for (uint32_t k = 0; k < failed.size; k++)
         if (failed.members[k] == comm->members[position]) return true;
     return false;

@@ -14,7 +14,6 @@ static int check(const void *buf, int count, MPI_Datatype type, int peer, int ta
     if (!is_any && peer != MPI_PROC_NULL && (peer < 0 || peer >= comm->size)) return MPI_ERR_RANK;
     if (!(is_receive && tag == MPI_ANY_TAG) && (tag < 0 || tag > MPI_TAG_UB_VALUE)) return MPI_ERR_TAG;
     if (!buf && *bytes) return MPI_ERR_BUFFER;
-    if (comm->is_self && comm->hidden == NO_CONTEXT_LEFT) return NO_COLLECTIVES;
     return MPI_SUCCESS;
 }
 

@@ -20,15 +20,9 @@ struct probe {
     struct message *message;
 };
 
-/* Whether a member failed whose failure isn't acknowledged. */
-static bool has_unacknowledged(const struct comm *comm) {
-    ulfm_group failed;
-    return !comm->is_self && ulfm_get_failed(me->slot, comm->context, &failed) == ULFM_OK && failed.size > comm->acknowledged;
-}
-
 static void tell_found(struct probe *probe, const ulfm_status *told, size_t length) {
     probe->found = true;
-    probe->status = (MPI_Status){.MPI_SOURCE = probe->comm->is_self ? 0 : (int)told->source, .MPI_TAG = (int)told->tag, .bytes = length};
+    probe->status = (MPI_Status){.MPI_SOURCE = position_at(probe->comm, told->source), .MPI_TAG = (int)told->tag, .bytes = length};
 }
 
 /* Takes the message that a probe found. */
@@ -47,18 +41,19 @@ static void take_message(struct probe *probe, uint64_t id) {
 /* Looks once. */
 static void look(struct probe *probe) {
     struct comm *comm = probe->comm;
-    uint32_t context = comm->is_self ? comm->hidden : comm->context;
-    uint32_t source = comm->is_self ? (uint32_t)me->number : probe->source == MPI_ANY_SOURCE ? ULFM_ANY : (uint32_t)probe->source;
+    uint32_t context = comm->context;
+    uint32_t source = comm->is_self ? comm->place[0] : probe->source == MPI_ANY_SOURCE ? ULFM_ANY : comm->place[probe->source];
     uint32_t tag = probe->tag == MPI_ANY_TAG ? ULFM_ANY : (uint32_t)probe->tag, code;
     ulfm_status told;
     uint64_t id;
-    if (probe->takes) code = ulfm_improbe(me->slot, context, source, tag, &id, &told);
+    if (comm->is_part && is_revoked(comm)) code = ULFM_REVOKED;
+    else if (probe->takes) code = ulfm_improbe(me->slot, context, source, tag, &id, &told);
     else code = ulfm_iprobe(me->slot, context, source, tag, &told);
     probe->code = MPI_SUCCESS;
     if (code == ULFM_OK && probe->takes) take_message(probe, id);
     else if (code == ULFM_OK) {
         look_at_all();
-        tell_found(probe, &told, length_of_probed(&told, context, comm->is_self ? me->number : comm->members[told.source]));
+        tell_found(probe, &told, length_of_probed(&told, context, comm->members[position_at(comm, told.source)]));
     } else if (code != ULFM_NOT_YET) probe->code = class_of(code);
     else if (probe->source == MPI_ANY_SOURCE && has_unacknowledged(comm)) probe->code = MPIX_ERR_PROC_FAILED_PENDING;
 }
@@ -171,7 +166,7 @@ static int receive(void *buf, int count, MPI_Datatype type, MPI_Message *handle,
     if (!message) return MPI_ERR_REQUEST;
     *comm = message->comm;
     take_letter(&message->told, message->letter, buf, bytes, status, &code);
-    if (message->comm->is_self) status->MPI_SOURCE = 0;
+    status->MPI_SOURCE = position_at(message->comm, message->told.source);
     free(message);
     return code;
 }

@@ -7,8 +7,9 @@ int MPIX_Comm_revoke(MPI_Comm comm) {
     struct comm *of = comm_at(comm);
     ENTER(of, MPI_UNDEFINED, MPI_UNDEFINED);
     if (!of) return fail(0, MPI_ERR_COMM);
-    if (of->is_self) of->self_revoked = true;
-    int code = of->is_self ? MPI_SUCCESS : class_of(ulfm_revoke(me->slot, of->context));
+    if (of->is_part) atomic_store(of->revoked, 1);
+    int code = of->is_part ? MPI_SUCCESS : class_of(ulfm_revoke(me->slot, of->context));
+    moved();
     progress();
     return fail(of, code);
 }
@@ -41,7 +42,7 @@ int MPIX_Comm_shrink(MPI_Comm comm, MPI_Comm *made) {
     struct comm *of = comm_at(comm);
     ENTER(of, MPI_UNDEFINED, MPI_UNDEFINED);
     if (!of) return fail(0, MPI_ERR_COMM);
-    if (of->is_self) return fail(of, NOT_ON_SELF);
+    if (of->is_part) return fail(of, NOT_ON_PARTS);
     struct shrink shrink = {.context = of->context};
     while (me->shrunk[shrink.context]) shrink.context = me->shrunk[shrink.context];
     shrink.code = ulfm_enter_shrink(me->slot, shrink.context);
@@ -53,7 +54,9 @@ int MPIX_Comm_shrink(MPI_Comm comm, MPI_Comm *made) {
     me->shrunk[shrink.context] = shrink.made;
     plan_inside();
     struct chain *chain = new_chain(shrink.made);
-    struct comm *shrunk = chain ? new_comm(chain, 0, of->handler) : 0;
+    struct group before;
+    group_of(of, &before);
+    struct comm *shrunk = chain ? new_comm(chain, 0, of->handler, &before) : 0;
     if (!shrunk) return fail(of, MPI_ERR_NO_MEM);
     *made = handle_of(shrunk);
     return MPI_SUCCESS;
@@ -123,32 +126,29 @@ int MPIX_Comm_agree(MPI_Comm comm, int *flag) {
     struct comm *of = comm_at(comm);
     ENTER(of, MPI_UNDEFINED, MPI_UNDEFINED);
     if (!of) return fail(0, MPI_ERR_COMM);
-    return fail(of, of->is_self ? MPI_SUCCESS : agree(of, flag));
+    if (of->is_part) return fail(of, of->size > 1 ? NOT_ON_PARTS : MPI_SUCCESS);
+    return fail(of, agree(of, flag));
 }
 
 /* ---- Failures that are known ---- */
-
-/* The members that are known to have failed, in the order in which this rank learned it. */
-static int failed_of(struct comm *comm, ulfm_group *failed) {
-    *failed = (ulfm_group){0};
-    if (comm->is_self) return MPI_SUCCESS;
-    progress();
-    return class_of(ulfm_get_failed(me->slot, comm->context, failed));
-}
 
 int MPIX_Comm_get_failed(MPI_Comm comm, MPI_Group *group) {
     struct comm *of = comm_at(comm);
     ulfm_group failed;
     ENTER_LOOK(of, MPI_UNDEFINED, MPI_UNDEFINED);
     if (!of) return fail(0, MPI_ERR_COMM);
+    progress();
     int code = failed_of(of, &failed);
     return fail(of, code != MPI_SUCCESS ? code : make_group(failed.members, (int)failed.size, group));
 }
 
-/* Acknowledges the first `count` of them, never fewer than before. */
+/* Acknowledges the first `count` of them, or all, never fewer than before. */
 static int acknowledge(struct comm *comm, uint32_t count) {
-    uint32_t total = 0;
-    int code = comm->is_self ? MPI_SUCCESS : class_of(ulfm_ack_failed(me->slot, comm->context, count, &total));
+    ulfm_group failed;
+    int code = failed_of(comm, &failed);
+    uint32_t total = failed.size < count ? failed.size : count;
+    if (total < comm->acknowledged) total = comm->acknowledged;
+    if (code == MPI_SUCCESS && !comm->is_part) code = class_of(ulfm_ack_failed(me->slot, comm->context, count, &total));
     if (code == MPI_SUCCESS) comm->acknowledged = total;
     return code;
 }
@@ -159,6 +159,7 @@ int MPIX_Comm_ack_failed(MPI_Comm comm, int count, int *acknowledged) {
     ulfm_group failed;
     ENTER_LOOK(of, MPI_UNDEFINED, MPI_UNDEFINED);
     if (!of) return fail(0, MPI_ERR_COMM);
+    progress();
     int code = failed_of(of, &failed);
     if (code == MPI_SUCCESS && (count < 0 || (uint32_t)count > failed.size)) code = MPI_ERR_ARG;
     if (code == MPI_SUCCESS) code = acknowledge(of, (uint32_t)count);
@@ -179,6 +180,7 @@ int MPIX_Comm_failure_get_acked(MPI_Comm comm, MPI_Group *group) {
     ulfm_group failed;
     ENTER_LOOK(of, MPI_UNDEFINED, MPI_UNDEFINED);
     if (!of) return fail(0, MPI_ERR_COMM);
+    progress();
     int code = failed_of(of, &failed);
     return fail(of, code != MPI_SUCCESS ? code : make_group(failed.members, (int)of->acknowledged, group));
 }

@@ -28,7 +28,7 @@ struct request *new_request(enum kind kind, struct comm *comm, int peer, int tag
     }
     request->kind = kind;
     request->comm = comm;
-    request->context = comm->is_self ? comm->hidden : comm->context;
+    request->context = comm->context;
     request->peer = peer;
     request->tag = tag;
     request->handle = place + 1;
@@ -77,11 +77,10 @@ void start_receive(struct request *request, void *buffer, size_t room) {
         end_with_nobody(request);
         return;
     }
-    uint32_t source = request->peer == MPI_ANY_SOURCE ? ULFM_ANY : (uint32_t)request->peer;
-    uint32_t tag = request->tag == MPI_ANY_TAG ? ULFM_ANY : (uint32_t)request->tag;
-    if (request->comm->is_self) source = (uint32_t)me->number;
-    uint32_t code = ulfm_irecv(me->slot, request->context, source, tag, BODY, &request->id);
-    if (code == ULFM_OK && request->comm->is_self && request->comm->self_revoked) code = ULFM_REVOKED;
+    const struct comm *comm = request->comm;
+    uint32_t source = comm->is_self ? comm->place[0] : request->peer == MPI_ANY_SOURCE ? ULFM_ANY : comm->place[request->peer];
+    uint32_t tag = request->tag == MPI_ANY_TAG ? ULFM_ANY : (uint32_t)request->tag, code = ULFM_REVOKED;
+    if (!comm->is_part || !is_revoked(comm)) code = ulfm_irecv(me->slot, request->context, source, tag, BODY, &request->id);
     request->next = me->open;
     me->open = request;
     if (code != ULFM_OK) end_request(request, class_of(code));
@@ -95,10 +94,9 @@ void start_send(struct request *request, const void *buffer, size_t length, bool
         return;
     }
     struct comm *comm = request->comm;
-    int dest = comm->is_self ? me->number : request->peer, code = MPI_SUCCESS;
-    if (comm->self_revoked) code = MPIX_ERR_REVOKED;
-    else
-        code = send_letter(request->context, dest, comm->members[request->peer], request->tag, buffer, length,
+    int code = MPIX_ERR_REVOKED;
+    if (!comm->is_part || !is_revoked(comm))
+        code = send_letter(request->context, comm->place[request->peer], comm->members[request->peer], request->tag, buffer, length,
                            is_synchronous ? &request->parcel : 0);
     request->kind = request->parcel ? SYNCHRONOUS : SENT;
     request->status.bytes = length;
@@ -120,9 +118,17 @@ static void end_receive(struct request *request, const ulfm_status *told, const 
     else if (told->error) code = class_of(told->error);
     else {
         take_letter(told, letter, request->buffer, request->room, &request->status, &code);
-        if (request->comm->is_self) request->status.MPI_SOURCE = 0;
+        request->status.MPI_SOURCE = position_at(request->comm, told->source);
     }
     end_request(request, code);
+}
+
+/* Ends a receive that waits on a part that is revoked. */
+static void end_revoked(struct request *request) {
+    uint8_t letter[BODY];
+    ulfm_status told;
+    if (ulfm_cancel(me->slot, request->id, &told, letter, sizeof letter) == ULFM_OK && !told.cancelled) end_receive(request, &told, letter);
+    else end_request(request, MPIX_ERR_REVOKED);
 }
 
 /* Looks at a request once. It may be over then. MPIX_ERR_PROC_FAILED_PENDING where it pends, else MPI_SUCCESS. */
@@ -132,8 +138,13 @@ int look_at(struct request *request) {
     uint8_t letter[BODY];
     ulfm_status told;
     uint32_t code = ulfm_test(me->slot, request->id, &told, letter, sizeof letter);
+    bool is_open = code == ULFM_NOT_YET || code == ULFM_PENDING;
+    if (is_open && request->comm->is_part && is_revoked(request->comm)) {
+        end_revoked(request);
+        return MPI_SUCCESS;
+    }
     if (code == ULFM_NOT_YET) return MPI_SUCCESS;
-    if (code == ULFM_PENDING) return MPIX_ERR_PROC_FAILED_PENDING;
+    if (code == ULFM_PENDING) return has_unacknowledged(request->comm) ? MPIX_ERR_PROC_FAILED_PENDING : MPI_SUCCESS;
     if (code == ULFM_OK) end_receive(request, &told, letter);
     else end_request(request, class_of(code));
     return MPI_SUCCESS;

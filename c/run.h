@@ -10,7 +10,7 @@
 #include <stdbool.h>
 #include <stdio.h>
 
-enum { MAX_RANKS = 8, CONTEXTS = 63, BODY = 1024, PLANES = 8, MAX_STOPS = 16, NO_CONTEXT_LEFT = 255 };
+enum { MAX_RANKS = 8, CONTEXTS = 63, BODY = 1024, PLANES = 7, MAX_STOPS = 16, NO_CONTEXT_LEFT = 255 };
 
 /* Statuses of ulfm-mpirun besides those of programs. */
 enum { STATUS_USAGE = 2, STATUS_FATAL = 96, STATUS_STUCK = 98, STATUS_LATE = 99 };
@@ -21,6 +21,7 @@ enum {
     NO_COLLECTIVES = MPI_ERR_OTHER | 2 << 8,
     TOO_MANY_ROUNDS = MPI_ERR_OTHER | 3 << 8,
     NOT_ON_SELF = MPI_ERR_COMM | 4 << 8,
+    NOT_ON_PARTS = MPI_ERR_COMM | 7 << 8,
     TAKEN_FOR_FAILED = MPI_ERR_OTHER | 5 << 8,
     NOT_INITIALIZED = MPI_ERR_OTHER | 6 << 8
 };
@@ -45,9 +46,12 @@ struct comm {
     int plane;             /* its number in the chain, in the tags of its collectives */
     unsigned begun;        /* how many collectives began */
     int size, position;
-    uint8_t members[MAX_RANKS];
+    uint8_t members[MAX_RANKS];  /* world ranks */
+    uint8_t place[MAX_RANKS];    /* where each member stands in the context's group */
     MPI_Errhandler handler;
-    bool is_self, self_revoked;
+    bool is_self;
+    bool is_part;                /* not all of the context's group are members */
+    _Atomic int *revoked;        /* of a part: what its members share, for the engine would revoke the whole context */
     uint32_t acknowledged; /* failures */
     char name[MPI_MAX_OBJECT_NAME];
 };
@@ -55,6 +59,13 @@ struct comm {
 struct group {
     int size;
     uint8_t members[MAX_RANKS];
+};
+
+/* What the members of a new communicator agree on, besides its plane. */
+struct plans {
+    unsigned begun;              /* the collectives that began on the plane before */
+    _Atomic int *marks;          /* of parts: the marks of revocation, by the first member's world rank */
+    int colors[MAX_RANKS], keys[MAX_RANKS];   /* of MPI_Comm_split, by positions; before, the own ones stand first */
 };
 
 /* What goes beside a message: a long body, and where its sender waits for the match, the flag that tells it. In one list, so that those that
@@ -113,6 +124,7 @@ struct rank {
     int comm_count, old_comm_count, group_count, request_count, message_count, handler_count, type_count, op_count, first_free;
     struct request *open;     /* receives that wait */
     uint32_t shrunk[CONTEXTS];
+    _Atomic int self_revoked;
     bool has_begun, has_finalized, has_stopped;
     bool is_planned;          /* it stopped by plan */
     struct place place;
@@ -199,6 +211,8 @@ void let_go(struct parcel *parcel);
 void free_parcels(void);
 bool is_revoked(const struct comm *comm);
 bool is_failed(const struct comm *comm, int position);
+int failed_of(const struct comm *comm, ulfm_group *failed);
+bool has_unacknowledged(const struct comm *comm);
 
 /* request.c */
 struct request *new_request(enum kind kind, struct comm *comm, int peer, int tag);
@@ -215,13 +229,20 @@ void clear_requests(void);
 
 /* comm.c, dup.c, group.c */
 struct comm *comm_at(MPI_Comm handle);
+int position_at(const struct comm *comm, uint32_t place);
+bool fill_comm(struct comm *comm, const struct group *group);
+void group_of(const struct comm *comm, struct group *group);
+int agree_on_plane(struct comm *team, int *plane, struct plans *plans);
+int make_on_plane(struct comm *of, int plane, const struct group *group, const struct plans *plans, MPI_Comm *made);
+void free_marks(void);
 MPI_Comm handle_of(const struct comm *comm);
-struct comm *new_comm(struct chain *chain, int plane, MPI_Errhandler handler);
+struct comm *new_comm(struct chain *chain, int plane, MPI_Errhandler handler, const struct group *group);
 struct chain *new_chain(uint32_t context);
 bool make_world(void);
 void free_comm(struct comm *comm);
 void clear_comms(void);
 struct group *group_at(MPI_Group handle);
+int position_in(const struct group *group, int member);
 int compare_groups(const struct group *a, const struct group *b);
 int make_group(const uint8_t *members, int size, MPI_Group *made);
 void clear_groups(void);

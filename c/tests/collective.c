@@ -122,6 +122,46 @@ static void communicators(void) {
     MPI_Comm_free(&dup);
 }
 
+/* Halves of the world, in the other order; the even ranks by a group; and all in the other order. */
+static void parts(void) {
+    MPI_Comm half, even, whole;
+    MPI_Group group, evens;
+    MPI_Status status;
+    int at, members, sum = 0, x = rank, y = -1, positions[8], count = 0;
+    MPI_Comm_split(world, rank % 2, -rank, &half);
+    MPI_Comm_rank(half, &at);
+    MPI_Comm_size(half, &members);
+    CHECK(members == (size + (rank + 1) % 2) / 2 && at == members - 1 - rank / 2);
+    MPI_Allreduce(&x, &sum, 1, MPI_INT, MPI_SUM, half);
+    if (at > 0) MPI_Send(&x, 1, MPI_INT, at - 1, 8, half);
+    if (at < members - 1) MPI_Recv(&y, 1, MPI_INT, MPI_ANY_SOURCE, MPI_ANY_TAG, half, &status);
+    CHECK(at == members - 1 || (y == rank - 2 && status.MPI_SOURCE == at + 1));
+    if (rank == 0) printf("half: %d members, sum %d\n", members, sum);
+    MPI_Comm_group(world, &group);
+    for (int k = 0; k < size; k += 2) positions[count++] = k;
+    MPI_Group_incl(group, count, positions, &evens);
+    if (rank % 2 == 0) MPI_Comm_create_group(world, evens, 5, &even);
+    if (rank % 2 == 0) MPI_Bcast(&x, 1, MPI_INT, count - 1, even), MPI_Comm_free(&even);
+    CHECK(x == (rank % 2 ? rank : positions[count - 1]));
+    MPI_Comm_create(world, evens, &even);
+    CHECK((even == MPI_COMM_NULL) == rank % 2);
+    if (even != MPI_COMM_NULL) MPI_Barrier(even), MPI_Comm_free(&even);
+    MPI_Comm_split(world, 0, size - rank, &whole);
+    MPI_Comm_rank(whole, &at);
+    MPI_Bcast(&rank, 0, MPI_INT, 0, whole);
+    CHECK(at == size - 1 - rank);
+    for (int k = 0; k < 50; k++) {
+        MPI_Comm again;
+        MPI_Comm_split(half, k % 3 ? 0 : MPI_UNDEFINED, 0, &again);
+        if (again != MPI_COMM_NULL) MPI_Barrier(again), MPI_Comm_free(&again);
+    }
+    MPI_Comm_free(&whole);
+    MPI_Comm_free(&half);
+    MPI_Group_free(&group);
+    MPI_Group_free(&evens);
+    MPI_Barrier(world);
+}
+
 int main(int argc, char **argv) {
     int all = 0;
     MPI_Init(&argc, &argv);
@@ -132,6 +172,7 @@ int main(int argc, char **argv) {
     moves();
     groups();
     communicators();
+    parts();
     MPI_Reduce(&faults, &all, 1, MPI_INT, MPI_SUM, 0, world);
     if (rank == 0) printf("faults: %d\n", all);
     MPI_Comm_free(&world);

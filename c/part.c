@@ -1,0 +1,80 @@
+/* Communicators of parts of a group (MPI 4.0, 7.4.2): MPI_Comm_split, MPI_Comm_create, MPI_Comm_create_group. Their messages go through a context of the
+   whole group, where parts that have no member in common may share one. A part is revoked by a mark that its members share. Shrink and agree are the
+   engine's, of whole groups, so they refuse a part. */
+#include "run.h"
+#include <stdlib.h>
+#include <string.h>
+
+enum { CREATION = PLANES, NUMBERS = 4096 };
+
+/* Those of a color, by their keys and positions. */
+static void group_of_color(const struct comm *comm, const struct plans *plans, int color, struct group *group) {
+    bool is_in[MAX_RANKS] = {false};
+    group->size = 0;
+    for (;;) {
+        int next = -1;
+        for (int k = 0; k < comm->size; k++)
+            if (plans->colors[k] == color && !is_in[k] && (next < 0 || plans->keys[k] < plans->keys[next])) next = k;
+        if (next < 0) return;
+        is_in[next] = true;
+        group->members[group->size++] = comm->members[next];
+    }
+}
+
+int MPI_Comm_split(MPI_Comm comm, int color, int key, MPI_Comm *made) {
+    struct comm *of = comm_at(comm);
+    struct plans plans = {.colors = {color}, .keys = {key}};
+    struct group group;
+    int plane = 0;
+    ENTER(of, MPI_UNDEFINED, MPI_UNDEFINED);
+    if (!of) return fail(0, MPI_ERR_COMM);
+    if (of->is_self) return fail(of, NOT_ON_SELF);
+    if (color < 0 && color != MPI_UNDEFINED) return fail(of, MPI_ERR_ARG);
+    *made = MPI_COMM_NULL;
+    int code = begin_collective(of);
+    if (code == MPI_SUCCESS) code = agree_on_plane(of, &plane, &plans);
+    if (code != MPI_SUCCESS || color == MPI_UNDEFINED) return fail(of, code);
+    group_of_color(of, &plans, color, &group);
+    return fail(of, make_on_plane(of, plane, &group, &plans, made));
+}
+
+static bool is_member(const struct group *group) { return position_in(group, me->number) != MPI_UNDEFINED; }
+
+int MPI_Comm_create(MPI_Comm comm, MPI_Group group, MPI_Comm *made) {
+    struct comm *of = comm_at(comm);
+    const struct group *members = group_at(group);
+    struct plans plans = {0};
+    int plane = 0;
+    ENTER(of, MPI_UNDEFINED, MPI_UNDEFINED);
+    if (!of) return fail(0, MPI_ERR_COMM);
+    if (of->is_self) return fail(of, NOT_ON_SELF);
+    if (!members) return fail(of, MPI_ERR_GROUP);
+    *made = MPI_COMM_NULL;
+    int code = begin_collective(of);
+    if (code == MPI_SUCCESS) code = agree_on_plane(of, &plane, &plans);
+    if (code != MPI_SUCCESS || !is_member(members)) return fail(of, code);
+    return fail(of, make_on_plane(of, plane, members, &plans, made));
+}
+
+/* Only the members call it. They speak by themselves, with a number of the plane of creations that the tag gives. */
+int MPI_Comm_create_group(MPI_Comm comm, MPI_Group group, int tag, MPI_Comm *made) {
+    struct comm *of = comm_at(comm);
+    const struct group *members = group_at(group);
+    struct plans plans = {0};
+    int plane = 0;
+    ENTER(of, MPI_UNDEFINED, tag);
+    if (!of) return fail(0, MPI_ERR_COMM);
+    if (of->is_self) return fail(of, NOT_ON_SELF);
+    if (!members) return fail(of, MPI_ERR_GROUP);
+    *made = MPI_COMM_NULL;
+    if (!is_member(members)) return MPI_SUCCESS;
+    if (of->hidden == NO_CONTEXT_LEFT) return fail(of, NO_COLLECTIVES);
+    if (is_revoked(of)) return fail(of, MPIX_ERR_REVOKED);
+    struct comm team = *of;
+    if (!fill_comm(&team, members)) return fail(of, MPI_ERR_GROUP);
+    team.is_part = of->is_part;
+    team.plane = CREATION;
+    team.begun = (unsigned)tag % NUMBERS;
+    int code = agree_on_plane(&team, &plane, &plans);
+    return fail(of, code != MPI_SUCCESS ? code : make_on_plane(of, plane, members, &plans, made));
+}
