@@ -38,6 +38,7 @@ bool progress(void) {
         moved();
     }
     if (has_moved && !me->has_stopped && atomic_load(&me->waited_for) > 0) look_at_all();
+    if (has_moved && !me->has_stopped && me->barriers > 0) look_at_barriers();
     return has_moved;
 }
 

@@ -54,7 +54,7 @@ void free_request(struct request *request) {
 }
 
 /* The request is over. One that the program freed before goes. */
-static void end_request(struct request *request, int code) {
+void end_request(struct request *request, int code) {
     if (request->kind == RECEIVE && !request->over) unlink_open(request);
     request->over = true;
     request->code = code;
@@ -135,6 +135,10 @@ static void end_revoked(struct request *request) {
 int look_at(struct request *request) {
     if (request->over) return MPI_SUCCESS;
     if (request->kind == SYNCHRONOUS) return look_at_send(request);
+    if (request->kind == BARRIER) {
+        look_at_barrier(request);
+        return MPI_SUCCESS;
+    }
     uint8_t letter[BODY];
     ulfm_status told;
     uint32_t code = ulfm_test(me->slot, request->id, &told, letter, sizeof letter);

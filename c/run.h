@@ -82,7 +82,7 @@ struct parcel {
     unsigned char bytes[];
 };
 
-enum kind { SENT, SYNCHRONOUS, RECEIVE, NOTHING };
+enum kind { SENT, SYNCHRONOUS, RECEIVE, BARRIER, NOTHING };
 
 struct request {
     enum kind kind;
@@ -97,6 +97,9 @@ struct request {
     int code;
     MPI_Status status;
     struct request *next;   /* open receives */
+    struct request *parts[MAX_RANKS];   /* of a barrier: its receives */
+    int64_t verdict;
+    bool is_ending;
     int handle;
 };
 
@@ -128,6 +131,7 @@ struct rank {
     bool has_begun, has_finalized, has_stopped;
     bool is_planned;          /* it stopped by plan */
     struct place place;
+    int barriers;             /* that are open */
     int calls, insides;       /* calls that count; places inside the last one */
     int status;               /* of main */
     uint64_t random;
@@ -218,6 +222,7 @@ bool has_unacknowledged(const struct comm *comm);
 struct request *new_request(enum kind kind, struct comm *comm, int peer, int tag);
 struct request *request_at(MPI_Request handle);
 void free_request(struct request *request);
+void end_request(struct request *request, int code);
 void start_receive(struct request *request, void *buffer, size_t room);
 void start_send(struct request *request, const void *buffer, size_t length, bool is_synchronous);
 int look_at(struct request *request);
@@ -259,6 +264,10 @@ void clear_ops(void);
 /* error.c */
 int fail(struct comm *comm, int code);
 void clear_handlers(void);
+
+/* ibarrier.c */
+void look_at_barrier(struct request *barrier);
+void look_at_barriers(void);
 
 /* probe.c */
 bool has_messages(void);

@@ -162,6 +162,20 @@ static void parts(void) {
     MPI_Barrier(world);
 }
 
+/* A barrier that doesn't block, while others go on: rank 0 waits for a message that comes behind it. */
+static void later(void) {
+    MPI_Request request, other;
+    int x = 7, flag = 0;
+    MPI_Ibarrier(world, &request);
+    MPI_Ibarrier(world, &other);
+    if (rank == 0) MPI_Recv(&x, 1, MPI_INT, 1, 4, world, MPI_STATUS_IGNORE);
+    while (!flag) MPI_Test(&request, &flag, MPI_STATUS_IGNORE);
+    MPI_Wait(&other, MPI_STATUS_IGNORE);
+    CHECK(request == MPI_REQUEST_NULL && other == MPI_REQUEST_NULL);
+    if (rank == 1) MPI_Send(&x, 1, MPI_INT, 0, 4, world);
+    MPI_Barrier(world);
+}
+
 int main(int argc, char **argv) {
     int all = 0;
     MPI_Init(&argc, &argv);
@@ -173,6 +187,7 @@ int main(int argc, char **argv) {
     groups();
     communicators();
     parts();
+    later();
     MPI_Reduce(&faults, &all, 1, MPI_INT, MPI_SUM, 0, world);
     if (rank == 0) printf("faults: %d\n", all);
     MPI_Comm_free(&world);
