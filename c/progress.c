@@ -9,7 +9,7 @@
 #include <sys/syscall.h>
 #include <unistd.h>
 
-enum { LOOKS = 200, YIELDS = 30, TURNS = 64 };
+enum { LOOKS = 100, YIELDS = 4, TURNS = 64 };
 
 _Atomic uint64_t moves;
 static _Atomic int sleepers;
@@ -69,14 +69,16 @@ static int looks_before_yield(void) {
     return options.ranks <= processors ? LOOKS : 1;
 }
 
-/* Makes progress until `is_done` says so, which looks once each time. */
+/* Makes progress until `is_done` says so, which looks once each time. What it looks at changes only with the count of moves. */
 void wait_until(bool (*is_done)(void *), void *of) {
     int looks = 0, most = looks_before_yield();
+    uint64_t asked_at = UINT64_MAX;
     for (;;) {
-        uint64_t seen = atomic_load(&moves);
-        if (progress()) looks = 0;
-        if (is_done(of)) return;
-        looks++;
+        uint64_t seen = atomic_load(&moves);   /* before the look: what comes after it is a further move */
+        bool has_moved = progress();
+        if ((has_moved || seen != asked_at) && is_done(of)) return;
+        asked_at = seen;
+        looks = has_moved ? 1 : looks + 1;
         if (looks <= most) atomic_signal_fence(memory_order_seq_cst);
         else if (looks <= most + YIELDS) sched_yield();
         else sleep_until_moved(seen);
