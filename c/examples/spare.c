@@ -59,6 +59,11 @@ static void commit(void) {
     copy = next_copy;
 }
 
+static void end_of_spares(int part) {
+    fprintf(stderr, "no spare is left for part %d, or no copy of it\n", part);
+    MPI_Abort(comm, 3);
+}
+
 /* All learn who has which part. The number of the part that nobody has, or NONE. */
 static int learn_holders(int *missing) {
     int numbers[MOST], code = MPI_Allgather(&committed.number, 1, MPI_INT, numbers, 1, MPI_INT, comm);
@@ -67,8 +72,10 @@ static int learn_holders(int *missing) {
     for (int k = 0; k < size; k++)
         if (numbers[k] != NONE) holder[numbers[k]] = k;
     *missing = NONE;
-    for (int k = 0; k < parts; k++)
+    for (int k = 0; k < parts; k++) {
+        if (holder[k] == NONE && *missing != NONE) end_of_spares(k);
         if (holder[k] == NONE) *missing = k;
+    }
     return MPI_SUCCESS;
 }
 
@@ -80,10 +87,7 @@ static int take_over(void) {
     if ((code = MPI_Allgather(&own, 1, MPI_INT, has_none, 1, MPI_INT, comm))) return code;
     for (int k = size - 1; k >= 0; k--)
         if (has_none[k]) spare = k;
-    if (spare == NONE || holder[after(missing)] == NONE) {
-        fprintf(stderr, "no spare is left, or no copy of part %d\n", missing);
-        MPI_Abort(comm, 3);
-    }
+    if (spare == NONE) end_of_spares(missing);
     holder[missing] = spare;
     if (rank == holder[after(missing)]) code = MPI_Send(&copy, sizeof copy, MPI_BYTE, spare, 3, comm);
     if (rank == spare) code = MPI_Recv(&now, sizeof now, MPI_BYTE, holder[after(missing)], 3, comm, MPI_STATUS_IGNORE);
