@@ -1,4 +1,4 @@
-/* --every-stop: runs the program without a stop, to count the calls, and then once for each call of each rank and each place inside, with sends that
+/* --every-stop: runs the program without a further stop, to count the calls, and then once for each call of each rank and each place inside, with sends that
    are buffered and with sends that wait; and prints what came out. */
 #define _GNU_SOURCE
 #include "every.h"
@@ -42,10 +42,10 @@ static bool run_base(struct kind_of_sends *kind, const char *launcher) {
     read_result(job, &kind->base);
     kind->spots = read_spots(job, &kind->count);
     bool is_well = kind->base.end == RIGHT && kind->count > 0;
-    for (int k = 0; k < options.ranks; k++) is_well = is_well && kind->base.fate[k] == ENDED;
+    for (int k = 0; k < options.ranks; k++) is_well = is_well && (kind->base.fate[k] == ENDED || kind->base.fate[k] == STOPPED);
     if (!is_well) {
         char *errors = read_all(job->files[1]);
-        printf("without a stop, %s: the run doesn't end well, so no places are tried:\n", kind->sends_wait ? "sends that wait" : "buffered sends");
+        printf("without a further stop, %s: the run doesn't end well, so no places are tried:\n", kind->sends_wait ? "sends that wait" : "buffered sends");
         fputs(errors ? errors : "", stdout);
         tell_command(stdout, 0, kind->sends_wait);
         free(errors);

@@ -41,6 +41,7 @@ char *read_all(int file);
 struct spot *read_spots(const struct job *job, int *count);
 
 /* table.c */
+void text_of_stop(const struct stop *stop, char *text, size_t room);
 void tell_command(FILE *to, const struct spot *spot, bool sends_wait);
 enum outcome judge(const struct result *base, const struct result *result, const struct spot *spot, char *why, size_t room);
 void tell_outcome(const struct spot *spot, bool sends_wait, enum outcome outcome, const char *why);

@@ -7,7 +7,7 @@
 #include <sys/mman.h>
 #include <unistd.h>
 
-enum { MOST_WORDS = 24, SECONDS = 60 };
+enum { MOST_WORDS = 24 + 2 * MAX_STOPS, TEXTS = 6 + MAX_STOPS, SECONDS = 60 };
 
 /* Fills in the words of a run, before those of the program: how many there are. */
 static int words_of(char *words[], const char *launcher, char texts[][64], const struct job *job, const struct spot *spot) {
@@ -30,6 +30,11 @@ static int words_of(char *words[], const char *launcher, char texts[][64], const
         words[count++] = texts[4];
         snprintf(texts[4], 64, spot->inside ? "%d@%d.%d" : "%d@%d", spot->rank, spot->call, spot->inside);
     }
+    for (int k = 0; k < options.stops; k++) {
+        words[count++] = "--stop";
+        words[count++] = texts[6 + k];
+        text_of_stop(&options.stop[k], texts[6 + k], 64);
+    }
     if (options.seed) {
         words[count++] = "--seed";
         words[count++] = texts[5];
@@ -43,7 +48,7 @@ static int words_of(char *words[], const char *launcher, char texts[][64], const
 
 /* In the process of a run: becomes the launcher. */
 static void become(const struct job *job, const char *launcher, const struct spot *spot) {
-    char texts[6][64];
+    char texts[TEXTS][64];
     char **words = calloc((size_t)(MOST_WORDS + options.count + 1), sizeof *words);
     int none = open("/dev/null", O_RDONLY);
     if (!words || none < 0) _exit(STATUS_USAGE);

@@ -6,10 +6,21 @@ static const char *const words_of_outcome[OUTCOMES] = {
     "right", "not reached", "another status", "another output", "a rank failed that wasn't stopped", "nobody can move", "the time was over",
     "an error was fatal", "the run was aborted", "a crash"};
 
+/* A stop of the plan, as the command line has it. */
+void text_of_stop(const struct stop *stop, char *text, size_t room) {
+    int used = stop->call ? snprintf(text, room, "%d@%d", stop->rank, stop->call) : snprintf(text, room, "%d@%s:%d", stop->rank, stop->name, stop->nth);
+    if (stop->inside) snprintf(text + used, room - (size_t)used, ".%d", stop->inside);
+}
+
 /* Writes the command that repeats a run. */
 void tell_command(FILE *to, const struct spot *spot, bool sends_wait) {
     fprintf(to, "           ulfm-mpirun -n %d", options.ranks);
     if (spot) fprintf(to, spot->inside ? " --stop %d@%d.%d" : " --stop %d@%d", spot->rank, spot->call, spot->inside);
+    for (int k = 0; k < options.stops; k++) {
+        char text[80];
+        text_of_stop(&options.stop[k], text, sizeof text);
+        fprintf(to, " --stop %s", text);
+    }
     if (sends_wait) fprintf(to, " --sends wait");
     if (options.seed) fprintf(to, " --seed %llu", (unsigned long long)options.seed);
     fprintf(to, " %s", options.program);
@@ -39,7 +50,7 @@ enum outcome judge(const struct result *base, const struct result *result, const
     }
     if (result->fate[spot->rank] != STOPPED) return NOT_REACHED;
     for (int k = 0; k < options.ranks; k++) {
-        if (k == spot->rank) continue;
+        if (k == spot->rank || (base->fate[k] == STOPPED && result->fate[k] == STOPPED)) continue;
         if (result->fate[k] != ENDED) {
             snprintf(why, room, ": rank %d", k);
             return FAILED;

@@ -19,7 +19,7 @@ static const char usage[] =
     "  --sends wait       MPI_Send and MPI_Isend end as MPI_Ssend and MPI_Issend do\n"
     "  --timeout S        ends the run after S seconds\n"
     "  --tag              each line of output begins with its rank\n"
-    "  --every-stop       runs the program once for each call of each rank, and stops that rank there\n"
+    "  --every-stop       runs the program once for each call of each rank, and stops that rank there; with --stop these stops too\n"
     "  --same-output      with --every-stop: what the run writes has to be the same lines too, in any order, each at least once\n"
     "  --jobs N           with --every-stop: N runs at the same time; if left out, as many as there are processors\n"
     "  --all              with --every-stop: a line for each place, not only for those where something is wrong\n"
