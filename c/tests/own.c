@@ -1,0 +1,21 @@
+/* What each rank has of its own: random numbers, options, strtok. All ranks write the same lines, at the same time. */
+#include "check.h"
+#include <getopt.h>
+
+static const struct option longs[] = {{"size", required_argument, 0, 's'}, {"verbose", no_argument, 0, 'v'}, {0, 0, 0, 0}};
+
+int main(int argc, char **argv) {
+    char line[400] = "", words[] = "one two three";
+    int letter, last = 0, used = 0;
+    MPI_Init(&argc, &argv);
+    while ((letter = getopt_long(argc, argv, "s:vab", longs, 0)) != -1)
+        used += snprintf(line + used, sizeof line - (size_t)used, "%c(%s) ", letter, optarg ? optarg : "");
+    for (int k = optind; k < argc; k++) used += snprintf(line + used, sizeof line - (size_t)used, "[%s] ", argv[k]);
+    for (char *word = strtok(words, " "); word; word = strtok(0, " ")) used += snprintf(line + used, sizeof line - (size_t)used, "%zu ", strlen(word));
+    srand(42);
+    srand48(7);
+    for (int k = 0; k < 1000; k++) last = rand();
+    printf("%s%d %.6f\n", line, last, drand48());
+    MPI_Finalize();
+    return 0;
+}
