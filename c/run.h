@@ -21,12 +21,11 @@ enum {
     NO_COLLECTIVES = MPI_ERR_OTHER | 2 << 8,
     TOO_MANY_ROUNDS = MPI_ERR_OTHER | 3 << 8,
     NOT_ON_SELF = MPI_ERR_COMM | 4 << 8,
-    NOT_ON_PARTS = MPI_ERR_COMM | 7 << 8,
-    TAKEN_FOR_FAILED = MPI_ERR_OTHER | 5 << 8,
-    NOT_INITIALIZED = MPI_ERR_OTHER | 6 << 8
+    NOT_ON_PARTS = MPI_ERR_COMM | 5 << 8,
+    TAKEN_FOR_FAILED = MPI_ERR_OTHER | 6 << 8
 };
 
-/* The communicators of one group that were made by duplication: contexts `base`, its duplicate (for collectives), and that one's, and so on. */
+/* The contexts of one group that were made by duplication: the first one, its duplicate (for collectives), that one's, and so on. */
 struct chain {
     uint32_t hidden; /* the first duplicate, NO_CONTEXT_LEFT where there is none */
     uint32_t last;   /* the last duplicate that was made here */
@@ -39,6 +38,7 @@ struct chain {
     } plane[PLANES];
 };
 
+/* A communicator of the program. */
 struct comm {
     uint32_t context;      /* of its messages */
     uint32_t hidden;       /* of its collectives, NO_CONTEXT_LEFT where there is none */
@@ -52,10 +52,11 @@ struct comm {
     bool is_self;
     bool is_part;                /* not all of the context's group are members */
     _Atomic int *revoked;        /* of a part: what its members share, for the engine would revoke the whole context */
-    uint32_t acknowledged; /* failures */
+    uint32_t acknowledged;       /* how many failures are */
     char name[MPI_MAX_OBJECT_NAME];
 };
 
+/* A value of MPI_Group: world ranks by positions. */
 struct group {
     int size;
     uint8_t members[MAX_RANKS];
@@ -82,8 +83,10 @@ struct parcel {
     unsigned char bytes[];
 };
 
+/* What a request is: a buffered send, a send that waits for its match, a receive, a barrier, or nothing that could go on. */
 enum kind { SENT, SYNCHRONOUS, RECEIVE, BARRIER, NOTHING };
 
+/* What was begun, until its end is told. */
 struct request {
     enum kind kind;
     struct comm *comm;
@@ -96,10 +99,10 @@ struct request {
     bool over, freed;       /* its status is known; the program freed it */
     int code;
     MPI_Status status;
-    struct request *next;   /* open receives */
+    struct request *next;   /* of the open receives */
     struct request *parts[MAX_RANKS];   /* of a barrier: its receives */
-    int64_t verdict;
-    bool is_ending;
+    int64_t verdict;                    /* of a barrier: what position 0 told */
+    bool is_ending;                     /* a barrier that is being ended */
     int handle;
 };
 
@@ -112,6 +115,7 @@ struct place {
     uint32_t waits_for;      /* bits of world ranks, or 0 */
 };
 
+/* A rank: its thread, what it has of MPI, and what the launcher knows of it. */
 struct rank {
     int number;
     ulfm_slot *slot;
@@ -146,12 +150,14 @@ struct rank {
     _Atomic int waited_for;   /* synchronous sends to it without a match */
 };
 
+/* A stop of the plan. */
 struct stop {
     int rank, call, inside;   /* call 0: by name */
     char name[48];
     int nth;
 };
 
+/* The command line. */
 struct options {
     int ranks, stops;
     struct stop stop[MAX_STOPS];
@@ -203,7 +209,6 @@ void tell_stuck(void);
 /* plan.c */
 void plan_call(void);
 void plan_inside(void);
-void forget_plan_of(struct rank *rank);
 
 /* letter.c */
 int class_of(uint32_t code);
