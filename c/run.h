@@ -3,6 +3,7 @@
 #define ULFM_MPI_RUN_H
 
 #include "mpi.h"
+#include "options.h"
 #include "ulfm.h"
 #include <pthread.h>
 #include <setjmp.h>
@@ -10,10 +11,7 @@
 #include <stdbool.h>
 #include <stdio.h>
 
-enum { MAX_RANKS = 8, CONTEXTS = 63, BODY = 1024, PLANES = 7, MAX_STOPS = 16, NO_CONTEXT_LEFT = 255 };
-
-/* Statuses of ulfm-mpirun besides those of programs. */
-enum { STATUS_USAGE = 2, STATUS_FATAL = 96, STATUS_STUCK = 98, STATUS_LATE = 99 };
+enum { MAX_RANKS = 8, CONTEXTS = 63, BODY = 1024, PLANES = 7, NO_CONTEXT_LEFT = 255 };
 
 /* Error codes: the class, and a detail times 256, which MPI_Error_string tells. */
 enum {
@@ -150,27 +148,6 @@ struct rank {
     _Atomic int waited_for;   /* synchronous sends to it without a match */
 };
 
-/* A stop of the plan. */
-struct stop {
-    int rank, call, inside;   /* call 0: by name */
-    char name[48];
-    int nth;
-};
-
-/* The command line. */
-struct options {
-    int ranks, stops;
-    struct stop stop[MAX_STOPS];
-    uint64_t seed;
-    double timeout;
-    bool sends_wait, tag, every_stop, same_output, all;
-    int jobs, report, capacity, rounds;
-    const char *program;
-    char **words;
-    int count;
-};
-
-extern struct options options;
 extern struct rank ranks[MAX_RANKS];
 extern ulfm_slot slots[MAX_RANKS];
 extern __thread struct rank *me;

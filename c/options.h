@@ -1,0 +1,35 @@
+/* What ulfm-mpirun is asked for. */
+#ifndef ULFM_MPI_OPTIONS_H
+#define ULFM_MPI_OPTIONS_H
+
+#include <stdbool.h>
+#include <stdint.h>
+
+enum { MAX_STOPS = 16 };
+
+/* Statuses of ulfm-mpirun besides those of programs. */
+enum { STATUS_USAGE = 2, STATUS_FATAL = 96, STATUS_STUCK = 98, STATUS_LATE = 99 };
+
+/* A stop of the plan. */
+struct stop {
+    int rank, call, inside;   /* call 0: by name */
+    char name[48];
+    int nth;
+};
+
+/* The command line. */
+struct options {
+    int ranks, stops;
+    struct stop stop[MAX_STOPS];
+    uint64_t seed;
+    double timeout;
+    bool sends_wait, tag, every_stop, same_output, all;
+    int jobs, report, capacity, rounds;
+    const char *program;
+    char **words;
+    int count;
+};
+
+extern struct options options;
+
+#endif
