@@ -15,7 +15,7 @@ ulfm_slot slots[MAX_RANKS];
 __thread struct rank *me;
 static pthread_mutex_t end_lock = PTHREAD_MUTEX_INITIALIZER;
 static pthread_cond_t end_came = PTHREAD_COND_INITIALIZER;
-static int ended;
+static int ended_count;
 
 /* Room for one more in an array of `count`; it doubles. False where there is no memory. */
 bool grow(void *array, int count, size_t size) {
@@ -54,13 +54,22 @@ static void crashed(int number) {
     end_run(128 + number);
 }
 
-static void watch_crashes(void) {
-    static const int numbers[] = {SIGSEGV, SIGBUS, SIGFPE, SIGILL};
-    for (size_t k = 0; k < sizeof numbers / sizeof *numbers; k++) {
-        struct sigaction old, action = {.sa_handler = crashed, .sa_flags = SA_ONSTACK | SA_NODEFER};
-        if (sigaction(numbers[k], 0, &old) == 0 && !(old.sa_flags & SA_SIGINFO) && old.sa_handler == SIG_DFL) sigaction(numbers[k], &action, 0);
-    }
+/* The run is ended from outside. */
+static void ended(int number) { end_run(128 + number); }
+
+static void handle(int number, void (*handler)(int)) {
+    struct sigaction old, action = {.sa_handler = handler, .sa_flags = SA_ONSTACK | SA_NODEFER};
+    if (sigaction(number, 0, &old) == 0 && !(old.sa_flags & SA_SIGINFO) && old.sa_handler == SIG_DFL) sigaction(number, &action, 0);
 }
+
+static void handle_signals(void) {
+    static const int crashes[] = {SIGSEGV, SIGBUS, SIGFPE, SIGILL}, ends[] = {SIGINT, SIGTERM, SIGHUP};
+    for (size_t k = 0; k < sizeof crashes / sizeof *crashes; k++) handle(crashes[k], crashed);
+    for (size_t k = 0; k < sizeof ends / sizeof *ends; k++) handle(ends[k], ended);
+}
+
+/* Whether a signal's handler is the launcher's, and not the program's. */
+bool is_own_handler(void (*handler)(int)) { return handler == crashed || handler == ended; }
 
 static void clear_rank(void) {
     clear_requests();
@@ -89,7 +98,7 @@ static void *run_rank(void *of) {
     me = 0;
     moved();
     pthread_mutex_lock(&end_lock);
-    ended++;
+    ended_count++;
     pthread_cond_signal(&end_came);
     pthread_mutex_unlock(&end_lock);
     return 0;
@@ -114,7 +123,7 @@ static void wait_for_ends(void) {
     until.tv_sec = (time_t)at;
     until.tv_nsec = (long)((at - (double)until.tv_sec) * 1e9);
     pthread_mutex_lock(&end_lock);
-    while (ended < options.ranks)
+    while (ended_count < options.ranks)
         if (pthread_cond_timedwait(&end_came, &end_lock, &until) == ETIMEDOUT) {
             fprintf(stderr, "ulfm-mpirun: the time is over after %g seconds:\n", options.timeout);
             tell_places();
@@ -156,7 +165,7 @@ int ulfm_mpirun(int count, char **words) {
         fprintf(stderr, "ulfm-mpirun: no world of %d ranks: code %u\n", options.ranks, code);
         return STATUS_USAGE;
     }
-    watch_crashes();
+    handle_signals();
     for (int k = 0; k < options.ranks; k++)
         if (!start_rank(&ranks[k], k)) {
             fprintf(stderr, "ulfm-mpirun: no thread for rank %d\n", k);

@@ -67,14 +67,21 @@ static bool copy_words(struct rank *rank) {
     return true;
 }
 
+/* Says why the program can't be loaded, once, and ends the run. */
+static void refuse_program(void) {
+    static pthread_mutex_t lock = PTHREAD_MUTEX_INITIALIZER;
+    char why[512];
+    snprintf(why, sizeof why, "%s", dlerror());   /* the next call of the loader takes it away */
+    pthread_mutex_lock(&lock);
+    fprintf(stderr, "ulfm-mpirun: %s can't be loaded: %s\n", options.program, why);
+    end_run(STATUS_USAGE);
+}
+
 /* Loads the copy of the rank that runs, and calls its main. Its status, or STATUS_USAGE where it can't be loaded. */
 int run_program(struct rank *rank) {
     extern char **environ;
     rank->program = dlopen(rank->path, RTLD_NOW | RTLD_LOCAL);
-    if (!rank->program) {
-        fprintf(stderr, "ulfm-mpirun: %s: %s\n", options.program, dlerror());
-        end_run(STATUS_USAGE);
-    }
+    if (!rank->program) refuse_program();
     typedef int starting(int, char **, char **);
     starting **start = (starting **)dlsym(rank->program, "ulfm_program_entry");
     if (!start) {

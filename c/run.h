@@ -161,6 +161,7 @@ void free_words(struct rank *rank);
 int every_stop(const char *launcher);
 int ulfm_mpirun(int count, char **words);
 void end_run(int status) __attribute__((noreturn));
+bool is_own_handler(void (*handler)(int));
 void report(const char *format, ...) __attribute__((format(printf, 1, 2)));
 
 /* output.c */

@@ -62,7 +62,8 @@ static bool ends_by(int number) {
     if (number == SIGKILL) return true;
     if (number == 0 || number == SIGCHLD || number == SIGCONT || number == SIGURG || number == SIGWINCH) return false;
     if (sigaction(number, 0, &action)) return false;
-    return !(action.sa_flags & SA_SIGINFO) ? action.sa_handler == SIG_DFL : number == SIGSEGV || number == SIGBUS || number == SIGFPE || number == SIGILL;
+    if (action.sa_flags & SA_SIGINFO) return number == SIGSEGV || number == SIGBUS || number == SIGFPE || number == SIGILL;   /* a sanitizer's */
+    return action.sa_handler == SIG_DFL || is_own_handler(action.sa_handler);
 }
 
 int raise(int number) {

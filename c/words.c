@@ -89,12 +89,16 @@ int read_words(int count, char **words) {
             return -1;
         }
         if (read_flag(words[k])) continue;
-        if (!read_value(words[k], k + 1 < count ? words[k + 1] : 0)) return refuse("this isn't understood:", words[k]);
+        if (!read_value(words[k], k + 1 < count ? words[k + 1] : 0)) {
+            fprintf(stderr, "ulfm-mpirun: '%s%s%s' isn't understood; --help tells how it is used\n", words[k], k + 1 < count ? " " : "",
+                    k + 1 < count ? words[k + 1] : "");
+            return STATUS_USAGE;
+        }
         k++;
     }
     if (k == count) return refuse("a program is missing after", words[count - 1]);
     for (int stop = 0; stop < options.stops; stop++)
-        if (options.stop[stop].rank >= options.ranks) return refuse("there is no rank for one of the stops with -n", "");
+        if (options.stop[stop].rank >= options.ranks) return refuse("there are too few ranks for the stops, by", "-n");
     options.program = words[k];
     options.words = words + k + 1;
     options.count = count - k - 1;
