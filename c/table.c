@@ -79,7 +79,9 @@ void tell_counts(int counts[2][OUTCOMES]) {
     for (int k = 0; k < 2; k++) {
         int total = 0;
         for (int outcome = 0; outcome < OUTCOMES; outcome++) total += counts[k][outcome];
-        printf("%s: %d of %d places right", k ? "sends that wait" : "buffered sends", counts[k][RIGHT], total);
+        const char *kind = k ? "sends that wait" : "buffered sends";
+        if (total) printf("%s: %d of %d places right", kind, counts[k][RIGHT], total);
+        else printf("%s: not tried", kind);
         for (int outcome = 1; outcome < OUTCOMES; outcome++)
             if (counts[k][outcome]) printf(", %d: %s", counts[k][outcome], words_of_outcome[outcome]);
         putchar('\n');
