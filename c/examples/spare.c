@@ -2,7 +2,7 @@
    copy of its neighbour, and nothing else moves.
 
    Each rank has a part, or none. After a failure all shrink; the ranks that are left tell one another their parts, and the spare takes the one that
-   is missing. With no spare left, a further failure ends the run.
+   is missing. With no spare left, a further failure ends the run. For 3 or more ranks.
 
      ulfm-mpicc -g spare.c -o spare
      ulfm-mpirun -n 4 --every-stop --same-output ./spare */
@@ -144,6 +144,7 @@ int main(int argc, char **argv) {
     MPI_Init(&argc, &argv);
     use(MPI_COMM_WORLD);
     parts = size - 1;
+    if (parts < 2 || parts > MOST) MPI_Abort(comm, 2);   /* a part alone has no neighbour that keeps its copy */
     for (int k = 0; k < parts; k++) holder[k] = k;
     if (rank < parts) now = (struct part){rank, 0, rank + 1}, next_copy = (struct part){before(rank), 0, before(rank) + 1};
     commit();                                       /* the start is known without a copy */
