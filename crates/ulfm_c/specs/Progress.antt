@@ -1,0 +1,15 @@
+-- What a turn by C does.
+use Rattle.std.specs.Prelude.{◌≡◌, ℕ, ◌<◌, ◌↔◌, ◌⊎◌, [], true, false}
+use Rattle.ulfm_process.specs.Turning.{IsTurn}
+use Rattle.ulfm_process.specs.View.{ProcessView}
+use Rattle.ulfm_rank.specs.State.{outbox}
+
+-- with 0 the process had a turn, and it is told by 1 or 0 whether anything moved; with 12 nothing changed
+abbrev pub TurnCall : ProcessView → ProcessView → ℕ → ℕ → ℕ → Type 0
+TurnCall old new before moved code =
+    ((code ≡ 0) × (((moved ≡ 1) × IsTurn old new true) ⊎ ((moved ≡ 0) × IsTurn old new false)))
+    ⊎ ((code ≡ 12) × (new ≡ old) × (moved ≡ before))
+
+-- 1 where nothing waits to go out
+abbrev pub IsFlushed : ProcessView → ℕ → Type 0
+IsFlushed p told = (told ≡ 1) ↔ ((d : ℕ) → d < p.rank.ranks → outbox p.rank d ≡ [])

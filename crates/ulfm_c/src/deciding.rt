@@ -1,0 +1,87 @@
+//! The decisions of shrinks and agreements (ULFM, shrink and agree).
+ghost use Rattle.ulfm_c.specs.Calls.{Call};
+ghost use Rattle.ulfm_c.specs.Deciding.{AgreeCall, ShrinkCall};
+
+use crate::handle::Handle;
+use crate::told::{CGroup, list};
+use crate::words::{comm_of, number_of};
+use std::alloc::Global;
+use ulfm_process::Process;
+
+/// The decision of a shrink.
+fn poll_shrink(process: &mut Process, comm: u32, made: &mut u32) -> u32
+    ensures { ShrinkCall process.old process.new comm made.old made.new result }
+{
+    let comm = match comm_of(comm) {
+        Some(comm) => comm,
+        None => return 1,
+    };
+    match process.poll_shrink(comm) {
+        Ok(Some(child)) => {
+            *made = child.context.number as u32;
+            return 0;
+        }
+        Ok(None) => return 17,
+        Err(error) => return number_of(error),
+    }
+}
+
+/// Asks for the decision of a shrink (`Process::poll_shrink`).
+#[unsafe(no_mangle)]
+pub extern "C" fn ulfm_c_poll_shrink(
+    alloc: Global,
+    handle: &mut Handle,
+    comm: u32,
+    made: &mut u32,
+) -> u32
+    ensures { Call handle.old.slot.held handle.new.slot.held result (λ old new. ShrinkCall old new comm made.old made.new result) }
+{
+    match handle.take(alloc) {
+        Some(mut process) => {
+            let code = poll_shrink(&mut process, comm, made);
+            handle.put(process);
+            code
+        }
+        None => 16,
+    }
+}
+
+/// The decision of an agreement.
+fn poll_agree(process: &mut Process, comm: u32, value: &mut u32, missing: &mut CGroup) -> u32
+    ensures { AgreeCall process.old process.new comm value.new missing.new result }
+{
+    let comm = match comm_of(comm) {
+        Some(comm) => comm,
+        None => return 1,
+    };
+    match process.poll_agree(comm) {
+        Ok(Some((bits, group))) => {
+            *value = bits;
+            *missing = list(&group);
+            return 0;
+        }
+        Ok(None) => return 17,
+        Err(error) => return number_of(error),
+    }
+}
+
+/// Asks for the decision of an agreement (`Process::poll_agree`).
+#[unsafe(no_mangle)]
+pub extern "C" fn ulfm_c_poll_agree(
+    alloc: Global,
+    handle: &mut Handle,
+    comm: u32,
+    value: &mut u32,
+    missing: &mut CGroup,
+) -> u32
+    ensures { Call handle.old.slot.held handle.new.slot.held result (λ old new. AgreeCall old new comm value.new missing.new result) }
+{
+    match handle.take(alloc) {
+        Some(mut process) => {
+            let code = poll_agree(&mut process, comm, value, missing);
+            handle.put(process);
+            code
+        }
+        None => 16,
+    }
+}

@@ -1,0 +1,38 @@
+//! What C holds of a process.
+ghost use Rattle.std.specs.Prelude.{◌≡◌, Some, None, MatchOption};
+ghost use Rattle.ulfm_c.specs.Calls.{holding};
+
+use crate::slot::Slot;
+use std::alloc::Global;
+use ulfm_process::Process;
+
+/// A process, or none: all zeros are none. Nobody copies it while it has one.
+#[repr(C)]
+pub struct Handle {
+    pub(crate) slot: Slot,
+    holds: u32,
+    pub ghost told: { holds ≡ holding slot.held },
+}
+
+impl Handle {
+    /// Takes the process out, where there is one.
+    pub(crate) fn take(&mut self, alloc: Global) -> Option<Box<Process>>
+        ensures taken { MatchOption result (self.old.slot.held ≡ None) (λ process. self.old.slot.held ≡ Some process.value) }
+        ensures none { self.new.slot.held ≡ None }
+    {
+        if self.holds == 0 {
+            return None;
+        }
+        let process = self.slot.take(alloc);
+        self.holds = 0;
+        Some(process)
+    }
+
+    /// Puts a process in.
+    pub(crate) fn put(&mut self, process: Box<Process>)
+        ensures { self.new.slot.held ≡ Some process.value }
+    {
+        self.slot.put(process);
+        self.holds = 1;
+    }
+}

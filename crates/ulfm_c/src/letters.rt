@@ -1,0 +1,177 @@
+//! Sends, receives, their tests and cancels (MPI 4.0, 3.7 and 3.8.4).
+ghost use Rattle.std.specs.Prelude.{◌≡◌, ◌≢◌, ⊤};
+ghost use Rattle.ulfm_c.specs.Calls.{Call};
+ghost use Rattle.ulfm_c.specs.Letters.{SendsCall};
+
+use crate::handle::Handle;
+use crate::told::{CStatus, deliver, ended, tell};
+use crate::words::{comm_of, number_of, position_of, room_of, source_of, tag_of};
+use std::alloc::Global;
+use ulfm_base::Tag;
+use ulfm_match::RequestId;
+use ulfm_process::Process;
+use ulfm_rank::{Cancel, TestAnswer};
+
+/// A send to the member at a position.
+fn send(process: &mut Process, comm: u32, dest: u32, tag: u32, body: &[u8]) -> u32
+    ensures { SendsCall process.old process.new comm dest tag body.now result }
+{
+    let comm = match comm_of(comm) {
+        Some(comm) => comm,
+        None => return 1,
+    };
+    let tag = match Tag::new(tag) {
+        Ok(tag) => tag,
+        Err(_) => return 3,
+    };
+    match process.isend(comm, position_of(dest), tag, body) {
+        Ok(()) => return 0,
+        Err(error) => return number_of(error),
+    }
+}
+
+/// Starts a send (`Process::isend`).
+#[unsafe(no_mangle)]
+pub extern "C" fn ulfm_c_isend(
+    alloc: Global,
+    handle: &mut Handle,
+    comm: u32,
+    dest: u32,
+    tag: u32,
+    body: &[u8],
+) -> u32
+    ensures { Call handle.old.slot.held handle.new.slot.held result (λ old new. SendsCall old new comm dest tag body.now result) }
+{
+    match handle.take(alloc) {
+        Some(mut process) => {
+            let code = send(&mut process, comm, dest, tag, body);
+            handle.put(process);
+            code
+        }
+        None => 16,
+    }
+}
+
+/// A receive from a position or any.
+fn receive(
+    process: &mut Process,
+    comm: u32,
+    source: u32,
+    tag: u32,
+    room: u32,
+    request: &mut u64,
+) -> u32
+    ensures { result ≢ 0 → (process.new ≡ process.old) × (request.new ≡ request.old) }
+{
+    let comm = match comm_of(comm) {
+        Some(comm) => comm,
+        None => return 1,
+    };
+    let tag = match tag_of(tag) {
+        Ok(tag) => tag,
+        Err(_) => return 3,
+    };
+    match process.irecv(comm, source_of(source), tag, room_of(room)) {
+        Ok(id) => {
+            *request = id.number;
+            return 0;
+        }
+        Err(error) => return number_of(error),
+    }
+}
+
+/// Posts a receive (`Process::irecv`).
+#[unsafe(no_mangle)]
+pub extern "C" fn ulfm_c_irecv(
+    alloc: Global,
+    handle: &mut Handle,
+    comm: u32,
+    source: u32,
+    tag: u32,
+    room: u32,
+    request: &mut u64,
+) -> u32
+    ensures { Call handle.old.slot.held handle.new.slot.held result (λ old new. result ≢ 0 → (new ≡ old) × (request.new ≡ request.old)) }
+{
+    match handle.take(alloc) {
+        Some(mut process) => {
+            let code = receive(&mut process, comm, source, tag, room, request);
+            handle.put(process);
+            code
+        }
+        None => 16,
+    }
+}
+
+/// A test of a receive.
+fn test(process: &mut Process, request: u64, status: &mut CStatus, body: &mut [u8]) -> u32
+    ensures { result ≢ 0 → process.new ≡ process.old }
+{
+    match process.test(RequestId { number: request }) {
+        Ok(TestAnswer::Done(told, bytes)) => {
+            deliver(told, &bytes, status, body);
+            return 0;
+        }
+        Ok(TestAnswer::Over(error)) => {
+            *status = ended(number_of(error), 0);
+            return 0;
+        }
+        Ok(TestAnswer::NotYet) => return 17,
+        Ok(TestAnswer::Pending) => return 18,
+        Err(error) => return number_of(error),
+    }
+}
+
+/// Tests a receive (`Process::test`).
+#[unsafe(no_mangle)]
+pub extern "C" fn ulfm_c_test(
+    alloc: Global,
+    handle: &mut Handle,
+    request: u64,
+    status: &mut CStatus,
+    body: &mut [u8],
+) -> u32
+    ensures { Call handle.old.slot.held handle.new.slot.held result (λ old new. result ≢ 0 → new ≡ old) }
+{
+    match handle.take(alloc) {
+        Some(mut process) => {
+            let code = test(&mut process, request, status, body);
+            handle.put(process);
+            code
+        }
+        None => 16,
+    }
+}
+
+/// A cancel of a receive.
+fn cancel(process: &mut Process, request: u64, status: &mut CStatus, body: &mut [u8]) -> u32 {
+    match process.cancel(RequestId { number: request }) {
+        Ok(Cancel::Late(answer)) => return tell(answer, status, body),
+        Ok(Cancel::Cancelled) => {
+            *status = ended(0, 1);
+            return 0;
+        }
+        Err(error) => return number_of(error),
+    }
+}
+
+/// Cancels a receive (`Process::cancel`).
+#[unsafe(no_mangle)]
+pub extern "C" fn ulfm_c_cancel(
+    alloc: Global,
+    handle: &mut Handle,
+    request: u64,
+    status: &mut CStatus,
+    body: &mut [u8],
+) -> u32
+    ensures { Call handle.old.slot.held handle.new.slot.held result (λ old new. ⊤) }
+{
+    match handle.take(alloc) {
+        Some(mut process) => {
+            let code = cancel(&mut process, request, status, body);
+            handle.put(process);
+            code
+        }
+        None => 16,
+    }
+}

@@ -1,0 +1,139 @@
+//! Probes and their messages (MPI 4.0, 3.8.1 to 3.8.3).
+ghost use Rattle.std.specs.Prelude.{◌≡◌, ◌≢◌, ⊤};
+ghost use Rattle.ulfm_c.specs.Calls.{Call};
+
+use crate::handle::Handle;
+use crate::told::{CStatus, status_of, tell};
+use crate::words::{comm_of, number_of, source_of, tag_of};
+use std::alloc::Global;
+use ulfm_process::Process;
+use ulfm_rank::{MessageId, Probed};
+
+/// A probe that changes nothing.
+fn iprobe(process: &Process, comm: u32, source: u32, tag: u32, status: &mut CStatus) -> u32 {
+    let comm = match comm_of(comm) {
+        Some(comm) => comm,
+        None => return 1,
+    };
+    let tag = match tag_of(tag) {
+        Ok(tag) => tag,
+        Err(_) => return 3,
+    };
+    match process.iprobe(comm, source_of(source), tag) {
+        Ok(Some(told)) => {
+            *status = status_of(told);
+            return 0;
+        }
+        Ok(None) => return 17,
+        Err(error) => return number_of(error),
+    }
+}
+
+/// Looks for a letter, and leaves it (`Process::iprobe`).
+#[unsafe(no_mangle)]
+pub extern "C" fn ulfm_c_iprobe(
+    alloc: Global,
+    handle: &mut Handle,
+    comm: u32,
+    source: u32,
+    tag: u32,
+    status: &mut CStatus,
+) -> u32
+    ensures { Call handle.old.slot.held handle.new.slot.held result (λ old new. new ≡ old) }
+{
+    match handle.take(alloc) {
+        Some(process) => {
+            let code = iprobe(&process, comm, source, tag, status);
+            handle.put(process);
+            code
+        }
+        None => 16,
+    }
+}
+
+/// A probe that makes what it finds a message.
+fn improbe(
+    process: &mut Process,
+    comm: u32,
+    source: u32,
+    tag: u32,
+    message: &mut u64,
+    status: &mut CStatus,
+) -> u32
+    ensures { result ≢ 0 → process.new ≡ process.old }
+{
+    let comm = match comm_of(comm) {
+        Some(comm) => comm,
+        None => return 1,
+    };
+    let tag = match tag_of(tag) {
+        Ok(tag) => tag,
+        Err(_) => return 3,
+    };
+    match process.improbe(comm, source_of(source), tag) {
+        Ok(Probed::Found(id, told)) => {
+            *message = id.number;
+            *status = status_of(told);
+            return 0;
+        }
+        Ok(Probed::Nothing) => return 17,
+        Err(error) => return number_of(error),
+    }
+}
+
+/// Looks for a letter, which becomes a message (`Process::improbe`).
+#[unsafe(no_mangle)]
+pub extern "C" fn ulfm_c_improbe(
+    alloc: Global,
+    handle: &mut Handle,
+    comm: u32,
+    source: u32,
+    tag: u32,
+    message: &mut u64,
+    status: &mut CStatus,
+) -> u32
+    ensures { Call handle.old.slot.held handle.new.slot.held result (λ old new. result ≢ 0 → new ≡ old) }
+{
+    match handle.take(alloc) {
+        Some(mut process) => {
+            let code = improbe(&mut process, comm, source, tag, message, status);
+            handle.put(process);
+            code
+        }
+        None => 16,
+    }
+}
+
+/// The receive of a message.
+fn mrecv(process: &mut Process, message: u64, status: &mut CStatus, body: &mut [u8]) -> u32 {
+    let room = if body.len() > 65535 {
+        65535
+    } else {
+        body.len() as u16
+    };
+    match process.mrecv(MessageId { number: message }, room) {
+        Ok(answer) => return tell(answer, status, body),
+        Err(error) => return number_of(error),
+    }
+}
+
+/// Receives a message (`Process::mrecv`).
+#[unsafe(no_mangle)]
+pub extern "C" fn ulfm_c_mrecv(
+    alloc: Global,
+    handle: &mut Handle,
+    message: u64,
+    status: &mut CStatus,
+    body: &mut [u8],
+) -> u32
+    ensures { Call handle.old.slot.held handle.new.slot.held result (λ old new. ⊤) }
+{
+    match handle.take(alloc) {
+        Some(mut process) => {
+            let code = mrecv(&mut process, message, status, body);
+            handle.put(process);
+            code
+        }
+        None => 16,
+    }
+}

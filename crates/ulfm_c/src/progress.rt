@@ -1,0 +1,115 @@
+//! What comes in and goes out, and the rank itself.
+ghost use Rattle.std.specs.Prelude.{◌≡◌, ◌≢◌};
+ghost use Rattle.ulfm_c.specs.Calls.{Call};
+ghost use Rattle.ulfm_c.specs.Progress.{IsFlushed, TurnCall};
+ghost use Rattle.ulfm_process.specs.View.{with_rank};
+ghost use Rattle.ulfm_rank.specs.Calls.{stopping};
+
+use crate::handle::Handle;
+use std::alloc::Global;
+use ulfm_process::Process;
+
+/// A turn: 12 where a growth was refused.
+fn turn(process: &mut Process, moved: &mut u32) -> u32
+    ensures { TurnCall process.old process.new moved.old moved.new result }
+{
+    match process.turn() {
+        Ok(true) => {
+            *moved = 1;
+            return 0;
+        }
+        Ok(false) => {
+            *moved = 0;
+            return 0;
+        }
+        Err(_) => return 12,
+    }
+}
+
+/// A turn (`Process::turn`).
+#[unsafe(no_mangle)]
+pub extern "C" fn ulfm_c_turn(alloc: Global, handle: &mut Handle, moved: &mut u32) -> u32
+    ensures { Call handle.old.slot.held handle.new.slot.held result (λ old new. TurnCall old new moved.old moved.new result) }
+{
+    match handle.take(alloc) {
+        Some(mut process) => {
+            let code = turn(&mut process, moved);
+            handle.put(process);
+            code
+        }
+        None => 16,
+    }
+}
+
+/// Whether nothing waits to go out.
+fn flushed(process: &Process, flushed: &mut u32) -> u32
+    ensures { (result ≡ 0) × IsFlushed process.now flushed.new }
+{
+    if process.has_pushed_all() {
+        *flushed = 1;
+        return 0;
+    }
+    *flushed = 0;
+    0
+}
+
+/// Whether nothing waits to go out (`Process::has_pushed_all`).
+#[unsafe(no_mangle)]
+pub extern "C" fn ulfm_c_flushed(alloc: Global, handle: &mut Handle, all: &mut u32) -> u32
+    ensures { Call handle.old.slot.held handle.new.slot.held result (λ old new. (new ≡ old) × (result ≡ 0) × IsFlushed old all.new) }
+{
+    match handle.take(alloc) {
+        Some(process) => {
+            let code = flushed(&process, all);
+            handle.put(process);
+            code
+        }
+        None => 16,
+    }
+}
+
+/// The rank's number.
+fn me(process: &Process, rank: &mut u32) -> u32
+    ensures { (result ≡ 0) × (rank.new ≡ process.now.rank.me) }
+{
+    *rank = process.me().number as u32;
+    0
+}
+
+/// The rank's number in the world (`Process::me`).
+#[unsafe(no_mangle)]
+pub extern "C" fn ulfm_c_me(alloc: Global, handle: &mut Handle, rank: &mut u32) -> u32
+    ensures { Call handle.old.slot.held handle.new.slot.held result (λ old new. (new ≡ old) × (result ≡ 0) × (rank.new ≡ old.rank.me)) }
+{
+    match handle.take(alloc) {
+        Some(process) => {
+            let code = me(&process, rank);
+            handle.put(process);
+            code
+        }
+        None => 16,
+    }
+}
+
+/// The stop.
+fn stop(process: &mut Process) -> u32
+    ensures { (result ≡ 0) × (process.new ≡ with_rank process.old (stopping process.old.rank)) }
+{
+    process.stop();
+    0
+}
+
+/// The rank stops (`Process::stop`).
+#[unsafe(no_mangle)]
+pub extern "C" fn ulfm_c_stop(alloc: Global, handle: &mut Handle) -> u32
+    ensures { Call handle.old.slot.held handle.new.slot.held result (λ old new. (result ≡ 0) × (new ≡ with_rank old (stopping old.rank))) }
+{
+    match handle.take(alloc) {
+        Some(mut process) => {
+            let code = stop(&mut process);
+            handle.put(process);
+            code
+        }
+        None => 16,
+    }
+}

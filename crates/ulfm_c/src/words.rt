@@ -1,0 +1,70 @@
+//! The words of C.
+ghost use Rattle.std.specs.Prelude.{◌≡◌, ◌≤◌, MatchOption, min};
+ghost use Rattle.ulfm_c.specs.Calls.{number_of};
+
+use ulfm_base::{CallError, Context, Tag};
+use ulfm_rank::Comm;
+
+/// The code of a refusal.
+pub(crate) fn number_of(error: CallError) -> u32
+    ensures { result ≡ number_of error }
+{
+    match error {
+        CallError::NoComm => 1,
+        CallError::BadRank => 2,
+        CallError::BadTag => 3,
+        CallError::TooLong => 4,
+        CallError::ProcFailed => 5,
+        CallError::Revoked => 6,
+        CallError::NoRequest => 7,
+        CallError::AlreadyMade => 8,
+        CallError::NoContext => 9,
+        CallError::Stopped => 10,
+        CallError::NotMember => 11,
+        CallError::OutOfMemory => 12,
+        CallError::BadSize => 13,
+        CallError::NotEntered => 14,
+        CallError::Truncated => 15,
+    }
+}
+
+/// The communicator of a number, where it can have one.
+pub(crate) fn comm_of(number: u32) -> Option<Comm>
+    ensures { MatchOption result (63 ≤ number) (λ comm. comm.context.number ≡ number) }
+{
+    if number > 62 {
+        return None;
+    }
+    let context = Context::new(number as u8)?;
+    Some(Comm { context })
+}
+
+/// A position, or one that no communicator has.
+pub(crate) fn position_of(number: u32) -> u8
+    ensures { result ≡ min number 255 }
+{
+    if number > 255 { 255 } else { number as u8 }
+}
+
+/// So many bytes of room, which no letter is longer than from 65,535 on.
+pub(crate) fn room_of(number: u32) -> u16
+    ensures { result ≡ min number 65535 }
+{
+    if number > 65535 { 65535 } else { number as u16 }
+}
+
+/// A position, or any where the number is the greatest.
+pub(crate) fn source_of(number: u32) -> Option<u8> {
+    if number == u32::MAX {
+        return None;
+    }
+    Some(position_of(number))
+}
+
+/// A tag, or any where the number is the greatest.
+pub(crate) fn tag_of(number: u32) -> Result<Option<Tag>, CallError> {
+    if number == u32::MAX {
+        return Ok(None);
+    }
+    Ok(Some(Tag::new(number)?))
+}
