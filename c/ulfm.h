@@ -1,0 +1,190 @@
+/* Message passing with recovery from failures: the calls of one rank, for C.
+
+   A world is 1 to 8 ranks in one process. Each rank stands behind a slot and is used by one thread at a time, mostly each by a thread of its
+   own. No call blocks: receives, shrinks and agreements are polled, and `ulfm_turn` moves what goes out and comes in.
+
+       ulfm_slot slots[4] = {{0}};
+       if (ulfm_world(slots, 4, 16, 64)) ..
+       each thread: ulfm_irecv(&slots[me], 0, ULFM_ANY, 7, sizeof buffer, &request);
+                    while ((code = ulfm_test(&slots[me], request, &status, buffer, sizeof buffer)) == ULFM_NOT_YET) {
+                        ulfm_turn(&slots[me], &moved);
+                        if (!moved) ..wait a little..
+                    }
+       at the end:  ulfm_end(&slots[k]) for each k, by any thread, when no other one uses it.
+
+   Each call answers a code: 0, or one of the codes below. A refused call changes nothing, and writes to no out parameter. Where several
+   refusals apply, the first one of those listed at the call is answered; 12 is the last.
+
+   Shapes and units. `comm` names a communicator by its context, 0 to 62: 0 is the world's. `dest` and `source` are positions in the
+   communicator's group, 0 to size - 1. `tag` is 0 to 32,767. Bodies are bytes, at most 1,024 of them. A pointer to a body may be null only
+   with a length of 0.
+
+   What is proved, and what isn't, says docs/PROOFS.md and docs/LIMITS.md. */
+#ifndef ULFM_H
+#define ULFM_H
+
+#include <stddef.h>
+#include <stdint.h>
+
+#ifdef __cplusplus
+extern "C" {
+#endif
+
+/* A rank, or none. All zeros is none. Nobody copies it while it has a rank: it is handed on by its address. */
+typedef struct {
+    void *at;       /* null where it has none */
+    uint32_t holds; /* 1 where it has a rank, else 0 */
+} ulfm_slot;
+
+/* What is told of a letter (MPI 4.0, 3.2.5). */
+typedef struct {
+    uint32_t source;    /* the sender's position in the communicator */
+    uint32_t tag;       /* 0 to 32,767 */
+    uint64_t length;    /* bytes of the body, 0 to 1,024 */
+    uint32_t error;     /* 0: a letter came. ULFM_PROC_FAILED, ULFM_REVOKED, ULFM_TRUNCATED: none did, and why. Else the other fields are 0 */
+    uint32_t cancelled; /* 1: the receive was withdrawn (`ulfm_cancel`). Else 0 */
+} ulfm_status;
+
+/* Some ranks of the world, by their positions. */
+typedef struct {
+    uint32_t size;      /* 0 to 8 */
+    uint8_t members[8]; /* their world ranks, 0 to 7; 255 from `size` on */
+} ulfm_group;
+
+/* Any source, any tag. */
+#define ULFM_ANY UINT32_MAX
+
+/* Codes. */
+enum {
+    ULFM_OK = 0,
+    ULFM_NO_COMM = 1,        /* the communicator wasn't made at this rank */
+    ULFM_BAD_RANK = 2,       /* the communicator has no such position */
+    ULFM_BAD_TAG = 3,        /* the tag is past 32,767 */
+    ULFM_TOO_LONG = 4,       /* the body is longer than 1,024 bytes */
+    ULFM_PROC_FAILED = 5,    /* the other rank is known to have failed */
+    ULFM_REVOKED = 6,        /* the communicator is revoked */
+    ULFM_NO_REQUEST = 7,     /* there is no such request or message, or it was released */
+    ULFM_ALREADY_MADE = 8,   /* made, entered or adopted before */
+    ULFM_NO_CONTEXT = 9,     /* no context is left for the new communicator */
+    ULFM_STOPPED = 10,       /* this rank has stopped */
+    ULFM_NOT_MEMBER = 11,    /* the decision isn't this rank's to adopt: it was taken for failed */
+    ULFM_OUT_OF_MEMORY = 12, /* a growth was refused */
+    ULFM_BAD_SIZE = 13,      /* not 1 to 8 ranks, or a capacity that isn't 1 to 64 */
+    ULFM_NOT_ENTERED = 14,   /* no shrink or agreement was entered here */
+    ULFM_TRUNCATED = 15,     /* in a status alone: the letter was longer than the room of its receive, and is gone */
+    ULFM_ENDED = 16,         /* the slot is null or has no rank, or an out parameter is null */
+    ULFM_NOT_YET = 17,       /* of polls: nothing came yet, poll again */
+    ULFM_PENDING = 18        /* of receives from any source: as 17, and a member failed whose failure isn't acknowledged
+                                (ULFM, `MPI_ERR_PROC_FAILED_PENDING`). Acknowledged, it goes on as 17 */
+};
+
+/* ---- Worlds ---- */
+
+/* Makes a world of `ranks` ranks, 1 to 8, in slots[0 .. ranks - 1]: slot k has the rank of world number k. Slots that have a rank are ended
+   first, where the call answers 0. `capacity`, 1 to 64, is the number of places of the ring from each rank to each: what finds no place waits
+   at its sender. `rounds` is how many agreements can be made on each communicator, for which it takes 8 KB each. 13, 12. */
+uint32_t ulfm_world(ulfm_slot *slots, size_t ranks, uint8_t capacity, uint16_t rounds);
+
+/* Ends a rank and frees what it has; the slot is all zeros then. The other ranks aren't told: call `ulfm_stop`, and `ulfm_turn` until
+   `ulfm_flushed` says 1, before. 16. */
+uint32_t ulfm_end(ulfm_slot *slot);
+
+/* The rank stops, as if it failed there (ULFM: a process failure): the others learn it by a notice, which goes out by `ulfm_turn`. From then on
+   all its calls but `ulfm_turn`, `ulfm_flushed`, `ulfm_me`, `ulfm_group_of`, `ulfm_position`, `ulfm_stop` and `ulfm_end` answer 10. 16. */
+uint32_t ulfm_stop(ulfm_slot *slot);
+
+/* ---- Progress ---- */
+
+/* Takes one item that came, if there is one, and pushes what waits to go out, to each rank as far as its ring has places. *moved: 1 where
+   anything moved, else 0: then this rank has nothing to do until another one moves. 16, 12. */
+uint32_t ulfm_turn(ulfm_slot *slot, uint32_t *moved);
+
+/* *flushed: 1 where nothing waits to go out, to any rank; of a rank that stopped, where its notices went out. Else 0. 16. */
+uint32_t ulfm_flushed(ulfm_slot *slot, uint32_t *flushed);
+
+/* ---- Communicators and groups ---- */
+
+/* *rank: the rank's number in the world (MPI 4.0, 7.4.1, on MPI_COMM_WORLD). 16. */
+uint32_t ulfm_me(ulfm_slot *slot, uint32_t *rank);
+
+/* *group: the world ranks of the members, by their positions (MPI 4.0, 7.3.2 and 7.4.1, `MPI_Comm_group`, `MPI_Comm_size`). 16, 1. */
+uint32_t ulfm_group_of(ulfm_slot *slot, uint32_t comm, ulfm_group *group);
+
+/* *position: this rank's position (MPI 4.0, 7.4.1, `MPI_Comm_rank`). 16, 1, 11. */
+uint32_t ulfm_position(ulfm_slot *slot, uint32_t comm, uint32_t *position);
+
+/* Duplicates a communicator: *made has the same group (MPI 4.0, 7.4.2, `MPI_Comm_dup`). It is made here alone, without a letter: each member
+   has to do the same. Each communicator c has one duplicate, of the number 2c + 1; the next ones are duplicates of the duplicate (1, 3, 7, 15,
+   31 of the world's). 16, 1, 10, 6, 8, 9, 12. */
+uint32_t ulfm_dup(ulfm_slot *slot, uint32_t comm, uint32_t *made);
+
+/* ---- Letters ---- */
+
+/* Starts a send of `length` bytes to the member `dest` (MPI 4.0, 3.7.2, `MPI_Isend`). It is buffered: done when the call returns. 16, 1 (comm
+   past 62), 3, 10, 1, 6, 2, 4, 5, 12. */
+uint32_t ulfm_isend(ulfm_slot *slot, uint32_t comm, uint32_t dest, uint32_t tag, const uint8_t *body, size_t length);
+
+/* Posts a receive from the member `source` or ULFM_ANY, with `tag` or ULFM_ANY, of at most `room` bytes (MPI 4.0, 3.7.2, `MPI_Irecv`).
+   *request: its number, which none of this rank's requests and messages had before. 16, 1 (comm past 62), 3, 10, 1, 6, 2, 12. */
+uint32_t ulfm_irecv(ulfm_slot *slot, uint32_t comm, uint32_t source, uint32_t tag, uint32_t room, uint64_t *request);
+
+/* Tests a receive (MPI 4.0, 3.7.3, `MPI_Test`). 0: it is over and released, *status tells how, and where status->error is 0 the body stands at
+   `body`; of a body that is longer than `size` the first `size` bytes. Give as many bytes as the receive's room. 17, 18: it goes on. 16, 10, 7. */
+uint32_t ulfm_test(ulfm_slot *slot, uint64_t request, ulfm_status *status, uint8_t *body, size_t size);
+
+/* Cancels a receive (MPI 4.0, 3.8.4, `MPI_Cancel` with its completion). 0: it is released; it was withdrawn and gets no letter
+   (status->cancelled is 1), or had ended before, and is answered as by `ulfm_test`. 16, 10, 7. */
+uint32_t ulfm_cancel(ulfm_slot *slot, uint64_t request, ulfm_status *status, uint8_t *body, size_t size);
+
+/* Looks for a letter that a receive with these arguments would get where it was posted now (MPI 4.0, 3.8.1, `MPI_Iprobe`). 0: there is one, and
+   *status tells of it. It changes nothing. 17: there is none. 16, 1 (comm past 62), 3, 10, 1, 6, 2, 5 (there is none, and `source` is known to
+   have failed). */
+uint32_t ulfm_iprobe(ulfm_slot *slot, uint32_t comm, uint32_t source, uint32_t tag, ulfm_status *status);
+
+/* The same, and the letter becomes a message, which `ulfm_mrecv` alone gets, revoked or not (MPI 4.0, 3.8.2, `MPI_Improbe`). *message: its
+   number. 16, 1 (comm past 62), 3, 10, 1, 6, 2, 5, 12; 17. */
+uint32_t ulfm_improbe(ulfm_slot *slot, uint32_t comm, uint32_t source, uint32_t tag, uint64_t *message, ulfm_status *status);
+
+/* Receives a message into `size` bytes, and releases it (MPI 4.0, 3.8.3, `MPI_Mrecv`). 0: as by `ulfm_test`; status->error is ULFM_TRUNCATED
+   where its body is longer. 16, 10, 7. */
+uint32_t ulfm_mrecv(ulfm_slot *slot, uint64_t message, ulfm_status *status, uint8_t *body, size_t size);
+
+/* ---- Recovery (ULFM) ---- */
+
+/* Revokes a communicator, here and, as the notice comes there, at all members (ULFM, `MPI_Comm_revoke`). Again it changes nothing. 16, 1 (comm
+   past 62), 10, 1, 12. */
+uint32_t ulfm_revoke(ulfm_slot *slot, uint32_t comm);
+
+/* *revoked: 1 where the communicator is known to be revoked, else 0 (ULFM, `MPI_Comm_is_revoked`). 16, 1 (comm past 62), 10, 1. */
+uint32_t ulfm_is_revoked(ulfm_slot *slot, uint32_t comm, uint32_t *revoked);
+
+/* *failed: the members that are known to have failed, in the order in which this rank learned it, which stays (ULFM, `MPI_Comm_get_failed`).
+   16, 1 (comm past 62), 10, 1. */
+uint32_t ulfm_get_failed(ulfm_slot *slot, uint32_t comm, ulfm_group *failed);
+
+/* Acknowledges the first `count` of them, or all where they are fewer; never fewer than before (ULFM, `MPI_Comm_ack_failed`). *total: how many
+   are acknowledged now. 16, 1 (comm past 62), 10, 1, 12. */
+uint32_t ulfm_ack_failed(ulfm_slot *slot, uint32_t comm, uint32_t count, uint32_t *total);
+
+/* Enters the shrink of a communicator, revoked or not (ULFM, `MPI_Comm_shrink`). Each communicator c has one shrink, of the number 2c + 2. 16,
+   1 (comm past 62), 10, 1, 8, 9, 12. */
+uint32_t ulfm_enter_shrink(ulfm_slot *slot, uint32_t comm);
+
+/* Asks for the decision of the shrink that was entered. 0: it is adopted, and *made is the communicator of the new group. 17: not all
+   members that run have entered yet. 16, 1 (comm past 62), 10, 1, 14, 8, 11, 12. After 11 this rank is no member of the new group. After 12
+   poll again. */
+uint32_t ulfm_poll_shrink(ulfm_slot *slot, uint32_t comm, uint32_t *made);
+
+/* Enters the next agreement on a communicator, revoked or not, with a flag (ULFM, `MPI_Comm_agree`). 16, 1 (comm past 62), 10, 1, 8 (the
+   last one isn't adopted yet), 12. */
+uint32_t ulfm_enter_agree(ulfm_slot *slot, uint32_t comm, uint32_t flag);
+
+/* Asks for the decision of the agreement that was entered last. 0: it is adopted. *value: the AND of the flags of all members but those in
+   *missing, which failed. It is the same at all members that are told. 17: not all members that run have entered yet. 16, 1 (comm past 62), 10,
+   1, 14, 8, 11, 12 (also where the world's `rounds` are used up). */
+uint32_t ulfm_poll_agree(ulfm_slot *slot, uint32_t comm, uint32_t *value, ulfm_group *missing);
+
+#ifdef __cplusplus
+}
+#endif
+#endif
