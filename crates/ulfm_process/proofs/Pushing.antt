@@ -73,10 +73,6 @@ pub came-ranks : (r : State) (came : Option (WorldRank × Item)) → (with_came 
 came-ranks r None = refl
 came-ranks r (Some x) = refl
 
-is-some : {X : Type 0} (o : Option X) → is_some o ≡ true → IsSome o
-is-some None e = absurd (false≢true e)
-is-some (Some x) e = e
-
 -- it is told whether one came or went
 told-turn : {X : Type 0} (took went : Bool) (came : Option X) (n : ℕ) → took ≡ is_some came → (IsTrue went ↔ (0 < n)) → {moved : Bool} → moved ≡ cond took true went → IsTrue moved ↔ (IsSome came ⊎ (0 < n))
 told-turn {X} took went came n is told {moved} told_is = subst (λ b. IsTrue b ↔ (IsSome came ⊎ (0 < n))) (sym (told_is ∙ ap (λ b. cond b true went) is)) (by came)

@@ -1,17 +1,12 @@
 use Rattle.std.proofs.Common.{◌∙◌, ℕ, suc, false, List, Option, ap, sym, subst, arith, slice_get, All, map}
 use Rattle.std.proofs.lemmas.List.Elements.{All-push}
-use Rattle.ulfm_base.specs.declared.decision.Decision.{Decision}
-use Rattle.ulfm_board.specs.contracts.seat.SeatDecider.TheImpl.{ghosts}
 use Rattle.ulfm_board.specs.declared.seat.Seat.{Seat}
 use Rattle.ulfm_carrier.proofs.Handed.{handed}
 use Rattle.ulfm_carrier.specs.declared.lane_ends.LaneEnds.{LaneEnds}
 use Rattle.ulfm_rank.specs.State.{start_state_with}
+use Rattle.ulfm_process.proofs.Seated.{in_seat}
 use Rattle.ulfm_process.specs.Making.{StartsAtEnd, end_of, seat_of}
 use Rattle.ulfm_process.proofs.making.seated.Goals as goal
-
--- what a seat is of, and what it knows
-abbrev in_seat : Seat → Option (List ℕ) × List (Option Decision)
-in_seat s = (ghosts.board s, ghosts.known s)
 
 pub start-requires : goal.start-requires
 start-requires c = record { fresh = c.loop-end.invariant.fresh 0 c.in-Some.end (ap (λ l. slice_get l 0) c.in-Some.ensures.steps.0) }

@@ -1,18 +1,12 @@
 use Rattle.std.proofs.Common.{◌≡◌, ◌+◌, ◌≤◌, ◌++◌, ℕ, All, List, Option, map, vec_len, vec_capacity}
 use Rattle.std.specs.Vec.Iter.{into_iter_items, into_iter_len}
 use Rattle.ulfm_base.specs.Lists.{at}
-use Rattle.ulfm_base.specs.declared.decision.Decision.{Decision}
-use Rattle.ulfm_board.specs.contracts.seat.SeatDecider.TheImpl.{ghosts}
-use Rattle.ulfm_board.specs.declared.seat.Seat.{Seat}
 use Rattle.ulfm_carrier.specs.Family.{IsFresh}
 use Rattle.ulfm_carrier.specs.Lanes.{IsReady, lane_pushed, lane_taken}
 use Rattle.ulfm_carrier.specs.declared.lane_ends.LaneEnds.{LaneEnds}
+use Rattle.ulfm_process.proofs.Seated.{in_seat}
 use Rattle.ulfm_process.specs.Making.{StartsAtEnd, end_of, seat_of}
 use Rattle.ulfm_process.proofs.making.seated.Given as goal
-
--- what a seat is of, and what it knows
-abbrev in_seat : Seat → Option (List ℕ) × List (Option Decision)
-in_seat s = (ghosts.board s, ghosts.known s)
 
 abbrev pub invariant-loop-end : goal.invariant-loop-end
 invariant-loop-end l = record {

@@ -4,21 +4,14 @@ use Rattle.std.proofs.lemmas.List.Elements.{All-get_or}
 use Rattle.std.proofs.lemmas.Option.{get_or_from_slice_get, slice_get_within}
 use Rattle.ulfm_base.proofs.Places.{at_view}
 use Rattle.ulfm_base.specs.Lists.{at}
-use Rattle.ulfm_base.specs.declared.decision.Decision.{Decision}
 use Rattle.ulfm_board.specs.Known.{nothing_known}
-use Rattle.ulfm_board.specs.contracts.seat.SeatDecider.TheImpl.{ghosts}
-use Rattle.ulfm_board.specs.declared.seat.Seat.{Seat}
 use Rattle.ulfm_carrier.specs.Lanes.{OneCall, lane_name}
 use Rattle.ulfm_carrier.specs.declared.lane_ends.LaneEnds.{LaneEnds}
 use Rattle.ulfm_rank.specs.State.{start_state_with}
-use Rattle.ulfm_process.proofs.Seated.{each_of_front}
+use Rattle.ulfm_process.proofs.Seated.{each_of_front, in_seat}
 use Rattle.ulfm_process.specs.Making.{StartsAtEnd, end_of, seat_of}
 use Rattle.ulfm_process.specs.View.{ProcessView}
 use Rattle.ulfm_process.proofs.making.world.Goals as goal
-
--- what a seat is of, and what it knows
-abbrev in_seat : Seat → Option (List ℕ) × List (Option Decision)
-in_seat s = (ghosts.board s, ghosts.known s)
 
 pub returns-clause-world : goal.returns-clause-world
 returns-clause-world c =
