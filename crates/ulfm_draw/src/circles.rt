@@ -1,0 +1,69 @@
+//! What waits come to: circles of ranks, and waits for a rank that will bring nothing any more.
+
+use crate::picture::Picture;
+use std::alloc::Global;
+use ulfm_base::OutOfMemory;
+
+/// A line for each circle of ranks that wait for one another, and for each wait for a rank that is through or has stopped.
+pub(crate) fn conclusions(
+    alloc: Global,
+    picture: &Picture<'_>,
+) -> Result<Vec<String>, OutOfMemory> {
+    let mut lines = Vec::new(alloc);
+    for rank in 0..picture.ranks() {
+        if begins_circle(picture, rank) {
+            lines.push(circle(alloc, picture, rank)?)?;
+        }
+    }
+    for wait in &picture.waits {
+        let (rank, on) = (wait.rank, wait.on);
+        if picture.is_through(on) {
+            lines.push(format!(in alloc; "{rank} waits for {on}, which is through.")?)?;
+        } else if picture.has_stopped(on) {
+            lines.push(format!(in alloc; "{rank} waits for {on}, which has stopped.")?)?;
+        }
+    }
+    Ok(lines)
+}
+
+/// The first rank that a rank waits for and that waits itself.
+fn next(picture: &Picture<'_>, rank: usize) -> Option<usize> {
+    for wait in &picture.waits {
+        if wait.rank == rank && picture.waits.iter().any(|other| other.rank == wait.on) {
+            return Some(wait.on);
+        }
+    }
+    None
+}
+
+/// Whether a rank is the first of a circle.
+fn begins_circle(picture: &Picture<'_>, rank: usize) -> bool {
+    let mut at = rank;
+    for _ in 0..picture.ranks() {
+        match next(picture, at) {
+            Some(on) if on > rank => at = on,
+            Some(on) => return on == rank,
+            None => return false,
+        }
+    }
+    false
+}
+
+/// The line of a circle, from its first rank.
+fn circle(alloc: Global, picture: &Picture<'_>, rank: usize) -> Result<String, OutOfMemory> {
+    let mut text = String::from_str(alloc, "A circle: ")?;
+    let mut at = rank;
+    for _ in 0..picture.ranks() {
+        let Some(on) = next(picture, at) else {
+            break;
+        };
+        write!(text, "{at} waits for {on}")?;
+        if on == rank {
+            break;
+        }
+        text.push_str(", ")?;
+        at = on;
+    }
+    text.push_str(".")?;
+    Ok(text)
+}

@@ -1,0 +1,118 @@
+//! A picture as columns of text.
+
+use crate::circles::conclusions;
+use crate::picture::Picture;
+use crate::row::Row;
+use crate::saying::{outcome, subject};
+use std::alloc::Global;
+use ulfm_base::OutOfMemory;
+
+/// The fewest letters of a column.
+const FEWEST: usize = 8;
+
+/// A picture as text: a column for each rank, and a row for each move.
+pub(crate) fn table(alloc: Global, picture: &Picture<'_>) -> Result<String, OutOfMemory> {
+    let mut cells = Vec::new(alloc);
+    for (number, row) in picture.rows.iter().enumerate() {
+        cells.push(cell(alloc, picture, number, row)?)?;
+    }
+    let widths = widths_of(alloc, picture, cells.as_slice())?;
+    let mut out = String::new(alloc);
+    for rank in 0..picture.ranks() {
+        let name = format!(in alloc; "rank {rank}")?;
+        push_cell(&mut out, widths.as_slice(), rank, name.as_str())?;
+    }
+    out.push_str("\n")?;
+    for (row, cell) in picture.rows.iter().zip(cells.iter()) {
+        push_line(&mut out, widths.as_slice(), row.rank, cell.as_str())?;
+    }
+    push_ends(&mut out, picture)?;
+    Ok(out)
+}
+
+/// The text of a row.
+fn cell(
+    alloc: Global,
+    picture: &Picture<'_>,
+    number: usize,
+    row: &Row<'_>,
+) -> Result<String, OutOfMemory> {
+    let subject = subject(alloc, row)?;
+    if !row.is_taking() {
+        let outcome = outcome(alloc, picture, number, row)?;
+        return format!(in alloc; "{subject}: {outcome}");
+    }
+    for arrow in &picture.arrows {
+        if arrow.end == Some(number) {
+            return format!(in alloc; "<- {} {subject}", arrow.from);
+        }
+    }
+    Ok(subject)
+}
+
+/// How many letters each column has.
+fn widths_of(
+    alloc: Global,
+    picture: &Picture<'_>,
+    cells: &[String],
+) -> Result<Vec<usize>, OutOfMemory> {
+    let mut widths = Vec::new(alloc);
+    for rank in 0..picture.ranks() {
+        let mut width = FEWEST;
+        for (row, cell) in picture.rows.iter().zip(cells.iter()) {
+            if row.rank == rank {
+                width = width.max(cell.len());
+            }
+        }
+        widths.push(width)?;
+    }
+    Ok(widths)
+}
+
+/// Puts a line with the text of one rank, and the lines of the others.
+fn push_line(
+    out: &mut String,
+    widths: &[usize],
+    rank: usize,
+    text: &str,
+) -> Result<(), OutOfMemory> {
+    for column in 0..widths.len() {
+        push_cell(out, widths, column, if column == rank { text } else { "|" })?;
+    }
+    out.push_str("\n")
+}
+
+/// Puts the text of a column, behind those before it.
+fn push_cell(
+    out: &mut String,
+    widths: &[usize],
+    column: usize,
+    text: &str,
+) -> Result<(), OutOfMemory> {
+    out.push_str(text)?;
+    if column.saturating_add(1) >= widths.len() {
+        return Ok(());
+    }
+    let width = widths.get(column).copied().unwrap_or(0);
+    for _ in text.len()..width {
+        out.push_str(" ")?;
+    }
+    out.push_str("  ")
+}
+
+/// Puts how each rank ended, what steps wait for that stand open, and what that comes to.
+fn push_ends(out: &mut String, picture: &Picture<'_>) -> Result<(), OutOfMemory> {
+    let alloc = *out.allocator();
+    for rank in 0..picture.ranks() {
+        let end = picture.end(rank);
+        write!(out, "rank {rank}: {end}\n")?;
+    }
+    for wait in &picture.waits {
+        let (rank, need, bearer) = (wait.rank, wait.need, wait.bearer);
+        write!(out, "rank {rank} waits for {need}: {bearer}\n")?;
+    }
+    for conclusion in conclusions(alloc, picture)? {
+        write!(out, "{conclusion}\n")?;
+    }
+    Ok(())
+}

@@ -1,0 +1,125 @@
+//! Marks of moves.
+
+use crate::ink::{ALARM, DARK, colour};
+use crate::kind::Kind;
+use crate::row::{Deed, Row};
+use crate::words::word;
+use ulfm_base::OutOfMemory;
+
+/// What stands on the line of a rank where it did something.
+#[derive(Clone, Copy, Debug, PartialEq, Eq)]
+pub(crate) enum Mark {
+    /// A step has an answer that none of the others tells of.
+    Answer,
+    /// A step was opened.
+    Open,
+    /// A step got a message, or found one.
+    Got,
+    /// Ranks decided together.
+    Decision,
+    /// A call was refused, or what it waited for is over.
+    Refusal,
+    /// A step was given up, or met failures that aren't acknowledged.
+    Hang,
+    /// A step was skipped.
+    Skip,
+    /// The rank stopped.
+    Stop,
+}
+
+/// All marks, in the order of legends.
+pub(crate) const MARKS: [Mark; 8] = [
+    Mark::Answer,
+    Mark::Open,
+    Mark::Got,
+    Mark::Decision,
+    Mark::Refusal,
+    Mark::Hang,
+    Mark::Skip,
+    Mark::Stop,
+];
+
+/// The mark of a row. Where an item was taken, the head of its arrow is one.
+pub(crate) fn mark_of(row: &Row<'_>) -> Option<Mark> {
+    match row.deed {
+        Deed::Opened => Some(Mark::Open),
+        Deed::Answered => Some(mark_by(row.op(), word(row.answer, 0))),
+        Deed::Took(_) => None,
+    }
+}
+
+/// The mark of an answer, by the op of its step and its first word.
+fn mark_by(op: &str, answer: &str) -> Mark {
+    match (op, answer) {
+        ("shrink", "comm") | ("agree", "agreed") => Mark::Decision,
+        (_, "done" | "found") => Mark::Got,
+        (_, "refused" | "over") => Mark::Refusal,
+        (_, "unfinished" | "pending") => Mark::Hang,
+        (_, "skipped") => Mark::Skip,
+        (_, "stopped") => Mark::Stop,
+        _ => Mark::Answer,
+    }
+}
+
+/// What a mark says, in words.
+pub(crate) fn meaning(mark: Mark) -> &'static str {
+    match mark {
+        Mark::Answer => "answered",
+        Mark::Open => "open",
+        Mark::Got => "message got",
+        Mark::Decision => "decision",
+        Mark::Refusal => "refused, over",
+        Mark::Hang => "unfinished, pending",
+        Mark::Skip => "skipped",
+        Mark::Stop => "stop",
+    }
+}
+
+/// Draws a mark around a place.
+pub(crate) fn push_mark(
+    out: &mut String,
+    mark: Mark,
+    x: usize,
+    y: usize,
+) -> Result<(), OutOfMemory> {
+    let got = colour(Kind::Message);
+    let left = x.saturating_sub(5);
+    let top = y.saturating_sub(5);
+    let west = x.saturating_sub(6);
+    let start = x.saturating_sub(8);
+    let over = y.saturating_sub(8);
+    match mark {
+        Mark::Answer => write!(
+            out,
+            "<circle cx=\"{x}\" cy=\"{y}\" r=\"4\" fill=\"{DARK}\"/>\n"
+        ),
+        Mark::Open => write!(
+            out,
+            "<circle cx=\"{x}\" cy=\"{y}\" r=\"5\" fill=\"#fff\" stroke=\"{DARK}\" stroke-width=\"1.5\"/>\n"
+        ),
+        Mark::Got => write!(
+            out,
+            "<rect x=\"{left}\" y=\"{top}\" width=\"10\" height=\"10\" fill=\"{got}\"/>\n"
+        ),
+        Mark::Decision => write!(
+            out,
+            "<path d=\"M{west} {y}l6 -6l6 6l-6 6z\" fill=\"{DARK}\"/>\n"
+        ),
+        Mark::Refusal => write!(
+            out,
+            "<path d=\"M{left} {top}l10 10m0 -10l-10 10\" stroke=\"{DARK}\" stroke-width=\"2\"/>\n"
+        ),
+        Mark::Hang => write!(
+            out,
+            "<path d=\"M{west} {y}l6 -6l6 6l-6 6z\" fill=\"#fff\" stroke=\"{DARK}\" stroke-width=\"1.5\"/>\n"
+        ),
+        Mark::Skip => write!(
+            out,
+            "<path d=\"M{left} {y}h10\" stroke=\"{DARK}\" stroke-width=\"3\"/>\n"
+        ),
+        Mark::Stop => write!(
+            out,
+            "<path d=\"M{start} {over}l16 16m0 -16l-16 16\" stroke=\"{ALARM}\" stroke-width=\"3\"/>\n"
+        ),
+    }
+}

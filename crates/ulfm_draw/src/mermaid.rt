@@ -1,0 +1,106 @@
+//! A picture as a Mermaid sequence diagram.
+
+use crate::circles::conclusions;
+use crate::kind::Kind;
+use crate::picture::Picture;
+use crate::row::{Deed, Row};
+use crate::saying::{outcome, subject};
+use std::alloc::Global;
+use ulfm_base::OutOfMemory;
+
+/// A picture as a Mermaid sequence diagram. An item is drawn where it was taken: Mermaid's arrows have no length.
+pub(crate) fn diagram(alloc: Global, picture: &Picture<'_>) -> Result<String, OutOfMemory> {
+    let mut out = String::from_str(alloc, "sequenceDiagram\n")?;
+    for rank in 0..picture.ranks() {
+        write!(out, "    participant r{rank} as rank {rank}\n")?;
+    }
+    for (number, row) in picture.rows.iter().enumerate() {
+        push_row(&mut out, picture, number, row)?;
+    }
+    for rank in 0..picture.ranks() {
+        push_end(&mut out, picture, rank)?;
+    }
+    push_conclusions(&mut out, picture)?;
+    Ok(out)
+}
+
+/// Puts the lines of a row.
+fn push_row(
+    out: &mut String,
+    picture: &Picture<'_>,
+    number: usize,
+    row: &Row<'_>,
+) -> Result<(), OutOfMemory> {
+    let alloc = *out.allocator();
+    let rank = row.rank;
+    let subject = subject(alloc, row)?;
+    if let Deed::Took(kind) = row.deed {
+        let from = sender(picture, number);
+        let arrow = arrow_of(kind);
+        return write!(out, "    r{from}{arrow}r{rank}: {subject}\n");
+    }
+    let outcome = outcome(alloc, picture, number, row)?;
+    if row.is_opening() {
+        write!(out, "    activate r{rank}\n")?;
+    }
+    write!(out, "    Note right of r{rank}: {subject}<br/>{outcome}\n")?;
+    if picture.was_open(number) {
+        write!(out, "    deactivate r{rank}\n")?;
+    }
+    push_lost(out, picture, number)
+}
+
+/// Puts the messages of a row that nobody took.
+fn push_lost(out: &mut String, picture: &Picture<'_>, number: usize) -> Result<(), OutOfMemory> {
+    for arrow in &picture.arrows {
+        if arrow.start == number && picture.hangs(arrow) {
+            let (from, to) = (arrow.from, arrow.to);
+            write!(out, "    r{from}-xr{to}: never taken\n")?;
+        }
+    }
+    Ok(())
+}
+
+/// Who sent what a row took.
+fn sender(picture: &Picture<'_>, number: usize) -> usize {
+    for arrow in &picture.arrows {
+        if arrow.end == Some(number) {
+            return arrow.from;
+        }
+    }
+    0
+}
+
+/// The arrow of a kind of items.
+fn arrow_of(kind: Kind) -> &'static str {
+    match kind {
+        Kind::Message => "->>",
+        Kind::Notice => "--x",
+        Kind::Revocation => "--)",
+        Kind::Shrink | Kind::Agreement => "-->>",
+    }
+}
+
+/// Puts what the open step of a rank waits for.
+fn push_end(out: &mut String, picture: &Picture<'_>, rank: usize) -> Result<(), OutOfMemory> {
+    for wait in &picture.waits {
+        if wait.rank == rank {
+            let (need, bearer) = (wait.need, wait.bearer);
+            write!(
+                out,
+                "    Note right of r{rank}: waits for {need}:<br/>{bearer}\n"
+            )?;
+        }
+    }
+    Ok(())
+}
+
+/// Puts what the waits come to, across all ranks.
+fn push_conclusions(out: &mut String, picture: &Picture<'_>) -> Result<(), OutOfMemory> {
+    let alloc = *out.allocator();
+    let last = picture.ranks().saturating_sub(1);
+    for conclusion in conclusions(alloc, picture)? {
+        write!(out, "    Note over r0,r{last}: {conclusion}\n")?;
+    }
+    Ok(())
+}

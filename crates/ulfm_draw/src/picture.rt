@@ -1,0 +1,94 @@
+//! What a picture shows.
+
+use crate::arrow::Arrow;
+use crate::kind::Kind;
+use crate::row::Row;
+use crate::wait::Wait;
+use std::alloc::Global;
+
+/// Moves in their order, items on their way, how ranks ended, and what they wait for.
+#[derive(Drop)]
+pub(crate) struct Picture<'a> {
+    pub(crate) rows: Vec<Row<'a>>,
+    pub(crate) arrows: Vec<Arrow>,
+    /// A text for each rank: `done`, `stopped` or `not reached`.
+    pub(crate) ends: Vec<&'a str>,
+    pub(crate) waits: Vec<Wait<'a>>,
+}
+
+impl<'a> Picture<'a> {
+    /// Of nothing.
+    pub(crate) fn new(alloc: Global) -> Picture<'a> {
+        Picture {
+            rows: Vec::new(alloc),
+            arrows: Vec::new(alloc),
+            ends: Vec::new(alloc),
+            waits: Vec::new(alloc),
+        }
+    }
+
+    /// How many ranks there are.
+    pub(crate) fn ranks(&self) -> usize {
+        self.ends.len()
+    }
+
+    /// How a rank ended.
+    pub(crate) fn end(&self, rank: usize) -> &'a str {
+        self.ends.get(rank).copied().unwrap_or("")
+    }
+
+    /// Whether a rank ended by its stop.
+    pub(crate) fn has_stopped(&self, rank: usize) -> bool {
+        self.end(rank).starts_with("stopped")
+    }
+
+    /// Whether a rank came to the end of its script.
+    pub(crate) fn is_through(&self, rank: usize) -> bool {
+        self.end(rank).starts_with("done")
+    }
+
+    /// Whether an item hangs in the air: a message that nobody took, or word of a stopped rank that never came to a running one.
+    pub(crate) fn hangs(&self, arrow: &Arrow) -> bool {
+        if arrow.end.is_some() || arrow.matter.kind == Kind::Notice {
+            return false;
+        }
+        arrow.matter.kind == Kind::Message
+            || (self.has_stopped(arrow.from) && !self.has_stopped(arrow.to))
+    }
+
+    /// Whether something of a row hangs in the air.
+    pub(crate) fn hangs_at(&self, row: usize) -> bool {
+        for arrow in &self.arrows {
+            if arrow.start == row && self.hangs(arrow) {
+                return true;
+            }
+        }
+        false
+    }
+
+    /// Whether a step of a rank has a row.
+    pub(crate) fn has_row(&self, rank: usize, step: usize) -> bool {
+        self.rows.iter().any(|row| row.is_of(rank, step))
+    }
+
+    /// The row behind another one in which its step is answered, where it is.
+    pub(crate) fn answer_of(&self, opening: usize) -> Option<usize> {
+        let opened = self.rows.get(opening)?;
+        for (number, row) in self.rows.iter().enumerate() {
+            if number > opening && row.is_of(opened.rank, opened.step) {
+                return Some(number);
+            }
+        }
+        None
+    }
+
+    /// Whether a row answers a step that stood open.
+    pub(crate) fn was_open(&self, answer: usize) -> bool {
+        for (number, row) in self.rows.iter().enumerate() {
+            if row.is_opening() && self.answer_of(number) == Some(answer) {
+                return true;
+            }
+        }
+        false
+    }
+}

@@ -1,0 +1,37 @@
+//! Texts of a drawing, each with the width that it has by its letters.
+
+use crate::ink::{DARK, colour};
+use crate::layout::LETTER;
+use crate::piece::{Face, Piece};
+use ulfm_base::OutOfMemory;
+
+/// Puts a text at a place: the left end of its ground line.
+pub(crate) fn push_text(
+    out: &mut String,
+    x: usize,
+    y: usize,
+    text: &str,
+    fill: &str,
+    more: &str,
+) -> Result<(), OutOfMemory> {
+    let width = text.len().saturating_mul(LETTER);
+    write!(
+        out,
+        "<text x=\"{x}\" y=\"{y}\" textLength=\"{width}\" fill=\"{fill}\"{more}>{text}</text>\n"
+    )
+}
+
+/// Puts a text in its face.
+pub(crate) fn push_piece(
+    out: &mut String,
+    piece: &Piece,
+    x: usize,
+    y: usize,
+) -> Result<(), OutOfMemory> {
+    let text = piece.text.as_str();
+    match piece.face {
+        Face::Plain => push_text(out, x, y, text, DARK, ""),
+        Face::Strong => push_text(out, x, y, text, DARK, " font-weight=\"bold\""),
+        Face::Taken(kind) => push_text(out, x, y, text, colour(kind), " font-style=\"italic\""),
+    }
+}
