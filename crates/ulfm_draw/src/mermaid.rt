@@ -33,13 +33,13 @@ fn push_row(
 ) -> Result<(), OutOfMemory> {
     let alloc = *out.allocator();
     let rank = row.rank;
-    let subject = subject(alloc, row)?;
+    let subject = escaped(alloc, subject(alloc, row)?.as_str())?;
     if let Deed::Took(kind) = row.deed {
         let from = sender(picture, number);
         let arrow = arrow_of(kind);
         return write!(out, "    r{from}{arrow}r{rank}: {subject}\n");
     }
-    let outcome = outcome(alloc, picture, number, row)?;
+    let outcome = escaped(alloc, outcome(alloc, picture, number, row)?.as_str())?;
     if row.is_opening() {
         write!(out, "    activate r{rank}\n")?;
     }
@@ -48,6 +48,19 @@ fn push_row(
         write!(out, "    deactivate r{rank}\n")?;
     }
     push_lost(out, picture, number)
+}
+
+/// A text in which the code of the sign `#` stands for it: Mermaid takes the sign itself for the beginning of a comment.
+fn escaped(alloc: Global, text: &str) -> Result<String, OutOfMemory> {
+    let mut out = String::new(alloc);
+    for letter in text.chars() {
+        if letter == '#' {
+            out.push_str("#35;")?;
+        } else {
+            out.push(letter)?;
+        }
+    }
+    Ok(out)
 }
 
 /// Puts the messages of a row that nobody took.
