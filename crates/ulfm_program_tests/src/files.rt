@@ -4,6 +4,7 @@ use std::fs;
 use std::sync::Wait;
 use std::test::Fail;
 use std::thread::Threads;
+use std::time::Clock;
 use ulfm_program::run_each;
 
 /// Where the files of these tests stand.
@@ -91,7 +92,10 @@ const CASES: [Case; 7] = [
 ];
 
 /// Whether a case gives its status and texts, a usage text as its beginning, where a job that is refused comes on standard input.
-fn follows<R: AllocGlobal + fs::Files + Threads + Wait + Sync>(rt: &R, case: &Case) -> bool {
+fn follows<R: AllocGlobal + fs::Files + Threads + Wait + Clock + Sync>(
+    rt: &R,
+    case: &Case,
+) -> bool {
     let mut input = BAD.as_bytes();
     let mut output = Vec::new(rt.alloc());
     let mut errors = Vec::new(rt.alloc());
