@@ -18,15 +18,17 @@ use Rattle.ulfm_program.specs.Outcomes.{IsJudged, IsShowReply, NeverComes, NoneC
 use Rattle.ulfm_program.specs.declared.listed.FirstRow.{FirstRow}
 use Rattle.ulfm_program.specs.declared.told.Told.{Told as Kept}
 use Rattle.ulfm_program.specs.declared.told.Told.TheVariants as kept
-use Rattle.ulfm_program.specs.inside.Looking.{IsFirstRow, IsLook, look_in, look_status, row_status, told_view}
+use Rattle.ulfm_program.specs.inside.Looking.{IsFirstRow, IsLook, IsLookText, look_status, row_status, told_view}
 
 -- the reply to what came of a search
-pub show_as : (form : Form) (options : ListOptions) (show bytes : List ℕ) (job : JobView) (answers : List Clause) (goals : Goals) (look : Option Kept) → job_of_bytes bytes ≡ Ok (plan_of job) → goals_of_bytes bytes show ≡ Ok answers → AreOfClauses answers goals
-    → IsLook job goals options.is_brief options.limit look → IsShowReply form options show bytes (look_status (option_map told_view look)) (look_in form (option_map told_view look))
-show_as form options show bytes job answers goals None read named are never = nowhere job answers read named goals are never
-show_as form options show bytes job answers goals (Some (kept.Schedule text)) read named are told = shown job answers read named goals are _ told
-show_as form options show bytes job answers goals (Some (kept.Many limit)) read named are told =
-    subst (λ (n : ℕ). IsShowReply form options show bytes 7 (told_in form (many n))) (sym told.0) (too_many job answers read named goals are (sym told.0 ∙ told.0, told.1))
+pub show_as : (form : Form) (options : ListOptions) (show bytes : List ℕ) (job : JobView) (answers : List Clause) (goals : Goals) (look : Option Kept) (text : List ℕ) → job_of_bytes bytes ≡ Ok (plan_of job) → goals_of_bytes bytes show ≡ Ok answers → AreOfClauses answers goals
+    → IsLook job goals options.is_brief options.limit look → IsLookText form options.drawn (option_map told_view look) text → IsShowReply form options show bytes (look_status (option_map told_view look)) text
+show_as form options show bytes job answers goals None text read named are never is =
+    subst (λ (t : List ℕ). IsShowReply form options show bytes 8 t) (sym is) (nowhere job answers read named goals are never)
+show_as form options show bytes job answers goals (Some (kept.Schedule words)) text read named are told is = shown job answers read named goals are _ text told is
+show_as form options show bytes job answers goals (Some (kept.Many limit)) text read named are told is =
+    subst (λ (t : List ℕ). IsShowReply form options show bytes 7 t) (sym is)
+    (subst (λ (n : ℕ). IsShowReply form options show bytes 7 (told_in form (many n))) (sym told.0) (too_many job answers read named goals are (sym told.0 ∙ told.0, told.1)))
 
 -- the row of a place among the rows
 pub row_here : (rows : List (Vec Clause Global)) (n : ℕ) (kept : Vec Clause Global) (row : List Clause) → n < length rows → kept ≡ get_or rows n kept → row ≡ kept.items → slice_get (rows_of rows) n ≡ Some row

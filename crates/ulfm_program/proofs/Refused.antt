@@ -15,12 +15,12 @@ use Rattle.ulfm_script.specs.declared.fault.RunFault.TheVariants as faults
 use Rattle.ulfm_json.specs.declared.form.Form.{Form}
 use Rattle.ulfm_replies.specs.declared.command.RunOptions.{RunOptions}
 use Rattle.ulfm_replies.specs.declared.command.Wanted.{Wanted}
-use Rattle.ulfm_replies.specs.declared.command.Wanted.TheVariants.{Check, Replay, Run, Sweep, Outcomes}
+use Rattle.ulfm_replies.specs.declared.command.Wanted.TheVariants.{Check, Replay, Run, Sweep, Outcomes, Draw}
 use Rattle.ulfm_replies.specs.Failure.{failed_in, failure_of, out_of_memory_in}
 use Rattle.ulfm_replies.specs.Replies.{refused_in, starved}
 use Rattle.ulfm_replies.specs.declared.failure.Failure.{Failure}
 use Rattle.ulfm_replies.specs.declared.failure.Failure.TheVariants as run
-use Rattle.ulfm_program.specs.Replies.{IsReplayReply, IsRunReply, IsReplyTo, IsWhole, GetsReply, GetsBeginning, not_a_job, no_room, failed, no_such_job, no_place, no_thread, untrue, fell, given_turns}
+use Rattle.ulfm_program.specs.Replies.{IsDrawReply, IsReplayReply, IsRunReply, IsReplyTo, IsWhole, GetsReply, GetsBeginning, not_a_job, no_room, failed, not_drawn, no_memory_to_draw, undrawn, no_such_job, no_place, no_thread, untrue, fell, given_turns}
 use Rattle.ulfm_program.specs.Outcomes.{unlisted, unshown}
 use Rattle.ulfm_program.specs.Sweep.{unswept}
 use Rattle.ulfm_program.specs.inside.Writing.{GetsFrontOf, IsShown}
@@ -31,6 +31,13 @@ replay_refused (InJob f) bytes h = not_a_job _ (h (λ e. cc))
 replay_refused (InStep f k) bytes h = not_a_job _ (h (λ e. cc))
 replay_refused TooLarge bytes h = not_a_job _ (h (λ e. cc))
 replay_refused OutOfMemory bytes h = no_room
+
+pub draw_refused : {form : Form} {turns : Option ℕ} (f : JobFault) (bytes : List ℕ) → (f ≢ OutOfMemory → job_of_bytes bytes ≡ Err f) → IsDrawReply form turns bytes 1 (refused_in form f)
+draw_refused NotToml bytes h = not_drawn _ (h (λ e. cc))
+draw_refused (InJob f) bytes h = not_drawn _ (h (λ e. cc))
+draw_refused (InStep f k) bytes h = not_drawn _ (h (λ e. cc))
+draw_refused TooLarge bytes h = not_drawn _ (h (λ e. cc))
+draw_refused OutOfMemory bytes h = no_memory_to_draw
 
 pub run_refused : {form : Form} {options : RunOptions} (f : JobFault) (bytes : List ℕ) → (f ≢ OutOfMemory → job_of_bytes bytes ≡ Err f) → IsRunReply form options bytes 1 (refused_in form f)
 run_refused NotToml bytes h = no_such_job _ (h (λ e. cc))
@@ -61,6 +68,7 @@ starved_reply told form show (Run options) bytes = fell told
 starved_reply told form show Sweep bytes = unswept told
 starved_reply told form None (Outcomes options) bytes = unlisted told
 starved_reply told form (Some goals) (Outcomes options) bytes = unshown told
+starved_reply told form show (Draw style turns) bytes = undrawn told
 
 pub starved_gets : (told form : Form) (show : Option (List ℕ)) (wanted : Wanted) (most : ℕ) (rest old new : Option (List ℕ)) (status : ℕ) → (status ≢ 4 → (status ≡ 3) × Appends old new (out_of_memory_in told)) → IsWhole status → IfSome rest (λ bytes. GetsReply (IsReplyTo form show wanted (take most bytes)) old new status)
 starved_gets told form show wanted most None old new status h l = tt

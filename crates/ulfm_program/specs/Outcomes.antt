@@ -122,11 +122,12 @@ pub data IsOutcomesReply (form : Form) (options : ListOptions) (bytes : List ℕ
 abbrev pub no_goal : List ℕ → List ℕ
 no_goal text = codes "goal refused: " ++ text ++ codes "\n"
 
--- The same by `--show`: with 0 a schedule of the job with all answers that the text names, with 8 that no schedule has them, with 7 that
+-- The same by `--show`: with 0 a schedule of the job with all answers that the text names, or a picture with `--draw`, with 8 that no schedule has them, with 7 that
 -- there are more states than the limit; with 1 the first part of the text that names no answer of the job, or the line of the job's refusal.
 pub data IsShowReply (form : Form) (options : ListOptions) (show bytes : List ℕ) : ℕ → List ℕ → Type 0 where
   shown : (job : JobView) (answers : List Clause) → job_of_bytes bytes ≡ Ok (plan_of job) → goals_of_bytes bytes show ≡ Ok answers → (goals : Goals) → AreOfClauses answers goals
-      → (text : List ℕ) → IsTold job goals options.is_brief options.limit (schedule text) → IsShowReply form options show bytes 0 (told_in form (schedule text))
+      → (text told : List ℕ) → IsTold job goals options.is_brief options.limit (schedule text) → (options.drawn ≡ None → told ≡ told_in form (schedule text))
+      → IsShowReply form options show bytes 0 told
   nowhere : (job : JobView) (answers : List Clause) → job_of_bytes bytes ≡ Ok (plan_of job) → goals_of_bytes bytes show ≡ Ok answers → (goals : Goals) → AreOfClauses answers goals
       → ¬ IsPossible job goals → IsShowReply form options show bytes 8 (nowhere_in form)
   too_many : (job : JobView) (answers : List Clause) → job_of_bytes bytes ≡ Ok (plan_of job) → goals_of_bytes bytes show ≡ Ok answers → (goals : Goals) → AreOfClauses answers goals

@@ -20,7 +20,7 @@ use Rattle.ulfm_program.specs.Sweep.{IsSweepReply}
 use Rattle.ulfm_program.specs.Tally.{tally}
 use Rattle.ulfm_replies.specs.declared.command.RunOptions.{RunOptions}
 use Rattle.ulfm_replies.specs.declared.command.Wanted.{Wanted}
-use Rattle.ulfm_replies.specs.declared.command.Wanted.TheVariants.{Check, Replay, Run, Sweep, Outcomes}
+use Rattle.ulfm_replies.specs.declared.command.Wanted.TheVariants.{Check, Replay, Run, Sweep, Outcomes, Draw}
 use Rattle.ulfm_replies.specs.Failure.{failed_in, out_of_memory_in}
 use Rattle.ulfm_replies.specs.Replies.{refused_in, IsCheckReply}
 use Rattle.ulfm_replies.specs.Asking.{as_asked}
@@ -41,6 +41,16 @@ pub data IsReplayReply (form : Form) (is_strict : Bool) (turns : Option ℕ) (by
   not_a_job : (f : JobFault) → job_of_bytes bytes ≡ Err f → IsReplayReply form is_strict turns bytes 1 (refused_in form f)
   no_room : IsReplayReply form is_strict turns bytes 1 (refused_in form OutOfMemory)
   failed : (told : Form) → IsReplayReply form is_strict turns bytes 3 (out_of_memory_in told)
+
+-- The status and the text that `draw` gives for these bytes: with 0 the picture of a replay of the job, as `replay` tells of one. What stands in
+-- the picture isn't said here.
+pub data IsDrawReply (form : Form) (turns : Option ℕ) (bytes : List ℕ) : ℕ → List ℕ → Type 0 where
+  drawn : (job : JobView) (reports : List Report) (picture : List ℕ) → job_of_bytes bytes ≡ Ok (plan_of job) → IsReplayed (given_turns turns job) reports
+      → IsLawful (given_turns turns job) reports → MadeAtRest (given_turns turns job) reports
+      → IsDrawReply form turns bytes 0 picture
+  not_drawn : (f : JobFault) → job_of_bytes bytes ≡ Err f → IsDrawReply form turns bytes 1 (refused_in form f)
+  no_memory_to_draw : IsDrawReply form turns bytes 1 (refused_in form OutOfMemory)
+  undrawn : (told : Form) → IsDrawReply form turns bytes 3 (out_of_memory_in told)
 
 -- The same for `run`: with 0, 6 or 9, the trace of reports that are lawful for the job, whichever thread went when; with 3 the
 -- line of what failed. F2 comes for a good job alone, and F4 only with reports of the job's ranks that
@@ -69,6 +79,7 @@ IsReplyTo form show (Replay is_strict turns) bytes status text = IsReplayReply f
 IsReplyTo form show (Run options) bytes status text = IsRunReply form options bytes status text
 IsReplyTo form show Sweep bytes status text = IsSweepReply form bytes status text
 IsReplyTo form show (Outcomes options) bytes status text = IsListReply form show options bytes status text
+IsReplyTo form show (Draw style turns) bytes status text = IsDrawReply form turns bytes status text
 
 -- the line for words that can't be read
 abbrev pub not_text : List ℕ

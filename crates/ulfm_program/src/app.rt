@@ -19,8 +19,8 @@ use std::time::Clock;
 use ulfm_findings::{InputFault, read_front, write_whole};
 use ulfm_json::Form;
 use ulfm_replies::{
-    Asked, DONE, Failure, INPUT_FAILED, JOB_REFUSED, NO_SCHEDULE, OUTPUT_FAILED, RUN_FAILED, USAGE, Unfollowed,
-    asked_for, failed_line, write_fault, write_notes,
+    Asked, DONE, Failure, INPUT_FAILED, JOB_REFUSED, NO_SCHEDULE, OUTPUT_FAILED, RUN_FAILED, USAGE,
+    Unfollowed, asked_for, failed_line, write_fault, write_notes,
 };
 
 /// What is written where a word can't be read.

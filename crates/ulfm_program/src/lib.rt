@@ -11,6 +11,7 @@ mod brief;
 mod files;
 mod listed;
 mod looking;
+mod picture;
 mod progress;
 mod reply;
 mod run;

@@ -4,6 +4,7 @@ ghost use Rattle.ulfm_program.specs.Replies.{IsReplayReply, IsReplyTo};
 ghost use Rattle.ulfm_replies.specs.CommandLine.{AreTurns, HasRanges};
 
 use crate::listed::list_reply;
+use crate::picture::draw_reply;
 use crate::run::run_reply;
 use crate::swept::sweep_reply;
 use crate::turns::given_turns;
@@ -58,5 +59,6 @@ where
         Wanted::Run(options) => run_reply(rt, alloc, form, options, bytes),
         Wanted::Sweep => sweep_reply(alloc, form, bytes),
         Wanted::Outcomes(options) => list_reply(alloc, form, asked.show, options, bytes, watch),
+        Wanted::Draw { style, turns } => draw_reply(alloc, form, style, turns, bytes),
     }
 }

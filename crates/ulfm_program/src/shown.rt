@@ -1,11 +1,12 @@
 //! The reply of `outcomes --show`: a schedule that shows answers.
 ghost use Rattle.std.specs.Prelude.{◌≡◌, Some, IfOk, option_map, string_bytes};
 ghost use Rattle.ulfm_program.specs.Outcomes.{IsShowReply, no_goal, nowhere_in};
-ghost use Rattle.ulfm_program.specs.inside.Looking.{look_in, look_status, told_view};
+ghost use Rattle.ulfm_program.specs.inside.Looking.{IsLookText, look_status, told_view};
 
 use crate::looking::look_for;
 use crate::told::{Told, push_told};
 use std::alloc::{AllocError, Global};
+use ulfm_draw::{Style, drawn};
 use ulfm_json::Form;
 use ulfm_outcomes::Goals;
 use ulfm_reach::Watch;
@@ -33,15 +34,8 @@ pub fn show_reply<W: Watch>(
     };
     let goals = Goals::of(alloc, answers.as_slice())?;
     let limit = options.limit as usize;
-    let look = look_for(
-        alloc,
-        &asked.job,
-        &goals,
-        options.is_brief,
-        limit,
-        watch,
-    )?;
-    look_reply(alloc, form, &look)
+    let look = look_for(alloc, &asked.job, &goals, options.is_brief, limit, watch)?;
+    look_reply(alloc, form, options.drawn, &look)
 }
 
 /// What stands before a goal that names no answer of the job.
@@ -58,19 +52,17 @@ fn no_goal(alloc: Global, text: &str) -> Result<Reply, AllocError>
     })
 }
 
-/// The reply to what came of a search.
-fn look_reply(alloc: Global, form: Form, look: &Option<Told>) -> Result<Reply, AllocError>
-    ensures { IfOk result (λ r. (r.status ≡ look_status (option_map told_view look.now)) × (string_bytes r.text ≡ look_in form (option_map told_view look.now))) }
+/// The reply to what came of a search, whose schedule is drawn where it is to be.
+fn look_reply(
+    alloc: Global,
+    form: Form,
+    style: Option<Style>,
+    look: &Option<Told>,
+) -> Result<Reply, AllocError>
+    ensures { IfOk result (λ r. (r.status ≡ look_status (option_map told_view look.now)) × IsLookText form style (option_map told_view look.now) (string_bytes r.text)) }
 {
     match look {
-        Some(told) => {
-            let mut text = String::new(alloc);
-            push_told(&mut text, form, told)?;
-            Ok(Reply {
-                status: status_of(told),
-                text,
-            })
-        }
+        Some(told) => told_reply(alloc, form, style, told),
         None => {
             let text = String::from_str(alloc, nowhere(form))?;
             Ok(Reply {
@@ -79,6 +71,27 @@ fn look_reply(alloc: Global, form: Form, look: &Option<Told>) -> Result<Reply, A
             })
         }
     }
+}
+
+/// The reply of what is told.
+fn told_reply(
+    alloc: Global,
+    form: Form,
+    style: Option<Style>,
+    told: &Told,
+) -> Result<Reply, AllocError>
+    ensures { IfOk result (λ r. (r.status ≡ look_status (Some (told_view told.now))) × IsLookText form style (Some (told_view told.now)) (string_bytes r.text)) }
+{
+    if let (Told::Schedule(schedule), Some(style)) = (told, style) {
+        let text = drawn(alloc, style, schedule.as_str())?;
+        return Ok(Reply { status: DONE, text });
+    }
+    let mut text = String::new(alloc);
+    push_told(&mut text, form, told)?;
+    Ok(Reply {
+        status: status_of(told),
+        text,
+    })
 }
 
 /// The status of what is told.

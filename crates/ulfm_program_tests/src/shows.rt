@@ -18,7 +18,7 @@ const EXPECTED: &str =
     "ranks = 2\ncapacity = 1\nturns = 3\nstep = [\n{rank = 0, op = \"send\", to = 1, tag = 0, body = \"\"},\n{rank = 0, op = \"stop\"},\n{rank = 1, op = \"recv\", from = 0},\n{rank = 1, op = \"wait\", req = 0, expect = [\"done\"]},\n]\n";
 
 /// Whether the reply to these words and this job has this status, and this part in its text.
-fn gives<R: AllocGlobal + Threads + Wait + Clock + Sync>(
+pub(crate) fn gives<R: AllocGlobal + Threads + Wait + Clock + Sync>(
     rt: &R,
     words: &[&str],
     job: &str,
@@ -85,7 +85,15 @@ fn what_a_job_does_not_want_has_a_schedule(rt: HostRuntime) {
             "}\n{\"not_as_expected\":{\"rank\":1,\"step\":1},\"schedule\":[\"events:\","
         )
     );
-    assert!(rt; gives(&rt, &list, LOST, 9, " schedule\ncome together: never[0]\nevents:\n"));
+    assert!(rt;
+        gives(
+            &rt,
+            &list,
+            LOST,
+            9,
+            " schedule\ncome together: never[0]\nevents:\n"
+        )
+    );
     assert!(rt; gives(&rt, &list, HANG, 0, " states, some step never ends\n"));
     assert!(rt; gives(&rt, &strict, HANG, 6, " states, some step never ends\n"));
 }

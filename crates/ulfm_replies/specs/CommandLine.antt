@@ -8,7 +8,9 @@ use Rattle.ulfm_replies.specs.declared.command.Carrier.TheVariants.{Lanes, Share
 use Rattle.ulfm_replies.specs.declared.command.ListOptions.{ListOptions}
 use Rattle.ulfm_replies.specs.declared.command.RunOptions.{RunOptions}
 use Rattle.ulfm_replies.specs.declared.command.Wanted.{Wanted}
-use Rattle.ulfm_replies.specs.declared.command.Wanted.TheVariants.{Check, Replay, Run, Sweep, Outcomes}
+use Rattle.ulfm_replies.specs.declared.command.Wanted.TheVariants.{Check, Replay, Run, Sweep, Outcomes, Draw}
+use Rattle.ulfm_draw.specs.declared.style.Style.{Style}
+use Rattle.ulfm_draw.specs.declared.style.Style.TheVariants as style
 use Rattle.ulfm_json.specs.declared.form.Form.{Form}
 use Rattle.ulfm_json.specs.declared.form.Form.TheVariants.{Words, Json}
 use Rattle.clap.specs.ValueTests.{accepts}
@@ -99,13 +101,29 @@ progress_rule = record (new_rule (codes "progress")) { long = Some (codes "progr
 abbrev pub show_rule : Rule
 show_rule = record (new_rule (codes "show")) { long = Some (codes "show"); value_names = 1 }
 
+-- a flag of this name
+abbrev pub flag_rule : Text → Rule
+flag_rule name = record (new_rule name) { long = Some name; action = Some SetTrue }
+
+-- a command with the forms of a picture: the flags `--mermaid` and `--text`
+abbrev pub of_pictures : App → App
+of_pictures app = with_rule (with_rule app (flag_rule (codes "mermaid"))) (flag_rule (codes "text"))
+
+-- a command with the flag `--draw`, and with the forms of a picture
+abbrev pub of_schedules : App → App
+of_schedules app = of_pictures (with_rule app (flag_rule (codes "draw")))
+
+-- the command `draw` with its options
+abbrev pub draw_app : App
+draw_app = of_jobs (of_pictures (with_rule (new_app (codes "draw")) turns_rule))
+
 -- the command `outcomes` with its options
 abbrev pub outcomes_app : App
-outcomes_app = of_jobs (with_rule (with_rule (with_rule (with_rule (with_rule (new_app (codes "outcomes")) show_rule) brief_rule) strict_rule) (number_rule (codes "limit") most_states)) progress_rule)
+outcomes_app = of_jobs (of_schedules (with_rule (with_rule (with_rule (with_rule (with_rule (new_app (codes "outcomes")) show_rule) brief_rule) strict_rule) (number_rule (codes "limit") most_states)) progress_rule))
 
 -- the whole command line
 abbrev pub tool_app : App
-tool_app = with_subcommand (with_subcommand (with_subcommand (with_subcommand (with_subcommand demanding_app check_app.top) replay_app.top) run_app.top) sweep_app.top) outcomes_app.top
+tool_app = with_subcommand (with_subcommand (with_subcommand (with_subcommand (with_subcommand (with_subcommand demanding_app check_app.top) replay_app.top) run_app.top) sweep_app.top) outcomes_app.top) draw_app.top
 
 -- the subcommand that the words name, and what was met of its options
 unfoldable pub asked : List Text → Option (Text × List Row)
@@ -155,6 +173,14 @@ run_options rows = option_map (options_by rows) (carrier_named (first_of (codes 
 abbrev pub limit_in : List Row → ℕ
 limit_in rows = unwrap_or (number_given most_states (first_of (codes "limit") rows)) usual_states
 
+-- the form of a picture
+abbrev pub style_of : List Row → Style
+style_of rows = if is_flagged (codes "mermaid") rows then style.Mermaid else (if is_flagged (codes "text") rows then style.Text else style.Svg)
+
+-- the form of the picture that is drawn of a schedule, if one is to be
+abbrev pub drawn_in : List Row → Option Style
+drawn_in rows = if is_flagged (codes "draw") rows then Some (style_of rows) else None
+
 -- what the options of `outcomes` ask for
 abbrev pub list_options : List Row → ListOptions
 list_options rows = record {
@@ -162,6 +188,7 @@ list_options rows = record {
   is_strict = is_strict rows;
   wants_progress = wants_progress rows;
   is_brief = is_flagged (codes "brief") rows;
+  drawn = drawn_in rows;
 }
 
 -- the command of a name, with its options
@@ -172,7 +199,8 @@ named name rows =
     else (if bytes_eq name (codes "run") then option_map Run (run_options rows)
     else (if bytes_eq name (codes "sweep") then Some Sweep
     else (if bytes_eq name (codes "outcomes") then Some (Outcomes (list_options rows))
-    else None))))
+    else (if bytes_eq name (codes "draw") then Some (Draw (style_of rows) (turns_in rows))
+    else None)))))
 
 -- what a subcommand and its options mean
 abbrev pub meant : Option (Text × List Row) → Option Wanted
@@ -237,6 +265,7 @@ abbrev pub HasRanges : Wanted → Type 0
 HasRanges (Replay is_strict turns) = AreTurns turns
 HasRanges (Run options) = AreInRange options
 HasRanges (Outcomes options) = IsLimit options.limit
+HasRanges (Draw style turns) = AreTurns turns
 HasRanges _ = ⊤
 
 -- the status of a kind of fault: help is no failure

@@ -1,8 +1,9 @@
 //! The command line.
 ghost use Rattle.std.specs.Prelude.{◌≡◌, [], codes, Some, map, option_map, unwrap_or, IfOk, IfSome};
 ghost use Rattle.clap.specs.Words.{FailsBy, all_of, first_of, found_of, kind_of, rows_of, subcommand_rows_of};
-ghost use Rattle.ulfm_replies.specs.CommandLine.{AreInRange, HasRanges, asked, carrier_named, IsLimit, faults, form_asked, form_in, form_of, is_flagged, is_strict, AreTurns, wants_progress, files_in, limit_in, list_options, meant, named, run_options, show_asked, show_in, turns_in};
+ghost use Rattle.ulfm_replies.specs.CommandLine.{AreInRange, HasRanges, asked, carrier_named, IsLimit, drawn_in, faults, form_asked, form_in, form_of, is_flagged, is_strict, AreTurns, wants_progress, files_in, limit_in, list_options, meant, named, run_options, show_asked, show_in, style_of, turns_in};
 
+use crate::flagged::{drawn_in, is_flagged, is_strict, style_of, wants_progress};
 use crate::number::number_given;
 use crate::options::{MOST_RUNS, MOST_STATES, MOST_TURNS, USUAL_STATES};
 use crate::subcommands::command_line;
@@ -10,6 +11,7 @@ use clap::error::ErrorKind;
 use clap::{ArgMatches, Command, Error};
 use std::alloc::{AllocError, Global};
 use std::convert::AsStr;
+use ulfm_draw::Style;
 use ulfm_json::Form;
 
 /// What takes the items of a run from rank to rank.
@@ -47,6 +49,8 @@ pub struct ListOptions {
     pub wants_progress: bool,
     /// Whether a schedule is told without the events that it can do without.
     pub is_brief: bool,
+    /// The form in which the schedule that is shown is drawn, where it is to be.
+    pub drawn: Option<Style>,
 }
 
 /// What the words ask for.
@@ -67,6 +71,13 @@ pub enum Wanted {
     Sweep,
     /// A line for each step, with all that it may be answered, or a schedule that shows some of it.
     Outcomes(ListOptions),
+    /// A picture of a replay.
+    Draw {
+        /// Its form.
+        style: Style,
+        /// The turns of the job, in place of its own, 1 to 10,000,000.
+        turns: Option<u32>,
+    },
 }
 
 /// What the words ask for, and of which files.
@@ -148,6 +159,10 @@ fn named(name: &str, options: &ArgMatches<'_>) -> Option<Wanted>
         },
         "sweep" => Some(Wanted::Sweep),
         "outcomes" => Some(Wanted::Outcomes(list_options(options))),
+        "draw" => Some(Wanted::Draw {
+            style: style_of(options),
+            turns: turns_in(options),
+        }),
         _ => None,
     }
 }
@@ -179,6 +194,7 @@ fn list_options(options: &ArgMatches<'_>) -> ListOptions
         is_strict: is_strict(options),
         wants_progress: wants_progress(options),
         is_brief: is_flagged(options, "brief"),
+        drawn: drawn_in(options),
     }
 }
 
@@ -250,7 +266,7 @@ fn limit_in(options: &ArgMatches<'_>) -> u32
 }
 
 /// The first value that was found of an option, by its name.
-fn value_of<'a>(options: &ArgMatches<'a>, name: &str) -> Option<&'a str>
+pub(crate) fn value_of<'a>(options: &ArgMatches<'a>, name: &str) -> Option<&'a str>
     ensures { option_map (λ s. s.now) result ≡ first_of name.now (rows_of (found_of options.now)) }
 {
     options.get_str(name)
@@ -264,29 +280,5 @@ fn carrier_named(name: Option<&str>) -> Option<Carrier>
         Some("lanes") => Some(Carrier::Lanes),
         Some("shared") => Some(Carrier::Shared),
         _ => None,
-    }
-}
-
-/// Whether the flag `--strict` was given.
-fn is_strict(options: &ArgMatches<'_>) -> bool
-    ensures { result ≡ is_strict (rows_of (found_of options.now)) }
-{
-    is_flagged(options, "strict")
-}
-
-/// Whether the flag `--progress` was given.
-fn wants_progress(options: &ArgMatches<'_>) -> bool
-    ensures { result ≡ wants_progress (rows_of (found_of options.now)) }
-{
-    is_flagged(options, "progress")
-}
-
-/// Whether a flag was given, by its name.
-fn is_flagged(options: &ArgMatches<'_>, name: &str) -> bool
-    ensures { result ≡ is_flagged name.now (rows_of (found_of options.now)) }
-{
-    match value_of(options, name) {
-        Some(text) => text == "true",
-        None => false,
     }
 }

@@ -14,6 +14,7 @@ mod asked;
 mod asking;
 mod command;
 mod failure;
+mod flagged;
 mod help;
 mod notes;
 mod number;

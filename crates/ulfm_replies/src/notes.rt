@@ -76,6 +76,8 @@ fn notes_on(
         (JOB_REFUSED, _) => refused_lines(alloc, &explain(alloc, bytes)?, reply.text.as_str()),
         (DONE, Wanted::Check) => lines_of(alloc, "warning: ", &warnings(alloc, bytes)?),
         (PAST_LIMIT, _) => String::from_str(alloc, MANY_STATES),
+        // A picture has all of it.
+        (_, Wanted::Draw { .. }) => Ok(String::new(alloc)),
         // The words of a trace are looked through for the others, and objects have none.
         _ if form == Form::Json => Ok(String::new(alloc)),
         (NOT_EXPECTED, Wanted::Outcomes(_)) => {

@@ -1,7 +1,7 @@
 //! The options of the commands.
 ghost use Rattle.std.specs.Prelude.{◌≡◌, false};
 ghost use Rattle.clap.specs.Words.{rule_of};
-ghost use Rattle.ulfm_replies.specs.CommandLine.{brief_rule, carrier_rule, json_rule, file_rule, number_rule, progress_rule, show_rule, strict_rule, turns_rule};
+ghost use Rattle.ulfm_replies.specs.CommandLine.{brief_rule, carrier_rule, flag_rule, json_rule, file_rule, number_rule, progress_rule, show_rule, strict_rule, turns_rule};
 
 use clap::builder::ValueParser;
 use clap::{Arg, ArgAction};
@@ -96,6 +96,17 @@ pub fn json_flag<'a>(alloc: Global) -> Arg<'a>
     Arg::new(alloc, "json")
         .long("json")
         .help("Writes JSON, an object a line")
+        .action(ArgAction::SetTrue)
+}
+
+/// A flag of this name, with what it does.
+pub fn plain_flag<'a>(alloc: Global, name: &'a str, help: &'a str) -> Arg<'a>
+    ensures rule { rule_of result ≡ flag_rule name.entry.now }
+    ensures local { result.global ≡ false }
+{
+    Arg::new(alloc, name)
+        .long(name)
+        .help(help)
         .action(ArgAction::SetTrue)
 }
 

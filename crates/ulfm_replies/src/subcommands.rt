@@ -2,12 +2,12 @@
 ghost use Rattle.std.specs.Prelude.{◌≡◌, false, IfOk};
 ghost use Rattle.clap.specs.declared.builder.command.Command.TheViews.{out-Command};
 ghost use Rattle.clap.specs.Words.{app_of};
-ghost use Rattle.ulfm_replies.specs.CommandLine.{check_app, demanding_app, of_jobs, outcomes_app, replay_app, run_app, sweep_app, tool_app};
+ghost use Rattle.ulfm_replies.specs.CommandLine.{check_app, demanding_app, draw_app, of_jobs, of_pictures, of_schedules, outcomes_app, replay_app, run_app, sweep_app, tool_app};
 
 use crate::help::HELP;
 use crate::options::{
     MOST_RUNS, MOST_STATES, brief_flag, carrier_option, files, json_flag, number_option,
-    progress_flag, show_option, strict_flag, turns_option,
+    plain_flag, progress_flag, show_option, strict_flag, turns_option,
 };
 use crate::version::VERSION;
 use clap::Command;
@@ -21,7 +21,8 @@ pub fn command_line<'a>(alloc: Global) -> Result<Command<'a>, AllocError>
     let command = command.subcommand(replay_command(alloc)?)?;
     let command = command.subcommand(run_command(alloc)?)?;
     let command = command.subcommand(sweep_command(alloc)?)?;
-    command.subcommand(outcomes_command(alloc)?)
+    let command = command.subcommand(outcomes_command(alloc)?)?;
+    command.subcommand(draw_command(alloc)?)
 }
 
 /// The command `ulfm` without its commands.
@@ -131,5 +132,50 @@ fn outcomes_command<'a>(alloc: Global) -> Result<Command<'a>, AllocError>
     );
     let command = command.arg(limit)?;
     let command = command.arg(progress_flag(alloc))?;
+    let command = of_schedules(alloc, command)?;
+    of_jobs(alloc, command)
+}
+
+/// A command with the flag `--draw`, and with the forms of a picture.
+fn of_schedules<'a>(alloc: Global, command: Command<'a>) -> Result<Command<'a>, AllocError>
+    requires { (out-Command command).has_globals ≡ false }
+    ensures app { IfOk result (λ r. app_of r ≡ of_schedules (app_of command.entry)) }
+    ensures local { IfOk result (λ r. (out-Command r).has_globals ≡ false) }
+{
+    let draw = plain_flag(alloc, "draw", "With --show draws the schedule, as SVG");
+    let command = command.arg(draw)?;
+    of_pictures(alloc, command)
+}
+
+/// A command with the forms of a picture: the flags `--mermaid` and `--text`.
+fn of_pictures<'a>(alloc: Global, command: Command<'a>) -> Result<Command<'a>, AllocError>
+    requires { (out-Command command).has_globals ≡ false }
+    ensures app { IfOk result (λ r. app_of r ≡ of_pictures (app_of command.entry)) }
+    ensures local { IfOk result (λ r. (out-Command r).has_globals ≡ false) }
+{
+    let mermaid = plain_flag(
+        alloc,
+        "mermaid",
+        "Draws a Mermaid sequence diagram in place of SVG",
+    );
+    let command = command.arg(mermaid)?;
+    let text = plain_flag(
+        alloc,
+        "text",
+        "Draws text in place of SVG, a column for each rank",
+    );
+    command.arg(text)
+}
+
+/// The command `draw` with its options.
+fn draw_command<'a>(alloc: Global) -> Result<Command<'a>, AllocError>
+    ensures app { IfOk result (λ command. app_of command ≡ draw_app) }
+    ensures local { IfOk result (λ command. (out-Command command).has_globals ≡ false) }
+{
+    let command = Command::new(alloc, "draw")
+        .about("Plays a job round by round and draws what its ranks did, as SVG")
+        .after_help("Example: ulfm draw jobs/one_letter.toml > run.svg")
+        .arg(turns_option(alloc))?;
+    let command = of_pictures(alloc, command)?;
     of_jobs(alloc, command)
 }

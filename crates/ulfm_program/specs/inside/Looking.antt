@@ -7,6 +7,7 @@ use Rattle.ulfm_job.specs.Job.{JobView}
 use Rattle.ulfm_outcomes.specs.Goals.{AreOfClauses, IsPossible}
 use Rattle.ulfm_outcomes.specs.declared.goals.Goals.{Goals}
 use Rattle.ulfm_outcomes.specs.declared.open_step.OpenStep.{OpenStep}
+use Rattle.ulfm_draw.specs.declared.style.Style.{Style}
 use Rattle.ulfm_json.specs.declared.form.Form.{Form}
 use Rattle.ulfm_program.specs.Outcomes.{IsTold, NoneComes, Told, many, nowhere_in, schedule, told_in}
 use Rattle.ulfm_program.specs.declared.listed.FirstRow.{FirstRow}
@@ -52,10 +53,11 @@ look_status None = 8
 look_status (Some (schedule text)) = 0
 look_status (Some (many limit)) = 7
 
--- its text, in this form
-abbrev pub look_in : Form → Option Told → List ℕ
-look_in form None = nowhere_in form
-look_in form (Some told) = told_in form told
+-- the text of what came of a search: that, where it is no schedule that is to be drawn
+abbrev pub IsLookText : Form → Option Style → Option Told → List ℕ → Type 0
+IsLookText form drawn None text = text ≡ nowhere_in form
+IsLookText form drawn (Some (schedule words)) text = drawn ≡ None → text ≡ told_in form (schedule words)
+IsLookText form drawn (Some (many limit)) text = text ≡ told_in form (many limit)
 
 -- the status of a list below which this is told of a row
 abbrev pub row_status : Told → ℕ

@@ -1,4 +1,4 @@
-use Rattle.std.proofs.Common.{List, ap, subst, sym, ◌∙◌}
+use Rattle.std.proofs.Common.{List, ap, string_bytes, subst, sym, ◌∙◌}
 use Rattle.std.proofs.lemmas.Result.{IfOk-weaker}
 use Rattle.ulfm_job.specs.declared.clause.Clause.{Clause}
 use Rattle.ulfm_outcomes.specs.Goals.{AreOfClauses}
@@ -23,5 +23,5 @@ pub returns : goal.returns
 returns g c =
     let asked = c.in-Ok.asked in
     let named = goals_asked c.args.bytes.now c.args.show.now asked c.in-Ok.ensures ∙ sym c.in_ok-answers.ensures ∙ ap goals_view c.in-Ok-2.is in
-    IfOk-weaker c.look_reply.result _ _ (λ r h. rw (h.0, h.1) (show_as c.args.form c.args.options c.args.show.now c.args.bytes.now asked.job c.in-Ok-2.answers.items c.in_ok-goals.goals c.in_ok-look.look
-    (job_asked c.args.bytes.now asked c.in-Ok.ensures) named (subst (λ (clauses : List Clause). AreOfClauses clauses c.in_ok-goals.goals) c.as_slice.ensures.value c.in_ok-goals.ensures) c.in_ok-look.ensures)) c.look_reply.ensures
+    IfOk-weaker c.look_reply.result _ _ (λ r h. rw (h.0) (show_as c.args.form c.args.options c.args.show.now c.args.bytes.now asked.job c.in-Ok-2.answers.items c.in_ok-goals.goals c.in_ok-look.look (string_bytes r.text)
+    (job_asked c.args.bytes.now asked c.in-Ok.ensures) named (subst (λ (clauses : List Clause). AreOfClauses clauses c.in_ok-goals.goals) c.as_slice.ensures.value c.in_ok-goals.ensures) c.in_ok-look.ensures h.1)) c.look_reply.ensures

@@ -13,7 +13,7 @@ returns-clause-app c =
     let second = c.in_ok-command-2.ensures.shape c.strict_flag.ensures.local ∙ ap₂ with_rule first c.strict_flag.ensures.rule in
     let third = c.in_ok-command-3.ensures.shape c.turns_option.ensures.local ∙ ap₂ with_rule second c.turns_option.ensures.rule in
     let fourth = c.in_ok-command-4.ensures.shape c.number_option-repeat.ensures.local ∙ ap₂ with_rule third c.number_option-repeat.ensures.rule in
-    let fifth = c.in_ok-command-5.ensures.shape c.brief_flag.ensures.local ∙ ap₂ with_rule fourth c.brief_flag.ensures.rule in
+    let fifth = c.in_ok-command-5.ensures.shape c.brief_flag-brief.ensures.local ∙ ap₂ with_rule fourth c.brief_flag-brief.ensures.rule in
     IfOk-weaker c.of_jobs.result _ _ (λ r h. h ∙ ap of_jobs fifth) c.of_jobs.ensures.app
 
 pub of_jobs-requires : goal.of_jobs-requires
@@ -23,4 +23,4 @@ of_jobs-requires c =
     let second = c.in_ok-command-2.ensures.globals ∙ ap₂ either first c.strict_flag.ensures.local in
     let third = c.in_ok-command-3.ensures.globals ∙ ap₂ either second c.turns_option.ensures.local in
     let fourth = c.in_ok-command-4.ensures.globals ∙ ap₂ either third c.number_option-repeat.ensures.local in
-    c.in_ok-command-5.ensures.globals ∙ ap₂ either fourth c.brief_flag.ensures.local
+    c.in_ok-command-5.ensures.globals ∙ ap₂ either fourth c.brief_flag-brief.ensures.local
