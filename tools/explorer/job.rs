@@ -114,6 +114,26 @@ impl Job {
         }) as Body
     }
 
+    /// Puts a stop before the step `at` of a rank, or behind its last one. Its later steps have a number more, by which others name them.
+    pub fn stop(&mut self, rank: usize, at: usize) -> Option<()> {
+        let steps = self.steps.get_mut(rank).filter(|steps| at <= steps.len())?;
+        let moved = |number: u16| if number as usize >= at { number + 1 } else { number };
+        for step in steps.iter_mut() {
+            match step {
+                Step::Wait { req } | Step::Mrecv { req, .. } | Step::Cancel { req } => *req = moved(*req),
+                _ => {}
+            }
+        }
+        steps.insert(at, Step::Stop);
+        for condition in self.conditions[rank].iter_mut().flatten() {
+            if condition.step >= at {
+                condition.step += 1;
+            }
+        }
+        self.conditions[rank].insert(at, vec![]);
+        Some(())
+    }
+
     pub fn ranks(&self) -> usize {
         self.steps.len()
     }
@@ -122,7 +142,6 @@ impl Job {
     pub fn length(&self, body: Body) -> usize {
         self.bodies[body as usize].len() / 2
     }
-
 }
 
 /// The conditions in which a line ends.

@@ -1,7 +1,8 @@
 //! All outcomes of a job, over every schedule. `tools/explore` builds this and calls it with the job, in the plain form, on standard
 //! input. It shares no code with the program that it checks, and nothing of it is proved.
 //!
-//!     explorer [--carrier lanes|shared] [--reduce NAMES] [--limit N] [--capacity N] [--count]
+//!     explorer [--carrier lanes|shared] [--reduce NAMES] [--limit N] [--capacity N] [--stop R.K]..
+//!              [--count]
 
 mod agree;
 mod ahead;
@@ -42,13 +43,15 @@ struct Asked {
     reductions: Reductions,
     limit: usize,
     capacity: Option<usize>,
+    /// The ranks that stop, and the numbers of the steps before which they do.
+    stops: Vec<(usize, usize)>,
     counts_only: bool,
 }
 
 fn asked(mut words: impl Iterator<Item = String>) -> Option<Asked> {
     let reductions = Reductions::named("key,late")?;
     let mut asked =
-        Asked { carrier: Carrier::Lanes, reductions, limit: 1_000_000, capacity: None, counts_only: false };
+        Asked { carrier: Carrier::Lanes, reductions, limit: 1_000_000, capacity: None, stops: vec![], counts_only: false };
     while let Some(word) = words.next() {
         match word.as_str() {
             "--carrier" => {
@@ -61,6 +64,11 @@ fn asked(mut words: impl Iterator<Item = String>) -> Option<Asked> {
             "--reduce" => asked.reductions = Reductions::named(&words.next()?)?,
             "--limit" => asked.limit = words.next()?.parse().ok()?,
             "--capacity" => asked.capacity = Some(words.next()?.parse().ok()?),
+            "--stop" => {
+                let place = words.next()?;
+                let (rank, at) = place.split_once('.')?;
+                asked.stops.push((rank.parse().ok()?, at.parse().ok()?));
+            }
             "--count" => asked.counts_only = true,
             _ => return None,
         }
@@ -71,7 +79,7 @@ fn asked(mut words: impl Iterator<Item = String>) -> Option<Asked> {
 /// The list, or the line that there are too many states; the status is 7 then.
 fn main() {
     let Some(asked) = asked(std::env::args().skip(1)) else {
-        eprintln!("explorer: [--carrier lanes|shared] [--reduce NAMES] [--limit N] [--capacity N] [--count]");
+        eprintln!("explorer: [--carrier lanes|shared] [--reduce NAMES] [--limit N] [--capacity N] [--stop R.K].. [--count]");
         exit(2)
     };
     let mut text = String::new();
@@ -84,6 +92,12 @@ fn main() {
         }
     };
     job.capacity = asked.capacity.unwrap_or(job.capacity);
+    for (rank, at) in asked.stops {
+        if job.stop(rank, at).is_none() {
+            eprintln!("explorer: the job has no step {rank}.{at}");
+            exit(2)
+        }
+    }
     let mut search = Search::new(&job, asked.carrier, asked.reductions);
     if !search.run(asked.limit) {
         println!("more than {} states", asked.limit);
