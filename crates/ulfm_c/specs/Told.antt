@@ -1,5 +1,5 @@
 -- What C is told.
-use Rattle.std.specs.Prelude.{◌≡◌, ℕ, ◌<◌, List, length, Some, slice_get}
+use Rattle.std.specs.Prelude.{◌≡◌, ℕ, List, length, Some, slice_get}
 use Rattle.ulfm_c.specs.declared.told.CGroup.{CGroup}
 
 -- so many members, and the world rank of each by its position
