@@ -1,5 +1,5 @@
 -- Eight members that are told one by one.
-use Rattle.std.proofs.Common.{◌≡◌, ◌<◌, ◌≤◌, ℕ, zero, suc, List, [], ◌∷◌, Some, ap, arith, length, slice_get}
+use Rattle.std.proofs.Common.{◌≡◌, ◌≤◌, ℕ, zero, suc, List, [], ◌∷◌, Some, ap, arith, length, slice_get}
 use Rattle.std.proofs.lemmas.Option.{slice_get_within}
 
 pub eight : (g : List ℕ) (a b c d e f i j : ℕ) → ((r : ℕ) → slice_get g 0 ≡ Some r → a ≡ r) → ((r : ℕ) → slice_get g 1 ≡ Some r → b ≡ r) → ((r : ℕ) → slice_get g 2 ≡ Some r → c ≡ r) → ((r : ℕ) → slice_get g 3 ≡ Some r → d ≡ r) → ((r : ℕ) → slice_get g 4 ≡ Some r → e ≡ r) → ((r : ℕ) → slice_get g 5 ≡ Some r → f ≡ r) → ((r : ℕ) → slice_get g 6 ≡ Some r → i ≡ r) → ((r : ℕ) → slice_get g 7 ≡ Some r → j ≡ r) → (k r : ℕ) → length g ≤ 8 → slice_get g k ≡ Some r → slice_get (a ∷ b ∷ c ∷ d ∷ e ∷ f ∷ i ∷ j ∷ []) k ≡ Some r

@@ -1,4 +1,4 @@
-use Rattle.std.proofs.Common.{◌≡◌, ◌∙◌, refl, sym, inl, inr}
+use Rattle.std.proofs.Common.{refl, inl, inr}
 use Rattle.ulfm_c.proofs.deciding.poll_shrink.Goals as goal
 
 pub returns-in-Ok-Some : goal.returns-in-Ok-Some

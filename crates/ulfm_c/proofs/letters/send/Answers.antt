@@ -1,4 +1,4 @@
-use Rattle.std.proofs.Common.{◌≡◌, ◌∙◌, refl, sym, inl, inr}
+use Rattle.std.proofs.Common.{refl, inl, inr}
 use Rattle.ulfm_c.proofs.letters.send.Goals as goal
 
 pub returns-in-Ok-isend : goal.returns-in-Ok-isend

@@ -1,4 +1,4 @@
-use Rattle.std.proofs.Common.{◌≡◌, ◌∙◌, refl, sym, inl, inr}
+use Rattle.std.proofs.Common.{◌∙◌, refl, sym, inl, inr}
 use Rattle.ulfm_c.proofs.recovery.is_revoked.Goals as goal
 
 pub returns-in-None : goal.returns-in-None

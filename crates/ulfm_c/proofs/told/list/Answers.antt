@@ -1,4 +1,4 @@
-use Rattle.std.proofs.Common.{arith, sym, ◌∙◌}
+use Rattle.std.proofs.Common.{arith}
 use Rattle.ulfm_c.proofs.Members.{eight}
 use Rattle.ulfm_c.proofs.told.list.Goals as goal
 
