@@ -23,8 +23,8 @@ go-ranks [] a b h = ap (λ (r : State). r.ranks) h
 go-ranks (d ∷ ds) a b h = go-ranks ds h.0 b h.4 ∙ ap (λ (r : State). r.ranks) h.3.marked
 
 -- what waits for another rank than that to which an item goes out
-pub outbox_other : (old new : State) (d x : ℕ) (item : Item) → GoesOut old new d item → x ≢ d → outbox new x ≡ outbox old x
-outbox_other old new d x item k other = rw k.marked (rw (get_or-set_other old.marks d x (marked old (mark_at old d)) no_mark other) refl)
+pub box-apart : (old new : State) (d x : ℕ) (item : Item) → GoesOut old new d item → x ≢ d → outbox new x ≡ outbox old x
+box-apart old new d x item k other = rw k.marked (rw (get_or-set_other old.marks d x (marked old (mark_at old d)) no_mark other) refl)
 
 -- nothing goes out
 pub goes-none : (a : ProcessView) → GoesOn a a false

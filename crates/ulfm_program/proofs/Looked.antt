@@ -14,7 +14,7 @@ use Rattle.ulfm_script.specs.Reacting.{begins_in, holds_of}
 use Rattle.ulfm_script.specs.Trace.{answer_text}
 use Rattle.ulfm_script.specs.declared.answer.StepReport.{StepReport}
 use Rattle.ulfm_world.specs.World.{World, IsInside, no_player, player_at}
-use Rattle.ulfm_outcomes.specs.Goals.{IsPossible, StandsOpen, is_answered, is_some_open}
+use Rattle.ulfm_outcomes.specs.Goals.{IsPossible, StandsOpen, is_answered}
 use Rattle.ulfm_outcomes.specs.Outcomes.{IsWholeList}
 use Rattle.ulfm_outcomes.specs.declared.goals.Goals.{Goals}
 use Rattle.ulfm_outcomes.specs.declared.open_step.OpenStep.{OpenStep}

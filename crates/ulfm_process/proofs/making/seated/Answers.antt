@@ -1,4 +1,4 @@
-use Rattle.std.proofs.Common.{◌∙◌, ℕ, suc, false, List, Option, ap, sym, subst, arith, slice_get, All, map}
+use Rattle.std.proofs.Common.{◌∙◌, suc, false, List, ap, sym, subst, arith, slice_get, All, map}
 use Rattle.std.proofs.lemmas.List.Elements.{All-push}
 use Rattle.ulfm_board.specs.declared.seat.Seat.{Seat}
 use Rattle.ulfm_carrier.proofs.Handed.{handed}

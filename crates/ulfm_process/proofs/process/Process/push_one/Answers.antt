@@ -7,7 +7,7 @@ use Rattle.ulfm_rank.proofs.Joining.{joined-pushed, joined-returned}
 use Rattle.ulfm_rank.proofs.Signed.{front_signed}
 use Rattle.ulfm_rank.proofs.States.{comes-back}
 use Rattle.ulfm_rank.specs.State.{RankView, outbox}
-use Rattle.ulfm_process.proofs.Pushing.{outbox_other}
+use Rattle.ulfm_process.proofs.Pushing.{box-apart}
 use Rattle.ulfm_base.specs.declared.rank.WorldRank.{WorldRank}
 use Rattle.ulfm_rank.specs.State.{State}
 use Rattle.ulfm_process.specs.View.{IsAtEnd, ProcessView}
@@ -32,7 +32,7 @@ returns-in-Ok c =
       stays = λ e. absurd (false≢true (sym e));
       stuck = λ e. absurd (false≢true (sym e));
       others = λ p other stuck. elim stuck [
-        | inl none ↦ inl (outbox_other c.self.inside.rank.state c.take_out.new.self.state c.args.dest p c.in-Some.item leaves other ∙ none)
+        | inl none ↦ inl (box-apart c.self.inside.rank.state c.take_out.new.self.state c.args.dest p c.in-Some.item leaves other ∙ none)
         | inr full ↦ inr (t.other_rooms p other ∙ full)
       ];
       takes_none = record { seen = λ s. ap (λ ins. slice_index_or (map seen_in ins.items) s []) t.inbox.0; same = record { end = t.name.0; board = refl; known = refl } };
