@@ -11,8 +11,8 @@ use Rattle.ulfm_replies.specs.Unfinished.{has_unfinished, played_status}
 use Rattle.ulfm_json.specs.declared.form.Form.{Form}
 use Rattle.ulfm_replies.specs.declared.command.RunOptions.{RunOptions}
 use Rattle.ulfm_replies.specs.declared.command.Wanted.{Wanted}
-use Rattle.ulfm_replies.specs.declared.command.Wanted.TheVariants.{Check, Replay, Run, Sweep, Outcomes}
-use Rattle.ulfm_program.specs.Replies.{IsReplayReply, IsRunReply, IsReplyTo, IsWhole, traced, not_a_job, no_room, failed, ran, repeated, no_such_job, no_place, no_thread, untrue, fell, given_turns}
+use Rattle.ulfm_replies.specs.declared.command.Wanted.TheVariants.{Check, Replay, Run, Sweep, Outcomes, Draw}
+use Rattle.ulfm_program.specs.Replies.{IsDrawReply, drawn, not_drawn, no_memory_to_draw, undrawn, IsReplayReply, IsRunReply, IsReplyTo, IsWhole, traced, not_a_job, no_room, failed, ran, repeated, no_such_job, no_place, no_thread, untrue, fell, given_turns}
 use Rattle.ulfm_program.specs.Sweep.{IsSweepReply, swept, unread, full, unmade, unswept}
 use Rattle.ulfm_program.specs.Outcomes.{IsJudged, IsOutcomesReply, IsShowReply, list_status, good, unmet, together, unsearched, listed, past_limit, not_listed, no_memory_to_read, unlisted, shown, nowhere, too_many, unnamed, not_shown, no_memory_to_show, unshown}
 use Rattle.ulfm_replies.specs.declared.command.ListOptions.{ListOptions}
@@ -65,6 +65,12 @@ sweep_known form bytes status text (full job is many) = no_job
 sweep_known form bytes status text unmade = no_job
 sweep_known form bytes status text (unswept told) = run_fails
 
+drawn_known : (form : Form) (turns : Option ℕ) (bytes : List ℕ) (status : ℕ) (text : List ℕ) → IsDrawReply form turns bytes status text → IsKnown status
+drawn_known form turns bytes status text (drawn job reports picture is played_so lawful rest) = good_job
+drawn_known form turns bytes status text (not_drawn f is) = no_job
+drawn_known form turns bytes status text no_memory_to_draw = no_job
+drawn_known form turns bytes status text (undrawn told) = run_fails
+
 past : IsKnown 7
 past = record { few = omega arith; whole = ((λ e. omega (arith, e)), (λ e. omega (arith, e))) }
 
@@ -90,7 +96,7 @@ list_known form options bytes status text no_memory_to_read = no_job
 list_known form options bytes status text (unlisted told) = run_fails
 
 show_known : (form : Form) (options : ListOptions) (show bytes : List ℕ) (status : ℕ) (text : List ℕ) → IsShowReply form options show bytes status text → IsKnown status
-show_known form options show bytes status text (shown job answers is named goals are words told) = good_job
+show_known form options show bytes status text (shown job answers is named goals are words picture told same) = good_job
 show_known form options show bytes status text (nowhere job answers is named goals are not) = record { few = omega arith; whole = ((λ e. omega (arith, e)), (λ e. omega (arith, e))) }
 show_known form options show bytes status text (too_many job answers is named goals are told) = past
 show_known form options show bytes status text (unnamed job part is named) = no_job
@@ -103,6 +109,7 @@ known_status form show Check bytes status text h = checked form bytes status tex
 known_status form show (Replay is_strict turns) bytes status text h = replayed form is_strict turns bytes status text h
 known_status form show (Run options) bytes status text h = run_known form options bytes status text h
 known_status form show Sweep bytes status text h = sweep_known form bytes status text h
+known_status form show (Draw style turns) bytes status text h = drawn_known form turns bytes status text h
 known_status form None (Outcomes options) bytes status text h = list_known form options bytes status text h
 known_status form (Some goals) (Outcomes options) bytes status text h = show_known form options goals bytes status text h
 
@@ -145,12 +152,16 @@ no_usage form show Sweep bytes status text (unread f is) = λ e. omega (arith, e
 no_usage form show Sweep bytes status text (full job is many) = λ e. omega (arith, e)
 no_usage form show Sweep bytes status text unmade = λ e. omega (arith, e)
 no_usage form show Sweep bytes status text (unswept told) = λ e. omega (arith, e)
+no_usage form show (Draw style turns) bytes status text (drawn job reports picture is played_so lawful rest) = λ e. omega (arith, e)
+no_usage form show (Draw style turns) bytes status text (not_drawn f is) = λ e. omega (arith, e)
+no_usage form show (Draw style turns) bytes status text no_memory_to_draw = λ e. omega (arith, e)
+no_usage form show (Draw style turns) bytes status text (undrawn told) = λ e. omega (arith, e)
 no_usage form None (Outcomes options) bytes status text (listed job reached k words is all judged) = judged_not_usage form options job _ _ _ status text judged
 no_usage form None (Outcomes options) bytes status text (past_limit job is many) = λ e. omega (arith, e)
 no_usage form None (Outcomes options) bytes status text (not_listed f is) = λ e. omega (arith, e)
 no_usage form None (Outcomes options) bytes status text no_memory_to_read = λ e. omega (arith, e)
 no_usage form None (Outcomes options) bytes status text (unlisted told) = λ e. omega (arith, e)
-no_usage form (Some wished) (Outcomes options) bytes status text (shown job answers is named goals are words told) = λ e. omega (arith, e)
+no_usage form (Some wished) (Outcomes options) bytes status text (shown job answers is named goals are words picture told same) = λ e. omega (arith, e)
 no_usage form (Some wished) (Outcomes options) bytes status text (nowhere job answers is named goals are not) = λ e. omega (arith, e)
 no_usage form (Some wished) (Outcomes options) bytes status text (too_many job answers is named goals are told) = λ e. omega (arith, e)
 no_usage form (Some wished) (Outcomes options) bytes status text (unnamed job part is named) = λ e. omega (arith, e)
