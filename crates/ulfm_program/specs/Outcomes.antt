@@ -71,9 +71,13 @@ abbrev pub unmet_in : Form → Unmet → Told → List ℕ
 unmet_in Words unmet told = unmet_words unmet ++ told_words told
 unmet_in Json unmet told = unmet_json unmet ++ told_json told ++ codes "}\n"
 
+-- that all answers of a row of `never` come together, by its number, from 0, in words
+abbrev pub row_words : ℕ → List ℕ
+row_words number = codes "come together: never[" ++ decimal number ++ codes "]\n"
+
 -- a row of `never` by its number, from 0, and what was told of it
 abbrev pub row_in : Form → ℕ → Told → List ℕ
-row_in Words number told = codes "come together: never[" ++ decimal number ++ codes "]\n" ++ told_words told
+row_in Words number told = row_words number ++ told_words told
 row_in Json number told = codes "{\"never\":" ++ decimal number ++ codes "," ++ told_json told ++ codes "}\n"
 
 -- a schedule of the job shows these goals, in brief if it is to be, and this is its text; or there are more states than the limit

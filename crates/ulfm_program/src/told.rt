@@ -2,7 +2,7 @@
 ghost use Rattle.std.specs.Prelude.{◌≡◌, ◌++◌, codes, map, IfOk, OnOk, string_bytes};
 ghost use Rattle.std.specs.Str.Lines.{lines};
 ghost use Rattle.ulfm_json.specs.Parts.{texts_json};
-ghost use Rattle.ulfm_program.specs.Outcomes.{place_json, row_in, told_in, told_json, told_words, unmet_in, unmet_json, unmet_words};
+ghost use Rattle.ulfm_program.specs.Outcomes.{place_json, row_in, row_words, told_in, told_json, told_words, unmet_in, unmet_json, unmet_words};
 ghost use Rattle.ulfm_program.specs.inside.Looking.{told_view};
 
 use std::alloc::{AllocError, Global};
@@ -87,7 +87,7 @@ pub fn push_row(text: &mut String, form: Form, number: usize, told: &Told) -> Re
 {
     match form {
         Form::Words => {
-            write!(text, "come together: never[{number}]\n")?;
+            push_row_words(text, number)?;
             push_words(text, told)
         }
         Form::Json => {
@@ -96,6 +96,13 @@ pub fn push_row(text: &mut String, form: Form, number: usize, told: &Told) -> Re
             text.push_str("}\n")
         }
     }
+}
+
+/// That all answers of a row come together, by its number, in words.
+fn push_row_words(text: &mut String, number: usize) -> Result<(), AllocError>
+    ensures { OnOk result (string_bytes text.new ≡ string_bytes text.old ++ row_words number) }
+{
+    write!(text, "come together: never[{number}]\n")
 }
 
 /// What was told, in words.
