@@ -41,6 +41,8 @@ void report(const char *format, ...) {
     pthread_mutex_unlock(&lock);
 }
 
+volatile sig_atomic_t is_crashed;
+
 /* A rank crashed: the process can't go on. */
 static void crashed(int number) {
     char line[200];
@@ -49,6 +51,7 @@ static void crashed(int number) {
                           number, number == SIGSEGV ? "segmentation fault" : "see signal(7)", call, me ? me->calls : 0);
     if (write(2, line, (size_t)length) < 0) length = 0;
     report("crash %d %d\n", me ? me->number : -1, number);
+    is_crashed = 1;
     remove_copies();
     signal(number, SIG_DFL);
     end_run(128 + number);

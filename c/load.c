@@ -69,6 +69,7 @@ static bool copy_words(struct rank *rank) {
 
 /* Says why the program can't be loaded, once, and ends the run. */
 static void refuse_program(void) {
+    while (is_crashed) pause();
     static pthread_mutex_t lock = PTHREAD_MUTEX_INITIALIZER;
     char why[512];
     snprintf(why, sizeof why, "%s", dlerror());   /* the next call of the loader takes it away */

@@ -7,6 +7,7 @@
 #include "ulfm.h"
 #include <pthread.h>
 #include <setjmp.h>
+#include <signal.h>
 #include <stdatomic.h>
 #include <stdbool.h>
 #include <stdio.h>
@@ -156,6 +157,8 @@ extern __thread struct rank *me;
 int read_words(int count, char **words);
 bool copy_programs(void);
 void remove_copies(void);
+/* Whether a rank crashed, so that the process ends: a program that can't be loaded then is no fault. */
+extern volatile sig_atomic_t is_crashed;
 int run_program(struct rank *rank);
 void free_words(struct rank *rank);
 int every_stop(const char *launcher);
