@@ -1,4 +1,4 @@
-/* What collectives are made of: letters on the hidden context, each with the number of its collective in its tag. A rank waits for a letter of
+/* What collectives are made of: messages on the hidden context, each with the number of its collective in its tag. A rank waits for a message of
    another one until it comes, or that rank is known to have failed, or the program's communicator is known to be revoked. So a collective in which
    a member failed ends at each member that makes it: at some by success, at others by MPIX_ERR_PROC_FAILED (ULFM). */
 #include "run.h"

@@ -1,5 +1,5 @@
 /* Faults by plan: stops at calls, yields by a seed, and the record of calls for --every-stop. A call counts where it begins something or
-   waits; a test counts where it finds something. Places inside a call are counted too: behind each letter of a collective, and behind the
+   waits; a test counts where it finds something. Places inside a call are counted too: behind each message of a collective, and behind the
    entrance of a shrink or an agreement. */
 #define _GNU_SOURCE
 #include "run.h"

@@ -36,12 +36,12 @@ typedef struct {
     uint32_t holds; /* 1 where it has a rank, else 0 */
 } ulfm_slot;
 
-/* What is told of a letter (MPI 4.0, 3.2.5). */
+/* What is told of a message (MPI 4.0, 3.2.5). */
 typedef struct {
     uint32_t source;    /* the sender's position in the communicator */
     uint32_t tag;       /* 0 to 32,767 */
     uint64_t length;    /* bytes of the body, 0 to 1,024 */
-    uint32_t error;     /* 0: a letter came. ULFM_PROC_FAILED, ULFM_REVOKED, ULFM_TRUNCATED: none did, and why. Else the other fields are 0 */
+    uint32_t error;     /* 0: a message came. ULFM_PROC_FAILED, ULFM_REVOKED, ULFM_TRUNCATED: none did, and why. Else the other fields are 0 */
     uint32_t cancelled; /* 1: the receive was withdrawn (`ulfm_cancel`). Else 0 */
 } ulfm_status;
 
@@ -71,7 +71,7 @@ enum {
     ULFM_OUT_OF_MEMORY = 12, /* a growth was refused */
     ULFM_BAD_SIZE = 13,      /* not 1 to 8 ranks, or a capacity that isn't 1 to 64 */
     ULFM_NOT_ENTERED = 14,   /* no shrink or agreement was entered here */
-    ULFM_TRUNCATED = 15,     /* in a status alone: the letter was longer than the room of its receive, and is gone */
+    ULFM_TRUNCATED = 15,     /* in a status alone: the message was longer than the room of its receive, and is gone */
     ULFM_ENDED = 16,         /* the slot is null or has no rank, or an out parameter is null */
     ULFM_NOT_YET = 17,       /* of polls: nothing came yet, poll again */
     ULFM_PENDING = 18        /* of receives from any source: as 17, and a member failed whose failure isn't acknowledged
@@ -113,12 +113,12 @@ uint32_t ulfm_group_of(ulfm_slot *slot, uint32_t comm, ulfm_group *group);
 /* *position: this rank's position (MPI 4.0, 7.4.1, `MPI_Comm_rank`). 16, 1, 11. */
 uint32_t ulfm_position(ulfm_slot *slot, uint32_t comm, uint32_t *position);
 
-/* Duplicates a communicator: *made has the same group (MPI 4.0, 7.4.2, `MPI_Comm_dup`). It is made here alone, without a letter: each member
+/* Duplicates a communicator: *made has the same group (MPI 4.0, 7.4.2, `MPI_Comm_dup`). It is made here alone, without a message: each member
    has to do the same. Each communicator c has one duplicate, of the number 2c + 1; the next ones are duplicates of the duplicate (1, 3, 7, 15,
    31 of the world's). 16, 1, 10, 6, 8, 9, 12. */
 uint32_t ulfm_dup(ulfm_slot *slot, uint32_t comm, uint32_t *made);
 
-/* ---- Letters ---- */
+/* ---- Messages ---- */
 
 /* Starts a send of `length` bytes to the member `dest` (MPI 4.0, 3.7.2, `MPI_Isend`). It is buffered: done when the call returns. 16, 1 (comm
    past 62), 3, 10, 1, 6, 2, 4, 5, 12. */
@@ -132,16 +132,16 @@ uint32_t ulfm_irecv(ulfm_slot *slot, uint32_t comm, uint32_t source, uint32_t ta
    `body`; of a body that is longer than `size` the first `size` bytes. Give as many bytes as the receive's room. 17, 18: it goes on. 16, 10, 7. */
 uint32_t ulfm_test(ulfm_slot *slot, uint64_t request, ulfm_status *status, uint8_t *body, size_t size);
 
-/* Cancels a receive (MPI 4.0, 3.8.4, `MPI_Cancel` with its completion). 0: it is released; it was withdrawn and gets no letter
+/* Cancels a receive (MPI 4.0, 3.8.4, `MPI_Cancel` with its completion). 0: it is released; it was withdrawn and gets no message
    (status->cancelled is 1), or had ended before, and is answered as by `ulfm_test`. 16, 10, 7. */
 uint32_t ulfm_cancel(ulfm_slot *slot, uint64_t request, ulfm_status *status, uint8_t *body, size_t size);
 
-/* Looks for a letter that a receive with these arguments would get where it was posted now (MPI 4.0, 3.8.1, `MPI_Iprobe`). 0: there is one, and
+/* Looks for a message that a receive with these arguments would get where it was posted now (MPI 4.0, 3.8.1, `MPI_Iprobe`). 0: there is one, and
    *status tells of it. It changes nothing. 17: there is none. 16, 1 (comm past 62), 3, 10, 1, 6, 2, 5 (there is none, and `source` is known to
    have failed). */
 uint32_t ulfm_iprobe(ulfm_slot *slot, uint32_t comm, uint32_t source, uint32_t tag, ulfm_status *status);
 
-/* The same, and the letter becomes a message, which `ulfm_mrecv` alone gets, revoked or not (MPI 4.0, 3.8.2, `MPI_Improbe`). *message: its
+/* The same, and takes the message aside: `ulfm_mrecv` alone gets it, revoked or not (MPI 4.0, 3.8.2, `MPI_Improbe`). *message: its
    number. 16, 1 (comm past 62), 3, 10, 1, 6, 2, 5, 12; 17. */
 uint32_t ulfm_improbe(ulfm_slot *slot, uint32_t comm, uint32_t source, uint32_t tag, uint64_t *message, ulfm_status *status);
 

@@ -13,7 +13,7 @@ static const char usage[] =
     "\n"
     "  -n N               so many ranks\n"
     "  --stop R@K         rank R stops at its K-th call that begins something or waits\n"
-    "  --stop R@K.J       it stops inside that call, at the J-th place: behind a letter of a collective, or in a shrink or an agreement\n"
+    "  --stop R@K.J       it stops inside that call, at the J-th place: behind a message of a collective, or in a shrink or an agreement\n"
     "  --stop R@NAME:K    it stops at its K-th call of NAME, for example 2@MPI_Allreduce:3; NAME:K.J too\n"
     "  --seed S           yields at calls, by the number S, so that schedules differ\n"
     "  --sends wait       MPI_Send and MPI_Isend end as MPI_Ssend and MPI_Issend do\n"

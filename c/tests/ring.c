@@ -1,4 +1,4 @@
-/* Four ranks, each a thread: letters round a ring, rank 2 stops, the others see it, revoke, shrink and go on. */
+/* Four ranks, each a thread: messages round a ring, rank 2 stops, the others see it, revoke, shrink and go on. */
 #include "ulfm.h"
 #include <pthread.h>
 #include <sched.h>
