@@ -7,7 +7,7 @@
 #include <string.h>
 
 struct wish {
-    unsigned free;           /* the planes that can be used, as bits */
+    unsigned free, old;      /* the planes that can be used, and those that were made here before, as bits */
     unsigned begun[PLANES];  /* the collectives that began on each */
     int color, key;          /* of MPI_Comm_split */
 };
@@ -15,6 +15,7 @@ struct wish {
 /* What position 0 tells all. */
 struct decided {
     int plane;
+    bool is_old;             /* a member had it before */
     struct plans plans;
 };
 
@@ -71,15 +72,34 @@ static void decide(const struct comm *team, const struct wish *all, struct decid
         decided->plans.keys[k] = all[k].key;
     }
     decided->plane = common ? __builtin_ctz(common) : PLANES;
-    for (int k = 0; k < team->size && decided->plane < PLANES; k++)
+    for (int k = 0; k < team->size && decided->plane < PLANES; k++) {
         if (all[k].begun[decided->plane] > decided->plans.begun) decided->plans.begun = all[k].begun[decided->plane];
+        decided->is_old = decided->is_old || (all[k].old >> decided->plane & 1);
+    }
     decided->plans.marks = new_marks();
+}
+
+/* Takes away what was sent on a context and never received. */
+static void drop_letters(uint32_t context) {
+    ulfm_status told;
+    uint64_t id;
+    uint8_t letter[BODY];
+    while (ulfm_improbe(me->slot, context, ULFM_ANY, ULFM_ANY, &id, &told) == ULFM_OK)
+        if (ulfm_mrecv(me->slot, id, &told, letter, sizeof letter) != ULFM_OK) return;
+}
+
+/* Takes away what is left of the communicator that a plane had before. All are done with it before any of them sends on the new one. */
+static int empty_plane(struct comm *team, int plane) {
+    char verdict[VERDICT];
+    if (plane < team->chain->planes) drop_letters(team->chain->plane[plane].context);
+    return spread_verdict(team, gather_all(team, 0, 0, 0), verdict, 0);
 }
 
 /* The plane that all members of a team take, and what else they agree on. */
 int agree_on_plane(struct comm *team, int *plane, struct plans *plans) {
     const struct chain *chain = team->chain;
-    struct wish own = {.free = free_planes(chain), .color = plans->colors[0], .key = plans->keys[0]}, all[MAX_RANKS];
+    struct wish own = {.free = free_planes(chain), .old = (1u << chain->planes) - 1, .color = plans->colors[0], .key = plans->keys[0]};
+    struct wish all[MAX_RANKS];
     for (int k = 0; k < chain->planes; k++) own.begun[k] = chain->plane[k].begun;
     struct decided decided = {0};
     char verdict[VERDICT + sizeof decided];
@@ -90,6 +110,7 @@ int agree_on_plane(struct comm *team, int *plane, struct plans *plans) {
     memcpy(&decided, verdict + VERDICT, sizeof decided);
     *plane = decided.plane;
     *plans = decided.plans;
+    if (code == MPI_SUCCESS && decided.is_old) code = empty_plane(team, *plane);
     return code != MPI_SUCCESS || plans->marks ? code : MPI_ERR_NO_MEM;
 }
 
@@ -107,22 +128,11 @@ static int lengthen(struct chain *chain, int plane) {
     return MPI_SUCCESS;
 }
 
-/* Takes away what was sent on a context and never received. */
-static void drop_letters(uint32_t context) {
-    ulfm_status told;
-    uint64_t id;
-    uint8_t letter[BODY];
-    while (ulfm_improbe(me->slot, context, ULFM_ANY, ULFM_ANY, &id, &told) == ULFM_OK)
-        if (ulfm_mrecv(me->slot, id, &told, letter, sizeof letter) != ULFM_OK) return;
-}
-
 /* Makes a communicator of a group on a plane of another one's chain. */
 int make_on_plane(struct comm *of, int plane, const struct group *group, const struct plans *plans, MPI_Comm *made) {
     struct chain *chain = of->chain;
-    bool is_old = plane < chain->planes;
     int code = lengthen(chain, plane);
     if (code != MPI_SUCCESS) return code;
-    if (is_old) drop_letters(chain->plane[plane].context);
     chain->plane[plane].begun = plans->begun;
     struct comm *comm = new_comm(chain, plane, of->handler, group);
     if (!comm) return MPI_ERR_NO_MEM;

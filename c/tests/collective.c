@@ -115,6 +115,8 @@ static void communicators(void) {
     MPI_Wait(&request, MPI_STATUS_IGNORE);
     for (int k = 0; k < 100; k++) {
         MPI_Comm_dup(dup, &again);
+        MPI_Sendrecv(&k, 1, MPI_INT, (rank + 1) % size, k, &y, 1, MPI_INT, (rank + size - 1) % size, k, again, MPI_STATUS_IGNORE);
+        CHECK(y == k);
         MPI_Allreduce(&k, &y, 1, MPI_INT, MPI_MAX, again);
         CHECK(y == k);
         MPI_Comm_free(&again);
