@@ -18,6 +18,15 @@ int begin_collective(struct comm *comm) {
     return is_revoked(comm) ? MPIX_ERR_REVOKED : MPI_SUCCESS;
 }
 
+/* A collective whose arguments are wrong here has its number too: the next one then meets those of the others. */
+int refuse_collective(struct comm *comm, int code) {
+    if (comm) comm->begun++;
+    return code;
+}
+
+/* Whether so many bytes can stand there. */
+bool is_buffer(const void *buffer, size_t bytes) { return bytes == 0 || (buffer && buffer != MPI_IN_PLACE); }
+
 int collect_send(struct comm *comm, int to, const void *bytes, size_t length) {
     int code = send_letter(comm->hidden, comm->place[to], comm->members[to], tag_of(comm), bytes, length, 0);
     plan_inside();
@@ -102,8 +111,11 @@ int MPI_Bcast(void *buf, int count, MPI_Datatype type, int root, MPI_Comm comm) 
     size_t bytes = 0;
     int code;
     ENTER(of, MPI_UNDEFINED, MPI_UNDEFINED);
-    if (!of || !check_buffer(count, type, &bytes, &code)) return fail(of, of ? code : MPI_ERR_COMM);
-    if (root < 0 || root >= of->size) return fail(of, MPI_ERR_ROOT);
+    if (!of) return fail(0, MPI_ERR_COMM);
+    check_buffer(count, type, &bytes, &code);
+    if (root < 0 || root >= of->size) code = MPI_ERR_ROOT;
+    if (code == MPI_SUCCESS && !is_buffer(buf, bytes)) code = MPI_ERR_BUFFER;
+    if (code != MPI_SUCCESS) return fail(of, refuse_collective(of, code));
     code = begin_collective(of);
     return fail(of, code != MPI_SUCCESS ? code : spread(of, buf, bytes, root));
 }

@@ -119,6 +119,7 @@ int MPI_Comm_size(MPI_Comm comm, int *size) {
     struct comm *of = comm_at(comm);
     ENTER_LOOK(of, MPI_UNDEFINED, MPI_UNDEFINED);
     if (!of) return fail(0, MPI_ERR_COMM);
+    WRITES(of, size);
     *size = of->size;
     return MPI_SUCCESS;
 }
@@ -127,6 +128,7 @@ int MPI_Comm_rank(MPI_Comm comm, int *rank) {
     struct comm *of = comm_at(comm);
     ENTER_LOOK(of, MPI_UNDEFINED, MPI_UNDEFINED);
     if (!of) return fail(0, MPI_ERR_COMM);
+    WRITES(of, rank);
     *rank = of->position;
     return MPI_SUCCESS;
 }
@@ -135,6 +137,7 @@ int MPI_Comm_compare(MPI_Comm a, MPI_Comm b, int *result) {
     struct comm *one = comm_at(a), *other = comm_at(b);
     ENTER_LOOK(one, MPI_UNDEFINED, MPI_UNDEFINED);
     if (!one || !other) return fail(0, MPI_ERR_COMM);
+    WRITES(one, result);
     struct group groups[2] = {{one->size, {0}}, {other->size, {0}}};
     memcpy(groups[0].members, one->members, MAX_RANKS);
     memcpy(groups[1].members, other->members, MAX_RANKS);
@@ -147,6 +150,7 @@ int MPI_Comm_set_name(MPI_Comm comm, const char *name) {
     struct comm *of = comm_at(comm);
     ENTER_LOOK(of, MPI_UNDEFINED, MPI_UNDEFINED);
     if (!of) return fail(0, MPI_ERR_COMM);
+    if (!name) return fail(of, MPI_ERR_ARG);
     snprintf(of->name, sizeof of->name, "%s", name);
     return MPI_SUCCESS;
 }
@@ -155,6 +159,7 @@ int MPI_Comm_get_name(MPI_Comm comm, char *name, int *length) {
     struct comm *of = comm_at(comm);
     ENTER_LOOK(of, MPI_UNDEFINED, MPI_UNDEFINED);
     if (!of) return fail(0, MPI_ERR_COMM);
+    WRITES(of, name && length);
     *length = snprintf(name, MPI_MAX_OBJECT_NAME, "%s", of->name);
     return MPI_SUCCESS;
 }
@@ -163,6 +168,7 @@ int MPI_Comm_test_inter(MPI_Comm comm, int *flag) {
     struct comm *of = comm_at(comm);
     ENTER_LOOK(of, MPI_UNDEFINED, MPI_UNDEFINED);
     if (!of) return fail(0, MPI_ERR_COMM);
+    WRITES(of, flag);
     *flag = 0;
     return MPI_SUCCESS;
 }

@@ -42,6 +42,7 @@ static const struct {
 };
 
 int MPI_Error_class(int errorcode, int *errorclass) {
+    if (!errorclass) return MPI_ERR_ARG;
     *errorclass = errorcode & 255;
     return MPI_SUCCESS;
 }
@@ -53,6 +54,7 @@ static const char *text_of(int code) {
 }
 
 int MPI_Error_string(int errorcode, char *string, int *length) {
+    if (!string || !length) return MPI_ERR_ARG;
     *length = snprintf(string, MPI_MAX_ERROR_STRING, "%s", text_of(errorcode));
     return MPI_SUCCESS;
 }
@@ -108,6 +110,7 @@ int MPI_Comm_get_errhandler(MPI_Comm comm, MPI_Errhandler *handler) {
     struct comm *of = comm_at(comm);
     ENTER_LOOK(of, MPI_UNDEFINED, MPI_UNDEFINED);
     if (!of) return fail(0, MPI_ERR_COMM);
+    WRITES(of, handler);
     *handler = of->handler;
     return MPI_SUCCESS;
 }

@@ -8,6 +8,7 @@ struct layout {
     char *at;
     size_t size;
     int count;                     /* of each, where counts is null */
+    bool has_counts;
     const int *counts, *displs;
 };
 
@@ -22,11 +23,24 @@ static size_t length_at(const struct layout *layout, int k) {
 
 /* Why a layout can't be, or MPI_SUCCESS; then it has the size of its elements. */
 static int check(struct layout *layout, MPI_Datatype type, const struct comm *comm) {
+    size_t bytes = 0;
     if (!size_of_type(type, &layout->size)) return MPI_ERR_TYPE;
-    if (!layout->counts) return layout->count < 0 ? MPI_ERR_COUNT : MPI_SUCCESS;
-    for (int k = 0; k < comm->size; k++)
-        if (layout->counts[k] < 0) return MPI_ERR_COUNT;
-    return MPI_SUCCESS;
+    if (layout->has_counts && (!layout->counts || !layout->displs)) return MPI_ERR_ARG;
+    if (!layout->counts && layout->count < 0) return MPI_ERR_COUNT;
+    for (int k = 0; k < comm->size; k++) {
+        if (layout->counts && layout->counts[k] < 0) return MPI_ERR_COUNT;
+        bytes += length_at(layout, k);
+    }
+    return is_buffer(layout->at, bytes) ? MPI_SUCCESS : MPI_ERR_BUFFER;
+}
+
+/* Why the bytes that a rank sends or gets can't be, or MPI_SUCCESS, and how many they are; in place there are none. */
+static int check_own(const void *buffer, int count, MPI_Datatype type, bool may_be_in_place, size_t *bytes) {
+    int code;
+    *bytes = 0;
+    if (may_be_in_place && buffer == MPI_IN_PLACE) return MPI_SUCCESS;
+    if (!check_buffer(count, type, bytes, &code)) return code;
+    return is_buffer(buffer, *bytes) ? MPI_SUCCESS : MPI_ERR_BUFFER;
 }
 
 /* Copies bytes to where there is room for so many. */
@@ -47,12 +61,11 @@ static int gather_to(struct comm *comm, const void *own, size_t length, const st
 
 static int gather(const void *sendbuf, int sendcount, MPI_Datatype sendtype, struct layout *to, MPI_Datatype recvtype, int root, struct comm *comm) {
     size_t length = 0;
-    int code = MPI_SUCCESS;
     if (!comm) return MPI_ERR_COMM;
-    if (root < 0 || root >= comm->size) return MPI_ERR_ROOT;
-    if (sendbuf != MPI_IN_PLACE && !check_buffer(sendcount, sendtype, &length, &code)) return code;
-    if (comm->position == root) code = check(to, recvtype, comm);
-    if (code == MPI_SUCCESS) code = begin_collective(comm);
+    int code = root < 0 || root >= comm->size ? MPI_ERR_ROOT : check_own(sendbuf, sendcount, sendtype, comm->position == root, &length);
+    if (code == MPI_SUCCESS && comm->position == root) code = check(to, recvtype, comm);
+    if (code != MPI_SUCCESS) return refuse_collective(comm, code);
+    code = begin_collective(comm);
     if (code != MPI_SUCCESS) return code;
     return comm->position == root ? gather_to(comm, sendbuf, length, to) : collect_send(comm, root, sendbuf, length);
 }
@@ -68,7 +81,7 @@ int MPI_Gather(const void *sendbuf, int sendcount, MPI_Datatype sendtype, void *
 int MPI_Gatherv(const void *sendbuf, int sendcount, MPI_Datatype sendtype, void *recvbuf, const int recvcounts[], const int displs[],
                 MPI_Datatype recvtype, int root, MPI_Comm comm) {
     struct comm *of = comm_at(comm);
-    struct layout to = {.at = recvbuf, .counts = recvcounts, .displs = displs};
+    struct layout to = {.at = recvbuf, .has_counts = true, .counts = recvcounts, .displs = displs};
     ENTER(of, MPI_UNDEFINED, MPI_UNDEFINED);
     return fail(of, gather(sendbuf, sendcount, sendtype, &to, recvtype, root, of));
 }
@@ -86,12 +99,11 @@ static int scatter(const struct layout *from, void *recvbuf, size_t room, int ro
 static int begin_scatter(struct layout *from, MPI_Datatype sendtype, void *recvbuf, int recvcount, MPI_Datatype recvtype, int root,
                          struct comm *comm) {
     size_t room = 0;
-    int code = MPI_SUCCESS;
     if (!comm) return MPI_ERR_COMM;
-    if (root < 0 || root >= comm->size) return MPI_ERR_ROOT;
-    if (recvbuf != MPI_IN_PLACE && !check_buffer(recvcount, recvtype, &room, &code)) return code;
-    if (comm->position == root) code = check(from, sendtype, comm);
-    if (code == MPI_SUCCESS) code = begin_collective(comm);
+    int code = root < 0 || root >= comm->size ? MPI_ERR_ROOT : check_own(recvbuf, recvcount, recvtype, comm->position == root, &room);
+    if (code == MPI_SUCCESS && comm->position == root) code = check(from, sendtype, comm);
+    if (code != MPI_SUCCESS) return refuse_collective(comm, code);
+    code = begin_collective(comm);
     return code != MPI_SUCCESS ? code : scatter(from, recvbuf, room, root, comm);
 }
 
@@ -106,7 +118,7 @@ int MPI_Scatter(const void *sendbuf, int sendcount, MPI_Datatype sendtype, void 
 int MPI_Scatterv(const void *sendbuf, const int sendcounts[], const int displs[], MPI_Datatype sendtype, void *recvbuf, int recvcount,
                  MPI_Datatype recvtype, int root, MPI_Comm comm) {
     struct comm *of = comm_at(comm);
-    struct layout from = {.at = (char *)(uintptr_t)sendbuf, .counts = sendcounts, .displs = displs};
+    struct layout from = {.at = (char *)(uintptr_t)sendbuf, .has_counts = true, .counts = sendcounts, .displs = displs};
     ENTER(of, MPI_UNDEFINED, MPI_UNDEFINED);
     return fail(of, begin_scatter(&from, sendtype, recvbuf, recvcount, recvtype, root, of));
 }
@@ -124,11 +136,11 @@ static void pack(const struct layout *layout, int size, char *packed, bool is_ou
 /* Position 0 gathers, and tells all with its verdict. */
 static int allgather(const void *sendbuf, int sendcount, MPI_Datatype sendtype, struct layout *to, MPI_Datatype recvtype, struct comm *comm) {
     size_t length = 0, total = 0;
-    int code;
     if (!comm) return MPI_ERR_COMM;
-    if (sendbuf != MPI_IN_PLACE && !check_buffer(sendcount, sendtype, &length, &code)) return code;
-    code = check(to, recvtype, comm);
-    if (code == MPI_SUCCESS) code = begin_collective(comm);
+    int code = check_own(sendbuf, sendcount, sendtype, true, &length);
+    if (code == MPI_SUCCESS) code = check(to, recvtype, comm);
+    if (code != MPI_SUCCESS) return refuse_collective(comm, code);
+    code = begin_collective(comm);
     if (code != MPI_SUCCESS) return code;
     const void *own = sendbuf == MPI_IN_PLACE ? part_at(to, comm->position) : sendbuf;
     if (sendbuf == MPI_IN_PLACE) length = length_at(to, comm->position);
@@ -154,7 +166,7 @@ int MPI_Allgather(const void *sendbuf, int sendcount, MPI_Datatype sendtype, voi
 int MPI_Allgatherv(const void *sendbuf, int sendcount, MPI_Datatype sendtype, void *recvbuf, const int recvcounts[], const int displs[],
                    MPI_Datatype recvtype, MPI_Comm comm) {
     struct comm *of = comm_at(comm);
-    struct layout to = {.at = recvbuf, .counts = recvcounts, .displs = displs};
+    struct layout to = {.at = recvbuf, .has_counts = true, .counts = recvcounts, .displs = displs};
     ENTER(of, MPI_UNDEFINED, MPI_UNDEFINED);
     return fail(of, allgather(sendbuf, sendcount, sendtype, &to, recvtype, of));
 }
@@ -191,7 +203,8 @@ static int alltoall(struct layout *from, MPI_Datatype sendtype, struct layout *t
     if (!comm) return MPI_ERR_COMM;
     int code = check(to, recvtype, comm);
     if (code == MPI_SUCCESS && !is_in_place) code = check(from, sendtype, comm);
-    if (code == MPI_SUCCESS) code = begin_collective(comm);
+    if (code != MPI_SUCCESS) return refuse_collective(comm, code);
+    code = begin_collective(comm);
     if (code != MPI_SUCCESS) return code;
     if (!is_in_place) return exchange_all(from, to, comm);
     size_t reach = reach_of(to, comm->size);
@@ -214,8 +227,8 @@ int MPI_Alltoall(const void *sendbuf, int sendcount, MPI_Datatype sendtype, void
 int MPI_Alltoallv(const void *sendbuf, const int sendcounts[], const int sdispls[], MPI_Datatype sendtype, void *recvbuf,
                   const int recvcounts[], const int rdispls[], MPI_Datatype recvtype, MPI_Comm comm) {
     struct comm *of = comm_at(comm);
-    struct layout from = {.at = (char *)(uintptr_t)sendbuf, .counts = sendcounts, .displs = sdispls};
-    struct layout to = {.at = recvbuf, .counts = recvcounts, .displs = rdispls};
+    struct layout from = {.at = (char *)(uintptr_t)sendbuf, .has_counts = true, .counts = sendcounts, .displs = sdispls};
+    struct layout to = {.at = recvbuf, .has_counts = true, .counts = recvcounts, .displs = rdispls};
     ENTER(of, MPI_UNDEFINED, MPI_UNDEFINED);
     return fail(of, alltoall(&from, sendtype, &to, recvtype, of));
 }

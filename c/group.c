@@ -52,46 +52,51 @@ int compare_groups(const struct group *a, const struct group *b) {
     return MPI_SIMILAR;
 }
 
-/* Begins a call on a group, or on two. */
-#define GROUP(group) \
+/* Begins a call on a group, or on two, which writes to `out`. */
+#define GROUP(group, out) \
     ENTER_LOOK(0, MPI_UNDEFINED, MPI_UNDEFINED); \
     struct group *of = group_at(group); \
-    if (!of) return fail(0, MPI_ERR_GROUP)
-#define GROUPS(one, other) \
+    if (!of) return fail(0, MPI_ERR_GROUP); \
+    WRITES(0, out)
+#define GROUPS(one, other, out) \
     ENTER_LOOK(0, MPI_UNDEFINED, MPI_UNDEFINED); \
     struct group *a = group_at(one), *b = group_at(other); \
-    if (!a || !b) return fail(0, MPI_ERR_GROUP)
+    if (!a || !b) return fail(0, MPI_ERR_GROUP); \
+    WRITES(0, out)
 
 int MPI_Comm_group(MPI_Comm comm, MPI_Group *group) {
     struct comm *of = comm_at(comm);
     ENTER_LOOK(of, MPI_UNDEFINED, MPI_UNDEFINED);
     if (!of) return fail(0, MPI_ERR_COMM);
+    WRITES(of, group);
     return fail(of, make_group(of->members, of->size, group));
 }
 
 int MPI_Group_size(MPI_Group group, int *size) {
-    GROUP(group);
+    GROUP(group, size);
     *size = of->size;
     return MPI_SUCCESS;
 }
 
 int MPI_Group_rank(MPI_Group group, int *rank) {
-    GROUP(group);
+    GROUP(group, rank);
     *rank = position_in(of, me->number);
     return MPI_SUCCESS;
 }
 
 int MPI_Group_translate_ranks(MPI_Group from, int count, const int members[], MPI_Group to, int result[]) {
-    GROUPS(from, to);
+    GROUPS(from, to, result || count <= 0);
+    if (count < 0) return fail(0, MPI_ERR_ARG);
+    bool has_none = a->size == 0 || b->size == 0;   /* then MPI_PROC_NULL has no rank either, as in MPICH and Open MPI */
     for (int k = 0; k < count; k++) {
         if (members[k] != MPI_PROC_NULL && (members[k] < 0 || members[k] >= a->size)) return fail(0, MPI_ERR_RANK);
-        result[k] = members[k] == MPI_PROC_NULL ? MPI_PROC_NULL : position_in(b, a->members[members[k]]);
+        result[k] = has_none ? MPI_UNDEFINED : members[k] == MPI_PROC_NULL ? MPI_PROC_NULL : position_in(b, a->members[members[k]]);
     }
     return MPI_SUCCESS;
 }
 
 int MPI_Group_compare(MPI_Group one, MPI_Group other, int *result) {
-    GROUPS(one, other);
+    GROUPS(one, other, result);
     *result = compare_groups(a, b);
     return MPI_SUCCESS;
 }
@@ -105,7 +110,7 @@ static int sift(const struct group *a, const struct group *b, bool wanted, uint8
 }
 
 int MPI_Group_union(MPI_Group one, MPI_Group other, MPI_Group *made) {
-    GROUPS(one, other);
+    GROUPS(one, other, made);
     uint8_t members[2 * MAX_RANKS];
     memcpy(members, a->members, (size_t)a->size);
     int size = a->size + sift(b, a, false, members + a->size);
@@ -113,13 +118,13 @@ int MPI_Group_union(MPI_Group one, MPI_Group other, MPI_Group *made) {
 }
 
 int MPI_Group_intersection(MPI_Group one, MPI_Group other, MPI_Group *made) {
-    GROUPS(one, other);
+    GROUPS(one, other, made);
     uint8_t members[MAX_RANKS];
     return fail(0, make_group(members, sift(a, b, true, members), made));
 }
 
 int MPI_Group_difference(MPI_Group one, MPI_Group other, MPI_Group *made) {
-    GROUPS(one, other);
+    GROUPS(one, other, made);
     uint8_t members[MAX_RANKS];
     return fail(0, make_group(members, sift(a, b, false, members), made));
 }
@@ -146,12 +151,12 @@ static int incl_or_excl(const struct group *from, int count, const int positions
 }
 
 int MPI_Group_incl(MPI_Group group, int count, const int positions[], MPI_Group *made) {
-    GROUP(group);
+    GROUP(group, made);
     return incl_or_excl(of, count, positions, true, made);
 }
 
 int MPI_Group_excl(MPI_Group group, int count, const int positions[], MPI_Group *made) {
-    GROUP(group);
+    GROUP(group, made);
     return incl_or_excl(of, count, positions, false, made);
 }
 
@@ -170,13 +175,13 @@ static int positions_of(int count, int ranges[][3], int positions[MAX_RANKS]) {
 }
 
 int MPI_Group_range_incl(MPI_Group group, int count, int ranges[][3], MPI_Group *made) {
-    GROUP(group);
+    GROUP(group, made);
     int positions[MAX_RANKS];
     return incl_or_excl(of, positions_of(count, ranges, positions), positions, true, made);
 }
 
 int MPI_Group_range_excl(MPI_Group group, int count, int ranges[][3], MPI_Group *made) {
-    GROUP(group);
+    GROUP(group, made);
     int positions[MAX_RANKS];
     return incl_or_excl(of, positions_of(count, ranges, positions), positions, false, made);
 }

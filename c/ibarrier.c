@@ -69,6 +69,7 @@ static int begin(struct request *barrier) {
 int MPI_Ibarrier(MPI_Comm comm, MPI_Request *handle) {
     struct comm *of = comm_at(comm);
     ENTER(of, MPI_UNDEFINED, MPI_UNDEFINED);
+    WRITES(of, handle);
     *handle = MPI_REQUEST_NULL;
     int code = begin_collective(of);
     if (code != MPI_SUCCESS && code != MPIX_ERR_REVOKED) return fail(of, code);

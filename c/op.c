@@ -89,26 +89,27 @@ static folding *const foldings[] = {
     locate_short, locate_ldouble,
 };
 
-/* into[k] becomes in[k] op into[k]. MPI_ERR_OP where the operation isn't one for this type. */
-int fold(const void *in, void *into, int count, MPI_Datatype type, MPI_Op op) {
-    int times, number = (int)(uintptr_t)op;
-    const struct op *own = own_at(op);
-    if (own) {
-        own->function((void *)(uintptr_t)in, into, &count, &type);
-        return MPI_SUCCESS;
-    }
-    uintptr_t base = (uintptr_t)base_of_type(type, &times);
+/* Whether the operation is one for this type: MPI_SUCCESS, MPI_ERR_OP or MPI_ERR_TYPE. Those of MPI are for basic types alone (6.9.2); MPI_REPLACE
+   and MPI_NO_OP are for one-sided calls. */
+int check_op(MPI_Op op, MPI_Datatype type) {
+    uintptr_t base = (uintptr_t)type;
     size_t size;
-    if (!size_of_type(type, &size)) return MPI_ERR_TYPE;
-    if (op == MPI_NO_OP) return MPI_SUCCESS;
-    if (op == MPI_REPLACE) memcpy(into, in, size * (size_t)count);
-    if (op == MPI_REPLACE) return MPI_SUCCESS;
-    return foldings[base] && foldings[base](in, into, count * times, number) ? MPI_SUCCESS : MPI_ERR_OP;
+    if (own_at(op)) return size_of_type(type, &size) ? MPI_SUCCESS : MPI_ERR_TYPE;
+    bool is_basic = base < sizeof foldings / sizeof *foldings && foldings[base];
+    return is_basic && is_op(op) && foldings[base](0, 0, 0, (int)(uintptr_t)op) ? MPI_SUCCESS : MPI_ERR_OP;
+}
+
+/* into[k] becomes in[k] op into[k], where the operation is one for this type. */
+int fold(const void *in, void *into, int count, MPI_Datatype type, MPI_Op op) {
+    const struct op *own = own_at(op);
+    if (own) own->function((void *)(uintptr_t)in, into, &count, &type);
+    else if (count > 0) return foldings[(uintptr_t)type](in, into, count, (int)(uintptr_t)op) ? MPI_SUCCESS : MPI_ERR_OP;
+    return MPI_SUCCESS;
 }
 
 int MPI_Op_create(MPI_User_function *function, int commutes, MPI_Op *op) {
     ENTER_LOOK(0, MPI_UNDEFINED, MPI_UNDEFINED);
-    if (!function) return fail(0, MPI_ERR_ARG);
+    WRITES(0, function && op);
     if (!grow(&me->ops, me->op_count, sizeof *me->ops)) return fail(0, MPI_ERR_NO_MEM);
     me->ops[me->op_count] = (struct op){function, commutes != 0};
     *op = (MPI_Op)(uintptr_t)(FIRST_OWN + me->op_count++);
@@ -126,6 +127,7 @@ int MPI_Op_free(MPI_Op *op) {
 int MPI_Op_commutative(MPI_Op op, int *commutes) {
     ENTER_LOOK(0, MPI_UNDEFINED, MPI_UNDEFINED);
     if (!is_op(op)) return fail(0, MPI_ERR_OP);
+    WRITES(0, commutes);
     *commutes = own_at(op) ? own_at(op)->commutes : op != MPI_REPLACE;
     return MPI_SUCCESS;
 }
@@ -133,9 +135,10 @@ int MPI_Op_commutative(MPI_Op op, int *commutes) {
 int MPI_Reduce_local(const void *inbuf, void *inoutbuf, int count, MPI_Datatype type, MPI_Op op) {
     ENTER_LOOK(0, MPI_UNDEFINED, MPI_UNDEFINED);
     size_t bytes;
-    int code;
-    if (!check_buffer(count, type, &bytes, &code)) return fail(0, code);
-    return fail(0, is_op(op) ? fold(inbuf, inoutbuf, count, type, op) : MPI_ERR_OP);
+    int code = check_op(op, type);
+    if (code != MPI_SUCCESS || !check_buffer(count, type, &bytes, &code)) return fail(0, code);
+    if (bytes && (!inbuf || !inoutbuf)) return fail(0, MPI_ERR_BUFFER);
+    return fail(0, fold(inbuf, inoutbuf, count, type, op));
 }
 
 void clear_ops(void) {

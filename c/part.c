@@ -28,6 +28,7 @@ int MPI_Comm_split(MPI_Comm comm, int color, int key, MPI_Comm *made) {
     int plane = 0;
     ENTER(of, MPI_UNDEFINED, MPI_UNDEFINED);
     if (!of) return fail(0, MPI_ERR_COMM);
+    WRITES(of, made);
     if (of->is_self) return fail(of, NOT_ON_SELF);
     if (color < 0 && color != MPI_UNDEFINED) return fail(of, MPI_ERR_ARG);
     *made = MPI_COMM_NULL;
@@ -47,6 +48,7 @@ int MPI_Comm_create(MPI_Comm comm, MPI_Group group, MPI_Comm *made) {
     int plane = 0;
     ENTER(of, MPI_UNDEFINED, MPI_UNDEFINED);
     if (!of) return fail(0, MPI_ERR_COMM);
+    WRITES(of, made);
     if (of->is_self) return fail(of, NOT_ON_SELF);
     if (!members) return fail(of, MPI_ERR_GROUP);
     *made = MPI_COMM_NULL;
@@ -64,9 +66,11 @@ int MPI_Comm_create_group(MPI_Comm comm, MPI_Group group, int tag, MPI_Comm *mad
     int plane = 0;
     ENTER(of, MPI_UNDEFINED, tag);
     if (!of) return fail(0, MPI_ERR_COMM);
+    WRITES(of, made);
     if (of->is_self) return fail(of, NOT_ON_SELF);
     if (!members) return fail(of, MPI_ERR_GROUP);
     *made = MPI_COMM_NULL;
+    if (tag < 0 || tag > MPI_TAG_UB_VALUE) return fail(of, MPI_ERR_TAG);
     if (!is_member(members)) return MPI_SUCCESS;
     if (of->hidden == NO_CONTEXT_LEFT) return fail(of, NO_COLLECTIVES);
     if (is_revoked(of)) return fail(of, MPIX_ERR_REVOKED);

@@ -85,6 +85,7 @@ int MPI_Recv(void *buf, int count, MPI_Datatype type, int source, int tag, MPI_C
 
 static int isend(const void *buf, int count, MPI_Datatype type, int dest, int tag, struct comm *comm, bool waits, MPI_Request *made) {
     struct request *request;
+    WRITES(comm, made);
     *made = MPI_REQUEST_NULL;
     int code = begin_send(buf, count, type, dest, tag, comm, waits, &request);
     if (code != MPI_SUCCESS) return fail(comm, code);
@@ -114,6 +115,7 @@ int MPI_Irecv(void *buf, int count, MPI_Datatype type, int source, int tag, MPI_
     struct comm *of = comm_at(comm);
     struct request *begun;
     ENTER(of, source, tag);
+    WRITES(of, request);
     *request = MPI_REQUEST_NULL;
     int code = begin_receive(buf, count, type, source, tag, of, &begun);
     if (code != MPI_SUCCESS) return fail(of, code);

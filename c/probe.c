@@ -100,6 +100,7 @@ int MPI_Probe(int source, int tag, MPI_Comm comm, MPI_Status *status) {
 int MPI_Iprobe(int source, int tag, MPI_Comm comm, int *flag, MPI_Status *status) {
     struct probe probe = {.comm = comm_at(comm), .source = source, .tag = tag};
     ENTER_LOOK(probe.comm, source, tag);
+    WRITES(probe.comm, flag);
     int code = run_probe(&probe, false);
     *flag = probe.found;
     if (status && probe.found) *status = probe.status;
@@ -126,6 +127,7 @@ static int keep(struct probe *probe, MPI_Message *handle) {
 int MPI_Mprobe(int source, int tag, MPI_Comm comm, MPI_Message *message, MPI_Status *status) {
     struct probe probe = {.comm = comm_at(comm), .source = source, .tag = tag, .takes = true};
     ENTER(probe.comm, source, tag);
+    WRITES(probe.comm, message);
     int code = run_probe(&probe, true);
     if (code == MPI_SUCCESS) code = keep(&probe, message);
     if (status && code == MPI_SUCCESS) *status = probe.status;
@@ -135,6 +137,7 @@ int MPI_Mprobe(int source, int tag, MPI_Comm comm, MPI_Message *message, MPI_Sta
 int MPI_Improbe(int source, int tag, MPI_Comm comm, int *flag, MPI_Message *message, MPI_Status *status) {
     struct probe probe = {.comm = comm_at(comm), .source = source, .tag = tag, .takes = true};
     ENTER_LOOK(probe.comm, source, tag);
+    WRITES(probe.comm, flag && message);
     int code = run_probe(&probe, false);
     *flag = probe.found;
     if (code == MPI_SUCCESS && probe.found) code = keep(&probe, message);
@@ -158,6 +161,7 @@ static int receive(void *buf, int count, MPI_Datatype type, MPI_Message *handle,
     int code;
     *status = (MPI_Status){.MPI_SOURCE = MPI_PROC_NULL, .MPI_TAG = MPI_ANY_TAG};
     if (!check_buffer(count, type, &bytes, &code)) return code;
+    if (!buf && bytes) return MPI_ERR_BUFFER;
     if (*handle == MPI_MESSAGE_NO_PROC) {
         *handle = MPI_MESSAGE_NULL;
         return MPI_SUCCESS;
@@ -175,6 +179,7 @@ int MPI_Mrecv(void *buf, int count, MPI_Datatype type, MPI_Message *message, MPI
     struct comm *comm = 0;
     MPI_Status told;
     ENTER(0, MPI_UNDEFINED, MPI_UNDEFINED);
+    WRITES(0, message);
     int code = receive(buf, count, type, message, &told, &comm);
     if (status) *status = told;
     return fail(comm, code);
@@ -184,6 +189,7 @@ int MPI_Imrecv(void *buf, int count, MPI_Datatype type, MPI_Message *message, MP
     struct comm *comm = 0;
     MPI_Status told;
     ENTER(0, MPI_UNDEFINED, MPI_UNDEFINED);
+    WRITES(0, message && handle);
     *handle = MPI_REQUEST_NULL;
     int code = receive(buf, count, type, message, &told, &comm);
     if (code != MPI_SUCCESS && code != MPI_ERR_TRUNCATE) return fail(comm, code);

@@ -13,13 +13,20 @@ struct reduction {
     char *parts, *result;   /* result has a verdict before it */
 };
 
+/* Why its arguments can't be, or MPI_SUCCESS; then it knows its bytes. `recvbuf` is null where nothing is received. */
+static int check(struct reduction *of, const void *sendbuf, const void *recvbuf) {
+    int code = of->count < 0 ? MPI_ERR_COUNT : check_op(of->op, of->type);
+    if (code != MPI_SUCCESS || !check_buffer(of->count, of->type, &of->bytes, &code)) return code;
+    return (sendbuf == MPI_IN_PLACE && recvbuf) || is_buffer(sendbuf, of->bytes) ? MPI_SUCCESS : MPI_ERR_BUFFER;
+}
+
 /* Why a reduction can't be, or MPI_SUCCESS; then it has its room and its number. */
-static int begin(struct reduction *of, int count, MPI_Datatype type, MPI_Op op, struct comm *comm) {
-    int code;
-    *of = (struct reduction){.comm = comm, .count = count, .type = type, .op = op};
+static int begin(struct reduction *of, const void *sendbuf, const void *recvbuf, bool receives) {
+    struct comm *comm = of->comm;
     if (!comm) return MPI_ERR_COMM;
-    if (!check_buffer(count, type, &of->bytes, &code)) return code;
-    if (!is_op(op)) return MPI_ERR_OP;
+    int code = check(of, sendbuf, receives ? recvbuf : 0);
+    if (code == MPI_SUCCESS && receives && !is_buffer(recvbuf, of->bytes)) code = MPI_ERR_BUFFER;
+    if (code != MPI_SUCCESS) return refuse_collective(comm, code);
     code = begin_collective(comm);
     if (code != MPI_SUCCESS) return code;
     of->parts = malloc(of->bytes * (size_t)comm->size + 1);
@@ -49,10 +56,10 @@ static int fold_parts(const struct reduction *of, int last, char *into) {
 }
 
 int MPI_Allreduce(const void *sendbuf, void *recvbuf, int count, MPI_Datatype type, MPI_Op op, MPI_Comm comm) {
-    struct reduction of;
     struct comm *in = comm_at(comm);
+    struct reduction of = {.comm = in, .count = count, .type = type, .op = op};
     ENTER(in, MPI_UNDEFINED, MPI_UNDEFINED);
-    int code = begin(&of, count, type, op, in);
+    int code = begin(&of, sendbuf, recvbuf, true);
     if (code != MPI_SUCCESS) return finish(&of, code);
     code = gather_all(in, sendbuf == MPI_IN_PLACE ? recvbuf : sendbuf, of.bytes, of.parts);
     if (in->position == 0 && code == MPI_SUCCESS) code = fold_parts(&of, in->size - 1, of.result + VERDICT);
@@ -64,11 +71,13 @@ int MPI_Allreduce(const void *sendbuf, void *recvbuf, int count, MPI_Datatype ty
 
 /* The root gets the result; another one is through when its part is on its way. */
 int MPI_Reduce(const void *sendbuf, void *recvbuf, int count, MPI_Datatype type, MPI_Op op, int root, MPI_Comm comm) {
-    struct reduction of;
     struct comm *in = comm_at(comm);
+    struct reduction of = {.comm = in, .count = count, .type = type, .op = op};
     ENTER(in, MPI_UNDEFINED, MPI_UNDEFINED);
-    if (in && (root < 0 || root >= in->size)) return fail(in, MPI_ERR_ROOT);
-    int code = begin(&of, count, type, op, in);
+    if (in && (root < 0 || root >= in->size)) return fail(in, refuse_collective(in, MPI_ERR_ROOT));
+    bool is_root = in && in->position == root;
+    if (is_root && sendbuf == recvbuf && count > 0) return fail(in, refuse_collective(in, MPI_ERR_BUFFER));
+    int code = begin(&of, sendbuf, recvbuf, is_root);
     if (code != MPI_SUCCESS) return finish(&of, code);
     const void *own = sendbuf == MPI_IN_PLACE ? recvbuf : sendbuf;
     if (in->position != root) return finish(&of, collect_send(in, root, own, of.bytes));
@@ -106,17 +115,17 @@ static int scan(const void *sendbuf, void *recvbuf, struct reduction *of, bool i
 }
 
 int MPI_Scan(const void *sendbuf, void *recvbuf, int count, MPI_Datatype type, MPI_Op op, MPI_Comm comm) {
-    struct reduction of;
     struct comm *in = comm_at(comm);
+    struct reduction of = {.comm = in, .count = count, .type = type, .op = op};
     ENTER(in, MPI_UNDEFINED, MPI_UNDEFINED);
-    int code = begin(&of, count, type, op, in);
+    int code = begin(&of, sendbuf, recvbuf, true);
     return finish(&of, code != MPI_SUCCESS ? code : scan(sendbuf, recvbuf, &of, false));
 }
 
 int MPI_Exscan(const void *sendbuf, void *recvbuf, int count, MPI_Datatype type, MPI_Op op, MPI_Comm comm) {
-    struct reduction of;
     struct comm *in = comm_at(comm);
+    struct reduction of = {.comm = in, .count = count, .type = type, .op = op};
     ENTER(in, MPI_UNDEFINED, MPI_UNDEFINED);
-    int code = begin(&of, count, type, op, in);
+    int code = begin(&of, sendbuf, recvbuf, !in || in->position > 0 || sendbuf == MPI_IN_PLACE);
     return finish(&of, code != MPI_SUCCESS ? code : scan(sendbuf, recvbuf, &of, true));
 }

@@ -244,6 +244,7 @@ bool check_buffer(int count, MPI_Datatype type, size_t *bytes, int *code);
 MPI_Datatype base_of_type(MPI_Datatype type, int *count);
 int fold(const void *in, void *into, int count, MPI_Datatype type, MPI_Op op);
 bool is_op(MPI_Op op);
+int check_op(MPI_Op op, MPI_Datatype type);
 void clear_types(void);
 void clear_ops(void);
 
@@ -261,6 +262,8 @@ void clear_messages(void);
 
 /* collect.c */
 int begin_collective(struct comm *comm);
+int refuse_collective(struct comm *comm, int code);
+bool is_buffer(const void *buffer, size_t bytes);
 int collect_send(struct comm *comm, int to, const void *bytes, size_t length);
 struct request *collect_post(struct comm *comm, int from, void *bytes, size_t room);
 int collect_finish(struct request *request);
@@ -274,6 +277,10 @@ enum { VERDICT = 8 };
 void enter_call(const char *call, const void *from, struct comm *comm, int peer, int tag, bool counts);
 #define ENTER(comm, peer, tag) enter_call(__func__, __builtin_return_address(0), comm, peer, tag, true)
 #define ENTER_LOOK(comm, peer, tag) enter_call(__func__, __builtin_return_address(0), comm, peer, tag, false)
+
+/* A null pointer where a call writes what it answers: MPI_ERR_ARG. */
+#define WRITES(comm, pointer) \
+    if (!(pointer)) return fail(comm, MPI_ERR_ARG)
 
 /* Room for one more in an array; false where there is no memory. */
 bool grow(void *array, int count, size_t size);

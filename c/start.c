@@ -35,21 +35,25 @@ int MPI_Init_thread(int *argc, char ***argv, int required, int *provided) {
 int MPI_Init(int *argc, char ***argv) { return MPI_Init_thread(argc, argv, MPI_THREAD_SINGLE, 0); }
 
 int MPI_Query_thread(int *provided) {
+    if (!provided) return MPI_ERR_ARG;
     *provided = MPI_THREAD_FUNNELED;
     return MPI_SUCCESS;
 }
 
 int MPI_Is_thread_main(int *flag) {
+    if (!flag) return MPI_ERR_ARG;
     *flag = me != 0;
     return MPI_SUCCESS;
 }
 
 int MPI_Initialized(int *flag) {
+    if (!flag) return MPI_ERR_ARG;
     *flag = me && me->has_begun;
     return MPI_SUCCESS;
 }
 
 int MPI_Finalized(int *flag) {
+    if (!flag) return MPI_ERR_ARG;
     *flag = me && me->has_finalized;
     return MPI_SUCCESS;
 }
@@ -75,6 +79,7 @@ int MPI_Abort(MPI_Comm comm, int errorcode) {
 }
 
 int MPI_Get_version(int *version, int *subversion) {
+    if (!version || !subversion) return MPI_ERR_ARG;
     *version = MPI_VERSION;
     *subversion = MPI_SUBVERSION;
     return MPI_SUCCESS;
@@ -87,6 +92,7 @@ int MPI_Get_library_version(char *version, int *length) {
 
 int MPI_Get_processor_name(char *name, int *length) {
     char host[MPI_MAX_PROCESSOR_NAME] = "localhost";
+    if (!name || !length) return MPI_ERR_ARG;
     if (gethostname(host, sizeof host - 1)) strcpy(host, "localhost");
     strcpy(name, host);
     *length = (int)strlen(name);
@@ -103,6 +109,7 @@ double MPI_Wtick(void) { return 1e-9; }
 
 int MPI_Alloc_mem(MPI_Aint size, MPI_Info info, void *base) {
     (void)info;
+    if (size < 0 || !base) return fail(0, MPI_ERR_ARG);
     void *made = malloc(size > 0 ? (size_t)size : 1);
     if (!made) return fail(0, MPI_ERR_NO_MEM);
     *(void **)base = made;
@@ -115,6 +122,7 @@ int MPI_Free_mem(void *base) {
 }
 
 int MPI_Get_address(const void *location, MPI_Aint *address) {
+    if (!address) return MPI_ERR_ARG;
     *address = (MPI_Aint)location;
     return MPI_SUCCESS;
 }

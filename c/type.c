@@ -61,6 +61,7 @@ int MPI_Type_size(MPI_Datatype type, int *size) {
     int count;
     uintptr_t base = (uintptr_t)base_of_type(type, &count);
     if (!base) return fail(0, MPI_ERR_TYPE);
+    WRITES(0, size);
     *size = count * (base < FIRST_PAIR ? (int)sizes[base] : pair_sizes[base - FIRST_PAIR]);
     return MPI_SUCCESS;
 }
@@ -69,6 +70,7 @@ int MPI_Type_get_extent(MPI_Datatype type, MPI_Aint *lower, MPI_Aint *extent) {
     ENTER_LOOK(0, MPI_UNDEFINED, MPI_UNDEFINED);
     size_t size;
     if (!size_of_type(type, &size)) return fail(0, MPI_ERR_TYPE);
+    WRITES(0, lower && extent);
     *lower = 0;
     *extent = (MPI_Aint)size;
     return MPI_SUCCESS;
@@ -78,6 +80,7 @@ static int make_type(MPI_Datatype of, int times, MPI_Datatype *made) {
     int count;
     MPI_Datatype base = base_of_type(of, &count);
     if (!base) return fail(0, MPI_ERR_TYPE);
+    WRITES(0, made);
     if (times < 0 || (long long)times * count > INT_MAX) return fail(0, MPI_ERR_COUNT);
     if (!grow(&me->types, me->type_count, sizeof *me->types)) return fail(0, MPI_ERR_NO_MEM);
     me->types[me->type_count] = (struct type){base, (size_t)times * (size_t)count};
@@ -119,6 +122,7 @@ int MPI_Get_count(const MPI_Status *status, MPI_Datatype type, int *count) {
     ENTER_LOOK(0, MPI_UNDEFINED, MPI_UNDEFINED);
     size_t size;
     if (!size_of_type(type, &size)) return fail(0, MPI_ERR_TYPE);
+    WRITES(0, status && count);
     *count = whole(status->bytes, size);
     return MPI_SUCCESS;
 }
@@ -128,6 +132,7 @@ int MPI_Get_elements(const MPI_Status *status, MPI_Datatype type, int *count) {
     int times;
     MPI_Datatype base = base_of_type(type, &times);
     if (!base) return fail(0, MPI_ERR_TYPE);
+    WRITES(0, status && count);
     *count = whole(status->bytes, sizes[(uintptr_t)base]);
     return MPI_SUCCESS;
 }

@@ -48,8 +48,9 @@ static void tell_place(const struct request *request) {
 }
 
 int MPI_Wait(MPI_Request *handle, MPI_Status *status) {
-    struct request *request = request_at(*handle);
     ENTER(0, MPI_UNDEFINED, MPI_UNDEFINED);
+    WRITES(0, handle);
+    struct request *request = request_at(*handle);
     if (status) *status = empty_status;
     if (*handle == MPI_REQUEST_NULL) return MPI_SUCCESS;
     if (!request) return fail(0, MPI_ERR_REQUEST);
@@ -59,8 +60,9 @@ int MPI_Wait(MPI_Request *handle, MPI_Status *status) {
 }
 
 int MPI_Test(MPI_Request *handle, int *flag, MPI_Status *status) {
-    struct request *request = request_at(*handle);
     ENTER_LOOK(0, MPI_UNDEFINED, MPI_UNDEFINED);
+    WRITES(0, handle && flag);
+    struct request *request = request_at(*handle);
     if (status) *status = empty_status;
     *flag = 1;
     if (*handle == MPI_REQUEST_NULL) return MPI_SUCCESS;
@@ -77,6 +79,7 @@ int MPI_Test(MPI_Request *handle, int *flag, MPI_Status *status) {
 int MPI_Request_get_status(MPI_Request handle, int *flag, MPI_Status *status) {
     struct request *request = request_at(handle);
     ENTER_LOOK(0, MPI_UNDEFINED, MPI_UNDEFINED);
+    WRITES(0, flag);
     if (status) *status = empty_status;
     *flag = 1;
     if (handle == MPI_REQUEST_NULL) return MPI_SUCCESS;
@@ -90,8 +93,9 @@ int MPI_Request_get_status(MPI_Request handle, int *flag, MPI_Status *status) {
 
 /* The request goes when it is over (3.7.3). */
 int MPI_Request_free(MPI_Request *handle) {
-    struct request *request = request_at(*handle);
     ENTER_LOOK(0, MPI_UNDEFINED, MPI_UNDEFINED);
+    WRITES(0, handle);
+    struct request *request = request_at(*handle);
     if (!request) return fail(0, MPI_ERR_REQUEST);
     *handle = MPI_REQUEST_NULL;
     if (request->over || request->kind == SYNCHRONOUS) free_request(request);
@@ -104,8 +108,9 @@ int MPI_Request_free(MPI_Request *handle) {
 
 /* Cancels a receive that waits; a send is never cancelled (3.8.4). The request has to be waited for all the same. */
 int MPI_Cancel(MPI_Request *handle) {
-    struct request *request = request_at(*handle);
     ENTER(0, MPI_UNDEFINED, MPI_UNDEFINED);
+    WRITES(0, handle);
+    struct request *request = request_at(*handle);
     if (!request) return fail(0, MPI_ERR_REQUEST);
     progress();
     withdraw(request);
@@ -113,6 +118,7 @@ int MPI_Cancel(MPI_Request *handle) {
 }
 
 int MPI_Test_cancelled(const MPI_Status *status, int *flag) {
+    if (!status || !flag) return MPI_ERR_ARG;
     *flag = status->cancelled;
     return MPI_SUCCESS;
 }
@@ -157,10 +163,12 @@ static struct comm *comm_of_error(const struct several *several) {
     return 0;
 }
 
-static bool are_requests(int count, const MPI_Request handles[]) {
+/* Why these can't be requests, or MPI_SUCCESS; `writes` says that no pointer to write to is null. */
+static int check_requests(int count, const MPI_Request handles[], bool writes) {
+    if (count < 0 || (count > 0 && !handles) || !writes) return MPI_ERR_ARG;
     for (int k = 0; k < count; k++)
-        if (handles[k] != MPI_REQUEST_NULL && !request_at(handles[k])) return false;
-    return true;
+        if (handles[k] != MPI_REQUEST_NULL && !request_at(handles[k])) return MPI_ERR_REQUEST;
+    return MPI_SUCCESS;
 }
 
 /* Tells how all requests ended, or stand, and releases those that are over. */
@@ -184,8 +192,8 @@ static int release_all(struct several *several, MPI_Status statuses[]) {
 int MPI_Waitall(int count, MPI_Request handles[], MPI_Status statuses[]) {
     struct several several = {.count = count, .handles = handles, .wants_all = true};
     ENTER(0, MPI_UNDEFINED, MPI_UNDEFINED);
-    if (count < 0) return fail(0, MPI_ERR_ARG);
-    if (!are_requests(count, handles)) return fail(0, MPI_ERR_REQUEST);
+    int code = check_requests(count, handles, true);
+    if (code != MPI_SUCCESS) return fail(0, code);
     for (int k = 0; k < count; k++)
         if (request_at(handles[k]) && !request_at(handles[k])->over) tell_place(request_at(handles[k]));
     wait_until(are_done, &several);
@@ -195,7 +203,8 @@ int MPI_Waitall(int count, MPI_Request handles[], MPI_Status statuses[]) {
 int MPI_Testall(int count, MPI_Request handles[], int *flag, MPI_Status statuses[]) {
     struct several several = {.count = count, .handles = handles, .wants_all = true};
     ENTER_LOOK(0, MPI_UNDEFINED, MPI_UNDEFINED);
-    if (!are_requests(count, handles)) return fail(0, MPI_ERR_REQUEST);
+    int code = check_requests(count, handles, flag);
+    if (code != MPI_SUCCESS) return fail(0, code);
     progress();
     *flag = are_done(&several);
     if (!*flag) return MPI_SUCCESS;
@@ -216,7 +225,8 @@ static int release_one(struct several *several, int *index, MPI_Status *status) 
 int MPI_Waitany(int count, MPI_Request handles[], int *index, MPI_Status *status) {
     struct several several = {.count = count, .handles = handles};
     ENTER(0, MPI_UNDEFINED, MPI_UNDEFINED);
-    if (!are_requests(count, handles)) return fail(0, MPI_ERR_REQUEST);
+    int code = check_requests(count, handles, index);
+    if (code != MPI_SUCCESS) return fail(0, code);
     wait_until(are_done, &several);
     return release_one(&several, index, status);
 }
@@ -224,7 +234,8 @@ int MPI_Waitany(int count, MPI_Request handles[], int *index, MPI_Status *status
 int MPI_Testany(int count, MPI_Request handles[], int *index, int *flag, MPI_Status *status) {
     struct several several = {.count = count, .handles = handles};
     ENTER_LOOK(0, MPI_UNDEFINED, MPI_UNDEFINED);
-    if (!are_requests(count, handles)) return fail(0, MPI_ERR_REQUEST);
+    int code = check_requests(count, handles, index && flag);
+    if (code != MPI_SUCCESS) return fail(0, code);
     progress();
     *flag = are_done(&several);
     if (*flag && several.active) plan_call();
@@ -252,7 +263,8 @@ static int release_some(struct several *several, int *outcount, int indices[], M
 int MPI_Waitsome(int incount, MPI_Request handles[], int *outcount, int indices[], MPI_Status statuses[]) {
     struct several several = {.count = incount, .handles = handles};
     ENTER(0, MPI_UNDEFINED, MPI_UNDEFINED);
-    if (!are_requests(incount, handles)) return fail(0, MPI_ERR_REQUEST);
+    int code = check_requests(incount, handles, outcount && (indices || incount == 0));
+    if (code != MPI_SUCCESS) return fail(0, code);
     wait_until(are_done, &several);
     return release_some(&several, outcount, indices, statuses);
 }
@@ -260,7 +272,8 @@ int MPI_Waitsome(int incount, MPI_Request handles[], int *outcount, int indices[
 int MPI_Testsome(int incount, MPI_Request handles[], int *outcount, int indices[], MPI_Status statuses[]) {
     struct several several = {.count = incount, .handles = handles};
     ENTER_LOOK(0, MPI_UNDEFINED, MPI_UNDEFINED);
-    if (!are_requests(incount, handles)) return fail(0, MPI_ERR_REQUEST);
+    int code = check_requests(incount, handles, outcount && (indices || incount == 0));
+    if (code != MPI_SUCCESS) return fail(0, code);
     progress();
     if (are_done(&several) && several.active) plan_call();
     return release_some(&several, outcount, indices, statuses);
