@@ -93,7 +93,7 @@ int send_letter(uint32_t context, int dest, int world, int tag, const void *byte
         return class_of(code);
     }
     if (parcel) *parcel = head.parcel;
-    progress();
+    move_once();
     return MPI_SUCCESS;
 }
 
@@ -134,7 +134,7 @@ void take_letter(const ulfm_status *told, const uint8_t *letter, void *buffer, s
         atomic_fetch_sub(&me->waited_for, 1);
     }
     let_go(head.parcel);
-    if (is_waited_for) moved();
+    if (is_waited_for) marked();
 }
 
 /* Whether the program's communicator is known to be revoked. */

@@ -58,8 +58,9 @@ static void look(struct probe *probe) {
     else if (probe->source == MPI_ANY_SOURCE && has_unacknowledged(comm)) probe->code = MPIX_ERR_PROC_FAILED_PENDING;
 }
 
-static bool is_found(void *of) {
+static bool is_found(void *of, bool is_settled) {
     struct probe *probe = of;
+    (void)is_settled;
     look(probe);
     return probe->found || probe->code != MPI_SUCCESS;
 }
@@ -80,7 +81,7 @@ static int run_probe(struct probe *probe, bool waits) {
         probe->status = (MPI_Status){.MPI_SOURCE = MPI_PROC_NULL, .MPI_TAG = MPI_ANY_TAG};
         return MPI_SUCCESS;
     }
-    if (waits) wait_until(is_found, probe);
+    if (waits) wait_until(is_found, probe, false);
     else {
         progress();
         look(probe);
