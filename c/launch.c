@@ -2,6 +2,7 @@
 #define _GNU_SOURCE
 #include "run.h"
 #include <errno.h>
+#include <malloc.h>
 #include <signal.h>
 #include <stdarg.h>
 #include <stdlib.h>
@@ -110,11 +111,19 @@ static bool start_rank(struct rank *rank, int number) {
     pthread_attr_t attributes;
     rank->number = number;
     rank->slot = &rank->home;
+    pthread_mutex_init(&rank->parcels_lock, 0);
     rank->random = options.seed * 0x9E3779B97F4A7C15u + (uint64_t)number * 0xBF58476D1CE4E5B9u + 1;
     if (!open_output(rank)) return false;
     pthread_attr_init(&attributes);
     pthread_attr_setstacksize(&attributes, 32u << 20);
     return pthread_create(&rank->thread, &attributes, run_rank, rank) == 0;
+}
+
+/* Memory that was freed is kept for what comes next, else each long message pays for its pages again. */
+static void keep_memory(void) {
+    mallopt(M_MMAP_THRESHOLD, 32 << 20);
+    mallopt(M_TRIM_THRESHOLD, 256 << 20);
+    mallopt(M_TOP_PAD, 1 << 20);
 }
 
 /* Makes the world, each rank in a slot that stands apart from the others': its calls write to it. The code of a refusal, or ULFM_OK. */
@@ -170,6 +179,7 @@ int ulfm_mpirun(int count, char **words) {
         fprintf(stderr, "ulfm-mpirun: %s can't be copied\n", options.program);
         return STATUS_USAGE;
     }
+    keep_memory();
     uint32_t code = make_ranks();
     if (code != ULFM_OK) {
         fprintf(stderr, "ulfm-mpirun: no world of %d ranks: code %u\n", options.ranks, code);

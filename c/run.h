@@ -68,17 +68,22 @@ struct plans {
     int colors[MAX_RANKS], keys[MAX_RANKS];   /* of MPI_Comm_split, by positions; before, the own ones stand first */
 };
 
-/* What goes beside a message: a long body, and where its sender waits for the match, the flag that tells it. In one list, so that those that
-   nobody received are freed at the end. */
+/* Where the bytes of a parcel stand: with its sender, who copies them; there, and its receiver copies them; in the parcel; at the receiver. */
+enum filling { LIVE, CLAIMED, FILLED, TAKEN };
+
+/* What goes beside a message: a long body, and where its sender waits for the match, the flag that tells it. In a list of its sender's, so that those
+   that nobody received are freed at the end. */
 struct parcel {
     struct parcel *next, *previous;
-    _Atomic int users;   /* message, sender */
+    _Atomic int users;   /* the message, its sender, the copying of its body */
     _Atomic int matched;
+    _Atomic int filling;
     bool is_waited_for;
     int from, to;         /* world ranks */
     uint32_t context;
     int tag;
     size_t length;        /* of the message */
+    const void *source;   /* where the sender has its bytes */
     unsigned char bytes[];
 };
 
@@ -130,6 +135,8 @@ struct rank {
     int comm_count, old_comm_count, group_count, request_count, message_count, handler_count, type_count, op_count, first_free;
     struct request *open;     /* receives that wait */
     struct request *spare;    /* can be used again */
+    struct parcel *parcels, *last_parcel;   /* that it sent, in that order */
+    pthread_mutex_t parcels_lock;
     uint32_t shrunk[CONTEXTS];
     _Atomic int self_revoked;
     bool has_begun, has_finalized, has_stopped;
@@ -198,7 +205,7 @@ int class_of(uint32_t code);
 int send_letter(uint32_t context, int dest, int world, int tag, const void *bytes, size_t length, struct parcel **parcel);
 void take_letter(const ulfm_status *told, const uint8_t *letter, void *buffer, size_t room, MPI_Status *status, int *code);
 size_t length_of_probed(const ulfm_status *told, uint32_t context, int from);
-size_t length_of_letter(const uint8_t *letter);
+size_t length_of_letter(const ulfm_status *told, const uint8_t *letter);
 void let_go(struct parcel *parcel);
 void free_parcels(void);
 bool is_revoked(const struct comm *comm);
