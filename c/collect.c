@@ -42,8 +42,9 @@ struct request *collect_post(struct comm *comm, int from, void *bytes, size_t ro
     return request;
 }
 
-static bool has_come(void *of) {
+static bool has_come(void *of, bool is_settled) {
     struct request *request = of;
+    (void)is_settled;
     look_at(request);
     return request->over || is_revoked(request->comm);
 }
@@ -52,7 +53,7 @@ static bool has_come(void *of) {
 int collect_finish(struct request *request) {
     if (!request) return MPI_ERR_NO_MEM;
     me->place.waits_for = 1u << request->comm->members[request->peer];
-    if (!request->over) wait_until(has_come, request);
+    if (!request->over) wait_until(has_come, request, false);
     me->place.waits_for = 0;
     if (!request->over) withdraw(request);
     int code = request->status.cancelled ? MPIX_ERR_REVOKED : request->code;

@@ -2,6 +2,7 @@
 #define _GNU_SOURCE
 #include "run.h"
 #include <errno.h>
+#include <malloc.h>
 #include <signal.h>
 #include <stdarg.h>
 #include <stdlib.h>
@@ -11,7 +12,6 @@
 #include <unistd.h>
 
 struct rank ranks[MAX_RANKS];
-ulfm_slot slots[MAX_RANKS];
 __thread struct rank *me;
 static pthread_mutex_t end_lock = PTHREAD_MUTEX_INITIALIZER;
 static pthread_cond_t end_came = PTHREAD_COND_INITIALIZER;
@@ -99,7 +99,7 @@ static void *run_rank(void *of) {
     clear_rank();
     atomic_store(&me->is_ended, 1);
     me = 0;
-    moved();
+    marked();
     pthread_mutex_lock(&end_lock);
     ended_count++;
     pthread_cond_signal(&end_came);
@@ -110,12 +110,28 @@ static void *run_rank(void *of) {
 static bool start_rank(struct rank *rank, int number) {
     pthread_attr_t attributes;
     rank->number = number;
-    rank->slot = &slots[number];
+    rank->slot = &rank->home;
+    pthread_mutex_init(&rank->parcels_lock, 0);
     rank->random = options.seed * 0x9E3779B97F4A7C15u + (uint64_t)number * 0xBF58476D1CE4E5B9u + 1;
     if (!open_output(rank)) return false;
     pthread_attr_init(&attributes);
     pthread_attr_setstacksize(&attributes, 32u << 20);
     return pthread_create(&rank->thread, &attributes, run_rank, rank) == 0;
+}
+
+/* Memory that was freed is kept for what comes next, else each long message pays for its pages again. */
+static void keep_memory(void) {
+    mallopt(M_MMAP_THRESHOLD, 32 << 20);
+    mallopt(M_TRIM_THRESHOLD, 256 << 20);
+    mallopt(M_TOP_PAD, 1 << 20);
+}
+
+/* Makes the world, each rank in a slot that stands apart from the others': its calls write to it. The code of a refusal, or ULFM_OK. */
+static uint32_t make_ranks(void) {
+    ulfm_slot made[MAX_RANKS] = {{0}};
+    uint32_t code = ulfm_world(made, (size_t)options.ranks, (uint8_t)options.capacity, (uint16_t)options.rounds);
+    for (int k = 0; k < options.ranks; k++) ranks[k].home = made[k];
+    return code;
 }
 
 /* Waits until all threads have ended, or the time is over. */
@@ -163,7 +179,8 @@ int ulfm_mpirun(int count, char **words) {
         fprintf(stderr, "ulfm-mpirun: %s can't be copied\n", options.program);
         return STATUS_USAGE;
     }
-    uint32_t code = ulfm_world(slots, (size_t)options.ranks, (uint8_t)options.capacity, (uint16_t)options.rounds);
+    keep_memory();
+    uint32_t code = make_ranks();
     if (code != ULFM_OK) {
         fprintf(stderr, "ulfm-mpirun: no world of %d ranks: code %u\n", options.ranks, code);
         return STATUS_USAGE;
@@ -175,7 +192,7 @@ int ulfm_mpirun(int count, char **words) {
             end_run(STATUS_USAGE);
         }
     wait_for_ends();
-    for (int k = 0; k < options.ranks; k++) ulfm_end(&slots[k]);
+    for (int k = 0; k < options.ranks; k++) ulfm_end(&ranks[k].home);
     free_parcels();
     free_marks();
     tell_unmet_stops();

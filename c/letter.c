@@ -1,18 +1,12 @@
-/* Letters of the engine, as messages of MPI. The engine's bodies have at most 1,024 bytes: a letter has a head, and the bytes where they fit,
-   else the address of a parcel that has them: then it has all 1,024 bytes, which no other letter has. Ranks share their memory, so that the
-   receiver reads the parcel and lets it go. */
+/* Letters of the engine, as messages of MPI. The engine's bodies have at most 1,024 bytes. A letter has a head, the address of a parcel or null, and then
+   the message where it fits. Where it doesn't, the parcel has it, and the letter is the address alone, of which the highest byte is nothing: no other letter
+   is so short. Ranks share their memory, so that the receiver reads the parcel and lets it go. */
 #include "run.h"
+#include <sched.h>
 #include <stdlib.h>
 #include <string.h>
 
-struct head {
-    uint64_t length;
-    struct parcel *parcel;
-};
-enum { INLINE = BODY - sizeof(struct head) - 1 };
-
-static struct parcel *parcels, *last_parcel;  /* in the order in which they were sent */
-static pthread_mutex_t parcels_lock = PTHREAD_MUTEX_INITIALIZER;
+enum { HEAD = sizeof(uint64_t), PARCEL = HEAD - 1, INLINE = BODY - HEAD, PART = 8192, SPINS = 1000 };
 
 /* The error code of a refusal of the engine. */
 int class_of(uint32_t code) {
@@ -39,102 +33,135 @@ static struct parcel *new_parcel(const struct parcel *like) {
     struct parcel *parcel = malloc(sizeof *parcel + (like->length > INLINE ? like->length : 0));
     if (!parcel) return 0;
     *parcel = *like;
-    pthread_mutex_lock(&parcels_lock);
-    parcel->previous = last_parcel;
-    if (last_parcel) last_parcel->next = parcel;
-    else parcels = parcel;
-    last_parcel = parcel;
-    pthread_mutex_unlock(&parcels_lock);
+    pthread_mutex_lock(&me->parcels_lock);
+    parcel->previous = me->last_parcel;
+    if (me->last_parcel) me->last_parcel->next = parcel;
+    else me->parcels = parcel;
+    me->last_parcel = parcel;
+    pthread_mutex_unlock(&me->parcels_lock);
     return parcel;
 }
 
 /* One that used a parcel needs it no more; the last one frees it. */
 void let_go(struct parcel *parcel) {
     if (atomic_fetch_sub(&parcel->users, 1) > 1) return;
-    pthread_mutex_lock(&parcels_lock);
+    struct rank *from = &ranks[parcel->from];
+    pthread_mutex_lock(&from->parcels_lock);
     if (parcel->previous) parcel->previous->next = parcel->next;
-    else parcels = parcel->next;
+    else from->parcels = parcel->next;
     if (parcel->next) parcel->next->previous = parcel->previous;
-    else last_parcel = parcel->previous;
-    pthread_mutex_unlock(&parcels_lock);
+    else from->last_parcel = parcel->previous;
+    pthread_mutex_unlock(&from->parcels_lock);
     free(parcel);
 }
 
 /* Frees what nobody received. */
 void free_parcels(void) {
-    while (parcels) {
-        struct parcel *next = parcels->next;
-        free(parcels);
-        parcels = next;
-    }
+    for (struct rank *rank = ranks; rank < ranks + MAX_RANKS; rank++)
+        while (rank->parcels) {
+            struct parcel *next = rank->parcels->next;
+            free(rank->parcels);
+            rank->parcels = next;
+        }
 }
 
-/* Sends a letter to the position `dest`, the world rank `world`. Where `parcel` isn't null, it gets a parcel whose flag tells the match. */
-int send_letter(uint32_t context, int dest, int world, int tag, const void *bytes, size_t length, struct parcel **parcel) {
+/* Copies a long message, whose letter is on its way, into its parcel, unless the receiver comes before and copies it from the sender: then it waits until
+   that is done. */
+static void fill(struct parcel *parcel) {
+    const char *source = parcel->source;
+    for (size_t at = 0; at < parcel->length && atomic_load(&parcel->filling) == LIVE; at += PART)
+        memcpy(parcel->bytes + at, source + at, parcel->length - at < PART ? parcel->length - at : PART);
+    int live = LIVE;
+    if (!atomic_compare_exchange_strong(&parcel->filling, &live, FILLED))
+        for (int spins = 0; atomic_load(&parcel->filling) != TAKEN; spins++)
+            if (spins > SPINS) sched_yield();
+    let_go(parcel);
+}
+
+/* Hands a letter to the engine: its head, and the message unless that is long. */
+static uint32_t hand_on(uint32_t context, int dest, int tag, const struct parcel *parcel, const void *bytes, size_t length) {
     uint8_t letter[BODY];
-    struct head head = {.length = length};
+    uint64_t head = (uintptr_t)parcel;
     bool is_long = length > INLINE;
-    if (is_long || parcel) {
-        head.parcel = new_parcel(&(struct parcel){.users = parcel ? 2 : 1, .is_waited_for = parcel != 0, .from = me->number, .to = world,
-                                                  .context = context, .tag = tag, .length = length});
-        if (!head.parcel) return MPI_ERR_NO_MEM;
-        if (parcel) atomic_fetch_add(&ranks[world].waited_for, 1);
+    memcpy(letter, &head, HEAD);   /* the lowest byte stands first */
+    if (length && !is_long) memcpy(letter + HEAD, bytes, length);
+    return ulfm_isend(me->slot, context, (uint32_t)dest, (uint32_t)tag, letter, is_long ? PARCEL : HEAD + length);
+}
+
+/* Sends a letter to the position `dest`, the world rank `world`. Where `waits` isn't null, it gets a parcel whose flag tells the match. */
+int send_letter(uint32_t context, int dest, int world, int tag, const void *bytes, size_t length, struct parcel **waits) {
+    struct parcel *parcel = 0;
+    bool is_long = length > INLINE;
+    if (is_long || waits) {
+        parcel = new_parcel(&(struct parcel){.users = 1 + (waits != 0) + is_long, .is_waited_for = waits != 0, .from = me->number, .to = world,
+                                             .context = context, .tag = tag, .length = length, .source = bytes});
+        if (!parcel) return MPI_ERR_NO_MEM;
+        if (waits) atomic_fetch_add(&ranks[world].waited_for, 1);
     }
-    memcpy(letter, &head, sizeof head);
-    if (length) memcpy(letter + sizeof head, bytes, is_long ? INLINE + 1 : length);
-    if (is_long) memcpy(head.parcel->bytes, bytes, length);
-    uint32_t code = ulfm_isend(me->slot, context, (uint32_t)dest, (uint32_t)tag, letter, sizeof head + (is_long ? INLINE + 1 : length));
+    uint32_t code = hand_on(context, dest, tag, parcel, bytes, length);
     if (code != ULFM_OK) {
-        if (parcel) atomic_fetch_sub(&ranks[world].waited_for, 1);
-        if (head.parcel) {
-            head.parcel->users = 1;
-            let_go(head.parcel);
+        if (waits) atomic_fetch_sub(&ranks[world].waited_for, 1);
+        if (parcel) {
+            parcel->users = 1;
+            let_go(parcel);
         }
         return class_of(code);
     }
-    if (parcel) *parcel = head.parcel;
-    progress();
+    if (waits) *waits = parcel;
+    move_once();
+    if (is_long) fill(parcel);
     return MPI_SUCCESS;
 }
 
 /* The bytes of the message in a letter that a probe found: of the world rank `from`, and the next one of its tag from there. Receives that
    have their letters took them before. */
 size_t length_of_probed(const ulfm_status *told, uint32_t context, int from) {
-    if (told->length < BODY) return told->length - sizeof(struct head);
+    if (told->length != PARCEL) return told->length - HEAD;
     size_t length = 0;
-    pthread_mutex_lock(&parcels_lock);
-    for (struct parcel *parcel = parcels; parcel && length == 0; parcel = parcel->next)
-        if (parcel->from == from && parcel->to == me->number && parcel->context == context && parcel->tag == (int)told->tag &&
-            parcel->length > INLINE)
+    pthread_mutex_lock(&ranks[from].parcels_lock);
+    for (struct parcel *parcel = ranks[from].parcels; parcel && length == 0; parcel = parcel->next)
+        if (parcel->to == me->number && parcel->context == context && parcel->tag == (int)told->tag && parcel->length > INLINE)
             length = parcel->length;
-    pthread_mutex_unlock(&parcels_lock);
+    pthread_mutex_unlock(&ranks[from].parcels_lock);
     return length;
 }
 
+/* The parcel of a letter, or null. */
+static struct parcel *parcel_of(const ulfm_status *told, const uint8_t *letter) {
+    uint64_t head = 0;
+    memcpy(&head, letter, told->length == PARCEL ? PARCEL : HEAD);
+    return (struct parcel *)(uintptr_t)head;
+}
+
 /* The bytes of the message that a letter is. */
-size_t length_of_letter(const uint8_t *letter) {
-    struct head head;
-    memcpy(&head, letter, sizeof head);
-    return head.length;
+size_t length_of_letter(const ulfm_status *told, const uint8_t *letter) {
+    return told->length == PARCEL ? parcel_of(told, letter)->length : told->length - HEAD;
+}
+
+/* Copies the bytes of a long message from where they stand now. */
+static void empty(struct parcel *parcel, void *buffer, size_t length) {
+    int live = LIVE;
+    bool is_live = atomic_compare_exchange_strong(&parcel->filling, &live, CLAIMED);
+    memcpy(buffer, is_live ? parcel->source : parcel->bytes, length);
+    if (is_live) atomic_store(&parcel->filling, TAKEN);
 }
 
 /* Unpacks a letter that came into a buffer, and tells its sender that it was matched. */
 void take_letter(const ulfm_status *told, const uint8_t *letter, void *buffer, size_t room, MPI_Status *status, int *code) {
-    struct head head;
-    memcpy(&head, letter, sizeof head);
-    size_t length = head.length < room ? head.length : room;
-    bool is_long = head.length > INLINE;
-    if (length) memcpy(buffer, is_long ? head.parcel->bytes : letter + sizeof head, length);
-    *code = head.length > room ? MPI_ERR_TRUNCATE : MPI_SUCCESS;
+    struct parcel *parcel = parcel_of(told, letter);
+    size_t whole = length_of_letter(told, letter), length = whole < room ? whole : room;
+    if (told->length == PARCEL) empty(parcel, buffer, length);
+    else if (length) memcpy(buffer, letter + HEAD, length);
+    *code = whole > room ? MPI_ERR_TRUNCATE : MPI_SUCCESS;
     *status = (MPI_Status){.MPI_SOURCE = (int)told->source, .MPI_TAG = (int)told->tag, .MPI_ERROR = *code, .bytes = length};
-    if (!head.parcel) return;
-    bool is_waited_for = head.parcel->is_waited_for;
+    if (!parcel) return;
+    bool is_waited_for = parcel->is_waited_for;
     if (is_waited_for) {
-        atomic_store(&head.parcel->matched, 1);
+        atomic_store(&parcel->matched, 1);
         atomic_fetch_sub(&me->waited_for, 1);
     }
-    let_go(head.parcel);
-    if (is_waited_for) moved();
+    let_go(parcel);
+    if (is_waited_for) marked();
 }
 
 /* Whether the program's communicator is known to be revoked. */

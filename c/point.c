@@ -27,6 +27,13 @@ static int begin_send(const void *buf, int count, MPI_Datatype type, int dest, i
     return MPI_SUCCESS;
 }
 
+/* A send that is complete in its call needs no request. */
+static int send_buffered(const void *buf, int count, MPI_Datatype type, int dest, int tag, struct comm *comm) {
+    size_t bytes = 0;
+    int code = check(buf, count, type, dest, tag, comm, false, &bytes);
+    return code != MPI_SUCCESS || dest == MPI_PROC_NULL ? code : send_now(comm, dest, tag, buf, bytes, 0);
+}
+
 static int begin_receive(void *buf, int count, MPI_Datatype type, int source, int tag, struct comm *comm, struct request **made) {
     size_t bytes = 0;
     int code = check(buf, count, type, source, tag, comm, true, &bytes);
@@ -53,6 +60,7 @@ static int finish(struct request *request, MPI_Status *status) {
 
 static int send_and_wait(const void *buf, int count, MPI_Datatype type, int dest, int tag, struct comm *comm, bool waits) {
     struct request *request;
+    if (!waits) return fail(comm, send_buffered(buf, count, type, dest, tag, comm));
     int code = begin_send(buf, count, type, dest, tag, comm, waits, &request);
     return code != MPI_SUCCESS ? fail(comm, code) : fail(comm, finish(request, 0));
 }

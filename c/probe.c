@@ -35,7 +35,7 @@ static void take_message(struct probe *probe, uint64_t id) {
     message->comm = probe->comm;
     probe->code = class_of(ulfm_mrecv(me->slot, id, &message->told, message->letter, sizeof message->letter));
     probe->message = message;
-    tell_found(probe, &message->told, length_of_letter(message->letter));
+    tell_found(probe, &message->told, length_of_letter(&message->told, message->letter));
 }
 
 /* Looks once. */
@@ -58,8 +58,9 @@ static void look(struct probe *probe) {
     else if (probe->source == MPI_ANY_SOURCE && has_unacknowledged(comm)) probe->code = MPIX_ERR_PROC_FAILED_PENDING;
 }
 
-static bool is_found(void *of) {
+static bool is_found(void *of, bool is_settled) {
     struct probe *probe = of;
+    (void)is_settled;
     look(probe);
     return probe->found || probe->code != MPI_SUCCESS;
 }
@@ -80,7 +81,7 @@ static int run_probe(struct probe *probe, bool waits) {
         probe->status = (MPI_Status){.MPI_SOURCE = MPI_PROC_NULL, .MPI_TAG = MPI_ANY_TAG};
         return MPI_SUCCESS;
     }
-    if (waits) wait_until(is_found, probe);
+    if (waits) wait_until(is_found, probe, false);
     else {
         progress();
         look(probe);

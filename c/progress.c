@@ -1,93 +1,134 @@
-/* Progress and waits. `moves` counts what any rank did that another one may see: each such change comes before its count. A rank that finds
-   nothing looks again some times, then yields, then sleeps until the count rises. Where each rank found nothing since the count's last rise,
-   nobody can move any more. */
+/* Progress and waits. What a rank did that another one may see is counted: the moves of its engine at a place of its own, and at one place the marks of
+   this layer that other ranks look at (matches, revocations of parts, ends). Each such change comes before its count. A rank that finds nothing
+   looks again some times, then yields, then sleeps until a count rises. Where each rank found nothing since the counts' last rise, nobody can move any
+   more. */
 #define _GNU_SOURCE
 #include "run.h"
-#include <errno.h>
 #include <linux/futex.h>
 #include <sched.h>
 #include <sys/syscall.h>
 #include <unistd.h>
 
-enum { LOOKS = 100, YIELDS = 4, TURNS = 64 };
+enum { LOOKS = 1000, LOOKS_IN_SWEEPS = 50, YIELDS = 4, TURNS = 64, LINE = 128 };
 
-_Atomic uint64_t moves;
-static _Atomic int sleepers;
+/* On cache lines of its own. */
+struct count {
+    _Alignas(LINE) _Atomic uint64_t count;
+};
+static struct count moves[MAX_RANKS], marks;
+static struct {
+    _Alignas(LINE) _Atomic int sleepers;
+    _Atomic uint32_t wakes;   /* how often they were woken */
+} beds;
 static int processors;
 
-static void *futex_word(void) {
-#if __BYTE_ORDER__ == __ORDER_LITTLE_ENDIAN__
-    return &moves;
-#else
-    return (char *)&moves + 4;
-#endif
+static void wake(void) {
+    if (atomic_load(&beds.sleepers) == 0) return;
+    atomic_fetch_add(&beds.wakes, 1);
+    syscall(SYS_futex, &beds.wakes, FUTEX_WAKE_PRIVATE, MAX_RANKS, 0, 0, 0);
 }
 
-/* Something changed that other ranks may see. */
+/* The rank's engine changed what other ranks may see. */
 void moved(void) {
-    atomic_fetch_add(&moves, 1);
-    if (atomic_load(&sleepers) > 0) syscall(SYS_futex, futex_word(), FUTEX_WAKE_PRIVATE, MAX_RANKS, 0, 0, 0);
+    _Atomic uint64_t *own = &moves[me->number].count;
+    atomic_store(own, atomic_load_explicit(own, memory_order_relaxed) + 1);   /* before the look at who sleeps */
+    wake();
+}
+
+/* A mark of this layer changed that other ranks look at. */
+void marked(void) {
+    atomic_fetch_add(&marks.count, 1);
+    wake();
+}
+
+/* How much all ranks did. Counts only rise, so where two sums are the same, no rank did anything from the first one's end to the other's begin. */
+static uint64_t all_moves(void) {
+    uint64_t sum = atomic_load(&marks.count);
+    for (int k = 0; k < options.ranks; k++) sum += atomic_load(&moves[k].count);
+    return sum;
+}
+
+static bool turn(void) {
+    uint32_t did = 0;
+    if (ulfm_turn(me->slot, &did) != ULFM_OK || !did) return false;
+    moved();
+    return true;
+}
+
+/* Something came, perhaps: tells the senders that wait for a match, and looks at barriers that are open. */
+static void look_at_open(void) {
+    if (me->has_stopped) return;
+    if (atomic_load(&me->waited_for) > 0) look_at_all();
+    if (me->barriers > 0) look_at_barriers();
+}
+
+/* Moves what goes out, and takes one item that came. Whether anything moved. */
+bool move_once(void) {
+    if (!turn()) return false;
+    look_at_open();
+    return true;
 }
 
 /* Moves what goes out and comes in. Whether anything moved. */
 bool progress(void) {
-    bool has_moved = false;
-    uint32_t did = 1;
-    for (int turn = 0; turn < TURNS && ulfm_turn(me->slot, &did) == ULFM_OK && did; turn++) {
-        has_moved = true;
-        moved();
-    }
-    if (has_moved && !me->has_stopped && atomic_load(&me->waited_for) > 0) look_at_all();
-    if (has_moved && !me->has_stopped && me->barriers > 0) look_at_barriers();
-    return has_moved;
+    int turns = 0;
+    while (turns < TURNS && turn()) turns++;
+    if (turns) look_at_open();
+    return turns > 0;
 }
 
-/* Whether each rank found nothing since the count was `seen`, and the count still is. */
+/* Whether each rank found nothing since all moves were `seen`, and they still are. */
 static bool can_nobody_move(uint64_t seen) {
     bool all_gone = true;
     for (int k = 0; k < options.ranks; k++) {
         if (!atomic_load(&ranks[k].is_gone)) all_gone = false;
         if (!atomic_load(&ranks[k].is_ended) && atomic_load(&ranks[k].idle) != seen + 1) return false;
     }
-    return !all_gone && atomic_load(&moves) == seen;
+    return !all_gone && all_moves() == seen;
 }
 
 static void sleep_until_moved(uint64_t seen) {
+    atomic_fetch_add(&beds.sleepers, 1);
+    uint32_t wakes = atomic_load(&beds.wakes);   /* who moves from now on wakes this rank */
     atomic_store(&me->idle, seen + 1);
     if (can_nobody_move(seen)) tell_stuck();
-    atomic_fetch_add(&sleepers, 1);
-    syscall(SYS_futex, futex_word(), FUTEX_WAIT_PRIVATE, (uint32_t)seen, 0, 0, 0);
-    atomic_fetch_sub(&sleepers, 1);
+    if (all_moves() == seen) syscall(SYS_futex, &beds.wakes, FUTEX_WAIT_PRIVATE, wakes, 0, 0, 0);
     atomic_store(&me->idle, 0);
+    atomic_fetch_sub(&beds.sleepers, 1);
 }
 
+/* Where others want the processors, a rank that waits gives its own away soon. */
 static int looks_before_yield(void) {
     if (!processors) {
         cpu_set_t set;
         processors = sched_getaffinity(0, sizeof set, &set) == 0 ? CPU_COUNT(&set) : 1;
     }
-    return options.ranks <= processors ? LOOKS : 1;
+    if (options.ranks > processors) return 1;
+    return options.report >= 0 ? LOOKS_IN_SWEEPS : LOOKS;
 }
 
-/* Makes progress until `is_done` says so, which looks once each time. What it looks at changes only with the count of moves. */
-void wait_until(bool (*is_done)(void *), void *of) {
+/* Makes progress until `is_done` says so, which looks once each time: when something came, and `is_settled` where nothing did for some time. What it looks
+   at changes by what comes, and by marks. A look that is dear is made when all that came was taken. */
+void wait_until(bool (*is_done)(void *, bool is_settled), void *of, bool is_dear) {
     int looks = 0, most = looks_before_yield();
-    uint64_t asked_at = UINT64_MAX;
+    uint64_t seen = 0, asked_at = UINT64_MAX;
     for (;;) {
-        uint64_t seen = atomic_load(&moves);   /* before the look: what comes after it is a further move */
-        bool has_moved = progress();
-        if ((has_moved || seen != asked_at) && is_done(of)) return;
-        asked_at = seen;
-        looks = has_moved ? 1 : looks + 1;
-        if (looks <= most) atomic_signal_fence(memory_order_seq_cst);
-        else if (looks <= most + YIELDS) sched_yield();
-        else sleep_until_moved(seen);
+        if (looks >= most + YIELDS) seen = all_moves();   /* before the look: what comes after it is a further move */
+        bool has_moved = is_dear ? progress() : move_once();
+        uint64_t marked_at = atomic_load(&marks.count);
+        bool is_settled = !has_moved && (looks == most || marked_at != asked_at);
+        if ((has_moved || is_settled) && is_done(of, is_settled)) return;
+        asked_at = marked_at;
+        looks = has_moved ? 0 : looks + 1;
+        if (looks > most + YIELDS) sleep_until_moved(seen);
+        else if (looks > most) sched_yield();
     }
 }
 
 /* Whether each rank has finalized or stopped. */
-bool all_are_gone(void *unused) {
+bool all_are_gone(void *unused, bool is_settled) {
     (void)unused;
+    (void)is_settled;
     for (int k = 0; k < options.ranks; k++)
         if (!atomic_load(&ranks[k].is_gone)) return false;
     return true;
@@ -96,7 +137,7 @@ bool all_are_gone(void *unused) {
 /* Leaves the others, and moves what goes out and comes in until all have left. */
 void drain(void) {
     atomic_store(&me->is_gone, 1);
-    moved();
-    wait_until(all_are_gone, 0);
+    marked();
+    wait_until(all_are_gone, 0, false);
     progress();
 }

@@ -9,7 +9,7 @@ int MPIX_Comm_revoke(MPI_Comm comm) {
     if (!of) return fail(0, MPI_ERR_COMM);
     if (of->is_part) atomic_store(of->revoked, 1);
     int code = of->is_part ? MPI_SUCCESS : class_of(ulfm_revoke(me->slot, of->context));
-    moved();
+    marked();
     progress();
     return fail(of, code);
 }
@@ -30,8 +30,9 @@ struct shrink {
     uint32_t code;
 };
 
-static bool is_shrunk(void *of) {
+static bool is_shrunk(void *of, bool is_settled) {
     struct shrink *shrink = of;
+    (void)is_settled;
     shrink->code = ulfm_poll_shrink(me->slot, shrink->context, &shrink->made);
     if (shrink->code == ULFM_OK) moved();
     return shrink->code != ULFM_NOT_YET;
@@ -49,7 +50,7 @@ int MPIX_Comm_shrink(MPI_Comm comm, MPI_Comm *made) {
     if (shrink.code != ULFM_OK) return fail(of, class_of(shrink.code));
     progress();
     plan_inside();
-    wait_until(is_shrunk, &shrink);
+    wait_until(is_shrunk, &shrink, true);
     if (shrink.code != ULFM_OK) return fail(of, class_of(shrink.code));
     me->shrunk[shrink.context] = shrink.made;
     plan_inside();
@@ -65,12 +66,26 @@ int MPIX_Comm_shrink(MPI_Comm comm, MPI_Comm *made) {
 /* ---- Agree ---- */
 
 struct agreement {
+    const struct comm *comm;
     uint32_t context, code, value;
     ulfm_group missing;
 };
 
-static bool is_agreed(void *of) {
+/* Whether each member is in the agreement that this rank is in, was in it, or has left: else there can't be a decision, and the engine's answer, which takes
+   the longer the more agreements there were, needn't be asked for. */
+static bool can_be_agreed(const struct agreement *agreement) {
+    uint32_t own = atomic_load(&me->agreed[agreement->context]);
+    for (int k = 0; k < agreement->comm->size; k++) {
+        const struct rank *rank = &ranks[agreement->comm->members[k]];
+        if (atomic_load(&rank->agreed[agreement->context]) < own && !atomic_load(&rank->is_gone)) return false;
+    }
+    return true;
+}
+
+static bool is_agreed(void *of, bool is_settled) {
     struct agreement *agreement = of;
+    (void)is_settled;
+    if (!can_be_agreed(agreement)) return false;
     agreement->code = ulfm_poll_agree(me->slot, agreement->context, &agreement->value, &agreement->missing);
     if (agreement->code == ULFM_OK) moved();
     return agreement->code != ULFM_NOT_YET;
@@ -78,12 +93,13 @@ static bool is_agreed(void *of) {
 
 /* One agreement of the engine: the AND of the flags of all members but those that are missing. */
 static int agree_on(struct comm *comm, uint32_t flag, struct agreement *agreement) {
-    *agreement = (struct agreement){.context = comm->context};
+    *agreement = (struct agreement){.comm = comm, .context = comm->context};
     uint32_t code = ulfm_enter_agree(me->slot, comm->context, flag);
     if (code == ULFM_OK) {
+        atomic_fetch_add(&me->agreed[comm->context], 1);   /* before its word goes out */
         progress();
         plan_inside();
-        wait_until(is_agreed, agreement);
+        wait_until(is_agreed, agreement, true);
         code = agreement->code;
         plan_inside();
     }

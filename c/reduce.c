@@ -3,14 +3,18 @@
 #include <stdlib.h>
 #include <string.h>
 
-/* A reduction: its arguments, and room for all parts behind one another, then for a verdict and the result. */
+enum { SHORT = 512 };
+
+/* A reduction: its arguments, and room for a verdict and the result, for what is folded, and for all parts behind one another. */
 struct reduction {
     struct comm *comm;
     int count;
     MPI_Datatype type;
     MPI_Op op;
     size_t bytes;
-    char *parts, *result;   /* result has a verdict before it */
+    char *result, *folded, *parts;   /* result has a verdict before it */
+    char *room;                      /* of the heap, or null */
+    _Alignas(16) char own[SHORT];
 };
 
 /* Why its arguments can't be, or MPI_SUCCESS; then it knows its bytes. `recvbuf` is null where nothing is received. */
@@ -29,29 +33,29 @@ static int begin(struct reduction *of, const void *sendbuf, const void *recvbuf,
     if (code != MPI_SUCCESS) return refuse_collective(comm, code);
     code = begin_collective(comm);
     if (code != MPI_SUCCESS) return code;
-    of->parts = malloc(of->bytes * (size_t)comm->size + 1);
-    of->result = malloc(VERDICT + of->bytes);
-    return of->parts && of->result ? MPI_SUCCESS : MPI_ERR_NO_MEM;
+    size_t each = (of->bytes + 15) & ~(size_t)15, whole = 16 + 2 * each + of->bytes * (size_t)comm->size;
+    char *room = whole <= SHORT ? of->own : (of->room = malloc(whole));
+    if (!room) return MPI_ERR_NO_MEM;
+    of->result = room + 16 - VERDICT;
+    of->folded = room + 16 + each;
+    of->parts = of->folded + each;
+    return MPI_SUCCESS;
 }
 
 static int finish(struct reduction *of, int code) {
-    free(of->parts);
-    free(of->result);
+    free(of->room);
     return fail(of->comm, code);
 }
 
 /* Folds parts 0 to last into `into`, in order. */
 static int fold_parts(const struct reduction *of, int last, char *into) {
-    char *folded = malloc(of->bytes + 1);
-    int code = folded ? MPI_SUCCESS : MPI_ERR_NO_MEM;
-    if (!folded) return code;
+    int code = MPI_SUCCESS;
     memcpy(into, of->parts, of->bytes);
     for (int k = 1; k <= last && code == MPI_SUCCESS; k++) {
-        memcpy(folded, of->parts + of->bytes * (size_t)k, of->bytes);
-        code = fold(into, folded, of->count, of->type, of->op);
-        memcpy(into, folded, of->bytes);
+        memcpy(of->folded, of->parts + of->bytes * (size_t)k, of->bytes);
+        code = fold(into, of->folded, of->count, of->type, of->op);
+        memcpy(into, of->folded, of->bytes);
     }
-    free(folded);
     return code;
 }
 
@@ -88,8 +92,8 @@ int MPI_Reduce(const void *sendbuf, void *recvbuf, int count, MPI_Datatype type,
         else one = collect_receive(in, k, part, of.bytes);
         if (code == MPI_SUCCESS) code = one;
     }
-    if (code == MPI_SUCCESS) code = fold_parts(&of, in->size - 1, of.result);
-    if (code == MPI_SUCCESS && of.bytes) memcpy(recvbuf, of.result, of.bytes);
+    if (code == MPI_SUCCESS) code = fold_parts(&of, in->size - 1, of.result + VERDICT);
+    if (code == MPI_SUCCESS && of.bytes) memcpy(recvbuf, of.result + VERDICT, of.bytes);
     return finish(&of, code);
 }
 

@@ -1,5 +1,6 @@
 /* Requests: what was begun and isn't over, and what is over and wasn't told. */
 #include "run.h"
+#include <stddef.h>
 #include <stdlib.h>
 #include <string.h>
 
@@ -19,13 +20,11 @@ static int free_place(void) {
 
 /* A request that isn't over, or null where there is no memory. */
 struct request *new_request(enum kind kind, struct comm *comm, int peer, int tag) {
-    struct request *request = calloc(1, sizeof *request);
-    if (!request) return 0;
+    struct request *request = me->spare;
     int place = free_place();
-    if (place < 0) {
-        free(request);
-        return 0;
-    }
+    if (place < 0 || (!request && !(request = malloc(sizeof *request)))) return 0;
+    if (me->spare) me->spare = request->next;
+    memset(request, 0, kind == BARRIER ? sizeof *request : offsetof(struct request, parts));
     request->kind = kind;
     request->comm = comm;
     request->context = comm->context;
@@ -37,12 +36,16 @@ struct request *new_request(enum kind kind, struct comm *comm, int peer, int tag
     return request;
 }
 
+static void link_open(struct request *request) {
+    request->next = me->open;
+    if (me->open) me->open->previous = request;
+    me->open = request;
+}
+
 static void unlink_open(struct request *request) {
-    for (struct request **at = &me->open; *at; at = &(*at)->next)
-        if (*at == request) {
-            *at = request->next;
-            return;
-        }
+    if (request->previous) request->previous->next = request->next;
+    else me->open = request->next;
+    if (request->next) request->next->previous = request->previous;
 }
 
 void free_request(struct request *request) {
@@ -50,7 +53,8 @@ void free_request(struct request *request) {
     if (request->parcel) let_go(request->parcel);
     me->requests[request->handle - 1] = 0;
     if (request->handle - 1 < me->first_free) me->first_free = request->handle - 1;
-    free(request);
+    request->next = me->spare;
+    me->spare = request;
 }
 
 /* The request is over. One that the program freed before goes. */
@@ -81,10 +85,15 @@ void start_receive(struct request *request, void *buffer, size_t room) {
     uint32_t source = comm->is_self ? comm->place[0] : request->peer == MPI_ANY_SOURCE ? ULFM_ANY : comm->place[request->peer];
     uint32_t tag = request->tag == MPI_ANY_TAG ? ULFM_ANY : (uint32_t)request->tag, code = ULFM_REVOKED;
     if (!comm->is_part || !is_revoked(comm)) code = ulfm_irecv(me->slot, request->context, source, tag, BODY, &request->id);
-    request->next = me->open;
-    me->open = request;
+    link_open(request);
     if (code != ULFM_OK) end_request(request, class_of(code));
-    else look_at(request);
+    else if (atomic_load(&me->waited_for) > 0) look_at(request);
+}
+
+/* Sends a message of the program. Where `parcel` isn't null, it gets a parcel whose flag tells the match. */
+int send_now(struct comm *comm, int peer, int tag, const void *buffer, size_t length, struct parcel **parcel) {
+    if (comm->is_part && is_revoked(comm)) return MPIX_ERR_REVOKED;
+    return send_letter(comm->context, comm->place[peer], comm->members[peer], tag, buffer, length, parcel);
 }
 
 /* Starts the send of a request. A refusal is told where the request ends. */
@@ -93,11 +102,7 @@ void start_send(struct request *request, const void *buffer, size_t length, bool
         end_with_nobody(request);
         return;
     }
-    struct comm *comm = request->comm;
-    int code = MPIX_ERR_REVOKED;
-    if (!comm->is_part || !is_revoked(comm))
-        code = send_letter(request->context, comm->place[request->peer], comm->members[request->peer], request->tag, buffer, length,
-                           is_synchronous ? &request->parcel : 0);
+    int code = send_now(request->comm, request->peer, request->tag, buffer, length, is_synchronous ? &request->parcel : 0);
     request->kind = request->parcel ? SYNCHRONOUS : SENT;
     request->status.bytes = length;
     if (code != MPI_SUCCESS || !is_synchronous) end_request(request, code);
@@ -182,4 +187,9 @@ void clear_requests(void) {
     me->requests = 0;
     me->request_count = 0;
     me->open = 0;
+    while (me->spare) {
+        struct request *next = me->spare->next;
+        free(me->spare);
+        me->spare = next;
+    }
 }

@@ -68,17 +68,22 @@ struct plans {
     int colors[MAX_RANKS], keys[MAX_RANKS];   /* of MPI_Comm_split, by positions; before, the own ones stand first */
 };
 
-/* What goes beside a message: a long body, and where its sender waits for the match, the flag that tells it. In one list, so that those that
-   nobody received are freed at the end. */
+/* Where the bytes of a parcel stand: with its sender, who copies them; there, and its receiver copies them; in the parcel; at the receiver. */
+enum filling { LIVE, CLAIMED, FILLED, TAKEN };
+
+/* What goes beside a message: a long body, and where its sender waits for the match, the flag that tells it. In a list of its sender's, so that those
+   that nobody received are freed at the end. */
 struct parcel {
     struct parcel *next, *previous;
-    _Atomic int users;   /* message, sender */
+    _Atomic int users;   /* the message, its sender, the copying of its body */
     _Atomic int matched;
+    _Atomic int filling;
     bool is_waited_for;
     int from, to;         /* world ranks */
     uint32_t context;
     int tag;
     size_t length;        /* of the message */
+    const void *source;   /* where the sender has its bytes */
     unsigned char bytes[];
 };
 
@@ -98,11 +103,11 @@ struct request {
     bool over, freed;       /* its status is known; the program freed it */
     int code;
     MPI_Status status;
-    struct request *next;   /* of the open receives */
-    struct request *parts[MAX_RANKS];   /* of a barrier: its receives */
-    int64_t verdict;                    /* of a barrier: what position 0 told */
-    bool is_ending;                     /* a barrier that is being ended */
+    struct request *next, *previous;   /* of the open receives, or of those that can be used again */
     int handle;
+    bool is_ending;                     /* a barrier that is being ended */
+    int64_t verdict;                    /* of a barrier: what position 0 told */
+    struct request *parts[MAX_RANKS];   /* of a barrier: its receives */
 };
 
 /* What the rank's present call is, for reports. */
@@ -116,8 +121,8 @@ struct place {
 
 /* A rank: its thread, what it has of MPI, and what the launcher knows of it. */
 struct rank {
-    int number;
-    ulfm_slot *slot;
+    _Alignas(128) int number;  /* no rank writes to another one's cache lines but where it has to */
+    ulfm_slot *slot, home;     /* slot: home */
     pthread_t thread;
     jmp_buf bottom;
     struct comm **comms, **old_comms;  /* those that the program freed too */
@@ -129,6 +134,9 @@ struct rank {
     struct op *ops;
     int comm_count, old_comm_count, group_count, request_count, message_count, handler_count, type_count, op_count, first_free;
     struct request *open;     /* receives that wait */
+    struct request *spare;    /* can be used again */
+    struct parcel *parcels, *last_parcel;   /* that it sent, in that order */
+    pthread_mutex_t parcels_lock;
     uint32_t shrunk[CONTEXTS];
     _Atomic int self_revoked;
     bool has_begun, has_finalized, has_stopped;
@@ -143,15 +151,15 @@ struct rank {
     size_t line_length, line_room;
     void *program;
     char *path, **words;
-    _Atomic uint64_t idle;    /* the count of moves that its last look saw, and 1; 0: it runs */
+    _Alignas(128) _Atomic uint64_t idle;  /* all moves before its last look, and 1; 0: it runs */
     _Atomic int is_gone;      /* it has finalized, or stopped */
     _Atomic int is_ended;     /* its thread needs nothing more */
     _Atomic int waited_for;   /* synchronous sends to it without a match */
+    _Atomic uint32_t agreed[CONTEXTS];   /* how many agreements it entered */
 };
 
 extern struct rank ranks[MAX_RANKS];
-extern ulfm_slot slots[MAX_RANKS];
-extern __thread struct rank *me;
+extern __thread struct rank *me __attribute__((tls_model("initial-exec")));
 
 /* launch.c, load.c, words.c */
 int read_words(int count, char **words);
@@ -177,10 +185,11 @@ void drain(void);
 
 /* progress.c */
 bool progress(void);
+bool move_once(void);
 void moved(void);
-void wait_until(bool (*is_done)(void *), void *of);
-bool all_are_gone(void *unused);
-extern _Atomic uint64_t moves;
+void marked(void);
+void wait_until(bool (*is_done)(void *, bool is_settled), void *of, bool is_dear);
+bool all_are_gone(void *unused, bool is_settled);
 
 /* hang.c */
 char *line_of(const struct rank *rank, char *text, size_t room);
@@ -196,7 +205,7 @@ int class_of(uint32_t code);
 int send_letter(uint32_t context, int dest, int world, int tag, const void *bytes, size_t length, struct parcel **parcel);
 void take_letter(const ulfm_status *told, const uint8_t *letter, void *buffer, size_t room, MPI_Status *status, int *code);
 size_t length_of_probed(const ulfm_status *told, uint32_t context, int from);
-size_t length_of_letter(const uint8_t *letter);
+size_t length_of_letter(const ulfm_status *told, const uint8_t *letter);
 void let_go(struct parcel *parcel);
 void free_parcels(void);
 bool is_revoked(const struct comm *comm);
@@ -210,6 +219,7 @@ struct request *request_at(MPI_Request handle);
 void free_request(struct request *request);
 void end_request(struct request *request, int code);
 void start_receive(struct request *request, void *buffer, size_t room);
+int send_now(struct comm *comm, int peer, int tag, const void *buffer, size_t length, struct parcel **parcel);
 void start_send(struct request *request, const void *buffer, size_t length, bool is_synchronous);
 int look_at(struct request *request);
 int wait_for(struct request *request);

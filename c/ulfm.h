@@ -30,7 +30,8 @@
 extern "C" {
 #endif
 
-/* A rank, or none. All zeros is none. Nobody copies it while it has a rank: it is handed on by its address. */
+/* A rank, or none. All zeros is none. Nobody copies it while it has a rank: it is handed on by its address. Between calls it may move: the old
+   place is never used again. Calls write to it, so slots of different threads should stand on different cache lines. */
 typedef struct {
     void *at;       /* null where it has none */
     uint32_t holds; /* 1 where it has a rank, else 0 */

@@ -12,8 +12,9 @@ struct waiting {
     int pends;
 };
 
-static bool is_over(void *of) {
+static bool is_over(void *of, bool is_settled) {
     struct waiting *waiting = of;
+    (void)is_settled;
     waiting->pends = look_at(waiting->request);
     return waiting->request->over || waiting->pends;
 }
@@ -21,7 +22,7 @@ static bool is_over(void *of) {
 /* Waits until a request is over, or pends: then MPIX_ERR_PROC_FAILED_PENDING, else MPI_SUCCESS. */
 int wait_for(struct request *request) {
     struct waiting waiting = {request, 0};
-    if (!request->over) wait_until(is_over, &waiting);
+    if (!request->over) wait_until(is_over, &waiting, false);
     return request->over ? MPI_SUCCESS : waiting.pends;
 }
 
@@ -131,7 +132,9 @@ struct several {
     int active, over, failed;  /* how many there are, are over, have an error or pend */
     int first;                 /* the first one that is over or pends, or -1 */
     bool wants_all;
+    int next, looks;           /* all before `next` are over without an error; how often only those behind were looked at */
 };
+enum { LOOKS_AT_NEXT = 64 };
 
 static void look_at_several(struct several *several) {
     several->active = several->over = several->failed = 0;
@@ -147,8 +150,24 @@ static void look_at_several(struct several *several) {
     }
 }
 
-static bool are_done(void *of) {
+/* Looks at the next ones in turn, until one isn't over. Whether none is left, or one has an error or pends. */
+static bool are_next_done(struct several *several) {
+    for (; several->next < several->count; several->next++) {
+        struct request *request = request_at(several->handles[several->next]);
+        if (!request) continue;
+        int pends = look_at(request);
+        several->failed = pends || (request->over && request->code != MPI_SUCCESS);
+        if (several->failed) return true;
+        if (!request->over) return false;
+    }
+    return true;
+}
+
+/* Messages mostly come in the order of their receives, so where something came and all are wanted, it looks at the next ones alone; at all of them now and
+   then, for an error. */
+static bool are_done(void *of, bool is_settled) {
     struct several *several = of;
+    if (several->wants_all && !is_settled && several->looks++ % LOOKS_AT_NEXT) return are_next_done(several);
     look_at_several(several);
     if (several->failed || several->active == 0) return true;
     return several->wants_all ? several->over == several->active : several->over > 0;
@@ -196,7 +215,7 @@ int MPI_Waitall(int count, MPI_Request handles[], MPI_Status statuses[]) {
     if (code != MPI_SUCCESS) return fail(0, code);
     for (int k = 0; k < count; k++)
         if (request_at(handles[k]) && !request_at(handles[k])->over) tell_place(request_at(handles[k]));
-    wait_until(are_done, &several);
+    wait_until(are_done, &several, false);
     return release_all(&several, statuses);
 }
 
@@ -206,7 +225,7 @@ int MPI_Testall(int count, MPI_Request handles[], int *flag, MPI_Status statuses
     int code = check_requests(count, handles, flag);
     if (code != MPI_SUCCESS) return fail(0, code);
     progress();
-    *flag = are_done(&several);
+    *flag = are_done(&several, true);
     if (!*flag) return MPI_SUCCESS;
     if (several.active) plan_call();
     return release_all(&several, statuses);
@@ -227,7 +246,7 @@ int MPI_Waitany(int count, MPI_Request handles[], int *index, MPI_Status *status
     ENTER(0, MPI_UNDEFINED, MPI_UNDEFINED);
     int code = check_requests(count, handles, index);
     if (code != MPI_SUCCESS) return fail(0, code);
-    wait_until(are_done, &several);
+    wait_until(are_done, &several, false);
     return release_one(&several, index, status);
 }
 
@@ -237,7 +256,7 @@ int MPI_Testany(int count, MPI_Request handles[], int *index, int *flag, MPI_Sta
     int code = check_requests(count, handles, index && flag);
     if (code != MPI_SUCCESS) return fail(0, code);
     progress();
-    *flag = are_done(&several);
+    *flag = are_done(&several, true);
     if (*flag && several.active) plan_call();
     return release_one(&several, index, status);
 }
@@ -265,7 +284,7 @@ int MPI_Waitsome(int incount, MPI_Request handles[], int *outcount, int indices[
     ENTER(0, MPI_UNDEFINED, MPI_UNDEFINED);
     int code = check_requests(incount, handles, outcount && (indices || incount == 0));
     if (code != MPI_SUCCESS) return fail(0, code);
-    wait_until(are_done, &several);
+    wait_until(are_done, &several, false);
     return release_some(&several, outcount, indices, statuses);
 }
 
@@ -275,6 +294,6 @@ int MPI_Testsome(int incount, MPI_Request handles[], int *outcount, int indices[
     int code = check_requests(incount, handles, outcount && (indices || incount == 0));
     if (code != MPI_SUCCESS) return fail(0, code);
     progress();
-    if (are_done(&several) && several.active) plan_call();
+    if (are_done(&several, true) && several.active) plan_call();
     return release_some(&several, outcount, indices, statuses);
 }
