@@ -24,8 +24,10 @@ int refuse_collective(struct comm *comm, int code) {
     return code;
 }
 
-/* Whether so many bytes can stand there. */
-bool is_buffer(const void *buffer, size_t bytes) { return bytes == 0 || (buffer && buffer != MPI_IN_PLACE); }
+/* Whether so many bytes of a type can stand there. With displacements from MPI_BOTTOM they can at a null pointer. */
+bool is_buffer(const void *buffer, size_t bytes, MPI_Datatype type) {
+    return bytes == 0 || ((buffer || !is_basic_type(type)) && buffer != MPI_IN_PLACE);
+}
 
 int collect_send(struct comm *comm, int to, const void *bytes, size_t length) {
     int code = send_letter(comm->hidden, comm->place[to], comm->members[to], tag_of(comm), bytes, length, 0);
@@ -107,6 +109,18 @@ int MPI_Barrier(MPI_Comm comm) {
     return fail(of, spread_verdict(of, code, verdict, 0));
 }
 
+/* All get the root's data, where their types lay it out. */
+static int broadcast(struct comm *comm, void *buf, int count, MPI_Datatype type, size_t bytes, int root) {
+    const void *data;
+    void *packed;
+    int code = pack_data(buf, count, type, &data, &packed);
+    if (code != MPI_SUCCESS) return code;
+    code = spread(comm, packed ? packed : buf, bytes, root);
+    if (packed && code == MPI_SUCCESS && comm->position != root) unpack_data(packed, bytes, buf, count, type);
+    free(packed);
+    return code;
+}
+
 int MPI_Bcast(void *buf, int count, MPI_Datatype type, int root, MPI_Comm comm) {
     struct comm *of = comm_at(comm);
     size_t bytes = 0;
@@ -115,8 +129,8 @@ int MPI_Bcast(void *buf, int count, MPI_Datatype type, int root, MPI_Comm comm) 
     if (!of) return fail(0, MPI_ERR_COMM);
     check_buffer(count, type, &bytes, &code);
     if (root < 0 || root >= of->size) code = MPI_ERR_ROOT;
-    if (code == MPI_SUCCESS && !is_buffer(buf, bytes)) code = MPI_ERR_BUFFER;
+    if (code == MPI_SUCCESS && !is_buffer(buf, bytes, type)) code = MPI_ERR_BUFFER;
     if (code != MPI_SUCCESS) return fail(of, refuse_collective(of, code));
     code = begin_collective(of);
-    return fail(of, code != MPI_SUCCESS ? code : spread(of, buf, bytes, root));
+    return fail(of, code != MPI_SUCCESS ? code : broadcast(of, buf, count, type, bytes, root));
 }

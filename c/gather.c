@@ -1,38 +1,7 @@
 /* Collectives that move data (MPI 4.0, 6.5 to 6.8). */
-#include "run.h"
+#include "layout.h"
 #include <stdlib.h>
 #include <string.h>
-
-/* Where each position's part stands in a buffer: all alike, or by counts and displacements, in elements of `size` bytes. */
-struct layout {
-    char *at;
-    size_t size;
-    int count;                     /* of each, where counts is null */
-    bool has_counts;
-    const int *counts, *displs;
-};
-
-static char *part_at(const struct layout *layout, int k) {
-    ptrdiff_t element = layout->counts ? layout->displs[k] : (ptrdiff_t)layout->count * k;
-    return layout->at + element * (ptrdiff_t)layout->size;
-}
-
-static size_t length_at(const struct layout *layout, int k) {
-    return layout->size * (size_t)(layout->counts ? layout->counts[k] : layout->count);
-}
-
-/* Why a layout can't be, or MPI_SUCCESS; then it has the size of its elements. */
-static int check(struct layout *layout, MPI_Datatype type, const struct comm *comm) {
-    size_t bytes = 0;
-    if (!size_of_type(type, &layout->size)) return MPI_ERR_TYPE;
-    if (layout->has_counts && (!layout->counts || !layout->displs)) return MPI_ERR_ARG;
-    if (!layout->counts && layout->count < 0) return MPI_ERR_COUNT;
-    for (int k = 0; k < comm->size; k++) {
-        if (layout->counts && layout->counts[k] < 0) return MPI_ERR_COUNT;
-        bytes += length_at(layout, k);
-    }
-    return is_buffer(layout->at, bytes) ? MPI_SUCCESS : MPI_ERR_BUFFER;
-}
 
 /* Why the bytes that a rank sends or gets can't be, or MPI_SUCCESS, and how many they are; in place there are none. */
 static int check_own(const void *buffer, int count, MPI_Datatype type, bool may_be_in_place, size_t *bytes) {
@@ -40,7 +9,7 @@ static int check_own(const void *buffer, int count, MPI_Datatype type, bool may_
     *bytes = 0;
     if (may_be_in_place && buffer == MPI_IN_PLACE) return MPI_SUCCESS;
     if (!check_buffer(count, type, bytes, &code)) return code;
-    return is_buffer(buffer, *bytes) ? MPI_SUCCESS : MPI_ERR_BUFFER;
+    return is_buffer(buffer, *bytes, type) ? MPI_SUCCESS : MPI_ERR_BUFFER;
 }
 
 /* Copies bytes to where there is room for so many. */
@@ -59,15 +28,29 @@ static int gather_to(struct comm *comm, const void *own, size_t length, const st
     return code;
 }
 
+/* The root's part, laid out as its type has it. */
+static int gather_and_lay_out(struct comm *comm, const void *own, size_t length, const struct layout *to) {
+    struct flat flat;
+    int code = flatten(to, comm->size, &flat);
+    if (code != MPI_SUCCESS) return code;
+    code = gather_to(comm, own, length, &flat.layout);
+    unflatten(to, comm->size, &flat, true);
+    return code;
+}
+
 static int gather(const void *sendbuf, int sendcount, MPI_Datatype sendtype, struct layout *to, MPI_Datatype recvtype, int root, struct comm *comm) {
     size_t length = 0;
     if (!comm) return MPI_ERR_COMM;
     int code = root < 0 || root >= comm->size ? MPI_ERR_ROOT : check_own(sendbuf, sendcount, sendtype, comm->position == root, &length);
-    if (code == MPI_SUCCESS && comm->position == root) code = check(to, recvtype, comm);
+    if (code == MPI_SUCCESS && comm->position == root) code = check_layout(to, recvtype, comm);
     if (code != MPI_SUCCESS) return refuse_collective(comm, code);
+    const void *own;
+    void *packed = 0;
     code = begin_collective(comm);
-    if (code != MPI_SUCCESS) return code;
-    return comm->position == root ? gather_to(comm, sendbuf, length, to) : collect_send(comm, root, sendbuf, length);
+    if (code == MPI_SUCCESS) code = pack_data(sendbuf, sendcount, sendtype, &own, &packed);
+    if (code == MPI_SUCCESS) code = comm->position == root ? gather_and_lay_out(comm, own, length, to) : collect_send(comm, root, own, length);
+    free(packed);
+    return code;
 }
 
 int MPI_Gather(const void *sendbuf, int sendcount, MPI_Datatype sendtype, void *recvbuf, int recvcount, MPI_Datatype recvtype, int root,
@@ -96,15 +79,29 @@ static int scatter(const struct layout *from, void *recvbuf, size_t room, int ro
     return code;
 }
 
+/* The same where types lay the data out. */
+static int scatter_and_lay_out(const struct layout *from, void *recvbuf, int recvcount, MPI_Datatype recvtype, size_t room, int root, struct comm *comm) {
+    struct flat flat = {.layout = *from};
+    const void *data;
+    void *packed;
+    int code = pack_data(recvbuf, recvcount, recvtype, &data, &packed);
+    if (code == MPI_SUCCESS && comm->position == root) code = flatten(from, comm->size, &flat);
+    if (code == MPI_SUCCESS) code = scatter(&flat.layout, packed ? packed : recvbuf, room, root, comm);
+    if (packed) unpack_data(packed, room, recvbuf, recvcount, recvtype);
+    unflatten(from, comm->size, &flat, false);
+    free(packed);
+    return code;
+}
+
 static int begin_scatter(struct layout *from, MPI_Datatype sendtype, void *recvbuf, int recvcount, MPI_Datatype recvtype, int root,
                          struct comm *comm) {
     size_t room = 0;
     if (!comm) return MPI_ERR_COMM;
     int code = root < 0 || root >= comm->size ? MPI_ERR_ROOT : check_own(recvbuf, recvcount, recvtype, comm->position == root, &room);
-    if (code == MPI_SUCCESS && comm->position == root) code = check(from, sendtype, comm);
+    if (code == MPI_SUCCESS && comm->position == root) code = check_layout(from, sendtype, comm);
     if (code != MPI_SUCCESS) return refuse_collective(comm, code);
     code = begin_collective(comm);
-    return code != MPI_SUCCESS ? code : scatter(from, recvbuf, room, root, comm);
+    return code != MPI_SUCCESS ? code : scatter_and_lay_out(from, recvbuf, recvcount, recvtype, room, root, comm);
 }
 
 int MPI_Scatter(const void *sendbuf, int sendcount, MPI_Datatype sendtype, void *recvbuf, int recvcount, MPI_Datatype recvtype, int root,
@@ -134,24 +131,38 @@ static void pack(const struct layout *layout, int size, char *packed, bool is_ou
 }
 
 /* Position 0 gathers, and tells all with its verdict. */
-static int allgather(const void *sendbuf, int sendcount, MPI_Datatype sendtype, struct layout *to, MPI_Datatype recvtype, struct comm *comm) {
-    size_t length = 0, total = 0;
-    if (!comm) return MPI_ERR_COMM;
-    int code = check_own(sendbuf, sendcount, sendtype, true, &length);
-    if (code == MPI_SUCCESS) code = check(to, recvtype, comm);
-    if (code != MPI_SUCCESS) return refuse_collective(comm, code);
-    code = begin_collective(comm);
-    if (code != MPI_SUCCESS) return code;
-    const void *own = sendbuf == MPI_IN_PLACE ? part_at(to, comm->position) : sendbuf;
-    if (sendbuf == MPI_IN_PLACE) length = length_at(to, comm->position);
+static int gather_for_all(const void *own, size_t length, const struct layout *to, struct comm *comm) {
+    size_t total = 0;
+    if (own == MPI_IN_PLACE) {
+        own = part_at(to, comm->position);
+        length = length_at(to, comm->position);
+    }
     for (int k = 0; k < comm->size; k++) total += length_at(to, k);
     char *packed = malloc(VERDICT + total);
     if (!packed) return MPI_ERR_NO_MEM;
-    code = comm->position ? collect_send(comm, 0, own, length) : gather_to(comm, own, length, to);
+    int code = comm->position ? collect_send(comm, 0, own, length) : gather_to(comm, own, length, to);
     memset(packed, 0, VERDICT + total);
     if (comm->position == 0 && code == MPI_SUCCESS) pack(to, comm->size, packed + VERDICT, true);
     code = spread_verdict(comm, code, packed, total);
     if (comm->position && code == MPI_SUCCESS) pack(to, comm->size, packed + VERDICT, false);
+    free(packed);
+    return code;
+}
+
+static int allgather(const void *sendbuf, int sendcount, MPI_Datatype sendtype, struct layout *to, MPI_Datatype recvtype, struct comm *comm) {
+    size_t length = 0;
+    if (!comm) return MPI_ERR_COMM;
+    int code = check_own(sendbuf, sendcount, sendtype, true, &length);
+    if (code == MPI_SUCCESS) code = check_layout(to, recvtype, comm);
+    if (code != MPI_SUCCESS) return refuse_collective(comm, code);
+    const void *own;
+    void *packed = 0;
+    struct flat flat = {.packed = 0};
+    code = begin_collective(comm);
+    if (code == MPI_SUCCESS) code = pack_data(sendbuf, sendcount, sendtype, &own, &packed);
+    if (code == MPI_SUCCESS) code = flatten(to, comm->size, &flat);
+    if (code == MPI_SUCCESS) code = gather_for_all(own, length, &flat.layout, comm);
+    unflatten(to, comm->size, &flat, true);
     free(packed);
     return code;
 }
@@ -198,22 +209,31 @@ static size_t reach_of(const struct layout *layout, int size) {
     return reach;
 }
 
-static int alltoall(struct layout *from, MPI_Datatype sendtype, struct layout *to, MPI_Datatype recvtype, struct comm *comm) {
-    bool is_in_place = from->at == MPI_IN_PLACE;
-    if (!comm) return MPI_ERR_COMM;
-    int code = check(to, recvtype, comm);
-    if (code == MPI_SUCCESS && !is_in_place) code = check(from, sendtype, comm);
-    if (code != MPI_SUCCESS) return refuse_collective(comm, code);
-    code = begin_collective(comm);
-    if (code != MPI_SUCCESS) return code;
-    if (!is_in_place) return exchange_all(from, to, comm);
+static int exchange_in_place(const struct layout *to, struct comm *comm) {
     size_t reach = reach_of(to, comm->size);
     struct layout copied = *to;
     copied.at = malloc(reach + 1);
     if (!copied.at) return MPI_ERR_NO_MEM;
-    memcpy(copied.at, to->at, reach);
-    code = exchange_all(&copied, to, comm);
+    if (reach) memcpy(copied.at, to->at, reach);
+    int code = exchange_all(&copied, to, comm);
     free(copied.at);
+    return code;
+}
+
+static int alltoall(struct layout *from, MPI_Datatype sendtype, struct layout *to, MPI_Datatype recvtype, struct comm *comm) {
+    bool is_in_place = from->at == MPI_IN_PLACE;
+    if (!comm) return MPI_ERR_COMM;
+    int code = check_layout(to, recvtype, comm);
+    if (code == MPI_SUCCESS && !is_in_place) code = check_layout(from, sendtype, comm);
+    if (code != MPI_SUCCESS) return refuse_collective(comm, code);
+    code = begin_collective(comm);
+    if (code != MPI_SUCCESS) return code;
+    struct flat out = {.packed = 0}, in = {.packed = 0};
+    code = flatten(to, comm->size, &in);
+    if (code == MPI_SUCCESS && !is_in_place) code = flatten(from, comm->size, &out);
+    if (code == MPI_SUCCESS) code = is_in_place ? exchange_in_place(&in.layout, comm) : exchange_all(&out.layout, &in.layout, comm);
+    if (!is_in_place) unflatten(from, comm->size, &out, false);
+    unflatten(to, comm->size, &in, true);
     return code;
 }
 

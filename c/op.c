@@ -93,8 +93,7 @@ static folding *const foldings[] = {
    and MPI_NO_OP are for one-sided calls. */
 int check_op(MPI_Op op, MPI_Datatype type) {
     uintptr_t base = (uintptr_t)type;
-    size_t size;
-    if (own_at(op)) return size_of_type(type, &size) ? MPI_SUCCESS : MPI_ERR_TYPE;
+    if (own_at(op)) return type ? MPI_SUCCESS : MPI_ERR_TYPE;
     bool is_basic = base < sizeof foldings / sizeof *foldings && foldings[base];
     return is_basic && is_op(op) && foldings[base](0, 0, 0, (int)(uintptr_t)op) ? MPI_SUCCESS : MPI_ERR_OP;
 }
@@ -137,7 +136,7 @@ int MPI_Reduce_local(const void *inbuf, void *inoutbuf, int count, MPI_Datatype 
     size_t bytes;
     int code = check_op(op, type);
     if (code != MPI_SUCCESS || !check_buffer(count, type, &bytes, &code)) return fail(0, code);
-    if (bytes && (!inbuf || !inoutbuf)) return fail(0, MPI_ERR_BUFFER);
+    if (!is_buffer(inbuf, bytes, type) || !is_buffer(inoutbuf, bytes, type)) return fail(0, MPI_ERR_BUFFER);
     return fail(0, fold(inbuf, inoutbuf, count, type, op));
 }
 

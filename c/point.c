@@ -13,7 +13,7 @@ static int check(const void *buf, int count, MPI_Datatype type, int peer, int ta
     bool is_any = is_receive && peer == MPI_ANY_SOURCE;
     if (!is_any && peer != MPI_PROC_NULL && (peer < 0 || peer >= comm->size)) return MPI_ERR_RANK;
     if (!(is_receive && tag == MPI_ANY_TAG) && (tag < 0 || tag > MPI_TAG_UB_VALUE)) return MPI_ERR_TAG;
-    if (!buf && *bytes) return MPI_ERR_BUFFER;
+    if (!is_buffer(buf, *bytes, type)) return MPI_ERR_BUFFER;
     return MPI_SUCCESS;
 }
 
@@ -21,10 +21,14 @@ static int begin_send(const void *buf, int count, MPI_Datatype type, int dest, i
     size_t bytes = 0;
     int code = check(buf, count, type, dest, tag, comm, false, &bytes);
     if (code != MPI_SUCCESS) return code;
+    const void *data;
+    void *packed;
+    code = pack_data(buf, count, type, &data, &packed);
+    if (code != MPI_SUCCESS) return code;
     *made = new_request(SENT, comm, dest, tag);
-    if (!*made) return MPI_ERR_NO_MEM;
-    start_send(*made, buf, bytes, waits);
-    return MPI_SUCCESS;
+    if (*made) start_send(*made, data, bytes, waits);
+    free(packed);
+    return *made ? MPI_SUCCESS : MPI_ERR_NO_MEM;
 }
 
 /* A send that is complete in its call needs no request. */
@@ -38,9 +42,15 @@ static int begin_receive(void *buf, int count, MPI_Datatype type, int source, in
     size_t bytes = 0;
     int code = check(buf, count, type, source, tag, comm, true, &bytes);
     if (code != MPI_SUCCESS) return code;
+    struct landing *landing;
+    if (!make_landing(buf, count, type, &landing)) return MPI_ERR_NO_MEM;
     *made = new_request(RECEIVE, comm, source, tag);
-    if (!*made) return MPI_ERR_NO_MEM;
-    start_receive(*made, buf, bytes);
+    if (!*made) {
+        free_landing(landing);
+        return MPI_ERR_NO_MEM;
+    }
+    (*made)->landing = landing;
+    start_receive(*made, landing ? bytes_of_landing(landing) : buf, bytes);
     return MPI_SUCCESS;
 }
 
@@ -162,10 +172,13 @@ int MPI_Sendrecv_replace(void *buf, int count, MPI_Datatype type, int dest, int 
     ENTER(of, source, recvtag);
     int code = check(buf, count, type, dest, sendtag, of, false, &bytes);
     if (code != MPI_SUCCESS) return fail(of, code);
-    void *copy = malloc(bytes ? bytes : 1);
-    if (!copy) return fail(of, MPI_ERR_NO_MEM);
-    if (bytes) memcpy(copy, buf, bytes);
-    code = exchange(copy, count, type, dest, sendtag, buf, count, type, source, recvtag, of, status);
-    free(copy);
+    const void *data;
+    void *packed;
+    code = pack_data(buf, count, type, &data, &packed);
+    if (code != MPI_SUCCESS) return fail(of, code);
+    if (!packed && !(packed = malloc(bytes + 1))) return fail(of, MPI_ERR_NO_MEM);
+    if (data == buf && bytes) memcpy(packed, buf, bytes);
+    code = exchange(packed, (int)bytes, MPI_BYTE, dest, sendtag, buf, count, type, source, recvtag, of, status);
+    free(packed);
     return fail(of, code);
 }

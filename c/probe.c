@@ -162,15 +162,22 @@ static int receive(void *buf, int count, MPI_Datatype type, MPI_Message *handle,
     int code;
     *status = (MPI_Status){.MPI_SOURCE = MPI_PROC_NULL, .MPI_TAG = MPI_ANY_TAG};
     if (!check_buffer(count, type, &bytes, &code)) return code;
-    if (!buf && bytes) return MPI_ERR_BUFFER;
+    if (!is_buffer(buf, bytes, type)) return MPI_ERR_BUFFER;
     if (*handle == MPI_MESSAGE_NO_PROC) {
         *handle = MPI_MESSAGE_NULL;
         return MPI_SUCCESS;
     }
+    struct landing *landing;
+    if (!make_landing(buf, count, type, &landing)) return MPI_ERR_NO_MEM;
     struct message *message = take_handle(handle);
-    if (!message) return MPI_ERR_REQUEST;
+    if (!message) {
+        free_landing(landing);
+        return MPI_ERR_REQUEST;
+    }
     *comm = message->comm;
-    take_letter(&message->told, message->letter, buf, bytes, status, &code);
+    take_letter(&message->told, message->letter, landing ? bytes_of_landing(landing) : buf, bytes, status, &code);
+    if (landing) land(landing, status->bytes);
+    free_landing(landing);
     status->MPI_SOURCE = position_at(message->comm, message->told.source);
     free(message);
     return code;

@@ -11,8 +11,9 @@ struct reduction {
     int count;
     MPI_Datatype type;
     MPI_Op op;
-    size_t bytes;
+    size_t bytes;                    /* of the elements in memory */
     char *result, *folded, *parts;   /* result has a verdict before it */
+    char *copy;                      /* this rank's elements, where their data aren't in one piece; else null */
     char *room;                      /* of the heap, or null */
     _Alignas(16) char own[SHORT];
 };
@@ -21,7 +22,8 @@ struct reduction {
 static int check(struct reduction *of, const void *sendbuf, const void *recvbuf) {
     int code = of->count < 0 ? MPI_ERR_COUNT : check_op(of->op, of->type);
     if (code != MPI_SUCCESS || !check_buffer(of->count, of->type, &of->bytes, &code)) return code;
-    return (sendbuf == MPI_IN_PLACE && recvbuf) || is_buffer(sendbuf, of->bytes) ? MPI_SUCCESS : MPI_ERR_BUFFER;
+    if (!(sendbuf == MPI_IN_PLACE && recvbuf) && !is_buffer(sendbuf, of->bytes, of->type)) return MPI_ERR_BUFFER;
+    return reach_of_data(of->count, of->type, &of->bytes) ? MPI_SUCCESS : MPI_ERR_TYPE;
 }
 
 /* Why a reduction can't be, or MPI_SUCCESS; then it has its room and its number. */
@@ -29,17 +31,31 @@ static int begin(struct reduction *of, const void *sendbuf, const void *recvbuf,
     struct comm *comm = of->comm;
     if (!comm) return MPI_ERR_COMM;
     int code = check(of, sendbuf, receives ? recvbuf : 0);
-    if (code == MPI_SUCCESS && receives && !is_buffer(recvbuf, of->bytes)) code = MPI_ERR_BUFFER;
+    if (code == MPI_SUCCESS && receives && !is_buffer(recvbuf, of->bytes, of->type)) code = MPI_ERR_BUFFER;
     if (code != MPI_SUCCESS) return refuse_collective(comm, code);
     code = begin_collective(comm);
     if (code != MPI_SUCCESS) return code;
-    size_t each = (of->bytes + 15) & ~(size_t)15, whole = 16 + 2 * each + of->bytes * (size_t)comm->size;
+    bool is_plain = is_plain_type(of->type);
+    size_t each = (of->bytes + 15) & ~(size_t)15, copied = is_plain ? 0 : each, whole = 16 + 2 * each + copied + of->bytes * (size_t)comm->size;
     char *room = whole <= SHORT ? of->own : (of->room = malloc(whole));
     if (!room) return MPI_ERR_NO_MEM;
     of->result = room + 16 - VERDICT;
     of->folded = room + 16 + each;
-    of->parts = of->folded + each;
+    of->parts = of->folded + each + copied;
+    if (!is_plain) of->copy = memset(of->folded + each, 0, each);
     return MPI_SUCCESS;
+}
+
+/* This rank's elements, without what stands between their data. */
+static const void *own_part(const struct reduction *of, const void *sendbuf, const void *recvbuf) {
+    const void *own = sendbuf == MPI_IN_PLACE ? recvbuf : sendbuf;
+    if (of->copy) copy_data(own, of->copy, of->count, of->type);
+    return of->copy ? of->copy : own;
+}
+
+static void deliver(const struct reduction *of, const void *result, void *recvbuf) {
+    if (of->copy) copy_data(result, recvbuf, of->count, of->type);
+    else if (of->bytes) memcpy(recvbuf, result, of->bytes);
 }
 
 static int finish(struct reduction *of, int code) {
@@ -65,11 +81,11 @@ int MPI_Allreduce(const void *sendbuf, void *recvbuf, int count, MPI_Datatype ty
     ENTER(in, MPI_UNDEFINED, MPI_UNDEFINED);
     int code = begin(&of, sendbuf, recvbuf, true);
     if (code != MPI_SUCCESS) return finish(&of, code);
-    code = gather_all(in, sendbuf == MPI_IN_PLACE ? recvbuf : sendbuf, of.bytes, of.parts);
+    code = gather_all(in, own_part(&of, sendbuf, recvbuf), of.bytes, of.parts);
     if (in->position == 0 && code == MPI_SUCCESS) code = fold_parts(&of, in->size - 1, of.result + VERDICT);
     else memset(of.result + VERDICT, 0, of.bytes);
     code = spread_verdict(in, code, of.result, of.bytes);
-    if (code == MPI_SUCCESS && of.bytes) memcpy(recvbuf, of.result + VERDICT, of.bytes);
+    if (code == MPI_SUCCESS) deliver(&of, of.result + VERDICT, recvbuf);
     return finish(&of, code);
 }
 
@@ -83,25 +99,24 @@ int MPI_Reduce(const void *sendbuf, void *recvbuf, int count, MPI_Datatype type,
     if (is_root && sendbuf == recvbuf && count > 0) return fail(in, refuse_collective(in, MPI_ERR_BUFFER));
     int code = begin(&of, sendbuf, recvbuf, is_root);
     if (code != MPI_SUCCESS) return finish(&of, code);
-    const void *own = sendbuf == MPI_IN_PLACE ? recvbuf : sendbuf;
+    const void *own = own_part(&of, sendbuf, recvbuf);
     if (in->position != root) return finish(&of, collect_send(in, root, own, of.bytes));
     for (int k = 0; k < in->size; k++) {
         char *part = of.parts + of.bytes * (size_t)k;
         int one = MPI_SUCCESS;
-        if (k == root) memcpy(part, own, of.bytes);
-        else one = collect_receive(in, k, part, of.bytes);
+        if (k == root && of.bytes) memcpy(part, own, of.bytes);
+        else if (k != root) one = collect_receive(in, k, part, of.bytes);
         if (code == MPI_SUCCESS) code = one;
     }
     if (code == MPI_SUCCESS) code = fold_parts(&of, in->size - 1, of.result + VERDICT);
-    if (code == MPI_SUCCESS && of.bytes) memcpy(recvbuf, of.result + VERDICT, of.bytes);
+    if (code == MPI_SUCCESS) deliver(&of, of.result + VERDICT, recvbuf);
     return finish(&of, code);
 }
 
 /* Position 0 gives each its prefix, up to its own part or to the one before. */
 static int scan(const void *sendbuf, void *recvbuf, struct reduction *of, bool is_exclusive) {
     struct comm *in = of->comm;
-    const void *own = sendbuf == MPI_IN_PLACE ? recvbuf : sendbuf;
-    int code = gather_all(in, own, of->bytes, of->parts), told = MPI_SUCCESS;
+    int code = gather_all(in, own_part(of, sendbuf, recvbuf), of->bytes, of->parts), told = MPI_SUCCESS;
     int64_t verdict = code;
     for (int k = in->size - 1; k >= 0 && in->position == 0; k--) {
         bool has_none = is_exclusive && k == 0;
@@ -114,7 +129,7 @@ static int scan(const void *sendbuf, void *recvbuf, struct reduction *of, bool i
     if (in->position) code = collect_receive(in, 0, of->result, VERDICT + of->bytes);
     memcpy(&verdict, of->result, sizeof verdict);
     if (code == MPI_SUCCESS) code = (int)verdict;
-    if (code == MPI_SUCCESS && of->bytes && !(is_exclusive && in->position == 0)) memcpy(recvbuf, of->result + VERDICT, of->bytes);
+    if (code == MPI_SUCCESS && !(is_exclusive && in->position == 0)) deliver(of, of->result + VERDICT, recvbuf);
     return code;
 }
 

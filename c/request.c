@@ -51,6 +51,7 @@ static void unlink_open(struct request *request) {
 void free_request(struct request *request) {
     if (request->kind == RECEIVE && !request->over) unlink_open(request);
     if (request->parcel) let_go(request->parcel);
+    free_landing(request->landing);
     me->requests[request->handle - 1] = 0;
     if (request->handle - 1 < me->first_free) me->first_free = request->handle - 1;
     request->next = me->spare;
@@ -124,6 +125,7 @@ static void end_receive(struct request *request, const ulfm_status *told, const 
     else {
         take_letter(told, letter, request->buffer, request->room, &request->status, &code);
         request->status.MPI_SOURCE = position_at(request->comm, told->source);
+        if (request->landing) land(request->landing, request->status.bytes);
     }
     end_request(request, code);
 }
@@ -181,6 +183,7 @@ void clear_requests(void) {
     for (int k = 0; k < me->request_count; k++) {
         struct request *request = me->requests[k];
         if (request && request->parcel) let_go(request->parcel);
+        if (request) free_landing(request->landing);
         free(request);
     }
     free(me->requests);

@@ -90,6 +90,8 @@ struct parcel {
 /* What a request is: a buffered send, a send that waits for its match, a receive, a barrier, or nothing that could go on. */
 enum kind { SENT, SYNCHRONOUS, RECEIVE, BARRIER, NOTHING };
 
+struct landing;
+
 /* What was begun, until its end is told. */
 struct request {
     enum kind kind;
@@ -100,6 +102,7 @@ struct request {
     size_t room;
     uint64_t id;            /* the engine's number of the receive */
     struct parcel *parcel;  /* of a synchronous send */
+    struct landing *landing; /* of a receive whose data aren't in one piece */
     bool over, freed;       /* its status is known; the program freed it */
     int code;
     MPI_Status status;
@@ -130,7 +133,7 @@ struct rank {
     struct request **requests;
     struct message **messages;
     struct errhandler *handlers;
-    struct type *types;
+    struct type **types;
     struct op *ops;
     int comm_count, old_comm_count, group_count, request_count, message_count, handler_count, type_count, op_count, first_free;
     struct request *open;     /* receives that wait */
@@ -248,10 +251,18 @@ int compare_groups(const struct group *a, const struct group *b);
 int make_group(const uint8_t *members, int size, MPI_Group *made);
 void clear_groups(void);
 
-/* type.c, op.c */
-bool size_of_type(MPI_Datatype type, size_t *size);
+/* type.c, pack.c, op.c */
+bool is_basic_type(MPI_Datatype type);
 bool check_buffer(int count, MPI_Datatype type, size_t *bytes, int *code);
-MPI_Datatype base_of_type(MPI_Datatype type, int *count);
+int pack_data(const void *buffer, int count, MPI_Datatype type, const void **data, void **packed);
+void unpack_data(const void *data, size_t bytes, void *buffer, int count, MPI_Datatype type);
+void copy_data(const void *from, void *to, int count, MPI_Datatype type);
+bool reach_of_data(int count, MPI_Datatype type, size_t *bytes);
+bool is_plain_type(MPI_Datatype type);
+bool make_landing(void *buffer, int count, MPI_Datatype type, struct landing **made);
+void *bytes_of_landing(struct landing *landing);
+void land(struct landing *landing, size_t bytes);
+void free_landing(struct landing *landing);
 int fold(const void *in, void *into, int count, MPI_Datatype type, MPI_Op op);
 bool is_op(MPI_Op op);
 int check_op(MPI_Op op, MPI_Datatype type);
@@ -273,7 +284,7 @@ void clear_messages(void);
 /* collect.c */
 int begin_collective(struct comm *comm);
 int refuse_collective(struct comm *comm, int code);
-bool is_buffer(const void *buffer, size_t bytes);
+bool is_buffer(const void *buffer, size_t bytes, MPI_Datatype type);
 int collect_send(struct comm *comm, int to, const void *bytes, size_t length);
 struct request *collect_post(struct comm *comm, int from, void *bytes, size_t room);
 int collect_finish(struct request *request);

@@ -126,3 +126,7 @@ int MPI_Get_address(const void *location, MPI_Aint *address) {
     *address = (MPI_Aint)location;
     return MPI_SUCCESS;
 }
+
+MPI_Aint MPI_Aint_add(MPI_Aint base, MPI_Aint displacement) { return (MPI_Aint)((size_t)base + (size_t)displacement); }
+
+MPI_Aint MPI_Aint_diff(MPI_Aint address, MPI_Aint other) { return (MPI_Aint)((size_t)address - (size_t)other); }

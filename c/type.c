@@ -1,143 +1,169 @@
-/* Datatypes (MPI 4.0, 3.2.2): the basic ones, and several of one type in a row (5.1.2), without gaps. */
-#include "run.h"
+/* Datatypes (MPI 4.0, 3.2.2 and 5.1): what a type is, its handle, sizes and counts. derived.c makes new ones, pack.c moves their data. */
+#include "type.h"
 #include <limits.h>
 #include <stdlib.h>
+#include <string.h>
 #include <wchar.h>
 
-struct type {
-    MPI_Datatype base;
-    size_t count;    /* 0: freed */
-};
-enum { FIRST_OWN = 64 };
+enum { FIRST_OWN = 64, BASIC = 36, FIRST_PAIR = 30 };
 
-#define PAIR(first) sizeof(struct { first value; int place; })
-static const size_t sizes[] = {0, 1, 1, 1, 1, 1, sizeof(short), sizeof(short), sizeof(int), sizeof(int), sizeof(long), sizeof(long),
-                               sizeof(long long), sizeof(long long), sizeof(float), sizeof(double), sizeof(long double), sizeof(wchar_t),
-                               sizeof(_Bool), 1, 2, 4, 8, 1, 2, 4, 8, sizeof(MPI_Aint), sizeof(MPI_Offset), sizeof(MPI_Count), PAIR(float),
-                               PAIR(double), PAIR(long), PAIR(int), PAIR(short), PAIR(long double)};
-/* What MPI_Type_size says of pairs: without the gaps. */
-static const int pair_sizes[] = {sizeof(float) + sizeof(int), sizeof(double) + sizeof(int), sizeof(long) + sizeof(int), 2 * sizeof(int),
-                                 sizeof(short) + sizeof(int), sizeof(long double) + sizeof(int)};
-enum { BASIC = sizeof sizes / sizeof *sizes, FIRST_PAIR = 30 };
+#define PAIR(first) {sizeof(first), sizeof(struct { first value; int place; })}
+static const size_t sizes[FIRST_PAIR] = {0, 1, 1, 1, 1, 1, sizeof(short), sizeof(short), sizeof(int), sizeof(int), sizeof(long), sizeof(long),
+                                         sizeof(long long), sizeof(long long), sizeof(float), sizeof(double), sizeof(long double), sizeof(wchar_t),
+                                         sizeof(_Bool), 1, 2, 4, 8, 1, 2, 4, 8, sizeof(MPI_Aint), sizeof(MPI_Offset), sizeof(MPI_Count)};
+/* Of pairs (6.9.4): the bytes of the value, and of the pair in memory. */
+static const size_t pairs[BASIC - FIRST_PAIR][2] = {PAIR(float), PAIR(double), PAIR(long), PAIR(int), PAIR(short), PAIR(long double)};
+static struct type basics[BASIC];
+static struct block basic_blocks[BASIC][2];
+static pthread_once_t once = PTHREAD_ONCE_INIT;
 
-static const struct type *own_at(MPI_Datatype type) {
-    uintptr_t number = (uintptr_t)type;
-    if (number < FIRST_OWN || number - FIRST_OWN >= (uintptr_t)me->type_count) return 0;
-    const struct type *own = &me->types[number - FIRST_OWN];
-    return own->base ? own : 0;
+static void make_basics(void) {
+    for (int k = 1; k < BASIC; k++) {
+        struct block *block = basic_blocks[k];
+        bool is_pair = k >= FIRST_PAIR;
+        size_t first = is_pair ? pairs[k - FIRST_PAIR][0] : sizes[k], whole = is_pair ? pairs[k - FIRST_PAIR][1] : sizes[k];
+        size_t place = first < sizeof(int) ? sizeof(int) : first;
+        block[0] = (struct block){0, first, first};
+        block[1] = (struct block){(ptrdiff_t)place, sizeof(int), sizeof(int)};
+        basics[k] = (struct type){.users = 1, .is_committed = true, .is_basic = true, .size = is_pair ? first + sizeof(int) : first,
+                                  .upper = (ptrdiff_t)whole, .blocks = is_pair ? 2 : 1, .block = block};
+        basics[k].is_plain = basics[k].size == whole;
+    }
 }
 
-/* The basic type that a type consists of, and how many of it: null where it is no type. */
-MPI_Datatype base_of_type(MPI_Datatype type, int *count) {
-    uintptr_t number = (uintptr_t)type;
-    *count = 1;
-    if (number && number < BASIC) return type;
-    const struct type *own = own_at(type);
-    if (!own) return MPI_DATATYPE_NULL;
-    *count = (int)own->count;
-    return own->base;
+struct type *type_at(MPI_Datatype handle) {
+    uintptr_t number = (uintptr_t)handle;
+    pthread_once(&once, make_basics);
+    if (number < BASIC) return number ? &basics[number] : 0;
+    return number >= FIRST_OWN && number - FIRST_OWN < (uintptr_t)me->type_count ? me->types[number - FIRST_OWN] : 0;
 }
 
-/* The bytes of one element in memory. */
-bool size_of_type(MPI_Datatype type, size_t *size) {
-    int count;
-    MPI_Datatype base = base_of_type(type, &count);
-    if (!base) return false;
-    *size = sizes[(uintptr_t)base] * (size_t)count;
-    return true;
+void free_type(struct type *type) {
+    if (type->is_basic || --type->users > 0) return;
+    free(type->block);
+    free(type);
 }
 
-/* The bytes of so many elements, or else why they can't be. */
-bool check_buffer(int count, MPI_Datatype type, size_t *bytes, int *code) {
-    size_t size = 0;
+int add_type(struct type *type, MPI_Datatype *made) {
+    int place = 0;
+    if (!type) return MPI_ERR_NO_MEM;
+    while (place < me->type_count && me->types[place]) place++;
+    if (place == me->type_count) {
+        if (!grow(&me->types, place, sizeof *me->types)) {
+            free_type(type);
+            return MPI_ERR_NO_MEM;
+        }
+        me->type_count++;
+    }
+    me->types[place] = type;
+    *made = (MPI_Datatype)(uintptr_t)(FIRST_OWN + place);
+    return MPI_SUCCESS;
+}
+
+bool is_basic_type(MPI_Datatype handle) {
+    const struct type *type = type_at(handle);
+    return type && type->is_basic;
+}
+
+/* The type of messages of so many elements, and their bytes; or null, and why they can't be. */
+const struct type *check_type(int count, MPI_Datatype handle, size_t *bytes, int *code) {
+    const struct type *type = type_at(handle);
     *bytes = 0;
-    *code = count < 0 ? MPI_ERR_COUNT : !size_of_type(type, &size) ? MPI_ERR_TYPE : MPI_SUCCESS;
-    if (*code == MPI_SUCCESS) *bytes = (size_t)count * size;
-    return *code == MPI_SUCCESS;
+    *code = count < 0 ? MPI_ERR_COUNT : !type || !type->is_committed ? MPI_ERR_TYPE : MPI_SUCCESS;
+    if (*code != MPI_SUCCESS) return 0;
+    *bytes = (size_t)count * type->size;
+    return type;
 }
+
+bool check_buffer(int count, MPI_Datatype type, size_t *bytes, int *code) { return check_type(count, type, bytes, code) != 0; }
 
 int MPI_Type_size(MPI_Datatype type, int *size) {
     ENTER_LOOK(0, MPI_UNDEFINED, MPI_UNDEFINED);
-    int count;
-    uintptr_t base = (uintptr_t)base_of_type(type, &count);
-    if (!base) return fail(0, MPI_ERR_TYPE);
+    const struct type *of = type_at(type);
+    if (!of) return fail(0, MPI_ERR_TYPE);
     WRITES(0, size);
-    *size = count * (base < FIRST_PAIR ? (int)sizes[base] : pair_sizes[base - FIRST_PAIR]);
+    *size = of->size > INT_MAX ? MPI_UNDEFINED : (int)of->size;
     return MPI_SUCCESS;
 }
 
 int MPI_Type_get_extent(MPI_Datatype type, MPI_Aint *lower, MPI_Aint *extent) {
     ENTER_LOOK(0, MPI_UNDEFINED, MPI_UNDEFINED);
-    size_t size;
-    if (!size_of_type(type, &size)) return fail(0, MPI_ERR_TYPE);
+    const struct type *of = type_at(type);
+    if (!of) return fail(0, MPI_ERR_TYPE);
     WRITES(0, lower && extent);
-    *lower = 0;
-    *extent = (MPI_Aint)size;
+    *lower = of->lower;
+    *extent = extent_of(of);
     return MPI_SUCCESS;
 }
 
-static int make_type(MPI_Datatype of, int times, MPI_Datatype *made) {
-    int count;
-    MPI_Datatype base = base_of_type(of, &count);
-    if (!base) return fail(0, MPI_ERR_TYPE);
-    WRITES(0, made);
-    if (times < 0 || (long long)times * count > INT_MAX) return fail(0, MPI_ERR_COUNT);
-    if (!grow(&me->types, me->type_count, sizeof *me->types)) return fail(0, MPI_ERR_NO_MEM);
-    me->types[me->type_count] = (struct type){base, (size_t)times * (size_t)count};
-    *made = (MPI_Datatype)(uintptr_t)(FIRST_OWN + me->type_count++);
+int MPI_Type_get_true_extent(MPI_Datatype type, MPI_Aint *lower, MPI_Aint *extent) {
+    ENTER_LOOK(0, MPI_UNDEFINED, MPI_UNDEFINED);
+    const struct type *of = type_at(type);
+    if (!of) return fail(0, MPI_ERR_TYPE);
+    WRITES(0, lower && extent);
+    ptrdiff_t least, most;
+    bounds_of_data(of, &least, &most);
+    *lower = least;
+    *extent = most - least;
     return MPI_SUCCESS;
-}
-
-int MPI_Type_contiguous(int count, MPI_Datatype type, MPI_Datatype *made) {
-    ENTER_LOOK(0, MPI_UNDEFINED, MPI_UNDEFINED);
-    return make_type(type, count, made);
-}
-
-int MPI_Type_dup(MPI_Datatype type, MPI_Datatype *made) {
-    ENTER_LOOK(0, MPI_UNDEFINED, MPI_UNDEFINED);
-    return make_type(type, 1, made);
 }
 
 int MPI_Type_commit(MPI_Datatype *type) {
     ENTER_LOOK(0, MPI_UNDEFINED, MPI_UNDEFINED);
-    size_t size;
-    return type && size_of_type(*type, &size) ? MPI_SUCCESS : fail(0, MPI_ERR_TYPE);
+    struct type *of = type ? type_at(*type) : 0;
+    if (!of) return fail(0, MPI_ERR_TYPE);
+    if (!of->is_basic) of->is_committed = true;
+    return MPI_SUCCESS;
 }
 
+/* Receives that are open keep what they need of it (5.1.9). */
 int MPI_Type_free(MPI_Datatype *type) {
     ENTER_LOOK(0, MPI_UNDEFINED, MPI_UNDEFINED);
-    if (!type || !own_at(*type)) return fail(0, MPI_ERR_TYPE);
-    me->types[(uintptr_t)*type - FIRST_OWN] = (struct type){0};
+    struct type *of = type ? type_at(*type) : 0;
+    if (!of || of->is_basic) return fail(0, MPI_ERR_TYPE);
+    me->types[(uintptr_t)*type - FIRST_OWN] = 0;
+    free_type(of);
     *type = MPI_DATATYPE_NULL;
     return MPI_SUCCESS;
 }
 
-/* How many of a basic type a status tells of, or MPI_UNDEFINED: not a whole number. */
-static int whole(size_t bytes, size_t size) {
-    if (size == 0) return bytes == 0 ? 0 : MPI_UNDEFINED;
-    return bytes % size || bytes / size > INT_MAX ? MPI_UNDEFINED : (int)(bytes / size);
-}
-
 int MPI_Get_count(const MPI_Status *status, MPI_Datatype type, int *count) {
     ENTER_LOOK(0, MPI_UNDEFINED, MPI_UNDEFINED);
-    size_t size;
-    if (!size_of_type(type, &size)) return fail(0, MPI_ERR_TYPE);
+    const struct type *of = type_at(type);
+    if (!of) return fail(0, MPI_ERR_TYPE);
     WRITES(0, status && count);
-    *count = whole(status->bytes, size);
+    size_t bytes = status->bytes, whole = of->size ? bytes / of->size : 0;
+    *count = whole * of->size == bytes && whole <= INT_MAX ? (int)whole : MPI_UNDEFINED;
     return MPI_SUCCESS;
+}
+
+/* The basic elements in so many bytes of a type's data, or MPI_UNDEFINED where an element isn't whole. */
+static int elements_in(const struct type *type, size_t bytes) {
+    size_t each = 0, rest = type->size ? bytes % type->size : bytes, more = 0;
+    for (size_t k = 0; k < type->blocks; k++) {
+        const struct block *block = &type->block[k];
+        size_t part = rest < block->length ? rest : block->length;
+        each += block->length / block->element;
+        if (part % block->element) return MPI_UNDEFINED;
+        more += part / block->element;
+        rest -= part;
+    }
+    size_t all = type->size ? bytes / type->size * each + more : 0;
+    return rest || all > INT_MAX ? MPI_UNDEFINED : (int)all;
 }
 
 int MPI_Get_elements(const MPI_Status *status, MPI_Datatype type, int *count) {
     ENTER_LOOK(0, MPI_UNDEFINED, MPI_UNDEFINED);
-    int times;
-    MPI_Datatype base = base_of_type(type, &times);
-    if (!base) return fail(0, MPI_ERR_TYPE);
+    const struct type *of = type_at(type);
+    if (!of) return fail(0, MPI_ERR_TYPE);
     WRITES(0, status && count);
-    *count = whole(status->bytes, sizes[(uintptr_t)base]);
+    *count = elements_in(of, status->bytes);
     return MPI_SUCCESS;
 }
 
 void clear_types(void) {
+    for (int k = 0; k < me->type_count; k++)
+        if (me->types[k]) free_type(me->types[k]);
     free(me->types);
     me->types = 0;
     me->type_count = 0;

@@ -1,0 +1,136 @@
+/* Data between memory, where a datatype lays them out, and one piece of bytes, which goes into messages (MPI 4.0, 5.1 and 5.2). */
+#include "type.h"
+#include <limits.h>
+#include <stdlib.h>
+#include <string.h>
+
+/* Copies the data of so many elements from memory to `packed`, or back: at most `bytes` of them. */
+void move_data(const struct type *type, int count, void *memory, void *packed, size_t bytes, bool is_out) {
+    char *at = memory, *to = packed;
+    for (int k = 0; k < count && bytes > 0; k++, at += extent_of(type))
+        for (size_t b = 0; b < type->blocks && bytes > 0; b++) {
+            const struct block *block = &type->block[b];
+            size_t length = block->length < bytes ? block->length : bytes;
+            memcpy(is_out ? to : at + block->at, is_out ? at + block->at : to, length);
+            to += length;
+            bytes -= length;
+        }
+}
+
+/* Copies the data of so many elements, and nothing between them, to memory that is laid out alike. */
+void copy_data(const void *from, void *to, int count, MPI_Datatype handle) {
+    const struct type *type = type_at(handle);
+    for (int k = 0; k < count; k++)
+        for (size_t b = 0; b < type->blocks; b++) {
+            ptrdiff_t at = k * extent_of(type) + type->block[b].at;
+            memcpy((char *)to + at, (const char *)from + at, type->block[b].length);
+        }
+}
+
+/* The bytes of memory that so many elements reach from their address, all of the last one's extent among them; false where they begin before it. */
+bool reach_of_data(int count, MPI_Datatype handle, size_t *bytes) {
+    const struct type *type = type_at(handle);
+    ptrdiff_t least, most;
+    bounds_of_data(type, &least, &most);
+    if (extent_of(type) > most) most = extent_of(type);
+    *bytes = count > 0 ? (size_t)((count - 1) * extent_of(type) + most) : 0;
+    return least >= 0 && extent_of(type) >= 0;
+}
+
+bool is_plain_type(MPI_Datatype handle) { return type_at(handle)->is_plain; }
+
+/* The data of so many elements in one piece: the buffer itself where they are, else a copy, which `packed` gets too and the caller frees.
+   MPI_ERR_NO_MEM where there is no memory, else MPI_SUCCESS. */
+int pack_data(const void *buffer, int count, MPI_Datatype handle, const void **data, void **packed) {
+    const struct type *type = type_at(handle);
+    *data = buffer;
+    *packed = 0;
+    if (!type || type->is_plain || buffer == MPI_IN_PLACE || count <= 0) return MPI_SUCCESS;
+    *packed = malloc((size_t)count * type->size + 1);
+    if (!*packed) return MPI_ERR_NO_MEM;
+    move_data(type, count, (void *)(uintptr_t)buffer, *packed, (size_t)count * type->size, true);
+    *data = *packed;
+    return MPI_SUCCESS;
+}
+
+/* Lays data that came in one piece out where they belong. */
+void unpack_data(const void *data, size_t bytes, void *buffer, int count, MPI_Datatype handle) {
+    move_data(type_at(handle), count, buffer, (void *)(uintptr_t)data, bytes, false);
+}
+
+/* Where a receive gets the data of a type that isn't plain: in `bytes`; they are laid out when they are there. */
+struct landing {
+    struct type *type;
+    int count;
+    void *memory;
+    char bytes[];
+};
+
+/* The landing of a receive, or null where it needs none; false where there is no memory. */
+bool make_landing(void *buffer, int count, MPI_Datatype handle, struct landing **made) {
+    struct type *type = type_at(handle);
+    *made = 0;
+    if (type->is_plain || count == 0) return true;
+    *made = malloc(sizeof **made + (size_t)count * type->size);
+    if (!*made) return false;
+    if (!type->is_basic) type->users++;
+    (*made)->type = type;
+    (*made)->count = count;
+    (*made)->memory = buffer;
+    return true;
+}
+
+void *bytes_of_landing(struct landing *landing) { return landing->bytes; }
+
+void land(struct landing *landing, size_t bytes) { move_data(landing->type, landing->count, landing->memory, landing->bytes, bytes, false); }
+
+void free_landing(struct landing *landing) {
+    if (!landing) return;
+    free_type(landing->type);
+    free(landing);
+}
+
+int MPI_Pack_size(int count, MPI_Datatype type, MPI_Comm comm, int *size) {
+    struct comm *of = comm_at(comm);
+    size_t bytes;
+    int code;
+    ENTER_LOOK(of, MPI_UNDEFINED, MPI_UNDEFINED);
+    if (!of) return fail(0, MPI_ERR_COMM);
+    if (!check_buffer(count, type, &bytes, &code)) return fail(of, code);
+    WRITES(of, size);
+    *size = bytes > INT_MAX ? MPI_UNDEFINED : (int)bytes;
+    return MPI_SUCCESS;
+}
+
+/* Why so many bytes can't be packed or unpacked at a position of a buffer of `room` bytes, or MPI_SUCCESS. */
+static int check(const struct comm *comm, const void *buffer, int count, MPI_Datatype type, const void *packed, int room, const int *position,
+                 size_t *bytes) {
+    int code;
+    if (!comm) return MPI_ERR_COMM;
+    if (room < 0 || !position || *position < 0) return MPI_ERR_ARG;
+    if (!check_buffer(count, type, bytes, &code)) return code;
+    if (!is_buffer(buffer, *bytes, type) || !is_buffer(packed, *bytes, MPI_PACKED)) return MPI_ERR_BUFFER;
+    return *bytes > (size_t)(room - *position) || *position > room ? MPI_ERR_TRUNCATE : MPI_SUCCESS;
+}
+
+int MPI_Pack(const void *buffer, int count, MPI_Datatype type, void *packed, int room, int *position, MPI_Comm comm) {
+    struct comm *of = comm_at(comm);
+    size_t bytes = 0;
+    ENTER_LOOK(of, MPI_UNDEFINED, MPI_UNDEFINED);
+    int code = check(of, buffer, count, type, packed, room, position, &bytes);
+    if (code != MPI_SUCCESS) return fail(of, code);
+    move_data(type_at(type), count, (void *)(uintptr_t)buffer, (char *)packed + *position, bytes, true);
+    *position += (int)bytes;
+    return MPI_SUCCESS;
+}
+
+int MPI_Unpack(const void *packed, int room, int *position, void *buffer, int count, MPI_Datatype type, MPI_Comm comm) {
+    struct comm *of = comm_at(comm);
+    size_t bytes = 0;
+    ENTER_LOOK(of, MPI_UNDEFINED, MPI_UNDEFINED);
+    int code = check(of, buffer, count, type, packed, room, position, &bytes);
+    if (code != MPI_SUCCESS) return fail(of, code);
+    move_data(type_at(type), count, buffer, (char *)(uintptr_t)packed + *position, bytes, false);
+    *position += (int)bytes;
+    return MPI_SUCCESS;
+}
