@@ -1,0 +1,168 @@
+/* The steps of a job over ulfm.h, and their answers in the words of a trace. */
+#include "race.h"
+#include <stdio.h>
+#include <string.h>
+
+static const char *const names[] = {"", "NoComm", "BadRank", "BadTag", "TooLong", "ProcFailed", "Revoked", "NoRequest", "AlreadyMade",
+                                    "NoContext", "Stopped", "NotMember", "OutOfMemory", "BadSize", "NotEntered", "Truncated"};
+
+/* ---- Answers ---- */
+
+static int answered(struct step *step, const char *answer) {
+    snprintf(step->answer, sizeof step->answer, "%s", answer);
+    return 0;
+}
+
+static int refused(struct step *step, uint32_t code) {
+    if (code > ULFM_TRUNCATED) give_up("an unknown code", code, step->op);
+    snprintf(step->answer, sizeof step->answer, "refused %u %s", code, names[code]);
+    return 0;
+}
+
+/* What a call without an out parameter is answered. */
+static int plainly(struct step *step, uint32_t code, const char *answer) { return code ? refused(step, code) : answered(step, answer); }
+
+/* A list of ranks in brackets behind a text. */
+static int listed(struct step *step, const char *text, const uint32_t *members, uint32_t count, const char *rest) {
+    int used = snprintf(step->answer, sizeof step->answer, "%s [", text);
+    for (uint32_t k = 0; k < count; k++) used += snprintf(step->answer + used, sizeof step->answer - (size_t)used, "%s%u", k ? " " : "", members[k]);
+    snprintf(step->answer + used, sizeof step->answer - (size_t)used, "]%s", rest);
+    return 0;
+}
+
+/* How a receive or a message ended. */
+static int told(struct step *step, const ulfm_status *status, const uint8_t *body) {
+    if (status->error) {
+        snprintf(step->answer, sizeof step->answer, "over %u %s", status->error, names[status->error]);
+        return 0;
+    }
+    int used = snprintf(step->answer, sizeof step->answer, "done from %u tag %u %s", status->source, status->tag, status->length ? "" : "-");
+    for (uint64_t k = 0; k < status->length; k++) used += snprintf(step->answer + used, sizeof step->answer - (size_t)used, "%02x", body[k]);
+    return 0;
+}
+
+/* The members of a communicator that stand in a group, by their positions: as the group has them, or in rising order. */
+static uint32_t positions(uint32_t me, uint32_t comm, const ulfm_group *some, bool rising, uint32_t *found) {
+    ulfm_group all;
+    uint32_t count = 0;
+    if (ulfm_group_of(&slots[me], comm, &all)) give_up("no group", me, "");
+    for (uint32_t k = 0; k < (rising ? all.size : some->size); k++)
+        for (uint32_t i = 0; i < (rising ? some->size : all.size); i++)
+            if (rising ? all.members[k] == some->members[i] : some->members[k] == all.members[i]) found[count++] = rising ? k : i;
+    return count;
+}
+
+/* ---- Steps: each answers, or says that it is OPEN ---- */
+
+/* The number of the request or message of a step that is named, where that step has the op. */
+static uint64_t named(const struct rank *rank, const struct step *step, const char *op) {
+    return step->who < rank->count && !strcmp(rank->steps[step->who].op, op) ? rank->steps[step->who].number : NONE;
+}
+
+static int receive(struct rank *rank, struct step *step) {
+    uint32_t code = ulfm_irecv(&slots[rank->me], step->comm, step->who, step->tag, step->more, &step->number);
+    return plainly(step, code, "posted");
+}
+
+static int look(struct rank *rank, struct step *step) {
+    ulfm_status status;
+    uint32_t code = ulfm_improbe(&slots[rank->me], step->comm, step->who, step->tag, &step->number, &status);
+    if (code == ULFM_NOT_YET) return OPEN;
+    if (code) return refused(step, code);
+    snprintf(step->answer, sizeof step->answer, "found from %u tag %u length %u", status.source, status.tag, (unsigned)status.length);
+    return 0;
+}
+
+static int end_receive(struct rank *rank, struct step *step) {
+    ulfm_status status;
+    uint8_t body[MOST_BYTES];
+    bool is_wait = *step->op == 'w';
+    uint64_t number = named(rank, step, "recv");
+    uint32_t code = is_wait ? ulfm_test(&slots[rank->me], number, &status, body, sizeof body)
+                            : ulfm_cancel(&slots[rank->me], number, &status, body, sizeof body);
+    if (is_wait && code == ULFM_NOT_YET) return OPEN;
+    if (is_wait && code == ULFM_PENDING) return answered(step, "pending");
+    if (code) return refused(step, code);
+    return status.cancelled ? answered(step, "cancelled") : told(step, &status, body);
+}
+
+static int get_message(struct rank *rank, struct step *step) {
+    ulfm_status status;
+    uint8_t body[MOST_BYTES];
+    uint32_t code = ulfm_mrecv(&slots[rank->me], named(rank, step, "probe"), &status, body, step->more);
+    return code ? refused(step, code) : told(step, &status, body);
+}
+
+static int tell_failed(struct rank *rank, struct step *step) {
+    ulfm_group failed;
+    uint32_t found[MOST_RANKS], code = ulfm_get_failed(&slots[rank->me], step->comm, &failed);
+    return code ? refused(step, code) : listed(step, "ranks", found, positions(rank->me, step->comm, &failed, false, found), "");
+}
+
+static int acknowledge(struct rank *rank, struct step *step) {
+    uint32_t total, code = ulfm_ack_failed(&slots[rank->me], step->comm, step->more, &total);
+    if (code) return refused(step, code);
+    snprintf(step->answer, sizeof step->answer, "acked %u", total);
+    return 0;
+}
+
+static int duplicate(struct rank *rank, struct step *step) {
+    uint32_t made, code = ulfm_dup(&slots[rank->me], step->comm, &made);
+    if (code) return refused(step, code);
+    snprintf(step->answer, sizeof step->answer, "comm %u", made);
+    return 0;
+}
+
+static int shrink(struct rank *rank, struct step *step) {
+    ulfm_group group;
+    uint32_t made, position, members[MOST_RANKS], code;
+    char first[64], rest[64];
+    if (!step->is_entered) {
+        code = ulfm_enter_shrink(&slots[rank->me], step->comm);
+        step->is_entered = true;
+        return code ? refused(step, code) : OPEN;
+    }
+    code = ulfm_poll_shrink(&slots[rank->me], step->comm, &made);
+    if (code == ULFM_NOT_YET) return OPEN;
+    if (code) return refused(step, code);
+    if (ulfm_group_of(&slots[rank->me], made, &group) || ulfm_position(&slots[rank->me], made, &position)) give_up("no group", rank->me, "shrink");
+    for (uint32_t k = 0; k < group.size; k++) members[k] = group.members[k];
+    snprintf(first, sizeof first, "comm %u ranks", made);
+    snprintf(rest, sizeof rest, " me %u", position);
+    return listed(step, first, members, group.size, rest);
+}
+
+static int agree(struct rank *rank, struct step *step) {
+    ulfm_group missing;
+    uint32_t value, found[MOST_RANKS], code;
+    char first[64];
+    if (!step->is_entered) {
+        code = ulfm_enter_agree(&slots[rank->me], step->comm, step->more);
+        step->is_entered = true;
+        return code ? refused(step, code) : OPEN;
+    }
+    code = ulfm_poll_agree(&slots[rank->me], step->comm, &value, &missing);
+    if (code == ULFM_NOT_YET) return OPEN;
+    if (code) return refused(step, code);
+    snprintf(first, sizeof first, "agreed %u without", value);
+    return listed(step, first, found, positions(rank->me, step->comm, &missing, true, found), "");
+}
+
+int poll_step(struct rank *rank, struct step *step) {
+    ulfm_slot *slot = &slots[rank->me];
+    const char *op = step->op;
+    if (!strcmp(op, "send")) return plainly(step, ulfm_isend(slot, step->comm, step->who, step->tag, step->body, step->length), "sent");
+    if (!strcmp(op, "revoke")) return plainly(step, ulfm_revoke(slot, step->comm), "revoked");
+    if (!strcmp(op, "stop")) return plainly(step, ulfm_stop(slot), "stopped");
+    if (!strcmp(op, "recv")) return receive(rank, step);
+    if (!strcmp(op, "wait") || !strcmp(op, "cancel")) return end_receive(rank, step);
+    if (!strcmp(op, "probe")) return look(rank, step);
+    if (!strcmp(op, "mrecv")) return get_message(rank, step);
+    if (!strcmp(op, "failed")) return tell_failed(rank, step);
+    if (!strcmp(op, "ack")) return acknowledge(rank, step);
+    if (!strcmp(op, "dup")) return duplicate(rank, step);
+    if (!strcmp(op, "shrink")) return shrink(rank, step);
+    if (!strcmp(op, "agree")) return agree(rank, step);
+    give_up("no such op", rank->me, op);
+    return 0;
+}
