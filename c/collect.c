@@ -92,8 +92,9 @@ int spread(struct comm *comm, void *bytes, size_t length, int root) {
 /* Position 0 tells all its code, and `length` bytes behind it: the buffer has room for both. What comes of it here. */
 int spread_verdict(struct comm *comm, int code, void *buffer, size_t length) {
     int64_t verdict = code;
+    memset(buffer, 0, VERDICT);
     memcpy(buffer, &verdict, sizeof verdict);
-    int told = spread(comm, buffer, sizeof verdict + length, 0);
+    int told = spread(comm, buffer, VERDICT + length, 0);
     memcpy(&verdict, buffer, sizeof verdict);
     if (comm->position == 0) return code != MPI_SUCCESS ? code : told;
     return told != MPI_SUCCESS ? told : (int)verdict;

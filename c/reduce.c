@@ -122,6 +122,7 @@ static int scan(const void *sendbuf, void *recvbuf, struct reduction *of, bool i
         bool has_none = is_exclusive && k == 0;
         memset(of->result + VERDICT, 0, of->bytes);
         if (verdict == MPI_SUCCESS && !has_none) verdict = fold_parts(of, is_exclusive ? k - 1 : k, of->result + VERDICT);
+        memset(of->result, 0, VERDICT);
         memcpy(of->result, &verdict, sizeof verdict);
         if (k) told = collect_send(in, k, of->result, VERDICT + of->bytes);
         if (told != MPI_SUCCESS && code == MPI_SUCCESS) code = told;

@@ -292,7 +292,7 @@ int collect_receive(struct comm *comm, int from, void *bytes, size_t room);
 int gather_all(struct comm *comm, const void *in, size_t length, void *all);
 int spread(struct comm *comm, void *bytes, size_t length, int root);
 int spread_verdict(struct comm *comm, int code, void *buffer, size_t length);
-enum { VERDICT = 8 };
+enum { VERDICT = 16 };   /* bytes before a result: what follows is aligned for each type */
 
 /* Begins a call that a program makes: `counts` where it begins something or waits. */
 void enter_call(const char *call, const void *from, struct comm *comm, int peer, int tag, bool counts);
