@@ -6,7 +6,7 @@
 #include <stdlib.h>
 #include <string.h>
 
-enum { PARCEL = 7, PART = 8192, SPINS = 1000 };
+enum { PARCEL = 7, PART = 8192, SPINS = 10000 };
 
 /* The error code of a refusal of the engine. */
 int class_of(uint32_t code) {
@@ -73,8 +73,8 @@ static void fill(struct parcel *parcel) {
         memcpy(parcel->bytes + at, source + at, parcel->length - at < PART ? parcel->length - at : PART);
     int live = LIVE;
     if (!atomic_compare_exchange_strong(&parcel->filling, &live, FILLED))
-        for (int spins = 0; atomic_load(&parcel->filling) != TAKEN; spins++)
-            if (spins > SPINS) sched_yield();
+        for (size_t spins = 0; atomic_load(&parcel->filling) != TAKEN; spins++)
+            if (spins > SPINS + parcel->length) sched_yield();   /* the copy takes less, unless its rank doesn't run */
     let_go(parcel);
 }
 

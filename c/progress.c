@@ -9,7 +9,7 @@
 #include <sys/syscall.h>
 #include <unistd.h>
 
-enum { MOST_LOOKS = 1000, FEW_LOOKS = 30, YIELDS = 4, TURNS = 64, LINE = 128 };
+enum { MOST_LOOKS = 1000, FEW_LOOKS = 300, YIELDS = 4, TURNS = 64, LINE = 128 };
 
 /* On cache lines of its own. */
 struct count {
@@ -104,13 +104,14 @@ static int looks_before_yield(void) {
         processors = sched_getaffinity(0, sizeof set, &set) == 0 ? CPU_COUNT(&set) : 1;
     }
     if (options.ranks > processors) return 1;
-    return FEW_LOOKS + me->patience;
+    return FEW_LOOKS + MOST_LOOKS - me->impatience;
 }
 
-/* A rank that slept in vain of its looks looks less the next time, and more where they served. */
-static void learn_patience(bool has_slept) {
-    if (has_slept) me->patience /= 2;
-    else if (me->patience < MOST_LOOKS) me->patience += 1 + me->patience / 4;
+/* A rank whose looks were in vain, so that it slept, looks less the next time, and more again where looks served. The few that stay are as long as a
+   collective takes, so that ranks which all slept come together again. */
+static void learn(bool has_slept) {
+    if (has_slept) me->impatience += (MOST_LOOKS - me->impatience) / 2;
+    else me->impatience -= me->impatience / 4;
 }
 
 /* Makes progress until `is_done` says so, which looks once each time: when something came, and `is_settled` where nothing did for some time. What it looks
@@ -131,7 +132,7 @@ void wait_until(bool (*is_done)(void *, bool is_settled), void *of, bool is_dear
         if (looks > most + YIELDS) sleep_until_moved(seen);
         else if (looks > most) sched_yield();
     }
-    learn_patience(has_slept);
+    learn(has_slept);
 }
 
 /* Whether each rank has finalized or stopped. */

@@ -146,7 +146,7 @@ struct rank {
     bool is_planned;          /* it stopped by plan */
     struct place place;
     int barriers;             /* that are open */
-    int patience;             /* how many looks it waits before it yields, besides a few */
+    int impatience;           /* by how much it looks less before it yields, where looks were in vain */
     int calls, insides;       /* calls that count; places inside the last one */
     int status;               /* of main */
     uint64_t random;
