@@ -1,12 +1,12 @@
-/* Letters of the engine, as messages of MPI. The engine's bodies have at most 1,024 bytes. A letter has a head, the address of a parcel or null, and then
-   the message where it fits. Where it doesn't, the parcel has it, and the letter is the address alone, of which the highest byte is nothing: no other letter
-   is so short. Ranks share their memory, so that the receiver reads the parcel and lets it go. */
+/* Letters of the engine, as messages of MPI. The engine's bodies have at most 1,024 bytes. A letter is the message itself, but one of seven bytes: that is the
+   address of a parcel, whose highest byte is nothing. So goes a message that is longer, one whose sender waits for the match, and one of seven bytes. Ranks
+   share their memory, so that the receiver reads the parcel and lets it go. */
 #include "run.h"
 #include <sched.h>
 #include <stdlib.h>
 #include <string.h>
 
-enum { HEAD = sizeof(uint64_t), PARCEL = HEAD - 1, INLINE = BODY - HEAD, PART = 8192, SPINS = 1000 };
+enum { PARCEL = 7, PART = 8192, SPINS = 10000 };
 
 /* The error code of a refusal of the engine. */
 int class_of(uint32_t code) {
@@ -28,9 +28,9 @@ int class_of(uint32_t code) {
     }
 }
 
-/* A parcel like `like`, with room for its bytes where they are long, or null where there is no memory. */
+/* A parcel like `like`, with room for its bytes, or null where there is no memory. */
 static struct parcel *new_parcel(const struct parcel *like) {
-    struct parcel *parcel = malloc(sizeof *parcel + (like->length > INLINE ? like->length : 0));
+    struct parcel *parcel = malloc(sizeof *parcel + like->length);
     if (!parcel) return 0;
     *parcel = *like;
     pthread_mutex_lock(&me->parcels_lock);
@@ -65,7 +65,7 @@ void free_parcels(void) {
         }
 }
 
-/* Copies a long message, whose letter is on its way, into its parcel, unless the receiver comes before and copies it from the sender: then it waits until
+/* Copies a message, whose letter is on its way, into its parcel, unless the receiver comes before and copies it from the sender: then it waits until
    that is done. */
 static void fill(struct parcel *parcel) {
     const char *source = parcel->source;
@@ -73,76 +73,73 @@ static void fill(struct parcel *parcel) {
         memcpy(parcel->bytes + at, source + at, parcel->length - at < PART ? parcel->length - at : PART);
     int live = LIVE;
     if (!atomic_compare_exchange_strong(&parcel->filling, &live, FILLED))
-        for (int spins = 0; atomic_load(&parcel->filling) != TAKEN; spins++)
-            if (spins > SPINS) sched_yield();
+        for (size_t spins = 0; atomic_load(&parcel->filling) != TAKEN; spins++)
+            if (spins > SPINS + parcel->length) sched_yield();   /* the copy takes less, unless its rank doesn't run */
     let_go(parcel);
 }
 
-/* Hands a letter to the engine: its head, and the message unless that is long. */
-static uint32_t hand_on(uint32_t context, int dest, int tag, const struct parcel *parcel, const void *bytes, size_t length) {
-    uint8_t letter[BODY];
-    uint64_t head = (uintptr_t)parcel;
-    bool is_long = length > INLINE;
-    memcpy(letter, &head, HEAD);   /* the lowest byte stands first */
-    if (length && !is_long) memcpy(letter + HEAD, bytes, length);
-    return ulfm_isend(me->slot, context, (uint32_t)dest, (uint32_t)tag, letter, is_long ? PARCEL : HEAD + length);
-}
-
-/* Sends a letter to the position `dest`, the world rank `world`. Where `waits` isn't null, it gets a parcel whose flag tells the match. */
-int send_letter(uint32_t context, int dest, int world, int tag, const void *bytes, size_t length, struct parcel **waits) {
-    struct parcel *parcel = 0;
-    bool is_long = length > INLINE;
-    if (is_long || waits) {
-        parcel = new_parcel(&(struct parcel){.users = 1 + (waits != 0) + is_long, .is_waited_for = waits != 0, .from = me->number, .to = world,
-                                             .context = context, .tag = tag, .length = length, .source = bytes});
-        if (!parcel) return MPI_ERR_NO_MEM;
-        if (waits) atomic_fetch_add(&ranks[world].waited_for, 1);
-    }
-    uint32_t code = hand_on(context, dest, tag, parcel, bytes, length);
+/* Sends a message by a parcel. */
+static int send_parcel(uint32_t context, int dest, int world, int tag, const void *bytes, size_t length, struct parcel **waits) {
+    struct parcel *parcel = new_parcel(&(struct parcel){.users = waits ? 3 : 2, .is_waited_for = waits != 0, .from = me->number, .to = world,
+                                                        .context = context, .tag = tag, .length = length, .source = bytes});
+    if (!parcel) return MPI_ERR_NO_MEM;
+    if (waits) atomic_fetch_add(&ranks[world].waited_for, 1);
+    uint64_t address = (uintptr_t)parcel;   /* the lowest byte stands first */
+    uint32_t code = ulfm_isend(me->slot, context, (uint32_t)dest, (uint32_t)tag, (const uint8_t *)&address, PARCEL);
     if (code != ULFM_OK) {
         if (waits) atomic_fetch_sub(&ranks[world].waited_for, 1);
-        if (parcel) {
-            parcel->users = 1;
-            let_go(parcel);
-        }
+        parcel->users = 1;
+        let_go(parcel);
         return class_of(code);
     }
     if (waits) *waits = parcel;
     move_once();
-    if (is_long) fill(parcel);
+    fill(parcel);
+    return MPI_SUCCESS;
+}
+
+/* Sends a message to the position `dest`, the world rank `world`. Where `waits` isn't null, it gets a parcel whose flag tells the match. */
+int send_letter(uint32_t context, int dest, int world, int tag, const void *bytes, size_t length, struct parcel **waits) {
+    if (waits || length > BODY || length == PARCEL) return send_parcel(context, dest, world, tag, bytes, length, waits);
+    uint32_t code = ulfm_isend(me->slot, context, (uint32_t)dest, (uint32_t)tag, bytes, length);
+    if (code != ULFM_OK) return class_of(code);
+    move_once();
     return MPI_SUCCESS;
 }
 
 /* The bytes of the message in a letter that a probe found: of the world rank `from`, and the next one of its tag from there. Receives that
    have their letters took them before. */
 size_t length_of_probed(const ulfm_status *told, uint32_t context, int from) {
-    if (told->length != PARCEL) return told->length - HEAD;
+    if (told->length != PARCEL) return told->length;
     size_t length = 0;
     pthread_mutex_lock(&ranks[from].parcels_lock);
-    for (struct parcel *parcel = ranks[from].parcels; parcel && length == 0; parcel = parcel->next)
-        if (parcel->to == me->number && parcel->context == context && parcel->tag == (int)told->tag && parcel->length > INLINE)
+    for (struct parcel *parcel = ranks[from].parcels; parcel; parcel = parcel->next)
+        if (parcel->to == me->number && parcel->context == context && parcel->tag == (int)told->tag && !atomic_load(&parcel->matched)) {
             length = parcel->length;
+            break;
+        }
     pthread_mutex_unlock(&ranks[from].parcels_lock);
     return length;
 }
 
 /* The parcel of a letter, or null. */
 static struct parcel *parcel_of(const ulfm_status *told, const uint8_t *letter) {
-    uint64_t head = 0;
-    memcpy(&head, letter, told->length == PARCEL ? PARCEL : HEAD);
-    return (struct parcel *)(uintptr_t)head;
+    uint64_t address = 0;
+    if (told->length == PARCEL) memcpy(&address, letter, PARCEL);
+    return (struct parcel *)(uintptr_t)address;
 }
 
 /* The bytes of the message that a letter is. */
 size_t length_of_letter(const ulfm_status *told, const uint8_t *letter) {
-    return told->length == PARCEL ? parcel_of(told, letter)->length : told->length - HEAD;
+    const struct parcel *parcel = parcel_of(told, letter);
+    return parcel ? parcel->length : told->length;
 }
 
-/* Copies the bytes of a long message from where they stand now. */
+/* Copies the bytes of a message from where they stand now. */
 static void empty(struct parcel *parcel, void *buffer, size_t length) {
     int live = LIVE;
     bool is_live = atomic_compare_exchange_strong(&parcel->filling, &live, CLAIMED);
-    memcpy(buffer, is_live ? parcel->source : parcel->bytes, length);
+    if (length) memcpy(buffer, is_live ? parcel->source : parcel->bytes, length);
     if (is_live) atomic_store(&parcel->filling, TAKEN);
 }
 
@@ -150,16 +147,14 @@ static void empty(struct parcel *parcel, void *buffer, size_t length) {
 void take_letter(const ulfm_status *told, const uint8_t *letter, void *buffer, size_t room, MPI_Status *status, int *code) {
     struct parcel *parcel = parcel_of(told, letter);
     size_t whole = length_of_letter(told, letter), length = whole < room ? whole : room;
-    if (told->length == PARCEL) empty(parcel, buffer, length);
-    else if (length) memcpy(buffer, letter + HEAD, length);
+    if (parcel) empty(parcel, buffer, length);
+    else if (length) memcpy(buffer, letter, length);
     *code = whole > room ? MPI_ERR_TRUNCATE : MPI_SUCCESS;
     *status = (MPI_Status){.MPI_SOURCE = (int)told->source, .MPI_TAG = (int)told->tag, .MPI_ERROR = *code, .bytes = length};
     if (!parcel) return;
     bool is_waited_for = parcel->is_waited_for;
-    if (is_waited_for) {
-        atomic_store(&parcel->matched, 1);
-        atomic_fetch_sub(&me->waited_for, 1);
-    }
+    atomic_store(&parcel->matched, 1);
+    if (is_waited_for) atomic_fetch_sub(&me->waited_for, 1);
     let_go(parcel);
     if (is_waited_for) marked();
 }

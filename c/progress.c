@@ -9,7 +9,7 @@
 #include <sys/syscall.h>
 #include <unistd.h>
 
-enum { LOOKS = 1000, LOOKS_IN_SWEEPS = 50, YIELDS = 4, TURNS = 64, LINE = 128 };
+enum { MOST_LOOKS = 1000, FEW_LOOKS = 300, YIELDS = 4, TURNS = 64, LINE = 128 };
 
 /* On cache lines of its own. */
 struct count {
@@ -104,25 +104,35 @@ static int looks_before_yield(void) {
         processors = sched_getaffinity(0, sizeof set, &set) == 0 ? CPU_COUNT(&set) : 1;
     }
     if (options.ranks > processors) return 1;
-    return options.report >= 0 ? LOOKS_IN_SWEEPS : LOOKS;
+    return FEW_LOOKS + MOST_LOOKS - me->impatience;
+}
+
+/* A rank whose looks were in vain, so that it slept, looks less the next time, and more again where looks served. The few that stay are as long as a
+   collective takes, so that ranks which all slept come together again. */
+static void learn(bool has_slept) {
+    if (has_slept) me->impatience += (MOST_LOOKS - me->impatience) / 2;
+    else me->impatience -= me->impatience / 4;
 }
 
 /* Makes progress until `is_done` says so, which looks once each time: when something came, and `is_settled` where nothing did for some time. What it looks
    at changes by what comes, and by marks. A look that is dear is made when all that came was taken. */
 void wait_until(bool (*is_done)(void *, bool is_settled), void *of, bool is_dear) {
     int looks = 0, most = looks_before_yield();
+    bool has_slept = false;
     uint64_t seen = 0, asked_at = UINT64_MAX;
     for (;;) {
         if (looks >= most + YIELDS) seen = all_moves();   /* before the look: what comes after it is a further move */
         bool has_moved = is_dear ? progress() : move_once();
         uint64_t marked_at = atomic_load(&marks.count);
         bool is_settled = !has_moved && (looks == most || marked_at != asked_at);
-        if ((has_moved || is_settled) && is_done(of, is_settled)) return;
+        if ((has_moved || is_settled) && is_done(of, is_settled)) break;
         asked_at = marked_at;
         looks = has_moved ? 0 : looks + 1;
+        has_slept = has_slept || looks > most + YIELDS;
         if (looks > most + YIELDS) sleep_until_moved(seen);
         else if (looks > most) sched_yield();
     }
+    learn(has_slept);
 }
 
 /* Whether each rank has finalized or stopped. */

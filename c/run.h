@@ -146,6 +146,7 @@ struct rank {
     bool is_planned;          /* it stopped by plan */
     struct place place;
     int barriers;             /* that are open */
+    int impatience;           /* by how much it looks less before it yields, where looks were in vain */
     int calls, insides;       /* calls that count; places inside the last one */
     int status;               /* of main */
     uint64_t random;

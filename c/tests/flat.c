@@ -1,11 +1,11 @@
-/* Memory over a long run. Words: how many messages, receives that are cancelled, and agreements. After a hundredth of each the greatest resident size
-   is looked at, and after the last. Rank 0 tells by how many kilobytes it grew, and how long each took. */
+/* Memory over a long run of one rank. Words: how many messages to itself, receives that are cancelled, and agreements. The greatest resident size is looked
+   at after a hundredth of each and after the last. */
 #include "check.h"
 #include <sys/resource.h>
 
-enum { TAG = 3, LONG = 3000 };
+/* The engine keeps 48 bytes for each message that went out, in a room that doubles, and for each agreement what it was told and what was decided. */
+enum { TAG = 3, LONG = 3000, KB_MESSAGES = 8, KB_AGREEMENT = 16, SOME = 1024 };
 
-static int rank;
 static char room[LONG];
 
 /* The greatest resident size so far, in kilobytes. */
@@ -15,16 +15,18 @@ static long peak(void) {
     return usage.ru_maxrss;
 }
 
-/* There and back: two messages, mostly short ones. */
+/* Mostly short ones. */
 static void make_messages(long times) {
-    for (long k = 0; k < times; k += 2) {
+    static const char sent[LONG];
+    for (long k = 0; k < times; k++) {
         int length = k % 64 ? 8 : LONG, came = 0;
+        MPI_Request request;
         MPI_Status status;
-        if (rank == 0) MPI_Send(room, length, MPI_BYTE, 1, TAG, MPI_COMM_WORLD);
-        if (rank < 2) MPI_Recv(room, LONG, MPI_BYTE, 1 - rank, TAG, MPI_COMM_WORLD, &status);
-        if (rank == 1) MPI_Send(room, length, MPI_BYTE, 0, TAG, MPI_COMM_WORLD);
-        if (rank < 2) MPI_Get_count(&status, MPI_BYTE, &came);
-        CHECK(rank > 1 || came == length);
+        MPI_Irecv(room, LONG, MPI_BYTE, 0, TAG, MPI_COMM_WORLD, &request);
+        MPI_Send(sent, length, MPI_BYTE, 0, TAG, MPI_COMM_WORLD);
+        MPI_Wait(&request, &status);
+        MPI_Get_count(&status, MPI_BYTE, &came);
+        CHECK(came == length);
     }
 }
 
@@ -33,7 +35,7 @@ static void make_cancels(long times) {
         MPI_Request request;
         MPI_Status status;
         int is_cancelled = 0;
-        MPI_Irecv(room, LONG, MPI_BYTE, rank, TAG, MPI_COMM_WORLD, &request);
+        MPI_Irecv(room, LONG, MPI_BYTE, 0, TAG, MPI_COMM_WORLD, &request);
         MPI_Cancel(&request);
         MPI_Wait(&request, &status);
         MPI_Test_cancelled(&status, &is_cancelled);
@@ -43,32 +45,31 @@ static void make_cancels(long times) {
 
 static void make_agreements(long times) {
     for (long k = 0; k < times; k++) {
-        int flag = 1 + 2 * (rank == 0);
+        int flag = 5;
         MPIX_Comm_agree(MPI_COMM_WORLD, &flag);
-        CHECK(flag == 1);
+        CHECK(flag == 5);
     }
 }
 
-static void look(const char *what, void (*make)(long), long times) {
-    if (times == 0) return;
+/* By how many kilobytes it grew. */
+static long grown(const char *what, void (*make)(long), long times) {
     make(times / 100);
-    MPI_Barrier(MPI_COMM_WORLD);
     long settled = peak();
     double start = MPI_Wtime();
     make(times - times / 100);
-    MPI_Barrier(MPI_COMM_WORLD);
     double each = (MPI_Wtime() - start) / (double)(times - times / 100);
-    if (rank == 0) printf("%ld %s: %ld KB, grown by %ld KB; %.0f ns each\n", times, what, peak(), peak() - settled, each * 1e9);
+    printf("%ld %s: %ld KB, grown by %ld KB, %.0f ns each\n", times, what, peak(), peak() - settled, each * 1e9);
+    return peak() - settled;
 }
 
 int main(int argc, char **argv) {
     MPI_Init(&argc, &argv);
-    MPI_Comm_rank(MPI_COMM_WORLD, &rank);
     CHECK(argc == 4);
-    look("messages", make_messages, atol(argv[1]));
-    look("cancelled receives", make_cancels, atol(argv[2]));
-    look("agreements", make_agreements, atol(argv[3]));
+    long messages = atol(argv[1]), cancels = atol(argv[2]), agreements = atol(argv[3]);
+    CHECK(grown("messages", make_messages, messages) < SOME + messages / KB_MESSAGES);
+    CHECK(grown("cancelled receives", make_cancels, cancels) < SOME);
+    CHECK(grown("agreements", make_agreements, agreements) < SOME + agreements * KB_AGREEMENT);
     MPI_Finalize();
-    if (rank == 0) printf("faults: %d\n", faults);
+    printf("faults: %d\n", faults);
     return 0;
 }

@@ -120,6 +120,24 @@ static void exchanges(void) {
     CHECK(y == rank && status.MPI_SOURCE == 0 && status.MPI_TAG == 3);
 }
 
+/* Messages of each length where the layer might send them another way, every third one by MPI_Ssend; every second one is probed first. */
+static void lengths(void) {
+    unsigned char sent[1100], came[1100];
+    for (int length = 0; length < 1100; length = length == 40 ? 1000 : length + 1) {
+        MPI_Status status;
+        int count = -1, next = length;
+        for (int k = 0; k < length; k++) sent[k] = (unsigned char)(length + 3 * k);
+        if (rank == 1 && length % 3) MPI_Send(sent, length, MPI_BYTE, 0, 8, world);
+        else if (rank == 1) MPI_Ssend(sent, length, MPI_BYTE, 0, 8, world);
+        if (rank) continue;
+        if (length % 2) MPI_Probe(1, 8, world, &status), MPI_Get_count(&status, MPI_BYTE, &next);
+        memset(came, 1, sizeof came);
+        MPI_Recv(came, 1100, MPI_BYTE, 1, MPI_ANY_TAG, world, &status);
+        MPI_Get_count(&status, MPI_BYTE, &count);
+        CHECK(count == length && next == length && memcmp(came, sent, (size_t)length) == 0 && came[length] == 1);
+    }
+}
+
 static void errors(void) {
     int x[4] = {0}, y = 0;
     MPI_Status status;
@@ -140,8 +158,8 @@ int main(int argc, char **argv) {
     MPI_Comm_rank(MPI_COMM_WORLD, &rank);
     MPI_Comm_size(MPI_COMM_WORLD, &size);
     MPI_Comm_dup(MPI_COMM_WORLD, &world);
-    void (*parts[])(void) = {order_and_tags, long_and_probed, several, exchanges, errors};
-    for (int k = 0; k < 5; k++) {
+    void (*parts[])(void) = {order_and_tags, long_and_probed, several, exchanges, lengths, errors};
+    for (int k = 0; k < 6; k++) {
         parts[k]();
         MPI_Barrier(world);
     }
