@@ -102,6 +102,7 @@ bool make_world(void) {
 /* Takes a communicator away that nothing points to. */
 void free_comm(struct comm *comm) {
     if (--comm->chain->users == 0) free(comm->chain);
+    free(comm->cart);
     free(comm);
 }
 

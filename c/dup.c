@@ -154,6 +154,7 @@ int MPI_Comm_dup(MPI_Comm comm, MPI_Comm *made) {
     int code = begin_collective(of);
     if (code == MPI_SUCCESS) code = agree_on_plane(of, &plane, &plans);
     if (code == MPI_SUCCESS) code = make_on_plane(of, plane, &group, &plans, made);
+    if (code == MPI_SUCCESS) comm_at(*made)->cart = copy_cart(of->cart);
     return fail(of, code);
 }
 

@@ -22,6 +22,8 @@ static const struct {
     {MPI_ERR_ROOT, "MPI_ERR_ROOT: the communicator has no such root"},
     {MPI_ERR_GROUP, "MPI_ERR_GROUP: this is no group"},
     {MPI_ERR_OP, "MPI_ERR_OP: this is no operation"},
+    {MPI_ERR_TOPOLOGY, "MPI_ERR_TOPOLOGY: the communicator has no topology, or not this one"},
+    {MPI_ERR_DIMS, "MPI_ERR_DIMS: a dimension isn't allowed"},
     {MPI_ERR_ARG, "MPI_ERR_ARG: an argument isn't allowed"},
     {MPI_ERR_TRUNCATE, "MPI_ERR_TRUNCATE: the message was longer than the receive's room"},
     {MPI_ERR_OTHER, "MPI_ERR_OTHER: another error"},

@@ -71,6 +71,7 @@ enum {
     MPI_UNDEFINED = -32766,
     MPI_TAG_UB_VALUE = 32767
 };
+enum { MPI_GRAPH = 1, MPI_CART = 2, MPI_DIST_GRAPH = 3 };
 enum { MPI_ORDER_C = 0, MPI_ORDER_FORTRAN = 1 };
 enum { MPI_IDENT = 0, MPI_CONGRUENT = 1, MPI_SIMILAR = 2, MPI_UNEQUAL = 3 };
 enum { MPI_THREAD_SINGLE = 0, MPI_THREAD_FUNNELED = 1, MPI_THREAD_SERIALIZED = 2, MPI_THREAD_MULTIPLE = 3 };
@@ -265,6 +266,18 @@ int MPI_Group_range_incl(MPI_Group group, int count, int ranges[][3], MPI_Group 
 int MPI_Group_range_excl(MPI_Group group, int count, int ranges[][3], MPI_Group *made);
 int MPI_Group_free(MPI_Group *group);
 
+/* ---- Cartesian topologies (8.5). ---- */
+
+int MPI_Cart_create(MPI_Comm comm, int ndims, const int dims[], const int periods[], int reorder, MPI_Comm *made);
+int MPI_Cart_get(MPI_Comm comm, int maxdims, int dims[], int periods[], int coords[]);
+int MPI_Cartdim_get(MPI_Comm comm, int *ndims);
+int MPI_Cart_rank(MPI_Comm comm, const int coords[], int *rank);
+int MPI_Cart_coords(MPI_Comm comm, int rank, int maxdims, int coords[]);
+int MPI_Cart_shift(MPI_Comm comm, int direction, int displacement, int *source, int *dest);
+int MPI_Cart_sub(MPI_Comm comm, const int remains[], MPI_Comm *made);
+int MPI_Dims_create(int nodes, int ndims, int dims[]);
+int MPI_Topo_test(MPI_Comm comm, int *status);
+
 /* ---- Collectives (6). ---- */
 
 int MPI_Barrier(MPI_Comm comm);
@@ -272,6 +285,8 @@ int MPI_Ibarrier(MPI_Comm comm, MPI_Request *request);
 int MPI_Bcast(void *buf, int count, MPI_Datatype type, int root, MPI_Comm comm);
 int MPI_Reduce(const void *sendbuf, void *recvbuf, int count, MPI_Datatype type, MPI_Op op, int root, MPI_Comm comm);
 int MPI_Allreduce(const void *sendbuf, void *recvbuf, int count, MPI_Datatype type, MPI_Op op, MPI_Comm comm);
+int MPI_Reduce_scatter_block(const void *sendbuf, void *recvbuf, int count, MPI_Datatype type, MPI_Op op, MPI_Comm comm);
+int MPI_Reduce_scatter(const void *sendbuf, void *recvbuf, const int counts[], MPI_Datatype type, MPI_Op op, MPI_Comm comm);
 int MPI_Scan(const void *sendbuf, void *recvbuf, int count, MPI_Datatype type, MPI_Op op, MPI_Comm comm);
 int MPI_Exscan(const void *sendbuf, void *recvbuf, int count, MPI_Datatype type, MPI_Op op, MPI_Comm comm);
 int MPI_Gather(const void *sendbuf, int sendcount, MPI_Datatype sendtype, void *recvbuf, int recvcount, MPI_Datatype recvtype, int root,

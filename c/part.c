@@ -21,22 +21,26 @@ static void group_of_color(const struct comm *comm, const struct plans *plans, i
     }
 }
 
-int MPI_Comm_split(MPI_Comm comm, int color, int key, MPI_Comm *made) {
-    struct comm *of = comm_at(comm);
+/* Makes the communicator of those of a color, or none at those of MPI_UNDEFINED. */
+int split_comm(struct comm *of, int color, int key, MPI_Comm *made) {
     struct plans plans = {.colors = {color}, .keys = {key}};
     struct group group;
     int plane = 0;
-    ENTER(of, MPI_UNDEFINED, MPI_UNDEFINED);
-    if (!of) return fail(0, MPI_ERR_COMM);
-    WRITES(of, made);
-    if (of->is_self) return fail(of, NOT_ON_SELF);
-    if (color < 0 && color != MPI_UNDEFINED) return fail(of, MPI_ERR_ARG);
     *made = MPI_COMM_NULL;
+    if (of->is_self) return NOT_ON_SELF;
     int code = begin_collective(of);
     if (code == MPI_SUCCESS) code = agree_on_plane(of, &plane, &plans);
-    if (code != MPI_SUCCESS || color == MPI_UNDEFINED) return fail(of, code);
+    if (code != MPI_SUCCESS || color == MPI_UNDEFINED) return code;
     group_of_color(of, &plans, color, &group);
-    return fail(of, make_on_plane(of, plane, &group, &plans, made));
+    return make_on_plane(of, plane, &group, &plans, made);
+}
+
+int MPI_Comm_split(MPI_Comm comm, int color, int key, MPI_Comm *made) {
+    struct comm *of = comm_at(comm);
+    ENTER(of, MPI_UNDEFINED, MPI_UNDEFINED);
+    if (!of) return fail(0, MPI_ERR_COMM);
+    if (!made || (color < 0 && color != MPI_UNDEFINED)) return fail(of, refuse_collective(of, MPI_ERR_ARG));
+    return fail(of, split_comm(of, color, key, made));
 }
 
 static bool is_member(const struct group *group) { return position_in(group, me->number) != MPI_UNDEFINED; }

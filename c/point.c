@@ -34,8 +34,14 @@ static int begin_send(const void *buf, int count, MPI_Datatype type, int dest, i
 /* A send that is complete in its call needs no request. */
 static int send_buffered(const void *buf, int count, MPI_Datatype type, int dest, int tag, struct comm *comm) {
     size_t bytes = 0;
+    const void *data;
+    void *packed;
     int code = check(buf, count, type, dest, tag, comm, false, &bytes);
-    return code != MPI_SUCCESS || dest == MPI_PROC_NULL ? code : send_now(comm, dest, tag, buf, bytes, 0);
+    if (code != MPI_SUCCESS || dest == MPI_PROC_NULL) return code;
+    code = pack_data(buf, count, type, &data, &packed);
+    if (code == MPI_SUCCESS) code = send_now(comm, dest, tag, data, bytes, 0);
+    free(packed);
+    return code;
 }
 
 static int begin_receive(void *buf, int count, MPI_Datatype type, int source, int tag, struct comm *comm, struct request **made) {

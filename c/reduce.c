@@ -149,3 +149,42 @@ int MPI_Exscan(const void *sendbuf, void *recvbuf, int count, MPI_Datatype type,
     int code = begin(&of, sendbuf, recvbuf, !in || in->position > 0 || sendbuf == MPI_IN_PLACE);
     return finish(&of, code != MPI_SUCCESS ? code : scan(sendbuf, recvbuf, &of, true));
 }
+
+/* Position 0 tells each its part of the result, of `counts[k]` elements, or all of `count`. */
+static int reduce_scatter(const void *sendbuf, void *recvbuf, const int counts[], int count, struct reduction *of) {
+    struct comm *in = of->comm;
+    size_t each = of->count ? of->bytes / (size_t)of->count : 0, own = 0, before = 0, at = 0;
+    for (int k = 0; k < in->size; k++) {
+        if (k == in->position) before = at, own = each * (size_t)(counts ? counts[k] : count);
+        at += each * (size_t)(counts ? counts[k] : count);
+    }
+    int code = gather_all(in, own_part(of, sendbuf, recvbuf), of->bytes, of->parts);
+    if (in->position == 0 && code == MPI_SUCCESS) code = fold_parts(of, in->size - 1, of->result + VERDICT);
+    else memset(of->result + VERDICT, 0, of->bytes);
+    code = spread_verdict(in, code, of->result, of->bytes);
+    of->count = counts ? counts[in->position] : count;
+    of->bytes = own;
+    if (code == MPI_SUCCESS) deliver(of, of->result + VERDICT + before, recvbuf);
+    return code;
+}
+
+int MPI_Reduce_scatter_block(const void *sendbuf, void *recvbuf, int count, MPI_Datatype type, MPI_Op op, MPI_Comm comm) {
+    struct comm *in = comm_at(comm);
+    struct reduction of = {.comm = in, .count = in && count > 0 ? count * in->size : count, .type = type, .op = op};
+    ENTER(in, MPI_UNDEFINED, MPI_UNDEFINED);
+    int code = begin(&of, sendbuf, recvbuf, true);
+    return finish(&of, code != MPI_SUCCESS ? code : reduce_scatter(sendbuf, recvbuf, 0, count, &of));
+}
+
+int MPI_Reduce_scatter(const void *sendbuf, void *recvbuf, const int counts[], MPI_Datatype type, MPI_Op op, MPI_Comm comm) {
+    struct comm *in = comm_at(comm);
+    struct reduction of = {.comm = in, .type = type, .op = op};
+    ENTER(in, MPI_UNDEFINED, MPI_UNDEFINED);
+    if (in && !counts) return fail(in, refuse_collective(in, MPI_ERR_ARG));
+    for (int k = 0; in && k < in->size; k++) {
+        if (counts[k] < 0) return fail(in, refuse_collective(in, MPI_ERR_COUNT));
+        of.count += counts[k];
+    }
+    int code = begin(&of, sendbuf, recvbuf, !in || counts[in->position] > 0 || sendbuf == MPI_IN_PLACE);
+    return finish(&of, code != MPI_SUCCESS ? code : reduce_scatter(sendbuf, recvbuf, counts, 0, &of));
+}

@@ -53,6 +53,7 @@ struct comm {
     _Atomic int *revoked;        /* of a part: what its members share, for the engine would revoke the whole context */
     uint32_t acknowledged;       /* how many failures are */
     char name[MPI_MAX_OBJECT_NAME];
+    struct cart *cart;           /* its topology, or null */
 };
 
 /* A value of MPI_Group: world ranks by positions. */
@@ -231,6 +232,10 @@ void look_at_all(void);
 void withdraw(struct request *request);
 extern const MPI_Status empty_status;
 void clear_requests(void);
+
+/* cart.c, part.c */
+struct cart *copy_cart(const struct cart *cart);
+int split_comm(struct comm *of, int color, int key, MPI_Comm *made);
 
 /* comm.c, dup.c, group.c */
 struct comm *comm_at(MPI_Comm handle);

@@ -29,6 +29,9 @@ static void columns(void) {
     MPI_Sendrecv(&a[0][1], 1, column, next, 2, row, ROWS, MPI_DOUBLE, before, 2, world, &status);
     for (int k = 0; k < ROWS; k++) CHECK(row[k] == 100 * before + k * COLUMNS + 1);
     CHECK(count == 1 && elements == ROWS);
+    if (rank % 2 == 0 && next) MPI_Send(&a[0][2], 1, column, next, 4, world);
+    if (rank % 2) MPI_Recv(row, ROWS, MPI_DOUBLE, before, 4, world, &status);
+    for (int k = 0; k < ROWS; k++) CHECK(rank % 2 == 0 || row[k] == 100 * before + k * COLUMNS + 2);
     MPI_Type_free(&column);
 }
 
