@@ -17,7 +17,13 @@ static int check(const void *buf, int count, MPI_Datatype type, int peer, int ta
     return MPI_SUCCESS;
 }
 
-static int begin_send(const void *buf, int count, MPI_Datatype type, int dest, int tag, struct comm *comm, bool waits, struct request **made) {
+/* The same, where the bytes aren't wanted. */
+int check_message(const void *buf, int count, MPI_Datatype type, int peer, int tag, const struct comm *comm, bool is_receive) {
+    size_t bytes;
+    return check(buf, count, type, peer, tag, comm, is_receive, &bytes);
+}
+
+int begin_send(const void *buf, int count, MPI_Datatype type, int dest, int tag, struct comm *comm, bool waits, struct request **made) {
     size_t bytes = 0;
     int code = check(buf, count, type, dest, tag, comm, false, &bytes);
     if (code != MPI_SUCCESS) return code;
@@ -44,7 +50,7 @@ static int send_buffered(const void *buf, int count, MPI_Datatype type, int dest
     return code;
 }
 
-static int begin_receive(void *buf, int count, MPI_Datatype type, int source, int tag, struct comm *comm, struct request **made) {
+int begin_receive(void *buf, int count, MPI_Datatype type, int source, int tag, struct comm *comm, struct request **made) {
     size_t bytes = 0;
     int code = check(buf, count, type, source, tag, comm, true, &bytes);
     if (code != MPI_SUCCESS) return code;

@@ -9,6 +9,12 @@ struct request *request_at(MPI_Request handle) {
     return number && number <= (uintptr_t)me->request_count ? me->requests[number - 1] : 0;
 }
 
+/* What a handle stands for now: of a persistent request what it started; null where there is nothing to wait for. */
+struct request *active_at(MPI_Request handle) {
+    struct request *request = request_at(handle);
+    return request && request->kind == PERSISTENT ? request->active : request;
+}
+
 /* A place of the table that is free, or -1 where there is no memory. */
 static int free_place(void) {
     while (me->first_free < me->request_count && me->requests[me->first_free]) me->first_free++;
@@ -52,6 +58,7 @@ void free_request(struct request *request) {
     if (request->kind == RECEIVE && !request->over) unlink_open(request);
     if (request->parcel) let_go(request->parcel);
     free_landing(request->landing);
+    free_start(request->start);
     me->requests[request->handle - 1] = 0;
     if (request->handle - 1 < me->first_free) me->first_free = request->handle - 1;
     request->next = me->spare;
@@ -184,6 +191,7 @@ void clear_requests(void) {
         struct request *request = me->requests[k];
         if (request && request->parcel) let_go(request->parcel);
         if (request) free_landing(request->landing);
+        if (request) free_start(request->start);
         free(request);
     }
     free(me->requests);

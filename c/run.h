@@ -88,10 +88,11 @@ struct parcel {
     unsigned char bytes[];
 };
 
-/* What a request is: a buffered send, a send that waits for its match, a receive, a barrier, or nothing that could go on. */
-enum kind { SENT, SYNCHRONOUS, RECEIVE, BARRIER, NOTHING };
+/* What a request is: a buffered send, a send that waits for its match, a receive, a barrier, one that starts others, or nothing that could go on. */
+enum kind { SENT, SYNCHRONOUS, RECEIVE, BARRIER, PERSISTENT, NOTHING };
 
 struct landing;
+struct start;
 
 /* What was begun, until its end is told. */
 struct request {
@@ -103,6 +104,8 @@ struct request {
     size_t room;
     uint64_t id;            /* the engine's number of the receive */
     struct parcel *parcel;  /* of a synchronous send */
+    struct start *start;     /* of a persistent request: what it starts */
+    struct request *active;  /* of a persistent request: what it started, until its end is told */
     struct landing *landing; /* of a receive whose data aren't in one piece */
     bool over, freed;       /* its status is known; the program freed it */
     int code;
@@ -221,6 +224,7 @@ bool has_unacknowledged(const struct comm *comm);
 /* request.c */
 struct request *new_request(enum kind kind, struct comm *comm, int peer, int tag);
 struct request *request_at(MPI_Request handle);
+struct request *active_at(MPI_Request handle);
 void free_request(struct request *request);
 void end_request(struct request *request, int code);
 void start_receive(struct request *request, void *buffer, size_t room);
@@ -259,6 +263,8 @@ void clear_groups(void);
 
 /* type.c, pack.c, op.c */
 bool is_basic_type(MPI_Datatype type);
+MPI_Datatype keep_type(MPI_Datatype type);
+void drop_type(MPI_Datatype type);
 bool check_buffer(int count, MPI_Datatype type, size_t *bytes, int *code);
 int pack_data(const void *buffer, int count, MPI_Datatype type, const void **data, void **packed);
 void unpack_data(const void *data, size_t bytes, void *buffer, int count, MPI_Datatype type);
@@ -278,6 +284,12 @@ void clear_ops(void);
 /* error.c */
 int fail(struct comm *comm, int code);
 void clear_handlers(void);
+
+/* point.c, persistent.c */
+int check_message(const void *buf, int count, MPI_Datatype type, int peer, int tag, const struct comm *comm, bool is_receive);
+int begin_send(const void *buf, int count, MPI_Datatype type, int dest, int tag, struct comm *comm, bool waits, struct request **made);
+int begin_receive(void *buf, int count, MPI_Datatype type, int source, int tag, struct comm *comm, struct request **made);
+void free_start(struct start *start);
 
 /* ibarrier.c */
 void look_at_barrier(struct request *barrier);

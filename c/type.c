@@ -60,6 +60,22 @@ int add_type(struct type *type, MPI_Datatype *made) {
     return MPI_SUCCESS;
 }
 
+/* Another handle of a type, which stays when the program frees its own; MPI_DATATYPE_NULL where there is no memory. */
+MPI_Datatype keep_type(MPI_Datatype handle) {
+    struct type *type = type_at(handle);
+    MPI_Datatype kept = MPI_DATATYPE_NULL;
+    if (type->is_basic) return handle;
+    type->users++;
+    return add_type(type, &kept) == MPI_SUCCESS ? kept : MPI_DATATYPE_NULL;
+}
+
+void drop_type(MPI_Datatype handle) {
+    struct type *type = type_at(handle);
+    if (!type || type->is_basic) return;
+    me->types[(uintptr_t)handle - FIRST_OWN] = 0;
+    free_type(type);
+}
+
 bool is_basic_type(MPI_Datatype handle) {
     const struct type *type = type_at(handle);
     return type && type->is_basic;
@@ -121,8 +137,7 @@ int MPI_Type_free(MPI_Datatype *type) {
     ENTER_LOOK(0, MPI_UNDEFINED, MPI_UNDEFINED);
     struct type *of = type ? type_at(*type) : 0;
     if (!of || of->is_basic) return fail(0, MPI_ERR_TYPE);
-    me->types[(uintptr_t)*type - FIRST_OWN] = 0;
-    free_type(of);
+    drop_type(*type);
     *type = MPI_DATATYPE_NULL;
     return MPI_SUCCESS;
 }

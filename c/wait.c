@@ -26,12 +26,14 @@ int wait_for(struct request *request) {
     return request->over ? MPI_SUCCESS : waiting.pends;
 }
 
-/* Tells how a request ended, and releases it. Its error code. */
+/* Tells how a request ended, and releases it; the handle of a persistent one stays. Its error code. */
 static int release(MPI_Request *handle, struct request *request, MPI_Status *status) {
     int code = request->code;
+    struct request *own = request_at(*handle);
     if (status) *status = request->status;
+    if (own == request) *handle = MPI_REQUEST_NULL;
+    else own->active = 0;
     free_request(request);
-    *handle = MPI_REQUEST_NULL;
     return code;
 }
 
@@ -48,13 +50,15 @@ static void tell_place(const struct request *request) {
     me->place.tag = request->tag;
 }
 
+/* Whether there is nothing to wait for: no request, or a persistent one that isn't active. */
+static bool is_idle(MPI_Request handle) { return handle == MPI_REQUEST_NULL || request_at(handle); }
+
 int MPI_Wait(MPI_Request *handle, MPI_Status *status) {
     ENTER(0, MPI_UNDEFINED, MPI_UNDEFINED);
     WRITES(0, handle);
-    struct request *request = request_at(*handle);
+    struct request *request = active_at(*handle);
     if (status) *status = empty_status;
-    if (*handle == MPI_REQUEST_NULL) return MPI_SUCCESS;
-    if (!request) return fail(0, MPI_ERR_REQUEST);
+    if (!request) return is_idle(*handle) ? MPI_SUCCESS : fail(0, MPI_ERR_REQUEST);
     tell_place(request);
     struct comm *comm = request->comm;
     return fail(comm, wait_for(request) ? pending(request, status) : release(handle, request, status));
@@ -63,11 +67,10 @@ int MPI_Wait(MPI_Request *handle, MPI_Status *status) {
 int MPI_Test(MPI_Request *handle, int *flag, MPI_Status *status) {
     ENTER_LOOK(0, MPI_UNDEFINED, MPI_UNDEFINED);
     WRITES(0, handle && flag);
-    struct request *request = request_at(*handle);
+    struct request *request = active_at(*handle);
     if (status) *status = empty_status;
     *flag = 1;
-    if (*handle == MPI_REQUEST_NULL) return MPI_SUCCESS;
-    if (!request) return fail(0, MPI_ERR_REQUEST);
+    if (!request) return is_idle(*handle) ? MPI_SUCCESS : fail(0, MPI_ERR_REQUEST);
     struct comm *comm = request->comm;
     progress();
     int pends = look_at(request);
@@ -78,13 +81,12 @@ int MPI_Test(MPI_Request *handle, int *flag, MPI_Status *status) {
 }
 
 int MPI_Request_get_status(MPI_Request handle, int *flag, MPI_Status *status) {
-    struct request *request = request_at(handle);
+    struct request *request = active_at(handle);
     ENTER_LOOK(0, MPI_UNDEFINED, MPI_UNDEFINED);
     WRITES(0, flag);
     if (status) *status = empty_status;
     *flag = 1;
-    if (handle == MPI_REQUEST_NULL) return MPI_SUCCESS;
-    if (!request) return fail(0, MPI_ERR_REQUEST);
+    if (!request) return is_idle(handle) ? MPI_SUCCESS : fail(0, MPI_ERR_REQUEST);
     progress();
     look_at(request);
     *flag = request->over;
@@ -96,9 +98,11 @@ int MPI_Request_get_status(MPI_Request handle, int *flag, MPI_Status *status) {
 int MPI_Request_free(MPI_Request *handle) {
     ENTER_LOOK(0, MPI_UNDEFINED, MPI_UNDEFINED);
     WRITES(0, handle);
-    struct request *request = request_at(*handle);
-    if (!request) return fail(0, MPI_ERR_REQUEST);
+    struct request *request = active_at(*handle), *own = request_at(*handle);
+    if (!own) return fail(0, MPI_ERR_REQUEST);
     *handle = MPI_REQUEST_NULL;
+    if (own->kind == PERSISTENT) free_request(own);
+    if (!request) return MPI_SUCCESS;
     if (request->over || request->kind == SYNCHRONOUS) free_request(request);
     else {
         request->freed = true;
@@ -111,7 +115,7 @@ int MPI_Request_free(MPI_Request *handle) {
 int MPI_Cancel(MPI_Request *handle) {
     ENTER(0, MPI_UNDEFINED, MPI_UNDEFINED);
     WRITES(0, handle);
-    struct request *request = request_at(*handle);
+    struct request *request = active_at(*handle);
     if (!request) return fail(0, MPI_ERR_REQUEST);
     progress();
     withdraw(request);
@@ -140,7 +144,7 @@ static void look_at_several(struct several *several) {
     several->active = several->over = several->failed = 0;
     several->first = -1;
     for (int k = 0; k < several->count; k++) {
-        struct request *request = request_at(several->handles[k]);
+        struct request *request = active_at(several->handles[k]);
         if (!request) continue;
         several->active++;
         int pends = look_at(request);
@@ -153,7 +157,7 @@ static void look_at_several(struct several *several) {
 /* Looks at the next ones in turn, until one isn't over. Whether none is left, or one has an error or pends. */
 static bool are_next_done(struct several *several) {
     for (; several->next < several->count; several->next++) {
-        struct request *request = request_at(several->handles[several->next]);
+        struct request *request = active_at(several->handles[several->next]);
         if (!request) continue;
         int pends = look_at(request);
         several->failed = pends || (request->over && request->code != MPI_SUCCESS);
@@ -176,7 +180,7 @@ static bool are_done(void *of, bool is_settled) {
 /* The communicator of the first request with an error, for its handler. */
 static struct comm *comm_of_error(const struct several *several) {
     for (int k = 0; k < several->count; k++) {
-        struct request *request = request_at(several->handles[k]);
+        struct request *request = active_at(several->handles[k]);
         if (request && (!request->over || request->code != MPI_SUCCESS)) return request->comm;
     }
     return 0;
@@ -195,7 +199,7 @@ static int release_all(struct several *several, MPI_Status statuses[]) {
     struct comm *comm = comm_of_error(several);
     int result = several->failed ? MPI_ERR_IN_STATUS : MPI_SUCCESS;
     for (int k = 0; k < several->count; k++) {
-        struct request *request = request_at(several->handles[k]);
+        struct request *request = active_at(several->handles[k]);
         MPI_Status status = empty_status;
         if (request && request->over) release(&several->handles[k], request, &status);
         else if (request) {
@@ -214,7 +218,7 @@ int MPI_Waitall(int count, MPI_Request handles[], MPI_Status statuses[]) {
     int code = check_requests(count, handles, true);
     if (code != MPI_SUCCESS) return fail(0, code);
     for (int k = 0; k < count; k++)
-        if (request_at(handles[k]) && !request_at(handles[k])->over) tell_place(request_at(handles[k]));
+        if (active_at(handles[k]) && !active_at(handles[k])->over) tell_place(active_at(handles[k]));
     wait_until(are_done, &several, false);
     return release_all(&several, statuses);
 }
@@ -236,7 +240,7 @@ static int release_one(struct several *several, int *index, MPI_Status *status) 
     if (status) *status = empty_status;
     *index = several->first < 0 ? MPI_UNDEFINED : several->first;
     if (several->first < 0) return MPI_SUCCESS;
-    struct request *request = request_at(several->handles[several->first]);
+    struct request *request = active_at(several->handles[several->first]);
     struct comm *comm = request->comm;
     return fail(comm, request->over ? release(&several->handles[several->first], request, status) : pending(request, status));
 }
@@ -267,7 +271,7 @@ static int release_some(struct several *several, int *outcount, int indices[], M
     int found = 0;
     *outcount = several->active ? 0 : MPI_UNDEFINED;
     for (int k = 0; several->active && k < several->count; k++) {
-        struct request *request = request_at(several->handles[k]);
+        struct request *request = active_at(several->handles[k]);
         if (!request || (!request->over && !look_at(request))) continue;
         MPI_Status status;
         if (request->over) release(&several->handles[k], request, &status);
