@@ -136,7 +136,8 @@ struct several {
     int active, over, failed;  /* how many there are, are over, have an error or pend */
     int first;                 /* the first one that is over or pends, or -1 */
     bool wants_all;
-    int next, looks;           /* all before `next` are over without an error; how often only those behind were looked at */
+    int next, looks;           /* all before `next` are over without an error; how often it looked */
+    int came;                  /* messages that came and may be those of further requests */
 };
 enum { LOOKS_AT_NEXT = 64 };
 
@@ -154,15 +155,19 @@ static void look_at_several(struct several *several) {
     }
 }
 
-/* Looks at the next ones in turn, until one isn't over. Whether none is left, or one has an error or pends. */
+/* Looks at the next ones in turn, until one isn't over, or as many were as messages came. Whether none is left, or one has an error or pends. */
 static bool are_next_done(struct several *several) {
+    several->came++;
     for (; several->next < several->count; several->next++) {
         struct request *request = active_at(several->handles[several->next]);
         if (!request) continue;
+        bool was_over = request->over;
+        if (!was_over && several->came == 0) return false;
         int pends = look_at(request);
         several->failed = pends || (request->over && request->code != MPI_SUCCESS);
         if (several->failed) return true;
         if (!request->over) return false;
+        several->came -= !was_over;
     }
     return true;
 }
@@ -173,6 +178,7 @@ static bool are_done(void *of, bool is_settled) {
     struct several *several = of;
     if (several->wants_all && !is_settled && several->looks++ % LOOKS_AT_NEXT) return are_next_done(several);
     look_at_several(several);
+    several->came = 0;
     if (several->failed || several->active == 0) return true;
     return several->wants_all ? several->over == several->active : several->over > 0;
 }
