@@ -1,8 +1,10 @@
 -- What an export does, and the code that it answers.
-use Rattle.std.specs.Prelude.{◌≡◌, ℕ, ◌≤◌, ◌⊎◌, Option, Some, None}
+use Rattle.std.specs.Prelude.{◌≡◌, ◌≢◌, ℕ, ◌≤◌, ◌⊎◌, ◌==◌, List, Option, Some, None, min, if◌then◌else◌}
 use Rattle.ulfm_base.specs.declared.error.CallError.{CallError}
 use Rattle.ulfm_base.specs.declared.error.CallError.TheVariants.{NoComm, BadRank, BadTag, TooLong, ProcFailed, Revoked, NoRequest, AlreadyMade, NoContext, Stopped, NotMember, OutOfMemory, BadSize, NotEntered, Truncated}
+use Rattle.ulfm_base.specs.declared.tag.Tag.{Tag}
 use Rattle.ulfm_process.specs.View.{ProcessView}
+use Rattle.ulfm_rank.specs.Checks.{Check, FailsOrStarves, Passes}
 use Rattle.ulfm_rank.specs.declared.entry.Comm.{Comm}
 
 -- whether there is a process
@@ -28,24 +30,45 @@ number_of BadSize = 13
 number_of NotEntered = 14
 number_of Truncated = 15
 
--- Without a process the code is 16, and none comes. Else there is one before and after, and this holds of both.
-abbrev pub Call : Option ProcessView → Option ProcessView → ℕ → (ProcessView → ProcessView → Type 0) → Type 0
-Call None None code does = code ≡ 16
-Call (Some old) (Some new) code does = does old new
-Call _ _ code does = ⊥
+-- of two things that a call writes to, each is as it was
+abbrev pub AreKept : {X Y : Type 0} → X → X → Y → Y → Type 0
+AreKept old new other_old other_new = (new ≡ old) × (other_new ≡ other_old)
 
--- the code is that of a refusal, for this cause, and nothing changes
-abbrev pub Refused : ProcessView → ProcessView → ℕ → (CallError → Type 0) → Type 0
-Refused old new code why = (e : CallError) × (code ≡ number_of e) × why e × (new ≡ old)
+-- Without a process the code is 16, none comes, and what is written to is kept. Else there is one before and after, and this holds of both.
+abbrev pub Call : Option ProcessView → Option ProcessView → ℕ → Type 0 → (ProcessView → ProcessView → Type 0) → Type 0
+Call None None code kept does = (code ≡ 16) × kept
+Call (Some old) (Some new) code kept does = does old new
+Call _ _ code kept does = ⊥
+
+-- The code is that of a refusal, for this cause. Nothing changes, and what is written to is kept.
+abbrev pub Refused : ProcessView → ProcessView → ℕ → Type 0 → (CallError → Type 0) → Type 0
+Refused old new code kept why = (e : CallError) × (code ≡ number_of e) × why e × (new ≡ old) × kept
 
 -- the code is 0 and this was done, or it is that of a refusal
-abbrev pub Answers : ProcessView → ProcessView → ℕ → Type 0 → (CallError → Type 0) → Type 0
-Answers old new code done why = ((code ≡ 0) × done) ⊎ Refused old new code why
+abbrev pub Answers : ProcessView → ProcessView → ℕ → Type 0 → Type 0 → (CallError → Type 0) → Type 0
+Answers old new code kept done why = ((code ≡ 0) × done) ⊎ Refused old new code kept why
 
--- no communicator has this number, and nothing changes
-abbrev pub IsPast : ProcessView → ProcessView → ℕ → ℕ → Type 0
-IsPast old new comm code = (code ≡ 1) × (63 ≤ comm) × (new ≡ old)
+-- the same of a call that passes these checks, or is refused by them or by a growth that was refused
+abbrev pub Checked : ProcessView → ProcessView → ℕ → Type 0 → List Check → Type 0 → Type 0
+Checked old new code kept checks done = Answers old new code kept (Passes checks × done) (FailsOrStarves checks)
 
--- a call that names a communicator by its number
-abbrev pub CommCall : ProcessView → ProcessView → ℕ → ℕ → (Comm → Type 0) → (Comm → CallError → Type 0) → Type 0
-CommCall old new comm code done why = IsPast old new comm code ⊎ ((c : Comm) × (c.context.number ≡ comm) × Answers old new code (done c) (why c))
+-- A call names its communicator by its number. Where none can have it the code is 1 and nothing changes, else this holds of it.
+abbrev pub CommCall : ProcessView → ProcessView → ℕ → ℕ → Type 0 → (Comm → Type 0) → Type 0
+CommCall old new comm code kept does = ((code ≡ 1) × (63 ≤ comm) × (new ≡ old) × kept) ⊎ ((c : Comm) × (c.context.number ≡ comm) × does c)
+
+-- the number by which C asks for any source and any tag
+abbrev pub any : ℕ
+any = 4294967295
+
+-- a position that is named, past 255 as 255, which no communicator has; or any
+abbrev pub source_named : ℕ → Option ℕ
+source_named n = if n == any then None else Some (min n 255)
+
+-- the tag that is named, or any
+abbrev pub NamesTag : ℕ → Option Tag → Type 0
+NamesTag n None = n ≡ any
+NamesTag n (Some t) = t.number ≡ n
+
+-- A receive or a probe names its tag. Past 32767 the code is 3 and nothing changes, else this holds of it.
+abbrev pub TagCall : ProcessView → ProcessView → ℕ → ℕ → Type 0 → (Option Tag → Type 0) → Type 0
+TagCall old new tag code kept does = ((code ≡ 3) × (32768 ≤ tag) × (tag ≢ any) × (new ≡ old) × kept) ⊎ ((t : Option Tag) × NamesTag tag t × does t)

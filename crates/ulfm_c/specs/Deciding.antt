@@ -1,32 +1,32 @@
--- What a poll of a shrink or an agreement by C does.
+-- What a poll of a shrink or an agreement by C does (ULFM, shrink and agree).
 use Rattle.std.specs.Prelude.{◌≡◌, ℕ, ◌⊎◌, Some}
 use Rattle.ulfm_base.specs.Context.{shrink_of}
 use Rattle.ulfm_base.specs.Decision.{left_out}
 use Rattle.ulfm_base.specs.Topic.{shrink_topic}
 use Rattle.ulfm_base.specs.declared.decision.Decision.{Decision}
 use Rattle.ulfm_base.specs.declared.error.CallError.{CallError}
+use Rattle.ulfm_base.specs.declared.topic.Topic.{Topic}
+use Rattle.ulfm_c.specs.Calls.{AreKept, CommCall, number_of}
+use Rattle.ulfm_c.specs.Told.{listed}
+use Rattle.ulfm_c.specs.declared.told.CGroup.{CGroup}
 use Rattle.ulfm_process.specs.Deciding.{Adopts, IsPollRefusal, Waits}
 use Rattle.ulfm_process.specs.View.{ProcessView}
 use Rattle.ulfm_rank.specs.Proposal.{last_agreement}
-use Rattle.ulfm_rank.specs.declared.entry.Comm.{Comm}
-use Rattle.ulfm_c.specs.Calls.{IsPast, number_of}
-use Rattle.ulfm_c.specs.Told.{Lists}
-use Rattle.ulfm_c.specs.declared.told.CGroup.{CGroup}
 
--- what is asked of a communicator is decided with 0, isn't yet with 17, or is refused
+-- With 0 the decision on a topic is adopted, and told so. With 17 there is none yet, else it is refused, and what is written to is kept.
+abbrev pub Polls : ProcessView → ProcessView → Topic → ℕ → Type 0 → (Decision → Type 0) → Type 0
+Polls old new topic code kept told =
+    ((code ≡ 0) × (held : Decision) × Adopts old new topic held × told held)
+    ⊎ ((code ≡ 17) × Waits old new topic × kept)
+    ⊎ ((e : CallError) × (code ≡ number_of e) × IsPollRefusal old new topic e × kept)
+
+-- the shrink of a communicator is polled, and the number of the new one told
 abbrev pub ShrinkCall : ProcessView → ProcessView → ℕ → ℕ → ℕ → ℕ → Type 0
-ShrinkCall old new comm before made code =
-    IsPast old new comm code
-    ⊎ ((c : Comm) × (c.context.number ≡ comm)
-    × (((code ≡ 0) × (held : Decision) × Adopts old new (shrink_topic c.context) held × (made ≡ shrink_of c.context.number))
-    ⊎ ((code ≡ 17) × Waits old new (shrink_topic c.context))
-    ⊎ ((e : CallError) × (code ≡ number_of e) × IsPollRefusal old new (shrink_topic c.context) e)))
+ShrinkCall old new comm before made code = CommCall old new comm code (made ≡ before) (λ c.
+    Polls old new (shrink_topic c.context) code (made ≡ before) (λ held. made ≡ shrink_of c.context.number))
 
--- the same of the agreement that was entered last
-abbrev pub AgreeCall : ProcessView → ProcessView → ℕ → ℕ → CGroup → ℕ → Type 0
-AgreeCall old new comm value missing code =
-    IsPast old new comm code
-    ⊎ ((c : Comm) × (c.context.number ≡ comm)
-    × (((code ≡ 0) × (held : Decision) × Adopts old new (last_agreement old.rank.log c.context) held × (held.value ≡ Some value) × Lists (left_out held.old held.entries) missing)
-    ⊎ ((code ≡ 17) × Waits old new (last_agreement old.rank.log c.context))
-    ⊎ ((e : CallError) × (code ≡ number_of e) × IsPollRefusal old new (last_agreement old.rank.log c.context) e)))
+-- the agreement that was entered last is polled, and its value told, with the members whose flags aren't in it
+abbrev pub AgreeCall : ProcessView → ProcessView → ℕ → ℕ → ℕ → CGroup → CGroup → ℕ → Type 0
+AgreeCall old new comm before value all missing code = CommCall old new comm code (AreKept before value all missing) (λ c.
+    Polls old new (last_agreement old.rank.log c.context) code (AreKept before value all missing)
+    (λ held. (held.value ≡ Some value) × (missing ≡ listed (left_out held.old held.entries))))

@@ -2,5 +2,9 @@ pub mod Slot
 pub mod Calls
 pub mod Told
 pub mod Letters
+pub mod Probes
+pub mod Communicators
+pub mod Recovery
 pub mod Deciding
 pub mod Progress
+pub mod Worlds

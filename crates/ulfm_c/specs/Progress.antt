@@ -1,5 +1,5 @@
--- What a turn by C does.
-use Rattle.std.specs.Prelude.{◌≡◌, ℕ, ◌<◌, ◌↔◌, ◌⊎◌, [], true, false}
+-- What a turn by C does, and what is told of what goes out.
+use Rattle.std.specs.Prelude.{◌≡◌, ℕ, ◌<◌, ◌⊎◌, [], true, false}
 use Rattle.ulfm_process.specs.Turning.{IsTurn}
 use Rattle.ulfm_process.specs.View.{ProcessView}
 use Rattle.ulfm_rank.specs.State.{outbox}
@@ -10,6 +10,10 @@ TurnCall old new before moved code =
     ((code ≡ 0) × (((moved ≡ 1) × IsTurn old new true) ⊎ ((moved ≡ 0) × IsTurn old new false)))
     ⊎ ((code ≡ 12) × (new ≡ old) × (moved ≡ before))
 
--- 1 where nothing waits to go out
-abbrev pub IsFlushed : ProcessView → ℕ → Type 0
-IsFlushed p told = (told ≡ 1) ↔ ((d : ℕ) → d < p.rank.ranks → outbox p.rank d ≡ [])
+-- nothing waits to go out
+abbrev pub IsFlushed : ProcessView → Type 0
+IsFlushed p = (d : ℕ) → d < p.rank.ranks → outbox p.rank d ≡ []
+
+-- 1 where nothing waits to go out, else 0
+abbrev pub TellsFlushed : ProcessView → ℕ → Type 0
+TellsFlushed p told = ((told ≡ 1) × IsFlushed p) ⊎ ((told ≡ 0) × (IsFlushed p → ⊥))

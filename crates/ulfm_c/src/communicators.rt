@@ -1,23 +1,16 @@
 //! Communicators and their groups (MPI 4.0, chapter 7).
-ghost use Rattle.std.specs.Prelude.{◌≡◌, ◌≢◌, None, Some};
-ghost use Rattle.ulfm_base.specs.Context.{dup_of};
-ghost use Rattle.ulfm_c.specs.Calls.{Call, CommCall};
-ghost use Rattle.ulfm_c.specs.Told.{Lists};
-ghost use Rattle.ulfm_process.specs.View.{with_rank};
-ghost use Rattle.ulfm_rank.specs.Checks.{FailsOrStarves, dup_checks};
-ghost use Rattle.ulfm_rank.specs.Communicators.{group_of};
-ghost use Rattle.ulfm_rank.specs.State.{logged};
-ghost use Rattle.ulfm_rank.specs.declared.entry.Entry.TheVariants.{Duplicated};
+ghost use Rattle.std.specs.Prelude.{◌≡◌};
+ghost use Rattle.ulfm_c.specs.Calls.{Call};
+ghost use Rattle.ulfm_c.specs.Communicators.{DupCall, GroupCall, PositionCall};
 
 use crate::handle::Handle;
 use crate::told::{CGroup, list};
 use crate::words::{comm_of, number_of};
 use std::alloc::Global;
-use ulfm_base::CallError;
 use ulfm_process::Process;
 
 fn group_of(process: &Process, comm: u32, group: &mut CGroup) -> u32
-    ensures { CommCall process.now process.now comm result (λ c. (members : _) × (group_of process.now.rank.ranks process.now.rank.log c.context.number ≡ Some members) × Lists members group.new) (λ c e. (e ≡ CallError.NoComm) × (group_of process.now.rank.ranks process.now.rank.log c.context.number ≡ None) × (group.new ≡ group.old)) }
+    ensures { GroupCall process.now process.now comm group.old group.new result }
 {
     let comm = match comm_of(comm) {
         Some(comm) => comm,
@@ -40,7 +33,7 @@ pub extern "C" fn ulfm_c_group_of(
     comm: u32,
     group: &mut CGroup,
 ) -> u32
-    ensures { Call handle.old.slot.held handle.new.slot.held result (λ old new. CommCall old new comm result (λ c. (members : _) × (group_of old.rank.ranks old.rank.log c.context.number ≡ Some members) × Lists members group.new) (λ c e. (e ≡ CallError.NoComm) × (group_of old.rank.ranks old.rank.log c.context.number ≡ None) × (group.new ≡ group.old))) }
+    ensures { Call handle.old.slot.held handle.new.slot.held result (group.new ≡ group.old) (λ old new. GroupCall old new comm group.old group.new result) }
 {
     match handle.take(alloc) {
         Some(process) => {
@@ -53,7 +46,7 @@ pub extern "C" fn ulfm_c_group_of(
 }
 
 fn dup(process: &mut Process, comm: u32, made: &mut u32) -> u32
-    ensures { CommCall process.old process.new comm result (λ c. (made.new ≡ dup_of c.context.number) × (process.new ≡ with_rank process.old (logged process.old.rank (Duplicated c.context)))) (λ c e. FailsOrStarves (dup_checks process.old.rank c.context.number) e × (made.new ≡ made.old)) }
+    ensures { DupCall process.old process.new comm made.old made.new result }
 {
     let comm = match comm_of(comm) {
         Some(comm) => comm,
@@ -71,7 +64,7 @@ fn dup(process: &mut Process, comm: u32, made: &mut u32) -> u32
 /// Duplicates a communicator (`Process::dup`).
 #[unsafe(no_mangle)]
 pub extern "C" fn ulfm_c_dup(alloc: Global, handle: &mut Handle, comm: u32, made: &mut u32) -> u32
-    ensures { Call handle.old.slot.held handle.new.slot.held result (λ old new. CommCall old new comm result (λ c. (made.new ≡ dup_of c.context.number) × (new ≡ with_rank old (logged old.rank (Duplicated c.context)))) (λ c e. FailsOrStarves (dup_checks old.rank c.context.number) e × (made.new ≡ made.old))) }
+    ensures { Call handle.old.slot.held handle.new.slot.held result (made.new ≡ made.old) (λ old new. DupCall old new comm made.old made.new result) }
 {
     match handle.take(alloc) {
         Some(mut process) => {
@@ -85,7 +78,7 @@ pub extern "C" fn ulfm_c_dup(alloc: Global, handle: &mut Handle, comm: u32, made
 
 /// This rank's position in a communicator. 11: it is no member.
 fn position(process: &Process, comm: u32, position: &mut u32) -> u32
-    ensures { result ≢ 0 → position.new ≡ position.old }
+    ensures { PositionCall process.now process.now comm position.old position.new result }
 {
     let comm = match comm_of(comm) {
         Some(comm) => comm,
@@ -112,7 +105,7 @@ pub extern "C" fn ulfm_c_position(
     comm: u32,
     at: &mut u32,
 ) -> u32
-    ensures { Call handle.old.slot.held handle.new.slot.held result (λ old new. (new ≡ old) × (result ≢ 0 → at.new ≡ at.old)) }
+    ensures { Call handle.old.slot.held handle.new.slot.held result (at.new ≡ at.old) (λ old new. PositionCall old new comm at.old at.new result) }
 {
     match handle.take(alloc) {
         Some(process) => {

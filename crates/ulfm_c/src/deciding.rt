@@ -1,5 +1,6 @@
 //! The decisions of shrinks and agreements (ULFM, shrink and agree).
-ghost use Rattle.ulfm_c.specs.Calls.{Call};
+ghost use Rattle.std.specs.Prelude.{◌≡◌};
+ghost use Rattle.ulfm_c.specs.Calls.{AreKept, Call};
 ghost use Rattle.ulfm_c.specs.Deciding.{AgreeCall, ShrinkCall};
 
 use crate::handle::Handle;
@@ -34,7 +35,7 @@ pub extern "C" fn ulfm_c_poll_shrink(
     comm: u32,
     made: &mut u32,
 ) -> u32
-    ensures { Call handle.old.slot.held handle.new.slot.held result (λ old new. ShrinkCall old new comm made.old made.new result) }
+    ensures { Call handle.old.slot.held handle.new.slot.held result (made.new ≡ made.old) (λ old new. ShrinkCall old new comm made.old made.new result) }
 {
     match handle.take(alloc) {
         Some(mut process) => {
@@ -48,7 +49,7 @@ pub extern "C" fn ulfm_c_poll_shrink(
 
 /// The decision of an agreement.
 fn poll_agree(process: &mut Process, comm: u32, value: &mut u32, missing: &mut CGroup) -> u32
-    ensures { AgreeCall process.old process.new comm value.new missing.new result }
+    ensures { AgreeCall process.old process.new comm value.old value.new missing.old missing.new result }
 {
     let comm = match comm_of(comm) {
         Some(comm) => comm,
@@ -74,7 +75,7 @@ pub extern "C" fn ulfm_c_poll_agree(
     value: &mut u32,
     missing: &mut CGroup,
 ) -> u32
-    ensures { Call handle.old.slot.held handle.new.slot.held result (λ old new. AgreeCall old new comm value.new missing.new result) }
+    ensures { Call handle.old.slot.held handle.new.slot.held result (AreKept value.old value.new missing.old missing.new) (λ old new. AgreeCall old new comm value.old value.new missing.old missing.new result) }
 {
     match handle.take(alloc) {
         Some(mut process) => {

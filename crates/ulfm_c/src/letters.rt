@@ -1,20 +1,20 @@
 //! Sends, receives, their tests and cancels (MPI 4.0, 3.7 and 3.8.4).
-ghost use Rattle.std.specs.Prelude.{◌≡◌, ◌≢◌, ⊤};
-ghost use Rattle.ulfm_c.specs.Calls.{Call};
-ghost use Rattle.ulfm_c.specs.Letters.{SendsCall};
+ghost use Rattle.std.specs.Prelude.{◌≡◌, ⊤};
+ghost use Rattle.ulfm_c.specs.Calls.{AreKept, Call};
+ghost use Rattle.ulfm_c.specs.Letters.{CancelCall, ReceiveCall, SendCall, TestCall};
 
 use crate::handle::Handle;
-use crate::told::{CStatus, deliver, ended, tell};
+use crate::told::{CStatus, ended, tell};
 use crate::words::{comm_of, number_of, position_of, room_of, source_of, tag_of};
 use std::alloc::Global;
 use ulfm_base::Tag;
 use ulfm_match::RequestId;
 use ulfm_process::Process;
-use ulfm_rank::{Cancel, TestAnswer};
+use ulfm_rank::Cancel;
 
 /// A send to the member at a position.
 fn send(process: &mut Process, comm: u32, dest: u32, tag: u32, body: &[u8]) -> u32
-    ensures { SendsCall process.old process.new comm dest tag body.now result }
+    ensures { SendCall process.old process.new comm dest tag body.now result }
 {
     let comm = match comm_of(comm) {
         Some(comm) => comm,
@@ -40,7 +40,7 @@ pub extern "C" fn ulfm_c_isend(
     tag: u32,
     body: &[u8],
 ) -> u32
-    ensures { Call handle.old.slot.held handle.new.slot.held result (λ old new. SendsCall old new comm dest tag body.now result) }
+    ensures { Call handle.old.slot.held handle.new.slot.held result ⊤ (λ old new. SendCall old new comm dest tag body.now result) }
 {
     match handle.take(alloc) {
         Some(mut process) => {
@@ -61,7 +61,7 @@ fn receive(
     room: u32,
     request: &mut u64,
 ) -> u32
-    ensures { result ≢ 0 → (process.new ≡ process.old) × (request.new ≡ request.old) }
+    ensures { ReceiveCall process.old process.new comm source tag room request.old request.new result }
 {
     let comm = match comm_of(comm) {
         Some(comm) => comm,
@@ -91,7 +91,7 @@ pub extern "C" fn ulfm_c_irecv(
     room: u32,
     request: &mut u64,
 ) -> u32
-    ensures { Call handle.old.slot.held handle.new.slot.held result (λ old new. result ≢ 0 → (new ≡ old) × (request.new ≡ request.old)) }
+    ensures { Call handle.old.slot.held handle.new.slot.held result (request.new ≡ request.old) (λ old new. ReceiveCall old new comm source tag room request.old request.new result) }
 {
     match handle.take(alloc) {
         Some(mut process) => {
@@ -105,19 +105,10 @@ pub extern "C" fn ulfm_c_irecv(
 
 /// A test of a receive.
 fn test(process: &mut Process, request: u64, status: &mut CStatus, body: &mut [u8]) -> u32
-    ensures { result ≢ 0 → process.new ≡ process.old }
+    ensures { TestCall process.old process.new request status.old status.new body.old body.new result }
 {
     match process.test(RequestId { number: request }) {
-        Ok(TestAnswer::Done(told, bytes)) => {
-            deliver(told, &bytes, status, body);
-            return 0;
-        }
-        Ok(TestAnswer::Over(error)) => {
-            *status = ended(number_of(error), 0);
-            return 0;
-        }
-        Ok(TestAnswer::NotYet) => return 17,
-        Ok(TestAnswer::Pending) => return 18,
+        Ok(answer) => return tell(answer, status, body),
         Err(error) => return number_of(error),
     }
 }
@@ -131,7 +122,7 @@ pub extern "C" fn ulfm_c_test(
     status: &mut CStatus,
     body: &mut [u8],
 ) -> u32
-    ensures { Call handle.old.slot.held handle.new.slot.held result (λ old new. result ≢ 0 → new ≡ old) }
+    ensures { Call handle.old.slot.held handle.new.slot.held result (AreKept status.old status.new body.old body.new) (λ old new. TestCall old new request status.old status.new body.old body.new result) }
 {
     match handle.take(alloc) {
         Some(mut process) => {
@@ -144,7 +135,9 @@ pub extern "C" fn ulfm_c_test(
 }
 
 /// A cancel of a receive.
-fn cancel(process: &mut Process, request: u64, status: &mut CStatus, body: &mut [u8]) -> u32 {
+fn cancel(process: &mut Process, request: u64, status: &mut CStatus, body: &mut [u8]) -> u32
+    ensures { CancelCall process.old process.new request status.old status.new body.old body.new result }
+{
     match process.cancel(RequestId { number: request }) {
         Ok(Cancel::Late(answer)) => return tell(answer, status, body),
         Ok(Cancel::Cancelled) => {
@@ -164,7 +157,7 @@ pub extern "C" fn ulfm_c_cancel(
     status: &mut CStatus,
     body: &mut [u8],
 ) -> u32
-    ensures { Call handle.old.slot.held handle.new.slot.held result (λ old new. ⊤) }
+    ensures { Call handle.old.slot.held handle.new.slot.held result (AreKept status.old status.new body.old body.new) (λ old new. CancelCall old new request status.old status.new body.old body.new result) }
 {
     match handle.take(alloc) {
         Some(mut process) => {

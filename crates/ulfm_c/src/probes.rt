@@ -1,6 +1,7 @@
 //! Probes and their messages (MPI 4.0, 3.8.1 to 3.8.3).
-ghost use Rattle.std.specs.Prelude.{◌≡◌, ◌≢◌, ⊤};
-ghost use Rattle.ulfm_c.specs.Calls.{Call};
+ghost use Rattle.std.specs.Prelude.{◌≡◌};
+ghost use Rattle.ulfm_c.specs.Calls.{AreKept, Call};
+ghost use Rattle.ulfm_c.specs.Probes.{LookCall, MessageCall, ProbeCall};
 
 use crate::handle::Handle;
 use crate::told::{CStatus, status_of, tell};
@@ -10,7 +11,9 @@ use ulfm_process::Process;
 use ulfm_rank::{MessageId, Probed};
 
 /// A probe that changes nothing.
-fn iprobe(process: &Process, comm: u32, source: u32, tag: u32, status: &mut CStatus) -> u32 {
+fn iprobe(process: &Process, comm: u32, source: u32, tag: u32, status: &mut CStatus) -> u32
+    ensures { LookCall process.now process.now comm source tag status.old status.new result }
+{
     let comm = match comm_of(comm) {
         Some(comm) => comm,
         None => return 1,
@@ -39,7 +42,7 @@ pub extern "C" fn ulfm_c_iprobe(
     tag: u32,
     status: &mut CStatus,
 ) -> u32
-    ensures { Call handle.old.slot.held handle.new.slot.held result (λ old new. new ≡ old) }
+    ensures { Call handle.old.slot.held handle.new.slot.held result (status.new ≡ status.old) (λ old new. LookCall old new comm source tag status.old status.new result) }
 {
     match handle.take(alloc) {
         Some(process) => {
@@ -60,7 +63,7 @@ fn improbe(
     message: &mut u64,
     status: &mut CStatus,
 ) -> u32
-    ensures { result ≢ 0 → process.new ≡ process.old }
+    ensures { ProbeCall process.old process.new comm source tag message.old message.new status.old status.new result }
 {
     let comm = match comm_of(comm) {
         Some(comm) => comm,
@@ -92,7 +95,7 @@ pub extern "C" fn ulfm_c_improbe(
     message: &mut u64,
     status: &mut CStatus,
 ) -> u32
-    ensures { Call handle.old.slot.held handle.new.slot.held result (λ old new. result ≢ 0 → new ≡ old) }
+    ensures { Call handle.old.slot.held handle.new.slot.held result (AreKept message.old message.new status.old status.new) (λ old new. ProbeCall old new comm source tag message.old message.new status.old status.new result) }
 {
     match handle.take(alloc) {
         Some(mut process) => {
@@ -105,12 +108,10 @@ pub extern "C" fn ulfm_c_improbe(
 }
 
 /// The receive of a message.
-fn mrecv(process: &mut Process, message: u64, status: &mut CStatus, body: &mut [u8]) -> u32 {
-    let room = if body.len() > 65535 {
-        65535
-    } else {
-        body.len() as u16
-    };
+fn mrecv(process: &mut Process, message: u64, status: &mut CStatus, body: &mut [u8]) -> u32
+    ensures { MessageCall process.old process.new message status.old status.new body.old body.new result }
+{
+    let room = body.len().min(65535) as u16;
     match process.mrecv(MessageId { number: message }, room) {
         Ok(answer) => return tell(answer, status, body),
         Err(error) => return number_of(error),
@@ -126,7 +127,7 @@ pub extern "C" fn ulfm_c_mrecv(
     status: &mut CStatus,
     body: &mut [u8],
 ) -> u32
-    ensures { Call handle.old.slot.held handle.new.slot.held result (λ old new. ⊤) }
+    ensures { Call handle.old.slot.held handle.new.slot.held result (AreKept status.old status.new body.old body.new) (λ old new. MessageCall old new message status.old status.new body.old body.new result) }
 {
     match handle.take(alloc) {
         Some(mut process) => {

@@ -1,7 +1,7 @@
 //! What comes in and goes out, and the rank itself.
-ghost use Rattle.std.specs.Prelude.{◌≡◌, ◌≢◌};
+ghost use Rattle.std.specs.Prelude.{◌≡◌, ⊤};
 ghost use Rattle.ulfm_c.specs.Calls.{Call};
-ghost use Rattle.ulfm_c.specs.Progress.{IsFlushed, TurnCall};
+ghost use Rattle.ulfm_c.specs.Progress.{TellsFlushed, TurnCall};
 ghost use Rattle.ulfm_process.specs.View.{with_rank};
 ghost use Rattle.ulfm_rank.specs.Calls.{stopping};
 
@@ -29,7 +29,7 @@ fn turn(process: &mut Process, moved: &mut u32) -> u32
 /// A turn (`Process::turn`).
 #[unsafe(no_mangle)]
 pub extern "C" fn ulfm_c_turn(alloc: Global, handle: &mut Handle, moved: &mut u32) -> u32
-    ensures { Call handle.old.slot.held handle.new.slot.held result (λ old new. TurnCall old new moved.old moved.new result) }
+    ensures { Call handle.old.slot.held handle.new.slot.held result (moved.new ≡ moved.old) (λ old new. TurnCall old new moved.old moved.new result) }
 {
     match handle.take(alloc) {
         Some(mut process) => {
@@ -43,7 +43,7 @@ pub extern "C" fn ulfm_c_turn(alloc: Global, handle: &mut Handle, moved: &mut u3
 
 /// Whether nothing waits to go out.
 fn flushed(process: &Process, flushed: &mut u32) -> u32
-    ensures { (result ≡ 0) × IsFlushed process.now flushed.new }
+    ensures { (result ≡ 0) × TellsFlushed process.now flushed.new }
 {
     if process.has_pushed_all() {
         *flushed = 1;
@@ -56,7 +56,7 @@ fn flushed(process: &Process, flushed: &mut u32) -> u32
 /// Whether nothing waits to go out (`Process::has_pushed_all`).
 #[unsafe(no_mangle)]
 pub extern "C" fn ulfm_c_flushed(alloc: Global, handle: &mut Handle, all: &mut u32) -> u32
-    ensures { Call handle.old.slot.held handle.new.slot.held result (λ old new. (new ≡ old) × (result ≡ 0) × IsFlushed old all.new) }
+    ensures { Call handle.old.slot.held handle.new.slot.held result (all.new ≡ all.old) (λ old new. (new ≡ old) × (result ≡ 0) × TellsFlushed old all.new) }
 {
     match handle.take(alloc) {
         Some(process) => {
@@ -79,7 +79,7 @@ fn me(process: &Process, rank: &mut u32) -> u32
 /// The rank's number in the world (`Process::me`).
 #[unsafe(no_mangle)]
 pub extern "C" fn ulfm_c_me(alloc: Global, handle: &mut Handle, rank: &mut u32) -> u32
-    ensures { Call handle.old.slot.held handle.new.slot.held result (λ old new. (new ≡ old) × (result ≡ 0) × (rank.new ≡ old.rank.me)) }
+    ensures { Call handle.old.slot.held handle.new.slot.held result (rank.new ≡ rank.old) (λ old new. (new ≡ old) × (result ≡ 0) × (rank.new ≡ old.rank.me)) }
 {
     match handle.take(alloc) {
         Some(process) => {
@@ -102,7 +102,7 @@ fn stop(process: &mut Process) -> u32
 /// The rank stops (`Process::stop`).
 #[unsafe(no_mangle)]
 pub extern "C" fn ulfm_c_stop(alloc: Global, handle: &mut Handle) -> u32
-    ensures { Call handle.old.slot.held handle.new.slot.held result (λ old new. (result ≡ 0) × (new ≡ with_rank old (stopping old.rank))) }
+    ensures { Call handle.old.slot.held handle.new.slot.held result ⊤ (λ old new. (result ≡ 0) × (new ≡ with_rank old (stopping old.rank))) }
 {
     match handle.take(alloc) {
         Some(mut process) => {

@@ -1,13 +1,7 @@
 //! Failures, revocations, and entries into shrinks and agreements (ULFM).
-ghost use Rattle.std.specs.Prelude.{◌≡◌, ◌≢◌, [], None, Some, min, if◌then◌else◌};
-ghost use Rattle.ulfm_base.specs.Topic.{shrink_topic};
-ghost use Rattle.ulfm_c.specs.Calls.{Call, CommCall};
-ghost use Rattle.ulfm_c.specs.Told.{Lists};
-ghost use Rattle.ulfm_process.specs.View.{with_rank};
-ghost use Rattle.ulfm_rank.specs.Calls.{Enters, acknowledging, revoking};
-ghost use Rattle.ulfm_rank.specs.Checks.{FailsOrStarves, Fails, agree_checks, comm_checks, group_at, shrink_checks};
-ghost use Rattle.ulfm_rank.specs.Facts.{ack_answer, is_revoked, known_in};
-ghost use Rattle.ulfm_rank.specs.Proposal.{next_agreement};
+ghost use Rattle.std.specs.Prelude.{◌≡◌, ⊤};
+ghost use Rattle.ulfm_c.specs.Calls.{Call};
+ghost use Rattle.ulfm_c.specs.Recovery.{AckCall, EnterAgreeCall, EnterShrinkCall, FailedCall, IsRevokedCall, RevokeCall};
 
 use crate::handle::Handle;
 use crate::told::{CGroup, list};
@@ -16,7 +10,7 @@ use std::alloc::Global;
 use ulfm_process::Process;
 
 fn revoke(process: &mut Process, comm: u32) -> u32
-    ensures { CommCall process.old process.new comm result (λ c. process.new ≡ with_rank process.old (revoking process.old.rank c.context)) (λ c e. FailsOrStarves (comm_checks process.old.rank c.context.number []) e) }
+    ensures { RevokeCall process.old process.new comm result }
 {
     let comm = match comm_of(comm) {
         Some(comm) => comm,
@@ -33,7 +27,7 @@ fn revoke(process: &mut Process, comm: u32) -> u32
 /// Revokes a communicator (`Process::revoke`).
 #[unsafe(no_mangle)]
 pub extern "C" fn ulfm_c_revoke(alloc: Global, handle: &mut Handle, comm: u32) -> u32
-    ensures { Call handle.old.slot.held handle.new.slot.held result (λ old new. CommCall old new comm result (λ c. new ≡ with_rank old (revoking old.rank c.context)) (λ c e. FailsOrStarves (comm_checks old.rank c.context.number []) e)) }
+    ensures { Call handle.old.slot.held handle.new.slot.held result ⊤ (λ old new. RevokeCall old new comm result) }
 {
     match handle.take(alloc) {
         Some(mut process) => {
@@ -46,7 +40,7 @@ pub extern "C" fn ulfm_c_revoke(alloc: Global, handle: &mut Handle, comm: u32) -
 }
 
 fn enter_shrink(process: &mut Process, comm: u32) -> u32
-    ensures { CommCall process.old process.new comm result (λ c. Enters process.old.rank (shrink_topic c.context) None process.new.rank) (λ c e. FailsOrStarves (shrink_checks process.old.rank c.context) e) }
+    ensures { EnterShrinkCall process.old process.new comm result }
 {
     let comm = match comm_of(comm) {
         Some(comm) => comm,
@@ -63,7 +57,7 @@ fn enter_shrink(process: &mut Process, comm: u32) -> u32
 /// Enters the shrink of a communicator (`Process::enter_shrink`).
 #[unsafe(no_mangle)]
 pub extern "C" fn ulfm_c_enter_shrink(alloc: Global, handle: &mut Handle, comm: u32) -> u32
-    ensures { Call handle.old.slot.held handle.new.slot.held result (λ old new. CommCall old new comm result (λ c. Enters old.rank (shrink_topic c.context) None new.rank) (λ c e. FailsOrStarves (shrink_checks old.rank c.context) e)) }
+    ensures { Call handle.old.slot.held handle.new.slot.held result ⊤ (λ old new. EnterShrinkCall old new comm result) }
 {
     match handle.take(alloc) {
         Some(mut process) => {
@@ -76,7 +70,7 @@ pub extern "C" fn ulfm_c_enter_shrink(alloc: Global, handle: &mut Handle, comm: 
 }
 
 fn enter_agree(process: &mut Process, comm: u32, flag: u32) -> u32
-    ensures { CommCall process.old process.new comm result (λ c. Enters process.old.rank (next_agreement process.old.rank.log c.context) (Some flag) process.new.rank) (λ c e. FailsOrStarves (agree_checks process.old.rank c.context) e) }
+    ensures { EnterAgreeCall process.old process.new comm flag result }
 {
     let comm = match comm_of(comm) {
         Some(comm) => comm,
@@ -98,7 +92,7 @@ pub extern "C" fn ulfm_c_enter_agree(
     comm: u32,
     flag: u32,
 ) -> u32
-    ensures { Call handle.old.slot.held handle.new.slot.held result (λ old new. CommCall old new comm result (λ c. Enters old.rank (next_agreement old.rank.log c.context) (Some flag) new.rank) (λ c e. FailsOrStarves (agree_checks old.rank c.context) e)) }
+    ensures { Call handle.old.slot.held handle.new.slot.held result ⊤ (λ old new. EnterAgreeCall old new comm flag result) }
 {
     match handle.take(alloc) {
         Some(mut process) => {
@@ -111,7 +105,7 @@ pub extern "C" fn ulfm_c_enter_agree(
 }
 
 fn ack_failed(process: &mut Process, comm: u32, count: u32, total: &mut u32) -> u32
-    ensures { CommCall process.old process.new comm result (λ c. (total.new ≡ ack_answer process.old.rank.log (group_at process.old.rank c.context.number) c.context.number (min count 255)) × (process.new ≡ with_rank process.old (acknowledging process.old.rank c.context total.new))) (λ c e. FailsOrStarves (comm_checks process.old.rank c.context.number []) e × (total.new ≡ total.old)) }
+    ensures { AckCall process.old process.new comm count total.old total.new result }
 {
     let comm = match comm_of(comm) {
         Some(comm) => comm,
@@ -135,7 +129,7 @@ pub extern "C" fn ulfm_c_ack_failed(
     count: u32,
     total: &mut u32,
 ) -> u32
-    ensures { Call handle.old.slot.held handle.new.slot.held result (λ old new. CommCall old new comm result (λ c. (total.new ≡ ack_answer old.rank.log (group_at old.rank c.context.number) c.context.number (min count 255)) × (new ≡ with_rank old (acknowledging old.rank c.context total.new))) (λ c e. FailsOrStarves (comm_checks old.rank c.context.number []) e × (total.new ≡ total.old))) }
+    ensures { Call handle.old.slot.held handle.new.slot.held result (total.new ≡ total.old) (λ old new. AckCall old new comm count total.old total.new result) }
 {
     match handle.take(alloc) {
         Some(mut process) => {
@@ -148,7 +142,7 @@ pub extern "C" fn ulfm_c_ack_failed(
 }
 
 fn is_revoked(process: &Process, comm: u32, revoked: &mut u32) -> u32
-    ensures { CommCall process.now process.now comm result (λ c. revoked.new ≡ (if is_revoked process.now.rank.log c.context.number then 1 else 0)) (λ c e. Fails (comm_checks process.now.rank c.context.number []) e × (revoked.new ≡ revoked.old)) }
+    ensures { IsRevokedCall process.now process.now comm revoked.old revoked.new result }
 {
     let comm = match comm_of(comm) {
         Some(comm) => comm,
@@ -171,7 +165,7 @@ pub extern "C" fn ulfm_c_is_revoked(
     comm: u32,
     revoked: &mut u32,
 ) -> u32
-    ensures { Call handle.old.slot.held handle.new.slot.held result (λ old new. CommCall old new comm result (λ c. revoked.new ≡ (if is_revoked old.rank.log c.context.number then 1 else 0)) (λ c e. Fails (comm_checks old.rank c.context.number []) e × (revoked.new ≡ revoked.old))) }
+    ensures { Call handle.old.slot.held handle.new.slot.held result (revoked.new ≡ revoked.old) (λ old new. IsRevokedCall old new comm revoked.old revoked.new result) }
 {
     match handle.take(alloc) {
         Some(process) => {
@@ -184,7 +178,7 @@ pub extern "C" fn ulfm_c_is_revoked(
 }
 
 fn get_failed(process: &Process, comm: u32, failed: &mut CGroup) -> u32
-    ensures { CommCall process.now process.now comm result (λ c. Lists (known_in process.now.rank.log (group_at process.now.rank c.context.number)) failed.new) (λ c e. Fails (comm_checks process.now.rank c.context.number []) e × (failed.new ≡ failed.old)) }
+    ensures { FailedCall process.now process.now comm failed.old failed.new result }
 {
     let comm = match comm_of(comm) {
         Some(comm) => comm,
@@ -207,7 +201,7 @@ pub extern "C" fn ulfm_c_get_failed(
     comm: u32,
     failed: &mut CGroup,
 ) -> u32
-    ensures { Call handle.old.slot.held handle.new.slot.held result (λ old new. CommCall old new comm result (λ c. Lists (known_in old.rank.log (group_at old.rank c.context.number)) failed.new) (λ c e. Fails (comm_checks old.rank c.context.number []) e × (failed.new ≡ failed.old))) }
+    ensures { Call handle.old.slot.held handle.new.slot.held result (failed.new ≡ failed.old) (λ old new. FailedCall old new comm failed.old failed.new result) }
 {
     match handle.take(alloc) {
         Some(process) => {

@@ -5,9 +5,10 @@ ghost use Rattle.std.specs.Prelude.{◌≡◌, Option, Some, None, IsSome};
 use crate::loose::Loose;
 use std::alloc::Global;
 use std::marker::Model;
+use std::ptr::null_mut;
 use ulfm_process::Process;
 
-/// A process, or none.
+/// A process, or none, which is null.
 #[repr(C)]
 pub struct Slot {
     at: *mut u8,
@@ -22,7 +23,7 @@ impl Model for Slot {
 }
 
 impl Slot {
-    /// The process.
+    /// The process. The slot is null then.
     pub(crate) fn take(&mut self, alloc: Global) -> Box<Process>
         requires { IsSome self.old.held }
         ensures value { Some result.value ≡ self.old.held }
@@ -43,10 +44,9 @@ impl Slot {
         ensures value { Some result.value ≡ self.old.held }
         ensures none { self.new.held ≡ None }
     {
-        Loose {
-            at: self.at as *mut Process,
-            alloc,
-        }
+        let at = self.at as *mut Process;
+        self.at = null_mut();
+        Loose { at, alloc }
     }
 
     fn set(&mut self, process: Loose<Process, Global>)
@@ -56,3 +56,6 @@ impl Slot {
         self.at = at as *mut u8;
     }
 }
+
+// C hands a slot to the thread of its rank.
+unsafe impl Send for Slot {}

@@ -1,6 +1,6 @@
 //! What C is told.
-ghost use Rattle.std.specs.Prelude.{◌≡◌, ℕ, Some, slice_get};
-ghost use Rattle.ulfm_c.specs.Told.{Lists};
+ghost use Rattle.std.specs.Prelude.{◌≡◌};
+ghost use Rattle.ulfm_c.specs.Told.{Tells, ended, listed, member_at, status_of, written};
 
 use crate::words::number_of;
 use ulfm_base::{Body, Group};
@@ -33,7 +33,9 @@ pub struct CGroup {
 }
 
 /// What is told of a letter that came.
-pub(crate) fn status_of(status: Status) -> CStatus {
+pub(crate) fn status_of(status: Status) -> CStatus
+    ensures { result ≡ status_of status }
+{
     CStatus {
         source: status.source as u32,
         tag: status.tag.number as u32,
@@ -44,7 +46,9 @@ pub(crate) fn status_of(status: Status) -> CStatus {
 }
 
 /// What is told where none came.
-pub(crate) fn ended(error: u32, cancelled: u32) -> CStatus {
+pub(crate) fn ended(error: u32, cancelled: u32) -> CStatus
+    ensures { result ≡ ended error cancelled }
+{
     CStatus {
         source: 0,
         tag: 0,
@@ -54,23 +58,27 @@ pub(crate) fn ended(error: u32, cancelled: u32) -> CStatus {
     }
 }
 
-fn copy_into(bytes: &[u8], out: &mut [u8]) {
-    let count = if bytes.len() < out.len() {
-        bytes.len()
-    } else {
-        out.len()
-    };
+/// Writes bytes, as far as there is room.
+fn copy_into(bytes: &[u8], out: &mut [u8])
+    ensures { out.new ≡ written bytes.now out.old }
+{
+    let count = bytes.len().min(out.len());
     out[..count].copy_from_slice(&bytes[..count]);
 }
 
 /// Writes what is told of a letter, and its bytes, as far as there is room.
-pub(crate) fn deliver(told: Status, bytes: &Body, status: &mut CStatus, body: &mut [u8]) {
+fn deliver(told: Status, bytes: &Body, status: &mut CStatus, body: &mut [u8])
+    ensures status { status.new ≡ status_of told }
+    ensures body { body.new ≡ written bytes.now body.old }
+{
     *status = status_of(told);
     copy_into(bytes.as_bytes(), body);
 }
 
 /// Writes an answer, and its code.
-pub(crate) fn tell(answer: TestAnswer, status: &mut CStatus, body: &mut [u8]) -> u32 {
+pub(crate) fn tell(answer: TestAnswer, status: &mut CStatus, body: &mut [u8]) -> u32
+    ensures { Tells answer result status.old status.new body.old body.new }
+{
     match answer {
         TestAnswer::Done(told, bytes) => {
             deliver(told, &bytes, status, body);
@@ -87,7 +95,7 @@ pub(crate) fn tell(answer: TestAnswer, status: &mut CStatus, body: &mut [u8]) ->
 
 /// The world rank at a position of a group, or 255.
 fn member(group: &Group, position: u8) -> u8
-    ensures { (r : ℕ) → slice_get group.now position ≡ Some r → result ≡ r }
+    ensures { result ≡ member_at group.now position }
 {
     match group.world_of(position) {
         Some(rank) => rank.number,
@@ -97,7 +105,7 @@ fn member(group: &Group, position: u8) -> u8
 
 /// The members of a group.
 pub(crate) fn list(group: &Group) -> CGroup
-    ensures { Lists group.now result }
+    ensures { result ≡ listed group.now }
 {
     CGroup {
         size: group.size() as u32,

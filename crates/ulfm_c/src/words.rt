@@ -1,6 +1,6 @@
 //! The words of C.
-ghost use Rattle.std.specs.Prelude.{◌≡◌, ◌≤◌, MatchOption, min};
-ghost use Rattle.ulfm_c.specs.Calls.{number_of};
+ghost use Rattle.std.specs.Prelude.{◌≡◌, ◌≢◌, ◌≤◌, MatchOption, MatchResult, min};
+ghost use Rattle.ulfm_c.specs.Calls.{NamesTag, any, number_of, source_named};
 
 use ulfm_base::{CallError, Context, Tag};
 use ulfm_rank::Comm;
@@ -54,7 +54,9 @@ pub(crate) fn room_of(number: u32) -> u16
 }
 
 /// A position, or any where the number is the greatest.
-pub(crate) fn source_of(number: u32) -> Option<u8> {
+pub(crate) fn source_of(number: u32) -> Option<u8>
+    ensures { result ≡ source_named number }
+{
     if number == u32::MAX {
         return None;
     }
@@ -62,7 +64,9 @@ pub(crate) fn source_of(number: u32) -> Option<u8> {
 }
 
 /// A tag, or any where the number is the greatest.
-pub(crate) fn tag_of(number: u32) -> Result<Option<Tag>, CallError> {
+pub(crate) fn tag_of(number: u32) -> Result<Option<Tag>, CallError>
+    ensures { MatchResult result (λ tag. NamesTag number tag) (λ error. (error ≡ CallError.BadTag) × (32768 ≤ number) × (number ≢ any)) }
+{
     if number == u32::MAX {
         return Ok(None);
     }

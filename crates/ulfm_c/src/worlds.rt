@@ -1,5 +1,6 @@
 //! Worlds.
-ghost use Rattle.std.specs.Prelude.{◌≡◌, None};
+ghost use Rattle.std.specs.Prelude.{◌≡◌, None, Some, IfOk, IfErr, box_value, is_some, length, map, vec_len, if◌then◌else◌};
+ghost use Rattle.ulfm_c.specs.Worlds.{WorldCall, process_in};
 
 use crate::handle::Handle;
 use crate::words::number_of;
@@ -8,7 +9,10 @@ use ulfm_base::CallError;
 use ulfm_process::{Process, world};
 
 /// The processes, each in a block of its own.
-fn boxed(alloc: Global, processes: Vec<Process>) -> Result<Vec<Box<Process>>, CallError> {
+fn boxed(alloc: Global, processes: Vec<Process>) -> Result<Vec<Box<Process>>, CallError>
+    ensures values { IfOk result (λ boxes. map box_value boxes.items ≡ processes.items) }
+    ensures starves { IfErr result (λ error. error ≡ CallError.OutOfMemory) }
+{
     let mut boxes = Vec::new(alloc);
     for process in processes {
         let block = Box::new(alloc, process)?;
@@ -17,14 +21,23 @@ fn boxed(alloc: Global, processes: Vec<Process>) -> Result<Vec<Box<Process>>, Ca
     Ok(boxes)
 }
 
-/// Puts each process into the handle at its place, whose own one is ended.
-fn fill(alloc: Global, handles: &mut [Handle], boxes: Vec<Box<Process>>) {
-    let mut boxes = boxes.into_iter();
-    for handle in handles {
-        drop(handle.take(alloc));
-        if let Some(process) = boxes.next() {
-            handle.put(process);
-        }
+/// Puts a process into a handle, whose own one is ended.
+fn replace(alloc: Global, handle: &mut Handle, process: Box<Process>)
+    ensures { process_in handle.new ≡ Some process.value }
+{
+    drop(handle.take(alloc));
+    handle.put(process);
+}
+
+/// Puts each process into the handle at its place.
+fn fill(alloc: Global, handles: &mut [Handle], boxes: Vec<Box<Process>>)
+    requires { vec_len boxes ≡ length handles.old }
+    ensures { map process_in handles.new ≡ map Some (map box_value boxes.items) }
+{
+    let mut place = 0;
+    for process in boxes {
+        replace(alloc, &mut handles[place], process);
+        place += 1;
     }
 }
 
@@ -35,7 +48,9 @@ pub extern "C" fn ulfm_c_world(
     handles: &mut [Handle],
     capacity: u8,
     rounds: u16,
-) -> u32 {
+) -> u32
+    ensures { WorldCall handles.old handles.new capacity rounds result }
+{
     if handles.len() > 8 {
         return 13;
     }
@@ -55,7 +70,8 @@ pub extern "C" fn ulfm_c_world(
 /// Ends a process. 16: there is none.
 #[unsafe(no_mangle)]
 pub extern "C" fn ulfm_c_end(alloc: Global, handle: &mut Handle) -> u32
-    ensures { handle.new.slot.held ≡ None }
+    ensures none { handle.new.slot.held ≡ None }
+    ensures code { result ≡ (if is_some handle.old.slot.held then 0 else 16) }
 {
     match handle.take(alloc) {
         Some(process) => {

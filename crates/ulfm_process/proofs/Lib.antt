@@ -1,3 +1,4 @@
+pub mod Crossing
 pub mod Keeping
 pub mod Pushing
 pub mod Seated

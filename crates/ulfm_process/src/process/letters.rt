@@ -1,9 +1,11 @@
 //! Sends, receives and their tests (MPI 4.0, 3.7 and 3.8.4).
-ghost use Rattle.std.specs.Prelude.{◌≡◌, length, true, false, IfOk, IfErr, OnOk, OnErr};
+ghost use Rattle.std.specs.Prelude.{◌≡◌, ℕ, length, true, false, IfOk, IfErr, OnOk, OnErr};
+ghost use Rattle.ulfm_base.specs.declared.pattern.Pattern.{Pattern};
 ghost use Rattle.ulfm_match.specs.History.{count_before};
+ghost use Rattle.ulfm_match.specs.Pairing.{Pairing, LawfulPairing};
 ghost use Rattle.ulfm_process.specs.View.{with_rank};
 ghost use Rattle.ulfm_rank.specs.declared.entry.Entry.TheVariants.{Released};
-ghost use Rattle.ulfm_rank.specs.Answer.{IsTestAnswer, is_release};
+ghost use Rattle.ulfm_rank.specs.Answer.{IsRequest, IsTestAnswer, is_release};
 ghost use Rattle.ulfm_rank.specs.Calls.{Sends, Posts};
 ghost use Rattle.ulfm_rank.specs.Cancel.{IsCancelAnswer, cancelling};
 ghost use Rattle.ulfm_rank.specs.Checks.{Passes, FailsOrStarves, IsTestRefusal, send_checks, receive_checks};
@@ -53,6 +55,7 @@ impl Process {
         ensures accepted { OnOk result (Passes (receive_checks self.old.rank comm.context.number source)) }
         ensures posts { OnOk result (Posts self.old.rank comm source tag room self.new.rank) }
         ensures number { IfOk result (λ id. id.number ≡ count_before (history_of self.old.rank.log) (length (history_of self.old.rank.log))) }
+        ensures request { IfOk result (λ id. (i : ℕ) × (pattern : Pattern) × IsRequest self.new.rank.log id.number i pattern) }
         ensures only_rank { self.new ≡ with_rank self.old self.new.rank }
         ensures refused { IfErr result (FailsOrStarves (receive_checks self.old.rank comm.context.number source)) }
         ensures unchanged { OnErr result (self.new ≡ self.old) }
@@ -69,6 +72,8 @@ impl Process {
     /// changed.
     pub fn test(&mut self, id: RequestId) -> Result<TestAnswer, CallError>
         ensures answer { IfOk result (IsTestAnswer self.old.rank.ranks self.old.rank.log id.number) }
+        ensures request { OnOk result ((i : ℕ) × (pattern : Pattern) × IsRequest self.old.rank.log id.number i pattern) }
+        ensures pairing { OnOk result ((pairing : Pairing) × LawfulPairing (history_of self.old.rank.log) pairing) }
         ensures running { OnOk result (is_stopped self.old.rank.log ≡ false) }
         ensures released { IfOk result (λ answer. is_release answer ≡ true → self.new ≡ with_rank self.old (logged self.old.rank (Released id answer))) }
         ensures stays { IfOk result (λ answer. is_release answer ≡ false → self.new ≡ self.old) }
@@ -87,6 +92,8 @@ impl Process {
     /// changed.
     pub fn cancel(&mut self, id: RequestId) -> Result<Cancel, CallError>
         ensures answer { IfOk result (IsCancelAnswer self.old.rank.ranks self.old.rank.log id.number) }
+        ensures request { OnOk result ((i : ℕ) × (pattern : Pattern) × IsRequest self.old.rank.log id.number i pattern) }
+        ensures pairing { OnOk result ((pairing : Pairing) × LawfulPairing (history_of self.old.rank.log) pairing) }
         ensures running { OnOk result (is_stopped self.old.rank.log ≡ false) }
         ensures released { IfOk result (λ answer. self.new ≡ with_rank self.old (logged self.old.rank (cancelling id answer))) }
         ensures refused { IfErr result (IsTestRefusal self.old.rank.log id.number) }

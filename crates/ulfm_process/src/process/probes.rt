@@ -1,10 +1,13 @@
 //! Probes and their messages (MPI 4.0, 3.8.1 to 3.8.3).
-ghost use Rattle.std.specs.Prelude.{◌≡◌, false, IfOk, IfErr, OnOk, OnErr};
+ghost use Rattle.std.specs.Prelude.{◌≡◌, ℕ, false, IfOk, IfErr, OnOk, OnErr};
+ghost use Rattle.ulfm_base.specs.declared.pattern.Pattern.{Pattern};
+ghost use Rattle.ulfm_match.specs.Pairing.{Pairing, LawfulPairing};
 ghost use Rattle.ulfm_process.specs.View.{with_rank};
 ghost use Rattle.ulfm_rank.specs.declared.entry.Entry.TheVariants.{Received};
 ghost use Rattle.ulfm_rank.specs.Checks.{Passes, receive_checks};
 ghost use Rattle.ulfm_rank.specs.Facts.{is_stopped};
-ghost use Rattle.ulfm_rank.specs.Messages.{HasMessage, IsLookAnswer, IsLookRefusal, IsMessageAnswer, IsMessageRefusal, IsProbeAnswer, IsProbeRefusal};
+ghost use Rattle.ulfm_rank.specs.History.{history_of};
+ghost use Rattle.ulfm_rank.specs.Messages.{HasMessage, IsLookAnswer, IsLookRefusal, IsMessage, IsMessageAnswer, IsMessageRefusal, IsProbeAnswer, IsProbeRefusal};
 ghost use Rattle.ulfm_rank.specs.State.{logged};
 
 use super::Process;
@@ -66,6 +69,8 @@ impl Process {
     /// nothing changed.
     pub fn mrecv(&mut self, id: MessageId, room: u16) -> Result<TestAnswer, CallError>
         ensures answer { IfOk result (IsMessageAnswer self.old.rank.ranks self.old.rank.log id.number room) }
+        ensures message { OnOk result ((i : ℕ) × (pattern : Pattern) × IsMessage self.old.rank.log id.number i pattern) }
+        ensures pairing { OnOk result ((pairing : Pairing) × LawfulPairing (history_of self.old.rank.log) pairing) }
         ensures running { OnOk result (is_stopped self.old.rank.log ≡ false) }
         ensures received { IfOk result (λ answer. self.new ≡ with_rank self.old (logged self.old.rank (Received id answer))) }
         ensures refused { IfErr result (IsMessageRefusal self.old.rank.log id.number) }

@@ -1,5 +1,7 @@
-use Rattle.std.proofs.Common.{ap, subst}
+use Rattle.std.proofs.Common.{ℕ, ap, subst, OnOk}
 use Rattle.std.specs.Prelude.{IfOk}
+use Rattle.ulfm_base.specs.declared.pattern.Pattern.{Pattern}
+use Rattle.ulfm_rank.specs.Answer.{IsRequest}
 use Rattle.ulfm_rank.specs.Cancel.{IsCancelAnswer, cancelling}
 use Rattle.ulfm_rank.specs.State.{State}
 use Rattle.ulfm_process.specs.View.{ProcessView}
@@ -13,3 +15,6 @@ invariant_of-self c =
 
 pub returns-clause-answer : goal.returns-clause-answer
 returns-clause-answer c = subst (λ (r : State). IfOk c.cancel.result (IsCancelAnswer r.ranks r.log c.args.id.number)) (ap (λ (v : ProcessView). v.rank) c.self.view_is) c.cancel.ensures.answer
+
+pub returns-clause-request : goal.returns-clause-request
+returns-clause-request c = subst (λ (r : State). OnOk c.cancel.result ((i : ℕ) × (pattern : Pattern) × IsRequest r.log c.args.id.number i pattern)) (ap (λ (v : ProcessView). v.rank) c.self.view_is) c.cancel.ensures.request
