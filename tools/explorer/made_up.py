@@ -47,6 +47,14 @@ CHOSEN = [
         (1, "recv", {"from": 0}), (1, "wait", {"req": 0}),
         (2, "recv", {"from": 0}), (2, "wait", {"req": 0}), (2, "revoke", {}),
     ]), "1 1 wait 0", *["done from 0 tag 0 61 | over 6 Revoked | refused 7 NoRequest"] * 2),
+    # Rank 0 passes the revocation on before its letter or behind it, and rank 2 sees which came first.
+    ("passed_on_beside", job_text(3, 4, [
+        (0, "dup", {}), (0, "send", {"to": 2, "tag": 1, "body": "y"}), (0, "revoke", {"comm": 1}),
+        (1, "dup", {}), (1, "send", {"to": 2, "tag": 2, "body": "x"}),
+        (2, "dup", {}), (2, "recv", {"from": 1, "tag": 9, "comm": 1}), (2, "recv", {"from": 0, "tag": 1}),
+        (2, "recv", {"from": 1, "tag": 2}), (2, "wait", {"req": 1}), (2, "cancel", {"req": 2, "name": "late"}),
+        (2, "cancel", {"req": 3, "if": {"step": "late", "is": ["cancelled"]}}),
+    ]), "2 6 cancel 3", *["cancelled | done from 1 tag 2 78 | skipped"] * 2),
     # What was sent may be lost with its sender.
     ("lost_letter", job_text(2, 1, [
         (0, "send", {"to": 1, "tag": 0, "body": "a"}), (0, "stop", {}), (1, "recv", {"from": 0}), (1, "wait", {"req": 0}),
