@@ -73,6 +73,7 @@ enum {
 };
 enum { MPI_KEYVAL_INVALID = -1, MPI_TAG_UB = 1, MPI_HOST = 2, MPI_IO = 3, MPI_WTIME_IS_GLOBAL = 4, MPI_UNIVERSE_SIZE = 5, MPI_LASTUSEDCODE = 6 };
 enum { MPI_BSEND_OVERHEAD = 96 };
+enum { MPI_COMM_TYPE_SHARED = 1 };
 enum { MPI_GRAPH = 1, MPI_CART = 2, MPI_DIST_GRAPH = 3 };
 enum { MPI_ORDER_C = 0, MPI_ORDER_FORTRAN = 1 };
 enum { MPI_IDENT = 0, MPI_CONGRUENT = 1, MPI_SIMILAR = 2, MPI_UNEQUAL = 3 };
@@ -259,6 +260,7 @@ int MPI_Comm_rank(MPI_Comm comm, int *rank);
 int MPI_Comm_compare(MPI_Comm a, MPI_Comm b, int *result);
 int MPI_Comm_dup(MPI_Comm comm, MPI_Comm *made);
 int MPI_Comm_split(MPI_Comm comm, int color, int key, MPI_Comm *made);
+int MPI_Comm_split_type(MPI_Comm comm, int type, int key, MPI_Info info, MPI_Comm *made);
 int MPI_Comm_create(MPI_Comm comm, MPI_Group group, MPI_Comm *made);
 int MPI_Comm_create_group(MPI_Comm comm, MPI_Group group, int tag, MPI_Comm *made);
 int MPI_Comm_free(MPI_Comm *comm);
