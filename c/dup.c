@@ -155,6 +155,7 @@ int MPI_Comm_dup(MPI_Comm comm, MPI_Comm *made) {
     if (code == MPI_SUCCESS) code = agree_on_plane(of, &plane, &plans);
     if (code == MPI_SUCCESS) code = make_on_plane(of, plane, &group, &plans, made);
     if (code == MPI_SUCCESS) comm_at(*made)->cart = copy_cart(of->cart);
+    if (code == MPI_SUCCESS) code = copy_attributes(of, comm_at(*made));
     return fail(of, code);
 }
 
@@ -163,6 +164,8 @@ int MPI_Comm_free(MPI_Comm *comm) {
     struct comm *of = comm ? comm_at(*comm) : 0;
     ENTER_LOOK(of, MPI_UNDEFINED, MPI_UNDEFINED);
     if (!of || *comm == MPI_COMM_WORLD || *comm == MPI_COMM_SELF) return fail(0, MPI_ERR_COMM);
+    int code = delete_attributes(of);
+    if (code != MPI_SUCCESS) return fail(of, code);
     bool is_used = has_requests(of->context) || has_messages();
     if (is_used && !grow(&me->old_comms, me->old_comm_count, sizeof *me->old_comms)) return fail(of, MPI_ERR_NO_MEM);
     if (is_used) me->old_comms[me->old_comm_count++] = of;

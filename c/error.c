@@ -31,6 +31,7 @@ static const struct {
     {MPI_ERR_IN_STATUS, "MPI_ERR_IN_STATUS: the statuses say which request has which error"},
     {MPI_ERR_PENDING, "MPI_ERR_PENDING: the request isn't over"},
     {MPI_ERR_REQUEST, "MPI_ERR_REQUEST: this is no request or message"},
+    {MPI_ERR_KEYVAL, "MPI_ERR_KEYVAL: this is no key of attributes, or the communicator has none with it"},
     {MPI_ERR_NO_MEM, "MPI_ERR_NO_MEM: no memory is left"},
     {MPIX_ERR_PROC_FAILED, "MPIX_ERR_PROC_FAILED: a process failed"},
     {MPIX_ERR_PROC_FAILED_PENDING, "MPIX_ERR_PROC_FAILED_PENDING: a process failed that might have sent the message"},

@@ -82,6 +82,8 @@ static void clear_rank(void) {
     clear_handlers();
     clear_types();
     clear_ops();
+    clear_keyvals();
+    me->attached = 0;
 }
 
 static void *run_rank(void *of) {

@@ -71,6 +71,9 @@ enum {
     MPI_UNDEFINED = -32766,
     MPI_TAG_UB_VALUE = 32767
 };
+enum { MPI_KEYVAL_INVALID = -1, MPI_TAG_UB = 1, MPI_HOST = 2, MPI_IO = 3, MPI_WTIME_IS_GLOBAL = 4, MPI_UNIVERSE_SIZE = 5, MPI_LASTUSEDCODE = 6 };
+enum { MPI_BSEND_OVERHEAD = 96 };
+enum { MPI_COMM_TYPE_SHARED = 1 };
 enum { MPI_GRAPH = 1, MPI_CART = 2, MPI_DIST_GRAPH = 3 };
 enum { MPI_ORDER_C = 0, MPI_ORDER_FORTRAN = 1 };
 enum { MPI_IDENT = 0, MPI_CONGRUENT = 1, MPI_SIMILAR = 2, MPI_UNEQUAL = 3 };
@@ -87,7 +90,7 @@ enum {
     MPI_SUCCESS = 0, MPI_ERR_BUFFER = 1, MPI_ERR_COUNT = 2, MPI_ERR_TYPE = 3, MPI_ERR_TAG = 4, MPI_ERR_COMM = 5,
     MPI_ERR_RANK = 6, MPI_ERR_ROOT = 7, MPI_ERR_GROUP = 8, MPI_ERR_OP = 9, MPI_ERR_TOPOLOGY = 10, MPI_ERR_DIMS = 11,
     MPI_ERR_ARG = 12, MPI_ERR_UNKNOWN = 13, MPI_ERR_TRUNCATE = 14, MPI_ERR_OTHER = 15, MPI_ERR_INTERN = 16,
-    MPI_ERR_IN_STATUS = 17, MPI_ERR_PENDING = 18, MPI_ERR_REQUEST = 19, MPI_ERR_NO_MEM = 34, MPIX_ERR_PROC_FAILED = 101,
+    MPI_ERR_IN_STATUS = 17, MPI_ERR_PENDING = 18, MPI_ERR_REQUEST = 19, MPI_ERR_NO_MEM = 34, MPI_ERR_KEYVAL = 48, MPIX_ERR_PROC_FAILED = 101,
     MPIX_ERR_PROC_FAILED_PENDING = 102, MPIX_ERR_REVOKED = 103, MPI_ERR_LASTCODE = 255
 };
 
@@ -185,10 +188,14 @@ int MPI_Error_string(int errorcode, char *string, int *length);
 
 int MPI_Send(const void *buf, int count, MPI_Datatype type, int dest, int tag, MPI_Comm comm);
 int MPI_Ssend(const void *buf, int count, MPI_Datatype type, int dest, int tag, MPI_Comm comm);
+int MPI_Bsend(const void *buf, int count, MPI_Datatype type, int dest, int tag, MPI_Comm comm);
+int MPI_Buffer_attach(void *buffer, int size);
+int MPI_Buffer_detach(void *buffer, int *size);
 int MPI_Rsend(const void *buf, int count, MPI_Datatype type, int dest, int tag, MPI_Comm comm);
 int MPI_Recv(void *buf, int count, MPI_Datatype type, int source, int tag, MPI_Comm comm, MPI_Status *status);
 int MPI_Isend(const void *buf, int count, MPI_Datatype type, int dest, int tag, MPI_Comm comm, MPI_Request *request);
 int MPI_Issend(const void *buf, int count, MPI_Datatype type, int dest, int tag, MPI_Comm comm, MPI_Request *request);
+int MPI_Ibsend(const void *buf, int count, MPI_Datatype type, int dest, int tag, MPI_Comm comm, MPI_Request *request);
 int MPI_Irsend(const void *buf, int count, MPI_Datatype type, int dest, int tag, MPI_Comm comm, MPI_Request *request);
 int MPI_Irecv(void *buf, int count, MPI_Datatype type, int source, int tag, MPI_Comm comm, MPI_Request *request);
 int MPI_Sendrecv(const void *sendbuf, int sendcount, MPI_Datatype sendtype, int dest, int sendtag, void *recvbuf, int recvcount,
@@ -207,6 +214,7 @@ int MPI_Request_get_status(MPI_Request request, int *flag, MPI_Status *status);
 int MPI_Request_free(MPI_Request *request);
 int MPI_Send_init(const void *buf, int count, MPI_Datatype type, int dest, int tag, MPI_Comm comm, MPI_Request *request);
 int MPI_Ssend_init(const void *buf, int count, MPI_Datatype type, int dest, int tag, MPI_Comm comm, MPI_Request *request);
+int MPI_Bsend_init(const void *buf, int count, MPI_Datatype type, int dest, int tag, MPI_Comm comm, MPI_Request *request);
 int MPI_Rsend_init(const void *buf, int count, MPI_Datatype type, int dest, int tag, MPI_Comm comm, MPI_Request *request);
 int MPI_Recv_init(void *buf, int count, MPI_Datatype type, int source, int tag, MPI_Comm comm, MPI_Request *request);
 int MPI_Start(MPI_Request *request);
@@ -252,6 +260,7 @@ int MPI_Comm_rank(MPI_Comm comm, int *rank);
 int MPI_Comm_compare(MPI_Comm a, MPI_Comm b, int *result);
 int MPI_Comm_dup(MPI_Comm comm, MPI_Comm *made);
 int MPI_Comm_split(MPI_Comm comm, int color, int key, MPI_Comm *made);
+int MPI_Comm_split_type(MPI_Comm comm, int type, int key, MPI_Info info, MPI_Comm *made);
 int MPI_Comm_create(MPI_Comm comm, MPI_Group group, MPI_Comm *made);
 int MPI_Comm_create_group(MPI_Comm comm, MPI_Group group, int tag, MPI_Comm *made);
 int MPI_Comm_free(MPI_Comm *comm);
@@ -271,6 +280,18 @@ int MPI_Group_excl(MPI_Group group, int count, const int ranks[], MPI_Group *mad
 int MPI_Group_range_incl(MPI_Group group, int count, int ranges[][3], MPI_Group *made);
 int MPI_Group_range_excl(MPI_Group group, int count, int ranges[][3], MPI_Group *made);
 int MPI_Group_free(MPI_Group *group);
+
+/* ---- Attributes of communicators (7.7). The value of one that is there is a pointer to an int (9.1.2). ---- */
+
+typedef int MPI_Comm_copy_attr_function(MPI_Comm comm, int keyval, void *more, void *in, void *out, int *flag);
+typedef int MPI_Comm_delete_attr_function(MPI_Comm comm, int keyval, void *value, void *more);
+MPI_Comm_copy_attr_function MPI_COMM_NULL_COPY_FN, MPI_COMM_DUP_FN;
+MPI_Comm_delete_attr_function MPI_COMM_NULL_DELETE_FN;
+int MPI_Comm_create_keyval(MPI_Comm_copy_attr_function *copies, MPI_Comm_delete_attr_function *deletes, int *keyval, void *more);
+int MPI_Comm_free_keyval(int *keyval);
+int MPI_Comm_set_attr(MPI_Comm comm, int keyval, void *value);
+int MPI_Comm_get_attr(MPI_Comm comm, int keyval, void *value, int *flag);
+int MPI_Comm_delete_attr(MPI_Comm comm, int keyval);
 
 /* ---- Cartesian topologies (8.5). ---- */
 

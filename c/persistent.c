@@ -44,6 +44,12 @@ int MPI_Rsend_init(const void *buf, int count, MPI_Datatype type, int dest, int 
     return init(&(struct start){false, options.sends_wait, (void *)(uintptr_t)buf, count, type}, dest, tag, of, request);
 }
 
+int MPI_Bsend_init(const void *buf, int count, MPI_Datatype type, int dest, int tag, MPI_Comm comm, MPI_Request *request) {
+    struct comm *of = comm_at(comm);
+    ENTER_LOOK(of, dest, tag);
+    return init(&(struct start){false, false, (void *)(uintptr_t)buf, count, type}, dest, tag, of, request);
+}
+
 int MPI_Ssend_init(const void *buf, int count, MPI_Datatype type, int dest, int tag, MPI_Comm comm, MPI_Request *request) {
     struct comm *of = comm_at(comm);
     ENTER_LOOK(of, dest, tag);

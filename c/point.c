@@ -38,7 +38,7 @@ int begin_send(const void *buf, int count, MPI_Datatype type, int dest, int tag,
 }
 
 /* A send that is complete in its call needs no request. */
-static int send_buffered(const void *buf, int count, MPI_Datatype type, int dest, int tag, struct comm *comm) {
+int send_buffered(const void *buf, int count, MPI_Datatype type, int dest, int tag, struct comm *comm) {
     size_t bytes = 0;
     const void *data;
     void *packed;

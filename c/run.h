@@ -54,6 +54,7 @@ struct comm {
     uint32_t acknowledged;       /* how many failures are */
     char name[MPI_MAX_OBJECT_NAME];
     struct cart *cart;           /* its topology, or null */
+    struct attribute *attributes;   /* the last one that was set first */
 };
 
 /* A value of MPI_Group: world ranks by positions. */
@@ -139,6 +140,9 @@ struct rank {
     struct errhandler *handlers;
     struct type **types;
     struct op *ops;
+    struct keyval *keyvals;
+    void *attached;           /* by MPI_Buffer_attach */
+    int attached_size, keyval_count;
     int comm_count, old_comm_count, group_count, request_count, message_count, handler_count, type_count, op_count, first_free;
     struct request *open;     /* receives that wait */
     struct request *spare;    /* can be used again */
@@ -289,7 +293,14 @@ void clear_handlers(void);
 int check_message(const void *buf, int count, MPI_Datatype type, int peer, int tag, const struct comm *comm, bool is_receive);
 int begin_send(const void *buf, int count, MPI_Datatype type, int dest, int tag, struct comm *comm, bool waits, struct request **made);
 int begin_receive(void *buf, int count, MPI_Datatype type, int source, int tag, struct comm *comm, struct request **made);
+int send_buffered(const void *buf, int count, MPI_Datatype type, int dest, int tag, struct comm *comm);
 void free_start(struct start *start);
+
+/* attribute.c */
+int copy_attributes(struct comm *from, struct comm *to);
+int delete_attributes(struct comm *comm);
+void free_attributes(struct comm *comm);
+void clear_keyvals(void);
 
 /* ibarrier.c */
 void look_at_barrier(struct request *barrier);

@@ -61,6 +61,7 @@ int MPI_Finalized(int *flag) {
 /* Waits for each rank that hasn't failed: what others sent may need this rank to be handed on (11.2.2). */
 int MPI_Finalize(void) {
     ENTER(0, MPI_UNDEFINED, MPI_UNDEFINED);
+    delete_attributes(comm_at(MPI_COMM_SELF));   /* before all else (11.2.4) */
     drain();
     me->has_finalized = true;
     return MPI_SUCCESS;

@@ -40,6 +40,19 @@ static void grid(void) {
     MPI_Comm_free(&all);
 }
 
+/* All share memory, but the last one doesn't want to. */
+static void shared(void) {
+    int members = 0, at = -1, is_last = rank == size - 1;
+    MPI_Comm some;
+    MPI_Comm_split_type(world, is_last ? MPI_UNDEFINED : MPI_COMM_TYPE_SHARED, -rank, MPI_INFO_NULL, &some);
+    CHECK((some == MPI_COMM_NULL) == is_last);
+    if (is_last) return;
+    MPI_Comm_size(some, &members);
+    MPI_Comm_rank(some, &at);
+    CHECK(members == size - 1 && at == size - 2 - rank);
+    MPI_Comm_free(&some);
+}
+
 static void scattered(void) {
     int in[36], out[8] = {0}, counts[8], total = 0, before = rank * (rank + 1) / 2;
     for (int k = 0; k < size; k++) counts[k] = k + 1, total += k + 1;
@@ -63,6 +76,7 @@ int main(int argc, char **argv) {
     MPI_Dims_create(24, 3, dims);
     CHECK(dims[0] == 4 && dims[1] == 3 && dims[2] == 2);
     grid();
+    shared();
     scattered();
     MPI_Reduce(&faults, &all, 1, MPI_INT, MPI_SUM, 0, world);
     if (rank == 0) printf("faults: %d\n", all);

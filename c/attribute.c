@@ -1,0 +1,160 @@
+/* Attributes of communicators (MPI 4.0, 7.7 and 9.1): those that are there, and a program's own, with what copies and deletes them. */
+#include "run.h"
+#include <stdlib.h>
+
+struct keyval {
+    MPI_Comm_copy_attr_function *copies;   /* null: freed */
+    MPI_Comm_delete_attr_function *deletes;
+    void *more;
+};
+
+struct attribute {
+    struct attribute *next;
+    int keyval;
+    void *value;
+};
+enum { FIRST_OWN = 64 };
+
+int MPI_COMM_NULL_COPY_FN(MPI_Comm comm, int keyval, void *more, void *in, void *out, int *flag) {
+    (void)comm, (void)keyval, (void)more, (void)in, (void)out;
+    *flag = 0;
+    return MPI_SUCCESS;
+}
+
+int MPI_COMM_DUP_FN(MPI_Comm comm, int keyval, void *more, void *in, void *out, int *flag) {
+    (void)comm, (void)keyval, (void)more;
+    *(void **)out = in;
+    *flag = 1;
+    return MPI_SUCCESS;
+}
+
+int MPI_COMM_NULL_DELETE_FN(MPI_Comm comm, int keyval, void *value, void *more) {
+    (void)comm, (void)keyval, (void)value, (void)more;
+    return MPI_SUCCESS;
+}
+
+static struct keyval *keyval_at(int keyval) {
+    return keyval >= FIRST_OWN && keyval - FIRST_OWN < me->keyval_count ? &me->keyvals[keyval - FIRST_OWN] : 0;
+}
+
+int MPI_Comm_create_keyval(MPI_Comm_copy_attr_function *copies, MPI_Comm_delete_attr_function *deletes, int *keyval, void *more) {
+    ENTER_LOOK(0, MPI_UNDEFINED, MPI_UNDEFINED);
+    WRITES(0, keyval && copies && deletes);
+    if (!grow(&me->keyvals, me->keyval_count, sizeof *me->keyvals)) return fail(0, MPI_ERR_NO_MEM);
+    me->keyvals[me->keyval_count] = (struct keyval){copies, deletes, more};
+    *keyval = FIRST_OWN + me->keyval_count++;
+    return MPI_SUCCESS;
+}
+
+/* The handle goes; attributes with it stay (7.7.2). */
+int MPI_Comm_free_keyval(int *keyval) {
+    ENTER_LOOK(0, MPI_UNDEFINED, MPI_UNDEFINED);
+    WRITES(0, keyval);
+    if (!keyval_at(*keyval)) return fail(0, MPI_ERR_KEYVAL);
+    *keyval = MPI_KEYVAL_INVALID;
+    return MPI_SUCCESS;
+}
+
+static struct attribute **place_of(struct comm *comm, int keyval) {
+    struct attribute **at = &comm->attributes;
+    while (*at && (*at)->keyval != keyval) at = &(*at)->next;
+    return at;
+}
+
+/* Takes an attribute away, where its deletion allows that. */
+static int delete_at(struct comm *comm, struct attribute **at) {
+    struct attribute *attribute = *at;
+    const struct keyval *keyval = keyval_at(attribute->keyval);
+    int code = keyval->deletes(handle_of(comm), attribute->keyval, attribute->value, keyval->more);
+    if (code != MPI_SUCCESS) return code;
+    *at = attribute->next;
+    free(attribute);
+    return MPI_SUCCESS;
+}
+
+static int add(struct comm *comm, int keyval, void *value) {
+    struct attribute *attribute = malloc(sizeof *attribute);
+    if (!attribute) return MPI_ERR_NO_MEM;
+    *attribute = (struct attribute){comm->attributes, keyval, value};
+    comm->attributes = attribute;
+    return MPI_SUCCESS;
+}
+
+int MPI_Comm_set_attr(MPI_Comm comm, int keyval, void *value) {
+    struct comm *of = comm_at(comm);
+    ENTER_LOOK(of, MPI_UNDEFINED, MPI_UNDEFINED);
+    if (!of) return fail(0, MPI_ERR_COMM);
+    if (!keyval_at(keyval)) return fail(of, MPI_ERR_KEYVAL);
+    struct attribute **at = place_of(of, keyval);
+    int code = *at ? delete_at(of, at) : MPI_SUCCESS;
+    return fail(of, code != MPI_SUCCESS ? code : add(of, keyval, value));
+}
+
+int MPI_Comm_delete_attr(MPI_Comm comm, int keyval) {
+    struct comm *of = comm_at(comm);
+    ENTER_LOOK(of, MPI_UNDEFINED, MPI_UNDEFINED);
+    if (!of) return fail(0, MPI_ERR_COMM);
+    struct attribute **at = place_of(of, keyval);
+    return fail(of, !keyval_at(keyval) || !*at ? MPI_ERR_KEYVAL : delete_at(of, at));
+}
+
+/* The attributes that are there: the value is a pointer to a number. */
+static int *value_of(int keyval) {
+    static int tags = MPI_TAG_UB_VALUE, host = MPI_PROC_NULL, io = MPI_ANY_SOURCE, is_global = 1, last = MPI_ERR_LASTCODE;
+    switch (keyval) {
+    case MPI_TAG_UB: return &tags;
+    case MPI_HOST: return &host;
+    case MPI_IO: return &io;
+    case MPI_WTIME_IS_GLOBAL: return &is_global;
+    case MPI_UNIVERSE_SIZE: return &options.ranks;
+    case MPI_LASTUSEDCODE: return &last;
+    default: return 0;
+    }
+}
+
+int MPI_Comm_get_attr(MPI_Comm comm, int keyval, void *value, int *flag) {
+    struct comm *of = comm_at(comm);
+    ENTER_LOOK(of, MPI_UNDEFINED, MPI_UNDEFINED);
+    if (!of) return fail(0, MPI_ERR_COMM);
+    WRITES(of, value && flag);
+    int *there = value_of(keyval);
+    if (!there && !keyval_at(keyval)) return fail(of, MPI_ERR_KEYVAL);
+    struct attribute *own = *place_of(of, keyval);
+    *flag = there || own;
+    if (*flag) *(void **)value = there ? (void *)there : own->value;
+    return MPI_SUCCESS;
+}
+
+/* A duplicate gets those whose copy function says so (7.7.2). */
+int copy_attributes(struct comm *from, struct comm *to) {
+    int code = MPI_SUCCESS;
+    for (struct attribute *of = from->attributes; of && code == MPI_SUCCESS; of = of->next) {
+        const struct keyval *keyval = keyval_at(of->keyval);
+        void *value = 0;
+        int flag = 0;
+        code = keyval->copies(handle_of(from), of->keyval, keyval->more, of->value, &value, &flag);
+        if (code == MPI_SUCCESS && flag) code = add(to, of->keyval, value);
+    }
+    return code;
+}
+
+/* Deletes all, the last one first. The first error ends it. */
+int delete_attributes(struct comm *comm) {
+    int code = MPI_SUCCESS;
+    while (comm->attributes && code == MPI_SUCCESS) code = delete_at(comm, &comm->attributes);
+    return code;
+}
+
+void free_attributes(struct comm *comm) {
+    while (comm->attributes) {
+        struct attribute *next = comm->attributes->next;
+        free(comm->attributes);
+        comm->attributes = next;
+    }
+}
+
+void clear_keyvals(void) {
+    free(me->keyvals);
+    me->keyvals = 0;
+    me->keyval_count = 0;
+}

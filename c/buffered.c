@@ -1,0 +1,50 @@
+/* Buffered sends (MPI 4.0, 3.4 and 3.6). A message is copied in its call, so the buffer that a program attaches is never written to; it has to be
+   large enough all the same. */
+#include "run.h"
+
+int MPI_Buffer_attach(void *buffer, int size) {
+    ENTER_LOOK(0, MPI_UNDEFINED, MPI_UNDEFINED);
+    if (size < 0) return fail(0, MPI_ERR_ARG);
+    if (me->attached || !buffer) return fail(0, MPI_ERR_BUFFER);
+    me->attached = buffer;
+    me->attached_size = size;
+    return MPI_SUCCESS;
+}
+
+/* *buffer: the address that was attached, null where there is none. */
+int MPI_Buffer_detach(void *buffer, int *size) {
+    ENTER_LOOK(0, MPI_UNDEFINED, MPI_UNDEFINED);
+    WRITES(0, buffer && size);
+    *(void **)buffer = me->attached;
+    *size = me->attached_size;
+    me->attached = 0;
+    me->attached_size = 0;
+    return MPI_SUCCESS;
+}
+
+/* Whether the message and its overhead fit into what is attached; wrong arguments have their own class. */
+static int check_room(const void *buf, int count, MPI_Datatype type, int dest, int tag, const struct comm *comm) {
+    size_t bytes;
+    int code = check_message(buf, count, type, dest, tag, comm, false);
+    if (code != MPI_SUCCESS || dest == MPI_PROC_NULL || !check_buffer(count, type, &bytes, &code)) return code;
+    return bytes + MPI_BSEND_OVERHEAD > (size_t)me->attached_size ? MPI_ERR_BUFFER : MPI_SUCCESS;
+}
+
+int MPI_Bsend(const void *buf, int count, MPI_Datatype type, int dest, int tag, MPI_Comm comm) {
+    struct comm *of = comm_at(comm);
+    ENTER(of, dest, tag);
+    int code = check_room(buf, count, type, dest, tag, of);
+    return fail(of, code != MPI_SUCCESS ? code : send_buffered(buf, count, type, dest, tag, of));
+}
+
+int MPI_Ibsend(const void *buf, int count, MPI_Datatype type, int dest, int tag, MPI_Comm comm, MPI_Request *request) {
+    struct comm *of = comm_at(comm);
+    struct request *begun;
+    ENTER(of, dest, tag);
+    WRITES(of, request);
+    *request = MPI_REQUEST_NULL;
+    int code = check_room(buf, count, type, dest, tag, of);
+    if (code == MPI_SUCCESS) code = begin_send(buf, count, type, dest, tag, of, false, &begun);
+    if (code == MPI_SUCCESS) *request = (MPI_Request)(uintptr_t)begun->handle;
+    return fail(of, code);
+}

@@ -1,0 +1,36 @@
+/* Requests that are given up (MPI 4.0, 3.7.3 and 3.8.4). */
+#include "run.h"
+
+/* The request goes when it is over (3.7.3). */
+int MPI_Request_free(MPI_Request *handle) {
+    ENTER_LOOK(0, MPI_UNDEFINED, MPI_UNDEFINED);
+    WRITES(0, handle);
+    struct request *request = active_at(*handle), *own = request_at(*handle);
+    if (!own) return fail(0, MPI_ERR_REQUEST);
+    *handle = MPI_REQUEST_NULL;
+    if (own->kind == PERSISTENT) free_request(own);
+    if (!request) return MPI_SUCCESS;
+    if (request->over || request->kind == SYNCHRONOUS) free_request(request);
+    else {
+        request->freed = true;
+        atomic_fetch_add(&me->waited_for, 1);
+    }
+    return MPI_SUCCESS;
+}
+
+/* Cancels a receive that waits; a send is never cancelled (3.8.4). The request has to be waited for all the same. */
+int MPI_Cancel(MPI_Request *handle) {
+    ENTER(0, MPI_UNDEFINED, MPI_UNDEFINED);
+    WRITES(0, handle);
+    struct request *request = active_at(*handle);
+    if (!request) return fail(0, MPI_ERR_REQUEST);
+    progress();
+    withdraw(request);
+    return MPI_SUCCESS;
+}
+
+int MPI_Test_cancelled(const MPI_Status *status, int *flag) {
+    if (!status || !flag) return MPI_ERR_ARG;
+    *flag = status->cancelled;
+    return MPI_SUCCESS;
+}
