@@ -1,0 +1,4 @@
+pub mod Place
+pub mod Places
+pub mod Text
+pub mod inside

@@ -1,0 +1,50 @@
+-- All places of a job.
+use Rattle.std.specs.Prelude.{ℕ, ◌+◌, ◌==◌, ◌&&◌, nat_le, nat_lt, Bool, false, not, List, [], ◌∷◌, ◌++◌, filter, length, map, Option, Some, None, slice_get, if◌then◌else◌}
+use Rattle.std.specs.List.{flat_map, list_any, position_or_len, range_with_len}
+use Rattle.std.specs.Option.{option_map_or}
+use Rattle.ulfm_job.specs.declared.clause.Clause.{Clause}
+use Rattle.ulfm_job.specs.Job.{JobView, is_stop_step, script_at}
+use Rattle.ulfm_stops.specs.declared.place.Place.{Place}
+use Rattle.ulfm_stops.specs.declared.place.Place.TheVariants.{Nowhere, One, Two}
+use Rattle.ulfm_stops.specs.declared.stop.Stop.{Stop}
+
+-- the step k of the rank r is played on a condition of its own
+abbrev pub is_asked : JobView → ℕ → ℕ → Bool
+is_asked j r k = list_any (λ (c : Clause). c.rank == r && c.at == k) j.conditions
+
+-- the step k of the rank r is a stop, and on no condition: if the rank comes to it, it stops
+abbrev pub stops_always : JobView → ℕ → ℕ → Bool
+stops_always j r k = option_map_or is_stop_step (slice_get (script_at j r) k) false && not (is_asked j r k)
+
+-- how many steps of the rank r come before the first such stop
+abbrev pub last_place : JobView → ℕ → ℕ
+last_place j r = position_or_len (stops_always j r) (range_with_len 0 (length (script_at j r)))
+
+-- a stop of the rank r before its step `at`
+abbrev pub stop_at : ℕ → ℕ → Stop
+stop_at r at = record { rank = r; at = at }
+
+-- the stops of the rank r: before each step up to that stop, or before each step and after the last one
+abbrev pub stops_in : JobView → ℕ → List Stop
+stops_in j r = map (stop_at r) (range_with_len 0 (last_place j r + 1))
+
+-- those of all ranks
+abbrev pub all_stops : JobView → List Stop
+all_stops j = flat_map (stops_in j) (range_with_len 0 j.ranks)
+
+-- this stop with each of those of a higher rank
+abbrev pub pairs_of : List Stop → Stop → List Place
+pairs_of stops first = map (Two first) (filter (λ (second : Stop). nat_lt first.rank second.rank) stops)
+
+-- the places with two stops
+abbrev pub twos : List Stop → List Place
+twos stops = flat_map (pairs_of stops) stops
+
+-- these places, where at least so many stops are allowed
+abbrev pub if_allowed : ℕ → ℕ → List Place → List Place
+if_allowed least stops places = if nat_le least stops then places else []
+
+-- The places of a job with at most so many stops: with none, then with one by rank and step, then with two by those of the first, and
+-- then of the second.
+abbrev pub places_of : ℕ → JobView → List Place
+places_of stops j = Nowhere ∷ [] ++ if_allowed 1 stops (map One (all_stops j)) ++ if_allowed 2 stops (twos (all_stops j))

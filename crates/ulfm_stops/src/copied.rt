@@ -1,0 +1,69 @@
+//! A job once more.
+ghost use Rattle.std.specs.Prelude.{◌≡◌, IfOk};
+ghost use Rattle.ulfm_job.specs.Job.{lists_of};
+
+use std::alloc::Global;
+use ulfm_base::OutOfMemory;
+use ulfm_job::{Clause, Job, Step};
+
+/// The same job once more.
+pub fn copied_job(alloc: Global, job: &Job) -> Result<Job, OutOfMemory>
+    ensures { IfOk result (λ copy. copy ≡ job.now) }
+{
+    let scripts = copied_scripts(alloc, job)?;
+    let conditions = copied_clauses(alloc, job.conditions())?;
+    let expected = copied_clauses(alloc, job.expected())?;
+    Ok(Job::new(
+        job.capacity(),
+        job.turns(),
+        scripts,
+        conditions,
+        expected,
+    ))
+}
+
+/// The scripts of a job's ranks once more.
+fn copied_scripts(alloc: Global, job: &Job) -> Result<Vec<Vec<Step>>, OutOfMemory>
+    ensures { IfOk result (λ scripts. lists_of scripts.items ≡ job.now.scripts) }
+{
+    let mut scripts = Vec::new(alloc);
+    for rank in 0..job.ranks() {
+        scripts.push(copied_script(alloc, job.script(rank))?)?;
+    }
+    Ok(scripts)
+}
+
+/// The same script once more.
+fn copied_script(alloc: Global, script: &[Step]) -> Result<Vec<Step>, OutOfMemory>
+    ensures { IfOk result (λ steps. steps.items ≡ script.now) }
+{
+    let mut steps = Vec::new(alloc);
+    for step in script {
+        steps.push(step.copy(alloc)?)?;
+    }
+    Ok(steps)
+}
+
+/// The same clauses once more.
+fn copied_clauses(alloc: Global, clauses: &[Clause]) -> Result<Vec<Clause>, OutOfMemory>
+    ensures { IfOk result (λ copies. copies.items ≡ clauses.now) }
+{
+    let mut copies = Vec::new(alloc);
+    for clause in clauses {
+        copies.push(copied_clause(alloc, clause)?)?;
+    }
+    Ok(copies)
+}
+
+/// The same clause once more.
+fn copied_clause(alloc: Global, clause: &Clause) -> Result<Clause, OutOfMemory>
+    ensures { IfOk result (λ copy. copy ≡ clause.now) }
+{
+    let words = clause.words.copy(alloc)?;
+    Ok(Clause {
+        rank: clause.rank,
+        at: clause.at,
+        step: clause.step,
+        words,
+    })
+}

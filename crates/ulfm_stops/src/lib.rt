@@ -1,0 +1,21 @@
+//! Where ranks stop: places, their texts, the job with these stops, and all places of a job.
+//!
+//! A [`Place`] says before which of their steps one or two ranks stop, as the file of the job numbers them, or that none does:
+//!
+//!     let Some(place) = Place::parse("0.2+1.3") else { .. };
+//!     let job = place.job(alloc, &job)?;
+//!     for place in &places(alloc, &job, 1)? { .. }
+//!
+//! Read specs/Place.antt first (what a job is with the stops of a place), then Places.antt (all places of a job) and Text.antt (how they
+//! are written).
+#![tactic(auto)]
+
+mod copied;
+mod listing;
+mod place;
+mod reading;
+mod stop;
+
+pub use listing::places;
+pub use place::Place;
+pub use stop::Stop;

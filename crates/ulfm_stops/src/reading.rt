@@ -1,0 +1,74 @@
+//! Places as they are read.
+ghost use Rattle.std.specs.Prelude.{◌≡◌, ◌≤◌, ◌<◌, ◌==◌, IfSome, length};
+ghost use Rattle.std.specs.Char.{is_ascii_digit};
+ghost use Rattle.std.specs.List.{list_all};
+ghost use Rattle.ulfm_stops.specs.Text.{number_of_text, place_of_text, stop_of_text};
+ghost use Rattle.ulfm_stops.specs.inside.Digits.{is_number};
+
+use crate::place::Place;
+use crate::stop::Stop;
+
+/// The place of a text.
+pub fn place_of_text(text: &str) -> Option<Place>
+    ensures { result ≡ place_of_text text.now }
+{
+    if text == "-" {
+        return Some(Place::Nowhere);
+    }
+    let Some((first, second)) = text.split_once('+') else {
+        return match stop_of_text(text) {
+            Some(stop) => Some(Place::One(stop)),
+            None => None,
+        };
+    };
+    match (stop_of_text(first), stop_of_text(second)) {
+        (Some(first), Some(second)) if first.rank < second.rank => Some(Place::Two(first, second)),
+        _ => None,
+    }
+}
+
+/// The stop of a text: a rank, a dot, and the number of a step.
+fn stop_of_text(text: &str) -> Option<Stop>
+    ensures { result ≡ stop_of_text text.now }
+{
+    let (rank, at) = text.split_once('.')?;
+    let rank = number_of_text(rank, 255)?;
+    let at = number_of_text(at, 65_535)?;
+    Some(Stop {
+        rank: rank as u8,
+        at,
+    })
+}
+
+/// The number of a text, at most so much, in the digits in which it is written.
+fn number_of_text(text: &str, most: u16) -> Option<u16>
+    ensures exact { result ≡ number_of_text most text.now }
+    ensures range { IfSome result (λ n. n ≤ most) }
+{
+    if !is_number(text) {
+        return None;
+    }
+    match text.parse::<u16>() {
+        Ok(number) if number <= most => Some(number),
+        _ => None,
+    }
+}
+
+/// Whether a text is a number: digits alone, with no 0 before others.
+fn is_number(text: &str) -> bool
+    ensures { result ≡ is_number text.now }
+{
+    match text.as_bytes() {
+        [] => false,
+        [first, rest @ ..] => {
+            first.is_ascii_digit() && are_digits(rest) && (*first != b'0' || rest.is_empty())
+        }
+    }
+}
+
+/// Whether each of these bytes is a digit.
+fn are_digits(bytes: &[u8]) -> bool
+    ensures { result ≡ list_all is_ascii_digit bytes.now }
+{
+    bytes.iter().all(|byte| byte.is_ascii_digit())
+}
