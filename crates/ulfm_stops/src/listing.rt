@@ -95,9 +95,12 @@ fn last_place(job: &Job, rank: u8) -> usize
     ensures few { result ≤ 256 }
 {
     let len = job.script_len(rank);
-    (0..len)
-        .position(|at| stops_always(job, rank, at))
-        .unwrap_or(len)
+    for at in 0..len {
+        if stops_always(job, rank, at) {
+            return at;
+        }
+    }
+    len
 }
 
 /// Whether a step of a rank is a stop that is always played, where the rank comes to it.
