@@ -1,5 +1,5 @@
 -- All places of a job are inside it.
-use Rattle.std.proofs.Common.{◌≡◌, ℕ, ◌+◌, ◌<◌, ◌≤◌, List, [], ◌∷◌, get_or, length, map, filter, All, Bool, true, false, ltb, leb, cond, refl, subst, sym, ◌∙◌, arith}
+use Rattle.std.proofs.Common.{◌≡◌, ℕ, ◌+◌, ◌<◌, ◌≤◌, List, [], ◌∷◌, ◌++◌, get_or, length, map, filter, All, Bool, true, false, ltb, leb, cond, not, refl, subst, sym, ◌∙◌, arith}
 use Rattle.std.proofs.lemmas.Bool.{ltb-true}
 use Rattle.std.proofs.lemmas.List.Elements.{All-append, All-cons, All-head, All-map, All-nil, All-tail}
 use Rattle.std.proofs.lemmas.List.FromFn.{get_or-range_with_len, length-range_with_len}
@@ -7,7 +7,7 @@ use Rattle.std.proofs.lemmas.List.Sums.{prefix_len-le-length}
 use Rattle.std.specs.List.{flat_map, range_with_len}
 use Rattle.ulfm_job.specs.Job.{JobView, script_at}
 use Rattle.ulfm_stops.specs.Place.{IsPlaceOf, IsStopOf}
-use Rattle.ulfm_stops.specs.Places.{all_stops, if_allowed, last_place, pairs_of, places_of, stop_at, stops_in, twos}
+use Rattle.ulfm_stops.specs.Places.{all_stops, if_allowed, last_place, pairs_of, places_of, stop_at, stops_always, stops_in, twos}
 use Rattle.ulfm_stops.specs.declared.place.Place.{Place}
 use Rattle.ulfm_stops.specs.declared.place.Place.TheVariants.{Nowhere, One, Two}
 use Rattle.ulfm_stops.specs.declared.stop.Stop.{Stop}
@@ -25,7 +25,7 @@ All-range P n h = λ k d lt.
     subst P (sym at) (h k inside)
 
 last_place-le : (j : JobView) (r : ℕ) → last_place j r ≤ length (script_at j r)
-last_place-le j r = omega (arith, length-range_with_len 0 (length (script_at j r)), prefix_len-le-length _ (range_with_len 0 (length (script_at j r))))
+last_place-le j r = omega (arith, length-range_with_len 0 (length (script_at j r)), prefix_len-le-length (λ k. not (stops_always j r k)) (range_with_len 0 (length (script_at j r))))
 
 stops_inside : (j : JobView) (r : ℕ) → r < j.ranks → All (IsStopOf j) (stops_in j r)
 stops_inside j r lt = All-map (IsStopOf j) (stop_at r) (range_with_len 0 (last_place j r + 1))
@@ -36,13 +36,11 @@ all_inside j = All-flat_map (IsStopOf j) (stops_in j) (range_with_len 0 j.ranks)
 
 pairs_inside : (j : JobView) (first : Stop) (stops : List Stop) → IsStopOf j first → All (IsStopOf j) stops → All (IsPlaceOf j) (pairs_of stops first)
 pairs_inside j first [] one all = All-nil (IsPlaceOf j)
-pairs_inside j first (second ∷ stops) one all = by (ltb first.rank second.rank) refl
+pairs_inside j first (second ∷ stops) one all = by (pairs_inside j first stops one (All-tail (IsStopOf j) second stops all)) (ltb first.rank second.rank) refl
   where
-    rest : All (IsPlaceOf j) (pairs_of stops first)
-    rest = pairs_inside j first stops one (All-tail (IsStopOf j) second stops all)
-    by : (b : Bool) → ltb first.rank second.rank ≡ b → All (IsPlaceOf j) (map (Two first) (cond b (second ∷ filter (λ (s : Stop). ltb first.rank s.rank) stops) (filter (λ (s : Stop). ltb first.rank s.rank) stops)))
-    by true rises = All-cons (IsPlaceOf j) (Two first second) _ (ltb-true _ _ rises, one, All-head (IsStopOf j) second stops all) rest
-    by false falls = rest
+    by : All (IsPlaceOf j) (pairs_of stops first) → (b : Bool) → ltb first.rank second.rank ≡ b → All (IsPlaceOf j) (map (Two first) (cond b (second ∷ filter (λ (s : Stop). ltb first.rank s.rank) stops) (filter (λ (s : Stop). ltb first.rank s.rank) stops)))
+    by rest true rises = All-cons (IsPlaceOf j) (Two first second) _ (ltb-true _ _ rises, one, All-head (IsStopOf j) second stops all) rest
+    by rest false falls = rest
 
 twos_inside : (j : JobView) (stops firsts : List Stop) → All (IsStopOf j) stops → All (IsStopOf j) firsts → All (IsPlaceOf j) (flat_map (pairs_of stops) firsts)
 twos_inside j stops [] all each = All-nil (IsPlaceOf j)
@@ -58,7 +56,9 @@ allowed_inside j least stops places all = by (leb least stops)
 
 pub places_inside : (j : JobView) (stops : ℕ) → All (IsPlaceOf j) (places_of stops j)
 places_inside j stops =
+    let ones = if_allowed 1 stops (map One (all_stops j)) in
+    let pairs = if_allowed 2 stops (twos (all_stops j)) in
     let nowhere = All-cons (IsPlaceOf j) Nowhere [] tt (All-nil (IsPlaceOf j)) in
-    let ones = allowed_inside j 1 stops _ (All-map (IsPlaceOf j) One (all_stops j) (all_inside j)) in
-    let pairs = allowed_inside j 2 stops _ (twos_inside j (all_stops j) (all_stops j) (all_inside j) (all_inside j)) in
-    All-append (IsPlaceOf j) _ _ (All-append (IsPlaceOf j) _ _ nowhere ones) pairs
+    let each = allowed_inside j 1 stops (map One (all_stops j)) (All-map (IsPlaceOf j) One (all_stops j) (all_inside j)) in
+    let all = allowed_inside j 2 stops (twos (all_stops j)) (twos_inside j (all_stops j) (all_stops j) (all_inside j) (all_inside j)) in
+    All-append (IsPlaceOf j) (Nowhere ∷ [] ++ ones) pairs (All-append (IsPlaceOf j) (Nowhere ∷ []) ones nowhere each) all

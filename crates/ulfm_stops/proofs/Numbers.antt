@@ -1,5 +1,5 @@
 -- Numbers as they are written, and as they are read.
-use Rattle.std.proofs.Common.{rules, ◌≡◌, ℕ, ◌<◌, ◌≤◌, ◌==◌, ◌^◌, List, [], ◌∷◌, length, get_or, leb, Bool, true, false, ◌&&◌, ◌||◌, not, Option, Some, None, Result, Ok, Err, zero, suc, if◌then◌else◌, refl, sym, ap, ◌∙◌, arith}
+use Rattle.std.proofs.Common.{rules, ◌≡◌, ℕ, ◌+◌, ◌<◌, ◌≤◌, ◌==◌, ◌^◌, List, [], ◌∷◌, length, get_or, leb, Bool, true, false, ◌&&◌, ◌||◌, not, Option, Some, None, Ok, Err, zero, suc, if◌then◌else◌, refl, sym, ap, ◌∙◌, arith}
 use Rattle.std.proofs.lemmas.Bool.{and_parts, leb-true}
 use Rattle.std.proofs.lemmas.Bool.Decides.{Decides-eqb, nat_tests}
 use Rattle.std.proofs.lemmas.Fmt.{decimal-digits_value, decimal_digit, decimal_nonempty, digits_decimal, first_decimal}
@@ -7,10 +7,11 @@ use Rattle.std.proofs.lemmas.Slice.Eq.{bytes_eq-Decides}
 use Rattle.std.proofs.lemmas.Str.Parse.{IsNumeralModel, numerals_by_value, parse_digits}
 use Rattle.std.specs.Char.{is_ascii_digit}
 use Rattle.std.specs.Fmt.{decimal}
-use Rattle.std.specs.List.{list_all}
+use Rattle.std.proofs.lemmas.List.{drop_all}
+use Rattle.std.specs.List.{after_first, before_first, list_all, position_or_len}
 use Rattle.std.specs.Str.{bytes_eq}
 use Rattle.std.specs.Str.Parse.{IsNumeral, digits_value, without_leading_plus}
-use Rattle.ulfm_stops.specs.Text.{number_of_text}
+use Rattle.ulfm_stops.specs.Text.{number_of_text, stop_by, stop_of_text}
 use Rattle.ulfm_stops.specs.inside.Digits.{is_number}
 
 abbrev AreDigits : List ℕ → Type 0
@@ -83,13 +84,6 @@ number_read most n text is h le =
     let same : bytes_eq text (decimal (digits_value 10 text)) ≡ true = (bytes_eq-Decides text (decimal (digits_value 10 text))).1 (sym (decimal-number text is small)) in
     rw (fits, same, read.1) refl
 
--- one past the most
-pub number_past : (most n : ℕ) (text : List ℕ) → is_number text ≡ true → IsShort text × (n ≡ digits_value 10 (without_leading_plus text)) → most < n → None ≡ number_of_text most text
-number_past most n text is h lt =
-    let read = parse_digits own {E = Unit {0}} 16 text (Ok n) h (digits_in text is) in
-    let large : leb (digits_value 10 text) most ≡ false = let e = read.1 in grind (arith, nat_tests) in
-    rw large refl
-
 -- one past 16 bits
 pub number_long : (most : ℕ) (text : List ℕ) → most < 2 ^ 16 → is_number text ≡ true → (IsShort text → ⊥) → None ≡ number_of_text most text
 number_long most text small is h =
@@ -99,3 +93,18 @@ number_long most text small is h =
     by : (b : Bool) → leb (digits_value 10 text) most ≡ b → ((0 < length text) × (digits_value 10 text < 2 ^ 16) → ⊥) → None ≡ (if b && bytes_eq text (decimal (digits_value 10 text)) then Some (digits_value 10 text) else None)
     by true fits read = absurd (read (some_in text is, omega (arith, leb-true _ _ fits, small)))
     by false large read = refl
+
+-- a text without a dot is no stop
+pub no_dot : (text : List ℕ) → position_or_len (λ c. c == 46) text ≡ length text → None ≡ stop_of_text text
+no_dot text none = by (number_of_text 255 (before_first (λ c. c == 46) text)) (number_of_text 65535 (after_first (λ c. c == 46) text)) missing
+  where
+    nothing : number_of_text 65535 [] ≡ None
+    nothing = rw (decimal_digit 0 (omega arith)) refl
+
+    missing : number_of_text 65535 (after_first (λ c. c == 46) text) ≡ None
+    missing = ap (number_of_text 65535) (drop_all (position_or_len (λ c. c == 46) text + 1) text (omega (arith, none))) ∙ nothing
+
+    by : (rank at : Option ℕ) → at ≡ None → None ≡ stop_by rank at
+    by None at e = refl
+    by (Some rank) None e = refl
+    by (Some rank) (Some at) e = absurd cc

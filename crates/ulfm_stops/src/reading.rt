@@ -1,5 +1,5 @@
 //! Places as they are read.
-ghost use Rattle.std.specs.Prelude.{◌≡◌, ◌≤◌, IfSome, IsTrue};
+ghost use Rattle.std.specs.Prelude.{◌≡◌, ◌≤◌, true, IfSome};
 ghost use Rattle.std.specs.Char.{is_ascii_digit};
 ghost use Rattle.std.specs.List.{list_all};
 ghost use Rattle.ulfm_stops.specs.Text.{number_of_text, place_of_text, stop_by, stop_of_text};
@@ -31,8 +31,10 @@ pub fn place_of_text(text: &str) -> Option<Place>
 fn stop_of_text(text: &str) -> Option<Stop>
     ensures { result ≡ stop_of_text text.now }
 {
-    let (rank, at) = text.split_once('.')?;
-    stop_by(number_of_text(rank, 255), number_of_text(at, 65_535))
+    match text.split_once('.') {
+        Some((rank, at)) => stop_by(number_of_text(rank, 255), number_of_text(at, 65_535)),
+        None => None,
+    }
 }
 
 /// A stop of these numbers, if they are some.
@@ -63,18 +65,12 @@ fn number_of_text(text: &str, most: u16) -> Option<u16>
 
 /// The number of these digits, at most so much.
 fn number_in(text: &str, most: u16) -> Option<u16>
-    requires { IsTrue (is_number text.now) }
+    requires { is_number text.now ≡ true }
     ensures exact { result ≡ number_of_text most text.now }
     ensures range { IfSome result (λ n. n ≤ most) }
 {
     match text.parse::<u16>() {
-        Ok(number) => {
-            if number <= most {
-                Some(number)
-            } else {
-                None
-            }
-        }
+        Ok(number) => { if number <= most { Some(number) } else { None } }
         Err(_) => None,
     }
 }
