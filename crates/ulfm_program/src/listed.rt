@@ -17,8 +17,10 @@ use ulfm_job::Clause;
 use ulfm_json::Form;
 use ulfm_outcomes::{Unmet, first_unmet, list_in, outcomes, some_never_end};
 use ulfm_reach::{Reach, Reached, Watch};
-use ulfm_reader::{ReadJob, Reading};
-use ulfm_replies::{DONE, ListOptions, NOT_EXPECTED, PAST_LIMIT, Reply, UNFINISHED, refusal};
+use ulfm_reader::Reading;
+use ulfm_replies::{
+    DONE, ListOptions, NOT_EXPECTED, PAST_LIMIT, Reply, UNFINISHED, asked_at, names_at,
+};
 use ulfm_script::Job;
 
 /// The reply of `outcomes` with these options, and perhaps with answers that a schedule is to show. `watch` is told how far it is.
@@ -48,13 +50,15 @@ fn outcomes_reply<W: Watch>(
 ) -> Result<Reply, AllocError>
     ensures { IfOk result (λ r. IsOutcomesReply form options bytes.now r.status (string_bytes r.text)) }
 {
-    let asked = match Reading::read(alloc, bytes) {
+    let read = asked_at(alloc, form, options.place, bytes)?;
+    let asked = match read {
         Ok(asked) => asked,
-        Err(fault) => return refusal(alloc, form, fault),
+        Err(reply) => return Ok(reply),
     };
     let limit = options.limit as usize;
     let reach = outcomes(alloc, &asked.job, limit, watch)?;
-    let text = list_in(alloc, form, bytes, &asked.job, &reach, limit)?;
+    let names = names_at(options.place, bytes);
+    let text = list_in(alloc, form, names, &asked.job, &reach, limit)?;
     match &reach {
         Reach::All(reached) => judged(alloc, form, options, &asked, reached, text, watch),
         Reach::More => Ok(Reply {
