@@ -2,8 +2,8 @@
 //! before it calls one.
 //!
 //! C holds a process by a [`Handle`](handle::Handle). An export takes the process out, calls it, and puts it back. Each answers a code: 0, the
-//! number of a refusal, 16 where the handle has no process, 17 where nothing came yet, 18 where a receive pends. The definitions are in
-//! specs/Calls.antt.
+//! number of a refusal, 16 where the handle has no process, 17 where nothing came yet, 18 where a receive pends. A refusal changes nothing and
+//! writes nothing. What each does is a definition in specs/, by subject; specs/Calls.antt has what they share.
 #![tactic(auto)]
 
 mod communicators;
