@@ -1,5 +1,5 @@
 -- What the words of a command line ask for.
-use Rattle.std.specs.Prelude.{◌≡◌, ◌<◌, ◌≤◌, ◌⊎◌, ⊤, ℕ, Bool, List, [], ◌∷◌, Option, Some, None, is_some, not, option_map, codes, true, false, IfSome, unwrap_or, if◌then◌else◌}
+use Rattle.std.specs.Prelude.{◌≡◌, ◌<◌, ◌≤◌, ◌⊎◌, ⊤, ℕ, Bool, List, [], ◌∷◌, Option, Some, None, option_map, codes, true, false, IfSome, unwrap_or, if◌then◌else◌}
 use Rattle.std.specs.Option.{option_and_then, option_map_or}
 use Rattle.std.specs.Str.{bytes_eq}
 use Rattle.std.specs.Str.Parse.{digits_value, without_leading_plus}
@@ -132,17 +132,9 @@ draw_app = of_stopped (of_pictures (with_rule (new_app (codes "draw")) turns_rul
 abbrev pub most_stops : ℕ
 most_stops = 2
 
--- the most threads that `--threads` can ask for
-abbrev pub most_threads : ℕ
-most_threads = 64
-
 -- the option `--stops`
 abbrev pub stops_rule : Rule
 stops_rule = number_rule (codes "stops") most_stops
-
--- a command with the options of places: `--stops` and `--threads`
-abbrev pub of_places : App → App
-of_places app = with_rule (with_rule app stops_rule) (number_rule (codes "threads") most_threads)
 
 -- the command `places` with its option
 abbrev pub places_app : App
@@ -150,7 +142,7 @@ places_app = of_jobs (with_rule (new_app (codes "places")) stops_rule)
 
 -- the command `outcomes` with its options
 abbrev pub outcomes_app : App
-outcomes_app = of_stopped (of_places (of_schedules (with_rule (with_rule (with_rule (with_rule (with_rule (new_app (codes "outcomes")) show_rule) brief_rule) strict_rule) (number_rule (codes "limit") most_states)) progress_rule)))
+outcomes_app = of_stopped (of_schedules (with_rule (with_rule (with_rule (with_rule (with_rule (new_app (codes "outcomes")) show_rule) brief_rule) strict_rule) (number_rule (codes "limit") most_states)) progress_rule))
 
 -- the whole command line
 abbrev pub tool_app : App
@@ -230,34 +222,16 @@ stops_in rows = number_given most_stops (first_of (codes "stops") rows)
 abbrev pub stops_wanted : List Row → ℕ
 stops_wanted rows = unwrap_or (stops_in rows) 1
 
--- the number of threads of `--threads`, where it is given
-abbrev pub threads_in : List Row → Option ℕ
-threads_in rows = number_given most_threads (first_of (codes "threads") rows)
-
--- the option of this name was given
-abbrev pub is_given : Text → List Row → Bool
-is_given name rows = is_some (first_of name rows)
-
--- the options of places go together: `--stops` without `--stop`, and `--threads` with `--stops`
-abbrev pub are_together : List Row → Bool
-are_together rows = if is_given (codes "stops") rows then not (is_given (codes "stop") rows) else not (is_given (codes "threads") rows)
-
 -- what the options of `outcomes` ask for, with a place of stops
 abbrev pub list_options : List Row → Place → ListOptions
 list_options rows place = record {
   place = place;
-  stops = stops_in rows;
-  threads = threads_in rows;
   limit = limit_in rows;
   is_strict = is_strict rows;
   wants_progress = wants_progress rows;
   is_brief = is_flagged (codes "brief") rows;
   drawn = drawn_in rows;
 }
-
--- what `outcomes` is asked for, where its options go together
-abbrev pub listed : List Row → Place → Option Wanted
-listed rows place = if are_together rows then Some (Outcomes (list_options rows place)) else None
 
 -- the command of a name, with its options and a place of stops
 abbrev pub named_at : Text → List Row → Place → Option Wanted
@@ -266,7 +240,7 @@ named_at name rows place =
     else (if bytes_eq name (codes "replay") then Some (Replay (is_strict rows) (turns_in rows) place)
     else (if bytes_eq name (codes "run") then option_map Run (run_options rows place)
     else (if bytes_eq name (codes "sweep") then Some Sweep
-    else (if bytes_eq name (codes "outcomes") then listed rows place
+    else (if bytes_eq name (codes "outcomes") then Some (Outcomes (list_options rows place))
     else (if bytes_eq name (codes "places") then Some (Places (stops_wanted rows))
     else (if bytes_eq name (codes "draw") then Some (Draw (style_of rows) (turns_in rows) place)
     else None))))))
@@ -333,23 +307,11 @@ AreInRange options = AreTurns options.turns × IfSome options.repeat (λ n. (0 <
 abbrev pub IsLimit : ℕ → Type 0
 IsLimit limit = (0 < limit) × (limit ≤ most_states)
 
--- the number of stops is one that a place can have
-abbrev pub AreStops : Option ℕ → Type 0
-AreStops stops = IfSome stops (λ n. (0 < n) × (n ≤ most_stops))
-
--- the number of threads is in its range
-abbrev pub AreThreads : Option ℕ → Type 0
-AreThreads threads = IfSome threads (λ n. (0 < n) × (n ≤ most_threads))
-
--- the numbers of the options of `outcomes` are in their ranges
-abbrev pub AreListed : ListOptions → Type 0
-AreListed options = IsLimit options.limit × AreStops options.stops × AreThreads options.threads
-
 -- the numbers of what the words ask for are in their ranges
 abbrev pub HasRanges : Wanted → Type 0
 HasRanges (Replay is_strict turns place) = AreTurns turns
 HasRanges (Run options) = AreInRange options
-HasRanges (Outcomes options) = AreListed options
+HasRanges (Outcomes options) = IsLimit options.limit
 HasRanges (Places stops) = (0 < stops) × (stops ≤ most_stops)
 HasRanges (Draw style turns place) = AreTurns turns
 HasRanges _ = ⊤
