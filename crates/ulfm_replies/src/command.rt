@@ -8,7 +8,7 @@ use crate::number::number_given;
 use crate::options::{MOST_RUNS, MOST_STATES, MOST_TURNS, USUAL_STATES};
 use crate::placed::{place_in, stops_wanted};
 use crate::subcommands::command_line;
-use crate::unmeant::unmeant_text;
+use crate::unmeant::unmeant;
 use clap::error::ErrorKind;
 use clap::{ArgMatches, Command, Error};
 use std::alloc::{AllocError, Global};
@@ -126,21 +126,6 @@ pub fn asked_of<'a, S: AsStr>(alloc: Global, words: &'a [S]) -> Result<Asked<'a>
         }),
         None => Err(unmeant(alloc, &mut command, &matches)?),
     }
-}
-
-/// The error of a command line that clap takes, and that asks for nothing all the same.
-fn unmeant(
-    alloc: Global,
-    command: &mut Command<'_>,
-    matches: &ArgMatches<'_>,
-) -> Result<Error, AllocError>
-    ensures { IfOk result (λ error. kind_of error ≡ ErrorKind.InvalidValue) }
-{
-    let message = match matches.subcommand() {
-        Some((_, options)) => unmeant_text(alloc, options)?,
-        None => String::new(alloc),
-    };
-    command.error(ErrorKind::InvalidValue, message.as_str())
 }
 
 /// What the words ask for, by what was found in them.

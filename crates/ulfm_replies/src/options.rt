@@ -1,7 +1,7 @@
 //! The options of the commands.
 ghost use Rattle.std.specs.Prelude.{◌≡◌, false};
 ghost use Rattle.clap.specs.Words.{rule_of};
-ghost use Rattle.ulfm_replies.specs.CommandLine.{brief_rule, carrier_rule, flag_rule, json_rule, file_rule, number_rule, progress_rule, show_rule, stop_rule, stops_rule, strict_rule, turns_rule};
+ghost use Rattle.ulfm_replies.specs.Rules.{brief_rule, carrier_rule, flag_rule, json_rule, file_rule, number_rule, progress_rule, show_rule, stop_rule, stops_rule, strict_rule, turns_rule};
 
 use clap::builder::ValueParser;
 use clap::{Arg, ArgAction};
