@@ -1,14 +1,14 @@
 //! The command line.
 ghost use Rattle.std.specs.Prelude.{◌≡◌, [], codes, Some, map, option_map, unwrap_or, IfOk, IfSome};
 ghost use Rattle.clap.specs.Words.{FailsBy, all_of, first_of, found_of, kind_of, rows_of, subcommand_rows_of};
-ghost use Rattle.ulfm_replies.specs.CommandLine.{AreInRange, AreListed, HasRanges, asked, carrier_named, IsLimit, faults, form_asked, form_in, form_of, AreTurns, files_in, limit_in, list_options, listed, meant, named, named_at, run_options, show_asked, show_in, turns_in};
+ghost use Rattle.ulfm_replies.specs.CommandLine.{AreInRange, HasRanges, asked, carrier_named, IsLimit, faults, form_asked, form_in, form_of, AreTurns, files_in, limit_in, list_options, meant, named, named_at, run_options, show_asked, show_in, turns_in};
 
 use crate::flagged::{drawn_in, is_flagged, is_strict, style_of, wants_progress};
 use crate::number::number_given;
 use crate::options::{MOST_RUNS, MOST_STATES, MOST_TURNS, USUAL_STATES};
-use crate::placed::{are_together, place_in, stops_in, stops_wanted, threads_in};
+use crate::placed::{place_in, stops_wanted};
 use crate::subcommands::command_line;
-use crate::unmeant::unmeant_text;
+use crate::unmeant::unmeant;
 use clap::error::ErrorKind;
 use clap::{ArgMatches, Command, Error};
 use std::alloc::{AllocError, Global};
@@ -48,10 +48,6 @@ pub struct RunOptions {
 pub struct ListOptions {
     /// Where ranks stop, besides the stops of the job.
     pub place: Place,
-    /// At how many stops at most the job is looked at, 1 or 2, each at any place, where it is to be at all of them.
-    pub stops: Option<u8>,
-    /// By how many threads, 1 to 64: as many as there are processors where it is left out.
-    pub threads: Option<u8>,
     /// The most states that are looked at, 1 to 100,000,000.
     pub limit: u32,
     /// Whether a step that never ends has a status of its own.
@@ -132,21 +128,6 @@ pub fn asked_of<'a, S: AsStr>(alloc: Global, words: &'a [S]) -> Result<Asked<'a>
     }
 }
 
-/// The error of a command line that clap takes, and that asks for nothing all the same.
-fn unmeant(
-    alloc: Global,
-    command: &mut Command<'_>,
-    matches: &ArgMatches<'_>,
-) -> Result<Error, AllocError>
-    ensures { IfOk result (λ error. kind_of error ≡ ErrorKind.InvalidValue) }
-{
-    let message = match matches.subcommand() {
-        Some((_, options)) => unmeant_text(alloc, options)?,
-        None => String::new(alloc),
-    };
-    command.error(ErrorKind::InvalidValue, message.as_str())
-}
-
 /// What the words ask for, by what was found in them.
 fn wanted_in(matches: &ArgMatches<'_>) -> Option<Wanted>
     ensures exact { result ≡ meant (subcommand_rows_of matches.now) }
@@ -184,7 +165,7 @@ fn named_at(name: &str, options: &ArgMatches<'_>, place: Place) -> Option<Wanted
             None => None,
         },
         "sweep" => Some(Wanted::Sweep),
-        "outcomes" => listed(options, place),
+        "outcomes" => Some(Wanted::Outcomes(list_options(options, place))),
         "places" => Some(Wanted::Places(stops_wanted(options))),
         "draw" => Some(Wanted::Draw {
             style: style_of(options),
@@ -192,18 +173,6 @@ fn named_at(name: &str, options: &ArgMatches<'_>, place: Place) -> Option<Wanted
             place,
         }),
         _ => None,
-    }
-}
-
-/// What `outcomes` is asked for, where its options go together.
-fn listed(options: &ArgMatches<'_>, place: Place) -> Option<Wanted>
-    ensures exact { result ≡ listed (rows_of (found_of options.now)) place }
-    ensures ranges { IfSome result HasRanges }
-{
-    if are_together(options) {
-        Some(Wanted::Outcomes(list_options(options, place)))
-    } else {
-        None
     }
 }
 
@@ -228,12 +197,10 @@ fn run_options(options: &ArgMatches<'_>, place: Place) -> Option<RunOptions>
 /// What the options of `outcomes` ask for.
 fn list_options(options: &ArgMatches<'_>, place: Place) -> ListOptions
     ensures exact { result ≡ list_options (rows_of (found_of options.now)) place }
-    ensures ranges { AreListed result }
+    ensures range { IsLimit result.limit }
 {
     ListOptions {
         place,
-        stops: stops_in(options),
-        threads: threads_in(options),
         limit: limit_in(options),
         is_strict: is_strict(options),
         wants_progress: wants_progress(options),
