@@ -1,0 +1,2 @@
+-- What private functions and proofs cite of the lists of places.
+pub mod Parts

@@ -1,0 +1,15 @@
+//! What is kept of the list of a place.
+
+use ulfm_reach::Rows;
+use ulfm_stops::Place;
+
+/// What is kept of the list of all outcomes of a job at a place.
+#[derive(Drop)]
+pub struct Listed {
+    /// The place.
+    pub place: Place,
+    /// How many states are reached there.
+    pub states: usize,
+    /// The rows of the list, which number steps as the job at the place does.
+    pub found: Rows,
+}

@@ -1,0 +1,38 @@
+//! Who is told how far the lists are.
+
+use ulfm_reach::Watch;
+use ulfm_stops::Place;
+
+/// Who is told how far the lists of places are, by threads that go on at once. Nothing that is found depends on it.
+pub trait Onlooker {
+    /// So many more states have been looked at, at this place.
+    fn see(&self, place: Place, states: usize);
+}
+
+/// Who tells an onlooker of one place.
+#[derive(Drop)]
+pub(crate) struct Seen<'a, L> {
+    onlooker: &'a L,
+    place: Place,
+    /// How many states were told of.
+    told: usize,
+}
+
+impl<'a, L: Onlooker> Seen<'a, L> {
+    /// Who tells an onlooker of this place, of no states so far.
+    pub(crate) fn of(onlooker: &'a L, place: Place) -> Seen<'a, L> {
+        Seen {
+            onlooker,
+            place,
+            told: 0,
+        }
+    }
+}
+
+impl<L: Onlooker> Watch for Seen<'_, L> {
+    fn see(&mut self, looked_at: usize, _found: usize) {
+        self.onlooker
+            .see(self.place, looked_at.saturating_sub(self.told));
+        self.told = looked_at;
+    }
+}

@@ -1,0 +1,87 @@
+//! The lists of places, by threads.
+ghost use Rattle.std.specs.Prelude.{◌≡◌, ◌<◌, All, IfOk};
+ghost use Rattle.ulfm_stops.specs.Place.{IsPlaceOf};
+ghost use Rattle.ulfm_places.specs.Lists.{AreLists};
+ghost use Rattle.ulfm_places.specs.inside.Parts.{AreParts};
+
+use crate::listing::list_part;
+use crate::lists::Lists;
+use crate::onlooker::Onlooker;
+use std::alloc::Global;
+use std::thread;
+use std::thread::Threads;
+use ulfm_base::OutOfMemory;
+use ulfm_job::Job;
+use ulfm_stops::Place;
+
+
+
+/// The lists of all outcomes of a job at these places, in their order, up to the first where the job has more states than the limit. So
+/// many threads share the places. The onlooker is told how far they are.
+///
+/// # Errors
+///
+/// `OutOfMemory` where a growth was refused, or the job at a place would have more than 256 steps.
+pub fn list_places<R, L>(
+    rt: &R,
+    alloc: Global,
+    job: &Job,
+    places: &[Place],
+    threads: u8,
+    limit: usize,
+    onlooker: &L,
+) -> Result<Lists, OutOfMemory>
+where
+    R: Threads + Sync,
+    L: Onlooker + Sync,
+    requires inside { All (IsPlaceOf job.now) places.now }
+    requires threads { 0 < threads }
+    ensures { IfOk result (λ lists. AreLists job.now limit places.now lists.listed.items lists.past_limit) }
+{
+    let size = places.len().div_ceil(threads as usize).max(1);
+    let parts = list_parts(rt, alloc, job, places, size, limit, onlooker)?;
+    joined(alloc, parts)
+}
+
+/// What comes of the lists of each part of so many places.
+fn list_parts<R, L>(
+    rt: &R,
+    alloc: Global,
+    job: &Job,
+    places: &[Place],
+    size: usize,
+    limit: usize,
+    onlooker: &L,
+) -> Result<Vec<Result<Lists, OutOfMemory>>, OutOfMemory>
+where
+    R: Threads + Sync,
+    L: Onlooker + Sync,
+    requires inside { All (IsPlaceOf job.now) places.now }
+    requires some { 0 < size }
+    ensures { IfOk result (λ parts. AreParts job.now limit places.now parts.items) }
+{
+    thread::map_chunks(rt, alloc, places, size, &|_start, part| {
+        list_part(alloc, job, part, limit, onlooker)
+    })
+}
+
+/// The lists of all parts, one part after another.
+fn joined(alloc: Global, parts: Vec<Result<Lists, OutOfMemory>>) -> Result<Lists, OutOfMemory>
+    ensures { IfOk result (λ lists. (job : _) (limit : _) (places : _) → AreParts job limit places parts.items → AreLists job limit places lists.listed.items lists.past_limit) }
+{
+    let mut listed = Vec::new(alloc);
+    for part in parts {
+        let mut lists = part?;
+        listed.append(&mut lists.listed)?;
+        if lists.past_limit.is_some() {
+            return Ok(Lists {
+                listed,
+                past_limit: lists.past_limit,
+            });
+        }
+    }
+    Ok(Lists {
+        listed,
+        past_limit: None,
+    })
+}
