@@ -2,7 +2,6 @@
 use Rattle.std.specs.Prelude.{ℕ, ◌-◌, ◌==◌, ◌&&◌, nat_lt, if◌then◌else◌, length}
 use Rattle.std.specs.List.{fold}
 use Rattle.ulfm_job.specs.Job.{JobView, moved_number, script_at}
-use Rattle.ulfm_job.specs.declared.clause.Clause.{Clause}
 use Rattle.ulfm_stops.specs.Place.{stops_of}
 use Rattle.ulfm_stops.specs.declared.place.Place.{Place}
 use Rattle.ulfm_stops.specs.declared.stop.Stop.{Stop}
@@ -14,10 +13,6 @@ moved_by n r k stop = if stop.rank == r then moved_number stop.at n k else k
 -- the number that the step k of the rank r, as the file numbers it, has in the job at the place
 abbrev pub number_at : Place → JobView → ℕ → ℕ → ℕ
 number_at place j r k = fold (moved_by (length (script_at j r)) r) k (stops_of place)
-
--- what a clause says of the file's steps, of the job at the place
-abbrev pub clause_at : Place → JobView → Clause → Clause
-clause_at place j c = record c { at = number_at place j c.rank c.at; step = number_at place j c.rank c.step }
 
 -- the number of a step of the rank r before the stop was there, if it isn't the stop
 abbrev pub filed_by : ℕ → ℕ → Stop → ℕ

@@ -22,7 +22,8 @@ mod union;
 
 pub use listed::Listed;
 pub use lists::Lists;
-pub use numbers::{clauses_at, filed_number};
+pub use numbers::filed_number;
 pub use objects::lists_in;
 pub use onlooker::Onlooker;
 pub use threads::list_places;
+pub use union::some_never_ends;

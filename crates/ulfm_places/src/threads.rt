@@ -2,7 +2,7 @@
 ghost use Rattle.std.specs.Prelude.{◌≡◌, ◌<◌, All, IfOk};
 ghost use Rattle.ulfm_stops.specs.Place.{IsPlaceOf};
 ghost use Rattle.ulfm_places.specs.Lists.{AreLists};
-ghost use Rattle.ulfm_places.specs.inside.Parts.{AreParts};
+ghost use Rattle.ulfm_places.specs.inside.Parts.{AreJoined, AreParts, IsPart};
 
 use crate::listing::list_part;
 use crate::lists::Lists;
@@ -38,9 +38,18 @@ where
     requires threads { 0 < threads }
     ensures { IfOk result (λ lists. AreLists job.now limit places.now lists.listed.items lists.past_limit) }
 {
-    let size = places.len().div_ceil(threads as usize).max(1);
+    let size = part_size(places.len(), threads);
     let parts = list_parts(rt, alloc, job, places, size, limit, onlooker)?;
     joined(alloc, parts)
+}
+
+/// How many places a part has, of so many parts at most.
+fn part_size(places: usize, threads: u8) -> usize
+    requires { 0 < threads }
+    ensures { 0 < result }
+{
+    let size = places.div_ceil(threads as usize);
+    if size == 0 { 1 } else { size }
 }
 
 /// What comes of the lists of each part of so many places.
@@ -60,14 +69,16 @@ where
     requires some { 0 < size }
     ensures { IfOk result (λ parts. AreParts job.now limit places.now parts.items) }
 {
-    thread::map_chunks(rt, alloc, places, size, &|_start, part| {
-        list_part(alloc, job, part, limit, onlooker)
-    })
+    let list = |_start: usize, part: &[Place]| -> Result<Lists, OutOfMemory>
+        requires { All (IsPlaceOf job.now) part.now }
+        ensures { IsPart job.entry.now limit part.entry.now result }
+    { list_part(alloc, job, part, limit, onlooker) };
+    thread::map_chunks(rt, alloc, places, size, &list)
 }
 
 /// The lists of all parts, one part after another.
 fn joined(alloc: Global, parts: Vec<Result<Lists, OutOfMemory>>) -> Result<Lists, OutOfMemory>
-    ensures { IfOk result (λ lists. (job : _) (limit : _) (places : _) → AreParts job limit places parts.items → AreLists job limit places lists.listed.items lists.past_limit) }
+    ensures { IfOk result (λ lists. AreJoined parts.items lists.listed.items lists.past_limit) }
 {
     let mut listed = Vec::new(alloc);
     for part in parts {

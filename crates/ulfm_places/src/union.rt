@@ -103,7 +103,7 @@ pub(crate) fn places_with(
 }
 
 /// Whether some step never ends at some of these places.
-pub(crate) fn some_never_ends(listed: &[Listed]) -> bool
+pub fn some_never_ends(listed: &[Listed]) -> bool
     ensures { result ≡ some_never_ends listed.now }
 {
     listed.iter().any(|one| some_never_end(&one.found))

@@ -24,3 +24,16 @@ IsPart j limit places (Err fault) = ⊤
 abbrev pub AreParts : JobView → ℕ → List Place → List (Result Lists AllocError) → Type 0
 AreParts j limit places [] = places ≡ []
 AreParts j limit places (part ∷ parts) = (front rest : List Place) × (places ≡ front ++ rest) × IsPart j limit front part × AreParts j limit rest parts
+
+-- whatever the lists of the rest of the places are, behind these they are those of all
+abbrev pub GoesOn : JobView → ℕ → List Place → List Listed → List Place → Type 0
+GoesOn j limit places listed rest = (more : List Listed) (past : Option Place) → AreLists j limit rest more past → AreLists j limit places (listed ++ more) past
+
+-- the lists of the places that are parted so
+abbrev pub AreJoined : List (Result Lists AllocError) → List Listed → Option Place → Type 0
+AreJoined parts listed past = (j : JobView) (limit : ℕ) (places : List Place) → AreParts j limit places parts → AreLists j limit places listed past
+
+-- the lists of the first of them, and what is left of the parts and of the places
+abbrev pub AreJoinedSoFar : List (Result Lists AllocError) → List Listed → List (Result Lists AllocError) → Type 0
+AreJoinedSoFar parts listed left =
+    (j : JobView) (limit : ℕ) (places : List Place) → AreParts j limit places parts → (rest : List Place) × GoesOn j limit places listed rest × AreParts j limit rest left

@@ -1,0 +1,4 @@
+pub mod Joining
+pub mod Parting
+pub mod Endings
+pub mod Writable

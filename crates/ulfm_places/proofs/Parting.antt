@@ -1,0 +1,32 @@
+-- Places in parts of one size.
+use Rattle.std.proofs.Common.{◌≡◌, ℕ, zero, suc, ◌+◌, ◌*◌, ◌-◌, ◌<◌, ◌≤◌, List, [], ◌∷◌, ◌++◌, Result, length, take, drop, refl, ap, sym, subst, ◌∙◌, arith, length-drop, slice_index_or}
+use Rattle.std.proofs.lemmas.List.{drop-drop, take-append-drop}
+use Rattle.std.specs.Fork.{slice_chunk}
+use Rattle.core.specs.declared.alloc.AllocError.{AllocError}
+use Rattle.ulfm_job.specs.Job.{JobView}
+use Rattle.ulfm_stops.specs.declared.place.Place.{Place}
+use Rattle.ulfm_places.specs.inside.Parts.{AreParts, IsPart}
+use Rattle.ulfm_places.specs.declared.lists.Lists.{Lists}
+
+-- nothing is left of a list without length
+none_left : {X : Type 0} (xs : List X) → length xs ≤ 0 → xs ≡ []
+none_left [] none = refl
+none_left (x ∷ xs) some = absurd (omega (arith, some))
+
+module _ (j : JobView) (limit : ℕ) (xs : List Place) (size : ℕ) where
+  -- the places from a part on, by what each part came to
+  pub parted-from : (n : ℕ) (rs : List (Result Lists AllocError)) → ((k : ℕ) (d : Result Lists AllocError) → k < length rs → IsPart j limit (slice_chunk xs size (n + k)) (slice_index_or rs k d))
+      → length (drop (n * size) xs) ≤ length rs * size → AreParts j limit (drop (n * size) xs) rs
+  parted-from n [] each short = none_left (drop (n * size) xs) short
+  parted-from n (r ∷ rs) each short =
+      let next : n * size + size ≡ suc n * size = omega arith in
+      let here : n + 0 ≡ n = omega arith in
+      (take size (drop (n * size) xs), drop (suc n * size) xs,
+        sym (take-append-drop size (drop (n * size) xs)) ∙ ap (λ (ps : List Place). take size (drop (n * size) xs) ++ ps) (drop-drop size (n * size) xs ∙ ap (λ (m : ℕ). drop m xs) next),
+        subst (λ (m : ℕ). IsPart j limit (slice_chunk xs size m) r) here (each 0 r (omega arith)),
+        parted-from (suc n) rs (λ k d low. let same : n + suc k ≡ suc n + k = omega arith in subst (λ (m : ℕ). IsPart j limit (slice_chunk xs size m) (slice_index_or rs k d)) same (each (suc k) d (omega (arith, low)))) (omega (arith, short, length-drop (n * size) xs, length-drop (suc n * size) xs)))
+
+-- all places, by what each part came to
+pub parted : (j : JobView) (limit : ℕ) (xs : List Place) (size : ℕ) (rs : List (Result Lists AllocError)) → ((k : ℕ) (d : Result Lists AllocError) → k < length rs → IsPart j limit (slice_chunk xs size k) (slice_index_or rs k d))
+    → length xs ≤ length rs * size → AreParts j limit xs rs
+parted j limit xs size rs each short = parted-from j limit xs size 0 rs each short
