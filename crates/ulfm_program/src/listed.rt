@@ -7,7 +7,7 @@ ghost use Rattle.ulfm_reach.specs.declared.reach.Reach.TheVariants.{All};
 ghost use Rattle.ulfm_outcomes.specs.Outcomes.{IsList};
 ghost use Rattle.ulfm_outcomes.specs.Unmet.{Judges};
 ghost use Rattle.ulfm_program.specs.Outcomes.{IsJudged, IsListReply, IsOutcomesReply, list_status, row_in};
-ghost use Rattle.ulfm_program.specs.inside.Looking.{IsFirstRow, row_status, told_view};
+ghost use Rattle.ulfm_program.specs.inside.Looking.{HasList, IsFirstRow, row_status, told_view};
 
 use crate::looking::{look_for, look_for_row};
 use crate::shown::show_reply;
@@ -16,7 +16,7 @@ use std::alloc::{AllocError, Global};
 use ulfm_job::Clause;
 use ulfm_json::Form;
 use ulfm_outcomes::{Unmet, first_unmet, list_in, outcomes, some_never_end};
-use ulfm_reach::{Reach, Reached, Watch};
+use ulfm_reach::{Reach, Reached, Rows, Watch};
 use ulfm_reader::{ReadJob, Reading};
 use ulfm_replies::{DONE, ListOptions, NOT_EXPECTED, PAST_LIMIT, Reply, UNFINISHED, refusal};
 use ulfm_script::Job;
@@ -81,7 +81,7 @@ fn judged<W: Watch>(
         return unmet_reply(alloc, form, options, &asked.job, unmet, list, watch);
     }
     let rows = asked.never.as_slice();
-    match first_row(alloc, options, &asked.job, reached, rows, watch)? {
+    match first_row(alloc, options, &asked.job, &reached.found, rows, watch)? {
         Some(first) => row_reply(form, &first, list),
         None => Ok(Reply {
             status: list_status(options.is_strict, some_never_end(&reached.found)),
@@ -91,7 +91,7 @@ fn judged<W: Watch>(
 }
 
 /// The status of a list that has nothing else to tell.
-fn list_status(is_strict: bool, is_open: bool) -> u8
+pub(crate) fn list_status(is_strict: bool, is_open: bool) -> u8
     ensures { result ≡ list_status is_strict is_open }
 {
     if is_strict && is_open {
@@ -131,21 +131,21 @@ fn unmet_reply<W: Watch>(
 
 /// A row of `never` by its number, and what came of the search for it.
 #[derive(Drop)]
-struct FirstRow {
-    number: usize,
-    told: Told,
+pub(crate) struct FirstRow {
+    pub(crate) number: usize,
+    pub(crate) told: Told,
 }
 
 /// The first row whose answers all come together, or that can't be looked for within the limit.
-fn first_row<W: Watch>(
+pub(crate) fn first_row<W: Watch>(
     alloc: Global,
     options: ListOptions,
     job: &Job,
-    reached: &Reached,
+    found: &Rows,
     rows: &[Vec<Clause>],
     watch: &mut W,
 ) -> Result<Option<FirstRow>, AllocError>
-    requires { IsList job.now options.limit (All reached.now) }
+    requires { HasList job.now options.limit found.now }
     ensures { IfOk result (IsFirstRow job.now (rows_of rows.now) options.is_brief options.limit) }
 {
     let limit = options.limit as usize;
@@ -153,7 +153,7 @@ fn first_row<W: Watch>(
         if let Some(told) = look_for_row(
             alloc,
             job,
-            reached,
+            found,
             row.as_slice(),
             options.is_brief,
             limit,
@@ -178,7 +178,7 @@ fn row_reply(form: Form, first: &FirstRow, list: String) -> Result<Reply, AllocE
 }
 
 /// The status of a list below which this is told of a row.
-fn row_status(told: &Told) -> u8
+pub(crate) fn row_status(told: &Told) -> u8
     ensures { result ≡ row_status (told_view told.now) }
 {
     match told {

@@ -72,7 +72,7 @@ fn push_unmet_json(text: &mut String, unmet: Unmet) -> Result<(), AllocError>
 }
 
 /// The step, as an object, and a comma.
-fn push_place(text: &mut String, unmet: Unmet) -> Result<(), AllocError>
+pub(crate) fn push_place(text: &mut String, unmet: Unmet) -> Result<(), AllocError>
     ensures { OnOk result (string_bytes text.new ≡ string_bytes text.old ++ place_json unmet) }
 {
     let rank = unmet.rank;
@@ -106,7 +106,7 @@ fn push_row_words(text: &mut String, number: usize) -> Result<(), AllocError>
 }
 
 /// What was told, in words.
-fn push_words(text: &mut String, told: &Told) -> Result<(), AllocError>
+pub(crate) fn push_words(text: &mut String, told: &Told) -> Result<(), AllocError>
     ensures { OnOk result (string_bytes text.new ≡ string_bytes text.old ++ told_words (told_view told.now)) }
 {
     match told {
@@ -116,7 +116,7 @@ fn push_words(text: &mut String, told: &Told) -> Result<(), AllocError>
 }
 
 /// What was told, as the key of an object.
-fn push_key(text: &mut String, told: &Told) -> Result<(), AllocError>
+pub(crate) fn push_key(text: &mut String, told: &Told) -> Result<(), AllocError>
     ensures { OnOk result (string_bytes text.new ≡ string_bytes text.old ++ told_json (told_view told.now)) }
 {
     match told {

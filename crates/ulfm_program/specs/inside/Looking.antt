@@ -4,7 +4,9 @@ use Rattle.std.specs.List.{list_all, list_any}
 use Rattle.ulfm_job.specs.Begins.{begins}
 use Rattle.ulfm_job.specs.declared.clause.Clause.{Clause}
 use Rattle.ulfm_job.specs.Job.{JobView}
+use Rattle.ulfm_reach.specs.declared.reach.Reach.TheVariants.{All}
 use Rattle.ulfm_outcomes.specs.Goals.{AreOfClauses, IsPossible}
+use Rattle.ulfm_outcomes.specs.Outcomes.{IsList}
 use Rattle.ulfm_outcomes.specs.declared.goals.Goals.{Goals}
 use Rattle.ulfm_outcomes.specs.declared.open_step.OpenStep.{OpenStep}
 use Rattle.ulfm_draw.specs.declared.style.Style.{Style}
@@ -27,6 +29,10 @@ IsLook job goals is_brief limit (Some told) = IsTold job goals is_brief limit (t
 -- the same for the answers of a row
 abbrev pub IsLookForRow : JobView → List Clause → Bool → ℕ → Option Kept → Type 0
 IsLookForRow job row is_brief limit look = (goals : Goals) × AreOfClauses row goals × IsLook job goals is_brief limit look
+
+-- these are the rows of a list of all outcomes of the job
+abbrev pub HasList : JobView → ℕ → List (List ℕ) → Type 0
+HasList job limit found = (keys : List (List ℕ)) × IsList job limit (All (record { keys = keys; found = found }))
 
 -- the row of a list tells of an answer that begins as the clause says
 abbrev pub tells : Clause → List ℕ → Bool

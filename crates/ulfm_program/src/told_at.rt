@@ -1,0 +1,139 @@
+//! What is told of a place.
+ghost use Rattle.std.specs.Prelude.{◌≡◌, ◌++◌, OnOk, string_bytes};
+ghost use Rattle.ulfm_program.specs.EachPlace.{at_json, more_at, row_at, row_at_words, unmet_at, unmet_at_words};
+ghost use Rattle.ulfm_program.specs.ShowEach.{schedule_at, told_at};
+ghost use Rattle.ulfm_program.specs.inside.Looking.{told_view};
+
+use crate::told::{Told, push_key, push_place, push_words};
+use std::alloc::AllocError;
+use ulfm_json::Form;
+use ulfm_outcomes::Unmet;
+use ulfm_replies::Place;
+
+/// That a step isn't answered as it expects at a place, and what was told of it.
+pub fn push_unmet_at(
+    text: &mut String,
+    form: Form,
+    place: Place,
+    unmet: Unmet,
+    told: &Told,
+) -> Result<(), AllocError>
+    ensures { OnOk result (string_bytes text.new ≡ string_bytes text.old ++ unmet_at form place unmet (told_view told.now)) }
+{
+    match form {
+        Form::Words => {
+            push_unmet_at_words(text, place, unmet)?;
+            push_words(text, told)
+        }
+        Form::Json => {
+            text.push_str("{\"not_as_expected\":")?;
+            push_place(text, unmet)?;
+            push_at(text, place)?;
+            push_key(text, told)?;
+            text.push_str("}\n")
+        }
+    }
+}
+
+/// That a step isn't answered as it expects at a place, in words.
+fn push_unmet_at_words(text: &mut String, place: Place, unmet: Unmet) -> Result<(), AllocError>
+    ensures { OnOk result (string_bytes text.new ≡ string_bytes text.old ++ unmet_at_words place unmet) }
+{
+    let rank = unmet.rank;
+    let step = unmet.step;
+    write!(text, "not as expected: {rank}.{step} at {place}\n")
+}
+
+/// The key of a place, and a comma.
+fn push_at(text: &mut String, place: Place) -> Result<(), AllocError>
+    ensures { OnOk result (string_bytes text.new ≡ string_bytes text.old ++ at_json place) }
+{
+    write!(text, "\"at\":\"{place}\",")
+}
+
+/// A row of `never` by its number whose answers come together at a place, and what was told of it.
+pub fn push_row_at(
+    text: &mut String,
+    form: Form,
+    place: Place,
+    number: usize,
+    told: &Told,
+) -> Result<(), AllocError>
+    ensures { OnOk result (string_bytes text.new ≡ string_bytes text.old ++ row_at form place number (told_view told.now)) }
+{
+    match form {
+        Form::Words => {
+            push_row_at_words(text, place, number)?;
+            push_words(text, told)
+        }
+        Form::Json => {
+            write!(text, "{{\"never\":{number},")?;
+            push_at(text, place)?;
+            push_key(text, told)?;
+            text.push_str("}\n")
+        }
+    }
+}
+
+/// That all answers of a row come together at a place, by its number, in words.
+fn push_row_at_words(text: &mut String, place: Place, number: usize) -> Result<(), AllocError>
+    ensures { OnOk result (string_bytes text.new ≡ string_bytes text.old ++ row_at_words place number) }
+{
+    write!(text, "come together: never[{number}] at {place}\n")
+}
+
+/// The line that there are more states than the limit at a place.
+pub fn push_more_at(
+    text: &mut String,
+    form: Form,
+    limit: usize,
+    place: Place,
+) -> Result<(), AllocError>
+    ensures { OnOk result (string_bytes text.new ≡ string_bytes text.old ++ more_at form limit place) }
+{
+    match form {
+        Form::Words => write!(text, "more than {limit} states at {place}\n"),
+        Form::Json => write!(
+            text,
+            "{{\"more_states_than\":{limit},\"at\":\"{place}\"}}\n"
+        ),
+    }
+}
+
+/// What was told of a search at a place.
+pub fn push_told_at(
+    text: &mut String,
+    form: Form,
+    place: Place,
+    told: &Told,
+) -> Result<(), AllocError>
+    ensures { OnOk result (string_bytes text.new ≡ string_bytes text.old ++ told_at form place (told_view told.now)) }
+{
+    match told {
+        Told::Many(limit) => push_more_at(text, form, *limit, place),
+        Told::Schedule(_) => push_schedule_at(text, form, place, told),
+    }
+}
+
+/// A schedule at a place, below the line of the place.
+fn push_schedule_at(
+    text: &mut String,
+    form: Form,
+    place: Place,
+    told: &Told,
+) -> Result<(), AllocError>
+    ensures { OnOk result (string_bytes text.new ≡ string_bytes text.old ++ schedule_at form place (told_view told.now)) }
+{
+    match form {
+        Form::Words => {
+            write!(text, "at {place}\n")?;
+            push_words(text, told)
+        }
+        Form::Json => {
+            text.push_str("{")?;
+            push_at(text, place)?;
+            push_key(text, told)?;
+            text.push_str("}\n")
+        }
+    }
+}
