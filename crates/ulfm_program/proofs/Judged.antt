@@ -7,28 +7,26 @@ use Rattle.std.specs.declared.alloc.Global.{Global}
 use Rattle.ulfm_reader.specs.JobText.{rows_of}
 use Rattle.ulfm_job.specs.Job.{JobView}
 use Rattle.ulfm_job.specs.declared.clause.Clause.{Clause}
-use Rattle.ulfm_reader.specs.Goals.{goals_of_bytes}
-use Rattle.ulfm_reader.specs.JobText.{job_of_bytes}
-use Rattle.ulfm_reader.specs.Plan.{plan_of}
 use Rattle.ulfm_json.specs.declared.form.Form.{Form}
+use Rattle.ulfm_replies.specs.Stopped.{Asked, IsAskedAt}
 use Rattle.ulfm_replies.specs.declared.command.ListOptions.{ListOptions}
 use Rattle.ulfm_outcomes.specs.Goals.{AreOfClauses}
 use Rattle.ulfm_outcomes.specs.declared.goals.Goals.{Goals}
-use Rattle.ulfm_program.specs.Outcomes.{IsJudged, IsShowReply, NeverComes, NoneComes, many, nowhere, row_in, shown, together, told_in, too_many, unsearched}
+use Rattle.ulfm_program.specs.Outcomes.{IsJudged, IsShowReply, NeverComes, NoneComes, goals_asked, many, nowhere, row_in, shown, together, told_in, too_many, unsearched}
 use Rattle.ulfm_program.specs.declared.listed.FirstRow.{FirstRow}
 use Rattle.ulfm_program.specs.declared.told.Told.{Told as Kept}
 use Rattle.ulfm_program.specs.declared.told.Told.TheVariants as kept
 use Rattle.ulfm_program.specs.inside.Looking.{IsFirstRow, IsLook, IsLookText, look_status, row_status, told_view}
 
 -- the reply to what came of a search
-pub show_as : (form : Form) (options : ListOptions) (show bytes : List ℕ) (job : JobView) (answers : List Clause) (goals : Goals) (look : Option Kept) (text : List ℕ) → job_of_bytes bytes ≡ Ok (plan_of job) → goals_of_bytes bytes show ≡ Ok answers → AreOfClauses answers goals
-    → IsLook job goals options.is_brief options.limit look → IsLookText form options.drawn (option_map told_view look) text → IsShowReply form options show bytes (look_status (option_map told_view look)) text
-show_as form options show bytes job answers goals None text read named are never is =
-    subst (λ (t : List ℕ). IsShowReply form options show bytes 8 t) (sym is) (nowhere job answers read named goals are never)
-show_as form options show bytes job answers goals (Some (kept.Schedule words)) text read named are told is = shown job answers read named goals are _ text told is
-show_as form options show bytes job answers goals (Some (kept.Many limit)) text read named are told is =
+pub show_as : (form : Form) (options : ListOptions) (show bytes : List ℕ) (asked : Asked) (answers : List Clause) (goals : Goals) (look : Option Kept) (text : List ℕ) → IsAskedAt options.place bytes asked → goals_asked asked show ≡ Ok answers → AreOfClauses answers goals
+    → IsLook asked.job goals options.is_brief options.limit look → IsLookText form options.drawn (option_map told_view look) text → IsShowReply form options show bytes (look_status (option_map told_view look)) text
+show_as form options show bytes asked answers goals None text read named are never is =
+    subst (λ (t : List ℕ). IsShowReply form options show bytes 8 t) (sym is) (nowhere asked answers read named goals are never)
+show_as form options show bytes asked answers goals (Some (kept.Schedule words)) text read named are told is = shown asked answers read named goals are _ text told is
+show_as form options show bytes asked answers goals (Some (kept.Many limit)) text read named are told is =
     subst (λ (t : List ℕ). IsShowReply form options show bytes 7 t) (sym is)
-    (subst (λ (n : ℕ). IsShowReply form options show bytes 7 (told_in form (many n))) (sym told.0) (too_many job answers read named goals are (sym told.0 ∙ told.0, told.1)))
+    (subst (λ (n : ℕ). IsShowReply form options show bytes 7 (told_in form (many n))) (sym told.0) (too_many asked answers read named goals are (sym told.0 ∙ told.0, told.1)))
 
 -- the row of a place among the rows
 pub row_here : (rows : List (Vec Clause Global)) (n : ℕ) (kept : Vec Clause Global) (row : List Clause) → n < length rows → kept ≡ get_or rows n kept → row ≡ kept.items → slice_get (rows_of rows) n ≡ Some row

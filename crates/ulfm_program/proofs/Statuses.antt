@@ -5,16 +5,20 @@ use Rattle.ulfm_job.specs.declared.clause.Clause.{Clause}
 use Rattle.ulfm_outcomes.specs.Text.{some_never_ends}
 use Rattle.ulfm_replies.specs.Replies.{IsCheckReply, good as good_checked, refused, no_memory, starved}
 use Rattle.std.specs.List.{list_all, list_any}
-use Rattle.ulfm_reader.specs.JobText.{never_of_bytes}
 use Rattle.ulfm_replies.specs.Asking.{as_asked}
+use Rattle.ulfm_replies.specs.Places as places
+use Rattle.ulfm_replies.specs.Places.{IsPlacesReply}
+use Rattle.ulfm_replies.specs.Stopped as stopped
+use Rattle.ulfm_replies.specs.Stopped.{IsRefusal}
+use Rattle.ulfm_stops.specs.declared.place.Place.{Place}
 use Rattle.ulfm_replies.specs.Unfinished.{has_unfinished, played_status}
 use Rattle.ulfm_json.specs.declared.form.Form.{Form}
 use Rattle.ulfm_replies.specs.declared.command.RunOptions.{RunOptions}
 use Rattle.ulfm_replies.specs.declared.command.Wanted.{Wanted}
-use Rattle.ulfm_replies.specs.declared.command.Wanted.TheVariants.{Check, Replay, Run, Sweep, Outcomes, Draw}
-use Rattle.ulfm_program.specs.Replies.{IsDrawReply, drawn, not_drawn, no_memory_to_draw, undrawn, IsReplayReply, IsRunReply, IsReplyTo, IsWhole, traced, not_a_job, no_room, failed, ran, repeated, no_such_job, no_place, no_thread, untrue, fell, given_turns}
+use Rattle.ulfm_replies.specs.declared.command.Wanted.TheVariants.{Check, Replay, Run, Sweep, Outcomes, Places, Draw}
+use Rattle.ulfm_program.specs.Replies.{IsDrawReply, drawn, not_drawn, undrawn, IsReplayReply, IsRunReply, IsReplyTo, IsWhole, traced, not_replayed, failed, ran, repeated, not_run, no_thread, untrue, fell, given_turns}
 use Rattle.ulfm_program.specs.Sweep.{IsSweepReply, swept, unread, full, unmade, unswept}
-use Rattle.ulfm_program.specs.Outcomes.{IsJudged, IsOutcomesReply, IsShowReply, list_status, good, unmet, together, unsearched, listed, past_limit, not_listed, no_memory_to_read, unlisted, shown, nowhere, too_many, unnamed, not_shown, no_memory_to_show, unshown}
+use Rattle.ulfm_program.specs.Outcomes.{IsJudged, IsOutcomesReply, IsShowReply, list_status, good, unmet, together, unsearched, listed, past_limit, not_listed, unlisted, shown, nowhere, too_many, unnamed, not_shown, unshown}
 use Rattle.ulfm_replies.specs.declared.command.ListOptions.{ListOptions}
 
 -- a status of a reply that was written whole is at most 9
@@ -43,19 +47,23 @@ checked form bytes status text (refused f is) = no_job
 checked form bytes status text no_memory = no_job
 checked form bytes status text (starved told) = run_fails
 
-replayed : (form : Form) (is_strict : Bool) (turns : Option ℕ) (bytes : List ℕ) (status : ℕ) (text : List ℕ) → IsReplayReply form is_strict turns bytes status text → IsKnown status
-replayed form is_strict turns bytes status text (traced job reports is played_so lawful rest) = played is_strict (as_asked (never_of_bytes bytes) (given_turns turns job) reports) (has_unfinished reports)
-replayed form is_strict turns bytes status text (not_a_job f is) = no_job
-replayed form is_strict turns bytes status text no_room = no_job
-replayed form is_strict turns bytes status text (failed told) = run_fails
+no_play : (form : Form) (place : Place) (bytes : List ℕ) (status : ℕ) (text : List ℕ) → IsRefusal form place bytes status text → IsKnown status
+no_play form place bytes status text (stopped.no_job f is) = no_job
+no_play form place bytes status text (stopped.no_place job is outside) = no_job
+no_play form place bytes status text (stopped.no_room job is many) = no_job
+no_play form place bytes status text stopped.no_memory = no_job
+
+replayed : (form : Form) (is_strict : Bool) (turns : Option ℕ) (place : Place) (bytes : List ℕ) (status : ℕ) (text : List ℕ) → IsReplayReply form is_strict turns place bytes status text → IsKnown status
+replayed form is_strict turns place bytes status text (traced asked reports is played_so lawful rest) = played is_strict (as_asked asked.rows (given_turns turns asked.job) reports) (has_unfinished reports)
+replayed form is_strict turns place bytes status text (not_replayed k words is) = no_play form place bytes status text is
+replayed form is_strict turns place bytes status text (failed told) = run_fails
 
 run_known : (form : Form) (options : RunOptions) (bytes : List ℕ) (status : ℕ) (text : List ℕ) → IsRunReply form options bytes status text → IsKnown status
-run_known form options bytes status text (ran job reports once is lawful) = played options.is_strict (as_asked (never_of_bytes bytes) (given_turns options.turns job) reports) (has_unfinished reports)
-run_known form options bytes status text (repeated job runs times is lawful) = played options.is_strict (list_all (as_asked (never_of_bytes bytes) (given_turns options.turns job)) runs) (list_any has_unfinished runs)
-run_known form options bytes status text (no_such_job f is) = no_job
-run_known form options bytes status text no_place = no_job
-run_known form options bytes status text (no_thread job is) = run_fails
-run_known form options bytes status text (untrue job reports is shows) = run_fails
+run_known form options bytes status text (ran asked reports once is lawful) = played options.is_strict (as_asked asked.rows (given_turns options.turns asked.job) reports) (has_unfinished reports)
+run_known form options bytes status text (repeated asked runs times is lawful) = played options.is_strict (list_all (as_asked asked.rows (given_turns options.turns asked.job)) runs) (list_any has_unfinished runs)
+run_known form options bytes status text (not_run k words is) = no_play form options.place bytes status text is
+run_known form options bytes status text (no_thread asked is) = run_fails
+run_known form options bytes status text (untrue asked reports is shows) = run_fails
 run_known form options bytes status text (fell told) = run_fails
 
 sweep_known : (form : Form) (bytes : List ℕ) (status : ℕ) (text : List ℕ) → IsSweepReply form bytes status text → IsKnown status
@@ -65,11 +73,17 @@ sweep_known form bytes status text (full job is many) = no_job
 sweep_known form bytes status text unmade = no_job
 sweep_known form bytes status text (unswept told) = run_fails
 
-drawn_known : (form : Form) (turns : Option ℕ) (bytes : List ℕ) (status : ℕ) (text : List ℕ) → IsDrawReply form turns bytes status text → IsKnown status
-drawn_known form turns bytes status text (drawn job reports picture is played_so lawful rest) = good_job
-drawn_known form turns bytes status text (not_drawn f is) = no_job
-drawn_known form turns bytes status text no_memory_to_draw = no_job
-drawn_known form turns bytes status text (undrawn told) = run_fails
+drawn_known : (form : Form) (turns : Option ℕ) (place : Place) (bytes : List ℕ) (status : ℕ) (text : List ℕ) → IsDrawReply form turns place bytes status text → IsKnown status
+drawn_known form turns place bytes status text (drawn asked reports picture is played_so lawful rest) = good_job
+drawn_known form turns place bytes status text (not_drawn k words is) = no_play form place bytes status text is
+drawn_known form turns place bytes status text (undrawn told) = run_fails
+
+places_known : (form : Form) (stops : ℕ) (bytes : List ℕ) (status : ℕ) (text : List ℕ) → IsPlacesReply form stops bytes status text → IsKnown status
+places_known form stops bytes status text (places.placed job is few) = good_job
+places_known form stops bytes status text (places.unplaced f is) = no_job
+places_known form stops bytes status text (places.crowded job is many) = no_job
+places_known form stops bytes status text places.unheld = no_job
+places_known form stops bytes status text (places.starved told) = run_fails
 
 past : IsKnown 7
 past = record { few = omega arith; whole = ((λ e. omega (arith, e)), (λ e. omega (arith, e))) }
@@ -89,27 +103,26 @@ judged_known form options job rows found list status text (together number row g
 judged_known form options job rows found list status text (unsearched number row goals here are shows) = past
 
 list_known : (form : Form) (options : ListOptions) (bytes : List ℕ) (status : ℕ) (text : List ℕ) → IsOutcomesReply form options bytes status text → IsKnown status
-list_known form options bytes status text (listed job reached k words is all judged) = judged_known form options job _ _ _ status text judged
-list_known form options bytes status text (past_limit job is many) = past
-list_known form options bytes status text (not_listed f is) = no_job
-list_known form options bytes status text no_memory_to_read = no_job
+list_known form options bytes status text (listed asked reached k words is all judged) = judged_known form options asked.job _ _ _ status text judged
+list_known form options bytes status text (past_limit asked is many) = past
+list_known form options bytes status text (not_listed k words is) = no_play form options.place bytes status text is
 list_known form options bytes status text (unlisted told) = run_fails
 
 show_known : (form : Form) (options : ListOptions) (show bytes : List ℕ) (status : ℕ) (text : List ℕ) → IsShowReply form options show bytes status text → IsKnown status
-show_known form options show bytes status text (shown job answers is named goals are words picture told same) = good_job
+show_known form options show bytes status text (shown asked answers is named goals are words picture told same) = good_job
 show_known form options show bytes status text (nowhere job answers is named goals are not) = record { few = omega arith; whole = ((λ e. omega (arith, e)), (λ e. omega (arith, e))) }
 show_known form options show bytes status text (too_many job answers is named goals are told) = past
 show_known form options show bytes status text (unnamed job part is named) = no_job
-show_known form options show bytes status text (not_shown f is) = no_job
-show_known form options show bytes status text no_memory_to_show = no_job
+show_known form options show bytes status text (not_shown k words is) = no_play form options.place bytes status text is
 show_known form options show bytes status text (unshown told) = run_fails
 
 pub known_status : (form : Form) (show : Option (List ℕ)) (wanted : Wanted) (bytes : List ℕ) (status : ℕ) (text : List ℕ) → IsReplyTo form show wanted bytes status text → IsKnown status
 known_status form show Check bytes status text h = checked form bytes status text h
-known_status form show (Replay is_strict turns) bytes status text h = replayed form is_strict turns bytes status text h
+known_status form show (Replay is_strict turns place) bytes status text h = replayed form is_strict turns place bytes status text h
 known_status form show (Run options) bytes status text h = run_known form options bytes status text h
 known_status form show Sweep bytes status text h = sweep_known form bytes status text h
-known_status form show (Draw style turns) bytes status text h = drawn_known form turns bytes status text h
+known_status form show (Places stops) bytes status text h = places_known form stops bytes status text h
+known_status form show (Draw style turns place) bytes status text h = drawn_known form turns place bytes status text h
 known_status form None (Outcomes options) bytes status text h = list_known form options bytes status text h
 known_status form (Some goals) (Outcomes options) bytes status text h = show_known form options goals bytes status text h
 
@@ -131,19 +144,23 @@ judged_not_usage form options job rows found list status text (unmet u goals tol
 judged_not_usage form options job rows found list status text (together number row goals words here are shows) = λ e. omega (arith, e)
 judged_not_usage form options job rows found list status text (unsearched number row goals here are shows) = λ e. omega (arith, e)
 
+no_play_not_usage : (form : Form) (place : Place) (bytes : List ℕ) (status : ℕ) (text : List ℕ) → IsRefusal form place bytes status text → status ≢ 2
+no_play_not_usage form place bytes status text (stopped.no_job f is) = λ e. omega (arith, e)
+no_play_not_usage form place bytes status text (stopped.no_place job is outside) = λ e. omega (arith, e)
+no_play_not_usage form place bytes status text (stopped.no_room job is many) = λ e. omega (arith, e)
+no_play_not_usage form place bytes status text stopped.no_memory = λ e. omega (arith, e)
+
 pub no_usage : (form : Form) (show : Option (List ℕ)) (wanted : Wanted) (bytes : List ℕ) (status : ℕ) (text : List ℕ) → IsReplyTo form show wanted bytes status text → status ≢ 2
 no_usage form show Check bytes status text (good_checked job is) = λ e. omega (arith, e)
 no_usage form show Check bytes status text (refused f is) = λ e. omega (arith, e)
 no_usage form show Check bytes status text no_memory = λ e. omega (arith, e)
 no_usage form show Check bytes status text (starved told) = λ e. omega (arith, e)
-no_usage form show (Replay is_strict turns) bytes status text (traced job reports is played_so lawful rest) = not_usage is_strict (as_asked (never_of_bytes bytes) (given_turns turns job) reports) (has_unfinished reports)
-no_usage form show (Replay is_strict turns) bytes status text (not_a_job f is) = λ e. omega (arith, e)
-no_usage form show (Replay is_strict turns) bytes status text no_room = λ e. omega (arith, e)
-no_usage form show (Replay is_strict turns) bytes status text (failed told) = λ e. omega (arith, e)
-no_usage form show (Run options) bytes status text (ran job reports once is lawful) = not_usage options.is_strict (as_asked (never_of_bytes bytes) (given_turns options.turns job) reports) (has_unfinished reports)
-no_usage form show (Run options) bytes status text (repeated job runs times is lawful) = not_usage options.is_strict (list_all (as_asked (never_of_bytes bytes) (given_turns options.turns job)) runs) (list_any has_unfinished runs)
-no_usage form show (Run options) bytes status text (no_such_job f is) = λ e. omega (arith, e)
-no_usage form show (Run options) bytes status text no_place = λ e. omega (arith, e)
+no_usage form show (Replay is_strict turns place) bytes status text (traced asked reports is played_so lawful rest) = not_usage is_strict (as_asked asked.rows (given_turns turns asked.job) reports) (has_unfinished reports)
+no_usage form show (Replay is_strict turns place) bytes status text (not_replayed k words is) = no_play_not_usage form place bytes status text is
+no_usage form show (Replay is_strict turns place) bytes status text (failed told) = λ e. omega (arith, e)
+no_usage form show (Run options) bytes status text (ran asked reports once is lawful) = not_usage options.is_strict (as_asked asked.rows (given_turns options.turns asked.job) reports) (has_unfinished reports)
+no_usage form show (Run options) bytes status text (repeated asked runs times is lawful) = not_usage options.is_strict (list_all (as_asked asked.rows (given_turns options.turns asked.job)) runs) (list_any has_unfinished runs)
+no_usage form show (Run options) bytes status text (not_run k words is) = no_play_not_usage form options.place bytes status text is
 no_usage form show (Run options) bytes status text (no_thread job is) = λ e. omega (arith, e)
 no_usage form show (Run options) bytes status text (untrue job reports is shows) = λ e. omega (arith, e)
 no_usage form show (Run options) bytes status text (fell told) = λ e. omega (arith, e)
@@ -152,19 +169,21 @@ no_usage form show Sweep bytes status text (unread f is) = λ e. omega (arith, e
 no_usage form show Sweep bytes status text (full job is many) = λ e. omega (arith, e)
 no_usage form show Sweep bytes status text unmade = λ e. omega (arith, e)
 no_usage form show Sweep bytes status text (unswept told) = λ e. omega (arith, e)
-no_usage form show (Draw style turns) bytes status text (drawn job reports picture is played_so lawful rest) = λ e. omega (arith, e)
-no_usage form show (Draw style turns) bytes status text (not_drawn f is) = λ e. omega (arith, e)
-no_usage form show (Draw style turns) bytes status text no_memory_to_draw = λ e. omega (arith, e)
-no_usage form show (Draw style turns) bytes status text (undrawn told) = λ e. omega (arith, e)
-no_usage form None (Outcomes options) bytes status text (listed job reached k words is all judged) = judged_not_usage form options job _ _ _ status text judged
+no_usage form show (Places stops) bytes status text (places.placed job is few) = λ e. omega (arith, e)
+no_usage form show (Places stops) bytes status text (places.unplaced f is) = λ e. omega (arith, e)
+no_usage form show (Places stops) bytes status text (places.crowded job is many) = λ e. omega (arith, e)
+no_usage form show (Places stops) bytes status text places.unheld = λ e. omega (arith, e)
+no_usage form show (Places stops) bytes status text (places.starved told) = λ e. omega (arith, e)
+no_usage form show (Draw style turns place) bytes status text (drawn asked reports picture is played_so lawful rest) = λ e. omega (arith, e)
+no_usage form show (Draw style turns place) bytes status text (not_drawn k words is) = no_play_not_usage form place bytes status text is
+no_usage form show (Draw style turns place) bytes status text (undrawn told) = λ e. omega (arith, e)
+no_usage form None (Outcomes options) bytes status text (listed asked reached k words is all judged) = judged_not_usage form options asked.job _ _ _ status text judged
 no_usage form None (Outcomes options) bytes status text (past_limit job is many) = λ e. omega (arith, e)
-no_usage form None (Outcomes options) bytes status text (not_listed f is) = λ e. omega (arith, e)
-no_usage form None (Outcomes options) bytes status text no_memory_to_read = λ e. omega (arith, e)
+no_usage form None (Outcomes options) bytes status text (not_listed k words is) = no_play_not_usage form options.place bytes status text is
 no_usage form None (Outcomes options) bytes status text (unlisted told) = λ e. omega (arith, e)
 no_usage form (Some wished) (Outcomes options) bytes status text (shown job answers is named goals are words picture told same) = λ e. omega (arith, e)
 no_usage form (Some wished) (Outcomes options) bytes status text (nowhere job answers is named goals are not) = λ e. omega (arith, e)
 no_usage form (Some wished) (Outcomes options) bytes status text (too_many job answers is named goals are told) = λ e. omega (arith, e)
 no_usage form (Some wished) (Outcomes options) bytes status text (unnamed job part is named) = λ e. omega (arith, e)
-no_usage form (Some wished) (Outcomes options) bytes status text (not_shown f is) = λ e. omega (arith, e)
-no_usage form (Some wished) (Outcomes options) bytes status text no_memory_to_show = λ e. omega (arith, e)
+no_usage form (Some wished) (Outcomes options) bytes status text (not_shown k words is) = no_play_not_usage form options.place bytes status text is
 no_usage form (Some wished) (Outcomes options) bytes status text (unshown told) = λ e. omega (arith, e)

@@ -4,5 +4,6 @@ pub mod Sweep
 pub mod Outcomes
 pub mod EachPlace
 pub mod ShowEach
+pub mod ListReply
 pub mod Replies
 pub mod inside

@@ -1,14 +1,10 @@
 -- What `outcomes` writes for a job.
-use Rattle.std.specs.Prelude.{◌≡◌, ℕ, Bool, true, List, ◌++◌, Option, Some, None, Ok, Err, All as Each, codes, slice_get, if◌then◌else◌}
+use Rattle.std.specs.Prelude.{◌≡◌, ℕ, Bool, true, List, ◌++◌, Option, Some, None, Result, Ok, Err, All as Each, codes, slice_get, if◌then◌else◌}
 use Rattle.std.specs.Fmt.{decimal}
 use Rattle.std.specs.Str.Lines.{lines}
 use Rattle.ulfm_job.specs.declared.clause.Clause.{Clause}
-use Rattle.ulfm_job.specs.declared.fault.JobFault.{JobFault}
-use Rattle.ulfm_job.specs.declared.fault.JobFault.TheVariants.{OutOfMemory}
 use Rattle.ulfm_job.specs.Job.{JobView}
-use Rattle.ulfm_reader.specs.Goals.{goals_of_bytes}
-use Rattle.ulfm_reader.specs.JobText.{job_of_bytes, never_of_bytes}
-use Rattle.ulfm_reader.specs.Plan.{plan_of}
+use Rattle.ulfm_reader.specs.Goals.{goals_of}
 use Rattle.ulfm_world.specs.World.{World}
 use Rattle.ulfm_reach.specs.declared.reach.Reach.TheVariants.{All, More}
 use Rattle.ulfm_reach.specs.declared.reached.Reached.{Reached}
@@ -26,7 +22,7 @@ use Rattle.ulfm_json.specs.declared.form.Form.{Form}
 use Rattle.ulfm_json.specs.declared.form.Form.TheVariants.{Words, Json}
 use Rattle.ulfm_outcomes.specs.Objects.{list_in}
 use Rattle.ulfm_replies.specs.Failure.{out_of_memory_in}
-use Rattle.ulfm_replies.specs.Replies.{refused_in}
+use Rattle.ulfm_replies.specs.Stopped.{Asked, IsAskedAt, IsRefusal, names_at, reading_as}
 use Rattle.ulfm_replies.specs.declared.command.ListOptions.{ListOptions}
 
 -- what a search came to that may show a schedule: its text, or that there are more states than the limit
@@ -112,36 +108,33 @@ pub data IsJudged (form : Form) (options : ListOptions) (job : JobView) (rows : 
 
 -- The status and the text, in this form, that `outcomes` gives for these bytes: the list of all that the steps of their job may be
 -- answered, over every schedule, and of those that may be left open for ever, with what is told below it; with 7 also the line alone that
--- more states than the limit are reached; with 1 the line of the job's refusal, which may be J7; with 3 the line that memory ran out.
+-- more states than the limit are reached; with 1 that the job is refused, or hasn't the place of `--stop`; with 3 the line that memory ran out.
 pub data IsOutcomesReply (form : Form) (options : ListOptions) (bytes : List ℕ) : ℕ → List ℕ → Type 0 where
-  listed : (job : JobView) (reached : Reached) (status : ℕ) (text : List ℕ) → job_of_bytes bytes ≡ Ok (plan_of job) → IsList job options.limit (All reached)
-      → IsJudged form options job (never_of_bytes bytes) reached.found (list_in form bytes job (All reached) options.limit) status text → IsOutcomesReply form options bytes status text
-  past_limit : (job : JobView) → job_of_bytes bytes ≡ Ok (plan_of job) → IsList job options.limit More
-      → IsOutcomesReply form options bytes 7 (list_in form bytes job More options.limit)
-  not_listed : (f : JobFault) → job_of_bytes bytes ≡ Err f → IsOutcomesReply form options bytes 1 (refused_in form f)
-  no_memory_to_read : IsOutcomesReply form options bytes 1 (refused_in form OutOfMemory)
+  listed : (asked : Asked) (reached : Reached) (status : ℕ) (text : List ℕ) → IsAskedAt options.place bytes asked → IsList asked.job options.limit (All reached)
+      → IsJudged form options asked.job asked.rows reached.found (list_in form (names_at options.place bytes) asked.job (All reached) options.limit) status text → IsOutcomesReply form options bytes status text
+  past_limit : (asked : Asked) → IsAskedAt options.place bytes asked → IsList asked.job options.limit More
+      → IsOutcomesReply form options bytes 7 (list_in form (names_at options.place bytes) asked.job More options.limit)
+  not_listed : (status : ℕ) (text : List ℕ) → IsRefusal form options.place bytes status text → IsOutcomesReply form options bytes status text
   unlisted : (told : Form) → IsOutcomesReply form options bytes 3 (out_of_memory_in told)
 
 -- the line for a goal that names no answer of the job
 abbrev pub no_goal : List ℕ → List ℕ
 no_goal text = codes "goal refused: " ++ text ++ codes "\n"
 
--- The same by `--show`: with 0 a schedule of the job with all answers that the text names, or a picture with `--draw`, with 8 that no schedule has them, with 7 that
--- there are more states than the limit; with 1 the first part of the text that names no answer of the job, or the line of the job's refusal.
-pub data IsShowReply (form : Form) (options : ListOptions) (show bytes : List ℕ) : ℕ → List ℕ → Type 0 where
-  shown : (job : JobView) (answers : List Clause) → job_of_bytes bytes ≡ Ok (plan_of job) → goals_of_bytes bytes show ≡ Ok answers → (goals : Goals) → AreOfClauses answers goals
-      → (text told : List ℕ) → IsTold job goals options.is_brief options.limit (schedule text) → (options.drawn ≡ None → told ≡ told_in form (schedule text))
-      → IsShowReply form options show bytes 0 told
-  nowhere : (job : JobView) (answers : List Clause) → job_of_bytes bytes ≡ Ok (plan_of job) → goals_of_bytes bytes show ≡ Ok answers → (goals : Goals) → AreOfClauses answers goals
-      → ¬ IsPossible job goals → IsShowReply form options show bytes 8 (nowhere_in form)
-  too_many : (job : JobView) (answers : List Clause) → job_of_bytes bytes ≡ Ok (plan_of job) → goals_of_bytes bytes show ≡ Ok answers → (goals : Goals) → AreOfClauses answers goals
-      → IsTold job goals options.is_brief options.limit (many options.limit) → IsShowReply form options show bytes 7 (told_in form (many options.limit))
-  unnamed : (job : JobView) (text : List ℕ) → job_of_bytes bytes ≡ Ok (plan_of job) → goals_of_bytes bytes show ≡ Err text → IsShowReply form options show bytes 1 (no_goal text)
-  not_shown : (f : JobFault) → job_of_bytes bytes ≡ Err f → IsShowReply form options show bytes 1 (refused_in form f)
-  no_memory_to_show : IsShowReply form options show bytes 1 (refused_in form OutOfMemory)
-  unshown : (told : Form) → IsShowReply form options show bytes 3 (out_of_memory_in told)
+-- the answers that a text names, by what was read of a job
+abbrev pub goals_asked : Asked → List ℕ → Result (List Clause) (List ℕ)
+goals_asked asked show = goals_of (reading_as asked) show
 
--- the reply of `outcomes`, where `--show` may be given
-abbrev pub IsListReply : Form → Option (List ℕ) → ListOptions → List ℕ → ℕ → List ℕ → Type 0
-IsListReply form None options bytes status text = IsOutcomesReply form options bytes status text
-IsListReply form (Some show) options bytes status text = IsShowReply form options show bytes status text
+-- The same by `--show`: with 0 a schedule of the job with all answers that the text names, or a picture with `--draw`, with 8 that no schedule has them, with 7 that
+-- there are more states than the limit; with 1 the first part of the text that names no answer of the job, or that the job is refused.
+pub data IsShowReply (form : Form) (options : ListOptions) (show bytes : List ℕ) : ℕ → List ℕ → Type 0 where
+  shown : (asked : Asked) (answers : List Clause) → IsAskedAt options.place bytes asked → goals_asked asked show ≡ Ok answers → (goals : Goals) → AreOfClauses answers goals
+      → (text told : List ℕ) → IsTold asked.job goals options.is_brief options.limit (schedule text) → (options.drawn ≡ None → told ≡ told_in form (schedule text))
+      → IsShowReply form options show bytes 0 told
+  nowhere : (asked : Asked) (answers : List Clause) → IsAskedAt options.place bytes asked → goals_asked asked show ≡ Ok answers → (goals : Goals) → AreOfClauses answers goals
+      → ¬ IsPossible asked.job goals → IsShowReply form options show bytes 8 (nowhere_in form)
+  too_many : (asked : Asked) (answers : List Clause) → IsAskedAt options.place bytes asked → goals_asked asked show ≡ Ok answers → (goals : Goals) → AreOfClauses answers goals
+      → IsTold asked.job goals options.is_brief options.limit (many options.limit) → IsShowReply form options show bytes 7 (told_in form (many options.limit))
+  unnamed : (asked : Asked) (text : List ℕ) → IsAskedAt options.place bytes asked → goals_asked asked show ≡ Err text → IsShowReply form options show bytes 1 (no_goal text)
+  not_shown : (status : ℕ) (text : List ℕ) → IsRefusal form options.place bytes status text → IsShowReply form options show bytes status text
+  unshown : (told : Form) → IsShowReply form options show bytes 3 (out_of_memory_in told)

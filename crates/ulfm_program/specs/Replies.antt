@@ -1,13 +1,10 @@
 -- What the program writes for a job.
-use Rattle.std.specs.Prelude.{◌≡◌, ◌≢◌, ℕ, Bool, List, length, map, take, Option, Some, None, Ok, Err, All, codes}
+use Rattle.std.specs.Prelude.{◌≡◌, ◌≢◌, ℕ, Bool, List, length, map, take, Option, Some, None, All, codes}
 use Rattle.std.specs.List.{list_all, list_any}
 use Rattle.std.specs.Option.{option_map_or}
 use Rattle.std.specs.Io.KnownBytes.{Appends}
-use Rattle.ulfm_job.specs.declared.fault.JobFault.{JobFault}
-use Rattle.ulfm_job.specs.declared.fault.JobFault.TheVariants.{OutOfMemory}
 use Rattle.ulfm_job.specs.Job.{JobView, with_turns}
-use Rattle.ulfm_reader.specs.Plan.{plan_of}
-use Rattle.ulfm_reader.specs.JobText.{job_of_bytes, never_of_bytes}
+use Rattle.ulfm_stops.specs.declared.place.Place.{Place}
 use Rattle.ulfm_script.specs.Report.{Report}
 use Rattle.ulfm_json.specs.Form.{trace_in}
 use Rattle.ulfm_json.specs.declared.form.Form.{Form}
@@ -15,15 +12,17 @@ use Rattle.ulfm_laws.specs.Lawful.{IsLawful}
 use Rattle.ulfm_run.specs.Fault.{ShowUntrue}
 use Rattle.ulfm_world.specs.Replay.{IsReplayed, MadeAtRest}
 use Rattle.ulfm_program.specs.Brief.{repeats_in}
-use Rattle.ulfm_program.specs.Outcomes.{IsListReply}
+use Rattle.ulfm_program.specs.ListReply.{IsListReply}
 use Rattle.ulfm_program.specs.Sweep.{IsSweepReply}
 use Rattle.ulfm_program.specs.Tally.{tally}
 use Rattle.ulfm_replies.specs.declared.command.RunOptions.{RunOptions}
 use Rattle.ulfm_replies.specs.declared.command.Wanted.{Wanted}
-use Rattle.ulfm_replies.specs.declared.command.Wanted.TheVariants.{Check, Replay, Run, Sweep, Outcomes, Draw}
+use Rattle.ulfm_replies.specs.declared.command.Wanted.TheVariants.{Check, Replay, Run, Sweep, Outcomes, Places, Draw}
 use Rattle.ulfm_replies.specs.Failure.{failed_in, out_of_memory_in}
-use Rattle.ulfm_replies.specs.Replies.{refused_in, IsCheckReply}
+use Rattle.ulfm_replies.specs.Places.{IsPlacesReply}
+use Rattle.ulfm_replies.specs.Replies.{IsCheckReply}
 use Rattle.ulfm_replies.specs.Asking.{as_asked}
+use Rattle.ulfm_replies.specs.Stopped.{Asked, IsAskedAt, IsRefusal, names_at}
 use Rattle.ulfm_replies.specs.Unfinished.{has_unfinished, played_status}
 use Rattle.ulfm_replies.specs.declared.failure.Failure.TheVariants as run
 
@@ -33,41 +32,38 @@ given_turns turns job = option_map_or (λ n. with_turns n job) turns job
 
 -- The status and the text, in this form, that `replay` gives for these bytes: with 0 the trace of the reports of a replay of the job, which are lawful for it, and whose running
 -- ranks agree at its end on what failed and was revoked, on each shrink and on each agreement. With `--strict` it comes with 6
--- exactly where a step was left unfinished. With `--turns` the job has that number of turns.
-pub data IsReplayReply (form : Form) (is_strict : Bool) (turns : Option ℕ) (bytes : List ℕ) : ℕ → List ℕ → Type 0 where
-  traced : (job : JobView) (reports : List Report) → job_of_bytes bytes ≡ Ok (plan_of job) → IsReplayed (given_turns turns job) reports
-      → IsLawful (given_turns turns job) reports → MadeAtRest (given_turns turns job) reports
-      → IsReplayReply form is_strict turns bytes (played_status is_strict (as_asked (never_of_bytes bytes) (given_turns turns job) reports) (has_unfinished reports)) (trace_in form bytes (given_turns turns job) reports)
-  not_a_job : (f : JobFault) → job_of_bytes bytes ≡ Err f → IsReplayReply form is_strict turns bytes 1 (refused_in form f)
-  no_room : IsReplayReply form is_strict turns bytes 1 (refused_in form OutOfMemory)
-  failed : (told : Form) → IsReplayReply form is_strict turns bytes 3 (out_of_memory_in told)
+-- exactly where a step was left unfinished. With `--turns` the job has that number of turns, and with `--stop` the stops of that place.
+pub data IsReplayReply (form : Form) (is_strict : Bool) (turns : Option ℕ) (place : Place) (bytes : List ℕ) : ℕ → List ℕ → Type 0 where
+  traced : (asked : Asked) (reports : List Report) → IsAskedAt place bytes asked → IsReplayed (given_turns turns asked.job) reports
+      → IsLawful (given_turns turns asked.job) reports → MadeAtRest (given_turns turns asked.job) reports
+      → IsReplayReply form is_strict turns place bytes (played_status is_strict (as_asked asked.rows (given_turns turns asked.job) reports) (has_unfinished reports)) (trace_in form (names_at place bytes) (given_turns turns asked.job) reports)
+  not_replayed : (status : ℕ) (text : List ℕ) → IsRefusal form place bytes status text → IsReplayReply form is_strict turns place bytes status text
+  failed : (told : Form) → IsReplayReply form is_strict turns place bytes 3 (out_of_memory_in told)
 
 -- The status and the text that `draw` gives for these bytes: with 0 the picture of a replay of the job, as `replay` tells of one. What stands in
 -- the picture isn't said here.
-pub data IsDrawReply (form : Form) (turns : Option ℕ) (bytes : List ℕ) : ℕ → List ℕ → Type 0 where
-  drawn : (job : JobView) (reports : List Report) (picture : List ℕ) → job_of_bytes bytes ≡ Ok (plan_of job) → IsReplayed (given_turns turns job) reports
-      → IsLawful (given_turns turns job) reports → MadeAtRest (given_turns turns job) reports
-      → IsDrawReply form turns bytes 0 picture
-  not_drawn : (f : JobFault) → job_of_bytes bytes ≡ Err f → IsDrawReply form turns bytes 1 (refused_in form f)
-  no_memory_to_draw : IsDrawReply form turns bytes 1 (refused_in form OutOfMemory)
-  undrawn : (told : Form) → IsDrawReply form turns bytes 3 (out_of_memory_in told)
+pub data IsDrawReply (form : Form) (turns : Option ℕ) (place : Place) (bytes : List ℕ) : ℕ → List ℕ → Type 0 where
+  drawn : (asked : Asked) (reports : List Report) (picture : List ℕ) → IsAskedAt place bytes asked → IsReplayed (given_turns turns asked.job) reports
+      → IsLawful (given_turns turns asked.job) reports → MadeAtRest (given_turns turns asked.job) reports
+      → IsDrawReply form turns place bytes 0 picture
+  not_drawn : (status : ℕ) (text : List ℕ) → IsRefusal form place bytes status text → IsDrawReply form turns place bytes status text
+  undrawn : (told : Form) → IsDrawReply form turns place bytes 3 (out_of_memory_in told)
 
 -- The same for `run`: with 0, 6 or 9, the trace of reports that are lawful for the job, whichever thread went when; with 3 the
 -- line of what failed. F2 comes for a good job alone, and F4 only with reports of the job's ranks that
 -- show it. With `--repeat` each distinct trace of so many runs, each lawful, comes once with its count,
 -- and with `--brief` each distinct line.
 pub data IsRunReply (form : Form) (options : RunOptions) (bytes : List ℕ) : ℕ → List ℕ → Type 0 where
-  ran : (job : JobView) (reports : List Report) → options.repeat ≡ None → job_of_bytes bytes ≡ Ok (plan_of job)
-      → IsLawful (given_turns options.turns job) reports
-      → IsRunReply form options bytes (played_status options.is_strict (as_asked (never_of_bytes bytes) (given_turns options.turns job) reports) (has_unfinished reports)) (trace_in form bytes (given_turns options.turns job) reports)
-  repeated : (job : JobView) (runs : List (List Report)) → options.repeat ≡ Some (length runs) → job_of_bytes bytes ≡ Ok (plan_of job)
-      → All (IsLawful (given_turns options.turns job)) runs
-      → IsRunReply form options bytes (played_status options.is_strict (list_all (as_asked (never_of_bytes bytes) (given_turns options.turns job)) runs) (list_any has_unfinished runs)) (repeats_in form options.is_brief (given_turns options.turns job) (length runs) (tally (map (trace_in form bytes (given_turns options.turns job)) runs)))
-  no_such_job : (f : JobFault) → job_of_bytes bytes ≡ Err f → IsRunReply form options bytes 1 (refused_in form f)
-  no_place : IsRunReply form options bytes 1 (refused_in form OutOfMemory)
-  no_thread : (job : JobView) → job_of_bytes bytes ≡ Ok (plan_of job) → IsRunReply form options bytes 3 (failed_in form run.NoThread)
-  untrue : (job : JobView) (reports : List Report) → job_of_bytes bytes ≡ Ok (plan_of job)
-      → ShowUntrue (given_turns options.turns job) reports
+  ran : (asked : Asked) (reports : List Report) → options.repeat ≡ None → IsAskedAt options.place bytes asked
+      → IsLawful (given_turns options.turns asked.job) reports
+      → IsRunReply form options bytes (played_status options.is_strict (as_asked asked.rows (given_turns options.turns asked.job) reports) (has_unfinished reports)) (trace_in form (names_at options.place bytes) (given_turns options.turns asked.job) reports)
+  repeated : (asked : Asked) (runs : List (List Report)) → options.repeat ≡ Some (length runs) → IsAskedAt options.place bytes asked
+      → All (IsLawful (given_turns options.turns asked.job)) runs
+      → IsRunReply form options bytes (played_status options.is_strict (list_all (as_asked asked.rows (given_turns options.turns asked.job)) runs) (list_any has_unfinished runs)) (repeats_in form options.is_brief (given_turns options.turns asked.job) (length runs) (tally (map (trace_in form (names_at options.place bytes) (given_turns options.turns asked.job)) runs)))
+  not_run : (status : ℕ) (text : List ℕ) → IsRefusal form options.place bytes status text → IsRunReply form options bytes status text
+  no_thread : (asked : Asked) → IsAskedAt options.place bytes asked → IsRunReply form options bytes 3 (failed_in form run.NoThread)
+  untrue : (asked : Asked) (reports : List Report) → IsAskedAt options.place bytes asked
+      → ShowUntrue (given_turns options.turns asked.job) reports
       → IsRunReply form options bytes 3 (failed_in form run.Untrue)
   fell : (told : Form) → IsRunReply form options bytes 3 (out_of_memory_in told)
 
@@ -75,11 +71,12 @@ pub data IsRunReply (form : Form) (options : RunOptions) (bytes : List ℕ) : �
 -- known, the line is in words.
 abbrev pub IsReplyTo : Form → Option (List ℕ) → Wanted → List ℕ → ℕ → List ℕ → Type 0
 IsReplyTo form show Check bytes status text = IsCheckReply form bytes status text
-IsReplyTo form show (Replay is_strict turns) bytes status text = IsReplayReply form is_strict turns bytes status text
+IsReplyTo form show (Replay is_strict turns place) bytes status text = IsReplayReply form is_strict turns place bytes status text
 IsReplyTo form show (Run options) bytes status text = IsRunReply form options bytes status text
 IsReplyTo form show Sweep bytes status text = IsSweepReply form bytes status text
 IsReplyTo form show (Outcomes options) bytes status text = IsListReply form show options bytes status text
-IsReplyTo form show (Draw style turns) bytes status text = IsDrawReply form turns bytes status text
+IsReplyTo form show (Places stops) bytes status text = IsPlacesReply form stops bytes status text
+IsReplyTo form show (Draw style turns place) bytes status text = IsDrawReply form turns place bytes status text
 
 -- the line for words that can't be read
 abbrev pub not_text : List ℕ

@@ -20,9 +20,8 @@ use ulfm_reader::Reading;
 use ulfm_replies::{ListOptions, PAST_LIMIT, Place, Reply, asked_at, refusal};
 use ulfm_stops::places;
 
-/// The reply of `outcomes --stops` with these options. `watch` is told how far the search for a schedule is, and `onlooker` how far the
-/// lists are.
-pub fn each_place_reply<R, W, L>(
+/// The reply of `outcomes --stops` with these options. `watch` is told how far the search for a schedule is.
+pub fn each_place_reply<R, W>(
     rt: &R,
     alloc: Global,
     form: Form,
@@ -30,12 +29,10 @@ pub fn each_place_reply<R, W, L>(
     stops: u8,
     bytes: &[u8],
     watch: &mut W,
-    onlooker: &L,
 ) -> Result<Reply, AllocError>
 where
     R: Threads + Sync,
     W: Watch,
-    L: Onlooker + Sync,
     ensures { IfOk result (λ r. IsEachPlaceReply form options stops bytes.now r.status (string_bytes r.text)) }
 {
     let asked = match asked_at(alloc, form, Place::Nowhere, bytes)? {
@@ -48,8 +45,25 @@ where
     let places = places(alloc, &asked.job, stops)?;
     let threads = threads_of(rt, options);
     let limit = options.limit as usize;
-    let lists = list_places(rt, alloc, &asked.job, places.as_slice(), threads, limit, onlooker)?;
+    let onlooker = Unseen;
+    let lists = list_places(
+        rt,
+        alloc,
+        &asked.job,
+        places.as_slice(),
+        threads,
+        limit,
+        &onlooker,
+    )?;
     judged(alloc, form, options, &asked, bytes, &lists, watch)
+}
+
+/// Nobody is told how far the lists are.
+#[derive(Drop)]
+struct Unseen;
+
+impl Onlooker for Unseen {
+    fn see(&self, _place: Place, _states: usize) {}
 }
 
 /// How many threads share the places: as many as are asked for, else as there are processors, 64 at most.

@@ -6,23 +6,30 @@ ghost use Rattle.ulfm_reader.specs.JobText.{rows_of};
 ghost use Rattle.ulfm_reach.specs.declared.reach.Reach.TheVariants.{All};
 ghost use Rattle.ulfm_outcomes.specs.Outcomes.{IsList};
 ghost use Rattle.ulfm_outcomes.specs.Unmet.{Judges};
-ghost use Rattle.ulfm_program.specs.Outcomes.{IsJudged, IsListReply, IsOutcomesReply, list_status, row_in};
+ghost use Rattle.ulfm_program.specs.ListReply.{IsListReply};
+ghost use Rattle.ulfm_program.specs.Outcomes.{IsJudged, IsOutcomesReply, list_status, row_in};
 ghost use Rattle.ulfm_program.specs.inside.Looking.{HasList, IsFirstRow, row_status, told_view};
 
+use crate::each_place::each_place_reply;
 use crate::looking::{look_for, look_for_row};
+use crate::show_each::show_each_reply;
 use crate::shown::show_reply;
 use crate::told::{Told, push_row, push_unmet};
 use std::alloc::{AllocError, Global};
+use std::thread::Threads;
 use ulfm_job::Clause;
 use ulfm_json::Form;
 use ulfm_outcomes::{Unmet, first_unmet, list_in, outcomes, some_never_end};
 use ulfm_reach::{Reach, Reached, Rows, Watch};
-use ulfm_reader::{ReadJob, Reading};
-use ulfm_replies::{DONE, ListOptions, NOT_EXPECTED, PAST_LIMIT, Reply, UNFINISHED, refusal};
+use ulfm_reader::Reading;
+use ulfm_replies::{
+    DONE, ListOptions, NOT_EXPECTED, PAST_LIMIT, Reply, UNFINISHED, asked_at, names_at,
+};
 use ulfm_script::Job;
 
 /// The reply of `outcomes` with these options, and perhaps with answers that a schedule is to show. `watch` is told how far it is.
-pub fn list_reply<W: Watch>(
+pub fn list_reply<R, W>(
+    rt: &R,
     alloc: Global,
     form: Form,
     show: Option<&str>,
@@ -30,11 +37,18 @@ pub fn list_reply<W: Watch>(
     bytes: &[u8],
     watch: &mut W,
 ) -> Result<Reply, AllocError>
+where
+    R: Threads + Sync,
+    W: Watch,
     ensures { IfOk result (λ r. IsListReply form (option_map (λ s. s.now) show.entry) options bytes.now r.status (string_bytes r.text)) }
 {
-    match show {
-        Some(show) => show_reply(alloc, form, options, show, bytes, watch),
-        None => outcomes_reply(alloc, form, options, bytes, watch),
+    match (show, options.stops) {
+        (Some(show), Some(stops)) => {
+            show_each_reply(alloc, form, options, stops, show, bytes, watch)
+        }
+        (Some(show), None) => show_reply(alloc, form, options, show, bytes, watch),
+        (None, Some(stops)) => each_place_reply(rt, alloc, form, options, stops, bytes, watch),
+        (None, None) => outcomes_reply(alloc, form, options, bytes, watch),
     }
 }
 
@@ -48,13 +62,15 @@ fn outcomes_reply<W: Watch>(
 ) -> Result<Reply, AllocError>
     ensures { IfOk result (λ r. IsOutcomesReply form options bytes.now r.status (string_bytes r.text)) }
 {
-    let asked = match Reading::read(alloc, bytes) {
+    let read = asked_at(alloc, form, options.place, bytes)?;
+    let asked = match read {
         Ok(asked) => asked,
-        Err(fault) => return refusal(alloc, form, fault),
+        Err(reply) => return Ok(reply),
     };
     let limit = options.limit as usize;
     let reach = outcomes(alloc, &asked.job, limit, watch)?;
-    let text = list_in(alloc, form, bytes, &asked.job, &reach, limit)?;
+    let names = names_at(options.place, bytes);
+    let text = list_in(alloc, form, names, &asked.job, &reach, limit)?;
     match &reach {
         Reach::All(reached) => judged(alloc, form, options, &asked, reached, text, watch),
         Reach::More => Ok(Reply {

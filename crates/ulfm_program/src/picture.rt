@@ -7,8 +7,7 @@ use crate::turns::given_turns;
 use std::alloc::{AllocError, Global};
 use ulfm_draw::{Style, drawn, played_text};
 use ulfm_json::Form;
-use ulfm_reader::{ReadJob, Reading};
-use ulfm_replies::{DONE, Reply, refusal};
+use ulfm_replies::{DONE, Place, Reply, asked_at};
 use ulfm_script::{Job, RankReport};
 use ulfm_world::replay;
 
@@ -18,14 +17,16 @@ pub fn draw_reply(
     form: Form,
     style: Style,
     turns: Option<u32>,
+    place: Place,
     bytes: &[u8],
 ) -> Result<Reply, AllocError>
     requires { AreTurns turns }
-    ensures { IfOk result (λ r. IsDrawReply form turns bytes.now r.status (string_bytes r.text)) }
+    ensures { IfOk result (λ r. IsDrawReply form turns place bytes.now r.status (string_bytes r.text)) }
 {
-    let asked = match Reading::read(alloc, bytes) {
+    let read = asked_at(alloc, form, place, bytes)?;
+    let asked = match read {
         Ok(asked) => given_turns(asked, turns),
-        Err(fault) => return refusal(alloc, form, fault),
+        Err(reply) => return Ok(reply),
     };
     match replay(alloc, &asked.job) {
         Ok(reports) => picture_of(alloc, style, &asked.job, reports.as_slice()),

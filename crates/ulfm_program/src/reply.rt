@@ -13,8 +13,9 @@ use std::sync::Wait;
 use std::thread::Threads;
 use ulfm_json::Form;
 use ulfm_reach::Watch;
-use ulfm_reader::{ReadJob, Reading};
-use ulfm_replies::{Asked, Reply, Wanted, check_reply, refusal, trace_reply};
+use ulfm_replies::{
+    Asked, Place, Reply, Wanted, asked_at, check_reply, names_at, places_reply, trace_reply,
+};
 use ulfm_world::replay;
 
 /// The reply of `replay`.
@@ -23,17 +24,20 @@ fn replay_reply(
     form: Form,
     is_strict: bool,
     turns: Option<u32>,
+    place: Place,
     bytes: &[u8],
 ) -> Result<Reply, AllocError>
     requires { AreTurns turns }
-    ensures { IfOk result (λ r. IsReplayReply form is_strict turns bytes.now r.status (string_bytes r.text)) }
+    ensures { IfOk result (λ r. IsReplayReply form is_strict turns place bytes.now r.status (string_bytes r.text)) }
 {
-    let asked = match Reading::read(alloc, bytes) {
+    let read = asked_at(alloc, form, place, bytes)?;
+    let asked = match read {
         Ok(asked) => given_turns(asked, turns),
-        Err(fault) => return refusal(alloc, form, fault),
+        Err(reply) => return Ok(reply),
     };
+    let names = names_at(place, bytes);
     match replay(alloc, &asked.job) {
-        Ok(reports) => trace_reply(alloc, form, is_strict, bytes, &asked, reports.as_slice()),
+        Ok(reports) => trace_reply(alloc, form, is_strict, names, &asked, reports.as_slice()),
         Err(_) => Err(AllocError),
     }
 }
@@ -55,10 +59,19 @@ where
     let form = asked.form;
     match asked.wanted {
         Wanted::Check => check_reply(alloc, form, bytes),
-        Wanted::Replay { is_strict, turns } => replay_reply(alloc, form, is_strict, turns, bytes),
+        Wanted::Replay {
+            is_strict,
+            turns,
+            place,
+        } => replay_reply(alloc, form, is_strict, turns, place, bytes),
         Wanted::Run(options) => run_reply(rt, alloc, form, options, bytes),
         Wanted::Sweep => sweep_reply(alloc, form, bytes),
-        Wanted::Outcomes(options) => list_reply(alloc, form, asked.show, options, bytes, watch),
-        Wanted::Draw { style, turns } => draw_reply(alloc, form, style, turns, bytes),
+        Wanted::Outcomes(options) => list_reply(rt, alloc, form, asked.show, options, bytes, watch),
+        Wanted::Places(stops) => places_reply(alloc, form, stops, bytes),
+        Wanted::Draw {
+            style,
+            turns,
+            place,
+        } => draw_reply(alloc, form, style, turns, place, bytes),
     }
 }

@@ -22,8 +22,9 @@ use ulfm_base::CallError;
 use ulfm_board::{Decider, Seat, seats};
 use ulfm_carrier::{Ends, LaneEnds, SharedEnds, lanes, shared};
 use ulfm_json::Form;
-use ulfm_reader::{ReadJob, Reading};
-use ulfm_replies::{Carrier, Failure, Reply, RunOptions, failed, failure_of, refusal, trace_reply};
+use ulfm_replies::{
+    Carrier, Failure, Reply, RunOptions, asked_at, failed, failure_of, names_at, trace_reply,
+};
 use ulfm_run::{Report, run_job};
 use ulfm_script::{Job, RankReport};
 
@@ -38,12 +39,14 @@ pub fn run_reply<R: Threads + Wait + Sync>(
     requires { AreInRange options }
     ensures { IfOk result (λ r. IsRunReply form options bytes.now r.status (string_bytes r.text)) }
 {
-    let asked = match Reading::read(alloc, bytes) {
+    let read = asked_at(alloc, form, options.place, bytes)?;
+    let asked = match read {
         Ok(asked) => given_turns(asked, options.turns),
-        Err(fault) => return refusal(alloc, form, fault),
+        Err(reply) => return Ok(reply),
     };
+    let names = names_at(options.place, bytes);
     if let Some(times) = options.repeat {
-        return match tally_of(rt, alloc, options.carrier, form, bytes, times, &asked) {
+        return match tally_of(rt, alloc, options.carrier, form, names, times, &asked) {
             Ok(tally) => tally_reply(
                 alloc,
                 form,
@@ -62,7 +65,7 @@ pub fn run_reply<R: Threads + Wait + Sync>(
             alloc,
             form,
             options.is_strict,
-            bytes,
+            names,
             &asked,
             reports.as_slice(),
         ),

@@ -1,7 +1,7 @@
 //! The reply of `outcomes --stops --show`: the first place at which a schedule shows answers, and that schedule.
 ghost use Rattle.std.specs.Prelude.{◌≡◌, All, IfOk, Some, string_bytes};
 ghost use Rattle.ulfm_stops.specs.Place.{IsPlaceOf};
-ghost use Rattle.ulfm_program.specs.ShowEach.{IsShowEachReply, clauses_at};
+ghost use Rattle.ulfm_program.specs.ShowEach.{AreGoalsAt, IsShowEachReply, beside};
 ghost use Rattle.ulfm_program.specs.inside.Judging.{IsFirstLook, IsLookAt, IsLookAtText, IsToldAtText, look_at_status};
 ghost use Rattle.ulfm_program.specs.inside.Looking.{look_status, told_view};
 
@@ -16,7 +16,7 @@ use ulfm_json::Form;
 use ulfm_outcomes::Goals;
 use ulfm_reach::Watch;
 use ulfm_replies::{DONE, ListOptions, NO_SCHEDULE, Place, Reply, asked_at, refusal};
-use ulfm_stops::{places, copied_clauses};
+use ulfm_stops::{Stop, places};
 
 /// The reply of `outcomes --stops --show` with these options and answers. `watch` is told how far the search is.
 pub fn show_each_reply<W: Watch>(
@@ -92,30 +92,45 @@ fn look_at<W: Watch>(
     let Ok(stopped) = place.job(alloc, job) else {
         return Err(AllocError);
     };
-    let answers = clauses_at(alloc, place, job, answers)?;
-    let goals = Goals::of(alloc, answers.as_slice())?;
+    let goals = goals_at(alloc, place, job, answers)?;
     let limit = options.limit as usize;
     let look = look_for(alloc, &stopped, &goals, options.is_brief, limit, watch)?;
     Ok(look)
 }
 
-/// Clauses of the file's steps by the numbers that these have in the job at a place.
-fn clauses_at(
+/// What clauses of the file's steps ask for in the job at a place.
+fn goals_at(
     alloc: Global,
     place: Place,
     job: &Job,
     clauses: &[Clause],
-) -> Result<Vec<Clause>, AllocError>
-    ensures { IfOk result (λ moved. moved.items ≡ clauses_at place job.now clauses.now) }
+) -> Result<Goals, AllocError>
+    ensures { IfOk result (AreGoalsAt place job.now clauses.now) }
 {
     match place {
-        Place::Nowhere => Ok(copied_clauses(alloc, clauses)?),
-        Place::One(stop) => Ok(stop.clauses(alloc, job.script_len(stop.rank), clauses)?),
+        Place::Nowhere => Ok(Goals::of(alloc, clauses)?),
+        Place::One(stop) => {
+            let moved = beside(alloc, job, stop, clauses)?;
+            Ok(Goals::of(alloc, moved.as_slice())?)
+        }
         Place::Two(first, second) => {
-            let half = first.clauses(alloc, job.script_len(first.rank), clauses)?;
-            Ok(second.clauses(alloc, job.script_len(second.rank), half.as_slice())?)
+            let half = beside(alloc, job, first, clauses)?;
+            let moved = beside(alloc, job, second, half.as_slice())?;
+            Ok(Goals::of(alloc, moved.as_slice())?)
         }
     }
+}
+
+/// Clauses of the file's steps by the numbers that these have beside a stop.
+fn beside(
+    alloc: Global,
+    job: &Job,
+    stop: Stop,
+    clauses: &[Clause],
+) -> Result<Vec<Clause>, AllocError>
+    ensures { IfOk result (λ moved. moved.items ≡ beside job.now stop clauses.now) }
+{
+    Ok(stop.clauses(alloc, job.script_len(stop.rank), clauses)?)
 }
 
 /// The reply to what came of a search, whose schedule is drawn where it is to be.

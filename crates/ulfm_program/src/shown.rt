@@ -10,8 +10,7 @@ use ulfm_draw::{Style, drawn};
 use ulfm_json::Form;
 use ulfm_outcomes::Goals;
 use ulfm_reach::Watch;
-use ulfm_reader::{ReadJob, Reading};
-use ulfm_replies::{DONE, JOB_REFUSED, ListOptions, NO_SCHEDULE, PAST_LIMIT, Reply, refusal};
+use ulfm_replies::{DONE, JOB_REFUSED, ListOptions, NO_SCHEDULE, PAST_LIMIT, Reply, asked_at};
 
 /// The reply of `outcomes --show`, with these answers. `watch` is told how far the search is.
 pub fn show_reply<W: Watch>(
@@ -24,9 +23,10 @@ pub fn show_reply<W: Watch>(
 ) -> Result<Reply, AllocError>
     ensures { IfOk result (λ r. IsShowReply form options show.now bytes.now r.status (string_bytes r.text)) }
 {
-    let asked = match Reading::read(alloc, bytes) {
+    let read = asked_at(alloc, form, options.place, bytes)?;
+    let asked = match read {
         Ok(asked) => asked,
-        Err(fault) => return refusal(alloc, form, fault),
+        Err(reply) => return Ok(reply),
     };
     let answers = match asked.goals(alloc, show)? {
         Ok(answers) => answers,

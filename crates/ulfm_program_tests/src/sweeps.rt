@@ -89,7 +89,7 @@ fn a_stop_needs_room_in_the_job(rt: HostRuntime) -> Result<(), Fail> {
     assert_eq!(rt; output.as_slice(), b"job refused: J6\n".as_slice());
     assert_eq!(rt;
         errors.as_slice(),
-        b"the job has 256 steps, which are the most: with a stop put in, as sweep does, there are too many\n".as_slice()
+        b"a job has 256 steps at most: with stops put in, as by sweep, places and --stop, there are too many\n".as_slice()
     );
     Ok(())
 }

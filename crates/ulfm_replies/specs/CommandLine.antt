@@ -1,6 +1,6 @@
 -- What the words of a command line ask for.
-use Rattle.std.specs.Prelude.{◌≡◌, ◌<◌, ◌≤◌, ◌⊎◌, ⊤, ℕ, Bool, List, [], ◌∷◌, Option, Some, None, option_map, codes, true, false, IfSome, unwrap_or, if◌then◌else◌}
-use Rattle.std.specs.Option.{option_map_or}
+use Rattle.std.specs.Prelude.{◌≡◌, ◌<◌, ◌≤◌, ◌⊎◌, ⊤, ℕ, Bool, List, [], ◌∷◌, Option, Some, None, is_some, not, option_map, codes, true, false, IfSome, unwrap_or, if◌then◌else◌}
+use Rattle.std.specs.Option.{option_and_then, option_map_or}
 use Rattle.std.specs.Str.{bytes_eq}
 use Rattle.std.specs.Str.Parse.{digits_value, without_leading_plus}
 use Rattle.ulfm_replies.specs.declared.command.Carrier.{Carrier}
@@ -8,11 +8,14 @@ use Rattle.ulfm_replies.specs.declared.command.Carrier.TheVariants.{Lanes, Share
 use Rattle.ulfm_replies.specs.declared.command.ListOptions.{ListOptions}
 use Rattle.ulfm_replies.specs.declared.command.RunOptions.{RunOptions}
 use Rattle.ulfm_replies.specs.declared.command.Wanted.{Wanted}
-use Rattle.ulfm_replies.specs.declared.command.Wanted.TheVariants.{Check, Replay, Run, Sweep, Outcomes, Draw}
+use Rattle.ulfm_replies.specs.declared.command.Wanted.TheVariants.{Check, Replay, Run, Sweep, Outcomes, Places, Draw}
 use Rattle.ulfm_draw.specs.declared.style.Style.{Style}
 use Rattle.ulfm_draw.specs.declared.style.Style.TheVariants as style
 use Rattle.ulfm_json.specs.declared.form.Form.{Form}
 use Rattle.ulfm_json.specs.declared.form.Form.TheVariants.{Words, Json}
+use Rattle.ulfm_stops.specs.Text.{place_of_text}
+use Rattle.ulfm_stops.specs.declared.place.Place.{Place}
+use Rattle.ulfm_stops.specs.declared.place.Place.TheVariants.{Nowhere}
 use Rattle.clap.specs.ValueTests.{accepts}
 use Rattle.clap.specs.declared.builder.action.ArgAction.TheVariants.{Append, SetTrue}
 use Rattle.clap.specs.declared.builder.value_parser.ValueParser.TheVariants.{Unsigned}
@@ -69,9 +72,17 @@ number_rule name most = record (new_rule name) { long = Some name; value_names =
 abbrev pub turns_rule : Rule
 turns_rule = number_rule (codes "turns") most_turns
 
+-- the option `--stop` with one value
+abbrev pub stop_rule : Rule
+stop_rule = record (new_rule (codes "stop")) { long = Some (codes "stop"); value_names = 1 }
+
+-- a command with the option `--stop`, and with what each of them has
+abbrev pub of_stopped : App → App
+of_stopped app = of_jobs (with_rule app stop_rule)
+
 -- the command `replay` with its options
 abbrev pub replay_app : App
-replay_app = of_jobs (with_rule (with_rule (new_app (codes "replay")) strict_rule) turns_rule)
+replay_app = of_stopped (with_rule (with_rule (new_app (codes "replay")) strict_rule) turns_rule)
 
 -- the flag `--brief`
 abbrev pub brief_rule : Rule
@@ -79,7 +90,7 @@ brief_rule = record (new_rule (codes "brief")) { long = Some (codes "brief"); ac
 
 -- the command `run` with its options
 abbrev pub run_app : App
-run_app = of_jobs (with_rule (with_rule (with_rule (with_rule (with_rule (new_app (codes "run")) carrier_rule) strict_rule) turns_rule) (number_rule (codes "repeat") most_runs)) brief_rule)
+run_app = of_stopped (with_rule (with_rule (with_rule (with_rule (with_rule (new_app (codes "run")) carrier_rule) strict_rule) turns_rule) (number_rule (codes "repeat") most_runs)) brief_rule)
 
 -- the command `sweep`
 abbrev pub sweep_app : App
@@ -115,15 +126,35 @@ of_schedules app = of_pictures (with_rule app (flag_rule (codes "draw")))
 
 -- the command `draw` with its options
 abbrev pub draw_app : App
-draw_app = of_jobs (of_pictures (with_rule (new_app (codes "draw")) turns_rule))
+draw_app = of_stopped (of_pictures (with_rule (new_app (codes "draw")) turns_rule))
+
+-- the most stops of a place
+abbrev pub most_stops : ℕ
+most_stops = 2
+
+-- the most threads that `--threads` can ask for
+abbrev pub most_threads : ℕ
+most_threads = 64
+
+-- the option `--stops`
+abbrev pub stops_rule : Rule
+stops_rule = number_rule (codes "stops") most_stops
+
+-- a command with the options of places: `--stops` and `--threads`
+abbrev pub of_places : App → App
+of_places app = with_rule (with_rule app stops_rule) (number_rule (codes "threads") most_threads)
+
+-- the command `places` with its option
+abbrev pub places_app : App
+places_app = of_jobs (with_rule (new_app (codes "places")) stops_rule)
 
 -- the command `outcomes` with its options
 abbrev pub outcomes_app : App
-outcomes_app = of_jobs (of_schedules (with_rule (with_rule (with_rule (with_rule (with_rule (new_app (codes "outcomes")) show_rule) brief_rule) strict_rule) (number_rule (codes "limit") most_states)) progress_rule))
+outcomes_app = of_stopped (of_places (of_schedules (with_rule (with_rule (with_rule (with_rule (with_rule (new_app (codes "outcomes")) show_rule) brief_rule) strict_rule) (number_rule (codes "limit") most_states)) progress_rule)))
 
 -- the whole command line
 abbrev pub tool_app : App
-tool_app = with_subcommand (with_subcommand (with_subcommand (with_subcommand (with_subcommand (with_subcommand demanding_app check_app.top) replay_app.top) run_app.top) sweep_app.top) outcomes_app.top) draw_app.top
+tool_app = with_subcommand (with_subcommand (with_subcommand (with_subcommand (with_subcommand (with_subcommand (with_subcommand demanding_app check_app.top) replay_app.top) run_app.top) sweep_app.top) outcomes_app.top) places_app.top) draw_app.top
 
 -- the subcommand that the words name, and what was met of its options
 unfoldable pub asked : List Text → Option (Text × List Row)
@@ -155,10 +186,20 @@ number_given most (Some text) = if accepts false (Unsigned 1 most) text then Som
 abbrev pub turns_in : List Row → Option ℕ
 turns_in rows = number_given most_turns (first_of (codes "turns") rows)
 
--- the options of `run` with a carrier
-abbrev pub options_by : List Row → Carrier → RunOptions
-options_by rows carrier = record {
+-- where `--stop` stops ranks: nowhere if it is left out
+abbrev pub place_given : Option Text → Option Place
+place_given None = Some Nowhere
+place_given (Some text) = place_of_text text
+
+-- the same by the options of a command
+abbrev pub place_in : List Row → Option Place
+place_in rows = place_given (first_of (codes "stop") rows)
+
+-- the options of `run` with a place of stops and a carrier
+abbrev pub options_by : List Row → Place → Carrier → RunOptions
+options_by rows place carrier = record {
   carrier = carrier;
+  place = place;
   is_strict = is_strict rows;
   turns = turns_in rows;
   repeat = number_given most_runs (first_of (codes "repeat") rows);
@@ -166,8 +207,8 @@ options_by rows carrier = record {
 }
 
 -- what the options of `run` ask for, where there is a carrier of that name
-abbrev pub run_options : List Row → Option RunOptions
-run_options rows = option_map (options_by rows) (carrier_named (first_of (codes "carrier") rows))
+abbrev pub run_options : List Row → Place → Option RunOptions
+run_options rows place = option_map (options_by rows place) (carrier_named (first_of (codes "carrier") rows))
 
 -- the most states that are looked at: those of `--limit`, where it is given
 abbrev pub limit_in : List Row → ℕ
@@ -181,9 +222,32 @@ style_of rows = if is_flagged (codes "mermaid") rows then style.Mermaid else (if
 abbrev pub drawn_in : List Row → Option Style
 drawn_in rows = if is_flagged (codes "draw") rows then Some (style_of rows) else None
 
--- what the options of `outcomes` ask for
-abbrev pub list_options : List Row → ListOptions
-list_options rows = record {
+-- the number of stops of `--stops`, where it is given
+abbrev pub stops_in : List Row → Option ℕ
+stops_in rows = number_given most_stops (first_of (codes "stops") rows)
+
+-- those that `places` is asked for
+abbrev pub stops_wanted : List Row → ℕ
+stops_wanted rows = unwrap_or (stops_in rows) 1
+
+-- the number of threads of `--threads`, where it is given
+abbrev pub threads_in : List Row → Option ℕ
+threads_in rows = number_given most_threads (first_of (codes "threads") rows)
+
+-- the option of this name was given
+abbrev pub is_given : Text → List Row → Bool
+is_given name rows = is_some (first_of name rows)
+
+-- the options of places go together: `--stops` without `--stop`, and `--threads` with `--stops`
+abbrev pub are_together : List Row → Bool
+are_together rows = if is_given (codes "stops") rows then not (is_given (codes "stop") rows) else not (is_given (codes "threads") rows)
+
+-- what the options of `outcomes` ask for, with a place of stops
+abbrev pub list_options : List Row → Place → ListOptions
+list_options rows place = record {
+  place = place;
+  stops = stops_in rows;
+  threads = threads_in rows;
   limit = limit_in rows;
   is_strict = is_strict rows;
   wants_progress = wants_progress rows;
@@ -191,16 +255,25 @@ list_options rows = record {
   drawn = drawn_in rows;
 }
 
--- the command of a name, with its options
-abbrev pub named : Text → List Row → Option Wanted
-named name rows =
+-- what `outcomes` is asked for, where its options go together
+abbrev pub listed : List Row → Place → Option Wanted
+listed rows place = if are_together rows then Some (Outcomes (list_options rows place)) else None
+
+-- the command of a name, with its options and a place of stops
+abbrev pub named_at : Text → List Row → Place → Option Wanted
+named_at name rows place =
     if bytes_eq name (codes "check") then Some Check
-    else (if bytes_eq name (codes "replay") then Some (Replay (is_strict rows) (turns_in rows))
-    else (if bytes_eq name (codes "run") then option_map Run (run_options rows)
+    else (if bytes_eq name (codes "replay") then Some (Replay (is_strict rows) (turns_in rows) place)
+    else (if bytes_eq name (codes "run") then option_map Run (run_options rows place)
     else (if bytes_eq name (codes "sweep") then Some Sweep
-    else (if bytes_eq name (codes "outcomes") then Some (Outcomes (list_options rows))
-    else (if bytes_eq name (codes "draw") then Some (Draw (style_of rows) (turns_in rows))
-    else None)))))
+    else (if bytes_eq name (codes "outcomes") then listed rows place
+    else (if bytes_eq name (codes "places") then Some (Places (stops_wanted rows))
+    else (if bytes_eq name (codes "draw") then Some (Draw (style_of rows) (turns_in rows) place)
+    else None))))))
+
+-- the same by the options alone, where `--stop` has the text of a place
+abbrev pub named : Text → List Row → Option Wanted
+named name rows = option_and_then (named_at name rows) (place_in rows)
 
 -- what a subcommand and its options mean
 abbrev pub meant : Option (Text × List Row) → Option Wanted
@@ -234,13 +307,13 @@ form_in (Some p) = form_of p.1
 abbrev pub form_asked : List Text → Form
 form_asked words = form_in (asked words)
 
--- the fault of words that mean no command, as where there is no carrier of that name
+-- the fault of words that mean no command, as where there is no carrier of that name, or no place with that text
 abbrev pub unmeant : Option Wanted → Kinds
 unmeant None = InvalidValue ∷ []
 unmeant (Some wanted) = []
 
--- What is at fault with the words, by clap's rules and then by the names of carriers: nothing where they can be followed, and
--- a wish for help is one.
+-- What is at fault with the words, by clap's rules and then by the names of carriers and the texts of places: nothing where they can be
+-- followed, and a wish for help is one.
 unfoldable pub faults : List Text → Kinds
 faults words = or_else (fault_of tool_app words) (unmeant (meant (asked words)))
 
@@ -260,12 +333,25 @@ AreInRange options = AreTurns options.turns × IfSome options.repeat (λ n. (0 <
 abbrev pub IsLimit : ℕ → Type 0
 IsLimit limit = (0 < limit) × (limit ≤ most_states)
 
+-- the number of stops is one that a place can have
+abbrev pub AreStops : Option ℕ → Type 0
+AreStops stops = IfSome stops (λ n. (0 < n) × (n ≤ most_stops))
+
+-- the number of threads is in its range
+abbrev pub AreThreads : Option ℕ → Type 0
+AreThreads threads = IfSome threads (λ n. (0 < n) × (n ≤ most_threads))
+
+-- the numbers of the options of `outcomes` are in their ranges
+abbrev pub AreListed : ListOptions → Type 0
+AreListed options = IsLimit options.limit × AreStops options.stops × AreThreads options.threads
+
 -- the numbers of what the words ask for are in their ranges
 abbrev pub HasRanges : Wanted → Type 0
-HasRanges (Replay is_strict turns) = AreTurns turns
+HasRanges (Replay is_strict turns place) = AreTurns turns
 HasRanges (Run options) = AreInRange options
-HasRanges (Outcomes options) = IsLimit options.limit
-HasRanges (Draw style turns) = AreTurns turns
+HasRanges (Outcomes options) = AreListed options
+HasRanges (Places stops) = (0 < stops) × (stops ≤ most_stops)
+HasRanges (Draw style turns place) = AreTurns turns
 HasRanges _ = ⊤
 
 -- the status of a kind of fault: help is no failure

@@ -4,3 +4,5 @@ pub mod Asking
 pub mod Failure
 pub mod Replies
 pub mod Unfinished
+pub mod Stopped
+pub mod Places

@@ -1,18 +1,21 @@
 //! The command line.
 ghost use Rattle.std.specs.Prelude.{◌≡◌, [], codes, Some, map, option_map, unwrap_or, IfOk, IfSome};
 ghost use Rattle.clap.specs.Words.{FailsBy, all_of, first_of, found_of, kind_of, rows_of, subcommand_rows_of};
-ghost use Rattle.ulfm_replies.specs.CommandLine.{AreInRange, HasRanges, asked, carrier_named, IsLimit, drawn_in, faults, form_asked, form_in, form_of, is_flagged, is_strict, AreTurns, wants_progress, files_in, limit_in, list_options, meant, named, run_options, show_asked, show_in, style_of, turns_in};
+ghost use Rattle.ulfm_replies.specs.CommandLine.{AreInRange, AreListed, HasRanges, asked, carrier_named, IsLimit, faults, form_asked, form_in, form_of, AreTurns, files_in, limit_in, list_options, listed, meant, named, named_at, run_options, show_asked, show_in, turns_in};
 
 use crate::flagged::{drawn_in, is_flagged, is_strict, style_of, wants_progress};
 use crate::number::number_given;
 use crate::options::{MOST_RUNS, MOST_STATES, MOST_TURNS, USUAL_STATES};
+use crate::placed::{are_together, place_in, stops_in, stops_wanted, threads_in};
 use crate::subcommands::command_line;
+use crate::unmeant::unmeant_text;
 use clap::error::ErrorKind;
 use clap::{ArgMatches, Command, Error};
 use std::alloc::{AllocError, Global};
 use std::convert::AsStr;
 use ulfm_draw::Style;
 use ulfm_json::Form;
+use ulfm_stops::Place;
 
 /// What takes the items of a run from rank to rank.
 #[derive(Clone, Copy, Debug, PartialEq, Eq)]
@@ -28,6 +31,8 @@ pub enum Carrier {
 pub struct RunOptions {
     /// What takes the items from rank to rank.
     pub carrier: Carrier,
+    /// Where ranks stop, besides the stops of the job.
+    pub place: Place,
     /// Whether an unfinished step has a status of its own.
     pub is_strict: bool,
     /// The turns of the job, in place of its own, 1 to 10,000,000.
@@ -41,6 +46,12 @@ pub struct RunOptions {
 /// The options of `outcomes`.
 #[derive(Clone, Copy, Debug, PartialEq, Eq)]
 pub struct ListOptions {
+    /// Where ranks stop, besides the stops of the job.
+    pub place: Place,
+    /// At how many stops at most the job is looked at, 1 or 2, each at any place, where it is to be at all of them.
+    pub stops: Option<u8>,
+    /// By how many threads, 1 to 64: as many as there are processors where it is left out.
+    pub threads: Option<u8>,
     /// The most states that are looked at, 1 to 100,000,000.
     pub limit: u32,
     /// Whether a step that never ends has a status of its own.
@@ -64,6 +75,8 @@ pub enum Wanted {
         is_strict: bool,
         /// The turns of the job, in place of its own, 1 to 10,000,000.
         turns: Option<u32>,
+        /// Where ranks stop, besides the stops of the job.
+        place: Place,
     },
     /// The trace of a run.
     Run(RunOptions),
@@ -71,12 +84,16 @@ pub enum Wanted {
     Sweep,
     /// A line for each step, with all that it may be answered, or a schedule that shows some of it.
     Outcomes(ListOptions),
+    /// A line for each place at which ranks may stop, at most so many of them, 1 or 2.
+    Places(u8),
     /// A picture of a replay.
     Draw {
         /// Its form.
         style: Style,
         /// The turns of the job, in place of its own, 1 to 10,000,000.
         turns: Option<u32>,
+        /// Where ranks stop, besides the stops of the job.
+        place: Place,
     },
 }
 
@@ -111,25 +128,22 @@ pub fn asked_of<'a, S: AsStr>(alloc: Global, words: &'a [S]) -> Result<Asked<'a>
             show: show_in(&matches),
             files: files_in(alloc, &matches)?,
         }),
-        None => Err(unknown_carrier(alloc, &mut command, &matches)?),
+        None => Err(unmeant(alloc, &mut command, &matches)?),
     }
 }
 
-/// The error of a command line that names a carrier that there isn't.
-fn unknown_carrier(
+/// The error of a command line that clap takes, and that asks for nothing all the same.
+fn unmeant(
     alloc: Global,
     command: &mut Command<'_>,
     matches: &ArgMatches<'_>,
 ) -> Result<Error, AllocError>
     ensures { IfOk result (λ error. kind_of error ≡ ErrorKind.InvalidValue) }
 {
-    let value = match matches.subcommand() {
-        Some((_, options)) => options.get_str("carrier").unwrap_or(""),
-        None => "",
+    let message = match matches.subcommand() {
+        Some((_, options)) => unmeant_text(alloc, options)?,
+        None => String::new(alloc),
     };
-    let message = format!(in alloc;
-        "invalid value '{value}' for '--carrier <CARRIER>'\n  [possible values: lanes, shared]"
-    )?;
     command.error(ErrorKind::InvalidValue, message.as_str())
 }
 
@@ -147,34 +161,61 @@ fn named(name: &str, options: &ArgMatches<'_>) -> Option<Wanted>
     ensures exact { result ≡ named name.now (rows_of (found_of options.now)) }
     ensures ranges { IfSome result HasRanges }
 {
+    match place_in(options) {
+        Some(place) => named_at(name, options, place),
+        None => None,
+    }
+}
+
+/// The command of a name, with what was found of its options, and where ranks stop.
+fn named_at(name: &str, options: &ArgMatches<'_>, place: Place) -> Option<Wanted>
+    ensures exact { result ≡ named_at name.now (rows_of (found_of options.now)) place }
+    ensures ranges { IfSome result HasRanges }
+{
     match name {
         "check" => Some(Wanted::Check),
         "replay" => Some(Wanted::Replay {
             is_strict: is_strict(options),
             turns: turns_in(options),
+            place,
         }),
-        "run" => match run_options(options) {
+        "run" => match run_options(options, place) {
             Some(options) => Some(Wanted::Run(options)),
             None => None,
         },
         "sweep" => Some(Wanted::Sweep),
-        "outcomes" => Some(Wanted::Outcomes(list_options(options))),
+        "outcomes" => listed(options, place),
+        "places" => Some(Wanted::Places(stops_wanted(options))),
         "draw" => Some(Wanted::Draw {
             style: style_of(options),
             turns: turns_in(options),
+            place,
         }),
         _ => None,
     }
 }
 
+/// What `outcomes` is asked for, where its options go together.
+fn listed(options: &ArgMatches<'_>, place: Place) -> Option<Wanted>
+    ensures exact { result ≡ listed (rows_of (found_of options.now)) place }
+    ensures ranges { IfSome result HasRanges }
+{
+    if are_together(options) {
+        Some(Wanted::Outcomes(list_options(options, place)))
+    } else {
+        None
+    }
+}
+
 /// What the options of `run` ask for, where there is a carrier of that name.
-fn run_options(options: &ArgMatches<'_>) -> Option<RunOptions>
-    ensures exact { result ≡ run_options (rows_of (found_of options.now)) }
+fn run_options(options: &ArgMatches<'_>, place: Place) -> Option<RunOptions>
+    ensures exact { result ≡ run_options (rows_of (found_of options.now)) place }
     ensures ranges { IfSome result AreInRange }
 {
     match carrier_named(value_of(options, "carrier")) {
         Some(carrier) => Some(RunOptions {
             carrier,
+            place,
             is_strict: is_strict(options),
             turns: turns_in(options),
             repeat: number_given(value_of(options, "repeat"), MOST_RUNS),
@@ -185,11 +226,14 @@ fn run_options(options: &ArgMatches<'_>) -> Option<RunOptions>
 }
 
 /// What the options of `outcomes` ask for.
-fn list_options(options: &ArgMatches<'_>) -> ListOptions
-    ensures exact { result ≡ list_options (rows_of (found_of options.now)) }
-    ensures range { IsLimit result.limit }
+fn list_options(options: &ArgMatches<'_>, place: Place) -> ListOptions
+    ensures exact { result ≡ list_options (rows_of (found_of options.now)) place }
+    ensures ranges { AreListed result }
 {
     ListOptions {
+        place,
+        stops: stops_in(options),
+        threads: threads_in(options),
         limit: limit_in(options),
         is_strict: is_strict(options),
         wants_progress: wants_progress(options),

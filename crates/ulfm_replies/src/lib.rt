@@ -16,13 +16,18 @@ mod command;
 mod failure;
 mod flagged;
 mod help;
+mod misplaced;
 mod notes;
 mod number;
 mod options;
+mod placed;
 mod reply;
+mod stopped;
 mod subcommands;
 mod trace;
+mod unmeant;
 mod version;
+mod written;
 
 pub use asked::{Unfollowed, asked_for};
 pub use asking::as_asked;
@@ -33,5 +38,8 @@ pub use reply::{
     DONE, INPUT_FAILED, JOB_REFUSED, NO_SCHEDULE, NOT_EXPECTED, OUTPUT_FAILED, PAST_LIMIT,
     RUN_FAILED, Reply, UNFINISHED, USAGE, check_reply, refusal,
 };
+pub use stopped::{asked_at, asked_beside, names_at};
 pub use trace::{has_unfinished, played_status, trace_reply};
 pub use ulfm_json::Form;
+pub use ulfm_stops::Place;
+pub use written::places_reply;

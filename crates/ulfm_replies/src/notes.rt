@@ -1,6 +1,7 @@
 //! What standard error says beside a reply: for people, and none of it is promised.
 
 use crate::command::{RunOptions, Wanted};
+use crate::misplaced::{misplaced_line, place_of};
 use crate::reply::{DONE, JOB_REFUSED, NOT_EXPECTED, PAST_LIMIT, Reply, UNFINISHED};
 use std::alloc::{AllocError, Global};
 use std::io::Write;
@@ -9,10 +10,11 @@ use ulfm_explain::{
 };
 use ulfm_findings::write_whole;
 use ulfm_json::Form;
+use ulfm_stops::Place;
 
-/// Why a good job can't be swept.
-const NO_PLACE: &str =
-    "the job has 256 steps, which are the most: with a stop put in, as sweep does, there are too many\n";
+/// Why no stop can be put into a good job.
+const NO_ROOM: &str =
+    "a job has 256 steps at most: with stops put in, as by sweep, places and --stop, there are too many\n";
 
 /// Why a job is empty, most of the time.
 const EMPTY: &str =
@@ -73,11 +75,18 @@ fn notes_on(
 ) -> Result<String, AllocError> {
     match (reply.status, wanted) {
         (JOB_REFUSED, _) if bytes.trim_ascii().is_empty() => String::from_str(alloc, EMPTY),
-        (JOB_REFUSED, _) => refused_lines(alloc, &explain(alloc, bytes)?, reply.text.as_str()),
+        (JOB_REFUSED, _) => {
+            let mut notes = refused_lines(alloc, &explain(alloc, bytes)?, reply.text.as_str())?;
+            let place = misplaced_line(alloc, bytes, place_of(wanted))?;
+            notes.push_str(place.as_str())?;
+            Ok(notes)
+        }
         (DONE, Wanted::Check) => lines_of(alloc, "warning: ", &warnings(alloc, bytes)?),
         (PAST_LIMIT, _) => String::from_str(alloc, MANY_STATES),
-        // A picture has all of it.
-        (_, Wanted::Draw { .. }) => Ok(String::new(alloc)),
+        // A picture has all of it, and a place says nothing of steps.
+        (_, Wanted::Draw { .. } | Wanted::Places(_)) => Ok(String::new(alloc)),
+        // Beside stops steps have other numbers than in the bytes.
+        _ if place_of(wanted) != Place::Nowhere => Ok(String::new(alloc)),
         // The words of a trace are looked through for the others, and objects have none.
         _ if form == Form::Json => Ok(String::new(alloc)),
         (NOT_EXPECTED, Wanted::Outcomes(_)) => {
@@ -133,7 +142,7 @@ fn without_counts(alloc: Global, text: &str) -> Result<String, AllocError> {
 /// Why a job is refused, by what is wrong with its text. Where nothing is, yet it is too large, a stop has no room in it.
 fn refused_lines(alloc: Global, found: &[Explanation], text: &str) -> Result<String, AllocError> {
     if found.is_empty() && text.contains(TOO_LARGE) {
-        return String::from_str(alloc, NO_PLACE);
+        return String::from_str(alloc, NO_ROOM);
     }
     lines_of(alloc, "", found)
 }

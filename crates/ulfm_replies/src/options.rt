@@ -1,7 +1,7 @@
 //! The options of the commands.
 ghost use Rattle.std.specs.Prelude.{◌≡◌, false};
 ghost use Rattle.clap.specs.Words.{rule_of};
-ghost use Rattle.ulfm_replies.specs.CommandLine.{brief_rule, carrier_rule, flag_rule, json_rule, file_rule, number_rule, progress_rule, show_rule, strict_rule, turns_rule};
+ghost use Rattle.ulfm_replies.specs.CommandLine.{brief_rule, carrier_rule, flag_rule, json_rule, file_rule, number_rule, progress_rule, show_rule, stop_rule, stops_rule, strict_rule, turns_rule};
 
 use clap::builder::ValueParser;
 use clap::{Arg, ArgAction};
@@ -18,6 +18,12 @@ pub const MOST_STATES: u32 = 100_000_000;
 
 /// The most states that are looked at where there is no `--limit`.
 pub const USUAL_STATES: u32 = 1_000_000;
+
+/// The most stops of a place.
+pub const MOST_STOPS: u8 = 2;
+
+/// The most threads that `--threads` can ask for.
+pub const MOST_THREADS: u8 = 64;
 
 /// The files of jobs, as many as there are.
 pub fn files<'a>(alloc: Global) -> Arg<'a>
@@ -41,6 +47,25 @@ pub fn turns_option<'a>(alloc: Global) -> Arg<'a>
         MOST_TURNS,
         "Gives the job this number of turns in place of its own [1 to 10000000]",
     )
+}
+
+/// The option `--stop`.
+pub fn stop_option<'a>(alloc: Global) -> Arg<'a>
+    ensures rule { rule_of result ≡ stop_rule }
+    ensures local { result.global ≡ false }
+{
+    Arg::new(alloc, "stop")
+        .long("stop")
+        .value_name("PLACE")
+        .help("Stops ranks before these steps: 0.2 is rank 0 before its step 2, 0.2+1.3 two ranks, - none")
+}
+
+/// The option `--stops`, with what it does to a command.
+pub fn stops_option<'a>(alloc: Global, help: &'a str) -> Arg<'a>
+    ensures rule { rule_of result ≡ stops_rule }
+    ensures local { result.global ≡ false }
+{
+    number_option(alloc, "stops", u32::from(MOST_STOPS), help)
 }
 
 /// The option `--carrier`.

@@ -2,12 +2,13 @@
 ghost use Rattle.std.specs.Prelude.{◌≡◌, false, IfOk};
 ghost use Rattle.clap.specs.declared.builder.command.Command.TheViews.{out-Command};
 ghost use Rattle.clap.specs.Words.{app_of};
-ghost use Rattle.ulfm_replies.specs.CommandLine.{check_app, demanding_app, draw_app, of_jobs, of_pictures, of_schedules, outcomes_app, replay_app, run_app, sweep_app, tool_app};
+ghost use Rattle.ulfm_replies.specs.CommandLine.{check_app, demanding_app, draw_app, of_jobs, of_pictures, of_places, of_schedules, of_stopped, outcomes_app, places_app, replay_app, run_app, sweep_app, tool_app};
 
 use crate::help::HELP;
 use crate::options::{
-    MOST_RUNS, MOST_STATES, brief_flag, carrier_option, files, json_flag, number_option,
-    plain_flag, progress_flag, show_option, strict_flag, turns_option,
+    MOST_RUNS, MOST_STATES, MOST_THREADS, brief_flag, carrier_option, files, json_flag,
+    number_option, plain_flag, progress_flag, show_option, stop_option, stops_option, strict_flag,
+    turns_option,
 };
 use crate::version::VERSION;
 use clap::Command;
@@ -22,6 +23,7 @@ pub fn command_line<'a>(alloc: Global) -> Result<Command<'a>, AllocError>
     let command = command.subcommand(run_command(alloc)?)?;
     let command = command.subcommand(sweep_command(alloc)?)?;
     let command = command.subcommand(outcomes_command(alloc)?)?;
+    let command = command.subcommand(places_command(alloc)?)?;
     command.subcommand(draw_command(alloc)?)
 }
 
@@ -46,6 +48,16 @@ fn of_jobs<'a>(alloc: Global, command: Command<'a>) -> Result<Command<'a>, Alloc
     command.arg(files(alloc))
 }
 
+/// A command with the option `--stop`, and with what each of them has.
+fn of_stopped<'a>(alloc: Global, command: Command<'a>) -> Result<Command<'a>, AllocError>
+    requires { (out-Command command).has_globals ≡ false }
+    ensures app { IfOk result (λ r. app_of r ≡ of_stopped (app_of command.entry)) }
+    ensures local { IfOk result (λ r. (out-Command r).has_globals ≡ false) }
+{
+    let command = command.arg(stop_option(alloc))?;
+    of_jobs(alloc, command)
+}
+
 /// The command `check`.
 fn check_command<'a>(alloc: Global) -> Result<Command<'a>, AllocError>
     ensures app { IfOk result (λ command. app_of command ≡ check_app) }
@@ -67,7 +79,7 @@ fn replay_command<'a>(alloc: Global) -> Result<Command<'a>, AllocError>
         .after_help("Example: ulfm replay --strict jobs/one_letter.toml")
         .arg(strict_flag(alloc))?;
     let command = command.arg(turns_option(alloc))?;
-    of_jobs(alloc, command)
+    of_stopped(alloc, command)
 }
 
 /// The command `run` with its options.
@@ -95,7 +107,7 @@ fn run_command<'a>(alloc: Global) -> Result<Command<'a>, AllocError>
         "With --repeat prints the lines of all traces once, and the others with their counts",
     );
     let command = command.arg(brief)?;
-    of_jobs(alloc, command)
+    of_stopped(alloc, command)
 }
 
 /// The command `sweep`.
@@ -133,6 +145,43 @@ fn outcomes_command<'a>(alloc: Global) -> Result<Command<'a>, AllocError>
     let command = command.arg(limit)?;
     let command = command.arg(progress_flag(alloc))?;
     let command = of_schedules(alloc, command)?;
+    let command = of_places(alloc, command)?;
+    of_stopped(alloc, command)
+}
+
+/// A command with the options of places: `--stops` and `--threads`.
+fn of_places<'a>(alloc: Global, command: Command<'a>) -> Result<Command<'a>, AllocError>
+    requires { (out-Command command).has_globals ≡ false }
+    ensures app { IfOk result (λ r. app_of r ≡ of_places (app_of command.entry)) }
+    ensures local { IfOk result (λ r. (out-Command r).has_globals ≡ false) }
+{
+    let stops = stops_option(
+        alloc,
+        "Lists the answers with at most so many ranks stopping, each at any place [1 or 2]",
+    );
+    let command = command.arg(stops)?;
+    let threads = number_option(
+        alloc,
+        "threads",
+        u32::from(MOST_THREADS),
+        "With --stops looks at places by so many threads [1 to 64; one a processor if left out]",
+    );
+    command.arg(threads)
+}
+
+/// The command `places` with its option.
+fn places_command<'a>(alloc: Global) -> Result<Command<'a>, AllocError>
+    ensures app { IfOk result (λ command. app_of command ≡ places_app) }
+    ensures local { IfOk result (λ command. (out-Command command).has_globals ≡ false) }
+{
+    let stops = stops_option(
+        alloc,
+        "Allows at most so many ranks to stop [1 or 2; 1 if left out]",
+    );
+    let command = Command::new(alloc, "places")
+        .about("Lists the places at which ranks of a job may stop, for --stop")
+        .after_help("Example: ulfm places --stops 2 jobs/recovery_of_three.toml")
+        .arg(stops)?;
     of_jobs(alloc, command)
 }
 
@@ -177,5 +226,5 @@ fn draw_command<'a>(alloc: Global) -> Result<Command<'a>, AllocError>
         .after_help("Example: ulfm draw jobs/one_letter.toml > run.svg")
         .arg(turns_option(alloc))?;
     let command = of_pictures(alloc, command)?;
-    of_jobs(alloc, command)
+    of_stopped(alloc, command)
 }

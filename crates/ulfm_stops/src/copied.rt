@@ -56,7 +56,7 @@ fn copied_clauses(alloc: Global, clauses: &[Clause]) -> Result<Vec<Clause>, OutO
 }
 
 /// The same clause once more.
-fn copied_clause(alloc: Global, clause: &Clause) -> Result<Clause, OutOfMemory>
+pub fn copied_clause(alloc: Global, clause: &Clause) -> Result<Clause, OutOfMemory>
     ensures { IfOk result (λ copy. copy ≡ clause.now) }
 {
     let words = clause.words.copy(alloc)?;

@@ -12,6 +12,7 @@
 
 mod copied;
 mod listing;
+mod moved;
 mod place;
 mod reading;
 mod stop;

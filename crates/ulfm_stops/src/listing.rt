@@ -3,7 +3,7 @@ ghost use Rattle.std.specs.Prelude.{◌≡◌, ◌<◌, ◌≤◌, ◌++◌, All
 ghost use Rattle.std.specs.List.{list_any};
 ghost use Rattle.ulfm_job.specs.Job.{IsJob, script_at};
 ghost use Rattle.ulfm_stops.specs.Place.{IsPlaceOf};
-ghost use Rattle.ulfm_stops.specs.Places.{all_stops, is_asked, last_place, ones, pairs_of, places_of, stops_always, stops_in, twos};
+ghost use Rattle.ulfm_stops.specs.Places.{all_stops, is_asked, last_place, pairs_of, places_of, stops_always, stops_in, twos};
 ghost use Rattle.ulfm_stops.specs.declared.place.Place.TheVariants.{One};
 
 use crate::place::Place;

@@ -23,4 +23,6 @@ mod reach;
 #[cfg(test)]
 mod run;
 #[cfg(test)]
+mod stops;
+#[cfg(test)]
 mod world;

@@ -1,12 +1,13 @@
-use Rattle.std.proofs.Common.{◌≡◌, ◌∙◌, All, Some, ap, ap₂, map, subst, sym}
+use Rattle.std.proofs.Common.{◌≡◌, ◌∙◌, ℕ, All, List, Some, ap, ap₂, map, subst, sym}
 use Rattle.std.proofs.lemmas.List.{length-map}
 use Rattle.std.proofs.lemmas.Result.{IfOk-weaker}
 use Rattle.std.specs.List.{list_all}
 use Rattle.ulfm_job.specs.Job.{JobView}
-use Rattle.ulfm_reader.specs.JobText.{job_in, rows_of}
+use Rattle.ulfm_reader.specs.JobText.{rows_of}
 use Rattle.ulfm_reader.specs.declared.reading.Reading.{Reading}
 use Rattle.ulfm_laws.specs.Lawful.{IsLawful}
-use Rattle.ulfm_program.specs.Replies.{ran, repeated, given_turns}
+use Rattle.ulfm_replies.specs.Stopped.{IsAsked, asked_view}
+use Rattle.ulfm_program.specs.Replies.{ran, repeated, not_run, given_turns}
 use Rattle.ulfm_json.specs.Form.{trace_in}
 use Rattle.ulfm_program.specs.Brief.{repeats_in}
 use Rattle.ulfm_program.specs.Tally.{tally}
@@ -14,14 +15,13 @@ use Rattle.ulfm_replies.specs.Asking.{as_asked}
 use Rattle.ulfm_replies.specs.Unfinished.{played_status}
 use Rattle.ulfm_program.specs.inside.Writing.{IsShown}
 use Rattle.ulfm_program.specs.inside.Tallied.{rows_of as rows_kept}
-use Rattle.ulfm_program.proofs.Asked.{job_asked, never_asked}
-use Rattle.ulfm_program.proofs.Refused.{run_refused, run_failed, without_repeat}
+use Rattle.ulfm_program.proofs.Refused.{run_failed, without_repeat}
 use Rattle.ulfm_program.proofs.Totals.{kept_total-tally}
 use Rattle.ulfm_program.proofs.run.run_reply.Goals as goal
 use Rattle.ulfm_program.proofs.run.run_reply.Goals.{in-Ok-tally_of, in-Err-tally_of}
 
 pub returns-in-Err : goal.returns-in-Err
-returns-in-Err g c = IfOk-weaker c.refusal.result _ _ (λ r h. rw (h.0, h.1) (run_refused c.in-Err.fault _ (λ no_memory. ap job_in (c.in-Err.ensures no_memory)))) c.refusal.ensures
+returns-in-Err g c = not_run _ _ (subst (IsAsked c.args.form c.args.options.place c.args.bytes.now) c.in-Err.is c.in_ok-read.ensures)
 
 pub tally_reply-requires : goal.tally_reply-requires
 tally_reply-requires g c = let runs = c.in-Ok-tally_of.ensures.runs in kept_total-tally c.in-Ok-tally_of.tally.rows.items _ runs.5 ∙ length-map runs.0 _ ∙ runs.1
@@ -30,21 +30,20 @@ pub returns-in-Some : goal.returns-in-Some
 returns-in-Some g c =
     let given = c.given_turns-asked.ensures in
     let job : c.given_turns-asked.result.job ≡ given_turns c.args.options.turns c.in-Ok.asked.job = ap (λ (asked : Reading). asked.job) given in
-    let read = job_asked c.args.bytes.now c.in-Ok.asked c.in-Ok.ensures in
+    let read = subst (IsAsked c.args.form c.args.options.place c.args.bytes.now) c.in-Ok.is c.in_ok-read.ensures in
     elim c.match-tally_of.branch [
       | in-Ok-tally_of w ↦
           let runs = w.in-Ok-tally_of.ensures.runs in
           rw w.result-is (IfOk-weaker w.tally_reply.result _ _ (λ r h.
           rw (
-            h.0 ∙ ap₂ (played_status c.args.options.is_strict) (runs.4 ∙ ap (λ (asked : Reading). list_all (as_asked (rows_of asked.never.items) asked.job) runs.0) given
-                ∙ ap (λ never. list_all (as_asked never (given_turns c.args.options.turns c.in-Ok.asked.job)) runs.0) (never_asked c.args.bytes.now c.in-Ok.asked c.in-Ok.ensures)) runs.3,
+            h.0 ∙ ap₂ (played_status c.args.options.is_strict) (runs.4 ∙ ap (λ (asked : Reading). list_all (as_asked (rows_of asked.never.items) asked.job) runs.0) given) runs.3,
             h.1 ∙ ap (λ (j : JobView). repeats_in c.args.form c.args.options.is_brief j c.in-Some.times (rows_kept w.in-Ok-tally_of.tally.rows.items)) job
-                ∙ ap₂ (repeats_in c.args.form c.args.options.is_brief (given_turns c.args.options.turns c.in-Ok.asked.job)) (sym runs.1) (runs.5 ∙ ap (λ (j : JobView). tally (map (trace_in c.args.form c.args.bytes.now j) runs.0)) job),
+                ∙ ap₂ (repeats_in c.args.form c.args.options.is_brief (given_turns c.args.options.turns c.in-Ok.asked.job)) (sym runs.1) (runs.5 ∙ ap₂ (λ (names : List ℕ) (j : JobView). tally (map (trace_in c.args.form names j) runs.0)) c.names_at-names.ensures job),
           )
-          (repeated c.in-Ok.asked.job runs.0 (c.in-Some.is ∙ ap Some (sym runs.1)) read (subst (λ (j : JobView). All (IsLawful j) runs.0) job runs.2))) w.tally_reply.ensures)
+          (repeated (asked_view c.in-Ok.asked) runs.0 (c.in-Some.is ∙ ap Some (sym runs.1)) read (subst (λ (j : JobView). All (IsLawful j) runs.0) job runs.2))) w.tally_reply.ensures)
       | in-Err-tally_of w ↦
           rw w.result-is (IfOk-weaker w.failed.result _ _ (λ r h.
-          rw (h.0, h.1) (run_failed c.args.form c.in-Ok.asked.job w.in-Err-tally_of.failure _ read (subst (λ (j : JobView). IsShown j w.in-Err-tally_of.failure) job w.in-Err-tally_of.ensures.shown))) w.failed.ensures)
+          rw (h.0, h.1) (run_failed c.args.form (asked_view c.in-Ok.asked) w.in-Err-tally_of.failure _ read (subst (λ (j : JobView). IsShown j w.in-Err-tally_of.failure) job w.in-Err-tally_of.ensures.shown))) w.failed.ensures)
     ]
 
 pub returns-in-Ok-ran : goal.returns-in-Ok-ran
@@ -53,12 +52,13 @@ returns-in-Ok-ran g c =
     let given = c.given_turns-asked.ensures in
     let job : c.given_turns-asked.result.job ≡ given_turns c.args.options.turns c.in-Ok.asked.job = ap (λ (asked : Reading). asked.job) given in
     let lawful : IsLawful (given_turns c.args.options.turns c.in-Ok.asked.job) reports = subst (λ (j : JobView). IsLawful j reports) job c.in-Ok-ran.ensures.lawful in
-    let never = never_asked c.args.bytes.now c.in-Ok.asked c.in-Ok.ensures in
-    IfOk-weaker c.trace_reply.result _ _ (λ r h. rw (h.0, h.1, c.as_slice.ensures.value, given, never) (ran c.in-Ok.asked.job reports (without_repeat c.args.options.repeat c.in_default.not-Some) (job_asked c.args.bytes.now c.in-Ok.asked c.in-Ok.ensures) lawful)) c.trace_reply.ensures
+    let read = subst (IsAsked c.args.form c.args.options.place c.args.bytes.now) c.in-Ok.is c.in_ok-read.ensures in
+    IfOk-weaker c.trace_reply.result _ _ (λ r h. rw (h.0, h.1, c.as_slice.ensures.value, given, c.names_at-names.ensures) (ran (asked_view c.in-Ok.asked) reports (without_repeat c.args.options.repeat c.in_default.not-Some) read lawful)) c.trace_reply.ensures
 
 pub returns : goal.returns
 returns g c =
     let f = c.in-Err-ran.failure in
+    let read = subst (IsAsked c.args.form c.args.options.place c.args.bytes.now) c.in-Ok.is c.in_ok-read.ensures in
     let job : c.given_turns-asked.result.job ≡ given_turns c.args.options.turns c.in-Ok.asked.job = ap (λ (asked : Reading). asked.job) c.given_turns-asked.ensures in
     let shown : IsShown (given_turns c.args.options.turns c.in-Ok.asked.job) f = subst (λ (j : JobView). IsShown j f) job c.in-Err-ran.ensures.shown in
-    IfOk-weaker c.failed-in-Err-ran.result _ _ (λ r h. rw (h.0, h.1) (run_failed c.args.form c.in-Ok.asked.job f _ (job_asked c.args.bytes.now c.in-Ok.asked c.in-Ok.ensures) shown)) c.failed-in-Err-ran.ensures
+    IfOk-weaker c.failed-in-Err-ran.result _ _ (λ r h. rw (h.0, h.1) (run_failed c.args.form (asked_view c.in-Ok.asked) f _ read shown)) c.failed-in-Err-ran.ensures

@@ -1,0 +1,159 @@
+//! What a text asks for, with the stops of a place.
+ghost use Rattle.std.specs.Prelude.{◌≡◌, ◌≤◌, ℕ, List, Ok, IfOk, map, string_bytes};
+ghost use Rattle.ulfm_stops.specs.Place.{IsStopOf};
+ghost use Rattle.ulfm_reader.specs.JobText.{reading_of_bytes, rows_of};
+ghost use Rattle.ulfm_replies.specs.Stopped.{IsAsked, asked_beside, asked_view, clauses_beside, name_beside, names_at, no_place_in, no_place_json, no_place_text, reading_as};
+
+use crate::reply::{JOB_REFUSED, Reply, refusal};
+use std::alloc::{AllocError, Global};
+use ulfm_job::{Clause, JobFault, MOST_STEPS};
+use ulfm_json::Form;
+use ulfm_reader::{Name, ReadJob, Reading};
+use ulfm_stops::{Place, Stop};
+
+/// What a text asks for, with the stops of a place, or the reply that its job is refused, or hasn't this place.
+pub fn asked_at(
+    alloc: Global,
+    form: Form,
+    place: Place,
+    bytes: &[u8],
+) -> Result<Result<Reading, Reply>, AllocError>
+    ensures { IfOk result (IsAsked form place bytes.now) }
+{
+    match Reading::read(alloc, bytes) {
+        Ok(read) => placed(alloc, form, place, read),
+        Err(fault) => Ok(Err(refusal(alloc, form, fault)?)),
+    }
+}
+
+/// The text in which the names of steps are looked for: beside stops none is told.
+pub fn names_at(place: Place, bytes: &[u8]) -> &[u8]
+    ensures { result.now ≡ names_at place bytes.now }
+{
+    match place {
+        Place::Nowhere => bytes,
+        _ => &[],
+    }
+}
+
+/// What was read, with the stops of a place, or the reply that the job hasn't this place, or no room for these stops.
+fn placed(
+    alloc: Global,
+    form: Form,
+    place: Place,
+    read: Reading,
+) -> Result<Result<Reading, Reply>, AllocError>
+    ensures { (bytes : List ℕ) → reading_of_bytes bytes ≡ Ok (reading_as (asked_view read)) → IfOk result (IsAsked form place bytes) }
+{
+    if !place.is_inside(&read.job) {
+        return Ok(Err(no_place(alloc, form, place)?));
+    }
+    if read.job.len() + place.len() > MOST_STEPS {
+        return Ok(Err(refusal(alloc, form, JobFault::TooLarge)?));
+    }
+    match place {
+        Place::Nowhere => Ok(Ok(read)),
+        Place::One(stop) => Ok(Ok(asked_beside(alloc, stop, &read)?)),
+        Place::Two(first, second) => {
+            let read = asked_beside(alloc, first, &read)?;
+            Ok(Ok(asked_beside(alloc, second, &read)?))
+        }
+    }
+}
+
+/// The reply to a place that a job hasn't.
+fn no_place(alloc: Global, form: Form, place: Place) -> Result<Reply, AllocError>
+    ensures { IfOk result (λ r. (r.status ≡ 1) × (string_bytes r.text ≡ no_place_in form place)) }
+{
+    let text = match form {
+        Form::Words => no_place_text(alloc, place)?,
+        Form::Json => no_place_json(alloc, place)?,
+    };
+    Ok(Reply {
+        status: JOB_REFUSED,
+        text,
+    })
+}
+
+/// What stands before a place that a job hasn't.
+const NO_PLACE: &str = "place refused: ";
+
+/// The line for a place that a job hasn't.
+fn no_place_text(alloc: Global, place: Place) -> Result<String, AllocError>
+    ensures { IfOk result (λ text. string_bytes text ≡ no_place_text place) }
+{
+    format!(in alloc; "{NO_PLACE}{place}\n")
+}
+
+/// The same as an object.
+fn no_place_json(alloc: Global, place: Place) -> Result<String, AllocError>
+    ensures { IfOk result (λ text. string_bytes text ≡ no_place_json place) }
+{
+    format!(in alloc; "{{\"place_refused\":\"{place}\"}}\n")
+}
+
+/// What was read, with one more stop of its job: steps of its rank behind the stop have a number more, by which rows and names then tell them.
+pub fn asked_beside(alloc: Global, stop: Stop, read: &Reading) -> Result<Reading, AllocError>
+    requires { IsStopOf read.now.job stop }
+    ensures { IfOk result (λ made. asked_view made ≡ asked_beside stop (asked_view read.now)) }
+{
+    let len = read.job.script_len(stop.rank);
+    let never = rows_beside(alloc, stop, len, read.never.as_slice())?;
+    let names = names_beside(alloc, stop, len, read.names.as_slice())?;
+    match read.job.with_stop(stop.rank, stop.at) {
+        Ok(job) => Ok(Reading { job, never, names }),
+        Err(_) => Err(AllocError),
+    }
+}
+
+/// Rows by the numbers that steps have beside a stop.
+fn rows_beside(
+    alloc: Global,
+    stop: Stop,
+    len: usize,
+    rows: &[Vec<Clause>],
+) -> Result<Vec<Vec<Clause>>, AllocError>
+    requires { len ≤ 256 }
+    ensures { IfOk result (λ moved. rows_of moved.items ≡ map (clauses_beside stop len) (rows_of rows.now)) }
+{
+    let mut moved = Vec::new(alloc);
+    for row in rows {
+        moved.push(stop.clauses(alloc, len, row.as_slice())?)?;
+    }
+    Ok(moved)
+}
+
+/// Names by the numbers that steps have beside a stop.
+fn names_beside(
+    alloc: Global,
+    stop: Stop,
+    len: usize,
+    names: &[Name],
+) -> Result<Vec<Name>, AllocError>
+    requires { len ≤ 256 }
+    ensures { IfOk result (λ moved. moved.items ≡ map (name_beside stop len) names.now) }
+{
+    let mut moved = Vec::new(alloc);
+    for name in names {
+        moved.push(name_beside(alloc, stop, len, name)?)?;
+    }
+    Ok(moved)
+}
+
+/// The name of a step by the number that the step has beside a stop.
+fn name_beside(alloc: Global, stop: Stop, len: usize, name: &Name) -> Result<Name, AllocError>
+    requires { len ≤ 256 }
+    ensures { IfOk result (λ moved. moved ≡ name_beside stop len name.now) }
+{
+    let text = name.text.copy(alloc)?;
+    let at = if name.rank == stop.rank {
+        stop.number(len, name.at)
+    } else {
+        name.at
+    };
+    Ok(Name {
+        rank: name.rank,
+        at,
+        text,
+    })
+}

@@ -1,0 +1,36 @@
+//! What is said of a command line that clap takes, and that asks for nothing all the same.
+
+use crate::command::value_of;
+use clap::ArgMatches;
+use std::alloc::{AllocError, Global};
+use ulfm_stops::Place;
+
+/// Why these options of a command ask for nothing: a place, two options or a carrier.
+pub(crate) fn unmeant_text(
+    alloc: Global,
+    options: &ArgMatches<'_>,
+) -> Result<String, AllocError> {
+    if let Some(text) = value_of(options, "stop") {
+        if Place::parse(text).is_none() {
+            return format!(in alloc;
+                "invalid value '{text}' for '--stop <PLACE>'\n  [a rank, a dot and the number of a step, as 0.2; two of them, as 0.2+1.3; or -]"
+            );
+        }
+        if value_of(options, "stops").is_some() {
+            return String::from_str(
+                alloc,
+                "the argument '--stop <PLACE>' cannot be used with '--stops <N>'",
+            );
+        }
+    }
+    if value_of(options, "threads").is_some() {
+        return String::from_str(
+            alloc,
+            "the argument '--threads <N>' is for '--stops <N>' alone",
+        );
+    }
+    let value = value_of(options, "carrier").unwrap_or("");
+    format!(in alloc;
+        "invalid value '{value}' for '--carrier <CARRIER>'\n  [possible values: lanes, shared]"
+    )
+}

@@ -1,0 +1,53 @@
+//! Numbers of steps beside a stop.
+ghost use Rattle.std.specs.Prelude.{◌≡◌, ◌≤◌, IfOk, map};
+ghost use Rattle.ulfm_job.specs.Job.{moved_clause, moved_number};
+
+use crate::copied::copied_clause;
+use crate::stop::Stop;
+use std::alloc::Global;
+use ulfm_base::OutOfMemory;
+use ulfm_job::Clause;
+
+impl Stop {
+    /// The number that a step of its rank has beside the stop, where the rank has `len` steps without it.
+    pub fn number(self, len: usize, number: u16) -> u16
+        requires { len ≤ 256 }
+        ensures { result ≡ moved_number self.at len number }
+    {
+        if self.at <= number && (number as usize) < len {
+            number + 1
+        } else {
+            number
+        }
+    }
+
+    /// Clauses by the numbers that steps have beside the stop, where its rank has `len` steps without it.
+    pub fn clauses(
+        self,
+        alloc: Global,
+        len: usize,
+        clauses: &[Clause],
+    ) -> Result<Vec<Clause>, OutOfMemory>
+        requires { len ≤ 256 }
+        ensures { IfOk result (λ moved. moved.items ≡ map (moved_clause self.rank self.at len) clauses.now) }
+    {
+        let mut moved = Vec::new(alloc);
+        for clause in clauses {
+            moved.push(self.clause(alloc, len, clause)?)?;
+        }
+        Ok(moved)
+    }
+
+    /// One clause by these numbers.
+    fn clause(self, alloc: Global, len: usize, clause: &Clause) -> Result<Clause, OutOfMemory>
+        requires { len ≤ 256 }
+        ensures { IfOk result (λ moved. moved ≡ moved_clause self.rank self.at len clause.now) }
+    {
+        let mut moved = copied_clause(alloc, clause)?;
+        if moved.rank == self.rank {
+            moved.at = self.number(len, moved.at);
+            moved.step = self.number(len, moved.step);
+        }
+        Ok(moved)
+    }
+}
