@@ -2,7 +2,7 @@
 use Rattle.std.proofs.Common.{◌≡◌, ℕ, zero, suc, ◌+◌, ◌*◌, ◌-◌, ◌<◌, ◌≤◌, List, [], ◌∷◌, ◌++◌, Result, length, take, drop, refl, ap, sym, subst, ◌∙◌, arith, length-drop, slice_index_or}
 use Rattle.std.proofs.lemmas.List.{drop-drop, take-append-drop}
 use Rattle.std.specs.Fork.{slice_chunk}
-use Rattle.core.specs.declared.alloc.AllocError.{AllocError}
+use Rattle.std.specs.declared.alloc.AllocError.{AllocError}
 use Rattle.ulfm_job.specs.Job.{JobView}
 use Rattle.ulfm_stops.specs.declared.place.Place.{Place}
 use Rattle.ulfm_places.specs.inside.Parts.{AreParts, IsPart}
@@ -17,7 +17,7 @@ module _ (j : JobView) (limit : ℕ) (xs : List Place) (size : ℕ) where
   -- the places from a part on, by what each part came to
   pub parted-from : (n : ℕ) (rs : List (Result Lists AllocError)) → ((k : ℕ) (d : Result Lists AllocError) → k < length rs → IsPart j limit (slice_chunk xs size (n + k)) (slice_index_or rs k d))
       → length (drop (n * size) xs) ≤ length rs * size → AreParts j limit (drop (n * size) xs) rs
-  parted-from n [] each short = none_left (drop (n * size) xs) short
+  parted-from n [] each short = none_left (drop (n * size) xs) (omega (arith, short))
   parted-from n (r ∷ rs) each short =
       let next : n * size + size ≡ suc n * size = omega arith in
       let here : n + 0 ≡ n = omega arith in
@@ -29,4 +29,8 @@ module _ (j : JobView) (limit : ℕ) (xs : List Place) (size : ℕ) where
 -- all places, by what each part came to
 pub parted : (j : JobView) (limit : ℕ) (xs : List Place) (size : ℕ) (rs : List (Result Lists AllocError)) → ((k : ℕ) (d : Result Lists AllocError) → k < length rs → IsPart j limit (slice_chunk xs size k) (slice_index_or rs k d))
     → length xs ≤ length rs * size → AreParts j limit xs rs
-parted j limit xs size rs each short = parted-from j limit xs size 0 rs each short
+parted j limit xs size rs each short =
+    let none : 0 * size ≡ 0 = omega arith in
+    subst (λ (n : ℕ). AreParts j limit (drop n xs) rs) none
+    (parted-from j limit xs size 0 rs (λ k d low. let same : k ≡ 0 + k = omega arith in subst (λ (m : ℕ). IsPart j limit (slice_chunk xs size m) (slice_index_or rs k d)) same (each k d low))
+    (subst (λ (n : ℕ). length (drop n xs) ≤ length rs * size) (sym none) short))

@@ -13,7 +13,7 @@ use Rattle.ulfm_places.specs.declared.listed.Listed.{Listed}
 pub record IsListedAt (j : JobView) (limit : ℕ) (place : Place) (one : Listed) : Type 0 where
   pub reached : Reached
   pub whole : IsList (job_at place j) limit (All reached)
-  pub place : one.place ≡ place
+  pub at : one.place ≡ place
   pub states : one.states ≡ length reached.keys
   pub found : one.found ≡ reached.found
 

@@ -1,5 +1,5 @@
 -- What is found of a job at places.
-use Rattle.std.proofs.Common.{◌≡◌, ℕ, List, [], ◌∷◌, Option, refl, sym, subst}
+use Rattle.std.proofs.Common.{◌≡◌, ℕ, List, [], ◌∷◌, Option, None, Some, Ok, refl, sym, subst, ◌∙◌}
 use Rattle.std.proofs.lemmas.List.Elements.{All-cons, All-head, All-nil, All-tail}
 use Rattle.std.specs.Prelude.{All}
 use Rattle.ulfm_reach.specs.declared.reach.Reach.TheVariants as reach
@@ -9,9 +9,20 @@ use Rattle.ulfm_stops.specs.declared.place.Place.{Place}
 use Rattle.ulfm_stops.specs.declared.place.Place.TheVariants.{Nowhere, One, Two}
 use Rattle.ulfm_places.specs.Lists.{AreLists, IsListedAt}
 use Rattle.ulfm_places.specs.declared.listed.Listed.{Listed}
-use Rattle.ulfm_replies.specs.Stopped.{Asked, asked_at}
-use Rattle.ulfm_program.specs.inside.Judging.{AreListedOf, IsListedOf}
-use Rattle.ulfm_program.specs.inside.Looking.{HasList}
+use Rattle.ulfm_job.specs.declared.clause.Clause.{Clause}
+use Rattle.ulfm_stops.specs.Places.{places_of}
+use Rattle.ulfm_json.specs.declared.form.Form.{Form}
+use Rattle.ulfm_replies.specs.Stopped.{Asked, IsAskedAt, asked_at}
+use Rattle.ulfm_replies.specs.declared.command.ListOptions.{ListOptions}
+use Rattle.ulfm_program.specs.EachPlace.{IsToldAt, row_at, together, unsearched}
+use Rattle.ulfm_program.specs.Outcomes.{goals_asked, many}
+use Rattle.ulfm_program.specs.ShowEach.{IsFirstPlace, IsShowEachReply, nowhere_at_all, shown_at, told_at, too_many_at}
+use Rattle.ulfm_program.specs.declared.listed.FirstRow.{FirstRow}
+use Rattle.ulfm_program.specs.declared.show_each.LookAt.{LookAt}
+use Rattle.ulfm_program.specs.declared.told.Told.{Told as Kept}
+use Rattle.ulfm_program.specs.declared.told.Told.TheVariants as kept
+use Rattle.ulfm_program.specs.inside.Judging.{AreListedOf, IsFirstLook, IsListedOf, IsLookAtText, IsToldAtText, look_at_status}
+use Rattle.ulfm_program.specs.inside.Looking.{HasList, IsFirstRow, IsLook, look_status, row_status, told_view}
 
 -- what is asked for at a place has the job of the place
 pub asked_at-job : (place : Place) (asked : Asked) → (asked_at place asked).job ≡ job_at place asked.job
@@ -22,7 +33,7 @@ asked_at-job (Two first second) asked = refl
 -- the list of a place of the job
 listed_of : (asked : Asked) (limit : ℕ) (place : Place) (one : Listed) → IsPlaceOf asked.job place → IsListedAt asked.job limit place one → IsListedOf asked limit one
 listed_of asked limit place one inside at =
-    subst (λ (p : Place). IsPlaceOf asked.job p × HasList (job_at p asked.job) limit one.found) (sym at.place)
+    subst (λ (p : Place). IsPlaceOf asked.job p × HasList (job_at p asked.job) limit one.found) (sym at.at)
     (inside, (at.reached.keys, subst (λ (found : List (List ℕ)). IsList (job_at place asked.job) limit (reach.All (record { keys = at.reached.keys; found = found }))) (sym at.found) at.whole))
 
 -- those of some of its places
@@ -32,3 +43,30 @@ lists_of asked limit [] (one ∷ listed) past lists inside = absurd lists
 lists_of asked limit (place ∷ places) (one ∷ listed) past lists inside =
     All-cons (IsListedOf asked limit) one listed (listed_of asked limit place one (All-head (IsPlaceOf asked.job) place places inside) lists.0)
     (lists_of asked limit places listed past lists.1 (All-tail (IsPlaceOf asked.job) place places inside))
+
+-- what is told of a row at a place
+pub row_told_as : (form : Form) (options : ListOptions) (place : Place) (asked : Asked) (first : FirstRow) → IsFirstRow asked.job asked.rows options.is_brief options.limit (Some first)
+    → IsToldAt form options place asked (row_status (told_view first.told)) (row_at form place first.number (told_view first.told))
+row_told_as form options place asked first is = by first.told is.2.2
+  where
+    by : (told : Kept) → IsLook asked.job is.2.0 options.is_brief options.limit (Some told) → IsToldAt form options place asked (row_status (told_view told)) (row_at form place first.number (told_view told))
+    by (kept.Schedule text) shows = together first.number is.0 is.2.0 _ is.1 is.2.1 shows
+    by (kept.Many limit) shows =
+        subst (λ (n : ℕ). IsToldAt form options place asked 7 (row_at form place first.number (many n))) (sym shows.0) (unsearched first.number is.0 is.2.0 is.1 is.2.1 (sym shows.0 ∙ shows.0, shows.1))
+
+-- the reply to what came of a search at each place
+pub show_each_as : (form : Form) (options : ListOptions) (stops : ℕ) (show bytes : List ℕ) (asked : Asked) (answers : List Clause) (look : Option LookAt) (text : List ℕ) → IsAskedAt Nowhere bytes asked → goals_asked asked show ≡ Ok answers
+    → IsFirstLook asked.job answers options.is_brief options.limit (places_of stops asked.job) look → IsLookAtText form options.drawn look text → IsShowEachReply form options stops show bytes (look_at_status look) text
+show_each_as form options stops show bytes asked answers None text read named never is =
+    subst (λ (t : List ℕ). IsShowEachReply form options stops show bytes 8 t) (sym is) (nowhere_at_all asked answers read named never)
+show_each_as form options stops show bytes asked answers (Some look) text read named first is = by look.told first.3.2 is
+  where
+    place : IsFirstPlace asked.job answers stops look.place
+    place = record { number = first.0; there = first.1; before = first.2 }
+    by : (told : Kept) → IsLook (job_at look.place asked.job) first.3.0 options.is_brief options.limit (Some told) → IsToldAtText form options.drawn look.place (told_view told) text
+        → IsShowEachReply form options stops show bytes (look_status (Some (told_view told))) text
+    by (kept.Schedule words) told is = shown_at asked answers look.place read named place first.3.0 first.3.1 _ text told is
+    by (kept.Many limit) told is =
+        subst (λ (t : List ℕ). IsShowEachReply form options stops show bytes 7 t) (sym is)
+        (subst (λ (n : ℕ). IsShowEachReply form options stops show bytes 7 (told_at form look.place (many n))) (sym told.0)
+        (too_many_at asked answers look.place read named place first.3.0 first.3.1 (sym told.0 ∙ told.0, told.1)))

@@ -1,6 +1,6 @@
 -- What single places and parts of the places come to.
 use Rattle.std.specs.Prelude.{◌≡◌, ℕ, ⊤, List, [], ◌∷◌, ◌++◌, Option, Some, None, Result, Ok, Err}
-use Rattle.core.specs.declared.alloc.AllocError.{AllocError}
+use Rattle.std.specs.declared.alloc.AllocError.{AllocError}
 use Rattle.ulfm_job.specs.Job.{JobView}
 use Rattle.ulfm_outcomes.specs.Outcomes.{IsList}
 use Rattle.ulfm_reach.specs.declared.reach.Reach.TheVariants.{More}

@@ -1,0 +1,29 @@
+-- What lists of places tell, list by list.
+use Rattle.std.proofs.Common.{◌≡◌, ℕ, zero, suc, ◌+◌, ◌<◌, Bool, true, false, List, [], ◌∷◌, ◌++◌, drop, filter, fold, get_or, length, map, refl, ap, sym, ◌∙◌, append_assoc, arith, cond}
+
+-- what is left of a list from a place, and from the next one
+pub drop-item : {X : Type 0} (xs : List X) (i : ℕ) (x : X) → i < length xs → x ≡ get_or xs i x → drop i xs ≡ x ∷ drop (i + 1) xs
+drop-item [] i x low is = absurd (omega (arith, low))
+drop-item (y ∷ xs) zero x low is = ap (λ z. z ∷ xs) (sym is)
+drop-item (y ∷ xs) (suc i) x low is =
+    let next : suc i + 1 ≡ suc (i + 1) = omega arith in
+    rw next (drop-item xs i x (omega (arith, low)) is)
+
+-- one more item is folded in
+pub fold-on : {X Y : Type 0} (f : Y → X → Y) (xs : List X) (i : ℕ) (x : X) (old new whole : Y) → i < length xs → x ≡ get_or xs i x → fold f old (drop i xs) ≡ whole → new ≡ f old x → fold f new (drop (i + 1) xs) ≡ whole
+fold-on f xs i x old new whole low is so_far step = ap (λ y. fold f y (drop (i + 1) xs)) step ∙ sym (ap (fold f old) (drop-item xs i x low is)) ∙ so_far
+
+module _ {X : Type 0} (p : X → Bool) (text : X → List ℕ) (xs : List X) (i : ℕ) (x : X) (old : List (List ℕ)) (whole : List (List ℕ)) (low : i < length xs) (is : x ≡ get_or xs i x) (so_far : old ++ map text (filter p (drop i xs)) ≡ whole) where
+  -- the texts of what is left, by whether the next item passes
+  left : (b : Bool) → p x ≡ b → map text (filter p (drop i xs)) ≡ map text (cond b (x ∷ filter p (drop (i + 1) xs)) (filter p (drop (i + 1) xs)))
+  left b passes = ap (λ ys. map text (filter p ys)) (drop-item xs i x low is) ∙ ap (λ c. map text (cond c (x ∷ filter p (drop (i + 1) xs)) (filter p (drop (i + 1) xs)))) passes
+
+  -- an item that passes
+  pub texts-with : (new : List (List ℕ)) → p x ≡ true → new ≡ old ++ text x ∷ [] → new ++ map text (filter p (drop (i + 1) xs)) ≡ whole
+  texts-with new passes pushed =
+      ap (λ texts. texts ++ map text (filter p (drop (i + 1) xs))) pushed ∙ append_assoc old (text x ∷ []) (map text (filter p (drop (i + 1) xs)))
+      ∙ sym (ap (λ texts. old ++ texts) (left true passes)) ∙ so_far
+
+  -- one that doesn't
+  pub texts-without : p x ≡ false → old ++ map text (filter p (drop (i + 1) xs)) ≡ whole
+  texts-without fails = sym (ap (λ texts. old ++ texts) (left false fails)) ∙ so_far
