@@ -1,5 +1,5 @@
 -- All places of a job.
-use Rattle.std.specs.Prelude.{ℕ, ◌+◌, ◌==◌, ◌&&◌, nat_le, nat_lt, Bool, false, not, List, [], ◌∷◌, ◌++◌, filter, length, map, Option, Some, None, slice_get, if◌then◌else◌}
+use Rattle.std.specs.Prelude.{ℕ, ◌+◌, ◌==◌, ◌&&◌, nat_le, nat_lt, Bool, false, not, List, [], ◌∷◌, ◌++◌, filter, length, map, slice_get, if◌then◌else◌}
 use Rattle.std.specs.List.{flat_map, list_any, position_or_len, range_with_len}
 use Rattle.std.specs.Option.{option_map_or}
 use Rattle.ulfm_job.specs.declared.clause.Clause.{Clause}

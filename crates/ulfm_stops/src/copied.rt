@@ -13,13 +13,7 @@ pub fn copied_job(alloc: Global, job: &Job) -> Result<Job, OutOfMemory>
     let scripts = copied_scripts(alloc, job)?;
     let conditions = copied_clauses(alloc, job.conditions())?;
     let expected = copied_clauses(alloc, job.expected())?;
-    Ok(Job::new(
-        job.capacity(),
-        job.turns(),
-        scripts,
-        conditions,
-        expected,
-    ))
+    Ok(Job::new(job.capacity(), job.turns(), scripts, conditions, expected))
 }
 
 /// The scripts of a job's ranks once more.

@@ -22,6 +22,13 @@ pub fn places(alloc: Global, job: &Job, stops: u8) -> Result<Vec<Place>, OutOfMe
     ensures exact { IfOk result (λ places. places.items ≡ places_of stops job.now) }
     ensures inside { IfOk result (λ places. All (IsPlaceOf job.now) places.items) }
 {
+    all_places(alloc, job, stops)
+}
+
+/// The same, by what it makes them of.
+fn all_places(alloc: Global, job: &Job, stops: u8) -> Result<Vec<Place>, OutOfMemory>
+    ensures { IfOk result (λ places. places.items ≡ places_of stops job.now) }
+{
     let singles = all_stops(alloc, job)?;
     let mut places = Vec::new(alloc);
     places.push(Place::Nowhere)?;
@@ -83,7 +90,10 @@ fn push_stops(stops: &mut Vec<Stop>, job: &Job, rank: u8) -> Result<(), OutOfMem
     ensures { OnOk result (stops.new.items ≡ stops.old.items ++ stops_in job.now rank) }
 {
     for at in 0..last_place(job, rank) + 1 {
-        stops.push(Stop { rank, at: at as u16 })?;
+        stops.push(Stop {
+            rank,
+            at: at as u16,
+        })?;
     }
     Ok(())
 }
@@ -95,9 +105,12 @@ fn last_place(job: &Job, rank: u8) -> usize
     ensures few { result ≤ 256 }
 {
     let len = job.script_len(rank);
-    (0..len)
-        .position(|at| stops_always(job, rank, at))
-        .unwrap_or(len)
+    for at in 0..len {
+        if stops_always(job, rank, at) {
+            return at;
+        }
+    }
+    len
 }
 
 /// Whether a step of a rank is a stop that is always played, where the rank comes to it.

@@ -1,8 +1,8 @@
 //! Places as they are read.
-ghost use Rattle.std.specs.Prelude.{◌≡◌, ◌≤◌, ◌<◌, ◌==◌, IfSome, length};
+ghost use Rattle.std.specs.Prelude.{◌≡◌, ◌≤◌, true, IfSome};
 ghost use Rattle.std.specs.Char.{is_ascii_digit};
 ghost use Rattle.std.specs.List.{list_all};
-ghost use Rattle.ulfm_stops.specs.Text.{number_of_text, place_of_text, stop_of_text};
+ghost use Rattle.ulfm_stops.specs.Text.{number_of_text, place_of_text, stop_by, stop_of_text};
 ghost use Rattle.ulfm_stops.specs.inside.Digits.{is_number};
 
 use crate::place::Place;
@@ -31,13 +31,24 @@ pub fn place_of_text(text: &str) -> Option<Place>
 fn stop_of_text(text: &str) -> Option<Stop>
     ensures { result ≡ stop_of_text text.now }
 {
-    let (rank, at) = text.split_once('.')?;
-    let rank = number_of_text(rank, 255)?;
-    let at = number_of_text(at, 65_535)?;
-    Some(Stop {
-        rank: rank as u8,
-        at,
-    })
+    match text.split_once('.') {
+        Some((rank, at)) => stop_by(number_of_text(rank, 255), number_of_text(at, 65_535)),
+        None => None,
+    }
+}
+
+/// A stop of these numbers, if they are some.
+fn stop_by(rank: Option<u16>, at: Option<u16>) -> Option<Stop>
+    requires { IfSome rank (λ n. n ≤ 255) }
+    ensures { result ≡ stop_by rank at }
+{
+    match (rank, at) {
+        (Some(rank), Some(at)) => Some(Stop {
+            rank: rank as u8,
+            at,
+        }),
+        _ => None,
+    }
 }
 
 /// The number of a text, at most so much, in the digits in which it is written.
@@ -45,12 +56,22 @@ fn number_of_text(text: &str, most: u16) -> Option<u16>
     ensures exact { result ≡ number_of_text most text.now }
     ensures range { IfSome result (λ n. n ≤ most) }
 {
-    if !is_number(text) {
-        return None;
+    if is_number(text) {
+        number_in(text, most)
+    } else {
+        None
     }
+}
+
+/// The number of these digits, at most so much.
+fn number_in(text: &str, most: u16) -> Option<u16>
+    requires { is_number text.now ≡ true }
+    ensures exact { result ≡ number_of_text most text.now }
+    ensures range { IfSome result (λ n. n ≤ most) }
+{
     match text.parse::<u16>() {
-        Ok(number) if number <= most => Some(number),
-        _ => None,
+        Ok(number) => { if number <= most { Some(number) } else { None } }
+        Err(_) => None,
     }
 }
 
