@@ -78,7 +78,7 @@ joined-end parts left listed so_far none = λ j limit places are.
 
 module _ (parts left more : List (Result Lists AllocError)) (part : Result Lists AllocError) (lists : Lists) (listed new : List Listed) (so_far : AreJoinedSoFar parts listed left) (next : left ≡ part ∷ more) (is : part ≡ Ok lists) (pushed : new ≡ listed ++ lists.listed.items) where
   -- one more part
-  pub joined-on : lists.past_limit ≡ None → AreJoinedSoFar parts new more
+  joined-on : lists.past_limit ≡ None → AreJoinedSoFar parts new more
   joined-on none = λ j limit places are.
       let was = so_far j limit places are in
       let step = subst (λ (ps : List (Result Lists AllocError)). AreParts j limit was.0 ps) next was.2 in
@@ -86,10 +86,25 @@ module _ (parts left more : List (Result Lists AllocError)) (part : Result Lists
       (step.1, goes_on-part j limit places listed was.0 was.1 step.0 step.1 lists.listed.items new step.2 pushed (subst (λ (past : Option Place). AreLists j limit step.0 lists.listed.items past) none all), step.4)
 
   -- one that comes past the limit
-  pub joined-past : (p : Place) → lists.past_limit ≡ Some p → AreJoined parts new lists.past_limit
+  joined-past : (p : Place) → lists.past_limit ≡ Some p → AreJoined parts new lists.past_limit
   joined-past p some = λ j limit places are.
       let was = so_far j limit places are in
       let step = subst (λ (ps : List (Result Lists AllocError)). AreParts j limit was.0 ps) next was.2 in
       let all = subst (IsPart j limit step.0) is step.3 in
       subst (λ (past : Option Place). AreLists j limit places new past) (sym some)
       (goes_on-part_past j limit places listed was.0 was.1 step.0 step.1 lists.listed.items new step.2 pushed p (subst (λ (past : Option Place). AreLists j limit step.0 lists.listed.items past) some all))
+
+  -- by whether it does
+  pub joined-within : is_some lists.past_limit ≡ false → AreJoinedSoFar parts new more
+  joined-within none = by lists.past_limit refl none
+    where
+      by : (past : Option Place) → lists.past_limit ≡ past → is_some past ≡ false → AreJoinedSoFar parts new more
+      by None is none = joined-on is
+      by (Some p) is none = absurd (false≢true (sym none))
+
+  pub joined-beyond : is_some lists.past_limit ≡ true → AreJoined parts new lists.past_limit
+  joined-beyond some = by lists.past_limit refl some
+    where
+      by : (past : Option Place) → lists.past_limit ≡ past → is_some past ≡ true → AreJoined parts new lists.past_limit
+      by None is none = absurd (false≢true none)
+      by (Some p) is some = joined-past p is

@@ -1,6 +1,8 @@
 -- Places in parts of one size.
-use Rattle.std.proofs.Common.{◌≡◌, ℕ, zero, suc, ◌+◌, ◌*◌, ◌-◌, ◌<◌, ◌≤◌, List, [], ◌∷◌, ◌++◌, Result, length, take, drop, refl, ap, sym, subst, ◌∙◌, arith, length-drop, slice_index_or}
+use Rattle.std.proofs.Common.{◌≡◌, ℕ, zero, suc, ◌+◌, ◌*◌, ◌-◌, ◌/◌, ◌%◌, ◌<◌, ◌≤◌, min, List, [], ◌∷◌, ◌++◌, Result, length, take, drop, refl, ap, sym, subst, ◌∙◌, arith, length-drop, slice_index_or}
+use Rattle.std.proofs.Math.Nat.{mod-lt}
 use Rattle.std.proofs.lemmas.List.{drop-drop, take-append-drop}
+use Rattle.std.proofs.lemmas.Nat.{div-add-mod'}
 use Rattle.std.specs.Fork.{slice_chunk}
 use Rattle.std.specs.declared.alloc.AllocError.{AllocError}
 use Rattle.ulfm_job.specs.Job.{JobView}
@@ -34,3 +36,20 @@ parted j limit xs size rs each short =
     subst (λ (n : ℕ). AreParts j limit (drop n xs) rs) none
     (parted-from j limit xs size 0 rs (λ k d low. let same : k ≡ 0 + k = omega arith in subst (λ (m : ℕ). IsPart j limit (slice_chunk xs size m) (slice_index_or rs k d)) same (each k d low))
     (subst (λ (n : ℕ). length (drop n xs) ≤ length rs * size) (sym none) short))
+
+-- as many parts as there are have room for all places
+pub parts-enough : (n size m : ℕ) → 0 < size → m ≡ n / size + min 1 (n % size) → n ≤ m * size
+parts-enough n size m some is = by (n % size) refl
+  where
+    whole : n / size * size + n % size ≡ n
+    whole = div-add-mod' n size
+    by : (r : ℕ) → n % size ≡ r → n ≤ m * size
+    by zero none =
+        let same : m ≡ n / size = omega (arith, is, none) in
+        let step : m * size ≡ n / size * size = ap (λ (k : ℕ). k * size) same in
+        omega (arith, step, whole, none)
+    by (suc r) more =
+        let same : m ≡ suc (n / size) = omega (arith, is, more) in
+        let step : m * size ≡ suc (n / size) * size = ap (λ (k : ℕ). k * size) same in
+        let grown : n / size * size + size ≡ suc (n / size) * size = omega arith in
+        omega (arith, step, grown, whole, mod-lt n some)

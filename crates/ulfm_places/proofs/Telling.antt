@@ -2,12 +2,16 @@
 use Rattle.std.proofs.Common.{◌≡◌, ℕ, zero, suc, ◌+◌, ◌<◌, Bool, true, false, List, [], ◌∷◌, ◌++◌, drop, filter, fold, get_or, length, map, refl, ap, sym, ◌∙◌, append_assoc, arith, cond}
 
 -- what is left of a list from a place, and from the next one
-pub drop-item : {X : Type 0} (xs : List X) (i : ℕ) (x : X) → i < length xs → x ≡ get_or xs i x → drop i xs ≡ x ∷ drop (i + 1) xs
-drop-item [] i x low is = absurd (omega (arith, low))
-drop-item (y ∷ xs) zero x low is = ap (λ z. z ∷ xs) (sym is)
-drop-item (y ∷ xs) (suc i) x low is =
+pub drop-get_or : {X : Type 0} (xs : List X) (i : ℕ) (d : X) → i < length xs → drop i xs ≡ get_or xs i d ∷ drop (i + 1) xs
+drop-get_or [] i d low = absurd (omega (arith, low))
+drop-get_or (y ∷ xs) zero d low = refl
+drop-get_or (y ∷ xs) (suc i) d low =
     let next : suc i + 1 ≡ suc (i + 1) = omega arith in
-    rw next (drop-item xs i x (omega (arith, low)) is)
+    rw next (drop-get_or xs i d (omega (arith, low)))
+
+-- the same by the item that stands there
+drop-item : {X : Type 0} (xs : List X) (i : ℕ) (x : X) → i < length xs → x ≡ get_or xs i x → drop i xs ≡ x ∷ drop (i + 1) xs
+drop-item xs i x low is = drop-get_or xs i x low ∙ ap (λ y. y ∷ drop (i + 1) xs) (sym is)
 
 -- one more item is folded in
 pub fold-on : {X Y : Type 0} (f : Y → X → Y) (xs : List X) (i : ℕ) (x : X) (old new whole : Y) → i < length xs → x ≡ get_or xs i x → fold f old (drop i xs) ≡ whole → new ≡ f old x → fold f new (drop (i + 1) xs) ≡ whole

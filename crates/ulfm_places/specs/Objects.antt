@@ -5,7 +5,7 @@ use Rattle.toml.specs.Data.{Items}
 use Rattle.ulfm_job.specs.Job.{JobView}
 use Rattle.ulfm_job.specs.declared.step.Step.{Step}
 use Rattle.ulfm_json.specs.Names.{document_in, step_tables}
-use Rattle.ulfm_json.specs.Parts.{array_json, behind_commas, text_json, texts_json}
+use Rattle.ulfm_json.specs.Parts.{array_json, text_json, texts_json}
 use Rattle.ulfm_json.specs.Trace.{head_json}
 use Rattle.ulfm_json.specs.declared.form.Form.{Form}
 use Rattle.ulfm_json.specs.declared.form.Form.TheVariants.{Words, Json}
@@ -17,18 +17,14 @@ use Rattle.ulfm_places.specs.declared.listed.Listed.{Listed}
 abbrev pub answer_json : JobView → List Listed → ℕ → ℕ → List ℕ → List ℕ
 answer_json j listed r k words = codes "{\"answer\":" ++ text_json words ++ codes ",\"at\":" ++ texts_json (places_with j listed r k words) ++ codes "}"
 
--- answers of the step, each behind a comma
-abbrev pub more_json : JobView → List Listed → ℕ → ℕ → List (List ℕ) → List ℕ
-more_json j listed r k answers = behind_commas (answer_json j listed r k) answers
+-- how the object of the step ends: at which places it never ends
+abbrev pub stuck_json : JobView → List Listed → ℕ → ℕ → List ℕ
+stuck_json j listed r k = codes ",\"never_ends_at\":" ++ texts_json (places_with j listed r k []) ++ codes "}\n"
 
--- the key of answers of the step
-abbrev pub answers_json : JobView → List Listed → ℕ → ℕ → List (List ℕ) → List ℕ
-answers_json j listed r k answers = codes ",\"answers\":" ++ array_json (answer_json j listed r k) answers
-
--- the line of the step: its answers, and the places at which it never ends
+-- the line of the step
 abbrev pub step_json : Items → JobView → List Listed → ℕ → ℕ → Step → List ℕ
 step_json tables j listed r k step =
-    head_json tables r k (Some step) ++ answers_json j listed r k (answers_of j listed r k) ++ codes ",\"never_ends_at\":" ++ texts_json (places_with j listed r k []) ++ codes "}\n"
+    head_json tables r k (Some step) ++ codes ",\"answers\":" ++ array_json (answer_json j listed r k) (answers_of j listed r k) ++ stuck_json j listed r k
 
 -- the lines of a rank's steps, the first of them numbered k
 abbrev pub steps_json : Items → JobView → List Listed → ℕ → ℕ → List Step → List ℕ

@@ -56,7 +56,7 @@ states_of listed = sum_by (λ (one : Listed). one.states) listed
 -- the last line: how many states there are at how many places, and whether some step never ends
 abbrev pub states_line : ℕ → ℕ → Bool → List ℕ
 states_line states places is_open =
-    decimal states ++ codes " states at " ++ decimal places ++ codes " places, " ++ (if is_open then codes "some step never ends\n" else codes "every step ends in every schedule\n")
+    decimal states ++ codes " states at " ++ decimal places ++ (if is_open then codes " places, some step never ends\n" else codes " places, every step ends in every schedule\n")
 
 -- the lines of all steps of the job, then the last line
 abbrev pub lists_text : JobView → List Listed → List ℕ

@@ -73,7 +73,8 @@ where
         requires { All (IsPlaceOf job.now) part.now }
         ensures { IsPart job.entry.now limit part.entry.now result }
     { list_part(alloc, job, part, limit, onlooker) };
-    thread::map_chunks(rt, alloc, places, size, &list)
+    let parts = thread::map_chunks(rt, alloc, places, size, &list)?;
+    Ok(parts)
 }
 
 /// The lists of all parts, one part after another.

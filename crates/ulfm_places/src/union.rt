@@ -1,5 +1,6 @@
 //! What all lists tell of a step, and at which places.
-ghost use Rattle.std.specs.Prelude.{◌≡◌, IfOk, map, string_bytes};
+ghost use Rattle.std.specs.Prelude.{◌≡◌, ◌∷◌, ◌++◌, [], IfOk, OnOk, map, string_bytes};
+ghost use Rattle.ulfm_stops.specs.Text.{place_text};
 ghost use Rattle.ulfm_places.specs.Lists.{AreAllAscii};
 ghost use Rattle.ulfm_places.specs.Union.{answers_of, is_row, is_told, is_told_at, places_with, some_never_ends};
 
@@ -11,6 +12,7 @@ use ulfm_base::OutOfMemory;
 use ulfm_job::Job;
 use ulfm_outcomes::{add_answers, in_order, some_never_end};
 use ulfm_reach::Rows;
+use ulfm_stops::Place;
 
 /// The answers that these lists have for a step of the file, each once.
 fn answer_set(
@@ -94,12 +96,20 @@ pub(crate) fn places_with(
 {
     let mut places = Vec::new(alloc);
     for one in listed {
-        if is_told_at(job, rank, k, words, one) {
-            let place = one.place;
-            places.push(format!(in alloc; "{place}")?)?;
+        if !is_told_at(job, rank, k, words, one) {
+            continue;
         }
+        push_place(alloc, &mut places, one.place)?;
     }
     Ok(places)
+}
+
+/// Puts the text of a place behind others.
+fn push_place(alloc: Global, places: &mut Vec<String>, place: Place) -> Result<(), OutOfMemory>
+    ensures { OnOk result (map string_bytes places.new.items ≡ map string_bytes places.old.items ++ place_text place ∷ []) }
+{
+    places.push(format!(in alloc; "{place}")?)?;
+    Ok(())
 }
 
 /// Whether some step never ends at some of these places.
