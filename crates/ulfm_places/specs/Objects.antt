@@ -17,14 +17,17 @@ use Rattle.ulfm_places.specs.declared.listed.Listed.{Listed}
 abbrev pub answer_json : JobView → List Listed → ℕ → ℕ → List ℕ → List ℕ
 answer_json j listed r k words = codes "{\"answer\":" ++ text_json words ++ codes ",\"at\":" ++ texts_json (places_with j listed r k words) ++ codes "}"
 
+-- the key of the answers of the step
+abbrev pub answers_json : JobView → List Listed → ℕ → ℕ → List ℕ
+answers_json j listed r k = codes ",\"answers\":" ++ array_json (answer_json j listed r k) (answers_of j listed r k)
+
 -- how the object of the step ends: at which places it never ends
 abbrev pub stuck_json : JobView → List Listed → ℕ → ℕ → List ℕ
 stuck_json j listed r k = codes ",\"never_ends_at\":" ++ texts_json (places_with j listed r k []) ++ codes "}\n"
 
 -- the line of the step
 abbrev pub step_json : Items → JobView → List Listed → ℕ → ℕ → Step → List ℕ
-step_json tables j listed r k step =
-    head_json tables r k (Some step) ++ codes ",\"answers\":" ++ array_json (answer_json j listed r k) (answers_of j listed r k) ++ stuck_json j listed r k
+step_json tables j listed r k step = head_json tables r k (Some step) ++ answers_json j listed r k ++ stuck_json j listed r k
 
 -- the lines of a rank's steps, the first of them numbered k
 abbrev pub steps_json : Items → JobView → List Listed → ℕ → ℕ → List Step → List ℕ

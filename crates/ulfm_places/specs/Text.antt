@@ -53,10 +53,17 @@ ranks_lines j listed r (script ∷ scripts) = step_lines j listed r 0 script ++ 
 abbrev pub states_of : List Listed → ℕ
 states_of listed = sum_by (λ (one : Listed). one.states) listed
 
--- the last line: how many states there are at how many places, and whether some step never ends
+-- how many states there are at how many places
+abbrev pub counts_text : ℕ → ℕ → List ℕ
+counts_text states places = decimal states ++ codes " states at " ++ decimal places ++ codes " places"
+
+-- whether some step never ends, behind it
+abbrev pub end_text : Bool → List ℕ
+end_text is_open = if is_open then codes ", some step never ends\n" else codes ", every step ends in every schedule\n"
+
+-- the last line
 abbrev pub states_line : ℕ → ℕ → Bool → List ℕ
-states_line states places is_open =
-    decimal states ++ codes " states at " ++ decimal places ++ (if is_open then codes " places, some step never ends\n" else codes " places, every step ends in every schedule\n")
+states_line states places is_open = counts_text states places ++ end_text is_open
 
 -- the lines of all steps of the job, then the last line
 abbrev pub lists_text : JobView → List Listed → List ℕ

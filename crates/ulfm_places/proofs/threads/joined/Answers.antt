@@ -1,4 +1,4 @@
-use Rattle.std.proofs.Common.{◌≡◌, List, [], Result, length, sym, ◌∙◌, arith, refl}
+use Rattle.std.proofs.Common.{◌≡◌, List, [], ◌∷◌, Result, length, sym, ◌∙◌, arith, refl}
 use Rattle.std.specs.Vec.Iter.{into_iter_items}
 use Rattle.std.specs.declared.alloc.AllocError.{AllocError}
 use Rattle.ulfm_places.specs.declared.lists.Lists.{Lists}
