@@ -22,11 +22,13 @@ module _ (j : JobView) (limit : ℕ) (xs : List Place) (size : ℕ) where
   parted-from n [] each short = none_left (drop (n * size) xs) (omega (arith, short))
   parted-from n (r ∷ rs) each short =
       let next : n * size + size ≡ suc n * size = omega arith in
-      let here : n + 0 ≡ n = omega arith in
-      (take size (drop (n * size) xs), drop (suc n * size) xs,
+      let here : n + 0 ≡ n = omega arith in (
+        take size (drop (n * size) xs),
+        drop (suc n * size) xs,
         sym (take-append-drop size (drop (n * size) xs)) ∙ ap (λ (ps : List Place). take size (drop (n * size) xs) ++ ps) (drop-drop size (n * size) xs ∙ ap (λ (m : ℕ). drop m xs) next),
         subst (λ (m : ℕ). IsPart j limit (slice_chunk xs size m) r) here (each 0 r (omega arith)),
-        parted-from (suc n) rs (λ k d low. let same : n + suc k ≡ suc n + k = omega arith in subst (λ (m : ℕ). IsPart j limit (slice_chunk xs size m) (slice_index_or rs k d)) same (each (suc k) d (omega (arith, low)))) (omega (arith, short, length-drop (n * size) xs, length-drop (suc n * size) xs)))
+        parted-from (suc n) rs (λ k d low. let same : n + suc k ≡ suc n + k = omega arith in subst (λ (m : ℕ). IsPart j limit (slice_chunk xs size m) (slice_index_or rs k d)) same (each (suc k) d (omega (arith, low)))) (omega (arith, short, length-drop (n * size) xs, length-drop (suc n * size) xs)),
+      )
 
 -- all places, by what each part came to
 pub parted : (j : JobView) (limit : ℕ) (xs : List Place) (size : ℕ) (rs : List (Result Lists AllocError)) → ((k : ℕ) (d : Result Lists AllocError) → k < length rs → IsPart j limit (slice_chunk xs size k) (slice_index_or rs k d))
@@ -43,6 +45,7 @@ parts-enough n size m some is = by (n % size) refl
   where
     whole : n / size * size + n % size ≡ n
     whole = div-add-mod' n size
+
     by : (r : ℕ) → n % size ≡ r → n ≤ m * size
     by zero none =
         let same : m ≡ n / size = omega (arith, is, none) in

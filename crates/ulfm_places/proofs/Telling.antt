@@ -45,3 +45,14 @@ commas-on shown bytes xs i x old new whole low is so_far pushed =
 pub three-parts : (old a b c first second third : List ℕ) → first ≡ old ++ a → second ≡ first ++ b → third ≡ second ++ c → third ≡ old ++ (a ++ b ++ c)
 three-parts old a b c first second third one two three =
     three ∙ ap (λ text. text ++ c) (two ∙ ap (λ text. text ++ b) one ∙ append_assoc old a b) ∙ append_assoc old (a ++ b) c
+
+-- two texts, one after the other
+pub two-parts : (old a b same first second : List ℕ) → first ≡ old ++ a → second ≡ first ++ same → same ≡ b → second ≡ old ++ (a ++ b)
+two-parts old a b same first second one two is = two ∙ ap (λ text. text ++ same) one ∙ append_assoc old a same ∙ ap (λ text. old ++ (a ++ text)) is
+
+-- one more line
+pub lines-on : {X : Type 0} (line : ℕ → X → List ℕ) (lines : ℕ → List X → List ℕ) → ((k : ℕ) (x : X) (xs : List X) → lines k (x ∷ xs) ≡ line k x ++ lines (k + 1) xs)
+    → (xs : List X) (k : ℕ) (x : X) (old new whole : List ℕ) → k < length xs → x ≡ get_or xs k x → old ++ lines k (drop k xs) ≡ whole → new ≡ old ++ line k x → new ++ lines (k + 1) (drop (k + 1) xs) ≡ whole
+lines-on line lines law xs k x old new whole low is so_far pushed =
+    let rest = lines (k + 1) (drop (k + 1) xs) in
+    ap (λ text. text ++ rest) pushed ∙ append_assoc old (line k x) rest ∙ sym (ap (λ text. old ++ text) (ap (lines k) (drop-item xs k x low is) ∙ law k x (drop (k + 1) xs))) ∙ so_far

@@ -14,8 +14,6 @@ use ulfm_base::OutOfMemory;
 use ulfm_job::Job;
 use ulfm_stops::Place;
 
-
-
 /// The lists of all outcomes of a job at these places, in their order, up to the first where the job has more states than the limit. So
 /// many threads share the places. The onlooker is told how far they are.
 ///
