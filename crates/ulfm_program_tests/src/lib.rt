@@ -3,7 +3,7 @@
 //!
 //! - notes, explanations: what standard error says. No contract speaks of that.
 //! - options, files, streams, broken: command lines, files that are named, and inputs and outputs that fail.
-//! - json, outcomes, sweeps, runs: the texts of the commands, byte for byte; pictures: parts of pictures.
+//! - json, outcomes, sweeps, places, runs: the texts of the commands, byte for byte; pictures: parts of pictures.
 //! - schedule_turns, schedule_steps, probes, agreements, reacting: jobs whose traces tell one rule from another.
 //!
 //! kept and rows are what they share: a reply in memory, and a table of jobs with their traces. Begin with rows. The gallery is
@@ -30,6 +30,8 @@ mod options;
 mod outcomes;
 #[cfg(test)]
 mod pictures;
+#[cfg(test)]
+mod places;
 #[cfg(test)]
 mod probes;
 #[cfg(test)]

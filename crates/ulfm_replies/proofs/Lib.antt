@@ -3,3 +3,4 @@ pub mod Parsed
 pub mod Numbers
 pub mod Refused
 pub mod Rows
+pub mod Outside

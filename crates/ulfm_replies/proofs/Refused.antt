@@ -1,14 +1,37 @@
--- The reply of `check` to a job that is refused.
-use Rattle.std.proofs.Common.{◌≡◌, ◌≢◌, ℕ, List, Err}
+-- The replies to a job that is refused.
+use Rattle.std.proofs.Common.{◌≡◌, ◌≢◌, ◌⊎◌, ℕ, List, Err, inl, inr, ap, refl, subst, sym}
 use Rattle.ulfm_job.specs.declared.fault.JobFault.{JobFault}
 use Rattle.ulfm_job.specs.declared.fault.JobFault.TheVariants.{NotToml, InJob, InStep, TooLarge, OutOfMemory}
-use Rattle.ulfm_reader.specs.JobText.{job_of_bytes}
+use Rattle.ulfm_reader.specs.JobText.{job_in, job_of_bytes, reading_of_bytes}
 use Rattle.ulfm_json.specs.declared.form.Form.{Form}
+use Rattle.ulfm_replies.specs.Places.{IsPlacesReply, unheld, unplaced}
 use Rattle.ulfm_replies.specs.Replies.{IsCheckReply, refused, no_memory, refused_in}
+use Rattle.ulfm_replies.specs.Stopped.{IsRefusal, no_job}
+use Rattle.ulfm_replies.specs.Stopped as stopped
+use Rattle.ulfm_stops.specs.declared.place.Place.{Place}
+
+-- a fault is that memory ran out, or another one
+by_memory : (f : JobFault) → (f ≡ OutOfMemory) ⊎ (f ≢ OutOfMemory)
+by_memory NotToml = inr (λ e. cc)
+by_memory (InJob f) = inr (λ e. cc)
+by_memory (InStep f k) = inr (λ e. cc)
+by_memory TooLarge = inr (λ e. cc)
+by_memory OutOfMemory = inl refl
 
 pub check_refused : {form : Form} (f : JobFault) (bytes : List ℕ) → (f ≢ OutOfMemory → job_of_bytes bytes ≡ Err f) → IsCheckReply form bytes 1 (refused_in form f)
-check_refused NotToml bytes h = refused _ (h (λ e. cc))
-check_refused (InJob f) bytes h = refused _ (h (λ e. cc))
-check_refused (InStep f k) bytes h = refused _ (h (λ e. cc))
-check_refused TooLarge bytes h = refused _ (h (λ e. cc))
-check_refused OutOfMemory bytes h = no_memory
+check_refused {form} f bytes h = elim (by_memory f) [
+  | inl e ↦ subst (λ (f : JobFault). IsCheckReply form bytes 1 (refused_in form f)) (sym e) no_memory
+  | inr n ↦ refused f (h n)
+]
+
+pub places_refused : {form : Form} {stops : ℕ} (f : JobFault) (bytes : List ℕ) → (f ≢ OutOfMemory → job_of_bytes bytes ≡ Err f) → IsPlacesReply form stops bytes 1 (refused_in form f)
+places_refused {form} {stops} f bytes h = elim (by_memory f) [
+  | inl e ↦ subst (λ (f : JobFault). IsPlacesReply form stops bytes 1 (refused_in form f)) (sym e) unheld
+  | inr n ↦ unplaced f (h n)
+]
+
+pub refused_at : {form : Form} {place : Place} (f : JobFault) (bytes : List ℕ) → (f ≢ OutOfMemory → reading_of_bytes bytes ≡ Err f) → IsRefusal form place bytes 1 (refused_in form f)
+refused_at {form} {place} f bytes h = elim (by_memory f) [
+  | inl e ↦ subst (λ (f : JobFault). IsRefusal form place bytes 1 (refused_in form f)) (sym e) stopped.no_memory
+  | inr n ↦ no_job f (ap job_in (h n))
+]

@@ -20,10 +20,10 @@ pub const MOST_STATES: u32 = 100_000_000;
 pub const USUAL_STATES: u32 = 1_000_000;
 
 /// The most stops of a place.
-pub const MOST_STOPS: u8 = 2;
+pub const MOST_STOPS: u32 = 2;
 
 /// The most threads that `--threads` can ask for.
-pub const MOST_THREADS: u8 = 64;
+pub const MOST_THREADS: u32 = 64;
 
 /// The files of jobs, as many as there are.
 pub fn files<'a>(alloc: Global) -> Arg<'a>
@@ -65,7 +65,7 @@ pub fn stops_option<'a>(alloc: Global, help: &'a str) -> Arg<'a>
     ensures rule { rule_of result ≡ stops_rule }
     ensures local { result.global ≡ false }
 {
-    number_option(alloc, "stops", u32::from(MOST_STOPS), help)
+    number_option(alloc, "stops", MOST_STOPS, help)
 }
 
 /// The option `--carrier`.

@@ -52,11 +52,12 @@ pub(crate) fn threads_in(options: &ArgMatches<'_>) -> Option<u8>
 }
 
 /// The number that an option was given, from 1 to the most.
-fn small_given(text: Option<&str>, most: u8) -> Option<u8>
+fn small_given(text: Option<&str>, most: u32) -> Option<u8>
+    requires { most ≤ 255 }
     ensures exact { result ≡ number_given most (option_map (λ s. s.now) text.entry) }
     ensures range { IfSome result (λ n. (0 < n) × (n ≤ most)) }
 {
-    match number_given(text, u32::from(most)) {
+    match number_given(text, most) {
         Some(number) => Some(number as u8),
         None => None,
     }

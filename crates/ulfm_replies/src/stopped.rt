@@ -1,8 +1,8 @@
 //! What a text asks for, with the stops of a place.
 ghost use Rattle.std.specs.Prelude.{◌≡◌, ◌≤◌, ℕ, List, Ok, IfOk, map, string_bytes};
-ghost use Rattle.ulfm_stops.specs.Place.{IsStopOf};
+ghost use Rattle.ulfm_stops.specs.Place.{IsPlaceOf, IsStopOf};
 ghost use Rattle.ulfm_reader.specs.JobText.{reading_of_bytes, rows_of};
-ghost use Rattle.ulfm_replies.specs.Stopped.{IsAsked, asked_beside, asked_view, clauses_beside, name_beside, names_at, no_place_in, no_place_json, no_place_text, reading_as};
+ghost use Rattle.ulfm_replies.specs.Stopped.{IsAsked, asked_at, asked_beside, asked_view, clauses_beside, name_beside, names_at, no_place_in, no_place_json, no_place_text, reading_as};
 
 use crate::reply::{JOB_REFUSED, Reply, refusal};
 use std::alloc::{AllocError, Global};
@@ -51,12 +51,20 @@ fn placed(
     if read.job.len() + place.len() > MOST_STEPS {
         return Ok(Err(refusal(alloc, form, JobFault::TooLarge)?));
     }
+    Ok(Ok(with_stops(alloc, place, read)?))
+}
+
+/// What was read, with the stops of a place that its job has.
+fn with_stops(alloc: Global, place: Place, read: Reading) -> Result<Reading, AllocError>
+    requires { IsPlaceOf read.job place }
+    ensures { IfOk result (λ made. asked_view made ≡ asked_at place (asked_view read)) }
+{
     match place {
-        Place::Nowhere => Ok(Ok(read)),
-        Place::One(stop) => Ok(Ok(asked_beside(alloc, stop, &read)?)),
+        Place::Nowhere => Ok(read),
+        Place::One(stop) => asked_beside(alloc, stop, &read),
         Place::Two(first, second) => {
             let read = asked_beside(alloc, first, &read)?;
-            Ok(Ok(asked_beside(alloc, second, &read)?))
+            asked_beside(alloc, second, &read)
         }
     }
 }

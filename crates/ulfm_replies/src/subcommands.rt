@@ -163,7 +163,7 @@ fn of_places<'a>(alloc: Global, command: Command<'a>) -> Result<Command<'a>, All
     let threads = number_option(
         alloc,
         "threads",
-        u32::from(MOST_THREADS),
+        MOST_THREADS,
         "With --stops looks at places by so many threads [1 to 64; one a processor if left out]",
     );
     command.arg(threads)

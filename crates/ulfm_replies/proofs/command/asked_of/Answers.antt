@@ -68,5 +68,5 @@ returns-clause-kinds g c =
     let matched = c.in_ok-matches.ensures.ok.2 (ap is_simple c.in_ok-command.ensures ∙ simple) in
     let means = c.in-None.ensures.exact ∙ ap meant (matched.1 ∙ ap (λ (a : App). subcommand_of a words) c.in_ok-command.ensures) in
     let none = ap (λ (a : App). fault_of a words) (sym c.in_ok-command.ensures) ∙ c.in_ok-matches.ensures.kinds (ap is_simple_and_free c.in_ok-command.ensures ∙ free) in
-    let H : Kinds → Type 0 = λ (kinds : Kinds). HasKind kinds c.in_ok-unknown_carrier-in-None.field-0 in
-    subst H (sym (ap₂ or_else none (ap unmeant (sym means)))) (inr (inl c.in_ok-unknown_carrier-in-None.ensures))
+    let H : Kinds → Type 0 = λ (kinds : Kinds). HasKind kinds c.in_ok-unmeant-in-None.field-0 in
+    subst H (sym (ap₂ or_else none (ap unmeant (sym means)))) (inr (inl c.in_ok-unmeant-in-None.ensures))

@@ -13,4 +13,5 @@ returns c =
     let third = c.in_ok-command-3.ensures.shape c.in_ok-run_command.ensures.local ∙ ap₂ join second c.in_ok-run_command.ensures.app in
     let fourth = c.in_ok-command-4.ensures.shape c.in_ok-sweep_command.ensures.local ∙ ap₂ join third c.in_ok-sweep_command.ensures.app in
     let fifth = c.in_ok-command-5.ensures.shape c.in_ok-outcomes_command.ensures.local ∙ ap₂ join fourth c.in_ok-outcomes_command.ensures.app in
-    IfOk-weaker c.subcommand-6.result _ _ (λ r h. h.shape c.in_ok-draw_command.ensures.local ∙ ap₂ join fifth c.in_ok-draw_command.ensures.app) c.subcommand-6.ensures
+    let sixth = c.in_ok-command-6.ensures.shape c.in_ok-places_command.ensures.local ∙ ap₂ join fifth c.in_ok-places_command.ensures.app in
+    IfOk-weaker c.subcommand-7.result _ _ (λ r h. h.shape c.in_ok-draw_command.ensures.local ∙ ap₂ join sixth c.in_ok-draw_command.ensures.app) c.subcommand-7.ensures

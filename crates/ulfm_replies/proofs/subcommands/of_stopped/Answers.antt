@@ -1,0 +1,10 @@
+use Rattle.std.proofs.Common.{ap, ◌∙◌}
+use Rattle.std.proofs.lemmas.Result.{IfOk-weaker}
+use Rattle.clap.specs.Words.{Rule, app_of, with_rule}
+use Rattle.ulfm_replies.specs.CommandLine.{of_jobs}
+use Rattle.ulfm_replies.proofs.subcommands.of_stopped.Goals as goal
+
+pub returns-clause-app : goal.returns-clause-app
+returns-clause-app c =
+    let first = c.in_ok-command.ensures.shape c.stop_option.ensures.local ∙ ap (λ (rule : Rule). with_rule (app_of c.args.command) rule) c.stop_option.ensures.rule in
+    IfOk-weaker c.of_jobs.result _ _ (λ r h. h ∙ ap of_jobs first) c.of_jobs.ensures.app
