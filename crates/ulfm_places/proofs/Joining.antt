@@ -1,5 +1,5 @@
 -- Lists of places, one after another.
-use Rattle.std.proofs.Common.{◌≡◌, ℕ, Bool, true, false, List, [], ◌∷◌, ◌++◌, Option, Some, None, Result, Ok, is_some, refl, ap, sym, subst, ◌∙◌, append_assoc}
+use Rattle.std.proofs.Common.{◌≡◌, ℕ, true, false, List, [], ◌∷◌, ◌++◌, Option, Some, None, Result, Ok, is_some, refl, ap, sym, subst, ◌∙◌, append_assoc}
 use Rattle.std.proofs.lemmas.List.{append-nil}
 use Rattle.std.proofs.lemmas.Bool.{false≢true}
 use Rattle.std.specs.declared.alloc.AllocError.{AllocError}
@@ -8,7 +8,7 @@ use Rattle.ulfm_outcomes.specs.Outcomes.{IsList}
 use Rattle.ulfm_reach.specs.declared.reach.Reach.TheVariants.{More}
 use Rattle.ulfm_stops.specs.Place.{job_at}
 use Rattle.ulfm_stops.specs.declared.place.Place.{Place}
-use Rattle.ulfm_places.specs.Lists.{AreLists, IsListedAt}
+use Rattle.ulfm_places.specs.Lists.{AreLists}
 use Rattle.ulfm_places.specs.inside.Parts.{AreJoined, AreJoinedSoFar, AreParts, GoesOn, IsPart}
 use Rattle.ulfm_places.specs.declared.listed.Listed.{Listed}
 use Rattle.ulfm_places.specs.declared.lists.Lists.{Lists}
@@ -29,17 +29,7 @@ module _ (j : JobView) (limit : ℕ) where
   lists-past (x ∷ xs) ys (l ∷ ls) p all = (all.0, lists-past xs ys ls p all.1)
 
   module _ (places : List Place) where
-    -- no lists yet
-    pub goes_on-start : (listed : List Listed) → listed ≡ [] → GoesOn j limit places listed places
-    goes_on-start listed is = λ more past lists. subst (λ (ls : List Listed). AreLists j limit places (ls ++ more) past) (sym is) lists
-
     module _ (listed : List Listed) (rest : List Place) (on : GoesOn j limit places listed rest) where
-      -- one more list
-      pub goes_on-one : (left : List Place) (place : Place) (one : Listed) (new : List Listed) → rest ≡ place ∷ left → IsListedAt j limit place one → new ≡ listed ++ one ∷ [] → GoesOn j limit places new left
-      goes_on-one left place one new is at pushed = λ more past lists.
-          subst (λ (ls : List Listed). AreLists j limit places ls past) (sym (append_assoc listed (one ∷ []) more) ∙ ap (λ (ls : List Listed). ls ++ more) (sym pushed))
-          (on (one ∷ more) past (subst (λ (ps : List Place). AreLists j limit ps (one ∷ more) past) (sym is) (at, lists)))
-
       -- the next place is past the limit
       pub goes_on-past : (left : List Place) (place : Place) → rest ≡ place ∷ left → IsList (job_at place j) limit More → AreLists j limit places listed (Some place)
       goes_on-past left place is more =
@@ -64,11 +54,6 @@ module _ (j : JobView) (limit : ℕ) where
         goes_on-part_past p all =
             subst (λ (ms : List Listed). AreLists j limit places ms (Some p)) (sym pushed)
             (on ls (Some p) (subst (λ (ps : List Place). AreLists j limit ps ls (Some p)) (sym is) (lists-past front left ls p all)))
-
--- no part yet
-pub joined-start : (parts left : List (Result Lists AllocError)) (listed : List Listed) → listed ≡ [] → left ≡ parts → AreJoinedSoFar parts listed left
-joined-start parts left listed none is = λ j limit places are.
-    (places, goes_on-start j limit places listed none, subst (λ (ps : List (Result Lists AllocError)). AreParts j limit places ps) (sym is) are)
 
 -- no part is left
 pub joined-end : (parts left : List (Result Lists AllocError)) (listed : List Listed) → AreJoinedSoFar parts listed left → left ≡ [] → AreJoined parts listed None

@@ -1,4 +1,3 @@
 pub mod Joining
 pub mod Parting
-pub mod Writable
 pub mod Telling

@@ -1,7 +1,7 @@
 -- Places in parts of one size.
-use Rattle.std.proofs.Common.{◌≡◌, ℕ, zero, suc, ◌+◌, ◌*◌, ◌-◌, ◌/◌, ◌%◌, ◌<◌, ◌≤◌, min, List, [], ◌∷◌, ◌++◌, Result, length, take, drop, refl, ap, sym, subst, ◌∙◌, arith, length-drop, slice_index_or}
+use Rattle.std.proofs.Common.{◌≡◌, ℕ, zero, suc, ◌+◌, ◌*◌, ◌/◌, ◌%◌, ◌<◌, ◌≤◌, min, List, [], ◌∷◌, ◌++◌, Result, length, take, drop, refl, ap, sym, subst, ◌∙◌, arith, length-drop, slice_index_or}
 use Rattle.std.proofs.Math.Nat.{mod-lt}
-use Rattle.std.proofs.lemmas.List.{drop-drop, take-append-drop}
+use Rattle.std.proofs.lemmas.List.{drop-drop, drop_all, take-append-drop}
 use Rattle.std.proofs.lemmas.Nat.{div-add-mod'}
 use Rattle.std.specs.Fork.{slice_chunk}
 use Rattle.std.specs.declared.alloc.AllocError.{AllocError}
@@ -10,16 +10,11 @@ use Rattle.ulfm_stops.specs.declared.place.Place.{Place}
 use Rattle.ulfm_places.specs.inside.Parts.{AreParts, IsPart}
 use Rattle.ulfm_places.specs.declared.lists.Lists.{Lists}
 
--- nothing is left of a list without length
-none_left : {X : Type 0} (xs : List X) → length xs ≤ 0 → xs ≡ []
-none_left [] none = refl
-none_left (x ∷ xs) some = absurd (omega (arith, some))
-
 module _ (j : JobView) (limit : ℕ) (xs : List Place) (size : ℕ) where
   -- the places from a part on, by what each part came to
   pub parted-from : (n : ℕ) (rs : List (Result Lists AllocError)) → ((k : ℕ) (d : Result Lists AllocError) → k < length rs → IsPart j limit (slice_chunk xs size (n + k)) (slice_index_or rs k d))
       → length (drop (n * size) xs) ≤ length rs * size → AreParts j limit (drop (n * size) xs) rs
-  parted-from n [] each short = none_left (drop (n * size) xs) (omega (arith, short))
+  parted-from n [] each short = drop_all 0 (drop (n * size) xs) (omega (arith, short))
   parted-from n (r ∷ rs) each short =
       let next : n * size + size ≡ suc n * size = omega arith in
       let here : n + 0 ≡ n = omega arith in (

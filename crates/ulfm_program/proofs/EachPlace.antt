@@ -3,11 +3,15 @@ use Rattle.std.proofs.Common.{◌≡◌, ℕ, List, [], ◌∷◌, Option, None,
 use Rattle.std.proofs.lemmas.List.Elements.{All-cons, All-head, All-nil, All-tail}
 use Rattle.std.specs.Prelude.{All}
 use Rattle.ulfm_reach.specs.declared.reach.Reach.TheVariants as reach
+use Rattle.ulfm_outcomes.proofs.Writable.{list-writable}
 use Rattle.ulfm_outcomes.specs.Outcomes.{IsList}
+use Rattle.ulfm_outcomes.specs.Text.{AreAscii}
+use Rattle.ulfm_job.specs.Job.{JobView}
+use Rattle.ulfm_outcomes.specs.Unmet.{MeetsExpected}
 use Rattle.ulfm_stops.specs.Place.{IsPlaceOf, job_at}
 use Rattle.ulfm_stops.specs.declared.place.Place.{Place}
 use Rattle.ulfm_stops.specs.declared.place.Place.TheVariants.{Nowhere, One, Two}
-use Rattle.ulfm_places.specs.Lists.{AreLists, IsListedAt}
+use Rattle.ulfm_places.specs.Lists.{AreAllAscii, AreLists, IsListedAt}
 use Rattle.ulfm_places.specs.declared.listed.Listed.{Listed}
 use Rattle.ulfm_job.specs.declared.clause.Clause.{Clause}
 use Rattle.ulfm_stops.specs.Places.{places_of}
@@ -15,14 +19,14 @@ use Rattle.ulfm_json.specs.declared.form.Form.{Form}
 use Rattle.ulfm_replies.specs.Stopped.{Asked, IsAskedAt, asked_at}
 use Rattle.ulfm_replies.specs.declared.command.ListOptions.{ListOptions}
 use Rattle.ulfm_program.specs.EachPlace.{IsToldAt, row_at, together, unsearched}
-use Rattle.ulfm_program.specs.Outcomes.{goals_asked, many}
+use Rattle.ulfm_program.specs.Outcomes.{HasList, goals_asked, many}
 use Rattle.ulfm_program.specs.ShowEach.{IsFirstPlace, IsShowEachReply, nowhere_at_all, shown_at, told_at, too_many_at}
 use Rattle.ulfm_program.specs.declared.listed.FirstRow.{FirstRow}
 use Rattle.ulfm_program.specs.declared.show_each.LookAt.{LookAt}
 use Rattle.ulfm_program.specs.declared.told.Told.{Told as Kept}
 use Rattle.ulfm_program.specs.declared.told.Told.TheVariants as kept
 use Rattle.ulfm_program.specs.inside.Judging.{AreListedOf, IsFirstLook, IsListedOf, IsLookAtText, IsToldAtText, look_at_status}
-use Rattle.ulfm_program.specs.inside.Looking.{HasList, IsFirstRow, IsLook, look_status, row_status, told_view}
+use Rattle.ulfm_program.specs.inside.Looking.{IsFirstRow, IsLook, look_status, row_status, told_view}
 
 -- what is asked for at a place has the job of the place
 pub asked_at-job : (place : Place) (asked : Asked) → (asked_at place asked).job ≡ job_at place asked.job
@@ -45,14 +49,14 @@ lists_of asked limit (place ∷ places) (one ∷ listed) past lists inside =
     (lists_of asked limit places listed past lists.1 (All-tail (IsPlaceOf asked.job) place places inside))
 
 -- what is told of a row at a place
-pub row_told_as : (form : Form) (options : ListOptions) (place : Place) (asked : Asked) (first : FirstRow) → IsFirstRow asked.job asked.rows options.is_brief options.limit (Some first)
+pub row_told_as : (form : Form) (options : ListOptions) (place : Place) (asked : Asked) (first : FirstRow) → MeetsExpected asked.job → IsFirstRow asked.job asked.rows options.is_brief options.limit (Some first)
     → IsToldAt form options place asked (row_status (told_view first.told)) (row_at form place first.number (told_view first.told))
-row_told_as form options place asked first is = by first.told is.2.2
+row_told_as form options place asked first meets is = by first.told is.3.2
   where
-    by : (told : Kept) → IsLook asked.job is.2.0 options.is_brief options.limit (Some told) → IsToldAt form options place asked (row_status (told_view told)) (row_at form place first.number (told_view told))
-    by (kept.Schedule text) shows = together first.number is.0 is.2.0 _ is.1 is.2.1 shows
+    by : (told : Kept) → IsLook asked.job is.3.0 options.is_brief options.limit (Some told) → IsToldAt form options place asked (row_status (told_view told)) (row_at form place first.number (told_view told))
+    by (kept.Schedule text) shows = together first.number is.0 is.3.0 _ meets is.1 is.2 is.3.1 shows
     by (kept.Many limit) shows =
-        subst (λ (n : ℕ). IsToldAt form options place asked 7 (row_at form place first.number (many n))) (sym shows.0) (unsearched first.number is.0 is.2.0 is.1 is.2.1 (sym shows.0 ∙ shows.0, shows.1))
+        subst (λ (n : ℕ). IsToldAt form options place asked 7 (row_at form place first.number (many n))) (sym shows.0) (unsearched first.number is.0 is.3.0 meets is.1 is.2 is.3.1 (sym shows.0 ∙ shows.0, shows.1))
 
 -- the reply to what came of a search at each place
 pub show_each_as : (form : Form) (options : ListOptions) (stops : ℕ) (show bytes : List ℕ) (asked : Asked) (answers : List Clause) (look : Option LookAt) (text : List ℕ) → IsAskedAt Nowhere bytes asked → goals_asked asked show ≡ Ok answers
@@ -63,6 +67,7 @@ show_each_as form options stops show bytes asked answers (Some look) text read n
   where
     place : IsFirstPlace asked.job answers stops look.place
     place = record { number = first.0; there = first.1; before = first.2 }
+
     by : (told : Kept) → IsLook (job_at look.place asked.job) first.3.0 options.is_brief options.limit (Some told) → IsToldAtText form options.drawn look.place (told_view told) text
         → IsShowEachReply form options stops show bytes (look_status (Some (told_view told))) text
     by (kept.Schedule words) told is = shown_at asked answers look.place read named place first.3.0 first.3.1 _ text told is
@@ -70,3 +75,14 @@ show_each_as form options stops show bytes asked answers (Some look) text read n
         subst (λ (t : List ℕ). IsShowEachReply form options stops show bytes 7 t) (sym is)
         (subst (λ (n : ℕ). IsShowEachReply form options stops show bytes 7 (told_at form look.place (many n))) (sym told.0)
         (too_many_at asked answers look.place read named place first.3.0 first.3.1 (sym told.0 ∙ told.0, told.1)))
+
+-- what is found at a place can be written
+one-writable : (j : JobView) (limit : ℕ) (place : Place) (one : Listed) → IsListedAt j limit place one → AreAscii one.found
+one-writable j limit place one at = subst AreAscii (sym at.found) (list-writable _ (job_at place j) limit (reach.All at.reached) at.whole)
+
+-- and so can all that is
+pub lists-writable : (j : JobView) (limit : ℕ) (places : List Place) (listed : List Listed) (past : Option Place) → AreLists j limit places listed past → AreAllAscii listed
+lists-writable j limit places [] past lists = All-nil (λ (one : Listed). AreAscii one.found)
+lists-writable j limit [] (one ∷ listed) past lists = absurd lists
+lists-writable j limit (place ∷ places) (one ∷ listed) past lists =
+    All-cons (λ (one : Listed). AreAscii one.found) one listed (one-writable j limit place one lists.0) (lists-writable j limit places listed past lists.1)

@@ -23,7 +23,7 @@ use Rattle.ulfm_replies.specs.Failure.{out_of_memory_in}
 use Rattle.ulfm_replies.specs.Replies.{refused_in}
 use Rattle.ulfm_replies.specs.Stopped.{Asked, IsAskedAt, IsRefusal, asked_at}
 use Rattle.ulfm_replies.specs.declared.command.ListOptions.{ListOptions}
-use Rattle.ulfm_program.specs.Outcomes.{IsTold, NoneComes, Told, list_status, many, place_json, schedule, told_json, told_words}
+use Rattle.ulfm_program.specs.Outcomes.{IsFirstUnmet, IsTold, NoneComes, Told, list_status, many, place_json, schedule, told_json, told_words}
 
 -- the step as the file numbers it
 abbrev pub filed : Place → Unmet → Unmet
@@ -61,16 +61,17 @@ pub record IsWanted (asked : Asked) : Type 0 where
   pub meets : MeetsExpected asked.job
   pub none : NoneComes asked.job asked.rows
 
--- The status, and what is told of a place where some schedule has one: with 9 that schedule, or that more states than the limit would be
--- looked at for an answer that its step doesn't expect; with 7 the first row that can't be looked for within the limit. Steps are numbered
--- as in the file, and in the schedule as in the job with these stops.
+-- The status, and what is told of a place where some schedule has one. With 9, by a list of all outcomes there, the first step that has an
+-- answer which it doesn't expect, and a schedule that shows it, or that more states than the limit would be looked at for it. Where there
+-- is no such step, with 9 the first row of `never` that comes together, with a schedule, or with 7 the first that can't be looked for
+-- within the limit. Steps are numbered as in the file, and in the schedule as in the job with these stops.
 pub data IsToldAt (form : Form) (options : ListOptions) (place : Place) (asked : Asked) : ℕ → List ℕ → Type 0 where
-  unmet : (one : Unmet) (goals : Goals) (told : Told) → IsUnmet asked.job one goals → IsTold asked.job goals options.is_brief options.limit told
+  unmet : (one : Unmet) (goals : Goals) (told : Told) → IsFirstUnmet asked.job options.limit one → IsUnmet asked.job one goals → IsTold asked.job goals options.is_brief options.limit told
       → IsToldAt form options place asked 9 (unmet_at form place (filed place one) told)
-  together : (number : ℕ) (row : List Clause) (goals : Goals) (text : List ℕ) → slice_get asked.rows number ≡ Some row → AreOfClauses row goals → IsTold asked.job goals options.is_brief options.limit (schedule text)
-      → IsToldAt form options place asked 9 (row_at form place number (schedule text))
-  unsearched : (number : ℕ) (row : List Clause) (goals : Goals) → slice_get asked.rows number ≡ Some row → AreOfClauses row goals → IsTold asked.job goals options.is_brief options.limit (many options.limit)
-      → IsToldAt form options place asked 7 (row_at form place number (many options.limit))
+  together : (number : ℕ) (row : List Clause) (goals : Goals) (text : List ℕ) → MeetsExpected asked.job → slice_get asked.rows number ≡ Some row → NoneComes asked.job (take number asked.rows) → AreOfClauses row goals
+      → IsTold asked.job goals options.is_brief options.limit (schedule text) → IsToldAt form options place asked 9 (row_at form place number (schedule text))
+  unsearched : (number : ℕ) (row : List Clause) (goals : Goals) → MeetsExpected asked.job → slice_get asked.rows number ≡ Some row → NoneComes asked.job (take number asked.rows) → AreOfClauses row goals
+      → IsTold asked.job goals options.is_brief options.limit (many options.limit) → IsToldAt form options place asked 7 (row_at form place number (many options.limit))
 
 -- The status and what is told below the lists of these places: nothing, with the status of the lists, where the job is wanted at each of
 -- them; else of the first at which it isn't.

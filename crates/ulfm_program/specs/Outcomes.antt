@@ -14,7 +14,7 @@ use Rattle.ulfm_outcomes.specs.Outcomes.{IsList}
 use Rattle.ulfm_outcomes.specs.Schedule.{IsScheduleText}
 use Rattle.ulfm_outcomes.specs.Showing.{IsBriefSchedule, IsShowing}
 use Rattle.ulfm_outcomes.specs.Text.{some_never_ends}
-use Rattle.ulfm_outcomes.specs.Unmet.{IsUnmet, MeetsExpected}
+use Rattle.ulfm_outcomes.specs.Unmet.{IsUnmet, MeetsExpected, first_unmet}
 use Rattle.ulfm_outcomes.specs.declared.goals.Goals.{Goals}
 use Rattle.ulfm_outcomes.specs.declared.unmet.Unmet.{Unmet}
 use Rattle.ulfm_json.specs.Parts.{texts_json}
@@ -81,6 +81,14 @@ abbrev pub IsTold : JobView → Goals → Bool → ℕ → Told → Type 0
 IsTold job goals is_brief limit (schedule text) = (numbers : List ℕ) × (world : World) × IsSchedule job goals numbers world
     × (is_brief ≡ true → IsBriefSchedule job goals numbers) × IsScheduleText job goals numbers world text
 IsTold job goals is_brief limit (many most) = (most ≡ limit) × IsShowing job goals is_brief limit sought.More
+
+-- these are the rows of a list of all outcomes of the job
+abbrev pub HasList : JobView → ℕ → List (List ℕ) → Type 0
+HasList job limit found = (keys : List (List ℕ)) × IsList job limit (All (record { keys = keys; found = found }))
+
+-- by such a list this is the first step with an answer that it doesn't expect
+abbrev pub IsFirstUnmet : JobView → ℕ → Unmet → Type 0
+IsFirstUnmet job limit one = (found : List (List ℕ)) × HasList job limit found × (first_unmet job found ≡ Some one)
 
 -- no schedule of the job has all answers of the row
 abbrev pub NeverComes : JobView → List Clause → Type 0

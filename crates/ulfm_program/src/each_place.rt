@@ -17,7 +17,7 @@ use ulfm_json::Form;
 use ulfm_places::{Lists, Onlooker, list_places, lists_in, some_never_ends};
 use ulfm_reach::Watch;
 use ulfm_reader::Reading;
-use ulfm_replies::{ListOptions, PAST_LIMIT, Place, Reply, asked_at, refusal};
+use ulfm_replies::{ListOptions, PAST_LIMIT, Place, Reply, Wanted, asked_at, refusal};
 use ulfm_stops::places;
 
 /// The reply of `outcomes --stops` with these options. `watch` is told how far the search for a schedule is.
@@ -145,9 +145,11 @@ fn status_of(options: ListOptions, lists: &Lists) -> u8
 {
     match lists.past_limit {
         Some(_) => PAST_LIMIT,
-        None => list_status(
-            options.is_strict,
-            some_never_ends(lists.listed.as_slice()),
-        ),
+        None => list_status(options.is_strict, some_never_ends(lists.listed.as_slice())),
     }
+}
+
+/// Whether the words ask for the lists of all places.
+pub fn asks_of_places(wanted: Wanted) -> bool {
+    matches!(wanted, Wanted::Outcomes(ListOptions { stops: Some(_), .. }))
 }

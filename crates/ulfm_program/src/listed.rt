@@ -7,8 +7,8 @@ ghost use Rattle.ulfm_reach.specs.declared.reach.Reach.TheVariants.{All};
 ghost use Rattle.ulfm_outcomes.specs.Outcomes.{IsList};
 ghost use Rattle.ulfm_outcomes.specs.Unmet.{Judges};
 ghost use Rattle.ulfm_program.specs.ListReply.{IsListReply};
-ghost use Rattle.ulfm_program.specs.Outcomes.{IsJudged, IsOutcomesReply, list_status, row_in};
-ghost use Rattle.ulfm_program.specs.inside.Looking.{HasList, IsFirstRow, row_status, told_view};
+ghost use Rattle.ulfm_program.specs.Outcomes.{HasList, IsJudged, IsOutcomesReply, list_status, row_in};
+ghost use Rattle.ulfm_program.specs.inside.Looking.{IsFirstRow, row_status, told_view};
 
 use crate::each_place::each_place_reply;
 use crate::looking::{look_for, look_for_row};

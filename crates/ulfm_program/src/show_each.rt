@@ -43,7 +43,14 @@ pub fn show_each_reply<W: Watch>(
     };
     let places = places(alloc, &asked.job, stops)?;
     let answers = answers.as_slice();
-    let look = first_look(alloc, &asked.job, answers, options, places.as_slice(), watch)?;
+    let look = first_look(
+        alloc,
+        &asked.job,
+        answers,
+        options,
+        places.as_slice(),
+        watch,
+    )?;
     look_reply(alloc, form, options.drawn, &look)
 }
 
@@ -99,12 +106,7 @@ fn look_at<W: Watch>(
 }
 
 /// What clauses of the file's steps ask for in the job at a place.
-fn goals_at(
-    alloc: Global,
-    place: Place,
-    job: &Job,
-    clauses: &[Clause],
-) -> Result<Goals, AllocError>
+fn goals_at(alloc: Global, place: Place, job: &Job, clauses: &[Clause]) -> Result<Goals, AllocError>
     ensures { IfOk result (AreGoalsAt place job.now clauses.now) }
 {
     match place {

@@ -3,8 +3,9 @@ ghost use Rattle.std.specs.Prelude.{◌≡◌, IfOk, Some, string_bytes};
 ghost use Rattle.ulfm_outcomes.specs.Unmet.{Judges};
 ghost use Rattle.ulfm_replies.specs.Stopped.{Asked, asked_at, asked_view};
 ghost use Rattle.ulfm_program.specs.EachPlace.{IsToldAt, places_in, row_at};
+ghost use Rattle.ulfm_program.specs.Outcomes.{HasList, IsFirstUnmet};
 ghost use Rattle.ulfm_program.specs.inside.Judging.{AreListedOf, IsFirstUnwanted, IsListedOf, IsUnwanted};
-ghost use Rattle.ulfm_program.specs.inside.Looking.{HasList, row_status, told_view};
+ghost use Rattle.ulfm_program.specs.inside.Looking.{row_status, told_view};
 
 use crate::listed::{FirstRow, first_row, row_status};
 use crate::looking::look_for;
@@ -99,7 +100,8 @@ fn unmet_told<W: Watch>(
     unmet: Unmet,
     watch: &mut W,
 ) -> Result<Reply, AllocError>
-    requires { Judges job.now (Some unmet) }
+    requires judges { Judges job.now (Some unmet) }
+    requires first { IsFirstUnmet job.now options.limit unmet }
     ensures { IfOk result (λ r. (asked : Asked) → asked.job ≡ job.now → IsToldAt form options place asked r.status (string_bytes r.text)) }
 {
     let limit = options.limit as usize;
@@ -122,12 +124,7 @@ fn unmet_told<W: Watch>(
 }
 
 /// What is told of a row whose answers come together at a place.
-fn row_told(
-    alloc: Global,
-    form: Form,
-    place: Place,
-    first: &FirstRow,
-) -> Result<Reply, AllocError>
+fn row_told(alloc: Global, form: Form, place: Place, first: &FirstRow) -> Result<Reply, AllocError>
     ensures { IfOk result (λ r. (r.status ≡ row_status (told_view first.now.told)) × (string_bytes r.text ≡ row_at form place first.now.number (told_view first.now.told))) }
 {
     let mut text = String::new(alloc);

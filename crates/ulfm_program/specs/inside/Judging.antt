@@ -13,11 +13,11 @@ use Rattle.ulfm_replies.specs.Stopped.{Asked, asked_at}
 use Rattle.ulfm_replies.specs.declared.command.ListOptions.{ListOptions}
 use Rattle.ulfm_replies.specs.declared.reply.Reply.{Reply}
 use Rattle.ulfm_program.specs.EachPlace.{IsToldAt, IsWanted, more_at, places_in}
-use Rattle.ulfm_program.specs.Outcomes.{Told, list_status, many, nowhere_in, schedule}
+use Rattle.ulfm_program.specs.Outcomes.{HasList, Told, list_status, many, nowhere_in, schedule}
 use Rattle.ulfm_program.specs.ShowEach.{AreGoalsAt, IsNowhereAt, told_at}
 use Rattle.ulfm_program.specs.declared.show_each.LookAt.{LookAt}
 use Rattle.ulfm_program.specs.declared.told.Told.{Told as Kept}
-use Rattle.ulfm_program.specs.inside.Looking.{HasList, IsLook, look_status, told_view}
+use Rattle.ulfm_program.specs.inside.Looking.{IsLook, look_status, told_view}
 use Rattle.ulfm_outcomes.specs.declared.goals.Goals.{Goals}
 use Rattle.ulfm_draw.specs.declared.style.Style.{Style}
 

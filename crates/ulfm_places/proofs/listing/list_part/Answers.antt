@@ -1,4 +1,4 @@
-use Rattle.std.proofs.Common.{◌+◌, drop, get_or, refl, subst}
+use Rattle.std.proofs.Common.{◌+◌, drop, get_or, subst}
 use Rattle.std.proofs.lemmas.List.{drop_all}
 use Rattle.ulfm_stops.specs.declared.place.Place.TheVariants.{Nowhere}
 use Rattle.ulfm_places.specs.inside.Parts.{IsListOf}

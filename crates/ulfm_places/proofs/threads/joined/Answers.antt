@@ -1,7 +1,6 @@
-use Rattle.std.proofs.Common.{◌≡◌, List, [], ◌∷◌, Result, length, sym, ◌∙◌, arith, refl}
+use Rattle.std.proofs.Common.{sym, ◌∙◌, arith}
+use Rattle.std.proofs.lemmas.List.{drop_all}
 use Rattle.std.specs.Vec.Iter.{into_iter_items}
-use Rattle.std.specs.declared.alloc.AllocError.{AllocError}
-use Rattle.ulfm_places.specs.declared.lists.Lists.{Lists}
 use Rattle.ulfm_places.proofs.Joining.{joined-beyond, joined-end, joined-within}
 use Rattle.ulfm_places.proofs.threads.joined.Goals as goal
 
@@ -15,11 +14,7 @@ loop-part-preserved c =
     joined-within c.args.parts.items (into_iter_items c.loop-part.part-iterator) (into_iter_items c.next.new.self) c.in-Some.part c.in_ok-lists.lists c.loop-part.listed.items c.append.new.self.items
     c.loop-part.invariant c.in-Some.ensures.steps.0 c.in_ok-lists.was c.in_ok-append.ensures.items (sym c.is_some.ensures ∙ c.if-is_some.false)
 
-none_left : {X : Type 0} (xs : List X) → length xs ≡ 0 → xs ≡ []
-none_left [] none = refl
-none_left (x ∷ xs) some = absurd (omega (arith, some))
-
 pub returns : goal.returns
 returns c =
     joined-end c.args.parts.items (into_iter_items c.loop-part.part-iterator) c.loop-part.listed.items c.loop-part.invariant
-    (none_left (into_iter_items c.loop-part.part-iterator) (omega (arith, c.in-None.ensures.steps.0, c.loop-part.part-iterator.rest.ok)))
+    (drop_all 0 (into_iter_items c.loop-part.part-iterator) (omega (arith, c.in-None.ensures.steps.0, c.loop-part.part-iterator.rest.ok)))

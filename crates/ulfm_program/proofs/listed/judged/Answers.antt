@@ -12,6 +12,9 @@ use Rattle.ulfm_program.proofs.listed.judged.Goals as goal
 pub unmet_reply-requires : goal.unmet_reply-requires
 unmet_reply-requires g c = subst (Judges c.args.asked.now.job) c.in-Some.is (c.first_unmet.ensures.judges _ c.args.options.limit _ c.requires)
 
+pub first_row-requires : goal.first_row-requires
+first_row-requires g c = (c.args.reached.now.keys, c.requires)
+
 pub returns-in-Some-2 : goal.returns-in-Some-2
 returns-in-Some-2 g c =
     let job = c.args.asked.now.job in
