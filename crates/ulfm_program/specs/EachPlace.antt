@@ -23,7 +23,7 @@ use Rattle.ulfm_replies.specs.Failure.{out_of_memory_in}
 use Rattle.ulfm_replies.specs.Replies.{refused_in}
 use Rattle.ulfm_replies.specs.Stopped.{Asked, IsAskedAt, IsRefusal, asked_at}
 use Rattle.ulfm_replies.specs.declared.command.ListOptions.{ListOptions}
-use Rattle.ulfm_program.specs.Outcomes.{IsFirstUnmet, IsTold, NoneComes, Told, list_status, many, place_json, schedule, told_json, told_words}
+use Rattle.ulfm_program.specs.Outcomes.{IsFirstUnmet, IsTold, NoneComes, Told, list_status, many, schedule, told_json, told_words, unmet_json}
 
 -- the step as the file numbers it
 abbrev pub filed : Place → Unmet → Unmet
@@ -33,23 +33,31 @@ filed place unmet = record unmet { step = filed_number place unmet.rank unmet.st
 abbrev pub at_json : Place → List ℕ
 at_json place = codes "\"at\":\"" ++ place_text place ++ codes "\","
 
+-- the end of a line: a place
+abbrev pub at_words : Place → List ℕ
+at_words place = codes " at " ++ place_text place ++ codes "\n"
+
+-- the rest of an object: the place, and what was told
+abbrev pub rest_json : Place → Told → List ℕ
+rest_json place told = at_json place ++ told_json told ++ codes "}\n"
+
 -- at a place a step has an answer that it doesn't expect, in words
 abbrev pub unmet_at_words : Place → Unmet → List ℕ
-unmet_at_words place unmet = codes "not as expected: " ++ decimal unmet.rank ++ codes "." ++ decimal unmet.step ++ codes " at " ++ place_text place ++ codes "\n"
+unmet_at_words place unmet = codes "not as expected: " ++ decimal unmet.rank ++ codes "." ++ decimal unmet.step ++ at_words place
 
 -- that it has, and what was told of it
 abbrev pub unmet_at : Form → Place → Unmet → Told → List ℕ
 unmet_at Words place unmet told = unmet_at_words place unmet ++ told_words told
-unmet_at Json place unmet told = codes "{\"not_as_expected\":" ++ place_json unmet ++ at_json place ++ told_json told ++ codes "}\n"
+unmet_at Json place unmet told = unmet_json unmet ++ rest_json place told
 
 -- a row of `never` by its number, from 0, whose answers all come together at a place, in words
 abbrev pub row_at_words : Place → ℕ → List ℕ
-row_at_words place number = codes "come together: never[" ++ decimal number ++ codes "] at " ++ place_text place ++ codes "\n"
+row_at_words place number = codes "come together: never[" ++ decimal number ++ codes "]" ++ at_words place
 
 -- that they come, and what was told of them
 abbrev pub row_at : Form → Place → ℕ → Told → List ℕ
 row_at Words place number told = row_at_words place number ++ told_words told
-row_at Json place number told = codes "{\"never\":" ++ decimal number ++ codes "," ++ at_json place ++ told_json told ++ codes "}\n"
+row_at Json place number told = codes "{\"never\":" ++ decimal number ++ codes "," ++ rest_json place told
 
 -- the line that there are more states than the limit at a place
 abbrev pub more_at : Form → ℕ → Place → List ℕ

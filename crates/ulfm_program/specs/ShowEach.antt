@@ -17,8 +17,8 @@ use Rattle.ulfm_replies.specs.Failure.{out_of_memory_in}
 use Rattle.ulfm_replies.specs.Replies.{refused_in}
 use Rattle.ulfm_replies.specs.Stopped.{Asked, IsAskedAt, IsRefusal, clauses_beside}
 use Rattle.ulfm_replies.specs.declared.command.ListOptions.{ListOptions}
-use Rattle.ulfm_program.specs.EachPlace.{at_json, more_at}
-use Rattle.ulfm_program.specs.Outcomes.{IsTold, Told, goals_asked, many, no_goal, nowhere_in, schedule, told_json, told_words}
+use Rattle.ulfm_program.specs.EachPlace.{more_at, rest_json}
+use Rattle.ulfm_program.specs.Outcomes.{IsTold, Told, goals_asked, many, no_goal, nowhere_in, schedule, told_words}
 
 -- clauses of the file's steps, by the numbers that these have beside a stop
 abbrev pub beside : JobView → Stop → List Clause → List Clause
@@ -45,7 +45,7 @@ at_line place = codes "at " ++ place_text place ++ codes "\n"
 -- a schedule at a place, below the line of the place
 abbrev pub schedule_at : Form → Place → Told → List ℕ
 schedule_at Words place told = at_line place ++ told_words told
-schedule_at Json place told = codes "{" ++ at_json place ++ told_json told ++ codes "}\n"
+schedule_at Json place told = codes "{" ++ rest_json place told
 
 -- what a search came to at a place: a schedule, or that there are more states than the limit
 abbrev pub told_at : Form → Place → Told → List ℕ

@@ -4,7 +4,7 @@ ghost use Rattle.std.specs.Prelude.{◌≡◌, ◌<◌, ◌++◌, ℕ, List, IfO
 ghost use Rattle.ulfm_places.specs.Lists.{AreAllAscii};
 ghost use Rattle.ulfm_replies.specs.Stopped.{asked_view};
 ghost use Rattle.ulfm_program.specs.EachPlace.{IsEachPlaceReply, IsJudgedEach, places_in};
-ghost use Rattle.ulfm_program.specs.inside.Judging.{AreListedOf, lists_status, lists_text};
+ghost use Rattle.ulfm_program.specs.inside.Judging.{AreListedOf, lists_status, lists_text, text_past};
 
 use crate::listed::list_status;
 use crate::told_at::push_more_at;
@@ -12,9 +12,9 @@ use crate::unwanted::first_unwanted;
 use std::alloc::{AllocError, Global};
 use std::thread;
 use std::thread::Threads;
-use ulfm_job::{JobFault, MOST_STEPS};
+use ulfm_job::{Job, JobFault, MOST_STEPS};
 use ulfm_json::Form;
-use ulfm_places::{Lists, Onlooker, list_places, lists_in, some_never_ends};
+use ulfm_places::{Listed, Lists, Onlooker, list_places, lists_in, some_never_ends};
 use ulfm_reach::Watch;
 use ulfm_reader::Reading;
 use ulfm_replies::{ListOptions, PAST_LIMIT, Place, Reply, Wanted, asked_at, refusal};
@@ -101,7 +101,8 @@ fn judged<W: Watch>(
     ensures { IfOk result (λ r. (text : List ℕ) × IsJudgedEach form options (asked_view asked.now) (places_in lists.now.listed.items) (lists_status options lists.now) r.status text × (string_bytes r.text ≡ lists_text form bytes.now asked.now.job options lists.now ++ text)) }
 {
     let listed = lists.listed.as_slice();
-    let mut text = text_of(alloc, form, options, bytes, asked, lists)?;
+    let past = lists.past_limit;
+    let mut text = text_of(alloc, form, options, bytes, &asked.job, listed, past)?;
     match first_unwanted(alloc, form, options, asked, listed, watch)? {
         Some(told) => {
             text.push_str(told.text.as_str())?;
@@ -123,19 +124,20 @@ fn text_of(
     form: Form,
     options: ListOptions,
     bytes: &[u8],
-    asked: &Reading,
-    lists: &Lists,
+    job: &Job,
+    listed: &[Listed],
+    past: Option<Place>,
 ) -> Result<String, AllocError>
-    requires { AreAllAscii lists.now.listed.items }
-    ensures { IfOk result (λ text. string_bytes text ≡ lists_text form bytes.now asked.now.job options lists.now) }
+    requires ascii { AreAllAscii listed.now }
+    ensures { IfOk result (λ text. string_bytes text ≡ text_past form bytes.now job.now options listed.now past) }
 {
-    match lists.past_limit {
+    match past {
         Some(place) => {
             let mut text = String::new(alloc);
             push_more_at(&mut text, form, options.limit as usize, place)?;
             Ok(text)
         }
-        None => Ok(lists_in(alloc, form, bytes, &asked.job, lists.listed.as_slice())?),
+        None => Ok(lists_in(alloc, form, bytes, job, listed)?),
     }
 }
 

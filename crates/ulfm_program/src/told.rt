@@ -64,7 +64,7 @@ fn push_unmet_words(text: &mut String, unmet: Unmet) -> Result<(), AllocError>
 }
 
 /// The same as the first key of an object.
-fn push_unmet_json(text: &mut String, unmet: Unmet) -> Result<(), AllocError>
+pub(crate) fn push_unmet_json(text: &mut String, unmet: Unmet) -> Result<(), AllocError>
     ensures { OnOk result (string_bytes text.new ≡ string_bytes text.old ++ unmet_json unmet) }
 {
     text.push_str("{\"not_as_expected\":")?;
@@ -72,7 +72,7 @@ fn push_unmet_json(text: &mut String, unmet: Unmet) -> Result<(), AllocError>
 }
 
 /// The step, as an object, and a comma.
-pub(crate) fn push_place(text: &mut String, unmet: Unmet) -> Result<(), AllocError>
+fn push_place(text: &mut String, unmet: Unmet) -> Result<(), AllocError>
     ensures { OnOk result (string_bytes text.new ≡ string_bytes text.old ++ place_json unmet) }
 {
     let rank = unmet.rank;

@@ -1,10 +1,10 @@
 //! What is told of a place.
 ghost use Rattle.std.specs.Prelude.{◌≡◌, ◌++◌, OnOk, string_bytes};
-ghost use Rattle.ulfm_program.specs.EachPlace.{at_json, more_at, row_at, row_at_words, unmet_at, unmet_at_words};
+ghost use Rattle.ulfm_program.specs.EachPlace.{at_json, at_words, more_at, rest_json, row_at, row_at_words, unmet_at, unmet_at_words};
 ghost use Rattle.ulfm_program.specs.ShowEach.{schedule_at, told_at};
 ghost use Rattle.ulfm_program.specs.inside.Looking.{told_view};
 
-use crate::told::{Told, push_key, push_place, push_words};
+use crate::told::{Told, push_key, push_unmet_json, push_words};
 use std::alloc::AllocError;
 use ulfm_json::Form;
 use ulfm_outcomes::Unmet;
@@ -26,11 +26,8 @@ pub fn push_unmet_at(
             push_words(text, told)
         }
         Form::Json => {
-            text.push_str("{\"not_as_expected\":")?;
-            push_place(text, unmet)?;
-            push_at(text, place)?;
-            push_key(text, told)?;
-            text.push_str("}\n")
+            push_unmet_json(text, unmet)?;
+            push_rest_json(text, place, told)
         }
     }
 }
@@ -41,7 +38,15 @@ fn push_unmet_at_words(text: &mut String, place: Place, unmet: Unmet) -> Result<
 {
     let rank = unmet.rank;
     let step = unmet.step;
-    write!(text, "not as expected: {rank}.{step} at {place}\n")
+    write!(text, "not as expected: {rank}.{step}")?;
+    push_at_words(text, place)
+}
+
+/// The end of a line: a place.
+fn push_at_words(text: &mut String, place: Place) -> Result<(), AllocError>
+    ensures { OnOk result (string_bytes text.new ≡ string_bytes text.old ++ at_words place) }
+{
+    write!(text, " at {place}\n")
 }
 
 /// The key of a place, and a comma.
@@ -49,6 +54,15 @@ fn push_at(text: &mut String, place: Place) -> Result<(), AllocError>
     ensures { OnOk result (string_bytes text.new ≡ string_bytes text.old ++ at_json place) }
 {
     write!(text, "\"at\":\"{place}\",")
+}
+
+/// The rest of an object: the place, and what was told.
+fn push_rest_json(text: &mut String, place: Place, told: &Told) -> Result<(), AllocError>
+    ensures { OnOk result (string_bytes text.new ≡ string_bytes text.old ++ rest_json place (told_view told.now)) }
+{
+    push_at(text, place)?;
+    push_key(text, told)?;
+    text.push_str("}\n")
 }
 
 /// A row of `never` by its number whose answers come together at a place, and what was told of it.
@@ -68,9 +82,7 @@ pub fn push_row_at(
         }
         Form::Json => {
             write!(text, "{{\"never\":{number},")?;
-            push_at(text, place)?;
-            push_key(text, told)?;
-            text.push_str("}\n")
+            push_rest_json(text, place, told)
         }
     }
 }
@@ -79,7 +91,8 @@ pub fn push_row_at(
 fn push_row_at_words(text: &mut String, place: Place, number: usize) -> Result<(), AllocError>
     ensures { OnOk result (string_bytes text.new ≡ string_bytes text.old ++ row_at_words place number) }
 {
-    write!(text, "come together: never[{number}] at {place}\n")
+    write!(text, "come together: never[{number}]")?;
+    push_at_words(text, place)
 }
 
 /// The line that there are more states than the limit at a place.
@@ -131,9 +144,7 @@ fn push_schedule_at(
         }
         Form::Json => {
             text.push_str("{")?;
-            push_at(text, place)?;
-            push_key(text, told)?;
-            text.push_str("}\n")
+            push_rest_json(text, place, told)
         }
     }
 }

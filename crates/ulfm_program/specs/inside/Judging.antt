@@ -9,7 +9,8 @@ use Rattle.ulfm_places.specs.Union.{some_never_ends}
 use Rattle.ulfm_places.specs.declared.listed.Listed.{Listed}
 use Rattle.ulfm_places.specs.declared.lists.Lists.{Lists}
 use Rattle.ulfm_json.specs.declared.form.Form.{Form}
-use Rattle.ulfm_replies.specs.Stopped.{Asked, asked_at}
+use Rattle.ulfm_replies.specs.Stopped.{Asked, asked_at, asked_view}
+use Rattle.ulfm_reader.specs.declared.reading.Reading.{Reading}
 use Rattle.ulfm_replies.specs.declared.command.ListOptions.{ListOptions}
 use Rattle.ulfm_replies.specs.declared.reply.Reply.{Reply}
 use Rattle.ulfm_program.specs.EachPlace.{IsToldAt, IsWanted, more_at, places_in}
@@ -28,6 +29,11 @@ IsListedOf asked limit one = IsPlaceOf asked.job one.place × HasList (job_at on
 -- the lists of some of them
 abbrev pub AreListedOf : Asked → ℕ → List Listed → Type 0
 AreListedOf asked limit listed = All (IsListedOf asked limit) listed
+
+-- this is what is asked for with the stops of a place, or there are none
+abbrev pub IsStopped : Place → Asked → Option Reading → Type 0
+IsStopped place asked None = asked_at place asked ≡ asked
+IsStopped place asked (Some made) = asked_view made ≡ asked_at place asked
 
 -- this is wanted, or that is told of it
 abbrev pub IsUnwanted : Form → ListOptions → Place → Asked → Option Reply → Type 0
