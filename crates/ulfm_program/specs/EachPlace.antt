@@ -50,11 +50,15 @@ abbrev pub unmet_at : Form → Place → Unmet → Told → List ℕ
 unmet_at Words place unmet told = unmet_at_words place unmet ++ told_words told
 unmet_at Json place unmet told = unmet_json unmet ++ rest_json place told
 
--- a row of `never` by its number, from 0, whose answers all come together at a place, in words
-abbrev pub row_at_words : Place → ℕ → List ℕ
-row_at_words place number = codes "come together: never[" ++ decimal number ++ codes "]" ++ at_words place
+-- the beginning of a line: a row of `never` by its number, from 0, whose answers all come together
+abbrev pub row_head : ℕ → List ℕ
+row_head number = codes "come together: never[" ++ decimal number ++ codes "]"
 
--- that they come, and what was told of them
+-- that they do so at a place, in words
+abbrev pub row_at_words : Place → ℕ → List ℕ
+row_at_words place number = row_head number ++ at_words place
+
+-- the same, and what was told of them
 abbrev pub row_at : Form → Place → ℕ → Told → List ℕ
 row_at Words place number told = row_at_words place number ++ told_words told
 row_at Json place number told = codes "{\"never\":" ++ decimal number ++ codes "," ++ rest_json place told

@@ -1,6 +1,6 @@
 //! What is told of a place.
 ghost use Rattle.std.specs.Prelude.{◌≡◌, ◌++◌, OnOk, string_bytes};
-ghost use Rattle.ulfm_program.specs.EachPlace.{at_json, at_words, more_at, rest_json, row_at, row_at_words, unmet_at, unmet_at_words};
+ghost use Rattle.ulfm_program.specs.EachPlace.{at_json, at_words, more_at, rest_json, row_at, row_at_words, row_head, unmet_at, unmet_at_words};
 ghost use Rattle.ulfm_program.specs.ShowEach.{schedule_at, told_at};
 ghost use Rattle.ulfm_program.specs.inside.Looking.{told_view};
 
@@ -91,8 +91,16 @@ pub fn push_row_at(
 fn push_row_at_words(text: &mut String, place: Place, number: usize) -> Result<(), AllocError>
     ensures { OnOk result (string_bytes text.new ≡ string_bytes text.old ++ row_at_words place number) }
 {
-    write!(text, "come together: never[{number}]")?;
-    push_at_words(text, place)
+    push_number(text, number)?;
+    push_at_words(text, place)?;
+    Ok(())
+}
+
+/// The beginning of a line: a row of `never` by its number.
+fn push_number(text: &mut String, number: usize) -> Result<(), AllocError>
+    ensures { OnOk result (string_bytes text.new ≡ string_bytes text.old ++ row_head number) }
+{
+    write!(text, "come together: never[{number}]")
 }
 
 /// The line that there are more states than the limit at a place.
