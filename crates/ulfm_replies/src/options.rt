@@ -22,6 +22,9 @@ pub const USUAL_STATES: u32 = 1_000_000;
 /// The most stops of a place.
 pub const MOST_STOPS: u32 = 2;
 
+/// The most threads that `--threads` can ask for.
+pub const MOST_THREADS: u32 = 64;
+
 /// The files of jobs, as many as there are.
 pub fn files<'a>(alloc: Global) -> Arg<'a>
     ensures rule { rule_of result ≡ file_rule }
@@ -54,9 +57,7 @@ pub fn stop_option<'a>(alloc: Global) -> Arg<'a>
     Arg::new(alloc, "stop")
         .long("stop")
         .value_name("PLACE")
-        .help(
-            "Stops ranks before these steps: 0.2 is rank 0 before its step 2, 0.2+1.3 two ranks, - none",
-        )
+        .help("Stops ranks before these steps: 0.2 is rank 0 before its step 2, 0.2+1.3 two ranks, - none")
 }
 
 /// The option `--stops`, with what it does to a command.
