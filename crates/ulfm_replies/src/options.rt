@@ -57,7 +57,9 @@ pub fn stop_option<'a>(alloc: Global) -> Arg<'a>
     Arg::new(alloc, "stop")
         .long("stop")
         .value_name("PLACE")
-        .help("Stops ranks before these steps: 0.2 is rank 0 before its step 2, 0.2+1.3 two ranks, - none")
+        .help(
+            "Stops ranks before these steps: 0.2 is rank 0 before its step 2, 0.2+1.3 two ranks, - none",
+        )
 }
 
 /// The option `--stops`, with what it does to a command.
