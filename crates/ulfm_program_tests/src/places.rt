@@ -48,23 +48,11 @@ const ANSWERED: [(&str, u8, &str); 16] = [
         0,
         "0 0 send 1 tag 5 comm 0: sent\n0 1 stop: stopped\n0 end: stopped\n1 0 recv 0 tag any comm 0: posted\n1 1 wait 0: done from 0 tag 5 61\n1 2 failed comm 0: skipped\n1 3 stop: stopped\n1 end: stopped\n",
     ),
-    (
-        "outcomes --stop 1.0 --limit 1",
-        7,
-        "more than 1 states\n",
-    ),
-    (
-        "outcomes --stop 0.0 --show 1.got~done",
-        8,
-        "no schedule\n",
-    ),
+    ("outcomes --stop 1.0 --limit 1", 7, "more than 1 states\n"),
+    ("outcomes --stop 0.0 --show 1.got~done", 8, "no schedule\n"),
     ("replay --stop 4.0", 1, "place refused: 4.0\n"),
     ("outcomes --stop 0.0+1.4", 1, "place refused: 0.0+1.4\n"),
-    (
-        "draw --json --stop 0.2",
-        1,
-        "{\"place_refused\":\"0.2\"}\n",
-    ),
+    ("draw --json --stop 0.2", 1, "{\"place_refused\":\"0.2\"}\n"),
     (
         "replay --stop 0.00",
         2,

@@ -4,3 +4,4 @@ pub mod Numbers
 pub mod Refused
 pub mod Rows
 pub mod Outside
+pub mod AsRead

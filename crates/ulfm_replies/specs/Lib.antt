@@ -1,3 +1,4 @@
+pub mod Rules
 pub mod CommandLine
 pub mod Asked
 pub mod Asking

@@ -1,14 +1,15 @@
 //! The command line.
 ghost use Rattle.std.specs.Prelude.{◌≡◌, [], codes, Some, map, option_map, unwrap_or, IfOk, IfSome};
 ghost use Rattle.clap.specs.Words.{FailsBy, all_of, first_of, found_of, kind_of, rows_of, subcommand_rows_of};
-ghost use Rattle.ulfm_replies.specs.CommandLine.{AreInRange, AreListed, HasRanges, asked, carrier_named, IsLimit, faults, form_asked, form_in, form_of, AreTurns, files_in, limit_in, list_options, listed, meant, named, named_at, run_options, show_asked, show_in, turns_in};
+ghost use Rattle.ulfm_replies.specs.CommandLine.{AreInRange, HasRanges, asked, carrier_named, faults, form_asked, form_in, form_of, AreTurns, files_in, meant, named, named_at, run_options, show_asked, show_in, turns_in};
 
-use crate::flagged::{drawn_in, is_flagged, is_strict, style_of, wants_progress};
+use crate::flagged::{is_flagged, is_strict, style_of};
+use crate::listed::listed;
 use crate::number::number_given;
-use crate::options::{MOST_RUNS, MOST_STATES, MOST_TURNS, USUAL_STATES};
-use crate::placed::{are_together, place_in, stops_in, stops_wanted, threads_in};
+use crate::options::{MOST_RUNS, MOST_TURNS};
+use crate::placed::{place_in, stops_wanted};
 use crate::subcommands::command_line;
-use crate::unmeant::unmeant_text;
+use crate::unmeant::unmeant;
 use clap::error::ErrorKind;
 use clap::{ArgMatches, Command, Error};
 use std::alloc::{AllocError, Global};
@@ -132,21 +133,6 @@ pub fn asked_of<'a, S: AsStr>(alloc: Global, words: &'a [S]) -> Result<Asked<'a>
     }
 }
 
-/// The error of a command line that clap takes, and that asks for nothing all the same.
-fn unmeant(
-    alloc: Global,
-    command: &mut Command<'_>,
-    matches: &ArgMatches<'_>,
-) -> Result<Error, AllocError>
-    ensures { IfOk result (λ error. kind_of error ≡ ErrorKind.InvalidValue) }
-{
-    let message = match matches.subcommand() {
-        Some((_, options)) => unmeant_text(alloc, options)?,
-        None => String::new(alloc),
-    };
-    command.error(ErrorKind::InvalidValue, message.as_str())
-}
-
 /// What the words ask for, by what was found in them.
 fn wanted_in(matches: &ArgMatches<'_>) -> Option<Wanted>
     ensures exact { result ≡ meant (subcommand_rows_of matches.now) }
@@ -195,18 +181,6 @@ fn named_at(name: &str, options: &ArgMatches<'_>, place: Place) -> Option<Wanted
     }
 }
 
-/// What `outcomes` is asked for, where its options go together.
-fn listed(options: &ArgMatches<'_>, place: Place) -> Option<Wanted>
-    ensures exact { result ≡ listed (rows_of (found_of options.now)) place }
-    ensures ranges { IfSome result HasRanges }
-{
-    if are_together(options) {
-        Some(Wanted::Outcomes(list_options(options, place)))
-    } else {
-        None
-    }
-}
-
 /// What the options of `run` ask for, where there is a carrier of that name.
 fn run_options(options: &ArgMatches<'_>, place: Place) -> Option<RunOptions>
     ensures exact { result ≡ run_options (rows_of (found_of options.now)) place }
@@ -222,23 +196,6 @@ fn run_options(options: &ArgMatches<'_>, place: Place) -> Option<RunOptions>
             is_brief: is_flagged(options, "brief"),
         }),
         None => None,
-    }
-}
-
-/// What the options of `outcomes` ask for.
-fn list_options(options: &ArgMatches<'_>, place: Place) -> ListOptions
-    ensures exact { result ≡ list_options (rows_of (found_of options.now)) place }
-    ensures ranges { AreListed result }
-{
-    ListOptions {
-        place,
-        stops: stops_in(options),
-        threads: threads_in(options),
-        limit: limit_in(options),
-        is_strict: is_strict(options),
-        wants_progress: wants_progress(options),
-        is_brief: is_flagged(options, "brief"),
-        drawn: drawn_in(options),
     }
 }
 
@@ -299,14 +256,6 @@ fn files_of<'a>(alloc: Global, options: &ArgMatches<'a>) -> Result<Vec<&'a str>,
         Some(names) => Vec::from_slice(alloc, names),
         None => Ok(Vec::new(alloc)),
     }
-}
-
-/// The most states that are looked at: those of `--limit`, where it is given.
-fn limit_in(options: &ArgMatches<'_>) -> u32
-    ensures exact { result ≡ limit_in (rows_of (found_of options.now)) }
-    ensures range { IsLimit result }
-{
-    number_given(value_of(options, "limit"), MOST_STATES).unwrap_or(USUAL_STATES)
 }
 
 /// The first value that was found of an option, by its name.

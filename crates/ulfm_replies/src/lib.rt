@@ -7,7 +7,8 @@
 //! standard error what a reply doesn't: that is for people, and no contract speaks of it. The statuses of the program are constants of this
 //! crate.
 //!
-//! Read specs/CommandLine.antt first (what words ask for), then Replies.antt, Asking.antt and Unfinished.antt (texts and statuses).
+//! Read specs/CommandLine.antt first (what words ask for), then Stopped.antt (what a text asks for, with the stops of a place), then
+//! Replies.antt, Asking.antt and Unfinished.antt (texts and statuses).
 #![tactic(auto)]
 
 mod asked;
@@ -16,6 +17,8 @@ mod command;
 mod failure;
 mod flagged;
 mod help;
+mod laws;
+mod listed;
 mod misplaced;
 mod notes;
 mod number;
@@ -33,6 +36,7 @@ pub use asked::{Unfollowed, asked_for};
 pub use asking::as_asked;
 pub use command::{Asked, Carrier, ListOptions, RunOptions, Wanted};
 pub use failure::{Failure, failed, failed_line, failure_of};
+pub use laws::nowhere_is_as_read;
 pub use notes::{write_fault, write_notes};
 pub use reply::{
     DONE, INPUT_FAILED, JOB_REFUSED, NO_SCHEDULE, NOT_EXPECTED, OUTPUT_FAILED, PAST_LIMIT,

@@ -1,7 +1,7 @@
 //! The options of the commands.
 ghost use Rattle.std.specs.Prelude.{◌≡◌, false};
 ghost use Rattle.clap.specs.Words.{rule_of};
-ghost use Rattle.ulfm_replies.specs.CommandLine.{brief_rule, carrier_rule, flag_rule, json_rule, file_rule, number_rule, progress_rule, show_rule, stop_rule, stops_rule, strict_rule, turns_rule};
+ghost use Rattle.ulfm_replies.specs.Rules.{brief_rule, carrier_rule, flag_rule, json_rule, file_rule, number_rule, progress_rule, show_rule, stop_rule, stops_rule, strict_rule, turns_rule};
 
 use clap::builder::ValueParser;
 use clap::{Arg, ArgAction};
@@ -57,7 +57,9 @@ pub fn stop_option<'a>(alloc: Global) -> Arg<'a>
     Arg::new(alloc, "stop")
         .long("stop")
         .value_name("PLACE")
-        .help("Stops ranks before these steps: 0.2 is rank 0 before its step 2, 0.2+1.3 two ranks, - none")
+        .help(
+            "Stops ranks before these steps: 0.2 is rank 0 before its step 2, 0.2+1.3 two ranks, - none",
+        )
 }
 
 /// The option `--stops`, with what it does to a command.

@@ -1,15 +1,30 @@
 //! What is said of a command line that clap takes, and that asks for nothing all the same.
+ghost use Rattle.std.specs.Prelude.{◌≡◌, IfOk};
+ghost use Rattle.clap.specs.Words.{kind_of};
 
 use crate::command::value_of;
-use clap::ArgMatches;
+use clap::error::ErrorKind;
+use clap::{ArgMatches, Command, Error};
 use std::alloc::{AllocError, Global};
 use ulfm_stops::Place;
 
-/// Why these options of a command ask for nothing: a place, two options or a carrier.
-pub(crate) fn unmeant_text(
+/// The error of a command line that clap takes, and that asks for nothing all the same.
+pub(crate) fn unmeant(
     alloc: Global,
-    options: &ArgMatches<'_>,
-) -> Result<String, AllocError> {
+    command: &mut Command<'_>,
+    matches: &ArgMatches<'_>,
+) -> Result<Error, AllocError>
+    ensures { IfOk result (λ error. kind_of error ≡ ErrorKind.InvalidValue) }
+{
+    let message = match matches.subcommand() {
+        Some((_, options)) => unmeant_text(alloc, options)?,
+        None => String::new(alloc),
+    };
+    command.error(ErrorKind::InvalidValue, message.as_str())
+}
+
+/// Why these options of a command ask for nothing: a place, two options or a carrier.
+fn unmeant_text(alloc: Global, options: &ArgMatches<'_>) -> Result<String, AllocError> {
     if let Some(text) = value_of(options, "stop") {
         if Place::parse(text).is_none() {
             return format!(in alloc;

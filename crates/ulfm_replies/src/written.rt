@@ -10,12 +10,7 @@ use ulfm_reader::ReadJob;
 use ulfm_stops::{Place, places};
 
 /// The reply of `places`, with at most so many stops, 1 or 2.
-pub fn places_reply(
-    alloc: Global,
-    form: Form,
-    stops: u8,
-    bytes: &[u8],
-) -> Result<Reply, AllocError>
+pub fn places_reply(alloc: Global, form: Form, stops: u8, bytes: &[u8]) -> Result<Reply, AllocError>
     ensures { IfOk result (λ r. IsPlacesReply form stops bytes.now r.status (string_bytes r.text)) }
 {
     let job = match Job::read(alloc, bytes) {

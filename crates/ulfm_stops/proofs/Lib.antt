@@ -1,3 +1,4 @@
 pub mod Listed
 pub mod Inside
 pub mod Numbers
+pub mod Written

@@ -1,5 +1,5 @@
 //! Where ranks stop.
-ghost use Rattle.std.specs.Prelude.{◌≡◌, ◌≢◌, ◌≤◌, ◌<◌, ◌+◌, ◌↔◌, Err, IfErr, IfOk, IsTrue, Some, length};
+ghost use Rattle.std.specs.Prelude.{◌≡◌, ◌≢◌, ◌≤◌, ◌<◌, ◌+◌, ◌↔◌, Err, IfErr, IfOk, IfSome, IsTrue, Some, length};
 ghost use Rattle.ulfm_job.specs.Job.{IsJob, step_count};
 ghost use Rattle.ulfm_stops.specs.Place.{IsPlaceOf, IsStopOf, job_at, stopped, stops_of};
 ghost use Rattle.ulfm_stops.specs.Text.{place_of_text, place_text};
@@ -25,7 +25,8 @@ pub enum Place {
 impl Place {
     /// The place of a text, as `-`, `0.2` or `0.2+1.3`: of those alone that places are written in.
     pub fn parse(text: &str) -> Option<Place>
-        ensures { result ≡ place_of_text text.now }
+        ensures exact { result ≡ place_of_text text.now }
+        ensures written { IfSome result (λ place. place_text place ≡ text.now) }
     {
         place_of_text(text)
     }

@@ -2,7 +2,6 @@ use Rattle.std.proofs.Common.{ℕ, List, ap₂, subst, sym, ◌∙◌, string_by
 use Rattle.std.proofs.lemmas.Result.{IfOk-weaker}
 use Rattle.ulfm_replies.specs.Stopped.{IsAsked, asked_view, names_at}
 use Rattle.ulfm_reach.specs.declared.reach.Reach.{Reach}
-use Rattle.ulfm_reach.specs.declared.reach.Reach.TheVariants.{All}
 use Rattle.ulfm_outcomes.specs.Outcomes.{IsList}
 use Rattle.ulfm_outcomes.specs.Objects.{list_in}
 use Rattle.ulfm_program.specs.Outcomes.{IsJudged, IsOutcomesReply, listed, not_listed, past_limit}

@@ -4,7 +4,8 @@ use Rattle.clap.specs.declared.error.kind.ErrorKind.TheVariants.{OutOfMemory}
 use Rattle.clap.specs.Kinds.{HasKind, or_else}
 use Rattle.clap.specs.Words.{App, Kinds, IsAmong, fault_of, is_simple, is_simple_and_free, subcommand_of}
 use Rattle.clap.proofs.OnLiterals.{clap_on_literals}
-use Rattle.ulfm_replies.specs.CommandLine.{tool_app, asked, faults, files_in, form_in, meant, show_in, unmeant}
+use Rattle.ulfm_replies.specs.CommandLine.{asked, faults, files_in, form_in, meant, show_in, unmeant}
+use Rattle.ulfm_replies.specs.Rules.{tool_app}
 use Rattle.ulfm_replies.proofs.Parsed.{among_first}
 use Rattle.ulfm_replies.proofs.command.asked_of.Goals as goal
 

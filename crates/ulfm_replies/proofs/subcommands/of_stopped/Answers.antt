@@ -1,7 +1,7 @@
 use Rattle.std.proofs.Common.{ap, ◌∙◌}
 use Rattle.std.proofs.lemmas.Result.{IfOk-weaker}
 use Rattle.clap.specs.Words.{Rule, app_of, with_rule}
-use Rattle.ulfm_replies.specs.CommandLine.{of_jobs}
+use Rattle.ulfm_replies.specs.Rules.{of_jobs}
 use Rattle.ulfm_replies.proofs.subcommands.of_stopped.Goals as goal
 
 pub returns-clause-app : goal.returns-clause-app

@@ -1,7 +1,7 @@
 use Rattle.std.proofs.Common.{rules, ap, ap₂, codes, ◌≡◌, ◌∙◌}
 use Rattle.std.proofs.lemmas.Result.{IfOk-weaker}
 use Rattle.clap.specs.Words.{app_of, new_app, with_rule}
-use Rattle.ulfm_replies.specs.CommandLine.{of_jobs}
+use Rattle.ulfm_replies.specs.Rules.{of_jobs}
 use Rattle.ulfm_replies.proofs.subcommands.places_command.Goals as goal
 
 pub returns-clause-app : goal.returns-clause-app

@@ -2,7 +2,7 @@ use Rattle.std.proofs.Common.{rules, ap, ap₂, codes, false, ◌≡◌, ◌∙�
 use Rattle.std.proofs.lemmas.Result.{IfOk-weaker}
 use Rattle.clap.specs.Words.{app_of, new_app, with_rule}
 use Rattle.clap.specs.declared.builder.command.Command.TheViews.{out-Command}
-use Rattle.ulfm_replies.specs.CommandLine.{of_stopped}
+use Rattle.ulfm_replies.specs.Rules.{of_stopped}
 use Rattle.ulfm_replies.proofs.Flags.{either}
 use Rattle.ulfm_replies.proofs.subcommands.run_command.Goals as goal
 
