@@ -1,5 +1,5 @@
 -- What is found of a job at places.
-use Rattle.std.proofs.Common.{◌≡◌, ℕ, List, [], ◌∷◌, Option, None, Some, Ok, refl, sym, subst, ◌∙◌}
+use Rattle.std.proofs.Common.{◌≡◌, ℕ, List, [], ◌∷◌, ◌++◌, Option, None, Some, Ok, refl, sym, subst, ◌∙◌}
 use Rattle.std.proofs.lemmas.List.Elements.{All-cons, All-head, All-nil, All-tail}
 use Rattle.std.specs.Prelude.{All}
 use Rattle.ulfm_reach.specs.declared.reach.Reach.TheVariants as reach
@@ -18,14 +18,14 @@ use Rattle.ulfm_stops.specs.Places.{places_of}
 use Rattle.ulfm_json.specs.declared.form.Form.{Form}
 use Rattle.ulfm_replies.specs.Stopped.{Asked, IsAskedAt, asked_at}
 use Rattle.ulfm_replies.specs.declared.command.ListOptions.{ListOptions}
-use Rattle.ulfm_program.specs.EachPlace.{IsToldAt, row_at, together, unsearched}
+use Rattle.ulfm_program.specs.EachPlace.{IsEachPlaceReply, IsJudgedEach, IsToldAt, listed_all, past_limit_at, places_in, row_at, together, unsearched}
 use Rattle.ulfm_program.specs.Outcomes.{HasList, goals_asked, many}
 use Rattle.ulfm_program.specs.ShowEach.{IsFirstPlace, IsShowEachReply, nowhere_at_all, shown_at, told_at, too_many_at}
 use Rattle.ulfm_program.specs.declared.listed.FirstRow.{FirstRow}
 use Rattle.ulfm_program.specs.declared.show_each.LookAt.{LookAt}
 use Rattle.ulfm_program.specs.declared.told.Told.{Told as Kept}
 use Rattle.ulfm_program.specs.declared.told.Told.TheVariants as kept
-use Rattle.ulfm_program.specs.inside.Judging.{AreListedOf, IsFirstLook, IsListedOf, IsLookAtText, IsToldAtText, look_at_status}
+use Rattle.ulfm_program.specs.inside.Judging.{AreListedOf, IsFirstLook, IsListedOf, IsLookAtText, IsToldAtText, look_at_status, status_past, text_past}
 use Rattle.ulfm_program.specs.inside.Looking.{IsFirstRow, IsLook, look_status, row_status, told_view}
 
 -- what is asked for at a place has the job of the place
@@ -86,3 +86,14 @@ lists-writable j limit places [] past lists = All-nil (λ (one : Listed). AreAsc
 lists-writable j limit [] (one ∷ listed) past lists = absurd lists
 lists-writable j limit (place ∷ places) (one ∷ listed) past lists =
     All-cons (λ (one : Listed). AreAscii one.found) one listed (one-writable j limit place one lists.0) (lists-writable j limit places listed past lists.1)
+
+-- the lists of all places with what is told below them
+pub each_as : (form : Form) (options : ListOptions) (stops : ℕ) (bytes : List ℕ) (asked : Asked) (places : List Place) (listed : List Listed) (past : Option Place) (status : ℕ) (text words : List ℕ) → IsAskedAt Nowhere bytes asked
+    → AreLists asked.job options.limit places listed past → places ≡ places_of stops asked.job → IsJudgedEach form options asked (places_in listed) (status_past options listed past) status words
+    → text ≡ text_past form bytes asked.job options listed past ++ words → IsEachPlaceReply form options stops bytes status text
+each_as form options stops bytes asked places listed None status text words read are is judged same =
+    subst (λ (t : List ℕ). IsEachPlaceReply form options stops bytes status t) (sym same)
+    (listed_all asked listed status words read (subst (λ (ps : List Place). AreLists asked.job options.limit ps listed None) is are) judged)
+each_as form options stops bytes asked places listed (Some place) status text words read are is judged same =
+    subst (λ (t : List ℕ). IsEachPlaceReply form options stops bytes status t) (sym same)
+    (past_limit_at asked listed place status words read (subst (λ (ps : List Place). AreLists asked.job options.limit ps listed (Some place)) is are) judged)

@@ -105,9 +105,9 @@ list_alone false is_open = good_job
 
 judged_known : (form : Form) (options : ListOptions) (job : JobView) (rows : List (List Clause)) (found : List (List ℕ)) (list : List ℕ) (status : ℕ) (text : List ℕ) → IsJudged form options job rows found list status text → IsKnown status
 judged_known form options job rows found list status text (good meets none) = list_alone options.is_strict (some_never_ends found)
-judged_known form options job rows found list status text (unmet u goals told is shows) = not_wanted
-judged_known form options job rows found list status text (together number row goals words here are shows) = not_wanted
-judged_known form options job rows found list status text (unsearched number row goals here are shows) = past
+judged_known form options job rows found list status text (unmet u goals told first is shows) = not_wanted
+judged_known form options job rows found list status text (together number row goals words meets here none are shows) = not_wanted
+judged_known form options job rows found list status text (unsearched number row goals meets here none are shows) = past
 
 list_known : (form : Form) (options : ListOptions) (bytes : List ℕ) (status : ℕ) (text : List ℕ) → IsOutcomesReply form options bytes status text → IsKnown status
 list_known form options bytes status text (listed asked reached k words is all judged) = judged_known form options asked.job _ _ _ status text judged
@@ -177,9 +177,9 @@ list_not_usage false is_open = λ e. omega (arith, e)
 
 judged_not_usage : (form : Form) (options : ListOptions) (job : JobView) (rows : List (List Clause)) (found : List (List ℕ)) (list : List ℕ) (status : ℕ) (text : List ℕ) → IsJudged form options job rows found list status text → status ≢ 2
 judged_not_usage form options job rows found list status text (good meets none) = list_not_usage options.is_strict (some_never_ends found)
-judged_not_usage form options job rows found list status text (unmet u goals told is shows) = λ e. omega (arith, e)
-judged_not_usage form options job rows found list status text (together number row goals words here are shows) = λ e. omega (arith, e)
-judged_not_usage form options job rows found list status text (unsearched number row goals here are shows) = λ e. omega (arith, e)
+judged_not_usage form options job rows found list status text (unmet u goals told first is shows) = λ e. omega (arith, e)
+judged_not_usage form options job rows found list status text (together number row goals words meets here none are shows) = λ e. omega (arith, e)
+judged_not_usage form options job rows found list status text (unsearched number row goals meets here none are shows) = λ e. omega (arith, e)
 
 no_play_not_usage : (form : Form) (place : Place) (bytes : List ℕ) (status : ℕ) (text : List ℕ) → IsRefusal form place bytes status text → status ≢ 2
 no_play_not_usage form place bytes status text (stopped.no_job f is) = λ e. omega (arith, e)

@@ -1,5 +1,5 @@
 -- What `outcomes` writes for a job.
-use Rattle.std.specs.Prelude.{◌≡◌, ℕ, Bool, true, List, ◌++◌, Option, Some, None, Result, Ok, Err, All as Each, codes, slice_get, if◌then◌else◌}
+use Rattle.std.specs.Prelude.{◌≡◌, ℕ, Bool, true, List, ◌++◌, Option, Some, None, Result, Ok, Err, All as Each, codes, slice_get, take, if◌then◌else◌}
 use Rattle.std.specs.Fmt.{decimal}
 use Rattle.std.specs.Str.Lines.{lines}
 use Rattle.ulfm_job.specs.declared.clause.Clause.{Clause}
@@ -107,11 +107,11 @@ list_status is_strict is_open = if is_strict then (if is_open then 6 else 0) els
 -- cases that more states than the limit would be looked at for it. With 7 the first row that can't be looked for within the limit.
 pub data IsJudged (form : Form) (options : ListOptions) (job : JobView) (rows : List (List Clause)) (found : List (List ℕ)) (list : List ℕ) : ℕ → List ℕ → Type 0 where
   good : MeetsExpected job → NoneComes job rows → IsJudged form options job rows found list (list_status options.is_strict (some_never_ends found)) list
-  unmet : (unmet : Unmet) (goals : Goals) (told : Told) → IsUnmet job unmet goals → IsTold job goals options.is_brief options.limit told
+  unmet : (unmet : Unmet) (goals : Goals) (told : Told) → first_unmet job found ≡ Some unmet → IsUnmet job unmet goals → IsTold job goals options.is_brief options.limit told
       → IsJudged form options job rows found list 9 (list ++ unmet_in form unmet told)
-  together : (number : ℕ) (row : List Clause) (goals : Goals) (text : List ℕ) → slice_get rows number ≡ Some row → AreOfClauses row goals → IsTold job goals options.is_brief options.limit (schedule text)
+  together : (number : ℕ) (row : List Clause) (goals : Goals) (text : List ℕ) → MeetsExpected job → slice_get rows number ≡ Some row → NoneComes job (take number rows) → AreOfClauses row goals → IsTold job goals options.is_brief options.limit (schedule text)
       → IsJudged form options job rows found list 9 (list ++ row_in form number (schedule text))
-  unsearched : (number : ℕ) (row : List Clause) (goals : Goals) → slice_get rows number ≡ Some row → AreOfClauses row goals → IsTold job goals options.is_brief options.limit (many options.limit)
+  unsearched : (number : ℕ) (row : List Clause) (goals : Goals) → MeetsExpected job → slice_get rows number ≡ Some row → NoneComes job (take number rows) → AreOfClauses row goals → IsTold job goals options.is_brief options.limit (many options.limit)
       → IsJudged form options job rows found list 7 (list ++ row_in form number (many options.limit))
 
 -- The status and the text, in this form, that `outcomes` gives for these bytes: the list of all that the steps of their job may be

@@ -35,7 +35,8 @@ where
     W: Watch,
     ensures { IfOk result (λ r. IsEachPlaceReply form options stops bytes.now r.status (string_bytes r.text)) }
 {
-    let asked = match asked_at(alloc, form, Place::Nowhere, bytes)? {
+    let read = asked_at(alloc, form, Place::Nowhere, bytes)?;
+    let asked = match read {
         Ok(asked) => asked,
         Err(reply) => return Ok(reply),
     };
@@ -102,20 +103,26 @@ fn judged<W: Watch>(
 {
     let listed = lists.listed.as_slice();
     let past = lists.past_limit;
-    let mut text = text_of(alloc, form, options, bytes, &asked.job, listed, past)?;
+    let text = text_of(alloc, form, options, bytes, &asked.job, listed, past)?;
     match first_unwanted(alloc, form, options, asked, listed, watch)? {
-        Some(told) => {
-            text.push_str(told.text.as_str())?;
-            Ok(Reply {
-                status: told.status,
-                text,
-            })
-        }
+        Some(told) => with_told(text, &told),
         None => Ok(Reply {
             status: status_of(options, lists),
             text,
         }),
     }
+}
+
+/// What is told, below this text.
+fn with_told(text: String, told: &Reply) -> Result<Reply, AllocError>
+    ensures { IfOk result (λ r. (r.status ≡ told.now.status) × (string_bytes r.text ≡ string_bytes text ++ string_bytes told.now.text)) }
+{
+    let mut text = text;
+    text.push_str(told.text.as_str())?;
+    Ok(Reply {
+        status: told.status,
+        text,
+    })
 }
 
 /// The text of the lists, or that they come past the limit.

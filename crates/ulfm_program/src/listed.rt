@@ -5,7 +5,7 @@ ghost use Rattle.ulfm_job.specs.declared.clause.Clause.{Clause as SeenClause};
 ghost use Rattle.ulfm_reader.specs.JobText.{rows_of};
 ghost use Rattle.ulfm_reach.specs.declared.reach.Reach.TheVariants.{All};
 ghost use Rattle.ulfm_outcomes.specs.Outcomes.{IsList};
-ghost use Rattle.ulfm_outcomes.specs.Unmet.{Judges};
+ghost use Rattle.ulfm_outcomes.specs.Unmet.{Judges, first_unmet};
 ghost use Rattle.ulfm_program.specs.ListReply.{IsListReply};
 ghost use Rattle.ulfm_program.specs.Outcomes.{HasList, IsJudged, IsOutcomesReply, list_status, row_in};
 ghost use Rattle.ulfm_program.specs.inside.Looking.{IsFirstRow, row_status, told_view};
@@ -128,7 +128,7 @@ fn unmet_reply<W: Watch>(
     watch: &mut W,
 ) -> Result<Reply, AllocError>
     requires { Judges job.now (Some unmet) }
-    ensures { IfOk result (λ r. (rows : List (List SeenClause)) (found : List (List ℕ)) → IsJudged form options job.now rows found (string_bytes list) r.status (string_bytes r.text)) }
+    ensures { IfOk result (λ r. (rows : List (List SeenClause)) (found : List (List ℕ)) → first_unmet job.now found ≡ Some unmet → IsJudged form options job.now rows found (string_bytes list) r.status (string_bytes r.text)) }
 {
     let limit = options.limit as usize;
     let goals = unmet.goals(alloc, job)?;

@@ -30,7 +30,8 @@ pub fn show_each_reply<W: Watch>(
 ) -> Result<Reply, AllocError>
     ensures { IfOk result (λ r. IsShowEachReply form options stops show.now bytes.now r.status (string_bytes r.text)) }
 {
-    let asked = match asked_at(alloc, form, Place::Nowhere, bytes)? {
+    let read = asked_at(alloc, form, Place::Nowhere, bytes)?;
+    let asked = match read {
         Ok(asked) => asked,
         Err(reply) => return Ok(reply),
     };
