@@ -1,5 +1,5 @@
 -- What `outcomes --stops` writes for a job.
-use Rattle.std.specs.Prelude.{◌≡◌, ◌<◌, ℕ, ◌+◌, List, [], ◌∷◌, ◌++◌, Option, Some, None, All, codes, map, slice_get, take}
+use Rattle.std.specs.Prelude.{◌≡◌, ◌<◌, ℕ, ◌+◌, List, [], ◌++◌, Some, None, All, codes, map, slice_get, take}
 use Rattle.std.specs.Fmt.{decimal}
 use Rattle.ulfm_job.specs.declared.clause.Clause.{Clause}
 use Rattle.ulfm_job.specs.declared.fault.JobFault.TheVariants.{TooLarge}

@@ -13,7 +13,7 @@ use Rattle.ulfm_replies.specs.Stopped.{Asked, asked_at, asked_view}
 use Rattle.ulfm_reader.specs.declared.reading.Reading.{Reading}
 use Rattle.ulfm_replies.specs.declared.command.ListOptions.{ListOptions}
 use Rattle.ulfm_replies.specs.declared.reply.Reply.{Reply}
-use Rattle.ulfm_program.specs.EachPlace.{IsToldAt, IsWanted, more_at, places_in}
+use Rattle.ulfm_program.specs.EachPlace.{IsToldAt, IsWanted, more_at}
 use Rattle.ulfm_program.specs.Outcomes.{HasList, Told, list_status, many, nowhere_in, schedule}
 use Rattle.ulfm_program.specs.ShowEach.{AreGoalsAt, IsNowhereAt, told_at}
 use Rattle.ulfm_program.specs.declared.show_each.LookAt.{LookAt}
