@@ -71,12 +71,15 @@ place_written text place = by (bytes_eq text (codes "-")) refl
             ap place_text (sym (some_same (Two first second) place e)) ∙ append_assoc (stop_text first) (codes "+") (stop_text second)
             ∙ ap₂ (λ (front rest : List ℕ). front ++ (43 ∷ rest)) (stop_written _ first f) (stop_written _ second s) ∙ around 43 text lt
         rises false e = absurd cc
+
     one : (text : List ℕ) (place : Place) (stop : Option Stop) → stop_of_text text ≡ stop → option_map One stop ≡ Some place → place_text place ≡ text
     one text place None s e = absurd cc
     one text place (Some stop) s e = ap place_text (sym (some_same (One stop) place e)) ∙ stop_written text stop s
+
     stops : (b : Bool) → ltb (position_or_len (λ c. c == 43) text) (length text) ≡ b → (if b then two_by (stop_of_text (before_first (λ c. c == 43) text)) (stop_of_text (after_first (λ c. c == 43) text)) else option_map One (stop_of_text text)) ≡ Some place → place_text place ≡ text
     stops true lt e = two text place _ _ (ltb-true _ _ lt) refl refl e
     stops false lt e = one text place _ refl e
+
     by : (b : Bool) → bytes_eq text (codes "-") ≡ b → (if b then Some Nowhere else stops_of_text text) ≡ Some place → place_text place ≡ text
     by true is e = ap place_text (sym (some_same Nowhere place e)) ∙ sym ((bytes_eq-Decides text (codes "-")).0 is)
     by false is e = stops (ltb (position_or_len (λ c. c == 43) text) (length text)) refl e
