@@ -100,20 +100,30 @@ def is_met(expectations, head, answer):
     return words is None or answer == "skipped" or any(begins(answer, one) for one in words)
 
 
-def plain(text):
-    """The plain form of a job's text. A job that the program refuses isn't to be handed in here."""
+def plain(text, stops=None):
+    """The plain form of a job's text. A job that the program refuses isn't to be handed in here. `stops` has for a rank the number of the
+    step before which it stops, or how many steps it has: there is one more step, by whose number later ones are moved."""
     import tomllib
 
-    job = tomllib.loads(text)
-    lines = [[job["ranks"], job["capacity"]]]
-    for step, _, number_of in numbered(job):
-        lines.append([step["rank"], *words_of(step, number_of), *conditions_of(step, number_of)])
+    job, stops = tomllib.loads(text), stops or {}
+    lines, lengths = [[job["ranks"], job["capacity"]]], collections.Counter()
+    for step, number, number_of in numbered(job):
+        rank = step["rank"]
+        if stops.get(rank) == number:
+            lines.append([rank, "stop"])
+
+        def moved(of, rank=rank, number_of=number_of):
+            return number_of(of) + (rank in stops and stops[rank] <= number_of(of))
+
+        lines.append([rank, *words_of(step, moved), *conditions_of(step, moved)])
+        lengths[rank] += 1
+    lines += [[rank, "stop"] for rank, at in stops.items() if at == lengths[rank]]
     return "\n".join(" ".join(map(str, line)) for line in lines) + "\n"
 
 
-def explore(text, *options):
-    """The status and the lines of the explorer for a job's text."""
-    ran = subprocess.run([PROGRAM, *options], input=plain(text), capture_output=True, text=True, check=False)
+def explore(text, *options, stops=None):
+    """The status and the lines of the explorer for a job's text, with these stops."""
+    ran = subprocess.run([PROGRAM, *options], input=plain(text, stops), capture_output=True, text=True, check=False)
     if ran.returncode not in (0, 7):
         raise RuntimeError(f"the explorer ended with status {ran.returncode}: {ran.stderr.strip()}")
     return ran.returncode, ran.stdout.splitlines()

@@ -11,6 +11,7 @@ use Rattle.ulfm_json.specs.declared.form.Form.{Form}
 use Rattle.ulfm_replies.specs.Stopped.{Asked, IsAskedAt}
 use Rattle.ulfm_replies.specs.declared.command.ListOptions.{ListOptions}
 use Rattle.ulfm_outcomes.specs.Goals.{AreOfClauses}
+use Rattle.ulfm_outcomes.specs.Unmet.{MeetsExpected}
 use Rattle.ulfm_outcomes.specs.declared.goals.Goals.{Goals}
 use Rattle.ulfm_program.specs.Outcomes.{IsJudged, IsShowReply, NeverComes, NoneComes, goals_asked, many, nowhere, row_in, shown, together, told_in, too_many, unsearched}
 use Rattle.ulfm_program.specs.declared.listed.FirstRow.{FirstRow}
@@ -40,11 +41,11 @@ none_more job rows n row inside here before one =
     subst (λ (all : List (List Clause)). NoneComes job all) (sym (take_more rows n row inside ∙ ap (λ (x : List Clause). take n rows ++ x ∷ []) last)) (All-push (NeverComes job) (take n rows) row before one)
 
 -- a list with what came of the search for a row
-pub row_as : (form : Form) (options : ListOptions) (job : JobView) (rows : List (List Clause)) (found : List (List ℕ)) (list : List ℕ) (first : FirstRow) → IsFirstRow job rows options.is_brief options.limit (Some first)
+pub row_as : (form : Form) (options : ListOptions) (job : JobView) (rows : List (List Clause)) (found : List (List ℕ)) (list : List ℕ) (first : FirstRow) → MeetsExpected job → IsFirstRow job rows options.is_brief options.limit (Some first)
     → IsJudged form options job rows found list (row_status (told_view first.told)) (list ++ row_in form first.number (told_view first.told))
-row_as form options job rows found list first is = by first.told is.2.2
+row_as form options job rows found list first meets is = by first.told is.3.2
   where
-    by : (told : Kept) → IsLook job is.2.0 options.is_brief options.limit (Some told) → IsJudged form options job rows found list (row_status (told_view told)) (list ++ row_in form first.number (told_view told))
-    by (kept.Schedule text) shows = together first.number is.0 is.2.0 _ is.1 is.2.1 shows
+    by : (told : Kept) → IsLook job is.3.0 options.is_brief options.limit (Some told) → IsJudged form options job rows found list (row_status (told_view told)) (list ++ row_in form first.number (told_view told))
+    by (kept.Schedule text) shows = together first.number is.0 is.3.0 _ meets is.1 is.2 is.3.1 shows
     by (kept.Many limit) shows =
-        subst (λ (n : ℕ). IsJudged form options job rows found list 7 (list ++ row_in form first.number (many n))) (sym shows.0) (unsearched first.number is.0 is.2.0 is.1 is.2.1 (sym shows.0 ∙ shows.0, shows.1))
+        subst (λ (n : ℕ). IsJudged form options job rows found list 7 (list ++ row_in form first.number (many n))) (sym shows.0) (unsearched first.number is.0 is.3.0 meets is.1 is.2 is.3.1 (sym shows.0 ∙ shows.0, shows.1))

@@ -9,7 +9,14 @@ use Rattle.ulfm_replies.specs.Asking.{as_asked}
 use Rattle.ulfm_replies.specs.Places as places
 use Rattle.ulfm_replies.specs.Places.{IsPlacesReply}
 use Rattle.ulfm_replies.specs.Stopped as stopped
-use Rattle.ulfm_replies.specs.Stopped.{IsRefusal}
+use Rattle.ulfm_replies.specs.Stopped.{Asked, IsRefusal, asked_at}
+use Rattle.ulfm_stops.specs.declared.place.Place.TheVariants.{Nowhere}
+use Rattle.ulfm_places.specs.Union.{some_never_ends as each_never_ends}
+use Rattle.ulfm_program.specs.EachPlace as each
+use Rattle.ulfm_program.specs.EachPlace.{IsEachPlaceReply, IsJudgedEach, IsToldAt}
+use Rattle.ulfm_program.specs.ListReply.{IsReplyBy}
+use Rattle.ulfm_program.specs.ShowEach as each_shown
+use Rattle.ulfm_program.specs.ShowEach.{IsShowEachReply}
 use Rattle.ulfm_stops.specs.declared.place.Place.{Place}
 use Rattle.ulfm_replies.specs.Unfinished.{has_unfinished, played_status}
 use Rattle.ulfm_json.specs.declared.form.Form.{Form}
@@ -98,9 +105,9 @@ list_alone false is_open = good_job
 
 judged_known : (form : Form) (options : ListOptions) (job : JobView) (rows : List (List Clause)) (found : List (List ℕ)) (list : List ℕ) (status : ℕ) (text : List ℕ) → IsJudged form options job rows found list status text → IsKnown status
 judged_known form options job rows found list status text (good meets none) = list_alone options.is_strict (some_never_ends found)
-judged_known form options job rows found list status text (unmet u goals told is shows) = not_wanted
-judged_known form options job rows found list status text (together number row goals words here are shows) = not_wanted
-judged_known form options job rows found list status text (unsearched number row goals here are shows) = past
+judged_known form options job rows found list status text (unmet u goals told first is shows) = not_wanted
+judged_known form options job rows found list status text (together number row goals words meets here none are shows) = not_wanted
+judged_known form options job rows found list status text (unsearched number row goals meets here none are shows) = past
 
 list_known : (form : Form) (options : ListOptions) (bytes : List ℕ) (status : ℕ) (text : List ℕ) → IsOutcomesReply form options bytes status text → IsKnown status
 list_known form options bytes status text (listed asked reached k words is all judged) = judged_known form options asked.job _ _ _ status text judged
@@ -116,6 +123,37 @@ show_known form options show bytes status text (unnamed job part is named) = no_
 show_known form options show bytes status text (not_shown k words is) = no_play form options.place bytes status text is
 show_known form options show bytes status text (unshown told) = run_fails
 
+told_at_known : (form : Form) (options : ListOptions) (place : Place) (asked : Asked) (status : ℕ) (text : List ℕ) → IsToldAt form options place asked status text → IsKnown status
+told_at_known form options place asked status text (each.unmet one goals told first is shows) = not_wanted
+told_at_known form options place asked status text (each.together number row goals words meets here none are shows) = not_wanted
+told_at_known form options place asked status text (each.unsearched number row goals meets here none are shows) = past
+
+each_judged_known : (form : Form) (options : ListOptions) (asked : Asked) (places : List Place) (alone status : ℕ) (text : List ℕ) → IsKnown alone → IsJudgedEach form options asked places alone status text → IsKnown status
+each_judged_known form options asked places alone status text known (each.wanted all) = known
+each_judged_known form options asked places alone status text known (each.told number place k words here before is) = told_at_known form options place (asked_at place asked) status text is
+
+each_known : (form : Form) (options : ListOptions) (stops : ℕ) (bytes : List ℕ) (status : ℕ) (text : List ℕ) → IsEachPlaceReply form options stops bytes status text → IsKnown status
+each_known form options stops bytes status text (each.listed_all asked lists k words is are judged) = each_judged_known form options asked _ _ status _ (list_alone options.is_strict (each_never_ends lists)) judged
+each_known form options stops bytes status text (each.past_limit_at asked lists place k words is are judged) = each_judged_known form options asked _ _ status _ past judged
+each_known form options stops bytes status text (each.no_room_for_stops asked is many) = no_job
+each_known form options stops bytes status text (each.not_listed_at_all k words is) = no_play form Nowhere bytes status text is
+each_known form options stops bytes status text (each.no_memory_for_lists told) = run_fails
+
+show_each_known : (form : Form) (options : ListOptions) (stops : ℕ) (show bytes : List ℕ) (status : ℕ) (text : List ℕ) → IsShowEachReply form options stops show bytes status text → IsKnown status
+show_each_known form options stops show bytes status text (each_shown.shown_at asked answers place is named first goals are words told shows same) = good_job
+show_each_known form options stops show bytes status text (each_shown.nowhere_at_all asked answers is named none) = record { few = omega arith; whole = ((λ e. omega (arith, e)), (λ e. omega (arith, e))) }
+show_each_known form options stops show bytes status text (each_shown.too_many_at asked answers place is named first goals are told) = past
+show_each_known form options stops show bytes status text (each_shown.unnamed_at_all asked part is named) = no_job
+show_each_known form options stops show bytes status text (each_shown.no_room_to_show asked is many) = no_job
+show_each_known form options stops show bytes status text (each_shown.not_shown_at_all k words is) = no_play form Nowhere bytes status text is
+show_each_known form options stops show bytes status text (each_shown.no_memory_to_show_each told) = run_fails
+
+by_known : (form : Form) (show : Option (List ℕ)) (stops : Option ℕ) (options : ListOptions) (bytes : List ℕ) (status : ℕ) (text : List ℕ) → IsReplyBy form show stops options bytes status text → IsKnown status
+by_known form None None options bytes status text h = list_known form options bytes status text h
+by_known form None (Some stops) options bytes status text h = each_known form options stops bytes status text h
+by_known form (Some goals) None options bytes status text h = show_known form options goals bytes status text h
+by_known form (Some goals) (Some stops) options bytes status text h = show_each_known form options stops goals bytes status text h
+
 pub known_status : (form : Form) (show : Option (List ℕ)) (wanted : Wanted) (bytes : List ℕ) (status : ℕ) (text : List ℕ) → IsReplyTo form show wanted bytes status text → IsKnown status
 known_status form show Check bytes status text h = checked form bytes status text h
 known_status form show (Replay is_strict turns place) bytes status text h = replayed form is_strict turns place bytes status text h
@@ -123,8 +161,7 @@ known_status form show (Run options) bytes status text h = run_known form option
 known_status form show Sweep bytes status text h = sweep_known form bytes status text h
 known_status form show (Places stops) bytes status text h = places_known form stops bytes status text h
 known_status form show (Draw style turns place) bytes status text h = drawn_known form turns place bytes status text h
-known_status form None (Outcomes options) bytes status text h = list_known form options bytes status text h
-known_status form (Some goals) (Outcomes options) bytes status text h = show_known form options goals bytes status text h
+known_status form show (Outcomes options) bytes status text h = by_known form show options.stops options bytes status text h
 
 -- no status is 2
 not_usage : (is_strict is_met is_unfinished : Bool) → played_status is_strict is_met is_unfinished ≢ 2
@@ -140,15 +177,60 @@ list_not_usage false is_open = λ e. omega (arith, e)
 
 judged_not_usage : (form : Form) (options : ListOptions) (job : JobView) (rows : List (List Clause)) (found : List (List ℕ)) (list : List ℕ) (status : ℕ) (text : List ℕ) → IsJudged form options job rows found list status text → status ≢ 2
 judged_not_usage form options job rows found list status text (good meets none) = list_not_usage options.is_strict (some_never_ends found)
-judged_not_usage form options job rows found list status text (unmet u goals told is shows) = λ e. omega (arith, e)
-judged_not_usage form options job rows found list status text (together number row goals words here are shows) = λ e. omega (arith, e)
-judged_not_usage form options job rows found list status text (unsearched number row goals here are shows) = λ e. omega (arith, e)
+judged_not_usage form options job rows found list status text (unmet u goals told first is shows) = λ e. omega (arith, e)
+judged_not_usage form options job rows found list status text (together number row goals words meets here none are shows) = λ e. omega (arith, e)
+judged_not_usage form options job rows found list status text (unsearched number row goals meets here none are shows) = λ e. omega (arith, e)
 
 no_play_not_usage : (form : Form) (place : Place) (bytes : List ℕ) (status : ℕ) (text : List ℕ) → IsRefusal form place bytes status text → status ≢ 2
 no_play_not_usage form place bytes status text (stopped.no_job f is) = λ e. omega (arith, e)
 no_play_not_usage form place bytes status text (stopped.no_place job is outside) = λ e. omega (arith, e)
 no_play_not_usage form place bytes status text (stopped.no_room job is many) = λ e. omega (arith, e)
 no_play_not_usage form place bytes status text stopped.no_memory = λ e. omega (arith, e)
+
+list_used : (form : Form) (options : ListOptions) (bytes : List ℕ) (status : ℕ) (text : List ℕ) → IsOutcomesReply form options bytes status text → status ≢ 2
+list_used form options bytes status text (listed asked reached k words is all judged) = judged_not_usage form options asked.job _ _ _ status text judged
+list_used form options bytes status text (past_limit job is many) = λ e. omega (arith, e)
+list_used form options bytes status text (not_listed k words is) = no_play_not_usage form options.place bytes status text is
+list_used form options bytes status text (unlisted told) = λ e. omega (arith, e)
+
+show_used : (form : Form) (options : ListOptions) (show bytes : List ℕ) (status : ℕ) (text : List ℕ) → IsShowReply form options show bytes status text → status ≢ 2
+show_used form options show bytes status text (shown job answers is named goals are words picture told same) = λ e. omega (arith, e)
+show_used form options show bytes status text (nowhere job answers is named goals are not) = λ e. omega (arith, e)
+show_used form options show bytes status text (too_many job answers is named goals are told) = λ e. omega (arith, e)
+show_used form options show bytes status text (unnamed job part is named) = λ e. omega (arith, e)
+show_used form options show bytes status text (not_shown k words is) = no_play_not_usage form options.place bytes status text is
+show_used form options show bytes status text (unshown told) = λ e. omega (arith, e)
+
+told_at_used : (form : Form) (options : ListOptions) (place : Place) (asked : Asked) (status : ℕ) (text : List ℕ) → IsToldAt form options place asked status text → status ≢ 2
+told_at_used form options place asked status text (each.unmet one goals told first is shows) = λ e. omega (arith, e)
+told_at_used form options place asked status text (each.together number row goals words meets here none are shows) = λ e. omega (arith, e)
+told_at_used form options place asked status text (each.unsearched number row goals meets here none are shows) = λ e. omega (arith, e)
+
+each_judged_used : (form : Form) (options : ListOptions) (asked : Asked) (places : List Place) (alone status : ℕ) (text : List ℕ) → alone ≢ 2 → IsJudgedEach form options asked places alone status text → status ≢ 2
+each_judged_used form options asked places alone status text used (each.wanted all) = used
+each_judged_used form options asked places alone status text used (each.told number place k words here before is) = told_at_used form options place (asked_at place asked) status text is
+
+each_used : (form : Form) (options : ListOptions) (stops : ℕ) (bytes : List ℕ) (status : ℕ) (text : List ℕ) → IsEachPlaceReply form options stops bytes status text → status ≢ 2
+each_used form options stops bytes status text (each.listed_all asked lists k words is are judged) = each_judged_used form options asked _ _ status _ (list_not_usage options.is_strict (each_never_ends lists)) judged
+each_used form options stops bytes status text (each.past_limit_at asked lists place k words is are judged) = each_judged_used form options asked _ _ status _ (λ e. omega (arith, e)) judged
+each_used form options stops bytes status text (each.no_room_for_stops asked is many) = λ e. omega (arith, e)
+each_used form options stops bytes status text (each.not_listed_at_all k words is) = no_play_not_usage form Nowhere bytes status text is
+each_used form options stops bytes status text (each.no_memory_for_lists told) = λ e. omega (arith, e)
+
+show_each_used : (form : Form) (options : ListOptions) (stops : ℕ) (show bytes : List ℕ) (status : ℕ) (text : List ℕ) → IsShowEachReply form options stops show bytes status text → status ≢ 2
+show_each_used form options stops show bytes status text (each_shown.shown_at asked answers place is named first goals are words told shows same) = λ e. omega (arith, e)
+show_each_used form options stops show bytes status text (each_shown.nowhere_at_all asked answers is named none) = λ e. omega (arith, e)
+show_each_used form options stops show bytes status text (each_shown.too_many_at asked answers place is named first goals are told) = λ e. omega (arith, e)
+show_each_used form options stops show bytes status text (each_shown.unnamed_at_all asked part is named) = λ e. omega (arith, e)
+show_each_used form options stops show bytes status text (each_shown.no_room_to_show asked is many) = λ e. omega (arith, e)
+show_each_used form options stops show bytes status text (each_shown.not_shown_at_all k words is) = no_play_not_usage form Nowhere bytes status text is
+show_each_used form options stops show bytes status text (each_shown.no_memory_to_show_each told) = λ e. omega (arith, e)
+
+by_used : (form : Form) (show : Option (List ℕ)) (stops : Option ℕ) (options : ListOptions) (bytes : List ℕ) (status : ℕ) (text : List ℕ) → IsReplyBy form show stops options bytes status text → status ≢ 2
+by_used form None None options bytes status text h = list_used form options bytes status text h
+by_used form None (Some stops) options bytes status text h = each_used form options stops bytes status text h
+by_used form (Some goals) None options bytes status text h = show_used form options goals bytes status text h
+by_used form (Some goals) (Some stops) options bytes status text h = show_each_used form options stops goals bytes status text h
 
 pub no_usage : (form : Form) (show : Option (List ℕ)) (wanted : Wanted) (bytes : List ℕ) (status : ℕ) (text : List ℕ) → IsReplyTo form show wanted bytes status text → status ≢ 2
 no_usage form show Check bytes status text (good_checked job is) = λ e. omega (arith, e)
@@ -177,13 +259,4 @@ no_usage form show (Places stops) bytes status text (places.starved told) = λ e
 no_usage form show (Draw style turns place) bytes status text (drawn asked reports picture is played_so lawful rest) = λ e. omega (arith, e)
 no_usage form show (Draw style turns place) bytes status text (not_drawn k words is) = no_play_not_usage form place bytes status text is
 no_usage form show (Draw style turns place) bytes status text (undrawn told) = λ e. omega (arith, e)
-no_usage form None (Outcomes options) bytes status text (listed asked reached k words is all judged) = judged_not_usage form options asked.job _ _ _ status text judged
-no_usage form None (Outcomes options) bytes status text (past_limit job is many) = λ e. omega (arith, e)
-no_usage form None (Outcomes options) bytes status text (not_listed k words is) = no_play_not_usage form options.place bytes status text is
-no_usage form None (Outcomes options) bytes status text (unlisted told) = λ e. omega (arith, e)
-no_usage form (Some wished) (Outcomes options) bytes status text (shown job answers is named goals are words picture told same) = λ e. omega (arith, e)
-no_usage form (Some wished) (Outcomes options) bytes status text (nowhere job answers is named goals are not) = λ e. omega (arith, e)
-no_usage form (Some wished) (Outcomes options) bytes status text (too_many job answers is named goals are told) = λ e. omega (arith, e)
-no_usage form (Some wished) (Outcomes options) bytes status text (unnamed job part is named) = λ e. omega (arith, e)
-no_usage form (Some wished) (Outcomes options) bytes status text (not_shown k words is) = no_play_not_usage form options.place bytes status text is
-no_usage form (Some wished) (Outcomes options) bytes status text (unshown told) = λ e. omega (arith, e)
+no_usage form show (Outcomes options) bytes status text h = by_used form show options.stops options bytes status text h

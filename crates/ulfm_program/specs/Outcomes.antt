@@ -1,5 +1,5 @@
 -- What `outcomes` writes for a job.
-use Rattle.std.specs.Prelude.{◌≡◌, ℕ, Bool, true, List, ◌++◌, Option, Some, None, Result, Ok, Err, All as Each, codes, slice_get, if◌then◌else◌}
+use Rattle.std.specs.Prelude.{◌≡◌, ℕ, Bool, true, List, ◌++◌, Some, None, Result, Ok, Err, All as Each, codes, slice_get, take, if◌then◌else◌}
 use Rattle.std.specs.Fmt.{decimal}
 use Rattle.std.specs.Str.Lines.{lines}
 use Rattle.ulfm_job.specs.declared.clause.Clause.{Clause}
@@ -14,7 +14,7 @@ use Rattle.ulfm_outcomes.specs.Outcomes.{IsList}
 use Rattle.ulfm_outcomes.specs.Schedule.{IsScheduleText}
 use Rattle.ulfm_outcomes.specs.Showing.{IsBriefSchedule, IsShowing}
 use Rattle.ulfm_outcomes.specs.Text.{some_never_ends}
-use Rattle.ulfm_outcomes.specs.Unmet.{IsUnmet, MeetsExpected}
+use Rattle.ulfm_outcomes.specs.Unmet.{IsUnmet, MeetsExpected, first_unmet}
 use Rattle.ulfm_outcomes.specs.declared.goals.Goals.{Goals}
 use Rattle.ulfm_outcomes.specs.declared.unmet.Unmet.{Unmet}
 use Rattle.ulfm_json.specs.Parts.{texts_json}
@@ -82,6 +82,14 @@ IsTold job goals is_brief limit (schedule text) = (numbers : List ℕ) × (world
     × (is_brief ≡ true → IsBriefSchedule job goals numbers) × IsScheduleText job goals numbers world text
 IsTold job goals is_brief limit (many most) = (most ≡ limit) × IsShowing job goals is_brief limit sought.More
 
+-- these are the rows of a list of all outcomes of the job
+abbrev pub HasList : JobView → ℕ → List (List ℕ) → Type 0
+HasList job limit found = (keys : List (List ℕ)) × IsList job limit (All (record { keys = keys; found = found }))
+
+-- by such a list this is the first step with an answer that it doesn't expect
+abbrev pub IsFirstUnmet : JobView → ℕ → Unmet → Type 0
+IsFirstUnmet job limit one = (found : List (List ℕ)) × HasList job limit found × (first_unmet job found ≡ Some one)
+
 -- no schedule of the job has all answers of the row
 abbrev pub NeverComes : JobView → List Clause → Type 0
 NeverComes job row = (goals : Goals) × AreOfClauses row goals × ¬ IsPossible job goals
@@ -99,11 +107,11 @@ list_status is_strict is_open = if is_strict then (if is_open then 6 else 0) els
 -- cases that more states than the limit would be looked at for it. With 7 the first row that can't be looked for within the limit.
 pub data IsJudged (form : Form) (options : ListOptions) (job : JobView) (rows : List (List Clause)) (found : List (List ℕ)) (list : List ℕ) : ℕ → List ℕ → Type 0 where
   good : MeetsExpected job → NoneComes job rows → IsJudged form options job rows found list (list_status options.is_strict (some_never_ends found)) list
-  unmet : (unmet : Unmet) (goals : Goals) (told : Told) → IsUnmet job unmet goals → IsTold job goals options.is_brief options.limit told
+  unmet : (unmet : Unmet) (goals : Goals) (told : Told) → first_unmet job found ≡ Some unmet → IsUnmet job unmet goals → IsTold job goals options.is_brief options.limit told
       → IsJudged form options job rows found list 9 (list ++ unmet_in form unmet told)
-  together : (number : ℕ) (row : List Clause) (goals : Goals) (text : List ℕ) → slice_get rows number ≡ Some row → AreOfClauses row goals → IsTold job goals options.is_brief options.limit (schedule text)
+  together : (number : ℕ) (row : List Clause) (goals : Goals) (text : List ℕ) → MeetsExpected job → slice_get rows number ≡ Some row → NoneComes job (take number rows) → AreOfClauses row goals → IsTold job goals options.is_brief options.limit (schedule text)
       → IsJudged form options job rows found list 9 (list ++ row_in form number (schedule text))
-  unsearched : (number : ℕ) (row : List Clause) (goals : Goals) → slice_get rows number ≡ Some row → AreOfClauses row goals → IsTold job goals options.is_brief options.limit (many options.limit)
+  unsearched : (number : ℕ) (row : List Clause) (goals : Goals) → MeetsExpected job → slice_get rows number ≡ Some row → NoneComes job (take number rows) → AreOfClauses row goals → IsTold job goals options.is_brief options.limit (many options.limit)
       → IsJudged form options job rows found list 7 (list ++ row_in form number (many options.limit))
 
 -- The status and the text, in this form, that `outcomes` gives for these bytes: the list of all that the steps of their job may be
@@ -138,8 +146,3 @@ pub data IsShowReply (form : Form) (options : ListOptions) (show bytes : List �
   unnamed : (asked : Asked) (text : List ℕ) → IsAskedAt options.place bytes asked → goals_asked asked show ≡ Err text → IsShowReply form options show bytes 1 (no_goal text)
   not_shown : (status : ℕ) (text : List ℕ) → IsRefusal form options.place bytes status text → IsShowReply form options show bytes status text
   unshown : (told : Form) → IsShowReply form options show bytes 3 (out_of_memory_in told)
-
--- the reply of `outcomes`, where `--show` may be given
-abbrev pub IsListReply : Form → Option (List ℕ) → ListOptions → List ℕ → ℕ → List ℕ → Type 0
-IsListReply form None options bytes status text = IsOutcomesReply form options bytes status text
-IsListReply form (Some show) options bytes status text = IsShowReply form options show bytes status text

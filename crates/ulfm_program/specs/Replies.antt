@@ -12,7 +12,7 @@ use Rattle.ulfm_laws.specs.Lawful.{IsLawful}
 use Rattle.ulfm_run.specs.Fault.{ShowUntrue}
 use Rattle.ulfm_world.specs.Replay.{IsReplayed, MadeAtRest}
 use Rattle.ulfm_program.specs.Brief.{repeats_in}
-use Rattle.ulfm_program.specs.Outcomes.{IsListReply}
+use Rattle.ulfm_program.specs.ListReply.{IsListReply}
 use Rattle.ulfm_program.specs.Sweep.{IsSweepReply}
 use Rattle.ulfm_program.specs.Tally.{tally}
 use Rattle.ulfm_replies.specs.declared.command.RunOptions.{RunOptions}

@@ -3,3 +3,4 @@ pub mod Writing
 pub mod Tallied
 pub mod Cells
 pub mod Looking
+pub mod Judging

@@ -7,6 +7,7 @@ ghost use Rattle.ulfm_replies.specs.declared.command.Wanted.{Wanted};
 ghost use Rattle.ulfm_replies.specs.CommandLine.{AsksFor, HasRanges, faults, form_asked, show_asked, IsWordsStatus};
 ghost use Rattle.ulfm_replies.specs.Failure.{out_of_memory_in, out_of_memory_text};
 
+use crate::each_place::asks_of_places;
 use crate::progress::Progress;
 use crate::reply::reply_to;
 use crate::shown::NO_GOAL;
@@ -19,8 +20,8 @@ use std::time::Clock;
 use ulfm_findings::{InputFault, read_front, write_whole};
 use ulfm_json::Form;
 use ulfm_replies::{
-    Asked, DONE, Failure, INPUT_FAILED, JOB_REFUSED, NO_SCHEDULE, OUTPUT_FAILED, RUN_FAILED, USAGE,
-    Unfollowed, asked_for, failed_line, write_fault, write_notes,
+    Asked, DONE, Failure, INPUT_FAILED, JOB_REFUSED, NO_SCHEDULE, NOT_EXPECTED, OUTPUT_FAILED,
+    RUN_FAILED, USAGE, Unfollowed, asked_for, failed_line, write_fault, write_notes,
 };
 
 /// What is written where a word can't be read.
@@ -127,6 +128,8 @@ where
                 }
                 // A schedule that was asked for speaks for itself.
                 DONE | NO_SCHEDULE if asked.show.is_some() => {}
+                // Steps of a schedule at a place have the numbers that they have there, and notes would take them for the file's.
+                NOT_EXPECTED if asks_of_places(wanted) => {}
                 _ => write_notes(alloc, form, wanted, bytes.as_slice(), &reply, errors),
             }
             status

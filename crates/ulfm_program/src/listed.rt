@@ -5,18 +5,22 @@ ghost use Rattle.ulfm_job.specs.declared.clause.Clause.{Clause as SeenClause};
 ghost use Rattle.ulfm_reader.specs.JobText.{rows_of};
 ghost use Rattle.ulfm_reach.specs.declared.reach.Reach.TheVariants.{All};
 ghost use Rattle.ulfm_outcomes.specs.Outcomes.{IsList};
-ghost use Rattle.ulfm_outcomes.specs.Unmet.{Judges};
-ghost use Rattle.ulfm_program.specs.Outcomes.{IsJudged, IsListReply, IsOutcomesReply, list_status, row_in};
+ghost use Rattle.ulfm_outcomes.specs.Unmet.{Judges, first_unmet};
+ghost use Rattle.ulfm_program.specs.ListReply.{IsListReply};
+ghost use Rattle.ulfm_program.specs.Outcomes.{HasList, IsJudged, IsOutcomesReply, list_status, row_in};
 ghost use Rattle.ulfm_program.specs.inside.Looking.{IsFirstRow, row_status, told_view};
 
+use crate::each_place::each_place_reply;
 use crate::looking::{look_for, look_for_row};
+use crate::show_each::show_each_reply;
 use crate::shown::show_reply;
 use crate::told::{Told, push_row, push_unmet};
 use std::alloc::{AllocError, Global};
+use std::thread::Threads;
 use ulfm_job::Clause;
 use ulfm_json::Form;
 use ulfm_outcomes::{Unmet, first_unmet, list_in, outcomes, some_never_end};
-use ulfm_reach::{Reach, Reached, Watch};
+use ulfm_reach::{Reach, Reached, Rows, Watch};
 use ulfm_reader::Reading;
 use ulfm_replies::{
     DONE, ListOptions, NOT_EXPECTED, PAST_LIMIT, Reply, UNFINISHED, asked_at, names_at,
@@ -24,7 +28,8 @@ use ulfm_replies::{
 use ulfm_script::Job;
 
 /// The reply of `outcomes` with these options, and perhaps with answers that a schedule is to show. `watch` is told how far it is.
-pub fn list_reply<W: Watch>(
+pub fn list_reply<R, W>(
+    rt: &R,
     alloc: Global,
     form: Form,
     show: Option<&str>,
@@ -32,11 +37,18 @@ pub fn list_reply<W: Watch>(
     bytes: &[u8],
     watch: &mut W,
 ) -> Result<Reply, AllocError>
+where
+    R: Threads + Sync,
+    W: Watch,
     ensures { IfOk result (λ r. IsListReply form (option_map (λ s. s.now) show.entry) options bytes.now r.status (string_bytes r.text)) }
 {
-    match show {
-        Some(show) => show_reply(alloc, form, options, show, bytes, watch),
-        None => outcomes_reply(alloc, form, options, bytes, watch),
+    match (show, options.stops) {
+        (Some(show), Some(stops)) => {
+            show_each_reply(alloc, form, options, stops, show, bytes, watch)
+        }
+        (Some(show), None) => show_reply(alloc, form, options, show, bytes, watch),
+        (None, Some(stops)) => each_place_reply(rt, alloc, form, options, stops, bytes, watch),
+        (None, None) => outcomes_reply(alloc, form, options, bytes, watch),
     }
 }
 
@@ -85,7 +97,7 @@ fn judged<W: Watch>(
         return unmet_reply(alloc, form, options, &asked.job, unmet, list, watch);
     }
     let rows = asked.never.as_slice();
-    match first_row(alloc, options, &asked.job, reached, rows, watch)? {
+    match first_row(alloc, options, &asked.job, &reached.found, rows, watch)? {
         Some(first) => row_reply(form, &first, list),
         None => Ok(Reply {
             status: list_status(options.is_strict, some_never_end(&reached.found)),
@@ -95,7 +107,7 @@ fn judged<W: Watch>(
 }
 
 /// The status of a list that has nothing else to tell.
-fn list_status(is_strict: bool, is_open: bool) -> u8
+pub(crate) fn list_status(is_strict: bool, is_open: bool) -> u8
     ensures { result ≡ list_status is_strict is_open }
 {
     if is_strict && is_open {
@@ -116,7 +128,7 @@ fn unmet_reply<W: Watch>(
     watch: &mut W,
 ) -> Result<Reply, AllocError>
     requires { Judges job.now (Some unmet) }
-    ensures { IfOk result (λ r. (rows : List (List SeenClause)) (found : List (List ℕ)) → IsJudged form options job.now rows found (string_bytes list) r.status (string_bytes r.text)) }
+    ensures { IfOk result (λ r. (rows : List (List SeenClause)) (found : List (List ℕ)) → first_unmet job.now found ≡ Some unmet → IsJudged form options job.now rows found (string_bytes list) r.status (string_bytes r.text)) }
 {
     let limit = options.limit as usize;
     let goals = unmet.goals(alloc, job)?;
@@ -135,21 +147,21 @@ fn unmet_reply<W: Watch>(
 
 /// A row of `never` by its number, and what came of the search for it.
 #[derive(Drop)]
-struct FirstRow {
-    number: usize,
-    told: Told,
+pub(crate) struct FirstRow {
+    pub(crate) number: usize,
+    pub(crate) told: Told,
 }
 
 /// The first row whose answers all come together, or that can't be looked for within the limit.
-fn first_row<W: Watch>(
+pub(crate) fn first_row<W: Watch>(
     alloc: Global,
     options: ListOptions,
     job: &Job,
-    reached: &Reached,
+    found: &Rows,
     rows: &[Vec<Clause>],
     watch: &mut W,
 ) -> Result<Option<FirstRow>, AllocError>
-    requires { IsList job.now options.limit (All reached.now) }
+    requires { HasList job.now options.limit found.now }
     ensures { IfOk result (IsFirstRow job.now (rows_of rows.now) options.is_brief options.limit) }
 {
     let limit = options.limit as usize;
@@ -157,7 +169,7 @@ fn first_row<W: Watch>(
         if let Some(told) = look_for_row(
             alloc,
             job,
-            reached,
+            found,
             row.as_slice(),
             options.is_brief,
             limit,
@@ -182,7 +194,7 @@ fn row_reply(form: Form, first: &FirstRow, list: String) -> Result<Reply, AllocE
 }
 
 /// The status of a list below which this is told of a row.
-fn row_status(told: &Told) -> u8
+pub(crate) fn row_status(told: &Told) -> u8
     ensures { result ≡ row_status (told_view told.now) }
 {
     match told {

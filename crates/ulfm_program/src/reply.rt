@@ -66,7 +66,7 @@ where
         } => replay_reply(alloc, form, is_strict, turns, place, bytes),
         Wanted::Run(options) => run_reply(rt, alloc, form, options, bytes),
         Wanted::Sweep => sweep_reply(alloc, form, bytes),
-        Wanted::Outcomes(options) => list_reply(alloc, form, asked.show, options, bytes, watch),
+        Wanted::Outcomes(options) => list_reply(rt, alloc, form, asked.show, options, bytes, watch),
         Wanted::Places(stops) => places_reply(alloc, form, stops, bytes),
         Wanted::Draw {
             style,

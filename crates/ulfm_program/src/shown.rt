@@ -42,7 +42,7 @@ pub fn show_reply<W: Watch>(
 pub const NO_GOAL: &str = "goal refused: ";
 
 /// The reply to a goal that names no answer of the job.
-fn no_goal(alloc: Global, text: &str) -> Result<Reply, AllocError>
+pub(crate) fn no_goal(alloc: Global, text: &str) -> Result<Reply, AllocError>
     ensures { IfOk result (λ r. (r.status ≡ 1) × (string_bytes r.text ≡ no_goal text.now)) }
 {
     let text = format!(in alloc; "{NO_GOAL}{text}\n")?;
@@ -95,7 +95,7 @@ fn told_reply(
 }
 
 /// The status of what is told.
-fn status_of(told: &Told) -> u8
+pub(crate) fn status_of(told: &Told) -> u8
     ensures { result ≡ look_status (Some (told_view told.now)) }
 {
     match told {
@@ -105,7 +105,7 @@ fn status_of(told: &Told) -> u8
 }
 
 /// What is said where no schedule shows the answers, in this form.
-fn nowhere(form: Form) -> &'static str
+pub(crate) fn nowhere(form: Form) -> &'static str
     ensures { result.now ≡ nowhere_in form }
 {
     match form {

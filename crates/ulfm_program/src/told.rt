@@ -64,7 +64,7 @@ fn push_unmet_words(text: &mut String, unmet: Unmet) -> Result<(), AllocError>
 }
 
 /// The same as the first key of an object.
-fn push_unmet_json(text: &mut String, unmet: Unmet) -> Result<(), AllocError>
+pub(crate) fn push_unmet_json(text: &mut String, unmet: Unmet) -> Result<(), AllocError>
     ensures { OnOk result (string_bytes text.new ≡ string_bytes text.old ++ unmet_json unmet) }
 {
     text.push_str("{\"not_as_expected\":")?;
@@ -106,7 +106,7 @@ fn push_row_words(text: &mut String, number: usize) -> Result<(), AllocError>
 }
 
 /// What was told, in words.
-fn push_words(text: &mut String, told: &Told) -> Result<(), AllocError>
+pub(crate) fn push_words(text: &mut String, told: &Told) -> Result<(), AllocError>
     ensures { OnOk result (string_bytes text.new ≡ string_bytes text.old ++ told_words (told_view told.now)) }
 {
     match told {
@@ -116,7 +116,7 @@ fn push_words(text: &mut String, told: &Told) -> Result<(), AllocError>
 }
 
 /// What was told, as the key of an object.
-fn push_key(text: &mut String, told: &Told) -> Result<(), AllocError>
+pub(crate) fn push_key(text: &mut String, told: &Told) -> Result<(), AllocError>
     ensures { OnOk result (string_bytes text.new ≡ string_bytes text.old ++ told_json (told_view told.now)) }
 {
     match told {

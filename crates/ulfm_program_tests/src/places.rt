@@ -16,7 +16,7 @@ step = [
 "#;
 
 /// A command line with a space between words, and the status and the text that it gives for that job.
-const ANSWERED: [(&str, u8, &str); 14] = [
+const ANSWERED: [(&str, u8, &str); 16] = [
     ("places", 0, "-\n0.0\n0.1\n1.0\n1.1\n1.2\n1.3\n"),
     (
         "places --stops 2",
@@ -57,6 +57,16 @@ const ANSWERED: [(&str, u8, &str); 14] = [
         "replay --stop 0.00",
         2,
         "error: invalid value '0.00' for '--stop <PLACE>'\n",
+    ),
+    (
+        "outcomes --stop 0.0 --stops 1",
+        2,
+        "error: the argument '--stop <PLACE>' cannot be used with '--stops <N>'\n",
+    ),
+    (
+        "outcomes --threads 2",
+        2,
+        "error: the argument '--threads <N>' is for '--stops <N>' alone\n",
     ),
     (
         "places --stops 3",

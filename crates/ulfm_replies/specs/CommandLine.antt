@@ -1,5 +1,5 @@
 -- What the words of a command line ask for.
-use Rattle.std.specs.Prelude.{◌≡◌, ◌<◌, ◌≤◌, ◌⊎◌, ⊤, ℕ, Bool, List, [], ◌∷◌, Option, Some, None, option_map, codes, false, IfSome, unwrap_or, if◌then◌else◌}
+use Rattle.std.specs.Prelude.{◌≡◌, ◌<◌, ◌≤◌, ◌⊎◌, ⊤, ℕ, Bool, List, [], ◌∷◌, Option, Some, None, is_some, not, option_map, codes, false, IfSome, unwrap_or, if◌then◌else◌}
 use Rattle.std.specs.Option.{option_and_then, option_map_or}
 use Rattle.std.specs.Str.{bytes_eq}
 use Rattle.std.specs.Str.Parse.{digits_value, without_leading_plus}
@@ -22,7 +22,7 @@ use Rattle.clap.specs.declared.error.kind.ErrorKind.{ErrorKind}
 use Rattle.clap.specs.declared.error.kind.ErrorKind.TheVariants.{DisplayHelp, DisplayVersion, InvalidValue}
 use Rattle.clap.specs.Kinds.{or_else}
 use Rattle.clap.specs.Words.{Row, Text, Kinds, IsAmong, all_of, first_of, subcommand_of, fault_of}
-use Rattle.ulfm_replies.specs.Rules.{most_turns, most_runs, most_states, usual_states, most_stops, tool_app}
+use Rattle.ulfm_replies.specs.Rules.{most_turns, most_runs, most_states, usual_states, most_stops, most_threads, tool_app}
 
 -- the subcommand that the words name, and what was met of its options
 unfoldable pub asked : List Text → Option (Text × List Row)
@@ -98,16 +98,34 @@ stops_in rows = number_given most_stops (first_of (codes "stops") rows)
 abbrev pub stops_wanted : List Row → ℕ
 stops_wanted rows = unwrap_or (stops_in rows) 1
 
+-- the number of threads of `--threads`, where it is given
+abbrev pub threads_in : List Row → Option ℕ
+threads_in rows = number_given most_threads (first_of (codes "threads") rows)
+
+-- the option of this name was given
+abbrev pub is_given : Text → List Row → Bool
+is_given name rows = is_some (first_of name rows)
+
+-- the options of places go together: `--stops` without `--stop`, and `--threads` with `--stops`
+abbrev pub are_together : List Row → Bool
+are_together rows = if is_given (codes "stops") rows then not (is_given (codes "stop") rows) else not (is_given (codes "threads") rows)
+
 -- what the options of `outcomes` ask for, with a place of stops
 abbrev pub list_options : List Row → Place → ListOptions
 list_options rows place = record {
   place = place;
+  stops = stops_in rows;
+  threads = threads_in rows;
   limit = limit_in rows;
   is_strict = is_strict rows;
   wants_progress = wants_progress rows;
   is_brief = is_flagged (codes "brief") rows;
   drawn = drawn_in rows;
 }
+
+-- what `outcomes` is asked for, where its options go together
+abbrev pub listed : List Row → Place → Option Wanted
+listed rows place = if are_together rows then Some (Outcomes (list_options rows place)) else None
 
 -- the command of a name, with its options and a place of stops
 abbrev pub named_at : Text → List Row → Place → Option Wanted
@@ -116,7 +134,7 @@ named_at name rows place =
     else (if bytes_eq name (codes "replay") then Some (Replay (is_strict rows) (turns_in rows) place)
     else (if bytes_eq name (codes "run") then option_map Run (run_options rows place)
     else (if bytes_eq name (codes "sweep") then Some Sweep
-    else (if bytes_eq name (codes "outcomes") then Some (Outcomes (list_options rows place))
+    else (if bytes_eq name (codes "outcomes") then listed rows place
     else (if bytes_eq name (codes "places") then Some (Places (stops_wanted rows))
     else (if bytes_eq name (codes "draw") then Some (Draw (style_of rows) (turns_in rows) place)
     else None))))))
@@ -183,11 +201,23 @@ AreInRange options = AreTurns options.turns × IfSome options.repeat (λ n. (0 <
 abbrev pub IsLimit : ℕ → Type 0
 IsLimit limit = (0 < limit) × (limit ≤ most_states)
 
+-- the number of stops is one that a place can have
+abbrev pub AreStops : Option ℕ → Type 0
+AreStops stops = IfSome stops (λ n. (0 < n) × (n ≤ most_stops))
+
+-- the number of threads is in its range
+abbrev pub AreThreads : Option ℕ → Type 0
+AreThreads threads = IfSome threads (λ n. (0 < n) × (n ≤ most_threads))
+
+-- the numbers of the options of `outcomes` are in their ranges
+abbrev pub AreListed : ListOptions → Type 0
+AreListed options = IsLimit options.limit × AreStops options.stops × AreThreads options.threads
+
 -- the numbers of what the words ask for are in their ranges
 abbrev pub HasRanges : Wanted → Type 0
 HasRanges (Replay is_strict turns place) = AreTurns turns
 HasRanges (Run options) = AreInRange options
-HasRanges (Outcomes options) = IsLimit options.limit
+HasRanges (Outcomes options) = AreListed options
 HasRanges (Places stops) = (0 < stops) × (stops ≤ most_stops)
 HasRanges (Draw style turns place) = AreTurns turns
 HasRanges _ = ⊤

@@ -112,9 +112,17 @@ draw_app = of_stopped (of_pictures (with_rule (new_app (codes "draw")) turns_rul
 abbrev pub most_stops : ℕ
 most_stops = 2
 
+-- the most threads that `--threads` can ask for
+abbrev pub most_threads : ℕ
+most_threads = 64
+
 -- the option `--stops`
 abbrev pub stops_rule : Rule
 stops_rule = number_rule (codes "stops") most_stops
+
+-- a command with the options of places: `--stops` and `--threads`
+abbrev pub of_places : App → App
+of_places app = with_rule (with_rule app stops_rule) (number_rule (codes "threads") most_threads)
 
 -- the command `places` with its option
 abbrev pub places_app : App
@@ -122,7 +130,7 @@ places_app = of_jobs (with_rule (new_app (codes "places")) stops_rule)
 
 -- the command `outcomes` with its options
 abbrev pub outcomes_app : App
-outcomes_app = of_stopped (of_schedules (with_rule (with_rule (with_rule (with_rule (with_rule (new_app (codes "outcomes")) show_rule) brief_rule) strict_rule) (number_rule (codes "limit") most_states)) progress_rule))
+outcomes_app = of_stopped (of_places (of_schedules (with_rule (with_rule (with_rule (with_rule (with_rule (new_app (codes "outcomes")) show_rule) brief_rule) strict_rule) (number_rule (codes "limit") most_states)) progress_rule)))
 
 -- the whole command line
 abbrev pub tool_app : App

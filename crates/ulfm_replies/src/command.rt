@@ -1,11 +1,12 @@
 //! The command line.
 ghost use Rattle.std.specs.Prelude.{◌≡◌, [], codes, Some, map, option_map, unwrap_or, IfOk, IfSome};
 ghost use Rattle.clap.specs.Words.{FailsBy, all_of, first_of, found_of, kind_of, rows_of, subcommand_rows_of};
-ghost use Rattle.ulfm_replies.specs.CommandLine.{AreInRange, HasRanges, asked, carrier_named, IsLimit, faults, form_asked, form_in, form_of, AreTurns, files_in, limit_in, list_options, meant, named, named_at, run_options, show_asked, show_in, turns_in};
+ghost use Rattle.ulfm_replies.specs.CommandLine.{AreInRange, HasRanges, asked, carrier_named, faults, form_asked, form_in, form_of, AreTurns, files_in, meant, named, named_at, run_options, show_asked, show_in, turns_in};
 
-use crate::flagged::{drawn_in, is_flagged, is_strict, style_of, wants_progress};
+use crate::flagged::{is_flagged, is_strict, style_of};
+use crate::listed::listed;
 use crate::number::number_given;
-use crate::options::{MOST_RUNS, MOST_STATES, MOST_TURNS, USUAL_STATES};
+use crate::options::{MOST_RUNS, MOST_TURNS};
 use crate::placed::{place_in, stops_wanted};
 use crate::subcommands::command_line;
 use crate::unmeant::unmeant;
@@ -48,6 +49,10 @@ pub struct RunOptions {
 pub struct ListOptions {
     /// Where ranks stop, besides the stops of the job.
     pub place: Place,
+    /// At how many stops at most the job is looked at, 1 or 2, each at any place, where it is to be at all of them.
+    pub stops: Option<u8>,
+    /// By how many threads, 1 to 64: as many as there are processors where it is left out.
+    pub threads: Option<u8>,
     /// The most states that are looked at, 1 to 100,000,000.
     pub limit: u32,
     /// Whether a step that never ends has a status of its own.
@@ -165,7 +170,7 @@ fn named_at(name: &str, options: &ArgMatches<'_>, place: Place) -> Option<Wanted
             None => None,
         },
         "sweep" => Some(Wanted::Sweep),
-        "outcomes" => Some(Wanted::Outcomes(list_options(options, place))),
+        "outcomes" => listed(options, place),
         "places" => Some(Wanted::Places(stops_wanted(options))),
         "draw" => Some(Wanted::Draw {
             style: style_of(options),
@@ -191,21 +196,6 @@ fn run_options(options: &ArgMatches<'_>, place: Place) -> Option<RunOptions>
             is_brief: is_flagged(options, "brief"),
         }),
         None => None,
-    }
-}
-
-/// What the options of `outcomes` ask for.
-fn list_options(options: &ArgMatches<'_>, place: Place) -> ListOptions
-    ensures exact { result ≡ list_options (rows_of (found_of options.now)) place }
-    ensures range { IsLimit result.limit }
-{
-    ListOptions {
-        place,
-        limit: limit_in(options),
-        is_strict: is_strict(options),
-        wants_progress: wants_progress(options),
-        is_brief: is_flagged(options, "brief"),
-        drawn: drawn_in(options),
     }
 }
 
@@ -266,14 +256,6 @@ fn files_of<'a>(alloc: Global, options: &ArgMatches<'a>) -> Result<Vec<&'a str>,
         Some(names) => Vec::from_slice(alloc, names),
         None => Ok(Vec::new(alloc)),
     }
-}
-
-/// The most states that are looked at: those of `--limit`, where it is given.
-fn limit_in(options: &ArgMatches<'_>) -> u32
-    ensures exact { result ≡ limit_in (rows_of (found_of options.now)) }
-    ensures range { IsLimit result }
-{
-    number_given(value_of(options, "limit"), MOST_STATES).unwrap_or(USUAL_STATES)
 }
 
 /// The first value that was found of an option, by its name.

@@ -18,6 +18,7 @@ mod failure;
 mod flagged;
 mod help;
 mod laws;
+mod listed;
 mod misplaced;
 mod notes;
 mod number;

@@ -22,6 +22,9 @@ pub const USUAL_STATES: u32 = 1_000_000;
 /// The most stops of a place.
 pub const MOST_STOPS: u32 = 2;
 
+/// The most threads that `--threads` can ask for.
+pub const MOST_THREADS: u32 = 64;
+
 /// The files of jobs, as many as there are.
 pub fn files<'a>(alloc: Global) -> Arg<'a>
     ensures rule { rule_of result ≡ file_rule }

@@ -1,11 +1,11 @@
 //! Where ranks stop, by the options of a command.
 ghost use Rattle.std.specs.Prelude.{◌≡◌, ◌<◌, ◌≤◌, option_map, IfSome};
 ghost use Rattle.clap.specs.Words.{found_of, rows_of};
-ghost use Rattle.ulfm_replies.specs.CommandLine.{number_given, place_given, place_in, stops_in, stops_wanted};
+ghost use Rattle.ulfm_replies.specs.CommandLine.{AreStops, AreThreads, are_together, is_given, number_given, place_given, place_in, stops_in, stops_wanted, threads_in};
 
 use crate::command::value_of;
 use crate::number::number_given;
-use crate::options::MOST_STOPS;
+use crate::options::{MOST_STOPS, MOST_THREADS};
 use clap::ArgMatches;
 use ulfm_stops::Place;
 
@@ -27,9 +27,9 @@ fn place_given(text: Option<&str>) -> Option<Place>
 }
 
 /// The number of stops of `--stops`, where it is given.
-fn stops_in(options: &ArgMatches<'_>) -> Option<u8>
+pub(crate) fn stops_in(options: &ArgMatches<'_>) -> Option<u8>
     ensures exact { result ≡ stops_in (rows_of (found_of options.now)) }
-    ensures range { IfSome result (λ n. (0 < n) × (n ≤ 2)) }
+    ensures range { AreStops result }
 {
     small_given(value_of(options, "stops"), MOST_STOPS)
 }
@@ -43,6 +43,14 @@ pub(crate) fn stops_wanted(options: &ArgMatches<'_>) -> u8
     stops_in(options).unwrap_or(1)
 }
 
+/// The number of threads of `--threads`, where it is given.
+pub(crate) fn threads_in(options: &ArgMatches<'_>) -> Option<u8>
+    ensures exact { result ≡ threads_in (rows_of (found_of options.now)) }
+    ensures range { AreThreads result }
+{
+    small_given(value_of(options, "threads"), MOST_THREADS)
+}
+
 /// The number that an option was given, from 1 to the most.
 fn small_given(text: Option<&str>, most: u32) -> Option<u8>
     requires { most ≤ 255 }
@@ -53,4 +61,22 @@ fn small_given(text: Option<&str>, most: u32) -> Option<u8>
         Some(number) => Some(number as u8),
         None => None,
     }
+}
+
+/// Whether the options of places go together: `--stops` without `--stop`, and `--threads` with `--stops`.
+pub(crate) fn are_together(options: &ArgMatches<'_>) -> bool
+    ensures { result ≡ are_together (rows_of (found_of options.now)) }
+{
+    if is_given(options, "stops") {
+        !is_given(options, "stop")
+    } else {
+        !is_given(options, "threads")
+    }
+}
+
+/// Whether an option was given, by its name.
+fn is_given(options: &ArgMatches<'_>, name: &str) -> bool
+    ensures { result ≡ is_given name.now (rows_of (found_of options.now)) }
+{
+    value_of(options, name).is_some()
 }

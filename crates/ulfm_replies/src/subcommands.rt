@@ -2,12 +2,13 @@
 ghost use Rattle.std.specs.Prelude.{◌≡◌, false, IfOk};
 ghost use Rattle.clap.specs.declared.builder.command.Command.TheViews.{out-Command};
 ghost use Rattle.clap.specs.Words.{app_of};
-ghost use Rattle.ulfm_replies.specs.Rules.{check_app, demanding_app, draw_app, of_jobs, of_pictures, of_schedules, of_stopped, outcomes_app, places_app, replay_app, run_app, sweep_app, tool_app};
+ghost use Rattle.ulfm_replies.specs.Rules.{check_app, demanding_app, draw_app, of_jobs, of_pictures, of_places, of_schedules, of_stopped, outcomes_app, places_app, replay_app, run_app, sweep_app, tool_app};
 
 use crate::help::HELP;
 use crate::options::{
-    MOST_RUNS, MOST_STATES, brief_flag, carrier_option, files, json_flag, number_option,
-    plain_flag, progress_flag, show_option, stop_option, stops_option, strict_flag, turns_option,
+    MOST_RUNS, MOST_STATES, MOST_THREADS, brief_flag, carrier_option, files, json_flag,
+    number_option, plain_flag, progress_flag, show_option, stop_option, stops_option, strict_flag,
+    turns_option,
 };
 use crate::version::VERSION;
 use clap::Command;
@@ -144,7 +145,28 @@ fn outcomes_command<'a>(alloc: Global) -> Result<Command<'a>, AllocError>
     let command = command.arg(limit)?;
     let command = command.arg(progress_flag(alloc))?;
     let command = of_schedules(alloc, command)?;
+    let command = of_places(alloc, command)?;
     of_stopped(alloc, command)
+}
+
+/// A command with the options of places: `--stops` and `--threads`.
+fn of_places<'a>(alloc: Global, command: Command<'a>) -> Result<Command<'a>, AllocError>
+    requires { (out-Command command).has_globals ≡ false }
+    ensures app { IfOk result (λ r. app_of r ≡ of_places (app_of command.entry)) }
+    ensures local { IfOk result (λ r. (out-Command r).has_globals ≡ false) }
+{
+    let stops = stops_option(
+        alloc,
+        "Lists the answers with at most so many ranks stopping, each at any place [1 or 2]",
+    );
+    let command = command.arg(stops)?;
+    let threads = number_option(
+        alloc,
+        "threads",
+        MOST_THREADS,
+        "With --stops looks at places by so many threads [1 to 64; one a processor if left out]",
+    );
+    command.arg(threads)
 }
 
 /// The command `places` with its option.

@@ -23,7 +23,7 @@ pub(crate) fn unmeant(
     command.error(ErrorKind::InvalidValue, message.as_str())
 }
 
-/// Why these options of a command ask for nothing: a place, or a carrier.
+/// Why these options of a command ask for nothing: a place, two options or a carrier.
 fn unmeant_text(alloc: Global, options: &ArgMatches<'_>) -> Result<String, AllocError> {
     if let Some(text) = value_of(options, "stop") {
         if Place::parse(text).is_none() {
@@ -31,6 +31,18 @@ fn unmeant_text(alloc: Global, options: &ArgMatches<'_>) -> Result<String, Alloc
                 "invalid value '{text}' for '--stop <PLACE>'\n  [a rank, a dot and the number of a step, as 0.2; two of them, as 0.2+1.3; or -]"
             );
         }
+        if value_of(options, "stops").is_some() {
+            return String::from_str(
+                alloc,
+                "the argument '--stop <PLACE>' cannot be used with '--stops <N>'",
+            );
+        }
+    }
+    if value_of(options, "threads").is_some() {
+        return String::from_str(
+            alloc,
+            "the argument '--threads <N>' is for '--stops <N>' alone",
+        );
     }
     let value = value_of(options, "carrier").unwrap_or("");
     format!(in alloc;

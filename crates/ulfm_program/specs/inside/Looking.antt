@@ -1,5 +1,5 @@
 -- What single functions find that look for schedules.
-use Rattle.std.specs.Prelude.{◌≡◌, ℕ, ◌==◌, Bool, false, ◌&&◌, List, [], ◌∷◌, Option, Some, None, slice_get, string_bytes}
+use Rattle.std.specs.Prelude.{◌≡◌, ℕ, ◌==◌, Bool, false, ◌&&◌, List, [], ◌∷◌, Option, Some, None, slice_get, string_bytes, take}
 use Rattle.std.specs.List.{list_all, list_any}
 use Rattle.ulfm_job.specs.Begins.{begins}
 use Rattle.ulfm_job.specs.declared.clause.Clause.{Clause}
@@ -42,10 +42,10 @@ tells_open o _ = false
 abbrev pub has_each : List (List ℕ) → Goals → Bool
 has_each found goals = list_all (λ (c : Clause). list_any (tells c) found) goals.answers.items && list_all (λ (o : OpenStep). list_any (tells_open o) found) goals.left.items
 
--- no row came together, or of the row of this number that is told
+-- no row came together, or none before that of this number, of which that is told
 abbrev pub IsFirstRow : JobView → List (List Clause) → Bool → ℕ → Option FirstRow → Type 0
 IsFirstRow job rows is_brief limit None = NoneComes job rows
-IsFirstRow job rows is_brief limit (Some first) = (row : List Clause) × (slice_get rows first.number ≡ Some row) × IsLookForRow job row is_brief limit (Some first.told)
+IsFirstRow job rows is_brief limit (Some first) = (row : List Clause) × (slice_get rows first.number ≡ Some row) × NoneComes job (take first.number rows) × IsLookForRow job row is_brief limit (Some first.told)
 
 -- the status of what came of a search for answers that the words name, or that no schedule shows them
 abbrev pub look_status : Option Told → ℕ

@@ -12,7 +12,7 @@ pub returns-in-Some : goal.returns-in-Some
 returns-in-Some g c =
     let row = c.as_slice.result.now in
     let here = row_here c.args.rows.now c.loop-number.number c.index-rows-number.result row c.loop-number-test.true c.index-rows-number.is c.as_slice.ensures.value in
-    (row, here, subst (IsLookForRow c.args.job.now row c.args.options.is_brief c.args.options.limit) c.in-Some.is c.in_ok-told.ensures)
+    (row, here, c.loop-number.invariant, subst (IsLookForRow c.args.job.now row c.args.options.is_brief c.args.options.limit) c.in-Some.is c.in_ok-told.ensures)
 
 pub loop-number-preserved : goal.loop-number-preserved
 loop-number-preserved g c =

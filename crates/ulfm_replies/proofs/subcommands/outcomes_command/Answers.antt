@@ -2,7 +2,7 @@ use Rattle.std.proofs.Common.{rules, ap, ap₂, codes, false, ◌≡◌, ◌∙�
 use Rattle.std.proofs.lemmas.Result.{IfOk-weaker}
 use Rattle.clap.specs.Words.{app_of, new_app, with_rule}
 use Rattle.clap.specs.declared.builder.command.Command.TheViews.{out-Command}
-use Rattle.ulfm_replies.specs.Rules.{of_schedules, of_stopped}
+use Rattle.ulfm_replies.specs.Rules.{of_places, of_schedules, of_stopped}
 use Rattle.ulfm_replies.proofs.Flags.{either}
 use Rattle.ulfm_replies.proofs.subcommands.outcomes_command.Goals as goal
 
@@ -15,7 +15,8 @@ returns-clause-app c =
     let third = c.in_ok-command-4.ensures.shape c.number_option-limit.ensures.local ∙ ap₂ with_rule second c.number_option-limit.ensures.rule in
     let fourth = c.in_ok-command-5.ensures.shape c.progress_flag.ensures.local ∙ ap₂ with_rule third c.progress_flag.ensures.rule in
     let drawn = c.in_ok-command-6.ensures.app ∙ ap of_schedules fourth in
-    IfOk-weaker c.of_stopped.result _ _ (λ r h. h ∙ ap of_stopped drawn) c.of_stopped.ensures.app
+    let placed = c.in_ok-command-7.ensures.app ∙ ap of_places drawn in
+    IfOk-weaker c.of_stopped.result _ _ (λ r h. h ∙ ap of_stopped placed) c.of_stopped.ensures.app
 
 pub of_schedules-requires : goal.of_schedules-requires
 of_schedules-requires c =
