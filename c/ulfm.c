@@ -13,9 +13,7 @@ uint32_t ulfm_world(ulfm_slot *slots, size_t ranks, uint8_t capacity, uint16_t r
 uint32_t ulfm_end(ulfm_slot *slot)
 {
     if (!slot) return ULFM_ENDED;
-    uint32_t code = ulfm_c_end(slot);
-    slot->at = 0;
-    return code;
+    return ulfm_c_end(slot);
 }
 
 uint32_t ulfm_stop(ulfm_slot *slot)
