@@ -1,0 +1,173 @@
+/* What a rank has: its communicators, requests, and what else it made; and what the launcher knows of it. */
+#ifndef ULFM_MPI_RANK_H
+#define ULFM_MPI_RANK_H
+
+#include "mpi.h"
+#include "options.h"
+#include "ulfm.h"
+#include <pthread.h>
+#include <setjmp.h>
+#include <signal.h>
+#include <stdatomic.h>
+#include <stdbool.h>
+#include <stdio.h>
+
+enum { MAX_RANKS = 8, CONTEXTS = 63, BODY = 1024, PLANES = 7, NO_CONTEXT_LEFT = 255 };
+
+/* Error codes: the class, and a detail times 256, which MPI_Error_string tells. */
+enum {
+    NO_CONTEXTS = MPI_ERR_OTHER | 1 << 8,
+    NO_COLLECTIVES = MPI_ERR_OTHER | 2 << 8,
+    TOO_MANY_ROUNDS = MPI_ERR_OTHER | 3 << 8,
+    NOT_ON_SELF = MPI_ERR_COMM | 4 << 8,
+    NOT_ON_PARTS = MPI_ERR_COMM | 5 << 8,
+    TAKEN_FOR_FAILED = MPI_ERR_OTHER | 6 << 8
+};
+
+/* The contexts of one group that were made by duplication: the first one, its duplicate (for collectives), that one's, and so on. */
+struct chain {
+    uint32_t hidden; /* the first duplicate, NO_CONTEXT_LEFT where there is none */
+    uint32_t last;   /* the last duplicate that was made here */
+    int planes;      /* how many contexts of it a program has had */
+    int users;       /* the communicators here that point to it */
+    struct {
+        uint32_t context;
+        bool is_free;    /* the program freed its communicator */
+        unsigned begun;  /* the collectives that began on it before */
+    } plane[PLANES];
+};
+
+/* A communicator of the program. */
+struct comm {
+    uint32_t context;      /* of its messages */
+    uint32_t hidden;       /* of its collectives, NO_CONTEXT_LEFT where there is none */
+    struct chain *chain;
+    int plane;             /* its number in the chain, in the tags of its collectives */
+    unsigned begun;        /* how many collectives began */
+    int size, position;
+    uint8_t members[MAX_RANKS];  /* world ranks */
+    uint8_t place[MAX_RANKS];    /* where each member stands in the context's group */
+    MPI_Errhandler handler;
+    bool is_self;
+    bool is_part;                /* not all of the context's group are members */
+    _Atomic int *revoked;        /* of a part: what its members share, for the engine would revoke the whole context */
+    uint32_t acknowledged;       /* how many failures are */
+    char name[MPI_MAX_OBJECT_NAME];
+    struct cart *cart;           /* its topology, or null */
+    struct attribute *attributes;   /* the last one that was set first */
+};
+
+/* A value of MPI_Group: world ranks by positions. */
+struct group {
+    int size;
+    uint8_t members[MAX_RANKS];
+};
+
+/* What the members of a new communicator agree on, besides its plane. */
+struct plans {
+    unsigned begun;              /* the collectives that began on the plane before */
+    _Atomic int *marks;          /* of parts: the marks of revocation, by the first member's world rank */
+    int colors[MAX_RANKS], keys[MAX_RANKS];   /* of MPI_Comm_split, by positions; before, the own ones stand first */
+};
+
+/* Where the bytes of a parcel stand: with its sender, who copies them; there, and its receiver copies them; in the parcel; at the receiver. */
+enum filling { LIVE, CLAIMED, FILLED, TAKEN };
+
+/* What goes beside a message: a long body, and where its sender waits for the match, the flag that tells it. In a list of its sender's, so that those
+   that nobody received are freed at the end. */
+struct parcel {
+    struct parcel *next, *previous;
+    _Atomic int users;   /* the message, its sender, the copying of its body */
+    _Atomic int matched;
+    _Atomic int filling;
+    bool is_waited_for;
+    int from, to;         /* world ranks */
+    uint32_t context;
+    int tag;
+    size_t length;        /* of the message */
+    const void *source;   /* where the sender has its bytes */
+    unsigned char bytes[];
+};
+
+/* What a request is: a buffered send, a send that waits for its match, a receive, a barrier, one that starts others, or nothing that could go on. */
+enum kind { SENT, SYNCHRONOUS, RECEIVE, BARRIER, PERSISTENT, NOTHING };
+
+struct landing;
+struct start;
+
+/* What was begun, until its end is told. */
+struct request {
+    enum kind kind;
+    struct comm *comm;
+    uint32_t context;
+    int peer, tag;
+    void *buffer;
+    size_t room;
+    uint64_t id;            /* the engine's number of the receive */
+    struct parcel *parcel;  /* of a synchronous send */
+    struct start *start;     /* of a persistent request: what it starts */
+    struct request *active;  /* of a persistent request: what it started, until its end is told */
+    struct landing *landing; /* of a receive whose data aren't in one piece */
+    bool over, freed;       /* its status is known; the program freed it */
+    int code;
+    MPI_Status status;
+    struct request *next, *previous;   /* of the open receives, or of those that can be used again */
+    int handle;
+    bool is_ending;                     /* a barrier that is being ended */
+    int64_t verdict;                    /* of a barrier: what position 0 told */
+    struct request *parts[MAX_RANKS];   /* of a barrier: its receives */
+};
+
+/* What the rank's present call is, for reports. */
+struct place {
+    const char *call;
+    const void *from;        /* an address in the program */
+    struct comm *comm;
+    int peer, tag;           /* MPI_UNDEFINED: none */
+    uint32_t waits_for;      /* bits of world ranks, or 0 */
+};
+
+/* A rank: its thread, what it has of MPI, and what the launcher knows of it. */
+struct rank {
+    _Alignas(128) int number;  /* no rank writes to another one's cache lines but where it has to */
+    ulfm_slot *slot, home;     /* slot: home */
+    pthread_t thread;
+    jmp_buf bottom;
+    struct comm **comms, **old_comms;  /* those that the program freed too */
+    struct group **groups;
+    struct request **requests;
+    struct message **messages;
+    struct errhandler *handlers;
+    struct type **types;
+    struct op *ops;
+    struct keyval *keyvals;
+    void *attached;           /* by MPI_Buffer_attach */
+    int attached_size, keyval_count;
+    int comm_count, old_comm_count, group_count, request_count, message_count, handler_count, type_count, op_count, first_free;
+    struct request *open;     /* receives that wait */
+    struct request *spare;    /* can be used again */
+    struct parcel *parcels, *last_parcel;   /* that it sent, in that order */
+    pthread_mutex_t parcels_lock;
+    uint32_t shrunk[CONTEXTS];
+    _Atomic int self_revoked;
+    bool has_begun, has_finalized, has_stopped;
+    bool is_planned;          /* it stopped by plan */
+    struct place place;
+    int barriers;             /* that are open */
+    int impatience;           /* by how much it looks less before it yields, where looks were in vain */
+    int calls, insides;       /* calls that count; places inside the last one */
+    int status;               /* of main */
+    uint64_t random;
+    FILE *out;
+    char *line;
+    size_t line_length, line_room;
+    void *program;
+    char *path, **words;
+    _Alignas(128) _Atomic uint64_t idle;  /* all moves before its last look, and 1; 0: it runs */
+    _Atomic int is_gone;      /* it has finalized, or stopped */
+    _Atomic int is_ended;     /* its thread needs nothing more */
+    _Atomic int waited_for;   /* synchronous sends to it without a match */
+    _Atomic uint32_t agreed[CONTEXTS];   /* how many agreements it entered */
+};
+
+#endif

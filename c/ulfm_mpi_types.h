@@ -1,0 +1,153 @@
+/* What the calls of mpi.h take: handles, constants, error classes, datatypes and operations of MPI 4.0. mpi.h includes it. */
+#ifndef ULFM_MPI_TYPES_H
+#define ULFM_MPI_TYPES_H
+
+#include <stddef.h>
+#include <stdint.h>
+
+#ifdef __cplusplus
+extern "C" {
+#endif
+
+#define MPI_VERSION 4
+#define MPI_SUBVERSION 0
+#define ULFM_MPI 1
+
+/* ---- Handles. Zero is the null handle of each kind. ---- */
+
+typedef struct ulfm_mpi_comm *MPI_Comm;
+typedef struct ulfm_mpi_group *MPI_Group;
+typedef struct ulfm_mpi_request *MPI_Request;
+typedef struct ulfm_mpi_message *MPI_Message;
+typedef struct ulfm_mpi_datatype *MPI_Datatype;
+typedef struct ulfm_mpi_op *MPI_Op;
+typedef struct ulfm_mpi_errhandler *MPI_Errhandler;
+typedef struct ulfm_mpi_info *MPI_Info;
+typedef ptrdiff_t MPI_Aint;
+typedef long long MPI_Count;
+typedef long long MPI_Offset;
+
+#define MPI_COMM_NULL ((MPI_Comm)0)
+#define MPI_COMM_WORLD ((MPI_Comm)1)
+#define MPI_COMM_SELF ((MPI_Comm)2)
+#define MPI_GROUP_NULL ((MPI_Group)0)
+#define MPI_GROUP_EMPTY ((MPI_Group)1)
+#define MPI_REQUEST_NULL ((MPI_Request)0)
+#define MPI_MESSAGE_NULL ((MPI_Message)0)
+#define MPI_MESSAGE_NO_PROC ((MPI_Message)1)
+#define MPI_ERRHANDLER_NULL ((MPI_Errhandler)0)
+#define MPI_ERRORS_ARE_FATAL ((MPI_Errhandler)1)
+#define MPI_ERRORS_RETURN ((MPI_Errhandler)2)
+#define MPI_ERRORS_ABORT ((MPI_Errhandler)3)
+#define MPI_INFO_NULL ((MPI_Info)0)
+
+/* What is told of a message (3.2.5). `bytes` and `cancelled` are for MPI_Get_count, MPI_Get_elements and MPI_Test_cancelled. */
+typedef struct {
+    int MPI_SOURCE, MPI_TAG, MPI_ERROR;
+    int cancelled;
+    size_t bytes;
+} MPI_Status;
+
+typedef void MPI_Comm_errhandler_function(MPI_Comm *, int *, ...);
+typedef MPI_Comm_errhandler_function MPI_Comm_errhandler_fn;
+typedef void MPI_User_function(void *, void *, int *, MPI_Datatype *);
+
+#define MPI_STATUS_IGNORE ((MPI_Status *)0)
+#define MPI_STATUSES_IGNORE ((MPI_Status *)0)
+#define MPI_IN_PLACE ((void *)-1)
+#define MPI_BOTTOM ((void *)0)
+
+enum {
+    MPI_ANY_SOURCE = -1,
+    MPI_ANY_TAG = -1,
+    MPI_PROC_NULL = -2,
+    MPI_ROOT = -3,
+    MPI_UNDEFINED = -32766,
+    MPI_TAG_UB_VALUE = 32767
+};
+enum { MPI_KEYVAL_INVALID = -1, MPI_TAG_UB = 1, MPI_HOST = 2, MPI_IO = 3, MPI_WTIME_IS_GLOBAL = 4, MPI_UNIVERSE_SIZE = 5, MPI_LASTUSEDCODE = 6 };
+enum { MPI_BSEND_OVERHEAD = 96 };
+enum { MPI_COMM_TYPE_SHARED = 1 };
+enum { MPI_GRAPH = 1, MPI_CART = 2, MPI_DIST_GRAPH = 3 };
+enum { MPI_ORDER_C = 0, MPI_ORDER_FORTRAN = 1 };
+enum { MPI_IDENT = 0, MPI_CONGRUENT = 1, MPI_SIMILAR = 2, MPI_UNEQUAL = 3 };
+enum { MPI_THREAD_SINGLE = 0, MPI_THREAD_FUNNELED = 1, MPI_THREAD_SERIALIZED = 2, MPI_THREAD_MULTIPLE = 3 };
+
+#define MPI_MAX_ERROR_STRING 256
+#define MPI_MAX_PROCESSOR_NAME 128
+#define MPI_MAX_OBJECT_NAME 64
+#define MPI_MAX_LIBRARY_VERSION_STRING 256
+
+/* ---- Error classes (9.4), and those of ULFM. ---- */
+
+enum {
+    MPI_SUCCESS = 0, MPI_ERR_BUFFER = 1, MPI_ERR_COUNT = 2, MPI_ERR_TYPE = 3, MPI_ERR_TAG = 4, MPI_ERR_COMM = 5,
+    MPI_ERR_RANK = 6, MPI_ERR_ROOT = 7, MPI_ERR_GROUP = 8, MPI_ERR_OP = 9, MPI_ERR_TOPOLOGY = 10, MPI_ERR_DIMS = 11,
+    MPI_ERR_ARG = 12, MPI_ERR_UNKNOWN = 13, MPI_ERR_TRUNCATE = 14, MPI_ERR_OTHER = 15, MPI_ERR_INTERN = 16,
+    MPI_ERR_IN_STATUS = 17, MPI_ERR_PENDING = 18, MPI_ERR_REQUEST = 19, MPI_ERR_NO_MEM = 34, MPI_ERR_KEYVAL = 48, MPIX_ERR_PROC_FAILED = 101,
+    MPIX_ERR_PROC_FAILED_PENDING = 102, MPIX_ERR_REVOKED = 103, MPI_ERR_LASTCODE = 255
+};
+
+/* ---- Datatypes (3.2.2, and 6.9.4 for the pairs). ---- */
+
+#define ULFM_MPI_TYPE(number) ((MPI_Datatype)(number))
+#define MPI_DATATYPE_NULL ULFM_MPI_TYPE(0)
+#define MPI_CHAR ULFM_MPI_TYPE(1)
+#define MPI_SIGNED_CHAR ULFM_MPI_TYPE(2)
+#define MPI_UNSIGNED_CHAR ULFM_MPI_TYPE(3)
+#define MPI_BYTE ULFM_MPI_TYPE(4)
+#define MPI_PACKED ULFM_MPI_TYPE(5)
+#define MPI_SHORT ULFM_MPI_TYPE(6)
+#define MPI_UNSIGNED_SHORT ULFM_MPI_TYPE(7)
+#define MPI_INT ULFM_MPI_TYPE(8)
+#define MPI_UNSIGNED ULFM_MPI_TYPE(9)
+#define MPI_LONG ULFM_MPI_TYPE(10)
+#define MPI_UNSIGNED_LONG ULFM_MPI_TYPE(11)
+#define MPI_LONG_LONG ULFM_MPI_TYPE(12)
+#define MPI_LONG_LONG_INT MPI_LONG_LONG
+#define MPI_UNSIGNED_LONG_LONG ULFM_MPI_TYPE(13)
+#define MPI_FLOAT ULFM_MPI_TYPE(14)
+#define MPI_DOUBLE ULFM_MPI_TYPE(15)
+#define MPI_LONG_DOUBLE ULFM_MPI_TYPE(16)
+#define MPI_WCHAR ULFM_MPI_TYPE(17)
+#define MPI_C_BOOL ULFM_MPI_TYPE(18)
+#define MPI_INT8_T ULFM_MPI_TYPE(19)
+#define MPI_INT16_T ULFM_MPI_TYPE(20)
+#define MPI_INT32_T ULFM_MPI_TYPE(21)
+#define MPI_INT64_T ULFM_MPI_TYPE(22)
+#define MPI_UINT8_T ULFM_MPI_TYPE(23)
+#define MPI_UINT16_T ULFM_MPI_TYPE(24)
+#define MPI_UINT32_T ULFM_MPI_TYPE(25)
+#define MPI_UINT64_T ULFM_MPI_TYPE(26)
+#define MPI_AINT ULFM_MPI_TYPE(27)
+#define MPI_OFFSET ULFM_MPI_TYPE(28)
+#define MPI_COUNT ULFM_MPI_TYPE(29)
+#define MPI_FLOAT_INT ULFM_MPI_TYPE(30)
+#define MPI_DOUBLE_INT ULFM_MPI_TYPE(31)
+#define MPI_LONG_INT ULFM_MPI_TYPE(32)
+#define MPI_2INT ULFM_MPI_TYPE(33)
+#define MPI_SHORT_INT ULFM_MPI_TYPE(34)
+#define MPI_LONG_DOUBLE_INT ULFM_MPI_TYPE(35)
+
+/* ---- Operations (6.9.2). ---- */
+
+#define MPI_OP_NULL ((MPI_Op)0)
+#define MPI_SUM ((MPI_Op)1)
+#define MPI_PROD ((MPI_Op)2)
+#define MPI_MAX ((MPI_Op)3)
+#define MPI_MIN ((MPI_Op)4)
+#define MPI_LAND ((MPI_Op)5)
+#define MPI_LOR ((MPI_Op)6)
+#define MPI_LXOR ((MPI_Op)7)
+#define MPI_BAND ((MPI_Op)8)
+#define MPI_BOR ((MPI_Op)9)
+#define MPI_BXOR ((MPI_Op)10)
+#define MPI_MAXLOC ((MPI_Op)11)
+#define MPI_MINLOC ((MPI_Op)12)
+#define MPI_REPLACE ((MPI_Op)13)
+#define MPI_NO_OP ((MPI_Op)14)
+
+#ifdef __cplusplus
+}
+#endif
+#endif
