@@ -9,13 +9,13 @@ enum { NUMBERS = 4096 };
 
 static int tag_of(const struct comm *comm) { return comm->plane * NUMBERS + (int)(comm->begun % NUMBERS); }
 
-/* Begins a collective, with the next number. */
+/* Begins a collective, with the next number. One that was shrunk has no hidden context either where it was revoked before it was adopted here. */
 int begin_collective(struct comm *comm) {
     if (!comm) return MPI_ERR_COMM;
-    if (comm->size > 1 && comm->hidden == NO_CONTEXT_LEFT) return NO_COLLECTIVES;
     comm->begun++;
     progress();
-    return is_revoked(comm) ? MPIX_ERR_REVOKED : MPI_SUCCESS;
+    if (is_revoked(comm)) return MPIX_ERR_REVOKED;
+    return comm->size > 1 && comm->hidden == NO_CONTEXT_LEFT ? NO_COLLECTIVES : MPI_SUCCESS;
 }
 
 /* A collective whose arguments are wrong here has its number too: the next one then meets those of the others. */

@@ -86,8 +86,8 @@ int MPI_Comm_create_group(MPI_Comm comm, MPI_Group group, int tag, MPI_Comm *mad
     *made = MPI_COMM_NULL;
     if (tag < 0 || tag > MPI_TAG_UB_VALUE) return fail(of, MPI_ERR_TAG);
     if (!is_member(members)) return MPI_SUCCESS;
-    if (of->hidden == NO_CONTEXT_LEFT) return fail(of, NO_COLLECTIVES);
     if (is_revoked(of)) return fail(of, MPIX_ERR_REVOKED);
+    if (of->hidden == NO_CONTEXT_LEFT) return fail(of, NO_COLLECTIVES);
     struct comm team = *of;
     if (!fill_comm(&team, members)) return fail(of, MPI_ERR_GROUP);
     team.is_part = of->is_part;
