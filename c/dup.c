@@ -149,7 +149,6 @@ int MPI_Comm_dup(MPI_Comm comm, MPI_Comm *made) {
     ENTER(of, MPI_UNDEFINED, MPI_UNDEFINED);
     if (!of) return fail(0, MPI_ERR_COMM);
     WRITES(of, made);
-    if (of->is_self) return fail(of, NOT_ON_SELF);
     group_of(of, &group);
     int code = begin_collective(of);
     if (code == MPI_SUCCESS) code = agree_on_plane(of, &plane, &plans);

@@ -40,7 +40,6 @@ static const struct {
     {NO_COLLECTIVES, "MPI_ERR_OTHER: no context is left for the collectives of this communicator"},
     {TOO_MANY_ROUNDS, "MPI_ERR_OTHER: no memory, or no more agreements on this communicator: ulfm-mpirun --rounds"},
     {NOT_ON_PARTS, "MPI_ERR_COMM: shrink and agree need a communicator of a whole group: the world, what was shrunk, their duplicates"},
-    {NOT_ON_SELF, "MPI_ERR_COMM: MPI_COMM_SELF has no duplicate here"},
     {TAKEN_FOR_FAILED, "MPI_ERR_OTHER: the other members took this rank for failed"},
 };
 

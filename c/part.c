@@ -27,7 +27,6 @@ int split_comm(struct comm *of, int color, int key, MPI_Comm *made) {
     struct group group;
     int plane = 0;
     *made = MPI_COMM_NULL;
-    if (of->is_self) return NOT_ON_SELF;
     int code = begin_collective(of);
     if (code == MPI_SUCCESS) code = agree_on_plane(of, &plane, &plans);
     if (code != MPI_SUCCESS || color == MPI_UNDEFINED) return code;
@@ -63,7 +62,6 @@ int MPI_Comm_create(MPI_Comm comm, MPI_Group group, MPI_Comm *made) {
     ENTER(of, MPI_UNDEFINED, MPI_UNDEFINED);
     if (!of) return fail(0, MPI_ERR_COMM);
     WRITES(of, made);
-    if (of->is_self) return fail(of, NOT_ON_SELF);
     if (!members) return fail(of, MPI_ERR_GROUP);
     *made = MPI_COMM_NULL;
     int code = begin_collective(of);
@@ -81,7 +79,6 @@ int MPI_Comm_create_group(MPI_Comm comm, MPI_Group group, int tag, MPI_Comm *mad
     ENTER(of, MPI_UNDEFINED, tag);
     if (!of) return fail(0, MPI_ERR_COMM);
     WRITES(of, made);
-    if (of->is_self) return fail(of, NOT_ON_SELF);
     if (!members) return fail(of, MPI_ERR_GROUP);
     *made = MPI_COMM_NULL;
     if (tag < 0 || tag > MPI_TAG_UB_VALUE) return fail(of, MPI_ERR_TAG);

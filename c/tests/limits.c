@@ -36,7 +36,7 @@ static void wrong(void) {
     int x = 0, flag;
     MPI_Request stale, request;
     MPI_Status status;
-    MPI_Comm bad = (MPI_Comm)(uintptr_t)777, dup;
+    MPI_Comm bad = (MPI_Comm)(uintptr_t)777;
     CHECK(class_of(MPI_Send(&x, 1, MPI_INT, 0, 40000, MPI_COMM_WORLD)) == MPI_ERR_TAG);
     CHECK(class_of(MPI_Send(&x, 1, MPI_INT, 9, 0, MPI_COMM_WORLD)) == MPI_ERR_RANK);
     CHECK(class_of(MPI_Send(&x, -1, MPI_INT, 0, 0, MPI_COMM_WORLD)) == MPI_ERR_COUNT);
@@ -45,7 +45,6 @@ static void wrong(void) {
     CHECK(class_of(MPI_Send(&x, 1, MPI_INT, 0, 0, bad)) == MPI_ERR_COMM);
     CHECK(class_of(MPI_Bcast(&x, 1, MPI_INT, 5, MPI_COMM_WORLD)) == MPI_ERR_ROOT);
     CHECK(class_of(MPI_Allreduce(&x, &x, 1, MPI_INT, MPI_OP_NULL, MPI_COMM_WORLD)) == MPI_ERR_OP);
-    CHECK(class_of(MPI_Comm_dup(MPI_COMM_SELF, &dup)) == MPI_ERR_COMM);
     MPI_Irecv(&x, 1, MPI_INT, rank, 1, MPI_COMM_WORLD, &request);
     stale = request;
     MPI_Send(&x, 1, MPI_INT, rank, 1, MPI_COMM_WORLD);
