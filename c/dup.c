@@ -141,21 +141,34 @@ int make_on_plane(struct comm *of, int plane, const struct group *group, const s
     return MPI_SUCCESS;
 }
 
-int MPI_Comm_dup(MPI_Comm comm, MPI_Comm *made) {
-    struct comm *of = comm_at(comm);
+static int duplicate(struct comm *of, MPI_Comm *made) {
     struct plans plans = {0};
     struct group group;
     int plane = 0;
-    ENTER(of, MPI_UNDEFINED, MPI_UNDEFINED);
-    if (!of) return fail(0, MPI_ERR_COMM);
-    WRITES(of, made);
     group_of(of, &group);
     int code = begin_collective(of);
     if (code == MPI_SUCCESS) code = agree_on_plane(of, &plane, &plans);
     if (code == MPI_SUCCESS) code = make_on_plane(of, plane, &group, &plans, made);
     if (code == MPI_SUCCESS) comm_at(*made)->cart = copy_cart(of->cart);
-    if (code == MPI_SUCCESS) code = copy_attributes(of, comm_at(*made));
-    return fail(of, code);
+    return code == MPI_SUCCESS ? copy_attributes(of, comm_at(*made)) : code;
+}
+
+int MPI_Comm_dup(MPI_Comm comm, MPI_Comm *made) {
+    struct comm *of = comm_at(comm);
+    ENTER(of, MPI_UNDEFINED, MPI_UNDEFINED);
+    if (!of) return fail(0, MPI_ERR_COMM);
+    WRITES(of, made);
+    return fail(of, duplicate(of, made));
+}
+
+/* No hint changes what a duplicate does. */
+int MPI_Comm_dup_with_info(MPI_Comm comm, MPI_Info info, MPI_Comm *made) {
+    struct comm *of = comm_at(comm);
+    ENTER(of, MPI_UNDEFINED, MPI_UNDEFINED);
+    if (!of) return fail(0, MPI_ERR_COMM);
+    if (!is_info(info)) return fail(of, refuse_collective(of, MPI_ERR_INFO));
+    WRITES(of, made);
+    return fail(of, duplicate(of, made));
 }
 
 /* The handle goes; requests that are open go on (7.4.3). */

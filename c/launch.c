@@ -83,6 +83,7 @@ static void clear_rank(void) {
     clear_types();
     clear_ops();
     clear_keyvals();
+    clear_infos();
     me->attached = 0;
 }
 

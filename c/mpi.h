@@ -120,6 +120,7 @@ int MPI_Comm_size(MPI_Comm comm, int *size);
 int MPI_Comm_rank(MPI_Comm comm, int *rank);
 int MPI_Comm_compare(MPI_Comm a, MPI_Comm b, int *result);
 int MPI_Comm_dup(MPI_Comm comm, MPI_Comm *made);
+int MPI_Comm_dup_with_info(MPI_Comm comm, MPI_Info info, MPI_Comm *made);
 int MPI_Comm_split(MPI_Comm comm, int color, int key, MPI_Comm *made);
 int MPI_Comm_split_type(MPI_Comm comm, int type, int key, MPI_Info info, MPI_Comm *made);
 int MPI_Comm_create(MPI_Comm comm, MPI_Group group, MPI_Comm *made);
@@ -197,6 +198,23 @@ int MPI_Op_create(MPI_User_function *function, int commutes, MPI_Op *op);
 int MPI_Op_free(MPI_Op *op);
 int MPI_Op_commutative(MPI_Op op, int *commutes);
 int MPI_Reduce_local(const void *inbuf, void *inoutbuf, int count, MPI_Datatype type, MPI_Op op);
+
+/* ---- Info objects (10), before MPI_Init and after MPI_Finalize too. No call heeds one. MPI_ERR_INFO: it isn't one. MPI_ERR_INFO_KEY: the key is null, empty or too long. MPI_ERR_INFO_VALUE:
+   the value is null or too long.
+   MPI_ERR_INFO_NOKEY: there is no such key to delete. MPI_ERR_ARG: a pointer is null, a number is outside. ---- */
+
+int MPI_Info_create(MPI_Info *info);
+int MPI_Info_dup(MPI_Info info, MPI_Info *made);
+int MPI_Info_free(MPI_Info *info);
+int MPI_Info_set(MPI_Info info, const char *key, const char *value);
+int MPI_Info_delete(MPI_Info info, const char *key);
+int MPI_Info_get(MPI_Info info, const char *key, int length, char *value, int *flag);
+int MPI_Info_get_string(MPI_Info info, const char *key, int *room, char *value, int *flag);
+int MPI_Info_get_valuelen(MPI_Info info, const char *key, int *length, int *flag);
+int MPI_Info_get_nkeys(MPI_Info info, int *count);
+int MPI_Info_get_nthkey(MPI_Info info, int n, char *key);
+int MPI_Comm_set_info(MPI_Comm comm, MPI_Info info);
+int MPI_Comm_get_info(MPI_Comm comm, MPI_Info *info);
 
 /* ---- Recovery (ULFM). ---- */
 

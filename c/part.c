@@ -45,9 +45,9 @@ int MPI_Comm_split(MPI_Comm comm, int color, int key, MPI_Comm *made) {
 /* All ranks share memory, so MPI_COMM_TYPE_SHARED is one color. */
 int MPI_Comm_split_type(MPI_Comm comm, int type, int key, MPI_Info info, MPI_Comm *made) {
     struct comm *of = comm_at(comm);
-    (void)info;
     ENTER(of, MPI_UNDEFINED, MPI_UNDEFINED);
     if (!of) return fail(0, MPI_ERR_COMM);
+    if (!is_info(info)) return fail(of, refuse_collective(of, MPI_ERR_INFO));
     if (!made || (type != MPI_COMM_TYPE_SHARED && type != MPI_UNDEFINED)) return fail(of, refuse_collective(of, MPI_ERR_ARG));
     return fail(of, split_comm(of, type == MPI_UNDEFINED ? MPI_UNDEFINED : 0, key, made));
 }

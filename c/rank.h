@@ -140,8 +140,9 @@ struct rank {
     struct type **types;
     struct op *ops;
     struct keyval *keyvals;
+    struct info **infos;
     void *attached;           /* by MPI_Buffer_attach */
-    int attached_size, keyval_count;
+    int attached_size, keyval_count, info_count;
     int comm_count, old_comm_count, group_count, request_count, message_count, handler_count, type_count, op_count, first_free;
     struct request *open;     /* receives that wait */
     struct request *spare;    /* can be used again */

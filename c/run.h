@@ -136,6 +136,10 @@ int delete_attributes(struct comm *comm);
 void free_attributes(struct comm *comm);
 void clear_keyvals(void);
 
+/* info.c */
+bool is_info(MPI_Info handle);
+void clear_infos(void);
+
 /* ibarrier.c */
 void look_at_barrier(struct request *barrier);
 void look_at_barriers(void);
