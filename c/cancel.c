@@ -1,12 +1,12 @@
 /* Requests that are given up (MPI 4.0, 3.7.3 and 3.8.4). */
 #include "run.h"
 
-/* The request goes when it is over (3.7.3). */
+/* The request goes when it is over (3.7.3); that of a collective can't be freed (6.12). */
 int MPI_Request_free(MPI_Request *handle) {
     ENTER_LOOK(0, MPI_UNDEFINED, MPI_UNDEFINED);
     WRITES(0, handle);
     struct request *request = active_at(*handle), *own = request_at(*handle);
-    if (!own) return fail(0, MPI_ERR_REQUEST);
+    if (!own || own->kind == COLLECTIVE) return fail(0, MPI_ERR_REQUEST);
     *handle = MPI_REQUEST_NULL;
     if (own->kind == PERSISTENT) free_request(own);
     if (!request) return MPI_SUCCESS;
@@ -18,12 +18,12 @@ int MPI_Request_free(MPI_Request *handle) {
     return MPI_SUCCESS;
 }
 
-/* Cancels a receive that waits; a send is never cancelled (3.8.4). The request has to be waited for all the same. */
+/* Cancels a receive that waits; a send is never cancelled (3.8.4), a collective can't be (6.12). The request has to be waited for all the same. */
 int MPI_Cancel(MPI_Request *handle) {
     ENTER(0, MPI_UNDEFINED, MPI_UNDEFINED);
     WRITES(0, handle);
     struct request *request = active_at(*handle);
-    if (!request) return fail(0, MPI_ERR_REQUEST);
+    if (!request || request->kind == COLLECTIVE) return fail(0, MPI_ERR_REQUEST);
     progress();
     withdraw(request);
     return MPI_SUCCESS;

@@ -36,10 +36,11 @@ int collect_send(struct comm *comm, int to, const void *bytes, size_t length) {
 }
 
 /* Posts the receive of a letter, or null where there is no memory. */
-struct request *collect_post(struct comm *comm, int from, void *bytes, size_t room) {
+struct request *collect_post(struct comm *comm, int from, void *bytes, size_t room, struct landing *landing) {
     struct request *request = new_request(RECEIVE, comm, from, tag_of(comm));
     if (!request) return 0;
     request->context = comm->hidden;
+    request->landing = landing;
     start_receive(request, bytes, room);
     return request;
 }
@@ -63,7 +64,7 @@ int collect_finish(struct request *request) {
     return code;
 }
 
-int collect_receive(struct comm *comm, int from, void *bytes, size_t room) { return collect_finish(collect_post(comm, from, bytes, room)); }
+int collect_receive(struct comm *comm, int from, void *bytes, size_t room) { return collect_finish(collect_post(comm, from, bytes, room, 0)); }
 
 /* Position 0 gets `length` bytes of each, by positions; the others send theirs. The first error, after all were asked. */
 int gather_all(struct comm *comm, const void *in, size_t length, void *all) {
@@ -122,16 +123,21 @@ static int broadcast(struct comm *comm, void *buf, int count, MPI_Datatype type,
     return code;
 }
 
+/* Why a broadcast can't be, or MPI_SUCCESS and its bytes. */
+int check_broadcast(struct comm *comm, const void *buf, int count, MPI_Datatype type, int root, size_t *bytes) {
+    int code;
+    if (!comm) return MPI_ERR_COMM;
+    check_buffer(count, type, bytes, &code);
+    if (root < 0 || root >= comm->size) code = MPI_ERR_ROOT;
+    if (code == MPI_SUCCESS && !is_buffer(buf, *bytes, type)) code = MPI_ERR_BUFFER;
+    return code == MPI_SUCCESS ? code : refuse_collective(comm, code);
+}
+
 int MPI_Bcast(void *buf, int count, MPI_Datatype type, int root, MPI_Comm comm) {
     struct comm *of = comm_at(comm);
-    size_t bytes = 0;
-    int code;
+    size_t bytes;
     ENTER(of, MPI_UNDEFINED, MPI_UNDEFINED);
-    if (!of) return fail(0, MPI_ERR_COMM);
-    check_buffer(count, type, &bytes, &code);
-    if (root < 0 || root >= of->size) code = MPI_ERR_ROOT;
-    if (code == MPI_SUCCESS && !is_buffer(buf, bytes, type)) code = MPI_ERR_BUFFER;
-    if (code != MPI_SUCCESS) return fail(of, refuse_collective(of, code));
-    code = begin_collective(of);
+    int code = check_broadcast(of, buf, count, type, root, &bytes);
+    if (code == MPI_SUCCESS) code = begin_collective(of);
     return fail(of, code != MPI_SUCCESS ? code : broadcast(of, buf, count, type, bytes, root));
 }

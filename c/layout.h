@@ -4,28 +4,25 @@
 
 #include "type.h"
 
-/* Where each position's part stands in a buffer: all alike, or by counts and displacements, in elements of `size` bytes of data. */
+/* Where each position's part stands in a buffer: all alike, or by counts and displacements, in extents of the type; or with types of their own, by
+   displacements in bytes. */
 struct layout {
     char *at;
-    size_t size;
-    const struct type *type;
-    int count;                     /* of each, where counts is null */
-    bool has_counts;
+    int count;                     /* of each, where there are no counts */
+    bool has_counts, has_types;
     const int *counts, *displs;
-};
-
-/* The same parts with their data behind one another, which stand for a layout of a type that isn't plain. */
-struct flat {
-    struct layout layout;
-    int displs[MAX_RANKS];
-    char *packed;     /* null where the layout is plain */
+    MPI_Datatype type;
+    const MPI_Datatype *types;
 };
 
 int count_at(const struct layout *layout, int k);
+MPI_Datatype type_of_part(const struct layout *layout, int k);
 char *part_at(const struct layout *layout, int k);
-size_t length_at(const struct layout *layout, int k);
-int check_layout(struct layout *layout, MPI_Datatype type, const struct comm *comm);
-int flatten(const struct layout *layout, int size, struct flat *flat);
-void unflatten(const struct layout *layout, int size, struct flat *flat, bool gets);
+int check_layout(const struct layout *layout, const struct comm *comm);
+
+/* gather.c */
+int check_own(const void *buffer, int count, MPI_Datatype type, bool may_be_in_place);
+void copy_own(struct request *collective, const void *from, int sent, MPI_Datatype sendtype, void *to, int count, MPI_Datatype type);
 
 #endif
+

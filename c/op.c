@@ -106,19 +106,36 @@ int fold(const void *in, void *into, int count, MPI_Datatype type, MPI_Op op) {
     return MPI_SUCCESS;
 }
 
+/* A handle of an operation, or MPI_OP_NULL where there is no memory. */
+static MPI_Op add_op(struct op op) {
+    int place = 0;
+    while (place < me->op_count && me->ops[place].function) place++;
+    if (place == me->op_count) {
+        if (!grow(&me->ops, place, sizeof *me->ops)) return MPI_OP_NULL;
+        me->op_count++;
+    }
+    me->ops[place] = op;
+    return (MPI_Op)(uintptr_t)(FIRST_OWN + place);
+}
+
+/* Another handle of an operation, which stays when the program frees its own (6.9.5); MPI_OP_NULL where there is no memory. */
+MPI_Op keep_op(MPI_Op op) { return own_at(op) ? add_op(*own_at(op)) : op; }
+
+void drop_op(MPI_Op op) {
+    if (own_at(op)) me->ops[(uintptr_t)op - FIRST_OWN] = (struct op){0};
+}
+
 int MPI_Op_create(MPI_User_function *function, int commutes, MPI_Op *op) {
     ENTER_LOOK(0, MPI_UNDEFINED, MPI_UNDEFINED);
     WRITES(0, function && op);
-    if (!grow(&me->ops, me->op_count, sizeof *me->ops)) return fail(0, MPI_ERR_NO_MEM);
-    me->ops[me->op_count] = (struct op){function, commutes != 0};
-    *op = (MPI_Op)(uintptr_t)(FIRST_OWN + me->op_count++);
-    return MPI_SUCCESS;
+    *op = add_op((struct op){function, commutes != 0});
+    return *op == MPI_OP_NULL ? fail(0, MPI_ERR_NO_MEM) : MPI_SUCCESS;
 }
 
 int MPI_Op_free(MPI_Op *op) {
     ENTER_LOOK(0, MPI_UNDEFINED, MPI_UNDEFINED);
     if (!op || !own_at(*op)) return fail(0, MPI_ERR_OP);
-    me->ops[(uintptr_t)*op - FIRST_OWN] = (struct op){0};
+    drop_op(*op);
     *op = MPI_OP_NULL;
     return MPI_SUCCESS;
 }

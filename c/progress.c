@@ -55,11 +55,9 @@ static bool turn(void) {
     return true;
 }
 
-/* Something came, perhaps: tells the senders that wait for a match, and looks at barriers that are open. */
+/* Something came, perhaps: tells the senders that wait for a match. */
 static void look_at_open(void) {
-    if (me->has_stopped) return;
-    if (atomic_load(&me->waited_for) > 0) look_at_all();
-    if (me->barriers > 0) look_at_barriers();
+    if (!me->has_stopped && atomic_load(&me->waited_for) > 0) look_at_all();
 }
 
 /* Moves what goes out, and takes one item that came. Whether anything moved. */

@@ -88,11 +88,12 @@ struct parcel {
     unsigned char bytes[];
 };
 
-/* What a request is: a buffered send, a send that waits for its match, a receive, a barrier, one that starts others, or nothing that could go on. */
-enum kind { SENT, SYNCHRONOUS, RECEIVE, BARRIER, PERSISTENT, NOTHING };
+/* What a request is: a buffered send, a send that waits for its match, a receive, a collective, one that starts others, or nothing that could go on. */
+enum kind { SENT, SYNCHRONOUS, RECEIVE, COLLECTIVE, PERSISTENT, NOTHING };
 
 struct landing;
 struct start;
+struct reduction;
 
 /* What was begun, until its end is told. */
 struct request {
@@ -112,9 +113,8 @@ struct request {
     MPI_Status status;
     struct request *next, *previous;   /* of the open receives, or of those that can be used again */
     int handle;
-    bool is_ending;                     /* a barrier that is being ended */
-    int64_t verdict;                    /* of a barrier: what position 0 told */
-    struct request *parts[MAX_RANKS];   /* of a barrier: its receives */
+    struct reduction *reduction;        /* of a collective: what is folded at its end, or null */
+    struct request *parts[MAX_RANKS];   /* of a collective: its receives, by positions */
 };
 
 /* What the rank's present call is, for reports. */
@@ -153,7 +153,6 @@ struct rank {
     bool has_begun, has_finalized, has_stopped;
     bool is_planned;          /* it stopped by plan */
     struct place place;
-    int barriers;             /* that are open */
     int impatience;           /* by how much it looks less before it yields, where looks were in vain */
     int calls, insides;       /* calls that count; places inside the last one */
     int status;               /* of main */

@@ -1,22 +1,7 @@
 /* Reductions (MPI 4.0, 6.9 and 6.11): position 0 gets all parts and folds them in the order of positions, so that each run gives the same bits. */
-#include "run.h"
+#include "reduce.h"
 #include <stdlib.h>
 #include <string.h>
-
-enum { SHORT = 512 };
-
-/* A reduction: its arguments, and room for a verdict and the result, for what is folded, and for all parts behind one another. */
-struct reduction {
-    struct comm *comm;
-    int count;
-    MPI_Datatype type;
-    MPI_Op op;
-    size_t bytes;                    /* of the elements in memory */
-    char *result, *folded, *parts;   /* result has a verdict before it */
-    char *copy;                      /* this rank's elements, where their data aren't in one piece; else null */
-    char *room;                      /* of the heap, or null */
-    _Alignas(16) char own[SHORT];
-};
 
 /* Why its arguments can't be, or MPI_SUCCESS; then it knows its bytes. `recvbuf` is null where nothing is received. */
 static int check(struct reduction *of, const void *sendbuf, const void *recvbuf) {
@@ -26,18 +11,19 @@ static int check(struct reduction *of, const void *sendbuf, const void *recvbuf)
     return reach_of_data(of->count, of->type, &of->bytes) ? MPI_SUCCESS : MPI_ERR_TYPE;
 }
 
-/* Why a reduction can't be, or MPI_SUCCESS; then it has its room and its number. */
-static int begin(struct reduction *of, const void *sendbuf, const void *recvbuf, bool receives) {
-    struct comm *comm = of->comm;
-    if (!comm) return MPI_ERR_COMM;
+/* Why a reduction can't be, or MPI_SUCCESS. */
+int check_reduction(struct reduction *of, const void *sendbuf, const void *recvbuf, bool receives) {
+    if (!of->comm) return MPI_ERR_COMM;
     int code = check(of, sendbuf, receives ? recvbuf : 0);
     if (code == MPI_SUCCESS && receives && !is_buffer(recvbuf, of->bytes, of->type)) code = MPI_ERR_BUFFER;
-    if (code != MPI_SUCCESS) return refuse_collective(comm, code);
-    code = begin_collective(comm);
-    if (code != MPI_SUCCESS) return code;
+    return code == MPI_SUCCESS ? code : refuse_collective(of->comm, code);
+}
+
+/* Gives a reduction its room, where there is memory. */
+int make_room(struct reduction *of) {
     bool is_plain = is_plain_type(of->type);
-    size_t each = (of->bytes + 15) & ~(size_t)15, copied = is_plain ? 0 : each, whole = 16 + 2 * each + copied + of->bytes * (size_t)comm->size;
-    char *room = whole <= SHORT ? of->own : (of->room = malloc(whole));
+    size_t each = (of->bytes + 15) & ~(size_t)15, copied = is_plain ? 0 : each, whole = 16 + 2 * each + copied + of->bytes * (size_t)of->comm->size;
+    char *room = whole <= SHORT ? of->short_room : (of->room = malloc(whole));
     if (!room) return MPI_ERR_NO_MEM;
     of->result = room + 16 - VERDICT;
     of->folded = room + 16 + each;
@@ -46,14 +32,20 @@ static int begin(struct reduction *of, const void *sendbuf, const void *recvbuf,
     return MPI_SUCCESS;
 }
 
+static int begin(struct reduction *of, const void *sendbuf, const void *recvbuf, bool receives) {
+    int code = check_reduction(of, sendbuf, recvbuf, receives);
+    if (code == MPI_SUCCESS) code = begin_collective(of->comm);
+    return code == MPI_SUCCESS ? make_room(of) : code;
+}
+
 /* This rank's elements, without what stands between their data. */
-static const void *own_part(const struct reduction *of, const void *sendbuf, const void *recvbuf) {
+const void *own_part(const struct reduction *of, const void *sendbuf, const void *recvbuf) {
     const void *own = sendbuf == MPI_IN_PLACE ? recvbuf : sendbuf;
     if (of->copy) copy_data(own, of->copy, of->count, of->type);
     return of->copy ? of->copy : own;
 }
 
-static void deliver(const struct reduction *of, const void *result, void *recvbuf) {
+void deliver(const struct reduction *of, const void *result, void *recvbuf) {
     if (of->copy) copy_data(result, recvbuf, of->count, of->type);
     else if (of->bytes) memcpy(recvbuf, result, of->bytes);
 }
@@ -64,7 +56,7 @@ static int finish(struct reduction *of, int code) {
 }
 
 /* Folds parts 0 to last into `into`, in order. */
-static int fold_parts(const struct reduction *of, int last, char *into) {
+int fold_parts(const struct reduction *of, int last, char *into) {
     int code = MPI_SUCCESS;
     memcpy(into, of->parts, of->bytes);
     for (int k = 1; k <= last && code == MPI_SUCCESS; k++) {
@@ -150,21 +142,28 @@ int MPI_Exscan(const void *sendbuf, void *recvbuf, int count, MPI_Datatype type,
     return finish(&of, code != MPI_SUCCESS ? code : scan(sendbuf, recvbuf, &of, true));
 }
 
-/* Position 0 tells each its part of the result, of `counts[k]` elements, or all of `count`. */
-static int reduce_scatter(const void *sendbuf, void *recvbuf, const int counts[], int count, struct reduction *of) {
+/* Which elements of the result this rank gets: `counts[k]` are for each, or `count`. */
+void take_own_elements(struct reduction *of, const int counts[], int count) {
+    of->is_scattered = true;
+    of->own = counts ? counts[of->comm->position] : count;
+    for (int k = 0; k < of->comm->position; k++) of->before += counts ? counts[k] : count;
+}
+
+/* Delivers those elements, or all. */
+void deliver_own_elements(struct reduction *of, void *recvbuf) {
+    size_t each = of->count ? of->bytes / (size_t)of->count : 0;
+    if (of->is_scattered) of->bytes = each * (size_t)of->own, of->count = of->own;
+    deliver(of, of->result + VERDICT + each * (size_t)of->before, recvbuf);
+}
+
+/* Position 0 tells all the result, of which each takes its own elements. */
+static int reduce_scatter(const void *sendbuf, void *recvbuf, struct reduction *of) {
     struct comm *in = of->comm;
-    size_t each = of->count ? of->bytes / (size_t)of->count : 0, own = 0, before = 0, at = 0;
-    for (int k = 0; k < in->size; k++) {
-        if (k == in->position) before = at, own = each * (size_t)(counts ? counts[k] : count);
-        at += each * (size_t)(counts ? counts[k] : count);
-    }
     int code = gather_all(in, own_part(of, sendbuf, recvbuf), of->bytes, of->parts);
     if (in->position == 0 && code == MPI_SUCCESS) code = fold_parts(of, in->size - 1, of->result + VERDICT);
     else memset(of->result + VERDICT, 0, of->bytes);
     code = spread_verdict(in, code, of->result, of->bytes);
-    of->count = counts ? counts[in->position] : count;
-    of->bytes = own;
-    if (code == MPI_SUCCESS) deliver(of, of->result + VERDICT + before, recvbuf);
+    if (code == MPI_SUCCESS) deliver_own_elements(of, recvbuf);
     return code;
 }
 
@@ -173,18 +172,28 @@ int MPI_Reduce_scatter_block(const void *sendbuf, void *recvbuf, int count, MPI_
     struct reduction of = {.comm = in, .count = in && count > 0 ? count * in->size : count, .type = type, .op = op};
     ENTER(in, MPI_UNDEFINED, MPI_UNDEFINED);
     int code = begin(&of, sendbuf, recvbuf, true);
-    return finish(&of, code != MPI_SUCCESS ? code : reduce_scatter(sendbuf, recvbuf, 0, count, &of));
+    if (code == MPI_SUCCESS) take_own_elements(&of, 0, count);
+    return finish(&of, code != MPI_SUCCESS ? code : reduce_scatter(sendbuf, recvbuf, &of));
+}
+
+/* How many elements all get, or why that can't be. */
+int sum_of_counts(const int counts[], struct comm *comm, int *sum) {
+    if (!comm) return MPI_ERR_COMM;
+    if (!counts) return refuse_collective(comm, MPI_ERR_ARG);
+    *sum = 0;
+    for (int k = 0; k < comm->size; k++) {
+        if (counts[k] < 0) return refuse_collective(comm, MPI_ERR_COUNT);
+        *sum += counts[k];
+    }
+    return MPI_SUCCESS;
 }
 
 int MPI_Reduce_scatter(const void *sendbuf, void *recvbuf, const int counts[], MPI_Datatype type, MPI_Op op, MPI_Comm comm) {
     struct comm *in = comm_at(comm);
     struct reduction of = {.comm = in, .type = type, .op = op};
     ENTER(in, MPI_UNDEFINED, MPI_UNDEFINED);
-    if (in && !counts) return fail(in, refuse_collective(in, MPI_ERR_ARG));
-    for (int k = 0; in && k < in->size; k++) {
-        if (counts[k] < 0) return fail(in, refuse_collective(in, MPI_ERR_COUNT));
-        of.count += counts[k];
-    }
-    int code = begin(&of, sendbuf, recvbuf, !in || counts[in->position] > 0 || sendbuf == MPI_IN_PLACE);
-    return finish(&of, code != MPI_SUCCESS ? code : reduce_scatter(sendbuf, recvbuf, counts, 0, &of));
+    int code = sum_of_counts(counts, in, &of.count);
+    if (code == MPI_SUCCESS) code = begin(&of, sendbuf, recvbuf, counts[in->position] > 0 || sendbuf == MPI_IN_PLACE);
+    if (code == MPI_SUCCESS) take_own_elements(&of, counts, 0);
+    return finish(&of, code != MPI_SUCCESS ? code : reduce_scatter(sendbuf, recvbuf, &of));
 }

@@ -30,7 +30,7 @@ struct request *new_request(enum kind kind, struct comm *comm, int peer, int tag
     int place = free_place();
     if (place < 0 || (!request && !(request = malloc(sizeof *request)))) return 0;
     if (me->spare) me->spare = request->next;
-    memset(request, 0, kind == BARRIER ? sizeof *request : offsetof(struct request, parts));
+    memset(request, 0, kind == COLLECTIVE ? sizeof *request : offsetof(struct request, parts));
     request->kind = kind;
     request->comm = comm;
     request->context = comm->context;
@@ -59,6 +59,7 @@ void free_request(struct request *request) {
     if (request->parcel) let_go(request->parcel);
     free_landing(request->landing);
     free_start(request->start);
+    free_reduction(request->reduction);
     me->requests[request->handle - 1] = 0;
     if (request->handle - 1 < me->first_free) me->first_free = request->handle - 1;
     request->next = me->spare;
@@ -149,8 +150,8 @@ static void end_revoked(struct request *request) {
 int look_at(struct request *request) {
     if (request->over) return MPI_SUCCESS;
     if (request->kind == SYNCHRONOUS) return look_at_send(request);
-    if (request->kind == BARRIER) {
-        look_at_barrier(request);
+    if (request->kind == COLLECTIVE) {
+        look_at_collective(request);
         return MPI_SUCCESS;
     }
     uint8_t letter[BODY];
@@ -192,6 +193,7 @@ void clear_requests(void) {
         if (request && request->parcel) let_go(request->parcel);
         if (request) free_landing(request->landing);
         if (request) free_start(request->start);
+        if (request) free_reduction(request->reduction);
         free(request);
     }
     free(me->requests);

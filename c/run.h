@@ -116,6 +116,8 @@ void free_landing(struct landing *landing);
 int fold(const void *in, void *into, int count, MPI_Datatype type, MPI_Op op);
 bool is_op(MPI_Op op);
 int check_op(MPI_Op op, MPI_Datatype type);
+MPI_Op keep_op(MPI_Op op);
+void drop_op(MPI_Op op);
 void clear_types(void);
 void clear_ops(void);
 
@@ -136,13 +138,24 @@ int delete_attributes(struct comm *comm);
 void free_attributes(struct comm *comm);
 void clear_keyvals(void);
 
+/* nonblocking.c */
+void look_at_collective(struct request *collective);
+uint32_t awaited_by(const struct request *request);
+int start_collective(struct comm *comm, struct request **made);
+void send_bytes(struct request *collective, int to, const void *bytes, size_t length);
+void post_bytes(struct request *collective, int from, void *bytes, size_t room, struct landing *landing);
+void send_data(struct request *collective, int to, const void *buf, int count, MPI_Datatype type);
+void post_data(struct request *collective, int from, void *buf, int count, MPI_Datatype type);
+int wait_for_collective(struct comm *comm, int code, struct request **made);
+int give_collective(struct comm *comm, int code, struct request **made, MPI_Request *handle);
+
 /* info.c */
 bool is_info(MPI_Info handle);
 void clear_infos(void);
 
-/* ibarrier.c */
-void look_at_barrier(struct request *barrier);
-void look_at_barriers(void);
+/* reduce.c, ireduce.c */
+int end_reduction(struct reduction *reduction, int code);
+void free_reduction(struct reduction *reduction);
 
 /* probe.c */
 bool has_messages(void);
@@ -153,11 +166,12 @@ int begin_collective(struct comm *comm);
 int refuse_collective(struct comm *comm, int code);
 bool is_buffer(const void *buffer, size_t bytes, MPI_Datatype type);
 int collect_send(struct comm *comm, int to, const void *bytes, size_t length);
-struct request *collect_post(struct comm *comm, int from, void *bytes, size_t room);
+struct request *collect_post(struct comm *comm, int from, void *bytes, size_t room, struct landing *landing);
 int collect_finish(struct request *request);
 int collect_receive(struct comm *comm, int from, void *bytes, size_t room);
 int gather_all(struct comm *comm, const void *in, size_t length, void *all);
 int spread(struct comm *comm, void *bytes, size_t length, int root);
+int check_broadcast(struct comm *comm, const void *buf, int count, MPI_Datatype type, int root, size_t *bytes);
 int spread_verdict(struct comm *comm, int code, void *buffer, size_t length);
 enum { VERDICT = 16 };   /* bytes before a result: what follows is aligned for each type */
 
@@ -169,6 +183,11 @@ void enter_call(const char *call, const void *from, struct comm *comm, int peer,
 /* A null pointer where a call writes what it answers: MPI_ERR_ARG. */
 #define WRITES(comm, pointer) \
     if (!(pointer)) return fail(comm, MPI_ERR_ARG)
+
+/* Where a collective writes the handle of its request. One that is wrong here has its number too. */
+#define GIVES(comm, handle) \
+    if (!(handle)) return fail(comm, refuse_collective(comm, MPI_ERR_ARG)); \
+    *(handle) = MPI_REQUEST_NULL
 
 /* Room for one more in an array; false where there is no memory. */
 bool grow(void *array, int count, size_t size);

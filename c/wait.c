@@ -16,6 +16,7 @@ static bool is_over(void *of, bool is_settled) {
     struct waiting *waiting = of;
     (void)is_settled;
     waiting->pends = look_at(waiting->request);
+    me->place.waits_for = waiting->request->over ? 0 : awaited_by(waiting->request);
     return waiting->request->over || waiting->pends;
 }
 

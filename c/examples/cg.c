@@ -3,7 +3,7 @@
    Half of the method are reductions: where a rank stops inside one, some have its sum and others an error. So nobody commits what it has, or leaves,
    before all have agreed; and the result is told before that, since who would tell it may stop behind.
 
-   With -DLEAVES_EARLY a rank leaves as soon as its own last reduction gave success: the classic bug, which --every-stop finds.
+   With -DSUMS_GO_ON its sums don't block. With -DLEAVES_EARLY a rank leaves as soon as its own last reduction gave success: the classic bug, which --every-stop finds.
 
      ulfm-mpicc -g cg.c -o cg -lm
      ulfm-mpirun -n 4 --every-stop --same-output ./cg
@@ -49,7 +49,15 @@ static void use(MPI_Comm made) {
     MPI_Comm_size(comm, &size);
 }
 
-static int sum(double own, double *all) { return MPI_Allreduce(&own, all, 1, MPI_DOUBLE, MPI_SUM, comm); }
+static int sum(double own, double *all) {
+#ifdef SUMS_GO_ON
+    MPI_Request request;
+    int code = MPI_Iallreduce(&own, all, 1, MPI_DOUBLE, MPI_SUM, comm, &request);
+    return code ? code : MPI_Wait(&request, MPI_STATUS_IGNORE);
+#else
+    return MPI_Allreduce(&own, all, 1, MPI_DOUBLE, MPI_SUM, comm);
+#endif
+}
 
 /* The rows of p beside the own ones come from the neighbours. */
 static int exchange(double *p) {

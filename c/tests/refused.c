@@ -39,6 +39,34 @@ static void collectives(void) {
     REFUSED(MPI_ERR_BUFFER, MPI_Allreduce(x, MPI_IN_PLACE, 1, MPI_INT, MPI_SUM, world));
 }
 
+static void unblocked(void) {
+    int less[8] = {-1, -1, -1, -1, -1, -1, -1, -1}, ones[8] = {1, 1, 1, 1, 1, 1, 1, 1}, zeros[8] = {0};
+    MPI_Datatype types[8], nulls[8], raw;
+    for (int k = 0; k < 8; k++) types[k] = MPI_INT, nulls[k] = MPI_DATATYPE_NULL;
+    MPI_Type_contiguous(2, MPI_INT, &raw);
+    REFUSED(MPI_ERR_COMM, MPI_Ibarrier(none, &request));
+    REFUSED(MPI_ERR_COMM, MPI_Iscan(x, y, 1, MPI_INT, MPI_SUM, none, &request));
+    REFUSED(MPI_ERR_COUNT, MPI_Ibcast(x, -1, MPI_INT, 0, world, &request));
+    REFUSED(MPI_ERR_TYPE, MPI_Ibcast(x, 1, raw, 0, world, &request));
+    REFUSED(MPI_ERR_ROOT, MPI_Ireduce(x, y, 1, MPI_INT, MPI_SUM, size, world, &request));
+    REFUSED(MPI_ERR_OP, MPI_Ireduce(x, y, 1, MPI_INT, MPI_MAXLOC, 0, world, &request));
+    REFUSED(MPI_ERR_OP, MPI_Iallreduce(x, y, 1, MPI_DATATYPE_NULL, MPI_SUM, world, &request));
+    REFUSED(MPI_ERR_OP, MPI_Ireduce_scatter_block(x, y, 1, MPI_INT, MPI_OP_NULL, world, &request));
+    REFUSED(MPI_ERR_BUFFER, MPI_Iallreduce(x, MPI_IN_PLACE, 1, MPI_INT, MPI_SUM, world, &request));
+    REFUSED(MPI_ERR_COUNT, MPI_Ireduce_scatter(x, y, less, MPI_INT, MPI_SUM, world, &request));
+    REFUSED(MPI_ERR_ROOT, MPI_Igather(x, 1, MPI_INT, y, 1, MPI_INT, size, world, &request));
+    REFUSED(MPI_ERR_TYPE, MPI_Iallgather(x, 1, MPI_INT, y, 1, MPI_DATATYPE_NULL, world, &request));
+    REFUSED(MPI_ERR_COUNT, MPI_Ialltoallv(x, less, zeros, MPI_INT, y, ones, zeros, MPI_INT, world, &request));
+    REFUSED(MPI_ERR_COUNT, MPI_Alltoallw(x, ones, zeros, types, y, less, zeros, types, world));
+    REFUSED(MPI_ERR_TYPE, MPI_Alltoallw(x, ones, zeros, nulls, y, ones, zeros, types, world));
+    REFUSED(MPI_ERR_TRUNCATE, MPI_Igather(x, 2, MPI_INT, y, 1, MPI_INT, 0, MPI_COMM_SELF, &request));
+    REFUSED(MPI_ERR_TRUNCATE, MPI_Iscatter(x, 2, MPI_INT, y, 1, MPI_INT, 0, MPI_COMM_SELF, &request));
+    CHECK(MPI_Ibcast(NULL, 0, MPI_INT, 0, world, &request) == MPI_SUCCESS && MPI_Wait(&request, &status) == MPI_SUCCESS);
+    CHECK(MPI_Iallreduce(x, y, 1, MPI_INT, MPI_SUM, world, &request) == MPI_SUCCESS && MPI_Wait(&request, &status) == MPI_SUCCESS);
+    CHECK(status.MPI_SOURCE == 0 && status.MPI_TAG == 0 && MPI_Get_count(&status, MPI_INT, &count) == MPI_SUCCESS && count == 0);
+    MPI_Type_free(&raw);
+}
+
 /* Position 0 alone is wrong. Here what the others sent isn't taken for the next one's, as MPICH does. */
 static void at_the_root(void) {
     int in = rank + 1, out = 0, code = MPI_Reduce(&in, rank ? &out : NULL, 1, MPI_INT, MPI_SUM, 0, world);
@@ -73,8 +101,10 @@ int main(int argc, char **argv) {
     MPI_Comm_rank(world, &rank);
     MPI_Comm_size(world, &size);
     MPI_Comm_set_errhandler(world, MPI_ERRORS_RETURN);
+    MPI_Comm_set_errhandler(MPI_COMM_SELF, MPI_ERRORS_RETURN);
     messages();
     collectives();
+    unblocked();
     at_the_root();
     handles();
     printf("faults: %d\n", faults);

@@ -1,0 +1,123 @@
+/* Collectives that don't block, after failures and revocations, and what they answer to wrong arguments. Rank 1 fails at once. For 4 ranks. */
+#include "check.h"
+#include <unistd.h>
+
+static int rank, size;
+static MPI_Comm world;
+
+static void until_known(void) {
+    MPI_Group failed;
+    int count = 0;
+    while (!count) {
+        MPIX_Comm_get_failed(world, &failed);
+        MPI_Group_size(failed, &count);
+        if (count) MPI_Group_free(&failed);
+    }
+}
+
+static int end(MPI_Request *request) {
+    MPI_Status status;
+    int code = MPI_Wait(request, &status);
+    CHECK(*request == MPI_REQUEST_NULL && status.MPI_ERROR == code);
+    return class_of(code);
+}
+
+/* Who can't have what it asked for, or tell who should have it, has an error; it is told where the request ends. */
+static void failed(void) {
+    int x = rank, y = -1, all[4], more[4], from = rank == 0 ? 5 : -1;
+    MPI_Request request;
+    CHECK(MPI_Iallreduce(&x, &y, 1, MPI_INT, MPI_SUM, world, &request) == MPI_SUCCESS);
+    CHECK(end(&request) == MPIX_ERR_PROC_FAILED && y == -1);
+    CHECK(MPI_Ibarrier(world, &request) == MPI_SUCCESS && end(&request) == MPIX_ERR_PROC_FAILED);
+    CHECK(MPI_Ibcast(&from, 1, MPI_INT, 0, world, &request) == MPI_SUCCESS);
+    CHECK(end(&request) == (rank ? MPI_SUCCESS : MPIX_ERR_PROC_FAILED) && from == 5);
+    CHECK(MPI_Ibcast(&x, 1, MPI_INT, 1, world, &request) == MPI_SUCCESS);
+    CHECK(end(&request) == MPIX_ERR_PROC_FAILED);
+    CHECK(MPI_Igather(&x, 1, MPI_INT, all, 1, MPI_INT, 3, world, &request) == MPI_SUCCESS);
+    CHECK(end(&request) == (rank == 3 ? MPIX_ERR_PROC_FAILED : MPI_SUCCESS) && (rank != 3 || (all[0] == 0 && all[2] == 2 && all[3] == 3)));
+    CHECK(MPI_Ireduce(&x, &y, 1, MPI_INT, MPI_SUM, 1, world, &request) == MPI_SUCCESS);
+    CHECK(end(&request) == MPIX_ERR_PROC_FAILED);
+    CHECK(MPI_Ialltoall(all, 1, MPI_INT, more, 1, MPI_INT, world, &request) == MPI_SUCCESS);
+    CHECK(end(&request) == MPIX_ERR_PROC_FAILED);
+    CHECK(class_of(MPI_Allgather(&x, 1, MPI_INT, all, 1, MPI_INT, world)) == MPIX_ERR_PROC_FAILED);
+}
+
+/* What others of a list of requests are, where one has an error. */
+static void several(void) {
+    int x = rank, y, z;
+    MPI_Request two[2];
+    MPI_Status statuses[2];
+    MPI_Ireduce(&x, &y, 1, MPI_INT, MPI_SUM, 1, world, &two[0]);
+    MPI_Irecv(&z, 1, MPI_INT, MPI_PROC_NULL, 0, world, &two[1]);
+    CHECK(class_of(MPI_Waitall(2, two, statuses)) == MPI_ERR_IN_STATUS);
+    CHECK(statuses[0].MPI_ERROR == MPIX_ERR_PROC_FAILED && statuses[1].MPI_ERROR == MPI_SUCCESS);
+    CHECK(two[0] == MPI_REQUEST_NULL && two[1] == MPI_REQUEST_NULL);
+}
+
+/* Rank 0 is alone in a barrier, a scatter and a sum, until rank 2 revokes. */
+static void revoked(void) {
+    MPI_Request requests[3];
+    MPI_Status statuses[3];
+    MPI_Comm part;
+    int x = 0, y = 7, flag = 0, code;
+    MPIX_Comm_shrink(world, &part);
+    MPI_Comm_set_errhandler(part, MPI_ERRORS_RETURN);
+    if (rank == 0) {
+        MPI_Ibarrier(part, &requests[0]);
+        MPI_Iscatter(NULL, 0, MPI_DATATYPE_NULL, &x, 1, MPI_INT, 1, part, &requests[1]);
+        MPI_Iallreduce(&x, &y, 1, MPI_INT, MPI_SUM, part, &requests[2]);
+        MPI_Testall(3, requests, &flag, statuses);
+        CHECK(!flag && class_of(MPI_Cancel(&requests[0])) == MPI_ERR_REQUEST && class_of(MPI_Request_free(&requests[1])) == MPI_ERR_REQUEST);
+        MPI_Send(&x, 1, MPI_INT, 2, 1, world);
+        code = MPI_Waitall(3, requests, statuses);
+        CHECK(class_of(code) == MPI_ERR_IN_STATUS && statuses[0].MPI_ERROR == MPIX_ERR_REVOKED);
+        for (int k = 0; k < 3; k++) CHECK(requests[k] == MPI_REQUEST_NULL || class_of(MPI_Wait(&requests[k], MPI_STATUS_IGNORE)) == MPIX_ERR_REVOKED);
+        CHECK(y == 7);
+    }
+    if (rank == 2) MPI_Recv(&x, 1, MPI_INT, 0, 1, world, MPI_STATUS_IGNORE), MPIX_Comm_revoke(part);
+    do MPIX_Comm_is_revoked(part, &flag); while (!flag);
+    CHECK(MPI_Iallreduce(&x, &y, 1, MPI_INT, MPI_SUM, part, &requests[0]) == MPI_SUCCESS && end(&requests[0]) == MPIX_ERR_REVOKED);
+    CHECK(class_of(MPI_Gather(&x, 1, MPI_INT, (int[4]){0}, 1, MPI_INT, 0, part)) == MPIX_ERR_REVOKED);
+    MPI_Comm_free(&part);
+}
+
+/* Requests go on while other calls wait, and end in another order. */
+static void overlapping(void) {
+    MPI_Comm part, freed;
+    MPI_Request requests[4];
+    int sum = 0, most = 0, own, token = rank, members, at, sent[3], got[3] = {0}, flag = 0;
+    MPIX_Comm_shrink(world, &part);
+    MPI_Comm_rank(part, &own);
+    MPI_Comm_size(part, &members);
+    MPI_Comm_dup(part, &freed);
+    for (int k = 0; k < 3; k++) sent[k] = 10 * own + k;
+    MPI_Iallreduce(&own, &sum, 1, MPI_INT, MPI_SUM, part, &requests[0]);
+    MPI_Ialltoall(sent, 1, MPI_INT, got, 1, MPI_INT, part, &requests[1]);
+    MPI_Ibcast(&token, 1, MPI_INT, 2, part, &requests[2]);
+    MPI_Iallreduce(&own, &most, 1, MPI_INT, MPI_MAX, freed, &requests[3]);
+    MPI_Comm_free(&freed);
+    MPI_Barrier(part);
+    CHECK(MPI_Wait(&requests[3], MPI_STATUS_IGNORE) == MPI_SUCCESS && most == 2);
+    CHECK(MPI_Wait(&requests[2], MPI_STATUS_IGNORE) == MPI_SUCCESS && token == 3);
+    CHECK(MPI_Waitany(2, requests, &at, MPI_STATUS_IGNORE) == MPI_SUCCESS && requests[at] == MPI_REQUEST_NULL);
+    while (!flag) MPI_Testall(2, requests, &flag, MPI_STATUSES_IGNORE);
+    CHECK(members == 3 && sum == 3 && got[0] == own && got[1] == 10 + own && got[2] == 20 + own);
+    MPI_Comm_free(&part);
+}
+
+int main(int argc, char **argv) {
+    MPI_Init(&argc, &argv);
+    MPI_Comm_rank(MPI_COMM_WORLD, &rank);
+    MPI_Comm_size(MPI_COMM_WORLD, &size);
+    world = MPI_COMM_WORLD;
+    MPI_Comm_set_errhandler(world, MPI_ERRORS_RETURN);
+    if (rank == 1) exit(0);
+    until_known();
+    failed();
+    several();
+    revoked();
+    overlapping();
+    printf("faults: %d\n", faults);
+    MPI_Finalize();
+    return faults != 0;
+}
