@@ -31,20 +31,25 @@ static const char *name_of(const struct comm *comm, char *name, size_t room) {
 }
 
 /* The members that a shrink or an agreement waits for: those that run and aren't in the same one. */
-static uint32_t missing_from(const struct place *place) {
+static uint32_t missing_from(const struct rank *waiting) {
+    const struct place *place = &waiting->place;
     uint32_t bits = 0;
-    if (!place->comm || (strcmp(place->call, "MPIX_Comm_shrink") && strcmp(place->call, "MPIX_Comm_agree"))) return 0;
+    bool agrees = !strcmp(place->call, "MPIX_Comm_agree");
+    if (!place->comm || (strcmp(place->call, "MPIX_Comm_shrink") && !agrees)) return 0;
     for (int k = 0; k < place->comm->size; k++) {
         const struct rank *rank = &ranks[place->comm->members[k]];
-        bool is_there = rank->place.call == place->call && rank->place.comm && rank->place.comm->context == place->comm->context;
+        uint32_t context = place->comm->context;
+        bool is_there = rank->place.call == place->call && rank->place.comm && rank->place.comm->context == context;
+        if (agrees) is_there = atomic_load(&rank->agreed[context]) >= atomic_load(&waiting->agreed[context]);
         if (!rank->has_stopped && !is_there) bits |= 1u << rank->number;
     }
     return bits;
 }
 
-static void tell_peer(const struct place *place, char *text, size_t room) {
+static void tell_peer(const struct rank *rank, char *text, size_t room) {
+    const struct place *place = &rank->place;
     size_t used = 0;
-    uint32_t waits_for = place->waits_for | missing_from(place);
+    uint32_t waits_for = place->waits_for | missing_from(rank);
     if (place->peer == MPI_ANY_SOURCE) used += snprintf(text + used, room - used, " from any source");
     else if (place->peer == MPI_PROC_NULL) used += snprintf(text + used, room - used, " with nobody");
     else if (place->peer >= 0) used += snprintf(text + used, room - used, " with %d", place->peer);
@@ -69,7 +74,7 @@ static void tell_place(const struct rank *rank) {
         return;
     }
     report("at %d %s\n", rank->number, place->call);
-    tell_peer(place, peer, sizeof peer);
+    tell_peer(rank, peer, sizeof peer);
     fprintf(stderr, "%s %s%s%s%s (call %d)\n", rank->idle ? "waits in" : "runs, after", place->call, peer,
             name_of(place->comm, name, sizeof name), line, rank->calls);
 }

@@ -249,12 +249,15 @@ int MPI_Info_get_nthkey(MPI_Info info, int n, char *key);
 int MPI_Comm_set_info(MPI_Comm comm, MPI_Info info);
 int MPI_Comm_get_info(MPI_Comm comm, MPI_Info *info);
 
-/* ---- Recovery (ULFM). ---- */
+/* ---- Recovery (ULFM). *made and *flag of those that don't block stand there when the request is over, which has the error of the call that blocks.
+   MPI_ERR_OTHER: a shrink or an agreement of the communicator isn't over yet. ---- */
 
 int MPIX_Comm_revoke(MPI_Comm comm);
 int MPIX_Comm_is_revoked(MPI_Comm comm, int *flag);
 int MPIX_Comm_shrink(MPI_Comm comm, MPI_Comm *made);
+int MPIX_Comm_ishrink(MPI_Comm comm, MPI_Comm *made, MPI_Request *request);
 int MPIX_Comm_agree(MPI_Comm comm, int *flag);
+int MPIX_Comm_iagree(MPI_Comm comm, int *flag, MPI_Request *request);
 int MPIX_Comm_get_failed(MPI_Comm comm, MPI_Group *failed);
 int MPIX_Comm_ack_failed(MPI_Comm comm, int count, int *acknowledged);
 int MPIX_Comm_failure_ack(MPI_Comm comm);

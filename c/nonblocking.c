@@ -36,9 +36,10 @@ void look_at_collective(struct request *collective) {
     end_request(collective, code);
 }
 
-/* The world ranks whose messages a request waits for, as bits; of collectives alone. */
+/* The world ranks that a collective or an agreement waits for, as bits. */
 uint32_t awaited_by(const struct request *request) {
     uint32_t bits = 0;
+    if (request->kind == RECOVERY) return missing_from_agreement(request);
     for (int k = 0; k < MAX_RANKS && request->kind == COLLECTIVE; k++)
         if (request->parts[k] && !request->parts[k]->over) bits |= 1u << request->comm->members[k];
     return bits;

@@ -55,9 +55,11 @@ static bool turn(void) {
     return true;
 }
 
-/* Something came, perhaps: tells the senders that wait for a match. */
+/* Something came, perhaps: tells the senders that wait for a match, and looks at shrinks and agreements that are open. */
 static void look_at_open(void) {
-    if (!me->has_stopped && atomic_load(&me->waited_for) > 0) look_at_all();
+    if (me->has_stopped) return;
+    if (atomic_load(&me->waited_for) > 0) look_at_all();
+    if (me->recoveries > 0) look_at_recoveries();
 }
 
 /* Moves what goes out, and takes one item that came. Whether anything moved. */

@@ -20,7 +20,8 @@ enum {
     NO_COLLECTIVES = MPI_ERR_OTHER | 2 << 8,
     TOO_MANY_ROUNDS = MPI_ERR_OTHER | 3 << 8,
     NOT_ON_PARTS = MPI_ERR_COMM | 5 << 8,
-    TAKEN_FOR_FAILED = MPI_ERR_OTHER | 6 << 8
+    TAKEN_FOR_FAILED = MPI_ERR_OTHER | 6 << 8,
+    ONE_AT_A_TIME = MPI_ERR_OTHER | 7 << 8
 };
 
 /* The contexts of one group that were made by duplication: the first one, its duplicate (for collectives), that one's, and so on. */
@@ -88,8 +89,9 @@ struct parcel {
     unsigned char bytes[];
 };
 
-/* What a request is: a buffered send, a send that waits for its match, a receive, a collective, one that starts others, or nothing that could go on. */
-enum kind { SENT, SYNCHRONOUS, RECEIVE, COLLECTIVE, PERSISTENT, NOTHING };
+/* What a request is: a buffered send, a send that waits for its match, a receive, a collective, a shrink or an agreement, one that starts others, or
+   nothing that could go on. */
+enum kind { SENT, SYNCHRONOUS, RECEIVE, COLLECTIVE, RECOVERY, PERSISTENT, NOTHING };
 
 struct landing;
 struct start;
@@ -113,6 +115,8 @@ struct request {
     MPI_Status status;
     struct request *next, *previous;   /* of the open receives, or of those that can be used again */
     int handle;
+    void (*look)(struct request *);     /* of a shrink or an agreement: looks at it once */
+    void *more;                         /* what that knows of it */
     struct reduction *reduction;        /* of a collective: what is folded at its end, or null */
     struct request *parts[MAX_RANKS];   /* of a collective: its receives, by positions */
 };
@@ -153,6 +157,7 @@ struct rank {
     bool has_begun, has_finalized, has_stopped;
     bool is_planned;          /* it stopped by plan */
     struct place place;
+    int recoveries;           /* requests of shrinks and agreements */
     int impatience;           /* by how much it looks less before it yields, where looks were in vain */
     int calls, insides;       /* calls that count; places inside the last one */
     int status;               /* of main */

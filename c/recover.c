@@ -1,4 +1,5 @@
-/* Recovery from failures (ULFM). Shrink and agree are the engine's: all members that run have to call them, and none ends before that. */
+/* Recovery from failures (ULFM): revocations, shrinks, and failures that are known. Shrinks are the engine's, as agreements in agree.c: all members that run have
+   to call them, and none ends before that. */
 #include "run.h"
 #include <stdlib.h>
 #include <string.h>
@@ -26,8 +27,10 @@ int MPIX_Comm_is_revoked(MPI_Comm comm, int *flag) {
 /* ---- Shrink ---- */
 
 struct shrink {
+    struct comm *comm;
     uint32_t context, made;
     uint32_t code;
+    MPI_Comm *handle;
 };
 
 static bool is_shrunk(void *of, bool is_settled) {
@@ -38,112 +41,60 @@ static bool is_shrunk(void *of, bool is_settled) {
     return shrink->code != ULFM_NOT_YET;
 }
 
-/* A communicator of the members that run. One that was shrunk before gives a shrink of what came of it: its members are among those. */
-int MPIX_Comm_shrink(MPI_Comm comm, MPI_Comm *made) {
-    struct comm *of = comm_at(comm);
-    ENTER(of, MPI_UNDEFINED, MPI_UNDEFINED);
-    if (!of) return fail(0, MPI_ERR_COMM);
-    if (of->is_part) return fail(of, NOT_ON_PARTS);
-    struct shrink shrink = {.context = of->context};
-    while (me->shrunk[shrink.context]) shrink.context = me->shrunk[shrink.context];
-    shrink.code = ulfm_enter_shrink(me->slot, shrink.context);
-    if (shrink.code != ULFM_OK) return fail(of, class_of(shrink.code));
+/* Enters a shrink. One that was shrunk before gives a shrink of what came of it: its members are among those. */
+static int enter(struct shrink *shrink, struct comm *comm, MPI_Comm *handle) {
+    *shrink = (struct shrink){.comm = comm, .context = comm->context, .handle = handle};
+    if (comm->is_part) return NOT_ON_PARTS;
+    while (me->shrunk[shrink->context]) shrink->context = me->shrunk[shrink->context];
+    shrink->code = ulfm_enter_shrink(me->slot, shrink->context);
+    if (shrink->code != ULFM_OK) return shrink->code == ULFM_ALREADY_MADE ? ONE_AT_A_TIME : class_of(shrink->code);
     progress();
     plan_inside();
-    wait_until(is_shrunk, &shrink, true);
-    if (shrink.code != ULFM_OK) return fail(of, class_of(shrink.code));
-    me->shrunk[shrink.context] = shrink.made;
-    plan_inside();
-    struct chain *chain = new_chain(shrink.made);
-    struct group before;
-    group_of(of, &before);
-    struct comm *shrunk = chain ? new_comm(chain, 0, of->handler, &before) : 0;
-    if (!shrunk) return fail(of, MPI_ERR_NO_MEM);
-    *made = handle_of(shrunk);
     return MPI_SUCCESS;
 }
 
-/* ---- Agree ---- */
-
-struct agreement {
-    const struct comm *comm;
-    uint32_t context, code, value;
-    ulfm_group missing;
-};
-
-/* Whether each member is in the agreement that this rank is in, was in it, or has left: else there can't be a decision, and the engine's answer, which takes
-   the longer the more agreements there were, needn't be asked for. */
-static bool can_be_agreed(const struct agreement *agreement) {
-    uint32_t own = atomic_load(&me->agreed[agreement->context]);
-    for (int k = 0; k < agreement->comm->size; k++) {
-        const struct rank *rank = &ranks[agreement->comm->members[k]];
-        if (atomic_load(&rank->agreed[agreement->context]) < own && !atomic_load(&rank->is_gone)) return false;
-    }
-    return true;
+/* Makes the communicator of the members that run. */
+static int adopt(struct shrink *shrink) {
+    if (shrink->code != ULFM_OK) return class_of(shrink->code);
+    me->shrunk[shrink->context] = shrink->made;
+    struct chain *chain = new_chain(shrink->made);
+    struct group before;
+    group_of(shrink->comm, &before);
+    struct comm *shrunk = chain ? new_comm(chain, 0, shrink->comm->handler, &before) : 0;
+    if (!shrunk) return MPI_ERR_NO_MEM;
+    *shrink->handle = handle_of(shrunk);
+    return MPI_SUCCESS;
 }
 
-static bool is_agreed(void *of, bool is_settled) {
-    struct agreement *agreement = of;
-    (void)is_settled;
-    if (!can_be_agreed(agreement)) return false;
-    agreement->code = ulfm_poll_agree(me->slot, agreement->context, &agreement->value, &agreement->missing);
-    if (agreement->code == ULFM_OK) moved();
-    return agreement->code != ULFM_NOT_YET;
-}
-
-/* One agreement of the engine: the AND of the flags of all members but those that are missing. */
-static int agree_on(struct comm *comm, uint32_t flag, struct agreement *agreement) {
-    *agreement = (struct agreement){.comm = comm, .context = comm->context};
-    uint32_t code = ulfm_enter_agree(me->slot, comm->context, flag);
-    if (code == ULFM_OK) {
-        atomic_fetch_add(&me->agreed[comm->context], 1);   /* before its word goes out */
-        progress();
-        plan_inside();
-        wait_until(is_agreed, agreement, true);
-        code = agreement->code;
-        plan_inside();
-    }
-    return code == ULFM_OUT_OF_MEMORY ? TOO_MANY_ROUNDS : class_of(code);
-}
-
-static uint32_t bits_of(const ulfm_group *group, uint32_t count) {
-    uint32_t bits = 0;
-    for (uint32_t k = 0; k < group->size && k < count; k++) bits |= 1u << group->members[k];
-    return bits;
-}
-
-/* The world ranks whose failures this rank has acknowledged. */
-static uint32_t acknowledged_bits(const struct comm *comm) {
-    ulfm_group failed;
-    return ulfm_get_failed(me->slot, comm->context, &failed) == ULFM_OK ? bits_of(&failed, comm->acknowledged) : 0;
-}
-
-/* The AND of all flags, and MPIX_ERR_PROC_FAILED alike at all members where one is missing whose failure isn't acknowledged at each. One agreement
-   carries the acknowledged ranks in bits 24 to 31 and the flag in bits 0 to 22, of which the last stands for all above. Bit 23 says that this is
-   all of it; where it isn't for some member, a second agreement has the whole flags. */
-static int agree(struct comm *comm, int *flag) {
-    struct agreement agreement;
-    uint32_t own = (uint32_t)*flag, low = own & 0x7fffff;
-    bool is_short = (own & 0xffc00000) == 0 || (own & 0xffc00000) == 0xffc00000;
-    int code = agree_on(comm, acknowledged_bits(comm) << 24 | (uint32_t)is_short << 23 | low, &agreement);
-    if (code != MPI_SUCCESS) return code;
-    uint32_t acknowledged = agreement.value >> 24, value = agreement.value & 0x7fffff;
-    if (value & 0x400000) value |= 0xff800000;
-    if (!(agreement.value >> 23 & 1)) {
-        code = agree_on(comm, own, &agreement);
-        if (code != MPI_SUCCESS) return code;
-        value = agreement.value;
-    }
-    *flag = (int)value;
-    return bits_of(&agreement.missing, MAX_RANKS) & ~acknowledged ? MPIX_ERR_PROC_FAILED : MPI_SUCCESS;
-}
-
-int MPIX_Comm_agree(MPI_Comm comm, int *flag) {
+int MPIX_Comm_shrink(MPI_Comm comm, MPI_Comm *made) {
     struct comm *of = comm_at(comm);
+    struct shrink shrink;
     ENTER(of, MPI_UNDEFINED, MPI_UNDEFINED);
     if (!of) return fail(0, MPI_ERR_COMM);
-    if (of->is_part) return fail(of, of->size > 1 ? NOT_ON_PARTS : MPI_SUCCESS);
-    return fail(of, agree(of, flag));
+    WRITES(of, made);
+    int code = enter(&shrink, of, made);
+    if (code != MPI_SUCCESS) return fail(of, code);
+    wait_until(is_shrunk, &shrink, true);
+    if (shrink.code == ULFM_OK) plan_inside();
+    return fail(of, adopt(&shrink));
+}
+
+static void look_at_shrink(struct request *request) {
+    struct shrink *shrink = request->more;
+    if (is_shrunk(shrink, true)) end_request(request, adopt(shrink));
+}
+
+/* *made is there when the request is over. */
+int MPIX_Comm_ishrink(MPI_Comm comm, MPI_Comm *made, MPI_Request *handle) {
+    struct comm *of = comm_at(comm);
+    struct request *request;
+    ENTER(of, MPI_UNDEFINED, MPI_UNDEFINED);
+    if (!of) return fail(0, MPI_ERR_COMM);
+    WRITES(of, made && handle);
+    *handle = MPI_REQUEST_NULL;
+    int code = new_recovery(of, look_at_shrink, sizeof(struct shrink), &request);
+    if (code == MPI_SUCCESS) code = enter(request->more, of, made);
+    return give_recovery(of, code, request, handle);
 }
 
 /* ---- Failures that are known ---- */

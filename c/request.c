@@ -39,6 +39,7 @@ struct request *new_request(enum kind kind, struct comm *comm, int peer, int tag
     request->handle = place + 1;
     request->status = (MPI_Status){.MPI_SOURCE = peer, .MPI_TAG = tag};
     me->requests[place] = request;
+    if (kind == RECOVERY) me->recoveries++;
     return request;
 }
 
@@ -60,6 +61,8 @@ void free_request(struct request *request) {
     free_landing(request->landing);
     free_start(request->start);
     free_reduction(request->reduction);
+    if (request->kind == RECOVERY) me->recoveries--;
+    free(request->more);
     me->requests[request->handle - 1] = 0;
     if (request->handle - 1 < me->first_free) me->first_free = request->handle - 1;
     request->next = me->spare;
@@ -154,6 +157,10 @@ int look_at(struct request *request) {
         look_at_collective(request);
         return MPI_SUCCESS;
     }
+    if (request->kind == RECOVERY) {
+        request->look(request);
+        return MPI_SUCCESS;
+    }
     uint8_t letter[BODY];
     ulfm_status told;
     uint32_t code = ulfm_test(me->slot, request->id, &told, letter, sizeof letter);
@@ -194,6 +201,7 @@ void clear_requests(void) {
         if (request) free_landing(request->landing);
         if (request) free_start(request->start);
         if (request) free_reduction(request->reduction);
+        if (request) free(request->more);
         free(request);
     }
     free(me->requests);

@@ -149,6 +149,12 @@ void post_data(struct request *collective, int from, void *buf, int count, MPI_D
 int wait_for_collective(struct comm *comm, int code, struct request **made);
 int give_collective(struct comm *comm, int code, struct request **made, MPI_Request *handle);
 
+/* agree.c */
+int new_recovery(struct comm *comm, void (*look)(struct request *), size_t bytes, struct request **made);
+int give_recovery(struct comm *comm, int code, struct request *request, MPI_Request *handle);
+void look_at_recoveries(void);
+uint32_t missing_from_agreement(const struct request *request);
+
 /* info.c */
 bool is_info(MPI_Info handle);
 void clear_infos(void);

@@ -54,13 +54,17 @@ static void several(void) {
     CHECK(two[0] == MPI_REQUEST_NULL && two[1] == MPI_REQUEST_NULL);
 }
 
-/* Rank 0 is alone in a barrier, a scatter and a sum, until rank 2 revokes. */
+/* Rank 0 is alone in a barrier, a scatter and a sum, until rank 2 revokes; rank 3 has the communicator only after that. */
 static void revoked(void) {
     MPI_Request requests[3];
     MPI_Status statuses[3];
     MPI_Comm part;
     int x = 0, y = 7, flag = 0, code;
-    MPIX_Comm_shrink(world, &part);
+    if (rank != 3) usleep(50000);
+    MPIX_Comm_ishrink(world, &part, &requests[0]);
+    if (rank == 3) usleep(200000);
+    while (!flag) CHECK(MPI_Test(&requests[0], &flag, MPI_STATUS_IGNORE) == MPI_SUCCESS);
+    flag = 0;
     MPI_Comm_set_errhandler(part, MPI_ERRORS_RETURN);
     if (rank == 0) {
         MPI_Ibarrier(part, &requests[0]);
@@ -105,6 +109,43 @@ static void overlapping(void) {
     MPI_Comm_free(&part);
 }
 
+/* Agreements and shrinks that don't block; one of each of a communicator at a time. */
+static void recoveries(void) {
+    int flag = rank == 0 ? 6 : 7, other = 1, x = 0, members, sum;
+    MPI_Comm made = MPI_COMM_NULL, more;
+    MPI_Request request, second;
+    CHECK(MPIX_Comm_iagree(world, &flag, &request) == MPI_SUCCESS);
+    CHECK(end(&request) == MPIX_ERR_PROC_FAILED && flag == 6);
+    MPIX_Comm_failure_ack(world);
+    flag = rank == 2 ? 0x40000001 : 0x7fffff01;   /* takes two agreements of the engine: ranks 0 and 3 enter the second while they wait for rank 2 */
+    CHECK(MPIX_Comm_iagree(world, &flag, &request) == MPI_SUCCESS);
+    if (rank == 2) CHECK(end(&request) == MPI_SUCCESS);
+    for (int to = 0; rank == 2 && to < 4; to += 3) MPI_Send(&rank, 1, MPI_INT, to, 9, world);
+    if (rank != 2) MPI_Recv(&x, 1, MPI_INT, 2, 9, world, MPI_STATUS_IGNORE);
+    CHECK(rank == 2 || (x == 2 && end(&request) == MPI_SUCCESS));
+    CHECK(flag == 0x40000001);
+    if (rank == 0) {
+        CHECK(MPIX_Comm_iagree(world, &flag, &request) == MPI_SUCCESS);
+        CHECK(class_of(MPIX_Comm_iagree(world, &other, &second)) == MPI_ERR_OTHER && second == MPI_REQUEST_NULL);
+        CHECK(class_of(MPI_Cancel(&request)) == MPI_ERR_REQUEST);
+        MPI_Send(&x, 1, MPI_INT, 2, 9, world), MPI_Send(&x, 1, MPI_INT, 3, 9, world);
+        CHECK(end(&request) == MPI_SUCCESS);
+    } else {
+        MPI_Recv(&x, 1, MPI_INT, 0, 9, world, MPI_STATUS_IGNORE);
+        CHECK(MPIX_Comm_agree(world, &flag) == MPI_SUCCESS);
+    }
+    CHECK(flag == 0x40000001);
+    CHECK(MPIX_Comm_ishrink(world, &made, &request) == MPI_SUCCESS);
+    MPI_Comm_size(world, &members);
+    CHECK(end(&request) == MPI_SUCCESS && made != MPI_COMM_NULL);
+    MPI_Comm_size(made, &members);
+    CHECK(members == 3 && MPI_Allreduce(&rank, &sum, 1, MPI_INT, MPI_SUM, made) == MPI_SUCCESS && sum == 5);
+    CHECK(MPI_Comm_split(made, 0, 0, &more) == MPI_SUCCESS);
+    CHECK(class_of(MPIX_Comm_ishrink(MPI_COMM_NULL, &made, &request)) == MPI_ERR_COMM);
+    MPI_Comm_free(&more);
+    MPI_Comm_free(&made);
+}
+
 int main(int argc, char **argv) {
     MPI_Init(&argc, &argv);
     MPI_Comm_rank(MPI_COMM_WORLD, &rank);
@@ -117,6 +158,7 @@ int main(int argc, char **argv) {
     several();
     revoked();
     overlapping();
+    recoveries();
     printf("faults: %d\n", faults);
     MPI_Finalize();
     return faults != 0;
