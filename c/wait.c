@@ -150,11 +150,15 @@ static bool are_done(void *of, bool is_settled) {
     return several->wants_all ? several->over == several->active : several->over > 0;
 }
 
-/* The communicator of the first request with an error, for its handler. */
+/* The communicator of the first request with an error, else of the first one that pends, for its handler. */
 static struct comm *comm_of_error(const struct several *several) {
     for (int k = 0; k < several->count; k++) {
         struct request *request = active_at(several->handles[k]);
-        if (request && (!request->over || request->code != MPI_SUCCESS)) return request->comm;
+        if (request && request->over && request->code != MPI_SUCCESS) return request->comm;
+    }
+    for (int k = 0; k < several->count; k++) {
+        struct request *request = active_at(several->handles[k]);
+        if (request && look_at(request)) return request->comm;
     }
     return 0;
 }

@@ -54,6 +54,33 @@ static void several(void) {
     CHECK(two[0] == MPI_REQUEST_NULL && two[1] == MPI_REQUEST_NULL);
 }
 
+static MPI_Comm told;
+static void note(MPI_Comm *comm, int *code, ...) { told = *comm, (void)code; }
+
+/* The handler that is called is that of the request with the error, not that of one before it that isn't over. */
+static void handled(void) {
+    int x = rank, z, count, at[2];
+    MPI_Request two[2];
+    MPI_Status statuses[2];
+    MPI_Errhandler handler;
+    MPI_Comm_create_errhandler(note, &handler);
+    MPI_Comm_set_errhandler(world, handler);
+    MPI_Comm_set_errhandler(MPI_COMM_SELF, handler);
+    MPI_Irecv(&z, 1, MPI_INT, 0, 0, MPI_COMM_SELF, &two[0]);
+    for (int how = 0; how < 2; how++) {
+        MPI_Ireduce(&x, &z, 1, MPI_INT, MPI_SUM, 1, world, &two[1]);
+        told = MPI_COMM_NULL;
+        CHECK(class_of(how ? MPI_Waitsome(2, two, &count, at, statuses) : MPI_Waitall(2, two, statuses)) == MPI_ERR_IN_STATUS);
+        CHECK(told == world && two[0] != MPI_REQUEST_NULL && two[1] == MPI_REQUEST_NULL);
+        CHECK(how ? count == 1 && at[0] == 1 : statuses[0].MPI_ERROR == MPI_ERR_PENDING);
+    }
+    MPI_Cancel(&two[0]);
+    MPI_Wait(&two[0], MPI_STATUS_IGNORE);
+    MPI_Comm_set_errhandler(MPI_COMM_SELF, MPI_ERRORS_ARE_FATAL);
+    MPI_Comm_set_errhandler(world, MPI_ERRORS_RETURN);
+    MPI_Errhandler_free(&handler);
+}
+
 /* Rank 0 is alone in a barrier, a scatter and a sum, until rank 2 revokes; rank 3 has the communicator only after that. */
 static void revoked(void) {
     MPI_Request requests[3];
@@ -156,6 +183,7 @@ int main(int argc, char **argv) {
     until_known();
     failed();
     several();
+    handled();
     revoked();
     overlapping();
     recoveries();
