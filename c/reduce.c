@@ -1,5 +1,6 @@
 /* Reductions (MPI 4.0, 6.9 and 6.11): position 0 gets all parts and folds them in the order of positions, so that each run gives the same bits. */
 #include "reduce.h"
+#include "type.h"
 #include <stdlib.h>
 #include <string.h>
 
@@ -151,9 +152,9 @@ void take_own_elements(struct reduction *of, const int counts[], int count) {
 
 /* Delivers those elements, or all. */
 void deliver_own_elements(struct reduction *of, void *recvbuf) {
-    size_t each = of->count ? of->bytes / (size_t)of->count : 0;
-    if (of->is_scattered) of->bytes = each * (size_t)of->own, of->count = of->own;
-    deliver(of, of->result + VERDICT + each * (size_t)of->before, recvbuf);
+    ptrdiff_t each = extent_of(type_at(of->type));
+    if (of->is_scattered) of->bytes = (size_t)(each * of->own), of->count = of->own;
+    deliver(of, of->result + VERDICT + each * of->before, recvbuf);
 }
 
 /* Position 0 tells all the result, of which each takes its own elements. */

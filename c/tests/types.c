@@ -108,6 +108,36 @@ static void freed(void) {
     CHECK(in[0] == before && in[1] == -1 && in[2] == before + 1 && in[3] == -1);
 }
 
+/* Each column of a matrix is summed for one rank: the extent of a column is less than its reach. */
+static void add_columns(void *in, void *into, int *count, MPI_Datatype *type) {
+    (void)type;
+    for (int k = 0; k < *count; k++)
+        for (int row = 0; row < 2; row++) ((int (*)[8])into)[row][k] += ((int (*)[8])in)[row][k];
+}
+
+static void interleaved(void) {
+    int a[2][8], sum[2][8], ones[8] = {1, 1, 1, 1, 1, 1, 1, 1};
+    MPI_Datatype made, column;
+    MPI_Request request = MPI_REQUEST_NULL;
+    MPI_Op add;
+    MPI_Type_vector(2, 1, 8, MPI_INT, &made);
+    MPI_Type_create_resized(made, 0, sizeof(int), &column);
+    MPI_Type_commit(&column);
+    MPI_Op_create(add_columns, 1, &add);
+    for (int how = 0; how < 4; how++) {
+        for (int k = 0; k < 16; k++) a[k / 8][k % 8] = k + rank, sum[k / 8][k % 8] = -1;
+        if (how == 0) MPI_Reduce_scatter_block(a, sum, 1, column, add, world);
+        else if (how == 1) MPI_Reduce_scatter(a, sum, ones, column, add, world);
+        else if (how == 2) MPI_Ireduce_scatter_block(a, sum, 1, column, add, world, &request);
+        else MPI_Ireduce_scatter(a, sum, ones, column, add, world, &request);
+        MPI_Wait(&request, MPI_STATUS_IGNORE);
+        for (int row = 0; row < 2; row++) CHECK(sum[row][0] == size * (8 * row + rank) + size * (size - 1) / 2 && sum[row][1] == -1);
+    }
+    MPI_Op_free(&add);
+    MPI_Type_free(&made);
+    MPI_Type_free(&column);
+}
+
 int main(int argc, char **argv) {
     int all = 0;
     MPI_Init(&argc, &argv);
@@ -121,6 +151,7 @@ int main(int argc, char **argv) {
     blocks();
     packed();
     freed();
+    interleaved();
     MPI_Reduce(&faults, &all, 1, MPI_INT, MPI_SUM, 0, world);
     if (rank == 0) printf("faults: %d\n", all);
     MPI_Finalize();
