@@ -81,8 +81,9 @@ void send_data(struct request *collective, int to, const void *buf, int count, M
     int code;
     if (to == collective->comm->position) return;
     check_buffer(count, type, &bytes, &code);
-    note(collective, pack_data(buf, count, type, &data, &packed));
-    for (int k = 0; k < collective->comm->size && collective->code != MPI_ERR_NO_MEM; k++)
+    code = pack_data(buf, count, type, &data, &packed);
+    note(collective, code);
+    for (int k = 0; k < collective->comm->size && code == MPI_SUCCESS; k++)
         if (to == k || to == MPI_UNDEFINED) send_bytes(collective, k, data, bytes);
     free(packed);
 }

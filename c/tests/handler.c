@@ -1,5 +1,6 @@
 /* The tutorial's way: a handler that revokes, shrinks, and jumps back to where the work begins again. Rank 2 stops by plan. */
 #include "check.h"
+#include <mpi-ext.h>
 #include <setjmp.h>
 
 static jmp_buf again;
