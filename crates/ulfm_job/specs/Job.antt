@@ -1,14 +1,15 @@
 -- What contracts see of a job.
-use Rattle.std.specs.Prelude.{◌≡◌, ◌==◌, ◌<◌, ◌≤◌, ◌+◌, ◌&&◌, ℕ, Bool, true, false, List, [], Option, Some, None, length, map, sum_by, filter, slice_index_or, slice_set, nat_le, nat_lt, Vec, if◌then◌else◌}
-use Rattle.std.specs.List.{insert}
+use Rattle.std.specs.Prelude.{◌≡◌, ◌==◌, ◌<◌, ◌≤◌, ◌+◌, ◌&&◌, ◌∷◌, ◌++◌, ℕ, Bool, true, false, not, is_some, List, [], Option, Some, None, length, map, sum_by, filter, slice_get, slice_index_or, slice_set, nat_le, nat_lt, Vec, if◌then◌else◌}
+use Rattle.std.specs.List.{insert, list_any}
 use Rattle.std.specs.declared.alloc.Global.{Global}
 use Rattle.ulfm_job.specs.declared.clause.Clause.{Clause}
+use Rattle.ulfm_job.specs.declared.left_step.LeftStep.{LeftStep}
 use Rattle.ulfm_job.specs.declared.step.Step.{Step}
 use Rattle.ulfm_base.specs.declared.context.Context.{Context}
 use Rattle.ulfm_job.specs.declared.step.Step.TheVariants.{Send, Wait, Mrecv, Cancel, Shrink, Agree, Stop}
 
 -- how many ranks there are, the room of an inbox, the most polls of one step, the steps of each rank, on what conditions some are
--- played, and what some expect of their answers
+-- played, what some expect of their answers, and which may be given up though polls are left
 pub record JobView : Type 0 where
   pub ranks : ℕ
   pub capacity : ℕ
@@ -16,6 +17,7 @@ pub record JobView : Type 0 where
   pub scripts : List (List Step)
   pub conditions : List Clause
   pub expected : List Clause
+  pub left : List LeftStep
 
 -- how many steps there are in all
 abbrev pub step_count : List (List Step) → ℕ
@@ -25,7 +27,7 @@ step_count scripts = sum_by length scripts
 abbrev pub lists_of : List (Vec Step Global) → List (List Step)
 lists_of scripts = map (λ script. script.items) scripts
 
--- a job by its parts
+-- a job by its parts, of which no step may be given up early
 abbrev pub job_view : ℕ → ℕ → List (Vec Step Global) → List Clause → List Clause → JobView
 job_view capacity turns scripts conditions expected = record {
   ranks = length scripts;
@@ -34,7 +36,12 @@ job_view capacity turns scripts conditions expected = record {
   scripts = lists_of scripts;
   conditions = conditions;
   expected = expected;
+  left = [];
 }
+
+-- a job of which these steps may be given up though polls are left, and no others
+abbrev pub leaving : List LeftStep → JobView → JobView
+leaving left j = record j { left = left }
 
 -- a job with another number of turns
 abbrev pub with_turns : ℕ → JobView → JobView
@@ -64,12 +71,28 @@ abbrev pub moved_clause : ℕ → ℕ → ℕ → Clause → Clause
 moved_clause r at n c =
     if c.rank == r then record c { at = moved_number at n c.at; step = moved_number at n c.step } else c
 
+-- a step that may be given up, once a rank whose script has n steps has one more before its step `at`
+abbrev pub moved_left : ℕ → ℕ → ℕ → LeftStep → LeftStep
+moved_left r at n l = if l.rank == r then record l { at = moved_number at n l.at } else l
+
 -- a job with one more step, a stop before the step `at` of the rank r
 abbrev pub with_stop : ℕ → ℕ → JobView → JobView
 with_stop r at j = record j {
   scripts = slice_set j.scripts r (stopped_at at (script_at j r));
   conditions = map (moved_clause r at (length (script_at j r))) j.conditions;
   expected = map (moved_clause r at (length (script_at j r))) j.expected;
+  left = map (moved_left r at (length (script_at j r))) j.left;
+}
+
+-- the clause is of another step than the step `at` of the rank r
+abbrev pub is_of_other : ℕ → ℕ → Clause → Bool
+is_of_other r at c = not (c.rank == r && c.at == at)
+
+-- a job of which the step `at` of the rank r may be given up though polls are left: then nothing is expected of its answer
+abbrev pub with_left : ℕ → ℕ → JobView → JobView
+with_left r at j = record j {
+  expected = filter (is_of_other r at) j.expected;
+  left = j.left ++ record { rank = r; at = at } ∷ [];
 }
 
 -- the ranges of a job
@@ -107,3 +130,21 @@ is_agreement_step _ = false
 -- how many steps of a script are agreements
 abbrev pub agreements_in : List Step → ℕ
 agreements_in script = length (filter is_agreement_step script)
+
+-- ranks decide the step together, if there is one
+abbrev pub is_decided_together : Option Step → Bool
+is_decided_together None = false
+is_decided_together (Some step) = is_some (decides_on step)
+
+-- this is the step k of the rank r
+abbrev pub is_left : ℕ → ℕ → LeftStep → Bool
+is_left r k l = l.rank == r && l.at == k
+
+-- The step k of the rank r may be given up though polls are left, once it stands open: it is one of those that may, and ranks decide it
+-- together.
+abbrev pub may_leave : JobView → ℕ → ℕ → Bool
+may_leave j r k = is_decided_together (slice_get (script_at j r) k) && list_any (is_left r k) j.left
+
+-- the polls after which a step that stands open is given up by `replay` and `run`: the first, where it may be given up then
+abbrev pub turns_at : JobView → ℕ → ℕ → ℕ
+turns_at j r k = if may_leave j r k then 1 else j.turns

@@ -1,18 +1,22 @@
 //! A job.
-ghost use Rattle.std.specs.Prelude.{◌≡◌, ◌≢◌, ◌<◌, ◌≤◌, IfErr, IfOk, Err, option_map, slice_get, length, ℕ, ◌⊎◌};
-ghost use Rattle.ulfm_job.specs.Job.{IsJob, step_count, script_at, agreements_in};
+ghost use Rattle.std.specs.Prelude.{◌≡◌, ◌≢◌, ◌<◌, ◌≤◌, IfErr, IfOk, Err, option_map, slice_get, filter, length, ℕ, ◌⊎◌};
+ghost use Rattle.ulfm_job.specs.Job.{IsJob, step_count, script_at, agreements_in, is_decided_together, is_left, is_of_other, may_leave, turns_at};
+ghost use Rattle.std.specs.List.{list_any};
 
 use crate::clause::Clause;
 use crate::fault::JobFault;
+use crate::left_step::LeftStep;
 use crate::step::Step;
-use crate::stopped::{copied_scripts, moved_clauses, stopped_at};
+use crate::stopped::{copied_scripts, moved_clauses, moved_left, stopped_at};
 use std::marker::Model;
+use ulfm_base::OutOfMemory;
 
 /// The most steps of a job.
 pub const MOST_STEPS: usize = 256;
 
 /// What 1 to 8 ranks are to do: the room of an inbox (1 to 64 items), the most polls of one step (1 to 10,000,000),
-/// the steps of each rank, 256 at most in all, on what conditions some are played, and what some expect of their answers.
+/// the steps of each rank, 256 at most in all, on what conditions some are played, what some expect of their answers, and which may be
+/// given up early.
 #[derive(Drop)]
 pub struct Job {
     capacity: u8,
@@ -20,22 +24,24 @@ pub struct Job {
     scripts: Vec<Vec<Step>>,
     conditions: Vec<Clause>,
     expected: Vec<Clause>,
+    left: Vec<LeftStep>,
 }
 
 impl Model for Job {
-    ghost use Rattle.ulfm_job.specs.Job.{JobView, IsJob, job_view};
+    ghost use Rattle.ulfm_job.specs.Job.{JobView, IsJob, job_view, leaving};
 
     ghost Value = { JobView };
 
-    ghost view = { λ j. job_view j.capacity j.turns j.scripts.items j.conditions.items j.expected.items };
+    ghost view = { λ j. leaving j.left.items (job_view j.capacity j.turns j.scripts.items j.conditions.items j.expected.items) };
 
-    ghost invariant = { λ j. IsJob (job_view j.capacity j.turns j.scripts.items j.conditions.items j.expected.items) };
+    ghost invariant = { λ j. IsJob (leaving j.left.items (job_view j.capacity j.turns j.scripts.items j.conditions.items j.expected.items)) };
 }
 
 impl Job {
-    ghost use Rattle.ulfm_job.specs.Job.{job_view, with_stop, with_turns};
+    ghost use Rattle.ulfm_job.specs.Job.{job_view, leaving, with_left, with_stop, with_turns};
 
     /// The job of these scripts, one for each rank, of these conditions and of what is expected. All of them keep the limits of a job.
+    /// No step of it may be given up early.
     pub fn new(
         capacity: u8,
         turns: u32,
@@ -46,12 +52,36 @@ impl Job {
         requires { IsJob (job_view capacity turns scripts.items conditions.items expected.items) }
         ensures { result ≡ job_view capacity turns scripts.items conditions.items expected.items }
     {
+        let left = Vec::new(*scripts.allocator());
         Job {
             capacity,
             turns,
             scripts,
             conditions,
             expected,
+            left,
+        }
+    }
+
+    /// The same job, of which these steps may be given up though polls are left, and no others.
+    pub fn leaving(self, left: Vec<LeftStep>) -> Job
+        ensures { result ≡ leaving left.items self }
+    {
+        let Job {
+            capacity,
+            turns,
+            scripts,
+            conditions,
+            expected,
+            left: _,
+        } = self;
+        Job {
+            capacity,
+            turns,
+            scripts,
+            conditions,
+            expected,
+            left,
         }
     }
 
@@ -67,8 +97,31 @@ impl Job {
             scripts,
             conditions,
             expected,
+            left,
         } = self;
-        Job::new(capacity, turns, scripts, conditions, expected)
+        Job::new(capacity, turns, scripts, conditions, expected).leaving(left)
+    }
+
+    /// The job of which one more step may be given up though polls are left, if ranks decide it together, as by a rank that dies
+    /// inside it. Then nothing is expected of its answer.
+    ///
+    /// # Errors
+    ///
+    /// `OutOfMemory` where a growth was refused.
+    pub fn with_left(self, rank: u8, at: u16) -> Result<Job, OutOfMemory>
+        ensures { IfOk result (λ job. job ≡ with_left rank at self) }
+    {
+        let Job {
+            capacity,
+            turns,
+            scripts,
+            conditions,
+            expected,
+            mut left,
+        } = self;
+        left.push(LeftStep { rank, at })?;
+        let others = without(expected, rank, at);
+        Ok(Job::new(capacity, turns, scripts, conditions, others).leaving(left))
     }
 
     /// The job with one more step, a stop, before the step `at` of a rank, or after its last one. Later steps have a number more,
@@ -95,7 +148,8 @@ impl Job {
         let expected = moved_clauses(alloc, self.expected.as_slice(), rank, at, len)?;
         let mut scripts = copied_scripts(alloc, self.scripts.as_slice())?;
         scripts[rank as usize] = steps;
-        Ok(Job::new(self.capacity, self.turns, scripts, conditions, expected))
+        let left = moved_left(alloc, self.left.as_slice(), rank, at, len)?;
+        Ok(Job::new(self.capacity, self.turns, scripts, conditions, expected).leaving(left))
     }
 
     /// How many ranks there are, 1 to 8. Each has a script.
@@ -163,6 +217,42 @@ impl Job {
         &self.expected
     }
 
+    /// Which steps may be given up though polls are left, if ranks decide them together.
+    pub fn left(&self) -> &[LeftStep]
+        ensures { result.now ≡ self.now.left }
+    {
+        &self.left
+    }
+
+    /// Whether ranks decide a step together: a shrink or an agreement.
+    pub fn is_joint(&self, rank: u8, place: usize) -> bool
+        ensures { result ≡ is_decided_together (slice_get (script_at self.now rank) place) }
+    {
+        is_decided_together(self.step(rank, place))
+    }
+
+    /// Whether a step may be given up though polls are left, once it stands open.
+    pub fn may_leave(&self, rank: u8, place: usize) -> bool
+        ensures { result ≡ may_leave self.now rank place }
+    {
+        self.is_joint(rank, place) && is_left(self.left.as_slice(), rank, place)
+    }
+
+    /// After how many polls a step that stands open is given up: 1 where it may be given up early, else `turns`.
+    pub fn turns_at(&self, rank: u8, place: usize) -> u32
+        ensures exact { result ≡ turns_at self.now rank place }
+        ensures some { 0 < result }
+        ensures most { result ≤ self.now.turns }
+        ensures ranges { IsJob self.now }
+    {
+        let turns = self.turns();
+        if self.may_leave(rank, place) {
+            1
+        } else {
+            turns
+        }
+    }
+
     /// How many of a rank's steps are agreements, 0 to 256: none where there is no such rank.
     pub fn agreements(&self, rank: u8) -> u16
         ensures exact { result ≡ agreements_in (script_at self.now rank) }
@@ -200,4 +290,38 @@ fn agreements(script: &[Step]) -> usize
     ensures { result ≡ agreements_in script.now }
 {
     script.iter().filter(|step| step.is_agreement()).count()
+}
+
+/// Whether ranks decide a step together, if there is one.
+fn is_decided_together(step: Option<&Step>) -> bool
+    ensures { result ≡ is_decided_together (option_map (λ step. step.now) step.entry) }
+{
+    match step {
+        Some(step) => step.decides_on().is_some(),
+        None => false,
+    }
+}
+
+/// Whether a step is one of these.
+fn is_left(left: &[LeftStep], rank: u8, place: usize) -> bool
+    ensures { result ≡ list_any (is_left rank place) left.now }
+{
+    left.iter()
+        .any(|left| left.rank == rank && left.at as usize == place)
+}
+
+/// Clauses but for those of one step.
+fn without(clauses: Vec<Clause>, rank: u8, at: u16) -> Vec<Clause>
+    ensures { result.items ≡ filter (is_of_other rank at) clauses.items }
+{
+    let mut kept = clauses;
+    kept.retain(|clause| is_of_other(clause, rank, at));
+    kept
+}
+
+/// Whether a clause is of another step than this one of a rank.
+fn is_of_other(clause: &Clause, rank: u8, at: u16) -> bool
+    ensures { result ≡ is_of_other rank at clause.now }
+{
+    !(clause.rank == rank && clause.at == at)
 }

@@ -1,7 +1,8 @@
 //! Jobs: what the ranks are to do.
 //!
 //! A [`Job`] has 1 to 8 ranks and 1 to 256 steps in all, or none. A [`Step`] is one call of a rank. A [`Clause`] is a condition of a
-//! step, or what it expects of its answer. `ulfm_reader` reads a job from its text, and all that plays one stands on this crate:
+//! step, or what it expects of its answer. A [`LeftStep`] may be given up while it
+//! stands open. `ulfm_reader` reads a job from its text, and all that plays one stands on this crate:
 //!
 //!     for step in job.script(rank) { .. }
 //!     let job = job.with_stop(rank, at)?;
@@ -14,6 +15,7 @@ mod clause;
 mod copying;
 mod fault;
 mod job;
+mod left_step;
 mod noted_step;
 mod step;
 mod stopped;
@@ -23,6 +25,7 @@ mod words;
 pub use clause::Clause;
 pub use fault::{Fault, JobFault};
 pub use job::{Job, MOST_STEPS};
+pub use left_step::LeftStep;
 pub use noted_step::NotedStep;
 pub use step::Step;
 pub use text::Text;

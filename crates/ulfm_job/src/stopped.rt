@@ -1,9 +1,10 @@
 //! A script with one more stop.
 ghost use Rattle.std.specs.Prelude.{◌≡◌, ◌≤◌, IfErr, IfOk, length, map};
-ghost use Rattle.ulfm_job.specs.Job.{lists_of, moved_clause, moved_number, moved_on, stopped_at};
+ghost use Rattle.ulfm_job.specs.Job.{lists_of, moved_clause, moved_left, moved_number, moved_on, stopped_at};
 
 use crate::clause::Clause;
 use crate::fault::JobFault;
+use crate::left_step::LeftStep;
 use crate::step::Step;
 use std::alloc::Global;
 use ulfm_base::OutOfMemory;
@@ -91,6 +92,37 @@ fn moved_clause(
         moved.step = moved_number(moved.step, at, len);
     }
     Ok(moved)
+}
+
+/// Steps that may be given up, once a rank whose script had `len` steps has one more before the step `at`.
+pub(crate) fn moved_left(
+    alloc: Global,
+    left: &[LeftStep],
+    rank: u8,
+    at: u16,
+    len: usize,
+) -> Result<Vec<LeftStep>, JobFault>
+    requires { len ≤ 256 }
+    ensures exact { IfOk result (λ moved. moved.items ≡ map (moved_left rank at len) left.now) }
+    ensures memory { IfErr result (λ fault. fault ≡ JobFault.OutOfMemory) }
+{
+    let mut moved = Vec::new(alloc);
+    for step in left {
+        moved.push(one_moved(*step, rank, at, len))?;
+    }
+    Ok(moved)
+}
+
+/// One of these steps.
+fn one_moved(step: LeftStep, rank: u8, at: u16, len: usize) -> LeftStep
+    requires { len ≤ 256 }
+    ensures { result ≡ moved_left rank at len step }
+{
+    let mut moved = step;
+    if moved.rank == rank {
+        moved.at = moved_number(moved.at, at, len);
+    }
+    moved
 }
 
 /// The same scripts once more.

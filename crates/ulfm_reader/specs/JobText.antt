@@ -109,7 +109,7 @@ head_of ms = do
   turns ← in_range 1 10000000 turns_key
   Ok (record { ranks = ranks; capacity = capacity; turns = turns; steps = steps; never = never })
 
--- the plan of the job's own keys, and of what was read of its steps
+-- the plan of the job's own keys, and of what was read of its steps, none of which may be given up early
 abbrev pub planned_as : Head → Draft → Plan
 planned_as h draft = record {
   ranks = h.ranks;
@@ -118,6 +118,7 @@ planned_as h draft = record {
   scripts = draft.scripts;
   conditions = draft.conditions;
   expected = draft.expected;
+  left = [];
 }
 
 -- what a text asks for: the plan of its job, the rows of answers of which no run may have all, and the names of steps

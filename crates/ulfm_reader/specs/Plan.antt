@@ -1,6 +1,7 @@
 -- What the text of a job asks for, without the form that a job has in memory.
 use Rattle.std.specs.Prelude.{ℕ, List, Option, map, option_map}
 use Rattle.ulfm_job.specs.declared.clause.Clause.{Clause}
+use Rattle.ulfm_job.specs.declared.left_step.LeftStep.{LeftStep}
 use Rattle.ulfm_job.specs.declared.step.Step.{Step}
 use Rattle.ulfm_job.specs.declared.step.Step.TheVariants.{Send, Recv, Wait, Probe, Mrecv, Cancel, Failed, Ack, Revoke, Dup, Shrink, Agree, Stop}
 use Rattle.ulfm_job.specs.Job.{JobView}
@@ -26,7 +27,7 @@ pub record PlannedStep : Type 0 where
   pub rank : ℕ
   pub order : Order
 
--- ranks, room of an inbox, most polls of a step, the steps of each rank, and what steps ask of answers
+-- ranks, room of an inbox, most polls of a step, the steps of each rank, what steps ask of answers, and which may be given up early
 pub record Plan : Type 0 where
   pub ranks : ℕ
   pub capacity : ℕ
@@ -34,6 +35,7 @@ pub record Plan : Type 0 where
   pub scripts : List (List Order)
   pub conditions : List Clause
   pub expected : List Clause
+  pub left : List LeftStep
 
 -- a step as the order that it keeps
 abbrev pub order_of : Step → Order
@@ -53,4 +55,4 @@ order_of Stop = stop
 
 -- the plan of a job
 abbrev pub plan_of : JobView → Plan
-plan_of j = record { ranks = j.ranks; capacity = j.capacity; turns = j.turns; scripts = map (map order_of) j.scripts; conditions = j.conditions; expected = j.expected }
+plan_of j = record { ranks = j.ranks; capacity = j.capacity; turns = j.turns; scripts = map (map order_of) j.scripts; conditions = j.conditions; expected = j.expected; left = j.left }

@@ -4,7 +4,7 @@ ghost use Rattle.ulfm_job.specs.Job.{lists_of};
 
 use std::alloc::Global;
 use ulfm_base::OutOfMemory;
-use ulfm_job::{Clause, Job, Step};
+use ulfm_job::{Clause, Job, LeftStep, Step};
 
 /// The same job once more.
 pub fn copied_job(alloc: Global, job: &Job) -> Result<Job, OutOfMemory>
@@ -13,7 +13,8 @@ pub fn copied_job(alloc: Global, job: &Job) -> Result<Job, OutOfMemory>
     let scripts = copied_scripts(alloc, job)?;
     let conditions = copied_clauses(alloc, job.conditions())?;
     let expected = copied_clauses(alloc, job.expected())?;
-    Ok(Job::new(job.capacity(), job.turns(), scripts, conditions, expected))
+    let left = copied_left(alloc, job.left())?;
+    Ok(Job::new(job.capacity(), job.turns(), scripts, conditions, expected).leaving(left))
 }
 
 /// The scripts of a job's ranks once more.
@@ -36,6 +37,17 @@ fn copied_script(alloc: Global, script: &[Step]) -> Result<Vec<Step>, OutOfMemor
         steps.push(step.copy(alloc)?)?;
     }
     Ok(steps)
+}
+
+/// The same steps that may be given up once more.
+fn copied_left(alloc: Global, left: &[LeftStep]) -> Result<Vec<LeftStep>, OutOfMemory>
+    ensures { IfOk result (λ copies. copies.items ≡ left.now) }
+{
+    let mut copies = Vec::new(alloc);
+    for step in left {
+        copies.push(*step)?;
+    }
+    Ok(copies)
 }
 
 /// The same clauses once more.
