@@ -9,7 +9,9 @@ use Rattle.ulfm_job.specs.declared.clause.Clause.{Clause}
 use Rattle.ulfm_rank.specs.inside.Quiet.{Quiet}
 use Rattle.ulfm_script.specs.Reacting.{is_played}
 use Rattle.ulfm_script.proofs.Polls.{quiet-called}
-use Rattle.ulfm_script.proofs.Advance.{ready-at, advance-called, advance-left, advance-skipped}
+use Rattle.ulfm_job.specs.Job.{turns_at}
+use Rattle.ulfm_script.proofs.Advance.{ready-at, advance-called, advance-left, advance-skipped, left-polls}
+use Rattle.ulfm_script.proofs.Progress.{polls_small}
 use Rattle.ulfm_script.proofs.Reacting.{goes-called, goes-decided, goes-skipped}
 use Rattle.ulfm_laws.proofs.Spent.{goes-spent}
 use Rattle.ulfm_script.proofs.Decisions.{ready-decided, advance-decided, quiet-decided}
@@ -29,12 +31,13 @@ answered_none NotYet old asked new e h = absurd (cc)
 
 -- one call that leaves its step open, which is then given up
 pub polls-leave : {job : JobView} (me : ℕ) (v u w : PlayerView) {asked : Step} → IsJob job → IsState v.player.rank → GoesThrough job me v.player → is_stopped v.player.rank.log ≡ false → slice_get (script_at job me) (length v.player.done) ≡ Some asked → is_played job.conditions me v.player.done ≡ true →
-    IsCalled v.player asked u.player → GivesUpStep u.player w.player → job.turns ≤ u.player.polls → w.room + length w.player.done ≡ v.room + length v.player.done → Polls job me v w
+    IsCalled v.player asked u.player → GivesUpStep u.player w.player → turns_at job me (length v.player.done) ≤ u.player.polls → w.room + length w.player.done ≡ v.room + length v.player.done → Polls job me v w
 polls-leave {job} me v u w {asked} is_job sound follows running next played called left last room =
-    let a = advance-left (script_at job me) job.turns v.player asked u.player w.player left.step (omega (arith, is_job.most_turns)) (ready-at job me v.player asked is_job follows.follows running next) called left.was_open left last in
+    let a = advance-left (script_at job me) job.turns v.player asked u.player w.player left.step (omega (arith, is_job.most_turns)) (ready-at job me v.player asked is_job follows.follows running next) called left.was_open left in
+    let polls = left-polls job me v.player asked u.player (omega (arith, is_job.most_turns)) (polls_small (script_at job me) job.turns v.player follows.follows is_job.some_turn) called last in
     let Q : State → Type 0 = λ (r : State). Quiet v.player.rank r in
     let same : w.player.rank ≡ u.player.rank = ap (λ (p : Player). p.rank) left.only in
-    record { quiet = subst Q (sym same) (quiet-called v.player asked u.player sound running called); follows = goes-spent a.follows follows played called left; room = room; falls = a.falls }
+    record { quiet = subst Q (sym same) (quiet-called v.player asked u.player sound running called); follows = goes-spent a.follows follows played called left polls; room = room; falls = a.falls }
 
 -- an open step that is decided
 pub polls-decide : (job : JobView) (me : ℕ) (v w : PlayerView) (comm : Context) (board : Option (List ℕ)) (known later : Known) → IsState v.player.rank → GoesThrough job me v.player → is_stopped v.player.rank.log ≡ false →

@@ -3,7 +3,7 @@ use Rattle.std.proofs.Common.{◌≡◌, ℕ, List, ◌++◌, length, map, refl,
 use Rattle.ulfm_board.specs.Known.{OneBoard}
 use Rattle.ulfm_script.specs.Played.{FollowsScript}
 use Rattle.ulfm_script.specs.Reacting.{SkipsRightly}
-use Rattle.ulfm_script.specs.Script.{through_stop}
+use Rattle.ulfm_script.specs.Script.{through_stop, GivesUpRightly}
 use Rattle.ulfm_laws.specs.Answers.{AllAgree, AllFollowScripts}
 use Rattle.ulfm_laws.specs.Lawful.{AreProduced}
 use Rattle.ulfm_run.proofs.Common.{at, Global, InPlace, IsGathered, IsPlayed, Item, Keeps, Known, length-map, Report, RevokedByARank, slice_get_within, Vec, WorldRank, items_from, Flows, there, AreTrue, Ran, NameOneBoard, report_in, end_in, decider_in, WerePlayed, GaveAnswers, JobView, script_at}
@@ -49,6 +49,7 @@ module _ {E D N : Type 0} {name : E → N} {place count : E → ℕ} {pushed tak
         within = λ s l. p.joined.within s (omega (arith, l, p.counted));
         steps = p.steps ∙ ap (λ i. through_stop a.0.report.steps (script_at job i)) (placed k e.0 e.1);
         patient = p.patient;
+        gives = subst (λ i. GivesUpRightly job i a.0.report.steps) (placed k e.0 e.1) p.gives;
         skips = subst (λ i. SkipsRightly job.conditions i a.0.report.steps) (placed k e.0 e.1) p.skips;
       })
 

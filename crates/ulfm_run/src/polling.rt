@@ -86,7 +86,8 @@ fn decide<D: Decider>(job: &Job, me: u8, player: &mut Player, decider: &mut D, s
     }
 }
 
-/// One poll of a step by `call`; it is given up where this was its last poll and left it open. Whether it is answered.
+/// One poll of a step by `call`; it is given up where this was its last poll, or the first of one that may be given up early, and left it
+/// open. Whether it is answered.
 fn call(job: &Job, me: u8, player: &mut Player, step: &Step) -> bool
     requires sound { IsState player.old.player.rank }
     requires follows { GoesThrough job.now me player.old.player }
@@ -97,8 +98,7 @@ fn call(job: &Job, me: u8, player: &mut Player, step: &Step) -> bool
     ensures polls { Polls job.now me player.old player.new }
     ensures honest { (known : Known) → AnswersFollowSoFar known player.old.player → IsUndecided player.old.player → AnswersFollowSoFar known player.new.player }
 {
-    let _ = me;
-    let turns = job.turns();
+    let turns = job.turns_at(me, player.answered());
     match player.call(step) {
         Called::Answered => return true,
         Called::NotYet => {}

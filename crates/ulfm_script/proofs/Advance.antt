@@ -1,8 +1,8 @@
 -- What a poll moves at a player, and what falls with it.
-use Rattle.std.proofs.Common.{◌≡◌, ℕ, ◌^◌, ◌<◌, ◌≤◌, Bool, false, List, length, refl, ap, sym, subst, ◌∙◌, arith, inl, inr, ◌⊎◌, Option, Some, None, MatchOption, slice_get}
-use Rattle.ulfm_job.specs.Job.{JobView, IsJob, script_at, is_stop_step}
+use Rattle.std.proofs.Common.{◌≡◌, ℕ, ◌^◌, ◌<◌, ◌≤◌, Bool, true, false, List, length, refl, ap, sym, subst, ◌∙◌, arith, inl, inr, ◌⊎◌, Option, Some, None, MatchOption, slice_get, if◌then◌else◌}
+use Rattle.ulfm_job.specs.Job.{JobView, IsJob, script_at, is_stop_step, may_leave, turns_at}
 use Rattle.ulfm_script.proofs.Common.{is_stopped, Shrink, Agree, State, SkipsStep, Step, StepAnswer, StepReport, Skipped, Unfinished, Wait, Player, AnswersStep, StaysOpen, awaits_decision, IsCalled, GivesUpStep, PollAnswers, PollOpens, with_rank, answered, polled, step_report, FollowsSoFar, polls_left, same_Some, slice_get_within}
-use Rattle.ulfm_script.specs.Report.{is_skipped}
+use Rattle.ulfm_script.specs.Report.{is_skipped, is_unfinished}
 use Rattle.ulfm_script.specs.Script.{IsPolled, IsPatient, is_played_stop}
 use Rattle.ulfm_script.proofs.Polls.{Adds, answers_add, opens_add, opens_go_on, stopped-adds}
 use Rattle.ulfm_script.proofs.Progress.{closed, follows-closed, follows-polled, left-closed, left_polled, polls_small}
@@ -61,6 +61,10 @@ pub not_skipped : (answer : StepAnswer) → (answer ≡ Skipped → ⊥) → is_
 not_skipped Skipped h = absurd (h refl)
 not_skipped _ h = refl
 
+pub not_unfinished : (answer : StepAnswer) → (answer ≡ Unfinished → ⊥) → is_unfinished answer ≡ false
+not_unfinished Unfinished h = absurd (h refl)
+not_unfinished _ h = refl
+
 -- a stop that isn't skipped is played
 pub plays : (x : StepReport) → is_skipped x.answer ≡ false → is_played_stop x ≡ is_stop_step x.step
 plays x h = rw h refl
@@ -102,22 +106,34 @@ goes_on script turns k polls (Some (Shrink comm)) done r asked new h next o = ap
 goes_on script turns k polls (Some (Agree flag comm)) done r asked new h next o = ap is_stop_step (same_Some asked (Agree flag comm) (sym next ∙ h.0))
 goes_on script turns k polls (Some s) done r asked new h next o = opens_go_on done r asked new o
 
-advance-opens : (script : List Step) (turns : ℕ) (old : Player) (asked : Step) (mid new : Player) → turns < 2 ^ 32 → Ready script turns old asked → PollOpens old asked mid → GivesUpStep mid new → turns ≤ mid.polls → Advances script turns old new
-advance-opens script turns old asked mid new counted h o left last =
+advance-opens : (script : List Step) (turns : ℕ) (old : Player) (asked : Step) (mid new : Player) → turns < 2 ^ 32 → Ready script turns old asked → PollOpens old asked mid → GivesUpStep mid new → Advances script turns old new
+advance-opens script turns old asked mid new counted h o left =
     let same : asked ≡ left.step = same_Some asked left.step (rw o.only at left.was_open) in
     let now : new ≡ answered (polled (with_rank old o.rank) asked (length old.rank.log)) asked Unfinished (length old.rank.log) = rw (← same, o.only) at left.only in
-    let all : (polled (with_rank old o.rank) asked (length old.rank.log)).polls ≡ turns = omega (arith, last, ap (λ (p : Player). p.polls) o.only, h.few, counted) in
+    let all : (polled (with_rank old o.rank) asked (length old.rank.log)).polls ≤ turns = omega (arith, h.few) in
     let adds : Adds old.rank false o.rank = opens_add (awaits_decision old.current) old.done old.rank asked o.rank o.stays in
     let goes : is_stop_step asked ≡ false = goes_on script turns (length old.done) old.polls old.current old.done old.rank asked o.rank h.follows.current h.next o.stays in
     rw now (advance-closed script turns old o.rank (step_report asked Unfinished (length old.rank.log) (polled (with_rank old o.rank) asked (length old.rank.log)).polls) h (rw goes adds) all)
 
 -- a poll that leaves the step open, which is then given up
-pub advance-left : (script : List Step) (turns : ℕ) (old : Player) (asked : Step) (mid new : Player) (s : Step) → turns < 2 ^ 32 → Ready script turns old asked → IsCalled old asked mid → mid.current ≡ Some s → GivesUpStep mid new → turns ≤ mid.polls → Advances script turns old new
-advance-left script turns old asked mid new s counted h (inr o) e left last = advance-opens script turns old asked mid new counted h o left last
-advance-left script turns old asked mid new s counted h (inl a) e left last =
+pub advance-left : (script : List Step) (turns : ℕ) (old : Player) (asked : Step) (mid new : Player) (s : Step) → turns < 2 ^ 32 → Ready script turns old asked → IsCalled old asked mid → mid.current ≡ Some s → GivesUpStep mid new → Advances script turns old new
+advance-left script turns old asked mid new s counted h (inr o) e left = advance-opens script turns old asked mid new counted h o left
+advance-left script turns old asked mid new s counted h (inl a) e left =
     let none : None ≡ Some s = rw a.only at e in
     let bad : ⊥ = cc in
     absurd bad
+
+-- a step that is given up after so many polls got all that the job grants, or may be given up before
+pub left-polls : (j : JobView) (r : ℕ) (old : Player) (asked : Step) (mid : Player) → j.turns < 2 ^ 32 → old.polls < j.turns → IsCalled old asked mid → turns_at j r (length old.done) ≤ mid.polls → (mid.polls ≡ j.turns) ⊎ (may_leave j r (length old.done) ≡ true)
+left-polls j r old asked mid counted few called last = by (may_leave j r (length old.done)) refl
+  where
+    all : j.turns ≤ mid.polls → IsCalled old asked mid → mid.polls ≡ j.turns
+    all most (inl a) = absurd (omega (arith, most, few, ap (λ (p : Player). p.polls) a.only))
+    all most (inr o) = omega (arith, most, few, counted, ap (λ (p : Player). p.polls) o.only)
+
+    by : (b : Bool) → may_leave j r (length old.done) ≡ b → (mid.polls ≡ j.turns) ⊎ (may_leave j r (length old.done) ≡ true)
+    by true is = inr is
+    by false is = inl (all (subst (λ (b : Bool). (if b then 1 else j.turns) ≤ mid.polls) is last) called)
 
 -- a step that is skipped
 pub advance-skipped : (script : List Step) (turns : ℕ) (old : Player) (asked : Step) (new : Player) → Ready script turns old asked → SkipsStep old asked new → Advances script turns old new

@@ -1,16 +1,17 @@
 -- A player that plays a step exactly where it is to be played.
-use Rattle.std.proofs.Common.{◌≡◌, ℕ, ◌≤◌, true, false, not, List, [], ◌∷◌, ◌++◌, length, take, refl, ap, sym, subst, ◌∙◌, arith, inl, inr, MatchOption, Option, Some, None}
+use Rattle.std.proofs.Common.{◌≡◌, ◌⊎◌, ℕ, ◌≤◌, true, false, not, List, [], ◌∷◌, ◌++◌, length, take, refl, ap, sym, subst, ◌∙◌, arith, inl, inr, MatchOption, Option, Some, None}
+use Rattle.std.proofs.lemmas.Bool.{false≢true}
 use Rattle.std.proofs.lemmas.List.{take-append-le}
 use Rattle.std.proofs.Math.Seq.{take-append_seam}
-use Rattle.ulfm_job.specs.Job.{JobView, script_at}
+use Rattle.ulfm_job.specs.Job.{JobView, script_at, may_leave}
 use Rattle.ulfm_job.specs.declared.clause.Clause.{Clause}
 use Rattle.ulfm_match.proofs.Histories.{get_cases}
 use Rattle.ulfm_script.proofs.Common.{⊤, Context, FollowsSoFar, GoesThrough, IsCalled, is_stopped, Known, Player, slice_get_within, SkipsStep, start_player, State, Step, StepReport, with_rank}
 use Rattle.ulfm_script.specs.Deciding.{IsDecided}
 use Rattle.ulfm_script.specs.Reacting.{is_played, SkipsRightly}
-use Rattle.ulfm_script.specs.Report.{is_skipped}
-use Rattle.ulfm_script.specs.Script.{HasFinished}
-use Rattle.ulfm_script.proofs.Advance.{given_by_poll, not_skipped}
+use Rattle.ulfm_script.specs.Report.{is_skipped, is_unfinished}
+use Rattle.ulfm_script.specs.Script.{GivesUpRightly, HasFinished}
+use Rattle.ulfm_script.proofs.Advance.{given_by_poll, not_skipped, not_unfinished}
 use Rattle.ulfm_script.proofs.Decisions.{given_by_decision}
 use Rattle.ulfm_script.proofs.Progress.{answered_running, follows-rank, follows-start, none_open}
 
@@ -25,22 +26,33 @@ skips-push conditions r done x h e k report g = elim (get_cases done x k report 
       ap (λ (y : StepReport). is_skipped y.answer) (sym last.1) ∙ e ∙ ap (λ before. not (is_played conditions r before)) (sym same)
 ]
 
+-- one more step, given up after all polls or where it may be given up before, or not given up
+pub gives-push : (j : JobView) (r : ℕ) (done : List StepReport) (x : StepReport) → GivesUpRightly j r done → (is_unfinished x.answer ≡ true → (x.polls ≡ j.turns) ⊎ (may_leave j r (length done) ≡ true)) → GivesUpRightly j r (done ++ x ∷ [])
+gives-push j r done x h e k report g given = elim (get_cases done x k report g) [
+  | inl old ↦ h k report old given
+  | inr last ↦
+      subst (λ (n : ℕ). (report.polls ≡ j.turns) ⊎ (may_leave j r n ≡ true)) (sym last.0)
+      (subst (λ (y : StepReport). (y.polls ≡ j.turns) ⊎ (may_leave j r (length done) ≡ true)) last.1 (e (ap (λ (y : StepReport). is_unfinished y.answer) last.1 ∙ given)))
+]
+
 -- the same of a player that has one more answer, and no step open
-goes-closed : {j : JobView} {r : ℕ} {old new : Player} (x : StepReport) → FollowsSoFar (script_at j r) j.turns new → GoesThrough j r old → new.done ≡ old.done ++ x ∷ [] → new.current ≡ None → is_skipped x.answer ≡ not (is_played j.conditions r old.done) → GoesThrough j r new
-goes-closed {j} {r} {old} {new} x follows h done none e = record {
+goes-closed : {j : JobView} {r : ℕ} {old new : Player} (x : StepReport) → FollowsSoFar (script_at j r) j.turns new → GoesThrough j r old → new.done ≡ old.done ++ x ∷ [] → new.current ≡ None → is_unfinished x.answer ≡ false → is_skipped x.answer ≡ not (is_played j.conditions r old.done) → GoesThrough j r new
+goes-closed {j} {r} {old} {new} x follows h done none kept e = record {
   follows = follows;
+  gives = subst (GivesUpRightly j r) (sym done) (gives-push j r old.done x h.gives (λ given. absurd (false≢true (sym kept ∙ given))));
   skips = subst (SkipsRightly j.conditions r) (sym done) (skips-push j.conditions r old.done x h.skips e);
   playing = rw none tt;
 }
 
 -- a step is played where one is to be
-goes-played : {j : JobView} {r : ℕ} {old new : Player} (x : StepReport) → FollowsSoFar (script_at j r) j.turns new → GoesThrough j r old → new.done ≡ old.done ++ x ∷ [] → new.current ≡ None → is_skipped x.answer ≡ false → is_played j.conditions r old.done ≡ true → GoesThrough j r new
-goes-played x follows h done none given played = goes-closed x follows h done none (given ∙ sym (ap not played))
+goes-played : {j : JobView} {r : ℕ} {old new : Player} (x : StepReport) → FollowsSoFar (script_at j r) j.turns new → GoesThrough j r old → new.done ≡ old.done ++ x ∷ [] → new.current ≡ None → is_unfinished x.answer ≡ false → is_skipped x.answer ≡ false → is_played j.conditions r old.done ≡ true → GoesThrough j r new
+goes-played x follows h done none kept given played = goes-closed x follows h done none kept (given ∙ sym (ap not played))
 
 -- a player that goes on, with the same answers and the same step open, or one that is to be played
 pub goes-open : {j : JobView} {r : ℕ} {old new : Player} → FollowsSoFar (script_at j r) j.turns new → GoesThrough j r old → new.done ≡ old.done → is_played j.conditions r old.done ≡ true → GoesThrough j r new
 goes-open {j} {r} {old} {new} follows h done played = record {
   follows = follows;
+  gives = subst (GivesUpRightly j r) (sym done) h.gives;
   skips = subst (SkipsRightly j.conditions r) (sym done) h.skips;
   playing = plays new.current;
 }
@@ -59,17 +71,19 @@ open_played {asked} h e = rw e at h.playing
 -- a poll by a call of a step that is to be played
 pub goes-called : {j : JobView} {r : ℕ} {old : Player} {asked : Step} {new : Player} → FollowsSoFar (script_at j r) j.turns new → GoesThrough j r old → is_played j.conditions r old.done ≡ true → IsCalled old asked new → GoesThrough j r new
 goes-called {old} {asked} follows h played (inl a) =
-    goes-played _ follows h (ap (λ (p : Player). p.done) a.only) (ap (λ (p : Player). p.current) a.only) (not_skipped a.answer (given_by_poll old.done old.rank asked a.answer a.rank a.answers).1) played
+    let given = given_by_poll old.done old.rank asked a.answer a.rank a.answers in
+    goes-played _ follows h (ap (λ (p : Player). p.done) a.only) (ap (λ (p : Player). p.current) a.only) (not_unfinished a.answer given.0) (not_skipped a.answer given.1) played
 goes-called follows h played (inr o) = goes-open follows h (ap (λ (p : Player). p.done) o.only) played
 
 -- an open step is decided
 pub goes-decided : {j : JobView} {r : ℕ} {old : Player} {comm : Context} {board : Option (List ℕ)} {known later : Known} {new : Player} → FollowsSoFar (script_at j r) j.turns new → GoesThrough j r old → IsDecided old comm board known new later → GoesThrough j r new
 goes-decided {old} {board} {known} {later} follows h d =
-    goes-played _ follows h (ap (λ (p : Player). p.done) d.only) (ap (λ (p : Player). p.current) d.only) (not_skipped d.answer (given_by_decision board known later old.rank d.asked d.answer d.rank d.decision).1) (open_played h d.waits)
+    let given = given_by_decision board known later old.rank d.asked d.answer d.rank d.decision in
+    goes-played _ follows h (ap (λ (p : Player). p.done) d.only) (ap (λ (p : Player). p.current) d.only) (not_unfinished d.answer given.0) (not_skipped d.answer given.1) (open_played h d.waits)
 
 -- a step that isn't to be played is skipped
 pub goes-skipped : {j : JobView} {r : ℕ} {old : Player} {asked : Step} {new : Player} → FollowsSoFar (script_at j r) j.turns new → GoesThrough j r old → is_played j.conditions r old.done ≡ false → SkipsStep old asked new → GoesThrough j r new
-goes-skipped follows h idle s = goes-closed _ follows h (ap (λ (p : Player). p.done) s.only) (ap (λ (p : Player). p.current) s.only) (sym (ap not idle))
+goes-skipped follows h idle s = goes-closed _ follows h (ap (λ (p : Player). p.done) s.only) (ap (λ (p : Player). p.current) s.only) refl (sym (ap not idle))
 
 -- no step stands open where the next one isn't to be played
 pub idle_none : {j : JobView} {r : ℕ} {p : Player} → GoesThrough j r p → is_played j.conditions r p.done ≡ false → p.current ≡ None
@@ -81,21 +95,22 @@ idle_none {j} {r} {p} h idle = none p.current h.playing
 
 -- a player whose rank alone changed, and runs or has stopped as before
 pub goes-rank : {j : JobView} {r : ℕ} {p : Player} (s : State) → is_stopped s.log ≡ is_stopped p.rank.log → GoesThrough j r p → GoesThrough j r (with_rank p s)
-goes-rank {j} {r} {p} s stop h = record { follows = follows-rank (script_at j r) j.turns p s stop h.follows; skips = h.skips; playing = h.playing }
+goes-rank {j} {r} {p} s stop h = record { follows = follows-rank (script_at j r) j.turns p s stop h.follows; gives = h.gives; skips = h.skips; playing = h.playing }
 
 -- a player that starts
 pub goes-start : (j : JobView) (r me n : ℕ) → GoesThrough j r (start_player me n)
-goes-start j r me n = record { follows = follows-start (script_at j r) j.turns me n; skips = λ k report g. absurd (let low = slice_get_within [] k report g in omega arith); playing = tt }
+goes-start j r me n = record { follows = follows-start (script_at j r) j.turns me n; gives = λ k report g given. absurd (let low = slice_get_within [] k report g in omega arith); skips = λ k report g. absurd (let low = slice_get_within [] k report g in omega arith); playing = tt }
 
 -- a player that stopped finished its script
 pub finished-stopped : {j : JobView} {r : ℕ} {p : Player} → GoesThrough j r p → is_stopped p.rank.log ≡ true → HasFinished j r p
-finished-stopped h stopped = record { steps = (h.follows.stopped stopped).0; patient = h.follows.patient; skips = h.skips; closed = (h.follows.stopped stopped).1 }
+finished-stopped h stopped = record { steps = (h.follows.stopped stopped).0; patient = h.follows.patient; gives = h.gives; skips = h.skips; closed = (h.follows.stopped stopped).1 }
 
 -- so did one that runs and has no step left
 pub finished-running : {j : JobView} {r : ℕ} {p : Player} → GoesThrough j r p → is_stopped p.rank.log ≡ false → length (script_at j r) ≤ length p.done → HasFinished j r p
 finished-running {j} {r} {p} h running all = record {
   steps = answered_running (script_at j r) j.turns p h.follows running all;
   patient = h.follows.patient;
+  gives = h.gives;
   skips = h.skips;
   closed = none_open (script_at j r) j.turns p h.follows all;
 }

@@ -1,12 +1,12 @@
 -- How a player goes through its script, with at most so many polls of a step.
-use Rattle.std.specs.Prelude.{◌≡◌, ℕ, Bool, false, List, [], ◌∷◌, ◌<◌, map, All, None, if◌then◌else◌}
+use Rattle.std.specs.Prelude.{◌≡◌, ◌⊎◌, ℕ, Bool, true, false, List, [], ◌∷◌, ◌<◌, ◌≤◌, map, All, Some, None, slice_get, if◌then◌else◌}
 use Rattle.ulfm_job.specs.declared.step.Step.{Step}
 use Rattle.ulfm_script.specs.declared.answer.StepAnswer.{StepAnswer}
 use Rattle.ulfm_script.specs.declared.answer.StepAnswer.TheVariants.{Unfinished, Skipped}
 use Rattle.ulfm_script.specs.declared.answer.StepReport.{StepReport}
 use Rattle.ulfm_script.specs.Player.{Player}
-use Rattle.ulfm_job.specs.Job.{JobView, script_at, is_stop_step}
-use Rattle.ulfm_script.specs.Report.{is_skipped}
+use Rattle.ulfm_job.specs.Job.{JobView, script_at, is_stop_step, may_leave}
+use Rattle.ulfm_script.specs.Report.{is_skipped, is_unfinished}
 use Rattle.ulfm_script.specs.Reacting.{SkipsRightly}
 
 -- the step of a report
@@ -17,15 +17,21 @@ reported_step report = report.step
 abbrev pub steps_done : Player → List Step
 steps_done p = map reported_step p.done
 
--- so many polls left a step with this answer open: all that a job grants where it was given up, none where it was skipped, else fewer
+-- so many polls left a step with this answer open: at most all that a job grants where it was given up, none where it was skipped, else fewer
 abbrev pub IsPolled : ℕ → StepAnswer → ℕ → Type 0
-IsPolled turns Unfinished polls = polls ≡ turns
+IsPolled turns Unfinished polls = polls ≤ turns
 IsPolled turns Skipped polls = polls ≡ 0
 IsPolled turns _ polls = polls < turns
 
--- a step was given up after its last poll, answered by one, or skipped without any
+-- a step was given up after some poll, answered by one, or skipped without any
 abbrev pub IsPatient : ℕ → StepReport → Type 0
 IsPatient turns report = IsPolled turns report.answer report.polls
+
+-- each step of the rank r that was given up got all polls that the job grants, or is one that may be given up before
+abbrev pub GivesUpRightly : JobView → ℕ → List StepReport → Type 0
+GivesUpRightly j r done =
+    (k : ℕ) (report : StepReport) → slice_get done k ≡ Some report
+    → is_unfinished report.answer ≡ true → (report.polls ≡ j.turns) ⊎ (may_leave j r k ≡ true)
 
 -- a stop that was played
 abbrev pub is_played_stop : StepReport → Bool
@@ -41,5 +47,6 @@ through_stop (report ∷ reports) (x ∷ xs) = if is_played_stop report then x �
 pub record HasFinished (j : JobView) (r : ℕ) (p : Player) : Type 0 where
   pub steps : steps_done p ≡ through_stop p.done (script_at j r)
   pub patient : All (IsPatient j.turns) p.done
+  pub gives : GivesUpRightly j r p.done
   pub skips : SkipsRightly j.conditions r p.done
   pub closed : p.current ≡ None

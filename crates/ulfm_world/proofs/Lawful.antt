@@ -44,6 +44,7 @@ module _ (j : JobView) (w : World) (job : IsJob j) (came : IsUnderway j w) (stuc
     within = λ s far. took_none (rank_at w r).ranks s (rank_at w r).log (on_log r i).taken (omega (arith, far, world.counted r i, came.size));
     steps = (answered r i).steps;
     patient = (answered r i).patient;
+    gives = (answered r i).gives;
     skips = (answered r i).skips;
   }
 

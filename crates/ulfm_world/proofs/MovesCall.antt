@@ -3,7 +3,8 @@ use Rattle.std.proofs.Common.{◌≡◌, ℕ, ◌<◌, ◌≤◌, true, false, c
 use Rattle.ulfm_world.proofs.Common.{Context, Decision, Step, Call, Decide, Leave, Skip, IsWorld, is_stopped, false≢true, cases_eq, World, player_in, player_at, with_players, with_player, with_decided, Happens, Reaches, IsRunning, Player, GivesUpStep, JobView, IsJob, script_at, AllAnswersFollowSoFar, Follows, Moves, weight_of, GoesThrough, is_played, ready-decided, advance-decided, IsState, Answered, NotYet, IsUndecided}
 use Rattle.ulfm_world.specs.declared.event.Outcome.{Outcome}
 use Rattle.ulfm_world.proofs.Changed.{player-same, player-other}
-use Rattle.ulfm_script.proofs.Advance.{Ready, Advances, advance-called, advance-left, advance-skipped}
+use Rattle.ulfm_job.specs.Job.{turns_at}
+use Rattle.ulfm_script.proofs.Advance.{Ready, Advances, advance-called, advance-left, advance-skipped, left-polls}
 use Rattle.ulfm_script.proofs.Reacting.{goes-called, goes-decided, goes-skipped}
 use Rattle.ulfm_laws.proofs.Spent.{goes-spent}
 use Rattle.ulfm_world.proofs.Measures.{measure-player}
@@ -54,7 +55,7 @@ none_open None e f = refl
 none_open (Some asked) e f = absurd (cc)
 
 -- one call that leaves its step open, which is then given up
-pub moves-leave : {j : JobView} {w : World} (r : ℕ) {asked : Step} (mid w' : World) → IsJob j → IsWorld w → r < length w.players → Follows j w → Ready (script_at j r) j.turns (player_at w r) asked → is_played j.conditions r (player_at w r).done ≡ true → IsUndecided (player_at w r) → Happens w (Call r asked) mid → Happens mid (Leave r) w' → j.turns ≤ (player_at mid r).polls → Moves j w w' true
+pub moves-leave : {j : JobView} {w : World} (r : ℕ) {asked : Step} (mid w' : World) → IsJob j → IsWorld w → r < length w.players → Follows j w → Ready (script_at j r) j.turns (player_at w r) asked → is_played j.conditions r (player_at w r).done ≡ true → IsUndecided (player_at w r) → Happens w (Call r asked) mid → Happens mid (Leave r) w' → turns_at j r (length (player_at w r).done) ≤ (player_at mid r).polls → Moves j w w' true
 moves-leave {j} {w} r {asked} mid w' job h i f ready played undecided t u last =
     let c = t.1 in let g = u.1 in
     let mid_is : mid ≡ with_player w r c.after = t.2 ∙ ap (with_players w) c.only in
@@ -66,8 +67,9 @@ moves-leave {j} {w} r {asked} mid w' job h i f ready played undecided t u last =
     ∙ ap (λ (x : World). with_player x r g.after) mid_is
     ∙ ap (with_players w) (set-set w.players r c.after g.after) in
     let left : GivesUpStep c.after g.after = subst L mid_at g.left in
-    let a = advance-left (script_at j r) j.turns (player_at w r) asked c.after g.after g.left.step (omega (arith, job.most_turns)) ready c.called current left (omega (arith, last, ap (λ (p : Player). p.polls) mid_at)) in
-    rw is (moves-player j w r w.decided i h ready.running f a (goes-spent a.follows (f r i) played c.called left) (λ right. rw is at (rightly-leaves mid r w' u (rightly-calls j w r mid f ready.next undecided t right))) (subst (λ (x : World). Reaches w x) is (Call r asked ∷ Leave r ∷ [], (mid, inl t, (w', inl u, refl)))))
+    let a = advance-left (script_at j r) j.turns (player_at w r) asked c.after g.after g.left.step (omega (arith, job.most_turns)) ready c.called current left in
+    let polls = left-polls j r (player_at w r) asked c.after (omega (arith, job.most_turns)) ready.few c.called (subst (λ (p : Player). turns_at j r (length (player_at w r).done) ≤ p.polls) mid_at last) in
+    rw is (moves-player j w r w.decided i h ready.running f a (goes-spent a.follows (f r i) played c.called left polls) (λ right. rw is at (rightly-leaves mid r w' u (rightly-calls j w r mid f ready.next undecided t right))) (subst (λ (x : World). Reaches w x) is (Call r asked ∷ Leave r ∷ [], (mid, inl t, (w', inl u, refl)))))
 
 -- a step that is skipped, since it isn't to be played
 pub moves-skip : {j : JobView} {w : World} (r : ℕ) {asked : Step} (w' : World) → IsWorld w → r < length w.players → Follows j w → Ready (script_at j r) j.turns (player_at w r) asked → is_played j.conditions r (player_at w r).done ≡ false → Happens w (Skip r asked) w' → Moves j w w' true

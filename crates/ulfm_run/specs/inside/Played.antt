@@ -4,7 +4,7 @@ use Rattle.ulfm_base.specs.declared.item.Item.{Item}
 use Rattle.ulfm_job.specs.Job.{JobView, script_at}
 use Rattle.ulfm_script.specs.Report.{Report}
 use Rattle.ulfm_script.specs.Reacting.{SkipsRightly}
-use Rattle.ulfm_script.specs.Script.{reported_step, through_stop, IsPatient}
+use Rattle.ulfm_script.specs.Script.{reported_step, through_stop, GivesUpRightly, IsPatient}
 use Rattle.ulfm_rank.specs.Joined.{IsJoined}
 
 -- A rank's script was played, up to and with the first stop that it played, or the whole of it; its steps were skipped exactly where none of
@@ -16,4 +16,5 @@ pub record IsPlayed {E N : Type 0} (name : E → N) (place count : E → ℕ) (p
   pub counted : report.rank.ranks ≡ job.ranks
   pub steps : map reported_step report.steps ≡ through_stop report.steps (script_at job (place before))
   pub patient : All (IsPatient job.turns) report.steps
+  pub gives : GivesUpRightly job (place before) report.steps
   pub skips : SkipsRightly job.conditions (place before) report.steps

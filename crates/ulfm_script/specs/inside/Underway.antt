@@ -7,7 +7,7 @@ use Rattle.ulfm_job.specs.Job.{JobView, script_at}
 use Rattle.ulfm_script.specs.declared.answer.StepReport.{StepReport}
 use Rattle.ulfm_job.specs.declared.clause.Clause.{Clause}
 use Rattle.ulfm_script.specs.Reacting.{SkipsRightly, is_played}
-use Rattle.ulfm_script.specs.Script.{IsPatient, is_played_stop, steps_done, through_stop}
+use Rattle.ulfm_script.specs.Script.{GivesUpRightly, IsPatient, is_played_stop, steps_done, through_stop}
 use Rattle.ulfm_rank.specs.declared.entry.TestAnswer.{TestAnswer}
 use Rattle.ulfm_rank.specs.declared.entry.TestAnswer.TheVariants.{Done as TestDone, Over as TestOver, Pending as TestPending, NotYet as TestNotYet}
 use Rattle.ulfm_script.specs.declared.answer.StepAnswer.{StepAnswer}
@@ -38,6 +38,7 @@ IsPlaying conditions r p = MatchOption p.current ⊤ (λ asked. is_played condit
 -- a player that goes through the script of the rank r of a job, and plays a step exactly where it is to be played
 pub record GoesThrough (j : JobView) (r : ℕ) (p : Player) : Type 0 where
   pub follows : FollowsSoFar (script_at j r) j.turns p
+  pub gives : GivesUpRightly j r p.done
   pub skips : SkipsRightly j.conditions r p.done
   pub playing : IsPlaying j.conditions r p
 

@@ -117,7 +117,8 @@ fn decide(job: &Job, world: &mut World, r: u8, step: &Step) -> bool
     }
 }
 
-/// One poll of a step by `call`; it is given up where this was the last poll and left it open.
+/// One poll of a step by `call`; it is given up where this was the last poll, or the first of one that may be given up early, and left it
+/// open.
 #[tactic(auto, using(crate::proofs::Refusals::refusals))]
 fn call_once(job: &Job, world: &mut World, r: u8, step: &Step) -> Result<(), RunFault>
     requires inside { r < length world.old.players }
@@ -128,7 +129,7 @@ fn call_once(job: &Job, world: &mut World, r: u8, step: &Step) -> Result<(), Run
     requires undecided { IsUndecided (player_at world.old r) }
     ensures { OnOk result (Moves job.now world.old world.new true) }
 {
-    let turns = job.turns();
+    let turns = job.turns_at(r, world.answered(r));
     match world.apply(Event::Call(r, Asked::of(step))) {
         Ok(Outcome::Answered) => return Ok(()),
         Ok(_) => {}
