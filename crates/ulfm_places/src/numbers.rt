@@ -7,14 +7,10 @@ use ulfm_job::Job;
 use ulfm_stops::{Place, Stop};
 
 /// The number of the step `k` of a script of so many steps, once there is one more before the step `at`.
-fn moved_number(at: u16, len: usize, k: usize) -> usize
+fn moved_number(at: usize, len: usize, k: usize) -> usize
     ensures { result ≡ moved_number at len k }
 {
-    if at as usize <= k && k < len {
-        k + 1
-    } else {
-        k
-    }
+    if at <= k && k < len { k + 1 } else { k }
 }
 
 /// The number of the step `k` of a rank whose script has so many steps, once a stop is there.
@@ -22,7 +18,7 @@ fn moved_by(len: usize, rank: u8, k: usize, stop: Stop) -> usize
     ensures { result ≡ moved_by len rank k stop }
 {
     if stop.rank == rank {
-        moved_number(stop.at, len, k)
+        moved_number(stop.before(), len, k)
     } else {
         k
     }
@@ -44,7 +40,7 @@ pub(crate) fn number_at(place: Place, job: &Job, rank: u8, k: usize) -> usize
 fn filed_by(rank: u8, k: u16, stop: Stop) -> u16
     ensures { result ≡ filed_by rank k stop }
 {
-    if stop.rank == rank && stop.at < k {
+    if stop.rank == rank && stop.before() < k as usize {
         k - 1
     } else {
         k

@@ -61,13 +61,13 @@ no_play form place bytes status text (stopped.no_room job is many) = no_job
 no_play form place bytes status text stopped.no_memory = no_job
 
 replayed : (form : Form) (is_strict : Bool) (turns : Option ℕ) (place : Place) (bytes : List ℕ) (status : ℕ) (text : List ℕ) → IsReplayReply form is_strict turns place bytes status text → IsKnown status
-replayed form is_strict turns place bytes status text (traced asked reports is played_so lawful rest) = played is_strict (as_asked asked.rows (given_turns turns asked.job) reports) (has_unfinished reports)
+replayed form is_strict turns place bytes status text (traced asked reports is played_so lawful rest) = played is_strict (as_asked asked.rows (given_turns turns asked.job) reports) (has_unfinished (given_turns turns asked.job) reports)
 replayed form is_strict turns place bytes status text (not_replayed k words is) = no_play form place bytes status text is
 replayed form is_strict turns place bytes status text (failed told) = run_fails
 
 run_known : (form : Form) (options : RunOptions) (bytes : List ℕ) (status : ℕ) (text : List ℕ) → IsRunReply form options bytes status text → IsKnown status
-run_known form options bytes status text (ran asked reports once is lawful) = played options.is_strict (as_asked asked.rows (given_turns options.turns asked.job) reports) (has_unfinished reports)
-run_known form options bytes status text (repeated asked runs times is lawful) = played options.is_strict (list_all (as_asked asked.rows (given_turns options.turns asked.job)) runs) (list_any has_unfinished runs)
+run_known form options bytes status text (ran asked reports once is lawful) = played options.is_strict (as_asked asked.rows (given_turns options.turns asked.job) reports) (has_unfinished (given_turns options.turns asked.job) reports)
+run_known form options bytes status text (repeated asked runs times is lawful) = played options.is_strict (list_all (as_asked asked.rows (given_turns options.turns asked.job)) runs) (list_any (has_unfinished (given_turns options.turns asked.job)) runs)
 run_known form options bytes status text (not_run k words is) = no_play form options.place bytes status text is
 run_known form options bytes status text (no_thread asked is) = run_fails
 run_known form options bytes status text (untrue asked reports is shows) = run_fails
@@ -237,11 +237,11 @@ no_usage form show Check bytes status text (good_checked job is) = λ e. omega (
 no_usage form show Check bytes status text (refused f is) = λ e. omega (arith, e)
 no_usage form show Check bytes status text no_memory = λ e. omega (arith, e)
 no_usage form show Check bytes status text (starved told) = λ e. omega (arith, e)
-no_usage form show (Replay is_strict turns place) bytes status text (traced asked reports is played_so lawful rest) = not_usage is_strict (as_asked asked.rows (given_turns turns asked.job) reports) (has_unfinished reports)
+no_usage form show (Replay is_strict turns place) bytes status text (traced asked reports is played_so lawful rest) = not_usage is_strict (as_asked asked.rows (given_turns turns asked.job) reports) (has_unfinished (given_turns turns asked.job) reports)
 no_usage form show (Replay is_strict turns place) bytes status text (not_replayed k words is) = no_play_not_usage form place bytes status text is
 no_usage form show (Replay is_strict turns place) bytes status text (failed told) = λ e. omega (arith, e)
-no_usage form show (Run options) bytes status text (ran asked reports once is lawful) = not_usage options.is_strict (as_asked asked.rows (given_turns options.turns asked.job) reports) (has_unfinished reports)
-no_usage form show (Run options) bytes status text (repeated asked runs times is lawful) = not_usage options.is_strict (list_all (as_asked asked.rows (given_turns options.turns asked.job)) runs) (list_any has_unfinished runs)
+no_usage form show (Run options) bytes status text (ran asked reports once is lawful) = not_usage options.is_strict (as_asked asked.rows (given_turns options.turns asked.job) reports) (has_unfinished (given_turns options.turns asked.job) reports)
+no_usage form show (Run options) bytes status text (repeated asked runs times is lawful) = not_usage options.is_strict (list_all (as_asked asked.rows (given_turns options.turns asked.job)) runs) (list_any (has_unfinished (given_turns options.turns asked.job)) runs)
 no_usage form show (Run options) bytes status text (not_run k words is) = no_play_not_usage form options.place bytes status text is
 no_usage form show (Run options) bytes status text (no_thread job is) = λ e. omega (arith, e)
 no_usage form show (Run options) bytes status text (untrue job reports is shows) = λ e. omega (arith, e)

@@ -9,7 +9,6 @@ use Rattle.ulfm_script.specs.Report.{Report}
 use Rattle.ulfm_program.specs.declared.tally.Counted.{Counted}
 use Rattle.ulfm_program.specs.inside.Tallied.{row_of, rows_of}
 use Rattle.ulfm_program.specs.Tally.{Row, counted, counted_once, tally}
-use Rattle.ulfm_replies.specs.Unfinished.{has_unfinished}
 
 -- the first i rows, and then the others with one more text
 abbrev pub counted_from : List Counted → Row → ℕ → List Row
@@ -40,8 +39,8 @@ pub one_more : (told : List Report → List ℕ) (runs : List (List Report)) (re
 one_more told runs reports = ap tally (map-append told runs (reports ∷ [])) ∙ fold-append counted_once [] (map told runs) (told reports ∷ [])
 
 -- and may be the one that left a step unfinished
-pub some_more : (runs : List (List Report)) (reports : List Report) → list_any has_unfinished (runs ++ reports ∷ []) ≡ (list_any has_unfinished runs || has_unfinished reports)
-some_more runs reports = list_any-append has_unfinished runs (reports ∷ []) ∙ ap (λ b. list_any has_unfinished runs || b) (or-false (has_unfinished reports))
+pub some_more : (is_bad : List Report → Bool) (runs : List (List Report)) (reports : List Report) → list_any is_bad (runs ++ reports ∷ []) ≡ (list_any is_bad runs || is_bad reports)
+some_more is_bad runs reports = list_any-append is_bad runs (reports ∷ []) ∙ ap (λ b. list_any is_bad runs || b) (or-false (is_bad reports))
 
 -- and may be the one whose answers aren't as the job asks
 pub all_more : (is_good : List Report → Bool) (runs : List (List Report)) (reports : List Report) → list_all is_good (runs ++ reports ∷ []) ≡ (list_all is_good runs && is_good reports)

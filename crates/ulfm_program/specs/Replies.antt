@@ -36,7 +36,7 @@ given_turns turns job = option_map_or (λ n. with_turns n job) turns job
 pub data IsReplayReply (form : Form) (is_strict : Bool) (turns : Option ℕ) (place : Place) (bytes : List ℕ) : ℕ → List ℕ → Type 0 where
   traced : (asked : Asked) (reports : List Report) → IsAskedAt place bytes asked → IsReplayed (given_turns turns asked.job) reports
       → IsLawful (given_turns turns asked.job) reports → MadeAtRest (given_turns turns asked.job) reports
-      → IsReplayReply form is_strict turns place bytes (played_status is_strict (as_asked asked.rows (given_turns turns asked.job) reports) (has_unfinished reports)) (trace_in form (names_at place bytes) (given_turns turns asked.job) reports)
+      → IsReplayReply form is_strict turns place bytes (played_status is_strict (as_asked asked.rows (given_turns turns asked.job) reports) (has_unfinished (given_turns turns asked.job) reports)) (trace_in form (names_at place bytes) (given_turns turns asked.job) reports)
   not_replayed : (status : ℕ) (text : List ℕ) → IsRefusal form place bytes status text → IsReplayReply form is_strict turns place bytes status text
   failed : (told : Form) → IsReplayReply form is_strict turns place bytes 3 (out_of_memory_in told)
 
@@ -56,10 +56,10 @@ pub data IsDrawReply (form : Form) (turns : Option ℕ) (place : Place) (bytes :
 pub data IsRunReply (form : Form) (options : RunOptions) (bytes : List ℕ) : ℕ → List ℕ → Type 0 where
   ran : (asked : Asked) (reports : List Report) → options.repeat ≡ None → IsAskedAt options.place bytes asked
       → IsLawful (given_turns options.turns asked.job) reports
-      → IsRunReply form options bytes (played_status options.is_strict (as_asked asked.rows (given_turns options.turns asked.job) reports) (has_unfinished reports)) (trace_in form (names_at options.place bytes) (given_turns options.turns asked.job) reports)
+      → IsRunReply form options bytes (played_status options.is_strict (as_asked asked.rows (given_turns options.turns asked.job) reports) (has_unfinished (given_turns options.turns asked.job) reports)) (trace_in form (names_at options.place bytes) (given_turns options.turns asked.job) reports)
   repeated : (asked : Asked) (runs : List (List Report)) → options.repeat ≡ Some (length runs) → IsAskedAt options.place bytes asked
       → All (IsLawful (given_turns options.turns asked.job)) runs
-      → IsRunReply form options bytes (played_status options.is_strict (list_all (as_asked asked.rows (given_turns options.turns asked.job)) runs) (list_any has_unfinished runs)) (repeats_in form options.is_brief (given_turns options.turns asked.job) (length runs) (tally (map (trace_in form (names_at options.place bytes) (given_turns options.turns asked.job)) runs)))
+      → IsRunReply form options bytes (played_status options.is_strict (list_all (as_asked asked.rows (given_turns options.turns asked.job)) runs) (list_any (has_unfinished (given_turns options.turns asked.job)) runs)) (repeats_in form options.is_brief (given_turns options.turns asked.job) (length runs) (tally (map (trace_in form (names_at options.place bytes) (given_turns options.turns asked.job)) runs)))
   not_run : (status : ℕ) (text : List ℕ) → IsRefusal form options.place bytes status text → IsRunReply form options bytes status text
   no_thread : (asked : Asked) → IsAskedAt options.place bytes asked → IsRunReply form options bytes 3 (failed_in form run.NoThread)
   untrue : (asked : Asked) (reports : List Report) → IsAskedAt options.place bytes asked

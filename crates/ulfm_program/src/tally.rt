@@ -54,7 +54,7 @@ pub fn tally_of<R: Threads + Wait + Sync>(
     asked: &Reading,
 ) -> Result<Tally, Failure>
     ensures runs { IfOk result (λ t. (runs : List (List Report)) × (length runs ≡ times) × All (IsLawful asked.now.job) runs
-        × (t.is_unfinished ≡ list_any has_unfinished runs) × (t.is_met ≡ list_all (as_asked (rows_asked asked.now.never.items) asked.now.job) runs) × (rows_of t.rows.items ≡ tally (map (trace_in form bytes.now asked.now.job) runs))) }
+        × (t.is_unfinished ≡ list_any (has_unfinished asked.now.job) runs) × (t.is_met ≡ list_all (as_asked (rows_asked asked.now.never.items) asked.now.job) runs) × (rows_of t.rows.items ≡ tally (map (trace_in form bytes.now asked.now.job) runs))) }
     ensures shown { IfErr result (λ failure. IsShown asked.now.job failure) }
 {
     let mut tally = Tally {
@@ -84,14 +84,14 @@ fn run_once<R: Threads + Wait + Sync>(
     requires few { All (λ (row : Kept). row.count ≤ done) tally.old.rows.items }
     requires room { done < 4294967295 }
     ensures ran { OnOk result ((reports : List Report) × IsLawful asked.now.job reports
-        × (tally.new.is_unfinished ≡ (tally.old.is_unfinished || has_unfinished reports))
+        × (tally.new.is_unfinished ≡ (tally.old.is_unfinished || has_unfinished asked.now.job reports))
         × (tally.new.is_met ≡ (tally.old.is_met && as_asked (rows_asked asked.now.never.items) asked.now.job reports))
         × (rows_of tally.new.rows.items ≡ counted_once (rows_of tally.old.rows.items) (trace_in form bytes.now asked.now.job reports))) }
     ensures few { OnOk result (All (λ (row : Kept). row.count ≤ done + 1) tally.new.rows.items) }
     ensures shown { IfErr result (λ failure. IsShown asked.now.job failure) }
 {
     let reports = run_by_carrier(rt, alloc, carrier, &asked.job)?;
-    let hangs = has_unfinished(reports.as_slice());
+    let hangs = has_unfinished(&asked.job, reports.as_slice());
     let is_met = as_asked(alloc, asked, reports.as_slice());
     tally.is_unfinished = tally.is_unfinished | hangs;
     tally.is_met = tally.is_met & is_met;

@@ -4,7 +4,7 @@ use Rattle.ulfm_job.specs.declared.clause.Clause.{Clause}
 use Rattle.ulfm_job.specs.declared.fault.JobFault.{JobFault}
 use Rattle.ulfm_job.specs.declared.fault.JobFault.TheVariants.{TooLarge, OutOfMemory}
 use Rattle.ulfm_job.specs.Job.{JobView, moved_clause, moved_number, script_at, step_count}
-use Rattle.ulfm_stops.specs.Place.{IsPlaceOf, stopped, stops_of}
+use Rattle.ulfm_stops.specs.Place.{IsPlaceOf, before, stopped, stops_of}
 use Rattle.ulfm_stops.specs.Text.{place_text}
 use Rattle.ulfm_stops.specs.declared.place.Place.{Place}
 use Rattle.ulfm_stops.specs.declared.place.Place.TheVariants.{Nowhere, One, Two}
@@ -34,11 +34,11 @@ asked_view kept = record { job = kept.job; rows = rows_of kept.never.items; name
 
 -- clauses by the numbers that steps have beside a stop
 abbrev pub clauses_beside : Stop → ℕ → List Clause → List Clause
-clauses_beside stop n clauses = map (moved_clause stop.rank stop.at n) clauses
+clauses_beside stop n clauses = map (moved_clause stop.rank (before stop) n) clauses
 
 -- the name of a step by the number that the step has beside a stop
 abbrev pub name_beside : Stop → ℕ → Name → Name
-name_beside stop n name = if name.rank == stop.rank then record name { at = moved_number stop.at n name.at } else name
+name_beside stop n name = if name.rank == stop.rank then record name { at = moved_number (before stop) n name.at } else name
 
 -- how many steps the rank of a stop has without it
 abbrev pub steps_without : Stop → JobView → ℕ

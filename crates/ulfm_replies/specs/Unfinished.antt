@@ -1,16 +1,22 @@
 -- Steps that were left unfinished, and the status that tells of them.
-use Rattle.std.specs.Prelude.{ℕ, Bool, ◌&&◌, List, if◌then◌else◌}
+use Rattle.std.specs.Prelude.{ℕ, ◌+◌, Bool, false, not, ◌&&◌, ◌||◌, List, [], ◌∷◌, if◌then◌else◌}
 use Rattle.std.specs.List.{list_any}
+use Rattle.ulfm_job.specs.Job.{JobView, may_leave}
 use Rattle.ulfm_script.specs.declared.answer.StepReport.{StepReport}
 use Rattle.ulfm_script.specs.Report.{Report, is_unfinished}
 
--- some step of the rank was left unfinished
-abbrev pub leaves_unfinished : Report → Bool
-leaves_unfinished report = list_any (λ (step : StepReport). is_unfinished step.answer) report.steps
+-- one of these steps of the rank r, the first of which is numbered k, was left unfinished, and isn't one that may be given up early
+abbrev pub left_from : JobView → ℕ → ℕ → List StepReport → Bool
+left_from job r k [] = false
+left_from job r k (step ∷ steps) = is_unfinished step.answer && not (may_leave job r k) || left_from job r (k + 1) steps
 
--- some step of some rank was left unfinished
-abbrev pub has_unfinished : List Report → Bool
-has_unfinished reports = list_any leaves_unfinished reports
+-- some step of the rank was
+abbrev pub leaves_unfinished : JobView → Report → Bool
+leaves_unfinished job report = left_from job report.rank.me 0 report.steps
+
+-- some step of some rank was left unfinished: one that may be given up early isn't looked at
+abbrev pub has_unfinished : JobView → List Report → Bool
+has_unfinished job reports = list_any (leaves_unfinished job) reports
 
 -- the status of what was played to its end: 9 where the answers aren't as the job asks, with `--strict` 6 where a step was left
 -- unfinished, else 0

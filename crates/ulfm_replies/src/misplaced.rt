@@ -47,6 +47,12 @@ fn reason(alloc: Global, job: &Job, place: Place, stop: Stop) -> Result<String, 
     if rank >= job.ranks() {
         return format!(in alloc; "place refused: {place}: the job has no rank {rank}\n");
     }
+    if stop.dies && !job.is_joint(rank, stop.at as usize) {
+        return format!(in alloc;
+            "place refused: {place}: a rank dies inside a shrink or an agreement, and {rank}.{} is neither\n",
+            stop.at
+        );
+    }
     let steps = job.script_len(rank);
     format!(in alloc;
         "place refused: {place}: rank {rank} has {steps} steps, and a stop before one of them or after the last\n"

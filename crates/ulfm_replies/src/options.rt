@@ -58,7 +58,7 @@ pub fn stop_option<'a>(alloc: Global) -> Arg<'a>
         .long("stop")
         .value_name("PLACE")
         .help(
-            "Stops ranks before these steps: 0.2 is rank 0 before its step 2, 0.2+1.3 two ranks, - none",
+            "Stops ranks: 0.2 is rank 0 before its step 2, 1.5* rank 1 inside its step 5, 0.2+1.3 two ranks, - none",
         )
 }
 

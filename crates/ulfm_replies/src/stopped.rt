@@ -108,7 +108,7 @@ pub fn asked_beside(alloc: Global, stop: Stop, read: &Reading) -> Result<Reading
     let len = read.job.script_len(stop.rank);
     let never = rows_beside(alloc, stop, len, read.never.as_slice())?;
     let names = names_beside(alloc, stop, len, read.names.as_slice())?;
-    match read.job.with_stop(stop.rank, stop.at) {
+    match stop.job(&read.job) {
         Ok(job) => Ok(Reading { job, never, names }),
         Err(_) => Err(AllocError),
     }

@@ -4,11 +4,12 @@ ghost use Rattle.ulfm_script.specs.Report.{is_unfinished};
 ghost use Rattle.ulfm_json.specs.Form.{trace_in};
 ghost use Rattle.ulfm_reader.specs.JobText.{rows_of};
 ghost use Rattle.ulfm_replies.specs.Asking.{as_asked};
-ghost use Rattle.ulfm_replies.specs.Unfinished.{has_unfinished, leaves_unfinished, played_status};
+ghost use Rattle.ulfm_replies.specs.Unfinished.{has_unfinished, left_from, leaves_unfinished, played_status};
 
 use crate::asking::as_asked;
 use crate::reply::{DONE, NOT_EXPECTED, Reply, UNFINISHED};
 use std::alloc::{AllocError, Global};
+use ulfm_job::Job;
 use ulfm_json::{Form, trace_in};
 use ulfm_reader::Reading;
 use ulfm_script::{RankReport, StepAnswer, StepReport};
@@ -22,10 +23,10 @@ pub fn trace_reply(
     asked: &Reading,
     reports: &[RankReport],
 ) -> Result<Reply, AllocError>
-    ensures { IfOk result (λ r. (r.status ≡ played_status is_strict (as_asked (rows_of asked.now.never.items) asked.now.job reports.now) (has_unfinished reports.now)) × (string_bytes r.text ≡ trace_in form bytes.now asked.now.job reports.now)) }
+    ensures { IfOk result (λ r. (r.status ≡ played_status is_strict (as_asked (rows_of asked.now.never.items) asked.now.job reports.now) (has_unfinished asked.now.job reports.now)) × (string_bytes r.text ≡ trace_in form bytes.now asked.now.job reports.now)) }
 {
     let is_met = as_asked(alloc, asked, reports);
-    let status = played_status(is_strict, is_met, has_unfinished(reports));
+    let status = played_status(is_strict, is_met, has_unfinished(&asked.job, reports));
     let text = trace_in(alloc, form, bytes, &asked.job, reports)?;
     Ok(Reply { status, text })
 }
@@ -43,18 +44,30 @@ pub fn played_status(is_strict: bool, is_met: bool, is_unfinished: bool) -> u8
     }
 }
 
-/// Whether some step of some rank was left unfinished.
-pub fn has_unfinished(reports: &[RankReport]) -> bool
-    ensures { result ≡ has_unfinished reports.now }
+/// Whether some step of some rank was left unfinished. One that may be given up early isn't looked at.
+pub fn has_unfinished(job: &Job, reports: &[RankReport]) -> bool
+    ensures { result ≡ has_unfinished job.now reports.now }
 {
-    reports.iter().any(|report| leaves_unfinished(report))
+    reports.iter().any(|report| leaves_unfinished(job, report))
 }
 
-/// Whether some step of a rank was left unfinished.
-fn leaves_unfinished(report: &RankReport) -> bool
-    ensures { result ≡ leaves_unfinished report.now }
+/// Whether some step of a rank was left unfinished, that may not be given up early.
+fn leaves_unfinished(job: &Job, report: &RankReport) -> bool
+    ensures { result ≡ leaves_unfinished job.now report.now }
 {
-    report.steps().iter().any(|step| is_unfinished(step))
+    left_from(job, report.me().number, report.steps())
+}
+
+/// Whether one of these steps of a rank was left unfinished, that may not be given up early.
+fn left_from(job: &Job, rank: u8, steps: &[StepReport]) -> bool
+    ensures { result ≡ left_from job.now rank 0 steps.now }
+{
+    for (k, step) in steps.iter().enumerate() {
+        if is_unfinished(step) && !job.may_leave(rank, k) {
+            return true;
+        }
+    }
+    false
 }
 
 /// Whether a step was left unfinished.

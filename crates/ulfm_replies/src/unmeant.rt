@@ -28,7 +28,7 @@ fn unmeant_text(alloc: Global, options: &ArgMatches<'_>) -> Result<String, Alloc
     if let Some(text) = value_of(options, "stop") {
         if Place::parse(text).is_none() {
             return format!(in alloc;
-                "invalid value '{text}' for '--stop <PLACE>'\n  [a rank, a dot and the number of a step, as 0.2; two of them, as 0.2+1.3; or -]"
+                "invalid value '{text}' for '--stop <PLACE>'\n  [a rank, a dot and the number of a step, as 0.2, with a star to die inside it, as 1.5*; two of them, as 0.2+1.3; or -]"
             );
         }
         if value_of(options, "stops").is_some() {

@@ -1,13 +1,15 @@
 -- All places of a job are inside it.
-use Rattle.std.proofs.Common.{◌≡◌, ℕ, ◌+◌, ◌<◌, ◌≤◌, List, [], ◌∷◌, ◌++◌, get_or, length, map, filter, All, Bool, true, false, ltb, leb, cond, not, refl, subst, sym, ◌∙◌, arith}
-use Rattle.std.proofs.lemmas.Bool.{ltb-true}
+use Rattle.std.proofs.Common.{◌≡◌, ℕ, ◌+◌, ◌<◌, ◌≤◌, List, [], ◌∷◌, ◌++◌, get_or, length, map, filter, All, Bool, true, false, ltb, leb, cond, not, Option, Some, None, slice_get, if◌then◌else◌, refl, subst, sym, ◌∙◌, arith}
+use Rattle.std.proofs.lemmas.Bool.{false≢true, ltb-true}
+use Rattle.std.proofs.lemmas.Option.{slice_get_within}
 use Rattle.std.proofs.lemmas.List.Elements.{All-append, All-cons, All-head, All-map, All-nil, All-tail}
 use Rattle.std.proofs.lemmas.List.FromFn.{get_or-range_with_len, length-range_with_len}
 use Rattle.std.proofs.lemmas.List.Sums.{prefix_len-le-length}
 use Rattle.std.specs.List.{flat_map, range_with_len}
-use Rattle.ulfm_job.specs.Job.{JobView, script_at}
+use Rattle.ulfm_job.specs.Job.{JobView, is_decided_together, script_at}
+use Rattle.ulfm_job.specs.declared.step.Step.{Step}
 use Rattle.ulfm_stops.specs.Place.{IsPlaceOf, IsStopOf}
-use Rattle.ulfm_stops.specs.Places.{all_stops, if_allowed, last_place, pairs_of, places_of, stop_at, stops_always, stops_in, twos}
+use Rattle.ulfm_stops.specs.Places.{all_stops, if_allowed, last_place, pairs_of, places_of, stop_at, stop_inside, stops_always, stops_in, stops_near, twos}
 use Rattle.ulfm_stops.specs.declared.place.Place.{Place}
 use Rattle.ulfm_stops.specs.declared.place.Place.TheVariants.{Nowhere, One, Two}
 use Rattle.ulfm_stops.specs.declared.stop.Stop.{Stop}
@@ -27,9 +29,25 @@ All-range P n h = λ k d lt.
 last_place-le : (j : JobView) (r : ℕ) → last_place j r ≤ length (script_at j r)
 last_place-le j r = omega (arith, length-range_with_len 0 (length (script_at j r)), prefix_len-le-length (λ k. not (stops_always j r k)) (range_with_len 0 (length (script_at j r))))
 
+-- a step that ranks decide together is one of the script
+joint_within : (xs : List Step) (k : ℕ) → is_decided_together (slice_get xs k) ≡ true → k < length xs
+joint_within xs k is = by (slice_get xs k) refl is
+  where
+    by : (o : Option Step) → slice_get xs k ≡ o → is_decided_together o ≡ true → k < length xs
+    by None here joint = absurd (false≢true joint)
+    by (Some step) here joint = slice_get_within xs k step here
+
+near_inside : (j : JobView) (r at : ℕ) → r < j.ranks → at ≤ length (script_at j r) → All (IsStopOf j) (stops_near j r at)
+near_inside j r at lt le =
+    All-cons (IsStopOf j) (stop_at r at) _ (record { rank = lt; at = le; joint = λ dies. absurd (false≢true dies) }) (by (is_decided_together (slice_get (script_at j r) at)) refl)
+  where
+    by : (b : Bool) → is_decided_together (slice_get (script_at j r) at) ≡ b → All (IsStopOf j) (if b then stop_inside r at ∷ [] else [])
+    by true joint = All-cons (IsStopOf j) (stop_inside r at) [] (record { rank = lt; at = (let low = joint_within (script_at j r) at joint in omega (arith, low)); joint = λ dies. joint }) (All-nil (IsStopOf j))
+    by false joint = All-nil (IsStopOf j)
+
 stops_inside : (j : JobView) (r : ℕ) → r < j.ranks → All (IsStopOf j) (stops_in j r)
-stops_inside j r lt = All-map (IsStopOf j) (stop_at r) (range_with_len 0 (last_place j r + 1))
-    (All-range (λ at. IsStopOf j (stop_at r at)) (last_place j r + 1) (λ k below. record { rank = lt; at = omega (arith, below, last_place-le j r) }))
+stops_inside j r lt = All-flat_map (IsStopOf j) (stops_near j r) (range_with_len 0 (last_place j r + 1))
+    (All-range (λ at. All (IsStopOf j) (stops_near j r at)) (last_place j r + 1) (λ k below. near_inside j r k lt (omega (arith, below, last_place-le j r))))
 
 all_inside : (j : JobView) → All (IsStopOf j) (all_stops j)
 all_inside j = All-flat_map (IsStopOf j) (stops_in j) (range_with_len 0 j.ranks) (All-range (λ r. All (IsStopOf j) (stops_in j r)) j.ranks (λ r lt. stops_inside j r lt))

@@ -11,7 +11,7 @@ use Rattle.std.proofs.lemmas.List.{drop_all}
 use Rattle.std.specs.List.{after_first, before_first, list_all, position_or_len}
 use Rattle.std.specs.Str.{bytes_eq}
 use Rattle.std.specs.Str.Parse.{IsNumeral, digits_value, without_leading_plus}
-use Rattle.ulfm_stops.specs.Text.{number_of_text, stop_by, stop_of_text}
+use Rattle.ulfm_stops.specs.Text.{is_starred, number_of_text, stop_by, stop_of_text, unstarred}
 use Rattle.ulfm_stops.specs.inside.Digits.{is_number}
 
 abbrev AreDigits : List ℕ → Type 0
@@ -96,15 +96,15 @@ number_long most text small is h =
 
 -- a text without a dot is no stop
 pub no_dot : (text : List ℕ) → position_or_len (λ c. c == 46) text ≡ length text → None ≡ stop_of_text text
-no_dot text none = by (number_of_text 255 (before_first (λ c. c == 46) text)) (number_of_text 65535 (after_first (λ c. c == 46) text)) missing
+no_dot text none = by (number_of_text 255 (before_first (λ c. c == 46) text)) (number_of_text 65535 (unstarred (after_first (λ c. c == 46) text))) (is_starred (after_first (λ c. c == 46) text)) missing
   where
-    nothing : number_of_text 65535 [] ≡ None
+    nothing : number_of_text 65535 (unstarred []) ≡ None
     nothing = rw (decimal_digit 0 (omega arith)) refl
 
-    missing : number_of_text 65535 (after_first (λ c. c == 46) text) ≡ None
-    missing = ap (number_of_text 65535) (drop_all (position_or_len (λ c. c == 46) text + 1) text (omega (arith, none))) ∙ nothing
+    missing : number_of_text 65535 (unstarred (after_first (λ c. c == 46) text)) ≡ None
+    missing = ap (λ (step : List ℕ). number_of_text 65535 (unstarred step)) (drop_all (position_or_len (λ c. c == 46) text + 1) text (omega (arith, none))) ∙ nothing
 
-    by : (rank at : Option ℕ) → at ≡ None → None ≡ stop_by rank at
-    by None at e = refl
-    by (Some rank) None e = refl
-    by (Some rank) (Some at) e = absurd cc
+    by : (rank at : Option ℕ) (dies : Bool) → at ≡ None → None ≡ stop_by rank at dies
+    by None at dies e = refl
+    by (Some rank) None dies e = refl
+    by (Some rank) (Some at) dies e = absurd cc

@@ -1,18 +1,19 @@
 -- A text that is read as a place is the one in which that place is written.
-use Rattle.std.proofs.Common.{◌≡◌, ℕ, ◌<◌, ◌==◌, List, ◌∷◌, ◌++◌, append_assoc, length, get_or, leb, ltb, Bool, true, false, ◌&&◌, not, Option, Some, None, IfSome, option_map, codes, if◌then◌else◌, refl, sym, ap, ap₂, ◌∙◌, arith}
+use Rattle.std.proofs.Common.{◌≡◌, ℕ, ◌<◌, ◌==◌, List, ◌∷◌, ◌++◌, append_assoc, length, leb, ltb, Bool, true, false, ◌&&◌, not, Option, Some, None, IfSome, option_map, codes, if◌then◌else◌, refl, sym, ap, ap₂, ◌∙◌, arith}
 use Rattle.std.proofs.lemmas.Bool.{ltb-true}
-use Rattle.std.proofs.lemmas.Bool.Decides.{Decides-eqb, nat_tests}
-use Rattle.std.proofs.lemmas.List.Sums.{passes_at_first, prefix_len-le-length, split_at_first}
+use Rattle.std.proofs.lemmas.Bool.Decides.{nat_tests}
+use Rattle.std.proofs.lemmas.List.Sums.{prefix_len-le-length}
 use Rattle.std.proofs.lemmas.Slice.Eq.{bytes_eq-Decides}
 use Rattle.std.specs.Fmt.{decimal}
 use Rattle.std.specs.List.{after_first, before_first, position_or_len}
 use Rattle.std.specs.Str.{bytes_eq}
 use Rattle.std.specs.Str.Parse.{digits_value}
-use Rattle.ulfm_stops.specs.Text.{number_of_text, place_of_text, place_text, stop_by, stop_of_text, stop_text, stops_of_text, two_by}
+use Rattle.ulfm_stops.specs.Text.{is_starred, number_of_text, place_of_text, place_text, star_if, stop_by, stop_of_text, stop_text, stops_of_text, two_by, unstarred}
 use Rattle.ulfm_stops.specs.declared.place.Place.{Place}
 use Rattle.ulfm_stops.specs.declared.place.Place.TheVariants.{Nowhere, One, Two}
 use Rattle.ulfm_stops.specs.declared.stop.Stop.{Stop}
 use Rattle.ulfm_stops.proofs.Numbers.{no_dot}
+use Rattle.ulfm_stops.proofs.Starred.{around, star_written}
 
 some_same : {A : Type 0} (x y : A) → Some x ≡ Some y → x ≡ y
 some_same x y e = cc
@@ -25,12 +26,6 @@ number_written most n text = by (leb (digits_value 10 text) most) (bytes_eq text
     by true true same e = ap decimal (sym (some_same (digits_value 10 text) n e)) ∙ sym ((bytes_eq-Decides text (decimal (digits_value 10 text))).0 same)
     by true false same e = absurd cc
     by false b same e = absurd cc
-
--- a text around the first c
-around : (c : ℕ) (text : List ℕ) → position_or_len (λ b. b == c) text < length text → before_first (λ b. b == c) text ++ (c ∷ after_first (λ b. b == c) text) ≡ text
-around c text lt =
-    let at : get_or text (position_or_len (λ b. b == c) text) 0 ≡ c = (Decides-eqb (get_or text (position_or_len (λ b. b == c) text) 0) c).0 (passes_at_first (λ b. b == c) text 0 lt) in
-    ap (λ (b : ℕ). before_first (λ b. b == c) text ++ (b ∷ after_first (λ b. b == c) text)) (sym at) ∙ sym (split_at_first (λ b. b == c) text 0 lt)
 
 -- a text that is a stop has a dot
 has_dot : (text : List ℕ) (stop : Stop) → stop_of_text text ≡ Some stop → position_or_len (λ b. b == 46) text < length text
@@ -45,18 +40,21 @@ has_dot text stop e = by (ltb (position_or_len (λ b. b == 46) text) (length tex
 
 -- a stop
 stop_written : (text : List ℕ) (stop : Stop) → stop_of_text text ≡ Some stop → stop_text stop ≡ text
-stop_written text stop e = by (number_of_text 255 (before_first (λ c. c == 46) text)) (number_of_text 65535 (after_first (λ c. c == 46) text)) refl refl e
+stop_written text stop e = by (number_of_text 255 (before_first (λ c. c == 46) text)) (number_of_text 65535 (unstarred (after_first (λ c. c == 46) text))) refl refl e
   where
-    by : (rank at : Option ℕ) → number_of_text 255 (before_first (λ c. c == 46) text) ≡ rank → number_of_text 65535 (after_first (λ c. c == 46) text) ≡ at → stop_by rank at ≡ Some stop → stop_text stop ≡ text
+    by : (rank at : Option ℕ) → number_of_text 255 (before_first (λ c. c == 46) text) ≡ rank → number_of_text 65535 (unstarred (after_first (λ c. c == 46) text)) ≡ at → stop_by rank at (is_starred (after_first (λ c. c == 46) text)) ≡ Some stop → stop_text stop ≡ text
     by None at r a e = absurd cc
     by (Some rank) None r a e = absurd cc
     by (Some rank) (Some at) r a e =
-        let is : record { rank = rank; at = at } ≡ stop = some_same _ stop e in
-        ap stop_text (sym is) ∙ append_assoc (decimal rank) (codes ".") (decimal at)
-        ∙ ap₂ (λ (front rest : List ℕ). front ++ (46 ∷ rest)) (number_written 255 rank _ r) (number_written 65535 at _ a) ∙ around 46 text (has_dot text stop whole)
+        let step = after_first (λ c. c == 46) text in
+        let star = star_if (is_starred step) in
+        let is : record { rank = rank; at = at; dies = is_starred step } ≡ stop = some_same _ stop e in
+        ap stop_text (sym is) ∙ append_assoc (decimal rank ++ codes ".") (decimal at) star ∙ append_assoc (decimal rank) (codes ".") (decimal at ++ star)
+        ∙ ap₂ (λ (front rest : List ℕ). front ++ (46 ∷ rest)) (number_written 255 rank _ r) (ap (λ (number : List ℕ). number ++ star) (number_written 65535 at _ a) ∙ star_written step)
+        ∙ around 46 text (has_dot text stop whole)
       where
         whole : stop_of_text text ≡ Some stop
-        whole = ap₂ stop_by r a ∙ e
+        whole = ap₂ (λ (x y : Option ℕ). stop_by x y (is_starred (after_first (λ c. c == 46) text))) r a ∙ e
 
 place_written : (text : List ℕ) (place : Place) → place_of_text text ≡ Some place → place_text place ≡ text
 place_written text place = by (bytes_eq text (codes "-")) refl

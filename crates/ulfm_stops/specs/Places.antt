@@ -1,9 +1,9 @@
 -- All places of a job.
-use Rattle.std.specs.Prelude.{ℕ, ◌+◌, ◌==◌, ◌&&◌, nat_le, nat_lt, Bool, false, not, List, [], ◌∷◌, ◌++◌, filter, length, map, slice_get, if◌then◌else◌}
+use Rattle.std.specs.Prelude.{ℕ, ◌+◌, ◌==◌, ◌&&◌, nat_le, nat_lt, Bool, true, false, not, List, [], ◌∷◌, ◌++◌, filter, length, map, slice_get, if◌then◌else◌}
 use Rattle.std.specs.List.{flat_map, list_any, position_or_len, range_with_len}
 use Rattle.std.specs.Option.{option_map_or}
 use Rattle.ulfm_job.specs.declared.clause.Clause.{Clause}
-use Rattle.ulfm_job.specs.Job.{JobView, is_stop_step, script_at}
+use Rattle.ulfm_job.specs.Job.{JobView, is_decided_together, is_stop_step, script_at}
 use Rattle.ulfm_stops.specs.declared.place.Place.{Place}
 use Rattle.ulfm_stops.specs.declared.place.Place.TheVariants.{Nowhere, One, Two}
 use Rattle.ulfm_stops.specs.declared.stop.Stop.{Stop}
@@ -22,11 +22,19 @@ last_place j r = position_or_len (stops_always j r) (range_with_len 0 (length (s
 
 -- a stop of the rank r before its step `at`
 abbrev pub stop_at : ℕ → ℕ → Stop
-stop_at r at = record { rank = r; at = at }
+stop_at r at = record { rank = r; at = at; dies = false }
 
--- the stops of the rank r: before each step up to that stop, or before each step and after the last one
+-- a stop of the rank r inside its step `at`
+abbrev pub stop_inside : ℕ → ℕ → Stop
+stop_inside r at = record { rank = r; at = at; dies = true }
+
+-- the stops of the rank r at its step `at`: before it, and inside it where ranks decide it together
+abbrev pub stops_near : JobView → ℕ → ℕ → List Stop
+stops_near j r at = stop_at r at ∷ (if is_decided_together (slice_get (script_at j r) at) then stop_inside r at ∷ [] else [])
+
+-- the stops of the rank r: at each step up to that stop, or at each step and after the last one
 abbrev pub stops_in : JobView → ℕ → List Stop
-stops_in j r = map (stop_at r) (range_with_len 0 (last_place j r + 1))
+stops_in j r = flat_map (stops_near j r) (range_with_len 0 (last_place j r + 1))
 
 -- those of all ranks
 abbrev pub all_stops : JobView → List Stop

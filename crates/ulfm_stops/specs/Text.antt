@@ -1,5 +1,5 @@
 -- How places are written.
-use Rattle.std.specs.Prelude.{ℕ, ◌==◌, ◌&&◌, nat_le, nat_lt, List, ◌++◌, length, Option, Some, None, option_map, codes, if◌then◌else◌}
+use Rattle.std.specs.Prelude.{ℕ, ◌==◌, ◌&&◌, nat_le, nat_lt, Bool, List, [], ◌++◌, length, Option, Some, None, option_map, codes, if◌then◌else◌}
 use Rattle.std.specs.Fmt.{decimal}
 use Rattle.std.specs.List.{after_first, before_first, position_or_len}
 use Rattle.std.specs.Str.{bytes_eq}
@@ -8,9 +8,13 @@ use Rattle.ulfm_stops.specs.declared.place.Place.{Place}
 use Rattle.ulfm_stops.specs.declared.place.Place.TheVariants.{Nowhere, One, Two}
 use Rattle.ulfm_stops.specs.declared.stop.Stop.{Stop}
 
--- a stop: its rank, a dot, and the number of its step
+-- a star, or nothing
+abbrev pub star_if : Bool → List ℕ
+star_if dies = if dies then codes "*" else []
+
+-- a stop: its rank, a dot, the number of its step, and a star where the rank dies inside that
 abbrev pub stop_text : Stop → List ℕ
-stop_text stop = decimal stop.rank ++ codes "." ++ decimal stop.at
+stop_text stop = decimal stop.rank ++ codes "." ++ decimal stop.at ++ star_if stop.dies
 
 -- a place: a hyphen, or its stops
 abbrev pub place_text : Place → List ℕ
@@ -23,13 +27,25 @@ abbrev pub number_of_text : ℕ → List ℕ → Option ℕ
 number_of_text most text = if nat_le (digits_value 10 text) most && bytes_eq text (decimal (digits_value 10 text)) then Some (digits_value 10 text) else None
 
 -- a stop of these numbers, if they are some
-abbrev pub stop_by : Option ℕ → Option ℕ → Option Stop
-stop_by (Some rank) (Some at) = Some (record { rank = rank; at = at })
-stop_by _ _ = None
+abbrev pub stop_by : Option ℕ → Option ℕ → Bool → Option Stop
+stop_by (Some rank) (Some at) dies = Some (record { rank = rank; at = at; dies = dies })
+stop_by _ _ dies = None
 
--- the stop of a text: what stands before the dot is the rank, and what stands behind it the number of its step
+-- a text ends with its first star
+abbrev pub is_starred : List ℕ → Bool
+is_starred text = bytes_eq text (before_first (λ c. c == 42) text ++ codes "*")
+
+-- what stands before that star
+abbrev pub unstarred : List ℕ → List ℕ
+unstarred text = if is_starred text then before_first (λ c. c == 42) text else text
+
+-- the stop of a rank's text and a step's: the number of the step, with a star behind it or without one
+abbrev pub stop_of_parts : List ℕ → List ℕ → Option Stop
+stop_of_parts rank step = stop_by (number_of_text 255 rank) (number_of_text 65535 (unstarred step)) (is_starred step)
+
+-- the stop of a text: what stands before the dot is the rank, and what stands behind it the step
 abbrev pub stop_of_text : List ℕ → Option Stop
-stop_of_text text = stop_by (number_of_text 255 (before_first (λ c. c == 46) text)) (number_of_text 65535 (after_first (λ c. c == 46) text))
+stop_of_text text = stop_of_parts (before_first (λ c. c == 46) text) (after_first (λ c. c == 46) text)
 
 -- a place of two stops, if they are some, and their ranks rise
 abbrev pub two_by : Option Stop → Option Stop → Option Place

@@ -3,7 +3,7 @@ ghost use Rattle.std.specs.Prelude.{◌≡◌, ◌<◌, ◌≤◌, ◌++◌, All
 ghost use Rattle.std.specs.List.{list_any};
 ghost use Rattle.ulfm_job.specs.Job.{IsJob, script_at};
 ghost use Rattle.ulfm_stops.specs.Place.{IsPlaceOf};
-ghost use Rattle.ulfm_stops.specs.Places.{all_stops, is_asked, last_place, pairs_of, places_of, stops_always, stops_in, twos};
+ghost use Rattle.ulfm_stops.specs.Places.{all_stops, is_asked, last_place, pairs_of, places_of, stops_always, stops_in, stops_near, twos};
 ghost use Rattle.ulfm_stops.specs.declared.place.Place.TheVariants.{One};
 
 use crate::place::Place;
@@ -90,9 +90,26 @@ fn push_stops(stops: &mut Vec<Stop>, job: &Job, rank: u8) -> Result<(), OutOfMem
     ensures { OnOk result (stops.new.items ≡ stops.old.items ++ stops_in job.now rank) }
 {
     for at in 0..last_place(job, rank) + 1 {
+        push_near(stops, job, rank, at)?;
+    }
+    Ok(())
+}
+
+/// Adds the stops of a rank at one of its steps: before it, and inside it where ranks decide it together.
+fn push_near(stops: &mut Vec<Stop>, job: &Job, rank: u8, at: usize) -> Result<(), OutOfMemory>
+    requires { at ≤ 256 }
+    ensures { OnOk result (stops.new.items ≡ stops.old.items ++ stops_near job.now rank at) }
+{
+    stops.push(Stop {
+        rank,
+        at: at as u16,
+        dies: false,
+    })?;
+    if job.is_joint(rank, at) {
         stops.push(Stop {
             rank,
             at: at as u16,
+            dies: true,
         })?;
     }
     Ok(())

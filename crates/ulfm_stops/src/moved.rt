@@ -1,6 +1,7 @@
 //! Numbers of steps beside a stop.
 ghost use Rattle.std.specs.Prelude.{◌≡◌, ◌≤◌, IfOk, map};
 ghost use Rattle.ulfm_job.specs.Job.{moved_clause, moved_number};
+ghost use Rattle.ulfm_stops.specs.Place.{before};
 
 use crate::copied::copied_clause;
 use crate::stop::Stop;
@@ -12,9 +13,9 @@ impl Stop {
     /// The number that a step of its rank has beside the stop, where the rank has `len` steps without it.
     pub fn number(self, len: usize, number: u16) -> u16
         requires { len ≤ 256 }
-        ensures { result ≡ moved_number self.at len number }
+        ensures { result ≡ moved_number (before self) len number }
     {
-        if self.at <= number && (number as usize) < len {
+        if self.before() <= number as usize && (number as usize) < len {
             number + 1
         } else {
             number
@@ -29,7 +30,7 @@ impl Stop {
         clauses: &[Clause],
     ) -> Result<Vec<Clause>, OutOfMemory>
         requires { len ≤ 256 }
-        ensures { IfOk result (λ moved. moved.items ≡ map (moved_clause self.rank self.at len) clauses.now) }
+        ensures { IfOk result (λ moved. moved.items ≡ map (moved_clause self.rank (before self) len) clauses.now) }
     {
         let mut moved = Vec::new(alloc);
         for clause in clauses {
@@ -41,7 +42,7 @@ impl Stop {
     /// One clause by these numbers.
     fn clause(self, alloc: Global, len: usize, clause: &Clause) -> Result<Clause, OutOfMemory>
         requires { len ≤ 256 }
-        ensures { IfOk result (λ moved. moved ≡ moved_clause self.rank self.at len clause.now) }
+        ensures { IfOk result (λ moved. moved ≡ moved_clause self.rank (before self) len clause.now) }
     {
         let mut moved = copied_clause(alloc, clause)?;
         if moved.rank == self.rank {

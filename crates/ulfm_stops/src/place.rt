@@ -23,7 +23,7 @@ pub enum Place {
 }
 
 impl Place {
-    /// The place of a text, as `-`, `0.2` or `0.2+1.3`: of those alone that places are written in.
+    /// The place of a text, as `-`, `0.2`, `1.5*` or `0.2+1.3`: of those alone that places are written in.
     pub fn parse(text: &str) -> Option<Place>
         ensures exact { result ≡ place_of_text text.now }
         ensures written { IfSome result (λ place. place_text place ≡ text.now) }
@@ -31,7 +31,8 @@ impl Place {
         place_of_text(text)
     }
 
-    /// Whether the job has these ranks, and their scripts these steps or an end there, and the ranks come in their order.
+    /// Whether the job has these ranks, and their scripts these steps or an end there, and the ranks come in their order. Who dies inside a
+    /// step does so inside a shrink or an agreement.
     pub fn is_inside(&self, job: &Job) -> bool
         ensures { IsTrue result ↔ IsPlaceOf job.now self.now }
     {
@@ -72,13 +73,14 @@ impl Place {
         }
         match self {
             Place::Nowhere => Ok(copied_job(alloc, job)?),
-            Place::One(stop) => job.with_stop(stop.rank, stop.at),
+            Place::One(stop) => stop.job(job),
             Place::Two(first, second) => with_two(job, *first, *second),
         }
     }
 }
 
 /// The job with a stop of each of two ranks.
+#[tactic(auto, using(crate::proofs::Beside::stop_still))]
 fn with_two(job: &Job, first: Stop, second: Stop) -> Result<Job, JobFault>
     requires first { IsStopOf job.now first }
     requires second { IsStopOf job.now second }
@@ -87,11 +89,11 @@ fn with_two(job: &Job, first: Stop, second: Stop) -> Result<Job, JobFault>
     ensures exact { IfOk result (λ made. made ≡ stopped second (stopped first job.now)) }
     ensures memory { IfErr result (λ fault. fault ≡ JobFault.OutOfMemory) }
 {
-    let made = job.with_stop(first.rank, first.at)?;
-    made.with_stop(second.rank, second.at)
+    let made = first.job(job)?;
+    second.job(&made)
 }
 
-/// `-`, or the stops: `0.2`, or `0.2+1.3`.
+/// `-`, or the stops: `0.2`, `1.5*`, or `0.2+1.3`.
 impl fmt::Display for Place {
     ghost output = { λ place. Some (place_text place) };
 

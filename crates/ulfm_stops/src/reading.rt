@@ -2,7 +2,7 @@
 ghost use Rattle.std.specs.Prelude.{◌≡◌, ◌≤◌, true, IfSome};
 ghost use Rattle.std.specs.Char.{is_ascii_digit};
 ghost use Rattle.std.specs.List.{list_all};
-ghost use Rattle.ulfm_stops.specs.Text.{number_of_text, place_of_text, stop_by, stop_of_text};
+ghost use Rattle.ulfm_stops.specs.Text.{is_starred, number_of_text, place_of_text, stop_by, stop_of_parts, stop_of_text, unstarred};
 ghost use Rattle.ulfm_stops.specs.inside.Digits.{is_number};
 
 use crate::place::Place;
@@ -27,25 +27,54 @@ pub fn place_of_text(text: &str) -> Option<Place>
     }
 }
 
-/// The stop of a text: a rank, a dot, and the number of a step.
+/// The stop of a text: a rank, a dot, and the number of a step, with a star behind it where the rank dies inside that.
 fn stop_of_text(text: &str) -> Option<Stop>
     ensures { result ≡ stop_of_text text.now }
 {
     match text.split_once('.') {
-        Some((rank, at)) => stop_by(number_of_text(rank, 255), number_of_text(at, 65_535)),
+        Some((rank, step)) => stop_of_parts(rank, step),
         None => None,
     }
 }
 
+/// The stop of a rank's text and a step's.
+fn stop_of_parts(rank: &str, step: &str) -> Option<Stop>
+    ensures { result ≡ stop_of_parts rank.now step.now }
+{
+    let (number, dies) = unstarred(step);
+    stop_by(
+        number_of_text(rank, 255),
+        number_of_text(number, 65_535),
+        dies,
+    )
+}
+
+/// What stands before the star with which a text ends, if it ends with one, and whether it does.
+fn unstarred(text: &str) -> (&str, bool)
+    ensures kept { result.0.now ≡ unstarred text.now }
+    ensures starred { result.1 ≡ is_starred text.now }
+{
+    match text.split_once('*') {
+        Some((front, rest)) => {
+            if rest.is_empty() {
+                return (front, true);
+            }
+            (text, false)
+        }
+        None => (text, false),
+    }
+}
+
 /// A stop of these numbers, if they are some.
-fn stop_by(rank: Option<u16>, at: Option<u16>) -> Option<Stop>
+fn stop_by(rank: Option<u16>, at: Option<u16>, dies: bool) -> Option<Stop>
     requires { IfSome rank (λ n. n ≤ 255) }
-    ensures { result ≡ stop_by rank at }
+    ensures { result ≡ stop_by rank at dies }
 {
     match (rank, at) {
         (Some(rank), Some(at)) => Some(Stop {
             rank: rank as u8,
             at,
+            dies,
         }),
         _ => None,
     }

@@ -7,13 +7,21 @@ use ulfm_reader::ReadJob;
 use ulfm_stops::{Place, places};
 
 /// Texts, each with the place that it is as it is written once more.
-const TEXTS: [(&str, Option<&str>); 22] = [
+const TEXTS: [(&str, Option<&str>); 30] = [
     ("-", Some("-")),
     ("0.2", Some("0.2")),
     ("7.255", Some("7.255")),
     ("255.65535", Some("255.65535")),
     ("0.2+1.3", Some("0.2+1.3")),
     ("0.10+7.0", Some("0.10+7.0")),
+    ("1.5*", Some("1.5*")),
+    ("0.2*+1.3", Some("0.2*+1.3")),
+    ("0.2+1.3*", Some("0.2+1.3*")),
+    ("0.*", None),
+    ("0*.2", None),
+    ("0.2**", None),
+    ("0.2*3", None),
+    ("*", None),
     ("", None),
     ("+", None),
     (".", None),
@@ -87,16 +95,17 @@ fn a_job_has_these_places(rt: HostRuntime) -> Result<(), Fail> {
     let none = written(rt.alloc(), 0)?;
     assert_eq!(rt; none.as_str(), "- ");
     let one = written(rt.alloc(), 1)?;
-    assert_eq!(rt; one.as_str(), "- 0.0 0.1 0.2 1.0 1.1 1.2 2.0 2.1 2.2 ");
+    assert_eq!(rt; one.as_str(), "- 0.0 0.1 0.2 1.0 1.1 1.2 2.0 2.0* 2.1 2.2 ");
     let two = written(rt.alloc(), 2)?;
     assert_eq!(rt;
         two.as_str(),
         concat!(
-            "- 0.0 0.1 0.2 1.0 1.1 1.2 2.0 2.1 2.2 ",
-            "0.0+1.0 0.0+1.1 0.0+1.2 0.0+2.0 0.0+2.1 0.0+2.2 ",
-            "0.1+1.0 0.1+1.1 0.1+1.2 0.1+2.0 0.1+2.1 0.1+2.2 ",
-            "0.2+1.0 0.2+1.1 0.2+1.2 0.2+2.0 0.2+2.1 0.2+2.2 ",
-            "1.0+2.0 1.0+2.1 1.0+2.2 1.1+2.0 1.1+2.1 1.1+2.2 1.2+2.0 1.2+2.1 1.2+2.2 ",
+            "- 0.0 0.1 0.2 1.0 1.1 1.2 2.0 2.0* 2.1 2.2 ",
+            "0.0+1.0 0.0+1.1 0.0+1.2 0.0+2.0 0.0+2.0* 0.0+2.1 0.0+2.2 ",
+            "0.1+1.0 0.1+1.1 0.1+1.2 0.1+2.0 0.1+2.0* 0.1+2.1 0.1+2.2 ",
+            "0.2+1.0 0.2+1.1 0.2+1.2 0.2+2.0 0.2+2.0* 0.2+2.1 0.2+2.2 ",
+            "1.0+2.0 1.0+2.0* 1.0+2.1 1.0+2.2 1.1+2.0 1.1+2.0* 1.1+2.1 1.1+2.2 ",
+            "1.2+2.0 1.2+2.0* 1.2+2.1 1.2+2.2 ",
         )
     );
     Ok(())
@@ -119,13 +128,15 @@ fn waits_at(alloc: Global, place: &str, number: usize, names: u16) -> Result<boo
 #[test]
 fn a_job_at_a_place_names_steps_by_their_new_numbers(rt: HostRuntime) -> Result<(), Fail> {
     let alloc = rt.alloc();
-    let rows: [(&str, usize, u16, bool); 6] = [
+    let rows: [(&str, usize, u16, bool); 8] = [
         ("-", 1, 0, true),
         ("0.0", 2, 1, true),
         ("0.1", 2, 0, true),
         ("0.2+2.1", 1, 0, true),
         ("0.0+1.4", 2, 1, true),
         ("0.3", 1, 0, false),
+        ("0.0+2.0*", 2, 1, true),
+        ("0.1*", 1, 0, false),
     ];
     for row in &rows {
         let (place, number, names, wants) = *row;
