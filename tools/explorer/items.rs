@@ -64,5 +64,7 @@ pub enum Answer {
     Stopped,
     /// None of its conditions holds, so it isn't played.
     Skipped,
+    /// The step was given up while it stood open.
+    Unfinished,
     Refused(Refusal),
 }

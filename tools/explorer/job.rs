@@ -42,6 +42,8 @@ pub struct Job {
     pub conditions: Vec<Vec<Vec<Condition>>>,
     /// Each body once, in lower case hexadecimal digits.
     pub bodies: Vec<String>,
+    /// The steps, by rank and number, that may be given up while they stand open.
+    pub left: Vec<(usize, usize)>,
 }
 
 impl Step {
@@ -64,7 +66,7 @@ impl Job {
         let ranks: usize = number(&mut words).filter(|ranks| (1..=8).contains(ranks)).ok_or(head)?;
         let capacity = number(&mut words).ok_or(head)?;
         let conditions = (0..ranks).map(|_| vec![]).collect();
-        let mut job = Job { capacity, steps: vec![vec![]; ranks], conditions, bodies: vec![] };
+        let mut job = Job { capacity, steps: vec![vec![]; ranks], conditions, bodies: vec![], left: vec![] };
         for line in lines {
             let mut words = line.split_whitespace();
             let rank: usize = number(&mut words).filter(|rank| *rank < ranks).ok_or(line)?;
@@ -132,6 +134,21 @@ impl Job {
         }
         self.conditions[rank].insert(at, vec![]);
         Some(())
+    }
+
+    /// Lets a shrink or an agreement be given up while it stands open.
+    pub fn leave(&mut self, rank: usize, at: usize) -> Option<()> {
+        let step = self.steps.get(rank)?.get(at)?;
+        if !matches!(step, Step::Shrink { .. } | Step::Agree { .. }) {
+            return None;
+        }
+        self.left.push((rank, at));
+        Some(())
+    }
+
+    /// Whether a rank may give some step up.
+    pub fn may_give_up(&self, rank: usize) -> bool {
+        self.left.iter().any(|(one, _)| *one == rank)
     }
 
     pub fn ranks(&self) -> usize {

@@ -1,7 +1,7 @@
 //! All outcomes of a job, over every schedule. `tools/explore` builds this and calls it with the job, in the plain form, on standard
 //! input. It shares no code with the program that it checks, and nothing of it is proved.
 //!
-//!     explorer [--carrier lanes|shared] [--reduce NAMES] [--limit N] [--capacity N] [--stop R.K]..
+//!     explorer [--carrier lanes|shared] [--reduce NAMES] [--limit N] [--capacity N] [--stop R.K].. [--left R.K]..
 //!              [--count]
 
 mod agree;
@@ -45,13 +45,15 @@ struct Asked {
     capacity: Option<usize>,
     /// The ranks that stop, and the numbers of the steps before which they do.
     stops: Vec<(usize, usize)>,
+    /// The steps that may be given up while they stand open, by the numbers that they have then.
+    left: Vec<(usize, usize)>,
     counts_only: bool,
 }
 
 fn asked(mut words: impl Iterator<Item = String>) -> Option<Asked> {
     let reductions = Reductions::named("key,late")?;
     let mut asked =
-        Asked { carrier: Carrier::Lanes, reductions, limit: 1_000_000, capacity: None, stops: vec![], counts_only: false };
+        Asked { carrier: Carrier::Lanes, reductions, limit: 1_000_000, capacity: None, stops: vec![], left: vec![], counts_only: false };
     while let Some(word) = words.next() {
         match word.as_str() {
             "--carrier" => {
@@ -64,11 +66,8 @@ fn asked(mut words: impl Iterator<Item = String>) -> Option<Asked> {
             "--reduce" => asked.reductions = Reductions::named(&words.next()?)?,
             "--limit" => asked.limit = words.next()?.parse().ok()?,
             "--capacity" => asked.capacity = Some(words.next()?.parse().ok()?),
-            "--stop" => {
-                let place = words.next()?;
-                let (rank, at) = place.split_once('.')?;
-                asked.stops.push((rank.parse().ok()?, at.parse().ok()?));
-            }
+            "--stop" => asked.stops.push(place(&words.next()?)?),
+            "--left" => asked.left.push(place(&words.next()?)?),
             "--count" => asked.counts_only = true,
             _ => return None,
         }
@@ -76,10 +75,16 @@ fn asked(mut words: impl Iterator<Item = String>) -> Option<Asked> {
     Some(asked)
 }
 
+/// A rank and the number of its step.
+fn place(text: &str) -> Option<(usize, usize)> {
+    let (rank, at) = text.split_once('.')?;
+    Some((rank.parse().ok()?, at.parse().ok()?))
+}
+
 /// The list, or the line that there are too many states; the status is 7 then.
 fn main() {
     let Some(asked) = asked(std::env::args().skip(1)) else {
-        eprintln!("explorer: [--carrier lanes|shared] [--reduce NAMES] [--limit N] [--capacity N] [--stop R.K].. [--count]");
+        eprintln!("explorer: [--carrier lanes|shared] [--reduce NAMES] [--limit N] [--capacity N] [--stop R.K].. [--left R.K].. [--count]");
         exit(2)
     };
     let mut text = String::new();
@@ -95,6 +100,12 @@ fn main() {
     for (rank, at) in asked.stops {
         if job.stop(rank, at).is_none() {
             eprintln!("explorer: the job has no step {rank}.{at}");
+            exit(2)
+        }
+    }
+    for (rank, at) in asked.left {
+        if job.leave(rank, at).is_none() {
+            eprintln!("explorer: {rank}.{at} is no shrink and no agreement");
             exit(2)
         }
     }

@@ -48,6 +48,7 @@ pub fn answer_words(job: &Job, answer: &Answer) -> String {
         Answer::Agreed(value, left_out) => format!("agreed {value} without [{}]", parted(left_out.iter())),
         Answer::Stopped => "stopped".to_string(),
         Answer::Skipped => "skipped".to_string(),
+        Answer::Unfinished => "unfinished".to_string(),
         Answer::Refused(refusal) => format!("refused {}", refusal_words(*refusal)),
     }
 }
