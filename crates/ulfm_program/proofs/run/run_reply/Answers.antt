@@ -1,18 +1,18 @@
 use Rattle.std.proofs.Common.{◌≡◌, ◌∙◌, ℕ, All, List, Some, ap, ap₂, map, subst, sym}
 use Rattle.std.proofs.lemmas.List.{length-map}
 use Rattle.std.proofs.lemmas.Result.{IfOk-weaker}
-use Rattle.std.specs.List.{list_all}
+use Rattle.std.specs.List.{list_all, list_any}
 use Rattle.ulfm_job.specs.Job.{JobView}
 use Rattle.ulfm_reader.specs.JobText.{rows_of}
 use Rattle.ulfm_reader.specs.declared.reading.Reading.{Reading}
-use Rattle.ulfm_laws.specs.Lawful.{IsLawful}
+use Rattle.ulfm_run.specs.Ran.{AreOfRun}
 use Rattle.ulfm_replies.specs.Stopped.{IsAsked, asked_view}
 use Rattle.ulfm_program.specs.Replies.{ran, repeated, not_run, given_turns}
 use Rattle.ulfm_json.specs.Form.{trace_in}
 use Rattle.ulfm_program.specs.Brief.{repeats_in}
 use Rattle.ulfm_program.specs.Tally.{tally}
 use Rattle.ulfm_replies.specs.Asking.{as_asked}
-use Rattle.ulfm_replies.specs.Unfinished.{played_status}
+use Rattle.ulfm_replies.specs.Unfinished.{has_unfinished, played_status}
 use Rattle.ulfm_program.specs.inside.Writing.{IsShown}
 use Rattle.ulfm_program.specs.inside.Tallied.{rows_of as rows_kept}
 use Rattle.ulfm_program.proofs.Refused.{run_failed, without_repeat}
@@ -36,11 +36,12 @@ returns-in-Some g c =
           let runs = w.in-Ok-tally_of.ensures.runs in
           rw w.result-is (IfOk-weaker w.tally_reply.result _ _ (λ r h.
           rw (
-            h.0 ∙ ap₂ (played_status c.args.options.is_strict) (runs.4 ∙ ap (λ (asked : Reading). list_all (as_asked (rows_of asked.never.items) asked.job) runs.0) given) runs.3,
+            h.0 ∙ ap₂ (played_status c.args.options.is_strict) (runs.4 ∙ ap (λ (asked : Reading). list_all (as_asked (rows_of asked.never.items) asked.job) runs.0) given)
+                (runs.3 ∙ ap (λ (j : JobView). list_any (has_unfinished j) runs.0) job),
             h.1 ∙ ap (λ (j : JobView). repeats_in c.args.form c.args.options.is_brief j c.in-Some.times (rows_kept w.in-Ok-tally_of.tally.rows.items)) job
                 ∙ ap₂ (repeats_in c.args.form c.args.options.is_brief (given_turns c.args.options.turns c.in-Ok.asked.job)) (sym runs.1) (runs.5 ∙ ap₂ (λ (names : List ℕ) (j : JobView). tally (map (trace_in c.args.form names j) runs.0)) c.names_at-names.ensures job),
           )
-          (repeated (asked_view c.in-Ok.asked) runs.0 (c.in-Some.is ∙ ap Some (sym runs.1)) read (subst (λ (j : JobView). All (IsLawful j) runs.0) job runs.2))) w.tally_reply.ensures)
+          (repeated (asked_view c.in-Ok.asked) runs.0 (c.in-Some.is ∙ ap Some (sym runs.1)) read (subst (λ (j : JobView). All (AreOfRun j) runs.0) job runs.2))) w.tally_reply.ensures)
       | in-Err-tally_of w ↦
           rw w.result-is (IfOk-weaker w.failed.result _ _ (λ r h.
           rw (h.0, h.1) (run_failed c.args.form (asked_view c.in-Ok.asked) w.in-Err-tally_of.failure _ read (subst (λ (j : JobView). IsShown j w.in-Err-tally_of.failure) job w.in-Err-tally_of.ensures.shown))) w.failed.ensures)
@@ -51,9 +52,9 @@ returns-in-Ok-ran g c =
     let reports = c.in-Ok-ran.reports.items in
     let given = c.given_turns-asked.ensures in
     let job : c.given_turns-asked.result.job ≡ given_turns c.args.options.turns c.in-Ok.asked.job = ap (λ (asked : Reading). asked.job) given in
-    let lawful : IsLawful (given_turns c.args.options.turns c.in-Ok.asked.job) reports = subst (λ (j : JobView). IsLawful j reports) job c.in-Ok-ran.ensures.lawful in
+    let of_run : AreOfRun (given_turns c.args.options.turns c.in-Ok.asked.job) reports = subst (λ (j : JobView). AreOfRun j reports) job c.in-Ok-ran.ensures.ran in
     let read = subst (IsAsked c.args.form c.args.options.place c.args.bytes.now) c.in-Ok.is c.in_ok-read.ensures in
-    IfOk-weaker c.trace_reply.result _ _ (λ r h. rw (h.0, h.1, c.as_slice.ensures.value, given, c.names_at-names.ensures) (ran (asked_view c.in-Ok.asked) reports (without_repeat c.args.options.repeat c.in_default.not-Some) read lawful)) c.trace_reply.ensures
+    IfOk-weaker c.trace_reply.result _ _ (λ r h. rw (h.0, h.1, c.as_slice.ensures.value, given, c.names_at-names.ensures) (ran (asked_view c.in-Ok.asked) reports (without_repeat c.args.options.repeat c.in_default.not-Some) read of_run)) c.trace_reply.ensures
 
 pub returns : goal.returns
 returns g c =
