@@ -24,6 +24,6 @@ pub use listed::Listed;
 pub use lists::Lists;
 pub use numbers::filed_number;
 pub use objects::lists_in;
-pub use onlooker::Onlooker;
+pub use onlooker::{Onlooker, Seen};
 pub use threads::list_places;
 pub use union::some_never_ends;

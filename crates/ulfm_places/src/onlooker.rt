@@ -9,18 +9,18 @@ pub trait Onlooker {
     fn see(&self, place: Place, states: usize);
 }
 
-/// Who tells an onlooker of one place.
+/// Who tells an onlooker of one place, whatever is explored or sought there, one after another.
 #[derive(Drop)]
-pub(crate) struct Seen<'a, L> {
+pub struct Seen<'a, L> {
     onlooker: &'a L,
     place: Place,
-    /// How many states were told of.
+    /// How many states were told of, of those that are looked at now.
     told: usize,
 }
 
 impl<'a, L: Onlooker> Seen<'a, L> {
     /// Who tells an onlooker of this place, of no states so far.
-    pub(crate) fn of(onlooker: &'a L, place: Place) -> Seen<'a, L> {
+    pub fn of(onlooker: &'a L, place: Place) -> Seen<'a, L> {
         Seen {
             onlooker,
             place,
@@ -31,8 +31,9 @@ impl<'a, L: Onlooker> Seen<'a, L> {
 
 impl<L: Onlooker> Watch for Seen<'_, L> {
     fn see(&mut self, looked_at: usize, _found: usize) {
-        self.onlooker
-            .see(self.place, looked_at.saturating_sub(self.told));
+        // Where there are fewer than before, another search began.
+        let more = looked_at.checked_sub(self.told).unwrap_or(looked_at);
+        self.onlooker.see(self.place, more);
         self.told = looked_at;
     }
 }

@@ -43,7 +43,7 @@ where
     S: AsStr,
     R: Read,
     W: Write,
-    E: Write,
+    E: Write + Send,
     ensures replies { (wanted : Wanted) → AsksFor wanted (map S.text words.now) → IsWhole result → IfSome (R.remaining input.old) (λ bytes.
         GetsReply (IsReplyTo (form_asked (map S.text words.now)) (show_asked (map S.text words.now)) wanted (take 1048577 bytes)) (W.contents output.old) (W.contents output.new) result) }
     ensures cut_off { (wanted : Wanted) → AsksFor wanted (map S.text words.now) → result ≡ 4 → IfSome (R.remaining input.old) (λ bytes.
@@ -98,7 +98,7 @@ where
     T: Threads + Wait + Clock + Sync,
     R: Read,
     W: Write,
-    E: Write,
+    E: Write + Send,
     requires { HasRanges asked.now.wanted }
     ensures replies { IsWhole result → IfSome (R.remaining input.old) (λ bytes.
         GetsReply (IsReplyTo asked.now.form (option_map (λ s. s.now) asked.now.show) asked.now.wanted (take 1048577 bytes)) (W.contents output.old) (W.contents output.new) result) }

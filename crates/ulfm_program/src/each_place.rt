@@ -15,24 +15,23 @@ use std::thread::Threads;
 use ulfm_job::{Job, JobFault, MOST_STEPS};
 use ulfm_json::Form;
 use ulfm_places::{Listed, Lists, Onlooker, list_places, lists_in, some_never_ends};
-use ulfm_reach::Watch;
 use ulfm_reader::Reading;
 use ulfm_replies::{ListOptions, PAST_LIMIT, Place, Reply, Wanted, asked_at, refusal};
 use ulfm_stops::places;
 
-/// The reply of `outcomes --stops` with these options. `watch` is told how far the search for a schedule is.
-pub fn each_place_reply<R, W>(
+/// The reply of `outcomes --stops` with these options. The onlooker is told how far the lists and the searches are.
+pub fn each_place_reply<R, L>(
     rt: &R,
     alloc: Global,
     form: Form,
     options: ListOptions,
     stops: u8,
     bytes: &[u8],
-    watch: &mut W,
+    onlooker: &L,
 ) -> Result<Reply, AllocError>
 where
     R: Threads + Sync,
-    W: Watch,
+    L: Onlooker + Sync,
     ensures { IfOk result (λ r. IsEachPlaceReply form options stops bytes.now r.status (string_bytes r.text)) }
 {
     let read = asked_at(alloc, form, Place::Nowhere, bytes)?;
@@ -46,7 +45,6 @@ where
     let places = places(alloc, &asked.job, stops)?;
     let threads = threads_of(rt, options);
     let limit = options.limit as usize;
-    let onlooker = Unseen;
     let lists = list_places(
         rt,
         alloc,
@@ -54,17 +52,9 @@ where
         places.as_slice(),
         threads,
         limit,
-        &onlooker,
+        onlooker,
     )?;
-    judged(alloc, form, options, &asked, bytes, &lists, watch)
-}
-
-/// Nobody is told how far the lists are.
-#[derive(Drop)]
-struct Unseen;
-
-impl Onlooker for Unseen {
-    fn see(&self, _place: Place, _states: usize) {}
+    judged(alloc, form, options, &asked, bytes, &lists, onlooker)
 }
 
 /// How many threads share the places: as many as are asked for, else as there are processors, 64 at most.
@@ -88,14 +78,14 @@ fn processors<R: Threads>(rt: &R) -> u8 {
 }
 
 /// The lists, and below them what isn't wanted.
-fn judged<W: Watch>(
+fn judged<L: Onlooker>(
     alloc: Global,
     form: Form,
     options: ListOptions,
     asked: &Reading,
     bytes: &[u8],
     lists: &Lists,
-    watch: &mut W,
+    onlooker: &L,
 ) -> Result<Reply, AllocError>
     requires listed { AreListedOf (asked_view asked.now) options.limit lists.now.listed.items }
     requires ascii { AreAllAscii lists.now.listed.items }
@@ -104,7 +94,7 @@ fn judged<W: Watch>(
     let listed = lists.listed.as_slice();
     let past = lists.past_limit;
     let text = text_of(alloc, form, options, bytes, &asked.job, listed, past)?;
-    match first_unwanted(alloc, form, options, asked, listed, watch)? {
+    match first_unwanted(alloc, form, options, asked, listed, onlooker)? {
         Some(told) => with_told(text, &told),
         None => Ok(Reply {
             status: status_of(options, lists),

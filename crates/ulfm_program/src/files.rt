@@ -34,7 +34,7 @@ where
     S: AsStr,
     R: Read,
     W: Write,
-    E: Write,
+    E: Write + Send,
     ensures replies { files_in (asked (map S.text words.now)) ≡ [] → (wanted : Wanted) → AsksFor wanted (map S.text words.now) → IsWhole result → IfSome (R.remaining input.old) (λ bytes.
         GetsReply (IsReplyTo (form_asked (map S.text words.now)) (show_asked (map S.text words.now)) wanted (take 1048577 bytes)) (W.contents output.old) (W.contents output.new) result) }
     ensures cut_off { files_in (asked (map S.text words.now)) ≡ [] → (wanted : Wanted) → AsksFor wanted (map S.text words.now) → result ≡ 4 → IfSome (R.remaining input.old) (λ bytes.
@@ -64,7 +64,7 @@ where
     T: Files + Threads + Wait + Clock + Sync,
     S: AsStr,
     W: Write,
-    E: Write,
+    E: Write + Send,
     ensures { result ≤ 9 }
 {
     let mut greatest = DONE;
@@ -95,7 +95,7 @@ where
     T: Files + Threads + Wait + Clock + Sync,
     S: AsStr,
     W: Write,
-    E: Write,
+    E: Write + Send,
     ensures { result ≤ 9 }
 {
     if has_head && !write_head(file, output) {

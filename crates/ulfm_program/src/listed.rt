@@ -20,6 +20,7 @@ use std::thread::Threads;
 use ulfm_job::Clause;
 use ulfm_json::Form;
 use ulfm_outcomes::{Unmet, first_unmet, list_in, outcomes, some_never_end};
+use ulfm_places::Onlooker;
 use ulfm_reach::{Reach, Reached, Rows, Watch};
 use ulfm_reader::Reading;
 use ulfm_replies::{
@@ -39,15 +40,15 @@ pub fn list_reply<R, W>(
 ) -> Result<Reply, AllocError>
 where
     R: Threads + Sync,
-    W: Watch,
+    W: Watch + Onlooker + Sync,
     ensures { IfOk result (λ r. IsListReply form (option_map (λ s. s.now) show.entry) options bytes.now r.status (string_bytes r.text)) }
 {
     match (show, options.stops) {
         (Some(show), Some(stops)) => {
-            show_each_reply(alloc, form, options, stops, show, bytes, watch)
+            show_each_reply(alloc, form, options, stops, show, bytes, &*watch)
         }
         (Some(show), None) => show_reply(alloc, form, options, show, bytes, watch),
-        (None, Some(stops)) => each_place_reply(rt, alloc, form, options, stops, bytes, watch),
+        (None, Some(stops)) => each_place_reply(rt, alloc, form, options, stops, bytes, &*watch),
         (None, None) => outcomes_reply(alloc, form, options, bytes, watch),
     }
 }

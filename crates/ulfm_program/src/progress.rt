@@ -2,10 +2,13 @@
 
 use std::alloc::{AllocError, Global};
 use std::io::Write;
+use std::sync::Mutex;
+use std::sync::atomic::{AtomicUsize, Ordering};
 use std::time::{Clock, Instant};
 use ulfm_findings::write_whole;
+use ulfm_places::Onlooker;
 use ulfm_reach::Watch;
-use ulfm_replies::{ListOptions, Wanted};
+use ulfm_replies::{ListOptions, Place, Wanted};
 
 /// After how many states it is told.
 const STRIDE: usize = 1000;
@@ -13,15 +16,19 @@ const STRIDE: usize = 1000;
 /// What takes the cursor to the front of a terminal's line, and empties it.
 const EMPTY_LINE: &[u8] = b"\r\x1b[K";
 
-/// Tells a terminal on one line, again and again, how many states were looked at, and how many a second, if that is wanted.
+/// Tells a terminal on one line, again and again, how many states were looked at, and how many a second, if that is wanted. Of the states at
+/// places threads tell at once.
 #[derive(Drop)]
 pub struct Progress<'a, T: Clock, E: Write + Drop> {
     rt: &'a T,
     alloc: Global,
-    errors: E,
+    /// Where it is told, by one thread at a time.
+    errors: Mutex<E>,
     is_wanted: bool,
     /// When it began, by a clock that could be read.
     start: Option<Instant>,
+    /// How many states were looked at, at all places.
+    at_places: AtomicUsize,
 }
 
 impl<'a, T: Clock, E: Write + Drop> Progress<'a, T, E> {
@@ -30,7 +37,7 @@ impl<'a, T: Clock, E: Write + Drop> Progress<'a, T, E> {
         Progress {
             rt,
             alloc,
-            errors,
+            errors: Mutex::new(errors),
             is_wanted: matches!(
                 wanted,
                 Wanted::Outcomes(ListOptions {
@@ -39,13 +46,14 @@ impl<'a, T: Clock, E: Write + Drop> Progress<'a, T, E> {
                 })
             ),
             start: Instant::now(rt).ok(),
+            at_places: AtomicUsize::new(0),
         }
     }
 
     /// Empties the line, for what comes after.
     pub fn end(mut self) {
         if self.is_wanted {
-            let _is_written = write_whole(&mut self.errors, EMPTY_LINE);
+            let _is_written = write_whole(self.errors.get_mut(), EMPTY_LINE);
         }
     }
 
@@ -56,6 +64,18 @@ impl<'a, T: Clock, E: Write + Drop> Progress<'a, T, E> {
                 "\r{looked_at} states looked at, of {found} so far, {pace} a second"
             ),
             None => format!(in self.alloc; "\r{looked_at} states looked at, of {found} so far"),
+        }
+    }
+
+    /// The line that tells it of places, in the place of the one before, which may be longer.
+    fn line_at(&self, place: Place, looked_at: usize) -> Result<String, AllocError> {
+        match self.pace(looked_at) {
+            Some(pace) => format!(in self.alloc;
+                "\r\x1b[Kat {place}: {looked_at} states looked at in all, {pace} a second"
+            ),
+            None => {
+                format!(in self.alloc; "\r\x1b[Kat {place}: {looked_at} states looked at in all")
+            }
         }
     }
 
@@ -72,7 +92,27 @@ impl<T: Clock, E: Write + Drop> Watch for Progress<'_, T, E> {
             return;
         }
         if let Ok(line) = self.line(looked_at, found) {
-            let _is_written = write_whole(&mut self.errors, line.as_bytes());
+            let _is_written = write_whole(self.errors.get_mut(), line.as_bytes());
+        }
+    }
+}
+
+impl<T: Clock, E: Write + Drop> Onlooker for Progress<'_, T, E> {
+    fn see(&self, place: Place, states: usize) {
+        if !self.is_wanted {
+            return;
+        }
+        let before = self.at_places.fetch_add(states, Ordering::SeqCst);
+        let looked_at = before.wrapping_add(states);
+        if before / STRIDE == looked_at / STRIDE {
+            return;
+        }
+        // While another thread tells it, this one goes on.
+        let Some(mut errors) = self.errors.try_lock() else {
+            return;
+        };
+        if let Ok(line) = self.line_at(place, looked_at) {
+            let _is_written = write_whole(&mut *errors, line.as_bytes());
         }
     }
 }

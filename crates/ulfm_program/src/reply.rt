@@ -12,6 +12,7 @@ use std::alloc::{AllocError, Global};
 use std::sync::Wait;
 use std::thread::Threads;
 use ulfm_json::Form;
+use ulfm_places::Onlooker;
 use ulfm_reach::Watch;
 use ulfm_replies::{
     Asked, Place, Reply, Wanted, asked_at, check_reply, names_at, places_reply, trace_reply,
@@ -52,7 +53,7 @@ pub fn reply_to<R, P>(
 ) -> Result<Reply, AllocError>
 where
     R: Threads + Wait + Sync,
-    P: Watch,
+    P: Watch + Onlooker + Sync,
     requires { HasRanges asked.now.wanted }
     ensures { IfOk result (λ r. IsReplyTo asked.now.form (option_map (λ s. s.now) asked.now.show) asked.now.wanted bytes.now r.status (string_bytes r.text)) }
 {

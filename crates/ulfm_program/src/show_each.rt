@@ -14,19 +14,19 @@ use ulfm_draw::{Style, drawn};
 use ulfm_job::{Clause, Job, JobFault, MOST_STEPS};
 use ulfm_json::Form;
 use ulfm_outcomes::Goals;
-use ulfm_reach::Watch;
+use ulfm_places::{Onlooker, Seen};
 use ulfm_replies::{DONE, ListOptions, NO_SCHEDULE, Place, Reply, asked_at, refusal};
 use ulfm_stops::{Stop, places};
 
-/// The reply of `outcomes --stops --show` with these options and answers. `watch` is told how far the search is.
-pub fn show_each_reply<W: Watch>(
+/// The reply of `outcomes --stops --show` with these options and answers. The onlooker is told how far the searches are.
+pub fn show_each_reply<L: Onlooker>(
     alloc: Global,
     form: Form,
     options: ListOptions,
     stops: u8,
     show: &str,
     bytes: &[u8],
-    watch: &mut W,
+    onlooker: &L,
 ) -> Result<Reply, AllocError>
     ensures { IfOk result (λ r. IsShowEachReply form options stops show.now bytes.now r.status (string_bytes r.text)) }
 {
@@ -50,7 +50,7 @@ pub fn show_each_reply<W: Watch>(
         answers,
         options,
         places.as_slice(),
-        watch,
+        onlooker,
     )?;
     look_reply(alloc, form, options.drawn, &look)
 }
@@ -63,19 +63,19 @@ pub(crate) struct LookAt {
 }
 
 /// The first of these places at which a schedule has all these answers, or at which it can't be looked for within the limit.
-fn first_look<W: Watch>(
+fn first_look<L: Onlooker>(
     alloc: Global,
     job: &Job,
     answers: &[Clause],
     options: ListOptions,
     places: &[Place],
-    watch: &mut W,
+    onlooker: &L,
 ) -> Result<Option<LookAt>, AllocError>
     requires { All (IsPlaceOf job.now) places.now }
     ensures { IfOk result (IsFirstLook job.now answers.now options.is_brief options.limit places.now) }
 {
     for place in places {
-        if let Some(told) = look_at(alloc, job, answers, options, *place, watch)? {
+        if let Some(told) = look_at(alloc, job, answers, options, *place, onlooker)? {
             return Ok(Some(LookAt {
                 place: *place,
                 told,
@@ -86,13 +86,13 @@ fn first_look<W: Watch>(
 }
 
 /// What comes of a search for these answers at a place.
-fn look_at<W: Watch>(
+fn look_at<L: Onlooker>(
     alloc: Global,
     job: &Job,
     answers: &[Clause],
     options: ListOptions,
     place: Place,
-    watch: &mut W,
+    onlooker: &L,
 ) -> Result<Option<Told>, AllocError>
     requires { IsPlaceOf job.now place }
     ensures { IfOk result (IsLookAt job.now answers.now options.is_brief options.limit place) }
@@ -102,6 +102,7 @@ fn look_at<W: Watch>(
     };
     let goals = goals_at(alloc, place, job, answers)?;
     let limit = options.limit as usize;
+    let watch = &mut Seen::of(onlooker, place);
     let look = look_for(alloc, &stopped, &goals, options.is_brief, limit, watch)?;
     Ok(look)
 }

@@ -18,26 +18,26 @@ use std::alloc::{AllocError, Global};
 use ulfm_job::Job;
 use ulfm_json::Form;
 use ulfm_outcomes::{Goals, Unmet, first_unmet};
-use ulfm_places::{Listed, filed_number};
+use ulfm_places::{Listed, Onlooker, Seen, filed_number};
 use ulfm_reach::{Rows, Watch};
 use ulfm_reader::Reading;
 use ulfm_replies::{ListOptions, NOT_EXPECTED, Place, Reply, asked_beside};
 use ulfm_stops::Stop;
 
 /// What is told of the first of these places at which what was asked for isn't as it is wanted, if there is one.
-pub fn first_unwanted<W: Watch>(
+pub fn first_unwanted<L: Onlooker>(
     alloc: Global,
     form: Form,
     options: ListOptions,
     asked: &Reading,
     listed: &[Listed],
-    watch: &mut W,
+    onlooker: &L,
 ) -> Result<Option<Reply>, AllocError>
     requires { AreListedOf (asked_view asked.now) options.limit listed.now }
     ensures { IfOk result (IsFirstUnwanted form options (asked_view asked.now) (places_in listed.now)) }
 {
     for one in listed {
-        if let Some(told) = unwanted_at(alloc, form, options, asked, one, watch)? {
+        if let Some(told) = unwanted_at(alloc, form, options, asked, one, onlooker)? {
             return Ok(Some(told));
         }
     }
@@ -45,17 +45,18 @@ pub fn first_unwanted<W: Watch>(
 }
 
 /// What is told of a place, if what was asked for isn't as it is wanted there.
-fn unwanted_at<W: Watch>(
+fn unwanted_at<L: Onlooker>(
     alloc: Global,
     form: Form,
     options: ListOptions,
     asked: &Reading,
     one: &Listed,
-    watch: &mut W,
+    onlooker: &L,
 ) -> Result<Option<Reply>, AllocError>
     requires { IsListedOf (asked_view asked.now) options.limit one.now }
     ensures { IfOk result (IsUnwanted form options one.now.place (asked_at one.now.place (asked_view asked.now))) }
 {
+    let watch = &mut Seen::of(onlooker, one.place);
     match stopped(alloc, one.place, asked)? {
         Some(made) => unwanted(alloc, form, options, one.place, &made, &one.found, watch),
         None => unwanted(alloc, form, options, one.place, asked, &one.found, watch),
