@@ -1,5 +1,6 @@
 //! The lists of places, by threads.
-ghost use Rattle.std.specs.Prelude.{◌≡◌, ◌<◌, All, IfOk};
+ghost use Rattle.std.specs.Prelude.{◌≡◌, ◌<◌, All, IfOk, max};
+ghost use Rattle.std.specs.Int.{div_ceil};
 ghost use Rattle.ulfm_stops.specs.Place.{IsPlaceOf};
 ghost use Rattle.ulfm_places.specs.Lists.{AreLists};
 ghost use Rattle.ulfm_places.specs.inside.Parts.{AreJoined, AreParts, IsPart};
@@ -44,10 +45,10 @@ where
 /// How many places a part has, of so many parts at most.
 fn part_size(places: usize, threads: u8) -> usize
     requires { 0 < threads }
-    ensures { 0 < result }
+    ensures exact { result ≡ max 1 (div_ceil places threads) }
+    ensures some { 0 < result }
 {
-    let size = places.div_ceil(threads as usize);
-    if size == 0 { 1 } else { size }
+    places.div_ceil(threads as usize).max(1)
 }
 
 /// What comes of the lists of each part of so many places.

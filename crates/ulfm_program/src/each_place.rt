@@ -1,10 +1,10 @@
 //! The reply of `outcomes --stops`: what each step may be answered wherever ranks stop, and below it what the job doesn't want at the first
 //! place where it comes.
-ghost use Rattle.std.specs.Prelude.{◌≡◌, ◌<◌, ◌++◌, ℕ, List, IfOk, string_bytes};
+ghost use Rattle.std.specs.Prelude.{◌≡◌, ◌<◌, ◌≤◌, ◌++◌, ℕ, List, IfOk, string_bytes};
 ghost use Rattle.ulfm_places.specs.Lists.{AreAllAscii};
 ghost use Rattle.ulfm_replies.specs.Stopped.{asked_view};
 ghost use Rattle.ulfm_program.specs.EachPlace.{IsEachPlaceReply, IsJudgedEach, places_in};
-ghost use Rattle.ulfm_program.specs.inside.Judging.{AreListedOf, lists_status, lists_text, text_past};
+ghost use Rattle.ulfm_program.specs.inside.Judging.{AreListedOf, AreSharing, lists_status, lists_text, text_past};
 
 use crate::listed::list_status;
 use crate::told_at::push_more_at;
@@ -59,17 +59,20 @@ where
 
 /// How many threads share the places: as many as are asked for, else as there are processors, 64 at most.
 fn threads_of<R: Threads>(rt: &R, options: ListOptions) -> u8
-    ensures { 0 < result }
+    ensures asked { AreSharing options.threads result }
+    ensures some { 0 < result }
 {
-    let wanted = match options.threads {
-        Some(threads) => threads,
+    match options.threads {
+        Some(threads) => threads.max(1),
         None => processors(rt),
-    };
-    if wanted == 0 { 1 } else { wanted }
+    }
 }
 
 /// How many processors there are, 64 at most, or 1 where that isn't known.
-fn processors<R: Threads>(rt: &R) -> u8 {
+fn processors<R: Threads>(rt: &R) -> u8
+    ensures some { 0 < result }
+    ensures few { result ≤ 64 }
+{
     match thread::available_parallelism(rt) {
         Ok(count) if count.get() < 64 => count.get() as u8,
         Ok(_) => 64,

@@ -97,6 +97,7 @@ fn look_at<L: Onlooker>(
     requires { IsPlaceOf job.now place }
     ensures { IfOk result (IsLookAt job.now answers.now options.is_brief options.limit place) }
 {
+    // A job without room for so many stops was refused before: what is left is memory.
     let Ok(stopped) = place.job(alloc, job) else {
         return Err(AllocError);
     };

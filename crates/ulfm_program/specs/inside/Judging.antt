@@ -1,5 +1,5 @@
 -- What single functions find of a job at places.
-use Rattle.std.specs.Prelude.{◌≡◌, ℕ, Bool, List, Option, Some, None, All, option_map, slice_get, string_bytes, take}
+use Rattle.std.specs.Prelude.{◌≡◌, ◌≤◌, ℕ, Bool, List, Option, Some, None, All, max, option_map, slice_get, string_bytes, take}
 use Rattle.ulfm_job.specs.declared.clause.Clause.{Clause}
 use Rattle.ulfm_job.specs.Job.{JobView}
 use Rattle.ulfm_stops.specs.Place.{IsPlaceOf, job_at}
@@ -21,6 +21,11 @@ use Rattle.ulfm_program.specs.declared.told.Told.{Told as Kept}
 use Rattle.ulfm_program.specs.inside.Looking.{IsLook, look_status, told_view}
 use Rattle.ulfm_outcomes.specs.declared.goals.Goals.{Goals}
 use Rattle.ulfm_draw.specs.declared.style.Style.{Style}
+
+-- so many threads share the places: as many as are asked for, and one at least, else 64 at most
+abbrev pub AreSharing : Option ℕ → ℕ → Type 0
+AreSharing (Some asked) threads = threads ≡ max 1 asked
+AreSharing None threads = threads ≤ 64
 
 -- the list of one of the job's places
 abbrev pub IsListedOf : Asked → ℕ → Listed → Type 0
