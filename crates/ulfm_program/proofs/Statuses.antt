@@ -9,11 +9,11 @@ use Rattle.ulfm_replies.specs.Asking.{as_asked}
 use Rattle.ulfm_replies.specs.Places as places
 use Rattle.ulfm_replies.specs.Places.{IsPlacesReply}
 use Rattle.ulfm_replies.specs.Stopped as stopped
-use Rattle.ulfm_replies.specs.Stopped.{Asked, IsRefusal, asked_at}
+use Rattle.ulfm_replies.specs.Stopped.{Asked, IsRefusal}
 use Rattle.ulfm_stops.specs.declared.place.Place.TheVariants.{Nowhere}
 use Rattle.ulfm_places.specs.Union.{some_never_ends as each_never_ends}
 use Rattle.ulfm_program.specs.EachPlace as each
-use Rattle.ulfm_program.specs.EachPlace.{IsEachPlaceReply, IsJudgedEach, IsToldAt}
+use Rattle.ulfm_program.specs.EachPlace.{IsEachPlaceReply, IsJudgedEach}
 use Rattle.ulfm_program.specs.ListReply.{IsReplyBy}
 use Rattle.ulfm_program.specs.ShowEach as each_shown
 use Rattle.ulfm_program.specs.ShowEach.{IsShowEachReply}
@@ -123,14 +123,10 @@ show_known form options show bytes status text (unnamed job part is named) = no_
 show_known form options show bytes status text (not_shown k words is) = no_play form options.place bytes status text is
 show_known form options show bytes status text (unshown told) = run_fails
 
-told_at_known : (form : Form) (options : ListOptions) (place : Place) (asked : Asked) (status : ℕ) (text : List ℕ) → IsToldAt form options place asked status text → IsKnown status
-told_at_known form options place asked status text (each.unmet one goals told first is shows) = not_wanted
-told_at_known form options place asked status text (each.together number row goals words meets here none are shows) = not_wanted
-told_at_known form options place asked status text (each.unsearched number row goals meets here none are shows) = past
-
 each_judged_known : (form : Form) (options : ListOptions) (asked : Asked) (places : List Place) (alone status : ℕ) (text : List ℕ) → IsKnown alone → IsJudgedEach form options asked places alone status text → IsKnown status
 each_judged_known form options asked places alone status text known (each.wanted all) = known
-each_judged_known form options asked places alone status text known (each.told number place k words here before is) = told_at_known form options place (asked_at place asked) status text is
+each_judged_known form options asked places alone status text known (each.found number place words here before is) = not_wanted
+each_judged_known form options asked places alone status text known (each.unfound number place words here before none is) = past
 
 each_known : (form : Form) (options : ListOptions) (stops : ℕ) (bytes : List ℕ) (status : ℕ) (text : List ℕ) → IsEachPlaceReply form options stops bytes status text → IsKnown status
 each_known form options stops bytes status text (each.listed_all asked lists k words is are judged) = each_judged_known form options asked _ _ status _ (list_alone options.is_strict (each_never_ends lists)) judged
@@ -201,14 +197,10 @@ show_used form options show bytes status text (unnamed job part is named) = λ e
 show_used form options show bytes status text (not_shown k words is) = no_play_not_usage form options.place bytes status text is
 show_used form options show bytes status text (unshown told) = λ e. omega (arith, e)
 
-told_at_used : (form : Form) (options : ListOptions) (place : Place) (asked : Asked) (status : ℕ) (text : List ℕ) → IsToldAt form options place asked status text → status ≢ 2
-told_at_used form options place asked status text (each.unmet one goals told first is shows) = λ e. omega (arith, e)
-told_at_used form options place asked status text (each.together number row goals words meets here none are shows) = λ e. omega (arith, e)
-told_at_used form options place asked status text (each.unsearched number row goals meets here none are shows) = λ e. omega (arith, e)
-
 each_judged_used : (form : Form) (options : ListOptions) (asked : Asked) (places : List Place) (alone status : ℕ) (text : List ℕ) → alone ≢ 2 → IsJudgedEach form options asked places alone status text → status ≢ 2
 each_judged_used form options asked places alone status text used (each.wanted all) = used
-each_judged_used form options asked places alone status text used (each.told number place k words here before is) = told_at_used form options place (asked_at place asked) status text is
+each_judged_used form options asked places alone status text used (each.found number place words here before is) = λ e. omega (arith, e)
+each_judged_used form options asked places alone status text used (each.unfound number place words here before none is) = λ e. omega (arith, e)
 
 each_used : (form : Form) (options : ListOptions) (stops : ℕ) (bytes : List ℕ) (status : ℕ) (text : List ℕ) → IsEachPlaceReply form options stops bytes status text → status ≢ 2
 each_used form options stops bytes status text (each.listed_all asked lists k words is are judged) = each_judged_used form options asked _ _ status _ (list_not_usage options.is_strict (each_never_ends lists)) judged

@@ -1,5 +1,5 @@
 -- What `outcomes --stops` writes for a job.
-use Rattle.std.specs.Prelude.{◌≡◌, ◌<◌, ℕ, ◌+◌, List, [], ◌++◌, Some, None, All, codes, map, slice_get, take}
+use Rattle.std.specs.Prelude.{◌≡◌, ◌<◌, ◌⊎◌, ℕ, ◌+◌, List, [], ◌++◌, Some, None, All, codes, map, slice_get, take}
 use Rattle.std.specs.Fmt.{decimal}
 use Rattle.ulfm_job.specs.declared.clause.Clause.{Clause}
 use Rattle.ulfm_job.specs.declared.fault.JobFault.TheVariants.{TooLarge}
@@ -85,12 +85,19 @@ pub data IsToldAt (form : Form) (options : ListOptions) (place : Place) (asked :
   unsearched : (number : ℕ) (row : List Clause) (goals : Goals) → MeetsExpected asked.job → slice_get asked.rows number ≡ Some row → NoneComes asked.job (take number asked.rows) → AreOfClauses row goals
       → IsTold asked.job goals options.is_brief options.limit (many options.limit) → IsToldAt form options place asked 7 (row_at form place number (many options.limit))
 
+-- at a place no schedule is found that has one: none does, or for some row that isn't known
+abbrev pub IsUnfound : Form → ListOptions → Asked → Place → Type 0
+IsUnfound form options asked place = IsWanted (asked_at place asked) ⊎ ((text : List ℕ) × IsToldAt form options place (asked_at place asked) 7 text)
+
 -- The status and what is told below the lists of these places: nothing, with the status of the lists, where the job is wanted at each of
--- them; else of the first at which it isn't.
+-- them. With 9, of the first place where a schedule is found that isn't wanted. Where none is found, with 7, of the first place with a row
+-- that can't be looked for.
 pub data IsJudgedEach (form : Form) (options : ListOptions) (asked : Asked) (places : List Place) (status : ℕ) : ℕ → List ℕ → Type 0 where
   wanted : All (λ place. IsWanted (asked_at place asked)) places → IsJudgedEach form options asked places status status []
-  told : (number : ℕ) (place : Place) (unwanted : ℕ) (text : List ℕ) → slice_get places number ≡ Some place → All (λ place. IsWanted (asked_at place asked)) (take number places)
-      → IsToldAt form options place (asked_at place asked) unwanted text → IsJudgedEach form options asked places status unwanted text
+  found : (number : ℕ) (place : Place) (text : List ℕ) → slice_get places number ≡ Some place → All (IsUnfound form options asked) (take number places)
+      → IsToldAt form options place (asked_at place asked) 9 text → IsJudgedEach form options asked places status 9 text
+  unfound : (number : ℕ) (place : Place) (text : List ℕ) → slice_get places number ≡ Some place → All (λ place. IsWanted (asked_at place asked)) (take number places)
+      → All (IsUnfound form options asked) places → IsToldAt form options place (asked_at place asked) 7 text → IsJudgedEach form options asked places status 7 text
 
 -- the places of lists
 abbrev pub places_in : List Listed → List Place

@@ -1,5 +1,6 @@
 //! The first place at which a job isn't as it is wanted.
 ghost use Rattle.std.specs.Prelude.{◌≡◌, IfOk, Some, string_bytes};
+ghost use Rattle.std.specs.Option.{option_or};
 ghost use Rattle.ulfm_outcomes.specs.Goals.{IsPossible};
 ghost use Rattle.ulfm_outcomes.specs.Unmet.{Judges};
 ghost use Rattle.ulfm_stops.specs.Place.{IsPlaceOf};
@@ -7,7 +8,7 @@ ghost use Rattle.ulfm_stops.specs.declared.place.Place.TheVariants.{Two};
 ghost use Rattle.ulfm_replies.specs.Stopped.{asked_at, asked_view};
 ghost use Rattle.ulfm_program.specs.EachPlace.{IsToldAt, filed, places_in, row_at, unmet_at};
 ghost use Rattle.ulfm_program.specs.Outcomes.{HasList, IsFirstUnmet, IsTold};
-ghost use Rattle.ulfm_program.specs.inside.Judging.{AreListedOf, IsFirstUnwanted, IsListedOf, IsStopped, IsUnwanted};
+ghost use Rattle.ulfm_program.specs.inside.Judging.{AreListedOf, IsFirstUnwanted, IsListedOf, IsStopped, IsUnwanted, is_found};
 ghost use Rattle.ulfm_program.specs.inside.Looking.{row_status, told_view};
 
 use crate::listed::{FirstRow, first_row, row_status};
@@ -24,7 +25,8 @@ use ulfm_reader::Reading;
 use ulfm_replies::{ListOptions, NOT_EXPECTED, Place, Reply, asked_beside};
 use ulfm_stops::Stop;
 
-/// What is told of the first of these places at which what was asked for isn't as it is wanted, if there is one.
+/// What is told of the first of these places where a schedule is found that isn't wanted. Where none is found, of the first with a row of
+/// `never` that can't be looked for within the limit, if there is one.
 pub fn first_unwanted<L: Onlooker>(
     alloc: Global,
     form: Form,
@@ -36,12 +38,32 @@ pub fn first_unwanted<L: Onlooker>(
     requires { AreListedOf (asked_view asked.now) options.limit listed.now }
     ensures { IfOk result (IsFirstUnwanted form options (asked_view asked.now) (places_in listed.now)) }
 {
+    let mut first = None;
     for one in listed {
-        if let Some(told) = unwanted_at(alloc, form, options, asked, one, onlooker)? {
-            return Ok(Some(told));
+        let told = unwanted_at(alloc, form, options, asked, one, onlooker)?;
+        if is_found(&told) {
+            return Ok(told);
         }
+        first = earlier(first, told);
     }
-    Ok(None)
+    Ok(first)
+}
+
+/// Whether a schedule was found that isn't wanted, by what is told.
+fn is_found(told: &Option<Reply>) -> bool
+    ensures { result ≡ is_found told.now }
+{
+    match told {
+        Some(reply) => reply.status == NOT_EXPECTED,
+        None => false,
+    }
+}
+
+/// What is told first of a place and of a later one.
+fn earlier(first: Option<Reply>, then: Option<Reply>) -> Option<Reply>
+    ensures { result ≡ option_or first then }
+{
+    first.or(then)
 }
 
 /// What is told of a place, if what was asked for isn't as it is wanted there.

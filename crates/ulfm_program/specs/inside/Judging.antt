@@ -1,5 +1,5 @@
 -- What single functions find of a job at places.
-use Rattle.std.specs.Prelude.{◌≡◌, ◌≤◌, ℕ, Bool, List, Option, Some, None, All, max, option_map, slice_get, string_bytes, take}
+use Rattle.std.specs.Prelude.{◌≡◌, ◌≤◌, ℕ, ◌==◌, Bool, false, List, Option, Some, None, All, max, option_map, slice_get, string_bytes, take}
 use Rattle.ulfm_job.specs.declared.clause.Clause.{Clause}
 use Rattle.ulfm_job.specs.Job.{JobView}
 use Rattle.ulfm_stops.specs.Place.{IsPlaceOf, job_at}
@@ -13,7 +13,7 @@ use Rattle.ulfm_replies.specs.Stopped.{Asked, asked_at, asked_view}
 use Rattle.ulfm_reader.specs.declared.reading.Reading.{Reading}
 use Rattle.ulfm_replies.specs.declared.command.ListOptions.{ListOptions}
 use Rattle.ulfm_replies.specs.declared.reply.Reply.{Reply}
-use Rattle.ulfm_program.specs.EachPlace.{IsToldAt, IsWanted, more_at}
+use Rattle.ulfm_program.specs.EachPlace.{IsJudgedEach, IsToldAt, IsUnfound, IsWanted, more_at, places_in}
 use Rattle.ulfm_program.specs.Outcomes.{HasList, Told, list_status, many, nowhere_in, schedule}
 use Rattle.ulfm_program.specs.ShowEach.{AreGoalsAt, IsNowhereAt, told_at}
 use Rattle.ulfm_program.specs.declared.show_each.LookAt.{LookAt}
@@ -45,11 +45,22 @@ abbrev pub IsUnwanted : Form → ListOptions → Place → Asked → Option Repl
 IsUnwanted form options place asked None = IsWanted asked
 IsUnwanted form options place asked (Some reply) = IsToldAt form options place asked reply.status (string_bytes reply.text)
 
--- it is wanted at each of these places, or that is told of the first at which it isn't
+-- it is wanted at each of these places, or that is told of them, whatever the status of the lists is
 abbrev pub IsFirstUnwanted : Form → ListOptions → Asked → List Place → Option Reply → Type 0
 IsFirstUnwanted form options asked places None = All (λ place. IsWanted (asked_at place asked)) places
-IsFirstUnwanted form options asked places (Some reply) = (number : ℕ) × (place : Place) × (slice_get places number ≡ Some place)
-    × All (λ place. IsWanted (asked_at place asked)) (take number places) × IsToldAt form options place (asked_at place asked) reply.status (string_bytes reply.text)
+IsFirstUnwanted form options asked places (Some reply) = (status : ℕ) → IsJudgedEach form options asked places status reply.status (string_bytes reply.text)
+
+-- a schedule that isn't wanted was found, by what is told
+abbrev pub is_found : Option Reply → Bool
+is_found None = false
+is_found (Some reply) = reply.status == 9
+
+-- of so many of the lists none has a schedule that was found: at each of their places it is wanted, or that is told of the first with a row
+-- that can't be looked for
+abbrev pub IsUnfoundUpTo : Form → ListOptions → Asked → List Listed → ℕ → Option Reply → Type 0
+IsUnfoundUpTo form options asked listed count None = All (λ (one : Listed). IsWanted (asked_at one.place asked)) (take count listed)
+IsUnfoundUpTo form options asked listed count (Some reply) = (number : ℕ) × (place : Place) × (slice_get (places_in listed) number ≡ Some place) × All (λ p. IsWanted (asked_at p asked)) (take number (places_in listed))
+    × All (λ (one : Listed). IsUnfound form options asked one.place) (take count listed) × (reply.status ≡ 7) × IsToldAt form options place (asked_at place asked) 7 (string_bytes reply.text)
 
 -- the status of lists below which nothing is told
 abbrev pub status_past : ListOptions → List Listed → Option Place → ℕ

@@ -4,7 +4,7 @@ use Rattle.std.proofs.lemmas.Result.{IfOk-weaker}
 use Rattle.ulfm_places.specs.Lists.{AreAllAscii}
 use Rattle.ulfm_places.specs.declared.listed.Listed.{Listed}
 use Rattle.ulfm_replies.specs.Stopped.{asked_view}
-use Rattle.ulfm_program.specs.EachPlace.{IsJudgedEach, places_in, told, wanted}
+use Rattle.ulfm_program.specs.EachPlace.{IsJudgedEach, places_in, wanted}
 use Rattle.ulfm_program.specs.inside.Judging.{AreListedOf, IsFirstUnwanted, lists_status, text_past}
 use Rattle.ulfm_program.proofs.each_place.judged.Goals as goal
 
@@ -26,7 +26,7 @@ returns-in-Some g c =
     let text = c.in_ok-text.ensures ∙ ap (λ (listed : List Listed). text_past form c.args.bytes.now asked.job options listed lists.past_limit) c.as_slice-listed.ensures.value in
     IfOk-weaker c.with_told.result _ _ (λ r h. (
       words,
-      subst (λ (k : ℕ). IsJudgedEach form options asked (places_in lists.listed.items) (lists_status options lists) k words) (sym h.0) (told first.0 first.1 c.in-Some.told.status words first.2 first.3 first.4),
+      subst (λ (k : ℕ). IsJudgedEach form options asked (places_in lists.listed.items) (lists_status options lists) k words) (sym h.0) (first (lists_status options lists)),
       h.1 ∙ ap (λ (t : List ℕ). t ++ words) text,
     )) c.with_told.ensures
 
