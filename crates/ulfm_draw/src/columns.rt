@@ -18,6 +18,9 @@ pub(crate) fn table(alloc: Global, picture: &Picture<'_>) -> Result<String, OutO
     }
     let widths = widths_of(alloc, picture, cells.as_slice())?;
     let mut out = String::new(alloc);
+    if !picture.note.is_empty() {
+        write!(out, "{}\n", picture.note)?;
+    }
     for rank in 0..picture.ranks() {
         let name = format!(in alloc; "rank {rank}")?;
         push_cell(&mut out, widths.as_slice(), rank, name.as_str())?;

@@ -14,6 +14,9 @@ pub(crate) fn diagram(alloc: Global, picture: &Picture<'_>) -> Result<String, Ou
     for rank in 0..picture.ranks() {
         write!(out, "    participant r{rank} as rank {rank}\n")?;
     }
+    if !picture.note.is_empty() {
+        push_over_all(&mut out, picture, picture.note)?;
+    }
     for (number, row) in picture.rows.iter().enumerate() {
         push_row(&mut out, picture, number, row)?;
     }
@@ -111,9 +114,14 @@ fn push_end(out: &mut String, picture: &Picture<'_>, rank: usize) -> Result<(), 
 /// Puts what the waits come to, across all ranks.
 fn push_conclusions(out: &mut String, picture: &Picture<'_>) -> Result<(), OutOfMemory> {
     let alloc = *out.allocator();
-    let last = picture.ranks().saturating_sub(1);
     for conclusion in conclusions(alloc, picture)? {
-        write!(out, "    Note over r0,r{last}: {conclusion}\n")?;
+        push_over_all(out, picture, conclusion.as_str())?;
     }
     Ok(())
+}
+
+/// Puts a text across all ranks.
+fn push_over_all(out: &mut String, picture: &Picture<'_>, text: &str) -> Result<(), OutOfMemory> {
+    let last = picture.ranks().saturating_sub(1);
+    write!(out, "    Note over r0,r{last}: {text}\n")
 }

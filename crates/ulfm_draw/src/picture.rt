@@ -14,16 +14,19 @@ pub(crate) struct Picture<'a> {
     /// A text for each rank: `done`, `stopped` or `not reached`.
     pub(crate) ends: Vec<&'a str>,
     pub(crate) waits: Vec<Wait<'a>>,
+    /// A note on all of it, or nothing.
+    pub(crate) note: &'a str,
 }
 
 impl<'a> Picture<'a> {
-    /// Of nothing.
-    pub(crate) fn new(alloc: Global) -> Picture<'a> {
+    /// Of nothing, with a note.
+    pub(crate) fn new(alloc: Global, note: &'a str) -> Picture<'a> {
         Picture {
             rows: Vec::new(alloc),
             arrows: Vec::new(alloc),
             ends: Vec::new(alloc),
             waits: Vec::new(alloc),
+            note,
         }
     }
 

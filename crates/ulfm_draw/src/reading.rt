@@ -15,9 +15,13 @@ enum Part {
     Waits,
 }
 
-/// The picture of a schedule, by its text.
-pub(crate) fn read<'a>(alloc: Global, text: &'a str) -> Result<Picture<'a>, OutOfMemory> {
-    let mut picture = Picture::new(alloc);
+/// The picture of a schedule, by its text, with a note on it.
+pub(crate) fn read<'a>(
+    alloc: Global,
+    text: &'a str,
+    note: &'a str,
+) -> Result<Picture<'a>, OutOfMemory> {
+    let mut picture = Picture::new(alloc, note);
     for line in text.lines() {
         if word(line, 1) == "end:" {
             picture.ends.push(halves(line, " end: ").1)?;

@@ -187,7 +187,7 @@ fn push_feet(out: &mut String, picture: &Picture<'_>, layout: &Layout) -> Result
     Ok(())
 }
 
-/// Puts what the waits come to. Answers where the next text may stand.
+/// Puts the note, if there is one, and what the waits come to. Answers where the next text may stand.
 fn push_conclusions(
     out: &mut String,
     picture: &Picture<'_>,
@@ -195,6 +195,10 @@ fn push_conclusions(
 ) -> Result<usize, OutOfMemory> {
     let alloc = *out.allocator();
     let mut y = layout.foot;
+    if !picture.note.is_empty() {
+        push_text(out, EDGE, y, picture.note, DARK, " font-weight=\"bold\"")?;
+        y = y.saturating_add(LINE);
+    }
     for conclusion in conclusions(alloc, picture)? {
         push_text(
             out,

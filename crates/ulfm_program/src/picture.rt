@@ -44,6 +44,6 @@ fn picture_of(
     ensures { IfOk result (λ r. r.status ≡ 0) }
 {
     let played = played_text(alloc, job, reports)?;
-    let text = drawn(alloc, style, played.as_str())?;
+    let text = drawn(alloc, style, played.as_str(), "")?;
     Ok(Reply { status: DONE, text })
 }

@@ -167,7 +167,8 @@ fn told_reply(
     ensures { IfOk result (λ r. (r.status ≡ look_status (Some (told_view told.now))) × IsToldAtText form style place (told_view told.now) (string_bytes r.text)) }
 {
     if let (Told::Schedule(schedule), Some(style)) = (told, style) {
-        let text = drawn(alloc, style, schedule.as_str())?;
+        let note = note_of(alloc, place)?;
+        let text = drawn(alloc, style, schedule.as_str(), note.as_str())?;
         return Ok(Reply { status: DONE, text });
     }
     let mut text = String::new(alloc);
@@ -176,4 +177,13 @@ fn told_reply(
         status: status_of(told),
         text,
     })
+}
+
+/// What a picture says of its place: nothing where no stop was put there.
+fn note_of(alloc: Global, place: Place) -> Result<String, AllocError> {
+    match place {
+        Place::Nowhere => Ok(String::new(alloc)),
+        Place::One(_) => format!(in alloc; "with a stop at {place}"),
+        Place::Two(..) => format!(in alloc; "with stops at {place}"),
+    }
 }

@@ -83,7 +83,7 @@ fn told_reply(
     ensures { IfOk result (λ r. (r.status ≡ look_status (Some (told_view told.now))) × IsLookText form style (Some (told_view told.now)) (string_bytes r.text)) }
 {
     if let (Told::Schedule(schedule), Some(style)) = (told, style) {
-        let text = drawn(alloc, style, schedule.as_str())?;
+        let text = drawn(alloc, style, schedule.as_str(), "")?;
         return Ok(Reply { status: DONE, text });
     }
     let mut text = String::new(alloc);
