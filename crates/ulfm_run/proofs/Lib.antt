@@ -11,3 +11,5 @@ pub mod Paired
 pub mod Served
 pub mod Causes
 pub mod Crossing
+pub mod Owes
+pub mod Walked

@@ -1,13 +1,14 @@
 -- From what the threads gave back to the report of a run.
-use Rattle.std.proofs.Common.{◌≡◌, ℕ, List, ◌++◌, length, map, refl, ap, sym, ◌∙◌, subst, arith, All, Some, Option}
+use Rattle.std.proofs.Common.{◌≡◌, ◌≤◌, ℕ, List, ◌++◌, length, map, refl, ap, sym, ◌∙◌, subst, arith, All, Some, Option, inl, inr}
 use Rattle.ulfm_board.specs.Known.{OneBoard}
 use Rattle.ulfm_script.specs.Played.{FollowsScript}
 use Rattle.ulfm_script.specs.Reacting.{SkipsRightly}
 use Rattle.ulfm_script.specs.Script.{through_stop}
 use Rattle.ulfm_laws.specs.Answers.{AllAgree, AllFollowScripts}
 use Rattle.ulfm_laws.specs.Lawful.{AreProduced}
-use Rattle.ulfm_run.proofs.Common.{at, Global, InPlace, IsGathered, IsPlayed, Item, Keeps, Known, length-map, Report, RevokedByARank, slice_get_within, Vec, WorldRank, items_from, Flows, there, AreTrue, Ran, NameOneBoard, report_in, end_in, decider_in, WerePlayed, GaveAnswers, JobView, script_at}
+use Rattle.ulfm_run.proofs.Common.{at, cases_lt, Global, InPlace, IsGathered, IsPlayed, Item, Keeps, Known, length-map, Report, RevokedByARank, slice_get_within, Vec, WorldRank, items_from, Flows, there, AreTrue, Ran, NameOneBoard, report_in, end_in, decider_in, WerePlayed, GaveAnswers, JobView, script_at}
 use Rattle.ulfm_run.specs.Fault.{ShowUntrue, Fits}
+use Rattle.ulfm_run.specs.Order.{HaveOneOrder}
 use Rattle.ulfm_run.specs.Flow.{EndsMatchLogs, contents}
 use Rattle.ulfm_run.proofs.Paired.{one_board_names}
 use Rattle.ulfm_run.proofs.Flowing.{AllPlayed, carried, flowed, ordered}
@@ -57,6 +58,16 @@ module _ {E D N : Type 0} {name : E → N} {place count : E → ℕ} {pushed tak
   same_boards many =
       same_maps board board deciders (map decider_in ran) (length-map ran decider_in ∙ h.as_many ∙ sym many)
       (λ k d f p q. let r = from_map decider_in ran k q in ap board (sym r.2) ∙ h.seated k d r.0 p r.1)
+
+  -- they are few
+  pub few_all : Fits place job ends deciders → length ran ≤ 8
+  few_all fit = elim (cases_lt 8 (length ran)) [
+    | inl more ↦
+        let r = there ran 0 (omega (arith, more)) in let e = there ends 0 (omega (arith, more, h.as_many)) in
+        let p = h.played 0 e.0 r.0 e.1 r.1 in
+        absurd (omega (arith, p.joined.sound.small, p.counted, h.as_many, fit.end_each, more))
+    | inr few ↦ few
+  ]
 
   -- the flow of each pair, the order of the reports, and the lists, once the ends are gathered
   module _ (fit : Fits place job ends deciders) where
@@ -122,8 +133,8 @@ module _ {E D N : Type 0} {name : E → N} {place count : E → ℕ} {pushed tak
       revoked = revoked;
     }
 
-    -- reports that show a decision that isn't true, or a revocation without a cause
-    pub untrue_all : (known : D → Known) → All (GaveAnswers known) ran → {ranks : List Report} → ranks ≡ map report_in ran → (AreTrue ranks × RevokedByARank ranks → ⊥) → ShowUntrue job ranks
+    -- reports that show a decision that isn't true, a revocation without a cause, or no order
+    pub untrue_all : (known : D → Known) → All (GaveAnswers known) ran → {ranks : List Report} → ranks ≡ map report_in ran → (AreTrue ranks × RevokedByARank ranks × HaveOneOrder ranks → ⊥) → ShowUntrue job ranks
     untrue_all known answers {ranks} is untrue = record {
       each = ap length is ∙ length-map ran report_in ∙ h.as_many ∙ fit.end_each;
       order = order_all is;

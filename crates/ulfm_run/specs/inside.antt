@@ -3,3 +3,4 @@ pub mod Joined
 pub mod Played
 pub mod Threads
 pub mod Turns
+pub mod Walk

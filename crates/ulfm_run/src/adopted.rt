@@ -115,7 +115,7 @@ fn has_stopped(reports: &[RankReport], rank: WorldRank) -> bool
 }
 
 /// What a log brings into a topic, if it enters it.
-fn entry_of(log: &[Entry], topic: Topic) -> Option<Contribution>
+pub(crate) fn entry_of(log: &[Entry], topic: Topic) -> Option<Contribution>
     ensures { result ≡ first_given (entry_of topic) log.now }
 {
     for entry in log {

@@ -1,23 +1,26 @@
-//! Revocations that ranks took notice of, held against what the ranks report (ULFM, revocation).
-ghost use Rattle.std.specs.Prelude.{◌≡◌, ◌↔◌, ℕ, IsTrue, Some, slice_get};
+//! Revocations that ranks took notice of, held against what the ranks report (ULFM, revocation), and all that is held so.
+ghost use Rattle.std.specs.Prelude.{◌≡◌, ◌≤◌, ◌↔◌, ℕ, IsTrue, Some, length, slice_get};
 ghost use Rattle.std.specs.List.{list_any};
 ghost use Rattle.ulfm_rank.specs.declared.entry.Entry.{Entry as Logged};
 ghost use Rattle.ulfm_laws.specs.Causes.{is_call_to_revoke, RevokedByCall, RevokedByARank};
 ghost use Rattle.ulfm_laws.specs.Decisions.{AreTrue};
 ghost use Rattle.ulfm_run.specs.Caused.{HaveCauses, HasCause, IsCaused};
+ghost use Rattle.ulfm_run.specs.Order.{HaveOneOrder};
 
 use crate::adopted::are_true;
+use crate::order::have_one_order;
 use ulfm_base::{Context, ItemKind, NotedItem};
 use ulfm_rank::Entry;
 use ulfm_script::RankReport;
 
-/// Whether the decisions that ranks adopted are true of what the ranks report, and each revocation was made by some rank's own
-/// call. It never answers out of memory.
+/// Whether the decisions that ranks adopted are true of what the ranks report, each revocation was made by some rank's own
+/// call, and all logs have one order. It never answers out of memory.
 #[tactic(auto, using(crate::proofs::Causes::caused))]
 pub(crate) fn are_borne_out(reports: &[RankReport]) -> bool
-    ensures { IsTrue result ↔ (AreTrue reports.now × RevokedByARank reports.now) }
+    requires { length reports.now ≤ 8 }
+    ensures { IsTrue result ↔ (AreTrue reports.now × RevokedByARank reports.now × HaveOneOrder reports.now) }
 {
-    are_true(reports) && are_caused(reports)
+    are_true(reports) && are_caused(reports) && have_one_order(reports)
 }
 
 /// Whether each notice of a revocation that a rank took is of one that some rank's own call made.

@@ -13,6 +13,7 @@ ghost use Rattle.ulfm_laws.specs.Decisions.{AreTrue};
 ghost use Rattle.ulfm_run.specs.inside.Threads.{NameOneBoard, report_in, end_in, decider_in};
 ghost use Rattle.ulfm_run.specs.Fault.{ShowUntrue, Fits};
 ghost use Rattle.ulfm_run.specs.Flow.{EndsMatchLogs, contents};
+ghost use Rattle.ulfm_run.specs.Order.{HaveOneOrder};
 ghost use Rattle.ulfm_script.specs.Report.{Report as Told};
 
 use crate::caused::are_borne_out;
@@ -31,18 +32,19 @@ use ulfm_script::{Job, RankReport, RunFault};
 /// number. In a turn a rank pushes all that its outboxes hold and the inboxes have room for, takes one item, and polls its
 /// step once; a step that the job's last poll for it left open is given up. After its last step it goes on for at most as many
 /// turns without polls, until all ranks have finished and then 100 turns in a row moved nothing; where it stopped, it pushes
-/// alone, until nothing is left to go out. Then the decisions that ranks adopted, and the revocations that they took notice of,
-/// are held against what the ranks report. What is left in the inboxes is gathered, and the deciders are compared: no two know
-/// two decisions on one topic. No clause tells of threads, nor of the order in a turn, nor how many turns there are
-/// (docs/LIMITS.md).
+/// alone, until nothing is left to go out. Then the decisions that ranks adopted, the revocations that they took notice of, and
+/// the order of all that they took and sent are held against what the ranks report. What is left in the inboxes is gathered, and
+/// the deciders are compared: no two know two decisions on one topic. No clause tells of threads, nor of the order in a turn, nor
+/// how many turns there are (docs/LIMITS.md).
 ///
 /// # Errors
 ///
 /// `BadEnds` where the number of ends or of deciders isn't that of the ranks, or an end stands at another place than its
 /// number; no thread is started then. `NoThread` where a thread couldn't be started, `OutOfMemory` where a growth outside the
 /// turns of the ranks was refused, `Untrue` where a decision that a rank adopted lists a set or a flag that isn't that of its rank's
-/// own entry, or excludes a rank that didn't stop, or where a rank took notice of a revocation that no rank's own call made;
-/// the threads that were started have run to their end then.
+/// own entry, or excludes a rank that didn't stop, where a rank took notice of a revocation that no rank's own call made, or where
+/// the logs have no one order, as when two ranks each took a letter before they sent theirs; the threads that were started have
+/// run to their end then.
 pub fn run_job<E, D, R>(
     rt: &R,
     alloc: Global,
@@ -67,6 +69,7 @@ where
     ensures same_ends { IfOk result (λ report. map E.name report.ends.items ≡ map E.name ends.items) }
     ensures same_boards { IfOk result (λ report. map D.board report.deciders.items ≡ map D.board deciders.items) }
     ensures lawful { IfOk result (λ report. LawfulReport job.now (contents report.residue.inboxes.items) (map D.known report.deciders.items) report.ranks.items) }
+    ensures one_order { IfOk result (λ report. HaveOneOrder report.ranks.items) }
 {
     if !fits(job, &ends, &deciders) {
         return Err(RunFault::BadEnds);
@@ -86,6 +89,7 @@ fn report_of<E: Ends, D: Decider, R: Wait>(
     alloc: Global,
     ran: Vec<Ran<E, D>>,
 ) -> Result<Report<E, D>, RunFault>
+    requires few { length ran.items ≤ 8 }
     requires family { E.one_call (map E.name (map end_in ran.items)) }
     requires ready { (k : ℕ) (e : E) → at (map end_in ran.items) k e → E.ready e }
     requires one_board { NameOneBoard (map D.board (map decider_in ran.items)) }
@@ -97,7 +101,8 @@ fn report_of<E: Ends, D: Decider, R: Wait>(
     ensures agree { IfOk result (λ report. AllAgree (map D.known report.deciders.items)) }
     ensures decisions { IfOk result (λ report. AreTrue report.ranks.items) }
     ensures revoked { IfOk result (λ report. RevokedByARank report.ranks.items) }
-    ensures untrue { IfErr result (λ fault. (reports : Listed Told Heap) → fault ≡ RunFault.Untrue reports → (reports.items ≡ map report_in ran.items) × (AreTrue reports.items × RevokedByARank reports.items → ⊥)) }
+    ensures one_order { IfOk result (λ report. HaveOneOrder report.ranks.items) }
+    ensures untrue { IfErr result (λ fault. (reports : Listed Told Heap) → fault ≡ RunFault.Untrue reports → (reports.items ≡ map report_in ran.items) × (AreTrue reports.items × RevokedByARank reports.items × HaveOneOrder reports.items → ⊥)) }
     ensures fits { IfErr result (λ fault. fault ≡ RunFault.BadEnds → ⊥) }
 {
     let count = ran.len();

@@ -12,6 +12,8 @@ mod caused;
 mod comparing;
 mod finished;
 mod job;
+mod order;
+mod owing;
 mod polling;
 mod report;
 mod rest;

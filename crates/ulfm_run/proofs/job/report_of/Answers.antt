@@ -1,7 +1,8 @@
-use Rattle.std.proofs.Common.{ap, sym, ◌∙◌, subst, map, List, slice_get}
+use Rattle.std.proofs.Common.{◌≡◌, ap, sym, ◌∙◌, subst, map, List, length, slice_get, arith}
 use Rattle.ulfm_script.specs.declared.fault.RunFault.{RunFault}
 use Rattle.ulfm_script.specs.declared.fault.RunFault.TheVariants.{Untrue}
-use Rattle.ulfm_run.proofs.Common.{Global, IsGathered, Keeps, NameOneBoard, Report, RevokedByARank, Vec, false≢true, AreTrue}
+use Rattle.ulfm_run.proofs.Common.{Global, IsGathered, Keeps, NameOneBoard, Report, RevokedByARank, Vec, false≢true, AreTrue, length-map, report_in}
+use Rattle.ulfm_run.specs.Order.{HaveOneOrder}
 use Rattle.ulfm_run.proofs.job.report_of.Goals as goal
 
 pub gather-residue-requires-clause-family : goal.gather-residue-requires-clause-family
@@ -21,11 +22,19 @@ returns-clause-residue g c =
 pub compared-deciders-requires : goal.compared-deciders-requires
 compared-deciders-requires g c = record { one_board = subst NameOneBoard (ap (map g.D.Decider.board) (sym c.parted-ranks.ensures.deciders)) c.requires.one_board }
 
+pub are_borne_out-requires : goal.are_borne_out-requires
+are_borne_out-requires g c =
+    let long : length c.deref.result.now ≡ length c.args.ran.items = ap length (c.deref.ensures.value ∙ c.parted-ranks.ensures.reports) ∙ length-map c.args.ran.items report_in in
+    omega (arith, long, c.requires.few)
+
 pub returns-clause-decisions : goal.returns-clause-decisions
 returns-clause-decisions g c = subst AreTrue c.deref.ensures.value (c.are_borne_out.ensures.0 c.if-not-are_borne_out.false).0
 
 pub returns-clause-revoked : goal.returns-clause-revoked
 returns-clause-revoked g c = subst (λ (rs : List Report). RevokedByARank rs) c.deref.ensures.value (c.are_borne_out.ensures.0 c.if-not-are_borne_out.false).1
+
+pub returns-clause-one_order : goal.returns-clause-one_order
+returns-clause-one_order g c = subst (λ (rs : List Report). HaveOneOrder rs) c.deref.ensures.value (c.are_borne_out.ensures.0 c.if-not-are_borne_out.false).2
 
 -- the reports that a fault carries, where it is `Untrue`
 abbrev carried : RunFault → Vec Report Global → Vec Report Global
@@ -36,7 +45,7 @@ pub returns-then-not-are_borne_out-clause-untrue : goal.returns-then-not-are_bor
 returns-then-not-are_borne_out-clause-untrue g c reports fault =
     let same = ap (λ (rs : Vec Report Global). rs.items) (ap (λ f. carried f reports) fault) in (
       sym same ∙ c.parted-ranks.ensures.reports,
-      λ both.
-          let shown = subst (λ (rs : List Report). AreTrue rs × RevokedByARank rs) (sym (c.deref.ensures.value ∙ same)) both in
+      λ all.
+          let shown = subst (λ (rs : List Report). AreTrue rs × RevokedByARank rs × HaveOneOrder rs) (sym (c.deref.ensures.value ∙ same)) all in
           false≢true (sym c.if-not-are_borne_out.true ∙ c.are_borne_out.ensures.1 shown),
     )

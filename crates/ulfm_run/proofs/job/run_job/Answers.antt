@@ -2,7 +2,7 @@ use Rattle.std.proofs.Common.{sym, subst, map}
 use Rattle.std.proofs.lemmas.Result.{err_from_is_err_and}
 use Rattle.ulfm_laws.proofs.Lawful.{lawful}
 use Rattle.ulfm_run.proofs.Common.{contents, IsFresh}
-use Rattle.ulfm_run.proofs.Reporting.{same_names, all_ready, flow_all, sizes_all, names_all, settled_all, boards_all, untrue_all, produced_all, board_all}
+use Rattle.ulfm_run.proofs.Reporting.{same_names, all_ready, flow_all, sizes_all, few_all, names_all, settled_all, boards_all, untrue_all, produced_all, board_all}
 use Rattle.ulfm_run.proofs.job.run_job.Goals as goal
 
 pub play_all-requires-clause-fresh : goal.play_all-requires-clause-fresh
@@ -10,6 +10,9 @@ play_all-requires-clause-fresh g c = λ κs met k e here. subst (λ n. IsFresh g
 
 pub report_of-requires-clause-family : goal.report_of-requires-clause-family
 report_of-requires-clause-family g c = subst g.E.Ends.one_call (sym (same_names c.in-Ok.ensures.played)) (c.requires.one_call (c.fits.ensures.0 c.if-not-fits.false).placed)
+
+pub report_of-requires-clause-few : goal.report_of-requires-clause-few
+report_of-requires-clause-few g c = few_all c.in-Ok.ensures.played (c.fits.ensures.0 c.if-not-fits.false)
 
 pub report_of-requires-clause-ready : goal.report_of-requires-clause-ready
 report_of-requires-clause-ready g c = all_ready c.in-Ok.ensures.played
@@ -42,4 +45,5 @@ returns g c =
       same_boards = boards_all played fit report.deciders.items made.boards;
       lawful = lawful c.args.job.now (contents report.residue.inboxes.items) knows report.ranks.items
           (produced_all played fit g.D.Decider.known c.in-Ok.ensures.answers knows made.ranks made.known made.residue made.agree made.decisions made.revoked);
+      one_order = made.one_order;
     }

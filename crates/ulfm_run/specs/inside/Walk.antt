@@ -1,0 +1,59 @@
+-- A walk over all logs at once, by how far each of them was walked.
+use Rattle.std.specs.Prelude.{◌≡◌, ⊤, ℕ, ◌+◌, ◌-◌, ◌<◌, ◌≤◌, List, [], ◌∷◌, length, take, slice_index, slice_set}
+use Rattle.ulfm_base.specs.declared.item.Item.{Item}
+use Rattle.ulfm_base.specs.declared.rank.WorldRank.{WorldRank}
+use Rattle.ulfm_base.specs.Lists.{at}
+use Rattle.ulfm_rank.specs.declared.entry.Entry.{Entry}
+use Rattle.ulfm_rank.specs.declared.entry.Entry.TheVariants.{Took}
+use Rattle.ulfm_script.specs.Report.{Report}
+use Rattle.ulfm_run.specs.Order.{Owe, IsOwedEarlier}
+
+-- the entries that were walked of the rank s owe this item to the rank d, whose log was `before`
+pub record IsOwedByWalked (reports : List Report) (fronts : List ℕ) (s d : ℕ) (before : List Entry) (item : Item) : Type 0 where
+  pub sender : Report
+  pub reported : at reports s sender
+  pub owed : Owe s d (take (slice_index fronts s) sender.rank.log) before item
+
+-- an entry takes no item, or one that is owed
+abbrev pub MayPass : List Report → List ℕ → ℕ → List Entry → Entry → Type 0
+MayPass reports fronts d before (Took source item) = IsOwedByWalked reports fronts source.number d before item
+MayPass reports fronts d before _ = ⊤
+
+-- the rank d can go on: it has a next entry, which may be passed
+pub record GoesOn (reports : List Report) (fronts : List ℕ) (d : ℕ) : Type 0 where
+  pub told : Report
+  pub reported : at reports d told
+  pub entry : Entry
+  pub next : at told.rank.log (slice_index fronts d) entry
+  pub passes : MayPass reports fronts d (take (slice_index fronts d) told.rank.log) entry
+
+-- the rank d went on by one entry
+pub record StepsOn (reports : List Report) (old : List ℕ) (d : ℕ) (new : List ℕ) : Type 0 where
+  pub goes : GoesOn reports old d
+  pub moved : new ≡ slice_set old d (slice_index old d + 1)
+
+-- an item that was taken is owed earlier, by entries that were walked
+pub record IsOwedWithin (reports : List Report) (fronts : List ℕ) (time : ℕ → ℕ → ℕ) (s d k : ℕ) (before : List Entry) (item : Item) : Type 0 where
+  pub owed : IsOwedEarlier reports time s d k before item
+  pub within : owed.count ≤ slice_index fronts s
+
+-- what was walked has one order, and all of it comes before `now`
+pub record IsWalked (reports : List Report) (fronts : List ℕ) : Type 0 where
+  pub sized : length fronts ≡ 8
+  pub time : ℕ → ℕ → ℕ
+  pub now : ℕ
+  pub past : (r k : ℕ) → k < slice_index fronts r → time r k < now
+  pub onward : (r k : ℕ) → k + 1 < slice_index fronts r → time r k < time r (k + 1)
+  pub owed : (d k : ℕ) (receiver : Report) (source : WorldRank) (item : Item) → at reports d receiver
+      → k < slice_index fronts d → at receiver.rank.log k (Took source item)
+      → IsOwedWithin reports fronts time source.number d k (take k receiver.rank.log) item
+
+-- all logs were walked to their ends
+abbrev pub AreAtEnds : List Report → List ℕ → Type 0
+AreAtEnds reports fronts = (r : ℕ) (told : Report) → at reports r told → length told.rank.log ≤ slice_index fronts r
+
+-- how many entries weren't walked yet
+abbrev pub entries_left : List Report → List ℕ → ℕ
+entries_left [] fronts = 0
+entries_left (told ∷ reports) [] = 0
+entries_left (told ∷ reports) (front ∷ fronts) = length told.rank.log - front + entries_left reports fronts

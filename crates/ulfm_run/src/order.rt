@@ -1,0 +1,125 @@
+//! One order of all that ranks report: what is taken is taken after the entry that owes it (MPI 4.0, 3.5; ULFM).
+ghost use Rattle.std.specs.Prelude.{◌≡◌, ◌≤◌, ◌↔◌, ℕ, IsTrue, IfSome, IfNone, false, length, take};
+ghost use Rattle.ulfm_run.specs.Order.{HaveOneOrder};
+ghost use Rattle.ulfm_run.specs.inside.Walk.{GoesOn, MayPass, IsOwedByWalked, StepsOn, AreAtEnds};
+
+use crate::owing::owe;
+use ulfm_base::{NotedItem, WorldRank};
+use ulfm_rank::Entry;
+use ulfm_script::RankReport;
+
+/// Whether all logs have one order. It walks over all of them at once: a rank goes on where its next entry takes no item, or one
+/// that the entries walked of its sender owe. It never answers out of memory.
+pub(crate) fn have_one_order(reports: &[RankReport]) -> bool
+    requires { length reports.now ≤ 8 }
+    ensures { IsTrue result ↔ HaveOneOrder reports.now }
+{
+    let mut fronts: [usize; 8] = [0; 8];
+    let mut last = 0;
+    while let Some(rank) = step(reports, &mut fronts, last) {
+        last = rank;
+    }
+    are_at_ends(reports, &fronts)
+}
+
+/// One rank goes on by an entry, the one that did last if it can. Nothing: none can.
+fn step(reports: &[RankReport], fronts: &mut [usize; 8], last: usize) -> Option<usize>
+    requires { length reports.now ≤ 8 }
+    ensures steps { IfSome result (λ rank. StepsOn reports.now fronts.old rank fronts.new) }
+    ensures stuck { IfNone result ((rank : ℕ) → GoesOn reports.now fronts.old rank → ⊥) }
+    ensures stays { IfNone result (fronts.new ≡ fronts.old) }
+{
+    if go_on(reports, fronts, last) {
+        return Some(last);
+    }
+    for rank in 0..reports.len() {
+        if go_on(reports, fronts, rank) {
+            return Some(rank);
+        }
+    }
+    None
+}
+
+/// A rank goes on by an entry, if it can. Whether it did.
+fn go_on(reports: &[RankReport], fronts: &mut [usize; 8], rank: usize) -> bool
+    requires { length reports.now ≤ 8 }
+    ensures steps { IsTrue result → StepsOn reports.now fronts.old rank fronts.new }
+    ensures stuck { result ≡ false → GoesOn reports.now fronts.old rank → ⊥ }
+    ensures stays { result ≡ false → fronts.new ≡ fronts.old }
+{
+    let Some(report) = reports.get(rank) else {
+        return false;
+    };
+    let log = report.log();
+    let front = fronts[rank];
+    let Some(entry) = log.get(front) else {
+        return false;
+    };
+    if !may_pass(reports, fronts, rank, &log[..front], entry) {
+        return false;
+    }
+    fronts[rank] = front + 1;
+    true
+}
+
+/// Whether an entry of a rank, whose log was `before`, takes no item, or one that is owed.
+fn may_pass(
+    reports: &[RankReport],
+    fronts: &[usize; 8],
+    rank: usize,
+    before: &[Entry],
+    entry: &Entry,
+) -> bool
+    requires { length reports.now ≤ 8 }
+    ensures { IsTrue result ↔ MayPass reports.now fronts.now rank before.now entry.now }
+{
+    match entry {
+        Entry::Took(source, item) => is_owed(reports, fronts, *source, rank, before, item),
+        _ => true,
+    }
+}
+
+/// Whether the entries walked of a rank owe an item to a taker, whose log was `before`.
+fn is_owed(
+    reports: &[RankReport],
+    fronts: &[usize; 8],
+    source: WorldRank,
+    taker: usize,
+    before: &[Entry],
+    item: &NotedItem,
+) -> bool
+    requires { length reports.now ≤ 8 }
+    ensures { IsTrue result ↔ IsOwedByWalked reports.now fronts.now source.number taker before.now item.now }
+{
+    let number = source.number as usize;
+    match reports.get(number) {
+        Some(sender) => {
+            let walked = first(sender.log(), fronts[number]);
+            owe(source, taker, walked, before, item)
+        }
+        None => false,
+    }
+}
+
+/// The first entries of a log, as many as this, or all.
+fn first(log: &[Entry], count: usize) -> &[Entry]
+    ensures { result.now ≡ take count log.now }
+{
+    if count < log.len() {
+        return &log[..count];
+    }
+    log
+}
+
+/// Whether all logs were walked to their ends.
+fn are_at_ends(reports: &[RankReport], fronts: &[usize; 8]) -> bool
+    requires { length reports.now ≤ 8 }
+    ensures { IsTrue result ↔ AreAtEnds reports.now fronts.now }
+{
+    for (rank, report) in reports.iter().enumerate() {
+        if fronts[rank] < report.log().len() {
+            return false;
+        }
+    }
+    true
+}
