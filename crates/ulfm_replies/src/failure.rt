@@ -14,8 +14,8 @@ pub enum Failure {
     NoThread,
     /// Memory ran out.
     OutOfMemory,
-    /// A decision that a rank adopted is untrue of what the ranks did, or no rank's own call made a revocation that a rank
-    /// took notice of.
+    /// A decision that a rank adopted is untrue of what the ranks did, no rank's own call made a revocation that a rank took
+    /// notice of, or what they did has no one order.
     Untrue,
 }
 

@@ -18,8 +18,8 @@ pub enum RunFault {
     #[error("out of memory")]
     OutOfMemory,
     /// A rank adopted a decision that lists a rank with another set or flag than those with which that rank entered, or that
-    /// excludes a rank that didn't stop. Or a rank took notice of a revocation that no rank's own call made. What the ranks
-    /// did shows it.
+    /// excludes a rank that didn't stop. Or a rank took notice of a revocation that no rank's own call made. Or what the ranks
+    /// did has no one order, in which each item is sent before it is taken. What they did shows it.
     #[error("a decision or a revocation isn't true of what the ranks did")]
     Untrue(Vec<RankReport>),
 }
