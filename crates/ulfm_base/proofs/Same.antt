@@ -1,11 +1,15 @@
 -- Sets, contributions and listings whose tests pass are equal.
-use Rattle.std.proofs.Common.{◌≡◌, ℕ, ◌==◌, Bool, true, false, Option, Some, None, List, refl, ap}
+use Rattle.std.proofs.Common.{◌≡◌, ℕ, ◌==◌, ◌<◌, Bool, true, false, Option, Some, None, List, length, refl, ap, sym, ◌∙◌, arith}
+use Rattle.std.proofs.Math.Path.{to_path_p}
+use Rattle.std.proofs.Props.{props}
 use Rattle.std.specs.Option.{option_eq}
 use mathlib.Core.Bool.{beq}
 use lib.Pointwise.{pointwise, pointwise_decides}
 use Rattle.std.proofs.lemmas.Bool.{and_parts, and_from, eqb-true, eq-eqb}
+use Rattle.std.proofs.lemmas.List.{ext_get_or}
 use Rattle.std.proofs.lemmas.Option.{same_Some}
 use Rattle.ulfm_base.specs.declared.contribution.Contribution.{Contribution}
+use Rattle.ulfm_base.specs.RankSet.{has}
 use Rattle.ulfm_base.specs.Topic.{is_contribution}
 use Rattle.ulfm_base.specs.declared.rank_set.RankSet.{RankSet}
 
@@ -15,10 +19,26 @@ bools_decide true false = (λ e. cc, λ e. cc)
 bools_decide false true = (λ e. cc, λ e. cc)
 bools_decide false false = (λ _. refl, λ _. refl)
 
+-- a set has its places in one way
+sized_once : (members : List Bool) → IsProp (length members ≡ 8)
+sized_once members = hlevel props
+
+-- sets of the same members are one
+pub same_members : (x y : RankSet) → x.members ≡ y.members → x ≡ y
+same_members x y e =
+    let sized = to_path_p (λ i. length (e i) ≡ 8) {a = x.sized} {b = y.sized} (sized_once y.members _ y.sized) in
+    λ i. record { members = e i; sized = sized i }
+
+-- sets that have the same ranks are one
+pub same_set : (x y : RankSet) → ((r : ℕ) → r < 8 → has x r ≡ has y r) → x ≡ y
+same_set x y each =
+    let size : length x.members ≡ 8 = x.sized in
+    same_members x y (ext_get_or false x.members y.members (size ∙ sym y.sized) (λ r h. each r (omega (arith, h, size))))
+
 pub sets_decide : (x y : RankSet) → (pointwise beq x.members y.members ≡ true → x ≡ y) × (x ≡ y → pointwise beq x.members y.members ≡ true)
 sets_decide x y =
     let d = pointwise_decides bools_decide x.members y.members in
-    (λ h. λ i. record { members = d.0 h i }, λ e. d.1 (ap (λ (s : RankSet). s.members) e))
+    (λ h. same_members x y (d.0 h), λ e. d.1 (ap (λ (s : RankSet). s.members) e))
 
 flags_decide : (x y : Option ℕ) → (option_eq (λ a b. a == b) x y ≡ true → x ≡ y) × (x ≡ y → option_eq (λ a b. a == b) x y ≡ true)
 flags_decide None None = (λ _. refl, λ _. refl)

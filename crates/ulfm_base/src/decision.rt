@@ -1,5 +1,5 @@
 //! The decisions of shrinks and agreements (ULFM, shrink and agree).
-ghost use Rattle.std.specs.Prelude.{◌≡◌, ℕ, ◌↔◌, IsTrue};
+ghost use Rattle.std.specs.Prelude.{◌≡◌, ℕ, ◌↔◌, IsTrue, length};
 ghost use Rattle.ulfm_base.specs.Decision.{IsLawfulDecision, IsLawfulDecision-prop, is_listed, left_out};
 ghost use Rattle.ulfm_base.specs.RankSet.{has};
 
@@ -26,6 +26,7 @@ pub struct Decision {
     pub fresh: Group,
     /// The AND of the listed flags, in an agreement.
     pub value: Option<u32>,
+    pub ghost sized: { length entries ≡ 8 },
     pub ghost lawful: { IsLawfulDecision topic old entries excluded fresh value } by { IsLawfulDecision-prop topic old entries excluded fresh value },
 }
 

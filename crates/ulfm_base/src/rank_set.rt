@@ -1,12 +1,13 @@
 //! Sets of ranks.
-ghost use Rattle.std.specs.Prelude.{◌≡◌, ◌≢◌, ℕ, ◌↔◌, ◌||◌, IsTrue, true, false};
+ghost use Rattle.std.specs.Prelude.{◌≡◌, ◌≢◌, ℕ, ◌↔◌, ◌||◌, IsTrue, true, false, length};
 
 use crate::rank::WorldRank;
 
-/// A set of ranks of the world.
+/// A set of ranks of the world, with a place for each of the engine's eight.
 #[derive(Clone, Copy, Debug, PartialEq, Eq)]
 pub struct RankSet {
     members: [bool; 8],
+    pub ghost sized: { length members ≡ 8 },
 }
 
 impl RankSet {

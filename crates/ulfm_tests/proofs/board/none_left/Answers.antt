@@ -1,5 +1,6 @@
 use Rattle.std.proofs.Common.{◌≡◌, ◌<◌, ℕ, List, Option, None, is_some, ap, sym, refl, ◌∙◌}
 use Rattle.std.proofs.lemmas.Bool.{false≢true, or_right}
+use Rattle.std.proofs.lemmas.List.{length-replicate}
 use Rattle.ulfm_base.proofs.Places.{get_or-blank}
 use Rattle.ulfm_base.specs.declared.rank_set.RankSet.{RankSet}
 use Rattle.std.proofs.lemmas.Option.{none-some}
@@ -27,5 +28,6 @@ all_excluded context old entries excluded fresh room none all is = record {
 
 pub invariant_of-decision : goal.invariant_of-decision
 invariant_of-decision c = record {
+  sized = length-replicate 8 None;
   lawful = all_excluded c.args.context _ _ _ _ c.requires (λ r. get_or-blank 8 r None) c.members-excluded.ensures c.excluding-fresh.ensures;
 }
