@@ -1,6 +1,5 @@
 -- All parts of a rank follow the log, call by call.
-use Rattle.std.proofs.Common.{◌≡◌, ℕ, ◌+◌, ◌<◌, ◌≤◌, Bool, true, false, cond, List, [], ◌∷◌, ◌++◌, length, map, replicate, refl, ap, sym, ◌∙◌, Option, Some, None, arith, ◌&&◌, nat_lt, nat_eq, ◌^◌, IsTrue, filter}
-use Rattle.ulfm_rank.specs.inside.Decisive.{tells}
+use Rattle.std.proofs.Common.{◌≡◌, ℕ, ◌+◌, ◌<◌, ◌≤◌, Bool, true, false, cond, List, [], ◌∷◌, ◌++◌, length, map, replicate, refl, ap, sym, ◌∙◌, Option, Some, None, arith, ◌&&◌, nat_lt, nat_eq, ◌^◌, IsTrue}
 use Rattle.ulfm_rank.proofs.Common.{Item, Pattern, WorldRank, numbers_from, Entry, Posted, Released, Probed, Received, Cancelled, Took, Fate, Request, Follows, IsInStep, IsOfGroup, events_by, history_of, is_stop, newly_known, acknowledged_by, revokes, made_by, owed_by, false≢true, HasFaults, names_known, was_revoked_in, State, no_mark, Matching, Tracks, Adds, Removes, TracksAdmit, TracksItem, nat_tests, owed_by_item, Box, empty_box, mark_of, AllGrow, lookup, get, index_map_len, Holds, FaultState, acknowledged_in, is_revoked_in}
 use Rattle.ulfm_rank.specs.declared.rank.Rank.TheInside.{Inside}
 use Rattle.ulfm_rank.specs.State.{start_state_with}
@@ -92,10 +91,10 @@ module _ {n me : ℕ} {log : List Entry} {stopped : Bool} {matcher : Matching} {
 -- other room that is enough plays no part
 pub holds_copied : (a : Inside) {b : Inside} → Holds a → b.me ≡ a.me → b.ranks ≡ a.ranks → b.stopped ≡ a.stopped → b.faults ≡ a.faults → b.communicators ≡ a.communicators
     → b.matcher.waiting ≡ a.matcher.waiting → b.matcher.kept ≡ a.matcher.kept → b.matcher.count ≡ a.matcher.count → b.matcher.cleared ≡ a.matcher.cleared → b.requests.entries ≡ a.requests.entries → b.outboxes.boxes ≡ a.outboxes.boxes
-    → b.log.items ≡ a.log.items → b.told.items ≡ a.told.items → length a.log.items + (index_map_len a.requests + cond a.stopped 0 1) ≤ b.log.capacity → b.log.capacity < 2 ^ 63 → Holds b
-holds_copied a {b} h me ranks stopped faults comms waiting kept count cleared entries boxes items told room countable = record {
+    → b.log.items ≡ a.log.items → b.told.items ≡ a.told.items → b.rounds ≡ a.rounds → length a.log.items + (index_map_len a.requests + cond a.stopped 0 1) ≤ b.log.capacity → b.log.capacity < 2 ^ 63 → Holds b
+holds_copied a {b} h me ranks stopped faults comms waiting kept count cleared entries boxes items told rounds room countable = record {
   follows = rw (me, ranks, stopped, faults, comms, items) (follows_same h.follows b.matcher (get nat_eq b.requests) b.outboxes.boxes waiting kept count cleared (λ k. ap (lookup (nat_eq k)) entries) boxes);
-  tells = told ∙ h.tells ∙ ap (filter tells) (sym items);
+  tells = rw (items, told, rounds) h.tells;
   countable = countable;
   places =
       let same : index_map_len b.requests ≡ index_map_len a.requests = ap length entries in
@@ -105,9 +104,9 @@ holds_copied a {b} h me ranks stopped faults comms waiting kept count cleared en
 -- more room plays no part
 pub holds_same : (a : Inside) {b : Inside} → Holds a → b.me ≡ a.me → b.ranks ≡ a.ranks → b.stopped ≡ a.stopped → b.faults ≡ a.faults → b.communicators ≡ a.communicators
     → b.matcher.waiting ≡ a.matcher.waiting → b.matcher.kept ≡ a.matcher.kept → b.matcher.count ≡ a.matcher.count → b.matcher.cleared ≡ a.matcher.cleared → b.requests.entries ≡ a.requests.entries → b.outboxes.boxes ≡ a.outboxes.boxes
-    → b.log.items ≡ a.log.items → b.told.items ≡ a.told.items → a.log.capacity ≤ b.log.capacity → b.log.capacity < 2 ^ 63 → Holds b
-holds_same a h me ranks stopped faults comms waiting kept count cleared entries boxes items told room countable =
-    holds_copied a h me ranks stopped faults comms waiting kept count cleared entries boxes items told (omega (arith, h.places, room)) countable
+    → b.log.items ≡ a.log.items → b.told.items ≡ a.told.items → b.rounds ≡ a.rounds → a.log.capacity ≤ b.log.capacity → b.log.capacity < 2 ^ 63 → Holds b
+holds_same a h me ranks stopped faults comms waiting kept count cleared entries boxes items told rounds room countable =
+    holds_copied a h me ranks stopped faults comms waiting kept count cleared entries boxes items told rounds (omega (arith, h.places, room)) countable
 
 -- how many requests are left where one was taken out
 pub one_less : (b : Bool) (new old : ℕ) → new + cond b 1 0 ≡ old → b ≡ true → new + 1 ≡ old

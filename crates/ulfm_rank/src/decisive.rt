@@ -1,9 +1,10 @@
-//! The entries of a log that tell of shrinks and agreements (ULFM, shrink and agree).
+//! The entries of a log that tell of shrinks, and of the last agreements (ULFM, shrink and agree).
 ghost use Rattle.std.specs.Prelude.{◌≡◌, ◌+◌, ◌<◌, ◌≤◌, [], ◌∷◌, ◌++◌, filter, vec_len, vec_capacity, OnOk, OnErr};
-ghost use Rattle.ulfm_rank.specs.inside.Decisive.{tells};
+ghost use Rattle.ulfm_rank.specs.inside.Decisive.{rounds_on, tells};
 ghost use Rattle.ulfm_rank.specs.declared.entry.Entry.TheVariants.{Took};
 
 use crate::entry::Entry;
+use crate::rounds::Rounds;
 use ulfm_base::{Item, NotedItem, OutOfMemory, WorldRank};
 
 /// Makes room for one of them.
@@ -30,12 +31,25 @@ pub(crate) fn tell(told: &mut Vec<Entry>, entry: Entry)
 }
 
 /// One of them more, where the item that was taken from a rank is such.
-pub(crate) fn hear(told: &mut Vec<Entry>, source: WorldRank, item: &Item)
+pub(crate) fn hear(told: &mut Vec<Entry>, rounds: &Rounds, source: WorldRank, item: &Item)
     requires { vec_len told.old < vec_capacity told.old }
-    ensures items { told.new.items ≡ told.old.items ++ filter tells (Took source item.now ∷ []) }
+    ensures items { told.new.items ≡ told.old.items ++ filter (tells (rounds_on rounds.now)) (Took source item.now ∷ []) }
 {
     match item {
-        Item::Enter(_) => told.push_reserved(Entry::Took(source, NotedItem::of(item))),
+        Item::Enter(entrance) => {
+            if rounds.is_current(entrance.topic) {
+                told.push_reserved(Entry::Took(source, NotedItem::of(item)));
+            }
+        }
         _ => {}
     }
+}
+
+/// What belongs to agreements before the last ones goes.
+pub(crate) fn forget(told: &mut Vec<Entry>, rounds: &Rounds)
+    ensures items { told.new.items ≡ filter (tells (rounds_on rounds.now)) told.old.items }
+    ensures len { vec_len told.new ≤ vec_len told.old }
+    ensures capacity { vec_capacity told.new ≡ vec_capacity told.old }
+{
+    told.retain(|entry| rounds.keeps(entry));
 }

@@ -32,6 +32,7 @@ mod proposal;
 mod rank;
 mod request;
 mod requests;
+mod rounds;
 mod sources;
 mod word;
 

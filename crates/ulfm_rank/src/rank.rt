@@ -26,6 +26,7 @@ use crate::entry::{Comm, Entry};
 use crate::log::Log;
 use crate::outboxes::Outboxes;
 use crate::request::Request;
+use crate::rounds::Rounds;
 use indexmap::IndexMap;
 use std::alloc::Global;
 use std::marker::Model;
@@ -39,8 +40,9 @@ use ulfm_match::Matcher;
 #[derive(Drop)]
 pub struct Rank {
     log: Log,
-    // What the log tells of shrinks and agreements. Nothing of it is let go, so it grows with each agreement.
+    // What the log tells of shrinks and of the last agreements: at each entry what belongs to earlier ones is let go.
     told: Vec<Entry>,
+    rounds: Rounds,
     me: WorldRank,
     ranks: u8,
     stopped: bool,
@@ -107,6 +109,7 @@ impl Rank {
             outboxes,
             log,
             told: Vec::new(alloc),
+            rounds: Rounds::new(),
         })
     }
 

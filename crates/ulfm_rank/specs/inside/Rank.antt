@@ -1,6 +1,6 @@
 -- What holds of the fields of a rank, and what contracts see of them.
-use Rattle.std.specs.Prelude.{◌≡◌, ℕ, Bool, ◌≤◌, ◌<◌, ◌^◌, ◌+◌, List, map, Option, nat_eq, nat_lt, ◌&&◌, if◌then◌else◌, length, filter, vec_len, vec_capacity}
-use Rattle.ulfm_rank.specs.inside.Decisive.{tells}
+use Rattle.std.specs.Prelude.{◌≡◌, ℕ, Bool, ◌≤◌, ◌<◌, ◌^◌, ◌+◌, List, map, Option, nat_eq, nat_lt, ◌&&◌, if◌then◌else◌, length, vec_len, vec_capacity}
+use Rattle.ulfm_rank.specs.inside.Decisive.{IsTold}
 use Rattle.indexmap.specs.IndexMap.{get, index_map_len, spare}
 use Rattle.ulfm_fault.specs.Facts.{FaultState}
 use Rattle.ulfm_match.specs.State.{Matching}
@@ -30,7 +30,7 @@ pub record Follows (n me : ℕ) (log : List Entry) (stopped : Bool) (matcher : M
 -- for the stop
 pub record Holds (a : Inside) : Type 0 where
   pub follows : Follows a.ranks a.me.number a.log.items a.stopped a.matcher (get nat_eq a.requests) a.faults a.communicators a.outboxes.boxes
-  pub tells : a.told.items ≡ filter tells a.log.items
+  pub tells : IsTold a.log.items a.told.items a.rounds
   pub countable : a.log.capacity < 2 ^ 63
   pub places : length a.log.items + (index_map_len a.requests + stop_places a.stopped) ≤ a.log.capacity
 

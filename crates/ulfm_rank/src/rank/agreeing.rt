@@ -3,12 +3,12 @@ ghost use Rattle.std.specs.Prelude.{◌≡◌, false, IsTrue, Some, IfOk, IfErr,
 ghost use Rattle.ulfm_base.specs.Topic.{is_agreement};
 ghost use Rattle.ulfm_rank.specs.Calls.{Enters, Proposes};
 ghost use Rattle.ulfm_rank.specs.Checks.{Passes, Fails, FailsOrStarves, agree_checks, proposal_checks, adopt_checks};
-ghost use Rattle.ulfm_rank.specs.Proposal.{is_agreeing, next_agreement, last_agreement};
+ghost use Rattle.ulfm_rank.specs.inside.Decisive.{is_current};
+ghost use Rattle.ulfm_rank.specs.Proposal.{agreements, is_agreeing, next_agreement, last_agreement};
 ghost use Rattle.ulfm_rank.specs.State.{logged};
 
 use super::Rank;
 use crate::decisive::{make_place, tell};
-use crate::entrances::agreements;
 use crate::entry::{Comm, Entry};
 use ulfm_base::{CallError, Context, Decision, Purpose, Topic};
 
@@ -80,7 +80,8 @@ impl Rank {
 
     /// Adopts the decision of an agreement, and answers its value.
     fn adopt_agreed(&mut self, topic: Topic, decision: Decision) -> Result<u32, CallError>
-        requires { IsTrue (is_agreement topic.purpose) }
+        requires agreement { IsTrue (is_agreement topic.purpose) }
+        requires current { IsTrue (is_current (agreements self.old.state.log) topic) }
         ensures accepted { OnOk result (Passes (adopt_checks self.old.state topic decision)) }
         ensures value { IfOk result (λ value. decision.value ≡ Some value) }
         ensures state { OnOk result (self.new.state ≡ logged self.old.state (Entry.Adopted decision)) }
@@ -117,7 +118,7 @@ impl Rank {
         Topic {
             context,
             purpose: Purpose::Agree {
-                round: agreements(&self.told, context),
+                round: self.rounds.on(context),
             },
         }
     }
@@ -129,7 +130,7 @@ impl Rank {
         Topic {
             context,
             purpose: Purpose::Agree {
-                round: agreements(&self.told, context).saturating_sub(1),
+                round: self.rounds.on(context).saturating_sub(1),
             },
         }
     }

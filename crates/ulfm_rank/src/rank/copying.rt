@@ -24,6 +24,7 @@ impl Rank {
         Ok(Rank {
             log,
             told,
+            rounds: self.rounds,
             me: self.me,
             ranks: self.ranks,
             stopped: self.stopped,

@@ -9,11 +9,12 @@ ghost use Rattle.ulfm_rank.specs.Calls.{Enters, Proposes};
 ghost use Rattle.ulfm_rank.specs.Checks.{Passes, Fails, proposal_checks, adopt_checks};
 ghost use Rattle.ulfm_rank.specs.Communicators.{group_of};
 ghost use Rattle.ulfm_rank.specs.inside.Fields.{HasEntries};
-ghost use Rattle.ulfm_rank.specs.Proposal.{deciders, has_entered, has_adopted, is_foreign};
+ghost use Rattle.ulfm_rank.specs.inside.Decisive.{is_current, is_next};
+ghost use Rattle.ulfm_rank.specs.Proposal.{agreements, deciders, has_entered, has_adopted, is_foreign};
 
 use super::Rank;
 use crate::adopting::is_foreign;
-use crate::decisive::{make_place, tell};
+use crate::decisive::{forget, make_place, tell};
 use crate::entrances::{has_adopted, listed};
 use crate::entry::{Comm, Entry};
 use crate::forwarding::announce;
@@ -31,6 +32,7 @@ impl Rank {
         requires fits { Fits topic.purpose flag }
         requires has_shrink { HasShrink topic }
         requires members { (r : ℕ) → has members r ≡ is_member (deciders self.old.state.ranks self.old.state.log topic) r }
+        requires next { IsTrue (is_next (agreements self.old.state.log) topic) }
         ensures enters { OnOk result (Enters self.old.state topic flag self.new.state) }
         ensures unchanged { OnErr result (self.new.state ≡ self.old.state) }
         ensures room_lacked { OnErr result (self.old.prepared ≡ false) }
@@ -46,6 +48,8 @@ impl Rank {
             contribution: Contribution { known, flag },
         };
         announce(&mut self.outboxes, self.me.number, known, members, entrance);
+        self.rounds.enter(topic);
+        forget(&mut self.told, &self.rounds);
         tell(&mut self.told, Entry::Entered(entrance));
         self.log.push_reserved(Entry::Entered(entrance));
         Ok(())
@@ -53,6 +57,7 @@ impl Rank {
 
     /// What the rank proposes on a topic that it entered, once each member is listed or failed.
     pub(super) fn proposal_on(&self, topic: Topic) -> Result<Option<Decision>, CallError>
+        requires current { IsTrue (is_current (agreements self.now.state.log) topic) }
         ensures accepted { OnOk result (Passes (proposal_checks self.now.state topic)) }
         ensures proposal { IfOk result (Proposes self.now.state topic) }
         ensures refused { IfErr result (Fails (proposal_checks self.now.state topic)) }
@@ -69,6 +74,7 @@ impl Rank {
 
     /// Whether a decision may be adopted on a topic.
     pub(super) fn check_adoption(&self, topic: Topic, decision: &Decision) -> Result<(), CallError>
+        requires current { IsTrue (is_current (agreements self.now.state.log) topic) }
         ensures accepted { OnOk result (Passes (adopt_checks self.now.state topic decision.now)) }
         ensures about { OnOk result (decision.now.topic ≡ topic) }
         ensures group { OnOk result (group_of self.now.state.ranks self.now.state.log topic.context.number ≡ Some decision.now.old) }
@@ -91,6 +97,7 @@ impl Rank {
 
     /// Whether a decision isn't one to adopt on a topic, where the communicator has this group.
     fn is_foreign(&self, topic: Topic, group: &Group, decision: &Decision) -> bool
+        requires { IsTrue (is_current (agreements self.now.state.log) topic) }
         ensures { result ≡ is_foreign self.now.state.me group.now self.now.state.log topic decision.now }
     {
         is_foreign(decision, topic, group, self.me, &self.listed(topic))
@@ -98,6 +105,7 @@ impl Rank {
 
     /// Whether the rank adopted a decision on a topic.
     pub(super) fn has_adopted(&self, topic: Topic) -> bool
+        requires { IsTrue (is_current (agreements self.now.state.log) topic) }
         ensures { result ≡ has_adopted self.now.state.log topic }
     {
         has_adopted(&self.told, topic)
@@ -105,6 +113,7 @@ impl Rank {
 
     /// Whether the rank entered a topic.
     pub(super) fn has_entered(&self, topic: Topic) -> bool
+        requires { IsTrue (is_current (agreements self.now.state.log) topic) }
         ensures { result ≡ has_entered self.now.state.log topic }
     {
         self.listed(topic)[self.me.number as usize].is_some()
@@ -112,6 +121,7 @@ impl Rank {
 
     /// With what the rank lists each rank in the decision on a topic.
     fn listed(&self, topic: Topic) -> [Option<Contribution>; 8]
+        requires { IsTrue (is_current (agreements self.now.state.log) topic) }
         ensures entries { HasEntries self.now.state.me self.now.state.log topic result }
         ensures flags { (r : ℕ) (brought : Brought) → entry_at result r ≡ Some brought → Fits topic.purpose brought.flag }
     {

@@ -67,7 +67,7 @@ impl Rank {
             &item,
         );
         learn(&mut self.faults, source, &item);
-        hear(&mut self.told, source, &item);
+        hear(&mut self.told, &self.rounds, source, &item);
         let noted = NotedItem::of(&item);
         settle(&mut self.matcher, &mut self.requests, late, source, item);
         self.log.push_reserved(Entry::Took(source, noted));

@@ -1,11 +1,12 @@
-use Rattle.ulfm_rank.proofs.Sifted.{told_more}
-use Rattle.std.proofs.Common.{◌≡◌, ◌++◌, ◌∷◌, [], ap, sym, subst, ◌∙◌, arith, Some}
-use Rattle.ulfm_rank.proofs.Common.{Topic, decided_comm, shrink_of, shrink_topic, Adopted, find_group, group_of, state_of, State, RankView, is_some}
+use Rattle.ulfm_rank.proofs.Sifted.{told_adopted}
+use Rattle.std.proofs.Common.{◌≡◌, ◌++◌, ◌∷◌, [], refl, ap, sym, subst, ◌∙◌, arith, Some}
+use Rattle.ulfm_rank.proofs.Common.{agreements, Topic, decided_comm, shrink_of, shrink_topic, Adopted, find_group, group_of, state_of, State, RankView, is_some}
 use Rattle.std.proofs.lemmas.Result.{err_from_is_err_and}
 use Rattle.ulfm_rank.specs.Checks.{adopt_checks, Fails, Passes}
 use Rattle.ulfm_rank.proofs.Adoptable.{made_adopted, never_starved}
 use Rattle.ulfm_rank.proofs.Refusals.{all_pass}
 use Rattle.ulfm_rank.proofs.Following.{follows_adopted}
+use Rattle.ulfm_rank.specs.inside.Decisive.{is_current}
 use Rattle.ulfm_rank.proofs.Made.{found_group}
 use Rattle.ulfm_rank.proofs.Seen.{stop_places_few}
 use Rattle.ulfm_rank.proofs.rank.Rank.adopt.Goals as goal
@@ -39,6 +40,6 @@ invariant_of-self-2 c =
     record {
       follows = rw (longer, added) (follows_adopted c.self.invariant.follows c.args.decision found);
       places = omega (arith, c.in_ok-reserve.ensures.ok, c.push_reserved.ensures.len, c.push_reserved.ensures.capacity, c.len.ensures.len, stop_places_few a.stopped);
-      tells = told_more _ _ _ _ _ longer c.self.invariant.tells (c.tell.ensures.items ∙ ap (λ l. l ++ Adopted c.copied-2.result ∷ []) c.make_place.ensures.items ∙ ap (λ d. a.told.items ++ Adopted d ∷ []) c.copied-2.ensures);
+      tells = told_adopted _ _ _ _ _ longer c.self.invariant.tells (ap (is_current (agreements a.log.items)) about ∙ refl) (c.tell.ensures.items ∙ ap (λ l. l ++ Adopted c.copied-2.result ∷ []) c.make_place.ensures.items ∙ ap (λ d. a.told.items ++ Adopted d ∷ []) c.copied-2.ensures);
       countable = omega (arith, c.push_reserved.ensures.capacity, c.reserve.ensures.countable);
     }

@@ -1,10 +1,11 @@
-use Rattle.ulfm_rank.proofs.Sifted.{told_more}
+use Rattle.ulfm_rank.proofs.Sifted.{told_adopted}
 use Rattle.std.proofs.Common.{◌≡◌, ◌++◌, ◌∷◌, [], append-nil, ap, sym, subst, ◌∙◌, arith, Some}
-use Rattle.ulfm_rank.proofs.Common.{Topic, is_agreement, decided_comm, Adopted, find_group, group_of, State, RankView}
+use Rattle.ulfm_rank.proofs.Common.{agreements, Topic, is_agreement, decided_comm, Adopted, find_group, group_of, State, RankView}
 use Rattle.std.proofs.lemmas.Result.{err_from_is_err_and}
 use Rattle.ulfm_rank.specs.Checks.{adopt_checks, Fails}
 use Rattle.ulfm_rank.proofs.Adoptable.{never_starved, none_agreed}
 use Rattle.ulfm_rank.proofs.Following.{follows_adopted}
+use Rattle.ulfm_rank.specs.inside.Decisive.{is_current}
 use Rattle.ulfm_rank.proofs.Made.{found_group}
 use Rattle.ulfm_rank.proofs.Seen.{stop_places_few}
 use Rattle.ulfm_rank.proofs.rank.Rank.adopt_agreed.Goals as goal
@@ -23,12 +24,12 @@ invariant_of-self-2 c =
     let longer = c.push_reserved.ensures.items ∙ ap (λ l. l ++ Adopted c.args.decision ∷ []) c.reserve.ensures.items in
     let found : find_group c.args.decision.topic.context.number c.self.inside.communicators ≡ Some c.args.decision.old =
     found_group d.topic.context.number c.self.invariant.follows.communicators ∙ ap (λ (t : Topic). group_of a.ranks a.log.items t.context.number) about ∙ ap (λ (s : State). group_of s.ranks s.log c.args.topic.context.number) seen ∙ c.in_ok-check_adoption.ensures.group in
-    let none : decided_comm c.args.decision.topic.purpose c.args.decision.topic.context.number c.args.decision.fresh ≡ [] = none_agreed d.topic.purpose d.topic.context.number d.fresh (ap (λ (t : Topic). is_agreement t.purpose) about ∙ c.requires) in
+    let none : decided_comm c.args.decision.topic.purpose c.args.decision.topic.context.number c.args.decision.fresh ≡ [] = none_agreed d.topic.purpose d.topic.context.number d.fresh (ap (λ (t : Topic). is_agreement t.purpose) about ∙ c.requires.agreement) in
     let same : c.self.inside.communicators ≡ c.self.inside.communicators ++ decided_comm c.args.decision.topic.purpose c.args.decision.topic.context.number c.args.decision.fresh =
     sym (ap (λ more. a.communicators ++ more) none ∙ append-nil a.communicators) in
     record {
       follows = rw (longer, same) (follows_adopted c.self.invariant.follows c.args.decision found);
       places = omega (arith, c.in_ok-reserve.ensures.ok, c.push_reserved.ensures.len, c.push_reserved.ensures.capacity, c.len.ensures.len, stop_places_few a.stopped);
-      tells = told_more _ _ _ _ _ longer c.self.invariant.tells (c.tell.ensures.items ∙ ap (λ l. l ++ Adopted c.copied.result ∷ []) c.make_place.ensures.items ∙ ap (λ d. a.told.items ++ Adopted d ∷ []) c.copied.ensures);
+      tells = told_adopted _ _ _ _ _ longer c.self.invariant.tells (ap (is_current (agreements a.log.items)) about ∙ ap (λ (s : State). is_current (agreements s.log) c.args.topic) seen ∙ c.requires.current) (c.tell.ensures.items ∙ ap (λ l. l ++ Adopted c.copied.result ∷ []) c.make_place.ensures.items ∙ ap (λ d. a.told.items ++ Adopted d ∷ []) c.copied.ensures);
       countable = omega (arith, c.push_reserved.ensures.capacity, c.reserve.ensures.countable);
     }

@@ -10,10 +10,10 @@ use Rattle.ulfm_rank.proofs.rank.Rank.irecv.Goals as goal
 use Rattle.ulfm_rank.proofs.rank.Rank.irecv.Goals.{After-push_reserved}
 
 pub invariant_of-self-in_err-reserve-2 : goal.invariant_of-self-in_err-reserve-2
-invariant_of-self-in_err-reserve-2 c = holds_same c.self.inside c.self.invariant refl refl refl refl refl refl refl refl refl c.reserve-2.ensures.entries refl c.reserve.ensures.items refl c.reserve.ensures.capacity c.reserve.ensures.countable
+invariant_of-self-in_err-reserve-2 c = holds_same c.self.inside c.self.invariant refl refl refl refl refl refl refl refl refl c.reserve-2.ensures.entries refl c.reserve.ensures.items refl refl c.reserve.ensures.capacity c.reserve.ensures.countable
 
 pub invariant_of-self-in_err-prepare : goal.invariant_of-self-in_err-prepare
-invariant_of-self-in_err-prepare c = holds_same c.self.inside c.self.invariant refl refl refl refl refl c.prepare.ensures.waiting c.prepare.ensures.kept c.prepare.ensures.count c.prepare.ensures.cleared c.reserve-2.ensures.entries refl c.reserve.ensures.items refl c.reserve.ensures.capacity c.reserve.ensures.countable
+invariant_of-self-in_err-prepare c = holds_same c.self.inside c.self.invariant refl refl refl refl refl c.prepare.ensures.waiting c.prepare.ensures.kept c.prepare.ensures.count c.prepare.ensures.cleared c.reserve-2.ensures.entries refl c.reserve.ensures.items refl refl c.reserve.ensures.capacity c.reserve.ensures.countable
 
 pub admit-fate-requires-clause-countable : goal.admit-fate-requires-clause-countable
 admit-fate-requires-clause-countable c =

@@ -1,5 +1,4 @@
-use Rattle.std.proofs.Common.{◌≡◌, ℕ, [], ◌∷◌, ap, arith, ◌∙◌, None, nat_eq, sym, filter}
-use Rattle.ulfm_rank.specs.inside.Decisive.{tells}
+use Rattle.std.proofs.Common.{◌≡◌, ℕ, [], ◌∷◌, ap, arith, ◌∙◌, None, nat_eq}
 use Rattle.ulfm_rank.proofs.Common.{lookup, get}
 use Rattle.ulfm_rank.proofs.Whole.{follows_start, state_start}
 use Rattle.ulfm_rank.proofs.rank.Rank.start_with.Goals as goal
@@ -18,7 +17,7 @@ invariant_of-result-2 c =
           size.1 c.if-me-ranks.false c.new-3.ensures none c.new-4.ensures.none_known c.new-4.ensures.none_acknowledged c.new-4.ensures.none_revoked
           (c.in_ok-communicators.ensures ∙ ap (λ g. (0, g) ∷ []) size.2) c.in_ok-outboxes.ensures);
       places = omega (arith, c.in_ok-reserve.ensures.ok, c.reserve.ensures.len, c.new-log.ensures.len, c.new-5.ensures.len);
-      tells = c.new-6.ensures.items ∙ ap (filter tells) (sym (empty c));
+      tells = rw (empty c) (record { rows = c.new-6.ensures.items; counts = c.new-7.ensures });
       countable = c.reserve.ensures.countable;
     }
 

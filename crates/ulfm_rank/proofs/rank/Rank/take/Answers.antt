@@ -1,5 +1,5 @@
 use Rattle.ulfm_rank.proofs.Sifted.{told_more}
-use Rattle.std.proofs.Common.{◌≡◌, ◌+◌, [], ◌∷◌, ◌++◌, ap, sym, subst, arith, ◌∙◌, nat_eq, IsTrue, length, nat_lt, ◌&&◌, vec_len, vec_capacity}
+use Rattle.std.proofs.Common.{◌≡◌, ◌+◌, [], ◌∷◌, ◌++◌, refl, ap, sym, subst, arith, ◌∙◌, nat_eq, IsTrue, length, nat_lt, ◌&&◌, vec_len, vec_capacity}
 use Rattle.ulfm_rank.proofs.Common.{Took, AllGrow, RankView, owed_by_item, get, index_map_len, stop_places, revoked_before}
 use Rattle.ulfm_rank.proofs.Held.{marks-grown}
 use Rattle.ulfm_rank.proofs.InStep.{count_small, in_step_open}
@@ -39,7 +39,7 @@ invariant_of-self c =
       follows = rw (longer c)
           (follows_took c.self.invariant.follows c.args.source c.args.item c.settle.new.matcher (get nat_eq c.settle.new.requests) c.learn.new.faults c.pass_on.new.outboxes.boxes tracks (c.learn.ensures a.log.items c.self.invariant.follows.faults) (grows c));
       places = omega (arith, room, c.settle.ensures.len, c.push_reserved.ensures.len, c.push_reserved.ensures.capacity);
-      tells = told_more _ _ _ _ _ (longer c) c.self.invariant.tells c.hear.ensures.items;
+      tells = told_more _ _ _ _ _ (longer c) c.self.invariant.tells (λ k. refl) c.hear.ensures.items;
       countable = omega (arith, c.push_reserved.ensures.capacity, c.self.invariant.countable);
     }
 

@@ -1,0 +1,81 @@
+//! How many agreements a rank entered on each communicator, and what is let go after a further one (ULFM, agree).
+ghost use Rattle.std.specs.Prelude.{◌≡◌, ◌+◌, ◌-◌, ◌<◌, ◌^◌, ℕ, if◌then◌else◌};
+ghost use Rattle.ulfm_base.specs.Topic.{is_agreement};
+ghost use Rattle.ulfm_rank.specs.inside.Decisive.{rounds_on, enters_on, is_current, item_tells, tells};
+
+use crate::entry::Entry;
+use ulfm_base::{Context, ItemKind, NotedItem, Purpose, Topic};
+
+/// By the number of a context, how many agreements on its communicator the rank entered.
+#[derive(Clone, Copy)]
+pub(crate) struct Rounds {
+    entered: [u64; 63],
+}
+
+impl Rounds {
+    /// No agreement was entered.
+    pub(crate) fn new() -> Rounds
+        ensures { (c : ℕ) → rounds_on result c ≡ 0 }
+    {
+        Rounds { entered: [0; 63] }
+    }
+
+    /// How many were entered on a communicator.
+    pub(crate) fn on(&self, context: Context) -> u64
+        ensures { result ≡ rounds_on self.now context.number }
+    {
+        self.entered[context.number as usize]
+    }
+
+    /// A topic was entered. A shrink counts nowhere.
+    pub(crate) fn enter(&mut self, topic: Topic)
+        requires { rounds_on self.old topic.context.number < 2 ^ 63 }
+        ensures { (c : ℕ) → rounds_on self.new c ≡ rounds_on self.old c + (if enters_on c topic then 1 else 0) }
+    {
+        if is_agreement(topic.purpose) {
+            self.entered[topic.context.number as usize] += 1;
+        }
+    }
+
+    /// Whether a topic is a shrink, or no agreement before the last one that was entered on its communicator.
+    pub(crate) fn is_current(&self, topic: Topic) -> bool
+        ensures { result ≡ is_current (rounds_on self.now) topic }
+    {
+        match topic.purpose {
+            Purpose::Shrink => true,
+            Purpose::Agree { round } => round >= self.on(topic.context).saturating_sub(1),
+        }
+    }
+
+    /// Whether an entry of the log tells of such a topic.
+    pub(crate) fn keeps(&self, entry: &Entry) -> bool
+        ensures { result ≡ tells (rounds_on self.now) entry.now }
+    {
+        match entry {
+            Entry::Entered(entrance) => self.is_current(entrance.topic),
+            Entry::Adopted(decision) => self.is_current(decision.topic),
+            Entry::Took(_, item) => self.keeps_item(item),
+            _ => false,
+        }
+    }
+
+    /// Whether an item is an entrance into such a topic.
+    fn keeps_item(&self, item: &NotedItem) -> bool
+        ensures { result ≡ item_tells (rounds_on self.now) item.now }
+    {
+        match item.kind() {
+            ItemKind::Enter(entrance) => self.is_current(entrance.topic),
+            _ => false,
+        }
+    }
+}
+
+/// Whether a purpose is an agreement.
+fn is_agreement(purpose: Purpose) -> bool
+    ensures { result ≡ is_agreement purpose }
+{
+    match purpose {
+        Purpose::Shrink => false,
+        Purpose::Agree { .. } => true,
+    }
+}
