@@ -19,7 +19,7 @@ seen-stopped j capacity turns r at vs ws v conditions expected asked wanted give
     let long : length (set ws r v) ≡ length vs = sym (length-map (set ws r v) items) ∙ ap length scripts ∙ length-set (lists_of vs) r _ ∙ length-map vs items in
     cc (scripts, long, is, moved, kept, lefts)
 
-length-stopped_at : (at : ℕ) (xs : List Step) → at ≤ length xs → length (stopped_at at xs) ≡ length xs + 1
+pub length-stopped_at : (at : ℕ) (xs : List Step) → at ≤ length xs → length (stopped_at at xs) ≡ length xs + 1
 length-stopped_at at xs le = let l = length-map xs (moved_on at (length xs)) in length-insert _ at Stop (omega (arith, l, le)) ∙ ap (λ n. n + 1) l
 
 pub is_job-stopped : (j : JobView) (r at : ℕ) → IsJob j → r < j.ranks → at ≤ length (script_at j r) → step_count j.scripts ≢ 256 → IsJob (with_stop r at j)

@@ -1,10 +1,10 @@
 //! A job.
-ghost use Rattle.std.specs.Prelude.{◌≡◌, ◌≢◌, ◌<◌, ◌≤◌, IfErr, IfOk, Err, option_map, slice_get, filter, length, ℕ, ◌⊎◌};
-ghost use Rattle.ulfm_job.specs.Job.{IsJob, step_count, script_at, agreements_in, is_decided_together, is_left, is_of_other, may_leave, turns_at};
-ghost use Rattle.std.specs.List.{list_any};
+ghost use Rattle.std.specs.Prelude.{◌≡◌, ◌≢◌, ◌<◌, ◌≤◌, IfErr, IfOk, Err, option_map, slice_get, length, ℕ, ◌⊎◌};
+ghost use Rattle.ulfm_job.specs.Job.{IsJob, step_count, script_at, agreements_in, is_decided_together, may_leave, turns_at};
 
 use crate::clause::Clause;
 use crate::fault::JobFault;
+use crate::joint::{agreements, is_decided_together, is_left, without};
 use crate::left_step::LeftStep;
 use crate::step::Step;
 use crate::stopped::{copied_scripts, moved_clauses, moved_left, stopped_at};
@@ -283,45 +283,4 @@ impl Job {
     {
         self.script(rank).get(place)
     }
-}
-
-/// How many steps of a script are agreements.
-fn agreements(script: &[Step]) -> usize
-    ensures { result ≡ agreements_in script.now }
-{
-    script.iter().filter(|step| step.is_agreement()).count()
-}
-
-/// Whether ranks decide a step together, if there is one.
-fn is_decided_together(step: Option<&Step>) -> bool
-    ensures { result ≡ is_decided_together (option_map (λ step. step.now) step.entry) }
-{
-    match step {
-        Some(step) => step.decides_on().is_some(),
-        None => false,
-    }
-}
-
-/// Whether a step is one of these.
-fn is_left(left: &[LeftStep], rank: u8, place: usize) -> bool
-    ensures { result ≡ list_any (is_left rank place) left.now }
-{
-    left.iter()
-        .any(|left| left.rank == rank && left.at as usize == place)
-}
-
-/// Clauses but for those of one step.
-fn without(clauses: Vec<Clause>, rank: u8, at: u16) -> Vec<Clause>
-    ensures { result.items ≡ filter (is_of_other rank at) clauses.items }
-{
-    let mut kept = clauses;
-    kept.retain(|clause| is_of_other(clause, rank, at));
-    kept
-}
-
-/// Whether a clause is of another step than this one of a rank.
-fn is_of_other(clause: &Clause, rank: u8, at: u16) -> bool
-    ensures { result ≡ is_of_other rank at clause.now }
-{
-    !(clause.rank == rank && clause.at == at)
 }

@@ -15,6 +15,7 @@ mod clause;
 mod copying;
 mod fault;
 mod job;
+mod joint;
 mod left_step;
 mod noted_step;
 mod step;

@@ -1,10 +1,9 @@
 -- What a stop leaves of a job.
 use Rattle.std.proofs.Common.{◌≡◌, ◌≢◌, ℕ, ◌+◌, ◌<◌, ◌≤◌, Bool, true, false, List, [], length, set, get_or, refl, ap, sym, subst, ◌∙◌, slice_get, arith, if◌then◌else◌}
-use Rattle.std.proofs.lemmas.List.{get_or-set_other, length-map}
-use Rattle.std.proofs.lemmas.List.Edits.{length-insert}
-use Rattle.ulfm_job.specs.Job.{IsJob, JobView, is_decided_together, moved_on, script_at, step_count, stopped_at, with_left, with_stop}
-use Rattle.ulfm_job.specs.declared.step.Step.TheVariants.{Stop as Halt}
+use Rattle.std.proofs.lemmas.List.{get_or-set_other}
+use Rattle.ulfm_job.specs.Job.{IsJob, JobView, is_decided_together, script_at, step_count, stopped_at, with_left, with_stop}
 use Rattle.ulfm_job.proofs.Scripts.{step_count-set}
+use Rattle.ulfm_job.proofs.WithStop.{length-stopped_at}
 use Rattle.ulfm_job.specs.declared.step.Step.{Step}
 use Rattle.ulfm_stops.specs.Place.{IsStopOf, before, stopped}
 use Rattle.ulfm_stops.specs.declared.stop.Stop.{Stop}
@@ -34,6 +33,5 @@ stop_still j m first second is other h =
 -- a stop is one more step
 pub counted_more : (j m : JobView) (r at : ℕ) → IsJob j → r < j.ranks → at ≤ length (script_at j r) → m ≡ with_stop r at j → step_count m.scripts ≡ step_count j.scripts + 1
 counted_more j m r at is lt le same =
-    let l = length-map (script_at j r) (moved_on at (length (script_at j r))) in
     ap (λ (x : JobView). step_count x.scripts) same
-    ∙ step_count-set j.scripts r (stopped_at at (script_at j r)) (let each = is.script_each in omega (arith, lt, each)) (length-insert _ at Halt (omega (arith, l, le)) ∙ ap (λ n. n + 1) l)
+    ∙ step_count-set j.scripts r (stopped_at at (script_at j r)) (let each = is.script_each in omega (arith, lt, each)) (length-stopped_at at (script_at j r) le)
