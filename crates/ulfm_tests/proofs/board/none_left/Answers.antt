@@ -27,7 +27,7 @@ all_excluded context old entries excluded fresh room none all is = record {
 }
 
 pub invariant_of-decision : goal.invariant_of-decision
-invariant_of-decision c = record {
-  sized = length-replicate 8 None;
+invariant_of-decision c = let none : Option Contribution = None in record {
+  sized = length-replicate 8 none;
   lawful = all_excluded c.args.context _ _ _ _ c.requires (λ r. get_or-blank 8 r None) c.members-excluded.ensures c.excluding-fresh.ensures;
 }
