@@ -81,6 +81,13 @@ def numbered(job):
         counts[rank] += 1
 
 
+def steps(text):
+    """The rank, the number and the op of each step of a job's text."""
+    import tomllib
+
+    return [(step["rank"], number, step["op"]) for step, number, _ in numbered(tomllib.loads(text))]
+
+
 def begins(answer, words):
     """Whether an answer begins, by whole words, with these."""
     return answer == words or answer.startswith(words + " ")

@@ -4,13 +4,17 @@ use crate::search::Search;
 use crate::words::{answer_words, step_words};
 
 impl Search<'_> {
-    /// A line for each step of each rank, in the order of the trace, and a last one that counts.
+    /// A line for each step of each rank, in the order of the trace, then one for each row, and a last one that counts.
     pub fn list(&self) -> String {
         let mut lines = vec![];
         for (rank, steps) in self.job.steps.iter().enumerate() {
             for (number, step) in steps.iter().enumerate() {
                 lines.push(format!("{rank} {number} {}: {}", step_words(step), self.outcomes(rank, number)));
             }
+        }
+        for row in 0..self.rows.len() {
+            let comes = if self.rows.came.contains(&row) { "comes" } else { "never comes" };
+            lines.push(format!("row {row}: {comes}"));
         }
         lines.push(self.count());
         lines.join("\n")

@@ -2,7 +2,7 @@
 //! input. It shares no code with the program that it checks, and nothing of it is proved.
 //!
 //!     explorer [--carrier lanes|shared] [--reduce NAMES] [--limit N] [--capacity N] [--stop R.K].. [--left R.K]..
-//!              [--count]
+//!              [--row 'R.K WORDS;R.K WORDS'].. [--count]
 
 mod agree;
 mod ahead;
@@ -24,6 +24,7 @@ mod rank;
 mod reacting;
 mod reductions;
 mod revocation;
+mod rows;
 mod search;
 mod shrink;
 mod topics;
@@ -33,6 +34,7 @@ mod world;
 use carriers::Carrier;
 use job::Job;
 use reductions::Reductions;
+use rows::Rows;
 use search::Search;
 use std::io::Read;
 use std::process::exit;
@@ -47,13 +49,23 @@ struct Asked {
     stops: Vec<(usize, usize)>,
     /// The steps that may be given up while they stand open, by the numbers that they have then.
     left: Vec<(usize, usize)>,
+    /// The rows of answers of which is told whether they come together.
+    rows: Rows,
     counts_only: bool,
 }
 
 fn asked(mut words: impl Iterator<Item = String>) -> Option<Asked> {
     let reductions = Reductions::named("key,late")?;
-    let mut asked =
-        Asked { carrier: Carrier::Lanes, reductions, limit: 1_000_000, capacity: None, stops: vec![], left: vec![], counts_only: false };
+    let mut asked = Asked {
+        carrier: Carrier::Lanes,
+        reductions,
+        limit: 1_000_000,
+        capacity: None,
+        stops: vec![],
+        left: vec![],
+        rows: Rows::default(),
+        counts_only: false,
+    };
     while let Some(word) = words.next() {
         match word.as_str() {
             "--carrier" => {
@@ -68,6 +80,7 @@ fn asked(mut words: impl Iterator<Item = String>) -> Option<Asked> {
             "--capacity" => asked.capacity = Some(words.next()?.parse().ok()?),
             "--stop" => asked.stops.push(place(&words.next()?)?),
             "--left" => asked.left.push(place(&words.next()?)?),
+            "--row" => asked.rows.add(&words.next()?)?,
             "--count" => asked.counts_only = true,
             _ => return None,
         }
@@ -84,7 +97,8 @@ fn place(text: &str) -> Option<(usize, usize)> {
 /// The list, or the line that there are too many states; the status is 7 then.
 fn main() {
     let Some(asked) = asked(std::env::args().skip(1)) else {
-        eprintln!("explorer: [--carrier lanes|shared] [--reduce NAMES] [--limit N] [--capacity N] [--stop R.K].. [--left R.K].. [--count]");
+        eprintln!("explorer: [--carrier lanes|shared] [--reduce NAMES] [--limit N] [--capacity N] [--stop R.K]..");
+        eprintln!("          [--left R.K].. [--row 'R.K WORDS;R.K WORDS'].. [--count]");
         exit(2)
     };
     let mut text = String::new();
@@ -109,7 +123,7 @@ fn main() {
             exit(2)
         }
     }
-    let mut search = Search::new(&job, asked.carrier, asked.reductions);
+    let mut search = Search::new(&job, asked.carrier, asked.reductions, asked.rows);
     if !search.run(asked.limit) {
         println!("more than {} states", asked.limit);
         exit(7)

@@ -64,3 +64,16 @@ def reacting(chance, steps):
     """The steps of a job, with reactions."""
     reactions = Reactions(chance)
     return [reactions.react(*step) for step in steps]
+
+
+def rows(chance, steps):
+    """Two rows of two answers for a job of these steps, by rank, number and op, mostly of those that ranks decide together."""
+    if len(steps) < 2:
+        return []
+    weights = [6 if op in ("shrink", "agree") else 1 for _, _, op in steps]
+    found = []
+    for _ in range(2):
+        first, second = chance.choices(steps, weights)[0], chance.choice(steps)
+        if first != second:
+            found.append([f"{rank}.{number} {chance.choice([*WORDS[op], 'skipped'])}" for rank, number, op in (first, second)])
+    return found

@@ -14,7 +14,7 @@ pub struct Condition {
 }
 
 impl Condition {
-    fn holds_of(&self, answer: &str) -> bool {
+    pub fn holds_of(&self, answer: &str) -> bool {
         answer.strip_prefix(self.words.as_str()).is_some_and(|rest| rest.is_empty() || rest.starts_with(' '))
     }
 }
