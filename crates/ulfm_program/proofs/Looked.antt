@@ -14,13 +14,21 @@ use Rattle.ulfm_script.specs.Reacting.{begins_in, holds_of}
 use Rattle.ulfm_script.specs.Trace.{answer_text}
 use Rattle.ulfm_script.specs.declared.answer.StepReport.{StepReport}
 use Rattle.ulfm_world.specs.World.{World, IsInside, no_player, player_at}
-use Rattle.ulfm_outcomes.specs.Goals.{IsPossible, StandsOpen, is_answered}
+use Rattle.ulfm_outcomes.specs.Goals.{AreOfClauses, IsPossible, StandsOpen, is_answered}
 use Rattle.ulfm_outcomes.specs.Outcomes.{IsWholeList}
 use Rattle.ulfm_outcomes.specs.declared.goals.Goals.{Goals}
 use Rattle.ulfm_outcomes.specs.declared.open_step.OpenStep.{OpenStep}
 use Rattle.ulfm_outcomes.proofs.Schedules.{some_there}
 use Rattle.ulfm_outcomes.proofs.Unlike.{any_here, any_on}
-use Rattle.ulfm_program.specs.inside.Looking.{has_each, tells, tells_open}
+use Rattle.ulfm_replies.specs.Asking.{is_looked_at}
+use Rattle.ulfm_program.specs.declared.told.Told.{Told as Kept}
+use Rattle.ulfm_program.specs.inside.Looking.{IsLook, IsLookForRow, has_each, tells, tells_open}
+
+-- what came of a search for the answers of a row that is looked at
+pub row_look : (job : JobView) (row : List Clause) (goals : Goals) (is_brief : Bool) (limit : ℕ) (look : Option Kept) → is_looked_at job row ≡ true → AreOfClauses row goals → IsLook job goals is_brief limit look
+    → IsLookForRow job row is_brief limit look
+row_look job row goals is_brief limit None at are never = λ _. (goals, are, never)
+row_look job row goals is_brief limit (Some told) at are shows = (goals, (at, are), shows)
 
 module _ (found : List (List ℕ)) (place : ℕ) (row : List ℕ) (whole : Bool) (here : slice_get found place ≡ Some row) where
   -- the row of a place tells of an answer, or doesn't

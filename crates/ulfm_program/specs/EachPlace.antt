@@ -8,7 +8,6 @@ use Rattle.ulfm_stops.specs.Places.{places_of}
 use Rattle.ulfm_stops.specs.Text.{place_text}
 use Rattle.ulfm_stops.specs.declared.place.Place.{Place}
 use Rattle.ulfm_stops.specs.declared.place.Place.TheVariants.{Nowhere}
-use Rattle.ulfm_outcomes.specs.Goals.{AreOfClauses}
 use Rattle.ulfm_outcomes.specs.Unmet.{IsUnmet, MeetsExpected}
 use Rattle.ulfm_outcomes.specs.declared.goals.Goals.{Goals}
 use Rattle.ulfm_outcomes.specs.declared.unmet.Unmet.{Unmet}
@@ -23,7 +22,7 @@ use Rattle.ulfm_replies.specs.Failure.{out_of_memory_in}
 use Rattle.ulfm_replies.specs.Replies.{refused_in}
 use Rattle.ulfm_replies.specs.Stopped.{Asked, IsAskedAt, IsRefusal, asked_at}
 use Rattle.ulfm_replies.specs.declared.command.ListOptions.{ListOptions}
-use Rattle.ulfm_program.specs.Outcomes.{IsFirstUnmet, IsTold, NoneComes, Told, list_status, many, schedule, told_json, told_words, unmet_json}
+use Rattle.ulfm_program.specs.Outcomes.{AreOfRow, IsFirstUnmet, IsTold, NoneComes, Told, list_status, many, schedule, told_json, told_words, unmet_json}
 
 -- the step as the file numbers it
 abbrev pub filed : Place → Unmet → Unmet
@@ -80,9 +79,9 @@ pub record IsWanted (asked : Asked) : Type 0 where
 pub data IsToldAt (form : Form) (options : ListOptions) (place : Place) (asked : Asked) : ℕ → List ℕ → Type 0 where
   unmet : (one : Unmet) (goals : Goals) (told : Told) → IsFirstUnmet asked.job options.limit one → IsUnmet asked.job one goals → IsTold asked.job goals options.is_brief options.limit told
       → IsToldAt form options place asked 9 (unmet_at form place (filed place one) told)
-  together : (number : ℕ) (row : List Clause) (goals : Goals) (text : List ℕ) → MeetsExpected asked.job → slice_get asked.rows number ≡ Some row → NoneComes asked.job (take number asked.rows) → AreOfClauses row goals
+  together : (number : ℕ) (row : List Clause) (goals : Goals) (text : List ℕ) → MeetsExpected asked.job → slice_get asked.rows number ≡ Some row → NoneComes asked.job (take number asked.rows) → AreOfRow asked.job row goals
       → IsTold asked.job goals options.is_brief options.limit (schedule text) → IsToldAt form options place asked 9 (row_at form place number (schedule text))
-  unsearched : (number : ℕ) (row : List Clause) (goals : Goals) → MeetsExpected asked.job → slice_get asked.rows number ≡ Some row → NoneComes asked.job (take number asked.rows) → AreOfClauses row goals
+  unsearched : (number : ℕ) (row : List Clause) (goals : Goals) → MeetsExpected asked.job → slice_get asked.rows number ≡ Some row → NoneComes asked.job (take number asked.rows) → AreOfRow asked.job row goals
       → IsTold asked.job goals options.is_brief options.limit (many options.limit) → IsToldAt form options place asked 7 (row_at form place number (many options.limit))
 
 -- at a place no schedule is found that has one: none does, or for some row that isn't known

@@ -21,6 +21,7 @@ use Rattle.ulfm_json.specs.Parts.{texts_json}
 use Rattle.ulfm_json.specs.declared.form.Form.{Form}
 use Rattle.ulfm_json.specs.declared.form.Form.TheVariants.{Words, Json}
 use Rattle.ulfm_outcomes.specs.Objects.{list_in}
+use Rattle.ulfm_replies.specs.Asking.{is_looked_at}
 use Rattle.ulfm_replies.specs.Failure.{out_of_memory_in}
 use Rattle.ulfm_replies.specs.Stopped.{Asked, IsAskedAt, IsRefusal, names_at, reading_as}
 use Rattle.ulfm_replies.specs.declared.command.ListOptions.{ListOptions}
@@ -90,9 +91,13 @@ HasList job limit found = (keys : List (List ℕ)) × IsList job limit (All (rec
 abbrev pub IsFirstUnmet : JobView → ℕ → Unmet → Type 0
 IsFirstUnmet job limit one = (found : List (List ℕ)) × HasList job limit found × (first_unmet job found ≡ Some one)
 
--- no schedule of the job has all answers of the row
+-- the row is looked at, and these goals are what its answers ask for
+abbrev pub AreOfRow : JobView → List Clause → Goals → Type 0
+AreOfRow job row goals = (is_looked_at job row ≡ true) × AreOfClauses row goals
+
+-- no schedule of the job has all answers of the row, if it is looked at
 abbrev pub NeverComes : JobView → List Clause → Type 0
-NeverComes job row = (goals : Goals) × AreOfClauses row goals × ¬ IsPossible job goals
+NeverComes job row = is_looked_at job row ≡ true → (goals : Goals) × AreOfClauses row goals × ¬ IsPossible job goals
 
 -- none has those of one of these rows
 abbrev pub NoneComes : JobView → List (List Clause) → Type 0
@@ -109,9 +114,9 @@ pub data IsJudged (form : Form) (options : ListOptions) (job : JobView) (rows : 
   good : MeetsExpected job → NoneComes job rows → IsJudged form options job rows found list (list_status options.is_strict (some_never_ends found)) list
   unmet : (unmet : Unmet) (goals : Goals) (told : Told) → first_unmet job found ≡ Some unmet → IsUnmet job unmet goals → IsTold job goals options.is_brief options.limit told
       → IsJudged form options job rows found list 9 (list ++ unmet_in form unmet told)
-  together : (number : ℕ) (row : List Clause) (goals : Goals) (text : List ℕ) → MeetsExpected job → slice_get rows number ≡ Some row → NoneComes job (take number rows) → AreOfClauses row goals → IsTold job goals options.is_brief options.limit (schedule text)
+  together : (number : ℕ) (row : List Clause) (goals : Goals) (text : List ℕ) → MeetsExpected job → slice_get rows number ≡ Some row → NoneComes job (take number rows) → AreOfRow job row goals → IsTold job goals options.is_brief options.limit (schedule text)
       → IsJudged form options job rows found list 9 (list ++ row_in form number (schedule text))
-  unsearched : (number : ℕ) (row : List Clause) (goals : Goals) → MeetsExpected job → slice_get rows number ≡ Some row → NoneComes job (take number rows) → AreOfClauses row goals → IsTold job goals options.is_brief options.limit (many options.limit)
+  unsearched : (number : ℕ) (row : List Clause) (goals : Goals) → MeetsExpected job → slice_get rows number ≡ Some row → NoneComes job (take number rows) → AreOfRow job row goals → IsTold job goals options.is_brief options.limit (many options.limit)
       → IsJudged form options job rows found list 7 (list ++ row_in form number (many options.limit))
 
 -- The status and the text, in this form, that `outcomes` gives for these bytes: the list of all that the steps of their job may be

@@ -1,12 +1,21 @@
 //! What a job's text asks of the answers of all ranks.
-ghost use Rattle.std.specs.Prelude.{◌≡◌};
-ghost use Rattle.std.specs.List.{list_any};
+ghost use Rattle.std.specs.Prelude.{◌≡◌, ◌&&◌};
+ghost use Rattle.std.specs.List.{list_all, list_any};
 ghost use Rattle.ulfm_reader.specs.JobText.{rows_of};
-ghost use Rattle.ulfm_replies.specs.Asking.{as_asked, has_come, holds_among};
+ghost use Rattle.ulfm_replies.specs.Asking.{as_asked, has_come, holds_among, is_looked_at};
 
 use std::alloc::Global;
+use ulfm_job::Job;
 use ulfm_reader::Reading;
 use ulfm_script::{Clause, RankReport, all_met, holds_of};
+
+/// Whether a row of `never` is looked at: none of its answers is that of a step inside which its rank may die.
+pub fn is_looked_at(job: &Job, row: &[Clause]) -> bool
+    ensures { result ≡ is_looked_at job.now row.now }
+{
+    row.iter()
+        .all(|clause| !job.may_leave(clause.rank, clause.step as usize))
+}
 
 /// Whether a clause holds of the answers of its rank.
 fn holds_among(alloc: Global, reports: &[RankReport], clause: &Clause) -> bool
@@ -18,31 +27,41 @@ fn holds_among(alloc: Global, reports: &[RankReport], clause: &Clause) -> bool
     }
 }
 
-/// Whether a row has come: all of its answers.
-fn has_come(alloc: Global, reports: &[RankReport], row: &Vec<Clause>) -> bool
-    ensures { result ≡ has_come reports.now row.now.items }
+/// Whether all answers of a row have come.
+fn all_have_come(alloc: Global, reports: &[RankReport], row: &[Clause]) -> bool
+    ensures { result ≡ list_all (holds_among reports.now) row.now }
 {
     row.iter().all(|clause| holds_among(alloc, reports, clause))
 }
 
-/// Whether one of these rows has come.
-fn one_of_these(alloc: Global, reports: &[RankReport], rows: &[Vec<Clause>]) -> bool
-    ensures { result ≡ list_any (λ row. has_come reports.now row.items) rows.now }
+/// Whether a row that is looked at has come: all of its answers.
+fn has_come(alloc: Global, job: &Job, reports: &[RankReport], row: &Vec<Clause>) -> bool
+    ensures { result ≡ has_come job.now reports.now row.now.items }
 {
-    rows.iter().any(|row| has_come(alloc, reports, row))
+    let row = row.as_slice();
+    is_looked_at(job, row) && all_have_come(alloc, reports, row)
 }
 
 /// Whether one of these rows has come.
-fn one_has_come(alloc: Global, reports: &[RankReport], rows: &[Vec<Clause>]) -> bool
-    ensures { result ≡ list_any (has_come reports.now) (rows_of rows.now) }
+fn one_of_these(alloc: Global, job: &Job, reports: &[RankReport], rows: &[Vec<Clause>]) -> bool
+    ensures { result ≡ list_any (λ row. has_come job.now reports.now row.items) rows.now }
 {
-    one_of_these(alloc, reports, rows)
+    rows.iter().any(|row| has_come(alloc, job, reports, row))
 }
 
-/// Whether the answers are as the text asks: each as its step expects, as far as they were played, and not all of any row of `never`.
+/// Whether one of these rows has come.
+fn one_has_come(alloc: Global, job: &Job, reports: &[RankReport], rows: &[Vec<Clause>]) -> bool
+    ensures { result ≡ list_any (has_come job.now reports.now) (rows_of rows.now) }
+{
+    one_of_these(alloc, job, reports, rows)
+}
+
+/// Whether the answers are as the text asks: each as its step expects, as far as they were played, and not all of any row of `never` that is
+/// looked at.
 #[tactic(auto, unfolding(crate::specs::Asking::as_asked))]
 pub fn as_asked(alloc: Global, asked: &Reading, reports: &[RankReport]) -> bool
     ensures { result ≡ as_asked (rows_of asked.now.never.items) asked.now.job reports.now }
 {
-    all_met(alloc, &asked.job, reports) && !one_has_come(alloc, reports, asked.never.as_slice())
+    all_met(alloc, &asked.job, reports)
+        && !one_has_come(alloc, &asked.job, reports, asked.never.as_slice())
 }

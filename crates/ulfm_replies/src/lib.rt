@@ -33,7 +33,7 @@ mod version;
 mod written;
 
 pub use asked::{Unfollowed, asked_for};
-pub use asking::as_asked;
+pub use asking::{as_asked, is_looked_at};
 pub use command::{Asked, Carrier, ListOptions, RunOptions, Wanted};
 pub use failure::{Failure, failed, failed_line, failure_of};
 pub use laws::nowhere_is_as_read;

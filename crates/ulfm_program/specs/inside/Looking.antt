@@ -4,12 +4,12 @@ use Rattle.std.specs.List.{list_all, list_any}
 use Rattle.ulfm_job.specs.Begins.{begins}
 use Rattle.ulfm_job.specs.declared.clause.Clause.{Clause}
 use Rattle.ulfm_job.specs.Job.{JobView}
-use Rattle.ulfm_outcomes.specs.Goals.{AreOfClauses, IsPossible}
+use Rattle.ulfm_outcomes.specs.Goals.{IsPossible}
 use Rattle.ulfm_outcomes.specs.declared.goals.Goals.{Goals}
 use Rattle.ulfm_outcomes.specs.declared.open_step.OpenStep.{OpenStep}
 use Rattle.ulfm_draw.specs.declared.style.Style.{Style}
 use Rattle.ulfm_json.specs.declared.form.Form.{Form}
-use Rattle.ulfm_program.specs.Outcomes.{IsTold, NoneComes, Told, many, nowhere_in, schedule, told_in}
+use Rattle.ulfm_program.specs.Outcomes.{AreOfRow, IsTold, NeverComes, NoneComes, Told, many, nowhere_in, schedule, told_in}
 use Rattle.ulfm_program.specs.declared.listed.FirstRow.{FirstRow}
 use Rattle.ulfm_program.specs.declared.told.Told.{Told as Kept}
 use Rattle.ulfm_program.specs.declared.told.Told.TheVariants as kept
@@ -24,9 +24,10 @@ abbrev pub IsLook : JobView → Goals → Bool → ℕ → Option Kept → Type 
 IsLook job goals is_brief limit None = ¬ IsPossible job goals
 IsLook job goals is_brief limit (Some told) = IsTold job goals is_brief limit (told_view told)
 
--- the same for the answers of a row
+-- the same for the answers of a row: none for one that isn't looked at
 abbrev pub IsLookForRow : JobView → List Clause → Bool → ℕ → Option Kept → Type 0
-IsLookForRow job row is_brief limit look = (goals : Goals) × AreOfClauses row goals × IsLook job goals is_brief limit look
+IsLookForRow job row is_brief limit None = NeverComes job row
+IsLookForRow job row is_brief limit (Some told) = (goals : Goals) × AreOfRow job row goals × IsLook job goals is_brief limit (Some told)
 
 -- the row of a list tells of an answer that begins as the clause says
 abbrev pub tells : Clause → List ℕ → Bool
