@@ -69,10 +69,44 @@ def conditions_of(step, number_of):
     return found
 
 
-def numbered(job):
-    """The steps of a job with their numbers of their rank, and for each the number of an earlier step by its number or its name."""
-    counts, names = collections.Counter(), collections.defaultdict(dict)
+def further(text, ranks):
+    """How many ranks further on the rank is that a text names, where it names one."""
+    named = {"me": 0, "left": ranks - 1, "right": 1, **{f"me+{n}": n for n in range(1, 8)}}
+    return named.get(text) if isinstance(text, str) else None
+
+
+def ranks_of(step, ranks):
+    """The ranks of a step that is for several, or none."""
+    rank = step.get("rank")
+    if rank == "all":
+        return list(range(ranks))
+    are_numbers = isinstance(rank, list) and all(type(one) is int for one in rank)
+    return rank if are_numbers else []
+
+
+def placed(step, ranks):
+    """A step with the numbers of the ranks that its `to` and its `from` name."""
+    found = dict(step)
+    if type(step.get("rank")) is int:
+        for key in ("to", "from"):
+            more = further(step.get(key), ranks)
+            if more is not None:
+                found[key] = (max(step["rank"], 0) + more) % ranks
+    return found
+
+
+def written_out(job):
+    """The steps of a job, one for each rank that they are for."""
     for step in job.get("step", []):
+        shared = [{**step, "rank": rank} for rank in ranks_of(step, job["ranks"])]
+        for one in shared or [step]:
+            yield placed(one, job["ranks"])
+
+
+def numbered(job):
+    """The steps of a job, written out, with their numbers of their rank, and for each the number of an earlier step by its number or its name."""
+    counts, names = collections.Counter(), collections.defaultdict(dict)
+    for step in written_out(job):
         rank = step["rank"]
         before = dict(names[rank])
         yield step, counts[rank], lambda of, before=before: before[of] if isinstance(of, str) else of

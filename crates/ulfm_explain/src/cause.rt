@@ -19,6 +19,8 @@ pub enum Cause {
     TooManyBytes,
     /// More steps than a job may have.
     TooManySteps(usize),
+    /// More steps than a job may have, once they are written out.
+    TooManyWritten,
     /// A required key is missing, which has to be of this kind.
     Missing(Key, Kind),
     /// A required key of the job is missing, and stands in a step.
@@ -141,6 +143,9 @@ impl fmt::Display for Cause {
             Cause::TooManySteps(count) => {
                 write!(f, "there are {count} steps, and 256 are the most")
             }
+            Cause::TooManyWritten => f.write_str(
+                "there are more than 256 steps, one for each rank of those that are for several, and 256 are the most",
+            ),
             Cause::Missing(Key::Op, _) => write!(f, "key 'op' is missing; the ops are {ALL_OPS}"),
             Cause::Missing(key, wanted) => {
                 write!(f, "key '{key}' is missing; it has to be {wanted}")

@@ -4,9 +4,10 @@ ghost use Rattle.std.specs.Prelude.{◌≤◌, IfOk, vec_len};
 use crate::cause::Cause;
 use crate::explanation::Explanation;
 use crate::findings::Findings;
+use crate::lines::lines_of;
 use crate::place::{Place, place_at};
 use crate::shown::Shown;
-use crate::steps::{explain_job, steps_of};
+use crate::steps::explain_job;
 use std::alloc::{AllocError, Global};
 use toml::Table;
 
@@ -64,7 +65,8 @@ fn one(alloc: Global, place: Option<Place>, cause: Cause) -> Result<Vec<Explanat
 fn explain_table(alloc: Global, text: &str, table: &Table) -> Result<Vec<Explanation>, AllocError>
     ensures few { IfOk result (λ found. vec_len found ≤ 10) }
 {
-    let mut findings = Findings::new(alloc, text, steps_of(table))?;
+    let lines = lines_of(alloc, table)?;
+    let mut findings = Findings::new(alloc, text, &lines)?;
     explain_job(&mut findings, table)?;
     Ok(findings.found.into_vec())
 }

@@ -2,11 +2,11 @@
 
 use crate::cause::Cause;
 use crate::explanation::{Explanation, StepPlace};
+use crate::lines::Lines;
 use crate::marks::{Mark, marks_of};
 use crate::place::place_at;
 use crate::script::kept_name;
 use std::alloc::{AllocError, Global};
-use toml::Value;
 use ulfm_findings::FirstTen;
 
 /// What was found in a text with these steps: its first ten explanations.
@@ -14,25 +14,24 @@ use ulfm_findings::FirstTen;
 pub struct Findings<'a> {
     pub alloc: Global,
     pub text: &'a str,
-    pub steps: &'a [Value],
+    pub lines: &'a Lines,
     pub marks: Vec<Mark>,
     pub found: FirstTen<Explanation>,
+    /// The places in the file of the steps that something was told of.
+    told: Vec<usize>,
 }
 
 impl<'a> Findings<'a> {
     /// Nothing found yet, in a text with these steps.
-    pub fn new(
-        alloc: Global,
-        text: &'a str,
-        steps: &'a [Value],
-    ) -> Result<Findings<'a>, AllocError> {
+    pub fn new(alloc: Global, text: &'a str, lines: &'a Lines) -> Result<Findings<'a>, AllocError> {
         let marks = marks_of(alloc, text)?;
         Ok(Findings {
             alloc,
             text,
-            steps,
+            lines,
             marks,
             found: FirstTen::new(alloc),
+            told: Vec::new(alloc),
         })
     }
 
@@ -53,6 +52,14 @@ impl<'a> Findings<'a> {
         }
         let place = at.map(|at| place_at(self.text.as_bytes(), at));
         let name = self.name_of(step)?;
+        let step = match step {
+            Some(step) => {
+                let step = self.filed(step);
+                self.told.push(step.in_file)?;
+                Some(step)
+            }
+            None => None,
+        };
         self.found.tell(Explanation {
             place,
             step,
@@ -61,12 +68,42 @@ impl<'a> Findings<'a> {
         })
     }
 
+    /// A step with the place that it has in the file, in place of its number among all that are written out.
+    fn filed(&self, step: StepPlace) -> StepPlace {
+        StepPlace {
+            in_file: self.filed_number(step.in_file),
+            of_rank: step.of_rank,
+        }
+    }
+
+    /// The place in the file of a step, by its number among all that are written out.
+    fn filed_number(&self, number: usize) -> usize {
+        match self.lines.places.get(number) {
+            Some(place) => *place,
+            None => number,
+        }
+    }
+
+    /// The same where there is a step.
+    fn filed_if_some(&self, step: Option<usize>) -> Option<usize> {
+        match step {
+            Some(number) => Some(self.filed_number(number)),
+            None => None,
+        }
+    }
+
+    /// Whether something was told of the step of the file that this one is written out from.
+    pub fn is_told(&self, number: usize) -> bool {
+        let place = self.filed_number(number);
+        self.told.iter().any(|told| *told == place)
+    }
+
     /// The name of a step, if it is one and has one.
     fn name_of(&self, step: Option<StepPlace>) -> Result<Option<String>, AllocError> {
         let Some(place) = step else {
             return Ok(None);
         };
-        match self.steps.get(place.in_file) {
+        match self.lines.steps.get(place.in_file) {
             Some(step) => kept_name(self.alloc, step),
             None => Ok(None),
         }
@@ -82,6 +119,7 @@ impl<'a> Findings<'a> {
 
     /// Where a key of the job or of a step begins.
     fn place_of_key(&self, step: Option<usize>, key: &str) -> Option<usize> {
+        let step = self.filed_if_some(step);
         for mark in &self.marks {
             if mark.step == step && is_key(mark, key) {
                 return Some(mark.at);
@@ -92,6 +130,7 @@ impl<'a> Findings<'a> {
 
     /// Where a step begins.
     pub fn place_of_step(&self, step: Option<usize>) -> Option<usize> {
+        let step = self.filed_if_some(step);
         for mark in &self.marks {
             if mark.step == step && mark.key.is_none() {
                 return Some(mark.at);

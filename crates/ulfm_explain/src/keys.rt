@@ -157,7 +157,11 @@ pub fn text_at(table: &Table, key: Key) -> Option<&str> {
 /// Whether a value is of a kind, other than an array of tables.
 fn is_of_kind(value: &Value, kind: Kind) -> bool {
     match kind {
-        Kind::Integer(_, _) | Kind::OrAny(_, _) => value.is_integer(),
+        Kind::Integer(_, _)
+        | Kind::OrAny(_, _)
+        | Kind::Ranks(_, _)
+        | Kind::Peer(_, _)
+        | Kind::PeerOrAny(_, _) => value.is_integer(),
         Kind::Text | Kind::Name => value.is_str(),
         Kind::Reference(_, _) => value.is_integer() || value.is_str(),
         Kind::Conditions => value.is_table() || value.is_array(),
@@ -188,6 +192,9 @@ fn is_outside(number: i64, kind: Kind) -> bool {
     match kind {
         Kind::Integer(least, most) => number < least || most < number,
         Kind::OrAny(least, most) => number < least || most < number,
+        Kind::Ranks(least, most) => number < least || most < number,
+        Kind::Peer(least, most) => number < least || most < number,
+        Kind::PeerOrAny(least, most) => number < least || most < number,
         Kind::Reference(least, most) => number < least || most < number,
         _ => false,
     }

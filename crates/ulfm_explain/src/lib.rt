@@ -17,6 +17,7 @@ mod explanation;
 mod fate;
 mod findings;
 mod keys;
+mod lines;
 mod marks;
 mod mpi;
 mod nearest;

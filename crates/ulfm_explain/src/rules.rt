@@ -9,6 +9,12 @@ pub enum Kind {
     Integer(i64, i64),
     /// The same, and where the key is left out, any.
     OrAny(i64, i64),
+    /// An integer from the first to the second, a list of them, or a text that stands for all.
+    Ranks(i64, i64),
+    /// An integer from the first to the second, or a text that names a rank by the rank of the step.
+    Peer(i64, i64),
+    /// The same, and where the key is left out, any.
+    PeerOrAny(i64, i64),
     /// A text.
     Text,
     /// An array of tables.
@@ -90,9 +96,9 @@ impl Key {
             Key::Step => Kind::Tables,
             Key::Never => Kind::Rows,
             Key::Op | Key::Body => Kind::Text,
-            Key::Rank => Kind::Integer(0, i64::from(ranks.saturating_sub(1))),
-            Key::To => Kind::Integer(0, 7),
-            Key::From => Kind::OrAny(0, 7),
+            Key::Rank => Kind::Ranks(0, i64::from(ranks.saturating_sub(1))),
+            Key::To => Kind::Peer(0, 7),
+            Key::From => Kind::PeerOrAny(0, 7),
             Key::Tag => Kind::Integer(0, 32767),
             Key::TagOrAny => Kind::OrAny(0, 32767),
             Key::Room => Kind::Integer(0, 1024),
@@ -117,6 +123,9 @@ pub struct Rules {
     /// Keys that each step may have, and which are looked at last.
     pub asking: &'static [Key],
 }
+
+/// The texts that name a rank by the rank of the step.
+const NEIGHBOURS: &str = "\"me\", \"left\", \"right\" or \"me+1\" to \"me+7\"";
 
 /// The keys that each step may have, and which are looked at last.
 pub const ASKING: &[Key] = &[Key::Name, Key::If, Key::Expect];
@@ -180,6 +189,21 @@ impl fmt::Display for Kind {
             Kind::Integer(least, most) => write!(f, "an integer from {least} to {most}"),
             Kind::OrAny(least, most) => {
                 write!(f, "an integer from {least} to {most}, or left out for any")
+            }
+            Kind::Ranks(least, most) => {
+                write!(
+                    f,
+                    "an integer from {least} to {most}, a list of them, or \"all\""
+                )
+            }
+            Kind::Peer(least, most) => {
+                write!(f, "an integer from {least} to {most}, or {NEIGHBOURS}")
+            }
+            Kind::PeerOrAny(least, most) => {
+                write!(
+                    f,
+                    "an integer from {least} to {most}, {NEIGHBOURS}, or left out for any"
+                )
             }
             Kind::Text => f.write_str("a text in quotes"),
             Kind::Tables => f.write_str("an array of tables"),

@@ -12,6 +12,7 @@ use crate::rules::{Key, any_step_rules, job_rules};
 use crate::shown::Shown;
 use std::alloc::AllocError;
 use toml::{Table, Value};
+use ulfm_expand::ranks_in;
 
 /// The most steps of a job.
 const MOST_STEPS: usize = 256;
@@ -19,7 +20,7 @@ const MOST_STEPS: usize = 256;
 /// Tells what is wrong with a job: first with its own keys, then with each step, in the order of the file, then with its
 /// rows.
 pub fn explain_job(findings: &mut Findings<'_>, table: &Table) -> Result<(), AllocError> {
-    let ranks = ranks_of(table);
+    let ranks = ranks_in(table);
     let sheet = Sheet {
         table,
         rules: job_rules(),
@@ -28,14 +29,22 @@ pub fn explain_job(findings: &mut Findings<'_>, table: &Table) -> Result<(), All
         within: None,
     };
     sheet.explain(findings)?;
-    let steps = steps_of(table);
+    let lines = findings.lines;
+    let steps = lines.steps.as_slice();
     if steps.len() > MOST_STEPS {
         let at = findings.place_of_step(Some(MOST_STEPS));
         findings.tell(at, None, Cause::TooManySteps(steps.len()))?;
+    } else if lines.are_too_many {
+        let at = findings.place_of(None, "step");
+        return findings.tell(at, None, Cause::TooManyWritten);
     }
     for (in_file, value) in steps.iter().take(MOST_STEPS).enumerate() {
         if findings.is_full() {
             return Ok(());
+        }
+        // What is wrong with a step for several ranks is told once.
+        if findings.is_told(in_file) {
+            continue;
         }
         if let Some(step) = value.as_table() {
             let place = place_of(ranks, steps, in_file);
@@ -43,17 +52,6 @@ pub fn explain_job(findings: &mut Findings<'_>, table: &Table) -> Result<(), All
         }
     }
     explain_never(findings, steps, table)
-}
-
-/// How many ranks a job has: eight where that can't be read.
-pub fn ranks_of(table: &Table) -> u8 {
-    match integer_at(table, Key::Ranks) {
-        Some(ranks) => match u8::try_from(ranks) {
-            Ok(ranks) if 1 <= ranks && ranks <= 8 => ranks,
-            _ => 8,
-        },
-        None => 8,
-    }
 }
 
 /// The steps of a job.

@@ -4,6 +4,7 @@ use crate::script::{Script, name_of};
 use std::alloc::{AllocError, Global};
 use std::fmt;
 use toml::{Table, Value};
+use ulfm_expand::written_job;
 
 /// A step by its number, as it is written, and its name, where it has one.
 #[derive(Clone, Copy)]
@@ -22,13 +23,13 @@ impl<N: fmt::Display> fmt::Display for Numbered<'_, N> {
     }
 }
 
-/// The table of a job's text, where it is TOML.
+/// The table of a job's text with its steps written out, where it is TOML.
 pub fn table_of(alloc: Global, bytes: &[u8]) -> Result<Option<Table>, AllocError> {
     let Ok(text) = str::from_utf8(bytes) else {
         return Ok(None);
     };
     match toml::table_from_str(alloc, text) {
-        Ok(table) => Ok(Some(table)),
+        Ok(table) => Ok(Some(written_job(alloc, table)?)),
         Err(error) => {
             if error.is_memory() {
                 Err(AllocError)

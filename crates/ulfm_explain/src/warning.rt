@@ -6,10 +6,12 @@ use crate::doom::Doom;
 use crate::explanation::Explanation;
 use crate::fate::Placed;
 use crate::findings::Findings;
+use crate::lines::lines_of;
 use crate::script::kept_name;
-use crate::steps::{place_of, ranks_of, steps_of};
+use crate::steps::place_of;
 use std::alloc::{AllocError, Global};
 use toml::Table;
+use ulfm_expand::ranks_in;
 
 /// The steps of a good job that will surely be refused, up to ten, in the order of the file. Steps after a stop of their
 /// rank aren't run, so nothing is said of them. A text that is no TOML has none.
@@ -39,10 +41,15 @@ pub fn warnings(alloc: Global, bytes: &[u8]) -> Result<Vec<Explanation>, AllocEr
 fn table_warnings(alloc: Global, text: &str, table: &Table) -> Result<Vec<Explanation>, AllocError>
     ensures few { IfOk result (λ found. vec_len found ≤ 10) }
 {
-    let ranks = ranks_of(table);
-    let steps = steps_of(table);
-    let mut findings = Findings::new(alloc, text, steps)?;
+    let ranks = ranks_in(table);
+    let lines = lines_of(alloc, table)?;
+    let steps = lines.steps.as_slice();
+    let mut findings = Findings::new(alloc, text, &lines)?;
     for (in_file, step) in steps.iter().enumerate() {
+        // What will be refused of a step for several ranks is told once.
+        if findings.is_told(in_file) {
+            continue;
+        }
         let place = place_of(ranks, steps, in_file);
         if let Some((rank, number)) = place.of_rank {
             let placed = Placed {

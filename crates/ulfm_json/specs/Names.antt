@@ -4,10 +4,11 @@ use Rattle.std.specs.Option.{option_and_then}
 use Rattle.std.specs.Str.{is_utf8}
 use Rattle.toml.specs.Data.{Data, Items, no_items, item, as_array, as_integer, as_str, get, table}
 use Rattle.toml.specs.Parse.{parse_document}
+use Rattle.ulfm_expand.specs.Documents.{written_job}
 
--- the TOML document that the bytes are, where they are one
+-- the job that the bytes are, as a TOML document with its steps written out, where they are a document
 abbrev pub document_in : List ℕ → Option Data
-document_in bytes = if is_utf8 bytes then option_map table (parse_document bytes) else None
+document_in bytes = if is_utf8 bytes then option_map (λ ms. table (written_job ms)) (parse_document bytes) else None
 
 -- items, or none where there are none
 abbrev pub items_or_none : Option Items → Items
@@ -18,7 +19,7 @@ items_or_none (Some items) = items
 abbrev pub at_key : List ℕ → Option Data → Option Data
 at_key key document = option_and_then (get key) document
 
--- the tables of a document's steps, in the order of the file
+-- the tables of a document's steps, in their order
 abbrev pub step_tables : Option Data → Items
 step_tables document = items_or_none (option_and_then as_array (at_key (codes "step") document))
 

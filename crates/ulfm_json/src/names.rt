@@ -1,14 +1,17 @@
 //! The names of steps, as they stand in a job's text.
-ghost use Rattle.std.specs.Prelude.{◌≡◌, option_map, IfOk};
+ghost use Rattle.std.specs.Prelude.{◌≡◌, Some, option_map, IfOk};
 ghost use Rattle.std.specs.Option.{option_copied};
-ghost use Rattle.toml.specs.View.{items_view, view};
+ghost use Rattle.toml.specs.Data.{table as as_data};
+ghost use Rattle.toml.specs.View.{items_view, table_view, view};
+ghost use Rattle.ulfm_expand.specs.Documents.{written_job};
 ghost use Rattle.ulfm_json.specs.Names.{document_in, is_step_of, name_at, name_in, step_tables};
 
 use std::alloc::{AllocError, Global};
-use toml::Value;
+use toml::{Table, Value};
 use ulfm_base::OutOfMemory;
+use ulfm_expand::written_job;
 
-/// The TOML document that the bytes are, where they are one.
+/// The job that the bytes are, as a TOML document with its steps written out, where they are a document.
 ///
 /// # Errors
 ///
@@ -20,7 +23,7 @@ pub fn document_of(alloc: Global, bytes: &[u8]) -> Result<Option<Value>, OutOfMe
         return Ok(None);
     };
     match toml::table_from_str(alloc, text) {
-        Ok(table) => Ok(Some(Value::Table(table))),
+        Ok(table) => written_document(alloc, table),
         Err(error) => {
             if error.is_memory() {
                 Err(AllocError)
@@ -31,7 +34,15 @@ pub fn document_of(alloc: Global, bytes: &[u8]) -> Result<Option<Value>, OutOfMe
     }
 }
 
-/// The tables of a document's steps, in the order of the file.
+/// A job's table as a document with its steps written out.
+fn written_document(alloc: Global, table: Table) -> Result<Option<Value>, OutOfMemory>
+    ensures { IfOk result (λ document. option_map view document ≡ Some (as_data (written_job (table_view table)))) }
+{
+    let written = written_job(alloc, table)?;
+    Ok(Some(Value::Table(written)))
+}
+
+/// The tables of a document's steps, in their order.
 pub fn step_tables(document: &Option<Value>) -> &[Value]
     ensures { items_view result.now ≡ step_tables (option_map view document.now) }
 {

@@ -12,8 +12,9 @@ use Rattle.ulfm_json.specs.declared.form.Form.{Form}
 use Rattle.ulfm_replies.specs.declared.command.ListOptions.{ListOptions}
 use Rattle.ulfm_replies.specs.declared.command.RunOptions.{RunOptions}
 use Rattle.ulfm_replies.specs.declared.command.Wanted.{Wanted}
-use Rattle.ulfm_replies.specs.declared.command.Wanted.TheVariants.{Check, Replay, Run, Sweep, Outcomes, Places, Draw}
+use Rattle.ulfm_replies.specs.declared.command.Wanted.TheVariants.{Check, Replay, Run, Sweep, Outcomes, Places, Expand, Draw}
 use Rattle.ulfm_replies.specs.Failure.{failed_in, failure_of, out_of_memory_in}
+use Rattle.ulfm_replies.specs.Expanded as expanded
 use Rattle.ulfm_replies.specs.Places as places
 use Rattle.ulfm_replies.specs.Replies.{starved}
 use Rattle.ulfm_replies.specs.Stopped.{Asked, IsAskedAt}
@@ -56,6 +57,7 @@ starved_reply told form show (Run options) bytes = fell told
 starved_reply told form show Sweep bytes = unswept told
 starved_reply told form show (Outcomes options) bytes = starved_list told form show options.stops options bytes
 starved_reply told form show (Places stops) bytes = places.starved told
+starved_reply told form show Expand bytes = expanded.starved told
 starved_reply told form show (Draw style turns place) bytes = undrawn told
 
 pub starved_gets : (told form : Form) (show : Option (List ℕ)) (wanted : Wanted) (most : ℕ) (rest old new : Option (List ℕ)) (status : ℕ) → (status ≢ 4 → (status ≡ 3) × Appends old new (out_of_memory_in told)) → IsWhole status → IfSome rest (λ bytes. GetsReply (IsReplyTo form show wanted (take most bytes)) old new status)

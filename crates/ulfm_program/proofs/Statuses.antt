@@ -6,6 +6,8 @@ use Rattle.ulfm_outcomes.specs.Text.{some_never_ends}
 use Rattle.ulfm_replies.specs.Replies.{IsCheckReply, good as good_checked, refused, no_memory, starved}
 use Rattle.std.specs.List.{list_all, list_any}
 use Rattle.ulfm_replies.specs.Asking.{as_asked}
+use Rattle.ulfm_replies.specs.Expanded as expanded
+use Rattle.ulfm_replies.specs.Expanded.{IsExpandReply}
 use Rattle.ulfm_replies.specs.Places as places
 use Rattle.ulfm_replies.specs.Places.{IsPlacesReply}
 use Rattle.ulfm_replies.specs.Stopped as stopped
@@ -22,7 +24,7 @@ use Rattle.ulfm_replies.specs.Unfinished.{has_unfinished, played_status}
 use Rattle.ulfm_json.specs.declared.form.Form.{Form}
 use Rattle.ulfm_replies.specs.declared.command.RunOptions.{RunOptions}
 use Rattle.ulfm_replies.specs.declared.command.Wanted.{Wanted}
-use Rattle.ulfm_replies.specs.declared.command.Wanted.TheVariants.{Check, Replay, Run, Sweep, Outcomes, Places, Draw}
+use Rattle.ulfm_replies.specs.declared.command.Wanted.TheVariants.{Check, Replay, Run, Sweep, Outcomes, Places, Expand, Draw}
 use Rattle.ulfm_program.specs.Replies.{IsDrawReply, drawn, not_drawn, undrawn, IsReplayReply, IsRunReply, IsReplyTo, IsWhole, traced, not_replayed, failed, ran, repeated, not_run, no_thread, untrue, fell, given_turns}
 use Rattle.ulfm_program.specs.Sweep.{IsSweepReply, swept, unread, full, unmade, unswept}
 use Rattle.ulfm_program.specs.Outcomes.{IsJudged, IsOutcomesReply, IsShowReply, list_status, good, unmet, together, unsearched, listed, past_limit, not_listed, unlisted, shown, nowhere, too_many, unnamed, not_shown, unshown}
@@ -92,6 +94,12 @@ places_known form stops bytes status text (places.crowded job is many) = no_job
 places_known form stops bytes status text places.unheld = no_job
 places_known form stops bytes status text (places.starved told) = run_fails
 
+expand_known : (form : Form) (bytes : List ℕ) (status : ℕ) (text : List ℕ) → IsExpandReply form bytes status text → IsKnown status
+expand_known form bytes status text (expanded.expanded plan t is whole) = good_job
+expand_known form bytes status text (expanded.unexpanded f is) = no_job
+expand_known form bytes status text expanded.full = no_job
+expand_known form bytes status text (expanded.starved told) = run_fails
+
 past : IsKnown 7
 past = record { few = omega arith; whole = ((λ e. omega (arith, e)), (λ e. omega (arith, e))) }
 
@@ -156,6 +164,7 @@ known_status form show (Replay is_strict turns place) bytes status text h = repl
 known_status form show (Run options) bytes status text h = run_known form options bytes status text h
 known_status form show Sweep bytes status text h = sweep_known form bytes status text h
 known_status form show (Places stops) bytes status text h = places_known form stops bytes status text h
+known_status form show Expand bytes status text h = expand_known form bytes status text h
 known_status form show (Draw style turns place) bytes status text h = drawn_known form turns place bytes status text h
 known_status form show (Outcomes options) bytes status text h = by_known form show options.stops options bytes status text h
 
@@ -248,6 +257,10 @@ no_usage form show (Places stops) bytes status text (places.unplaced f is) = λ 
 no_usage form show (Places stops) bytes status text (places.crowded job is many) = λ e. omega (arith, e)
 no_usage form show (Places stops) bytes status text places.unheld = λ e. omega (arith, e)
 no_usage form show (Places stops) bytes status text (places.starved told) = λ e. omega (arith, e)
+no_usage form show Expand bytes status text (expanded.expanded plan t is whole) = λ e. omega (arith, e)
+no_usage form show Expand bytes status text (expanded.unexpanded f is) = λ e. omega (arith, e)
+no_usage form show Expand bytes status text expanded.full = λ e. omega (arith, e)
+no_usage form show Expand bytes status text (expanded.starved told) = λ e. omega (arith, e)
 no_usage form show (Draw style turns place) bytes status text (drawn asked reports picture is played_so lawful rest) = λ e. omega (arith, e)
 no_usage form show (Draw style turns place) bytes status text (not_drawn k words is) = no_play_not_usage form place bytes status text is
 no_usage form show (Draw style turns place) bytes status text (undrawn told) = λ e. omega (arith, e)

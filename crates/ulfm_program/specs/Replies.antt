@@ -18,7 +18,8 @@ use Rattle.ulfm_program.specs.Sweep.{IsSweepReply}
 use Rattle.ulfm_program.specs.Tally.{tally}
 use Rattle.ulfm_replies.specs.declared.command.RunOptions.{RunOptions}
 use Rattle.ulfm_replies.specs.declared.command.Wanted.{Wanted}
-use Rattle.ulfm_replies.specs.declared.command.Wanted.TheVariants.{Check, Replay, Run, Sweep, Outcomes, Places, Draw}
+use Rattle.ulfm_replies.specs.declared.command.Wanted.TheVariants.{Check, Replay, Run, Sweep, Outcomes, Places, Expand, Draw}
+use Rattle.ulfm_replies.specs.Expanded.{IsExpandReply}
 use Rattle.ulfm_replies.specs.Failure.{failed_in, out_of_memory_in}
 use Rattle.ulfm_replies.specs.Places.{IsPlacesReply}
 use Rattle.ulfm_replies.specs.Replies.{IsCheckReply}
@@ -76,6 +77,7 @@ IsReplyTo form show (Run options) bytes status text = IsRunReply form options by
 IsReplyTo form show Sweep bytes status text = IsSweepReply form bytes status text
 IsReplyTo form show (Outcomes options) bytes status text = IsListReply form show options bytes status text
 IsReplyTo form show (Places stops) bytes status text = IsPlacesReply form stops bytes status text
+IsReplyTo form show Expand bytes status text = IsExpandReply form bytes status text
 IsReplyTo form show (Draw style turns place) bytes status text = IsDrawReply form turns place bytes status text
 
 -- the line for words that can't be read

@@ -15,7 +15,8 @@ use ulfm_json::Form;
 use ulfm_places::Onlooker;
 use ulfm_reach::Watch;
 use ulfm_replies::{
-    Asked, Place, Reply, Wanted, asked_at, check_reply, names_at, places_reply, trace_reply,
+    Asked, Place, Reply, Wanted, asked_at, check_reply, expand_reply, names_at, places_reply,
+    trace_reply,
 };
 use ulfm_world::replay;
 
@@ -69,6 +70,7 @@ where
         Wanted::Sweep => sweep_reply(alloc, form, bytes),
         Wanted::Outcomes(options) => list_reply(rt, alloc, form, asked.show, options, bytes, watch),
         Wanted::Places(stops) => places_reply(alloc, form, stops, bytes),
+        Wanted::Expand => expand_reply(alloc, form, bytes),
         Wanted::Draw {
             style,
             turns,

@@ -36,7 +36,7 @@ const EXPLAINED: &[Row] = &[
         "keys of MPI",
         1,
         "{rank = 0, op = \"send\", dest = 1, tag = 5, data = \"abc\"}",
-        "line 4, column 9: rank 0 step 0 (step 0 of the file): key 'to' is missing; it has to be an integer from 0 to 7\nline 4, column 9: rank 0 step 0 (step 0 of the file): key 'body' is missing; it has to be a text in quotes\nline 4, column 52: rank 0 step 0 (step 0 of the file): key 'data' is unknown; did you mean 'body'? send has op, rank, to, tag, body, comm, name, if, expect\nline 4, column 33: rank 0 step 0 (step 0 of the file): key 'dest' is unknown; did you mean 'to'? send has op, rank, to, tag, body, comm, name, if, expect\n",
+        "line 4, column 9: rank 0 step 0 (step 0 of the file): key 'to' is missing; it has to be an integer from 0 to 7, or \"me\", \"left\", \"right\" or \"me+1\" to \"me+7\"\nline 4, column 9: rank 0 step 0 (step 0 of the file): key 'body' is missing; it has to be a text in quotes\nline 4, column 52: rank 0 step 0 (step 0 of the file): key 'data' is unknown; did you mean 'body'? send has op, rank, to, tag, body, comm, name, if, expect\nline 4, column 33: rank 0 step 0 (step 0 of the file): key 'dest' is unknown; did you mean 'to'? send has op, rank, to, tag, body, comm, name, if, expect\n",
     ),
     (
         "a peer of a receive, and its count",
@@ -48,7 +48,7 @@ const EXPLAINED: &[Row] = &[
         "a wrong kind",
         1,
         "{rank = 0, op = \"recv\", from = \"any\"}",
-        "line 4, column 33: rank 0 step 0 (step 0 of the file): key 'from' is the text \"any\", and has to be an integer from 0 to 7, or left out for any\n",
+        "line 4, column 33: rank 0 step 0 (step 0 of the file): key 'from' is the text \"any\", and has to be an integer from 0 to 7, \"me\", \"left\", \"right\" or \"me+1\" to \"me+7\", or left out for any\n",
     ),
     (
         "out of range",

@@ -4,6 +4,7 @@
 //! - notes, explanations: what standard error says. No contract speaks of that.
 //! - options, files, streams, broken: command lines, files that are named, and inputs and outputs that fail.
 //! - json, outcomes, sweeps, places, runs: the texts of the commands, byte for byte; pictures: parts of pictures.
+//! - shared: steps for several ranks, and the command `expand`.
 //! - schedule_turns, schedule_steps, probes, agreements, reacting: jobs whose traces tell one rule from another.
 //!
 //! kept and rows are what they share: a reply in memory, and a table of jobs with their traces. Begin with rows. The gallery is
@@ -46,6 +47,8 @@ mod runs;
 mod schedule_steps;
 #[cfg(test)]
 mod schedule_turns;
+#[cfg(test)]
+mod shared;
 #[cfg(test)]
 mod shows;
 #[cfg(test)]

@@ -109,7 +109,7 @@ fn standard_error_says_more(rt: HostRuntime) -> Result<(), Fail> {
 const USAGE: [(&[&str], &str); 4] = [
     (
         &["ulfm"],
-        "ulfm: 'ulfm' requires a subcommand but one was not provided [subcommands: check, replay, run, sweep, outcomes, places, draw, help]\n",
+        "ulfm: 'ulfm' requires a subcommand but one was not provided [subcommands: check, replay, run, sweep, outcomes, places, expand, draw, help]\n",
     ),
     (
         &["ulfm", "replay", "--x"],

@@ -225,7 +225,7 @@ const WORDS: [(&[&str], u8, &str); 6] = [
     (
         &["ulfm"],
         2,
-        "error: 'ulfm' requires a subcommand but one was not provided\n  [subcommands: check, replay, run, sweep, outcomes, places, draw, help]\n\nUsage: ulfm <COMMAND>\n",
+        "error: 'ulfm' requires a subcommand but one was not provided\n  [subcommands: check, replay, run, sweep, outcomes, places, expand, draw, help]\n\nUsage: ulfm <COMMAND>\n",
     ),
     (
         &["ulfm", "bogus"],

@@ -1,22 +1,22 @@
 -- The job of a table and of bytes, case by case.
 use Rattle.std.proofs.Common.{◌≡◌, ℕ, ◌<◌, ◌≤◌, List, length, ltb, true, false, Option, Result, Ok, Err, refl, ap, arith}
-use Rattle.ulfm_reader.proofs.Common.{Clause, Draft, JobFault, items_len, nat_tests, IsUtf8, is_utf8, parse_document, ◌>>=◌}
+use Rattle.ulfm_reader.proofs.Common.{Clause, Draft, JobFault, nat_tests, IsUtf8, is_utf8, parse_document, ◌>>=◌}
 use Rattle.std.proofs.lemmas.Str.{is_utf8-from_IsUtf8, IsUtf8-from_is_utf8}
 use Rattle.std.proofs.lemmas.Bool.{false_from_ne_true}
 use Rattle.toml.specs.Data.{Members}
 use Rattle.ulfm_job.specs.declared.fault.JobFault.TheVariants as refused
-use Rattle.ulfm_reader.specs.JobText.{Head, blank, head_of, in_job, never_of, read_as, steps_of, reading_of, reading_of_document, reading_of_bytes}
+use Rattle.ulfm_reader.specs.JobText.{Head, blank, head_of, in_job, lines_of, never_of, read_as, steps_of, reading_of, reading_of_document, reading_of_bytes}
 use Rattle.ulfm_reader.specs.Never.{rows_in}
 
-pub too_many : (ms : Members) (h : Head) → Ok h ≡ head_of ms → 256 < items_len h.steps → reading_of ms ≡ Err refused.TooLarge
+pub too_many : (ms : Members) (h : Head) → Ok h ≡ head_of ms → 256 < length (lines_of h) → reading_of ms ≡ Err refused.TooLarge
 unfolding reading_of
-too_many ms h read many = let test : ltb 256 (items_len h.steps) ≡ true = grind (arith, nat_tests) in rw (← read, test) refl
+too_many ms h read many = let test : ltb 256 (length (lines_of h)) ≡ true = grind (arith, nat_tests) in rw (← read, test) refl
 
-pub steps_read : (ms : Members) (h : Head) (r : Result Draft JobFault) → Ok h ≡ head_of ms → items_len h.steps ≤ 256 → steps_of h.ranks 0 (blank h.ranks) h.steps ≡ r
+pub steps_read : (ms : Members) (h : Head) (r : Result Draft JobFault) → Ok h ≡ head_of ms → length (lines_of h) ≤ 256 → steps_of h.ranks (blank h.ranks) (lines_of h) ≡ r
     → reading_of ms ≡ (r >>= never_of h)
 unfolding reading_of
 steps_read ms h r read few steps =
-    let test : ltb 256 (items_len h.steps) ≡ false = grind (arith, nat_tests) in
+    let test : ltb 256 (length (lines_of h)) ≡ false = grind (arith, nat_tests) in
     rw (← read, test) (ap (λ (s : Result Draft JobFault). s >>= never_of h) steps)
 
 pub rows_read : (h : Head) (draft : Draft) (r : Result (List (List Clause)) JobFault) → in_job (rows_in draft.scripts draft.names h.never) ≡ r → never_of h draft ≡ (r >>= (λ never. Ok (read_as h draft never)))

@@ -1,12 +1,13 @@
 -- Which bytes are refused as no TOML.
-use Rattle.std.proofs.Common.{◌≡◌, ◌≢◌, ℕ, ◌+◌, List, length, ltb, cond, Bool, true, false, Option, Some, None, Result, Ok, Err, ◌⊎◌, inl, inr, refl, sym, ap, ◌∙◌, arith}
+use Rattle.std.proofs.Common.{◌≡◌, ◌≢◌, ℕ, List, [], ◌∷◌, length, ltb, cond, Bool, true, false, Option, Some, None, Result, Ok, Err, ◌⊎◌, inl, inr, refl, sym, ap, ◌∙◌, arith}
 use Rattle.std.proofs.lemmas.Bool.{false≢true, ltb-false}
 use Rattle.ulfm_reader.proofs.Common.{Draft, JobFault, nat_tests, is_utf8, parse_document, ◌>>=◌}
 use Rattle.std.proofs.lemmas.Str.{is_utf8-from_IsUtf8}
-use Rattle.toml.specs.Data.{Items, no_items, item, Members, as_table}
+use Rattle.toml.specs.Data.{Members, as_table}
+use Rattle.ulfm_expand.specs.Lines.{Line}
 use Rattle.ulfm_job.specs.declared.fault.Fault.{Fault}
 use Rattle.ulfm_job.specs.declared.fault.JobFault.TheVariants.{NotToml, TooLarge}
-use Rattle.ulfm_reader.specs.JobText.{blank, draft_of, in_job, in_step, step_in, steps_of, head_of, job_in, job_of_bytes, Reading, reading_of, reading_of_document, reading_of_bytes, IsNoDocument}
+use Rattle.ulfm_reader.specs.JobText.{blank, draft_of, in_job, in_step, lines_of, step_in, steps_of, head_of, job_in, job_of_bytes, Reading, reading_of, reading_of_document, reading_of_bytes, IsNoDocument}
 use Rattle.ulfm_reader.specs.Never.{rows_in}
 use Rattle.ulfm_reader.proofs.Jobs.{no_text}
 
@@ -30,10 +31,10 @@ step_not : (ranks k : ℕ) (draft : Draft) (found : Option Members) → step_in 
 step_not ranks k draft None = λ e. cc
 step_not ranks k draft (Some ms) = in_step_not k (draft_of ranks draft ms)
 
-steps_not : (ranks k : ℕ) (draft : Draft) (ds : Items) → steps_of ranks k draft ds ≢ Err NotToml
+steps_not : (ranks : ℕ) (draft : Draft) (lines : List Line) → steps_of ranks draft lines ≢ Err NotToml
 unfolding steps_of
-steps_not ranks k draft no_items = λ e. cc
-steps_not ranks k draft (item d ds) = then_not _ _ (step_not ranks k draft (as_table d)) (λ more. steps_not ranks (k + 1) more ds)
+steps_not ranks draft [] = λ e. cc
+steps_not ranks draft (line ∷ lines) = then_not _ _ (step_not ranks line.place draft (as_table line.step)) (λ more. steps_not ranks more lines)
 
 too_large : {A : Type 0} → (r : Result A JobFault) → r ≡ Err TooLarge → r ≢ Err NotToml
 too_large (Ok x) e = absurd cc
@@ -41,7 +42,7 @@ too_large (Err f) e = λ q. cc
 
 reading_not : (ms : Members) → reading_of ms ≢ Err NotToml
 unfolding reading_of
-reading_not ms = then_not _ _ (in_job_not (head_of ms)) (λ h. cond_not _ _ _ (too_large _ refl) (then_not _ _ (steps_not h.ranks 0 (blank h.ranks) h.steps)
+reading_not ms = then_not _ _ (in_job_not (head_of ms)) (λ h. cond_not _ _ _ (too_large _ refl) (then_not _ _ (steps_not h.ranks (blank h.ranks) (lines_of h))
     (λ draft. then_not (in_job (rows_in draft.scripts draft.names h.never)) _ (in_job_not (rows_in draft.scripts draft.names h.never)) (λ never e. cc))))
 
 answer_to : Bool → Bool → Option Members → Result Reading JobFault

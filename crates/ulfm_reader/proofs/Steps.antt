@@ -1,30 +1,33 @@
 -- The steps of an array, one after the other.
-use Rattle.std.proofs.Common.{◌≡◌, ℕ, ◌+◌, ◌<◌, ◌≤◌, List, [], ◌∷◌, length, get_or, drop, Bool, cond, ◌&&◌, Option, Some, is_some, Result, Ok, Err, refl, sym, ap, ◌∙◌, arith}
-use Rattle.std.proofs.lemmas.List.{drop_all}
-use Rattle.ulfm_reader.proofs.Common.{Value, view, items_view, JobFault, Draft, items_len, list_all}
+use Rattle.std.proofs.Common.{◌≡◌, ℕ, ◌+◌, ◌<◌, ◌≤◌, List, [], ◌∷◌, length, map, get_or, drop, Bool, cond, ◌&&◌, Option, Some, is_some, Result, Ok, Err, refl, sym, ap, ◌∙◌, arith}
+use Rattle.std.proofs.lemmas.List.{drop_all, drop_more}
+use Rattle.ulfm_expand.proofs.Values.{listed-view}
+use Rattle.ulfm_expand.specs.Lines.{line_view, written_out}
+use Rattle.ulfm_expand.specs.Members.{listed}
+use Rattle.ulfm_expand.specs.declared.line.Line.{Line as Kept}
+use Rattle.ulfm_reader.proofs.Common.{Value, view, items_view, JobFault, Draft, items_len, list_all, ◌>>=◌}
 use Rattle.toml.specs.Data.{Data, as_table, as_array}
-use Rattle.toml.proofs.Views.{items_view-drop}
 use Rattle.ulfm_job.specs.declared.fault.Fault.TheVariants.{BadKey}
-use Rattle.ulfm_reader.specs.JobText.{step_at, steps_of, are_tables, step_items_in}
+use Rattle.ulfm_reader.specs.JobText.{Head, lines_of, step_at, steps_of, are_tables, step_items_in}
 
-pub goes_on : (ranks i : ℕ) (draft more : Draft) (vs : List Value) (v : Value) (total : Result Draft JobFault) → i < length vs → v ≡ get_or vs i v → step_at ranks i draft (view v) ≡ Ok more
-    → steps_of ranks i draft (items_view (drop i vs)) ≡ total → steps_of ranks (i + 1) more (items_view (drop (i + 1) vs)) ≡ total
-unfolding steps_of
-goes_on ranks i draft more vs v total lt here read so_far =
-    let one : steps_of ranks i draft (items_view (drop i vs)) ≡ steps_of ranks (i + 1) more (items_view (drop (i + 1) vs)) = rw (items_view-drop vs i v lt, ← here, read) refl in
-    sym one ∙ so_far
+module _ (ranks i : ℕ) (draft : Draft) (lines : List Kept) (line : Kept) (total : Result Draft JobFault) (lt : i < length lines) (here : line ≡ get_or lines i line) where
+  -- the lines that follow one give what they give after it
+  one : steps_of ranks draft (map line_view (drop i lines)) ≡ (step_at ranks line.place draft (view line.step) >>= (λ more. steps_of ranks more (map line_view (drop (i + 1) lines))))
+  unfolding steps_of
+  one = rw (drop_more lines i line lt, ← here) refl
 
-pub ends : (e : JobFault) (ranks i : ℕ) (draft : Draft) (vs : List Value) (v : Value) (total : Result Draft JobFault) → i < length vs → v ≡ get_or vs i v → step_at ranks i draft (view v) ≡ Err e
-    → steps_of ranks i draft (items_view (drop i vs)) ≡ total → total ≡ Err e
-unfolding steps_of
-ends e ranks i draft vs v total lt here read so_far =
-    let one : steps_of ranks i draft (items_view (drop i vs)) ≡ Err e = rw (items_view-drop vs i v lt, ← here, read) refl in
-    sym so_far ∙ one
+  pub goes_on : (more : Draft) → step_at ranks line.place draft (view line.step) ≡ Ok more
+      → steps_of ranks draft (map line_view (drop i lines)) ≡ total → steps_of ranks more (map line_view (drop (i + 1) lines)) ≡ total
+  goes_on more read so_far = sym (one ∙ rw read refl) ∙ so_far
 
-pub is_done : (ranks i : ℕ) (draft : Draft) (vs : List Value) (total : Result Draft JobFault) → length vs ≤ i → steps_of ranks i draft (items_view (drop i vs)) ≡ total → total ≡ Ok draft
+  pub ends : (e : JobFault) → step_at ranks line.place draft (view line.step) ≡ Err e
+      → steps_of ranks draft (map line_view (drop i lines)) ≡ total → total ≡ Err e
+  ends e read so_far = sym so_far ∙ one ∙ rw read refl
+
+pub is_done : (ranks i : ℕ) (draft : Draft) (lines : List Kept) (total : Result Draft JobFault) → length lines ≤ i → steps_of ranks draft (map line_view (drop i lines)) ≡ total → total ≡ Ok draft
 unfolding steps_of
-is_done ranks i draft vs total le so_far =
-    let one : steps_of ranks i draft (items_view (drop i vs)) ≡ Ok draft = rw (drop_all i vs le) refl in
+is_done ranks i draft lines total le so_far =
+    let one : steps_of ranks draft (map line_view (drop i lines)) ≡ Ok draft = rw (drop_all i lines le) refl in
     sym so_far ∙ one
 
 -- the test of the code and of the definition
@@ -39,3 +42,7 @@ tables_found d vs found good a b c = rw (← a, ← b, ← are_tables-view vs, �
 pub items_len-view : (vs : List Value) → items_len (items_view vs) ≡ length vs
 items_len-view [] = refl
 items_len-view (v ∷ vs) = ap (λ n. n + 1) (items_len-view vs) ∙ (omega arith)
+
+-- the lines of steps, as they are kept
+pub lines-view : (h : Head) (vs : List Value) (lines : List Kept) → h.steps ≡ items_view vs → map line_view lines ≡ written_out h.ranks (map view vs) → lines_of h ≡ map line_view lines
+lines-view h vs lines steps written = ap (λ ds. written_out h.ranks (listed ds)) steps ∙ ap (written_out h.ranks) (listed-view vs) ∙ sym written

@@ -1,5 +1,5 @@
 -- The job of a text, by cases in the order of the checks.
-use Rattle.std.specs.Prelude.{◌≡◌, ◌≢◌, ◌≤◌, ◌⊎◌, ℕ, ◌+◌, List, [], ◌∷◌, ◌++◌, length, replicate, slice_index_or, slice_set, Bool, true, ◌&&◌, Option, Some, None, Result, Ok, Err, is_some, map, Vec, if◌then◌else◌, nat_lt, codes}
+use Rattle.std.specs.Prelude.{◌≡◌, ◌≢◌, ◌≤◌, ◌⊎◌, ℕ, List, [], ◌∷◌, ◌++◌, length, replicate, slice_index_or, slice_set, Bool, true, ◌&&◌, Option, Some, None, Result, Ok, Err, is_some, map, Vec, if◌then◌else◌, nat_lt, codes}
 use Rattle.std.specs.Str.{is_utf8, IsUtf8}
 use Rattle.toml.specs.Data.{Data, Items, no_items, item, Members, get_member, as_array, as_table}
 use Rattle.toml.specs.Parse.{parse_document}
@@ -7,7 +7,9 @@ use Rattle.ulfm_job.specs.declared.fault.Fault.{Fault}
 use Rattle.ulfm_job.specs.declared.fault.Fault.TheVariants.{BadKey}
 use Rattle.ulfm_job.specs.declared.fault.JobFault.{JobFault}
 use Rattle.ulfm_job.specs.declared.fault.JobFault.TheVariants as refused
-use Rattle.ulfm_reader.specs.Keys.{◌>>=◌, items_len, required_number, only_keys, in_range}
+use Rattle.ulfm_expand.specs.Lines.{Line, written_out}
+use Rattle.ulfm_expand.specs.Members.{listed}
+use Rattle.ulfm_reader.specs.Keys.{◌>>=◌, required_number, only_keys, in_range}
 use Rattle.ulfm_job.specs.declared.clause.Clause.{Clause}
 use Rattle.ulfm_reader.specs.declared.name.Name.{Name}
 use Rattle.ulfm_reader.specs.declared.reading.Reading.{Reading as Kept}
@@ -59,14 +61,14 @@ abbrev pub step_in : ℕ → ℕ → Draft → Option Members → Result Draft J
 step_in ranks k draft None = Err (refused.InStep BadKey k)
 step_in ranks k draft (Some ms) = in_step k (draft_of ranks draft ms)
 
--- a draft with the step at a place of the file, or its fault with the place
+-- a draft with the step of a place of the file, or its fault with the place
 abbrev pub step_at : ℕ → ℕ → Draft → Data → Result Draft JobFault
 step_at ranks k draft d = step_in ranks k draft (as_table d)
 
--- a draft with these steps, in the order of the file, the first of them at place k
-unfoldable pub steps_of : ℕ → ℕ → Draft → Items → Result Draft JobFault
-steps_of ranks k draft no_items = Ok draft
-steps_of ranks k draft (item d ds) = step_at ranks k draft d >>= (λ more. steps_of ranks (k + 1) more ds)
+-- a draft with the steps of these lines, each by the place that its step has in the file
+unfoldable pub steps_of : ℕ → Draft → List Line → Result Draft JobFault
+steps_of ranks draft [] = Ok draft
+steps_of ranks draft (line ∷ lines) = step_at ranks line.place draft line.step >>= (λ more. steps_of ranks more lines)
 
 -- tables alone
 abbrev pub are_tables : Items → Bool
@@ -143,11 +145,15 @@ read_as h draft never = record { plan = planned_as h draft; never = never; names
 abbrev pub never_of : Head → Draft → Result Reading JobFault
 never_of h draft = in_job (rows_in draft.scripts draft.names h.never) >>= (λ never. Ok (read_as h draft never))
 
--- what a table asks for: its own keys, how many steps there are, then the steps, and then the rows
+-- the steps of a job, written out
+abbrev pub lines_of : Head → List Line
+lines_of h = written_out h.ranks (listed h.steps)
+
+-- what a table asks for: its own keys, how many steps there are, written out, then these steps, and then the rows
 unfoldable pub reading_of : Members → Result Reading JobFault
 reading_of ms = in_job (head_of ms) >>= (λ h.
-    if nat_lt 256 (items_len h.steps) then Err refused.TooLarge
-    else steps_of h.ranks 0 (blank h.ranks) h.steps >>= never_of h)
+    if nat_lt 256 (length (lines_of h)) then Err refused.TooLarge
+    else steps_of h.ranks (blank h.ranks) (lines_of h) >>= never_of h)
 
 -- what a text asks for that may be no document
 abbrev pub reading_of_document : Option Members → Result Reading JobFault

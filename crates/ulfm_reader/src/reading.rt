@@ -1,6 +1,7 @@
 //! The job of a text.
-ghost use Rattle.std.specs.Prelude.{◌≡◌, ◌≤◌, ◌<◌, ℕ, List, Err, IfOk, length};
-ghost use Rattle.toml.specs.View.{table_view, items_view};
+ghost use Rattle.std.specs.Prelude.{◌≡◌, ◌≤◌, ◌<◌, ℕ, List, Err, IfOk, length, map};
+ghost use Rattle.toml.specs.View.{table_view};
+ghost use Rattle.ulfm_expand.specs.Lines.{line_view};
 ghost use Rattle.ulfm_reader.specs.inside.Reading.{IsHead, draft_view, head_view};
 ghost use Rattle.ulfm_job.specs.Job.{lists_of, step_count};
 ghost use Rattle.ulfm_reader.specs.JobText.{Gives, blank, steps_of, job_of_bytes, never_of, reading_of, reading_of_bytes, reading_view, IsNoDocument};
@@ -11,8 +12,9 @@ use crate::head::{Head, head_of};
 use crate::name::Name;
 use crate::rows::rows_in;
 use std::alloc::Global;
-use toml::{Table, Value};
-use ulfm_job::{Clause, Job, JobFault, MOST_STEPS};
+use toml::Table;
+use ulfm_expand::{Line, Unwritten, written_out};
+use ulfm_job::{Clause, Job, JobFault};
 
 /// The most bytes of a job.
 const MOST_BYTES: usize = 1_048_576;
@@ -37,7 +39,7 @@ pub trait ReadJob: Sized {
     ///
     /// In this order: `TooLarge` where there are more than 1,048,576 bytes; `NotToml` where they are no UTF-8 or no TOML
     /// document; `InJob` for the job's own keys, with `BadKey`, then `UnknownKey`, then `OutOfRange`; `TooLarge` where
-    /// there are more than 256 steps; `InStep` with the place in the file of the first step that has a fault, and its
+    /// there are more than 256 steps, written out; `InStep` with the place in the file of the first step that has a fault, and its
     /// first fault: `BadKey` for its `op`, `UnknownOp`, `BadKey`, `UnknownKey`, `OutOfRange`; then those of its `name`, its `if` and
     /// its `expect`; then `InJob` with `OutOfRange` for the rows of `never`. `OutOfMemory` comes in
     /// place of any answer, where a growth was refused.
@@ -88,10 +90,12 @@ fn reading_of(alloc: Global, table: &Table) -> Result<Reading, JobFault>
         Ok(head) => head,
         Err(fault) => return Err(JobFault::InJob(fault)),
     };
-    if head.steps.len() > MOST_STEPS {
-        return Err(JobFault::TooLarge);
-    }
-    let draft = draft_of(alloc, head.ranks, head.steps)?;
+    let lines = match written_out(alloc, head.ranks, head.steps) {
+        Ok(lines) => lines,
+        Err(Unwritten::TooMany) => return Err(JobFault::TooLarge),
+        Err(Unwritten::OutOfMemory) => return Err(JobFault::OutOfMemory),
+    };
+    let draft = draft_of(alloc, head.ranks, lines.as_slice())?;
     with_rows(alloc, &head, draft)
 }
 
@@ -116,17 +120,17 @@ fn with_rows(alloc: Global, head: &Head<'_>, draft: Draft) -> Result<Reading, Jo
     Ok(Reading { job, never, names })
 }
 
-/// What the steps are, in the order of the file.
-fn draft_of(alloc: Global, ranks: u8, values: &[Value]) -> Result<Draft, JobFault>
+/// What the steps of these lines are, in their order.
+fn draft_of(alloc: Global, ranks: u8, lines: &[Line]) -> Result<Draft, JobFault>
     requires some { 0 < ranks }
-    requires few { length values.now ≤ 256 }
-    ensures exact { Gives draft_view result (steps_of ranks 0 (blank ranks) (items_view values.now)) }
+    requires few { length lines.now ≤ 256 }
+    ensures exact { Gives draft_view result (steps_of ranks (blank ranks) (map line_view lines.now)) }
     ensures each { IfOk result (λ draft. length draft.scripts.items ≡ ranks) }
-    ensures counted { IfOk result (λ draft. step_count (lists_of draft.scripts.items) ≡ length values.now) }
+    ensures counted { IfOk result (λ draft. step_count (lists_of draft.scripts.items) ≡ length lines.now) }
 {
     let mut draft = Draft::blank(alloc, ranks)?;
-    for (place, value) in values.iter().enumerate() {
-        draft.read(ranks, place as u16, value)?;
+    for line in lines {
+        draft.read(ranks, line.place, &line.step)?;
     }
     Ok(draft)
 }

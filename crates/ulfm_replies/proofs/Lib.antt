@@ -5,3 +5,4 @@ pub mod Refused
 pub mod Rows
 pub mod Outside
 pub mod AsRead
+pub mod Texts

@@ -4,6 +4,7 @@ use Rattle.ulfm_job.specs.declared.fault.JobFault.{JobFault}
 use Rattle.ulfm_job.specs.declared.fault.JobFault.TheVariants.{NotToml, InJob, InStep, TooLarge, OutOfMemory}
 use Rattle.ulfm_reader.specs.JobText.{job_in, job_of_bytes, reading_of_bytes}
 use Rattle.ulfm_json.specs.declared.form.Form.{Form}
+use Rattle.ulfm_replies.specs.Expanded.{IsExpandReply, full, unexpanded}
 use Rattle.ulfm_replies.specs.Places.{IsPlacesReply, unheld, unplaced}
 use Rattle.ulfm_replies.specs.Replies.{IsCheckReply, refused, no_memory, refused_in}
 use Rattle.ulfm_replies.specs.Stopped.{IsRefusal, no_job}
@@ -28,6 +29,12 @@ pub places_refused : {form : Form} {stops : ℕ} (f : JobFault) (bytes : List �
 places_refused {form} {stops} f bytes h = elim (by_memory f) [
   | inl e ↦ subst (λ (f : JobFault). IsPlacesReply form stops bytes 1 (refused_in form f)) (sym e) unheld
   | inr n ↦ unplaced f (h n)
+]
+
+pub expand_refused : {form : Form} (f : JobFault) (bytes : List ℕ) → (f ≢ OutOfMemory → job_of_bytes bytes ≡ Err f) → IsExpandReply form bytes 1 (refused_in form f)
+expand_refused {form} f bytes h = elim (by_memory f) [
+  | inl e ↦ subst (λ (f : JobFault). IsExpandReply form bytes 1 (refused_in form f)) (sym e) full
+  | inr n ↦ unexpanded f (h n)
 ]
 
 pub refused_at : {form : Form} {place : Place} (f : JobFault) (bytes : List ℕ) → (f ≢ OutOfMemory → reading_of_bytes bytes ≡ Err f) → IsRefusal form place bytes 1 (refused_in form f)

@@ -8,7 +8,7 @@ use Rattle.ulfm_replies.specs.declared.command.Carrier.TheVariants.{Lanes, Share
 use Rattle.ulfm_replies.specs.declared.command.ListOptions.{ListOptions}
 use Rattle.ulfm_replies.specs.declared.command.RunOptions.{RunOptions}
 use Rattle.ulfm_replies.specs.declared.command.Wanted.{Wanted}
-use Rattle.ulfm_replies.specs.declared.command.Wanted.TheVariants.{Check, Replay, Run, Sweep, Outcomes, Places, Draw}
+use Rattle.ulfm_replies.specs.declared.command.Wanted.TheVariants.{Check, Replay, Run, Sweep, Outcomes, Places, Expand, Draw}
 use Rattle.ulfm_draw.specs.declared.style.Style.{Style}
 use Rattle.ulfm_draw.specs.declared.style.Style.TheVariants as style
 use Rattle.ulfm_json.specs.declared.form.Form.{Form}
@@ -136,8 +136,9 @@ named_at name rows place =
     else (if bytes_eq name (codes "sweep") then Some Sweep
     else (if bytes_eq name (codes "outcomes") then listed rows place
     else (if bytes_eq name (codes "places") then Some (Places (stops_wanted rows))
+    else (if bytes_eq name (codes "expand") then Some Expand
     else (if bytes_eq name (codes "draw") then Some (Draw (style_of rows) (turns_in rows) place)
-    else None))))))
+    else None)))))))
 
 -- the same by the options alone, where `--stop` has the text of a place
 abbrev pub named : Text → List Row → Option Wanted

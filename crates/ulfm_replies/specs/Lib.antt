@@ -4,6 +4,7 @@ pub mod Asked
 pub mod Asking
 pub mod Failure
 pub mod Replies
+pub mod Expanded
 pub mod Unfinished
 pub mod Stopped
 pub mod Places

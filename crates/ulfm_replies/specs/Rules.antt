@@ -128,10 +128,14 @@ of_places app = with_rule (with_rule app stops_rule) (number_rule (codes "thread
 abbrev pub places_app : App
 places_app = of_jobs (with_rule (new_app (codes "places")) stops_rule)
 
+-- the command `expand`
+abbrev pub expand_app : App
+expand_app = of_jobs (new_app (codes "expand"))
+
 -- the command `outcomes` with its options
 abbrev pub outcomes_app : App
 outcomes_app = of_stopped (of_places (of_schedules (with_rule (with_rule (with_rule (with_rule (with_rule (new_app (codes "outcomes")) show_rule) brief_rule) strict_rule) (number_rule (codes "limit") most_states)) progress_rule)))
 
 -- the whole command line
 abbrev pub tool_app : App
-tool_app = with_subcommand (with_subcommand (with_subcommand (with_subcommand (with_subcommand (with_subcommand (with_subcommand demanding_app check_app.top) replay_app.top) run_app.top) sweep_app.top) outcomes_app.top) places_app.top) draw_app.top
+tool_app = with_subcommand (with_subcommand (with_subcommand (with_subcommand (with_subcommand (with_subcommand (with_subcommand (with_subcommand demanding_app check_app.top) replay_app.top) run_app.top) sweep_app.top) outcomes_app.top) places_app.top) expand_app.top) draw_app.top

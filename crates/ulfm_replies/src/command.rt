@@ -87,6 +87,8 @@ pub enum Wanted {
     Outcomes(ListOptions),
     /// A line for each place at which ranks may stop, at most so many of them, 1 or 2.
     Places(u8),
+    /// The text of a job with its steps written out.
+    Expand,
     /// A picture of a replay.
     Draw {
         /// Its form.
@@ -172,6 +174,7 @@ fn named_at(name: &str, options: &ArgMatches<'_>, place: Place) -> Option<Wanted
         "sweep" => Some(Wanted::Sweep),
         "outcomes" => listed(options, place),
         "places" => Some(Wanted::Places(stops_wanted(options))),
+        "expand" => Some(Wanted::Expand),
         "draw" => Some(Wanted::Draw {
             style: style_of(options),
             turns: turns_in(options),

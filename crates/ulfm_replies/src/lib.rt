@@ -14,6 +14,7 @@
 mod asked;
 mod asking;
 mod command;
+mod expanded;
 mod failure;
 mod flagged;
 mod help;
@@ -35,6 +36,7 @@ mod written;
 pub use asked::{Unfollowed, asked_for};
 pub use asking::{as_asked, is_looked_at};
 pub use command::{Asked, Carrier, ListOptions, RunOptions, Wanted};
+pub use expanded::expand_reply;
 pub use failure::{Failure, failed, failed_line, failure_of};
 pub use laws::nowhere_is_as_read;
 pub use notes::{write_fault, write_notes};

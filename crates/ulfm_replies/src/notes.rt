@@ -83,8 +83,8 @@ fn notes_on(
         }
         (DONE, Wanted::Check) => lines_of(alloc, "warning: ", &warnings(alloc, bytes)?),
         (PAST_LIMIT, _) => String::from_str(alloc, MANY_STATES),
-        // A picture has all of it, and a place says nothing of steps.
-        (_, Wanted::Draw { .. } | Wanted::Places(_)) => Ok(String::new(alloc)),
+        // A picture has all of it, and neither places nor a job's text say what steps are answered.
+        (_, Wanted::Draw { .. } | Wanted::Places(_) | Wanted::Expand) => Ok(String::new(alloc)),
         // Beside stops steps have other numbers than in the bytes.
         _ if place_of(wanted) != Place::Nowhere => Ok(String::new(alloc)),
         // The words of a trace are looked through for the others, and objects have none.

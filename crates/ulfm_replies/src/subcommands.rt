@@ -2,7 +2,7 @@
 ghost use Rattle.std.specs.Prelude.{◌≡◌, false, IfOk};
 ghost use Rattle.clap.specs.declared.builder.command.Command.TheViews.{out-Command};
 ghost use Rattle.clap.specs.Words.{app_of};
-ghost use Rattle.ulfm_replies.specs.Rules.{check_app, demanding_app, draw_app, of_jobs, of_pictures, of_places, of_schedules, of_stopped, outcomes_app, places_app, replay_app, run_app, sweep_app, tool_app};
+ghost use Rattle.ulfm_replies.specs.Rules.{check_app, demanding_app, draw_app, expand_app, of_jobs, of_pictures, of_places, of_schedules, of_stopped, outcomes_app, places_app, replay_app, run_app, sweep_app, tool_app};
 
 use crate::help::HELP;
 use crate::options::{
@@ -24,6 +24,7 @@ pub fn command_line<'a>(alloc: Global) -> Result<Command<'a>, AllocError>
     let command = command.subcommand(sweep_command(alloc)?)?;
     let command = command.subcommand(outcomes_command(alloc)?)?;
     let command = command.subcommand(places_command(alloc)?)?;
+    let command = command.subcommand(expand_command(alloc)?)?;
     command.subcommand(draw_command(alloc)?)
 }
 
@@ -182,6 +183,17 @@ fn places_command<'a>(alloc: Global) -> Result<Command<'a>, AllocError>
         .about("Lists the places at which ranks of a job may stop, for --stop")
         .after_help("Example: ulfm places --stops 2 jobs/recovery_of_three.toml")
         .arg(stops)?;
+    of_jobs(alloc, command)
+}
+
+/// The command `expand`.
+fn expand_command<'a>(alloc: Global) -> Result<Command<'a>, AllocError>
+    ensures app { IfOk result (λ command. app_of command ≡ expand_app) }
+    ensures local { IfOk result (λ command. (out-Command command).has_globals ≡ false) }
+{
+    let command = Command::new(alloc, "expand")
+        .about("Prints a job with its steps written out, one for each rank")
+        .after_help("Example: ulfm expand jobs/shared_ring.toml");
     of_jobs(alloc, command)
 }
 

@@ -14,4 +14,5 @@ returns c =
     let fourth = c.in_ok-command-4.ensures.shape c.in_ok-sweep_command.ensures.local ∙ ap₂ join third c.in_ok-sweep_command.ensures.app in
     let fifth = c.in_ok-command-5.ensures.shape c.in_ok-outcomes_command.ensures.local ∙ ap₂ join fourth c.in_ok-outcomes_command.ensures.app in
     let sixth = c.in_ok-command-6.ensures.shape c.in_ok-places_command.ensures.local ∙ ap₂ join fifth c.in_ok-places_command.ensures.app in
-    IfOk-weaker c.subcommand-7.result _ _ (λ r h. h.shape c.in_ok-draw_command.ensures.local ∙ ap₂ join sixth c.in_ok-draw_command.ensures.app) c.subcommand-7.ensures
+    let seventh = c.in_ok-command-7.ensures.shape c.in_ok-expand_command.ensures.local ∙ ap₂ join sixth c.in_ok-expand_command.ensures.app in
+    IfOk-weaker c.subcommand-8.result _ _ (λ r h. h.shape c.in_ok-draw_command.ensures.local ∙ ap₂ join seventh c.in_ok-draw_command.ensures.app) c.subcommand-8.ensures

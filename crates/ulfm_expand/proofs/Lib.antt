@@ -1,0 +1,3 @@
+pub mod Common
+pub mod Values
+pub mod Behind

@@ -1,0 +1,4 @@
+pub mod Members
+pub mod Ranks
+pub mod Lines
+pub mod Documents

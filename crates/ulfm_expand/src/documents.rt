@@ -1,0 +1,107 @@
+//! The text of a job, written out.
+ghost use Rattle.std.specs.Prelude.{◌≡◌, ◌<◌, Some, map, option_map, IfOk};
+ghost use Rattle.toml.specs.View.{table_view, view};
+ghost use Rattle.ulfm_expand.specs.Documents.{lines_in, ranks_in, ranks_or_eight, steps_in, steps_of, with_lines, written_job};
+ghost use Rattle.ulfm_expand.specs.Lines.{line_view};
+
+use crate::line::Line;
+use crate::members::{put, value_at};
+use crate::unwritten::Unwritten;
+use crate::written::written_out;
+use std::alloc::{AllocError, Global};
+use toml::{Table, Value};
+
+/// The most ranks of a job.
+const MOST_RANKS: u8 = 8;
+
+/// How many ranks a job has that says so; eight where it doesn't.
+pub fn ranks_in(table: &Table) -> u8
+    ensures exact { result ≡ ranks_in (table_view table.now) }
+    ensures some { 0 < result }
+{
+    match value_at(table, "ranks") {
+        Some(value) => match value.as_integer() {
+            Some(ranks) => ranks_or_eight(ranks),
+            None => MOST_RANKS,
+        },
+        None => MOST_RANKS,
+    }
+}
+
+/// The same by the number that it says.
+fn ranks_or_eight(ranks: i64) -> u8
+    ensures exact { result ≡ ranks_or_eight (Some ranks) }
+    ensures some { 0 < result }
+{
+    if 1 <= ranks && ranks <= i64::from(MOST_RANKS) {
+        ranks as u8
+    } else {
+        MOST_RANKS
+    }
+}
+
+/// The steps of a job's table, where it has an array of them.
+fn steps_in(table: &Table) -> Option<&[Value]>
+    ensures { option_map (λ steps. map view steps.now) result ≡ steps_in (table_view table.now) }
+{
+    match value_at(table, "step") {
+        Some(value) => match value.as_array() {
+            Some(steps) => Some(steps.as_slice()),
+            None => None,
+        },
+        None => None,
+    }
+}
+
+/// The steps of a job's table, written out, where it has an array of them, and they aren't more than 256.
+///
+/// # Errors
+///
+/// `AllocError` where a growth was refused.
+fn lines_in(alloc: Global, table: &Table) -> Result<Option<Vec<Line>>, AllocError>
+    ensures { IfOk result (λ found. option_map (λ lines. map line_view lines.items) found ≡ lines_in (table_view table.now)) }
+{
+    let Some(steps) = steps_in(table) else {
+        return Ok(None);
+    };
+    match written_out(alloc, ranks_in(table), steps) {
+        Ok(lines) => Ok(Some(lines)),
+        Err(Unwritten::TooMany) => Ok(None),
+        Err(Unwritten::OutOfMemory) => Err(AllocError),
+    }
+}
+
+/// The steps of lines.
+fn steps_of(alloc: Global, lines: &[Line]) -> Result<Vec<Value>, AllocError>
+    ensures { IfOk result (λ steps. map view steps.items ≡ steps_of (map line_view lines.now)) }
+{
+    let mut steps = Vec::new(alloc);
+    for line in lines {
+        steps.push(line.step.clone()?)?;
+    }
+    Ok(steps)
+}
+
+/// A job's table with its steps written out; as it is where it has no array of them, or more than 256.
+///
+/// # Errors
+///
+/// `AllocError` where a growth was refused.
+pub fn written_job(alloc: Global, table: Table) -> Result<Table, AllocError>
+    ensures { IfOk result (λ written. table_view written ≡ written_job (table_view table)) }
+{
+    match lines_in(alloc, &table)? {
+        Some(lines) => with_lines(alloc, table, lines.as_slice()),
+        None => Ok(table),
+    }
+}
+
+/// A job's table with the steps of these lines.
+fn with_lines(alloc: Global, table: Table, lines: &[Line]) -> Result<Table, AllocError>
+    ensures { IfOk result (λ written. table_view written ≡ with_lines (table_view table) (Some (map line_view lines.now))) }
+{
+    let mut table = table;
+    let steps = steps_of(alloc, lines)?;
+    put(alloc, &mut table, "step", Value::Array(steps))?;
+    Ok(table)
+}

@@ -1,0 +1,20 @@
+//! A job's steps written out: those for several ranks become a step for each.
+//!
+//!     for line in &written_out(alloc, ranks, steps)? { .. }
+//!
+//! Writing out never fails, but for memory and for more than 256 steps: what has none of the short forms is left as it is, for the reader
+//! of jobs to refuse. Read specs/Ranks.antt first (a step for several ranks), then specs/Lines.antt (all steps) and
+//! specs/Documents.antt (the table of a job).
+#![tactic(auto)]
+
+mod documents;
+mod line;
+mod members;
+mod ranks;
+mod unwritten;
+mod written;
+
+pub use documents::{ranks_in, written_job};
+pub use line::Line;
+pub use unwritten::Unwritten;
+pub use written::written_out;
