@@ -8,7 +8,7 @@
 //! - schedule_turns, schedule_steps, probes, agreements, reacting: jobs whose traces tell one rule from another.
 //!
 //! kept and rows are what they share: a reply in memory, and a table of jobs with their traces. Begin with rows. The gallery is
-//! `ulfm_gallery`'s.
+//! played by the program itself: crates/ulfm/args names its jobs.
 #![tactic(auto)]
 
 #[cfg(test)]
