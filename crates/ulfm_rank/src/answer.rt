@@ -1,5 +1,5 @@
 //! What a test of a request answers.
-ghost use Rattle.std.specs.Prelude.{◌≡◌, IsSome};
+ghost use Rattle.std.specs.Prelude.{◌≡◌, IsSome, if◌then◌else◌};
 ghost use Rattle.ulfm_base.specs.Group.{rank_in};
 ghost use Rattle.ulfm_rank.specs.Communicators.{find_group, or_empty};
 ghost use Rattle.ulfm_rank.specs.inside.Fields.{pends_by};
@@ -63,6 +63,22 @@ pub(crate) fn answer_of(request: Request, group: &Group, pending: bool) -> TestA
         Fate::Failed => TestAnswer::Over(CallError::ProcFailed),
         Fate::Cleared => TestAnswer::Over(CallError::Revoked),
     }
+}
+
+/// The answer for a receive of this pattern that waits, whose communicator was made.
+pub(crate) fn answer_to_waiting(
+    communicators: &Communicators,
+    faults: &Faults,
+    pattern: &Pattern,
+) -> TestAnswer
+    requires { IsSome (find_group pattern.now.context.number communicators.now) }
+    ensures { result ≡ (if pends_by faults.now (or_empty (find_group pattern.now.context.number communicators.now)) pattern.now then TestAnswer.Pending else TestAnswer.NotYet) }
+{
+    let group = communicators.group_of(pattern.context).unwrap();
+    if pends(faults, group, pattern) {
+        return TestAnswer::Pending;
+    }
+    TestAnswer::NotYet
 }
 
 /// The answer for a request, whose communicator was made.

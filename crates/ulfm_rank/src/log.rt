@@ -127,6 +127,8 @@ impl Log {
     }
 
     /// One entry more.
+    // In its caller's code: where the log isn't kept, the entry then needn't be built.
+    #[inline(always)]
     pub fn push_reserved(&mut self, entry: Entry)
         requires { length self.old.items < self.old.capacity }
         ensures items { self.new.items ≡ self.old.items ++ entry ∷ [] }

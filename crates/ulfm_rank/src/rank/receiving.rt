@@ -13,11 +13,11 @@ ghost use Rattle.ulfm_rank.specs.State.{is_ready, logged};
 ghost use Rattle.ulfm_rank.specs.Standing.{IsInStep, IsOfGroup};
 
 use super::Rank;
-use crate::answer::answer_in;
+use crate::answer::{answer_in, answer_to_waiting};
 use crate::entry::{Comm, Entry, TestAnswer};
 use crate::failures::names_known;
 use crate::noted_answer::NotedAnswer;
-use crate::request::{Fate, Request, is_waiting};
+use crate::request::{Request, is_waiting};
 use crate::requests::{admit, find};
 use crate::sources::source_of;
 use indexmap::IndexMap;
@@ -126,11 +126,8 @@ impl Rank {
             None => return Err(CallError::NoRequest),
         };
         if is_waiting(&found.fate) {
-            let request = Request {
-                pattern: found.pattern,
-                fate: Fate::Waiting,
-            };
-            return Ok(answer_in(&self.communicators, &self.faults, request));
+            let pattern = &found.pattern;
+            return Ok(answer_to_waiting(&self.communicators, &self.faults, pattern));
         }
         let request = self.requests.shift_remove(&id.number).unwrap();
         let answer = answer_in(&self.communicators, &self.faults, request);

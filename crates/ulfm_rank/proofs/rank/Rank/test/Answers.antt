@@ -11,15 +11,15 @@ returns-in-None-clause-refused c =
     subst (λ (v : RankView). (is_stopped v.state.log ≡ false) × IsNoRequest v.state.log c.args.id.number) c.self.view_is
     (sym c.self.invariant.follows.halted ∙ c.if-self.false, no_request c.self.invariant.follows.in_step c.args.id.number c.in-None.ensures.none)
 
-pub answer_in-requires-clause-made : goal.answer_in-requires-clause-made
-answer_in-requires-clause-made c = has_group c.self.invariant.follows c.args.id.number c.in-Some.request.now c.in-Some.ensures.there.0
+pub answer_to_waiting-requires : goal.answer_to_waiting-requires
+answer_to_waiting-requires c = has_group c.self.invariant.follows c.args.id.number c.in-Some.request.now c.in-Some.ensures.there.0
 
 pub returns-then-is_waiting-clause-answer : goal.returns-then-is_waiting-clause-answer
 returns-then-is_waiting-clause-answer c =
     let q = c.in-Some.request.now in
     let waits : is_waiting q.fate ≡ true = sym c.is_waiting.ensures ∙ c.if-is_waiting.true in
-    subst (λ (v : RankView). IsTestAnswer v.state.ranks v.state.log c.args.id.number c.answer_in.result) c.self.view_is
-    (answered c.self.invariant.follows c.args.id.number q c.in-Some.ensures.there.0 c.answer_in.result (rw (waiting q.fate waits) c.answer_in.ensures))
+    subst (λ (v : RankView). IsTestAnswer v.state.ranks v.state.log c.args.id.number c.answer_to_waiting.result) c.self.view_is
+    (answered c.self.invariant.follows c.args.id.number q c.in-Some.ensures.there.0 c.answer_to_waiting.result (rw (waiting q.fate waits) c.answer_to_waiting.ensures))
 
 pub returns-then-is_waiting-clause-request : goal.returns-then-is_waiting-clause-request
 returns-then-is_waiting-clause-request c =
