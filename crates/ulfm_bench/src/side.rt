@@ -1,7 +1,7 @@
 //! A rank at its end of a way: whole letters, with their calls, turns and matching.
 ghost use Rattle.std.specs.Prelude.{◌≡◌, ◌<◌, IsTrue, IfSome};
 ghost use Rattle.ulfm_rank.specs.Calls.{IsFrom};
-ghost use Rattle.ulfm_rank.specs.State.{MayReturn};
+ghost use Rattle.ulfm_rank.specs.State.{has_way_back, MayReturn};
 
 use crate::post::{Post, TRIES, put};
 use crate::way::Way;
@@ -55,6 +55,7 @@ pub fn start_receive(rank: &mut Rank, other: WorldRank) -> Option<RequestId> {
 pub fn take_out(rank: &mut Rank, dest: u8) -> Option<Item>
     ensures inside { IfSome result (λ item. dest < rank.new.state.ranks) }
     ensures returns { IfSome result (MayReturn rank.new.state dest) }
+    ensures way_back { IfSome result (λ item. IsTrue (has_way_back rank.new.state rank.new.lent dest)) }
 {
     if dest >= rank.ranks() {
         return None;

@@ -28,11 +28,11 @@ pub use Rattle.ulfm_rank.specs.inside.Fields.{HasFaults, AreApart, AreOfWorld, H
 pub use Rattle.ulfm_rank.specs.History.{history_of, events_by, end_at, end_numbered, ends_from, ends_of, item_events, names_gone, post_events}
 pub use Rattle.ulfm_rank.specs.inside.Rank.{state_of, Follows, Holds, stop_places}
 pub use Rattle.ulfm_rank.specs.Log.{or_else, first_given}
-pub use Rattle.ulfm_rank.specs.inside.Outboxes.{Box, for_each, AllGrow, Boxes, Grows, HasOutboxes, Slot, box_at, contents_of, empty_box, has_room, item_of_word, mark_of, with_first_out, with_item, with_item_back, with_notice_out}
+pub use Rattle.ulfm_rank.specs.inside.Outboxes.{Box, for_each, AllGrow, Boxes, Grows, HasOutboxes, Slot, box_at, contents_of, empty_box, has_room, is_lent, item_of_word, mark_of, with_first_out, with_item, with_item_back, with_notice_out}
 pub use Rattle.ulfm_rank.specs.Facts.{Knows, IsSigned, acknowledged_by, acknowledged_from, acknowledged_of, is_gone, is_gone_item, is_released, is_revoked, is_stop, is_stopped, item_revokes, known_of, newly_known, releases, revoked_before, revokes, tells_gone, took, took_by}
 pub use Rattle.ulfm_rank.specs.Owed.{owed, owed_by, passed_on, announced, is_addressed, owed_by_item}
 pub use Rattle.ulfm_rank.specs.Proposal.{brought_to, has_entered, is_foreign, IsOwnAffair, IsProposal, adopts, agreements, contradicts, deciders, differ, enters_agreement, entry_of, has_adopted, has_proposal, heard_of, is_agreeing, is_out, item_entry, last_agreement, listed_of, next_agreement}
-pub use Rattle.ulfm_rank.specs.State.{RankView, GoesOut, IsState, MayReturn, Mark, State, logged, mark_at, marked, no_mark, notice, outbox, owes, returned, start_state, taken_out, unmarked, went_out, with_marks}
+pub use Rattle.ulfm_rank.specs.State.{RankView, GoesOut, has_way_back, IsState, MayReturn, Mark, State, logged, mark_at, marked, no_mark, notice, outbox, owes, returned, start_state, taken_out, unmarked, went_out, with_marks}
 pub use Rattle.ulfm_rank.specs.Standing.{IsOfGroup, Became, IsInStep, IsSourceIn, IsStanding, IsTable, is_found}
 pub use Rattle.ulfm_rank.specs.inside.Answers.{GivesAnswer, HasSender, IsDelivered}
 pub use Rattle.ulfm_rank.specs.declared.entry.Entry.{Entry}

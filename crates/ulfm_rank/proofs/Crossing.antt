@@ -2,11 +2,23 @@
 use denote.Param.Send.{IsSend, sendable}
 use Rattle.std.proofs.Crossing.{crosses}
 use Rattle.ulfm_match.proofs.matcher.Matcher.TheSendSync as matcher
+use Rattle.ulfm_rank.specs.contracts.block.Block as block
+use Rattle.ulfm_rank.specs.contracts.block.HeldDecision as held
 use Rattle.ulfm_rank.specs.contracts.entry.Entry as entry
 use Rattle.ulfm_rank.specs.contracts.rank.Rank as rank
+use Rattle.ulfm_rank.specs.contracts.row.Row as row
+
+held_send : IsSend held.the_row
+held_send = search (sendable, crosses) depth 60 fits 20000
+
+block_send : IsSend block.the_row
+block_send = search (sendable, crosses) depth 60 fits 20000
+
+row_send : IsSend row.the_row
+row_send = search (sendable, crosses) depth 60 fits 20000
 
 entry_send : IsSend entry.the_row
-entry_send = search (sendable, crosses) depth 40 fits 20000
+entry_send = search (held_send, sendable, crosses) depth 60 fits 20000
 
 pub rank_send : IsSend rank.the_row
-rank_send = search (entry_send, matcher.the_send, sendable, crosses) depth 100 fits 20000
+rank_send = search (entry_send, row_send, block_send, matcher.the_send, sendable, crosses) depth 100 fits 20000

@@ -3,6 +3,7 @@ use Rattle.std.proofs.Common.{◌≡◌, ◌≢◌, ℕ, zero, suc, ◌+◌, ◌
 use Rattle.std.proofs.lemmas.List.{map-set, length-map}
 use Rattle.ulfm_rank.proofs.Common.{Item, Gone, Entry, is_stopped, owed, cases_eq, Mark, State, logged, with_marks, no_mark, mark_at, outbox, taken_out, returned, unmarked, marked, GoesOut, MayReturn, slice_get_within, Box, Boxes, empty_box, box_at, mark_of, with_first_out, with_item_back, with_notice_out, HasOutboxes, stop_places, get_or-map}
 use Rattle.std.proofs.Math.Seq.{drop-nil}
+use Rattle.ulfm_rank.proofs.Logs.{owed_few}
 use Rattle.ulfm_rank.proofs.States.{leaves-running, leaves-stopped, next_owed}
 
 abbrev pub state_by_boxes : Bool → ℕ → ℕ → List Entry → List Box → State
@@ -55,6 +56,10 @@ module _ {me n : ℕ} {log : List Entry} {keeps : Bool} (boxes : List Box) {r : 
     -- an outbox of a running rank, which holds nothing exactly where all went out
     pub left : is_stopped log ≡ false → outbox r d ≡ (box_at boxes d).items
     left running = subst (λ (r : State). outbox r d ≡ drop (box_at boxes d).items_out (owed n me log d)) seen (rw (running, mark_read keeps me n log boxes d) refl) ∙ sym (h.held d inside)
+
+    -- no more went out than the log has entries
+    pub out_few : (box_at boxes d).items_out ≤ length log
+    out_few = omega (arith, h.within d inside, owed_few n me d log)
 
     one_back : is_stopped log ≡ false → (mark_at (returned (state_by_boxes keeps me n log boxes) d) d).items_out ≡ (box_at boxes d).items_out - 1
     one_back running =

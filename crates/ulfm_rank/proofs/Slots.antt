@@ -1,13 +1,13 @@
 -- What a change of one outbox changes of the list of all of them.
 use Rattle.std.proofs.Common.{◌≡◌, ◌≢◌, ℕ, suc, ◌+◌, ◌<◌, ◌≤◌, Bool, true, false, eqb, List, [], ◌∷◌, length, map, get_or, set, refl, ap, sym, subst, ◌∙◌, arith, inl, inr, ◌⊎◌, append-nil}
-use Rattle.ulfm_rank.proofs.Common.{cases_eq, false≢true, list_all, nat_tests, Box, Slot, contents_of, has_room, empty_box, box_at, with_item, for_each, Grows, AllGrow, list_all-map, list_all_at, get_or-map}
+use Rattle.ulfm_rank.proofs.Common.{cases_eq, false≢true, list_all, nat_tests, Box, Slot, contents_of, has_room, is_lent, empty_box, box_at, with_item, for_each, Grows, AllGrow, list_all-map, list_all_at, get_or-map}
 use Rattle.std.specs.List.{AllZip}
 use Rattle.std.proofs.Math.Seq.{map-set_same}
 use Rattle.std.proofs.lemmas.List.{map-set, length-map, length-set, get_or_read, get_or-set_same, get_or-set_other}
 use Rattle.ulfm_base.specs.declared.item.Item.{Item}
 
 abbrev pub empty_slot : Slot
-empty_slot = record { contents = empty_box; room = false }
+empty_slot = record { contents = empty_box; room = false; lent = false }
 
 some_bool : (b : Bool) → (b ≡ true) ⊎ (b ≡ false)
 some_bool true = inl refl
@@ -19,7 +19,8 @@ slot_at slots d = get_or slots d empty_slot
 pub box-slot : (slots : List Slot) (d : ℕ) → box_at (map contents_of slots) d ≡ (slot_at slots d).contents
 box-slot slots d = get_or-map contents_of slots d empty_slot
 
-within : (slots : List Slot) (boxes : List Box) (d : ℕ) → map contents_of slots ≡ boxes → d < length boxes → d < length slots
+-- its place is there
+pub within : (slots : List Slot) (boxes : List Box) (d : ℕ) → map contents_of slots ≡ boxes → d < length boxes → d < length slots
 within slots boxes d seen inside = omega (arith, ap length seen, length-map slots contents_of)
 
 -- copies have the same contents
@@ -50,6 +51,20 @@ room_kept slots {boxes} {room} d {s} s' seen all inside is same =
     let was = get_or_read slots d s (within slots boxes d seen inside) is empty_slot in
     all_rooms (set slots d s') ∙ ap (list_all (λ b. b)) (map-set_same has_room slots d s' empty_slot (same ∙ ap has_room was)) ∙ sym (all_rooms slots) ∙ all
 
+-- whether the item that went out last keeps its place, of one outbox and of one that changed
+pub lent_read : (slots : List Slot) {boxes : List Box} {lent : List Bool} (d : ℕ) {s : Slot} → map contents_of slots ≡ boxes → map is_lent slots ≡ lent → d < length boxes → s ≡ get_or slots d s → get_or lent d false ≡ s.lent
+lent_read slots {boxes} d seen at inside is =
+    ap (λ bs. get_or bs d false) (sym at) ∙ get_or-map is_lent slots d empty_slot ∙ sym (ap is_lent (get_or_read slots d _ (within slots boxes d seen inside) is empty_slot))
+
+pub lent_now : (slots : List Slot) {boxes : List Box} (d : ℕ) (s' : Slot) → map contents_of slots ≡ boxes → d < length boxes → get_or (map is_lent (set slots d s')) d false ≡ s'.lent
+lent_now slots {boxes} d s' seen inside = get_or-map is_lent (set slots d s') d empty_slot ∙ ap is_lent (get_or-set_same slots d s' empty_slot (within slots boxes d seen inside))
+
+set_here : (slots : List Slot) (d k : ℕ) (s : Slot) → k ≡ d → d < length slots → slot_at (set slots d s) k ≡ s
+set_here slots d k s same inside = ap (slot_at (set slots d s)) same ∙ get_or-set_same slots d s empty_slot inside
+
+set_else : (slots : List Slot) (d k : ℕ) (s : Slot) → k ≢ d → slot_at (set slots d s) k ≡ slot_at slots k
+set_else slots d k s other = get_or-set_other slots d k s empty_slot other
+
 -- each outbox has room, where all have
 pub room_at : (slots : List Slot) (d : ℕ) → list_all has_room slots ≡ true → d < length slots → (slot_at slots d).room ≡ true
 room_at slots d all inside = elim (some_bool (slot_at slots d).room) [
@@ -61,6 +76,16 @@ room_at slots d all inside = elim (some_bool (slot_at slots d).room) [
 pub room_all : (slots : List Slot) → ((d : ℕ) → d < length slots → (slot_at slots d).room ≡ true) → list_all has_room slots ≡ true
 room_all [] each = refl
 room_all (s ∷ slots) each = rw (each 0 (omega arith)) (room_all slots (λ d h. each (suc d) (omega (arith, h))))
+
+pub room_here : (slots : List Slot) (d : ℕ) {s : Slot} → list_all has_room slots ≡ true → d < length slots → s ≡ get_or slots d s → s.room ≡ true
+room_here slots d all inside is = ap has_room (get_or_read slots d _ inside is empty_slot) ∙ room_at slots d all inside
+
+-- all have room, where one changed that has
+pub room_set : (slots : List Slot) (d : ℕ) (s' : Slot) → list_all has_room slots ≡ true → s'.room ≡ true → list_all has_room (set slots d s') ≡ true
+room_set slots d s' all room = room_all (set slots d s') (λ k h. elim (cases_eq k d) [
+  | inl here ↦ ap has_room (set_here slots d k s' here (omega (arith, h, here, length-set slots d s'))) ∙ room
+  | inr other ↦ ap has_room (set_else slots d k s' other) ∙ room_at slots k all (omega (arith, h, length-set slots d s'))
+])
 
 -- the boxes after an item was put into one of them
 pub grow_one : (boxes : List Box) (to : ℕ) (item : Item) → to < length boxes → AllGrow boxes (set boxes to (with_item (box_at boxes to) item)) (for_each (eqb to) item)
@@ -85,21 +110,14 @@ grow_one boxes to item inside =
 pub contents_kept : (slots : List Slot) (d : ℕ) {s : Slot} (s' : Slot) → d < length slots → s ≡ get_or slots d s → s'.contents ≡ s.contents → map contents_of (set slots d s') ≡ map contents_of slots
 contents_kept slots d {s} s' inside is same = map-set_same contents_of slots d s' empty_slot (same ∙ ap contents_of (get_or_read slots d s inside is empty_slot))
 
-set_here : (slots : List Slot) (d k : ℕ) (s : Slot) → k ≡ d → d < length slots → slot_at (set slots d s) k ≡ s
-set_here slots d k s same inside = ap (slot_at (set slots d s)) same ∙ get_or-set_same slots d s empty_slot inside
-
-set_else : (slots : List Slot) (d k : ℕ) (s : Slot) → k ≢ d → slot_at (set slots d s) k ≡ slot_at slots k
-set_else slots d k s other = get_or-set_other slots d k s empty_slot other
-
--- the outboxes below d got room, and no more changed
+-- the outboxes below d got room, and what they hold didn't change
 pub record Reserving (was now : List Slot) (d : ℕ) : Type 0 where
   pub size : length now ≡ length was
   pub contents : map contents_of now ≡ map contents_of was
   pub done : (k : ℕ) → k < d → (slot_at now k).room ≡ true
-  pub rest : (k : ℕ) → d ≤ k → slot_at now k ≡ slot_at was k
 
 pub reserving-start : {slots : List Slot} → Reserving slots slots 0
-reserving-start {slots} = record { size = refl; contents = refl; done = λ k h. absurd (omega (arith, h)); rest = λ k h. refl }
+reserving-start {slots} = record { size = refl; contents = refl; done = λ k h. absurd (omega (arith, h)) }
 
 pub reserving-step : {was now : List Slot} {d : ℕ} {s : Slot} (s' : Slot) → Reserving was now d → d < length now → s ≡ get_or now d s → s'.contents ≡ s.contents → s'.room ≡ true → Reserving was (set now d s') (d + 1)
 reserving-step {was} {now} {d} {s} s' so_far inside is same room = record {
@@ -109,14 +127,7 @@ reserving-step {was} {now} {d} {s} s' so_far inside is same room = record {
     | inl here ↦ ap has_room (set_here now d k s' here inside) ∙ room
     | inr other ↦ ap has_room (set_else now d k s' other) ∙ so_far.done k (omega (arith, h, other))
   ];
-  rest = λ k h. set_else now d k s' (omega (arith, h)) ∙ so_far.rest k (omega (arith, h));
 }
-
--- an outbox that finds no room had none before, so not all had
-pub reserving-fails : {was now : List Slot} {d : ℕ} {s : Slot} → Reserving was now d → d < length now → s ≡ get_or now d s → s.room ≡ false → list_all has_room was ≡ false
-reserving-fails {was} {now} {d} {s} so_far inside is lacks =
-    let there : slot_at was d ≡ s = sym (so_far.rest d (omega arith)) ∙ sym (get_or_read now d s inside is empty_slot) in
-    list_all_at has_room was d empty_slot (omega (arith, inside, so_far.size)) (ap has_room there ∙ lacks)
 
 -- an item was put into each outbox below d whose destination is one of `to`, and no more changed
 pub record Leaving (was now : List Slot) (d : ℕ) (item : Item) (to : ℕ → Bool) : Type 0 where

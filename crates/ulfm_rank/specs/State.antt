@@ -1,5 +1,5 @@
 -- What contracts see of a rank: its log, and what went out of each of its outboxes.
-use Rattle.std.specs.Prelude.{◌≡◌, ℕ, Bool, true, false, ◌&&◌, List, [], ◌∷◌, ◌++◌, ◌+◌, ◌-◌, ◌==◌, ◌<◌, ◌≤◌, if◌then◌else◌, take, drop, length, slice_index_or, slice_set, replicate}
+use Rattle.std.specs.Prelude.{◌≡◌, ℕ, Bool, true, false, ◌&&◌, ◌||◌, List, [], ◌∷◌, ◌++◌, ◌+◌, ◌-◌, ◌==◌, ◌<◌, ◌≤◌, if◌then◌else◌, take, drop, length, slice_index_or, slice_set, replicate}
 use Rattle.ulfm_base.specs.declared.item.Item.{Item}
 use Rattle.ulfm_base.specs.declared.item.Item.TheVariants.{Gone}
 use Rattle.ulfm_rank.specs.declared.entry.Entry.{Entry}
@@ -24,12 +24,14 @@ pub record State : Type 0 where
   pub marks : List Mark
   pub keeps : Bool
 
--- A rank, whether there is room for one `take` or one call, and whether the table of requests has a place for one more, as
--- a receive, or a probe that finds a letter, needs it. Of both 'unchanged' doesn't speak.
+-- A rank, whether there is room for one `take` or one call, whether the table of requests has a place for one more, as
+-- a receive, or a probe that finds a letter, needs it, and of which outboxes the item that went out last keeps its place. Of
+-- these 'unchanged' doesn't speak.
 pub record RankView : Type 0 where
   pub state : State
   pub prepared : Bool
   pub has_place : Bool
+  pub lent : List Bool
 
 -- there is room for one `take` or one call, whichever it is
 abbrev pub is_ready : RankView → Bool
@@ -103,6 +105,10 @@ pub record IsState (r : State) : Type 0 where
 pub record MayReturn (r : State) (d : ℕ) (item : Item) : Type 0 where
   pub front : outbox (returned r d) d ≡ item ∷ outbox r d
   pub again : taken_out (returned r d) d ≡ r
+
+-- the last item that went out of the outbox towards d keeps its place there, or is the notice, which takes none
+abbrev pub has_way_back : State → List Bool → ℕ → Bool
+has_way_back r lent d = is_stopped r.log || slice_index_or lent d false
 
 -- from old to new this item went out of the outbox towards d, and may come back
 pub record GoesOut (old new : State) (d : ℕ) (item : Item) : Type 0 where

@@ -7,3 +7,4 @@ pub mod Quiet
 pub mod Chain
 pub mod KeptLog
 pub mod Decisive
+pub mod Rows

@@ -3,16 +3,16 @@ ghost use Rattle.std.specs.Prelude.{◌≡◌, ◌+◌, ◌<◌, ◌≤◌, [], 
 ghost use Rattle.ulfm_rank.specs.inside.Decisive.{rounds_on, tells};
 ghost use Rattle.ulfm_rank.specs.declared.entry.Entry.TheVariants.{Took};
 
-use crate::entry::Entry;
 use crate::rounds::Rounds;
-use ulfm_base::{Item, NotedItem, OutOfMemory, WorldRank};
+use crate::row::Row;
+use ulfm_base::{Item, OutOfMemory, WorldRank};
 
 /// Makes room for one of them.
 ///
 /// # Errors
 ///
 /// `OutOfMemory` where there was no such room and a growth was refused.
-pub(crate) fn make_place(told: &mut Vec<Entry>) -> Result<(), OutOfMemory>
+pub(crate) fn make_place(told: &mut Vec<Row>) -> Result<(), OutOfMemory>
     ensures items { told.new.items ≡ told.old.items }
     ensures len { vec_len told.new ≡ vec_len told.old }
     ensures ok { OnOk result (vec_len told.new < vec_capacity told.new) }
@@ -23,22 +23,22 @@ pub(crate) fn make_place(told: &mut Vec<Entry>) -> Result<(), OutOfMemory>
 }
 
 /// One of them more.
-pub(crate) fn tell(told: &mut Vec<Entry>, entry: Entry)
+pub(crate) fn tell(told: &mut Vec<Row>, row: Row)
     requires { vec_len told.old < vec_capacity told.old }
-    ensures items { told.new.items ≡ told.old.items ++ entry ∷ [] }
+    ensures items { told.new.items ≡ told.old.items ++ row ∷ [] }
 {
-    told.push_reserved(entry);
+    told.push_reserved(row);
 }
 
 /// One of them more, where the item that was taken from a rank is such.
-pub(crate) fn hear(told: &mut Vec<Entry>, rounds: &Rounds, source: WorldRank, item: &Item)
+pub(crate) fn hear(told: &mut Vec<Row>, rounds: &Rounds, source: WorldRank, item: &Item)
     requires { vec_len told.old < vec_capacity told.old }
     ensures items { told.new.items ≡ told.old.items ++ filter (tells (rounds_on rounds.now)) (Took source item.now ∷ []) }
 {
     match item {
         Item::Enter(entrance) => {
             if rounds.is_current(entrance.topic) {
-                told.push_reserved(Entry::Took(source, NotedItem::of(item)));
+                told.push_reserved(Row::heard(source, *entrance));
             }
         }
         _ => {}
@@ -46,10 +46,10 @@ pub(crate) fn hear(told: &mut Vec<Entry>, rounds: &Rounds, source: WorldRank, it
 }
 
 /// What belongs to agreements before the last ones goes.
-pub(crate) fn forget(told: &mut Vec<Entry>, rounds: &Rounds)
+pub(crate) fn forget(told: &mut Vec<Row>, rounds: &Rounds)
     ensures items { told.new.items ≡ filter (tells (rounds_on rounds.now)) told.old.items }
     ensures len { vec_len told.new ≤ vec_len told.old }
     ensures capacity { vec_capacity told.new ≡ vec_capacity told.old }
 {
-    told.retain(|entry| rounds.keeps(entry));
+    told.retain(|row| rounds.keeps(row));
 }

@@ -2,11 +2,12 @@
 
 ghost use Rattle.std.specs.Prelude.{◌≡◌};
 
+use crate::block::HeldDecision;
 use crate::message::MessageId;
 use crate::noted_answer::NotedAnswer;
 use ulfm_base::{
-    Body, CallError, Context, Decision, Entrance, NotedItem, NotedLetter, OutOfMemory, Pattern,
-    Tag, WorldRank,
+    Body, CallError, Context, Entrance, NotedItem, NotedLetter, OutOfMemory, Pattern, Tag,
+    WorldRank,
 };
 use ulfm_match::RequestId;
 
@@ -67,7 +68,7 @@ pub enum Entry {
     /// A shrink or an agreement was entered.
     Entered(Entrance),
     /// The decision of a shrink or of an agreement was adopted.
-    Adopted(Decision),
+    Adopted(HeldDecision),
     /// The failures acknowledged of a communicator rose to this total.
     Acknowledged(Context, u8),
     /// A context was revoked by the rank's own call.
@@ -89,6 +90,8 @@ pub enum Entry {
     /// An item was taken that came from a rank.
     Took(WorldRank, NotedItem),
 }
+
+const _: () = prove!(size_of::<Entry>() <= 64);
 
 impl Clone for Entry {
     ghost is_clone = { λ x y. y ≡ x };

@@ -14,6 +14,7 @@
 
 mod adopting;
 mod answer;
+mod block;
 mod communicators;
 mod decisive;
 mod entrances;
@@ -33,9 +34,11 @@ mod rank;
 mod request;
 mod requests;
 mod rounds;
+mod row;
 mod sources;
 mod word;
 
+pub use block::HeldDecision;
 pub use entrances::has_adopted;
 pub use entry::{Cancel, Comm, Entry, Probed, Status, TestAnswer};
 pub use law::own_affairs_alone;

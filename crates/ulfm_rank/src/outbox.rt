@@ -1,45 +1,50 @@
 //! What waits to go out to one rank.
-ghost use Rattle.std.specs.Prelude.{◌↔◌, ◌≡◌, ◌<◌, ◌∷◌, [], drop, IsTrue, IfNone, IfSome, OnOk, OnErr, false};
+ghost use Rattle.std.specs.Prelude.{◌↔◌, ◌≡◌, ◌<◌, ◌^◌, ◌∷◌, [], drop, IsTrue, IfNone, IfSome, OnOk, OnErr, false};
+ghost use Rattle.ulfm_rank.specs.inside.Outboxes.{one_if};
 
 use std::alloc::Global;
 use std::collections::VecDeque;
 use std::marker::Model;
 use ulfm_base::{Item, OutOfMemory};
 
-/// The items for one destination that didn't go out, in order, and how many did. Each of these may come back, so each
-/// keeps its place. Of the notice of a stop it has only whether it went out.
+/// The items for one destination that didn't go out, in order, and how many did. The last of these may come back, so it
+/// keeps its place until then, or until the next one goes out. Of the notice of a stop it has only whether it went out.
 #[derive(Drop)]
 pub struct Outbox {
     items: VecDeque<Item>,
     items_out: usize,
+    // Whether the item that went out last keeps its place, and whether there is one for a further item.
+    lent: bool,
+    has_place: bool,
     notice_out: bool,
 }
 
 impl Model for Outbox {
-    ghost use Rattle.std.specs.Prelude.{◌+◌, ◌≤◌, nat_lt};
+    ghost use Rattle.std.specs.Prelude.{◌+◌, ◌≤◌};
     ghost use Rattle.std.specs.VecDeque.{deque_len, deque_capacity};
-    ghost use Rattle.ulfm_rank.specs.inside.Outboxes.{Slot};
+    ghost use Rattle.ulfm_rank.specs.inside.Outboxes.{Slot, one_if};
 
     ghost Value = { Slot };
 
     ghost view = { λ o. record {
       contents = record { items = o.items.items; items_out = o.items_out; notice_out = o.notice_out };
-      room = nat_lt (deque_len o.items + o.items_out) (deque_capacity o.items);
+      room = o.has_place;
+      lent = o.lent;
     } };
 
-    ghost invariant = { λ o. deque_len o.items + o.items_out ≤ deque_capacity o.items };
+    ghost invariant = { λ o. deque_len o.items + (one_if o.lent + one_if o.has_place) ≤ deque_capacity o.items };
 }
 
-/// A copy has the places of the items that went out.
+/// To a copy no item comes back.
 impl Clone for Outbox {
     ghost is_clone = { λ x y. y.contents ≡ x.contents };
 
     fn clone(&self) -> Result<Outbox, OutOfMemory> {
-        let mut items = self.items.clone()?;
-        items.reserve(self.items_out)?;
         Ok(Outbox {
-            items,
+            items: self.items.clone()?,
             items_out: self.items_out,
+            lent: false,
+            has_place: false,
             notice_out: self.notice_out,
         })
     }
@@ -55,6 +60,8 @@ impl Outbox {
         Outbox {
             items: VecDeque::new(alloc),
             items_out: 0,
+            lent: false,
+            has_place: false,
             notice_out: false,
         }
     }
@@ -77,18 +84,19 @@ impl Outbox {
         ensures room_lacked { OnErr result (self.old.room ≡ false) }
         ensures stays { IsTrue self.old.room → IsTrue self.new.room }
     {
-        if self.has_room() {
+        if self.has_place {
             return Ok(());
         }
-        // Each item that went out keeps its place, so a growth by one item alone would come at each send.
-        self.items.reserve(2 * self.items_out + 1)
+        self.items.reserve(places(self.lent) + 1)?;
+        self.has_place = true;
+        Ok(())
     }
 
     /// Whether there is room for one item.
     pub fn has_room(&self) -> bool
         ensures { result ≡ self.now.room }
     {
-        self.items.len() + self.items_out < self.items.capacity()
+        self.has_place
     }
 
     /// Puts an item behind the others.
@@ -97,29 +105,35 @@ impl Outbox {
         ensures { self.new.contents ≡ with_item self.old.contents item }
     {
         self.items.push_back_reserved(item);
+        self.has_place = self.items.len() + places(self.lent) < self.items.capacity();
     }
 
-    /// The next item goes out, if there is one.
+    /// The next item goes out, if there is one, and may come back.
     pub fn take_next(&mut self) -> Option<Item>
+        requires { self.old.contents.items_out < 2 ^ 63 }
         ensures first { IfSome result (λ item. self.old.contents.items ≡ item ∷ drop 1 self.old.contents.items) }
         ensures taken { IfSome result (λ item. self.new.contents ≡ with_first_out self.old.contents) }
         ensures none { IfNone result (self.old.contents.items ≡ []) }
         ensures unchanged { IfNone result (self.new ≡ self.old) }
         ensures room { self.new.room ≡ self.old.room }
+        ensures lent { IfSome result (λ item. IsTrue self.new.lent) }
     {
         let item = self.items.pop_front()?;
         self.items_out += 1;
+        self.lent = true;
         Some(item)
     }
 
     /// The item that went out last comes back.
     pub fn put_back(&mut self, item: Item)
-        requires { 0 < self.old.contents.items_out }
+        requires out { 0 < self.old.contents.items_out }
+        requires lent { IsTrue self.old.lent }
         ensures contents { self.new.contents ≡ with_item_back self.old.contents item }
         ensures room { self.new.room ≡ self.old.room }
     {
         self.items.push_front_reserved(item);
         self.items_out -= 1;
+        self.lent = false;
     }
 
     /// Whether each of its items went out.
@@ -143,4 +157,11 @@ impl Outbox {
     {
         self.notice_out = notice_out;
     }
+}
+
+/// How many places are kept for the item that went out last.
+fn places(lent: bool) -> usize
+    ensures { result ≡ one_if lent }
+{
+    if lent { 1 } else { 0 }
 }

@@ -1,5 +1,5 @@
 //! What waits to go out to each rank.
-ghost use Rattle.std.specs.Prelude.{◌≡◌, ◌==◌, ◌<◌, ◌∷◌, ℕ, [], drop, length, replicate, slice_set, IsTrue, ◌↔◌, IfNone, IfOk, IfSome, OnOk, OnErr, false};
+ghost use Rattle.std.specs.Prelude.{◌≡◌, ◌==◌, ◌<◌, ◌^◌, ◌∷◌, ℕ, [], drop, length, replicate, slice_index_or, slice_set, IsTrue, ◌↔◌, IfNone, IfOk, IfSome, OnOk, OnErr, true, false};
 ghost use Rattle.ulfm_base.specs.RankSet.{has};
 ghost use Rattle.ulfm_rank.specs.inside.Outboxes.{empty_box, box_at, with_first_out, with_item_back, with_notice_out, for_each, item_of_word, AllGrow};
 
@@ -10,23 +10,27 @@ use std::collections::VecDeque;
 use std::marker::Model;
 use ulfm_base::{Item, OutOfMemory, RankSet, WorldRank};
 
-/// An outbox for each rank of the world.
+/// An outbox for each rank of the world, and whether it is known that there is room for one item in each.
 #[derive(Drop)]
 pub struct Outboxes {
     slots: Vec<Outbox>,
+    roomy: bool,
 }
 
 impl Model for Outboxes {
-    ghost use Rattle.std.specs.Prelude.{map};
+    ghost use Rattle.std.specs.Prelude.{◌≡◌, true, map};
     ghost use Rattle.std.specs.List.{list_all};
-    ghost use Rattle.ulfm_rank.specs.inside.Outboxes.{Boxes, contents_of, has_room};
+    ghost use Rattle.ulfm_rank.specs.inside.Outboxes.{Boxes, contents_of, has_room, is_lent};
 
     ghost Value = { Boxes };
 
     ghost view = { λ o. record {
       boxes = map contents_of o.slots.items;
-      room = list_all has_room o.slots.items;
+      room = o.roomy;
+      lent = map is_lent o.slots.items;
     } };
+
+    ghost invariant = { λ o. o.roomy ≡ true → list_all has_room o.slots.items ≡ true };
 }
 
 impl Outboxes {
@@ -43,7 +47,10 @@ impl Outboxes {
             let _ = dest;
             slots.push(Outbox::new(alloc))?;
         }
-        Ok(Outboxes { slots })
+        Ok(Outboxes {
+            slots,
+            roomy: false,
+        })
     }
 
     /// The same outboxes once more.
@@ -55,7 +62,10 @@ impl Outboxes {
         ensures { IfOk result (λ outboxes. outboxes.boxes ≡ self.now.boxes) }
     {
         let slots = self.slots.clone()?;
-        Ok(Outboxes { slots })
+        Ok(Outboxes {
+            slots,
+            roomy: false,
+        })
     }
 
     /// Makes room for one item in each outbox.
@@ -68,23 +78,22 @@ impl Outboxes {
         ensures room { OnOk result (IsTrue self.new.room) }
         ensures room_lacked { OnErr result (self.old.room ≡ false) }
     {
+        if self.roomy {
+            return Ok(());
+        }
         for d in 0..self.slots.len() {
             let outbox = &mut self.slots[d];
             outbox.reserve()?;
         }
+        self.roomy = true;
         Ok(())
     }
 
-    /// Whether there is room for one item in each outbox.
+    /// Whether it is known that there is room for one item in each outbox.
     pub fn has_room(&self) -> bool
         ensures { result ≡ self.now.room }
     {
-        for outbox in &self.slots {
-            if !outbox.has_room() {
-                return false;
-            }
-        }
-        true
+        self.roomy
     }
 
     /// Puts an item into the outbox towards a rank.
@@ -95,6 +104,7 @@ impl Outboxes {
     {
         let outbox = &mut self.slots[dest.number as usize];
         outbox.put(item);
+        self.roomy = outbox.has_room();
     }
 
     /// Puts word into the outbox towards each rank of a set.
@@ -110,6 +120,7 @@ impl Outboxes {
             let outbox = &mut self.slots[d];
             outbox.put(word.item());
         }
+        self.roomy = false;
     }
 
     /// The items towards a rank that didn't go out.
@@ -130,14 +141,16 @@ impl Outboxes {
         outbox.is_drained()
     }
 
-    /// The next item towards a rank goes out, if there is one.
+    /// The next item towards a rank goes out, if there is one, and may come back.
     pub fn take_next(&mut self, dest: u8) -> Option<Item>
-        requires { dest < length self.old.boxes }
+        requires inside { dest < length self.old.boxes }
+        requires countable { (box_at self.old.boxes dest).items_out < 2 ^ 63 }
         ensures first { IfSome result (λ item. (box_at self.old.boxes dest).items ≡ item ∷ drop 1 (box_at self.old.boxes dest).items) }
         ensures taken { IfSome result (λ item. self.new.boxes ≡ slice_set self.old.boxes dest (with_first_out (box_at self.old.boxes dest))) }
         ensures none { IfNone result ((box_at self.old.boxes dest).items ≡ []) }
         ensures unchanged { IfNone result (self.new ≡ self.old) }
         ensures room { self.new.room ≡ self.old.room }
+        ensures lent { IfSome result (λ item. slice_index_or self.new.lent dest false ≡ true) }
     {
         let outbox = &mut self.slots[dest as usize];
         outbox.take_next()
@@ -147,6 +160,7 @@ impl Outboxes {
     pub fn put_back(&mut self, dest: u8, item: Item)
         requires inside { dest < length self.old.boxes }
         requires taken { 0 < (box_at self.old.boxes dest).items_out }
+        requires lent { slice_index_or self.old.lent dest false ≡ true }
         ensures boxes { self.new.boxes ≡ slice_set self.old.boxes dest (with_item_back (box_at self.old.boxes dest) item) }
         ensures room { self.new.room ≡ self.old.room }
     {

@@ -21,12 +21,14 @@ ghost use Rattle.ulfm_rank.specs.inside.Rank.{stop_places};
 ghost use Rattle.ulfm_rank.specs.Paired.{IsPaired};
 ghost use Rattle.ulfm_rank.specs.State.{start_state, start_state_with, IsState};
 
+use crate::block::Block;
 use crate::communicators::Communicators;
 use crate::entry::{Comm, Entry};
 use crate::log::Log;
 use crate::outboxes::Outboxes;
 use crate::request::Request;
 use crate::rounds::Rounds;
+use crate::row::Row;
 use indexmap::IndexMap;
 use std::alloc::Global;
 use std::marker::Model;
@@ -41,7 +43,7 @@ use ulfm_match::Matcher;
 pub struct Rank {
     log: Log,
     // What the log tells of shrinks and of the last agreements: at each entry what belongs to earlier ones is let go.
-    told: Vec<Entry>,
+    told: Vec<Row>,
     rounds: Rounds,
     me: WorldRank,
     ranks: u8,
@@ -51,6 +53,8 @@ pub struct Rank {
     requests: IndexMap<u64, Request>,
     communicators: Communicators,
     outboxes: Outboxes,
+    // For the decision that is adopted next.
+    block: Block,
 }
 
 impl Model for Rank {
@@ -110,6 +114,7 @@ impl Rank {
             log,
             told: Vec::new(alloc),
             rounds: Rounds::new(),
+            block: Block::new(alloc),
         })
     }
 

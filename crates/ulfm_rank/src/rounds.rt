@@ -1,10 +1,10 @@
 //! How many agreements a rank entered on each communicator, and what is let go after a further one (ULFM, agree).
 ghost use Rattle.std.specs.Prelude.{◌≡◌, ◌+◌, ◌-◌, ◌<◌, ◌^◌, ℕ, if◌then◌else◌};
 ghost use Rattle.ulfm_base.specs.Topic.{is_agreement};
-ghost use Rattle.ulfm_rank.specs.inside.Decisive.{rounds_on, enters_on, is_current, item_tells, tells};
+ghost use Rattle.ulfm_rank.specs.inside.Decisive.{rounds_on, enters_on, is_current, tells};
 
-use crate::entry::Entry;
-use ulfm_base::{Context, ItemKind, NotedItem, Purpose, Topic};
+use crate::row::{Row, RowKind};
+use ulfm_base::{Context, Purpose, Topic};
 
 /// By the number of a context, how many agreements on its communicator the rank entered.
 #[derive(Clone, Copy)]
@@ -47,25 +47,14 @@ impl Rounds {
         }
     }
 
-    /// Whether an entry of the log tells of such a topic.
-    pub(crate) fn keeps(&self, entry: &Entry) -> bool
-        ensures { result ≡ tells (rounds_on self.now) entry.now }
+    /// Whether a row tells of such a topic.
+    pub(crate) fn keeps(&self, row: &Row) -> bool
+        ensures { result ≡ tells (rounds_on self.now) row.now }
     {
-        match entry {
-            Entry::Entered(entrance) => self.is_current(entrance.topic),
-            Entry::Adopted(decision) => self.is_current(decision.topic),
-            Entry::Took(_, item) => self.keeps_item(item),
-            _ => false,
-        }
-    }
-
-    /// Whether an item is an entrance into such a topic.
-    fn keeps_item(&self, item: &NotedItem) -> bool
-        ensures { result ≡ item_tells (rounds_on self.now) item.now }
-    {
-        match item.kind() {
-            ItemKind::Enter(entrance) => self.is_current(entrance.topic),
-            _ => false,
+        match row.kind() {
+            RowKind::Entered(entrance) => self.is_current(entrance.topic),
+            RowKind::Adopted(topic, _) => self.is_current(*topic),
+            RowKind::Heard(_, entrance) => self.is_current(entrance.topic),
         }
     }
 }

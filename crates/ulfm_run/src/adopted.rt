@@ -39,7 +39,7 @@ fn is_truly_adopted(reports: &[RankReport], entry: &Entry) -> bool
     ensures { IsTrue result ↔ AdoptsTruly reports.now entry.now }
 {
     match entry {
-        Entry::Adopted(decision) => is_true(reports, decision),
+        Entry::Adopted(held) => is_true(reports, held.decision()),
         _ => true,
     }
 }

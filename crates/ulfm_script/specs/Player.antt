@@ -19,11 +19,13 @@ pub record Player : Type 0 where
   pub at : ℕ
   pub polls : ℕ
 
--- a player, its places for further answers, and whether its rank is prepared for one `take` or one poll
+-- a player, its places for further answers, whether its rank is prepared for one `take` or one poll, and of which outboxes
+-- the item that went out last keeps its place
 pub record PlayerView : Type 0 where
   pub player : Player
   pub room : ℕ
   pub prepared : Bool
+  pub lent : List Bool
 
 -- the player of a rank that starts
 abbrev pub start_player : ℕ → ℕ → Player

@@ -42,6 +42,7 @@ impl Model for Player {
       player = record { rank = p.rank.state; done = p.done.items; current = p.current; at = p.at; polls = p.polls };
       room = vec_capacity p.done - vec_len p.done;
       prepared = is_ready p.rank;
+      lent = p.rank.lent;
     } };
 
     ghost invariant = { λ p. IsPlayer p.rank.state p.current (vec_len p.done) (vec_capacity p.done) };

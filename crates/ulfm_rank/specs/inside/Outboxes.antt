@@ -15,15 +15,18 @@ pub record Box : Type 0 where
   pub items_out : ℕ
   pub notice_out : Bool
 
--- an outbox, and whether there is room for one item more
+-- an outbox, whether there is room for one item more, and whether the item that went out last keeps its place
 pub record Slot : Type 0 where
   pub contents : Box
   pub room : Bool
+  pub lent : Bool
 
--- the outboxes by their destinations, and whether there is room for one item more in each
+-- the outboxes by their destinations, whether there is room for one item more in each, and in which of them the item that
+-- went out last keeps its place
 pub record Boxes : Type 0 where
   pub boxes : List Box
   pub room : Bool
+  pub lent : List Bool
 
 -- an outbox without its room
 abbrev pub contents_of : Slot → Box
@@ -32,6 +35,14 @@ contents_of slot = slot.contents
 -- an outbox has room for one more item
 abbrev pub has_room : Slot → Bool
 has_room slot = slot.room
+
+-- the item that went out of an outbox last keeps its place
+abbrev pub is_lent : Slot → Bool
+is_lent slot = slot.lent
+
+-- one place where it is so
+abbrev pub one_if : Bool → ℕ
+one_if b = if b then 1 else 0
 
 -- the outbox of a rank that starts
 abbrev pub empty_box : Box

@@ -38,9 +38,10 @@ pub record Holds (a : Inside) : Type 0 where
 abbrev pub state_of : Inside → State
 state_of a = record { me = a.me.number; ranks = a.ranks; log = a.log.items; marks = map mark_of a.outboxes.boxes; keeps = a.log.keeps }
 
--- there is room for a post or an arrival, for one more entry and the release of one more request, and in each outbox
+-- there is room for a post or an arrival, for one more entry and the release of one more request, in each outbox, for one
+-- more row, and for a decision
 abbrev pub is_prepared : Inside → Bool
-is_prepared a = a.matcher.prepared && (nat_lt (length a.log.items + (index_map_len a.requests + stop_places a.stopped) + 1) (a.log.capacity) && (a.outboxes.room && nat_lt (vec_len a.told) (vec_capacity a.told)))
+is_prepared a = a.matcher.prepared && (nat_lt (length a.log.items + (index_map_len a.requests + stop_places a.stopped) + 1) (a.log.capacity) && (a.outboxes.room && (nat_lt (vec_len a.told) (vec_capacity a.told) && a.block)))
 
 -- the table of requests has a place for one more
 abbrev pub has_place : Inside → Bool
@@ -48,4 +49,4 @@ has_place a = nat_lt (index_map_len a.requests) (index_map_len a.requests + spar
 
 -- what contracts see of the fields of a rank
 abbrev pub view_of : Inside → RankView
-view_of a = record { state = state_of a; prepared = is_prepared a; has_place = has_place a }
+view_of a = record { state = state_of a; prepared = is_prepared a; has_place = has_place a; lent = a.outboxes.lent }

@@ -10,6 +10,7 @@ ghost use Rattle.ulfm_rank.specs.State.{logged};
 use super::Rank;
 use crate::decisive::{make_place, tell};
 use crate::entry::{Comm, Entry};
+use crate::row::Row;
 use ulfm_base::{CallError, Context, Decision, Purpose, Topic};
 
 impl Rank {
@@ -94,9 +95,11 @@ impl Rank {
         self.check_adoption(topic, &decision)?;
         self.log.reserve(self.requests.len() + 2)?;
         make_place(&mut self.told)?;
+        self.block.make()?;
         let value = decision.value;
-        tell(&mut self.told, Entry::Adopted(decision.copied()));
-        self.log.push_reserved(Entry::Adopted(decision));
+        tell(&mut self.told, Row::adopted(&decision));
+        let held = self.block.hold(decision);
+        self.log.push_reserved(Entry::Adopted(held));
         match value {
             Some(value) => Ok(value),
             None => unreachable!(),

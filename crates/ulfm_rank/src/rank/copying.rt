@@ -2,6 +2,7 @@
 ghost use Rattle.std.specs.Prelude.{◌≡◌, IfOk};
 
 use super::{Rank, stop_places};
+use crate::block::Block;
 use ulfm_base::OutOfMemory;
 
 impl Rank {
@@ -33,6 +34,7 @@ impl Rank {
             requests,
             communicators,
             outboxes,
+            block: Block::new(*self.log.allocator()),
         })
     }
 }

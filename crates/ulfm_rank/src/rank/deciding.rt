@@ -15,10 +15,11 @@ ghost use Rattle.ulfm_rank.specs.Proposal.{agreements, deciders, has_entered, ha
 use super::Rank;
 use crate::adopting::is_foreign;
 use crate::decisive::{forget, make_place, tell};
-use crate::entrances::{has_adopted, listed};
+use crate::entrances::{is_adopted, listed};
 use crate::entry::{Comm, Entry};
 use crate::forwarding::announce;
 use crate::proposal::proposed;
+use crate::row::Row;
 use ulfm_base::{CallError, Contribution, Decision, Entrance, Group, OutOfMemory, RankSet, Topic};
 
 impl Rank {
@@ -50,7 +51,7 @@ impl Rank {
         announce(&mut self.outboxes, self.me.number, known, members, entrance);
         self.rounds.enter(topic);
         forget(&mut self.told, &self.rounds);
-        tell(&mut self.told, Entry::Entered(entrance));
+        tell(&mut self.told, Row::entered(entrance));
         self.log.push_reserved(Entry::Entered(entrance));
         Ok(())
     }
@@ -108,7 +109,7 @@ impl Rank {
         requires { IsTrue (is_current (agreements self.now.state.log) topic) }
         ensures { result ≡ has_adopted self.now.state.log topic }
     {
-        has_adopted(&self.told, topic)
+        is_adopted(&self.told, topic)
     }
 
     /// Whether the rank entered a topic.

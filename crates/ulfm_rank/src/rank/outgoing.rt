@@ -1,7 +1,7 @@
 //! What goes out to the other ranks.
 ghost use Rattle.std.specs.Prelude.{◌≡◌, ◌<◌, ◌↔◌, [], false, IsTrue, IfNone, IfSome};
 ghost use Rattle.ulfm_rank.specs.Facts.{is_stopped};
-ghost use Rattle.ulfm_rank.specs.State.{outbox, returned, GoesOut, MayReturn};
+ghost use Rattle.ulfm_rank.specs.State.{has_way_back, outbox, returned, GoesOut, MayReturn};
 
 use super::Rank;
 use std::collections::VecDeque;
@@ -29,7 +29,8 @@ impl Rank {
         dest == self.me.number || self.outboxes.is_notice_out(dest)
     }
 
-    /// The first item of the outbox towards a rank goes out, if there is one. It can't run out of memory.
+    /// The first item of the outbox towards a rank goes out, if there is one. It may come back until the next one goes out
+    /// there. It can't run out of memory.
     pub fn take_out(&mut self, dest: u8) -> Option<Item>
         requires { dest < self.old.state.ranks }
         ensures leaves { IfSome result (λ item. GoesOut self.old.state self.new.state dest item) }
@@ -37,6 +38,7 @@ impl Rank {
         ensures unchanged { IfNone result (self.new ≡ self.old) }
         ensures prepared { self.new.prepared ≡ self.old.prepared }
         ensures place { self.new.has_place ≡ self.old.has_place }
+        ensures way_back { IfSome result (λ item. IsTrue (has_way_back self.new.state self.new.lent dest)) }
     {
         if !self.stopped {
             return self.outboxes.take_next(dest);
@@ -50,10 +52,11 @@ impl Rank {
 
     /// The item that went out last comes back to the front of its outbox. It can't run out of memory.
     ///
-    /// The rank's last call was `take_out` of this outbox, and gave this item.
+    /// The last `take_out` of this outbox gave this item, and it didn't come back since.
     pub fn put_back(&mut self, dest: u8, item: Item)
         requires inside { dest < self.old.state.ranks }
         requires taken { MayReturn self.old.state dest item }
+        requires way_back { IsTrue (has_way_back self.old.state self.old.lent dest) }
         ensures state { self.new.state ≡ returned self.old.state dest }
         ensures prepared { self.new.prepared ≡ self.old.prepared }
         ensures place { self.new.has_place ≡ self.old.has_place }

@@ -31,6 +31,7 @@ impl Rank {
         self.requests.reserve(1)?;
         self.matcher.prepare()?;
         make_place(&mut self.told)?;
+        self.block.make()?;
         self.outboxes.reserve()
     }
 
@@ -44,6 +45,7 @@ impl Rank {
             && self.requests.len() < self.requests.capacity()
             && self.outboxes.has_room()
             && self.told.len() < self.told.capacity()
+            && self.block.is_there()
     }
 
     /// Takes an item that came from a rank. A letter is handed to the earliest receive that takes it, or kept, or

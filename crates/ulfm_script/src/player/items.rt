@@ -1,7 +1,7 @@
 //! Items that come, and items that go out.
 ghost use Rattle.std.specs.Prelude.{◌≡◌, ◌<◌, ◌↔◌, false, IsTrue, IfSome, IfNone, OnOk, OnErr, []};
 ghost use Rattle.ulfm_rank.specs.Facts.{is_stopped};
-ghost use Rattle.ulfm_rank.specs.State.{logged, outbox, returned, GoesOut, MayReturn};
+ghost use Rattle.ulfm_rank.specs.State.{has_way_back, logged, outbox, returned, GoesOut, MayReturn};
 ghost use Rattle.ulfm_rank.specs.Calls.{IsFrom};
 ghost use Rattle.ulfm_script.specs.Player.{with_rank};
 
@@ -51,7 +51,8 @@ impl Player {
         self.rank.is_outbox_empty(dest)
     }
 
-    /// The first item of an outbox goes out, if there is one. It never answers out of memory.
+    /// The first item of an outbox goes out, if there is one. It may come back until the next one goes out there. It never
+    /// answers out of memory.
     pub fn take_out(&mut self, dest: u8) -> Option<Item>
         requires inside { dest < self.old.player.rank.ranks }
         ensures leaves { IfSome result (λ item. GoesOut self.old.player.rank self.new.player.rank dest item) }
@@ -60,6 +61,7 @@ impl Player {
         ensures only { self.new.player ≡ with_rank self.old.player self.new.player.rank }
         ensures room { self.new.room ≡ self.old.room }
         ensures prepared { self.new.prepared ≡ self.old.prepared }
+        ensures way_back { IfSome result (λ item. IsTrue (has_way_back self.new.player.rank self.new.lent dest)) }
     {
         self.rank.take_out(dest)
     }
@@ -68,6 +70,7 @@ impl Player {
     pub fn put_back(&mut self, dest: u8, item: Item)
         requires inside { dest < self.old.player.rank.ranks }
         requires taken { MayReturn self.old.player.rank dest item }
+        requires way_back { IsTrue (has_way_back self.old.player.rank self.old.lent dest) }
         ensures player { self.new.player ≡ with_rank self.old.player (returned self.old.player.rank dest) }
         ensures room { self.new.room ≡ self.old.room }
         ensures prepared { self.new.prepared ≡ self.old.prepared }

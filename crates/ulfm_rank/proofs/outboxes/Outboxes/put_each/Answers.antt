@@ -7,7 +7,7 @@ pub loop-d-init : goal.loop-d-init
 loop-d-init c = leaving-start
 
 pub put-requires : goal.put-requires
-put-requires c = leaving-room c.loop-d.invariant (ap (λ (v : Boxes). v.room) c.self.view_is ∙ c.requires.room) (search rules) c.index_mut-outbox.ensures.value
+put-requires c = leaving-room c.loop-d.invariant (c.self.invariant (ap (λ (v : Boxes). v.room) c.self.view_is ∙ c.requires.room)) (search rules) c.index_mut-outbox.ensures.value
 
 pub loop-d-preserved : goal.loop-d-preserved
 loop-d-preserved c = leaving-step c.put.new.self c.loop-d.invariant (sym c.contains.ensures ∙ c.if-not-contains.false) (search rules) c.index_mut-outbox.ensures.value (c.put.ensures ∙ ap (with_item c.index_mut-outbox.result.now.contents) c.item.ensures)

@@ -6,5 +6,5 @@ use Rattle.ulfm_rank.proofs.outboxes.Outboxes.set_notice_out.Goals as goal
 pub returns-clause-boxes : goal.returns-clause-boxes
 returns-clause-boxes c = put c.self.inside.slots.items c.args.dest _ (λ b. with_notice_out b c.args.notice_out) (ap (λ (v : Boxes). v.boxes) c.self.view_is) c.requires c.index_mut-outbox.ensures.value c.set_notice_out.ensures.contents
 
-pub returns-clause-room : goal.returns-clause-room
-returns-clause-room c = room_kept c.self.inside.slots.items c.args.dest _ (ap (λ (v : Boxes). v.boxes) c.self.view_is) (ap (λ (v : Boxes). v.room) c.self.view_is) c.requires c.index_mut-outbox.ensures.value c.set_notice_out.ensures.room
+pub invariant_of-self : goal.invariant_of-self
+invariant_of-self c all = room_kept c.self.inside.slots.items c.args.dest _ (ap (λ (v : Boxes). v.boxes) c.self.view_is) (c.self.invariant all) c.requires c.index_mut-outbox.ensures.value c.set_notice_out.ensures.room

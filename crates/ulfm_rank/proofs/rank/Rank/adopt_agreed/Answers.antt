@@ -21,7 +21,7 @@ invariant_of-self-2 c =
     let d = c.args.decision in
     let seen = ap (λ (v : RankView). v.state) c.self.view_is in
     let about = c.in_ok-check_adoption.ensures.about in
-    let longer = c.push_reserved.ensures.items ∙ ap (λ l. l ++ Adopted c.args.decision ∷ []) c.reserve.ensures.items in
+    let longer = c.push_reserved.ensures.items ∙ ap (λ l. l ++ Adopted c.hold-held.result ∷ []) c.reserve.ensures.items ∙ ap (λ x. a.log.items ++ Adopted x ∷ []) c.hold-held.ensures in
     let found : find_group c.args.decision.topic.context.number c.self.inside.communicators ≡ Some c.args.decision.old =
     found_group d.topic.context.number c.self.invariant.follows.communicators ∙ ap (λ (t : Topic). group_of a.ranks a.log.items t.context.number) about ∙ ap (λ (s : State). group_of s.ranks s.log c.args.topic.context.number) seen ∙ c.in_ok-check_adoption.ensures.group in
     let none : decided_comm c.args.decision.topic.purpose c.args.decision.topic.context.number c.args.decision.fresh ≡ [] = none_agreed d.topic.purpose d.topic.context.number d.fresh (ap (λ (t : Topic). is_agreement t.purpose) about ∙ c.requires.agreement) in
@@ -30,6 +30,6 @@ invariant_of-self-2 c =
     record {
       follows = rw (longer, same) (follows_adopted c.self.invariant.follows c.args.decision found);
       places = omega (arith, c.in_ok-reserve.ensures.ok, c.push_reserved.ensures.len, c.push_reserved.ensures.capacity, c.len.ensures.len, stop_places_few a.stopped);
-      tells = told_adopted _ _ _ _ _ longer c.self.invariant.tells (ap (is_current (agreements a.log.items)) about ∙ ap (λ (s : State). is_current (agreements s.log) c.args.topic) seen ∙ c.requires.current) (c.tell.ensures.items ∙ ap (λ l. l ++ Adopted c.copied.result ∷ []) c.make_place.ensures.items ∙ ap (λ d. a.told.items ++ Adopted d ∷ []) c.copied.ensures);
+      tells = told_adopted _ _ _ _ _ longer c.self.invariant.tells (ap (is_current (agreements a.log.items)) about ∙ ap (λ (s : State). is_current (agreements s.log) c.args.topic) seen ∙ c.requires.current) (c.tell.ensures.items ∙ ap (λ l. l ++ c.adopted.result ∷ []) c.make_place.ensures.items ∙ ap (λ e. a.told.items ++ e ∷ []) c.adopted.ensures);
       countable = omega (arith, c.push_reserved.ensures.capacity, c.reserve.ensures.countable);
     }

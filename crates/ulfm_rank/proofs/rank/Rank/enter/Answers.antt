@@ -37,7 +37,7 @@ invariant_of-self-2 c =
       follows = rw (longer c) (follows_entered c.self.invariant.follows (entrance c) c.announce.new.outboxes.boxes (grows c));
       places = omega (arith, c.in_ok-reserve.ensures.ok, c.push_reserved.ensures.len, c.push_reserved.ensures.capacity, c.len.ensures.len, stop_places_few a.stopped);
       tells = told_entered _ _ _ _ (entrance c) (longer c) c.self.invariant.tells (ap (λ (s : State). is_next (agreements s.log) c.args.topic) (seen c) ∙ c.requires.next) c.enter.ensures
-          (c.tell.ensures.items ∙ ap (λ l. l ++ Entered (entrance c) ∷ []) (c.forget.ensures.items ∙ ap (filter (tells (rounds_on c.enter.new.self))) c.make_place.ensures.items));
+          (c.tell.ensures.items ∙ ap (λ e. c.forget.new.told.items ++ e ∷ []) c.entered.ensures ∙ ap (λ l. l ++ Entered (entrance c) ∷ []) (c.forget.ensures.items ∙ ap (filter (tells (rounds_on c.enter.new.self))) c.make_place.ensures.items));
       countable = omega (arith, c.push_reserved.ensures.capacity, c.reserve.ensures.countable);
     }
 

@@ -13,3 +13,6 @@ invariant_of-self-2 c = holds_same c.self.inside c.self.invariant refl refl refl
 
 pub invariant_of-self-in_err-make_place : goal.invariant_of-self-in_err-make_place
 invariant_of-self-in_err-make_place c = holds_same c.self.inside c.self.invariant refl refl refl refl refl c.prepare.ensures.waiting c.prepare.ensures.kept c.prepare.ensures.count c.prepare.ensures.cleared c.reserve-2.ensures.entries refl c.reserve.ensures.items c.make_place.ensures.items refl c.reserve.ensures.capacity c.reserve.ensures.countable
+
+pub invariant_of-self-in_err-make : goal.invariant_of-self-in_err-make
+invariant_of-self-in_err-make c = holds_same c.self.inside c.self.invariant refl refl refl refl refl c.prepare.ensures.waiting c.prepare.ensures.kept c.prepare.ensures.count c.prepare.ensures.cleared c.reserve-2.ensures.entries refl c.reserve.ensures.items c.make_place.ensures.items refl c.reserve.ensures.capacity c.reserve.ensures.countable

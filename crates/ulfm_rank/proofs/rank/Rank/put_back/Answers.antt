@@ -1,5 +1,5 @@
-use Rattle.std.proofs.Common.{◌≡◌, ◌<◌, true, false, length, set, ap, sym, ◌∙◌, arith}
-use Rattle.ulfm_rank.proofs.Common.{is_stopped, State, RankView, box_at, with_item_back, HasOutboxes}
+use Rattle.std.proofs.Common.{◌≡◌, ◌<◌, true, false, length, set, ap, sym, subst, ◌∙◌, arith}
+use Rattle.ulfm_rank.proofs.Common.{is_stopped, has_way_back, State, RankView, box_at, with_item_back, HasOutboxes}
 use Rattle.ulfm_rank.proofs.Seen.{returns_item, returns_notice, outbox_back, outboxes-marked}
 use Rattle.ulfm_rank.proofs.rank.Rank.put_back.Goals as goal
 
@@ -41,3 +41,8 @@ returns-clause-state c =
     let seen = ap (λ (v : RankView). v.state) c.self.view_is in
     let running : is_stopped c.self.inside.log.items ≡ false = sym c.self.invariant.follows.halted ∙ c.if-self.false in
     rw c.put_back.ensures.boxes (returns_item c.self.inside.outboxes.boxes c.args.dest seen c.args.item running)
+
+pub put_back-requires-clause-lent : goal.put_back-requires-clause-lent
+put_back-requires-clause-lent c =
+    let running : is_stopped c.self.inside.log.items ≡ false = sym c.self.invariant.follows.halted ∙ c.if-self.false in
+    rw running at (subst (λ (v : RankView). has_way_back v.state v.lent c.args.dest ≡ true) (sym c.self.view_is) c.requires.way_back)

@@ -33,7 +33,7 @@ longer c = c.push_reserved.ensures.items ∙ ap (λ x. c.self.inside.log.items +
 pub invariant_of-self : goal.invariant_of-self
 invariant_of-self c =
     let a = c.self.inside in
-    let room = room_of a.matcher.prepared (length a.log.items + (index_map_len a.requests + stop_places a.stopped)) a.log.capacity (a.outboxes.room && nat_lt (vec_len a.told) (vec_capacity a.told)) (subst (λ (v : RankView). IsTrue v.prepared) (sym c.self.view_is) c.requires.prepared) in
+    let room = room_of a.matcher.prepared (length a.log.items + (index_map_len a.requests + stop_places a.stopped)) a.log.capacity (a.outboxes.room && (nat_lt (vec_len a.told) (vec_capacity a.told) && a.block)) (subst (λ (v : RankView). IsTrue v.prepared) (sym c.self.view_is) c.requires.prepared) in
     let tracks = rw c.is_late-late.ensures at c.settle.ensures.tracks in
     record {
       follows = rw (longer c)

@@ -1,6 +1,6 @@
 use Rattle.std.proofs.Common.{◌≡◌, ◌<◌, true, false, length, ap, sym, ◌∙◌, arith}
-use Rattle.ulfm_rank.proofs.Common.{is_stopped, State, RankView}
-use Rattle.ulfm_rank.proofs.Seen.{leaves_next, leaves_notice, outboxes-taken, all_out, IfSome_both, IfNone_weaker}
+use Rattle.ulfm_rank.proofs.Common.{is_stopped, State, RankView, IfSome_then, or_left, or_right}
+use Rattle.ulfm_rank.proofs.Seen.{leaves_next, leaves_notice, out_few, outboxes-taken, all_out, IfSome_both, IfNone_weaker}
 use Rattle.ulfm_rank.proofs.rank.Rank.take_out.Goals as goal
 
 pub invariant_of-self : goal.invariant_of-self
@@ -53,3 +53,17 @@ returns-clause-leaves c =
     let inside : c.args.dest < length boxes = omega (arith, c.requires, held.size, ap (λ (s : State). s.ranks) seen) in
     let stopped : is_stopped c.self.inside.log.items ≡ true = sym c.self.invariant.follows.halted ∙ c.if-not-self.false in
     rw c.set_notice_out.ensures.boxes (leaves_notice boxes c.args.dest seen held inside stopped (sym c.is_notice_out.ensures ∙ c.if-is_notice_out.false) (λ e. c.if-dest-self.false (sym e)))
+
+pub take_next-requires-clause-countable : goal.take_next-requires-clause-countable
+take_next-requires-clause-countable c =
+    let a = c.self.inside in
+    let held = c.self.invariant.follows.outboxes in
+    let seen = ap (λ (v : RankView). v.state) c.self.view_is in
+    let inside : c.args.dest < length a.outboxes.boxes = omega (arith, c.requires, held.size, ap (λ (s : State). s.ranks) seen) in
+    omega (arith, out_few a.outboxes.boxes c.args.dest seen held inside, c.self.invariant.places, c.self.invariant.countable)
+
+pub returns-then-not-self-clause-way_back : goal.returns-then-not-self-clause-way_back
+returns-then-not-self-clause-way_back c = IfSome_then c.take_next.result c.take_next.ensures.lent (λ item there. or_right (is_stopped c.self.inside.log.items) _ there)
+
+pub returns-clause-way_back : goal.returns-clause-way_back
+returns-clause-way_back c = or_left (is_stopped c.self.inside.log.items) _ (sym c.self.invariant.follows.halted ∙ c.if-not-self.false)
