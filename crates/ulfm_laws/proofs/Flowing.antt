@@ -27,7 +27,7 @@ pub any_begun : (test : Item → Bool) (xs ys : List Item) → IsBeginning xs ys
 any_begun test xs ys b some = ap (list_any test) (sym b.1) ∙ list_any-append test xs b.0 ∙ or_left (list_any test xs) (list_any test b.0) some
 
 -- a test that nothing owed passes says nothing of a rank that didn't stop
-none_begun : (test : Item → Bool) (xs ys : List Item) → IsBeginning xs ys → list_any test ys ≡ false → list_any test xs ≡ false
+pub none_begun : (test : Item → Bool) (xs ys : List Item) → IsBeginning xs ys → list_any test ys ≡ false → list_any test xs ≡ false
 none_begun test xs ys b none = pick (list_any test xs) refl
   where
     pick : (x : Bool) → list_any test xs ≡ x → list_any test xs ≡ false

@@ -14,6 +14,7 @@ use Rattle.ulfm_laws.proofs.Flowing.{AreFlowing, gone_stopped}
 use Rattle.ulfm_laws.proofs.Honest.{IsHonest}
 use Rattle.ulfm_laws.proofs.Once.{once_of}
 use Rattle.ulfm_laws.proofs.OneGroup.{one_group}
+use Rattle.ulfm_laws.proofs.Ordered.{revoked_by_order}
 use Rattle.ulfm_laws.proofs.Own.{own_at}
 use Rattle.ulfm_laws.proofs.Proposing.{AllKeep, proposes_each}
 use Rattle.ulfm_laws.proofs.Taken.{taken_of}
@@ -79,11 +80,12 @@ module _ (job : JobView) (inboxes : Inboxes) (knows : List Known) (reports : Lis
   lawful = record {
     each = h.each;
     flow = h.flow;
+    one_order = h.one_order;
     known_each = h.known_each;
     answers = h.answers;
     agreed = h.agreed;
     gone = gone_stopped flowing;
-    revoked = h.revoked;
+    revoked = revoked_by_order h.one_order;
     entered = each_once;
     own = adopt_own;
     decisions = h.decisions;

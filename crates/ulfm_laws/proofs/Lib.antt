@@ -34,3 +34,8 @@ pub mod Outgoing
 pub mod Turns
 pub mod Agreeing
 pub mod Spent
+pub mod Owes
+pub mod Owing
+pub mod Times
+pub mod Ordered
+pub mod SentBefore

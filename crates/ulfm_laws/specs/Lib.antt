@@ -5,5 +5,6 @@ pub mod Causes
 pub mod Decisions
 pub mod Agreement
 pub mod Rest
+pub mod Order
 pub mod Reader
 pub mod Lawful

@@ -63,7 +63,7 @@ no_play form place bytes status text (stopped.no_room job is many) = no_job
 no_play form place bytes status text stopped.no_memory = no_job
 
 replayed : (form : Form) (is_strict : Bool) (turns : Option ℕ) (place : Place) (bytes : List ℕ) (status : ℕ) (text : List ℕ) → IsReplayReply form is_strict turns place bytes status text → IsKnown status
-replayed form is_strict turns place bytes status text (traced asked reports is played_so lawful rest) = played is_strict (as_asked asked.rows (given_turns turns asked.job) reports) (has_unfinished (given_turns turns asked.job) reports)
+replayed form is_strict turns place bytes status text (traced asked reports is rests) = played is_strict (as_asked asked.rows (given_turns turns asked.job) reports) (has_unfinished (given_turns turns asked.job) reports)
 replayed form is_strict turns place bytes status text (not_replayed k words is) = no_play form place bytes status text is
 replayed form is_strict turns place bytes status text (failed told) = run_fails
 
@@ -83,7 +83,7 @@ sweep_known form bytes status text unmade = no_job
 sweep_known form bytes status text (unswept told) = run_fails
 
 drawn_known : (form : Form) (turns : Option ℕ) (place : Place) (bytes : List ℕ) (status : ℕ) (text : List ℕ) → IsDrawReply form turns place bytes status text → IsKnown status
-drawn_known form turns place bytes status text (drawn asked reports picture is played_so lawful rest) = good_job
+drawn_known form turns place bytes status text (drawn asked reports picture is rests) = good_job
 drawn_known form turns place bytes status text (not_drawn k words is) = no_play form place bytes status text is
 drawn_known form turns place bytes status text (undrawn told) = run_fails
 
@@ -238,7 +238,7 @@ no_usage form show Check bytes status text (good_checked job is) = λ e. omega (
 no_usage form show Check bytes status text (refused f is) = λ e. omega (arith, e)
 no_usage form show Check bytes status text no_memory = λ e. omega (arith, e)
 no_usage form show Check bytes status text (starved told) = λ e. omega (arith, e)
-no_usage form show (Replay is_strict turns place) bytes status text (traced asked reports is played_so lawful rest) = not_usage is_strict (as_asked asked.rows (given_turns turns asked.job) reports) (has_unfinished (given_turns turns asked.job) reports)
+no_usage form show (Replay is_strict turns place) bytes status text (traced asked reports is rests) = not_usage is_strict (as_asked asked.rows (given_turns turns asked.job) reports) (has_unfinished (given_turns turns asked.job) reports)
 no_usage form show (Replay is_strict turns place) bytes status text (not_replayed k words is) = no_play_not_usage form place bytes status text is
 no_usage form show (Replay is_strict turns place) bytes status text (failed told) = λ e. omega (arith, e)
 no_usage form show (Run options) bytes status text (ran asked reports once is lawful) = not_usage options.is_strict (as_asked asked.rows (given_turns options.turns asked.job) reports) (has_unfinished (given_turns options.turns asked.job) reports)
@@ -261,7 +261,7 @@ no_usage form show Expand bytes status text (expanded.expanded plan t is whole) 
 no_usage form show Expand bytes status text (expanded.unexpanded f is) = λ e. omega (arith, e)
 no_usage form show Expand bytes status text expanded.full = λ e. omega (arith, e)
 no_usage form show Expand bytes status text (expanded.starved told) = λ e. omega (arith, e)
-no_usage form show (Draw style turns place) bytes status text (drawn asked reports picture is played_so lawful rest) = λ e. omega (arith, e)
+no_usage form show (Draw style turns place) bytes status text (drawn asked reports picture is rests) = λ e. omega (arith, e)
 no_usage form show (Draw style turns place) bytes status text (not_drawn k words is) = no_play_not_usage form place bytes status text is
 no_usage form show (Draw style turns place) bytes status text (undrawn told) = λ e. omega (arith, e)
 no_usage form show (Outcomes options) bytes status text h = by_used form show options.stops options bytes status text h

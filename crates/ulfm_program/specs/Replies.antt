@@ -10,8 +10,7 @@ use Rattle.ulfm_json.specs.Form.{trace_in}
 use Rattle.ulfm_json.specs.declared.form.Form.{Form}
 use Rattle.ulfm_laws.specs.Lawful.{IsLawful}
 use Rattle.ulfm_run.specs.Fault.{ShowUntrue}
-use Rattle.ulfm_run.specs.Ran.{AreOfRun}
-use Rattle.ulfm_world.specs.Replay.{IsReplayed, MadeAtRest}
+use Rattle.ulfm_world.specs.Replay.{MadeAtRest}
 use Rattle.ulfm_program.specs.Brief.{repeats_in}
 use Rattle.ulfm_program.specs.ListReply.{IsListReply}
 use Rattle.ulfm_program.specs.Sweep.{IsSweepReply}
@@ -36,8 +35,7 @@ given_turns turns job = option_map_or (λ n. with_turns n job) turns job
 -- ranks agree at its end on what failed and was revoked, on each shrink and on each agreement. With `--strict` it comes with 6
 -- exactly where a step was left unfinished. With `--turns` the job has that number of turns, and with `--stop` the stops of that place.
 pub data IsReplayReply (form : Form) (is_strict : Bool) (turns : Option ℕ) (place : Place) (bytes : List ℕ) : ℕ → List ℕ → Type 0 where
-  traced : (asked : Asked) (reports : List Report) → IsAskedAt place bytes asked → IsReplayed (given_turns turns asked.job) reports
-      → IsLawful (given_turns turns asked.job) reports → MadeAtRest (given_turns turns asked.job) reports
+  traced : (asked : Asked) (reports : List Report) → IsAskedAt place bytes asked → MadeAtRest (given_turns turns asked.job) reports
       → IsReplayReply form is_strict turns place bytes (played_status is_strict (as_asked asked.rows (given_turns turns asked.job) reports) (has_unfinished (given_turns turns asked.job) reports)) (trace_in form (names_at place bytes) (given_turns turns asked.job) reports)
   not_replayed : (status : ℕ) (text : List ℕ) → IsRefusal form place bytes status text → IsReplayReply form is_strict turns place bytes status text
   failed : (told : Form) → IsReplayReply form is_strict turns place bytes 3 (out_of_memory_in told)
@@ -45,21 +43,19 @@ pub data IsReplayReply (form : Form) (is_strict : Bool) (turns : Option ℕ) (pl
 -- The status and the text that `draw` gives for these bytes: with 0 the picture of a replay of the job, as `replay` tells of one. What stands in
 -- the picture isn't said here.
 pub data IsDrawReply (form : Form) (turns : Option ℕ) (place : Place) (bytes : List ℕ) : ℕ → List ℕ → Type 0 where
-  drawn : (asked : Asked) (reports : List Report) (picture : List ℕ) → IsAskedAt place bytes asked → IsReplayed (given_turns turns asked.job) reports
-      → IsLawful (given_turns turns asked.job) reports → MadeAtRest (given_turns turns asked.job) reports
+  drawn : (asked : Asked) (reports : List Report) (picture : List ℕ) → IsAskedAt place bytes asked → MadeAtRest (given_turns turns asked.job) reports
       → IsDrawReply form turns place bytes 0 picture
   not_drawn : (status : ℕ) (text : List ℕ) → IsRefusal form place bytes status text → IsDrawReply form turns place bytes status text
   undrawn : (told : Form) → IsDrawReply form turns place bytes 3 (out_of_memory_in told)
 
--- The same for `run`: with 0, 6 or 9, the trace of reports that are lawful for the job and have one order, whichever thread went
--- when; with 3 the line of what failed. F2 comes for a good job alone, and F4 only with reports of the job's ranks that
--- show it. With `--repeat` each distinct trace of so many such runs comes once with its count, and with `--brief` each distinct line.
+-- The same for `run`: with 0, 6 or 9, the trace of reports that are lawful for the job, whichever thread went when; with 3 the
+-- line of what failed. F2 comes for a good job alone, and F4 only with reports of the job's ranks that show it. With `--repeat` each distinct trace of so many such runs comes once with its count, and with `--brief` each distinct line.
 pub data IsRunReply (form : Form) (options : RunOptions) (bytes : List ℕ) : ℕ → List ℕ → Type 0 where
   ran : (asked : Asked) (reports : List Report) → options.repeat ≡ None → IsAskedAt options.place bytes asked
-      → AreOfRun (given_turns options.turns asked.job) reports
+      → IsLawful (given_turns options.turns asked.job) reports
       → IsRunReply form options bytes (played_status options.is_strict (as_asked asked.rows (given_turns options.turns asked.job) reports) (has_unfinished (given_turns options.turns asked.job) reports)) (trace_in form (names_at options.place bytes) (given_turns options.turns asked.job) reports)
   repeated : (asked : Asked) (runs : List (List Report)) → options.repeat ≡ Some (length runs) → IsAskedAt options.place bytes asked
-      → All (AreOfRun (given_turns options.turns asked.job)) runs
+      → All (IsLawful (given_turns options.turns asked.job)) runs
       → IsRunReply form options bytes (played_status options.is_strict (list_all (as_asked asked.rows (given_turns options.turns asked.job)) runs) (list_any (has_unfinished (given_turns options.turns asked.job)) runs)) (repeats_in form options.is_brief (given_turns options.turns asked.job) (length runs) (tally (map (trace_in form (names_at options.place bytes) (given_turns options.turns asked.job)) runs)))
   not_run : (status : ℕ) (text : List ℕ) → IsRefusal form options.place bytes status text → IsRunReply form options bytes status text
   no_thread : (asked : Asked) → IsAskedAt options.place bytes asked → IsRunReply form options bytes 3 (failed_in form run.NoThread)

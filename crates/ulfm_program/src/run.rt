@@ -11,7 +11,7 @@ ghost use Rattle.ulfm_program.specs.inside.Cells.{AreEnough};
 ghost use Rattle.ulfm_program.specs.Replies.{IsRunReply};
 ghost use Rattle.ulfm_program.specs.inside.Writing.{IsShown};
 ghost use Rattle.ulfm_replies.specs.CommandLine.{AreInRange};
-ghost use Rattle.ulfm_run.specs.Ran.{AreOfRun};
+ghost use Rattle.ulfm_laws.specs.Lawful.{IsLawful};
 
 use crate::tally::{tally_of, tally_reply};
 use crate::turns::given_turns;
@@ -80,7 +80,7 @@ pub fn run_by_carrier<R: Threads + Wait + Sync>(
     carrier: Carrier,
     job: &Job,
 ) -> Result<Vec<RankReport>, Failure>
-    ensures ran { IfOk result (λ reports. AreOfRun job.now reports.items) }
+    ensures ran { IfOk result (λ reports. IsLawful job.now reports.items) }
     ensures shown { IfErr result (λ failure. IsShown job.now failure) }
 {
     match carrier {
@@ -95,7 +95,7 @@ fn run_by_lanes<R: Threads + Wait + Sync>(
     alloc: Global,
     job: &Job,
 ) -> Result<Vec<RankReport>, Failure>
-    ensures ran { IfOk result (λ reports. AreOfRun job.now reports.items) }
+    ensures ran { IfOk result (λ reports. IsLawful job.now reports.items) }
     ensures shown { IfErr result (λ failure. IsShown job.now failure) }
 {
     match lanes_of(alloc, job) {
@@ -121,7 +121,7 @@ fn run_by_shared<R: Threads + Wait + Sync>(
     alloc: Global,
     job: &Job,
 ) -> Result<Vec<RankReport>, Failure>
-    ensures ran { IfOk result (λ reports. AreOfRun job.now reports.items) }
+    ensures ran { IfOk result (λ reports. IsLawful job.now reports.items) }
     ensures shown { IfErr result (λ failure. IsShown job.now failure) }
 {
     match shared_of(alloc, job) {
@@ -152,7 +152,7 @@ fn run_by<E: Ends + Send, R: Threads + Wait + Sync>(
     requires family { E.one_call (map E.name ends.items) }
     requires places { InPlace E.place ends.items }
     requires fresh { AllFresh E.count E.pushed E.taken E.ready ends.items }
-    ensures ran { IfOk result (λ reports. AreOfRun job.now reports.items) }
+    ensures ran { IfOk result (λ reports. IsLawful job.now reports.items) }
     ensures shown { IfErr result (λ failure. IsShown job.now failure) }
 {
     let deciders = match seats_of(alloc, job) {

@@ -11,7 +11,6 @@ pub use Rattle.ulfm_base.specs.declared.rank.WorldRank.{WorldRank}
 pub use Rattle.ulfm_carrier.specs.Family.{IsFresh, IsGathered, Keeps}
 pub use Rattle.ulfm_job.specs.Job.{script_at, JobView, IsJob}
 pub use Rattle.ulfm_laws.specs.Answers.{AgreeAt, AllAgree}
-pub use Rattle.ulfm_laws.specs.Causes.{is_call_to_revoke, RevokedByARank}
 pub use Rattle.ulfm_rank.specs.Facts.{is_stopped, IsSigned}
 pub use Rattle.ulfm_rank.specs.State.{IsState, State, GoesOut, logged, no_mark, outbox, returned, start_state, went_out}
 pub use Rattle.ulfm_rank.specs.declared.entry.Entry.{Entry}
@@ -20,7 +19,6 @@ pub use Rattle.ulfm_script.specs.Deciding.{Known}
 pub use Rattle.ulfm_script.specs.Player.{Player, PlayerView, with_rank}
 pub use Rattle.ulfm_script.specs.Report.{Report}
 pub use Rattle.ulfm_script.specs.inside.Underway.{GoesThrough, polls_left}
-pub use Rattle.ulfm_run.specs.Caused.{HasCause}
 pub use Rattle.ulfm_run.specs.Flow.{contents}
 pub use Rattle.ulfm_run.specs.inside.Played.{IsPlayed}
 pub use Rattle.ulfm_run.specs.inside.Threads.{NameOneBoard, EachFresh, GaveAnswers, IsOfJob, WerePlayed, begun_decider, begun_deciders, begun_end, begun_ends, decider_in, end_in, report_in}

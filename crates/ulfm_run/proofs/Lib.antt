@@ -9,7 +9,5 @@ pub mod Mapped
 pub mod Reporting
 pub mod Paired
 pub mod Served
-pub mod Causes
 pub mod Crossing
-pub mod Owes
 pub mod Walked

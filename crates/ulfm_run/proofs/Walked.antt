@@ -1,11 +1,12 @@
 -- A walk over all logs finds an order where there is one.
-use Rattle.std.proofs.Common.{◌≡◌, ◌<◌, ◌≤◌, ◌+◌, ◌⊎◌, ℕ, zero, suc, Bool, true, false, cond, eqb, ◌&&◌, List, [], ◌∷◌, length, take, set, replicate, slice_index, refl, ap, sym, subst, ◌∙◌, inl, inr, arith, get_or-set_same, get_or-set_other}
+use Rattle.std.proofs.Common.{◌≡◌, ◌<◌, ◌≤◌, ◌+◌, ◌⊎◌, ℕ, zero, suc, List, [], ◌∷◌, length, take, set, replicate, slice_index, refl, ap, sym, subst, ◌∙◌, inl, inr, arith, get_or-set_same, get_or-set_other}
 use Rattle.std.proofs.lemmas.List.{length-set}
 use Rattle.ulfm_rank.specs.declared.entry.Entry.TheVariants.{Took}
 use Rattle.ulfm_base.proofs.Places.{only_at}
-use Rattle.ulfm_run.proofs.Common.{at, there, Entry, Item, Report, WorldRank, cases_eq, cases_lt, eq-eqb, eqb-true, get_or-blank, none-some, same_Some, slice_get_within}
-use Rattle.ulfm_run.proofs.Owes.{owe_later, owe_whole}
-use Rattle.ulfm_run.specs.Order.{Owe, IsOwedEarlier, HaveOneOrder}
+use Rattle.ulfm_run.proofs.Common.{at, there, Entry, Item, Report, WorldRank, cases_eq, cases_lt, get_or-blank, none-some, same_Some, slice_get_within}
+use Rattle.ulfm_laws.proofs.Owes.{owe_later, owe_whole}
+use Rattle.ulfm_laws.proofs.Times.{time_else, time_here, with_time}
+use Rattle.ulfm_laws.specs.Order.{Owe, IsOwedEarlier, HaveOneOrder}
 use Rattle.ulfm_run.specs.inside.Walk.{IsOwedByWalked, MayPass, GoesOn, StepsOn, IsOwedWithin, IsWalked, AreAtEnds, entries_left}
 
 none_yet : (r k : ℕ) → k < slice_index (replicate 8 0) r → ⊥
@@ -21,21 +22,6 @@ walked_none reports = record {
   onward = λ r k h. absurd (none_yet r (k + 1) h);
   owed = λ d k receiver source item here h stands. absurd (none_yet d k h);
 }
-
--- times with one more, for place f of the rank d
-abbrev with_time : (ℕ → ℕ → ℕ) → ℕ → ℕ → ℕ → ℕ → ℕ → ℕ
-with_time time d f now r k = cond (eqb r d && eqb k f) now (time r k)
-
-time_here : (time : ℕ → ℕ → ℕ) (d f now r k : ℕ) → r ≡ d → k ≡ f → with_time time d f now r k ≡ now
-time_here time d f now r k one two = ap (λ b. cond (b && eqb k f) now (time r k)) (eq-eqb r d one) ∙ ap (λ b. cond b now (time r k)) (eq-eqb k f two)
-
-time_else : (time : ℕ → ℕ → ℕ) (d f now r k : ℕ) → (r ≡ d → k ≡ f → ⊥) → with_time time d f now r k ≡ time r k
-time_else time d f now r k other = pick (eqb r d) (eqb k f) (λ a b. other (eqb-true r d a) (eqb-true k f b))
-  where
-    pick : (a b : Bool) → (a ≡ true → b ≡ true → ⊥) → cond (a && b) now (time r k) ≡ time r k
-    pick true true apart = absurd (apart refl refl)
-    pick true false apart = refl
-    pick false b apart = refl
 
 -- a place that is walked after a step is the new one, or was walked before
 walked_cases : (old : List ℕ) (d r k : ℕ) → d < length old → k < slice_index (set old d (slice_index old d + 1)) r

@@ -6,18 +6,18 @@ ghost use Rattle.ulfm_base.specs.Lists.{InPlace, at};
 ghost use Rattle.ulfm_board.specs.Known.{OneBoard};
 ghost use Rattle.ulfm_carrier.specs.Family.{AllFresh, Keeps, IsGathered};
 ghost use Rattle.ulfm_laws.specs.Answers.{AllAgree};
-ghost use Rattle.ulfm_laws.specs.Causes.{RevokedByARank};
 ghost use Rattle.ulfm_laws.specs.Lawful.{LawfulReport};
+ghost use Rattle.ulfm_laws.specs.Order.{HaveOneOrder};
 ghost use Rattle.ulfm_laws.specs.Reports.{IsEach};
 ghost use Rattle.ulfm_laws.specs.Decisions.{AreTrue};
 ghost use Rattle.ulfm_run.specs.inside.Threads.{NameOneBoard, report_in, end_in, decider_in};
 ghost use Rattle.ulfm_run.specs.Fault.{ShowUntrue, Fits};
 ghost use Rattle.ulfm_run.specs.Flow.{EndsMatchLogs, contents};
-ghost use Rattle.ulfm_run.specs.Order.{HaveOneOrder};
 ghost use Rattle.ulfm_script.specs.Report.{Report as Told};
 
-use crate::caused::are_borne_out;
+use crate::adopted::are_true;
 use crate::comparing::compared;
+use crate::order::have_one_order;
 use crate::report::Report;
 use crate::threads::{Unplayed, play_all};
 use crate::worker::Ran;
@@ -32,19 +32,18 @@ use ulfm_script::{Job, RankReport, RunFault};
 /// number. In a turn a rank pushes all that its outboxes hold and the inboxes have room for, takes one item, and polls its
 /// step once; a step that the job's last poll for it left open is given up. After its last step it goes on for at most as many
 /// turns without polls, until all ranks have finished and then 100 turns in a row moved nothing; where it stopped, it pushes
-/// alone, until nothing is left to go out. Then the decisions that ranks adopted, the revocations that they took notice of, and
-/// the order of all that they took and sent are held against what the ranks report. What is left in the inboxes is gathered, and
-/// the deciders are compared: no two know two decisions on one topic. No clause tells of threads, nor of the order in a turn, nor
-/// how many turns there are (docs/LIMITS.md).
+/// alone, until nothing is left to go out. Then the decisions that ranks adopted, and the order of all that they took and sent, are
+/// held against what the ranks report. What is left in the inboxes is gathered, and the deciders are compared: no two know two
+/// decisions on one topic. No clause tells of threads, nor of the order in a turn, nor how many turns there are (docs/LIMITS.md).
 ///
 /// # Errors
 ///
 /// `BadEnds` where the number of ends or of deciders isn't that of the ranks, or an end stands at another place than its
 /// number; no thread is started then. `NoThread` where a thread couldn't be started, `OutOfMemory` where a growth outside the
 /// turns of the ranks was refused, `Untrue` where a decision that a rank adopted lists a set or a flag that isn't that of its rank's
-/// own entry, or excludes a rank that didn't stop, where a rank took notice of a revocation that no rank's own call made, or where
-/// the logs have no one order, as when two ranks each took a letter before they sent theirs; the threads that were started have
-/// run to their end then.
+/// own entry, or excludes a rank that didn't stop, or where the logs have no one order, as when two ranks each took a letter before
+/// they sent theirs, or a rank took notice of a revocation that no rank's own call made; the threads that were started have run to
+/// their end then.
 pub fn run_job<E, D, R>(
     rt: &R,
     alloc: Global,
@@ -69,7 +68,6 @@ where
     ensures same_ends { IfOk result (λ report. map E.name report.ends.items ≡ map E.name ends.items) }
     ensures same_boards { IfOk result (λ report. map D.board report.deciders.items ≡ map D.board deciders.items) }
     ensures lawful { IfOk result (λ report. LawfulReport job.now (contents report.residue.inboxes.items) (map D.known report.deciders.items) report.ranks.items) }
-    ensures one_order { IfOk result (λ report. HaveOneOrder report.ranks.items) }
 {
     if !fits(job, &ends, &deciders) {
         return Err(RunFault::BadEnds);
@@ -100,9 +98,8 @@ fn report_of<E: Ends, D: Decider, R: Wait>(
     ensures known { IfOk result (λ report. map D.known report.deciders.items ≡ map D.known (map decider_in ran.items)) }
     ensures agree { IfOk result (λ report. AllAgree (map D.known report.deciders.items)) }
     ensures decisions { IfOk result (λ report. AreTrue report.ranks.items) }
-    ensures revoked { IfOk result (λ report. RevokedByARank report.ranks.items) }
     ensures one_order { IfOk result (λ report. HaveOneOrder report.ranks.items) }
-    ensures untrue { IfErr result (λ fault. (reports : Listed Told Heap) → fault ≡ RunFault.Untrue reports → (reports.items ≡ map report_in ran.items) × (AreTrue reports.items × RevokedByARank reports.items × HaveOneOrder reports.items → ⊥)) }
+    ensures untrue { IfErr result (λ fault. (reports : Listed Told Heap) → fault ≡ RunFault.Untrue reports → (reports.items ≡ map report_in ran.items) × (AreTrue reports.items × HaveOneOrder reports.items → ⊥)) }
     ensures fits { IfErr result (λ fault. fault ≡ RunFault.BadEnds → ⊥) }
 {
     let count = ran.len();
@@ -121,6 +118,15 @@ fn report_of<E: Ends, D: Decider, R: Wait>(
         ends,
         deciders,
     })
+}
+
+/// Whether the decisions that ranks adopted are true of what the ranks report, and all logs have one order. It never answers out
+/// of memory.
+fn are_borne_out(reports: &[RankReport]) -> bool
+    requires { length reports.now ≤ 8 }
+    ensures { IsTrue result ↔ (AreTrue reports.now × HaveOneOrder reports.now) }
+{
+    are_true(reports) && have_one_order(reports)
 }
 
 /// Whether there is an end and a decider for each rank, and each end stands at the place of its number.

@@ -8,7 +8,6 @@
 
 mod adopted;
 mod at_work;
-mod caused;
 mod comparing;
 mod finished;
 mod job;

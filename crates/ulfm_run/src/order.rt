@@ -1,6 +1,6 @@
 //! One order of all that ranks report: what is taken is taken after the entry that owes it (MPI 4.0, 3.5; ULFM).
 ghost use Rattle.std.specs.Prelude.{◌≡◌, ◌≤◌, ◌↔◌, ℕ, IsTrue, IfSome, IfNone, false, length, take};
-ghost use Rattle.ulfm_run.specs.Order.{HaveOneOrder};
+ghost use Rattle.ulfm_laws.specs.Order.{HaveOneOrder};
 ghost use Rattle.ulfm_run.specs.inside.Walk.{GoesOn, MayPass, IsOwedByWalked, StepsOn, AreAtEnds};
 
 use crate::owing::owe;

@@ -16,7 +16,7 @@ grew-adds r stops s (inr one) = record {
   log = ap (λ (t : State). t.log) one.only;
 }
 
-stop_entry : (e : Entry) → is_stop e ≡ true → e ≡ Stopped
+pub stop_entry : (e : Entry) → is_stop e ≡ true → e ≡ Stopped
 stop_entry Stopped h = refl
 stop_entry _ h = absurd (false≢true h)
 

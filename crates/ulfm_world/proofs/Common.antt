@@ -10,11 +10,11 @@ pub use Rattle.ulfm_base.specs.declared.contribution.Contribution.{Contribution}
 pub use Rattle.ulfm_base.specs.declared.entrance.Entrance.{Entrance}
 pub use Rattle.ulfm_base.specs.declared.topic.Topic.{Topic}
 pub use Rattle.ulfm_base.specs.Topic.{shrink_topic}
-pub use Rattle.ulfm_rank.specs.Facts.{is_stopped, IsSigned, is_gone, is_revoked, is_stop, item_revokes, revokes, took, took_by}
+pub use Rattle.ulfm_rank.specs.Facts.{is_stopped, IsSigned, is_gone, is_revoked, is_stop, revokes, took, took_by}
 pub use Rattle.ulfm_rank.specs.Proposal.{deciders, has_adopted}
 pub use Rattle.ulfm_rank.specs.State.{State, logged, outbox, GoesOut, IsState, mark_at, marked, no_mark, owes, start_state, went_out}
 pub use Rattle.ulfm_rank.specs.declared.entry.Entry.{Entry}
-pub use Rattle.ulfm_rank.specs.declared.entry.Entry.TheVariants.{Took, Adopted, Revoked}
+pub use Rattle.ulfm_rank.specs.declared.entry.Entry.TheVariants.{Took, Adopted}
 pub use Rattle.ulfm_board.specs.Known.{known_at}
 pub use Rattle.ulfm_job.specs.Job.{JobView, script_at, IsJob}
 pub use Rattle.ulfm_script.specs.Calls.{EntersBy, LeavesOpen}
@@ -41,7 +41,7 @@ pub use Rattle.ulfm_base.specs.RankSet.{has}
 pub use Rattle.ulfm_base.specs.declared.error.CallError.{CallError}
 pub use Rattle.ulfm_base.specs.declared.error.CallError.TheVariants.{OutOfMemory}
 pub use Rattle.ulfm_laws.proofs.AtRest.{agrees-revoked, knows-stopped}
-pub use Rattle.ulfm_laws.specs.Lawful.{AreProduced, IsLawful, KnowAtRest}
+pub use Rattle.ulfm_laws.specs.Lawful.{AreProduced, KnowAtRest}
 pub use Rattle.ulfm_laws.specs.Reader.{AllHasCome, ComeAsSent, DoneIsGiven, DonesDiffer, FoundIsGiven, GivesOnce, HasOnePairing, IsFaithful, LettersKeepOrder, NoneIsMissed, OverIsTrue, ReceivesKeepOrder}
 pub use Rattle.ulfm_laws.specs.Decisions.{AdoptOne, AdoptsTruly, EntersEachOnce, HasOneGroup, IsTrueOf, ProposesEach}
 pub use Rattle.ulfm_rank.proofs.Belonging.{IsOwn, Keeps, keeps-push, keeps-start, not_foreign}
@@ -63,7 +63,7 @@ pub use Rattle.ulfm_base.proofs.Places.{get_or-blank}
 pub use Rattle.ulfm_base.specs.Decision.{entry_at, in_entry, is_listed}
 pub use Rattle.ulfm_laws.proofs.Flowing.{AreFlowing, gone_stopped, listed_own}
 pub use Rattle.ulfm_laws.proofs.Given.{done_given, dones_differ, found_given, gives_once, over_true}
-pub use Rattle.ulfm_laws.specs.Causes.{GoneHaveStopped, RevokedByARank, RevokedByCall, is_call_to_revoke}
+pub use Rattle.ulfm_laws.specs.Causes.{GoneHaveStopped, RevokedByARank, is_call_to_revoke}
 pub use Rattle.ulfm_laws.specs.Flow.{Flow, Flows}
 pub use Rattle.ulfm_rank.proofs.Firsts.{some_from}
 pub use Rattle.ulfm_rank.proofs.Logs.{owed_by_few, owes-logged, stopped-push, took-push}

@@ -1,6 +1,6 @@
 -- A replay from its start to rest.
-use Rattle.std.proofs.Common.{◌≡◌, ℕ, ◌<◌, Bool, List, [], length, map, refl, ap, sym, subst, ◌∙◌, arith, inl, inr}
-use Rattle.ulfm_world.proofs.Common.{WorldRank, Item, is_stopped, Player, Report, World, rank_at, inbox_at, start_world, report_of, IsAtRest, cases_Bool, JobView, Follows, Moves, IsStuck, IsUnderway, AllHaveFinished, IsReplayed, GoesThrough, PerInbox, PerPair, Room, places, taken_places}
+use Rattle.std.proofs.Common.{◌≡◌, ℕ, ◌<◌, Bool, List, [], length, refl, ap, sym, subst, ◌∙◌, arith, inl, inr}
+use Rattle.ulfm_world.proofs.Common.{WorldRank, Item, is_stopped, Player, World, rank_at, inbox_at, start_world, IsAtRest, cases_Bool, JobView, Follows, Moves, IsStuck, IsUnderway, AllHaveFinished, GoesThrough, PerInbox, PerPair, Room, places, taken_places}
 use Rattle.ulfm_script.proofs.Reacting.{finished-running, finished-stopped, goes-start}
 use Rattle.ulfm_world.proofs.Starts.{player-start, length-start}
 use Rattle.ulfm_world.proofs.Runs.{reaches-then}
@@ -32,7 +32,7 @@ pub taken-none : (room : Room) (s : ℕ) → taken_places room s [] ≡ 0
 taken-none (PerInbox n) s = refl
 taken-none (PerPair n) s = refl
 
-stuck-rest : (j : JobView) (w : World) → 0 < places w.room → ((r : ℕ) → r < length w.players → IsStuck j w r) → IsAtRest w
+pub stuck-rest : (j : JobView) (w : World) → 0 < places w.room → ((r : ℕ) → r < length w.players → IsStuck j w r) → IsAtRest w
 stuck-rest j w roomy h = record {
   served = λ d k running. record {
     inbox = (h d k).takes running;
@@ -50,15 +50,5 @@ stuck-answered j w f h r k = elim (cases_Bool (is_stopped (rank_at w r).log)) [
   | inl stopped ↦ finished-stopped (f r k) stopped
   | inr running ↦ finished-running (f r k) running ((h r k).polls running)
 ]
-
--- the reports of a world that came to rest
-pub replayed : {j : JobView} {w : World} {reports : List Report} → 0 < j.capacity → IsUnderway j w → ((r : ℕ) → r < length w.players → IsStuck j w r) → reports ≡ map report_of w.players → IsReplayed j reports
-replayed {j} {w} roomy came stuck is = record {
-  world = w;
-  reaches = came.reaches;
-  rests = stuck-rest j w (rw came.room roomy) stuck;
-  answered = stuck-answered j w came.follows stuck;
-  reported = is;
-}
 
 pub ruleset rests = (came-start, came-moves)

@@ -1,23 +1,25 @@
 -- The reports of a replay are lawful.
 use Rattle.std.proofs.Common.{◌≡◌, ℕ, ◌<◌, true, List, [], length, refl, ap, sym, subst, ◌∙◌, arith, Option, Some, None, is_some}
-use Rattle.ulfm_world.proofs.Common.{Topic, Decision, is_member, at, Entry, Adopted, Report, World, player_at, rank_at, report_of, reports_in, IsWorld, same_Some, slice_get_within, get_or_from_slice_get, Known, IsTrueOf, AdoptsTruly, JobView, IsJob, known_for, IsStuck, IsUnderway, AllHaveFinished, AreProduced, IsLawful, PerInbox}
+use Rattle.ulfm_world.proofs.Common.{Topic, Decision, is_member, at, Entry, Adopted, Report, World, player_at, rank_at, report_of, reports_in, IsWorld, same_Some, slice_get_within, get_or_from_slice_get, Known, IsTrueOf, AdoptsTruly, JobView, IsJob, known_for, IsStuck, IsUnderway, AllHaveFinished, AreProduced, IsReplayed, MadeAtRest, PerInbox}
 use Rattle.ulfm_board.specs.Known.{BothAgree, known_at}
 use Rattle.ulfm_match.proofs.Exists.{some_pairing}
 use Rattle.ulfm_rank.specs.History.{history_of}
 use Rattle.ulfm_rank.specs.Paired.{IsPaired}
 use Rattle.ulfm_rank.proofs.Pairings.{paired}
 use Rattle.ulfm_script.specs.Answered.{AnswersFollow}
+use Rattle.ulfm_laws.specs.Lawful.{LawfulReport}
 use Rattle.ulfm_script.specs.Played.{FollowsScript}
 use Rattle.ulfm_script.proofs.Honestly.{honest-answers}
 use Rattle.ulfm_laws.proofs.Closing.{IsTrueOf as TrueOfLog}
 use Rattle.ulfm_laws.proofs.Lawful.{lawful}
 use Rattle.ulfm_laws.proofs.Taken.{took_none}
 use Rattle.ulfm_world.proofs.Agreed.{IsHeld, Settled}
-use Rattle.ulfm_world.proofs.Caused.{revoked_by_a_rank}
-use Rattle.ulfm_world.proofs.Ends.{stuck-answered}
+use Rattle.ulfm_world.proofs.Ends.{stuck-answered, stuck-rest}
 use Rattle.ulfm_world.proofs.Honesty.{true-reached}
+use Rattle.ulfm_world.proofs.OneOrder.{one_order}
 use Rattle.ulfm_world.proofs.Read.{many_reports, report_there, each_report, flowing-world, world-reached}
 use Rattle.ulfm_world.proofs.Safe.{settled-reached, held-safe, adopts-held}
+use Rattle.ulfm_world.proofs.Settled.{settled_with}
 
 -- two that know no other decision than a third agree
 both_agree : (a b c : Option Decision) → ((d : Decision) → a ≡ Some d → c ≡ Some d) → ((d : Decision) → b ≡ Some d → c ≡ Some d) → BothAgree a b
@@ -93,9 +95,12 @@ module _ (j : JobView) (w : World) (job : IsJob j) (came : IsUnderway j w) (stuc
     answers = has_answers;
     agreed = λ r s one other here there c. both_agree (known_at one c) (known_at other c) (known_at w.decided c) (λ d e. known_held r c d here e) (λ d e. known_held s c d there e);
     decisions = each_report (λ s told. (k : ℕ) (entry : Entry) → at told.rank.log k entry → AdoptsTruly (reports_in w) entry) w adopts_truly;
-    revoked = revoked_by_a_rank j.ranks (PerInbox j.capacity) w job.few_ranks came.reaches;
+    one_order = one_order j.ranks (PerInbox j.capacity) w job.few_ranks came.reaches;
   }
 
-  pub lawful-replay : {reports : List Report} → reports ≡ reports_in w → IsLawful j reports
-  lawful-replay is =
-      subst (λ (rs : List Report). IsLawful j rs) (sym is) (record { inboxes = w.inboxes; knows = came.answers.knows; lawful = lawful j w.inboxes came.answers.knows (reports_in w) produced })
+  -- what the replay gives
+  pub made-replay : {reports : List Report} → 0 < j.capacity → reports ≡ reports_in w → MadeAtRest j reports
+  made-replay {reports} roomy is =
+      let replayed : IsReplayed j reports = record { world = w; reaches = came.reaches; rests = stuck-rest j w (rw came.room roomy) stuck; answered = answered; reported = is } in
+      settled_with job replayed came.answers.knows came.answers.held
+      (subst (λ (rs : List Report). LawfulReport j w.inboxes came.answers.knows rs) (sym is) (lawful j w.inboxes came.answers.knows (reports_in w) produced))

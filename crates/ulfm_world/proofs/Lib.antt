@@ -31,7 +31,8 @@ pub mod Kept
 pub mod Shrunk
 pub mod Read
 pub mod Rightly
-pub mod Caused
+pub mod Ordered
+pub mod OneOrder
 pub mod Made
 pub mod Lawful
 pub mod Swept

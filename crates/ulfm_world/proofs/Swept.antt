@@ -1,6 +1,6 @@
 -- What a sweep counts, and in which order.
 use Rattle.std.proofs.Common.{◌≡◌, ℕ, ◌+◌, ◌<◌, ◌≤◌, List, [], ◌∷◌, ◌++◌, append_assoc, length, map, get_or, All, Bool, true, false, cond, sym, ap, ◌∙◌, arith}
-use Rattle.ulfm_world.proofs.Common.{slice_get-get_or, StepAnswer, flat_map, range_with_len, sum_by, length-map, map-id, map_push, StepReport, JobView, IsJob, script_at, IsLawful, answers_of, place_of, places_in, Step}
+use Rattle.ulfm_world.proofs.Common.{slice_get-get_or, StepAnswer, flat_map, range_with_len, sum_by, length-map, map-id, map_push, StepReport, JobView, IsJob, script_at, MadeAtRest, answers_of, place_of, places_in, Step}
 use Rattle.std.proofs.lemmas.List.FromFn.{map-range_with_len_more}
 use Rattle.std.proofs.lemmas.List.Sums.{count_by-le-length, get_or-le-sum_by, sum_by-le, sum_by-le-sum_by}
 use Rattle.ulfm_base.specs.Lists.{at}
@@ -22,7 +22,7 @@ script_few : (j : JobView) (r : ℕ) → IsJob j → r < j.ranks → length (scr
 script_few j r is lt = let le = get_or-le-sum_by length j.scripts r [] (omega (arith, is.script_each, lt)) in omega (arith, le, is.most_steps)
 
 -- the ranks of a job answer few steps
-pub steps_few : (j : JobView) (reports : List Report) → IsJob j → IsLawful j reports → sum_by (λ (report : Report). length report.steps) reports ≤ 65535
+pub steps_few : (j : JobView) (reports : List Report) → IsJob j → MadeAtRest j reports → sum_by (λ (report : Report). length report.steps) reports ≤ 65535
 steps_few j reports is h =
     let each : All (λ (report : Report). length report.steps ≤ 256) reports = λ k d lt. few k (get_or reports k d) lt (slice_get-get_or reports k d lt) in
     let most = sum_by-le (λ (report : Report). length report.steps) 256 reports each in

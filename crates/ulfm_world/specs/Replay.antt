@@ -1,14 +1,18 @@
 -- What a replay reaches: each rank goes through its script, until nothing is left to do.
-use Rattle.std.specs.Prelude.{◌≡◌, ℕ, List, ◌<◌, length}
+use Rattle.std.specs.Prelude.{◌≡◌, ℕ, List, [], ◌<◌, length, slice_index_or, Some}
+use Rattle.ulfm_base.specs.declared.decision.Decision.{Decision}
+use Rattle.ulfm_base.specs.declared.topic.Topic.{Topic}
+use Rattle.ulfm_board.specs.Known.{known_at}
+use Rattle.ulfm_script.specs.Deciding.{Known}
 use Rattle.ulfm_script.specs.Report.{Report}
 use Rattle.ulfm_script.specs.Script.{HasFinished}
 use Rattle.ulfm_job.specs.Job.{JobView}
 use Rattle.ulfm_world.specs.declared.room.Room.TheVariants.{PerInbox}
 use Rattle.ulfm_world.specs.World.{World, player_at, Reaches, start_world, reports_in}
-use Rattle.ulfm_laws.specs.Lawful.{KnowAtRest}
+use Rattle.ulfm_laws.specs.Lawful.{KnowAtRest, LawfulReport}
 use Rattle.ulfm_world.specs.Rest.{IsAtRest}
 use Rattle.ulfm_world.specs.Made.{MadeSafely}
-use Rattle.ulfm_world.specs.Safe.{KeepsDecisions}
+use Rattle.ulfm_world.specs.Safe.{KeepsDecisions, decided_at}
 
 -- each player answered its script
 abbrev pub AllHaveFinished : JobView → World → Type 0
@@ -22,12 +26,15 @@ pub record IsReplayed (j : JobView) (reports : List Report) : Type 0 where
   pub answered : AllHaveFinished j world
   pub reported : reports ≡ reports_in world
 
--- What a replay has beside lawful reports, since it ends at rest: at that rest each running rank knows each stopped one, all
--- agree on revocations, and running members of a communicator whose shrink all of them entered have proposals; and since a
--- decision is seen when it is made: in the world that it ended in shrinks were safe, and each decision held there was safe when its
--- schedule made it. A run of threads may end before rest, and shows its decisions in reports alone.
+-- What a replay gives, of the world that it ended in: the reports are lawful with what is left in its inboxes, and with decisions
+-- known for each rank that are held there. At that rest each running rank knows each stopped one, all agree on revocations, and
+-- running members of a communicator whose shrink all of them entered have proposals. Shrinks were safe, and each decision held there
+-- was safe when its schedule made it. A run of threads may end before rest, and shows its decisions in reports alone.
 pub record MadeAtRest (j : JobView) (reports : List Report) : Type 0 where
   pub replayed : IsReplayed j reports
+  pub knows : List Known
+  pub held : (r : ℕ) (topic : Topic) (d : Decision) → r < length replayed.world.players → known_at (slice_index_or knows r []) topic ≡ Some d → decided_at replayed.world topic ≡ Some d
+  pub lawful : LawfulReport j replayed.world.inboxes knows reports
   pub known : KnowAtRest reports
   pub safe : KeepsDecisions replayed.world
   pub made : MadeSafely (start_world j.ranks (PerInbox j.capacity)) replayed.reaches.0 replayed.world

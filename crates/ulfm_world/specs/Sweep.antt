@@ -8,11 +8,10 @@ use Rattle.ulfm_script.specs.declared.answer.StepAnswer.TheVariants.{Done, Over,
 use Rattle.ulfm_script.specs.declared.answer.StepReport.{StepReport}
 use Rattle.ulfm_script.specs.declared.fault.RunFault.TheVariants as failed
 use Rattle.ulfm_script.specs.Report.{Report, is_unfinished}
-use Rattle.ulfm_laws.specs.Lawful.{IsLawful}
 use Rattle.ulfm_world.specs.declared.fault.SweepFault.{SweepFault}
 use Rattle.ulfm_world.specs.declared.fault.SweepFault.TheVariants.{Job, Run}
 use Rattle.ulfm_world.specs.declared.line.SweepLine.{SweepLine}
-use Rattle.ulfm_world.specs.Replay.{IsReplayed, MadeAtRest}
+use Rattle.ulfm_world.specs.Replay.{MadeAtRest}
 
 -- a wait, a late cancel or a receive of what a probe found got a letter
 abbrev pub is_done : StepAnswer → Bool
@@ -65,8 +64,6 @@ place_of line = (line.rank, line.at)
 -- a line counts the answers in reports that a replay of the job with its stop gives
 pub record IsSwept (j : JobView) (line : SweepLine) : Type 0 where
   pub reports : List Report
-  pub replayed : IsReplayed (with_stop line.rank line.at j) reports
-  pub lawful : IsLawful (with_stop line.rank line.at j) reports
   pub settled : MadeAtRest (with_stop line.rank line.at j) reports
   pub counted : line ≡ line_of line.rank line.at reports
 

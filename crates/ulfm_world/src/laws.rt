@@ -2,6 +2,7 @@
 ghost use Rattle.std.specs.Prelude.{ℕ, ◌≤◌, List};
 ghost use Rattle.ulfm_laws.specs.Causes.{GoneHaveStopped, RevokedByARank};
 ghost use Rattle.ulfm_laws.specs.Flow.{Flows};
+ghost use Rattle.ulfm_laws.specs.Order.{HaveOneOrder};
 ghost use Rattle.ulfm_laws.specs.Reader.{AllHasCome, ComeAsSent, DoneIsGiven, DonesDiffer, FoundIsGiven, GivesOnce, HasOnePairing, IsFaithful, LettersKeepOrder, NoneIsMissed, OverIsTrue, ReceivesKeepOrder};
 ghost use Rattle.ulfm_laws.specs.Rest.{KnowsStopped, AgreesOnRevoked};
 ghost use Rattle.ulfm_laws.specs.Decisions.{AdoptOne, HasOneGroup, ProposesEach};
@@ -38,6 +39,13 @@ pub fn agreed_at_rest()
 pub fn gone_has_stopped()
     ensures worlds { InEachWorld GoneHaveStopped }
     ensures replays { InEachReplay GoneHaveStopped }
+{}
+
+/// Whatever events come, all logs have one order: a time for each entry of each rank, rising in each log, such that what is taken
+/// is owed earlier (MPI 4.0, 3.5; ULFM).
+pub fn one_order()
+    ensures worlds { InEachWorld HaveOneOrder }
+    ensures replays { InEachReplay HaveOneOrder }
 {}
 
 /// Whatever events come, each context that is revoked at a rank was revoked by some rank's own call (ULFM, revocation).

@@ -3,9 +3,8 @@
 mod polling;
 
 ghost use Rattle.std.specs.Prelude.{◌≡◌, ◌<◌, ℕ, length, false, IfErr, IfOk, OnOk};
-ghost use Rattle.ulfm_laws.specs.Lawful.{IsLawful};
 ghost use Rattle.ulfm_world.specs.inside.Rounds.{Moves, Follows, IsStuck};
-ghost use Rattle.ulfm_world.specs.Replay.{IsReplayed, MadeAtRest};
+ghost use Rattle.ulfm_world.specs.Replay.{MadeAtRest};
 
 use crate::event::{Event, Refused};
 use crate::world::World;
@@ -29,8 +28,6 @@ use ulfm_script::{Hands, Job, RankReport, RunFault, turn};
 /// `OutOfMemory` where a growth outside the poll of a step is refused.
 #[tactic(auto, using(crate::proofs::Ends::rests))]
 pub fn replay(alloc: Global, job: &Job) -> Result<Vec<RankReport>, RunFault>
-    ensures replayed { IfOk result (λ reports. IsReplayed job.now reports.items) }
-    ensures lawful { IfOk result (λ reports. IsLawful job.now reports.items) }
     ensures settled { IfOk result (λ reports. MadeAtRest job.now reports.items) }
     ensures refused { IfErr result (λ fault. fault ≡ RunFault.OutOfMemory) }
 {

@@ -6,7 +6,7 @@ use Rattle.ulfm_base.specs.Lists.{at}
 use Rattle.ulfm_rank.specs.declared.entry.Entry.{Entry}
 use Rattle.ulfm_rank.specs.declared.entry.Entry.TheVariants.{Took}
 use Rattle.ulfm_script.specs.Report.{Report}
-use Rattle.ulfm_run.specs.Order.{Owe, IsOwedEarlier}
+use Rattle.ulfm_laws.specs.Order.{Owe, IsOwedEarlier}
 
 -- the entries that were walked of the rank s owe this item to the rank d, whose log was `before`
 pub record IsOwedByWalked (reports : List Report) (fronts : List ℕ) (s d : ℕ) (before : List Entry) (item : Item) : Type 0 where

@@ -2,8 +2,7 @@ use Rattle.std.proofs.Common.{◌≡◌, ap, string_bytes, subst}
 use Rattle.std.proofs.lemmas.Result.{IfOk-weaker}
 use Rattle.ulfm_job.specs.Job.{JobView}
 use Rattle.ulfm_reader.specs.declared.reading.Reading.{Reading}
-use Rattle.ulfm_laws.specs.Lawful.{IsLawful}
-use Rattle.ulfm_world.specs.Replay.{IsReplayed, MadeAtRest}
+use Rattle.ulfm_world.specs.Replay.{MadeAtRest}
 use Rattle.ulfm_replies.specs.Stopped.{IsAsked, asked_view}
 use Rattle.ulfm_program.specs.Replies.{drawn, given_turns, not_drawn}
 use Rattle.ulfm_program.proofs.picture.draw_reply.Goals as goal
@@ -17,6 +16,4 @@ returns-in-Ok-replay c =
     let asked = subst (IsAsked c.args.form c.args.place c.args.bytes.now) c.in-Ok.is c.in_ok-read.ensures in
     let job : c.given_turns-asked.result.job ≡ given_turns c.args.turns c.in-Ok.asked.job = ap (λ (asked : Reading). asked.job) c.given_turns-asked.ensures in
     IfOk-weaker c.picture_of.result _ _ (λ r h. rw h (drawn (asked_view c.in-Ok.asked) reports (string_bytes r.text) asked
-    (subst (λ (j : JobView). IsReplayed j reports) job c.in-Ok-replay.ensures.replayed)
-    (subst (λ (j : JobView). IsLawful j reports) job c.in-Ok-replay.ensures.lawful)
     (subst (λ (j : JobView). MadeAtRest j reports) job c.in-Ok-replay.ensures.settled))) c.picture_of.ensures

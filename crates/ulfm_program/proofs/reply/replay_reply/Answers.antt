@@ -2,8 +2,7 @@ use Rattle.std.proofs.Common.{◌≡◌, ap, subst}
 use Rattle.std.proofs.lemmas.Result.{IfOk-weaker}
 use Rattle.ulfm_job.specs.Job.{JobView}
 use Rattle.ulfm_reader.specs.declared.reading.Reading.{Reading}
-use Rattle.ulfm_laws.specs.Lawful.{IsLawful}
-use Rattle.ulfm_world.specs.Replay.{IsReplayed, MadeAtRest}
+use Rattle.ulfm_world.specs.Replay.{MadeAtRest}
 use Rattle.ulfm_replies.specs.Stopped.{IsAsked, asked_view}
 use Rattle.ulfm_program.specs.Replies.{given_turns, not_replayed, traced}
 use Rattle.ulfm_program.proofs.reply.replay_reply.Goals as goal
@@ -18,6 +17,4 @@ returns-in-Ok-replay c =
     let asked = subst (IsAsked c.args.form c.args.place c.args.bytes.now) c.in-Ok.is c.in_ok-read.ensures in
     let job : c.given_turns-asked.result.job ≡ given_turns c.args.turns c.in-Ok.asked.job = ap (λ (asked : Reading). asked.job) given in
     IfOk-weaker c.trace_reply.result _ _ (λ r h. rw (h.0, h.1, c.as_slice.ensures.value, given, c.names_at-names.ensures) (traced (asked_view c.in-Ok.asked) reports asked
-    (subst (λ (j : JobView). IsReplayed j reports) job c.in-Ok-replay.ensures.replayed)
-    (subst (λ (j : JobView). IsLawful j reports) job c.in-Ok-replay.ensures.lawful)
     (subst (λ (j : JobView). MadeAtRest j reports) job c.in-Ok-replay.ensures.settled))) c.trace_reply.ensures

@@ -1,8 +1,8 @@
 use Rattle.std.proofs.Common.{◌≡◌, ap, sym, ◌∙◌, subst, map, List, length, slice_get, arith}
 use Rattle.ulfm_script.specs.declared.fault.RunFault.{RunFault}
 use Rattle.ulfm_script.specs.declared.fault.RunFault.TheVariants.{Untrue}
-use Rattle.ulfm_run.proofs.Common.{Global, IsGathered, Keeps, NameOneBoard, Report, RevokedByARank, Vec, false≢true, AreTrue, length-map, report_in}
-use Rattle.ulfm_run.specs.Order.{HaveOneOrder}
+use Rattle.ulfm_run.proofs.Common.{Global, IsGathered, Keeps, NameOneBoard, Report, Vec, false≢true, AreTrue, length-map, report_in}
+use Rattle.ulfm_laws.specs.Order.{HaveOneOrder}
 use Rattle.ulfm_run.proofs.job.report_of.Goals as goal
 
 pub gather-residue-requires-clause-family : goal.gather-residue-requires-clause-family
@@ -30,11 +30,8 @@ are_borne_out-requires g c =
 pub returns-clause-decisions : goal.returns-clause-decisions
 returns-clause-decisions g c = subst AreTrue c.deref.ensures.value (c.are_borne_out.ensures.0 c.if-not-are_borne_out.false).0
 
-pub returns-clause-revoked : goal.returns-clause-revoked
-returns-clause-revoked g c = subst (λ (rs : List Report). RevokedByARank rs) c.deref.ensures.value (c.are_borne_out.ensures.0 c.if-not-are_borne_out.false).1
-
 pub returns-clause-one_order : goal.returns-clause-one_order
-returns-clause-one_order g c = subst (λ (rs : List Report). HaveOneOrder rs) c.deref.ensures.value (c.are_borne_out.ensures.0 c.if-not-are_borne_out.false).2
+returns-clause-one_order g c = subst (λ (rs : List Report). HaveOneOrder rs) c.deref.ensures.value (c.are_borne_out.ensures.0 c.if-not-are_borne_out.false).1
 
 -- the reports that a fault carries, where it is `Untrue`
 abbrev carried : RunFault → Vec Report Global → Vec Report Global
@@ -46,6 +43,6 @@ returns-then-not-are_borne_out-clause-untrue g c reports fault =
     let same = ap (λ (rs : Vec Report Global). rs.items) (ap (λ f. carried f reports) fault) in (
       sym same ∙ c.parted-ranks.ensures.reports,
       λ all.
-          let shown = subst (λ (rs : List Report). AreTrue rs × RevokedByARank rs × HaveOneOrder rs) (sym (c.deref.ensures.value ∙ same)) all in
+          let shown = subst (λ (rs : List Report). AreTrue rs × HaveOneOrder rs) (sym (c.deref.ensures.value ∙ same)) all in
           false≢true (sym c.if-not-are_borne_out.true ∙ c.are_borne_out.ensures.1 shown),
     )

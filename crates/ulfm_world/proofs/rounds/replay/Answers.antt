@@ -1,8 +1,7 @@
 use Rattle.std.proofs.Common.{refl, ap, ◌∙◌}
 use Rattle.ulfm_world.proofs.Common.{PerInbox, start_world, IfOk-weaker}
-use Rattle.ulfm_world.proofs.Ends.{came-start, came-moves, replayed}
-use Rattle.ulfm_world.proofs.Lawful.{lawful-replay}
-use Rattle.ulfm_world.proofs.Settled.{settled}
+use Rattle.ulfm_world.proofs.Ends.{came-start, came-moves}
+use Rattle.ulfm_world.proofs.Lawful.{made-replay}
 use Rattle.ulfm_world.proofs.rounds.replay.Goals as goal
 
 pub loop-rounds-init : goal.loop-rounds-init
@@ -16,8 +15,6 @@ pub returns : goal.returns
 returns c =
     let ranges = c.ranks.ensures.ranges in let stuck = c.in_ok-round.ensures.stuck c.if-branch.false in
     let came = came-moves c.args.job.now c.loop-rounds.rounds.world c.round.new.rounds.world c.in_ok-round.field-0 c.loop-rounds.invariant.1 c.in_ok-round.ensures.moves in record {
-      replayed = IfOk-weaker c.into_reports.result _ _ (λ reports k. replayed ranges.some_room came stuck k) c.into_reports.ensures.told;
-      lawful = IfOk-weaker c.into_reports.result _ _ (λ reports k. lawful-replay c.args.job.now c.round.new.rounds.world ranges came stuck k) c.into_reports.ensures.told;
-      settled = IfOk-weaker c.into_reports.result _ _ (λ reports k. settled ranges (replayed ranges.some_room came stuck k)) c.into_reports.ensures.told;
+      settled = IfOk-weaker c.into_reports.result _ _ (λ reports k. made-replay c.args.job.now c.round.new.rounds.world ranges came stuck ranges.some_room k) c.into_reports.ensures.told;
       refused = c.into_reports.ensures.refused;
     }

@@ -1,0 +1,10 @@
+use Rattle.ulfm_laws.proofs.Ordered.{failed_later, revoked_later}
+use Rattle.ulfm_laws.proofs.SentBefore.{sent_before}
+use Rattle.ulfm_laws.proofs.laws.causes_come_first.Goals as goal
+
+pub returns : goal.returns
+returns c = record {
+  letters = λ job inboxes knows reports h. sent_before inboxes h.flow h.one_order;
+  revocations = λ job inboxes knows reports h. revoked_later h.one_order;
+  failures = λ job inboxes knows reports h. failed_later h.one_order;
+}
