@@ -1,6 +1,7 @@
 //! Jobs that threads run.
 
 mod closing;
+mod foretold;
 mod laid;
 mod meeting;
 mod misfits;

@@ -85,7 +85,7 @@ impl<E: Ends, H: Habit> Ends for Laid<E, H> {
 }
 
 /// Waits for ever.
-fn never<T, R: Wait>(rt: &R) -> T
+pub fn never<T, R: Wait>(rt: &R) -> T
     ensures { ⊥ }
 {
     for _ in rt.forever() {}
