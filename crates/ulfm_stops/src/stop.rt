@@ -2,7 +2,7 @@
 ghost use Rattle.std.specs.Prelude.{Some, ◌≡◌, ◌≢◌, ◌+◌, ◌↔◌, Err, IfErr, IfOk, IsTrue};
 ghost use Rattle.ulfm_job.specs.Job.{step_count};
 ghost use Rattle.ulfm_stops.specs.Place.{IsStopOf, before, stopped};
-ghost use Rattle.ulfm_stops.specs.Text.{stop_text};
+ghost use Rattle.ulfm_stops.specs.Text.{star_if, stop_text};
 
 use std::fmt;
 use ulfm_job::{Job, JobFault};
@@ -61,15 +61,19 @@ impl Stop {
     }
 }
 
+/// A star, or nothing.
+fn star_if(dies: bool) -> &'static str
+    ensures { result.now ≡ star_if dies }
+{
+    if dies { "*" } else { "" }
+}
+
 /// The rank, a dot, and the number of the step, with a star where it dies inside it: `0.2`, `1.5*`.
 impl fmt::Display for Stop {
     ghost output = { λ stop. Some (stop_text stop) };
 
     fn fmt<W: fmt::Write>(&self, f: &mut fmt::Formatter<W>) -> fmt::Result {
-        write!(f, "{}.{}", self.rank, self.at)?;
-        if self.dies {
-            return f.write_str("*");
-        }
-        Ok(())
+        let star = star_if(self.dies);
+        write!(f, "{}.{}{star}", self.rank, self.at)
     }
 }
