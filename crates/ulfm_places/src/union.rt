@@ -34,7 +34,7 @@ fn answer_set(
 }
 
 /// The answers that these lists have for a step of the file, in rising order of their bytes, each once.
-pub(crate) fn answers_of(
+pub fn answers_of(
     alloc: Global,
     job: &Job,
     listed: &[Listed],
@@ -84,7 +84,7 @@ fn is_told_at(job: &Job, rank: u8, k: usize, words: &[u8], one: &Listed) -> bool
 }
 
 /// The texts of the places at which that is told: an answer by its words, or that the step never ends by none.
-pub(crate) fn places_with(
+pub fn places_with(
     alloc: Global,
     job: &Job,
     listed: &[Listed],

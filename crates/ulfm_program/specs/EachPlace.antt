@@ -13,7 +13,7 @@ use Rattle.ulfm_outcomes.specs.declared.goals.Goals.{Goals}
 use Rattle.ulfm_outcomes.specs.declared.unmet.Unmet.{Unmet}
 use Rattle.ulfm_places.specs.Lists.{AreLists}
 use Rattle.ulfm_places.specs.Numbers.{filed_number}
-use Rattle.ulfm_places.specs.Objects.{lists_in}
+use Rattle.ulfm_lists.specs.Objects.{lists_in}
 use Rattle.ulfm_places.specs.Union.{some_never_ends}
 use Rattle.ulfm_places.specs.declared.listed.Listed.{Listed}
 use Rattle.ulfm_json.specs.declared.form.Form.{Form}

@@ -4,7 +4,7 @@ use Rattle.ulfm_job.specs.declared.clause.Clause.{Clause}
 use Rattle.ulfm_job.specs.Job.{JobView}
 use Rattle.ulfm_stops.specs.Place.{IsPlaceOf, job_at}
 use Rattle.ulfm_stops.specs.declared.place.Place.{Place}
-use Rattle.ulfm_places.specs.Objects.{lists_in}
+use Rattle.ulfm_lists.specs.Objects.{lists_in}
 use Rattle.ulfm_places.specs.Union.{some_never_ends}
 use Rattle.ulfm_places.specs.declared.listed.Listed.{Listed}
 use Rattle.ulfm_places.specs.declared.lists.Lists.{Lists}

@@ -1,5 +1,5 @@
 use Rattle.std.proofs.Common.{refl, string_bytes}
-use Rattle.ulfm_places.proofs.Telling.{two-parts}
+use Rattle.ulfm_lists.proofs.Written.{two-parts}
 use Rattle.ulfm_program.specs.EachPlace.{at_words, row_head}
 use Rattle.ulfm_program.proofs.told_at.push_row_at_words.Goals as goal
 
