@@ -9,6 +9,11 @@ import subprocess
 FOLDER = pathlib.Path(__file__).resolve().parent
 PROGRAM = FOLDER / "out" / "explorer"
 LONGEST_KEPT = 1025
+# How the answers begin with which a step goes well.
+GOOD = {
+    "send": ["sent"], "recv": ["posted"], "wait": ["done"], "probe": ["found"], "mrecv": ["done"], "cancel": ["cancelled", "done"],
+    "failed": ["ranks"], "ack": ["acked"], "revoke": ["revoked"], "dup": ["comm"], "shrink": ["comm"], "agree": ["agreed"], "stop": ["stopped"],
+}
 
 
 def compiler():
@@ -95,12 +100,58 @@ def placed(step, ranks):
     return found
 
 
+def for_ranks(steps, ranks):
+    """Steps, each for the ranks that it is for."""
+    return [placed(one, ranks) for step in steps for one in [{**step, "rank": rank} for rank in ranks_of(step, ranks)] or [step]]
+
+
+def iterated(step, block, i):
+    """A step of a block in an iteration."""
+    own = {one["name"] for one in block if one["rank"] == step["rank"] and "name" in one}
+
+    def referred(name):
+        return f"{name}-{i}" if name in own else name
+
+    def condition(table):
+        return {**table, "step": referred(table["step"])}
+
+    found = {key: f"{text}-{i}" if key in ("name", "body") else text for key, text in step.items()}
+    if isinstance(step.get("tag"), str):
+        found["tag"] = i + int(step["tag"].removeprefix("i").removeprefix("+") or 0)
+    if "req" in step:
+        found["req"] = referred(step["req"])
+    if "if" in step:
+        found["if"] = condition(step["if"]) if isinstance(step["if"], dict) else [condition(table) for table in step["if"]]
+    return found
+
+
+def item_steps(item, ranks):
+    """The steps of an item of a job: of a block all, in each of its iterations."""
+    block = for_ranks(item.get("steps", [item]), ranks)
+    return [iterated(step, block, i) for i in range(item["repeat"]) for step in block] if "repeat" in item else block
+
+
+def guarded(lines, step):
+    """A step with the condition of the step before it whose item leads errors on, if there is one and the goal isn't reached. A line is a
+    step and the goal of its item, and the number that the step has of its rank."""
+    for before, its_goal, its_number in reversed([line for line in lines if line[0]["rank"] == step["rank"]]):
+        if its_goal is not None:
+            passed = [line[0].get("name") for line in lines if line[0]["rank"] == step["rank"] and line[2] > its_number]
+            is_open = its_goal not in [*passed, step.get("name")] and "if" not in step
+            return {**step, "if": {"step": its_number, "is": GOOD[before["op"]]}} if is_open else step
+    return step
+
+
 def written_out(job):
-    """The steps of a job, one for each rank that they are for."""
-    for step in job.get("step", []):
-        shared = [{**step, "rank": rank} for rank in ranks_of(step, job["ranks"])]
-        for one in shared or [step]:
-            yield placed(one, job["ranks"])
+    """The steps of a job: those of its blocks in each iteration, one for each rank that they are for, and with the conditions by which an
+    error leads on."""
+    lines, counts = [], collections.Counter()
+    for item in job.get("step", []):
+        for step in item_steps(item, job["ranks"]):
+            lines.append((step, item.get("on_error"), counts[step["rank"]]))
+            counts[step["rank"]] += 1
+    for number, (step, _, _) in enumerate(lines):
+        yield guarded(lines[:number], step)
 
 
 def numbered(job):

@@ -3,14 +3,14 @@ use Rattle.std.proofs.Common.{◌≡◌, ℕ, ◌+◌, ◌<◌, ◌≤◌, List,
 use Rattle.std.proofs.lemmas.List.{drop_more}
 use Rattle.toml.specs.Data.{Data}
 use Rattle.ulfm_expand.proofs.Common.{Line, Value, view}
-use Rattle.ulfm_expand.specs.Lines.{step_lines, written_behind}
+use Rattle.ulfm_expand.specs.Shared.{step_lines, shared_behind}
 
 -- no line is taken away
-pub longer : (ranks place : ℕ) (lines : List Line) (ds : List Data) → length lines ≤ length (written_behind ranks place lines ds)
+pub longer : (ranks place : ℕ) (lines : List Line) (ds : List Data) → length lines ≤ length (shared_behind ranks place lines ds)
 longer ranks place lines [] = omega arith
 longer ranks place lines (d ∷ ds) = omega (arith, longer ranks (place + 1) (lines ++ step_lines ranks place d) ds, length-append lines (step_lines ranks place d))
 
 module _ (ranks i : ℕ) (lines : List Line) (steps : List Value) where
   pub behind-one : (v : Value) → i < length steps → v ≡ get_or steps i v
-      → written_behind ranks i lines (map view (drop i steps)) ≡ written_behind ranks (i + 1) (lines ++ step_lines ranks i (view v)) (map view (drop (i + 1) steps))
+      → shared_behind ranks i lines (map view (drop i steps)) ≡ shared_behind ranks (i + 1) (lines ++ step_lines ranks i (view v)) (map view (drop (i + 1) steps))
   behind-one v lt here = rw (drop_more steps i v lt, ← here) refl

@@ -1,3 +1,6 @@
 pub mod Common
 pub mod Values
 pub mod Behind
+pub mod Items
+pub mod Iterations
+pub mod Blocks

@@ -1,10 +1,10 @@
 -- The text of a job, written out.
-use Rattle.std.specs.Prelude.{ℕ, ℤ, pos, ◌&&◌, nat_le, List, length, map, Option, Some, None, option_map, if◌then◌else◌, codes}
+use Rattle.std.specs.Prelude.{ℕ, ℤ, pos, ◌&&◌, nat_le, List, length, Option, Some, None, if◌then◌else◌, codes}
 use Rattle.std.specs.Option.{option_and_then}
-use Rattle.toml.specs.Data.{Data, array, Members, get_member, as_array, as_integer}
+use Rattle.toml.specs.Data.{Data, array, Members, get_member, as_integer}
 use Rattle.toml.specs.View.{items_of}
-use Rattle.ulfm_expand.specs.Lines.{Line, written_out}
-use Rattle.ulfm_expand.specs.Members.{listed, put}
+use Rattle.ulfm_expand.specs.Lines.{Line, steps_of, written_out}
+use Rattle.ulfm_expand.specs.Members.{list_at, put}
 
 -- how many ranks a job has that says so; eight where it doesn't
 abbrev pub ranks_or_eight : Option ℤ → ℕ
@@ -17,7 +17,7 @@ ranks_in ms = ranks_or_eight (option_and_then as_integer (get_member (codes "ran
 
 -- the steps of a job's table, where it has an array of them
 abbrev pub steps_in : Members → Option (List Data)
-steps_in ms = option_map listed (option_and_then as_array (get_member (codes "step") ms))
+steps_in ms = list_at (codes "step") ms
 
 -- lines, where they aren't more than 256
 abbrev pub few_lines : List Line → Option (List Line)
@@ -26,10 +26,6 @@ few_lines lines = if nat_le (length lines) 256 then Some lines else None
 -- the steps of a job's table, written out
 abbrev pub lines_in : Members → Option (List Line)
 lines_in ms = option_and_then (λ ds. few_lines (written_out (ranks_in ms) ds)) (steps_in ms)
-
--- the steps of lines
-abbrev pub steps_of : List Line → List Data
-steps_of lines = map (λ (line : Line). line.step) lines
 
 -- a job's table with the steps of these lines
 abbrev pub with_lines : Members → Option (List Line) → Members

@@ -1,4 +1,9 @@
 pub mod Members
 pub mod Ranks
+pub mod Line
+pub mod Shared
+pub mod Iterations
+pub mod Blocks
+pub mod Guards
 pub mod Lines
 pub mod Documents

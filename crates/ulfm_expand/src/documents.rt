@@ -1,11 +1,11 @@
 //! The text of a job, written out.
 ghost use Rattle.std.specs.Prelude.{◌≡◌, ◌<◌, Some, map, option_map, IfOk};
 ghost use Rattle.toml.specs.View.{table_view, view};
-ghost use Rattle.ulfm_expand.specs.Documents.{lines_in, ranks_in, ranks_or_eight, steps_in, steps_of, with_lines, written_job};
+ghost use Rattle.ulfm_expand.specs.Documents.{lines_in, ranks_in, ranks_or_eight, with_lines, written_job};
 ghost use Rattle.ulfm_expand.specs.Lines.{line_view};
 
-use crate::line::Line;
-use crate::members::{put, value_at};
+use crate::line::{Line, steps_of};
+use crate::members::{list_at, put, value_at};
 use crate::unwritten::Unwritten;
 use crate::written::written_out;
 use std::alloc::{AllocError, Global};
@@ -40,19 +40,6 @@ fn ranks_or_eight(ranks: i64) -> u8
     }
 }
 
-/// The steps of a job's table, where it has an array of them.
-fn steps_in(table: &Table) -> Option<&[Value]>
-    ensures { option_map (λ steps. map view steps.now) result ≡ steps_in (table_view table.now) }
-{
-    match value_at(table, "step") {
-        Some(value) => match value.as_array() {
-            Some(steps) => Some(steps.as_slice()),
-            None => None,
-        },
-        None => None,
-    }
-}
-
 /// The steps of a job's table, written out, where it has an array of them, and they aren't more than 256.
 ///
 /// # Errors
@@ -61,7 +48,7 @@ fn steps_in(table: &Table) -> Option<&[Value]>
 fn lines_in(alloc: Global, table: &Table) -> Result<Option<Vec<Line>>, AllocError>
     ensures { IfOk result (λ found. option_map (λ lines. map line_view lines.items) found ≡ lines_in (table_view table.now)) }
 {
-    let Some(steps) = steps_in(table) else {
+    let Some(steps) = list_at(table, "step") else {
         return Ok(None);
     };
     match written_out(alloc, ranks_in(table), steps) {
@@ -69,17 +56,6 @@ fn lines_in(alloc: Global, table: &Table) -> Result<Option<Vec<Line>>, AllocErro
         Err(Unwritten::TooMany) => Ok(None),
         Err(Unwritten::OutOfMemory) => Err(AllocError),
     }
-}
-
-/// The steps of lines.
-fn steps_of(alloc: Global, lines: &[Line]) -> Result<Vec<Value>, AllocError>
-    ensures { IfOk result (λ steps. map view steps.items ≡ steps_of (map line_view lines.now)) }
-{
-    let mut steps = Vec::new(alloc);
-    for line in lines {
-        steps.push(line.step.clone()?)?;
-    }
-    Ok(steps)
 }
 
 /// A job's table with its steps written out; as it is where it has no array of them, or more than 256.

@@ -1,16 +1,22 @@
-//! A job's steps written out: those for several ranks become a step for each.
+//! A job's steps written out: blocks become their iterations, and steps for several ranks a step for each.
 //!
-//!     for line in &written_out(alloc, ranks, steps)? { .. }
+//!     for line in &written_out(alloc, ranks, items)? { .. }
 //!
 //! Writing out never fails, but for memory and for more than 256 steps: what has none of the short forms is left as it is, for the reader
-//! of jobs to refuse. Read specs/Ranks.antt first (a step for several ranks), then specs/Lines.antt (all steps) and
-//! specs/Documents.antt (the table of a job).
+//! of jobs to refuse. Read specs/Ranks.antt first (a step for several ranks), then specs/Iterations.antt and specs/Blocks.antt (a block
+//! of steps), specs/Guards.antt (where errors in a block lead), specs/Lines.antt (all steps) and specs/Documents.antt (the table of a job).
 #![tactic(auto)]
 
+mod answers;
+mod block;
 mod documents;
+mod guard;
+mod iteration;
 mod line;
 mod members;
 mod ranks;
+mod shared;
+mod tags;
 mod unwritten;
 mod written;
 

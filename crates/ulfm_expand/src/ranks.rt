@@ -81,7 +81,7 @@ fn put_neighbour(
 }
 
 /// The number at the key `rank`, where there is one.
-fn rank_of(table: &Table) -> Option<i64>
+pub fn rank_of(table: &Table) -> Option<i64>
     ensures { result ≡ rank_of (table_view table.now) }
 {
     match value_at(table, "rank") {

@@ -1,90 +1,168 @@
 //! The steps of a job, written out.
-ghost use Rattle.std.specs.Prelude.{◌≡◌, ◌+◌, ◌<◌, ◌≤◌, ◌++◌, map, length, IfErr, IfOk, OnOk};
+ghost use Rattle.std.specs.Prelude.{◌≡◌, ◌+◌, ◌<◌, ◌≤◌, ◌++◌, map, length, IfErr, IfOk, IfSome, OnOk};
 ghost use Rattle.toml.specs.View.{view};
+ghost use Rattle.ulfm_expand.specs.Blocks.{block_view, item_lines, lines_of_block};
+ghost use Rattle.ulfm_expand.specs.Guards.{guarded_from};
+ghost use Rattle.ulfm_expand.specs.Iterations.{iterated, iterations};
+ghost use Rattle.ulfm_expand.specs.Line.{line, line_view};
+ghost use Rattle.ulfm_expand.specs.Lines.{lines_of, written_out};
 ghost use Rattle.ulfm_expand.specs.Members.{in_table};
-ghost use Rattle.ulfm_expand.specs.Ranks.{for_rank};
-ghost use Rattle.ulfm_expand.specs.Lines.{line, line_view, step_lines, written_out};
 
-use crate::line::Line;
-use crate::ranks::{for_rank, placed, shared_by};
+use crate::block::{Block, block_in};
+use crate::guard::guarded;
+use crate::iteration::iterated;
+use crate::line::{Line, steps_of};
+use crate::shared::{check_room, push_step, shared_out};
 use crate::unwritten::Unwritten;
-use std::alloc::Global;
+use std::alloc::{AllocError, Global};
 use toml::Value;
-
-/// The most steps of a job.
-const MOST_STEPS: usize = 256;
 
 /// The steps of a job of so many ranks, written out.
 ///
 /// # Errors
 ///
 /// `TooMany` where there are more than 256; `OutOfMemory` where a growth was refused.
-pub fn written_out(alloc: Global, ranks: u8, steps: &[Value]) -> Result<Vec<Line>, Unwritten>
+pub fn written_out(alloc: Global, ranks: u8, items: &[Value]) -> Result<Vec<Line>, Unwritten>
     requires { 0 < ranks }
-    ensures exact { IfOk result (λ lines. map line_view lines.items ≡ written_out ranks (map view steps.now)) }
-    ensures many { IfErr result (λ fault. fault ≡ Unwritten.TooMany → 256 < length (written_out ranks (map view steps.now))) }
+    ensures exact { IfOk result (λ lines. map line_view lines.items ≡ written_out ranks (map view items.now)) }
+    ensures many { IfErr result (λ fault. fault ≡ Unwritten.TooMany → 256 < length (written_out ranks (map view items.now))) }
+    ensures few { IfOk result (λ lines. length lines.items ≤ 256) }
+{
+    let lines = lines_of(alloc, ranks, items)?;
+    let lines = guarded_lines(alloc, items, lines.as_slice())?;
+    Ok(lines)
+}
+
+/// The lines of items, by blocks and by ranks.
+fn lines_of(alloc: Global, ranks: u8, items: &[Value]) -> Result<Vec<Line>, Unwritten>
+    requires { 0 < ranks }
+    ensures exact { IfOk result (λ lines. map line_view lines.items ≡ lines_of ranks (map view items.now)) }
+    ensures many { IfErr result (λ fault. fault ≡ Unwritten.TooMany → 256 < length (lines_of ranks (map view items.now))) }
     ensures few { IfOk result (λ lines. length lines.items ≤ 256) }
 {
     let mut lines = Vec::new(alloc);
-    for (place, step) in steps.iter().enumerate() {
-        push_step(&mut lines, ranks, place as u16, step)?;
+    for (place, item) in items.iter().enumerate() {
+        push_item(&mut lines, ranks, place as u16, item, &items[place + 1..])?;
     }
     Ok(lines)
 }
 
-/// Adds the lines of a step of the file.
-fn push_step(lines: &mut Vec<Line>, ranks: u8, place: u16, step: &Value) -> Result<(), Unwritten>
+/// Adds the lines of an item, with these behind it.
+fn push_item(
+    lines: &mut Vec<Line>,
+    ranks: u8,
+    place: u16,
+    item: &Value,
+    behind: &[Value],
+) -> Result<(), Unwritten>
     requires some { 0 < ranks }
     requires few { length lines.old.items ≤ 256 }
-    ensures exact { OnOk result (map line_view lines.new.items ≡ map line_view lines.old.items ++ step_lines ranks place (view step.now)) }
-    ensures many { IfErr result (λ fault. fault ≡ Unwritten.TooMany → 256 < length lines.old.items + length (step_lines ranks place (view step.now))) }
+    ensures exact { OnOk result (map line_view lines.new.items ≡ map line_view lines.old.items ++ item_lines ranks place (map view behind.now) (view item.now)) }
+    ensures many { IfErr result (λ fault. fault ≡ Unwritten.TooMany → 256 < length lines.old.items + length (item_lines ranks place (map view behind.now) (view item.now))) }
+    ensures few { OnOk result (length lines.new.items ≤ 256) }
+    ensures more { OnOk result (length lines.old.items < length lines.new.items) }
+{
+    match block_in(behind, item) {
+        Some(block) => push_block(lines, ranks, place, block),
+        None => push_step(lines, ranks, place, item),
+    }
+}
+
+/// Adds the lines of a block.
+fn push_block(
+    lines: &mut Vec<Line>,
+    ranks: u8,
+    place: u16,
+    block: Block<'_>,
+) -> Result<(), Unwritten>
+    requires some { 0 < ranks }
+    requires few { length lines.old.items ≤ 256 }
+    requires times { IfSome block.times (λ n. 0 < n) }
+    requires steps { 0 < length block.steps.now }
+    ensures exact { OnOk result (map line_view lines.new.items ≡ map line_view lines.old.items ++ lines_of_block ranks place (block_view block.entry)) }
+    ensures many { IfErr result (λ fault. fault ≡ Unwritten.TooMany → 256 < length lines.old.items + length (lines_of_block ranks place (block_view block.entry))) }
     ensures few { OnOk result (length lines.new.items ≤ 256) }
     ensures more { OnOk result (length lines.old.items < length lines.new.items) }
 {
     let alloc = *lines.allocator();
-    let several = shared_by(alloc, ranks, step)?;
-    if several.is_empty() {
-        check_room(lines.as_slice())?;
-        let step = placed(alloc, ranks, step)?;
-        lines.push(Line { place, step })?;
-        return Ok(());
+    let shared = shared_out(alloc, ranks, block.steps)?;
+    let steps = steps_of(alloc, shared.as_slice())?;
+    match block.times {
+        Some(times) => push_iterations(lines, place, steps.as_slice(), times),
+        None => push_all(lines, place, steps.as_slice()),
     }
-    push_shared(lines, ranks, place, step, several.as_slice())
 }
 
-/// Adds the lines of a step for these ranks.
-fn push_shared(
-    lines: &mut Vec<Line>,
-    ranks: u8,
-    place: u16,
-    step: &Value,
-    several: &[i64],
-) -> Result<(), Unwritten>
-    requires some { 0 < ranks }
+/// Adds lines of these steps.
+fn push_all(lines: &mut Vec<Line>, place: u16, steps: &[Value]) -> Result<(), Unwritten>
     requires few { length lines.old.items ≤ 256 }
-    ensures exact { OnOk result (map line_view lines.new.items ≡ map line_view lines.old.items ++ map (line place) (map (λ r. in_table (λ ms. for_rank ranks ms r) (view step.now)) several.now)) }
-    ensures many { IfErr result (λ fault. fault ≡ Unwritten.TooMany → 256 < length lines.old.items + length several.now) }
+    ensures exact { OnOk result (map line_view lines.new.items ≡ map line_view lines.old.items ++ map (line place) (map view steps.now)) }
+    ensures many { IfErr result (λ fault. fault ≡ Unwritten.TooMany → 256 < length lines.old.items + length steps.now) }
     ensures few { OnOk result (length lines.new.items ≤ 256) }
-    ensures more { OnOk result (length lines.new.items ≡ length lines.old.items + length several.now) }
+    ensures more { OnOk result (length lines.new.items ≡ length lines.old.items + length steps.now) }
 {
-    let alloc = *lines.allocator();
-    for rank in several {
+    for step in steps {
         check_room(lines.as_slice())?;
-        let step = for_rank(alloc, ranks, step, *rank)?;
+        let step = step.clone()?;
         lines.push(Line { place, step })?;
     }
     Ok(())
 }
 
-/// That there is room for one more line.
-fn check_room(lines: &[Line]) -> Result<(), Unwritten>
-    requires { length lines.now ≤ 256 }
-    ensures room { OnOk result (length lines.now < 256) }
-    ensures full { IfErr result (λ fault. (fault ≡ Unwritten.TooMany) × (length lines.now ≡ 256)) }
+/// Adds lines of a block's steps in one iteration.
+fn push_iteration(
+    lines: &mut Vec<Line>,
+    place: u16,
+    block: &[Value],
+    i: u16,
+) -> Result<(), Unwritten>
+    requires few { length lines.old.items ≤ 256 }
+    ensures exact { OnOk result (map line_view lines.new.items ≡ map line_view lines.old.items ++ map (line place) (map (in_table (iterated (map view block.now) i)) (map view block.now))) }
+    ensures many { IfErr result (λ fault. fault ≡ Unwritten.TooMany → 256 < length lines.old.items + length block.now) }
+    ensures few { OnOk result (length lines.new.items ≤ 256) }
+    ensures more { OnOk result (length lines.new.items ≡ length lines.old.items + length block.now) }
 {
-    if lines.len() < MOST_STEPS {
-        Ok(())
-    } else {
-        Err(Unwritten::TooMany)
+    let alloc = *lines.allocator();
+    for step in block {
+        check_room(lines.as_slice())?;
+        let step = iterated(alloc, block, i, step)?;
+        lines.push(Line { place, step })?;
     }
+    Ok(())
+}
+
+/// Adds lines of a block's steps in so many iterations.
+fn push_iterations(
+    lines: &mut Vec<Line>,
+    place: u16,
+    block: &[Value],
+    times: u16,
+) -> Result<(), Unwritten>
+    requires few { length lines.old.items ≤ 256 }
+    ensures exact { OnOk result (map line_view lines.new.items ≡ map line_view lines.old.items ++ map (line place) (iterations (map view block.now) 0 times)) }
+    ensures many { IfErr result (λ fault. fault ≡ Unwritten.TooMany → 256 < length lines.old.items + length (iterations (map view block.now) 0 times)) }
+    ensures few { OnOk result (length lines.new.items ≤ 256) }
+    ensures more { OnOk result (0 < times → length lines.old.items + length block.now ≤ length lines.new.items) }
+{
+    for i in 0..times {
+        push_iteration(lines, place, block, i)?;
+    }
+    Ok(())
+}
+
+/// Each line with the condition of its guard.
+fn guarded_lines(alloc: Global, items: &[Value], lines: &[Line]) -> Result<Vec<Line>, AllocError>
+    requires { length lines.now ≤ 256 }
+    ensures exact { IfOk result (λ found. map line_view found.items ≡ guarded_from (map view items.now) (map line_view lines.now) 0 (map line_view lines.now)) }
+    ensures few { IfOk result (λ found. length found.items ≡ length lines.now) }
+{
+    let mut found = Vec::new(alloc);
+    for (many, line) in lines.iter().enumerate() {
+        let step = guarded(alloc, items, lines, many as u16, &line.step)?;
+        found.push(Line {
+            place: line.place,
+            step,
+        })?;
+    }
+    Ok(found)
 }

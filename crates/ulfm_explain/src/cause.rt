@@ -21,6 +21,8 @@ pub enum Cause {
     TooManySteps(usize),
     /// More steps than a job may have, once they are written out.
     TooManyWritten,
+    /// A block of steps that isn't one.
+    NoBlock,
     /// A required key is missing, which has to be of this kind.
     Missing(Key, Kind),
     /// A required key of the job is missing, and stands in a step.
@@ -144,7 +146,10 @@ impl fmt::Display for Cause {
                 write!(f, "there are {count} steps, and 256 are the most")
             }
             Cause::TooManyWritten => f.write_str(
-                "there are more than 256 steps, one for each rank of those that are for several, and 256 are the most",
+                "there are more than 256 steps, one for each rank and each iteration, and 256 are the most",
+            ),
+            Cause::NoBlock => f.write_str(
+                "this is no block: it has to have 'steps', a list of one or more, and 'repeat', an integer from 1 to 256, or 'on_error', the name of a later step of the file, before which no other block has one, or both, and nothing else",
             ),
             Cause::Missing(Key::Op, _) => write!(f, "key 'op' is missing; the ops are {ALL_OPS}"),
             Cause::Missing(key, wanted) => {

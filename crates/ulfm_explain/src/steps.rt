@@ -86,6 +86,14 @@ fn steps_before(steps: &[Value], in_file: usize, rank: i64) -> usize {
     earlier.filter(|step| rank_of(*step) == Some(rank)).count()
 }
 
+/// Whether a table that isn't written out is meant to be a block of steps.
+fn is_block(table: &Table) -> bool {
+    table.get("op").is_none()
+        && (table.get("steps").is_some()
+            || table.get("repeat").is_some()
+            || table.get("on_error").is_some())
+}
+
 /// Tells what is wrong with a step.
 fn explain_step(
     findings: &mut Findings<'_>,
@@ -94,6 +102,10 @@ fn explain_step(
     place: StepPlace,
     table: &Table,
 ) -> Result<(), AllocError> {
+    if is_block(table) {
+        let at = findings.place_of_step(Some(place.in_file));
+        return findings.tell(at, Some(place), Cause::NoBlock);
+    }
     if let Some(op) = text_at(table, Key::Op) {
         if let Some(rules) = rules_of(op) {
             let sheet = Sheet {

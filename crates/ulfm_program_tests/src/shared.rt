@@ -1,4 +1,4 @@
-//! Steps for several ranks, and the command `expand`.
+//! Steps for several ranks, blocks of steps, and the command `expand`.
 
 use crate::kept::{Kept, is_reply, reply};
 
@@ -23,8 +23,32 @@ step = [
 ]
 "#;
 
+/// Two iterations, which an error leaves.
+const BLOCK: &str = r#"ranks = 1
+capacity = 1
+turns = 4
+step = [
+    { repeat = 2, on_error = "end", steps = [
+        { rank = 0, op = "recv", tag = "i+5", name = "part" },
+        { rank = "all", op = "cancel", req = "part" },
+    ] },
+    { rank = 0, op = "revoke" },
+    { rank = 0, op = "failed", name = "end" },
+]
+"#;
+
+/// A block that leads to no step.
+const NOWHERE: &str = r#"ranks = 1
+capacity = 1
+turns = 4
+step = [
+    { rank = 0, op = "failed", name = "end" },
+    { on_error = "end", steps = [{ rank = 0, op = "dup" }] },
+]
+"#;
+
 /// A command, the job, and the status and the text that it gives.
-const ANSWERED: [(&str, &str, u8, &str); 7] = [
+const ANSWERED: [(&str, &str, u8, &str); 10] = [
     ("check", RING, 0, "job ok: 2 ranks 5 steps\n"),
     (
         "replay",
@@ -38,6 +62,19 @@ const ANSWERED: [(&str, &str, u8, &str); 7] = [
         0,
         "capacity = 1\nranks = 2\nturns = 4\n\n[[step]]\nfrom = 1\nname = \"part\"\nop = \"recv\"\nrank = 0\n\n[[step]]\nfrom = 0\nname = \"part\"\nop = \"recv\"\nrank = 1\n\n[[step]]\nbody = \"a\"\nop = \"send\"\nrank = 1\ntag = 5\nto = 0\n\n[[step]]\nbody = \"a\"\nop = \"send\"\nrank = 0\ntag = 5\nto = 1\n\n[[step]]\nexpect = [\"done from 0\"]\nop = \"wait\"\nrank = 1\nreq = \"part\"\n",
     ),
+    (
+        "replay",
+        BLOCK,
+        0,
+        "0 0 recv any tag 5 comm 0: posted\n0 1 cancel 0: cancelled\n0 2 recv any tag 6 comm 0: posted\n0 3 cancel 2: cancelled\n0 4 revoke comm 0: revoked\n0 5 failed comm 0: ranks []\n0 end: done\n",
+    ),
+    (
+        "expand",
+        BLOCK,
+        0,
+        "capacity = 1\nranks = 1\nturns = 4\n\n[[step]]\nname = \"part-0\"\nop = \"recv\"\nrank = 0\ntag = 5\n\n[[step]]\nop = \"cancel\"\nrank = 0\nreq = \"part-0\"\n\n[step.if]\nis = [\"posted\"]\nstep = 0\n\n[[step]]\nname = \"part-1\"\nop = \"recv\"\nrank = 0\ntag = 6\n\n[step.if]\nis = [\"cancelled\", \"done\"]\nstep = 1\n\n[[step]]\nop = \"cancel\"\nrank = 0\nreq = \"part-1\"\n\n[step.if]\nis = [\"posted\"]\nstep = 2\n\n[[step]]\nop = \"revoke\"\nrank = 0\n\n[step.if]\nis = [\"cancelled\", \"done\"]\nstep = 3\n\n[[step]]\nname = \"end\"\nop = \"failed\"\nrank = 0\n",
+    ),
+    ("check", NOWHERE, 1, "job refused: J2 step 1\n"),
     ("places", TOO_FAR, 1, "job refused: J4 step 1\n"),
     ("expand", TOO_FAR, 1, "job refused: J4 step 1\n"),
     ("expand", "ranks = 1", 1, "job refused: J2\n"),

@@ -1,26 +1,13 @@
-use Rattle.std.proofs.Common.{◌≡◌, ◌+◌, ◌++◌, length, map, drop, sym, ap, ◌∙◌, arith, length-append}
-use Rattle.std.proofs.lemmas.List.{length-map}
+use Rattle.std.proofs.Common.{map, arith}
 use Rattle.std.proofs.lemmas.Result.{err_from_is_err_and}
-use Rattle.ulfm_expand.proofs.Behind.{behind-one, longer}
-use Rattle.ulfm_expand.proofs.Common.{line_view, view}
-use Rattle.ulfm_expand.specs.Lines.{step_lines, written_behind, written_out}
+use Rattle.ulfm_expand.proofs.Common.{view}
+use Rattle.ulfm_expand.proofs.Items.{length-guarded_from}
+use Rattle.ulfm_expand.specs.Lines.{lines_of}
 use Rattle.ulfm_expand.proofs.written.written_out.Goals as goal
 
-pub returns-in_err-push_step-clause-many : goal.returns-in_err-push_step-clause-many
-returns-in_err-push_step-clause-many c =
+pub returns-in_err-lines-clause-many : goal.returns-in_err-lines-clause-many
+returns-in_err-lines-clause-many c =
     let p = err_from_is_err_and c.from_residual.result c.from_residual.ensures.1 in
-    let ranks = c.args.ranks in
-    let i = c.loop-place.place in
-    let lines = c.loop-place.lines.items in
-    let steps = c.args.steps.now in
-    let v = c.index-steps-place.result in
-    let all : written_behind ranks (i + 1) (map line_view lines ++ step_lines ranks i (view v)) (map view (drop (i + 1) steps)) ≡ written_out ranks (map view steps) =
-    sym (behind-one ranks i (map line_view lines) steps v c.loop-place-test.true c.index-steps-place.is) ∙ c.loop-place.invariant.0 in
-    rw (p.1, p.2) (λ is. omega (
-      arith,
-      c.in_err-push_step.ensures.many is,
-      ap length all,
-      longer ranks (i + 1) (map line_view lines ++ step_lines ranks i (view v)) (map view (drop (i + 1) steps)),
-      length-append (map line_view lines) (step_lines ranks i (view v)),
-      length-map lines line_view,
-    ))
+    let items = map view c.args.items.now in
+    let lines = lines_of c.args.ranks items in
+    rw (p.1, p.2) (λ is. omega (arith, c.in_err-lines.ensures.many is, length-guarded_from items lines 0 lines))

@@ -2,7 +2,7 @@ use Rattle.std.proofs.Common.{◌≡◌, ◌+◌, ◌≤◌, ◌++◌, length, m
 use Rattle.ulfm_expand.proofs.Common.{line, line_view, view}
 use Rattle.ulfm_expand.specs.Members.{in_table}
 use Rattle.ulfm_expand.specs.Ranks.{for_rank}
-use Rattle.ulfm_expand.proofs.written.push_shared.Given as goal
+use Rattle.ulfm_expand.proofs.shared.push_shared.Given as goal
 
 abbrev pub invariant-loop-rank : goal.invariant-loop-rank
 invariant-loop-rank l =

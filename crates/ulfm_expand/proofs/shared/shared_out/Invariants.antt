@@ -1,10 +1,10 @@
 use Rattle.std.proofs.Common.{◌≡◌, ◌≤◌, drop, length, map}
 use Rattle.ulfm_expand.proofs.Common.{line_view, view}
-use Rattle.ulfm_expand.specs.Lines.{written_behind, written_out}
-use Rattle.ulfm_expand.proofs.written.written_out.Given as goal
+use Rattle.ulfm_expand.specs.Shared.{shared_behind, shared_out}
+use Rattle.ulfm_expand.proofs.shared.shared_out.Given as goal
 
 abbrev pub invariant-loop-place : goal.invariant-loop-place
 invariant-loop-place l =
-    (written_behind l.ranks l.place (map line_view l.lines.items) (map view (drop l.place l.steps)) ≡ written_out l.ranks (map view l.steps))
+    (shared_behind l.ranks l.place (map line_view l.lines.items) (map view (drop l.place l.steps)) ≡ shared_out l.ranks (map view l.steps))
     × (l.place ≤ length l.lines.items)
     × (length l.lines.items ≤ 256)

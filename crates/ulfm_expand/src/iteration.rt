@@ -1,0 +1,236 @@
+//! The steps of a block, in one of its iterations.
+ghost use Rattle.std.specs.Prelude.{◌≡◌, Some, map, option_map, string_bytes, IfOk, OnOk};
+ghost use Rattle.std.specs.List.{list_any};
+ghost use Rattle.std.specs.Option.{option_copied};
+ghost use Rattle.toml.specs.Data.{as_table, string};
+ghost use Rattle.toml.specs.View.{items_view, table_view, view};
+ghost use Rattle.ulfm_expand.specs.Iterations.{is_named, is_rank, is_text, iterated, number, numbered, refer, refer_for, refer_if, referred, referred_condition, referred_if, tag};
+ghost use Rattle.ulfm_expand.specs.Members.{in_table};
+
+use crate::members::{put_if_some, text_at, value_at};
+use crate::ranks::rank_of;
+use crate::tags::tag_in;
+use std::alloc::{AllocError, Global};
+use toml::{Table, Value};
+
+/// A text with the number of the iteration behind.
+fn numbered(alloc: Global, i: u16, text: &str) -> Result<Value, AllocError>
+    ensures { IfOk result (λ value. view value ≡ string (numbered i text.now)) }
+{
+    Ok(Value::String(format!(in alloc; "{text}-{i}")?))
+}
+
+/// Puts the number of the iteration behind the text at a key.
+fn number(alloc: Global, i: u16, key: &str, table: &mut Table) -> Result<(), AllocError>
+    ensures { OnOk result (table_view table.new ≡ number i key.now (table_view table.old)) }
+{
+    let value = match text_at(table, key) {
+        Some(text) => Some(numbered(alloc, i, text)?),
+        None => None,
+    };
+    put_if_some(alloc, table, key, value)
+}
+
+/// Puts the tag of the iteration.
+fn tag(alloc: Global, i: u16, table: &mut Table) -> Result<(), AllocError>
+    ensures { OnOk result (table_view table.new ≡ tag i (table_view table.old)) }
+{
+    let value = match text_at(table, "tag") {
+        Some(text) => Some(tag_in(alloc, i, text)?),
+        None => None,
+    };
+    put_if_some(alloc, table, "tag", value)
+}
+
+/// Whether it is this text.
+pub fn is_text(text: &str, own: Option<&str>) -> bool
+    ensures { result ≡ is_text text.now (option_copied own.entry) }
+{
+    match own {
+        Some(own) => own == text,
+        None => false,
+    }
+}
+
+/// Whether it is this rank.
+pub fn is_rank(rank: i64, own: Option<i64>) -> bool
+    ensures { result ≡ is_rank rank own }
+{
+    match own {
+        Some(own) => own == rank,
+        None => false,
+    }
+}
+
+/// Whether a step of this rank has this name.
+fn is_named(rank: i64, name: &str, step: &Value) -> bool
+    ensures { result ≡ is_named rank name.now (as_table (view step.now)) }
+{
+    match step.as_table() {
+        Some(table) => is_rank(rank, rank_of(table)) && is_text(name, text_at(table, "name")),
+        None => false,
+    }
+}
+
+/// Whether a rank has a step of this name in a block.
+fn is_of_block(block: &[Value], rank: i64, name: &str) -> bool
+    ensures { result ≡ list_any (λ d. is_named rank name.now (as_table d)) (map view block.now) }
+{
+    for step in block {
+        if is_named(rank, name, step) {
+            return true;
+        }
+    }
+    false
+}
+
+/// What names a step: where it is one of the block, that of the same iteration.
+fn referred(
+    alloc: Global,
+    block: &[Value],
+    rank: i64,
+    i: u16,
+    name: &str,
+) -> Result<Value, AllocError>
+    ensures { IfOk result (λ value. view value ≡ string (referred (map view block.now) rank i name.now)) }
+{
+    if is_of_block(block, rank, name) {
+        numbered(alloc, i, name)
+    } else {
+        Ok(Value::String(String::from_str(alloc, name)?))
+    }
+}
+
+/// Puts what names a step at a key.
+fn refer(
+    alloc: Global,
+    block: &[Value],
+    rank: i64,
+    i: u16,
+    key: &str,
+    table: &mut Table,
+) -> Result<(), AllocError>
+    ensures { OnOk result (table_view table.new ≡ refer (map view block.now) rank i key.now (table_view table.old)) }
+{
+    let value = match text_at(table, key) {
+        Some(name) => Some(referred(alloc, block, rank, i, name)?),
+        None => None,
+    };
+    put_if_some(alloc, table, key, value)
+}
+
+/// A condition of a step.
+fn referred_condition(
+    alloc: Global,
+    block: &[Value],
+    rank: i64,
+    i: u16,
+    condition: &Value,
+) -> Result<Value, AllocError>
+    ensures { IfOk result (λ r. view r ≡ referred_condition (map view block.now) rank i (view condition.now)) }
+{
+    match condition.clone()? {
+        Value::Table(mut table) => {
+            refer(alloc, block, rank, i, "step", &mut table)?;
+            Ok(Value::Table(table))
+        }
+        other => Ok(other),
+    }
+}
+
+/// A list of conditions.
+fn referred_conditions(
+    alloc: Global,
+    block: &[Value],
+    rank: i64,
+    i: u16,
+    conditions: &[Value],
+) -> Result<Vec<Value>, AllocError>
+    ensures { IfOk result (λ found. map view found.items ≡ map (referred_condition (map view block.now) rank i) (map view conditions.now)) }
+{
+    let mut found = Vec::new(alloc);
+    for condition in conditions {
+        found.push(referred_condition(alloc, block, rank, i, condition)?)?;
+    }
+    Ok(found)
+}
+
+/// A condition, or a list of them.
+fn referred_if(
+    alloc: Global,
+    block: &[Value],
+    rank: i64,
+    i: u16,
+    value: &Value,
+) -> Result<Option<Value>, AllocError>
+    ensures { IfOk result (λ found. option_map view found ≡ referred_if (map view block.now) rank i (Some (view value.now))) }
+{
+    if value.is_table() {
+        return Ok(Some(referred_condition(alloc, block, rank, i, value)?));
+    }
+    match value.as_array() {
+        Some(conditions) => {
+            let found = referred_conditions(alloc, block, rank, i, conditions.as_slice())?;
+            Ok(Some(Value::Array(found)))
+        }
+        None => Ok(None),
+    }
+}
+
+/// Puts the conditions of a step.
+fn refer_if(
+    alloc: Global,
+    block: &[Value],
+    rank: i64,
+    i: u16,
+    table: &mut Table,
+) -> Result<(), AllocError>
+    ensures { OnOk result (table_view table.new ≡ refer_if (map view block.now) rank i (table_view table.old)) }
+{
+    let value = match value_at(table, "if") {
+        Some(value) => referred_if(alloc, block, rank, i, value)?,
+        None => None,
+    };
+    put_if_some(alloc, table, "if", value)
+}
+
+/// Puts what names steps, where the step has a rank.
+fn refer_for(
+    alloc: Global,
+    block: &[Value],
+    i: u16,
+    table: &mut Table,
+    rank: Option<i64>,
+) -> Result<(), AllocError>
+    ensures { OnOk result (table_view table.new ≡ refer_for (map view block.now) i (table_view table.old) rank) }
+{
+    if let Some(rank) = rank {
+        refer(alloc, block, rank, i, "req", table)?;
+        refer_if(alloc, block, rank, i, table)?;
+    }
+    Ok(())
+}
+
+/// Puts what a step has in an iteration of its block.
+fn iterate(alloc: Global, block: &[Value], i: u16, table: &mut Table) -> Result<(), AllocError>
+    ensures { OnOk result (table_view table.new ≡ iterated (map view block.now) i (table_view table.old)) }
+{
+    let rank = rank_of(table);
+    number(alloc, i, "name", table)?;
+    number(alloc, i, "body", table)?;
+    tag(alloc, i, table)?;
+    refer_for(alloc, block, i, table, rank)
+}
+
+/// A step of a block in an iteration.
+pub fn iterated(alloc: Global, block: &[Value], i: u16, step: &Value) -> Result<Value, AllocError>
+    ensures { IfOk result (λ r. view r ≡ in_table (iterated (map view block.now) i) (view step.now)) }
+{
+    match step.clone()? {
+        Value::Table(mut table) => {
+            iterate(alloc, block, i, &mut table)?;
+            Ok(Value::Table(table))
+        }
+        other => Ok(other),
+    }
+}
