@@ -12,8 +12,7 @@ struct agreement {
     ulfm_group missing;
 };
 
-/* Whether each member is in the agreement that this rank is in, was in it, or has left: else there can't be a decision, and the engine's answer, which takes
-   the longer the more agreements there were, needn't be asked for. */
+/* Whether each member is in the agreement that this rank is in, was in it, or has left: else there can't be a decision, and the engine needn't be asked. */
 static bool can_be_agreed(const struct agreement *agreement) {
     uint32_t context = agreement->comm->context, own = atomic_load(&me->agreed[context]);
     for (int k = 0; k < agreement->comm->size; k++) {
