@@ -83,7 +83,8 @@ enum {
 
 /* Makes a world of `ranks` ranks, 1 to 8, in slots[0 .. ranks - 1]: slot k has the rank of world number k. Slots that have a rank are ended
    first, where the call answers 0. `capacity`, 1 to 64, is the number of places of the ring from each rank to each: what finds no place waits
-   at its sender. `rounds` is how many agreements can be made on each communicator, for which it takes 8 KB each. 13, 12. */
+   at its sender. `rounds` is how many agreements can be made on each communicator, for which it takes 8 KB each, and 272 bytes more once one is
+   decided. 13, 12. */
 uint32_t ulfm_world(ulfm_slot *slots, size_t ranks, uint8_t capacity, uint16_t rounds);
 
 /* Ends a rank and frees what it has; the slot is all zeros then. The other ranks aren't told: call `ulfm_stop`, and `ulfm_turn` until
