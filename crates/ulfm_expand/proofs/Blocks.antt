@@ -52,7 +52,7 @@ module _ (behind : List Data) (es : List (String Global × Value)) (vs : List Va
       sym (steps ∙ empty vs none times leads (members_len (members_view es)))
 
 -- a list of values as items
-items_of-view : (vs : List Value) → items_of (map view vs) ≡ items_view vs
+pub items_of-view : (vs : List Value) → items_of (map view vs) ≡ items_view vs
 items_of-view [] = refl
 items_of-view (v ∷ vs) = rw (items_of-view vs) refl
 

@@ -28,6 +28,7 @@ good_answers op =
     else if bytes_eq op (codes "dup") then codes "comm" ∷ []
     else if bytes_eq op (codes "shrink") then codes "comm" ∷ []
     else if bytes_eq op (codes "agree") then codes "agreed" ∷ []
+    else if bytes_eq op (codes "note") then codes "noted" ∷ []
     else codes "stopped" ∷ []
 
 -- the rank of a step

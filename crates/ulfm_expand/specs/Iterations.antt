@@ -6,7 +6,7 @@ use Rattle.std.specs.Ordering.{int_eq}
 use Rattle.std.specs.Str.{bytes_eq}
 use Rattle.toml.specs.Data.{Data, string, integer, array, table, Members, get_member, as_table}
 use Rattle.toml.specs.View.{items_of}
-use Rattle.ulfm_expand.specs.Members.{in_table, listed, put_if_some, text_at}
+use Rattle.ulfm_expand.specs.Members.{in_table, list_at, listed, put_if_some, text_at}
 use Rattle.ulfm_expand.specs.Ranks.{rank_of}
 
 -- a text with the number of the iteration behind: `part-2`
@@ -52,9 +52,22 @@ referred block rank i name = if list_any (λ d. is_named rank name (as_table d))
 abbrev pub refer : List Data → ℤ → ℕ → List ℕ → Members → Members
 refer block rank i key ms = put_if_some key (option_map (λ name. string (referred block rank i name)) (text_at key ms)) ms
 
+-- a table that asks for the answer of a step
+abbrev pub referred_table : List Data → ℤ → ℕ → Data → Data
+referred_table block rank i d = in_table (refer block rank i (codes "step")) d
+
+-- tables that have to hold together
+abbrev pub referred_all : List Data → ℤ → ℕ → Option (List Data) → Option Data
+referred_all block rank i None = None
+referred_all block rank i (Some ds) = Some (array (items_of (map (referred_table block rank i) ds)))
+
+-- the members of a condition: of one table, or by its key `all` of some
+abbrev pub refer_condition : List Data → ℤ → ℕ → Members → Members
+refer_condition block rank i ms = put_if_some (codes "all") (referred_all block rank i (list_at (codes "all") ms)) (refer block rank i (codes "step") ms)
+
 -- a condition of a step
 abbrev pub referred_condition : List Data → ℤ → ℕ → Data → Data
-referred_condition block rank i d = in_table (refer block rank i (codes "step")) d
+referred_condition block rank i d = in_table (refer_condition block rank i) d
 
 -- a condition, or a list of them
 abbrev pub referred_if : List Data → ℤ → ℕ → Option Data → Option Data
@@ -81,7 +94,7 @@ refer_for block i ms (Some rank) = refer_if block rank i (refer block rank i (co
 
 -- a step of a block in its iteration of this number
 abbrev pub iterated : List Data → ℕ → Members → Members
-iterated block i ms = refer_for block i (tag i (number i (codes "body") (number i (codes "name") ms))) (rank_of ms)
+iterated block i ms = refer_for block i (tag i (number i (codes "text") (number i (codes "body") (number i (codes "name") ms)))) (rank_of ms)
 
 -- all steps of a block in so many iterations, of which the first has this number
 abbrev pub iterations : List Data → ℕ → ℕ → List Data

@@ -43,6 +43,7 @@ fn good_answers(alloc: Global, op: &str) -> Result<Vec<Value>, AllocError>
         "dup" => one(alloc, "comm"),
         "shrink" => one(alloc, "comm"),
         "agree" => one(alloc, "agreed"),
+        "note" => one(alloc, "noted"),
         _ => one(alloc, "stopped"),
     }
 }

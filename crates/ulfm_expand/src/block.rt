@@ -1,8 +1,8 @@
 //! A block of steps, which are written several times, or lead to a step of a name where one of them goes wrong.
-ghost use Rattle.std.specs.Prelude.{◌≡◌, ◌<◌, Some, map, length, option_map, IfSome};
+ghost use Rattle.std.specs.Prelude.{◌≡◌, ◌<◌, Some, map, length, option_map, is_some, IfSome};
 ghost use Rattle.std.specs.Option.{option_copied};
 ghost use Rattle.toml.specs.View.{table_view, view};
-ghost use Rattle.ulfm_expand.specs.Blocks.{block_in, block_of, block_view, keys_of, leads_on, leads_to, times_in, times_of};
+ghost use Rattle.ulfm_expand.specs.Blocks.{block_in, block_of, block_view, goal_in, keys_of, leads_on, leads_to, times_in, times_of};
 
 use crate::iteration::is_text;
 use crate::members::{list_at, text_at, text_in, value_at};
@@ -44,6 +44,13 @@ fn times_in(table: &Table) -> Option<u16>
     }
 }
 
+/// Whether an error in an item leads to a step.
+pub fn has_goal(item: &Value) -> bool
+    ensures { result ≡ is_some (goal_in (view item.now)) }
+{
+    text_in(item, "on_error").is_some()
+}
+
 /// Whether one of these items has this name, and none before it leads to another.
 fn leads_to(name: &str, behind: &[Value]) -> bool
     ensures { result ≡ leads_to name.now (map view behind.now) }
@@ -52,7 +59,7 @@ fn leads_to(name: &str, behind: &[Value]) -> bool
         if is_text(name, text_in(item, "name")) {
             return true;
         }
-        if text_in(item, "on_error").is_some() {
+        if has_goal(item) {
             return false;
         }
     }

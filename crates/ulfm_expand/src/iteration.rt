@@ -1,13 +1,14 @@
 //! The steps of a block, in one of its iterations.
-ghost use Rattle.std.specs.Prelude.{◌≡◌, Some, map, option_map, string_bytes, IfOk, OnOk};
+ghost use Rattle.std.specs.Prelude.{◌≡◌, map, string_bytes, IfOk, OnOk};
 ghost use Rattle.std.specs.List.{list_any};
 ghost use Rattle.std.specs.Option.{option_copied};
 ghost use Rattle.toml.specs.Data.{as_table, string};
-ghost use Rattle.toml.specs.View.{items_view, table_view, view};
-ghost use Rattle.ulfm_expand.specs.Iterations.{is_named, is_rank, is_text, iterated, number, numbered, refer, refer_for, refer_if, referred, referred_condition, referred_if, tag};
+ghost use Rattle.toml.specs.View.{table_view, view};
+ghost use Rattle.ulfm_expand.specs.Iterations.{is_named, is_rank, is_text, iterated, number, numbered, refer, refer_for, referred, tag};
 ghost use Rattle.ulfm_expand.specs.Members.{in_table};
 
-use crate::members::{put_if_some, text_at, value_at};
+use crate::conditions::refer_if;
+use crate::members::{put_if_some, text_at};
 use crate::ranks::rank_of;
 use crate::tags::tag_in;
 use std::alloc::{AllocError, Global};
@@ -102,7 +103,7 @@ fn referred(
 }
 
 /// Puts what names a step at a key.
-fn refer(
+pub fn refer(
     alloc: Global,
     block: &[Value],
     rank: i64,
@@ -117,81 +118,6 @@ fn refer(
         None => None,
     };
     put_if_some(alloc, table, key, value)
-}
-
-/// A condition of a step.
-fn referred_condition(
-    alloc: Global,
-    block: &[Value],
-    rank: i64,
-    i: u16,
-    condition: &Value,
-) -> Result<Value, AllocError>
-    ensures { IfOk result (λ r. view r ≡ referred_condition (map view block.now) rank i (view condition.now)) }
-{
-    match condition.clone()? {
-        Value::Table(mut table) => {
-            refer(alloc, block, rank, i, "step", &mut table)?;
-            Ok(Value::Table(table))
-        }
-        other => Ok(other),
-    }
-}
-
-/// A list of conditions.
-fn referred_conditions(
-    alloc: Global,
-    block: &[Value],
-    rank: i64,
-    i: u16,
-    conditions: &[Value],
-) -> Result<Vec<Value>, AllocError>
-    ensures { IfOk result (λ found. map view found.items ≡ map (referred_condition (map view block.now) rank i) (map view conditions.now)) }
-{
-    let mut found = Vec::new(alloc);
-    for condition in conditions {
-        found.push(referred_condition(alloc, block, rank, i, condition)?)?;
-    }
-    Ok(found)
-}
-
-/// A condition, or a list of them.
-fn referred_if(
-    alloc: Global,
-    block: &[Value],
-    rank: i64,
-    i: u16,
-    value: &Value,
-) -> Result<Option<Value>, AllocError>
-    ensures { IfOk result (λ found. option_map view found ≡ referred_if (map view block.now) rank i (Some (view value.now))) }
-{
-    if value.is_table() {
-        return Ok(Some(referred_condition(alloc, block, rank, i, value)?));
-    }
-    match value.as_array() {
-        Some(conditions) => {
-            let found = referred_conditions(alloc, block, rank, i, conditions.as_slice())?;
-            Ok(Some(Value::Array(found)))
-        }
-        None => Ok(None),
-    }
-}
-
-/// Puts the conditions of a step.
-fn refer_if(
-    alloc: Global,
-    block: &[Value],
-    rank: i64,
-    i: u16,
-    table: &mut Table,
-) -> Result<(), AllocError>
-    ensures { OnOk result (table_view table.new ≡ refer_if (map view block.now) rank i (table_view table.old)) }
-{
-    let value = match value_at(table, "if") {
-        Some(value) => referred_if(alloc, block, rank, i, value)?,
-        None => None,
-    };
-    put_if_some(alloc, table, "if", value)
 }
 
 /// Puts what names steps, where the step has a rank.
@@ -218,6 +144,7 @@ fn iterate(alloc: Global, block: &[Value], i: u16, table: &mut Table) -> Result<
     let rank = rank_of(table);
     number(alloc, i, "name", table)?;
     number(alloc, i, "body", table)?;
+    number(alloc, i, "text", table)?;
     tag(alloc, i, table)?;
     refer_for(alloc, block, i, table, rank)
 }

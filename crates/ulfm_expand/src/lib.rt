@@ -9,6 +9,7 @@
 
 mod answers;
 mod block;
+mod conditions;
 mod documents;
 mod guard;
 mod iteration;

@@ -1,14 +1,15 @@
 //! The steps of a job, written out.
-ghost use Rattle.std.specs.Prelude.{◌≡◌, ◌+◌, ◌<◌, ◌≤◌, ◌++◌, map, length, IfErr, IfOk, IfSome, OnOk};
+ghost use Rattle.std.specs.Prelude.{◌≡◌, ◌+◌, ◌<◌, ◌≤◌, ◌++◌, map, length, IfErr, IfOk, IfSome, OnOk, is_some};
+ghost use Rattle.std.specs.List.{list_any};
 ghost use Rattle.toml.specs.View.{view};
-ghost use Rattle.ulfm_expand.specs.Blocks.{block_view, item_lines, lines_of_block};
+ghost use Rattle.ulfm_expand.specs.Blocks.{block_view, goal_in, item_lines, lines_of_block};
 ghost use Rattle.ulfm_expand.specs.Guards.{guarded_from};
 ghost use Rattle.ulfm_expand.specs.Iterations.{iterated, iterations};
 ghost use Rattle.ulfm_expand.specs.Line.{line, line_view};
 ghost use Rattle.ulfm_expand.specs.Lines.{lines_of, written_out};
 ghost use Rattle.ulfm_expand.specs.Members.{in_table};
 
-use crate::block::{Block, block_in};
+use crate::block::{Block, block_in, has_goal};
 use crate::guard::guarded;
 use crate::iteration::iterated;
 use crate::line::{Line, steps_of};
@@ -29,7 +30,7 @@ pub fn written_out(alloc: Global, ranks: u8, items: &[Value]) -> Result<Vec<Line
     ensures few { IfOk result (λ lines. length lines.items ≤ 256) }
 {
     let lines = lines_of(alloc, ranks, items)?;
-    let lines = guarded_lines(alloc, items, lines.as_slice())?;
+    let lines = with_guards(alloc, items, lines)?;
     Ok(lines)
 }
 
@@ -148,6 +149,27 @@ fn push_iterations(
         push_iteration(lines, place, block, i)?;
     }
     Ok(())
+}
+
+/// Whether an error in one of these items leads to a step.
+fn leads(items: &[Value]) -> bool
+    ensures { result ≡ list_any (λ v. is_some (goal_in (view v))) items.now }
+{
+    items.iter().any(|item| has_goal(item))
+}
+
+/// These lines with the conditions of their guards.
+fn with_guards(alloc: Global, items: &[Value], lines: Vec<Line>) -> Result<Vec<Line>, AllocError>
+    requires { length lines.items ≤ 256 }
+    ensures exact { IfOk result (λ found. map line_view found.items ≡ guarded_from (map view items.now) (map line_view lines.items) 0 (map line_view lines.items)) }
+    ensures few { IfOk result (λ found. length found.items ≡ length lines.items) }
+{
+    // A guard is looked for among all lines before: in a job without `on_error` there is none.
+    if leads(items) {
+        guarded_lines(alloc, items, lines.as_slice())
+    } else {
+        Ok(lines)
+    }
 }
 
 /// Each line with the condition of its guard.

@@ -1,19 +1,19 @@
 -- A job with one more stop.
 use Rattle.std.proofs.Common.{◌≡◌, ◌≢◌, ℕ, ◌+◌, ◌<◌, ◌≤◌, List, length, map, set, Vec, Global, sym, ap, ap₂, ◌∙◌, arith}
-use Rattle.ulfm_job.proofs.Common.{Clause, LeftStep, Step, JobView, IsJob, job_view, leaving, lists_of, step_count, script_at, moved_on, stopped_at, with_stop}
+use Rattle.ulfm_job.proofs.Common.{Clause, Condition, LeftStep, Step, JobView, IsJob, job_view, leaving, lists_of, step_count, script_at, moved_on, stopped_at, with_stop}
 use Rattle.std.proofs.lemmas.List.{length-map, length-set, map-set}
 use Rattle.std.proofs.lemmas.List.Edits.{length-insert}
-use Rattle.ulfm_job.specs.Job.{moved_clause, moved_left}
+use Rattle.ulfm_job.specs.Job.{moved_clause, moved_condition, moved_left}
 use Rattle.ulfm_job.specs.declared.step.Step.TheVariants.{Stop}
 use Rattle.ulfm_job.proofs.Scripts.{step_count-set}
 
 -- a copy in which one script has the stop
-pub seen-stopped : (j : JobView) (capacity turns r at : ℕ) (vs ws : List (Vec Step Global)) (v : Vec Step Global) (conditions expected asked wanted : List Clause) (given moved_given : List LeftStep) → j ≡ leaving given (job_view capacity turns vs conditions expected)
+pub seen-stopped : (j : JobView) (capacity turns r at : ℕ) (vs ws : List (Vec Step Global)) (v : Vec Step Global) (conditions asked : List Condition) (expected wanted : List Clause) (given moved_given : List LeftStep) → j ≡ leaving given (job_view capacity turns vs conditions expected)
     → lists_of ws ≡ lists_of vs → v.items ≡ stopped_at at (script_at j r)
-    → asked ≡ map (moved_clause r at (length (script_at j r))) conditions → wanted ≡ map (moved_clause r at (length (script_at j r))) expected
+    → asked ≡ map (moved_condition r at (length (script_at j r))) conditions → wanted ≡ map (moved_clause r at (length (script_at j r))) expected
     → moved_given ≡ map (moved_left r at (length (script_at j r))) given
     → leaving moved_given (job_view capacity turns (set ws r v) asked wanted) ≡ with_stop r at j
-seen-stopped j capacity turns r at vs ws v conditions expected asked wanted given moved_given is copies stopped moved kept lefts =
+seen-stopped j capacity turns r at vs ws v conditions asked expected wanted given moved_given is copies stopped moved kept lefts =
     let items = λ (u : Vec Step Global). u.items in
     let scripts : lists_of (set ws r v) ≡ set (lists_of vs) r (stopped_at at (script_at j r)) = map-set items ws r v ∙ cc (copies, stopped) in
     let long : length (set ws r v) ≡ length vs = sym (length-map (set ws r v) items) ∙ ap length scripts ∙ length-set (lists_of vs) r _ ∙ length-map vs items in
@@ -36,10 +36,10 @@ is_job-stopped j r at h lt le room =
       most_steps = let most = h.most_steps in omega (arith, one, most, room);
     }
 
--- the clauses of a copy
-pub moved-as : (j : JobView) (r at : ℕ) (script : List Step) (clauses kept moved : List Clause) → script ≡ script_at j r → clauses ≡ kept → moved ≡ map (moved_clause r at (length script)) clauses
-    → moved ≡ map (moved_clause r at (length (script_at j r))) kept
-moved-as j r at script clauses kept moved is same h = h ∙ ap₂ (λ (steps : List Step) (cs : List Clause). map (moved_clause r at (length steps)) cs) is same
+-- what a copy has, by the numbers that steps have in it
+pub moved-as : {A : Type 0} (moving : ℕ → A → A) (j : JobView) (r : ℕ) (script : List Step) (all kept moved : List A) → script ≡ script_at j r → all ≡ kept → moved ≡ map (moving (length script)) all
+    → moved ≡ map (moving (length (script_at j r))) kept
+moved-as {A} moving j r script all kept moved is same h = h ∙ ap₂ (λ (steps : List Step) (xs : List A). map (moving (length steps)) xs) is same
 
 -- the limits of a job don't tell which steps may be given up
 pub is_job-leaving : (j : JobView) (left : List LeftStep) → IsJob (leaving left j) → IsJob j
@@ -53,8 +53,3 @@ is_job-leaving j left h = record {
   most_turns = h.most_turns;
   most_steps = h.most_steps;
 }
-
--- the steps that may be given up, of a copy
-pub lefts-as : (j : JobView) (r at : ℕ) (script : List Step) (given kept moved : List LeftStep) → script ≡ script_at j r → given ≡ kept → moved ≡ map (moved_left r at (length script)) given
-    → moved ≡ map (moved_left r at (length (script_at j r))) kept
-lefts-as j r at script given kept moved is same h = h ∙ ap₂ (λ (steps : List Step) (ls : List LeftStep). map (moved_left r at (length steps)) ls) is same

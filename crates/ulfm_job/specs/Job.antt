@@ -3,6 +3,7 @@ use Rattle.std.specs.Prelude.{◌≡◌, ◌==◌, ◌<◌, ◌≤◌, ◌+◌, 
 use Rattle.std.specs.List.{insert, list_any}
 use Rattle.std.specs.declared.alloc.Global.{Global}
 use Rattle.ulfm_job.specs.declared.clause.Clause.{Clause}
+use Rattle.ulfm_job.specs.declared.condition.Condition.{Condition}
 use Rattle.ulfm_job.specs.declared.left_step.LeftStep.{LeftStep}
 use Rattle.ulfm_job.specs.declared.step.Step.{Step}
 use Rattle.ulfm_base.specs.declared.context.Context.{Context}
@@ -15,7 +16,7 @@ pub record JobView : Type 0 where
   pub capacity : ℕ
   pub turns : ℕ
   pub scripts : List (List Step)
-  pub conditions : List Clause
+  pub conditions : List Condition
   pub expected : List Clause
   pub left : List LeftStep
 
@@ -28,7 +29,7 @@ abbrev pub lists_of : List (Vec Step Global) → List (List Step)
 lists_of scripts = map (λ script. script.items) scripts
 
 -- a job by its parts, of which no step may be given up early
-abbrev pub job_view : ℕ → ℕ → List (Vec Step Global) → List Clause → List Clause → JobView
+abbrev pub job_view : ℕ → ℕ → List (Vec Step Global) → List Condition → List Clause → JobView
 job_view capacity turns scripts conditions expected = record {
   ranks = length scripts;
   capacity = capacity;
@@ -71,6 +72,11 @@ abbrev pub moved_clause : ℕ → ℕ → ℕ → Clause → Clause
 moved_clause r at n c =
     if c.rank == r then record c { at = moved_number at n c.at; step = moved_number at n c.step } else c
 
+-- a condition, once a rank whose script has n steps has one more before its step `at`
+abbrev pub moved_condition : ℕ → ℕ → ℕ → Condition → Condition
+moved_condition r at n c =
+    if c.rank == r then record c { at = moved_number at n c.at; step = moved_number at n c.step } else c
+
 -- a step that may be given up, once a rank whose script has n steps has one more before its step `at`
 abbrev pub moved_left : ℕ → ℕ → ℕ → LeftStep → LeftStep
 moved_left r at n l = if l.rank == r then record l { at = moved_number at n l.at } else l
@@ -79,7 +85,7 @@ moved_left r at n l = if l.rank == r then record l { at = moved_number at n l.at
 abbrev pub with_stop : ℕ → ℕ → JobView → JobView
 with_stop r at j = record j {
   scripts = slice_set j.scripts r (stopped_at at (script_at j r));
-  conditions = map (moved_clause r at (length (script_at j r))) j.conditions;
+  conditions = map (moved_condition r at (length (script_at j r))) j.conditions;
   expected = map (moved_clause r at (length (script_at j r))) j.expected;
   left = map (moved_left r at (length (script_at j r))) j.left;
 }

@@ -1,4 +1,5 @@
 pub mod Job
 pub mod Begins
+pub mod Label
 pub mod Words
 pub mod inside

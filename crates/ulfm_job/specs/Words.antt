@@ -3,7 +3,7 @@ use Rattle.std.specs.Prelude.{ℕ, List, ◌++◌, Option, Some, None, codes}
 use Rattle.std.specs.Fmt.{decimal}
 use Rattle.ulfm_base.specs.declared.tag.Tag.{Tag}
 use Rattle.ulfm_job.specs.declared.step.Step.{Step}
-use Rattle.ulfm_job.specs.declared.step.Step.TheVariants.{Send, Recv, Wait, Probe, Mrecv, Cancel, Failed, Ack, Revoke, Dup, Shrink, Agree, Stop}
+use Rattle.ulfm_job.specs.declared.step.Step.TheVariants.{Send, Recv, Wait, Probe, Mrecv, Cancel, Failed, Ack, Revoke, Dup, Shrink, Agree, Note, Stop}
 
 -- a source, or `any` where it is left open
 abbrev pub source_text : Option ℕ → List ℕ
@@ -29,4 +29,5 @@ step_text (Revoke comm) = codes "revoke comm " ++ decimal comm.number
 step_text (Dup comm) = codes "dup comm " ++ decimal comm.number
 step_text (Shrink comm) = codes "shrink comm " ++ decimal comm.number
 step_text (Agree flag comm) = codes "agree " ++ decimal flag ++ codes " comm " ++ decimal comm.number
+step_text (Note text) = codes "note " ++ text
 step_text Stop = codes "stop"

@@ -1,2 +1,3 @@
 -- What invariants, private functions and proofs cite of jobs.
 pub mod Noted
+pub mod Label

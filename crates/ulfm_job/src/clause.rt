@@ -4,8 +4,8 @@ use crate::text::Text;
 use std::alloc::Global;
 use ulfm_base::OutOfMemory;
 
-/// That the answer of the step `step` of a rank begins with these words, by whole words. The step `at` of the same rank asks for it:
-/// as a condition, of an earlier step; as an expectation, of itself.
+/// That the answer of the step `step` of a rank begins with these words, by whole words. The step `at` of the same rank expects it
+/// of itself.
 #[derive(Drop)]
 pub struct Clause {
     /// The rank.

@@ -47,6 +47,7 @@ impl Step {
                 flag: *flag,
                 comm: *comm,
             }),
+            Step::Note { text } => Some(Step::Note { text: text.copy() }),
             Step::Stop => Some(Step::Stop),
         }
     }

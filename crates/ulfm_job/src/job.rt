@@ -3,16 +3,15 @@ ghost use Rattle.std.specs.Prelude.{◌≡◌, ◌≢◌, ◌<◌, ◌≤◌, If
 ghost use Rattle.ulfm_job.specs.Job.{IsJob, step_count, script_at, agreements_in, is_decided_together, may_leave, turns_at};
 
 use crate::clause::Clause;
+use crate::condition::Condition;
 use crate::fault::JobFault;
 use crate::joint::{agreements, is_decided_together, is_left, without};
 use crate::left_step::LeftStep;
+use crate::limits::MOST_STEPS;
 use crate::step::Step;
-use crate::stopped::{copied_scripts, moved_clauses, moved_left, stopped_at};
+use crate::stopped::{copied_scripts, moved_clauses, moved_conditions, moved_left, stopped_at};
 use std::marker::Model;
 use ulfm_base::OutOfMemory;
-
-/// The most steps of a job.
-pub const MOST_STEPS: usize = 256;
 
 /// What 1 to 8 ranks are to do: the room of an inbox (1 to 64 items), the most polls of one step (1 to 10,000,000),
 /// the steps of each rank, 256 at most in all, on what conditions some are played, what some expect of their answers, and which may be
@@ -22,7 +21,7 @@ pub struct Job {
     capacity: u8,
     turns: u32,
     scripts: Vec<Vec<Step>>,
-    conditions: Vec<Clause>,
+    conditions: Vec<Condition>,
     expected: Vec<Clause>,
     left: Vec<LeftStep>,
 }
@@ -46,7 +45,7 @@ impl Job {
         capacity: u8,
         turns: u32,
         scripts: Vec<Vec<Step>>,
-        conditions: Vec<Clause>,
+        conditions: Vec<Condition>,
         expected: Vec<Clause>,
     ) -> Job
         requires { IsJob (job_view capacity turns scripts.items conditions.items expected.items) }
@@ -144,7 +143,7 @@ impl Job {
         let script = self.script(rank);
         let len = script.len();
         let steps = stopped_at(alloc, script, at)?;
-        let conditions = moved_clauses(alloc, self.conditions.as_slice(), rank, at, len)?;
+        let conditions = moved_conditions(alloc, self.conditions.as_slice(), rank, at, len)?;
         let expected = moved_clauses(alloc, self.expected.as_slice(), rank, at, len)?;
         let mut scripts = copied_scripts(alloc, self.scripts.as_slice())?;
         scripts[rank as usize] = steps;
@@ -199,12 +198,13 @@ impl Job {
         ensures exact { result ≡ length (script_at self.now rank) }
         ensures ranges { IsJob self.now }
     {
+        // Read, so that the limits that each job keeps are known here.
         let _ = &self.scripts;
         self.script(rank).len()
     }
 
-    /// On what conditions steps are played: one of a step's own has to hold. A step that has none is played.
-    pub fn conditions(&self) -> &[Clause]
+    /// On what conditions steps are played: all those of one of a step's alternatives have to hold. A step that has none is played.
+    pub fn conditions(&self) -> &[Condition]
         ensures { result.now ≡ self.now.conditions }
     {
         &self.conditions
@@ -258,6 +258,7 @@ impl Job {
         ensures exact { result ≡ agreements_in (script_at self.now rank) }
         ensures few { result ≤ 256 }
     {
+        // Read, so that the limits that each job keeps are known here.
         let _ = &self.scripts;
         agreements(self.script(rank)) as u16
     }

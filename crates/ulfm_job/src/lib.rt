@@ -1,7 +1,7 @@
 //! Jobs: what the ranks are to do.
 //!
-//! A [`Job`] has 1 to 8 ranks and 1 to 256 steps in all, or none. A [`Step`] is one call of a rank. A [`Clause`] is a condition of a
-//! step, or what it expects of its answer. A [`LeftStep`] may be given up while it
+//! A [`Job`] has 1 to 8 ranks and 1 to 256 steps in all, or none. A [`Step`] is one call of a rank. A [`Condition`] is asked of
+//! an earlier answer for a step to be played, a [`Clause`] is what a step expects of its answer. A [`LeftStep`] may be given up while it
 //! stands open. `ulfm_reader` reads a job from its text, and all that plays one stands on this crate:
 //!
 //!     for step in job.script(rank) { .. }
@@ -12,21 +12,29 @@
 #![tactic(auto)]
 
 mod clause;
+mod condition;
 mod copying;
 mod fault;
 mod job;
 mod joint;
+mod label;
 mod left_step;
+pub mod limits;
 mod noted_step;
 mod step;
 mod stopped;
 mod text;
+mod texts;
 mod words;
 
 pub use clause::Clause;
+pub use condition::Condition;
 pub use fault::{Fault, JobFault};
-pub use job::{Job, MOST_STEPS};
+pub use job::Job;
+pub use label::Label;
 pub use left_step::LeftStep;
+pub use limits::MOST_STEPS;
 pub use noted_step::NotedStep;
 pub use step::Step;
 pub use text::Text;
+pub use texts::Texts;

@@ -1,6 +1,7 @@
 //! What a rank is asked to do.
 ghost use Rattle.std.specs.Prelude.{◌≡◌, ◌↔◌, IsTrue, Some};
 
+use crate::label::Label;
 use crate::text::Text;
 use ulfm_base::{Context, Tag};
 
@@ -66,6 +67,10 @@ pub enum Step {
     Agree {
         flag: u32,
         comm: Context,
+    },
+    /// Marks a place of the script, and does nothing else.
+    Note {
+        text: Label,
     },
     /// The rank stops.
     Stop,
@@ -222,6 +227,7 @@ impl Step {
                 }
                 same_comm(*comm, *other_comm)
             }
+            (Step::Note { text }, Step::Note { text: other_text }) => text.is_same(other_text),
             (Step::Stop, Step::Stop) => true,
             _ => false,
         }

@@ -1,8 +1,9 @@
 //! A script with one more stop.
 ghost use Rattle.std.specs.Prelude.{◌≡◌, ◌≤◌, IfErr, IfOk, length, map};
-ghost use Rattle.ulfm_job.specs.Job.{lists_of, moved_clause, moved_left, moved_number, moved_on, stopped_at};
+ghost use Rattle.ulfm_job.specs.Job.{lists_of, moved_clause, moved_condition, moved_left, moved_number, moved_on, stopped_at};
 
 use crate::clause::Clause;
+use crate::condition::Condition;
 use crate::fault::JobFault;
 use crate::left_step::LeftStep;
 use crate::step::Step;
@@ -87,6 +88,44 @@ fn moved_clause(
     ensures { IfOk result (λ moved. moved ≡ moved_clause rank at len clause.now) }
 {
     let mut moved = clause.copy(alloc)?;
+    if moved.rank == rank {
+        moved.at = moved_number(moved.at, at, len);
+        moved.step = moved_number(moved.step, at, len);
+    }
+    Ok(moved)
+}
+
+/// Conditions, once a rank whose script had `len` steps has one more before the step `at`.
+pub(crate) fn moved_conditions(
+    alloc: Global,
+    conditions: &[Condition],
+    rank: u8,
+    at: u16,
+    len: usize,
+) -> Result<Vec<Condition>, JobFault>
+    requires { len ≤ 256 }
+    ensures exact { IfOk result (λ moved. moved.items ≡ map (moved_condition rank at len) conditions.now) }
+    ensures memory { IfErr result (λ fault. fault ≡ JobFault.OutOfMemory) }
+{
+    let mut moved = Vec::new(alloc);
+    for condition in conditions {
+        moved.push(moved_condition(alloc, condition, rank, at, len)?)?;
+    }
+    Ok(moved)
+}
+
+/// A condition, once a rank whose script had `len` steps has one more before the step `at`.
+fn moved_condition(
+    alloc: Global,
+    condition: &Condition,
+    rank: u8,
+    at: u16,
+    len: usize,
+) -> Result<Condition, OutOfMemory>
+    requires { len ≤ 256 }
+    ensures { IfOk result (λ moved. moved ≡ moved_condition rank at len condition.now) }
+{
+    let mut moved = condition.copy(alloc)?;
     if moved.rank == rank {
         moved.at = moved_number(moved.at, at, len);
         moved.step = moved_number(moved.step, at, len);

@@ -69,6 +69,10 @@ impl fmt::Display for Step {
             Step::Dup { comm } => write!(f, "dup comm {}", comm.number),
             Step::Shrink { comm } => write!(f, "shrink comm {}", comm.number),
             Step::Agree { flag, comm } => write!(f, "agree {flag} comm {}", comm.number),
+            Step::Note { text } => {
+                let text = text.as_str();
+                write!(f, "note {text}")
+            }
             Step::Stop => f.write_str("stop"),
         }
     }

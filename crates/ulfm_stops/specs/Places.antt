@@ -2,7 +2,7 @@
 use Rattle.std.specs.Prelude.{ℕ, ◌+◌, ◌==◌, ◌&&◌, nat_le, nat_lt, Bool, true, false, not, List, [], ◌∷◌, ◌++◌, filter, length, map, slice_get, if◌then◌else◌}
 use Rattle.std.specs.List.{flat_map, list_any, position_or_len, range_with_len}
 use Rattle.std.specs.Option.{option_map_or}
-use Rattle.ulfm_job.specs.declared.clause.Clause.{Clause}
+use Rattle.ulfm_job.specs.declared.condition.Condition.{Condition}
 use Rattle.ulfm_job.specs.Job.{JobView, is_decided_together, is_stop_step, script_at}
 use Rattle.ulfm_stops.specs.declared.place.Place.{Place}
 use Rattle.ulfm_stops.specs.declared.place.Place.TheVariants.{Nowhere, One, Two}
@@ -10,7 +10,7 @@ use Rattle.ulfm_stops.specs.declared.stop.Stop.{Stop}
 
 -- the step k of the rank r is played on a condition of its own
 abbrev pub is_asked : JobView → ℕ → ℕ → Bool
-is_asked j r k = list_any (λ (c : Clause). c.rank == r && c.at == k) j.conditions
+is_asked j r k = list_any (λ (c : Condition). c.rank == r && c.at == k) j.conditions
 
 -- the step k of the rank r is a stop, and on no condition: if the rank comes to it, it stops
 abbrev pub stops_always : JobView → ℕ → ℕ → Bool

@@ -4,14 +4,14 @@ ghost use Rattle.ulfm_job.specs.Job.{lists_of};
 
 use std::alloc::Global;
 use ulfm_base::OutOfMemory;
-use ulfm_job::{Clause, Job, LeftStep, Step};
+use ulfm_job::{Clause, Condition, Job, LeftStep, Step};
 
 /// The same job once more.
 pub fn copied_job(alloc: Global, job: &Job) -> Result<Job, OutOfMemory>
     ensures { IfOk result (λ copy. copy ≡ job.now) }
 {
     let scripts = copied_scripts(alloc, job)?;
-    let conditions = copied_clauses(alloc, job.conditions())?;
+    let conditions = copied_conditions(alloc, job.conditions())?;
     let expected = copied_clauses(alloc, job.expected())?;
     let left = copied_left(alloc, job.left())?;
     Ok(Job::new(job.capacity(), job.turns(), scripts, conditions, expected).leaving(left))
@@ -46,6 +46,17 @@ fn copied_left(alloc: Global, left: &[LeftStep]) -> Result<Vec<LeftStep>, OutOfM
     let mut copies = Vec::new(alloc);
     for step in left {
         copies.push(*step)?;
+    }
+    Ok(copies)
+}
+
+/// The same conditions once more.
+fn copied_conditions(alloc: Global, conditions: &[Condition]) -> Result<Vec<Condition>, OutOfMemory>
+    ensures { IfOk result (λ copies. copies.items ≡ conditions.now) }
+{
+    let mut copies = Vec::new(alloc);
+    for condition in conditions {
+        copies.push(condition.copy(alloc)?)?;
     }
     Ok(copies)
 }

@@ -144,7 +144,5 @@ fn stops_always(job: &Job, rank: u8, at: usize) -> bool
 fn is_asked(job: &Job, rank: u8, at: usize) -> bool
     ensures { result ≡ is_asked job.now rank at }
 {
-    job.conditions()
-        .iter()
-        .any(|clause| clause.rank == rank && clause.at as usize == at)
+    job.conditions().iter().any(|condition| condition.rank == rank && condition.at as usize == at)
 }

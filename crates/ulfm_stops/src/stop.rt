@@ -51,6 +51,7 @@ impl Stop {
         ensures full { step_count job.now.scripts ≡ 256 → result ≡ Err JobFault.TooLarge }
         ensures memory { step_count job.now.scripts ≢ 256 → IfErr result (λ fault. fault ≡ JobFault.OutOfMemory) }
     {
+        // It tells the limits that each job keeps.
         let _ = job.script_len(self.rank);
         let before = self.before();
         let made = job.with_stop(self.rank, before as u16)?;

@@ -4,7 +4,7 @@ use Rattle.toml.proofs.Views.{view-Array}
 use Rattle.ulfm_expand.proofs.Common.{view}
 use Rattle.ulfm_expand.proofs.Blocks.{if-array}
 use Rattle.ulfm_expand.specs.Iterations.{referred_condition}
-use Rattle.ulfm_expand.proofs.iteration.referred_if.Goals as goal
+use Rattle.ulfm_expand.proofs.conditions.referred_if.Goals as goal
 
 pub returns-in_ok-found-in-Some : goal.returns-in_ok-found-in-Some
 returns-in_ok-found-in-Some c =
