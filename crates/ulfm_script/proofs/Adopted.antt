@@ -73,6 +73,7 @@ honest-decided board known later p comm q h running d =
       how = by_decision (record {
         topic = d.decision.topic;
         entered = enters-grew p.rank d.rank d.asked d.decision.topic h.place (length p.rank.log) g entered;
+        later = was.polled;
         proposes = record { accepted = d.decision.accepted; complete = d.decision.proposed.complete };
         outcome = outcome-decided board known later p.rank d.asked d.answer d.rank d.decision;
       });

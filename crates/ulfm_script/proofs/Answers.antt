@@ -34,6 +34,7 @@ how-grew known later r s to before from report old new k up g (by_decision h) =
     by_decision (record {
       topic = h.topic;
       entered = enters-grew r s report.step h.topic from report.at g h.entered;
+      later = h.later;
       proposes = h.proposes;
       outcome = elim h.outcome [
         | inl a ↦ inl (record { held = a.held; knows = k.keeps h.topic a.held a.knows; adoption = a.adoption })

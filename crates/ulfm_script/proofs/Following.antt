@@ -1,23 +1,16 @@
 -- Words that are followed along a text, piece by piece.
-use Rattle.std.proofs.Common.{◌≡◌, ℕ, ◌+◌, ◌/◌, ◌%◌, ◌<◌, ◌==◌, List, [], ◌∷◌, ◌++◌, length, get_or, drop, decimal, slice_index, refl, ap, sym, ◌∙◌, arith, append_assoc}
+use Rattle.std.proofs.Common.{◌≡◌, ℕ, ◌+◌, ◌/◌, ◌%◌, ◌<◌, ◌==◌, List, [], ◌∷◌, ◌++◌, length, get_or, drop, slice_index, refl, ap, sym, arith}
 use Rattle.std.proofs.lemmas.Bool.Decides.{nat_tests}
 use Rattle.std.proofs.lemmas.List.{at_drop_more}
 use Rattle.hex.proofs.Pairs.{encode_with-drop}
 use Rattle.hex.specs.Hex.{encode_lower, lower_digits}
 use Rattle.ulfm_job.specs.Begins.{begins}
-use Rattle.ulfm_script.proofs.Common.{spaced}
 use Rattle.ulfm_script.specs.declared.follow.Words.{Words}
 use Rattle.ulfm_script.specs.inside.Follow.{goes_on}
 
 -- one byte of what is left of a text
 pub byte-on : (words : Words) (text : List ℕ) (i d : ℕ) (more : List ℕ) → i < length text → goes_on words (get_or text i d ∷ (drop (i + 1) text ++ more)) ≡ goes_on words (drop i text ++ more)
 byte-on words text i d more low = sym (at_drop_more (λ (xs : List ℕ). goes_on words (xs ++ more)) text i d low)
-
--- one of the numbers that are left
-pub number-on : (words : Words) (numbers : List ℕ) (i d : ℕ) (more : List ℕ) → i < length numbers → goes_on words (32 ∷ (decimal (get_or numbers i d) ++ (spaced (drop (i + 1) numbers) ++ more))) ≡ goes_on words (spaced (drop i numbers) ++ more)
-number-on words numbers i d more low =
-    ap (λ (xs : List ℕ). goes_on words (32 ∷ xs)) (sym (append_assoc (decimal (get_or numbers i d)) (spaced (drop (i + 1) numbers)) more))
-    ∙ sym (at_drop_more (λ (ns : List ℕ). goes_on words (spaced ns ++ more)) numbers i d low)
 
 -- the two digits of one of the bytes that are left
 pub digits-on : (words : Words) (bytes : List ℕ) (i : ℕ) (more : List ℕ) → i < length bytes → goes_on words (slice_index lower_digits (slice_index bytes i / 16) ∷ slice_index lower_digits (slice_index bytes i % 16) ∷ (encode_lower (drop (i + 1) bytes) ++ more)) ≡ goes_on words (encode_lower (drop i bytes) ++ more)

@@ -4,7 +4,7 @@ use Rattle.std.proofs.lemmas.Bool.{false≢true}
 use Rattle.std.proofs.lemmas.List.{take-append-le}
 use Rattle.std.proofs.Math.Seq.{take-append_seam}
 use Rattle.ulfm_job.specs.Job.{JobView, script_at, may_leave}
-use Rattle.ulfm_job.specs.declared.clause.Clause.{Clause}
+use Rattle.ulfm_job.specs.declared.condition.Condition.{Condition}
 use Rattle.ulfm_match.proofs.Histories.{get_cases}
 use Rattle.ulfm_script.proofs.Common.{⊤, Context, FollowsSoFar, GoesThrough, IsCalled, is_stopped, Known, Player, slice_get_within, SkipsStep, start_player, State, Step, StepReport, with_rank}
 use Rattle.ulfm_script.specs.Deciding.{IsDecided}
@@ -16,7 +16,7 @@ use Rattle.ulfm_script.proofs.Decisions.{given_by_decision}
 use Rattle.ulfm_script.proofs.Progress.{answered_running, follows-rank, follows-start, none_open}
 
 -- one more step, skipped exactly where it isn't to be played
-skips-push : (conditions : List Clause) (r : ℕ) (done : List StepReport) (x : StepReport) → SkipsRightly conditions r done → is_skipped x.answer ≡ not (is_played conditions r done) → SkipsRightly conditions r (done ++ x ∷ [])
+skips-push : (conditions : List Condition) (r : ℕ) (done : List StepReport) (x : StepReport) → SkipsRightly conditions r done → is_skipped x.answer ≡ not (is_played conditions r done) → SkipsRightly conditions r (done ++ x ∷ [])
 skips-push conditions r done x h e k report g = elim (get_cases done x k report g) [
   | inl old ↦
       let same : take k (done ++ x ∷ []) ≡ take k done = take-append-le k done (x ∷ []) (omega (arith, slice_get_within done k report old)) in

@@ -5,9 +5,9 @@ use Rattle.ulfm_base.specs.declared.tag.Tag.{Tag}
 use Rattle.ulfm_rank.specs.declared.entry.Entry.TheVariants.{Sent as SentEntry, Posted as PostedEntry, Acknowledged, Revoked as RevokedEntry, Duplicated, Entered, Adopted, Stopped as StopEntry, Took, Probed, Released, Received, Cancelled as CancelEntry}
 use Rattle.ulfm_rank.specs.declared.entry.Status.{Status}
 use Rattle.ulfm_rank.specs.declared.entry.TestAnswer.TheVariants.{Done as TestDone, Over as TestOver}
-use Rattle.ulfm_job.specs.declared.step.Step.TheVariants.{Send, Recv, Wait, Probe, Mrecv, Cancel, Failed, Ack, Revoke, Dup, Shrink, Agree, Stop}
+use Rattle.ulfm_job.specs.declared.step.Step.TheVariants.{Send, Recv, Wait, Probe, Mrecv, Cancel, Failed, Ack, Revoke, Dup, Shrink, Agree, Note, Stop}
 use Rattle.ulfm_script.proofs.Common.{Context, Entry, is_stop_step, logged, State, Step, StepAnswer, StepReport, comm_of, Tests, Receives, Cancels, AnswersStep, AnswersRecv, AnswersProbe, MessageId, ⊤, nat_lt, RequestId, is_stop, is_stopped, is_revoked, acknowledged_of, Sends}
-use Rattle.ulfm_script.specs.declared.answer.StepAnswer.TheVariants.{Sent, Posted, Done, Over, Pending, Found, Cancelled, Ranks, Acked, Revoked, Made, Stopped, Refused}
+use Rattle.ulfm_script.specs.declared.answer.StepAnswer.TheVariants.{Sent, Posted, Done, Over, Pending, Found, Cancelled, Ranks, Acked, Revoked, Made, Noted, Stopped, Refused}
 
 -- an answer tells of no letter, and of no receive that was posted or released
 abbrev pub IsSilent : StepAnswer → Type 0
@@ -100,5 +100,6 @@ module _ (done : List StepReport) (r new : State) (P : Step → StepAnswer → T
   each_answer (Dup comm) (Refused e) h = same (Dup comm) (Refused e) tt refl h.1
   each_answer (Shrink comm) (Refused e) h = same (Shrink comm) (Refused e) tt refl h.1
   each_answer (Agree flag comm) (Refused e) h = same (Agree flag comm) (Refused e) tt refl h.1
+  each_answer (Note text) Noted h = same (Note text) Noted tt refl h
   each_answer Stop Stopped h = idly Stop Stopped tt (idle_unless (is_stopped r.log) r Stop StopEntry new (record { idle = tt; apart = tt; stop = refl }) (λ was. inr was) h)
   each_answer _ _ h = absurd h

@@ -79,10 +79,12 @@ pub record LacksMemory (known : Known) (r : State) (topic : Topic) (answer : Ste
   pub refused : answer ≡ Refused OutOfMemory
   pub only : new ≡ r
 
--- The step entered its topic since the step before, and the rank had a proposal there; the decision answers it.
+-- The step entered its topic since the step before, by a call that left it open, and the rank had a proposal there; the decision
+-- answers it.
 pub record AnsweredByDecision (known : Known) (rank : State) (from : ℕ) (report : StepReport) (old new : State) : Type 0 where
   pub topic : Topic
   pub entered : EntersBetween rank report.step topic from report.at
+  pub later : 0 < report.polls
   pub proposes : HasProposal old topic
   pub outcome : AdoptsKnown known old report.step topic report.answer new ⊎ LacksMemory known old topic report.answer new
 

@@ -27,9 +27,9 @@ use Rattle.ulfm_rank.specs.Calls.{Sends, Posts, Enters, acknowledging, revoking,
 use Rattle.ulfm_rank.specs.Proposal.{next_agreement}
 use Rattle.ulfm_rank.specs.Messages.{IsMessage, IsNoMessage, IsMessageAnswer, IsProbed, FindsNone, IsProbeRefusal}
 use Rattle.ulfm_job.specs.declared.step.Step.{Step}
-use Rattle.ulfm_job.specs.declared.step.Step.TheVariants.{Send, Recv, Wait, Probe, Mrecv, Cancel, Failed, Ack, Revoke, Dup, Shrink, Agree, Stop}
+use Rattle.ulfm_job.specs.declared.step.Step.TheVariants.{Send, Recv, Wait, Probe, Mrecv, Cancel, Failed, Ack, Revoke, Dup, Shrink, Agree, Note, Stop}
 use Rattle.ulfm_script.specs.declared.answer.StepAnswer.{StepAnswer}
-use Rattle.ulfm_script.specs.declared.answer.StepAnswer.TheVariants.{Sent, Posted, Done, Over, Pending, Found, Cancelled, Ranks, Acked, Revoked, Made, Stopped, Refused}
+use Rattle.ulfm_script.specs.declared.answer.StepAnswer.TheVariants.{Sent, Posted, Done, Over, Pending, Found, Cancelled, Ranks, Acked, Revoked, Made, Noted, Stopped, Refused}
 use Rattle.ulfm_script.specs.declared.answer.StepReport.{StepReport}
 
 -- the step sends no body that takes memory of its own
@@ -236,6 +236,11 @@ abbrev pub AnswersEntry : State → Step → StepAnswer → State → Type 0
 AnswersEntry r asked (Refused e) new = Refuses (entry_checks r asked) e r new
 AnswersEntry r asked _ new = ⊥
 
+-- a note is made, and changes nothing
+abbrev pub AnswersNote : State → StepAnswer → State → Type 0
+AnswersNote r Noted new = new ≡ r
+AnswersNote r _ new = ⊥
+
 -- the rank stops
 abbrev pub AnswersStop : State → StepAnswer → State → Type 0
 AnswersStop r Stopped new = new ≡ stopping r
@@ -255,6 +260,7 @@ AnswersStep before r (Revoke comm) answer new = AnswersRevoke r comm answer new
 AnswersStep before r (Dup comm) answer new = AnswersDup r comm answer new
 AnswersStep before r (Shrink comm) answer new = AnswersEntry r (Shrink comm) answer new
 AnswersStep before r (Agree flag comm) answer new = AnswersEntry r (Agree flag comm) answer new
+AnswersStep before r (Note text) answer new = AnswersNote r answer new
 AnswersStep before r Stop answer new = AnswersStop r answer new
 
 -- A poll leaves the step open: a wait, whose test says so; a probe, which finds nothing; a shrink or an agreement, which is entered.

@@ -6,7 +6,7 @@ use Rattle.hex.specs.Hex.{encode_lower}
 use Rattle.ulfm_base.specs.Error.{error_text}
 use Rattle.ulfm_rank.specs.Facts.{is_stopped}
 use Rattle.ulfm_script.specs.declared.answer.StepAnswer.{StepAnswer}
-use Rattle.ulfm_script.specs.declared.answer.StepAnswer.TheVariants.{Sent, Posted, Done, Over, Pending, Found, Cancelled, Ranks, Acked, Revoked, Made, Shrunk, Agreed, Stopped, Unfinished, Skipped, Refused}
+use Rattle.ulfm_script.specs.declared.answer.StepAnswer.TheVariants.{Sent, Posted, Done, Over, Pending, Found, Cancelled, Ranks, Acked, Revoked, Made, Shrunk, Agreed, Noted, Stopped, Unfinished, Skipped, Refused}
 use Rattle.ulfm_script.specs.declared.answer.StepReport.{StepReport}
 use Rattle.ulfm_job.specs.Words.{step_text}
 use Rattle.ulfm_script.specs.Report.{Report}
@@ -40,6 +40,7 @@ answer_text Revoked = codes "revoked"
 answer_text (Made child) = codes "comm " ++ decimal child.context.number
 answer_text (Shrunk child group me) = codes "comm " ++ decimal child.context.number ++ codes " ranks [" ++ parted group ++ codes "] me " ++ decimal me
 answer_text (Agreed value missing) = codes "agreed " ++ decimal value ++ codes " without [" ++ parted missing.items ++ codes "]"
+answer_text Noted = codes "noted"
 answer_text Stopped = codes "stopped"
 answer_text Unfinished = codes "unfinished"
 answer_text Skipped = codes "skipped"

@@ -37,6 +37,8 @@ pub enum StepAnswer {
     Shrunk(Comm, Group, u8),
     /// An agreement has this value, and leaves out these members, as ranks of the communicator.
     Agreed(u32, SmallVec<u8, 8>),
+    /// A note was made.
+    Noted,
     /// The rank stopped.
     Stopped,
     /// The last poll that the job grants left the step open.
@@ -111,6 +113,7 @@ impl Clone for StepAnswer {
             StepAnswer::Agreed(value, left_out) => {
                 StepAnswer::Agreed(*value, copy_positions(left_out)?)
             }
+            StepAnswer::Noted => StepAnswer::Noted,
             StepAnswer::Stopped => StepAnswer::Stopped,
             StepAnswer::Unfinished => StepAnswer::Unfinished,
             StepAnswer::Skipped => StepAnswer::Skipped,

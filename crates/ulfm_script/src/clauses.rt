@@ -1,4 +1,4 @@
-//! What is asked of answers.
+//! What is expected of answers.
 ghost use Rattle.std.specs.Prelude.{◌≡◌, ◌&&◌};
 ghost use Rattle.std.specs.List.{list_any};
 ghost use Rattle.ulfm_job.specs.declared.clause.Clause.{Clause as SeenClause};
@@ -58,13 +58,7 @@ fn asks_and_holds(
 }
 
 /// Whether the step `k` of a rank asks for none of these clauses, or for one that holds of these answered steps.
-pub(crate) fn one_holds(
-    alloc: Global,
-    clauses: &[Clause],
-    rank: u8,
-    k: usize,
-    done: &[StepReport],
-) -> bool
+fn one_holds(alloc: Global, clauses: &[Clause], rank: u8, k: usize, done: &[StepReport]) -> bool
     ensures { result ≡ one_holds clauses.now rank k done.now }
 {
     !asks(clauses, rank, k) || asks_and_holds(alloc, clauses, rank, k, done)

@@ -142,6 +142,7 @@ fn adopt_verdict(
     ensures stays_prepared { rank.new.state ≡ rank.old.state → IsTrue rank.old.prepared → IsTrue rank.new.prepared }
     ensures keeps_place { rank.new.state ≡ rank.old.state → IsTrue rank.old.has_place → IsTrue rank.new.has_place }
 {
+    // The flag stands in the clause alone.
     let _ = flag;
     let missing = positions_in(alloc, &held.old, &held.left_out());
     match rank.adopt_verdict(Comm { context }, held) {

@@ -10,6 +10,7 @@
 
 mod answer;
 mod clauses;
+mod conditions;
 mod fault;
 mod follow;
 mod hands;
@@ -17,15 +18,19 @@ mod joint;
 mod members;
 mod player;
 mod poll;
+mod putting;
 mod receiving;
 mod report;
+mod sink;
 mod trace;
 
 pub use answer::{Called, Decided, StepAnswer, StepReport};
 pub use clauses::{all_met, holds_of};
+pub use conditions::fulfils;
 pub use fault::RunFault;
 pub use hands::{Hands, turn};
 pub use player::Player;
+pub use putting::numbers_of;
 pub use report::RankReport;
 pub use trace::{push_answer, trace_text};
-pub use ulfm_job::{Clause, Fault, Job, JobFault, NotedStep, Step, Text};
+pub use ulfm_job::{Clause, Condition, Fault, Job, JobFault, NotedStep, Step, Text};

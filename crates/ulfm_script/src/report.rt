@@ -52,6 +52,13 @@ impl RankReport {
         self.rank.me()
     }
 
+    /// The rank, as it was when it had answered its steps.
+    pub fn rank(&self) -> &Rank
+        ensures { result.now.state ≡ self.now.rank }
+    {
+        &self.rank
+    }
+
     /// How many ranks the world has, 1 to 8.
     pub fn ranks(&self) -> u8
         ensures { result ≡ self.now.rank.ranks }

@@ -5,7 +5,7 @@ use Rattle.ulfm_job.specs.declared.step.Step.{Step}
 use Rattle.ulfm_script.specs.Player.{Player}
 use Rattle.ulfm_job.specs.Job.{JobView, script_at}
 use Rattle.ulfm_script.specs.declared.answer.StepReport.{StepReport}
-use Rattle.ulfm_job.specs.declared.clause.Clause.{Clause}
+use Rattle.ulfm_job.specs.declared.condition.Condition.{Condition}
 use Rattle.ulfm_script.specs.Reacting.{SkipsRightly, is_played}
 use Rattle.ulfm_script.specs.Script.{GivesUpRightly, IsPatient, is_played_stop, steps_done, through_stop}
 use Rattle.ulfm_rank.specs.declared.entry.TestAnswer.{TestAnswer}
@@ -32,7 +32,7 @@ pub record FollowsSoFar (script : List Step) (turns : ℕ) (p : Player) : Type 0
   pub stopped : is_stopped p.rank.log ≡ true → (steps_done p ≡ through_stop p.done script) × (p.current ≡ None)
 
 -- the step that stands open is to be played
-abbrev pub IsPlaying : List Clause → ℕ → Player → Type 0
+abbrev pub IsPlaying : List Condition → ℕ → Player → Type 0
 IsPlaying conditions r p = MatchOption p.current ⊤ (λ asked. is_played conditions r p.done ≡ true)
 
 -- a player that goes through the script of the rank r of a job, and plays a step exactly where it is to be played

@@ -1,17 +1,18 @@
 //! Polls of steps, and steps that take none.
 ghost use Rattle.std.specs.Prelude.{◌≡◌, ◌<◌, ◌+◌, length, false, IsTrue, IsSome, Some, None};
 ghost use Rattle.ulfm_job.specs.Job.{bodiless};
+ghost use Rattle.ulfm_job.specs.declared.step.Step.{Step as SeenStep};
 ghost use Rattle.ulfm_rank.specs.Facts.{is_stopped};
 ghost use Rattle.ulfm_script.specs.Calls.{IsShort};
-ghost use Rattle.ulfm_script.specs.Player.{polled, polled_on, IsFree, Polls, IsCalled, IfAnswered, GivesUpStep, SkipsStep, awaits_decision};
+ghost use Rattle.ulfm_script.specs.Player.{polled, polled_on, IsFree, IsPolledInVain, Polls, IsCalled, IfAnswered, GivesUpStep, SkipsStep, awaits_decision};
 ghost use Rattle.ulfm_script.specs.Reacting.{is_played};
 
 use super::Player;
 use crate::answer::{Called, StepAnswer};
-use crate::clauses::one_holds;
+use crate::conditions::is_played;
 use crate::poll::poll;
 use ulfm_base::CallError;
-use ulfm_job::{Clause, Step};
+use ulfm_job::{Condition, Step};
 
 impl Player {
     /// One poll of a step, and whether it answered it. Where the step is open already, this is a further poll of it. A
@@ -65,18 +66,16 @@ impl Player {
         }
     }
 
-    /// Whether the next step is to be played, on these conditions: it has none, or one of them holds of the answers so far. It never
-    /// answers out of memory.
-    pub fn is_next_played(&self, conditions: &[Clause]) -> bool
+    /// Whether the next step is to be played, on these conditions: it has none, or all those of one of its alternatives hold of the
+    /// answers so far. It never answers out of memory.
+    pub fn is_next_played(&self, conditions: &[Condition]) -> bool
         ensures { result ≡ is_played conditions.now self.now.player.rank.me self.now.player.done }
     {
-        let done = self.done.as_slice();
-        one_holds(
+        is_played(
             *self.done.allocator(),
             conditions,
             self.rank.me().number,
-            done.len(),
-            done,
+            self.done.as_slice(),
         )
     }
 
@@ -108,7 +107,7 @@ impl Player {
     /// So many more polls of the open step at once, where the next one is in vain: then they all are. It never answers out of
     /// memory.
     pub fn poll_on(&mut self, times: u32)
-        requires { IsSome self.old.player.current }
+        requires { (asked : SeenStep) × IsPolledInVain self.old.player asked }
         ensures player { self.new.player ≡ polled_on self.old.player times }
         ensures room { self.new.room ≡ self.old.room }
         ensures prepared { self.new.prepared ≡ self.old.prepared }
