@@ -7,6 +7,7 @@ pub use Rattle.toml.specs.View.{items_view, members_view, table_view, view}
 pub use Rattle.toml.specs.declared.value.Value.{Value}
 pub use Rattle.ulfm_job.specs.Job.{lists_of, step_count}
 pub use Rattle.ulfm_job.specs.declared.clause.Clause.{Clause}
+pub use Rattle.ulfm_job.specs.declared.condition.Condition.{Condition}
 pub use Rattle.ulfm_job.specs.declared.fault.JobFault.{JobFault}
 pub use Rattle.ulfm_job.specs.declared.step.Step.{Step}
 pub use Rattle.ulfm_reader.specs.JobText.{Draft}

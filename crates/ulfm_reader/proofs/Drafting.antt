@@ -4,7 +4,7 @@ use Rattle.std.proofs.lemmas.List.{length-map, get_or-map}
 use Rattle.toml.specs.Data.{Members, get_member}
 use Rattle.std.specs.Prelude.{codes}
 use Rattle.ulfm_reader.proofs.Asking.{in_step-err}
-use Rattle.ulfm_reader.proofs.Common.{Clause, JobFault, Name, Order, Step, lists_of, order_of, step_count}
+use Rattle.ulfm_reader.proofs.Common.{Clause, Condition, JobFault, Name, Order, Step, lists_of, order_of, step_count}
 use Rattle.ulfm_job.proofs.Rounds.{one_of_all}
 use Rattle.ulfm_reader.proofs.Scripts.{orders-put}
 use Rattle.ulfm_reader.specs.JobText.{drafted, in_step}
@@ -47,7 +47,7 @@ unfolding drafted
 conditions-fault d r at k script names more o ms e h named read = rw (h.orders, length-map script order_of, ← h.number, ← h.known, ← named) (in_step-err k _ _ e read)
 
 -- the fault of what is expected
-pub expected-fault : (d : CodedDraft) (r at k : ℕ) (script : List Step) (names more : List Name) (conditions : List Clause) (o : Order) (ms : Members) (e : JobFault) → IsFront d r at script names
+pub expected-fault : (d : CodedDraft) (r at k : ℕ) (script : List Step) (names more : List Name) (conditions : List Condition) (o : Order) (ms : Members) (e : JobFault) → IsFront d r at script names
     → Ok more ≡ names_in names r at (get_member (codes "name") ms)
     → conditions_in (record { rank = r; at = at; script = map order_of script; names = names }) d.conditions.items (get_member (codes "if") ms) ≡ Ok conditions
     → in_step k (expected_in r at o d.expected.items (get_member (codes "expect") ms)) ≡ Err e
@@ -56,7 +56,7 @@ unfolding drafted
 expected-fault d r at k script names more conditions o ms e h named asked read = rw (h.orders, length-map script order_of, ← h.number, ← h.known, ← named, asked) (in_step-err k _ _ e read)
 
 -- one more step
-pub one-more : (d new : CodedDraft) (r at : ℕ) (script : List Step) (names more : List Name) (conditions expected : List Clause) (x : Step) (ms : Members) → IsFront d r at script names
+pub one-more : (d new : CodedDraft) (r at : ℕ) (script : List Step) (names more : List Name) (conditions : List Condition) (expected : List Clause) (x : Step) (ms : Members) → IsFront d r at script names
     → r < length d.scripts.items
     → Ok more ≡ names_in names r at (get_member (codes "name") ms)
     → conditions_in (record { rank = r; at = at; script = map order_of script; names = names }) d.conditions.items (get_member (codes "if") ms) ≡ Ok conditions

@@ -11,6 +11,7 @@ use Rattle.ulfm_expand.specs.Lines.{Line, written_out}
 use Rattle.ulfm_expand.specs.Members.{listed}
 use Rattle.ulfm_reader.specs.Keys.{◌>>=◌, required_number, only_keys, in_range}
 use Rattle.ulfm_job.specs.declared.clause.Clause.{Clause}
+use Rattle.ulfm_job.specs.declared.condition.Condition.{Condition}
 use Rattle.ulfm_reader.specs.declared.name.Name.{Name}
 use Rattle.ulfm_reader.specs.declared.reading.Reading.{Reading as Kept}
 use Rattle.std.specs.declared.alloc.Global.{Global}
@@ -33,7 +34,7 @@ in_step k (Err f) = Err (refused.InStep f k)
 pub record Draft : Type 0 where
   pub scripts : List (List Order)
   pub names : List Name
-  pub conditions : List Clause
+  pub conditions : List Condition
   pub expected : List Clause
 
 -- nothing was read of so many ranks

@@ -4,6 +4,7 @@ use Rattle.std.specs.List.{list_any, list_all}
 use Rattle.std.specs.Option.{ok_or}
 use Rattle.std.specs.Str.{bytes_eq}
 use Rattle.toml.specs.Data.{Data, Items, no_items, item, Members, no_members, member, get_member, as_integer, as_str}
+use Rattle.ulfm_job.specs.Label.{label_of}
 use Rattle.ulfm_job.specs.declared.fault.Fault.{Fault}
 use Rattle.ulfm_job.specs.declared.fault.Fault.TheVariants.{BadKey, UnknownKey, OutOfRange}
 
@@ -63,6 +64,10 @@ only_keys names ms = if list_all (is_among names) (keys_of ms) then Ok tt else E
 abbrev pub in_range : ℕ → ℕ → ℤ → Result ℕ Fault
 in_range least most (pos n) = if nat_le least n && nat_le n most then Ok n else Err OutOfRange
 in_range least most (negsuc n) = Err OutOfRange
+
+-- the text of a note
+abbrev pub label_in : List ℕ → Result (List ℕ) Fault
+label_in text = ok_or (label_of text) OutOfRange
 
 -- a number from 0 to most that may be left out
 abbrev pub in_range_if_some : ℕ → Option ℤ → Result (Option ℕ) Fault

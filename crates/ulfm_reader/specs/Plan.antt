@@ -1,9 +1,10 @@
 -- What the text of a job asks for, without the form that a job has in memory.
 use Rattle.std.specs.Prelude.{ℕ, List, Option, map, option_map}
 use Rattle.ulfm_job.specs.declared.clause.Clause.{Clause}
+use Rattle.ulfm_job.specs.declared.condition.Condition.{Condition}
 use Rattle.ulfm_job.specs.declared.left_step.LeftStep.{LeftStep}
 use Rattle.ulfm_job.specs.declared.step.Step.{Step}
-use Rattle.ulfm_job.specs.declared.step.Step.TheVariants.{Send, Recv, Wait, Probe, Mrecv, Cancel, Failed, Ack, Revoke, Dup, Shrink, Agree, Stop}
+use Rattle.ulfm_job.specs.declared.step.Step.TheVariants.{Send, Recv, Wait, Probe, Mrecv, Cancel, Failed, Ack, Revoke, Dup, Shrink, Agree, Note, Stop}
 use Rattle.ulfm_job.specs.Job.{JobView}
 
 -- what a step asks for; communicators and tags are numbers, and a receive or a probe names a source and a tag or leaves them open
@@ -20,6 +21,7 @@ pub data Order : Type 0 where
   dup : ℕ → Order
   shrink : ℕ → Order
   agree : ℕ → ℕ → Order
+  note : List ℕ → Order
   stop : Order
 
 -- one step of the file
@@ -33,7 +35,7 @@ pub record Plan : Type 0 where
   pub capacity : ℕ
   pub turns : ℕ
   pub scripts : List (List Order)
-  pub conditions : List Clause
+  pub conditions : List Condition
   pub expected : List Clause
   pub left : List LeftStep
 
@@ -51,6 +53,7 @@ order_of (Revoke comm) = revoke comm.number
 order_of (Dup comm) = dup comm.number
 order_of (Shrink comm) = shrink comm.number
 order_of (Agree flag comm) = agree flag comm.number
+order_of (Note text) = note text
 order_of Stop = stop
 
 -- the plan of a job

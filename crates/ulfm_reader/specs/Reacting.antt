@@ -1,10 +1,11 @@
 -- The names of steps, their conditions, and what they expect, by cases in the order of the checks.
-use Rattle.std.specs.Prelude.{ℕ, ℤ, ◌==◌, nat_lt, nat_le, Bool, ◌&&◌, ◌||◌, List, [], ◌∷◌, ◌++◌, length, Option, Some, None, option_map, is_none, find, Result, Ok, Err, slice_get, if◌then◌else◌, codes}
+use Rattle.std.specs.Prelude.{ℕ, ℤ, ◌==◌, nat_lt, nat_le, ◌+◌, Bool, ◌&&◌, ◌||◌, List, [], ◌∷◌, ◌++◌, length, Option, Some, None, option_map, is_none, is_some, find, map, Result, Ok, Err, slice_get, if◌then◌else◌, codes}
 use Rattle.std.specs.List.{list_all}
 use Rattle.std.specs.Option.{ok_or}
 use Rattle.std.specs.Str.{bytes_eq}
 use Rattle.toml.specs.Data.{Data, Items, no_items, item, Members, get_member, as_array, as_integer, as_str, as_table}
 use Rattle.ulfm_job.specs.declared.clause.Clause.{Clause}
+use Rattle.ulfm_job.specs.declared.condition.Condition.{Condition}
 use Rattle.ulfm_job.specs.declared.fault.Fault.{Fault}
 use Rattle.ulfm_job.specs.declared.fault.Fault.TheVariants.{BadKey, OutOfRange}
 use Rattle.ulfm_reader.specs.declared.name.Name.{Name}
@@ -74,15 +75,14 @@ words_in is_good (Some words) = if is_good words then Ok words else Err OutOfRan
 abbrev pub clause : ℕ → ℕ → ℕ → List ℕ → Clause
 clause rank at step words = record { rank = rank; at = at; step = step; words = words }
 
--- clauses, and behind them one for each of these words
-unfoldable pub clauses_onto : (List ℕ → Bool) → ℕ → ℕ → ℕ → List Clause → Items → Result (List Clause) Fault
-clauses_onto is_good rank at step before no_items = Ok before
-clauses_onto is_good rank at step before (item d ds) =
-    words_in is_good (as_str d) >>= (λ words. clauses_onto is_good rank at step (before ++ clause rank at step words ∷ []) ds)
+-- words that pass a test, behind others
+unfoldable pub words_onto : (List ℕ → Bool) → List (List ℕ) → Items → Result (List (List ℕ)) Fault
+words_onto is_good before no_items = Ok before
+words_onto is_good before (item d ds) = words_in is_good (as_str d) >>= (λ words. words_onto is_good (before ++ words ∷ []) ds)
 
--- the same, where there are 1 to 16 of them
-abbrev pub few_clauses : (List ℕ → Bool) → ℕ → ℕ → ℕ → List Clause → Items → Result (List Clause) Fault
-few_clauses is_good rank at step before ds = if are_few ds then clauses_onto is_good rank at step before ds else Err OutOfRange
+-- 1 to 16 of them
+abbrev pub few_words : (List ℕ → Bool) → Items → Result (List (List ℕ)) Fault
+few_words is_good ds = if are_few ds then words_onto is_good [] ds else Err OutOfRange
 
 -- what a step is, with what it is asked by: the rank, its number there, and the steps and names that were read before it
 pub record Asker : Type 0 where
@@ -100,49 +100,83 @@ earlier step (Some order) = Ok (step, order)
 abbrev pub earlier_in : Asker → Reference → Result (ℕ × Order) Fault
 earlier_in asker reference = req_in asker.names asker.rank reference >>= (λ step. earlier step (slice_get asker.script step))
 
--- what one table of an `if` asks for: an earlier step, with its number, and words
+-- the key of a condition's words: `is`, or where that isn't there `not`
+abbrev pub words_key : Members → List ℕ
+words_key ms = if is_some (get_member (codes "is") ms) then codes "is" else codes "not"
+
+-- what one table asks for: an earlier step, with its number, and words
 unfoldable pub asked_in : Asker → Members → Result ((ℕ × Order) × Items) Fault
 asked_in asker ms = do
   step_key ← required_reference (codes "step") ms
-  words ← required as_array (get_member (codes "is") ms)
-  keys ← only_keys (codes "step" ∷ codes "is" ∷ []) ms
+  words ← required as_array (get_member (words_key ms) ms)
+  keys ← only_keys (codes "step" ∷ words_key ms ∷ []) ms
   found ← earlier_in asker step_key
   Ok (found, words)
 
--- the conditions of one table: its step's answer may begin with one of its words
-abbrev pub conditions_of : Asker → List Clause → Members → Result (List Clause) Fault
-conditions_of asker before ms =
-    asked_in asker ms >>= (λ asked. few_clauses (may_ask asked.0.1) asker.rank asker.at asked.0.0 before asked.1)
+-- the condition that a step's answer begins with one of these words, or where there is no `is`, with none of them
+abbrev pub condition : Asker → ℕ → Members → ℕ → List (List ℕ) → Condition
+condition asker a ms step words =
+    record { rank = asker.rank; at = asker.at; alternative = a; step = step; is_not = is_none (get_member (codes "is") ms); words = words }
 
--- the conditions of what may be no table
-abbrev pub conditions_at : Asker → List Clause → Option Members → Result (List Clause) Fault
-conditions_at asker before None = Err BadKey
-conditions_at asker before (Some ms) = conditions_of asker before ms
+-- the condition of one table, of the alternative a
+abbrev pub condition_in : Asker → ℕ → Members → Result Condition Fault
+condition_in asker a ms = asked_in asker ms >>= (λ asked. few_words (may_ask asked.0.1) asked.1 >>= (λ words. Ok (condition asker a ms asked.0.0 words)))
 
--- those of some tables
-unfoldable pub conditions_onto : Asker → List Clause → Items → Result (List Clause) Fault
-conditions_onto asker before no_items = Ok before
-conditions_onto asker before (item d ds) = conditions_at asker before (as_table d) >>= (λ more. conditions_onto asker more ds)
+-- conditions, and behind them what one item after another of a list gives, the first of which has this number
+unfoldable pub tables_onto : (ℕ → List Condition → Option Members → Result (List Condition) Fault) → ℕ → List Condition → Items → Result (List Condition) Fault
+tables_onto read k before no_items = Ok before
+tables_onto read k before (item d ds) = read k before (as_table d) >>= (λ more. tables_onto read (k + 1) more ds)
 
--- those of a list of 1 to 16 tables
-abbrev pub listed_conditions : Asker → List Clause → Option Items → Result (List Clause) Fault
+-- the same, where there are 1 to 16 of them
+abbrev pub few_tables : (ℕ → List Condition → Option Members → Result (List Condition) Fault) → List Condition → Items → Result (List Condition) Fault
+few_tables read before ds = if are_few ds then tables_onto read 0 before ds else Err OutOfRange
+
+-- behind others the condition of what may be no table
+abbrev pub condition_onto : Asker → ℕ → List Condition → Option Members → Result (List Condition) Fault
+condition_onto asker a before None = Err BadKey
+condition_onto asker a before (Some ms) = condition_in asker a ms >>= (λ c. Ok (before ++ c ∷ []))
+
+-- the items of the key `all`, beside which no other stands
+abbrev pub all_in : Members → Result Items Fault
+all_in ms = do
+  ds ← required as_array (get_member (codes "all") ms)
+  keys ← only_keys (codes "all" ∷ []) ms
+  Ok ds
+
+-- the conditions of an alternative: of one table, or by its key `all` of tables that have to hold together
+abbrev pub alternative_of : Asker → ℕ → List Condition → Members → Result (List Condition) Fault
+alternative_of asker a before ms =
+    if is_none (get_member (codes "all") ms) then condition_onto asker a before (Some ms)
+    else all_in ms >>= few_tables (λ k. condition_onto asker a) before
+
+-- the alternative of what may be no table
+abbrev pub alternative_onto : Asker → ℕ → List Condition → Option Members → Result (List Condition) Fault
+alternative_onto asker a before None = Err BadKey
+alternative_onto asker a before (Some ms) = alternative_of asker a before ms
+
+-- those of a list of 1 to 16
+abbrev pub listed_conditions : Asker → List Condition → Option Items → Result (List Condition) Fault
 listed_conditions asker before None = Err BadKey
-listed_conditions asker before (Some ds) = if are_few ds then conditions_onto asker before ds else Err OutOfRange
+listed_conditions asker before (Some ds) = few_tables (alternative_onto asker) before ds
 
--- those of one table, or of a list
-abbrev pub any_conditions : Asker → List Clause → Option Members → Option Items → Result (List Clause) Fault
-any_conditions asker before (Some ms) list = conditions_of asker before ms
+-- those of one alternative, or of a list
+abbrev pub any_conditions : Asker → List Condition → Option Members → Option Items → Result (List Condition) Fault
+any_conditions asker before (Some ms) list = alternative_of asker 0 before ms
 any_conditions asker before None list = listed_conditions asker before list
 
 -- those of the key `if`, where it is there
-abbrev pub conditions_in : Asker → List Clause → Option Data → Result (List Clause) Fault
+abbrev pub conditions_in : Asker → List Condition → Option Data → Result (List Condition) Fault
 conditions_in asker before None = Ok before
 conditions_in asker before (Some d) = any_conditions asker before (as_table d) (as_array d)
+
+-- clauses, and behind them one for each of these words, of a step's own answer
+abbrev pub clauses_with : ℕ → ℕ → List Clause → List (List ℕ) → List Clause
+clauses_with rank at before words = before ++ map (clause rank at at) words
 
 -- what a step expects of its own answer, by a list of words
 abbrev pub listed_expected : ℕ → ℕ → Order → List Clause → Option Items → Result (List Clause) Fault
 listed_expected rank at order before None = Err BadKey
-listed_expected rank at order before (Some ds) = few_clauses (may_expect order) rank at at before ds
+listed_expected rank at order before (Some ds) = few_words (may_expect order) ds >>= (λ words. Ok (clauses_with rank at before words))
 
 -- by the key `expect`, where it is there
 abbrev pub expected_in : ℕ → ℕ → Order → List Clause → Option Data → Result (List Clause) Fault

@@ -4,10 +4,10 @@ use Rattle.std.specs.Str.{bytes_eq}
 use Rattle.toml.specs.Data.{Members}
 use Rattle.ulfm_job.specs.declared.fault.Fault.{Fault}
 use Rattle.ulfm_job.specs.declared.fault.Fault.TheVariants.{UnknownOp}
-use Rattle.ulfm_reader.specs.Keys.{◌>>=◌, required_number, optional_number, required_text, only_keys, in_range, in_range_if_some}
+use Rattle.ulfm_reader.specs.Keys.{◌>>=◌, label_in, required_number, optional_number, required_text, only_keys, in_range, in_range_if_some}
 use Rattle.ulfm_reader.specs.declared.name.Name.{Name}
 use Rattle.ulfm_reader.specs.Reacting.{required_reference, req_in}
-use Rattle.ulfm_reader.specs.Plan.{Order, PlannedStep, send, recv, wait, probe, mrecv, cancel, failed, ack, revoke, dup, shrink, agree, stop}
+use Rattle.ulfm_reader.specs.Plan.{Order, PlannedStep, send, recv, wait, probe, mrecv, cancel, failed, ack, revoke, dup, shrink, agree, note, stop}
 
 -- the step of a `send`
 unfoldable pub send_step : ℕ → Members → Result PlannedStep Fault
@@ -110,6 +110,16 @@ agree_step ranks ms = do
   comm ← in_range 0 62 (unwrap_or comm_key (pos 0))
   Ok (record { rank = rank; order = agree flag comm })
 
+-- the step of a `note`
+unfoldable pub note_step : ℕ → Members → Result PlannedStep Fault
+note_step ranks ms = do
+  rank_key ← required_number (codes "rank") ms
+  text_key ← required_text (codes "text") ms
+  keys ← only_keys (codes "op" ∷ codes "rank" ∷ codes "name" ∷ codes "if" ∷ codes "expect" ∷ codes "text" ∷ []) ms
+  rank ← in_range 0 (ranks - 1) rank_key
+  text ← label_in text_key
+  Ok (record { rank = rank; order = note text })
+
 -- the step of a `stop`
 unfoldable pub stop_step : ℕ → Members → Result PlannedStep Fault
 stop_step ranks ms = do
@@ -133,6 +143,7 @@ step_of_op ranks names op ms =
     else if bytes_eq op (codes "dup") then step_on_comm dup ranks ms
     else if bytes_eq op (codes "shrink") then step_on_comm shrink ranks ms
     else if bytes_eq op (codes "agree") then agree_step ranks ms
+    else if bytes_eq op (codes "note") then note_step ranks ms
     else if bytes_eq op (codes "stop") then stop_step ranks ms
     else Err UnknownOp
 

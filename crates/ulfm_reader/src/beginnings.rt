@@ -2,16 +2,24 @@
 ghost use Rattle.std.specs.Prelude.{◌≡◌, map};
 ghost use Rattle.std.specs.List.{list_any};
 ghost use Rattle.ulfm_job.specs.Begins.{begins, ends_word};
-ghost use Rattle.ulfm_reader.specs.Beginnings.{begin_alike, is_alike, may_answer, may_ask, may_expect, not_answered, own_answers, refusals};
+ghost use Rattle.ulfm_reader.specs.Beginnings.{begin_alike, is_alike, is_front, may_answer, may_ask, may_expect, not_answered, own_answers, refusals};
 ghost use Rattle.ulfm_reader.specs.Plan.{order_of};
 
 use ulfm_job::Step;
+use ulfm_job::limits::MOST_WORDS;
 
-/// The most bytes of words.
-const MOST_WORDS: usize = 1024;
+/// The beginnings behind which an answer goes on.
+const FRONTS: &[&str] = &[
+    "done from",
+    "found from",
+    "ranks",
+    "acked",
+    "comm",
+    "agreed",
+];
 
 /// The answers that tell of something in the way.
-const REFUSALS: &[&str] = &[
+pub const REFUSALS: &[&str] = &[
     "over 5 ProcFailed",
     "over 6 Revoked",
     "over 15 Truncated",
@@ -56,29 +64,44 @@ pub fn begins(text: &[u8], words: &[u8]) -> bool
     ends_word(left)
 }
 
-/// Whether one of two texts begins with the other.
-fn begin_alike(text: &[u8], words: &[u8]) -> bool
-    ensures { result ≡ begin_alike text.now words.now }
+/// The same of texts.
+pub fn begins_with(text: &str, words: &str) -> bool
+    ensures { result ≡ begins text.now words.now }
 {
-    begins(text, words) || begins(words, text)
+    begins(text.as_bytes(), words.as_bytes())
 }
 
-/// Whether the words and a text begin alike.
-fn is_alike_to(text: &str, words: &str) -> bool
-    ensures { result ≡ begin_alike text.now words.now }
+/// Whether a text begins with one of these.
+fn begins_with_one(text: &str, fronts: &[&str]) -> bool
+    ensures { result ≡ list_any (λ front. begins text.now front.now) fronts.now }
 {
-    begin_alike(text.as_bytes(), words.as_bytes())
+    fronts.iter().any(|front| begins_with(text, front))
 }
 
-/// Whether the words and one of these texts begin alike.
+/// Whether an answer goes on behind this text.
+fn is_front(text: &str) -> bool
+    ensures { result ≡ is_front text.now }
+{
+    begins_with_one(text, FRONTS)
+}
+
+/// Whether an answer that begins with this text may begin with these words: the text does, or the words do with the text, where an
+/// answer goes on.
+fn begin_alike(text: &str, words: &str) -> bool
+    ensures { result ≡ begin_alike text.now words.now }
+{
+    begins_with(text, words) || (is_front(text) && begins_with(words, text))
+}
+
+/// Whether an answer that begins with one of these texts may begin with these words.
 fn is_alike_to_one(texts: &[&str], words: &str) -> bool
     ensures { result ≡ list_any (λ text. begin_alike text.now words.now) texts.now }
 {
-    texts.iter().any(|text| is_alike_to(text, words))
+    texts.iter().any(|text| begin_alike(text, words))
 }
 
-/// Whether the words and one of these texts begin alike.
-fn is_alike(texts: &[&str], words: &str) -> bool
+/// Whether an answer that begins with one of these texts may begin with these words.
+pub fn is_alike(texts: &[&str], words: &str) -> bool
     ensures { result ≡ is_alike (map (λ s. s.now) texts.now) words.now }
 {
     is_alike_to_one(texts, words)
@@ -101,6 +124,7 @@ fn is_own(step: &Step, words: &str) -> bool
         Step::Dup { .. } => is_alike(&["comm"], words),
         Step::Shrink { .. } => is_alike(&["comm", "unfinished"], words),
         Step::Agree { .. } => is_alike(&["agreed", "unfinished"], words),
+        Step::Note { .. } => is_alike(&["noted"], words),
         Step::Stop => is_alike(&["stopped"], words),
     }
 }
@@ -112,7 +136,7 @@ fn is_refusal(words: &str) -> bool
     is_alike(REFUSALS, words)
 }
 
-/// Whether an answer of the step may begin with these words, of at most 1,024 bytes. A stop is never refused.
+/// Whether an answer of the step may begin with these words, of at most 1,024 bytes. A note and a stop are never refused.
 pub fn may_expect(step: &Step, words: &str) -> bool
     ensures { result ≡ may_expect (order_of step.now) words.now }
 {
@@ -123,7 +147,7 @@ pub fn may_expect(step: &Step, words: &str) -> bool
         return true;
     }
     match step {
-        Step::Stop => false,
+        Step::Note { .. } | Step::Stop => false,
         _ => is_refusal(words),
     }
 }

@@ -1,23 +1,20 @@
-//! The conditions and the expectations of a step.
-ghost use Rattle.std.specs.Prelude.{◌≡◌, codes};
-ghost use Rattle.toml.specs.Data.{as_str, as_table, as_array, get_member};
+//! Words that answers begin with, and what a step expects of its own answer.
+ghost use Rattle.std.specs.Prelude.{◌≡◌, ◌≤◌, [], OnOk, codes, length, true};
+ghost use Rattle.toml.specs.Data.{as_str, as_array, get_member};
 ghost use Rattle.toml.specs.View.{view, table_view, items_view};
 ghost use Rattle.ulfm_reader.specs.JobText.{Gives, in_step};
-ghost use Rattle.ulfm_reader.specs.Keys.{required};
 ghost use Rattle.ulfm_reader.specs.Plan.{order_of};
-ghost use Rattle.ulfm_reader.specs.inside.Reading.{map_ok, asker_view, may_begin, reference_view};
-ghost use Rattle.ulfm_reader.specs.Reacting.{are_few, clauses_onto, few_clauses, earlier_in, asked_in, conditions_of, conditions_onto, conditions_in, expected_in, words_in};
+ghost use Rattle.ulfm_reader.specs.inside.Reading.{map_ok, may_begin};
+ghost use Rattle.ulfm_reader.specs.Reacting.{are_few, clauses_with, expected_in, few_words, words_in, words_onto};
 
 use crate::asker::Asker;
 use crate::beginnings::{may_ask, may_expect};
-use crate::fields::{only_keys, required_reference, value_at};
-use crate::ranges::req_in;
-use crate::reference::Reference;
+use crate::fields::value_at;
+use std::alloc::Global;
 use toml::{Table, Value};
+use ulfm_base::OutOfMemory;
+use ulfm_job::limits::MOST_ITEMS;
 use ulfm_job::{Clause, Fault, JobFault, Step, Text};
-
-/// The most words of a list, and the most tables of an `if`.
-const MOST_ITEMS: usize = 16;
 
 /// Whether the words fit an answer of the step, of a condition or of what is expected.
 fn may_begin(is_condition: bool, asked: &Step, words: &str) -> bool
@@ -44,148 +41,71 @@ fn words_in<'a>(is_condition: bool, asked: &Step, value: &'a Value) -> Result<&'
     }
 }
 
-/// Clauses behind those that are there, one for each of these words.
-fn push_clauses(
-    clauses: &mut Vec<Clause>,
+/// The words of values.
+fn all_words(
+    alloc: Global,
+    place: u16,
     is_condition: bool,
     asked: &Step,
-    asker: &Asker<'_>,
-    step: u16,
     values: &[Value],
-) -> Result<(), JobFault>
-    ensures { Gives (λ _. clauses.new.items) result (in_step asker.now.place (clauses_onto (may_begin is_condition asked.now) asker.now.rank asker.now.at step clauses.old.items (items_view values.now))) }
+) -> Result<Vec<Text>, JobFault>
+    ensures { Gives (λ texts. texts.items) result (in_step place (words_onto (may_begin is_condition asked.now) [] (items_view values.now))) }
 {
+    let mut texts = Vec::new(alloc);
     for value in values {
         let words = match words_in(is_condition, asked, value) {
             Ok(words) => words,
-            Err(fault) => return Err(JobFault::InStep(fault, asker.place)),
+            Err(fault) => return Err(JobFault::InStep(fault, place)),
         };
-        let words = Text::new(*clauses.allocator(), words)?;
-        clauses.push(Clause {
-            rank: asker.rank,
-            at: asker.at,
-            step,
-            words,
-        })?;
+        let words = Text::new(alloc, words)?;
+        texts.push(words)?;
     }
-    Ok(())
+    Ok(texts)
 }
 
 /// Whether there are 1 to 16 values.
-fn are_few(values: &[Value]) -> bool
-    ensures { result ≡ are_few (items_view values.now) }
+pub fn are_few(values: &[Value]) -> bool
+    ensures exact { result ≡ are_few (items_view values.now) }
+    ensures few { result ≡ true → length values.now ≤ 16 }
 {
     !values.is_empty() && values.len() <= MOST_ITEMS
 }
 
-/// The same, where there are 1 to 16 words.
-fn push_few(
-    clauses: &mut Vec<Clause>,
+/// The words of 1 to 16 values.
+pub fn few_words(
+    alloc: Global,
+    place: u16,
     is_condition: bool,
     asked: &Step,
-    asker: &Asker<'_>,
-    step: u16,
     values: &[Value],
-) -> Result<(), JobFault>
-    ensures { Gives (λ _. clauses.new.items) result (in_step asker.now.place (few_clauses (may_begin is_condition asked.now) asker.now.rank asker.now.at step clauses.old.items (items_view values.now))) }
+) -> Result<Vec<Text>, JobFault>
+    ensures { Gives (λ texts. texts.items) result (in_step place (few_words (may_begin is_condition asked.now) (items_view values.now))) }
 {
     if !are_few(values) {
-        return Err(JobFault::InStep(Fault::OutOfRange, asker.place));
+        return Err(JobFault::InStep(Fault::OutOfRange, place));
     }
-    push_clauses(clauses, is_condition, asked, asker, step, values)
+    all_words(alloc, place, is_condition, asked, values)
 }
 
-/// An earlier step with its number.
-#[derive(Clone, Copy)]
-struct Earlier<'a> {
-    number: u16,
-    step: &'a Step,
-}
-
-/// The earlier step that a condition names.
-fn earlier_in<'a>(asker: &Asker<'a>, reference: &Reference<'_>) -> Result<Earlier<'a>, Fault>
-    ensures { map_ok (λ found. (found.number, order_of found.step.now)) result ≡ earlier_in (asker_view asker.now) (reference_view reference.now) }
-{
-    let number = req_in(asker.names, asker.rank, reference)?;
-    match asker.script.get(number as usize) {
-        Some(step) => Ok(Earlier { number, step }),
-        None => Err(Fault::OutOfRange),
-    }
-}
-
-/// The values of an array at a key that has to be there.
-fn required_array<'a>(table: &'a Table, key: &str) -> Result<&'a [Value], Fault>
-    ensures { map_ok (λ s. items_view s.now) result ≡ required as_array (get_member key.now (table_view table.now)) }
-{
-    match value_at(table, key) {
-        Some(value) => match value.as_array() {
-            Some(values) => Ok(values.as_slice()),
-            None => Err(Fault::BadKey),
-        },
-        None => Err(Fault::BadKey),
-    }
-}
-
-/// What one table of an `if` asks for.
-#[tactic(auto, unfolding(crate::specs::Reacting::asked_in))]
-fn asked_in<'a>(asker: &Asker<'a>, table: &'a Table) -> Result<(Earlier<'a>, &'a [Value]), Fault>
-    ensures { map_ok (λ asked. ((asked.0.number, order_of asked.0.step.now), items_view asked.1.now)) result ≡ asked_in (asker_view asker.now) (table_view table.now) }
-{
-    let reference = required_reference(table, "step")?;
-    let words = required_array(table, "is")?;
-    only_keys(table, &["step", "is"])?;
-    let earlier = earlier_in(asker, &reference)?;
-    Ok((earlier, words))
-}
-
-/// The conditions of one table, behind those that are there.
-fn push_table(clauses: &mut Vec<Clause>, asker: &Asker<'_>, table: &Table) -> Result<(), JobFault>
-    ensures { Gives (λ _. clauses.new.items) result (in_step asker.now.place (conditions_of (asker_view asker.now) clauses.old.items (table_view table.now))) }
-{
-    match asked_in(asker, table) {
-        Ok((earlier, words)) => push_few(clauses, true, earlier.step, asker, earlier.number, words),
-        Err(fault) => Err(JobFault::InStep(fault, asker.place)),
-    }
-}
-
-/// The conditions of tables, behind those that are there.
-fn push_tables(
+/// Clauses of a step's own answer behind those that are there, one for each of these words.
+fn push_clauses(
     clauses: &mut Vec<Clause>,
-    asker: &Asker<'_>,
-    values: &[Value],
-) -> Result<(), JobFault>
-    ensures { Gives (λ _. clauses.new.items) result (in_step asker.now.place (conditions_onto (asker_view asker.now) clauses.old.items (items_view values.now))) }
+    rank: u8,
+    at: u16,
+    texts: &[Text],
+) -> Result<(), OutOfMemory>
+    ensures { OnOk result (clauses.new.items ≡ clauses_with rank at clauses.old.items texts.now) }
 {
-    for value in values {
-        match value.as_table() {
-            Some(table) => push_table(clauses, asker, table)?,
-            None => return Err(JobFault::InStep(Fault::BadKey, asker.place)),
-        }
+    for text in texts {
+        let words = text.copy(*clauses.allocator())?;
+        clauses.push(Clause {
+            rank,
+            at,
+            step: at,
+            words,
+        })?;
     }
     Ok(())
-}
-
-/// The conditions of the key `if`, where it is there: of one table, or of a list of 1 to 16.
-pub fn push_conditions(
-    clauses: &mut Vec<Clause>,
-    asker: &Asker<'_>,
-    table: &Table,
-) -> Result<(), JobFault>
-    ensures { Gives (λ _. clauses.new.items) result (in_step asker.now.place (conditions_in (asker_view asker.now) clauses.old.items (get_member (codes "if") (table_view table.now)))) }
-{
-    let Some(value) = value_at(table, "if") else {
-        return Ok(());
-    };
-    if let Some(table) = value.as_table() {
-        return push_table(clauses, asker, table);
-    }
-    let Some(values) = value.as_array() else {
-        return Err(JobFault::InStep(Fault::BadKey, asker.place));
-    };
-    if !are_few(values.as_slice()) {
-        return Err(JobFault::InStep(Fault::OutOfRange, asker.place));
-    }
-    push_tables(clauses, asker, values.as_slice())
 }
 
 /// What the step expects by the key `expect`, where it is there: a list of 1 to 16 words.
@@ -200,8 +120,16 @@ pub fn push_expected(
     let Some(value) = value_at(table, "expect") else {
         return Ok(());
     };
-    match value.as_array() {
-        Some(values) => push_few(clauses, false, step, asker, asker.at, values.as_slice()),
-        None => Err(JobFault::InStep(Fault::BadKey, asker.place)),
-    }
+    let Some(values) = value.as_array() else {
+        return Err(JobFault::InStep(Fault::BadKey, asker.place));
+    };
+    let texts = few_words(
+        *clauses.allocator(),
+        asker.place,
+        false,
+        step,
+        values.as_slice(),
+    )?;
+    push_clauses(clauses, asker.rank, asker.at, texts.as_slice())?;
+    Ok(())
 }

@@ -8,21 +8,22 @@ ghost use Rattle.ulfm_reader.specs.Reacting.{names_in};
 ghost use Rattle.ulfm_reader.specs.inside.Reading.{draft_view, map_ok, name_behind, planned};
 
 use crate::asker::Asker;
-use crate::clauses::{push_conditions, push_expected};
+use crate::clauses::push_expected;
+use crate::conditions::push_conditions;
 use crate::fields::value_at;
 use crate::name::{Name, is_new_name};
 use crate::ops::step_of;
 use crate::placed::Placed;
 use std::alloc::Global;
 use toml::{Table, Value};
-use ulfm_job::{Clause, Fault, JobFault, Step, Text};
+use ulfm_job::{Clause, Condition, Fault, JobFault, Step, Text};
 
 /// The steps of each rank that were read, their names, on what conditions some are played, and what some expect.
 #[derive(Drop)]
 pub struct Draft {
     pub scripts: Vec<Vec<Step>>,
     pub names: Vec<Name>,
-    pub conditions: Vec<Clause>,
+    pub conditions: Vec<Condition>,
     pub expected: Vec<Clause>,
 }
 

@@ -10,6 +10,7 @@ use crate::fields::{in_range, only_keys, required_number, value_at};
 use crate::rows::never_values;
 use toml::{Table, Value};
 use ulfm_job::Fault;
+use ulfm_job::limits::{MOST_CAPACITY, MOST_RANKS, MOST_TURNS};
 
 /// The job's own keys.
 #[derive(Clone, Copy)]
@@ -37,9 +38,9 @@ pub fn head_of(table: &Table) -> Result<Head<'_>, Fault>
     let steps = step_values(table)?;
     let never = never_values(table)?;
     only_keys(table, &["ranks", "capacity", "turns", "step", "never"])?;
-    let ranks = in_range(ranks, 1, 8)?;
-    let capacity = in_range(capacity, 1, 64)?;
-    let turns = in_range(turns, 1, 10_000_000)?;
+    let ranks = in_range(ranks, 1, u32::from(MOST_RANKS))?;
+    let capacity = in_range(capacity, 1, u32::from(MOST_CAPACITY))?;
+    let turns = in_range(turns, 1, MOST_TURNS)?;
     Ok(Head {
         ranks: ranks as u8,
         capacity: capacity as u8,

@@ -11,6 +11,7 @@ mod asker;
 mod beginnings;
 mod claim;
 mod clauses;
+mod conditions;
 mod draft;
 mod fields;
 mod goals;
@@ -24,6 +25,6 @@ mod reading;
 mod reference;
 mod rows;
 
-pub use beginnings::begins;
-pub use name::Name;
+pub use beginnings::{REFUSALS, begins, begins_with, is_alike};
+pub use name::{Name, is_name};
 pub use reading::{ReadJob, Reading, no_toml};

@@ -4,9 +4,7 @@ ghost use Rattle.std.specs.List.{list_all};
 ghost use Rattle.ulfm_reader.specs.Reacting.{is_name, is_name_byte, named, is_called, is_new_name};
 
 use ulfm_job::Text;
-
-/// The most bytes of a name.
-const MOST_NAME: usize = 32;
+use ulfm_job::limits::MOST_NAME;
 
 /// The name of a step: its rank, its number there, and the text.
 #[derive(Drop)]
@@ -42,8 +40,8 @@ fn is_name_byte(byte: u8) -> bool
         || byte == b'-'
 }
 
-/// Whether a text is a name: 1 to 32 letters, digits, `_` and `-`.
-fn is_name(text: &str) -> bool
+/// Whether a text may be a name: 1 to 32 letters, digits, `_` and `-`.
+pub fn is_name(text: &str) -> bool
     ensures { result ≡ is_name text.now }
 {
     let bytes = text.as_bytes();

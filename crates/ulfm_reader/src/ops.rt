@@ -3,14 +3,15 @@ ghost use Rattle.std.specs.Prelude.{◌≡◌, ◌<◌, IfOk};
 ghost use Rattle.toml.specs.View.{table_view};
 ghost use Rattle.ulfm_reader.specs.inside.Reading.{map_ok, planned};
 ghost use Rattle.ulfm_reader.specs.Plan.{failed, revoke, dup, shrink};
-ghost use Rattle.ulfm_reader.specs.StepText.{step_on_comm, ack_step, agree_step, stop_step, step_of_op, step_of};
+ghost use Rattle.ulfm_reader.specs.StepText.{step_on_comm, ack_step, agree_step, note_step, stop_step, step_of_op, step_of};
 
 use crate::fields::{in_range, only_keys, optional_number, required_number, required_text};
 use crate::letters::{cancel_of, mrecv_of, probe_of, recv_of, send_of, wait_of};
 use crate::name::Name;
 use crate::placed::{Placed, ReadStep};
-use crate::ranges::{comm_in, flag_in, rank_in};
+use crate::ranges::{comm_in, flag_in, label_in, rank_in};
 use toml::Table;
+use ulfm_job::limits::MOST_RANKS;
 use ulfm_job::{Fault, Step};
 
 #[tactic(auto, unfolding(crate::specs::StepText::step_on_comm))]
@@ -44,7 +45,7 @@ fn ack_of(ranks: u8, table: &Table) -> Result<Placed<'_>, Fault>
         &["op", "rank", "name", "if", "expect", "count", "comm"],
     )?;
     let rank = rank_in(ranks, rank)?;
-    let count = in_range(count, 0, 8)? as u8;
+    let count = in_range(count, 0, u32::from(MOST_RANKS))? as u8;
     let comm = comm_in(comm)?;
     Ok(Placed {
         rank,
@@ -125,6 +126,23 @@ fn agree_of(ranks: u8, table: &Table) -> Result<Placed<'_>, Fault>
     })
 }
 
+#[tactic(auto, unfolding(crate::specs::StepText::note_step))]
+fn note_of(ranks: u8, table: &Table) -> Result<Placed<'_>, Fault>
+    requires { 0 < ranks }
+    ensures exact { map_ok planned result ≡ note_step ranks (table_view table.now) }
+    ensures below { IfOk result (λ placed. placed.rank < ranks) }
+{
+    let rank = required_number(table, "rank")?;
+    let text = required_text(table, "text")?;
+    only_keys(table, &["op", "rank", "name", "if", "expect", "text"])?;
+    let rank = rank_in(ranks, rank)?;
+    let text = label_in(text)?;
+    Ok(Placed {
+        rank,
+        step: ReadStep::Other(Step::Note { text }),
+    })
+}
+
 #[tactic(auto, unfolding(crate::specs::StepText::stop_step))]
 fn stop_of(ranks: u8, table: &Table) -> Result<Placed<'_>, Fault>
     requires { 0 < ranks }
@@ -165,6 +183,7 @@ pub fn step_of<'a>(ranks: u8, names: &[Name], table: &'a Table) -> Result<Placed
         "dup" => dup_of(ranks, table),
         "shrink" => shrink_of(ranks, table),
         "agree" => agree_of(ranks, table),
+        "note" => note_of(ranks, table),
         "stop" => stop_of(ranks, table),
         _ => Err(Fault::UnknownOp),
     }

@@ -1,27 +1,15 @@
 //! Numbers of a step, each within its range.
 ghost use Rattle.std.specs.Prelude.{◌≡◌, ◌<◌, ◌-◌, pos, option_map, unwrap_or, IfOk};
 ghost use Rattle.ulfm_reader.specs.inside.Reading.{map_ok, reference_view};
-ghost use Rattle.ulfm_reader.specs.Keys.{in_range, in_range_if_some};
+ghost use Rattle.ulfm_reader.specs.Keys.{in_range, in_range_if_some, label_in};
 ghost use Rattle.ulfm_reader.specs.Reacting.{req_in};
 
 use crate::fields::{in_range, in_range_if_some};
 use crate::name::{Name, named};
 use crate::reference::Reference;
 use ulfm_base::{Context, Tag};
-use ulfm_job::Fault;
-
-/// The greatest rank, tag, context, room, step number and flag.
-const LAST_RANK: u32 = 7;
-
-const LAST_TAG: u32 = 32767;
-
-const LAST_COMM: u32 = 62;
-
-const MOST_ROOM: u32 = 1024;
-
-const LAST_STEP: u32 = 255;
-
-const LAST_FLAG: u32 = 4294967295;
+use ulfm_job::limits::{LAST_COMM, LAST_FLAG, LAST_RANK, LAST_STEP, LAST_TAG, MOST_ROOM};
+use ulfm_job::{Fault, Label};
 
 /// The rank of a step, below the number of ranks.
 pub fn rank_in(ranks: u8, number: i64) -> Result<u8, Fault>
@@ -80,7 +68,7 @@ pub fn from_if_some(number: Option<i64>) -> Result<Option<u8>, Fault>
 pub fn room_in(number: Option<i64>) -> Result<u16, Fault>
     ensures { result ≡ in_range 0 1024 (unwrap_or number (pos 1024)) }
 {
-    Ok(in_range(number.unwrap_or(1024), 0, MOST_ROOM)? as u16)
+    Ok(in_range(number.unwrap_or(i64::from(MOST_ROOM)), 0, MOST_ROOM)? as u16)
 }
 
 /// The number of a step of the rank that is named: any number of a step, or that of an earlier one by its name.
@@ -91,6 +79,13 @@ pub fn req_in(names: &[Name], rank: u8, reference: &Reference<'_>) -> Result<u16
         Reference::Number(number) => Ok(in_range(*number, 0, LAST_STEP)? as u16),
         Reference::Name(text) => named(names, rank, text).ok_or(Fault::OutOfRange),
     }
+}
+
+/// The text of a note.
+pub fn label_in(text: &str) -> Result<Label, Fault>
+    ensures { result ≡ label_in text.now }
+{
+    Label::new(text).ok_or(Fault::OutOfRange)
 }
 
 /// A flag of 32 bits.

@@ -14,10 +14,8 @@ use crate::rows::rows_in;
 use std::alloc::Global;
 use toml::Table;
 use ulfm_expand::{Line, Unwritten, written_out};
+use ulfm_job::limits::MOST_BYTES;
 use ulfm_job::{Clause, Job, JobFault};
-
-/// The most bytes of a job.
-const MOST_BYTES: usize = 1_048_576;
 
 /// What a text asks for: its job, the rows of answers of which no run may have all, and the names of its steps. In each clause of a row
 /// `at` is `step`.

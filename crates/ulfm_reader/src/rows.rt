@@ -12,16 +12,8 @@ use crate::draft::Draft;
 use crate::fields::value_at;
 use std::alloc::Global;
 use toml::{Table, Value};
+use ulfm_job::limits::{FEWEST_OF_ROW, MOST_OF_ROW, MOST_ROWS};
 use ulfm_job::{Clause, Fault, JobFault, Text};
-
-/// The most rows.
-const MOST_ROWS: usize = 32;
-
-/// The fewest answers of a row.
-const FEWEST: usize = 2;
-
-/// The most answers of a row.
-const MOST: usize = 8;
 
 /// Whether each value is a text.
 fn are_texts(values: &[Value]) -> bool
@@ -105,7 +97,7 @@ fn row_in(alloc: Global, draft: &Draft, value: &Value) -> Result<Vec<Clause>, Jo
     let Some(values) = value.as_array() else {
         return Err(JobFault::InJob(Fault::BadKey));
     };
-    if !is_within(FEWEST, MOST, values.as_slice()) {
+    if !is_within(FEWEST_OF_ROW, MOST_OF_ROW, values.as_slice()) {
         return Err(JobFault::InJob(Fault::OutOfRange));
     }
     claims_of(alloc, draft, values.as_slice())
