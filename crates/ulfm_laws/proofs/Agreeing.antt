@@ -28,7 +28,7 @@ use Rattle.ulfm_laws.proofs.Turns.{in_turn, rounds_told}
 use Rattle.ulfm_laws.proofs.Common.{AdoptOne, Agree, Agreed, all_pass, AnswersFollow, at, Context, Contribution, Decision, Entrance, Entry, false≢true, first_given, group_at, group_of, group_stays, is_member, IsStep, Known, logged, members_found, none-some, not-false, or_cases, Report, same_Some, Shrink, some_from, State, Step, step_report, StepAnswer, StepReport, StoodAt, there, Topic}
 
 -- what is first given by a log is given by an entry
-given_at : {X : Type 0} (give : Entry → Option X) (log : List Entry) (x : X) → first_given give log ≡ Some x → (k : ℕ) × (e : Entry) × at log k e × (give e ≡ Some x)
+pub given_at : {X : Type 0} (give : Entry → Option X) (log : List Entry) (x : X) → first_given give log ≡ Some x → (k : ℕ) × (e : Entry) × at log k e × (give e ≡ Some x)
 given_at give [] x h = absurd (none-some x h)
 given_at {X} give (e ∷ log) x h = pick (give e) refl h (given_at give log x)
   where

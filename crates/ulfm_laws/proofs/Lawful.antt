@@ -1,6 +1,6 @@
 -- What an engine produces is lawful.
 use Rattle.std.proofs.Common.{◌≡◌, ℕ, List, length, ap, sym, subst, ◌∙◌, arith, Some, All}
-use Rattle.ulfm_laws.proofs.Common.{at, Report, Inboxes, IsAtRest, slice_get_within, IsSigned, there, Known, keeps_of, signed_of, AdoptOwn, AdoptOne, EnterOnce}
+use Rattle.ulfm_laws.proofs.Common.{at, Report, Inboxes, IsAtRest, slice_get_within, IsSigned, there, Known, keeps_of, signed_of, AdoptOwn, AdoptOne, EnterOnce, EntersOnce}
 use Rattle.ulfm_board.specs.Known.{BothAgree, known_at}
 use Rattle.ulfm_job.specs.Job.{JobView}
 use Rattle.ulfm_laws.specs.Lawful.{AreProduced, KnowAtRest, LawfulReport}
@@ -97,3 +97,10 @@ module _ (job : JobView) (inboxes : Inboxes) (knows : List Known) (reports : Lis
     reader = faithful reports (honest_reports flowing honest);
     rest = at_rest;
   }
+
+-- a rank whose reports are lawful enters each topic with the failures that it knows then
+pub lawful_enters : {job : JobView} {inboxes : Inboxes} {knows : List Known} {reports : List Report} → LawfulReport job inboxes knows reports → (r : ℕ) (told : Report) → at reports r told → EntersOnce told.rank.log
+lawful_enters {job} {inboxes} {knows} {reports} h r told here =
+    let inside = slice_get_within reports r told here in
+    let known = there knows r (omega (arith, inside, h.each, h.known_each)) in
+    (keeps_of (length reports) r known.0 told (h.answers r told known.0 here known.1) ((h.scripts r told here).counted ∙ sym h.each) (h.order r told here) inside).enters_once

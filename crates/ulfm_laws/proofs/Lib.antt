@@ -26,6 +26,7 @@ pub mod Notices
 pub mod Once
 pub mod AtRest
 pub mod Proposing
+pub mod Proposed
 pub mod Taken
 pub mod Borne
 pub mod Arrivals
@@ -39,3 +40,4 @@ pub mod Owing
 pub mod Times
 pub mod Ordered
 pub mod SentBefore
+pub mod Excluded

@@ -4,7 +4,7 @@ use Rattle.std.proofs.lemmas.List.{take-append-le}
 use Rattle.std.proofs.Math.Seq.{take-append_seam}
 use Rattle.ulfm_match.proofs.Histories.{get_cases}
 use Rattle.ulfm_job.specs.Job.{JobView, may_leave, script_at}
-use Rattle.ulfm_job.specs.declared.clause.Clause.{Clause}
+use Rattle.ulfm_job.specs.declared.condition.Condition.{Condition}
 use Rattle.ulfm_job.specs.declared.step.Step.{Step}
 use Rattle.ulfm_script.specs.Player.{Player, IsCalled, GivesUpStep, step_report}
 use Rattle.ulfm_script.specs.Reacting.{is_played, SkipsRightly}
@@ -17,7 +17,7 @@ use Rattle.ulfm_script.proofs.Reacting.{gives-push}
 use Rattle.std.proofs.lemmas.Option.{none-some, slice_get_within}
 
 -- the same answers, and then a step given up that was to be played
-spent : (conditions : List Clause) (r : ℕ) (done : List StepReport) (x : StepReport) → SkipsRightly conditions r done → is_played conditions r done ≡ true → is_skipped x.answer ≡ false → SkipsRightly conditions r (done ++ x ∷ [])
+spent : (conditions : List Condition) (r : ℕ) (done : List StepReport) (x : StepReport) → SkipsRightly conditions r done → is_played conditions r done ≡ true → is_skipped x.answer ≡ false → SkipsRightly conditions r (done ++ x ∷ [])
 spent conditions r done x h played given k report g = elim (get_cases done x k report g) [
   | inl before ↦
       let same : take k (done ++ x ∷ []) ≡ take k done = take-append-le k done (x ∷ []) (omega (arith, slice_get_within done k report before)) in

@@ -38,7 +38,7 @@ abbrev pub flag_in : Option Contribution → Option ℕ
 flag_in None = None
 flag_in (Some brought) = brought.flag
 
--- The rank m entered a round of agreement on a communicator with this flag. One of its steps in this round asked with this flag.
+-- The rank m entered a round of agreement on a communicator with this flag, which one of its steps in this round has.
 pub record BroughtFlag (reports : List Report) (m : ℕ) (comm : Context) (round flag : ℕ) : Type 0 where
   pub known : RankSet
   pub entered : HasEntered (report_at reports m) (agreement_topic comm round) (record { known = known; flag = Some flag })

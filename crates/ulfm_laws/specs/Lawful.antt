@@ -37,13 +37,13 @@ pub record AreProduced (job : JobView) (inboxes : Inboxes) (knows : List Known) 
   pub decisions : AreTrue reports
   pub one_order : HaveOneOrder reports
 
--- The headline. What a rank took from each sender is, once and in order, a beginning of what that sender sent. All logs have one
--- order, in which nothing is taken before it is owed. Receives are paired with letters by the one lawful pairing; after a
--- revocation no receive there is paired; wildcards pend exactly at unacknowledged known failures. Who is known to have failed has
--- stopped, and what is revoked some rank's own call revoked. Ranks enter each shrink and each agreement once. Those that decided on
--- one topic hold one decision, survivors in order, and have one group. Those told of one round of agreement are told one value, the
--- AND of the flags of all members but those missing, who stopped. Each rank went through its script, and the reports stand in rank
--- order. What they tell of letters is true of what was sent. At rest all running ranks know what happened.
+-- The headline. What a rank took from each sender is, once and in order, a beginning of what that sender sent. All logs have one order,
+-- in which nothing is taken before it is owed, and no decision adopted before some rank proposed it. Receives are paired with letters by
+-- the one lawful pairing; after a revocation no receive there is paired; wildcards pend exactly at unacknowledged known failures. Who is
+-- known to have failed has stopped, and what is revoked some rank's own call revoked. Ranks enter each shrink and each agreement once.
+-- Those that decided on one topic hold one decision, survivors in order, and have one group. Those told of one round of agreement are
+-- told one value, the AND of the flags of all members but those missing, who stopped. Each rank went through its script, and the reports
+-- stand in rank order. What they tell of letters is true of what was sent. At rest all running ranks know what happened.
 pub record LawfulReport (job : JobView) (inboxes : Inboxes) (knows : List Known) (reports : List Report) : Type 0 where
   pub each : IsEach job reports
   pub flow : Flows inboxes reports

@@ -5,6 +5,7 @@ pub mod Causes
 pub mod Decisions
 pub mod Agreement
 pub mod Rest
+pub mod Proposed
 pub mod Order
 pub mod Reader
 pub mod Lawful

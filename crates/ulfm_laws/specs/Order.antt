@@ -1,17 +1,20 @@
--- One order of all that the ranks of a job did: what is taken is taken after the entry that owes it (MPI 4.0, 3.5; ULFM).
+-- One order of all that the ranks of a job did: what is taken is owed earlier, and what is adopted proposed (MPI 4.0, 3.5; ULFM).
 use Rattle.std.specs.Prelude.{◌≡◌, ℕ, Bool, true, false, ◌==◌, ◌+◌, ◌<◌, ◌≤◌, List, length, take, if◌then◌else◌}
 use Rattle.std.specs.List.{count_by}
 use Rattle.ulfm_base.specs.declared.context.Context.{Context}
+use Rattle.ulfm_base.specs.declared.decision.Decision.{Decision}
 use Rattle.ulfm_base.specs.declared.envelope.Letter.{Letter}
 use Rattle.ulfm_base.specs.declared.item.Item.{Item}
 use Rattle.ulfm_base.specs.declared.item.Item.TheVariants.{Letter as Mail, Gone, Revoke, Enter}
 use Rattle.ulfm_base.specs.declared.rank.WorldRank.{WorldRank}
 use Rattle.ulfm_base.specs.Lists.{at}
+use Rattle.ulfm_base.specs.RankSet.{has}
 use Rattle.ulfm_rank.specs.declared.entry.Entry.{Entry}
-use Rattle.ulfm_rank.specs.declared.entry.Entry.TheVariants.{Sent, Revoked, Stopped, Took}
+use Rattle.ulfm_rank.specs.declared.entry.Entry.TheVariants.{Sent, Revoked, Adopted, Stopped, Took}
 use Rattle.ulfm_rank.specs.Facts.{is_revoked, is_stopped, revokes}
 use Rattle.ulfm_rank.specs.Proposal.{has_entered}
 use Rattle.ulfm_script.specs.Report.{Report}
+use Rattle.ulfm_laws.specs.Proposed.{IsProposedEarlier}
 
 -- an item is a letter
 abbrev pub is_letter : Item → Bool
@@ -44,13 +47,16 @@ pub record IsOwedEarlier (reports : List Report) (time : ℕ → ℕ → ℕ) (s
   pub earlier : (j : ℕ) → j < count → time s j < time d k
   pub owed : Owe s d (take count sender.rank.log) before item
 
--- All logs have one order: a time for each entry of each rank, rising in each log, such that what is taken is owed earlier.
+-- All logs have one order: a time for each entry of each rank, rising in each log, such that what is taken is owed earlier, and a
+-- decision that is adopted is proposed earlier, by some rank or by this one.
 pub record HaveOneOrder (reports : List Report) : Type 0 where
   pub time : ℕ → ℕ → ℕ
   pub onward : (r k : ℕ) (told : Report) → at reports r told → k + 1 < length told.rank.log → time r k < time r (k + 1)
   pub owed_earlier : (d k : ℕ) (receiver : Report) (source : WorldRank) (item : Item) → at reports d receiver
       → at receiver.rank.log k (Took source item)
       → IsOwedEarlier reports time source.number d k (take k receiver.rank.log) item
+  pub proposed_earlier : (r k : ℕ) (told : Report) (d : Decision) → at reports r told → at told.rank.log k (Adopted d)
+      → IsProposedEarlier reports time (time r k) d
 
 -- a letter that the rank d took of the rank s at place k of its log was sent to it by an earlier entry
 pub record IsSentEarlier (reports : List Report) (time : ℕ → ℕ → ℕ) (s d k : ℕ) (letter : Letter) : Type 0 where
@@ -97,3 +103,9 @@ abbrev pub FailuresComeLater : List Report → (ℕ → ℕ → ℕ) → Type 0
 FailuresComeLater reports time =
     (d k : ℕ) (receiver : Report) (source : WorldRank) → at reports d receiver → at receiver.rank.log k (Took source Gone)
     → HasStoppedBefore reports time source.number (time d k)
+
+-- each rank that an adopted decision excludes had stopped earlier (ULFM, shrink and agree)
+abbrev pub ExclusionsComeLater : List Report → (ℕ → ℕ → ℕ) → Type 0
+ExclusionsComeLater reports time =
+    (r k : ℕ) (told : Report) (d : Decision) (x : ℕ) → at reports r told → at told.rank.log k (Adopted d) → has d.excluded x ≡ true
+    → HasStoppedBefore reports time x (time r k)

@@ -10,4 +10,6 @@ pub mod Reporting
 pub mod Paired
 pub mod Served
 pub mod Crossing
+pub mod Placed
 pub mod Walked
+pub mod Stuck

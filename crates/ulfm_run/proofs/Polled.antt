@@ -5,7 +5,7 @@ use Rattle.ulfm_script.specs.declared.answer.Called.{Called}
 use Rattle.ulfm_script.specs.declared.answer.Called.TheVariants.{Answered, NotYet}
 use Rattle.ulfm_script.specs.Deciding.{Known, IsDecided}
 use Rattle.ulfm_script.specs.Player.{Polls as PollsBy, Player, PlayerView, IsCalled, GivesUpStep, SkipsStep}
-use Rattle.ulfm_job.specs.declared.clause.Clause.{Clause}
+use Rattle.ulfm_job.specs.declared.condition.Condition.{Condition}
 use Rattle.ulfm_rank.specs.inside.Quiet.{Quiet}
 use Rattle.ulfm_script.specs.Reacting.{is_played}
 use Rattle.ulfm_script.proofs.Polls.{quiet-called}
@@ -47,8 +47,8 @@ polls-decide job me v w comm board known later sound follows running d room =
     record { quiet = quiet-decided v.player comm board known later w.player sound d; follows = goes-decided a.follows follows d; room = room; falls = a.falls }
 
 -- what a player tells of its next step holds of the step of its rank
-pub asked_played : (job : JobView) (me : ℕ) (p : Player) {conditions : List Clause} {told : Bool} → p.rank.me ≡ me → conditions ≡ job.conditions → told ≡ is_played conditions p.rank.me p.done → is_played job.conditions me p.done ≡ told
-asked_played job me p mine same told = ap (λ r. is_played job.conditions r p.done) (sym mine) ∙ ap (λ (xs : List Clause). is_played xs p.rank.me p.done) (sym same) ∙ sym told
+pub asked_played : (job : JobView) (me : ℕ) (p : Player) {conditions : List Condition} {told : Bool} → p.rank.me ≡ me → conditions ≡ job.conditions → told ≡ is_played conditions p.rank.me p.done → is_played job.conditions me p.done ≡ told
+asked_played job me p mine same told = ap (λ r. is_played job.conditions r p.done) (sym mine) ∙ ap (λ (xs : List Condition). is_played xs p.rank.me p.done) (sym same) ∙ sym told
 
 -- no step is skipped yet
 pub skips-none : {job : JobView} {me : ℕ} (v : PlayerView) → GoesThrough job me v.player → SkipsOn job me v v

@@ -1,13 +1,14 @@
--- A walk over all logs finds an order where there is one.
+-- What was walked has one order.
 use Rattle.std.proofs.Common.{◌≡◌, ◌<◌, ◌≤◌, ◌+◌, ◌⊎◌, ℕ, zero, suc, List, [], ◌∷◌, length, take, set, replicate, slice_index, refl, ap, sym, subst, ◌∙◌, inl, inr, arith, get_or-set_same, get_or-set_other}
 use Rattle.std.proofs.lemmas.List.{length-set}
-use Rattle.ulfm_rank.specs.declared.entry.Entry.TheVariants.{Took}
+use Rattle.ulfm_rank.specs.declared.entry.Entry.TheVariants.{Adopted, Took}
 use Rattle.ulfm_base.proofs.Places.{only_at}
-use Rattle.ulfm_run.proofs.Common.{at, there, Entry, Item, Report, WorldRank, cases_eq, cases_lt, get_or-blank, none-some, same_Some, slice_get_within}
-use Rattle.ulfm_laws.proofs.Owes.{owe_later, owe_whole}
+use Rattle.ulfm_base.specs.declared.decision.Decision.{Decision}
+use Rattle.ulfm_run.proofs.Common.{at, Entry, Item, Report, WorldRank, cases_eq, cases_lt, get_or-blank, none-some, same_Some, slice_get_within}
 use Rattle.ulfm_laws.proofs.Times.{time_else, time_here, with_time}
-use Rattle.ulfm_laws.specs.Order.{Owe, IsOwedEarlier, HaveOneOrder}
-use Rattle.ulfm_run.specs.inside.Walk.{IsOwedByWalked, MayPass, GoesOn, StepsOn, IsOwedWithin, IsWalked, AreAtEnds, entries_left}
+use Rattle.ulfm_laws.specs.Order.{HaveOneOrder}
+use Rattle.ulfm_run.proofs.Placed.{IsPlaced, placed}
+use Rattle.ulfm_run.specs.inside.Walk.{IsOwedByWalked, MayPass, GoesOn, StepsOn, IsOwedWithin, IsProposedWithin, IsWalked, AreAtEnds, entries_left}
 
 none_yet : (r k : ℕ) → k < slice_index (replicate 8 0) r → ⊥
 none_yet r k h = omega (arith, h, get_or-blank {X = ℕ} 8 r 0)
@@ -21,6 +22,7 @@ walked_none reports = record {
   past = λ r k h. absurd (none_yet r k h);
   onward = λ r k h. absurd (none_yet r (k + 1) h);
   owed = λ d k receiver source item here h stands. absurd (none_yet d k h);
+  proposed = λ r k told d here h stands. absurd (none_yet r k h);
 }
 
 -- a place that is walked after a step is the new one, or was walked before
@@ -99,15 +101,14 @@ module _ {reports : List Report} {old : List ℕ} {d : ℕ} (w : IsWalked report
     within = walked_still old d s inside;
   }
 
-  -- the entry that a step passes, where it takes an item
-  passed : (receiver : Report) (k : ℕ) (source : WorldRank) (item : Item) → at reports d receiver → k ≡ front → at receiver.rank.log k (Took source item)
-      → IsOwedByWalked reports old source.number d (take k receiver.rank.log) item
-  passed receiver k source item reported at_front stands =
-      let one : receiver ≡ goes.told = only_at reports d goes.told receiver goes.reported reported in
-      let entry : Took source item ≡ goes.entry = only_at goes.told.rank.log front goes.entry (Took source item) goes.next (subst (λ (i : ℕ). at goes.told.rank.log i (Took source item)) at_front (subst (λ (x : Report). at x.rank.log k (Took source item)) one stands)) in
-      subst (λ (x : Report). IsOwedByWalked reports old source.number d (take k x.rank.log) item) (sym one)
-      (subst (λ (i : ℕ). IsOwedByWalked reports old source.number d (take i goes.told.rank.log) item) (sym at_front)
-      (subst (λ (e : Entry). MayPass reports old d (take front goes.told.rank.log) e) (sym entry) goes.passes))
+  -- the entry that a step passes
+  passed : (told : Report) (k : ℕ) (entry : Entry) → at reports d told → k ≡ front → at told.rank.log k entry → MayPass reports old d (take k told.rank.log) entry
+  passed told k entry reported at_front stands =
+      let one : told ≡ goes.told = only_at reports d goes.told told goes.reported reported in
+      let same : entry ≡ goes.entry = only_at goes.told.rank.log front goes.entry entry goes.next (subst (λ (i : ℕ). at goes.told.rank.log i entry) at_front (subst (λ (x : Report). at x.rank.log k entry) one stands)) in
+      subst (λ (x : Report). MayPass reports old d (take k x.rank.log) entry) (sym one)
+      (subst (λ (i : ℕ). MayPass reports old d (take i goes.told.rank.log) entry) (sym at_front)
+      (subst (λ (e : Entry). MayPass reports old d (take front goes.told.rank.log) e) (sym same) goes.passes))
 
   owed : (e k : ℕ) (receiver : Report) (source : WorldRank) (item : Item) → at reports e receiver → k < slice_index new e → at receiver.rank.log k (Took source item)
       → IsOwedWithin reports new time source.number e k (take k receiver.rank.log) item
@@ -115,8 +116,32 @@ module _ {reports : List Report} {old : List ℕ} {d : ℕ} (w : IsWalked report
     | inl one ↦
         let there_too = subst (λ (i : ℕ). at reports i receiver) one.0 reported in
         subst (λ (i : ℕ). IsOwedWithin reports new time source.number i k (take k receiver.rank.log) item) (sym one.0)
-        (added k source.number (take k receiver.rank.log) item one.1 (passed receiver k source item there_too one.1 stands))
+        (added k source.number (take k receiver.rank.log) item one.1 (passed receiver k (Took source item) there_too one.1 stands))
     | inr then ↦ kept source.number e k (take k receiver.rank.log) item then (w.owed e k receiver source item reported then stands)
+  ]
+
+  -- what was proposed before some time still was
+  proposed_still : (r k now : ℕ) (decision : Decision) → now ≤ time r k → (h : IsPlaced reports old decision) → ((j : ℕ) → j < h.place → w.time h.rank j < now) → IsProposedWithin reports new time (time r k) decision
+  proposed_still r k now decision le h earlier = record {
+    proposed = record {
+      rank = h.rank;
+      told = h.told;
+      reported = h.reported;
+      place = h.place;
+      made = h.made;
+      earlier = λ j few. omega (arith, earlier j few, before h.rank j (omega (arith, few, h.walked)), le);
+    };
+    walked = omega (arith, h.walked, walked_still old d h.rank inside);
+  }
+
+  proposed : (r k : ℕ) (told : Report) (decision : Decision) → at reports r told → k < slice_index new r → at told.rank.log k (Adopted decision) → IsProposedWithin reports new time (time r k) decision
+  proposed r k told decision reported lt stands = elim (walked_cases old d r k inside lt) [
+    | inl one ↦
+        let h = placed reports old decision (passed told k (Adopted decision) (subst (λ (i : ℕ). at reports i told) one.0 reported) one.1 stands) in
+        proposed_still r k w.now decision (omega (arith, here r k one)) h (λ j few. w.past h.rank j (omega (arith, few, h.walked)))
+    | inr then ↦
+        let was = w.proposed r k told decision reported then stands in let p = was.proposed in
+        proposed_still r k (w.time r k) decision (omega (arith, before r k then)) (record { rank = p.rank; told = p.told; reported = p.reported; place = p.place; walked = was.walked; made = p.made }) p.earlier
   ]
 
   walked_more : IsWalked reports new
@@ -127,6 +152,7 @@ module _ {reports : List Report} {old : List ℕ} {d : ℕ} (w : IsWalked report
     past = past;
     onward = onward;
     owed = owed;
+    proposed = proposed;
   }
 
 -- after a step
@@ -159,41 +185,5 @@ found reports fronts w ends = record {
   onward = λ r k told here lt. w.onward r k (omega (arith, lt, ends r told here));
   owed_earlier = λ d k receiver source item here stands.
       (w.owed d k receiver source item here (omega (arith, slice_get_within receiver.rank.log k (Took source item) stands, ends d receiver here)) stands).owed;
+  proposed_earlier = λ r k told d here stands. (w.proposed r k told d here (omega (arith, slice_get_within told.rank.log k (Adopted d) stands, ends r told here)) stands).proposed;
 }
-
-module _ {reports : List Report} (o : HaveOneOrder reports) (fronts : List ℕ) (stuck : (d : ℕ) → GoesOn reports fronts d → ⊥) where
-  -- no entry that wasn't walked comes before the time t
-  abbrev NoneBefore : ℕ → Type 0
-  NoneBefore t = (d : ℕ) (told : Report) → at reports d told → slice_index fronts d < length told.rank.log → o.time d (slice_index fronts d) < t → ⊥
-
-  taken : (t d : ℕ) (told : Report) → at reports d told → o.time d (slice_index fronts d) < suc t → NoneBefore t → (source : WorldRank) (item : Item)
-      → at told.rank.log (slice_index fronts d) (Took source item)
-      → IsOwedEarlier reports o.time source.number d (slice_index fronts d) (take (slice_index fronts d) told.rank.log) item → ⊥
-  taken t d told here early none source item stands h =
-      let s = source.number in let log = take (slice_index fronts d) told.rank.log in
-      let goes : Owe s d (take (slice_index fronts s) h.sender.rank.log) log item → ⊥ = λ owed.
-      stuck d (record { told = told; reported = here; entry = Took source item; next = stands; passes = record { sender = h.sender; reported = h.reported; owed = owed } }) in
-      elim (cases_lt (slice_index fronts s) h.count) [
-        | inl short ↦ elim (cases_lt (slice_index fronts s) (length h.sender.rank.log)) [
-          | inl left ↦ none s h.sender h.reported left (omega (arith, h.earlier (slice_index fronts s) short, early))
-          | inr all ↦ goes (owe_whole s d h.count (slice_index fronts s) h.sender.rank.log log item all h.owed)
-        ]
-        | inr enough ↦ goes (owe_later s d h.count (slice_index fronts s) h.sender.rank.log log item enough h.owed)
-      ]
-
-  blocked : (t d : ℕ) (told : Report) → at reports d told → o.time d (slice_index fronts d) < suc t → NoneBefore t → (entry : Entry) → at told.rank.log (slice_index fronts d) entry → ⊥
-  blocked t d told here early none (Took source item) stands = taken t d told here early none source item stands (o.owed_earlier d (slice_index fronts d) told source item here stands)
-  blocked t d told here early none entry stands = stuck d (record { told = told; reported = here; entry = entry; next = stands; passes = tt })
-
-  none_before : (t : ℕ) → NoneBefore t
-  none_before zero d told here lt early = absurd (omega (arith, early))
-  none_before (suc t) d told here lt early =
-      let next = there told.rank.log (slice_index fronts d) lt in
-      blocked t d told here early (none_before t) next.0 next.1
-
-  -- where there is an order, a walk that is stuck has come to its end
-  pub all_walked : AreAtEnds reports fronts
-  all_walked d told here = elim (cases_lt (slice_index fronts d) (length told.rank.log)) [
-    | inl left ↦ absurd (none_before (o.time d (slice_index fronts d) + 1) d told here left (omega arith))
-    | inr all ↦ all
-  ]

@@ -3,4 +3,5 @@ pub mod Joined
 pub mod Played
 pub mod Threads
 pub mod Turns
+pub mod Listed
 pub mod Walk

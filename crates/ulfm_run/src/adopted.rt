@@ -98,7 +98,7 @@ fn entered_with(
 }
 
 /// Whether two contributions are the same.
-fn are_same(one: Contribution, other: Contribution) -> bool
+pub(crate) fn are_same(one: Contribution, other: Contribution) -> bool
     ensures { IsTrue result ↔ (one ≡ other) }
 {
     one.is_same(other)

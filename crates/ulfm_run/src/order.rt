@@ -1,15 +1,17 @@
-//! One order of all that ranks report: what is taken is taken after the entry that owes it (MPI 4.0, 3.5; ULFM).
+//! One order of all that ranks report: what is taken is owed earlier, and what is adopted proposed (MPI 4.0, 3.5; ULFM).
 ghost use Rattle.std.specs.Prelude.{◌≡◌, ◌≤◌, ◌↔◌, ℕ, IsTrue, IfSome, IfNone, false, length, take};
 ghost use Rattle.ulfm_laws.specs.Order.{HaveOneOrder};
 ghost use Rattle.ulfm_run.specs.inside.Walk.{GoesOn, MayPass, IsOwedByWalked, StepsOn, AreAtEnds};
 
 use crate::owing::owe;
+use crate::proposing::is_proposed;
 use ulfm_base::{NotedItem, WorldRank};
 use ulfm_rank::Entry;
 use ulfm_script::RankReport;
 
 /// Whether all logs have one order. It walks over all of them at once: a rank goes on where its next entry takes no item, or one
-/// that the entries walked of its sender owe. It never answers out of memory.
+/// that the entries walked of its sender owe, and adopts no decision, or one that a rank proposed by its entries walked. It never
+/// answers out of memory.
 pub(crate) fn have_one_order(reports: &[RankReport]) -> bool
     requires { length reports.now ≤ 8 }
     ensures { IsTrue result ↔ HaveOneOrder reports.now }
@@ -62,7 +64,7 @@ fn go_on(reports: &[RankReport], fronts: &mut [usize; 8], rank: usize) -> bool
     true
 }
 
-/// Whether an entry of a rank, whose log was `before`, takes no item, or one that is owed.
+/// Whether an entry of a rank, whose log was `before`, takes an item that is owed, adopts a decision that was proposed, or does neither.
 fn may_pass(
     reports: &[RankReport],
     fronts: &[usize; 8],
@@ -75,6 +77,7 @@ fn may_pass(
 {
     match entry {
         Entry::Took(source, item) => is_owed(reports, fronts, *source, rank, before, item),
+        Entry::Adopted(held) => is_proposed(reports, fronts, rank, held.decision()),
         _ => true,
     }
 }
@@ -102,7 +105,7 @@ fn is_owed(
 }
 
 /// The first entries of a log, as many as this, or all.
-fn first(log: &[Entry], count: usize) -> &[Entry]
+pub(crate) fn first(log: &[Entry], count: usize) -> &[Entry]
     ensures { result.now ≡ take count log.now }
 {
     if count < log.len() {

@@ -26,6 +26,7 @@ pub(crate) fn next_played<'a>(job: &'a Job, me: u8, player: &mut Player) -> Opti
     ensures none { IfNone result (length (script_at job.now me) ≤ length player.new.player.done) }
     ensures honest { (known : Known) → AnswersFollowSoFar known player.old.player → AnswersFollowSoFar known player.new.player }
 {
+    // It tells the limits that each job keeps.
     let _ = job.turns();
     while let Some(step) = job.step(me, player.answered()) {
         if player.is_next_played(job.conditions()) {
@@ -75,6 +76,7 @@ fn decide<D: Decider>(job: &Job, me: u8, player: &mut Player, decider: &mut D, s
     ensures room { player.new.room + length player.new.player.done ≡ player.old.room + length player.old.player.done }
     ensures board { D.board decider.new ≡ D.board decider.old }
 {
+    // Which step of which rank is polled stands in the clauses alone.
     let _ = job;
     let _ = me;
     let Some(comm) = step.decides_on() else {

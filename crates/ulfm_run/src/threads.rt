@@ -61,6 +61,7 @@ fn new_worker<E: Ends, D: Decider>(
     let Ok(player) = Player::new(alloc, me, job.ranks(), steps) else {
         return Err(Unplayed::OutOfMemory);
     };
+    // It tells that its rank is sound.
     let _ = player.me();
     Ok(Worker {
         player,

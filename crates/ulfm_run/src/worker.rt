@@ -55,6 +55,7 @@ impl<E: Ends, D: Decider> Worker<E, D> {
             decider,
             starved,
         } = work.worker;
+        // It tells that its rank is sound, as its report says.
         let _ = player.me();
         Ran {
             report: player.report(starved),

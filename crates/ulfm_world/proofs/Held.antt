@@ -1,16 +1,13 @@
 -- What a rank proposes may be held, and what is held may be adopted.
-use Rattle.std.proofs.Common.{◌≡◌, ℕ, ◌<◌, ◌≤◌, true, false, cond, List, refl, ap, sym, ◌∙◌, arith, inl, inr, Option, Some, None, is_some}
-use Rattle.ulfm_world.proofs.Common.{Decision, Contribution, Topic, deciders, Entry, IsWorld, false≢true, or_cases, and_parts, cases_Bool, cond-true, same_Some, get_or_from_slice_get, group_of, is_made, IsOwn, has, is_gone, World, rank_at, IsRunning, HasStopped, list_any, entry_at, in_entry, some_from}
+use Rattle.std.proofs.Common.{◌≡◌, ℕ, ◌<◌, ◌≤◌, true, false, cond, List, ap, sym, ◌∙◌, arith, inl, inr, Some, None, is_some}
+use Rattle.ulfm_world.proofs.Common.{Decision, Topic, deciders, Entry, IsWorld, false≢true, or_cases, and_parts, cases_Bool, cond-true, same_Some, get_or_from_slice_get, group_of, is_made, IsOwn, has, is_gone, World, rank_at, IsRunning, HasStopped, list_any, entry_at, in_entry, some_from}
 use Rattle.ulfm_base.specs.Group.{is_member, numbers_from}
 use Rattle.ulfm_rank.specs.Proposal.{listed_of, is_out, IsProposal, differ}
 use Rattle.ulfm_rank.proofs.Grouped.{members_found}
 use Rattle.ulfm_rank.proofs.Foreign.{not_differ}
 use Rattle.ulfm_base.proofs.Among.{excluding_keeps, none_of, member_test}
+use Rattle.ulfm_laws.proofs.Excluded.{known_by}
 use Rattle.ulfm_world.proofs.Agreed.{IsHeld, Settled, one_group, listed_entry, known_stopped}
-
-in_some : (o : Option Contribution) (x : ℕ) → in_entry o x ≡ true → (set : Contribution) × (o ≡ Some set) × (has set.known x ≡ true)
-in_some None x h = absurd (false≢true h)
-in_some (Some set) x h = (set, refl, h)
 
 module _ (n : ℕ) (w : World) (r : ℕ) (c : Topic) (h : IsWorld w) (settled : Settled n w) (i : r < n) where
   -- who is out has stopped
@@ -19,7 +16,7 @@ module _ (n : ℕ) (w : World) (r : ℕ) (c : Topic) (h : IsWorld w) (settled : 
     | inl gone ↦ known_stopped w x r h settled inside i gone
     | inr told ↦
         let found = member_test group (λ m. in_entry (listed_of r (rank_at w r).log c m) x) told in
-        let set = in_some (listed_of r (rank_at w r).log c found.0) x found.2 in
+        let set = known_by (listed_of r (rank_at w r).log c found.0) x found.2 in
         let lister = below found.0 found.1 in
         known_stopped w x found.0 h settled inside lister ((settled.keeps found.0 lister).knows_sets c x set.0 (listed_entry w r found.0 c h settled i lister set.1) set.2)
   ]

@@ -32,6 +32,9 @@ pub mod Shrunk
 pub mod Read
 pub mod Rightly
 pub mod Ordered
+pub mod Ordering
+pub mod InOrder
+pub mod InTurn
 pub mod OneOrder
 pub mod Made
 pub mod Lawful

@@ -180,7 +180,8 @@ abbrev pub IsLive : World → ℕ → Type 0
 IsLive w r = IsInside w r × IsRunning w r
 
 -- Why an event is refused, in the order of the checks. Out of memory has no cause that a world shows. It refuses no further
--- poll of an open step, whose answer has its room, and no decision: one that finds no memory to be adopted is answered so.
+-- poll of an open step, whose answer has its room, no skip while one is open, and no decision: one that finds no memory to be
+-- adopted is answered so.
 abbrev pub IsRefused : World → Event → Refused → Type 0
 IsRefused w (Call r asked) NoSuchRank = length w.players ≤ r
 IsRefused w (Call r asked) Stopped = IsInside w r × HasStopped w r
@@ -207,7 +208,7 @@ IsRefused w (Leave r) NotReady = IsLive w r × ((player_at w r).current ≡ None
 IsRefused w (Skip r asked) NoSuchRank = length w.players ≤ r
 IsRefused w (Skip r asked) Stopped = IsInside w r × HasStopped w r
 IsRefused w (Skip r asked) NotReady = IsLive w r × ((player_at w r).current ≢ None)
-IsRefused w (Skip r asked) OutOfMemory = IsLive w r
+IsRefused w (Skip r asked) OutOfMemory = IsLive w r × ((player_at w r).current ≡ None)
 IsRefused w _ _ = ⊥
 
 -- an event happens, or is refused for a cause and changes nothing

@@ -178,6 +178,7 @@ fn turn_of(job: &Job, rounds: &mut Rounds<'_>, r: u8) -> Result<bool, RunFault>
     ensures stuck { IfOk result (λ moved. moved ≡ false → IsStuck job.now rounds.new.world r) }
     ensures refused { IfErr result (λ fault. fault ≡ RunFault.OutOfMemory) }
 {
+    // That the rounds play this job stands in the clauses alone.
     let _ = job;
     rounds.rank = r;
     let Ok((moved, polled)) = turn(rounds) else {

@@ -1,12 +1,15 @@
 -- A walk over all logs at once, by how far each of them was walked.
 use Rattle.std.specs.Prelude.{◌≡◌, ⊤, ℕ, ◌+◌, ◌-◌, ◌<◌, ◌≤◌, List, [], ◌∷◌, length, take, slice_index, slice_set}
+use Rattle.ulfm_base.specs.declared.decision.Decision.{Decision}
 use Rattle.ulfm_base.specs.declared.item.Item.{Item}
 use Rattle.ulfm_base.specs.declared.rank.WorldRank.{WorldRank}
 use Rattle.ulfm_base.specs.Lists.{at}
 use Rattle.ulfm_rank.specs.declared.entry.Entry.{Entry}
-use Rattle.ulfm_rank.specs.declared.entry.Entry.TheVariants.{Took}
+use Rattle.ulfm_rank.specs.declared.entry.Entry.TheVariants.{Adopted, Took}
 use Rattle.ulfm_script.specs.Report.{Report}
 use Rattle.ulfm_laws.specs.Order.{Owe, IsOwedEarlier}
+use Rattle.ulfm_laws.specs.Proposed.{IsProposedEarlier}
+use Rattle.ulfm_run.specs.inside.Listed.{IsProposedByRank}
 
 -- the entries that were walked of the rank s owe this item to the rank d, whose log was `before`
 pub record IsOwedByWalked (reports : List Report) (fronts : List ℕ) (s d : ℕ) (before : List Entry) (item : Item) : Type 0 where
@@ -14,9 +17,14 @@ pub record IsOwedByWalked (reports : List Report) (fronts : List ℕ) (s d : ℕ
   pub reported : at reports s sender
   pub owed : Owe s d (take (slice_index fronts s) sender.rank.log) before item
 
--- an entry takes no item, or one that is owed
+-- some rank proposed a decision at a place up to which it was walked
+abbrev pub IsProposedByWalked : List Report → List ℕ → Decision → Type 0
+IsProposedByWalked reports fronts d = (rank : ℕ) × IsProposedByRank reports fronts rank d
+
+-- an entry takes an item that is owed, adopts a decision that was proposed, or does neither
 abbrev pub MayPass : List Report → List ℕ → ℕ → List Entry → Entry → Type 0
 MayPass reports fronts d before (Took source item) = IsOwedByWalked reports fronts source.number d before item
+MayPass reports fronts d before (Adopted decision) = IsProposedByWalked reports fronts decision
 MayPass reports fronts d before _ = ⊤
 
 -- the rank d can go on: it has a next entry, which may be passed
@@ -37,6 +45,11 @@ pub record IsOwedWithin (reports : List Report) (fronts : List ℕ) (time : ℕ 
   pub owed : IsOwedEarlier reports time s d k before item
   pub within : owed.count ≤ slice_index fronts s
 
+-- a decision was proposed before this time, at a place up to which a rank was walked
+pub record IsProposedWithin (reports : List Report) (fronts : List ℕ) (time : ℕ → ℕ → ℕ) (now : ℕ) (d : Decision) : Type 0 where
+  pub proposed : IsProposedEarlier reports time now d
+  pub walked : proposed.place ≤ slice_index fronts proposed.rank
+
 -- what was walked has one order, and all of it comes before `now`
 pub record IsWalked (reports : List Report) (fronts : List ℕ) : Type 0 where
   pub sized : length fronts ≡ 8
@@ -47,6 +60,8 @@ pub record IsWalked (reports : List Report) (fronts : List ℕ) : Type 0 where
   pub owed : (d k : ℕ) (receiver : Report) (source : WorldRank) (item : Item) → at reports d receiver
       → k < slice_index fronts d → at receiver.rank.log k (Took source item)
       → IsOwedWithin reports fronts time source.number d k (take k receiver.rank.log) item
+  pub proposed : (r k : ℕ) (told : Report) (d : Decision) → at reports r told → k < slice_index fronts r → at told.rank.log k (Adopted d)
+      → IsProposedWithin reports fronts time (time r k) d
 
 -- all logs were walked to their ends
 abbrev pub AreAtEnds : List Report → List ℕ → Type 0

@@ -67,6 +67,28 @@ step = [
 ]
 "#;
 
+/// Rank 3 stops, once it knows that the others shrank.
+const STOPS_LATER: &str = r#"ranks = 4
+capacity = 4
+turns = 1000000
+step = [
+    {rank = 0, op = "shrink"},
+    {rank = 0, op = "send", to = 3, tag = 1, body = ""},
+    {rank = 1, op = "shrink"},
+    {rank = 1, op = "send", to = 3, tag = 1, body = ""},
+    {rank = 2, op = "shrink"},
+    {rank = 2, op = "send", to = 3, tag = 1, body = ""},
+    {rank = 3, op = "shrink"},
+    {rank = 3, op = "recv", from = 0},
+    {rank = 3, op = "wait", req = 1},
+    {rank = 3, op = "recv", from = 1},
+    {rank = 3, op = "wait", req = 3},
+    {rank = 3, op = "recv", from = 2},
+    {rank = 3, op = "wait", req = 5},
+    {rank = 3, op = "stop"},
+]
+"#;
+
 /// Whether a job of two ranks that was read comes to rest over lanes.
 fn rests_as_read<R>(rt: &R, alloc: Global, job: &Job) -> Result<bool, Fail>
 where
@@ -283,6 +305,14 @@ fn an_invented_entry_is_caught(rt: HostRuntime) -> Result<(), Fail> {
 fn an_invented_flag_is_caught(rt: HostRuntime) -> Result<(), Fail> {
     let alloc = rt.alloc();
     let found = caught(&rt, alloc, AGREEMENT_OF_FOUR, Invention::Flag)?;
+    assert_eq!(rt; found, 4);
+    Ok(())
+}
+
+#[test]
+fn a_stop_after_the_decision_is_caught(rt: HostRuntime) -> Result<(), Fail> {
+    let alloc = rt.alloc();
+    let found = caught(&rt, alloc, STOPS_LATER, Invention::Stop)?;
     assert_eq!(rt; found, 4);
     Ok(())
 }

@@ -50,6 +50,7 @@ fn skip(job: &Job, world: &mut World, r: u8, step: &Step) -> Result<(), RunFault
     requires skipped { is_played job.now.conditions r (player_at world.old r).done ≡ false }
     ensures { OnOk result (Moves job.now world.old world.new true) }
 {
+    // It tells the limits that each job keeps.
     let _ = job.turns();
     match world.apply(Event::Skip(r, Asked::of(step))) {
         Ok(_) => Ok(()),
@@ -90,6 +91,7 @@ fn call_often(job: &Job, world: &mut World, r: u8, step: &Step, times: u32) -> R
     requires spare { (player_at world.old r).polls + times < job.now.turns }
     ensures { OnOk result (Moves job.now world.old world.new true) }
 {
+    // It tells the limits that each job keeps.
     let _ = job.turns();
     match world.call_often(r, step, times) {
         Ok(_) => Ok(()),
@@ -106,6 +108,7 @@ fn decide(job: &Job, world: &mut World, r: u8, step: &Step) -> bool
     ensures moves { Moves job.now world.old world.new result }
     ensures undecided { result ≡ false → (comm : Context) → decides_on step.now ≡ Some comm → ¬ IsReadyToDecide (player_at world.old r) comm }
 {
+    // Which job is followed stands in the clauses alone.
     let _ = job;
     let Some(comm) = step.decides_on() else {
         return false;

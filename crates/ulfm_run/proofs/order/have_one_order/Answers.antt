@@ -1,6 +1,7 @@
 use Rattle.std.proofs.Common.{ℕ, List, subst, sym}
 use Rattle.ulfm_run.specs.inside.Walk.{GoesOn, IsWalked}
-use Rattle.ulfm_run.proofs.Walked.{walked_none, walked_step, step_falls, found, all_walked}
+use Rattle.ulfm_run.proofs.Stuck.{all_walked}
+use Rattle.ulfm_run.proofs.Walked.{walked_none, walked_step, step_falls, found}
 use Rattle.ulfm_run.proofs.order.have_one_order.Goals as goal
 
 pub loop-rank-init : goal.loop-rank-init
