@@ -57,6 +57,7 @@ impl Process {
     {
         let me = end.me().number;
         let rank = Rank::start_with(alloc, me, ranks, false)?;
+        // It tells that the rank is sound.
         let _ = rank.me();
         Ok(Process { rank, end, seat })
     }
