@@ -1,10 +1,12 @@
 //! What waits come to: circles of ranks, and waits for a rank that will bring nothing any more.
 
 use crate::picture::Picture;
+use crate::wait::Wait;
 use std::alloc::Global;
 use ulfm_base::OutOfMemory;
 
-/// A line for each circle of ranks that wait for one another, and for each wait for a rank that is through or has stopped.
+/// A line for each circle of ranks that wait for one another, and for each wait for a rank that is through or has stopped. Of a rank that gave
+/// up several steps the first one counts: but for that it would stand there.
 pub(crate) fn conclusions(
     alloc: Global,
     picture: &Picture<'_>,
@@ -17,6 +19,9 @@ pub(crate) fn conclusions(
     }
     for wait in &picture.waits {
         let (rank, on) = (wait.rank, wait.on);
+        if !holds(picture, wait) || picture.waits_somewhere(on) {
+            continue;
+        }
         if picture.is_through(on) {
             lines.push(format!(in alloc; "{rank} waits for {on}, which is through.")?)?;
         } else if picture.has_stopped(on) {
@@ -26,10 +31,29 @@ pub(crate) fn conclusions(
     Ok(lines)
 }
 
-/// The first rank that a rank waits for and that waits itself.
+/// Whether a wait is of the step at which its rank would stand, and isn't over as soon as what came later is there.
+fn holds(picture: &Picture<'_>, wait: &Wait<'_>) -> bool {
+    if wait.is_late() || picture.first_step(wait.rank) != Some(wait.step) {
+        return false;
+    }
+    !(wait.is_for_message()
+        && picture
+            .waits
+            .iter()
+            .any(|other| other.is_beside(wait) && other.is_late()))
+}
+
+/// The first other rank that a rank waits for and that waits itself.
 fn next(picture: &Picture<'_>, rank: usize) -> Option<usize> {
     for wait in &picture.waits {
-        if wait.rank == rank && picture.waits.iter().any(|other| other.rank == wait.on) {
+        if wait.rank == rank
+            && wait.on != rank
+            && holds(picture, wait)
+            && picture
+                .waits
+                .iter()
+                .any(|other| other.rank == wait.on && holds(picture, other))
+        {
             return Some(wait.on);
         }
     }

@@ -111,8 +111,8 @@ fn push_ends(out: &mut String, picture: &Picture<'_>) -> Result<(), OutOfMemory>
         write!(out, "rank {rank}: {end}\n")?;
     }
     for wait in &picture.waits {
-        let (rank, need, bearer) = (wait.rank, wait.need, wait.bearer);
-        write!(out, "rank {rank} waits for {need}: {bearer}\n")?;
+        let (rank, step, need) = (wait.rank, wait.step, wait.need);
+        write!(out, "{rank}.{step} waits for {need}: {}\n", wait.bearer)?;
     }
     for conclusion in conclusions(alloc, picture)? {
         write!(out, "{conclusion}\n")?;

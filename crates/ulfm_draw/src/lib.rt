@@ -11,10 +11,13 @@
 mod arrow;
 mod circles;
 mod columns;
+mod given_up;
 mod groups;
+mod held;
 mod ink;
 mod kind;
 mod lanes;
+mod late;
 mod layout;
 mod legend;
 mod mark;

@@ -23,12 +23,14 @@ pub(crate) enum Mark {
     Hang,
     /// A step was skipped.
     Skip,
+    /// A note.
+    Note,
     /// The rank stopped.
     Stop,
 }
 
 /// All marks, in the order of legends.
-pub(crate) const MARKS: [Mark; 8] = [
+pub(crate) const MARKS: [Mark; 9] = [
     Mark::Answer,
     Mark::Open,
     Mark::Got,
@@ -36,6 +38,7 @@ pub(crate) const MARKS: [Mark; 8] = [
     Mark::Refusal,
     Mark::Hang,
     Mark::Skip,
+    Mark::Note,
     Mark::Stop,
 ];
 
@@ -56,6 +59,7 @@ fn mark_by(op: &str, answer: &str) -> Mark {
         (_, "refused" | "over") => Mark::Refusal,
         (_, "unfinished" | "pending") => Mark::Hang,
         (_, "skipped") => Mark::Skip,
+        (_, "noted") => Mark::Note,
         (_, "stopped") => Mark::Stop,
         _ => Mark::Answer,
     }
@@ -71,6 +75,7 @@ pub(crate) fn meaning(mark: Mark) -> &'static str {
         Mark::Refusal => "refused, over",
         Mark::Hang => "unfinished, pending",
         Mark::Skip => "skipped",
+        Mark::Note => "note",
         Mark::Stop => "stop",
     }
 }
@@ -116,6 +121,10 @@ pub(crate) fn push_mark(
         Mark::Skip => write!(
             out,
             "<path d=\"M{left} {y}h10\" stroke=\"{DARK}\" stroke-width=\"3\"/>\n"
+        ),
+        Mark::Note => write!(
+            out,
+            "<path d=\"M{x} {y}v-10l8 3l-8 3\" fill=\"{DARK}\" stroke=\"{DARK}\" stroke-width=\"1.5\"/>\n"
         ),
         Mark::Stop => write!(
             out,

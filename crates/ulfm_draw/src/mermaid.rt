@@ -46,7 +46,13 @@ fn push_row(
     if row.is_opening() {
         write!(out, "    activate r{rank}\n")?;
     }
-    write!(out, "    Note right of r{rank}: {subject}<br/>{outcome}\n")?;
+    write!(out, "    Note right of r{rank}: {subject}<br/>{outcome}")?;
+    for wait in &picture.waits {
+        if picture.is_left_by(wait, row) {
+            write!(out, "<br/>waits for {}:<br/>{}", wait.need, wait.bearer)?;
+        }
+    }
+    out.push_str("\n")?;
     if picture.was_open(number) {
         write!(out, "    deactivate r{rank}\n")?;
     }
@@ -100,7 +106,7 @@ fn arrow_of(kind: Kind) -> &'static str {
 /// Puts what the open step of a rank waits for.
 fn push_end(out: &mut String, picture: &Picture<'_>, rank: usize) -> Result<(), OutOfMemory> {
     for wait in &picture.waits {
-        if wait.rank == rank {
+        if wait.rank == rank && picture.lasts(wait) {
             let (need, bearer) = (wait.need, wait.bearer);
             write!(
                 out,

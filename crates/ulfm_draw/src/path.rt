@@ -91,13 +91,12 @@ fn path_to(
     )
 }
 
-/// The path of what hangs in the air.
+/// The path of what hangs in the air: down beside the texts of its row, and then below them.
 fn stub(alloc: Global, layout: &Layout, arrow: &Arrow) -> Result<String, OutOfMemory> {
     let is_right = arrow.is_rightward();
     let mark = layout.mark(arrow.start);
     let floor = layout.floor(arrow.start);
     let from = beside(layout.line(arrow.from), 5, is_right);
-    let bend = beside(from, 3, is_right);
     let end = beside(from, 26, is_right);
-    format!(in alloc; "M{from} {mark}Q{bend} {floor} {end} {floor}")
+    format!(in alloc; "M{from} {mark}C{from} {floor} {from} {floor} {end} {floor}")
 }

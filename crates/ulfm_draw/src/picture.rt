@@ -94,4 +94,29 @@ impl<'a> Picture<'a> {
         }
         false
     }
+
+    /// Whether a wait is one of the step that has its answer in a row, as one that is given up.
+    pub(crate) fn is_left_by(&self, wait: &Wait<'_>, row: &Row<'_>) -> bool {
+        !row.is_opening() && row.is_of(wait.rank, wait.step)
+    }
+
+    /// Whether a wait lasts to the end: its step has no answer.
+    pub(crate) fn lasts(&self, wait: &Wait<'_>) -> bool {
+        !self.rows.iter().any(|row| self.is_left_by(wait, row))
+    }
+
+    /// The first step by which a rank waits.
+    pub(crate) fn first_step(&self, rank: usize) -> Option<usize> {
+        for wait in &self.waits {
+            if wait.rank == rank {
+                return Some(wait.step);
+            }
+        }
+        None
+    }
+
+    /// Whether a rank waits, or did by a step that has an answer.
+    pub(crate) fn waits_somewhere(&self, rank: usize) -> bool {
+        self.first_step(rank).is_some()
+    }
 }

@@ -4,6 +4,7 @@ use crate::kind::Kind;
 use crate::picture::Picture;
 use crate::row::{Deed, Row};
 use crate::saying::{outcome, subject};
+use crate::wait::Wait;
 use crate::wrapping::{MOST, wrapped};
 use std::alloc::Global;
 use ulfm_base::OutOfMemory;
@@ -72,8 +73,24 @@ pub(crate) fn add_lines(
     Ok(())
 }
 
-/// The texts of a row: in one line where they fit, else the answer stands below.
+/// The texts of a row, and what its step waits for where that was given up.
 pub(crate) fn row_pieces(
+    alloc: Global,
+    picture: &Picture<'_>,
+    number: usize,
+    row: &Row<'_>,
+) -> Result<Vec<Piece>, OutOfMemory> {
+    let mut pieces = move_pieces(alloc, picture, number, row)?;
+    for wait in &picture.waits {
+        if picture.is_left_by(wait, row) {
+            add_wait(&mut pieces, wait)?;
+        }
+    }
+    Ok(pieces)
+}
+
+/// The texts of a move: in one line where they fit, else the answer stands below.
+fn move_pieces(
     alloc: Global,
     picture: &Picture<'_>,
     number: usize,
@@ -102,6 +119,13 @@ pub(crate) fn row_pieces(
     Ok(pieces)
 }
 
+/// Adds what is waited for, and who would bring it.
+fn add_wait(pieces: &mut Vec<Piece>, wait: &Wait<'_>) -> Result<(), OutOfMemory> {
+    let need = format!(in *pieces.allocator(); "waits for {}:", wait.need)?;
+    add_lines(pieces, need.as_str(), Face::Strong)?;
+    add_lines(pieces, wait.bearer, Face::Plain)
+}
+
 /// The texts below the line of a rank: what its open step waits for, or how it ended.
 pub(crate) fn foot_pieces(
     alloc: Global,
@@ -110,10 +134,8 @@ pub(crate) fn foot_pieces(
 ) -> Result<Vec<Piece>, OutOfMemory> {
     let mut pieces = Vec::new(alloc);
     for wait in &picture.waits {
-        if wait.rank == rank {
-            let need = format!(in alloc; "waits for {}:", wait.need)?;
-            add_lines(&mut pieces, need.as_str(), Face::Strong)?;
-            add_lines(&mut pieces, wait.bearer, Face::Plain)?;
+        if wait.rank == rank && picture.lasts(wait) {
+            add_wait(&mut pieces, wait)?;
         }
     }
     if picture.has_stopped(rank) || !pieces.is_empty() {

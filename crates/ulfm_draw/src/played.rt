@@ -1,5 +1,6 @@
 //! The reports of a job in the form of a schedule's text.
 
+use crate::given_up::push_given_up;
 use crate::told::{Next, Told};
 use crate::under_way::{is_sent, push_item};
 use std::alloc::Global;
@@ -9,7 +10,7 @@ use ulfm_rank::Entry;
 use ulfm_script::{RankReport, push_answer};
 
 /// The text of a schedule in which ranks answer and take what these reports of the job say, each in its own order, and in which each item
-/// is taken behind the move that sent it. The ranks take turns at moves.
+/// is taken behind the move that sent it. The ranks take turns at moves. Steps that were given up stand among those that stand open.
 ///
 /// # Errors
 ///
@@ -33,6 +34,8 @@ pub fn played_text(
     for report in reports {
         push_end(&mut text, report)?;
     }
+    text.push_str("open steps:\n")?;
+    push_given_up(&mut text, job, reports)?;
     Ok(text)
 }
 

@@ -42,7 +42,7 @@ fn tells(entry: &Entry, item: &ItemKind) -> bool {
 }
 
 /// How many messages of a rank another one took before an entry of its log.
-fn letters_before(report: &RankReport, at: usize, source: &RankReport) -> usize {
+pub(crate) fn letters_before(report: &RankReport, at: usize, source: &RankReport) -> usize {
     let mut count = 0_usize;
     for entry in report.log().iter().take(at) {
         if is_letter_of(entry, source.me().number) {
@@ -63,7 +63,7 @@ fn is_letter_of(entry: &Entry, from: u8) -> bool {
 }
 
 /// The entry by which a rank sent another one a message, behind so many before it.
-fn sent_by(source: &RankReport, to: u8, before: usize) -> Option<usize> {
+pub(crate) fn sent_by(source: &RankReport, to: u8, before: usize) -> Option<usize> {
     let mut count = 0_usize;
     for (number, entry) in source.log().iter().enumerate() {
         if let Entry::Sent(dest, _) = entry {
@@ -79,7 +79,7 @@ fn sent_by(source: &RankReport, to: u8, before: usize) -> Option<usize> {
 }
 
 /// The step by which a rank wrote such an entry: each answered send wrote one, in their order.
-fn step_of(source: &RankReport, entry: usize) -> Option<usize> {
+pub(crate) fn step_of(source: &RankReport, entry: usize) -> Option<usize> {
     let mut before = 0_usize;
     for earlier in source.log().iter().take(entry) {
         if matches!(earlier, Entry::Sent(_, _)) {

@@ -1,31 +1,7 @@
 //! With what words answers begin (docs/JOBS.md).
 
 use crate::rules::Key;
-
-/// The most bytes of words.
-pub const MOST_WORDS: usize = 1024;
-
-/// The answers that tell of something in the way.
-const REFUSALS: &[&str] = &[
-    "over 5 ProcFailed",
-    "over 6 Revoked",
-    "over 15 Truncated",
-    "refused 1 NoComm",
-    "refused 2 BadRank",
-    "refused 3 BadTag",
-    "refused 4 TooLong",
-    "refused 5 ProcFailed",
-    "refused 6 Revoked",
-    "refused 7 NoRequest",
-    "refused 8 AlreadyMade",
-    "refused 9 NoContext",
-    "refused 10 Stopped",
-    "refused 11 NotMember",
-    "refused 12 OutOfMemory",
-    "refused 13 BadSize",
-    "refused 14 NotEntered",
-    "refused 15 Truncated",
-];
+use ulfm_reader::{REFUSALS, is_alike};
 
 /// How an answer of each op begins that isn't refused.
 const OWN_ANSWERS: &[(&str, &[&str])] = &[
@@ -41,6 +17,7 @@ const OWN_ANSWERS: &[(&str, &[&str])] = &[
     ("dup", &["comm"]),
     ("shrink", &["comm"]),
     ("agree", &["agreed"]),
+    ("note", &["noted"]),
     ("stop", &["stopped"]),
 ];
 
@@ -59,7 +36,7 @@ fn own_answers(op: &str) -> &'static [&'static str] {
 fn unplayed_answers(op: &str, key: Key) -> &'static [&'static str] {
     let polls = matches!(op, "wait" | "probe" | "shrink" | "agree");
     match key {
-        Key::Is => &["unfinished", "skipped"],
+        Key::Is | Key::Not => &["unfinished", "skipped"],
         Key::Never if polls => &["unfinished", "skipped"],
         Key::Never => &["skipped"],
         _ if polls => &["unfinished"],
@@ -69,23 +46,11 @@ fn unplayed_answers(op: &str, key: Key) -> &'static [&'static str] {
 
 /// How an answer of an op may begin, in three lists: by a word of its own, as one that isn't played to its end, or by something in the way.
 pub fn beginnings(op: &str, key: Key) -> [&'static [&'static str]; 3] {
-    let refusals = if op == "stop" { &[] } else { REFUSALS };
+    let refusals = match op {
+        "note" | "stop" => &[],
+        _ => REFUSALS,
+    };
     [own_answers(op), unplayed_answers(op, key), refusals]
-}
-
-/// Whether a text begins, by whole words, with these words.
-pub fn begins(text: &str, words: &str) -> bool {
-    match text.strip_prefix(words) {
-        Some(rest) => rest.is_empty() || rest.starts_with(' '),
-        None => false,
-    }
-}
-
-/// Whether the words and one of these texts begin alike.
-fn is_alike(texts: &[&str], words: &str) -> bool {
-    texts
-        .iter()
-        .any(|text| begins(text, words) || begins(words, text))
 }
 
 /// Whether an answer of an op for which words at a key may ask may begin with these.

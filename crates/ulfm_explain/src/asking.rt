@@ -1,18 +1,17 @@
 //! What is wrong with the name of a step, with its conditions, and with what it expects.
 
-use crate::answers::{MOST_WORDS, may_begin};
+use crate::answers::may_begin;
 use crate::cause::Cause;
 use crate::explanation::StepPlace;
 use crate::findings::Findings;
 use crate::keys::Sheet;
-use crate::rules::{Key, condition_rules};
-use crate::script::{Script, is_name, op_of};
+use crate::rules::{Key, Rules, all_rules, condition_rules};
+use crate::script::{Script, op_of};
 use crate::shown::{Shown, shown_value};
 use std::alloc::AllocError;
 use toml::{Table, Value};
-
-/// The most items of a list.
-const MOST_ITEMS: usize = 16;
+use ulfm_job::limits::{MOST_ITEMS, MOST_WORDS};
+use ulfm_reader::is_name;
 
 /// A step whose rank can be read, and where it stands.
 #[derive(Clone, Copy)]
@@ -96,7 +95,7 @@ impl Asker<'_> {
             return Ok(());
         };
         if let Some(table) = value.as_table() {
-            return self.explain_condition(findings, table);
+            return self.explain_alternative(findings, table);
         }
         let Some(items) = value.as_array() else {
             return self.sheet.explain_kind(findings, Key::If, value);
@@ -106,8 +105,46 @@ impl Asker<'_> {
         }
         for item in items {
             match item.as_table() {
-                Some(table) => self.explain_condition(findings, table)?,
+                Some(table) => self.explain_alternative(findings, table)?,
                 None => self.explain_item(findings, Key::If, Key::If, item)?,
+            }
+        }
+        Ok(())
+    }
+
+    /// A table within its conditions, which may have these keys.
+    fn sheet_within<'a>(&'a self, table: &'a Table, rules: Rules) -> Sheet<'a> {
+        Sheet {
+            table,
+            rules,
+            step: Some(self.place),
+            ranks: self.sheet.ranks,
+            within: Some(Key::If),
+        }
+    }
+
+    /// Tells what is wrong with one alternative: a condition, or by `all` some that have to hold together.
+    fn explain_alternative(
+        &self,
+        findings: &mut Findings<'_>,
+        table: &Table,
+    ) -> Result<(), AllocError> {
+        let Some(value) = table.get("all") else {
+            return self.explain_condition(findings, table);
+        };
+        let sheet = self.sheet_within(table, all_rules());
+        sheet.explain_kinds(findings)?;
+        sheet.explain_unknown(findings)?;
+        let Some(items) = value.as_array() else {
+            return Ok(());
+        };
+        if items.is_empty() || items.len() > MOST_ITEMS {
+            return self.tell(findings, Key::If, Cause::Count(Key::All, items.len()));
+        }
+        for item in items {
+            match item.as_table() {
+                Some(table) => self.explain_condition(findings, table)?,
+                None => self.explain_item(findings, Key::If, Key::All, item)?,
             }
         }
         Ok(())
@@ -132,13 +169,9 @@ impl Asker<'_> {
         findings: &mut Findings<'_>,
         table: &Table,
     ) -> Result<(), AllocError> {
-        let sheet = Sheet {
-            table,
-            rules: condition_rules(),
-            step: Some(self.place),
-            ranks: self.sheet.ranks,
-            within: Some(Key::If),
-        };
+        let is = table.get("is");
+        let not = table.get("not");
+        let sheet = self.sheet_within(table, condition_rules(is.is_some(), not.is_some()));
         sheet.explain_kinds(findings)?;
         sheet.explain_unknown(findings)?;
         let Some(value) = table.get("step") else {
@@ -158,8 +191,11 @@ impl Asker<'_> {
             Some(step) => op_of(step),
             None => None,
         };
-        match (op, table.get("is")) {
-            (Some(op), Some(words)) => self.explain_words(findings, Key::If, Key::Is, op, words),
+        match (op, is, not) {
+            (Some(op), Some(words), _) => self.explain_words(findings, Key::If, Key::Is, op, words),
+            (Some(op), None, Some(words)) => {
+                self.explain_words(findings, Key::If, Key::Not, op, words)
+            }
             _ => Ok(()),
         }
     }

@@ -41,6 +41,8 @@ pub enum Cause {
     UnknownOp(Shown, Option<&'static str>),
     /// A text that can't be a name.
     NoName(Shown),
+    /// A text that can't be that of a note.
+    NoLabel(Shown),
     /// A name that the step of its rank with this number has.
     NameTaken(Shown, usize),
     /// A name that no earlier step of its rank has.
@@ -182,6 +184,10 @@ impl fmt::Display for Cause {
             Cause::NoName(text) => write!(
                 f,
                 "name '{text}' has to be 1 to 32 letters, digits, '_' and '-'"
+            ),
+            Cause::NoLabel(text) => write!(
+                f,
+                "text '{text}' has to be 1 to 32 letters, digits, spaces, '_', '-' and '.'"
             ),
             Cause::NameTaken(text, step) => {
                 write!(f, "name '{text}' is that of step {step} of its rank too")

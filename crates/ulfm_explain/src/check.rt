@@ -10,9 +10,7 @@ use crate::shown::Shown;
 use crate::steps::explain_job;
 use std::alloc::{AllocError, Global};
 use toml::Table;
-
-/// The most bytes of a job.
-const MOST_BYTES: usize = 1_048_576;
+use ulfm_job::limits::MOST_BYTES;
 
 /// What is wrong with a job's text: all of its faults up to ten, in the order in which the reader of jobs looks for them.
 /// A good job has none.

@@ -6,12 +6,10 @@ use crate::rules::Key;
 use crate::script::{Script, has_condition, op_of};
 use crate::steps::rank_of;
 use toml::Value;
-
-/// The most bytes of a message.
-const MOST_BYTES: usize = 1024;
+use ulfm_job::limits::{LAST_COMM, MOST_BODY};
 
 /// The last communicator that can be duplicated or shrunk.
-const LAST_PARENT: i64 = 30;
+const LAST_PARENT: i64 = (LAST_COMM as i64 - 2) / 2;
 
 /// A step among those of its rank, in a job of so many ranks.
 #[derive(Clone, Copy)]
@@ -94,7 +92,7 @@ impl<'a> Placed<'a> {
 
     /// Why a call that names no earlier step will be refused.
     fn doom_of_call(&self, op: &'static str) -> Option<Doom> {
-        if op == "stop" {
+        if op == "note" || op == "stop" {
             return None;
         }
         self.doom_of_rank()
@@ -118,7 +116,7 @@ impl<'a> Placed<'a> {
     /// A body that is too long.
     fn doom_of_body(&self) -> Option<Doom> {
         let body = text_at(self.step.as_table()?, Key::Body)?;
-        if body.len() > MOST_BYTES {
+        if body.len() > MOST_BODY {
             Some(Doom::LongBody(body.len()))
         } else {
             None

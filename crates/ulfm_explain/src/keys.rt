@@ -5,6 +5,7 @@ use crate::explanation::StepPlace;
 use crate::findings::Findings;
 use crate::nearest::nearest_key;
 use crate::rules::{Key, Kind, Rules};
+use crate::script::is_label;
 use crate::shown::{Shown, shown_value};
 use std::alloc::AllocError;
 use toml::{Table, Value};
@@ -108,7 +109,7 @@ impl Sheet<'_> {
         Ok(())
     }
 
-    /// Tells of numbers that are out of their ranges.
+    /// Tells of numbers that are out of their ranges, and of a text that can't be that of a note.
     pub fn explain_ranges(&self, findings: &mut Findings<'_>) -> Result<(), AllocError> {
         for key in self.rules.required.iter().chain(self.rules.optional.iter()) {
             let wanted = key.kind(self.ranks);
@@ -118,8 +119,23 @@ impl Sheet<'_> {
                     findings.tell(at, self.step, Cause::OutOfRange(*key, number, wanted))?;
                 }
             }
+            if wanted == Kind::Label {
+                self.explain_label(findings, *key)?;
+            }
         }
         Ok(())
+    }
+
+    /// Tells of a text that can't be that of a note.
+    fn explain_label(&self, findings: &mut Findings<'_>, key: Key) -> Result<(), AllocError> {
+        match text_at(self.table, key) {
+            Some(text) if !is_label(text) => {
+                let shown = Shown::new(findings.alloc, text)?;
+                let at = self.place_of(findings, key.name());
+                findings.tell(at, self.step, Cause::NoLabel(shown))
+            }
+            _ => Ok(()),
+        }
     }
 }
 
@@ -162,10 +178,10 @@ fn is_of_kind(value: &Value, kind: Kind) -> bool {
         | Kind::Ranks(_, _)
         | Kind::Peer(_, _)
         | Kind::PeerOrAny(_, _) => value.is_integer(),
-        Kind::Text | Kind::Name => value.is_str(),
+        Kind::Text | Kind::Name | Kind::Label => value.is_str(),
         Kind::Reference(_, _) => value.is_integer() || value.is_str(),
         Kind::Conditions => value.is_table() || value.is_array(),
-        Kind::Words => value.is_array(),
+        Kind::Words | Kind::Together => value.is_array(),
         Kind::Rows => are_rows(value),
         Kind::Tables => false,
     }

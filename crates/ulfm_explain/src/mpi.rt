@@ -21,6 +21,8 @@ const WORDS: &[(&str, &str)] = &[
     ("failure_ack", "ack"),
     ("abort", "stop"),
     ("kill", "stop"),
+    ("pcontrol", "note"),
+    ("print", "note"),
     ("dest", "to"),
     ("destination", "to"),
     ("source", "from"),

@@ -1,6 +1,6 @@
 //! What is wrong with the rows of `never`, and which rows a trace has whole.
 
-use crate::answers::{MOST_WORDS, begins, may_begin};
+use crate::answers::may_begin;
 use crate::cause::Cause;
 use crate::claim::claim_of;
 use crate::findings::Findings;
@@ -11,15 +11,8 @@ use crate::steps::steps_of;
 use crate::told::{halves, table_of};
 use std::alloc::{AllocError, Global};
 use toml::{Table, Value};
-
-/// The most rows.
-const MOST_ROWS: usize = 32;
-
-/// The fewest texts of a row.
-const FEWEST: usize = 2;
-
-/// The most texts of a row.
-const MOST: usize = 8;
+use ulfm_job::limits::{FEWEST_OF_ROW, MOST_OF_ROW, MOST_ROWS, MOST_WORDS};
+use ulfm_reader::begins_with;
 
 /// The rows of a job; none where they aren't an array.
 fn rows_of(table: &Table) -> &[Value] {
@@ -71,7 +64,7 @@ fn explain_row(
     number: usize,
     texts: &[Value],
 ) -> Result<(), AllocError> {
-    if texts.len() < FEWEST || texts.len() > MOST {
+    if texts.len() < FEWEST_OF_ROW || texts.len() > MOST_OF_ROW {
         return tell(findings, Cause::RowLength(number, texts.len()));
     }
     for text in texts {
@@ -163,7 +156,7 @@ fn is_line_of(line: &str, rank: i64, number: Option<usize>, words: &str) -> bool
     told_number.is_some()
         && told_rank == Some(rank)
         && told_number == number
-        && begins(answer, words)
+        && begins_with(answer, words)
 }
 
 /// Adds the texts of a row.

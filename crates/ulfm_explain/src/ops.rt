@@ -3,9 +3,9 @@
 use crate::rules::{ASKING, Key, Rules};
 
 /// The ops of steps.
-pub const OPS: [&str; 13] = [
+pub const OPS: [&str; 14] = [
     "send", "recv", "wait", "probe", "mrecv", "cancel", "failed", "ack", "revoke", "dup", "shrink",
-    "agree", "stop",
+    "agree", "note", "stop",
 ];
 
 /// The keys of a step of each op.
@@ -80,6 +80,12 @@ const OF_STEPS: &[Rules] = &[
         owner: "agree",
         required: &[Key::Op, Key::Rank, Key::Flag],
         optional: &[Key::Comm],
+        asking: ASKING,
+    },
+    Rules {
+        owner: "note",
+        required: &[Key::Op, Key::Rank, Key::Text],
+        optional: &[],
         asking: ASKING,
     },
     Rules {

@@ -1,6 +1,10 @@
 //! The keys that the tables of a job may have (docs/JOBS.md).
 
 use std::fmt;
+use ulfm_job::limits::{
+    LAST_COMM, LAST_FLAG, LAST_RANK, LAST_STEP, LAST_TAG, MOST_CAPACITY, MOST_RANKS, MOST_ROOM,
+    MOST_TURNS,
+};
 
 /// What stands at a key.
 #[derive(Clone, Copy, Debug, PartialEq, Eq)]
@@ -23,8 +27,12 @@ pub enum Kind {
     Reference(i64, i64),
     /// A name.
     Name,
+    /// The text of a note.
+    Label,
     /// A table, or an array of 1 to 16.
     Conditions,
+    /// An array of 1 to 16 tables.
+    Together,
     /// An array of 1 to 16 texts.
     Words,
     /// An array of arrays of texts.
@@ -52,12 +60,16 @@ pub enum Key {
     Count,
     Flag,
     Comm,
+    /// The text of a note.
+    Text,
     Name,
     If,
     Expect,
     /// The step that a condition names.
     Earlier,
     Is,
+    Not,
+    All,
 }
 
 impl Key {
@@ -80,35 +92,40 @@ impl Key {
             Key::Count => "count",
             Key::Flag => "flag",
             Key::Comm => "comm",
+            Key::Text => "text",
             Key::Name => "name",
             Key::If => "if",
             Key::Expect => "expect",
             Key::Is => "is",
+            Key::Not => "not",
+            Key::All => "all",
         }
     }
 
     /// What stands at it, in a job of so many ranks.
     pub fn kind(self, ranks: u8) -> Kind {
         match self {
-            Key::Ranks => Kind::Integer(1, 8),
-            Key::Capacity => Kind::Integer(1, 64),
-            Key::Turns => Kind::Integer(1, 10_000_000),
+            Key::Ranks => Kind::Integer(1, i64::from(MOST_RANKS)),
+            Key::Capacity => Kind::Integer(1, i64::from(MOST_CAPACITY)),
+            Key::Turns => Kind::Integer(1, i64::from(MOST_TURNS)),
             Key::Step => Kind::Tables,
             Key::Never => Kind::Rows,
             Key::Op | Key::Body => Kind::Text,
             Key::Rank => Kind::Ranks(0, i64::from(ranks.saturating_sub(1))),
-            Key::To => Kind::Peer(0, 7),
-            Key::From => Kind::PeerOrAny(0, 7),
-            Key::Tag => Kind::Integer(0, 32767),
-            Key::TagOrAny => Kind::OrAny(0, 32767),
-            Key::Room => Kind::Integer(0, 1024),
-            Key::Req | Key::Earlier => Kind::Reference(0, 255),
-            Key::Count => Kind::Integer(0, 8),
-            Key::Flag => Kind::Integer(0, 4_294_967_295),
-            Key::Comm => Kind::Integer(0, 62),
+            Key::To => Kind::Peer(0, i64::from(LAST_RANK)),
+            Key::From => Kind::PeerOrAny(0, i64::from(LAST_RANK)),
+            Key::Tag => Kind::Integer(0, i64::from(LAST_TAG)),
+            Key::TagOrAny => Kind::OrAny(0, i64::from(LAST_TAG)),
+            Key::Room => Kind::Integer(0, i64::from(MOST_ROOM)),
+            Key::Req | Key::Earlier => Kind::Reference(0, i64::from(LAST_STEP)),
+            Key::Count => Kind::Integer(0, i64::from(MOST_RANKS)),
+            Key::Flag => Kind::Integer(0, i64::from(LAST_FLAG)),
+            Key::Comm => Kind::Integer(0, i64::from(LAST_COMM)),
+            Key::Text => Kind::Label,
             Key::Name => Kind::Name,
             Key::If => Kind::Conditions,
-            Key::Expect | Key::Is => Kind::Words,
+            Key::All => Kind::Together,
+            Key::Expect | Key::Is | Key::Not => Kind::Words,
         }
     }
 }
@@ -140,11 +157,29 @@ pub fn job_rules() -> Rules {
     }
 }
 
-/// The keys of one condition.
-pub fn condition_rules() -> Rules {
+/// The keys of one condition, by whether it has an `is` and a `not`.
+pub fn condition_rules(has_is: bool, has_not: bool) -> Rules {
     Rules {
-        owner: "an if",
-        required: &[Key::Earlier, Key::Is],
+        owner: if has_is && has_not {
+            "an if with 'is'"
+        } else {
+            "an if"
+        },
+        required: if has_not && !has_is {
+            &[Key::Earlier, Key::Not]
+        } else {
+            &[Key::Earlier, Key::Is]
+        },
+        optional: &[],
+        asking: &[],
+    }
+}
+
+/// The keys of conditions that have to hold together.
+pub fn all_rules() -> Rules {
+    Rules {
+        owner: "an if with 'all'",
+        required: &[Key::All],
         optional: &[],
         asking: &[],
     }
@@ -165,6 +200,7 @@ pub fn any_step_rules() -> Rules {
             Key::Count,
             Key::Flag,
             Key::Comm,
+            Key::Text,
         ],
         asking: ASKING,
     }
@@ -214,7 +250,15 @@ impl fmt::Display for Kind {
                 )
             }
             Kind::Name => f.write_str("a text of 1 to 32 letters, digits, '_' and '-'"),
-            Kind::Conditions => f.write_str("a table with 'step' and 'is', or a list of 1 to 16"),
+            Kind::Label => {
+                f.write_str("a text of 1 to 32 letters, digits, spaces, '_', '-' and '.'")
+            }
+            Kind::Conditions => f.write_str(
+                "a table with 'step' and 'is' or 'not', or with 'all', or a list of 1 to 16",
+            ),
+            Kind::Together => {
+                f.write_str("a list of 1 to 16 tables with 'step' and 'is' or 'not'")
+            }
             Kind::Words => f.write_str("a list of 1 to 16 texts in quotes"),
             Kind::Rows => f.write_str("a list of lists of texts in quotes"),
         }

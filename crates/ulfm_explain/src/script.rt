@@ -6,9 +6,8 @@ use crate::rules::Key;
 use crate::steps::rank_of;
 use std::alloc::{AllocError, Global};
 use toml::Value;
-
-/// The most bytes of a name.
-const MOST_NAME: usize = 32;
+use ulfm_job::Label;
+use ulfm_reader::is_name;
 
 /// The steps of one rank, among those of the file.
 #[derive(Clone, Copy)]
@@ -61,14 +60,9 @@ pub fn kept_name(alloc: Global, step: &Value) -> Result<Option<String>, AllocErr
     }
 }
 
-/// Whether a text may be a name.
-pub fn is_name(text: &str) -> bool {
-    !text.is_empty() && text.len() <= MOST_NAME && text.bytes().all(|byte| is_name_byte(byte))
-}
-
-/// Whether a byte may stand in a name.
-fn is_name_byte(byte: u8) -> bool {
-    byte.is_ascii_alphanumeric() || byte == b'_' || byte == b'-'
+/// Whether a text may be that of a note.
+pub fn is_label(text: &str) -> bool {
+    Label::new(text).is_some()
 }
 
 /// The op of a step, if it is known.

@@ -13,9 +13,7 @@ use crate::shown::Shown;
 use std::alloc::AllocError;
 use toml::{Table, Value};
 use ulfm_expand::ranks_in;
-
-/// The most steps of a job.
-const MOST_STEPS: usize = 256;
+use ulfm_job::MOST_STEPS;
 
 /// Tells what is wrong with a job: first with its own keys, then with each step, in the order of the file, then with its
 /// rows.

@@ -1,10 +1,10 @@
 //! Which answers of a trace aren't as their steps expect.
 
-use crate::answers::begins;
 use crate::steps::steps_of;
 use crate::told::{halves, push_step, step_of, table_of};
 use std::alloc::{AllocError, Global};
 use toml::Value;
+use ulfm_reader::begins_with;
 
 /// The lines on the answers of a trace, or of several, that aren't as the job's steps expect: each once. A text that is no TOML
 /// has none.
@@ -67,7 +67,7 @@ fn is_met(answer: &str, expected: &[Value]) -> bool {
 /// Whether an answer begins with the words of a value.
 fn is_begun(answer: &str, words: &Value) -> bool {
     match words.as_str() {
-        Some(words) => begins(answer, words),
+        Some(words) => begins_with(answer, words),
         None => false,
     }
 }

@@ -4,7 +4,7 @@ use Rattle.std.specs.Fmt.{decimal}
 use Rattle.hex.specs.Hex.{encode_lower}
 use Rattle.ulfm_rank.specs.declared.entry.Status.{Status}
 use Rattle.ulfm_script.specs.declared.answer.StepAnswer.{StepAnswer}
-use Rattle.ulfm_script.specs.declared.answer.StepAnswer.TheVariants.{Sent, Posted, Done, Over, Pending, Found, Cancelled, Ranks, Acked, Revoked, Made, Shrunk, Agreed, Stopped, Unfinished, Skipped, Refused}
+use Rattle.ulfm_script.specs.declared.answer.StepAnswer.TheVariants.{Sent, Posted, Done, Over, Pending, Found, Cancelled, Ranks, Acked, Revoked, Made, Shrunk, Agreed, Noted, Stopped, Unfinished, Skipped, Refused}
 use Rattle.ulfm_json.specs.Call.{comm_json}
 use Rattle.ulfm_json.specs.Parts.{error_json, numbers_json}
 
@@ -23,6 +23,7 @@ word_text Revoked = codes "revoked"
 word_text (Made child) = codes "comm"
 word_text (Shrunk child group me) = codes "comm"
 word_text (Agreed value missing) = codes "agreed"
+word_text Noted = codes "noted"
 word_text Stopped = codes "stopped"
 word_text Unfinished = codes "unfinished"
 word_text Skipped = codes "skipped"

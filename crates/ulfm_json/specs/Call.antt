@@ -4,7 +4,7 @@ use Rattle.std.specs.Fmt.{decimal}
 use Rattle.ulfm_base.specs.declared.context.Context.{Context}
 use Rattle.ulfm_base.specs.declared.tag.Tag.{Tag}
 use Rattle.ulfm_job.specs.declared.step.Step.{Step}
-use Rattle.ulfm_job.specs.declared.step.Step.TheVariants.{Send, Recv, Wait, Probe, Mrecv, Cancel, Failed, Ack, Revoke, Dup, Shrink, Agree, Stop}
+use Rattle.ulfm_job.specs.declared.step.Step.TheVariants.{Send, Recv, Wait, Probe, Mrecv, Cancel, Failed, Ack, Revoke, Dup, Shrink, Agree, Note, Stop}
 
 -- the key of a source, where any is `null`
 abbrev pub from_json : Option ℕ → List ℕ
@@ -38,6 +38,7 @@ op_text (Revoke comm) = codes "revoke"
 op_text (Dup comm) = codes "dup"
 op_text (Shrink comm) = codes "shrink"
 op_text (Agree flag comm) = codes "agree"
+op_text (Note text) = codes "note"
 op_text Stop = codes "stop"
 
 -- the key of an earlier step
@@ -58,6 +59,7 @@ keys_json (Revoke comm) = comm_json comm
 keys_json (Dup comm) = comm_json comm
 keys_json (Shrink comm) = comm_json comm
 keys_json (Agree flag comm) = codes ",\"flag\":" ++ decimal flag ++ comm_json comm
+keys_json (Note text) = codes ",\"text\":\"" ++ text ++ codes "\""
 keys_json Stop = []
 
 -- the keys of a step: its op, and what the words of the step have

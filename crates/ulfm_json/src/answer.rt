@@ -26,6 +26,7 @@ fn word_of(answer: &StepAnswer) -> &'static str
         StepAnswer::Revoked => "revoked",
         StepAnswer::Made(_) | StepAnswer::Shrunk(_, _, _) => "comm",
         StepAnswer::Agreed(_, _) => "agreed",
+        StepAnswer::Noted => "noted",
         StepAnswer::Stopped => "stopped",
         StepAnswer::Unfinished => "unfinished",
         StepAnswer::Skipped => "skipped",

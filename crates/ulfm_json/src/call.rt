@@ -23,6 +23,7 @@ fn op_name(step: &Step) -> &'static str
         Step::Dup { .. } => "dup",
         Step::Shrink { .. } => "shrink",
         Step::Agree { .. } => "agree",
+        Step::Note { .. } => "note",
         Step::Stop => "stop",
     }
 }
@@ -99,6 +100,10 @@ fn push_keys(text: &mut String, step: &Step) -> Result<(), AllocError>
         | Step::Revoke { comm }
         | Step::Dup { comm }
         | Step::Shrink { comm } => push_comm(text, *comm),
+        Step::Note { text: label } => {
+            let label = label.as_str();
+            write!(text, ",\"text\":\"{label}\"")
+        }
         Step::Stop => Ok(()),
     }
 }

@@ -2,10 +2,10 @@
 ghost use Rattle.std.specs.Prelude.{◌≡◌, ◌++◌, map, OnOk, string_bytes};
 ghost use Rattle.ulfm_json.specs.Parts.{behind_commas, error_json, numbers_json, number_json, text_json, texts_json};
 
-use smallvec::SmallVec;
-use std::alloc::{AllocError, Global};
+use std::alloc::AllocError;
 use std::fmt;
 use ulfm_base::{CallError, Group};
+use ulfm_script::numbers_of;
 
 /// The keys of a refusal: its number and its name.
 pub(crate) fn push_error(text: &mut String, error: CallError) -> Result<(), AllocError>
@@ -40,20 +40,6 @@ pub(crate) fn push_numbers(text: &mut String, numbers: &[u8]) -> Result<(), Allo
         }
         None => text.push_str("[]"),
     }
-}
-
-/// The ranks of the world in a group, in order. It never answers out of memory.
-fn numbers_of(alloc: Global, group: &Group) -> SmallVec<u8, 8>
-    ensures { result.items ≡ group.now }
-{
-    let mut numbers = SmallVec::new(alloc);
-    for position in 0..group.size() {
-        match group.world_of(position) {
-            Some(rank) => numbers.push_reserved(rank.number),
-            None => unreachable!(),
-        }
-    }
-    numbers
 }
 
 /// An array of the ranks of the world in a group.

@@ -12,25 +12,25 @@ const EXPLAINED: &[Row] = &[
         "an op of MPI",
         1,
         "{rank = 0, op = \"MPI_Barrier\"}",
-        "line 4, column 20: rank 0 step 0 (step 0 of the file): op 'MPI_Barrier' is unknown; did you mean 'agree'? the ops are send, recv, wait, probe, mrecv, cancel, failed, ack, revoke, dup, shrink, agree, stop\n",
+        "line 4, column 20: rank 0 step 0 (step 0 of the file): op 'MPI_Barrier' is unknown; did you mean 'agree'? the ops are send, recv, wait, probe, mrecv, cancel, failed, ack, revoke, dup, shrink, agree, note, stop\n",
     ),
     (
         "an op of ULFM",
         1,
         "{rank = 0, op = \"MPIX_Comm_get_failed\"}",
-        "line 4, column 20: rank 0 step 0 (step 0 of the file): op 'MPIX_Comm_get_failed' is unknown; did you mean 'failed'? the ops are send, recv, wait, probe, mrecv, cancel, failed, ack, revoke, dup, shrink, agree, stop\n",
+        "line 4, column 20: rank 0 step 0 (step 0 of the file): op 'MPIX_Comm_get_failed' is unknown; did you mean 'failed'? the ops are send, recv, wait, probe, mrecv, cancel, failed, ack, revoke, dup, shrink, agree, note, stop\n",
     ),
     (
         "an op that isn't there",
         1,
         "{rank = 0, op = \"bcast\"}",
-        "line 4, column 20: rank 0 step 0 (step 0 of the file): op 'bcast' is unknown; the ops are send, recv, wait, probe, mrecv, cancel, failed, ack, revoke, dup, shrink, agree, stop\n",
+        "line 4, column 20: rank 0 step 0 (step 0 of the file): op 'bcast' is unknown; the ops are send, recv, wait, probe, mrecv, cancel, failed, ack, revoke, dup, shrink, agree, note, stop\n",
     ),
     (
         "no op",
         1,
         "{rank = 0}",
-        "line 4, column 9: rank 0 step 0 (step 0 of the file): key 'op' is missing; the ops are send, recv, wait, probe, mrecv, cancel, failed, ack, revoke, dup, shrink, agree, stop\n",
+        "line 4, column 9: rank 0 step 0 (step 0 of the file): key 'op' is missing; the ops are send, recv, wait, probe, mrecv, cancel, failed, ack, revoke, dup, shrink, agree, note, stop\n",
     ),
     (
         "keys of MPI",
@@ -109,6 +109,12 @@ const EXPLAINED: &[Row] = &[
         1,
         "{rank = 0, op = \"stop\", expect = [\"refused\"]}",
         "line 4, column 33: rank 0 step 0 (step 0 of the file): key 'expect' has 'refused', and no answer of 'stop' begins so; its answers begin with stopped\n",
+    ),
+    (
+        "words behind a whole answer",
+        1,
+        "{rank = 0, op = \"stop\", expect = [\"stopped here\"]}",
+        "line 4, column 33: rank 0 step 0 (step 0 of the file): key 'expect' has 'stopped here', and no answer of 'stop' begins so; its answers begin with stopped\n",
     ),
     (
         "past the ranks",

@@ -10,6 +10,10 @@ const LETTER: &str =
 const CIRCLE: &str =
     "ranks = 2\ncapacity = 1\nturns = 3\nstep = [\n{rank = 0, op = \"recv\", from = 1},\n{rank = 0, op = \"wait\", req = 0},\n{rank = 1, op = \"recv\", from = 0},\n{rank = 1, op = \"wait\", req = 0},\n]\n";
 
+/// A rank that gives its shrink up before another one enters it.
+const LATE: &str =
+    "ranks = 2\ncapacity = 1\nturns = 2\nstep = [\n{rank = 0, op = \"shrink\"},\n{rank = 1, op = \"failed\"},\n{rank = 1, op = \"failed\"},\n{rank = 1, op = \"failed\"},\n{rank = 1, op = \"shrink\"},\n]\n";
+
 #[test]
 fn a_replay_is_drawn(rt: HostRuntime) {
     let svg = ["ulfm", "draw"];
@@ -60,4 +64,26 @@ fn a_schedule_that_is_shown_is_drawn(rt: HostRuntime) {
     );
     assert!(rt; gives(&rt, &words, CIRCLE, 0, "\nopen steps:\n0.1 waits for "));
     assert!(rt; gives(&rt, &never, CIRCLE, 8, "no schedule\n"));
+}
+
+#[test]
+fn what_steps_waited_for_that_are_given_up_is_drawn(rt: HostRuntime) {
+    let mermaid = ["ulfm", "draw", "--mermaid"];
+    let text = ["ulfm", "draw", "--text"];
+    let circle = "A circle: 0 waits for 1, 1 waits for 0.";
+    let waits = "0.1 waits for a message from 1 tag any comm 0: no step of 1 would bring it\n";
+    let note =
+        "<br/>unfinished<br/>waits for a message from 1 tag any comm 0:<br/>no step of 1 would bring it\n";
+    assert!(rt; gives(&rt, &text, CIRCLE, 0, waits));
+    assert!(rt; gives(&rt, &mermaid, CIRCLE, 0, note));
+    assert!(rt; gives(&rt, &mermaid, CIRCLE, 0, circle));
+    assert!(rt; gives(&rt, &text, CIRCLE, 0, circle));
+}
+
+#[test]
+fn what_comes_later_is_drawn_as_that(rt: HostRuntime) {
+    let words = ["ulfm", "draw", "--text"];
+    let later =
+        "0.0 waits for the entry of 1 into the shrink of comm 0: 1.3 shrink comm 0: comm 2 ranks [0 1] me 1, but later\n";
+    assert!(rt; gives(&rt, &words, LATE, 0, later));
 }

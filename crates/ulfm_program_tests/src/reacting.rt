@@ -3,7 +3,7 @@
 use crate::kept::{Kept, is_reply, reply};
 use crate::rows::{Row, first_wrong};
 
-const ROWS: [Row; 4] = [
+const ROWS: [Row; 5] = [
     Row {
         name: "a step is played where one of its conditions holds",
         job: "ranks = 2\ncapacity = 4\nturns = 10\nstep = [
@@ -52,6 +52,23 @@ const ROWS: [Row; 4] = [
 0 2 stop: skipped
 0 3 wait 1: refused 7 NoRequest
 0 4 ack 0 comm 0: acked 0
+0 end: done
+",
+    },
+    Row {
+        name: "by all conditions hold together, and by not an answer begins with none of the words",
+        job: "ranks = 1\ncapacity = 4\nturns = 3\nstep = [
+{rank = 0, op = \"dup\"},
+{rank = 0, op = \"failed\"},
+{rank = 0, op = \"ack\", count = 0, if = {all = [{step = 0, is = [\"comm\"]}, {step = 1, not = [\"refused\", \"ranks [0]\"]}]}},
+{rank = 0, op = \"revoke\", if = [{all = [{step = 0, is = [\"comm\"]}, {step = 1, not = [\"ranks\"]}]}, {step = 2, not = [\"acked\"]}]},
+{rank = 0, op = \"failed\", if = [{step = 0, not = [\"comm\"]}, {all = [{step = 3, not = [\"revoked\"]}, {step = 3, is = [\"skipped\"]}]}]},
+]\n",
+        trace: "0 0 dup comm 0: comm 1
+0 1 failed comm 0: ranks []
+0 2 ack 0 comm 0: acked 0
+0 3 revoke comm 0: skipped
+0 4 failed comm 0: ranks []
 0 end: done
 ",
     },

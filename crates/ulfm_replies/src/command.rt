@@ -6,7 +6,7 @@ ghost use Rattle.ulfm_replies.specs.CommandLine.{AreInRange, HasRanges, asked, c
 use crate::flagged::{is_flagged, is_strict, style_of};
 use crate::listed::listed;
 use crate::number::number_given;
-use crate::options::{MOST_RUNS, MOST_TURNS};
+use crate::options::MOST_RUNS;
 use crate::placed::{place_in, stops_wanted};
 use crate::subcommands::command_line;
 use crate::unmeant::unmeant;
@@ -15,6 +15,7 @@ use clap::{ArgMatches, Command, Error};
 use std::alloc::{AllocError, Global};
 use std::convert::AsStr;
 use ulfm_draw::Style;
+use ulfm_job::limits::MOST_TURNS;
 use ulfm_json::Form;
 use ulfm_stops::Place;
 

@@ -6,9 +6,7 @@ ghost use Rattle.ulfm_replies.specs.Rules.{brief_rule, carrier_rule, flag_rule, 
 use clap::builder::ValueParser;
 use clap::{Arg, ArgAction};
 use std::alloc::Global;
-
-/// The most turns that `--turns` can give a job.
-pub const MOST_TURNS: u32 = 10_000_000;
+use ulfm_job::limits::MOST_TURNS;
 
 /// The most runs that `--repeat` can ask for.
 pub const MOST_RUNS: u32 = 10_000;

@@ -1,0 +1,228 @@
+//! What steps wait for that were given up, by the reports of a job.
+
+use crate::held::{Held, all_held, enters_behind, held_at};
+use crate::late::{Late, late_step};
+use std::alloc::Global;
+use ulfm_base::{ItemKind, OutOfMemory};
+use ulfm_job::{Job, Step};
+use ulfm_rank::Entry;
+use ulfm_script::{RankReport, StepAnswer};
+use ulfm_waits::{awaited, due_of, need_of, position_by, push_words};
+
+/// A step that was given up, or answered only by what others did behind such steps.
+#[derive(Drop)]
+pub(crate) struct GivenUp<'a> {
+    /// Of the rank with this report.
+    pub(crate) report: &'a RankReport,
+    /// Its number.
+    pub(crate) step: usize,
+    /// The step by which it waits: of a wait the receive.
+    pub(crate) need: &'a Step,
+    /// At which position of its communicator the rank stands.
+    pub(crate) position: Option<u8>,
+    /// So much stood in the log of the rank.
+    pub(crate) known: usize,
+}
+
+impl<'a> GivenUp<'a> {
+    /// The step of a number, where it waits for something.
+    pub(crate) fn of(job: &'a Job, report: &'a RankReport, step: usize) -> Option<GivenUp<'a>> {
+        let script = job.script(report.me().number);
+        let need = need_of(script, script.get(step)?)?;
+        let answered = report.steps().get(step)?;
+        let known = match answered.answer {
+            // It was open before the item that was taken then.
+            StepAnswer::Done(_, _) | StepAnswer::Found(_, _) | StepAnswer::Over(_) => {
+                answered.at.saturating_sub(1)
+            }
+            _ => known_by(report.log(), answered.at),
+        };
+        Some(GivenUp {
+            report,
+            step,
+            need,
+            position: position_by(report.rank(), need),
+            known,
+        })
+    }
+
+    /// Whether it was answered by a decision.
+    fn is_decided(&self) -> bool {
+        match self.report.steps().get(self.step) {
+            Some(step) => matches!(
+                step.answer,
+                StepAnswer::Shrunk(_, _, _) | StepAnswer::Agreed(_, _)
+            ),
+            None => false,
+        }
+    }
+}
+
+/// Puts a line for each rank of which a step waits for something that was given up, or that would be open for ever but for such steps, as a
+/// schedule has them of steps that stand open.
+pub(crate) fn push_given_up(
+    text: &mut String,
+    job: &Job,
+    reports: &[RankReport],
+) -> Result<(), OutOfMemory> {
+    let held = all_held(*text.allocator(), job, reports)?;
+    for report in reports {
+        if let Some(own) = held_at(held.as_slice(), report.me().number) {
+            if !own.is_given_up {
+                push_step(text, job, reports, held.as_slice(), report, own.step)?;
+            }
+        }
+        for (number, step) in report.steps().iter().enumerate() {
+            if matches!(step.answer, StepAnswer::Unfinished) {
+                push_step(text, job, reports, held.as_slice(), report, number)?;
+            }
+        }
+    }
+    Ok(())
+}
+
+/// Puts the lines of a step.
+fn push_step(
+    text: &mut String,
+    job: &Job,
+    reports: &[RankReport],
+    held: &[Option<Held>],
+    report: &RankReport,
+    step: usize,
+) -> Result<(), OutOfMemory> {
+    let Some(given) = GivenUp::of(job, report, step) else {
+        return Ok(());
+    };
+    if given.is_decided() {
+        return push_decided(text, job, reports, held, &given);
+    }
+    for s in ranks_of(*text.allocator(), &given)? {
+        if let Some(source) = reports.get(s as usize) {
+            push_wait(text, job, held, &given, source)?;
+        }
+    }
+    Ok(())
+}
+
+/// Puts the lines of a step that was decided: of each member that entered behind where it would stand.
+fn push_decided(
+    text: &mut String,
+    job: &Job,
+    reports: &[RankReport],
+    held: &[Option<Held>],
+    given: &GivenUp<'_>,
+) -> Result<(), OutOfMemory> {
+    for s in members(*text.allocator(), given)? {
+        if enters_behind(job, reports, held, given, s) {
+            if let Some(source) = reports.get(s as usize) {
+                push_wait(text, job, held, given, source)?;
+            }
+        }
+    }
+    Ok(())
+}
+
+/// How much of a log stood there at a poll: its own entry too, where it was the one that entered.
+fn known_by(log: &[Entry], at: usize) -> usize {
+    match log.get(at) {
+        Some(Entry::Entered(_)) => at.saturating_add(1),
+        _ => at,
+    }
+}
+
+/// The other members of the communicator of a shrink or an agreement.
+pub(crate) fn members(alloc: Global, given: &GivenUp<'_>) -> Result<Vec<u8>, OutOfMemory> {
+    awaited(alloc, given.report.rank(), &[], given.need)
+}
+
+/// Of which ranks it waits for something.
+fn ranks_of(alloc: Global, given: &GivenUp<'_>) -> Result<Vec<u8>, OutOfMemory> {
+    let rank = given.report.rank();
+    let log = given.report.log();
+    match log.get(..given.known) {
+        Some(log) => awaited(alloc, rank, log, given.need),
+        None => awaited(alloc, rank, log, given.need),
+    }
+}
+
+/// Puts the line of what it waits for of a rank.
+fn push_wait(
+    text: &mut String,
+    job: &Job,
+    held: &[Option<Held>],
+    given: &GivenUp<'_>,
+    source: &RankReport,
+) -> Result<(), OutOfMemory> {
+    let s = source.me().number;
+    let late = late_step(job, given, source);
+    let due = match late {
+        Some(late) => Some(late.step),
+        None => due_of(given.need, given.position, job, s, source.steps()),
+    };
+    push_words(
+        text,
+        given.report.me().number,
+        given.step,
+        given.need,
+        s,
+        source.steps(),
+        false,
+        job.script(s),
+        due,
+    )?;
+    match late {
+        Some(late) => push_late(text, held, s, late)?,
+        None => push_notice(text, given, source)?,
+    }
+    text.push_str("\n")
+}
+
+/// Puts why a step of the rank `s` that brought it came too late.
+fn push_late(
+    text: &mut String,
+    held: &[Option<Held>],
+    s: u8,
+    late: Late,
+) -> Result<(), OutOfMemory> {
+    if late.is_lost {
+        return text.push_str(", but lost");
+    }
+    match held_at(held, s) {
+        Some(own) if late.step > own.step => {
+            write!(text, ", but only after {s}.{}", own.step)?;
+            if own.is_given_up {
+                text.push_str(" was given up")?;
+            }
+            Ok(())
+        }
+        _ => text.push_str(", but later"),
+    }
+}
+
+/// Puts that the notice of a rank's stop came later, or hadn't come, if it stopped and the one that waits didn't know it.
+fn push_notice(
+    text: &mut String,
+    given: &GivenUp<'_>,
+    source: &RankReport,
+) -> Result<(), OutOfMemory> {
+    let s = source.me().number;
+    let place = given
+        .report
+        .log()
+        .iter()
+        .position(|entry| is_notice_of(entry, s));
+    match place {
+        _ if !source.stopped() => Ok(()),
+        Some(place) if place < given.known => Ok(()),
+        Some(_) => text.push_str(", and the notice of its stop came later"),
+        None => text.push_str(", and the notice of its stop hadn't come yet"),
+    }
+}
+
+/// Whether an entry takes the notice that a rank stopped.
+fn is_notice_of(entry: &Entry, s: u8) -> bool {
+    match entry {
+        Entry::Took(from, item) => from.number == s && matches!(item.kind(), ItemKind::Gone),
+        _ => false,
+    }
+}
