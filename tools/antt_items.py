@@ -1,6 +1,7 @@
 """The items of an .antt file: its tokens, its `use` lines, and its definitions and lemmas with their clauses."""
 import re
 from dataclasses import dataclass, field
+from typing import NamedTuple
 
 TOKEN = re.compile(r'\{-.*?-\}|--[^\n]*|"(?:\\.|[^"\\\n])*"|«[^»]*»|[(){}.;,@]|[^\s(){}.;,@"«»]+', re.S)
 MARKS = {"pattern", "unfoldable", "abbrev", "pub", "axiom"}
@@ -14,8 +15,7 @@ RELATIONS = {"≡", "≢", "<", "≤", ">", "≥", "↔", "⊎", "⊥", "¬", "�
 CONTAINERS = {"List", "Option", "Result", "Vec", "VecDeque", "Map", "("}
 
 
-@dataclass(frozen=True, slots=True)
-class Token:
+class Token(NamedTuple):
     """A word or a sign, with its place, whether it begins its line, and whether no blank stands in front of it."""
     text: str
     line: int
@@ -66,16 +66,17 @@ def tokens_of(text):
     """The tokens of a text, without its comments."""
     result, line, line_start, end, last_line = [], 1, 0, 0, 0
     for match in TOKEN.finditer(text):
-        line += text.count("\n", end, match.start())
-        line_start = text.rfind("\n", 0, match.start()) + 1
-        word = match.group()
-        glued = end == match.start() and end > 0
-        line_here, end = line, match.end()
-        line += word.count("\n")
-        if word.startswith(("--", "{-")):
-            continue
-        result.append(Token(word, line_here, match.start() - line_start, line_here != last_line, glued))
-        last_line = line
+        start, word, before = match.start(), match.group(), end
+        if start > before and "\n" in text[before:start]:
+            line += text.count("\n", before, start)
+            line_start = text.rfind("\n", before, start) + 1
+        here, column, end = line, start - line_start, match.end()
+        if "\n" in word:
+            line += word.count("\n")
+            line_start = text.rfind("\n", start, end) + 1
+        if not word.startswith(("--", "{-")):
+            result.append(Token(word, here, column, here != last_line, start == before > 0))
+            last_line = line
     return result
 
 

@@ -42,10 +42,21 @@ static uint32_t number_of(const char *word) { return strcmp(word, "any") ? (uint
 /* Which words stand behind an op: w who or which step, t a tag, b a body, m more, c a communicator. */
 static const char *keys_of(const char *op) {
     static const char *const keys[][2] = {{"send", "wtbc"}, {"recv", "wtmc"}, {"probe", "wtc"}, {"wait", "w"}, {"cancel", "w"}, {"mrecv", "wm"},
-                                          {"ack", "mc"}, {"agree", "mc"}, {"stop", ""}};
+                                          {"ack", "mc"}, {"agree", "mc"}, {"note", "b"}, {"stop", ""}};
     for (size_t k = 0; k < sizeof keys / sizeof keys[0]; k++)
         if (!strcmp(op, keys[k][0])) return keys[k][1];
     return "c";
+}
+
+/* The texts of a word, which commas part. */
+static char **texts_of(char *word) {
+    size_t count = 0;
+    char **texts = calloc(strlen(word) + 2, sizeof *texts);
+    for (char *digits = strtok(word, ","); digits; digits = strtok(0, ",")) {
+        texts[count] = calloc(strlen(digits) + 1, 1);
+        bytes_of(digits, (uint8_t *)texts[count++]);
+    }
+    return texts;
 }
 
 static void read_step(struct step *step, char *words[], size_t count) {
@@ -58,13 +69,10 @@ static void read_step(struct step *step, char *words[], size_t count) {
         if (*key == 'c') step->comm = number_of(words[at]);
         if (*key == 'b') step->length = bytes_of(words[at], step->body);
     }
-    step->condition_count = (count - at) / 2;
+    step->condition_count = (count - at) / 4;
     step->conditions = calloc(step->condition_count + 1, sizeof *step->conditions);
-    for (size_t k = 0; k < step->condition_count; k++, at += 2) {
-        uint8_t *text = calloc(strlen(words[at + 1]) + 1, 1);
-        bytes_of(words[at + 1], text);
-        step->conditions[k] = (struct condition){number_of(words[at]), (char *)text};
-    }
+    for (size_t k = 0; k < step->condition_count; k++, at += 4)
+        step->conditions[k] = (struct condition){number_of(words[at]), number_of(words[at + 1]), !strcmp(words[at + 2], "not"), texts_of(words[at + 3])};
 }
 
 static void read_job(void) {
@@ -83,12 +91,26 @@ static void read_job(void) {
 
 /* ---- Ranks ---- */
 
-/* Whether a step is to be played: it has no condition, or one holds, by whole words. */
+/* Whether an answer begins with a text, by whole words. */
+static bool begins(const char *answer, const char *text) {
+    size_t length = strlen(text);
+    return !strncmp(answer, text, length) && (answer[length] == ' ' || !answer[length]);
+}
+
+static bool holds(const struct rank *rank, const struct condition *condition) {
+    for (char **text = condition->texts; *text; text++)
+        if (begins(rank->steps[condition->step].answer, *text)) return !condition->is_not;
+    return condition->is_not;
+}
+
+/* Whether a step is to be played: it has no condition, or all those of an alternative hold. */
 static bool is_played(const struct rank *rank, const struct step *step) {
-    for (size_t k = 0; k < step->condition_count; k++) {
-        const char *answer = rank->steps[step->conditions[k].step].answer, *text = step->conditions[k].text;
-        size_t length = strlen(text);
-        if (!strncmp(answer, text, length) && (answer[length] == ' ' || !answer[length])) return true;
+    const struct condition *condition = step->conditions, *end = condition + step->condition_count;
+    while (condition < end) {
+        bool all_hold = true;
+        for (unsigned alternative = condition->alternative; condition < end && condition->alternative == alternative; condition++)
+            all_hold = holds(rank, condition) && all_hold;
+        if (all_hold) return true;
     }
     return step->condition_count == 0;
 }

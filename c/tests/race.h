@@ -8,10 +8,12 @@
 enum { MOST_RANKS = 8, MOST_STEPS = 256, MOST_BYTES = 1200, ANSWER = 2 * MOST_BYTES + 64, OPEN = 1 };
 #define NONE UINT64_MAX
 
-/* A step is played where the answer of an earlier one begins so. */
+/* That the answer of an earlier step begins with one of these texts, or with none of them. A step is played where all conditions of one of its
+   alternatives hold, which stand together. */
 struct condition {
-    unsigned step;
-    char *text;
+    unsigned alternative, step;
+    bool is_not;
+    char **texts; /* a null pointer behind the last */
 };
 
 struct step {

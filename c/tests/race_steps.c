@@ -153,6 +153,7 @@ int poll_step(struct rank *rank, struct step *step) {
     const char *op = step->op;
     if (!strcmp(op, "send")) return plainly(step, ulfm_isend(slot, step->comm, step->who, step->tag, step->body, step->length), "sent");
     if (!strcmp(op, "revoke")) return plainly(step, ulfm_revoke(slot, step->comm), "revoked");
+    if (!strcmp(op, "note")) return answered(step, "noted");
     if (!strcmp(op, "stop")) return plainly(step, ulfm_stop(slot), "stopped");
     if (!strcmp(op, "recv")) return receive(rank, step);
     if (!strcmp(op, "wait") || !strcmp(op, "cancel")) return end_receive(rank, step);

@@ -55,6 +55,7 @@ impl Rank {
             Step::Ack { count, comm } => self.ack(count, comm),
             Step::Revoke { comm } => self.revoke(comm),
             Step::Dup { comm } => self.dup(comm),
+            Step::Note { .. } => Ok(Answer::Noted),
             Step::Stop => Ok(self.stop()),
             Step::Wait { .. } | Step::Probe { .. } | Step::Shrink { .. } | Step::Agree { .. } => {
                 unreachable!()

@@ -1,5 +1,6 @@
 """Builds the explorer of all outcomes, and hands jobs over to it in their plain form: `<ranks> <capacity>`, then a line a step. In it
-steps are named by numbers alone, and a step ends with its conditions: `<step> <words>` for each, in hexadecimal digits."""
+steps are named by numbers alone, and a step ends with its conditions: `<alternative> <step> <is or not> <words>` for each, the words in
+hexadecimal digits and parted by commas."""
 import collections
 import os
 import pathlib
@@ -12,7 +13,8 @@ LONGEST_KEPT = 1025
 # How the answers begin with which a step goes well.
 GOOD = {
     "send": ["sent"], "recv": ["posted"], "wait": ["done"], "probe": ["found"], "mrecv": ["done"], "cancel": ["cancelled", "done"],
-    "failed": ["ranks"], "ack": ["acked"], "revoke": ["revoked"], "dup": ["comm"], "shrink": ["comm"], "agree": ["agreed"], "stop": ["stopped"],
+    "failed": ["ranks"], "ack": ["acked"], "revoke": ["revoked"], "dup": ["comm"], "shrink": ["comm"], "agree": ["agreed"], "note": ["noted"],
+    "stop": ["stopped"],
 }
 
 
@@ -61,16 +63,19 @@ def words_of(step, number_of):
         return [op, step["count"], comm]
     if op == "agree":
         return [op, step["flag"], comm]
+    if op == "note":
+        return [op, step["text"].encode().hex()]
     return [op] if op == "stop" else [op, comm]
 
 
 def conditions_of(step, number_of):
-    """Each answer that a step asks for, and of which step, in the plain form."""
+    """Each condition of a step, in the plain form."""
     tables = step.get("if", [])
     found = []
-    for table in [tables] if isinstance(tables, dict) else tables:
-        for words in table["is"]:
-            found += [number_of(table["step"]), words.encode().hex()]
+    for alternative, table in enumerate([tables] if isinstance(tables, dict) else tables):
+        for one in table.get("all", [table]):
+            key = "is" if "is" in one else "not"
+            found += [alternative, number_of(one["step"]), key, ",".join(words.encode().hex() for words in one[key])]
     return found
 
 
@@ -113,9 +118,11 @@ def iterated(step, block, i):
         return f"{name}-{i}" if name in own else name
 
     def condition(table):
+        if "all" in table:
+            return {**table, "all": [condition(one) for one in table["all"]]}
         return {**table, "step": referred(table["step"])}
 
-    found = {key: f"{text}-{i}" if key in ("name", "body") else text for key, text in step.items()}
+    found = {key: f"{text}-{i}" if key in ("name", "body", "text") else text for key, text in step.items()}
     if isinstance(step.get("tag"), str):
         found["tag"] = i + int(step["tag"].removeprefix("i").removeprefix("+") or 0)
     if "req" in step:

@@ -61,6 +61,7 @@ pub enum Answer {
     Shrunk(Context, Group, Place),
     /// The value, and the positions of the members that aren't listed.
     Agreed(u32, Vec<Place>),
+    Noted,
     Stopped,
     /// None of its conditions holds, so it isn't played.
     Skipped,

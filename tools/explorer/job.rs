@@ -1,6 +1,6 @@
 //! A job: what each rank calls, step by step, in the plain form that `front.py` makes of the TOML text.
 
-use crate::reacting::Condition;
+use crate::reacting::{Alternative, Condition};
 use std::str::SplitWhitespace;
 
 /// The number of a context: 0 is the world's.
@@ -30,6 +30,8 @@ pub enum Step {
     Dup { comm: Context },
     Shrink { comm: Context },
     Agree { flag: u32, comm: Context },
+    /// Its text stands among the bodies.
+    Note { text: Body },
     Stop,
 }
 
@@ -38,9 +40,9 @@ pub struct Job {
     pub capacity: usize,
     /// The steps of each rank, those behind its `stop` too.
     pub steps: Vec<Vec<Step>>,
-    /// The conditions of each of these. One of them has to hold, where there are any.
-    pub conditions: Vec<Vec<Vec<Condition>>>,
-    /// Each body once, in lower case hexadecimal digits.
+    /// The alternatives of each of these. One of them has to hold, where there are any.
+    pub alternatives: Vec<Vec<Vec<Alternative>>>,
+    /// Each body and each text of a note once, in lower case hexadecimal digits.
     pub bodies: Vec<String>,
     /// The steps, by rank and number, that may be given up while they stand open.
     pub left: Vec<(usize, usize)>,
@@ -58,21 +60,21 @@ impl Step {
 
 impl Job {
     /// Reads the plain form: a line `<ranks> <capacity>`, then a line `<rank> <op> <words>` for each step. Behind these stands
-    /// `<step> <words>` for each of its conditions, the words in hexadecimal digits.
+    /// `<alternative> <step> <is or not> <words>` for each of its conditions, the words in hexadecimal digits and parted by commas.
     pub fn read(text: &str) -> Result<Job, String> {
         let mut lines = text.lines();
         let head = lines.next().unwrap_or("");
         let mut words = head.split_whitespace();
         let ranks: usize = number(&mut words).filter(|ranks| (1..=8).contains(ranks)).ok_or(head)?;
         let capacity = number(&mut words).ok_or(head)?;
-        let conditions = (0..ranks).map(|_| vec![]).collect();
-        let mut job = Job { capacity, steps: vec![vec![]; ranks], conditions, bodies: vec![], left: vec![] };
+        let alternatives = (0..ranks).map(|_| vec![]).collect();
+        let mut job = Job { capacity, steps: vec![vec![]; ranks], alternatives, bodies: vec![], left: vec![] };
         for line in lines {
             let mut words = line.split_whitespace();
             let rank: usize = number(&mut words).filter(|rank| *rank < ranks).ok_or(line)?;
             let step = job.step(&mut words).ok_or(line)?;
             job.steps[rank].push(step);
-            job.conditions[rank].push(conditions_in(&mut words).ok_or(line)?);
+            job.alternatives[rank].push(alternatives_in(&mut words).ok_or(line)?);
         }
         Ok(job)
     }
@@ -101,6 +103,7 @@ impl Job {
             "dup" => Step::Dup { comm: context(words)? },
             "shrink" => Step::Shrink { comm: context(words)? },
             "agree" => Step::Agree { flag: number(words)?, comm: context(words)? },
+            "note" => Step::Note { text: self.body(words.next()?) },
             "stop" => Step::Stop,
             _ => return None,
         })
@@ -127,12 +130,12 @@ impl Job {
             }
         }
         steps.insert(at, Step::Stop);
-        for condition in self.conditions[rank].iter_mut().flatten() {
+        for condition in self.alternatives[rank].iter_mut().flatten().flatten() {
             if condition.step >= at {
                 condition.step += 1;
             }
         }
-        self.conditions[rank].insert(at, vec![]);
+        self.alternatives[rank].insert(at, vec![]);
         Some(())
     }
 
@@ -161,17 +164,23 @@ impl Job {
     }
 }
 
-/// The conditions in which a line ends.
-fn conditions_in(words: &mut SplitWhitespace) -> Option<Vec<Condition>> {
-    let mut found = vec![];
-    while let Some(step) = words.next() {
-        found.push(Condition { step: step.parse().ok()?, words: text(words.next()?)? });
+/// The conditions in which a line ends, by alternatives.
+fn alternatives_in(words: &mut SplitWhitespace) -> Option<Vec<Alternative>> {
+    let mut found: Vec<Alternative> = vec![];
+    while let Some(alternative) = words.next() {
+        let step = number(words)?;
+        let is_not = words.next()? == "not";
+        let condition = Condition { step, is_not, words: words.next()?.split(',').map(text).collect::<Option<_>>()? };
+        if alternative.parse::<usize>().ok()? == found.len() {
+            found.push(vec![]);
+        }
+        found.last_mut()?.push(condition);
     }
     Some(found)
 }
 
 /// The text of which these are the bytes, in hexadecimal digits.
-fn text(digits: &str) -> Option<String> {
+pub fn text(digits: &str) -> Option<String> {
     let byte = |at: usize| u8::from_str_radix(digits.get(at..at + 2)?, 16).ok();
     let bytes: Option<Vec<u8>> = (0..digits.len()).step_by(2).map(byte).collect();
     String::from_utf8(bytes?).ok()

@@ -9,7 +9,7 @@ impl Search<'_> {
         let mut lines = vec![];
         for (rank, steps) in self.job.steps.iter().enumerate() {
             for (number, step) in steps.iter().enumerate() {
-                lines.push(format!("{rank} {number} {}: {}", step_words(step), self.outcomes(rank, number)));
+                lines.push(format!("{rank} {number} {}: {}", step_words(self.job, step), self.outcomes(rank, number)));
             }
         }
         for row in 0..self.rows.len() {

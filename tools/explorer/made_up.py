@@ -120,6 +120,17 @@ CHOSEN = [
         (0, "failed", {"if": [{"step": 0, "is": ["comm 12"]}, {"step": 1, "is": ["ranks", "skipped"]}]}),
         (0, "failed", {"if": {"step": 2, "is": ["ranks []"]}}),
     ]), "0 3 failed comm 0", *["ranks []"] * 2),
+    # All conditions of an alternative have to hold, in whichever order they are answered.
+    ("both_came", job_text(3, 1, [
+        (0, "send", {"to": 2, "tag": 0, "body": "a"}), (0, "stop", {}), (1, "send", {"to": 2, "tag": 1, "body": "b"}), (1, "stop", {}),
+        (2, "recv", {"from": 0}), (2, "recv", {"from": 1}), (2, "wait", {"req": 0, "name": "left"}), (2, "wait", {"req": 1, "name": "right"}),
+        (2, "dup", {"if": {"all": [{"step": "left", "is": ["done"]}, {"step": "right", "not": ["over"]}]}}),
+    ]), "2 4 dup comm 0", *["comm 1 | skipped"] * 2),
+    # An answer `skipped` begins with none of the words.
+    ("not_of_a_skipped", job_text(2, 1, [
+        (0, "dup", {}), (0, "failed", {"if": {"step": 0, "not": ["refused", "comm"]}}),
+        (0, "failed", {"if": [{"step": 0, "not": ["comm"]}, {"all": [{"step": 1, "not": ["ranks", "refused"]}, {"step": 0, "is": ["comm 1"]}]}]}),
+    ]), "0 2 failed comm 0", *["ranks []"] * 2),
 ]
 
 # Jobs of as many steps as there can be, and of few states.
@@ -271,13 +282,16 @@ class Maker:
         rank = self.rank()
         self.add(rank, op, comm=self.comm(rank), **keys)
 
+    def note(self):
+        self.add(self.rank(), "note", text=self.chance.choice(["a place", "it-2.0"]))
+
     def piece(self):
         """One more piece of the job."""
         pieces = [
             (8, self.letter), (3, self.send), (3, self.receive), (2, self.wait_again), (3, self.shrink), (3, self.agree), (1, self.dup),
             (2, lambda: self.of_comm("revoke")), (1, lambda: self.of_comm("failed")),
             (2, lambda: self.of_comm("ack", count=self.chance.randrange(1, 3))), (3, lambda: self.add(self.rank(), "stop")),
-            (4, self.late_letter), (4, self.probe), (3, self.cancel),
+            (4, self.late_letter), (4, self.probe), (3, self.cancel), (1, self.note),
         ]
         self.chance.choices([piece for _, piece in pieces], [weight for weight, _ in pieces])[0]()
 

@@ -38,8 +38,10 @@ pub struct Rank {
     pub me: Place,
     /// How many of its steps are answered.
     pub answered: usize,
-    /// The later steps with conditions of which one holds of the answers so far.
+    /// The later steps with an alternative whose conditions all hold of the answers so far.
     pub chosen: BTreeSet<usize>,
+    /// The alternatives of later steps that aren't chosen of which a condition doesn't hold, by step and number.
+    pub missed: BTreeSet<(usize, usize)>,
     /// Whether the next step is a shrink or an agreement that was entered.
     pub is_open: bool,
     pub stopped: bool,
@@ -74,6 +76,7 @@ impl Rank {
             me,
             answered: 0,
             chosen: BTreeSet::new(),
+            missed: BTreeSet::new(),
             is_open: false,
             stopped: false,
             groups: BTreeMap::from([(0, Group::world(ranks))]),
@@ -107,6 +110,7 @@ impl Rank {
     /// The rank with nothing of what only its own calls would ask for. What it owes stays, and which contexts are revoked.
     pub fn forget(&mut self) {
         self.chosen.clear();
+        self.missed.clear();
         self.groups.clear();
         self.known.clear();
         self.acknowledged.clear();

@@ -15,6 +15,7 @@ WORDS = {
     "dup": ["comm", "refused 6", "refused 8"],
     "shrink": ["comm", "comm 2 ranks [0 1]", "comm 2 ranks [1 2]", "refused", "refused 8", "unfinished"],
     "agree": ["agreed", "agreed 0", "agreed 4 without []", "agreed 3", "refused 1", "unfinished"],
+    "note": ["noted"],
     "stop": ["stopped"],
 }
 
@@ -42,7 +43,14 @@ class Reactions:
         """A condition about an earlier step."""
         weights = [WEIGHTS.get(op, 1) for op, _ in self.before[rank]]
         number = self.chance.choices(range(len(weights)), weights)[0]
-        return {"step": self.reference(rank, number), "is": self.words(self.before[rank][number][0], ["skipped"])}
+        key = self.chance.choice(["is", "is", "is", "not"])
+        return {"step": self.reference(rank, number), key: self.words(self.before[rank][number][0], ["skipped"])}
+
+    def alternative(self, rank):
+        """A condition, or two or three that have to hold together."""
+        if self.chance.random() < 0.75:
+            return self.condition(rank)
+        return {"all": [self.condition(rank) for _ in range(self.chance.choice([2, 2, 3]))]}
 
     def react(self, rank, op, keys):
         """The keys of a step, and others in front of and among them."""
@@ -50,7 +58,7 @@ class Reactions:
         if "req" in keys:
             keys["req"] = self.reference(rank, keys["req"])
         if self.before[rank] and self.chance.random() < (0.8 if op == "stop" else 0.45):
-            conditions = [self.condition(rank) for _ in range(self.chance.choice([1, 1, 2]))]
+            conditions = [self.alternative(rank) for _ in range(self.chance.choice([1, 1, 2]))]
             keys["if"] = conditions[0] if len(conditions) == 1 else conditions
         if self.chance.random() < 0.3:
             keys["expect"] = self.words(op)

@@ -7,15 +7,24 @@ use crate::rank::Rank;
 use crate::words::answer_words;
 use crate::world::World;
 
-/// What a step may ask for: that the answer of an earlier step of its rank begins, by whole words, with these.
+/// What a step may ask for: that the answer of an earlier step of its rank begins with one of these words, or with none of them.
 pub struct Condition {
     pub step: usize,
-    pub words: String,
+    pub is_not: bool,
+    pub words: Vec<String>,
+}
+
+/// Conditions that have to hold together. One alternative of a step has to hold.
+pub type Alternative = Vec<Condition>;
+
+/// Whether an answer begins, by whole words, with these.
+pub fn begins(answer: &str, words: &str) -> bool {
+    answer.strip_prefix(words).is_some_and(|rest| rest.is_empty() || rest.starts_with(' '))
 }
 
 impl Condition {
-    pub fn holds_of(&self, answer: &str) -> bool {
-        answer.strip_prefix(self.words.as_str()).is_some_and(|rest| rest.is_empty() || rest.starts_with(' '))
+    fn holds_of(&self, answer: &str) -> bool {
+        self.words.iter().any(|words| begins(answer, words)) != self.is_not
     }
 }
 
@@ -28,35 +37,47 @@ impl Rank {
         }
     }
 
-    /// Goes behind the next step. Of its answer is kept which later steps are played because of it.
+    /// Goes behind the next step. Of its answer is kept which later steps are played because of it, and which of their alternatives have
+    /// a condition that doesn't hold.
     fn pass(&mut self, job: &Job, answer: &Answer) {
         let passed = self.answered;
         let words = answer_words(job, answer);
-        for (later, conditions) in self.conditions(job).iter().enumerate().skip(passed + 1) {
-            if conditions.iter().any(|condition| condition.step == passed && condition.holds_of(&words)) {
-                self.chosen.insert(later);
+        for (later, alternatives) in self.alternatives(job).iter().enumerate().skip(passed + 1) {
+            for (number, alternative) in alternatives.iter().enumerate() {
+                if alternative.iter().any(|condition| condition.step == passed && !condition.holds_of(&words)) {
+                    self.missed.insert((later, number));
+                }
+                let is_known = alternative.iter().all(|condition| condition.step <= passed);
+                if is_known && !self.missed.contains(&(later, number)) {
+                    self.chosen.insert(later);
+                }
             }
         }
         self.chosen.remove(&passed);
+        let chosen = &self.chosen;
+        self.missed.retain(|(step, _)| *step > passed && !chosen.contains(step));
         self.answered += 1;
     }
 
     /// Whether a step that is ahead will be played, whatever is answered till then, unless the rank stops or hangs before.
     fn is_chosen(&self, job: &Job, step: usize) -> bool {
-        self.conditions(job)[step].is_empty() || self.chosen.contains(&step)
+        self.alternatives(job)[step].is_empty() || self.chosen.contains(&step)
     }
 
-    /// Whether a step that is ahead may be played: some condition of it holds, or is about an answer that isn't given.
+    /// Whether a step that is ahead may be played: some alternative of it holds, or may hold by answers that aren't given.
     fn may_play(&self, job: &Job, step: usize) -> bool {
-        self.is_chosen(job, step) || self.conditions(job)[step].iter().any(|condition| condition.step >= self.answered)
+        let is_open = |number: usize, alternative: &Alternative| {
+            !self.missed.contains(&(step, number)) && alternative.iter().any(|condition| condition.step >= self.answered)
+        };
+        self.is_chosen(job, step) || self.alternatives(job)[step].iter().enumerate().any(|(number, one)| is_open(number, one))
     }
 
     fn steps<'a>(&self, job: &'a Job) -> &'a [Step] {
         &job.steps[self.me as usize]
     }
 
-    fn conditions<'a>(&self, job: &'a Job) -> &'a [Vec<Condition>] {
-        &job.conditions[self.me as usize]
+    fn alternatives<'a>(&self, job: &'a Job) -> &'a [Vec<Alternative>] {
+        &job.alternatives[self.me as usize]
     }
 }
 

@@ -1,7 +1,7 @@
 //! Rows of answers: which of them come together, all answers of one row in one schedule.
 
 use crate::job::Job;
-use crate::reacting::Condition;
+use crate::reacting::begins;
 use crate::words::answer_words;
 use crate::world::{Given, World};
 use std::collections::BTreeSet;
@@ -9,7 +9,8 @@ use std::collections::BTreeSet;
 /// An answer that a row asks for: of a step of this rank, and how it begins.
 pub struct Goal {
     pub rank: usize,
-    pub asks: Condition,
+    pub step: usize,
+    pub words: String,
 }
 
 /// Rows of goals, each with its number among all of them, and the rows that some schedule has whole.
@@ -40,7 +41,7 @@ impl Rows {
 
     fn met_by(&self, rank: usize, step: usize, words: &str) -> u128 {
         let goals = self.rows.iter().flatten();
-        let met = goals.filter(|(_, goal)| goal.rank == rank && goal.asks.step == step && goal.asks.holds_of(words));
+        let met = goals.filter(|(_, goal)| goal.rank == rank && goal.step == step && begins(words, &goal.words));
         met.fold(0, |bits, (number, _)| bits | 1 << number)
     }
 
@@ -56,5 +57,5 @@ impl Rows {
 fn goal(text: &str) -> Option<Goal> {
     let (place, words) = text.split_once(' ')?;
     let (rank, step) = place.split_once('.')?;
-    Some(Goal { rank: rank.parse().ok()?, asks: Condition { step: step.parse().ok()?, words: words.to_string() } })
+    Some(Goal { rank: rank.parse().ok()?, step: step.parse().ok()?, words: words.to_string() })
 }

@@ -1,10 +1,10 @@
 //! Steps and answers in the words of the trace.
 
 use crate::items::{Answer, Refusal};
-use crate::job::{Job, Step};
+use crate::job::{text, Job, Step};
 
 /// The words of a step.
-pub fn step_words(step: &Step) -> String {
+pub fn step_words(job: &Job, step: &Step) -> String {
     match *step {
         Step::Send { to, tag, comm, .. } => format!("send {to} tag {tag} comm {comm}"),
         Step::Recv { from, tag, comm, .. } => {
@@ -20,6 +20,7 @@ pub fn step_words(step: &Step) -> String {
         Step::Dup { comm } => format!("dup comm {comm}"),
         Step::Shrink { comm } => format!("shrink comm {comm}"),
         Step::Agree { flag, comm } => format!("agree {flag} comm {comm}"),
+        Step::Note { text: label } => format!("note {}", text(&job.bodies[label as usize]).unwrap_or_default()),
         Step::Stop => "stop".to_string(),
     }
 }
@@ -46,6 +47,7 @@ pub fn answer_words(job: &Job, answer: &Answer) -> String {
             format!("comm {context} ranks [{}] me {me}", parted(group.members()))
         }
         Answer::Agreed(value, left_out) => format!("agreed {value} without [{}]", parted(left_out.iter())),
+        Answer::Noted => "noted".to_string(),
         Answer::Stopped => "stopped".to_string(),
         Answer::Skipped => "skipped".to_string(),
         Answer::Unfinished => "unfinished".to_string(),
