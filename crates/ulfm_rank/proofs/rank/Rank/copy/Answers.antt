@@ -7,7 +7,9 @@ use Rattle.ulfm_rank.proofs.rank.Rank.copy.Goals as goal
 
 pub invariant_of-result : goal.invariant_of-result
 invariant_of-result c =
-    let matcher = c.in_ok-matcher.ensures in
+    let matching = c.in_ok-matching.ensures in
+    let known = c.in_ok-known.ensures in
+    let matcher = matching.matcher in
     let entries = entries_from_clone _ _ (λ x y e. e) (λ x y e. e) _ _ c.in_ok-requests.ensures.cases in
     let told = each_same _ _ c.in_ok-told.ensures.cases.0 in
-    holds_copied c.self.inside c.self.invariant refl refl refl c.in_ok-faults.ensures.cases c.in_ok-communicators.ensures.cases (ap (λ (m : Matching). m.waiting) matcher) (ap (λ (m : Matching). m.kept) matcher) (ap (λ (m : Matching). m.count) matcher) (ap (λ (m : Matching). m.cleared) matcher) entries c.in_ok-outboxes.ensures c.in_ok-log.ensures.items told refl (omega (arith, c.in_ok-log.ensures.capacity, c.stop_places.ensures, c.len.ensures.len)) c.in_ok-log.ensures.countable
+    holds_copied c.self.inside c.self.invariant refl refl refl known.faults known.communicators (ap (λ (m : Matching). m.waiting) matcher) (ap (λ (m : Matching). m.kept) matcher) (ap (λ (m : Matching). m.count) matcher) (ap (λ (m : Matching). m.cleared) matcher) entries known.boxes matching.items told refl (omega (arith, matching.capacity, c.stop_places.ensures, c.len.ensures.len)) matching.countable
