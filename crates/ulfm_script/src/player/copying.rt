@@ -29,9 +29,12 @@ impl Clone for Player {
             Some(step) => Some(step.copy(alloc)?),
             None => None,
         };
+        let done = copy_reports(alloc, self.done.as_slice())?;
+        // Last: a rank that is let go where a later growth is refused costs the check a minute.
+        let rank = self.rank.copy()?;
         Ok(Player {
-            rank: self.rank.copy()?,
-            done: copy_reports(alloc, self.done.as_slice())?,
+            rank,
+            done,
             current,
             at: self.at,
             polls: self.polls,
