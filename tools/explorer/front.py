@@ -138,15 +138,26 @@ def item_steps(item, ranks):
     return [iterated(step, block, i) for i in range(item["repeat"]) for step in block] if "repeat" in item else block
 
 
+def guards(lines, step):
+    """The lines whose answers tell whether a step is played: those of its rank whose goal isn't reached, of each goal from the last one back
+    to the first that has no `if` of its own. A line is a step and the goal of its item, and the number that the step has of its rank."""
+    found, closed = [], {step.get("name")}
+    for line in reversed([line for line in lines if line[0]["rank"] == step["rank"]]):
+        before, goal, _ = line
+        if goal is not None and goal not in closed:
+            found.insert(0, line)
+            if "if" not in before:
+                closed.add(goal)
+        closed.add(before.get("name"))
+    return found
+
+
 def guarded(lines, step):
-    """A step with the condition of the step before it whose item leads errors on, if there is one and the goal isn't reached. A line is a
-    step and the goal of its item, and the number that the step has of its rank."""
-    for before, its_goal, its_number in reversed([line for line in lines if line[0]["rank"] == step["rank"]]):
-        if its_goal is not None:
-            passed = [line[0].get("name") for line in lines if line[0]["rank"] == step["rank"] and line[2] > its_number]
-            is_open = its_goal not in [*passed, step.get("name")] and "if" not in step
-            return {**step, "if": {"step": its_number, "is": GOOD[before["op"]]}} if is_open else step
-    return step
+    """A step that is played only where its guards were answered well, or were skipped by an `if` of their own."""
+    asked = [{"step": number, "is": GOOD[before["op"]] + ["skipped"] * ("if" in before)} for before, _, number in guards(lines, step)]
+    own = step.get("if", {"all": []})
+    alternatives = [{"all": one.get("all", [one]) + asked} for one in ([own] if isinstance(own, dict) else own)]
+    return {**step, "if": alternatives} if asked else step
 
 
 def written_out(job):

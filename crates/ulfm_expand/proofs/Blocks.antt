@@ -56,16 +56,15 @@ pub items_of-view : (vs : List Value) → items_of (map view vs) ≡ items_view 
 items_of-view [] = refl
 items_of-view (v ∷ vs) = rw (items_of-view vs) refl
 
-module _ (block : List Data) (rank : ℤ) (i : ℕ) where
-  of-items : (ds : Items) (vs found : List Value) → ds ≡ items_view vs → map view found ≡ map (referred_condition block rank i) (map view vs) → Some (array (items_view found)) ≡ referred_if block rank i (Some (array ds))
-  of-items ds vs found same is =
-      let one = referred_condition block rank i in
-      let items = sym (items_of-view found) ∙ ap items_of is ∙ ap (λ (xs : List Data). items_of (map one xs)) (sym (listed-view vs)) ∙ ap (λ (xs : Items). items_of (map one (listed xs))) (sym same) in
-      ap (λ (xs : Items). Some (array xs)) items
+-- a list of values, each changed
+pub items-changed : (change : Data → Data) (ds : Items) (vs found : List Value) → ds ≡ items_view vs → map view found ≡ map change (map view vs) → array (items_view found) ≡ array (items_of (map change (listed ds)))
+items-changed change ds vs found same is =
+    ap array (sym (items_of-view found) ∙ ap items_of is ∙ ap (λ (xs : List Data). items_of (map change xs)) (sym (listed-view vs)) ∙ ap (λ (xs : Items). items_of (map change (listed xs))) (sym same))
 
+module _ (block : List Data) (rank : ℤ) (i : ℕ) where
   -- a list of conditions
   pub if-array : (d : Data) (vs found : List Value) → Some (items_view vs) ≡ as_array d → map view found ≡ map (referred_condition block rank i) (map view vs) → Some (array (items_view found)) ≡ referred_if block rank i (Some d)
-  if-array (array ds) vs found same is = let these : ds ≡ items_view vs = cc in of-items ds vs found these is
+  if-array (array ds) vs found same is = let these : ds ≡ items_view vs = cc in ap Some (items-changed (referred_condition block rank i) ds vs found these is)
   if-array (string s) vs found same is = absurd cc
   if-array (integer z) vs found same is = absurd cc
   if-array (float x) vs found same is = absurd cc

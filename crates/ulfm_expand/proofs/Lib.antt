@@ -5,3 +5,4 @@ pub mod Items
 pub mod Unguarded
 pub mod Iterations
 pub mod Blocks
+pub mod Beside

@@ -5,11 +5,11 @@ use Rattle.std.specs.Option.{option_and_then}
 use Rattle.std.specs.Prelude.{if◌then◌else◌}
 use Rattle.toml.specs.Data.{Data, Members, string, integer, float, boolean, datetime, array, table}
 use Rattle.ulfm_expand.proofs.Common.{Line, Value, view}
-use Rattle.ulfm_expand.specs.Blocks.{goal_in}
-use Rattle.ulfm_expand.specs.Guards.{goal_of, guarded, guarded_for, guarded_from, next_guard, rank_in, seen_in, seen_with}
+use Rattle.ulfm_expand.specs.Blocks.{goal_in, name_in}
+use Rattle.ulfm_expand.specs.Guards.{goal_of, guarded, guarded_for, guarded_from, guards_behind, guards_in, guards_with, number_in, open_guards, rank_in}
 use Rattle.ulfm_expand.specs.Iterations.{is_rank}
 use Rattle.ulfm_expand.specs.Ranks.{rank_of}
-use Rattle.ulfm_expand.specs.declared.guard.Seen.{Seen}
+use Rattle.ulfm_expand.specs.declared.guard.Guard.{Guard}
 
 none_here : (goal : Option (List ℕ)) (more : Bool) → (is_some goal || more) ≡ false → goal ≡ None
 none_here None more none = refl
@@ -24,25 +24,25 @@ no_goal [] k none = refl
 no_goal (v ∷ vs) zero none = none_here (goal_in (view v)) _ none
 no_goal (v ∷ vs) (suc k) none = no_goal vs k (none_behind (goal_in (view v)) _ none)
 
-unguarded : (b : Bool) (s t : Seen) → s.guard ≡ None → t.guard ≡ None → (if b then s else t).guard ≡ None
+unguarded : (b : Bool) (s t : List Guard) → s ≡ [] → t ≡ [] → (if b then s else t) ≡ []
 unguarded true s t here there = here
 unguarded false s t here there = there
 
 module _ (items : List Value) (lines : List Line) (none : list_any (λ v. is_some (goal_in (view v))) items ≡ false) where
-  on_line : (l : Line) (k : ℕ) (seen : Seen) → seen.guard ≡ None → next_guard (map view items) lines l k seen ≡ None
-  on_line l k seen is = let leads_nowhere : goal_of (map view items) l ≡ None = no_goal items l.place none in rw (leads_nowhere, is) refl
+  on_line : (l : Line) (k n : ℕ) (guards : List Guard) → guards ≡ [] → guards_behind (map view items) lines l k n (open_guards (map view items) lines (name_in l.step) guards) ≡ []
+  on_line l k n guards is = let leads_nowhere : goal_of (map view items) l ≡ None = no_goal items l.place none in rw (leads_nowhere, is) refl
 
-  on_lines : (rank : ℤ) (seen : Seen) (k : ℕ) (found : Option Line) → seen.guard ≡ None → (seen_with (map view items) lines rank seen k found).guard ≡ None
-  on_lines rank seen k None is = is
-  on_lines rank seen k (Some l) is = unguarded (is_rank rank (rank_in l.step)) (record { count = seen.count + 1; guard = next_guard (map view items) lines l k seen }) seen (on_line l k seen is) is
+  on_lines : (rank : ℤ) (k n : ℕ) (guards : List Guard) (found : Option Line) → guards ≡ [] → guards_with (map view items) lines rank k n guards found ≡ []
+  on_lines rank k n guards None is = is
+  on_lines rank k n guards (Some l) is = unguarded (is_rank rank (rank_in l.step)) (guards_behind (map view items) lines l k n (open_guards (map view items) lines (name_in l.step) guards)) guards (on_line l k n guards is) is
 
-  none_seen : (rank : ℤ) (k : ℕ) → (seen_in (map view items) lines rank k).guard ≡ None
-  none_seen rank zero = refl
-  none_seen rank (suc k) = on_lines rank (seen_in (map view items) lines rank k) k (slice_get lines k) (none_seen rank k)
+  none_before : (rank : ℤ) (k : ℕ) → guards_in (map view items) lines rank k ≡ []
+  none_before rank zero = refl
+  none_before rank (suc k) = on_lines rank k (number_in lines rank k) (guards_in (map view items) lines rank k) (slice_get lines k) (none_before rank k)
 
   as_members : (k : ℕ) (ms : Members) (rank : Option ℤ) → guarded_for (map view items) lines k ms rank ≡ ms
   as_members k ms None = refl
-  as_members k ms (Some rank) = rw (none_seen rank k) refl
+  as_members k ms (Some rank) = rw (none_before rank k) refl
 
   as_step : (k : ℕ) (d : Data) → guarded (map view items) lines k d ≡ d
   as_step k (table ms) = ap table (as_members k ms (rank_of ms))

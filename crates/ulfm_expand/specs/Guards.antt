@@ -1,17 +1,17 @@
 -- Conditions by which an error in a block leads to the step that it names.
-use Rattle.std.specs.Prelude.{ℕ, zero, suc, ◌+◌, ℤ, pos, Bool, false, List, [], ◌∷◌, map, Option, Some, None, is_some, if◌then◌else◌, codes}
+use Rattle.std.specs.Prelude.{ℕ, zero, suc, ◌+◌, ℤ, pos, Bool, false, not, List, [], ◌∷◌, ◌++◌, map, filter, Option, Some, None, is_some, if◌then◌else◌, codes}
 use Rattle.std.specs.List.{slice_get}
 use Rattle.std.specs.Option.{option_and_then}
 use Rattle.std.specs.Str.{bytes_eq}
-use Rattle.toml.specs.Data.{Data, string, integer, array, table, Members, no_members, get_member, as_table}
+use Rattle.toml.specs.Data.{Data, string, integer, array, table, Members, no_members, get, get_member, as_table}
 use Rattle.toml.specs.View.{items_of}
 use Rattle.ulfm_expand.specs.Blocks.{goal_in, name_in}
 use Rattle.ulfm_expand.specs.Iterations.{is_rank, is_text}
 use Rattle.ulfm_expand.specs.Line.{Line, line}
 use Rattle.ulfm_expand.specs.Members.{in_table, put, text_at, text_in}
 use Rattle.ulfm_expand.specs.Ranks.{rank_of}
+use Rattle.ulfm_expand.specs.Together.{asks_with}
 use Rattle.ulfm_expand.specs.declared.guard.Guard.{Guard}
-use Rattle.ulfm_expand.specs.declared.guard.Seen.{Seen}
 
 -- how the answers begin with which a step of this op goes well
 abbrev pub good_answers : List ℕ → List (List ℕ)
@@ -57,49 +57,73 @@ abbrev pub is_reached : Option (List ℕ) → Option (List ℕ) → Bool
 is_reached None name = false
 is_reached (Some goal) name = is_text goal name
 
--- a guard, where a step of this name is still to be led past
-abbrev pub open_guard : List Data → List Line → Option (List ℕ) → Option Guard → Option Guard
-open_guard items lines name None = None
-open_guard items lines name (Some guard) = if is_reached (goal_at items lines guard.at) name then None else Some guard
+-- a step has a condition of its own
+abbrev pub has_own : Data → Bool
+has_own d = is_some (get (codes "if") d)
 
--- what guards a rank's steps behind this one, the line of this number, of whose rank so many came before
-abbrev pub next_guard : List Data → List Line → Line → ℕ → Seen → Option Guard
-next_guard items lines l k seen =
-    if is_some (goal_of items l) then Some (record { number = seen.count; «at» = k })
-    else open_guard items lines (name_in l.step) seen.guard
+-- the guards, where a step of this name comes: an error in those that lead to it leads no further
+abbrev pub open_guards : List Data → List Line → Option (List ℕ) → List Guard → List Guard
+open_guards items lines name guards = filter (λ (g : Guard). not (is_reached (goal_at items lines g.at) name)) guards
 
--- what is seen of a rank's lines with one more
-abbrev pub seen_with : List Data → List Line → ℤ → Seen → ℕ → Option Line → Seen
-seen_with items lines rank seen k None = seen
-seen_with items lines rank seen k (Some l) =
-    if is_rank rank (rank_in l.step) then record { count = seen.count + 1; guard = next_guard items lines l k seen } else seen
+-- those that are asked beside a line that leads to this goal. A line without a condition of its own is answered well only where all that
+-- lead to its goal are, so it stands for them. Another one may be skipped for its own sake
+abbrev pub guards_beside : List Data → List Line → Line → List Guard → List Guard
+guards_beside items lines l guards = if has_own l.step then guards else open_guards items lines (goal_of items l) guards
 
--- what is seen of a rank's lines among the first so many: how many there are, and which guards those behind
-abbrev pub seen_in : List Data → List Line → ℤ → ℕ → Seen
-seen_in items lines rank zero = record { count = 0; guard = None }
-seen_in items lines rank (suc k) = seen_with items lines rank (seen_in items lines rank k) k (slice_get lines k)
+-- what guards a rank's steps behind this one, the line of this number, of whose rank so many came before, where these guard it
+abbrev pub guards_behind : List Data → List Line → Line → ℕ → ℕ → List Guard → List Guard
+guards_behind items lines l k count guards =
+    if is_some (goal_of items l) then guards_beside items lines l guards ++ record { number = count; «at» = k } ∷ [] else guards
+
+-- so many lines of a rank, with one more that may be its
+abbrev pub number_with : ℤ → ℕ → Option Line → ℕ
+number_with rank n None = n
+number_with rank n (Some l) = if is_rank rank (rank_in l.step) then n + 1 else n
+
+-- how many of the first so many lines are a rank's
+abbrev pub number_in : List Line → ℤ → ℕ → ℕ
+number_in lines rank zero = 0
+number_in lines rank (suc k) = number_with rank (number_in lines rank k) (slice_get lines k)
+
+-- what guards a rank's steps, with one line more, of this number, where so many before are the rank's
+abbrev pub guards_with : List Data → List Line → ℤ → ℕ → ℕ → List Guard → Option Line → List Guard
+guards_with items lines rank k count guards None = guards
+guards_with items lines rank k count guards (Some l) =
+    if is_rank rank (rank_in l.step) then guards_behind items lines l k count (open_guards items lines (name_in l.step) guards) else guards
+
+-- what guards a rank's steps behind the first so many lines
+abbrev pub guards_in : List Data → List Line → ℤ → ℕ → List Guard
+guards_in items lines rank zero = []
+guards_in items lines rank (suc k) = guards_with items lines rank k (number_in lines rank k) (guards_in items lines rank k) (slice_get lines k)
 
 -- the condition that the step of this number was answered so
 abbrev pub condition : ℕ → List (List ℕ) → Data
 condition number words = table (put (codes "step") (integer (pos number)) (put (codes "is") (array (items_of (map string words))) no_members))
 
--- a step's members with the condition of its guard, where it has no condition of its own
-abbrev pub guarded_by : List Line → Members → Option Guard → Members
-guarded_by lines ms None = ms
-guarded_by lines ms (Some guard) =
-    if is_some (get_member (codes "if") ms) then ms
-    else put (codes "if") (condition guard.number (answers_of (option_and_then (λ (l : Line). op_in l.step) (slice_get lines guard.at)))) ms
+-- the answers with which a line leads nowhere: its good ones, and where it has a condition of its own, that it was skipped
+abbrev pub fine_answers : Option Line → List (List ℕ)
+fine_answers None = []
+fine_answers (Some l) = answers_of (op_in l.step) ++ (if has_own l.step then codes "skipped" ∷ [] else [])
+
+-- what is asked of the line of a guard
+abbrev pub asked : List Line → Guard → Data
+asked lines g = condition g.number (fine_answers (slice_get lines g.at))
+
+-- a step's members, with the conditions of these guards beside its own
+abbrev pub guarded_by : List Line → Members → List Guard → Members
+guarded_by lines ms [] = ms
+guarded_by lines ms (g ∷ gs) = put (codes "if") (asks_with (map (asked lines) (g ∷ gs)) (get_member (codes "if") ms)) ms
 
 -- the same behind so many lines, where the step has a rank
 abbrev pub guarded_for : List Data → List Line → ℕ → Members → Option ℤ → Members
 guarded_for items lines k ms None = ms
-guarded_for items lines k ms (Some rank) = guarded_by lines ms (open_guard items lines (text_at (codes "name") ms) (seen_in items lines rank k).guard)
+guarded_for items lines k ms (Some rank) = guarded_by lines ms (open_guards items lines (text_at (codes "name") ms) (guards_in items lines rank k))
 
--- a step behind so many lines, with the condition of its guard
+-- a step behind so many lines, with the conditions of its guards
 abbrev pub guarded : List Data → List Line → ℕ → Data → Data
 guarded items lines k d = in_table (λ ms. guarded_for items lines k ms (rank_of ms)) d
 
--- these lines, the first of which has this number, each with the condition of its guard
+-- these lines, the first of which has this number, each with the conditions of its guards
 abbrev pub guarded_from : List Data → List Line → ℕ → List Line → List Line
 guarded_from items lines k [] = []
 guarded_from items lines k (l ∷ ls) = line l.place (guarded items lines k l.step) ∷ guarded_from items lines (k + 1) ls

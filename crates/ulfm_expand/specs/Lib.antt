@@ -4,6 +4,7 @@ pub mod Line
 pub mod Shared
 pub mod Iterations
 pub mod Blocks
+pub mod Together
 pub mod Guards
 pub mod Lines
 pub mod Documents

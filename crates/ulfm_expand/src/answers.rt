@@ -1,10 +1,14 @@
 //! How the answers begin with which steps go well.
-ghost use Rattle.std.specs.Prelude.{◌≡◌, ◌∷◌, [], map, codes, IfOk};
+ghost use Rattle.std.specs.Prelude.{◌≡◌, ◌∷◌, [], Some, map, codes, IfOk};
+ghost use Rattle.std.specs.List.{slice_get};
 ghost use Rattle.std.specs.Option.{option_copied};
 ghost use Rattle.toml.specs.Data.{string};
 ghost use Rattle.toml.specs.View.{view};
-ghost use Rattle.ulfm_expand.specs.Guards.{answers_of, good_answers};
+ghost use Rattle.ulfm_expand.specs.Guards.{answers_of, fine_answers, good_answers, has_own};
+ghost use Rattle.ulfm_expand.specs.Line.{line_view};
 
+use crate::line::Line;
+use crate::members::text_in;
 use std::alloc::{AllocError, Global};
 use toml::Value;
 
@@ -49,11 +53,39 @@ fn good_answers(alloc: Global, op: &str) -> Result<Vec<Value>, AllocError>
 }
 
 /// The good answers of a step, if it has an op.
-pub fn answers_of(alloc: Global, op: Option<&str>) -> Result<Vec<Value>, AllocError>
+fn answers_of(alloc: Global, op: Option<&str>) -> Result<Vec<Value>, AllocError>
     ensures { IfOk result (λ found. map view found.items ≡ map string (answers_of (option_copied op.entry))) }
 {
     match op {
         Some(op) => good_answers(alloc, op),
+        None => Ok(Vec::new(alloc)),
+    }
+}
+
+/// Whether a step has a condition of its own.
+pub fn has_own(step: &Value) -> bool
+    ensures { result ≡ has_own (view step.now) }
+{
+    step.get("if").is_some()
+}
+
+/// The answers with which a line leads nowhere.
+fn fine_answers(alloc: Global, line: &Line) -> Result<Vec<Value>, AllocError>
+    ensures { IfOk result (λ found. map view found.items ≡ map string (fine_answers (Some (line_view line.now)))) }
+{
+    let mut found = answers_of(alloc, text_in(&line.step, "op"))?;
+    if has_own(&line.step) {
+        found.push(Value::String(String::from_str(alloc, "skipped")?))?;
+    }
+    Ok(found)
+}
+
+/// The same of the line with this number.
+pub fn fine_answers_at(alloc: Global, lines: &[Line], at: u16) -> Result<Vec<Value>, AllocError>
+    ensures { IfOk result (λ found. map view found.items ≡ map string (fine_answers (slice_get (map line_view lines.now) at))) }
+{
+    match lines.get(usize::from(at)) {
+        Some(line) => fine_answers(alloc, line),
         None => Ok(Vec::new(alloc)),
     }
 }

@@ -1,18 +1,20 @@
 //! Conditions by which an error in a block leads to the step that it names.
-ghost use Rattle.std.specs.Prelude.{◌≡◌, ◌+◌, ◌<◌, ◌≤◌, ℕ, List, map, IfOk, OnOk};
-ghost use Rattle.std.specs.Option.{option_and_then, option_copied};
+ghost use Rattle.std.specs.Prelude.{◌≡◌, ◌+◌, ◌<◌, ◌≤◌, ℕ, List, Some, map, IfOk, OnOk};
+ghost use Rattle.std.specs.Option.{option_copied};
 ghost use Rattle.std.specs.List.{slice_get};
 ghost use Rattle.toml.specs.Data.{string};
 ghost use Rattle.toml.specs.View.{table_view, view};
-ghost use Rattle.ulfm_expand.specs.Guards.{answers_of, condition, goal_at, goal_of, guarded, guarded_by, guarded_for, is_reached, next_guard, op_in, open_guard, rank_in, seen_in, seen_with};
+ghost use Rattle.ulfm_expand.specs.Guards.{asked, condition, goal_at, goal_of, guarded, guarded_by, guarded_for, guards_behind, guards_beside, guards_in, guards_with, is_reached, number_with, open_guards, rank_in};
+ghost use Rattle.ulfm_expand.specs.Blocks.{name_in};
 ghost use Rattle.ulfm_expand.specs.Line.{line_view};
 ghost use Rattle.ulfm_expand.specs.Ranks.{rank_of};
 
-use crate::answers::answers_of;
+use crate::answers::{fine_answers_at, has_own};
 use crate::iteration::{is_rank, is_text};
 use crate::line::Line;
 use crate::members::{put, text_at, text_in, value_at};
 use crate::ranks::rank_of;
+use crate::together::asks_with;
 use std::alloc::{AllocError, Global};
 use toml::{Table, Value};
 
@@ -21,13 +23,6 @@ use toml::{Table, Value};
 pub struct Guard {
     pub number: u16,
     pub at: u16,
-}
-
-/// What is seen of a rank's lines: how many there are, and which guards those behind.
-#[derive(Clone, Copy)]
-pub struct Seen {
-    pub count: u16,
-    pub guard: Option<Guard>,
 }
 
 /// The name to which an error in a line leads, by the item that it comes from.
@@ -60,38 +55,47 @@ fn is_reached(goal: Option<&str>, name: Option<&str>) -> bool
     }
 }
 
-/// A guard, where a step of this name is still to be led past.
-fn open_guard(
+/// The guards, where a step of this name comes: an error in those that lead to it leads no further.
+fn open_guards(
     items: &[Value],
     lines: &[Line],
     name: Option<&str>,
-    guard: Option<Guard>,
-) -> Option<Guard>
-    ensures { result ≡ open_guard (map view items.now) (map line_view lines.now) (option_copied name.entry) guard }
+    guards: Vec<Guard>,
+) -> Vec<Guard>
+    ensures { result.items ≡ open_guards (map view items.now) (map line_view lines.now) (option_copied name.entry) guards.items }
 {
-    match guard {
-        Some(guard) => {
-            if is_reached(goal_at(items, lines, guard.at), name) {
-                None
-            } else {
-                Some(guard)
-            }
-        }
-        None => None,
+    let mut open = guards;
+    open.retain(|guard| !is_reached(goal_at(items, lines, guard.at), name));
+    open
+}
+
+/// The guards that are asked beside this line.
+fn guards_beside(items: &[Value], lines: &[Line], line: &Line, guards: Vec<Guard>) -> Vec<Guard>
+    ensures { result.items ≡ guards_beside (map view items.now) (map line_view lines.now) (line_view line.now) guards.items }
+{
+    if has_own(&line.step) {
+        guards
+    } else {
+        open_guards(items, lines, goal_of(items, line), guards)
     }
 }
 
-/// What guards a rank's steps behind this line.
-fn next_guard(items: &[Value], lines: &[Line], line: &Line, at: u16, seen: Seen) -> Option<Guard>
-    ensures { result ≡ next_guard (map view items.now) (map line_view lines.now) (line_view line.now) at seen }
+/// What guards a rank's steps behind this line, which these guard.
+fn guards_behind(
+    items: &[Value],
+    lines: &[Line],
+    line: &Line,
+    own: Guard,
+    guards: Vec<Guard>,
+) -> Result<Vec<Guard>, AllocError>
+    ensures { IfOk result (λ found. found.items ≡ guards_behind (map view items.now) (map line_view lines.now) (line_view line.now) own.at own.number guards.items) }
 {
-    if goal_of(items, line).is_some() {
-        return Some(Guard {
-            number: seen.count,
-            at,
-        });
+    if goal_of(items, line).is_none() {
+        return Ok(guards);
     }
-    open_guard(items, lines, text_in(&line.step, "name"), seen.guard)
+    let mut behind = guards_beside(items, lines, line, guards);
+    behind.push(own)?;
+    Ok(behind)
 }
 
 /// The rank of a step.
@@ -104,38 +108,88 @@ fn rank_in(step: &Value) -> Option<i64>
     }
 }
 
-/// What is seen of a rank's lines with one more.
-fn seen_with(items: &[Value], lines: &[Line], rank: i64, seen: Seen, at: u16) -> Seen
-    requires few { seen.count ≤ at }
-    requires small { at < 65535 }
-    ensures exact { result ≡ seen_with (map view items.now) (map line_view lines.now) rank seen at (slice_get (map line_view lines.now) at) }
-    ensures counted { result.count ≤ at + 1 }
+/// The same where they guard the line itself.
+fn guards_past(
+    items: &[Value],
+    lines: &[Line],
+    line: &Line,
+    own: Guard,
+    guards: Vec<Guard>,
+) -> Result<Vec<Guard>, AllocError>
+    ensures { IfOk result (λ found. found.items ≡ guards_behind (map view items.now) (map line_view lines.now) (line_view line.now) own.at own.number (open_guards (map view items.now) (map line_view lines.now) (name_in (line_view line.now).step) guards.items)) }
 {
-    let Some(line) = lines.get(usize::from(at)) else {
-        return seen;
-    };
+    let open = open_guards(items, lines, text_in(&line.step, "name"), guards);
+    guards_behind(items, lines, line, own, open)
+}
+
+/// What guards a rank's steps, with this line more, which may be the rank's.
+fn guards_by(
+    items: &[Value],
+    lines: &[Line],
+    rank: i64,
+    line: &Line,
+    own: Guard,
+    guards: Vec<Guard>,
+) -> Result<Vec<Guard>, AllocError>
+    ensures { IfOk result (λ found. found.items ≡ guards_with (map view items.now) (map line_view lines.now) rank own.at own.number guards.items (Some (line_view line.now))) }
+{
     if is_rank(rank, rank_in(&line.step)) {
-        Seen {
-            count: seen.count + 1,
-            guard: next_guard(items, lines, line, at, seen),
-        }
+        guards_past(items, lines, line, own, guards)
     } else {
-        seen
+        Ok(guards)
     }
 }
 
-/// What is seen of a rank's lines among the first so many.
-fn seen_in(items: &[Value], lines: &[Line], rank: i64, many: u16) -> Seen
-    ensures { result ≡ seen_in (map view items.now) (map line_view lines.now) rank many }
+/// The same with the line of this number.
+fn guards_with(
+    items: &[Value],
+    lines: &[Line],
+    rank: i64,
+    own: Guard,
+    guards: Vec<Guard>,
+) -> Result<Vec<Guard>, AllocError>
+    ensures { IfOk result (λ found. found.items ≡ guards_with (map view items.now) (map line_view lines.now) rank own.at own.number guards.items (slice_get (map line_view lines.now) own.at)) }
 {
-    let mut seen = Seen {
-        count: 0,
-        guard: None,
-    };
-    for at in 0..many {
-        seen = seen_with(items, lines, rank, seen, at);
+    match lines.get(usize::from(own.at)) {
+        Some(line) => guards_by(items, lines, rank, line, own, guards),
+        None => Ok(guards),
     }
-    seen
+}
+
+/// So many lines of a rank, with the one of this number, which may be the rank's.
+fn number_with(lines: &[Line], rank: i64, number: u16, at: u16) -> u16
+    requires few { number ≤ at }
+    requires small { at < 65535 }
+    ensures exact { result ≡ number_with rank number (slice_get (map line_view lines.now) at) }
+    ensures counted { result ≤ at + 1 }
+{
+    let Some(line) = lines.get(usize::from(at)) else {
+        return number;
+    };
+    if is_rank(rank, rank_in(&line.step)) {
+        number + 1
+    } else {
+        number
+    }
+}
+
+/// What guards a rank's steps behind the first so many lines.
+fn guards_in(
+    alloc: Global,
+    items: &[Value],
+    lines: &[Line],
+    rank: i64,
+    many: u16,
+) -> Result<Vec<Guard>, AllocError>
+    ensures { IfOk result (λ found. found.items ≡ guards_in (map view items.now) (map line_view lines.now) rank many) }
+{
+    let mut number: u16 = 0;
+    let mut guards = Vec::new(alloc);
+    for at in 0..many {
+        guards = guards_with(items, lines, rank, Guard { number, at }, guards)?;
+        number = number_with(lines, rank, number, at);
+    }
+    Ok(guards)
 }
 
 /// The condition that the step of this number was answered so.
@@ -148,34 +202,40 @@ fn condition(alloc: Global, number: u16, answers: Vec<Value>) -> Result<Value, A
     Ok(Value::Table(table))
 }
 
-/// The good answers of the line with this number.
-fn answers_at(alloc: Global, lines: &[Line], at: u16) -> Result<Vec<Value>, AllocError>
-    ensures { IfOk result (λ found. map view found.items ≡ map string (answers_of (option_and_then (λ l. op_in l.step) (slice_get (map line_view lines.now) at)))) }
+/// What is asked of the line of a guard.
+fn asked(alloc: Global, lines: &[Line], guard: Guard) -> Result<Value, AllocError>
+    ensures { IfOk result (λ r. view r ≡ asked (map line_view lines.now) guard) }
 {
-    match lines.get(usize::from(at)) {
-        Some(line) => answers_of(alloc, text_in(&line.step, "op")),
-        None => answers_of(alloc, None),
-    }
+    let answers = fine_answers_at(alloc, lines, guard.at)?;
+    condition(alloc, guard.number, answers)
 }
 
-/// Puts the condition of its guard into a step that has no condition.
+/// The same of each guard.
+fn asked_of_each(alloc: Global, lines: &[Line], guards: &[Guard]) -> Result<Vec<Value>, AllocError>
+    ensures { IfOk result (λ found. map view found.items ≡ map (asked (map line_view lines.now)) guards.now) }
+{
+    let mut found = Vec::new(alloc);
+    for guard in guards {
+        found.push(asked(alloc, lines, *guard)?)?;
+    }
+    Ok(found)
+}
+
+/// Puts the conditions of these guards into a step, beside its own.
 fn guard_by(
     alloc: Global,
     lines: &[Line],
     table: &mut Table,
-    guard: Option<Guard>,
+    guards: &[Guard],
 ) -> Result<(), AllocError>
-    ensures { OnOk result (table_view table.new ≡ guarded_by (map line_view lines.now) (table_view table.old) guard) }
+    ensures { OnOk result (table_view table.new ≡ guarded_by (map line_view lines.now) (table_view table.old) guards.now) }
 {
-    let Some(guard) = guard else {
-        return Ok(());
-    };
-    if value_at(table, "if").is_some() {
+    if guards.is_empty() {
         return Ok(());
     }
-    let answers = answers_at(alloc, lines, guard.at)?;
-    let condition = condition(alloc, guard.number, answers)?;
-    put(alloc, table, "if", condition)
+    let asked = asked_of_each(alloc, lines, guards)?;
+    let conditions = asks_with(alloc, asked.as_slice(), value_at(table, "if"))?;
+    put(alloc, table, "if", conditions)
 }
 
 /// The same of a step behind so many lines, where it has a rank.
@@ -191,12 +251,12 @@ fn guard_for(
     let Some(rank) = rank_of(table) else {
         return Ok(());
     };
-    let seen = seen_in(items, lines, rank, many);
-    let guard = open_guard(items, lines, text_at(table, "name"), seen.guard);
-    guard_by(alloc, lines, table, guard)
+    let guards = guards_in(alloc, items, lines, rank, many)?;
+    let open = open_guards(items, lines, text_at(table, "name"), guards);
+    guard_by(alloc, lines, table, open.as_slice())
 }
 
-/// A step behind so many lines, with the condition of its guard.
+/// A step behind so many lines, with the conditions of its guards.
 pub fn guarded(
     alloc: Global,
     items: &[Value],

@@ -4,7 +4,8 @@
 //!
 //! Writing out never fails, but for memory and for more than 256 steps: what has none of the short forms is left as it is, for the reader
 //! of jobs to refuse. Read specs/Ranks.antt first (a step for several ranks), then specs/Iterations.antt and specs/Blocks.antt (a block
-//! of steps), specs/Guards.antt (where errors in a block lead), specs/Lines.antt (all steps) and specs/Documents.antt (the table of a job).
+//! of steps), specs/Guards.antt (where errors in a block lead), specs/Together.antt (conditions beside a step's own), specs/Lines.antt (all
+//! steps) and specs/Documents.antt (the table of a job).
 #![tactic(auto)]
 
 mod answers;
@@ -18,6 +19,7 @@ mod members;
 mod ranks;
 mod shared;
 mod tags;
+mod together;
 mod unwritten;
 mod written;
 
