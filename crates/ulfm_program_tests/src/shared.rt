@@ -37,6 +37,22 @@ step = [
 ]
 "#;
 
+/// A block with steps that have an `if` of their own: one is skipped for its own sake, and those behind an error for that of the block.
+const GUARDED: &str = r#"ranks = 1
+capacity = 1
+turns = 4
+step = [
+    { on_error = "end", steps = [
+        { rank = 0, op = "failed", name = "first" },
+        { rank = 0, op = "dup", if = { step = "first", not = ["ranks"] } },
+        { rank = 0, op = "wait", req = "first" },
+        { rank = 0, op = "revoke", if = [{ step = 1, is = ["skipped"] }, { all = [{ step = 0, is = ["ranks"] }] }] },
+    ] },
+    { rank = 0, op = "ack", count = 0 },
+    { rank = 0, op = "shrink", name = "end", if = { step = 1, is = ["skipped"] } },
+]
+"#;
+
 /// A block that leads to no step.
 const NOWHERE: &str = r#"ranks = 1
 capacity = 1
@@ -48,7 +64,7 @@ step = [
 "#;
 
 /// A command, the job, and the status and the text that it gives.
-const ANSWERED: [(&str, &str, u8, &str); 10] = [
+const ANSWERED: [(&str, &str, u8, &str); 12] = [
     ("check", RING, 0, "job ok: 2 ranks 5 steps\n"),
     (
         "replay",
@@ -73,6 +89,18 @@ const ANSWERED: [(&str, &str, u8, &str); 10] = [
         BLOCK,
         0,
         "capacity = 1\nranks = 1\nturns = 4\n\n[[step]]\nname = \"part-0\"\nop = \"recv\"\nrank = 0\ntag = 5\n\n[[step]]\nop = \"cancel\"\nrank = 0\nreq = \"part-0\"\n\n[step.if]\nis = [\"posted\"]\nstep = 0\n\n[[step]]\nname = \"part-1\"\nop = \"recv\"\nrank = 0\ntag = 6\n\n[step.if]\nis = [\"cancelled\", \"done\"]\nstep = 1\n\n[[step]]\nop = \"cancel\"\nrank = 0\nreq = \"part-1\"\n\n[step.if]\nis = [\"posted\"]\nstep = 2\n\n[[step]]\nop = \"revoke\"\nrank = 0\n\n[step.if]\nis = [\"cancelled\", \"done\"]\nstep = 3\n\n[[step]]\nname = \"end\"\nop = \"failed\"\nrank = 0\n",
+    ),
+    (
+        "replay",
+        GUARDED,
+        0,
+        "0 0 failed comm 0: ranks []\n0 1 dup comm 0: skipped\n0 2 wait 0: refused 7 NoRequest\n0 3 revoke comm 0: skipped\n0 4 ack 0 comm 0: skipped\n0 5 shrink comm 0: comm 2 ranks [0] me 0\n0 end: done\n",
+    ),
+    (
+        "expand",
+        GUARDED,
+        0,
+        "capacity = 1\nranks = 1\nturns = 4\n\n[[step]]\nname = \"first\"\nop = \"failed\"\nrank = 0\n\n[[step]]\nop = \"dup\"\nrank = 0\n\n[[step.if.all]]\nnot = [\"ranks\"]\nstep = \"first\"\n\n[[step.if.all]]\nis = [\"ranks\"]\nstep = 0\n\n[[step]]\nop = \"wait\"\nrank = 0\nreq = \"first\"\n\n[[step.if.all]]\nis = [\"ranks\"]\nstep = 0\n\n[[step.if.all]]\nis = [\"comm\", \"skipped\"]\nstep = 1\n\n[[step]]\nop = \"revoke\"\nrank = 0\n\n[[step.if]]\n\n[[step.if.all]]\nis = [\"skipped\"]\nstep = 1\n\n[[step.if.all]]\nis = [\"done\"]\nstep = 2\n\n[[step.if]]\n\n[[step.if.all]]\nis = [\"ranks\"]\nstep = 0\n\n[[step.if.all]]\nis = [\"done\"]\nstep = 2\n\n[[step]]\ncount = 0\nop = \"ack\"\nrank = 0\n\n[[step.if.all]]\nis = [\"done\"]\nstep = 2\n\n[[step.if.all]]\nis = [\"revoked\", \"skipped\"]\nstep = 3\n\n[[step]]\nname = \"end\"\nop = \"shrink\"\nrank = 0\n\n[step.if]\nis = [\"skipped\"]\nstep = 1\n",
     ),
     ("check", NOWHERE, 1, "job refused: J2 step 1\n"),
     ("places", TOO_FAR, 1, "job refused: J4 step 1\n"),
