@@ -12,4 +12,7 @@ pub mod Served
 pub mod Crossing
 pub mod Placed
 pub mod Walked
+pub mod Fronts
+pub mod Found
+pub mod Behind
 pub mod Stuck

@@ -165,7 +165,7 @@ fn tells_gone(entry: &Entry, rank: WorldRank) -> bool
 }
 
 /// Whether an item is the notice of a failure.
-fn is_notice(item: &NotedItem) -> bool
+pub(crate) fn is_notice(item: &NotedItem) -> bool
     ensures { result ≡ is_gone_item item.now }
 {
     match item.kind() {

@@ -6,5 +6,6 @@ mod laid;
 mod meeting;
 mod misfits;
 mod polls;
+mod room;
 mod sweeps;
 mod verdicts;
