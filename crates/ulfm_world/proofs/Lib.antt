@@ -41,3 +41,4 @@ pub mod Lawful
 pub mod Swept
 pub mod Often
 pub mod Rings
+pub mod Never
