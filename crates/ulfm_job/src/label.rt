@@ -3,10 +3,8 @@ ghost use Rattle.std.specs.Prelude.{◌≡◌, ◌↔◌, IsTrue};
 ghost use Rattle.std.specs.List.{list_all};
 ghost use Rattle.ulfm_job.specs.Label.{is_label, is_label_byte, label_of};
 
+use crate::limits::MOST_LABEL;
 use std::marker::Model;
-
-/// The most bytes of a label.
-const MOST_LABEL: usize = 32;
 
 /// The text of a note: 1 to 32 letters, digits, spaces, `_`, `-` and `.`. It stands inline. Contracts see the list of its bytes.
 #[derive(Drop)]

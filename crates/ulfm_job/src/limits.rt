@@ -36,6 +36,9 @@ pub const LAST_FLAG: u32 = 4_294_967_295;
 /// The most bytes of a name.
 pub const MOST_NAME: usize = 32;
 
+/// The most bytes of a note's text.
+pub const MOST_LABEL: usize = 32;
+
 /// The most texts of an `is`, a `not` or an `expect`, and the most tables of an `if` or an `all`.
 pub const MOST_ITEMS: usize = 16;
 
