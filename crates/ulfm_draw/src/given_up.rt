@@ -3,9 +3,9 @@
 use crate::held::{Held, all_held, enters_behind, held_at};
 use crate::late::{Late, late_step};
 use std::alloc::Global;
-use ulfm_base::{ItemKind, OutOfMemory};
+use ulfm_base::OutOfMemory;
 use ulfm_job::{Job, Step};
-use ulfm_rank::Entry;
+use ulfm_rank::{Entry, tells_gone};
 use ulfm_script::{RankReport, StepAnswer};
 use ulfm_waits::{awaited, due_of, need_of, position_by, push_words};
 
@@ -205,24 +205,15 @@ fn push_notice(
     given: &GivenUp<'_>,
     source: &RankReport,
 ) -> Result<(), OutOfMemory> {
-    let s = source.me().number;
     let place = given
         .report
         .log()
         .iter()
-        .position(|entry| is_notice_of(entry, s));
+        .position(|entry| tells_gone(entry, source.me()));
     match place {
         _ if !source.stopped() => Ok(()),
         Some(place) if place < given.known => Ok(()),
         Some(_) => text.push_str(", and the notice of its stop came later"),
         None => text.push_str(", and the notice of its stop hadn't come yet"),
-    }
-}
-
-/// Whether an entry takes the notice that a rank stopped.
-fn is_notice_of(entry: &Entry, s: u8) -> bool {
-    match entry {
-        Entry::Took(from, item) => from.number == s && matches!(item.kind(), ItemKind::Gone),
-        _ => false,
     }
 }

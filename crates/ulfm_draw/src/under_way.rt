@@ -2,7 +2,7 @@
 
 use ulfm_base::{Entrance, ItemKind, OutOfMemory, Purpose};
 use ulfm_job::{Job, Step};
-use ulfm_rank::Entry;
+use ulfm_rank::{Entry, revokes};
 use ulfm_script::{RankReport, StepAnswer};
 
 /// Whether a rank has sent an item, after so many entries of its log. The other one takes it by the entry `at` of its own log.
@@ -31,11 +31,7 @@ pub(crate) fn is_sent(
 fn tells(entry: &Entry, item: &ItemKind) -> bool {
     match (entry, item) {
         (Entry::Stopped, ItemKind::Gone) => true,
-        (Entry::Revoked(own), ItemKind::Revoke(context)) => own == context,
-        (Entry::Took(_, taken), ItemKind::Revoke(context)) => match taken.kind() {
-            ItemKind::Revoke(other) => other == context,
-            _ => false,
-        },
+        (_, ItemKind::Revoke(context)) => revokes(entry, *context),
         (Entry::Entered(own), ItemKind::Enter(entrance)) => own.topic.is_same(entrance.topic),
         _ => false,
     }

@@ -2,7 +2,7 @@
 ghost use Rattle.std.specs.Prelude.{◌≡◌, ◌<◌, ◌↔◌, IsTrue};
 ghost use Rattle.std.specs.List.{list_any};
 ghost use Rattle.ulfm_base.specs.Decision.{in_entry};
-ghost use Rattle.ulfm_rank.specs.Facts.{is_gone, is_gone_item, tells_gone};
+ghost use Rattle.ulfm_rank.specs.Facts.{is_gone};
 ghost use Rattle.ulfm_rank.specs.Log.{first_given};
 ghost use Rattle.ulfm_rank.specs.Proposal.{heard_of, item_entry, listed_of};
 ghost use Rattle.ulfm_laws.specs.Proposed.{ProposesBy};
@@ -10,7 +10,7 @@ ghost use Rattle.ulfm_run.specs.inside.Listed.{ListsAs, IsListedAs, ExcludesAs};
 
 use crate::adopted::{are_same, entry_of};
 use ulfm_base::{Contribution, Decision, ItemKind, NotedItem, Topic, WorldRank};
-use ulfm_rank::Entry;
+use ulfm_rank::{Entry, tells_gone};
 
 /// Whether the rank `me` with this log proposes a decision.
 pub(crate) fn proposes_by(me: usize, log: &[Entry], decision: &Decision) -> bool
@@ -152,24 +152,4 @@ fn is_gone(log: &[Entry], rank: WorldRank) -> bool
     ensures { result ≡ is_gone log.now rank.number }
 {
     log.iter().any(|entry| tells_gone(entry, rank))
-}
-
-/// Whether an entry tells that a rank failed.
-fn tells_gone(entry: &Entry, rank: WorldRank) -> bool
-    ensures { result ≡ tells_gone rank.number entry.now }
-{
-    match entry {
-        Entry::Took(from, item) => from.number == rank.number && is_notice(item),
-        _ => false,
-    }
-}
-
-/// Whether an item is the notice of a failure.
-fn is_notice(item: &NotedItem) -> bool
-    ensures { result ≡ is_gone_item item.now }
-{
-    match item.kind() {
-        ItemKind::Gone => true,
-        _ => false,
-    }
 }
