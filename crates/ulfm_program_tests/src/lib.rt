@@ -3,7 +3,7 @@
 //!
 //! - notes, explanations: what standard error says. No contract speaks of that.
 //! - options, files, streams, broken: command lines, files that are named, and inputs and outputs that fail.
-//! - json, outcomes, sweeps, places, runs: the texts of the commands, byte for byte; pictures: parts of pictures.
+//! - json, outcomes, sweeps, places, runs, brief_runs: the texts of the commands, byte for byte; pictures: parts of pictures.
 //! - shared: steps for several ranks, and the command `expand`.
 //! - schedule_turns, schedule_steps, probes, agreements, reacting: jobs whose traces tell one rule from another.
 //!
@@ -13,6 +13,8 @@
 
 #[cfg(test)]
 mod agreements;
+#[cfg(test)]
+mod brief_runs;
 #[cfg(test)]
 mod broken;
 #[cfg(test)]

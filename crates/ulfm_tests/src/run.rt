@@ -6,5 +6,6 @@ mod laid;
 mod meeting;
 mod misfits;
 mod polls;
+mod resting;
 mod sweeps;
 mod verdicts;

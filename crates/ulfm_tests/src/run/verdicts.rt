@@ -1,4 +1,4 @@
-//! Runs at rest and not at rest, and decisions that nobody proposed.
+//! Runs by decisions that nobody proposed.
 ghost use Rattle.std.specs.Prelude.{◌≡◌, ◌<◌, ◌++◌, ℕ, All, IfOk, OnErr, Some, length, map, slice_set, vec_len};
 ghost use Rattle.ulfm_board.specs.Known.{nothing_known, OneBoard};
 
@@ -10,38 +10,8 @@ use ulfm_base::{CallError, Contribution, Decision, OutOfMemory, Purpose, RankSet
 use ulfm_board::{Decider, Seat, seats};
 use ulfm_carrier::{LaneEnds, lanes};
 use ulfm_reader::ReadJob;
-use ulfm_run::{Report, at_rest, run_job};
+use ulfm_run::{Report, run_job};
 use ulfm_script::{Job, RunFault};
-
-/// All that is sent is taken.
-const TAKEN: &str = r#"ranks = 2
-capacity = 4
-turns = 1000000
-step = [{rank = 0, op = "send", to = 1, tag = 5, body = "abc"}]
-"#;
-
-/// Rank 1 has one turn, and takes one letter of three.
-const LEFT: &str = r#"ranks = 2
-capacity = 1
-turns = 1
-step = [
-    {rank = 0, op = "send", to = 1, tag = 5, body = "a"},
-    {rank = 0, op = "send", to = 1, tag = 5, body = "b"},
-    {rank = 0, op = "send", to = 1, tag = 5, body = "c"},
-]
-"#;
-
-/// Rank 1 takes one letter of three at most, and stops.
-const LEFT_OF_THE_STOPPED: &str = r#"ranks = 2
-capacity = 1
-turns = 1000000
-step = [
-    {rank = 0, op = "send", to = 1, tag = 5, body = "a"},
-    {rank = 0, op = "send", to = 1, tag = 5, body = "b"},
-    {rank = 0, op = "send", to = 1, tag = 5, body = "c"},
-    {rank = 1, op = "stop"},
-]
-"#;
 
 /// A rank stops, and the others shrink.
 const SHRINK_OF_FOUR: &str = r#"ranks = 4
@@ -88,34 +58,6 @@ step = [
     {rank = 3, op = "stop"},
 ]
 "#;
-
-/// Whether a job of two ranks that was read comes to rest over lanes.
-fn rests_as_read<R>(rt: &R, alloc: Global, job: &Job) -> Result<bool, Fail>
-where
-    R: Threads + Wait + Sync,
-{
-    let ends = lanes(alloc, 2, job.capacity())?;
-    let report = run_job(rt, alloc, job, ends, seats(alloc, 2, 0)?)?;
-    Ok(at_rest(&report))
-}
-
-/// Whether a job of two ranks comes to rest over lanes.
-fn rests<R>(rt: &R, alloc: Global, text: &str) -> Result<bool, Fail>
-where
-    R: Threads + Wait + Sync,
-{
-    let job = Job::read(alloc, text.as_bytes())?;
-    rests_as_read(rt, alloc, &job)
-}
-
-#[test]
-fn what_waits_for_a_running_rank_disturbs_rest(rt: HostRuntime) -> Result<(), Fail> {
-    let alloc = rt.alloc();
-    assert!(rt; rests(&rt, alloc, TAKEN)?);
-    assert!(rt; !rests(&rt, alloc, LEFT)?);
-    assert!(rt; rests(&rt, alloc, LEFT_OF_THE_STOPPED)?);
-    Ok(())
-}
 
 /// What a decision says though it isn't so.
 #[derive(Clone, Copy)]
