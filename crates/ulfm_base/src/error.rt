@@ -42,13 +42,14 @@ pub enum CallError {
     Truncated = 15,
 }
 
-impl fmt::Display for CallError {
+impl CallError {
     ghost use Rattle.ulfm_base.specs.Error.{error_text};
 
-    ghost output = { λ e. Some (error_text e) };
-
-    fn fmt<W: fmt::Write>(&self, f: &mut fmt::Formatter<W>) -> fmt::Result {
-        f.write_str(match self {
+    /// Its number and its name, as they are printed.
+    pub fn text(self) -> &'static str
+        ensures { result.now ≡ error_text self }
+    {
+        match self {
             CallError::NoComm => "1 NoComm",
             CallError::BadRank => "2 BadRank",
             CallError::BadTag => "3 BadTag",
@@ -64,7 +65,17 @@ impl fmt::Display for CallError {
             CallError::BadSize => "13 BadSize",
             CallError::NotEntered => "14 NotEntered",
             CallError::Truncated => "15 Truncated",
-        })
+        }
+    }
+}
+
+impl fmt::Display for CallError {
+    ghost use Rattle.ulfm_base.specs.Error.{error_text};
+
+    ghost output = { λ e. Some (error_text e) };
+
+    fn fmt<W: fmt::Write>(&self, f: &mut fmt::Formatter<W>) -> fmt::Result {
+        f.write_str(self.text())
     }
 }
 

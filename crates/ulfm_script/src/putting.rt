@@ -11,29 +11,6 @@ use std::alloc::Global;
 use ulfm_base::{CallError, Group};
 use ulfm_rank::Status;
 
-/// The number and the name of a refusal.
-fn name_of(error: CallError) -> &'static str
-    ensures { result.now ≡ error_text error }
-{
-    match error {
-        CallError::NoComm => "1 NoComm",
-        CallError::BadRank => "2 BadRank",
-        CallError::BadTag => "3 BadTag",
-        CallError::TooLong => "4 TooLong",
-        CallError::ProcFailed => "5 ProcFailed",
-        CallError::Revoked => "6 Revoked",
-        CallError::NoRequest => "7 NoRequest",
-        CallError::AlreadyMade => "8 AlreadyMade",
-        CallError::NoContext => "9 NoContext",
-        CallError::Stopped => "10 Stopped",
-        CallError::NotMember => "11 NotMember",
-        CallError::OutOfMemory => "12 OutOfMemory",
-        CallError::BadSize => "13 BadSize",
-        CallError::NotEntered => "14 NotEntered",
-        CallError::Truncated => "15 Truncated",
-    }
-}
-
 /// The ranks of the world in a group, in order. It never answers out of memory.
 pub fn numbers_of(alloc: Global, group: &Group) -> SmallVec<u8, 8>
     ensures { result.items ≡ group.now }
@@ -120,7 +97,7 @@ fn put_error<S: Sink>(sink: &mut S, words: &str, error: CallError) -> Result<(),
     ensures { OnOk result ((rest : List ℕ) → S.with_rest sink.new rest ≡ S.with_rest sink.old (words.now ++ error_text error ++ rest)) }
 {
     sink.put(words)?;
-    sink.put(name_of(error))
+    sink.put(error.text())
 }
 
 /// Puts the group of a shrink, and the position there.
