@@ -40,6 +40,8 @@ impl Model for NotedStep {
 }
 
 impl NotedStep {
+    ghost use Rattle.ulfm_job.specs.Job.{decides_on, is_agreement_step};
+
     /// What a report keeps of a step. It takes no memory.
     pub fn of(step: &Step) -> NotedStep
         ensures { result ≡ step.now }
@@ -65,6 +67,26 @@ impl NotedStep {
                 kept: Kept::Other(step),
             },
             None => unreachable!(),
+        }
+    }
+
+    /// The communicator about which ranks decide together by the step: they shrink it, or agree on it.
+    pub fn decides_on(&self) -> Option<Context>
+        ensures { result ≡ decides_on self.now }
+    {
+        match &self.kept {
+            Kept::Other(step) => step.decides_on(),
+            Kept::Send { .. } => None,
+        }
+    }
+
+    /// Whether the step is an agreement.
+    pub fn is_agreement(&self) -> bool
+        ensures { result ≡ is_agreement_step self.now }
+    {
+        match &self.kept {
+            Kept::Other(step) => step.is_agreement(),
+            Kept::Send { .. } => false,
         }
     }
 }

@@ -37,7 +37,7 @@ given_at {X} give (e ∷ log) x h = pick (give e) refl h (given_at give log x)
     pick None is later rest = let found = rest later in (suc found.0, found.1, found.2, found.3)
 
 -- the group of a communicator that was made stays while a log goes on
-group_on : (n : ℕ) (log more : List Entry) (c : ℕ) (g : List ℕ) → group_of n log c ≡ Some g → group_of n (log ++ more) c ≡ Some g
+pub group_on : (n : ℕ) (log more : List Entry) (c : ℕ) (g : List ℕ) → group_of n log c ≡ Some g → group_of n (log ++ more) c ≡ Some g
 group_on n log [] c g h = rw (append-nil log) h
 group_on n log (e ∷ more) c g h = rw (← append_assoc log (e ∷ []) more) (group_on n (log ++ e ∷ []) more c g (group_stays n log e c g h))
 

@@ -41,3 +41,4 @@ pub mod Times
 pub mod Ordered
 pub mod SentBefore
 pub mod Excluded
+pub mod Whole

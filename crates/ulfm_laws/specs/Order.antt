@@ -14,7 +14,7 @@ use Rattle.ulfm_rank.specs.declared.entry.Entry.TheVariants.{Sent, Revoked, Adop
 use Rattle.ulfm_rank.specs.Facts.{is_revoked, is_stopped, revokes}
 use Rattle.ulfm_rank.specs.Proposal.{has_entered}
 use Rattle.ulfm_script.specs.Report.{Report}
-use Rattle.ulfm_laws.specs.Proposed.{IsProposedEarlier}
+use Rattle.ulfm_laws.specs.Proposed.{IsProposalEarlier, IsProposedEarlier}
 
 -- an item is a letter
 abbrev pub is_letter : Item → Bool
@@ -109,3 +109,9 @@ abbrev pub ExclusionsComeLater : List Report → (ℕ → ℕ → ℕ) → Type 
 ExclusionsComeLater reports time =
     (r k : ℕ) (told : Report) (d : Decision) (x : ℕ) → at reports r told → at told.rank.log k (Adopted d) → has d.excluded x ≡ true
     → HasStoppedBefore reports time x (time r k)
+
+-- each decision that is adopted is some rank's proposal, which it made earlier (ULFM, shrink and agree)
+abbrev pub DecisionsAreProposals : List Report → (ℕ → ℕ → ℕ) → Type 0
+DecisionsAreProposals reports time =
+    (r k : ℕ) (told : Report) (d : Decision) → at reports r told → at told.rank.log k (Adopted d)
+    → IsProposalEarlier (length reports) reports time (time r k) d

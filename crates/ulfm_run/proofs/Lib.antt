@@ -11,5 +11,6 @@ pub mod Paired
 pub mod Served
 pub mod Crossing
 pub mod Placed
+pub mod Decided
 pub mod Walked
 pub mod Stuck

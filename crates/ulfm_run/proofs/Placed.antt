@@ -6,6 +6,7 @@ use Rattle.ulfm_base.specs.declared.contribution.Contribution.{Contribution}
 use Rattle.ulfm_base.specs.declared.decision.Decision.{Decision}
 use Rattle.ulfm_base.specs.declared.topic.Topic.{Topic}
 use Rattle.ulfm_rank.specs.declared.entry.Entry.TheVariants.{Adopted}
+use Rattle.ulfm_script.specs.Deciding.{topic_of}
 use Rattle.ulfm_laws.specs.Proposed.{AdoptsAt, ProposesAt, ProposesBy}
 use Rattle.ulfm_run.proofs.Common.{at, cases_lt, Entry, Report, same_Some, slice_get_within}
 use Rattle.ulfm_run.specs.inside.Listed.{IsAdoption, IsListedAs, IsProposedByRank, IsProposedIn}
@@ -48,7 +49,7 @@ placed reports fronts d h = pick h.1.proposed
       reported = h.1.reported;
       place = s.1.at;
       walked = s.3.early;
-      made = record { within = s.3.within; asks = inr (record { number = s.0; step = s.1; stands = s.2; placed = refl; starves = s.3.starves }); proposes = s.3.proposes };
+      made = record { within = s.3.within; asks = inr (record { number = s.0; step = s.1; stands = s.2; placed = refl; about = s.3.about; starves = s.3.starves }); proposes = s.3.proposes };
     }
 
 -- and the other way round
@@ -69,6 +70,7 @@ by_place reports fronts d h =
                 record {
                   early = omega (arith, h.walked, s.placed);
                   within = omega (arith, made.within, s.placed);
+                  about = subst (λ k. topic_of (take k h.told.rank.log) s.step.step ≡ Some d.topic) (sym s.placed) s.about;
                   starves = s.starves;
                   proposes = subst (λ k. ProposesBy h.rank (take k h.told.rank.log) d) (sym s.placed) made.proposes;
                 },

@@ -7,6 +7,7 @@
 #![tactic(auto)]
 
 mod adopted;
+mod asking;
 mod at_work;
 mod comparing;
 mod finished;

@@ -3,6 +3,7 @@ ghost use Rattle.std.specs.Prelude.{◌≡◌, ◌≤◌, ◌↔◌, IsTrue, len
 ghost use Rattle.ulfm_run.specs.inside.Listed.{AdoptsHere, IsAdoptedWithin, IsAdoption, IsProposedByRank, IsProposedIn, IsStarvedWithin, StarvesHere};
 ghost use Rattle.ulfm_run.specs.inside.Walk.{IsProposedByWalked};
 
+use crate::asking::is_decided_on;
 use crate::listing::proposes_by;
 use crate::order::first;
 use ulfm_base::{CallError, Decision, Topic};
@@ -86,7 +87,7 @@ fn adopts_here(
     place <= front && adopts(entry, decision.topic) && proposes_by(me, first(log, place), decision)
 }
 
-/// Whether the rank `me` proposed a decision where a step found no memory to adopt one, up to this front.
+/// Whether the rank `me` proposed a decision where a step on its topic found no memory, up to this front.
 fn starves_on_it(
     me: usize,
     log: &[Entry],
@@ -104,7 +105,8 @@ fn starves_on_it(
     false
 }
 
-/// Whether a step found no memory at a place up to this front, and the rank `me` proposes a decision there.
+/// Whether a step that is decided on the topic of a decision found no memory at a place up to this front, and the rank `me` proposes
+/// the decision there.
 fn starves_here(
     me: usize,
     log: &[Entry],
@@ -117,6 +119,7 @@ fn starves_here(
     step.at <= front
         && step.at <= log.len()
         && starves(&step.answer)
+        && is_decided_on(&step.step, first(log, step.at), decision.topic)
         && proposes_by(me, first(log, step.at), decision)
 }
 

@@ -45,6 +45,13 @@ module _ (n : ℕ) (w : World) (r : ℕ) (comm : Context) (h : IsWorld w) (settl
         | inr b ↦ ap error_of (sym same ∙ b.refused)
       ]
 
+  -- the same by its answer
+  pub decided_starves : (players : List Player) (later : List (Option Decision)) (c : DecidesStep w.players w.decided r comm players later) (e : CallError) → c.decided.answer ≡ Refused e → e ≡ OutOfMemory
+  decided_starves players later c e is =
+      settled_starves players later c.decided.asked e (length (rank_at w r).log) (player_at w r).polls c
+      (ap (λ (ps : List Player). (player_in ps r).done) c.only ∙ ap (λ (p : Player). p.done) (player-same w.players r r c.after refl c.inside) ∙ ap (λ (p : Player). p.done) c.decided.only
+      ∙ ap (λ (a : StepAnswer). (player_at w r).done ++ step_report c.decided.asked a (length (rank_at w r).log) (player_at w r).polls ∷ []) is)
+
 pub settles-safely : {n : ℕ} (w : World) → IsWorld w → Settled n w → SettlesSafely w
 settles-safely {n} w h settled r comm new topic d k known = settled_safe n w r comm h settled k.1 topic d k.2 (ap (λ (x : World). known_at x.decided topic) (sym k.3) ∙ known)
 

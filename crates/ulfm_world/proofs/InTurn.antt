@@ -1,29 +1,19 @@
 -- A step that is decided keeps one order: its decision was proposed.
-use Rattle.std.proofs.Common.{◌≡◌, ℕ, ◌<◌, ◌++◌, true, List, [], ◌∷◌, length, set, refl, ap, sym, subst, ◌∙◌, arith, inl, inr, ◌⊎◌, Option, append-nil, length-append}
+use Rattle.std.proofs.Common.{◌≡◌, ℕ, ◌++◌, List, [], ◌∷◌, length, set, refl, ap, sym, subst, ◌∙◌, arith, inl, inr, ◌⊎◌, Option, Some, append-nil, length-append, take}
 use Rattle.std.proofs.Math.Seq.{take-length}
 use Rattle.ulfm_match.proofs.Histories.{get_here}
 use Rattle.ulfm_rank.specs.Proposal.{IsProposal}
-use Rattle.ulfm_rank.proofs.Grouped.{members_found}
 use Rattle.ulfm_script.specs.declared.answer.StepAnswer.TheVariants.{Agreed, Shrunk}
-use Rattle.ulfm_world.proofs.Common.{Adopted, Agree, AnswersAdoption, CallError, Context, DecidesStep, Decision, Entry, IsWorld, OutOfMemory, Player, Refused, Shrink, State, Step, StepAnswer, StepReport, Topic, World, at, group_of, is_member, logged, player_at, player_in, rank_at, some_from, step_report}
+use Rattle.ulfm_script.specs.Deciding.{topic_of}
+use Rattle.ulfm_world.proofs.Common.{Adopted, Agree, AnswersAdoption, CallError, Context, DecidesStep, Decision, Entry, IsWorld, Player, Refused, Shrink, State, Step, StepAnswer, StepReport, Topic, World, at, logged, player_at, step_report}
 use Rattle.ulfm_laws.specs.Proposed.{ProposesBy}
 use Rattle.ulfm_laws.proofs.Proposed.{proposes_by}
 use Rattle.ulfm_world.proofs.Adopting.{held_cases, later_cases}
 use Rattle.ulfm_world.proofs.Agreed.{Settled}
 use Rattle.ulfm_world.proofs.Changed.{player-same}
-use Rattle.ulfm_world.proofs.Decided.{settled_starves}
+use Rattle.ulfm_world.proofs.Decided.{decided_starves}
 use Rattle.ulfm_world.proofs.InOrder.{HaveOrder, IsGrown, Made, each_goes_on, grown-idle, log_in, made-now, made-set, order-set, ordered-set, steps_in}
 use Rattle.ulfm_world.proofs.Ordered.{GoesOn, IsMade, front_goes_on, made_still}
-
--- who is a member for a proposal is one of the engine's eight
-members_below : (n : ℕ) (w : World) (r : ℕ) → IsWorld w → Settled n w → r < length w.players → {topic : Topic} {d : Decision} → IsProposal n r (rank_at w r).log topic d → (m : ℕ) → is_member d.old m ≡ true → m < 8
-members_below n w r h settled inside {topic} p m member =
-    let i : r < n = omega (arith, inside, settled.size) in
-    let log : List Entry = (rank_at w r).log in
-    let made = some_from (group_of n log topic.context.number) ((settled.keeps r i).enters_made topic p.entered) in
-    let group = members_found n log topic.context.number made.0 made.1 in
-    let below = ((settled.keeps r i).belongs topic.context.number made.0 made.1).below m (ap (λ (g : List ℕ). is_member g m) (sym group ∙ sym p.old_group) ∙ member) in
-    omega (arith, below, h.small, settled.size)
 
 -- an adoption is refused and changes nothing, or it adds its entry
 adoption_cases : (r : State) (asked : Step) (topic : Topic) (held : Decision) (answer : StepAnswer) (new : State) → AnswersAdoption r asked topic held answer new → ((e : CallError) × (answer ≡ Refused e) × (new ≡ r)) ⊎ (new ≡ logged r (Adopted held))
@@ -56,13 +46,6 @@ module _ (n : ℕ) (w : World) (r : ℕ) (comm : Context) (players : List Player
   log_here : log_in new r ≡ c.decided.rank.log
   log_here = ap (λ (p : Player). p.rank.log) (player-same w.players r r c.after refl c.inside) ∙ ap (λ (p : Player). p.rank.log) c.decided.only
 
-  -- why the answer isn't the decision
-  refused_here : (e : CallError) → c.decided.answer ≡ Refused e → e ≡ OutOfMemory
-  refused_here e is =
-      settled_starves n w r comm h settled players later c.decided.asked e (length (player_at w r).rank.log) (player_at w r).polls c
-      (ap (λ (ps : List Player). (player_in ps r).done) c.only ∙ ap (λ (p : Player). p.done) (player-same w.players r r c.after refl c.inside) ∙ more_steps.1
-      ∙ ap (λ (a : StepAnswer). (player_at w r).done ++ step_report c.decided.asked a (length (player_at w r).rank.log) (player_at w r).polls ∷ []) is)
-
   -- its proposal was made, where the log got the decision or no memory was found
   mine : (log_in new r ≡ (player_at w r).rank.log) ⊎ (log_in new r ≡ (player_at w r).rank.log ++ Adopted c.decided.decision.proposal ∷ []) → ((log_in new r ≡ (player_at w r).rank.log) → (e : CallError) × (c.decided.answer ≡ Refused e)) → MadeNow c.decided.decision.proposal
   mine log refused =
@@ -73,6 +56,7 @@ module _ (n : ℕ) (w : World) (r : ℕ) (comm : Context) (players : List Player
       let counted : (player_at w r).rank.ranks ≡ n = h.counted r c.inside ∙ settled.size in
       let proposed : IsProposal n r before d.decision.topic proposal = rw (counted, named) at (d.decision.proposed) in
       let more : GoesOn before (log_in new r) = elim log [ inl same ↦ ([], same ∙ sym (append-nil before)) | inr one ↦ (Adopted proposal ∷ [], one) ] in
+      let front : take (length before) (log_in new r) ≡ before = front_goes_on before (log_in new r) more (length before) (omega arith) ∙ take-length before in
       record {
         rank = r;
         inside = c.inside;
@@ -83,11 +67,18 @@ module _ (n : ℕ) (w : World) (r : ℕ) (comm : Context) (players : List Player
           asks = elim log [
             | inl same ↦
                 let why = refused same in
-                inr (record { number = length (player_at w r).done; step = report; stands = answer_stands; placed = refl; starves = why.1 ∙ ap (λ (e : CallError). Refused e) (refused_here why.0 why.1) })
+                inr (record {
+                  number = length (player_at w r).done;
+                  step = report;
+                  stands = answer_stands;
+                  placed = refl;
+                  about = ap (λ (xs : List Entry). topic_of xs d.asked) front ∙ d.decision.about ∙ ap Some (sym proposed.about);
+                  starves = why.1 ∙ ap (λ (e : CallError). Refused e) (decided_starves n w r comm h settled players later c why.0 why.1);
+                })
             | inr one ↦ inl (record { held = proposal; stands = subst (λ (xs : List Entry). at xs (length before) (Adopted proposal)) (sym one) (get_here before (Adopted proposal) []); about = refl })
           ];
-          proposes = subst (λ (xs : List Entry). ProposesBy r xs proposal) (sym (front_goes_on before (log_in new r) more (length before) (omega arith) ∙ take-length before))
-              (proposes_by n r before d.decision.topic proposal (members_below n w r h settled c.inside proposed) proposed);
+          proposes = subst (λ (xs : List Entry). ProposesBy r xs proposal) (sym front)
+              (proposes_by n r before d.decision.topic proposal proposed);
         };
       }
 

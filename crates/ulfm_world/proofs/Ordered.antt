@@ -1,10 +1,11 @@
 -- Logs that have one order, in which each item is owed as it is taken, and each decision proposed as it is adopted.
-use Rattle.std.proofs.Common.{◌≡◌, ◌≢◌, ◌<◌, ◌≤◌, ◌+◌, ◌⊎◌, ℕ, List, [], ◌∷◌, ◌++◌, length, take, ap, sym, subst, ◌∙◌, inl, inr, arith, length-append}
+use Rattle.std.proofs.Common.{◌≡◌, ◌≢◌, ◌<◌, ◌≤◌, ◌+◌, ◌⊎◌, ℕ, List, [], ◌∷◌, ◌++◌, Some, length, take, ap, sym, subst, ◌∙◌, inl, inr, arith, length-append}
 use Rattle.std.specs.Prelude.{⊤}
 use Rattle.std.proofs.lemmas.List.{take-append-le}
 use Rattle.ulfm_match.proofs.Cut.{get_front}
 use Rattle.ulfm_laws.specs.Order.{Owe}
 use Rattle.ulfm_laws.specs.Proposed.{ProposesAt, ProposesBy}
+use Rattle.ulfm_script.specs.Deciding.{topic_of}
 use Rattle.ulfm_world.proofs.Common.{Adopted, Decision, Entry, Item, StepReport, Took, WorldRank, at, slice_get_within}
 
 -- an item that was taken is owed earlier, by entries that are there
@@ -76,6 +77,7 @@ made_still {n} {front} {old} {new} {answered} {later} logs steps {d} h =
                 step = s.step;
                 stands = subst (λ (xs : List StepReport). at xs s.number s.step) (sym (steps r).1) (get_front (answered r) (steps r).0 s.number s.step s.stands);
                 placed = s.placed;
+                about = subst (λ (log : List Entry). topic_of log s.step.step ≡ Some d.topic) (sym (front_goes_on (old r) (new r) more h.place made.within)) s.about;
                 starves = s.starves;
               })
         ];

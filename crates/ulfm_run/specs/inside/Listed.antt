@@ -1,5 +1,5 @@
 -- That a rank proposed a decision at a place of its log, by what tells of it there.
-use Rattle.std.specs.Prelude.{◌≡◌, ℕ, true, List, ◌<◌, ◌≤◌, ◌||◌, ◌⊎◌, length, take, slice_index}
+use Rattle.std.specs.Prelude.{◌≡◌, ℕ, true, List, ◌<◌, ◌≤◌, ◌||◌, ◌⊎◌, Some, length, take, slice_index}
 use Rattle.std.specs.List.{list_any}
 use Rattle.ulfm_base.specs.declared.decision.Decision.{Decision}
 use Rattle.ulfm_base.specs.declared.error.CallError.TheVariants.{OutOfMemory}
@@ -14,6 +14,7 @@ use Rattle.ulfm_rank.specs.Facts.{is_gone}
 use Rattle.ulfm_rank.specs.Proposal.{listed_of}
 use Rattle.ulfm_script.specs.declared.answer.StepAnswer.TheVariants.{Refused}
 use Rattle.ulfm_script.specs.declared.answer.StepReport.{StepReport}
+use Rattle.ulfm_script.specs.Deciding.{topic_of}
 use Rattle.ulfm_script.specs.Report.{Report}
 use Rattle.ulfm_laws.specs.Proposed.{ProposesBy}
 
@@ -40,10 +41,11 @@ pub record AdoptsHere (me : ℕ) (log : List Entry) (front : ℕ) (d : Decision)
   pub adopts : IsAdoption entry d.topic
   pub proposes : ProposesBy me (take place log) d
 
--- a step found no memory at a place up to this front, and the rank `me` proposes a decision there
+-- a step that is decided on the topic of a decision found no memory at a place up to this front, and the rank `me` proposes the decision there
 pub record StarvesHere (me : ℕ) (log : List Entry) (front : ℕ) (d : Decision) (step : StepReport) : Type 0 where
   pub early : step.at ≤ front
   pub within : step.at ≤ length log
+  pub about : topic_of (take step.at log) step.step ≡ Some d.topic
   pub starves : step.answer ≡ Refused OutOfMemory
   pub proposes : ProposesBy me (take step.at log) d
 

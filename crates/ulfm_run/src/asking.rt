@@ -1,0 +1,86 @@
+//! On what a step of a rank is decided, by the rank's log (ULFM, shrink and agree).
+ghost use Rattle.std.specs.Prelude.{◌≡◌, ◌↔◌, IsTrue, Some};
+ghost use Rattle.ulfm_base.specs.Topic.{is_agreement};
+ghost use Rattle.ulfm_rank.specs.Proposal.{agreements, enters_agreement, last_agreement};
+ghost use Rattle.ulfm_script.specs.Deciding.{topic_of};
+
+use ulfm_base::{Context, Purpose, Topic};
+use ulfm_job::NotedStep;
+use ulfm_rank::Entry;
+
+/// Whether a step of a rank with this log is decided on a topic.
+pub(crate) fn is_decided_on(step: &NotedStep, log: &[Entry], topic: Topic) -> bool
+    ensures { IsTrue result ↔ (topic_of log.now step.now ≡ Some topic) }
+{
+    match topic_of(step, log) {
+        Some(own) => are_same(own, topic),
+        None => false,
+    }
+}
+
+/// Whether two topics are the same.
+#[tactic(auto, using(crate::proofs::Placed::one_topic))]
+fn are_same(one: Topic, other: Topic) -> bool
+    ensures { IsTrue result ↔ (one ≡ other) }
+{
+    one.is_same(other)
+}
+
+/// On what a step of a rank with this log is decided, if it is a shrink or an agreement.
+#[tactic(auto, using(crate::proofs::Decided::shrink_topic_of, crate::proofs::Decided::agreement_topic_of, crate::proofs::Decided::no_topic_of))]
+fn topic_of(step: &NotedStep, log: &[Entry]) -> Option<Topic>
+    ensures { result ≡ topic_of log.now step.now }
+{
+    let context = step.decides_on()?;
+    if step.is_agreement() {
+        return Some(last_agreement(log, context));
+    }
+    Some(Topic {
+        context,
+        purpose: Purpose::Shrink,
+    })
+}
+
+/// The agreement on a communicator that a log entered last.
+fn last_agreement(log: &[Entry], context: Context) -> Topic
+    ensures { result ≡ last_agreement log.now context }
+{
+    let entered = agreements(log, context) as u64;
+    Topic {
+        context,
+        purpose: Purpose::Agree {
+            round: entered.saturating_sub(1),
+        },
+    }
+}
+
+/// How many agreements on a communicator a log entered.
+fn agreements(log: &[Entry], context: Context) -> usize
+    ensures { result ≡ agreements log.now context.number }
+{
+    log.iter()
+        .filter(|entry| enters_agreement(entry, context))
+        .count()
+}
+
+/// Whether an entry enters an agreement on a communicator.
+fn enters_agreement(entry: &Entry, context: Context) -> bool
+    ensures { result ≡ enters_agreement context.number entry.now }
+{
+    match entry {
+        Entry::Entered(entrance) => {
+            entrance.topic.context.number == context.number && is_agreement(entrance.topic.purpose)
+        }
+        _ => false,
+    }
+}
+
+/// Whether a purpose is an agreement.
+fn is_agreement(purpose: Purpose) -> bool
+    ensures { result ≡ is_agreement purpose }
+{
+    match purpose {
+        Purpose::Shrink => false,
+        Purpose::Agree { .. } => true,
+    }
+}
