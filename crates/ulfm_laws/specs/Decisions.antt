@@ -1,9 +1,10 @@
 -- What ranks that shrank or agreed have in common (ULFM, shrink and agree).
-use Rattle.std.specs.Prelude.{◌≡◌, ⊤, ℕ, true, List, Option, Some}
+use Rattle.std.specs.Prelude.{◌≡◌, ◌≢◌, ⊤, ℕ, true, List, Option, Some}
 use Rattle.ulfm_base.specs.declared.contribution.Contribution.{Contribution}
 use Rattle.ulfm_base.specs.declared.entrance.Entrance.{Entrance}
 use Rattle.ulfm_base.specs.declared.topic.Topic.{Topic}
 use Rattle.ulfm_base.specs.declared.decision.Decision.{Decision}
+use Rattle.ulfm_base.specs.declared.error.CallError.TheVariants.{NotMember}
 use Rattle.ulfm_base.specs.declared.rank_set.RankSet.{RankSet}
 use Rattle.ulfm_base.specs.Decision.{entry_at}
 use Rattle.ulfm_base.specs.Group.{is_member}
@@ -19,6 +20,8 @@ use Rattle.ulfm_rank.specs.State.{State}
 use Rattle.ulfm_script.specs.Answered.{StoodAt}
 use Rattle.ulfm_script.specs.Deciding.{Known}
 use Rattle.ulfm_script.specs.Report.{Report}
+use Rattle.ulfm_script.specs.declared.answer.StepAnswer.TheVariants.{Refused}
+use Rattle.ulfm_script.specs.declared.answer.StepReport.{StepReport}
 use Rattle.ulfm_laws.specs.Reports.{IsRunning, HasStopped, HasMade, HasAdopted}
 
 -- A decision of a rank is the one that its decider knows, is about the group that the rank had at some place of its log, and
@@ -96,6 +99,10 @@ abbrev pub HasOneGroup : List Report → Type 0
 HasOneGroup reports =
     (r s c : ℕ) (report other : Report) → at reports r report → at reports s other → HasMade report c → HasMade other c
     → group_at report.rank c ≡ group_at other.rank c
+
+-- no step is refused since the decision isn't one for its rank to adopt
+abbrev pub NoneIsForeign : List Report → Type 0
+NoneIsForeign reports = (r k : ℕ) (report : Report) (step : StepReport) → at reports r report → at report.steps k step → step.answer ≢ Refused NotMember
 
 -- each running rank of this group entered a topic
 abbrev pub AllEntered : List Report → List ℕ → Topic → Type 0

@@ -5,7 +5,7 @@ ghost use Rattle.ulfm_laws.specs.Flow.{Flows};
 ghost use Rattle.ulfm_laws.specs.Order.{HaveOneOrder};
 ghost use Rattle.ulfm_laws.specs.Reader.{AllHasCome, ComeAsSent, DoneIsGiven, DonesDiffer, FoundIsGiven, GivesOnce, HasOnePairing, IsFaithful, LettersKeepOrder, NoneIsMissed, OverIsTrue, ReceivesKeepOrder};
 ghost use Rattle.ulfm_laws.specs.Rest.{KnowsStopped, AgreesOnRevoked};
-ghost use Rattle.ulfm_laws.specs.Decisions.{AdoptOne, HasOneGroup, ProposesEach};
+ghost use Rattle.ulfm_laws.specs.Decisions.{AdoptOne, HasOneGroup, NoneIsForeign, ProposesEach};
 ghost use Rattle.ulfm_world.specs.declared.event.Event.{Event};
 ghost use Rattle.ulfm_world.specs.declared.room.Room.{Room};
 ghost use Rattle.ulfm_world.specs.declared.room.Room.TheVariants.{PerInbox};
@@ -161,6 +161,12 @@ pub fn adopted_as_held()
 /// Whatever events come, a shrink or an agreement that is decided is refused by out of memory alone (ULFM, shrink and agree).
 pub fn adoption_starves_alone()
     ensures { (n : ℕ) (room : Room) (w : World) → n ≤ 8 → Reaches (start_world n room) w → StarvesAlone w }
+{}
+
+/// Whatever events come, no shrink and no agreement is refused since the decision isn't one for its rank to adopt (ULFM, shrink and agree).
+pub fn none_is_foreign()
+    ensures worlds { InEachWorld NoneIsForeign }
+    ensures replays { InEachReplay NoneIsForeign }
 {}
 
 /// Whatever events come, decisions that ranks adopted on one topic are equal (ULFM, shrink and agree).

@@ -31,8 +31,8 @@ pub use laws::{
     adopted_as_held, adoption_starves_alone, agreed_at_rest, all_come_at_rest, decided_safely,
     each_done_was_sent, each_found_was_sent, each_over_is_true, entered_once, flows,
     gone_has_stopped, known_at_rest, letters_are_given_once, letters_come_as_sent,
-    letters_keep_order, made_safely, no_match_is_missed, one_decision, one_group, one_order,
-    one_pairing_each, proposed_at_rest, receives_keep_order, reports_are_faithful,
+    letters_keep_order, made_safely, no_match_is_missed, none_is_foreign, one_decision, one_group,
+    one_order, one_pairing_each, proposed_at_rest, receives_keep_order, reports_are_faithful,
     revoked_by_a_rank, rings_give_all, settled_safely,
 };
 pub use line::SweepLine;
