@@ -33,6 +33,7 @@ pub mod Pairings
 pub mod Probing
 pub mod Found
 pub mod Logs
+pub mod Outgrown
 pub mod Firsts
 pub mod Told
 pub mod Grouped

@@ -7,4 +7,5 @@ pub mod Reacting
 pub mod Script
 pub mod Played
 pub mod Answered
+pub mod Fed
 pub mod inside

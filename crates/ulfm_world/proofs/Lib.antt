@@ -42,3 +42,4 @@ pub mod Lawful
 pub mod Swept
 pub mod Often
 pub mod Rings
+pub mod Never

@@ -4,6 +4,8 @@ pub mod Parts
 pub mod Flow
 pub mod Rest
 pub mod Made
+pub mod Sound
+pub mod Never
 pub mod Safe
 pub mod Rings
 pub mod Each

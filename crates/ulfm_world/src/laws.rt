@@ -12,6 +12,7 @@ ghost use Rattle.ulfm_world.specs.declared.room.Room.TheVariants.{PerInbox};
 ghost use Rattle.ulfm_world.specs.Each.{InEachReplay, InEachWorld};
 ghost use Rattle.ulfm_world.specs.Made.{MadeSafely};
 ghost use Rattle.ulfm_world.specs.Flow.{IsWorld};
+ghost use Rattle.ulfm_world.specs.Never.{RefusedNeverHappens};
 ghost use Rattle.ulfm_world.specs.Rest.{IsAtRest};
 ghost use Rattle.ulfm_world.specs.Rings.{HappensOnRings, IsRunOnRings};
 ghost use Rattle.ulfm_world.specs.Safe.{EntersOnce, DecidesSafely, SettlesSafely, AdoptsHeld, StarvesAlone};
@@ -190,4 +191,9 @@ pub fn proposed_at_rest()
 pub fn rings_give_all()
     ensures each { (w : World) (event : Event) (new : World) → IsWorld w → Happens w event new → HappensOnRings w event new }
     ensures schedules { (n capacity : ℕ) (events : List Event) (w : World) → n ≤ 8 → Run (start_world n (PerInbox capacity)) events w → IsRunOnRings n capacity events w }
+{}
+
+/// What is refused doesn't happen, but where memory runs out.
+pub fn refused_never_happens()
+    ensures { RefusedNeverHappens }
 {}

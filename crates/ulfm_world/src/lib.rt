@@ -32,8 +32,8 @@ pub use laws::{
     each_done_was_sent, each_found_was_sent, each_over_is_true, entered_once, flows,
     gone_has_stopped, known_at_rest, letters_are_given_once, letters_come_as_sent,
     letters_keep_order, made_safely, no_match_is_missed, none_is_foreign, one_decision, one_group,
-    one_order, one_pairing_each, proposed_at_rest, receives_keep_order, reports_are_faithful,
-    revoked_by_a_rank, rings_give_all, settled_safely,
+    one_order, one_pairing_each, proposed_at_rest, receives_keep_order, refused_never_happens,
+    reports_are_faithful, revoked_by_a_rank, rings_give_all, settled_safely,
 };
 pub use line::SweepLine;
 pub use room::Room;
