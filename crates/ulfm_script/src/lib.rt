@@ -31,6 +31,7 @@ pub use fault::RunFault;
 pub use hands::{Hands, turn};
 pub use player::Player;
 pub use putting::numbers_of;
+pub use receiving::{message_at, request_at};
 pub use report::RankReport;
 pub use trace::{push_answer, trace_text};
 pub use ulfm_job::{Clause, Condition, Fault, Job, JobFault, NotedStep, Step, Text};
