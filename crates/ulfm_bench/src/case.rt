@@ -1,5 +1,4 @@
 //! Letters and receives in which the matcher has to look far: the first receive asks for what came last.
-ghost use Rattle.std.specs.Prelude.{◌<◌};
 
 use ulfm_base::{Context, Envelope, Pattern, RankSet, Source, Tag, WorldRank};
 

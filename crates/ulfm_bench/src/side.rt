@@ -1,5 +1,5 @@
 //! A rank at its end of a way: whole letters, with their calls, turns and matching.
-ghost use Rattle.std.specs.Prelude.{◌≡◌, ◌<◌, IsTrue, IfSome};
+ghost use Rattle.std.specs.Prelude.{◌<◌, IsTrue, IfSome};
 ghost use Rattle.ulfm_rank.specs.Calls.{IsFrom};
 ghost use Rattle.ulfm_rank.specs.State.{has_way_back, MayReturn};
 

@@ -1,6 +1,6 @@
 //! The text of a job, written out.
 ghost use Rattle.std.specs.Prelude.{◌≡◌, ◌<◌, Some, map, option_map, IfOk};
-ghost use Rattle.toml.specs.View.{table_view, view};
+ghost use Rattle.toml.specs.View.{table_view};
 ghost use Rattle.ulfm_expand.specs.Documents.{lines_in, ranks_in, ranks_or_eight, with_lines, written_job};
 ghost use Rattle.ulfm_expand.specs.Lines.{line_view};
 

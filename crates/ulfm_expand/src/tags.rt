@@ -1,6 +1,5 @@
 //! The tag of a step in an iteration of its block.
-ghost use Rattle.std.specs.Prelude.{◌≡◌, ◌≤◌, Some, IfOk, IfSome};
-ghost use Rattle.std.specs.Option.{option_map};
+ghost use Rattle.std.specs.Prelude.{◌≡◌, ◌≤◌, IfOk, IfSome};
 ghost use Rattle.toml.specs.View.{view};
 ghost use Rattle.ulfm_expand.specs.Iterations.{added, digits_from, tag_by};
 

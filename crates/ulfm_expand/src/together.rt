@@ -1,6 +1,5 @@
 //! What has to hold beside the condition that a step has of its own.
-ghost use Rattle.std.specs.Prelude.{◌≡◌, ◌∷◌, ◌++◌, map, option_map, codes, IfOk, OnOk};
-ghost use Rattle.toml.specs.Data.{table};
+ghost use Rattle.std.specs.Prelude.{◌≡◌, ◌++◌, map, option_map, codes, IfOk, OnOk};
 ghost use Rattle.toml.specs.View.{table_view, view};
 ghost use Rattle.ulfm_expand.specs.Members.{list_at};
 ghost use Rattle.ulfm_expand.specs.Together.{all_with, alternative_with, asks_with, condition_with, conditions_with, joined, together};

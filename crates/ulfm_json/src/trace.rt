@@ -2,7 +2,6 @@
 ghost use Rattle.std.specs.Prelude.{◌≡◌, ◌++◌, option_map, IfOk, OnOk, string_bytes};
 ghost use Rattle.std.specs.Option.{option_copied};
 ghost use Rattle.toml.specs.View.{items_view};
-ghost use Rattle.ulfm_json.specs.Names.{document_in, step_tables};
 ghost use Rattle.ulfm_json.specs.Trace.{end_json, head_json, name_json, rank_json, step_json, steps_json, trace_json};
 
 use crate::answer::push_answer;

@@ -1,5 +1,5 @@
 //! From words and bytes to a status and bytes.
-ghost use Rattle.std.specs.Prelude.{◌≢◌, ◌≡◌, ◌≤◌, ◌⊎◌, [], None, false, map, option_map, take, IfSome, IsTrue};
+ghost use Rattle.std.specs.Prelude.{◌≢◌, ◌≡◌, ◌≤◌, ◌⊎◌, [], false, map, option_map, take, IfSome, IsTrue};
 ghost use Rattle.std.specs.Io.KnownBytes.{Keeps, Appends};
 ghost use Rattle.ulfm_program.specs.Replies.{IsReplyTo, IsWhole, GetsReply, GetsBeginning, GetsFront, not_text};
 ghost use Rattle.ulfm_program.specs.inside.Writing.{GetsFrontOf};

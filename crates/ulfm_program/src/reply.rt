@@ -1,5 +1,5 @@
 //! The reply to a job's bytes.
-ghost use Rattle.std.specs.Prelude.{◌≡◌, IfOk, option_map, string_bytes};
+ghost use Rattle.std.specs.Prelude.{IfOk, option_map, string_bytes};
 ghost use Rattle.ulfm_program.specs.Replies.{IsReplayReply, IsReplyTo};
 ghost use Rattle.ulfm_replies.specs.CommandLine.{AreTurns, HasRanges};
 

@@ -2,7 +2,7 @@
 ghost use Rattle.std.specs.Prelude.{◌≡◌, map};
 ghost use Rattle.std.specs.List.{list_any};
 ghost use Rattle.ulfm_job.specs.Begins.{begins, ends_word};
-ghost use Rattle.ulfm_reader.specs.Beginnings.{begin_alike, is_alike, is_front, may_answer, may_ask, may_expect, not_answered, own_answers, refusals};
+ghost use Rattle.ulfm_reader.specs.Beginnings.{begin_alike, is_alike, is_front, may_answer, may_ask, may_expect, own_answers, refusals};
 ghost use Rattle.ulfm_reader.specs.Plan.{order_of};
 
 use ulfm_job::Step;

@@ -1,6 +1,6 @@
 //! Words that answers begin with, and what a step expects of its own answer.
 ghost use Rattle.std.specs.Prelude.{◌≡◌, ◌≤◌, [], OnOk, codes, length, true};
-ghost use Rattle.toml.specs.Data.{as_str, as_array, get_member};
+ghost use Rattle.toml.specs.Data.{as_str, get_member};
 ghost use Rattle.toml.specs.View.{view, table_view, items_view};
 ghost use Rattle.ulfm_reader.specs.JobText.{Gives, in_step};
 ghost use Rattle.ulfm_reader.specs.Plan.{order_of};

@@ -1,5 +1,5 @@
 //! The keys of a job's table.
-ghost use Rattle.std.specs.Prelude.{◌≡◌, IfOk, Ok, is_some};
+ghost use Rattle.std.specs.Prelude.{◌≡◌, IfOk, is_some};
 ghost use Rattle.std.specs.List.{list_all};
 ghost use Rattle.toml.specs.Data.{as_table};
 ghost use Rattle.toml.specs.View.{view, table_view, items_view};

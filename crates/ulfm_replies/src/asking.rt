@@ -1,5 +1,5 @@
 //! What a job's text asks of the answers of all ranks.
-ghost use Rattle.std.specs.Prelude.{◌≡◌, ◌&&◌};
+ghost use Rattle.std.specs.Prelude.{◌≡◌};
 ghost use Rattle.std.specs.List.{list_all, list_any};
 ghost use Rattle.ulfm_reader.specs.JobText.{rows_of};
 ghost use Rattle.ulfm_replies.specs.Asking.{as_asked, has_come, holds_among, is_looked_at};

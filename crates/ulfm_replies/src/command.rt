@@ -1,6 +1,6 @@
 //! The command line.
 ghost use Rattle.std.specs.Prelude.{◌≡◌, [], codes, Some, map, option_map, unwrap_or, IfOk, IfSome};
-ghost use Rattle.clap.specs.Words.{FailsBy, all_of, first_of, found_of, kind_of, rows_of, subcommand_rows_of};
+ghost use Rattle.clap.specs.Words.{FailsBy, all_of, first_of, found_of, rows_of, subcommand_rows_of};
 ghost use Rattle.ulfm_replies.specs.CommandLine.{AreInRange, HasRanges, asked, carrier_named, faults, form_asked, form_in, form_of, AreTurns, files_in, meant, named, named_at, run_options, show_asked, show_in, turns_in};
 
 use crate::flagged::{is_flagged, is_strict, style_of};

@@ -1,6 +1,6 @@
 //! The reply of `places`: a line for each place of a job.
-ghost use Rattle.std.specs.Prelude.{◌≡◌, ◌<◌, ◌≤◌, ◌++◌, IfOk, OnOk, string_bytes};
-ghost use Rattle.ulfm_replies.specs.Places.{IsPlacesReply, place_json, place_line, place_line_in, places_in};
+ghost use Rattle.std.specs.Prelude.{◌≡◌, ◌++◌, IfOk, OnOk, string_bytes};
+ghost use Rattle.ulfm_replies.specs.Places.{IsPlacesReply, place_line_in, places_in};
 
 use crate::reply::{DONE, Reply, refusal};
 use std::alloc::{AllocError, Global};

@@ -1,9 +1,9 @@
 //! Ends and deciders that don't fit a job.
-ghost use Rattle.std.specs.Prelude.{◌≡◌, map, vec_len, IfOk};
+ghost use Rattle.std.specs.Prelude.{vec_len, IfOk};
 ghost use Rattle.ulfm_carrier.specs.declared.lane_ends.LaneEnds.{LaneEnds as Lanes};
 ghost use Rattle.ulfm_carrier.specs.Family.{AllFresh};
 ghost use Rattle.ulfm_base.specs.Lists.{InPlace};
-ghost use Rattle.ulfm_carrier.specs.Lanes.{lane_name, lane_pushed, lane_taken, IsReady, OneCall};
+ghost use Rattle.ulfm_carrier.specs.Lanes.{lane_pushed, lane_taken, IsReady};
 
 use std::alloc::Global;
 use std::sync::Wait;

@@ -1,5 +1,5 @@
 //! Runs by decisions that nobody proposed.
-ghost use Rattle.std.specs.Prelude.{◌≡◌, ◌<◌, ◌++◌, ℕ, All, IfOk, OnErr, Some, length, map, slice_set, vec_len};
+ghost use Rattle.std.specs.Prelude.{◌≡◌, ◌<◌, All, IfOk, Some, length, slice_set};
 ghost use Rattle.ulfm_board.specs.Known.{nothing_known, OneBoard};
 
 use std::alloc::Global;
