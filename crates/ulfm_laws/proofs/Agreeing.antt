@@ -20,7 +20,7 @@ use Rattle.ulfm_script.specs.Calls.{EntersBy}
 use Rattle.ulfm_script.specs.Deciding.{missing_in}
 use Rattle.ulfm_script.proofs.Entrances.{added_at, entered_by_step, EntersAt, IsAnswered, nth_answered}
 use Rattle.ulfm_script.proofs.Rounds.{same_round}
-use Rattle.ulfm_laws.specs.Agreement.{AgreeOnOne, AgreesRightly, BroughtFlag, flag_in, IsAgreed, AgreementsAreTrue, round_at, TellsValue}
+use Rattle.ulfm_laws.specs.Agreement.{AgreeOnOne, AgreesRightly, BroughtFlag, flag_in, IsAgreed, AgreementsAreTrue, round_at, TellsValue, ToldValue}
 use Rattle.ulfm_laws.specs.Decisions.{AreTrue, EnteredWith, HasEntered, IsTrueOf}
 use Rattle.ulfm_laws.proofs.Arrivals.{read_at}
 use Rattle.ulfm_laws.proofs.Proposing.{AllKeep}
@@ -146,50 +146,51 @@ module _ (reports : List Report) where
           let same : brought.0 ≡ e.contribution = same_Some _ _ (sym theirs ∙ ap (λ t. first_given (entry_of t) told.rank.log) about ∙ mine) in
           ap flag_in brought.1 ∙ ap (λ (c : Contribution). c.flag) same ∙ entered.enters.enters.brings
 
-      module _ (r k flag value : ℕ) (comm : Context) (missing : List ℕ) (told : Report) (here : at reports r told) (said : StepAnswer) (asked : IsStep told k (Agree flag comm) said) (tells : TellsValue said value missing) where
-        agreed : IsAgreed reports r k flag comm value missing
+      module _ (t : ToldValue reports) (told : Report) (here : at reports t.rank told) (asked : IsStep told t.step (Agree t.flag t.comm) t.said) where
+        agreed : IsAgreed reports t
         agreed =
-            let f = follow r told here in
-            let x = step_report (Agree flag comm) said asked.at asked.polls in
-            let n = nth_answered f.0 told f.1 k x asked.stands in
+            let f = follow t.rank told here in
+            let x = step_report (Agree t.flag t.comm) t.said asked.at asked.polls in
+            let n = nth_answered f.0 told f.1 t.step x asked.stands in
             let a = n.0 in
             let h = a.follows in
-            let d = decided_by f.0 told.rank a.done a.from a.to flag comm value missing asked.at asked.polls said tells h in
+            let d = decided_by f.0 told.rank a.done a.from a.to t.flag t.comm t.value t.missing asked.at asked.polls t.said t.tells h in
             let adopted = added_at told.rank asked.at a.to h.old h.new (Adopted d.held) h.stood h.stood_next d.only in
-            let true_of : IsTrueOf reports d.held = truly r told here asked.at (Adopted d.held) adopted in
+            let true_of : IsTrueOf reports d.held = truly t.rank told here asked.at (Adopted d.held) adopted in
             let checks = all_pass (adopt_checks h.old d.topic d.held) d.passes in
             let affair = own_from h.old.me (group_at h.old d.topic.context.number) h.old.log d.topic d.held checks.1.1.1.1.0 in
             let enters = d.entered.enters in
-            let next : next_agreement d.entered.old.log comm ≡ d.topic = same_Some _ d.topic enters.about in
-            let in_round = in_turn f.0 told.rank a.done a.from d.entered.place d.entered.old comm a.before d.entered.took_before d.entered.stood enters.accepted ∙ round_here told a.done a.rest x comm a.whole ∙ ap (λ j. round_at told j comm) n.1 in
-            let topic : d.held.topic ≡ agreement_topic comm (round_at told k comm) = affair.about ∙ sym next ∙ ap (agreement_topic comm) in_round in
-            let me : h.old.me ≡ r = h.stood.me ∙ order r told here in
+            let next : next_agreement d.entered.old.log t.comm ≡ d.topic = same_Some _ d.topic enters.about in
+            let in_round = in_turn f.0 told.rank a.done a.from d.entered.place d.entered.old t.comm a.before d.entered.took_before d.entered.stood enters.accepted ∙ round_here told a.done a.rest x t.comm a.whole ∙ ap (λ j. round_at told j t.comm) n.1 in
+            let topic : d.held.topic ≡ agreement_topic t.comm (round_at told t.step t.comm) = affair.about ∙ sym next ∙ ap (agreement_topic t.comm) in_round in
+            let me : h.old.me ≡ t.rank = h.stood.me ∙ order t.rank told here in
             record {
               decision = d.held;
-              adopted = rw (read_at reports r here) (asked.at, adopted);
-              topic = rw (read_at reports r here) topic;
-              group = rw (read_at reports r here) (affair.old_group ∙ ap (λ (t : Topic). group_at h.old t.context.number) (sym next) ∙ group_later told.rank h.old asked.at comm.number h.stood (ap (λ (t : Topic). is_made h.old.ranks h.old.log t.context.number) next ∙ not-false _ checks.1.0));
-              is_value = same_Some _ _ (sym d.is_value ∙ d.held.lawful.and_of_flags ∙ ap (λ (t : Topic). value_of t.purpose d.held.entries) topic);
+              adopted = rw (read_at reports t.rank here) (asked.at, adopted);
+              topic = rw (read_at reports t.rank here) topic;
+              group = rw (read_at reports t.rank here) (affair.old_group ∙ ap (λ (u : Topic). group_at h.old u.context.number) (sym next) ∙ group_later told.rank h.old asked.at t.comm.number h.stood (ap (λ (u : Topic). is_made h.old.ranks h.old.log u.context.number) next ∙ not-false _ checks.1.0));
+              is_value = same_Some _ _ (sym d.is_value ∙ d.held.lawful.and_of_flags ∙ ap (λ (u : Topic). value_of u.purpose d.held.entries) topic);
               is_missing = d.is_missing;
-              own = own_flag r flag a.from asked.at comm d.topic told here d.entered d.held true_of (affair.about ∙ sym enters.enters.about) (ap (is_member d.held.fresh) (sym me) ∙ affair.member);
+              own = own_flag t.rank t.flag a.from asked.at t.comm d.topic told here d.entered d.held true_of (affair.about ∙ sym enters.enters.about) (ap (is_member d.held.fresh) (sym me) ∙ affair.member);
               listed = λ m bits listed.
                   let c = flag_some (entry_at d.held.entries m) bits listed in
-                  rw (read_at reports r here) (brought_by m comm (round_at told k comm) bits c.0 c.2 (subst (λ t. EnteredWith reports m t c.0) topic (true_of.listed m c.0 c.1)));
+                  rw (read_at reports t.rank here) (brought_by m t.comm (round_at told t.step t.comm) bits c.0 c.2 (subst (λ u. EnteredWith reports m u c.0) topic (true_of.listed m c.0 c.1)));
               unlisted = λ m member unlisted. true_of.excluded m (sym (ap (λ b. b || has d.held.excluded m) unlisted) ∙ d.held.lawful.complete m member);
             }
 
       rightly : AgreesRightly reports
-      rightly r k flag value comm missing t =
-          let told = there reports r t.inside in
-          agreed r k flag value comm missing told.0 told.1 t.said (rw (read_at reports r told.1) at t.asked) t.tells
+      rightly t =
+          let told = there reports t.rank t.inside in
+          agreed t told.0 told.1 (rw (read_at reports t.rank told.1) at t.asked)
 
       on_one : AdoptOne reports → AgreeOnOne reports
-      on_one one r k s j flag value other_flag other_value comm missing other_missing mine yours same =
-          let x = rightly r k flag value comm missing mine in
-          let y = rightly s j other_flag other_value comm other_missing yours in
-          let told = there reports r mine.inside in
-          let theirs = there reports s yours.inside in
-          let d : x.decision ≡ y.decision = one r s told.0 theirs.0 x.decision y.decision told.1 theirs.1 (rw (read_at reports r told.1) at x.adopted) (rw (read_at reports s theirs.1) at y.adopted) (x.topic ∙ ap (agreement_topic comm) same ∙ sym y.topic) in
+      on_one one mine yours comm same =
+          let x = rightly mine in
+          let y = rightly yours in
+          let told = there reports mine.rank mine.inside in
+          let theirs = there reports yours.rank yours.inside in
+          let topic : x.decision.topic ≡ y.decision.topic = x.topic ∙ (λ i. agreement_topic (comm i) (same i)) ∙ sym y.topic in
+          let d : x.decision ≡ y.decision = one mine.rank yours.rank told.0 theirs.0 x.decision y.decision told.1 theirs.1 (rw (read_at reports mine.rank told.1) at x.adopted) (rw (read_at reports yours.rank theirs.1) at y.adopted) topic in
           (x.is_value ∙ ap (λ (e : Decision). and_all e.entries) d ∙ sym y.is_value, x.is_missing ∙ ap missing_in d ∙ sym y.is_missing)
 
 -- what steps tell of agreements is true, where answers are right and decisions are

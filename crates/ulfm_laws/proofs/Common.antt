@@ -40,7 +40,8 @@ pub use Rattle.ulfm_base.proofs.Places.{there}
 pub use Rattle.ulfm_base.specs.Group.{is_member}
 pub use Rattle.ulfm_base.specs.Pattern.{Admits, names}
 pub use Rattle.ulfm_base.specs.declared.error.CallError.TheVariants.{OutOfMemory, ProcFailed, Revoked, Truncated}
-pub use Rattle.ulfm_laws.specs.Reader.{AllHasCome, AsksRightly, ComeAsSent, Content, DoneIsGiven, DonesDiffer, FoundIsGiven, GivesOnce, HasOnePairing, IsFaithful, IsCut, IsGiven, IsNamed, IsPostedBy, IsSentBy, IsStep, IsTold, MayAskFor, PostsAs, asks_of, room_of, LettersKeepOrder, NoneIsMissed, OverIsTrue, ReceivesKeepOrder, closes, come_in, content, history_at, is_rank, letters_come, letters_sent, sent_by, sent_in}
+pub use Rattle.ulfm_laws.specs.Contents.{Content, come_in, content, is_rank, letters_come, letters_sent, sent_by, sent_in}
+pub use Rattle.ulfm_laws.specs.Reader.{AllHasCome, AsksRightly, ComeAsSent, DoneIsGiven, DonesDiffer, FoundIsGiven, GivesOnce, HasOnePairing, IsFaithful, IsCut, IsGiven, IsNamed, IsPostedBy, IsSentBy, IsStep, IsTold, MayAskFor, PostsAs, asks_of, room_of, LettersKeepOrder, NoneIsMissed, OverIsTrue, ReceivesKeepOrder, closes, history_at}
 pub use Rattle.ulfm_match.proofs.Decide.{compared, lt_or_ge}
 pub use Rattle.ulfm_match.proofs.Histories.{count_below, count_front, count_rises, get_cases, get_here, same_number}
 pub use Rattle.ulfm_match.proofs.Unique.{one_pairing, same_letter, same_pattern}

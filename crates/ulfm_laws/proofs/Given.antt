@@ -144,8 +144,10 @@ module _ (reports : List Report) (all : AreHonest reports) where
 
   -- two steps that are done and tell of one send are one
   pub dones_differ : DonesDiffer reports
-  dones_differ d k req e m other asked asking status another body text x y ask ask' at there sender step =
-      let g : IsGiven reports e other x.named.sender x.named.step = rw (sender, step) y.named.given in
-      let same = gives_once.one_receive d req e other x.named.sender x.named.step x.named.given g in
-      let here : IsStep (report_at reports d) m asking (Done another text) = rw same.0 there in
-      (same.0, gives_once.one_wait d k m req (step_report asked (Done status body) at.at at.polls) (step_report asking (Done another text) here.at here.polls) x.named.given.inside at.stands here.stands ask (ask' ∙ ap Some (sym same.1)))
+  dones_differ x y sends =
+      let sender : x.told.named.sender ≡ y.told.named.sender = ap (λ (p : ℕ × ℕ). p.0) sends in
+      let step : x.told.named.step ≡ y.told.named.step = ap (λ (p : ℕ × ℕ). p.1) sends in
+      let g : IsGiven reports y.rank y.req x.told.named.sender x.told.named.step = rw (sender, step) y.told.named.given in
+      let same = gives_once.one_receive x.rank x.req y.rank y.req x.told.named.sender x.told.named.step x.told.named.given g in
+      let here : IsStep (report_at reports x.rank) y.step y.asked (Done y.status y.body) = rw same.0 y.stands in
+      (same.0, gives_once.one_wait x.rank x.step y.step x.req (step_report x.asked (Done x.status x.body) x.stands.at x.stands.polls) (step_report y.asked (Done y.status y.body) here.at here.polls) x.told.named.given.inside x.stands.stands here.stands x.asks (y.asks ∙ ap Some (sym same.1)))

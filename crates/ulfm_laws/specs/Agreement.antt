@@ -47,47 +47,53 @@ pub record BroughtFlag (reports : List Report) (m : ℕ) (comm : Context) (round
   pub asked : IsStep (report_at reports m) step (Agree flag comm) said
   pub in_round : round_at (report_at reports m) step comm ≡ round
 
--- A value and a list of missing members are right for step k of the rank r, which has this flag. The rank adopted a decision on
--- the round of this step, about the group that it has for the communicator. The value is the AND of the listed flags. Missing
--- are the members that aren't listed, by their positions. The decision lists r with the step's flag. Each listed flag was
--- brought into this round by its rank. Each member that isn't listed stopped.
-pub record IsAgreed (reports : List Report) (r k flag : ℕ) (comm : Context) (value : ℕ) (missing : List ℕ) : Type 0 where
-  pub decision : Decision
-  pub adopted : HasAdopted (report_at reports r) decision
-  pub topic : decision.topic ≡ agreement_topic comm (round_at (report_at reports r) k comm)
-  pub group : decision.old ≡ group_at (report_at reports r).rank comm.number
-  pub is_value : value ≡ and_all decision.entries
-  pub is_missing : missing ≡ missing_in decision
-  pub own : flag_in (entry_at decision.entries r) ≡ Some flag
-  pub listed : (m other : ℕ) → flag_in (entry_at decision.entries m) ≡ Some other
-      → BroughtFlag reports m comm (round_at (report_at reports r) k comm) other
-  pub unlisted : (m : ℕ) → is_member decision.old m ≡ true → is_listed decision.entries m ≡ false → StoppedAt reports m
-
 -- an answer tells this value, and these members as missing
 abbrev pub TellsValue : StepAnswer → ℕ → List ℕ → Type 0
 TellsValue (Agreed value missing) told absent = (value ≡ told) × (missing.items ≡ absent)
 TellsValue _ told absent = ⊥
 
--- step k of the rank r, an agreement with this flag on this communicator, was told this value, and these members as missing
-pub record IsToldValue (reports : List Report) (r k flag : ℕ) (comm : Context) (value : ℕ) (missing : List ℕ) : Type 0 where
-  pub inside : r < length reports
+-- A step that was told a value: an agreement of a rank, its flag and its communicator, the value, and the members told as missing.
+pub record ToldValue (reports : List Report) : Type 0 where
+  pub rank : ℕ
+  pub step : ℕ
+  pub flag : ℕ
+  pub comm : Context
+  pub value : ℕ
+  pub missing : List ℕ
   pub said : StepAnswer
-  pub asked : IsStep (report_at reports r) k (Agree flag comm) said
+  pub inside : rank < length reports
+  pub asked : IsStep (report_at reports rank) step (Agree flag comm) said
   pub tells : TellsValue said value missing
+
+-- the round of agreement that such a step entered
+abbrev pub round_of : (reports : List Report) → ToldValue reports → ℕ
+round_of reports told = round_at (report_at reports told.rank) told.step told.comm
+
+-- What a step was told of an agreement is right. Its rank adopted a decision on the round of this step, about the group that it has
+-- for the communicator. The value is the AND of the listed flags. Missing are the members that aren't listed, by their positions.
+-- The decision lists the rank with the step's flag. Each listed flag was brought into this round by its rank. Each member that isn't
+-- listed stopped.
+pub record IsAgreed (reports : List Report) (told : ToldValue reports) : Type 0 where
+  pub decision : Decision
+  pub adopted : HasAdopted (report_at reports told.rank) decision
+  pub topic : decision.topic ≡ agreement_topic told.comm (round_of reports told)
+  pub group : decision.old ≡ group_at (report_at reports told.rank).rank told.comm.number
+  pub is_value : told.value ≡ and_all decision.entries
+  pub is_missing : told.missing ≡ missing_in decision
+  pub own : flag_in (entry_at decision.entries told.rank) ≡ Some told.flag
+  pub listed : (m other : ℕ) → flag_in (entry_at decision.entries m) ≡ Some other
+      → BroughtFlag reports m told.comm (round_of reports told) other
+  pub unlisted : (m : ℕ) → is_member decision.old m ≡ true → is_listed decision.entries m ≡ false → StoppedAt reports m
 
 -- what each step was told of an agreement is right, as above
 abbrev pub AgreesRightly : List Report → Type 0
-AgreesRightly reports =
-    (r k flag value : ℕ) (comm : Context) (missing : List ℕ) → IsToldValue reports r k flag comm value missing
-    → IsAgreed reports r k flag comm value missing
+AgreesRightly reports = (told : ToldValue reports) → IsAgreed reports told
 
 -- two steps that were told of one round of agreement on a communicator were told one value and one list
 abbrev pub AgreeOnOne : List Report → Type 0
 AgreeOnOne reports =
-    (r k s j flag value other_flag other_value : ℕ) (comm : Context) (missing other_missing : List ℕ)
-    → IsToldValue reports r k flag comm value missing → IsToldValue reports s j other_flag comm other_value other_missing
-    → round_at (report_at reports r) k comm ≡ round_at (report_at reports s) j comm
-    → (value ≡ other_value) × (missing ≡ other_missing)
+    (one other : ToldValue reports) → one.comm ≡ other.comm → round_of reports one ≡ round_of reports other
+    → (one.value ≡ other.value) × (one.missing ≡ other.missing)
 
 -- All that are told of one round of agreement are told one value and one list: the AND of the flags of all members but those in
 -- the list, each of whom stopped.

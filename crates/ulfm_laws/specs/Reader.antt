@@ -1,6 +1,5 @@
 -- What a reader of reports may rely on: which letter each receive was given, and who sent it (MPI 4.0, 3.5).
-use Rattle.std.specs.Prelude.{⊤, ◌≡◌, ◌↔◌, ◌++◌, ◌<◌, ◌≤◌, ◌==◌, ◌&&◌, ℕ, Bool, false, List, [], ◌∷◌, length, max, take, Option, Some, None, slice_get, if◌then◌else◌}
-use Rattle.std.specs.List.{flat_map}
+use Rattle.std.specs.Prelude.{⊤, ◌≡◌, ◌↔◌, ◌++◌, ◌<◌, ◌≤◌, ℕ, false, List, length, max, take, Option, Some, None, slice_get}
 use Rattle.ulfm_base.specs.declared.tag.Tag.{Tag}
 use Rattle.ulfm_base.specs.declared.context.Context.{Context}
 use Rattle.ulfm_base.specs.declared.envelope.Letter.{Letter}
@@ -8,7 +7,7 @@ use Rattle.ulfm_base.specs.declared.pattern.Pattern.{Pattern}
 use Rattle.ulfm_base.specs.declared.error.CallError.TheVariants.{ProcFailed, Revoked, Truncated}
 use Rattle.ulfm_base.specs.Group.{rank_in}
 use Rattle.ulfm_base.specs.Pattern.{Admits}
-use Rattle.ulfm_match.specs.History.{MatchEvent, History, Come, End, PostAt, ComeAt, StandsBetween, IsLiveReceive, IsLiveLetter, count_before}
+use Rattle.ulfm_match.specs.History.{History, End, PostAt, ComeAt, StandsBetween, IsLiveReceive, IsLiveLetter, count_before}
 use Rattle.ulfm_match.specs.Pairing.{Pairing, Pairs, LawfulPairing}
 use Rattle.ulfm_rank.specs.declared.entry.Status.{Status}
 use Rattle.ulfm_rank.specs.declared.message.MessageId.{MessageId}
@@ -16,7 +15,6 @@ use Rattle.ulfm_rank.specs.Calls.{IsSourceOf}
 use Rattle.ulfm_rank.specs.Checks.{group_at}
 use Rattle.ulfm_rank.specs.Facts.{is_stopped, is_revoked}
 use Rattle.ulfm_rank.specs.History.{history_of}
-use Rattle.ulfm_rank.specs.State.{State}
 use Rattle.ulfm_job.specs.declared.step.Step.{Step}
 use Rattle.ulfm_job.specs.declared.step.Step.TheVariants.{Send, Recv, Wait, Probe, Mrecv, Cancel}
 use Rattle.ulfm_script.specs.declared.answer.StepAnswer.{StepAnswer}
@@ -24,6 +22,7 @@ use Rattle.ulfm_script.specs.declared.answer.StepAnswer.TheVariants.{Sent, Poste
 use Rattle.ulfm_script.specs.declared.answer.StepReport.{StepReport}
 use Rattle.ulfm_script.specs.Player.{step_report}
 use Rattle.ulfm_script.specs.Report.{Report}
+use Rattle.ulfm_laws.specs.Contents.{Content, letters_come, letters_sent}
 use Rattle.ulfm_laws.specs.Reports.{report_at}
 
 -- what happened at the rank r, in order
@@ -35,42 +34,6 @@ pub record IsStep (report : Report) (k : ℕ) (asked : Step) (said : StepAnswer)
   pub at : ℕ
   pub polls : ℕ
   pub stands : slice_get report.steps k ≡ Some (step_report asked said at polls)
-
--- what a letter carries
-pub record Content : Type 0 where
-  pub tag : Tag
-  pub body : List ℕ
-
--- the content with this tag and body
-abbrev pub content : Tag → List ℕ → Content
-content tag body = record { tag = tag; body = body }
-
--- the member found at a position is d
-abbrev pub is_rank : ℕ → Option ℕ → Bool
-is_rank d None = false
-is_rank d (Some member) = member == d
-
--- what a step with this answer sent on the communicator c of this group to the rank d
-abbrev pub sent_by : List ℕ → ℕ → ℕ → Step → StepAnswer → List Content
-sent_by group c d (Send to tag body comm) Sent = if comm.number == c && is_rank d (slice_get group to) then content tag body ∷ [] else []
-sent_by group c d _ _ = []
-
--- what a step of a report sent
-abbrev pub sent_in : List ℕ → ℕ → ℕ → StepReport → List Content
-sent_in group c d report = sent_by group c d report.step report.answer
-
--- what the answered steps of a rank sent on the communicator c to the rank d, in order
-abbrev pub letters_sent : State → ℕ → ℕ → List StepReport → List Content
-letters_sent rank c d steps = flat_map (sent_in (group_at rank c) c d) steps
-
--- the letter of the communicator c that came from the rank s
-abbrev pub come_in : ℕ → ℕ → MatchEvent → List Content
-come_in s c (Come letter) = if letter.envelope.context.number == c && letter.envelope.source.number == s then content letter.envelope.tag letter.body ∷ [] else []
-come_in s c _ = []
-
--- the letters of the communicator c that came from the rank s, in order
-abbrev pub letters_come : ℕ → ℕ → History → List Content
-letters_come s c history = flat_map (come_in s c) history
 
 -- On each communicator, what came to a rank from another one is a beginning of what the answered steps of that one sent
 -- to it: nothing is made, left out, doubled or overtaken. After its revocation no letter of a communicator comes.
@@ -113,6 +76,14 @@ pub record IsPostedBy (report : Report) (i place : ℕ) (pattern : Pattern) : Ty
   pub numbered : count_before (history_of report.rank.log) place ≡ number
   pub asks_for : IsSourceOf (group_at report.rank pattern.context.number) source pattern.source
 
+-- how many letters of the communicator c came to the rank d from s before this place of its history
+abbrev pub come_before : List Report → ℕ → ℕ → ℕ → ℕ → ℕ
+come_before reports s d c place = length (letters_come s c (take place (history_at reports d)))
+
+-- how many letters the steps of s before step j sent to d on c
+abbrev pub sent_before : List Report → ℕ → ℕ → ℕ → ℕ → ℕ
+sent_before reports s d c j = length (letters_sent (report_at reports s).rank c d (take j (report_at reports s).steps))
+
 -- The letter that came to the rank d at this place of its history is the one that step j of the rank s sent to it: before
 -- each stand as many of s to d on this communicator.
 pub record IsSentBy (reports : List Report) (d place : ℕ) (letter : Letter) (s j : ℕ) : Type 0 where
@@ -122,8 +93,7 @@ pub record IsSentBy (reports : List Report) (d place : ℕ) (letter : Letter) (s
   pub directed : slice_get (group_at (report_at reports s).rank letter.envelope.context.number) to ≡ Some d
   pub came : ComeAt (history_at reports d) place letter
   pub source : letter.envelope.source.number ≡ s
-  pub in_order : length (letters_come s letter.envelope.context.number (take place (history_at reports d)))
-      ≡ length (letters_sent (report_at reports s).rank letter.envelope.context.number d (take j (report_at reports s).steps))
+  pub in_order : come_before reports s d letter.envelope.context.number place ≡ sent_before reports s d letter.envelope.context.number j
 
 -- The receive that step i of the rank d posted is given the letter that step j of the rank s sent, by the rules of matching.
 pub record IsGiven (reports : List Report) (d i s j : ℕ) : Type 0 where
@@ -229,14 +199,26 @@ pub record GivesOnce (reports : List Report) : Type 0 where
       → slice_get (report_at reports d).steps m ≡ Some y → closes x.step x.answer ≡ Some req → closes y.step y.answer ≡ Some req
       → k ≡ m
 
+-- a step that is done: its rank and its number, the step that it asks for, and what it was told of the letter
+pub record DoneStep (reports : List Report) : Type 0 where
+  pub rank : ℕ
+  pub step : ℕ
+  pub req : ℕ
+  pub asked : Step
+  pub status : Status
+  pub body : List ℕ
+  pub asks : asks_of asked ≡ Some req
+  pub stands : IsStep (report_at reports rank) step asked (Done status body)
+  pub told : IsTold reports rank req asked status body
+
+-- the send that it tells of, by its rank and its number
+abbrev pub send_of : (reports : List Report) → DoneStep reports → ℕ × ℕ
+send_of reports done = (done.told.named.sender, done.told.named.step)
+
 -- Two steps that are done and tell of one send are one step.
 abbrev pub DonesDiffer : List Report → Type 0
 DonesDiffer reports =
-    (d k req e m other : ℕ) (asked asking : Step) (status another : Status) (body text : List ℕ)
-    (x : IsTold reports d req asked status body) (y : IsTold reports e other asking another text)
-    → asks_of asked ≡ Some req → asks_of asking ≡ Some other → IsStep (report_at reports d) k asked (Done status body)
-    → IsStep (report_at reports e) m asking (Done another text) → x.named.sender ≡ y.named.sender → x.named.step ≡ y.named.step
-    → (d ≡ e) × (k ≡ m)
+    (one other : DoneStep reports) → send_of reports one ≡ send_of reports other → (one.rank ≡ other.rank) × (one.step ≡ other.step)
 
 -- No letter overtakes another: of two that one rank sent to another and that a receive admits, the later isn't given to it
 -- unless the earlier was given to a receive that was posted before.
