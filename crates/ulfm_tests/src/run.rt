@@ -9,3 +9,13 @@ mod polls;
 mod resting;
 mod sweeps;
 mod verdicts;
+
+use ulfm_script::RunFault;
+
+/// How many reports of a run show that it can't be true, 0 where none do.
+fn untrue_reports<T>(run: &Result<T, RunFault>) -> usize {
+    match run {
+        Err(RunFault::Untrue(reports)) => reports.len(),
+        _ => 0,
+    }
+}

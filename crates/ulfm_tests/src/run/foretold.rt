@@ -4,6 +4,7 @@ ghost use Rattle.ulfm_base.specs.Items.{ComesFrom};
 ghost use Rattle.ulfm_carrier.specs.Family.{AllFresh, IsFresh};
 
 use super::laid::never;
+use super::untrue_reports;
 use std::alloc::Global;
 use std::snapshot::Snapshot;
 use std::sync::Wait;
@@ -13,8 +14,8 @@ use ulfm_base::{Body, Context, Envelope, Item, Letter, Tag, WorldRank};
 use ulfm_board::{Seat, seats};
 use ulfm_carrier::{Ends, Residue};
 use ulfm_reader::ReadJob;
-use ulfm_run::{Report, run_job};
-use ulfm_script::{Job, RunFault};
+use ulfm_run::run_job;
+use ulfm_script::Job;
 
 /// Two ranks each send after they received.
 const LETTERS: &str = r#"ranks = 2
@@ -174,15 +175,7 @@ fn ends_of(alloc: Global, kind: Kind, ranks: u8) -> Result<Vec<Foretelling>, Fai
     Ok(ends)
 }
 
-/// How many reports of a run show that it can't be true, 0 where none do.
-fn untrue_reports(run: &Result<Report<Foretelling, Seat>, RunFault>) -> usize {
-    match run {
-        Err(RunFault::Untrue(reports)) => reports.len(),
-        _ => 0,
-    }
-}
-
-/// The same of a job that was read.
+/// How many reports of a run of a job that was read show that the ranks took such items before they were sent, 0 where none do.
 fn refused_as_read<R>(
     rt: &R,
     alloc: Global,
@@ -201,7 +194,7 @@ where
     Ok(untrue_reports(&run))
 }
 
-/// How many reports show that the ranks took such items before they were sent, 0 where none do.
+/// The same of a job by its text.
 fn refused<R>(rt: &R, alloc: Global, text: &str, kind: Kind, ranks: u8) -> Result<usize, Fail>
 where
     R: Threads + Wait + Sync,

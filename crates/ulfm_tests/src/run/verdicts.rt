@@ -2,6 +2,7 @@
 ghost use Rattle.std.specs.Prelude.{◌≡◌, ◌<◌, All, IfOk, Some, length, slice_set};
 ghost use Rattle.ulfm_board.specs.Known.{nothing_known, OneBoard};
 
+use super::untrue_reports;
 use std::alloc::Global;
 use std::sync::Wait;
 use std::test::Fail;
@@ -10,8 +11,8 @@ use ulfm_base::{CallError, Contribution, Decision, OutOfMemory, Purpose, RankSet
 use ulfm_board::{Decider, Seat, seats};
 use ulfm_carrier::{LaneEnds, lanes};
 use ulfm_reader::ReadJob;
-use ulfm_run::{Report, run_job};
-use ulfm_script::{Job, RunFault};
+use ulfm_run::run_job;
+use ulfm_script::Job;
 
 /// A rank stops, and the others shrink.
 const SHRINK_OF_FOUR: &str = r#"ranks = 4
@@ -199,15 +200,7 @@ fn inventors(alloc: Global, invention: Invention) -> Result<Vec<Inventor>, CallE
     Ok(all)
 }
 
-/// How many reports of a run show that an invention was adopted, 0 where none do.
-fn untrue_reports(run: &Result<Report<LaneEnds, Inventor>, RunFault>) -> usize {
-    match run {
-        Err(RunFault::Untrue(reports)) => reports.len(),
-        _ => 0,
-    }
-}
-
-/// The same of a run over lanes, of a job of four ranks that was read.
+/// How many reports of a run over lanes, of a job of four ranks that was read, show that an invention was adopted, 0 where none do.
 fn caught_as_read<R>(rt: &R, alloc: Global, job: &Job, invention: Invention) -> Result<usize, Fail>
 where
     R: Threads + Wait + Sync,
@@ -218,7 +211,7 @@ where
     Ok(untrue_reports(&run))
 }
 
-/// How many reports show that an invention was adopted over lanes, 0 where none do.
+/// The same of a job by its text.
 fn caught<R>(rt: &R, alloc: Global, text: &str, invention: Invention) -> Result<usize, Fail>
 where
     R: Threads + Wait + Sync,
