@@ -1,8 +1,9 @@
 //! The steps of a table that send, receive, probe, or name such a step.
-ghost use Rattle.std.specs.Prelude.{◌≡◌, ◌<◌, IfOk};
+ghost use Rattle.std.specs.Prelude.{◌≡◌, ◌<◌, ℕ, IfOk};
 ghost use Rattle.toml.specs.View.{table_view};
+ghost use Rattle.ulfm_job.specs.declared.step.Step.{Step as SeenStep};
 ghost use Rattle.ulfm_reader.specs.inside.Reading.{map_ok, planned};
-ghost use Rattle.ulfm_reader.specs.Plan.{wait, cancel};
+ghost use Rattle.ulfm_reader.specs.Plan.{Order, order_of};
 ghost use Rattle.ulfm_reader.specs.StepText.{send_step, recv_step, step_on_req, probe_step, mrecv_step};
 
 use crate::fields::{
@@ -81,11 +82,17 @@ pub fn recv_of(ranks: u8, table: &Table) -> Result<Placed<'_>, Fault>
     })
 }
 
-/// A `wait`.
+/// The step of an op that names an earlier step of its rank and nothing else.
 #[tactic(auto, unfolding(crate::specs::StepText::step_on_req))]
-pub fn wait_of<'a>(ranks: u8, names: &[Name], table: &'a Table) -> Result<Placed<'a>, Fault>
-    requires { 0 < ranks }
-    ensures exact { map_ok planned result ≡ step_on_req wait ranks names.now (table_view table.now) }
+pub fn on_req<'a, F: FnOnce(u16) -> Step>(
+    ranks: u8,
+    names: &[Name],
+    table: &'a Table,
+    step_on: F,
+) -> Result<Placed<'a>, Fault>
+    requires some { 0 < ranks }
+    requires callable { F.IsAlwaysCallable step_on }
+    ensures exact { (order_on : ℕ → Order) → ((req : ℕ) (s : SeenStep) → F.post step_on req s → order_of s ≡ order_on req) → map_ok planned result ≡ step_on_req order_on ranks names.now (table_view table.now) }
     ensures below { IfOk result (λ placed. placed.rank < ranks) }
 {
     let rank = required_number(table, "rank")?;
@@ -95,7 +102,7 @@ pub fn wait_of<'a>(ranks: u8, names: &[Name], table: &'a Table) -> Result<Placed
     let req = req_in(names, rank, &req)?;
     Ok(Placed {
         rank,
-        step: ReadStep::Other(Step::Wait { req }),
+        step: ReadStep::Other(step_on(req)),
     })
 }
 
@@ -144,23 +151,5 @@ pub fn mrecv_of<'a>(ranks: u8, names: &[Name], table: &'a Table) -> Result<Place
     Ok(Placed {
         rank,
         step: ReadStep::Other(Step::Mrecv { req, room }),
-    })
-}
-
-/// A `cancel`.
-#[tactic(auto, unfolding(crate::specs::StepText::step_on_req))]
-pub fn cancel_of<'a>(ranks: u8, names: &[Name], table: &'a Table) -> Result<Placed<'a>, Fault>
-    requires { 0 < ranks }
-    ensures exact { map_ok planned result ≡ step_on_req cancel ranks names.now (table_view table.now) }
-    ensures below { IfOk result (λ placed. placed.rank < ranks) }
-{
-    let rank = required_number(table, "rank")?;
-    let req = required_reference(table, "req")?;
-    only_keys(table, &["op", "rank", "name", "if", "expect", "req"])?;
-    let rank = rank_in(ranks, rank)?;
-    let req = req_in(names, rank, &req)?;
-    Ok(Placed {
-        rank,
-        step: ReadStep::Other(Step::Cancel { req }),
     })
 }

@@ -1,23 +1,32 @@
 //! The step of a table, for each op.
-ghost use Rattle.std.specs.Prelude.{◌≡◌, ◌<◌, IfOk};
+ghost use Rattle.std.specs.Prelude.{◌≡◌, ◌<◌, ℕ, IfOk};
 ghost use Rattle.toml.specs.View.{table_view};
+ghost use Rattle.ulfm_base.specs.declared.context.Context.{Context as SeenContext};
+ghost use Rattle.ulfm_job.specs.declared.step.Step.{Step as SeenStep};
 ghost use Rattle.ulfm_reader.specs.inside.Reading.{map_ok, planned};
-ghost use Rattle.ulfm_reader.specs.Plan.{failed, revoke, dup, shrink};
+ghost use Rattle.ulfm_reader.specs.Plan.{Order, order_of};
 ghost use Rattle.ulfm_reader.specs.StepText.{step_on_comm, ack_step, agree_step, note_step, stop_step, step_of_op, step_of};
 
 use crate::fields::{in_range, only_keys, optional_number, required_number, required_text};
-use crate::letters::{cancel_of, mrecv_of, probe_of, recv_of, send_of, wait_of};
+use crate::letters::{mrecv_of, on_req, probe_of, recv_of, send_of};
 use crate::name::Name;
 use crate::placed::{Placed, ReadStep};
 use crate::ranges::{comm_in, flag_in, label_in, rank_in};
 use toml::Table;
+use ulfm_base::Context;
 use ulfm_job::limits::MOST_RANKS;
 use ulfm_job::{Fault, Step};
 
+/// The step of an op that names a communicator and nothing else.
 #[tactic(auto, unfolding(crate::specs::StepText::step_on_comm))]
-fn failed_of(ranks: u8, table: &Table) -> Result<Placed<'_>, Fault>
-    requires { 0 < ranks }
-    ensures exact { map_ok planned result ≡ step_on_comm failed ranks (table_view table.now) }
+fn on_comm<F: FnOnce(Context) -> Step>(
+    ranks: u8,
+    table: &Table,
+    step_on: F,
+) -> Result<Placed<'_>, Fault>
+    requires some { 0 < ranks }
+    requires callable { F.IsAlwaysCallable step_on }
+    ensures exact { (order_on : ℕ → Order) → ((c : SeenContext) (s : SeenStep) → F.post step_on c s → order_of s ≡ order_on c.number) → map_ok planned result ≡ step_on_comm order_on ranks (table_view table.now) }
     ensures below { IfOk result (λ placed. placed.rank < ranks) }
 {
     let rank = required_number(table, "rank")?;
@@ -27,7 +36,7 @@ fn failed_of(ranks: u8, table: &Table) -> Result<Placed<'_>, Fault>
     let comm = comm_in(comm)?;
     Ok(Placed {
         rank,
-        step: ReadStep::Other(Step::Failed { comm }),
+        step: ReadStep::Other(step_on(comm)),
     })
 }
 
@@ -50,57 +59,6 @@ fn ack_of(ranks: u8, table: &Table) -> Result<Placed<'_>, Fault>
     Ok(Placed {
         rank,
         step: ReadStep::Other(Step::Ack { count, comm }),
-    })
-}
-
-#[tactic(auto, unfolding(crate::specs::StepText::step_on_comm))]
-fn revoke_of(ranks: u8, table: &Table) -> Result<Placed<'_>, Fault>
-    requires { 0 < ranks }
-    ensures exact { map_ok planned result ≡ step_on_comm revoke ranks (table_view table.now) }
-    ensures below { IfOk result (λ placed. placed.rank < ranks) }
-{
-    let rank = required_number(table, "rank")?;
-    let comm = optional_number(table, "comm")?;
-    only_keys(table, &["op", "rank", "name", "if", "expect", "comm"])?;
-    let rank = rank_in(ranks, rank)?;
-    let comm = comm_in(comm)?;
-    Ok(Placed {
-        rank,
-        step: ReadStep::Other(Step::Revoke { comm }),
-    })
-}
-
-#[tactic(auto, unfolding(crate::specs::StepText::step_on_comm))]
-fn dup_of(ranks: u8, table: &Table) -> Result<Placed<'_>, Fault>
-    requires { 0 < ranks }
-    ensures exact { map_ok planned result ≡ step_on_comm dup ranks (table_view table.now) }
-    ensures below { IfOk result (λ placed. placed.rank < ranks) }
-{
-    let rank = required_number(table, "rank")?;
-    let comm = optional_number(table, "comm")?;
-    only_keys(table, &["op", "rank", "name", "if", "expect", "comm"])?;
-    let rank = rank_in(ranks, rank)?;
-    let comm = comm_in(comm)?;
-    Ok(Placed {
-        rank,
-        step: ReadStep::Other(Step::Dup { comm }),
-    })
-}
-
-#[tactic(auto, unfolding(crate::specs::StepText::step_on_comm))]
-fn shrink_of(ranks: u8, table: &Table) -> Result<Placed<'_>, Fault>
-    requires { 0 < ranks }
-    ensures exact { map_ok planned result ≡ step_on_comm shrink ranks (table_view table.now) }
-    ensures below { IfOk result (λ placed. placed.rank < ranks) }
-{
-    let rank = required_number(table, "rank")?;
-    let comm = optional_number(table, "comm")?;
-    only_keys(table, &["op", "rank", "name", "if", "expect", "comm"])?;
-    let rank = rank_in(ranks, rank)?;
-    let comm = comm_in(comm)?;
-    Ok(Placed {
-        rank,
-        step: ReadStep::Other(Step::Shrink { comm }),
     })
 }
 
@@ -173,15 +131,15 @@ pub fn step_of<'a>(ranks: u8, names: &[Name], table: &'a Table) -> Result<Placed
     match required_text(table, "op")? {
         "send" => send_of(ranks, table),
         "recv" => recv_of(ranks, table),
-        "wait" => wait_of(ranks, names, table),
+        "wait" => on_req(ranks, names, table, |req| Step::Wait { req }),
         "probe" => probe_of(ranks, table),
         "mrecv" => mrecv_of(ranks, names, table),
-        "cancel" => cancel_of(ranks, names, table),
-        "failed" => failed_of(ranks, table),
+        "cancel" => on_req(ranks, names, table, |req| Step::Cancel { req }),
+        "failed" => on_comm(ranks, table, |comm| Step::Failed { comm }),
         "ack" => ack_of(ranks, table),
-        "revoke" => revoke_of(ranks, table),
-        "dup" => dup_of(ranks, table),
-        "shrink" => shrink_of(ranks, table),
+        "revoke" => on_comm(ranks, table, |comm| Step::Revoke { comm }),
+        "dup" => on_comm(ranks, table, |comm| Step::Dup { comm }),
+        "shrink" => on_comm(ranks, table, |comm| Step::Shrink { comm }),
         "agree" => agree_of(ranks, table),
         "note" => note_of(ranks, table),
         "stop" => stop_of(ranks, table),
