@@ -1,5 +1,6 @@
 /* Preloaded into a program, this refuses the growth of memory whose number, from 1, stands in REFUSED_GROWTH: a call of malloc or of one
-   of its kin, or a new thread, whose stack takes memory. It tells of it, a line, on the file descriptor that TOLD_GROWTH has. */
+   of its kin, or a new thread, whose stack takes memory. It tells of it, a line, on the file descriptor that TOLD_GROWTH has. Where the
+   number is 0 it refuses none, and tells of each new thread. */
 #define _GNU_SOURCE
 #include <dlfcn.h>
 #include <errno.h>
@@ -25,11 +26,15 @@ __attribute__((constructor)) static void start(void) {
     refused = number ? strtoul(number, NULL, 10) : 0;
 }
 
+static void tell(const char *call) {
+    if (told >= 0 && write(told, call, strlen(call)) < 0)
+        _exit(99);
+}
+
 static int is_refused(const char *call) {
     if (refused == 0 || atomic_fetch_add(&met, 1) + 1 != refused)
         return 0;
-    if (told >= 0 && write(told, call, strlen(call)) < 0)
-        _exit(99);
+    tell(call);
     return 1;
 }
 
@@ -69,6 +74,8 @@ int pthread_create(pthread_t *thread, const pthread_attr_t *attributes, void *(*
     static int (*make)(pthread_t *, const pthread_attr_t *, void *(*)(void *), void *);
     if (is_refused("pthread_create\n"))
         return EAGAIN;
+    if (refused == 0)
+        tell("pthread_create\n");
     if (!make)
         make = (int (*)(pthread_t *, const pthread_attr_t *, void *(*)(void *), void *))dlsym(RTLD_NEXT, "pthread_create");
     return make(thread, attributes, routine, argument);
