@@ -34,9 +34,11 @@ pub struct Side<W: Way> {
     pub other: WorldRank,
 }
 
-/// Rank 0 or 1 of two.
-pub fn rank_of_two(alloc: Global, me: u8) -> Option<Rank> {
-    Rank::start(alloc, me, 2).ok()
+/// Ranks 0 and 1 of two.
+pub fn two_ranks(alloc: Global) -> Option<(Rank, Rank)> {
+    let zero = Rank::start(alloc, 0, 2).ok()?;
+    let one = Rank::start(alloc, 1, 2).ok()?;
+    Some((zero, one))
 }
 
 /// Starts the send of a letter to the other of two ranks: whether it was accepted.
