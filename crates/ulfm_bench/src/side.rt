@@ -36,9 +36,12 @@ pub struct Side<W: Way> {
 
 /// Ranks 0 and 1 of two.
 pub fn two_ranks(alloc: Global) -> Option<(Rank, Rank)> {
-    let zero = Rank::start(alloc, 0, 2).ok()?;
-    let one = Rank::start(alloc, 1, 2).ok()?;
-    Some((zero, one))
+    rank_of_two(alloc, 0).zip(rank_of_two(alloc, 1))
+}
+
+/// One of the two.
+fn rank_of_two(alloc: Global, me: u8) -> Option<Rank> {
+    Rank::start(alloc, me, 2).ok()
 }
 
 /// Starts the send of a letter to the other of two ranks: whether it was accepted.

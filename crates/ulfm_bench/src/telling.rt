@@ -57,8 +57,7 @@ fn bare<W: Way>(ways: Result<(W, W), CallError>, alloc: Global) -> Option<(Bare<
 
 /// Two ends with their ranks.
 fn sides<W: Way>(ways: Result<(W, W), CallError>, alloc: Global) -> Option<(Side<W>, Side<W>)> {
-    let (there, back) = ways.ok()?;
-    let (zero, one) = two_ranks(alloc)?;
+    let ((there, back), (zero, one)) = ways.ok().zip(two_ranks(alloc))?;
     Some((
         Side {
             rank: zero,
