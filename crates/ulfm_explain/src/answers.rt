@@ -1,34 +1,15 @@
 //! With what words answers begin (docs/JOBS.md).
 
+use crate::ops::op_named;
 use crate::rules::Key;
 use ulfm_reader::{REFUSALS, is_alike};
 
-/// How an answer of each op begins that isn't refused.
-const OWN_ANSWERS: &[(&str, &[&str])] = &[
-    ("send", &["sent"]),
-    ("recv", &["posted"]),
-    ("wait", &["done from", "pending"]),
-    ("probe", &["found from"]),
-    ("mrecv", &["done from"]),
-    ("cancel", &["done from", "cancelled"]),
-    ("failed", &["ranks"]),
-    ("ack", &["acked"]),
-    ("revoke", &["revoked"]),
-    ("dup", &["comm"]),
-    ("shrink", &["comm"]),
-    ("agree", &["agreed"]),
-    ("note", &["noted"]),
-    ("stop", &["stopped"]),
-];
-
 /// How an answer of an op begins that isn't refused.
 fn own_answers(op: &str) -> &'static [&'static str] {
-    for (own, answers) in OWN_ANSWERS {
-        if *own == op {
-            return *answers;
-        }
+    match op_named(op) {
+        Some(op) => op.answers,
+        None => &[],
     }
-    &[]
 }
 
 /// The answers of a step that isn't played, or not to its end, for which words at a key may ask. A condition may ask for both of each

@@ -113,8 +113,23 @@ impl fmt::Display for Listed<'_> {
     }
 }
 
+/// The ops, parted by commas.
+#[derive(Clone, Copy)]
+struct AllOps;
+
 /// The ops, as a message lists them.
-const ALL_OPS: Listed<'static> = Listed(&OPS);
+const ALL_OPS: AllOps = AllOps;
+
+impl fmt::Display for AllOps {
+    fn fmt<W: fmt::Write>(&self, f: &mut fmt::Formatter<W>) -> fmt::Result {
+        let mut mark = "";
+        for op in OPS {
+            write!(f, "{mark}{}", op.rules.owner)?;
+            mark = ", ";
+        }
+        Ok(())
+    }
+}
 
 /// How an answer of a step with this op may begin, for which words at this key ask.
 #[derive(Clone, Copy)]

@@ -50,10 +50,11 @@ pub fn nearest_op(alloc: Global, word: &str) -> Result<Option<&'static str>, All
     let mut nearest = None;
     let mut least = usize::MAX;
     for op in OPS {
-        if let Some(count) = edits(alloc, word, op)? {
+        let name = op.rules.owner;
+        if let Some(count) = edits(alloc, word, name)? {
             if count < least {
                 least = count;
-                nearest = Some(op);
+                nearest = Some(name);
             }
         }
     }

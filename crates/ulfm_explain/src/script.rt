@@ -1,7 +1,7 @@
 //! The steps of one rank.
 
 use crate::keys::text_at;
-use crate::ops::rules_of;
+use crate::ops::op_named;
 use crate::rules::Key;
 use crate::steps::rank_of;
 use std::alloc::{AllocError, Global};
@@ -67,8 +67,8 @@ pub fn is_label(text: &str) -> bool {
 
 /// The op of a step, if it is known.
 pub fn op_of(step: &Value) -> Option<&'static str> {
-    let rules = rules_of(text_at(step.as_table()?, Key::Op)?)?;
-    Some(rules.owner)
+    let op = op_named(text_at(step.as_table()?, Key::Op)?)?;
+    Some(op.rules.owner)
 }
 
 /// Whether a step has a condition.

@@ -7,7 +7,7 @@ use crate::findings::Findings;
 use crate::keys::{Sheet, integer_at, text_at};
 use crate::nearest::nearest_op;
 use crate::never::explain_never;
-use crate::ops::rules_of;
+use crate::ops::op_named;
 use crate::rules::{Key, any_step_rules, job_rules};
 use crate::shown::Shown;
 use std::alloc::AllocError;
@@ -104,11 +104,11 @@ fn explain_step(
         let at = findings.place_of_step(Some(place.in_file));
         return findings.tell(at, Some(place), Cause::NoBlock);
     }
-    if let Some(op) = text_at(table, Key::Op) {
-        if let Some(rules) = rules_of(op) {
+    if let Some(name) = text_at(table, Key::Op) {
+        if let Some(op) = op_named(name) {
             let sheet = Sheet {
                 table,
-                rules,
+                rules: op.rules,
                 step: Some(place),
                 ranks,
                 within: None,
