@@ -7,6 +7,7 @@ use crate::rules::{Key, Kind, Rules};
 use crate::shown::Shown;
 use std::fmt;
 use toml::de::Error;
+use ulfm_job::limits::{FEWEST_OF_ROW, MOST_LABEL, MOST_NAME, MOST_OF_ROW, MOST_ROWS, MOST_WORDS};
 
 /// What is wrong.
 #[derive(Drop)]
@@ -198,11 +199,11 @@ impl fmt::Display for Cause {
             }
             Cause::NoName(text) => write!(
                 f,
-                "name '{text}' has to be 1 to 32 letters, digits, '_' and '-'"
+                "name '{text}' has to be 1 to {MOST_NAME} letters, digits, '_' and '-'"
             ),
             Cause::NoLabel(text) => write!(
                 f,
-                "text '{text}' has to be 1 to 32 letters, digits, spaces, '_', '-' and '.'"
+                "text '{text}' has to be 1 to {MOST_LABEL} letters, digits, spaces, '_', '-' and '.'"
             ),
             Cause::NameTaken(text, step) => {
                 write!(f, "name '{text}' is that of step {step} of its rank too")
@@ -226,11 +227,14 @@ impl fmt::Display for Cause {
                 )
             }
             Cause::Rows(count) => {
-                write!(f, "key 'never' has {count} rows, and has to have 1 to 32")
+                write!(
+                    f,
+                    "key 'never' has {count} rows, and has to have 1 to {MOST_ROWS}"
+                )
             }
             Cause::RowLength(row, count) => write!(
                 f,
-                "row {row} of key 'never' has {count} texts, and has to have 2 to 8"
+                "row {row} of key 'never' has {count} texts, and has to have {FEWEST_OF_ROW} to {MOST_OF_ROW}"
             ),
             Cause::NoPlace(text) => write!(
                 f,
@@ -241,7 +245,7 @@ impl fmt::Display for Cause {
             }
             Cause::LongWords(key, count) => write!(
                 f,
-                "key '{key}' has a text of {count} bytes, and 1024 are the most"
+                "key '{key}' has a text of {count} bytes, and {MOST_WORDS} are the most"
             ),
             Cause::Doomed(doom, other) => {
                 let name = match other {

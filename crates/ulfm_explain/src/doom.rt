@@ -3,6 +3,10 @@
 use crate::rules::Key;
 use crate::told::Numbered;
 use std::fmt;
+use ulfm_job::limits::{LAST_COMM, MOST_BODY};
+
+/// The last communicator that can be duplicated or shrunk.
+pub const LAST_PARENT: i64 = (LAST_COMM as i64 - 2) / 2;
 
 /// Why a step will be refused.
 #[derive(Clone, Copy)]
@@ -108,7 +112,10 @@ impl fmt::Display for Doomed<'_> {
                 )
             }
             Doom::LongBody(count) => {
-                write!(f, "key 'body' has {count} bytes, and 1024 are the most")
+                write!(
+                    f,
+                    "key 'body' has {count} bytes, and {MOST_BODY} are the most"
+                )
             }
             Doom::NotMade(comm) => {
                 let maker = Maker(comm);
@@ -124,7 +131,7 @@ impl fmt::Display for Doomed<'_> {
             Doom::NoContext(comm, op) => {
                 write!(
                     f,
-                    "key 'comm' is {comm}, and 30 is the last of which there is a {op}"
+                    "key 'comm' is {comm}, and {LAST_PARENT} is the last of which there is a {op}"
                 )
             }
             Doom::Again(comm, op, number) => {

@@ -1,15 +1,12 @@
 //! Which steps of a job that can be read will surely be refused, and why.
 
-use crate::doom::Doom;
+use crate::doom::{Doom, LAST_PARENT};
 use crate::keys::{integer_at, text_at};
 use crate::rules::Key;
 use crate::script::{Script, has_condition, op_of};
 use crate::steps::rank_of;
 use toml::Value;
-use ulfm_job::limits::{LAST_COMM, MOST_BODY};
-
-/// The last communicator that can be duplicated or shrunk.
-const LAST_PARENT: i64 = (LAST_COMM as i64 - 2) / 2;
+use ulfm_job::limits::MOST_BODY;
 
 /// A step among those of its rank, in a job of so many ranks.
 #[derive(Clone, Copy)]

@@ -2,8 +2,8 @@
 
 use std::fmt;
 use ulfm_job::limits::{
-    LAST_COMM, LAST_FLAG, LAST_RANK, LAST_STEP, LAST_TAG, MOST_CAPACITY, MOST_RANKS, MOST_ROOM,
-    MOST_TURNS,
+    LAST_COMM, LAST_FLAG, LAST_RANK, LAST_STEP, LAST_TAG, MOST_CAPACITY, MOST_LABEL, MOST_NAME,
+    MOST_RANKS, MOST_ROOM, MOST_TURNS,
 };
 
 /// What stands at a key.
@@ -249,10 +249,11 @@ impl fmt::Display for Kind {
                     "an integer from {least} to {most}, or the name of an earlier step in quotes"
                 )
             }
-            Kind::Name => f.write_str("a text of 1 to 32 letters, digits, '_' and '-'"),
-            Kind::Label => {
-                f.write_str("a text of 1 to 32 letters, digits, spaces, '_', '-' and '.'")
-            }
+            Kind::Name => write!(f, "a text of 1 to {MOST_NAME} letters, digits, '_' and '-'"),
+            Kind::Label => write!(
+                f,
+                "a text of 1 to {MOST_LABEL} letters, digits, spaces, '_', '-' and '.'"
+            ),
             Kind::Conditions => f.write_str(
                 "a table with 'step' and 'is' or 'not', or with 'all', or a list of 1 to 16",
             ),
