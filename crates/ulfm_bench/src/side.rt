@@ -34,8 +34,13 @@ pub struct Side<W: Way> {
     pub other: WorldRank,
 }
 
-/// Rank 0 or 1 of two.
-pub fn rank_of_two(alloc: Global, me: u8) -> Option<Rank> {
+/// Ranks 0 and 1 of two.
+pub fn two_ranks(alloc: Global) -> Option<(Rank, Rank)> {
+    rank_of_two(alloc, 0).zip(rank_of_two(alloc, 1))
+}
+
+/// One of the two.
+fn rank_of_two(alloc: Global, me: u8) -> Option<Rank> {
     Rank::start(alloc, me, 2).ok()
 }
 

@@ -2,7 +2,7 @@
 use crate::both::Both;
 use crate::pairs::{over_lanes, over_queues, over_rings, over_shared};
 use crate::post::{Bare, Post};
-use crate::side::{Side, rank_of_two};
+use crate::side::{Side, two_ranks};
 use crate::trip::{Load, in_one_thread, one_way, there_and_back};
 use crate::way::Way;
 use std::alloc::Global;
@@ -38,13 +38,15 @@ pub fn of_ranks<R: Runtime + Threads + Wait + CpuClock + Copy + Send + 'static>(
     there(rt, "rank by shared", sides(over_shared(alloc), alloc), load)?;
     and_back(rt, "rank by lanes", sides(over_lanes(alloc), alloc), load)?;
     and_back(rt, "rank by shared", sides(over_shared(alloc), alloc), load)?;
-    let both = Both {
-        zero: rank_of_two(alloc, 0)?,
-        one: rank_of_two(alloc, 1)?,
-        posted: None,
-    };
-    let time = in_one_thread(rt, both, load).ok()??;
+    let time = in_one_thread(rt, both_ranks(alloc)?, load).ok()??;
     tell(rt, "rank", "in one thread", load, time)
+}
+
+/// Two ranks with nothing between them.
+fn both_ranks(alloc: Global) -> Option<Both> {
+    let (zero, one) = two_ranks(alloc)?;
+    let posted = None;
+    Some(Both { zero, one, posted })
 }
 
 /// Two ends with no rank round them.
@@ -55,16 +57,16 @@ fn bare<W: Way>(ways: Result<(W, W), CallError>, alloc: Global) -> Option<(Bare<
 
 /// Two ends with their ranks.
 fn sides<W: Way>(ways: Result<(W, W), CallError>, alloc: Global) -> Option<(Side<W>, Side<W>)> {
-    let (zero, one) = ways.ok()?;
+    let ((there, back), (zero, one)) = ways.ok().zip(two_ranks(alloc))?;
     Some((
         Side {
-            rank: rank_of_two(alloc, 0)?,
-            way: zero,
+            rank: zero,
+            way: there,
             other: WorldRank { number: 1 },
         },
         Side {
-            rank: rank_of_two(alloc, 1)?,
-            way: one,
+            rank: one,
+            way: back,
             other: WorldRank { number: 0 },
         },
     ))

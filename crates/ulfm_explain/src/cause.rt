@@ -1,13 +1,16 @@
 //! What is wrong with a job.
 
-use crate::answers::beginnings;
-use crate::doom::{Doom, Doomed};
-use crate::ops::OPS;
-use crate::rules::{Key, Kind, Rules};
+use crate::doom::Doom;
+use crate::kind::Kind;
+use crate::line::{Line, Part};
+use crate::rules::{Key, Rules};
 use crate::shown::Shown;
 use std::fmt;
 use toml::de::Error;
-use ulfm_job::limits::{FEWEST_OF_ROW, MOST_LABEL, MOST_NAME, MOST_OF_ROW, MOST_ROWS, MOST_WORDS};
+use ulfm_job::limits::{
+    FEWEST_OF_ROW, MOST_BYTES, MOST_ITEMS, MOST_LABEL, MOST_NAME, MOST_OF_ROW, MOST_ROWS,
+    MOST_STEPS, MOST_WORDS,
+};
 
 /// What is wrong.
 #[derive(Drop)]
@@ -68,193 +71,156 @@ pub enum Cause {
     Doomed(Doom, Option<String>),
 }
 
-/// What to write in place of a word, where there is a word like it.
-#[derive(Clone, Copy)]
-struct Meant<'a>(Option<&'a str>);
-
-impl fmt::Display for Meant<'_> {
-    fn fmt<W: fmt::Write>(&self, f: &mut fmt::Formatter<W>) -> fmt::Result {
-        match self.0 {
-            Some(word) => write!(f, "; did you mean '{word}'?"),
-            None => f.write_str(";"),
-        }
-    }
-}
-
-/// Why a text is no TOML, and what stands there, if there is anything.
-#[derive(Clone, Copy)]
-struct Broken<'a>(&'a Error, &'a Shown);
-
-impl fmt::Display for Broken<'_> {
-    fn fmt<W: fmt::Write>(&self, f: &mut fmt::Formatter<W>) -> fmt::Result {
-        let why = self.0.message();
-        write!(f, "this is no TOML: {why}")?;
-        if !self.1.is_empty() {
-            write!(f, ", at '{}'", self.1)?;
-        }
-        if why == "duplicate key" && self.1.is_of_step() {
-            f.write_str(" (each step begins with a [[step]] of its own)")?;
-        }
-        Ok(())
-    }
-}
-
-/// Words, parted by commas.
-#[derive(Clone, Copy)]
-struct Listed<'a>(&'a [&'static str]);
-
-impl fmt::Display for Listed<'_> {
-    fn fmt<W: fmt::Write>(&self, f: &mut fmt::Formatter<W>) -> fmt::Result {
-        let mut mark = "";
-        for word in self.0 {
-            write!(f, "{mark}{word}")?;
-            mark = ", ";
-        }
-        Ok(())
-    }
-}
-
-/// The ops, parted by commas.
-#[derive(Clone, Copy)]
-struct AllOps;
-
-/// The ops, as a message lists them.
-const ALL_OPS: AllOps = AllOps;
-
-impl fmt::Display for AllOps {
-    fn fmt<W: fmt::Write>(&self, f: &mut fmt::Formatter<W>) -> fmt::Result {
-        let mut mark = "";
-        for op in OPS {
-            write!(f, "{mark}{}", op.rules.owner)?;
-            mark = ", ";
-        }
-        Ok(())
-    }
-}
-
-/// How an answer of a step with this op may begin, for which words at this key ask.
-#[derive(Clone, Copy)]
-struct Beginnings {
-    op: &'static str,
-    key: Key,
-}
-
-impl fmt::Display for Beginnings {
-    fn fmt<W: fmt::Write>(&self, f: &mut fmt::Formatter<W>) -> fmt::Result {
-        let mut mark = "";
-        for words in beginnings(self.op, self.key) {
-            if !words.is_empty() {
-                write!(f, "{mark}{}", Listed(words))?;
-                mark = ", ";
+impl Cause {
+    /// The line that tells it, but for its end.
+    fn line(&self) -> Line<'_> {
+        match self {
+            Cause::NotUtf8 => Line::Plain("this byte is no UTF-8; save the file as UTF-8"),
+            Cause::NotToml(error, rest) => Line::One("{}", Part::Broken(error, rest)),
+            Cause::TooManyBytes => Line::One(
+                "the text has more than {} bytes, which are the most",
+                Part::Count(MOST_BYTES),
+            ),
+            Cause::TooManySteps(count) => Line::Two(
+                "there are {} steps, and {} are the most",
+                Part::Count(*count),
+                Part::Count(MOST_STEPS),
+            ),
+            Cause::TooManyWritten => Line::Two(
+                "there are more than {} steps, one for each rank and each iteration, and {} are the most",
+                Part::Count(MOST_STEPS),
+                Part::Count(MOST_STEPS),
+            ),
+            Cause::NoBlock => Line::One(
+                "this is no block: it has to have 'steps', a list of one or more, and 'repeat', an integer from 1 to {}, or 'on_error', the name of a later step of the file, before which no other block has one, or both, and nothing else",
+                Part::Count(MOST_STEPS),
+            ),
+            Cause::Missing(Key::Op, _) => Line::One(
+                "key 'op' is missing; the ops are {}",
+                Part::Ops,
+            ),
+            Cause::Missing(key, wanted) => Line::Two(
+                "key '{}' is missing; it has to be {}",
+                Part::Key(*key),
+                Part::Kind(*wanted),
+            ),
+            Cause::InStep(key) => Line::One(
+                "key '{}' is missing above the first step, and stands in a step here; move it up",
+                Part::Key(*key),
+            ),
+            Cause::WrongKind(key, found, wanted) => Line::Three(
+                "key '{}' is {}, and has to be {}",
+                Part::Key(*key),
+                Part::Text(found.as_str()),
+                Part::Kind(*wanted),
+            ),
+            Cause::OneTable => Line::Plain(
+                "key 'step' is one table, and has to be an array of tables; write [[step]] above each step",
+            ),
+            Cause::NoTable(found) => Line::One(
+                "the step is a TOML {}, and has to be a table",
+                Part::Text(*found),
+            ),
+            Cause::UnknownKey(word, nearest, rules) => {
+                let meant = Part::Meant(nearest.map(|key| key.name()));
+                Line::Three(
+                    "key '{}' is unknown{} {}",
+                    Part::Text(word.as_str()),
+                    meant,
+                    Part::Rules(*rules),
+                )
             }
+            Cause::OutOfRange(key, value, wanted) => Line::Three(
+                "key '{}' is {}, and has to be {}",
+                Part::Key(*key),
+                Part::Number(*value),
+                Part::Kind(*wanted),
+            ),
+            Cause::UnknownOp(word, nearest) => Line::Three(
+                "op '{}' is unknown{} the ops are {}",
+                Part::Text(word.as_str()),
+                Part::Meant(*nearest),
+                Part::Ops,
+            ),
+            Cause::NoName(text) => Line::Two(
+                "name '{}' has to be 1 to {} letters, digits, '_' and '-'",
+                Part::Text(text.as_str()),
+                Part::Count(MOST_NAME),
+            ),
+            Cause::NoLabel(text) => Line::Two(
+                "text '{}' has to be 1 to {} letters, digits, spaces, '_', '-' and '.'",
+                Part::Text(text.as_str()),
+                Part::Count(MOST_LABEL),
+            ),
+            Cause::NameTaken(text, step) => Line::Two(
+                "name '{}' is that of step {} of its rank too",
+                Part::Text(text.as_str()),
+                Part::Count(*step),
+            ),
+            Cause::NotNamed(key, text) => Line::Two(
+                "key '{}' is '{}', and no earlier step of its rank has this name",
+                Part::Key(*key),
+                Part::Text(text.as_str()),
+            ),
+            Cause::NotEarlier(number) => Line::One(
+                "key 'if' names step {}, and that is no earlier step of its rank",
+                Part::Number(*number),
+            ),
+            Cause::Count(key, count) => Line::Three(
+                "key '{}' has {} items, and has to have 1 to {}",
+                Part::Key(*key),
+                Part::Count(*count),
+                Part::Count(MOST_ITEMS),
+            ),
+            Cause::NoAnswer(key, words, op) => Line::Four(
+                "key '{}' has '{}', and no answer of '{}' begins so; its answers begin with {}",
+                Part::Key(*key),
+                Part::Text(words.as_str()),
+                Part::Text(*op),
+                Part::Beginnings(*op, *key),
+            ),
+            Cause::Rows(count) => Line::Two(
+                "key 'never' has {} rows, and has to have 1 to {}",
+                Part::Count(*count),
+                Part::Count(MOST_ROWS),
+            ),
+            Cause::RowLength(row, count) => Line::Four(
+                "row {} of key 'never' has {} texts, and has to have {} to {}",
+                Part::Count(*row),
+                Part::Count(*count),
+                Part::Count(FEWEST_OF_ROW),
+                Part::Count(MOST_OF_ROW),
+            ),
+            Cause::NoPlace(text) => Line::One(
+                "key 'never' has '{}', and each text has to be a rank, a dot, a step of it, a space, and how its answer begins",
+                Part::Text(text.as_str()),
+            ),
+            Cause::NoStep(text) => Line::One(
+                "key 'never' has '{}', and there is no such step",
+                Part::Text(text.as_str()),
+            ),
+            Cause::LongWords(key, count) => Line::Three(
+                "key '{}' has a text of {} bytes, and {} are the most",
+                Part::Key(*key),
+                Part::Count(*count),
+                Part::Count(MOST_WORDS),
+            ),
+            Cause::Doomed(doom, Some(name)) => doom.line(Some(name.as_str())),
+            Cause::Doomed(doom, None) => doom.line(None),
         }
-        Ok(())
+    }
+
+    /// The end of that line.
+    fn end(&self) -> &'static str {
+        match self {
+            Cause::Doomed(doom, _) => doom.end(),
+            _ => "",
+        }
     }
 }
 
 impl fmt::Display for Cause {
     fn fmt<W: fmt::Write>(&self, f: &mut fmt::Formatter<W>) -> fmt::Result {
-        match self {
-            Cause::NotUtf8 => f.write_str("this byte is no UTF-8; save the file as UTF-8"),
-            Cause::NotToml(error, rest) => write!(f, "{}", Broken(error, rest)),
-            Cause::TooManyBytes => f.write_str(
-                "the text has more than 1048576 bytes, which are the most",
-            ),
-            Cause::TooManySteps(count) => {
-                write!(f, "there are {count} steps, and 256 are the most")
-            }
-            Cause::TooManyWritten => f.write_str(
-                "there are more than 256 steps, one for each rank and each iteration, and 256 are the most",
-            ),
-            Cause::NoBlock => f.write_str(
-                "this is no block: it has to have 'steps', a list of one or more, and 'repeat', an integer from 1 to 256, or 'on_error', the name of a later step of the file, before which no other block has one, or both, and nothing else",
-            ),
-            Cause::Missing(Key::Op, _) => write!(f, "key 'op' is missing; the ops are {ALL_OPS}"),
-            Cause::Missing(key, wanted) => {
-                write!(f, "key '{key}' is missing; it has to be {wanted}")
-            }
-            Cause::InStep(key) => {
-                write!(
-                    f,
-                    "key '{key}' is missing above the first step, and stands in a step here; move it up"
-                )
-            }
-            Cause::WrongKind(key, found, wanted) => {
-                write!(f, "key '{key}' is {found}, and has to be {wanted}")
-            }
-            Cause::OneTable => f.write_str(
-                "key 'step' is one table, and has to be an array of tables; write [[step]] above each step",
-            ),
-            Cause::NoTable(found) => write!(f, "the step is a TOML {found}, and has to be a table"),
-            Cause::UnknownKey(word, nearest, rules) => {
-                let meant = Meant(nearest.map(|key| key.name()));
-                write!(f, "key '{word}' is unknown{meant} {rules}")
-            }
-            Cause::OutOfRange(key, value, wanted) => {
-                write!(f, "key '{key}' is {value}, and has to be {wanted}")
-            }
-            Cause::UnknownOp(word, nearest) => {
-                let meant = Meant(*nearest);
-                write!(f, "op '{word}' is unknown{meant} the ops are {ALL_OPS}")
-            }
-            Cause::NoName(text) => write!(
-                f,
-                "name '{text}' has to be 1 to {MOST_NAME} letters, digits, '_' and '-'"
-            ),
-            Cause::NoLabel(text) => write!(
-                f,
-                "text '{text}' has to be 1 to {MOST_LABEL} letters, digits, spaces, '_', '-' and '.'"
-            ),
-            Cause::NameTaken(text, step) => {
-                write!(f, "name '{text}' is that of step {step} of its rank too")
-            }
-            Cause::NotNamed(key, text) => write!(
-                f,
-                "key '{key}' is '{text}', and no earlier step of its rank has this name"
-            ),
-            Cause::NotEarlier(number) => write!(
-                f,
-                "key 'if' names step {number}, and that is no earlier step of its rank"
-            ),
-            Cause::Count(key, count) => {
-                write!(f, "key '{key}' has {count} items, and has to have 1 to 16")
-            }
-            Cause::NoAnswer(key, words, op) => {
-                let beginnings = Beginnings { op: *op, key: *key };
-                write!(
-                    f,
-                    "key '{key}' has '{words}', and no answer of '{op}' begins so; its answers begin with {beginnings}"
-                )
-            }
-            Cause::Rows(count) => {
-                write!(
-                    f,
-                    "key 'never' has {count} rows, and has to have 1 to {MOST_ROWS}"
-                )
-            }
-            Cause::RowLength(row, count) => write!(
-                f,
-                "row {row} of key 'never' has {count} texts, and has to have {FEWEST_OF_ROW} to {MOST_OF_ROW}"
-            ),
-            Cause::NoPlace(text) => write!(
-                f,
-                "key 'never' has '{text}', and each text has to be a rank, a dot, a step of it, a space, and how its answer begins"
-            ),
-            Cause::NoStep(text) => {
-                write!(f, "key 'never' has '{text}', and there is no such step")
-            }
-            Cause::LongWords(key, count) => write!(
-                f,
-                "key '{key}' has a text of {count} bytes, and {MOST_WORDS} are the most"
-            ),
-            Cause::Doomed(doom, other) => {
-                let name = match other {
-                    Some(name) => Some(name.as_str()),
-                    None => None,
-                };
-                let why = Doomed(*doom, name);
-                write!(f, "{why}: this step will be refused")
-            }
-        }
+        write!(f, "{}{}", self.line(), self.end())
     }
 }

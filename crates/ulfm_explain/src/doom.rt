@@ -1,8 +1,7 @@
 //! Why a step that can be read will be refused when it runs.
 
+use crate::line::{Line, Part};
 use crate::rules::Key;
-use crate::told::Numbered;
-use std::fmt;
 use ulfm_job::limits::{LAST_COMM, MOST_BODY};
 
 /// The last communicator that can be duplicated or shrunk.
@@ -66,123 +65,89 @@ impl Doom {
             _ => None,
         }
     }
-}
 
-/// Why a step will be refused, and the name of the other step of which that tells, where it has one.
-#[derive(Clone, Copy)]
-pub struct Doomed<'a>(pub Doom, pub Option<&'a str>);
-
-/// The op that makes a communicator, and from which.
-#[derive(Clone, Copy)]
-struct Maker(i64);
-
-impl fmt::Display for Maker {
-    fn fmt<W: fmt::Write>(&self, f: &mut fmt::Formatter<W>) -> fmt::Result {
-        let parent = self.0.saturating_sub(1) / 2;
-        let op = if self.0 % 2 == 1 { "dup" } else { "shrink" };
-        write!(f, "a {op} of {parent}")
-    }
-}
-
-/// An op behind its article.
-#[derive(Clone, Copy)]
-struct An(&'static str);
-
-impl fmt::Display for An {
-    fn fmt<W: fmt::Write>(&self, f: &mut fmt::Formatter<W>) -> fmt::Result {
-        let op = self.0;
-        let has_vowel = op.starts_with('a') || op == "mrecv";
-        let article = if has_vowel { "an" } else { "a" };
-        write!(f, "{article} {op}")
-    }
-}
-
-/// What a `req` names, for those who counted in another way.
-const COUNTED: &str = "req counts the steps of one rank, from 0";
-
-impl fmt::Display for Doomed<'_> {
-    fn fmt<W: fmt::Write>(&self, f: &mut fmt::Formatter<W>) -> fmt::Result {
-        let Doomed(doom, name) = *self;
-        match doom {
+    /// The line that tells it, but for its end, where the other step has this name.
+    pub(crate) fn line<'a>(&self, name: Option<&'a str>) -> Line<'a> {
+        match *self {
             Doom::PastRanks(key, value, ranks) => {
-                let last = ranks.saturating_sub(1);
-                write!(
-                    f,
-                    "key '{key}' is {value}, and no communicator has more than the {ranks} ranks 0 to {last}"
+                let count = usize::from(ranks);
+                Line::Four(
+                    "key '{}' is {}, and no communicator has more than the {} ranks 0 to {}",
+                    Part::Key(key),
+                    Part::Number(value),
+                    Part::Count(count),
+                    Part::Count(count.saturating_sub(1)),
                 )
             }
-            Doom::LongBody(count) => {
-                write!(
-                    f,
-                    "key 'body' has {count} bytes, and {MOST_BODY} are the most"
-                )
-            }
-            Doom::NotMade(comm) => {
-                let maker = Maker(comm);
-                write!(
-                    f,
-                    "no earlier step of its rank makes communicator {comm} ({maker} does)"
-                )
-            }
-            Doom::Revoked(comm, number) => {
-                let step = Numbered { number, name };
-                write!(f, "{step} of its rank revokes communicator {comm}")
-            }
-            Doom::NoContext(comm, op) => {
-                write!(
-                    f,
-                    "key 'comm' is {comm}, and {LAST_PARENT} is the last of which there is a {op}"
-                )
-            }
-            Doom::Again(comm, op, number) => {
-                let step = Numbered { number, name };
-                write!(
-                    f,
-                    "{step} of its rank is a {op} of communicator {comm} too, and one is the most"
-                )
-            }
-            Doom::NoSuchStep(req) => {
-                write!(
-                    f,
-                    "key 'req' is {req}, and its rank has no step {req}; {COUNTED}"
-                )
-            }
-            Doom::Itself(req) => {
-                write!(
-                    f,
-                    "key 'req' is {req}, and that is this step itself; {COUNTED}"
-                )
-            }
-            Doom::Later(number) => {
-                let step = Numbered { number, name };
-                write!(
-                    f,
-                    "key 'req' is {number}, and {step} of its rank comes later; {COUNTED}"
-                )
-            }
-            Doom::AnotherOp(number, wanted, op) => {
-                let step = Numbered { number, name };
-                let found = An(op);
-                write!(
-                    f,
-                    "key 'req' is {number}, and {step} of its rank is no {wanted} but {found}; {COUNTED}"
-                )
-            }
-            Doom::RefusedStep(number, op) => {
-                let step = Numbered { number, name };
-                write!(
-                    f,
-                    "key 'req' is {number}, and the {op} that is {step} of its rank will be refused"
-                )
-            }
-            Doom::UsedUp(req, op, number) => {
-                let step = Numbered { number, name };
-                let used = An(op);
-                write!(
-                    f,
-                    "key 'req' is {req}, and {step} of its rank, {used}, uses up what that one left"
-                )
-            }
+            Doom::LongBody(count) => Line::Two(
+                "key 'body' has {} bytes, and {} are the most",
+                Part::Count(count),
+                Part::Count(MOST_BODY),
+            ),
+            Doom::NotMade(comm) => Line::Two(
+                "no earlier step of its rank makes communicator {} ({} does)",
+                Part::Number(comm),
+                Part::Maker(comm),
+            ),
+            Doom::Revoked(comm, number) => Line::Two(
+                "{} of its rank revokes communicator {}",
+                Part::Step(number, name),
+                Part::Number(comm),
+            ),
+            Doom::NoContext(comm, op) => Line::Three(
+                "key 'comm' is {}, and {} is the last of which there is a {}",
+                Part::Number(comm),
+                Part::Number(LAST_PARENT),
+                Part::Text(op),
+            ),
+            Doom::Again(comm, op, number) => Line::Three(
+                "{} of its rank is a {} of communicator {} too, and one is the most",
+                Part::Step(number, name),
+                Part::Text(op),
+                Part::Number(comm),
+            ),
+            Doom::NoSuchStep(req) => Line::Two(
+                "key 'req' is {}, and its rank has no step {}",
+                Part::Number(req),
+                Part::Number(req),
+            ),
+            Doom::Itself(req) => Line::One(
+                "key 'req' is {}, and that is this step itself",
+                Part::Number(req),
+            ),
+            Doom::Later(number) => Line::Two(
+                "key 'req' is {}, and {} of its rank comes later",
+                Part::Count(number),
+                Part::Step(number, name),
+            ),
+            Doom::AnotherOp(number, wanted, op) => Line::Four(
+                "key 'req' is {}, and {} of its rank is no {} but {}",
+                Part::Count(number),
+                Part::Step(number, name),
+                Part::Text(wanted),
+                Part::An(op),
+            ),
+            Doom::RefusedStep(number, op) => Line::Three(
+                "key 'req' is {}, and the {} that is {} of its rank will be refused",
+                Part::Count(number),
+                Part::Text(op),
+                Part::Step(number, name),
+            ),
+            Doom::UsedUp(req, op, number) => Line::Three(
+                "key 'req' is {}, and {} of its rank, {}, uses up what that one left",
+                Part::Number(req),
+                Part::Step(number, name),
+                Part::An(op),
+            ),
+        }
+    }
+
+    /// The end of that line.
+    pub(crate) fn end(&self) -> &'static str {
+        match self {
+            Doom::NoSuchStep(_) | Doom::Itself(_) | Doom::Later(_) | Doom::AnotherOp(_, _, _) =>
+                "; req counts the steps of one rank, from 0: this step will be refused",
+            _ => ": this step will be refused",
         }
     }
 }

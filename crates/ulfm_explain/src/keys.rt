@@ -3,8 +3,9 @@
 use crate::cause::Cause;
 use crate::explanation::StepPlace;
 use crate::findings::Findings;
+use crate::kind::Kind;
 use crate::nearest::nearest_key;
-use crate::rules::{Key, Kind, Rules};
+use crate::rules::{Key, Rules};
 use crate::script::is_label;
 use crate::shown::{Shown, shown_value};
 use std::alloc::AllocError;
@@ -205,13 +206,8 @@ fn are_texts(value: &Value) -> bool {
 
 /// Whether a number is out of the range of a kind.
 fn is_outside(number: i64, kind: Kind) -> bool {
-    match kind {
-        Kind::Integer(least, most) => number < least || most < number,
-        Kind::OrAny(least, most) => number < least || most < number,
-        Kind::Ranks(least, most) => number < least || most < number,
-        Kind::Peer(least, most) => number < least || most < number,
-        Kind::PeerOrAny(least, most) => number < least || most < number,
-        Kind::Reference(least, most) => number < least || most < number,
-        _ => false,
+    match kind.range() {
+        Some((least, most)) => number < least || most < number,
+        None => false,
     }
 }

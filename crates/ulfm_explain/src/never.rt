@@ -3,6 +3,7 @@
 use crate::answers::may_begin;
 use crate::cause::Cause;
 use crate::claim::claim_of;
+use crate::counted::Counted;
 use crate::findings::Findings;
 use crate::rules::Key;
 use crate::script::{Script, op_of};
@@ -110,23 +111,30 @@ fn explain_text(
 ///
 /// `AllocError` where a growth was refused.
 pub fn rows_that_came(alloc: Global, bytes: &[u8], trace: &str) -> Result<String, AllocError> {
-    let mut notes = String::new(alloc);
-    let Some(table) = table_of(alloc, bytes)? else {
-        return Ok(notes);
-    };
-    let mut count = 0_usize;
-    for (number, row) in rows_of(&table).iter().enumerate() {
+    match table_of(alloc, bytes)? {
+        Some(table) => rows_told(alloc, &table, trace),
+        None => Ok(String::new(alloc)),
+    }
+}
+
+/// The lines on the rows of a job's table that a trace has whole.
+fn rows_told(alloc: Global, table: &Table, trace: &str) -> Result<String, AllocError> {
+    let mut told = Counted::new(alloc);
+    for (number, row) in rows_of(table).iter().enumerate() {
         let texts = row.as_array().map_or(&[][..], |texts| texts.as_slice());
-        if has_come(steps_of(&table), texts, trace) {
-            write!(notes, "never[{number}]:")?;
-            push_texts(&mut notes, texts)?;
-            count = count.saturating_add(1);
+        if has_come(steps_of(table), texts, trace) {
+            let line = row_line(alloc, number, texts)?;
+            told.add(line.as_str())?;
         }
     }
-    if count == 0 {
-        return Ok(notes);
-    }
-    format!(in alloc; "rows of 'never' whose answers all came: {count}\n{notes}")
+    told.below("rows of 'never' whose answers all came")
+}
+
+/// The line on a row.
+fn row_line(alloc: Global, number: usize, texts: &[Value]) -> Result<String, AllocError> {
+    let mut line = format!(in alloc; "never[{number}]:")?;
+    push_texts(&mut line, texts)?;
+    Ok(line)
 }
 
 /// Whether a trace, or one of several, has all answers of a row.

@@ -1,46 +1,14 @@
 //! The keys that the tables of a job may have (docs/JOBS.md).
 
+use crate::kind::Kind;
 use std::fmt;
 use ulfm_job::limits::{
-    LAST_COMM, LAST_FLAG, LAST_RANK, LAST_STEP, LAST_TAG, MOST_CAPACITY, MOST_LABEL, MOST_NAME,
-    MOST_RANKS, MOST_ROOM, MOST_TURNS,
+    LAST_COMM, LAST_FLAG, LAST_RANK, LAST_STEP, LAST_TAG, MOST_CAPACITY, MOST_RANKS, MOST_ROOM,
+    MOST_TURNS,
 };
 
-/// What stands at a key.
-#[derive(Clone, Copy, Debug, PartialEq, Eq)]
-pub enum Kind {
-    /// An integer from the first to the second.
-    Integer(i64, i64),
-    /// The same, and where the key is left out, any.
-    OrAny(i64, i64),
-    /// An integer from the first to the second, a list of them, or a text that stands for all.
-    Ranks(i64, i64),
-    /// An integer from the first to the second, or a text that names a rank by the rank of the step.
-    Peer(i64, i64),
-    /// The same, and where the key is left out, any.
-    PeerOrAny(i64, i64),
-    /// A text.
-    Text,
-    /// An array of tables.
-    Tables,
-    /// An integer from the first to the second, or the name of an earlier step.
-    Reference(i64, i64),
-    /// A name.
-    Name,
-    /// The text of a note.
-    Label,
-    /// A table, or an array of 1 to 16.
-    Conditions,
-    /// An array of 1 to 16 tables.
-    Together,
-    /// An array of 1 to 16 texts.
-    Words,
-    /// An array of arrays of texts.
-    Rows,
-}
-
 /// A key of a job or of a step.
-#[derive(Clone, Copy, Debug, PartialEq, Eq)]
+#[derive(Clone, Copy, PartialEq, Eq)]
 pub enum Key {
     Ranks,
     Capacity,
@@ -141,9 +109,6 @@ pub struct Rules {
     pub asking: &'static [Key],
 }
 
-/// The texts that name a rank by the rank of the step.
-const NEIGHBOURS: &str = "\"me\", \"left\", \"right\" or \"me+1\" to \"me+7\"";
-
 /// The keys that each step may have, and which are looked at last.
 pub const ASKING: &[Key] = &[Key::Name, Key::If, Key::Expect];
 
@@ -216,53 +181,6 @@ impl Rules {
             }
         }
         None
-    }
-}
-
-impl fmt::Display for Kind {
-    fn fmt<W: fmt::Write>(&self, f: &mut fmt::Formatter<W>) -> fmt::Result {
-        match self {
-            Kind::Integer(least, most) => write!(f, "an integer from {least} to {most}"),
-            Kind::OrAny(least, most) => {
-                write!(f, "an integer from {least} to {most}, or left out for any")
-            }
-            Kind::Ranks(least, most) => {
-                write!(
-                    f,
-                    "an integer from {least} to {most}, a list of them, or \"all\""
-                )
-            }
-            Kind::Peer(least, most) => {
-                write!(f, "an integer from {least} to {most}, or {NEIGHBOURS}")
-            }
-            Kind::PeerOrAny(least, most) => {
-                write!(
-                    f,
-                    "an integer from {least} to {most}, {NEIGHBOURS}, or left out for any"
-                )
-            }
-            Kind::Text => f.write_str("a text in quotes"),
-            Kind::Tables => f.write_str("an array of tables"),
-            Kind::Reference(least, most) => {
-                write!(
-                    f,
-                    "an integer from {least} to {most}, or the name of an earlier step in quotes"
-                )
-            }
-            Kind::Name => write!(f, "a text of 1 to {MOST_NAME} letters, digits, '_' and '-'"),
-            Kind::Label => write!(
-                f,
-                "a text of 1 to {MOST_LABEL} letters, digits, spaces, '_', '-' and '.'"
-            ),
-            Kind::Conditions => f.write_str(
-                "a table with 'step' and 'is' or 'not', or with 'all', or a list of 1 to 16",
-            ),
-            Kind::Together => {
-                f.write_str("a list of 1 to 16 tables with 'step' and 'is' or 'not'")
-            }
-            Kind::Words => f.write_str("a list of 1 to 16 texts in quotes"),
-            Kind::Rows => f.write_str("a list of lists of texts in quotes"),
-        }
     }
 }
 

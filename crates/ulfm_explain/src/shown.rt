@@ -27,6 +27,11 @@ impl Shown {
         Ok(Shown { text: kept })
     }
 
+    /// What is shown.
+    pub(crate) fn as_str(&self) -> &str {
+        self.text.as_str()
+    }
+
     /// Whether nothing is shown.
     pub fn is_empty(&self) -> bool {
         self.text.is_empty()

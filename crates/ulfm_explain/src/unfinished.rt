@@ -1,5 +1,6 @@
 //! Which steps of a trace are unfinished, and which of a list every schedule skips.
 
+use crate::counted::Counted;
 use crate::steps::steps_of;
 use crate::told::{push_step, table_of};
 use std::alloc::{AllocError, Global};
@@ -50,21 +51,20 @@ fn lines_told(
     end: &str,
     head: &str,
 ) -> Result<String, AllocError> {
-    let mut notes = String::new(alloc);
-    let mut count = 0_usize;
+    let mut told = Counted::new(alloc);
     for line in text.lines() {
         if let Some(words) = line.strip_suffix(end) {
-            let mut note = String::new(alloc);
-            push_step(&mut note, steps, words)?;
-            note.push_str("\n")?;
-            if !notes.contains(note.as_str()) {
-                notes.push_str(note.as_str())?;
-                count = count.saturating_add(1);
-            }
+            let note = step_line(alloc, steps, words)?;
+            told.add(note.as_str())?;
         }
     }
-    if count == 0 {
-        return Ok(notes);
-    }
-    format!(in alloc; "{head}: {count}\n{notes}")
+    told.below(head)
+}
+
+/// The line on a step, by the words before its answer.
+fn step_line(alloc: Global, steps: &[Value], words: &str) -> Result<String, AllocError> {
+    let mut line = String::new(alloc);
+    push_step(&mut line, steps, words)?;
+    line.push_str("\n")?;
+    Ok(line)
 }

@@ -1,5 +1,6 @@
 //! Which answers of a trace aren't as their steps expect.
 
+use crate::counted::Counted;
 use crate::steps::steps_of;
 use crate::told::{halves, push_step, step_of, table_of};
 use std::alloc::{AllocError, Global};
@@ -21,21 +22,14 @@ pub fn unmet_answers(alloc: Global, bytes: &[u8], trace: &str) -> Result<String,
 
 /// The lines on the answers that aren't as these steps expect.
 fn unmet_of(alloc: Global, steps: &[Value], trace: &str) -> Result<String, AllocError> {
-    let mut notes = String::new(alloc);
-    let mut count = 0_usize;
+    let mut told = Counted::new(alloc);
     for line in trace.lines() {
         if let Some(expected) = expected_of(steps, line) {
             let note = note_on(alloc, steps, line, expected)?;
-            if !notes.contains(note.as_str()) {
-                notes.push_str(note.as_str())?;
-                count = count.saturating_add(1);
-            }
+            told.add(note.as_str())?;
         }
     }
-    if count == 0 {
-        return Ok(notes);
-    }
-    format!(in alloc; "answers that their steps don't expect: {count}\n{notes}")
+    told.below("answers that their steps don't expect")
 }
 
 /// What the step of a line expects, where its answer isn't that.

@@ -29,7 +29,7 @@ pub enum Carrier {
 }
 
 /// The options of `run`.
-#[derive(Clone, Copy, Debug, PartialEq, Eq)]
+#[derive(Clone, Copy)]
 pub struct RunOptions {
     /// What takes the items from rank to rank.
     pub carrier: Carrier,
@@ -46,7 +46,7 @@ pub struct RunOptions {
 }
 
 /// The options of `outcomes`.
-#[derive(Clone, Copy, Debug, PartialEq, Eq)]
+#[derive(Clone, Copy)]
 pub struct ListOptions {
     /// Where ranks stop, besides the stops of the job.
     pub place: Place,
@@ -67,7 +67,7 @@ pub struct ListOptions {
 }
 
 /// What the words ask for.
-#[derive(Clone, Copy, Debug, PartialEq, Eq)]
+#[derive(Clone, Copy)]
 pub enum Wanted {
     /// The line of a job, or of its refusal.
     Check,

@@ -75,12 +75,7 @@ fn notes_on(
 ) -> Result<String, AllocError> {
     match (reply.status, wanted) {
         (JOB_REFUSED, _) if bytes.trim_ascii().is_empty() => String::from_str(alloc, EMPTY),
-        (JOB_REFUSED, _) => {
-            let mut notes = refused_lines(alloc, &explain(alloc, bytes)?, reply.text.as_str())?;
-            let place = misplaced_line(alloc, bytes, place_of(wanted))?;
-            notes.push_str(place.as_str())?;
-            Ok(notes)
-        }
+        (JOB_REFUSED, _) => refused_notes(alloc, wanted, bytes, reply.text.as_str()),
         (DONE, Wanted::Check) => lines_of(alloc, "warning: ", &warnings(alloc, bytes)?),
         (PAST_LIMIT, _) => String::from_str(alloc, MANY_STATES),
         // A picture has all of it, and neither places nor a job's text say what steps are answered.
@@ -91,21 +86,9 @@ fn notes_on(
         _ if form == Form::Json => Ok(String::new(alloc)),
         (NOT_EXPECTED, Wanted::Outcomes(_)) => {
             let trace = shown_trace(reply.text.as_str());
-            let mut notes = unmet_answers(alloc, bytes, trace)?;
-            let rows = rows_that_came(alloc, bytes, trace)?;
-            notes.push_str(rows.as_str())?;
-            Ok(notes)
+            unmet_notes(alloc, bytes, trace, trace)
         }
-        (NOT_EXPECTED, _) => {
-            let lines = without_counts(alloc, reply.text.as_str())?;
-            let mut notes = unmet_answers(alloc, bytes, lines.as_str())?;
-            // In brief, lines of different runs stand together: a row is told where all runs have it.
-            let rows = rows_that_came(alloc, bytes, reply.text.as_str())?;
-            notes.push_str(rows.as_str())?;
-            let hangs = hangs_in(alloc, wanted, bytes, lines.as_str())?;
-            notes.push_str(hangs.as_str())?;
-            Ok(notes)
-        }
+        (NOT_EXPECTED, _) => unmet_run_notes(alloc, wanted, bytes, reply.text.as_str()),
         (DONE | UNFINISHED, Wanted::Outcomes(_)) => {
             skipped_steps(alloc, bytes, reply.text.as_str())
         }
@@ -115,6 +98,48 @@ fn notes_on(
         }
         _ => Ok(String::new(alloc)),
     }
+}
+
+/// Why a job is refused, and which stop put into it has no place there.
+fn refused_notes(
+    alloc: Global,
+    wanted: Wanted,
+    bytes: &[u8],
+    text: &str,
+) -> Result<String, AllocError> {
+    let found = explain(alloc, bytes)?;
+    let mut notes = refused_lines(alloc, found.as_slice(), text)?;
+    let place = misplaced_line(alloc, bytes, place_of(wanted))?;
+    notes.push_str(place.as_str())?;
+    Ok(notes)
+}
+
+/// Which answers among these lines aren't as their steps expect, and which rows this trace has whole.
+fn unmet_notes(
+    alloc: Global,
+    bytes: &[u8],
+    lines: &str,
+    trace: &str,
+) -> Result<String, AllocError> {
+    let rows = rows_that_came(alloc, bytes, trace)?;
+    let mut notes = unmet_answers(alloc, bytes, lines)?;
+    notes.push_str(rows.as_str())?;
+    Ok(notes)
+}
+
+/// The same of a replay or of runs, and which steps hang. In brief, lines of different runs stand together: a row is told where all runs
+/// have it.
+fn unmet_run_notes(
+    alloc: Global,
+    wanted: Wanted,
+    bytes: &[u8],
+    text: &str,
+) -> Result<String, AllocError> {
+    let lines = without_counts(alloc, text)?;
+    let hangs = hangs_in(alloc, wanted, bytes, lines.as_str())?;
+    let mut notes = unmet_notes(alloc, bytes, lines.as_str(), text)?;
+    notes.push_str(hangs.as_str())?;
+    Ok(notes)
 }
 
 /// The trace of the schedule that is shown below a list.
