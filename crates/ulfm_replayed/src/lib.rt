@@ -1,0 +1,4 @@
+//! What threads did is a schedule: lawful reports are those of some list of events of a world.
+#![tactic(auto)]
+
+mod laws;
