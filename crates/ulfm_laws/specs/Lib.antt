@@ -7,5 +7,6 @@ pub mod Agreement
 pub mod Rest
 pub mod Proposed
 pub mod Order
+pub mod Room
 pub mod Reader
 pub mod Lawful

@@ -4,3 +4,7 @@ pub mod Ahead
 pub mod Scripts
 pub mod Next
 pub mod Nexting
+pub mod Owed
+pub mod Told
+pub mod Moves
+pub mod Decides
