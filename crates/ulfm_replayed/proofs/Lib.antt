@@ -1,3 +1,4 @@
+pub mod Lists
 pub mod Moved
 pub mod Stage
 pub mod Ahead
@@ -8,3 +9,7 @@ pub mod Owed
 pub mod Told
 pub mod Moves
 pub mod Decides
+pub mod Rings
+pub mod Taking
+pub mod Waiting
+pub mod Takes
