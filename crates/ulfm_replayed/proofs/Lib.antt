@@ -13,3 +13,6 @@ pub mod Rings
 pub mod Taking
 pub mod Waiting
 pub mod Takes
+pub mod Pushes
+pub mod Stopping
+pub mod Stops
