@@ -16,3 +16,5 @@ pub mod Takes
 pub mod Pushes
 pub mod Stopping
 pub mod Stops
+pub mod Least
+pub mod Onward
