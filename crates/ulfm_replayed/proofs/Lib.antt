@@ -18,3 +18,4 @@ pub mod Stopping
 pub mod Stops
 pub mod Least
 pub mod Onward
+pub mod Journey
