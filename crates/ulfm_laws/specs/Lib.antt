@@ -7,6 +7,7 @@ pub mod Agreement
 pub mod Rest
 pub mod Proposed
 pub mod Order
+pub mod Room
 pub mod Contents
 pub mod Reader
 pub mod Lawful

@@ -28,10 +28,10 @@ pushed-leaves inside k = record {
 from-push : (s : ℕ) (xs : List (WorldRank × Item)) (source : WorldRank) (item : Item) → items_from s (xs ++ (source, item) ∷ []) ≡ items_from s xs ++ cond (eqb source.number s) (item ∷ []) []
 from-push s xs source item = flat_map-append (item_if_from s) xs ((source, item) ∷ []) ∙ ap (λ (ys : List Item). items_from s xs ++ ys) (append-nil (cond (eqb source.number s) (item ∷ []) []))
 
-from-push_same : (s : ℕ) (xs : List (WorldRank × Item)) (source : WorldRank) (item : Item) → source.number ≡ s → items_from s (xs ++ (source, item) ∷ []) ≡ items_from s xs ++ item ∷ []
+pub from-push_same : (s : ℕ) (xs : List (WorldRank × Item)) (source : WorldRank) (item : Item) → source.number ≡ s → items_from s (xs ++ (source, item) ∷ []) ≡ items_from s xs ++ item ∷ []
 from-push_same s xs source item same = from-push s xs source item ∙ ap (λ b. items_from s xs ++ cond b (item ∷ []) []) (eq-eqb source.number s same)
 
-from-push_other : (s : ℕ) (xs : List (WorldRank × Item)) (source : WorldRank) (item : Item) → source.number ≢ s → items_from s (xs ++ (source, item) ∷ []) ≡ items_from s xs
+pub from-push_other : (s : ℕ) (xs : List (WorldRank × Item)) (source : WorldRank) (item : Item) → source.number ≢ s → items_from s (xs ++ (source, item) ∷ []) ≡ items_from s xs
 from-push_other s xs source item other = from-push s xs source item ∙ ap (λ b. items_from s xs ++ cond b (item ∷ []) []) (ne_eqb source.number s other) ∙ append-nil (items_from s xs)
 
 -- the flow of one pair, where its parts are equal to others
