@@ -1,3 +1,4 @@
 pub mod Flow
 pub mod Fault
+pub mod Room
 pub mod inside
