@@ -3,7 +3,7 @@ use Rattle.std.proofs.Common.{ℕ, List, Option, Some, None, IfSome, arith}
 use Rattle.ulfm_rank.specs.declared.entry.Entry.TheVariants.{Adopted, Stopped, Took}
 use Rattle.ulfm_run.proofs.Common.{Report, slice_get_within}
 use Rattle.ulfm_laws.specs.Order.{HaveOneOrder}
-use Rattle.ulfm_run.specs.Room.{StopsHaveRoom}
+use Rattle.ulfm_laws.specs.Room.{StopsHaveRoom}
 use Rattle.ulfm_run.specs.inside.Walk.{IsWalked, HaveOrder, AreAtEnds}
 
 -- what was walked to its end has one order

@@ -9,7 +9,7 @@ use Rattle.ulfm_laws.specs.Order.{Owe, IsOwedEarlier, HaveOneOrder}
 use Rattle.ulfm_laws.specs.Proposed.{IsProposedEarlier}
 use Rattle.ulfm_run.proofs.Behind.{fewer_behind, none_behind}
 use Rattle.ulfm_run.proofs.Placed.{by_place}
-use Rattle.ulfm_run.specs.Room.{StopsHaveRoom}
+use Rattle.ulfm_laws.specs.Room.{StopsHaveRoom}
 use Rattle.ulfm_run.specs.inside.Walk.{GoesOn, HasRoomNow, AreAtEnds}
 
 module _ {room : Option ℕ} {reports : List Report} (o : HaveOneOrder reports) (rooms : IfSome room (StopsHaveRoom reports o.time)) (fronts : List ℕ) (stuck : (d : ℕ) → GoesOn room reports fronts d → ⊥) where

@@ -1,4 +1,3 @@
 pub mod Flow
 pub mod Fault
-pub mod Room
 pub mod inside

@@ -1,7 +1,7 @@
 //! Room on the way from rank to rank, as reports tell of it (ULFM, stops).
 ghost use Rattle.std.specs.Prelude.{◌≡◌, ◌≤◌, ◌↔◌, IsTrue, drop, length};
 ghost use Rattle.ulfm_rank.specs.Facts.{is_gone_item};
-ghost use Rattle.ulfm_run.specs.Room.{HaveRoom, takes_sent, taken_behind};
+ghost use Rattle.ulfm_laws.specs.Room.{HaveRoom, takes_sent, taken_behind};
 ghost use Rattle.ulfm_run.specs.inside.Walk.{HasRoomNow};
 
 use crate::order::have_order;

@@ -9,7 +9,7 @@ use Rattle.ulfm_rank.specs.declared.entry.Entry.TheVariants.{Adopted, Stopped, T
 use Rattle.ulfm_script.specs.Report.{Report}
 use Rattle.ulfm_laws.specs.Order.{Owe, IsOwedEarlier, HaveOneOrder}
 use Rattle.ulfm_laws.specs.Proposed.{IsProposedEarlier}
-use Rattle.ulfm_run.specs.Room.{taken_behind, HasRoomFor, StopsHaveRoom}
+use Rattle.ulfm_laws.specs.Room.{taken_behind, HasRoomFor, StopsHaveRoom}
 use Rattle.ulfm_run.specs.inside.Listed.{IsProposedByRank}
 
 -- the entries that were walked of the rank s owe this item to the rank d, whose log was `before`
