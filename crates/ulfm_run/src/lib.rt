@@ -12,6 +12,7 @@ mod asking;
 mod at_work;
 mod comparing;
 mod finished;
+mod foreign;
 mod job;
 mod listing;
 mod order;
