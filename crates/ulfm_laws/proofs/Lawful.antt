@@ -89,6 +89,7 @@ module _ (job : JobView) (inboxes : Inboxes) (knows : List Known) (reports : Lis
     entered = each_once;
     own = adopt_own;
     decisions = h.decisions;
+    none_foreign = h.none_foreign;
     one_decision = adopt_one;
     one_group = one_group reports adopt_one counted;
     agreements = agreement reports (λ r told here. let x = known_of r here in (x.0, h.answers r told x.0 here x.1)) h.decisions all_keep h.order adopt_one;

@@ -13,4 +13,7 @@ pub mod Crossing
 pub mod Placed
 pub mod Decided
 pub mod Walked
+pub mod Fronts
+pub mod Found
+pub mod Behind
 pub mod Stuck

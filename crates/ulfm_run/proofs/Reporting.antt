@@ -8,6 +8,7 @@ use Rattle.ulfm_laws.specs.Answers.{AllAgree, AllFollowScripts}
 use Rattle.ulfm_laws.specs.Lawful.{AreProduced}
 use Rattle.ulfm_run.proofs.Common.{at, cases_lt, Global, InPlace, IsGathered, IsPlayed, Item, Keeps, Known, length-map, Report, slice_get_within, Vec, WorldRank, items_from, Flows, there, AreTrue, Ran, NameOneBoard, report_in, end_in, decider_in, WerePlayed, GaveAnswers, JobView, script_at}
 use Rattle.ulfm_run.specs.Fault.{ShowUntrue, Fits}
+use Rattle.ulfm_laws.specs.Decisions.{NoneIsForeign}
 use Rattle.ulfm_laws.specs.Order.{HaveOneOrder}
 use Rattle.ulfm_run.specs.Flow.{EndsMatchLogs, contents}
 use Rattle.ulfm_run.proofs.Paired.{one_board_names}
@@ -120,8 +121,8 @@ module _ {E D N : Type 0} {name : E → N} {place count : E → ℕ} {pushed tak
     board_all one = subst NameOneBoard (sym (same_boards (fit.decider_each ∙ sym fit.end_each))) (one_board_names board deciders one)
 
     -- what the threads gave back is what an engine has to produce
-    pub produced_all : (known : D → Known) → All (GaveAnswers known) ran → {ranks : List Report} (knows : List Known) {inboxes : List (Vec (WorldRank × Item) Global)} → ranks ≡ map report_in ran → knows ≡ map known (map decider_in ran) → IsGathered pushed taken (map end_in ran) inboxes → AllAgree knows → AreTrue ranks → HaveOneOrder ranks → AreProduced job (contents inboxes) knows ranks
-    produced_all known answers {ranks} knows {inboxes} is held settled agreed true one_order = record {
+    pub produced_all : (known : D → Known) → All (GaveAnswers known) ran → {ranks : List Report} (knows : List Known) {inboxes : List (Vec (WorldRank × Item) Global)} → ranks ≡ map report_in ran → knows ≡ map known (map decider_in ran) → IsGathered pushed taken (map end_in ran) inboxes → AllAgree knows → AreTrue ranks → HaveOneOrder ranks → NoneIsForeign ranks → AreProduced job (contents inboxes) knows ranks
+    produced_all known answers {ranks} knows {inboxes} is held settled agreed true one_order none_foreign = record {
       each = ap length is ∙ length-map ran report_in ∙ h.as_many ∙ fit.end_each;
       known_each = ap length held ∙ length-map (map decider_in ran) known ∙ length-map ran decider_in ∙ h.as_many ∙ fit.end_each;
       order = order_all is;
@@ -131,11 +132,12 @@ module _ {E D N : Type 0} {name : E → N} {place count : E → ℕ} {pushed tak
       answers = answers_all known ran answers knows is held;
       agreed = agreed;
       decisions = true;
+      none_foreign = none_foreign;
       one_order = one_order;
     }
 
-    -- reports that show a decision that isn't true, or no order
-    pub untrue_all : (known : D → Known) → All (GaveAnswers known) ran → {ranks : List Report} → ranks ≡ map report_in ran → (AreTrue ranks × HaveOneOrder ranks → ⊥) → ShowUntrue job ranks
+    -- reports that show a decision that isn't true, or isn't one for its rank, or no order
+    pub untrue_all : (known : D → Known) → All (GaveAnswers known) ran → {ranks : List Report} → ranks ≡ map report_in ran → (AreTrue ranks × HaveOneOrder ranks × NoneIsForeign ranks → ⊥) → ShowUntrue job ranks
     untrue_all known answers {ranks} is untrue = record {
       each = ap length is ∙ length-map ran report_in ∙ h.as_many ∙ fit.end_each;
       order = order_all is;

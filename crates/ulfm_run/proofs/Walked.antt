@@ -1,21 +1,22 @@
--- What was walked has one order.
-use Rattle.std.proofs.Common.{◌≡◌, ◌<◌, ◌≤◌, ◌+◌, ◌⊎◌, ℕ, zero, suc, List, [], ◌∷◌, length, take, set, replicate, slice_index, refl, ap, sym, subst, ◌∙◌, inl, inr, arith, get_or-set_same, get_or-set_other}
+-- What was walked has one order, in which stops have their room.
+use Rattle.std.proofs.Common.{◌≡◌, ◌<◌, ◌≤◌, ◌+◌, ℕ, List, length, take, set, replicate, slice_index, refl, ap, sym, subst, ◌∙◌, inl, inr, arith, Option, IfSome}
 use Rattle.std.proofs.lemmas.List.{length-set}
-use Rattle.ulfm_rank.specs.declared.entry.Entry.TheVariants.{Adopted, Took}
+use Rattle.std.proofs.lemmas.Option.{IfSome_then}
+use Rattle.ulfm_rank.specs.declared.entry.Entry.TheVariants.{Adopted, Stopped, Took}
 use Rattle.ulfm_base.proofs.Places.{only_at}
 use Rattle.ulfm_base.specs.declared.decision.Decision.{Decision}
-use Rattle.ulfm_run.proofs.Common.{at, Entry, Item, Report, WorldRank, cases_eq, cases_lt, get_or-blank, none-some, same_Some, slice_get_within}
+use Rattle.ulfm_run.proofs.Common.{at, Entry, Item, Report, WorldRank, get_or-blank, slice_get_within}
 use Rattle.ulfm_laws.proofs.Times.{time_else, time_here, with_time}
-use Rattle.ulfm_laws.specs.Order.{HaveOneOrder}
+use Rattle.ulfm_run.proofs.Fronts.{walked_cases, walked_still}
 use Rattle.ulfm_run.proofs.Placed.{IsPlaced, placed}
-use Rattle.ulfm_run.specs.inside.Walk.{IsOwedByWalked, MayPass, GoesOn, StepsOn, IsOwedWithin, IsProposedWithin, IsWalked, AreAtEnds, entries_left}
+use Rattle.ulfm_run.specs.inside.Walk.{IsOwedByWalked, HasRoomNow, MayPass, GoesOn, StepsOn, IsOwedWithin, IsProposedWithin, StopHasRoom, IsWalked}
 
 none_yet : (r k : ℕ) → k < slice_index (replicate 8 0) r → ⊥
 none_yet r k h = omega (arith, h, get_or-blank {X = ℕ} 8 r 0)
 
 -- before the first step
-pub walked_none : (reports : List Report) → IsWalked reports (replicate 8 0)
-walked_none reports = record {
+pub walked_none : (room : Option ℕ) (reports : List Report) → IsWalked room reports (replicate 8 0)
+walked_none room reports = record {
   sized = refl;
   time = λ r k. 0;
   now = 0;
@@ -23,29 +24,10 @@ walked_none reports = record {
   onward = λ r k h. absurd (none_yet r (k + 1) h);
   owed = λ d k receiver source item here h stands. absurd (none_yet d k h);
   proposed = λ r k told d here h stands. absurd (none_yet r k h);
+  stops = λ s k sender here h stands. absurd (none_yet s k h);
 }
 
--- a place that is walked after a step is the new one, or was walked before
-walked_cases : (old : List ℕ) (d r k : ℕ) → d < length old → k < slice_index (set old d (slice_index old d + 1)) r
-    → ((r ≡ d) × (k ≡ slice_index old d)) ⊎ (k < slice_index old r)
-walked_cases old d r k inside h = elim (cases_eq r d) [
-  | inl one ↦
-      let more : slice_index (set old d (slice_index old d + 1)) r ≡ slice_index old d + 1 = ap (slice_index (set old d (slice_index old d + 1))) one ∙ get_or-set_same old d (slice_index old d + 1) 0 inside in
-      elim (cases_lt k (slice_index old d)) [
-        | inl before ↦ inr (subst (λ i. k < slice_index old i) (sym one) before)
-        | inr least ↦ inl (one, omega (arith, least, more, h))
-      ]
-  | inr other ↦ inr (subst (λ n. k < n) (get_or-set_other old d r (slice_index old d + 1) 0 other) h)
-]
-
--- what was walked stays walked
-walked_still : (old : List ℕ) (d r : ℕ) → d < length old → slice_index old r ≤ slice_index (set old d (slice_index old d + 1)) r
-walked_still old d r inside = elim (cases_eq r d) [
-  | inl one ↦ omega (arith, ap (slice_index old) one, ap (slice_index (set old d (slice_index old d + 1))) one, get_or-set_same old d (slice_index old d + 1) 0 inside)
-  | inr other ↦ omega (arith, get_or-set_other old d r (slice_index old d + 1) 0 other)
-]
-
-module _ {reports : List Report} {old : List ℕ} {d : ℕ} (w : IsWalked reports old) (goes : GoesOn reports old d) (inside : d < length old) where
+module _ {room : Option ℕ} {reports : List Report} {old : List ℕ} {d : ℕ} (w : IsWalked room reports old) (goes : GoesOn room reports old d) (inside : d < length old) where
   abbrev front : ℕ
   front = slice_index old d
 
@@ -102,13 +84,13 @@ module _ {reports : List Report} {old : List ℕ} {d : ℕ} (w : IsWalked report
   }
 
   -- the entry that a step passes
-  passed : (told : Report) (k : ℕ) (entry : Entry) → at reports d told → k ≡ front → at told.rank.log k entry → MayPass reports old d (take k told.rank.log) entry
+  passed : (told : Report) (k : ℕ) (entry : Entry) → at reports d told → k ≡ front → at told.rank.log k entry → MayPass room reports old d (take k told.rank.log) entry
   passed told k entry reported at_front stands =
       let one : told ≡ goes.told = only_at reports d goes.told told goes.reported reported in
       let same : entry ≡ goes.entry = only_at goes.told.rank.log front goes.entry entry goes.next (subst (λ (i : ℕ). at goes.told.rank.log i entry) at_front (subst (λ (x : Report). at x.rank.log k entry) one stands)) in
-      subst (λ (x : Report). MayPass reports old d (take k x.rank.log) entry) (sym one)
-      (subst (λ (i : ℕ). MayPass reports old d (take i goes.told.rank.log) entry) (sym at_front)
-      (subst (λ (e : Entry). MayPass reports old d (take front goes.told.rank.log) e) (sym same) goes.passes))
+      subst (λ (x : Report). MayPass room reports old d (take k x.rank.log) entry) (sym one)
+      (subst (λ (i : ℕ). MayPass room reports old d (take i goes.told.rank.log) entry) (sym at_front)
+      (subst (λ (e : Entry). MayPass room reports old d (take front goes.told.rank.log) e) (sym same) goes.passes))
 
   owed : (e k : ℕ) (receiver : Report) (source : WorldRank) (item : Item) → at reports e receiver → k < slice_index new e → at receiver.rank.log k (Took source item)
       → IsOwedWithin reports new time source.number e k (take k receiver.rank.log) item
@@ -144,7 +126,39 @@ module _ {reports : List Report} {old : List ℕ} {d : ℕ} (w : IsWalked report
         proposed_still r k (w.time r k) decision (omega (arith, before r k then)) (record { rank = p.rank; told = p.told; reported = p.reported; place = p.place; walked = was.walked; made = p.made }) p.earlier
   ]
 
-  walked_more : IsWalked reports new
+  -- a stop that had room still has it
+  room_kept : (s k : ℕ) → k < slice_index old s → (capacity : ℕ) → StopHasRoom reports old w.time s k capacity → StopHasRoom reports new time s k capacity
+  room_kept s k lt capacity h e receiver reported =
+      let one = h e receiver reported in record {
+        room = record {
+          count = one.room.count;
+          earlier = λ j few. omega (arith, one.room.earlier j few, before e j (omega (arith, few, one.within)), before s k lt);
+          few = one.room.few;
+        };
+        within = omega (arith, one.within, walked_still old d e inside);
+      }
+
+  -- a new stop has room by what was walked
+  room_added : (k : ℕ) → k ≡ front → (capacity : ℕ) → HasRoomNow reports old d capacity → StopHasRoom reports new time d k capacity
+  room_added k at_front capacity h e receiver reported = record {
+    room = record {
+      count = slice_index old e;
+      earlier = λ j few. omega (arith, w.past e j few, before e j few, here d k (refl, at_front));
+      few = h e receiver reported;
+    };
+    within = walked_still old d e inside;
+  }
+
+  stops : (s k : ℕ) (sender : Report) → at reports s sender → k < slice_index new s → at sender.rank.log k Stopped → IfSome room (StopHasRoom reports new time s k)
+  stops s k sender reported lt stands = elim (walked_cases old d s k inside lt) [
+    | inl one ↦
+        let there_too = subst (λ (i : ℕ). at reports i sender) one.0 reported in
+        subst (λ (i : ℕ). IfSome room (StopHasRoom reports new time i k)) (sym one.0)
+        (IfSome_then room (passed sender k Stopped there_too one.1 stands) (λ capacity. room_added k one.1 capacity))
+    | inr then ↦ IfSome_then room (w.stops s k sender reported then stands) (λ capacity. room_kept s k then capacity)
+  ]
+
+  walked_more : IsWalked room reports new
   walked_more = record {
     sized = length-set old d (front + 1) ∙ w.sized;
     time = time;
@@ -153,37 +167,11 @@ module _ {reports : List Report} {old : List ℕ} {d : ℕ} (w : IsWalked report
     onward = onward;
     owed = owed;
     proposed = proposed;
+    stops = stops;
   }
 
 -- after a step
-pub walked_step : {reports : List Report} {old new : List ℕ} (d : ℕ) → length reports ≤ 8 → IsWalked reports old → StepsOn reports old d new → IsWalked reports new
-walked_step {reports} {old} d few w step =
+pub walked_step : {room : Option ℕ} {reports : List Report} {old new : List ℕ} (d : ℕ) → length reports ≤ 8 → IsWalked room reports old → StepsOn room reports old d new → IsWalked room reports new
+walked_step {room} {reports} {old} d few w step =
     let inside = slice_get_within reports d step.goes.told step.goes.reported in
-    subst (λ (fronts : List ℕ). IsWalked reports fronts) (sym step.moved) (walked_more w step.goes (omega (arith, few, inside, w.sized)))
-
--- each step leaves fewer entries
-left_falls : (reports : List Report) (old : List ℕ) (d : ℕ) (told : Report) → at reports d told → d < length old → slice_index old d < length told.rank.log
-    → entries_left reports (set old d (slice_index old d + 1)) < entries_left reports old
-left_falls [] old d told here inside lt = absurd (none-some told here)
-left_falls (x ∷ reports) [] d told here inside lt = absurd (omega (arith, inside))
-left_falls (x ∷ reports) (front ∷ old) zero told here inside lt =
-    let same : length x.rank.log ≡ length told.rank.log = ap (λ (r : Report). length r.rank.log) (same_Some x told here) in
-    omega (arith, same, lt)
-left_falls (x ∷ reports) (front ∷ old) (suc d) told here inside lt = omega (arith, left_falls reports old d told here (omega (arith, inside)) lt)
-
-pub step_falls : {reports : List Report} {old new : List ℕ} (d : ℕ) → length reports ≤ 8 → length old ≡ 8 → StepsOn reports old d new → entries_left reports new < entries_left reports old
-step_falls {reports} {old} d few sized step =
-    let goes = step.goes in
-    let inside = slice_get_within reports d goes.told goes.reported in
-    let lt = slice_get_within goes.told.rank.log (slice_index old d) goes.entry goes.next in
-    subst (λ (fronts : List ℕ). entries_left reports fronts < entries_left reports old) (sym step.moved) (left_falls reports old d goes.told goes.reported (omega (arith, few, inside, sized)) lt)
-
--- logs that were walked to their ends have one order
-pub found : (reports : List Report) (fronts : List ℕ) → IsWalked reports fronts → AreAtEnds reports fronts → HaveOneOrder reports
-found reports fronts w ends = record {
-  time = w.time;
-  onward = λ r k told here lt. w.onward r k (omega (arith, lt, ends r told here));
-  owed_earlier = λ d k receiver source item here stands.
-      (w.owed d k receiver source item here (omega (arith, slice_get_within receiver.rank.log k (Took source item) stands, ends d receiver here)) stands).owed;
-  proposed_earlier = λ r k told d here stands. (w.proposed r k told d here (omega (arith, slice_get_within told.rank.log k (Adopted d) stands, ends r told here)) stands).proposed;
-}
+    subst (λ (fronts : List ℕ). IsWalked room reports fronts) (sym step.moved) (walked_more w step.goes (omega (arith, few, inside, w.sized)))

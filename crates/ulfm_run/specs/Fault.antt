@@ -5,7 +5,7 @@ use Rattle.ulfm_job.specs.Job.{JobView}
 use Rattle.ulfm_script.specs.Deciding.{Known}
 use Rattle.ulfm_script.specs.Report.{Report}
 use Rattle.ulfm_laws.specs.Answers.{AllFollowScripts, AllAnswersFollow}
-use Rattle.ulfm_laws.specs.Decisions.{AreTrue}
+use Rattle.ulfm_laws.specs.Decisions.{AreTrue, NoneIsForeign}
 use Rattle.ulfm_laws.specs.Order.{HaveOneOrder}
 use Rattle.ulfm_laws.specs.Reports.{IsEach}
 
@@ -15,8 +15,8 @@ pub record Fits {E D : Type 0} (place : E → ℕ) (job : JobView) (ends : List 
   pub decider_each : length deciders ≡ job.ranks
   pub placed : InPlace place ends
 
--- What all the ranks of a job report, by their numbers, shows a decision that isn't true, or logs that have no one order, as where
--- no rank's own call made a revocation. With some decisions known for each rank, each answer is right.
+-- What all the ranks of a job report, by their numbers, shows a decision that isn't true, or isn't one for its rank to adopt, or logs
+-- that have no one order, as where no rank's own call made a revocation. With some decisions known for each rank, each answer is right.
 pub record ShowUntrue (job : JobView) (reports : List Report) : Type 0 where
   pub each : IsEach job reports
   pub order : InPlace (λ report. report.rank.me) reports
@@ -24,4 +24,4 @@ pub record ShowUntrue (job : JobView) (reports : List Report) : Type 0 where
   pub knows : List Known
   pub known_each : IsEach job knows
   pub answered : AllAnswersFollow knows reports
-  pub untrue : AreTrue reports × HaveOneOrder reports → ⊥
+  pub untrue : AreTrue reports × HaveOneOrder reports × NoneIsForeign reports → ⊥

@@ -9,7 +9,7 @@ ghost use Rattle.ulfm_laws.specs.Answers.{AllAgree};
 ghost use Rattle.ulfm_laws.specs.Lawful.{LawfulReport};
 ghost use Rattle.ulfm_laws.specs.Order.{HaveOneOrder};
 ghost use Rattle.ulfm_laws.specs.Reports.{IsEach};
-ghost use Rattle.ulfm_laws.specs.Decisions.{AreTrue};
+ghost use Rattle.ulfm_laws.specs.Decisions.{AreTrue, NoneIsForeign};
 ghost use Rattle.ulfm_run.specs.inside.Threads.{NameOneBoard, report_in, end_in, decider_in};
 ghost use Rattle.ulfm_run.specs.Fault.{ShowUntrue, Fits};
 ghost use Rattle.ulfm_run.specs.Flow.{EndsMatchLogs, contents};
@@ -17,6 +17,7 @@ ghost use Rattle.ulfm_script.specs.Report.{Report as Told};
 
 use crate::adopted::are_true;
 use crate::comparing::compared;
+use crate::foreign::none_is_foreign;
 use crate::order::have_one_order;
 use crate::report::Report;
 use crate::threads::{Unplayed, play_all};
@@ -32,8 +33,8 @@ use ulfm_script::{Job, RankReport, RunFault};
 /// number. In a turn a rank pushes all that its outboxes hold and the inboxes have room for, takes one item, and polls its
 /// step once; a step that the job's last poll for it left open is given up. After its last step it goes on for at most as many
 /// turns without polls, until all ranks have finished and then 100 turns in a row moved nothing; where it stopped, it pushes
-/// alone, until nothing is left to go out. Then the decisions that ranks adopted, and the order of all that they took and sent, are
-/// held against what the ranks report. What is left in the inboxes is gathered, and the deciders are compared: no two know two
+/// alone, until nothing is left to go out. Then the decisions that ranks adopted or refused to, and the order of all that they took and
+/// sent, are held against what the ranks report. What is left in the inboxes is gathered, and the deciders are compared: no two know two
 /// decisions on one topic. No clause tells of threads, nor of the order in a turn, nor how many turns there are (docs/LIMITS.md).
 ///
 /// # Errors
@@ -41,9 +42,9 @@ use ulfm_script::{Job, RankReport, RunFault};
 /// `BadEnds` where the number of ends or of deciders isn't that of the ranks, or an end stands at another place than its
 /// number; no thread is started then. `NoThread` where a thread couldn't be started, `OutOfMemory` where a growth outside the
 /// turns of the ranks was refused, `Untrue` where a decision that a rank adopted lists a set or a flag that isn't that of its rank's
-/// own entry, or excludes a rank that didn't stop, or where the logs have no one order, as when two ranks each took a letter before
-/// they sent theirs, or a rank took notice of a revocation that no rank's own call made; the threads that were started have run to
-/// their end then.
+/// own entry, or excludes a rank that didn't stop, where a step is refused since the decision isn't one for its rank to adopt, or where
+/// the logs have no one order, as when two ranks each took a letter before they sent theirs, or a rank took notice of a revocation
+/// that no rank's own call made; the threads that were started have run to their end then.
 pub fn run_job<E, D, R>(
     rt: &R,
     alloc: Global,
@@ -99,7 +100,8 @@ fn report_of<E: Ends, D: Decider, R: Wait>(
     ensures agree { IfOk result (λ report. AllAgree (map D.known report.deciders.items)) }
     ensures decisions { IfOk result (λ report. AreTrue report.ranks.items) }
     ensures one_order { IfOk result (λ report. HaveOneOrder report.ranks.items) }
-    ensures untrue { IfErr result (λ fault. (reports : Listed Told Heap) → fault ≡ RunFault.Untrue reports → (reports.items ≡ map report_in ran.items) × (AreTrue reports.items × HaveOneOrder reports.items → ⊥)) }
+    ensures none_foreign { IfOk result (λ report. NoneIsForeign report.ranks.items) }
+    ensures untrue { IfErr result (λ fault. (reports : Listed Told Heap) → fault ≡ RunFault.Untrue reports → (reports.items ≡ map report_in ran.items) × (AreTrue reports.items × HaveOneOrder reports.items × NoneIsForeign reports.items → ⊥)) }
     ensures fits { IfErr result (λ fault. fault ≡ RunFault.BadEnds → ⊥) }
 {
     let count = ran.len();
@@ -120,13 +122,13 @@ fn report_of<E: Ends, D: Decider, R: Wait>(
     })
 }
 
-/// Whether the decisions that ranks adopted are true of what the ranks report, and all logs have one order. It never answers out
-/// of memory.
+/// Whether the decisions that ranks adopted are true of what the ranks report, all logs have one order, and no step is refused since
+/// the decision isn't one for its rank to adopt. It never answers out of memory.
 fn are_borne_out(reports: &[RankReport]) -> bool
     requires { length reports.now ≤ 8 }
-    ensures { IsTrue result ↔ (AreTrue reports.now × HaveOneOrder reports.now) }
+    ensures { IsTrue result ↔ (AreTrue reports.now × HaveOneOrder reports.now × NoneIsForeign reports.now) }
 {
-    are_true(reports) && have_one_order(reports)
+    are_true(reports) && have_one_order(reports) && none_is_foreign(reports)
 }
 
 /// Whether there is an end and a decider for each rank, and each end stands at the place of its number.

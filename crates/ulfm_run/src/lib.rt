@@ -3,7 +3,8 @@
 //!
 //!     let report = run_job(rt, alloc, &job, ends, deciders)?;
 //!
-//! A report that is returned is lawful (`LawfulReport` of `ulfm_laws`). [`at_rest`] tells whether the run came to rest.
+//! A report that is returned is lawful (`LawfulReport` of `ulfm_laws`). [`at_rest`] tells whether the run came to rest, and
+//! [`fits`] whether rings of so many places allow it.
 #![tactic(auto)]
 
 mod adopted;
@@ -11,6 +12,7 @@ mod asking;
 mod at_work;
 mod comparing;
 mod finished;
+mod foreign;
 mod job;
 mod listing;
 mod order;
@@ -19,9 +21,11 @@ mod polling;
 mod proposing;
 mod report;
 mod rest;
+mod room;
 mod threads;
 mod worker;
 
 pub use job::run_job;
 pub use report::Report;
 pub use rest::at_rest;
+pub use room::fits;

@@ -1,41 +1,55 @@
 //! One order of all that ranks report: what is taken is owed earlier, and what is adopted proposed (MPI 4.0, 3.5; ULFM).
 ghost use Rattle.std.specs.Prelude.{◌≡◌, ◌≤◌, ◌↔◌, ℕ, IsTrue, IfSome, IfNone, false, length, take};
 ghost use Rattle.ulfm_laws.specs.Order.{HaveOneOrder};
-ghost use Rattle.ulfm_run.specs.inside.Walk.{GoesOn, MayPass, IsOwedByWalked, StepsOn, AreAtEnds};
+ghost use Rattle.ulfm_run.specs.inside.Walk.{GoesOn, HaveOrder, MayPass, IsOwedByWalked, StepsOn, AreAtEnds};
 
 use crate::owing::owe;
 use crate::proposing::is_proposed;
+use crate::room::has_room;
 use ulfm_base::{NotedItem, WorldRank};
 use ulfm_rank::Entry;
 use ulfm_script::RankReport;
 
-/// Whether all logs have one order. It walks over all of them at once: a rank goes on where its next entry takes no item, or one
-/// that the entries walked of its sender owe, and adopts no decision, or one that a rank proposed by its entries walked. It never
-/// answers out of memory.
+/// Whether all logs have one order. It never answers out of memory.
 pub(crate) fn have_one_order(reports: &[RankReport]) -> bool
     requires { length reports.now ≤ 8 }
     ensures { IsTrue result ↔ HaveOneOrder reports.now }
 {
+    have_order(reports, None)
+}
+
+/// Whether all logs have one order, in which each stop has so much room, if a number is given. It walks over all of them at once: a
+/// rank goes on where its next entry takes no item, or one that the entries walked of its sender owe; adopts no decision, or one that
+/// a rank proposed by its entries walked; and is no stop, or one that has room.
+pub(crate) fn have_order(reports: &[RankReport], room: Option<u8>) -> bool
+    requires { length reports.now ≤ 8 }
+    ensures { IsTrue result ↔ HaveOrder room reports.now }
+{
     let mut fronts: [usize; 8] = [0; 8];
     let mut last = 0;
-    while let Some(rank) = step(reports, &mut fronts, last) {
+    while let Some(rank) = step(reports, room, &mut fronts, last) {
         last = rank;
     }
     are_at_ends(reports, &fronts)
 }
 
 /// One rank goes on by an entry, the one that did last if it can. Nothing: none can.
-fn step(reports: &[RankReport], fronts: &mut [usize; 8], last: usize) -> Option<usize>
+fn step(
+    reports: &[RankReport],
+    room: Option<u8>,
+    fronts: &mut [usize; 8],
+    last: usize,
+) -> Option<usize>
     requires { length reports.now ≤ 8 }
-    ensures steps { IfSome result (λ rank. StepsOn reports.now fronts.old rank fronts.new) }
-    ensures stuck { IfNone result ((rank : ℕ) → GoesOn reports.now fronts.old rank → ⊥) }
+    ensures steps { IfSome result (λ rank. StepsOn room reports.now fronts.old rank fronts.new) }
+    ensures stuck { IfNone result ((rank : ℕ) → GoesOn room reports.now fronts.old rank → ⊥) }
     ensures stays { IfNone result (fronts.new ≡ fronts.old) }
 {
-    if go_on(reports, fronts, last) {
+    if go_on(reports, room, fronts, last) {
         return Some(last);
     }
     for rank in 0..reports.len() {
-        if go_on(reports, fronts, rank) {
+        if go_on(reports, room, fronts, rank) {
             return Some(rank);
         }
     }
@@ -43,10 +57,10 @@ fn step(reports: &[RankReport], fronts: &mut [usize; 8], last: usize) -> Option<
 }
 
 /// A rank goes on by an entry, if it can. Whether it did.
-fn go_on(reports: &[RankReport], fronts: &mut [usize; 8], rank: usize) -> bool
+fn go_on(reports: &[RankReport], room: Option<u8>, fronts: &mut [usize; 8], rank: usize) -> bool
     requires { length reports.now ≤ 8 }
-    ensures steps { IsTrue result → StepsOn reports.now fronts.old rank fronts.new }
-    ensures stuck { result ≡ false → GoesOn reports.now fronts.old rank → ⊥ }
+    ensures steps { IsTrue result → StepsOn room reports.now fronts.old rank fronts.new }
+    ensures stuck { result ≡ false → GoesOn room reports.now fronts.old rank → ⊥ }
     ensures stays { result ≡ false → fronts.new ≡ fronts.old }
 {
     let Some(report) = reports.get(rank) else {
@@ -57,27 +71,33 @@ fn go_on(reports: &[RankReport], fronts: &mut [usize; 8], rank: usize) -> bool
     let Some(entry) = log.get(front) else {
         return false;
     };
-    if !may_pass(reports, fronts, rank, &log[..front], entry) {
+    if !may_pass(reports, room, fronts, rank, &log[..front], entry) {
         return false;
     }
     fronts[rank] = front + 1;
     true
 }
 
-/// Whether an entry of a rank, whose log was `before`, takes an item that is owed, adopts a decision that was proposed, or does neither.
+/// Whether an entry of a rank, whose log was `before`, takes an item that is owed, adopts a decision that was proposed, stops where there
+/// is room, if a number is given, or does none of these.
 fn may_pass(
     reports: &[RankReport],
+    room: Option<u8>,
     fronts: &[usize; 8],
     rank: usize,
     before: &[Entry],
     entry: &Entry,
 ) -> bool
     requires { length reports.now ≤ 8 }
-    ensures { IsTrue result ↔ MayPass reports.now fronts.now rank before.now entry.now }
+    ensures { IsTrue result ↔ MayPass room reports.now fronts.now rank before.now entry.now }
 {
     match entry {
         Entry::Took(source, item) => is_owed(reports, fronts, *source, rank, before, item),
         Entry::Adopted(held) => is_proposed(reports, fronts, rank, held.decision()),
+        Entry::Stopped => match room {
+            Some(capacity) => has_room(reports, fronts, rank, capacity),
+            None => true,
+        },
         _ => true,
     }
 }

@@ -15,6 +15,7 @@ use Rattle.ulfm_laws.proofs.Lawful.{lawful}
 use Rattle.ulfm_laws.proofs.Taken.{took_none}
 use Rattle.ulfm_world.proofs.Agreed.{IsHeld, Settled}
 use Rattle.ulfm_world.proofs.Ends.{stuck-answered, stuck-rest}
+use Rattle.ulfm_world.proofs.Foreign.{none_foreign}
 use Rattle.ulfm_world.proofs.Honesty.{true-reached}
 use Rattle.ulfm_world.proofs.OneOrder.{one_order}
 use Rattle.ulfm_world.proofs.Read.{many_reports, report_there, each_report, flowing-world, world-reached}
@@ -95,6 +96,7 @@ module _ (j : JobView) (w : World) (job : IsJob j) (came : IsUnderway j w) (stuc
     answers = has_answers;
     agreed = λ r s one other here there c. both_agree (known_at one c) (known_at other c) (known_at w.decided c) (λ d e. known_held r c d here e) (λ d e. known_held s c d there e);
     decisions = each_report (λ s told. (k : ℕ) (entry : Entry) → at told.rank.log k entry → AdoptsTruly (reports_in w) entry) w adopts_truly;
+    none_foreign = none_foreign j.ranks (PerInbox j.capacity) w job.few_ranks came.reaches;
     one_order = one_order j.ranks (PerInbox j.capacity) w job.few_ranks came.reaches;
   }
 

@@ -2,6 +2,7 @@ use Rattle.std.proofs.Common.{◌≡◌, ap, sym, ◌∙◌, subst, map, List, l
 use Rattle.ulfm_script.specs.declared.fault.RunFault.{RunFault}
 use Rattle.ulfm_script.specs.declared.fault.RunFault.TheVariants.{Untrue}
 use Rattle.ulfm_run.proofs.Common.{Global, IsGathered, Keeps, NameOneBoard, Report, Vec, false≢true, AreTrue, length-map, report_in}
+use Rattle.ulfm_laws.specs.Decisions.{NoneIsForeign}
 use Rattle.ulfm_laws.specs.Order.{HaveOneOrder}
 use Rattle.ulfm_run.proofs.job.report_of.Goals as goal
 
@@ -33,6 +34,9 @@ returns-clause-decisions g c = subst AreTrue c.deref.ensures.value (c.are_borne_
 pub returns-clause-one_order : goal.returns-clause-one_order
 returns-clause-one_order g c = subst (λ (rs : List Report). HaveOneOrder rs) c.deref.ensures.value (c.are_borne_out.ensures.0 c.if-not-are_borne_out.false).1
 
+pub returns-clause-none_foreign : goal.returns-clause-none_foreign
+returns-clause-none_foreign g c = subst (λ (rs : List Report). NoneIsForeign rs) c.deref.ensures.value (c.are_borne_out.ensures.0 c.if-not-are_borne_out.false).2
+
 -- the reports that a fault carries, where it is `Untrue`
 abbrev carried : RunFault → Vec Report Global → Vec Report Global
 carried (Untrue reports) other = reports
@@ -43,6 +47,6 @@ returns-then-not-are_borne_out-clause-untrue g c reports fault =
     let same = ap (λ (rs : Vec Report Global). rs.items) (ap (λ f. carried f reports) fault) in (
       sym same ∙ c.parted-ranks.ensures.reports,
       λ all.
-          let shown = subst (λ (rs : List Report). AreTrue rs × HaveOneOrder rs) (sym (c.deref.ensures.value ∙ same)) all in
+          let shown = subst (λ (rs : List Report). AreTrue rs × HaveOneOrder rs × NoneIsForeign rs) (sym (c.deref.ensures.value ∙ same)) all in
           false≢true (sym c.if-not-are_borne_out.true ∙ c.are_borne_out.ensures.1 shown),
     )

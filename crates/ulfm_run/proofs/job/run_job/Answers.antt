@@ -44,5 +44,5 @@ returns g c =
       same_ends = names_all played fit made.same;
       same_boards = boards_all played fit report.deciders.items made.boards;
       lawful = lawful c.args.job.now (contents report.residue.inboxes.items) knows report.ranks.items
-          (produced_all played fit g.D.Decider.known c.in-Ok.ensures.answers knows made.ranks made.known made.residue made.agree made.decisions made.one_order);
+          (produced_all played fit g.D.Decider.known c.in-Ok.ensures.answers knows made.ranks made.known made.residue made.agree made.decisions made.one_order made.none_foreign);
     }

@@ -5,5 +5,5 @@ use Rattle.ulfm_run.proofs.order.step.Given as goal
 abbrev pub invariant-loop-rank : goal.invariant-loop-rank
 invariant-loop-rank l = record {
   same : l.fronts ≡ l.fn.fronts;
-  stuck : (r : ℕ) → r < l.rank → GoesOn l.reports l.fronts r → ⊥;
+  stuck : (r : ℕ) → r < l.rank → GoesOn l.room l.reports l.fronts r → ⊥;
 }
