@@ -23,7 +23,7 @@ pub(crate) fn conclusions(
             continue;
         }
         if picture.is_through(on) {
-            lines.push(format!(in alloc; "{rank} waits for {on}, which is through.")?)?;
+            lines.push(format!(in alloc; "{rank} waits for {on}, which is done.")?)?;
         } else if picture.has_stopped(on) {
             lines.push(format!(in alloc; "{rank} waits for {on}, which has stopped.")?)?;
         }

@@ -107,8 +107,8 @@ fn push_cell(
 fn push_ends(out: &mut String, picture: &Picture<'_>) -> Result<(), OutOfMemory> {
     let alloc = *out.allocator();
     for rank in 0..picture.ranks() {
-        let end = picture.end(rank);
-        write!(out, "rank {rank}: {end}\n")?;
+        let ending = picture.ending(rank);
+        write!(out, "rank {rank}: {ending}\n")?;
     }
     for wait in &picture.waits {
         let (rank, step, need) = (wait.rank, wait.step, wait.need);

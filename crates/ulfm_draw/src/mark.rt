@@ -19,8 +19,10 @@ pub(crate) enum Mark {
     Decision,
     /// A call was refused, or what it waited for is over.
     Refusal,
-    /// A step was given up, or met failures that aren't acknowledged.
+    /// A step was given up.
     Hang,
+    /// A receive met failures that aren't acknowledged.
+    Pending,
     /// A step was skipped.
     Skip,
     /// A note.
@@ -30,13 +32,14 @@ pub(crate) enum Mark {
 }
 
 /// All marks, in the order of legends.
-pub(crate) const MARKS: [Mark; 9] = [
+pub(crate) const MARKS: [Mark; 10] = [
     Mark::Answer,
     Mark::Open,
     Mark::Got,
     Mark::Decision,
     Mark::Refusal,
     Mark::Hang,
+    Mark::Pending,
     Mark::Skip,
     Mark::Note,
     Mark::Stop,
@@ -57,7 +60,8 @@ fn mark_by(op: &str, answer: &str) -> Mark {
         ("shrink", "comm") | ("agree", "agreed") => Mark::Decision,
         (_, "done" | "found") => Mark::Got,
         (_, "refused" | "over") => Mark::Refusal,
-        (_, "unfinished" | "pending") => Mark::Hang,
+        (_, "unfinished") => Mark::Hang,
+        (_, "pending") => Mark::Pending,
         (_, "skipped") => Mark::Skip,
         (_, "noted") => Mark::Note,
         (_, "stopped") => Mark::Stop,
@@ -73,7 +77,8 @@ pub(crate) fn meaning(mark: Mark) -> &'static str {
         Mark::Got => "message got",
         Mark::Decision => "decision",
         Mark::Refusal => "refused, over",
-        Mark::Hang => "unfinished, pending",
+        Mark::Hang => "unfinished: the replay gave up, MPI may hang",
+        Mark::Pending => "pending: the receive is open",
         Mark::Skip => "skipped",
         Mark::Note => "note",
         Mark::Stop => "stop",
@@ -114,7 +119,7 @@ pub(crate) fn push_mark(
             out,
             "<path d=\"M{left} {top}l10 10m0 -10l-10 10\" stroke=\"{DARK}\" stroke-width=\"2\"/>\n"
         ),
-        Mark::Hang => write!(
+        Mark::Hang | Mark::Pending => write!(
             out,
             "<path d=\"M{west} {y}l6 -6l6 6l-6 6z\" fill=\"#fff\" stroke=\"{DARK}\" stroke-width=\"1.5\"/>\n"
         ),

@@ -4,7 +4,7 @@ use crate::circles::conclusions;
 use crate::kind::Kind;
 use crate::picture::Picture;
 use crate::row::{Deed, Row};
-use crate::saying::{outcome, subject};
+use crate::saying::{lead, outcome, subject};
 use std::alloc::Global;
 use ulfm_base::OutOfMemory;
 
@@ -49,7 +49,8 @@ fn push_row(
     write!(out, "    Note right of r{rank}: {subject}<br/>{outcome}")?;
     for wait in &picture.waits {
         if picture.is_left_by(wait, row) {
-            write!(out, "<br/>waits for {}:<br/>{}", wait.need, wait.bearer)?;
+            let lead = lead(picture, wait);
+            write!(out, "<br/>{lead} {}:<br/>{}", wait.need, wait.bearer)?;
         }
     }
     out.push_str("\n")?;
@@ -107,10 +108,11 @@ fn arrow_of(kind: Kind) -> &'static str {
 fn push_end(out: &mut String, picture: &Picture<'_>, rank: usize) -> Result<(), OutOfMemory> {
     for wait in &picture.waits {
         if wait.rank == rank && picture.lasts(wait) {
+            let lead = lead(picture, wait);
             let (need, bearer) = (wait.need, wait.bearer);
             write!(
                 out,
-                "    Note right of r{rank}: waits for {need}:<br/>{bearer}\n"
+                "    Note right of r{rank}: {lead} {need}:<br/>{bearer}\n"
             )?;
         }
     }

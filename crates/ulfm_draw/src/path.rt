@@ -44,7 +44,8 @@ pub(crate) fn push_arrow(
     let alloc = *out.allocator();
     let kind = arrow.matter.kind;
     if let Some(end) = arrow.end {
-        let path = path_to(alloc, layout, number, arrow, end)?;
+        let top = beginning(picture, layout, arrow);
+        let path = path_to(alloc, layout, number, arrow, top, end)?;
         return push_path(out, path.as_str(), kind, head(kind));
     }
     if picture.hangs(arrow) {
@@ -54,12 +55,21 @@ pub(crate) fn push_arrow(
     Ok(())
 }
 
-/// The path of an item to the row in which it was taken.
+/// How far down an item begins: at the mark of its row, or below what was taken there and is passed on.
+fn beginning(picture: &Picture<'_>, layout: &Layout, arrow: &Arrow) -> usize {
+    match picture.rows.get(arrow.start) {
+        Some(row) if row.is_taking() => layout.floor(arrow.start).saturating_add(7),
+        _ => layout.mark(arrow.start),
+    }
+}
+
+/// The path of an item from a height to the row in which it was taken.
 fn path_to(
     alloc: Global,
     layout: &Layout,
     number: usize,
     arrow: &Arrow,
+    top: usize,
     end: usize,
 ) -> Result<String, OutOfMemory> {
     let is_right = arrow.is_rightward();
@@ -83,11 +93,10 @@ fn path_to(
     } else {
         (near, beside(lane, 3, is_right))
     };
-    let mark = layout.mark(arrow.start);
-    let under = mark.saturating_add(3);
+    let under = top.saturating_add(3);
     let over = floor.saturating_sub(3);
     format!(in alloc;
-        "M{from} {mark}H{off}Q{lane} {mark} {lane} {under}V{over}Q{lane} {floor} {back} {floor}H{to}"
+        "M{from} {top}H{off}Q{lane} {top} {lane} {under}V{over}Q{lane} {floor} {back} {floor}H{to}"
     )
 }
 

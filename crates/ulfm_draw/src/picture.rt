@@ -40,6 +40,15 @@ impl<'a> Picture<'a> {
         self.ends.get(rank).copied().unwrap_or("")
     }
 
+    /// The same in words that stand alone.
+    pub(crate) fn ending(&self, rank: usize) -> &'a str {
+        if self.has_stopped(rank) || self.is_through(rank) {
+            self.end(rank)
+        } else {
+            "has steps left"
+        }
+    }
+
     /// Whether a rank ended by its stop.
     pub(crate) fn has_stopped(&self, rank: usize) -> bool {
         self.end(rank).starts_with("stopped")
@@ -103,6 +112,14 @@ impl<'a> Picture<'a> {
     /// Whether a wait lasts to the end: its step has no answer.
     pub(crate) fn lasts(&self, wait: &Wait<'_>) -> bool {
         !self.rows.iter().any(|row| self.is_left_by(wait, row))
+    }
+
+    /// Whether a wait is the first one of its step.
+    pub(crate) fn is_first(&self, wait: &Wait<'_>) -> bool {
+        match self.waits.iter().find(|other| other.is_beside(wait)) {
+            Some(first) => first.on == wait.on,
+            None => false,
+        }
     }
 
     /// The first step by which a rank waits.

@@ -3,7 +3,7 @@
 use crate::kind::Kind;
 use crate::picture::Picture;
 use crate::row::{Deed, Row};
-use crate::saying::{outcome, subject};
+use crate::saying::{lead, outcome, subject};
 use crate::wait::Wait;
 use crate::wrapping::{MOST, wrapped};
 use std::alloc::Global;
@@ -83,7 +83,7 @@ pub(crate) fn row_pieces(
     let mut pieces = move_pieces(alloc, picture, number, row)?;
     for wait in &picture.waits {
         if picture.is_left_by(wait, row) {
-            add_wait(&mut pieces, wait)?;
+            add_wait(&mut pieces, picture, wait)?;
         }
     }
     Ok(pieces)
@@ -120,8 +120,13 @@ fn move_pieces(
 }
 
 /// Adds what is waited for, and who would bring it.
-fn add_wait(pieces: &mut Vec<Piece>, wait: &Wait<'_>) -> Result<(), OutOfMemory> {
-    let need = format!(in *pieces.allocator(); "waits for {}:", wait.need)?;
+fn add_wait(
+    pieces: &mut Vec<Piece>,
+    picture: &Picture<'_>,
+    wait: &Wait<'_>,
+) -> Result<(), OutOfMemory> {
+    let lead = lead(picture, wait);
+    let need = format!(in *pieces.allocator(); "{lead} {}:", wait.need)?;
     add_lines(pieces, need.as_str(), Face::Strong)?;
     add_lines(pieces, wait.bearer, Face::Plain)
 }
@@ -135,16 +140,12 @@ pub(crate) fn foot_pieces(
     let mut pieces = Vec::new(alloc);
     for wait in &picture.waits {
         if wait.rank == rank && picture.lasts(wait) {
-            add_wait(&mut pieces, wait)?;
+            add_wait(&mut pieces, picture, wait)?;
         }
     }
     if picture.has_stopped(rank) || !pieces.is_empty() {
         return Ok(pieces);
     }
-    if picture.is_through(rank) {
-        add_lines(&mut pieces, picture.end(rank), Face::Plain)?;
-    } else {
-        add_lines(&mut pieces, "not at its end", Face::Plain)?;
-    }
+    add_lines(&mut pieces, picture.ending(rank), Face::Plain)?;
     Ok(pieces)
 }

@@ -2,6 +2,8 @@
 
 use crate::picture::Picture;
 use crate::row::Row;
+use crate::wait::Wait;
+use crate::words::halves;
 use crate::wrapping::shortened;
 use std::alloc::Global;
 use ulfm_base::OutOfMemory;
@@ -9,11 +11,25 @@ use ulfm_base::OutOfMemory;
 /// What a row says first: the step by its place, or the item that was taken, with the number of a message.
 pub(crate) fn subject(alloc: Global, row: &Row<'_>) -> Result<String, OutOfMemory> {
     if !row.is_taking() {
-        return format!(in alloc; "{}.{} {}", row.rank, row.step, row.words);
+        return step(alloc, row);
     }
     match row.message {
         Some(message) => format!(in alloc; "#{message} {}", row.words),
         None => String::from_str(alloc, row.words),
+    }
+}
+
+/// A step by its place and its words. A bare number looks like that of a rank, so what it is stands before it.
+fn step(alloc: Global, row: &Row<'_>) -> Result<String, OutOfMemory> {
+    let (rank, step) = (row.rank, row.step);
+    let rest = halves(row.words, " ").1;
+    match row.op() {
+        "wait" => format!(in alloc; "{rank}.{step} wait for {rank}.{rest}"),
+        "mrecv" => format!(in alloc; "{rank}.{step} mrecv of {rank}.{rest}"),
+        "cancel" => format!(in alloc; "{rank}.{step} cancel {rank}.{rest}"),
+        "ack" => format!(in alloc; "{rank}.{step} ack count {rest}"),
+        "agree" => format!(in alloc; "{rank}.{step} agree flag {rest}"),
+        _ => format!(in alloc; "{rank}.{step} {}", row.words),
     }
 }
 
@@ -35,4 +51,18 @@ pub(crate) fn outcome(
         text.push_str(", never taken")?;
     }
     Ok(text)
+}
+
+/// What stands before the need of a wait: whether its step waits still, and whether one of several needs is enough, or all are.
+pub(crate) fn lead(picture: &Picture<'_>, wait: &Wait<'_>) -> &'static str {
+    match (
+        picture.is_first(wait),
+        picture.lasts(wait),
+        wait.is_for_message(),
+    ) {
+        (true, true, _) => "waits for",
+        (true, false, _) => "waited for",
+        (false, _, true) => "or for",
+        (false, _, false) => "and for",
+    }
 }

@@ -14,6 +14,10 @@ const CIRCLE: &str =
 const LATE: &str =
     "ranks = 2\ncapacity = 1\nturns = 2\nstep = [\n{rank = 0, op = \"shrink\"},\n{rank = 1, op = \"failed\"},\n{rank = 1, op = \"failed\"},\n{rank = 1, op = \"failed\"},\n{rank = 1, op = \"shrink\"},\n]\n";
 
+/// A rank that alone enters a shrink of three.
+const ALONE: &str =
+    "ranks = 3\ncapacity = 1\nturns = 2\nstep = [\n{rank = 0, op = \"shrink\"},\n]\n";
+
 #[test]
 fn a_replay_is_drawn(rt: HostRuntime) {
     let svg = ["ulfm", "draw"];
@@ -73,11 +77,18 @@ fn what_steps_waited_for_that_are_given_up_is_drawn(rt: HostRuntime) {
     let circle = "A circle: 0 waits for 1, 1 waits for 0.";
     let waits = "0.1 waits for a message from 1 tag any comm 0: no step of 1 would bring it\n";
     let note =
-        "<br/>unfinished<br/>waits for a message from 1 tag any comm 0:<br/>no step of 1 would bring it\n";
+        "<br/>unfinished<br/>waited for a message from 1 tag any comm 0:<br/>no step of 1 would bring it\n";
     assert!(rt; gives(&rt, &text, CIRCLE, 0, waits));
     assert!(rt; gives(&rt, &mermaid, CIRCLE, 0, note));
     assert!(rt; gives(&rt, &mermaid, CIRCLE, 0, circle));
     assert!(rt; gives(&rt, &text, CIRCLE, 0, circle));
+}
+
+#[test]
+fn all_that_a_shrink_waited_for_is_drawn_as_one_need(rt: HostRuntime) {
+    let words = ["ulfm", "draw", "--mermaid"];
+    let need = "<br/>and for the entry of 2 into the shrink of comm 0:<br/>";
+    assert!(rt; gives(&rt, &words, ALONE, 0, need));
 }
 
 #[test]
