@@ -51,6 +51,8 @@ pub enum Cause {
     NotEarlier(i64),
     /// A list of so many, where 1 to 16 may be.
     Count(Key, usize),
+    /// So many conditions that have to hold together by `on_error`, where 16 are the most.
+    Together(usize),
     /// Words with which no answer of this op begins.
     NoAnswer(Key, Shown, &'static str),
     /// So many rows of `never`, where 1 to 32 may be.
@@ -203,6 +205,10 @@ impl fmt::Display for Cause {
             Cause::Count(key, count) => {
                 write!(f, "key '{key}' has {count} items, and has to have 1 to 16")
             }
+            Cause::Together(count) => write!(
+                f,
+                "by 'on_error' {count} conditions have to hold together here: those of its own 'if', and one for each step before it, back to the last one without an 'if'; 16 are the most, so at most 15 steps with an 'if' may stand in a row in a block"
+            ),
             Cause::NoAnswer(key, words, op) => {
                 let beginnings = Beginnings { op: *op, key: *key };
                 write!(
