@@ -138,8 +138,12 @@ impl Asker<'_> {
         let Some(items) = value.as_array() else {
             return Ok(());
         };
-        if items.is_empty() || items.len() > MOST_ITEMS {
-            return self.tell(findings, Key::If, Cause::Count(Key::All, items.len()));
+        let count = items.len();
+        if count > MOST_ITEMS && !findings.is_long(self.place.in_file) {
+            return self.tell(findings, Key::If, Cause::Together(count));
+        }
+        if items.is_empty() || count > MOST_ITEMS {
+            return self.tell(findings, Key::If, Cause::Count(Key::All, count));
         }
         for item in items {
             match item.as_table() {

@@ -55,6 +55,8 @@ pub enum Cause {
     NotEarlier(i64),
     /// A list of so many, where 1 to 16 may be.
     Count(Key, usize),
+    /// So many conditions that have to hold together by `on_error`, where 16 are the most.
+    Together(usize),
     /// Words with which no answer of this op begins.
     NoAnswer(Key, Shown, &'static str),
     /// So many rows of `never`, where 1 to 32 may be.
@@ -171,6 +173,12 @@ impl Cause {
                 Part::Key(*key),
                 Part::Count(*count),
                 Part::Count(MOST_ITEMS),
+            ),
+            Cause::Together(count) => Line::Three(
+                "by 'on_error' {} conditions have to hold together here: those of its own 'if', and one for each step before it, back to the last one without an 'if'; {} are the most, so at most {} steps with an 'if' may stand in a row in a block",
+                Part::Count(*count),
+                Part::Count(MOST_ITEMS),
+                Part::Count(MOST_ITEMS - 1),
             ),
             Cause::NoAnswer(key, words, op) => Line::Four(
                 "key '{}' has '{}', and no answer of '{}' begins so; its answers begin with {}",

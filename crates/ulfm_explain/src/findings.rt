@@ -98,6 +98,12 @@ impl<'a> Findings<'a> {
         self.told.iter().any(|told| *told == place)
     }
 
+    /// Whether what a step comes from has an `all` with too many tables of its own.
+    pub fn is_long(&self, number: usize) -> bool {
+        let place = self.filed_number(number);
+        self.lines.long.iter().any(|long| *long == place)
+    }
+
     /// The name of a step, if it is one and has one.
     fn name_of(&self, step: Option<StepPlace>) -> Result<Option<String>, AllocError> {
         let Some(place) = step else {

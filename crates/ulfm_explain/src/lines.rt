@@ -4,6 +4,7 @@ use crate::steps::steps_of;
 use std::alloc::{AllocError, Global};
 use toml::{Table, Value};
 use ulfm_expand::{Line, Unwritten, ranks_in, written_out};
+use ulfm_job::limits::MOST_ITEMS;
 
 /// The steps of a job, written out, and the place in the file of the step from which each comes.
 #[derive(Drop)]
@@ -12,6 +13,8 @@ pub struct Lines {
     pub places: Vec<usize>,
     /// Whether they are too many to be written out. Then they are as they stand in the file.
     pub are_too_many: bool,
+    /// The places in the file of what has an `all` with too many tables as it stands there.
+    pub long: Vec<usize>,
 }
 
 /// The steps of a job's table.
@@ -28,10 +31,12 @@ pub fn lines_of(alloc: Global, table: &Table) -> Result<Lines, AllocError> {
         steps.push(step)?;
         places.push(usize::from(place))?;
     }
+    let long = long_places(alloc, steps_of(table))?;
     Ok(Lines {
         steps,
         places,
         are_too_many: false,
+        long,
     })
 }
 
@@ -43,9 +48,48 @@ fn filed_lines(alloc: Global, filed: &[Value]) -> Result<Lines, AllocError> {
         steps.push(step.clone()?)?;
         places.push(place)?;
     }
+    let long = long_places(alloc, filed)?;
     Ok(Lines {
         steps,
         places,
         are_too_many: true,
+        long,
     })
+}
+
+/// The places of what has an `all` with too many tables.
+fn long_places(alloc: Global, filed: &[Value]) -> Result<Vec<usize>, AllocError> {
+    let mut places = Vec::new(alloc);
+    for (place, item) in filed.iter().enumerate() {
+        let inside = list_at(item, "steps").unwrap_or(&[]);
+        if has_long(item) || inside.iter().any(|step| has_long(step)) {
+            places.push(place)?;
+        }
+    }
+    Ok(places)
+}
+
+/// Whether a step has one.
+fn has_long(step: &Value) -> bool {
+    match list_at(step, "if") {
+        Some(alternatives) => alternatives.iter().any(|own| is_long(own)),
+        None => match step.get("if") {
+            Some(own) => is_long(own),
+            None => false,
+        },
+    }
+}
+
+/// Whether an alternative is one.
+fn is_long(alternative: &Value) -> bool {
+    match list_at(alternative, "all") {
+        Some(tables) => tables.len() > MOST_ITEMS,
+        None => false,
+    }
+}
+
+/// The list at a key of a table, if there is one.
+fn list_at<'a>(value: &'a Value, key: &str) -> Option<&'a [Value]> {
+    let values = value.as_table()?.get(key)?.as_array()?;
+    Some(values.as_slice())
 }
