@@ -7,5 +7,6 @@ mod meeting;
 mod misfits;
 mod polls;
 mod resting;
+mod room;
 mod sweeps;
 mod verdicts;
