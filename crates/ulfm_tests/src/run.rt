@@ -7,6 +7,7 @@ mod meeting;
 mod misfits;
 mod polls;
 mod resting;
+mod room;
 mod sweeps;
 mod verdicts;
 

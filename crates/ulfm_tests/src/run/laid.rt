@@ -1,5 +1,5 @@
 //! A carrier of the tests, laid over another.
-ghost use Rattle.std.specs.Prelude.{◌≡◌, ◌≤◌, [], map, vec_len, vec_capacity, IfSome};
+ghost use Rattle.std.specs.Prelude.{◌≡◌, ◌≤◌, [], length, map, vec_len, vec_capacity, IfOk, IfSome};
 ghost use Rattle.ulfm_carrier.specs.Family.{AllFresh};
 
 use std::alloc::Global;
@@ -154,6 +154,7 @@ where
     R: Threads + Wait + Sync,
     requires one_call { E.one_call (map E.name inners.items) }
     requires fresh { AllFresh E.count E.pushed E.taken E.ready inners.items }
+    ensures few { IfOk result (λ report. length report.ranks.items ≤ 8) }
 {
     let room = Vec::with_capacity(alloc, inners.len())?;
     let Some(ends) = laid_over(inners, habits, room) else {
