@@ -1,5 +1,5 @@
 -- What the keys of a TOML table hold, and what is wrong with them.
-use Rattle.std.specs.Prelude.{ℕ, ◌+◌, ℤ, pos, negsuc, List, [], ◌∷◌, ◌++◌, codes, Bool, ◌&&◌, nat_le, Option, Some, None, Result, Ok, Err, if◌then◌else◌}
+use Rattle.std.specs.Prelude.{ℕ, ◌+◌, ℤ, pos, negsuc, List, [], ◌∷◌, Bool, ◌&&◌, nat_le, Option, Some, None, Result, Ok, Err, if◌then◌else◌}
 use Rattle.std.specs.List.{list_any, list_all}
 use Rattle.std.specs.Option.{ok_or}
 use Rattle.std.specs.Str.{bytes_eq}
@@ -59,14 +59,6 @@ is_among names key = list_any (λ name. bytes_eq name key) names
 -- no key but these
 abbrev pub only_keys : List (List ℕ) → Members → Result (Unit {0}) Fault
 only_keys names ms = if list_all (is_among names) (keys_of ms) then Ok tt else Err UnknownKey
-
--- the keys that each step may have
-abbrev pub each_step : List (List ℕ)
-each_step = codes "op" ∷ codes "rank" ∷ codes "name" ∷ codes "if" ∷ codes "expect" ∷ []
-
--- no key of a step but those that each may have, and these
-abbrev pub only_step_keys : List (List ℕ) → Members → Result (Unit {0}) Fault
-only_step_keys names ms = only_keys (each_step ++ names) ms
 
 -- a number from least to most
 abbrev pub in_range : ℕ → ℕ → ℤ → Result ℕ Fault

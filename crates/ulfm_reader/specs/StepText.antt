@@ -4,7 +4,7 @@ use Rattle.std.specs.Str.{bytes_eq}
 use Rattle.toml.specs.Data.{Members}
 use Rattle.ulfm_job.specs.declared.fault.Fault.{Fault}
 use Rattle.ulfm_job.specs.declared.fault.Fault.TheVariants.{UnknownOp}
-use Rattle.ulfm_reader.specs.Keys.{◌>>=◌, label_in, required_number, optional_number, required_text, only_step_keys, in_range, in_range_if_some}
+use Rattle.ulfm_reader.specs.Keys.{◌>>=◌, label_in, required_number, optional_number, required_text, only_keys, in_range, in_range_if_some}
 use Rattle.ulfm_reader.specs.declared.name.Name.{Name}
 use Rattle.ulfm_reader.specs.Reacting.{required_reference, req_in}
 use Rattle.ulfm_reader.specs.Plan.{Order, PlannedStep, send, recv, wait, probe, mrecv, cancel, failed, ack, revoke, dup, shrink, agree, note, stop}
@@ -17,7 +17,7 @@ send_step ranks ms = do
   tag_key ← required_number (codes "tag") ms
   body ← required_text (codes "body") ms
   comm_key ← optional_number (codes "comm") ms
-  keys ← only_step_keys (codes "to" ∷ codes "tag" ∷ codes "body" ∷ codes "comm" ∷ []) ms
+  keys ← only_keys (codes "op" ∷ codes "rank" ∷ codes "name" ∷ codes "if" ∷ codes "expect" ∷ codes "to" ∷ codes "tag" ∷ codes "body" ∷ codes "comm" ∷ []) ms
   rank ← in_range 0 (ranks - 1) rank_key
   to ← in_range 0 7 to_key
   tag ← in_range 0 32767 tag_key
@@ -32,7 +32,7 @@ recv_step ranks ms = do
   tag_key ← optional_number (codes "tag") ms
   room_key ← optional_number (codes "room") ms
   comm_key ← optional_number (codes "comm") ms
-  keys ← only_step_keys (codes "from" ∷ codes "tag" ∷ codes "room" ∷ codes "comm" ∷ []) ms
+  keys ← only_keys (codes "op" ∷ codes "rank" ∷ codes "name" ∷ codes "if" ∷ codes "expect" ∷ codes "from" ∷ codes "tag" ∷ codes "room" ∷ codes "comm" ∷ []) ms
   rank ← in_range 0 (ranks - 1) rank_key
   from ← in_range_if_some 7 from_key
   tag ← in_range_if_some 32767 tag_key
@@ -45,7 +45,7 @@ unfoldable pub step_on_req : (ℕ → Order) → ℕ → List Name → Members �
 step_on_req order_on ranks names ms = do
   rank_key ← required_number (codes "rank") ms
   req_key ← required_reference (codes "req") ms
-  keys ← only_step_keys (codes "req" ∷ []) ms
+  keys ← only_keys (codes "op" ∷ codes "rank" ∷ codes "name" ∷ codes "if" ∷ codes "expect" ∷ codes "req" ∷ []) ms
   rank ← in_range 0 (ranks - 1) rank_key
   req ← req_in names rank req_key
   Ok (record { rank = rank; order = order_on req })
@@ -57,7 +57,7 @@ probe_step ranks ms = do
   from_key ← optional_number (codes "from") ms
   tag_key ← optional_number (codes "tag") ms
   comm_key ← optional_number (codes "comm") ms
-  keys ← only_step_keys (codes "from" ∷ codes "tag" ∷ codes "comm" ∷ []) ms
+  keys ← only_keys (codes "op" ∷ codes "rank" ∷ codes "name" ∷ codes "if" ∷ codes "expect" ∷ codes "from" ∷ codes "tag" ∷ codes "comm" ∷ []) ms
   rank ← in_range 0 (ranks - 1) rank_key
   from ← in_range_if_some 7 from_key
   tag ← in_range_if_some 32767 tag_key
@@ -70,7 +70,7 @@ mrecv_step ranks names ms = do
   rank_key ← required_number (codes "rank") ms
   req_key ← required_reference (codes "req") ms
   room_key ← optional_number (codes "room") ms
-  keys ← only_step_keys (codes "req" ∷ codes "room" ∷ []) ms
+  keys ← only_keys (codes "op" ∷ codes "rank" ∷ codes "name" ∷ codes "if" ∷ codes "expect" ∷ codes "req" ∷ codes "room" ∷ []) ms
   rank ← in_range 0 (ranks - 1) rank_key
   req ← req_in names rank req_key
   room ← in_range 0 1024 (unwrap_or room_key (pos 1024))
@@ -81,7 +81,7 @@ unfoldable pub step_on_comm : (ℕ → Order) → ℕ → Members → Result Pla
 step_on_comm order_on ranks ms = do
   rank_key ← required_number (codes "rank") ms
   comm_key ← optional_number (codes "comm") ms
-  keys ← only_step_keys (codes "comm" ∷ []) ms
+  keys ← only_keys (codes "op" ∷ codes "rank" ∷ codes "name" ∷ codes "if" ∷ codes "expect" ∷ codes "comm" ∷ []) ms
   rank ← in_range 0 (ranks - 1) rank_key
   comm ← in_range 0 62 (unwrap_or comm_key (pos 0))
   Ok (record { rank = rank; order = order_on comm })
@@ -92,7 +92,7 @@ ack_step ranks ms = do
   rank_key ← required_number (codes "rank") ms
   count_key ← required_number (codes "count") ms
   comm_key ← optional_number (codes "comm") ms
-  keys ← only_step_keys (codes "count" ∷ codes "comm" ∷ []) ms
+  keys ← only_keys (codes "op" ∷ codes "rank" ∷ codes "name" ∷ codes "if" ∷ codes "expect" ∷ codes "count" ∷ codes "comm" ∷ []) ms
   rank ← in_range 0 (ranks - 1) rank_key
   count ← in_range 0 8 count_key
   comm ← in_range 0 62 (unwrap_or comm_key (pos 0))
@@ -104,7 +104,7 @@ agree_step ranks ms = do
   rank_key ← required_number (codes "rank") ms
   flag_key ← required_number (codes "flag") ms
   comm_key ← optional_number (codes "comm") ms
-  keys ← only_step_keys (codes "flag" ∷ codes "comm" ∷ []) ms
+  keys ← only_keys (codes "op" ∷ codes "rank" ∷ codes "name" ∷ codes "if" ∷ codes "expect" ∷ codes "flag" ∷ codes "comm" ∷ []) ms
   rank ← in_range 0 (ranks - 1) rank_key
   flag ← in_range 0 4294967295 flag_key
   comm ← in_range 0 62 (unwrap_or comm_key (pos 0))
@@ -115,7 +115,7 @@ unfoldable pub note_step : ℕ → Members → Result PlannedStep Fault
 note_step ranks ms = do
   rank_key ← required_number (codes "rank") ms
   text_key ← required_text (codes "text") ms
-  keys ← only_step_keys (codes "text" ∷ []) ms
+  keys ← only_keys (codes "op" ∷ codes "rank" ∷ codes "name" ∷ codes "if" ∷ codes "expect" ∷ codes "text" ∷ []) ms
   rank ← in_range 0 (ranks - 1) rank_key
   text ← label_in text_key
   Ok (record { rank = rank; order = note text })
@@ -124,7 +124,7 @@ note_step ranks ms = do
 unfoldable pub stop_step : ℕ → Members → Result PlannedStep Fault
 stop_step ranks ms = do
   rank_key ← required_number (codes "rank") ms
-  keys ← only_step_keys [] ms
+  keys ← only_keys (codes "op" ∷ codes "rank" ∷ codes "name" ∷ codes "if" ∷ codes "expect" ∷ []) ms
   rank ← in_range 0 (ranks - 1) rank_key
   Ok (record { rank = rank; order = stop })
 

@@ -1,12 +1,12 @@
 //! The keys of a table, one by one.
-ghost use Rattle.std.specs.Prelude.{◌≡◌, ◌≤◌, ◌++◌, map, option_map, IfOk, IfSome, Some, string_bytes};
+ghost use Rattle.std.specs.Prelude.{◌≡◌, ◌≤◌, map, option_map, IfOk, IfSome, Some, string_bytes};
 ghost use Rattle.std.specs.BTreeMap.{keys};
 ghost use Rattle.std.specs.List.{list_any, list_all};
 ghost use Rattle.std.specs.Str.{bytes_eq};
 ghost use Rattle.toml.specs.Data.{get_member};
 ghost use Rattle.toml.specs.View.{view, table_view};
 ghost use Rattle.ulfm_reader.specs.inside.Reading.{map_ok, reference_view};
-ghost use Rattle.ulfm_reader.specs.Keys.{required_number, optional_number, required_text, each_step, is_among, only_keys, only_step_keys, in_range, in_range_if_some};
+ghost use Rattle.ulfm_reader.specs.Keys.{required_number, optional_number, required_text, only_keys, in_range, in_range_if_some};
 ghost use Rattle.ulfm_reader.specs.Reacting.{reference_in, required_reference};
 
 use crate::reference::Reference;
@@ -92,35 +92,6 @@ pub fn only_keys(table: &Table, names: &[&str]) -> Result<(), Fault>
     ensures { result ≡ only_keys (map (λ s. s.now) names.now) (table_view table.now) }
 {
     if has_only(table, names) {
-        Ok(())
-    } else {
-        Err(Fault::UnknownKey)
-    }
-}
-
-/// The keys that each step may have.
-const OF_EACH_STEP: &[&str] = &["op", "rank", "name", "if", "expect"];
-
-/// Whether a key is one that each step may have, or one of these names.
-fn is_step_key(names: &[&str], key: &str) -> bool
-    ensures { result ≡ is_among (each_step ++ map (λ s. s.now) names.now) key.now }
-{
-    let is_of_each = is_among(OF_EACH_STEP, key);
-    is_of_each | is_among(names, key)
-}
-
-/// Whether each key of a table is such a key.
-fn has_only_of_step(table: &Table, names: &[&str]) -> bool
-    ensures { result ≡ list_all (λ key. is_among (each_step ++ map (λ s. s.now) names.now) (string_bytes key)) (keys table.now) }
-{
-    table.keys().all(|key| is_step_key(names, key.as_str()))
-}
-
-/// That a step has no key but those that each step may have, and these.
-pub fn only_step_keys(table: &Table, names: &[&str]) -> Result<(), Fault>
-    ensures { result ≡ only_step_keys (map (λ s. s.now) names.now) (table_view table.now) }
-{
-    if has_only_of_step(table, names) {
         Ok(())
     } else {
         Err(Fault::UnknownKey)

@@ -7,7 +7,7 @@ ghost use Rattle.ulfm_reader.specs.Plan.{Order, order_of};
 ghost use Rattle.ulfm_reader.specs.StepText.{send_step, recv_step, step_on_req, probe_step, mrecv_step};
 
 use crate::fields::{
-    only_step_keys, optional_number, required_number, required_reference, required_text,
+    only_keys, optional_number, required_number, required_reference, required_text,
 };
 use crate::name::Name;
 use crate::placed::{Placed, ReadStep};
@@ -27,7 +27,12 @@ pub fn send_of(ranks: u8, table: &Table) -> Result<Placed<'_>, Fault>
     let tag = required_number(table, "tag")?;
     let body = required_text(table, "body")?;
     let comm = optional_number(table, "comm")?;
-    only_step_keys(table, &["to", "tag", "body", "comm"])?;
+    only_keys(
+        table,
+        &[
+            "op", "rank", "name", "if", "expect", "to", "tag", "body", "comm",
+        ],
+    )?;
     let rank = rank_in(ranks, rank)?;
     let to = to_in(to)?;
     let tag = tag_in(tag)?;
@@ -55,7 +60,12 @@ pub fn recv_of(ranks: u8, table: &Table) -> Result<Placed<'_>, Fault>
     let tag = optional_number(table, "tag")?;
     let room = optional_number(table, "room")?;
     let comm = optional_number(table, "comm")?;
-    only_step_keys(table, &["from", "tag", "room", "comm"])?;
+    only_keys(
+        table,
+        &[
+            "op", "rank", "name", "if", "expect", "from", "tag", "room", "comm",
+        ],
+    )?;
     let rank = rank_in(ranks, rank)?;
     let from = from_if_some(from)?;
     let tag = tag_if_some(tag)?;
@@ -87,7 +97,7 @@ pub fn on_req<'a, F: FnOnce(u16) -> Step>(
 {
     let rank = required_number(table, "rank")?;
     let req = required_reference(table, "req")?;
-    only_step_keys(table, &["req"])?;
+    only_keys(table, &["op", "rank", "name", "if", "expect", "req"])?;
     let rank = rank_in(ranks, rank)?;
     let req = req_in(names, rank, &req)?;
     Ok(Placed {
@@ -107,7 +117,10 @@ pub fn probe_of(ranks: u8, table: &Table) -> Result<Placed<'_>, Fault>
     let from = optional_number(table, "from")?;
     let tag = optional_number(table, "tag")?;
     let comm = optional_number(table, "comm")?;
-    only_step_keys(table, &["from", "tag", "comm"])?;
+    only_keys(
+        table,
+        &["op", "rank", "name", "if", "expect", "from", "tag", "comm"],
+    )?;
     let rank = rank_in(ranks, rank)?;
     let from = from_if_some(from)?;
     let tag = tag_if_some(tag)?;
@@ -128,7 +141,10 @@ pub fn mrecv_of<'a>(ranks: u8, names: &[Name], table: &'a Table) -> Result<Place
     let rank = required_number(table, "rank")?;
     let req = required_reference(table, "req")?;
     let room = optional_number(table, "room")?;
-    only_step_keys(table, &["req", "room"])?;
+    only_keys(
+        table,
+        &["op", "rank", "name", "if", "expect", "req", "room"],
+    )?;
     let rank = rank_in(ranks, rank)?;
     let req = req_in(names, rank, &req)?;
     let room = room_in(room)?;

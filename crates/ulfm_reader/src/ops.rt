@@ -7,7 +7,7 @@ ghost use Rattle.ulfm_reader.specs.inside.Reading.{map_ok, planned};
 ghost use Rattle.ulfm_reader.specs.Plan.{Order, order_of};
 ghost use Rattle.ulfm_reader.specs.StepText.{step_on_comm, ack_step, agree_step, note_step, stop_step, step_of_op, step_of};
 
-use crate::fields::{in_range, only_step_keys, optional_number, required_number, required_text};
+use crate::fields::{in_range, only_keys, optional_number, required_number, required_text};
 use crate::letters::{mrecv_of, on_req, probe_of, recv_of, send_of};
 use crate::name::Name;
 use crate::placed::{Placed, ReadStep};
@@ -31,7 +31,7 @@ fn on_comm<F: FnOnce(Context) -> Step>(
 {
     let rank = required_number(table, "rank")?;
     let comm = optional_number(table, "comm")?;
-    only_step_keys(table, &["comm"])?;
+    only_keys(table, &["op", "rank", "name", "if", "expect", "comm"])?;
     let rank = rank_in(ranks, rank)?;
     let comm = comm_in(comm)?;
     Ok(Placed {
@@ -49,7 +49,10 @@ fn ack_of(ranks: u8, table: &Table) -> Result<Placed<'_>, Fault>
     let rank = required_number(table, "rank")?;
     let count = required_number(table, "count")?;
     let comm = optional_number(table, "comm")?;
-    only_step_keys(table, &["count", "comm"])?;
+    only_keys(
+        table,
+        &["op", "rank", "name", "if", "expect", "count", "comm"],
+    )?;
     let rank = rank_in(ranks, rank)?;
     let count = in_range(count, 0, u32::from(MOST_RANKS))? as u8;
     let comm = comm_in(comm)?;
@@ -68,7 +71,10 @@ fn agree_of(ranks: u8, table: &Table) -> Result<Placed<'_>, Fault>
     let rank = required_number(table, "rank")?;
     let flag = required_number(table, "flag")?;
     let comm = optional_number(table, "comm")?;
-    only_step_keys(table, &["flag", "comm"])?;
+    only_keys(
+        table,
+        &["op", "rank", "name", "if", "expect", "flag", "comm"],
+    )?;
     let rank = rank_in(ranks, rank)?;
     let flag = flag_in(flag)?;
     let comm = comm_in(comm)?;
@@ -86,7 +92,7 @@ fn note_of(ranks: u8, table: &Table) -> Result<Placed<'_>, Fault>
 {
     let rank = required_number(table, "rank")?;
     let text = required_text(table, "text")?;
-    only_step_keys(table, &["text"])?;
+    only_keys(table, &["op", "rank", "name", "if", "expect", "text"])?;
     let rank = rank_in(ranks, rank)?;
     let text = label_in(text)?;
     Ok(Placed {
@@ -102,7 +108,7 @@ fn stop_of(ranks: u8, table: &Table) -> Result<Placed<'_>, Fault>
     ensures below { IfOk result (λ placed. placed.rank < ranks) }
 {
     let rank = required_number(table, "rank")?;
-    only_step_keys(table, &[])?;
+    only_keys(table, &["op", "rank", "name", "if", "expect"])?;
     let rank = rank_in(ranks, rank)?;
     Ok(Placed {
         rank,
