@@ -13,6 +13,7 @@ mod at_work;
 mod comparing;
 mod finished;
 mod job;
+mod left;
 mod listing;
 mod order;
 mod owing;
