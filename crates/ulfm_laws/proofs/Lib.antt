@@ -42,4 +42,3 @@ pub mod Ordered
 pub mod SentBefore
 pub mod Excluded
 pub mod Whole
-pub mod Counted

@@ -17,4 +17,3 @@ pub mod Fronts
 pub mod Found
 pub mod Behind
 pub mod Stuck
-pub mod Leftover

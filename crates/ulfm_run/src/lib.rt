@@ -14,7 +14,6 @@ mod comparing;
 mod finished;
 mod foreign;
 mod job;
-mod left;
 mod listing;
 mod order;
 mod owing;
