@@ -1,5 +1,5 @@
 -- The replies to a job that is refused, and to a run that is out of memory.
-use Rattle.std.proofs.Common.{◌≡◌, ◌≢◌, ℕ, List, Option, Some, None, IfSome, take, refl, sym, subst}
+use Rattle.std.proofs.Common.{◌≡◌, ◌≢◌, ℕ, List, Option, Some, None, IfSome, take, refl, sym, subst, inl, inr}
 use Rattle.std.specs.Io.KnownBytes.{Appends}
 use Rattle.std.specs.declared.alloc.Global.{Global}
 use Rattle.std.specs.declared.vec.Vec.{Vec}
@@ -20,7 +20,7 @@ use Rattle.ulfm_replies.specs.Replies.{starved}
 use Rattle.ulfm_replies.specs.Stopped.{Asked, IsAskedAt}
 use Rattle.ulfm_replies.specs.declared.failure.Failure.{Failure}
 use Rattle.ulfm_replies.specs.declared.failure.Failure.TheVariants as run
-use Rattle.ulfm_program.specs.Replies.{IsRunReply, IsReplyTo, IsWhole, GetsReply, GetsBeginning, failed, undrawn, no_thread, untrue, fell, given_turns}
+use Rattle.ulfm_program.specs.Replies.{IsRunReply, IsReplyTo, IsWhole, GetsReply, GetsBeginning, failed, undrawn, no_thread, untrue, crowded, fell, given_turns}
 use Rattle.ulfm_program.specs.EachPlace.{no_memory_for_lists}
 use Rattle.ulfm_program.specs.ListReply.{IsReplyBy}
 use Rattle.ulfm_program.specs.Outcomes.{unlisted, unshown}
@@ -31,13 +31,16 @@ use Rattle.ulfm_program.specs.inside.Writing.{GetsFrontOf, IsShown}
 pub run_failed : (form : Form) {options : RunOptions} (asked : Asked) (f : Failure) (bytes : List ℕ) → IsAskedAt options.place bytes asked → IsShown (given_turns options.turns asked.job) f → IsRunReply form options bytes 3 (failed_in form f)
 run_failed form asked run.NoThread bytes h s = no_thread asked h
 run_failed form asked run.OutOfMemory bytes h s = fell form
-run_failed form asked run.Untrue bytes h s = untrue asked s.0 h s.1
+run_failed form asked run.Untrue bytes h s = elim (s.1) [
+  | inl shows ↦ untrue asked s.0 h shows
+  | inr full ↦ crowded asked s.0 h full
+]
 
 -- the reports of a fault show the failure that it is
 pub shown : (job : JobView) (fault : RunFault) (f : Failure) → ((reports : Vec Report Global) → fault ≡ faults.Untrue reports → ShowUntrue job reports.items) → failure_of fault ≡ Some f → IsShown job f
 shown job fault run.NoThread h e = tt
 shown job fault run.OutOfMemory h e = tt
-shown job (faults.Untrue reports) run.Untrue h e = (reports.items, h reports refl)
+shown job (faults.Untrue reports) run.Untrue h e = (reports.items, inl (h reports refl))
 shown job faults.NoThread run.Untrue h e = absurd cc
 shown job faults.OutOfMemory run.Untrue h e = absurd cc
 shown job faults.BadEnds run.Untrue h e = absurd cc

@@ -25,7 +25,7 @@ use Rattle.ulfm_json.specs.declared.form.Form.{Form}
 use Rattle.ulfm_replies.specs.declared.command.RunOptions.{RunOptions}
 use Rattle.ulfm_replies.specs.declared.command.Wanted.{Wanted}
 use Rattle.ulfm_replies.specs.declared.command.Wanted.TheVariants.{Check, Replay, Run, Sweep, Outcomes, Places, Expand, Draw}
-use Rattle.ulfm_program.specs.Replies.{IsDrawReply, drawn, not_drawn, undrawn, IsReplayReply, IsRunReply, IsReplyTo, IsWhole, traced, not_replayed, failed, ran, repeated, not_run, no_thread, untrue, fell, given_turns}
+use Rattle.ulfm_program.specs.Replies.{IsDrawReply, drawn, not_drawn, undrawn, IsReplayReply, IsRunReply, IsReplyTo, IsWhole, traced, not_replayed, failed, ran, repeated, not_run, no_thread, untrue, crowded, fell, given_turns}
 use Rattle.ulfm_program.specs.Sweep.{IsSweepReply, swept, unread, full, unmade, unswept}
 use Rattle.ulfm_program.specs.Outcomes.{IsJudged, IsOutcomesReply, IsShowReply, list_status, good, unmet, together, unsearched, listed, past_limit, not_listed, unlisted, shown, nowhere, too_many, unnamed, not_shown, unshown}
 use Rattle.ulfm_replies.specs.declared.command.ListOptions.{ListOptions}
@@ -73,6 +73,7 @@ run_known form options bytes status text (repeated asked runs times is lawful) =
 run_known form options bytes status text (not_run k words is) = no_play form options.place bytes status text is
 run_known form options bytes status text (no_thread asked is) = run_fails
 run_known form options bytes status text (untrue asked reports is shows) = run_fails
+run_known form options bytes status text (crowded asked reports is shows) = run_fails
 run_known form options bytes status text (fell told) = run_fails
 
 sweep_known : (form : Form) (bytes : List ℕ) (status : ℕ) (text : List ℕ) → IsSweepReply form bytes status text → IsKnown status
@@ -246,6 +247,7 @@ no_usage form show (Run options) bytes status text (repeated asked runs times is
 no_usage form show (Run options) bytes status text (not_run k words is) = no_play_not_usage form options.place bytes status text is
 no_usage form show (Run options) bytes status text (no_thread job is) = λ e. omega (arith, e)
 no_usage form show (Run options) bytes status text (untrue job reports is shows) = λ e. omega (arith, e)
+no_usage form show (Run options) bytes status text (crowded job reports is shows) = λ e. omega (arith, e)
 no_usage form show (Run options) bytes status text (fell told) = λ e. omega (arith, e)
 no_usage form show Sweep bytes status text (swept job lines is few places each) = λ e. omega (arith, e)
 no_usage form show Sweep bytes status text (unread f is) = λ e. omega (arith, e)

@@ -10,6 +10,7 @@ use Rattle.ulfm_json.specs.Form.{trace_in}
 use Rattle.ulfm_json.specs.declared.form.Form.{Form}
 use Rattle.ulfm_laws.specs.Lawful.{IsLawful}
 use Rattle.ulfm_run.specs.Fault.{ShowUntrue}
+use Rattle.ulfm_run.specs.Room.{HaveRoom}
 use Rattle.ulfm_world.specs.Replay.{MadeAtRest}
 use Rattle.ulfm_program.specs.Brief.{repeats_in}
 use Rattle.ulfm_program.specs.ListReply.{IsListReply}
@@ -48,19 +49,32 @@ pub data IsDrawReply (form : Form) (turns : Option ℕ) (place : Place) (bytes :
   not_drawn : (status : ℕ) (text : List ℕ) → IsRefusal form place bytes status text → IsDrawReply form turns place bytes status text
   undrawn : (told : Form) → IsDrawReply form turns place bytes 3 (out_of_memory_in told)
 
--- The same for `run`: with 0, 6 or 9, the trace of reports that are lawful for the job, whichever thread went when; with 3 the
--- line of what failed. F2 comes for a good job alone, and F4 only with reports of the job's ranks that show it. With `--repeat` each distinct trace of so many such runs comes once with its count, and with `--brief` each distinct line.
+-- the reports are lawful for the job, and have an order that rings of its places allow
+pub record AreOfRun (job : JobView) (reports : List Report) : Type 0 where
+  pub lawful : IsLawful job reports
+  pub room : HaveRoom reports job.capacity
+
+-- the reports are lawful for the job, and have no order that rings of its places allow
+pub record ShowNoRoom (job : JobView) (reports : List Report) : Type 0 where
+  pub lawful : IsLawful job reports
+  pub crowded : HaveRoom reports job.capacity → ⊥
+
+-- The same for `run`: with 0, 6 or 9, the trace of reports that are lawful for the job and had room, whichever thread went when; with 3
+-- the line of what failed. F2 comes for a good job alone, and F4 only with reports of the job's ranks that show it. With `--repeat` each distinct trace of so many such runs comes once with its count, and with `--brief` each distinct line.
 pub data IsRunReply (form : Form) (options : RunOptions) (bytes : List ℕ) : ℕ → List ℕ → Type 0 where
   ran : (asked : Asked) (reports : List Report) → options.repeat ≡ None → IsAskedAt options.place bytes asked
-      → IsLawful (given_turns options.turns asked.job) reports
+      → AreOfRun (given_turns options.turns asked.job) reports
       → IsRunReply form options bytes (played_status options.is_strict (as_asked asked.rows (given_turns options.turns asked.job) reports) (has_unfinished (given_turns options.turns asked.job) reports)) (trace_in form (names_at options.place bytes) (given_turns options.turns asked.job) reports)
   repeated : (asked : Asked) (runs : List (List Report)) → options.repeat ≡ Some (length runs) → IsAskedAt options.place bytes asked
-      → All (IsLawful (given_turns options.turns asked.job)) runs
+      → All (AreOfRun (given_turns options.turns asked.job)) runs
       → IsRunReply form options bytes (played_status options.is_strict (list_all (as_asked asked.rows (given_turns options.turns asked.job)) runs) (list_any (has_unfinished (given_turns options.turns asked.job)) runs)) (repeats_in form options.is_brief (given_turns options.turns asked.job) (length runs) (tally (map (trace_in form (names_at options.place bytes) (given_turns options.turns asked.job)) runs)))
   not_run : (status : ℕ) (text : List ℕ) → IsRefusal form options.place bytes status text → IsRunReply form options bytes status text
   no_thread : (asked : Asked) → IsAskedAt options.place bytes asked → IsRunReply form options bytes 3 (failed_in form run.NoThread)
   untrue : (asked : Asked) (reports : List Report) → IsAskedAt options.place bytes asked
       → ShowUntrue (given_turns options.turns asked.job) reports
+      → IsRunReply form options bytes 3 (failed_in form run.Untrue)
+  crowded : (asked : Asked) (reports : List Report) → IsAskedAt options.place bytes asked
+      → ShowNoRoom (given_turns options.turns asked.job) reports
       → IsRunReply form options bytes 3 (failed_in form run.Untrue)
   fell : (told : Form) → IsRunReply form options bytes 3 (out_of_memory_in told)
 

@@ -8,7 +8,7 @@ ghost use Rattle.ulfm_carrier.specs.Lanes.{known_room, lane_name, lane_pushed, l
 ghost use Rattle.ulfm_carrier.specs.Shared.{inbox_capacity, shared_name, shared_pushed, shared_taken, IsReady as IsReadyShared, OneCall as OneSharedCall};
 ghost use Rattle.ulfm_board.specs.Known.{OneBoard, nothing_known};
 ghost use Rattle.ulfm_program.specs.inside.Cells.{AreEnough};
-ghost use Rattle.ulfm_program.specs.Replies.{IsRunReply};
+ghost use Rattle.ulfm_program.specs.Replies.{AreOfRun, IsRunReply};
 ghost use Rattle.ulfm_program.specs.inside.Writing.{IsShown};
 ghost use Rattle.ulfm_replies.specs.CommandLine.{AreInRange};
 ghost use Rattle.ulfm_laws.specs.Lawful.{IsLawful};
@@ -25,7 +25,7 @@ use ulfm_json::Form;
 use ulfm_replies::{
     Carrier, Failure, Reply, RunOptions, asked_at, failed, failure_of, names_at, trace_reply,
 };
-use ulfm_run::{Report, run_job};
+use ulfm_run::{Report, fits, run_job};
 use ulfm_script::{Job, RankReport};
 
 /// The reply of `run` with these options, in this form.
@@ -80,7 +80,7 @@ pub fn run_by_carrier<R: Threads + Wait + Sync>(
     carrier: Carrier,
     job: &Job,
 ) -> Result<Vec<RankReport>, Failure>
-    ensures ran { IfOk result (λ reports. IsLawful job.now reports.items) }
+    ensures ran { IfOk result (λ reports. AreOfRun job.now reports.items) }
     ensures shown { IfErr result (λ failure. IsShown job.now failure) }
 {
     match carrier {
@@ -95,7 +95,7 @@ fn run_by_lanes<R: Threads + Wait + Sync>(
     alloc: Global,
     job: &Job,
 ) -> Result<Vec<RankReport>, Failure>
-    ensures ran { IfOk result (λ reports. IsLawful job.now reports.items) }
+    ensures ran { IfOk result (λ reports. AreOfRun job.now reports.items) }
     ensures shown { IfErr result (λ failure. IsShown job.now failure) }
 {
     match lanes_of(alloc, job) {
@@ -121,7 +121,7 @@ fn run_by_shared<R: Threads + Wait + Sync>(
     alloc: Global,
     job: &Job,
 ) -> Result<Vec<RankReport>, Failure>
-    ensures ran { IfOk result (λ reports. IsLawful job.now reports.items) }
+    ensures ran { IfOk result (λ reports. AreOfRun job.now reports.items) }
     ensures shown { IfErr result (λ failure. IsShown job.now failure) }
 {
     match shared_of(alloc, job) {
@@ -152,7 +152,7 @@ fn run_by<E: Ends + Send, R: Threads + Wait + Sync>(
     requires family { E.one_call (map E.name ends.items) }
     requires places { InPlace E.place ends.items }
     requires fresh { AllFresh E.count E.pushed E.taken E.ready ends.items }
-    ensures ran { IfOk result (λ reports. IsLawful job.now reports.items) }
+    ensures ran { IfOk result (λ reports. AreOfRun job.now reports.items) }
     ensures shown { IfErr result (λ failure. IsShown job.now failure) }
 {
     let deciders = match seats_of(alloc, job) {
@@ -160,12 +160,24 @@ fn run_by<E: Ends + Send, R: Threads + Wait + Sync>(
         Err(_) => return Err(Failure::OutOfMemory),
     };
     match run_job(rt, alloc, job, ends, deciders) {
-        Ok(report) => Ok(report.ranks),
+        Ok(report) => fitting(job, report),
         Err(fault) => match failure_of(fault) {
             Some(failure) => Err(failure),
             None => unreachable!(),
         },
     }
+}
+
+/// What the ranks of a job did, if rings of the job's places allow it.
+fn fitting<E: Drop, D: Drop>(job: &Job, report: Report<E, D>) -> Result<Vec<RankReport>, Failure>
+    requires lawful { IsLawful job.now report.ranks.items }
+    ensures ran { IfOk result (λ reports. AreOfRun job.now reports.items) }
+    ensures shown { IfErr result (λ failure. IsShown job.now failure) }
+{
+    if !fits(&report, job.capacity()) {
+        return Err(Failure::Untrue);
+    }
+    Ok(report.ranks)
 }
 
 /// The seats of a job's ranks at one board. It has a cell for each agreement that a rank can come to, as for each shrink.

@@ -1,7 +1,7 @@
 //! The reply of `run --repeat`: the traces of its runs, counted.
 ghost use Rattle.std.specs.Prelude.{◌≡◌, ◌++◌, ◌&&◌, ◌||◌, ◌+◌, ◌<◌, ◌≤◌, ℕ, All, List, length, map, sum_by, IfErr, IfOk, OnOk, string_bytes};
 ghost use Rattle.std.specs.List.{list_all, list_any};
-ghost use Rattle.ulfm_laws.specs.Lawful.{IsLawful};
+ghost use Rattle.ulfm_program.specs.Replies.{AreOfRun};
 ghost use Rattle.ulfm_reader.specs.JobText.{rows_of as rows_asked};
 ghost use Rattle.ulfm_script.specs.Report.{Report};
 ghost use Rattle.ulfm_json.specs.Form.{trace_in};
@@ -53,7 +53,7 @@ pub fn tally_of<R: Threads + Wait + Sync>(
     times: u32,
     asked: &Reading,
 ) -> Result<Tally, Failure>
-    ensures runs { IfOk result (λ t. (runs : List (List Report)) × (length runs ≡ times) × All (IsLawful asked.now.job) runs
+    ensures runs { IfOk result (λ t. (runs : List (List Report)) × (length runs ≡ times) × All (AreOfRun asked.now.job) runs
         × (t.is_unfinished ≡ list_any (has_unfinished asked.now.job) runs) × (t.is_met ≡ list_all (as_asked (rows_asked asked.now.never.items) asked.now.job) runs) × (rows_of t.rows.items ≡ tally (map (trace_in form bytes.now asked.now.job) runs))) }
     ensures shown { IfErr result (λ failure. IsShown asked.now.job failure) }
 {
@@ -83,7 +83,7 @@ fn run_once<R: Threads + Wait + Sync>(
 ) -> Result<(), Failure>
     requires few { All (λ (row : Kept). row.count ≤ done) tally.old.rows.items }
     requires room { done < 4294967295 }
-    ensures ran { OnOk result ((reports : List Report) × IsLawful asked.now.job reports
+    ensures ran { OnOk result ((reports : List Report) × AreOfRun asked.now.job reports
         × (tally.new.is_unfinished ≡ (tally.old.is_unfinished || has_unfinished asked.now.job reports))
         × (tally.new.is_met ≡ (tally.old.is_met && as_asked (rows_asked asked.now.never.items) asked.now.job reports))
         × (rows_of tally.new.rows.items ≡ counted_once (rows_of tally.old.rows.items) (trace_in form bytes.now asked.now.job reports))) }

@@ -15,7 +15,7 @@ pub enum Failure {
     /// Memory ran out.
     OutOfMemory,
     /// A decision that a rank adopted is untrue of what the ranks did, no rank's own call made a revocation that a rank took
-    /// notice of, or what they did has no one order.
+    /// notice of, or what they did has no one order, or none for which the job's places are enough.
     Untrue,
 }
 

@@ -5,11 +5,13 @@ use Rattle.ulfm_run.specs.Flow.{contents}
 use Rattle.ulfm_program.proofs.Refused.{shown}
 use Rattle.ulfm_program.proofs.run.run_by.Goals as goal
 
-pub returns-in-Ok-run_job-clause-ran : goal.returns-in-Ok-run_job-clause-ran
-returns-in-Ok-run_job-clause-ran g c = record {
-  inboxes = contents c.in-Ok-run_job.report.residue.inboxes.items;
-  knows = map (λ (s : Seat). notes_known s.notes.items) c.in-Ok-run_job.report.deciders.items;
-  lawful = c.in-Ok-run_job.ensures.lawful;
+pub fitting-requires : goal.fitting-requires
+fitting-requires g c = record {
+  lawful = record {
+    inboxes = contents c.in-Ok-run_job.report.residue.inboxes.items;
+    knows = map (λ (s : Seat). notes_known s.notes.items) c.in-Ok-run_job.report.deciders.items;
+    lawful = c.in-Ok-run_job.ensures.lawful;
+  };
 }
 
 pub returns-in-Some-clause-shown : goal.returns-in-Some-clause-shown

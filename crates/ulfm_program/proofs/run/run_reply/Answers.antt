@@ -5,9 +5,8 @@ use Rattle.std.specs.List.{list_all, list_any}
 use Rattle.ulfm_job.specs.Job.{JobView}
 use Rattle.ulfm_reader.specs.JobText.{rows_of}
 use Rattle.ulfm_reader.specs.declared.reading.Reading.{Reading}
-use Rattle.ulfm_laws.specs.Lawful.{IsLawful}
 use Rattle.ulfm_replies.specs.Stopped.{IsAsked, asked_view}
-use Rattle.ulfm_program.specs.Replies.{ran, repeated, not_run, given_turns}
+use Rattle.ulfm_program.specs.Replies.{AreOfRun, ran, repeated, not_run, given_turns}
 use Rattle.ulfm_json.specs.Form.{trace_in}
 use Rattle.ulfm_program.specs.Brief.{repeats_in}
 use Rattle.ulfm_program.specs.Tally.{tally}
@@ -41,7 +40,7 @@ returns-in-Some g c =
             h.1 ∙ ap (λ (j : JobView). repeats_in c.args.form c.args.options.is_brief j c.in-Some.times (rows_kept w.in-Ok-tally_of.tally.rows.items)) job
                 ∙ ap₂ (repeats_in c.args.form c.args.options.is_brief (given_turns c.args.options.turns c.in-Ok.asked.job)) (sym runs.1) (runs.5 ∙ ap₂ (λ (names : List ℕ) (j : JobView). tally (map (trace_in c.args.form names j) runs.0)) c.names_at-names.ensures job),
           )
-          (repeated (asked_view c.in-Ok.asked) runs.0 (c.in-Some.is ∙ ap Some (sym runs.1)) read (subst (λ (j : JobView). All (IsLawful j) runs.0) job runs.2))) w.tally_reply.ensures)
+          (repeated (asked_view c.in-Ok.asked) runs.0 (c.in-Some.is ∙ ap Some (sym runs.1)) read (subst (λ (j : JobView). All (AreOfRun j) runs.0) job runs.2))) w.tally_reply.ensures)
       | in-Err-tally_of w ↦
           rw w.result-is (IfOk-weaker w.failed.result _ _ (λ r h.
           rw (h.0, h.1) (run_failed c.args.form (asked_view c.in-Ok.asked) w.in-Err-tally_of.failure _ read (subst (λ (j : JobView). IsShown j w.in-Err-tally_of.failure) job w.in-Err-tally_of.ensures.shown))) w.failed.ensures)
@@ -52,7 +51,7 @@ returns-in-Ok-ran g c =
     let reports = c.in-Ok-ran.reports.items in
     let given = c.given_turns-asked.ensures in
     let job : c.given_turns-asked.result.job ≡ given_turns c.args.options.turns c.in-Ok.asked.job = ap (λ (asked : Reading). asked.job) given in
-    let of_run : IsLawful (given_turns c.args.options.turns c.in-Ok.asked.job) reports = subst (λ (j : JobView). IsLawful j reports) job c.in-Ok-ran.ensures.ran in
+    let of_run : AreOfRun (given_turns c.args.options.turns c.in-Ok.asked.job) reports = subst (λ (j : JobView). AreOfRun j reports) job c.in-Ok-ran.ensures.ran in
     let read = subst (IsAsked c.args.form c.args.options.place c.args.bytes.now) c.in-Ok.is c.in_ok-read.ensures in
     IfOk-weaker c.trace_reply.result _ _ (λ r h. rw (h.0, h.1, c.as_slice.ensures.value, given, c.names_at-names.ensures) (ran (asked_view c.in-Ok.asked) reports (without_repeat c.args.options.repeat c.in_default.not-Some) read of_run)) c.trace_reply.ensures
 

@@ -1,6 +1,6 @@
 use Rattle.std.proofs.Common.{◌≡◌, ◌≤◌, ◌-◌, All, List, length, map}
 use Rattle.std.specs.List.{list_all, list_any}
-use Rattle.ulfm_laws.specs.Lawful.{IsLawful}
+use Rattle.ulfm_program.specs.Replies.{AreOfRun}
 use Rattle.ulfm_reader.specs.JobText.{rows_of as rows_asked}
 use Rattle.ulfm_script.specs.Report.{Report}
 use Rattle.ulfm_json.specs.Form.{trace_in}
@@ -16,5 +16,5 @@ decreases-loop-done g l = l.times - l.done
 
 abbrev pub invariant-loop-done : goal.invariant-loop-done
 invariant-loop-done g l = (l.done ≤ l.times) × All (λ (row : Counted). row.count ≤ l.done) l.tally.rows.items
-    × ((runs : List (List Report)) × (length runs ≡ l.done) × All (IsLawful l.asked.job) runs
+    × ((runs : List (List Report)) × (length runs ≡ l.done) × All (AreOfRun l.asked.job) runs
     × (l.tally.is_unfinished ≡ list_any (has_unfinished l.asked.job) runs) × (l.tally.is_met ≡ list_all (as_asked (rows_asked l.asked.never.items) l.asked.job) runs) × (rows_of l.tally.rows.items ≡ tally (map (trace_in l.form l.bytes l.asked.job) runs)))
