@@ -222,7 +222,10 @@ fn first_apart(
 fn first_apart_of_new(alloc: Global, draws: &mut Pcg32) -> Result<Option<u32>, OutOfMemory> {
     let mut matcher = Matcher::new(alloc);
     let mut plain = Plain::new(alloc);
-    first_apart(alloc, &mut matcher, &mut plain, draws)
+    let apart = first_apart(alloc, &mut matcher, &mut plain, draws);
+    // Let go by the standard library, which is cheaper to check.
+    drop(matcher);
+    apart
 }
 
 #[test]
@@ -264,7 +267,9 @@ fn first_apart_of_many_new(
 ) -> Result<Option<u32>, OutOfMemory> {
     let mut matcher = Matcher::new(alloc);
     let mut plain = Plain::new(alloc);
-    first_apart_of_many(alloc, &mut matcher, &mut plain, draws, letters_first)
+    let apart = first_apart_of_many(alloc, &mut matcher, &mut plain, draws, letters_first);
+    drop(matcher);
+    apart
 }
 
 #[test]
