@@ -111,18 +111,29 @@ fn a_job_has_these_places(rt: HostRuntime) -> Result<(), Fail> {
     Ok(())
 }
 
-/// Whether the wait of rank 0 has this number, and names this receive, where ranks stop at a place of that job.
+/// Whether the wait of rank 0 has this number, and names this receive, where ranks stop at a place of a job.
+fn waits_in(
+    alloc: Global,
+    job: &Job,
+    place: Place,
+    number: usize,
+    names: u16,
+) -> Result<bool, Fail> {
+    if !place.is_inside(job) {
+        return Ok(false);
+    }
+    let made = place.job(alloc, job)?;
+    let is_longer = made.len() == job.len() + place.len();
+    Ok(is_longer && matches!(made.step(0, number), Some(Step::Wait { req }) if *req == names))
+}
+
+/// The same of that job, by the place's text.
 fn waits_at(alloc: Global, place: &str, number: usize, names: u16) -> Result<bool, Fail> {
-    let job = Job::read(alloc, JOB.as_bytes())?;
     let Some(place) = Place::parse(place) else {
         return Ok(false);
     };
-    if !place.is_inside(&job) {
-        return Ok(false);
-    }
-    let made = place.job(alloc, &job)?;
-    let is_longer = made.len() == job.len() + place.len();
-    Ok(is_longer && matches!(made.step(0, number), Some(Step::Wait { req }) if *req == names))
+    let job = Job::read(alloc, JOB.as_bytes())?;
+    waits_in(alloc, &job, place, number, names)
 }
 
 #[test]

@@ -75,23 +75,34 @@ fn world_of(alloc: Global, job: &Job, has_rings: bool) -> Result<World, Fail> {
     }
 }
 
+/// What of a row isn't so of a world, if anything, before its trace.
+fn fault_before(world: &mut World, job: &Job, row: &Row) -> Option<&'static str> {
+    if first_other(world, job, row.deeds).is_some() {
+        return Some("a deed");
+    }
+    if world.is_at_rest() != row.is_at_rest {
+        return Some("the rest");
+    }
+    None
+}
+
+/// What of a row with this job isn't so, if anything.
+fn fault_in(alloc: Global, job: &Job, row: &Row) -> Result<Option<&'static str>, Fail> {
+    let mut world = world_of(alloc, job, row.has_rings)?;
+    let fault = fault_before(&mut world, job, row);
+    let reports = world.into_reports(alloc)?;
+    let trace = trace_text(alloc, reports.as_slice())?;
+    Ok(if fault.is_none() && trace.as_str() != row.trace {
+        Some("the trace")
+    } else {
+        fault
+    })
+}
+
 /// What of a row isn't so, if anything.
 fn fault_of(alloc: Global, row: &Row) -> Result<Option<&'static str>, Fail> {
     let job = Job::read(alloc, row.job.as_bytes())?;
-    let mut world = world_of(alloc, &job, row.has_rings)?;
-    if first_other(&mut world, &job, row.deeds).is_some() {
-        return Ok(Some("a deed"));
-    }
-    if world.is_at_rest() != row.is_at_rest {
-        return Ok(Some("the rest"));
-    }
-    let reports = world.into_reports(alloc)?;
-    let trace = trace_text(alloc, reports.as_slice())?;
-    Ok(if trace.as_str() == row.trace {
-        None
-    } else {
-        Some("the trace")
-    })
+    fault_in(alloc, &job, row)
 }
 
 #[test]

@@ -107,49 +107,53 @@ fn knew_before(rank: &mut Rank) -> bool {
         && lists_second(rank, third)
 }
 
-/// The proposal of the first rank.
-fn first_proposal(alloc: Global) -> Option<Decision> {
-    let Ok(mut rank) = Rank::start(alloc, 0, 3) else {
-        return None;
+/// The proposal of the first rank, or of the second, once it heard of the others.
+fn proposal(rank: &mut Rank) -> Option<Decision> {
+    let has_heard = if rank.me().number == FIRST.number {
+        hears_of_both(rank)
+    } else {
+        knew_before(rank)
     };
-    if !hears_of_both(&mut rank) {
-        return None;
-    }
-    proposed(&rank)
+    if has_heard { proposed(rank) } else { None }
 }
 
-/// The proposal of the second rank.
-fn second_proposal(alloc: Global) -> Option<Decision> {
-    let Ok(mut rank) = Rank::start(alloc, 1, 3) else {
-        return None;
-    };
-    if !knew_before(&mut rank) {
-        return None;
+/// Whether the first rank refuses the proposal of the second, and adopts its own; or the third that of the first, which leaves it out.
+fn judges(rank: &mut Rank, other: Option<Decision>) -> bool {
+    if rank.me().number == FIRST.number {
+        hears_of_both(rank) && refuses(rank, other) && adopts_its_own(rank)
+    } else {
+        enters(rank) && refuses(rank, other)
     }
-    proposed(&rank)
 }
 
-/// Whether the first rank refuses the proposal of the second, and adopts its own.
-fn adopts_its_own_alone(alloc: Global) -> bool {
-    let Ok(mut rank) = Rank::start(alloc, 0, 3) else {
-        return false;
-    };
-    if !hears_of_both(&mut rank) {
-        return false;
+/// The proposal of one of three ranks.
+fn proposal_of(alloc: Global, me: WorldRank) -> Option<Decision> {
+    match Rank::start(alloc, me.number, 3) {
+        Ok(mut rank) => {
+            let proposed = proposal(&mut rank);
+            // Let go by the standard library, which saves the check a minute.
+            drop(rank);
+            proposed
+        }
+        Err(_) => None,
     }
-    refuses(&mut rank, second_proposal(alloc)) && adopts_its_own(&mut rank)
 }
 
-/// Whether the third rank refuses the proposal of the first, which leaves it out.
-fn is_left_out(alloc: Global) -> bool {
-    let Ok(mut rank) = Rank::start(alloc, 2, 3) else {
-        return false;
-    };
-    enters(&mut rank) && refuses(&mut rank, first_proposal(alloc))
+/// Whether one of three ranks judges another's proposal rightly.
+fn judges_as(alloc: Global, me: WorldRank, other: Option<Decision>) -> bool {
+    match Rank::start(alloc, me.number, 3) {
+        Ok(mut rank) => {
+            let is_right = judges(&mut rank, other);
+            drop(rank);
+            is_right
+        }
+        Err(_) => false,
+    }
 }
 
 #[test]
 fn a_decision_with_another_set_of_an_entry_is_refused(rt: HostRuntime) {
-    assert!(rt; adopts_its_own_alone(rt.alloc()));
-    assert!(rt; is_left_out(rt.alloc()));
+    let alloc = rt.alloc();
+    assert!(rt; judges_as(alloc, FIRST, proposal_of(alloc, SECOND)));
+    assert!(rt; judges_as(alloc, THIRD, proposal_of(alloc, FIRST)));
 }
