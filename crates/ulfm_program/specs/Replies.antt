@@ -10,7 +10,7 @@ use Rattle.ulfm_json.specs.Form.{trace_in}
 use Rattle.ulfm_json.specs.declared.form.Form.{Form}
 use Rattle.ulfm_laws.specs.Lawful.{IsLawful}
 use Rattle.ulfm_run.specs.Fault.{ShowUntrue}
-use Rattle.ulfm_run.specs.Room.{HaveRoom}
+use Rattle.ulfm_laws.specs.Room.{HaveRoom}
 use Rattle.ulfm_world.specs.Replay.{MadeAtRest}
 use Rattle.ulfm_program.specs.Brief.{repeats_in}
 use Rattle.ulfm_program.specs.ListReply.{IsListReply}

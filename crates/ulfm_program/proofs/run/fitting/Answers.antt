@@ -1,6 +1,6 @@
 use Rattle.std.proofs.Common.{ℕ, sym, subst, ◌∙◌, inr, arith}
 use Rattle.std.proofs.lemmas.Bool.{false≢true}
-use Rattle.ulfm_run.specs.Room.{HaveRoom}
+use Rattle.ulfm_laws.specs.Room.{HaveRoom}
 use Rattle.ulfm_program.proofs.run.fitting.Goals as goal
 
 pub fits-requires : goal.fits-requires
