@@ -1,5 +1,5 @@
 //! Groups of ranks (MPI 4.0, 7.3).
-ghost use Rattle.std.specs.Prelude.{◌≡◌, ◌≢◌, [], ℕ, ◌+◌, ◌<◌, ◌≤◌, length, map, slice_get, Some, IfOk, IfErr, OnOk, MatchOption, MatchResult, All, Any, IsTrue, ◌↔◌, ◌⊎◌};
+ghost use Rattle.std.specs.Prelude.{◌≡◌, ◌≢◌, [], ℕ, ◌<◌, ◌≤◌, length, map, slice_get, Some, IfOk, IfErr, OnOk, MatchOption, All, Any, IsTrue, ◌↔◌, ◌⊎◌};
 
 use crate::error::{CallError, OutOfMemory};
 use crate::rank::WorldRank;

@@ -1,5 +1,5 @@
 //! Entries that are taken out, and their numbers with them.
-ghost use Rattle.std.specs.Prelude.{◌≡◌, ◌≢◌, ◌↔◌, ℕ, None, Contains, IsTrue, MatchOption, IfNone, false};
+ghost use Rattle.std.specs.Prelude.{◌≡◌, ◌≢◌, ◌↔◌, ℕ, Contains, IsTrue, MatchOption, IfNone, false};
 ghost use Rattle.ulfm_base.specs.Pattern.{Admits};
 ghost use Rattle.ulfm_match.specs.inside.Buckets.{IsIndexed, MayGet, MayGoTo, NoneIsWild, NonePass, TakesOut, GivesLetter, GivesReceive};
 ghost use Rattle.ulfm_match.specs.inside.Key.{IsKeyOf, IsKeyOfReceive};

@@ -1,5 +1,5 @@
 //! The reply of `run`.
-ghost use Rattle.std.specs.Prelude.{All, length, map, ℕ, ◌≡◌, ◌<◌, ◌≢◌, IfErr, IfOk, string_bytes, vec_len};
+ghost use Rattle.std.specs.Prelude.{All, length, map, ℕ, ◌≡◌, ◌<◌, IfErr, IfOk, string_bytes, vec_len};
 ghost use Rattle.ulfm_carrier.specs.declared.lane_ends.LaneEnds.{LaneEnds as Lanes};
 ghost use Rattle.ulfm_carrier.specs.declared.shared_ends.SharedEnds.{SharedEnds as Shared};
 ghost use Rattle.ulfm_carrier.specs.Family.{AllFresh};

@@ -1,5 +1,5 @@
 //! How many agreements a rank entered on each communicator, and what is let go after a further one (ULFM, agree).
-ghost use Rattle.std.specs.Prelude.{◌≡◌, ◌+◌, ◌-◌, ◌<◌, ◌^◌, ℕ, if◌then◌else◌};
+ghost use Rattle.std.specs.Prelude.{◌≡◌, ◌+◌, ◌<◌, ◌^◌, ℕ, if◌then◌else◌};
 ghost use Rattle.ulfm_base.specs.Topic.{is_agreement};
 ghost use Rattle.ulfm_rank.specs.inside.Decisive.{rounds_on, enters_on, is_current, tells};
 

@@ -1,5 +1,5 @@
 //! What shrinks and agreements have in common: entry, proposal and adoption (ULFM, shrink and agree).
-ghost use Rattle.std.specs.Prelude.{◌≡◌, ℕ, true, IsTrue, Some, IfOk, IfErr, OnOk, OnErr, false};
+ghost use Rattle.std.specs.Prelude.{◌≡◌, ℕ, IsTrue, Some, IfOk, IfErr, OnOk, OnErr, false};
 ghost use Rattle.ulfm_base.specs.declared.contribution.Contribution.{Contribution as Brought};
 ghost use Rattle.ulfm_base.specs.Decision.{entry_at};
 ghost use Rattle.ulfm_base.specs.Group.{is_member};
