@@ -46,6 +46,7 @@ fn settle_receive(pool: &mut Pool<Pattern>, alloc: Global) -> Result<(), OutOfMe
     match put(&mut pool.buckets, alloc, key_of(&pattern), number) {
         Ok(()) => {
             pool.wild = may_be_wild(pool, &pattern);
+            // There is room for it, and nothing else has its number.
             let _ = pool.early.insert(number, pattern);
             Ok(())
         }

@@ -44,6 +44,7 @@ impl Outboxes {
     {
         let mut slots = Vec::with_capacity(alloc, n as usize)?;
         for dest in 0..n {
+            // The invariant of the loop counts by it.
             let _ = dest;
             slots.push(Outbox::new(alloc))?;
         }
