@@ -18,7 +18,7 @@ pub(crate) struct Pool<X> {
     pub(crate) early: Numbered<X>,
     pub(crate) buckets: Buckets,
     pub(crate) late: VecDeque<(u64, X)>,
-    /// Whether an early entry may stand in a bucket of any source or of any tag.
+    /// Whether an early entry may stand in a bucket of any source or of any tag. Where none does, an arrival looks in one bucket.
     pub(crate) wild: bool,
 }
 

@@ -1,4 +1,5 @@
-//! A place for one entry more: where many are late, the first of them is put into its buckets.
+//! A place for one entry more: where many are late, the first of them is put into its buckets. That may find no memory, and then is
+//! tried again. So no room is kept in buckets, where nobody knows which of them will grow.
 ghost use Rattle.std.specs.Prelude.{◌≡◌, ◌<◌, ◌≤◌, ◌∷◌, ◌++◌, ℕ, [], IsTrue, OnOk, false};
 ghost use Rattle.std.specs.VecDeque.{deque_len, deque_capacity};
 ghost use Rattle.ulfm_match.specs.inside.Key.{IsKeyOf, IsKeyOfReceive, IsWild, key_of};
@@ -23,6 +24,7 @@ fn may_be_wild(pool: &Pool<Pattern>, pattern: &Pattern) -> bool
     if is_wild(pattern) {
         return true;
     }
+    // Here alone it is told anew: no end of a receive looks at those that are left. Until then it may speak of one that went.
     if pool.early.is_empty() {
         return false;
     }
