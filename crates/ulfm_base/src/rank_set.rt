@@ -1,5 +1,5 @@
 //! Sets of ranks.
-ghost use Rattle.std.specs.Prelude.{◌≡◌, ◌≢◌, ℕ, ◌↔◌, ◌||◌, IsTrue, true, false, length};
+ghost use Rattle.std.specs.Prelude.{◌≡◌, ◌≢◌, ℕ, ◌↔◌, ◌||◌, ◌&&◌, IsTrue, true, false, length};
 
 use crate::rank::WorldRank;
 
@@ -51,6 +51,17 @@ impl RankSet {
         let mut members = self.members;
         for rank in 0..8 {
             members[rank] |= other.members[rank];
+        }
+        RankSet { members }
+    }
+
+    /// The ranks that are in both sets.
+    pub fn intersection(self, other: RankSet) -> RankSet
+        ensures { (r : ℕ) → has result r ≡ (has self r && has other r) }
+    {
+        let mut members = self.members;
+        for rank in 0..8 {
+            members[rank] &= other.members[rank];
         }
         RankSet { members }
     }

@@ -8,7 +8,6 @@ ghost use Rattle.ulfm_rank.specs.Facts.{is_revoked, revoked_before, Knows};
 ghost use Rattle.ulfm_rank.specs.inside.Outboxes.{AllGrow};
 ghost use Rattle.ulfm_rank.specs.Owed.{passed_on, owed_by_item, announced};
 
-use crate::members::members_of_both;
 use crate::outboxes::Outboxes;
 use crate::word::Word;
 use ulfm_base::{Context, Entrance, Item, RankSet, WorldRank};
@@ -50,7 +49,7 @@ pub(crate) fn announce(
     ensures { (n : ℕ) (log : List Entry) → Knows log known → ((r : ℕ) → has members r ≡ is_member (members_of n log entrance.topic.context.number) r) → AllGrow outboxes.old.boxes outboxes.new.boxes (announced n me log entrance) }
 {
     let addressees = addressees(me, known);
-    outboxes.put_each(members_of_both(members, addressees), Word::Enter(entrance));
+    outboxes.put_each(members.intersection(addressees), Word::Enter(entrance));
 }
 
 /// Puts what a taken item makes its taker owe into the outboxes. `revoked` says whether its context was revoked before.

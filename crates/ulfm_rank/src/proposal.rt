@@ -12,7 +12,6 @@ ghost use Rattle.ulfm_rank.specs.Facts.{Knows};
 ghost use Rattle.ulfm_rank.specs.Proposal.{deciders, has_entered};
 ghost use Rattle.ulfm_rank.specs.State.{State};
 
-use crate::members::members_of_both;
 use ulfm_base::{Contribution, Decision, Group, Purpose, RankSet, Topic, WorldRank};
 
 /// The entries of the members of a group, and of no other rank.
@@ -113,7 +112,7 @@ pub(crate) fn proposed(
     if !members.is_subset(listed_or(&listed, failures)) {
         return None;
     }
-    let excluded = members_of_both(members, failures);
+    let excluded = members.intersection(failures);
     Some(Decision {
         topic,
         old: group.copied(),
