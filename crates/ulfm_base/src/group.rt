@@ -195,7 +195,7 @@ impl Group {
     }
 
     /// The position in another group of the member at a position of this one, where there is one.
-    fn position_in(&self, position: u8, other: &Group) -> Option<u8>
+    pub fn position_in(&self, position: u8, other: &Group) -> Option<u8>
         ensures { result ≡ translated self.now other.now position }
     {
         other.rank_of(self.world_of(position)?)

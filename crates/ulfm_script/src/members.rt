@@ -1,18 +1,11 @@
 //! Positions in a group.
 ghost use Rattle.std.specs.Prelude.{◌≡◌, ◌++◌, ◌∷◌, [], filter_map, MatchOption};
-ghost use Rattle.ulfm_base.specs.Group.{rank_in, translated};
+ghost use Rattle.ulfm_base.specs.Group.{rank_in};
 ghost use Rattle.smallvec.specs.SmallVec.{HasRoomFor};
 
 use smallvec::SmallVec;
 use std::alloc::Global;
 use ulfm_base::Group;
-
-/// The position in a group of the member at a position of another, where it is a member of both.
-fn position_of(group: &Group, others: &Group, k: u8) -> Option<u8>
-    ensures { result ≡ translated others.now group.now k }
-{
-    group.rank_of(others.world_of(k)?)
-}
 
 /// One more position, where there is one.
 fn push_found(positions: &mut SmallVec<u8, 8>, found: Option<u8>)
@@ -31,7 +24,7 @@ pub fn positions_in(alloc: Global, group: &Group, others: &Group) -> SmallVec<u8
 {
     let mut positions = SmallVec::new(alloc);
     for k in 0..others.size() {
-        push_found(&mut positions, position_of(group, others, k));
+        push_found(&mut positions, others.position_in(k, group));
     }
     positions
 }
