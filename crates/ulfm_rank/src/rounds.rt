@@ -1,6 +1,5 @@
 //! How many agreements a rank entered on each communicator, and what is let go after a further one (ULFM, agree).
 ghost use Rattle.std.specs.Prelude.{◌≡◌, ◌+◌, ◌-◌, ◌<◌, ◌^◌, ℕ, if◌then◌else◌};
-ghost use Rattle.ulfm_base.specs.Topic.{is_agreement};
 ghost use Rattle.ulfm_rank.specs.inside.Decisive.{rounds_on, enters_on, is_current, tells};
 
 use crate::row::{Row, RowKind};
@@ -32,7 +31,7 @@ impl Rounds {
         requires { rounds_on self.old topic.context.number < 2 ^ 63 }
         ensures { (c : ℕ) → rounds_on self.new c ≡ rounds_on self.old c + (if enters_on c topic then 1 else 0) }
     {
-        if is_agreement(topic.purpose) {
+        if topic.purpose.is_agreement() {
             self.entered[topic.context.number as usize] += 1;
         }
     }
@@ -56,15 +55,5 @@ impl Rounds {
             RowKind::Adopted(topic, _) => self.is_current(*topic),
             RowKind::Heard(_, entrance) => self.is_current(entrance.topic),
         }
-    }
-}
-
-/// Whether a purpose is an agreement.
-fn is_agreement(purpose: Purpose) -> bool
-    ensures { result ≡ is_agreement purpose }
-{
-    match purpose {
-        Purpose::Shrink => false,
-        Purpose::Agree { .. } => true,
     }
 }

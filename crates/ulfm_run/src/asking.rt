@@ -1,6 +1,5 @@
 //! On what a step of a rank is decided, by the rank's log (ULFM, shrink and agree).
 ghost use Rattle.std.specs.Prelude.{◌≡◌, ◌↔◌, IsTrue, Some};
-ghost use Rattle.ulfm_base.specs.Topic.{is_agreement};
 ghost use Rattle.ulfm_rank.specs.Proposal.{agreements, enters_agreement, last_agreement};
 ghost use Rattle.ulfm_script.specs.Deciding.{topic_of};
 
@@ -69,18 +68,8 @@ fn enters_agreement(entry: &Entry, context: Context) -> bool
 {
     match entry {
         Entry::Entered(entrance) => {
-            entrance.topic.context.number == context.number && is_agreement(entrance.topic.purpose)
+            entrance.topic.context.number == context.number && entrance.topic.purpose.is_agreement()
         }
         _ => false,
-    }
-}
-
-/// Whether a purpose is an agreement.
-fn is_agreement(purpose: Purpose) -> bool
-    ensures { result ≡ is_agreement purpose }
-{
-    match purpose {
-        Purpose::Shrink => false,
-        Purpose::Agree { .. } => true,
     }
 }
