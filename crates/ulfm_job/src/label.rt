@@ -10,7 +10,7 @@ use std::marker::Model;
 #[derive(Drop)]
 pub struct Label {
     used: u8,
-    bytes: [u8; 32],
+    bytes: [u8; MOST_LABEL],
 }
 
 impl Model for Label {
@@ -33,7 +33,7 @@ impl Label {
         if !is_label(bytes) {
             return None;
         }
-        let mut kept = [0; 32];
+        let mut kept = [0; MOST_LABEL];
         kept[..bytes.len()].copy_from_slice(bytes);
         Some(Label {
             used: bytes.len() as u8,

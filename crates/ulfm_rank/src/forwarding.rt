@@ -10,14 +10,14 @@ ghost use Rattle.ulfm_rank.specs.Owed.{passed_on, owed_by_item, announced};
 
 use crate::outboxes::Outboxes;
 use crate::word::Word;
-use ulfm_base::{Context, Entrance, Item, RankSet, WorldRank};
+use ulfm_base::{Context, Entrance, Item, MOST_RANKS, RankSet, WorldRank};
 
 /// The ranks that something is told to: not the rank itself, nor those that are known to have failed.
 pub(crate) fn addressees(me: u8, known: RankSet) -> RankSet
     ensures { (d : ℕ) → d < 8 → has result d ≡ (not (me == d) && not (has known d)) }
 {
     let mut addressees = RankSet::new();
-    for number in 0..8 {
+    for number in 0..MOST_RANKS {
         let rank = WorldRank { number };
         if number == me || known.contains(rank) {
             continue;

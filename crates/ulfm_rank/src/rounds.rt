@@ -3,12 +3,12 @@ ghost use Rattle.std.specs.Prelude.{◌≡◌, ◌+◌, ◌-◌, ◌<◌, ◌^�
 ghost use Rattle.ulfm_rank.specs.inside.Decisive.{rounds_on, enters_on, is_current, tells};
 
 use crate::row::{Row, RowKind};
-use ulfm_base::{Context, Purpose, Topic};
+use ulfm_base::{CONTEXTS, Context, Purpose, Topic};
 
 /// By the number of a context, how many agreements on its communicator the rank entered.
 #[derive(Clone, Copy)]
 pub(crate) struct Rounds {
-    entered: [u64; 63],
+    entered: [u64; CONTEXTS],
 }
 
 impl Rounds {
@@ -16,7 +16,9 @@ impl Rounds {
     pub(crate) fn new() -> Rounds
         ensures { (c : ℕ) → rounds_on result c ≡ 0 }
     {
-        Rounds { entered: [0; 63] }
+        Rounds {
+            entered: [0; CONTEXTS],
+        }
     }
 
     /// How many were entered on a communicator.

@@ -5,10 +5,10 @@ ghost use Rattle.smallvec.specs.SmallVec.{HasRoomFor};
 
 use smallvec::SmallVec;
 use std::alloc::Global;
-use ulfm_base::Group;
+use ulfm_base::{Group, RankNumbers};
 
 /// One more position, where there is one.
-fn push_found(positions: &mut SmallVec<u8, 8>, found: Option<u8>)
+fn push_found(positions: &mut RankNumbers, found: Option<u8>)
     requires { HasRoomFor positions.old 1 }
     ensures items { MatchOption found (positions.new.items ≡ positions.old.items) (λ position. positions.new.items ≡ positions.old.items ++ position ∷ []) }
     ensures capacity { positions.new.capacity ≡ positions.old.capacity }
@@ -19,7 +19,7 @@ fn push_found(positions: &mut SmallVec<u8, 8>, found: Option<u8>)
 }
 
 /// The positions in a group of those members of another that it has, in the other's order. It never answers out of memory.
-pub fn positions_in(alloc: Global, group: &Group, others: &Group) -> SmallVec<u8, 8>
+pub fn positions_in(alloc: Global, group: &Group, others: &Group) -> RankNumbers
     ensures { result.items ≡ filter_map (λ member. rank_in group.now member) others.now }
 {
     let mut positions = SmallVec::new(alloc);
