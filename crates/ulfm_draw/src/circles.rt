@@ -33,14 +33,14 @@ pub(crate) fn conclusions(
 
 /// Whether a wait is of the step at which its rank would stand, and isn't over as soon as what came later is there.
 fn holds(picture: &Picture<'_>, wait: &Wait<'_>) -> bool {
-    if wait.is_late() || picture.first_step(wait.rank) != Some(wait.step) {
+    if wait.is_missed() || picture.first_step(wait.rank) != Some(wait.step) {
         return false;
     }
     !(wait.is_for_message()
         && picture
             .waits
             .iter()
-            .any(|other| other.is_beside(wait) && other.is_late()))
+            .any(|other| other.is_beside(wait) && other.is_missed()))
 }
 
 /// The first other rank that a rank waits for and that waits itself.

@@ -1,7 +1,7 @@
 //! What steps wait for that were given up, by the reports of a job.
 
 use crate::held::{Held, all_held, enters_behind, held_at};
-use crate::late::{Late, late_step};
+use crate::missed::{Missed, missed_step};
 use std::alloc::Global;
 use ulfm_base::OutOfMemory;
 use ulfm_job::{Job, Step};
@@ -154,9 +154,9 @@ fn push_wait(
     source: &RankReport,
 ) -> Result<(), OutOfMemory> {
     let s = source.me().number;
-    let late = late_step(job, given, source);
-    let due = match late {
-        Some(late) => Some(late.step),
+    let missed = missed_step(job, given, source);
+    let due = match missed {
+        Some(missed) => Some(missed.step),
         None => due_of(given.need, given.position, job, s, source.steps()),
     };
     push_words(
@@ -170,25 +170,25 @@ fn push_wait(
         job.script(s),
         due,
     )?;
-    match late {
-        Some(late) => push_late(text, held, s, late)?,
+    match missed {
+        Some(missed) => push_missed(text, held, s, missed)?,
         None => push_notice(text, given, source)?,
     }
     text.push_str("\n")
 }
 
 /// Puts why a step of the rank `s` that brought it came too late.
-fn push_late(
+fn push_missed(
     text: &mut String,
     held: &[Option<Held>],
     s: u8,
-    late: Late,
+    missed: Missed,
 ) -> Result<(), OutOfMemory> {
-    if late.is_lost {
+    if missed.is_lost {
         return text.push_str(", but lost");
     }
     match held_at(held, s) {
-        Some(own) if late.step > own.step => {
+        Some(own) if missed.step > own.step => {
             write!(text, ", but only after {s}.{}", own.step)?;
             if own.is_given_up {
                 text.push_str(" was given up")?;

@@ -1,7 +1,7 @@
 //! Where ranks would stand if no step were given up.
 
 use crate::given_up::{GivenUp, members};
-use crate::late::late_step;
+use crate::missed::missed_step;
 use crate::under_way::is_sent;
 use std::alloc::Global;
 use ulfm_base::OutOfMemory;
@@ -159,8 +159,8 @@ pub(crate) fn enters_behind(
     let Some(source) = reports.get(s as usize) else {
         return false;
     };
-    match late_step(job, given, source) {
-        Some(late) => is_behind(held, s, late.step),
+    match missed_step(job, given, source) {
+        Some(missed) => is_behind(held, s, missed.step),
         None => false,
     }
 }

@@ -31,7 +31,7 @@ impl<'a> Wait<'a> {
     }
 
     /// Whether it came, when the step was given up already, or is on its way.
-    pub(crate) fn is_late(&self) -> bool {
+    pub(crate) fn is_missed(&self) -> bool {
         self.bearer.ends_with(" later") || self.bearer.ends_with(" yet")
     }
 

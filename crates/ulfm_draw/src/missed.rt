@@ -10,17 +10,17 @@ use ulfm_waits::would_bring;
 
 /// A step that brought what was waited for, after that was given up.
 #[derive(Clone, Copy)]
-pub(crate) struct Late {
+pub(crate) struct Missed {
     pub(crate) step: usize,
     /// Whether its message was lost, since its rank stopped.
     pub(crate) is_lost: bool,
 }
 
 /// The first step of a rank that brought what is waited for when this was given up, if there is one.
-pub(crate) fn late_step(job: &Job, given: &GivenUp<'_>, source: &RankReport) -> Option<Late> {
+pub(crate) fn missed_step(job: &Job, given: &GivenUp<'_>, source: &RankReport) -> Option<Missed> {
     match given.need {
-        Step::Recv { .. } | Step::Probe { .. } => late_send(job, given, source),
-        _ => late_entry(job, given, source),
+        Step::Recv { .. } | Step::Probe { .. } => missed_send(job, given, source),
+        _ => missed_entry(job, given, source),
     }
 }
 
@@ -33,13 +33,13 @@ fn brings(job: &Job, given: &GivenUp<'_>, source: &RankReport, step: usize) -> b
 }
 
 /// The first step that sent a message which fits, and which wasn't taken yet.
-fn late_send(job: &Job, given: &GivenUp<'_>, source: &RankReport) -> Option<Late> {
+fn missed_send(job: &Job, given: &GivenUp<'_>, source: &RankReport) -> Option<Missed> {
     let to = given.report.me().number;
     let taken = letters_before(given.report, given.report.log().len(), source);
     for number in letters_before(given.report, given.known, source)..source.log().len() {
         let step = step_of(source, sent_by(source, to, number)?)?;
         if brings(job, given, source, step) {
-            return Some(Late {
+            return Some(Missed {
                 step,
                 is_lost: source.stopped() && number >= taken,
             });
@@ -49,12 +49,12 @@ fn late_send(job: &Job, given: &GivenUp<'_>, source: &RankReport) -> Option<Late
 }
 
 /// The step that entered the same decision, where a rank did.
-fn late_entry(job: &Job, given: &GivenUp<'_>, source: &RankReport) -> Option<Late> {
+fn missed_entry(job: &Job, given: &GivenUp<'_>, source: &RankReport) -> Option<Missed> {
     let topic = topic_of(given)?;
     let entered = entered_at(source.log(), topic)?;
     for (step, answered) in source.steps().iter().enumerate() {
         if answered.at >= entered && brings(job, given, source, step) {
-            return Some(Late {
+            return Some(Missed {
                 step,
                 is_lost: false,
             });
