@@ -171,6 +171,17 @@ pub fn text_at(table: &Table, key: Key) -> Option<&str> {
     }
 }
 
+/// The list at a key, if there is one.
+pub fn list_at<'a>(table: &'a Table, key: &str) -> Option<&'a [Value]> {
+    let values = table.get(key)?.as_array()?;
+    Some(values.as_slice())
+}
+
+/// The same of a value, if it is a table.
+pub fn list_in<'a>(value: &'a Value, key: &str) -> Option<&'a [Value]> {
+    list_at(value.as_table()?, key)
+}
+
 /// Whether a value is of a kind, other than an array of tables.
 fn is_of_kind(value: &Value, kind: Kind) -> bool {
     match kind {

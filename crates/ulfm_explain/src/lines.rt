@@ -1,5 +1,6 @@
 //! The steps of a job's table, written out, beside the places that they have in the file.
 
+use crate::keys::list_in;
 use crate::steps::steps_of;
 use std::alloc::{AllocError, Global};
 use toml::{Table, Value};
@@ -61,7 +62,7 @@ fn filed_lines(alloc: Global, filed: &[Value]) -> Result<Lines, AllocError> {
 fn long_places(alloc: Global, filed: &[Value]) -> Result<Vec<usize>, AllocError> {
     let mut places = Vec::new(alloc);
     for (place, item) in filed.iter().enumerate() {
-        let inside = list_at(item, "steps").unwrap_or(&[]);
+        let inside = list_in(item, "steps").unwrap_or(&[]);
         if has_long(item) || inside.iter().any(|step| has_long(step)) {
             places.push(place)?;
         }
@@ -71,7 +72,7 @@ fn long_places(alloc: Global, filed: &[Value]) -> Result<Vec<usize>, AllocError>
 
 /// Whether a step has one.
 fn has_long(step: &Value) -> bool {
-    match list_at(step, "if") {
+    match list_in(step, "if") {
         Some(alternatives) => alternatives.iter().any(|own| is_long(own)),
         None => match step.get("if") {
             Some(own) => is_long(own),
@@ -82,14 +83,8 @@ fn has_long(step: &Value) -> bool {
 
 /// Whether an alternative is one.
 fn is_long(alternative: &Value) -> bool {
-    match list_at(alternative, "all") {
+    match list_in(alternative, "all") {
         Some(tables) => tables.len() > MOST_ITEMS,
         None => false,
     }
-}
-
-/// The list at a key of a table, if there is one.
-fn list_at<'a>(value: &'a Value, key: &str) -> Option<&'a [Value]> {
-    let values = value.as_table()?.get(key)?.as_array()?;
-    Some(values.as_slice())
 }

@@ -5,26 +5,16 @@ use crate::cause::Cause;
 use crate::claim::claim_of;
 use crate::counted::Counted;
 use crate::findings::Findings;
+use crate::keys::list_at;
 use crate::rules::Key;
 use crate::script::{Script, op_of};
 use crate::shown::Shown;
 use crate::steps::steps_of;
-use crate::told::{halves, table_of};
+use crate::told::{halves, place_in, push_texts, table_of};
 use std::alloc::{AllocError, Global};
 use toml::{Table, Value};
 use ulfm_job::limits::{FEWEST_OF_ROW, MOST_OF_ROW, MOST_ROWS, MOST_WORDS};
 use ulfm_reader::begins_with;
-
-/// The rows of a job; none where they aren't an array.
-fn rows_of(table: &Table) -> &[Value] {
-    match table.get("never") {
-        Some(value) => match value.as_array() {
-            Some(values) => values.as_slice(),
-            None => &[],
-        },
-        None => &[],
-    }
-}
 
 /// Tells how many rows there are, where there may not be so many, and then what is wrong with each, after all steps.
 pub fn explain_never(
@@ -32,8 +22,10 @@ pub fn explain_never(
     steps: &[Value],
     table: &Table,
 ) -> Result<(), AllocError> {
-    let rows = rows_of(table);
-    if rows.len() > MOST_ROWS || (rows.is_empty() && is_empty_at(table)) {
+    let Some(rows) = list_at(table, "never") else {
+        return Ok(());
+    };
+    if rows.is_empty() || rows.len() > MOST_ROWS {
         return tell(findings, Cause::Rows(rows.len()));
     }
     for (number, row) in rows.iter().enumerate() {
@@ -42,14 +34,6 @@ pub fn explain_never(
         }
     }
     Ok(())
-}
-
-/// Whether the rows of a job are an array without any.
-fn is_empty_at(table: &Table) -> bool {
-    match table.get("never") {
-        Some(value) => value.is_array(),
-        None => false,
-    }
 }
 
 /// Tells a cause, at the key `never`.
@@ -120,7 +104,8 @@ pub fn rows_that_came(alloc: Global, bytes: &[u8], trace: &str) -> Result<String
 /// The lines on the rows of a job's table that a trace has whole.
 fn rows_told(alloc: Global, table: &Table, trace: &str) -> Result<String, AllocError> {
     let mut told = Counted::new(alloc);
-    for (number, row) in rows_of(table).iter().enumerate() {
+    let rows = list_at(table, "never").unwrap_or(&[]);
+    for (number, row) in rows.iter().enumerate() {
         let texts = row.as_array().map_or(&[][..], |texts| texts.as_slice());
         if has_come(steps_of(table), texts, trace) {
             let line = row_line(alloc, number, texts)?;
@@ -133,7 +118,8 @@ fn rows_told(alloc: Global, table: &Table, trace: &str) -> Result<String, AllocE
 /// The line on a row.
 fn row_line(alloc: Global, number: usize, texts: &[Value]) -> Result<String, AllocError> {
     let mut line = format!(in alloc; "never[{number}]:")?;
-    push_texts(&mut line, texts)?;
+    push_texts(&mut line, texts, " and")?;
+    line.push_str("\n")?;
     Ok(line)
 }
 
@@ -149,31 +135,16 @@ fn is_told(steps: &[Value], text: &Value, trace: &str) -> bool {
     let Some(claim) = text.as_str().and_then(|text| claim_of(text)) else {
         return false;
     };
-    let number = claim.number(steps);
+    let Some(number) = claim.number(steps) else {
+        return false;
+    };
     trace
         .lines()
         .any(|line| is_line_of(line, claim.rank, number, claim.words))
 }
 
 /// Whether a line of a trace is of this step, and its answer begins so.
-fn is_line_of(line: &str, rank: i64, number: Option<usize>, words: &str) -> bool {
+fn is_line_of(line: &str, rank: i64, number: usize, words: &str) -> bool {
     let (place, answer) = halves(line, ": ");
-    let mut place = place.split(' ');
-    let told_rank: Option<i64> = place.next().and_then(|word| word.parse().ok());
-    let told_number: Option<usize> = place.next().and_then(|word| word.parse().ok());
-    told_number.is_some()
-        && told_rank == Some(rank)
-        && told_number == number
-        && begins_with(answer, words)
-}
-
-/// Adds the texts of a row.
-fn push_texts(note: &mut String, texts: &[Value]) -> Result<(), AllocError> {
-    let mut mark = "";
-    for value in texts {
-        let text = value.as_str().unwrap_or("");
-        write!(note, "{mark} '{text}'")?;
-        mark = " and";
-    }
-    note.push_str("\n")
+    place_in(place) == Some((rank, number)) && begins_with(answer, words)
 }

@@ -4,7 +4,7 @@ use crate::asking::explain_asking;
 use crate::cause::Cause;
 use crate::explanation::StepPlace;
 use crate::findings::Findings;
-use crate::keys::{Sheet, integer_at, text_at};
+use crate::keys::{Sheet, integer_at, list_at, text_at};
 use crate::nearest::nearest_op;
 use crate::never::explain_never;
 use crate::ops::op_named;
@@ -54,13 +54,7 @@ pub fn explain_job(findings: &mut Findings<'_>, table: &Table) -> Result<(), All
 
 /// The steps of a job.
 pub fn steps_of(table: &Table) -> &[Value] {
-    match table.get("step") {
-        Some(value) => match value.as_array() {
-            Some(values) => values.as_slice(),
-            None => &[],
-        },
-        None => &[],
-    }
+    list_at(table, "step").unwrap_or(&[])
 }
 
 /// The integer at the rank of a step, if there is one.

@@ -40,11 +40,17 @@ pub fn table_of(alloc: Global, bytes: &[u8]) -> Result<Option<Table>, AllocError
     }
 }
 
-/// The step that the words before an answer name: its rank, and its number there.
-pub fn step_of<'a>(steps: &'a [Value], words: &str) -> Option<&'a Value> {
+/// The rank of a step, and its number there, by the words before its answer.
+pub fn place_in(words: &str) -> Option<(i64, usize)> {
     let mut words = words.split(' ');
     let rank: i64 = words.next()?.parse().ok()?;
     let number: usize = words.next()?.parse().ok()?;
+    Some((rank, number))
+}
+
+/// The step that the words before an answer name.
+pub fn step_of<'a>(steps: &'a [Value], words: &str) -> Option<&'a Value> {
+    let (rank, number) = place_in(words)?;
     Script { steps, rank }.step(number)
 }
 
@@ -63,4 +69,15 @@ pub fn push_step(note: &mut String, steps: &[Value], words: &str) -> Result<(), 
     };
     let step = Numbered { number, name };
     write!(note, "rank {rank} {step}: {call}")
+}
+
+/// Adds texts, with this before each but the first.
+pub fn push_texts(note: &mut String, texts: &[Value], between: &str) -> Result<(), AllocError> {
+    let mut mark = "";
+    for value in texts {
+        let text = value.as_str().unwrap_or("");
+        write!(note, "{mark} '{text}'")?;
+        mark = between;
+    }
+    Ok(())
 }

@@ -1,8 +1,9 @@
 //! Which answers of a trace aren't as their steps expect.
 
 use crate::counted::Counted;
+use crate::keys::list_in;
 use crate::steps::steps_of;
-use crate::told::{halves, push_step, step_of, table_of};
+use crate::told::{halves, push_step, push_texts, step_of, table_of};
 use std::alloc::{AllocError, Global};
 use toml::Value;
 use ulfm_reader::begins_with;
@@ -35,27 +36,11 @@ fn unmet_of(alloc: Global, steps: &[Value], trace: &str) -> Result<String, Alloc
 /// What the step of a line expects, where its answer isn't that.
 fn expected_of<'a>(steps: &'a [Value], line: &str) -> Option<&'a [Value]> {
     let (words, answer) = line.split_once(": ")?;
-    let expected = expectation_of(step_of(steps, words)?)?;
-    if answer == "skipped" || is_met(answer, expected) {
+    let expected = list_in(step_of(steps, words)?, "expect")?;
+    if answer == "skipped" || expected.iter().any(|words| is_begun(answer, words)) {
         return None;
     }
     Some(expected)
-}
-
-/// The words one of which a step's answer has to begin with.
-fn expectation_of(step: &Value) -> Option<&[Value]> {
-    let expected = step.as_table()?.get("expect")?.as_array()?;
-    Some(expected.as_slice())
-}
-
-/// Whether an answer begins with one of these words.
-fn is_met(answer: &str, expected: &[Value]) -> bool {
-    for words in expected {
-        if is_begun(answer, words) {
-            return true;
-        }
-    }
-    false
 }
 
 /// Whether an answer begins with the words of a value.
@@ -77,18 +62,7 @@ fn note_on(
     let mut note = String::new(alloc);
     push_step(&mut note, steps, words)?;
     note.push_str(": expected")?;
-    push_expected(&mut note, expected)?;
+    push_texts(&mut note, expected, " or")?;
     write!(note, ", and its answer is '{answer}'\n")?;
     Ok(note)
-}
-
-/// Adds the words one of which an answer has to begin with.
-fn push_expected(note: &mut String, expected: &[Value]) -> Result<(), AllocError> {
-    let mut mark = "";
-    for value in expected {
-        let text = value.as_str().unwrap_or("");
-        write!(note, "{mark} '{text}'")?;
-        mark = " or";
-    }
-    Ok(())
 }
