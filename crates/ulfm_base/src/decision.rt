@@ -2,13 +2,17 @@
 ghost use Rattle.std.specs.Prelude.{◌≡◌, ℕ, ◌↔◌, IsTrue, length};
 ghost use Rattle.ulfm_base.specs.Decision.{IsLawfulDecision, IsLawfulDecision-prop, is_listed, left_out};
 ghost use Rattle.ulfm_base.specs.RankSet.{has};
+ghost use Rattle.ulfm_base.specs.declared.rank.TheConstants.{RANK_PLACES};
 
 use crate::contribution::Contribution;
 use crate::error::OutOfMemory;
 use crate::group::Group;
-use crate::rank::WorldRank;
+use crate::rank::{MOST_RANKS, RANK_PLACES, WorldRank};
 use crate::rank_set::RankSet;
 use crate::topic::Topic;
+
+/// By its number, what each rank brought that is listed.
+pub type Listing = [Option<Contribution>; RANK_PLACES];
 
 /// What was decided: about which shrink or agreement, the group of its communicator, what each listed rank brought at
 /// its entry, the excluded members, the group without them, and the value of an agreement.
@@ -19,14 +23,14 @@ pub struct Decision {
     /// The group of the communicator.
     pub old: Group,
     /// By its number, what each rank brought that is listed.
-    pub entries: [Option<Contribution>; 8],
+    pub entries: Listing,
     /// The members that failed.
     pub excluded: RankSet,
     /// The other members: the new group, where the communicator is shrunk.
     pub fresh: Group,
     /// The AND of the listed flags, in an agreement.
     pub value: Option<u32>,
-    pub ghost sized: { length entries ≡ 8 },
+    pub ghost sized: { length entries ≡ RANK_PLACES },
     pub ghost lawful: { IsLawfulDecision topic old entries excluded fresh value } by { IsLawfulDecision-prop topic old entries excluded fresh value },
 }
 
@@ -84,11 +88,11 @@ impl Decision {
 }
 
 /// The ranks that are listed.
-fn listed(entries: &[Option<Contribution>; 8]) -> RankSet
+fn listed(entries: &Listing) -> RankSet
     ensures { (r : ℕ) → has result r ≡ is_listed entries.now r }
 {
     let mut ranks = RankSet::new();
-    for number in 0..8 {
+    for number in 0..MOST_RANKS {
         if entries[number as usize].is_some() {
             ranks.insert(WorldRank { number });
         }
@@ -97,7 +101,7 @@ fn listed(entries: &[Option<Contribution>; 8]) -> RankSet
 }
 
 /// Whether the same ranks are listed with the same contributions.
-fn is_same_listing(entries: &[Option<Contribution>; 8], other: &[Option<Contribution>; 8]) -> bool
+fn is_same_listing(entries: &Listing, other: &Listing) -> bool
     ensures { IsTrue result ↔ (entries.now ≡ other.now) }
 {
     entries == other

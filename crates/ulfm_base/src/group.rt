@@ -1,28 +1,32 @@
 //! Groups of ranks (MPI 4.0, 7.3).
-ghost use Rattle.std.specs.Prelude.{◌≡◌, ◌≢◌, [], ℕ, ◌+◌, ◌<◌, ◌≤◌, length, map, slice_get, Some, IfOk, IfErr, OnOk, MatchOption, MatchResult, All, Any, IsTrue, ◌↔◌, ◌⊎◌};
+ghost use Rattle.std.specs.Prelude.{◌≡◌, ◌≢◌, [], ℕ, ◌<◌, ◌≤◌, length, map, slice_get, Some, IfOk, IfErr, OnOk, MatchOption, All, Any, IsTrue, ◌↔◌, ◌⊎◌};
 
 use crate::error::{CallError, OutOfMemory};
-use crate::rank::WorldRank;
+use crate::rank::{MOST_RANKS, RANK_PLACES, WorldRank};
 use crate::rank_set::RankSet;
 use smallvec::SmallVec;
 use std::alloc::Global;
 use std::marker::Model;
 
+/// Numbers of ranks, of the world or of a communicator, held inline.
+pub type RankNumbers = SmallVec<u8, RANK_PLACES>;
+
 /// Distinct ranks of the world, held inline, in the order of their positions. Contracts see the list of their numbers.
 #[derive(Drop)]
 pub struct Group {
-    members: SmallVec<u8, 8>,
+    members: RankNumbers,
 }
 
 impl Model for Group {
     ghost use Rattle.std.specs.Prelude.{ℕ, List, ◌≡◌, ◌≤◌, length};
     ghost use Rattle.ulfm_base.specs.Group.{IsGroup};
+    ghost use Rattle.ulfm_base.specs.declared.rank.TheConstants.{MOST_RANKS, RANK_PLACES};
 
     ghost Value = { List ℕ };
 
     ghost view = { λ g. g.members.items };
 
-    ghost invariant = { λ g. (g.members.capacity ≡ 8) × (length g.members.items ≤ 8) × IsGroup g.members.items };
+    ghost invariant = { λ g. (g.members.capacity ≡ RANK_PLACES) × (length g.members.items ≤ MOST_RANKS) × IsGroup g.members.items };
 }
 
 impl Clone for Group {
@@ -43,10 +47,10 @@ impl Group {
     ///
     /// `BadSize` where `n` isn't 1 to 8.
     pub fn world(alloc: Global, n: u8) -> Result<Group, CallError>
-        ensures ok { IfOk result (λ group. (1 ≤ n) × (n ≤ 8) × (group ≡ numbers_from 0 n)) }
-        ensures err { IfErr result (λ error. (error ≡ CallError.BadSize) × ((n ≡ 0) ⊎ (8 < n))) }
+        ensures ok { IfOk result (λ group. (1 ≤ n) × (n ≤ MOST_RANKS) × (group ≡ numbers_from 0 n)) }
+        ensures err { IfErr result (λ error. (error ≡ CallError.BadSize) × ((n ≡ 0) ⊎ (MOST_RANKS < n))) }
     {
-        if n == 0 || n > 8 {
+        if n == 0 || n > MOST_RANKS {
             return Err(CallError::BadSize);
         }
         let mut members = SmallVec::new(alloc);
@@ -69,7 +73,7 @@ impl Group {
     pub fn size(&self) -> u8
         ensures size { result ≡ length self.now }
         ensures group { IsGroup self.now }
-        ensures small { result ≤ 8 }
+        ensures small { result ≤ MOST_RANKS }
     {
         self.members.len() as u8
     }
@@ -195,7 +199,7 @@ impl Group {
     }
 
     /// The position in another group of the member at a position of this one, where there is one.
-    fn position_in(&self, position: u8, other: &Group) -> Option<u8>
+    pub fn position_in(&self, position: u8, other: &Group) -> Option<u8>
         ensures { result ≡ translated self.now other.now position }
     {
         other.rank_of(self.world_of(position)?)

@@ -29,7 +29,7 @@ impl<T> Model for Noted<T> {
 }
 
 impl<T> Noted<T> {
-    /// What is noted of a value. It takes no memory.
+    /// What is noted of a value. It never answers out of memory.
     pub fn of(value: &T) -> Noted<T>
         ensures { result ≡ value.now }
     {

@@ -39,7 +39,7 @@ impl Clone for NotedItem {
 impl NotedItem {
     ghost use Rattle.ulfm_base.specs.Noted.{item_of};
 
-    /// What a log keeps of an item. It takes no memory.
+    /// What a log keeps of an item. It never answers out of memory.
     pub fn of(item: &Item) -> NotedItem
         ensures { result ≡ item.now }
     {

@@ -1,13 +1,14 @@
 //! Sets of ranks.
-ghost use Rattle.std.specs.Prelude.{◌≡◌, ◌≢◌, ℕ, ◌↔◌, ◌||◌, IsTrue, true, false, length};
+ghost use Rattle.std.specs.Prelude.{◌≡◌, ◌≢◌, ℕ, ◌↔◌, ◌||◌, ◌&&◌, IsTrue, length};
+ghost use Rattle.ulfm_base.specs.declared.rank.TheConstants.{RANK_PLACES};
 
-use crate::rank::WorldRank;
+use crate::rank::{RANK_PLACES, WorldRank};
 
 /// A set of ranks of the world, with a place for each of the engine's eight.
 #[derive(Clone, Copy, Debug, PartialEq, Eq)]
 pub struct RankSet {
-    members: [bool; 8],
-    pub ghost sized: { length members ≡ 8 },
+    members: [bool; RANK_PLACES],
+    pub ghost sized: { length members ≡ RANK_PLACES },
 }
 
 impl RankSet {
@@ -18,7 +19,7 @@ impl RankSet {
         ensures { IsEmpty result }
     {
         RankSet {
-            members: [false; 8],
+            members: [false; RANK_PLACES],
         }
     }
 
@@ -49,8 +50,19 @@ impl RankSet {
         ensures { (r : ℕ) → has result r ≡ (has self r || has other r) }
     {
         let mut members = self.members;
-        for rank in 0..8 {
+        for rank in 0..RANK_PLACES {
             members[rank] |= other.members[rank];
+        }
+        RankSet { members }
+    }
+
+    /// The ranks that are in both sets.
+    pub fn intersection(self, other: RankSet) -> RankSet
+        ensures { (r : ℕ) → has result r ≡ (has self r && has other r) }
+    {
+        let mut members = self.members;
+        for rank in 0..RANK_PLACES {
+            members[rank] &= other.members[rank];
         }
         RankSet { members }
     }
@@ -59,7 +71,7 @@ impl RankSet {
     pub fn is_subset(self, other: RankSet) -> bool
         ensures { IsTrue result ↔ IsSubset self other }
     {
-        for rank in 0..8 {
+        for rank in 0..RANK_PLACES {
             if self.members[rank] && !other.members[rank] {
                 return false;
             }

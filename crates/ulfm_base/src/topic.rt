@@ -12,6 +12,20 @@ pub enum Purpose {
     Agree { round: u64 },
 }
 
+impl Purpose {
+    ghost use Rattle.ulfm_base.specs.Topic.{is_agreement};
+
+    /// Whether it is an agreement.
+    pub fn is_agreement(self) -> bool
+        ensures { result ≡ is_agreement self }
+    {
+        match self {
+            Purpose::Shrink => false,
+            Purpose::Agree { .. } => true,
+        }
+    }
+}
+
 /// What one decision is about: the shrink of a communicator, or one of its agreements.
 #[derive(Clone, Copy, Debug, PartialEq, Eq)]
 pub struct Topic {

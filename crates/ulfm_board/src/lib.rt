@@ -13,6 +13,7 @@ mod decider;
 mod memory;
 mod seat;
 
+pub use cells::place_of;
 pub use decider::Decider;
 pub use memory::MemoryBoard;
 pub use seat::{Seat, seats};

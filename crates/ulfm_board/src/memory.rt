@@ -2,14 +2,14 @@
 ghost use Rattle.std.specs.Prelude.{◌≡◌, ◌<◌, ◌≤◌, suc, vec_len, vec_capacity, IfOk, OnOk, OnErr};
 ghost use Rattle.ulfm_board.specs.Known.{cell_of, nothing_known, padded};
 
-use crate::cells::{ROW, place_of};
+use crate::cells::place_of;
 use crate::decider::Decider;
 use std::alloc::{AllocError, Global};
 use std::marker::Model;
-use ulfm_base::{Decision, OutOfMemory, Topic};
+use ulfm_base::{CONTEXTS, Decision, OutOfMemory, Topic};
 
 /// A board of one owner, for the core and for tests: the first decision handed in on a topic stays. What it keeps follows the
-/// rounds of agreements in use: it has 63 cells for shrinks, and at most 63 for each round up to the greatest that was decided.
+/// rounds of agreements in use: it has a row of cells for shrinks, and at most one for each round up to the greatest that was decided.
 /// Contracts see the decision of each cell, or none, as a list.
 #[derive(Drop)]
 pub struct MemoryBoard {
@@ -18,13 +18,14 @@ pub struct MemoryBoard {
 
 impl Model for MemoryBoard {
     ghost use Rattle.std.specs.Prelude.{◌≤◌, List, Option, length};
+    ghost use Rattle.ulfm_base.specs.declared.context.TheConstants.{CONTEXTS};
     ghost use Rattle.ulfm_base.specs.declared.decision.Decision.{Decision as Decided};
 
     ghost Value = { List (Option Decided) };
 
     ghost view = { λ b. b.cells.items };
 
-    ghost invariant = { λ b. 63 ≤ length b.cells.items };
+    ghost invariant = { λ b. CONTEXTS ≤ length b.cells.items };
 }
 
 impl Clone for MemoryBoard {
@@ -46,7 +47,7 @@ impl MemoryBoard {
         ensures { IfOk result (λ board. board ≡ nothing_known 0) }
     {
         let mut cells = Vec::new(alloc);
-        for _ in 0..ROW {
+        for _ in 0..CONTEXTS {
             cells.push(None)?;
         }
         Ok(MemoryBoard { cells })

@@ -3,16 +3,17 @@ ghost use Rattle.std.specs.Prelude.{◌≡◌, ◌<◌, ◌≤◌, ◌*◌, ◌�
 ghost use Rattle.std.specs.declared.option.Option.TheVariants.{None, Some};
 ghost use Rattle.std.specs.Arc.{arc_value};
 ghost use Rattle.once_cell.specs.Once.{cell_name};
+ghost use Rattle.ulfm_base.specs.declared.context.TheConstants.{CONTEXTS};
 ghost use Rattle.ulfm_board.specs.Known.{Agrees, BothAgree, nothing_known, OneBoard};
 ghost use Rattle.ulfm_board.specs.inside.Names.{cell_names, note_names};
 
-use crate::cells::{ROW, place_of};
+use crate::cells::place_of;
 use crate::decider::Decider;
 use crossbeam_utils::CachePadded;
 use once_cell::race::{Note, OnceBox};
 use std::alloc::{AllocError, Global};
 use std::sync::Arc;
-use ulfm_base::{CallError, Decision, OutOfMemory};
+use ulfm_base::{CONTEXTS, CallError, Decision, MOST_RANKS, OutOfMemory};
 
 /// The place of one decision, set at most once, with no other on its cache lines.
 type Cell = CachePadded<OnceBox<Decision>>;
@@ -23,7 +24,7 @@ pub struct Seat {
     alloc: Global,
     cells: Arc<Vec<Cell>>,
     notes: Vec<Note<Decision>>,
-    ghost whole: { 63 ≤ vec_len notes },
+    ghost whole: { CONTEXTS ≤ vec_len notes },
     ghost tied: { note_names notes.items ≡ cell_names (arc_value cells).items },
 }
 
@@ -34,13 +35,13 @@ pub struct Seat {
 ///
 /// `BadSize` where `n` isn't 1 to 8, else `OutOfMemory` where a growth was refused.
 pub fn seats(alloc: Global, n: u8, rounds: u16) -> Result<Vec<Seat>, CallError>
-    ensures in_range { OnOk result ((1 ≤ n) × (n ≤ 8)) }
+    ensures in_range { OnOk result ((1 ≤ n) × (n ≤ MOST_RANKS)) }
     ensures count { IfOk result (λ seats. vec_len seats ≡ n) }
     ensures one_board { IfOk result (λ seats. OneBoard ⟦<Seat as Decider>⟧.board seats.items) }
     ensures nothing_known { IfOk result (λ seats. All (λ seat. ⟦<Seat as Decider>⟧.known seat ≡ nothing_known rounds) seats.items) }
-    ensures refused { IfErr result (λ error. ((error ≡ CallError.BadSize) × ((n < 1) ⊎ (8 < n))) ⊎ ((error ≡ CallError.OutOfMemory) × (1 ≤ n) × (n ≤ 8))) }
+    ensures refused { IfErr result (λ error. ((error ≡ CallError.BadSize) × ((n < 1) ⊎ (MOST_RANKS < n))) ⊎ ((error ≡ CallError.OutOfMemory) × (1 ≤ n) × (n ≤ MOST_RANKS))) }
 {
-    if n == 0 || n > 8 {
+    if n == 0 || n > MOST_RANKS {
         return Err(CallError::BadSize);
     }
     let board = Arc::new(alloc, empty_cells(alloc, rounds)?)?;
@@ -53,10 +54,10 @@ pub fn seats(alloc: Global, n: u8, rounds: u16) -> Result<Vec<Seat>, CallError>
 
 /// A row of cells for shrinks and one for each round of agreements below `rounds`, with nothing in them.
 fn empty_cells(alloc: Global, rounds: u16) -> Result<Vec<Cell>, OutOfMemory>
-    ensures { IfOk result (λ cells. vec_len cells ≡ 63 * suc rounds) }
+    ensures { IfOk result (λ cells. vec_len cells ≡ CONTEXTS * suc rounds) }
 {
     let mut cells = Vec::new(alloc);
-    for _ in 0..ROW * (rounds as usize + 1) {
+    for _ in 0..CONTEXTS * (rounds as usize + 1) {
         cells.push(CachePadded::new(OnceBox::new(alloc)))?;
     }
     Ok(cells)
@@ -64,7 +65,7 @@ fn empty_cells(alloc: Global, rounds: u16) -> Result<Vec<Cell>, OutOfMemory>
 
 /// A seat that knows nothing.
 fn new_seat(alloc: Global, cells: Arc<Vec<Cell>>) -> Result<Seat, OutOfMemory>
-    requires { 63 ≤ vec_len (arc_value cells) }
+    requires { CONTEXTS ≤ vec_len (arc_value cells) }
     ensures board { IfOk result (λ seat. ⟦<Seat as Decider>⟧.board seat ≡ Some (cell_names (arc_value cells).items)) }
     ensures nothing_known { IfOk result (λ seat. ⟦<Seat as Decider>⟧.known seat ≡ replicate (vec_len (arc_value cells)) None) }
 {

@@ -4,7 +4,7 @@ use Rattle.ulfm_c.specs.Calls.{number_of}
 use Rattle.ulfm_c.specs.declared.told.CGroup.{CGroup}
 use Rattle.ulfm_c.specs.declared.told.CStatus.{CStatus}
 use Rattle.ulfm_rank.specs.declared.entry.Cancel.{Cancel}
-use Rattle.ulfm_rank.specs.declared.entry.Cancel.TheVariants.{Cancelled, Late}
+use Rattle.ulfm_rank.specs.declared.entry.Cancel.TheVariants.{Cancelled, Completed}
 use Rattle.ulfm_rank.specs.declared.entry.Status.{Status}
 use Rattle.ulfm_rank.specs.declared.entry.TestAnswer.{TestAnswer}
 use Rattle.ulfm_rank.specs.declared.entry.TestAnswer.TheVariants.{Done, Over, Pending, NotYet}
@@ -42,4 +42,4 @@ Tells Pending code before status room body = (code ≡ 18) × (status ≡ before
 -- they tell this answer of a cancel
 abbrev pub TellsCancel : Cancel → ℕ → CStatus → CStatus → List ℕ → List ℕ → Type 0
 TellsCancel Cancelled code before status room body = (code ≡ 0) × (status ≡ ended 0 1) × (body ≡ room)
-TellsCancel (Late answer) code before status room body = Tells answer code before status room body
+TellsCancel (Completed answer) code before status room body = Tells answer code before status room body

@@ -139,7 +139,7 @@ fn cancel(process: &mut Process, request: u64, status: &mut CStatus, body: &mut 
     ensures { CancelCall process.old process.new request status.old status.new body.old body.new result }
 {
     match process.cancel(RequestId { number: request }) {
-        Ok(Cancel::Late(answer)) => return tell(answer, status, body),
+        Ok(Cancel::Completed(answer)) => return tell(answer, status, body),
         Ok(Cancel::Cancelled) => {
             *status = ended(0, 1);
             return 0;

@@ -5,7 +5,7 @@ ghost use Rattle.ulfm_c.specs.Worlds.{WorldCall, process_in};
 use crate::handle::Handle;
 use crate::words::number_of;
 use std::alloc::Global;
-use ulfm_base::CallError;
+use ulfm_base::{CallError, RANK_PLACES};
 use ulfm_process::{Process, world};
 
 /// The processes, each in a block of its own.
@@ -51,7 +51,7 @@ pub extern "C" fn ulfm_c_world(
 ) -> u32
     ensures { WorldCall handles.old handles.new capacity rounds result }
 {
-    if handles.len() > 8 {
+    if handles.len() > RANK_PLACES {
         return 13;
     }
     let processes = match world(alloc, handles.len() as u8, capacity, rounds) {

@@ -1,5 +1,5 @@
 //! What is left in the shared inboxes, once all ends are in one hand.
-ghost use Rattle.std.specs.Prelude.{◌≡◌, ◌≢◌, ◌<◌, ◌≤◌, ◌+◌, ◌++◌, [], ℕ, List, length, map, slice_get, vec_len};
+ghost use Rattle.std.specs.Prelude.{◌≡◌, ◌≢◌, ◌<◌, ◌≤◌, ◌+◌, ◌++◌, [], ℕ, List, map, slice_get, vec_len};
 ghost use Rattle.std.specs.Arc.{arc_value};
 ghost use Rattle.crossbeam_queue.specs.Passes.{view, IsSamePass};
 ghost use Rattle.ulfm_base.specs.declared.item.Item.{Item as Sent};
@@ -9,7 +9,7 @@ ghost use Rattle.ulfm_carrier.specs.Family.{Keeps, IsGathered};
 ghost use Rattle.ulfm_base.specs.Items.{items_from};
 ghost use Rattle.ulfm_base.specs.Lists.{at};
 ghost use Rattle.ulfm_carrier.specs.Inbox.{InboxPass as Pass};
-ghost use Rattle.ulfm_carrier.specs.inside.Passes.{in_role, after_receipt};
+ghost use Rattle.ulfm_carrier.specs.inside.Passes.{after_receipt};
 ghost use Rattle.ulfm_carrier.specs.inside.Emptying.{HasAllReceipts, with_outs, with_inlet, AreOpenFrom};
 ghost use Rattle.ulfm_carrier.specs.Shared.{pass_name, pushed_with, shared_name, shared_pushed, shared_taken, HasPasses, MaySend, IsReceiver, IsReady, OneCall};
 

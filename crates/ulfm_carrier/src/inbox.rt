@@ -3,7 +3,7 @@ ghost use Rattle.std.specs.Prelude.{◌≡◌, ◌<◌, ◌≤◌, [], IfOk, Mat
 ghost use Rattle.crossbeam_queue.specs.Fifo.{Held};
 ghost use Rattle.crossbeam_queue.specs.Passes.{view, IsPassOf, IsSamePass, ruled_capacity};
 ghost use Rattle.ulfm_base.specs.Items.{ComesFrom};
-ghost use Rattle.ulfm_carrier.specs.Inbox.{Signed, receiver, ReceiptsAreTakenAndHeld};
+ghost use Rattle.ulfm_carrier.specs.Inbox.{receiver, ReceiptsAreTakenAndHeld};
 ghost use Rattle.ulfm_carrier.specs.inside.Passes.{sender, after_push, after_all, one_more, in_role, after_receipt, TakesOne};
 ghost use Rattle.ulfm_carrier.specs.inside.Emptying.{ReceiptsAreTaken, HasAllReceipts, AllBelow};
 ghost use Rattle.ulfm_carrier.specs.declared.inbox.Role.TheVariants as role;

@@ -1,6 +1,6 @@
 //! The receiver's end of the ring from one rank.
 ghost use Rattle.std.specs.Prelude.{◌≡◌, ◌+◌, ◌<◌, ◌≤◌, ◌++◌, ◌∷◌, ◌↔◌, [], List, None, length, map, vec_len, vec_capacity, IsTrue};
-ghost use Rattle.rtrb.specs.Ring.{sent, received, known_free, IsPair, consumer_capacity};
+ghost use Rattle.rtrb.specs.Ring.{sent, known_free, IsPair};
 ghost use Rattle.ulfm_base.specs.declared.item.Item.{Item as Sent};
 
 use crate::carried::{Carried, sign};
@@ -19,7 +19,7 @@ pub(crate) struct Inlet {
 impl Inlet {
     ghost use Rattle.ulfm_base.specs.Items.{ComesFrom};
     ghost use Rattle.ulfm_carrier.specs.Carried.{item_from};
-    ghost use Rattle.ulfm_carrier.specs.Lanes.{inlet_name, reader_name, outlet_name, inlet_capacity, taken_by, pushed_into, seen_in};
+    ghost use Rattle.ulfm_carrier.specs.Lanes.{inlet_name, outlet_name, inlet_capacity, taken_by, pushed_into, seen_in};
     ghost use Rattle.ulfm_carrier.specs.inside.Tagged.{with_sender};
 
     /// The end of this ring from a rank.

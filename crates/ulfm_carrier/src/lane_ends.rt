@@ -1,5 +1,5 @@
 //! A rank's ends of the rings to and from each rank.
-ghost use Rattle.std.specs.Prelude.{◌≡◌, ◌≢◌, ◌<◌, ◌≤◌, ◌+◌, ◌++◌, ◌↔◌, [], ◌∷◌, ℕ, None, length, map, vec_len, IsTrue, MatchResult, MatchOption, OnOk, OnErr, IsOk, IfNone, IfSome};
+ghost use Rattle.std.specs.Prelude.{◌≡◌, ◌≢◌, ◌<◌, ◌≤◌, ◌+◌, ◌++◌, ◌↔◌, [], ◌∷◌, ℕ, length, map, vec_len, IsTrue, MatchResult, MatchOption, OnOk, OnErr, IsOk, IfNone, IfSome};
 
 use crate::carried::Carried;
 use crate::ends::Ends;

@@ -10,9 +10,7 @@ use crate::unwritten::Unwritten;
 use crate::written::written_out;
 use std::alloc::{AllocError, Global};
 use toml::{Table, Value};
-
-/// The most ranks of a job.
-const MOST_RANKS: u8 = 8;
+use ulfm_job::limits::MOST_RANKS;
 
 /// How many ranks a job has that says so; eight where it doesn't.
 pub fn ranks_in(table: &Table) -> u8

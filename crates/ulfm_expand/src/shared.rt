@@ -11,9 +11,7 @@ use crate::ranks::{for_rank, placed, shared_by};
 use crate::unwritten::Unwritten;
 use std::alloc::Global;
 use toml::Value;
-
-/// The most steps of a job.
-const MOST_STEPS: usize = 256;
+use ulfm_job::MOST_STEPS;
 
 /// These steps of a job of so many ranks, each for its ranks.
 ///

@@ -5,9 +5,7 @@ ghost use Rattle.ulfm_expand.specs.Iterations.{added, digits_from, tag_by};
 
 use std::alloc::{AllocError, Global};
 use toml::Value;
-
-/// The largest tag.
-const MOST_TAG: u32 = 32_767;
+use ulfm_job::limits::LAST_TAG;
 
 /// The number of these digits, if it is at most 32767.
 fn number_of(digits: &[u8]) -> Option<u32>
@@ -20,7 +18,7 @@ fn number_of(digits: &[u8]) -> Option<u32>
             return None;
         }
         number = number * 10 + u32::from(*digit - b'0');
-        if number > MOST_TAG {
+        if number > LAST_TAG {
             return None;
         }
     }

@@ -3,14 +3,14 @@ ghost use Rattle.std.specs.Prelude.{◌≡◌, ◌==◌, ℕ, not, true, false, 
 
 use std::alloc::Global;
 use std::marker::Model;
-use ulfm_base::{Context, Group, OutOfMemory, RankSet, WorldRank};
+use ulfm_base::{CONTEXTS, Context, Group, OutOfMemory, RankSet, WorldRank};
 
 /// What one rank knows of failures and revocations. Contracts see it as `Facts`.
 #[derive(Drop)]
 pub struct Faults {
     known: Group,
-    acknowledged: [u8; 63],
-    revoked: [bool; 63],
+    acknowledged: [u8; CONTEXTS],
+    revoked: [bool; CONTEXTS],
 }
 
 impl Model for Faults {
@@ -46,8 +46,8 @@ impl Faults {
     {
         Faults {
             known: Group::empty(alloc),
-            acknowledged: [0; 63],
-            revoked: [false; 63],
+            acknowledged: [0; CONTEXTS],
+            revoked: [false; CONTEXTS],
         }
     }
 

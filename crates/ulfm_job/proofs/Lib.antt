@@ -1,4 +1,5 @@
 pub mod Common
+pub mod Same
 pub mod Scripts
 pub mod WithStop
 pub mod Rounds

@@ -22,7 +22,11 @@ impl Clause {
     ghost use Rattle.std.specs.Prelude.{◌≡◌, IfOk};
 
     /// The same clause once more.
-    pub(crate) fn copy(&self, alloc: Global) -> Result<Clause, OutOfMemory>
+    ///
+    /// # Errors
+    ///
+    /// `OutOfMemory` where a growth was refused.
+    pub fn copy(&self, alloc: Global) -> Result<Clause, OutOfMemory>
         ensures { IfOk result (λ clause. clause ≡ self.now) }
     {
         let words = self.words.copy(alloc)?;

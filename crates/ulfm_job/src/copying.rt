@@ -7,7 +7,7 @@ use std::alloc::Global;
 use ulfm_base::OutOfMemory;
 
 impl Step {
-    /// The same step once more, where it has no body to carry: nothing of a send. It takes no memory.
+    /// The same step once more, where it has no body to carry: nothing of a send. It never answers out of memory.
     pub fn bodiless(&self) -> Option<Step>
         ensures { result ≡ bodiless self.now }
     {

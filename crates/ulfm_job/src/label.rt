@@ -1,5 +1,5 @@
 //! What a note says.
-ghost use Rattle.std.specs.Prelude.{◌≡◌, ◌↔◌, IsTrue};
+ghost use Rattle.std.specs.Prelude.{◌≡◌};
 ghost use Rattle.std.specs.List.{list_all};
 ghost use Rattle.ulfm_job.specs.Label.{is_label, is_label_byte, label_of};
 
@@ -10,7 +10,7 @@ use std::marker::Model;
 #[derive(Drop)]
 pub struct Label {
     used: u8,
-    bytes: [u8; 32],
+    bytes: [u8; MOST_LABEL],
 }
 
 impl Model for Label {
@@ -24,6 +24,20 @@ impl Model for Label {
     ghost invariant = { λ l. IsKept l.used l.bytes };
 }
 
+impl PartialEq for Label {
+    ghost use Rattle.std.specs.Prelude.{nat_eq};
+    ghost use Rattle.std.specs.Cmp.{partial_equiv_from_equiv};
+    ghost use Rattle.std.specs.Cmp.Lexicographic.{pointwise, nat_list_eq_equiv};
+
+    ghost eq = { λ a b. pointwise nat_eq a b };
+
+    ghost laws = { partial_equiv_from_equiv nat_list_eq_equiv };
+
+    fn eq(&self, other: &Label) -> bool {
+        self.as_str().as_bytes() == other.as_str().as_bytes()
+    }
+}
+
 impl Label {
     /// The label of a text, or nothing where it can't be one.
     pub fn new(text: &str) -> Option<Label>
@@ -33,7 +47,7 @@ impl Label {
         if !is_label(bytes) {
             return None;
         }
-        let mut kept = [0; 32];
+        let mut kept = [0; MOST_LABEL];
         kept[..bytes.len()].copy_from_slice(bytes);
         Some(Label {
             used: bytes.len() as u8,
@@ -59,13 +73,6 @@ impl Label {
             Ok(text) => text,
             Err(_) => unreachable!(),
         }
-    }
-
-    /// Whether two labels have the same bytes.
-    pub fn is_same(&self, other: &Label) -> bool
-        ensures { IsTrue result ↔ (self.now ≡ other.now) }
-    {
-        self.as_str().as_bytes() == other.as_str().as_bytes()
     }
 }
 

@@ -1,4 +1,6 @@
-//! The limits of a job's text (docs/JOBS.md), each once but for those that `ulfm_expand` needs, which stands below.
+//! The limits of a job's text (docs/JOBS.md), each once.
+
+use ulfm_base::CONTEXTS;
 
 /// The most ranks.
 pub const MOST_RANKS: u8 = 8;
@@ -22,7 +24,7 @@ pub const LAST_STEP: u32 = MOST_STEPS as u32 - 1;
 pub const LAST_TAG: u32 = 32_767;
 
 /// The greatest context of a communicator.
-pub const LAST_COMM: u32 = 62;
+pub const LAST_COMM: u32 = CONTEXTS as u32 - 1;
 
 /// The most bytes of a body that is sent.
 pub const MOST_BODY: usize = 1024;

@@ -42,7 +42,7 @@ impl Model for NotedStep {
 impl NotedStep {
     ghost use Rattle.ulfm_job.specs.Job.{decides_on, is_agreement_step};
 
-    /// What a report keeps of a step. It takes no memory.
+    /// What a report keeps of a step. It never answers out of memory.
     pub fn of(step: &Step) -> NotedStep
         ensures { result ≡ step.now }
     {

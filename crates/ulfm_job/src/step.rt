@@ -7,7 +7,7 @@ use ulfm_base::{Context, Tag};
 
 /// One step of one rank. A rank (`to`, `from`) is one of the communicator `comm`, which is
 /// named by its context; `req` is the number of the step, of the same rank, that posted the receive or probed.
-#[derive(Drop)]
+#[derive(Drop, PartialEq)]
 pub enum Step {
     /// Sends a letter to a position of a communicator.
     Send {
@@ -112,125 +112,7 @@ impl Step {
     pub fn is_same(&self, other: &Step) -> bool
         ensures { IsTrue result ↔ (self.now ≡ other.now) }
     {
-        match (self, other) {
-            (
-                Step::Send {
-                    to,
-                    tag,
-                    body,
-                    comm,
-                },
-                Step::Send {
-                    to: other_to,
-                    tag: other_tag,
-                    body: other_body,
-                    comm: other_comm,
-                },
-            ) => {
-                if to != other_to {
-                    return false;
-                }
-                if !same_tag(*tag, *other_tag) {
-                    return false;
-                }
-                if !body.is_same(other_body) {
-                    return false;
-                }
-                same_comm(*comm, *other_comm)
-            }
-            (
-                Step::Recv {
-                    from,
-                    tag,
-                    room,
-                    comm,
-                },
-                Step::Recv {
-                    from: other_from,
-                    tag: other_tag,
-                    room: other_room,
-                    comm: other_comm,
-                },
-            ) => {
-                if from != other_from {
-                    return false;
-                }
-                if !same_tags(*tag, *other_tag) {
-                    return false;
-                }
-                if room != other_room {
-                    return false;
-                }
-                same_comm(*comm, *other_comm)
-            }
-            (Step::Wait { req }, Step::Wait { req: other_req }) => req == other_req,
-            (
-                Step::Probe { from, tag, comm },
-                Step::Probe {
-                    from: other_from,
-                    tag: other_tag,
-                    comm: other_comm,
-                },
-            ) => {
-                if from != other_from {
-                    return false;
-                }
-                if !same_tags(*tag, *other_tag) {
-                    return false;
-                }
-                same_comm(*comm, *other_comm)
-            }
-            (
-                Step::Mrecv { req, room },
-                Step::Mrecv {
-                    req: other_req,
-                    room: other_room,
-                },
-            ) => {
-                if req != other_req {
-                    return false;
-                }
-                room == other_room
-            }
-            (Step::Cancel { req }, Step::Cancel { req: other_req }) => req == other_req,
-            (Step::Failed { comm }, Step::Failed { comm: other_comm }) => {
-                same_comm(*comm, *other_comm)
-            }
-            (
-                Step::Ack { count, comm },
-                Step::Ack {
-                    count: other_count,
-                    comm: other_comm,
-                },
-            ) => {
-                if count != other_count {
-                    return false;
-                }
-                same_comm(*comm, *other_comm)
-            }
-            (Step::Revoke { comm }, Step::Revoke { comm: other_comm }) => {
-                same_comm(*comm, *other_comm)
-            }
-            (Step::Dup { comm }, Step::Dup { comm: other_comm }) => same_comm(*comm, *other_comm),
-            (Step::Shrink { comm }, Step::Shrink { comm: other_comm }) => {
-                same_comm(*comm, *other_comm)
-            }
-            (
-                Step::Agree { flag, comm },
-                Step::Agree {
-                    flag: other_flag,
-                    comm: other_comm,
-                },
-            ) => {
-                if flag != other_flag {
-                    return false;
-                }
-                same_comm(*comm, *other_comm)
-            }
-            (Step::Note { text }, Step::Note { text: other_text }) => text.is_same(other_text),
-            (Step::Stop, Step::Stop) => true,
-            _ => false,
-        }
+        self == other
     }
 }
 
@@ -238,20 +120,4 @@ fn same_comm(comm: Context, other: Context) -> bool
     ensures { IsTrue result ↔ (comm ≡ other) }
 {
     comm == other
-}
-
-fn same_tag(tag: Tag, other: Tag) -> bool
-    ensures { IsTrue result ↔ (tag ≡ other) }
-{
-    tag == other
-}
-
-fn same_tags(tag: Option<Tag>, other: Option<Tag>) -> bool
-    ensures { IsTrue result ↔ (tag ≡ other) }
-{
-    match (tag, other) {
-        (Some(tag), Some(other)) => same_tag(tag, other),
-        (None, None) => true,
-        _ => false,
-    }
 }

@@ -28,15 +28,15 @@ come_clear s c d false = refl
 -- the letter that an entry gives came where its context isn't revoked, and else none
 record IsCome (s c : ℕ) (before : List Entry) (events : List MatchEvent) (items : List Item) : Type 0 where
   pub fresh : is_revoked before c ≡ false → letters_come s c events ≡ mail c items
-  pub late : is_revoked before c ≡ true → letters_come s c events ≡ []
+  pub after : is_revoked before c ≡ true → letters_come s c events ≡ []
 
 come_none : {s c : ℕ} {before : List Entry} {events : List MatchEvent} {items : List Item} → letters_come s c events ≡ [] → mail c items ≡ [] → IsCome s c before events items
-come_none none empty = record { fresh = λ h. none ∙ sym empty; late = λ h. none }
+come_none none empty = record { fresh = λ h. none ∙ sym empty; after = λ h. none }
 
 come_letter : (s c : ℕ) (before : List Entry) (source : WorldRank) (letter : Letter) → letter.envelope.source ≡ source → IsCome s c before (cond (is_revoked before letter.envelope.context.number) [] (Come letter ∷ [])) (cond (eqb source.number s) (Mail letter ∷ []) [])
 come_letter s c before source letter same = record {
   fresh = λ h. fresh (is_revoked before letter.envelope.context.number) (eqb letter.envelope.context.number c) (eqb letter.envelope.source.number s) (λ e. ap (is_revoked before) (eqb-true letter.envelope.context.number c e) ∙ h) refl refl (ap (λ r. eqb r.number s) (sym same));
-  late = λ h. late (is_revoked before letter.envelope.context.number) (eqb letter.envelope.context.number c) (λ e. ap (is_revoked before) (eqb-true letter.envelope.context.number c e) ∙ h) refl;
+  after = λ h. after (is_revoked before letter.envelope.context.number) (eqb letter.envelope.context.number c) (λ e. ap (is_revoked before) (eqb-true letter.envelope.context.number c e) ∙ h) refl;
 } where
   fresh : (v a b : Bool) → (a ≡ true → v ≡ false) → eqb letter.envelope.context.number c ≡ a → eqb letter.envelope.source.number s ≡ b → eqb source.number s ≡ b → letters_come s c (cond v [] (Come letter ∷ [])) ≡ mail c (cond (eqb source.number s) (Mail letter ∷ []) [])
   fresh true true b g e f k = absurd (false≢true (sym (g refl)))
@@ -47,10 +47,10 @@ come_letter s c before source letter same = record {
   fresh false false true g e f k = rw (e, k) (rw e refl)
   fresh false false false g e f k = rw (e, k) refl
 
-  late : (v a : Bool) → (a ≡ true → v ≡ true) → eqb letter.envelope.context.number c ≡ a → letters_come s c (cond v [] (Come letter ∷ [])) ≡ []
-  late true a g e = refl
-  late false true g e = absurd (false≢true (g refl))
-  late false false g e = rw e refl
+  after : (v a : Bool) → (a ≡ true → v ≡ true) → eqb letter.envelope.context.number c ≡ a → letters_come s c (cond v [] (Come letter ∷ [])) ≡ []
+  after true a g e = refl
+  after false true g e = absurd (false≢true (g refl))
+  after false false g e = rw e refl
 
 come_entry : (n s c : ℕ) (before : List Entry) (found : List MatchEvent) (e : Entry) → IsTakenFrom n e → IsCome s c before (events_by before found e) (took_by s e)
 come_entry n s c before found (Posted pattern) h = come_none (come_pick s c (length found) (names_gone before pattern.source)) refl
@@ -76,7 +76,7 @@ taken_more n s c before found e h own =
     elim (cases_Bool (is_revoked before c)) [
       | inl was ↦ record {
         rest = h.rest ++ mail c (took_by s e);
-        all = ap (λ xs. xs ++ (h.rest ++ mail c (took_by s e))) (came ∙ ap (λ xs. letters_come s c found ++ xs) (k.late was) ∙ append-nil (letters_come s c found))
+        all = ap (λ xs. xs ++ (h.rest ++ mail c (took_by s e))) (came ∙ ap (λ xs. letters_come s c found ++ xs) (k.after was) ∙ append-nil (letters_come s c found))
             ∙ sym (append_assoc (letters_come s c found) h.rest (mail c (took_by s e)))
             ∙ ap (λ xs. xs ++ mail c (took_by s e)) h.all
             ∙ sym taken;

@@ -30,10 +30,10 @@ sends-logged {n} {log} e {done} c d h =
     ∙ sym (flat-push (sent_entry c d) log e)
 
 -- past a beginning stands what comes after it
-pub late : (xs ys : List MatchEvent) (k : ℕ) (p : Pattern) → HasNoPost ys → length xs ≤ k → slice_get (xs ++ ys) k ≡ Some (Post p) → ⊥
-late [] ys k p free l g = free k p g
-late (x ∷ xs) ys zero p free l g = absurd (omega (arith, l))
-late (x ∷ xs) ys (suc k) p free l g = late xs ys k p free (omega (arith, l)) g
+pub past : (xs ys : List MatchEvent) (k : ℕ) (p : Pattern) → HasNoPost ys → length xs ≤ k → slice_get (xs ++ ys) k ≡ Some (Post p) → ⊥
+past [] ys k p free l g = free k p g
+past (x ∷ xs) ys zero p free l g = absurd (omega (arith, l))
+past (x ∷ xs) ys (suc k) p free l g = past xs ys k p free (omega (arith, l)) g
 
 pub covered-logged : (log : List Entry) (e : Entry) (done : List StepReport) → IsCovered log done → PostsNone e → IsCovered (log ++ e ∷ []) done
 covered-logged log e done covered none place p g =
@@ -44,7 +44,7 @@ covered-logged log e done covered none place p g =
       | inl l ↦
           let c = covered place p (get_in_front h es place (Post p) l at) in
           (c.0, c.1, c.2, ap (λ ys. count_before ys place) (history-push log e) ∙ count_front h es place (omega (arith, l)) ∙ c.3)
-      | inr far ↦ absurd (late h es place p (none-events log h e none) far at)
+      | inr far ↦ absurd (past h es place p (none-events log h e none) far at)
     ]
 
 pub covered-answered : (log : List Entry) (done : List StepReport) (x : StepReport) → IsCovered log done → IsCovered log (done ++ x ∷ [])

@@ -42,3 +42,4 @@ pub mod Ordered
 pub mod SentBefore
 pub mod Excluded
 pub mod Whole
+pub mod Counted

@@ -10,7 +10,7 @@ use Rattle.ulfm_rank.specs.Calls.{IsReceive}
 use Rattle.ulfm_rank.specs.Checks.{Passes, receive_checks}
 use Rattle.ulfm_rank.specs.Messages.{TellsOf}
 use Rattle.ulfm_rank.proofs.Stays.{members_stay}
-use Rattle.ulfm_laws.proofs.Honest.{IsCovered, sends-logged, late}
+use Rattle.ulfm_laws.proofs.Honest.{IsCovered, sends-logged, past}
 use Rattle.ulfm_laws.proofs.Lasting.{got_longer}
 use Rattle.ulfm_laws.proofs.Orderly.{orderly-logged, orderly-answered}
 use Rattle.ulfm_laws.proofs.Mail.{IsTakenFrom, flat-push, sent_entry}
@@ -91,7 +91,7 @@ module _ (r : State) (done : List StepReport) (source : Option ℕ) (tag : Optio
           | inl same ↦ (length done, number, number_last done x ∙ names, ap (λ ys. count_before ys place) s.longer ∙ ap (count_before now) same ∙ its_number)
           | inr far ↦
               let at'' = subst (λ xs. PostAt xs place p) (sym (append_assoc old (Post s.pattern ∷ []) s.tail)) at' in
-              absurd (late (old ++ Post s.pattern ∷ []) s.tail place p s.no_more (omega (arith, far, length-append old (Post s.pattern ∷ []))) at'')
+              absurd (past (old ++ Post s.pattern ∷ []) s.tail place p s.no_more (omega (arith, far, length-append old (Post s.pattern ∷ []))) at'')
         ]
       ]
 

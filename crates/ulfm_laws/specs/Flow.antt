@@ -1,5 +1,5 @@
 -- What goes from rank to rank, as reports tell it and what is left in inboxes (MPI 4.0, 3.5).
-use Rattle.std.specs.Prelude.{◌≡◌, ◌≢◌, ℕ, true, false, List, [], ◌∷◌, ◌++◌, slice_index_or}
+use Rattle.std.specs.Prelude.{◌≡◌, ◌≢◌, ◌≤◌, ℕ, true, false, List, [], ◌∷◌, ◌++◌, length, slice_index_or}
 use Rattle.ulfm_base.specs.declared.rank.WorldRank.{WorldRank}
 use Rattle.ulfm_base.specs.declared.item.Item.{Item}
 use Rattle.ulfm_base.specs.declared.item.Item.TheVariants.{Gone}
@@ -40,3 +40,7 @@ abbrev pub Flows : Inboxes → List Report → Type 0
 Flows inboxes reports =
     (s d : ℕ) (sender receiver : Report) → at reports s sender → at reports d receiver
     → Flow sender.rank s d (took receiver.rank.log s ++ items_from s (inbox_of inboxes d))
+
+-- no inbox holds more items of any rank than there are places
+abbrev pub AreWithin : Inboxes → ℕ → Type 0
+AreWithin inboxes places = (s d : ℕ) → length (items_from s (inbox_of inboxes d)) ≤ places

@@ -56,7 +56,7 @@ HasOnePairing reports =
     ((s : Pairing) → LawfulPairing (history_at reports d) s → (i b : ℕ) → Pairs r i b ↔ Pairs s i b)
 
 -- A step with this answer posted the receive of this source, pattern and number. A probe that found a letter posted one that
--- ended at once, with room for any letter.
+-- ended at once, with room for the 1,024 bytes of the longest letter.
 abbrev pub PostsAs : Step → StepAnswer → Option ℕ → Pattern → ℕ → Type 0
 PostsAs (Recv source tag room comm) (Posted id) asked pattern number =
     (source ≡ asked) × (tag ≡ pattern.tag) × (room ≡ pattern.room) × (comm ≡ pattern.context) × (id.number ≡ number)

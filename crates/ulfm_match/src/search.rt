@@ -8,7 +8,7 @@ use crate::buckets::Buckets;
 use crate::key::{key_at, key_from};
 use crate::pool::Numbered;
 use std::collections::VecDeque;
-use ulfm_base::{Envelope, Letter, Pattern, RankSet, Source, WorldRank};
+use ulfm_base::{Envelope, Letter, MOST_RANKS, Pattern, RankSet, Source, WorldRank};
 
 /// Whether the letter of a number is there, and the pattern admits it.
 #[inline(always)]
@@ -115,7 +115,7 @@ fn first_kept_of_any(
     ensures { FindsLeast (λ n. (s : ℕ) × (s < 8) × (has members s ≡ true) × Contains (numbers_at buckets.now (key_from s pattern.now)) n) (Passes (MayGet pattern.now) kept.now) result }
 {
     let mut found = None;
-    for number in 0..8 {
+    for number in 0..MOST_RANKS {
         let source = WorldRank { number };
         found = lesser(
             found,

@@ -1,4 +1,5 @@
-//! A place for one entry more: where many are late, the first of them is put into its buckets.
+//! A place for one entry more: where many are recent, the first of them is put into its buckets. That may find no memory, and then is
+//! tried again. So no room is kept in buckets, where nobody knows which of them will grow.
 ghost use Rattle.std.specs.Prelude.{◌≡◌, ◌<◌, ◌≤◌, ◌∷◌, ◌++◌, ℕ, [], IsTrue, OnOk, false};
 ghost use Rattle.std.specs.VecDeque.{deque_len, deque_capacity};
 ghost use Rattle.ulfm_match.specs.inside.Key.{IsKeyOf, IsKeyOfReceive, IsWild, key_of};
@@ -11,7 +12,7 @@ use crate::pool::Pool;
 use std::alloc::Global;
 use ulfm_base::{Letter, OutOfMemory, Pattern};
 
-/// How many entries are late at most. A search among so few takes no longer than one by buckets.
+/// How many entries are recent at most. A search among so few takes no longer than one by buckets.
 const FEW: usize = 128;
 
 /// Whether an early receive may be wild once this one is early too.
@@ -23,29 +24,31 @@ fn may_be_wild(pool: &Pool<Pattern>, pattern: &Pattern) -> bool
     if is_wild(pattern) {
         return true;
     }
+    // Here alone it is told anew: no end of a receive looks at those that are left. Until then it may speak of one that went.
     if pool.early.is_empty() {
         return false;
     }
     pool.wild
 }
 
-/// Puts the first of the late receives among the early ones.
+/// Puts the first of the recent receives among the early ones.
 #[inline(never)]
 fn settle_receive(pool: &mut Pool<Pattern>, alloc: Global) -> Result<(), OutOfMemory>
     requires { (count : ℕ) × IsPool IsKeyOfReceive count pool.old }
     ensures all { all_of pool.new ≡ all_of pool.old }
     ensures pool { (count : ℕ) → IsPool IsKeyOfReceive count pool.old → IsPool IsKeyOfReceive count pool.new }
-    ensures settled { OnOk result (deque_len pool.new.late < few) }
-    ensures shorter { deque_len pool.new.late ≤ deque_len pool.old.late }
-    ensures room { deque_capacity pool.new.late ≡ deque_capacity pool.old.late }
+    ensures settled { OnOk result (deque_len pool.new.recent < few) }
+    ensures shorter { deque_len pool.new.recent ≤ deque_len pool.old.recent }
+    ensures room { deque_capacity pool.new.recent ≡ deque_capacity pool.old.recent }
 {
     pool.early.reserve(1)?;
-    let Some((number, pattern)) = pool.late.pop_front() else {
+    let Some((number, pattern)) = pool.recent.pop_front() else {
         return Ok(());
     };
     match put(&mut pool.buckets, alloc, key_of(&pattern), number) {
         Ok(()) => {
             pool.wild = may_be_wild(pool, &pattern);
+            // There is room for it, and nothing else has its number.
             let _ = pool.early.insert(number, pattern);
             Ok(())
         }
@@ -56,23 +59,23 @@ fn settle_receive(pool: &mut Pool<Pattern>, alloc: Global) -> Result<(), OutOfMe
                 &pool.early,
                 Some(number),
             );
-            pool.late.push_front_reserved((number, pattern));
+            pool.recent.push_front_reserved((number, pattern));
             Err(error)
         }
     }
 }
 
-/// Puts the first of the late letters among the early ones.
+/// Puts the first of the recent letters among the early ones.
 fn settle_letter(pool: &mut Pool<Letter>, alloc: Global) -> Result<(), OutOfMemory>
     requires { (count : ℕ) × IsPool IsKeyOf count pool.old }
     ensures all { all_of pool.new ≡ all_of pool.old }
     ensures pool { (count : ℕ) → IsPool IsKeyOf count pool.old → IsPool IsKeyOf count pool.new }
-    ensures settled { OnOk result (deque_len pool.new.late < few) }
-    ensures shorter { deque_len pool.new.late ≤ deque_len pool.old.late }
-    ensures room { deque_capacity pool.new.late ≡ deque_capacity pool.old.late }
+    ensures settled { OnOk result (deque_len pool.new.recent < few) }
+    ensures shorter { deque_len pool.new.recent ≤ deque_len pool.old.recent }
+    ensures room { deque_capacity pool.new.recent ≡ deque_capacity pool.old.recent }
 {
     pool.early.reserve(1)?;
-    let Some((number, letter)) = pool.late.pop_front() else {
+    let Some((number, letter)) = pool.recent.pop_front() else {
         return Ok(());
     };
     let envelope = letter.envelope;
@@ -85,7 +88,7 @@ fn settle_letter(pool: &mut Pool<Letter>, alloc: Global) -> Result<(), OutOfMemo
         }
         Err(error) => {
             forget_letter(&mut pool.buckets, &envelope, &pool.early, number);
-            pool.late.push_front_reserved((number, letter));
+            pool.recent.push_front_reserved((number, letter));
             Err(error)
         }
     }
@@ -97,12 +100,12 @@ pub(crate) fn add<X>(pool: &mut Pool<X>, number: u64, entry: X) -> bool
     ensures early { pool.new.early ≡ pool.old.early }
     ensures buckets { pool.new.buckets ≡ pool.old.buckets }
     ensures wild { pool.new.wild ≡ pool.old.wild }
-    ensures late { pool.new.late.items ≡ pool.old.late.items ++ (number, entry) ∷ [] }
+    ensures recent { pool.new.recent.items ≡ pool.old.recent.items ++ (number, entry) ∷ [] }
     ensures all { all_of pool.new ≡ all_of pool.old ++ (number, entry) ∷ [] }
     ensures place { IsTrue result → HasPlace pool.new }
 {
-    pool.late.push_back_reserved((number, entry));
-    pool.late.len() < pool.late.capacity().min(FEW)
+    pool.recent.push_back_reserved((number, entry));
+    pool.recent.len() < pool.recent.capacity().min(FEW)
 }
 
 /// Makes room for one receive more.
@@ -113,8 +116,8 @@ pub(crate) fn prepare_receive(pool: &mut Pool<Pattern>, alloc: Global) -> Result
     ensures pool { (count : ℕ) → IsPool IsKeyOfReceive count pool.old → IsPool IsKeyOfReceive count pool.new }
     ensures place { OnOk result (HasPlace pool.new) }
 {
-    pool.late.reserve(1)?;
-    if pool.late.len() < FEW {
+    pool.recent.reserve(1)?;
+    if pool.recent.len() < FEW {
         return Ok(());
     }
     settle_receive(pool, alloc)
@@ -128,8 +131,8 @@ pub(crate) fn prepare_letter(pool: &mut Pool<Letter>, alloc: Global) -> Result<(
     ensures pool { (count : ℕ) → IsPool IsKeyOf count pool.old → IsPool IsKeyOf count pool.new }
     ensures place { OnOk result (HasPlace pool.new) }
 {
-    pool.late.reserve(1)?;
-    if pool.late.len() < FEW {
+    pool.recent.reserve(1)?;
+    if pool.recent.len() < FEW {
         return Ok(());
     }
     settle_letter(pool, alloc)

@@ -1,5 +1,5 @@
 //! Entries that are taken out, and their numbers with them.
-ghost use Rattle.std.specs.Prelude.{◌≡◌, ◌≢◌, ◌↔◌, ℕ, None, Contains, IsTrue, MatchOption, IfNone, false};
+ghost use Rattle.std.specs.Prelude.{◌≡◌, ◌≢◌, ◌↔◌, ℕ, Contains, IsTrue, MatchOption, IfNone, false};
 ghost use Rattle.ulfm_base.specs.Pattern.{Admits};
 ghost use Rattle.ulfm_match.specs.inside.Buckets.{IsIndexed, MayGet, MayGoTo, NoneIsWild, NonePass, TakesOut, GivesLetter, GivesReceive};
 ghost use Rattle.ulfm_match.specs.inside.Key.{IsKeyOf, IsKeyOfReceive};
@@ -7,10 +7,11 @@ ghost use Rattle.ulfm_match.specs.inside.Pools.{all_of, HasPlace, IsLeast, IsPoo
 
 use crate::buckets::{Buckets, forget, forget_letter};
 use crate::key::key_of;
-use crate::late::{
-    drop_numbered, first_letter, is_late, late_numbered, take_late_letter, take_late_receive,
-};
 use crate::pool::{Numbered, Pool};
+use crate::recent::{
+    drop_numbered, first_letter, is_recent, recent_numbered, take_recent_letter,
+    take_recent_receive,
+};
 use crate::search::{first_kept, first_waiting};
 use ulfm_base::{Envelope, Letter, Pattern};
 
@@ -115,7 +116,7 @@ pub(crate) fn take_letter(pool: &mut Pool<Letter>, pattern: &Pattern) -> Option<
 {
     match take_kept(&mut pool.early, &mut pool.buckets, pattern) {
         Some(letter) => Some(letter),
-        None => match take_late_letter(&mut pool.late, pattern) {
+        None => match take_recent_letter(&mut pool.recent, pattern) {
             Some((_, letter)) => Some(letter),
             None => None,
         },
@@ -133,7 +134,7 @@ pub(crate) fn take_receive(pool: &mut Pool<Pattern>, envelope: &Envelope) -> Opt
 {
     match take_waiting(&mut pool.early, &mut pool.buckets, pool.wild, envelope) {
         Some(number) => Some(number),
-        None => match take_late_receive(&mut pool.late, envelope) {
+        None => match take_recent_receive(&mut pool.recent, envelope) {
             Some((number, _)) => Some(number),
             None => None,
         },
@@ -148,7 +149,7 @@ pub(crate) fn is_there(pool: &Pool<Pattern>, number: u64) -> bool
     if pool.early.contains_key(&number) {
         return true;
     }
-    is_late(&pool.late, number)
+    is_recent(&pool.recent, number)
 }
 
 /// The letter of a number, if it is there.
@@ -158,7 +159,7 @@ pub(crate) fn numbered(pool: &Pool<Letter>, number: u64) -> Option<&Letter>
 {
     match pool.early.get(&number) {
         Some(letter) => Some(letter),
-        None => late_numbered(&pool.late, number),
+        None => recent_numbered(&pool.recent, number),
     }
 }
 
@@ -170,7 +171,7 @@ pub(crate) fn end_numbered(pool: &mut Pool<Pattern>, number: u64)
     ensures place { HasPlace pool.old → HasPlace pool.new }
 {
     take_numbered(&mut pool.early, &mut pool.buckets, number);
-    drop_numbered(&mut pool.late, number);
+    drop_numbered(&mut pool.recent, number);
 }
 
 /// The earliest letter that the pattern admits. It stays there.
@@ -183,8 +184,8 @@ pub(crate) fn earliest_letter<'a>(pool: &'a Pool<Letter>, pattern: &Pattern) -> 
             let letter = pool.early.get(&number)?;
             Some(letter)
         }
-        None => match first_letter(&pool.late, pattern) {
-            Some(k) => Some(&pool.late[k].1),
+        None => match first_letter(&pool.recent, pattern) {
+            Some(k) => Some(&pool.recent[k].1),
             None => None,
         },
     }
@@ -198,5 +199,5 @@ pub(crate) fn has_letter(pool: &Pool<Letter>, pattern: &Pattern) -> bool
     if first_kept(&pool.buckets, &pool.early, pattern).is_some() {
         return true;
     }
-    first_letter(&pool.late, pattern).is_some()
+    first_letter(&pool.recent, pattern).is_some()
 }

@@ -1,5 +1,5 @@
 //! The lists of some places, one after another.
-ghost use Rattle.std.specs.Prelude.{◌≡◌, All, IfOk, Some};
+ghost use Rattle.std.specs.Prelude.{All, IfOk};
 ghost use Rattle.ulfm_stops.specs.Place.{IsPlaceOf};
 ghost use Rattle.ulfm_places.specs.Lists.{AreLists};
 ghost use Rattle.ulfm_places.specs.inside.Parts.{IsListOf};

@@ -11,7 +11,7 @@
 ghost use Rattle.std.specs.Prelude.{◌<◌, length, IfSome};
 
 use std::alloc::Global;
-use ulfm_base::{Context, Letter, OutOfMemory, Pattern, WorldRank};
+use ulfm_base::{CONTEXTS, Context, Letter, OutOfMemory, Pattern, WorldRank};
 
 /// The receives of one rank that wait, and the letters that it keeps, each in the order in which they came. Both lists are
 /// searched from the front.
@@ -20,7 +20,7 @@ pub struct Plain {
     waiting: Vec<(u64, Pattern)>,
     kept: Vec<Letter>,
     count: u64,
-    cleared: [bool; 63],
+    cleared: [bool; CONTEXTS],
 }
 
 impl Plain {
@@ -30,7 +30,7 @@ impl Plain {
             waiting: Vec::new(alloc),
             kept: Vec::new(alloc),
             count: 0,
-            cleared: [false; 63],
+            cleared: [false; CONTEXTS],
         }
     }
 

@@ -8,7 +8,7 @@ use Rattle.ulfm_rank.proofs.Quiet.{Own, quiet-logged, quiet-same}
 use Rattle.ulfm_rank.specs.State.{IsState, RankView, State, logged}
 use Rattle.ulfm_rank.specs.declared.entry.Entry.{Entry}
 use Rattle.ulfm_rank.specs.declared.entry.Cancel.{Cancel}
-use Rattle.ulfm_rank.specs.declared.entry.Cancel.TheVariants.{Cancelled, Late}
+use Rattle.ulfm_rank.specs.declared.entry.Cancel.TheVariants.{Cancelled, Completed}
 use Rattle.ulfm_rank.specs.declared.entry.Comm.{Comm}
 use Rattle.ulfm_rank.specs.declared.entry.Entry.TheVariants.{Released, Probed as ProbedEntry}
 use Rattle.ulfm_rank.specs.declared.entry.Probed.{Probed}
@@ -57,7 +57,7 @@ state-same v w (Err e) same = ap (λ (r : RankView). r.state) same
 -- a cancel adds an entry that takes nothing and sends nothing
 pub own-cancel : {me : ℕ} (id : RequestId) (answer : Cancel) → Own me (cancelling id answer)
 own-cancel id Cancelled = record { signed = tt; takes_none = λ s. refl }
-own-cancel id (Late answer) = record { signed = tt; takes_none = λ s. refl }
+own-cancel id (Completed answer) = record { signed = tt; takes_none = λ s. refl }
 
 -- a probe that finds a letter adds an entry, and another one none
 pub quiet-probed : {old : State} (new : State) (comm : Comm) (source : Option ℕ) (tag : Option Tag) → IsState old → (probed : Probed) → IsProbeAnswer old comm source tag new probed → Quiet old new

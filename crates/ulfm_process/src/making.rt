@@ -1,5 +1,5 @@
 //! The processes of a world.
-ghost use Rattle.std.specs.Prelude.{◌≡◌, ◌<◌, ◌≤◌, ◌⊎◌, ◌++◌, ℕ, All, List, map, vec_len, IfOk, IfErr, OnOk};
+ghost use Rattle.std.specs.Prelude.{◌≡◌, ◌<◌, ◌≤◌, ◌⊎◌, ◌++◌, ℕ, All, map, vec_len, IfOk, IfErr, OnOk};
 ghost use Rattle.ulfm_base.specs.Lists.{at};
 ghost use Rattle.ulfm_carrier.specs.Family.{IsFresh};
 ghost use Rattle.ulfm_carrier.specs.Lanes.{IsReady, lane_pushed, lane_taken};

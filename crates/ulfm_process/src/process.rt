@@ -7,7 +7,7 @@ mod probes;
 mod recovery;
 mod turning;
 
-ghost use Rattle.std.specs.Prelude.{◌≡◌, ◌<◌, [], ℕ, false, vec_len, IfOk, IfErr};
+ghost use Rattle.std.specs.Prelude.{◌≡◌, false, vec_len, IfOk, IfErr};
 ghost use Rattle.ulfm_carrier.specs.Family.{IsFresh};
 ghost use Rattle.ulfm_carrier.specs.Lanes.{IsReady, lane_pushed, lane_taken};
 ghost use Rattle.ulfm_carrier.specs.declared.lane_ends.LaneEnds.{LaneEnds as Lanes};

@@ -14,7 +14,7 @@ use Rattle.ulfm_rank.proofs.Known.{known_named}
 use Rattle.ulfm_rank.proofs.Opens.{unrevoked_open}
 use Rattle.ulfm_rank.proofs.Refusals.{all_pass}
 use Rattle.ulfm_rank.specs.Checks.{Passes, receive_checks}
-use Rattle.ulfm_rank.specs.Messages.{IsLateRefusal}
+use Rattle.ulfm_rank.specs.Messages.{IsRefusalAfterChecks}
 use Rattle.ulfm_rank.specs.declared.entry.Comm.{Comm}
 
 -- where no kept letter fits, a receive gets none
@@ -64,7 +64,7 @@ gets {log = log} held p l m' tracks =
 
 -- where a kept letter fits, a receive gets the earliest of those that do, so that a probe may be out of memory
 pub may_starve : {n me : ℕ} {log : List Entry} {stopped : Bool} {m : Matching} {find : ℕ → Option Request} {facts : FaultState} {comms : List (ℕ × List ℕ)} {boxes : List Box} → Follows n me log stopped m find facts comms boxes → (r : State) → log ≡ r.log
-    → (comm : Comm) (source : Option ℕ) (tag : Option Tag) (p : Pattern) → Passes (receive_checks r comm.context.number source) → IsReceive r comm source tag 1024 p → (y : ℕ × Letter) → Contains m.kept y → Admits p y.1.envelope → IsLateRefusal r comm source tag OutOfMemory
+    → (comm : Comm) (source : Option ℕ) (tag : Option Tag) (p : Pattern) → Passes (receive_checks r comm.context.number source) → IsReceive r comm source tag 1024 p → (y : ℕ × Letter) → Contains m.kept y → Admits p y.1.envelope → IsRefusalAfterChecks r comm source tag OutOfMemory
 may_starve {log = log} {m = m} held r seen comm source tag p passes receive y there fits =
     let fresh = ap (λ (l : List Entry). is_revoked l p.context.number) seen ∙ unrevoked r comm source tag 1024 p passes receive in
     let uncleared = in_step_open held.in_step p.context.number fresh in

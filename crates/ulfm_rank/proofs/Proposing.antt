@@ -79,12 +79,12 @@ no_proposal me log c t knows heard not_within = false_from_ne_true _ (λ complet
 
 -- this is the proposal
 pub is_proposal : (n me : ℕ) (log : List Entry) (c : Topic) (d : Decision) {known : RankSet} {entries : List (Option Contribution)} {failures members accounted : RankSet} → IsTally (deciders n log c) known entries d.entries failures members accounted → Knows log known → HasEntries me log c entries → IsSubset members accounted
-    → has_entered log c ≡ true → d.topic ≡ c → d.old ≡ deciders n log c → ((r : ℕ) → r < 8 → has d.excluded r ≡ (has members r && has failures r)) → d.fresh ≡ excluding (deciders n log c) (has d.excluded) → IsProposal n me log c d
+    → has_entered log c ≡ true → d.topic ≡ c → d.old ≡ deciders n log c → ((r : ℕ) → has d.excluded r ≡ (has members r && has failures r)) → d.fresh ≡ excluding (deciders n log c) (has d.excluded) → IsProposal n me log c d
 is_proposal n me log c d {known} {entries} {failures} {members} {accounted} t knows heard within entered about old excluded fresh =
     let group = deciders n log c in
     let out = failures_out me log c t knows heard in
     let both : (r : ℕ) → r < 8 → has d.excluded r ≡ (is_member group r && is_out me group log c r) =
-    λ r small. excluded r small ∙ ap (λ b. b && has failures r) (t.are_members r) ∙ ap (λ b. is_member group r && b) (out r) in
+    λ r small. excluded r ∙ ap (λ b. b && has failures r) (t.are_members r) ∙ ap (λ b. is_member group r && b) (out r) in
     record {
       entered = entered;
       complete = complete_from_subset me log c t knows heard within;

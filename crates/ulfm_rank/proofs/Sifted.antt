@@ -8,7 +8,7 @@ use Rattle.ulfm_base.specs.declared.item.Item.TheVariants.{Enter}
 use Rattle.ulfm_rank.proofs.Common.{Decision, Entrance, Entry, Purpose, Shrink, Agree, Topic, is_topic, topics_equal, first_given, or_else, entry_of, heard_of, item_entry, listed_of, has_adopted, adopts, agreements, enters_agreement, eqb-true, false≢true, false_from_ne_true, nat_tests, Entered, Adopted, Took}
 use Rattle.ulfm_rank.proofs.Entering.{agreements-more}
 use Rattle.ulfm_rank.specs.declared.rounds.Rounds.{Rounds}
-use Rattle.ulfm_rank.specs.inside.Decisive.{IsTold, enters_on, is_current, is_late_enough, is_next, is_next_of, item_tells, rounds_on, tells}
+use Rattle.ulfm_rank.specs.inside.Decisive.{IsTold, enters_on, is_current, is_recent_enough, is_next, is_next_of, item_tells, rounds_on, tells}
 
 -- an entry is about neither shrinks nor agreements
 abbrev pub is_silent : Entry → Bool
@@ -84,7 +84,7 @@ filter-sifted test kept still (e ∷ log) = sifted (kept e) refl (filter-sifted 
     sifted false is h = h ∙ ap (λ b. cond b (e ∷ filter test log) (filter test log)) (sym (still e is))
 
 -- what was before the last agreement is before later ones
-purpose_falls : (n m : ℕ) → n ≤ m → (p : Purpose) → is_late_enough n p ≡ false → is_late_enough m p ≡ false
+purpose_falls : (n m : ℕ) → n ≤ m → (p : Purpose) → is_recent_enough n p ≡ false → is_recent_enough m p ≡ false
 purpose_falls n m h Shrink e = e
 purpose_falls n m h (Agree round) e = grind (arith, nat_tests)
 
@@ -96,7 +96,7 @@ falls {f} {g} rises (Took from _) h = refl
 falls {f} {g} rises _ h = refl
 
 -- the next agreement is the last once it is entered
-next_falls : (n m : ℕ) → m ≤ n + 1 → (p : Purpose) → is_next_of n p ≡ true → is_late_enough m p ≡ true
+next_falls : (n m : ℕ) → m ≤ n + 1 → (p : Purpose) → is_next_of n p ≡ true → is_recent_enough m p ≡ true
 next_falls n m h Shrink e = refl
 next_falls n m h (Agree round) e = let same = eqb-true round n e in grind (arith, nat_tests)
 

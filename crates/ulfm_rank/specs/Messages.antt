@@ -72,14 +72,14 @@ IsProbeAnswer old comm source tag new (Found id status) = IsProbed old comm sour
 IsProbeAnswer old comm source tag new Nothing = FindsNone old comm source tag false × (new ≡ old)
 
 -- why a probe is refused that passes the checks of a receive
-abbrev pub IsLateRefusal : State → Comm → Option ℕ → Option Tag → CallError → Type 0
-IsLateRefusal rank comm source tag ProcFailed = FindsNone rank comm source tag true
-IsLateRefusal rank comm source tag OutOfMemory = (pattern : Pattern) × IsReceive rank comm source tag 1024 pattern × (letter : Letter) × WouldGet rank.log pattern letter
-IsLateRefusal rank comm source tag _ = ⊥
+abbrev pub IsRefusalAfterChecks : State → Comm → Option ℕ → Option Tag → CallError → Type 0
+IsRefusalAfterChecks rank comm source tag ProcFailed = FindsNone rank comm source tag true
+IsRefusalAfterChecks rank comm source tag OutOfMemory = (pattern : Pattern) × IsReceive rank comm source tag 1024 pattern × (letter : Letter) × WouldGet rank.log pattern letter
+IsRefusalAfterChecks rank comm source tag _ = ⊥
 
 -- why a probe is refused
 abbrev pub IsProbeRefusal : State → Comm → Option ℕ → Option Tag → CallError → Type 0
-IsProbeRefusal rank comm source tag e = Fails (receive_checks rank comm.context.number source) e ⊎ (Passes (receive_checks rank comm.context.number source) × IsLateRefusal rank comm source tag e)
+IsProbeRefusal rank comm source tag e = Fails (receive_checks rank comm.context.number source) e ⊎ (Passes (receive_checks rank comm.context.number source) × IsRefusalAfterChecks rank comm source tag e)
 
 -- A look finds a letter: the one that a receive of this source and tag gets where it is posted now.
 pub record IsSeen (rank : State) (comm : Comm) (source : Option ℕ) (tag : Option Tag) (status : Status) : Type 0 where

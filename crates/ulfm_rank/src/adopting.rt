@@ -5,7 +5,7 @@ ghost use Rattle.ulfm_rank.specs.declared.entry.Entry.{Entry};
 ghost use Rattle.ulfm_rank.specs.inside.Fields.{HasEntries};
 ghost use Rattle.ulfm_rank.specs.Proposal.{differ, contradicts, is_foreign};
 
-use ulfm_base::{Contribution, Decision, Group, Topic, WorldRank};
+use ulfm_base::{Contribution, Decision, Group, Listing, RANK_PLACES, Topic, WorldRank};
 
 /// Whether two contributions are there and aren't the same.
 fn differ(entry: Option<Contribution>, other: Option<Contribution>) -> bool
@@ -18,10 +18,10 @@ fn differ(entry: Option<Contribution>, other: Option<Contribution>) -> bool
 }
 
 /// Whether a decision lists a rank with another contribution than that with which the rank entered.
-fn contradicts(decision: &Decision, entries: &[Option<Contribution>; 8]) -> bool
+fn contradicts(decision: &Decision, entries: &Listing) -> bool
     ensures { (me : ℕ) (log : List Entry) (topic : Topic) → HasEntries me log topic entries.now → result ≡ contradicts me log topic decision.now }
 {
-    for rank in 0..8 {
+    for rank in 0..RANK_PLACES {
         if differ(decision.entries[rank], entries[rank]) {
             return true;
         }
@@ -35,7 +35,7 @@ pub(crate) fn is_foreign(
     topic: Topic,
     group: &Group,
     me: WorldRank,
-    entries: &[Option<Contribution>; 8],
+    entries: &Listing,
 ) -> bool
     ensures { (log : List Entry) → HasEntries me.number log topic entries.now → result ≡ is_foreign me.number group.now log topic decision.now }
 {

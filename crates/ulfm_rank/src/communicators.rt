@@ -4,10 +4,7 @@ ghost use Rattle.ulfm_rank.specs.Communicators.{find_group};
 
 use std::alloc::Global;
 use std::marker::Model;
-use ulfm_base::{Context, Group, OutOfMemory};
-
-/// How many contexts there are: 0 to 62.
-const CONTEXTS: usize = 63;
+use ulfm_base::{CONTEXTS, Context, Group, OutOfMemory};
 
 /// Each communicator's context with its group, in the order in which they were made. There is room for one of each
 /// context from the start.
@@ -18,13 +15,14 @@ pub struct Communicators {
 
 impl Model for Communicators {
     ghost use Rattle.std.specs.Prelude.{ℕ, List, map, ◌≤◌, vec_capacity};
+    ghost use Rattle.ulfm_base.specs.declared.context.TheConstants.{CONTEXTS};
     ghost use Rattle.ulfm_rank.specs.inside.Fields.{by_number, AreApart};
 
     ghost Value = { List (ℕ × List ℕ) };
 
     ghost view = { λ c. map by_number c.made.items };
 
-    ghost invariant = { λ c. (63 ≤ vec_capacity c.made) × AreApart c.made.items };
+    ghost invariant = { λ c. (CONTEXTS ≤ vec_capacity c.made) × AreApart c.made.items };
 }
 
 impl Clone for Communicators {

@@ -1,5 +1,5 @@
 //! The entries of a log that tell of shrinks, and of the last agreements (ULFM, shrink and agree).
-ghost use Rattle.std.specs.Prelude.{◌≡◌, ◌+◌, ◌<◌, ◌≤◌, [], ◌∷◌, ◌++◌, filter, vec_len, vec_capacity, OnOk, OnErr};
+ghost use Rattle.std.specs.Prelude.{◌≡◌, ◌<◌, ◌≤◌, [], ◌∷◌, ◌++◌, filter, vec_len, vec_capacity, OnOk, OnErr};
 ghost use Rattle.ulfm_rank.specs.inside.Decisive.{rounds_on, tells};
 ghost use Rattle.ulfm_rank.specs.declared.entry.Entry.TheVariants.{Took};
 

@@ -57,7 +57,7 @@ pub enum Cancel {
     /// The receive was withdrawn, and gets no letter.
     Cancelled,
     /// It had ended before, with this answer.
-    Late(TestAnswer),
+    Completed(TestAnswer),
 }
 
 /// An accepted call that changed something, or an item that was taken. Of letters it keeps no bytes; contracts see them.

@@ -26,7 +26,7 @@ pub(crate) fn pends(faults: &Faults, group: &Group, pattern: &Pattern) -> bool
 }
 
 /// Whether an item is a letter on a revoked context or the notice of a context that was revoked before.
-pub(crate) fn is_late(faults: &Faults, item: &Item) -> bool
+pub(crate) fn was_revoked(faults: &Faults, item: &Item) -> bool
     ensures { result ≡ was_revoked_in faults.now item.now }
 {
     match item {

@@ -8,17 +8,16 @@ ghost use Rattle.ulfm_rank.specs.Facts.{is_revoked, revoked_before, Knows};
 ghost use Rattle.ulfm_rank.specs.inside.Outboxes.{AllGrow};
 ghost use Rattle.ulfm_rank.specs.Owed.{passed_on, owed_by_item, announced};
 
-use crate::members::members_of_both;
 use crate::outboxes::Outboxes;
 use crate::word::Word;
-use ulfm_base::{Context, Entrance, Item, RankSet, WorldRank};
+use ulfm_base::{Context, Entrance, Item, MOST_RANKS, RankSet, WorldRank};
 
 /// The ranks that something is told to: not the rank itself, nor those that are known to have failed.
 pub(crate) fn addressees(me: u8, known: RankSet) -> RankSet
     ensures { (d : ℕ) → d < 8 → has result d ≡ (not (me == d) && not (has known d)) }
 {
     let mut addressees = RankSet::new();
-    for number in 0..8 {
+    for number in 0..MOST_RANKS {
         let rank = WorldRank { number };
         if number == me || known.contains(rank) {
             continue;
@@ -50,7 +49,7 @@ pub(crate) fn announce(
     ensures { (n : ℕ) (log : List Entry) → Knows log known → ((r : ℕ) → has members r ≡ is_member (members_of n log entrance.topic.context.number) r) → AllGrow outboxes.old.boxes outboxes.new.boxes (announced n me log entrance) }
 {
     let addressees = addressees(me, known);
-    outboxes.put_each(members_of_both(members, addressees), Word::Enter(entrance));
+    outboxes.put_each(members.intersection(addressees), Word::Enter(entrance));
 }
 
 /// Puts what a taken item makes its taker owe into the outboxes. `revoked` says whether its context was revoked before.

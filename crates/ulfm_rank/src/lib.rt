@@ -25,7 +25,6 @@ mod forwarding;
 mod history;
 mod law;
 mod log;
-mod members;
 mod message;
 mod noted_answer;
 mod outbox;

@@ -1,5 +1,5 @@
 //! A log that is kept, or of which proofs alone know.
-ghost use Rattle.std.specs.Prelude.{◌≡◌, ◌+◌, ◌≤◌, ◌<◌, ◌^◌, [], ◌∷◌, ◌++◌, length, IsTrue, IfOk, OnOk, OnErr, true, false, vec_capacity};
+ghost use Rattle.std.specs.Prelude.{◌≡◌, ◌+◌, ◌≤◌, ◌<◌, ◌^◌, [], ◌∷◌, ◌++◌, length, IsTrue, IfOk, OnOk, OnErr, vec_capacity};
 
 use crate::entry::Entry;
 use crate::history::History;

@@ -1,5 +1,5 @@
 //! What waits to go out to each rank.
-ghost use Rattle.std.specs.Prelude.{◌≡◌, ◌==◌, ◌<◌, ◌^◌, ◌∷◌, ℕ, [], drop, length, replicate, slice_index_or, slice_set, IsTrue, ◌↔◌, IfNone, IfOk, IfSome, OnOk, OnErr, true, false};
+ghost use Rattle.std.specs.Prelude.{◌≡◌, ◌==◌, ◌<◌, ◌^◌, ◌∷◌, [], drop, length, replicate, slice_index_or, slice_set, IsTrue, ◌↔◌, IfNone, IfOk, IfSome, OnOk, OnErr, true, false};
 ghost use Rattle.ulfm_base.specs.RankSet.{has};
 ghost use Rattle.ulfm_rank.specs.inside.Outboxes.{empty_box, box_at, with_first_out, with_item_back, with_notice_out, for_each, item_of_word, AllGrow};
 
@@ -44,6 +44,7 @@ impl Outboxes {
     {
         let mut slots = Vec::with_capacity(alloc, n as usize)?;
         for dest in 0..n {
+            // The invariant of the loop counts by it.
             let _ = dest;
             slots.push(Outbox::new(alloc))?;
         }

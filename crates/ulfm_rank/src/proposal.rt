@@ -12,15 +12,17 @@ ghost use Rattle.ulfm_rank.specs.Facts.{Knows};
 ghost use Rattle.ulfm_rank.specs.Proposal.{deciders, has_entered};
 ghost use Rattle.ulfm_rank.specs.State.{State};
 
-use crate::members::members_of_both;
-use ulfm_base::{Contribution, Decision, Group, Purpose, RankSet, Topic, WorldRank};
+use ulfm_base::{
+    Contribution, Decision, Group, Listing, MOST_RANKS, Purpose, RANK_PLACES, RankSet, Topic,
+    WorldRank,
+};
 
 /// The entries of the members of a group, and of no other rank.
-fn entries_of(group: &Group, entries: &[Option<Contribution>; 8]) -> [Option<Contribution>; 8]
+fn entries_of(group: &Group, entries: &Listing) -> Listing
     ensures { (r : ℕ) → entry_at result r ≡ (if is_member group.now r then entry_at entries.now r else None) }
 {
-    let mut listed = [None; 8];
-    for number in 0..8 {
+    let mut listed = [None; RANK_PLACES];
+    for number in 0..MOST_RANKS {
         if !group.contains(WorldRank { number }) {
             continue;
         }
@@ -30,11 +32,11 @@ fn entries_of(group: &Group, entries: &[Option<Contribution>; 8]) -> [Option<Con
 }
 
 /// The ranks that are listed, and those that a set has.
-fn listed_or(listed: &[Option<Contribution>; 8], set: RankSet) -> RankSet
+fn listed_or(listed: &Listing, set: RankSet) -> RankSet
     ensures { (r : ℕ) → has result r ≡ (is_listed listed.now r || has set r) }
 {
     let mut found = set;
-    for number in 0..8 {
+    for number in 0..MOST_RANKS {
         if listed[number as usize].is_none() {
             continue;
         }
@@ -44,7 +46,7 @@ fn listed_or(listed: &[Option<Contribution>; 8], set: RankSet) -> RankSet
 }
 
 /// The ranks that are known to have failed, here or in a listed set.
-fn failures_in(listed: &[Option<Contribution>; 8], known: RankSet) -> RankSet
+fn failures_in(listed: &Listing, known: RankSet) -> RankSet
     ensures { (r : ℕ) → has result r ≡ (has known r || list_any (λ entry. in_entry entry r) listed.now) }
 {
     let mut failures = known;
@@ -57,7 +59,7 @@ fn failures_in(listed: &[Option<Contribution>; 8], known: RankSet) -> RankSet
 }
 
 /// The AND of all listed flags, of 32 bits.
-fn and_all(listed: &[Option<Contribution>; 8]) -> u32
+fn and_all(listed: &Listing) -> u32
     ensures { result ≡ and_all listed.now }
 {
     let mut bits = u32::MAX;
@@ -87,7 +89,7 @@ fn and_flag(bits: u32, flag: Option<u32>) -> u32
 }
 
 /// The value of an agreement with these entries. A shrink has none.
-fn value_of(purpose: Purpose, listed: &[Option<Contribution>; 8]) -> Option<u32>
+fn value_of(purpose: Purpose, listed: &Listing) -> Option<u32>
     ensures { result ≡ value_of purpose listed.now }
 {
     match purpose {
@@ -100,7 +102,7 @@ fn value_of(purpose: Purpose, listed: &[Option<Contribution>; 8]) -> Option<u32>
 pub(crate) fn proposed(
     topic: Topic,
     group: &Group,
-    entries: &[Option<Contribution>; 8],
+    entries: &Listing,
     known: RankSet,
 ) -> Option<Decision>
     requires has_shrink { HasShrink topic }
@@ -113,7 +115,7 @@ pub(crate) fn proposed(
     if !members.is_subset(listed_or(&listed, failures)) {
         return None;
     }
-    let excluded = members_of_both(members, failures);
+    let excluded = members.intersection(failures);
     Some(Decision {
         topic,
         old: group.copied(),

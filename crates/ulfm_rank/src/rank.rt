@@ -13,7 +13,7 @@ mod sending;
 mod shrinking;
 mod taking;
 
-ghost use Rattle.std.specs.Prelude.{◌≡◌, [], IfOk, IfErr, IsTrue, OnOk, OnErr, Some};
+ghost use Rattle.std.specs.Prelude.{◌≡◌, [], IfOk, IfErr, IsTrue, OnOk, Some};
 ghost use Rattle.ulfm_rank.specs.Checks.{Passes, Fails, FailsOrStarves, start_checks, comm_checks};
 ghost use Rattle.ulfm_rank.specs.Communicators.{group_of};
 ghost use Rattle.ulfm_rank.specs.Facts.{is_stopped};

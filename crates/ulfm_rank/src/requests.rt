@@ -34,6 +34,7 @@ pub(crate) fn admit(matcher: &mut Matcher, gone: bool, pattern: Pattern) -> (Req
 {
     let (id, letter) = matcher.post(pattern);
     if gone {
+        // Where a letter was kept for it, it doesn't wait.
         let _ = matcher.withdraw(id);
     }
     (id, fate_of(letter, gone))

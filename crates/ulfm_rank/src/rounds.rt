@@ -1,15 +1,14 @@
 //! How many agreements a rank entered on each communicator, and what is let go after a further one (ULFM, agree).
-ghost use Rattle.std.specs.Prelude.{◌≡◌, ◌+◌, ◌-◌, ◌<◌, ◌^◌, ℕ, if◌then◌else◌};
-ghost use Rattle.ulfm_base.specs.Topic.{is_agreement};
+ghost use Rattle.std.specs.Prelude.{◌≡◌, ◌+◌, ◌<◌, ◌^◌, ℕ, if◌then◌else◌};
 ghost use Rattle.ulfm_rank.specs.inside.Decisive.{rounds_on, enters_on, is_current, tells};
 
 use crate::row::{Row, RowKind};
-use ulfm_base::{Context, Purpose, Topic};
+use ulfm_base::{CONTEXTS, Context, Purpose, Topic};
 
 /// By the number of a context, how many agreements on its communicator the rank entered.
 #[derive(Clone, Copy)]
 pub(crate) struct Rounds {
-    entered: [u64; 63],
+    entered: [u64; CONTEXTS],
 }
 
 impl Rounds {
@@ -17,7 +16,9 @@ impl Rounds {
     pub(crate) fn new() -> Rounds
         ensures { (c : ℕ) → rounds_on result c ≡ 0 }
     {
-        Rounds { entered: [0; 63] }
+        Rounds {
+            entered: [0; CONTEXTS],
+        }
     }
 
     /// How many were entered on a communicator.
@@ -32,7 +33,7 @@ impl Rounds {
         requires { rounds_on self.old topic.context.number < 2 ^ 63 }
         ensures { (c : ℕ) → rounds_on self.new c ≡ rounds_on self.old c + (if enters_on c topic then 1 else 0) }
     {
-        if is_agreement(topic.purpose) {
+        if topic.purpose.is_agreement() {
             self.entered[topic.context.number as usize] += 1;
         }
     }
@@ -56,15 +57,5 @@ impl Rounds {
             RowKind::Adopted(topic, _) => self.is_current(*topic),
             RowKind::Heard(_, entrance) => self.is_current(entrance.topic),
         }
-    }
-}
-
-/// Whether a purpose is an agreement.
-fn is_agreement(purpose: Purpose) -> bool
-    ensures { result ≡ is_agreement purpose }
-{
-    match purpose {
-        Purpose::Shrink => false,
-        Purpose::Agree { .. } => true,
     }
 }

@@ -59,7 +59,7 @@ impl Row {
         }
     }
 
-    /// That it adopted a decision. It takes no memory.
+    /// That it adopted a decision. It never answers out of memory.
     pub(crate) fn adopted(decision: &Decision) -> Row
         ensures { result ≡ Entry.Adopted decision.now }
     {

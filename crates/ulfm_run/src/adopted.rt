@@ -5,7 +5,7 @@ ghost use Rattle.ulfm_rank.specs.Log.{first_given};
 ghost use Rattle.ulfm_rank.specs.Proposal.{entry_of};
 ghost use Rattle.ulfm_laws.specs.Decisions.{AreTrue, AdoptsTruly, IsTrueOf, ExcludesStopped, ListsTruly, StoppedAt, EnteredWith};
 
-use ulfm_base::{Contribution, Decision, RankSet, Topic, WorldRank};
+use ulfm_base::{Contribution, Decision, Listing, MOST_RANKS, RankSet, Topic, WorldRank};
 use ulfm_rank::Entry;
 use ulfm_script::RankReport;
 
@@ -53,10 +53,10 @@ fn is_true(reports: &[RankReport], decision: &Decision) -> bool
 }
 
 /// Whether each listed rank reports that it entered a topic, and brought what is listed for it.
-fn lists_truly(reports: &[RankReport], topic: Topic, entries: [Option<Contribution>; 8]) -> bool
+fn lists_truly(reports: &[RankReport], topic: Topic, entries: Listing) -> bool
     ensures { IsTrue result ↔ ListsTruly reports.now topic entries }
 {
-    for number in 0..8 {
+    for number in 0..MOST_RANKS {
         if let Some(brought) = entries[number as usize] {
             if !entered_with(reports, WorldRank { number }, topic, brought) {
                 return false;
@@ -70,7 +70,7 @@ fn lists_truly(reports: &[RankReport], topic: Topic, entries: [Option<Contributi
 fn excludes_stopped(reports: &[RankReport], excluded: RankSet) -> bool
     ensures { IsTrue result ↔ ExcludesStopped reports.now excluded }
 {
-    for number in 0..8 {
+    for number in 0..MOST_RANKS {
         let rank = WorldRank { number };
         if excluded.contains(rank) && !has_stopped(reports, rank) {
             return false;

@@ -1,12 +1,11 @@
 //! On what a step of a rank is decided, by the rank's log (ULFM, shrink and agree).
 ghost use Rattle.std.specs.Prelude.{◌≡◌, ◌↔◌, IsTrue, Some};
-ghost use Rattle.ulfm_base.specs.Topic.{is_agreement};
-ghost use Rattle.ulfm_rank.specs.Proposal.{agreements, enters_agreement, last_agreement};
 ghost use Rattle.ulfm_script.specs.Deciding.{topic_of};
 
-use ulfm_base::{Context, Purpose, Topic};
+use ulfm_base::{Purpose, Topic};
 use ulfm_job::NotedStep;
 use ulfm_rank::Entry;
+use ulfm_script::last_agreement;
 
 /// Whether a step of a rank with this log is decided on a topic.
 pub(crate) fn is_decided_on(step: &NotedStep, log: &[Entry], topic: Topic) -> bool
@@ -39,48 +38,4 @@ fn topic_of(step: &NotedStep, log: &[Entry]) -> Option<Topic>
         context,
         purpose: Purpose::Shrink,
     })
-}
-
-/// The agreement on a communicator that a log entered last.
-fn last_agreement(log: &[Entry], context: Context) -> Topic
-    ensures { result ≡ last_agreement log.now context }
-{
-    let entered = agreements(log, context) as u64;
-    Topic {
-        context,
-        purpose: Purpose::Agree {
-            round: entered.saturating_sub(1),
-        },
-    }
-}
-
-/// How many agreements on a communicator a log entered.
-fn agreements(log: &[Entry], context: Context) -> usize
-    ensures { result ≡ agreements log.now context.number }
-{
-    log.iter()
-        .filter(|entry| enters_agreement(entry, context))
-        .count()
-}
-
-/// Whether an entry enters an agreement on a communicator.
-fn enters_agreement(entry: &Entry, context: Context) -> bool
-    ensures { result ≡ enters_agreement context.number entry.now }
-{
-    match entry {
-        Entry::Entered(entrance) => {
-            entrance.topic.context.number == context.number && is_agreement(entrance.topic.purpose)
-        }
-        _ => false,
-    }
-}
-
-/// Whether a purpose is an agreement.
-fn is_agreement(purpose: Purpose) -> bool
-    ensures { result ≡ is_agreement purpose }
-{
-    match purpose {
-        Purpose::Shrink => false,
-        Purpose::Agree { .. } => true,
-    }
 }

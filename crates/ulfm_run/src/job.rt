@@ -1,5 +1,5 @@
 //! A job, from its ends and deciders to its report.
-ghost use Rattle.std.specs.Prelude.{◌≡◌, ◌≤◌, ◌↔◌, [], ℕ, All, length, map, vec_len, vec_capacity, IsTrue, Err, IfOk, IfErr, OnOk};
+ghost use Rattle.std.specs.Prelude.{◌≡◌, ◌≤◌, ◌↔◌, [], ℕ, length, map, vec_len, vec_capacity, IsTrue, Err, IfOk, IfErr, OnOk};
 ghost use Rattle.std.specs.declared.alloc.Global.{Global as Heap};
 ghost use Rattle.std.specs.declared.vec.Vec.{Vec as Listed};
 ghost use Rattle.ulfm_base.specs.Lists.{InPlace, at};

@@ -9,7 +9,9 @@ ghost use Rattle.ulfm_laws.specs.Proposed.{ProposesBy};
 ghost use Rattle.ulfm_run.specs.inside.Listed.{ListsAs, IsListedAs, ExcludesAs};
 
 use crate::adopted::{are_same, entry_of};
-use ulfm_base::{Contribution, Decision, ItemKind, NotedItem, Topic, WorldRank};
+use ulfm_base::{
+    Contribution, Decision, ItemKind, Listing, MOST_RANKS, NotedItem, Topic, WorldRank,
+};
 use ulfm_rank::{Entry, tells_gone};
 
 /// Whether the rank `me` with this log proposes a decision.
@@ -26,7 +28,7 @@ pub(crate) fn proposes_by(me: usize, log: &[Entry], decision: &Decision) -> bool
 fn lists_as(me: usize, log: &[Entry], decision: &Decision) -> bool
     ensures { IsTrue result ↔ ListsAs me log.now decision.now }
 {
-    for number in 0..8 {
+    for number in 0..MOST_RANKS {
         if !is_listed_as(me, log, decision, number) {
             return false;
         }
@@ -50,7 +52,7 @@ fn is_listed_as(me: usize, log: &[Entry], decision: &Decision, number: u8) -> bo
 fn excludes_as(log: &[Entry], decision: &Decision) -> bool
     ensures { IsTrue result ↔ ExcludesAs log.now decision.now }
 {
-    for number in 0..8 {
+    for number in 0..MOST_RANKS {
         let member = WorldRank { number };
         if !decision.old.contains(member) {
             continue;
@@ -76,7 +78,7 @@ fn list_alike(one: Option<Contribution>, other: Option<Contribution>) -> bool
 }
 
 /// Whether a listed rank knew of a failure.
-fn is_told(entries: &[Option<Contribution>; 8], rank: WorldRank) -> bool
+fn is_told(entries: &Listing, rank: WorldRank) -> bool
     ensures { result ≡ list_any (λ entry. in_entry entry rank.number) entries.now }
 {
     entries.iter().any(|entry| in_entry(*entry, rank))

@@ -6,9 +6,12 @@ ghost use Rattle.ulfm_run.specs.inside.Walk.{GoesOn, HaveOrder, MayPass, IsOwedB
 use crate::owing::owe;
 use crate::proposing::is_proposed;
 use crate::room::has_room;
-use ulfm_base::{NotedItem, WorldRank};
+use ulfm_base::{NotedItem, RANK_PLACES, WorldRank};
 use ulfm_rank::Entry;
 use ulfm_script::RankReport;
+
+/// By its number, how many entries of each rank were walked.
+type Fronts = [usize; RANK_PLACES];
 
 /// Whether all logs have one order. It never answers out of memory.
 pub(crate) fn have_one_order(reports: &[RankReport]) -> bool
@@ -25,7 +28,7 @@ pub(crate) fn have_order(reports: &[RankReport], room: Option<u8>) -> bool
     requires { length reports.now ≤ 8 }
     ensures { IsTrue result ↔ HaveOrder room reports.now }
 {
-    let mut fronts: [usize; 8] = [0; 8];
+    let mut fronts: Fronts = [0; RANK_PLACES];
     let mut last = 0;
     while let Some(rank) = step(reports, room, &mut fronts, last) {
         last = rank;
@@ -34,12 +37,7 @@ pub(crate) fn have_order(reports: &[RankReport], room: Option<u8>) -> bool
 }
 
 /// One rank goes on by an entry, the one that did last if it can. Nothing: none can.
-fn step(
-    reports: &[RankReport],
-    room: Option<u8>,
-    fronts: &mut [usize; 8],
-    last: usize,
-) -> Option<usize>
+fn step(reports: &[RankReport], room: Option<u8>, fronts: &mut Fronts, last: usize) -> Option<usize>
     requires { length reports.now ≤ 8 }
     ensures steps { IfSome result (λ rank. StepsOn room reports.now fronts.old rank fronts.new) }
     ensures stuck { IfNone result ((rank : ℕ) → GoesOn room reports.now fronts.old rank → ⊥) }
@@ -57,7 +55,7 @@ fn step(
 }
 
 /// A rank goes on by an entry, if it can. Whether it did.
-fn go_on(reports: &[RankReport], room: Option<u8>, fronts: &mut [usize; 8], rank: usize) -> bool
+fn go_on(reports: &[RankReport], room: Option<u8>, fronts: &mut Fronts, rank: usize) -> bool
     requires { length reports.now ≤ 8 }
     ensures steps { IsTrue result → StepsOn room reports.now fronts.old rank fronts.new }
     ensures stuck { result ≡ false → GoesOn room reports.now fronts.old rank → ⊥ }
@@ -83,7 +81,7 @@ fn go_on(reports: &[RankReport], room: Option<u8>, fronts: &mut [usize; 8], rank
 fn may_pass(
     reports: &[RankReport],
     room: Option<u8>,
-    fronts: &[usize; 8],
+    fronts: &Fronts,
     rank: usize,
     before: &[Entry],
     entry: &Entry,
@@ -105,7 +103,7 @@ fn may_pass(
 /// Whether the entries walked of a rank owe an item to a taker, whose log was `before`.
 fn is_owed(
     reports: &[RankReport],
-    fronts: &[usize; 8],
+    fronts: &Fronts,
     source: WorldRank,
     taker: usize,
     before: &[Entry],
@@ -135,7 +133,7 @@ pub(crate) fn first(log: &[Entry], count: usize) -> &[Entry]
 }
 
 /// Whether all logs were walked to their ends.
-fn are_at_ends(reports: &[RankReport], fronts: &[usize; 8]) -> bool
+fn are_at_ends(reports: &[RankReport], fronts: &Fronts) -> bool
     requires { length reports.now ≤ 8 }
     ensures { IsTrue result ↔ AreAtEnds reports.now fronts.now }
 {

@@ -1,5 +1,5 @@
 //! A thread for each rank.
-ghost use Rattle.std.specs.Prelude.{◌≡◌, ◌≤◌, ◌++◌, [], ℕ, List, All, length, vec_len, vec_capacity, IfSome, IfOk, IfErr, OnOk};
+ghost use Rattle.std.specs.Prelude.{◌≡◌, ◌≤◌, ◌++◌, [], All, vec_len, vec_capacity, IfSome, IfOk, IfErr, OnOk};
 ghost use Rattle.ulfm_carrier.specs.Family.{IsFresh};
 ghost use Rattle.ulfm_script.specs.inside.SoFar.{AnswersFollowSoFar};
 ghost use Rattle.ulfm_run.specs.Fault.{Fits};

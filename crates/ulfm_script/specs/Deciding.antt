@@ -93,7 +93,7 @@ pub record IsReady (r : State) (asked : Step) : Type 0 where
   pub about : topic_of r.log asked ≡ Some topic
   pub proposes : HasProposal r topic
 
--- the board lacks a cell for the decision of a step
+-- the board finds no memory for the decision of a step
 pub record LacksCell (board : Option (List ℕ)) (known : Known) (r : State) (asked : Step) : Type 0 where
   pub topic : Topic
   pub about : topic_of r.log asked ≡ Some topic

@@ -3,7 +3,7 @@
 ghost use Rattle.std.specs.Prelude.{◌≡◌, IfOk};
 
 use smallvec::SmallVec;
-use ulfm_base::{Body, CallError, Group, OutOfMemory};
+use ulfm_base::{Body, CallError, Group, OutOfMemory, RankNumbers};
 use ulfm_job::NotedStep;
 use ulfm_match::RequestId;
 use ulfm_rank::{Comm, MessageId, Status};
@@ -26,7 +26,7 @@ pub enum StepAnswer {
     /// A receive was cancelled: it gets no letter.
     Cancelled,
     /// The members known to have failed, as ranks of the communicator, in the order of the notices.
-    Ranks(SmallVec<u8, 8>),
+    Ranks(RankNumbers),
     /// How many failures are acknowledged.
     Acked(u8),
     /// The communicator is revoked.
@@ -36,7 +36,7 @@ pub enum StepAnswer {
     /// A shrink made a communicator, with this group, in which the rank has this position.
     Shrunk(Comm, Group, u8),
     /// An agreement has this value, and leaves out these members, as ranks of the communicator.
-    Agreed(u32, SmallVec<u8, 8>),
+    Agreed(u32, RankNumbers),
     /// A note was made.
     Noted,
     /// The rank stopped.
@@ -81,13 +81,13 @@ pub struct StepReport {
 }
 
 /// The same positions once more, with as many places.
-fn copy_positions(positions: &SmallVec<u8, 8>) -> Result<SmallVec<u8, 8>, OutOfMemory>
+fn copy_positions(positions: &RankNumbers) -> Result<RankNumbers, OutOfMemory>
     ensures { IfOk result (λ copy. copy ≡ positions.now) }
 {
     // Here alone it is said that they fit their places.
     let _ = positions.len();
     let alloc = *positions.allocator();
-    let mut items = SmallVec::<u8, 8>::from_slice(alloc, positions.as_slice())?;
+    let mut items: RankNumbers = SmallVec::from_slice(alloc, positions.as_slice())?;
     let mut copy = SmallVec::with_capacity(alloc, positions.capacity())?;
     copy.append(&mut items)?;
     Ok(copy)

@@ -1,6 +1,6 @@
 //! On what conditions a step is played.
 ghost use Rattle.std.specs.Prelude.{◌≡◌, ◌&&◌, ◌||◌, length, not};
-ghost use Rattle.std.specs.List.{list_all, list_any};
+ghost use Rattle.std.specs.List.{list_any};
 ghost use Rattle.ulfm_job.specs.Begins.{begins};
 ghost use Rattle.ulfm_job.specs.declared.condition.Condition.{Condition as SeenCondition};
 ghost use Rattle.ulfm_script.specs.Reacting.{alternative_holds, fulfils, is_asked_by, is_part_of, is_played};

@@ -18,8 +18,10 @@ pub enum RunFault {
     #[error("out of memory")]
     OutOfMemory,
     /// A rank adopted a decision that lists a rank with another set or flag than those with which that rank entered, or that
-    /// excludes a rank that didn't stop. Or a rank took notice of a revocation that no rank's own call made. Or what the ranks
-    /// did has no one order, in which each item is sent before it is taken. What they did shows it.
+    /// excludes a rank that didn't stop. Or a step was refused since the decision isn't one for its rank to adopt (11). Or a rank took
+    /// notice of a revocation that no rank's own call made. Or what the ranks did has no one order, in which each item is sent before it
+    /// is taken, and each decision proposed before it is adopted. What they did shows it. Whether rings of the job's places allow it is
+    /// looked at later, of a report (`fits` of `ulfm_run`): where they don't, the program answers as with this.
     #[error("a decision or a revocation isn't true of what the ranks did")]
     Untrue(Vec<RankReport>),
 }

@@ -8,6 +8,7 @@ ghost use Rattle.ulfm_rank.specs.Proposal.{last_agreement};
 ghost use Rattle.ulfm_script.specs.Calls.{AnswersEntry, EntersSome};
 ghost use Rattle.ulfm_script.specs.Deciding.{AnswersAdoption, AnswersDecision, HasProposal, IsReady, LacksCell, topic_of};
 ghost use Rattle.ulfm_script.specs.inside.Joint.{Proposed, ProposedOn};
+ghost use Rattle.ulfm_script.specs.inside.Underway.{KeepsRoom};
 
 use crate::answer::StepAnswer;
 use crate::members::positions_in;
@@ -22,8 +23,7 @@ pub fn enter_shrink(rank: &mut Rank, context: Context) -> Option<StepAnswer>
     ensures answers { IfSome result (λ answer. AnswersEntry rank.old.state (Shrink context) answer rank.new.state) }
     ensures enters { IfNone result (EntersSome rank.old.state (Shrink context) rank.new.state) }
     ensures room_lacked { IfSome result (λ answer. answer ≡ StepAnswer.Refused CallError.OutOfMemory → rank.old.prepared ≡ false) }
-    ensures stays_prepared { rank.new.state ≡ rank.old.state → IsTrue rank.old.prepared → IsTrue rank.new.prepared }
-    ensures keeps_place { rank.new.state ≡ rank.old.state → IsTrue rank.old.has_place → IsTrue rank.new.has_place }
+    ensures keeps_room { KeepsRoom rank.old rank.new }
 {
     match rank.enter_shrink(Comm { context }) {
         Ok(()) => None,
@@ -36,8 +36,7 @@ pub fn enter_agree(rank: &mut Rank, flag: u32, context: Context) -> Option<StepA
     ensures answers { IfSome result (λ answer. AnswersEntry rank.old.state (Agree flag context) answer rank.new.state) }
     ensures enters { IfNone result (EntersSome rank.old.state (Agree flag context) rank.new.state) }
     ensures room_lacked { IfSome result (λ answer. answer ≡ StepAnswer.Refused CallError.OutOfMemory → rank.old.prepared ≡ false) }
-    ensures stays_prepared { rank.new.state ≡ rank.old.state → IsTrue rank.old.prepared → IsTrue rank.new.prepared }
-    ensures keeps_place { rank.new.state ≡ rank.old.state → IsTrue rank.old.has_place → IsTrue rank.new.has_place }
+    ensures keeps_room { KeepsRoom rank.old rank.new }
 {
     match rank.enter_agree(Comm { context }, flag) {
         Ok(()) => None,
@@ -59,8 +58,7 @@ pub fn decide<D: Decider>(
     ensures known_stay { IfNone result (D.known board.new ≡ D.known board.old) }
     ensures board { D.board board.new ≡ D.board board.old }
     ensures room_lacked { IfSome result (λ answer. answer ≡ StepAnswer.Refused CallError.OutOfMemory → IsTrue rank.old.prepared → LacksCell (D.board board.old) (D.known board.old) rank.old.state step.now) }
-    ensures stays_prepared { rank.new.state ≡ rank.old.state → IsTrue rank.old.prepared → IsTrue rank.new.prepared }
-    ensures keeps_place { rank.new.state ≡ rank.old.state → IsTrue rank.old.has_place → IsTrue rank.new.has_place }
+    ensures keeps_room { KeepsRoom rank.old rank.new }
 {
     let proposal = proposal(rank, step)?;
     match board.decide(proposal) {
@@ -102,8 +100,7 @@ fn adopt(alloc: Global, rank: &mut Rank, step: &Step, held: Decision) -> StepAns
     requires joint { IsSome (topic_of rank.old.state.log step.now) }
     ensures answers { (topic : Topic) → topic_of rank.old.state.log step.now ≡ Some topic → AnswersAdoption rank.old.state step.now topic held result rank.new.state }
     ensures room_lacked { result ≡ StepAnswer.Refused CallError.OutOfMemory → rank.old.prepared ≡ false }
-    ensures stays_prepared { rank.new.state ≡ rank.old.state → IsTrue rank.old.prepared → IsTrue rank.new.prepared }
-    ensures keeps_place { rank.new.state ≡ rank.old.state → IsTrue rank.old.has_place → IsTrue rank.new.has_place }
+    ensures keeps_room { KeepsRoom rank.old rank.new }
 {
     match step {
         Step::Shrink { comm } => adopt_shrink(rank, *comm, held),
@@ -116,8 +113,7 @@ fn adopt(alloc: Global, rank: &mut Rank, step: &Step, held: Decision) -> StepAns
 fn adopt_shrink(rank: &mut Rank, context: Context, held: Decision) -> StepAnswer
     ensures answers { AnswersAdoption rank.old.state (Shrink context) (shrink_topic context) held result rank.new.state }
     ensures room_lacked { result ≡ StepAnswer.Refused CallError.OutOfMemory → rank.old.prepared ≡ false }
-    ensures stays_prepared { rank.new.state ≡ rank.old.state → IsTrue rank.old.prepared → IsTrue rank.new.prepared }
-    ensures keeps_place { rank.new.state ≡ rank.old.state → IsTrue rank.old.has_place → IsTrue rank.new.has_place }
+    ensures keeps_room { KeepsRoom rank.old rank.new }
 {
     let group = held.fresh.copied();
     match rank.adopt(Comm { context }, held) {
@@ -139,8 +135,7 @@ fn adopt_verdict(
 ) -> StepAnswer
     ensures answers { AnswersAdoption rank.old.state (Agree flag context) (last_agreement rank.old.state.log context) held result rank.new.state }
     ensures room_lacked { result ≡ StepAnswer.Refused CallError.OutOfMemory → rank.old.prepared ≡ false }
-    ensures stays_prepared { rank.new.state ≡ rank.old.state → IsTrue rank.old.prepared → IsTrue rank.new.prepared }
-    ensures keeps_place { rank.new.state ≡ rank.old.state → IsTrue rank.old.has_place → IsTrue rank.new.has_place }
+    ensures keeps_room { KeepsRoom rank.old rank.new }
 {
     // The flag stands in the clause alone.
     let _ = flag;

@@ -22,6 +22,7 @@ mod putting;
 mod receiving;
 mod report;
 mod sink;
+mod topic;
 mod trace;
 
 pub use answer::{Called, Decided, StepAnswer, StepReport};
@@ -33,5 +34,6 @@ pub use player::Player;
 pub use putting::numbers_of;
 pub use receiving::{message_at, request_at};
 pub use report::RankReport;
+pub use topic::{last_agreement, topic_of};
 pub use trace::{push_answer, trace_text};
 pub use ulfm_job::{Clause, Condition, Fault, Job, JobFault, NotedStep, Step, Text};

@@ -1,21 +1,14 @@
 //! Positions in a group.
 ghost use Rattle.std.specs.Prelude.{◌≡◌, ◌++◌, ◌∷◌, [], filter_map, MatchOption};
-ghost use Rattle.ulfm_base.specs.Group.{rank_in, translated};
+ghost use Rattle.ulfm_base.specs.Group.{rank_in};
 ghost use Rattle.smallvec.specs.SmallVec.{HasRoomFor};
 
 use smallvec::SmallVec;
 use std::alloc::Global;
-use ulfm_base::Group;
-
-/// The position in a group of the member at a position of another, where it is a member of both.
-fn position_of(group: &Group, others: &Group, k: u8) -> Option<u8>
-    ensures { result ≡ translated others.now group.now k }
-{
-    group.rank_of(others.world_of(k)?)
-}
+use ulfm_base::{Group, RankNumbers};
 
 /// One more position, where there is one.
-fn push_found(positions: &mut SmallVec<u8, 8>, found: Option<u8>)
+fn push_found(positions: &mut RankNumbers, found: Option<u8>)
     requires { HasRoomFor positions.old 1 }
     ensures items { MatchOption found (positions.new.items ≡ positions.old.items) (λ position. positions.new.items ≡ positions.old.items ++ position ∷ []) }
     ensures capacity { positions.new.capacity ≡ positions.old.capacity }
@@ -26,12 +19,12 @@ fn push_found(positions: &mut SmallVec<u8, 8>, found: Option<u8>)
 }
 
 /// The positions in a group of those members of another that it has, in the other's order. It never answers out of memory.
-pub fn positions_in(alloc: Global, group: &Group, others: &Group) -> SmallVec<u8, 8>
+pub fn positions_in(alloc: Global, group: &Group, others: &Group) -> RankNumbers
     ensures { result.items ≡ filter_map (λ member. rank_in group.now member) others.now }
 {
     let mut positions = SmallVec::new(alloc);
     for k in 0..others.size() {
-        push_found(&mut positions, position_of(group, others, k));
+        push_found(&mut positions, others.position_in(k, group));
     }
     positions
 }

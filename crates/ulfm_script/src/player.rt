@@ -70,7 +70,11 @@ impl Player {
                 at: 0,
                 polls: 0,
             }),
-            Err(_) => Err(CallError::OutOfMemory),
+            Err(_) => {
+                // Let go by the standard library, which saves the check half a minute.
+                drop(rank);
+                Err(CallError::OutOfMemory)
+            }
         }
     }
 

@@ -8,11 +8,11 @@ use crate::sink::Sink;
 use itoa::Buffer;
 use smallvec::SmallVec;
 use std::alloc::Global;
-use ulfm_base::{CallError, Group};
+use ulfm_base::{CallError, Group, RankNumbers};
 use ulfm_rank::Status;
 
 /// The ranks of the world in a group, in order. It never answers out of memory.
-pub fn numbers_of(alloc: Global, group: &Group) -> SmallVec<u8, 8>
+pub fn numbers_of(alloc: Global, group: &Group) -> RankNumbers
     ensures { result.items ≡ group.now }
 {
     let mut numbers = SmallVec::new(alloc);

@@ -1,13 +1,13 @@
 //! What a rank did.
-ghost use Rattle.std.specs.Prelude.{◌≡◌, ◌<◌, ◌↔◌, [], IsTrue, IfSome, IfNone};
+ghost use Rattle.std.specs.Prelude.{◌≡◌, ◌<◌, ◌↔◌, [], IsTrue};
 ghost use Rattle.ulfm_rank.specs.Facts.{is_stopped};
-ghost use Rattle.ulfm_rank.specs.State.{outbox, GoesOut, IsState};
+ghost use Rattle.ulfm_rank.specs.State.{outbox, IsState};
 
 use crate::answer::StepReport;
 use std::fmt;
 use std::fmt::{Debug, Formatter};
 use std::marker::Model;
-use ulfm_base::{Item, WorldRank};
+use ulfm_base::WorldRank;
 use ulfm_rank::{Entry, Rank};
 
 /// What a rank did: its answered steps, its log, and what is left in its outboxes. A player alone makes it.
@@ -86,18 +86,6 @@ impl RankReport {
         ensures { IsTrue result ↔ (outbox self.now.rank dest ≡ []) }
     {
         self.rank.is_outbox_empty(dest)
-    }
-
-    /// The first item that was left for a rank, if there is one. It goes out of the report. It never answers out of memory.
-    pub fn take_out(&mut self, dest: u8) -> Option<Item>
-        requires { dest < self.old.rank.ranks }
-        ensures leaves { IfSome result (λ item. GoesOut self.old.rank self.new.rank dest item) }
-        ensures none { IfNone result (outbox self.old.rank dest ≡ []) }
-        ensures unchanged { IfNone result (self.new ≡ self.old) }
-        ensures steps { self.new.steps ≡ self.old.steps }
-        ensures starved { self.new.starved ≡ self.old.starved }
-    {
-        self.rank.take_out(dest)
     }
 
     /// Whether it stopped.

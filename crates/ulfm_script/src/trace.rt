@@ -1,5 +1,5 @@
 //! The trace: what is printed of the ranks' reports.
-ghost use Rattle.std.specs.Prelude.{◌≡◌, ◌++◌, Bool, if◌then◌else◌, OnOk, IfOk, string_bytes};
+ghost use Rattle.std.specs.Prelude.{◌≡◌, ◌++◌, OnOk, IfOk, string_bytes};
 ghost use Rattle.ulfm_script.specs.Trace.{trace_of, rank_text, answer_text, step_line, step_lines, closing_line};
 
 use crate::answer::{StepAnswer, StepReport};

@@ -67,20 +67,7 @@ fn copied_clauses(alloc: Global, clauses: &[Clause]) -> Result<Vec<Clause>, OutO
 {
     let mut copies = Vec::new(alloc);
     for clause in clauses {
-        copies.push(copied_clause(alloc, clause)?)?;
+        copies.push(clause.copy(alloc)?)?;
     }
     Ok(copies)
-}
-
-/// The same clause once more.
-pub fn copied_clause(alloc: Global, clause: &Clause) -> Result<Clause, OutOfMemory>
-    ensures { IfOk result (λ copy. copy ≡ clause.now) }
-{
-    let words = clause.words.copy(alloc)?;
-    Ok(Clause {
-        rank: clause.rank,
-        at: clause.at,
-        step: clause.step,
-        words,
-    })
 }

@@ -1,6 +1,5 @@
 //! All places of a job.
-ghost use Rattle.std.specs.Prelude.{◌≡◌, ◌<◌, ◌≤◌, ◌++◌, All, IfOk, OnOk, length, map};
-ghost use Rattle.std.specs.List.{list_any};
+ghost use Rattle.std.specs.Prelude.{◌≡◌, ◌≤◌, ◌++◌, All, IfOk, OnOk, length, map};
 ghost use Rattle.ulfm_job.specs.Job.{IsJob, script_at};
 ghost use Rattle.ulfm_stops.specs.Place.{IsPlaceOf};
 ghost use Rattle.ulfm_stops.specs.Places.{all_stops, is_asked, last_place, pairs_of, places_of, stops_always, stops_in, stops_near, twos};

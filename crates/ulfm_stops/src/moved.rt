@@ -3,7 +3,6 @@ ghost use Rattle.std.specs.Prelude.{◌≡◌, ◌≤◌, IfOk, map};
 ghost use Rattle.ulfm_job.specs.Job.{moved_clause, moved_number};
 ghost use Rattle.ulfm_stops.specs.Place.{before};
 
-use crate::copied::copied_clause;
 use crate::stop::Stop;
 use std::alloc::Global;
 use ulfm_base::OutOfMemory;
@@ -44,7 +43,7 @@ impl Stop {
         requires { len ≤ 256 }
         ensures { IfOk result (λ moved. moved ≡ moved_clause self.rank (before self) len clause.now) }
     {
-        let mut moved = copied_clause(alloc, clause)?;
+        let mut moved = clause.copy(alloc)?;
         if moved.rank == self.rank {
             moved.at = self.number(len, moved.at);
             moved.step = self.number(len, moved.step);

@@ -1,6 +1,6 @@
 //! Where ranks stop.
 ghost use Rattle.std.specs.Prelude.{◌≡◌, ◌≢◌, ◌≤◌, ◌<◌, ◌+◌, ◌↔◌, Err, IfErr, IfOk, IfSome, IsTrue, Some, length};
-ghost use Rattle.ulfm_job.specs.Job.{IsJob, step_count};
+ghost use Rattle.ulfm_job.specs.Job.{step_count};
 ghost use Rattle.ulfm_stops.specs.Place.{IsPlaceOf, IsStopOf, job_at, stopped, stops_of};
 ghost use Rattle.ulfm_stops.specs.Text.{place_of_text, place_text};
 

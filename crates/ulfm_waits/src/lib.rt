@@ -12,6 +12,6 @@ mod awaiting;
 mod bearing;
 mod wording;
 
-pub use awaiting::{awaited, last_agreement, position_by};
+pub use awaiting::{awaited, position_by};
 pub use bearing::{due_of, need_of, would_bring};
 pub use wording::{push_named, push_words};

@@ -4,7 +4,7 @@ use Rattle.std.specs.List.{list_all}
 use Rattle.std.proofs.lemmas.List.Elements.{All-get_or}
 use Rattle.ulfm_base.specs.declared.error.CallError.TheVariants.{NotMember, ProcFailed}
 use Rattle.ulfm_rank.specs.Checks.{Check, FailsOrStarves, agree_checks, comm_checks, dup_checks, first_refusal, receive_checks, send_checks, shrink_checks}
-use Rattle.ulfm_rank.specs.Messages.{IsLateRefusal}
+use Rattle.ulfm_rank.specs.Messages.{IsRefusalAfterChecks}
 use Rattle.ulfm_script.specs.Calls.{AnswersStep, comm_of}
 use Rattle.ulfm_script.specs.declared.answer.StepAnswer.TheVariants.{Unfinished, Skipped}
 use Rattle.ulfm_job.specs.declared.step.Step.TheVariants.{Send, Recv, Wait, Probe, Mrecv, Cancel, Failed, Ack, Revoke, Dup, Note, Stop}
@@ -54,7 +54,7 @@ call_own before r (Probe source tag comm) (Refused e) new h = elim (h.0) [
   | inr late ↦ late_own e late.1
 ]
   where
-    late_own : (e : CallError) → IsLateRefusal r (comm_of comm) source tag e → is_own e ≡ true
+    late_own : (e : CallError) → IsRefusalAfterChecks r (comm_of comm) source tag e → is_own e ≡ true
     late_own ProcFailed late = refl
     late_own OutOfMemory late = refl
     late_own _ late = absurd late

@@ -1,8 +1,8 @@
 -- Players with their places, and a change of one of them.
-use Rattle.std.proofs.Common.{◌≡◌, ◌≢◌, ℕ, ◌<◌, false, List, [], ◌∷◌, ◌++◌, length, take, drop, get_or, set, ap, sym, subst, ◌∙◌, arith, take_all, append-nil, Option}
-use Rattle.ulfm_world.proofs.Common.{WorldRank, Decision, Item, Took, is_stopped, logged, GoesOut, IsPosted, items_from, All-head, World, player_in, no_player, with_inbox, with_players, Pushes, Takes, Player, PlayerView, with_rank, map-set, get_or-map, set-get_or, length-map, drop_all, get_or_default, Room, HasRoom}
+use Rattle.std.proofs.Common.{◌≡◌, ◌≢◌, ℕ, ◌<◌, List, [], ◌∷◌, ◌++◌, length, take, drop, get_or, set, ap, sym, subst, ◌∙◌, arith, take_all, append-nil, Option}
+use Rattle.ulfm_world.proofs.Common.{WorldRank, Decision, Item, Took, logged, GoesOut, IsPosted, items_from, All-head, World, player_in, no_player, with_inbox, with_players, Pushes, Takes, Player, PlayerView, with_rank, map-set, get_or-map, set-get_or, length-map, drop_all, get_or_default, Room, HasRoom}
 use Rattle.ulfm_world.specs.Parts.{the_player, players_of, parts}
-use Rattle.ulfm_world.specs.inside.Steps.{AreParts, HandsOver, IsHeldBack}
+use Rattle.ulfm_world.specs.inside.Steps.{AreParts, HandsOver, IsHeldBack, IsLivePlayer}
 use Rattle.ulfm_rank.specs.State.{outbox}
 use Rattle.ulfm_world.specs.Room.{IsFull}
 use Rattle.ulfm_world.specs.World.{IsRefused}
@@ -13,6 +13,10 @@ use Rattle.ulfm_world.proofs.Senders.{all-parts}
 
 pub read_player : (views : List PlayerView) (r : ℕ) (d : PlayerView) → r < length views → player_in (players_of views) r ≡ (get_or views r d).player
 read_player views r d h = get_or-map the_player views r d no_player h
+
+-- a player that is one of these has a place among them
+pub live_inside : (views : List PlayerView) (r : ℕ) → IsLivePlayer (players_of views) r → r < length views
+live_inside views r live = omega (arith, live.0, length-map views the_player)
 
 -- what a reading of the player r gives
 pub seen_player : (views : List PlayerView) (r : ℕ) {v : PlayerView} → r < length views → v ≡ get_or views r v → player_in (players_of views) r ≡ v.player
@@ -55,14 +59,15 @@ taken_posted views {inboxes} r d passed x rest h inside found =
     All-head (IsPosted (length (players_of views))) x rest (all-parts (IsPosted (length (players_of views))) passed (x ∷ rest) all).1
 
 -- an item that was taken out of an inbox, past those of others, and that went to the log
-unfoldable pub takes_done : (views : List PlayerView) (inboxes : List (List (WorldRank × Item))) (r : ℕ) (room : Room) (decided : List (Option Decision)) (v d : PlayerView) (e passed rest left : List (WorldRank × Item)) (source : WorldRank) (item : Item) → AreParts (players_of views) inboxes → r < length views → is_stopped (get_or views r d).player.rank.log ≡ false →
+unfoldable pub takes_done : (views : List PlayerView) (inboxes : List (List (WorldRank × Item))) (r : ℕ) (room : Room) (decided : List (Option Decision)) (v d : PlayerView) (e passed rest left : List (WorldRank × Item)) (source : WorldRank) (item : Item) → AreParts (players_of views) inboxes → IsLivePlayer (players_of views) r →
     get_or inboxes r e ≡ passed ++ (source, item) ∷ rest → items_from source.number passed ≡ [] → v.player ≡ with_rank (get_or views r d).player (logged (get_or views r d).player.rank (Took source item)) → left ≡ passed ++ rest →
     Takes (parts views inboxes room decided) r passed (parts (set views r v) (set inboxes r left) room decided)
-takes_done views inboxes r room decided v d e passed rest left source item h inside running found others took still =
+takes_done views inboxes r room decided v d e passed rest left source item h live found others took still =
+    let inside = live_inside views r live in
     let read = read_player views r d inside in
     record {
-      inside = omega (arith, inside, length-map views the_player);
-      running = ap (λ (p : Player). is_stopped p.rank.log) read ∙ running;
+      inside = live.0;
+      running = live.1;
       source = source;
       item = item;
       rest = rest;

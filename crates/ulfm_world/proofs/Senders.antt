@@ -1,15 +1,15 @@
 -- The items of one sender in an inbox: how many they are, and which comes first.
 use Rattle.std.proofs.Common.{◌≡◌, ◌≢◌, ℕ, ◌+◌, ◌<◌, ◌≤◌, Bool, true, false, cond, eqb, List, [], ◌∷◌, ◌++◌, length, take, drop, get_or, refl, ap, sym, subst, ◌∙◌, arith, inl, inr, length-append, Option, Some, None, MatchOption, MatchBool, OnSome, is_some, nat_lt, not, suc, All}
-use Rattle.std.specs.List.{count_by, position, position_or_len, remove}
+use Rattle.std.specs.List.{position, position_or_len, remove}
 use Rattle.std.proofs.lemmas.Grind.{flat_map-append}
 use Rattle.std.proofs.Math.Seq.{drop-cons}
-use Rattle.std.proofs.lemmas.List.Recursion.{is_count_by}
 use Rattle.std.proofs.lemmas.List.{take-append-drop}
 use Rattle.ulfm_base.specs.Items.{item_if_from}
 use Rattle.ulfm_world.specs.Parts.{IsFirstOf, IsTakenOut}
 use Rattle.ulfm_world.proofs.Common.{WorldRank, Item, items_from, cases_eq, eq-eqb, ne_eqb, All-head, All-nil, same_Some, none-some}
 use Rattle.std.proofs.lemmas.Bool.{eqb-true, ltb-false, ltb-true}
 use Rattle.std.proofs.lemmas.List.Elements.{All-cons, All-tail}
+pub use Rattle.ulfm_laws.proofs.Counted.{counted_from}
 
 -- what holds of each item of two lists
 pub all-parts : (P : WorldRank × Item → Type 0) (xs ys : List (WorldRank × Item)) → All P (xs ++ ys) → All P xs × All P ys
@@ -40,14 +40,6 @@ from_few s (x ∷ xs) = omega (arith, from_few s xs, length-append (item_if_from
     one : (b : Bool) → length (cond b (x.1 ∷ []) []) ≤ 1
     one true = omega arith
     one false = omega arith
-
--- they are as many as are counted
-pub counted_from : (s : ℕ) (xs : List (WorldRank × Item)) → length (items_from s xs) ≡ count_by (λ (x : WorldRank × Item). eqb x.0.number s) xs
-counted_from s xs = is_count_by (λ (ys : List (WorldRank × Item)). length (items_from s ys)) (λ (x : WorldRank × Item). eqb x.0.number s) refl (λ x ys. one (eqb x.0.number s) x.1 (items_from s ys)) xs
-  where
-    one : (b : Bool) (item : Item) (items : List Item) → length (cond b (item ∷ []) [] ++ items) ≡ cond b (1 + length items) (length items)
-    one true item items = omega arith
-    one false item items = refl
 
 -- a list by the parts round one place
 parts-at : (xs : List (WorldRank × Item)) (k : ℕ) (d : WorldRank × Item) → k < length xs → take k xs ++ get_or xs k d ∷ drop (suc k) xs ≡ xs

@@ -1,5 +1,5 @@
 //! A job with one more stop, at each place in turn.
-ghost use Rattle.std.specs.Prelude.{◌≡◌, ◌≢◌, ◌<◌, ◌≤◌, ◌++◌, ◌⊎◌, All, Err, IfErr, IfOk, OnOk, length, map};
+ghost use Rattle.std.specs.Prelude.{◌≡◌, ◌≢◌, ◌<◌, ◌≤◌, ◌++◌, All, Err, IfErr, IfOk, OnOk, length, map};
 ghost use Rattle.ulfm_job.specs.Job.{IsJob, script_at, step_count};
 ghost use Rattle.ulfm_world.specs.Sweep.{IsStarved, IsSwept, place_of, places_in, places_of};
 

@@ -1,4 +1,4 @@
--- Entries by number: the early ones in buckets, and after them the late ones in a short list.
+-- Entries by number: the early ones in buckets, and after them the recent ones in a short list.
 use Rattle.std.specs.Prelude.{◌≡◌, ◌≢◌, ℕ, ◌<◌, ◌≤◌, List, ◌∷◌, ◌++◌, Bool, true, false, Contains, take, length, Option, MatchOption}
 use Rattle.std.specs.VecDeque.{deque_len, deque_capacity}
 use Rattle.std.specs.List.{HoldsAt}
@@ -50,21 +50,21 @@ pub record TakesLeast {X : Type 0} (P : ℕ × X → Type 0) (old new : List (�
 
 -- all entries, by rising numbers
 abbrev pub all_of : {X : Type 0} → Pool X → List (ℕ × X)
-all_of {X} pool = in_order pool.early.entries ++ pool.late.items
+all_of {X} pool = in_order pool.early.entries ++ pool.recent.items
 
--- so many entries are late at most
+-- so many entries are recent at most
 abbrev pub few : ℕ
 few = 128
 
--- the early entries stand in the buckets of their keys; the late ones are few, and follow by rising numbers, from the top on and below the count
+-- the early entries stand in the buckets of their keys; the recent ones are few, and follow by rising numbers, from the top on and below the count
 pub record IsPool {X : Type 0} (IsKey : X → ℕ → Type 0) (count : ℕ) (pool : Pool X) : Type 0 where
   pub top : ℕ
   pub indexed : IsIndexed IsKey top pool.early pool.buckets
-  pub ascending : IsAscending pool.late.items
-  pub from : (y : ℕ × X) → Contains pool.late.items y → top ≤ y.0
-  pub below : (y : ℕ × X) → Contains pool.late.items y → y.0 < count
+  pub ascending : IsAscending pool.recent.items
+  pub from : (y : ℕ × X) → Contains pool.recent.items y → top ≤ y.0
+  pub below : (y : ℕ × X) → Contains pool.recent.items y → y.0 < count
   pub counted : top ≤ count
-  pub short : deque_len pool.late ≤ few
+  pub short : deque_len pool.recent ≤ few
   -- the early ones may have a key of any source or of any tag only where the pool says so
   pub none_wild : pool.wild ≡ false → NoneIsWild IsKey pool.early
 
@@ -72,14 +72,14 @@ pub record IsPool {X : Type 0} (IsKey : X → ℕ → Type 0) (count : ℕ) (poo
 pub record IsSamePool {X : Type 0} (old new : Pool X) : Type 0 where
   pub early : new.early.entries ≡ old.early.entries
   pub buckets : (k : ℕ) → numbers_at new.buckets k ≡ numbers_at old.buckets k
-  pub late : new.late.items ≡ old.late.items
+  pub recent : new.recent.items ≡ old.recent.items
   pub wild : new.wild ≡ old.wild
 
--- there is a place for one late entry more, and with it they are few still
+-- there is a place for one recent entry more, and with it they are few still
 abbrev pub HasPlace : {X : Type 0} → Pool X → Type 0
-HasPlace {X} pool = (deque_len pool.late < deque_capacity pool.late) × (deque_len pool.late < few)
+HasPlace {X} pool = (deque_len pool.recent < deque_capacity pool.recent) × (deque_len pool.recent < few)
 
--- what a matcher holds: the receives that wait and the letters that are kept, both in buckets but for the late ones
+-- what a matcher holds: the receives that wait and the letters that are kept, both in buckets but for the recent ones
 pub record IsWhole (waiting : Pool Pattern) (kept : Pool Letter) (count : ℕ) (ready : Bool) : Type 0 where
   pub of_waiting : IsPool IsKeyOfReceive count waiting
   pub of_kept : IsPool IsKeyOf count kept

@@ -1,6 +1,5 @@
 //! What comes in, and what goes out.
-ghost use Rattle.std.specs.Prelude.{◌≡◌, ◌<◌, ◌↔◌, ℕ, [], true, false, IsTrue, IfOk, OnErr};
-ghost use Rattle.ulfm_base.specs.declared.item.Item.{Item as Sent};
+ghost use Rattle.std.specs.Prelude.{◌≡◌, ◌<◌, ◌↔◌, ℕ, [], IsTrue, IfOk, OnErr};
 ghost use Rattle.ulfm_process.specs.Turning.{IsStuck, IsTurn, Takes};
 ghost use Rattle.ulfm_process.specs.inside.Pushing.{GoesOn, PushesOne, PushesTo};
 ghost use Rattle.ulfm_rank.specs.State.{outbox};

@@ -20,13 +20,13 @@ abbrev pub enters_on : ℕ → Topic → Bool
 enters_on c topic = topic.context.number == c && is_agreement topic.purpose
 
 -- a shrink, or no agreement before the last of so many
-abbrev pub is_late_enough : ℕ → Purpose → Bool
-is_late_enough count Shrink = true
-is_late_enough count (Agree round) = not (nat_lt round (count - 1))
+abbrev pub is_recent_enough : ℕ → Purpose → Bool
+is_recent_enough count Shrink = true
+is_recent_enough count (Agree round) = not (nat_lt round (count - 1))
 
 -- a topic is a shrink, or no agreement before the last one that was entered on its communicator
 abbrev pub is_current : (ℕ → ℕ) → Topic → Bool
-is_current counts topic = is_late_enough (counts topic.context.number) topic.purpose
+is_current counts topic = is_recent_enough (counts topic.context.number) topic.purpose
 
 -- a shrink, or the agreement after so many
 abbrev pub is_next_of : ℕ → Purpose → Bool

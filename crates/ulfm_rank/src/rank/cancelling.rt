@@ -54,6 +54,6 @@ impl Rank {
         let answer = answer_in(&self.communicators, &self.faults, request);
         let noted = NotedAnswer::of(&answer);
         self.log.push_reserved(Entry::Released(id, noted));
-        Ok(Cancel::Late(answer))
+        Ok(Cancel::Completed(answer))
     }
 }

@@ -1,5 +1,5 @@
 //! What shrinks and agreements have in common: entry, proposal and adoption (ULFM, shrink and agree).
-ghost use Rattle.std.specs.Prelude.{◌≡◌, ℕ, true, IsTrue, Some, IfOk, IfErr, OnOk, OnErr, false};
+ghost use Rattle.std.specs.Prelude.{◌≡◌, ℕ, IsTrue, Some, IfOk, IfErr, OnOk, OnErr, false};
 ghost use Rattle.ulfm_base.specs.declared.contribution.Contribution.{Contribution as Brought};
 ghost use Rattle.ulfm_base.specs.Decision.{entry_at};
 ghost use Rattle.ulfm_base.specs.Group.{is_member};
@@ -20,7 +20,9 @@ use crate::entry::{Comm, Entry};
 use crate::forwarding::announce;
 use crate::proposal::proposed;
 use crate::row::Row;
-use ulfm_base::{CallError, Contribution, Decision, Entrance, Group, OutOfMemory, RankSet, Topic};
+use ulfm_base::{
+    CallError, Contribution, Decision, Entrance, Group, Listing, OutOfMemory, RankSet, Topic,
+};
 
 impl Rank {
     /// Enters a topic, on the communicator of these members, with the failures that are known now.
@@ -121,7 +123,7 @@ impl Rank {
     }
 
     /// With what the rank lists each rank in the decision on a topic.
-    fn listed(&self, topic: Topic) -> [Option<Contribution>; 8]
+    fn listed(&self, topic: Topic) -> Listing
         requires { IsTrue (is_current (agreements self.now.state.log) topic) }
         ensures entries { HasEntries self.now.state.me self.now.state.log topic result }
         ensures flags { (r : ℕ) (brought : Brought) → entry_at result r ≡ Some brought → Fits topic.purpose brought.flag }

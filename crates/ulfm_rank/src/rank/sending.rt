@@ -1,5 +1,5 @@
 //! Sends and communicators (MPI 4.0, chapters 3 and 7).
-ghost use Rattle.std.specs.Prelude.{◌≡◌, ◌<◌, ◌≤◌, [], ◌∷◌, false, length, slice_get, IfOk, IfErr, IsTrue, OnOk, OnErr, Some, None};
+ghost use Rattle.std.specs.Prelude.{◌≡◌, ◌<◌, ◌≤◌, false, length, slice_get, IfOk, IfErr, IsTrue, OnOk, OnErr, Some, None};
 ghost use Rattle.ulfm_base.specs.Context.{dup_of};
 ghost use Rattle.ulfm_rank.specs.Calls.{Sends};
 ghost use Rattle.ulfm_rank.specs.Checks.{Passes, Fails, FailsOrStarves, group_at, send_checks, dup_checks};

@@ -7,7 +7,7 @@ ghost use Rattle.ulfm_rank.specs.State.{is_ready, logged};
 use super::{Rank, stop_places};
 use crate::decisive::{hear, make_place};
 use crate::entry::Entry;
-use crate::failures::{is_late, learn};
+use crate::failures::{learn, was_revoked};
 use crate::forwarding::pass_on;
 use crate::requests::settle;
 use ulfm_base::{Item, NotedItem, OutOfMemory, WorldRank};
@@ -60,18 +60,18 @@ impl Rank {
         requires from { IsFrom source item }
         ensures { self.new.state ≡ logged self.old.state (Entry.Took source item) }
     {
-        let late = is_late(&self.faults, &item);
+        let revoked = was_revoked(&self.faults, &item);
         pass_on(
             &mut self.outboxes,
             self.me.number,
             self.faults.known(),
-            late,
+            revoked,
             &item,
         );
         learn(&mut self.faults, source, &item);
         hear(&mut self.told, &self.rounds, source, &item);
         let noted = NotedItem::of(&item);
-        settle(&mut self.matcher, &mut self.requests, late, source, item);
+        settle(&mut self.matcher, &mut self.requests, revoked, source, item);
         self.log.push_reserved(Entry::Took(source, noted));
     }
 }

@@ -1,6 +1,7 @@
 -- A player on its way through its script.
-use Rattle.std.specs.Prelude.{◌≡◌, ⊤, ℕ, true, false, List, ◌++◌, ◌+◌, ◌-◌, ◌*◌, ◌<◌, length, All, MatchOption, Some, None, slice_get, Bool, [], ◌∷◌, if◌then◌else◌, Option}
+use Rattle.std.specs.Prelude.{◌≡◌, ⊤, ℕ, true, false, List, ◌++◌, ◌+◌, ◌-◌, ◌*◌, ◌<◌, length, All, MatchOption, Some, None, slice_get, Bool, [], ◌∷◌, if◌then◌else◌, Option, IsTrue}
 use Rattle.ulfm_rank.specs.Facts.{is_stopped}
+use Rattle.ulfm_rank.specs.State.{RankView}
 use Rattle.ulfm_job.specs.declared.step.Step.{Step}
 use Rattle.ulfm_script.specs.Player.{Player}
 use Rattle.ulfm_job.specs.Job.{JobView, script_at}
@@ -12,6 +13,10 @@ use Rattle.ulfm_rank.specs.declared.entry.TestAnswer.{TestAnswer}
 use Rattle.ulfm_rank.specs.declared.entry.TestAnswer.TheVariants.{Done as TestDone, Over as TestOver, Pending as TestPending, NotYet as TestNotYet}
 use Rattle.ulfm_script.specs.declared.answer.StepAnswer.{StepAnswer}
 use Rattle.ulfm_script.specs.declared.answer.StepAnswer.TheVariants.{Done, Over, Pending}
+
+-- a rank that stays as it was keeps its room for a call, and its place for a request
+abbrev pub KeepsRoom : RankView → RankView → Type 0
+KeepsRoom old new = (new.state ≡ old.state → IsTrue old.prepared → IsTrue new.prepared) × (new.state ≡ old.state → IsTrue old.has_place → IsTrue new.has_place)
 
 -- the polls that are left to a player
 abbrev pub polls_left : List Step → ℕ → Player → ℕ

@@ -1,5 +1,5 @@
 //! A player once more.
-ghost use Rattle.std.specs.Prelude.{◌≡◌, ◌<◌, length, vec_len, vec_capacity, IfOk};
+ghost use Rattle.std.specs.Prelude.{◌≡◌, ◌<◌, vec_len, vec_capacity, IfOk};
 
 use super::Player;
 use crate::answer::StepReport;

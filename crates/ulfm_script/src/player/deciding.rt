@@ -15,7 +15,7 @@ use ulfm_job::Step;
 impl Player {
     /// Asks for the decision of the open shrink of a communicator, or of the open agreement on it: hands the rank's proposal in
     /// at the board, and adopts what the board holds. A player that was prepared is answered out of memory only where the
-    /// board lacks a cell.
+    /// board finds no memory for its decision.
     pub fn decide<D: Decider>(&mut self, context: Context, board: &mut D) -> Decided
         ensures decides { Decides result self.old.player context (D.board board.old) (D.known board.old) self.new.player (D.known board.new) }
         ensures board { D.board board.new ≡ D.board board.old }

@@ -1,10 +1,10 @@
 use Rattle.std.proofs.Common.{refl, inl, inr}
 use Rattle.ulfm_c.proofs.letters.cancel.Goals as goal
-use Rattle.ulfm_rank.specs.declared.entry.Cancel.TheVariants.{Cancelled, Late}
+use Rattle.ulfm_rank.specs.declared.entry.Cancel.TheVariants.{Cancelled, Completed}
 
-pub returns-in-Ok-Late : goal.returns-in-Ok-Late
-returns-in-Ok-Late c = let did = c.in-Ok-Late.ensures in let is = c.in-Ok-Late.field-0-is in inl (
-  Late c.in-Ok-Late.answer,
+pub returns-in-Ok-Completed : goal.returns-in-Ok-Completed
+returns-in-Ok-Completed c = let did = c.in-Ok-Completed.ensures in let is = c.in-Ok-Completed.field-0-is in inl (
+  Completed c.in-Ok-Completed.answer,
   c.tell.ensures,
   record {
     asked = record { running = did.running; request = did.request; pairing = did.pairing };

@@ -3,10 +3,10 @@ use Rattle.ulfm_match.proofs.Pooled.{filtered_all, filtered_pool}
 use Rattle.ulfm_match.proofs.removal.clear_receives.Goals as goal
 
 pub returns-clause-left : goal.returns-clause-left
-returns-clause-left c = filtered_all c.requires.1 _ (record { early = c.clear_waiting.new.waiting; buckets = c.forget_gone.new.buckets; late = c.drop_receives.new.late; wild = c.args.pool.now.wild }) c.clear_waiting.ensures.unique c.clear_waiting.ensures.left c.drop_receives.ensures.left
+returns-clause-left c = filtered_all c.requires.1 _ (record { early = c.clear_waiting.new.waiting; buckets = c.forget_gone.new.buckets; recent = c.drop_receives.new.recent; wild = c.args.pool.now.wild }) c.clear_waiting.ensures.unique c.clear_waiting.ensures.left c.drop_receives.ensures.left
 
 pub returns-clause-pool : goal.returns-clause-pool
-returns-clause-pool c count i = filtered_pool i _ (record { early = c.clear_waiting.new.waiting; buckets = c.forget_gone.new.buckets; late = c.drop_receives.new.late; wild = c.args.pool.now.wild }) c.clear_waiting.ensures.unique c.clear_waiting.ensures.left c.drop_receives.ensures.left refl c.forget_gone.ensures c.drop_receives.ensures.shorter
+returns-clause-pool c count i = filtered_pool i _ (record { early = c.clear_waiting.new.waiting; buckets = c.forget_gone.new.buckets; recent = c.drop_receives.new.recent; wild = c.args.pool.now.wild }) c.clear_waiting.ensures.unique c.clear_waiting.ensures.left c.drop_receives.ensures.left refl c.forget_gone.ensures c.drop_receives.ensures.shorter
 
 pub returns-clause-place : goal.returns-clause-place
 returns-clause-place c h = let l = h.0 in let f = h.1 in (omega (arith, l, c.drop_receives.ensures.shorter, c.drop_receives.ensures.room), omega (arith, f, c.drop_receives.ensures.shorter))

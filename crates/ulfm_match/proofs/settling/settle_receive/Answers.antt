@@ -13,15 +13,15 @@ returns-in_default-clause-pool c count i = roomy_pool i _ refl c.reserve.ensures
 
 pub returns-in-Ok-clause-all : goal.returns-in-Ok-clause-all
 returns-in-Ok-clause-all c =
-    let roomy : Pool Pattern = record { early = c.reserve.new.self; buckets = c.args.pool.now.buckets; late = c.args.pool.now.late; wild = c.args.pool.now.wild } in
+    let roomy : Pool Pattern = record { early = c.reserve.new.self; buckets = c.args.pool.now.buckets; recent = c.args.pool.now.recent; wild = c.args.pool.now.wild } in
     let i : IsPool IsKeyOfReceive c.requires.0 roomy = roomy_pool c.requires.1 roomy refl c.reserve.ensures.entries c.reserve.ensures.unique refl refl in
     let room = on_ok c.insert.result (c.insert.ensures.succeeds (omega (arith, c.in_ok-reserve.ensures.ok))) in
     settled_all i c.in-Some.number c.in-Some.pattern c.pop_front.new.self.items c.in-Some.ensures.items c.insert.new.self c.insert.ensures.unique (room c.insert.ensures.updates).0
-    ∙ ap (λ es. in_order es ++ c.args.pool.now.late.items) c.reserve.ensures.entries
+    ∙ ap (λ es. in_order es ++ c.args.pool.now.recent.items) c.reserve.ensures.entries
 
 pub returns-in-Ok-clause-pool : goal.returns-in-Ok-clause-pool
 returns-in-Ok-clause-pool c count i =
-    let roomy : Pool Pattern = record { early = c.reserve.new.self; buckets = c.args.pool.now.buckets; late = c.args.pool.now.late; wild = c.args.pool.now.wild } in
+    let roomy : Pool Pattern = record { early = c.reserve.new.self; buckets = c.args.pool.now.buckets; recent = c.args.pool.now.recent; wild = c.args.pool.now.wild } in
     let i' : IsPool IsKeyOfReceive count roomy = roomy_pool i roomy refl c.reserve.ensures.entries c.reserve.ensures.unique refl refl in
     let room = on_ok c.insert.result (c.insert.ensures.succeeds (omega (arith, c.in_ok-reserve.ensures.ok))) in
     settled_pool i' c.in-Some.number c.in-Some.pattern c.pop_front.new.self.items c.in-Some.ensures.items _
@@ -40,6 +40,6 @@ forget-requires c = settled_absent c.requires.1 c.in-Some.number c.in-Some.patte
 
 pub may_be_wild-pool-requires : goal.may_be_wild-pool-requires
 may_be_wild-pool-requires c =
-    let roomy : Pool Pattern = record { early = c.reserve.new.self; buckets = c.args.pool.now.buckets; late = c.args.pool.now.late; wild = c.args.pool.now.wild } in
+    let roomy : Pool Pattern = record { early = c.reserve.new.self; buckets = c.args.pool.now.buckets; recent = c.args.pool.now.recent; wild = c.args.pool.now.wild } in
     let i : IsPool IsKeyOfReceive c.requires.0 roomy = roomy_pool c.requires.1 roomy refl c.reserve.ensures.entries c.reserve.ensures.unique refl refl in
     i.none_wild

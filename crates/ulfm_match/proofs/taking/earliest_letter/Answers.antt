@@ -1,6 +1,6 @@
 use Rattle.std.proofs.Common.{sym}
 use Rattle.ulfm_match.proofs.Indexed.{kept_found, some_same}
-use Rattle.ulfm_match.proofs.Pooled.{early_least, late_least, none_pool}
+use Rattle.ulfm_match.proofs.Pooled.{early_least, recent_least, none_pool}
 use Rattle.ulfm_match.proofs.taking.earliest_letter.Goals as goal
 
 pub first_kept-requires : goal.first_kept-requires
@@ -17,7 +17,7 @@ returns-in_ok-letter-in-Some c =
 
 pub returns-in-Some-first_letter : goal.returns-in-Some-first_letter
 returns-in-Some-first_letter c =
-    let i = c.requires.1 in (c.index.result.now.0, late_least i c.in-Some-first_letter.k c.index.result.now (λ m q. c.in-None.ensures m (kept_found i.indexed m q) q) c.in-Some-first_letter.ensures c.index.ensures)
+    let i = c.requires.1 in (c.index.result.now.0, recent_least i c.in-Some-first_letter.k c.index.result.now (λ m q. c.in-None.ensures m (kept_found i.indexed m q) q) c.in-Some-first_letter.ensures c.index.ensures)
 
 pub returns-in-None-first_letter : goal.returns-in-None-first_letter
 returns-in-None-first_letter c = let i = c.requires.1 in none_pool i (λ m q. c.in-None.ensures m (kept_found i.indexed m q) q) c.in-None-first_letter.ensures

@@ -1,6 +1,6 @@
 use Rattle.std.proofs.Common.{refl}
 use Rattle.ulfm_match.proofs.Common.{Admits, Pattern}
-use Rattle.ulfm_match.proofs.Pooled.{early_taken, late_taken, none_pool, out_pool, taken_late}
+use Rattle.ulfm_match.proofs.Pooled.{early_taken, recent_taken, none_pool, out_pool, taken_recent}
 use Rattle.ulfm_match.proofs.taking.take_receive.Goals as goal
 
 pub take_waiting-requires : goal.take_waiting-requires
@@ -12,15 +12,15 @@ returns-in-Some-clause-taken c = let x = c.in-Some.ensures.taken in (x.0, early_
 pub returns-in-Some-clause-pool : goal.returns-in-Some-clause-pool
 returns-in-Some-clause-pool c count i = out_pool i _ refl c.in-Some.ensures.taken.1.out refl
 
-pub returns-in-Some-take_late_receive-clause-taken : goal.returns-in-Some-take_late_receive-clause-taken
-returns-in-Some-take_late_receive-clause-taken c =
-    rw c.in-None.ensures.idle.0 (_, late_taken c.requires.1 c.in-None.ensures.taken c.in-Some-take_late_receive.ensures.taken)
+pub returns-in-Some-take_recent_receive-clause-taken : goal.returns-in-Some-take_recent_receive-clause-taken
+returns-in-Some-take_recent_receive-clause-taken c =
+    rw c.in-None.ensures.idle.0 (_, recent_taken c.requires.1 c.in-None.ensures.taken c.in-Some-take_recent_receive.ensures.taken)
 
-pub returns-in-Some-take_late_receive-clause-pool : goal.returns-in-Some-take_late_receive-clause-pool
-returns-in-Some-take_late_receive-clause-pool c count i = taken_late i (λ (p : Pattern). Admits p c.args.envelope.now) _ refl c.in-None.ensures.idle.0 c.in-None.ensures.idle.1 c.in-Some-take_late_receive.ensures.taken c.take_late_receive.ensures.shorter
+pub returns-in-Some-take_recent_receive-clause-pool : goal.returns-in-Some-take_recent_receive-clause-pool
+returns-in-Some-take_recent_receive-clause-pool c count i = taken_recent i (λ (p : Pattern). Admits p c.args.envelope.now) _ refl c.in-None.ensures.idle.0 c.in-None.ensures.idle.1 c.in-Some-take_recent_receive.ensures.taken c.take_recent_receive.ensures.shorter
 
-pub returns-in-None-take_late_receive-clause-taken : goal.returns-in-None-take_late_receive-clause-taken
-returns-in-None-take_late_receive-clause-taken c = none_pool c.requires.1 c.in-None.ensures.taken c.in-None-take_late_receive.ensures.taken
+pub returns-in-None-take_recent_receive-clause-taken : goal.returns-in-None-take_recent_receive-clause-taken
+returns-in-None-take_recent_receive-clause-taken c = none_pool c.requires.1 c.in-None.ensures.taken c.in-None-take_recent_receive.ensures.taken
 
-pub returns-in-None-take_late_receive-clause-pool : goal.returns-in-None-take_late_receive-clause-pool
-returns-in-None-take_late_receive-clause-pool c count i = rw c.in-None.ensures.idle.0 (rw c.in-None.ensures.idle.1 (rw c.in-None-take_late_receive.ensures.idle i))
+pub returns-in-None-take_recent_receive-clause-pool : goal.returns-in-None-take_recent_receive-clause-pool
+returns-in-None-take_recent_receive-clause-pool c count i = rw c.in-None.ensures.idle.0 (rw c.in-None.ensures.idle.1 (rw c.in-None-take_recent_receive.ensures.idle i))

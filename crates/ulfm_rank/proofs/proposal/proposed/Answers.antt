@@ -18,5 +18,5 @@ returns c = λ rank knows heard members entered.
     let t : IsTally c.args.group.now c.args.known c.args.entries.now c.entries_of-listed.result c.failures_in-failures.result c.members-members.result c.listed_or.result =
     record { size = size; small = has_small c.members-members.result eight; are_members = c.members-members.ensures; kept = c.entries_of-listed.ensures; failed = c.failures_in-failures.ensures; accounts = c.listed_or.ensures } in
     is_proposal rank.ranks rank.me rank.log c.args.topic _ (rw (← members) at t)
-    knows heard (c.is_subset.ensures.0 c.if-not-is_subset.false) entered refl (c.copied.ensures ∙ sym members) c.members_of_both-excluded.ensures.inside
+    knows heard (c.is_subset.ensures.0 c.if-not-is_subset.false) entered refl (c.copied.ensures ∙ sym members) c.intersection-excluded.ensures
     (rw (← members) at c.excluding.ensures)

@@ -15,7 +15,7 @@ invariant_of-self c = record {
 pub invariant_of-self-in-None : goal.invariant_of-self-in-None
 invariant_of-self-in-None c = record {
   of_waiting = higher_pool (c.take_receive.ensures.pool _ c.self.invariant.of_waiting);
-  of_kept = pushed_pool c.self.invariant.of_kept _ c.args.letter c.add-ready.ensures.wild c.add-ready.ensures.early c.add-ready.ensures.buckets c.add-ready.ensures.late (c.self.invariant.room (ap (λ (s : Matching). s.prepared) c.self.view_is ∙ c.requires.prepared)).1.1;
+  of_kept = pushed_pool c.self.invariant.of_kept _ c.args.letter c.add-ready.ensures.wild c.add-ready.ensures.early c.add-ready.ensures.buckets c.add-ready.ensures.recent (c.self.invariant.room (ap (λ (s : Matching). s.prepared) c.self.view_is ∙ c.requires.prepared)).1.1;
   room = λ r. let m = c.self.invariant.room (ap (λ (s : Matching). s.prepared) c.self.view_is ∙ c.requires.prepared) in (c.take_receive.ensures.place m.0, c.add-ready.ensures.place r);
 }
 

@@ -14,7 +14,7 @@ invariant_of-self c = record {
 
 pub invariant_of-self-in-None : goal.invariant_of-self-in-None
 invariant_of-self-in-None c = record {
-  of_waiting = pushed_pool c.self.invariant.of_waiting _ c.args.pattern c.add-ready.ensures.wild c.add-ready.ensures.early c.add-ready.ensures.buckets c.add-ready.ensures.late (c.self.invariant.room (ap (λ (s : Matching). s.prepared) c.self.view_is ∙ c.requires.prepared)).0.1;
+  of_waiting = pushed_pool c.self.invariant.of_waiting _ c.args.pattern c.add-ready.ensures.wild c.add-ready.ensures.early c.add-ready.ensures.buckets c.add-ready.ensures.recent (c.self.invariant.room (ap (λ (s : Matching). s.prepared) c.self.view_is ∙ c.requires.prepared)).0.1;
   of_kept = higher_pool (c.take_letter.ensures.pool _ c.self.invariant.of_kept);
   room = λ r. let m = c.self.invariant.room (ap (λ (s : Matching). s.prepared) c.self.view_is ∙ c.requires.prepared) in (c.add-ready.ensures.place r, c.take_letter.ensures.place m.1);
 }

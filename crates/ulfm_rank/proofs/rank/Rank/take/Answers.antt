@@ -16,16 +16,16 @@ settle-requires-clause-countable c =
     omega (arith, small, c.self.invariant.places, c.self.invariant.countable)
 
 pub settle-requires-clause-open : goal.settle-requires-clause-open
-settle-requires-clause-open c l is late =
+settle-requires-clause-open c l is revoked =
     let a = c.self.inside in
     in_step_open c.self.invariant.follows.in_step l.envelope.context.number
-    (ap (revoked_before a.log.items) (sym is) ∙ (sym (marked_before c.self.invariant.follows.faults c.args.item) ∙ (sym c.is_late-late.ensures ∙ late)))
+    (ap (revoked_before a.log.items) (sym is) ∙ (sym (marked_before c.self.invariant.follows.faults c.args.item) ∙ (sym c.was_revoked-revoked.ensures ∙ revoked)))
 
 grows : (c : After-push_reserved) → AllGrow c.self.inside.outboxes.boxes c.pass_on.new.outboxes.boxes (λ d. owed_by_item c.self.inside.me.number c.self.inside.log.items d c.args.item)
 grows c =
     let a = c.self.inside in
     let faults = c.self.invariant.follows.faults in
-    c.pass_on.ensures a.log.items (λ r. c.known.ensures r ∙ knows_gone faults r) (c.is_late-late.ensures ∙ marked_before faults c.args.item)
+    c.pass_on.ensures a.log.items (λ r. c.known.ensures r ∙ knows_gone faults r) (c.was_revoked-revoked.ensures ∙ marked_before faults c.args.item)
 
 longer : (c : After-push_reserved) → c.push_reserved.new.self.items ≡ c.self.inside.log.items ++ Took c.args.source c.args.item ∷ []
 longer c = c.push_reserved.ensures.items ∙ ap (λ x. c.self.inside.log.items ++ Took c.args.source x ∷ []) c.of-noted.ensures
@@ -34,7 +34,7 @@ pub invariant_of-self : goal.invariant_of-self
 invariant_of-self c =
     let a = c.self.inside in
     let room = room_of a.matcher.prepared (length a.log.items + (index_map_len a.requests + stop_places a.stopped)) a.log.capacity (a.outboxes.room && (nat_lt (vec_len a.told) (vec_capacity a.told) && a.block)) (subst (λ (v : RankView). IsTrue v.prepared) (sym c.self.view_is) c.requires.prepared) in
-    let tracks = rw c.is_late-late.ensures at c.settle.ensures.tracks in
+    let tracks = rw c.was_revoked-revoked.ensures at c.settle.ensures.tracks in
     record {
       follows = rw (longer c)
           (follows_took c.self.invariant.follows c.args.source c.args.item c.settle.new.matcher (get nat_eq c.settle.new.requests) c.learn.new.faults c.pass_on.new.outboxes.boxes tracks (c.learn.ensures a.log.items c.self.invariant.follows.faults) (grows c));
