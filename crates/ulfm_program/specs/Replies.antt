@@ -8,12 +8,13 @@ use Rattle.ulfm_stops.specs.declared.place.Place.{Place}
 use Rattle.ulfm_script.specs.Report.{Report}
 use Rattle.ulfm_json.specs.Form.{trace_in}
 use Rattle.ulfm_json.specs.declared.form.Form.{Form}
+use Rattle.ulfm_laws.specs.Flow.{AreWithin}
 use Rattle.ulfm_laws.specs.Lawful.{IsLawful}
 use Rattle.ulfm_run.specs.Fault.{ShowUntrue}
 use Rattle.ulfm_laws.specs.Room.{HaveRoom}
 use Rattle.ulfm_world.specs.Replay.{MadeAtRest}
+use Rattle.ulfm_judged.specs.ListReply.{IsListReply}
 use Rattle.ulfm_program.specs.Brief.{repeats_in}
-use Rattle.ulfm_program.specs.ListReply.{IsListReply}
 use Rattle.ulfm_program.specs.Sweep.{IsSweepReply}
 use Rattle.ulfm_program.specs.Tally.{tally}
 use Rattle.ulfm_replies.specs.declared.command.RunOptions.{RunOptions}
@@ -49,15 +50,16 @@ pub data IsDrawReply (form : Form) (turns : Option ℕ) (place : Place) (bytes :
   not_drawn : (status : ℕ) (text : List ℕ) → IsRefusal form place bytes status text → IsDrawReply form turns place bytes status text
   undrawn : (told : Form) → IsDrawReply form turns place bytes 3 (out_of_memory_in told)
 
--- the reports are lawful for the job, and have an order that rings of its places allow
+-- the reports are lawful for the job; rings of its places hold what is left in inboxes, and allow an order of all logs
 pub record AreOfRun (job : JobView) (reports : List Report) : Type 0 where
   pub lawful : IsLawful job reports
+  pub within : AreWithin lawful.inboxes job.capacity
   pub room : HaveRoom reports job.capacity
 
--- the reports are lawful for the job, and have no order that rings of its places allow
+-- the reports are lawful for the job; rings of its places don't hold what is left in inboxes, or allow no order of all logs
 pub record ShowNoRoom (job : JobView) (reports : List Report) : Type 0 where
   pub lawful : IsLawful job reports
-  pub crowded : HaveRoom reports job.capacity → ⊥
+  pub crowded : HaveRoom reports job.capacity → AreWithin lawful.inboxes job.capacity → ⊥
 
 -- The same for `run`: with 0, 6 or 9, the trace of reports that are lawful for the job and had room, whichever thread went when; with 3
 -- the line of what failed. F2 comes for a good job alone, and F4 only with reports of the job's ranks that show it. With `--repeat` each distinct trace of so many such runs comes once with its count, and with `--brief` each distinct line.

@@ -1,5 +1,5 @@
 //! The reply of `run`.
-ghost use Rattle.std.specs.Prelude.{All, length, map, ℕ, ◌≡◌, ◌<◌, ◌≢◌, IfErr, IfOk, string_bytes, vec_len};
+ghost use Rattle.std.specs.Prelude.{All, List, length, map, ℕ, ◌≡◌, ◌<◌, IfErr, IfOk, string_bytes, vec_len};
 ghost use Rattle.ulfm_carrier.specs.declared.lane_ends.LaneEnds.{LaneEnds as Lanes};
 ghost use Rattle.ulfm_carrier.specs.declared.shared_ends.SharedEnds.{SharedEnds as Shared};
 ghost use Rattle.ulfm_carrier.specs.Family.{AllFresh};
@@ -11,7 +11,9 @@ ghost use Rattle.ulfm_program.specs.inside.Cells.{AreEnough};
 ghost use Rattle.ulfm_program.specs.Replies.{AreOfRun, IsRunReply};
 ghost use Rattle.ulfm_program.specs.inside.Writing.{IsShown};
 ghost use Rattle.ulfm_replies.specs.CommandLine.{AreInRange};
-ghost use Rattle.ulfm_laws.specs.Lawful.{IsLawful};
+ghost use Rattle.ulfm_laws.specs.Lawful.{LawfulReport};
+ghost use Rattle.ulfm_run.specs.Flow.{contents};
+ghost use Rattle.ulfm_script.specs.Deciding.{Known};
 
 use crate::tally::{tally_of, tally_reply};
 use crate::turns::given_turns;
@@ -168,9 +170,9 @@ fn run_by<E: Ends + Send, R: Threads + Wait + Sync>(
     }
 }
 
-/// What the ranks of a job did, if rings of the job's places allow it.
+/// What the ranks of a job did, if rings of the job's places allow it and what is left in the inboxes.
 fn fitting<E: Drop, D: Drop>(job: &Job, report: Report<E, D>) -> Result<Vec<RankReport>, Failure>
-    requires lawful { IsLawful job.now report.ranks.items }
+    requires lawful { (knows : List Known) × LawfulReport job.now (contents report.residue.inboxes.items) knows report.ranks.items }
     ensures ran { IfOk result (λ reports. AreOfRun job.now reports.items) }
     ensures shown { IfErr result (λ failure. IsShown job.now failure) }
 {

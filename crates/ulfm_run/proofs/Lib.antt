@@ -17,3 +17,4 @@ pub mod Fronts
 pub mod Found
 pub mod Behind
 pub mod Stuck
+pub mod Leftover

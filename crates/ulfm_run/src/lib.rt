@@ -14,6 +14,7 @@ mod comparing;
 mod finished;
 mod foreign;
 mod job;
+mod left;
 mod listing;
 mod order;
 mod owing;

@@ -1,22 +1,25 @@
-//! Room on the way from rank to rank, as reports tell of it (ULFM, stops).
-ghost use Rattle.std.specs.Prelude.{◌≡◌, ◌≤◌, ◌↔◌, IsTrue, drop, length};
-ghost use Rattle.ulfm_rank.specs.Facts.{is_gone_item};
+//! Room on the way from rank to rank and in inboxes, as reports tell of it (ULFM, stops).
+ghost use Rattle.std.specs.Prelude.{◌≡◌, ◌≤◌, ◌↔◌, IsTrue, length};
+ghost use Rattle.ulfm_laws.specs.Flow.{AreWithin};
 ghost use Rattle.ulfm_laws.specs.Room.{HaveRoom, takes_sent, taken_behind};
+ghost use Rattle.ulfm_run.specs.Flow.{contents};
 ghost use Rattle.ulfm_run.specs.inside.Walk.{HasRoomNow};
 
+use crate::left::are_within;
 use crate::order::have_order;
 use crate::report::Report;
 use ulfm_rank::{Entry, is_gone_item};
 use ulfm_script::RankReport;
 
-/// Whether what ranks did has an order that rings of so many places allow: where a rank stopped, no more items of it were under way to
-/// any other than a ring has places, of those that were taken at all. So it is with each run over ends of so many places. It never answers
+/// Whether rings of so many places allow what ranks did and what is left in their inboxes. Then all logs have an order in which, where a
+/// rank stopped, no more items of it were under way to any other than a ring has places, of those that were taken at all. And what is
+/// left of any sender in an inbox is no more than a ring has places. So it is with each run over ends of so many places. It never answers
 /// out of memory.
 pub fn fits<E, D>(report: &Report<E, D>, capacity: u8) -> bool
     requires few { length report.now.ranks.items ≤ 8 }
-    ensures { IsTrue result ↔ HaveRoom report.now.ranks.items capacity }
+    ensures { IsTrue result ↔ (HaveRoom report.now.ranks.items capacity × AreWithin (contents report.now.residue.inboxes.items) capacity) }
 {
-    have_order(&report.ranks, Some(capacity))
+    are_within(&report.residue.inboxes, capacity) && have_order(&report.ranks, Some(capacity))
 }
 
 /// Whether of what each rank takes of this one no more than so much wasn't walked.

@@ -1,4 +1,7 @@
 //! What threads did is a schedule: lawful reports are those of some list of events of a world.
+//!
+//! It has no code, only a law, the function of laws.rt. Read specs/Played.antt: `IsPlayedOut` says what those events lead to, and
+//! `RunIsARun` which reports have such a list.
 #![tactic(auto)]
 
 mod laws;

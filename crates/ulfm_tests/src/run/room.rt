@@ -1,4 +1,5 @@
-//! Room on the way: a run over rings of three places that smaller rings don't allow, and runs that the rings of their size allow.
+//! Room on the way and in inboxes: runs over rings of three places that smaller rings don't allow, and runs that the rings of their size
+//! allow.
 ghost use Rattle.std.specs.Prelude.{map};
 ghost use Rattle.ulfm_carrier.specs.Family.{AllFresh};
 
@@ -28,6 +29,18 @@ step = [
     {rank = 2, op = "send", to = 1, tag = 1, body = "b"},
     {rank = 2, op = "send", to = 1, tag = 1, body = "c"},
     {rank = 2, op = "stop"},
+]
+"#;
+
+/// Ranks 0 and 2 send rank 1 two letters each.
+const TWO_EACH: &str = r#"ranks = 3
+capacity = 1
+turns = 60
+step = [
+    {rank = 0, op = "send", to = 1, tag = 1, body = "a"},
+    {rank = 0, op = "send", to = 1, tag = 1, body = "b"},
+    {rank = 2, op = "send", to = 1, tag = 1, body = "c"},
+    {rank = 2, op = "send", to = 1, tag = 1, body = "d"},
 ]
 "#;
 
@@ -81,14 +94,14 @@ impl Habit for Patient {
     }
 }
 
-/// Rank 1 waits until the letter of rank 0 is on the way.
-fn patience(alloc: Global) -> Result<Vec<Patient>, Fail> {
+/// Rank 1 takes nothing until the first item of this rank is on the way, or ever.
+fn patience(alloc: Global, awaited: Option<u8>) -> Result<Vec<Patient>, Fail> {
     let is_out = Arc::new(alloc, AtomicBool::new(false))?;
     let mut habits = Vec::new(alloc);
     for number in 0..3 {
         habits.push(Patient {
             is_out: Arc::try_clone(&is_out)?,
-            tells: number == 0,
+            tells: awaited == Some(number),
             waits: number == 1,
             pushed: false,
         })?;
@@ -96,14 +109,19 @@ fn patience(alloc: Global) -> Result<Vec<Patient>, Fail> {
     Ok(habits)
 }
 
-/// Whether rings of one, of two and of three places allow a run of `UNDER_WAY` over rings of three.
-fn allowed<R>(rt: &R, alloc: Global) -> Result<(bool, bool, bool), Fail>
+/// Whether rings of one, of two and of three places allow a run of a job over rings of three, in which rank 1 waits for that item.
+fn allowed<R>(
+    rt: &R,
+    alloc: Global,
+    text: &str,
+    awaited: Option<u8>,
+) -> Result<(bool, bool, bool), Fail>
 where
     R: Threads + Wait + Sync,
 {
-    let job = Job::read(alloc, UNDER_WAY.as_bytes())?;
+    let job = Job::read(alloc, text.as_bytes())?;
     let ends = lanes(alloc, job.ranks(), 3)?;
-    let report = run_over(rt, alloc, &job, ends, patience(alloc)?)?;
+    let report = run_over(rt, alloc, &job, ends, patience(alloc, awaited)?)?;
     Ok((fits(&report, 1), fits(&report, 2), fits(&report, 3)))
 }
 
@@ -146,8 +164,16 @@ where
 /// The letter of rank 0 comes after the stop of rank 2, and before the letters of rank 2: at its stop, these were all on the way.
 #[test]
 fn three_letters_want_three_places(rt: HostRuntime) -> Result<(), Fail> {
-    let found = allowed(&rt, rt.alloc())?;
+    let found = allowed(&rt, rt.alloc(), UNDER_WAY, Some(0))?;
     assert_eq!(rt; found, (false, false, true));
+    Ok(())
+}
+
+/// Rank 1 takes nothing. Of four letters in its inbox two are of each sender, for which one place is too few.
+#[test]
+fn two_letters_left_of_a_sender_want_two_places(rt: HostRuntime) -> Result<(), Fail> {
+    let found = allowed(&rt, rt.alloc(), TWO_EACH, None)?;
+    assert_eq!(rt; found, (false, true, true));
     Ok(())
 }
 

@@ -1,18 +1,11 @@
 use Rattle.std.proofs.Common.{map, sym}
 use Rattle.ulfm_board.specs.declared.seat.Seat.{Seat}
 use Rattle.ulfm_board.specs.inside.Names.{notes_known}
-use Rattle.ulfm_run.specs.Flow.{contents}
 use Rattle.ulfm_program.proofs.Refused.{shown}
 use Rattle.ulfm_program.proofs.run.run_by.Goals as goal
 
 pub fitting-requires : goal.fitting-requires
-fitting-requires g c = record {
-  lawful = record {
-    inboxes = contents c.in-Ok-run_job.report.residue.inboxes.items;
-    knows = map (λ (s : Seat). notes_known s.notes.items) c.in-Ok-run_job.report.deciders.items;
-    lawful = c.in-Ok-run_job.ensures.lawful;
-  };
-}
+fitting-requires g c = record { lawful = (map (λ (s : Seat). notes_known s.notes.items) c.in-Ok-run_job.report.deciders.items, c.in-Ok-run_job.ensures.lawful) }
 
 pub returns-in-Some-clause-shown : goal.returns-in-Some-clause-shown
 returns-in-Some-clause-shown g c = shown c.args.job.now c.in-Err-run_job.fault c.in-Some.failure c.in-Err-run_job.ensures.untrue (sym c.in-Some.ensures)
