@@ -9,7 +9,6 @@ use Rattle.ulfm_script.specs.Report.{Report}
 use Rattle.ulfm_script.specs.declared.fault.RunFault.{RunFault}
 use Rattle.ulfm_script.specs.declared.fault.RunFault.TheVariants as faults
 use Rattle.ulfm_json.specs.declared.form.Form.{Form}
-use Rattle.ulfm_replies.specs.declared.command.ListOptions.{ListOptions}
 use Rattle.ulfm_replies.specs.declared.command.RunOptions.{RunOptions}
 use Rattle.ulfm_replies.specs.declared.command.Wanted.{Wanted}
 use Rattle.ulfm_replies.specs.declared.command.Wanted.TheVariants.{Check, Replay, Run, Sweep, Outcomes, Places, Expand, Draw}
@@ -20,11 +19,8 @@ use Rattle.ulfm_replies.specs.Replies.{starved}
 use Rattle.ulfm_replies.specs.Stopped.{Asked, IsAskedAt}
 use Rattle.ulfm_replies.specs.declared.failure.Failure.{Failure}
 use Rattle.ulfm_replies.specs.declared.failure.Failure.TheVariants as run
+use Rattle.ulfm_judged.proofs.Statuses.{starved_list}
 use Rattle.ulfm_program.specs.Replies.{IsRunReply, IsReplyTo, IsWhole, GetsReply, GetsBeginning, failed, undrawn, no_thread, untrue, crowded, fell, given_turns}
-use Rattle.ulfm_program.specs.EachPlace.{no_memory_for_lists}
-use Rattle.ulfm_program.specs.ListReply.{IsReplyBy}
-use Rattle.ulfm_program.specs.Outcomes.{unlisted, unshown}
-use Rattle.ulfm_program.specs.ShowEach.{no_memory_to_show_each}
 use Rattle.ulfm_program.specs.Sweep.{unswept}
 use Rattle.ulfm_program.specs.inside.Writing.{GetsFrontOf, IsShown}
 
@@ -44,13 +40,6 @@ shown job (faults.Untrue reports) run.Untrue h e = (reports.items, inl (h report
 shown job faults.NoThread run.Untrue h e = absurd cc
 shown job faults.OutOfMemory run.Untrue h e = absurd cc
 shown job faults.BadEnds run.Untrue h e = absurd cc
-
--- out of memory is what a list may come to
-starved_list : (told form : Form) (show : Option (List ℕ)) (stops : Option ℕ) (options : ListOptions) (bytes : List ℕ) → IsReplyBy form show stops options bytes 3 (out_of_memory_in told)
-starved_list told form None None options bytes = unlisted told
-starved_list told form None (Some stops) options bytes = no_memory_for_lists told
-starved_list told form (Some goals) None options bytes = unshown told
-starved_list told form (Some goals) (Some stops) options bytes = no_memory_to_show_each told
 
 -- out of memory is a reply to any words
 starved_reply : (told form : Form) (show : Option (List ℕ)) (wanted : Wanted) (bytes : List ℕ) → IsReplyTo form show wanted bytes 3 (out_of_memory_in told)

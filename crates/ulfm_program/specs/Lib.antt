@@ -1,9 +1,5 @@
 pub mod Tally
 pub mod Brief
 pub mod Sweep
-pub mod Outcomes
-pub mod EachPlace
-pub mod ShowEach
-pub mod ListReply
 pub mod Replies
 pub mod inside

@@ -2,5 +2,3 @@
 pub mod Writing
 pub mod Tallied
 pub mod Cells
-pub mod Looking
-pub mod Judging

@@ -7,10 +7,8 @@ ghost use Rattle.ulfm_replies.specs.declared.command.Wanted.{Wanted};
 ghost use Rattle.ulfm_replies.specs.CommandLine.{AsksFor, HasRanges, faults, form_asked, show_asked, IsWordsStatus};
 ghost use Rattle.ulfm_replies.specs.Failure.{out_of_memory_in, out_of_memory_text};
 
-use crate::each_place::asks_of_places;
 use crate::progress::Progress;
 use crate::reply::reply_to;
-use crate::shown::NO_GOAL;
 use std::alloc::Global;
 use std::convert::AsStr;
 use std::io::{Read, Write};
@@ -19,9 +17,11 @@ use std::thread::Threads;
 use std::time::Clock;
 use ulfm_findings::{InputFault, read_front, write_whole};
 use ulfm_json::Form;
+use ulfm_judged::NO_GOAL;
 use ulfm_replies::{
-    Asked, DONE, Failure, INPUT_FAILED, JOB_REFUSED, NO_SCHEDULE, NOT_EXPECTED, OUTPUT_FAILED,
-    RUN_FAILED, USAGE, Unfollowed, asked_for, failed_line, write_fault, write_notes,
+    Asked, DONE, Failure, INPUT_FAILED, JOB_REFUSED, ListOptions, NO_SCHEDULE, NOT_EXPECTED,
+    OUTPUT_FAILED, RUN_FAILED, USAGE, Unfollowed, Wanted, asked_for, failed_line, write_fault,
+    write_notes,
 };
 
 /// What is written where a word can't be read.
@@ -136,6 +136,11 @@ where
         }
         Err(_) => write_starved(output, form),
     }
+}
+
+/// Whether the words ask for the lists of all places.
+fn asks_of_places(wanted: Wanted) -> bool {
+    matches!(wanted, Wanted::Outcomes(ListOptions { stops: Some(_), .. }))
 }
 
 /// Writes that memory ran out, in this form, and answers the status of that, or of output that failed.

@@ -8,22 +8,14 @@
 
 mod app;
 mod brief;
-mod each_place;
 mod files;
-mod listed;
-mod looking;
 mod picture;
 mod progress;
 mod reply;
 mod run;
-mod show_each;
-mod shown;
 mod swept;
 mod tally;
-mod told;
-mod told_at;
 mod turns;
-mod unwanted;
 
 pub use app::{run_on, without_words};
 pub use files::run_each;

@@ -3,7 +3,6 @@ ghost use Rattle.std.specs.Prelude.{IfOk, option_map, string_bytes};
 ghost use Rattle.ulfm_program.specs.Replies.{IsReplayReply, IsReplyTo};
 ghost use Rattle.ulfm_replies.specs.CommandLine.{AreTurns, HasRanges};
 
-use crate::listed::list_reply;
 use crate::picture::draw_reply;
 use crate::run::run_reply;
 use crate::swept::sweep_reply;
@@ -12,6 +11,7 @@ use std::alloc::{AllocError, Global};
 use std::sync::Wait;
 use std::thread::Threads;
 use ulfm_json::Form;
+use ulfm_judged::list_reply;
 use ulfm_places::Onlooker;
 use ulfm_reach::Watch;
 use ulfm_replies::{

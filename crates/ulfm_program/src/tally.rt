@@ -1,5 +1,5 @@
 //! The reply of `run --repeat`: the traces of its runs, counted.
-ghost use Rattle.std.specs.Prelude.{◌≡◌, ◌++◌, ◌&&◌, ◌||◌, ◌+◌, ◌<◌, ◌≤◌, ℕ, All, List, length, map, sum_by, IfErr, IfOk, OnOk, string_bytes};
+ghost use Rattle.std.specs.Prelude.{◌≡◌, ◌++◌, ◌&&◌, ◌||◌, ◌+◌, ◌<◌, ◌≤◌, All, List, length, map, sum_by, IfErr, IfOk, OnOk, string_bytes};
 ghost use Rattle.std.specs.List.{list_all, list_any};
 ghost use Rattle.ulfm_program.specs.Replies.{AreOfRun};
 ghost use Rattle.ulfm_reader.specs.JobText.{rows_of as rows_asked};

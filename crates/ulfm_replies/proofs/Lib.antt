@@ -6,3 +6,4 @@ pub mod Rows
 pub mod Outside
 pub mod AsRead
 pub mod Texts
+pub mod Statuses

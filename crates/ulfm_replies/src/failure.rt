@@ -14,8 +14,9 @@ pub enum Failure {
     NoThread,
     /// Memory ran out.
     OutOfMemory,
-    /// A decision that a rank adopted is untrue of what the ranks did, no rank's own call made a revocation that a rank took
-    /// notice of, or what they did has no one order, or none for which the job's places are enough.
+    /// A decision that a rank adopted is untrue of what the ranks did, or no rank had proposed it before. Or a step is refused since the
+    /// decision isn't one for its rank to adopt (11). Or no rank's own call made a revocation that a rank took notice of. Or what they did
+    /// has no one order, or none that rings of the job's places allow. Or more is left of a sender in an inbox than such a ring has places.
     Untrue,
 }
 

@@ -40,6 +40,7 @@ pub use expanded::expand_reply;
 pub use failure::{Failure, failed, failed_line, failure_of};
 pub use laws::nowhere_is_as_read;
 pub use notes::{write_fault, write_notes};
+pub use options::MOST_THREADS;
 pub use reply::{
     DONE, INPUT_FAILED, JOB_REFUSED, NO_SCHEDULE, NOT_EXPECTED, OUTPUT_FAILED, PAST_LIMIT,
     RUN_FAILED, Reply, UNFINISHED, USAGE, check_reply, refusal,

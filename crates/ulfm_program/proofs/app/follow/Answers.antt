@@ -1,6 +1,6 @@
 use Rattle.std.proofs.Common.{◌≤◌, ℕ, arith, inl, inr, option_map, subst, sym, ◌∙◌}
 use Rattle.ulfm_program.proofs.Refused.{starved_gets, starved_begins}
-use Rattle.ulfm_program.proofs.Statuses.{known_status, no_usage}
+use Rattle.ulfm_program.proofs.Statuses.{known_status}
 use Rattle.ulfm_program.proofs.app.follow.Goals as goal
 
 pub returns-in-Err-OutOfMemory-clause-replies : goal.returns-in-Err-OutOfMemory-clause-replies
@@ -16,17 +16,17 @@ pub returns-clause-cut_off : goal.returns-clause-cut_off
 returns-clause-cut_off g c = starved_begins c.args.asked.now.form c.args.asked.now.form (option_map (λ s. s.now) c.args.asked.now.show) c.args.asked.now.wanted 1048577 _ _ _ _ c.write_starved-in-Err.ensures.failed
 
 pub write_reply-status-requires : goal.write_reply-status-requires
-write_reply-status-requires g c = (known_status _ _ _ _ _ _ c.in-Ok-told.ensures).whole
+write_reply-status-requires g c = let known = known_status _ _ _ _ _ _ c.in-Ok-told.ensures in (known.written, known.read)
 
 pub returns-in-Ok-told-clause-input_failed : goal.returns-in-Ok-told-clause-input_failed
 returns-in-Ok-told-clause-input_failed g c = λ five. absurd (elim c.write_reply-status.ensures.known [
-  | inl same ↦ (known_status _ _ _ _ _ _ c.in-Ok-told.ensures).whole.1 (sym same ∙ five)
+  | inl same ↦ (known_status _ _ _ _ _ _ c.in-Ok-told.ensures).read (sym same ∙ five)
   | inr four ↦ omega (arith, four, five)
 ])
 
 pub returns-in-Ok-told-clause-no_usage : goal.returns-in-Ok-told-clause-no_usage
 returns-in-Ok-told-clause-no_usage g c = λ two. elim c.write_reply-status.ensures.known [
-  | inl same ↦ no_usage _ _ _ _ _ _ c.in-Ok-told.ensures (sym same ∙ two)
+  | inl same ↦ (known_status _ _ _ _ _ _ c.in-Ok-told.ensures).no_usage (sym same ∙ two)
   | inr four ↦ omega (arith, four, two)
 ]
 

@@ -1,0 +1,99 @@
+-- What is found of a job at places.
+use Rattle.std.proofs.Common.{◌≡◌, ℕ, List, [], ◌∷◌, ◌++◌, Option, None, Some, Ok, refl, sym, subst, ◌∙◌}
+use Rattle.std.proofs.lemmas.List.Elements.{All-cons, All-head, All-nil, All-tail}
+use Rattle.std.specs.Prelude.{All}
+use Rattle.ulfm_reach.specs.declared.reach.Reach.TheVariants as reach
+use Rattle.ulfm_outcomes.proofs.Writable.{list-writable}
+use Rattle.ulfm_outcomes.specs.Outcomes.{IsList}
+use Rattle.ulfm_outcomes.specs.Text.{AreAscii}
+use Rattle.ulfm_job.specs.Job.{JobView}
+use Rattle.ulfm_outcomes.specs.Unmet.{MeetsExpected}
+use Rattle.ulfm_stops.specs.Place.{IsPlaceOf, job_at}
+use Rattle.ulfm_stops.specs.declared.place.Place.{Place}
+use Rattle.ulfm_stops.specs.declared.place.Place.TheVariants.{Nowhere, One, Two}
+use Rattle.ulfm_places.specs.Lists.{AreAllAscii, AreLists, IsListedAt}
+use Rattle.ulfm_places.specs.declared.listed.Listed.{Listed}
+use Rattle.ulfm_job.specs.declared.clause.Clause.{Clause}
+use Rattle.ulfm_stops.specs.Places.{places_of}
+use Rattle.ulfm_json.specs.declared.form.Form.{Form}
+use Rattle.ulfm_replies.specs.Stopped.{Asked, IsAskedAt, asked_at}
+use Rattle.ulfm_replies.specs.declared.command.ListOptions.{ListOptions}
+use Rattle.ulfm_judged.specs.EachPlace.{IsEachPlaceReply, IsJudgedEach, IsToldAt, listed_all, past_limit_at, places_in, row_at, together, unsearched}
+use Rattle.ulfm_judged.specs.Outcomes.{HasList, goals_asked, many}
+use Rattle.ulfm_judged.specs.ShowEach.{IsFirstPlace, IsShowEachReply, nowhere_at_all, shown_at, told_at, too_many_at}
+use Rattle.ulfm_judged.specs.declared.listed.FirstRow.{FirstRow}
+use Rattle.ulfm_judged.specs.declared.show_each.LookAt.{LookAt}
+use Rattle.ulfm_judged.specs.declared.told.Told.{Told as Kept}
+use Rattle.ulfm_judged.specs.declared.told.Told.TheVariants as kept
+use Rattle.ulfm_judged.specs.inside.Judging.{AreListedOf, IsFirstLook, IsListedOf, IsLookAtText, IsToldAtText, look_at_status, status_past, text_past}
+use Rattle.ulfm_judged.specs.inside.Looking.{IsFirstRow, IsLook, look_status, row_status, told_view}
+
+-- what is asked for at a place has the job of the place
+pub asked_at-job : (place : Place) (asked : Asked) → (asked_at place asked).job ≡ job_at place asked.job
+asked_at-job Nowhere asked = refl
+asked_at-job (One stop) asked = refl
+asked_at-job (Two first second) asked = refl
+
+-- the list of a place of the job
+listed_of : (asked : Asked) (limit : ℕ) (place : Place) (one : Listed) → IsPlaceOf asked.job place → IsListedAt asked.job limit place one → IsListedOf asked limit one
+listed_of asked limit place one inside at =
+    subst (λ (p : Place). IsPlaceOf asked.job p × HasList (job_at p asked.job) limit one.found) (sym at.at)
+    (inside, (at.reached.keys, subst (λ (found : List (List ℕ)). IsList (job_at place asked.job) limit (reach.All (record { keys = at.reached.keys; found = found }))) (sym at.found) at.whole))
+
+-- those of some of its places
+pub lists_of : (asked : Asked) (limit : ℕ) (places : List Place) (listed : List Listed) (past : Option Place) → AreLists asked.job limit places listed past → All (IsPlaceOf asked.job) places → AreListedOf asked limit listed
+lists_of asked limit places [] past lists inside = All-nil (IsListedOf asked limit)
+lists_of asked limit [] (one ∷ listed) past lists inside = absurd lists
+lists_of asked limit (place ∷ places) (one ∷ listed) past lists inside =
+    All-cons (IsListedOf asked limit) one listed (listed_of asked limit place one (All-head (IsPlaceOf asked.job) place places inside) lists.0)
+    (lists_of asked limit places listed past lists.1 (All-tail (IsPlaceOf asked.job) place places inside))
+
+-- what is told of a row at a place
+pub row_told_as : (form : Form) (options : ListOptions) (place : Place) (asked : Asked) (first : FirstRow) → MeetsExpected asked.job → IsFirstRow asked.job asked.rows options.is_brief options.limit (Some first)
+    → IsToldAt form options place asked (row_status (told_view first.told)) (row_at form place first.number (told_view first.told))
+row_told_as form options place asked first meets is = by first.told is.3.2
+  where
+    by : (told : Kept) → IsLook asked.job is.3.0 options.is_brief options.limit (Some told) → IsToldAt form options place asked (row_status (told_view told)) (row_at form place first.number (told_view told))
+    by (kept.Schedule text) shows = together first.number is.0 is.3.0 _ meets is.1 is.2 is.3.1 shows
+    by (kept.Many limit) shows =
+        subst (λ (n : ℕ). IsToldAt form options place asked 7 (row_at form place first.number (many n))) (sym shows.0) (unsearched first.number is.0 is.3.0 meets is.1 is.2 is.3.1 (sym shows.0 ∙ shows.0, shows.1))
+
+-- the reply to what came of a search at each place
+pub show_each_as : (form : Form) (options : ListOptions) (stops : ℕ) (show bytes : List ℕ) (asked : Asked) (answers : List Clause) (look : Option LookAt) (text : List ℕ) → IsAskedAt Nowhere bytes asked → goals_asked asked show ≡ Ok answers
+    → IsFirstLook asked.job answers options.is_brief options.limit (places_of stops asked.job) look → IsLookAtText form options.drawn look text → IsShowEachReply form options stops show bytes (look_at_status look) text
+show_each_as form options stops show bytes asked answers None text read named never is =
+    subst (λ (t : List ℕ). IsShowEachReply form options stops show bytes 8 t) (sym is) (nowhere_at_all asked answers read named never)
+show_each_as form options stops show bytes asked answers (Some look) text read named first is = by look.told first.3.2 is
+  where
+    place : IsFirstPlace asked.job answers stops look.place
+    place = record { number = first.0; there = first.1; before = first.2 }
+
+    by : (told : Kept) → IsLook (job_at look.place asked.job) first.3.0 options.is_brief options.limit (Some told) → IsToldAtText form options.drawn look.place (told_view told) text
+        → IsShowEachReply form options stops show bytes (look_status (Some (told_view told))) text
+    by (kept.Schedule words) told is = shown_at asked answers look.place read named place first.3.0 first.3.1 _ text told is
+    by (kept.Many limit) told is =
+        subst (λ (t : List ℕ). IsShowEachReply form options stops show bytes 7 t) (sym is)
+        (subst (λ (n : ℕ). IsShowEachReply form options stops show bytes 7 (told_at form look.place (many n))) (sym told.0)
+        (too_many_at asked answers look.place read named place first.3.0 first.3.1 (sym told.0 ∙ told.0, told.1)))
+
+-- what is found at a place can be written
+one-writable : (j : JobView) (limit : ℕ) (place : Place) (one : Listed) → IsListedAt j limit place one → AreAscii one.found
+one-writable j limit place one at = subst AreAscii (sym at.found) (list-writable _ (job_at place j) limit (reach.All at.reached) at.whole)
+
+-- and so can all that is
+pub lists-writable : (j : JobView) (limit : ℕ) (places : List Place) (listed : List Listed) (past : Option Place) → AreLists j limit places listed past → AreAllAscii listed
+lists-writable j limit places [] past lists = All-nil (λ (one : Listed). AreAscii one.found)
+lists-writable j limit [] (one ∷ listed) past lists = absurd lists
+lists-writable j limit (place ∷ places) (one ∷ listed) past lists =
+    All-cons (λ (one : Listed). AreAscii one.found) one listed (one-writable j limit place one lists.0) (lists-writable j limit places listed past lists.1)
+
+-- the lists of all places with what is told below them
+pub each_as : (form : Form) (options : ListOptions) (stops : ℕ) (bytes : List ℕ) (asked : Asked) (places : List Place) (listed : List Listed) (past : Option Place) (status : ℕ) (text words : List ℕ) → IsAskedAt Nowhere bytes asked
+    → AreLists asked.job options.limit places listed past → places ≡ places_of stops asked.job → IsJudgedEach form options asked (places_in listed) (status_past options listed past) status words
+    → text ≡ text_past form bytes asked.job options listed past ++ words → IsEachPlaceReply form options stops bytes status text
+each_as form options stops bytes asked places listed None status text words read are is judged same =
+    subst (λ (t : List ℕ). IsEachPlaceReply form options stops bytes status t) (sym same)
+    (listed_all asked listed status words read (subst (λ (ps : List Place). AreLists asked.job options.limit ps listed None) is are) judged)
+each_as form options stops bytes asked places listed (Some place) status text words read are is judged same =
+    subst (λ (t : List ℕ). IsEachPlaceReply form options stops bytes status t) (sym same)
+    (past_limit_at asked listed place status words read (subst (λ (ps : List Place). AreLists asked.job options.limit ps listed (Some place)) is are) judged)

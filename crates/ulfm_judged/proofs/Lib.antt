@@ -1,0 +1,6 @@
+pub mod Writable
+pub mod Looked
+pub mod Judged
+pub mod EachPlace
+pub mod Unfound
+pub mod Statuses

@@ -1,0 +1,79 @@
+-- The statuses that replies to `outcomes` have, and that memory may run out for each.
+use Rattle.std.proofs.Common.{ℕ, Bool, true, false, List, Option, Some, None}
+use Rattle.ulfm_job.specs.Job.{JobView}
+use Rattle.ulfm_job.specs.declared.clause.Clause.{Clause}
+use Rattle.ulfm_stops.specs.declared.place.Place.{Place}
+use Rattle.ulfm_stops.specs.declared.place.Place.TheVariants.{Nowhere}
+use Rattle.ulfm_outcomes.specs.Text.{some_never_ends}
+use Rattle.ulfm_places.specs.Union.{some_never_ends as each_never_ends}
+use Rattle.ulfm_json.specs.declared.form.Form.{Form}
+use Rattle.ulfm_replies.proofs.Statuses as statuses
+use Rattle.ulfm_replies.proofs.Statuses.{IsKnown, no_play}
+use Rattle.ulfm_replies.specs.Failure.{out_of_memory_in}
+use Rattle.ulfm_replies.specs.Stopped.{Asked}
+use Rattle.ulfm_replies.specs.declared.command.ListOptions.{ListOptions}
+use Rattle.ulfm_judged.specs.EachPlace as each
+use Rattle.ulfm_judged.specs.EachPlace.{IsEachPlaceReply, IsJudgedEach}
+use Rattle.ulfm_judged.specs.ListReply.{IsReplyBy}
+use Rattle.ulfm_judged.specs.Outcomes.{IsJudged, IsOutcomesReply, IsShowReply, list_status, good, unmet, together, unsearched, listed, past_limit, not_listed, unlisted, shown, nowhere, too_many, unnamed, not_shown, unshown}
+use Rattle.ulfm_judged.specs.ShowEach as each_shown
+use Rattle.ulfm_judged.specs.ShowEach.{IsShowEachReply}
+
+list_alone : (is_strict is_open : Bool) → IsKnown (list_status is_strict is_open)
+list_alone true true = statuses.left_open
+list_alone true false = statuses.done
+list_alone false is_open = statuses.done
+
+judged_known : (form : Form) (options : ListOptions) (job : JobView) (rows : List (List Clause)) (found : List (List ℕ)) (list : List ℕ) (status : ℕ) (text : List ℕ) → IsJudged form options job rows found list status text → IsKnown status
+judged_known form options job rows found list status text (good meets none) = list_alone options.is_strict (some_never_ends found)
+judged_known form options job rows found list status text (unmet u goals told first is shows) = statuses.not_wanted
+judged_known form options job rows found list status text (together number row goals words meets here none are shows) = statuses.not_wanted
+judged_known form options job rows found list status text (unsearched number row goals meets here none are shows) = statuses.past
+
+list_known : (form : Form) (options : ListOptions) (bytes : List ℕ) (status : ℕ) (text : List ℕ) → IsOutcomesReply form options bytes status text → IsKnown status
+list_known form options bytes status text (listed asked reached k words is all judged) = judged_known form options asked.job _ _ _ status text judged
+list_known form options bytes status text (past_limit asked is many) = statuses.past
+list_known form options bytes status text (not_listed k words is) = no_play form options.place bytes status text is
+list_known form options bytes status text (unlisted told) = statuses.run_fails
+
+show_known : (form : Form) (options : ListOptions) (show bytes : List ℕ) (status : ℕ) (text : List ℕ) → IsShowReply form options show bytes status text → IsKnown status
+show_known form options show bytes status text (shown asked answers is named goals are words picture told same) = statuses.done
+show_known form options show bytes status text (nowhere job answers is named goals are not) = statuses.nowhere
+show_known form options show bytes status text (too_many job answers is named goals are told) = statuses.past
+show_known form options show bytes status text (unnamed job part is named) = statuses.no_job
+show_known form options show bytes status text (not_shown k words is) = no_play form options.place bytes status text is
+show_known form options show bytes status text (unshown told) = statuses.run_fails
+
+each_judged_known : (form : Form) (options : ListOptions) (asked : Asked) (places : List Place) (alone status : ℕ) (text : List ℕ) → IsKnown alone → IsJudgedEach form options asked places alone status text → IsKnown status
+each_judged_known form options asked places alone status text known (each.wanted all) = known
+each_judged_known form options asked places alone status text known (each.found number place words here before is) = statuses.not_wanted
+each_judged_known form options asked places alone status text known (each.unfound number place words here before none is) = statuses.past
+
+each_known : (form : Form) (options : ListOptions) (stops : ℕ) (bytes : List ℕ) (status : ℕ) (text : List ℕ) → IsEachPlaceReply form options stops bytes status text → IsKnown status
+each_known form options stops bytes status text (each.listed_all asked lists k words is are judged) = each_judged_known form options asked _ _ status _ (list_alone options.is_strict (each_never_ends lists)) judged
+each_known form options stops bytes status text (each.past_limit_at asked lists place k words is are judged) = each_judged_known form options asked _ _ status _ statuses.past judged
+each_known form options stops bytes status text (each.no_room_for_stops asked is many) = statuses.no_job
+each_known form options stops bytes status text (each.not_listed_at_all k words is) = no_play form Nowhere bytes status text is
+each_known form options stops bytes status text (each.no_memory_for_lists told) = statuses.run_fails
+
+show_each_known : (form : Form) (options : ListOptions) (stops : ℕ) (show bytes : List ℕ) (status : ℕ) (text : List ℕ) → IsShowEachReply form options stops show bytes status text → IsKnown status
+show_each_known form options stops show bytes status text (each_shown.shown_at asked answers place is named first goals are words told shows same) = statuses.done
+show_each_known form options stops show bytes status text (each_shown.nowhere_at_all asked answers is named none) = statuses.nowhere
+show_each_known form options stops show bytes status text (each_shown.too_many_at asked answers place is named first goals are told) = statuses.past
+show_each_known form options stops show bytes status text (each_shown.unnamed_at_all asked part is named) = statuses.no_job
+show_each_known form options stops show bytes status text (each_shown.no_room_to_show asked is many) = statuses.no_job
+show_each_known form options stops show bytes status text (each_shown.not_shown_at_all k words is) = no_play form Nowhere bytes status text is
+show_each_known form options stops show bytes status text (each_shown.no_memory_to_show_each told) = statuses.run_fails
+
+pub by_known : (form : Form) (show : Option (List ℕ)) (stops : Option ℕ) (options : ListOptions) (bytes : List ℕ) (status : ℕ) (text : List ℕ) → IsReplyBy form show stops options bytes status text → IsKnown status
+by_known form None None options bytes status text h = list_known form options bytes status text h
+by_known form None (Some stops) options bytes status text h = each_known form options stops bytes status text h
+by_known form (Some goals) None options bytes status text h = show_known form options goals bytes status text h
+by_known form (Some goals) (Some stops) options bytes status text h = show_each_known form options stops goals bytes status text h
+
+-- out of memory is what each may come to
+pub starved_list : (told form : Form) (show : Option (List ℕ)) (stops : Option ℕ) (options : ListOptions) (bytes : List ℕ) → IsReplyBy form show stops options bytes 3 (out_of_memory_in told)
+starved_list told form None None options bytes = unlisted told
+starved_list told form None (Some stops) options bytes = each.no_memory_for_lists told
+starved_list told form (Some goals) None options bytes = unshown told
+starved_list told form (Some goals) (Some stops) options bytes = each_shown.no_memory_to_show_each told

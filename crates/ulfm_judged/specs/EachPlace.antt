@@ -1,0 +1,118 @@
+-- What `outcomes --stops` writes for a job.
+use Rattle.std.specs.Prelude.{◌≡◌, ◌<◌, ◌⊎◌, ℕ, ◌+◌, List, [], ◌++◌, Some, None, All, codes, map, slice_get, take}
+use Rattle.std.specs.Fmt.{decimal}
+use Rattle.ulfm_job.specs.declared.clause.Clause.{Clause}
+use Rattle.ulfm_job.specs.declared.fault.JobFault.TheVariants.{TooLarge}
+use Rattle.ulfm_job.specs.Job.{step_count}
+use Rattle.ulfm_stops.specs.Places.{places_of}
+use Rattle.ulfm_stops.specs.Text.{place_text}
+use Rattle.ulfm_stops.specs.declared.place.Place.{Place}
+use Rattle.ulfm_stops.specs.declared.place.Place.TheVariants.{Nowhere}
+use Rattle.ulfm_outcomes.specs.Unmet.{IsUnmet, MeetsExpected}
+use Rattle.ulfm_outcomes.specs.declared.goals.Goals.{Goals}
+use Rattle.ulfm_outcomes.specs.declared.unmet.Unmet.{Unmet}
+use Rattle.ulfm_places.specs.Lists.{AreLists}
+use Rattle.ulfm_places.specs.Numbers.{filed_number}
+use Rattle.ulfm_lists.specs.Objects.{lists_in}
+use Rattle.ulfm_places.specs.Union.{some_never_ends}
+use Rattle.ulfm_places.specs.declared.listed.Listed.{Listed}
+use Rattle.ulfm_json.specs.declared.form.Form.{Form}
+use Rattle.ulfm_json.specs.declared.form.Form.TheVariants.{Words, Json}
+use Rattle.ulfm_replies.specs.Failure.{out_of_memory_in}
+use Rattle.ulfm_replies.specs.Replies.{refused_in}
+use Rattle.ulfm_replies.specs.Stopped.{Asked, IsAskedAt, IsRefusal, asked_at}
+use Rattle.ulfm_replies.specs.declared.command.ListOptions.{ListOptions}
+use Rattle.ulfm_judged.specs.Outcomes.{AreOfRow, IsFirstUnmet, IsTold, NoneComes, Told, list_status, many, schedule, told_json, told_words, unmet_json}
+
+-- the step as the file numbers it
+abbrev pub filed : Place → Unmet → Unmet
+filed place unmet = record unmet { step = filed_number place unmet.rank unmet.step }
+
+-- the key of a place, and a comma
+abbrev pub at_json : Place → List ℕ
+at_json place = codes "\"at\":\"" ++ place_text place ++ codes "\","
+
+-- the end of a line: a place
+abbrev pub at_words : Place → List ℕ
+at_words place = codes " at " ++ place_text place ++ codes "\n"
+
+-- the rest of an object: the place, and what was told
+abbrev pub rest_json : Place → Told → List ℕ
+rest_json place told = at_json place ++ told_json told ++ codes "}\n"
+
+-- at a place a step has an answer that it doesn't expect, in words
+abbrev pub unmet_at_words : Place → Unmet → List ℕ
+unmet_at_words place unmet = codes "not as expected: " ++ decimal unmet.rank ++ codes "." ++ decimal unmet.step ++ at_words place
+
+-- that it has, and what was told of it
+abbrev pub unmet_at : Form → Place → Unmet → Told → List ℕ
+unmet_at Words place unmet told = unmet_at_words place unmet ++ told_words told
+unmet_at Json place unmet told = unmet_json unmet ++ rest_json place told
+
+-- the beginning of a line: a row of `never` by its number, from 0, whose answers all come together
+abbrev pub row_head : ℕ → List ℕ
+row_head number = codes "come together: never[" ++ decimal number ++ codes "]"
+
+-- that they do so at a place, in words
+abbrev pub row_at_words : Place → ℕ → List ℕ
+row_at_words place number = row_head number ++ at_words place
+
+-- the same, and what was told of them
+abbrev pub row_at : Form → Place → ℕ → Told → List ℕ
+row_at Words place number told = row_at_words place number ++ told_words told
+row_at Json place number told = codes "{\"never\":" ++ decimal number ++ codes "," ++ rest_json place told
+
+-- the line that there are more states than the limit at a place
+abbrev pub more_at : Form → ℕ → Place → List ℕ
+more_at Words limit place = codes "more than " ++ decimal limit ++ codes " states at " ++ place_text place ++ codes "\n"
+more_at Json limit place = codes "{\"more_states_than\":" ++ decimal limit ++ codes ",\"at\":\"" ++ place_text place ++ codes "\"}\n"
+
+-- no schedule has an answer that its step doesn't expect, nor all answers of a row of `never`
+pub record IsWanted (asked : Asked) : Type 0 where
+  pub meets : MeetsExpected asked.job
+  pub none : NoneComes asked.job asked.rows
+
+-- The status, and what is told of a place where some schedule has one. With 9, by a list of all outcomes there, the first step that has an
+-- answer which it doesn't expect, and a schedule that shows it, or that more states than the limit would be looked at for it. Where there
+-- is no such step, with 9 the first row of `never` that comes together, with a schedule, or with 7 the first that can't be looked for
+-- within the limit. Steps are numbered as in the file, and in the schedule as in the job with these stops.
+pub data IsToldAt (form : Form) (options : ListOptions) (place : Place) (asked : Asked) : ℕ → List ℕ → Type 0 where
+  unmet : (one : Unmet) (goals : Goals) (told : Told) → IsFirstUnmet asked.job options.limit one → IsUnmet asked.job one goals → IsTold asked.job goals options.is_brief options.limit told
+      → IsToldAt form options place asked 9 (unmet_at form place (filed place one) told)
+  together : (number : ℕ) (row : List Clause) (goals : Goals) (text : List ℕ) → MeetsExpected asked.job → slice_get asked.rows number ≡ Some row → NoneComes asked.job (take number asked.rows) → AreOfRow asked.job row goals
+      → IsTold asked.job goals options.is_brief options.limit (schedule text) → IsToldAt form options place asked 9 (row_at form place number (schedule text))
+  unsearched : (number : ℕ) (row : List Clause) (goals : Goals) → MeetsExpected asked.job → slice_get asked.rows number ≡ Some row → NoneComes asked.job (take number asked.rows) → AreOfRow asked.job row goals
+      → IsTold asked.job goals options.is_brief options.limit (many options.limit) → IsToldAt form options place asked 7 (row_at form place number (many options.limit))
+
+-- at a place no schedule is found that has one: none does, or for some row that isn't known
+abbrev pub IsUnfound : Form → ListOptions → Asked → Place → Type 0
+IsUnfound form options asked place = IsWanted (asked_at place asked) ⊎ ((text : List ℕ) × IsToldAt form options place (asked_at place asked) 7 text)
+
+-- The status and what is told below the lists of these places: nothing, with the status of the lists, where the job is wanted at each of
+-- them. With 9, of the first place where a schedule is found that isn't wanted. Where none is found, with 7, of the first place with a row
+-- that can't be looked for.
+pub data IsJudgedEach (form : Form) (options : ListOptions) (asked : Asked) (places : List Place) (status : ℕ) : ℕ → List ℕ → Type 0 where
+  wanted : All (λ place. IsWanted (asked_at place asked)) places → IsJudgedEach form options asked places status status []
+  found : (number : ℕ) (place : Place) (text : List ℕ) → slice_get places number ≡ Some place → All (IsUnfound form options asked) (take number places)
+      → IsToldAt form options place (asked_at place asked) 9 text → IsJudgedEach form options asked places status 9 text
+  unfound : (number : ℕ) (place : Place) (text : List ℕ) → slice_get places number ≡ Some place → All (λ place. IsWanted (asked_at place asked)) (take number places)
+      → All (IsUnfound form options asked) places → IsToldAt form options place (asked_at place asked) 7 text → IsJudgedEach form options asked places status 7 text
+
+-- the places of lists
+abbrev pub places_in : List Listed → List Place
+places_in listed = map (λ (one : Listed). one.place) listed
+
+-- The status and the text, in this form, that `outcomes --stops` gives for these bytes: the lists of all outcomes at all places with at
+-- most so many stops, as one list, with what is told below it; with 7 the line alone that there are more states than the limit at the
+-- first place where there are, or below it, with 9, what is told of a place before; with 1 the line of the job's refusal, also of one
+-- that has no room for so many stops; with 3 the line that memory ran out.
+pub data IsEachPlaceReply (form : Form) (options : ListOptions) (stops : ℕ) (bytes : List ℕ) : ℕ → List ℕ → Type 0 where
+  listed_all : (asked : Asked) (listed : List Listed) (status : ℕ) (text : List ℕ) → IsAskedAt Nowhere bytes asked → AreLists asked.job options.limit (places_of stops asked.job) listed None
+      → IsJudgedEach form options asked (places_in listed) (list_status options.is_strict (some_never_ends listed)) status text
+      → IsEachPlaceReply form options stops bytes status (lists_in form bytes asked.job listed ++ text)
+  past_limit_at : (asked : Asked) (listed : List Listed) (place : Place) (status : ℕ) (text : List ℕ) → IsAskedAt Nowhere bytes asked → AreLists asked.job options.limit (places_of stops asked.job) listed (Some place)
+      → IsJudgedEach form options asked (places_in listed) 7 status text
+      → IsEachPlaceReply form options stops bytes status (more_at form options.limit place ++ text)
+  no_room_for_stops : (asked : Asked) → IsAskedAt Nowhere bytes asked → 256 < step_count asked.job.scripts + stops → IsEachPlaceReply form options stops bytes 1 (refused_in form TooLarge)
+  not_listed_at_all : (status : ℕ) (text : List ℕ) → IsRefusal form Nowhere bytes status text → IsEachPlaceReply form options stops bytes status text
+  no_memory_for_lists : (told : Form) → IsEachPlaceReply form options stops bytes 3 (out_of_memory_in told)

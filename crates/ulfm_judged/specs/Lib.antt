@@ -1,0 +1,5 @@
+pub mod Outcomes
+pub mod EachPlace
+pub mod ShowEach
+pub mod ListReply
+pub mod inside

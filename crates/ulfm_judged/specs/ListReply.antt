@@ -1,0 +1,18 @@
+-- What `outcomes` writes, with `--show` and `--stops` or without.
+use Rattle.std.specs.Prelude.{ℕ, List, Option, Some, None}
+use Rattle.ulfm_json.specs.declared.form.Form.{Form}
+use Rattle.ulfm_replies.specs.declared.command.ListOptions.{ListOptions}
+use Rattle.ulfm_judged.specs.EachPlace.{IsEachPlaceReply}
+use Rattle.ulfm_judged.specs.Outcomes.{IsOutcomesReply, IsShowReply}
+use Rattle.ulfm_judged.specs.ShowEach.{IsShowEachReply}
+
+-- the reply by so many stops, where they are given
+abbrev pub IsReplyBy : Form → Option (List ℕ) → Option ℕ → ListOptions → List ℕ → ℕ → List ℕ → Type 0
+IsReplyBy form None None options bytes status text = IsOutcomesReply form options bytes status text
+IsReplyBy form None (Some stops) options bytes status text = IsEachPlaceReply form options stops bytes status text
+IsReplyBy form (Some show) None options bytes status text = IsShowReply form options show bytes status text
+IsReplyBy form (Some show) (Some stops) options bytes status text = IsShowEachReply form options stops show bytes status text
+
+-- the reply of `outcomes`
+abbrev pub IsListReply : Form → Option (List ℕ) → ListOptions → List ℕ → ℕ → List ℕ → Type 0
+IsListReply form show options bytes status text = IsReplyBy form show options.stops options bytes status text

@@ -1,0 +1,3 @@
+-- What private functions and proofs cite of replies to `outcomes`.
+pub mod Looking
+pub mod Judging

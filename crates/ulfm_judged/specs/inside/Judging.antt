@@ -1,0 +1,105 @@
+-- What single functions find of a job at places.
+use Rattle.std.specs.Prelude.{◌≡◌, ◌≤◌, ℕ, ◌==◌, Bool, false, List, Option, Some, None, All, max, option_map, slice_get, string_bytes, take}
+use Rattle.ulfm_job.specs.declared.clause.Clause.{Clause}
+use Rattle.ulfm_job.specs.Job.{JobView}
+use Rattle.ulfm_stops.specs.Place.{IsPlaceOf, job_at}
+use Rattle.ulfm_stops.specs.declared.place.Place.{Place}
+use Rattle.ulfm_lists.specs.Objects.{lists_in}
+use Rattle.ulfm_places.specs.Union.{some_never_ends}
+use Rattle.ulfm_places.specs.declared.listed.Listed.{Listed}
+use Rattle.ulfm_places.specs.declared.lists.Lists.{Lists}
+use Rattle.ulfm_json.specs.declared.form.Form.{Form}
+use Rattle.ulfm_replies.specs.Stopped.{Asked, asked_at, asked_view}
+use Rattle.ulfm_reader.specs.declared.reading.Reading.{Reading}
+use Rattle.ulfm_replies.specs.declared.command.ListOptions.{ListOptions}
+use Rattle.ulfm_replies.specs.declared.reply.Reply.{Reply}
+use Rattle.ulfm_judged.specs.EachPlace.{IsJudgedEach, IsToldAt, IsUnfound, IsWanted, more_at, places_in}
+use Rattle.ulfm_judged.specs.Outcomes.{HasList, Told, list_status, many, nowhere_in, schedule}
+use Rattle.ulfm_judged.specs.ShowEach.{AreGoalsAt, IsNowhereAt, told_at}
+use Rattle.ulfm_judged.specs.declared.show_each.LookAt.{LookAt}
+use Rattle.ulfm_judged.specs.declared.told.Told.{Told as Kept}
+use Rattle.ulfm_judged.specs.inside.Looking.{IsLook, look_status, told_view}
+use Rattle.ulfm_outcomes.specs.declared.goals.Goals.{Goals}
+use Rattle.ulfm_draw.specs.declared.style.Style.{Style}
+
+-- so many threads share the places: as many as are asked for, and one at least, else 64 at most
+abbrev pub AreSharing : Option ℕ → ℕ → Type 0
+AreSharing (Some asked) threads = threads ≡ max 1 asked
+AreSharing None threads = threads ≤ 64
+
+-- the list of one of the job's places
+abbrev pub IsListedOf : Asked → ℕ → Listed → Type 0
+IsListedOf asked limit one = IsPlaceOf asked.job one.place × HasList (job_at one.place asked.job) limit one.found
+
+-- the lists of some of them
+abbrev pub AreListedOf : Asked → ℕ → List Listed → Type 0
+AreListedOf asked limit listed = All (IsListedOf asked limit) listed
+
+-- this is what is asked for with the stops of a place, or there are none
+abbrev pub IsStopped : Place → Asked → Option Reading → Type 0
+IsStopped place asked None = asked_at place asked ≡ asked
+IsStopped place asked (Some made) = asked_view made ≡ asked_at place asked
+
+-- this is wanted, or that is told of it
+abbrev pub IsUnwanted : Form → ListOptions → Place → Asked → Option Reply → Type 0
+IsUnwanted form options place asked None = IsWanted asked
+IsUnwanted form options place asked (Some reply) = IsToldAt form options place asked reply.status (string_bytes reply.text)
+
+-- it is wanted at each of these places, or that is told of them, whatever the status of the lists is
+abbrev pub IsFirstUnwanted : Form → ListOptions → Asked → List Place → Option Reply → Type 0
+IsFirstUnwanted form options asked places None = All (λ place. IsWanted (asked_at place asked)) places
+IsFirstUnwanted form options asked places (Some reply) = (status : ℕ) → IsJudgedEach form options asked places status reply.status (string_bytes reply.text)
+
+-- a schedule that isn't wanted was found, by what is told
+abbrev pub is_found : Option Reply → Bool
+is_found None = false
+is_found (Some reply) = reply.status == 9
+
+-- of so many of the lists none has a schedule that was found: at each of their places it is wanted, or that is told of the first with a row
+-- that can't be looked for
+abbrev pub IsUnfoundUpTo : Form → ListOptions → Asked → List Listed → ℕ → Option Reply → Type 0
+IsUnfoundUpTo form options asked listed count None = All (λ (one : Listed). IsWanted (asked_at one.place asked)) (take count listed)
+IsUnfoundUpTo form options asked listed count (Some reply) = (number : ℕ) × (place : Place) × (slice_get (places_in listed) number ≡ Some place) × All (λ p. IsWanted (asked_at p asked)) (take number (places_in listed))
+    × All (λ (one : Listed). IsUnfound form options asked one.place) (take count listed) × (reply.status ≡ 7) × IsToldAt form options place (asked_at place asked) 7 (string_bytes reply.text)
+
+-- the status of lists below which nothing is told
+abbrev pub status_past : ListOptions → List Listed → Option Place → ℕ
+status_past options listed None = list_status options.is_strict (some_never_ends listed)
+status_past options listed (Some place) = 7
+
+-- that of these lists
+abbrev pub lists_status : ListOptions → Lists → ℕ
+lists_status options lists = status_past options lists.listed.items lists.past_limit
+
+-- the text of lists, or that they come past the limit
+abbrev pub text_past : Form → List ℕ → JobView → ListOptions → List Listed → Option Place → List ℕ
+text_past form bytes job options listed None = lists_in form bytes job listed
+text_past form bytes job options listed (Some place) = more_at form options.limit place
+
+-- that of these lists
+abbrev pub lists_text : Form → List ℕ → JobView → ListOptions → Lists → List ℕ
+lists_text form bytes job options lists = text_past form bytes job options lists.listed.items lists.past_limit
+
+-- a search at a place for answers came to nothing, since no schedule shows them, or to what is told
+abbrev pub IsLookAt : JobView → List Clause → Bool → ℕ → Place → Option Kept → Type 0
+IsLookAt job clauses is_brief limit place look = (goals : Goals) × AreGoalsAt place job clauses goals × IsLook (job_at place job) goals is_brief limit look
+
+-- none of these places shows them, or of the first that does, or can't be looked at, that is told
+abbrev pub IsFirstLook : JobView → List Clause → Bool → ℕ → List Place → Option LookAt → Type 0
+IsFirstLook job clauses is_brief limit places None = All (IsNowhereAt job clauses) places
+IsFirstLook job clauses is_brief limit places (Some look) = (number : ℕ) × (slice_get places number ≡ Some look.place)
+    × All (IsNowhereAt job clauses) (take number places) × IsLookAt job clauses is_brief limit look.place (Some look.told)
+
+-- the text of what came of a search at a place: that, where it is no schedule that is to be drawn
+abbrev pub IsToldAtText : Form → Option Style → Place → Told → List ℕ → Type 0
+IsToldAtText form drawn place (schedule words) text = drawn ≡ None → text ≡ told_at form place (schedule words)
+IsToldAtText form drawn place (many limit) text = text ≡ told_at form place (many limit)
+
+-- the same of a search at each place
+abbrev pub IsLookAtText : Form → Option Style → Option LookAt → List ℕ → Type 0
+IsLookAtText form drawn None text = text ≡ nowhere_in form
+IsLookAtText form drawn (Some look) text = IsToldAtText form drawn look.place (told_view look.told) text
+
+-- its status
+abbrev pub look_at_status : Option LookAt → ℕ
+look_at_status look = look_status (option_map (λ (l : LookAt). told_view l.told) look)

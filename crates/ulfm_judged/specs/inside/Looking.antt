@@ -1,0 +1,66 @@
+-- What single functions find that look for schedules.
+use Rattle.std.specs.Prelude.{◌≡◌, ℕ, ◌==◌, Bool, false, ◌&&◌, List, [], ◌∷◌, Option, Some, None, slice_get, string_bytes, take}
+use Rattle.std.specs.List.{list_all, list_any}
+use Rattle.ulfm_job.specs.Begins.{begins}
+use Rattle.ulfm_job.specs.declared.clause.Clause.{Clause}
+use Rattle.ulfm_job.specs.Job.{JobView}
+use Rattle.ulfm_outcomes.specs.Goals.{IsPossible}
+use Rattle.ulfm_outcomes.specs.declared.goals.Goals.{Goals}
+use Rattle.ulfm_outcomes.specs.declared.open_step.OpenStep.{OpenStep}
+use Rattle.ulfm_draw.specs.declared.style.Style.{Style}
+use Rattle.ulfm_json.specs.declared.form.Form.{Form}
+use Rattle.ulfm_judged.specs.Outcomes.{AreOfRow, IsTold, NeverComes, NoneComes, Told, many, nowhere_in, schedule, told_in}
+use Rattle.ulfm_judged.specs.declared.listed.FirstRow.{FirstRow}
+use Rattle.ulfm_judged.specs.declared.told.Told.{Told as Kept}
+use Rattle.ulfm_judged.specs.declared.told.Told.TheVariants as kept
+
+-- what was told, without the form that it has in memory
+abbrev pub told_view : Kept → Told
+told_view (kept.Schedule text) = schedule (string_bytes text)
+told_view (kept.Many limit) = many limit
+
+-- a search for these goals came to nothing, since no schedule shows them, or to what is told
+abbrev pub IsLook : JobView → Goals → Bool → ℕ → Option Kept → Type 0
+IsLook job goals is_brief limit None = ¬ IsPossible job goals
+IsLook job goals is_brief limit (Some told) = IsTold job goals is_brief limit (told_view told)
+
+-- the same for the answers of a row: none for one that isn't looked at
+abbrev pub IsLookForRow : JobView → List Clause → Bool → ℕ → Option Kept → Type 0
+IsLookForRow job row is_brief limit None = NeverComes job row
+IsLookForRow job row is_brief limit (Some told) = (goals : Goals) × AreOfRow job row goals × IsLook job goals is_brief limit (Some told)
+
+-- the row of a list tells of an answer that begins as the clause says
+abbrev pub tells : Clause → List ℕ → Bool
+tells c (rank ∷ step ∷ words) = (rank == c.rank) && (step == c.step) && begins words c.words
+tells c _ = false
+
+-- the row of a list tells that the step never ends
+abbrev pub tells_open : OpenStep → List ℕ → Bool
+tells_open o (rank ∷ step ∷ []) = (rank == o.rank) && (step == o.step)
+tells_open o _ = false
+
+-- the list has each of these answers, and each of these open steps
+abbrev pub has_each : List (List ℕ) → Goals → Bool
+has_each found goals = list_all (λ (c : Clause). list_any (tells c) found) goals.answers.items && list_all (λ (o : OpenStep). list_any (tells_open o) found) goals.left.items
+
+-- no row came together, or none before that of this number, of which that is told
+abbrev pub IsFirstRow : JobView → List (List Clause) → Bool → ℕ → Option FirstRow → Type 0
+IsFirstRow job rows is_brief limit None = NoneComes job rows
+IsFirstRow job rows is_brief limit (Some first) = (row : List Clause) × (slice_get rows first.number ≡ Some row) × NoneComes job (take first.number rows) × IsLookForRow job row is_brief limit (Some first.told)
+
+-- the status of what came of a search for answers that the words name, or that no schedule shows them
+abbrev pub look_status : Option Told → ℕ
+look_status None = 8
+look_status (Some (schedule text)) = 0
+look_status (Some (many limit)) = 7
+
+-- the text of what came of a search: that, where it is no schedule that is to be drawn
+abbrev pub IsLookText : Form → Option Style → Option Told → List ℕ → Type 0
+IsLookText form drawn None text = text ≡ nowhere_in form
+IsLookText form drawn (Some (schedule words)) text = drawn ≡ None → text ≡ told_in form (schedule words)
+IsLookText form drawn (Some (many limit)) text = text ≡ told_in form (many limit)
+
+-- the status of a list below which this is told of a row
+abbrev pub row_status : Told → ℕ
+row_status (schedule text) = 9
+row_status (many limit) = 7

@@ -1,0 +1,153 @@
+//! The reply of `outcomes --stops`: what each step may be answered wherever ranks stop, and below it what the job doesn't want at the first
+//! place where it comes.
+ghost use Rattle.std.specs.Prelude.{◌≡◌, ◌<◌, ◌≤◌, ◌++◌, ℕ, List, IfOk, string_bytes};
+ghost use Rattle.ulfm_places.specs.Lists.{AreAllAscii};
+ghost use Rattle.ulfm_replies.specs.Stopped.{asked_view};
+ghost use Rattle.ulfm_judged.specs.EachPlace.{IsEachPlaceReply, IsJudgedEach, places_in};
+ghost use Rattle.ulfm_judged.specs.inside.Judging.{AreListedOf, AreSharing, lists_status, lists_text, text_past};
+
+use crate::listed::list_status;
+use crate::told_at::push_more_at;
+use crate::unwanted::first_unwanted;
+use std::alloc::{AllocError, Global};
+use std::thread;
+use std::thread::Threads;
+use ulfm_job::{Job, JobFault, MOST_STEPS};
+use ulfm_json::Form;
+use ulfm_lists::lists_in;
+use ulfm_places::{Listed, Lists, Onlooker, list_places, some_never_ends};
+use ulfm_reader::Reading;
+use ulfm_replies::{ListOptions, MOST_THREADS, PAST_LIMIT, Place, Reply, asked_at, refusal};
+use ulfm_stops::places;
+
+/// The reply of `outcomes --stops` with these options. The onlooker is told how far the lists and the searches are.
+pub fn each_place_reply<R, L>(
+    rt: &R,
+    alloc: Global,
+    form: Form,
+    options: ListOptions,
+    stops: u8,
+    bytes: &[u8],
+    onlooker: &L,
+) -> Result<Reply, AllocError>
+where
+    R: Threads + Sync,
+    L: Onlooker + Sync,
+    ensures { IfOk result (λ r. IsEachPlaceReply form options stops bytes.now r.status (string_bytes r.text)) }
+{
+    let read = asked_at(alloc, form, Place::Nowhere, bytes)?;
+    let asked = match read {
+        Ok(asked) => asked,
+        Err(reply) => return Ok(reply),
+    };
+    if asked.job.len() + stops as usize > MOST_STEPS {
+        return refusal(alloc, form, JobFault::TooLarge);
+    }
+    let places = places(alloc, &asked.job, stops)?;
+    let threads = threads_of(rt, options);
+    let limit = options.limit as usize;
+    let lists = list_places(
+        rt,
+        alloc,
+        &asked.job,
+        places.as_slice(),
+        threads,
+        limit,
+        onlooker,
+    )?;
+    judged(alloc, form, options, &asked, bytes, &lists, onlooker)
+}
+
+/// How many threads share the places: as many as are asked for, else as there are processors, 64 at most.
+fn threads_of<R: Threads>(rt: &R, options: ListOptions) -> u8
+    ensures asked { AreSharing options.threads result }
+    ensures some { 0 < result }
+{
+    match options.threads {
+        Some(threads) => threads.max(1),
+        None => processors(rt),
+    }
+}
+
+/// How many processors there are, 64 at most, or 1 where that isn't known.
+fn processors<R: Threads>(rt: &R) -> u8
+    ensures some { 0 < result }
+    ensures few { result ≤ 64 }
+{
+    match thread::available_parallelism(rt) {
+        Ok(count) if count.get() < MOST_THREADS as usize => count.get() as u8,
+        Ok(_) => MOST_THREADS as u8,
+        Err(_) => 1,
+    }
+}
+
+/// The lists, and below them what isn't wanted.
+fn judged<L: Onlooker>(
+    alloc: Global,
+    form: Form,
+    options: ListOptions,
+    asked: &Reading,
+    bytes: &[u8],
+    lists: &Lists,
+    onlooker: &L,
+) -> Result<Reply, AllocError>
+    requires listed { AreListedOf (asked_view asked.now) options.limit lists.now.listed.items }
+    requires ascii { AreAllAscii lists.now.listed.items }
+    ensures { IfOk result (λ r. (text : List ℕ) × IsJudgedEach form options (asked_view asked.now) (places_in lists.now.listed.items) (lists_status options lists.now) r.status text × (string_bytes r.text ≡ lists_text form bytes.now asked.now.job options lists.now ++ text)) }
+{
+    let listed = lists.listed.as_slice();
+    let past = lists.past_limit;
+    let text = text_of(alloc, form, options, bytes, &asked.job, listed, past)?;
+    match first_unwanted(alloc, form, options, asked, listed, onlooker)? {
+        Some(told) => with_told(text, &told),
+        None => Ok(Reply {
+            status: status_of(options, lists),
+            text,
+        }),
+    }
+}
+
+/// What is told, below this text.
+fn with_told(text: String, told: &Reply) -> Result<Reply, AllocError>
+    ensures { IfOk result (λ r. (r.status ≡ told.now.status) × (string_bytes r.text ≡ string_bytes text ++ string_bytes told.now.text)) }
+{
+    let mut text = text;
+    text.push_str(told.text.as_str())?;
+    Ok(Reply {
+        status: told.status,
+        text,
+    })
+}
+
+/// The text of the lists, or that they come past the limit.
+fn text_of(
+    alloc: Global,
+    form: Form,
+    options: ListOptions,
+    bytes: &[u8],
+    job: &Job,
+    listed: &[Listed],
+    past: Option<Place>,
+) -> Result<String, AllocError>
+    requires ascii { AreAllAscii listed.now }
+    ensures { IfOk result (λ text. string_bytes text ≡ text_past form bytes.now job.now options listed.now past) }
+{
+    match past {
+        Some(place) => {
+            let mut text = String::new(alloc);
+            push_more_at(&mut text, form, options.limit as usize, place)?;
+            Ok(text)
+        }
+        None => Ok(lists_in(alloc, form, bytes, job, listed)?),
+    }
+}
+
+/// The status of lists below which nothing is told.
+fn status_of(options: ListOptions, lists: &Lists) -> u8
+    ensures { result ≡ lists_status options lists.now }
+{
+    match lists.past_limit {
+        Some(_) => PAST_LIMIT,
+        None => list_status(options.is_strict, some_never_ends(lists.listed.as_slice())),
+    }
+}

@@ -1,8 +1,0 @@
-use Rattle.std.proofs.Common.{subst}
-use Rattle.ulfm_job.specs.Job.{JobView}
-use Rattle.ulfm_program.specs.inside.Looking.{IsLook}
-use Rattle.ulfm_program.proofs.show_each.look_at.Goals as goal
-
-pub returns : goal.returns
-returns g c =
-    (c.in_ok-goals.goals, c.in_ok-goals.ensures, subst (λ (j : JobView). IsLook j c.in_ok-goals.goals c.args.options.is_brief c.args.options.limit c.in_ok-look.look) c.in-Ok.ensures.exact c.in_ok-look.ensures)

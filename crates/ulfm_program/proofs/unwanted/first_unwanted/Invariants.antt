@@ -1,6 +1,0 @@
-use Rattle.ulfm_replies.specs.Stopped.{asked_view}
-use Rattle.ulfm_program.specs.inside.Judging.{IsUnfoundUpTo}
-use Rattle.ulfm_program.proofs.unwanted.first_unwanted.Given as goal
-
-abbrev pub invariant-loop-one : goal.invariant-loop-one
-invariant-loop-one g l = IsUnfoundUpTo l.form l.options (asked_view l.asked) l.listed l.one-index l.first

@@ -1,0 +1,71 @@
+-- The statuses that replies have.
+use Rattle.std.proofs.Common.{◌≢◌, ◌≤◌, ℕ, Bool, true, false, List, arith}
+use Rattle.ulfm_stops.specs.declared.place.Place.{Place}
+use Rattle.ulfm_json.specs.declared.form.Form.{Form}
+use Rattle.ulfm_replies.specs.Expanded as expanded
+use Rattle.ulfm_replies.specs.Expanded.{IsExpandReply}
+use Rattle.ulfm_replies.specs.Places as places
+use Rattle.ulfm_replies.specs.Places.{IsPlacesReply}
+use Rattle.ulfm_replies.specs.Replies.{IsCheckReply, good, refused, no_memory, starved}
+use Rattle.ulfm_replies.specs.Stopped as stopped
+use Rattle.ulfm_replies.specs.Stopped.{IsRefusal}
+use Rattle.ulfm_replies.specs.Unfinished.{played_status}
+
+-- a status that a reply has: not that of words that aren't followed, nor of an output or an input that failed
+pub record IsKnown (status : ℕ) : Type 0 where
+  pub few : status ≤ 9
+  pub no_usage : status ≢ 2
+  pub written : status ≢ 4
+  pub read : status ≢ 5
+
+pub done : IsKnown 0
+done = record { few = omega arith; no_usage = λ e. omega (arith, e); written = λ e. omega (arith, e); read = λ e. omega (arith, e) }
+
+pub no_job : IsKnown 1
+no_job = record { few = omega arith; no_usage = λ e. omega (arith, e); written = λ e. omega (arith, e); read = λ e. omega (arith, e) }
+
+pub run_fails : IsKnown 3
+run_fails = record { few = omega arith; no_usage = λ e. omega (arith, e); written = λ e. omega (arith, e); read = λ e. omega (arith, e) }
+
+pub left_open : IsKnown 6
+left_open = record { few = omega arith; no_usage = λ e. omega (arith, e); written = λ e. omega (arith, e); read = λ e. omega (arith, e) }
+
+pub past : IsKnown 7
+past = record { few = omega arith; no_usage = λ e. omega (arith, e); written = λ e. omega (arith, e); read = λ e. omega (arith, e) }
+
+pub nowhere : IsKnown 8
+nowhere = record { few = omega arith; no_usage = λ e. omega (arith, e); written = λ e. omega (arith, e); read = λ e. omega (arith, e) }
+
+pub not_wanted : IsKnown 9
+not_wanted = record { few = omega arith; no_usage = λ e. omega (arith, e); written = λ e. omega (arith, e); read = λ e. omega (arith, e) }
+
+pub played : (is_strict is_met is_unfinished : Bool) → IsKnown (played_status is_strict is_met is_unfinished)
+played is_strict false is_unfinished = not_wanted
+played true true true = left_open
+played true true false = done
+played false true is_unfinished = done
+
+pub checked : (form : Form) (bytes : List ℕ) (status : ℕ) (text : List ℕ) → IsCheckReply form bytes status text → IsKnown status
+checked form bytes status text (good job is) = done
+checked form bytes status text (refused f is) = no_job
+checked form bytes status text no_memory = no_job
+checked form bytes status text (starved told) = run_fails
+
+pub no_play : (form : Form) (place : Place) (bytes : List ℕ) (status : ℕ) (text : List ℕ) → IsRefusal form place bytes status text → IsKnown status
+no_play form place bytes status text (stopped.no_job f is) = no_job
+no_play form place bytes status text (stopped.no_place job is outside) = no_job
+no_play form place bytes status text (stopped.no_room job is many) = no_job
+no_play form place bytes status text stopped.no_memory = no_job
+
+pub places_known : (form : Form) (stops : ℕ) (bytes : List ℕ) (status : ℕ) (text : List ℕ) → IsPlacesReply form stops bytes status text → IsKnown status
+places_known form stops bytes status text (places.placed job is few) = done
+places_known form stops bytes status text (places.unplaced f is) = no_job
+places_known form stops bytes status text (places.crowded job is many) = no_job
+places_known form stops bytes status text places.unheld = no_job
+places_known form stops bytes status text (places.starved told) = run_fails
+
+pub expand_known : (form : Form) (bytes : List ℕ) (status : ℕ) (text : List ℕ) → IsExpandReply form bytes status text → IsKnown status
+expand_known form bytes status text (expanded.expanded plan t is whole) = done
+expand_known form bytes status text (expanded.unexpanded f is) = no_job
+expand_known form bytes status text expanded.full = no_job
+expand_known form bytes status text (expanded.starved told) = run_fails
