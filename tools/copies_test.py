@@ -140,6 +140,18 @@ EXAMPLES = [
         "crates/a/proofs/One.antt": PRELUDE + "use Rattle.std.specs.Prelude.{if◌then◌else◌, ◌++◌, at}\n"
         "pub one : (b : Bool) (xs : List ℕ) → (if b || false then xs.at else (3 ∷ [])) ≡ xs\none b xs = length refl\n",
     } | using("One::one"), ["the import `◌++◌` is unused", "the import `at` is unused"]),
+    ("a clause uses what its file imports for it; a parameter of that name and code don't", {
+        ROOT: (
+            "ghost use Rattle.std.specs.Prelude.{◌≡◌, ◌+◌, map};\n"
+            "ghost use Rattle.toml.specs.Data.{table, view as seen};\n"
+            "// The map of a table.\n"
+            "fn f(table: u8) -> u8\n"
+            "    ensures { result ≡ seen table.now }\n"
+            "{\n"
+            "    table + 1\n"
+            "}\n"
+        ),
+    }, ["the import `◌+◌` is unused", "the import `map` is unused", "the import `table` is unused"]),
 ]
 
 
