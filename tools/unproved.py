@@ -1,0 +1,65 @@
+"""Leaves functions of a copy of a crate unproved, so that a check of others takes less time: these are looked at by the clauses of what they
+call, which stay. Of the rest the prover gets a body that never ends and a proof with a hole, and refuses both at once."""
+import re
+import shutil
+from dataclasses import dataclass
+from pathlib import Path
+
+BEGIN = re.compile(r'( *)(?:pub(?:\([a-z]+\))? )?(?:unsafe )?(?:extern "C" )?fn (\w+)')
+TYPE = re.compile(r"^(?:pub(?:\([a-z]+\))? )?(?:struct|enum) (\w+)", re.MULTILINE)
+PROOF = """use Rattle.{crate}.proofs.{path}.Statement.{{statement}}
+
+pub {name}_spec : {{M : Type 1}} → statement M
+{name}_spec = ?
+"""
+
+
+@dataclass
+class Function:
+    """A function with a body: its file, the first line of the body and the one behind it, and its path below the crate."""
+
+    file: Path
+    begin: int
+    end: int
+    path: list
+
+
+def path_of(begin, block, module, types):
+    """The path of a function that begins so, as the prover names it, or None of a method of a trait. `block` is the item that it stands in."""
+    if not begin[1]:
+        return [*module, begin[2]]
+    of_type = re.fullmatch(r"impl(?:<.*>)? (\w+)(?:<.*>)? \{", block)
+    return [*types[of_type[1]], of_type[1], begin[2]] if of_type and of_type[1] in types and begin[1] == "    " else None
+
+
+def functions(crate):
+    """The functions of a crate's folder that have a path and a body, as 'rt fmt' writes them."""
+    source = crate / "src"
+    modules = {file: [it for it in file.relative_to(source).with_suffix("").parts if it != "lib"] for file in source.rglob("*.rt")}
+    types = {name: module for file, module in modules.items() for name in TYPE.findall(file.read_text())}
+    for file, module in modules.items():
+        lines, block = file.read_text().split("\n"), ""
+        for at, line in enumerate(lines):
+            block = line if line and not line.startswith(" ") else block
+            begin = BEGIN.match(line)
+            opens = begin and re.compile(rf"{begin[1]}(\{{|\S.* \{{)$")
+            opening = next((it for it in range(at, len(lines)) if opens.match(lines[it]) or lines[it].endswith((";", "{}"))), None) if begin else None
+            path = path_of(begin, block, module, types) if opening is not None and opens.match(lines[opening]) else None
+            if path:
+                yield Function(file, opening + 1, lines.index(f"{begin[1]}}}", opening), path)
+
+
+def leave(folder, name, kept):
+    """Leaves all functions of a crate's copy unproved, but methods of traits and those whose paths are kept."""
+    for it in sorted(functions(folder), key=lambda it: it.begin, reverse=True):
+        if "::".join(it.path) in kept:
+            continue
+        lines = it.file.read_text().split("\n")
+        lines[it.begin : it.end] = ["loop {}"]
+        it.file.write_text("\n".join(lines))
+        proofs = folder.joinpath("proofs", *it.path)
+        shutil.rmtree(folder.joinpath("proofs", *it.path[:-1], "fn", it.path[-1]), ignore_errors=True)
+        proofs.mkdir(parents=True, exist_ok=True)
+        for old in ("Answers.antt", "Invariants.antt"):
+            (proofs / old).unlink(missing_ok=True)
+        (proofs / "Proof.antt").write_text(PROOF.format(crate=name, path=".".join(it.path), name=it.path[-1]))
