@@ -1,5 +1,7 @@
-"""Where the kit's parts stand."""
+"""Where the kit's parts stand, and how many checks it can make at the same time."""
+import os
 import pathlib
+import re
 import shutil
 
 
@@ -12,3 +14,12 @@ def folders():
 def root():
     """The folder of the proved logic, the kit's libraries and its toolchain, or None."""
     return next((folder for folder in folders() if (folder / "logic_built").exists()), None)
+
+
+def lanes(need):
+    """How many checks there are processors for, and memory, where one takes so many gigabytes; one at least."""
+    try:
+        free = int(re.search(r"MemAvailable:\s+(\d+)", pathlib.Path("/proc/meminfo").read_text())[1]) >> 20
+    except (OSError, TypeError):
+        return 1
+    return max(1, min(len(os.sched_getaffinity(0)), free // need))

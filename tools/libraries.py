@@ -8,9 +8,14 @@ import kit
 ROOT = pathlib.Path(__file__).resolve().parent.parent
 
 
+def crates(*words):
+    """The crates that 'tools/crates' names, lowest first."""
+    return subprocess.run([ROOT / "tools/crates", *words], stdout=subprocess.PIPE, text=True, check=True).stdout.split()
+
+
 def below(crate):
     """The crates that one stands on, lowest first, and itself."""
-    return subprocess.run([ROOT / "tools/crates", "below", crate], stdout=subprocess.PIPE, text=True, check=True).stdout.split()
+    return crates("below", crate)
 
 
 def library(crate):
