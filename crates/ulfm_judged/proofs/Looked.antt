@@ -14,14 +14,15 @@ use Rattle.ulfm_script.specs.Reacting.{begins_in, holds_of}
 use Rattle.ulfm_script.specs.Trace.{answer_text}
 use Rattle.ulfm_script.specs.declared.answer.StepReport.{StepReport}
 use Rattle.ulfm_world.specs.World.{World, IsInside, no_player, player_at}
-use Rattle.ulfm_outcomes.specs.Goals.{AreOfClauses, IsPossible, StandsOpen, is_answered}
+use Rattle.ulfm_outcomes.specs.Goals.{IsPossible, StandsOpen, is_answered}
+use Rattle.ulfm_found.specs.Goals.{AreOfClauses}
 use Rattle.ulfm_outcomes.specs.Outcomes.{IsWholeList}
-use Rattle.ulfm_outcomes.specs.declared.goals.Goals.{Goals}
-use Rattle.ulfm_outcomes.specs.declared.open_step.OpenStep.{OpenStep}
+use Rattle.ulfm_found.specs.declared.goals.Goals.{Goals}
+use Rattle.ulfm_found.specs.declared.open_step.OpenStep.{OpenStep}
 use Rattle.ulfm_outcomes.proofs.Schedules.{some_there}
-use Rattle.ulfm_outcomes.proofs.Unlike.{any_here, any_on}
+use Rattle.ulfm_found.proofs.Any.{any_here, any_on}
 use Rattle.ulfm_replies.specs.Asking.{is_looked_at}
-use Rattle.ulfm_judged.specs.declared.told.Told.{Told as Kept}
+use Rattle.ulfm_told.specs.declared.told.Told.{Told as Kept}
 use Rattle.ulfm_judged.specs.inside.Looking.{IsLook, IsLookForRow, has_each, tells, tells_open}
 
 -- what came of a search for the answers of a row that is looked at

@@ -4,8 +4,8 @@ use Rattle.ulfm_job.specs.Job.{JobView}
 use Rattle.ulfm_job.specs.declared.clause.Clause.{Clause}
 use Rattle.ulfm_stops.specs.declared.place.Place.{Place}
 use Rattle.ulfm_stops.specs.declared.place.Place.TheVariants.{Nowhere}
-use Rattle.ulfm_outcomes.specs.Text.{some_never_ends}
-use Rattle.ulfm_places.specs.Union.{some_never_ends as each_never_ends}
+use Rattle.ulfm_found.specs.Text.{some_never_ends}
+use Rattle.ulfm_lists.specs.Union.{some_never_ends as each_never_ends}
 use Rattle.ulfm_json.specs.declared.form.Form.{Form}
 use Rattle.ulfm_replies.proofs.Statuses as statuses
 use Rattle.ulfm_replies.proofs.Statuses.{IsKnown, no_play}

@@ -7,7 +7,7 @@ use Rattle.std.proofs.lemmas.Option.{slice_get-get_or, slice_get-map}
 use Rattle.std.specs.Option.{option_or}
 use Rattle.std.specs.Prelude.{All}
 use Rattle.ulfm_stops.specs.declared.place.Place.{Place}
-use Rattle.ulfm_places.specs.declared.listed.Listed.{Listed}
+use Rattle.ulfm_lists.specs.declared.listed.Listed.{Listed}
 use Rattle.ulfm_json.specs.declared.form.Form.{Form}
 use Rattle.ulfm_replies.specs.Stopped.{Asked, asked_at}
 use Rattle.ulfm_replies.specs.declared.command.ListOptions.{ListOptions}

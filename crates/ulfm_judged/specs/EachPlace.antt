@@ -1,71 +1,32 @@
 -- What `outcomes --stops` writes for a job.
-use Rattle.std.specs.Prelude.{◌≡◌, ◌<◌, ◌⊎◌, ℕ, ◌+◌, List, [], ◌++◌, Some, None, All, codes, map, slice_get, take}
-use Rattle.std.specs.Fmt.{decimal}
+use Rattle.std.specs.Prelude.{◌≡◌, ◌<◌, ◌⊎◌, ℕ, ◌+◌, List, [], ◌++◌, Some, None, All, map, slice_get, take}
 use Rattle.ulfm_job.specs.declared.clause.Clause.{Clause}
 use Rattle.ulfm_job.specs.declared.fault.JobFault.TheVariants.{TooLarge}
 use Rattle.ulfm_job.specs.Job.{step_count}
 use Rattle.ulfm_stops.specs.Places.{places_of}
-use Rattle.ulfm_stops.specs.Text.{place_text}
 use Rattle.ulfm_stops.specs.declared.place.Place.{Place}
 use Rattle.ulfm_stops.specs.declared.place.Place.TheVariants.{Nowhere}
-use Rattle.ulfm_outcomes.specs.Unmet.{IsUnmet, MeetsExpected}
-use Rattle.ulfm_outcomes.specs.declared.goals.Goals.{Goals}
-use Rattle.ulfm_outcomes.specs.declared.unmet.Unmet.{Unmet}
+use Rattle.ulfm_outcomes.specs.Unmet.{MeetsExpected}
+use Rattle.ulfm_found.specs.Unmet.{IsUnmet}
+use Rattle.ulfm_found.specs.declared.goals.Goals.{Goals}
+use Rattle.ulfm_found.specs.declared.unmet.Unmet.{Unmet}
 use Rattle.ulfm_places.specs.Lists.{AreLists}
-use Rattle.ulfm_places.specs.Numbers.{filed_number}
+use Rattle.ulfm_lists.specs.Numbers.{filed_number}
 use Rattle.ulfm_lists.specs.Objects.{lists_in}
-use Rattle.ulfm_places.specs.Union.{some_never_ends}
-use Rattle.ulfm_places.specs.declared.listed.Listed.{Listed}
+use Rattle.ulfm_lists.specs.Union.{some_never_ends}
+use Rattle.ulfm_lists.specs.declared.listed.Listed.{Listed}
 use Rattle.ulfm_json.specs.declared.form.Form.{Form}
-use Rattle.ulfm_json.specs.declared.form.Form.TheVariants.{Words, Json}
 use Rattle.ulfm_replies.specs.Failure.{out_of_memory_in}
 use Rattle.ulfm_replies.specs.Replies.{refused_in}
 use Rattle.ulfm_replies.specs.Stopped.{Asked, IsAskedAt, IsRefusal, asked_at}
 use Rattle.ulfm_replies.specs.declared.command.ListOptions.{ListOptions}
-use Rattle.ulfm_judged.specs.Outcomes.{AreOfRow, IsFirstUnmet, IsTold, NoneComes, Told, list_status, many, schedule, told_json, told_words, unmet_json}
+use Rattle.ulfm_judged.specs.Outcomes.{AreOfRow, IsFirstUnmet, IsTold, NoneComes, list_status}
+use Rattle.ulfm_told.specs.Told.{Told, many, schedule}
+use Rattle.ulfm_told.specs.At.{unmet_at, row_at, more_at}
 
 -- the step as the file numbers it
 abbrev pub filed : Place → Unmet → Unmet
 filed place unmet = record unmet { step = filed_number place unmet.rank unmet.step }
-
--- the key of a place, and a comma
-abbrev pub at_json : Place → List ℕ
-at_json place = codes "\"at\":\"" ++ place_text place ++ codes "\","
-
--- the end of a line: a place
-abbrev pub at_words : Place → List ℕ
-at_words place = codes " at " ++ place_text place ++ codes "\n"
-
--- the rest of an object: the place, and what was told
-abbrev pub rest_json : Place → Told → List ℕ
-rest_json place told = at_json place ++ told_json told ++ codes "}\n"
-
--- at a place a step has an answer that it doesn't expect, in words
-abbrev pub unmet_at_words : Place → Unmet → List ℕ
-unmet_at_words place unmet = codes "not as expected: " ++ decimal unmet.rank ++ codes "." ++ decimal unmet.step ++ at_words place
-
--- that it has, and what was told of it
-abbrev pub unmet_at : Form → Place → Unmet → Told → List ℕ
-unmet_at Words place unmet told = unmet_at_words place unmet ++ told_words told
-unmet_at Json place unmet told = unmet_json unmet ++ rest_json place told
-
--- the beginning of a line: a row of `never` by its number, from 0, whose answers all come together
-abbrev pub row_head : ℕ → List ℕ
-row_head number = codes "come together: never[" ++ decimal number ++ codes "]"
-
--- that they do so at a place, in words
-abbrev pub row_at_words : Place → ℕ → List ℕ
-row_at_words place number = row_head number ++ at_words place
-
--- the same, and what was told of them
-abbrev pub row_at : Form → Place → ℕ → Told → List ℕ
-row_at Words place number told = row_at_words place number ++ told_words told
-row_at Json place number told = codes "{\"never\":" ++ decimal number ++ codes "," ++ rest_json place told
-
--- the line that there are more states than the limit at a place
-abbrev pub more_at : Form → ℕ → Place → List ℕ
-more_at Words limit place = codes "more than " ++ decimal limit ++ codes " states at " ++ place_text place ++ codes "\n"
-more_at Json limit place = codes "{\"more_states_than\":" ++ decimal limit ++ codes ",\"at\":\"" ++ place_text place ++ codes "\"}\n"
 
 -- no schedule has an answer that its step doesn't expect, nor all answers of a row of `never`
 pub record IsWanted (asked : Asked) : Type 0 where

@@ -1,7 +1,5 @@
 -- What `outcomes` writes for a job.
 use Rattle.std.specs.Prelude.{◌≡◌, ℕ, Bool, true, List, ◌++◌, Some, None, Result, Ok, Err, All as Each, codes, slice_get, take, if◌then◌else◌}
-use Rattle.std.specs.Fmt.{decimal}
-use Rattle.std.specs.Str.Lines.{lines}
 use Rattle.ulfm_job.specs.declared.clause.Clause.{Clause}
 use Rattle.ulfm_job.specs.Job.{JobView}
 use Rattle.ulfm_reader.specs.Goals.{goals_of}
@@ -9,73 +7,29 @@ use Rattle.ulfm_world.specs.World.{World}
 use Rattle.ulfm_reach.specs.declared.reach.Reach.TheVariants.{All, More}
 use Rattle.ulfm_reach.specs.declared.reached.Reached.{Reached}
 use Rattle.ulfm_reach.specs.declared.sought.Sought.TheVariants as sought
-use Rattle.ulfm_outcomes.specs.Goals.{AreOfClauses, IsPossible, IsSchedule}
+use Rattle.ulfm_outcomes.specs.Goals.{IsPossible, IsSchedule}
+use Rattle.ulfm_found.specs.Goals.{AreOfClauses}
 use Rattle.ulfm_outcomes.specs.Outcomes.{IsList}
-use Rattle.ulfm_outcomes.specs.Schedule.{IsScheduleText}
+use Rattle.ulfm_shown.specs.Schedule.{IsScheduleText}
 use Rattle.ulfm_outcomes.specs.Showing.{IsBriefSchedule, IsShowing}
-use Rattle.ulfm_outcomes.specs.Text.{some_never_ends}
-use Rattle.ulfm_outcomes.specs.Unmet.{IsUnmet, MeetsExpected, first_unmet}
-use Rattle.ulfm_outcomes.specs.declared.goals.Goals.{Goals}
-use Rattle.ulfm_outcomes.specs.declared.unmet.Unmet.{Unmet}
-use Rattle.ulfm_json.specs.Parts.{texts_json}
+use Rattle.ulfm_found.specs.Text.{some_never_ends}
+use Rattle.ulfm_outcomes.specs.Unmet.{MeetsExpected}
+use Rattle.ulfm_found.specs.Unmet.{IsUnmet, first_unmet}
+use Rattle.ulfm_found.specs.declared.goals.Goals.{Goals}
+use Rattle.ulfm_found.specs.declared.unmet.Unmet.{Unmet}
 use Rattle.ulfm_json.specs.declared.form.Form.{Form}
 use Rattle.ulfm_json.specs.declared.form.Form.TheVariants.{Words, Json}
-use Rattle.ulfm_outcomes.specs.Objects.{list_in}
+use Rattle.ulfm_found.specs.Objects.{list_in}
 use Rattle.ulfm_replies.specs.Asking.{is_looked_at}
 use Rattle.ulfm_replies.specs.Failure.{out_of_memory_in}
 use Rattle.ulfm_replies.specs.Stopped.{Asked, IsAskedAt, IsRefusal, names_at, reading_as}
 use Rattle.ulfm_replies.specs.declared.command.ListOptions.{ListOptions}
-
--- what a search came to that may show a schedule: its text, or that there are more states than the limit
-pub data Told : Type 0 where
-  schedule : List ℕ → Told
-  many : ℕ → Told
-
--- how that is printed
-abbrev pub told_words : Told → List ℕ
-told_words (schedule text) = text
-told_words (many limit) = codes "more than " ++ decimal limit ++ codes " states\n"
-
--- its key in an object: the lines of a schedule, or the limit
-abbrev pub told_json : Told → List ℕ
-told_json (schedule text) = codes "\"schedule\":" ++ texts_json (lines text)
-told_json (many limit) = codes "\"more_states_than\":" ++ decimal limit
-
--- either alone, in this form
-abbrev pub told_in : Form → Told → List ℕ
-told_in Words told = told_words told
-told_in Json told = codes "{" ++ told_json told ++ codes "}\n"
+use Rattle.ulfm_told.specs.Told.{Told, told_in, unmet_in, row_in, many, schedule}
 
 -- what the words say that no schedule shows the answers, in this form
 abbrev pub nowhere_in : Form → List ℕ
 nowhere_in Words = codes "no schedule\n"
 nowhere_in Json = codes "{\"schedule\":null}\n"
-
--- a step has an answer that it doesn't expect, in words
-abbrev pub unmet_words : Unmet → List ℕ
-unmet_words unmet = codes "not as expected: " ++ decimal unmet.rank ++ codes "." ++ decimal unmet.step ++ codes "\n"
-
--- the step, as an object, and a comma
-abbrev pub place_json : Unmet → List ℕ
-place_json unmet = codes "{\"rank\":" ++ decimal unmet.rank ++ codes ",\"step\":" ++ decimal unmet.step ++ codes "},"
-
--- that it has such an answer, as the first key of an object
-abbrev pub unmet_json : Unmet → List ℕ
-unmet_json unmet = codes "{\"not_as_expected\":" ++ place_json unmet
-
--- that a step has such an answer, and what was told of it
-abbrev pub unmet_in : Form → Unmet → Told → List ℕ
-unmet_in Words unmet told = unmet_words unmet ++ told_words told
-unmet_in Json unmet told = unmet_json unmet ++ told_json told ++ codes "}\n"
-
--- that all answers of a row of `never` come together, by its number, from 0, in words
-abbrev pub row_words : ℕ → List ℕ
-row_words number = codes "come together: never[" ++ decimal number ++ codes "]\n"
-
--- a row of `never` by its number, from 0, and what was told of it
-abbrev pub row_in : Form → ℕ → Told → List ℕ
-row_in Words number told = row_words number ++ told_words told
-row_in Json number told = codes "{\"never\":" ++ decimal number ++ codes "," ++ told_json told ++ codes "}\n"
 
 -- a schedule of the job shows these goals, in brief if it is to be, and this is its text; or there are more states than the limit
 abbrev pub IsTold : JobView → Goals → Bool → ℕ → Told → Type 0

@@ -1,24 +1,24 @@
 -- What `outcomes --stops --show` writes for a job.
-use Rattle.std.specs.Prelude.{◌≡◌, ◌<◌, ℕ, ◌+◌, List, ◌++◌, None, Ok, Err, Some, All, codes, length, slice_get, take}
+use Rattle.std.specs.Prelude.{◌≡◌, ◌<◌, ℕ, ◌+◌, List, None, Ok, Err, Some, All, length, slice_get, take}
 use Rattle.ulfm_job.specs.declared.clause.Clause.{Clause}
 use Rattle.ulfm_job.specs.declared.fault.JobFault.TheVariants.{TooLarge}
 use Rattle.ulfm_job.specs.Job.{JobView, script_at, step_count}
 use Rattle.ulfm_stops.specs.Place.{job_at}
 use Rattle.ulfm_stops.specs.Places.{places_of}
-use Rattle.ulfm_stops.specs.Text.{place_text}
 use Rattle.ulfm_stops.specs.declared.place.Place.{Place}
 use Rattle.ulfm_stops.specs.declared.place.Place.TheVariants.{Nowhere, One, Two}
 use Rattle.ulfm_stops.specs.declared.stop.Stop.{Stop}
-use Rattle.ulfm_outcomes.specs.Goals.{AreOfClauses, IsPossible}
-use Rattle.ulfm_outcomes.specs.declared.goals.Goals.{Goals}
+use Rattle.ulfm_outcomes.specs.Goals.{IsPossible}
+use Rattle.ulfm_found.specs.Goals.{AreOfClauses}
+use Rattle.ulfm_found.specs.declared.goals.Goals.{Goals}
 use Rattle.ulfm_json.specs.declared.form.Form.{Form}
-use Rattle.ulfm_json.specs.declared.form.Form.TheVariants.{Words, Json}
 use Rattle.ulfm_replies.specs.Failure.{out_of_memory_in}
 use Rattle.ulfm_replies.specs.Replies.{refused_in}
 use Rattle.ulfm_replies.specs.Stopped.{Asked, IsAskedAt, IsRefusal, clauses_beside}
 use Rattle.ulfm_replies.specs.declared.command.ListOptions.{ListOptions}
-use Rattle.ulfm_judged.specs.EachPlace.{more_at, rest_json}
-use Rattle.ulfm_judged.specs.Outcomes.{IsTold, Told, goals_asked, many, no_goal, nowhere_in, schedule, told_words}
+use Rattle.ulfm_judged.specs.Outcomes.{IsTold, goals_asked, no_goal, nowhere_in}
+use Rattle.ulfm_told.specs.Told.{many, schedule}
+use Rattle.ulfm_told.specs.At.{told_at}
 
 -- clauses of the file's steps, by the numbers that these have beside a stop
 abbrev pub beside : JobView → Stop → List Clause → List Clause
@@ -37,20 +37,6 @@ AreGoalsAt place j clauses goals = AreOfClauses (clauses_at place j clauses) goa
 -- no schedule of the job at a place has all these answers
 abbrev pub IsNowhereAt : JobView → List Clause → Place → Type 0
 IsNowhereAt j clauses place = (goals : Goals) × AreGoalsAt place j clauses goals × ¬ IsPossible (job_at place j) goals
-
--- the line of a place
-abbrev pub at_line : Place → List ℕ
-at_line place = codes "at " ++ place_text place ++ codes "\n"
-
--- a schedule at a place, below the line of the place
-abbrev pub schedule_at : Form → Place → Told → List ℕ
-schedule_at Words place told = at_line place ++ told_words told
-schedule_at Json place told = codes "{" ++ rest_json place told
-
--- what a search came to at a place: a schedule, or that there are more states than the limit
-abbrev pub told_at : Form → Place → Told → List ℕ
-told_at form place (schedule text) = schedule_at form place (schedule text)
-told_at form place (many limit) = more_at form limit place
 
 -- this is one of the job's places with at most so many stops, and at none before it a schedule has all these answers
 pub record IsFirstPlace (j : JobView) (clauses : List Clause) (stops : ℕ) (place : Place) : Type 0 where

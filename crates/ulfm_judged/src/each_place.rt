@@ -1,24 +1,24 @@
 //! The reply of `outcomes --stops`: what each step may be answered wherever ranks stop, and below it what the job doesn't want at the first
 //! place where it comes.
 ghost use Rattle.std.specs.Prelude.{◌≡◌, ◌<◌, ◌≤◌, ◌++◌, ℕ, List, IfOk, string_bytes};
-ghost use Rattle.ulfm_places.specs.Lists.{AreAllAscii};
+ghost use Rattle.ulfm_lists.specs.Union.{AreAllAscii};
 ghost use Rattle.ulfm_replies.specs.Stopped.{asked_view};
 ghost use Rattle.ulfm_judged.specs.EachPlace.{IsEachPlaceReply, IsJudgedEach, places_in};
 ghost use Rattle.ulfm_judged.specs.inside.Judging.{AreListedOf, AreSharing, lists_status, lists_text, text_past};
 
 use crate::listed::list_status;
-use crate::told_at::push_more_at;
 use crate::unwanted::first_unwanted;
 use std::alloc::{AllocError, Global};
 use std::thread;
 use std::thread::Threads;
 use ulfm_job::{Job, JobFault, MOST_STEPS};
 use ulfm_json::Form;
-use ulfm_lists::lists_in;
-use ulfm_places::{Listed, Lists, Onlooker, list_places, some_never_ends};
+use ulfm_lists::{Listed, lists_in, some_never_ends};
+use ulfm_places::{Lists, Onlooker, list_places};
 use ulfm_reader::Reading;
 use ulfm_replies::{ListOptions, MOST_THREADS, PAST_LIMIT, Place, Reply, asked_at, refusal};
 use ulfm_stops::places;
+use ulfm_told::push_more_at;
 
 /// The reply of `outcomes --stops` with these options. The onlooker is told how far the lists and the searches are.
 pub fn each_place_reply<R, L>(

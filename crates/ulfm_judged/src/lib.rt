@@ -12,8 +12,6 @@ mod listed;
 mod looking;
 mod show_each;
 mod shown;
-mod told;
-mod told_at;
 mod unwanted;
 
 pub use listed::list_reply;

@@ -5,21 +5,24 @@ ghost use Rattle.ulfm_job.specs.declared.clause.Clause.{Clause as SeenClause};
 ghost use Rattle.ulfm_reader.specs.JobText.{rows_of};
 ghost use Rattle.ulfm_reach.specs.declared.reach.Reach.TheVariants.{All};
 ghost use Rattle.ulfm_outcomes.specs.Outcomes.{IsList};
-ghost use Rattle.ulfm_outcomes.specs.Unmet.{Judges, first_unmet};
+ghost use Rattle.ulfm_outcomes.specs.Unmet.{Judges};
+ghost use Rattle.ulfm_found.specs.Unmet.{first_unmet};
 ghost use Rattle.ulfm_judged.specs.ListReply.{IsListReply};
-ghost use Rattle.ulfm_judged.specs.Outcomes.{HasList, IsJudged, IsOutcomesReply, list_status, row_in};
-ghost use Rattle.ulfm_judged.specs.inside.Looking.{IsFirstRow, row_status, told_view};
+ghost use Rattle.ulfm_judged.specs.Outcomes.{HasList, IsJudged, IsOutcomesReply, list_status};
+ghost use Rattle.ulfm_told.specs.Told.{row_in};
+ghost use Rattle.ulfm_judged.specs.inside.Looking.{IsFirstRow, row_status};
+ghost use Rattle.ulfm_told.specs.Told.{told_view};
 
 use crate::each_place::each_place_reply;
 use crate::looking::{look_for, look_for_row};
 use crate::show_each::show_each_reply;
 use crate::shown::show_reply;
-use crate::told::{Told, push_row, push_unmet};
 use std::alloc::{AllocError, Global};
 use std::thread::Threads;
+use ulfm_found::{Unmet, list_in, some_never_end};
 use ulfm_job::Clause;
 use ulfm_json::Form;
-use ulfm_outcomes::{Unmet, first_unmet, list_in, outcomes, some_never_end};
+use ulfm_outcomes::{first_unmet, outcomes};
 use ulfm_places::Onlooker;
 use ulfm_reach::{Reach, Reached, Rows, Watch};
 use ulfm_reader::Reading;
@@ -27,6 +30,7 @@ use ulfm_replies::{
     DONE, ListOptions, NOT_EXPECTED, PAST_LIMIT, Reply, UNFINISHED, asked_at, names_at,
 };
 use ulfm_script::Job;
+use ulfm_told::{Told, push_row, push_unmet};
 
 /// The reply of `outcomes` with these options, and perhaps with answers that a schedule is to show. `watch` is told how far it is.
 pub fn list_reply<R, W>(

@@ -3,20 +3,20 @@ ghost use Rattle.std.specs.Prelude.{◌≡◌, All, IfOk, Some, string_bytes};
 ghost use Rattle.ulfm_stops.specs.Place.{IsPlaceOf};
 ghost use Rattle.ulfm_judged.specs.ShowEach.{AreGoalsAt, IsShowEachReply, beside};
 ghost use Rattle.ulfm_judged.specs.inside.Judging.{IsFirstLook, IsLookAt, IsLookAtText, IsToldAtText, look_at_status};
-ghost use Rattle.ulfm_judged.specs.inside.Looking.{look_status, told_view};
+ghost use Rattle.ulfm_judged.specs.inside.Looking.{look_status};
+ghost use Rattle.ulfm_told.specs.Told.{told_view};
 
 use crate::looking::look_for;
 use crate::shown::{no_goal, nowhere, status_of};
-use crate::told::Told;
-use crate::told_at::push_told_at;
 use std::alloc::{AllocError, Global};
 use ulfm_draw::{Style, drawn};
+use ulfm_found::Goals;
 use ulfm_job::{Clause, Job, JobFault, MOST_STEPS};
 use ulfm_json::Form;
-use ulfm_outcomes::Goals;
 use ulfm_places::{Onlooker, Seen};
 use ulfm_replies::{DONE, ListOptions, NO_SCHEDULE, Place, Reply, asked_at, refusal};
 use ulfm_stops::{Stop, places};
+use ulfm_told::{Told, push_told_at};
 
 /// The reply of `outcomes --stops --show` with these options and answers. The onlooker is told how far the searches are.
 pub fn show_each_reply<L: Onlooker>(

@@ -1,16 +1,17 @@
 //! The reply of `outcomes --show`: a schedule that shows answers.
 ghost use Rattle.std.specs.Prelude.{◌≡◌, Some, IfOk, option_map, string_bytes};
 ghost use Rattle.ulfm_judged.specs.Outcomes.{IsShowReply, no_goal, nowhere_in};
-ghost use Rattle.ulfm_judged.specs.inside.Looking.{IsLookText, look_status, told_view};
+ghost use Rattle.ulfm_judged.specs.inside.Looking.{IsLookText, look_status};
+ghost use Rattle.ulfm_told.specs.Told.{told_view};
 
 use crate::looking::look_for;
-use crate::told::{Told, push_told};
 use std::alloc::{AllocError, Global};
 use ulfm_draw::{Style, drawn};
+use ulfm_found::Goals;
 use ulfm_json::Form;
-use ulfm_outcomes::Goals;
 use ulfm_reach::Watch;
 use ulfm_replies::{DONE, JOB_REFUSED, ListOptions, NO_SCHEDULE, PAST_LIMIT, Reply, asked_at};
+use ulfm_told::{Told, push_told};
 
 /// The reply of `outcomes --show`, with these answers. `watch` is told how far the search is.
 pub fn show_reply<W: Watch>(

@@ -6,24 +6,27 @@ ghost use Rattle.ulfm_outcomes.specs.Unmet.{Judges};
 ghost use Rattle.ulfm_stops.specs.Place.{IsPlaceOf};
 ghost use Rattle.ulfm_stops.specs.declared.place.Place.TheVariants.{Two};
 ghost use Rattle.ulfm_replies.specs.Stopped.{asked_at, asked_view};
-ghost use Rattle.ulfm_judged.specs.EachPlace.{IsToldAt, filed, places_in, row_at, unmet_at};
+ghost use Rattle.ulfm_judged.specs.EachPlace.{IsToldAt, filed, places_in};
+ghost use Rattle.ulfm_told.specs.At.{row_at, unmet_at};
 ghost use Rattle.ulfm_judged.specs.Outcomes.{HasList, IsFirstUnmet, IsTold};
 ghost use Rattle.ulfm_judged.specs.inside.Judging.{AreListedOf, IsFirstUnwanted, IsListedOf, IsStopped, IsUnwanted, is_found};
-ghost use Rattle.ulfm_judged.specs.inside.Looking.{row_status, told_view};
+ghost use Rattle.ulfm_judged.specs.inside.Looking.{row_status};
+ghost use Rattle.ulfm_told.specs.Told.{told_view};
 
 use crate::listed::{FirstRow, first_row, row_status};
 use crate::looking::look_for;
-use crate::told::Told;
-use crate::told_at::{push_row_at, push_unmet_at};
 use std::alloc::{AllocError, Global};
+use ulfm_found::{Goals, Unmet};
 use ulfm_job::Job;
 use ulfm_json::Form;
-use ulfm_outcomes::{Goals, Unmet, first_unmet};
-use ulfm_places::{Listed, Onlooker, Seen, filed_number};
+use ulfm_lists::{Listed, filed_number};
+use ulfm_outcomes::first_unmet;
+use ulfm_places::{Onlooker, Seen};
 use ulfm_reach::{Rows, Watch};
 use ulfm_reader::Reading;
 use ulfm_replies::{ListOptions, NOT_EXPECTED, Place, Reply, asked_beside};
 use ulfm_stops::Stop;
+use ulfm_told::{Told, push_row_at, push_unmet_at};
 
 /// What is told of the first of these places where a schedule is found that isn't wanted. Where none is found, of the first with a row of
 /// `never` that can't be looked for within the limit, if there is one.

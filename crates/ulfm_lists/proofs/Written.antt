@@ -1,7 +1,7 @@
 -- Texts that are written part by part.
 use Rattle.std.proofs.Common.{◌≡◌, ℕ, ◌+◌, ◌<◌, List, ◌∷◌, ◌++◌, codes, drop, get_or, length, map, ap, sym, ◌∙◌, append_assoc}
 use Rattle.ulfm_json.specs.Parts.{behind_commas}
-use Rattle.ulfm_places.proofs.Telling.{drop-item}
+use Rattle.ulfm_lists.proofs.Telling.{drop-item}
 
 -- one more text behind a comma
 pub commas-on : {X : Type 0} (shown : List ℕ → List ℕ) (bytes : X → List ℕ) (xs : List X) (i : ℕ) (x : X) (old new whole : List ℕ) → i < length xs → x ≡ get_or xs i x → old ++ behind_commas shown (map bytes (drop i xs)) ≡ whole

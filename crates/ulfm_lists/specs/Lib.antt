@@ -1,2 +1,4 @@
+pub mod Numbers
+pub mod Union
 pub mod Text
 pub mod Objects

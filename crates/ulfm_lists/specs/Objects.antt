@@ -10,8 +10,8 @@ use Rattle.ulfm_json.specs.Trace.{head_json}
 use Rattle.ulfm_json.specs.declared.form.Form.{Form}
 use Rattle.ulfm_json.specs.declared.form.Form.TheVariants.{Words, Json}
 use Rattle.ulfm_lists.specs.Text.{lists_text, states_of}
-use Rattle.ulfm_places.specs.Union.{answers_of, places_with, some_never_ends}
-use Rattle.ulfm_places.specs.declared.listed.Listed.{Listed}
+use Rattle.ulfm_lists.specs.Union.{answers_of, places_with, some_never_ends}
+use Rattle.ulfm_lists.specs.declared.listed.Listed.{Listed}
 
 -- an answer of the step k of the rank r, with its places
 abbrev pub answer_json : JobView → List Listed → ℕ → ℕ → List ℕ → List ℕ

@@ -5,9 +5,9 @@ use Rattle.std.specs.List.{flat_map}
 use Rattle.ulfm_job.specs.Job.{JobView}
 use Rattle.ulfm_job.specs.Words.{step_text}
 use Rattle.ulfm_job.specs.declared.step.Step.{Step}
-use Rattle.ulfm_outcomes.specs.Text.{barred, or_not_reached}
-use Rattle.ulfm_places.specs.Union.{answers_of, places_with, some_never_ends}
-use Rattle.ulfm_places.specs.declared.listed.Listed.{Listed}
+use Rattle.ulfm_found.specs.Text.{barred, or_not_reached}
+use Rattle.ulfm_lists.specs.Union.{answers_of, places_with, some_never_ends}
+use Rattle.ulfm_lists.specs.declared.listed.Listed.{Listed}
 
 -- texts, each behind a blank
 abbrev pub behind_blanks : List (List ℕ) → List ℕ

@@ -10,7 +10,7 @@ use Rattle.ulfm_stops.specs.Place.{job_at}
 use Rattle.ulfm_stops.specs.declared.place.Place.{Place}
 use Rattle.ulfm_places.specs.Lists.{AreLists}
 use Rattle.ulfm_places.specs.inside.Parts.{AreJoined, AreJoinedSoFar, AreParts, GoesOn, IsPart}
-use Rattle.ulfm_places.specs.declared.listed.Listed.{Listed}
+use Rattle.ulfm_lists.specs.declared.listed.Listed.{Listed}
 use Rattle.ulfm_places.specs.declared.lists.Lists.{Lists}
 
 module _ (j : JobView) (limit : ℕ) where

@@ -1,4 +1,2 @@
 pub mod Lists
-pub mod Numbers
-pub mod Union
 pub mod inside

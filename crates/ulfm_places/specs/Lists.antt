@@ -1,13 +1,12 @@
 -- The lists of all outcomes of a job at each of some places.
-use Rattle.std.specs.Prelude.{◌≡◌, ℕ, ⊤, List, [], ◌∷◌, Option, Some, None, All as Each, length}
+use Rattle.std.specs.Prelude.{◌≡◌, ℕ, ⊤, List, [], ◌∷◌, Option, Some, None, length}
 use Rattle.ulfm_job.specs.Job.{JobView}
 use Rattle.ulfm_outcomes.specs.Outcomes.{IsList}
-use Rattle.ulfm_outcomes.specs.Text.{AreAscii}
 use Rattle.ulfm_reach.specs.declared.reach.Reach.TheVariants.{All, More}
 use Rattle.ulfm_reach.specs.declared.reached.Reached.{Reached}
 use Rattle.ulfm_stops.specs.Place.{job_at}
 use Rattle.ulfm_stops.specs.declared.place.Place.{Place}
-use Rattle.ulfm_places.specs.declared.listed.Listed.{Listed}
+use Rattle.ulfm_lists.specs.declared.listed.Listed.{Listed}
 
 -- this is what is kept of the list of all outcomes of the job with the stops of the place
 pub record IsListedAt (j : JobView) (limit : ℕ) (place : Place) (one : Listed) : Type 0 where
@@ -23,7 +22,3 @@ AreLists j limit [] [] None = ⊤
 AreLists j limit (place ∷ places) [] (Some past) = (past ≡ place) × IsList (job_at place j) limit More
 AreLists j limit (place ∷ places) (one ∷ listed) past = IsListedAt j limit place one × AreLists j limit places listed past
 AreLists j limit _ _ _ = ⊥
-
--- all that is found can be written
-abbrev pub AreAllAscii : List Listed → Type 0
-AreAllAscii listed = Each (λ (one : Listed). AreAscii one.found) listed

@@ -4,12 +4,12 @@ ghost use Rattle.ulfm_stops.specs.Place.{IsPlaceOf};
 ghost use Rattle.ulfm_places.specs.Lists.{AreLists};
 ghost use Rattle.ulfm_places.specs.inside.Parts.{IsListOf};
 
-use crate::listed::Listed;
 use crate::lists::Lists;
 use crate::onlooker::{Onlooker, Seen};
 use std::alloc::{AllocError, Global};
 use ulfm_base::OutOfMemory;
 use ulfm_job::Job;
+use ulfm_lists::Listed;
 use ulfm_outcomes::outcomes;
 use ulfm_reach::Reach;
 use ulfm_stops::Place;

@@ -1,4 +1,2 @@
 -- What private functions and proofs cite of the program's output.
 pub mod Writing
-pub mod Tallied
-pub mod Cells

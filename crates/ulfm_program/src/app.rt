@@ -18,10 +18,10 @@ use std::time::Clock;
 use ulfm_findings::{InputFault, read_front, write_whole};
 use ulfm_json::Form;
 use ulfm_judged::NO_GOAL;
+use ulfm_notes::{write_fault, write_notes};
 use ulfm_replies::{
     Asked, DONE, Failure, INPUT_FAILED, JOB_REFUSED, ListOptions, NO_SCHEDULE, NOT_EXPECTED,
-    OUTPUT_FAILED, RUN_FAILED, USAGE, Unfollowed, Wanted, asked_for, failed_line, write_fault,
-    write_notes,
+    OUTPUT_FAILED, RUN_FAILED, USAGE, Unfollowed, Wanted, asked_for, failed_line,
 };
 
 /// What is written where a word can't be read.

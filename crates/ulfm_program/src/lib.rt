@@ -7,15 +7,9 @@
 #![tactic(auto)]
 
 mod app;
-mod brief;
 mod files;
-mod picture;
 mod progress;
 mod reply;
-mod run;
-mod swept;
-mod tally;
-mod turns;
 
 pub use app::{run_on, without_words};
 pub use files::run_each;

@@ -1,11 +1,10 @@
-//! What is said without an engine: of the words of a command line, of a job's text, and beside a reply. `ulfm_program` stands on it.
+//! What is said without an engine: of the words of a command line, and of a job's text. `ulfm_program` stands on it.
 //!
 //!     let asked = asked_for(alloc, words)?;
 //!     let reply = check_reply(alloc, asked.form, bytes)?;
 //!
-//! [`asked_for`] reads the words, and [`check_reply`] and [`trace_reply`] tell of a job and of what was played. [`write_notes`] says on
-//! standard error what a reply doesn't: that is for people, and no contract speaks of it. The statuses of the program are constants of this
-//! crate.
+//! [`asked_for`] reads the words, and [`check_reply`] and [`trace_reply`] tell of a job and of what was played. The statuses of the program are
+//! constants of this crate.
 //!
 //! Read specs/CommandLine.antt first (what words ask for), then Stopped.antt (what a text asks for, with the stops of a place), then
 //! Replies.antt, Asking.antt and Unfinished.antt (texts and statuses).
@@ -20,8 +19,6 @@ mod flagged;
 mod help;
 mod laws;
 mod listed;
-mod misplaced;
-mod notes;
 mod number;
 mod options;
 mod placed;
@@ -39,7 +36,6 @@ pub use command::{Asked, Carrier, ListOptions, RunOptions, Wanted};
 pub use expanded::expand_reply;
 pub use failure::{Failure, failed, failed_line, failure_of};
 pub use laws::nowhere_is_as_read;
-pub use notes::{write_fault, write_notes};
 pub use options::MOST_THREADS;
 pub use reply::{
     DONE, INPUT_FAILED, JOB_REFUSED, NO_SCHEDULE, NOT_EXPECTED, OUTPUT_FAILED, PAST_LIMIT,

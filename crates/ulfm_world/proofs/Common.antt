@@ -55,7 +55,6 @@ pub use Rattle.ulfm_script.specs.declared.answer.StepReport.{StepReport}
 pub use Rattle.ulfm_script.specs.Reacting.{is_played}
 pub use Rattle.ulfm_script.specs.inside.Underway.{FollowsSoFar, GoesThrough}
 pub use Rattle.ulfm_world.specs.Replay.{AllHaveFinished, IsReplayed, MadeAtRest}
-pub use Rattle.ulfm_world.specs.Sweep.{IsSwept, answers_of, place_of, places_in}
 pub use Rattle.ulfm_world.specs.inside.Rounds.{AllAnswersFollowSoFar, Follows, IsStuck, IsStuckAt, IsUnderway, Moves, fresh_at, inbox_weight, known_for, measure, out_at, sum_below, weight_of}
 pub use Rattle.std.proofs.Math.Bool.{or-false}
 pub use Rattle.std.proofs.lemmas.Result.{IfOk-weaker, on_err_weaker, on_ok_weaker}

@@ -39,7 +39,6 @@ pub mod Foreign
 pub mod OneOrder
 pub mod Made
 pub mod Lawful
-pub mod Swept
 pub mod Often
 pub mod Rings
 pub mod Never

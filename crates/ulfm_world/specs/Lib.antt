@@ -10,5 +10,4 @@ pub mod Safe
 pub mod Rings
 pub mod Each
 pub mod Replay
-pub mod Sweep
 pub mod inside

@@ -2,4 +2,3 @@
 pub mod Steps
 pub mod Rounds
 pub mod Turns
-pub mod Kinds

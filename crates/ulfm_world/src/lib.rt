@@ -1,9 +1,8 @@
-//! All ranks with their inboxes, in every schedule, and the replay of a job, also with one more stop at each place in turn.
+//! All ranks with their inboxes, in every schedule, and the replay of a job.
 //!
 //! A [`World`] changes by one [`Event`] at a time: a rank calls, an item is pushed, an item is taken. A list of events is a schedule.
 //!
 //!     let reports = replay(alloc, &job)?;
-//!     let lines = sweep(alloc, &job)?;
 //!
 //! Read specs/World.antt: `Happens` says what an event does, `IsRefused` why one is refused. The laws of all schedules are in laws.rt,
 //! one function a law.
@@ -11,21 +10,16 @@
 
 mod asked;
 mod event;
-mod fault;
 mod inbox;
-mod kind;
 mod laws;
-mod line;
 mod room;
 mod rounds;
 mod schedule;
 mod steps;
-mod sweeps;
 mod world;
 
 pub use asked::Asked;
 pub use event::{Event, Outcome, Refused};
-pub use fault::SweepFault;
 pub use inbox::Inbox;
 pub use laws::{
     adopted_as_held, adoption_starves_alone, agreed_at_rest, all_come_at_rest, decided_safely,
@@ -35,9 +29,7 @@ pub use laws::{
     one_order, one_pairing_each, proposed_at_rest, receives_keep_order, refused_never_happens,
     reports_are_faithful, revoked_by_a_rank, rings_give_all, settled_safely,
 };
-pub use line::SweepLine;
 pub use room::Room;
 pub use rounds::replay;
 pub use schedule::run;
-pub use sweeps::sweep;
 pub use world::World;

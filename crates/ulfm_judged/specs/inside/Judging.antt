@@ -5,21 +5,25 @@ use Rattle.ulfm_job.specs.Job.{JobView}
 use Rattle.ulfm_stops.specs.Place.{IsPlaceOf, job_at}
 use Rattle.ulfm_stops.specs.declared.place.Place.{Place}
 use Rattle.ulfm_lists.specs.Objects.{lists_in}
-use Rattle.ulfm_places.specs.Union.{some_never_ends}
-use Rattle.ulfm_places.specs.declared.listed.Listed.{Listed}
+use Rattle.ulfm_lists.specs.Union.{some_never_ends}
+use Rattle.ulfm_lists.specs.declared.listed.Listed.{Listed}
 use Rattle.ulfm_places.specs.declared.lists.Lists.{Lists}
 use Rattle.ulfm_json.specs.declared.form.Form.{Form}
 use Rattle.ulfm_replies.specs.Stopped.{Asked, asked_at, asked_view}
 use Rattle.ulfm_reader.specs.declared.reading.Reading.{Reading}
 use Rattle.ulfm_replies.specs.declared.command.ListOptions.{ListOptions}
 use Rattle.ulfm_replies.specs.declared.reply.Reply.{Reply}
-use Rattle.ulfm_judged.specs.EachPlace.{IsJudgedEach, IsToldAt, IsUnfound, IsWanted, more_at, places_in}
-use Rattle.ulfm_judged.specs.Outcomes.{HasList, Told, list_status, many, nowhere_in, schedule}
-use Rattle.ulfm_judged.specs.ShowEach.{AreGoalsAt, IsNowhereAt, told_at}
+use Rattle.ulfm_judged.specs.EachPlace.{IsJudgedEach, IsToldAt, IsUnfound, IsWanted, places_in}
+use Rattle.ulfm_told.specs.At.{more_at}
+use Rattle.ulfm_judged.specs.Outcomes.{HasList, list_status, nowhere_in}
+use Rattle.ulfm_told.specs.Told.{Told, many, schedule}
+use Rattle.ulfm_judged.specs.ShowEach.{AreGoalsAt, IsNowhereAt}
+use Rattle.ulfm_told.specs.At.{told_at}
 use Rattle.ulfm_judged.specs.declared.show_each.LookAt.{LookAt}
-use Rattle.ulfm_judged.specs.declared.told.Told.{Told as Kept}
-use Rattle.ulfm_judged.specs.inside.Looking.{IsLook, look_status, told_view}
-use Rattle.ulfm_outcomes.specs.declared.goals.Goals.{Goals}
+use Rattle.ulfm_told.specs.declared.told.Told.{Told as Kept}
+use Rattle.ulfm_judged.specs.inside.Looking.{IsLook, look_status}
+use Rattle.ulfm_told.specs.Told.{told_view}
+use Rattle.ulfm_found.specs.declared.goals.Goals.{Goals}
 use Rattle.ulfm_draw.specs.declared.style.Style.{Style}
 
 -- so many threads share the places: as many as are asked for, and one at least, else 64 at most

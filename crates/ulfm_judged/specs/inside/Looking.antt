@@ -1,23 +1,19 @@
 -- What single functions find that look for schedules.
-use Rattle.std.specs.Prelude.{◌≡◌, ℕ, ◌==◌, Bool, false, ◌&&◌, List, [], ◌∷◌, Option, Some, None, slice_get, string_bytes, take}
+use Rattle.std.specs.Prelude.{◌≡◌, ℕ, ◌==◌, Bool, false, ◌&&◌, List, [], ◌∷◌, Option, Some, None, slice_get, take}
 use Rattle.std.specs.List.{list_all, list_any}
 use Rattle.ulfm_job.specs.Begins.{begins}
 use Rattle.ulfm_job.specs.declared.clause.Clause.{Clause}
 use Rattle.ulfm_job.specs.Job.{JobView}
 use Rattle.ulfm_outcomes.specs.Goals.{IsPossible}
-use Rattle.ulfm_outcomes.specs.declared.goals.Goals.{Goals}
-use Rattle.ulfm_outcomes.specs.declared.open_step.OpenStep.{OpenStep}
+use Rattle.ulfm_found.specs.declared.goals.Goals.{Goals}
+use Rattle.ulfm_found.specs.declared.open_step.OpenStep.{OpenStep}
 use Rattle.ulfm_draw.specs.declared.style.Style.{Style}
 use Rattle.ulfm_json.specs.declared.form.Form.{Form}
-use Rattle.ulfm_judged.specs.Outcomes.{AreOfRow, IsTold, NeverComes, NoneComes, Told, many, nowhere_in, schedule, told_in}
+use Rattle.ulfm_judged.specs.Outcomes.{AreOfRow, IsTold, NeverComes, NoneComes, nowhere_in}
+use Rattle.ulfm_told.specs.Told.{Told, many, schedule, told_in}
 use Rattle.ulfm_judged.specs.declared.listed.FirstRow.{FirstRow}
-use Rattle.ulfm_judged.specs.declared.told.Told.{Told as Kept}
-use Rattle.ulfm_judged.specs.declared.told.Told.TheVariants as kept
-
--- what was told, without the form that it has in memory
-abbrev pub told_view : Kept → Told
-told_view (kept.Schedule text) = schedule (string_bytes text)
-told_view (kept.Many limit) = many limit
+use Rattle.ulfm_told.specs.declared.told.Told.{Told as Kept}
+use Rattle.ulfm_told.specs.Told.{told_view}
 
 -- a search for these goals came to nothing, since no schedule shows them, or to what is told
 abbrev pub IsLook : JobView → Goals → Bool → ℕ → Option Kept → Type 0

@@ -7,7 +7,7 @@ use Rattle.ulfm_reach.specs.declared.reach.Reach.TheVariants.{More}
 use Rattle.ulfm_stops.specs.Place.{job_at}
 use Rattle.ulfm_stops.specs.declared.place.Place.{Place}
 use Rattle.ulfm_places.specs.Lists.{AreLists, IsListedAt}
-use Rattle.ulfm_places.specs.declared.listed.Listed.{Listed}
+use Rattle.ulfm_lists.specs.declared.listed.Listed.{Listed}
 use Rattle.ulfm_places.specs.declared.lists.Lists.{Lists}
 
 -- the list of a place, or that the job has more states there than the limit

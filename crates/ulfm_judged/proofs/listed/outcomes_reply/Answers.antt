@@ -3,7 +3,7 @@ use Rattle.std.proofs.lemmas.Result.{IfOk-weaker}
 use Rattle.ulfm_replies.specs.Stopped.{IsAsked, asked_view, names_at}
 use Rattle.ulfm_reach.specs.declared.reach.Reach.{Reach}
 use Rattle.ulfm_outcomes.specs.Outcomes.{IsList}
-use Rattle.ulfm_outcomes.specs.Objects.{list_in}
+use Rattle.ulfm_found.specs.Objects.{list_in}
 use Rattle.ulfm_judged.specs.Outcomes.{IsJudged, IsOutcomesReply, listed, not_listed, past_limit}
 use Rattle.ulfm_judged.proofs.Writable.{writable}
 use Rattle.ulfm_judged.proofs.listed.outcomes_reply.Goals as goal

@@ -1,7 +1,7 @@
 use Rattle.std.proofs.Common.{◌≡◌, ◌+◌, drop}
 use Rattle.std.specs.List.{fold}
 use Rattle.ulfm_lists.specs.Text.{states_of}
-use Rattle.ulfm_places.specs.declared.listed.Listed.{Listed}
+use Rattle.ulfm_lists.specs.declared.listed.Listed.{Listed}
 use Rattle.ulfm_lists.proofs.text.states_of.Given as goal
 
 abbrev pub invariant-loop-one : goal.invariant-loop-one

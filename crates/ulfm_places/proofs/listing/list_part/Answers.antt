@@ -3,7 +3,7 @@ use Rattle.std.proofs.lemmas.List.{drop_all}
 use Rattle.ulfm_stops.specs.declared.place.Place.TheVariants.{Nowhere}
 use Rattle.ulfm_places.specs.inside.Parts.{IsListOf}
 use Rattle.ulfm_places.proofs.Joining.{goes_on-end, goes_on-past}
-use Rattle.ulfm_places.proofs.Telling.{drop-get_or}
+use Rattle.ulfm_lists.proofs.Telling.{drop-get_or}
 use Rattle.ulfm_places.proofs.listing.list_part.Goals as goal
 
 pub returns-in-None : goal.returns-in-None

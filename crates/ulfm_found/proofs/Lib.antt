@@ -1,0 +1,4 @@
+pub mod Rising
+pub mod Endings
+pub mod Any
+pub mod Unlike

@@ -1,0 +1,4 @@
+pub mod Text
+pub mod Objects
+pub mod Goals
+pub mod Unmet

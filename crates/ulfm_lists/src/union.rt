@@ -1,0 +1,120 @@
+//! What all lists tell of a step, and at which places.
+ghost use Rattle.std.specs.Prelude.{◌≡◌, ◌∷◌, ◌++◌, [], IfOk, OnOk, map, string_bytes};
+ghost use Rattle.ulfm_stops.specs.Text.{place_text};
+ghost use Rattle.ulfm_lists.specs.Union.{AreAllAscii};
+ghost use Rattle.ulfm_lists.specs.Union.{answers_of, is_row, is_told, is_told_at, places_with, some_never_ends};
+
+use crate::listed::Listed;
+use crate::numbers::number_at;
+use std::alloc::Global;
+use std::collections::BTreeSet;
+use ulfm_base::OutOfMemory;
+use ulfm_found::{add_answers, in_order, some_never_end};
+use ulfm_job::Job;
+use ulfm_reach::Rows;
+use ulfm_stops::Place;
+
+/// The answers that these lists have for a step of the file, each once.
+fn answer_set(
+    alloc: Global,
+    job: &Job,
+    listed: &[Listed],
+    rank: u8,
+    k: usize,
+) -> Result<BTreeSet<String>, OutOfMemory>
+    requires ascii { AreAllAscii listed.now }
+    ensures { IfOk result (λ answers. map string_bytes answers.keys ≡ answers_of job.now listed.now rank k) }
+{
+    let mut answers = BTreeSet::new(alloc);
+    for one in listed {
+        let number = number_at(one.place, job, rank, k);
+        add_answers(alloc, &one.found, rank, number, &mut answers)?;
+    }
+    Ok(answers)
+}
+
+/// The answers that these lists have for a step of the file, in rising order of their bytes, each once.
+pub fn answers_of(
+    alloc: Global,
+    job: &Job,
+    listed: &[Listed],
+    rank: u8,
+    k: usize,
+) -> Result<Vec<String>, OutOfMemory>
+    requires ascii { AreAllAscii listed.now }
+    ensures { IfOk result (λ answers. map string_bytes answers.items ≡ answers_of job.now listed.now rank k) }
+{
+    Ok(in_order(alloc, answer_set(alloc, job, listed, rank, k)?)?)
+}
+
+/// Whether a row tells this of the step `k` of a rank.
+fn is_row(row: &[u8], rank: u8, k: usize, words: &[u8]) -> bool
+    ensures { result ≡ is_row rank k words.now row.now }
+{
+    match row {
+        [row_rank, row_step, told @ ..] => {
+            *row_rank == rank && *row_step as usize == k && told == words
+        }
+        _ => false,
+    }
+}
+
+/// Whether a list tells this of the step `k` of its own job.
+#[tactic(auto, using(ulfm_found::proofs::Any::any_here, ulfm_found::proofs::Any::any_on))]
+fn is_told(found: &Rows, rank: u8, k: usize, words: &[u8]) -> bool
+    ensures { result ≡ is_told found.now rank k words.now }
+{
+    for place in 0..found.len() {
+        let Some(row) = found.row(place) else {
+            continue;
+        };
+        if is_row(row, rank, k, words) {
+            return true;
+        }
+    }
+    false
+}
+
+/// Whether the list of a place tells this of a step of the file.
+fn is_told_at(job: &Job, rank: u8, k: usize, words: &[u8], one: &Listed) -> bool
+    ensures { result ≡ is_told_at job.now rank k words.now one.now }
+{
+    let number = number_at(one.place, job, rank, k);
+    is_told(&one.found, rank, number, words)
+}
+
+/// The texts of the places at which that is told: an answer by its words, or that the step never ends by none.
+pub fn places_with(
+    alloc: Global,
+    job: &Job,
+    listed: &[Listed],
+    rank: u8,
+    k: usize,
+    words: &[u8],
+) -> Result<Vec<String>, OutOfMemory>
+    ensures { IfOk result (λ places. map string_bytes places.items ≡ places_with job.now listed.now rank k words.now) }
+{
+    let mut places = Vec::new(alloc);
+    for one in listed {
+        if !is_told_at(job, rank, k, words, one) {
+            continue;
+        }
+        push_place(alloc, &mut places, one.place)?;
+    }
+    Ok(places)
+}
+
+/// Puts the text of a place behind others.
+fn push_place(alloc: Global, places: &mut Vec<String>, place: Place) -> Result<(), OutOfMemory>
+    ensures { OnOk result (map string_bytes places.new.items ≡ map string_bytes places.old.items ++ place_text place ∷ []) }
+{
+    places.push(format!(in alloc; "{place}")?)?;
+    Ok(())
+}
+
+/// Whether some step never ends at some of these places.
+pub fn some_never_ends(listed: &[Listed]) -> bool
+    ensures { result ≡ some_never_ends listed.now }
+{
+    listed.iter().any(|one| some_never_end(&one.found))
+}

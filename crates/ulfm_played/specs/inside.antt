@@ -1,0 +1,4 @@
+-- What private functions and proofs cite of what is played.
+pub mod Tallied
+pub mod Cells
+pub mod Shown

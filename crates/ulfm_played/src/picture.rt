@@ -1,0 +1,50 @@
+//! The reply of `draw`: a picture of a replay.
+ghost use Rattle.std.specs.Prelude.{◌≡◌, IfOk, string_bytes};
+ghost use Rattle.ulfm_played.specs.Played.{IsDrawReply};
+ghost use Rattle.ulfm_replies.specs.CommandLine.{AreTurns};
+
+use crate::turns::given_turns;
+use std::alloc::{AllocError, Global};
+use ulfm_draw::{Style, drawn};
+use ulfm_json::Form;
+use ulfm_moves::played_text;
+use ulfm_replies::{DONE, Place, Reply, asked_at};
+use ulfm_script::{Job, RankReport};
+use ulfm_world::replay;
+
+/// The reply of `draw`, in this style.
+pub fn draw_reply(
+    alloc: Global,
+    form: Form,
+    style: Style,
+    turns: Option<u32>,
+    place: Place,
+    bytes: &[u8],
+) -> Result<Reply, AllocError>
+    requires { AreTurns turns }
+    ensures { IfOk result (λ r. IsDrawReply form turns place bytes.now r.status (string_bytes r.text)) }
+{
+    let read = asked_at(alloc, form, place, bytes)?;
+    let asked = match read {
+        Ok(asked) => given_turns(asked, turns),
+        Err(reply) => return Ok(reply),
+    };
+    match replay(alloc, &asked.job) {
+        Ok(reports) => picture_of(alloc, style, &asked.job, reports.as_slice()),
+        Err(_) => Err(AllocError),
+    }
+}
+
+/// The picture of the reports of a job's ranks.
+fn picture_of(
+    alloc: Global,
+    style: Style,
+    job: &Job,
+    reports: &[RankReport],
+) -> Result<Reply, AllocError>
+    ensures { IfOk result (λ r. r.status ≡ 0) }
+{
+    let played = played_text(alloc, job, reports)?;
+    let text = drawn(alloc, style, played.as_str(), "")?;
+    Ok(Reply { status: DONE, text })
+}

@@ -1,0 +1,4 @@
+pub mod Lines
+pub mod Waits
+pub mod Schedule
+pub mod inside

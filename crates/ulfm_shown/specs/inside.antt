@@ -1,0 +1,2 @@
+-- What private functions cite of a schedule in words.
+pub mod Told

@@ -1,0 +1,2 @@
+-- What private functions cite of the lines of a sweep.
+pub mod Kinds
