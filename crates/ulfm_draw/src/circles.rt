@@ -19,16 +19,22 @@ pub(crate) fn conclusions(
     }
     for wait in &picture.waits {
         let (rank, on) = (wait.rank, wait.on);
-        if !holds(picture, wait) || picture.waits_somewhere(on) {
-            continue;
-        }
-        if picture.is_through(on) {
-            lines.push(format!(in alloc; "{rank} waits for {on}, which is done.")?)?;
-        } else if picture.has_stopped(on) {
-            lines.push(format!(in alloc; "{rank} waits for {on}, which has stopped.")?)?;
+        if let Some(state) = vain(picture, wait) {
+            lines.push(format!(in alloc; "{rank} waits for {on}, which {state}.")?)?;
         }
     }
     Ok(lines)
+}
+
+/// Why what a wait is for won't come any more, where it is for a rank that is through or has stopped.
+fn vain(picture: &Picture<'_>, wait: &Wait<'_>) -> Option<&'static str> {
+    if !holds(picture, wait) || picture.waits_somewhere(wait.on) {
+        return None;
+    }
+    if picture.is_through(wait.on) {
+        return Some("is done");
+    }
+    picture.has_stopped(wait.on).then_some("has stopped")
 }
 
 /// Whether a wait is of the step at which its rank would stand, and isn't over as soon as what came later is there.

@@ -12,25 +12,47 @@ const FEWEST: usize = 8;
 
 /// A picture as text: a column for each rank, and a row for each move.
 pub(crate) fn table(alloc: Global, picture: &Picture<'_>) -> Result<String, OutOfMemory> {
+    let cells = cells_of(alloc, picture)?;
+    let widths = widths_of(alloc, picture, cells.as_slice())?;
+    let mut out = String::new(alloc);
+    push_table(&mut out, picture, cells.as_slice(), widths.as_slice())?;
+    Ok(out)
+}
+
+/// The texts of all rows.
+fn cells_of(alloc: Global, picture: &Picture<'_>) -> Result<Vec<String>, OutOfMemory> {
     let mut cells = Vec::new(alloc);
     for (number, row) in picture.rows.iter().enumerate() {
         cells.push(cell(alloc, picture, number, row)?)?;
     }
-    let widths = widths_of(alloc, picture, cells.as_slice())?;
-    let mut out = String::new(alloc);
+    Ok(cells)
+}
+
+/// Puts the columns of these widths, the texts of the rows in them, and what stands below.
+fn push_table(
+    out: &mut String,
+    picture: &Picture<'_>,
+    cells: &[String],
+    widths: &[usize],
+) -> Result<(), OutOfMemory> {
+    push_head(out, picture, widths)?;
+    for (row, cell) in picture.rows.iter().zip(cells.iter()) {
+        push_line(out, widths, row.rank, cell.as_str())?;
+    }
+    push_ends(out, picture)?;
+    push_conclusions(out, picture)
+}
+
+/// Puts what is noted of the whole, and the ranks' names above their columns.
+fn push_head(out: &mut String, picture: &Picture<'_>, widths: &[usize]) -> Result<(), OutOfMemory> {
     if !picture.note.is_empty() {
         write!(out, "{}\n", picture.note)?;
     }
     for rank in 0..picture.ranks() {
-        let name = format!(in alloc; "rank {rank}")?;
-        push_cell(&mut out, widths.as_slice(), rank, name.as_str())?;
+        let name = format!(in *out.allocator(); "rank {rank}")?;
+        push_cell(out, widths, rank, name.as_str())?;
     }
-    out.push_str("\n")?;
-    for (row, cell) in picture.rows.iter().zip(cells.iter()) {
-        push_line(&mut out, widths.as_slice(), row.rank, cell.as_str())?;
-    }
-    push_ends(&mut out, picture)?;
-    Ok(out)
+    out.push_str("\n")
 }
 
 /// The text of a row.
@@ -103,9 +125,8 @@ fn push_cell(
     out.push_str("  ")
 }
 
-/// Puts how each rank ended, what steps wait for that stand open, and what that comes to.
+/// Puts how each rank ended, and what steps wait for that stand open.
 fn push_ends(out: &mut String, picture: &Picture<'_>) -> Result<(), OutOfMemory> {
-    let alloc = *out.allocator();
     for rank in 0..picture.ranks() {
         let ending = picture.ending(rank);
         write!(out, "rank {rank}: {ending}\n")?;
@@ -114,6 +135,12 @@ fn push_ends(out: &mut String, picture: &Picture<'_>) -> Result<(), OutOfMemory>
         let (rank, step, need) = (wait.rank, wait.step, wait.need);
         write!(out, "{rank}.{step} waits for {need}: {}\n", wait.bearer)?;
     }
+    Ok(())
+}
+
+/// Puts what the waits come to.
+fn push_conclusions(out: &mut String, picture: &Picture<'_>) -> Result<(), OutOfMemory> {
+    let alloc = *out.allocator();
     for conclusion in conclusions(alloc, picture)? {
         write!(out, "{conclusion}\n")?;
     }

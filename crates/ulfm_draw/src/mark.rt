@@ -54,19 +54,30 @@ pub(crate) fn mark_of(row: &Row<'_>) -> Option<Mark> {
     }
 }
 
+/// The marks that the first word of an answer has, whatever the op.
+const BY_WORD: [(&str, Mark); 9] = [
+    ("done", Mark::Got),
+    ("found", Mark::Got),
+    ("refused", Mark::Refusal),
+    ("over", Mark::Refusal),
+    ("unfinished", Mark::Hang),
+    ("pending", Mark::Pending),
+    ("skipped", Mark::Skip),
+    ("noted", Mark::Note),
+    ("stopped", Mark::Stop),
+];
+
 /// The mark of an answer, by the op of its step and its first word.
 fn mark_by(op: &str, answer: &str) -> Mark {
-    match (op, answer) {
-        ("shrink", "comm") | ("agree", "agreed") => Mark::Decision,
-        (_, "done" | "found") => Mark::Got,
-        (_, "refused" | "over") => Mark::Refusal,
-        (_, "unfinished") => Mark::Hang,
-        (_, "pending") => Mark::Pending,
-        (_, "skipped") => Mark::Skip,
-        (_, "noted") => Mark::Note,
-        (_, "stopped") => Mark::Stop,
-        _ => Mark::Answer,
+    if (op == "shrink" && answer == "comm") || (op == "agree" && answer == "agreed") {
+        return Mark::Decision;
     }
+    for (word, mark) in &BY_WORD {
+        if *word == answer {
+            return *mark;
+        }
+    }
+    Mark::Answer
 }
 
 /// What a mark says, in words.

@@ -42,22 +42,56 @@ fn push_row(
         let arrow = arrow_of(kind);
         return write!(out, "    r{from}{arrow}r{rank}: {subject}\n");
     }
-    let outcome = escaped(alloc, outcome(alloc, picture, number, row)?.as_str())?;
+    push_call(out, picture, number, row, subject.as_str())
+}
+
+/// Puts the lines of a row that tells of a call.
+fn push_call(
+    out: &mut String,
+    picture: &Picture<'_>,
+    number: usize,
+    row: &Row<'_>,
+    subject: &str,
+) -> Result<(), OutOfMemory> {
+    let rank = row.rank;
     if row.is_opening() {
         write!(out, "    activate r{rank}\n")?;
     }
-    write!(out, "    Note right of r{rank}: {subject}<br/>{outcome}")?;
+    push_note(out, picture, number, row, subject)?;
+    push_left(out, picture, row)?;
+    out.push_str("\n")?;
+    if picture.was_open(number) {
+        write!(out, "    deactivate r{rank}\n")?;
+    }
+    push_lost(out, picture, number)
+}
+
+/// Puts the beginning of a note: what was called, and what came of it.
+fn push_note(
+    out: &mut String,
+    picture: &Picture<'_>,
+    number: usize,
+    row: &Row<'_>,
+    subject: &str,
+) -> Result<(), OutOfMemory> {
+    let alloc = *out.allocator();
+    let outcome = escaped(alloc, outcome(alloc, picture, number, row)?.as_str())?;
+    write!(
+        out,
+        "    Note right of r{}: {subject}<br/>{outcome}",
+        row.rank
+    )
+}
+
+/// Puts what the step that a row gave up waited for.
+fn push_left(out: &mut String, picture: &Picture<'_>, row: &Row<'_>) -> Result<(), OutOfMemory> {
     for wait in &picture.waits {
         if picture.is_left_by(wait, row) {
             let lead = lead(picture, wait);
             write!(out, "<br/>{lead} {}:<br/>{}", wait.need, wait.bearer)?;
         }
     }
-    out.push_str("\n")?;
-    if picture.was_open(number) {
-        write!(out, "    deactivate r{rank}\n")?;
-    }
-    push_lost(out, picture, number)
+    Ok(())
 }
 
 /// A text in which the code of the sign `#` stands for it: Mermaid takes the sign itself for the beginning of a comment.

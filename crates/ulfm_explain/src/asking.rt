@@ -103,6 +103,15 @@ impl Asker<'_> {
         if items.is_empty() || items.len() > MOST_ITEMS {
             return self.tell(findings, Key::If, Cause::Count(Key::If, items.len()));
         }
+        self.explain_alternatives(findings, items.as_slice())
+    }
+
+    /// Tells what is wrong with each of its alternatives.
+    fn explain_alternatives(
+        &self,
+        findings: &mut Findings<'_>,
+        items: &[Value],
+    ) -> Result<(), AllocError> {
         for item in items {
             match item.as_table() {
                 Some(table) => self.explain_alternative(findings, table)?,

@@ -36,12 +36,18 @@ pub fn explain_job(findings: &mut Findings<'_>, table: &Table) -> Result<(), All
         let at = findings.place_of(None, "step");
         return findings.tell(at, None, Cause::TooManyWritten);
     }
+    explain_steps(findings, ranks, steps)?;
+    explain_never(findings, steps, table)
+}
+
+/// Tells what is wrong with each step, up to ten things. What is wrong with a step for several ranks is told once.
+fn explain_steps(
+    findings: &mut Findings<'_>,
+    ranks: u8,
+    steps: &[Value],
+) -> Result<(), AllocError> {
     for (in_file, value) in steps.iter().take(MOST_STEPS).enumerate() {
-        if findings.is_full() {
-            return Ok(());
-        }
-        // What is wrong with a step for several ranks is told once.
-        if findings.is_told(in_file) {
+        if findings.is_full() || findings.is_told(in_file) {
             continue;
         }
         if let Some(step) = value.as_table() {
@@ -49,7 +55,7 @@ pub fn explain_job(findings: &mut Findings<'_>, table: &Table) -> Result<(), All
             explain_step(findings, ranks, steps, place, step)?;
         }
     }
-    explain_never(findings, steps, table)
+    Ok(())
 }
 
 /// The steps of a job.
@@ -98,31 +104,33 @@ fn explain_step(
         let at = findings.place_of_step(Some(place.in_file));
         return findings.tell(at, Some(place), Cause::NoBlock);
     }
-    if let Some(name) = text_at(table, Key::Op) {
-        if let Some(op) = op_named(name) {
-            let sheet = Sheet {
-                table,
-                rules: op.rules,
-                step: Some(place),
-                ranks,
-                within: None,
-            };
-            sheet.explain(findings)?;
-            return explain_asking(findings, steps, place, &sheet);
-        }
-    }
-    if let Some(op) = text_at(table, Key::Op) {
-        let nearest = nearest_op(findings.alloc, op)?;
-        let cause = Cause::UnknownOp(Shown::new(findings.alloc, op)?, nearest);
-        let at = findings.place_of(Some(place.in_file), "op");
-        findings.tell(at, Some(place), cause)?;
-    }
-    let sheet = Sheet {
+    let mut sheet = Sheet {
         table,
         rules: any_step_rules(),
         step: Some(place),
         ranks,
         within: None,
     };
-    sheet.explain(findings)
+    let Some(name) = text_at(table, Key::Op) else {
+        return sheet.explain(findings);
+    };
+    match op_named(name) {
+        Some(op) => {
+            sheet.rules = op.rules;
+            sheet.explain(findings)?;
+            explain_asking(findings, steps, place, &sheet)
+        }
+        None => {
+            explain_op(findings, place, name)?;
+            sheet.explain(findings)
+        }
+    }
+}
+
+/// Tells that there is no such op.
+fn explain_op(findings: &mut Findings<'_>, place: StepPlace, op: &str) -> Result<(), AllocError> {
+    let nearest = nearest_op(findings.alloc, op)?;
+    let cause = Cause::UnknownOp(Shown::new(findings.alloc, op)?, nearest);
+    let at = findings.place_of(Some(place.in_file), "op");
+    findings.tell(at, Some(place), cause)
 }

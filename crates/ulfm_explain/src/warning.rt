@@ -3,14 +3,14 @@ ghost use Rattle.std.specs.Prelude.{◌≤◌, IfOk, vec_len};
 
 use crate::cause::Cause;
 use crate::doom::Doom;
-use crate::explanation::Explanation;
+use crate::explanation::{Explanation, StepPlace};
 use crate::fate::Placed;
 use crate::findings::Findings;
 use crate::lines::lines_of;
 use crate::script::kept_name;
 use crate::steps::place_of;
 use std::alloc::{AllocError, Global};
-use toml::Table;
+use toml::{Table, Value};
 use ulfm_expand::ranks_in;
 
 /// The steps of a good job that will surely be refused, up to ten, in the order of the file. Steps after a stop of their
@@ -41,12 +41,19 @@ pub fn warnings(alloc: Global, bytes: &[u8]) -> Result<Vec<Explanation>, AllocEr
 fn table_warnings(alloc: Global, text: &str, table: &Table) -> Result<Vec<Explanation>, AllocError>
     ensures few { IfOk result (λ found. vec_len found ≤ 10) }
 {
-    let ranks = ranks_in(table);
     let lines = lines_of(alloc, table)?;
-    let steps = lines.steps.as_slice();
     let mut findings = Findings::new(alloc, text, &lines)?;
+    warn_of_steps(&mut findings, ranks_in(table), lines.steps.as_slice())?;
+    Ok(findings.found.into_vec())
+}
+
+/// Tells which of these steps will be refused. What will be refused of a step for several ranks is told once.
+fn warn_of_steps(
+    findings: &mut Findings<'_>,
+    ranks: u8,
+    steps: &[Value],
+) -> Result<(), AllocError> {
     for (in_file, step) in steps.iter().enumerate() {
-        // What will be refused of a step for several ranks is told once.
         if findings.is_told(in_file) {
             continue;
         }
@@ -59,16 +66,27 @@ fn table_warnings(alloc: Global, text: &str, table: &Table) -> Result<Vec<Explan
                 number,
                 step,
             };
-            if !placed.is_after_stop() {
-                if let Some(doom) = placed.doom() {
-                    let at = findings.place_of(Some(in_file), doom.key().name());
-                    let name = other_name(alloc, placed, &doom)?;
-                    findings.tell(at, Some(place), Cause::Doomed(doom, name))?;
-                }
-            }
+            warn_of_step(findings, place, placed)?;
         }
     }
-    Ok(findings.found.into_vec())
+    Ok(())
+}
+
+/// Tells whether a step will be refused.
+fn warn_of_step(
+    findings: &mut Findings<'_>,
+    place: StepPlace,
+    placed: Placed<'_>,
+) -> Result<(), AllocError> {
+    if placed.is_after_stop() {
+        return Ok(());
+    }
+    let Some(doom) = placed.doom() else {
+        return Ok(());
+    };
+    let at = findings.place_of(Some(place.in_file), doom.key().name());
+    let name = other_name(findings.alloc, placed, &doom)?;
+    findings.tell(at, Some(place), Cause::Doomed(doom, name))
 }
 
 /// The name of the other step of its rank that a step's warning tells of, if it has one.
