@@ -4,6 +4,7 @@
 use std::env;
 use std::io::ErrorKind;
 use std::process::ExitCode;
+use ulfm_outcomes::Exploration;
 use ulfm_program::{run_each, without_words};
 
 fn main(rt: HostRuntime) -> ExitCode {
@@ -11,6 +12,7 @@ fn main(rt: HostRuntime) -> ExitCode {
     let status = match words_of(&rt) {
         Ok(words) => run_each(
             &rt,
+            &Exploration,
             rt.alloc(),
             words.as_slice(),
             &mut rt.stdin(),

@@ -7,3 +7,4 @@ pub mod Among
 pub mod Numbers
 pub mod Places
 pub mod Topics
+pub mod Longer

@@ -25,6 +25,7 @@ mod noted_letter;
 mod pattern;
 mod rank;
 mod rank_set;
+mod request_id;
 mod tag;
 mod topic;
 
@@ -44,5 +45,6 @@ pub use noted_letter::NotedLetter;
 pub use pattern::{Pattern, Source};
 pub use rank::{MOST_RANKS, RANK_PLACES, WorldRank};
 pub use rank_set::RankSet;
+pub use request_id::RequestId;
 pub use tag::Tag;
 pub use topic::{Purpose, Topic};

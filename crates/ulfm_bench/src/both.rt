@@ -3,8 +3,7 @@
 use crate::post::Post;
 use crate::side::{Tested, start_receive, start_send, take_in, take_out, test_into};
 use std::sync::Wait;
-use ulfm_base::WorldRank;
-use ulfm_match::RequestId;
+use ulfm_base::{RequestId, WorldRank};
 use ulfm_rank::Rank;
 
 /// Ranks 0 and 1 of two, and the receive that rank 1 posted.

@@ -1,16 +1,16 @@
 //! A rank at its end of a way: whole letters, with their calls, turns and matching.
 ghost use Rattle.std.specs.Prelude.{◌<◌, IsTrue, IfSome};
 ghost use Rattle.ulfm_rank.specs.Calls.{IsFrom};
-ghost use Rattle.ulfm_rank.specs.State.{has_way_back, MayReturn};
+ghost use Rattle.ulfm_log.specs.State.{has_way_back, MayReturn};
 
 use crate::post::{Post, TRIES, put};
 use crate::way::Way;
 use std::alloc::Global;
 use std::sync::Wait;
 use std::thread;
-use ulfm_base::{Item, Tag, WorldRank};
-use ulfm_match::RequestId;
-use ulfm_rank::{Rank, TestAnswer};
+use ulfm_base::{Item, RequestId, Tag, WorldRank};
+use ulfm_log::TestAnswer;
+use ulfm_rank::Rank;
 
 /// The tag of each letter.
 const TAG: Tag = Tag { number: 1 };

@@ -5,7 +5,7 @@ use Rattle.ulfm_base.specs.declared.error.CallError.TheVariants.{NoComm, BadRank
 use Rattle.ulfm_base.specs.declared.tag.Tag.{Tag}
 use Rattle.ulfm_process.specs.View.{ProcessView}
 use Rattle.ulfm_rank.specs.Checks.{Check, FailsOrStarves, Passes}
-use Rattle.ulfm_rank.specs.declared.entry.Comm.{Comm}
+use Rattle.ulfm_log.specs.declared.entry.Comm.{Comm}
 
 -- whether there is a process
 abbrev pub holding : {X : Type 0} → Option X → ℕ

@@ -9,10 +9,10 @@ use Rattle.ulfm_c.specs.Told.{listed}
 use Rattle.ulfm_c.specs.declared.told.CGroup.{CGroup}
 use Rattle.ulfm_process.specs.View.{ProcessView, with_rank}
 use Rattle.ulfm_rank.specs.Checks.{dup_checks}
-use Rattle.ulfm_rank.specs.Communicators.{group_of}
-use Rattle.ulfm_rank.specs.State.{logged}
-use Rattle.ulfm_rank.specs.declared.entry.Comm.{Comm}
-use Rattle.ulfm_rank.specs.declared.entry.Entry.TheVariants.{Duplicated}
+use Rattle.ulfm_log.specs.Communicators.{group_of}
+use Rattle.ulfm_log.specs.State.{logged}
+use Rattle.ulfm_log.specs.declared.entry.Comm.{Comm}
+use Rattle.ulfm_log.specs.declared.entry.Entry.TheVariants.{Duplicated}
 
 -- a communicator has this group
 abbrev pub HasGroup : ProcessView → Comm → List ℕ → Type 0

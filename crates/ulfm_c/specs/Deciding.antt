@@ -11,7 +11,7 @@ use Rattle.ulfm_c.specs.Told.{listed}
 use Rattle.ulfm_c.specs.declared.told.CGroup.{CGroup}
 use Rattle.ulfm_process.specs.Deciding.{Adopts, IsPollRefusal, Waits}
 use Rattle.ulfm_process.specs.View.{ProcessView}
-use Rattle.ulfm_rank.specs.Proposal.{last_agreement}
+use Rattle.ulfm_log.specs.Proposal.{last_agreement}
 
 -- With 0 the decision on a topic is adopted, and told so. With 17 there is none yet, else it is refused, and what is written to is kept.
 abbrev pub Polls : ProcessView → ProcessView → Topic → ℕ → Type 0 → (Decision → Type 0) → Type 0

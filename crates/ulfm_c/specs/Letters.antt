@@ -7,19 +7,19 @@ use Rattle.ulfm_c.specs.Told.{Tells, TellsCancel}
 use Rattle.ulfm_c.specs.declared.told.CStatus.{CStatus}
 use Rattle.ulfm_match.specs.History.{count_before}
 use Rattle.ulfm_match.specs.Pairing.{Pairing, LawfulPairing}
-use Rattle.ulfm_match.specs.declared.request.RequestId.{RequestId}
+use Rattle.ulfm_base.specs.declared.request_id.RequestId.{RequestId}
 use Rattle.ulfm_process.specs.View.{ProcessView, with_rank}
 use Rattle.ulfm_rank.specs.Answer.{IsRequest, IsTestAnswer, is_release}
 use Rattle.ulfm_rank.specs.Calls.{Posts, Sends}
 use Rattle.ulfm_rank.specs.Cancel.{IsCancelAnswer, cancelling}
 use Rattle.ulfm_rank.specs.Checks.{IsTestRefusal, receive_checks, send_checks}
-use Rattle.ulfm_rank.specs.Facts.{is_stopped}
+use Rattle.ulfm_log.specs.Facts.{is_stopped}
 use Rattle.ulfm_rank.specs.History.{history_of}
-use Rattle.ulfm_rank.specs.State.{logged}
-use Rattle.ulfm_rank.specs.declared.entry.Cancel.{Cancel}
-use Rattle.ulfm_rank.specs.declared.entry.Comm.{Comm}
-use Rattle.ulfm_rank.specs.declared.entry.Entry.TheVariants.{Released}
-use Rattle.ulfm_rank.specs.declared.entry.TestAnswer.{TestAnswer}
+use Rattle.ulfm_log.specs.State.{logged}
+use Rattle.ulfm_log.specs.declared.entry.Cancel.{Cancel}
+use Rattle.ulfm_log.specs.declared.entry.Comm.{Comm}
+use Rattle.ulfm_log.specs.declared.entry.Entry.TheVariants.{Released}
+use Rattle.ulfm_log.specs.declared.entry.TestAnswer.{TestAnswer}
 
 -- a letter is sent to a position, past 255 as 255; the process is with its rank as it was
 abbrev pub SendCall : ProcessView → ProcessView → ℕ → ℕ → ℕ → List ℕ → ℕ → Type 0

@@ -9,15 +9,15 @@ use Rattle.ulfm_c.specs.declared.told.CStatus.{CStatus}
 use Rattle.ulfm_match.specs.Pairing.{Pairing, LawfulPairing}
 use Rattle.ulfm_process.specs.View.{ProcessView, with_rank}
 use Rattle.ulfm_rank.specs.Checks.{Passes, receive_checks}
-use Rattle.ulfm_rank.specs.Facts.{is_stopped}
+use Rattle.ulfm_log.specs.Facts.{is_stopped}
 use Rattle.ulfm_rank.specs.History.{history_of}
 use Rattle.ulfm_rank.specs.Messages.{FindsNone, IsLookRefusal, IsMessage, IsMessageAnswer, IsMessageRefusal, IsProbeRefusal, IsProbed, IsSeen}
-use Rattle.ulfm_rank.specs.State.{logged}
-use Rattle.ulfm_rank.specs.declared.entry.Comm.{Comm}
-use Rattle.ulfm_rank.specs.declared.entry.Entry.TheVariants.{Received}
-use Rattle.ulfm_rank.specs.declared.entry.Status.{Status}
-use Rattle.ulfm_rank.specs.declared.entry.TestAnswer.{TestAnswer}
-use Rattle.ulfm_rank.specs.declared.message.MessageId.{MessageId}
+use Rattle.ulfm_log.specs.State.{logged}
+use Rattle.ulfm_log.specs.declared.entry.Comm.{Comm}
+use Rattle.ulfm_log.specs.declared.entry.Entry.TheVariants.{Received}
+use Rattle.ulfm_log.specs.declared.entry.Status.{Status}
+use Rattle.ulfm_log.specs.declared.entry.TestAnswer.{TestAnswer}
+use Rattle.ulfm_log.specs.declared.message.MessageId.{MessageId}
 
 -- a look finds a letter, which is told
 pub record Sees (old : ProcessView) (c : Comm) (source : Option ℕ) (tag : Option Tag) (status : CStatus) : Type 0 where

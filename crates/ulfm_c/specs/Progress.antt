@@ -2,7 +2,7 @@
 use Rattle.std.specs.Prelude.{◌≡◌, ℕ, ◌<◌, ◌⊎◌, [], true, false}
 use Rattle.ulfm_process.specs.Turning.{IsTurn}
 use Rattle.ulfm_process.specs.View.{ProcessView}
-use Rattle.ulfm_rank.specs.State.{outbox}
+use Rattle.ulfm_log.specs.State.{outbox}
 
 -- with 0 the process had a turn, and it is told by 1 or 0 whether anything moved; with 12 nothing changed
 abbrev pub TurnCall : ProcessView → ProcessView → ℕ → ℕ → ℕ → Type 0

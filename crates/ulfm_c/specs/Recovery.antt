@@ -7,9 +7,9 @@ use Rattle.ulfm_c.specs.declared.told.CGroup.{CGroup}
 use Rattle.ulfm_process.specs.View.{ProcessView, with_rank}
 use Rattle.ulfm_rank.specs.Calls.{Enters, acknowledging, revoking}
 use Rattle.ulfm_rank.specs.Checks.{Fails, Passes, agree_checks, comm_checks, group_at, shrink_checks}
-use Rattle.ulfm_rank.specs.Facts.{ack_answer, is_revoked, known_in}
-use Rattle.ulfm_rank.specs.Proposal.{next_agreement}
-use Rattle.ulfm_rank.specs.declared.entry.Comm.{Comm}
+use Rattle.ulfm_log.specs.Facts.{ack_answer, is_revoked, known_in}
+use Rattle.ulfm_log.specs.Proposal.{next_agreement}
+use Rattle.ulfm_log.specs.declared.entry.Comm.{Comm}
 
 -- a communicator is revoked
 abbrev pub RevokeCall : ProcessView → ProcessView → ℕ → ℕ → Type 0

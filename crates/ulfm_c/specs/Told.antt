@@ -3,11 +3,11 @@ use Rattle.std.specs.Prelude.{◌≡◌, ℕ, List, [], ◌∷◌, ◌++◌, len
 use Rattle.ulfm_c.specs.Calls.{number_of}
 use Rattle.ulfm_c.specs.declared.told.CGroup.{CGroup}
 use Rattle.ulfm_c.specs.declared.told.CStatus.{CStatus}
-use Rattle.ulfm_rank.specs.declared.entry.Cancel.{Cancel}
-use Rattle.ulfm_rank.specs.declared.entry.Cancel.TheVariants.{Cancelled, Completed}
-use Rattle.ulfm_rank.specs.declared.entry.Status.{Status}
-use Rattle.ulfm_rank.specs.declared.entry.TestAnswer.{TestAnswer}
-use Rattle.ulfm_rank.specs.declared.entry.TestAnswer.TheVariants.{Done, Over, Pending, NotYet}
+use Rattle.ulfm_log.specs.declared.entry.Cancel.{Cancel}
+use Rattle.ulfm_log.specs.declared.entry.Cancel.TheVariants.{Cancelled, Completed}
+use Rattle.ulfm_log.specs.declared.entry.Status.{Status}
+use Rattle.ulfm_log.specs.declared.entry.TestAnswer.{TestAnswer}
+use Rattle.ulfm_log.specs.declared.entry.TestAnswer.TheVariants.{Done, Over, Pending, NotYet}
 
 -- the world rank of the member at a position, or 255
 abbrev pub member_at : List ℕ → ℕ → ℕ

@@ -7,10 +7,9 @@ use crate::handle::Handle;
 use crate::told::{CStatus, ended, tell};
 use crate::words::{comm_of, number_of, position_of, room_of, source_of, tag_of};
 use std::alloc::Global;
-use ulfm_base::Tag;
-use ulfm_match::RequestId;
+use ulfm_base::{RequestId, Tag};
+use ulfm_log::Cancel;
 use ulfm_process::Process;
-use ulfm_rank::Cancel;
 
 /// A send to the member at a position.
 fn send(process: &mut Process, comm: u32, dest: u32, tag: u32, body: &[u8]) -> u32

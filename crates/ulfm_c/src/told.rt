@@ -4,7 +4,7 @@ ghost use Rattle.ulfm_c.specs.Told.{Tells, ended, listed, member_at, status_of, 
 
 use crate::words::number_of;
 use ulfm_base::{Body, Group};
-use ulfm_rank::{Status, TestAnswer};
+use ulfm_log::{Status, TestAnswer};
 
 /// What is told of a letter.
 #[repr(C)]

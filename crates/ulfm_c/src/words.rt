@@ -3,7 +3,7 @@ ghost use Rattle.std.specs.Prelude.{◌≡◌, ◌≢◌, ◌≤◌, MatchOption
 ghost use Rattle.ulfm_c.specs.Calls.{NamesTag, any, number_of, source_named};
 
 use ulfm_base::{CallError, Context, Tag};
-use ulfm_rank::Comm;
+use ulfm_log::Comm;
 
 /// The code of a refusal.
 pub(crate) fn number_of(error: CallError) -> u32

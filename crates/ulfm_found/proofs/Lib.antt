@@ -2,3 +2,4 @@ pub mod Rising
 pub mod Endings
 pub mod Any
 pub mod Unlike
+pub mod Asked

@@ -1,6 +1,8 @@
 -- What clauses ask a schedule to show.
-use Rattle.std.specs.Prelude.{◌≡◌, Bool, not, List, [], codes, filter, map}
+use Rattle.std.specs.Prelude.{◌≡◌, ◌==◌, ◌&&◌, ℕ, Bool, false, not, List, [], ◌∷◌, codes, filter, map}
+use Rattle.std.specs.List.{list_all, list_any}
 use Rattle.std.specs.Str.{bytes_eq}
+use Rattle.ulfm_job.specs.Begins.{begins}
 use Rattle.ulfm_job.specs.declared.clause.Clause.{Clause}
 use Rattle.ulfm_found.specs.declared.goals.Goals.{Goals}
 use Rattle.ulfm_found.specs.declared.open_step.OpenStep.{OpenStep}
@@ -18,3 +20,17 @@ pub record AreOfClauses (clauses : List Clause) (goals : Goals) : Type 0 where
   pub answers : goals.answers.items ≡ filter (λ c. not (is_unfinished c)) clauses
   pub others : goals.others.items ≡ []
   pub left : goals.left.items ≡ map step_of (filter is_unfinished clauses)
+
+-- the row of a list tells of an answer that begins as the clause says
+abbrev pub tells : Clause → List ℕ → Bool
+tells c (rank ∷ step ∷ words) = (rank == c.rank) && (step == c.step) && begins words c.words
+tells c _ = false
+
+-- the row of a list tells that the step never ends
+abbrev pub tells_open : OpenStep → List ℕ → Bool
+tells_open o (rank ∷ step ∷ []) = (rank == o.rank) && (step == o.step)
+tells_open o _ = false
+
+-- the list has each of these answers, and each of these open steps
+abbrev pub has_each : List (List ℕ) → Goals → Bool
+has_each found goals = list_all (λ (c : Clause). list_any (tells c) found) goals.answers.items && list_all (λ (o : OpenStep). list_any (tells_open o) found) goals.left.items

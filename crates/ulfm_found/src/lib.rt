@@ -15,9 +15,11 @@ mod list;
 mod objects;
 mod open_step;
 mod unmet;
+mod wanted;
 
 pub use goals::Goals;
 pub use list::{add_answers, in_order, is_stuck, some_never_end, words_at};
 pub use objects::list_in;
 pub use open_step::OpenStep;
 pub use unmet::{Unmet, unmet_in};
+pub use wanted::has_each;

@@ -1,8 +1,8 @@
 -- The two forms of a trace.
 use Rattle.std.specs.Prelude.{ℕ, List}
 use Rattle.ulfm_job.specs.Job.{JobView}
-use Rattle.ulfm_script.specs.Report.{Report}
-use Rattle.ulfm_script.specs.Trace.{trace_of}
+use Rattle.ulfm_answer.specs.Report.{Report}
+use Rattle.ulfm_answer.specs.Trace.{trace_of}
 use Rattle.ulfm_json.specs.Trace.{trace_json}
 use Rattle.ulfm_json.specs.declared.form.Form.{Form}
 use Rattle.ulfm_json.specs.declared.form.Form.TheVariants.{Words, Json}

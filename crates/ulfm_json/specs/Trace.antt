@@ -3,12 +3,12 @@ use Rattle.std.specs.Prelude.{ℕ, ◌+◌, Bool, List, [], ◌∷◌, ◌++◌,
 use Rattle.std.specs.Fmt.{decimal}
 use Rattle.std.specs.List.{flat_map}
 use Rattle.toml.specs.Data.{Items}
-use Rattle.ulfm_rank.specs.Facts.{is_stopped}
+use Rattle.ulfm_log.specs.Facts.{is_stopped}
 use Rattle.ulfm_job.specs.Job.{JobView, script_at}
 use Rattle.ulfm_job.specs.declared.step.Step.{Step}
-use Rattle.ulfm_script.specs.declared.answer.StepAnswer.{StepAnswer}
-use Rattle.ulfm_script.specs.declared.answer.StepReport.{StepReport}
-use Rattle.ulfm_script.specs.Report.{Report}
+use Rattle.ulfm_answer.specs.declared.answer.StepAnswer.{StepAnswer}
+use Rattle.ulfm_answer.specs.declared.answer.StepReport.{StepReport}
+use Rattle.ulfm_answer.specs.Report.{Report}
 use Rattle.ulfm_json.specs.Answer.{answer_json}
 use Rattle.ulfm_json.specs.Call.{call_json}
 use Rattle.ulfm_json.specs.Names.{document_in, name_at, step_tables}

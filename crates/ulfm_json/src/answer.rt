@@ -6,8 +6,8 @@ ghost use Rattle.ulfm_json.specs.Answer.{answer_json, status_json, told_json, wo
 use crate::call::push_comm;
 use crate::parts::{push_error, push_group, push_numbers};
 use std::alloc::AllocError;
-use ulfm_rank::Status;
-use ulfm_script::StepAnswer;
+use ulfm_answer::StepAnswer;
+use ulfm_log::Status;
 
 /// The first word of an answer.
 fn word_of(answer: &StepAnswer) -> &'static str

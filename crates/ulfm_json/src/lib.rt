@@ -1,8 +1,8 @@
 //! What came of a job as JSON: an object a line, for programs. Its keys are in `docs/JOBS.md` and in `jobs/output.schema.json`.
 //!
-//!     let text = trace_in(alloc, Form::Json, bytes, &job, reports.as_slice())?;
+//!     push_steps(&mut text, tables, &job, rank, report.steps())?;
 //!
-//! Its text is `trace_json` of specs/Trace.antt, which has an object for each line of `trace_of` of `ulfm_script`. A job keeps no names of
+//! A trace is `trace_json` of specs/Trace.antt, which has an object for each line of `trace_of` of `ulfm_answer`. A job keeps no names of
 //! steps, so they are read from its text once more: `name_at` of specs/Names.antt. What the lists of `outcomes` share with traces stands
 //! here too: [`push_head`] begins the object of a step.
 #![tactic(auto)]
@@ -14,7 +14,7 @@ mod names;
 mod parts;
 mod trace;
 
-pub use form::{Form, trace_in};
+pub use form::Form;
 pub use names::{document_of, name_at, step_tables};
 pub use parts::push_texts;
-pub use trace::{push_head, trace_json};
+pub use trace::{push_end, push_head, push_steps};

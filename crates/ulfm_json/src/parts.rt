@@ -4,8 +4,8 @@ ghost use Rattle.ulfm_json.specs.Parts.{behind_commas, error_json, numbers_json,
 
 use std::alloc::AllocError;
 use std::fmt;
+use ulfm_answer::numbers_of;
 use ulfm_base::{CallError, Group};
-use ulfm_script::numbers_of;
 
 /// The keys of a refusal: its number and its name.
 pub(crate) fn push_error(text: &mut String, error: CallError) -> Result<(), AllocError>

@@ -3,15 +3,15 @@ use Rattle.std.proofs.Common.{◌≡◌, ℕ, List, [], ◌∷◌, ◌++◌, Opt
 use Rattle.std.proofs.lemmas.List.Elements.{All-cons, All-head, All-nil, All-tail}
 use Rattle.std.specs.Prelude.{All}
 use Rattle.ulfm_reach.specs.declared.reach.Reach.TheVariants as reach
-use Rattle.ulfm_outcomes.proofs.Writable.{list-writable}
-use Rattle.ulfm_outcomes.specs.Outcomes.{IsList}
+use Rattle.ulfm_finder.proofs.Writable.{list-writable}
+use Rattle.ulfm_finder.specs.Outcomes.{IsList}
 use Rattle.ulfm_found.specs.Text.{AreAscii}
 use Rattle.ulfm_job.specs.Job.{JobView}
-use Rattle.ulfm_outcomes.specs.Unmet.{MeetsExpected}
+use Rattle.ulfm_finder.specs.Unmet.{MeetsExpected}
 use Rattle.ulfm_stops.specs.Place.{IsPlaceOf, job_at}
 use Rattle.ulfm_stops.specs.declared.place.Place.{Place}
 use Rattle.ulfm_stops.specs.declared.place.Place.TheVariants.{Nowhere, One, Two}
-use Rattle.ulfm_places.specs.Lists.{AreLists, IsListedAt}
+use Rattle.ulfm_judged.specs.Lists.{AreLists, IsListedAt}
 use Rattle.ulfm_lists.specs.Union.{AreAllAscii}
 use Rattle.ulfm_lists.specs.declared.listed.Listed.{Listed}
 use Rattle.ulfm_job.specs.declared.clause.Clause.{Clause}
@@ -20,18 +20,18 @@ use Rattle.ulfm_json.specs.declared.form.Form.{Form}
 use Rattle.ulfm_replies.specs.Stopped.{Asked, IsAskedAt, asked_at}
 use Rattle.ulfm_replies.specs.declared.command.ListOptions.{ListOptions}
 use Rattle.ulfm_judged.specs.EachPlace.{IsEachPlaceReply, IsJudgedEach, IsToldAt, listed_all, past_limit_at, places_in, together, unsearched}
-use Rattle.ulfm_told.specs.At.{row_at}
+use Rattle.ulfm_lists.specs.ToldAt.{row_at}
 use Rattle.ulfm_judged.specs.Outcomes.{HasList, goals_asked}
-use Rattle.ulfm_told.specs.Told.{many}
+use Rattle.ulfm_lists.specs.Told.{many}
 use Rattle.ulfm_judged.specs.ShowEach.{IsFirstPlace, IsShowEachReply, nowhere_at_all, shown_at, too_many_at}
-use Rattle.ulfm_told.specs.At.{told_at}
+use Rattle.ulfm_lists.specs.ToldAt.{told_at}
 use Rattle.ulfm_judged.specs.declared.listed.FirstRow.{FirstRow}
 use Rattle.ulfm_judged.specs.declared.show_each.LookAt.{LookAt}
-use Rattle.ulfm_told.specs.declared.told.Told.{Told as Kept}
-use Rattle.ulfm_told.specs.declared.told.Told.TheVariants as kept
+use Rattle.ulfm_lists.specs.declared.told.Told.{Told as Kept}
+use Rattle.ulfm_lists.specs.declared.told.Told.TheVariants as kept
 use Rattle.ulfm_judged.specs.inside.Judging.{AreListedOf, IsFirstLook, IsListedOf, IsLookAtText, IsToldAtText, look_at_status, status_past, text_past}
 use Rattle.ulfm_judged.specs.inside.Looking.{IsFirstRow, IsLook, look_status, row_status}
-use Rattle.ulfm_told.specs.Told.{told_view}
+use Rattle.ulfm_lists.specs.Told.{told_view}
 
 -- what is asked for at a place has the job of the place
 pub asked_at-job : (place : Place) (asked : Asked) → (asked_at place asked).job ≡ job_at place asked.job

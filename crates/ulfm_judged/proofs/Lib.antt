@@ -4,3 +4,6 @@ pub mod Judged
 pub mod EachPlace
 pub mod Unfound
 pub mod Statuses
+pub mod Joining
+pub mod Parting
+pub mod InWords

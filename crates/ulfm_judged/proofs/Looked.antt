@@ -1,5 +1,5 @@
 -- Rows that a whole list has of answers that come together.
-use Rattle.std.proofs.Common.{◌≡◌, ◌==◌, ◌&&◌, ℕ, ◌+◌, suc, Bool, true, false, List, [], ◌∷◌, Contains, drop, length, slice_get, refl, ap, sym, ◌∙◌, inl, inr, arith, Option, Some, None}
+use Rattle.std.proofs.Common.{◌≡◌, ◌==◌, ◌&&◌, ℕ, suc, Bool, true, List, [], ◌∷◌, Contains, length, slice_get, refl, ap, sym, ◌∙◌, inl, inr, arith, Option, Some, None}
 use Rattle.std.proofs.lemmas.Bool.{and_from, and_parts, eq-eqb, false≢true, cases_lt}
 use Rattle.std.proofs.lemmas.List.{get_or_past}
 use Rattle.std.proofs.lemmas.List.Folds.{list_any_at}
@@ -10,41 +10,26 @@ use Rattle.ulfm_job.specs.declared.clause.Clause.{Clause}
 use Rattle.ulfm_late.specs.Obeying.{ComesTo}
 use Rattle.ulfm_late.specs.Late.{IsEnd}
 use Rattle.ulfm_script.specs.Player.{Player}
-use Rattle.ulfm_script.specs.Reacting.{begins_in, holds_of}
-use Rattle.ulfm_script.specs.Trace.{answer_text}
-use Rattle.ulfm_script.specs.declared.answer.StepReport.{StepReport}
+use Rattle.ulfm_answer.specs.Reacting.{begins_in, holds_of}
+use Rattle.ulfm_answer.specs.Trace.{answer_text}
+use Rattle.ulfm_answer.specs.declared.answer.StepReport.{StepReport}
 use Rattle.ulfm_world.specs.World.{World, IsInside, no_player, player_at}
-use Rattle.ulfm_outcomes.specs.Goals.{IsPossible, StandsOpen, is_answered}
+use Rattle.ulfm_finder.specs.Goals.{IsPossible, StandsOpen, is_answered}
 use Rattle.ulfm_found.specs.Goals.{AreOfClauses}
-use Rattle.ulfm_outcomes.specs.Outcomes.{IsWholeList}
+use Rattle.ulfm_finder.specs.Outcomes.{IsWholeList}
 use Rattle.ulfm_found.specs.declared.goals.Goals.{Goals}
 use Rattle.ulfm_found.specs.declared.open_step.OpenStep.{OpenStep}
-use Rattle.ulfm_outcomes.proofs.Schedules.{some_there}
-use Rattle.ulfm_found.proofs.Any.{any_here, any_on}
+use Rattle.ulfm_finder.proofs.Open.{some_there}
 use Rattle.ulfm_replies.specs.Asking.{is_looked_at}
-use Rattle.ulfm_told.specs.declared.told.Told.{Told as Kept}
-use Rattle.ulfm_judged.specs.inside.Looking.{IsLook, IsLookForRow, has_each, tells, tells_open}
+use Rattle.ulfm_lists.specs.declared.told.Told.{Told as Kept}
+use Rattle.ulfm_judged.specs.inside.Looking.{IsLook, IsLookForRow}
+use Rattle.ulfm_found.specs.Goals.{has_each, tells, tells_open}
 
 -- what came of a search for the answers of a row that is looked at
 pub row_look : (job : JobView) (row : List Clause) (goals : Goals) (is_brief : Bool) (limit : ℕ) (look : Option Kept) → is_looked_at job row ≡ true → AreOfClauses row goals → IsLook job goals is_brief limit look
     → IsLookForRow job row is_brief limit look
 row_look job row goals is_brief limit None at are never = λ _. (goals, are, never)
 row_look job row goals is_brief limit (Some told) at are shows = (goals, (at, are), shows)
-
-module _ (found : List (List ℕ)) (place : ℕ) (row : List ℕ) (whole : Bool) (here : slice_get found place ≡ Some row) where
-  -- the row of a place tells of an answer, or doesn't
-  pub tells_here : (c : Clause) → list_any (tells c) (drop place found) ≡ whole → tells c row ≡ true → true ≡ whole
-  tells_here c so_far passes = any_here (tells c) found place row whole so_far here passes
-
-  pub tells_on : (c : Clause) → list_any (tells c) (drop place found) ≡ whole → tells c row ≡ false → list_any (tells c) (drop (place + 1) found) ≡ whole
-  tells_on c so_far fails = any_on (tells c) found place row whole so_far here fails
-
-  -- it tells of an open step, or doesn't
-  pub open_here : (o : OpenStep) → list_any (tells_open o) (drop place found) ≡ whole → tells_open o row ≡ true → true ≡ whole
-  open_here o so_far passes = any_here (tells_open o) found place row whole so_far here passes
-
-  pub open_on : (o : OpenStep) → list_any (tells_open o) (drop place found) ≡ whole → tells_open o row ≡ false → list_any (tells_open o) (drop (place + 1) found) ≡ whole
-  open_on o so_far fails = any_on (tells_open o) found place row whole so_far here fails
 
 -- an answered step is that of a rank of the world
 inside : (w : World) (c : Clause) → is_answered w c ≡ true → IsInside w c.rank

@@ -6,11 +6,11 @@ use Rattle.ulfm_job.specs.Job.{step_count}
 use Rattle.ulfm_stops.specs.Places.{places_of}
 use Rattle.ulfm_stops.specs.declared.place.Place.{Place}
 use Rattle.ulfm_stops.specs.declared.place.Place.TheVariants.{Nowhere}
-use Rattle.ulfm_outcomes.specs.Unmet.{MeetsExpected}
+use Rattle.ulfm_finder.specs.Unmet.{MeetsExpected}
 use Rattle.ulfm_found.specs.Unmet.{IsUnmet}
 use Rattle.ulfm_found.specs.declared.goals.Goals.{Goals}
 use Rattle.ulfm_found.specs.declared.unmet.Unmet.{Unmet}
-use Rattle.ulfm_places.specs.Lists.{AreLists}
+use Rattle.ulfm_judged.specs.Lists.{AreLists}
 use Rattle.ulfm_lists.specs.Numbers.{filed_number}
 use Rattle.ulfm_lists.specs.Objects.{lists_in}
 use Rattle.ulfm_lists.specs.Union.{some_never_ends}
@@ -21,8 +21,8 @@ use Rattle.ulfm_replies.specs.Replies.{refused_in}
 use Rattle.ulfm_replies.specs.Stopped.{Asked, IsAskedAt, IsRefusal, asked_at}
 use Rattle.ulfm_replies.specs.declared.command.ListOptions.{ListOptions}
 use Rattle.ulfm_judged.specs.Outcomes.{AreOfRow, IsFirstUnmet, IsTold, NoneComes, list_status}
-use Rattle.ulfm_told.specs.Told.{Told, many, schedule}
-use Rattle.ulfm_told.specs.At.{unmet_at, row_at, more_at}
+use Rattle.ulfm_lists.specs.Told.{Told, many, schedule}
+use Rattle.ulfm_lists.specs.ToldAt.{unmet_at, row_at, more_at}
 
 -- the step as the file numbers it
 abbrev pub filed : Place → Unmet → Unmet

@@ -1,4 +1,6 @@
+pub mod Schedule
 pub mod Outcomes
+pub mod Lists
 pub mod EachPlace
 pub mod ShowEach
 pub mod ListReply

@@ -7,13 +7,13 @@ use Rattle.ulfm_world.specs.World.{World}
 use Rattle.ulfm_reach.specs.declared.reach.Reach.TheVariants.{All, More}
 use Rattle.ulfm_reach.specs.declared.reached.Reached.{Reached}
 use Rattle.ulfm_reach.specs.declared.sought.Sought.TheVariants as sought
-use Rattle.ulfm_outcomes.specs.Goals.{IsPossible, IsSchedule}
+use Rattle.ulfm_finder.specs.Goals.{IsPossible, IsSchedule}
 use Rattle.ulfm_found.specs.Goals.{AreOfClauses}
-use Rattle.ulfm_outcomes.specs.Outcomes.{IsList}
-use Rattle.ulfm_shown.specs.Schedule.{IsScheduleText}
-use Rattle.ulfm_outcomes.specs.Showing.{IsBriefSchedule, IsShowing}
+use Rattle.ulfm_finder.specs.Outcomes.{IsList}
+use Rattle.ulfm_judged.specs.Schedule.{IsScheduleText}
+use Rattle.ulfm_finder.specs.Showing.{IsBriefSchedule, IsShowing}
 use Rattle.ulfm_found.specs.Text.{some_never_ends}
-use Rattle.ulfm_outcomes.specs.Unmet.{MeetsExpected}
+use Rattle.ulfm_finder.specs.Unmet.{MeetsExpected}
 use Rattle.ulfm_found.specs.Unmet.{IsUnmet, first_unmet}
 use Rattle.ulfm_found.specs.declared.goals.Goals.{Goals}
 use Rattle.ulfm_found.specs.declared.unmet.Unmet.{Unmet}
@@ -24,7 +24,7 @@ use Rattle.ulfm_replies.specs.Asking.{is_looked_at}
 use Rattle.ulfm_replies.specs.Failure.{out_of_memory_in}
 use Rattle.ulfm_replies.specs.Stopped.{Asked, IsAskedAt, IsRefusal, names_at, reading_as}
 use Rattle.ulfm_replies.specs.declared.command.ListOptions.{ListOptions}
-use Rattle.ulfm_told.specs.Told.{Told, told_in, unmet_in, row_in, many, schedule}
+use Rattle.ulfm_lists.specs.Told.{Told, told_in, unmet_in, row_in, many, schedule}
 
 -- what the words say that no schedule shows the answers, in this form
 abbrev pub nowhere_in : Form → List ℕ

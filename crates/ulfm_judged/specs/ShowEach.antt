@@ -8,7 +8,7 @@ use Rattle.ulfm_stops.specs.Places.{places_of}
 use Rattle.ulfm_stops.specs.declared.place.Place.{Place}
 use Rattle.ulfm_stops.specs.declared.place.Place.TheVariants.{Nowhere, One, Two}
 use Rattle.ulfm_stops.specs.declared.stop.Stop.{Stop}
-use Rattle.ulfm_outcomes.specs.Goals.{IsPossible}
+use Rattle.ulfm_finder.specs.Goals.{IsPossible}
 use Rattle.ulfm_found.specs.Goals.{AreOfClauses}
 use Rattle.ulfm_found.specs.declared.goals.Goals.{Goals}
 use Rattle.ulfm_json.specs.declared.form.Form.{Form}
@@ -17,8 +17,8 @@ use Rattle.ulfm_replies.specs.Replies.{refused_in}
 use Rattle.ulfm_replies.specs.Stopped.{Asked, IsAskedAt, IsRefusal, clauses_beside}
 use Rattle.ulfm_replies.specs.declared.command.ListOptions.{ListOptions}
 use Rattle.ulfm_judged.specs.Outcomes.{IsTold, goals_asked, no_goal, nowhere_in}
-use Rattle.ulfm_told.specs.Told.{many, schedule}
-use Rattle.ulfm_told.specs.At.{told_at}
+use Rattle.ulfm_lists.specs.Told.{many, schedule}
+use Rattle.ulfm_lists.specs.ToldAt.{told_at}
 
 -- clauses of the file's steps, by the numbers that these have beside a stop
 abbrev pub beside : JobView → Stop → List Clause → List Clause

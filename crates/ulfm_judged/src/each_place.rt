@@ -7,22 +7,25 @@ ghost use Rattle.ulfm_judged.specs.EachPlace.{IsEachPlaceReply, IsJudgedEach, pl
 ghost use Rattle.ulfm_judged.specs.inside.Judging.{AreListedOf, AreSharing, lists_status, lists_text, text_past};
 
 use crate::listed::list_status;
+use crate::lists::Lists;
+use crate::onlooker::Onlooker;
+use crate::threads::list_places;
 use crate::unwanted::first_unwanted;
 use std::alloc::{AllocError, Global};
 use std::thread;
 use std::thread::Threads;
+use ulfm_finder::Finder;
 use ulfm_job::{Job, JobFault, MOST_STEPS};
 use ulfm_json::Form;
-use ulfm_lists::{Listed, lists_in, some_never_ends};
-use ulfm_places::{Lists, Onlooker, list_places};
+use ulfm_lists::{Listed, lists_in, push_more_at, some_never_ends};
 use ulfm_reader::Reading;
 use ulfm_replies::{ListOptions, MOST_THREADS, PAST_LIMIT, Place, Reply, asked_at, refusal};
 use ulfm_stops::places;
-use ulfm_told::push_more_at;
 
 /// The reply of `outcomes --stops` with these options. The onlooker is told how far the lists and the searches are.
-pub fn each_place_reply<R, L>(
+pub fn each_place_reply<R, F, L>(
     rt: &R,
+    finder: &F,
     alloc: Global,
     form: Form,
     options: ListOptions,
@@ -32,6 +35,7 @@ pub fn each_place_reply<R, L>(
 ) -> Result<Reply, AllocError>
 where
     R: Threads + Sync,
+    F: Finder + Sync,
     L: Onlooker + Sync,
     ensures { IfOk result (λ r. IsEachPlaceReply form options stops bytes.now r.status (string_bytes r.text)) }
 {
@@ -48,6 +52,7 @@ where
     let limit = options.limit as usize;
     let lists = list_places(
         rt,
+        finder,
         alloc,
         &asked.job,
         places.as_slice(),
@@ -55,7 +60,9 @@ where
         limit,
         onlooker,
     )?;
-    judged(alloc, form, options, &asked, bytes, &lists, onlooker)
+    judged(
+        finder, alloc, form, options, &asked, bytes, &lists, onlooker,
+    )
 }
 
 /// How many threads share the places: as many as are asked for, else as there are processors, 64 at most.
@@ -82,7 +89,8 @@ fn processors<R: Threads>(rt: &R) -> u8
 }
 
 /// The lists, and below them what isn't wanted.
-fn judged<L: Onlooker>(
+fn judged<F: Finder, L: Onlooker>(
+    finder: &F,
     alloc: Global,
     form: Form,
     options: ListOptions,
@@ -98,7 +106,7 @@ fn judged<L: Onlooker>(
     let listed = lists.listed.as_slice();
     let past = lists.past_limit;
     let text = text_of(alloc, form, options, bytes, &asked.job, listed, past)?;
-    match first_unwanted(alloc, form, options, asked, listed, onlooker)? {
+    match first_unwanted(finder, alloc, form, options, asked, listed, onlooker)? {
         Some(told) => with_told(text, &told),
         None => Ok(Reply {
             status: status_of(options, lists),

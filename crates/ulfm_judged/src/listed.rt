@@ -3,38 +3,39 @@
 ghost use Rattle.std.specs.Prelude.{◌≡◌, ◌++◌, ℕ, List, Some, IfOk, option_map, string_bytes};
 ghost use Rattle.ulfm_job.specs.declared.clause.Clause.{Clause as SeenClause};
 ghost use Rattle.ulfm_reader.specs.JobText.{rows_of};
+ghost use Rattle.ulfm_replies.specs.Stopped.{IsAskedAt, asked_view};
 ghost use Rattle.ulfm_reach.specs.declared.reach.Reach.TheVariants.{All};
-ghost use Rattle.ulfm_outcomes.specs.Outcomes.{IsList};
-ghost use Rattle.ulfm_outcomes.specs.Unmet.{Judges};
+ghost use Rattle.ulfm_finder.specs.Outcomes.{IsList};
+ghost use Rattle.ulfm_finder.specs.Unmet.{Judges};
 ghost use Rattle.ulfm_found.specs.Unmet.{first_unmet};
 ghost use Rattle.ulfm_judged.specs.ListReply.{IsListReply};
 ghost use Rattle.ulfm_judged.specs.Outcomes.{HasList, IsJudged, IsOutcomesReply, list_status};
-ghost use Rattle.ulfm_told.specs.Told.{row_in};
+ghost use Rattle.ulfm_lists.specs.Told.{row_in};
 ghost use Rattle.ulfm_judged.specs.inside.Looking.{IsFirstRow, row_status};
-ghost use Rattle.ulfm_told.specs.Told.{told_view};
+ghost use Rattle.ulfm_lists.specs.Told.{told_view};
 
 use crate::each_place::each_place_reply;
 use crate::looking::{look_for, look_for_row};
+use crate::onlooker::Onlooker;
 use crate::show_each::show_each_reply;
 use crate::shown::show_reply;
 use std::alloc::{AllocError, Global};
 use std::thread::Threads;
+use ulfm_finder::{Finder, first_unmet};
 use ulfm_found::{Unmet, list_in, some_never_end};
-use ulfm_job::Clause;
+use ulfm_job::{Clause, Job};
 use ulfm_json::Form;
-use ulfm_outcomes::{first_unmet, outcomes};
-use ulfm_places::Onlooker;
+use ulfm_lists::{Told, push_row, push_unmet};
 use ulfm_reach::{Reach, Reached, Rows, Watch};
 use ulfm_reader::Reading;
 use ulfm_replies::{
     DONE, ListOptions, NOT_EXPECTED, PAST_LIMIT, Reply, UNFINISHED, asked_at, names_at,
 };
-use ulfm_script::Job;
-use ulfm_told::{Told, push_row, push_unmet};
 
 /// The reply of `outcomes` with these options, and perhaps with answers that a schedule is to show. `watch` is told how far it is.
-pub fn list_reply<R, W>(
+pub fn list_reply<R, F, W>(
     rt: &R,
+    finder: &F,
     alloc: Global,
     form: Form,
     show: Option<&str>,
@@ -44,21 +45,25 @@ pub fn list_reply<R, W>(
 ) -> Result<Reply, AllocError>
 where
     R: Threads + Sync,
+    F: Finder + Sync,
     W: Watch + Onlooker + Sync,
     ensures { IfOk result (λ r. IsListReply form (option_map (λ s. s.now) show.entry) options bytes.now r.status (string_bytes r.text)) }
 {
     match (show, options.stops) {
         (Some(show), Some(stops)) => {
-            show_each_reply(alloc, form, options, stops, show, bytes, &*watch)
+            show_each_reply(finder, alloc, form, options, stops, show, bytes, &*watch)
         }
-        (Some(show), None) => show_reply(alloc, form, options, show, bytes, watch),
-        (None, Some(stops)) => each_place_reply(rt, alloc, form, options, stops, bytes, &*watch),
-        (None, None) => outcomes_reply(alloc, form, options, bytes, watch),
+        (Some(show), None) => show_reply(finder, alloc, form, options, show, bytes, watch),
+        (None, Some(stops)) => each_place_reply(
+            rt, finder, alloc, form, options, stops, bytes, &*watch,
+        ),
+        (None, None) => outcomes_reply(finder, alloc, form, options, bytes, watch),
     }
 }
 
 /// The reply without answers that a schedule is to show.
-fn outcomes_reply<W: Watch>(
+fn outcomes_reply<F: Finder, W: Watch>(
+    finder: &F,
     alloc: Global,
     form: Form,
     options: ListOptions,
@@ -68,16 +73,50 @@ fn outcomes_reply<W: Watch>(
     ensures { IfOk result (λ r. IsOutcomesReply form options bytes.now r.status (string_bytes r.text)) }
 {
     let read = asked_at(alloc, form, options.place, bytes)?;
-    let asked = match read {
-        Ok(asked) => asked,
-        Err(reply) => return Ok(reply),
-    };
+    match read {
+        Ok(asked) => explored_reply(finder, alloc, form, options, &asked, bytes, watch),
+        Err(reply) => Ok(reply),
+    }
+}
+
+/// The reply to what was asked for, with its place of stops.
+fn explored_reply<F: Finder, W: Watch>(
+    finder: &F,
+    alloc: Global,
+    form: Form,
+    options: ListOptions,
+    asked: &Reading,
+    bytes: &[u8],
+    watch: &mut W,
+) -> Result<Reply, AllocError>
+    requires { IsAskedAt options.place bytes.now (asked_view asked.now) }
+    ensures { IfOk result (λ r. IsOutcomesReply form options bytes.now r.status (string_bytes r.text)) }
+{
     let limit = options.limit as usize;
-    let reach = outcomes(alloc, &asked.job, limit, watch)?;
+    let reach = finder.outcomes(alloc, &asked.job, limit, watch)?;
+    reached_reply(finder, alloc, form, options, asked, bytes, &reach, watch)
+}
+
+/// The reply where this was reached.
+fn reached_reply<F: Finder, W: Watch>(
+    finder: &F,
+    alloc: Global,
+    form: Form,
+    options: ListOptions,
+    asked: &Reading,
+    bytes: &[u8],
+    reach: &Reach,
+    watch: &mut W,
+) -> Result<Reply, AllocError>
+    requires asked { IsAskedAt options.place bytes.now (asked_view asked.now) }
+    requires list { IsList asked.now.job options.limit reach.now }
+    ensures { IfOk result (λ r. IsOutcomesReply form options bytes.now r.status (string_bytes r.text)) }
+{
+    let limit = options.limit as usize;
     let names = names_at(options.place, bytes);
-    let text = list_in(alloc, form, names, &asked.job, &reach, limit)?;
-    match &reach {
-        Reach::All(reached) => judged(alloc, form, options, &asked, reached, text, watch),
+    let text = list_in(alloc, form, names, &asked.job, reach, limit)?;
+    match reach {
+        Reach::All(reached) => judged(finder, alloc, form, options, asked, reached, text, watch),
         Reach::More => Ok(Reply {
             status: PAST_LIMIT,
             text,
@@ -86,7 +125,8 @@ fn outcomes_reply<W: Watch>(
 }
 
 /// A whole list, and below it what its job doesn't want.
-fn judged<W: Watch>(
+fn judged<F: Finder, W: Watch>(
+    finder: &F,
     alloc: Global,
     form: Form,
     options: ListOptions,
@@ -99,10 +139,18 @@ fn judged<W: Watch>(
     ensures { IfOk result (λ r. IsJudged form options asked.now.job (rows_of asked.now.never.items) reached.now.found (string_bytes list) r.status (string_bytes r.text)) }
 {
     if let Some(unmet) = first_unmet(&asked.job, &reached.found) {
-        return unmet_reply(alloc, form, options, &asked.job, unmet, list, watch);
+        return unmet_reply(finder, alloc, form, options, &asked.job, unmet, list, watch);
     }
     let rows = asked.never.as_slice();
-    match first_row(alloc, options, &asked.job, &reached.found, rows, watch)? {
+    match first_row(
+        finder,
+        alloc,
+        options,
+        &asked.job,
+        &reached.found,
+        rows,
+        watch,
+    )? {
         Some(first) => row_reply(form, &first, list),
         None => Ok(Reply {
             status: list_status(options.is_strict, some_never_end(&reached.found)),
@@ -123,7 +171,8 @@ pub(crate) fn list_status(is_strict: bool, is_open: bool) -> u8
 }
 
 /// A list, and below it a schedule in which a step isn't answered as it expects.
-fn unmet_reply<W: Watch>(
+fn unmet_reply<F: Finder, W: Watch>(
+    finder: &F,
     alloc: Global,
     form: Form,
     options: ListOptions,
@@ -138,7 +187,7 @@ fn unmet_reply<W: Watch>(
     let limit = options.limit as usize;
     let goals = unmet.goals(alloc, job)?;
     let mut text = list;
-    match look_for(alloc, job, &goals, options.is_brief, limit, watch)? {
+    match look_for(finder, alloc, job, &goals, options.is_brief, limit, watch)? {
         Some(told) => {
             push_unmet(&mut text, form, unmet, &told)?;
             Ok(Reply {
@@ -158,7 +207,8 @@ pub(crate) struct FirstRow {
 }
 
 /// The first row whose answers all come together, or that can't be looked for within the limit.
-pub(crate) fn first_row<W: Watch>(
+pub(crate) fn first_row<F: Finder, W: Watch>(
+    finder: &F,
     alloc: Global,
     options: ListOptions,
     job: &Job,
@@ -172,6 +222,7 @@ pub(crate) fn first_row<W: Watch>(
     let limit = options.limit as usize;
     for (number, row) in rows.iter().enumerate() {
         if let Some(told) = look_for_row(
+            finder,
             alloc,
             job,
             found,

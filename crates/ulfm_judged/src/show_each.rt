@@ -4,22 +4,27 @@ ghost use Rattle.ulfm_stops.specs.Place.{IsPlaceOf};
 ghost use Rattle.ulfm_judged.specs.ShowEach.{AreGoalsAt, IsShowEachReply, beside};
 ghost use Rattle.ulfm_judged.specs.inside.Judging.{IsFirstLook, IsLookAt, IsLookAtText, IsToldAtText, look_at_status};
 ghost use Rattle.ulfm_judged.specs.inside.Looking.{look_status};
-ghost use Rattle.ulfm_told.specs.Told.{told_view};
+ghost use Rattle.ulfm_lists.specs.Told.{told_view};
+ghost use Rattle.ulfm_replies.specs.Stopped.{IsAskedAt, asked_view};
+ghost use Rattle.ulfm_stops.specs.declared.place.Place.TheVariants.{Nowhere};
 
 use crate::looking::look_for;
+use crate::onlooker::{Onlooker, Seen};
 use crate::shown::{no_goal, nowhere, status_of};
 use std::alloc::{AllocError, Global};
 use ulfm_draw::{Style, drawn};
+use ulfm_finder::Finder;
 use ulfm_found::Goals;
 use ulfm_job::{Clause, Job, JobFault, MOST_STEPS};
 use ulfm_json::Form;
-use ulfm_places::{Onlooker, Seen};
+use ulfm_lists::{Told, push_told_at};
+use ulfm_reader::Reading;
 use ulfm_replies::{DONE, ListOptions, NO_SCHEDULE, Place, Reply, asked_at, refusal};
 use ulfm_stops::{Stop, places};
-use ulfm_told::{Told, push_told_at};
 
 /// The reply of `outcomes --stops --show` with these options and answers. The onlooker is told how far the searches are.
-pub fn show_each_reply<L: Onlooker>(
+pub fn show_each_reply<F: Finder, L: Onlooker>(
+    finder: &F,
     alloc: Global,
     form: Form,
     options: ListOptions,
@@ -31,10 +36,31 @@ pub fn show_each_reply<L: Onlooker>(
     ensures { IfOk result (λ r. IsShowEachReply form options stops show.now bytes.now r.status (string_bytes r.text)) }
 {
     let read = asked_at(alloc, form, Place::Nowhere, bytes)?;
-    let asked = match read {
-        Ok(asked) => asked,
-        Err(reply) => return Ok(reply),
-    };
+    match read {
+        Ok(asked) => sought_reply(
+            finder, alloc, form, options, stops, show, &asked, bytes, onlooker,
+        ),
+        Err(reply) => Ok(reply),
+    }
+}
+
+/// The reply to what was asked for.
+fn sought_reply<F: Finder, L: Onlooker>(
+    finder: &F,
+    alloc: Global,
+    form: Form,
+    options: ListOptions,
+    stops: u8,
+    show: &str,
+    asked: &Reading,
+    bytes: &[u8],
+    onlooker: &L,
+) -> Result<Reply, AllocError>
+    requires { IsAskedAt Nowhere bytes.now (asked_view asked.now) }
+    ensures { IfOk result (λ r. IsShowEachReply form options stops show.now bytes.now r.status (string_bytes r.text)) }
+{
+    // What is promised speaks of the text that asked for it.
+    let _ = bytes;
     if asked.job.len() + stops as usize > MOST_STEPS {
         return refusal(alloc, form, JobFault::TooLarge);
     }
@@ -45,6 +71,7 @@ pub fn show_each_reply<L: Onlooker>(
     let places = places(alloc, &asked.job, stops)?;
     let answers = answers.as_slice();
     let look = first_look(
+        finder,
         alloc,
         &asked.job,
         answers,
@@ -63,7 +90,8 @@ pub(crate) struct LookAt {
 }
 
 /// The first of these places at which a schedule has all these answers, or at which it can't be looked for within the limit.
-fn first_look<L: Onlooker>(
+fn first_look<F: Finder, L: Onlooker>(
+    finder: &F,
     alloc: Global,
     job: &Job,
     answers: &[Clause],
@@ -75,7 +103,7 @@ fn first_look<L: Onlooker>(
     ensures { IfOk result (IsFirstLook job.now answers.now options.is_brief options.limit places.now) }
 {
     for place in places {
-        if let Some(told) = look_at(alloc, job, answers, options, *place, onlooker)? {
+        if let Some(told) = look_at(finder, alloc, job, answers, options, *place, onlooker)? {
             return Ok(Some(LookAt {
                 place: *place,
                 told,
@@ -86,7 +114,8 @@ fn first_look<L: Onlooker>(
 }
 
 /// What comes of a search for these answers at a place.
-fn look_at<L: Onlooker>(
+fn look_at<F: Finder, L: Onlooker>(
+    finder: &F,
     alloc: Global,
     job: &Job,
     answers: &[Clause],
@@ -104,7 +133,15 @@ fn look_at<L: Onlooker>(
     let goals = goals_at(alloc, place, job, answers)?;
     let limit = options.limit as usize;
     let watch = &mut Seen::of(onlooker, place);
-    let look = look_for(alloc, &stopped, &goals, options.is_brief, limit, watch)?;
+    let look = look_for(
+        finder,
+        alloc,
+        &stopped,
+        &goals,
+        options.is_brief,
+        limit,
+        watch,
+    )?;
     Ok(look)
 }
 

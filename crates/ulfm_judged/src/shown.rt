@@ -2,19 +2,23 @@
 ghost use Rattle.std.specs.Prelude.{◌≡◌, Some, IfOk, option_map, string_bytes};
 ghost use Rattle.ulfm_judged.specs.Outcomes.{IsShowReply, no_goal, nowhere_in};
 ghost use Rattle.ulfm_judged.specs.inside.Looking.{IsLookText, look_status};
-ghost use Rattle.ulfm_told.specs.Told.{told_view};
+ghost use Rattle.ulfm_lists.specs.Told.{told_view};
+ghost use Rattle.ulfm_replies.specs.Stopped.{IsAskedAt, asked_view};
 
 use crate::looking::look_for;
 use std::alloc::{AllocError, Global};
 use ulfm_draw::{Style, drawn};
+use ulfm_finder::Finder;
 use ulfm_found::Goals;
 use ulfm_json::Form;
+use ulfm_lists::{Told, push_told};
 use ulfm_reach::Watch;
+use ulfm_reader::Reading;
 use ulfm_replies::{DONE, JOB_REFUSED, ListOptions, NO_SCHEDULE, PAST_LIMIT, Reply, asked_at};
-use ulfm_told::{Told, push_told};
 
 /// The reply of `outcomes --show`, with these answers. `watch` is told how far the search is.
-pub fn show_reply<W: Watch>(
+pub fn show_reply<F: Finder, W: Watch>(
+    finder: &F,
     alloc: Global,
     form: Form,
     options: ListOptions,
@@ -25,17 +29,43 @@ pub fn show_reply<W: Watch>(
     ensures { IfOk result (λ r. IsShowReply form options show.now bytes.now r.status (string_bytes r.text)) }
 {
     let read = asked_at(alloc, form, options.place, bytes)?;
-    let asked = match read {
-        Ok(asked) => asked,
-        Err(reply) => return Ok(reply),
-    };
+    match read {
+        Ok(asked) => sought_reply(finder, alloc, form, options, show, &asked, bytes, watch),
+        Err(reply) => Ok(reply),
+    }
+}
+
+/// The reply to what was asked for, with its place of stops.
+fn sought_reply<F: Finder, W: Watch>(
+    finder: &F,
+    alloc: Global,
+    form: Form,
+    options: ListOptions,
+    show: &str,
+    asked: &Reading,
+    bytes: &[u8],
+    watch: &mut W,
+) -> Result<Reply, AllocError>
+    requires { IsAskedAt options.place bytes.now (asked_view asked.now) }
+    ensures { IfOk result (λ r. IsShowReply form options show.now bytes.now r.status (string_bytes r.text)) }
+{
+    // What is promised speaks of the text that asked for it.
+    let _ = bytes;
     let answers = match asked.goals(alloc, show)? {
         Ok(answers) => answers,
         Err(text) => return no_goal(alloc, text),
     };
     let goals = Goals::of(alloc, answers.as_slice())?;
     let limit = options.limit as usize;
-    let look = look_for(alloc, &asked.job, &goals, options.is_brief, limit, watch)?;
+    let look = look_for(
+        finder,
+        alloc,
+        &asked.job,
+        &goals,
+        options.is_brief,
+        limit,
+        watch,
+    )?;
     look_reply(alloc, form, options.drawn, &look)
 }
 

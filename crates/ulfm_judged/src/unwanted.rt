@@ -1,36 +1,36 @@
 //! The first place at which a job isn't as it is wanted.
 ghost use Rattle.std.specs.Prelude.{◌≡◌, IfOk, Some, string_bytes};
 ghost use Rattle.std.specs.Option.{option_or};
-ghost use Rattle.ulfm_outcomes.specs.Goals.{IsPossible};
-ghost use Rattle.ulfm_outcomes.specs.Unmet.{Judges};
+ghost use Rattle.ulfm_finder.specs.Goals.{IsPossible};
+ghost use Rattle.ulfm_finder.specs.Unmet.{Judges};
 ghost use Rattle.ulfm_stops.specs.Place.{IsPlaceOf};
 ghost use Rattle.ulfm_stops.specs.declared.place.Place.TheVariants.{Two};
 ghost use Rattle.ulfm_replies.specs.Stopped.{asked_at, asked_view};
 ghost use Rattle.ulfm_judged.specs.EachPlace.{IsToldAt, filed, places_in};
-ghost use Rattle.ulfm_told.specs.At.{row_at, unmet_at};
+ghost use Rattle.ulfm_lists.specs.ToldAt.{row_at, unmet_at};
 ghost use Rattle.ulfm_judged.specs.Outcomes.{HasList, IsFirstUnmet, IsTold};
 ghost use Rattle.ulfm_judged.specs.inside.Judging.{AreListedOf, IsFirstUnwanted, IsListedOf, IsStopped, IsUnwanted, is_found};
 ghost use Rattle.ulfm_judged.specs.inside.Looking.{row_status};
-ghost use Rattle.ulfm_told.specs.Told.{told_view};
+ghost use Rattle.ulfm_lists.specs.Told.{told_view};
 
 use crate::listed::{FirstRow, first_row, row_status};
 use crate::looking::look_for;
+use crate::onlooker::{Onlooker, Seen};
 use std::alloc::{AllocError, Global};
+use ulfm_finder::{Finder, first_unmet};
 use ulfm_found::{Goals, Unmet};
 use ulfm_job::Job;
 use ulfm_json::Form;
-use ulfm_lists::{Listed, filed_number};
-use ulfm_outcomes::first_unmet;
-use ulfm_places::{Onlooker, Seen};
+use ulfm_lists::{Listed, Told, filed_number, push_row_at, push_unmet_at};
 use ulfm_reach::{Rows, Watch};
 use ulfm_reader::Reading;
 use ulfm_replies::{ListOptions, NOT_EXPECTED, Place, Reply, asked_beside};
 use ulfm_stops::Stop;
-use ulfm_told::{Told, push_row_at, push_unmet_at};
 
 /// What is told of the first of these places where a schedule is found that isn't wanted. Where none is found, of the first with a row of
 /// `never` that can't be looked for within the limit, if there is one.
-pub fn first_unwanted<L: Onlooker>(
+pub fn first_unwanted<F: Finder, L: Onlooker>(
+    finder: &F,
     alloc: Global,
     form: Form,
     options: ListOptions,
@@ -43,7 +43,7 @@ pub fn first_unwanted<L: Onlooker>(
 {
     let mut first = None;
     for one in listed {
-        let told = unwanted_at(alloc, form, options, asked, one, onlooker)?;
+        let told = unwanted_at(finder, alloc, form, options, asked, one, onlooker)?;
         if is_found(&told) {
             return Ok(told);
         }
@@ -70,7 +70,8 @@ fn earlier(first: Option<Reply>, then: Option<Reply>) -> Option<Reply>
 }
 
 /// What is told of a place, if what was asked for isn't as it is wanted there.
-fn unwanted_at<L: Onlooker>(
+fn unwanted_at<F: Finder, L: Onlooker>(
+    finder: &F,
     alloc: Global,
     form: Form,
     options: ListOptions,
@@ -83,8 +84,12 @@ fn unwanted_at<L: Onlooker>(
 {
     let watch = &mut Seen::of(onlooker, one.place);
     match stopped(alloc, one.place, asked)? {
-        Some(made) => unwanted(alloc, form, options, one.place, &made, &one.found, watch),
-        None => unwanted(alloc, form, options, one.place, asked, &one.found, watch),
+        Some(made) => unwanted(
+            finder, alloc, form, options, one.place, &made, &one.found, watch,
+        ),
+        None => unwanted(
+            finder, alloc, form, options, one.place, asked, &one.found, watch,
+        ),
     }
 }
 
@@ -115,7 +120,8 @@ fn asked_beside_two(
 }
 
 /// The same of a place, where this is asked for with its stops.
-fn unwanted<W: Watch>(
+fn unwanted<F: Finder, W: Watch>(
+    finder: &F,
     alloc: Global,
     form: Form,
     options: ListOptions,
@@ -128,11 +134,11 @@ fn unwanted<W: Watch>(
     ensures { IfOk result (IsUnwanted form options place (asked_view asked.now)) }
 {
     if let Some(unmet) = first_unmet(&asked.job, found) {
-        let reply = unmet_told(alloc, form, options, place, asked, unmet, watch)?;
+        let reply = unmet_told(finder, alloc, form, options, place, asked, unmet, watch)?;
         return Ok(Some(reply));
     }
     let rows = asked.never.as_slice();
-    if let Some(first) = first_row(alloc, options, &asked.job, found, rows, watch)? {
+    if let Some(first) = first_row(finder, alloc, options, &asked.job, found, rows, watch)? {
         let reply = row_told(alloc, form, place, &first)?;
         return Ok(Some(reply));
     }
@@ -140,7 +146,8 @@ fn unwanted<W: Watch>(
 }
 
 /// What is told of a step that isn't answered as it expects at a place.
-fn unmet_told<W: Watch>(
+fn unmet_told<F: Finder, W: Watch>(
+    finder: &F,
     alloc: Global,
     form: Form,
     options: ListOptions,
@@ -154,7 +161,7 @@ fn unmet_told<W: Watch>(
     ensures { IfOk result (λ r. IsToldAt form options place (asked_view asked.now) r.status (string_bytes r.text)) }
 {
     let goals = unmet.goals(alloc, &asked.job)?;
-    let told = told_of(alloc, options, &asked.job, &goals, watch)?;
+    let told = told_of(finder, alloc, options, &asked.job, &goals, watch)?;
     let text = unmet_text(alloc, form, place, unmet, &told)?;
     Ok(Reply {
         status: NOT_EXPECTED,
@@ -163,7 +170,8 @@ fn unmet_told<W: Watch>(
 }
 
 /// What comes of a search for goals that some schedule shows.
-fn told_of<W: Watch>(
+fn told_of<F: Finder, W: Watch>(
+    finder: &F,
     alloc: Global,
     options: ListOptions,
     job: &Job,
@@ -174,7 +182,7 @@ fn told_of<W: Watch>(
     ensures { IfOk result (λ told. IsTold job.now goals.now options.is_brief options.limit (told_view told)) }
 {
     let limit = options.limit as usize;
-    match look_for(alloc, job, goals, options.is_brief, limit, watch)? {
+    match look_for(finder, alloc, job, goals, options.is_brief, limit, watch)? {
         Some(told) => Ok(told),
         None => unreachable!(),
     }

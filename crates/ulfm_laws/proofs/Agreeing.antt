@@ -7,14 +7,14 @@ use Rattle.ulfm_base.specs.Decision.{and_all, entry_at, is_listed, value_of}
 use Rattle.ulfm_base.specs.Lists.{InPlace}
 use Rattle.ulfm_base.specs.RankSet.{has}
 use Rattle.ulfm_base.specs.Topic.{agreement_topic, is_agreement}
-use Rattle.ulfm_match.proofs.Histories.{get_here}
+use Rattle.ulfm_base.proofs.Longer.{get_here}
 use Rattle.ulfm_rank.specs.Checks.{adopt_checks, agree_checks, Passes}
-use Rattle.ulfm_rank.specs.Communicators.{is_made}
-use Rattle.ulfm_rank.specs.Log.{or_else}
-use Rattle.ulfm_rank.specs.Proposal.{agreements, entry_of, next_agreement}
-use Rattle.ulfm_rank.specs.declared.entry.Entry.TheVariants.{Adopted, Entered}
-use Rattle.ulfm_rank.proofs.Belonging.{own_from}
-use Rattle.ulfm_rank.proofs.Entering.{entry_parts}
+use Rattle.ulfm_log.specs.Communicators.{is_made}
+use Rattle.ulfm_log.specs.Log.{or_else}
+use Rattle.ulfm_log.specs.Proposal.{agreements, entry_of, next_agreement}
+use Rattle.ulfm_log.specs.declared.entry.Entry.TheVariants.{Adopted, Entered}
+use Rattle.ulfm_log.proofs.Belonging.{own_from}
+use Rattle.ulfm_log.proofs.Entering.{entry_parts}
 use Rattle.ulfm_script.specs.Answered.{AnswerFollows, EntersBetween, by_call, left_by_call, by_decision, left_undecided, by_skip}
 use Rattle.ulfm_script.specs.Calls.{EntersBy}
 use Rattle.ulfm_script.specs.Deciding.{missing_in}

@@ -1,8 +1,8 @@
 -- Each answer of a poll keeps the steps of a rank true of its log.
 use Rattle.std.proofs.Common.{◌≡◌, ℕ, List, [], ◌∷◌, ◌++◌, refl, inl, inr, Some, None}
 use Rattle.ulfm_laws.proofs.Common.{Entry, State, logged, Step, StepAnswer, StepReport, Send, Wait, Mrecv, Cancel, Sent, Posted, Done, Over, Found, Cancelled, AnswersStep, step_report, sent_by, closes, PostsNone}
-use Rattle.ulfm_rank.specs.declared.entry.Entry.TheVariants.{Sent as SentEntry, Posted as PostedEntry, Released, Received, Cancelled as CancelEntry, Probed, Took}
-use Rattle.ulfm_rank.specs.declared.entry.TestAnswer.TheVariants.{Done as TestDone, Over as TestOver}
+use Rattle.ulfm_log.specs.declared.entry.Entry.TheVariants.{Sent as SentEntry, Posted as PostedEntry, Released, Received, Cancelled as CancelEntry, Probed, Took}
+use Rattle.ulfm_log.specs.declared.entry.TestAnswer.TheVariants.{Done as TestDone, Over as TestOver}
 use Rattle.ulfm_script.proofs.Says.{IsSilent, IsIdle, each_answer}
 use Rattle.ulfm_laws.proofs.Honest.{IsHonest, honest-logged, honest-answered}
 use Rattle.ulfm_laws.proofs.Mail.{sent_entry, IsTakenFrom}

@@ -1,7 +1,7 @@
 -- What running ranks know where reports are at rest.
 use Rattle.std.proofs.Common.{◌≡◌, ◌≢◌, ℕ, true, List, [], ◌∷◌, ◌++◌, arith, ap, sym, ◌∙◌, inl, inr, append-nil, refl}
 use Rattle.ulfm_laws.proofs.Common.{Gone, items_from, at, owes, outbox, Report, false≢true, cases_eq, or_right, slice_get_within, took, is_gone_item, is_revoked, item_revokes, is_stopped, Inboxes, Flow, IsRunning, list_any, list_any-append}
-use Rattle.ulfm_rank.proofs.Told.{gone-took, revoked-took, revoked_told}
+use Rattle.ulfm_log.proofs.Told.{gone-took, revoked-took, revoked_told}
 use Rattle.ulfm_laws.specs.Rest.{IsAtRest, KnowsStopped, AgreesOnRevoked}
 use Rattle.ulfm_laws.proofs.Flowing.{AreFlowing, same_report, running-not_gone}
 

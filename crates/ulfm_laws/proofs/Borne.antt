@@ -1,7 +1,7 @@
 -- Reports whose answers are right are true of their logs.
 use Rattle.std.proofs.Common.{◌≡◌, ℕ, List, [], ◌∷◌, ◌++◌, refl, ap, subst, ◌∙◌, inl, inr, ◌⊎◌, All}
 use Rattle.ulfm_laws.proofs.Common.{Topic, Decision, Entry, State, logged, StepReport, Step, Report, Unfinished, Skipped, Refused, AnswersStep, LeavesOpen, OutOfMemory, all_front, all_last, Known, AnswersAdoption, StoodAt, IsTook, AnswersFollow}
-use Rattle.ulfm_rank.specs.declared.entry.Entry.TheVariants.{Took, Entered, Adopted}
+use Rattle.ulfm_log.specs.declared.entry.Entry.TheVariants.{Took, Entered, Adopted}
 use Rattle.ulfm_script.proofs.Polls.{answers_plain, opens_adds, adoption_adds}
 use Rattle.ulfm_script.proofs.Walked.{KeepsAll, reported}
 use Rattle.ulfm_laws.proofs.Answering.{true-answers, honest-plain}

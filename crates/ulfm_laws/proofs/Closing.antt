@@ -1,8 +1,8 @@
 -- A send, and a step that releases the receive of another one, keep the steps of a rank true of its log.
 use Rattle.std.proofs.Common.{◌≡◌, ℕ, Bool, true, false, cond, eqb, List, [], ◌∷◌, ◌++◌, refl, ap, sym, ◌∙◌, Option, Some, None, slice_get, ◌&&◌}
 use Rattle.ulfm_laws.proofs.Common.{Context, Pattern, Tag, PostAt, PostsNone, count_before, Entry, TestAnswer, members_of, history_of, State, logged, Step, Send, StepAnswer, Sent, Done, Over, Cancelled, ProcFailed, StepReport, asks_of, room_of, comm_of, step_report, content, is_rank, sent_in, closes, false≢true, or_right, eqb-true, same_Some, is_released, releases, flat_map, All-push, Sends, any-push, formed-logged}
-use Rattle.ulfm_rank.specs.declared.entry.Entry.TheVariants.{Sent as SentEntry}
-use Rattle.ulfm_rank.specs.declared.entry.TestAnswer.TheVariants.{Done as TestDone, Over as TestOver}
+use Rattle.ulfm_log.specs.declared.entry.Entry.TheVariants.{Sent as SentEntry}
+use Rattle.ulfm_log.specs.declared.entry.TestAnswer.TheVariants.{Done as TestDone, Over as TestOver}
 use Rattle.ulfm_match.specs.Pairing.{Pairing, LawfulPairing}
 use Rattle.ulfm_rank.specs.Answer.{IsAnswerBy, is_release}
 use Rattle.ulfm_rank.specs.Messages.{with_room}

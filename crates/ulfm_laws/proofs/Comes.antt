@@ -2,8 +2,8 @@
 use Rattle.std.proofs.Common.{◌≡◌, ℕ, Bool, true, false, cond, eqb, List, [], ◌∷◌, ◌++◌, length, refl, ap, sym, ◌∙◌, append-nil, append_assoc, inl, inr, suc, All}
 use Rattle.ulfm_laws.proofs.Common.{WorldRank, Letter, Pattern, Item, count_before, ◌==◌, Entry, Content, come_in, letters_come, false≢true, or_left, cases_Bool, eqb-true, took, took_by, is_revoked, revokes, all_front, all_last, gathered_all, any-push, names, MatchEvent, Post, Come, End, Clear, flat_map-append, history_of, events_by, ends_from, end_at, names_gone}
 use Rattle.ulfm_base.specs.declared.item.Item.TheVariants.{Letter as Mail, Gone, Revoke, Enter}
-use Rattle.ulfm_rank.specs.declared.entry.Entry.TheVariants.{Posted, Cancelled, Revoked, Took}
-use Rattle.ulfm_rank.proofs.Logs.{took-push}
+use Rattle.ulfm_log.specs.declared.entry.Entry.TheVariants.{Posted, Cancelled, Revoked, Took}
+use Rattle.ulfm_log.proofs.Logs.{took-push}
 use Rattle.ulfm_laws.proofs.Mail.{mail_on, mail, no_mail, IsTakenFrom}
 
 come_pick : (s c k : ℕ) (b : Bool) → letters_come s c (cond b (End k ∷ []) []) ≡ []

@@ -5,11 +5,11 @@ use Rattle.ulfm_base.proofs.Places.{only_at}
 use Rattle.ulfm_base.specs.Decision.{entry_at, in_entry}
 use Rattle.ulfm_base.specs.RankSet.{has}
 use Rattle.ulfm_base.specs.declared.item.Item.TheVariants.{Letter as Mail, Gone, Revoke, Enter}
-use Rattle.ulfm_rank.specs.declared.entry.Entry.TheVariants.{Adopted, Stopped, Took}
-use Rattle.ulfm_rank.specs.Facts.{tells_gone}
-use Rattle.ulfm_rank.specs.Proposal.{entry_of, heard_of, item_entry, listed_of}
-use Rattle.ulfm_rank.proofs.Entering.{entry_parts}
-use Rattle.ulfm_rank.proofs.Proposing.{has_small}
+use Rattle.ulfm_log.specs.declared.entry.Entry.TheVariants.{Adopted, Stopped, Took}
+use Rattle.ulfm_log.specs.Facts.{tells_gone}
+use Rattle.ulfm_log.specs.Proposal.{entry_of, heard_of, item_entry, listed_of}
+use Rattle.ulfm_log.proofs.Entering.{entry_parts}
+use Rattle.ulfm_log.proofs.Proposing.{has_small}
 use Rattle.ulfm_laws.proofs.Common.{at, Contribution, Entrance, Entry, EntersOnce, Report, Topic, WorldRank, cases_eq, cond-false, cond-true, eq-eqb, eqb-true, false≢true, first_given, is_gone, is_topic, list_any, ne_eqb, none-some, or_cases, own_set, same_Some, slice_get-get_or, some_from, topics_equal}
 use Rattle.ulfm_laws.proofs.Agreeing.{given_at}
 use Rattle.ulfm_laws.proofs.Ordered.{failed_later, front_place}

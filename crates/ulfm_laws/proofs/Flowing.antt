@@ -2,9 +2,9 @@
 use Rattle.std.proofs.Common.{◌≡◌, ℕ, Bool, true, false, cond, eqb, List, [], ◌∷◌, ◌++◌, length, refl, ap, sym, ◌∙◌, inl, inr, append_assoc, Some, slice_get}
 use Rattle.ulfm_laws.proofs.Common.{Item, Gone, items_from, State, owes, outbox, Report, false≢true, cases_Bool, cases_eq, eqb-true, or_left, same_Some, took, is_gone, is_gone_item, is_stopped, Inboxes, inbox_of, IsBeginning, Flow, Flows, HasStopped, list_any, list_any-append, owed, Topic, Contribution, first_given, own_set, or_none, or_else_first, first_set, set-append, heard-took}
 use Rattle.ulfm_base.specs.Lists.{at, InPlace}
-use Rattle.ulfm_rank.specs.Proposal.{entry_of, heard_of, listed_of}
-use Rattle.ulfm_rank.proofs.Owing.{OwesOwn}
-use Rattle.ulfm_rank.proofs.Told.{owed_not_gone, gone-took}
+use Rattle.ulfm_log.specs.Proposal.{entry_of, heard_of, listed_of}
+use Rattle.ulfm_log.proofs.Owing.{OwesOwn}
+use Rattle.ulfm_log.proofs.Told.{owed_not_gone, gone-took}
 
 -- the reports of ranks, in their order, between which items flow
 pub record AreFlowing (inboxes : Inboxes) (reports : List Report) : Type 0 where

@@ -2,7 +2,7 @@
 use Rattle.std.proofs.Common.{◌≡◌, ℕ, ◌<◌, inl, inr, List, length, refl, ap, sym, ◌∙◌, subst, Some, slice_get}
 use Rattle.ulfm_laws.proofs.Common.{Entry, Letter, Pattern, Status, Step, StepAnswer, StepReport, TestAnswer, group_at, Probe, Done, Over, Found, Cancelled, asks_of, step_report, Report, report_at, history_at, IsNamed, IsStep, IsPostedBy, IsSentBy, IsGiven, AsksRightly, MayAskFor, DoneIsGiven, FoundIsGiven, OverIsTrue, GivesOnce, DonesDiffer, same_Some, ProcFailed, Revoked, Truncated, Admits, History, Post, PostAt, ComeAt, count_before, compared, same_number, one_pairing, same_pattern, same_letter, some_pairing}
 use Rattle.ulfm_match.specs.Pairing.{Pairing, Pairs, LawfulPairing}
-use Rattle.ulfm_rank.specs.declared.entry.TestAnswer.TheVariants.{Done as TestDone, Over as TestOver}
+use Rattle.ulfm_log.specs.declared.entry.TestAnswer.TheVariants.{Done as TestDone, Over as TestOver}
 use Rattle.ulfm_rank.specs.Answer.{Got}
 use Rattle.ulfm_rank.specs.Messages.{TellsOf}
 use Rattle.ulfm_laws.proofs.Finding.{AreHonest, IsPoster, same_asked, its_number, may_ask, receipt_posted, same_step, verdict_posted}

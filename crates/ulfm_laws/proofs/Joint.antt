@@ -1,7 +1,7 @@
 -- A shrink or an agreement that is entered or decided keeps the steps of a rank true of its log.
 use Rattle.std.proofs.Common.{ℕ, Bool, true, false, List, [], ◌∷◌, ◌++◌, length, inl, inr, Option}
 use Rattle.ulfm_laws.proofs.Common.{Context, Topic, Decision, State, Step, StepAnswer, StepReport, Wait, Probe, Shrink, Agree, Shrunk, Agreed, Refused, Player, LeavesOpen, StaysOpen, step_report, OutOfMemory, Known, AnswersAdoption, AnswersDecision, IsDecided}
-use Rattle.ulfm_rank.specs.declared.entry.Entry.TheVariants.{Entered, Adopted}
+use Rattle.ulfm_log.specs.declared.entry.Entry.TheVariants.{Entered, Adopted}
 use Rattle.ulfm_laws.proofs.Answering.{true-same, true-idle, true-one}
 use Rattle.ulfm_laws.proofs.Closing.{IsTrueOf}
 

@@ -5,7 +5,7 @@ use Rattle.ulfm_match.proofs.Cut.{cut, inside_to}
 use Rattle.ulfm_match.specs.Pairing.{Pairing, LawfulPairing, pairs_below}
 use Rattle.ulfm_rank.specs.Answer.{Got, IsAnswerBy, is_release}
 use Rattle.ulfm_rank.specs.Messages.{with_room}
-use Rattle.ulfm_rank.specs.declared.entry.TestAnswer.TheVariants.{Done as TestDone, Over as TestOver, Pending, NotYet}
+use Rattle.ulfm_log.specs.declared.entry.TestAnswer.TheVariants.{Done as TestDone, Over as TestOver, Pending, NotYet}
 use Rattle.ulfm_rank.proofs.Stays.{answer_stays, receipt_stays}
 
 -- a letter that each lawful pairing of a beginning gives

@@ -2,8 +2,8 @@
 use Rattle.std.proofs.Common.{◌≡◌, ℕ, ◌<◌, Bool, true, false, cond, eqb, List, [], ◌∷◌, ◌++◌, refl, ap, sym, ◌∙◌, append-nil}
 use Rattle.ulfm_laws.proofs.Common.{Item, Entry, members_of, is_revoked, Content, content, flat_map, IsFrom, gathered_all, owed, owed_by, is_addressed, is_member, flat_map-append, ⊤, ◌&&◌, ◌==◌, if◌then◌else◌}
 use Rattle.ulfm_base.specs.declared.item.Item.TheVariants.{Letter as Mail, Gone, Revoke, Enter}
-use Rattle.ulfm_rank.specs.declared.entry.Entry.TheVariants.{Sent, Revoked, Entered, Took}
-use Rattle.ulfm_rank.specs.Log.{by_before}
+use Rattle.ulfm_log.specs.declared.entry.Entry.TheVariants.{Sent, Revoked, Entered, Took}
+use Rattle.ulfm_log.specs.Log.{by_before}
 
 abbrev pub mail_on : ℕ → Item → List Content
 mail_on c (Mail letter) = if letter.envelope.context.number == c then content letter.envelope.tag letter.body ∷ [] else []

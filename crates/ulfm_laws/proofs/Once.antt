@@ -1,7 +1,7 @@
 -- A rank enters each topic once.
 use Rattle.std.proofs.Common.{◌≡◌, ℕ, ◌<◌, List, [], ◌∷◌, ◌++◌, ap, sym, subst, ◌∙◌, inl, inr, Some, is_some, slice_get}
-use Rattle.ulfm_rank.specs.declared.entry.Entry.TheVariants.{Entered}
-use Rattle.ulfm_rank.specs.Proposal.{has_entered}
+use Rattle.ulfm_log.specs.declared.entry.Entry.TheVariants.{Entered}
+use Rattle.ulfm_log.specs.Proposal.{has_entered}
 use Rattle.ulfm_laws.proofs.Common.{Entrance, Entry, false≢true, none-some, Known, get_cases, AnswersFollow, Report, Fits, each_logged, EntersEachOnce, Keeps, EntersOnce, keeps-start, keeps-push}
 
 -- a rank that entered a topic adds no second entrance into it

@@ -2,7 +2,7 @@
 use Rattle.std.proofs.Common.{◌≡◌, ℕ, zero, suc, ◌<◌, List, ap, sym, ◌∙◌, arith, inl, inr, Some, All}
 use Rattle.ulfm_laws.proofs.Common.{at, Decision, Entry, group_of, Report, same_Some, slice_get-get_or, members_found, some_from, AdoptOne, HasOneGroup, same_context}
 use Rattle.ulfm_base.specs.Context.{shrink_of}
-use Rattle.ulfm_rank.proofs.Parents.{HasAdoption, world_group, parent_group, adopted_group, context_cases}
+use Rattle.ulfm_log.proofs.Parents.{HasAdoption, world_group, parent_group, adopted_group, context_cases}
 
 -- decisions of one purpose on contexts of one number are on one topic
 same_topic : (d e : Decision) → d.topic.purpose ≡ e.topic.purpose → d.topic.context.number ≡ e.topic.context.number → d.topic ≡ e.topic

@@ -4,8 +4,8 @@ use Rattle.std.proofs.lemmas.List.Folds.{list_any_at}
 use Rattle.std.proofs.lemmas.List.{length-take, take-append-drop}
 use Rattle.ulfm_base.proofs.Among.{place_test}
 use Rattle.ulfm_base.specs.declared.item.Item.TheVariants.{Letter as Mail, Gone, Revoke, Enter}
-use Rattle.ulfm_rank.specs.declared.entry.Entry.TheVariants.{Revoked, Took, Stopped}
-use Rattle.ulfm_rank.specs.Facts.{is_stop}
+use Rattle.ulfm_log.specs.declared.entry.Entry.TheVariants.{Revoked, Took, Stopped}
+use Rattle.ulfm_log.specs.Facts.{is_stop}
 use Rattle.ulfm_laws.proofs.Common.{at, Entry, Item, Report, WorldRank, eq-eqb, eqb-true, false≢true, get_front, get_or_from_slice_get, is_revoked, item_revokes, revokes, slice_get-get_or, slice_get_within}
 use Rattle.ulfm_script.proofs.Added.{stop_entry}
 use Rattle.ulfm_laws.specs.Causes.{RevokedByARank, is_call_to_revoke}

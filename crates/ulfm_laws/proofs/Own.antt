@@ -3,7 +3,7 @@ use Rattle.std.proofs.Common.{◌≡◌, ℕ, ap, sym, ◌∙◌, Some}
 use lib.Pointwise.{pointwise}
 use Rattle.ulfm_laws.proofs.Common.{Topic, is_topic, topics_equal, Decision, at, Entry, State, Report, or_parts, not-false, slice_get_within, get_or_from_slice_get, Known, All-nil, All-push, All-get_or, is_member, StoodAt, AnswersFollow, IsGranted, each_logged, IsOwn, ⊤, All, not, nat_eq, same_numbers, all_pass}
 use Rattle.ulfm_board.specs.Known.{known_at}
-use Rattle.ulfm_rank.specs.declared.entry.Entry.TheVariants.{Adopted, Stopped}
+use Rattle.ulfm_log.specs.declared.entry.Entry.TheVariants.{Adopted, Stopped}
 use Rattle.ulfm_rank.specs.Checks.{Passes, adopt_checks, group_at}
 
 -- the decision that an entry adopts, if it adopts one, is the rank's own

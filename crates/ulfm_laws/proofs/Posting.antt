@@ -2,7 +2,7 @@
 use Rattle.std.proofs.Common.{◌≡◌, ℕ, ◌<◌, inl, inr, Bool, true, false, cond, List, [], ◌∷◌, ◌++◌, length, refl, ap, sym, ◌∙◌, subst, arith, append_assoc, length-append, Option, Some, None, slice_get}
 use Rattle.std.specs.Option.{is_some}
 use Rattle.ulfm_laws.proofs.Common.{Context, Pattern, Tag, MessageId, RequestId, Status, Entry, group_of, members_of, is_revoked, State, logged, Recv, Probe, Posted, Found, StepReport, AnswersProbe, comm_of, step_report, sent_in, closes, flat_map, not-false, same_Some, slice_get_within, All-push, Posts, IsSourceOf, history-push, MatchEvent, Post, End, PostAt, IsWellFormed, count_before, compared, count_below, count_front, get_here, group_stays, members_found, HasNoPost, none-nil, none-one, formed-posted, formed-probed, history_of, names_gone, some_from, get_in_front, all_pass}
-use Rattle.ulfm_rank.specs.declared.entry.Entry.TheVariants.{Posted as PostedEntry, Probed}
+use Rattle.ulfm_log.specs.declared.entry.Entry.TheVariants.{Posted as PostedEntry, Probed}
 use Rattle.ulfm_match.proofs.Cut.{cut}
 use Rattle.ulfm_match.specs.Pairing.{LawfulPairing, pairs_below}
 use Rattle.ulfm_rank.specs.Answer.{Got}

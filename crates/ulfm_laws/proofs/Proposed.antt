@@ -7,9 +7,9 @@ use Rattle.ulfm_base.proofs.Among.{all_members, any_member, excluding_alike, mem
 use Rattle.ulfm_base.specs.Decision.{entry_at, in_entry, is_listed}
 use Rattle.ulfm_base.specs.Group.{excluding}
 use Rattle.ulfm_base.specs.RankSet.{has}
-use Rattle.ulfm_rank.specs.Proposal.{IsProposal, deciders, has_entered, has_proposal, is_out, listed_of}
-use Rattle.ulfm_rank.proofs.Firsts.{none_from}
-use Rattle.ulfm_rank.proofs.Proposing.{has_small}
+use Rattle.ulfm_log.specs.Proposal.{IsProposal, deciders, has_entered, has_proposal, is_out, listed_of}
+use Rattle.ulfm_log.proofs.Firsts.{none_from}
+use Rattle.ulfm_log.proofs.Proposing.{has_small}
 use Rattle.ulfm_laws.proofs.Common.{Contribution, Decision, Entry, Topic, cond-true, false≢true, get_or_from_slice_get, is_gone, is_member, list_any, or_cases, slice_get-get_or}
 use Rattle.ulfm_laws.specs.Proposed.{ProposesBy}
 

@@ -2,8 +2,8 @@
 use Rattle.std.proofs.Common.{◌≡◌, ◌≢◌, ℕ, true, eqb, List, length, ap, sym, ◌∙◌, inl, inr, Some, is_some, ◌||◌}
 use Rattle.ulfm_laws.proofs.Common.{at, Topic, Entry, group_at, Report, Inboxes, IsAtRest, cases_Bool, cases_eq, or_left, or_right, ne_eqb, eq-eqb, cond-true, cond-false, took, is_stopped, is_gone, IsRunning, there, owed, is_member, members_found, first_given, some_from, first_set, heard-took, AdoptOne, AllEntered, ProposesEach, Keeps}
 use Rattle.ulfm_base.proofs.Among.{all_members}
-use Rattle.ulfm_rank.specs.Communicators.{group_of, is_made, members_of}
-use Rattle.ulfm_rank.specs.Proposal.{entry_of, heard_of, has_entered, listed_of, is_out, has_proposal}
+use Rattle.ulfm_log.specs.Communicators.{group_of, is_made, members_of}
+use Rattle.ulfm_log.specs.Proposal.{entry_of, heard_of, has_entered, listed_of, is_out, has_proposal}
 use Rattle.ulfm_laws.proofs.AtRest.{took_owed, knows-stopped}
 use Rattle.ulfm_laws.proofs.Flowing.{AreFlowing, same_report, running-not_gone}
 use Rattle.ulfm_laws.proofs.OneGroup.{same_group}

@@ -2,8 +2,8 @@
 -- cancels.
 use Rattle.std.proofs.Common.{◌≡◌, ℕ, ◌<◌, true, false, List, [], ◌∷◌, ◌++◌, length, length-append, refl, ap, sym, ◌∙◌, subst, arith, inl, inr, Some, slice_get}
 use Rattle.ulfm_laws.proofs.Common.{MessageId, RequestId, Status, Posted, Found, Clear, Come, ComeAt, End, Entry, MatchEvent, Pattern, Post, PostAt, State, Step, StepReport, TestAnswer, Tests, Receives, Cancels, Cancel, history_of, room_of, eq-eqb, history-push, slice_get_within, lt_or_ge, get_here, get_in_front, ProcFailed}
-use Rattle.ulfm_rank.specs.declared.entry.Entry.TheVariants.{Released, Received, Cancelled}
-use Rattle.ulfm_rank.specs.declared.entry.TestAnswer.TheVariants.{Done as TestDone, Over as TestOver, Pending, NotYet}
+use Rattle.ulfm_log.specs.declared.entry.Entry.TheVariants.{Released, Received, Cancelled}
+use Rattle.ulfm_log.specs.declared.entry.TestAnswer.TheVariants.{Done as TestDone, Over as TestOver, Pending, NotYet}
 use Rattle.ulfm_match.proofs.Cut.{cut, inside_back}
 use Rattle.ulfm_match.specs.Pairing.{Pairing, LawfulPairing, pairs_below}
 use Rattle.ulfm_rank.specs.Answer.{IsAnswerBy, IsOpenReceive, IsOver, IsUnpaired, is_release}

@@ -6,9 +6,9 @@ use Rattle.std.proofs.lemmas.Bool.{eq-eqb, eqb-true}
 use Rattle.std.proofs.lemmas.List.{take-append-drop}
 use Rattle.std.proofs.lemmas.List.Sums.{sum_by-cons}
 use Rattle.ulfm_base.specs.declared.item.Item.TheVariants.{Letter as Mail, Gone, Revoke, Enter}
-use Rattle.ulfm_match.proofs.Histories.{get_here}
-use Rattle.ulfm_rank.specs.declared.entry.Entry.TheVariants.{Sent, Revoked, Entered, Took}
-use Rattle.ulfm_rank.specs.Log.{by_before}
+use Rattle.ulfm_base.proofs.Longer.{get_here}
+use Rattle.ulfm_log.specs.declared.entry.Entry.TheVariants.{Sent, Revoked, Entered, Took}
+use Rattle.ulfm_log.specs.Log.{by_before}
 use Rattle.ulfm_laws.proofs.Common.{at, Entry, Flow, Flows, Inboxes, IsBeginning, Item, Letter, Report, State, WorldRank, cases_Bool, cases_eq, flat_map, flat_map-append, gathered_all, get_or_from_slice_get, get_front, get_in_front, inbox_of, is_addressed, is_member, is_revoked, is_stopped, items_from, members_of, none-some, outbox, owed, owed_by, owes, same_Some, slice_get_within, took, took_by, if◌then◌else◌, ◌&&◌, ◌==◌}
 use Rattle.ulfm_laws.proofs.Flowing.{arrived_owed}
 use Rattle.ulfm_laws.proofs.Mail.{flat-push}

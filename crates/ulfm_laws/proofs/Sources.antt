@@ -2,7 +2,7 @@
 use Rattle.std.proofs.Common.{◌≡◌, ℕ, zero, suc, ◌<◌, Bool, true, false, cond, List, [], ◌∷◌, ◌++◌, length, ap, sym, ◌∙◌, Some, slice_get, All}
 use Rattle.ulfm_laws.proofs.Common.{Letter, Pattern, Entry, is_revoked, count_before, ◌==◌, all_front, all_last, gathered_all, names, MatchEvent, Post, Come, End, Clear, ComeAt, history_of, events_by, ends_from, end_at, names_gone}
 use Rattle.ulfm_base.specs.declared.item.Item.TheVariants.{Letter as Mail, Gone, Revoke, Enter}
-use Rattle.ulfm_rank.specs.declared.entry.Entry.TheVariants.{Posted, Probed, Cancelled, Revoked, Took}
+use Rattle.ulfm_log.specs.declared.entry.Entry.TheVariants.{Posted, Probed, Cancelled, Revoked, Took}
 use Rattle.ulfm_laws.proofs.Mail.{IsTakenFrom}
 
 -- a letter among these events is from one of n ranks

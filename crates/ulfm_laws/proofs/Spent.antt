@@ -2,16 +2,16 @@
 use Rattle.std.proofs.Common.{◌≡◌, ◌⊎◌, ℕ, true, false, not, List, [], ◌∷◌, ◌++◌, length, take, refl, ap, sym, subst, ◌∙◌, arith, inl, inr, None, Some}
 use Rattle.std.proofs.lemmas.List.{take-append-le}
 use Rattle.std.proofs.Math.Seq.{take-append_seam}
-use Rattle.ulfm_match.proofs.Histories.{get_cases}
+use Rattle.ulfm_base.proofs.Longer.{get_cases}
 use Rattle.ulfm_job.specs.Job.{JobView, may_leave, script_at}
 use Rattle.ulfm_job.specs.declared.condition.Condition.{Condition}
 use Rattle.ulfm_job.specs.declared.step.Step.{Step}
 use Rattle.ulfm_script.specs.Player.{Player, IsCalled, GivesUpStep, step_report}
-use Rattle.ulfm_script.specs.Reacting.{is_played, SkipsRightly}
-use Rattle.ulfm_script.specs.Report.{is_skipped}
+use Rattle.ulfm_answer.specs.Reacting.{is_played, SkipsRightly}
+use Rattle.ulfm_answer.specs.Report.{is_skipped}
 use Rattle.ulfm_script.specs.Script.{GivesUpRightly}
-use Rattle.ulfm_script.specs.declared.answer.StepAnswer.TheVariants.{Unfinished}
-use Rattle.ulfm_script.specs.declared.answer.StepReport.{StepReport}
+use Rattle.ulfm_answer.specs.declared.answer.StepAnswer.TheVariants.{Unfinished}
+use Rattle.ulfm_answer.specs.declared.answer.StepReport.{StepReport}
 use Rattle.ulfm_script.specs.inside.Underway.{FollowsSoFar, GoesThrough}
 use Rattle.ulfm_script.proofs.Reacting.{gives-push}
 use Rattle.std.proofs.lemmas.Option.{none-some, slice_get_within}

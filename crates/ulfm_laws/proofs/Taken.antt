@@ -3,7 +3,7 @@ use Rattle.std.proofs.Common.{◌≡◌, ℕ, ◌<◌, ◌≤◌, Bool, true, fa
 use Rattle.std.proofs.Math.Seq.{take-append_seam}
 use Rattle.ulfm_laws.proofs.Common.{Item, Gone, at, Entry, State, owes, outbox, Report, cases_Bool, cases_eq, eq-eqb, ne_eqb, took, took_by, is_stopped, IsSigned, Inboxes, inbox_of, IsBeginning, Flow, there, owed_signed, from_signed, All-nil, All-cons, All-head, All-tail, All-push, All-take, All-weaker, lt_or_ge}
 use Rattle.ulfm_base.specs.Items.{ComesFrom, items_from}
-use Rattle.ulfm_rank.specs.declared.entry.Entry.TheVariants.{Took}
+use Rattle.ulfm_log.specs.declared.entry.Entry.TheVariants.{Took}
 use Rattle.ulfm_laws.proofs.Flowing.{AreFlowing}
 use Rattle.ulfm_laws.proofs.Mail.{IsTakenFrom}
 

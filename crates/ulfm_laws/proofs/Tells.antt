@@ -2,7 +2,7 @@
 use Rattle.std.proofs.Common.{◌≡◌, ℕ, Bool, true, false, cond, eqb, List, [], ◌∷◌, ◌++◌, refl, ap, sym, ◌∙◌, subst, arith, Option, Some, None}
 use Rattle.ulfm_laws.proofs.Common.{Context, Letter, Tag, Pattern, PostAt, count_before, Entry, TestAnswer, group_of, members_of, history_of, events_by, Step, Send, Recv, Probe, StepAnswer, Sent, Posted, Done, Over, Found, Cancelled, StepReport, ProcFailed, asks_of, room_of, content, is_rank, sent_by, or_left, eqb-true, slice_get_within, is_released, releases, IsSourceOf, history-push, any-push, count_front, group_stays, members_found, get_front, ⊤, ◌&&◌, slice_get, Status}
 use Rattle.ulfm_match.specs.Pairing.{Pairing, LawfulPairing}
-use Rattle.ulfm_rank.specs.declared.entry.TestAnswer.TheVariants.{Done as TestDone, Over as TestOver}
+use Rattle.ulfm_log.specs.declared.entry.TestAnswer.TheVariants.{Done as TestDone, Over as TestOver}
 use Rattle.ulfm_rank.specs.Answer.{Got, IsAnswerBy, is_release}
 use Rattle.ulfm_rank.specs.Messages.{TellsOf, with_room}
 use Rattle.ulfm_rank.proofs.Stays.{members_stay}

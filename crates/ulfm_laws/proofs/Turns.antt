@@ -6,12 +6,12 @@ use Rattle.ulfm_base.proofs.Topics.{topic_passes}
 use Rattle.ulfm_base.specs.Topic.{agreement_topic, is_agreement}
 use Rattle.ulfm_base.specs.declared.error.CallError.{CallError}
 use Rattle.ulfm_rank.specs.Checks.{adopt_checks, agree_checks, Passes}
-use Rattle.ulfm_rank.specs.Log.{or_else}
-use Rattle.ulfm_rank.specs.Proposal.{adopts, agreements, enters_agreement, entry_of, has_adopted, has_entered, is_agreeing, last_agreement, next_agreement}
-use Rattle.ulfm_rank.specs.declared.entry.Entry.TheVariants.{Adopted, Entered, Took}
-use Rattle.ulfm_rank.proofs.Belonging.{own_from}
-use Rattle.ulfm_rank.proofs.Entering.{AdoptsEntered, adopts_entered, agreements-more, counts, entry_parts, RoundsCounted, rounds_counted}
-use Rattle.ulfm_rank.proofs.Firsts.{first-push}
+use Rattle.ulfm_log.specs.Log.{or_else}
+use Rattle.ulfm_log.specs.Proposal.{adopts, agreements, enters_agreement, entry_of, has_adopted, has_entered, is_agreeing, last_agreement, next_agreement}
+use Rattle.ulfm_log.specs.declared.entry.Entry.TheVariants.{Adopted, Entered, Took}
+use Rattle.ulfm_log.proofs.Belonging.{own_from}
+use Rattle.ulfm_log.proofs.Entering.{AdoptsEntered, adopts_entered, agreements-more, counts, entry_parts, RoundsCounted, rounds_counted}
+use Rattle.ulfm_log.proofs.Firsts.{first-push}
 use Rattle.ulfm_script.specs.Answered.{EachAnswerFollows, OnlyTook}
 use Rattle.ulfm_script.specs.Calls.{EntersBy}
 use Rattle.ulfm_script.specs.Deciding.{topic_of}

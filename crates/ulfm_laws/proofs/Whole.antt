@@ -5,9 +5,9 @@ use Rattle.std.proofs.lemmas.List.{take-append-drop, take-append-le, take_all}
 use Rattle.ulfm_base.specs.Group.{excluding}
 use Rattle.ulfm_base.specs.RankSet.{has}
 use Rattle.ulfm_job.specs.Job.{JobView}
-use Rattle.ulfm_rank.specs.Communicators.{or_empty}
-use Rattle.ulfm_rank.specs.declared.entry.Entry.TheVariants.{Adopted}
-use Rattle.ulfm_rank.proofs.Entering.{EntersMade, enters_made}
+use Rattle.ulfm_log.specs.Communicators.{or_empty}
+use Rattle.ulfm_log.specs.declared.entry.Entry.TheVariants.{Adopted}
+use Rattle.ulfm_log.proofs.Entering.{EntersMade, enters_made}
 use Rattle.ulfm_laws.proofs.Common.{AnswersFollow, at, Decision, each_logged, Entry, false≢true, Fits, group_of, Inboxes, is_member, IsOwn, Known, members_found, Report, slice_get_within, some_from, State, there}
 use Rattle.ulfm_laws.specs.Lawful.{LawfulReport}
 use Rattle.ulfm_laws.specs.Order.{DecisionsAreProposals}

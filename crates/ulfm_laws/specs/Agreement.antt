@@ -10,11 +10,11 @@ use Rattle.ulfm_base.specs.Topic.{agreement_topic}
 use Rattle.ulfm_rank.specs.Checks.{group_at}
 use Rattle.ulfm_job.specs.declared.step.Step.{Step}
 use Rattle.ulfm_job.specs.declared.step.Step.TheVariants.{Agree}
-use Rattle.ulfm_script.specs.declared.answer.StepAnswer.{StepAnswer}
-use Rattle.ulfm_script.specs.declared.answer.StepAnswer.TheVariants.{Agreed}
-use Rattle.ulfm_script.specs.declared.answer.StepReport.{StepReport}
+use Rattle.ulfm_answer.specs.declared.answer.StepAnswer.{StepAnswer}
+use Rattle.ulfm_answer.specs.declared.answer.StepAnswer.TheVariants.{Agreed}
+use Rattle.ulfm_answer.specs.declared.answer.StepReport.{StepReport}
 use Rattle.ulfm_script.specs.Deciding.{missing_in}
-use Rattle.ulfm_script.specs.Report.{Report}
+use Rattle.ulfm_answer.specs.Report.{Report}
 use Rattle.ulfm_laws.specs.Decisions.{HasEntered, StoppedAt}
 use Rattle.ulfm_laws.specs.Reader.{IsStep}
 use Rattle.ulfm_laws.specs.Reports.{HasAdopted, report_at}

@@ -7,7 +7,7 @@ use Rattle.ulfm_script.specs.Answered.{AnswersFollow}
 use Rattle.ulfm_script.specs.Deciding.{Known}
 use Rattle.ulfm_job.specs.Job.{JobView}
 use Rattle.ulfm_script.specs.Played.{FollowsScript}
-use Rattle.ulfm_script.specs.Report.{Report}
+use Rattle.ulfm_answer.specs.Report.{Report}
 
 -- each rank went through its script
 abbrev pub AllFollowScripts : JobView → List Report → Type 0

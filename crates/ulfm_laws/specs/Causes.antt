@@ -2,10 +2,10 @@
 use Rattle.std.specs.Prelude.{◌≡◌, ◌==◌, ℕ, Bool, true, false, List}
 use Rattle.std.specs.List.{list_any}
 use Rattle.ulfm_base.specs.Lists.{at}
-use Rattle.ulfm_rank.specs.declared.entry.Entry.{Entry}
-use Rattle.ulfm_rank.specs.declared.entry.Entry.TheVariants.{Revoked}
-use Rattle.ulfm_rank.specs.Facts.{is_gone, is_revoked}
-use Rattle.ulfm_script.specs.Report.{Report}
+use Rattle.ulfm_log.specs.declared.entry.Entry.{Entry}
+use Rattle.ulfm_log.specs.declared.entry.Entry.TheVariants.{Revoked}
+use Rattle.ulfm_log.specs.Facts.{is_gone, is_revoked}
+use Rattle.ulfm_answer.specs.Report.{Report}
 use Rattle.ulfm_laws.specs.Reports.{HasStopped}
 
 -- Who is known to have failed has stopped: no failure is suspected wrongly (ULFM, failure notification).

@@ -4,12 +4,12 @@ use Rattle.std.specs.List.{flat_map}
 use Rattle.ulfm_base.specs.declared.tag.Tag.{Tag}
 use Rattle.ulfm_match.specs.History.{MatchEvent, History, Come}
 use Rattle.ulfm_rank.specs.Checks.{group_at}
-use Rattle.ulfm_rank.specs.State.{State}
+use Rattle.ulfm_log.specs.State.{State}
 use Rattle.ulfm_job.specs.declared.step.Step.{Step}
 use Rattle.ulfm_job.specs.declared.step.Step.TheVariants.{Send}
-use Rattle.ulfm_script.specs.declared.answer.StepAnswer.{StepAnswer}
-use Rattle.ulfm_script.specs.declared.answer.StepAnswer.TheVariants.{Sent}
-use Rattle.ulfm_script.specs.declared.answer.StepReport.{StepReport}
+use Rattle.ulfm_answer.specs.declared.answer.StepAnswer.{StepAnswer}
+use Rattle.ulfm_answer.specs.declared.answer.StepAnswer.TheVariants.{Sent}
+use Rattle.ulfm_answer.specs.declared.answer.StepReport.{StepReport}
 
 -- what a letter carries
 pub record Content : Type 0 where

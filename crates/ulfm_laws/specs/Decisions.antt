@@ -11,17 +11,17 @@ use Rattle.ulfm_base.specs.Group.{is_member}
 use Rattle.ulfm_base.specs.Lists.{at}
 use Rattle.ulfm_base.specs.RankSet.{has}
 use Rattle.ulfm_board.specs.Known.{known_at}
-use Rattle.ulfm_rank.specs.declared.entry.Entry.{Entry}
-use Rattle.ulfm_rank.specs.declared.entry.Entry.TheVariants.{Adopted, Entered}
+use Rattle.ulfm_log.specs.declared.entry.Entry.{Entry}
+use Rattle.ulfm_log.specs.declared.entry.Entry.TheVariants.{Adopted, Entered}
 use Rattle.ulfm_rank.specs.Checks.{group_at}
-use Rattle.ulfm_rank.specs.Log.{first_given}
-use Rattle.ulfm_rank.specs.Proposal.{entry_of, has_entered, has_proposal}
-use Rattle.ulfm_rank.specs.State.{State}
+use Rattle.ulfm_log.specs.Log.{first_given}
+use Rattle.ulfm_log.specs.Proposal.{entry_of, has_entered, has_proposal}
+use Rattle.ulfm_log.specs.State.{State}
 use Rattle.ulfm_script.specs.Answered.{StoodAt}
 use Rattle.ulfm_script.specs.Deciding.{Known}
-use Rattle.ulfm_script.specs.Report.{Report}
-use Rattle.ulfm_script.specs.declared.answer.StepAnswer.TheVariants.{Refused}
-use Rattle.ulfm_script.specs.declared.answer.StepReport.{StepReport}
+use Rattle.ulfm_answer.specs.Report.{Report}
+use Rattle.ulfm_answer.specs.declared.answer.StepAnswer.TheVariants.{Refused}
+use Rattle.ulfm_answer.specs.declared.answer.StepReport.{StepReport}
 use Rattle.ulfm_laws.specs.Reports.{IsRunning, HasStopped, HasMade, HasAdopted}
 
 -- A decision of a rank is the one that its decider knows, is about the group that the rank had at some place of its log, and

@@ -5,9 +5,9 @@ use Rattle.ulfm_base.specs.declared.item.Item.{Item}
 use Rattle.ulfm_base.specs.declared.item.Item.TheVariants.{Gone}
 use Rattle.ulfm_base.specs.Items.{items_from}
 use Rattle.ulfm_base.specs.Lists.{at}
-use Rattle.ulfm_rank.specs.Facts.{took, is_stopped}
-use Rattle.ulfm_rank.specs.State.{State, owes, outbox}
-use Rattle.ulfm_script.specs.Report.{Report}
+use Rattle.ulfm_log.specs.Facts.{took, is_stopped}
+use Rattle.ulfm_log.specs.State.{State, owes, outbox}
+use Rattle.ulfm_answer.specs.Report.{Report}
 
 -- what is left in the inbox of each rank, each item with its sender
 abbrev pub Inboxes : Type 0

@@ -3,7 +3,7 @@ use Rattle.std.specs.Prelude.{List}
 use Rattle.ulfm_base.specs.Lists.{InPlace}
 use Rattle.ulfm_script.specs.Deciding.{Known}
 use Rattle.ulfm_job.specs.Job.{JobView}
-use Rattle.ulfm_script.specs.Report.{Report}
+use Rattle.ulfm_answer.specs.Report.{Report}
 use Rattle.ulfm_laws.specs.Agreement.{AgreementsAreTrue}
 use Rattle.ulfm_laws.specs.Answers.{AllFollowScripts, AllAnswersFollow, AllAgree}
 use Rattle.ulfm_laws.specs.Causes.{GoneHaveStopped, RevokedByARank}

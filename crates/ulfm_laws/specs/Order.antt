@@ -9,11 +9,11 @@ use Rattle.ulfm_base.specs.declared.item.Item.TheVariants.{Letter as Mail, Gone,
 use Rattle.ulfm_base.specs.declared.rank.WorldRank.{WorldRank}
 use Rattle.ulfm_base.specs.Lists.{at}
 use Rattle.ulfm_base.specs.RankSet.{has}
-use Rattle.ulfm_rank.specs.declared.entry.Entry.{Entry}
-use Rattle.ulfm_rank.specs.declared.entry.Entry.TheVariants.{Sent, Revoked, Adopted, Stopped, Took}
-use Rattle.ulfm_rank.specs.Facts.{is_revoked, is_stopped, revokes}
-use Rattle.ulfm_rank.specs.Proposal.{has_entered}
-use Rattle.ulfm_script.specs.Report.{Report}
+use Rattle.ulfm_log.specs.declared.entry.Entry.{Entry}
+use Rattle.ulfm_log.specs.declared.entry.Entry.TheVariants.{Sent, Revoked, Adopted, Stopped, Took}
+use Rattle.ulfm_log.specs.Facts.{is_revoked, is_stopped, revokes}
+use Rattle.ulfm_log.specs.Proposal.{has_entered}
+use Rattle.ulfm_answer.specs.Report.{Report}
 use Rattle.ulfm_laws.specs.Proposed.{IsProposalEarlier, IsProposedEarlier}
 
 -- an item is a letter

@@ -9,19 +9,19 @@ use Rattle.ulfm_base.specs.Group.{rank_in}
 use Rattle.ulfm_base.specs.Pattern.{Admits}
 use Rattle.ulfm_match.specs.History.{History, End, PostAt, ComeAt, StandsBetween, IsLiveReceive, IsLiveLetter, count_before}
 use Rattle.ulfm_match.specs.Pairing.{Pairing, Pairs, LawfulPairing}
-use Rattle.ulfm_rank.specs.declared.entry.Status.{Status}
-use Rattle.ulfm_rank.specs.declared.message.MessageId.{MessageId}
+use Rattle.ulfm_log.specs.declared.entry.Status.{Status}
+use Rattle.ulfm_log.specs.declared.message.MessageId.{MessageId}
 use Rattle.ulfm_rank.specs.Calls.{IsSourceOf}
 use Rattle.ulfm_rank.specs.Checks.{group_at}
-use Rattle.ulfm_rank.specs.Facts.{is_stopped, is_revoked}
+use Rattle.ulfm_log.specs.Facts.{is_stopped, is_revoked}
 use Rattle.ulfm_rank.specs.History.{history_of}
 use Rattle.ulfm_job.specs.declared.step.Step.{Step}
 use Rattle.ulfm_job.specs.declared.step.Step.TheVariants.{Send, Recv, Wait, Probe, Mrecv, Cancel}
-use Rattle.ulfm_script.specs.declared.answer.StepAnswer.{StepAnswer}
-use Rattle.ulfm_script.specs.declared.answer.StepAnswer.TheVariants.{Sent, Posted, Done, Over, Found, Cancelled}
-use Rattle.ulfm_script.specs.declared.answer.StepReport.{StepReport}
+use Rattle.ulfm_answer.specs.declared.answer.StepAnswer.{StepAnswer}
+use Rattle.ulfm_answer.specs.declared.answer.StepAnswer.TheVariants.{Sent, Posted, Done, Over, Found, Cancelled}
+use Rattle.ulfm_answer.specs.declared.answer.StepReport.{StepReport}
 use Rattle.ulfm_script.specs.Player.{step_report}
-use Rattle.ulfm_script.specs.Report.{Report}
+use Rattle.ulfm_answer.specs.Report.{Report}
 use Rattle.ulfm_laws.specs.Contents.{Content, letters_come, letters_sent}
 use Rattle.ulfm_laws.specs.Reports.{report_at}
 

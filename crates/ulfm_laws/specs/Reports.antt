@@ -2,12 +2,12 @@
 use Rattle.std.specs.Prelude.{◌≡◌, ℕ, true, false, List, [], length, slice_index_or}
 use Rattle.ulfm_base.specs.declared.decision.Decision.{Decision}
 use Rattle.ulfm_base.specs.Lists.{at}
-use Rattle.ulfm_rank.specs.declared.entry.Entry.TheVariants.{Adopted}
-use Rattle.ulfm_rank.specs.Communicators.{is_made}
-use Rattle.ulfm_rank.specs.Facts.{is_stopped}
-use Rattle.ulfm_rank.specs.State.{start_state}
+use Rattle.ulfm_log.specs.declared.entry.Entry.TheVariants.{Adopted}
+use Rattle.ulfm_log.specs.Communicators.{is_made}
+use Rattle.ulfm_log.specs.Facts.{is_stopped}
+use Rattle.ulfm_log.specs.State.{start_state}
 use Rattle.ulfm_job.specs.Job.{JobView}
-use Rattle.ulfm_script.specs.Report.{Report}
+use Rattle.ulfm_answer.specs.Report.{Report}
 
 -- a report where there is none
 abbrev pub no_report : Report

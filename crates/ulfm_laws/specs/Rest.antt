@@ -1,9 +1,9 @@
 -- Reports at rest, and what running ranks then know.
 use Rattle.std.specs.Prelude.{◌≡◌, ℕ, true, ◌<◌, List, []}
 use Rattle.ulfm_base.specs.Lists.{at}
-use Rattle.ulfm_rank.specs.Facts.{is_gone, is_revoked}
-use Rattle.ulfm_rank.specs.State.{outbox}
-use Rattle.ulfm_script.specs.Report.{Report}
+use Rattle.ulfm_log.specs.Facts.{is_gone, is_revoked}
+use Rattle.ulfm_log.specs.State.{outbox}
+use Rattle.ulfm_answer.specs.Report.{Report}
 use Rattle.ulfm_laws.specs.Flow.{Inboxes, inbox_of}
 use Rattle.ulfm_laws.specs.Reports.{IsRunning, HasStopped}
 

@@ -2,10 +2,10 @@
 use Rattle.std.specs.Prelude.{ℕ, Bool, false, not, ◌==◌, ◌<◌, ◌≤◌, List, drop, if◌then◌else◌}
 use Rattle.std.specs.List.{count_by}
 use Rattle.ulfm_base.specs.Lists.{at}
-use Rattle.ulfm_rank.specs.declared.entry.Entry.{Entry}
-use Rattle.ulfm_rank.specs.declared.entry.Entry.TheVariants.{Stopped, Took}
-use Rattle.ulfm_rank.specs.Facts.{is_gone_item}
-use Rattle.ulfm_script.specs.Report.{Report}
+use Rattle.ulfm_log.specs.declared.entry.Entry.{Entry}
+use Rattle.ulfm_log.specs.declared.entry.Entry.TheVariants.{Stopped, Took}
+use Rattle.ulfm_log.specs.Facts.{is_gone_item}
+use Rattle.ulfm_answer.specs.Report.{Report}
 use Rattle.ulfm_laws.specs.Order.{HaveOneOrder}
 
 -- an entry takes an item of the rank s that went out before the stop of s: each but the notice of the stop

@@ -2,7 +2,7 @@
 ghost use Rattle.std.specs.Prelude.{List};
 ghost use Rattle.ulfm_script.specs.Deciding.{Known};
 ghost use Rattle.ulfm_job.specs.Job.{JobView};
-ghost use Rattle.ulfm_script.specs.Report.{Report};
+ghost use Rattle.ulfm_answer.specs.Report.{Report};
 ghost use Rattle.ulfm_laws.specs.Flow.{Inboxes};
 ghost use Rattle.ulfm_laws.specs.Lawful.{AreProduced, LawfulReport};
 ghost use Rattle.ulfm_laws.specs.Order.{DecisionsAreProposals, ExclusionsComeLater, FailuresComeLater, LettersComeLater, RevocationsComeLater};

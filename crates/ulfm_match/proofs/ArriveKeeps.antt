@@ -2,7 +2,8 @@
 use Rattle.std.proofs.Common.{◌≡◌, ℕ, ◌+◌, ◌<◌, inl, inr, List, [], ◌∷◌, ◌++◌, length, refl, ap, sym, ◌∙◌, arith, Contains}
 use Rattle.ulfm_match.proofs.Common.{Pattern, Admits, Letter, MatchEvent, Post, Come, count_before, Pairing, LawfulPairing, Matching, IsUncleared, Tracks}
 use Rattle.ulfm_match.proofs.Decide.{lt_or_ge}
-use Rattle.ulfm_match.proofs.Histories.{below_last, get_new, count_old, count_below}
+use Rattle.ulfm_match.proofs.Histories.{count_old, count_below}
+use Rattle.ulfm_base.proofs.Longer.{below_last, get_new}
 use Rattle.ulfm_match.proofs.Lists.{lists_same, lists_push}
 use Rattle.ulfm_match.proofs.Extend.{letter_within, none_missed_below, extend}
 use Rattle.ulfm_match.proofs.Steps.{come_more, come_here, stands_nowhere, cleared_same, tracks, waiting_to, waiting_back, kept_to, kept_back, waiting_number, kept_number}

@@ -2,7 +2,8 @@
 use Rattle.std.proofs.Common.{◌≡◌, ◌≢◌, ℕ, ◌+◌, ◌<◌, inl, inr, List, [], ◌∷◌, ◌++◌, length, refl, ap, sym, ◌∙◌, arith, max}
 use Rattle.ulfm_match.proofs.Common.{Pattern, Admits, Letter, MatchEvent, Post, Come, PostAt, ComeAt, count_before, Pairing, Pairs, IsWaiting, LawfulPairing, Matching, IsUncleared, Tracks, Contains-push, ArrivalGoesTo}
 use Rattle.ulfm_match.proofs.Decide.{lt_or_ge, compared}
-use Rattle.ulfm_match.proofs.Histories.{below_last, get_new, get_below, stands_old, receive_more, stands_wider, count_below, same_number}
+use Rattle.ulfm_match.proofs.Histories.{stands_old, receive_more, stands_wider, count_below, same_number}
+use Rattle.ulfm_base.proofs.Longer.{below_last, get_new, get_below}
 use Rattle.ulfm_match.proofs.Least.{TakesLeast}
 use Rattle.ulfm_match.proofs.Lists.{lists_sub, lists_same}
 use Rattle.ulfm_match.proofs.Extend.{IsNew, letter_within, none_missed_below, extend}

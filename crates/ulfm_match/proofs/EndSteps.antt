@@ -1,7 +1,8 @@
 -- A receive ends, or a context is cleared: an event that makes no pair.
 use Rattle.std.proofs.Common.{◌≡◌, ◌≢◌, ℕ, ◌+◌, ◌<◌, inl, List, [], ◌∷◌, ◌++◌, length, refl, ap, sym, ◌∙◌, Some, arith, Contains, filter, not, ◌==◌, Bool, true, false, ◌↔◌}
 use Rattle.ulfm_match.proofs.Common.{Pattern, Letter, MatchEvent, Post, Come, End, Clear, PostAt, ComeAt, IsWellFormed, counts_as, count_before, Pairing, IsWaiting, IsKept, LawfulPairing, Matching, is_cleared, IsAscending, IsUncleared, Tracks, nat_tests, slice_get_within}
-use Rattle.ulfm_match.proofs.Histories.{below_last, get_new, same_number}
+use Rattle.ulfm_match.proofs.Histories.{same_number}
+use Rattle.ulfm_base.proofs.Longer.{below_last, get_new}
 use Rattle.ulfm_match.proofs.Members.{Contains-filter, filter-Contains}
 use Rattle.ulfm_match.proofs.Ascending.{ascending_filter}
 use Rattle.ulfm_match.proofs.Lists.{lists_sub}

@@ -2,7 +2,8 @@
 use Rattle.std.proofs.Common.{◌≡◌, ◌≢◌, ℕ, inl, inr, Bool, true, false, List, [], ◌∷◌, ◌++◌, refl, ap, sym, ◌∙◌, subst, arith, append-nil, append_assoc, Contains, filter, not, ◌==◌}
 use Rattle.ulfm_match.proofs.Common.{Pattern, names, MatchEvent, Post, End, PostAt, count_before, Pairing, Matching, IsAscending, Tracks, EndsNamed, slice_get_within}
 use Rattle.ulfm_match.proofs.Decide.{Contains-head, Contains-tail, Contains-cons_cases, Contains-none}
-use Rattle.ulfm_match.proofs.Histories.{get_old, count_old, same_number}
+use Rattle.ulfm_match.proofs.Histories.{count_old, same_number}
+use Rattle.ulfm_base.proofs.Longer.{get_old}
 use Rattle.ulfm_match.proofs.Members.{Contains-filter, filter-Contains}
 use Rattle.ulfm_match.proofs.Ascending.{ascending_filter}
 use Rattle.ulfm_match.proofs.Lists.{lists_sub}

@@ -13,7 +13,7 @@ use Rattle.ulfm_match.proofs.Members.{Contains-filter, filter-Contains}
 use Rattle.ulfm_match.proofs.PostTakes.{post_takes}
 use Rattle.ulfm_match.proofs.PostWaits.{post_waits}
 use Rattle.ulfm_match.proofs.Admitted.{admits_either}
-use Rattle.ulfm_match.proofs.Histories.{get_here}
+use Rattle.ulfm_base.proofs.Longer.{get_here}
 
 -- a history with a lawful pairing and its remains
 record IsPaired (h : List MatchEvent) : Type 0 where

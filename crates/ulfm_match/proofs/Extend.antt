@@ -2,7 +2,8 @@
 use Rattle.std.proofs.Common.{◌≡◌, ℕ, ◌+◌, ◌<◌, ◌≤◌, ◌⊎◌, inl, inr, List, [], ◌∷◌, ◌++◌, length, sym, ◌∙◌, subst, arith, max}
 use Rattle.ulfm_match.proofs.Common.{Pattern, Admits, Letter, MatchEvent, Post, Come, End, PostAt, ComeAt, StandsBetween, Pairing, Pairs, IsWaiting, IsKept, IsMatch, LawfulPairing, slice_get_within}
 use Rattle.ulfm_match.proofs.Decide.{lt_or_ge}
-use Rattle.ulfm_match.proofs.Histories.{get_below, length_more, stands_old, receive_old, receive_back, receive_less, letter_old, letter_back, letter_less}
+use Rattle.ulfm_match.proofs.Histories.{stands_old, receive_old, receive_back, receive_less, letter_old, letter_back, letter_less}
+use Rattle.ulfm_base.proofs.Longer.{get_below, length_more}
 
 -- a pair that the event x makes
 pub record IsNew (h : List MatchEvent) (x : MatchEvent) (r : Pairing) (i b : ℕ) : Type 0 where

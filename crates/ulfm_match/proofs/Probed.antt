@@ -5,7 +5,8 @@ use Rattle.ulfm_match.proofs.Common.{Pattern, Admits, Letter, MatchEvent, Post, 
 use Rattle.ulfm_match.proofs.Cut.{cut, inside_to, inside_back}
 use Rattle.ulfm_match.proofs.EndSteps.{end_idle}
 use Rattle.ulfm_match.proofs.Extend.{letter_within}
-use Rattle.ulfm_match.proofs.Histories.{get_new, same_number, below_last, length_more, letter_less}
+use Rattle.ulfm_match.proofs.Histories.{same_number, letter_less}
+use Rattle.ulfm_base.proofs.Longer.{get_new, below_last, length_more}
 use Rattle.ulfm_match.proofs.Least.{IsLeast, TakesLeast, least_out}
 use Rattle.ulfm_match.proofs.PostTakes.{post_takes}
 use Rattle.ulfm_match.proofs.Steps.{posted_here}

@@ -2,7 +2,8 @@
 use Rattle.std.proofs.Common.{◌≡◌, ◌≢◌, ℕ, ◌+◌, ◌<◌, ◌⊎◌, inl, inr, List, [], ◌∷◌, ◌++◌, length, ap, sym, ◌∙◌, Some, arith, add-one, slice_get, true, false, ◌↔◌}
 use Rattle.ulfm_match.proofs.Common.{Pattern, Letter, MatchEvent, Post, Come, End, Clear, PostAt, ComeAt, StandsBetween, IsWellFormed, counts_as, count_before, Pairing, Pairs, IsWaiting, IsKept, LawfulPairing, Matching, is_cleared, Lists, IsUncleared, Tracks, Contains-append_left, Contains-push_cases, slice_get_within}
 use Rattle.ulfm_match.proofs.Decide.{eq_either, paired_receive, paired_letter}
-use Rattle.ulfm_match.proofs.Histories.{get_old, get_new, get_cases, get_below, get_last, length_more, receive_more, receive_less, letter_more, letter_less, count_old, count_new}
+use Rattle.ulfm_match.proofs.Histories.{receive_more, receive_less, letter_more, letter_less, count_old, count_new}
+use Rattle.ulfm_base.proofs.Longer.{get_old, get_new, get_cases, get_below, get_last, length_more}
 use Rattle.ulfm_match.proofs.Extend.{receive_within, letter_within}
 
 -- the longer history is one

@@ -1,7 +1,6 @@
 //! What becomes of an arriving letter.
 
-use crate::request::RequestId;
-use ulfm_base::Letter;
+use ulfm_base::{Letter, RequestId};
 
 /// What became of a letter that arrived.
 #[derive(Drop)]

@@ -23,7 +23,6 @@ mod near;
 mod pool;
 mod recent;
 mod removal;
-mod request;
 mod search;
 mod settling;
 mod taking;
@@ -34,4 +33,3 @@ pub use law::{
     one_answer_to_an_arrival, one_lawful_pairing,
 };
 pub use matcher::Matcher;
-pub use request::RequestId;

@@ -9,14 +9,13 @@ use crate::arrived::Arrived;
 use crate::copying::copy_pool;
 use crate::pool::Pool;
 use crate::removal::{clear_letters, clear_receives, end_receives};
-use crate::request::RequestId;
 use crate::settling::{add, prepare_letter, prepare_receive};
 use crate::taking::{
     earliest_letter, end_numbered, has_letter, is_there, numbered, take_letter, take_receive,
 };
 use std::alloc::Global;
 use std::marker::Model;
-use ulfm_base::{CONTEXTS, Context, Letter, OutOfMemory, Pattern, WorldRank};
+use ulfm_base::{CONTEXTS, Context, Letter, OutOfMemory, Pattern, RequestId, WorldRank};
 
 /// The receives of one rank that wait, and the letters that it keeps, each by number: the last few in a list, the others in
 /// buckets by what they are searched for. Contracts see both as lists in order of their numbers, how many posts and arrivals

@@ -4,10 +4,11 @@ use crate::given_up::{GivenUp, members};
 use crate::missed::missed_step;
 use crate::under_way::is_sent;
 use std::alloc::Global;
+use ulfm_answer::StepAnswer;
 use ulfm_base::OutOfMemory;
 use ulfm_job::Job;
-use ulfm_rank::Entry;
-use ulfm_script::{RankReport, StepAnswer};
+use ulfm_log::Entry;
+use ulfm_script::RankReport;
 
 /// The first step that a rank gave up, or that has its answer by what another rank did behind such a step.
 #[derive(Clone, Copy, Debug, PartialEq, Eq)]

@@ -4,7 +4,7 @@ use crate::given_up::GivenUp;
 use crate::under_way::{letters_before, sent_by, step_of};
 use ulfm_base::Topic;
 use ulfm_job::{Job, Step};
-use ulfm_rank::Entry;
+use ulfm_log::Entry;
 use ulfm_script::RankReport;
 use ulfm_waits::would_bring;
 

@@ -4,10 +4,11 @@ use crate::given_up::push_given_up;
 use crate::told::{Next, Told};
 use crate::under_way::{is_sent, push_item};
 use std::alloc::Global;
+use ulfm_answer::push_answer;
 use ulfm_base::OutOfMemory;
 use ulfm_job::Job;
-use ulfm_rank::Entry;
-use ulfm_script::{RankReport, push_answer};
+use ulfm_log::Entry;
+use ulfm_script::RankReport;
 
 /// The text of a schedule in which ranks answer and take what these reports of the job say, each in its own order, and in which each item
 /// is taken behind the move that sent it. The ranks take turns at moves. Steps that were given up stand among those that stand open.

@@ -1,7 +1,8 @@
 //! How far a report is told.
 
-use ulfm_rank::Entry;
-use ulfm_script::{RankReport, StepReport};
+use ulfm_answer::StepReport;
+use ulfm_log::Entry;
+use ulfm_script::RankReport;
 
 /// How far the report of a rank is told: so many entries of its log, so many of its steps, and whether the next step stands open.
 #[derive(Clone, Copy, Debug, PartialEq, Eq)]

@@ -1,9 +1,10 @@
 //! Items between two ranks, by the reports of both.
 
+use ulfm_answer::StepAnswer;
 use ulfm_base::{Entrance, ItemKind, OutOfMemory, Purpose};
 use ulfm_job::{Job, Step};
-use ulfm_rank::{Entry, revokes};
-use ulfm_script::{RankReport, StepAnswer};
+use ulfm_log::{Entry, revokes};
+use ulfm_script::RankReport;
 
 /// Whether a rank has sent an item, after so many entries of its log. The other one takes it by the entry `at` of its own log.
 pub(crate) fn is_sent(

@@ -4,12 +4,13 @@ use Rattle.std.specs.declared.alloc.Global.{Global}
 use Rattle.std.specs.declared.vec.Vec.{Vec}
 use Rattle.ulfm_job.specs.Job.{JobView}
 use Rattle.ulfm_run.specs.Fault.{ShowUntrue}
-use Rattle.ulfm_script.specs.Report.{Report}
+use Rattle.ulfm_answer.specs.Report.{Report}
 use Rattle.ulfm_script.specs.declared.fault.RunFault.{RunFault}
 use Rattle.ulfm_script.specs.declared.fault.RunFault.TheVariants as faults
 use Rattle.ulfm_json.specs.declared.form.Form.{Form}
 use Rattle.ulfm_replies.specs.declared.command.RunOptions.{RunOptions}
-use Rattle.ulfm_replies.specs.Failure.{failed_in, failure_of}
+use Rattle.ulfm_replies.specs.Failure.{failed_in}
+use Rattle.ulfm_played.specs.Failing.{failure_of}
 use Rattle.ulfm_replies.specs.Stopped.{Asked, IsAskedAt}
 use Rattle.ulfm_replies.specs.declared.failure.Failure.{Failure}
 use Rattle.ulfm_replies.specs.declared.failure.Failure.TheVariants as run

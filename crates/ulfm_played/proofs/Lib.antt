@@ -3,3 +3,4 @@ pub mod Tallied
 pub mod Totals
 pub mod Failing
 pub mod Statuses
+pub mod Rows

@@ -1,14 +1,20 @@
 -- The statuses of what is played.
-use Rattle.std.proofs.Common.{ℕ, Bool, List, Option}
+use Rattle.std.proofs.Common.{ℕ, Bool, true, false, List, Option}
 use Rattle.std.specs.List.{list_all, list_any}
 use Rattle.ulfm_stops.specs.declared.place.Place.{Place}
 use Rattle.ulfm_json.specs.declared.form.Form.{Form}
-use Rattle.ulfm_replies.proofs.Statuses.{IsKnown, done, no_job, no_play, played, run_fails}
-use Rattle.ulfm_replies.specs.Asking.{as_asked}
-use Rattle.ulfm_replies.specs.Unfinished.{has_unfinished}
+use Rattle.ulfm_replies.proofs.Statuses.{IsKnown, done, left_open, no_job, no_play, not_wanted, run_fails}
+use Rattle.ulfm_played.specs.Asking.{as_asked}
+use Rattle.ulfm_played.specs.Unfinished.{has_unfinished, played_status}
 use Rattle.ulfm_replies.specs.declared.command.RunOptions.{RunOptions}
 use Rattle.ulfm_played.specs.Played.{IsDrawReply, drawn, not_drawn, undrawn, IsReplayReply, IsRunReply, traced, not_replayed, failed, ran, repeated, not_run, no_thread, untrue, crowded, fell, given_turns}
 use Rattle.ulfm_played.specs.Sweep.{IsSweepReply, swept, unread, full, unmade, unswept}
+
+pub played : (is_strict is_met is_unfinished : Bool) → IsKnown (played_status is_strict is_met is_unfinished)
+played is_strict false is_unfinished = not_wanted
+played true true true = left_open
+played true true false = done
+played false true is_unfinished = done
 
 pub replayed : (form : Form) (is_strict : Bool) (turns : Option ℕ) (place : Place) (bytes : List ℕ) (status : ℕ) (text : List ℕ) → IsReplayReply form is_strict turns place bytes status text → IsKnown status
 replayed form is_strict turns place bytes status text (traced asked reports is rests) = played is_strict (as_asked asked.rows (given_turns turns asked.job) reports) (has_unfinished (given_turns turns asked.job) reports)

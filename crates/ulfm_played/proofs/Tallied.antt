@@ -5,7 +5,7 @@ use Rattle.std.proofs.Math.Bool.{and-true, or-false}
 use Rattle.std.proofs.lemmas.List.{drop_more, get_or_default, map-append, take_more_set}
 use Rattle.std.proofs.lemmas.List.Folds.{list_all-append, list_any-append}
 use Rattle.std.proofs.lemmas.List.Sums.{fold-append}
-use Rattle.ulfm_script.specs.Report.{Report}
+use Rattle.ulfm_answer.specs.Report.{Report}
 use Rattle.ulfm_played.specs.declared.tally.Counted.{Counted}
 use Rattle.ulfm_played.specs.inside.Tallied.{row_of, rows_of}
 use Rattle.ulfm_played.specs.Tally.{Row, counted, counted_once, tally}

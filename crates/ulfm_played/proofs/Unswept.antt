@@ -6,9 +6,9 @@ use Rattle.ulfm_job.specs.declared.fault.JobFault.TheVariants.{NotToml, InJob, I
 use Rattle.ulfm_job.specs.Job.{JobView, step_count}
 use Rattle.ulfm_reader.specs.JobText.{job_of_bytes}
 use Rattle.ulfm_reader.specs.Plan.{plan_of}
-use Rattle.ulfm_sweep.specs.Sweep.{IsStarved}
-use Rattle.ulfm_sweep.specs.declared.fault.SweepFault.{SweepFault}
-use Rattle.ulfm_sweep.specs.declared.fault.SweepFault.TheVariants.{Job}
+use Rattle.ulfm_replay.specs.Sweep.{IsStarved}
+use Rattle.ulfm_replay.specs.declared.fault.SweepFault.{SweepFault}
+use Rattle.ulfm_replay.specs.declared.fault.SweepFault.TheVariants.{Job}
 use Rattle.ulfm_json.specs.declared.form.Form.{Form}
 use Rattle.ulfm_replies.specs.Replies.{refused_in}
 use Rattle.ulfm_played.specs.Sweep.{IsSweepReply, unread, full, unmade}

@@ -4,7 +4,7 @@ use Rattle.std.specs.List.{list_all, list_any}
 use Rattle.std.specs.Option.{option_map_or}
 use Rattle.ulfm_job.specs.Job.{JobView, with_turns}
 use Rattle.ulfm_stops.specs.declared.place.Place.{Place}
-use Rattle.ulfm_script.specs.Report.{Report}
+use Rattle.ulfm_answer.specs.Report.{Report}
 use Rattle.ulfm_json.specs.Form.{trace_in}
 use Rattle.ulfm_json.specs.declared.form.Form.{Form}
 use Rattle.ulfm_laws.specs.Flow.{AreWithin}
@@ -16,9 +16,9 @@ use Rattle.ulfm_played.specs.Brief.{repeats_in}
 use Rattle.ulfm_played.specs.Tally.{tally}
 use Rattle.ulfm_replies.specs.declared.command.RunOptions.{RunOptions}
 use Rattle.ulfm_replies.specs.Failure.{failed_in, out_of_memory_in}
-use Rattle.ulfm_replies.specs.Asking.{as_asked}
+use Rattle.ulfm_played.specs.Asking.{as_asked}
 use Rattle.ulfm_replies.specs.Stopped.{Asked, IsAskedAt, IsRefusal, names_at}
-use Rattle.ulfm_replies.specs.Unfinished.{has_unfinished, played_status}
+use Rattle.ulfm_played.specs.Unfinished.{has_unfinished, played_status}
 use Rattle.ulfm_replies.specs.declared.failure.Failure.TheVariants as run
 
 -- the job with the turns of the command line, where they are given

@@ -6,12 +6,16 @@
 //! Read specs/Played.antt first, then Tally.antt and Brief.antt (runs that are repeated), and Sweep.antt.
 #![tactic(auto)]
 
+mod asking;
 mod brief;
+mod faults;
 mod picture;
 mod replayed;
 mod run;
 mod swept;
 mod tally;
+mod trace;
+mod traced;
 mod turns;
 
 pub use picture::draw_reply;

@@ -6,11 +6,12 @@ ghost use Rattle.ulfm_replies.specs.CommandLine.{AreTurns};
 use crate::turns::given_turns;
 use std::alloc::{AllocError, Global};
 use ulfm_draw::{Style, drawn};
+use ulfm_job::Job;
 use ulfm_json::Form;
 use ulfm_moves::played_text;
+use ulfm_replay::replay;
 use ulfm_replies::{DONE, Place, Reply, asked_at};
-use ulfm_script::{Job, RankReport};
-use ulfm_world::replay;
+use ulfm_script::RankReport;
 
 /// The reply of `draw`, in this style.
 pub fn draw_reply(

@@ -3,11 +3,12 @@ ghost use Rattle.std.specs.Prelude.{IfOk, string_bytes};
 ghost use Rattle.ulfm_played.specs.Played.{IsReplayReply};
 ghost use Rattle.ulfm_replies.specs.CommandLine.{AreTurns};
 
+use crate::trace::trace_reply;
 use crate::turns::given_turns;
 use std::alloc::{AllocError, Global};
 use ulfm_json::Form;
-use ulfm_replies::{Place, Reply, asked_at, names_at, trace_reply};
-use ulfm_world::replay;
+use ulfm_replay::replay;
+use ulfm_replies::{Place, Reply, asked_at, names_at};
 
 /// The reply of `replay`.
 pub fn replay_reply(

@@ -15,7 +15,9 @@ ghost use Rattle.ulfm_laws.specs.Lawful.{LawfulReport};
 ghost use Rattle.ulfm_run.specs.Flow.{contents};
 ghost use Rattle.ulfm_script.specs.Deciding.{Known};
 
+use crate::faults::failure_of;
 use crate::tally::{tally_of, tally_reply};
+use crate::trace::trace_reply;
 use crate::turns::given_turns;
 use std::alloc::{AllocError, Global};
 use std::sync::Wait;
@@ -23,12 +25,11 @@ use std::thread::Threads;
 use ulfm_base::CallError;
 use ulfm_board::{Decider, Seat, seats};
 use ulfm_carrier::{Ends, LaneEnds, SharedEnds, lanes, shared};
+use ulfm_job::Job;
 use ulfm_json::Form;
-use ulfm_replies::{
-    Carrier, Failure, Reply, RunOptions, asked_at, failed, failure_of, names_at, trace_reply,
-};
+use ulfm_replies::{Carrier, Failure, Reply, RunOptions, asked_at, failed, names_at};
 use ulfm_run::{Report, fits, run_job};
-use ulfm_script::{Job, RankReport};
+use ulfm_script::RankReport;
 
 /// The reply of `run` with these options, in this form.
 pub fn run_reply<R: Threads + Wait + Sync>(

@@ -3,11 +3,11 @@ ghost use Rattle.std.specs.Prelude.{◌≡◌, ◌++◌, IfOk, OnOk, string_byte
 ghost use Rattle.ulfm_played.specs.Sweep.{IsSweepReply, sweep_in, sweep_json, sweep_line, sweep_line_in};
 
 use std::alloc::{AllocError, Global};
+use ulfm_job::Job;
 use ulfm_json::Form;
 use ulfm_reader::ReadJob;
+use ulfm_replay::{SweepFault, SweepLine, sweep};
 use ulfm_replies::{DONE, Reply, refusal};
-use ulfm_script::Job;
-use ulfm_sweep::{SweepFault, SweepLine, sweep};
 
 /// The reply of `sweep`.
 pub fn sweep_reply(alloc: Global, form: Form, bytes: &[u8]) -> Result<Reply, AllocError>

@@ -3,25 +3,28 @@ ghost use Rattle.std.specs.Prelude.{◌≡◌, ◌++◌, ◌&&◌, ◌||◌, ◌
 ghost use Rattle.std.specs.List.{list_all, list_any};
 ghost use Rattle.ulfm_played.specs.Played.{AreOfRun};
 ghost use Rattle.ulfm_reader.specs.JobText.{rows_of as rows_asked};
-ghost use Rattle.ulfm_script.specs.Report.{Report};
+ghost use Rattle.ulfm_answer.specs.Report.{Report};
 ghost use Rattle.ulfm_json.specs.Form.{trace_in};
 ghost use Rattle.ulfm_played.specs.declared.tally.Counted.{Counted as Kept};
 ghost use Rattle.ulfm_played.specs.inside.Tallied.{row_of, rows_of};
 ghost use Rattle.ulfm_played.specs.inside.Shown.{IsShown};
 ghost use Rattle.ulfm_played.specs.Brief.{repeats_in};
 ghost use Rattle.ulfm_played.specs.Tally.{counted, counted_once, row_in, row_json, row_text, tally, tally_in};
-ghost use Rattle.ulfm_replies.specs.Asking.{as_asked};
-ghost use Rattle.ulfm_replies.specs.Unfinished.{has_unfinished, played_status};
+ghost use Rattle.ulfm_played.specs.Asking.{as_asked};
+ghost use Rattle.ulfm_played.specs.Unfinished.{has_unfinished, played_status};
 
+use crate::asking::as_asked;
 use crate::brief::brief_text;
 use crate::run::run_by_carrier;
+use crate::trace::{has_unfinished, played_status};
+use crate::traced::trace_in;
 use std::alloc::{AllocError, Global};
 use std::sync::Wait;
 use std::thread::Threads;
-use ulfm_json::{Form, trace_in};
+use ulfm_job::Job;
+use ulfm_json::Form;
 use ulfm_reader::Reading;
-use ulfm_replies::{Carrier, Failure, Reply, as_asked, has_unfinished, played_status};
-use ulfm_script::Job;
+use ulfm_replies::{Carrier, Failure, Reply};
 
 /// A text, as a trace, and how many runs gave it.
 #[derive(Drop)]

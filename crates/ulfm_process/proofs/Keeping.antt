@@ -2,21 +2,21 @@
 use Rattle.std.proofs.Common.{◌≡◌, ℕ, Bool, true, false, refl, ap, sym, subst, Result, Ok, Err, Option, OnOk, OnErr, cond}
 use Rattle.std.specs.Prelude.{IfOk}
 use Rattle.ulfm_carrier.specs.declared.lane_ends.LaneEnds.{LaneEnds}
-use Rattle.ulfm_match.specs.declared.request.RequestId.{RequestId}
+use Rattle.ulfm_base.specs.declared.request_id.RequestId.{RequestId}
 use Rattle.ulfm_rank.proofs.Joining.{joined-quiet}
 use Rattle.ulfm_rank.proofs.Quiet.{Own, quiet-logged, quiet-same}
-use Rattle.ulfm_rank.specs.State.{IsState, RankView, State, logged}
-use Rattle.ulfm_rank.specs.declared.entry.Entry.{Entry}
-use Rattle.ulfm_rank.specs.declared.entry.Cancel.{Cancel}
-use Rattle.ulfm_rank.specs.declared.entry.Cancel.TheVariants.{Cancelled, Completed}
-use Rattle.ulfm_rank.specs.declared.entry.Comm.{Comm}
-use Rattle.ulfm_rank.specs.declared.entry.Entry.TheVariants.{Released, Probed as ProbedEntry}
-use Rattle.ulfm_rank.specs.declared.entry.Probed.{Probed}
-use Rattle.ulfm_rank.specs.declared.entry.Probed.TheVariants.{Found, Nothing}
+use Rattle.ulfm_log.specs.State.{IsState, RankView, State, logged}
+use Rattle.ulfm_log.specs.declared.entry.Entry.{Entry}
+use Rattle.ulfm_log.specs.declared.entry.Cancel.{Cancel}
+use Rattle.ulfm_log.specs.declared.entry.Cancel.TheVariants.{Cancelled, Completed}
+use Rattle.ulfm_log.specs.declared.entry.Comm.{Comm}
+use Rattle.ulfm_log.specs.declared.entry.Entry.TheVariants.{Released, Probed as ProbedEntry}
+use Rattle.ulfm_log.specs.declared.entry.Probed.{Probed}
+use Rattle.ulfm_log.specs.declared.entry.Probed.TheVariants.{Found, Nothing}
 use Rattle.ulfm_rank.specs.Cancel.{cancelling}
 use Rattle.ulfm_rank.specs.Messages.{IsProbeAnswer}
 use Rattle.ulfm_base.specs.declared.tag.Tag.{Tag}
-use Rattle.ulfm_rank.specs.declared.entry.TestAnswer.{TestAnswer}
+use Rattle.ulfm_log.specs.declared.entry.TestAnswer.{TestAnswer}
 use Rattle.ulfm_rank.specs.Answer.{is_release}
 use Rattle.ulfm_rank.specs.inside.Quiet.{Quiet}
 use Rattle.ulfm_process.specs.View.{IsAtEnd}

@@ -2,7 +2,7 @@
 use Rattle.std.proofs.Common.{◌≡◌, ◌≢◌, ◌↔◌, ℕ, ◌<◌, Bool, true, false, cond, List, [], ◌∷◌, ◌++◌, length, length-append, refl, ap, sym, subst, ◌∙◌, arith, inl, inr, ◌⊎◌, IsTrue, IsSome, is_some, Option, Some, None, get_or-set_other}
 use Rattle.std.proofs.lemmas.Bool.{cases_lt, false≢true}
 use Rattle.ulfm_base.specs.declared.item.Item.{Item}
-use Rattle.ulfm_rank.specs.State.{GoesOut, State, mark_at, marked, no_mark, outbox}
+use Rattle.ulfm_log.specs.State.{GoesOut, State, mark_at, marked, no_mark, outbox}
 use Rattle.ulfm_base.specs.declared.rank.WorldRank.{WorldRank}
 use Rattle.ulfm_process.specs.Turning.{GoOut, IsSameProcess, IsStuck, IsTurn, Takes, with_came}
 use Rattle.ulfm_process.specs.View.{ProcessView}

@@ -5,10 +5,10 @@ use Rattle.ulfm_base.specs.declared.error.CallError.{CallError}
 use Rattle.ulfm_base.specs.declared.error.CallError.TheVariants.{OutOfMemory}
 use Rattle.ulfm_base.specs.declared.topic.Topic.{Topic}
 use Rattle.ulfm_board.specs.Known.{Answers, Starves}
-use Rattle.ulfm_rank.specs.declared.entry.Entry.TheVariants.{Adopted}
+use Rattle.ulfm_log.specs.declared.entry.Entry.TheVariants.{Adopted}
 use Rattle.ulfm_rank.specs.Checks.{Passes, Fails, FailsOrStarves, group_at, adopt_checks, proposal_checks}
-use Rattle.ulfm_rank.specs.Proposal.{IsProposal, has_proposal}
-use Rattle.ulfm_rank.specs.State.{logged}
+use Rattle.ulfm_log.specs.Proposal.{IsProposal, has_proposal}
+use Rattle.ulfm_log.specs.State.{logged}
 use Rattle.ulfm_process.specs.View.{ProcessView, with_rank}
 
 -- the process with other decisions that its seat knows

@@ -5,7 +5,7 @@ use Rattle.ulfm_base.specs.declared.decision.Decision.{Decision}
 use Rattle.ulfm_board.specs.Known.{OneBoard, nothing_known}
 use Rattle.ulfm_carrier.specs.declared.lane_ends.LaneEnds.{LaneEnds}
 use Rattle.ulfm_carrier.specs.Lanes.{OneCall, lane_name}
-use Rattle.ulfm_rank.specs.State.{start_state_with}
+use Rattle.ulfm_log.specs.State.{start_state_with}
 use Rattle.ulfm_process.specs.View.{ProcessView}
 
 -- the process's end

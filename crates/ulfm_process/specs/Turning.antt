@@ -3,9 +3,9 @@ use Rattle.std.specs.Prelude.{◌≡◌, ℕ, ◌<◌, Bool, true, false, IsTrue
 use Rattle.ulfm_base.specs.declared.item.Item.{Item}
 use Rattle.ulfm_base.specs.declared.rank.WorldRank.{WorldRank}
 use Rattle.ulfm_carrier.specs.Lanes.{known_room, lane_name, seen_from}
-use Rattle.ulfm_rank.specs.declared.entry.Entry.TheVariants.{Took}
-use Rattle.ulfm_rank.specs.Facts.{is_stopped}
-use Rattle.ulfm_rank.specs.State.{State, GoesOut, logged, outbox}
+use Rattle.ulfm_log.specs.declared.entry.Entry.TheVariants.{Took}
+use Rattle.ulfm_log.specs.Facts.{is_stopped}
+use Rattle.ulfm_log.specs.State.{State, GoesOut, logged, outbox}
 use Rattle.ulfm_process.specs.View.{ProcessView}
 
 -- nothing can go out to the rank d: nothing waits for it, or the end knows of no free place in the ring to it

@@ -4,7 +4,7 @@ use Rattle.ulfm_base.specs.declared.decision.Decision.{Decision}
 use Rattle.ulfm_carrier.specs.declared.lane_ends.LaneEnds.{LaneEnds}
 use Rattle.ulfm_carrier.specs.Lanes.{IsReady, lane_pushed, lane_taken}
 use Rattle.ulfm_rank.specs.Joined.{IsJoined}
-use Rattle.ulfm_rank.specs.State.{State}
+use Rattle.ulfm_log.specs.State.{State}
 
 -- The state of its rank, its end of the carrier, the names of the cells of its board, and the decisions that its seat knows.
 pub record ProcessView : Type 0 where

@@ -15,6 +15,7 @@ use std::io::{Read, Write};
 use std::sync::Wait;
 use std::thread::Threads;
 use std::time::Clock;
+use ulfm_finder::Finder;
 use ulfm_findings::{InputFault, read_front, write_whole};
 use ulfm_json::Form;
 use ulfm_judged::NO_GOAL;
@@ -30,8 +31,9 @@ const NOT_TEXT: &str = "a word of the command line isn't UTF-8\n";
 /// Follows the words: looks at them first, then reads the input whole, then its job, then runs it, and writes the whole
 /// reply. Standard error gets how far a list of outcomes is, where that is asked for, and then what a person wants to know beside
 /// the reply. Answers the status (docs/JOBS.md). With 2 the words were looked at alone.
-pub fn run_on<T, S, R, W, E>(
+pub fn run_on<T, F, S, R, W, E>(
     rt: &T,
+    finder: &F,
     alloc: Global,
     words: &[S],
     input: &mut R,
@@ -40,6 +42,7 @@ pub fn run_on<T, S, R, W, E>(
 ) -> u8
 where
     T: Threads + Wait + Clock + Sync,
+    F: Finder + Sync,
     S: AsStr,
     R: Read,
     W: Write,
@@ -55,7 +58,7 @@ where
     ensures known { result ≤ 9 }
 {
     match asked_for(alloc, words) {
-        Ok(asked) => follow(rt, alloc, &asked, input, output, errors),
+        Ok(asked) => follow(rt, finder, alloc, &asked, input, output, errors),
         Err(Unfollowed::Help(text)) => write_reply(output, DONE, text.as_bytes()),
         Err(Unfollowed::Usage(text)) => {
             let status = write_reply(output, USAGE, text.as_bytes());
@@ -86,8 +89,9 @@ pub fn without_words<W: Write, E: Write>(
 }
 
 /// Reads the input, and writes the reply to it, and then the notes on it.
-fn follow<T, R, W, E>(
+fn follow<T, F, R, W, E>(
     rt: &T,
+    finder: &F,
     alloc: Global,
     asked: &Asked<'_>,
     input: &mut R,
@@ -96,6 +100,7 @@ fn follow<T, R, W, E>(
 ) -> u8
 where
     T: Threads + Wait + Clock + Sync,
+    F: Finder + Sync,
     R: Read,
     W: Write,
     E: Write + Send,
@@ -117,7 +122,7 @@ where
         Err(InputFault::OutOfMemory) => return write_starved(output, form),
     };
     let mut progress = Progress::new(rt, alloc, &mut *errors, wanted);
-    let told = reply_to(rt, alloc, asked, bytes.as_slice(), &mut progress);
+    let told = reply_to(rt, finder, alloc, asked, bytes.as_slice(), &mut progress);
     progress.end();
     match told {
         Ok(reply) => {

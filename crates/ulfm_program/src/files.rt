@@ -15,14 +15,16 @@ use std::rt::Files;
 use std::sync::Wait;
 use std::thread::Threads;
 use std::time::Clock;
+use ulfm_finder::Finder;
 use ulfm_findings::write_whole;
 use ulfm_replies::{DONE, INPUT_FAILED, OUTPUT_FAILED, asked_for};
 
 /// Follows the words for each file that they name, in turn, as `run_on` follows them with that file's bytes as its input, or for `input`
 /// where they name none. Above the answers of several files stands a line with each one's name. A file that can't be read has the status
 /// of an input that fails, and standard error names it. Answers the greatest status (docs/JOBS.md).
-pub fn run_each<T, S, R, W, E>(
+pub fn run_each<T, F, S, R, W, E>(
     rt: &T,
+    finder: &F,
     alloc: Global,
     words: &[S],
     input: &mut R,
@@ -31,6 +33,7 @@ pub fn run_each<T, S, R, W, E>(
 ) -> u8
 where
     T: Files + Threads + Wait + Clock + Sync,
+    F: Finder + Sync,
     S: AsStr,
     R: Read,
     W: Write,
@@ -45,15 +48,24 @@ where
 {
     if let Ok(asked) = asked_for(alloc, words) {
         if !asked.files.is_empty() {
-            return run_files(rt, alloc, words, asked.files.as_slice(), output, errors);
+            return run_files(
+                rt,
+                finder,
+                alloc,
+                words,
+                asked.files.as_slice(),
+                output,
+                errors,
+            );
         }
     }
-    run_on(rt, alloc, words, input, output, errors)
+    run_on(rt, finder, alloc, words, input, output, errors)
 }
 
 /// Follows the words for each of these files, and answers the greatest status.
-fn run_files<T, S, W, E>(
+fn run_files<T, F, S, W, E>(
     rt: &T,
+    finder: &F,
     alloc: Global,
     words: &[S],
     files: &[&str],
@@ -62,6 +74,7 @@ fn run_files<T, S, W, E>(
 ) -> u8
 where
     T: Files + Threads + Wait + Clock + Sync,
+    F: Finder + Sync,
     S: AsStr,
     W: Write,
     E: Write + Send,
@@ -70,7 +83,7 @@ where
     let mut greatest = DONE;
     for file in files {
         let has_head = files.len() > 1;
-        let status = run_file(rt, alloc, words, file, has_head, output, errors);
+        let status = run_file(rt, finder, alloc, words, file, has_head, output, errors);
         if greatest < status {
             greatest = status;
         }
@@ -82,8 +95,9 @@ where
 }
 
 /// Follows the words for a file, below a line with its name where that is wanted, and answers the status.
-fn run_file<T, S, W, E>(
+fn run_file<T, F, S, W, E>(
     rt: &T,
+    finder: &F,
     alloc: Global,
     words: &[S],
     file: &str,
@@ -93,6 +107,7 @@ fn run_file<T, S, W, E>(
 ) -> u8
 where
     T: Files + Threads + Wait + Clock + Sync,
+    F: Finder + Sync,
     S: AsStr,
     W: Write,
     E: Write + Send,
@@ -103,7 +118,7 @@ where
     }
     match File::open(rt, file) {
         Ok(mut opened) => {
-            let status = run_on(rt, alloc, words, &mut opened, output, errors);
+            let status = run_on(rt, finder, alloc, words, &mut opened, output, errors);
             if status == INPUT_FAILED {
                 write_unread(alloc, file, "the read failed", errors);
             }

@@ -6,7 +6,7 @@ use std::sync::Mutex;
 use std::sync::atomic::{AtomicUsize, Ordering};
 use std::time::{Clock, Instant};
 use ulfm_findings::write_whole;
-use ulfm_places::Onlooker;
+use ulfm_judged::Onlooker;
 use ulfm_reach::Watch;
 use ulfm_replies::{ListOptions, Place, Wanted};
 

@@ -6,15 +6,16 @@ ghost use Rattle.ulfm_replies.specs.CommandLine.{HasRanges};
 use std::alloc::{AllocError, Global};
 use std::sync::Wait;
 use std::thread::Threads;
-use ulfm_judged::list_reply;
-use ulfm_places::Onlooker;
+use ulfm_finder::Finder;
+use ulfm_judged::{Onlooker, list_reply};
 use ulfm_played::{draw_reply, replay_reply, run_reply, sweep_reply};
 use ulfm_reach::Watch;
 use ulfm_replies::{Asked, Reply, Wanted, check_reply, expand_reply, places_reply};
 
 /// The reply to what the words ask for. `watch` is told how far a list of outcomes is.
-pub fn reply_to<R, P>(
+pub fn reply_to<R, F, P>(
     rt: &R,
+    finder: &F,
     alloc: Global,
     asked: &Asked<'_>,
     bytes: &[u8],
@@ -22,6 +23,7 @@ pub fn reply_to<R, P>(
 ) -> Result<Reply, AllocError>
 where
     R: Threads + Wait + Sync,
+    F: Finder + Sync,
     P: Watch + Onlooker + Sync,
     requires { HasRanges asked.now.wanted }
     ensures { IfOk result (λ r. IsReplyTo asked.now.form (option_map (λ s. s.now) asked.now.show) asked.now.wanted bytes.now r.status (string_bytes r.text)) }
@@ -36,7 +38,9 @@ where
         } => replay_reply(alloc, form, is_strict, turns, place, bytes),
         Wanted::Run(options) => run_reply(rt, alloc, form, options, bytes),
         Wanted::Sweep => sweep_reply(alloc, form, bytes),
-        Wanted::Outcomes(options) => list_reply(rt, alloc, form, asked.show, options, bytes, watch),
+        Wanted::Outcomes(options) => list_reply(
+            rt, finder, alloc, form, asked.show, options, bytes, watch,
+        ),
         Wanted::Places(stops) => places_reply(alloc, form, stops, bytes),
         Wanted::Expand => expand_reply(alloc, form, bytes),
         Wanted::Draw {

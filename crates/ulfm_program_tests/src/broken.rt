@@ -2,6 +2,7 @@
 
 use std::io;
 use std::io::{ErrorKind, Write};
+use ulfm_outcomes::Exploration;
 use ulfm_program::run_on;
 
 /// A job of one letter, each step below a head of its own.
@@ -40,6 +41,7 @@ fn an_output_that_ends_in_an_error_gets_a_beginning(rt: HostRuntime) {
         };
         let answered = run_on(
             &rt,
+            &Exploration,
             rt.alloc(),
             &["ulfm", command],
             &mut input,
@@ -64,6 +66,7 @@ fn a_text_that_breaks_off_is_checked(rt: HostRuntime) {
         let mut output = Vec::new(rt.alloc());
         let status = run_on(
             &rt,
+            &Exploration,
             rt.alloc(),
             &["ulfm", "check"],
             &mut input,

@@ -5,6 +5,7 @@ use std::sync::Wait;
 use std::test::Fail;
 use std::thread::Threads;
 use std::time::Clock;
+use ulfm_outcomes::Exploration;
 use ulfm_program::run_each;
 
 /// Where the files of these tests stand.
@@ -101,6 +102,7 @@ fn follows<R: AllocGlobal + fs::Files + Threads + Wait + Clock + Sync>(
     let mut errors = Vec::new(rt.alloc());
     let status = run_each(
         rt,
+        &Exploration,
         rt.alloc(),
         case.words,
         &mut input,
@@ -136,6 +138,7 @@ fn an_output_that_fails_ends_the_files(rt: HostRuntime) -> Result<(), Fail> {
     let mut errors = Vec::new(rt.alloc());
     let status = run_each(
         &rt,
+        &Exploration,
         rt.alloc(),
         &words,
         &mut "".as_bytes(),

@@ -6,6 +6,7 @@ use std::io::Write;
 use std::sync::Wait;
 use std::thread::Threads;
 use std::time::Clock;
+use ulfm_outcomes::Exploration;
 use ulfm_program::run_on;
 
 /// How many bytes of a text are kept.
@@ -48,6 +49,7 @@ pub fn reply<R: AllocGlobal + Threads + Wait + Clock + Sync>(
     };
     let status = run_on(
         rt,
+        &Exploration,
         rt.alloc(),
         words,
         &mut input,

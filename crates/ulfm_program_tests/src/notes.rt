@@ -7,6 +7,7 @@ use std::sync::Wait;
 use std::test::Fail;
 use std::thread::Threads;
 use std::time::Clock;
+use ulfm_outcomes::Exploration;
 use ulfm_program::run_on;
 
 /// A job of two ranks, by its steps.
@@ -33,6 +34,7 @@ pub fn noted<R: AllocGlobal + Threads + Wait + Clock + Sync>(
     let mut errors = Vec::new(rt.alloc());
     let status = run_on(
         rt,
+        &Exploration,
         rt.alloc(),
         words.as_slice(),
         &mut input,
@@ -128,6 +130,7 @@ fn a_wrong_command_line_is_told_in_a_line(rt: HostRuntime) {
         let mut errors = Vec::new(rt.alloc());
         let _status = run_on(
             &rt,
+            &Exploration,
             rt.alloc(),
             words,
             &mut "".as_bytes(),
@@ -144,6 +147,7 @@ fn an_empty_job_is_told_where_it_is_read(rt: HostRuntime) {
         let mut errors = Vec::new(rt.alloc());
         let status = run_on(
             &rt,
+            &Exploration,
             rt.alloc(),
             &["ulfm", "replay"],
             &mut job.as_bytes(),

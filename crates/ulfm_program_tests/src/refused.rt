@@ -5,6 +5,7 @@ use std::io;
 use std::sync::Wait;
 use std::thread::Threads;
 use std::time::Clock;
+use ulfm_outcomes::Exploration;
 use ulfm_program::run_on;
 
 /// A job of one letter, whose text is cut after each of its bytes.
@@ -20,6 +21,7 @@ fn status_of<R: AllocGlobal + Threads + Wait + Clock + Sync>(rt: &R, job: &[u8])
     };
     let status = run_on(
         rt,
+        &Exploration,
         rt.alloc(),
         &["ulfm", "check"],
         &mut input,

@@ -6,6 +6,7 @@ use std::alloc::{AllocError, Global};
 use std::io;
 use std::io::{ErrorKind, Read, Write};
 use std::test::Fail;
+use ulfm_outcomes::Exploration;
 use ulfm_program::run_on;
 
 /// A job of one letter, by its steps.
@@ -55,6 +56,7 @@ fn an_input_that_fails_writes_nothing(rt: HostRuntime) {
         assert_eq!(rt;
             run_on(
                 &rt,
+                &Exploration,
                 rt.alloc(),
                 &["ulfm", command],
                 &mut input,
@@ -78,6 +80,7 @@ fn an_output_that_fails_gets_a_beginning(rt: HostRuntime) {
     assert_eq!(rt;
         run_on(
             &rt,
+            &Exploration,
             rt.alloc(),
             &["ulfm", "replay"],
             &mut input,
@@ -140,6 +143,7 @@ fn an_output_that_takes_little_at_a_time_gets_all(rt: HostRuntime) {
         assert_eq!(rt;
             run_on(
                 &rt,
+                &Exploration,
                 rt.alloc(),
                 &["ulfm", command],
                 &mut input,
@@ -179,6 +183,7 @@ fn an_input_that_gives_little_at_a_time_is_read_whole(rt: HostRuntime) {
             assert_eq!(rt;
                 run_on(
                     &rt,
+                    &Exploration,
                     rt.alloc(),
                     &["ulfm", command],
                     &mut input,

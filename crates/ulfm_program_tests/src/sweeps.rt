@@ -4,6 +4,7 @@ use crate::kept::{Kept, is_reply, reply};
 use std::alloc::{AllocError, Global};
 use std::io;
 use std::test::Fail;
+use ulfm_outcomes::Exploration;
 use ulfm_program::run_on;
 
 /// A job of one rank and no steps.
@@ -79,6 +80,7 @@ fn a_stop_needs_room_in_the_job(rt: HostRuntime) -> Result<(), Fail> {
     let mut errors = Vec::new(rt.alloc());
     let status = run_on(
         &rt,
+        &Exploration,
         rt.alloc(),
         &["ulfm", "sweep"],
         &mut input,
@@ -101,6 +103,7 @@ fn the_longest_job_that_can_be_swept(rt: HostRuntime) -> Result<(), Fail> {
     let mut output = Vec::new(rt.alloc());
     let status = run_on(
         &rt,
+        &Exploration,
         rt.alloc(),
         &["ulfm", "sweep"],
         &mut input,

@@ -5,9 +5,9 @@ use Rattle.ulfm_base.specs.Topic.{is_agreement, is_purpose}
 use Rattle.ulfm_rank.proofs.Common.{Context, Purpose, Shrink, Agree, shrink_topic, decided_comm, Decision, dup_of, shrink_of, numbers_from, has, Entry, Duplicated, Adopted, false≢true, eqb-true, eqb-false, eq-eqb, ne_eqb, All-append, All-filter, All-nil, find_group, copy_of, made_by, group_of, HasCommunicators, adopts, has_adopted}
 use Rattle.ulfm_base.specs.declared.error.CallError.TheVariants.{NoComm, AlreadyMade, NotEntered, NotMember, OutOfMemory, Stopped}
 use Rattle.ulfm_rank.specs.Checks.{Fails}
-use Rattle.ulfm_rank.proofs.Gather.{gathered_all, any-push}
-use Rattle.ulfm_rank.proofs.Made.{comms-push, found_of_world, All-one}
-use Rattle.ulfm_rank.specs.Log.{by_found}
+use Rattle.ulfm_log.proofs.Gather.{gathered_all, any-push}
+use Rattle.ulfm_log.proofs.Made.{comms-push, found_of_world, All-one}
+use Rattle.ulfm_log.specs.Log.{by_found}
 
 -- an adoption that a check refuses isn't refused for lack of memory
 pub never_starved : (a b d e f : Bool) → Fails ((a, Stopped) ∷ (b, NoComm) ∷ (d, AlreadyMade) ∷ (e, NotEntered) ∷ (f, NotMember) ∷ []) OutOfMemory → ⊥

@@ -2,7 +2,7 @@
 use Rattle.std.proofs.Common.{◌≡◌, ℕ, Bool, true, false, cond, List, refl, ap, sym, ◌∙◌, subst, Option, Some}
 use Rattle.ulfm_rank.proofs.Common.{Pattern, Letter, WorldRank, PostAt, Entry, TestAnswer, Fate, Waiting, Paired, Found, Failed, Cleared, Request, group_of, history_of, AdmitsSource, Pairing, Pairs, LawfulPairing, Matching, same_pattern, same_letter, one_pairing, letter_within, pends, Got, IsUnpaired, IsOpenReceive, IsReceived, IsAnswerBy, IsRequest, IsTestAnswer, IsSourceIn, IsInStep, is_found, is_released, false≢true, IsNoRequest, IsMessage, IsNoMessage, with_room, Became, IsDelivered, GivesAnswer, HasSender, Source, One, Any, is_member, Done, Over, Pending, NotYet}
 use Rattle.ulfm_rank.proofs.Groups.{rank_some}
-use Rattle.ulfm_rank.proofs.Grouped.{members_found}
+use Rattle.ulfm_log.proofs.Grouped.{members_found}
 use Rattle.ulfm_rank.proofs.Steps.{same_place}
 
 member_of : (group : List ℕ) (source : Source) (r : WorldRank) → IsSourceIn group source → AdmitsSource source r → is_member group r.number ≡ true

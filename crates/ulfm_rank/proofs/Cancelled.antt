@@ -2,7 +2,7 @@
 use Rattle.std.proofs.Common.{◌≡◌, ℕ, cond, List, [], ◌∷◌, ◌++◌, refl, ap, sym, ◌∙◌, subst, Option, Some, None}
 use Rattle.ulfm_rank.proofs.Common.{MatchEvent, End, count_before, Entry, Cancelled, Request, RequestId, history_of, eq-eqb, Pairing, LawfulPairing, Matching, Tracks, TracksEnd, IsTable, IsInStep, Removes}
 use Rattle.ulfm_rank.proofs.Endings.{one_number}
-use Rattle.ulfm_rank.proofs.Gather.{history-push}
+use Rattle.ulfm_rank.proofs.Histories.{history-push}
 use Rattle.ulfm_rank.proofs.Release.{table_released}
 use Rattle.ulfm_rank.proofs.Steps.{map_same}
 use Rattle.ulfm_rank.proofs.Tables.{became_keeps, no_post, table_change}

@@ -2,11 +2,11 @@
 use denote.Param.Send.{IsSend, sendable}
 use Rattle.std.proofs.Crossing.{crosses}
 use Rattle.ulfm_match.proofs.matcher.Matcher.TheSendSync as matcher
-use Rattle.ulfm_rank.specs.contracts.block.Block as block
-use Rattle.ulfm_rank.specs.contracts.block.HeldDecision as held
-use Rattle.ulfm_rank.specs.contracts.entry.Entry as entry
+use Rattle.ulfm_log.specs.contracts.block.Block as block
+use Rattle.ulfm_log.specs.contracts.block.HeldDecision as held
+use Rattle.ulfm_log.specs.contracts.entry.Entry as entry
 use Rattle.ulfm_rank.specs.contracts.rank.Rank as rank
-use Rattle.ulfm_rank.specs.contracts.row.Row as row
+use Rattle.ulfm_log.specs.contracts.row.Row as row
 
 held_send : IsSend held.the_row
 held_send = search (sendable, crosses) depth 60 fits 20000

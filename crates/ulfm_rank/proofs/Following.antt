@@ -3,11 +3,11 @@ use Rattle.std.proofs.Common.{◌≡◌, ℕ, Bool, true, false, cond, eqb, List
 use Rattle.ulfm_rank.proofs.Common.{Context, Letter, WorldRank, Entrance, Decision, dup_of, decided_comm, Entry, Sent, Acknowledged, Revoked, Duplicated, Entered, Adopted, Stopped, Request, find_group, is_stop, is_stopped, is_revoked, Follows, Box, for_each, AllGrow, Matching, TracksRevocation, or-false, passed_on, announced, FaultState, acknowledged_in, is_revoked_in}
 use Rattle.ulfm_base.specs.declared.item.Item.TheVariants.{Letter as Mail}
 use Rattle.ulfm_rank.proofs.Adoptable.{communicators-adopted}
-use Rattle.ulfm_rank.proofs.Gather.{any-push}
-use Rattle.ulfm_rank.proofs.Held.{outboxes-grown, outboxes-quiet}
+use Rattle.ulfm_log.proofs.Gather.{any-push}
+use Rattle.ulfm_log.proofs.Held.{outboxes-grown, outboxes-quiet}
 use Rattle.ulfm_rank.proofs.InStep.{in_step_quiet, in_step_revoked}
 use Rattle.ulfm_rank.proofs.Known.{acknowledged-push, known-push, faults_quiet, faults_revoked}
-use Rattle.ulfm_rank.proofs.Made.{communicators-quiet, communicators-duplicated}
+use Rattle.ulfm_log.proofs.Made.{communicators-quiet, communicators-duplicated}
 
 or_true : (b : Bool) → b || true ≡ true
 or_true true = refl

@@ -6,7 +6,7 @@ use Rattle.ulfm_base.specs.declared.item.Item.TheVariants.{Letter as Mail, Gone,
 use Rattle.ulfm_match.proofs.Decide.{Contains-head, Contains-tail}
 use Rattle.ulfm_match.proofs.Ends.{AreEnds}
 use Rattle.ulfm_match.proofs.Steps.{history_more, posted_more, come_more}
-use Rattle.ulfm_rank.proofs.Gather.{history-push}
+use Rattle.ulfm_rank.proofs.Histories.{history-push}
 use Rattle.ulfm_rank.proofs.Gone.{ends_named}
 use Rattle.ulfm_rank.proofs.Endings.{number_ends}
 use Rattle.ulfm_rank.proofs.Opens.{each_event, posted_by, unrevoked_open}

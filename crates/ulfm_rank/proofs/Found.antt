@@ -3,7 +3,8 @@ use Rattle.std.proofs.Common.{◌≡◌, ℕ, ◌<◌, ◌⊎◌, inl, inr, Bool
 use Rattle.ulfm_rank.proofs.Common.{Pattern, Letter, MessageId, MatchEvent, Post, Come, End, count_before, Entry, Probed, Paired, Found, Request, Pairing, Pairs, LawfulPairing, IsWaiting, pairs_below, Matching, Tracks, IsOfGroup, IsStanding, IsTable, IsInStep, Became, is_found, is_released, is_probed, releases, probes, history_of, Adds, Contains-push, same_Some, slice_get_within, get_old, length_more, count_below, receive_within, letter_within, cut, inside_to, inside_back, eq-eqb, or_right, IsMessage}
 use Rattle.ulfm_match.proofs.Steps.{pair_cases, pair_old}
 use Rattle.ulfm_match.specs.Calls.{ProbeGets, TracksProbe}
-use Rattle.ulfm_rank.proofs.Gather.{history-push, any-push}
+use Rattle.ulfm_log.proofs.Gather.{any-push}
+use Rattle.ulfm_rank.proofs.Histories.{history-push}
 use Rattle.ulfm_rank.proofs.Groups.{of_group_stays}
 use Rattle.ulfm_rank.proofs.InStep.{fresh_number, posted_last, untouched}
 use Rattle.ulfm_rank.proofs.Steps.{map_same}

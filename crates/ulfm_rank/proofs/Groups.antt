@@ -1,7 +1,7 @@
 -- The group of a communicator that was made stays as the log grows.
 use Rattle.std.proofs.Common.{◌≡◌, ℕ, zero, suc, arith, Bool, true, false, cond, List, [], ◌∷◌, ◌++◌, ap, refl, Some, Option, None, ◌==◌, ◌||◌, IsSome, slice_get}
 use Rattle.ulfm_rank.proofs.Common.{Pattern, Entry, IsOfGroup, nat_tests, is_member, rank_in, one_further}
-use Rattle.ulfm_rank.proofs.Grouped.{group_stays}
+use Rattle.ulfm_log.proofs.Grouped.{group_stays}
 
 pub of_group_stays : {n : ℕ} {log : List Entry} (x : Entry) {p : Pattern} → IsOfGroup n log p → IsOfGroup n (log ++ x ∷ []) p
 of_group_stays {n} {log} x {p} o = record { group = o.group; made = group_stays n log x p.context.number o.group o.made; source = o.source }

@@ -1,7 +1,8 @@
 -- The matcher and the table stay in step with the log.
 use Rattle.std.proofs.Common.{◌≡◌, ℕ, ◌+◌, ◌≤◌, Bool, false, cond, List, [], ◌∷◌, ◌++◌, length, refl, ap, sym, ◌∙◌, subst, Option, None, arith, append-nil, slice_get, ◌||◌}
 use Rattle.ulfm_rank.proofs.Common.{Pattern, Context, Item, WorldRank, Entry, Posted, Revoked, Took, Fate, Request, IsRequest, Pairing, IsWaiting, IsKept, Matching, is_cleared, Lists, Tracks, IsOfGroup, IsTable, IsInStep, get_here, Adds, TracksAdmit, TracksRevocation, TracksItem, or-false, MatchEvent, Post, Clear, counts_as, count_before, history_of, events_by, item_events, names_gone, post_events, is_revoked, revoked_before, is_released, is_probed, releases, probes, list_any, or_parts, false_from_ne_true, PostAt}
-use Rattle.ulfm_rank.proofs.Gather.{history-push, any-push}
+use Rattle.ulfm_log.proofs.Gather.{any-push}
+use Rattle.ulfm_rank.proofs.Histories.{history-push}
 use Rattle.ulfm_rank.proofs.Groups.{of_group_stays}
 use Rattle.ulfm_rank.proofs.Opens.{unrevoked_open, few_numbered}
 

@@ -2,12 +2,12 @@
 use Rattle.std.proofs.Common.{◌≡◌, ◌≢◌, ℕ, ◌<◌, cond, List, [], ◌∷◌, ◌++◌, refl, ap, sym, subst, ◌∙◌, arith, inl, inr, append-nil, All}
 use Rattle.ulfm_base.proofs.Places.{get_or-blank}
 use Rattle.ulfm_rank.specs.Joined.{IsJoined}
-use Rattle.ulfm_rank.specs.State.{start_state_with}
+use Rattle.ulfm_log.specs.State.{start_state_with}
 use Rattle.ulfm_rank.specs.inside.Quiet.{Quiet}
 use Rattle.ulfm_rank.proofs.Common.{All-nil, Entry, Item, Took, WorldRank, cases_eq, eq-eqb, ne_eqb, no_mark, IsSigned, IsState, State, logged, went_out, GoesOut, took}
-use Rattle.ulfm_rank.proofs.Logs.{took-push}
+use Rattle.ulfm_log.proofs.Logs.{took-push}
 use Rattle.ulfm_rank.proofs.Quiet.{calm-took, out_other}
-use Rattle.ulfm_rank.proofs.States.{leaves-by}
+use Rattle.ulfm_log.proofs.States.{leaves-by}
 
 module _ {E : Type 0} {place count : E → ℕ} {pushed taken : E → ℕ → List Item} {ready : E → Type 0} where
   -- the rank starts, at an end by which nothing was pushed and nothing taken

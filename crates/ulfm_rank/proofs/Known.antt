@@ -2,8 +2,8 @@
 use Rattle.std.proofs.Common.{◌≡◌, ℕ, Bool, true, false, cond, List, [], ◌∷◌, ◌++◌, refl, ap, sym, ◌∙◌, append-nil, ◌||◌, ◌&&◌, ◌==◌, not, nat_lt, length, slice_index_or, eqb-true}
 use Rattle.ulfm_rank.proofs.Common.{Context, Pattern, WorldRank, Item, Entry, Took, members_of, HasFaults, names_known, pends_by, was_revoked_in, is_any, pends, list_any, or-false, names_gone, list_any-append, Source, One, Any, is_member, including, intersection, is_gone, tells_gone, known_of, newly_known, acknowledged_of, acknowledged_from, acknowledged_by, is_revoked, revoked_before, revokes, FaultState, acknowledged_in, is_revoked_in, has_unacked}
 use Rattle.ulfm_base.specs.declared.item.Item.TheVariants.{Letter as Mail, Gone, Revoke, Enter}
-use Rattle.ulfm_rank.proofs.Gather.{gathered-push, gathered_all, any-push}
-use Rattle.ulfm_rank.specs.Log.{by_found}
+use Rattle.ulfm_log.proofs.Gather.{gathered-push, gathered_all, any-push}
+use Rattle.ulfm_log.specs.Log.{by_found}
 
 pub known-push : (log : List Entry) (x : Entry) → known_of (log ++ x ∷ []) ≡ known_of log ++ newly_known (known_of log) x
 known-push log x = gathered-push (by_found newly_known) [] log x

@@ -2,7 +2,7 @@
 use Rattle.std.proofs.Common.{◌≡◌, ◌≢◌, ℕ, zero, suc, ◌+◌, ◌≤◌, Bool, true, false, cond, List, [], ◌∷◌, ◌++◌, ◌==◌, length, refl, ap, sym, ◌∙◌, subst, Option, Some, None, arith, length-append, All, slice_get}
 use Rattle.ulfm_rank.proofs.Common.{Letter, Pattern, Item, Entry, Posted, Probed, Cancelled, Revoked, Took, false≢true, or_parts, eq-eqb, All-nil, All-push, All-append, names, IsUncleared, get_or_from_slice_get, slice_get_within, MatchEvent, Post, Come, End, Clear, counts_as, count_before, names_gone, end_at, ends_from, item_events, events_by, history_of, is_revoked, revoked_before, revokes}
 use Rattle.ulfm_base.specs.declared.item.Item.TheVariants.{Letter as Mail, Gone, Revoke, Enter}
-use Rattle.ulfm_rank.proofs.Gather.{gathered_all, any-push}
+use Rattle.ulfm_log.proofs.Gather.{gathered_all, any-push}
 
 -- the pattern of the receive that an entry posts
 abbrev pub posted_by : Entry → Option Pattern

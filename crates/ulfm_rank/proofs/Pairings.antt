@@ -1,7 +1,7 @@
 -- A log's history has one lawful pairing, which holds in its beginnings too.
 use Rattle.std.proofs.Common.{◌≡◌, List, [], ◌∷◌, ◌++◌, ap, sym, ◌∙◌, append-nil, append_assoc}
 use Rattle.ulfm_rank.proofs.Common.{MatchEvent, Pairing, LawfulPairing, Entry, events_by, history_of, one_pairing, IsWellFormed, cut, IsPaired}
-use Rattle.ulfm_rank.proofs.Gather.{history-push}
+use Rattle.ulfm_rank.proofs.Histories.{history-push}
 
 -- the history of a longer log goes on where that of its beginning ends
 history-more : (front rest : List Entry) → (more : List MatchEvent) × (history_of (front ++ rest) ≡ history_of front ++ more)

@@ -15,7 +15,7 @@ use Rattle.ulfm_rank.proofs.Opens.{unrevoked_open}
 use Rattle.ulfm_rank.proofs.Refusals.{all_pass}
 use Rattle.ulfm_rank.specs.Checks.{Passes, receive_checks}
 use Rattle.ulfm_rank.specs.Messages.{IsRefusalAfterChecks}
-use Rattle.ulfm_rank.specs.declared.entry.Comm.{Comm}
+use Rattle.ulfm_log.specs.declared.entry.Comm.{Comm}
 
 -- where no kept letter fits, a receive gets none
 pub waits : {n : ℕ} {log : List Entry} {m : Matching} {find : ℕ → Option Request} → IsInStep n log m find → (p : Pattern) → is_revoked log p.context.number ≡ false → ((y : ℕ × Letter) → Contains m.kept y → Admits p y.1.envelope → ⊥) → WouldWait log p

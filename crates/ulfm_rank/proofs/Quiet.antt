@@ -2,7 +2,7 @@
 use Rattle.std.proofs.Common.{◌≢◌, get_or-set_other, ◌≡◌, ℕ, ◌≤◌, [], ◌++◌, length, take, refl, ap, sym, ◌∙◌, arith, append-nil, length-append}
 use Rattle.std.proofs.lemmas.List.{take-append-le}
 use Rattle.ulfm_rank.proofs.Common.{WorldRank, Item, Entry, Took, owed_by, or_parts, All-push, State, IsState, logged, owes, went_out, mark_at, notice, GoesOut, marked, no_mark, took, took_by, is_stop, is_stopped, IsSigned}
-use Rattle.ulfm_rank.proofs.Logs.{owes-logged, took-push, stopped-push}
+use Rattle.ulfm_log.proofs.Logs.{owes-logged, took-push, stopped-push}
 use Rattle.ulfm_rank.specs.inside.Quiet.{Calm, Quiet}
 
 pub calm-same : (r : State) → IsState r → Calm r r

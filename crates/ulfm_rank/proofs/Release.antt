@@ -1,7 +1,8 @@
 -- A request or a message is released.
 use Rattle.std.proofs.Common.{◌≡◌, ℕ, ◌<◌, Bool, true, false, cond, eqb, List, [], ◌∷◌, ◌++◌, length, refl, ap, sym, ◌∙◌, subst, Option, Some, None, arith, append-nil, ◌||◌}
 use Rattle.ulfm_rank.proofs.Common.{MatchEvent, Post, count_before, Entry, Request, Pairing, events_by, history_of, eqb-true, or_parts, Matching, Tracks, IsTable, IsInStep, slice_get_within, count_below, Removes, is_released, releases, probes}
-use Rattle.ulfm_rank.proofs.Gather.{history-push, any-push}
+use Rattle.ulfm_log.proofs.Gather.{any-push}
+use Rattle.ulfm_rank.proofs.Histories.{history-push}
 use Rattle.ulfm_rank.proofs.Groups.{of_group_stays}
 use Rattle.ulfm_rank.proofs.InStep.{untouched}
 

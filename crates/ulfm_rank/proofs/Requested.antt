@@ -2,9 +2,9 @@
 use Rattle.std.proofs.Common.{◌≡◌, ℕ, Bool, true, false, cond, List, refl, ap, sym, subst, ◌∙◌, Some, Option, IsSome}
 use Rattle.ulfm_rank.proofs.Common.{Letter, Pattern, Entry, TestAnswer, Done, Over, Pending, NotYet, Fate, Waiting, Paired, Found, Failed, Cleared, Request, IsDelivered, IsMessageAnswer, is_found, is_waiting, is_receipt, is_release, with_room, find_group, or_empty, Follows, Box, pends_by, Matching, IsTestAnswer, GivesAnswer, HasSender, IsOfGroup, is_some, FaultState}
 use Rattle.ulfm_rank.proofs.Answered.{tested, received, has_sender}
-use Rattle.ulfm_rank.proofs.Grouped.{members_found}
+use Rattle.ulfm_log.proofs.Grouped.{members_found}
 use Rattle.ulfm_rank.proofs.Known.{pends_known}
-use Rattle.ulfm_rank.proofs.Made.{found_group}
+use Rattle.ulfm_log.proofs.Made.{found_group}
 
 -- the answer for a receive that waits doesn't release it
 pub waits : (g : List ℕ) (pending : Bool) (p : Pattern) (o : Fate) (a : TestAnswer) → is_waiting o ≡ true → GivesAnswer g pending p o a → is_release a ≡ false

@@ -3,8 +3,8 @@ use Rattle.std.proofs.Common.{◌≡◌, ◌≢◌, ℕ, zero, suc, ◌+◌, ◌
 use Rattle.std.proofs.lemmas.List.{map-set, length-map}
 use Rattle.ulfm_rank.proofs.Common.{Item, Gone, Entry, is_stopped, owed, cases_eq, Mark, State, logged, with_marks, no_mark, mark_at, outbox, taken_out, returned, unmarked, marked, GoesOut, MayReturn, slice_get_within, Box, Boxes, empty_box, box_at, mark_of, with_first_out, with_item_back, with_notice_out, HasOutboxes, stop_places, get_or-map}
 use Rattle.std.proofs.Math.Seq.{drop-nil}
-use Rattle.ulfm_rank.proofs.Logs.{owed_few}
-use Rattle.ulfm_rank.proofs.States.{leaves-running, leaves-stopped, next_owed}
+use Rattle.ulfm_log.proofs.Logs.{owed_few}
+use Rattle.ulfm_log.proofs.States.{leaves-running, leaves-stopped, next_owed}
 
 abbrev pub state_by_boxes : Bool → ℕ → ℕ → List Entry → List Box → State
 state_by_boxes keeps me n log boxes = record { me = me; ranks = n; log = log; marks = map mark_of boxes; keeps = keeps }

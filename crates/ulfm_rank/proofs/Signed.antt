@@ -4,10 +4,10 @@ use Rattle.std.proofs.lemmas.List.{get_or_append_left, get_or_at}
 use Rattle.ulfm_rank.proofs.Common.{WorldRank, Item, Entry, owed, owed_by, All-append, All-push, All-drop, All-head, All-nil, State, owes, outbox, mark_at, is_stopped, IsSigned, IsFrom}
 use Rattle.ulfm_base.specs.declared.item.Item.TheVariants.{Letter as Mail, Gone, Revoke, Enter}
 use Rattle.ulfm_base.proofs.Numbers.{same_rank}
-use Rattle.ulfm_rank.proofs.Gather.{gathered_all}
-use Rattle.ulfm_rank.proofs.Logs.{owed_by_cases}
+use Rattle.ulfm_log.proofs.Gather.{gathered_all}
+use Rattle.ulfm_log.proofs.Logs.{owed_by_cases}
 use Rattle.ulfm_base.specs.Items.{ComesFrom}
-use Rattle.ulfm_rank.specs.Log.{by_before}
+use Rattle.ulfm_log.specs.Log.{by_before}
 
 pub all_front : {X : Type 0} (P : X → Type 0) (xs : List X) (x : X) → All P (xs ++ x ∷ []) → All P xs
 all_front P xs x all k d h = let Q = P in subst Q (get_or_append_left xs (x ∷ []) d k h) (all k d (omega (arith, length-append xs (x ∷ []), h)))

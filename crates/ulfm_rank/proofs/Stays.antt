@@ -4,8 +4,8 @@ use Rattle.ulfm_rank.proofs.Common.{Letter, Pattern, MatchEvent, Post, Come, End
 use Rattle.ulfm_base.specs.declared.error.CallError.TheVariants.{ProcFailed, Revoked, Truncated}
 use Rattle.ulfm_match.proofs.Decide.{lt_or_ge}
 use Rattle.ulfm_rank.proofs.Tables.{first_on}
-use Rattle.ulfm_rank.proofs.Gather.{history-push}
-use Rattle.ulfm_rank.proofs.Grouped.{group_stays, members_found}
+use Rattle.ulfm_rank.proofs.Histories.{history-push}
+use Rattle.ulfm_log.proofs.Grouped.{group_stays, members_found}
 
 -- what holds of the members of a communicator, and not of none, stays
 pub members_stay : (n : ℕ) (log : List Entry) (e : Entry) (c : ℕ) (P : List ℕ → Type 0) → (P [] → ⊥) → P (members_of n log c) → P (members_of n (log ++ e ∷ []) c)

@@ -2,12 +2,12 @@
 use Rattle.std.proofs.Common.{◌≡◌, ℕ, ◌+◌, ◌<◌, ◌≤◌, Bool, true, false, cond, List, [], ◌∷◌, ◌++◌, length, map, replicate, refl, ap, sym, ◌∙◌, Option, Some, None, arith, ◌&&◌, nat_lt, nat_eq, ◌^◌, IsTrue}
 use Rattle.ulfm_rank.proofs.Common.{Item, Pattern, WorldRank, numbers_from, Entry, Posted, Released, Probed, Received, Cancelled, Took, Fate, Request, Follows, IsInStep, IsOfGroup, events_by, history_of, is_stop, newly_known, acknowledged_by, revokes, made_by, owed_by, false≢true, HasFaults, names_known, was_revoked_in, State, no_mark, Matching, Tracks, Adds, Removes, TracksAdmit, TracksItem, nat_tests, owed_by_item, Box, empty_box, mark_of, AllGrow, lookup, get, index_map_len, Holds, FaultState, acknowledged_in, is_revoked_in}
 use Rattle.ulfm_rank.specs.declared.rank.Rank.TheInside.{Inside}
-use Rattle.ulfm_rank.specs.State.{start_state_with}
+use Rattle.ulfm_log.specs.State.{start_state_with}
 use Rattle.ulfm_rank.proofs.Following.{runs_on}
-use Rattle.ulfm_rank.proofs.Held.{outboxes-grown, outboxes-quiet, outboxes-start, marks-start}
+use Rattle.ulfm_log.proofs.Held.{outboxes-grown, outboxes-quiet, outboxes-start, marks-start}
 use Rattle.ulfm_rank.proofs.InStep.{in_step_start, in_step_same, in_step_posted, in_step_took}
 use Rattle.ulfm_rank.proofs.Known.{faults_start, faults_quiet, known_named, marked_before}
-use Rattle.ulfm_rank.proofs.Made.{communicators-quiet, communicators-start}
+use Rattle.ulfm_log.proofs.Made.{communicators-quiet, communicators-start}
 use Rattle.ulfm_rank.proofs.Release.{IsRelease, in_step_released}
 
 -- an entry is about receives and messages alone

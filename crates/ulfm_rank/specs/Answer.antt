@@ -8,13 +8,13 @@ use Rattle.ulfm_base.specs.declared.error.CallError.TheVariants.{ProcFailed, Rev
 use Rattle.ulfm_base.specs.Group.{rank_in}
 use Rattle.ulfm_match.specs.History.{MatchEvent, End, Clear, PostAt, ComeAt, StandsBetween, count_before}
 use Rattle.ulfm_match.specs.Pairing.{Pairing, Pairs, LawfulPairing}
-use Rattle.ulfm_rank.specs.declared.entry.Entry.{Entry}
-use Rattle.ulfm_rank.specs.declared.entry.Status.{Status}
-use Rattle.ulfm_rank.specs.declared.entry.TestAnswer.{TestAnswer}
-use Rattle.ulfm_rank.specs.declared.entry.TestAnswer.TheVariants.{Done, Over, Pending, NotYet}
-use Rattle.ulfm_rank.specs.Facts.{is_revoked, is_released, is_probed, acknowledged_of, known_in}
+use Rattle.ulfm_log.specs.declared.entry.Entry.{Entry}
+use Rattle.ulfm_log.specs.declared.entry.Status.{Status}
+use Rattle.ulfm_log.specs.declared.entry.TestAnswer.{TestAnswer}
+use Rattle.ulfm_log.specs.declared.entry.TestAnswer.TheVariants.{Done, Over, Pending, NotYet}
+use Rattle.ulfm_log.specs.Facts.{is_revoked, is_released, is_probed, acknowledged_of, known_in}
 use Rattle.ulfm_rank.specs.History.{history_of}
-use Rattle.ulfm_rank.specs.Communicators.{members_of}
+use Rattle.ulfm_log.specs.Communicators.{members_of}
 
 -- more failures are known in the group of the context c than were acknowledged there
 abbrev pub has_unacked : ℕ → List Entry → ℕ → Bool

@@ -1,6 +1,5 @@
 -- What accepted calls add to the log.
-use Rattle.std.specs.Prelude.{◌≡◌, ℕ, ⊤, false, MatchOption, List, Option, Some, None, slice_get, nat_lt, if◌then◌else◌}
-use Rattle.ulfm_base.specs.declared.decision.Decision.{Decision}
+use Rattle.std.specs.Prelude.{◌≡◌, ℕ, ⊤, List, Option, Some, None, slice_get, nat_lt, if◌then◌else◌}
 use Rattle.ulfm_base.specs.declared.envelope.Letter.{Letter}
 use Rattle.ulfm_base.specs.declared.item.Item.{Item}
 use Rattle.ulfm_base.specs.declared.item.Item.TheVariants.{Letter as Mail}
@@ -14,11 +13,10 @@ use Rattle.ulfm_base.specs.declared.entrance.Entrance.{Entrance}
 use Rattle.ulfm_base.specs.declared.context.Context.{Context}
 use Rattle.ulfm_base.specs.Group.{is_member}
 use Rattle.ulfm_base.specs.RankSet.{has}
-use Rattle.ulfm_rank.specs.declared.entry.Comm.{Comm}
-use Rattle.ulfm_rank.specs.declared.entry.Entry.TheVariants.{Sent, Posted, Acknowledged, Revoked, Entered, Stopped}
-use Rattle.ulfm_rank.specs.Facts.{is_revoked, is_stopped, acknowledged_of, Knows}
-use Rattle.ulfm_rank.specs.Proposal.{deciders, has_proposal, IsProposal}
-use Rattle.ulfm_rank.specs.State.{State, logged}
+use Rattle.ulfm_log.specs.declared.entry.Comm.{Comm}
+use Rattle.ulfm_log.specs.declared.entry.Entry.TheVariants.{Sent, Posted, Acknowledged, Revoked, Entered, Stopped}
+use Rattle.ulfm_log.specs.Facts.{is_revoked, is_stopped, acknowledged_of, Knows}
+use Rattle.ulfm_log.specs.State.{State, logged}
 use Rattle.ulfm_rank.specs.Checks.{group_at}
 
 -- a letter with this tag and body is accepted for the member at position dest
@@ -66,10 +64,6 @@ pub record Enters (old : State) (topic : Topic) (flag : Option ℕ) (new : State
   pub knows : Knows old.log entrance.contribution.known
   pub brings : entrance.contribution.flag ≡ flag
   pub only : new ≡ logged old (Entered entrance)
-
--- what a rank that entered a topic proposes: a decision exactly where each member is listed or excluded
-abbrev pub Proposes : State → Topic → Option Decision → Type 0
-Proposes rank topic found = MatchOption found (has_proposal rank.me (deciders rank.ranks rank.log topic) rank.log topic ≡ false) (IsProposal rank.ranks rank.me rank.log topic)
 
 -- the rank after its stop
 abbrev pub stopping : State → State

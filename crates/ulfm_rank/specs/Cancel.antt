@@ -1,11 +1,11 @@
 -- What a cancel of a receive answers, and what it adds to the log (MPI 4.0, 3.8.4).
 use Rattle.std.specs.Prelude.{◌≡◌, ℕ, true, false, List}
-use Rattle.ulfm_match.specs.declared.request.RequestId.{RequestId}
-use Rattle.ulfm_rank.specs.declared.entry.Cancel.{Cancel}
-use Rattle.ulfm_rank.specs.declared.entry.Cancel.TheVariants.{Cancelled, Completed}
-use Rattle.ulfm_rank.specs.declared.entry.Entry.{Entry}
-use Rattle.ulfm_rank.specs.declared.entry.Entry.TheVariants.{Released, Cancelled as CancelledEntry}
-use Rattle.ulfm_rank.specs.declared.entry.TestAnswer.{TestAnswer}
+use Rattle.ulfm_base.specs.declared.request_id.RequestId.{RequestId}
+use Rattle.ulfm_log.specs.declared.entry.Cancel.{Cancel}
+use Rattle.ulfm_log.specs.declared.entry.Cancel.TheVariants.{Cancelled, Completed}
+use Rattle.ulfm_log.specs.declared.entry.Entry.{Entry}
+use Rattle.ulfm_log.specs.declared.entry.Entry.TheVariants.{Released, Cancelled as CancelledEntry}
+use Rattle.ulfm_log.specs.declared.entry.TestAnswer.{TestAnswer}
 use Rattle.ulfm_rank.specs.Answer.{IsTestAnswer, is_release}
 
 -- the receive is cancelled where a test would answer that it waits or pends; else the answer is that of the test

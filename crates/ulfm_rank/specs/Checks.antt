@@ -7,12 +7,12 @@ use Rattle.ulfm_base.specs.Context.{dup_of, shrink_of}
 use Rattle.ulfm_base.specs.Topic.{shrink_topic}
 use Rattle.ulfm_base.specs.declared.context.Context.{Context}
 use Rattle.ulfm_base.specs.declared.topic.Topic.{Topic}
-use Rattle.ulfm_rank.specs.declared.entry.Entry.{Entry}
+use Rattle.ulfm_log.specs.declared.entry.Entry.{Entry}
 use Rattle.ulfm_rank.specs.Answer.{IsNoRequest}
-use Rattle.ulfm_rank.specs.Facts.{is_gone, is_revoked, is_stopped}
-use Rattle.ulfm_rank.specs.Communicators.{is_made, members_of}
-use Rattle.ulfm_rank.specs.Proposal.{has_entered, has_adopted, is_agreeing, is_foreign}
-use Rattle.ulfm_rank.specs.State.{State}
+use Rattle.ulfm_log.specs.Facts.{is_gone, is_revoked, is_stopped}
+use Rattle.ulfm_log.specs.Communicators.{is_made, members_of}
+use Rattle.ulfm_log.specs.Proposal.{has_entered, has_adopted, is_agreeing, is_foreign}
+use Rattle.ulfm_log.specs.State.{State}
 
 -- whether a check refuses, and with which error
 abbrev pub Check : Type 0

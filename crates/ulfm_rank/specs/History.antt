@@ -7,10 +7,10 @@ use Rattle.ulfm_base.specs.declared.pattern.Source.TheVariants.{One, Any}
 use Rattle.ulfm_base.specs.declared.pattern.Pattern.{Pattern}
 use Rattle.ulfm_base.specs.Pattern.{names}
 use Rattle.ulfm_match.specs.History.{MatchEvent, Post, Come, End, Clear, count_before}
-use Rattle.ulfm_rank.specs.declared.entry.Entry.{Entry}
-use Rattle.ulfm_rank.specs.declared.entry.Entry.TheVariants.{Posted, Probed, Cancelled, Revoked, Took}
-use Rattle.ulfm_rank.specs.Log.{gathered}
-use Rattle.ulfm_rank.specs.Facts.{is_gone, is_revoked, revoked_before}
+use Rattle.ulfm_log.specs.declared.entry.Entry.{Entry}
+use Rattle.ulfm_log.specs.declared.entry.Entry.TheVariants.{Posted, Probed, Cancelled, Revoked, Took}
+use Rattle.ulfm_log.specs.Log.{gathered}
+use Rattle.ulfm_log.specs.Facts.{is_gone, is_revoked, revoked_before}
 
 -- the source names a rank that is known to have failed
 abbrev pub names_gone : List Entry → Source → Bool

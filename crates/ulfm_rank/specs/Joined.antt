@@ -1,8 +1,8 @@
 -- A rank and its end of a carrier, which go together.
 use Rattle.std.specs.Prelude.{◌≡◌, ℕ, List, [], ◌<◌, ◌≤◌, All}
 use Rattle.ulfm_base.specs.declared.item.Item.{Item}
-use Rattle.ulfm_rank.specs.Facts.{took, IsSigned}
-use Rattle.ulfm_rank.specs.State.{State, IsState, went_out}
+use Rattle.ulfm_log.specs.Facts.{took, IsSigned}
+use Rattle.ulfm_log.specs.State.{State, IsState, went_out}
 
 -- What left the outboxes of the rank is what its end pushed, and what its log took of each rank is what its end took, and of
 -- no other number it took anything.

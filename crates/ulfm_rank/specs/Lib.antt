@@ -1,15 +1,9 @@
-pub mod Log
 pub mod History
-pub mod Facts
-pub mod Communicators
 pub mod Answer
-pub mod Owed
-pub mod Proposal
 pub mod Checks
 pub mod Calls
 pub mod Messages
 pub mod Cancel
-pub mod State
 pub mod Paired
 pub mod Fates
 pub mod Standing

@@ -9,21 +9,21 @@ use Rattle.ulfm_base.specs.declared.tag.Tag.{Tag}
 use Rattle.ulfm_base.specs.Group.{rank_in}
 use Rattle.ulfm_match.specs.History.{MatchEvent, Post, PostAt, count_before}
 use Rattle.ulfm_match.specs.Pairing.{Pairing, LawfulPairing}
-use Rattle.ulfm_rank.specs.declared.entry.Comm.{Comm}
-use Rattle.ulfm_rank.specs.declared.entry.Entry.{Entry}
-use Rattle.ulfm_rank.specs.declared.entry.Entry.TheVariants.{Probed as ProbedEntry}
-use Rattle.ulfm_rank.specs.declared.entry.Probed.{Probed}
-use Rattle.ulfm_rank.specs.declared.entry.Probed.TheVariants.{Found, Nothing}
-use Rattle.ulfm_rank.specs.declared.entry.Status.{Status}
-use Rattle.ulfm_rank.specs.declared.entry.TestAnswer.{TestAnswer}
-use Rattle.ulfm_rank.specs.declared.entry.TestAnswer.TheVariants.{Done, Over}
-use Rattle.ulfm_rank.specs.declared.message.MessageId.{MessageId}
+use Rattle.ulfm_log.specs.declared.entry.Comm.{Comm}
+use Rattle.ulfm_log.specs.declared.entry.Entry.{Entry}
+use Rattle.ulfm_log.specs.declared.entry.Entry.TheVariants.{Probed as ProbedEntry}
+use Rattle.ulfm_log.specs.declared.entry.Probed.{Probed}
+use Rattle.ulfm_log.specs.declared.entry.Probed.TheVariants.{Found, Nothing}
+use Rattle.ulfm_log.specs.declared.entry.Status.{Status}
+use Rattle.ulfm_log.specs.declared.entry.TestAnswer.{TestAnswer}
+use Rattle.ulfm_log.specs.declared.entry.TestAnswer.TheVariants.{Done, Over}
+use Rattle.ulfm_log.specs.declared.message.MessageId.{MessageId}
 use Rattle.ulfm_rank.specs.Answer.{Got, IsUnpaired, IsAnswerBy}
 use Rattle.ulfm_rank.specs.Calls.{IsReceive}
 use Rattle.ulfm_rank.specs.Checks.{Fails, Passes, receive_checks, group_at}
-use Rattle.ulfm_rank.specs.Facts.{is_released, is_probed, is_stopped}
+use Rattle.ulfm_log.specs.Facts.{is_released, is_probed, is_stopped}
 use Rattle.ulfm_rank.specs.History.{history_of, names_gone}
-use Rattle.ulfm_rank.specs.State.{State, logged}
+use Rattle.ulfm_log.specs.State.{State, logged}
 
 -- the history that goes on with a receive of this pattern
 abbrev pub posting : List Entry → Pattern → List MatchEvent

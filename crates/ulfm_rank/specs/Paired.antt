@@ -2,7 +2,7 @@
 use Rattle.std.specs.Prelude.{◌≡◌, ℕ, List, ◌++◌, ◌↔◌, length}
 use Rattle.ulfm_match.specs.History.{IsWellFormed}
 use Rattle.ulfm_match.specs.Pairing.{Pairing, Pairs, LawfulPairing, pairs_below}
-use Rattle.ulfm_rank.specs.declared.entry.Entry.{Entry}
+use Rattle.ulfm_log.specs.declared.entry.Entry.{Entry}
 use Rattle.ulfm_rank.specs.History.{history_of}
 
 -- The history of a log can happen. It has a lawful pairing, and no other. Its pairs inside a beginning of the log are the

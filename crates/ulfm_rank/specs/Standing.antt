@@ -9,13 +9,13 @@ use Rattle.ulfm_base.specs.RankSet.{has}
 use Rattle.ulfm_match.specs.History.{MatchEvent, PostAt, count_before}
 use Rattle.ulfm_match.specs.Pairing.{Pairing, IsWaiting}
 use Rattle.ulfm_match.specs.State.{Matching, Tracks}
-use Rattle.ulfm_rank.specs.declared.entry.Entry.{Entry}
+use Rattle.ulfm_log.specs.declared.entry.Entry.{Entry}
 use Rattle.ulfm_rank.specs.declared.request.Fate.{Fate}
 use Rattle.ulfm_rank.specs.declared.request.Fate.TheVariants.{Waiting, Paired, Found, Failed, Cleared}
 use Rattle.ulfm_rank.specs.declared.request.Request.{Request}
 use Rattle.ulfm_rank.specs.Answer.{Got, IsOver}
-use Rattle.ulfm_rank.specs.Communicators.{group_of}
-use Rattle.ulfm_rank.specs.Facts.{is_released, is_probed}
+use Rattle.ulfm_log.specs.Communicators.{group_of}
+use Rattle.ulfm_log.specs.Facts.{is_released, is_probed}
 use Rattle.ulfm_rank.specs.History.{history_of}
 
 -- each rank of the source is a member

@@ -1,10 +1,5 @@
 pub mod Answers
 pub mod Requests
-pub mod Outboxes
 pub mod Fields
 pub mod Rank
 pub mod Quiet
-pub mod Chain
-pub mod KeptLog
-pub mod Decisive
-pub mod Rows

@@ -1,17 +1,16 @@
 //! What a test of a request answers.
 ghost use Rattle.std.specs.Prelude.{◌≡◌, IsSome, if◌then◌else◌};
 ghost use Rattle.ulfm_base.specs.Group.{rank_in};
-ghost use Rattle.ulfm_rank.specs.Communicators.{find_group, or_empty};
+ghost use Rattle.ulfm_log.specs.Communicators.{find_group, or_empty};
 ghost use Rattle.ulfm_rank.specs.inside.Fields.{pends_by};
 ghost use Rattle.ulfm_rank.specs.inside.Answers.{IsDelivered, GivesAnswer, HasSender};
 ghost use Rattle.ulfm_rank.specs.Messages.{TellsOf};
 
-use crate::communicators::Communicators;
-use crate::entry::{Status, TestAnswer};
 use crate::failures::pends;
 use crate::request::{Fate, Request};
 use ulfm_base::{CallError, Context, Group, Letter, Pattern};
 use ulfm_fault::Faults;
+use ulfm_log::{Communicators, Status, TestAnswer};
 
 /// What is told of a letter, whose sender is a member of the group.
 fn status_of(letter: &Letter, group: &Group) -> Status

@@ -1,6 +1,6 @@
 //! What a rank's knowledge of failures and revocations says of sources, receives and items.
 ghost use Rattle.std.specs.Prelude.{◌≡◌, List, [], ◌∷◌, ◌++◌};
-ghost use Rattle.ulfm_rank.specs.declared.entry.Entry.{Entry};
+ghost use Rattle.ulfm_log.specs.declared.entry.Entry.{Entry};
 ghost use Rattle.ulfm_rank.specs.inside.Fields.{HasFaults, names_known, pends_by, was_revoked_in};
 
 use ulfm_base::{Group, Item, Pattern, Source, WorldRank};

@@ -15,25 +15,19 @@ mod taking;
 
 ghost use Rattle.std.specs.Prelude.{◌≡◌, [], IfOk, IfErr, IsTrue, OnOk, Some};
 ghost use Rattle.ulfm_rank.specs.Checks.{Passes, Fails, FailsOrStarves, start_checks, comm_checks};
-ghost use Rattle.ulfm_rank.specs.Communicators.{group_of};
-ghost use Rattle.ulfm_rank.specs.Facts.{is_stopped};
+ghost use Rattle.ulfm_log.specs.Communicators.{group_of};
+ghost use Rattle.ulfm_log.specs.Facts.{is_stopped};
 ghost use Rattle.ulfm_rank.specs.inside.Rank.{stop_places};
 ghost use Rattle.ulfm_rank.specs.Paired.{IsPaired};
-ghost use Rattle.ulfm_rank.specs.State.{start_state, start_state_with, IsState};
+ghost use Rattle.ulfm_log.specs.State.{start_state, start_state_with, IsState};
 
-use crate::block::Block;
-use crate::communicators::Communicators;
-use crate::entry::{Comm, Entry};
-use crate::log::Log;
-use crate::outboxes::Outboxes;
 use crate::request::Request;
-use crate::rounds::Rounds;
-use crate::row::Row;
 use indexmap::IndexMap;
 use std::alloc::Global;
 use std::marker::Model;
 use ulfm_base::{CallError, Context, Group, WorldRank};
 use ulfm_fault::Faults;
+use ulfm_log::{Block, Comm, Communicators, Entry, Log, Outboxes, Rounds, Row};
 use ulfm_match::Matcher;
 
 /// One rank of a world of 1 to 8. Contracts see its number, the number of ranks, its log and whether it keeps it, a mark for
@@ -58,7 +52,7 @@ pub struct Rank {
 }
 
 impl Model for Rank {
-    ghost use Rattle.ulfm_rank.specs.State.{RankView};
+    ghost use Rattle.ulfm_log.specs.State.{RankView};
     ghost use Rattle.ulfm_rank.specs.inside.Rank.{view_of, Holds};
 
     ghost Value = { RankView };

@@ -9,8 +9,8 @@ ghost use Rattle.ulfm_rank.specs.Standing.{is_found};
 
 use crate::request::{Fate, Request, fate_of, is_found, over_context, over_named};
 use indexmap::IndexMap;
-use ulfm_base::{Context, Item, Letter, Pattern, WorldRank};
-use ulfm_match::{Arrived, Matcher, RequestId};
+use ulfm_base::{Context, Item, Letter, Pattern, RequestId, WorldRank};
+use ulfm_match::{Arrived, Matcher};
 
 /// The message of a number where `found`, else the request of it, if it isn't released.
 pub(crate) fn find(requests: &IndexMap<u64, Request>, number: u64, found: bool) -> Option<&Request>

@@ -1,5 +1,5 @@
 -- The statuses that replies have.
-use Rattle.std.proofs.Common.{◌≢◌, ◌≤◌, ℕ, Bool, true, false, List, arith}
+use Rattle.std.proofs.Common.{◌≢◌, ◌≤◌, ℕ, List, arith}
 use Rattle.ulfm_stops.specs.declared.place.Place.{Place}
 use Rattle.ulfm_json.specs.declared.form.Form.{Form}
 use Rattle.ulfm_replies.specs.Expanded as expanded
@@ -9,7 +9,6 @@ use Rattle.ulfm_replies.specs.Places.{IsPlacesReply}
 use Rattle.ulfm_replies.specs.Replies.{IsCheckReply, good, refused, no_memory, starved}
 use Rattle.ulfm_replies.specs.Stopped as stopped
 use Rattle.ulfm_replies.specs.Stopped.{IsRefusal}
-use Rattle.ulfm_replies.specs.Unfinished.{played_status}
 
 -- a status that a reply has: not that of words that aren't followed, nor of an output or an input that failed
 pub record IsKnown (status : ℕ) : Type 0 where
@@ -38,12 +37,6 @@ nowhere = record { few = omega arith; no_usage = λ e. omega (arith, e); written
 
 pub not_wanted : IsKnown 9
 not_wanted = record { few = omega arith; no_usage = λ e. omega (arith, e); written = λ e. omega (arith, e); read = λ e. omega (arith, e) }
-
-pub played : (is_strict is_met is_unfinished : Bool) → IsKnown (played_status is_strict is_met is_unfinished)
-played is_strict false is_unfinished = not_wanted
-played true true true = left_open
-played true true false = done
-played false true is_unfinished = done
 
 pub checked : (form : Form) (bytes : List ℕ) (status : ℕ) (text : List ℕ) → IsCheckReply form bytes status text → IsKnown status
 checked form bytes status text (good job is) = done

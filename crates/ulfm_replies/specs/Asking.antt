@@ -1,28 +1,9 @@
--- What a job's text asks of the answers of all ranks.
-use Rattle.std.specs.Prelude.{Bool, false, not, ◌&&◌, List, Option, Some, None, slice_get}
-use Rattle.std.specs.List.{list_all, list_any}
+-- Which rows of `never` are looked at.
+use Rattle.std.specs.Prelude.{Bool, not, List}
+use Rattle.std.specs.List.{list_all}
 use Rattle.ulfm_job.specs.Job.{JobView, may_leave}
 use Rattle.ulfm_job.specs.declared.clause.Clause.{Clause}
-use Rattle.ulfm_script.specs.Reacting.{all_met, holds_of}
-use Rattle.ulfm_script.specs.Report.{Report}
-
--- a clause holds in the report of its rank
-abbrev pub holds_in : Option Report → Clause → Bool
-holds_in None c = false
-holds_in (Some report) c = holds_of report.steps c
-
--- a clause holds of the answers of its rank
-abbrev pub holds_among : List Report → Clause → Bool
-holds_among reports c = holds_in (slice_get reports c.rank) c
 
 -- a row is looked at: none of its answers is that of a step inside which its rank may die
 abbrev pub is_looked_at : JobView → List Clause → Bool
 is_looked_at job row = list_all (λ (c : Clause). not (may_leave job c.rank c.step)) row
-
--- a row that is looked at has come: all of its answers
-abbrev pub has_come : JobView → List Report → List Clause → Bool
-has_come job reports row = is_looked_at job row && list_all (holds_among reports) row
-
--- the answers are as the text asks: each as its step expects, and not all of any row that is looked at
-unfoldable pub as_asked : List (List Clause) → JobView → List Report → Bool
-as_asked never job reports = all_met job reports && not (list_any (has_come job reports) never)

@@ -1,18 +1,9 @@
 -- Why a run has no trace, and how that is printed.
-use Rattle.std.specs.Prelude.{ℕ, List, Option, Some, None, codes}
+use Rattle.std.specs.Prelude.{ℕ, List, codes}
 use Rattle.ulfm_json.specs.declared.form.Form.{Form}
 use Rattle.ulfm_json.specs.declared.form.Form.TheVariants.{Words, Json}
-use Rattle.ulfm_script.specs.declared.fault.RunFault.{RunFault}
-use Rattle.ulfm_script.specs.declared.fault.RunFault.TheVariants as fault
 use Rattle.ulfm_replies.specs.declared.failure.Failure.{Failure}
 use Rattle.ulfm_replies.specs.declared.failure.Failure.TheVariants as run
-
--- the failure that a fault of `run_job` is: ends that don't fit the job are none
-abbrev pub failure_of : RunFault → Option Failure
-failure_of fault.NoThread = Some run.NoThread
-failure_of fault.OutOfMemory = Some run.OutOfMemory
-failure_of (fault.Untrue reports) = Some run.Untrue
-failure_of fault.BadEnds = None
 
 -- the line for a run that failed
 abbrev pub failed_text : Failure → List ℕ

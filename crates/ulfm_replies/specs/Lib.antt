@@ -5,6 +5,5 @@ pub mod Asking
 pub mod Failure
 pub mod Replies
 pub mod Expanded
-pub mod Unfinished
 pub mod Stopped
 pub mod Places

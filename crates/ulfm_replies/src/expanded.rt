@@ -10,9 +10,9 @@ ghost use Rattle.ulfm_replies.specs.Expanded.{IsExpandReply, IsTextOf};
 use crate::reply::{DONE, Reply, refusal};
 use std::alloc::{AllocError, Global};
 use toml::{Table, Value};
+use ulfm_job::Job;
 use ulfm_json::{Form, document_of};
 use ulfm_reader::ReadJob;
-use ulfm_script::Job;
 
 /// The reply of `expand`: the text of the job with its steps written out.
 pub fn expand_reply(alloc: Global, form: Form, bytes: &[u8]) -> Result<Reply, AllocError>

@@ -1,11 +1,10 @@
 //! Why a run has no trace, and its reply.
 ghost use Rattle.std.specs.Prelude.{◌≡◌, IfOk, string_bytes};
-ghost use Rattle.ulfm_replies.specs.Failure.{failed_in, failure_of};
+ghost use Rattle.ulfm_replies.specs.Failure.{failed_in};
 
 use crate::reply::{RUN_FAILED, Reply};
 use std::alloc::{AllocError, Global};
 use ulfm_json::Form;
-use ulfm_script::RunFault;
 
 /// Why a run has no trace.
 #[derive(Clone, Copy, Debug, PartialEq, Eq)]
@@ -43,16 +42,4 @@ pub fn failed(alloc: Global, form: Form, failure: Failure) -> Result<Reply, Allo
         status: RUN_FAILED,
         text,
     })
-}
-
-/// The failure that a run's fault is. Ends that don't fit the job are none.
-pub fn failure_of(fault: RunFault) -> Option<Failure>
-    ensures { result ≡ failure_of fault }
-{
-    match fault {
-        RunFault::NoThread => Some(Failure::NoThread),
-        RunFault::OutOfMemory => Some(Failure::OutOfMemory),
-        RunFault::Untrue(_) => Some(Failure::Untrue),
-        RunFault::BadEnds => None,
-    }
 }

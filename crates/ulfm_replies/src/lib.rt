@@ -3,15 +3,13 @@
 //!     let asked = asked_for(alloc, words)?;
 //!     let reply = check_reply(alloc, asked.form, bytes)?;
 //!
-//! [`asked_for`] reads the words, and [`check_reply`] and [`trace_reply`] tell of a job and of what was played. The statuses of the program are
-//! constants of this crate.
+//! [`asked_for`] reads the words, and [`check_reply`] tells of a job. The statuses of the program are constants of this crate.
 //!
 //! Read specs/CommandLine.antt first (what words ask for), then Stopped.antt (what a text asks for, with the stops of a place), then
-//! Replies.antt, Asking.antt and Unfinished.antt (texts and statuses).
+//! Replies.antt (texts and statuses).
 #![tactic(auto)]
 
 mod asked;
-mod asking;
 mod command;
 mod expanded;
 mod failure;
@@ -19,30 +17,29 @@ mod flagged;
 mod help;
 mod laws;
 mod listed;
+mod looked_at;
 mod number;
 mod options;
 mod placed;
 mod reply;
 mod stopped;
 mod subcommands;
-mod trace;
 mod unmeant;
 mod version;
 mod written;
 
 pub use asked::{Unfollowed, asked_for};
-pub use asking::{as_asked, is_looked_at};
 pub use command::{Asked, Carrier, ListOptions, RunOptions, Wanted};
 pub use expanded::expand_reply;
-pub use failure::{Failure, failed, failed_line, failure_of};
+pub use failure::{Failure, failed, failed_line};
 pub use laws::nowhere_is_as_read;
+pub use looked_at::is_looked_at;
 pub use options::MOST_THREADS;
 pub use reply::{
     DONE, INPUT_FAILED, JOB_REFUSED, NO_SCHEDULE, NOT_EXPECTED, OUTPUT_FAILED, PAST_LIMIT,
     RUN_FAILED, Reply, UNFINISHED, USAGE, check_reply, refusal,
 };
 pub use stopped::{asked_at, asked_beside, names_at};
-pub use trace::{has_unfinished, played_status, trace_reply};
 pub use ulfm_json::Form;
 pub use ulfm_stops::Place;
 pub use written::places_reply;

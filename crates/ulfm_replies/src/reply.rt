@@ -4,9 +4,9 @@ ghost use Rattle.ulfm_replies.specs.Replies.{fault_text, job_fault_json, job_fau
 
 use std::alloc::{AllocError, Global};
 use std::fmt;
+use ulfm_job::{Fault, Job, JobFault};
 use ulfm_json::Form;
 use ulfm_reader::ReadJob;
-use ulfm_script::{Fault, Job, JobFault};
 
 /// The statuses (docs/JOBS.md).
 pub const DONE: u8 = 0;

@@ -11,13 +11,13 @@ pub use Rattle.ulfm_base.specs.declared.rank.WorldRank.{WorldRank}
 pub use Rattle.ulfm_carrier.specs.Family.{IsFresh, IsGathered, Keeps}
 pub use Rattle.ulfm_job.specs.Job.{script_at, JobView, IsJob}
 pub use Rattle.ulfm_laws.specs.Answers.{AgreeAt, AllAgree}
-pub use Rattle.ulfm_rank.specs.Facts.{is_stopped, IsSigned}
-pub use Rattle.ulfm_rank.specs.State.{IsState, State, GoesOut, logged, no_mark, outbox, returned, start_state, went_out}
-pub use Rattle.ulfm_rank.specs.declared.entry.Entry.{Entry}
-pub use Rattle.ulfm_rank.specs.declared.entry.Entry.TheVariants.{Took}
+pub use Rattle.ulfm_log.specs.Facts.{is_stopped, IsSigned}
+pub use Rattle.ulfm_log.specs.State.{IsState, State, GoesOut, logged, no_mark, outbox, returned, start_state, went_out}
+pub use Rattle.ulfm_log.specs.declared.entry.Entry.{Entry}
+pub use Rattle.ulfm_log.specs.declared.entry.Entry.TheVariants.{Took}
 pub use Rattle.ulfm_script.specs.Deciding.{Known}
 pub use Rattle.ulfm_script.specs.Player.{Player, PlayerView, with_rank}
-pub use Rattle.ulfm_script.specs.Report.{Report}
+pub use Rattle.ulfm_answer.specs.Report.{Report}
 pub use Rattle.ulfm_script.specs.inside.Underway.{GoesThrough, polls_left}
 pub use Rattle.ulfm_run.specs.Flow.{contents}
 pub use Rattle.ulfm_run.specs.inside.Played.{IsPlayed}

@@ -13,7 +13,7 @@ use Rattle.ulfm_job.proofs.job.Job.TheSendSync as shared_job
 use Rattle.ulfm_rank.proofs.Crossing.{rank_send}
 use Rattle.ulfm_script.specs.contracts.player.Player as player
 use Rattle.ulfm_script.specs.contracts.report.RankReport as report
-use Rattle.ulfm_script.proofs.Crossing.{answered_send}
+use Rattle.ulfm_answer.proofs.Crossing.{answered_send}
 use Rattle.ulfm_run.specs.contracts.finished.Finished as finished
 use Rattle.ulfm_run.specs.contracts.worker.Ran as ran
 use Rattle.ulfm_run.specs.contracts.worker.Worker as worker

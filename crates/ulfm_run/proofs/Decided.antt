@@ -4,7 +4,7 @@ use Rattle.ulfm_base.specs.declared.context.Context.{Context}
 use Rattle.ulfm_base.specs.Topic.{shrink_topic}
 use Rattle.ulfm_job.specs.Job.{decides_on, is_agreement_step}
 use Rattle.ulfm_job.specs.declared.step.Step.TheVariants.{Agree, Shrink}
-use Rattle.ulfm_rank.specs.Proposal.{last_agreement}
+use Rattle.ulfm_log.specs.Proposal.{last_agreement}
 use Rattle.ulfm_script.specs.Deciding.{topic_of}
 use Rattle.ulfm_run.proofs.Common.{Entry, Step, false≢true, none-some, same_Some}
 

@@ -1,6 +1,6 @@
 -- Logs that were walked to their ends have one order, in which stops have their room.
 use Rattle.std.proofs.Common.{ℕ, List, Option, Some, None, IfSome, arith}
-use Rattle.ulfm_rank.specs.declared.entry.Entry.TheVariants.{Adopted, Stopped, Took}
+use Rattle.ulfm_log.specs.declared.entry.Entry.TheVariants.{Adopted, Stopped, Took}
 use Rattle.ulfm_run.proofs.Common.{Report, slice_get_within}
 use Rattle.ulfm_laws.specs.Order.{HaveOneOrder}
 use Rattle.ulfm_laws.specs.Room.{StopsHaveRoom}

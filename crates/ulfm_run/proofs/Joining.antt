@@ -2,7 +2,7 @@
 use Rattle.std.proofs.Common.{◌≡◌, ◌≢◌, ℕ, ◌<◌, false, List, [], ◌∷◌, ◌++◌, refl, ap, sym, subst, ◌∙◌}
 use Rattle.std.proofs.Math.Bool.{or-false}
 use Rattle.ulfm_rank.proofs.Joining.{joined-pushed, joined-returned, joined-taken}
-use Rattle.ulfm_rank.proofs.Logs.{stopped-push}
+use Rattle.ulfm_log.proofs.Logs.{stopped-push}
 use Rattle.ulfm_script.proofs.Takes.{takes-none, takes-one}
 use Rattle.ulfm_run.proofs.Common.{Item, Player, Took, PlayerView, with_rank, WorldRank, State, is_stopped, logged, GoesOut, IsJoined, Moves}
 

@@ -1,13 +1,13 @@
 -- One poll of a rank's next step.
 use Rattle.std.proofs.Common.{◌≡◌, ℕ, ◌+◌, ◌<◌, ◌≤◌, true, false, Bool, List, length, refl, ap, sym, subst, ◌∙◌, arith, ◌⊎◌, Option, Some, None, slice_get}
 use Rattle.ulfm_base.specs.declared.context.Context.{Context}
-use Rattle.ulfm_script.specs.declared.answer.Called.{Called}
-use Rattle.ulfm_script.specs.declared.answer.Called.TheVariants.{Answered, NotYet}
+use Rattle.ulfm_script.specs.declared.called.Called.{Called}
+use Rattle.ulfm_script.specs.declared.called.Called.TheVariants.{Answered, NotYet}
 use Rattle.ulfm_script.specs.Deciding.{Known, IsDecided}
 use Rattle.ulfm_script.specs.Player.{Polls as PollsBy, Player, PlayerView, IsCalled, GivesUpStep, SkipsStep}
 use Rattle.ulfm_job.specs.declared.condition.Condition.{Condition}
 use Rattle.ulfm_rank.specs.inside.Quiet.{Quiet}
-use Rattle.ulfm_script.specs.Reacting.{is_played}
+use Rattle.ulfm_answer.specs.Reacting.{is_played}
 use Rattle.ulfm_script.proofs.Polls.{quiet-called}
 use Rattle.ulfm_job.specs.Job.{turns_at}
 use Rattle.ulfm_script.proofs.Advance.{ready-at, advance-called, advance-left, advance-skipped, left-polls}

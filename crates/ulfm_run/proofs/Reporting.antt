@@ -2,7 +2,7 @@
 use Rattle.std.proofs.Common.{◌≡◌, ◌≤◌, ℕ, List, ◌++◌, length, map, refl, ap, sym, ◌∙◌, subst, arith, All, Some, Option, inl, inr}
 use Rattle.ulfm_board.specs.Known.{OneBoard}
 use Rattle.ulfm_script.specs.Played.{FollowsScript}
-use Rattle.ulfm_script.specs.Reacting.{SkipsRightly}
+use Rattle.ulfm_answer.specs.Reacting.{SkipsRightly}
 use Rattle.ulfm_script.specs.Script.{through_stop, GivesUpRightly}
 use Rattle.ulfm_laws.specs.Answers.{AllAgree, AllFollowScripts}
 use Rattle.ulfm_laws.specs.Lawful.{AreProduced}

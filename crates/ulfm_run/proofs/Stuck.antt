@@ -1,7 +1,7 @@
 -- Where there is an order, a walk that is stuck has come to its end.
 use Rattle.std.proofs.Common.{◌<◌, ◌+◌, ℕ, zero, suc, List, length, take, slice_index, Option, IfSome, inl, inr, arith}
 use Rattle.std.proofs.lemmas.Option.{IfSome_then}
-use Rattle.ulfm_rank.specs.declared.entry.Entry.TheVariants.{Adopted, Stopped, Took}
+use Rattle.ulfm_log.specs.declared.entry.Entry.TheVariants.{Adopted, Stopped, Took}
 use Rattle.ulfm_base.specs.declared.decision.Decision.{Decision}
 use Rattle.ulfm_run.proofs.Common.{at, there, Entry, Item, Report, WorldRank, cases_lt}
 use Rattle.ulfm_laws.proofs.Owes.{owe_later, owe_whole}

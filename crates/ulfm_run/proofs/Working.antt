@@ -1,11 +1,11 @@
 -- A rank at work.
 use Rattle.std.proofs.Common.{◌≡◌, ℕ, ◌+◌, ◌-◌, ◌<◌, true, false, List, length, map, refl, ap, sym, subst, ◌∙◌, arith, Bool, inl, inr, ◌⊎◌, All}
-use Rattle.ulfm_script.specs.declared.answer.StepReport.{StepReport}
+use Rattle.ulfm_answer.specs.declared.answer.StepReport.{StepReport}
 use Rattle.ulfm_script.specs.Script.{reported_step, through_stop, GivesUpRightly, IsPatient, HasFinished}
 use Rattle.ulfm_rank.specs.inside.Quiet.{Quiet}
 use Rattle.ulfm_rank.proofs.Joining.{joined-quiet}
 use Rattle.ulfm_rank.proofs.Quiet.{quiet-same}
-use Rattle.ulfm_script.specs.Reacting.{SkipsRightly}
+use Rattle.ulfm_answer.specs.Reacting.{SkipsRightly}
 use Rattle.ulfm_script.proofs.Reacting.{finished-running, finished-stopped, goes-rank}
 use Rattle.ulfm_run.proofs.Common.{GoesThrough, is_stopped, IsPlayed, Item, Known, Player, polls_left, Report, State, PlayerView, with_rank, false≢true, IsJoined, Moves, Polls, SkipsOn, IsAtWork, honest-moved, Step, JobView, script_at, AnswersFollowSoFar}
 use Rattle.ulfm_run.specs.inside.Turns.{IsOver, WentOn, IsAsFar, Keeps, Carries, keeps-then}

@@ -3,7 +3,7 @@ use Rattle.std.specs.Prelude.{◌≡◌, ℕ, List, length}
 use Rattle.ulfm_base.specs.Lists.{InPlace}
 use Rattle.ulfm_job.specs.Job.{JobView}
 use Rattle.ulfm_script.specs.Deciding.{Known}
-use Rattle.ulfm_script.specs.Report.{Report}
+use Rattle.ulfm_answer.specs.Report.{Report}
 use Rattle.ulfm_laws.specs.Answers.{AllFollowScripts, AllAnswersFollow}
 use Rattle.ulfm_laws.specs.Decisions.{AreTrue, NoneIsForeign}
 use Rattle.ulfm_laws.specs.Order.{HaveOneOrder}

@@ -6,9 +6,9 @@ use Rattle.ulfm_base.specs.declared.rank.WorldRank.{WorldRank}
 use Rattle.ulfm_base.specs.declared.item.Item.{Item}
 use Rattle.ulfm_base.specs.Items.{items_from}
 use Rattle.ulfm_base.specs.Lists.{at}
-use Rattle.ulfm_rank.specs.Facts.{took}
-use Rattle.ulfm_rank.specs.State.{State}
-use Rattle.ulfm_script.specs.Report.{Report}
+use Rattle.ulfm_log.specs.Facts.{took}
+use Rattle.ulfm_log.specs.State.{State}
+use Rattle.ulfm_answer.specs.Report.{Report}
 use Rattle.ulfm_laws.specs.Flow.{Inboxes}
 
 -- what is left in each inbox

@@ -1,12 +1,12 @@
 //! The decisions that ranks adopted, held against what the ranks report (ULFM, shrink and agree).
 ghost use Rattle.std.specs.Prelude.{◌≡◌, ◌↔◌, ℕ, IsTrue, Some, slice_get};
-ghost use Rattle.ulfm_rank.specs.declared.entry.Entry.{Entry as Logged};
-ghost use Rattle.ulfm_rank.specs.Log.{first_given};
-ghost use Rattle.ulfm_rank.specs.Proposal.{entry_of};
+ghost use Rattle.ulfm_log.specs.declared.entry.Entry.{Entry as Logged};
+ghost use Rattle.ulfm_log.specs.Log.{first_given};
+ghost use Rattle.ulfm_log.specs.Proposal.{entry_of};
 ghost use Rattle.ulfm_laws.specs.Decisions.{AreTrue, AdoptsTruly, IsTrueOf, ExcludesStopped, ListsTruly, StoppedAt, EnteredWith};
 
 use ulfm_base::{Contribution, Decision, Listing, MOST_RANKS, RankSet, Topic, WorldRank};
-use ulfm_rank::Entry;
+use ulfm_log::Entry;
 use ulfm_script::RankReport;
 
 /// Whether each decision that a rank adopted lists each rank with what that rank's own entrance brought, and excludes

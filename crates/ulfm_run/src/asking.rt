@@ -4,7 +4,7 @@ ghost use Rattle.ulfm_script.specs.Deciding.{topic_of};
 
 use ulfm_base::{Purpose, Topic};
 use ulfm_job::NotedStep;
-use ulfm_rank::Entry;
+use ulfm_log::Entry;
 use ulfm_script::last_agreement;
 
 /// Whether a step of a rank with this log is decided on a topic.

@@ -1,6 +1,6 @@
 //! A rank at work, turn by turn.
 ghost use Rattle.std.specs.Prelude.{◌≡◌, ◌<◌, ◌↔◌, ℕ, [], IsTrue};
-ghost use Rattle.ulfm_rank.specs.State.{outbox};
+ghost use Rattle.ulfm_log.specs.State.{outbox};
 ghost use Rattle.ulfm_job.specs.Job.{script_at};
 ghost use Rattle.ulfm_script.specs.Script.{HasFinished};
 ghost use Rattle.ulfm_run.specs.inside.Joined.{IsAtWork};
@@ -15,7 +15,8 @@ use std::sync::atomic::Ordering;
 use std::thread;
 use ulfm_board::Decider;
 use ulfm_carrier::Ends;
-use ulfm_script::{Hands, Job, turn};
+use ulfm_job::Job;
+use ulfm_script::{Hands, turn};
 
 /// Once all ranks have finished, each ends after so many of its turns in a row that moved nothing.
 const STILL_TURNS: u32 = 100;
@@ -33,7 +34,7 @@ pub(crate) struct AtWork<'a, R, E, D> {
 impl<R: Wait, E: Ends, D: Decider> Hands for AtWork<'_, R, E, D> {
     ghost use Rattle.std.specs.Prelude.{⊤, ◌≡◌, length, is_some};
     ghost use Rattle.std.proofs.Common.{refl, ap, sym, subst, ◌∙◌};
-    ghost use Rattle.ulfm_rank.specs.State.{outbox};
+    ghost use Rattle.ulfm_log.specs.State.{outbox};
     ghost use Rattle.ulfm_job.specs.Job.{JobView, script_at};
     ghost use Rattle.ulfm_run.specs.inside.Joined.{IsAtWork};
     ghost use Rattle.ulfm_run.specs.inside.Turns.{Keeps, Carries, WentOn, carries-none, carries-then};

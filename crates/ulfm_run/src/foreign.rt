@@ -1,10 +1,11 @@
 //! Steps that are refused since a decision isn't one for their rank to adopt (ULFM, shrink and agree).
 ghost use Rattle.std.specs.Prelude.{◌≡◌, ◌≢◌, ◌↔◌, ℕ, IsTrue, Some, slice_get};
 ghost use Rattle.ulfm_laws.specs.Decisions.{NoneIsForeign};
-ghost use Rattle.ulfm_script.specs.declared.answer.StepReport.{StepReport as Answered};
+ghost use Rattle.ulfm_answer.specs.declared.answer.StepReport.{StepReport as Answered};
 
+use ulfm_answer::{StepAnswer, StepReport};
 use ulfm_base::CallError;
-use ulfm_script::{RankReport, StepAnswer, StepReport};
+use ulfm_script::RankReport;
 
 /// Whether no step of any rank is refused so. It never answers out of memory.
 pub(crate) fn none_is_foreign(reports: &[RankReport]) -> bool

@@ -13,7 +13,7 @@ ghost use Rattle.ulfm_laws.specs.Decisions.{AreTrue, NoneIsForeign};
 ghost use Rattle.ulfm_run.specs.inside.Threads.{NameOneBoard, report_in, end_in, decider_in};
 ghost use Rattle.ulfm_run.specs.Fault.{ShowUntrue, Fits};
 ghost use Rattle.ulfm_run.specs.Flow.{EndsMatchLogs, contents};
-ghost use Rattle.ulfm_script.specs.Report.{Report as Told};
+ghost use Rattle.ulfm_answer.specs.Report.{Report as Told};
 
 use crate::adopted::are_true;
 use crate::comparing::compared;
@@ -27,7 +27,8 @@ use std::sync::Wait;
 use std::thread::Threads;
 use ulfm_board::Decider;
 use ulfm_carrier::Ends;
-use ulfm_script::{Job, RankReport, RunFault};
+use ulfm_job::Job;
+use ulfm_script::{RankReport, RunFault};
 
 /// Runs a job: each rank goes through its script in a thread of its own, by the end and the decider at the place of its
 /// number. In a turn a rank pushes all that its outboxes hold and the inboxes have room for, takes one item, and polls its

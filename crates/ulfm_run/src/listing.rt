@@ -2,9 +2,9 @@
 ghost use Rattle.std.specs.Prelude.{◌≡◌, ◌<◌, ◌↔◌, IsTrue};
 ghost use Rattle.std.specs.List.{list_any};
 ghost use Rattle.ulfm_base.specs.Decision.{in_entry};
-ghost use Rattle.ulfm_rank.specs.Facts.{is_gone};
-ghost use Rattle.ulfm_rank.specs.Log.{first_given};
-ghost use Rattle.ulfm_rank.specs.Proposal.{heard_of, item_entry, listed_of};
+ghost use Rattle.ulfm_log.specs.Facts.{is_gone};
+ghost use Rattle.ulfm_log.specs.Log.{first_given};
+ghost use Rattle.ulfm_log.specs.Proposal.{heard_of, item_entry, listed_of};
 ghost use Rattle.ulfm_laws.specs.Proposed.{ProposesBy};
 ghost use Rattle.ulfm_run.specs.inside.Listed.{ListsAs, IsListedAs, ExcludesAs};
 
@@ -12,7 +12,7 @@ use crate::adopted::{are_same, entry_of};
 use ulfm_base::{
     Contribution, Decision, ItemKind, Listing, MOST_RANKS, NotedItem, Topic, WorldRank,
 };
-use ulfm_rank::{Entry, tells_gone};
+use ulfm_log::{Entry, tells_gone};
 
 /// Whether the rank `me` with this log proposes a decision.
 pub(crate) fn proposes_by(me: usize, log: &[Entry], decision: &Decision) -> bool

@@ -7,7 +7,7 @@ use crate::owing::owe;
 use crate::proposing::is_proposed;
 use crate::room::has_room;
 use ulfm_base::{NotedItem, RANK_PLACES, WorldRank};
-use ulfm_rank::Entry;
+use ulfm_log::Entry;
 use ulfm_script::RankReport;
 
 /// By its number, how many entries of each rank were walked.

@@ -1,17 +1,18 @@
 //! The polls of a rank's steps.
 ghost use Rattle.std.specs.Prelude.{◌≡◌, ◌≤◌, ◌+◌, length, slice_get, Some, true, false, IfSome, IfNone};
 ghost use Rattle.std.specs.Bool.{OnTrue};
-ghost use Rattle.ulfm_rank.specs.Facts.{is_stopped};
-ghost use Rattle.ulfm_rank.specs.State.{IsState};
+ghost use Rattle.ulfm_log.specs.Facts.{is_stopped};
+ghost use Rattle.ulfm_log.specs.State.{IsState};
 ghost use Rattle.ulfm_script.specs.Deciding.{Known};
 ghost use Rattle.ulfm_job.specs.Job.{script_at};
 ghost use Rattle.ulfm_script.specs.inside.SoFar.{AnswersFollowSoFar, IsUndecided};
 ghost use Rattle.ulfm_run.specs.inside.Joined.{Polls, SkipsOn};
 ghost use Rattle.ulfm_script.specs.inside.Underway.{GoesThrough};
-ghost use Rattle.ulfm_script.specs.Reacting.{is_played};
+ghost use Rattle.ulfm_answer.specs.Reacting.{is_played};
 
 use ulfm_board::Decider;
-use ulfm_script::{Called, Decided, Job, Player, Step};
+use ulfm_job::{Job, Step};
+use ulfm_script::{Called, Decided, Player};
 
 /// The next step of a rank that is to be played. The steps before it are skipped, since none of their conditions holds: they take no
 /// poll. It never answers out of memory.

@@ -6,9 +6,10 @@ ghost use Rattle.ulfm_run.specs.inside.Walk.{IsProposedByWalked};
 use crate::asking::is_decided_on;
 use crate::listing::proposes_by;
 use crate::order::first;
+use ulfm_answer::{StepAnswer, StepReport};
 use ulfm_base::{CallError, Decision, Topic};
-use ulfm_rank::Entry;
-use ulfm_script::{RankReport, StepAnswer, StepReport};
+use ulfm_log::Entry;
+use ulfm_script::RankReport;
 
 /// Whether a rank proposed a decision at a place up to which it was walked. The rank `own` is looked at first.
 pub(crate) fn is_proposed(

@@ -4,9 +4,9 @@ ghost use Rattle.ulfm_base.specs.Lists.{at};
 ghost use Rattle.ulfm_laws.specs.Flow.{inbox_of};
 ghost use Rattle.ulfm_laws.specs.Reports.{IsRunning};
 ghost use Rattle.ulfm_laws.specs.Rest.{IsAtRest, IsServed};
-ghost use Rattle.ulfm_rank.specs.State.{outbox};
+ghost use Rattle.ulfm_log.specs.State.{outbox};
 ghost use Rattle.ulfm_run.specs.Flow.{contents};
-ghost use Rattle.ulfm_script.specs.Report.{Report as Told};
+ghost use Rattle.ulfm_answer.specs.Report.{Report as Told};
 
 use crate::report::Report;
 use ulfm_carrier::Residue;

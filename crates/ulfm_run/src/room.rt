@@ -8,7 +8,7 @@ ghost use Rattle.ulfm_run.specs.inside.Walk.{HasRoomNow};
 use crate::left::are_within;
 use crate::order::have_order;
 use crate::report::Report;
-use ulfm_rank::{Entry, is_gone_item};
+use ulfm_log::{Entry, is_gone_item};
 use ulfm_script::RankReport;
 
 /// Whether rings of so many places allow what ranks did and what is left in their inboxes. Then all logs have an order in which, where a

@@ -16,7 +16,8 @@ use std::thread;
 use std::thread::{Promise, PromisedHandle, Scope, Threads};
 use ulfm_board::Decider;
 use ulfm_carrier::Ends;
-use ulfm_script::{Job, Player};
+use ulfm_job::Job;
+use ulfm_script::Player;
 
 /// Why the ranks of a job weren't played.
 #[derive(Drop)]

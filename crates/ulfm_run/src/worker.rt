@@ -10,7 +10,8 @@ use crate::finished::Finished;
 use std::sync::Wait;
 use ulfm_board::Decider;
 use ulfm_carrier::Ends;
-use ulfm_script::{Job, Player, RankReport};
+use ulfm_job::Job;
+use ulfm_script::{Player, RankReport};
 
 /// A rank with its end of a carrier and its decider.
 #[derive(Drop)]

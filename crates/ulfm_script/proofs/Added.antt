@@ -1,6 +1,6 @@
 -- What a poll adds makes a log longer, and a stop is its last entry.
 use Rattle.std.proofs.Common.{◌≡◌, Bool, true, false, [], ◌∷◌, ◌++◌, refl, ap, sym, ◌∙◌, inl, inr, ◌||◌}
-use Rattle.ulfm_rank.specs.declared.entry.Entry.TheVariants.{Stopped}
+use Rattle.ulfm_log.specs.declared.entry.Entry.TheVariants.{Stopped}
 use Rattle.ulfm_script.proofs.Common.{Entry, is_stop, is_stopped, State, false≢true, stopped-push}
 use Rattle.ulfm_script.specs.Answered.{EndsAtStop}
 use Rattle.ulfm_script.proofs.Beginnings.{Grew, grew-same}

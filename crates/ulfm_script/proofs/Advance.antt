@@ -2,7 +2,7 @@
 use Rattle.std.proofs.Common.{◌≡◌, ℕ, ◌^◌, ◌<◌, ◌≤◌, Bool, true, false, List, length, refl, ap, sym, subst, ◌∙◌, arith, inl, inr, ◌⊎◌, Option, Some, None, MatchOption, slice_get, if◌then◌else◌}
 use Rattle.ulfm_job.specs.Job.{JobView, IsJob, script_at, is_stop_step, may_leave, turns_at}
 use Rattle.ulfm_script.proofs.Common.{is_stopped, Shrink, Agree, State, SkipsStep, Step, StepAnswer, StepReport, Skipped, Unfinished, Wait, Player, AnswersStep, StaysOpen, awaits_decision, IsCalled, GivesUpStep, PollAnswers, PollOpens, with_rank, answered, polled, step_report, FollowsSoFar, polls_left, same_Some, slice_get_within}
-use Rattle.ulfm_script.specs.Report.{is_skipped, is_unfinished}
+use Rattle.ulfm_answer.specs.Report.{is_skipped, is_unfinished}
 use Rattle.ulfm_script.specs.Script.{IsPolled, IsPatient, is_played_stop}
 use Rattle.ulfm_script.proofs.Polls.{Adds, answers_add, opens_add, opens_go_on, stopped-adds}
 use Rattle.ulfm_script.proofs.Progress.{closed, follows-closed, follows-polled, left-closed, left_polled, polls_small}

@@ -1,6 +1,6 @@
 -- What the decision of a step adds to a log, and what it moves at a player.
 use Rattle.std.proofs.Common.{◌≡◌, ℕ, ◌<◌, false, List, length, refl, sym, ◌∙◌, inl, inr, Option, Some, slice_get}
-use Rattle.ulfm_rank.specs.State.{State, IsState}
+use Rattle.ulfm_log.specs.State.{State, IsState}
 use Rattle.ulfm_job.specs.Job.{decides_on}
 use Rattle.ulfm_script.proofs.Common.{Adopted, Context, Topic, Decision, is_stop_step, is_stopped, Player, Refused, Shrink, Agree, Step, StepAnswer, Skipped, Unfinished, FollowsSoFar, OutOfMemory, slice_get_within, Quiet, none-some}
 use Rattle.ulfm_script.specs.Deciding.{Known, AnswersAdoption, AnswersDecision, IsDecided}

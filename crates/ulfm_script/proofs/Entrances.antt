@@ -2,7 +2,7 @@
 use Rattle.std.proofs.Common.{◌≡◌, ℕ, zero, suc, ◌+◌, ◌<◌, ◌≤◌, List, [], ◌∷◌, ◌++◌, length, refl, ap, sym, subst, ◌∙◌, arith, inl, inr, Some, append_assoc, length-append, All, slice_get}
 use Rattle.ulfm_base.specs.Lists.{at}
 use Rattle.ulfm_match.proofs.Decide.{lt_or_ge}
-use Rattle.ulfm_match.proofs.Histories.{get_here}
+use Rattle.ulfm_base.proofs.Longer.{get_here}
 use Rattle.ulfm_script.specs.Answered.{AnsweredByCall, AnsweredByDecision, AnswerFollows, EachAnswerFollows, LeftByCall, LeftUndecided, WasSkipped, by_call, left_by_call, by_decision, left_undecided, by_skip}
 use Rattle.ulfm_script.proofs.Answers.{answers-push}
 use Rattle.ulfm_script.proofs.Common.{Adopted, All-head, All-tail, AnswersFollow, Entered, EntersBetween, EntersBy, Entrance, Entry, IsTook, Known, logged, OnlyTook, Report, same_Some, slice_get_within, State, Step, StepReport, StoodAt, Topic, ⊤}

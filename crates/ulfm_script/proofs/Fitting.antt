@@ -2,8 +2,8 @@
 use Rattle.std.proofs.Common.{◌≡◌, ℕ, Bool, true, false, List, [], ◌∷◌, ◌++◌, arith, refl, ap, sym, subst, inl, inr, ◌⊎◌}
 use Rattle.ulfm_rank.specs.Checks.{Passes, lacks, shrink_checks}
 use Rattle.ulfm_script.proofs.Common.{Adopted, agree_checks, agreements, all_pass, AnswersStep, Agree, Context, EntersBy, Topic, shrink_topic, Entered, Entry, LeavesOpen, logged, next_agreement, none-some, RoundsCounted, same_Some, Shrink, State, Step, StepAnswer, StepReport, not-false, has_entered, ⊤, Knows, Fits}
-use Rattle.ulfm_rank.specs.Communicators.{is_made}
-use Rattle.ulfm_rank.proofs.Entering.{IsInTurn}
+use Rattle.ulfm_log.specs.Communicators.{is_made}
+use Rattle.ulfm_log.proofs.Entering.{IsInTurn}
 use Rattle.ulfm_script.proofs.Polls.{answers_plain, opens_adds}
 use Rattle.ulfm_script.proofs.Says.{IsApart}
 

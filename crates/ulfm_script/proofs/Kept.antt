@@ -1,11 +1,11 @@
 -- What logs keep of entrances and decisions, and that letters are signed, where a rank's answers are right.
 use Rattle.std.proofs.Common.{◌≡◌, ℕ, ◌<◌, true, false, List, [], ◌∷◌, ◌++◌, sym, subst, arith, inl, inr, All}
 use Rattle.ulfm_rank.specs.Checks.{Passes, adopt_checks, group_at}
-use Rattle.ulfm_rank.specs.Communicators.{is_made}
-use Rattle.ulfm_rank.specs.Proposal.{deciders}
-use Rattle.ulfm_rank.proofs.Belonging.{Keeps, keeps-start, keeps-push, own_from}
+use Rattle.ulfm_log.specs.Communicators.{is_made}
+use Rattle.ulfm_log.specs.Proposal.{deciders}
+use Rattle.ulfm_log.proofs.Belonging.{Keeps, keeps-start, keeps-push, own_from}
 use Rattle.ulfm_script.proofs.Common.{Adopted, All-nil, All-push, all_pass, AnswersFollow, Topic, Decision, Entered, Entry, IsTook, Known, known_at, logged, Report, State, StoodAt, Took, not-false, has_entered, is_foreign, ⊤, Some, IsSigned, Fits, RoundsCounted, false≢true}
-use Rattle.ulfm_rank.proofs.Entering.{rounds_counted}
+use Rattle.ulfm_log.proofs.Entering.{rounds_counted}
 use Rattle.ulfm_script.proofs.Fitting.{fits_apart, fits_entered}
 use Rattle.ulfm_script.proofs.Polls.{answers_plain, opens_adds, adoption_adds}
 use Rattle.ulfm_script.proofs.Says.{IsApart}

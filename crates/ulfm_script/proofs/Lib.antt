@@ -1,6 +1,5 @@
 pub mod Common
 pub mod Adopting
-pub mod Positions
 pub mod Proposals
 pub mod Waits
 pub mod Progress
@@ -23,5 +22,3 @@ pub mod Kept
 pub mod Entrances
 pub mod Vain
 pub mod Reacting
-pub mod Following
-pub mod Crossing

@@ -1,9 +1,9 @@
 -- A rank enters each topic once.
 use Rattle.std.proofs.Common.{◌≡◌, ℕ, ◌+◌, ◌<◌, ◌≤◌, true, false, cond, List, [], ◌∷◌, ◌++◌, length, take, drop, refl, ap, sym, ◌∙◌, arith, Option, Some, None, is_some}
 use Rattle.std.proofs.lemmas.List.{take_all, take-append-drop, take-append-le}
-use Rattle.ulfm_rank.specs.Log.{or_else, first_given}
+use Rattle.ulfm_log.specs.Log.{or_else, first_given}
 use Rattle.ulfm_script.proofs.Common.{all_pass, Agree, agreement_topic, agreements, next_agreement, Context, Topic, Contribution, Entrance, shrink_topic, Entered, EntersBetween, EntersBy, Entry, Shrink, shrink_checks, State, Step, false≢true, entry_of, has_entered, none-some, same_Some}
-use Rattle.ulfm_rank.proofs.Entering.{agreements-more, counts}
+use Rattle.ulfm_log.proofs.Entering.{agreements-more, counts}
 use Rattle.ulfm_script.proofs.Rounds.{same_round}
 use Rattle.ulfm_base.proofs.Topics.{topic_itself}
 use Rattle.ulfm_script.proofs.Answers.{took-forth}

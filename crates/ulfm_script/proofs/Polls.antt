@@ -1,11 +1,11 @@
 -- What a poll of a step adds to a log.
 use Rattle.std.proofs.Common.{◌≡◌, ℕ, Bool, true, false, List, [], refl, ap, sym, ◌∙◌, inl, inr, ◌⊎◌}
-use Rattle.ulfm_rank.specs.declared.entry.Entry.TheVariants.{Sent as SentEntry, Posted as PostedEntry, Released, Received, Cancelled, Probed, Entered, Adopted, Took}
-use Rattle.ulfm_rank.specs.declared.entry.TestAnswer.TheVariants.{Done as TestDone, Over as TestOver}
-use Rattle.ulfm_rank.specs.State.{State, IsState, logged}
+use Rattle.ulfm_log.specs.declared.entry.Entry.TheVariants.{Sent as SentEntry, Posted as PostedEntry, Released, Received, Cancelled, Probed, Entered, Adopted, Took}
+use Rattle.ulfm_log.specs.declared.entry.TestAnswer.TheVariants.{Done as TestDone, Over as TestOver}
+use Rattle.ulfm_log.specs.State.{State, IsState, logged}
 use Rattle.ulfm_rank.proofs.Quiet.{Own, quiet-same, quiet-logged}
 use Rattle.ulfm_script.proofs.Common.{adopt_checks, AnswersAdoption, Topic, Decision, Entry, EntersBy, is_stop_step, Passes, Shrink, Agree, Step, StepAnswer, StepReport, Wait, Probe, false≢true, Player, AnswersStep, LeavesOpen, StaysOpen, awaits_decision, IsCalled, GivesUpStep, ◌||◌, stopped-push, Quiet, is_stop, is_stopped, took_by, IsSigned}
-use Rattle.ulfm_script.specs.declared.answer.StepAnswer.TheVariants.{Shrunk, Agreed, Refused}
+use Rattle.ulfm_answer.specs.declared.answer.StepAnswer.TheVariants.{Shrunk, Agreed, Refused}
 use Rattle.ulfm_base.specs.declared.error.CallError.{CallError}
 use Rattle.ulfm_script.specs.Calls.{Refuses}
 use Rattle.ulfm_script.proofs.Says.{IsIdle, IsApart, AddsIdle, each_answer}

@@ -5,11 +5,11 @@ use Rattle.std.proofs.lemmas.List.{take-append-le}
 use Rattle.std.proofs.Math.Seq.{take-append_seam}
 use Rattle.ulfm_job.specs.Job.{JobView, script_at, may_leave}
 use Rattle.ulfm_job.specs.declared.condition.Condition.{Condition}
-use Rattle.ulfm_match.proofs.Histories.{get_cases}
+use Rattle.ulfm_base.proofs.Longer.{get_cases}
 use Rattle.ulfm_script.proofs.Common.{⊤, Context, FollowsSoFar, GoesThrough, IsCalled, is_stopped, Known, Player, slice_get_within, SkipsStep, start_player, State, Step, StepReport, with_rank}
 use Rattle.ulfm_script.specs.Deciding.{IsDecided}
-use Rattle.ulfm_script.specs.Reacting.{is_played, SkipsRightly}
-use Rattle.ulfm_script.specs.Report.{is_skipped, is_unfinished}
+use Rattle.ulfm_answer.specs.Reacting.{is_played, SkipsRightly}
+use Rattle.ulfm_answer.specs.Report.{is_skipped, is_unfinished}
 use Rattle.ulfm_script.specs.Script.{GivesUpRightly, HasFinished}
 use Rattle.ulfm_script.proofs.Advance.{given_by_poll, not_skipped, not_unfinished}
 use Rattle.ulfm_script.proofs.Decisions.{given_by_decision}

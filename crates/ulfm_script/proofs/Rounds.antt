@@ -3,7 +3,7 @@ use Rattle.std.proofs.Common.{◌≡◌, ℕ, ◌+◌, ◌-◌, cond, false, Lis
 use Rattle.ulfm_base.specs.declared.topic.Purpose.{Purpose}
 use Rattle.ulfm_base.specs.declared.topic.Purpose.TheVariants.{Shrink as ToShrink, Agree as ToAgree}
 use Rattle.ulfm_job.specs.Job.{decides_on}
-use Rattle.ulfm_rank.proofs.Entering.{agreements-more, counts}
+use Rattle.ulfm_log.proofs.Entering.{agreements-more, counts}
 use Rattle.ulfm_script.proofs.Common.{Agree, agreement_topic, agreements, All-cons, All-head, All-nil, All-tail, Entered, EntersBetween, EntersBy, enters_agreement, Entry, IsTook, none-some, OnlyTook, same_Some, Shrink, State, Step, StoodAt, Topic, topic_of, Took}
 use Rattle.ulfm_script.proofs.Beginnings.{front_is, stood_is, took_is}
 

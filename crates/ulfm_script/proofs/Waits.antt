@@ -1,8 +1,8 @@
 -- What a test of its request says for a wait or a cancel, and the answer of a message for its receive.
 use Rattle.std.proofs.Common.{◌≡◌, ℕ, true, false, List, refl, sym, ◌∙◌, IfSome, IfNone, Some, None}
-use Rattle.ulfm_rank.specs.declared.entry.Entry.TheVariants.{Released, Cancelled}
-use Rattle.ulfm_rank.specs.declared.entry.TestAnswer.{TestAnswer}
-use Rattle.ulfm_rank.specs.declared.entry.TestAnswer.TheVariants.{Done, Over, Pending, NotYet}
+use Rattle.ulfm_log.specs.declared.entry.Entry.TheVariants.{Released, Cancelled}
+use Rattle.ulfm_log.specs.declared.entry.TestAnswer.{TestAnswer}
+use Rattle.ulfm_log.specs.declared.entry.TestAnswer.TheVariants.{Done, Over, Pending, NotYet}
 use Rattle.ulfm_base.specs.declared.pattern.Pattern.{Pattern}
 use Rattle.ulfm_match.specs.Pairing.{Pairing, LawfulPairing}
 use Rattle.ulfm_rank.specs.Answer.{IsRequest, IsTestAnswer, is_release}

@@ -4,19 +4,19 @@ use Rattle.ulfm_base.specs.declared.topic.Topic.{Topic}
 use Rattle.ulfm_base.specs.declared.decision.Decision.{Decision}
 use Rattle.ulfm_base.specs.declared.error.CallError.TheVariants.{OutOfMemory}
 use Rattle.ulfm_board.specs.Known.{known_at}
-use Rattle.ulfm_rank.specs.declared.entry.Entry.{Entry}
-use Rattle.ulfm_rank.specs.declared.entry.Entry.TheVariants.{Took, Stopped}
-use Rattle.ulfm_rank.specs.Facts.{is_stopped}
+use Rattle.ulfm_log.specs.declared.entry.Entry.{Entry}
+use Rattle.ulfm_log.specs.declared.entry.Entry.TheVariants.{Took, Stopped}
+use Rattle.ulfm_log.specs.Facts.{is_stopped}
 use Rattle.ulfm_rank.specs.Paired.{IsPaired}
-use Rattle.ulfm_rank.specs.State.{State}
-use Rattle.ulfm_script.specs.declared.answer.StepAnswer.{StepAnswer}
-use Rattle.ulfm_script.specs.declared.answer.StepAnswer.TheVariants.{Unfinished, Skipped, Refused}
-use Rattle.ulfm_script.specs.declared.answer.StepReport.{StepReport}
+use Rattle.ulfm_log.specs.State.{State}
+use Rattle.ulfm_answer.specs.declared.answer.StepAnswer.{StepAnswer}
+use Rattle.ulfm_answer.specs.declared.answer.StepAnswer.TheVariants.{Unfinished, Skipped, Refused}
+use Rattle.ulfm_answer.specs.declared.answer.StepReport.{StepReport}
 use Rattle.ulfm_job.specs.declared.step.Step.{Step}
 use Rattle.ulfm_script.specs.Deciding.{Known, AnswersAdoption, HasProposal}
 use Rattle.ulfm_script.specs.Calls.{AnswersStep, EntersBy, LeavesOpen}
 use Rattle.ulfm_script.specs.Player.{is_joint}
-use Rattle.ulfm_script.specs.Report.{Report}
+use Rattle.ulfm_answer.specs.Report.{Report}
 
 -- the rank as it stood when its log had so many entries; what left its outboxes plays no part in an answer
 pub record StoodAt (rank : State) (many : ℕ) (then : State) : Type 0 where

@@ -9,28 +9,28 @@ use Rattle.ulfm_base.specs.declared.error.CallError.{CallError}
 use Rattle.ulfm_base.specs.declared.error.CallError.TheVariants.{NoRequest, OutOfMemory}
 use Rattle.ulfm_base.specs.Context.{dup_of}
 use Rattle.ulfm_base.specs.Group.{rank_in}
-use Rattle.ulfm_match.specs.declared.request.RequestId.{RequestId}
+use Rattle.ulfm_base.specs.declared.request_id.RequestId.{RequestId}
 use Rattle.ulfm_match.specs.History.{count_before}
 use Rattle.ulfm_match.specs.Pairing.{Pairing, LawfulPairing}
-use Rattle.ulfm_rank.specs.declared.entry.Comm.{Comm}
-use Rattle.ulfm_rank.specs.declared.entry.Entry.{Entry}
-use Rattle.ulfm_rank.specs.declared.entry.Entry.TheVariants.{Released, Received, Cancelled as CancelEntry, Duplicated}
-use Rattle.ulfm_rank.specs.declared.entry.TestAnswer.{TestAnswer}
-use Rattle.ulfm_rank.specs.declared.entry.TestAnswer.TheVariants.{Done as TestDone, Over as TestOver, Pending as TestPending, NotYet as TestNotYet}
-use Rattle.ulfm_rank.specs.declared.message.MessageId.{MessageId}
-use Rattle.ulfm_rank.specs.State.{State, logged}
-use Rattle.ulfm_rank.specs.Facts.{is_revoked, known_in, acknowledged_of, ack_answer}
+use Rattle.ulfm_log.specs.declared.entry.Comm.{Comm}
+use Rattle.ulfm_log.specs.declared.entry.Entry.{Entry}
+use Rattle.ulfm_log.specs.declared.entry.Entry.TheVariants.{Released, Received, Cancelled as CancelEntry, Duplicated}
+use Rattle.ulfm_log.specs.declared.entry.TestAnswer.{TestAnswer}
+use Rattle.ulfm_log.specs.declared.entry.TestAnswer.TheVariants.{Done as TestDone, Over as TestOver, Pending as TestPending, NotYet as TestNotYet}
+use Rattle.ulfm_log.specs.declared.message.MessageId.{MessageId}
+use Rattle.ulfm_log.specs.State.{State, logged}
+use Rattle.ulfm_log.specs.Facts.{is_revoked, known_in, acknowledged_of, ack_answer}
 use Rattle.ulfm_rank.specs.History.{history_of}
 use Rattle.ulfm_rank.specs.Answer.{IsRequest, IsNoRequest, IsTestAnswer, is_release}
 use Rattle.ulfm_rank.specs.Checks.{Check, Passes, Fails, FailsOrStarves, group_at, comm_checks, send_checks, receive_checks, dup_checks, shrink_checks, agree_checks}
 use Rattle.ulfm_rank.specs.Calls.{Sends, Posts, Enters, acknowledging, revoking, stopping}
-use Rattle.ulfm_rank.specs.Proposal.{next_agreement}
+use Rattle.ulfm_log.specs.Proposal.{next_agreement}
 use Rattle.ulfm_rank.specs.Messages.{IsMessage, IsNoMessage, IsMessageAnswer, IsProbed, FindsNone, IsProbeRefusal}
 use Rattle.ulfm_job.specs.declared.step.Step.{Step}
 use Rattle.ulfm_job.specs.declared.step.Step.TheVariants.{Send, Recv, Wait, Probe, Mrecv, Cancel, Failed, Ack, Revoke, Dup, Shrink, Agree, Note, Stop}
-use Rattle.ulfm_script.specs.declared.answer.StepAnswer.{StepAnswer}
-use Rattle.ulfm_script.specs.declared.answer.StepAnswer.TheVariants.{Sent, Posted, Done, Over, Pending, Found, Cancelled, Ranks, Acked, Revoked, Made, Noted, Stopped, Refused}
-use Rattle.ulfm_script.specs.declared.answer.StepReport.{StepReport}
+use Rattle.ulfm_answer.specs.declared.answer.StepAnswer.{StepAnswer}
+use Rattle.ulfm_answer.specs.declared.answer.StepAnswer.TheVariants.{Sent, Posted, Done, Over, Pending, Found, Cancelled, Ranks, Acked, Revoked, Made, Noted, Stopped, Refused}
+use Rattle.ulfm_answer.specs.declared.answer.StepReport.{StepReport}
 
 -- the step sends no body that takes memory of its own
 abbrev pub IsShort : Step → Type 0

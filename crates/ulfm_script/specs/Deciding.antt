@@ -9,18 +9,18 @@ use Rattle.ulfm_base.specs.Context.{shrink_of}
 use Rattle.ulfm_base.specs.Decision.{left_out}
 use Rattle.ulfm_base.specs.Group.{rank_in}
 use Rattle.ulfm_board.specs.Known.{Answers as BoardAnswers, Starves}
-use Rattle.ulfm_rank.specs.declared.entry.Entry.{Entry}
-use Rattle.ulfm_rank.specs.declared.entry.Entry.TheVariants.{Adopted}
-use Rattle.ulfm_rank.specs.State.{State, logged}
+use Rattle.ulfm_log.specs.declared.entry.Entry.{Entry}
+use Rattle.ulfm_log.specs.declared.entry.Entry.TheVariants.{Adopted}
+use Rattle.ulfm_log.specs.State.{State, logged}
 use Rattle.ulfm_rank.specs.Checks.{Passes, group_at, proposal_checks, adopt_checks}
-use Rattle.ulfm_rank.specs.Proposal.{has_proposal, IsProposal, last_agreement}
+use Rattle.ulfm_log.specs.Proposal.{has_proposal, IsProposal, last_agreement}
 use Rattle.ulfm_job.specs.Job.{decides_on}
 use Rattle.ulfm_job.specs.declared.step.Step.{Step}
 use Rattle.ulfm_job.specs.declared.step.Step.TheVariants.{Shrink, Agree}
-use Rattle.ulfm_script.specs.declared.answer.StepAnswer.{StepAnswer}
-use Rattle.ulfm_script.specs.declared.answer.StepAnswer.TheVariants.{Shrunk, Agreed, Refused}
-use Rattle.ulfm_script.specs.declared.answer.Decided.{Decided}
-use Rattle.ulfm_script.specs.declared.answer.Decided.TheVariants.{Answered, NotReady}
+use Rattle.ulfm_answer.specs.declared.answer.StepAnswer.{StepAnswer}
+use Rattle.ulfm_answer.specs.declared.answer.StepAnswer.TheVariants.{Shrunk, Agreed, Refused}
+use Rattle.ulfm_script.specs.declared.called.Decided.{Decided}
+use Rattle.ulfm_script.specs.declared.called.Decided.TheVariants.{Answered, NotReady}
 use Rattle.ulfm_script.specs.Calls.{Refuses}
 use Rattle.ulfm_script.specs.Player.{Player, with_rank, answered}
 

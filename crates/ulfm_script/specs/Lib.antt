@@ -1,9 +1,6 @@
 pub mod Calls
 pub mod Player
 pub mod Deciding
-pub mod Report
-pub mod Trace
-pub mod Reacting
 pub mod Script
 pub mod Played
 pub mod Answered

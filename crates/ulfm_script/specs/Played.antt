@@ -1,10 +1,10 @@
 -- What a rank that went through its script reports.
 use Rattle.std.specs.Prelude.{◌≡◌, ◌≤◌, ℕ, [], map, All}
-use Rattle.ulfm_rank.specs.Facts.{took}
+use Rattle.ulfm_log.specs.Facts.{took}
 use Rattle.ulfm_job.specs.Job.{JobView, script_at}
-use Rattle.ulfm_script.specs.Report.{Report}
+use Rattle.ulfm_answer.specs.Report.{Report}
 use Rattle.ulfm_script.specs.Script.{reported_step, through_stop, GivesUpRightly, IsPatient}
-use Rattle.ulfm_script.specs.Reacting.{SkipsRightly}
+use Rattle.ulfm_answer.specs.Reacting.{SkipsRightly}
 
 -- The rank k of a job went through its script, up to and with the first stop that it played, or through the whole of it; a step was given
 -- up only where as many polls as the job grants left it open, or where the job lets it be given up before, and skipped exactly where none

@@ -1,13 +1,13 @@
 -- What contracts see of a rank that goes through its steps, and what a poll of a step does.
 use Rattle.std.specs.Prelude.{◌≡◌, ℕ, Bool, true, false, is_some, List, [], ◌∷◌, ◌++◌, ◌+◌, ◌-◌, ◌^◌, ◌⊎◌, min, length, Option, Some, None}
-use Rattle.ulfm_rank.specs.State.{State, start_state}
+use Rattle.ulfm_log.specs.State.{State, start_state}
 use Rattle.ulfm_job.specs.declared.step.Step.{Step}
 use Rattle.ulfm_job.specs.Job.{decides_on}
-use Rattle.ulfm_script.specs.declared.answer.StepAnswer.{StepAnswer}
-use Rattle.ulfm_script.specs.declared.answer.StepAnswer.TheVariants.{Unfinished, Skipped}
-use Rattle.ulfm_script.specs.declared.answer.StepReport.{StepReport}
-use Rattle.ulfm_script.specs.declared.answer.Called.{Called}
-use Rattle.ulfm_script.specs.declared.answer.Called.TheVariants.{Answered, NotYet}
+use Rattle.ulfm_answer.specs.declared.answer.StepAnswer.{StepAnswer}
+use Rattle.ulfm_answer.specs.declared.answer.StepAnswer.TheVariants.{Unfinished, Skipped}
+use Rattle.ulfm_answer.specs.declared.answer.StepReport.{StepReport}
+use Rattle.ulfm_script.specs.declared.called.Called.{Called}
+use Rattle.ulfm_script.specs.declared.called.Called.TheVariants.{Answered, NotYet}
 use Rattle.ulfm_script.specs.Calls.{AnswersStep, LeavesOpen}
 
 -- A rank, its answered steps, and the step that stands open with the log's length when its last poll began and the

@@ -1,13 +1,13 @@
 -- How a player goes through its script, with at most so many polls of a step.
 use Rattle.std.specs.Prelude.{◌≡◌, ◌⊎◌, ℕ, Bool, true, false, List, [], ◌∷◌, ◌<◌, ◌≤◌, map, All, Some, None, slice_get, if◌then◌else◌}
 use Rattle.ulfm_job.specs.declared.step.Step.{Step}
-use Rattle.ulfm_script.specs.declared.answer.StepAnswer.{StepAnswer}
-use Rattle.ulfm_script.specs.declared.answer.StepAnswer.TheVariants.{Unfinished, Skipped}
-use Rattle.ulfm_script.specs.declared.answer.StepReport.{StepReport}
+use Rattle.ulfm_answer.specs.declared.answer.StepAnswer.{StepAnswer}
+use Rattle.ulfm_answer.specs.declared.answer.StepAnswer.TheVariants.{Unfinished, Skipped}
+use Rattle.ulfm_answer.specs.declared.answer.StepReport.{StepReport}
 use Rattle.ulfm_script.specs.Player.{Player}
 use Rattle.ulfm_job.specs.Job.{JobView, script_at, is_stop_step, may_leave}
-use Rattle.ulfm_script.specs.Report.{is_skipped, is_unfinished}
-use Rattle.ulfm_script.specs.Reacting.{SkipsRightly}
+use Rattle.ulfm_answer.specs.Report.{is_skipped, is_unfinished}
+use Rattle.ulfm_answer.specs.Reacting.{SkipsRightly}
 
 -- the step of a report
 abbrev pub reported_step : StepReport → Step

@@ -2,5 +2,4 @@
 pub mod Underway
 pub mod SoFar
 pub mod Joint
-pub mod Follow
 pub mod Player

@@ -4,19 +4,20 @@ ghost use Rattle.std.specs.declared.option.Option.TheVariants.{Some};
 ghost use Rattle.ulfm_base.specs.Topic.{shrink_topic};
 ghost use Rattle.ulfm_base.specs.declared.topic.Topic.{Topic};
 ghost use Rattle.ulfm_job.specs.declared.step.Step.TheVariants.{Shrink, Agree};
-ghost use Rattle.ulfm_rank.specs.Proposal.{last_agreement};
+ghost use Rattle.ulfm_log.specs.Proposal.{last_agreement};
 ghost use Rattle.ulfm_script.specs.Calls.{AnswersEntry, EntersSome};
 ghost use Rattle.ulfm_script.specs.Deciding.{AnswersAdoption, AnswersDecision, HasProposal, IsReady, LacksCell, topic_of};
 ghost use Rattle.ulfm_script.specs.inside.Joint.{Proposed, ProposedOn};
 ghost use Rattle.ulfm_script.specs.inside.Underway.{KeepsRoom};
 
-use crate::answer::StepAnswer;
 use crate::members::positions_in;
 use std::alloc::Global;
+use ulfm_answer::StepAnswer;
 use ulfm_base::{CallError, Context, Decision};
 use ulfm_board::Decider;
 use ulfm_job::Step;
-use ulfm_rank::{Comm, Rank};
+use ulfm_log::Comm;
+use ulfm_rank::Rank;
 
 /// The first poll of a shrink. It gives why the shrink is refused, or nothing where it was entered.
 pub fn enter_shrink(rank: &mut Rank, context: Context) -> Option<StepAnswer>

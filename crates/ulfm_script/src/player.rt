@@ -6,16 +6,16 @@ mod deciding;
 mod items;
 
 ghost use Rattle.std.specs.Prelude.{◌≡◌, ◌<◌, ◌≤◌, ◌+◌, ◌↔◌, length, IsTrue, IfOk, IfErr, OnOk, OnErr, None, nat_lt, option_map};
-ghost use Rattle.ulfm_rank.specs.Facts.{is_stopped};
+ghost use Rattle.ulfm_log.specs.Facts.{is_stopped};
 ghost use Rattle.ulfm_rank.specs.Paired.{IsPaired};
-ghost use Rattle.ulfm_rank.specs.State.{IsState};
+ghost use Rattle.ulfm_log.specs.State.{IsState};
 ghost use Rattle.ulfm_rank.specs.Checks.{Passes, FailsOrStarves, start_checks};
 ghost use Rattle.ulfm_script.specs.Player.{start_player, answered, IsFree};
 
-use crate::answer::{StepAnswer, StepReport};
 use crate::report::RankReport;
 use std::alloc::Global;
 use std::marker::Model;
+use ulfm_answer::{StepAnswer, StepReport};
 use ulfm_base::{CallError, OutOfMemory, WorldRank};
 use ulfm_job::{NotedStep, Step};
 use ulfm_rank::Rank;
@@ -32,7 +32,7 @@ pub struct Player {
 
 impl Model for Player {
     ghost use Rattle.std.specs.Prelude.{◌-◌, vec_len, vec_capacity};
-    ghost use Rattle.ulfm_rank.specs.State.{is_ready};
+    ghost use Rattle.ulfm_log.specs.State.{is_ready};
     ghost use Rattle.ulfm_script.specs.Player.{PlayerView};
     ghost use Rattle.ulfm_script.specs.inside.Player.{IsPlayer};
 

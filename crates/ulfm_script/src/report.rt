@@ -1,14 +1,15 @@
 //! What a rank did.
 ghost use Rattle.std.specs.Prelude.{◌≡◌, ◌<◌, ◌↔◌, [], IsTrue};
-ghost use Rattle.ulfm_rank.specs.Facts.{is_stopped};
-ghost use Rattle.ulfm_rank.specs.State.{outbox, IsState};
+ghost use Rattle.ulfm_log.specs.Facts.{is_stopped};
+ghost use Rattle.ulfm_log.specs.State.{outbox, IsState};
 
-use crate::answer::StepReport;
 use std::fmt;
 use std::fmt::{Debug, Formatter};
 use std::marker::Model;
+use ulfm_answer::StepReport;
 use ulfm_base::WorldRank;
-use ulfm_rank::{Entry, Rank};
+use ulfm_log::Entry;
+use ulfm_rank::Rank;
 
 /// What a rank did: its answered steps, its log, and what is left in its outboxes. A player alone makes it.
 #[derive(Drop)]
@@ -20,7 +21,7 @@ pub struct RankReport {
 
 impl Model for RankReport {
     ghost use Rattle.std.specs.Prelude.{IsTrue};
-    ghost use Rattle.ulfm_script.specs.Report.{Report};
+    ghost use Rattle.ulfm_answer.specs.Report.{Report};
 
     ghost Value = { Report };
 

@@ -1,4 +1,4 @@
 pub mod Lines
+pub mod Turns
 pub mod Waits
-pub mod Schedule
-pub mod inside
+pub mod Ranks

@@ -1,12 +1,14 @@
-//! A schedule in words: a line for each event, the steps that are left open, what they wait for, and the trace.
+//! Words for what happens in a schedule: the line of an event, the trace that a world has so far, and what its open steps wait for.
 //!
-//!     let text = schedule_text(alloc, &job, &goals, &shown)?;
+//!     push_move(&mut text, &world, &event)?;
+//!     push_trace(&mut text, &job, &world)?;
 //!
-//! Read specs/Schedule.antt first, then Lines.antt (the events) and Waits.antt (what open steps wait for).
+//! Read specs/Lines.antt first (the events), then Turns.antt, Ranks.antt (the trace) and Waits.antt (what open steps wait for).
 #![tactic(auto)]
 
 mod lines;
-mod schedule;
+mod ranks;
 mod waits;
 
-pub use schedule::schedule_text;
+pub use lines::{push_move, push_turn, turning};
+pub use ranks::{push_trace, push_waiting};

@@ -7,9 +7,10 @@ use rand_pcg::Pcg32;
 use std::alloc::Global;
 use std::test::Fail;
 use ulfm_base::{
-    Body, Context, Envelope, Letter, OutOfMemory, Pattern, RankSet, Source, Tag, WorldRank,
+    Body, Context, Envelope, Letter, OutOfMemory, Pattern, RankSet, RequestId, Source, Tag,
+    WorldRank,
 };
-use ulfm_match::{Arrived, Matcher, RequestId};
+use ulfm_match::{Arrived, Matcher};
 use ulfm_plain::Plain;
 
 /// How many lists of calls are drawn.

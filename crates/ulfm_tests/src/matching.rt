@@ -3,8 +3,10 @@ ghost use Rattle.std.specs.Prelude.{◌≡◌, ◌+◌, ◌<◌, ◌^◌, OnOk};
 
 use std::alloc::Global;
 use std::test::Fail;
-use ulfm_base::{Body, Context, Envelope, Letter, Pattern, RankSet, Source, Tag, WorldRank};
-use ulfm_match::{Arrived, Matcher, RequestId};
+use ulfm_base::{
+    Body, Context, Envelope, Letter, Pattern, RankSet, RequestId, Source, Tag, WorldRank,
+};
+use ulfm_match::{Arrived, Matcher};
 
 const DUP: Context = Context { number: 1 };
 

@@ -9,8 +9,9 @@ use self::rows::{ROWS, Row, Told};
 use std::alloc::Global;
 use std::test::Fail;
 use ulfm_base::Context;
+use ulfm_job::Job;
 use ulfm_reader::ReadJob;
-use ulfm_script::{Job, trace_text};
+use ulfm_script::trace_text;
 use ulfm_world::{Asked, Event, World};
 
 /// What happens to a world next.

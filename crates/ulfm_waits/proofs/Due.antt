@@ -2,7 +2,7 @@
 use Rattle.std.proofs.Common.{◌≡◌, ℕ, zero, suc, ◌+◌, Bool, true, false, if◌then◌else◌, drop, List, [], ◌∷◌, ap, sym, ◌∙◌, arith, Option, Some, slice_get}
 use Rattle.std.proofs.lemmas.Option.{none-some, same_Some}
 use Rattle.ulfm_job.specs.declared.step.Step.{Step}
-use Rattle.ulfm_script.specs.declared.answer.StepReport.{StepReport}
+use Rattle.ulfm_answer.specs.declared.answer.StepReport.{StepReport}
 use Rattle.ulfm_waits.specs.Waits.{due_from, is_due}
 
 -- the rest of a list from a place where something stands

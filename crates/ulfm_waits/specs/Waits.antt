@@ -9,18 +9,18 @@ use Rattle.ulfm_base.specs.declared.item.Item.{Item}
 use Rattle.ulfm_base.specs.declared.item.Item.TheVariants.{Gone, Enter}
 use Rattle.ulfm_base.specs.declared.tag.Tag.{Tag}
 use Rattle.ulfm_base.specs.declared.topic.Topic.{Topic}
-use Rattle.ulfm_rank.specs.Communicators.{members_of}
-use Rattle.ulfm_rank.specs.Proposal.{last_agreement}
-use Rattle.ulfm_rank.specs.State.{State}
-use Rattle.ulfm_rank.specs.declared.entry.Entry.{Entry}
-use Rattle.ulfm_rank.specs.declared.entry.Entry.TheVariants.{Took}
+use Rattle.ulfm_log.specs.Communicators.{members_of}
+use Rattle.ulfm_log.specs.Proposal.{last_agreement}
+use Rattle.ulfm_log.specs.State.{State}
+use Rattle.ulfm_log.specs.declared.entry.Entry.{Entry}
+use Rattle.ulfm_log.specs.declared.entry.Entry.TheVariants.{Took}
 use Rattle.ulfm_job.specs.Words.{step_text, tag_text}
 use Rattle.ulfm_job.specs.declared.step.Step.{Step}
 use Rattle.ulfm_job.specs.declared.step.Step.TheVariants.{Send, Recv, Wait, Probe, Shrink, Agree}
-use Rattle.ulfm_script.specs.Trace.{answer_text}
-use Rattle.ulfm_script.specs.declared.answer.StepAnswer.{StepAnswer}
-use Rattle.ulfm_script.specs.declared.answer.StepAnswer.TheVariants.{Sent, Shrunk, Agreed}
-use Rattle.ulfm_script.specs.declared.answer.StepReport.{StepReport}
+use Rattle.ulfm_answer.specs.Trace.{answer_text}
+use Rattle.ulfm_answer.specs.declared.answer.StepAnswer.{StepAnswer}
+use Rattle.ulfm_answer.specs.declared.answer.StepAnswer.TheVariants.{Sent, Shrunk, Agreed}
+use Rattle.ulfm_answer.specs.declared.answer.StepReport.{StepReport}
 
 -- a step: its rank, its number, and its words
 abbrev pub named_step : ℕ → ℕ → Step → List ℕ

@@ -5,7 +5,7 @@ use Rattle.ulfm_board.specs.Known.{cell_of, known_at, Answers as BoardAnswers}
 use Rattle.ulfm_board.proofs.Apart.{cells_apart}
 use Rattle.ulfm_board.proofs.Topics.{known_other}
 use Rattle.ulfm_rank.specs.Checks.{Passes, FailsOrStarves, group_at, adopt_checks}
-use Rattle.ulfm_rank.specs.Proposal.{has_entered, has_adopted, is_foreign, IsProposal}
+use Rattle.ulfm_log.specs.Proposal.{has_entered, has_adopted, is_foreign, IsProposal}
 use Rattle.ulfm_world.proofs.Agreed.{IsAdopted, IsHeld, Settled}
 use Rattle.ulfm_world.proofs.Held.{proposal_held, held_own}
 use Rattle.ulfm_world.proofs.Grown.{Moved, StillHeld, all_later}

@@ -10,17 +10,17 @@ pub use Rattle.ulfm_base.specs.declared.contribution.Contribution.{Contribution}
 pub use Rattle.ulfm_base.specs.declared.entrance.Entrance.{Entrance}
 pub use Rattle.ulfm_base.specs.declared.topic.Topic.{Topic}
 pub use Rattle.ulfm_base.specs.Topic.{shrink_topic}
-pub use Rattle.ulfm_rank.specs.Facts.{is_stopped, IsSigned, is_gone, is_revoked, is_stop, revokes, took, took_by}
-pub use Rattle.ulfm_rank.specs.Proposal.{deciders, has_adopted}
-pub use Rattle.ulfm_rank.specs.State.{State, logged, outbox, GoesOut, IsState, mark_at, marked, no_mark, owes, start_state, went_out}
-pub use Rattle.ulfm_rank.specs.declared.entry.Entry.{Entry}
-pub use Rattle.ulfm_rank.specs.declared.entry.Entry.TheVariants.{Took, Adopted}
+pub use Rattle.ulfm_log.specs.Facts.{is_stopped, IsSigned, is_gone, is_revoked, is_stop, revokes, took, took_by}
+pub use Rattle.ulfm_log.specs.Proposal.{deciders, has_adopted}
+pub use Rattle.ulfm_log.specs.State.{State, logged, outbox, GoesOut, IsState, mark_at, marked, no_mark, owes, start_state, went_out}
+pub use Rattle.ulfm_log.specs.declared.entry.Entry.{Entry}
+pub use Rattle.ulfm_log.specs.declared.entry.Entry.TheVariants.{Took, Adopted}
 pub use Rattle.ulfm_board.specs.Known.{known_at}
 pub use Rattle.ulfm_job.specs.Job.{JobView, script_at, IsJob}
 pub use Rattle.ulfm_script.specs.Calls.{EntersBy, LeavesOpen}
 pub use Rattle.ulfm_script.specs.Deciding.{topic_of}
 pub use Rattle.ulfm_script.specs.Player.{Player, with_rank, GivesUpStep, IsCalled, IsFree, PollAnswers, PollOpens, SkipsStep, StaysOpen, PlayerView, answered, awaits_decision, polled, start_player, step_report}
-pub use Rattle.ulfm_script.specs.Report.{Report}
+pub use Rattle.ulfm_answer.specs.Report.{Report}
 pub use Rattle.ulfm_job.specs.declared.step.Step.{Step}
 pub use Rattle.ulfm_job.specs.declared.step.Step.TheVariants.{Shrink, Agree}
 pub use Rattle.ulfm_world.specs.Parts.{players_of, the_player, parts}
@@ -44,15 +44,15 @@ pub use Rattle.ulfm_laws.proofs.AtRest.{agrees-revoked, knows-stopped}
 pub use Rattle.ulfm_laws.specs.Lawful.{AreProduced, KnowAtRest}
 pub use Rattle.ulfm_laws.specs.Reader.{AllHasCome, ComeAsSent, DoneIsGiven, DonesDiffer, FoundIsGiven, GivesOnce, HasOnePairing, IsFaithful, LettersKeepOrder, NoneIsMissed, OverIsTrue, ReceivesKeepOrder}
 pub use Rattle.ulfm_laws.specs.Decisions.{AdoptOne, AdoptsTruly, EntersEachOnce, HasOneGroup, IsTrueOf, ProposesEach}
-pub use Rattle.ulfm_rank.proofs.Belonging.{IsOwn, Keeps, keeps-push, keeps-start, not_foreign}
-pub use Rattle.ulfm_rank.proofs.Entering.{AdoptsEntered, Fits, RoundsCounted, own_set, own_stays}
-pub use Rattle.ulfm_rank.proofs.Gather.{any-push}
-pub use Rattle.ulfm_rank.specs.Communicators.{group_of, is_made, members_of}
+pub use Rattle.ulfm_log.proofs.Belonging.{IsOwn, Keeps, keeps-push, keeps-start, not_foreign}
+pub use Rattle.ulfm_log.proofs.Entering.{AdoptsEntered, Fits, RoundsCounted, own_set, own_stays}
+pub use Rattle.ulfm_log.proofs.Gather.{any-push}
+pub use Rattle.ulfm_log.specs.Communicators.{group_of, is_made, members_of}
 pub use Rattle.ulfm_script.proofs.Polls.{Adds, adoption_adds, answers_add, opens_add, quiet-called, quiet-left, stopped-adds}
 pub use Rattle.ulfm_script.specs.Deciding.{AnswersAdoption, IsDecided, Known}
-pub use Rattle.ulfm_script.specs.declared.answer.StepAnswer.{StepAnswer}
-pub use Rattle.ulfm_script.specs.declared.answer.StepReport.{StepReport}
-pub use Rattle.ulfm_script.specs.Reacting.{is_played}
+pub use Rattle.ulfm_answer.specs.declared.answer.StepAnswer.{StepAnswer}
+pub use Rattle.ulfm_answer.specs.declared.answer.StepReport.{StepReport}
+pub use Rattle.ulfm_answer.specs.Reacting.{is_played}
 pub use Rattle.ulfm_script.specs.inside.Underway.{FollowsSoFar, GoesThrough}
 pub use Rattle.ulfm_world.specs.Replay.{AllHaveFinished, IsReplayed, MadeAtRest}
 pub use Rattle.ulfm_world.specs.inside.Rounds.{AllAnswersFollowSoFar, Follows, IsStuck, IsStuckAt, IsUnderway, Moves, fresh_at, inbox_weight, known_for, measure, out_at, sum_below, weight_of}
@@ -64,11 +64,11 @@ pub use Rattle.ulfm_laws.proofs.Flowing.{AreFlowing, gone_stopped, listed_own}
 pub use Rattle.ulfm_laws.proofs.Given.{done_given, dones_differ, found_given, gives_once, over_true}
 pub use Rattle.ulfm_laws.specs.Causes.{GoneHaveStopped, RevokedByARank, is_call_to_revoke}
 pub use Rattle.ulfm_laws.specs.Flow.{Flow, Flows}
-pub use Rattle.ulfm_rank.proofs.Firsts.{some_from}
-pub use Rattle.ulfm_rank.proofs.Logs.{owed_by_few, owes-logged, stopped-push, took-push}
+pub use Rattle.ulfm_log.proofs.Firsts.{some_from}
+pub use Rattle.ulfm_log.proofs.Logs.{owed_by_few, owes-logged, stopped-push, took-push}
 pub use Rattle.ulfm_rank.proofs.Quiet.{Own, calm-same, calm-took, out_other, quiet-same}
 pub use Rattle.ulfm_script.proofs.Decisions.{advance-decided, decision_adds, quiet-decided, ready-decided}
 pub use Rattle.ulfm_script.proofs.Progress.{next-free, next_open}
-pub use Rattle.ulfm_script.specs.declared.answer.StepAnswer.TheVariants.{Refused, Skipped, Unfinished}
+pub use Rattle.ulfm_answer.specs.declared.answer.StepAnswer.TheVariants.{Refused, Skipped, Unfinished}
 pub use Rattle.ulfm_script.specs.inside.SoFar.{AnswersFollowSoFar, IsUndecided}
 pub use Rattle.ulfm_world.specs.declared.event.Outcome.TheVariants.{Answered, NotYet}

@@ -2,7 +2,7 @@
 use Rattle.std.proofs.Common.{◌≡◌, ℕ, ◌<◌, true, List, [], ◌∷◌, ◌++◌, length, set, refl, ap, ◌∙◌, arith, inl, inr, ◌⊎◌, Option, Some, length-set, All}
 use Rattle.ulfm_world.proofs.Common.{Topic, Contribution, Decision, known_at, Entry, Player, World, player_in, player_at, rank_at, cases_eq, or_left, All-weaker, group_of, Fits, own_set, own_stays, Keeps, keeps-push, is_stop, is_stopped, EntersEachOnce, any-push, Adopted}
 use Rattle.ulfm_world.proofs.Changed.{player-same, player-other}
-use Rattle.ulfm_rank.proofs.Grouped.{group_stays}
+use Rattle.ulfm_log.proofs.Grouped.{group_stays}
 use Rattle.ulfm_laws.proofs.Once.{once-push}
 use Rattle.ulfm_world.proofs.Agreed.{HasNotAdopted, IsAdopted, IsHeld, Settled}
 

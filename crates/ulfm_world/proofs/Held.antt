@@ -2,9 +2,9 @@
 use Rattle.std.proofs.Common.{◌≡◌, ℕ, ◌<◌, ◌≤◌, true, false, cond, List, ap, sym, ◌∙◌, arith, inl, inr, Some, None, is_some}
 use Rattle.ulfm_world.proofs.Common.{Decision, Topic, deciders, Entry, IsWorld, false≢true, or_cases, and_parts, cases_Bool, cond-true, same_Some, get_or_from_slice_get, group_of, is_made, IsOwn, has, is_gone, World, rank_at, IsRunning, HasStopped, list_any, entry_at, in_entry, some_from}
 use Rattle.ulfm_base.specs.Group.{is_member, numbers_from}
-use Rattle.ulfm_rank.specs.Proposal.{listed_of, is_out, IsProposal, differ}
-use Rattle.ulfm_rank.proofs.Grouped.{members_found}
-use Rattle.ulfm_rank.proofs.Foreign.{not_differ}
+use Rattle.ulfm_log.specs.Proposal.{listed_of, is_out, IsProposal, differ}
+use Rattle.ulfm_log.proofs.Grouped.{members_found}
+use Rattle.ulfm_log.proofs.Foreign.{not_differ}
 use Rattle.ulfm_base.proofs.Among.{excluding_keeps, none_of, member_test}
 use Rattle.ulfm_laws.proofs.Excluded.{known_by}
 use Rattle.ulfm_world.proofs.Agreed.{IsHeld, Settled, one_group, listed_entry, known_stopped}

@@ -1,6 +1,6 @@
 -- What a player's log and its answered steps become, where each entry is due.
 use Rattle.std.proofs.Common.{◌≡◌, ℕ, ◌<◌, Bool, true, false, cond, List, [], ◌∷◌, ◌++◌, length, set, refl, ap, sym, subst, ◌∙◌, arith, inl, inr, ◌⊎◌, Option, Some, length-set, append-nil, length-append}
-use Rattle.ulfm_rank.specs.declared.entry.Entry.TheVariants.{Entered}
+use Rattle.ulfm_log.specs.declared.entry.Entry.TheVariants.{Entered}
 use Rattle.ulfm_script.specs.Calls.{AnswersStep}
 use Rattle.ulfm_script.proofs.Polls.{answers_plain, opens_adds}
 use Rattle.ulfm_script.proofs.Says.{IsApart}

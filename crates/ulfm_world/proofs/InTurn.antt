@@ -1,9 +1,9 @@
 -- A step that is decided keeps one order: its decision was proposed.
 use Rattle.std.proofs.Common.{◌≡◌, ℕ, ◌++◌, List, [], ◌∷◌, length, set, refl, ap, sym, subst, ◌∙◌, arith, inl, inr, ◌⊎◌, Option, Some, append-nil, length-append, take}
 use Rattle.std.proofs.Math.Seq.{take-length}
-use Rattle.ulfm_match.proofs.Histories.{get_here}
-use Rattle.ulfm_rank.specs.Proposal.{IsProposal}
-use Rattle.ulfm_script.specs.declared.answer.StepAnswer.TheVariants.{Agreed, Shrunk}
+use Rattle.ulfm_base.proofs.Longer.{get_here}
+use Rattle.ulfm_log.specs.Proposal.{IsProposal}
+use Rattle.ulfm_answer.specs.declared.answer.StepAnswer.TheVariants.{Agreed, Shrunk}
 use Rattle.ulfm_script.specs.Deciding.{topic_of}
 use Rattle.ulfm_world.proofs.Common.{Adopted, Agree, AnswersAdoption, CallError, Context, DecidesStep, Decision, Entry, IsWorld, Player, Refused, Shrink, State, Step, StepAnswer, StepReport, Topic, World, at, logged, player_at, step_report}
 use Rattle.ulfm_laws.specs.Proposed.{ProposesBy}

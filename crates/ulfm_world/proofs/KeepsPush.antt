@@ -4,7 +4,7 @@ use Rattle.std.proofs.lemmas.Grind.{flat_map-append}
 use Rattle.ulfm_world.proofs.Common.{WorldRank, Item, Entry, Player, with_rank, World, player_in, player_at, rank_at, inbox_at, with_player, with_inbox, Pushes, cases_eq, eq-eqb, ne_eqb, All-push, took, out_other, arrived, IsPosted, IsWorld, State, IsState, went_out, GoesOut}
 use Rattle.ulfm_base.specs.Items.{ComesFrom, items_from, item_if_from}
 use Rattle.ulfm_rank.proofs.Signed.{front_signed, from_signed}
-use Rattle.ulfm_rank.proofs.States.{leaves-by}
+use Rattle.ulfm_log.proofs.States.{leaves-by}
 use Rattle.ulfm_world.proofs.Changed.{player-same, player-other, each_player, inbox-same, inbox-other, each_inbox}
 
 -- a push keeps the logs

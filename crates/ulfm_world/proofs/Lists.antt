@@ -3,7 +3,7 @@ use Rattle.std.proofs.Common.{◌≡◌, ◌≢◌, ℕ, ◌<◌, List, [], ◌�
 use Rattle.ulfm_world.proofs.Common.{WorldRank, Decision, Item, Took, logged, GoesOut, IsPosted, items_from, All-head, World, player_in, no_player, with_inbox, with_players, Pushes, Takes, Player, PlayerView, with_rank, map-set, get_or-map, set-get_or, length-map, drop_all, get_or_default, Room, HasRoom}
 use Rattle.ulfm_world.specs.Parts.{the_player, players_of, parts}
 use Rattle.ulfm_world.specs.inside.Steps.{AreParts, HandsOver, IsHeldBack, IsLivePlayer}
-use Rattle.ulfm_rank.specs.State.{outbox}
+use Rattle.ulfm_log.specs.State.{outbox}
 use Rattle.ulfm_world.specs.Room.{IsFull}
 use Rattle.ulfm_world.specs.World.{IsRefused}
 use Rattle.ulfm_world.specs.declared.event.Event.TheVariants.{Push}

@@ -2,7 +2,7 @@
 use Rattle.std.proofs.Common.{◌≡◌, ◌≢◌, ◌<◌, ◌≤◌, ◌+◌, ◌⊎◌, ℕ, List, [], ◌∷◌, ◌++◌, length, take, refl, ap, sym, subst, ◌∙◌, inl, inr, arith, length-append, append-nil}
 use Rattle.std.proofs.Math.Seq.{take-append_seam}
 use Rattle.ulfm_match.proofs.Cut.{get_in_front}
-use Rattle.ulfm_match.proofs.Histories.{get_here}
+use Rattle.ulfm_base.proofs.Longer.{get_here}
 use Rattle.ulfm_laws.specs.Order.{Owe}
 use Rattle.ulfm_laws.proofs.Times.{time_else, time_here, with_time}
 use Rattle.ulfm_world.proofs.Common.{Adopted, Decision, Entry, Item, StepReport, Took, WorldRank, at, cases_eq, cases_lt, same_Some, slice_get_within}

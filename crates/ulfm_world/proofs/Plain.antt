@@ -1,7 +1,7 @@
 -- An entry that adopts nothing leaves what was adopted.
 use Rattle.std.proofs.Common.{◌≡◌, ℕ, false, List, refl, ap, sym, subst, ◌∙◌, inl, inr, Option, Some, All}
 use Rattle.ulfm_world.proofs.Common.{Topic, topic_of, Decision, Entry, Adopted, State, Step, Shrink, Agree, EntersBy, RoundsCounted, none-some, same_Some, false≢true, or_from, false_from_ne_true, All-push, AdoptsEntered, any-push, LeavesOpen, StepReport}
-use Rattle.ulfm_rank.specs.Proposal.{adopts, has_adopted}
+use Rattle.ulfm_log.specs.Proposal.{adopts, has_adopted}
 use Rattle.ulfm_world.proofs.Agreed.{IsAdopted}
 use Rattle.ulfm_script.proofs.Fitting.{IsPlain, AddsPlain, entered_new, opens_add}
 use Rattle.ulfm_script.proofs.Rounds.{entered-now}

@@ -3,7 +3,7 @@ use Rattle.std.proofs.Common.{◌≡◌, ℕ, ◌+◌, ◌*◌, ◌<◌, ◌≤�
 use Rattle.ulfm_world.specs.inside.Rounds.{fresh_of}
 use Rattle.ulfm_world.proofs.Common.{WorldRank, Context, Item, Entry, Took, cases_Bool, eq-eqb, or_right, Adds, is_stop, is_stopped, is_revoked, revokes, any-push, drop-append-le, out_at, fresh_at, owes-logged, stopped-push, owed_by_few, State, IsState, logged, owes, outbox, mark_at, or-false}
 use Rattle.ulfm_base.specs.declared.item.Item.TheVariants.{Letter as Mail, Gone, Revoke, Enter}
-use Rattle.ulfm_rank.specs.Owed.{owed_by}
+use Rattle.ulfm_log.specs.Owed.{owed_by}
 use Rattle.ulfm_world.proofs.Sums.{sum-within, sum-le, sum-falls}
 
 after_stop : (a b : Bool) → length (cond a [] (cond b [] (Gone ∷ []))) ≤ 1

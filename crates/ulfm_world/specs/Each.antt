@@ -1,7 +1,7 @@
 -- What holds of reports in every schedule.
 use Rattle.std.specs.Prelude.{ℕ, ◌≤◌, List}
 use Rattle.ulfm_job.specs.Job.{JobView, IsJob}
-use Rattle.ulfm_script.specs.Report.{Report}
+use Rattle.ulfm_answer.specs.Report.{Report}
 use Rattle.ulfm_world.specs.declared.room.Room.{Room}
 use Rattle.ulfm_world.specs.Replay.{IsReplayed}
 use Rattle.ulfm_world.specs.World.{World, start_world, Reaches, reports_in}

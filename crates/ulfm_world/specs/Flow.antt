@@ -2,8 +2,8 @@
 use Rattle.std.specs.Prelude.{◌≡◌, ℕ, List, ◌++◌, ◌<◌, ◌≤◌, length, All}
 use Rattle.ulfm_base.specs.declared.rank.WorldRank.{WorldRank}
 use Rattle.ulfm_base.specs.declared.item.Item.{Item}
-use Rattle.ulfm_rank.specs.Facts.{took, IsSigned}
-use Rattle.ulfm_rank.specs.State.{IsState, went_out}
+use Rattle.ulfm_log.specs.Facts.{took, IsSigned}
+use Rattle.ulfm_log.specs.State.{IsState, went_out}
 use Rattle.ulfm_rank.specs.Calls.{IsFrom}
 use Rattle.ulfm_world.specs.World.{World, rank_at, inbox_at}
 use Rattle.ulfm_base.specs.Items.{items_from}

@@ -4,7 +4,7 @@ use Rattle.ulfm_base.specs.declared.decision.Decision.{Decision}
 use Rattle.ulfm_base.specs.declared.topic.Topic.{Topic}
 use Rattle.ulfm_board.specs.Known.{known_at}
 use Rattle.ulfm_script.specs.Deciding.{Known}
-use Rattle.ulfm_script.specs.Report.{Report}
+use Rattle.ulfm_answer.specs.Report.{Report}
 use Rattle.ulfm_script.specs.Script.{HasFinished}
 use Rattle.ulfm_job.specs.Job.{JobView}
 use Rattle.ulfm_world.specs.declared.room.Room.TheVariants.{PerInbox}

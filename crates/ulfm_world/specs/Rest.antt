@@ -1,6 +1,6 @@
 -- A world at rest.
 use Rattle.std.specs.Prelude.{◌≡◌, ℕ, [], ◌<◌, length}
-use Rattle.ulfm_rank.specs.State.{outbox}
+use Rattle.ulfm_log.specs.State.{outbox}
 use Rattle.ulfm_world.specs.World.{World, rank_at, inbox_at, IsRunning}
 
 -- nothing waits for the rank d: its inbox is empty, and so is each outbox towards it

@@ -11,11 +11,11 @@ use Rattle.ulfm_base.specs.Decision.{entry_at}
 use Rattle.ulfm_base.specs.Group.{is_member}
 use Rattle.ulfm_base.specs.RankSet.{has}
 use Rattle.ulfm_board.specs.Known.{known_at}
-use Rattle.ulfm_rank.specs.declared.entry.Entry.TheVariants.{Entered}
-use Rattle.ulfm_rank.specs.Log.{first_given}
-use Rattle.ulfm_rank.specs.Facts.{Knows}
-use Rattle.ulfm_rank.specs.Proposal.{entry_of}
-use Rattle.ulfm_script.specs.declared.answer.StepAnswer.TheVariants.{Refused}
+use Rattle.ulfm_log.specs.declared.entry.Entry.TheVariants.{Entered}
+use Rattle.ulfm_log.specs.Log.{first_given}
+use Rattle.ulfm_log.specs.Facts.{Knows}
+use Rattle.ulfm_log.specs.Proposal.{entry_of}
+use Rattle.ulfm_answer.specs.declared.answer.StepAnswer.TheVariants.{Refused}
 use Rattle.ulfm_job.specs.declared.step.Step.{Step}
 use Rattle.ulfm_script.specs.Player.{step_report}
 use Rattle.ulfm_laws.specs.Reports.{HasAdopted}

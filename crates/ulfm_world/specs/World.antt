@@ -6,13 +6,13 @@ use Rattle.ulfm_base.specs.declared.decision.Decision.{Decision}
 use Rattle.ulfm_base.specs.declared.item.Item.{Item}
 use Rattle.ulfm_base.specs.Items.{items_from}
 use Rattle.ulfm_board.specs.Known.{nothing_known}
-use Rattle.ulfm_rank.specs.declared.entry.Entry.TheVariants.{Took}
-use Rattle.ulfm_rank.specs.Facts.{is_stopped}
-use Rattle.ulfm_rank.specs.State.{State, logged, outbox, GoesOut}
+use Rattle.ulfm_log.specs.declared.entry.Entry.TheVariants.{Took}
+use Rattle.ulfm_log.specs.Facts.{is_stopped}
+use Rattle.ulfm_log.specs.State.{State, logged, outbox, GoesOut}
 use Rattle.ulfm_job.specs.declared.step.Step.{Step}
 use Rattle.ulfm_script.specs.Player.{Player, start_player, with_rank, IsFree, IsCalled, GivesUpStep, SkipsStep}
 use Rattle.ulfm_script.specs.Deciding.{IsReadyToDecide, IsDecided}
-use Rattle.ulfm_script.specs.Report.{Report}
+use Rattle.ulfm_answer.specs.Report.{Report}
 use Rattle.ulfm_world.specs.declared.event.Event.{Event}
 use Rattle.ulfm_world.specs.declared.event.Event.TheVariants.{Call, Push, Take, TakeFrom, Decide, Leave, Skip}
 use Rattle.ulfm_world.specs.declared.event.Outcome.{Outcome}

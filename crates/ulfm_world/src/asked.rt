@@ -2,7 +2,7 @@
 ghost use Rattle.std.specs.Prelude.{◌≡◌};
 
 use std::marker::Model;
-use ulfm_script::Step;
+use ulfm_job::Step;
 
 /// A step that stands elsewhere, as in a job. Contracts see the step.
 #[derive(Drop)]

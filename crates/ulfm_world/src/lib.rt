@@ -1,8 +1,8 @@
-//! All ranks with their inboxes, in every schedule, and the replay of a job.
+//! All ranks with their inboxes, in every schedule.
 //!
 //! A [`World`] changes by one [`Event`] at a time: a rank calls, an item is pushed, an item is taken. A list of events is a schedule.
 //!
-//!     let reports = replay(alloc, &job)?;
+//!     let outcome = world.apply(Event::Push(from, to))?;
 //!
 //! Read specs/World.antt: `Happens` says what an event does, `IsRefused` why one is refused. The laws of all schedules are in laws.rt,
 //! one function a law.
@@ -13,7 +13,6 @@ mod event;
 mod inbox;
 mod laws;
 mod room;
-mod rounds;
 mod schedule;
 mod steps;
 mod world;
@@ -30,6 +29,5 @@ pub use laws::{
     reports_are_faithful, revoked_by_a_rank, rings_give_all, settled_safely,
 };
 pub use room::Room;
-pub use rounds::replay;
 pub use schedule::run;
 pub use world::World;

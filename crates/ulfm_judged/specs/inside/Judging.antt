@@ -7,22 +7,22 @@ use Rattle.ulfm_stops.specs.declared.place.Place.{Place}
 use Rattle.ulfm_lists.specs.Objects.{lists_in}
 use Rattle.ulfm_lists.specs.Union.{some_never_ends}
 use Rattle.ulfm_lists.specs.declared.listed.Listed.{Listed}
-use Rattle.ulfm_places.specs.declared.lists.Lists.{Lists}
+use Rattle.ulfm_judged.specs.declared.lists.Lists.{Lists}
 use Rattle.ulfm_json.specs.declared.form.Form.{Form}
 use Rattle.ulfm_replies.specs.Stopped.{Asked, asked_at, asked_view}
 use Rattle.ulfm_reader.specs.declared.reading.Reading.{Reading}
 use Rattle.ulfm_replies.specs.declared.command.ListOptions.{ListOptions}
 use Rattle.ulfm_replies.specs.declared.reply.Reply.{Reply}
 use Rattle.ulfm_judged.specs.EachPlace.{IsJudgedEach, IsToldAt, IsUnfound, IsWanted, places_in}
-use Rattle.ulfm_told.specs.At.{more_at}
+use Rattle.ulfm_lists.specs.ToldAt.{more_at}
 use Rattle.ulfm_judged.specs.Outcomes.{HasList, list_status, nowhere_in}
-use Rattle.ulfm_told.specs.Told.{Told, many, schedule}
+use Rattle.ulfm_lists.specs.Told.{Told, many, schedule}
 use Rattle.ulfm_judged.specs.ShowEach.{AreGoalsAt, IsNowhereAt}
-use Rattle.ulfm_told.specs.At.{told_at}
+use Rattle.ulfm_lists.specs.ToldAt.{told_at}
 use Rattle.ulfm_judged.specs.declared.show_each.LookAt.{LookAt}
-use Rattle.ulfm_told.specs.declared.told.Told.{Told as Kept}
+use Rattle.ulfm_lists.specs.declared.told.Told.{Told as Kept}
 use Rattle.ulfm_judged.specs.inside.Looking.{IsLook, look_status}
-use Rattle.ulfm_told.specs.Told.{told_view}
+use Rattle.ulfm_lists.specs.Told.{told_view}
 use Rattle.ulfm_found.specs.declared.goals.Goals.{Goals}
 use Rattle.ulfm_draw.specs.declared.style.Style.{Style}
 

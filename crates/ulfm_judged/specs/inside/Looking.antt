@@ -1,19 +1,16 @@
 -- What single functions find that look for schedules.
-use Rattle.std.specs.Prelude.{◌≡◌, ℕ, ◌==◌, Bool, false, ◌&&◌, List, [], ◌∷◌, Option, Some, None, slice_get, take}
-use Rattle.std.specs.List.{list_all, list_any}
-use Rattle.ulfm_job.specs.Begins.{begins}
+use Rattle.std.specs.Prelude.{◌≡◌, ℕ, Bool, List, Option, Some, None, slice_get, take}
 use Rattle.ulfm_job.specs.declared.clause.Clause.{Clause}
 use Rattle.ulfm_job.specs.Job.{JobView}
-use Rattle.ulfm_outcomes.specs.Goals.{IsPossible}
+use Rattle.ulfm_finder.specs.Goals.{IsPossible}
 use Rattle.ulfm_found.specs.declared.goals.Goals.{Goals}
-use Rattle.ulfm_found.specs.declared.open_step.OpenStep.{OpenStep}
 use Rattle.ulfm_draw.specs.declared.style.Style.{Style}
 use Rattle.ulfm_json.specs.declared.form.Form.{Form}
 use Rattle.ulfm_judged.specs.Outcomes.{AreOfRow, IsTold, NeverComes, NoneComes, nowhere_in}
-use Rattle.ulfm_told.specs.Told.{Told, many, schedule, told_in}
+use Rattle.ulfm_lists.specs.Told.{Told, many, schedule, told_in}
 use Rattle.ulfm_judged.specs.declared.listed.FirstRow.{FirstRow}
-use Rattle.ulfm_told.specs.declared.told.Told.{Told as Kept}
-use Rattle.ulfm_told.specs.Told.{told_view}
+use Rattle.ulfm_lists.specs.declared.told.Told.{Told as Kept}
+use Rattle.ulfm_lists.specs.Told.{told_view}
 
 -- a search for these goals came to nothing, since no schedule shows them, or to what is told
 abbrev pub IsLook : JobView → Goals → Bool → ℕ → Option Kept → Type 0
@@ -24,20 +21,6 @@ IsLook job goals is_brief limit (Some told) = IsTold job goals is_brief limit (t
 abbrev pub IsLookForRow : JobView → List Clause → Bool → ℕ → Option Kept → Type 0
 IsLookForRow job row is_brief limit None = NeverComes job row
 IsLookForRow job row is_brief limit (Some told) = (goals : Goals) × AreOfRow job row goals × IsLook job goals is_brief limit (Some told)
-
--- the row of a list tells of an answer that begins as the clause says
-abbrev pub tells : Clause → List ℕ → Bool
-tells c (rank ∷ step ∷ words) = (rank == c.rank) && (step == c.step) && begins words c.words
-tells c _ = false
-
--- the row of a list tells that the step never ends
-abbrev pub tells_open : OpenStep → List ℕ → Bool
-tells_open o (rank ∷ step ∷ []) = (rank == o.rank) && (step == o.step)
-tells_open o _ = false
-
--- the list has each of these answers, and each of these open steps
-abbrev pub has_each : List (List ℕ) → Goals → Bool
-has_each found goals = list_all (λ (c : Clause). list_any (tells c) found) goals.answers.items && list_all (λ (o : OpenStep). list_any (tells_open o) found) goals.left.items
 
 -- no row came together, or none before that of this number, of which that is told
 abbrev pub IsFirstRow : JobView → List (List Clause) → Bool → ℕ → Option FirstRow → Type 0

@@ -1,7 +1,7 @@
 -- What a run shows that fails.
 use Rattle.std.specs.Prelude.{List, ⊤, ◌⊎◌}
 use Rattle.ulfm_job.specs.Job.{JobView}
-use Rattle.ulfm_script.specs.Report.{Report}
+use Rattle.ulfm_answer.specs.Report.{Report}
 use Rattle.ulfm_run.specs.Fault.{ShowUntrue}
 use Rattle.ulfm_played.specs.Played.{ShowNoRoom}
 use Rattle.ulfm_replies.specs.declared.failure.Failure.{Failure}

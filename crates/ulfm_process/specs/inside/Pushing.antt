@@ -2,7 +2,7 @@
 use Rattle.std.specs.Prelude.{◌≡◌, ◌≢◌, ◌↔◌, ℕ, ◌<◌, Bool, true, false, IsTrue, List, length}
 use Rattle.ulfm_base.specs.declared.item.Item.{Item}
 use Rattle.ulfm_carrier.specs.Lanes.{seen_from}
-use Rattle.ulfm_rank.specs.State.{GoesOut}
+use Rattle.ulfm_log.specs.State.{GoesOut}
 use Rattle.ulfm_process.specs.Turning.{GoOut, IsSameProcess, IsStuck}
 use Rattle.ulfm_process.specs.View.{ProcessView}
 

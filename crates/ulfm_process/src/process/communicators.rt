@@ -2,14 +2,14 @@
 ghost use Rattle.std.specs.Prelude.{◌≡◌, Some, None, IfOk, IfErr, OnOk, OnErr};
 ghost use Rattle.ulfm_base.specs.Context.{dup_of};
 ghost use Rattle.ulfm_process.specs.View.{with_rank};
-ghost use Rattle.ulfm_rank.specs.declared.entry.Entry.TheVariants.{Duplicated};
+ghost use Rattle.ulfm_log.specs.declared.entry.Entry.TheVariants.{Duplicated};
 ghost use Rattle.ulfm_rank.specs.Checks.{Passes, FailsOrStarves, dup_checks};
-ghost use Rattle.ulfm_rank.specs.Communicators.{group_of};
-ghost use Rattle.ulfm_rank.specs.State.{logged};
+ghost use Rattle.ulfm_log.specs.Communicators.{group_of};
+ghost use Rattle.ulfm_log.specs.State.{logged};
 
 use super::Process;
 use ulfm_base::{CallError, Group};
-use ulfm_rank::Comm;
+use ulfm_log::Comm;
 
 impl Process {
     /// The group of a communicator (MPI 4.0, 7.3.2, `MPI_Comm_group`). It never answers out of memory.

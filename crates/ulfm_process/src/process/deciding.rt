@@ -5,12 +5,12 @@ ghost use Rattle.ulfm_base.specs.Decision.{left_out};
 ghost use Rattle.ulfm_base.specs.Topic.{shrink_topic};
 ghost use Rattle.ulfm_base.specs.declared.decision.Decision.{Decision as Decided};
 ghost use Rattle.ulfm_process.specs.Deciding.{Adopts, IsPollRefusal, Waits};
-ghost use Rattle.ulfm_rank.specs.Proposal.{last_agreement};
+ghost use Rattle.ulfm_log.specs.Proposal.{last_agreement};
 
 use super::Process;
 use ulfm_base::{CallError, Group};
 use ulfm_board::Decider;
-use ulfm_rank::Comm;
+use ulfm_log::Comm;
 
 impl Process {
     /// Asks for the decision of the shrink that was entered: where the rank has a proposal, it is handed in at the board, and

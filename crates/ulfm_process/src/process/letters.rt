@@ -4,19 +4,18 @@ ghost use Rattle.ulfm_base.specs.declared.pattern.Pattern.{Pattern};
 ghost use Rattle.ulfm_match.specs.History.{count_before};
 ghost use Rattle.ulfm_match.specs.Pairing.{Pairing, LawfulPairing};
 ghost use Rattle.ulfm_process.specs.View.{with_rank};
-ghost use Rattle.ulfm_rank.specs.declared.entry.Entry.TheVariants.{Released};
+ghost use Rattle.ulfm_log.specs.declared.entry.Entry.TheVariants.{Released};
 ghost use Rattle.ulfm_rank.specs.Answer.{IsRequest, IsTestAnswer, is_release};
 ghost use Rattle.ulfm_rank.specs.Calls.{Sends, Posts};
 ghost use Rattle.ulfm_rank.specs.Cancel.{IsCancelAnswer, cancelling};
 ghost use Rattle.ulfm_rank.specs.Checks.{Passes, FailsOrStarves, IsTestRefusal, send_checks, receive_checks};
-ghost use Rattle.ulfm_rank.specs.Facts.{is_stopped};
+ghost use Rattle.ulfm_log.specs.Facts.{is_stopped};
 ghost use Rattle.ulfm_rank.specs.History.{history_of};
-ghost use Rattle.ulfm_rank.specs.State.{logged};
+ghost use Rattle.ulfm_log.specs.State.{logged};
 
 use super::Process;
-use ulfm_base::{CallError, Tag};
-use ulfm_match::RequestId;
-use ulfm_rank::{Cancel, Comm, TestAnswer};
+use ulfm_base::{CallError, RequestId, Tag};
+use ulfm_log::{Cancel, Comm, TestAnswer};
 
 impl Process {
     /// Starts the send of a letter to the member at a position of a communicator (MPI 4.0, 3.7.2, `MPI_Isend`). It is

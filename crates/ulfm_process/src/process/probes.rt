@@ -3,16 +3,16 @@ ghost use Rattle.std.specs.Prelude.{◌≡◌, ℕ, false, IfOk, IfErr, OnOk, On
 ghost use Rattle.ulfm_base.specs.declared.pattern.Pattern.{Pattern};
 ghost use Rattle.ulfm_match.specs.Pairing.{Pairing, LawfulPairing};
 ghost use Rattle.ulfm_process.specs.View.{with_rank};
-ghost use Rattle.ulfm_rank.specs.declared.entry.Entry.TheVariants.{Received};
+ghost use Rattle.ulfm_log.specs.declared.entry.Entry.TheVariants.{Received};
 ghost use Rattle.ulfm_rank.specs.Checks.{Passes, receive_checks};
-ghost use Rattle.ulfm_rank.specs.Facts.{is_stopped};
+ghost use Rattle.ulfm_log.specs.Facts.{is_stopped};
 ghost use Rattle.ulfm_rank.specs.History.{history_of};
 ghost use Rattle.ulfm_rank.specs.Messages.{HasMessage, IsLookAnswer, IsLookRefusal, IsMessage, IsMessageAnswer, IsMessageRefusal, IsProbeAnswer, IsProbeRefusal};
-ghost use Rattle.ulfm_rank.specs.State.{logged};
+ghost use Rattle.ulfm_log.specs.State.{logged};
 
 use super::Process;
 use ulfm_base::{CallError, Tag};
-use ulfm_rank::{Comm, MessageId, Probed, Status, TestAnswer};
+use ulfm_log::{Comm, MessageId, Probed, Status, TestAnswer};
 
 impl Process {
     /// Looks for a letter on a communicator, from one position or any, with one tag or any, and leaves it where it is (MPI

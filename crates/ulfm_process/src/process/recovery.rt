@@ -4,12 +4,12 @@ ghost use Rattle.ulfm_base.specs.Topic.{shrink_topic};
 ghost use Rattle.ulfm_process.specs.View.{with_rank};
 ghost use Rattle.ulfm_rank.specs.Calls.{Enters, acknowledging, revoking, stopping};
 ghost use Rattle.ulfm_rank.specs.Checks.{Passes, Fails, FailsOrStarves, agree_checks, comm_checks, group_at, shrink_checks};
-ghost use Rattle.ulfm_rank.specs.Facts.{ack_answer, is_revoked, known_in};
-ghost use Rattle.ulfm_rank.specs.Proposal.{next_agreement};
+ghost use Rattle.ulfm_log.specs.Facts.{ack_answer, is_revoked, known_in};
+ghost use Rattle.ulfm_log.specs.Proposal.{next_agreement};
 
 use super::Process;
 use ulfm_base::{CallError, Group};
-use ulfm_rank::Comm;
+use ulfm_log::Comm;
 
 impl Process {
     /// The rank stops (ULFM: it fails). Again it changes nothing. It can't run out of memory.

@@ -2,7 +2,7 @@
 ghost use Rattle.std.specs.Prelude.{◌≡◌, ◌<◌, ◌↔◌, ℕ, [], IsTrue, IfOk, OnErr};
 ghost use Rattle.ulfm_process.specs.Turning.{IsStuck, IsTurn, Takes};
 ghost use Rattle.ulfm_process.specs.inside.Pushing.{GoesOn, PushesOne, PushesTo};
-ghost use Rattle.ulfm_rank.specs.State.{outbox};
+ghost use Rattle.ulfm_log.specs.State.{outbox};
 
 use super::Process;
 use ulfm_base::OutOfMemory;

@@ -4,8 +4,8 @@ use Rattle.ulfm_base.specs.declared.envelope.Letter.{Letter}
 use Rattle.ulfm_base.specs.declared.pattern.Pattern.{Pattern}
 use Rattle.ulfm_base.specs.declared.error.CallError.TheVariants.{ProcFailed, Revoked, Truncated}
 use Rattle.ulfm_base.specs.Group.{rank_in}
-use Rattle.ulfm_rank.specs.declared.entry.TestAnswer.{TestAnswer}
-use Rattle.ulfm_rank.specs.declared.entry.TestAnswer.TheVariants.{Done, Over, Pending, NotYet}
+use Rattle.ulfm_log.specs.declared.entry.TestAnswer.{TestAnswer}
+use Rattle.ulfm_log.specs.declared.entry.TestAnswer.TheVariants.{Done, Over, Pending, NotYet}
 use Rattle.ulfm_rank.specs.declared.request.Fate.{Fate}
 use Rattle.ulfm_rank.specs.declared.request.Fate.TheVariants.{Waiting, Paired, Found, Failed, Cleared}
 use Rattle.ulfm_rank.specs.Answer.{IsReceived}

@@ -1,7 +1,7 @@
 -- What a rank keeps while it does something that takes nothing, or lets nothing go out.
 use Rattle.std.specs.Prelude.{◌≡◌, ℕ, ◌<◌, All}
-use Rattle.ulfm_rank.specs.Facts.{took, IsSigned}
-use Rattle.ulfm_rank.specs.State.{State, IsState, went_out}
+use Rattle.ulfm_log.specs.Facts.{took, IsSigned}
+use Rattle.ulfm_log.specs.State.{State, IsState, went_out}
 
 -- the rank is the same but for its log, what it sent is signed, and what went out is the same
 pub record Calm (old new : State) : Type 0 where

@@ -1,16 +1,17 @@
 -- What holds of the fields of a rank, and what contracts see of them.
 use Rattle.std.specs.Prelude.{◌≡◌, ℕ, Bool, ◌≤◌, ◌<◌, ◌^◌, ◌+◌, List, map, Option, nat_eq, nat_lt, ◌&&◌, if◌then◌else◌, length, vec_len, vec_capacity}
-use Rattle.ulfm_rank.specs.inside.Decisive.{IsTold}
+use Rattle.ulfm_log.specs.Decisive.{IsTold}
 use Rattle.indexmap.specs.IndexMap.{get, index_map_len, spare}
 use Rattle.ulfm_fault.specs.Facts.{FaultState}
 use Rattle.ulfm_match.specs.State.{Matching}
-use Rattle.ulfm_rank.specs.declared.entry.Entry.{Entry}
+use Rattle.ulfm_log.specs.declared.entry.Entry.{Entry}
 use Rattle.ulfm_rank.specs.declared.request.Request.{Request}
 use Rattle.ulfm_rank.specs.declared.rank.Rank.TheInside.{Inside}
-use Rattle.ulfm_rank.specs.inside.Fields.{HasCommunicators, HasFaults}
-use Rattle.ulfm_rank.specs.Facts.{is_stopped}
-use Rattle.ulfm_rank.specs.inside.Outboxes.{Box, mark_of, HasOutboxes}
-use Rattle.ulfm_rank.specs.State.{State, RankView}
+use Rattle.ulfm_rank.specs.inside.Fields.{HasFaults}
+use Rattle.ulfm_log.specs.Communicators.{HasCommunicators}
+use Rattle.ulfm_log.specs.Facts.{is_stopped}
+use Rattle.ulfm_log.specs.Outboxes.{Box, mark_of, HasOutboxes}
+use Rattle.ulfm_log.specs.State.{State, RankView}
 use Rattle.ulfm_rank.specs.Standing.{IsInStep}
 
 -- how many places of the log are kept for the stop

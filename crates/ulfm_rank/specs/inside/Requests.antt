@@ -8,7 +8,7 @@ use Rattle.ulfm_base.specs.declared.pattern.Pattern.{Pattern}
 use Rattle.ulfm_match.specs.History.{MatchEvent, Come, Clear, count_before}
 use Rattle.ulfm_match.specs.Pairing.{Pairing}
 use Rattle.ulfm_match.specs.State.{Matching, is_cleared, Tracks}
-use Rattle.ulfm_rank.specs.declared.entry.Entry.{Entry}
+use Rattle.ulfm_log.specs.declared.entry.Entry.{Entry}
 use Rattle.ulfm_rank.specs.declared.request.Fate.{Fate}
 use Rattle.ulfm_rank.specs.declared.request.Request.{Request}
 use Rattle.ulfm_rank.specs.History.{post_events, item_events}

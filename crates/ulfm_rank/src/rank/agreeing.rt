@@ -1,17 +1,16 @@
 //! Agreements (ULFM, agree).
 ghost use Rattle.std.specs.Prelude.{◌≡◌, false, IsTrue, Some, IfOk, IfErr, OnOk, OnErr};
 ghost use Rattle.ulfm_base.specs.Topic.{is_agreement};
-ghost use Rattle.ulfm_rank.specs.Calls.{Enters, Proposes};
+ghost use Rattle.ulfm_rank.specs.Calls.{Enters};
+ghost use Rattle.ulfm_log.specs.Proposal.{Proposes};
 ghost use Rattle.ulfm_rank.specs.Checks.{Passes, Fails, FailsOrStarves, agree_checks, proposal_checks, adopt_checks};
-ghost use Rattle.ulfm_rank.specs.inside.Decisive.{is_current};
-ghost use Rattle.ulfm_rank.specs.Proposal.{agreements, is_agreeing, next_agreement, last_agreement};
-ghost use Rattle.ulfm_rank.specs.State.{logged};
+ghost use Rattle.ulfm_log.specs.Decisive.{is_current};
+ghost use Rattle.ulfm_log.specs.Proposal.{agreements, is_agreeing, next_agreement, last_agreement};
+ghost use Rattle.ulfm_log.specs.State.{logged};
 
 use super::Rank;
-use crate::decisive::{make_place, tell};
-use crate::entry::{Comm, Entry};
-use crate::row::Row;
 use ulfm_base::{CallError, Context, Decision, Purpose, Topic};
+use ulfm_log::{Comm, Entry, Row, make_place, tell};
 
 impl Rank {
     /// Enters the next agreement on a communicator, revoked or not, with a flag and the failures that are known now, and

@@ -5,18 +5,16 @@ ghost use Rattle.ulfm_match.specs.Pairing.{Pairing, LawfulPairing};
 ghost use Rattle.ulfm_rank.specs.Answer.{IsRequest};
 ghost use Rattle.ulfm_rank.specs.Cancel.{IsCancelAnswer, cancelling};
 ghost use Rattle.ulfm_rank.specs.Checks.{IsTestRefusal};
-ghost use Rattle.ulfm_rank.specs.Facts.{is_stopped};
+ghost use Rattle.ulfm_log.specs.Facts.{is_stopped};
 ghost use Rattle.ulfm_rank.specs.History.{history_of};
-ghost use Rattle.ulfm_rank.specs.State.{logged};
+ghost use Rattle.ulfm_log.specs.State.{logged};
 
 use super::Rank;
 use crate::answer::answer_in;
-use crate::entry::{Cancel, Entry};
-use crate::noted_answer::NotedAnswer;
 use crate::request::is_waiting;
 use crate::requests::find;
-use ulfm_base::CallError;
-use ulfm_match::RequestId;
+use ulfm_base::{CallError, RequestId};
+use ulfm_log::{Cancel, Entry, NotedAnswer};
 
 impl Rank {
     /// Cancels a receive (MPI 4.0, 3.8.4). One that waits is withdrawn: it gets no letter from now on. One that has a

@@ -3,12 +3,9 @@ ghost use Rattle.std.specs.Prelude.{◌≡◌, ◌+◌, ◌≤◌, ◌<◌, ◌^
 ghost use Rattle.ulfm_match.specs.State.{unprepared};
 
 use super::{Rank, stop_places};
-use crate::block::Block;
-use crate::communicators::Communicators;
-use crate::log::Log;
-use crate::outboxes::Outboxes;
 use ulfm_base::OutOfMemory;
 use ulfm_fault::Faults;
+use ulfm_log::{Block, Communicators, Log, Outboxes};
 use ulfm_match::Matcher;
 
 /// A log once more, with room for so many entries more, and a matcher.

@@ -5,23 +5,20 @@ ghost use Rattle.ulfm_base.specs.Decision.{entry_at};
 ghost use Rattle.ulfm_base.specs.Group.{is_member};
 ghost use Rattle.ulfm_base.specs.RankSet.{has};
 ghost use Rattle.ulfm_base.specs.Topic.{Fits, HasShrink};
-ghost use Rattle.ulfm_rank.specs.Calls.{Enters, Proposes};
+ghost use Rattle.ulfm_rank.specs.Calls.{Enters};
+ghost use Rattle.ulfm_log.specs.Proposal.{Proposes};
 ghost use Rattle.ulfm_rank.specs.Checks.{Passes, Fails, proposal_checks, adopt_checks};
-ghost use Rattle.ulfm_rank.specs.Communicators.{group_of};
-ghost use Rattle.ulfm_rank.specs.inside.Fields.{HasEntries};
-ghost use Rattle.ulfm_rank.specs.inside.Decisive.{is_current, is_next};
-ghost use Rattle.ulfm_rank.specs.Proposal.{agreements, deciders, has_entered, has_adopted, is_foreign};
+ghost use Rattle.ulfm_log.specs.Communicators.{group_of};
+ghost use Rattle.ulfm_log.specs.Entrances.{HasEntries};
+ghost use Rattle.ulfm_log.specs.Decisive.{is_current, is_next};
+ghost use Rattle.ulfm_log.specs.Proposal.{agreements, deciders, has_entered, has_adopted, is_foreign};
 
 use super::Rank;
-use crate::adopting::is_foreign;
-use crate::decisive::{forget, make_place, tell};
-use crate::entrances::{is_adopted, listed};
-use crate::entry::{Comm, Entry};
-use crate::forwarding::announce;
-use crate::proposal::proposed;
-use crate::row::Row;
 use ulfm_base::{
     CallError, Contribution, Decision, Entrance, Group, Listing, OutOfMemory, RankSet, Topic,
+};
+use ulfm_log::{
+    Comm, Entry, Row, announce, forget, is_adopted, is_foreign, listed, make_place, proposed, tell,
 };
 
 impl Rank {

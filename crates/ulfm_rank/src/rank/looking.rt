@@ -5,9 +5,9 @@ ghost use Rattle.ulfm_rank.specs.Messages.{IsLookAnswer, IsLookRefusal};
 
 use super::Rank;
 use crate::answer::status_in;
-use crate::entry::{Comm, Status};
 use crate::failures::names_known;
 use ulfm_base::{CallError, Tag};
+use ulfm_log::{Comm, Status};
 
 impl Rank {
     /// Looks for a letter as `improbe` does, and leaves it where it is (MPI 4.0, 3.8.1, `MPI_Iprobe`): any receive or probe may

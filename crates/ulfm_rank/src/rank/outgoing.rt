@@ -1,7 +1,7 @@
 //! What goes out to the other ranks.
 ghost use Rattle.std.specs.Prelude.{◌≡◌, ◌<◌, ◌↔◌, [], false, IsTrue, IfNone, IfSome};
-ghost use Rattle.ulfm_rank.specs.Facts.{is_stopped};
-ghost use Rattle.ulfm_rank.specs.State.{has_way_back, outbox, returned, GoesOut, MayReturn};
+ghost use Rattle.ulfm_log.specs.Facts.{is_stopped};
+ghost use Rattle.ulfm_log.specs.State.{has_way_back, outbox, returned, GoesOut, MayReturn};
 
 use super::Rank;
 use std::collections::VecDeque;

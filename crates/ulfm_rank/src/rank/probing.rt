@@ -3,20 +3,18 @@ ghost use Rattle.std.specs.Prelude.{◌≡◌, ℕ, false, IfOk, IfErr, IsTrue, 
 ghost use Rattle.ulfm_base.specs.declared.pattern.Pattern.{Pattern};
 ghost use Rattle.ulfm_match.specs.Pairing.{Pairing, LawfulPairing};
 ghost use Rattle.ulfm_rank.specs.Checks.{Passes, receive_checks};
-ghost use Rattle.ulfm_rank.specs.Facts.{is_stopped};
+ghost use Rattle.ulfm_log.specs.Facts.{is_stopped};
 ghost use Rattle.ulfm_rank.specs.History.{history_of};
 ghost use Rattle.ulfm_rank.specs.Messages.{HasMessage, IsMessage, IsMessageAnswer, IsMessageRefusal, IsProbeAnswer, IsProbeRefusal};
-ghost use Rattle.ulfm_rank.specs.State.{is_ready, logged};
+ghost use Rattle.ulfm_log.specs.State.{is_ready, logged};
 
 use super::Rank;
 use crate::answer::{answer_in, status_in};
-use crate::entry::{Comm, Entry, Probed, TestAnswer};
 use crate::failures::names_known;
-use crate::message::MessageId;
-use crate::noted_answer::NotedAnswer;
 use crate::request::{Fate, Request, with_room};
 use crate::requests::find;
 use ulfm_base::{CallError, Tag};
+use ulfm_log::{Comm, Entry, MessageId, NotedAnswer, Probed, TestAnswer};
 
 impl Rank {
     /// Looks for a letter on a communicator, from one position or any, with one tag or any (MPI 4.0, 3.8.2,

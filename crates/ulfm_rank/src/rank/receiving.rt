@@ -7,22 +7,21 @@ ghost use Rattle.ulfm_match.specs.Pairing.{Pairing, LawfulPairing};
 ghost use Rattle.ulfm_rank.specs.Answer.{IsRequest, IsTestAnswer, is_release};
 ghost use Rattle.ulfm_rank.specs.Calls.{IsReceive, Posts};
 ghost use Rattle.ulfm_rank.specs.Checks.{Passes, Fails, FailsOrStarves, IsTestRefusal, receive_checks};
-ghost use Rattle.ulfm_rank.specs.Facts.{is_stopped};
+ghost use Rattle.ulfm_log.specs.Facts.{is_stopped};
 ghost use Rattle.ulfm_rank.specs.History.{history_of};
-ghost use Rattle.ulfm_rank.specs.State.{is_ready, logged};
+ghost use Rattle.ulfm_log.specs.State.{is_ready, logged};
 ghost use Rattle.ulfm_rank.specs.Standing.{IsInStep, IsOfGroup};
 
 use super::Rank;
 use crate::answer::{answer_in, answer_to_waiting};
-use crate::entry::{Comm, Entry, TestAnswer};
 use crate::failures::names_known;
-use crate::noted_answer::NotedAnswer;
 use crate::request::{Request, is_waiting};
 use crate::requests::{admit, find};
 use crate::sources::source_of;
 use indexmap::IndexMap;
-use ulfm_base::{CallError, Pattern, Tag};
-use ulfm_match::{Matcher, RequestId};
+use ulfm_base::{CallError, Pattern, RequestId, Tag};
+use ulfm_log::{Comm, Entry, NotedAnswer, TestAnswer};
+use ulfm_match::Matcher;
 
 impl Rank {
     /// The matcher of its receives and letters, and the receives and messages that aren't released, by number. Some lawful

@@ -2,13 +2,12 @@
 ghost use Rattle.std.specs.Prelude.{◌≡◌, ◌<◌, [], true, false, IfOk, IfErr, IsTrue, OnOk, OnErr};
 ghost use Rattle.ulfm_rank.specs.Calls.{acknowledging, revoking, stopping};
 ghost use Rattle.ulfm_rank.specs.Checks.{Passes, Fails, FailsOrStarves, group_at, comm_checks};
-ghost use Rattle.ulfm_rank.specs.Facts.{is_revoked, known_in, acknowledged_of, ack_answer};
+ghost use Rattle.ulfm_log.specs.Facts.{is_revoked, known_in, acknowledged_of, ack_answer};
 
 use super::Rank;
-use crate::entry::{Comm, Entry};
-use crate::forwarding::forward;
 use crate::requests::clear;
 use ulfm_base::{CallError, Group};
+use ulfm_log::{Comm, Entry, forward};
 
 impl Rank {
     /// The rank stops (ULFM: it fails). Again it changes nothing. It can't run out of memory.

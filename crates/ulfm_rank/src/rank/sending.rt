@@ -3,14 +3,14 @@ ghost use Rattle.std.specs.Prelude.{◌≡◌, ◌<◌, ◌≤◌, false, length
 ghost use Rattle.ulfm_base.specs.Context.{dup_of};
 ghost use Rattle.ulfm_rank.specs.Calls.{Sends};
 ghost use Rattle.ulfm_rank.specs.Checks.{Passes, Fails, FailsOrStarves, group_at, send_checks, dup_checks};
-ghost use Rattle.ulfm_rank.specs.Communicators.{group_of};
-ghost use Rattle.ulfm_rank.specs.State.{logged};
+ghost use Rattle.ulfm_log.specs.Communicators.{group_of};
+ghost use Rattle.ulfm_log.specs.State.{logged};
 
 use super::Rank;
-use crate::entry::{Comm, Entry};
 use ulfm_base::{
     Body, CallError, Context, Envelope, Group, Item, Letter, NotedLetter, Tag, WorldRank,
 };
+use ulfm_log::{Comm, Entry};
 
 impl Rank {
     /// The group of a communicator (MPI 4.0, 7.3.2, `MPI_Comm_group`). It never answers out of memory.

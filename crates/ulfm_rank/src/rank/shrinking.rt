@@ -2,15 +2,14 @@
 ghost use Rattle.std.specs.Prelude.{◌≡◌, false, IsTrue, None, IfOk, IfErr, OnOk, OnErr};
 ghost use Rattle.ulfm_base.specs.Context.{shrink_of};
 ghost use Rattle.ulfm_base.specs.Topic.{shrink_topic};
-ghost use Rattle.ulfm_rank.specs.Calls.{Enters, Proposes};
+ghost use Rattle.ulfm_rank.specs.Calls.{Enters};
+ghost use Rattle.ulfm_log.specs.Proposal.{Proposes};
 ghost use Rattle.ulfm_rank.specs.Checks.{Passes, Fails, FailsOrStarves, shrink_checks, proposal_checks, adopt_checks};
-ghost use Rattle.ulfm_rank.specs.State.{logged};
+ghost use Rattle.ulfm_log.specs.State.{logged};
 
 use super::Rank;
-use crate::decisive::{make_place, tell};
-use crate::entry::{Comm, Entry};
-use crate::row::Row;
 use ulfm_base::{CallError, Context, Decision, Purpose, Topic};
+use ulfm_log::{Comm, Entry, Row, make_place, tell};
 
 impl Rank {
     /// Enters the shrink of a communicator, revoked or not, with the failures that are known now, and leaves word of it

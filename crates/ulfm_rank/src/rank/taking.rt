@@ -1,16 +1,14 @@
 //! Items that come from other ranks.
 ghost use Rattle.std.specs.Prelude.{◌≡◌, ◌<◌, IsTrue, OnOk, OnErr, false};
 ghost use Rattle.ulfm_rank.specs.Calls.{IsFrom};
-ghost use Rattle.ulfm_rank.specs.Facts.{is_stopped};
-ghost use Rattle.ulfm_rank.specs.State.{is_ready, logged};
+ghost use Rattle.ulfm_log.specs.Facts.{is_stopped};
+ghost use Rattle.ulfm_log.specs.State.{is_ready, logged};
 
 use super::{Rank, stop_places};
-use crate::decisive::{hear, make_place};
-use crate::entry::Entry;
 use crate::failures::{learn, was_revoked};
-use crate::forwarding::pass_on;
 use crate::requests::settle;
 use ulfm_base::{Item, NotedItem, OutOfMemory, WorldRank};
+use ulfm_log::{Entry, hear, make_place, pass_on};
 
 impl Rank {
     /// Makes room for one `take` or one call.

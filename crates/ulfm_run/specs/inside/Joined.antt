@@ -1,7 +1,7 @@
 -- A rank and its end of a carrier, which go together.
 use Rattle.std.specs.Prelude.{◌≡◌, ℕ, List, ◌<◌, ◌≤◌, ◌+◌, length}
 use Rattle.ulfm_base.specs.declared.item.Item.{Item}
-use Rattle.ulfm_rank.specs.Facts.{is_stopped}
+use Rattle.ulfm_log.specs.Facts.{is_stopped}
 use Rattle.ulfm_rank.specs.Joined.{IsJoined}
 use Rattle.ulfm_job.specs.Job.{JobView, script_at}
 use Rattle.ulfm_script.specs.Player.{PlayerView, with_rank}

@@ -8,14 +8,14 @@ use Rattle.ulfm_base.specs.Decision.{entry_at, in_entry}
 use Rattle.ulfm_base.specs.Group.{is_member}
 use Rattle.ulfm_base.specs.Lists.{at}
 use Rattle.ulfm_base.specs.RankSet.{has}
-use Rattle.ulfm_rank.specs.declared.entry.Entry.{Entry}
-use Rattle.ulfm_rank.specs.declared.entry.Entry.TheVariants.{Adopted}
-use Rattle.ulfm_rank.specs.Facts.{is_gone}
-use Rattle.ulfm_rank.specs.Proposal.{listed_of}
-use Rattle.ulfm_script.specs.declared.answer.StepAnswer.TheVariants.{Refused}
-use Rattle.ulfm_script.specs.declared.answer.StepReport.{StepReport}
+use Rattle.ulfm_log.specs.declared.entry.Entry.{Entry}
+use Rattle.ulfm_log.specs.declared.entry.Entry.TheVariants.{Adopted}
+use Rattle.ulfm_log.specs.Facts.{is_gone}
+use Rattle.ulfm_log.specs.Proposal.{listed_of}
+use Rattle.ulfm_answer.specs.declared.answer.StepAnswer.TheVariants.{Refused}
+use Rattle.ulfm_answer.specs.declared.answer.StepReport.{StepReport}
 use Rattle.ulfm_script.specs.Deciding.{topic_of}
-use Rattle.ulfm_script.specs.Report.{Report}
+use Rattle.ulfm_answer.specs.Report.{Report}
 use Rattle.ulfm_laws.specs.Proposed.{ProposesBy}
 
 -- the rank `me` with this log lists r as a decision does, if r is a member

@@ -2,8 +2,8 @@
 use Rattle.std.specs.Prelude.{◌≡◌, ℕ, List, map, All}
 use Rattle.ulfm_base.specs.declared.item.Item.{Item}
 use Rattle.ulfm_job.specs.Job.{JobView, script_at}
-use Rattle.ulfm_script.specs.Report.{Report}
-use Rattle.ulfm_script.specs.Reacting.{SkipsRightly}
+use Rattle.ulfm_answer.specs.Report.{Report}
+use Rattle.ulfm_answer.specs.Reacting.{SkipsRightly}
 use Rattle.ulfm_script.specs.Script.{reported_step, through_stop, GivesUpRightly, IsPatient}
 use Rattle.ulfm_rank.specs.Joined.{IsJoined}
 

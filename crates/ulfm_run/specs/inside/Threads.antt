@@ -5,7 +5,7 @@ use Rattle.ulfm_base.specs.declared.item.Item.{Item}
 use Rattle.ulfm_carrier.specs.Family.{IsFresh}
 use Rattle.ulfm_base.specs.Lists.{at}
 use Rattle.ulfm_job.specs.Job.{JobView}
-use Rattle.ulfm_script.specs.Report.{Report}
+use Rattle.ulfm_answer.specs.Report.{Report}
 use Rattle.ulfm_run.specs.declared.worker.Ran.{Ran}
 use Rattle.ulfm_run.specs.declared.threads.Begun.{Begun}
 use Rattle.ulfm_script.specs.Deciding.{Known}

@@ -4,9 +4,9 @@ use Rattle.ulfm_base.specs.declared.decision.Decision.{Decision}
 use Rattle.ulfm_base.specs.declared.item.Item.{Item}
 use Rattle.ulfm_base.specs.declared.rank.WorldRank.{WorldRank}
 use Rattle.ulfm_base.specs.Lists.{at}
-use Rattle.ulfm_rank.specs.declared.entry.Entry.{Entry}
-use Rattle.ulfm_rank.specs.declared.entry.Entry.TheVariants.{Adopted, Stopped, Took}
-use Rattle.ulfm_script.specs.Report.{Report}
+use Rattle.ulfm_log.specs.declared.entry.Entry.{Entry}
+use Rattle.ulfm_log.specs.declared.entry.Entry.TheVariants.{Adopted, Stopped, Took}
+use Rattle.ulfm_answer.specs.Report.{Report}
 use Rattle.ulfm_laws.specs.Order.{Owe, IsOwedEarlier, HaveOneOrder}
 use Rattle.ulfm_laws.specs.Proposed.{IsProposedEarlier}
 use Rattle.ulfm_laws.specs.Room.{taken_behind, HasRoomFor, StopsHaveRoom}

@@ -3,8 +3,8 @@ use Rattle.std.specs.Prelude.{◌≡◌, Some}
 use Rattle.ulfm_base.specs.declared.decision.Decision.{Decision}
 use Rattle.ulfm_base.specs.declared.topic.Topic.{Topic}
 use Rattle.ulfm_rank.specs.Checks.{Passes, proposal_checks}
-use Rattle.ulfm_rank.specs.Proposal.{IsProposal}
-use Rattle.ulfm_rank.specs.State.{State}
+use Rattle.ulfm_log.specs.Proposal.{IsProposal}
+use Rattle.ulfm_log.specs.State.{State}
 use Rattle.ulfm_job.specs.declared.step.Step.{Step}
 use Rattle.ulfm_script.specs.Deciding.{topic_of}
 

@@ -4,11 +4,11 @@ use Rattle.ulfm_base.specs.declared.topic.Topic.{Topic}
 use Rattle.ulfm_base.specs.declared.context.Context.{Context}
 use Rattle.ulfm_base.specs.declared.decision.Decision.{Decision}
 use Rattle.ulfm_board.specs.Known.{known_at}
-use Rattle.ulfm_rank.specs.declared.entry.Entry.{Entry}
-use Rattle.ulfm_rank.specs.Facts.{is_stopped}
-use Rattle.ulfm_rank.specs.State.{State}
-use Rattle.ulfm_script.specs.declared.answer.StepAnswer.TheVariants.{Unfinished}
-use Rattle.ulfm_script.specs.declared.answer.StepReport.{StepReport}
+use Rattle.ulfm_log.specs.declared.entry.Entry.{Entry}
+use Rattle.ulfm_log.specs.Facts.{is_stopped}
+use Rattle.ulfm_log.specs.State.{State}
+use Rattle.ulfm_answer.specs.declared.answer.StepAnswer.TheVariants.{Unfinished}
+use Rattle.ulfm_answer.specs.declared.answer.StepReport.{StepReport}
 use Rattle.ulfm_job.specs.declared.step.Step.{Step}
 use Rattle.ulfm_script.specs.Deciding.{Known, IsReadyToDecide}
 use Rattle.ulfm_script.specs.Player.{Player, is_joint, step_report}

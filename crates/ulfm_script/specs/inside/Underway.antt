@@ -1,18 +1,18 @@
 -- A player on its way through its script.
 use Rattle.std.specs.Prelude.{◌≡◌, ⊤, ℕ, true, false, List, ◌++◌, ◌+◌, ◌-◌, ◌*◌, ◌<◌, length, All, MatchOption, Some, None, slice_get, Bool, [], ◌∷◌, if◌then◌else◌, Option, IsTrue}
-use Rattle.ulfm_rank.specs.Facts.{is_stopped}
-use Rattle.ulfm_rank.specs.State.{RankView}
+use Rattle.ulfm_log.specs.Facts.{is_stopped}
+use Rattle.ulfm_log.specs.State.{RankView}
 use Rattle.ulfm_job.specs.declared.step.Step.{Step}
 use Rattle.ulfm_script.specs.Player.{Player}
 use Rattle.ulfm_job.specs.Job.{JobView, script_at}
-use Rattle.ulfm_script.specs.declared.answer.StepReport.{StepReport}
+use Rattle.ulfm_answer.specs.declared.answer.StepReport.{StepReport}
 use Rattle.ulfm_job.specs.declared.condition.Condition.{Condition}
-use Rattle.ulfm_script.specs.Reacting.{SkipsRightly, is_played}
+use Rattle.ulfm_answer.specs.Reacting.{SkipsRightly, is_played}
 use Rattle.ulfm_script.specs.Script.{GivesUpRightly, IsPatient, is_played_stop, steps_done, through_stop}
-use Rattle.ulfm_rank.specs.declared.entry.TestAnswer.{TestAnswer}
-use Rattle.ulfm_rank.specs.declared.entry.TestAnswer.TheVariants.{Done as TestDone, Over as TestOver, Pending as TestPending, NotYet as TestNotYet}
-use Rattle.ulfm_script.specs.declared.answer.StepAnswer.{StepAnswer}
-use Rattle.ulfm_script.specs.declared.answer.StepAnswer.TheVariants.{Done, Over, Pending}
+use Rattle.ulfm_log.specs.declared.entry.TestAnswer.{TestAnswer}
+use Rattle.ulfm_log.specs.declared.entry.TestAnswer.TheVariants.{Done as TestDone, Over as TestOver, Pending as TestPending, NotYet as TestNotYet}
+use Rattle.ulfm_answer.specs.declared.answer.StepAnswer.{StepAnswer}
+use Rattle.ulfm_answer.specs.declared.answer.StepAnswer.TheVariants.{Done, Over, Pending}
 
 -- a rank that stays as it was keeps its room for a call, and its place for a request
 abbrev pub KeepsRoom : RankView → RankView → Type 0

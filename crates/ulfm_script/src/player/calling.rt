@@ -2,15 +2,15 @@
 ghost use Rattle.std.specs.Prelude.{◌≡◌, ◌<◌, ◌+◌, length, false, IsTrue, IsSome, Some, None};
 ghost use Rattle.ulfm_job.specs.Job.{bodiless};
 ghost use Rattle.ulfm_job.specs.declared.step.Step.{Step as SeenStep};
-ghost use Rattle.ulfm_rank.specs.Facts.{is_stopped};
+ghost use Rattle.ulfm_log.specs.Facts.{is_stopped};
 ghost use Rattle.ulfm_script.specs.Calls.{IsShort};
 ghost use Rattle.ulfm_script.specs.Player.{polled, polled_on, IsFree, IsPolledInVain, Polls, IsCalled, IfAnswered, GivesUpStep, SkipsStep, awaits_decision};
-ghost use Rattle.ulfm_script.specs.Reacting.{is_played};
+ghost use Rattle.ulfm_answer.specs.Reacting.{is_played};
 
 use super::Player;
-use crate::answer::{Called, StepAnswer};
-use crate::conditions::is_played;
+use crate::called::Called;
 use crate::poll::poll;
+use ulfm_answer::{StepAnswer, is_played};
 use ulfm_base::CallError;
 use ulfm_job::{Condition, Step};
 

@@ -2,8 +2,8 @@
 ghost use Rattle.std.specs.Prelude.{◌≡◌, ◌<◌, vec_len, vec_capacity, IfOk};
 
 use super::Player;
-use crate::answer::StepReport;
 use std::alloc::{AllocError, Global};
+use ulfm_answer::StepReport;
 use ulfm_base::OutOfMemory;
 
 /// The same reports once more, with room for one more.

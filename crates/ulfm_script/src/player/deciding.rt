@@ -6,8 +6,9 @@ ghost use Rattle.ulfm_script.specs.Deciding.{Decides, LacksCell};
 ghost use Rattle.ulfm_script.specs.Player.{IfAnswered};
 
 use super::Player;
-use crate::answer::{Decided, StepAnswer};
+use crate::called::Decided;
 use crate::joint::decide;
+use ulfm_answer::StepAnswer;
 use ulfm_base::{CallError, Context};
 use ulfm_board::Decider;
 use ulfm_job::Step;

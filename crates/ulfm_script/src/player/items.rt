@@ -1,13 +1,13 @@
 //! Items that come, and items that go out.
 ghost use Rattle.std.specs.Prelude.{◌≡◌, ◌<◌, ◌↔◌, false, IsTrue, IfSome, IfNone, OnOk, OnErr, []};
-ghost use Rattle.ulfm_rank.specs.Facts.{is_stopped};
-ghost use Rattle.ulfm_rank.specs.State.{has_way_back, logged, outbox, returned, GoesOut, MayReturn};
+ghost use Rattle.ulfm_log.specs.Facts.{is_stopped};
+ghost use Rattle.ulfm_log.specs.State.{has_way_back, logged, outbox, returned, GoesOut, MayReturn};
 ghost use Rattle.ulfm_rank.specs.Calls.{IsFrom};
 ghost use Rattle.ulfm_script.specs.Player.{with_rank};
 
 use super::Player;
 use ulfm_base::{Item, OutOfMemory, WorldRank};
-use ulfm_rank::Entry;
+use ulfm_log::Entry;
 
 impl Player {
     /// Makes room for one `take` of its rank, or for one poll.

@@ -8,8 +8,9 @@ use std::sync::Wait;
 use std::test::Fail;
 use std::thread::Threads;
 use ulfm_carrier::{Ends, lanes, shared};
+use ulfm_job::Job;
 use ulfm_reader::ReadJob;
-use ulfm_script::{Job, trace_text};
+use ulfm_script::trace_text;
 
 /// A letter, in a job of the most turns, in which nothing hangs.
 const LETTER: &str = r#"ranks = 2

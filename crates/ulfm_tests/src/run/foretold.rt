@@ -13,9 +13,9 @@ use std::thread::Threads;
 use ulfm_base::{Body, Context, Envelope, Item, Letter, Tag, WorldRank};
 use ulfm_board::{Seat, seats};
 use ulfm_carrier::{Ends, Residue};
+use ulfm_job::Job;
 use ulfm_reader::ReadJob;
 use ulfm_run::run_job;
-use ulfm_script::Job;
 
 /// Two ranks each send after they received.
 const LETTERS: &str = r#"ranks = 2

@@ -9,8 +9,8 @@ use std::thread::Threads;
 use ulfm_base::{Item, WorldRank};
 use ulfm_board::{Seat, seats};
 use ulfm_carrier::{Ends, Residue};
+use ulfm_job::Job;
 use ulfm_run::{Report, run_job};
-use ulfm_script::Job;
 
 /// What an end of the tests does beside what the end below it does.
 pub trait Habit: Drop {

@@ -10,8 +10,9 @@ use std::test::Fail;
 use std::thread;
 use std::thread::Threads;
 use ulfm_carrier::{Ends, lanes, shared};
+use ulfm_job::Job;
 use ulfm_reader::ReadJob;
-use ulfm_script::{Job, trace_text};
+use ulfm_script::trace_text;
 
 /// The ranks 0 and 2 send rank 1 a letter each.
 const TWO_LETTERS: &str = r#"ranks = 3

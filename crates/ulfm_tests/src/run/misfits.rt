@@ -11,9 +11,10 @@ use std::test::Fail;
 use std::thread::Threads;
 use ulfm_board::{Seat, seats};
 use ulfm_carrier::{LaneEnds, lanes};
+use ulfm_job::Job;
 use ulfm_reader::ReadJob;
 use ulfm_run::{Report, run_job};
-use ulfm_script::{Job, RunFault};
+use ulfm_script::RunFault;
 
 /// Three ranks, of which none has a step.
 const THREE_RANKS: &str = "ranks = 3\ncapacity = 1\nturns = 5\nstep = []\n";

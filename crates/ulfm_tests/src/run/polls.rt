@@ -6,8 +6,9 @@ use std::sync::Wait;
 use std::test::Fail;
 use std::thread::Threads;
 use ulfm_carrier::lanes;
+use ulfm_job::Job;
 use ulfm_reader::ReadJob;
-use ulfm_script::{Job, trace_text};
+use ulfm_script::trace_text;
 
 /// A rank sends a letter to itself and waits for it.
 const TO_ITSELF: &str = r#"ranks = 1

@@ -6,9 +6,9 @@ use std::test::Fail;
 use std::thread::Threads;
 use ulfm_board::seats;
 use ulfm_carrier::lanes;
+use ulfm_job::Job;
 use ulfm_reader::ReadJob;
 use ulfm_run::{at_rest, run_job};
-use ulfm_script::Job;
 
 /// All that is sent is taken.
 const TAKEN: &str = r#"ranks = 2

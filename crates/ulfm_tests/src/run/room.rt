@@ -11,9 +11,9 @@ use std::test::Fail;
 use std::thread::Threads;
 use ulfm_board::seats;
 use ulfm_carrier::{Ends, lanes, shared};
+use ulfm_job::Job;
 use ulfm_reader::ReadJob;
 use ulfm_run::{fits, run_job};
-use ulfm_script::Job;
 
 /// Rank 2 sends rank 1 three letters, and stops. Rank 0 is told of the stop, and writes to rank 1.
 const UNDER_WAY: &str = r#"ranks = 3

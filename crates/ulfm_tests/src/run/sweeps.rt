@@ -8,9 +8,9 @@ use std::test::Fail;
 use std::thread::Threads;
 use ulfm_board::seats;
 use ulfm_carrier::{Ends, lanes, shared};
+use ulfm_job::Job;
 use ulfm_reader::ReadJob;
 use ulfm_run::{at_rest, run_job};
-use ulfm_script::Job;
 
 /// Rank 1 revokes and stops half way; the others shrink. There are more turns than a replay needs, as no thread waits for another's.
 const REVOKED_AND_SHRUNK: &str = r#"ranks = 3

@@ -10,9 +10,9 @@ use std::thread::Threads;
 use ulfm_base::{CallError, Contribution, Decision, OutOfMemory, Purpose, RankSet, WorldRank};
 use ulfm_board::{Decider, Seat, seats};
 use ulfm_carrier::{LaneEnds, lanes};
+use ulfm_job::Job;
 use ulfm_reader::ReadJob;
 use ulfm_run::run_job;
-use ulfm_script::Job;
 
 /// A rank stops, and the others shrink.
 const SHRINK_OF_FOUR: &str = r#"ranks = 4

@@ -1,7 +1,7 @@
 -- A replay on its way: where its rounds stand, and what falls with each event.
 use Rattle.std.specs.Prelude.{◌≡◌, ℕ, zero, suc, Bool, true, false, List, [], ◌+◌, ◌*◌, ◌<◌, ◌≤◌, ◌⊎◌, length, Option, Some, None, slice_index_or, if◌then◌else◌}
-use Rattle.ulfm_rank.specs.Facts.{is_revoked}
-use Rattle.ulfm_rank.specs.State.{State, outbox}
+use Rattle.ulfm_log.specs.Facts.{is_revoked}
+use Rattle.ulfm_log.specs.State.{State, outbox}
 use Rattle.ulfm_job.specs.declared.step.Step.{Step}
 use Rattle.ulfm_script.specs.Player.{Player}
 use Rattle.ulfm_script.specs.inside.Underway.{GoesThrough, polls_left}

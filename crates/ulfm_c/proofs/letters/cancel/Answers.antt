@@ -1,6 +1,6 @@
 use Rattle.std.proofs.Common.{refl, inl, inr}
 use Rattle.ulfm_c.proofs.letters.cancel.Goals as goal
-use Rattle.ulfm_rank.specs.declared.entry.Cancel.TheVariants.{Cancelled, Completed}
+use Rattle.ulfm_log.specs.declared.entry.Cancel.TheVariants.{Cancelled, Completed}
 
 pub returns-in-Ok-Completed : goal.returns-in-Ok-Completed
 returns-in-Ok-Completed c = let did = c.in-Ok-Completed.ensures in let is = c.in-Ok-Completed.field-0-is in inl (

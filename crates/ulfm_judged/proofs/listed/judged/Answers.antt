@@ -3,7 +3,7 @@ use Rattle.std.proofs.lemmas.Result.{IfOk-weaker}
 use Rattle.std.specs.declared.alloc.Global.{Global}
 use Rattle.ulfm_job.specs.declared.clause.Clause.{Clause}
 use Rattle.ulfm_reader.specs.JobText.{rows_of}
-use Rattle.ulfm_outcomes.specs.Unmet.{Judges}
+use Rattle.ulfm_finder.specs.Unmet.{Judges}
 use Rattle.ulfm_judged.specs.Outcomes.{good}
 use Rattle.ulfm_judged.specs.inside.Looking.{IsFirstRow}
 use Rattle.ulfm_judged.proofs.Judged.{row_as}

@@ -1,6 +1,6 @@
 use Rattle.std.proofs.Common.{◌≡◌, false, rules, sym, ◌∙◌}
 use Rattle.std.proofs.lemmas.Bool.{false≢true}
-use Rattle.ulfm_judged.specs.inside.Looking.{has_each}
+use Rattle.ulfm_found.specs.Goals.{has_each}
 use Rattle.ulfm_judged.proofs.Looked.{each_listed}
 use Rattle.ulfm_judged.proofs.looking.look_for_row.Goals as goal
 

@@ -1,39 +1,11 @@
-use Rattle.std.proofs.Common.{List, All, ap, string_bytes, subst, sym, ◌∙◌, arith}
-use Rattle.std.proofs.lemmas.Result.{IfOk-weaker}
-use Rattle.ulfm_job.specs.declared.clause.Clause.{Clause}
-use Rattle.ulfm_reader.specs.Goals.{goals_view}
-use Rattle.ulfm_stops.specs.Place.{IsPlaceOf}
-use Rattle.ulfm_stops.specs.declared.place.Place.{Place}
+use Rattle.std.proofs.Common.{subst}
+use Rattle.ulfm_replies.specs.Stopped.{IsAsked}
 use Rattle.ulfm_stops.specs.declared.place.Place.TheVariants.{Nowhere}
-use Rattle.ulfm_replies.specs.Stopped.{IsAsked, asked_view}
-use Rattle.ulfm_judged.specs.ShowEach.{no_room_to_show, not_shown_at_all, unnamed_at_all}
-use Rattle.ulfm_judged.specs.inside.Judging.{IsFirstLook}
-use Rattle.ulfm_judged.proofs.EachPlace.{show_each_as}
+use Rattle.ulfm_judged.specs.ShowEach.{not_shown_at_all}
 use Rattle.ulfm_judged.proofs.show_each.show_each_reply.Goals as goal
+
+pub sought_reply-requires : goal.sought_reply-requires
+sought_reply-requires g c = subst (IsAsked c.args.form Nowhere c.args.bytes.now) c.in-Ok.is c.in_ok-read.ensures
 
 pub returns-in-Err : goal.returns-in-Err
 returns-in-Err g c = not_shown_at_all _ _ (subst (IsAsked c.args.form Nowhere c.args.bytes.now) c.in-Err.is c.in_ok-read.ensures)
-
-pub returns-then-len-stops-gt-MOST_STEPS : goal.returns-then-len-stops-gt-MOST_STEPS
-returns-then-len-stops-gt-MOST_STEPS g c =
-    let read = subst (IsAsked c.args.form Nowhere c.args.bytes.now) c.in-Ok.is c.in_ok-read.ensures in
-    IfOk-weaker c.refusal.result _ _ (λ r h. rw (h.0, h.1) (no_room_to_show (asked_view c.in-Ok.asked) read (omega (arith, c.len.ensures.exact, c.if-len-stops-gt-MOST_STEPS.true)))) c.refusal.ensures
-
-pub returns-in-Err-2 : goal.returns-in-Err-2
-returns-in-Err-2 g c =
-    let read = subst (IsAsked c.args.form Nowhere c.args.bytes.now) c.in-Ok.is c.in_ok-read.ensures in
-    let named = sym c.in_ok-answers.ensures ∙ ap goals_view c.in-Err-2.is in
-    IfOk-weaker c.no_goal.result _ _ (λ r h. rw (h.0, h.1) (unnamed_at_all (asked_view c.in-Ok.asked) c.in-Err-2.text.now read named)) c.no_goal.ensures
-
-pub first_look-requires : goal.first_look-requires
-first_look-requires g c = subst (All (IsPlaceOf c.in-Ok.asked.job)) (sym c.as_slice.ensures.value) c.in_ok-places.ensures.inside
-
-pub returns : goal.returns
-returns g c =
-    let asked = asked_view c.in-Ok.asked in
-    let options = c.args.options in
-    let read = subst (IsAsked c.args.form Nowhere c.args.bytes.now) c.in-Ok.is c.in_ok-read.ensures in
-    let named = sym c.in_ok-answers.ensures ∙ ap goals_view c.in-Ok-2.is in
-    let of_clauses = subst (λ (clauses : List Clause). IsFirstLook asked.job clauses options.is_brief options.limit c.as_slice.result.now c.in_ok-look.look) c.as_slice-answers.ensures.value c.in_ok-look.ensures in
-    let first = subst (λ (places : List Place). IsFirstLook asked.job c.in-Ok-2.answers.items options.is_brief options.limit places c.in_ok-look.look) (c.as_slice.ensures.value ∙ c.in_ok-places.ensures.exact) of_clauses in
-    IfOk-weaker c.look_reply.result _ _ (λ r h. rw (h.0) (show_each_as c.args.form options c.args.stops c.args.show.now c.args.bytes.now asked c.in-Ok-2.answers.items c.in_ok-look.look (string_bytes r.text) read named first h.1)) c.look_reply.ensures

@@ -1,5 +1,5 @@
 use Rattle.ulfm_judged.specs.EachPlace.{unmet}
-use Rattle.ulfm_told.specs.Told.{told_view}
+use Rattle.ulfm_lists.specs.Told.{told_view}
 use Rattle.ulfm_judged.proofs.unwanted.unmet_told.Goals as goal
 
 pub told_of-requires : goal.told_of-requires

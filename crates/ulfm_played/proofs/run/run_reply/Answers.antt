@@ -10,8 +10,8 @@ use Rattle.ulfm_played.specs.Played.{AreOfRun, ran, repeated, not_run, given_tur
 use Rattle.ulfm_json.specs.Form.{trace_in}
 use Rattle.ulfm_played.specs.Brief.{repeats_in}
 use Rattle.ulfm_played.specs.Tally.{tally}
-use Rattle.ulfm_replies.specs.Asking.{as_asked}
-use Rattle.ulfm_replies.specs.Unfinished.{has_unfinished, played_status}
+use Rattle.ulfm_played.specs.Asking.{as_asked}
+use Rattle.ulfm_played.specs.Unfinished.{has_unfinished, played_status}
 use Rattle.ulfm_played.specs.inside.Shown.{IsShown}
 use Rattle.ulfm_played.specs.inside.Tallied.{rows_of as rows_kept}
 use Rattle.ulfm_played.proofs.Failing.{run_failed, without_repeat}

@@ -6,8 +6,8 @@ use Rattle.ulfm_json.specs.Form.{trace_in}
 use Rattle.ulfm_played.specs.Tally.{counted_once}
 use Rattle.ulfm_played.specs.declared.tally.Counted.{Counted}
 use Rattle.ulfm_played.specs.inside.Tallied.{rows_of}
-use Rattle.ulfm_replies.specs.Asking.{as_asked}
-use Rattle.ulfm_replies.specs.Unfinished.{has_unfinished}
+use Rattle.ulfm_played.specs.Asking.{as_asked}
+use Rattle.ulfm_played.specs.Unfinished.{has_unfinished}
 use Rattle.ulfm_played.proofs.Tallied.{one_more, some_more, all_more}
 use Rattle.ulfm_played.proofs.tally.tally_of.Goals as goal
 

@@ -2,13 +2,13 @@ use Rattle.std.proofs.Common.{◌≡◌, ◌≤◌, ◌-◌, All, List, length, 
 use Rattle.std.specs.List.{list_all, list_any}
 use Rattle.ulfm_played.specs.Played.{AreOfRun}
 use Rattle.ulfm_reader.specs.JobText.{rows_of as rows_asked}
-use Rattle.ulfm_script.specs.Report.{Report}
+use Rattle.ulfm_answer.specs.Report.{Report}
 use Rattle.ulfm_json.specs.Form.{trace_in}
 use Rattle.ulfm_played.specs.declared.tally.Counted.{Counted}
 use Rattle.ulfm_played.specs.inside.Tallied.{rows_of}
 use Rattle.ulfm_played.specs.Tally.{tally}
-use Rattle.ulfm_replies.specs.Asking.{as_asked}
-use Rattle.ulfm_replies.specs.Unfinished.{has_unfinished}
+use Rattle.ulfm_played.specs.Asking.{as_asked}
+use Rattle.ulfm_played.specs.Unfinished.{has_unfinished}
 use Rattle.ulfm_played.proofs.tally.tally_of.Given as goal
 
 abbrev pub decreases-loop-done : goal.decreases-loop-done

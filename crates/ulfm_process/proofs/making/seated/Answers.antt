@@ -3,7 +3,7 @@ use Rattle.std.proofs.lemmas.List.Elements.{All-push}
 use Rattle.ulfm_board.specs.declared.seat.Seat.{Seat}
 use Rattle.ulfm_carrier.proofs.Handed.{handed}
 use Rattle.ulfm_carrier.specs.declared.lane_ends.LaneEnds.{LaneEnds}
-use Rattle.ulfm_rank.specs.State.{start_state_with}
+use Rattle.ulfm_log.specs.State.{start_state_with}
 use Rattle.ulfm_process.proofs.Seated.{in_seat}
 use Rattle.ulfm_process.specs.Making.{StartsAtEnd, end_of, seat_of}
 use Rattle.ulfm_process.proofs.making.seated.Goals as goal

@@ -7,7 +7,7 @@ use Rattle.ulfm_base.specs.Lists.{at}
 use Rattle.ulfm_board.specs.Known.{nothing_known}
 use Rattle.ulfm_carrier.specs.Lanes.{OneCall, lane_name}
 use Rattle.ulfm_carrier.specs.declared.lane_ends.LaneEnds.{LaneEnds}
-use Rattle.ulfm_rank.specs.State.{start_state_with}
+use Rattle.ulfm_log.specs.State.{start_state_with}
 use Rattle.ulfm_process.proofs.Seated.{each_of_front, in_seat}
 use Rattle.ulfm_process.specs.Making.{StartsAtEnd, end_of, seat_of}
 use Rattle.ulfm_process.specs.View.{ProcessView}

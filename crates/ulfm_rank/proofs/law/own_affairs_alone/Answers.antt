@@ -1,4 +1,4 @@
-use Rattle.ulfm_rank.proofs.Foreign.{own_affair, not_foreign}
+use Rattle.ulfm_log.proofs.Foreign.{own_affair, not_foreign}
 use Rattle.ulfm_rank.proofs.law.own_affairs_alone.Goals as goal
 
 pub returns : goal.returns

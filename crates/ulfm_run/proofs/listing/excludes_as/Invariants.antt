@@ -2,7 +2,7 @@ use Rattle.std.proofs.Common.{◌≡◌, ◌<◌, ◌||◌, ℕ, true}
 use Rattle.ulfm_base.specs.Decision.{in_entry}
 use Rattle.ulfm_base.specs.Group.{is_member}
 use Rattle.ulfm_base.specs.RankSet.{has}
-use Rattle.ulfm_rank.specs.Facts.{is_gone}
+use Rattle.ulfm_log.specs.Facts.{is_gone}
 use Rattle.ulfm_run.proofs.Common.{list_any}
 use Rattle.ulfm_run.proofs.listing.excludes_as.Given as goal
 

@@ -1,6 +1,6 @@
 use Rattle.std.proofs.Common.{◌≡◌, drop}
-use Rattle.ulfm_rank.specs.Log.{first_given}
-use Rattle.ulfm_rank.specs.Proposal.{heard_of}
+use Rattle.ulfm_log.specs.Log.{first_given}
+use Rattle.ulfm_log.specs.Proposal.{heard_of}
 use Rattle.ulfm_run.proofs.listing.heard_of.Given as goal
 
 abbrev pub invariant-loop-entry : goal.invariant-loop-entry

@@ -1,6 +1,6 @@
 use Rattle.std.proofs.Common.{arith, ap, sym, ◌∙◌, subst, length, slice_get}
 use Rattle.ulfm_run.proofs.Common.{GoesThrough, is_stopped, IsState, Player, script_at}
-use Rattle.ulfm_script.specs.Reacting.{is_played}
+use Rattle.ulfm_answer.specs.Reacting.{is_played}
 use Rattle.ulfm_script.specs.inside.SoFar.{AnswersFollowSoFar, IsUndecided}
 use Rattle.ulfm_run.proofs.Polled.{polls-after}
 use Rattle.ulfm_run.proofs.polling.poll.Goals as goal

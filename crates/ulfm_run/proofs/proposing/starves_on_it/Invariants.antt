@@ -1,5 +1,5 @@
 use Rattle.std.proofs.Common.{◌<◌, ℕ}
-use Rattle.ulfm_script.specs.declared.answer.StepReport.{StepReport}
+use Rattle.ulfm_answer.specs.declared.answer.StepReport.{StepReport}
 use Rattle.ulfm_run.specs.inside.Listed.{StarvesHere}
 use Rattle.ulfm_run.proofs.Common.{at}
 use Rattle.ulfm_run.proofs.proposing.starves_on_it.Given as goal

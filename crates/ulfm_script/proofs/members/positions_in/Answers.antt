@@ -1,5 +1,5 @@
 use Rattle.std.proofs.Common.{arith, ◌∙◌}
-use Rattle.ulfm_script.proofs.Positions.{found_more, few_more}
+use Rattle.ulfm_answer.proofs.Positions.{found_more, few_more}
 use Rattle.ulfm_script.proofs.members.positions_in.Goals as goal
 
 pub loop-k-preserved : goal.loop-k-preserved

@@ -1,5 +1,5 @@
 use Rattle.std.proofs.Common.{sym, ap, ◌∙◌}
-use Rattle.ulfm_rank.specs.State.{RankView}
+use Rattle.ulfm_log.specs.State.{RankView}
 use Rattle.ulfm_script.proofs.Common.{Tests}
 use Rattle.ulfm_script.proofs.Waits.{only_tested, answers_wait, stays_open, tests_by}
 use Rattle.ulfm_script.proofs.receiving.wait.Goals.{After-answer_of}

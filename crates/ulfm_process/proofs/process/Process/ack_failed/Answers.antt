@@ -1,10 +1,10 @@
 use Rattle.std.proofs.Common.{◌≡◌, refl, ap, subst}
 use Rattle.std.specs.Prelude.{IfOk, nat_lt}
 use Rattle.ulfm_rank.specs.Checks.{group_at}
-use Rattle.ulfm_rank.specs.Facts.{ack_answer, acknowledged_of}
-use Rattle.ulfm_rank.specs.State.{State}
+use Rattle.ulfm_log.specs.Facts.{ack_answer, acknowledged_of}
+use Rattle.ulfm_log.specs.State.{State}
 use Rattle.ulfm_process.specs.View.{ProcessView}
-use Rattle.ulfm_rank.specs.declared.entry.Entry.TheVariants.{Acknowledged}
+use Rattle.ulfm_log.specs.declared.entry.Entry.TheVariants.{Acknowledged}
 use Rattle.ulfm_process.proofs.Keeping.{kept-if, quiet-cond}
 use Rattle.ulfm_process.proofs.process.Process.ack_failed.Goals as goal
 

@@ -3,7 +3,7 @@ use Rattle.std.specs.Prelude.{IfOk}
 use Rattle.ulfm_base.specs.declared.pattern.Pattern.{Pattern}
 use Rattle.ulfm_rank.specs.Answer.{IsRequest}
 use Rattle.ulfm_rank.specs.Cancel.{IsCancelAnswer, cancelling}
-use Rattle.ulfm_rank.specs.State.{State}
+use Rattle.ulfm_log.specs.State.{State}
 use Rattle.ulfm_process.specs.View.{ProcessView}
 use Rattle.ulfm_process.proofs.Keeping.{kept-if, own-cancel, quiet-one, state-same}
 use Rattle.ulfm_process.proofs.process.Process.cancel.Goals as goal

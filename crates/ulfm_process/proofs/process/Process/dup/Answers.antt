@@ -1,5 +1,5 @@
 use Rattle.std.proofs.Common.{refl}
-use Rattle.ulfm_rank.specs.declared.entry.Entry.TheVariants.{Duplicated}
+use Rattle.ulfm_log.specs.declared.entry.Entry.TheVariants.{Duplicated}
 use Rattle.ulfm_process.proofs.Keeping.{kept-ok, quiet-one}
 use Rattle.ulfm_process.proofs.process.Process.dup.Goals as goal
 

@@ -1,9 +1,9 @@
 use Rattle.std.proofs.Common.{refl, ap, subst}
 use Rattle.std.specs.Prelude.{IfErr}
 use Rattle.ulfm_rank.specs.Checks.{FailsOrStarves, agree_checks}
-use Rattle.ulfm_rank.specs.State.{State}
+use Rattle.ulfm_log.specs.State.{State}
 use Rattle.ulfm_process.specs.View.{ProcessView}
-use Rattle.ulfm_rank.specs.declared.entry.Entry.TheVariants.{Entered}
+use Rattle.ulfm_log.specs.declared.entry.Entry.TheVariants.{Entered}
 use Rattle.ulfm_process.proofs.Keeping.{kept-ok, quiet-one}
 use Rattle.ulfm_process.proofs.process.Process.enter_agree.Goals as goal
 

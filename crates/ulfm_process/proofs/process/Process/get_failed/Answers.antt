@@ -1,8 +1,8 @@
 use Rattle.std.proofs.Common.{◌≡◌, ap, subst}
 use Rattle.std.specs.Prelude.{IfOk}
 use Rattle.ulfm_rank.specs.Checks.{group_at}
-use Rattle.ulfm_rank.specs.Facts.{known_in}
-use Rattle.ulfm_rank.specs.State.{State}
+use Rattle.ulfm_log.specs.Facts.{known_in}
+use Rattle.ulfm_log.specs.State.{State}
 use Rattle.ulfm_process.specs.View.{ProcessView}
 use Rattle.ulfm_process.proofs.process.Process.get_failed.Goals as goal
 

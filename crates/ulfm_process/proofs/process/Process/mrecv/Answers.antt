@@ -1,8 +1,8 @@
 use Rattle.std.proofs.Common.{ℕ, refl, ap, subst, OnOk}
 use Rattle.ulfm_base.specs.declared.pattern.Pattern.{Pattern}
-use Rattle.ulfm_rank.specs.declared.entry.Entry.TheVariants.{Received}
+use Rattle.ulfm_log.specs.declared.entry.Entry.TheVariants.{Received}
 use Rattle.ulfm_rank.specs.Messages.{IsMessage}
-use Rattle.ulfm_rank.specs.State.{State}
+use Rattle.ulfm_log.specs.State.{State}
 use Rattle.ulfm_process.specs.View.{ProcessView}
 use Rattle.ulfm_process.proofs.Keeping.{kept-if, quiet-one, state-same}
 use Rattle.ulfm_process.proofs.process.Process.mrecv.Goals as goal

@@ -1,7 +1,7 @@
 use Rattle.std.proofs.Common.{refl, sym, inl, inr}
 use Rattle.ulfm_board.specs.contracts.seat.SeatDecider.TheImpl.{ghosts}
 use Rattle.ulfm_rank.proofs.Joining.{joined-quiet}
-use Rattle.ulfm_rank.specs.declared.entry.Entry.TheVariants.{Adopted}
+use Rattle.ulfm_log.specs.declared.entry.Entry.TheVariants.{Adopted}
 use Rattle.ulfm_process.proofs.Keeping.{quiet-none, quiet-one}
 use Rattle.ulfm_process.proofs.process.Process.poll_shrink.Goals as goal
 

@@ -5,11 +5,11 @@ use Rattle.ulfm_base.specs.Items.{ComesFrom}
 use Rattle.ulfm_carrier.specs.Lanes.{seen_in}
 use Rattle.ulfm_rank.proofs.Joining.{joined-pushed, joined-returned}
 use Rattle.ulfm_rank.proofs.Signed.{front_signed}
-use Rattle.ulfm_rank.proofs.States.{comes-back}
-use Rattle.ulfm_rank.specs.State.{RankView, outbox}
+use Rattle.ulfm_log.proofs.States.{comes-back}
+use Rattle.ulfm_log.specs.State.{RankView, outbox}
 use Rattle.ulfm_process.proofs.Pushing.{box-apart}
 use Rattle.ulfm_base.specs.declared.rank.WorldRank.{WorldRank}
-use Rattle.ulfm_rank.specs.State.{State}
+use Rattle.ulfm_log.specs.State.{State}
 use Rattle.ulfm_process.specs.View.{IsAtEnd, ProcessView}
 use Rattle.ulfm_process.proofs.process.Process.push_one.Goals as goal
 

@@ -1,5 +1,5 @@
 use Rattle.std.proofs.Common.{length}
-use Rattle.ulfm_rank.specs.State.{outbox}
+use Rattle.ulfm_log.specs.State.{outbox}
 use Rattle.ulfm_process.specs.inside.Pushing.{GoesOn, OthersStayStuck}
 use Rattle.ulfm_process.proofs.process.Process.push_to.Given as goal
 

@@ -1,6 +1,6 @@
 use Rattle.std.proofs.Common.{refl}
-use Rattle.ulfm_rank.specs.Facts.{is_revoked}
-use Rattle.ulfm_rank.specs.declared.entry.Entry.TheVariants.{Revoked}
+use Rattle.ulfm_log.specs.Facts.{is_revoked}
+use Rattle.ulfm_log.specs.declared.entry.Entry.TheVariants.{Revoked}
 use Rattle.ulfm_process.proofs.Keeping.{kept-ok, quiet-unless}
 use Rattle.ulfm_process.proofs.process.Process.revoke.Goals as goal
 

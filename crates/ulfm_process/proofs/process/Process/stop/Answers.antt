@@ -1,7 +1,7 @@
 use Rattle.std.proofs.Common.{refl}
 use Rattle.ulfm_rank.proofs.Joining.{joined-quiet}
-use Rattle.ulfm_rank.specs.Facts.{is_stopped}
-use Rattle.ulfm_rank.specs.declared.entry.Entry.TheVariants.{Stopped}
+use Rattle.ulfm_log.specs.Facts.{is_stopped}
+use Rattle.ulfm_log.specs.declared.entry.Entry.TheVariants.{Stopped}
 use Rattle.ulfm_process.proofs.Keeping.{quiet-unless}
 use Rattle.ulfm_process.proofs.process.Process.stop.Goals as goal
 

@@ -1,10 +1,10 @@
 use Rattle.std.proofs.Common.{ap, sym, subst, ◌∙◌, arith}
 use Rattle.ulfm_rank.proofs.Joining.{joined-returned, joined-taken}
 use Rattle.ulfm_rank.proofs.Signed.{from_signed}
-use Rattle.ulfm_rank.specs.State.{logged}
-use Rattle.ulfm_rank.specs.declared.entry.Entry.TheVariants.{Took}
+use Rattle.ulfm_log.specs.State.{logged}
+use Rattle.ulfm_log.specs.declared.entry.Entry.TheVariants.{Took}
 use Rattle.ulfm_base.specs.declared.rank.WorldRank.{WorldRank}
-use Rattle.ulfm_rank.specs.State.{State}
+use Rattle.ulfm_log.specs.State.{State}
 use Rattle.ulfm_process.specs.View.{IsAtEnd}
 use Rattle.ulfm_process.proofs.process.Process.take_one.Goals as goal
 

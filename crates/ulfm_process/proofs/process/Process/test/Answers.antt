@@ -1,7 +1,7 @@
 use Rattle.std.proofs.Common.{ℕ, ap, subst, OnOk}
 use Rattle.ulfm_base.specs.declared.pattern.Pattern.{Pattern}
 use Rattle.ulfm_rank.specs.Answer.{IsRequest}
-use Rattle.ulfm_rank.specs.State.{State}
+use Rattle.ulfm_log.specs.State.{State}
 use Rattle.ulfm_process.specs.View.{ProcessView}
 use Rattle.ulfm_process.proofs.Keeping.{kept-test}
 use Rattle.ulfm_process.proofs.process.Process.test.Goals as goal

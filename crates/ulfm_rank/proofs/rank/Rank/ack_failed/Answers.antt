@@ -1,4 +1,4 @@
-use Rattle.ulfm_rank.proofs.Sifted.{quiet, silent}
+use Rattle.ulfm_log.proofs.Sifted.{quiet, silent}
 use Rattle.std.proofs.Common.{◌++◌, ◌∷◌, [], ap, ◌∙◌, arith}
 use Rattle.ulfm_rank.proofs.Common.{Acknowledged}
 use Rattle.ulfm_rank.proofs.Following.{follows_acknowledged}

@@ -1,4 +1,4 @@
-use Rattle.ulfm_rank.proofs.Sifted.{told_adopted}
+use Rattle.ulfm_log.proofs.Sifted.{told_adopted}
 use Rattle.std.proofs.Common.{◌≡◌, ◌++◌, ◌∷◌, [], refl, ap, sym, subst, ◌∙◌, arith, Some}
 use Rattle.ulfm_rank.proofs.Common.{agreements, Topic, decided_comm, shrink_of, shrink_topic, Adopted, find_group, group_of, state_of, State, RankView, is_some}
 use Rattle.std.proofs.lemmas.Result.{err_from_is_err_and}
@@ -6,8 +6,8 @@ use Rattle.ulfm_rank.specs.Checks.{adopt_checks, Fails, Passes}
 use Rattle.ulfm_rank.proofs.Adoptable.{made_adopted, never_starved}
 use Rattle.ulfm_rank.proofs.Refusals.{all_pass}
 use Rattle.ulfm_rank.proofs.Following.{follows_adopted}
-use Rattle.ulfm_rank.specs.inside.Decisive.{is_current}
-use Rattle.ulfm_rank.proofs.Made.{found_group}
+use Rattle.ulfm_log.specs.Decisive.{is_current}
+use Rattle.ulfm_log.proofs.Made.{found_group}
 use Rattle.ulfm_rank.proofs.Seen.{stop_places_few}
 use Rattle.ulfm_rank.proofs.rank.Rank.adopt.Goals as goal
 

@@ -1,12 +1,12 @@
-use Rattle.ulfm_rank.proofs.Sifted.{told_adopted}
+use Rattle.ulfm_log.proofs.Sifted.{told_adopted}
 use Rattle.std.proofs.Common.{◌≡◌, ◌++◌, ◌∷◌, [], append-nil, ap, sym, subst, ◌∙◌, arith, Some}
 use Rattle.ulfm_rank.proofs.Common.{agreements, Topic, is_agreement, decided_comm, Adopted, find_group, group_of, State, RankView}
 use Rattle.std.proofs.lemmas.Result.{err_from_is_err_and}
 use Rattle.ulfm_rank.specs.Checks.{adopt_checks, Fails}
 use Rattle.ulfm_rank.proofs.Adoptable.{never_starved, none_agreed}
 use Rattle.ulfm_rank.proofs.Following.{follows_adopted}
-use Rattle.ulfm_rank.specs.inside.Decisive.{is_current}
-use Rattle.ulfm_rank.proofs.Made.{found_group}
+use Rattle.ulfm_log.specs.Decisive.{is_current}
+use Rattle.ulfm_log.proofs.Made.{found_group}
 use Rattle.ulfm_rank.proofs.Seen.{stop_places_few}
 use Rattle.ulfm_rank.proofs.rank.Rank.adopt_agreed.Goals as goal
 

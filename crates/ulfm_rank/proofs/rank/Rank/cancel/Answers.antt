@@ -1,4 +1,4 @@
-use Rattle.ulfm_rank.proofs.Sifted.{quiet, silent}
+use Rattle.ulfm_log.proofs.Sifted.{quiet, silent}
 use Rattle.std.proofs.Common.{◌≡◌, ℕ, [], ◌∷◌, ◌++◌, false, refl, ap, sym, subst, arith, ◌∙◌, Some, nat_eq}
 use Rattle.ulfm_rank.proofs.Common.{Pattern, Request, TestAnswer, RankView, Released, Cancelled, IsTestAnswer, IsRequest, IsNoRequest, is_some, is_release, is_stopped, is_waiting, get, index_map_len}
 use Rattle.ulfm_rank.proofs.Answered.{is_request, no_request}

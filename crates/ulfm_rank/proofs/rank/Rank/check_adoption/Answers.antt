@@ -1,5 +1,5 @@
 use Rattle.std.proofs.Common.{sym, ◌∙◌}
-use Rattle.ulfm_rank.proofs.Foreign.{own_affair}
+use Rattle.ulfm_log.proofs.Foreign.{own_affair}
 use Rattle.ulfm_rank.proofs.rank.Rank.check_adoption.Goals as goal
 
 pub returns-clause-about : goal.returns-clause-about

@@ -1,7 +1,7 @@
 use Rattle.std.proofs.Common.{rules, ◌≡◌, true, false, ap, sym, ◌∙◌, arith, Some, slice_get}
 use Rattle.ulfm_rank.proofs.Common.{is_revoked, is_gone, find_group, group_of, State, RankView}
 use Rattle.ulfm_rank.proofs.Known.{knows_gone}
-use Rattle.ulfm_rank.proofs.Made.{found_group, member_of_world}
+use Rattle.ulfm_log.proofs.Made.{found_group, member_of_world}
 use Rattle.ulfm_rank.proofs.Sendable.{sendable}
 use Rattle.ulfm_rank.proofs.rank.Rank.destination.Goals as goal
 

@@ -1,9 +1,9 @@
-use Rattle.ulfm_rank.proofs.Sifted.{quiet, silent}
+use Rattle.ulfm_log.proofs.Sifted.{quiet, silent}
 use Rattle.std.proofs.Common.{rules, ◌≡◌, ◌++◌, ◌∷◌, [], ap, ◌∙◌, arith, Some}
 use Rattle.ulfm_rank.proofs.Common.{Duplicated, dup_of, find_group, group_of, State, RankView}
 use Rattle.ulfm_rank.proofs.Following.{follows_duplicated}
 use Rattle.ulfm_rank.proofs.Seen.{stop_places_few}
-use Rattle.ulfm_rank.proofs.Made.{found_group}
+use Rattle.ulfm_log.proofs.Made.{found_group}
 use Rattle.ulfm_rank.proofs.rank.Rank.dup.Goals as goal
 
 pub invariant_of-self-2 : goal.invariant_of-self-2

@@ -1,10 +1,10 @@
-use Rattle.ulfm_rank.proofs.Sifted.{counts_few, told_entered}
+use Rattle.ulfm_log.proofs.Sifted.{counts_few, told_entered}
 use Rattle.std.proofs.Common.{◌≡◌, ◌++◌, ◌∷◌, [], refl, ap, sym, subst, ◌∙◌, arith, filter}
 use Rattle.ulfm_rank.proofs.Common.{agreements, is_member, Entrance, Entered, state_of, Knows, AllGrow, deciders, State, RankView, announced}
 use Rattle.ulfm_rank.proofs.Following.{follows_entered}
-use Rattle.ulfm_rank.proofs.Held.{marks-grown}
+use Rattle.ulfm_log.proofs.Held.{marks-grown}
 use Rattle.ulfm_rank.proofs.Known.{knows_gone}
-use Rattle.ulfm_rank.specs.inside.Decisive.{is_next, rounds_on, tells}
+use Rattle.ulfm_log.specs.Decisive.{is_next, rounds_on, tells}
 use Rattle.ulfm_rank.proofs.Seen.{stop_places_few, state_logged}
 use Rattle.ulfm_rank.proofs.rank.Rank.enter.Goals as goal
 use Rattle.ulfm_rank.proofs.rank.Rank.enter.Goals.{After-push_reserved}

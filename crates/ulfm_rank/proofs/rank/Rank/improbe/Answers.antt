@@ -1,10 +1,10 @@
-use Rattle.ulfm_rank.proofs.Sifted.{quiet, silent}
+use Rattle.ulfm_log.proofs.Sifted.{quiet, silent}
 use Rattle.std.proofs.Common.{◌≡◌, ℕ, false, true, [], ◌∷◌, ◌++◌, length, ap, sym, subst, arith, refl, ◌∙◌, Option, Some, nat_eq, inr, cond, eqb, Contains}
 use Rattle.std.proofs.lemmas.Result.{err_from_is_err_and}
 use Rattle.ulfm_base.specs.Pattern.{Admits}
 use Rattle.ulfm_rank.proofs.Common.{Context, Letter, Pattern, MessageId, Probed, Found, Request, IsMessage, TellsOf, WouldGet, is_revoked, group_at, members_of, or_empty, find_group, Follows, IsOfGroup, RankView, State, eq-eqb, is_some, lookup, get, index_map_len, false≢true, history_of, count_before}
 use Rattle.ulfm_rank.proofs.InStep.{count_small, in_step_open}
-use Rattle.ulfm_rank.proofs.Made.{found_group}
+use Rattle.ulfm_log.proofs.Made.{found_group}
 use Rattle.ulfm_rank.proofs.Probing.{finds_none, never_none, gets, may_starve, unrevoked}
 use Rattle.ulfm_rank.proofs.Found.{in_step_probed, found_message}
 use Rattle.ulfm_rank.proofs.Requested.{sender_found}

@@ -1,7 +1,7 @@
 use Rattle.std.proofs.Common.{◌≡◌, ℕ, false, true, ap, sym, subst, refl, ◌∙◌, Option, Some, nat_eq, inr, cond, eqb}
 use Rattle.ulfm_rank.proofs.Common.{Context, MessageId, Probed, Found, Request, TellsOf, WouldGet, is_revoked, group_at, members_of, or_empty, find_group, IsOfGroup, RankView, State, eq-eqb, get}
 use Rattle.ulfm_rank.proofs.InStep.{in_step_open}
-use Rattle.ulfm_rank.proofs.Made.{found_group}
+use Rattle.ulfm_log.proofs.Made.{found_group}
 use Rattle.ulfm_rank.proofs.Probing.{finds_none, gets, unrevoked}
 use Rattle.ulfm_rank.proofs.Found.{in_step_probed}
 use Rattle.ulfm_rank.proofs.Requested.{sender_found}

@@ -1,4 +1,4 @@
-use Rattle.ulfm_rank.proofs.Sifted.{quiet, silent}
+use Rattle.ulfm_log.proofs.Sifted.{quiet, silent}
 use Rattle.std.proofs.Common.{◌≡◌, false, [], ◌∷◌, ◌++◌, length, ap, sym, subst, arith, refl, ◌∙◌, nat_eq}
 use Rattle.ulfm_rank.proofs.Common.{Context, Pattern, Posted, Request, IsRequest, is_revoked, Follows, state_of, IsOfGroup, RankView, Adds, is_some, lookup, get, index_map_len, IsReceive}
 use Rattle.ulfm_rank.specs.Checks.{receive_checks, Passes}

@@ -1,7 +1,7 @@
-use Rattle.ulfm_rank.proofs.Sifted.{quiet, silent}
+use Rattle.ulfm_log.proofs.Sifted.{quiet, silent}
 use Rattle.std.proofs.Common.{◌++◌, ◌∷◌, [], refl, ap, ◌∙◌, arith}
 use Rattle.ulfm_rank.proofs.Common.{Letter, Sent, State, RankView}
-use Rattle.ulfm_rank.proofs.Held.{marks-grown}
+use Rattle.ulfm_log.proofs.Held.{marks-grown}
 use Rattle.ulfm_rank.proofs.Following.{follows_sent}
 use Rattle.ulfm_rank.proofs.Seen.{stop_places_few, state_logged}
 use Rattle.ulfm_rank.proofs.rank.Rank.isend.Goals as goal

@@ -1,7 +1,7 @@
 use Rattle.std.proofs.Common.{◌∙◌, ap}
 use Rattle.ulfm_rank.proofs.Common.{agreements, listed_of, RankView}
-use Rattle.ulfm_rank.proofs.Sifted.{listed_sifted}
-use Rattle.ulfm_rank.specs.inside.Decisive.{is_current}
+use Rattle.ulfm_log.proofs.Sifted.{listed_sifted}
+use Rattle.ulfm_log.specs.Decisive.{is_current}
 use Rattle.ulfm_rank.proofs.rank.Rank.listed.Goals as goal
 
 pub returns-clause-entries : goal.returns-clause-entries

@@ -1,6 +1,6 @@
 use Rattle.std.proofs.Common.{subst}
 use Rattle.ulfm_rank.proofs.Common.{RankView, IsState, IsPaired}
-use Rattle.ulfm_rank.proofs.Held.{state-sound}
+use Rattle.ulfm_log.proofs.Held.{state-sound}
 use Rattle.ulfm_rank.proofs.Pairings.{paired}
 use Rattle.ulfm_rank.proofs.rank.Rank.me.Goals as goal
 

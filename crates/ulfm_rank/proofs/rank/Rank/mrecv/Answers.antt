@@ -1,4 +1,4 @@
-use Rattle.ulfm_rank.proofs.Sifted.{quiet, silent}
+use Rattle.ulfm_log.proofs.Sifted.{quiet, silent}
 use Rattle.std.proofs.Common.{◌≡◌, ℕ, [], ◌∷◌, ◌++◌, refl, ap, sym, subst, arith, ◌∙◌, false, nat_eq, Some}
 use Rattle.ulfm_rank.proofs.Common.{Pattern, Request, RankView, Received, IsMessage, IsMessageAnswer, IsNoMessage, is_some, is_stopped, get, index_map_len}
 use Rattle.ulfm_rank.proofs.Answered.{is_message, no_message}

@@ -1,8 +1,8 @@
 use Rattle.std.proofs.Common.{rules, ◌≡◌, ap, arith, length, not, sym, subst, ◌∙◌, None}
 use Rattle.std.proofs.lemmas.List.{get_or_default}
 use Rattle.ulfm_rank.proofs.Common.{Knows, State, RankView, is_some}
-use Rattle.ulfm_rank.proofs.Entries.{entered_shrinks, entered_here}
-use Rattle.ulfm_rank.proofs.Grouped.{members_found}
+use Rattle.ulfm_log.proofs.Entries.{entered_shrinks, entered_here}
+use Rattle.ulfm_log.proofs.Grouped.{members_found}
 use Rattle.ulfm_rank.proofs.Known.{knows_gone}
 use Rattle.ulfm_rank.proofs.rank.Rank.proposal_on.Goals as goal
 

@@ -1,7 +1,7 @@
-use Rattle.ulfm_rank.proofs.Sifted.{quiet, silent}
+use Rattle.ulfm_log.proofs.Sifted.{quiet, silent}
 use Rattle.std.proofs.Common.{◌≡◌, ◌++◌, ◌∷◌, [], ℕ, false, ap, sym, ◌∙◌, arith, nat_eq}
 use Rattle.ulfm_rank.proofs.Common.{Revoked, is_revoked, is_gone, has, State, RankView, get}
-use Rattle.ulfm_rank.proofs.Held.{marks-grown}
+use Rattle.ulfm_log.proofs.Held.{marks-grown}
 use Rattle.ulfm_rank.proofs.Following.{follows_revoked}
 use Rattle.ulfm_rank.proofs.Seen.{stop_places_few, state_logged}
 use Rattle.ulfm_rank.proofs.Known.{knows_gone}

@@ -1,4 +1,4 @@
-use Rattle.ulfm_rank.proofs.Sifted.{quiet, silent}
+use Rattle.ulfm_log.proofs.Sifted.{quiet, silent}
 use Rattle.std.proofs.Common.{◌≡◌, refl, arith}
 use Rattle.ulfm_rank.proofs.Common.{stop_places}
 use Rattle.ulfm_rank.proofs.Following.{follows_stopped}

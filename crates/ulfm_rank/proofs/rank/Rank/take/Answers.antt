@@ -1,7 +1,7 @@
-use Rattle.ulfm_rank.proofs.Sifted.{told_more}
+use Rattle.ulfm_log.proofs.Sifted.{told_more}
 use Rattle.std.proofs.Common.{◌≡◌, ◌+◌, [], ◌∷◌, ◌++◌, refl, ap, sym, subst, arith, ◌∙◌, nat_eq, IsTrue, length, nat_lt, ◌&&◌, vec_len, vec_capacity}
 use Rattle.ulfm_rank.proofs.Common.{Took, AllGrow, RankView, owed_by_item, get, index_map_len, stop_places, revoked_before}
-use Rattle.ulfm_rank.proofs.Held.{marks-grown}
+use Rattle.ulfm_log.proofs.Held.{marks-grown}
 use Rattle.ulfm_rank.proofs.InStep.{count_small, in_step_open}
 use Rattle.ulfm_rank.proofs.Known.{marked_before, knows_gone}
 use Rattle.ulfm_rank.proofs.Whole.{follows_took, room_of}

@@ -1,4 +1,4 @@
-use Rattle.ulfm_rank.proofs.Sifted.{quiet, silent}
+use Rattle.ulfm_log.proofs.Sifted.{quiet, silent}
 use Rattle.std.proofs.Common.{◌≡◌, ℕ, true, false, refl, ap, sym, subst, arith, ◌∙◌, [], ◌∷◌, ◌++◌, nat_eq}
 use Rattle.ulfm_rank.proofs.Common.{Pattern, RankView, Released, IsTestAnswer, IsRequest, IsNoRequest, is_some, is_stopped, is_waiting, get, index_map_len}
 use Rattle.ulfm_rank.proofs.Answered.{is_request, no_request}

@@ -1,6 +1,6 @@
 use Rattle.std.proofs.Common.{◌≡◌, ℕ, arith, refl, ap, sym, subst, ◌∙◌}
 use Rattle.ulfm_rank.proofs.Signed.{front_signed}
-use Rattle.ulfm_rank.proofs.States.{comes-back}
+use Rattle.ulfm_log.proofs.States.{comes-back}
 use Rattle.ulfm_run.proofs.Common.{Player, with_rank, ComesFrom, State, returned}
 use Rattle.ulfm_run.proofs.Working.{carried}
 use Rattle.ulfm_run.proofs.Joining.{moves-pushed, moves-returned}

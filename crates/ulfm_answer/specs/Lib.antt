@@ -1,0 +1,4 @@
+pub mod Report
+pub mod Trace
+pub mod Reacting
+pub mod inside

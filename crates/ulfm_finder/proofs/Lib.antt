@@ -1,0 +1,5 @@
+pub mod Ascii
+pub mod Writable
+pub mod Worded
+pub mod Judging
+pub mod Open

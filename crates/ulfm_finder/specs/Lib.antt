@@ -1,0 +1,5 @@
+pub mod Codebook
+pub mod Outcomes
+pub mod Goals
+pub mod Showing
+pub mod Unmet

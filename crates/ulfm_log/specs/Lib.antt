@@ -1,0 +1,11 @@
+pub mod Log
+pub mod Facts
+pub mod Communicators
+pub mod Owed
+pub mod State
+pub mod Proposal
+pub mod Entrances
+pub mod KeptLog
+pub mod Outboxes
+pub mod Decisive
+pub mod inside

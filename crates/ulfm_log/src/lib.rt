@@ -1,0 +1,47 @@
+//! What a rank notes, and what follows from it but for receives: its communicators, its shrinks and agreements, and what it owes to each
+//! other rank.
+//!
+//! A [`Log`] has an [`Entry`] for all that a rank did and took. Beside it stand [`Communicators`], the [`Row`]s that tell of shrinks and
+//! of the last agreements, and the [`Outboxes`]; `ulfm_rank` has one of each for a rank, and keeps them in step:
+//!
+//!     announce(&mut outboxes, me, known, members, entrance);
+//!     log.push_reserved(Entry::Entered(entrance));
+//!
+//! Read specs/Log.antt first (what is read off a log), then Facts.antt, Communicators.antt, Owed.antt and Proposal.antt.
+#![tactic(auto)]
+
+mod adopting;
+mod block;
+mod communicators;
+mod decisive;
+mod entrances;
+mod entry;
+mod facts;
+mod forwarding;
+mod history;
+mod log;
+mod message;
+mod noted_answer;
+mod outbox;
+mod outboxes;
+mod proposal;
+mod rounds;
+mod row;
+mod word;
+
+pub use adopting::is_foreign;
+pub use block::{Block, HeldDecision};
+pub use communicators::Communicators;
+pub use decisive::{forget, hear, make_place, tell};
+pub use entrances::{has_adopted, is_adopted, listed};
+pub use entry::{Cancel, Comm, Entry, Probed, Status, TestAnswer};
+pub use facts::{is_gone_item, is_revoked, revokes, tells_gone};
+pub use forwarding::{announce, forward, pass_on};
+pub use log::Log;
+pub use message::MessageId;
+pub use noted_answer::NotedAnswer;
+pub use outboxes::Outboxes;
+pub use proposal::proposed;
+pub use rounds::Rounds;
+pub use row::Row;
+pub use word::Word;

@@ -1,6 +1,0 @@
-use Rattle.std.proofs.Common.{drop}
-use Rattle.ulfm_places.specs.inside.Parts.{GoesOn}
-use Rattle.ulfm_places.proofs.listing.list_part.Given as goal
-
-abbrev pub invariant-loop-place : goal.invariant-loop-place
-invariant-loop-place g l = GoesOn l.job l.limit l.places l.listed.items (drop l.place-index l.places)

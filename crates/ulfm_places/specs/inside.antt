@@ -1,2 +1,0 @@
--- What private functions and proofs cite of the lists of places.
-pub mod Parts

@@ -1,6 +1,0 @@
-use Rattle.ulfm_rank.proofs.Common.{has, item_of_word}
-use Rattle.ulfm_rank.proofs.Slots.{Leaving}
-use Rattle.ulfm_rank.proofs.outboxes.Outboxes.put_each.Given as goal
-
-abbrev pub invariant-loop-d : goal.invariant-loop-d
-invariant-loop-d l = Leaving l.initial.self-inside.slots.items l.self-inside.slots.items l.d (item_of_word l.word) (has l.to)

@@ -1,2 +1,0 @@
--- What private functions cite of a schedule in words.
-pub mod Told
