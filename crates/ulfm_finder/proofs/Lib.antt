@@ -3,3 +3,4 @@ pub mod Writable
 pub mod Worded
 pub mod Judging
 pub mod Open
+pub mod Together

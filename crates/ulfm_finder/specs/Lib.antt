@@ -2,4 +2,6 @@ pub mod Codebook
 pub mod Outcomes
 pub mod Goals
 pub mod Showing
+pub mod Schedule
+pub mod Told
 pub mod Unmet

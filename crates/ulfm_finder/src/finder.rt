@@ -1,16 +1,16 @@
 //! Who finds outcomes.
 ghost use Rattle.std.specs.Prelude.{IfOk};
 ghost use Rattle.ulfm_finder.specs.Outcomes.{IsList};
-ghost use Rattle.ulfm_finder.specs.Showing.{IsShowing};
+ghost use Rattle.ulfm_finder.specs.Told.{IsLook};
 
 use std::alloc::Global;
 use ulfm_base::OutOfMemory;
 use ulfm_found::Goals;
 use ulfm_job::Job;
-use ulfm_reach::{Reach, Sought, Watch};
-use ulfm_world::World;
+use ulfm_lists::Told;
+use ulfm_reach::{Reach, Watch};
 
-/// Finds what the steps of a job may be answered, and schedules that show answers. `ulfm_outcomes` has the one of the program. What is
+/// Finds what the steps of a job may be answered, and schedules that show answers, in words. `ulfm_outcomes` has the one of the program. What is
 /// replied rests on these two contracts alone, so it is proved beside that one.
 pub trait Finder {
     /// What each step of a job may be answered, and which steps may be left open for ever, over every schedule. Or that worlds of more
@@ -28,13 +28,14 @@ pub trait Finder {
     ) -> Result<Reach, OutOfMemory>
         ensures { IfOk result (λ reach. IsList job.now limit reach) };
 
-    /// A schedule of a job in which all of these hold, or that no schedule of it is there in which they do; or that there are more worlds
-    /// than the limit. In brief, without any one of its events the others aren't such a schedule. `watch` is told how far it is.
+    /// A schedule of a job in which all of these hold, in words: its events, the trace that it leaves, and what steps wait for that are to
+    /// stand open for ever. Or that there are more worlds than the limit; nothing where no schedule of the job has all of these. In brief,
+    /// without any one of its events the others aren't such a schedule. `watch` is told how far it is.
     ///
     /// # Errors
     ///
     /// `OutOfMemory` where a growth was refused.
-    fn find_schedule<W: Watch>(
+    fn show<W: Watch>(
         &self,
         alloc: Global,
         job: &Job,
@@ -42,6 +43,6 @@ pub trait Finder {
         is_brief: bool,
         limit: usize,
         watch: &mut W,
-    ) -> Result<Sought<World>, OutOfMemory>
-        ensures { IfOk result (λ sought. IsShowing job.now goals.now is_brief limit sought) };
+    ) -> Result<Option<Told>, OutOfMemory>
+        ensures { IfOk result (IsLook job.now goals.now is_brief limit) };
 }

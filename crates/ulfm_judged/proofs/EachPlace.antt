@@ -30,7 +30,8 @@ use Rattle.ulfm_judged.specs.declared.show_each.LookAt.{LookAt}
 use Rattle.ulfm_lists.specs.declared.told.Told.{Told as Kept}
 use Rattle.ulfm_lists.specs.declared.told.Told.TheVariants as kept
 use Rattle.ulfm_judged.specs.inside.Judging.{AreListedOf, IsFirstLook, IsListedOf, IsLookAtText, IsToldAtText, look_at_status, status_past, text_past}
-use Rattle.ulfm_judged.specs.inside.Looking.{IsFirstRow, IsLook, look_status, row_status}
+use Rattle.ulfm_finder.specs.Told.{IsLook}
+use Rattle.ulfm_judged.specs.inside.Looking.{IsFirstRow, look_status, row_status}
 use Rattle.ulfm_lists.specs.Told.{told_view}
 
 -- what is asked for at a place has the job of the place

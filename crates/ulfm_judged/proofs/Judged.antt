@@ -11,6 +11,7 @@ use Rattle.ulfm_json.specs.declared.form.Form.{Form}
 use Rattle.ulfm_replies.specs.Stopped.{Asked, IsAskedAt}
 use Rattle.ulfm_replies.specs.declared.command.ListOptions.{ListOptions}
 use Rattle.ulfm_found.specs.Goals.{AreOfClauses}
+use Rattle.ulfm_finder.specs.Told.{IsLook}
 use Rattle.ulfm_finder.specs.Unmet.{MeetsExpected}
 use Rattle.ulfm_found.specs.declared.goals.Goals.{Goals}
 use Rattle.ulfm_judged.specs.Outcomes.{IsJudged, IsShowReply, NeverComes, NoneComes, goals_asked, nowhere, shown, together, too_many, unsearched}
@@ -18,7 +19,7 @@ use Rattle.ulfm_lists.specs.Told.{many, row_in, told_in}
 use Rattle.ulfm_judged.specs.declared.listed.FirstRow.{FirstRow}
 use Rattle.ulfm_lists.specs.declared.told.Told.{Told as Kept}
 use Rattle.ulfm_lists.specs.declared.told.Told.TheVariants as kept
-use Rattle.ulfm_judged.specs.inside.Looking.{IsFirstRow, IsLook, IsLookText, look_status, row_status}
+use Rattle.ulfm_judged.specs.inside.Looking.{IsFirstRow, IsLookText, look_status, row_status}
 use Rattle.ulfm_lists.specs.Told.{told_view}
 
 -- the reply to what came of a search

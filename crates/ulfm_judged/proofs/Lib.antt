@@ -6,4 +6,3 @@ pub mod Unfound
 pub mod Statuses
 pub mod Joining
 pub mod Parting
-pub mod InWords

@@ -6,6 +6,7 @@ use Rattle.ulfm_job.specs.Job.{step_count}
 use Rattle.ulfm_stops.specs.Places.{places_of}
 use Rattle.ulfm_stops.specs.declared.place.Place.{Place}
 use Rattle.ulfm_stops.specs.declared.place.Place.TheVariants.{Nowhere}
+use Rattle.ulfm_finder.specs.Told.{IsTold}
 use Rattle.ulfm_finder.specs.Unmet.{MeetsExpected}
 use Rattle.ulfm_found.specs.Unmet.{IsUnmet}
 use Rattle.ulfm_found.specs.declared.goals.Goals.{Goals}
@@ -20,7 +21,7 @@ use Rattle.ulfm_replies.specs.Failure.{out_of_memory_in}
 use Rattle.ulfm_replies.specs.Replies.{refused_in}
 use Rattle.ulfm_replies.specs.Stopped.{Asked, IsAskedAt, IsRefusal, asked_at}
 use Rattle.ulfm_replies.specs.declared.command.ListOptions.{ListOptions}
-use Rattle.ulfm_judged.specs.Outcomes.{AreOfRow, IsFirstUnmet, IsTold, NoneComes, list_status}
+use Rattle.ulfm_judged.specs.Outcomes.{AreOfRow, IsFirstUnmet, NoneComes, list_status}
 use Rattle.ulfm_lists.specs.Told.{Told, many, schedule}
 use Rattle.ulfm_lists.specs.ToldAt.{unmet_at, row_at, more_at}
 

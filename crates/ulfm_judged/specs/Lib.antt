@@ -1,4 +1,3 @@
-pub mod Schedule
 pub mod Outcomes
 pub mod Lists
 pub mod EachPlace

@@ -3,15 +3,12 @@ use Rattle.std.specs.Prelude.{◌≡◌, ℕ, Bool, true, List, ◌++◌, Some, 
 use Rattle.ulfm_job.specs.declared.clause.Clause.{Clause}
 use Rattle.ulfm_job.specs.Job.{JobView}
 use Rattle.ulfm_reader.specs.Goals.{goals_of}
-use Rattle.ulfm_world.specs.World.{World}
 use Rattle.ulfm_reach.specs.declared.reach.Reach.TheVariants.{All, More}
 use Rattle.ulfm_reach.specs.declared.reached.Reached.{Reached}
-use Rattle.ulfm_reach.specs.declared.sought.Sought.TheVariants as sought
-use Rattle.ulfm_finder.specs.Goals.{IsPossible, IsSchedule}
+use Rattle.ulfm_finder.specs.Goals.{IsPossible}
 use Rattle.ulfm_found.specs.Goals.{AreOfClauses}
 use Rattle.ulfm_finder.specs.Outcomes.{IsList}
-use Rattle.ulfm_judged.specs.Schedule.{IsScheduleText}
-use Rattle.ulfm_finder.specs.Showing.{IsBriefSchedule, IsShowing}
+use Rattle.ulfm_finder.specs.Told.{IsTold}
 use Rattle.ulfm_found.specs.Text.{some_never_ends}
 use Rattle.ulfm_finder.specs.Unmet.{MeetsExpected}
 use Rattle.ulfm_found.specs.Unmet.{IsUnmet, first_unmet}
@@ -30,12 +27,6 @@ use Rattle.ulfm_lists.specs.Told.{Told, told_in, unmet_in, row_in, many, schedul
 abbrev pub nowhere_in : Form → List ℕ
 nowhere_in Words = codes "no schedule\n"
 nowhere_in Json = codes "{\"schedule\":null}\n"
-
--- a schedule of the job shows these goals, in brief if it is to be, and this is its text; or there are more states than the limit
-abbrev pub IsTold : JobView → Goals → Bool → ℕ → Told → Type 0
-IsTold job goals is_brief limit (schedule text) = (numbers : List ℕ) × (world : World) × IsSchedule job goals numbers world
-    × (is_brief ≡ true → IsBriefSchedule job goals numbers) × IsScheduleText job goals numbers world text
-IsTold job goals is_brief limit (many most) = (most ≡ limit) × IsShowing job goals is_brief limit sought.More
 
 -- these are the rows of a list of all outcomes of the job
 abbrev pub HasList : JobView → ℕ → List (List ℕ) → Type 0

@@ -9,6 +9,7 @@ use Rattle.ulfm_stops.specs.declared.place.Place.{Place}
 use Rattle.ulfm_stops.specs.declared.place.Place.TheVariants.{Nowhere, One, Two}
 use Rattle.ulfm_stops.specs.declared.stop.Stop.{Stop}
 use Rattle.ulfm_finder.specs.Goals.{IsPossible}
+use Rattle.ulfm_finder.specs.Told.{IsTold}
 use Rattle.ulfm_found.specs.Goals.{AreOfClauses}
 use Rattle.ulfm_found.specs.declared.goals.Goals.{Goals}
 use Rattle.ulfm_json.specs.declared.form.Form.{Form}
@@ -16,7 +17,7 @@ use Rattle.ulfm_replies.specs.Failure.{out_of_memory_in}
 use Rattle.ulfm_replies.specs.Replies.{refused_in}
 use Rattle.ulfm_replies.specs.Stopped.{Asked, IsAskedAt, IsRefusal, clauses_beside}
 use Rattle.ulfm_replies.specs.declared.command.ListOptions.{ListOptions}
-use Rattle.ulfm_judged.specs.Outcomes.{IsTold, goals_asked, no_goal, nowhere_in}
+use Rattle.ulfm_judged.specs.Outcomes.{goals_asked, no_goal, nowhere_in}
 use Rattle.ulfm_lists.specs.Told.{many, schedule}
 use Rattle.ulfm_lists.specs.ToldAt.{told_at}
 

@@ -2,4 +2,3 @@
 pub mod Looking
 pub mod Judging
 pub mod Parts
-pub mod Telling

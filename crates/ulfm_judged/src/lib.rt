@@ -6,8 +6,8 @@
 //! Each place is explored by itself. The places are parted into as many parts as there are threads, and what comes out is the same
 //! whatever their number.
 //!
-//! Read specs/Outcomes.antt first (the reply to one job), then Lists.antt, EachPlace.antt and ShowEach.antt (wherever ranks stop),
-//! which ListReply.antt puts together.
+//! Read specs/Outcomes.antt first (the reply to one job, over `IsTold` of `ulfm_finder`), then Lists.antt, EachPlace.antt and
+//! ShowEach.antt (wherever ranks stop), which ListReply.antt puts together.
 #![tactic(auto)]
 
 mod each_place;
@@ -16,7 +16,6 @@ mod listing;
 mod lists;
 mod looking;
 mod onlooker;
-mod schedule;
 mod show_each;
 mod shown;
 mod threads;
@@ -25,6 +24,5 @@ mod unwanted;
 pub use listed::list_reply;
 pub use lists::Lists;
 pub use onlooker::{Onlooker, Seen};
-pub use schedule::schedule_text;
 pub use shown::NO_GOAL;
 pub use threads::list_places;

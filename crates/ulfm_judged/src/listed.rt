@@ -15,7 +15,7 @@ ghost use Rattle.ulfm_judged.specs.inside.Looking.{IsFirstRow, row_status};
 ghost use Rattle.ulfm_lists.specs.Told.{told_view};
 
 use crate::each_place::each_place_reply;
-use crate::looking::{look_for, look_for_row};
+use crate::looking::look_for_row;
 use crate::onlooker::Onlooker;
 use crate::show_each::show_each_reply;
 use crate::shown::show_reply;
@@ -187,7 +187,7 @@ fn unmet_reply<F: Finder, W: Watch>(
     let limit = options.limit as usize;
     let goals = unmet.goals(alloc, job)?;
     let mut text = list;
-    match look_for(finder, alloc, job, &goals, options.is_brief, limit, watch)? {
+    match finder.show(alloc, job, &goals, options.is_brief, limit, watch)? {
         Some(told) => {
             push_unmet(&mut text, form, unmet, &told)?;
             Ok(Reply {

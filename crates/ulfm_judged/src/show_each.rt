@@ -8,7 +8,6 @@ ghost use Rattle.ulfm_lists.specs.Told.{told_view};
 ghost use Rattle.ulfm_replies.specs.Stopped.{IsAskedAt, asked_view};
 ghost use Rattle.ulfm_stops.specs.declared.place.Place.TheVariants.{Nowhere};
 
-use crate::looking::look_for;
 use crate::onlooker::{Onlooker, Seen};
 use crate::shown::{no_goal, nowhere, status_of};
 use std::alloc::{AllocError, Global};
@@ -133,15 +132,7 @@ fn look_at<F: Finder, L: Onlooker>(
     let goals = goals_at(alloc, place, job, answers)?;
     let limit = options.limit as usize;
     let watch = &mut Seen::of(onlooker, place);
-    let look = look_for(
-        finder,
-        alloc,
-        &stopped,
-        &goals,
-        options.is_brief,
-        limit,
-        watch,
-    )?;
+    let look = finder.show(alloc, &stopped, &goals, options.is_brief, limit, watch)?;
     Ok(look)
 }
 

@@ -5,7 +5,6 @@ ghost use Rattle.ulfm_judged.specs.inside.Looking.{IsLookText, look_status};
 ghost use Rattle.ulfm_lists.specs.Told.{told_view};
 ghost use Rattle.ulfm_replies.specs.Stopped.{IsAskedAt, asked_view};
 
-use crate::looking::look_for;
 use std::alloc::{AllocError, Global};
 use ulfm_draw::{Style, drawn};
 use ulfm_finder::Finder;
@@ -57,15 +56,7 @@ fn sought_reply<F: Finder, W: Watch>(
     };
     let goals = Goals::of(alloc, answers.as_slice())?;
     let limit = options.limit as usize;
-    let look = look_for(
-        finder,
-        alloc,
-        &asked.job,
-        &goals,
-        options.is_brief,
-        limit,
-        watch,
-    )?;
+    let look = finder.show(alloc, &asked.job, &goals, options.is_brief, limit, watch)?;
     look_reply(alloc, form, options.drawn, &look)
 }
 

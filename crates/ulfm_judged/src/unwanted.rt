@@ -2,19 +2,19 @@
 ghost use Rattle.std.specs.Prelude.{◌≡◌, IfOk, Some, string_bytes};
 ghost use Rattle.std.specs.Option.{option_or};
 ghost use Rattle.ulfm_finder.specs.Goals.{IsPossible};
+ghost use Rattle.ulfm_finder.specs.Told.{IsTold};
 ghost use Rattle.ulfm_finder.specs.Unmet.{Judges};
 ghost use Rattle.ulfm_stops.specs.Place.{IsPlaceOf};
 ghost use Rattle.ulfm_stops.specs.declared.place.Place.TheVariants.{Two};
 ghost use Rattle.ulfm_replies.specs.Stopped.{asked_at, asked_view};
 ghost use Rattle.ulfm_judged.specs.EachPlace.{IsToldAt, filed, places_in};
 ghost use Rattle.ulfm_lists.specs.ToldAt.{row_at, unmet_at};
-ghost use Rattle.ulfm_judged.specs.Outcomes.{HasList, IsFirstUnmet, IsTold};
+ghost use Rattle.ulfm_judged.specs.Outcomes.{HasList, IsFirstUnmet};
 ghost use Rattle.ulfm_judged.specs.inside.Judging.{AreListedOf, IsFirstUnwanted, IsListedOf, IsStopped, IsUnwanted, is_found};
 ghost use Rattle.ulfm_judged.specs.inside.Looking.{row_status};
 ghost use Rattle.ulfm_lists.specs.Told.{told_view};
 
 use crate::listed::{FirstRow, first_row, row_status};
-use crate::looking::look_for;
 use crate::onlooker::{Onlooker, Seen};
 use std::alloc::{AllocError, Global};
 use ulfm_finder::{Finder, first_unmet};
@@ -182,7 +182,7 @@ fn told_of<F: Finder, W: Watch>(
     ensures { IfOk result (λ told. IsTold job.now goals.now options.is_brief options.limit (told_view told)) }
 {
     let limit = options.limit as usize;
-    match look_for(finder, alloc, job, goals, options.is_brief, limit, watch)? {
+    match finder.show(alloc, job, goals, options.is_brief, limit, watch)? {
         Some(told) => Ok(told),
         None => unreachable!(),
     }

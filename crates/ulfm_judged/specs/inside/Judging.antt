@@ -21,7 +21,8 @@ use Rattle.ulfm_judged.specs.ShowEach.{AreGoalsAt, IsNowhereAt}
 use Rattle.ulfm_lists.specs.ToldAt.{told_at}
 use Rattle.ulfm_judged.specs.declared.show_each.LookAt.{LookAt}
 use Rattle.ulfm_lists.specs.declared.told.Told.{Told as Kept}
-use Rattle.ulfm_judged.specs.inside.Looking.{IsLook, look_status}
+use Rattle.ulfm_finder.specs.Told.{IsLook}
+use Rattle.ulfm_judged.specs.inside.Looking.{look_status}
 use Rattle.ulfm_lists.specs.Told.{told_view}
 use Rattle.ulfm_found.specs.declared.goals.Goals.{Goals}
 use Rattle.ulfm_draw.specs.declared.style.Style.{Style}

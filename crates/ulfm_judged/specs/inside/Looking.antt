@@ -2,22 +2,16 @@
 use Rattle.std.specs.Prelude.{◌≡◌, ℕ, Bool, List, Option, Some, None, slice_get, take}
 use Rattle.ulfm_job.specs.declared.clause.Clause.{Clause}
 use Rattle.ulfm_job.specs.Job.{JobView}
-use Rattle.ulfm_finder.specs.Goals.{IsPossible}
+use Rattle.ulfm_finder.specs.Told.{IsLook}
 use Rattle.ulfm_found.specs.declared.goals.Goals.{Goals}
 use Rattle.ulfm_draw.specs.declared.style.Style.{Style}
 use Rattle.ulfm_json.specs.declared.form.Form.{Form}
-use Rattle.ulfm_judged.specs.Outcomes.{AreOfRow, IsTold, NeverComes, NoneComes, nowhere_in}
+use Rattle.ulfm_judged.specs.Outcomes.{AreOfRow, NeverComes, NoneComes, nowhere_in}
 use Rattle.ulfm_lists.specs.Told.{Told, many, schedule, told_in}
 use Rattle.ulfm_judged.specs.declared.listed.FirstRow.{FirstRow}
 use Rattle.ulfm_lists.specs.declared.told.Told.{Told as Kept}
-use Rattle.ulfm_lists.specs.Told.{told_view}
 
--- a search for these goals came to nothing, since no schedule shows them, or to what is told
-abbrev pub IsLook : JobView → Goals → Bool → ℕ → Option Kept → Type 0
-IsLook job goals is_brief limit None = ¬ IsPossible job goals
-IsLook job goals is_brief limit (Some told) = IsTold job goals is_brief limit (told_view told)
-
--- the same for the answers of a row: none for one that isn't looked at
+-- what came of a search for the answers of a row: none for one that isn't looked at
 abbrev pub IsLookForRow : JobView → List Clause → Bool → ℕ → Option Kept → Type 0
 IsLookForRow job row is_brief limit None = NeverComes job row
 IsLookForRow job row is_brief limit (Some told) = (goals : Goals) × AreOfRow job row goals × IsLook job goals is_brief limit (Some told)

@@ -1,6 +1,6 @@
 use Rattle.std.proofs.Common.{subst}
 use Rattle.ulfm_judged.specs.Outcomes.{unmet}
-use Rattle.ulfm_judged.specs.inside.Looking.{IsLook}
+use Rattle.ulfm_finder.specs.Told.{IsLook}
 use Rattle.ulfm_lists.specs.Told.{told_view}
 use Rattle.ulfm_judged.proofs.listed.unmet_reply.Goals as goal
 
