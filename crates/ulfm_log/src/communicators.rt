@@ -1,10 +1,12 @@
 //! The communicators of one rank (MPI 4.0, 7.4).
 ghost use Rattle.std.specs.Prelude.{◌≡◌, ◌++◌, ◌∷◌, [], Some, None, is_some, false, IfOk, MatchOption};
-ghost use Rattle.ulfm_log.specs.Communicators.{find_group};
+ghost use Rattle.ulfm_base.specs.Context.{shrink_of};
+ghost use Rattle.ulfm_base.specs.declared.topic.Purpose.TheVariants.{Shrink};
+ghost use Rattle.ulfm_log.specs.Communicators.{decided_comm, find_group};
 
 use std::alloc::Global;
 use std::marker::Model;
-use ulfm_base::{CONTEXTS, Context, Group, OutOfMemory};
+use ulfm_base::{CONTEXTS, Context, Decision, Group, OutOfMemory, Purpose};
 
 /// Each communicator's context with its group, in the order in which they were made. There is room for one of each
 /// context from the start.
@@ -57,6 +59,22 @@ impl Communicators {
         ensures { self.new ≡ self.old ++ (context.number, group) ∷ [] }
     {
         self.made.push_reserved((context, group));
+    }
+
+    /// Adds the communicator that a decision makes: a shrink makes one, which isn't there yet, and an agreement none.
+    pub fn adopt(&mut self, decision: &Decision)
+        requires { decision.now.topic.purpose ≡ Shrink → is_some (find_group (shrink_of decision.now.topic.context.number) self.old) ≡ false }
+        ensures { self.new ≡ self.old ++ decided_comm decision.now.topic.purpose decision.now.topic.context.number decision.now.fresh }
+    {
+        match decision.topic.purpose {
+            Purpose::Shrink => {
+                let context = Context {
+                    number: 2 * decision.topic.context.number + 2,
+                };
+                self.add(context, decision.fresh.copied());
+            }
+            Purpose::Agree { .. } => {}
+        }
     }
 
     /// The group of a context's communicator, where it was made.

@@ -1,8 +1,8 @@
 -- Which decision is adopted, and the communicator that it makes.
 use Rattle.std.proofs.Common.{◌≡◌, ℕ, ◌<◌, Bool, true, false, cond, List, [], ◌∷◌, ◌++◌, refl, ap, sym, subst, ◌∙◌, arith, Some, None, ◌||◌, ◌==◌, ◌&&◌, not, is_some, All}
 use Rattle.std.proofs.Math.Bool.{and-true, and-false}
-use Rattle.ulfm_base.specs.Topic.{is_agreement, is_purpose}
-use Rattle.ulfm_rank.proofs.Common.{Context, Purpose, Shrink, Agree, shrink_topic, decided_comm, Decision, dup_of, shrink_of, numbers_from, has, Entry, Duplicated, Adopted, false≢true, eqb-true, eqb-false, eq-eqb, ne_eqb, All-append, All-filter, All-nil, find_group, copy_of, made_by, group_of, HasCommunicators, adopts, has_adopted}
+use Rattle.ulfm_base.specs.Topic.{is_purpose}
+use Rattle.ulfm_rank.proofs.Common.{Context, Purpose, Shrink, Agree, shrink_topic, decided_comm, Decision, dup_of, shrink_of, numbers_from, has, Entry, Duplicated, Adopted, eqb-true, eqb-false, eq-eqb, ne_eqb, All-append, All-filter, All-nil, find_group, copy_of, made_by, group_of, HasCommunicators, adopts, has_adopted}
 use Rattle.ulfm_base.specs.declared.error.CallError.TheVariants.{NoComm, AlreadyMade, NotEntered, NotMember, OutOfMemory, Stopped}
 use Rattle.ulfm_rank.specs.Checks.{Fails}
 use Rattle.ulfm_log.proofs.Gather.{gathered_all, any-push}
@@ -68,11 +68,6 @@ made_adopted n log context =
     gathered_all (by_found made_by) (λ l found. is_some (find_group (shrink_of c) found) ≡ has_adopted l t)
     (λ l found e h. found-append (shrink_of c) found (made_by found e) ∙ ap (λ b. b || is_some (find_group (shrink_of c) (made_by found e))) h ∙ ap (λ b. has_adopted l t || b) (made_shrunk context found e) ∙ sym (any-push (adopts t) l e))
     ((0, numbers_from 0 n) ∷ []) (ap (λ b. is_some (cond b (Some (numbers_from 0 n)) None)) (ne_eqb 0 (shrink_of c) (λ e. omega (arith, e)))) log
-
--- an agreement makes no communicator
-pub none_agreed : (purpose : Purpose) (c : ℕ) (fresh : List ℕ) → is_agreement purpose ≡ true → decided_comm purpose c fresh ≡ []
-none_agreed Shrink c fresh h = absurd (false≢true h)
-none_agreed (Agree round) c fresh h = refl
 
 all_decided : (P : List ℕ → Type 0) (purpose : Purpose) (c : ℕ) (fresh : List ℕ) → P fresh → All (λ (comm : ℕ × List ℕ). P comm.1) (decided_comm purpose c fresh)
 all_decided P Shrink c fresh p = All-one (λ (comm : ℕ × List ℕ). P comm.1) (shrink_of c, fresh) p

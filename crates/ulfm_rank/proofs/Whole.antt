@@ -120,7 +120,3 @@ room_of true x y b h = within (nat_lt (x + 1) y) refl h
     within true e h = grind (arith, nat_tests)
     within false e h = cc
 room_of false x y b h = cc
-
-pub at_most_one : (b : Bool) → cond b 0 1 ≤ 1
-at_most_one true = omega arith
-at_most_one false = omega arith

@@ -1,10 +1,10 @@
 //! The table of requests and messages beside the matcher: what posts, letters and notices do to both.
-ghost use Rattle.std.specs.Prelude.{◌≡◌, ◌+◌, ◌<◌, ◌^◌, IsTrue, IfNone, IfSome, Some, false, nat_eq, not};
-ghost use Rattle.indexmap.specs.IndexMap.{get, index_map_len};
+ghost use Rattle.std.specs.Prelude.{◌≡◌, ◌+◌, ◌<◌, ◌≤◌, ◌^◌, IsTrue, IfNone, IfSome, Some, false, nat_eq, not};
+ghost use Rattle.indexmap.specs.IndexMap.{get, index_map_len, spare};
 ghost use Rattle.ulfm_match.specs.State.{is_cleared};
 ghost use Rattle.ulfm_rank.specs.declared.request.Request.{Request};
 ghost use Rattle.ulfm_rank.specs.Fates.{over_named, over_context};
-ghost use Rattle.ulfm_rank.specs.inside.Requests.{changed, Changes, IsOpenFor, TracksAdmit, TracksDelivery, TracksRevocation, TracksItem};
+ghost use Rattle.ulfm_rank.specs.inside.Requests.{Adds, changed, Changes, IsOpenFor, TracksAdmit, TracksDelivery, TracksRevocation, TracksItem};
 ghost use Rattle.ulfm_rank.specs.Standing.{is_found};
 
 use crate::request::{Fate, Request, fate_of, is_found, over_context, over_named};
@@ -22,6 +22,18 @@ pub(crate) fn find(requests: &IndexMap<u64, Request>, number: u64, found: bool) 
         return Some(request);
     }
     None
+}
+
+/// Puts a request into a table that has a place for one more.
+pub(crate) fn put(requests: &mut IndexMap<u64, Request>, number: u64, request: Request)
+    requires { 0 < spare requests.old }
+    ensures adds { Adds number request (get nat_eq requests.old) (get nat_eq requests.new) }
+    ensures len { index_map_len requests.new ≤ index_map_len requests.old + 1 }
+{
+    match requests.insert(number, request) {
+        Ok(_) => {}
+        Err(_) => unreachable!(),
+    }
 }
 
 /// Posts a receive. Where its source is known to have failed and no kept letter is for it, it is over at once.

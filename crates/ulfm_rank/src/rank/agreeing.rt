@@ -1,16 +1,14 @@
 //! Agreements (ULFM, agree).
 ghost use Rattle.std.specs.Prelude.{◌≡◌, false, IsTrue, Some, IfOk, IfErr, OnOk, OnErr};
-ghost use Rattle.ulfm_base.specs.Topic.{is_agreement};
 ghost use Rattle.ulfm_rank.specs.Calls.{Enters};
 ghost use Rattle.ulfm_log.specs.Proposal.{Proposes};
 ghost use Rattle.ulfm_rank.specs.Checks.{Passes, Fails, FailsOrStarves, agree_checks, proposal_checks, adopt_checks};
-ghost use Rattle.ulfm_log.specs.Decisive.{is_current};
-ghost use Rattle.ulfm_log.specs.Proposal.{agreements, is_agreeing, next_agreement, last_agreement};
+ghost use Rattle.ulfm_log.specs.Proposal.{is_agreeing, next_agreement, last_agreement};
 ghost use Rattle.ulfm_log.specs.State.{logged};
 
 use super::Rank;
 use ulfm_base::{CallError, Context, Decision, Purpose, Topic};
-use ulfm_log::{Comm, Entry, Row, make_place, tell};
+use ulfm_log::{Comm, Entry};
 
 impl Rank {
     /// Enters the next agreement on a communicator, revoked or not, with a flag and the failures that are known now, and
@@ -75,30 +73,8 @@ impl Rank {
         ensures stays_prepared { OnErr result (IsTrue self.old.prepared → IsTrue self.new.prepared) }
         ensures place { self.new.has_place ≡ self.old.has_place }
     {
-        self.adopt_agreed(self.last_agreement(comm.context), decision)
-    }
-
-    /// Adopts the decision of an agreement, and answers its value.
-    fn adopt_agreed(&mut self, topic: Topic, decision: Decision) -> Result<u32, CallError>
-        requires agreement { IsTrue (is_agreement topic.purpose) }
-        requires current { IsTrue (is_current (agreements self.old.state.log) topic) }
-        ensures accepted { OnOk result (Passes (adopt_checks self.old.state topic decision)) }
-        ensures value { IfOk result (λ value. decision.value ≡ Some value) }
-        ensures state { OnOk result (self.new.state ≡ logged self.old.state (Entry.Adopted decision)) }
-        ensures refused { IfErr result (FailsOrStarves (adopt_checks self.old.state topic decision)) }
-        ensures unchanged { OnErr result (self.new.state ≡ self.old.state) }
-        ensures room_lacked { IfErr result (λ e. e ≡ CallError.OutOfMemory → self.old.prepared ≡ false) }
-        ensures stays_prepared { OnErr result (IsTrue self.old.prepared → IsTrue self.new.prepared) }
-        ensures place { self.new.has_place ≡ self.old.has_place }
-    {
-        self.check_adoption(topic, &decision)?;
-        self.log.reserve(self.requests.len() + 2)?;
-        make_place(&mut self.told)?;
-        self.block.make()?;
         let value = decision.value;
-        tell(&mut self.told, Row::adopted(&decision));
-        let held = self.block.hold(decision);
-        self.log.push_reserved(Entry::Adopted(held));
+        self.adopt_on(self.last_agreement(comm.context), decision)?;
         match value {
             Some(value) => Ok(value),
             None => unreachable!(),

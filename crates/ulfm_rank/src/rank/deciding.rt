@@ -7,11 +7,12 @@ ghost use Rattle.ulfm_base.specs.RankSet.{has};
 ghost use Rattle.ulfm_base.specs.Topic.{Fits, HasShrink};
 ghost use Rattle.ulfm_rank.specs.Calls.{Enters};
 ghost use Rattle.ulfm_log.specs.Proposal.{Proposes};
-ghost use Rattle.ulfm_rank.specs.Checks.{Passes, Fails, proposal_checks, adopt_checks};
+ghost use Rattle.ulfm_rank.specs.Checks.{Passes, Fails, FailsOrStarves, proposal_checks, adopt_checks};
 ghost use Rattle.ulfm_log.specs.Communicators.{group_of};
 ghost use Rattle.ulfm_log.specs.Entrances.{HasEntries};
 ghost use Rattle.ulfm_log.specs.Decisive.{is_current, is_next};
 ghost use Rattle.ulfm_log.specs.Proposal.{agreements, deciders, has_entered, has_adopted, is_foreign};
+ghost use Rattle.ulfm_log.specs.State.{logged};
 
 use super::Rank;
 use ulfm_base::{
@@ -72,8 +73,31 @@ impl Rank {
         Ok(proposed(topic, group, &entries, self.faults.known()))
     }
 
+    /// Adopts a decision on a topic: makes the communicator of its new group, where that is a shrink.
+    pub(super) fn adopt_on(&mut self, topic: Topic, decision: Decision) -> Result<(), CallError>
+        requires current { IsTrue (is_current (agreements self.old.state.log) topic) }
+        ensures accepted { OnOk result (Passes (adopt_checks self.old.state topic decision)) }
+        ensures about { OnOk result (decision.topic ≡ topic) }
+        ensures state { OnOk result (self.new.state ≡ logged self.old.state (Entry.Adopted decision)) }
+        ensures refused { IfErr result (FailsOrStarves (adopt_checks self.old.state topic decision)) }
+        ensures unchanged { OnErr result (self.new.state ≡ self.old.state) }
+        ensures room_lacked { IfErr result (λ e. e ≡ CallError.OutOfMemory → self.old.prepared ≡ false) }
+        ensures stays_prepared { OnErr result (IsTrue self.old.prepared → IsTrue self.new.prepared) }
+        ensures place { self.new.has_place ≡ self.old.has_place }
+    {
+        self.check_adoption(topic, &decision)?;
+        self.log.reserve(self.requests.len() + 2)?;
+        make_place(&mut self.told)?;
+        self.block.make()?;
+        self.communicators.adopt(&decision);
+        tell(&mut self.told, Row::adopted(&decision));
+        let held = self.block.hold(decision);
+        self.log.push_reserved(Entry::Adopted(held));
+        Ok(())
+    }
+
     /// Whether a decision may be adopted on a topic.
-    pub(super) fn check_adoption(&self, topic: Topic, decision: &Decision) -> Result<(), CallError>
+    fn check_adoption(&self, topic: Topic, decision: &Decision) -> Result<(), CallError>
         requires current { IsTrue (is_current (agreements self.now.state.log) topic) }
         ensures accepted { OnOk result (Passes (adopt_checks self.now.state topic decision.now)) }
         ensures about { OnOk result (decision.now.topic ≡ topic) }

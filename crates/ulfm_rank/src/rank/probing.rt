@@ -12,7 +12,7 @@ use super::Rank;
 use crate::answer::{answer_in, status_in};
 use crate::failures::names_known;
 use crate::request::{Fate, Request, with_room};
-use crate::requests::find;
+use crate::requests::{find, put};
 use ulfm_base::{CallError, Tag};
 use ulfm_log::{Comm, Entry, MessageId, NotedAnswer, Probed, TestAnswer};
 
@@ -63,10 +63,7 @@ impl Rank {
         };
         let status = status_in(&self.communicators, pattern.context, &letter);
         let fate = Fate::Found(letter);
-        match self.requests.insert(id.number, Request { pattern, fate }) {
-            Ok(_) => {}
-            Err(_) => unreachable!(),
-        }
+        put(&mut self.requests, id.number, Request { pattern, fate });
         self.log.push_reserved(Entry::Probed(id, pattern));
         Ok(Probed::Found(id, status))
     }

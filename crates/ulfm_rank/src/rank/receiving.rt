@@ -16,7 +16,7 @@ use super::Rank;
 use crate::answer::{answer_in, answer_to_waiting};
 use crate::failures::names_known;
 use crate::request::{Request, is_waiting};
-use crate::requests::{admit, find};
+use crate::requests::{admit, find, put};
 use crate::sources::source_of;
 use indexmap::IndexMap;
 use ulfm_base::{CallError, Pattern, RequestId, Tag};
@@ -90,10 +90,7 @@ impl Rank {
         self.matcher.prepare()?;
         let gone = names_known(&self.faults, pattern.source);
         let (id, fate) = admit(&mut self.matcher, gone, pattern);
-        match self.requests.insert(id.number, Request { pattern, fate }) {
-            Ok(_) => {}
-            Err(_) => unreachable!(),
-        }
+        put(&mut self.requests, id.number, Request { pattern, fate });
         self.log.push_reserved(Entry::Posted(pattern));
         Ok(id)
     }

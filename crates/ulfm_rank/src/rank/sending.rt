@@ -101,7 +101,21 @@ impl Rank {
         ensures stays_prepared { OnErr result (IsTrue self.old.prepared → IsTrue self.new.prepared) }
         ensures place { self.new.has_place ≡ self.old.has_place }
     {
-        let group = self.running_group(comm)?.copied();
+        let (context, group) = self.duplicate_of(comm)?;
+        self.log.reserve(self.requests.len() + 2)?;
+        self.communicators.add(context, group);
+        self.log.push_reserved(Entry::Duplicated(comm.context));
+        Ok(Comm { context })
+    }
+
+    /// The context of the duplicate of a communicator, and its group.
+    fn duplicate_of(&self, comm: Comm) -> Result<(Context, Group), CallError>
+        ensures accepted { OnOk result (Passes (dup_checks self.now.state comm.context.number)) }
+        ensures context { IfOk result (λ made. made.0.number ≡ dup_of comm.context.number) }
+        ensures group { IfOk result (λ made. group_of self.now.state.ranks self.now.state.log comm.context.number ≡ Some made.1) }
+        ensures refused { IfErr result (Fails (dup_checks self.now.state comm.context.number)) }
+    {
+        let group = self.running_group(comm)?;
         if self.faults.is_revoked(comm.context) {
             return Err(CallError::Revoked);
         }
@@ -110,9 +124,6 @@ impl Rank {
             return Err(CallError::AlreadyMade);
         }
         let context = Context::new(number).ok_or(CallError::NoContext)?;
-        self.log.reserve(self.requests.len() + 2)?;
-        self.communicators.add(context, group);
-        self.log.push_reserved(Entry::Duplicated(comm.context));
-        Ok(Comm { context })
+        Ok((context, group.copied()))
     }
 }

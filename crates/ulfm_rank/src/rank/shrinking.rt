@@ -9,7 +9,7 @@ ghost use Rattle.ulfm_log.specs.State.{logged};
 
 use super::Rank;
 use ulfm_base::{CallError, Context, Decision, Purpose, Topic};
-use ulfm_log::{Comm, Entry, Row, make_place, tell};
+use ulfm_log::{Comm, Entry};
 
 impl Rank {
     /// Enters the shrink of a communicator, revoked or not, with the failures that are known now, and leaves word of it
@@ -87,17 +87,11 @@ impl Rank {
             context: comm.context,
             purpose: Purpose::Shrink,
         };
-        self.check_adoption(topic, &decision)?;
-        self.log.reserve(self.requests.len() + 2)?;
-        make_place(&mut self.told)?;
-        self.block.make()?;
-        let context = Context {
-            number: 2 * comm.context.number + 2,
-        };
-        self.communicators.add(context, decision.fresh.copied());
-        tell(&mut self.told, Row::adopted(&decision));
-        let held = self.block.hold(decision);
-        self.log.push_reserved(Entry::Adopted(held));
-        Ok(Comm { context })
+        self.adopt_on(topic, decision)?;
+        Ok(Comm {
+            context: Context {
+                number: 2 * comm.context.number + 2,
+            },
+        })
     }
 }

@@ -2,13 +2,13 @@ use Rattle.ulfm_log.proofs.Sifted.{quiet, silent}
 use Rattle.std.proofs.Common.{◌≡◌, ℕ, false, true, [], ◌∷◌, ◌++◌, length, ap, sym, subst, arith, refl, ◌∙◌, Option, Some, nat_eq, inr, cond, eqb, Contains}
 use Rattle.std.proofs.lemmas.Result.{err_from_is_err_and}
 use Rattle.ulfm_base.specs.Pattern.{Admits}
-use Rattle.ulfm_rank.proofs.Common.{Context, Letter, Pattern, MessageId, Probed, Found, Request, IsMessage, TellsOf, WouldGet, is_revoked, group_at, members_of, or_empty, find_group, Follows, IsOfGroup, RankView, State, eq-eqb, is_some, lookup, get, index_map_len, false≢true, history_of, count_before}
+use Rattle.ulfm_rank.proofs.Common.{Context, Letter, Pattern, MessageId, Probed, Found, Request, IsMessage, TellsOf, WouldGet, is_revoked, group_at, members_of, or_empty, find_group, Follows, IsOfGroup, RankView, State, eq-eqb, lookup, get, index_map_len, false≢true, history_of, count_before}
 use Rattle.ulfm_rank.proofs.InStep.{count_small, in_step_open}
 use Rattle.ulfm_log.proofs.Made.{found_group}
 use Rattle.ulfm_rank.proofs.Probing.{finds_none, never_none, gets, may_starve, unrevoked}
 use Rattle.ulfm_rank.proofs.Found.{in_step_probed, found_message}
 use Rattle.ulfm_rank.proofs.Requested.{sender_found}
-use Rattle.ulfm_rank.proofs.Whole.{at_most_one, follows_same, follows_requests, holds_same}
+use Rattle.ulfm_rank.proofs.Whole.{follows_same, follows_requests, holds_same}
 use Rattle.ulfm_rank.proofs.Seen.{state_logged, stop_places_few}
 use Rattle.ulfm_rank.proofs.rank.Rank.improbe.Goals as goal
 use Rattle.ulfm_rank.proofs.rank.Rank.improbe.Goals.{After-push_reserved}
@@ -84,22 +84,21 @@ module _ (c : After-push_reserved) where
   longer : c.push_reserved.new.self.items ≡ c.self.inside.log.items ++ Probed id pattern ∷ []
   longer = c.push_reserved.ensures.items ∙ ap (λ log. log ++ Probed id pattern ∷ []) c.reserve.ensures.items
 
-  done : Follows c.self.inside.ranks c.self.inside.me.number (c.self.inside.log.items ++ Probed id pattern ∷ []) c.self.inside.stopped c.probe.new.self (get nat_eq c.insert.new.self) c.self.inside.faults c.self.inside.communicators c.self.inside.outboxes.boxes
+  done : Follows c.self.inside.ranks c.self.inside.me.number (c.self.inside.log.items ++ Probed id pattern ∷ []) c.self.inside.stopped c.probe.new.self (get nat_eq c.put.new.requests) c.self.inside.faults c.self.inside.communicators c.self.inside.outboxes.boxes
   done =
       let a = c.self.inside in
       let of_group : IsOfGroup a.ranks a.log.items pattern = subst (λ (v : RankView). IsOfGroup v.state.ranks v.state.log pattern) (sym c.self.view_is) c.in_ok-pattern.ensures.of_group in
-      follows_requests ready (Probed id pattern) refl (in_step_probed ready.in_step id c.count.ensures pattern of_group c.in-Some.letter c.probe.new.self c.in-Some.ensures.tracks (get nat_eq c.insert.new.self) c.in-Ok.ensures.updates.0)
+      follows_requests ready (Probed id pattern) refl (in_step_probed ready.in_step id c.count.ensures pattern of_group c.in-Some.letter c.probe.new.self c.in-Some.ensures.tracks (get nat_eq c.put.new.requests) c.put.ensures.adds)
 
 pub invariant_of-self-2 : goal.invariant_of-self-2
 invariant_of-self-2 c =
     let a = c.self.inside in
     record {
-      follows = subst (λ log. Follows a.ranks a.me.number log a.stopped c.probe.new.self (get nat_eq c.insert.new.self) a.faults a.communicators a.outboxes.boxes) (sym (longer c)) (done c);
+      follows = subst (λ log. Follows a.ranks a.me.number log a.stopped c.probe.new.self (get nat_eq c.put.new.requests) a.faults a.communicators a.outboxes.boxes) (sym (longer c)) (done c);
       places =
           let same : index_map_len c.reserve-2.new.self ≡ index_map_len a.requests = ap length c.reserve-2.ensures.entries in
-          let one = at_most_one (is_some c.in-Ok.field-0) in
           let stop = stop_places_few a.stopped in
-          omega (arith, c.in_ok-reserve.ensures.ok, c.push_reserved.ensures.len, c.push_reserved.ensures.capacity, c.in-Ok.ensures.len, one, stop, c.len-places.ensures.len, same, c.reserve.ensures.len);
+          omega (arith, c.in_ok-reserve.ensures.ok, c.push_reserved.ensures.len, c.push_reserved.ensures.capacity, c.put.ensures.len, stop, c.len-places.ensures.len, same, c.reserve.ensures.len);
       tells = quiet _ _ _ _ (longer c) c.self.invariant.tells silent;
       countable = omega (arith, c.push_reserved.ensures.capacity, c.reserve.ensures.countable);
     }

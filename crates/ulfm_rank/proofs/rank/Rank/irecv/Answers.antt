@@ -1,10 +1,10 @@
 use Rattle.ulfm_log.proofs.Sifted.{quiet, silent}
 use Rattle.std.proofs.Common.{◌≡◌, false, [], ◌∷◌, ◌++◌, length, ap, sym, subst, arith, refl, ◌∙◌, nat_eq}
-use Rattle.ulfm_rank.proofs.Common.{Context, Pattern, Posted, Request, IsRequest, is_revoked, Follows, state_of, IsOfGroup, RankView, Adds, is_some, lookup, get, index_map_len, IsReceive}
+use Rattle.ulfm_rank.proofs.Common.{Context, Pattern, Posted, Request, IsRequest, is_revoked, Follows, state_of, IsOfGroup, RankView, Adds, lookup, get, index_map_len, IsReceive}
 use Rattle.ulfm_rank.specs.Checks.{receive_checks, Passes}
 use Rattle.ulfm_rank.proofs.InStep.{count_small, in_step_open, posted_request}
 use Rattle.ulfm_rank.proofs.Refusals.{all_pass}
-use Rattle.ulfm_rank.proofs.Whole.{at_most_one, follows_same, follows_posted, holds_same}
+use Rattle.ulfm_rank.proofs.Whole.{follows_same, follows_posted, holds_same}
 use Rattle.ulfm_rank.proofs.Seen.{state_logged, stop_places_few}
 use Rattle.ulfm_rank.proofs.rank.Rank.irecv.Goals as goal
 use Rattle.ulfm_rank.proofs.rank.Rank.irecv.Goals.{After-push_reserved}
@@ -46,29 +46,28 @@ module _ (c : After-push_reserved) where
   receive : IsReceive c.args.self.now.state c.args.comm c.args.source c.args.tag c.args.room pattern
   receive = c.in_ok-pattern.ensures.asks_for
 
-  adds : Adds c.prepare.new.self.count request (get nat_eq c.reserve-2.new.self) (get nat_eq c.insert.new.self)
-  adds = subst (λ k. Adds k request (get nat_eq c.reserve-2.new.self) (get nat_eq c.insert.new.self)) c.admit-fate.ensures.number c.in-Ok.ensures.updates.0
+  adds : Adds c.prepare.new.self.count request (get nat_eq c.reserve-2.new.self) (get nat_eq c.put.new.requests)
+  adds = subst (λ k. Adds k request (get nat_eq c.reserve-2.new.self) (get nat_eq c.put.new.requests)) c.admit-fate.ensures.number c.put.ensures.adds
 
   longer : c.push_reserved.new.self.items ≡ c.self.inside.log.items ++ Posted pattern ∷ []
   longer = c.push_reserved.ensures.items ∙ ap (λ log. log ++ Posted pattern ∷ []) c.reserve.ensures.items
 
-  done : Follows c.self.inside.ranks c.self.inside.me.number (c.self.inside.log.items ++ Posted pattern ∷ []) c.self.inside.stopped c.admit-fate.new.matcher (get nat_eq c.insert.new.self) c.self.inside.faults c.self.inside.communicators c.self.inside.outboxes.boxes
+  done : Follows c.self.inside.ranks c.self.inside.me.number (c.self.inside.log.items ++ Posted pattern ∷ []) c.self.inside.stopped c.admit-fate.new.matcher (get nat_eq c.put.new.requests) c.self.inside.faults c.self.inside.communicators c.self.inside.outboxes.boxes
   done =
       let a = c.self.inside in
       let of_group : IsOfGroup a.ranks a.log.items pattern = subst (λ (v : RankView). IsOfGroup v.state.ranks v.state.log pattern) (sym c.self.view_is) c.in_ok-pattern.ensures.of_group in
-      follows_posted ready pattern of_group c.admit-fate.result.1 c.admit-fate.new.matcher (get nat_eq c.insert.new.self)
+      follows_posted ready pattern of_group c.admit-fate.result.1 c.admit-fate.new.matcher (get nat_eq c.put.new.requests)
       (rw (sym c.names_known-gone.ensures) c.admit-fate.ensures.tracks) adds
 
 pub invariant_of-self-2 : goal.invariant_of-self-2
 invariant_of-self-2 c =
     let a = c.self.inside in
     record {
-      follows = subst (λ log. Follows a.ranks a.me.number log a.stopped c.admit-fate.new.matcher (get nat_eq c.insert.new.self) a.faults a.communicators a.outboxes.boxes) (sym (longer c)) (done c);
+      follows = subst (λ log. Follows a.ranks a.me.number log a.stopped c.admit-fate.new.matcher (get nat_eq c.put.new.requests) a.faults a.communicators a.outboxes.boxes) (sym (longer c)) (done c);
       places =
           let same : index_map_len c.reserve-2.new.self ≡ index_map_len a.requests = ap length c.reserve-2.ensures.entries in
-          let one = at_most_one (is_some c.in-Ok.field-0) in
           let stop = stop_places_few a.stopped in
-          omega (arith, c.in_ok-reserve.ensures.ok, c.push_reserved.ensures.len, c.push_reserved.ensures.capacity, c.in-Ok.ensures.len, one, stop, c.len-places.ensures.len, same, c.reserve.ensures.len);
+          omega (arith, c.in_ok-reserve.ensures.ok, c.push_reserved.ensures.len, c.push_reserved.ensures.capacity, c.put.ensures.len, stop, c.len-places.ensures.len, same, c.reserve.ensures.len);
       tells = quiet _ _ _ _ (longer c) c.self.invariant.tells silent;
       countable = omega (arith, c.push_reserved.ensures.capacity, c.reserve.ensures.countable);
     }

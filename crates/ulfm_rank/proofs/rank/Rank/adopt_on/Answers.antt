@@ -1,19 +1,33 @@
 use Rattle.ulfm_log.proofs.Sifted.{told_adopted}
-use Rattle.std.proofs.Common.{◌≡◌, ◌++◌, ◌∷◌, [], append-nil, ap, sym, subst, ◌∙◌, arith, Some}
-use Rattle.ulfm_rank.proofs.Common.{agreements, Topic, is_agreement, decided_comm, Adopted, find_group, group_of, State, RankView}
+use Rattle.std.proofs.Common.{◌≡◌, ◌++◌, ◌∷◌, [], refl, ap, sym, subst, ◌∙◌, arith, Some}
+use Rattle.ulfm_rank.proofs.Common.{agreements, Topic, Purpose, shrink_of, shrink_topic, Adopted, find_group, group_of, has_adopted, state_of, State, RankView, is_some}
 use Rattle.std.proofs.lemmas.Result.{err_from_is_err_and}
-use Rattle.ulfm_rank.specs.Checks.{adopt_checks, Fails}
-use Rattle.ulfm_rank.proofs.Adoptable.{never_starved, none_agreed}
+use Rattle.ulfm_rank.specs.Checks.{adopt_checks, Fails, Passes}
+use Rattle.ulfm_rank.proofs.Adoptable.{made_adopted, never_starved}
+use Rattle.ulfm_rank.proofs.Refusals.{all_pass}
 use Rattle.ulfm_rank.proofs.Following.{follows_adopted}
 use Rattle.ulfm_log.specs.Decisive.{is_current}
 use Rattle.ulfm_log.proofs.Made.{found_group}
 use Rattle.ulfm_rank.proofs.Seen.{stop_places_few}
-use Rattle.ulfm_rank.proofs.rank.Rank.adopt_agreed.Goals as goal
+use Rattle.ulfm_rank.proofs.Whole.{holds_same}
+use Rattle.ulfm_rank.proofs.rank.Rank.adopt_on.Goals as goal
 
 pub returns-in_err-check_adoption-clause-room_lacked : goal.returns-in_err-check_adoption-clause-room_lacked
 returns-in_err-check_adoption-clause-room_lacked c =
     let p = err_from_is_err_and c.from_residual.result c.from_residual.ensures.1 in
     rw (p.1, p.2) (λ starved. absurd (never_starved _ _ _ _ _ (subst (Fails (adopt_checks c.args.self.now.state c.args.topic c.args.decision)) starved c.in_err-check_adoption.ensures.refused)))
+
+pub adopt-requires : goal.adopt-requires
+adopt-requires c shrinks =
+    let a = c.self.inside in
+    let d = c.args.decision in
+    let passes = all_pass (adopt_checks (state_of a) c.args.topic d) (subst (λ (v : RankView). Passes (adopt_checks v.state c.args.topic d)) (sym c.self.view_is) c.in_ok-check_adoption.ensures.accepted) in
+    let about : shrink_topic c.args.decision.topic.context ≡ c.args.topic =
+    ap (λ (p : Purpose). record { context = d.topic.context; purpose = p }) (sym shrinks) ∙ c.in_ok-check_adoption.ensures.about in
+    ap is_some (found_group (shrink_of d.topic.context.number) c.self.invariant.follows.communicators)
+    ∙ made_adopted a.ranks a.log.items d.topic.context
+    ∙ ap (has_adopted a.log.items) about
+    ∙ passes.1.1.0
 
 pub invariant_of-self-2 : goal.invariant_of-self-2
 invariant_of-self-2 c =
@@ -24,12 +38,15 @@ invariant_of-self-2 c =
     let longer = c.push_reserved.ensures.items ∙ ap (λ l. l ++ Adopted c.hold-held.result ∷ []) c.reserve.ensures.items ∙ ap (λ x. a.log.items ++ Adopted x ∷ []) c.hold-held.ensures in
     let found : find_group c.args.decision.topic.context.number c.self.inside.communicators ≡ Some c.args.decision.old =
     found_group d.topic.context.number c.self.invariant.follows.communicators ∙ ap (λ (t : Topic). group_of a.ranks a.log.items t.context.number) about ∙ ap (λ (s : State). group_of s.ranks s.log c.args.topic.context.number) seen ∙ c.in_ok-check_adoption.ensures.group in
-    let none : decided_comm c.args.decision.topic.purpose c.args.decision.topic.context.number c.args.decision.fresh ≡ [] = none_agreed d.topic.purpose d.topic.context.number d.fresh (ap (λ (t : Topic). is_agreement t.purpose) about ∙ c.requires.agreement) in
-    let same : c.self.inside.communicators ≡ c.self.inside.communicators ++ decided_comm c.args.decision.topic.purpose c.args.decision.topic.context.number c.args.decision.fresh =
-    sym (ap (λ more. a.communicators ++ more) none ∙ append-nil a.communicators) in
     record {
-      follows = rw (longer, same) (follows_adopted c.self.invariant.follows c.args.decision found);
+      follows = rw (longer, c.adopt.ensures) (follows_adopted c.self.invariant.follows c.args.decision found);
       places = omega (arith, c.in_ok-reserve.ensures.ok, c.push_reserved.ensures.len, c.push_reserved.ensures.capacity, c.len.ensures.len, stop_places_few a.stopped);
       tells = told_adopted _ _ _ _ _ longer c.self.invariant.tells (ap (is_current (agreements a.log.items)) about ∙ ap (λ (s : State). is_current (agreements s.log) c.args.topic) seen ∙ c.requires.current) (c.tell.ensures.items ∙ ap (λ l. l ++ c.adopted.result ∷ []) c.make_place.ensures.items ∙ ap (λ e. a.told.items ++ e ∷ []) c.adopted.ensures);
       countable = omega (arith, c.push_reserved.ensures.capacity, c.reserve.ensures.countable);
     }
+
+pub invariant_of-self-in_err-make_place : goal.invariant_of-self-in_err-make_place
+invariant_of-self-in_err-make_place c = holds_same c.self.inside c.self.invariant refl refl refl refl refl refl refl refl refl refl refl c.reserve.ensures.items c.make_place.ensures.items refl c.reserve.ensures.capacity c.reserve.ensures.countable
+
+pub invariant_of-self-in_err-make : goal.invariant_of-self-in_err-make
+invariant_of-self-in_err-make c = holds_same c.self.inside c.self.invariant refl refl refl refl refl refl refl refl refl refl refl c.reserve.ensures.items c.make_place.ensures.items refl c.reserve.ensures.capacity c.reserve.ensures.countable
