@@ -3,7 +3,8 @@
 //!     push_move(&mut text, &world, &event)?;
 //!     push_trace(&mut text, &job, &world)?;
 //!
-//! Read specs/Lines.antt first (the events), then Turns.antt, Ranks.antt (the trace) and Waits.antt (what open steps wait for).
+//! The words are said in specs/ of `ulfm_finder`: read Lines.antt first (the events), then Turns.antt, Ranks.antt (the trace) and Waits.antt
+//! (what open steps wait for).
 #![tactic(auto)]
 
 mod lines;
