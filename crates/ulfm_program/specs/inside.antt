@@ -1,2 +1,3 @@
 -- What private functions and proofs cite of the program's output.
 pub mod Writing
+pub mod Threads

@@ -1,12 +1,14 @@
 //! The reply to a job's bytes.
-ghost use Rattle.std.specs.Prelude.{IfOk, option_map, string_bytes};
+ghost use Rattle.std.specs.Prelude.{◌≡◌, ℕ, List, Option, false, IfOk, option_map, string_bytes};
 ghost use Rattle.ulfm_program.specs.Replies.{IsReplyTo};
+ghost use Rattle.ulfm_program.specs.inside.Threads.{needs_threads};
 ghost use Rattle.ulfm_replies.specs.CommandLine.{HasRanges};
 
 use std::alloc::{AllocError, Global};
 use std::sync::Wait;
 use std::thread::Threads;
 use ulfm_finder::Finder;
+use ulfm_json::Form;
 use ulfm_judged::{Onlooker, list_reply};
 use ulfm_played::{draw_reply, replay_reply, run_reply, sweep_reply};
 use ulfm_reach::Watch;
@@ -30,17 +32,28 @@ where
 {
     let form = asked.form;
     match asked.wanted {
+        Wanted::Run(options) => run_reply(rt, alloc, form, options, bytes),
+        Wanted::Outcomes(options) => list_reply(
+            rt, finder, alloc, form, asked.show, options, bytes, watch,
+        ),
+        _ => plain_reply(alloc, form, asked.wanted, bytes),
+    }
+}
+
+/// The reply to what the words ask for, where no threads work on it.
+fn plain_reply(alloc: Global, form: Form, wanted: Wanted, bytes: &[u8]) -> Result<Reply, AllocError>
+    requires ranges { HasRanges wanted }
+    requires plain { needs_threads wanted ≡ false }
+    ensures { IfOk result (λ r. (show : Option (List ℕ)) → IsReplyTo form show wanted bytes.now r.status (string_bytes r.text)) }
+{
+    match wanted {
         Wanted::Check => check_reply(alloc, form, bytes),
         Wanted::Replay {
             is_strict,
             turns,
             place,
         } => replay_reply(alloc, form, is_strict, turns, place, bytes),
-        Wanted::Run(options) => run_reply(rt, alloc, form, options, bytes),
         Wanted::Sweep => sweep_reply(alloc, form, bytes),
-        Wanted::Outcomes(options) => list_reply(
-            rt, finder, alloc, form, asked.show, options, bytes, watch,
-        ),
         Wanted::Places(stops) => places_reply(alloc, form, stops, bytes),
         Wanted::Expand => expand_reply(alloc, form, bytes),
         Wanted::Draw {
@@ -48,5 +61,6 @@ where
             turns,
             place,
         } => draw_reply(alloc, form, style, turns, place, bytes),
+        _ => unreachable!(),
     }
 }

@@ -1,0 +1,10 @@
+-- Which replies threads work on.
+use Rattle.std.specs.Prelude.{Bool, true, false}
+use Rattle.ulfm_replies.specs.declared.command.Wanted.{Wanted}
+use Rattle.ulfm_replies.specs.declared.command.Wanted.TheVariants.{Run, Outcomes}
+
+-- threads work on the reply to what the words ask for
+abbrev pub needs_threads : Wanted → Bool
+needs_threads (Run options) = true
+needs_threads (Outcomes options) = true
+needs_threads _ = false
