@@ -17,4 +17,4 @@ abbrev pub WorldCall : List Handle → List Handle → ℕ → ℕ → ℕ → T
 WorldCall old new capacity rounds code =
     ((code ≡ 13) × IsBadSize (length old) capacity × (new ≡ old))
     ⊎ ((IsBadSize (length old) capacity → ⊥)
-    × (((code ≡ 0) × (all : List ProcessView) × IsWorld (length old) rounds all × (map process_in new ≡ map Some all)) ⊎ ((code ≡ 12) × (new ≡ old))))
+    × (((code ≡ 0) × (all : List ProcessView) × IsWorld (length old) capacity rounds all × (map process_in new ≡ map Some all)) ⊎ ((code ≡ 12) × (new ≡ old))))

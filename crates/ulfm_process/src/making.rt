@@ -21,7 +21,7 @@ use ulfm_carrier::{LaneEnds, lanes};
 /// `BadSize` where `ranks` isn't 1 to 8 or `capacity` isn't 1 to 64, else `OutOfMemory` where a growth was refused.
 pub fn world(alloc: Global, ranks: u8, capacity: u8, rounds: u16) -> Result<Vec<Process>, CallError>
     ensures sizes { OnOk result ((1 ≤ ranks) × (ranks ≤ 8) × (1 ≤ capacity) × (capacity ≤ 64)) }
-    ensures world { IfOk result (λ all. IsWorld ranks rounds all.items) }
+    ensures world { IfOk result (λ all. IsWorld ranks capacity rounds all.items) }
     ensures refused { IfErr result (λ error. (error ≡ CallError.BadSize) × ((ranks ≡ 0) ⊎ (8 < ranks) ⊎ (capacity ≡ 0) ⊎ (64 < capacity)) ⊎ (error ≡ CallError.OutOfMemory) × (1 ≤ ranks) × (ranks ≤ 8) × (1 ≤ capacity) × (capacity ≤ 64)) }
 {
     let ends = lanes(alloc, ranks, capacity)?;
