@@ -1,8 +1,11 @@
-"""The crates below one, and their libraries of statements: those of 'tools/build', crates/*/out/statements, and of 'rt ci', crates/*/out/rlib."""
+"""The crates below one, and their libraries of statements, crates/*/out/statements: 'tools/build' makes them, and 'tools/test' takes those
+that 'rt ci' made."""
 import functools
 import hashlib
+import os
 import pathlib
 import re
+import shutil
 import subprocess
 
 import kit
@@ -23,69 +26,98 @@ def below(crate):
     return crates("below", crate)[:-1]
 
 
+def listed(crate):
+    """What a crate stands on, the kit's libraries too, as crates.txt says it."""
+    return re.search(rf"^{crate}(?: \w+)?:(.*)", (ROOT / "crates.txt").read_text(), re.M)[1].split()
+
+
+def folder(crate):
+    return ROOT / "crates" / crate
+
+
+def files(crate):
+    """The files of a crate: its code, its definitions and its proofs."""
+    return sorted(it for part in PARTS for it in (folder(crate) / part).rglob("*") if it.is_file())
+
+
+def sources(crate):
+    """A sum over what a crate is made of: what it stands on, and its files."""
+    total = hashlib.sha256(" ".join(listed(crate)).encode())
+    for file in files(crate):
+        total.update(f"\n{file.relative_to(folder(crate))}\n".encode() + hashlib.sha256(file.read_bytes()).digest())
+    return total.hexdigest()
+
+
 def own(crate):
-    """Where 'tools/build' makes a crate's library."""
-    return ROOT / "crates" / crate / "out/statements" / f"{crate}.rlib"
-
-
-def of_gate(crate):
-    """Where 'rt ci' makes a crate's library. For its other checks 'rt' makes one with proofs there."""
-    return ROOT / "crates" / crate / "out/rlib" / f"{crate}.rlib"
-
-
-def format_of(library):
-    """What a library says of itself: the sums of its files and, one of statements, of what it was made over. Nothing where it isn't there."""
-    file = library / "format"
-    return file.read_bytes() if file.exists() else b""
-
-
-def young(crate, made):
-    """A crate's library of statements that this kit's compiler made, that is newer than the crate's files, and that was made over these
-    libraries, by name; or None. What a library holds, and not when it was made, says whether those above fit it."""
-    folders = [ROOT / "crates" / crate / part for part in PARTS]
-    files = [ROOT / "crates.txt", *folders, *(it for folder in folders for it in folder.rglob("*"))]
-    newest = max(it.stat().st_mtime for it in files if it.exists())
-    for library in (own(crate), of_gate(crate)):
-        over = dict(re.findall(r"^over (\w+) (\w+)$", format_of(library).decode(), re.M))
-        is_of_kit = compiler_of(library) == compiler_of(of_kit("std"))
-        if over and is_of_kit and library.stat().st_mtime > newest and all(over.get(it) == sum_of(made[it]) for it in below(crate)):
-            return library
-    return None
-
-
-def is_built(crate, target, made):
-    """Whether a program or an archive of a crate is as new as its files and those below, by 'tools/is-built', and as these libraries."""
-    is_there = subprocess.run([ROOT / "tools/is-built", crate, target.name], check=False).returncode == 0
-    return is_there and all(it.stat().st_mtime <= target.stat().st_mtime for it in made.values())
-
-
-def compiler_of(library):
-    """The line that names the build of the compiler."""
-    return format_of(library).split(b"\n")[1:2]
-
-
-def sum_of(library):
-    return library and hashlib.sha256(format_of(library)).hexdigest()
+    """A crate's library of statements."""
+    return folder(crate) / "out/statements" / f"{crate}.rlib"
 
 
 def of_kit(name):
     return kit.root() / "rlibs" / f"{name}.rlib"
 
 
+def note(crate):
+    """Where the sum of what a crate's library was made of is noted. While a library is made, there is none."""
+    return own(crate).with_name("sources")
+
+
+def keep(crate, made_of, begun):
+    """Notes what a crate's library was made of, unless that was edited since then. The library is as old as the beginning of its build."""
+    os.utime(own(crate), (begun, begun))
+    if sources(crate) == made_of:
+        note(crate).write_text(made_of)
+
+
+def take_of_gate(crate, made_of, begun):
+    """Puts the library that 'rt ci' made in the place of a crate's own, if there is one. Where it was, 'rt' makes ones with proofs."""
+    made = folder(crate) / "out/rlib" / f"{crate}.rlib"
+    if made.exists():
+        shutil.rmtree(own(crate).parent, ignore_errors=True)
+        own(crate).parent.mkdir()
+        made.rename(own(crate))
+        keep(crate, made_of, begun)
+
+
 @functools.lru_cache(maxsize=None)
-def young_below(crate):
-    """The young libraries of the crates below one, by name, with None for a crate that has none."""
-    made = {}
-    for it in below(crate):
-        made[it] = young(it, made)
-    return made
+def said_by(file, _written):
+    """What the file 'format' of a library says, which was written then: the sum by which those that were made over the library name it, and
+    what it was made over itself, by names and sums."""
+    text = file.read_bytes()
+    own_sum = hashlib.sha256(re.sub(rb"(?m)^facade-compared.*\n", b"", text)).hexdigest()
+    return own_sum, dict(re.findall(r"^over (\w+) (\w+)$", text.decode(), re.M))
 
 
-def words_over(crate, made):
-    """The words with which the kit calls its compiler for a crate, over these libraries of the crates below, by name."""
-    root = kit.root()
-    listed = re.search(rf"^{crate}(?: \w+)?:(.*)", (ROOT / "crates.txt").read_text(), re.M)[1].split()
-    uses = [word for name in ["std", *listed] for word in ("--extern", f"{name}={made.get(name) or of_kit(name)}")]
-    folders = [word for at in [root / "rlibs", *(it.parent for it in made.values())] for word in ("-L", f"dependency={at}")]
+def sum_and_over(library):
+    """The sum of a library, and those of what it was made over. None where it isn't there."""
+    file = library / "format"
+    return said_by(file, file.stat().st_mtime_ns) if file.exists() else (None, {})
+
+
+def is_young(crate):
+    """Whether a crate's library was made of the files that stand here now, and over the libraries that do. What a library holds, and not
+    when it was made, says whether those above fit it."""
+    if not note(crate).exists() or note(crate).read_text() != sources(crate):
+        return False
+    _, over = sum_and_over(own(crate))
+    return bool(over) and all(sum_and_over(own(it) if it in below(crate) else of_kit(it))[0] == total for it, total in over.items())
+
+
+def are_young_below(crate):
+    """Whether the libraries of all crates below one are young."""
+    return all(map(is_young, below(crate)))
+
+
+def is_built(crate, target):
+    """Whether a program or an archive of a crate is as new as its files and those below, by 'tools/is-built', and as their libraries."""
+    is_there = subprocess.run([ROOT / "tools/is-built", crate, target.name], check=False).returncode == 0
+    return is_there and all(own(it).stat().st_mtime <= target.stat().st_mtime for it in below(crate))
+
+
+def words_over(crate):
+    """The words with which the kit calls its compiler for a crate, over the libraries of the crates below."""
+    root, under = kit.root(), below(crate)
+    uses = [word for it in ["std", *listed(crate)] for word in ("--extern", f"{it}={own(it) if it in under else of_kit(it)}")]
+    folders = [word for at in [root / "rlibs", *(own(it).parent for it in under)] for word in ("-L", f"dependency={at}")]
     return ["--crate-name", crate, *uses, *folders, "--antt-project", root / "rattle/logic/antt-project.json",
             "--logic-built", root / "logic_built", "--links", f"{crate}="]
