@@ -173,10 +173,10 @@ fn runs_are_repeated_and_counted(rt: HostRuntime) -> Result<(), Fail> {
 }
 
 #[test]
-fn the_version_has_the_kit(rt: HostRuntime) -> Result<(), Fail> {
+fn the_version_has_the_kits(rt: HostRuntime) -> Result<(), Fail> {
     let cases = [
-        gives("--version", "", 0, "ulfm 0.1.0 (rattle-kit-13f)\n"),
-        gives("-V", "", 0, "ulfm 0.1.0 (rattle-kit-13f)\n"),
+        gives("--version", "", 0, "ulfm 0.1.0 (rattle-kit-13b or 13f)\n"),
+        gives("-V", "", 0, "ulfm 0.1.0 (rattle-kit-13b or 13f)\n"),
     ];
     assert_eq!(rt; first_wrong(&rt, cases.as_slice())?, None);
     Ok(())
