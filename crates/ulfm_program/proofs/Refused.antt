@@ -9,10 +9,9 @@ use Rattle.ulfm_replies.specs.Expanded as expanded
 use Rattle.ulfm_replies.specs.Places as places
 use Rattle.ulfm_replies.specs.Replies.{starved}
 use Rattle.ulfm_judged.proofs.Statuses.{starved_list}
-use Rattle.ulfm_program.specs.Replies.{IsReplyTo, IsWhole, GetsReply, GetsBeginning}
+use Rattle.ulfm_program.specs.Replies.{IsReplyTo, IsWhole, GetsReply, GetsBeginning, GetsFrontOf}
 use Rattle.ulfm_played.specs.Played.{failed, undrawn, fell}
 use Rattle.ulfm_played.specs.Sweep.{unswept}
-use Rattle.ulfm_program.specs.inside.Writing.{GetsFrontOf}
 
 -- out of memory is a reply to any words
 starved_reply : (told form : Form) (show : Option (List ℕ)) (wanted : Wanted) (bytes : List ℕ) → IsReplyTo form show wanted bytes 3 (out_of_memory_in told)
@@ -36,4 +35,4 @@ starved_gets told form show wanted most (Some bytes) old new status h l =
 
 pub starved_begins : (told form : Form) (show : Option (List ℕ)) (wanted : Wanted) (most : ℕ) (rest old new : Option (List ℕ)) (status : ℕ) → (status ≡ 4 → GetsFrontOf old new (out_of_memory_in told)) → status ≡ 4 → IfSome rest (λ bytes. GetsBeginning (IsReplyTo form show wanted (take most bytes)) old new)
 starved_begins told form show wanted most None old new status h e = tt
-starved_begins told form show wanted most (Some bytes) old new status h e = let f = h e in (3, out_of_memory_in told, starved_reply told form show wanted (take most bytes), f.0, f.1)
+starved_begins told form show wanted most (Some bytes) old new status h e = (3, out_of_memory_in told, starved_reply told form show wanted (take most bytes), h e)

@@ -35,10 +35,14 @@ IsWhole status = (status ≢ 4) × (status ≢ 5)
 abbrev pub GetsReply : (ℕ → List ℕ → Type 0) → Option (List ℕ) → Option (List ℕ) → ℕ → Type 0
 GetsReply IsReply old new status = (text : List ℕ) × IsReply status text × Appends old new text
 
+-- the writer got a beginning of this text
+abbrev pub GetsFrontOf : Option (List ℕ) → Option (List ℕ) → List ℕ → Type 0
+GetsFrontOf old new text = (n : ℕ) × Appends old new (take n text)
+
 -- the writer got a beginning of a text that is a reply to the bytes
 abbrev pub GetsBeginning : (ℕ → List ℕ → Type 0) → Option (List ℕ) → Option (List ℕ) → Type 0
-GetsBeginning IsReply old new = (status : ℕ) × (text : List ℕ) × IsReply status text × (n : ℕ) × Appends old new (take n text)
+GetsBeginning IsReply old new = (status : ℕ) × (text : List ℕ) × IsReply status text × GetsFrontOf old new text
 
 -- the writer got a beginning of some text
 abbrev pub GetsFront : Option (List ℕ) → Option (List ℕ) → Type 0
-GetsFront old new = (text : List ℕ) × (n : ℕ) × Appends old new (take n text)
+GetsFront old new = (text : List ℕ) × GetsFrontOf old new text

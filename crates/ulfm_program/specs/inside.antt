@@ -1,3 +1,2 @@
--- What private functions and proofs cite of the program's output.
-pub mod Writing
+-- What private functions and proofs alone cite.
 pub mod Threads

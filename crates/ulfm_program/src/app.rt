@@ -1,8 +1,7 @@
 //! From words and bytes to a status and bytes.
 ghost use Rattle.std.specs.Prelude.{◌≢◌, ◌≡◌, ◌≤◌, ◌⊎◌, [], false, map, option_map, take, IfSome, IsTrue};
 ghost use Rattle.std.specs.Io.KnownBytes.{Keeps, Appends};
-ghost use Rattle.ulfm_program.specs.Replies.{IsReplyTo, IsWhole, GetsReply, GetsBeginning, GetsFront, not_text};
-ghost use Rattle.ulfm_program.specs.inside.Writing.{GetsFrontOf};
+ghost use Rattle.ulfm_program.specs.Replies.{IsReplyTo, IsWhole, GetsReply, GetsBeginning, GetsFront, GetsFrontOf, not_text};
 ghost use Rattle.ulfm_replies.specs.declared.command.Wanted.{Wanted};
 ghost use Rattle.ulfm_replies.specs.CommandLine.{AsksFor, HasRanges, faults, form_asked, show_asked, IsWordsStatus};
 ghost use Rattle.ulfm_replies.specs.Failure.{out_of_memory_in, out_of_memory_text};
@@ -77,7 +76,9 @@ pub fn without_words<W: Write, E: Write>(
     errors: &mut E,
 ) -> u8
     ensures starved { IsTrue is_starved → result ≢ 4 → (result ≡ 3) × Appends (W.contents output.old) (W.contents output.new) out_of_memory_text }
+    ensures starved_cut_off { IsTrue is_starved → result ≡ 4 → GetsFrontOf (W.contents output.old) (W.contents output.new) out_of_memory_text }
     ensures not_text { is_starved ≡ false → result ≢ 4 → (result ≡ 2) × Appends (W.contents output.old) (W.contents output.new) not_text }
+    ensures not_text_cut_off { is_starved ≡ false → result ≡ 4 → GetsFrontOf (W.contents output.old) (W.contents output.new) not_text }
     ensures known { result ≤ 4 }
 {
     if is_starved {
