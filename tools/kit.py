@@ -23,3 +23,9 @@ def lanes(need):
     except (OSError, TypeError):
         return 1
     return max(1, min(len(os.sched_getaffinity(0)), free // need))
+
+
+def jobs(need):
+    """How many checks to make at the same time: RT_JOBS, as 'rt' reads it, or else as many as fit."""
+    said = os.environ.get("RT_JOBS", "")
+    return int(said) if re.fullmatch("[1-9][0-9]*", said) else lanes(need)

@@ -28,7 +28,7 @@ def below(crate):
 
 def listed(crate):
     """What a crate stands on, the kit's libraries too, as crates.txt says it."""
-    return re.search(rf"^{crate}(?: \w+)?:(.*)", (ROOT / "crates.txt").read_text(), re.M)[1].split()
+    return re.search(rf"^{crate}\b[^:\n]*:([^#\n]*)", (ROOT / "crates.txt").read_text(), re.M)[1].split()
 
 
 def folder(crate):
@@ -69,12 +69,12 @@ def keep(crate, made_of, begun):
         note(crate).write_text(made_of)
 
 
-def take_of_gate(crate, made_of, begun):
-    """Puts the library that 'rt ci' made in the place of a crate's own, if there is one. Where it was, 'rt' makes ones with proofs."""
+def take_from_gate(crate, made_of, begun):
+    """Moves the library that 'rt ci' made, if it made one, to where the crate's own stands. In its old place 'rt' makes ones with proofs."""
     made = folder(crate) / "out/rlib" / f"{crate}.rlib"
     if made.exists():
         shutil.rmtree(own(crate).parent, ignore_errors=True)
-        own(crate).parent.mkdir()
+        own(crate).parent.mkdir(exist_ok=True)
         made.rename(own(crate))
         keep(crate, made_of, begun)
 
