@@ -2,13 +2,14 @@
 use Rattle.std.specs.Prelude.{◌≡◌, ℕ, ◌<◌, ◌⊎◌, [], true, false}
 use Rattle.ulfm_process.specs.Turning.{IsTurn}
 use Rattle.ulfm_process.specs.View.{ProcessView}
+use Rattle.ulfm_log.specs.Facts.{is_stopped}
 use Rattle.ulfm_log.specs.State.{outbox}
 
--- with 0 the process had a turn, and it is told by 1 or 0 whether anything moved; with 12 nothing changed
+-- with 0 the process had a turn, and it is told by 1 or 0 whether anything moved; with 12 the rank runs, and nothing changed
 abbrev pub TurnCall : ProcessView → ProcessView → ℕ → ℕ → ℕ → Type 0
 TurnCall old new before moved code =
     ((code ≡ 0) × (((moved ≡ 1) × IsTurn old new true) ⊎ ((moved ≡ 0) × IsTurn old new false)))
-    ⊎ ((code ≡ 12) × (new ≡ old) × (moved ≡ before))
+    ⊎ ((code ≡ 12) × (is_stopped old.rank.log ≡ false) × (new ≡ old) × (moved ≡ before))
 
 -- nothing waits to go out
 abbrev pub IsFlushed : ProcessView → Type 0

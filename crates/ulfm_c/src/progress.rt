@@ -9,7 +9,7 @@ use crate::handle::Handle;
 use std::alloc::Global;
 use ulfm_process::Process;
 
-/// A turn: 12 where a growth was refused.
+/// A turn: 12 where the rank runs and a growth was refused.
 fn turn(process: &mut Process, moved: &mut u32) -> u32
     ensures { TurnCall process.old process.new moved.old moved.new result }
 {

@@ -1,9 +1,11 @@
 -- What the parts of a turn push, one after the other.
-use Rattle.std.proofs.Common.{◌≡◌, ◌≢◌, ◌↔◌, ℕ, ◌<◌, Bool, true, false, cond, List, [], ◌∷◌, ◌++◌, length, length-append, refl, ap, sym, subst, ◌∙◌, arith, inl, inr, ◌⊎◌, IsTrue, IsSome, is_some, Option, Some, None, get_or-set_other}
+use Rattle.std.proofs.Common.{◌≡◌, ◌≢◌, ◌↔◌, ℕ, ◌<◌, ◌==◌, Bool, true, false, cond, List, [], ◌∷◌, ◌++◌, length, length-append, refl, ap, sym, subst, ◌∙◌, arith, inl, inr, ◌⊎◌, IsTrue, IsSome, IfSome, is_some, Option, Some, None, get_or-set_other}
 use Rattle.std.proofs.lemmas.Bool.{cases_lt, false≢true}
+use Rattle.std.proofs.lemmas.List.Sums.{sum_by-append, sum_by-cons}
 use Rattle.ulfm_base.specs.declared.item.Item.{Item}
 use Rattle.ulfm_log.specs.State.{GoesOut, State, mark_at, marked, no_mark, outbox}
 use Rattle.ulfm_base.specs.declared.rank.WorldRank.{WorldRank}
+use Rattle.ulfm_carrier.specs.Lanes.{IsFoundInTurn, in_turn}
 use Rattle.ulfm_process.specs.Turning.{GoOut, IsSameProcess, IsStuck, IsTurn, Takes, with_came}
 use Rattle.ulfm_process.specs.View.{ProcessView}
 use Rattle.ulfm_process.specs.inside.Pushing.{GoesOn, PushesOne, TakesNone}
@@ -12,7 +14,7 @@ pub same-then : {a b c : ProcessView} → IsSameProcess a b → IsSameProcess b 
 same-then h k = record { end = k.end ∙ h.end; board = k.board ∙ h.board; known = k.known ∙ h.known }
 
 pub takes-none-then : {a b c : ProcessView} → TakesNone a b → TakesNone b c → TakesNone a c
-takes-none-then h k = record { seen = λ s. k.seen s ∙ h.seen s; same = same-then h.same k.same }
+takes-none-then h k = record { seen = λ s. k.seen s ∙ h.seen s; next = k.next ∙ h.next; same = same-then h.same k.same }
 
 pub go-then : (ds es : List ℕ) (a b c : State) → GoOut ds a b → GoOut es b c → GoOut (ds ++ es) a c
 go-then [] es a b c h k = subst (λ (r : State). GoOut es r c) h k
@@ -28,7 +30,7 @@ box-apart old new d x item k other = rw k.marked (rw (get_or-set_other old.marks
 
 -- nothing goes out
 pub goes-none : (a : ProcessView) → GoesOn a a false
-goes-none a = record { went = []; out = refl; told = (λ t. absurd (false≢true t), λ l. absurd (omega (arith, l))); takes_none = record { seen = λ s. refl; same = record { end = refl; board = refl; known = refl } } }
+goes-none a = record { went = []; out = refl; told = (λ t. absurd (false≢true t), λ l. absurd (omega (arith, l))); rooms = λ p. omega arith; takes_none = record { seen = λ s. refl; next = refl; same = record { end = refl; board = refl; known = refl } } }
 
 told-then : (n m : Bool) (ds es : List ℕ) → (IsTrue m ↔ (0 < length ds)) → (IsTrue n ↔ (0 < length es)) → IsTrue (cond n true m) ↔ (0 < length (ds ++ es))
 told-then true m ds es p q = (λ t. omega (arith, q.0 refl, length-append ds es), λ l. refl)
@@ -47,6 +49,7 @@ goes-then {a} {b} {c} {m} n h g is = record {
   went = h.went ++ g.went;
   out = go-then h.went g.went a.rank b.rank c.rank h.out g.out;
   told = subst (λ x. IsTrue x ↔ (0 < length (h.went ++ g.went))) (sym is) (told-then n m h.went g.went h.told g.told);
+  rooms = λ p. omega (arith, h.rooms p, g.rooms p, sum_by-append (λ x. cond (x == p) 1 0) h.went g.went);
   takes_none = takes-none-then h.takes_none g.takes_none;
 }
 
@@ -56,6 +59,7 @@ goes-one {b = b} {d} inside h = let went = h.went refl in record {
   went = d ∷ [];
   out = (b.rank, went.0, inside, went.1, refl);
   told = (λ t. omega arith, λ l. refl);
+  rooms = λ p. omega (arith, h.rooms p, sum_by-cons (λ x. cond (x == p) 1 0) d []);
   takes_none = h.takes_none;
 }
 
@@ -65,6 +69,7 @@ goes-none-by h = record {
   went = [];
   out = h.stays refl;
   told = (λ t. absurd (false≢true t), λ l. absurd (omega (arith, l)));
+  rooms = λ p. omega (arith, h.rooms p);
   takes_none = h.takes_none;
 }
 
@@ -81,6 +86,15 @@ told-turn {X} took went came n is told {moved} told_is = subst (λ b. IsTrue b �
     by None = (λ t. inr (told.0 t), λ e. elim e [ inl none ↦ absurd (cc) | inr l ↦ told.1 l ])
     by (Some x) = (λ t. inl refl, λ e. refl)
 
+-- what was found in turn still was, after pushes
+found-then : (a b c : ProcessView) (s : ℕ) → IsFoundInTurn a.end b.end s → TakesNone b c → IsFoundInTurn a.end c.end s
+found-then a b c s f t = record { passed = f.passed; turn = f.turn; nothing_seen = λ j low. t.seen (in_turn a.end j) ∙ f.nothing_seen j low; next = t.next ∙ f.next }
+
+-- and so it is of what came, if anything did
+came-then : (a b c : ProcessView) (came : Option (WorldRank × Item)) → IfSome came (λ x. IsFoundInTurn a.end b.end x.0.number) → TakesNone b c → IfSome came (λ x. IsFoundInTurn a.end c.end x.0.number)
+came-then a b c None f t = tt
+came-then a b c (Some x) f t = found-then a b c x.0.number f t
+
 -- a turn
 pub turn-of : {a b c : ProcessView} (took went : Bool) {moved : Bool} → Takes a b took → GoesOn b c went → ((d : ℕ) → d < b.rank.ranks → IsStuck c d) → moved ≡ cond took true went → IsTurn a c moved
 turn-of {a} {b} {c} took went h g stuck is =
@@ -88,9 +102,13 @@ turn-of {a} {b} {c} took went h g stuck is =
     record {
       came = h.came;
       runs = h.runs;
+      in_turn = came-then a b c h.came h.in_turn g.takes_none;
+      same_turn = λ e. g.takes_none.next ∙ h.same_turn e;
       none_seen = λ e. elim (h.none_seen e) [ inl stopped ↦ inl stopped | inr none ↦ inr (λ s. g.takes_none.seen s ∙ none s) ];
+      own_taken = h.own_taken;
       went = g.went;
       only = subst (λ (r : State). GoOut g.went r c.rank) h.only g.out;
+      rooms = λ d. omega (arith, h.rooms d, g.rooms d);
       all_out = λ d l. stuck d (omega (arith, l, ranks));
       told = told-turn took went h.came (length g.went) h.told g.told is;
       same = same-then h.same g.takes_none.same;

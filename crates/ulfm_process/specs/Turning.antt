@@ -1,8 +1,9 @@
 -- What a turn of a process moves.
-use Rattle.std.specs.Prelude.{◌≡◌, ℕ, ◌<◌, Bool, true, false, IsTrue, ◌↔◌, length, List, [], ◌∷◌, ◌⊎◌, Option, Some, None, IsSome, is_some}
+use Rattle.std.specs.List.{count_by}
+use Rattle.std.specs.Prelude.{◌≡◌, ℕ, ◌<◌, ◌≤◌, ◌+◌, ◌==◌, Bool, true, false, IsTrue, ◌↔◌, length, List, [], ◌∷◌, ◌⊎◌, Option, Some, None, IsSome, IfSome, is_some}
 use Rattle.ulfm_base.specs.declared.item.Item.{Item}
 use Rattle.ulfm_base.specs.declared.rank.WorldRank.{WorldRank}
-use Rattle.ulfm_carrier.specs.Lanes.{known_room, lane_name, seen_from}
+use Rattle.ulfm_carrier.specs.Lanes.{IsFoundInTurn, known_room, lane_name, lane_pushed, lane_taken, seen_from}
 use Rattle.ulfm_log.specs.declared.entry.Entry.TheVariants.{Took}
 use Rattle.ulfm_log.specs.Facts.{is_stopped}
 use Rattle.ulfm_log.specs.State.{State, GoesOut, logged, outbox}
@@ -28,22 +29,32 @@ pub record IsSameProcess (old new : ProcessView) : Type 0 where
   pub board : new.board ≡ old.board
   pub known : new.known ≡ old.known
 
--- A running rank takes what came, one item at most: none where none is seen in any ring.
+-- A running rank takes what came, one item at most: of the first rank in turn of which one is seen. None comes where none is seen in any ring:
+-- then the turn stays, and all that the rank had pushed to itself was taken.
 pub record Takes (old new : ProcessView) (took : Bool) : Type 0 where
   pub came : Option (WorldRank × Item)
   pub runs : IsSome came → is_stopped old.rank.log ≡ false
   pub only : new.rank ≡ with_came old.rank came
+  pub in_turn : IfSome came (λ x. IsFoundInTurn old.end new.end x.0.number)
+  pub same_turn : came ≡ None → new.end.next ≡ old.end.next
   pub none_seen : came ≡ None → (is_stopped old.rank.log ≡ true) ⊎ ((s : ℕ) → seen_from new.end s ≡ [])
+  pub own_taken : came ≡ None → (is_stopped old.rank.log ≡ true) ⊎ (lane_taken old.end old.end.me.number ≡ lane_pushed old.end old.end.me.number)
+  pub rooms : (d : ℕ) → known_room old.end d ≤ known_room new.end d
   pub told : took ≡ is_some came
   pub same : IsSameProcess old new
 
--- A turn: the rank takes what came, and then what waits goes out, until nothing can. It is told whether anything moved.
+-- A turn: the rank takes what came, of the first rank in turn of which an item is seen, and then what waits goes out, until nothing can. No place
+-- that was known to be free is lost but to what went out. It is told whether anything moved.
 pub record IsTurn (old new : ProcessView) (moved : Bool) : Type 0 where
   pub came : Option (WorldRank × Item)
   pub runs : IsSome came → is_stopped old.rank.log ≡ false
+  pub in_turn : IfSome came (λ x. IsFoundInTurn old.end new.end x.0.number)
+  pub same_turn : came ≡ None → new.end.next ≡ old.end.next
   pub none_seen : came ≡ None → (is_stopped old.rank.log ≡ true) ⊎ ((s : ℕ) → seen_from new.end s ≡ [])
+  pub own_taken : came ≡ None → (is_stopped old.rank.log ≡ true) ⊎ (lane_taken old.end old.end.me.number ≡ lane_pushed old.end old.end.me.number)
   pub went : List ℕ
   pub only : GoOut went (with_came old.rank came) new.rank
+  pub rooms : (d : ℕ) → known_room old.end d ≤ known_room new.end d + count_by (λ x. x == d) went
   pub all_out : (d : ℕ) → d < old.rank.ranks → IsStuck new d
   pub told : IsTrue moved ↔ (IsSome came ⊎ (0 < length went))
   pub same : IsSameProcess old new

@@ -4,6 +4,8 @@ ghost use Rattle.ulfm_base.specs.Context.{shrink_of};
 ghost use Rattle.ulfm_base.specs.Decision.{left_out};
 ghost use Rattle.ulfm_base.specs.Topic.{shrink_topic};
 ghost use Rattle.ulfm_base.specs.declared.decision.Decision.{Decision as Decided};
+ghost use Rattle.ulfm_base.specs.declared.topic.Topic.{Topic};
+ghost use Rattle.ulfm_board.specs.Known.{BothAgree, known_at};
 ghost use Rattle.ulfm_process.specs.Deciding.{Adopts, IsPollRefusal, Waits};
 ghost use Rattle.ulfm_log.specs.Proposal.{last_agreement};
 
@@ -67,5 +69,15 @@ impl Process {
             Ok(value) => return Ok(Some((value, missing))),
             Err(error) => return Err(error),
         }
+    }
+
+    /// Two processes of one board know no two decisions on one shrink or agreement. It changes nothing, and never answers out of memory.
+    pub fn same(&mut self, other: &mut Process)
+        requires board { other.old.board ≡ self.old.board }
+        ensures unchanged { self.new ≡ self.old }
+        ensures unchanged_other { other.new ≡ other.old }
+        ensures agree { (topic : Topic) → BothAgree (known_at self.old.known topic) (known_at other.old.known topic) }
+    {
+        self.seat.same(&mut other.seat);
     }
 }

@@ -1,5 +1,6 @@
 //! What comes in, and what goes out.
-ghost use Rattle.std.specs.Prelude.{◌≡◌, ◌<◌, ◌↔◌, ℕ, [], IsTrue, IfOk, OnErr};
+ghost use Rattle.std.specs.Prelude.{◌≡◌, ◌<◌, ◌↔◌, ℕ, [], false, IsTrue, IfOk, OnErr};
+ghost use Rattle.ulfm_log.specs.Facts.{is_stopped};
 ghost use Rattle.ulfm_process.specs.Turning.{IsStuck, IsTurn, Takes};
 ghost use Rattle.ulfm_process.specs.inside.Pushing.{GoesOn, PushesOne, PushesTo};
 ghost use Rattle.ulfm_log.specs.State.{outbox};
@@ -8,15 +9,17 @@ use super::Process;
 use ulfm_base::OutOfMemory;
 
 impl Process {
-    /// Takes an item that came, if there is one, and pushes what waits to go out, to each rank as far as its ring has places.
+    /// Takes an item that came, if there is one, and pushes what waits to go out, to each rank as far as its end knows of places in
+    /// the ring. It looks at the ranks upwards and round, from the one after the last of which it took, first of all from rank 0.
     /// Answers whether anything moved. Where nothing did, the rank has nothing to do until another one moves.
     ///
     /// # Errors
     ///
-    /// `OutOfMemory` where a growth was refused. Then nothing changed.
+    /// `OutOfMemory` where the rank runs and a growth was refused. Then nothing changed.
     pub fn turn(&mut self) -> Result<bool, OutOfMemory>
         ensures turn { IfOk result (IsTurn self.old self.new) }
         ensures unchanged { OnErr result (self.new ≡ self.old) }
+        ensures runs { OnErr result (is_stopped self.old.rank.log ≡ false) }
     {
         let came = self.take_one()?;
         let went = self.push_all();
@@ -42,6 +45,7 @@ impl Process {
     fn take_one(&mut self) -> Result<bool, OutOfMemory>
         ensures takes { IfOk result (Takes self.old self.new) }
         ensures unchanged { OnErr result (self.new ≡ self.old) }
+        ensures runs { OnErr result (is_stopped self.old.rank.log ≡ false) }
     {
         if self.rank.is_stopped() {
             return Ok(false);

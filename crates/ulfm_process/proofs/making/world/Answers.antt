@@ -25,6 +25,7 @@ returns-clause-world c =
           started ∙ ap (λ i. start_state_with false i c.args.ranks) number;
       one_call = subst (λ (l : List LaneEnds). OneCall (map lane_name l)) (sym made.ends) ends.family;
       room = λ k d p here few. ends.room k d p.end (its_end k p here) few;
+      first = λ k p here. ends.first k p.end (its_end k p here);
       one_board = (seats.one_board.0, each_of_front seat_of in_seat (λ x. x.0 ≡ Some seats.one_board.0) all c.in_ok-seats.seats.items made.seats.0 made.seats.1 seats.one_board.1);
       none_known = each_of_front seat_of in_seat (λ x. x.1 ≡ nothing_known c.args.rounds) all c.in_ok-seats.seats.items made.seats.0 made.seats.1 seats.nothing_known;
     }

@@ -1,8 +1,8 @@
-use Rattle.std.proofs.Common.{◌≡◌, ℕ, [], ap, refl, sym, subst, ◌∙◌, arith, inl, inr}
-use Rattle.std.proofs.lemmas.Bool.{false≢true}
+use Rattle.std.proofs.Common.{◌≡◌, ◌≤◌, ◌+◌, ◌==◌, ℕ, [], ap, refl, sym, subst, ◌∙◌, arith, inl, inr, cond}
+use Rattle.std.proofs.lemmas.Bool.{cases_eq, cases_lt, eq-eqb, false≢true}
 use Rattle.std.specs.Prelude.{slice_index_or, map}
 use Rattle.ulfm_base.specs.Items.{ComesFrom}
-use Rattle.ulfm_carrier.specs.Lanes.{seen_in}
+use Rattle.ulfm_carrier.specs.Lanes.{known_room, seen_in}
 use Rattle.ulfm_rank.proofs.Joining.{joined-pushed, joined-returned}
 use Rattle.ulfm_rank.proofs.Signed.{front_signed}
 use Rattle.ulfm_log.proofs.States.{comes-back}
@@ -31,11 +31,15 @@ returns-in-Ok c =
       went = λ e. (c.in-Some.item, leaves);
       stays = λ e. absurd (false≢true (sym e));
       stuck = λ e. absurd (false≢true (sym e));
+      rooms = λ p. elim (cases_eq p c.args.dest) [
+        | inl at ↦ subst (λ i. known_room c.self.inside.end i ≤ known_room c.push_now.new.self i + cond (c.args.dest == i) 1 0) (sym at) (omega (arith, t.one_place, ap {B = ℕ} (λ b. cond b 1 0) (eq-eqb c.args.dest c.args.dest refl)))
+        | inr other ↦ omega (arith, t.other_rooms p other)
+      ];
       others = λ p other stuck. elim stuck [
         | inl none ↦ inl (box-apart c.self.inside.rank.state c.take_out.new.self.state c.args.dest p c.in-Some.item leaves other ∙ none)
         | inr full ↦ inr (t.other_rooms p other ∙ full)
       ];
-      takes_none = record { seen = λ s. ap (λ ins. slice_index_or (map seen_in ins.items) s []) t.inbox.0; same = record { end = t.name.0; board = refl; known = refl } };
+      takes_none = record { seen = λ s. ap (λ ins. slice_index_or (map seen_in ins.items) s []) t.inbox.0; next = t.inbox.1; same = record { end = t.name.0; board = refl; known = refl } };
     })
 
 pub invariant_of-self-in-Err : goal.invariant_of-self-in-Err
@@ -52,11 +56,18 @@ returns-in-Err c =
       went = λ e. absurd (false≢true e);
       stays = λ e. back;
       stuck = λ e. inr t.full;
+      rooms = λ p. elim (cases_eq p c.args.dest) [
+        | inl at ↦ subst (λ i. known_room c.self.inside.end i ≤ known_room c.push_now.new.self i + 0) (sym at) (elim (cases_lt 0 (known_room c.self.inside.end c.args.dest)) [
+          | inl some ↦ absurd (false≢true (t.succeeds some))
+          | inr none ↦ omega (arith, none)
+        ])
+        | inr other ↦ omega (arith, t.other_rooms p other)
+      ];
       others = λ p other stuck. elim stuck [
         | inl none ↦ inl (ap (λ (r : State). outbox r p) back ∙ none)
         | inr full ↦ inr (t.other_rooms p other ∙ full)
       ];
-      takes_none = record { seen = λ s. ap (λ ins. slice_index_or (map seen_in ins.items) s []) t.inbox.0; same = record { end = t.name.0; board = refl; known = refl } };
+      takes_none = record { seen = λ s. ap (λ ins. slice_index_or (map seen_in ins.items) s []) t.inbox.0; next = t.inbox.1; same = record { end = t.name.0; board = refl; known = refl } };
     })
 
 pub returns-in_default : goal.returns-in_default
@@ -66,9 +77,10 @@ returns-in_default c =
       went = λ e. absurd (false≢true e);
       stays = λ e. same;
       stuck = λ e. inl (ap (λ (r : State). outbox r c.args.dest) same ∙ c.in_default.ensures.none);
+      rooms = λ p. omega arith;
       others = λ p other stuck. elim stuck [
         | inl none ↦ inl (ap (λ (r : State). outbox r p) same ∙ none)
         | inr full ↦ inr full
       ];
-      takes_none = record { seen = λ s. refl; same = record { end = refl; board = refl; known = refl } };
+      takes_none = record { seen = λ s. refl; next = refl; same = record { end = refl; board = refl; known = refl } };
     })
