@@ -2,5 +2,6 @@ pub mod Unswept
 pub mod Tallied
 pub mod Totals
 pub mod Failing
+pub mod Left
 pub mod Statuses
 pub mod Rows

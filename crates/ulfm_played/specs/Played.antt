@@ -1,14 +1,16 @@
 -- What the program writes for a job that is played: replayed, run, or drawn.
-use Rattle.std.specs.Prelude.{◌≡◌, ℕ, Bool, List, length, map, Option, Some, None, All}
+use Rattle.std.specs.Prelude.{◌≡◌, ◌≤◌, ℕ, Bool, List, [], length, map, Option, Some, None, All}
 use Rattle.std.specs.List.{list_all, list_any}
 use Rattle.std.specs.Option.{option_map_or}
+use Rattle.ulfm_base.specs.Items.{items_from}
 use Rattle.ulfm_job.specs.Job.{JobView, with_turns}
 use Rattle.ulfm_stops.specs.declared.place.Place.{Place}
 use Rattle.ulfm_answer.specs.Report.{Report}
 use Rattle.ulfm_json.specs.Form.{trace_in}
 use Rattle.ulfm_json.specs.declared.form.Form.{Form}
-use Rattle.ulfm_laws.specs.Flow.{AreWithin}
+use Rattle.ulfm_laws.specs.Flow.{AreWithin, Inboxes, inbox_of}
 use Rattle.ulfm_laws.specs.Lawful.{IsLawful}
+use Rattle.ulfm_laws.specs.Reports.{IsEach}
 use Rattle.ulfm_run.specs.Fault.{ShowUntrue}
 use Rattle.ulfm_laws.specs.Room.{HaveRoom}
 use Rattle.ulfm_world.specs.Replay.{MadeAtRest}
@@ -42,15 +44,22 @@ pub data IsDrawReply (form : Form) (turns : Option ℕ) (place : Place) (bytes :
   not_drawn : (status : ℕ) (text : List ℕ) → IsRefusal form place bytes status text → IsDrawReply form turns place bytes status text
   undrawn : (told : Form) → IsDrawReply form turns place bytes 3 (out_of_memory_in told)
 
+-- there is an inbox for each rank of the job, and nothing is left in it of others
+pub record AreOfRanks (job : JobView) (inboxes : Inboxes) : Type 0 where
+  pub each : IsEach job inboxes
+  pub no_others : (s d : ℕ) → job.ranks ≤ s → items_from s (inbox_of inboxes d) ≡ []
+
 -- the reports are lawful for the job; rings of its places hold what is left in inboxes, and allow an order of all logs
 pub record AreOfRun (job : JobView) (reports : List Report) : Type 0 where
   pub lawful : IsLawful job reports
+  pub own : AreOfRanks job lawful.inboxes
   pub within : AreWithin lawful.inboxes job.capacity
   pub room : HaveRoom reports job.capacity
 
 -- the reports are lawful for the job; rings of its places don't hold what is left in inboxes, or allow no order of all logs
 pub record ShowNoRoom (job : JobView) (reports : List Report) : Type 0 where
   pub lawful : IsLawful job reports
+  pub own : AreOfRanks job lawful.inboxes
   pub crowded : HaveRoom reports job.capacity → AreWithin lawful.inboxes job.capacity → ⊥
 
 -- The same for `run`: with 0, 6 or 9, the trace of reports that are lawful for the job and had room, whichever thread went when; with 3

@@ -8,7 +8,7 @@ ghost use Rattle.ulfm_carrier.specs.Lanes.{known_room, lane_name, lane_pushed, l
 ghost use Rattle.ulfm_carrier.specs.Shared.{inbox_capacity, shared_name, shared_pushed, shared_taken, IsReady as IsReadyShared, OneCall as OneSharedCall};
 ghost use Rattle.ulfm_board.specs.Known.{OneBoard, nothing_known};
 ghost use Rattle.ulfm_played.specs.inside.Cells.{AreEnough};
-ghost use Rattle.ulfm_played.specs.Played.{AreOfRun, IsRunReply};
+ghost use Rattle.ulfm_played.specs.Played.{AreOfRanks, AreOfRun, IsRunReply};
 ghost use Rattle.ulfm_played.specs.inside.Shown.{IsShown};
 ghost use Rattle.ulfm_replies.specs.CommandLine.{AreInRange};
 ghost use Rattle.ulfm_laws.specs.Lawful.{LawfulReport};
@@ -174,6 +174,7 @@ fn run_by<E: Ends + Send, R: Threads + Wait + Sync>(
 /// What the ranks of a job did, if rings of the job's places allow it and what is left in the inboxes.
 fn fitting<E: Drop, D: Drop>(job: &Job, report: Report<E, D>) -> Result<Vec<RankReport>, Failure>
     requires lawful { (knows : List Known) × LawfulReport job.now (contents report.residue.inboxes.items) knows report.ranks.items }
+    requires own { AreOfRanks job.now (contents report.residue.inboxes.items) }
     ensures ran { IfOk result (λ reports. AreOfRun job.now reports.items) }
     ensures shown { IfErr result (λ failure. IsShown job.now failure) }
 {

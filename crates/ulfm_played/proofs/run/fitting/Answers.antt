@@ -13,6 +13,7 @@ returns-clause-ran g c =
     let inboxes = contents c.args.report.residue.inboxes.items in
     let fit = c.fits.ensures.0 c.if-not-fits.false in record {
       lawful = record { inboxes = inboxes; knows = c.requires.lawful.0; lawful = c.requires.lawful.1 };
+      own = c.requires.own;
       within = subst (λ (n : ℕ). AreWithin inboxes n) c.capacity.ensures.exact fit.1;
       room = subst (λ (n : ℕ). HaveRoom c.args.report.ranks.items n) c.capacity.ensures.exact fit.0;
     }
@@ -23,6 +24,7 @@ returns-then-not-fits-clause-shown g c =
       reports,
       inr (record {
         lawful = record { inboxes = inboxes; knows = c.requires.lawful.0; lawful = c.requires.lawful.1 };
+        own = c.requires.own;
         crowded = λ room within. false≢true (sym c.if-not-fits.true ∙ c.fits.ensures.1 (subst (λ (n : ℕ). HaveRoom reports n) same room, subst (λ (n : ℕ). AreWithin inboxes n) same within));
       }),
     )
