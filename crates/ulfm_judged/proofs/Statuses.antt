@@ -34,7 +34,7 @@ list_known : (form : Form) (options : ListOptions) (bytes : List ℕ) (status : 
 list_known form options bytes status text (listed asked reached k words is all judged) = judged_known form options asked.job _ _ _ status text judged
 list_known form options bytes status text (past_limit asked is many) = statuses.past
 list_known form options bytes status text (not_listed k words is) = no_play form options.place bytes status text is
-list_known form options bytes status text (unlisted told) = statuses.run_fails
+list_known form options bytes status text unlisted = statuses.run_fails
 
 show_known : (form : Form) (options : ListOptions) (show bytes : List ℕ) (status : ℕ) (text : List ℕ) → IsShowReply form options show bytes status text → IsKnown status
 show_known form options show bytes status text (shown asked answers is named goals are words picture told same) = statuses.done
@@ -42,7 +42,7 @@ show_known form options show bytes status text (nowhere job answers is named goa
 show_known form options show bytes status text (too_many job answers is named goals are told) = statuses.past
 show_known form options show bytes status text (unnamed job part is named) = statuses.no_job
 show_known form options show bytes status text (not_shown k words is) = no_play form options.place bytes status text is
-show_known form options show bytes status text (unshown told) = statuses.run_fails
+show_known form options show bytes status text unshown = statuses.run_fails
 
 each_judged_known : (form : Form) (options : ListOptions) (asked : Asked) (places : List Place) (alone status : ℕ) (text : List ℕ) → IsKnown alone → IsJudgedEach form options asked places alone status text → IsKnown status
 each_judged_known form options asked places alone status text known (each.wanted all) = known
@@ -54,7 +54,7 @@ each_known form options stops bytes status text (each.listed_all asked lists k w
 each_known form options stops bytes status text (each.past_limit_at asked lists place k words is are judged) = each_judged_known form options asked _ _ status _ statuses.past judged
 each_known form options stops bytes status text (each.no_room_for_stops asked is many) = statuses.no_job
 each_known form options stops bytes status text (each.not_listed_at_all k words is) = no_play form Nowhere bytes status text is
-each_known form options stops bytes status text (each.no_memory_for_lists told) = statuses.run_fails
+each_known form options stops bytes status text each.no_memory_for_lists = statuses.run_fails
 
 show_each_known : (form : Form) (options : ListOptions) (stops : ℕ) (show bytes : List ℕ) (status : ℕ) (text : List ℕ) → IsShowEachReply form options stops show bytes status text → IsKnown status
 show_each_known form options stops show bytes status text (each_shown.shown_at asked answers place is named first goals are words told shows same) = statuses.done
@@ -63,7 +63,7 @@ show_each_known form options stops show bytes status text (each_shown.too_many_a
 show_each_known form options stops show bytes status text (each_shown.unnamed_at_all asked part is named) = statuses.no_job
 show_each_known form options stops show bytes status text (each_shown.no_room_to_show asked is many) = statuses.no_job
 show_each_known form options stops show bytes status text (each_shown.not_shown_at_all k words is) = no_play form Nowhere bytes status text is
-show_each_known form options stops show bytes status text (each_shown.no_memory_to_show_each told) = statuses.run_fails
+show_each_known form options stops show bytes status text each_shown.no_memory_to_show_each = statuses.run_fails
 
 pub by_known : (form : Form) (show : Option (List ℕ)) (stops : Option ℕ) (options : ListOptions) (bytes : List ℕ) (status : ℕ) (text : List ℕ) → IsReplyBy form show stops options bytes status text → IsKnown status
 by_known form None None options bytes status text h = list_known form options bytes status text h
@@ -72,8 +72,8 @@ by_known form (Some goals) None options bytes status text h = show_known form op
 by_known form (Some goals) (Some stops) options bytes status text h = show_each_known form options stops goals bytes status text h
 
 -- out of memory is what each may come to
-pub starved_list : (told form : Form) (show : Option (List ℕ)) (stops : Option ℕ) (options : ListOptions) (bytes : List ℕ) → IsReplyBy form show stops options bytes 3 (out_of_memory_in told)
-starved_list told form None None options bytes = unlisted told
-starved_list told form None (Some stops) options bytes = each.no_memory_for_lists told
-starved_list told form (Some goals) None options bytes = unshown told
-starved_list told form (Some goals) (Some stops) options bytes = each_shown.no_memory_to_show_each told
+pub starved_list : (form : Form) (show : Option (List ℕ)) (stops : Option ℕ) (options : ListOptions) (bytes : List ℕ) → IsReplyBy form show stops options bytes 3 (out_of_memory_in form)
+starved_list form None None options bytes = unlisted
+starved_list form None (Some stops) options bytes = each.no_memory_for_lists
+starved_list form (Some goals) None options bytes = unshown
+starved_list form (Some goals) (Some stops) options bytes = each_shown.no_memory_to_show_each

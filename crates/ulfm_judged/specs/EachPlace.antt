@@ -77,4 +77,4 @@ pub data IsEachPlaceReply (form : Form) (options : ListOptions) (stops : ℕ) (b
       → IsEachPlaceReply form options stops bytes status (more_at form options.limit place ++ text)
   no_room_for_stops : (asked : Asked) → IsAskedAt Nowhere bytes asked → 256 < step_count asked.job.scripts + stops → IsEachPlaceReply form options stops bytes 1 (refused_in form TooLarge)
   not_listed_at_all : (status : ℕ) (text : List ℕ) → IsRefusal form Nowhere bytes status text → IsEachPlaceReply form options stops bytes status text
-  no_memory_for_lists : (told : Form) → IsEachPlaceReply form options stops bytes 3 (out_of_memory_in told)
+  no_memory_for_lists : IsEachPlaceReply form options stops bytes 3 (out_of_memory_in form)

@@ -73,7 +73,7 @@ pub data IsOutcomesReply (form : Form) (options : ListOptions) (bytes : List ℕ
   past_limit : (asked : Asked) → IsAskedAt options.place bytes asked → IsList asked.job options.limit More
       → IsOutcomesReply form options bytes 7 (list_in form (names_at options.place bytes) asked.job More options.limit)
   not_listed : (status : ℕ) (text : List ℕ) → IsRefusal form options.place bytes status text → IsOutcomesReply form options bytes status text
-  unlisted : (told : Form) → IsOutcomesReply form options bytes 3 (out_of_memory_in told)
+  unlisted : IsOutcomesReply form options bytes 3 (out_of_memory_in form)
 
 -- the line for a goal that names no answer of the job
 abbrev pub no_goal : List ℕ → List ℕ
@@ -95,4 +95,4 @@ pub data IsShowReply (form : Form) (options : ListOptions) (show bytes : List �
       → IsTold asked.job goals options.is_brief options.limit (many options.limit) → IsShowReply form options show bytes 7 (told_in form (many options.limit))
   unnamed : (asked : Asked) (text : List ℕ) → IsAskedAt options.place bytes asked → goals_asked asked show ≡ Err text → IsShowReply form options show bytes 1 (no_goal text)
   not_shown : (status : ℕ) (text : List ℕ) → IsRefusal form options.place bytes status text → IsShowReply form options show bytes status text
-  unshown : (told : Form) → IsShowReply form options show bytes 3 (out_of_memory_in told)
+  unshown : IsShowReply form options show bytes 3 (out_of_memory_in form)

@@ -61,4 +61,4 @@ pub data IsShowEachReply (form : Form) (options : ListOptions) (stops : ℕ) (sh
   unnamed_at_all : (asked : Asked) (text : List ℕ) → IsAskedAt Nowhere bytes asked → goals_asked asked show ≡ Err text → IsShowEachReply form options stops show bytes 1 (no_goal text)
   no_room_to_show : (asked : Asked) → IsAskedAt Nowhere bytes asked → 256 < step_count asked.job.scripts + stops → IsShowEachReply form options stops show bytes 1 (refused_in form TooLarge)
   not_shown_at_all : (status : ℕ) (text : List ℕ) → IsRefusal form Nowhere bytes status text → IsShowEachReply form options stops show bytes status text
-  no_memory_to_show_each : (told : Form) → IsShowEachReply form options stops show bytes 3 (out_of_memory_in told)
+  no_memory_to_show_each : IsShowEachReply form options stops show bytes 3 (out_of_memory_in form)

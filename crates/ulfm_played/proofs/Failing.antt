@@ -19,7 +19,7 @@ use Rattle.ulfm_played.specs.inside.Shown.{IsShown}
 
 pub run_failed : (form : Form) {options : RunOptions} (asked : Asked) (f : Failure) (bytes : List ℕ) → IsAskedAt options.place bytes asked → IsShown (given_turns options.turns asked.job) f → IsRunReply form options bytes 3 (failed_in form f)
 run_failed form asked run.NoThread bytes h s = no_thread asked h
-run_failed form asked run.OutOfMemory bytes h s = fell form
+run_failed form asked run.OutOfMemory bytes h s = fell
 run_failed form asked run.Untrue bytes h s = elim (s.1) [
   | inl shows ↦ untrue asked s.0 h shows
   | inr full ↦ crowded asked s.0 h full

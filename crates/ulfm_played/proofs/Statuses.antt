@@ -19,7 +19,7 @@ played false true is_unfinished = done
 pub replayed : (form : Form) (is_strict : Bool) (turns : Option ℕ) (place : Place) (bytes : List ℕ) (status : ℕ) (text : List ℕ) → IsReplayReply form is_strict turns place bytes status text → IsKnown status
 replayed form is_strict turns place bytes status text (traced asked reports is rests) = played is_strict (as_asked asked.rows (given_turns turns asked.job) reports) (has_unfinished (given_turns turns asked.job) reports)
 replayed form is_strict turns place bytes status text (not_replayed k words is) = no_play form place bytes status text is
-replayed form is_strict turns place bytes status text (failed told) = run_fails
+replayed form is_strict turns place bytes status text failed = run_fails
 
 pub run_known : (form : Form) (options : RunOptions) (bytes : List ℕ) (status : ℕ) (text : List ℕ) → IsRunReply form options bytes status text → IsKnown status
 run_known form options bytes status text (ran asked reports once is lawful) = played options.is_strict (as_asked asked.rows (given_turns options.turns asked.job) reports) (has_unfinished (given_turns options.turns asked.job) reports)
@@ -28,16 +28,16 @@ run_known form options bytes status text (not_run k words is) = no_play form opt
 run_known form options bytes status text (no_thread asked is) = run_fails
 run_known form options bytes status text (untrue asked reports is shows) = run_fails
 run_known form options bytes status text (crowded asked reports is shows) = run_fails
-run_known form options bytes status text (fell told) = run_fails
+run_known form options bytes status text fell = run_fails
 
 pub sweep_known : (form : Form) (bytes : List ℕ) (status : ℕ) (text : List ℕ) → IsSweepReply form bytes status text → IsKnown status
 sweep_known form bytes status text (swept job lines is few places each) = done
 sweep_known form bytes status text (unread f is) = no_job
 sweep_known form bytes status text (full job is many) = no_job
 sweep_known form bytes status text unmade = no_job
-sweep_known form bytes status text (unswept told) = run_fails
+sweep_known form bytes status text unswept = run_fails
 
 pub drawn_known : (form : Form) (turns : Option ℕ) (place : Place) (bytes : List ℕ) (status : ℕ) (text : List ℕ) → IsDrawReply form turns place bytes status text → IsKnown status
 drawn_known form turns place bytes status text (drawn asked reports picture is rests) = done
 drawn_known form turns place bytes status text (not_drawn k words is) = no_play form place bytes status text is
-drawn_known form turns place bytes status text (undrawn told) = run_fails
+drawn_known form turns place bytes status text undrawn = run_fails

@@ -34,7 +34,7 @@ pub data IsReplayReply (form : Form) (is_strict : Bool) (turns : Option ℕ) (pl
   traced : (asked : Asked) (reports : List Report) → IsAskedAt place bytes asked → MadeAtRest (given_turns turns asked.job) reports
       → IsReplayReply form is_strict turns place bytes (played_status is_strict (as_asked asked.rows (given_turns turns asked.job) reports) (has_unfinished (given_turns turns asked.job) reports)) (trace_in form (names_at place bytes) (given_turns turns asked.job) reports)
   not_replayed : (status : ℕ) (text : List ℕ) → IsRefusal form place bytes status text → IsReplayReply form is_strict turns place bytes status text
-  failed : (told : Form) → IsReplayReply form is_strict turns place bytes 3 (out_of_memory_in told)
+  failed : IsReplayReply form is_strict turns place bytes 3 (out_of_memory_in form)
 
 -- The status and the text that `draw` gives for these bytes: with 0 the picture of a replay of the job, as `replay` tells of one. What stands in
 -- the picture isn't said here.
@@ -42,7 +42,7 @@ pub data IsDrawReply (form : Form) (turns : Option ℕ) (place : Place) (bytes :
   drawn : (asked : Asked) (reports : List Report) (picture : List ℕ) → IsAskedAt place bytes asked → MadeAtRest (given_turns turns asked.job) reports
       → IsDrawReply form turns place bytes 0 picture
   not_drawn : (status : ℕ) (text : List ℕ) → IsRefusal form place bytes status text → IsDrawReply form turns place bytes status text
-  undrawn : (told : Form) → IsDrawReply form turns place bytes 3 (out_of_memory_in told)
+  undrawn : IsDrawReply form turns place bytes 3 (out_of_memory_in form)
 
 -- there is an inbox for each rank of the job, and nothing is left in it of others
 pub record AreOfRanks (job : JobView) (inboxes : Inboxes) : Type 0 where
@@ -79,4 +79,4 @@ pub data IsRunReply (form : Form) (options : RunOptions) (bytes : List ℕ) : �
   crowded : (asked : Asked) (reports : List Report) → IsAskedAt options.place bytes asked
       → ShowNoRoom (given_turns options.turns asked.job) reports
       → IsRunReply form options bytes 3 (failed_in form run.Untrue)
-  fell : (told : Form) → IsRunReply form options bytes 3 (out_of_memory_in told)
+  fell : IsRunReply form options bytes 3 (out_of_memory_in form)

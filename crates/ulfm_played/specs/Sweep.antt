@@ -43,4 +43,4 @@ pub data IsSweepReply (form : Form) (bytes : List ℕ) : ℕ → List ℕ → Ty
   unread : (f : JobFault) → job_of_bytes bytes ≡ Err f → IsSweepReply form bytes 1 (refused_in form f)
   full : (job : JobView) → job_of_bytes bytes ≡ Ok (plan_of job) → step_count job.scripts ≡ 256 → IsSweepReply form bytes 1 (refused_in form TooLarge)
   unmade : IsSweepReply form bytes 1 (refused_in form OutOfMemory)
-  unswept : (told : Form) → IsSweepReply form bytes 3 (out_of_memory_in told)
+  unswept : IsSweepReply form bytes 3 (out_of_memory_in form)

@@ -9,30 +9,28 @@ use Rattle.ulfm_replies.specs.Expanded as expanded
 use Rattle.ulfm_replies.specs.Places as places
 use Rattle.ulfm_replies.specs.Replies.{starved}
 use Rattle.ulfm_judged.proofs.Statuses.{starved_list}
-use Rattle.ulfm_program.specs.Replies.{IsReplyTo, IsWhole, GetsReply, GetsBeginning, GetsFrontOf}
+use Rattle.ulfm_program.specs.Replies.{IsReplyIn, IsWhole, GetsReply, GetsBeginning, GetsFrontOf}
 use Rattle.ulfm_played.specs.Played.{failed, undrawn, fell}
 use Rattle.ulfm_played.specs.Sweep.{unswept}
 
--- out of memory is a reply to any words
-starved_reply : (told form : Form) (show : Option (List ℕ)) (wanted : Wanted) (bytes : List ℕ) → IsReplyTo form show wanted bytes 3 (out_of_memory_in told)
-starved_reply told form show Check bytes = starved told
-starved_reply told form show (Replay is_strict turns place) bytes = failed told
-starved_reply told form show (Run options) bytes = fell told
-starved_reply told form show Sweep bytes = unswept told
-starved_reply told form show (Outcomes options) bytes = starved_list told form show options.stops options bytes
-starved_reply told form show (Places stops) bytes = places.starved told
-starved_reply told form show Expand bytes = expanded.starved told
-starved_reply told form show (Draw style turns place) bytes = undrawn told
+-- out of memory is a reply to any words, in the form that they ask for
+pub starved_reply : (form : Form) (show : Option (List ℕ)) (wanted : Wanted) (bytes : List ℕ) → IsReplyIn form show wanted bytes 3 (out_of_memory_in form)
+starved_reply form show Check bytes = starved
+starved_reply form show (Replay is_strict turns place) bytes = failed
+starved_reply form show (Run options) bytes = fell
+starved_reply form show Sweep bytes = unswept
+starved_reply form show (Outcomes options) bytes = starved_list form show options.stops options bytes
+starved_reply form show (Places stops) bytes = places.starved
+starved_reply form show Expand bytes = expanded.starved
+starved_reply form show (Draw style turns place) bytes = undrawn
 
-pub starved_gets : (told form : Form) (show : Option (List ℕ)) (wanted : Wanted) (most : ℕ) (rest old new : Option (List ℕ)) (status : ℕ) → (status ≢ 4 → (status ≡ 3) × Appends old new (out_of_memory_in told)) → IsWhole status → IfSome rest (λ bytes. GetsReply (IsReplyTo form show wanted (take most bytes)) old new status)
-starved_gets told form show wanted most None old new status h l = tt
-starved_gets told form show wanted most (Some bytes) old new status h l =
-    let w = h l.0 in (
-      out_of_memory_in told,
-      subst (λ (k : ℕ). IsReplyTo form show wanted (take most bytes) k (out_of_memory_in told)) (sym w.0) (starved_reply told form show wanted (take most bytes)),
-      w.1,
-    )
+-- such a line is written whole
+pub starved_gets : (IsReply : List ℕ → ℕ → List ℕ → Type 0) (line : List ℕ) → ((bytes : List ℕ) → IsReply bytes 3 line) → (most : ℕ) (rest old new : Option (List ℕ)) (status : ℕ) → (status ≢ 4 → (status ≡ 3) × Appends old new line) → IsWhole status → IfSome rest (λ bytes. GetsReply (IsReply (take most bytes)) old new status)
+starved_gets IsReply line is most None old new status h l = tt
+starved_gets IsReply line is most (Some bytes) old new status h l =
+    let w = h l.0 in (line, subst (λ (k : ℕ). IsReply (take most bytes) k line) (sym w.0) (is (take most bytes)), w.1)
 
-pub starved_begins : (told form : Form) (show : Option (List ℕ)) (wanted : Wanted) (most : ℕ) (rest old new : Option (List ℕ)) (status : ℕ) → (status ≡ 4 → GetsFrontOf old new (out_of_memory_in told)) → status ≡ 4 → IfSome rest (λ bytes. GetsBeginning (IsReplyTo form show wanted (take most bytes)) old new)
-starved_begins told form show wanted most None old new status h e = tt
-starved_begins told form show wanted most (Some bytes) old new status h e = (3, out_of_memory_in told, starved_reply told form show wanted (take most bytes), h e)
+-- or a beginning of it is
+pub starved_begins : (IsReply : List ℕ → ℕ → List ℕ → Type 0) (line : List ℕ) → ((bytes : List ℕ) → IsReply bytes 3 line) → (most : ℕ) (rest old new : Option (List ℕ)) (status : ℕ) → (status ≡ 4 → GetsFrontOf old new line) → status ≡ 4 → IfSome rest (λ bytes. GetsBeginning (IsReply (take most bytes)) old new)
+starved_begins IsReply line is most None old new status h e = tt
+starved_begins IsReply line is most (Some bytes) old new status h e = (3, line, is (take most bytes), h e)

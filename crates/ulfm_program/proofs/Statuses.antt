@@ -5,10 +5,10 @@ use Rattle.ulfm_replies.proofs.Statuses.{IsKnown, checked, expand_known, places_
 use Rattle.ulfm_replies.specs.declared.command.Wanted.{Wanted}
 use Rattle.ulfm_replies.specs.declared.command.Wanted.TheVariants.{Check, Replay, Run, Sweep, Outcomes, Places, Expand, Draw}
 use Rattle.ulfm_judged.proofs.Statuses.{by_known}
-use Rattle.ulfm_program.specs.Replies.{IsReplyTo}
+use Rattle.ulfm_program.specs.Replies.{IsReplyIn}
 use Rattle.ulfm_played.proofs.Statuses.{drawn_known, replayed, run_known, sweep_known}
 
-pub known_status : (form : Form) (show : Option (List ℕ)) (wanted : Wanted) (bytes : List ℕ) (status : ℕ) (text : List ℕ) → IsReplyTo form show wanted bytes status text → IsKnown status
+pub known_status : (form : Form) (show : Option (List ℕ)) (wanted : Wanted) (bytes : List ℕ) (status : ℕ) (text : List ℕ) → IsReplyIn form show wanted bytes status text → IsKnown status
 known_status form show Check bytes status text h = checked form bytes status text h
 known_status form show (Replay is_strict turns place) bytes status text h = replayed form is_strict turns place bytes status text h
 known_status form show (Run options) bytes status text h = run_known form options bytes status text h

@@ -7,21 +7,26 @@ use Rattle.ulfm_played.specs.Sweep.{IsSweepReply}
 use Rattle.ulfm_replies.specs.declared.command.Wanted.{Wanted}
 use Rattle.ulfm_replies.specs.declared.command.Wanted.TheVariants.{Check, Replay, Run, Sweep, Outcomes, Places, Expand, Draw}
 use Rattle.ulfm_replies.specs.Expanded.{IsExpandReply}
+use Rattle.ulfm_replies.specs.Failure.{out_of_memory_text}
 use Rattle.ulfm_replies.specs.Places.{IsPlacesReply}
 use Rattle.ulfm_replies.specs.Replies.{IsCheckReply}
 use Rattle.ulfm_played.specs.Played.{IsDrawReply, IsReplayReply, IsRunReply}
 
--- The reply in this form to what the words ask for, with the answers that a schedule is to show. Where memory runs out before the form is
--- known, the line is in words.
-abbrev pub IsReplyTo : Form → Option (List ℕ) → Wanted → List ℕ → ℕ → List ℕ → Type 0
-IsReplyTo form show Check bytes status text = IsCheckReply form bytes status text
-IsReplyTo form show (Replay is_strict turns place) bytes status text = IsReplayReply form is_strict turns place bytes status text
-IsReplyTo form show (Run options) bytes status text = IsRunReply form options bytes status text
-IsReplyTo form show Sweep bytes status text = IsSweepReply form bytes status text
-IsReplyTo form show (Outcomes options) bytes status text = IsListReply form show options bytes status text
-IsReplyTo form show (Places stops) bytes status text = IsPlacesReply form stops bytes status text
-IsReplyTo form show Expand bytes status text = IsExpandReply form bytes status text
-IsReplyTo form show (Draw style turns place) bytes status text = IsDrawReply form turns place bytes status text
+-- the reply in this form to what the words ask for, with the answers that a schedule is to show
+abbrev pub IsReplyIn : Form → Option (List ℕ) → Wanted → List ℕ → ℕ → List ℕ → Type 0
+IsReplyIn form show Check bytes status text = IsCheckReply form bytes status text
+IsReplyIn form show (Replay is_strict turns place) bytes status text = IsReplayReply form is_strict turns place bytes status text
+IsReplyIn form show (Run options) bytes status text = IsRunReply form options bytes status text
+IsReplyIn form show Sweep bytes status text = IsSweepReply form bytes status text
+IsReplyIn form show (Outcomes options) bytes status text = IsListReply form show options bytes status text
+IsReplyIn form show (Places stops) bytes status text = IsPlacesReply form stops bytes status text
+IsReplyIn form show Expand bytes status text = IsExpandReply form bytes status text
+IsReplyIn form show (Draw style turns place) bytes status text = IsDrawReply form turns place bytes status text
+
+-- the reply in the form that the words ask for; or, where memory runs out before they are followed, the line in words that says so
+pub data IsReplyTo (form : Form) (show : Option (List ℕ)) (wanted : Wanted) (bytes : List ℕ) : ℕ → List ℕ → Type 0 where
+  followed : (status : ℕ) (text : List ℕ) → IsReplyIn form show wanted bytes status text → IsReplyTo form show wanted bytes status text
+  unfollowed : IsReplyTo form show wanted bytes 3 out_of_memory_text
 
 -- the line for words that can't be read
 abbrev pub not_text : List ℕ

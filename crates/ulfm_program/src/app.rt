@@ -1,7 +1,7 @@
 //! From words and bytes to a status and bytes.
 ghost use Rattle.std.specs.Prelude.{◌≢◌, ◌≡◌, ◌≤◌, ◌⊎◌, [], false, map, option_map, take, IfSome, IsTrue};
 ghost use Rattle.std.specs.Io.KnownBytes.{Keeps, Appends};
-ghost use Rattle.ulfm_program.specs.Replies.{IsReplyTo, IsWhole, GetsReply, GetsBeginning, GetsFront, GetsFrontOf, not_text};
+ghost use Rattle.ulfm_program.specs.Replies.{IsReplyIn, IsReplyTo, IsWhole, GetsReply, GetsBeginning, GetsFront, GetsFrontOf, not_text};
 ghost use Rattle.ulfm_replies.specs.declared.command.Wanted.{Wanted};
 ghost use Rattle.ulfm_replies.specs.CommandLine.{AsksFor, HasRanges, faults, form_asked, show_asked, IsWordsStatus};
 ghost use Rattle.ulfm_replies.specs.Failure.{out_of_memory_in, out_of_memory_text};
@@ -48,6 +48,8 @@ where
     E: Write + Send,
     ensures replies { (wanted : Wanted) → AsksFor wanted (map S.text words.now) → IsWhole result → IfSome (R.remaining input.old) (λ bytes.
         GetsReply (IsReplyTo (form_asked (map S.text words.now)) (show_asked (map S.text words.now)) wanted (take 1048577 bytes)) (W.contents output.old) (W.contents output.new) result) }
+    ensures in_form { R.remaining input.new ≢ R.remaining input.old → (wanted : Wanted) → AsksFor wanted (map S.text words.now) → IsWhole result → IfSome (R.remaining input.old) (λ bytes.
+        GetsReply (IsReplyIn (form_asked (map S.text words.now)) (show_asked (map S.text words.now)) wanted (take 1048577 bytes)) (W.contents output.old) (W.contents output.new) result) }
     ensures cut_off { (wanted : Wanted) → AsksFor wanted (map S.text words.now) → result ≡ 4 → IfSome (R.remaining input.old) (λ bytes.
         GetsBeginning (IsReplyTo (form_asked (map S.text words.now)) (show_asked (map S.text words.now)) wanted (take 1048577 bytes)) (W.contents output.old) (W.contents output.new)) }
     ensures output_failed { result ≡ 4 → GetsFront (W.contents output.old) (W.contents output.new) }
@@ -107,9 +109,9 @@ where
     E: Write + Send,
     requires { HasRanges asked.now.wanted }
     ensures replies { IsWhole result → IfSome (R.remaining input.old) (λ bytes.
-        GetsReply (IsReplyTo asked.now.form (option_map (λ s. s.now) asked.now.show) asked.now.wanted (take 1048577 bytes)) (W.contents output.old) (W.contents output.new) result) }
+        GetsReply (IsReplyIn asked.now.form (option_map (λ s. s.now) asked.now.show) asked.now.wanted (take 1048577 bytes)) (W.contents output.old) (W.contents output.new) result) }
     ensures cut_off { result ≡ 4 → IfSome (R.remaining input.old) (λ bytes.
-        GetsBeginning (IsReplyTo asked.now.form (option_map (λ s. s.now) asked.now.show) asked.now.wanted (take 1048577 bytes)) (W.contents output.old) (W.contents output.new)) }
+        GetsBeginning (IsReplyIn asked.now.form (option_map (λ s. s.now) asked.now.show) asked.now.wanted (take 1048577 bytes)) (W.contents output.old) (W.contents output.new)) }
     ensures output_failed { result ≡ 4 → GetsFront (W.contents output.old) (W.contents output.new) }
     ensures input_failed { result ≡ 5 → Keeps (W.contents output.old) (W.contents output.new) }
     ensures no_usage { result ≢ 2 }

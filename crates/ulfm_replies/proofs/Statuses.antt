@@ -42,7 +42,7 @@ pub checked : (form : Form) (bytes : List ℕ) (status : ℕ) (text : List ℕ) 
 checked form bytes status text (good job is) = done
 checked form bytes status text (refused f is) = no_job
 checked form bytes status text no_memory = no_job
-checked form bytes status text (starved told) = run_fails
+checked form bytes status text starved = run_fails
 
 pub no_play : (form : Form) (place : Place) (bytes : List ℕ) (status : ℕ) (text : List ℕ) → IsRefusal form place bytes status text → IsKnown status
 no_play form place bytes status text (stopped.no_job f is) = no_job
@@ -55,10 +55,10 @@ places_known form stops bytes status text (places.placed job is few) = done
 places_known form stops bytes status text (places.unplaced f is) = no_job
 places_known form stops bytes status text (places.crowded job is many) = no_job
 places_known form stops bytes status text places.unheld = no_job
-places_known form stops bytes status text (places.starved told) = run_fails
+places_known form stops bytes status text places.starved = run_fails
 
 pub expand_known : (form : Form) (bytes : List ℕ) (status : ℕ) (text : List ℕ) → IsExpandReply form bytes status text → IsKnown status
 expand_known form bytes status text (expanded.expanded plan t is whole) = done
 expand_known form bytes status text (expanded.unexpanded f is) = no_job
 expand_known form bytes status text expanded.full = no_job
-expand_known form bytes status text (expanded.starved told) = run_fails
+expand_known form bytes status text expanded.starved = run_fails

@@ -21,4 +21,4 @@ pub data IsExpandReply (form : Form) (bytes : List ℕ) : ℕ → List ℕ → T
   expanded : (plan : Plan) (text : List ℕ) → job_of_bytes bytes ≡ Ok plan → IsTextOf (document_in bytes) text → IsExpandReply form bytes 0 text
   unexpanded : (f : JobFault) → job_of_bytes bytes ≡ Err f → IsExpandReply form bytes 1 (refused_in form f)
   full : IsExpandReply form bytes 1 (refused_in form OutOfMemory)
-  starved : (told : Form) → IsExpandReply form bytes 3 (out_of_memory_in told)
+  starved : IsExpandReply form bytes 3 (out_of_memory_in form)

@@ -41,4 +41,4 @@ pub data IsPlacesReply (form : Form) (stops : ℕ) (bytes : List ℕ) : ℕ → 
   crowded : (job : JobView) → job_of_bytes bytes ≡ Ok (plan_of job) → 256 < step_count job.scripts + stops
       → IsPlacesReply form stops bytes 1 (refused_in form TooLarge)
   unheld : IsPlacesReply form stops bytes 1 (refused_in form OutOfMemory)
-  starved : (told : Form) → IsPlacesReply form stops bytes 3 (out_of_memory_in told)
+  starved : IsPlacesReply form stops bytes 3 (out_of_memory_in form)

@@ -67,4 +67,4 @@ pub data IsCheckReply (form : Form) (bytes : List ℕ) : ℕ → List ℕ → Ty
   good : (job : JobView) → job_of_bytes bytes ≡ Ok (plan_of job) → IsCheckReply form bytes 0 (good_in form job.ranks (step_count job.scripts))
   refused : (f : JobFault) → job_of_bytes bytes ≡ Err f → IsCheckReply form bytes 1 (refused_in form f)
   no_memory : IsCheckReply form bytes 1 (refused_in form OutOfMemory)
-  starved : (told : Form) → IsCheckReply form bytes 3 (out_of_memory_in told)
+  starved : IsCheckReply form bytes 3 (out_of_memory_in form)
