@@ -29,8 +29,8 @@ pub trait Finder {
         ensures { IfOk result (λ reach. IsList job.now limit reach) };
 
     /// A schedule of a job in which all of these hold, in words: its events, the trace that it leaves, and what steps wait for that are to
-    /// stand open for ever. Or that there are more worlds than the limit; nothing where no schedule of the job has all of these. In brief,
-    /// without any one of its events the others aren't such a schedule. `watch` is told how far it is.
+    /// stand open for ever. Or that there are more worlds than the limit in which they don't hold; nothing where no schedule of the job has
+    /// all of these. In brief, without any one of its events the others aren't such a schedule. `watch` is told how far it is.
     ///
     /// # Errors
     ///
