@@ -108,13 +108,14 @@ int send_letter(uint32_t context, int dest, int world, int tag, const void *byte
 }
 
 /* The bytes of the message in a letter that a probe found: of the world rank `from`, and the next one of its tag from there. Receives that
-   have their letters took them before. */
+   have their letters took them before; a letter that a matched probe took is marked. */
 size_t length_of_probed(const ulfm_status *told, uint32_t context, int from) {
     if (told->length != PARCEL) return told->length;
     size_t length = 0;
     pthread_mutex_lock(&ranks[from].parcels_lock);
     for (struct parcel *parcel = ranks[from].parcels; parcel; parcel = parcel->next)
-        if (parcel->to == me->number && parcel->context == context && parcel->tag == (int)told->tag && !atomic_load(&parcel->matched)) {
+        if (parcel->to == me->number && parcel->context == context && parcel->tag == (int)told->tag && !parcel->is_found &&
+            !atomic_load(&parcel->matched)) {
             length = parcel->length;
             break;
         }
@@ -133,6 +134,12 @@ static struct parcel *parcel_of(const ulfm_status *told, const uint8_t *letter) 
 size_t length_of_letter(const ulfm_status *told, const uint8_t *letter) {
     const struct parcel *parcel = parcel_of(told, letter);
     return parcel ? parcel->length : told->length;
+}
+
+/* A matched probe took the letter, whose message isn't received yet: other probes tell of those behind it (3.8.2). */
+void mark_found(const ulfm_status *told, const uint8_t *letter) {
+    struct parcel *parcel = parcel_of(told, letter);
+    if (parcel) parcel->is_found = true;
 }
 
 /* Copies the bytes of a message from where they stand now. */

@@ -35,6 +35,7 @@ static void take_message(struct probe *probe, uint64_t id) {
     message->comm = probe->comm;
     probe->code = class_of(ulfm_mrecv(me->slot, id, &message->told, message->letter, sizeof message->letter));
     probe->message = message;
+    mark_found(&message->told, message->letter);
     tell_found(probe, &message->told, length_of_letter(&message->told, message->letter));
 }
 

@@ -81,6 +81,7 @@ struct parcel {
     _Atomic int matched;
     _Atomic int filling;
     bool is_waited_for;
+    bool is_found;        /* by a matched probe, so that no other one tells of it; for the receiver alone */
     int from, to;         /* world ranks */
     uint32_t context;
     int tag;

@@ -52,6 +52,7 @@ int send_letter(uint32_t context, int dest, int world, int tag, const void *byte
 void take_letter(const ulfm_status *told, const uint8_t *letter, void *buffer, size_t room, MPI_Status *status, int *code);
 size_t length_of_probed(const ulfm_status *told, uint32_t context, int from);
 size_t length_of_letter(const ulfm_status *told, const uint8_t *letter);
+void mark_found(const ulfm_status *told, const uint8_t *letter);
 void let_go(struct parcel *parcel);
 void free_parcels(void);
 bool is_revoked(const struct comm *comm);

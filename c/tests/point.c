@@ -68,6 +68,38 @@ static void long_and_probed(void) {
     free(x);
 }
 
+/* A probe tells of the message behind one that a matched probe took, and that isn't received yet (3.8.2). */
+static void behind_found(void) {
+    static const int lengths[] = {4000, 2800, 7, 7, 1, 1024, 5000};
+    enum { N = sizeof lengths / sizeof *lengths };
+    static char bytes[5000];
+    MPI_Request requests[N];
+    MPI_Message messages[N];
+    MPI_Status status;
+    int count, flag, last = -1;
+    for (int k = 0; rank == 1 && k < N; k++) {
+        if (k % 2) MPI_Isend(bytes, lengths[k], MPI_BYTE, 0, 4, world, &requests[k]);
+        else MPI_Issend(bytes, lengths[k], MPI_BYTE, 0, 4, world, &requests[k]);
+    }
+    if (rank == 1) MPI_Waitall(N, requests, MPI_STATUSES_IGNORE);
+    if (rank) return;
+    for (int k = 0; k < N; k++) {
+        MPI_Probe(1, 4, world, &status);
+        MPI_Get_count(&status, MPI_BYTE, &count);
+        for (flag = 0; !flag;) MPI_Iprobe(MPI_ANY_SOURCE, MPI_ANY_TAG, world, &flag, &status);
+        MPI_Get_count(&status, MPI_BYTE, &last);
+        CHECK(count == lengths[k] && last == lengths[k]);
+        MPI_Mprobe(1, 4, world, &messages[k], &status);
+        MPI_Get_count(&status, MPI_BYTE, &count);
+        CHECK(count == lengths[k]);
+    }
+    for (int k = N - 1; k >= 0; k--) {
+        MPI_Mrecv(bytes, sizeof bytes, MPI_BYTE, &messages[k], &status);
+        MPI_Get_count(&status, MPI_BYTE, &count);
+        CHECK(count == lengths[k]);
+    }
+}
+
 static void several(void) {
     enum { N = 6 };
     int x[N] = {0}, index, flag, count, indices[N];
@@ -158,8 +190,8 @@ int main(int argc, char **argv) {
     MPI_Comm_rank(MPI_COMM_WORLD, &rank);
     MPI_Comm_size(MPI_COMM_WORLD, &size);
     MPI_Comm_dup(MPI_COMM_WORLD, &world);
-    void (*parts[])(void) = {order_and_tags, long_and_probed, several, exchanges, lengths, errors};
-    for (int k = 0; k < 6; k++) {
+    void (*parts[])(void) = {order_and_tags, long_and_probed, behind_found, several, exchanges, lengths, errors};
+    for (int k = 0; k < (int)(sizeof parts / sizeof *parts); k++) {
         parts[k]();
         MPI_Barrier(world);
     }
