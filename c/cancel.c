@@ -10,6 +10,7 @@ int MPI_Request_free(MPI_Request *handle) {
     *handle = MPI_REQUEST_NULL;
     if (own->kind == PERSISTENT) free_request(own);
     if (!request) return MPI_SUCCESS;
+    look_at(request);   /* its message may have come, and nothing may come any more that lets it be looked at */
     if (request->over || request->kind == SYNCHRONOUS) free_request(request);
     else {
         request->freed = true;

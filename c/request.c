@@ -75,7 +75,9 @@ void end_request(struct request *request, int code) {
     request->over = true;
     request->code = code;
     request->status.MPI_ERROR = code;
-    if (request->freed) free_request(request);
+    if (!request->freed) return;
+    atomic_fetch_sub(&me->waited_for, 1);
+    free_request(request);
 }
 
 /* Where a message goes or comes from nobody (3.10). */

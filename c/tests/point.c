@@ -152,6 +152,29 @@ static void exchanges(void) {
     CHECK(y == rank && status.MPI_SOURCE == 0 && status.MPI_TAG == 3);
 }
 
+/* A receive that is freed gets its message all the same (3.7.3): one that came before, and one that comes later, short or long. */
+static void freed(void) {
+    int sent[2000], came[4][2000] = {{0}}, token = 0;
+    MPI_Request request;
+    for (int k = 0; k < 2000; k++) sent[k] = 7 * k + 1;
+    for (int k = 0; k < 4; k++) {
+        int count = k % 2 ? 2000 : 1, is_later = k / 2;
+        if (rank == 1 && is_later) MPI_Recv(&token, 1, MPI_INT, 0, 31, world, MPI_STATUS_IGNORE);
+        if (rank == 1) {
+            MPI_Isend(sent, count, MPI_INT, 0, 30, world, &request);
+            MPI_Send(&token, 1, MPI_INT, 0, 32, world);
+            MPI_Wait(&request, MPI_STATUS_IGNORE);
+        }
+        if (rank) continue;
+        if (!is_later) MPI_Probe(1, 32, world, MPI_STATUS_IGNORE);   /* nothing comes behind it */
+        MPI_Irecv(came[k], 2000, MPI_INT, 1, 30, world, &request);
+        MPI_Request_free(&request);
+        if (is_later) MPI_Send(&token, 1, MPI_INT, 1, 31, world);
+        MPI_Recv(&token, 1, MPI_INT, 1, 32, world, MPI_STATUS_IGNORE);
+        CHECK(request == MPI_REQUEST_NULL && came[k][0] == 1 && memcmp(came[k], sent, (size_t)count * sizeof *sent) == 0);
+    }
+}
+
 /* Messages of each length where the layer might send them another way, every third one by MPI_Ssend; every second one is probed first. */
 static void lengths(void) {
     unsigned char sent[1100], came[1100];
@@ -190,7 +213,7 @@ int main(int argc, char **argv) {
     MPI_Comm_rank(MPI_COMM_WORLD, &rank);
     MPI_Comm_size(MPI_COMM_WORLD, &size);
     MPI_Comm_dup(MPI_COMM_WORLD, &world);
-    void (*parts[])(void) = {order_and_tags, long_and_probed, behind_found, several, exchanges, lengths, errors};
+    void (*parts[])(void) = {order_and_tags, long_and_probed, behind_found, several, exchanges, freed, lengths, errors};
     for (int k = 0; k < (int)(sizeof parts / sizeof *parts); k++) {
         parts[k]();
         MPI_Barrier(world);
