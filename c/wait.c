@@ -1,6 +1,6 @@
 /* Waits and tests (MPI 4.0, 3.7.3 and 3.7.5). A request that is over is released, and its handle becomes MPI_REQUEST_NULL. A receive from any
-   source that pends stays open: MPIX_ERR_PROC_FAILED_PENDING. MPI_Waitall ends as soon as a request has an error; those that aren't over then
-   have MPI_ERR_PENDING. */
+   source that pends stays open: MPIX_ERR_PROC_FAILED_PENDING. MPI_Waitall ends as soon as a request has an error, MPI_Testall as soon as one may keep
+   others from their end: a failure or a revocation. Those that aren't over then have MPI_ERR_PENDING. */
 #include "run.h"
 #include <stdlib.h>
 
@@ -101,6 +101,7 @@ struct several {
     int count;
     MPI_Request *handles;
     int active, over, failed;  /* how many there are, are over, have an error or pend */
+    int broken;                /* how many of those by a failure or a revocation */
     int first;                 /* the first one that is over or pends, or -1 */
     bool wants_all;
     int next, looks;           /* all before `next` are over without an error; how often it looked */
@@ -108,8 +109,12 @@ struct several {
 };
 enum { LOOKS_AT_NEXT = 64 };
 
+static bool is_broken(const struct request *request) {
+    return request->over && (request->code == MPIX_ERR_PROC_FAILED || request->code == MPIX_ERR_REVOKED);
+}
+
 static void look_at_several(struct several *several) {
-    several->active = several->over = several->failed = 0;
+    several->active = several->over = several->failed = several->broken = 0;
     several->first = -1;
     for (int k = 0; k < several->count; k++) {
         struct request *request = active_at(several->handles[k]);
@@ -118,6 +123,7 @@ static void look_at_several(struct several *several) {
         int pends = look_at(request);
         several->over += request->over;
         several->failed += pends || (request->over && request->code != MPI_SUCCESS);
+        several->broken += pends || is_broken(request);
         if (several->first < 0 && (request->over || pends)) several->first = k;
     }
 }
@@ -201,12 +207,13 @@ int MPI_Waitall(int count, MPI_Request handles[], MPI_Status statuses[]) {
 }
 
 int MPI_Testall(int count, MPI_Request handles[], int *flag, MPI_Status statuses[]) {
-    struct several several = {.count = count, .handles = handles, .wants_all = true};
+    struct several several = {.count = count, .handles = handles};
     ENTER_LOOK(0, MPI_UNDEFINED, MPI_UNDEFINED);
     int code = check_requests(count, handles, flag);
     if (code != MPI_SUCCESS) return fail(0, code);
     progress();
-    *flag = are_done(&several, true);
+    look_at_several(&several);
+    *flag = several.over == several.active || several.broken;
     if (!*flag) return MPI_SUCCESS;
     if (several.active) plan_call();
     return release_all(&several, statuses);
