@@ -157,7 +157,7 @@ void take_letter(const ulfm_status *told, const uint8_t *letter, void *buffer, s
     if (parcel) empty(parcel, buffer, length);
     else if (length) memcpy(buffer, letter, length);
     *code = whole > room ? MPI_ERR_TRUNCATE : MPI_SUCCESS;
-    *status = (MPI_Status){.MPI_SOURCE = (int)told->source, .MPI_TAG = (int)told->tag, .MPI_ERROR = *code, .bytes = length};
+    *status = (MPI_Status){.MPI_SOURCE = (int)told->source, .MPI_TAG = (int)told->tag, .bytes = length};
     if (!parcel) return;
     bool is_waited_for = parcel->is_waited_for;
     atomic_store(&parcel->matched, 1);

@@ -72,10 +72,10 @@ static int finish(struct request *request, MPI_Status *status) {
     if (pends) withdraw(request);
     code = request->code;
     if (pends && request->status.cancelled) {
-        code = request->status.MPI_ERROR = MPIX_ERR_PROC_FAILED;
+        code = MPIX_ERR_PROC_FAILED;
         request->status.cancelled = 0;
     }
-    if (status) *status = request->status;
+    tell_status(status, &request->status);
     free_request(request);
     return code;
 }

@@ -95,7 +95,7 @@ int MPI_Probe(int source, int tag, MPI_Comm comm, MPI_Status *status) {
     struct probe probe = {.comm = comm_at(comm), .source = source, .tag = tag};
     ENTER(probe.comm, source, tag);
     int code = run_probe(&probe, true);
-    if (status && code == MPI_SUCCESS) *status = probe.status;
+    if (code == MPI_SUCCESS) tell_status(status, &probe.status);
     return fail(probe.comm, code);
 }
 
@@ -105,7 +105,7 @@ int MPI_Iprobe(int source, int tag, MPI_Comm comm, int *flag, MPI_Status *status
     WRITES(probe.comm, flag);
     int code = run_probe(&probe, false);
     *flag = probe.found;
-    if (status && probe.found) *status = probe.status;
+    if (probe.found) tell_status(status, &probe.status);
     return fail(probe.comm, code);
 }
 
@@ -132,7 +132,7 @@ int MPI_Mprobe(int source, int tag, MPI_Comm comm, MPI_Message *message, MPI_Sta
     WRITES(probe.comm, message);
     int code = run_probe(&probe, true);
     if (code == MPI_SUCCESS) code = keep(&probe, message);
-    if (status && code == MPI_SUCCESS) *status = probe.status;
+    if (code == MPI_SUCCESS) tell_status(status, &probe.status);
     return fail(probe.comm, code);
 }
 
@@ -143,7 +143,7 @@ int MPI_Improbe(int source, int tag, MPI_Comm comm, int *flag, MPI_Message *mess
     int code = run_probe(&probe, false);
     *flag = probe.found;
     if (code == MPI_SUCCESS && probe.found) code = keep(&probe, message);
-    if (status && probe.found) *status = probe.status;
+    if (probe.found) tell_status(status, &probe.status);
     return fail(probe.comm, code);
 }
 
@@ -190,7 +190,7 @@ int MPI_Mrecv(void *buf, int count, MPI_Datatype type, MPI_Message *message, MPI
     ENTER(0, MPI_UNDEFINED, MPI_UNDEFINED);
     WRITES(0, message);
     int code = receive(buf, count, type, message, &told, &comm);
-    if (status) *status = told;
+    tell_status(status, &told);
     return fail(comm, code);
 }
 

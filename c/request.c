@@ -69,12 +69,20 @@ void free_request(struct request *request) {
     me->spare = request;
 }
 
+/* Writes what is told of a message, but for the error code: a program may keep its own there (3.2.5). Calls that end several requests write it
+   where they return MPI_ERR_IN_STATUS. */
+void tell_status(MPI_Status *status, const MPI_Status *told) {
+    if (!status) return;
+    int kept = status->MPI_ERROR;
+    *status = *told;
+    status->MPI_ERROR = kept;
+}
+
 /* The request is over. One that the program freed before goes. */
 void end_request(struct request *request, int code) {
     if (request->kind == RECEIVE && !request->over) unlink_open(request);
     request->over = true;
     request->code = code;
-    request->status.MPI_ERROR = code;
     if (!request->freed) return;
     atomic_fetch_sub(&me->waited_for, 1);
     free_request(request);

@@ -73,6 +73,7 @@ int look_at(struct request *request);
 int wait_for(struct request *request);
 void look_at_all(void);
 void withdraw(struct request *request);
+void tell_status(MPI_Status *status, const MPI_Status *told);
 extern const MPI_Status empty_status;
 void clear_requests(void);
 

@@ -31,7 +31,7 @@ int wait_for(struct request *request) {
 static int release(MPI_Request *handle, struct request *request, MPI_Status *status) {
     int code = request->code;
     struct request *own = request_at(*handle);
-    if (status) *status = request->status;
+    tell_status(status, &request->status);
     if (own == request) *handle = MPI_REQUEST_NULL;
     else own->active = 0;
     free_request(request);
@@ -39,8 +39,7 @@ static int release(MPI_Request *handle, struct request *request, MPI_Status *sta
 }
 
 static int pending(struct request *request, MPI_Status *status) {
-    if (status) *status = request->status;
-    if (status) status->MPI_ERROR = MPIX_ERR_PROC_FAILED_PENDING;
+    tell_status(status, &request->status);
     return MPIX_ERR_PROC_FAILED_PENDING;
 }
 
@@ -58,7 +57,7 @@ int MPI_Wait(MPI_Request *handle, MPI_Status *status) {
     ENTER(0, MPI_UNDEFINED, MPI_UNDEFINED);
     WRITES(0, handle);
     struct request *request = active_at(*handle);
-    if (status) *status = empty_status;
+    tell_status(status, &empty_status);
     if (!request) return is_idle(*handle) ? MPI_SUCCESS : fail(0, MPI_ERR_REQUEST);
     tell_place(request);
     struct comm *comm = request->comm;
@@ -69,7 +68,7 @@ int MPI_Test(MPI_Request *handle, int *flag, MPI_Status *status) {
     ENTER_LOOK(0, MPI_UNDEFINED, MPI_UNDEFINED);
     WRITES(0, handle && flag);
     struct request *request = active_at(*handle);
-    if (status) *status = empty_status;
+    tell_status(status, &empty_status);
     *flag = 1;
     if (!request) return is_idle(*handle) ? MPI_SUCCESS : fail(0, MPI_ERR_REQUEST);
     struct comm *comm = request->comm;
@@ -85,13 +84,13 @@ int MPI_Request_get_status(MPI_Request handle, int *flag, MPI_Status *status) {
     struct request *request = active_at(handle);
     ENTER_LOOK(0, MPI_UNDEFINED, MPI_UNDEFINED);
     WRITES(0, flag);
-    if (status) *status = empty_status;
+    tell_status(status, &empty_status);
     *flag = 1;
     if (!request) return is_idle(handle) ? MPI_SUCCESS : fail(0, MPI_ERR_REQUEST);
     progress();
     look_at(request);
     *flag = request->over;
-    if (request->over && status) *status = request->status;
+    if (request->over) tell_status(status, &request->status);
     return MPI_SUCCESS;
 }
 
@@ -183,14 +182,11 @@ static int release_all(struct several *several, MPI_Status statuses[]) {
     int result = several->failed ? MPI_ERR_IN_STATUS : MPI_SUCCESS;
     for (int k = 0; k < several->count; k++) {
         struct request *request = active_at(several->handles[k]);
-        MPI_Status status = empty_status;
-        if (request && request->over) release(&several->handles[k], request, &status);
-        else if (request) {
-            status = request->status;
-            status.MPI_ERROR = look_at(request) ? MPIX_ERR_PROC_FAILED_PENDING : MPI_ERR_PENDING;
-            if (request->over) release(&several->handles[k], request, &status);
-        }
-        if (statuses) statuses[k] = status;
+        MPI_Status *status = statuses ? &statuses[k] : 0;
+        int error = !request ? MPI_SUCCESS : look_at(request) ? MPIX_ERR_PROC_FAILED_PENDING : MPI_ERR_PENDING;
+        if (request && request->over) error = release(&several->handles[k], request, status);
+        else tell_status(status, request ? &request->status : &empty_status);
+        if (status && result != MPI_SUCCESS) status->MPI_ERROR = error;
     }
     return fail(comm, result);
 }
@@ -221,7 +217,7 @@ int MPI_Testall(int count, MPI_Request handles[], int *flag, MPI_Status statuses
 
 /* Tells of one that is over or pends. */
 static int release_one(struct several *several, int *index, MPI_Status *status) {
-    if (status) *status = empty_status;
+    tell_status(status, &empty_status);
     *index = several->first < 0 ? MPI_UNDEFINED : several->first;
     if (several->first < 0) return MPI_SUCCESS;
     struct request *request = active_at(several->handles[several->first]);
@@ -257,10 +253,9 @@ static int release_some(struct several *several, int *outcount, int indices[], M
     for (int k = 0; several->active && k < several->count; k++) {
         struct request *request = active_at(several->handles[k]);
         if (!request || (!request->over && !look_at(request))) continue;
-        MPI_Status status;
-        if (request->over) release(&several->handles[k], request, &status);
-        else pending(request, &status);
-        if (statuses) statuses[found] = status;
+        MPI_Status *status = statuses ? &statuses[found] : 0;
+        int error = request->over ? release(&several->handles[k], request, status) : pending(request, status);
+        if (status && several->failed) status->MPI_ERROR = error;
         indices[found++] = k;
     }
     if (several->active) *outcount = found;

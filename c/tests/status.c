@@ -27,12 +27,74 @@ static void truncated_of_two(void) {
     CHECK(class_of(statuses[0].MPI_ERROR) == MPI_ERR_TRUNCATE && statuses[1].MPI_ERROR == MPI_SUCCESS);
 }
 
+/* Calls leave the error code of a status as it was, but for those that return MPI_ERR_IN_STATUS (3.2.5). */
+enum { KEPT = 77, MESSAGES = 18 };
+static MPI_Status status, statuses[3];
+
+/* Whether each status has it. It does, after that. */
+static int is_kept(void) {
+    int is_well = status.MPI_ERROR == KEPT;
+    for (int k = 0; k < 3; k++) is_well = is_well && statuses[k].MPI_ERROR == KEPT;
+    status.MPI_ERROR = KEPT;
+    for (int k = 0; k < 3; k++) statuses[k].MPI_ERROR = KEPT;
+    return is_well;
+}
+
+static void kept_by_one(void) {
+    int x = 0, flag = 0, at;
+    MPI_Request request = MPI_REQUEST_NULL;
+    MPI_Message message;
+    is_kept();
+    CHECK(MPI_Wait(&request, &status) == MPI_SUCCESS && status.MPI_TAG == MPI_ANY_TAG && is_kept());
+    CHECK(MPI_Recv(&x, 1, MPI_INT, MPI_PROC_NULL, 0, world, &status) == MPI_SUCCESS && status.MPI_SOURCE == MPI_PROC_NULL && is_kept());
+    CHECK(MPI_Sendrecv(&x, 1, MPI_INT, 0, 50, &x, 1, MPI_INT, 0, 50, MPI_COMM_SELF, &status) == MPI_SUCCESS && status.MPI_TAG == 50 && is_kept());
+    CHECK(MPI_Recv(&x, 1, MPI_INT, 1, 0, world, &status) == MPI_SUCCESS && status.MPI_SOURCE == 1 && is_kept());
+    MPI_Irecv(&x, 1, MPI_INT, 1, 1, world, &request);
+    CHECK(MPI_Wait(&request, &status) == MPI_SUCCESS && status.MPI_TAG == 1 && is_kept());
+    MPI_Irecv(&x, 1, MPI_INT, 1, 2, world, &request);
+    while (!flag) MPI_Request_get_status(request, &flag, &status);
+    CHECK(status.MPI_TAG == 2 && is_kept());
+    CHECK(MPI_Test(&request, &flag, &status) == MPI_SUCCESS && status.MPI_TAG == 2 && is_kept());
+    CHECK(MPI_Probe(1, 3, world, &status) == MPI_SUCCESS && status.MPI_TAG == 3 && is_kept());
+    CHECK(MPI_Iprobe(1, 3, world, &flag, &status) == MPI_SUCCESS && flag && status.MPI_TAG == 3 && is_kept());
+    CHECK(MPI_Mprobe(1, 3, world, &message, &status) == MPI_SUCCESS && status.MPI_TAG == 3 && is_kept());
+    CHECK(MPI_Mrecv(&x, 1, MPI_INT, &message, &status) == MPI_SUCCESS && status.MPI_TAG == 3 && is_kept());
+    MPI_Irecv(&x, 1, MPI_INT, 1, 4, world, &request);
+    CHECK(MPI_Waitany(1, &request, &at, &status) == MPI_SUCCESS && status.MPI_TAG == 4 && is_kept());
+    CHECK(MPI_Testany(1, &request, &at, &flag, &status) == MPI_SUCCESS && flag && status.MPI_TAG == MPI_ANY_TAG && is_kept());
+    CHECK(class_of(MPI_Recv(&x, 0, MPI_INT, 1, 5, world, &status)) == MPI_ERR_TRUNCATE && status.MPI_TAG == 5 && is_kept());
+}
+
+static void kept_by_several(void) {
+    int x[3], count, at[3], flag = 0;
+    MPI_Request requests[3];
+    for (int way = 0; way < 4; way++) {
+        for (int k = 0; k < 3; k++) MPI_Irecv(&x[k], 1, MPI_INT, 1, 6 + 3 * way + k, world, &requests[k]);
+        if (way == 0) CHECK(MPI_Waitall(3, requests, statuses) == MPI_SUCCESS);
+        while (way == 1 && !flag) CHECK(MPI_Testall(3, requests, &flag, statuses) == MPI_SUCCESS);
+        for (int left = 3; way >= 2 && left > 0; left -= count) {
+            if (way == 2) CHECK(MPI_Waitsome(3, requests, &count, at, statuses) == MPI_SUCCESS);
+            else CHECK(MPI_Testsome(3, requests, &count, at, statuses) == MPI_SUCCESS);
+            CHECK(is_kept());
+        }
+        CHECK(is_kept() && x[0] == 6 + 3 * way && x[2] == 8 + 3 * way);
+    }
+}
+
+static void kept(void) {
+    for (int k = 0; rank == 1 && k < MESSAGES; k++) MPI_Send(&k, 1, MPI_INT, 0, k, world);
+    if (rank) return;
+    kept_by_one();
+    kept_by_several();
+}
+
 int main(int argc, char **argv) {
     int all = 0;
     MPI_Init(&argc, &argv);
     MPI_Comm_rank(world, &rank);
     MPI_Comm_set_errhandler(world, MPI_ERRORS_RETURN);
     truncated_of_two();
+    kept();
     MPI_Reduce(&faults, &all, 1, MPI_INT, MPI_SUM, 0, world);
     if (rank == 0) printf("faults: %d\n", all);
     MPI_Finalize();
