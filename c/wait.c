@@ -102,7 +102,7 @@ struct several {
     int active, over, failed;  /* how many there are, are over, have an error or pend */
     int broken;                /* how many of those by a failure or a revocation */
     int first;                 /* the first one that is over or pends, or -1 */
-    bool wants_all;
+    bool wants_all, wants_one;
     int next, looks;           /* all before `next` are over without an error; how often it looked */
     int came;                  /* messages that came and may be those of further requests */
 };
@@ -124,6 +124,7 @@ static void look_at_several(struct several *several) {
         several->failed += pends || (request->over && request->code != MPI_SUCCESS);
         several->broken += pends || is_broken(request);
         if (several->first < 0 && (request->over || pends)) several->first = k;
+        if (several->wants_one && several->first >= 0) return;
     }
 }
 
@@ -157,6 +158,7 @@ static bool are_done(void *of, bool is_settled) {
 
 /* The communicator of the first request with an error, else of the first one that pends, for its handler. */
 static struct comm *comm_of_error(const struct several *several) {
+    if (!several->failed) return 0;
     for (int k = 0; k < several->count; k++) {
         struct request *request = active_at(several->handles[k]);
         if (request && request->over && request->code != MPI_SUCCESS) return request->comm;
@@ -226,7 +228,7 @@ static int release_one(struct several *several, int *index, MPI_Status *status) 
 }
 
 int MPI_Waitany(int count, MPI_Request handles[], int *index, MPI_Status *status) {
-    struct several several = {.count = count, .handles = handles};
+    struct several several = {.count = count, .handles = handles, .wants_one = true};
     ENTER(0, MPI_UNDEFINED, MPI_UNDEFINED);
     int code = check_requests(count, handles, index);
     if (code != MPI_SUCCESS) return fail(0, code);
@@ -235,7 +237,7 @@ int MPI_Waitany(int count, MPI_Request handles[], int *index, MPI_Status *status
 }
 
 int MPI_Testany(int count, MPI_Request handles[], int *index, int *flag, MPI_Status *status) {
-    struct several several = {.count = count, .handles = handles};
+    struct several several = {.count = count, .handles = handles, .wants_one = true};
     ENTER_LOOK(0, MPI_UNDEFINED, MPI_UNDEFINED);
     int code = check_requests(count, handles, index && flag);
     if (code != MPI_SUCCESS) return fail(0, code);
@@ -252,14 +254,14 @@ static int release_some(struct several *several, int *outcount, int indices[], M
     *outcount = several->active ? 0 : MPI_UNDEFINED;
     for (int k = 0; several->active && k < several->count; k++) {
         struct request *request = active_at(several->handles[k]);
-        if (!request || (!request->over && !look_at(request))) continue;
+        if (!request || (!request->over && !(several->failed && look_at(request)))) continue;   /* where none failed, none pends */
         MPI_Status *status = statuses ? &statuses[found] : 0;
         int error = request->over ? release(&several->handles[k], request, status) : pending(request, status);
         if (status && several->failed) status->MPI_ERROR = error;
         indices[found++] = k;
     }
     if (several->active) *outcount = found;
-    return fail(several->failed ? comm : 0, several->failed ? MPI_ERR_IN_STATUS : MPI_SUCCESS);
+    return fail(comm, several->failed ? MPI_ERR_IN_STATUS : MPI_SUCCESS);
 }
 
 int MPI_Waitsome(int incount, MPI_Request handles[], int *outcount, int indices[], MPI_Status statuses[]) {
@@ -267,7 +269,7 @@ int MPI_Waitsome(int incount, MPI_Request handles[], int *outcount, int indices[
     ENTER(0, MPI_UNDEFINED, MPI_UNDEFINED);
     int code = check_requests(incount, handles, outcount && (indices || incount == 0));
     if (code != MPI_SUCCESS) return fail(0, code);
-    wait_until(are_done, &several, false);
+    wait_until(are_done, &several, true);
     return release_some(&several, outcount, indices, statuses);
 }
 
