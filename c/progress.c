@@ -51,6 +51,7 @@ static uint64_t all_moves(void) {
 static bool turn(void) {
     uint32_t did = 0;
     if (ulfm_turn(me->slot, &did) != ULFM_OK || !did) return false;
+    me->vain = 0;
     moved();
     return true;
 }
@@ -70,7 +71,7 @@ bool move_once(void) {
 }
 
 /* Moves what goes out and comes in. Whether anything moved. */
-bool progress(void) {
+static bool move_much(void) {
     int turns = 0;
     while (turns < TURNS && turn()) turns++;
     if (turns) look_at_open();
@@ -107,6 +108,14 @@ static int looks_before_yield(void) {
     return FEW_LOOKS + MOST_LOOKS - me->impatience;
 }
 
+/* Moves what goes out and comes in, for a call that looks once. A program may loop over such calls: where so many looks were in vain that a wait would
+   yield, so does the loop. */
+void progress(void) {
+    if (move_much()) return;
+    if (me->vain < looks_before_yield()) me->vain++;
+    else sched_yield();
+}
+
 /* A rank whose looks were in vain, so that it slept, looks less the next time, and more again where looks served. The few that stay are as long as a
    collective takes, so that ranks which all slept come together again. */
 static void learn(bool has_slept) {
@@ -122,7 +131,7 @@ void wait_until(bool (*is_done)(void *, bool is_settled), void *of, bool is_dear
     uint64_t seen = 0, asked_at = UINT64_MAX;
     for (;;) {
         if (looks >= most + YIELDS) seen = all_moves();   /* before the look: what comes after it is a further move */
-        bool has_moved = is_dear ? progress() : move_once();
+        bool has_moved = is_dear ? move_much() : move_once();
         uint64_t marked_at = atomic_load(&marks.count);
         bool is_settled = !has_moved && (looks == most || marked_at != asked_at);
         if ((has_moved || is_settled) && is_done(of, is_settled)) break;

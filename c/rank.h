@@ -159,6 +159,7 @@ struct rank {
     bool is_planned;          /* it stopped by plan */
     struct place place;
     int recoveries;           /* requests of shrinks and agreements */
+    int vain;                 /* looks of calls that don't wait, since anything moved */
     int impatience;           /* by how much it looks less before it yields, where looks were in vain */
     int calls, insides;       /* calls that count; places inside the last one */
     int status;               /* of main */

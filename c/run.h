@@ -30,7 +30,7 @@ void stop_here(int status) __attribute__((noreturn));
 void drain(void);
 
 /* progress.c */
-bool progress(void);
+void progress(void);
 bool move_once(void);
 void moved(void);
 void marked(void);

@@ -1,6 +1,7 @@
 /* What loops of calls that look take of a processor: seconds of its own, so that other work doesn't matter. For 4 ranks. */
 #define _GNU_SOURCE
 #include "check.h"
+#include <sched.h>
 #include <time.h>
 #include <unistd.h>
 
@@ -40,12 +41,46 @@ static void many(void) {
     CHECK(rank || (took[0] < 6 * took[2] && took[1] < 8 * took[2]));
 }
 
+/* A number goes round from rank to rank, each of which looks for it in a loop. All of them share one processor, which each that finds nothing gives away. */
+static void ring(void) {
+    enum { ROUNDS = 100, WAYS = 3 };
+    int next = (rank + 1) % size, before = (rank + size - 1) % size;
+    MPI_Barrier(world);
+    double begin = spent(CLOCK_PROCESS_CPUTIME_ID);
+    for (int k = 0; k < WAYS * ROUNDS; k++) {
+        int x = k, flag = 0;
+        MPI_Request request;
+        if (rank == 0) MPI_Send(&x, 1, MPI_INT, next, 1, world);
+        if (k % WAYS == 0) while (!flag) MPI_Iprobe(before, 1, world, &flag, MPI_STATUS_IGNORE);
+        MPI_Irecv(&x, 1, MPI_INT, before, 1, world, &request);
+        if (k % WAYS == 1) while (!flag) MPI_Test(&request, &flag, MPI_STATUS_IGNORE);
+        if (k % WAYS == 2) while (!flag) MPI_Testall(1, &request, &flag, MPI_STATUSES_IGNORE);
+        MPI_Wait(&request, MPI_STATUS_IGNORE);
+        if (rank) MPI_Send(&x, 1, MPI_INT, next, 1, world);
+        CHECK(x == k);
+    }
+    MPI_Barrier(world);
+    CHECK(spent(CLOCK_PROCESS_CPUTIME_ID) - begin < 0.5);
+}
+
+static void share_processor(void) {
+    cpu_set_t set;
+    sched_getaffinity(0, sizeof set, &set);
+    int first = 0;
+    while (!CPU_ISSET(first, &set)) first++;
+    CPU_ZERO(&set);
+    CPU_SET(first, &set);
+    sched_setaffinity(0, sizeof set, &set);
+}
+
 int main(int argc, char **argv) {
     int all = 0;
     MPI_Init(&argc, &argv);
     MPI_Comm_rank(world, &rank);
     MPI_Comm_size(world, &size);
     many();
+    share_processor();
+    ring();
     MPI_Reduce(&faults, &all, 1, MPI_INT, MPI_SUM, 0, world);
     if (rank == 0) printf("faults: %d\n", all);
     MPI_Finalize();
