@@ -1,6 +1,18 @@
 /* Requests that are given up (MPI 4.0, 3.7.3 and 3.8.4). */
 #include "run.h"
 
+/* A request without a handle goes when it is over. */
+static void give_up(struct request *request) {
+    look_at(request);   /* its message may have come, and nothing may come any more that lets it be looked at */
+    if (request->kind == EXCHANGE && !request->over)
+        for (int k = 0; k < 2; k++) give_up(request->parts[k]);
+    if (request->over || request->kind == SYNCHRONOUS || request->kind == EXCHANGE) free_request(request);
+    else {
+        request->freed = true;
+        atomic_fetch_add(&me->waited_for, 1);
+    }
+}
+
 /* The request goes when it is over (3.7.3); that of a collective can't be freed (6.12). */
 int MPI_Request_free(MPI_Request *handle) {
     ENTER_LOOK(0, MPI_UNDEFINED, MPI_UNDEFINED);
@@ -9,17 +21,12 @@ int MPI_Request_free(MPI_Request *handle) {
     if (!own || own->kind == COLLECTIVE || own->kind == RECOVERY) return fail(0, MPI_ERR_REQUEST);
     *handle = MPI_REQUEST_NULL;
     if (own->kind == PERSISTENT) free_request(own);
-    if (!request) return MPI_SUCCESS;
-    look_at(request);   /* its message may have come, and nothing may come any more that lets it be looked at */
-    if (request->over || request->kind == SYNCHRONOUS) free_request(request);
-    else {
-        request->freed = true;
-        atomic_fetch_add(&me->waited_for, 1);
-    }
+    if (request) give_up(request);
     return MPI_SUCCESS;
 }
 
-/* Cancels a receive that waits; a send is never cancelled (3.8.4), a collective can't be (6.12). The request has to be waited for all the same. */
+/* Cancels a receive that waits; a send is never cancelled (3.8.4), nor is an exchange; a collective can't be (6.12). The request has to be waited for all
+   the same. */
 int MPI_Cancel(MPI_Request *handle) {
     ENTER(0, MPI_UNDEFINED, MPI_UNDEFINED);
     WRITES(0, handle);

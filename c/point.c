@@ -153,18 +153,24 @@ int MPI_Irecv(void *buf, int count, MPI_Datatype type, int source, int tag, MPI_
     return MPI_SUCCESS;
 }
 
-/* Sends and receives at the same time; the receive is posted first. The receive's error is told before the send's. */
+/* Begins a receive, then a send. */
+int begin_both(const void *sendbuf, int sendcount, MPI_Datatype sendtype, int dest, int sendtag, void *recvbuf, int recvcount, MPI_Datatype recvtype,
+               int source, int recvtag, struct comm *comm, struct request **receive, struct request **send) {
+    int code = begin_receive(recvbuf, recvcount, recvtype, source, recvtag, comm, receive);
+    if (code != MPI_SUCCESS) return code;
+    code = begin_send(sendbuf, sendcount, sendtype, dest, sendtag, comm, options.sends_wait, send);
+    if (code == MPI_SUCCESS) return code;
+    withdraw(*receive);
+    free_request(*receive);
+    return code;
+}
+
+/* Sends and receives at the same time. The receive's error is told before the send's. */
 static int exchange(const void *sendbuf, int sendcount, MPI_Datatype sendtype, int dest, int sendtag, void *recvbuf, int recvcount,
                     MPI_Datatype recvtype, int source, int recvtag, struct comm *comm, MPI_Status *status) {
     struct request *receive, *send;
-    int code = begin_receive(recvbuf, recvcount, recvtype, source, recvtag, comm, &receive);
+    int code = begin_both(sendbuf, sendcount, sendtype, dest, sendtag, recvbuf, recvcount, recvtype, source, recvtag, comm, &receive, &send);
     if (code != MPI_SUCCESS) return code;
-    code = begin_send(sendbuf, sendcount, sendtype, dest, sendtag, comm, options.sends_wait, &send);
-    if (code != MPI_SUCCESS) {
-        withdraw(receive);
-        free_request(receive);
-        return code;
-    }
     code = finish(receive, status);
     int sent = finish(send, 0);
     return code != MPI_SUCCESS ? code : sent;
@@ -177,20 +183,26 @@ int MPI_Sendrecv(const void *sendbuf, int sendcount, MPI_Datatype sendtype, int 
     return fail(of, exchange(sendbuf, sendcount, sendtype, dest, sendtag, recvbuf, recvcount, recvtype, source, recvtag, of, status));
 }
 
+/* A copy of what is sent from a buffer that a receive writes to; the caller frees it. Why it can't be sent, or MPI_SUCCESS. */
+int copy_to_send(const void *buf, int count, MPI_Datatype type, int dest, int tag, const struct comm *comm, void **copy, size_t *bytes) {
+    const void *data;
+    int code = check(buf, count, type, dest, tag, comm, false, bytes);
+    if (code == MPI_SUCCESS) code = pack_data(buf, count, type, &data, copy);
+    if (code != MPI_SUCCESS) return code;
+    if (!*copy && !(*copy = malloc(*bytes + 1))) return MPI_ERR_NO_MEM;
+    if (data == buf && *bytes) memcpy(*copy, buf, *bytes);
+    return MPI_SUCCESS;
+}
+
 int MPI_Sendrecv_replace(void *buf, int count, MPI_Datatype type, int dest, int sendtag, int source, int recvtag, MPI_Comm comm,
                          MPI_Status *status) {
     struct comm *of = comm_at(comm);
+    void *copy;
     size_t bytes = 0;
     ENTER(of, source, recvtag);
-    int code = check(buf, count, type, dest, sendtag, of, false, &bytes);
+    int code = copy_to_send(buf, count, type, dest, sendtag, of, &copy, &bytes);
     if (code != MPI_SUCCESS) return fail(of, code);
-    const void *data;
-    void *packed;
-    code = pack_data(buf, count, type, &data, &packed);
-    if (code != MPI_SUCCESS) return fail(of, code);
-    if (!packed && !(packed = malloc(bytes + 1))) return fail(of, MPI_ERR_NO_MEM);
-    if (data == buf && bytes) memcpy(packed, buf, bytes);
-    code = exchange(packed, (int)bytes, MPI_BYTE, dest, sendtag, buf, count, type, source, recvtag, of, status);
-    free(packed);
+    code = exchange(copy, (int)bytes, MPI_BYTE, dest, sendtag, buf, count, type, source, recvtag, of, status);
+    free(copy);
     return fail(of, code);
 }

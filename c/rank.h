@@ -90,9 +90,9 @@ struct parcel {
     unsigned char bytes[];
 };
 
-/* What a request is: a buffered send, a send that waits for its match, a receive, a collective, a shrink or an agreement, one that starts others, or
-   nothing that could go on. */
-enum kind { SENT, SYNCHRONOUS, RECEIVE, COLLECTIVE, RECOVERY, PERSISTENT, NOTHING };
+/* What a request is: a buffered send, a send that waits for its match, a receive, a send and a receive, a collective, a shrink or an agreement, one that
+   starts others, or nothing that could go on. */
+enum kind { SENT, SYNCHRONOUS, RECEIVE, EXCHANGE, COLLECTIVE, RECOVERY, PERSISTENT, NOTHING };
 
 struct landing;
 struct start;
@@ -119,7 +119,7 @@ struct request {
     void (*look)(struct request *);     /* of a shrink or an agreement: looks at it once */
     void *more;                         /* what that knows of it */
     struct reduction *reduction;        /* of a collective: what is folded at its end, or null */
-    struct request *parts[MAX_RANKS];   /* of a collective: its receives, by positions */
+    struct request *parts[MAX_RANKS];   /* of a collective: its receives, by positions; of an exchange: a receive and a send */
 };
 
 /* What the rank's present call is, for reports. */

@@ -30,7 +30,7 @@ struct request *new_request(enum kind kind, struct comm *comm, int peer, int tag
     int place = free_place();
     if (place < 0 || (!request && !(request = malloc(sizeof *request)))) return 0;
     if (me->spare) me->spare = request->next;
-    memset(request, 0, kind == COLLECTIVE ? sizeof *request : offsetof(struct request, parts));
+    memset(request, 0, kind == COLLECTIVE || kind == EXCHANGE ? sizeof *request : offsetof(struct request, parts));
     request->kind = kind;
     request->comm = comm;
     request->context = comm->context;
@@ -163,6 +163,7 @@ static void end_revoked(struct request *request) {
 int look_at(struct request *request) {
     if (request->over) return MPI_SUCCESS;
     if (request->kind == SYNCHRONOUS) return look_at_send(request);
+    if (request->kind == EXCHANGE) return look_at_exchange(request);
     if (request->kind == COLLECTIVE) {
         look_at_collective(request);
         return MPI_SUCCESS;

@@ -131,6 +131,9 @@ void clear_handlers(void);
 int check_message(const void *buf, int count, MPI_Datatype type, int peer, int tag, const struct comm *comm, bool is_receive);
 int begin_send(const void *buf, int count, MPI_Datatype type, int dest, int tag, struct comm *comm, bool waits, struct request **made);
 int begin_receive(void *buf, int count, MPI_Datatype type, int source, int tag, struct comm *comm, struct request **made);
+int begin_both(const void *sendbuf, int sendcount, MPI_Datatype sendtype, int dest, int sendtag, void *recvbuf, int recvcount, MPI_Datatype recvtype,
+               int source, int recvtag, struct comm *comm, struct request **receive, struct request **send);
+int copy_to_send(const void *buf, int count, MPI_Datatype type, int dest, int tag, const struct comm *comm, void **copy, size_t *bytes);
 int send_buffered(const void *buf, int count, MPI_Datatype type, int dest, int tag, struct comm *comm);
 void free_start(struct start *start);
 
@@ -139,6 +142,9 @@ int copy_attributes(struct comm *from, struct comm *to);
 int delete_attributes(struct comm *comm);
 void free_attributes(struct comm *comm);
 void clear_keyvals(void);
+
+/* exchange.c */
+int look_at_exchange(struct request *exchange);
 
 /* nonblocking.c */
 void look_at_collective(struct request *collective);

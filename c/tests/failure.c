@@ -30,6 +30,9 @@ static void named(void) {
     CHECK(class_of(MPI_Wait(&request, &status)) == MPIX_ERR_PROC_FAILED && request == MPI_REQUEST_NULL);
     CHECK(MPI_Irecv(&x, 1, MPI_INT, 1, 1, world, &request) == MPI_SUCCESS);
     CHECK(class_of(MPI_Test(&request, &flag, &status)) == MPIX_ERR_PROC_FAILED && flag == 1);
+    CHECK(MPI_Isendrecv(&x, 1, MPI_INT, rank, 9, &x, 1, MPI_INT, 1, 1, world, &request) == MPI_SUCCESS);
+    CHECK(MPI_Recv(&x, 1, MPI_INT, rank, 9, world, &status) == MPI_SUCCESS);
+    CHECK(class_of(MPI_Wait(&request, &status)) == MPIX_ERR_PROC_FAILED && request == MPI_REQUEST_NULL);
     CHECK(class_of(MPI_Probe(1, 1, world, &status)) == MPIX_ERR_PROC_FAILED);
     CHECK(class_of(MPI_Iprobe(1, 1, world, &flag, &status)) == MPIX_ERR_PROC_FAILED && flag == 0);
     MPI_Irecv(&x, 1, MPI_INT, 1, 1, world, &two[0]);
@@ -42,10 +45,12 @@ static void named(void) {
 }
 
 static void wild(void) {
-    int x = 0, flag, count;
-    MPI_Request request;
+    int x = 0, y, flag, count;
+    MPI_Request request, both;
     MPI_Status status;
     CHECK(class_of(MPI_Recv(&x, 1, MPI_INT, MPI_ANY_SOURCE, 2, world, &status)) == MPIX_ERR_PROC_FAILED);
+    CHECK(MPI_Isendrecv(&x, 1, MPI_INT, MPI_PROC_NULL, 3, &y, 1, MPI_INT, MPI_ANY_SOURCE, 3, world, &both) == MPI_SUCCESS);
+    CHECK(class_of(MPI_Wait(&both, &status)) == MPIX_ERR_PROC_FAILED_PENDING && both != MPI_REQUEST_NULL);
     CHECK(class_of(MPI_Iprobe(MPI_ANY_SOURCE, 2, world, &flag, &status)) == MPIX_ERR_PROC_FAILED_PENDING);
     CHECK(MPI_Irecv(&x, 1, MPI_INT, MPI_ANY_SOURCE, 2, world, &request) == MPI_SUCCESS);
     CHECK(class_of(MPI_Wait(&request, &status)) == MPIX_ERR_PROC_FAILED_PENDING && request != MPI_REQUEST_NULL);
@@ -54,6 +59,7 @@ static void wild(void) {
     CHECK(MPIX_Comm_ack_failed(world, 0, &count) == MPI_SUCCESS && count == 0);
     CHECK(MPIX_Comm_ack_failed(world, 1, &count) == MPI_SUCCESS && count == 1);
     CHECK(MPI_Test(&request, &flag, &status) == MPI_SUCCESS && !flag);
+    CHECK(MPI_Test(&both, &flag, &status) == MPI_SUCCESS && !flag && MPI_Request_free(&both) == MPI_SUCCESS);
     CHECK(MPIX_Comm_agree(world, &count) == MPI_SUCCESS);   /* nobody sends before all have come here */
     if (rank == 2) x = 5, MPI_Send(&x, 1, MPI_INT, 0, 2, world), x = 0, MPI_Send(&x, 1, MPI_INT, 2, 2, world);
     if (rank == 0) MPI_Send(&x, 1, MPI_INT, 3, 2, world);
