@@ -95,6 +95,7 @@ int MPI_Imrecv(void *buf, int count, MPI_Datatype type, MPI_Message *message, MP
 int MPI_Get_count(const MPI_Status *status, MPI_Datatype type, int *count);
 int MPI_Get_elements(const MPI_Status *status, MPI_Datatype type, int *count);
 int MPI_Get_elements_x(const MPI_Status *status, MPI_Datatype type, MPI_Count *count);
+/* What a program writes into a status itself (13.3). */
 int MPI_Status_set_elements(MPI_Status *status, MPI_Datatype type, int count);
 int MPI_Status_set_elements_x(MPI_Status *status, MPI_Datatype type, MPI_Count count);
 int MPI_Status_set_cancelled(MPI_Status *status, int flag);
