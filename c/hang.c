@@ -38,8 +38,8 @@ static uint32_t missing_from(const struct rank *waiting) {
     if (!place->comm || (strcmp(place->call, "MPIX_Comm_shrink") && !agrees)) return 0;
     for (int k = 0; k < place->comm->size; k++) {
         const struct rank *rank = &ranks[place->comm->members[k]];
-        uint32_t context = place->comm->context;
-        bool is_there = rank->place.call == place->call && rank->place.comm && rank->place.comm->context == context;
+        uint32_t context = place->comm->context, first = place->comm->chain->plane[0].context;
+        bool is_there = rank->place.call == place->call && rank->place.comm && rank->place.comm->chain->plane[0].context == first;
         if (agrees) is_there = atomic_load(&rank->agreed[context]) >= atomic_load(&waiting->agreed[context]);
         if (!rank->has_stopped && !is_there) bits |= 1u << rank->number;
     }

@@ -41,9 +41,10 @@ static bool is_shrunk(void *of, bool is_settled) {
     return shrink->code != ULFM_NOT_YET;
 }
 
-/* Enters a shrink. One that was shrunk before gives a shrink of what came of it: its members are among those. */
+/* Enters a shrink. One that was shrunk before gives a shrink of what came of it: its members are among those. A duplicate is shrunk by the first
+   context of its group, since those of duplicates have few to come after them. */
 static int enter(struct shrink *shrink, struct comm *comm, MPI_Comm *handle) {
-    *shrink = (struct shrink){.comm = comm, .context = comm->context, .handle = handle};
+    *shrink = (struct shrink){.comm = comm, .context = comm->chain->plane[0].context, .handle = handle};
     if (comm->is_part) return NOT_ON_PARTS;
     while (me->shrunk[shrink->context]) shrink->context = me->shrunk[shrink->context];
     shrink->code = ulfm_enter_shrink(me->slot, shrink->context);
