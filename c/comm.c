@@ -15,15 +15,16 @@ MPI_Comm handle_of(const struct comm *comm) {
     return MPI_COMM_NULL;
 }
 
-/* The chain of a context, with its first duplicate, for collectives, where there is one left. */
+/* The chain of a context, with its first duplicate, for collectives, and the others, as far as contexts are left. */
 struct chain *new_chain(uint32_t context) {
     struct chain *chain = calloc(1, sizeof *chain);
     if (!chain) return 0;
-    uint32_t made;
-    chain->hidden = ulfm_dup(me->slot, context, &made) == ULFM_OK ? made : NO_CONTEXT_LEFT;
-    chain->last = chain->hidden;
+    uint32_t last;
+    bool is_left = ulfm_dup(me->slot, context, &last) == ULFM_OK;
+    chain->hidden = is_left ? last : NO_CONTEXT_LEFT;
     chain->plane[0].context = context;
-    chain->planes = 1;
+    chain->planes = chain->made = 1;
+    while (is_left && chain->made < PLANES && ulfm_dup(me->slot, last, &last) == ULFM_OK) chain->plane[chain->made++].context = last;
     return chain;
 }
 

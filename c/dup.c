@@ -51,13 +51,13 @@ static bool has_requests(uint32_t context) {
     return false;
 }
 
-/* The planes of a chain that this rank has not made yet, or freed, where nothing is open, revoked or shrunk. */
+/* The planes of a chain that this rank has not had yet, or freed, where nothing is open or revoked. */
 static unsigned free_planes(const struct chain *chain) {
     unsigned all = 0;
     for (int k = 0; k < PLANES; k++) {
         uint32_t context = chain->plane[k].context, revoked = 0;
         if (k >= chain->planes) all |= 1u << k;
-        else if (!chain->plane[k].is_free || has_requests(context) || me->shrunk[context]) continue;
+        else if (!chain->plane[k].is_free || has_requests(context)) continue;
         else if (ulfm_is_revoked(me->slot, context, &revoked) == ULFM_OK && !revoked) all |= 1u << k;
     }
     return all;
@@ -114,17 +114,10 @@ int agree_on_plane(struct comm *team, int *plane, struct plans *plans) {
     return code != MPI_SUCCESS || plans->marks ? code : MPI_ERR_NO_MEM;
 }
 
-/* Makes the chain so long that it has this plane. */
+/* Takes the planes of a chain into use, up to this one. */
 static int lengthen(struct chain *chain, int plane) {
-    if (plane >= PLANES) return NO_CONTEXTS;
-    while (chain->planes <= plane) {
-        uint32_t made;
-        int code = class_of(ulfm_dup(me->slot, chain->last, &made));
-        if (code != MPI_SUCCESS) return code;
-        chain->last = made;
-        chain->plane[chain->planes].is_free = true;
-        chain->plane[chain->planes++].context = made;
-    }
+    if (plane >= chain->made) return NO_CONTEXTS;
+    while (chain->planes <= plane) chain->plane[chain->planes++].is_free = true;
     return MPI_SUCCESS;
 }
 

@@ -27,8 +27,8 @@ enum {
 /* The contexts of one group that were made by duplication: the first one, its duplicate (for collectives), that one's, and so on. */
 struct chain {
     uint32_t hidden; /* the first duplicate, NO_CONTEXT_LEFT where there is none */
-    uint32_t last;   /* the last duplicate that was made here */
-    int planes;      /* how many contexts of it a program has had */
+    int made;        /* how many contexts it has: made ahead, since one that is revoked can't be duplicated */
+    int planes;      /* how many of them a program has had */
     int users;       /* the communicators here that point to it */
     struct {
         uint32_t context;
