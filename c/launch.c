@@ -84,6 +84,7 @@ static void clear_rank(void) {
     clear_ops();
     clear_keyvals();
     clear_infos();
+    clear_farewells();
     me->attached = 0;
 }
 
@@ -94,6 +95,7 @@ static void *run_rank(void *of) {
     me = of;
     if (setjmp(me->bottom) == 0) {
         int status = run_program(me);
+        say_farewells();
         if (!me->has_finalized) stop_here(status);
         me->status = status;
     }

@@ -155,7 +155,7 @@ struct rank {
     pthread_mutex_t parcels_lock;
     uint32_t shrunk[CONTEXTS];
     _Atomic int self_revoked;
-    bool has_begun, has_finalized, has_stopped;
+    _Atomic bool has_begun, has_finalized, has_stopped;
     bool is_planned;          /* it stopped by plan */
     struct place place;
     int recoveries;           /* requests of shrinks and agreements */
@@ -169,6 +169,7 @@ struct rank {
     size_t line_length, line_room;
     void *program;
     char *path, **words;
+    struct farewell *farewells;   /* what its program does at its end, the last first */
     _Alignas(128) _Atomic uint64_t idle;  /* all moves before its last look, and 1; 0: it runs */
     _Atomic int is_gone;      /* it has finalized, or stopped */
     _Atomic int is_ended;     /* its thread needs nothing more */

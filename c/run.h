@@ -27,6 +27,8 @@ void close_output(struct rank *rank);
 
 /* stop.c */
 void stop_here(int status) __attribute__((noreturn));
+void say_farewells(void);
+void clear_farewells(void);
 void drain(void);
 
 /* progress.c */

@@ -46,15 +46,21 @@ int MPI_Is_thread_main(int *flag) {
     return MPI_SUCCESS;
 }
 
+/* Where no rank asks, but a further thread of a program, or the launcher's own after the run: whether some rank has begun. */
 int MPI_Initialized(int *flag) {
+    bool has_begun = me && me->has_begun;
     if (!flag) return MPI_ERR_ARG;
-    *flag = me && me->has_begun;
+    for (int k = 0; k < options.ranks && !me; k++) has_begun = has_begun || ranks[k].has_begun;
+    *flag = has_begun;
     return MPI_SUCCESS;
 }
 
+/* So too: whether all of them have finalized, or stopped. */
 int MPI_Finalized(int *flag) {
+    bool has_finalized = !me || me->has_finalized;
     if (!flag) return MPI_ERR_ARG;
-    *flag = me && me->has_finalized;
+    for (int k = 0; k < options.ranks && !me; k++) has_finalized = has_finalized && (ranks[k].has_finalized || ranks[k].has_stopped);
+    *flag = has_finalized;
     return MPI_SUCCESS;
 }
 

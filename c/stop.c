@@ -27,8 +27,50 @@ typedef void ending(int);
 /* What the C library has by a name. */
 static void *real(const char *name) { return dlsym(RTLD_NEXT, name); }
 
+/* A function that a program left for its end by `atexit`, or the destructor of a C++ object. */
+struct farewell {
+    struct farewell *next;
+    void (*function)(void *);
+    void *of;
+};
+
+/* What a rank's program leaves is done by the rank, since it may make calls of MPI; the C library would do it when the run is over. */
+int __cxa_atexit(void (*function)(void *), void *of, void *object) {
+    Dl_info info;
+    if (me && object && dladdr(object, &info) && !strcmp(info.dli_fname, me->path)) {
+        struct farewell *made = malloc(sizeof *made);
+        if (!made) return -1;
+        *made = (struct farewell){me->farewells, function, of};
+        me->farewells = made;
+        return 0;
+    }
+    int (*keep)(void (*)(void *), void *, void *) = (int (*)(void (*)(void *), void *, void *))real("__cxa_atexit");
+    return keep(function, of, object);
+}
+
+void say_farewells(void) {
+    while (me->farewells) {
+        struct farewell *last = me->farewells, said = *last;
+        me->farewells = said.next;
+        free(last);
+        said.function(said.of);
+    }
+}
+
+/* A rank that was stopped says none. */
+void clear_farewells(void) {
+    while (me->farewells) {
+        struct farewell *next = me->farewells->next;
+        free(me->farewells);
+        me->farewells = next;
+    }
+}
+
 void exit(int status) {
-    if (me) stop_here(status);
+    if (me) {
+        say_farewells();
+        stop_here(status);
+    }
     ending *end = (ending *)real("exit");
     end(status);
     __builtin_unreachable();

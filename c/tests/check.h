@@ -18,9 +18,9 @@ static int faults __attribute__((unused));
     } while (0)
 
 static inline int class_of(int code) {
-    int class = -1;
-    MPI_Error_class(code, &class);
-    return class;
+    int answer = -1;
+    MPI_Error_class(code, &answer);
+    return answer;
 }
 
 #endif
