@@ -205,7 +205,7 @@ int ulfm_mpirun(int count, char **words) {
     remove_copies();
     for (int k = 0; k < options.ranks; k++) {
         free(ranks[k].path);
-        free_words(&ranks[k]);
+        free(ranks[k].words);
     }
     return status;
 }

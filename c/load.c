@@ -55,14 +55,19 @@ void remove_copies(void) {
     if (folder[0]) rmdir(folder);
 }
 
-/* The words that the rank's main gets: the program, and its arguments. False where there is no memory. */
+static const char *word_at(int k) { return k ? options.words[k - 1] : options.program; }
+
+/* The words that the rank's main gets: the program, and its arguments. They are one piece of memory with their array, since main may change what
+   stands in that. False where there is no memory. */
 static bool copy_words(struct rank *rank) {
-    int count = options.count + 1;
-    rank->words = calloc((size_t)count + 1, sizeof *rank->words);
+    size_t count = (size_t)options.count + 1, bytes = (count + 1) * sizeof *rank->words;
+    for (size_t k = 0; k < count; k++) bytes += strlen(word_at((int)k)) + 1;
+    rank->words = calloc(1, bytes);
     if (!rank->words) return false;
-    for (int k = 0; k < count; k++) {
-        rank->words[k] = strdup(k ? options.words[k - 1] : options.program);
-        if (!rank->words[k]) return false;
+    char *text = (char *)(rank->words + count + 1);
+    for (size_t k = 0; k < count; k++) {
+        rank->words[k] = text;
+        text = stpcpy(text, word_at((int)k)) + 1;
     }
     return true;
 }
@@ -91,9 +96,4 @@ int run_program(struct rank *rank) {
     }
     if (!copy_words(rank)) end_run(STATUS_USAGE);
     return (*start)(options.count + 1, rank->words, environ);
-}
-
-void free_words(struct rank *rank) {
-    for (int k = 0; rank->words && rank->words[k]; k++) free(rank->words[k]);
-    free(rank->words);
 }

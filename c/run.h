@@ -14,7 +14,6 @@ void remove_copies(void);
 /* Whether a rank crashed, so that the process ends: a program that can't be loaded then is no fault. */
 extern volatile sig_atomic_t is_crashed;
 int run_program(struct rank *rank);
-void free_words(struct rank *rank);
 int every_stop(const char *launcher);
 int ulfm_mpirun(int count, char **words);
 void end_run(int status) __attribute__((noreturn));

@@ -16,6 +16,7 @@ int main(int argc, char **argv) {
     srand48(7);
     for (int k = 0; k < 1000; k++) last = rand();
     printf("%s%d %.6f\n", line, last, drand48());
+    for (int k = 0; k < argc; k++) argv[k] = k ? argv[k] + 1 : 0;   /* the words are main's */
     MPI_Finalize();
     return 0;
 }
