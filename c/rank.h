@@ -157,6 +157,7 @@ struct rank {
     _Atomic int self_revoked;
     _Atomic bool has_begun, has_finalized, has_stopped;
     bool is_planned;          /* it stopped by plan */
+    int provided;             /* the level of threads that it was given */
     struct place place;
     int recoveries;           /* requests of shrinks and agreements */
     int vain;                 /* looks of calls that don't wait, since anything moved */

@@ -28,15 +28,17 @@ int MPI_Init_thread(int *argc, char ***argv, int required, int *provided) {
     if (!make_world()) refuse("MPI_Init", "found no memory");
     me->has_begun = true;
     me->place = (struct place){.call = "MPI_Init", .from = __builtin_return_address(0), .peer = MPI_UNDEFINED, .tag = MPI_UNDEFINED};
-    if (provided) *provided = required < MPI_THREAD_FUNNELED ? MPI_THREAD_SINGLE : MPI_THREAD_FUNNELED;
+    me->provided = required < MPI_THREAD_FUNNELED ? MPI_THREAD_SINGLE : MPI_THREAD_FUNNELED;
+    if (provided) *provided = me->provided;
     return MPI_SUCCESS;
 }
 
 int MPI_Init(int *argc, char ***argv) { return MPI_Init_thread(argc, argv, MPI_THREAD_SINGLE, 0); }
 
+/* What the start of the rank provided; a further thread of its program can be one of a rank that was given FUNNELED alone. */
 int MPI_Query_thread(int *provided) {
     if (!provided) return MPI_ERR_ARG;
-    *provided = MPI_THREAD_FUNNELED;
+    *provided = me ? me->provided : MPI_THREAD_FUNNELED;
     return MPI_SUCCESS;
 }
 
@@ -68,6 +70,7 @@ int MPI_Finalized(int *flag) {
 int MPI_Finalize(void) {
     ENTER(0, MPI_UNDEFINED, MPI_UNDEFINED);
     delete_attributes(comm_at(MPI_COMM_SELF));   /* before all else (11.2.4) */
+    delete_attributes(comm_at(MPI_COMM_WORLD));
     drain();
     me->has_finalized = true;
     return MPI_SUCCESS;
