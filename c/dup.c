@@ -134,14 +134,19 @@ int make_on_plane(struct comm *of, int plane, const struct group *group, const s
     return MPI_SUCCESS;
 }
 
-static int duplicate(struct comm *of, MPI_Comm *made) {
+/* Makes a communicator of the same members, with none of what a program added to the other one. */
+int make_another(struct comm *of, MPI_Comm *made) {
     struct plans plans = {0};
     struct group group;
     int plane = 0;
     group_of(of, &group);
+    int code = agree_on_plane(of, &plane, &plans);
+    return code == MPI_SUCCESS ? make_on_plane(of, plane, &group, &plans, made) : code;
+}
+
+static int duplicate(struct comm *of, MPI_Comm *made) {
     int code = begin_collective(of);
-    if (code == MPI_SUCCESS) code = agree_on_plane(of, &plane, &plans);
-    if (code == MPI_SUCCESS) code = make_on_plane(of, plane, &group, &plans, made);
+    if (code == MPI_SUCCESS) code = make_another(of, made);
     if (code == MPI_SUCCESS) comm_at(*made)->cart = copy_cart(of->cart);
     return code == MPI_SUCCESS ? copy_attributes(of, comm_at(*made)) : code;
 }

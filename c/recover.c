@@ -19,6 +19,7 @@ int MPIX_Comm_is_revoked(MPI_Comm comm, int *flag) {
     struct comm *of = comm_at(comm);
     ENTER_LOOK(of, MPI_UNDEFINED, MPI_UNDEFINED);
     if (!of) return fail(0, MPI_ERR_COMM);
+    WRITES(of, flag);
     progress();
     *flag = is_revoked(of);
     return MPI_SUCCESS;
@@ -67,12 +68,16 @@ static int adopt(struct shrink *shrink) {
     return MPI_SUCCESS;
 }
 
+/* A part of one member needs no decision of others. */
+static bool is_alone(const struct comm *comm) { return comm->is_part && comm->size == 1; }
+
 int MPIX_Comm_shrink(MPI_Comm comm, MPI_Comm *made) {
     struct comm *of = comm_at(comm);
     struct shrink shrink;
     ENTER(of, MPI_UNDEFINED, MPI_UNDEFINED);
     if (!of) return fail(0, MPI_ERR_COMM);
     WRITES(of, made);
+    if (is_alone(of)) return fail(of, make_another(of, made));
     int code = enter(&shrink, of, made);
     if (code != MPI_SUCCESS) return fail(of, code);
     wait_until(is_shrunk, &shrink, true);
@@ -94,7 +99,8 @@ int MPIX_Comm_ishrink(MPI_Comm comm, MPI_Comm *made, MPI_Request *handle) {
     WRITES(of, made && handle);
     *handle = MPI_REQUEST_NULL;
     int code = new_recovery(of, look_at_shrink, sizeof(struct shrink), &request);
-    if (code == MPI_SUCCESS) code = enter(request->more, of, made);
+    if (code == MPI_SUCCESS && is_alone(of)) end_request(request, make_another(of, made));
+    else if (code == MPI_SUCCESS) code = enter(request->more, of, made);
     return give_recovery(of, code, request, handle);
 }
 
@@ -105,6 +111,7 @@ int MPIX_Comm_get_failed(MPI_Comm comm, MPI_Group *group) {
     ulfm_group failed;
     ENTER_LOOK(of, MPI_UNDEFINED, MPI_UNDEFINED);
     if (!of) return fail(0, MPI_ERR_COMM);
+    WRITES(of, group);
     progress();
     int code = failed_of(of, &failed);
     return fail(of, code != MPI_SUCCESS ? code : make_group(failed.members, (int)failed.size, group));
@@ -127,6 +134,7 @@ int MPIX_Comm_ack_failed(MPI_Comm comm, int count, int *acknowledged) {
     ulfm_group failed;
     ENTER_LOOK(of, MPI_UNDEFINED, MPI_UNDEFINED);
     if (!of) return fail(0, MPI_ERR_COMM);
+    WRITES(of, acknowledged);
     progress();
     int code = failed_of(of, &failed);
     if (code == MPI_SUCCESS && (count < 0 || (uint32_t)count > failed.size)) code = MPI_ERR_ARG;
@@ -148,6 +156,7 @@ int MPIX_Comm_failure_get_acked(MPI_Comm comm, MPI_Group *group) {
     ulfm_group failed;
     ENTER_LOOK(of, MPI_UNDEFINED, MPI_UNDEFINED);
     if (!of) return fail(0, MPI_ERR_COMM);
+    WRITES(of, group);
     progress();
     int code = failed_of(of, &failed);
     return fail(of, code != MPI_SUCCESS ? code : make_group(failed.members, (int)of->acknowledged, group));

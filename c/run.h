@@ -89,6 +89,7 @@ bool fill_comm(struct comm *comm, const struct group *group);
 void group_of(const struct comm *comm, struct group *group);
 int agree_on_plane(struct comm *team, int *plane, struct plans *plans);
 int make_on_plane(struct comm *of, int plane, const struct group *group, const struct plans *plans, MPI_Comm *made);
+int make_another(struct comm *of, MPI_Comm *made);
 void free_marks(void);
 MPI_Comm handle_of(const struct comm *comm);
 struct comm *new_comm(struct chain *chain, int plane, MPI_Errhandler handler, const struct group *group);

@@ -96,6 +96,7 @@ int MPI_Get_version(int *version, int *subversion) {
 }
 
 int MPI_Get_library_version(char *version, int *length) {
+    if (!version || !length) return MPI_ERR_ARG;
     *length = snprintf(version, MPI_MAX_LIBRARY_VERSION_STRING, "Cufandrize: MPI 4.0 calls over threads, with ULFM");
     return MPI_SUCCESS;
 }

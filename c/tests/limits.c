@@ -45,6 +45,9 @@ static void wrong(void) {
     CHECK(class_of(MPI_Send(&x, 1, MPI_INT, 0, 0, bad)) == MPI_ERR_COMM);
     CHECK(class_of(MPI_Bcast(&x, 1, MPI_INT, 5, MPI_COMM_WORLD)) == MPI_ERR_ROOT);
     CHECK(class_of(MPI_Allreduce(&x, &x, 1, MPI_INT, MPI_OP_NULL, MPI_COMM_WORLD)) == MPI_ERR_OP);
+    CHECK(class_of(MPIX_Comm_is_revoked(MPI_COMM_WORLD, 0)) == MPI_ERR_ARG && class_of(MPIX_Comm_get_failed(MPI_COMM_WORLD, 0)) == MPI_ERR_ARG);
+    CHECK(class_of(MPIX_Comm_failure_get_acked(MPI_COMM_WORLD, 0)) == MPI_ERR_ARG && class_of(MPIX_Comm_ack_failed(MPI_COMM_WORLD, 0, 0)) == MPI_ERR_ARG);
+    CHECK(MPI_Get_library_version(0, 0) == MPI_ERR_ARG);
     MPI_Irecv(&x, 1, MPI_INT, rank, 1, MPI_COMM_WORLD, &request);
     stale = request;
     MPI_Send(&x, 1, MPI_INT, rank, 1, MPI_COMM_WORLD);
