@@ -43,12 +43,23 @@ void report(const char *format, ...) {
 
 volatile sig_atomic_t is_crashed;
 
+/* Ends a process that a rank forked as if it had no handler. */
+static void end_child(int number) {
+    signal(number, SIG_DFL);
+    raise(number);
+}
+
+static const char *words_of_signal(int number) {
+    return number == SIGSEGV ? "segmentation fault" : number == SIGABRT ? "aborted by the C library" : "see signal(7)";
+}
+
 /* A rank crashed: the process can't go on. */
 static void crashed(int number) {
     char line[200];
+    if (!is_launcher()) end_child(number);
     const char *call = me && me->place.call ? me->place.call : "its start";
     int length = snprintf(line, sizeof line, "ulfm-mpirun: rank %d crashed by signal %d (%s), in or after %s (call %d)\n", me ? me->number : -1,
-                          number, number == SIGSEGV ? "segmentation fault" : "see signal(7)", call, me ? me->calls : 0);
+                          number, words_of_signal(number), call, me ? me->calls : 0);
     if (write(2, line, (size_t)length) < 0) length = 0;
     report("crash %d %d\n", me ? me->number : -1, number);
     is_crashed = 1;
@@ -58,7 +69,10 @@ static void crashed(int number) {
 }
 
 /* The run is ended from outside. */
-static void ended(int number) { end_run(128 + number); }
+static void ended(int number) {
+    if (!is_launcher()) end_child(number);
+    end_run(128 + number);
+}
 
 static void handle(int number, void (*handler)(int)) {
     struct sigaction old, action = {.sa_handler = handler, .sa_flags = SA_ONSTACK | SA_NODEFER};
@@ -66,7 +80,8 @@ static void handle(int number, void (*handler)(int)) {
 }
 
 static void handle_signals(void) {
-    static const int crashes[] = {SIGSEGV, SIGBUS, SIGFPE, SIGILL}, ends[] = {SIGINT, SIGTERM, SIGHUP};
+    static const int crashes[] = {SIGSEGV, SIGBUS, SIGFPE, SIGILL, SIGABRT};
+    static const int ends[] = {SIGINT, SIGTERM, SIGHUP, SIGQUIT, SIGPIPE, SIGALRM, SIGUSR1, SIGUSR2, SIGVTALRM, SIGPROF, SIGXCPU, SIGXFSZ};
     for (size_t k = 0; k < sizeof crashes / sizeof *crashes; k++) handle(crashes[k], crashed);
     for (size_t k = 0; k < sizeof ends / sizeof *ends; k++) handle(ends[k], ended);
 }
@@ -180,6 +195,7 @@ int ulfm_mpirun(int count, char **words) {
     int refused = read_words(count, words);
     if (refused) return refused < 0 ? 0 : refused;
     if (options.every_stop) return every_stop(words[0]);
+    be_launcher();
     if (!copy_programs()) {
         fprintf(stderr, "ulfm-mpirun: %s can't be copied\n", options.program);
         return STATUS_USAGE;
@@ -201,11 +217,6 @@ int ulfm_mpirun(int count, char **words) {
     free_parcels();
     free_marks();
     tell_unmet_stops();
-    int status = status_of_run();
-    remove_copies();
-    for (int k = 0; k < options.ranks; k++) {
-        free(ranks[k].path);
-        free(ranks[k].words);
-    }
-    return status;
+    for (int k = 0; k < options.ranks; k++) free(ranks[k].words);
+    return status_of_run();
 }

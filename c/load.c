@@ -50,6 +50,7 @@ bool copy_programs(void) {
 }
 
 void remove_copies(void) {
+    if (!is_launcher()) return;
     for (int k = 0; k < options.ranks; k++)
         if (ranks[k].path) unlink(ranks[k].path);
     if (folder[0]) rmdir(folder);

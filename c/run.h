@@ -26,6 +26,8 @@ void close_output(struct rank *rank);
 
 /* stop.c */
 void stop_here(int status) __attribute__((noreturn));
+void be_launcher(void);
+bool is_launcher(void);
 void say_farewells(void);
 void clear_farewells(void);
 void drain(void);

@@ -9,6 +9,18 @@
 #include <string.h>
 #include <unistd.h>
 
+static pid_t launcher;
+
+void be_launcher(void) {
+    launcher = getpid();
+    atexit(remove_copies);
+}
+
+/* Whether this process has the ranks, and isn't one that a rank forked: that ends as any process does. */
+bool is_launcher(void) { return getpid() == launcher; }
+
+static bool is_rank(void) { return me && is_launcher(); }
+
 /* The rank stops here; its thread goes on at its bottom. */
 void stop_here(int status) {
     struct rank *rank = me;
@@ -67,17 +79,18 @@ void clear_farewells(void) {
 }
 
 void exit(int status) {
-    if (me) {
+    if (is_rank()) {
         say_farewells();
         stop_here(status);
     }
+    if (me) fflush(stdout);
     ending *end = (ending *)real("exit");
     end(status);
     __builtin_unreachable();
 }
 
 void _exit(int status) {
-    if (me) stop_here(status);
+    if (is_rank()) stop_here(status);
     ending *end = (ending *)real("_exit");
     end(status);
     __builtin_unreachable();
@@ -87,7 +100,7 @@ void _Exit(int status) { _exit(status); }
 void quick_exit(int status) { _exit(status); }
 
 void abort(void) {
-    if (me) stop_here(128 + SIGABRT);
+    if (is_rank()) stop_here(128 + SIGABRT);
     ending *end = (ending *)real("abort");
     end(0);
     __builtin_unreachable();
@@ -109,13 +122,13 @@ static bool ends_by(int number) {
 }
 
 int raise(int number) {
-    if (me && ends_by(number)) stop_here(128 + number);
+    if (is_rank() && ends_by(number)) stop_here(128 + number);
     int (*send)(int) = (int (*)(int))real("raise");
     return send(number);
 }
 
 int kill(pid_t to, int number) {
-    if (me && to == getpid() && ends_by(number)) stop_here(128 + number);
+    if (is_rank() && to == launcher && ends_by(number)) stop_here(128 + number);
     int (*send)(pid_t, int) = (int (*)(pid_t, int))real("kill");
     return send(to, number);
 }
