@@ -3,8 +3,11 @@
 #define _GNU_SOURCE
 #include "run.h"
 #include <dlfcn.h>
+#include <err.h>
 #include <errno.h>
+#include <error.h>
 #include <signal.h>
+#include <stdarg.h>
 #include <stdlib.h>
 #include <string.h>
 #include <unistd.h>
@@ -109,6 +112,43 @@ void abort(void) {
 void __assert_fail(const char *what, const char *file, unsigned line, const char *function) {
     fprintf(stderr, "%s:%u: %s: Assertion `%s' failed.\n", file, line, function, what);
     abort();
+}
+
+/* These would end the process from inside the C library. */
+void verrx(int status, const char *format, va_list words) {
+    vwarnx(format, words);
+    exit(status);
+}
+
+void verr(int status, const char *format, va_list words) {
+    vwarn(format, words);
+    exit(status);
+}
+
+void errx(int status, const char *format, ...) {
+    va_list words;
+    va_start(words, format);
+    verrx(status, format, words);
+}
+
+void err(int status, const char *format, ...) {
+    va_list words;
+    va_start(words, format);
+    verr(status, format, words);
+}
+
+void error(int status, int number, const char *format, ...) {
+    va_list words;
+    va_start(words, format);
+    fflush(stdout);
+    flockfile(stderr);
+    fprintf(stderr, "%s: ", program_invocation_name);
+    vfprintf(stderr, format, words);
+    fprintf(stderr, number ? ": %s\n" : "\n", strerror(number));
+    error_message_count++;
+    funlockfile(stderr);
+    va_end(words);
+    if (status) exit(status);
 }
 
 /* What a signal to the own process does to a rank: it ends it, unless the program has a handler, or the signal does nothing. */

@@ -32,6 +32,9 @@ static void end(const char *how) {
     if (!strcmp(how, "_exit")) _exit(3);
     if (!strcmp(how, "abort")) abort();
     if (!strcmp(how, "assert")) assert(how == 0);
+    if (!strcmp(how, "err")) err(3, "no %s", "input");
+    if (!strcmp(how, "errx")) errx(3, "no %s", "input");
+    if (!strcmp(how, "error")) error(3, ENOENT, "no %s", "input");
     if (!strcmp(how, "raise")) raise(SIGTERM);
     if (!strcmp(how, "kill")) kill(getpid(), SIGKILL);
     if (!strcmp(how, "crash")) *(volatile int *)8 = 0;
