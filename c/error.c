@@ -77,7 +77,7 @@ static void end_by(struct comm *comm, int code) {
     char line[256];
     fprintf(stderr, "ulfm-mpirun: rank %d: %s%s: %s; errors are fatal on %s: the run ends\n", me->number, call,
             line_of(me, line, sizeof line), text_of(code), comm->name[0] ? comm->name : "this communicator");
-    if (me->out) fflush(me->out);
+    write_rests(true);
     report("fatal %d %s %d\n", me->number, call, code & 255);
     end_run(STATUS_FATAL);
 }

@@ -89,6 +89,7 @@ void tell_stuck(void) {
     pthread_mutex_lock(&lock);
     fprintf(stderr, "ulfm-mpirun: nobody can move any more:\n");
     tell_places();
+    write_rests(true);
     report("stuck\n");
     end_run(STATUS_STUCK);
 }

@@ -62,7 +62,10 @@ static void crashed(int number) {
                           number, words_of_signal(number), call, me ? me->calls : 0);
     if (write(2, line, (size_t)length) < 0) length = 0;
     report("crash %d %d\n", me ? me->number : -1, number);
-    is_crashed = 1;
+    if (!is_crashed) {
+        is_crashed = 1;
+        write_rests(false);
+    }
     remove_copies();
     signal(number, SIG_DFL);
     end_run(128 + number);
@@ -166,6 +169,7 @@ static void wait_for_ends(void) {
         if (pthread_cond_timedwait(&end_came, &end_lock, &until) == ETIMEDOUT) {
             fprintf(stderr, "ulfm-mpirun: the time is over after %g seconds:\n", options.timeout);
             tell_places();
+            write_rests(true);
             report("late\n");
             end_run(STATUS_LATE);
         }

@@ -1,5 +1,5 @@
-/* Standard output of ranks. They share one process, so each rank has a stream of its own, which hands whole lines on to descriptor 1. What a
-   program writes to `stdout` by the calls below goes to the stream of its rank. */
+/* Standard output of ranks. They share one process, so each rank has a stream of its own, which hands whole lines on to descriptor 1, and what a
+   program flushes. What a program writes to `stdout` by the calls below goes to the stream of its rank. */
 #define _GNU_SOURCE
 #include "run.h"
 #include <dlfcn.h>
@@ -8,7 +8,12 @@
 #include <string.h>
 #include <unistd.h>
 
-static pthread_mutex_t lock = PTHREAD_MUTEX_INITIALIZER;
+#define REAL(name, ...) static __typeof__(name) *real_##name;  if (!real_##name) real_##name = (__typeof__(name) *)dlsym(RTLD_NEXT, #name)
+
+static pthread_mutex_t lock = PTHREAD_MUTEX_INITIALIZER, closing = PTHREAD_MUTEX_INITIALIZER;
+
+/* Whether lines stay whole, though a program flushes parts: each has a tag, or they are compared. */
+static bool keeps_lines(void) { return options.tag || options.report >= 0; }
 
 static void write_all(const char *bytes, size_t length) {
     while (length) {
@@ -19,7 +24,7 @@ static void write_all(const char *bytes, size_t length) {
     }
 }
 
-/* Writes the rank's line that is complete. */
+/* Writes the rank's line, or what there is of it. */
 static void hand_on(struct rank *rank) {
     char tag[16];
     pthread_mutex_lock(&lock);
@@ -55,18 +60,36 @@ bool open_output(struct rank *rank) {
     return rank->out && setvbuf(rank->out, 0, _IOLBF, BUFSIZ) == 0;
 }
 
-/* Writes what is left, as a line. */
+/* Writes what is left of a line, with an end where it would run into another one's. */
+static void write_rest(struct rank *rank) {
+    if (rank->line_length && (!keeps_lines() || add(rank, '\n'))) hand_on(rank);
+}
+
 void close_output(struct rank *rank) {
+    pthread_mutex_lock(&closing);
     if (rank->out) fclose(rank->out);
     rank->out = 0;
-    if (rank->line_length && add(rank, '\n')) hand_on(rank);
+    write_rest(rank);
     free(rank->line);
     rank->line = 0;
+    pthread_mutex_unlock(&closing);
+}
+
+/* Before the run is ended: writes what is left of each rank's line, where nobody writes there. With `all` also what wasn't flushed; where a rank crashed,
+   its stream may be broken. */
+void write_rests(bool all) {
+    REAL(fflush);
+    if (pthread_mutex_trylock(&closing)) return;
+    for (int k = 0; k < options.ranks; k++) {
+        if (!ranks[k].out || ftrylockfile(ranks[k].out)) continue;
+        if (all) real_fflush(ranks[k].out);
+        write_rest(&ranks[k]);
+        funlockfile(ranks[k].out);
+    }
+    pthread_mutex_unlock(&closing);
 }
 
 static FILE *stream(FILE *file) { return me && file == stdout && me->out ? me->out : file; }
-
-#define REAL(name, ...) static __typeof__(name) *real_##name;  if (!real_##name) real_##name = (__typeof__(name) *)dlsym(RTLD_NEXT, #name)
 
 int vfprintf(FILE *file, const char *format, va_list words) {
     REAL(vfprintf);
@@ -90,7 +113,13 @@ int fputc(int byte, FILE *file) {
 
 int fflush(FILE *file) {
     REAL(fflush);
-    return real_fflush(stream(file));
+    int code = real_fflush(stream(file));
+    if (me && me->out && (!file || file == stdout) && !keeps_lines()) {
+        flockfile(me->out);
+        write_rest(me);
+        funlockfile(me->out);
+    }
+    return code;
 }
 
 int setvbuf(FILE *file, char *buffer, int mode, size_t size) {

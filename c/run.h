@@ -23,6 +23,7 @@ void report(const char *format, ...) __attribute__((format(printf, 1, 2)));
 /* output.c */
 bool open_output(struct rank *rank);
 void close_output(struct rank *rank);
+void write_rests(bool all);
 
 /* stop.c */
 void stop_here(int status) __attribute__((noreturn));

@@ -82,7 +82,7 @@ int MPI_Abort(MPI_Comm comm, int errorcode) {
         char line[256];
         me->place.from = __builtin_return_address(0);
         fprintf(stderr, "ulfm-mpirun: rank %d called MPI_Abort with %d%s: the run ends\n", me->number, errorcode, line_of(me, line, sizeof line));
-        if (me->out) fflush(me->out);
+        write_rests(true);
         report("abort %d %d\n", me->number, errorcode);
     }
     end_run((errorcode & 255) ? errorcode & 255 : 1);

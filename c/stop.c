@@ -86,7 +86,7 @@ void exit(int status) {
         say_farewells();
         stop_here(status);
     }
-    if (me) fflush(stdout);
+    if (me) close_output(me);
     ending *end = (ending *)real("exit");
     end(status);
     __builtin_unreachable();
