@@ -61,7 +61,7 @@ static int take_long(int count, char **words, const char *letters, const struct 
     const struct option *option = &longs[found];
     optarg = name[length] ? name + length + 1 : 0;
     optopt = option->flag ? 0 : option->val;
-    if (optarg && option->has_arg == no_argument) return refuse(words, letters, "option doesn't allow an argument", name - 2, '?');
+    if (optarg && option->has_arg == no_argument) return optarg = 0, refuse(words, letters, "option doesn't allow an argument", name - 2, '?');
     if (!optarg && option->has_arg == required_argument) {
         if (optind >= count) return refuse(words, letters, "option requires an argument", name - 2, ':');
         optarg = words[optind++];
@@ -99,23 +99,25 @@ static void move_behind(char **words, int from, int to) {
 
 OWN int getopt_long(int count, char *const fixed[], const char *letters, const struct option *longs, int *which) {
     char **words = (char **)fixed;
+    static int from, to;   /* the words before the option that is taken: they are moved when all letters of its word are */
     if (optind == 0) optind = 1, rest = 0;
-    int from = optind, stays = *letters == '+' || getenv("POSIXLY_CORRECT") != 0;
+    int stays = *letters == '+' || getenv("POSIXLY_CORRECT") != 0;
     const char *known = letters + (*letters == '+' || *letters == '-');
-    while (!stays && !rest && optind < count && !is_option(words[optind])) optind++;
-    int to = optind;
-    if (!rest && (optind >= count || !is_option(words[optind]))) {
-        optind = from;
-        return -1;
+    if (!rest && *letters == '-' && optind < count && !is_option(words[optind])) {
+        optarg = words[optind++];
+        return 1;
+    }
+    if (!rest) {
+        from = optind;
+        while (!stays && optind < count && !is_option(words[optind])) optind++;
+        to = optind;
+        if (optind >= count || !is_option(words[optind])) {
+            optind = from;
+            return -1;
+        }
     }
     int answer = take_option(count, words, known, longs, which);
     if (to > from && !rest) move_behind(words, from, to);
-    else if (to > from) {
-        /* The word has more letters: bring it to the front at once. */
-        optind++;
-        move_behind(words, from, to);
-        optind--;
-    }
     return answer;
 }
 
