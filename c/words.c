@@ -39,20 +39,36 @@ static bool read_number(const char *word, long least, long most, long *number) {
     return word && *word && !*end && *number >= least && *number <= most;
 }
 
+/* Reads a number of digits alone, `least` or more, and goes behind it. */
+static bool read_digits(const char **word, int least, int *number) {
+    size_t length = strspn(*word, "0123456789");
+    if (length == 0 || length > 9) return false;
+    *number = atoi(*word);
+    *word += length;
+    return *number >= least;
+}
+
+static bool read_sign(const char **word, char sign) { return **word == sign && (*word)++; }
+
 /* R@K, R@K.J, R@NAME:K, R@NAME:K.J */
 static bool read_stop(const char *word) {
     struct stop stop = {0};
-    int used = 0, length = (int)strlen(word);
-    if (options.stops == MAX_STOPS) return false;
-    bool is_known = (sscanf(word, "%d@%d%n", &stop.rank, &stop.call, &used) == 2 && stop.call > 0) ||
-                    (stop.call = 0, sscanf(word, "%d@%47[A-Za-z_]:%d%n", &stop.rank, stop.name, &stop.nth, &used) == 3);
-    if (!is_known || stop.rank < 0 || stop.rank >= MAX_RANKS) return false;
-    if (used < length) {
-        int more = 0;
-        if (sscanf(word + used, ".%d%n", &stop.inside, &more) != 1 || used + more != length) return false;
-    }
+    if (options.stops == MAX_STOPS || !read_digits(&word, 0, &stop.rank) || !read_sign(&word, '@')) return false;
+    size_t name = strspn(word, "ABCDEFGHIJKLMNOPQRSTUVWXYZabcdefghijklmnopqrstuvwxyz_");
+    if (name >= sizeof stop.name) return false;
+    memcpy(stop.name, word, name);
+    word += name;
+    if (name && !read_sign(&word, ':')) return false;
+    if (!read_digits(&word, 1, name ? &stop.nth : &stop.call)) return false;
+    if (*word && (!read_sign(&word, '.') || !read_digits(&word, 0, &stop.inside) || *word)) return false;
     options.stop[options.stops++] = stop;
     return true;
+}
+
+static bool read_seconds(const char *word) {
+    char *end;
+    options.timeout = strtod(word, &end);
+    return !*end && options.timeout > 0 && options.timeout <= 1e9;
 }
 
 /* An option without a value; false where it isn't one. */
@@ -72,12 +88,20 @@ static bool read_value(const char *word, const char *value) {
     if (!strcmp(word, "-n") || !strcmp(word, "-np")) return read_number(value, 1, MAX_RANKS, &number) && (options.ranks = (int)number);
     if (!strcmp(word, "--stop")) return read_stop(value);
     if (!strcmp(word, "--sends")) return (options.sends_wait = !strcmp(value, "wait")) || !strcmp(value, "buffer");
-    if (!strcmp(word, "--timeout")) return (options.timeout = atof(value)) > 0;
+    if (!strcmp(word, "--timeout")) return read_seconds(value);
     if (!strcmp(word, "--seed")) return read_number(value, 1, 2000000000, &number) && (options.seed = (uint64_t)number);
     if (!strcmp(word, "--jobs")) return read_number(value, 1, 1024, &number) && (options.jobs = (int)number);
     if (!strcmp(word, "--rounds")) return read_number(value, 1, 65535, &number) && (options.rounds = (int)number);
     if (!strcmp(word, "--report")) return read_number(value, 0, 65535, &number) && (options.report = (int)number) >= 0;
     return false;
+}
+
+static int refuse_option(const char *word, const char *value) {
+    long wanted;
+    bool is_count = !strcmp(word, "-n") || !strcmp(word, "-np");
+    if (is_count && read_number(value, MAX_RANKS + 1, 1000000000, &wanted)) return refuse("8 ranks are the most, and not", value);
+    fprintf(stderr, "ulfm-mpirun: '%s%s%s' isn't understood; --help tells how it is used\n", word, *value ? " " : "", value);
+    return STATUS_USAGE;
 }
 
 /* Reads the command line into `options`. 0, or the status with which the launcher ends; -1: it ends with 0. */
@@ -89,11 +113,7 @@ int read_words(int count, char **words) {
             return -1;
         }
         if (read_flag(words[k])) continue;
-        if (!read_value(words[k], k + 1 < count ? words[k + 1] : 0)) {
-            fprintf(stderr, "ulfm-mpirun: '%s%s%s' isn't understood; --help tells how it is used\n", words[k], k + 1 < count ? " " : "",
-                    k + 1 < count ? words[k + 1] : "");
-            return STATUS_USAGE;
-        }
+        if (!read_value(words[k], k + 1 < count ? words[k + 1] : 0)) return refuse_option(words[k], k + 1 < count ? words[k + 1] : "");
         k++;
     }
     if (k == count) return refuse("a program is missing after", words[count - 1]);
