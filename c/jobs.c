@@ -5,6 +5,7 @@
 #include <stdlib.h>
 #include <string.h>
 #include <sys/mman.h>
+#include <sys/prctl.h>
 #include <unistd.h>
 
 enum { MOST_WORDS = 24 + 2 * MAX_STOPS, TEXTS = 6 + MAX_STOPS, SECONDS = 60 };
@@ -47,11 +48,12 @@ static int words_of(char *words[], const char *launcher, char texts[][64], const
 }
 
 /* In the process of a run: becomes the launcher. */
-static void become(const struct job *job, const char *launcher, const struct spot *spot) {
+static void become(pid_t parent, const struct job *job, const char *launcher, const struct spot *spot) {
     char texts[TEXTS][64];
     char **words = calloc((size_t)(MOST_WORDS + options.count + 1), sizeof *words);
     int none = open("/dev/null", O_RDONLY);
-    if (!words || none < 0) _exit(STATUS_USAGE);
+    prctl(PR_SET_PDEATHSIG, SIGTERM);   /* who ends the table ends its runs */
+    if (!words || none < 0 || getppid() != parent) _exit(STATUS_USAGE);
     int count = words_of(words, launcher, texts, job, spot);
     for (int k = 0; k < options.count; k++) words[count++] = options.words[k];
     dup2(none, 0);
@@ -71,8 +73,9 @@ bool start_job(struct job *job, const char *launcher, const struct spot *spot) {
         }
     }
     fflush(stdout);
+    pid_t own = getpid();
     job->pid = fork();
-    if (job->pid == 0) become(job, launcher, spot);
+    if (job->pid == 0) become(own, job, launcher, spot);
     if (job->pid < 0) fprintf(stderr, "ulfm-mpirun: no process for a run\n");
     return job->pid > 0;
 }

@@ -5,7 +5,7 @@
 #include <stdbool.h>
 #include <stdint.h>
 
-enum { MAX_STOPS = 16 };
+enum { MAX_STOPS = 16, ROUNDS = 1024 };
 
 /* Statuses of ulfm-mpirun besides those of programs. */
 enum { STATUS_USAGE = 2, STATUS_FATAL = 96, STATUS_STUCK = 98, STATUS_LATE = 99 };

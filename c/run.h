@@ -9,6 +9,7 @@ extern __thread struct rank *me __attribute__((tls_model("initial-exec")));
 
 /* launch.c, load.c, words.c */
 int read_words(int count, char **words);
+char *quoted(const char *word);
 bool copy_programs(void);
 void remove_copies(void);
 /* Whether a rank crashed, so that the process ends: a program that can't be loaded then is no fault. */

@@ -1,5 +1,6 @@
 /* The table of --every-stop: what came out of each run, and the command that repeats it. */
 #include "every.h"
+#include <stdlib.h>
 #include <string.h>
 
 static const char *const words_of_outcome[OUTCOMES] = {
@@ -10,6 +11,12 @@ static const char *const words_of_outcome[OUTCOMES] = {
 void text_of_stop(const struct stop *stop, char *text, size_t room) {
     int used = stop->call ? snprintf(text, room, "%d@%d", stop->rank, stop->call) : snprintf(text, room, "%d@%s:%d", stop->rank, stop->name, stop->nth);
     if (stop->inside) snprintf(text + used, room - (size_t)used, ".%d", stop->inside);
+}
+
+static void tell_word(FILE *to, const char *word) {
+    char *text = quoted(word);
+    fprintf(to, " %s", text ? text : word);
+    free(text);
 }
 
 /* Writes the command that repeats a run. */
@@ -23,8 +30,9 @@ void tell_command(FILE *to, const struct spot *spot, bool sends_wait) {
     }
     if (sends_wait) fprintf(to, " --sends wait");
     if (options.seed) fprintf(to, " --seed %llu", (unsigned long long)options.seed);
-    fprintf(to, " %s", options.program);
-    for (int k = 0; k < options.count; k++) fprintf(to, " %s", options.words[k]);
+    if (options.rounds != ROUNDS) fprintf(to, " --rounds %d", options.rounds);
+    tell_word(to, options.program);
+    for (int k = 0; k < options.count; k++) tell_word(to, options.words[k]);
     fputc('\n', to);
 }
 

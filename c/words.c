@@ -1,10 +1,11 @@
 /* The words of ulfm-mpirun's command line. */
+#define _GNU_SOURCE
 #include "run.h"
 #include <stdlib.h>
 #include <string.h>
 #include <unistd.h>
 
-struct options options = {.ranks = 1, .report = -1, .capacity = 64, .rounds = 1024};
+struct options options = {.ranks = 1, .report = -1, .capacity = 64, .rounds = ROUNDS};
 
 static const char usage[] =
     "ulfm-mpirun -n N [options] PROGRAM [ARGUMENT..]\n"
@@ -27,6 +28,20 @@ static const char usage[] =
     "\n"
     "Its status is 0 where each rank that wasn't stopped by plan ended with 0, else that of the first rank that did not. MPI_Abort: its code.\n"
     "96: an error was fatal. 98: nobody could move any more. 99: the time was over. 128 + S: a rank crashed by signal S. 2: a wrong command line.\n";
+
+/* A word as a shell takes it, in memory that the caller frees; null where there is none. */
+char *quoted(const char *word) {
+    size_t plain = strspn(word, "ABCDEFGHIJKLMNOPQRSTUVWXYZabcdefghijklmnopqrstuvwxyz0123456789_-+=./,:@%");
+    char *text = malloc(4 * strlen(word) + 3), *at = text;
+    if (!text || (*word && !word[plain])) return text ? strcpy(text, word) : text;
+    *at++ = '\'';
+    for (; *word; word++) {
+        *at = *word;
+        at = *word == '\'' ? stpcpy(at, "'\\''") : at + 1;
+    }
+    strcpy(at, "'");
+    return text;
+}
 
 static int refuse(const char *what, const char *word) {
     fprintf(stderr, "ulfm-mpirun: %s '%s'; --help tells how it is used\n", what, word);
